@@ -1,0 +1,181 @@
+-- How a frame is written, and which frames can be: those without a field that reading would refuse. Assumes nothing.
+use Prim.Native.Nat.{ℕ, _+_, _^_, _<_, _≤_}
+use mathlib.Core.Path.{_≡_}
+use mathlib.Core.Bool.{Bool, true, _&&_, _||_}
+use mathlib.Core.List.{List, [], _∷_, _++_}
+use mathlib.Core.Option.{Option, none, some}
+use lib.ListN.{length}
+use Rattle.model_text.specs.Utf8.{utf8}
+use Rattle.model_text.specs.Printable.{isMarks, isKey}
+use Rattle.model_text.specs.Stamp.{takesStamp}
+use Rattle.model_frame.specs.Bytes.{bytesOf}
+use Rattle.model_frame.specs.Frame.{Key, Change, setIncoming, setIncomingInFlight, setInFlight, recordMsg, recordBare, reset, setCreatedAt, setMarks, Part, commit, whole, lastWhole, Reason, staleEpoch, diverged, lagTooGreat, restarted, AppRecord, Summary, Frame, hello, welcome, bind, batch, ack, nack, bound, checked}
+use Rattle.model_frame.specs.Parse.{isEmpty, runBytes, Each}
+use Rattle.model_frame.specs.Reading.{maxBody, flight}
+
+unfoldable pub blobBytes : List ℕ → List ℕ
+blobBytes bs = bytesOf 4 (length bs) ++ bs
+
+unfoldable pub changeBytes : Change → List ℕ
+changeBytes (setIncoming n) = 1 ∷ bytesOf 8 n
+changeBytes (setIncomingInFlight n f) = 2 ∷ bytesOf 8 n ++ bytesOf 8 f
+changeBytes (setInFlight f) = 3 ∷ bytesOf 8 f
+changeBytes (recordMsg n m) = 4 ∷ bytesOf 8 n ++ blobBytes m
+changeBytes (recordBare n) = 5 ∷ bytesOf 8 n
+changeBytes reset = 6 ∷ []
+changeBytes (setCreatedAt t) = 7 ∷ blobBytes t
+changeBytes (setMarks m) = 8 ∷ blobBytes m
+
+-- a change's length in a frame
+abbrev pub sizeOf : Change → ℕ
+sizeOf (setIncoming n) = 9
+sizeOf (setIncomingInFlight n f) = 17
+sizeOf (setInFlight f) = 9
+sizeOf (recordMsg q w) = 13 + length w
+sizeOf (recordBare q) = 9
+sizeOf reset = 1
+sizeOf (setCreatedAt t) = 5 + length t
+sizeOf (setMarks m) = 5 + length m
+
+abbrev pub sizes : List Change → ℕ
+sizes [] = 0
+sizes (c ∷ cs) = sizeOf c + sizes cs
+
+unfoldable pub appRecordBytes : AppRecord → List ℕ
+appRecordBytes r = bytesOf 2 (r .kind) ++ blobBytes (r .blob)
+
+abbrev pub partNumber : Part → ℕ
+partNumber commit = 0
+partNumber whole = 1
+partNumber lastWhole = 2
+
+abbrev pub reasonNumber : Reason → ℕ
+reasonNumber staleEpoch = 1
+reasonNumber diverged = 2
+reasonNumber lagTooGreat = 3
+reasonNumber restarted = 4
+
+abbrev pub flightNumber : Option ℕ → ℕ
+flightNumber none = 0
+flightNumber (some f) = f
+
+unfoldable pub keyBytes : Key → List ℕ
+keyBytes k = blobBytes (k .begin) ++ blobBytes (k .sender) ++ blobBytes (k .target) ++ blobBytes (k .suffix)
+
+unfoldable pub summaryBytes : Summary → List ℕ
+summaryBytes m =
+    bytesOf 8 (m .nextOut) ++ bytesOf 8 (m .nextIn) ++ bytesOf 8 (flightNumber (m .inFlight))
+    ++ blobBytes (m .stampText) ++ blobBytes (m .marksText) ++ bytesOf 8 (m .lastOutgoing)
+
+unfoldable pub bodyBytes : Frame → List ℕ
+bodyBytes (hello v e node ks) = 1 ∷ bytesOf 2 v ++ bytesOf 8 e ++ blobBytes node ++ bytesOf 4 (length ks) ++ runBytes (bytesOf 2) ks
+bodyBytes (welcome e i) = 2 ∷ bytesOf 8 e ++ bytesOf 8 i
+bodyBytes (bind h e lag k) = 3 ∷ bytesOf 4 h ++ bytesOf 8 e ++ bytesOf 8 lag ++ keyBytes k
+bodyBytes (batch h e n p cs rs) =
+    4 ∷ bytesOf 4 h ++ bytesOf 8 e ++ bytesOf 8 n ++ partNumber p ∷ bytesOf 4 (length cs) ++ runBytes changeBytes cs ++ bytesOf 4 (length rs) ++ runBytes appRecordBytes rs
+bodyBytes (ack h n) = 5 ∷ bytesOf 4 h ++ bytesOf 8 n
+bodyBytes (nack h r) = 6 ∷ bytesOf 4 h ++ reasonNumber r ∷ []
+bodyBytes (bound h m) = 7 ∷ bytesOf 4 h ++ summaryBytes m
+bodyBytes (checked h e i) = 8 ∷ bytesOf 4 h ++ bytesOf 8 e ++ bytesOf 8 i
+
+unfoldable pub encode : Frame → List ℕ
+encode f = bytesOf 4 (length (bodyBytes f)) ++ bodyBytes f
+
+-- ---- 8 in writing: a field that reading would refuse. Numbers and lengths fit their fields by their types in the code;
+-- here `Ranged` says it, and the texts are judged by `fine`.
+
+abbrev pub fineChange : ℕ → Change → Bool
+fineChange version (setIncoming n) = true
+fineChange version (setIncomingInFlight n f) = true
+fineChange version (setInFlight f) = true
+fineChange version (recordMsg n m) = true
+fineChange version (recordBare n) = true
+fineChange version reset = true
+fineChange version (setCreatedAt t) = utf8 t && takesStamp version t
+fineChange version (setMarks m) = utf8 m && isMarks m
+
+abbrev pub allFine : ℕ → List Change → Bool
+allFine version [] = true
+allFine version (c ∷ cs) = fineChange version c && allFine version cs
+
+unfoldable pub fineKey : Key → Bool
+fineKey k = utf8 (k .begin) && (utf8 (k .sender) && (utf8 (k .target) && (utf8 (k .suffix) && isKey (k .begin) (k .sender) (k .target) (k .suffix))))
+
+unfoldable pub fineSummary : ℕ → Summary → Bool
+fineSummary version m = (utf8 (m .stampText) && (isEmpty (m .stampText) || takesStamp version (m .stampText))) && (utf8 (m .marksText) && isMarks (m .marksText))
+
+unfoldable pub fine : ℕ → Frame → Bool
+fine version (hello v e node ks) = utf8 node
+fine version (welcome e i) = true
+fine version (bind h e lag k) = fineKey k
+fine version (batch h e n p cs rs) = allFine version cs
+fine version (ack h n) = true
+fine version (nack h r) = true
+fine version (bound h m) = fineSummary version m
+fine version (checked h e i) = true
+
+abbrev pub RangedChange : Change → Type 0
+RangedChange (setIncoming n) = n < 2 ^ 64
+RangedChange (setIncomingInFlight n f) = (n < 2 ^ 64) × (f < 2 ^ 64)
+RangedChange (setInFlight f) = f < 2 ^ 64
+RangedChange (recordMsg n m) = (n < 2 ^ 64) × (length m < 2 ^ 32)
+RangedChange (recordBare n) = n < 2 ^ 64
+RangedChange reset = Unit {0}
+RangedChange (setCreatedAt t) = length t < 2 ^ 32
+RangedChange (setMarks m) = length m < 2 ^ 32
+
+abbrev pub RangedRecord : AppRecord → Type 0
+RangedRecord r = (r .kind < 2 ^ 16) × (length (r .blob) < 2 ^ 32)
+
+pub record RangedKey (k : Key) : Type 0 where
+  pub begin-u32 : length (k .begin) < 2 ^ 32
+  pub sender-u32 : length (k .sender) < 2 ^ 32
+  pub target-u32 : length (k .target) < 2 ^ 32
+  pub suffix-u32 : length (k .suffix) < 2 ^ 32
+
+pub record RangedSummary (m : Summary) : Type 0 where
+  pub out-u64 : m .nextOut < 2 ^ 64
+  pub in-u64 : m .nextIn < 2 ^ 64
+  pub flight-u64 : flightNumber (m .inFlight) < 2 ^ 64
+  pub stamp-u32 : length (m .stampText) < 2 ^ 32
+  pub marks-u32 : length (m .marksText) < 2 ^ 32
+  pub last-u64 : m .lastOutgoing < 2 ^ 64
+
+abbrev pub Ranged : Frame → Type 0
+Ranged (hello v e node ks) = (v < 2 ^ 16) × (e < 2 ^ 64) × (length node < 2 ^ 32) × (length ks < 2 ^ 32) × Each (λ (n : ℕ). n < 2 ^ 16) ks
+Ranged (welcome e i) = (e < 2 ^ 64) × (i < 2 ^ 64)
+Ranged (bind h e lag k) = (h < 2 ^ 32) × (e < 2 ^ 64) × (lag < 2 ^ 64) × RangedKey k
+Ranged (batch h e n p cs rs) = (h < 2 ^ 32) × (e < 2 ^ 64) × (n < 2 ^ 64) × (length cs < 2 ^ 32) × Each RangedChange cs × (length rs < 2 ^ 32) × Each RangedRecord rs
+Ranged (ack h n) = (h < 2 ^ 32) × (n < 2 ^ 64)
+Ranged (nack h r) = h < 2 ^ 32
+Ranged (bound h m) = (h < 2 ^ 32) × RangedSummary m
+Ranged (checked h e i) = (h < 2 ^ 32) × (e < 2 ^ 64) × (i < 2 ^ 64)
+
+pub record Writable (version : ℕ) (f : Frame) : Type 0 where
+  pub ranged : Ranged f
+  pub texts : fine version f ≡ true
+  pub short : length (bodyBytes f) ≤ maxBody
+
+-- what reading gives back: an in-flight number 0 in a summary becomes none, and nothing else is lost
+abbrev pub noZero : Option ℕ → Option ℕ
+noZero none = none
+noZero (some f) = flight f
+
+abbrev pub shown : Frame → Frame
+shown (hello v e node ks) = hello v e node ks
+shown (welcome e i) = welcome e i
+shown (bind h e lag k) = bind h e lag k
+shown (batch h e n p cs rs) = batch h e n p cs rs
+shown (ack h n) = ack h n
+shown (nack h r) = nack h r
+shown (bound h m) =
+    bound h
+    (record {
+      nextOut = m .nextOut;
+      nextIn = m .nextIn;
+      inFlight = noZero (m .inFlight);
+      stampText = m .stampText;
+      marksText = m .marksText;
+      lastOutgoing = m .lastOutgoing;
+    })
+shown (checked h e i) = checked h e i

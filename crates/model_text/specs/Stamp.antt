@@ -1,0 +1,59 @@
+-- A time stamp: YYYYMMDD-HH:MM:SS, or that with `.` and three digits. Assumes nothing.
+use mathlib.Core.Bool.{Bool, true, false, _&&_, _||_}
+use mathlib.Core.List.{List, [], _∷_, _++_}
+use Prim.Native.Nat.{ℕ, zero, suc, _+_, _-_, _*_}
+use lib.Dec.{leb, eqb}
+use lib.ListN.{getD}
+
+-- a digit, two digits of a number from lo to hi, or one byte
+pub data Part : Type 0 where
+  digit : Part
+  pair : ℕ → ℕ → Part
+  mark : ℕ → Part
+
+unfoldable pub isDigit : ℕ → Bool
+isDigit b = leb 48 b && leb b 57
+
+unfoldable pub isPair : ℕ → ℕ → ℕ → ℕ → Bool
+isPair lo hi a b = isDigit a && isDigit b && (leb lo ((a - 48) * 10 + (b - 48)) && leb ((a - 48) * 10 + (b - 48)) hi)
+
+-- the bytes are these parts, one after the other, and nothing more
+abbrev pub fits : List Part → List ℕ → Bool
+fits [] [] = true
+fits [] (b ∷ l) = false
+fits (digit ∷ ps) [] = false
+fits (digit ∷ ps) (b ∷ l) = isDigit b && fits ps l
+fits (pair lo hi ∷ ps) [] = false
+fits (pair lo hi ∷ ps) (a ∷ []) = false
+fits (pair lo hi ∷ ps) (a ∷ b ∷ l) = isPair lo hi a b && fits ps l
+fits (mark m ∷ ps) [] = false
+fits (mark m ∷ ps) (b ∷ l) = eqb b m && fits ps l
+
+-- YYYYMMDD
+abbrev pub date : List Part
+date = digit ∷ digit ∷ digit ∷ digit ∷ pair 1 12 ∷ pair 1 31 ∷ []
+
+-- -HH:MM:SS
+abbrev pub clock : List Part
+clock = mark 45 ∷ pair 0 23 ∷ mark 58 ∷ pair 0 59 ∷ mark 58 ∷ pair 0 60 ∷ []
+
+-- .sss
+abbrev pub millis : List Part
+millis = mark 46 ∷ digit ∷ digit ∷ digit ∷ []
+
+-- a stamp that the store keeps
+unfoldable pub isStamp : List ℕ → Bool
+isStamp s = fits (date ++ clock) s || fits (date ++ clock ++ millis) s
+
+-- a stamp that reading takes in a version of the protocol
+unfoldable pub takesStamp : ℕ → List ℕ → Bool
+takesStamp version s = isStamp s
+
+-- the greatest length of a stamp
+abbrev pub longestStamp : ℕ
+longestStamp = 21
+
+-- the k bytes of s from i on
+abbrev pub bytesAt : List ℕ → ℕ → ℕ → List ℕ
+bytesAt s i zero = []
+bytesAt s i (suc k) = getD s i 0 ∷ bytesAt s (i + 1) k
