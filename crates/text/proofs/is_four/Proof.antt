@@ -1,4 +1,5 @@
 -- `text::is_four` meets its contract. Assumes nothing.
+use Rattle.model_text.specs.Utf8.{fitting, least}
 use Rattle.model_text.proofs.Tables.{formed-four}
 use borrow.Author.Needs.{needs}
 use Rattle.text.proofs.is_four.Statement.{statement}
@@ -20,6 +21,7 @@ is-fitting-requires : tie.Need-is-fitting-requires
 is-fitting-requires c κs = search needs
 
 returns : tie.Need-returns
+unfolding fitting least
 returns c = formed-four _ _ (c .before .before .before .before .is-tail .ensures) _ (c .before .before .before .is-tail2 .ensures) _ (c .before .before .is-tail3 .ensures) (c .before .code-four .ensures) (c .is-fitting .ensures)
 
 pub is-four-spec : {M : Type 1} → statement M

@@ -1,4 +1,5 @@
 -- `text::is_three` meets its contract. Assumes nothing.
+use Rattle.model_text.specs.Utf8.{fitting, least}
 use Rattle.model_text.proofs.Tables.{formed-three}
 use borrow.Author.Needs.{needs}
 use Rattle.text.proofs.is_three.Statement.{statement}
@@ -17,6 +18,7 @@ is-fitting-requires : tie.Need-is-fitting-requires
 is-fitting-requires c κs = search needs
 
 returns : tie.Need-returns
+unfolding fitting least
 returns c = formed-three _ _ (c .before .before .before .is-tail .ensures) _ (c .before .before .is-tail2 .ensures) (c .before .code-three .ensures) (c .is-fitting .ensures)
 
 pub is-three-spec : {M : Type 1} → statement M

@@ -1,4 +1,5 @@
 -- `text::is_two` meets its contract. Assumes nothing.
+use Rattle.model_text.specs.Utf8.{fitting, least}
 use Rattle.model_text.proofs.Tables.{formed-two}
 use borrow.Author.Needs.{needs}
 use Rattle.text.proofs.is_two.Statement.{statement}
@@ -14,6 +15,7 @@ is-fitting-requires : tie.Need-is-fitting-requires
 is-fitting-requires c κs = search needs
 
 returns : tie.Need-returns
+unfolding fitting least
 returns c = formed-two _ _ (c .before .before .is-tail .ensures) (c .before .code-two .ensures) (c .is-fitting .ensures)
 
 pub is-two-spec : {M : Type 1} → statement M
