@@ -1,0 +1,4 @@
+-- The laws of frames: what is written is read back, and what is read would be written so.
+pub mod Le
+pub mod Back
+pub mod RoundTrip
