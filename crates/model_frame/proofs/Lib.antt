@@ -2,3 +2,6 @@
 pub mod Le
 pub mod Back
 pub mod RoundTrip
+pub mod Canon
+pub mod SoundChange
+pub mod Sound

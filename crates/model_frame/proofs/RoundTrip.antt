@@ -16,7 +16,7 @@ use Rattle.model_frame.specs.Bytes.{le, bytesOf}
 use Rattle.model_frame.specs.Frame.{Key, Change, setIncoming, setIncomingInFlight, setInFlight, recordMsg, recordBare, reset, setCreatedAt, setMarks, Part, commit, whole, lastWhole, Reason, staleEpoch, diverged, lagTooGreat, restarted, AppRecord, Summary, Frame, hello, welcome, bind, batch, ack, nack, bound, checked, got}
 use Rattle.model_frame.specs.Parse.{isEmpty, ok, num, many, runBytes, Each}
 use Rattle.model_frame.specs.Reading.{maxBody, stamp, stampOrNone, marks, setIncomingFields, setIncomingInFlightFields, setInFlightFields, recordMsgFields, recordBareFields, setCreatedAtFields, setMarksFields, readChange, changes, kinds, appRecord, appRecords, partByte, reason, key, flight, summary, helloFields, welcomeFields, bindFields, batchFields, ackFields, nackFields, boundFields, checkedFields, fields, body, decode}
-use Rattle.model_frame.specs.Writing.{blobBytes, changeBytes, appRecordBytes, partNumber, reasonNumber, flightNumber, keyBytes, summaryBytes, bodyBytes, encode, fineChange, allFine, fineKey, fineSummary, fine, RangedChange, RangedRecord, RangedKey, RangedSummary, Ranged, Writable, noZero, shown}
+use Rattle.model_frame.specs.Writing.{blobBytes, changeBytes, appRecordBytes, partNumber, reasonNumber, flightNumber, keyBytes, summaryBytes, bodyBytes, encode, fineChange, allFine, fineKey, fineSummary, fine, RangedChange, RangedRecord, RangedKey, RangedSummary, Ranged, Writable, noZero, shown, NoZeroFlight, Sendable}
 use Rattle.model_frame.proofs.Le.{length-bytes, le-bytes}
 use Rattle.model_frame.proofs.Back.{num-back, byte-back, blob-back, text-back, count-back, run-back, run-long}
 
@@ -39,10 +39,6 @@ stamp-back version t rest h e = rw (text-back t rest h (and-left (utf8 t) (takes
 marks-back : (t rest : List ℕ) → length t < 2 ^ 32 → (utf8 t && isMarks t) ≡ true → marks (blobBytes t ++ rest) ≡ ok t rest
 unfolding marks
 marks-back t rest h e = rw (text-back t rest h (and-left (utf8 t) (isMarks t) e), and-right (utf8 t) (isMarks t) e)
-
--- a change that a frame can carry: its numbers and lengths fit their fields, and its text is one
-abbrev pub Sendable : ℕ → Change → Type 0
-Sendable version c = RangedChange c × (fineChange version c ≡ true)
 
 pub change-back : (version : ℕ) (c : Change) (rest : List ℕ) → Sendable version c → readChange version (changeBytes c ++ rest) ≡ ok c rest
 unfolding readChange changeBytes setIncomingFields setIncomingInFlightFields setInFlightFields recordMsgFields recordBareFields setCreatedAtFields setMarksFields
@@ -202,17 +198,7 @@ decode-encode version f rest w =
 pub decode-alone : (version : ℕ) (f : Frame) → Writable version f → decode version (encode f) ≡ got (shown f) (length (encode f))
 decode-alone version f w = rw append-nil at (decode-encode version f [] w)
 
--- the one exception: a summary with an in-flight number 0
-abbrev pub NoZeroFlight : Frame → Type 0
-NoZeroFlight (hello v e node ks) = Unit {0}
-NoZeroFlight (welcome e i) = Unit {0}
-NoZeroFlight (bind h e lag k) = Unit {0}
-NoZeroFlight (batch h e n p cs rs) = Unit {0}
-NoZeroFlight (ack h n) = Unit {0}
-NoZeroFlight (nack h r) = Unit {0}
-NoZeroFlight (bound h m) = m .inFlight ≡ some 0 → ⊥
-NoZeroFlight (checked h e i) = Unit {0}
-
+-- the one exception is a summary with an in-flight number 0
 flight-same : (o : Option ℕ) → (o ≡ some 0 → ⊥) → noZero o ≡ o
 flight-same none h = refl
 flight-same (some f) h = rw (ne-eqb f 0 (λ e. h (ap some e)))

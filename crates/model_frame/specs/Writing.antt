@@ -4,11 +4,12 @@ use mathlib.Core.Path.{_≡_}
 use mathlib.Core.Bool.{Bool, true, _&&_, _||_}
 use mathlib.Core.List.{List, [], _∷_, _++_}
 use mathlib.Core.Option.{Option, none, some}
+use lib.Dec.{T}
 use lib.ListN.{length}
 use Rattle.model_text.specs.Utf8.{utf8}
 use Rattle.model_text.specs.Printable.{isMarks, isKey}
 use Rattle.model_text.specs.Stamp.{takesStamp}
-use Rattle.model_frame.specs.Bytes.{bytesOf}
+use Rattle.model_frame.specs.Bytes.{isBytes, bytesOf}
 use Rattle.model_frame.specs.Frame.{Key, Change, setIncoming, setIncomingInFlight, setInFlight, recordMsg, recordBare, reset, setCreatedAt, setMarks, Part, commit, whole, lastWhole, Reason, staleEpoch, diverged, lagTooGreat, restarted, AppRecord, Summary, Frame, hello, welcome, bind, batch, ack, nack, bound, checked}
 use Rattle.model_frame.specs.Parse.{isEmpty, runBytes, Each}
 use Rattle.model_frame.specs.Reading.{maxBody, flight}
@@ -179,3 +180,49 @@ shown (bound h m) =
       lastOutgoing = m .lastOutgoing;
     })
 shown (checked h e i) = checked h e i
+
+-- reading gives every other frame back as it was
+abbrev pub NoZeroFlight : Frame → Type 0
+NoZeroFlight (hello v e node ks) = Unit {0}
+NoZeroFlight (welcome e i) = Unit {0}
+NoZeroFlight (bind h e lag k) = Unit {0}
+NoZeroFlight (batch h e n p cs rs) = Unit {0}
+NoZeroFlight (ack h n) = Unit {0}
+NoZeroFlight (nack h r) = Unit {0}
+NoZeroFlight (bound h m) = m .inFlight ≡ some 0 → ⊥
+NoZeroFlight (checked h e i) = Unit {0}
+
+-- ---- what a frame's texts and blobs are made of
+
+abbrev pub ByteChange : Change → Type 0
+ByteChange (setIncoming n) = Unit {0}
+ByteChange (setIncomingInFlight n f) = Unit {0}
+ByteChange (setInFlight f) = Unit {0}
+ByteChange (recordMsg n m) = T (isBytes m)
+ByteChange (recordBare n) = Unit {0}
+ByteChange reset = Unit {0}
+ByteChange (setCreatedAt t) = T (isBytes t)
+ByteChange (setMarks m) = T (isBytes m)
+
+abbrev pub ByteRecord : AppRecord → Type 0
+ByteRecord r = T (isBytes (r .blob))
+
+abbrev pub ByteKey : Key → Type 0
+ByteKey k = T (isBytes (k .begin)) × T (isBytes (k .sender)) × T (isBytes (k .target)) × T (isBytes (k .suffix))
+
+abbrev pub ByteSummary : Summary → Type 0
+ByteSummary m = T (isBytes (m .stampText)) × T (isBytes (m .marksText))
+
+abbrev pub ByteFrame : Frame → Type 0
+ByteFrame (hello v e node ks) = T (isBytes node)
+ByteFrame (welcome e i) = Unit {0}
+ByteFrame (bind h e lag k) = ByteKey k
+ByteFrame (batch h e n p cs rs) = Each ByteChange cs × Each ByteRecord rs
+ByteFrame (ack h n) = Unit {0}
+ByteFrame (nack h r) = Unit {0}
+ByteFrame (bound h m) = ByteSummary m
+ByteFrame (checked h e i) = Unit {0}
+
+-- a change that a frame can carry: its numbers and lengths fit their fields, its text is one
+abbrev pub Sendable : ℕ → Change → Type 0
+Sendable version c = RangedChange c × (fineChange version c ≡ true)
