@@ -5,3 +5,4 @@ pub mod RoundTrip
 pub mod Canon
 pub mod SoundChange
 pub mod Sound
+pub mod Sizes

@@ -13,7 +13,7 @@ use Rattle.model_text.specs.Utf8.{utf8}
 use Rattle.model_text.specs.Printable.{isKey}
 use Rattle.model_text.specs.Stamp.{takesStamp}
 use Rattle.model_frame.specs.Bytes.{isBytes, le, bytesOf}
-use Rattle.model_frame.specs.Frame.{Key, whole, AppRecord, Summary, Frame, Fault, tooLong, truncated, badSession, badTimestamp, more, faulty, got}
+use Rattle.model_frame.specs.Frame.{Key, AppRecord, Summary, Frame, Fault, tooLong, truncated, badSession, badTimestamp, more, faulty, got}
 use Rattle.model_frame.specs.Parse.{isEmpty, Res, ok, bad, andThen, runBytes, Each}
 use Rattle.model_frame.specs.Reading.{maxBody, stampOrNone, changes, kinds, appRecord, appRecords, partByte, reason, key, flight, summary, helloFields, welcomeFields, bindFields, batchFields, ackFields, nackFields, boundFields, checkedFields, fields, atEnd, body, taken, decode}
 use Rattle.model_frame.specs.Writing.{blobBytes, changeBytes, appRecordBytes, partNumber, reasonNumber, flightNumber, keyBytes, summaryBytes, bodyBytes, encode, fineKey, fineSummary, fine, RangedRecord, RangedKey, RangedSummary, Ranged, Writable, NoZeroFlight, ByteRecord, ByteKey, ByteSummary, ByteFrame}

@@ -1,5 +1,5 @@
 -- How a frame is written, and which frames can be: those without a field that reading would refuse. Assumes nothing.
-use Prim.Native.Nat.{ℕ, _+_, _^_, _<_, _≤_}
+use Prim.Native.Nat.{ℕ, _+_, _*_, _^_, _<_, _≤_}
 use mathlib.Core.Path.{_≡_}
 use mathlib.Core.Bool.{Bool, true, _&&_, _||_}
 use mathlib.Core.List.{List, [], _∷_, _++_}
@@ -81,6 +81,21 @@ bodyBytes (checked h e i) = 8 ∷ bytesOf 4 h ++ bytesOf 8 e ++ bytesOf 8 i
 
 unfoldable pub encode : Frame → List ℕ
 encode f = bytesOf 4 (length (bodyBytes f)) ++ bodyBytes f
+
+-- a record's length, and a body's; a frame's is 4 more
+abbrev pub recordSizes : List AppRecord → ℕ
+recordSizes [] = 0
+recordSizes (r ∷ rs) = 6 + length (r .blob) + recordSizes rs
+
+abbrev pub bodySize : Frame → ℕ
+bodySize (hello v e node ks) = 19 + length node + 2 * length ks
+bodySize (welcome e i) = 17
+bodySize (bind h e lag k) = 37 + length (k .begin) + length (k .sender) + length (k .target) + length (k .suffix)
+bodySize (batch h e n p cs rs) = 30 + sizes cs + recordSizes rs
+bodySize (ack h n) = 13
+bodySize (nack h r) = 6
+bodySize (bound h m) = 45 + length (m .stampText) + length (m .marksText)
+bodySize (checked h e i) = 21
 
 -- ---- 8 in writing: a field that reading would refuse. Numbers and lengths fit their fields by their types in the code;
 -- here `Ranged` says it, and the texts are judged by `fine`.
