@@ -1,0 +1,5 @@
+pub mod Calls
+pub mod Lent
+pub mod Lists
+pub mod Locals
+pub mod Rows

@@ -1,0 +1,53 @@
+-- What the functions over a row of handles say: each is a definition on lists of the records.
+-- Assumes nothing.
+use Prim.Native.Nat.{ℕ, zero, suc}
+use mathlib.Core.Bool.{Bool, true, false, not, _&&_, _||_}
+use mathlib.Core.List.{List, [], _∷_, map}
+use lib.Dec.{eqb, leb, ltb}
+use Rattle.row.specs.declared.Handle.{Handle}
+
+-- what is read past the end of a row
+abbrev pub none : Handle
+none = record { used = false; handle = 0; place = 0; «commit_no» = record { 0 = 0 }; «held_len» = 0; «held_bytes» = 0 }
+
+-- a record is used for the handle k; it is free; it is used, and breaks the rules for places and held lengths
+abbrev pub isOf : Handle → ℕ → Bool
+isOf h k = h .used && eqb (h .handle) k
+
+abbrev pub isFree : Handle → Bool
+isFree h = not (h .used)
+
+abbrev pub breaksOf : Handle → ℕ → ℕ → Bool
+breaksOf h places room = h .used && (leb places (h .place) || ltb room (h .«held_len»))
+
+-- one more where the head is not the one
+abbrev pub next : Bool → ℕ → ℕ
+next true n = 0
+next false n = suc n
+
+-- the place of the first record of which p holds, or the length
+abbrev pub firstOf : (Handle → Bool) → List Handle → ℕ
+firstOf p [] = 0
+firstOf p (h ∷ hs) = next (p h) (firstOf p hs)
+
+abbrev pub findOf : List Handle → ℕ → ℕ
+findOf hs k = firstOf (λ h. isOf h k) hs
+
+abbrev pub freeOf : List Handle → ℕ
+freeOf hs = firstOf isFree hs
+
+abbrev pub brokenOf : List Handle → ℕ → ℕ → ℕ
+brokenOf hs places room = firstOf (λ h. breaksOf h places room) hs
+
+-- the same record, free
+abbrev pub cleared : Handle → Handle
+cleared h = record { used = false; handle = h .handle; place = h .place; «commit_no» = h .«commit_no»; «held_len» = h .«held_len»; «held_bytes» = h .«held_bytes» }
+
+abbrev pub clearedAll : List Handle → List Handle
+clearedAll hs = map cleared hs
+
+-- the row whose records from i on are free
+abbrev pub clearedFrom : ℕ → List Handle → List Handle
+clearedFrom zero hs = clearedAll hs
+clearedFrom (suc i) [] = []
+clearedFrom (suc i) (h ∷ hs) = h ∷ clearedFrom i hs
