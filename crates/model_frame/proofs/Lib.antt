@@ -6,3 +6,5 @@ pub mod Canon
 pub mod SoundChange
 pub mod Sound
 pub mod Sizes
+pub mod Grow
+pub mod Runs
