@@ -2,3 +2,4 @@
 pub mod Utf8
 pub mod Printable
 pub mod Stamp
+pub mod Hex

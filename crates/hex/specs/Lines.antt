@@ -1,0 +1,17 @@
+-- What reading a line answers, and what writing digits leaves. Assumes nothing.
+use mathlib.Core.Path.{_≡_}
+use mathlib.Core.List.{List, _++_}
+use mathlib.Core.Option.{Option, none, some}
+use Prim.Native.Nat.{ℕ}
+use lib.ListN.{length, take, drop}
+use Rattle.hex.specs.declared.Line.{Line}
+use Rattle.hex.specs.declared.Line.the-variants.{Bytes, Bad}
+
+-- the bytes that stand at the start of the area
+abbrev pub lineRead : List ℕ → Line → Option (List ℕ)
+lineRead out (Bytes n) = some (take n out)
+lineRead out Bad = none
+
+-- these bytes at the start, and the rest as it was
+abbrev pub Wrote : List ℕ → List ℕ → List ℕ → Type 0
+Wrote bs before after = after ≡ bs ++ drop (length bs) before
