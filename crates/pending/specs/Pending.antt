@@ -1,0 +1,16 @@
+-- What the words of a store say of the pending commits. Assumes nothing.
+use mathlib.Core.List.{List, map}
+use Prim.Native.Nat.{ℕ, _/_, _%_}
+use lib.ListN.{getD, take, drop}
+
+-- how many are pending
+abbrev pub countOf : List ℕ → ℕ
+countOf w = getD w 1 0
+
+-- a handle, and the number of its session's place
+abbrev pub commitOf : ℕ → ℕ × ℕ
+commitOf x = (x % 4294967296, x / 4294967296)
+
+-- the pending commits, oldest first
+unfoldable pub pendingOf : List ℕ → List (ℕ × ℕ)
+pendingOf w = map commitOf (take (countOf w) (drop 2 w))
