@@ -2,7 +2,7 @@
 -- Assumes nothing.
 use mathlib.Core.Path.{_≡_}
 use Prim.Native.Nat.{ℕ, _+_, _^_, _≤_, _<_}
-use mathlib.Core.List.{List, [], _∷_}
+use mathlib.Core.List.{List, [], _∷_, _++_}
 use mathlib.Core.Option.{some}
 use mathlib.Core.Bool.{Bool, true, false, cond, not, _&&_, _||_}
 use lib.ListN.{length}
@@ -11,13 +11,13 @@ use Rattle.model_frame.specs.Frame.{Frame}
 use Rattle.model_frame.specs.Parse.{isEmpty}
 use Rattle.model_frame.specs.Writing.{encode}
 use Rattle.model_session.specs.Session.{Session, Holdable, top}
-use Rattle.model_session.specs.Whole.{wholeBatches, holdLength}
+use Rattle.model_session.specs.Whole.{wholeBatches, wholeFrames, holdLength}
 use Rattle.model.specs.Answer.{intact, given, Answer, refused, accepted, lower}
 use Rattle.model.specs.Row.{find}
 use Rattle.model.specs.Store.{sessionAt}
 use Rattle.model.specs.State.{Settings, Bound, Standby, Call, onFrameHeld, onFrame, flush, disconnectedFrom, promote, promoteUnchecked}
-use Rattle.model.specs.Standby.{step}
-use Rattle.model.specs.PlainCopy.{OwnKey, ownKey}
+use Rattle.model.specs.Standby.{step, run}
+use Rattle.model.specs.PlainCopy.{OwnKey, ownKey, copyAt, copyRun}
 
 -- A is a session that the store can hold. The handle h is bound to the place of session B, whose key is k, with nothing
 -- held and document 01's hold area; the standby is unpromoted. Handle, epoch and the numbers of A's batches are of their
@@ -88,3 +88,15 @@ module _ {L : Settings} {e : ℕ} where
   AllTaken (aside hands p rest) = AllTaken rest
   AllTaken (flushes n rest) = AllTaken rest
   AllTaken (drops {s} n rest) = cond (eqb n (s .counters .connections)) (Unit {0}) (AllTaken rest)
+
+-- What demand 3 claims of a first list `cs`, as `d` says of it. A's frames are those that send A whole at the standby's epoch,
+-- numbered on from the handle's last.
+pub record Claim (L : Settings) (limit : ℕ) (A B : Session) (k : OwnKey) (h : ℕ) (b : Bound) (s : Standby) (cs : List Call) (d : FirstList L (s .counters .epoch) (wholeFrames limit h (s .counters .epoch) (b .number) A) s cs) : Type 0 where
+  -- A's frames before any drop of the current line are all accepted
+  pub all-taken : AllTaken d
+  -- after the list the session is exactly A if A's last is among those accepted, else exactly B
+  pub is-A-or-B : sessionAt (run L s cs .places) (b .place) ≡ some (cond (tookLast d) A B)
+  -- after every further list the session is exactly that of the plain copy, fed both lists
+  pub is-the-copy : (more : List Call) → T (allPlain more) → sessionAt (run L s (cs ++ more) .places) (b .place) ≡ some (copyRun L k (copyAt B s) s (cs ++ more) .session)
+  -- which after the first list was A or B likewise, so batches accepted after A act as on A
+  pub copy-is-A-or-B : copyRun L k (copyAt B s) s cs .session ≡ cond (tookLast d) A B

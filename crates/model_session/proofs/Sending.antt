@@ -11,6 +11,7 @@ use lib.ListN.{length, length-append}
 use lib.Dec.{T, ltb, ltb→lt, nltb→le}
 use Rattle.model_frame.specs.Frame.{Change, recordMsg, reset, setMarks}
 use Rattle.model_frame.specs.Writing.{sizes}
+use Rattle.model_frame.proofs.Runs.{sizes-append}
 use Rattle.model_frame.specs.Parse.{Each}
 use Rattle.model_text.specs.Stamp.{isStamp, longestStamp}
 use Rattle.model_text.specs.Printable.{isMarks}
@@ -189,10 +190,6 @@ pub whole-fits : (limit C M : ℕ) (a : Session) (next : ℕ) → Holdable C M a
 whole-fits limit C M a next h = ap (fits next) (joined-whole limit a) ∙ fits-whole C M a next h
 
 -- ---- (c) sizes
-
-pub sizes-append : (x y : List Change) → sizes (x ++ y) ≡ sizes x + sizes y
-sizes-append [] y = omega arith
-sizes-append (c ∷ x) y = omega (arith, sizes-append x y)
 
 pub messageBytes-append : (x y : List Change) → messageBytes (x ++ y) ≡ messageBytes x + messageBytes y
 messageBytes-append [] y = omega arith

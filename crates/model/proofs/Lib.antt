@@ -1,0 +1,6 @@
+-- Demand 3 and the laws of the standby.
+pub mod Rows
+pub mod Places
+pub mod Copying
+pub mod Taking
+pub mod Demand3
