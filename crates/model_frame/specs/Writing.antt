@@ -1,14 +1,15 @@
 -- How a frame is written, and which frames can be: those without a field that reading would refuse. Assumes nothing.
-use Prim.Native.Nat.{ℕ, _+_, _^_, _<_, _≤_}
+use Prim.Native.Nat.{ℕ, _+_, _*_, _^_, _<_, _≤_}
 use mathlib.Core.Path.{_≡_}
 use mathlib.Core.Bool.{Bool, true, _&&_, _||_}
 use mathlib.Core.List.{List, [], _∷_, _++_}
 use mathlib.Core.Option.{Option, none, some}
+use lib.Dec.{T}
 use lib.ListN.{length}
 use Rattle.model_text.specs.Utf8.{utf8}
 use Rattle.model_text.specs.Printable.{isMarks, isKey}
 use Rattle.model_text.specs.Stamp.{takesStamp}
-use Rattle.model_frame.specs.Bytes.{bytesOf}
+use Rattle.model_frame.specs.Bytes.{isBytes, bytesOf}
 use Rattle.model_frame.specs.Frame.{Key, Change, setIncoming, setIncomingInFlight, setInFlight, recordMsg, recordBare, reset, setCreatedAt, setMarks, Part, commit, whole, lastWhole, Reason, staleEpoch, diverged, lagTooGreat, restarted, AppRecord, Summary, Frame, hello, welcome, bind, batch, ack, nack, bound, checked}
 use Rattle.model_frame.specs.Parse.{isEmpty, runBytes, Each}
 use Rattle.model_frame.specs.Reading.{maxBody, flight}
@@ -80,6 +81,21 @@ bodyBytes (checked h e i) = 8 ∷ bytesOf 4 h ++ bytesOf 8 e ++ bytesOf 8 i
 
 unfoldable pub encode : Frame → List ℕ
 encode f = bytesOf 4 (length (bodyBytes f)) ++ bodyBytes f
+
+-- a record's length, and a body's; a frame's is 4 more
+abbrev pub recordSizes : List AppRecord → ℕ
+recordSizes [] = 0
+recordSizes (r ∷ rs) = 6 + length (r .blob) + recordSizes rs
+
+abbrev pub bodySize : Frame → ℕ
+bodySize (hello v e node ks) = 19 + length node + 2 * length ks
+bodySize (welcome e i) = 17
+bodySize (bind h e lag k) = 37 + length (k .begin) + length (k .sender) + length (k .target) + length (k .suffix)
+bodySize (batch h e n p cs rs) = 30 + sizes cs + recordSizes rs
+bodySize (ack h n) = 13
+bodySize (nack h r) = 6
+bodySize (bound h m) = 45 + length (m .stampText) + length (m .marksText)
+bodySize (checked h e i) = 21
 
 -- ---- 8 in writing: a field that reading would refuse. Numbers and lengths fit their fields by their types in the code;
 -- here `Ranged` says it, and the texts are judged by `fine`.
@@ -179,3 +195,49 @@ shown (bound h m) =
       lastOutgoing = m .lastOutgoing;
     })
 shown (checked h e i) = checked h e i
+
+-- reading gives every other frame back as it was
+abbrev pub NoZeroFlight : Frame → Type 0
+NoZeroFlight (hello v e node ks) = Unit {0}
+NoZeroFlight (welcome e i) = Unit {0}
+NoZeroFlight (bind h e lag k) = Unit {0}
+NoZeroFlight (batch h e n p cs rs) = Unit {0}
+NoZeroFlight (ack h n) = Unit {0}
+NoZeroFlight (nack h r) = Unit {0}
+NoZeroFlight (bound h m) = m .inFlight ≡ some 0 → ⊥
+NoZeroFlight (checked h e i) = Unit {0}
+
+-- ---- what a frame's texts and blobs are made of
+
+abbrev pub ByteChange : Change → Type 0
+ByteChange (setIncoming n) = Unit {0}
+ByteChange (setIncomingInFlight n f) = Unit {0}
+ByteChange (setInFlight f) = Unit {0}
+ByteChange (recordMsg n m) = T (isBytes m)
+ByteChange (recordBare n) = Unit {0}
+ByteChange reset = Unit {0}
+ByteChange (setCreatedAt t) = T (isBytes t)
+ByteChange (setMarks m) = T (isBytes m)
+
+abbrev pub ByteRecord : AppRecord → Type 0
+ByteRecord r = T (isBytes (r .blob))
+
+abbrev pub ByteKey : Key → Type 0
+ByteKey k = T (isBytes (k .begin)) × T (isBytes (k .sender)) × T (isBytes (k .target)) × T (isBytes (k .suffix))
+
+abbrev pub ByteSummary : Summary → Type 0
+ByteSummary m = T (isBytes (m .stampText)) × T (isBytes (m .marksText))
+
+abbrev pub ByteFrame : Frame → Type 0
+ByteFrame (hello v e node ks) = T (isBytes node)
+ByteFrame (welcome e i) = Unit {0}
+ByteFrame (bind h e lag k) = ByteKey k
+ByteFrame (batch h e n p cs rs) = Each ByteChange cs × Each ByteRecord rs
+ByteFrame (ack h n) = Unit {0}
+ByteFrame (nack h r) = Unit {0}
+ByteFrame (bound h m) = ByteSummary m
+ByteFrame (checked h e i) = Unit {0}
+
+-- a change that a frame can carry: its numbers and lengths fit their fields, its text is one
+abbrev pub Sendable : ℕ → Change → Type 0
+Sendable version c = RangedChange c × (fineChange version c ≡ true)

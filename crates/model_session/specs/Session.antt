@@ -9,6 +9,7 @@ use lib.ListN.{length}
 use lib.Dec.{T, ltb, leb, eqb}
 use Rattle.model_text.specs.Printable.{isMarks}
 use Rattle.model_text.specs.Stamp.{isStamp}
+pub use Rattle.model_frame.specs.Bytes.{isBytes}
 use Rattle.model_frame.specs.Frame.{Change, setIncoming, setIncomingInFlight, setInFlight, recordMsg, recordBare, reset, setCreatedAt, setMarks}
 
 -- 2^64 - 1, the greatest u64
@@ -96,10 +97,6 @@ messageBytes [] = 0
 messageBytes (c ∷ cs) = messageLength c + messageBytes cs
 
 -- ---- what the store can hold
-
-abbrev pub isBytes : List ℕ → Bool
-isBytes [] = true
-isBytes (b ∷ bs) = ltb b 256 && isBytes bs
 
 -- the numbers rise, are at least `low` and below `next`
 abbrev pub Rising : ℕ → ℕ → List Msg → Type 0
