@@ -1,15 +1,15 @@
--- The laws of little-endian numbers, once over the width: a number of m + n bytes is its low m bytes and its high n.
--- Assumes nothing.
+-- The laws of little-endian numbers, once over the width: a number of m + n bytes is its low m bytes and its high n. Assumes nothing.
 use mathlib.Core.Path.{_≡_, refl, sym, ap, ap₂, _∙_}
 use mathlib.Core.List.{List, [], _∷_, _++_, append-assoc}
 use Prim.Native.Nat.{ℕ, zero, suc, _+_, _*_, _/_, _%_, _^_, _<_, _≤_}
-use native.Mathlib.Nat.{zero-add, suc-add, add-suc, add-zero, pow-succ', pow-suc, mul-assoc, div-one, div-div-eq-div-mul, mod-one, mod-lt, mod-eq-of-lt}
+use native.Mathlib.Nat.{zero-add, suc-add, add-suc, add-zero, pow-succ', pow-suc, mul-assoc, div-one, div-div-eq-div-mul, mod-eq-of-lt}
 use native.Mathlib.Omega.{arith}
 use lib.Arith.{mod-mul, digits-div, digits-mod}
 use native.Mathlib.Numerals.{add-one}
 use lib.ListN.{length, take, drop, getD, set, drop-of-length-le}
 use lib.Seq.{drop-cons, sets, sets-eq, length-sets, take-nil, drop-nil, drop-drop, take-at, drop-at, length-take-le}
 use Rattle.model_frame.specs.Bytes.{le, leAt, bytesOf, write}
+use Rattle.model_frame.proofs.Le.{length-bytes, le-bytes}
 
 -- reading
 le-take : (m n : ℕ) (l : List ℕ) → le (take (m + n) l) ≡ le (take m l) + 256 ^ m * le (take n (drop m l))
@@ -47,11 +47,6 @@ bytes-add : (m n v : ℕ) → bytesOf (m + n) v ≡ bytesOf m v ++ bytesOf n (v 
 unfolding bytesOf
 bytes-add zero n v = rw (zero-add, div-one v)
 bytes-add (suc m) n v = rw (suc-add, pow-succ', ← div-div-eq-div-mul v 256 (256 ^ m), bytes-add m n (v / 256))
-
-pub length-bytes : (n v : ℕ) → length (bytesOf n v) ≡ n
-unfolding bytesOf
-length-bytes zero v = refl
-length-bytes (suc n) v = ap suc (length-bytes n (v / 256))
 
 sets-append : (xs ys l : List ℕ) (i : ℕ) → sets l i (xs ++ ys) ≡ sets (sets l i xs) (i + length xs) ys
 sets-append [] ys l i = rw add-zero
@@ -98,11 +93,6 @@ unfolding bytesOf write
 put-one l at v h = rw (mod-eq-of-lt h)
 
 -- there and back
-pub le-bytes : (n v : ℕ) → le (bytesOf n v) ≡ v % 256 ^ n
-unfolding le bytesOf
-le-bytes zero v = sym (mod-one v)
-le-bytes (suc n) v = rw (cut n v) (omega (arith, le-bytes n (v / 256)))
-
 pub le-put : (n : ℕ) (l : List ℕ) (at v : ℕ) → at + n ≤ length l → leAt n (write l at (bytesOf n v)) at ≡ v % 256 ^ n
 le-put n l at v h =
     let fits : at + length (bytesOf n v) ≤ length l = rw length-bytes h in

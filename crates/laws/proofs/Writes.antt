@@ -1,5 +1,4 @@
--- One writer after another.
--- Assumes nothing.
+-- One writer after another. Assumes nothing.
 use mathlib.Core.Path.{_≡_, refl, sym, ap, _∙_}
 use mathlib.Core.List.{List, [], _++_}
 use Prim.Native.Nat.{ℕ, _+_, _≤_}
