@@ -1,0 +1,4 @@
+pub mod Little
+pub mod Places
+pub mod Runs
+pub mod Writes

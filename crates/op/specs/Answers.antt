@@ -1,0 +1,42 @@
+-- What the code's answers stand for, over the buffer b that was read: spans and runs as the bytes and items that they mark. Assumes nothing.
+use Prim.Native.Nat.{ℕ}
+use mathlib.Core.List.{List}
+use lib.ListN.{length, drop}
+use Rattle.model_frame.specs.Frame.{Change, setIncoming, setIncomingInFlight, setInFlight, recordMsg, recordBare, reset, setCreatedAt, setMarks}
+use Rattle.model_frame.specs.Parse.{Res, ok, bad, Parser, collect}
+use Rattle.model_frame.specs.Reading.{readChange}
+use Rattle.scan.specs.Answers.{faultOf, spanOf}
+use Rattle.op.specs.declared.Op
+use Rattle.op.specs.declared.Op.{Op}
+use Rattle.op.specs.declared.OpAt
+use Rattle.op.specs.declared.OpAt.{OpAt}
+use Rattle.op.specs.declared.End
+use Rattle.op.specs.declared.End.{End}
+use Rattle.op.specs.declared.Run.{Run}
+
+abbrev pub opOf : List ℕ → Op → Change
+opOf b (Op.SetNextIncoming n) = setIncoming n
+opOf b (Op.SetNextIncomingInFlight n f) = setIncomingInFlight n f
+opOf b (Op.SetInFlight f) = setInFlight f
+opOf b (Op.Record n p) = recordMsg n (spanOf b p)
+opOf b (Op.RecordNone n) = recordBare n
+opOf b Op.Reset = reset
+opOf b (Op.SetCreatedAt p) = setCreatedAt (spanOf b p)
+opOf b (Op.SetMarks p) = setMarks (spanOf b p)
+
+abbrev pub resOp : List ℕ → OpAt → Res Change
+resOp b (OpAt.Got o c) = ok (opOf b o) (drop (c .at) b)
+resOp b (OpAt.Bad e) = bad (faultOf e)
+
+-- where a run of items ends
+abbrev pub resEnd : List ℕ → End → Res (Unit {0})
+resEnd b (End.At c) = ok tt (drop (c .at) b)
+resEnd b (End.Bad e) = bad (faultOf e)
+
+-- the items of a run
+abbrev pub runOf : {A : Type 0} → Parser A → List ℕ → Run → List A
+runOf p b r = collect (r .count) p (drop (r .at) b)
+
+-- the changes read one after the other until the bytes end or one can't be read: each takes a byte at least
+unfoldable pub heldRun : ℕ → List ℕ → List Change
+heldRun version s = collect (length s) (readChange version) s

@@ -1,0 +1,35 @@
+use borrow.Author.Needs.{needs}
+use Rattle.model_frame.specs.Parse.{blob}
+use Rattle.laws.proofs.Places.{bytes-short, bytes-got}
+use Rattle.scan.proofs.blob_from.Statement.{statement}
+use Rattle.scan.proofs.blob_from.Tie as tie
+
+returns : tie.Need-returns
+unfolding blob
+returns c = rw (← (c .before .before .u32-from .ensures), c .enum-told .given .1)
+
+returns-2 : tie.Need-returns-2
+unfolding blob
+returns-2 c =
+    let r = c .before .before .before in
+    rw (← (r .before .before .u32-from .ensures), r .n .given .1, bytes-short _ _ _ (c .before .left .ensures) (c .if1 .taken))
+
+returns-3 : tie.Need-returns-3
+unfolding blob
+returns-3 c =
+    let r = c .before .before .before in
+    rw (← (r .before .before .u32-from .ensures), r .n .given .1, bytes-got _ _ _ (c .before .left .ensures) (c .if1 .left))
+
+pub blob-from-spec : {M : Type 1} → statement M
+blob-from-spec =
+    tie.close
+    (tie.spec
+    (λ c κs. search needs)
+    (λ c. search needs)
+    (λ c. search needs)
+    returns
+    (λ c. search needs)
+    (λ c κs. search needs)
+    returns-2
+    (λ c. search needs)
+    returns-3)

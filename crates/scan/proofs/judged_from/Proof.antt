@@ -1,0 +1,48 @@
+use borrow.Author.Needs.{needs}
+use mathlib.Core.Path.{refl, sym, ap, _∙_}
+use Rattle.model_frame.specs.Parse.{text}
+use Rattle.scan.specs.Answers.{resSpan}
+use Rattle.model_text.proofs.Laws.{printable-is}
+use Rattle.scan.proofs.judged_from.Statement.{statement}
+use Rattle.scan.proofs.judged_from.Tie as tie
+
+returns : tie.Need-returns
+unfolding text
+returns c =
+    let g = c .before .before .before .before in
+    let told = sym (c .before .is-printable .ensures) ∙ c .if1 .taken in
+    (rw (← (g .before .before .blob-from .ensures), g .s .given .1, ← (c .before .before .slice .ensures), printable-is _ _ _ told .coded), rw (← (c .before .before .slice .ensures)) (sym told))
+
+returns-2 : tie.Need-returns-2
+unfolding text
+returns-2 c =
+    (rw (← (c .before .before .before .blob-from .ensures), c .before .e .given .1), tt)
+
+returns-3 : tie.Need-returns-3
+unfolding text
+returns-3 c =
+    let f = c .before .before .before in
+    let g = f .before .before .before .before in
+    (rw (← (g .before .before .blob-from .ensures), g .s .given .1, ← (c .before .before .slice2 .ensures), ← (c .before .is-utf8 .ensures), c .if2 .taken), rw (← (f .before .before .slice .ensures)) (sym (f .if1 .left) ∙ f .before .is-printable .ensures))
+
+returns-4 : tie.Need-returns-4
+unfolding text
+returns-4 c =
+    let g = c .before .before .before .before .before .before .before in
+    (rw (← (g .before .before .blob-from .ensures), g .s .given .1, ← (c .before .before .slice2 .ensures), ← (c .before .is-utf8 .ensures), c .if2 .left), tt)
+
+pub judged-from-spec : {M : Type 1} → statement M
+judged-from-spec =
+    tie.close
+    (tie.spec
+    (λ c κs. search needs)
+    (λ c. search needs)
+    (λ c. search needs)
+    (λ c κs. search needs)
+    (λ c κs. search needs)
+    returns
+    (λ c κs. search needs)
+    (λ c κs. search needs)
+    returns-2
+    returns-3
+    returns-4)

@@ -1,0 +1,275 @@
+// Reading numbers, blobs, texts and counts off a buffer, from a cursor by value.
+ghost use mathlib.Core.Path.{_≡_};
+ghost use Prim.Native.Nat.{_+_, _-_, _≤_};
+ghost use mathlib.Core.Bool.{cond, _||_};
+ghost use lib.ListN.{length, take, drop};
+ghost use Rattle.model_text.specs.Utf8.{utf8};
+ghost use Rattle.model_text.specs.Stamp.{takesStamp};
+ghost use Rattle.model_frame.specs.Frame.{badText};
+ghost use Rattle.model_frame.specs.Parse.{ok, bad, isEmpty, num, blob, text, count};
+ghost use Rattle.model_frame.specs.Reading.{stamp, stampOrNone, marks};
+ghost use Rattle.scan.specs.Answers.{invalidOf, spanOf, res8, res16, res32, res64, resSpan, resJudged, Judged};
+use stamp::Protocol;
+
+#[repr(C)]
+pub struct Cursor {
+    pub at: usize,
+}
+
+// A part of the buffer.
+#[repr(C)]
+pub struct Span {
+    pub at: usize,
+    pub len: u32,
+}
+
+// What has an unknown byte.
+pub enum Field {
+    FrameKind,
+    Part,
+    Refusal,
+    Change,
+}
+
+// What isn't valid.
+pub enum Value {
+    Text,
+    Session,
+    Timestamp,
+    Marks,
+}
+
+// A frame that can't be decoded.
+pub enum FrameError {
+    TooLong(u32),
+    Unknown(Field, u8),
+    Truncated,
+    Invalid(Value),
+}
+
+pub enum Byte {
+    Got(u8, Cursor),
+    Short,
+}
+
+pub enum Word16 {
+    Got(u16, Cursor),
+    Short,
+}
+
+pub enum Word32 {
+    Got(u32, Cursor),
+    Short,
+}
+
+pub enum Word64 {
+    Got(u64, Cursor),
+    Short,
+}
+
+pub enum SpanAt {
+    Got(Span, Cursor),
+    Bad(FrameError),
+}
+
+// A text, and whether it is as long and printable as was asked.
+pub enum JudgedAt {
+    Got(Span, bool, Cursor),
+    Bad(FrameError),
+}
+
+// How many bytes are left.
+pub fn left(buf: &[u8], c: Cursor) -> usize
+    ensures { λ r. ⌜ r ≡ length (now (buf .entry)) - (c .at) ⌝ }
+{
+    let at = c.at;
+    if at <= buf.len() { buf.len() - at } else { 0 }
+}
+
+pub fn u8_from(buf: &[u8], c: Cursor) -> Byte
+    ensures { λ r. ⌜ res8 (now (buf .entry)) r ≡ num 1 (drop (c .at) (now (buf .entry))) ⌝ }
+{
+    if left(buf, c) < 1 {
+        return Byte::Short;
+    }
+    let at = c.at;
+    Byte::Got(wire::u8_at(buf, at), Cursor { at: at + 1 })
+}
+
+pub fn u16_from(buf: &[u8], c: Cursor) -> Word16
+    ensures { λ r. ⌜ res16 (now (buf .entry)) r ≡ num 2 (drop (c .at) (now (buf .entry))) ⌝ }
+{
+    if left(buf, c) < 2 {
+        return Word16::Short;
+    }
+    let at = c.at;
+    Word16::Got(wire::u16_at(buf, at), Cursor { at: at + 2 })
+}
+
+pub fn u32_from(buf: &[u8], c: Cursor) -> Word32
+    ensures { λ r. ⌜ res32 (now (buf .entry)) r ≡ num 4 (drop (c .at) (now (buf .entry))) ⌝ }
+{
+    if left(buf, c) < 4 {
+        return Word32::Short;
+    }
+    let at = c.at;
+    Word32::Got(wire::u32_at(buf, at), Cursor { at: at + 4 })
+}
+
+pub fn u64_from(buf: &[u8], c: Cursor) -> Word64
+    ensures { λ r. ⌜ res64 (now (buf .entry)) r ≡ num 8 (drop (c .at) (now (buf .entry))) ⌝ }
+{
+    if left(buf, c) < 8 {
+        return Word64::Short;
+    }
+    let at = c.at;
+    Word64::Got(wire::u64_at(buf, at), Cursor { at: at + 8 })
+}
+
+// A blob, as the part of the buffer where its bytes stand: they are not looked at.
+pub fn blob_from(buf: &[u8], c: Cursor) -> SpanAt
+    ensures { λ r. ⌜ resSpan (now (buf .entry)) r ≡ blob (drop (c .at) (now (buf .entry))) ⌝ }
+{
+    let Word32::Got(n, d) = u32_from(buf, c) else {
+        return SpanAt::Bad(FrameError::Truncated);
+    };
+    let len = n as usize;
+    if left(buf, d) < len {
+        return SpanAt::Bad(FrameError::Truncated);
+    }
+    let at = d.at;
+    SpanAt::Got(Span { at, len: n }, Cursor { at: at + len })
+}
+
+// So many bytes from a position on: as many of them as the buffer has.
+pub fn bytes_at(buf: &[u8], at: usize, len: usize) -> &[u8]
+    ensures { λ r. ⌜ now r ≡ take len (drop at (now (buf .entry))) ⌝ }
+{
+    if buf.len() <= at {
+        return &buf[..0];
+    }
+    if len <= buf.len() - at {
+        &buf[at..at + len]
+    } else {
+        &buf[at..]
+    }
+}
+
+// The bytes of a part.
+pub fn slice(buf: &[u8], p: Span) -> &[u8]
+    ensures { λ r. ⌜ now r ≡ spanOf (now (buf .entry)) p ⌝ }
+{
+    bytes_at(buf, p.at, p.len as usize)
+}
+
+pub fn text_from(buf: &[u8], c: Cursor) -> SpanAt
+    ensures { λ r. ⌜ resSpan (now (buf .entry)) r ≡ text (drop (c .at) (now (buf .entry))) ⌝ }
+{
+    match blob_from(buf, c) {
+        SpanAt::Bad(e) => SpanAt::Bad(e),
+        SpanAt::Got(p, d) => {
+            if text::is_utf8(slice(buf, p)) {
+                SpanAt::Got(p, d)
+            } else {
+                SpanAt::Bad(FrameError::Invalid(Value::Text))
+            }
+        }
+    }
+}
+
+// A text that was judged by a rule which only UTF-8 meets: where it breaks the rule, whether it is UTF-8 decides the fault.
+fn kept(buf: &[u8], s: Span, d: Cursor, fine: bool, v: Value) -> SpanAt
+    ensures { λ r. ⌜ resSpan (now (buf .entry)) r ≡ cond fine (ok (spanOf (now (buf .entry)) s) (drop (d .at) (now (buf .entry)))) (bad (cond (utf8 (spanOf (now (buf .entry)) s)) (invalidOf v) badText)) ⌝ }
+{
+    if fine {
+        return SpanAt::Got(s, d);
+    }
+    if text::is_utf8(slice(buf, s)) {
+        SpanAt::Bad(FrameError::Invalid(v))
+    } else {
+        SpanAt::Bad(FrameError::Invalid(Value::Text))
+    }
+}
+
+pub fn stamp_from(p: Protocol, buf: &[u8], c: Cursor) -> SpanAt
+    ensures { λ r. ⌜ resSpan (now (buf .entry)) r ≡ stamp (p .version) (drop (c .at) (now (buf .entry))) ⌝ }
+{
+    match blob_from(buf, c) {
+        SpanAt::Bad(e) => SpanAt::Bad(e),
+        SpanAt::Got(s, d) => {
+            let fine = stamp::takes_stamp(p, slice(buf, s));
+            kept(buf, s, d, fine, Value::Timestamp)
+        }
+    }
+}
+
+// A stamp, or the empty text, which stands for none.
+pub fn is_stamp_or_none(p: Protocol, s: &[u8]) -> bool
+    ensures { λ r. ⌜ r ≡ (isEmpty (now (s .entry)) || takesStamp (p .version) (now (s .entry))) ⌝ }
+{
+    if s.len() == 0 {
+        return true;
+    }
+    stamp::takes_stamp(p, s)
+}
+
+pub fn stamp_or_none_from(p: Protocol, buf: &[u8], c: Cursor) -> SpanAt
+    ensures { λ r. ⌜ resSpan (now (buf .entry)) r ≡ stampOrNone (p .version) (drop (c .at) (now (buf .entry))) ⌝ }
+{
+    match blob_from(buf, c) {
+        SpanAt::Bad(e) => SpanAt::Bad(e),
+        SpanAt::Got(s, d) => {
+            let fine = is_stamp_or_none(p, slice(buf, s));
+            kept(buf, s, d, fine, Value::Timestamp)
+        }
+    }
+}
+
+pub fn marks_from(buf: &[u8], c: Cursor) -> SpanAt
+    ensures { λ r. ⌜ resSpan (now (buf .entry)) r ≡ marks (drop (c .at) (now (buf .entry))) ⌝ }
+{
+    match blob_from(buf, c) {
+        SpanAt::Bad(e) => SpanAt::Bad(e),
+        SpanAt::Got(s, d) => {
+            let fine = stamp::is_marks(slice(buf, s));
+            kept(buf, s, d, fine, Value::Marks)
+        }
+    }
+}
+
+// A text, and whether it has lo to hi printable bytes: the key's rule for one of its texts.
+pub fn judged_from(buf: &[u8], c: Cursor, lo: usize, hi: usize) -> JudgedAt
+    ensures { λ r. ⌜ resJudged (now (buf .entry)) r ≡ text (drop (c .at) (now (buf .entry))) ⌝ }
+    ensures { λ r. ⌜ Judged lo hi (now (buf .entry)) r ⌝ }
+{
+    match blob_from(buf, c) {
+        SpanAt::Bad(e) => JudgedAt::Bad(e),
+        SpanAt::Got(s, d) => {
+            if stamp::is_printable(slice(buf, s), lo, hi) {
+                return JudgedAt::Got(s, true, d);
+            }
+            if text::is_utf8(slice(buf, s)) {
+                JudgedAt::Got(s, false, d)
+            } else {
+                JudgedAt::Bad(FrameError::Invalid(Value::Text))
+            }
+        }
+    }
+}
+
+// A count of items that need at least `min` bytes each in what is left.
+pub fn count_from(buf: &[u8], c: Cursor, min: u64) -> Word32
+    requires { ⌜ min ≤ 6 ⌝ }
+    ensures { λ r. ⌜ res32 (now (buf .entry)) r ≡ count min (drop (c .at) (now (buf .entry))) ⌝ }
+{
+    match u32_from(buf, c) {
+        Word32::Short => Word32::Short,
+        Word32::Got(n, d) => {
+            if (n as u64) * min <= (left(buf, d) as u64) {
+                Word32::Got(n, d)
+            } else {
+                Word32::Short
+            }
+        }
+    }
+}
