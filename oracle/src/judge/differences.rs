@@ -79,14 +79,26 @@ fn message_bytes(changes: &[Op]) -> u64 {
     changes.iter().map(of).sum()
 }
 
+/// Whether a Batch is a Whole or LastWhole that the Rust would hold.
+pub fn would_hold(rust: &Rust, batch: &Batch) -> bool {
+    let Some(handle) = rust.replica.handle(batch.handle) else { return false };
+    let sum = handle.held_bytes.saturating_add(message_bytes(&batch.ops));
+    batch.part != Part::Commit
+        && batch.app_records.is_empty()
+        && batch.epoch >= rust.replica.epoch()
+        && handle.commit_no.checked_add(1) == Some(batch.commit_no)
+        && (!handle.held.is_empty() || batch.ops.first() == Some(&Op::Reset))
+        && sum <= WHOLE_SESSION_BYTES
+}
+
+/// The length of a handle's held changes in frame form.
+pub fn held_len(rust: &Rust, handle: u32) -> u64 {
+    rust.replica.handle(handle).map_or(0, |handle| form(handle.held).len() as u64)
+}
+
 /// Difference 18: a Whole or LastWhole that the Rust would hold outgrows the hold area.
 fn hold_area(rust: &mut Rust, batch: &Batch) -> Result<(), u32> {
-    let Some(handle) = rust.replica.handle(batch.handle) else { return Ok(()) };
-    let numbered = handle.commit_no.checked_add(1) == Some(batch.commit_no);
-    let begun = !handle.held.is_empty() || batch.ops.first() == Some(&Op::Reset);
-    let within = handle.held_bytes.saturating_add(message_bytes(&batch.ops)) <= WHOLE_SESSION_BYTES;
-    let outgrown = (form(handle.held).len() + form(&batch.ops).len()) as u64 > rust.hold;
-    if batch.part == Part::Commit || !(numbered && begun && within && outgrown) {
+    if !would_hold(rust, batch) || held_len(rust, batch.handle) + form(&batch.ops).len() as u64 <= rust.hold {
         return Ok(());
     }
     // The Rust runs the commits due before it refuses application records.

@@ -1,11 +1,22 @@
 //! The oracle's drivers: see README.md beside the build script.
 
 mod call;
+mod compare;
+mod count;
 mod differences;
 mod digits;
 mod frames;
+mod generate;
+#[cfg(ours)]
+mod ours;
+#[cfg(plain)]
+#[path = "../plain/mod.rs"]
+mod plain;
 mod rust;
 mod side;
+#[cfg(ours)]
+mod walk;
+mod wire;
 
 use std::io::{self, Read, Write};
 use std::process::ExitCode;
@@ -30,9 +41,19 @@ fn main() -> ExitCode {
         ["rust-calls"] => print(&side::run::<Rust>(&String::from_utf8_lossy(&input()))),
         ["rust-frames"] => print(&frames::read_lines(&input(), frames::read_by_rust)),
         ["frames-rust"] => print(&frames::program(&input())),
-        _ => {
-            eprintln!("oracle: rust-calls | rust-frames | frames-rust");
-            ExitCode::FAILURE
-        }
+        #[cfg(ours)]
+        ["our-calls"] => print(&side::run::<ours::Ours>(&String::from_utf8_lossy(&input()))),
+        #[cfg(ours)]
+        ["our-frames"] => print(&frames::read_lines(&input(), |frame| ours::read(frame, &mut Vec::new()))),
+        ["compare", seconds, ref seed @ ..] => match (seconds.parse(), seed.first().map_or(Ok(1), |seed| seed.parse())) {
+            (Ok(seconds), Ok(seed)) => compare::compare(seconds, seed),
+            _ => usage(),
+        },
+        _ => usage(),
     }
+}
+
+fn usage() -> ExitCode {
+    eprintln!("oracle: see oracle/README.md for what can be asked");
+    ExitCode::FAILURE
 }

@@ -105,6 +105,20 @@ impl Rust {
         storage.open(&id).ok()
     }
 
+    /// Where a frame would put its changes into a hold area: its handle, the length held before,
+    /// and the changes in frame form.
+    #[cfg(ours)]
+    pub fn will_hold(&self, bytes: &[u8]) -> Option<(u32, u64, Vec<u8>)> {
+        match Frame::decode(bytes) {
+            Ok(Some((Frame::Batch(batch), used))) if used == bytes.len() && !self.replica.promoted() => {
+                let (start, form) = (differences::held_len(self, batch.handle), form(&batch.ops));
+                let held = differences::would_hold(self, &batch) && start + form.len() as u64 <= self.hold;
+                held.then_some((batch.handle, start, form))
+            }
+            _ => None,
+        }
+    }
+
     pub fn is_stored(&self, id: &SessionId) -> bool {
         self.replica.storage().stored(id).is_some()
     }
@@ -138,8 +152,9 @@ impl Side for Rust {
         self.replica.flush(connection).map_err(|_| 22)
     }
 
-    fn line_dropped(&mut self, connection: u64) {
+    fn line_dropped(&mut self, connection: u64) -> Result<(), u32> {
         self.replica.disconnected_from(connection);
+        Ok(())
     }
 
     fn promote(&mut self) -> Result<(), u32> {
@@ -149,10 +164,11 @@ impl Side for Rust {
         Ok(())
     }
 
-    fn promote_unchecked(&mut self) {
+    fn promote_unchecked(&mut self) -> Result<(), u32> {
         let capped = differences::promotion_capped(&self.replica);
         self.replica.promote_unchecked().expect("a stand-in's store doesn't fail");
         differences::cap_promotion(&self.replica, &capped);
+        Ok(())
     }
 
     fn state(&mut self) -> State {
@@ -189,13 +205,13 @@ impl Side for Rust {
         differences::sending(last, batches.into_iter().map(|batch| encoded(&Frame::Batch(batch))).collect(), length)
     }
 
-    fn queue(&mut self, max_lag: u64, drained: u64, lasts: &[u64]) -> Vec<Pushed> {
+    fn queue(&mut self, max_lag: u64, drained: u64, lasts: &[u64]) -> Result<Vec<Pushed>, u32> {
         let mut lag = Lag::new(max_lag, drained);
         let push = |last: &u64| {
             let pushed = lag.push(*last);
             Pushed { went: pushed.went, drained_through: pushed.drained_through, waiting: pushed.waiting }
         };
-        lasts.iter().map(push).collect()
+        Ok(lasts.iter().map(push).collect())
     }
 
     fn set(&mut self, counter: &Counter) -> bool {

@@ -74,13 +74,13 @@ pub trait Side: Sized {
     fn make(setting: &Setting) -> Option<Self>;
     fn frame(&mut self, bytes: &[u8], held: bool) -> Answer;
     fn flush(&mut self, connection: u64) -> Result<(), u32>;
-    fn line_dropped(&mut self, connection: u64);
+    fn line_dropped(&mut self, connection: u64) -> Result<(), u32>;
     fn promote(&mut self) -> Result<(), u32>;
-    fn promote_unchecked(&mut self);
+    fn promote_unchecked(&mut self) -> Result<(), u32>;
     fn state(&mut self) -> State;
     fn summary(&mut self, n: u64, key: &Key) -> Result<Summary, u32>;
     fn whole(&mut self, handle: u32, epoch: u64, last: u64, key: &Key, length: Option<u64>) -> Sent;
-    fn queue(&mut self, max_lag: u64, drained: u64, lasts: &[u64]) -> Vec<Pushed>;
+    fn queue(&mut self, max_lag: u64, drained: u64, lasts: &[u64]) -> Result<Vec<Pushed>, u32>;
     /// False where there's no such handle, or it holds nothing.
     fn set(&mut self, counter: &Counter) -> bool;
 }
@@ -193,21 +193,15 @@ pub fn answer<S: Side>(side: &mut S, call: &Call) -> String {
         Call::Held(bytes) => answer_text(&side.frame(bytes, true)),
         Call::Frame(bytes) => answer_text(&side.frame(bytes, false)),
         Call::Flush(connection) => done(side.flush(*connection)),
-        Call::Drop(connection) => {
-            side.line_dropped(*connection);
-            "ok".into()
-        }
+        Call::Drop(connection) => done(side.line_dropped(*connection)),
         Call::Promote => done(side.promote()),
-        Call::Unchecked => {
-            side.promote_unchecked();
-            "ok".into()
-        }
+        Call::Unchecked => done(side.promote_unchecked()),
         Call::State => side.state().lines(),
         Call::Summary { n, key } => side.summary(*n, key).map_or_else(refusal, |summary| summary.line()),
         Call::Whole { handle, epoch, last, key, length } => side.whole(*handle, *epoch, *last, key, *length).lines(),
         Call::Queue { max_lag, drained, lasts } => {
-            let pushes = side.queue(*max_lag, *drained, lasts);
-            pushes.iter().map(Pushed::line).collect::<Vec<_>>().join("\n")
+            let lines = |pushes: Vec<Pushed>| pushes.iter().map(Pushed::line).collect::<Vec<_>>().join("\n");
+            side.queue(*max_lag, *drained, lasts).map_or_else(refusal, lines)
         }
         Call::Set(counter) if side.set(counter) => "ok".into(),
         Call::Set(_) => format!("? {call}"),
