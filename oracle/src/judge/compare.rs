@@ -86,7 +86,11 @@ impl Round {
     /// A script made as the Rust runs it.
     fn script(&mut self, random: &mut Random) -> Result<(), Difference> {
         let setting = setting(random);
-        let length = if setting.sessions > 60 { 160 } else { 20 + random.below(100) };
+        let length = match setting {
+            _ if setting.sessions > 60 => 160,
+            _ if setting.bytes > 1 << 20 => 25,
+            _ => 20 + random.below(100),
+        };
         let mut player = Player::new(Random(random.next()), &setting);
         let mut rust = Rust::make(&setting).expect("within the limits");
         let mut run = Run::new(&setting);
@@ -180,16 +184,25 @@ impl Run {
     /// The script, with every call that doesn't matter left out.
     fn difference(&self, rust: &str, us: &str) -> Difference {
         let mut calls = self.calls.clone();
-        for at in (0..calls.len()).rev() {
-            let mut fewer = calls.clone();
-            fewer.remove(at);
-            if differ(&self.setting, &fewer) {
-                calls = fewer;
-            }
+        while let Some(fewer) = without_one_in_turn(&self.setting, &calls) {
+            calls = fewer;
         }
         let script: String = calls.iter().map(|call| format!("{call}\n")).collect();
         Difference(format!("a script\n{}\n{script}first seen as\nthe Rust: {rust}\nours:     {us}\n", self.setting))
     }
+}
+
+/// The calls without those that can go one by one, if any can and the sides still differ.
+#[cfg(ours)]
+fn without_one_in_turn(setting: &Setting, calls: &[Call]) -> Option<Vec<Call>> {
+    let mut fewer = calls.to_vec();
+    for at in (0..calls.len()).rev() {
+        let gone = fewer.remove(at);
+        if !differ(setting, &fewer) {
+            fewer.insert(at, gone);
+        }
+    }
+    (fewer.len() < calls.len()).then_some(fewer)
 }
 
 /// Whether the sides answer a script differently, or end it in different states.

@@ -268,9 +268,9 @@ pub struct Player {
 
 /// A setting: mostly a few places and small limits, so that they are met.
 pub fn setting(random: &mut Random) -> Setting {
-    let many = random.percent(4);
-    let bytes = random.pick(&[0, 1, 7, 20, 40, 200]);
-    let messages = random.pick(&[0, 1, 2, 3, 4, 8]);
+    let (many, large) = (random.percent(4), random.below(400) == 0);
+    let bytes = if large { 4 << 20 } else { random.pick(&[0, 1, 7, 20, 40, 200]) };
+    let messages = if large { 12 } else { random.pick(&[0, 1, 2, 3, 4, 8]) };
     let any = hold_for_any(bytes, messages);
     Setting {
         incarnation: random.pick(&[0, 1, 7, 7, u64::MAX]),
@@ -296,12 +296,28 @@ fn full_of_pending(random: &mut Random, keys: &[Key]) -> Vec<Call> {
     (0..handles).map(bind).chain((0..handles).map(commit)).chain([Call::State]).collect()
 }
 
+/// A session that is sent whole in several batches, some of them just at the limit, and sent.
+fn several_batches(random: &mut Random, key: &Key) -> Vec<Call> {
+    let mut commit = |seq: u64| {
+        let len = random.pick(&[0, 1, 524_288, 1_048_575, 1_048_576, 1_048_577]);
+        let changes = vec![change::record(seq, &vec![seq as u8; len])];
+        wire::batch(&Batch { handle: 0, epoch: 0, commit_no: seq, part: wire::COMMIT, changes, records: Vec::new() })
+    };
+    let commits: Vec<_> = (1..=6).map(|seq| Call::Frame(commit(seq))).collect();
+    let whole = Call::Whole { handle: 0, epoch: 0, last: 6, key: key.clone(), length: None };
+    [Call::Frame(wire::bind(0, 0, 0, key))].into_iter().chain(commits).chain([whole]).collect()
+}
+
 impl Player {
     pub fn new(mut random: Random, setting: &Setting) -> Self {
         let count = setting.sessions + 1;
         let mut key = |i: u64| [b"FIX.4.4".to_vec(), random.printable(1, 3), format!("T{i}").into(), Vec::new()];
         let keys: Vec<Key> = (0..count).map(&mut key).collect();
-        let opening = if count > 60 { full_of_pending(&mut random, &keys) } else { Vec::new() };
+        let opening = match setting {
+            _ if count > 60 => full_of_pending(&mut random, &keys),
+            _ if setting.bytes > 1 << 20 => several_batches(&mut random, &keys[0]),
+            _ => Vec::new(),
+        };
         Self { random, keys, sending: Vec::new(), opening }
     }
 
@@ -466,7 +482,10 @@ impl Player {
         let last = rust.replica.handle(handle).map_or(0, |handle| handle.commit_no);
         let epoch = rust.replica.epoch();
         if self.random.percent(50) {
-            self.sending = self.parts(rust, &key, handle, last);
+            self.sending = match self.random.percent(50) {
+                true => self.parts(rust, &key, handle, last),
+                false => rust.whole(handle, epoch, last, &key, None).frames,
+            };
             return Call::State;
         }
         let last = if self.random.percent(80) { last } else { self.random.number() };

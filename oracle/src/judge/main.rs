@@ -12,7 +12,9 @@ mod ours;
 #[cfg(plain)]
 #[path = "../plain/mod.rs"]
 mod plain;
+mod record;
 mod rust;
+mod selftest;
 mod side;
 #[cfg(ours)]
 mod walk;
@@ -48,6 +50,15 @@ fn main() -> ExitCode {
         ["compare", seconds, ref seed @ ..] => match (seconds.parse(), seed.first().map_or(Ok(1), |seed| seed.parse())) {
             (Ok(seconds), Ok(seed)) => compare::compare(seconds, seed),
             _ => usage(),
+        },
+        ["selftest", folder] if selftest::selftest(folder.as_ref()) => ExitCode::SUCCESS,
+        ["selftest", _] => ExitCode::FAILURE,
+        ["record", folder] => match record::record(folder.as_ref()) {
+            Ok(count) => print(&format!("record: {count} files\n")),
+            Err(error) => {
+                eprintln!("record: {error}");
+                ExitCode::FAILURE
+            }
         },
         _ => usage(),
     }
