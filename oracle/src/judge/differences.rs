@@ -4,6 +4,8 @@
 //! 8, 9 and 1 in writing don't show here: the drivers write only frames that can be written,
 //! into areas that grow. The byte sum's cap needs nothing: the Rust's own addition saturates.
 
+use std::sync::atomic::{AtomicBool, Ordering};
+
 use turbojet::SessionId;
 use turbojet::store::{Limits, MemoryStorage};
 use turbojet_replica::frame::reach::form;
@@ -15,15 +17,30 @@ use crate::call::Setting;
 use crate::rust::{Rust, stand_in_limits};
 use crate::side::Sent;
 
+/// Set to see the Rust alone, without the differences (all but 26 and the incarnation).
+static ALONE: AtomicBool = AtomicBool::new(false);
+
+pub fn leave_out(alone: bool) {
+    ALONE.store(alone, Ordering::Relaxed);
+}
+
+fn alone() -> bool {
+    ALONE.load(Ordering::Relaxed)
+}
+
 /// Difference 26: what is handed over isn't just one whole frame.
 pub const NOT_ONE_FRAME: u32 = 26;
 
-/// Difference 25, for a session that isn't stored.
-pub const BROKEN: u32 = 25;
+/// Difference 25, for a session that isn't stored: the Rust would make it.
+pub fn is_missing(rust: &Rust, id: &SessionId) -> bool {
+    !alone() && !rust.is_stored(id)
+}
+
+pub const MISSING: u32 = 25;
 
 /// Difference 25, for a store with C or M too great.
 pub fn limits(setting: &Setting) -> Option<Limits> {
-    (setting.bytes <= 33_554_432 && setting.messages <= 65_536).then(|| stand_in_limits(setting))
+    (alone() || setting.bytes <= 33_554_432 && setting.messages <= 65_536).then(|| stand_in_limits(setting))
 }
 
 /// The incarnation is given, not random; 0 is taken as 1.
@@ -33,7 +50,7 @@ pub fn given_incarnation(replica: &mut Replica<MemoryStorage>, incarnation: u64)
 
 /// What goes to the Rust in a frame's place, or the refusal that the Rust doesn't have.
 pub fn before_frame(rust: &mut Rust, frame: Frame) -> Result<Frame, u32> {
-    if rust.replica.promoted() {
+    if alone() || rust.replica.promoted() {
         return Ok(frame);
     }
     match frame {
@@ -121,14 +138,14 @@ fn last_outgoing_number(rust: &Rust, mut batch: Batch) -> Batch {
 
 /// The connection count stops at 2^64 - 1: the Rust's would go on at 0.
 pub fn connections_end(replica: &mut Replica<MemoryStorage>, before: u64) {
-    if before == u64::MAX {
+    if before == u64::MAX && !alone() {
         replica.set_connections(before);
     }
 }
 
 /// The sessions whose next outgoing number promotion would take past 2^64 - 1.
 pub fn promotion_capped(replica: &Replica<MemoryStorage>) -> Vec<SessionId> {
-    let past = |next: u64| next.checked_add(replica.accepted_lag()).is_none();
+    let past = |next: u64| !alone() && next.checked_add(replica.accepted_lag()).is_none();
     let all = replica.storage().all().into_iter();
     all.filter(|(_, stored)| past(stored.next_outgoing)).map(|(id, _)| id).collect()
 }
@@ -142,6 +159,9 @@ pub fn cap_promotion(replica: &Replica<MemoryStorage>, capped: &[SessionId]) {
 
 /// Differences 24 and 9: commit numbers past 2^64 - 1, and a frame too long for its area.
 pub fn sending(last: u64, frames: Vec<Vec<u8>>, length: Option<u64>) -> Sent {
+    if alone() {
+        return Sent { frames, end: Ok(()) };
+    }
     if last.checked_add(frames.len() as u64).is_none() {
         return Sent { frames: Vec::new(), end: Err(24) };
     }

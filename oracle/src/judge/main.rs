@@ -41,6 +41,10 @@ fn main() -> ExitCode {
     let arguments: Vec<&str> = arguments.iter().map(String::as_str).collect();
     match arguments[..] {
         ["rust-calls"] => print(&side::run::<Rust>(&String::from_utf8_lossy(&input()))),
+        ["rust-calls", "alone"] => {
+            differences::leave_out(true);
+            print(&side::run::<Rust>(&String::from_utf8_lossy(&input())))
+        }
         ["rust-frames"] => print(&frames::read_lines(&input(), frames::read_by_rust)),
         ["frames-rust"] => print(&frames::program(&input())),
         #[cfg(ours)]

@@ -5,6 +5,7 @@ use std::io;
 use std::path::Path;
 
 use crate::call::{Call, Counter, Key, hold_for_any};
+use crate::differences;
 use crate::digits;
 use crate::frames::{program, read_by_rust};
 use crate::generate::{Player, Random, any_frame, damaged, setting};
@@ -653,6 +654,41 @@ fn scripts() -> Vec<(String, Script)> {
     named.into_iter().map(|(name, script)| (name.into(), script)).chain(chance).collect()
 }
 
+/// The smallest input for each listed difference that a script can show.
+fn difference_scripts() -> Vec<(&'static str, Script)> {
+    let bound = |setting: &str| Script::new(setting).frame(wire::bind(1, 0, 0, &key("B")));
+    let last = u64::MAX;
+    vec![
+        ("09-area-too-short", bound("7 0 0 0 1 1").whole(0, key("B"), Some(48))),
+        ("18-hold-area", bound("7 0 0 0 1 1 0").frame(batch(WHOLE, 1, 0, 1, &[change::reset()])).state()),
+        ("20-session-places", bound("7 0 0 0 0 1").state()),
+        ("21-handle-places", bound("7 0 0 0 1 0").state()),
+        ("24-commit-numbers", bound("7 0 0 0 1 1").whole(last, key("B"), None)),
+        ("25-bytes", Script::new("7 0 33554433 0 1 1").state()),
+        ("25-messages", Script::new("7 0 0 65537 1 1").state()),
+        ("25-not-stored", Script::new("7 0 0 0 1 1").summary(0, key("B"))),
+        ("last-record", bound("7 0 0 0 1 1").frame(commit(1, 0, 1, &[change::bare_record(last)])).state()),
+        (
+            "last-record-held",
+            bound("7 0 0 0 1 1").frame(batch(LAST_WHOLE, 1, 0, 1, &[change::reset(), change::bare_record(last)])).state(),
+        ),
+        ("last-commit-number", bound("7 0 0 0 1 1").set(Counter::Commit(1, last)).frame(commit(1, 0, 0, &[])).state()),
+        (
+            "promotion-cap",
+            bound("7 1 0 0 1 1").frame(commit(1, 0, 1, &[change::bare_record(last - 1)])).line("U").state(),
+        ),
+        ("connection-count", Script::new("7 0 0 0 0 0").set(Counter::Connections(last)).frame(hello(0)).state()),
+        (
+            "byte-sum",
+            bound("7 0 0 0 1 1")
+                .frame(batch(WHOLE, 1, 0, 1, &[change::reset()]))
+                .set(Counter::Bytes(1, last))
+                .frame(batch(WHOLE, 1, 0, 2, &[change::record(1, b"a")]))
+                .state(),
+        ),
+    ]
+}
+
 /// Single frames: good ones, each field at its limits, every cut and some changes of small ones.
 fn single_frames() -> Vec<Vec<u8>> {
     let mut frames = vec![Vec::new(), vec![0], vec![0; 3], framed(&[]), vec![0, 0, 0, 4], vec![1, 0, 0, 4], vec![255; 4]];
@@ -919,6 +955,13 @@ pub fn files() -> Vec<(String, Vec<u8>)> {
         files.push((format!("scripts/{name}.out"), run::<Rust>(&text).into()));
         files.push((format!("scripts/{name}.in"), text.into()));
     }
+    for (name, Script(text)) in difference_scripts() {
+        files.push((format!("differences/{name}.out"), run::<Rust>(&text).into()));
+        differences::leave_out(true);
+        files.push((format!("differences/{name}.alone"), run::<Rust>(&text).into()));
+        differences::leave_out(false);
+        files.push((format!("differences/{name}.in"), text.into()));
+    }
     for (name, input) in program_inputs() {
         files.push((format!("frames/{name}.out"), program(&input).into()));
         files.push((format!("frames/{name}.in"), input));
@@ -927,7 +970,7 @@ pub fn files() -> Vec<(String, Vec<u8>)> {
 }
 
 pub fn record(folder: &Path) -> io::Result<usize> {
-    for part in ["scripts", "frames"] {
+    for part in ["scripts", "frames", "differences"] {
         fs::create_dir_all(folder.join(part))?;
     }
     let files = files();

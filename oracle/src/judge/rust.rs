@@ -100,9 +100,10 @@ impl Rust {
     /// A stored session's log; none if it isn't stored (opening it would make it).
     fn log(&self, key: &Key) -> Option<Box<dyn StoredSession>> {
         let id = id_of(key)?;
-        let storage = self.replica.storage();
-        storage.stored(&id)?;
-        storage.open(&id).ok()
+        if differences::is_missing(self, &id) {
+            return None;
+        }
+        self.replica.storage().open(&id).ok()
     }
 
     /// Where a frame would put its changes into a hold area: its handle, the length held before,
@@ -187,7 +188,7 @@ impl Side for Rust {
     }
 
     fn summary(&mut self, n: u64, key: &Key) -> Result<Summary, u32> {
-        let mut log = self.log(key).ok_or(differences::BROKEN)?;
+        let mut log = self.log(key).ok_or(differences::MISSING)?;
         let summary = summary(log.as_mut(), n);
         Ok(Summary {
             next_outgoing: summary.next_outgoing,
@@ -200,7 +201,7 @@ impl Side for Rust {
     }
 
     fn whole(&mut self, handle: u32, epoch: u64, last: u64, key: &Key, length: Option<u64>) -> Sent {
-        let Some(mut log) = self.log(key) else { return Sent { frames: Vec::new(), end: Err(differences::BROKEN) } };
+        let Some(mut log) = self.log(key) else { return Sent { frames: Vec::new(), end: Err(differences::MISSING) } };
         let batches = whole(log.as_mut(), handle, epoch, last);
         differences::sending(last, batches.into_iter().map(|batch| encoded(&Frame::Batch(batch))).collect(), length)
     }
