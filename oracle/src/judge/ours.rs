@@ -347,8 +347,8 @@ impl Side for Ours {
         let mut ours = Self {
             counters: Counters::default(),
             row: vec![Place::default(); setting.handles as usize],
-            words: vec![0; lengths.0],
-            bytes: vec![0; lengths.1],
+            words: vec![u64::from_ne_bytes([UNTOUCHED; 8]); lengths.0],
+            bytes: vec![UNTOUCHED; lengths.1],
             holds: vec![UNTOUCHED; (setting.hold * setting.handles) as usize],
             out: vec![0; 4096],
             size,

@@ -2,12 +2,15 @@
 //! and starred points, the public vectors, and the recorded lists.
 
 use std::fs;
+use std::panic::{catch_unwind, set_hook, take_hook};
 use std::path::Path;
+
+use turbojet_replica::frame::Frame;
 
 use crate::digits;
 use crate::frames::{program, read_by_rust};
 use crate::record::{self, fnv_1a, key};
-use crate::rust::Rust;
+use crate::rust::{Rust, encoded};
 use crate::side::{Side, run};
 use crate::wire::{self, Batch, COMMIT, change};
 
@@ -167,6 +170,18 @@ fn utf_8(checks: &mut Checks) {
     checks.same("RFC 3629's table", &wrong.join(" "), "");
 }
 
+/// The longest frame is written; one byte more makes the Rust panic (difference 1 in writing).
+fn longest(checks: &mut Checks) {
+    let body = |len: usize| {
+        let frame = Frame::Hello { version: 1, epoch: 0, node: "n".repeat(len - 19), app_record_kinds: Vec::new() };
+        catch_unwind(|| encoded(&frame).len()).ok()
+    };
+    checks.same("a body at the limit", &format!("{:?}", body(67_108_864)), "Some(67108868)");
+    set_hook(Box::new(|_| {}));
+    checks.same("a body past the limit", &format!("{:?}", body(67_108_865)), "None");
+    drop(take_hook());
+}
+
 /// What the recorded lists say is what the Rust answers today.
 fn recorded(checks: &mut Checks, folder: &Path) {
     for (name, must) in record::files() {
@@ -211,6 +226,7 @@ pub fn selftest(folder: &Path) -> bool {
     fnv(&mut checks);
     store(&mut checks);
     utf_8(&mut checks);
+    longest(&mut checks);
     recorded(&mut checks, folder);
     let setting = crate::call::Setting::read("7 0 33554433 0 1 1").expect("a setting");
     checks.same("C too great", &Rust::make(&setting).is_none().to_string(), "true");

@@ -249,7 +249,7 @@ impl Standby<'_> {
         }
         self.counters.epoch = epoch;
         if fault(11) && self.index(handle).is_none() {
-            self.words[65] += 1;
+            self.words[65] ^= 1;
         }
         let index = self.index(handle).ok_or(14_u32)?;
         if self.row[index].commit_no.checked_add(1) != Some(commit_no) {
@@ -340,7 +340,10 @@ extern "C" fn wz_call(
     };
     let frame = unsafe { from_raw_parts(frame, frame_len) };
     let answer = match call {
-        0 => Ok(Vec::new()),
+        0 => {
+            (standby.words[0], standby.words[1]) = (0, 0);
+            Ok(Vec::new())
+        }
         1 => standby.on_frame(frame, true),
         2 => standby.on_frame(frame, false),
         3 => standby.flush(number),
