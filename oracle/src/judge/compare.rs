@@ -110,7 +110,9 @@ impl Round {
 
     /// Stores that can't be made.
     fn making(&mut self) -> Result<(), Difference> {
-        for (bytes, messages) in [(33_554_433, 1), (1, 65_537), (u64::MAX, 0), (0, u64::MAX), (33_554_432, 1), (0, 65_536)] {
+        for (bytes, messages) in
+            [(33_554_433, 1), (1, 65_537), (u64::MAX, 0), (0, u64::MAX), (33_554_432, 1), (0, 65_536)]
+        {
             let setting = Setting { incarnation: 1, lag: 0, bytes, messages, sessions: 1, handles: 0, hold: 0 };
             let made = Rust::make(&setting).is_some();
             self.counts.made(made);

@@ -210,7 +210,10 @@ pub fn any_frame(random: &mut Random) -> Vec<u8> {
         2 | 3 => wire::bind(random.handle(), random.number(), random.number(), &key(random)),
         4..8 => any_batch(random),
         8 => wire::ack(random.handle(), random.number()),
-        9 => wire::nack(random.handle(), if random.percent(80) { 1 + random.below(4) as u8 } else { random.next() as u8 }),
+        9 => wire::nack(
+            random.handle(),
+            if random.percent(80) { 1 + random.below(4) as u8 } else { random.next() as u8 },
+        ),
         10 | 11 => {
             let numbers = [random.number(), random.number(), random.number()];
             let stamp = if random.percent(30) { Vec::new() } else { stamp(random) };
@@ -558,7 +561,9 @@ impl Player {
                 let sums = [4_294_967_290, 4_294_967_296, 4_294_967_297, u64::MAX - 1, u64::MAX];
                 Counter::Bytes(holding.number, random.pick(&sums))
             }
-            (0..6, Some(handle), _) => Counter::Commit(handle.number, random.pick(&[u64::MAX - 2, u64::MAX - 1, u64::MAX])),
+            (0..6, Some(handle), _) => {
+                Counter::Commit(handle.number, random.pick(&[u64::MAX - 2, u64::MAX - 1, u64::MAX]))
+            }
             (6, ..) => Counter::Connections(random.pick(&[u64::MAX - 1, u64::MAX])),
             _ => Counter::Epoch(if random.percent(80) { random.below(9) } else { random.number() }),
         }

@@ -51,7 +51,8 @@ fn main() -> ExitCode {
         ["our-calls"] => print(&side::run::<ours::Ours>(&String::from_utf8_lossy(&input()))),
         #[cfg(ours)]
         ["our-frames"] => print(&frames::read_lines(&input(), |frame| ours::read(frame, &mut Vec::new()))),
-        ["compare", seconds, ref seed @ ..] => match (seconds.parse(), seed.first().map_or(Ok(1), |seed| seed.parse())) {
+        ["compare", seconds, ref seed @ ..] => match (seconds.parse(), seed.first().map_or(Ok(1), |seed| seed.parse()))
+        {
             (Ok(seconds), Ok(seed)) => compare::compare(seconds, seed),
             _ => usage(),
         },

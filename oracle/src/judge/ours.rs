@@ -340,7 +340,8 @@ fn told(bytes: &[u8]) -> Told {
 impl Side for Ours {
     fn make(setting: &Setting) -> Option<Self> {
         let fits = |n: u64| u32::try_from(n).unwrap_or(u32::MAX);
-        let size = Size { sessions: fits(setting.sessions), bytes: fits(setting.bytes), messages: fits(setting.messages) };
+        let size =
+            Size { sessions: fits(setting.sessions), bytes: fits(setting.bytes), messages: fits(setting.messages) };
         // A store with C or M too great is refused before its area is looked at.
         let small = setting.bytes <= 1 << 26 && setting.messages <= 1 << 20;
         let lengths = if small { (words_len(size), bytes_len(size)) } else { (0, 0) };

@@ -100,7 +100,12 @@ fn records(numbers: std::ops::RangeInclusive<u64>, msg: &[u8]) -> Vec<Vec<u8>> {
 }
 
 fn example() -> Script {
-    Script::new("7 3 40 4 2 3").frame(hello(5)).frame(wire::bind(9, 5, 2, &key("B"))).state().queue(2, 0, &[1, 2, 3]).line("P")
+    Script::new("7 3 40 4 2 3")
+        .frame(hello(5))
+        .frame(wire::bind(9, 5, 2, &key("B")))
+        .state()
+        .queue(2, 0, &[1, 2, 3])
+        .line("P")
 }
 
 fn life() -> Script {
@@ -151,7 +156,8 @@ fn life() -> Script {
 
 fn refusals() -> Script {
     let bound = |script: Script| script.frame(hello(5)).frame(wire::bind(1, 5, 0, &key("B")));
-    let app = Batch { handle: 1, epoch: 6, commit_no: 1, part: COMMIT, changes: vec![], records: vec![(1, b"x".to_vec())] };
+    let app =
+        Batch { handle: 1, epoch: 6, commit_no: 1, part: COMMIT, changes: vec![], records: vec![(1, b"x".to_vec())] };
     let script = Script::new("7 0 40 4 1 1 30").note("the reader's numbers, and 26");
     let script = script
         .frame(vec![1, 0, 0, 4])
@@ -164,56 +170,61 @@ fn refusals() -> Script {
         .frame(Vec::new())
         .frame([hello(5), hello(5)].concat())
         .frame(hello(5)[..20].to_vec());
-    bound(script.note("11, 12, 14, then bound").frame(wire::hello(2, 5, b"a", &[])).frame(wire::hello(1, 5, b"a", &[3])))
-        .frame(commit(2, 5, 1, &[]))
-        .note("13 doesn't raise the epoch, 14 does")
-        .frame(wire::batch(&app))
-        .state()
-        .frame(commit(2, 6, 1, &[]))
-        .state()
-        .note("16, 18, and 15 while changes are held")
-        .frame(batch(WHOLE, 1, 6, 1, &[change::next_incoming(1)]))
-        .frame(batch(LAST_WHOLE, 1, 6, 1, &[]))
-        .frame(batch(WHOLE, 1, 6, 1, &[change::reset(), change::record(1, &[7; 17])]))
-        .state()
-        .frame(batch(WHOLE, 1, 7, 1, &[change::reset(), change::record(1, &[7; 16])]))
-        .state()
-        .frame(commit(1, 7, 2, &[]))
-        .frame(batch(WHOLE, 1, 7, 2, &[change::reset()]))
-        .note("17 keeps the byte sum raised, and comes before 18")
-        .set(Counter::Bytes(1, 4_294_967_296))
-        .frame(batch(LAST_WHOLE, 1, 7, 2, &[change::record(2, b"x")]))
-        .state()
-        .frame(batch(WHOLE, 1, 8, 2, &[]))
-        .state()
-        .note("19, 20, 21, 22, 23")
-        .frame(wire::welcome(5, 7))
-        .frame(wire::ack(1, 1))
-        .frame(wire::nack(1, 1))
-        .frame(wire::bound(1, [1, 1, 0], b"", b"", 0))
-        .frame(wire::bind(1, 8, 0, &key("C")))
-        .frame(wire::bind(2, 8, 0, &key("B")))
-        .frame(wire::bind(2, 8, 0, &key("C")))
-        .state()
-        .flush(0)
-        .flush(1)
-        .line("P")
-        .note("24, 9, 25")
-        .whole(u64::MAX, key("B"), None)
-        .whole(u64::MAX - 1, key("B"), None)
-        .whole(0, key("B"), Some(48))
-        .whole(0, key("B"), Some(49))
-        .whole(0, key("C"), None)
-        .summary(1, key("C"))
-        .note("10 and 22 after promotion; a faulty frame keeps its own number")
-        .line("U")
-        .frame(hello(9))
-        .frame(commit(1, 9, 1, &[]))
-        .frame(wire::ack(1, 1))
-        .frame(framed(&[9]))
-        .frame(vec![0])
-        .flush(1)
-        .line("P")
+    bound(script.note("11, 12, 14, then bound").frame(wire::hello(2, 5, b"a", &[])).frame(wire::hello(
+        1,
+        5,
+        b"a",
+        &[3],
+    )))
+    .frame(commit(2, 5, 1, &[]))
+    .note("13 doesn't raise the epoch, 14 does")
+    .frame(wire::batch(&app))
+    .state()
+    .frame(commit(2, 6, 1, &[]))
+    .state()
+    .note("16, 18, and 15 while changes are held")
+    .frame(batch(WHOLE, 1, 6, 1, &[change::next_incoming(1)]))
+    .frame(batch(LAST_WHOLE, 1, 6, 1, &[]))
+    .frame(batch(WHOLE, 1, 6, 1, &[change::reset(), change::record(1, &[7; 17])]))
+    .state()
+    .frame(batch(WHOLE, 1, 7, 1, &[change::reset(), change::record(1, &[7; 16])]))
+    .state()
+    .frame(commit(1, 7, 2, &[]))
+    .frame(batch(WHOLE, 1, 7, 2, &[change::reset()]))
+    .note("17 keeps the byte sum raised, and comes before 18")
+    .set(Counter::Bytes(1, 4_294_967_296))
+    .frame(batch(LAST_WHOLE, 1, 7, 2, &[change::record(2, b"x")]))
+    .state()
+    .frame(batch(WHOLE, 1, 8, 2, &[]))
+    .state()
+    .note("19, 20, 21, 22, 23")
+    .frame(wire::welcome(5, 7))
+    .frame(wire::ack(1, 1))
+    .frame(wire::nack(1, 1))
+    .frame(wire::bound(1, [1, 1, 0], b"", b"", 0))
+    .frame(wire::bind(1, 8, 0, &key("C")))
+    .frame(wire::bind(2, 8, 0, &key("B")))
+    .frame(wire::bind(2, 8, 0, &key("C")))
+    .state()
+    .flush(0)
+    .flush(1)
+    .line("P")
+    .note("24, 9, 25")
+    .whole(u64::MAX, key("B"), None)
+    .whole(u64::MAX - 1, key("B"), None)
+    .whole(0, key("B"), Some(48))
+    .whole(0, key("B"), Some(49))
+    .whole(0, key("C"), None)
+    .summary(1, key("C"))
+    .note("10 and 22 after promotion; a faulty frame keeps its own number")
+    .line("U")
+    .frame(hello(9))
+    .frame(commit(1, 9, 1, &[]))
+    .frame(wire::ack(1, 1))
+    .frame(framed(&[9]))
+    .frame(vec![0])
+    .flush(1)
+    .line("P")
 }
 
 fn nacks() -> Script {
@@ -237,7 +248,12 @@ fn nacks() -> Script {
         .frame(commit(1, 6, 2, &[change::reset(), change::record(2, b"b")]))
         .state()
         .note("a bare Record may skip, a Reset starts again at 1")
-        .frame(commit(1, 6, 2, &[change::bare_record(7), change::record(8, b"h"), change::reset(), change::record(1, b"")]))
+        .frame(commit(
+            1,
+            6,
+            2,
+            &[change::bare_record(7), change::record(8, b"h"), change::reset(), change::record(1, b"")],
+        ))
         .state()
         .note("a wrong number clears what is held; the commit number stays")
         .frame(batch(WHOLE, 1, 6, 3, &[change::reset(), change::record(1, b"w")]))
@@ -291,7 +307,9 @@ fn handles() -> Script {
 
 fn pending() -> Script {
     let bind = |script: Script, handle: u32| script.held(wire::bind(handle, 1, 0, &key(&format!("T{}", handle % 3))));
-    let hold = |number: u64| move |script: Script, handle: u32| script.held(commit(handle, 1, number, &[change::in_flight(number)]));
+    let hold = |number: u64| {
+        move |script: Script, handle: u32| script.held(commit(handle, 1, number, &[change::in_flight(number)]))
+    };
     Script::new("7 0 10 1 3 70")
         .frame(hello(1))
         .all(0..66, bind)
@@ -468,7 +486,8 @@ fn promotion() -> Script {
 }
 
 fn hold() -> Script {
-    let whole = [change::reset(), change::created_at(LONG_STAMP), change::bare_record(1), change::record(2, b"0123456789")];
+    let whole =
+        [change::reset(), change::created_at(LONG_STAMP), change::bare_record(1), change::record(2, b"0123456789")];
     let end = [change::bare_record(9), change::next_incoming_in_flight(3, 2), change::marks(&[b'm'; 64])];
     let size = hold_for_any(10, 1);
     Script::new(&format!("7 0 10 1 1 2 {size}"))
@@ -502,13 +521,31 @@ fn sendings() -> Script {
     let script = target("new", &[], script.note("nothing in it"));
     let script = target("one", &[change::record(1, b"m")], script.note("one message; an empty one"));
     let script = target("empty", &[change::record(1, b"")], script);
-    let script = target("start", &[change::bare_record(3), change::record(4, b"d")], script.note("a gap at the start, in the middle, at the end, all"));
+    let script = target(
+        "start",
+        &[change::bare_record(3), change::record(4, b"d")],
+        script.note("a gap at the start, in the middle, at the end, all"),
+    );
     let middle = [change::record(1, b"a"), change::bare_record(2), change::bare_record(5), change::record(6, b"f")];
     let script = target("middle", &middle, script);
     let script = target("end", &[change::record(1, b"a"), change::bare_record(9)], script);
-    let script = target("all", &[change::bare_record(1), change::record(2, b"b"), change::bare_record(3), change::record(4, b""), change::bare_record(5)], script);
+    let script = target(
+        "all",
+        &[
+            change::bare_record(1),
+            change::record(2, b"b"),
+            change::bare_record(3),
+            change::record(4, b""),
+            change::bare_record(5),
+        ],
+        script,
+    );
     let script = target("none", &[change::bare_record(77)], script.note("numbers used, no message"));
-    let script = target("last", &[change::bare_record(u64::MAX - 2), change::record(u64::MAX - 1, b"z")], script.note("the last numbers"));
+    let script = target(
+        "last",
+        &[change::bare_record(u64::MAX - 2), change::record(u64::MAX - 1, b"z")],
+        script.note("the last numbers"),
+    );
     let script = target("flight0", &[change::in_flight(0)], script.note("in flight 0, which is not none; and more"));
     let script = target("flight9", &[change::next_incoming_in_flight(10, 9)], script);
     let script = target("landed", &[change::in_flight(3), change::next_incoming(0)], script);
@@ -553,12 +590,15 @@ fn queues() -> Script {
 }
 
 fn summaries() -> Script {
-    let ranges = |script: Script, target: &str| script.all([0, 1, 2, 3, 5, u64::MAX], |script, n| script.summary(n, key(target)));
+    let ranges = |script: Script, target: &str| {
+        script.all([0, 1, 2, 3, 5, u64::MAX], |script, n| script.summary(n, key(target)))
+    };
     let script = Script::new("7 5 100 8 4 4").frame(wire::bind(1, 0, 0, &key("B")));
     let script = ranges(script.note("a new session: 0 for every n"), "B");
     let script = script.frame(commit(1, 0, 1, &[change::bare_record(2)]));
     let script = ranges(script.note("next 3, nothing stored: the start value (starred)"), "B");
-    let script = script.frame(commit(1, 0, 2, &[change::record(3, b"abc"), change::record(4, b""), change::bare_record(5)]));
+    let script =
+        script.frame(commit(1, 0, 2, &[change::record(3, b"abc"), change::record(4, b""), change::bare_record(5)]));
     let script = ranges(script.note("messages at 3 and 4 (empty), none at 5"), "B");
     let script = script.frame(commit(1, 0, 3, &[change::in_flight(0), change::created_at(STAMP), change::marks(b"m")]));
     let script = ranges(script.note("in flight 0 is shown as 0, and as none in a Bound"), "B");
@@ -598,10 +638,31 @@ fn durable() -> Script {
 }
 
 fn unreadable() -> Script {
-    ["", "#", "S S", "F 0", "F 0G", "F 0A", "f 00", "L", "L -1", "L +1", "L 18446744073709551616", "X epoch", "X commit 1",
-     "X commit 4294967296 1", "Y 1 41,42,43", "Y 1 41,42,43,4", "W 1 2 3", "Q", "Q 1 0 x", "Z", "S"]
-        .into_iter()
-        .fold(Script::new("7 0 0 0 0 0"), Script::line)
+    [
+        "",
+        "#",
+        "S S",
+        "F 0",
+        "F 0G",
+        "F 0A",
+        "f 00",
+        "L",
+        "L -1",
+        "L +1",
+        "L 18446744073709551616",
+        "X epoch",
+        "X commit 1",
+        "X commit 4294967296 1",
+        "Y 1 41,42,43",
+        "Y 1 41,42,43,4",
+        "W 1 2 3",
+        "Q",
+        "Q 1 0 x",
+        "Z",
+        "S",
+    ]
+    .into_iter()
+    .fold(Script::new("7 0 0 0 0 0"), Script::line)
 }
 
 /// A script made by chance.
@@ -670,7 +731,9 @@ fn difference_scripts() -> Vec<(&'static str, Script)> {
         ("last-record", bound("7 0 0 0 1 1").frame(commit(1, 0, 1, &[change::bare_record(last)])).state()),
         (
             "last-record-held",
-            bound("7 0 0 0 1 1").frame(batch(LAST_WHOLE, 1, 0, 1, &[change::reset(), change::bare_record(last)])).state(),
+            bound("7 0 0 0 1 1")
+                .frame(batch(LAST_WHOLE, 1, 0, 1, &[change::reset(), change::bare_record(last)]))
+                .state(),
         ),
         ("last-commit-number", bound("7 0 0 0 1 1").set(Counter::Commit(1, last)).frame(commit(1, 0, 0, &[])).state()),
         (
@@ -691,7 +754,8 @@ fn difference_scripts() -> Vec<(&'static str, Script)> {
 
 /// Single frames: good ones, each field at its limits, every cut and some changes of small ones.
 fn single_frames() -> Vec<Vec<u8>> {
-    let mut frames = vec![Vec::new(), vec![0], vec![0; 3], framed(&[]), vec![0, 0, 0, 4], vec![1, 0, 0, 4], vec![255; 4]];
+    let mut frames =
+        vec![Vec::new(), vec![0], vec![0; 3], framed(&[]), vec![0, 0, 0, 4], vec![1, 0, 0, 4], vec![255; 4]];
     frames.extend((0..=10).chain([127, 128, 254, 255]).map(|kind| framed(&[kind])));
     let good = good_frames();
     for frame in &good {
@@ -706,12 +770,16 @@ fn single_frames() -> Vec<Vec<u8>> {
         frames.extend((0..frame.len()).flat_map(|at| changed(frame, at)));
     }
     frames.extend(texts().into_iter().map(|text| wire::hello(1, 0, &text, &[])));
-    frames.extend(stamps().into_iter().flat_map(|stamp| {
-        [commit(1, 2, 3, &[change::created_at(&stamp)]), wire::bound(1, [1, 1, 0], &stamp, b"", 0)]
-    }));
-    frames.extend(marks().into_iter().flat_map(|marks| {
-        [commit(1, 2, 3, &[change::marks(&marks)]), wire::bound(1, [1, 1, 0], b"", &marks, 0)]
-    }));
+    frames.extend(
+        stamps().into_iter().flat_map(|stamp| {
+            [commit(1, 2, 3, &[change::created_at(&stamp)]), wire::bound(1, [1, 1, 0], &stamp, b"", 0)]
+        }),
+    );
+    frames.extend(
+        marks()
+            .into_iter()
+            .flat_map(|marks| [commit(1, 2, 3, &[change::marks(&marks)]), wire::bound(1, [1, 1, 0], b"", &marks, 0)]),
+    );
     frames.extend(keys().iter().map(|key| wire::bind(1, 2, 3, key)));
     frames.extend(counts());
     let mut random = Random(1);
@@ -764,24 +832,46 @@ fn good_frames() -> Vec<Vec<u8>> {
 
 /// RFC 3629's borders, both sides of each.
 pub fn texts() -> Vec<Vec<u8>> {
-    ["", "00", "7f", "80", "bf", "c080", "c1bf", "c280", "dfbf", "c27f", "c2c0", "c2", "e08080", "e09fbf", "e0a080", "e1bfbf",
-     "ec8080", "ed9fbf", "eda080", "edbfbf", "ee8080", "efbfbf", "e2827f", "e282c0", "e282", "e27f80", "f0808080", "f08fbfbf",
-     "f0908080", "f3bfbfbf", "f48fbfbf", "f4908080", "f5808080", "f7bfbfbf", "f8888080", "fc8480808080", "fe", "ff", "f09080",
-     "f090807f", "f0907f80", "f07f8080", "f0908080c3", "61c3a962", "c3a9e282acf09f9880"]
-        .iter()
-        .map(|text| digits::read(text.as_bytes()).expect("digits"))
-        .collect()
+    let borders = "00 7f 80 bf c080 c1bf c280 dfbf c27f c2c0 c2 e08080 e09fbf e0a080 e1bfbf ec8080 ed9fbf eda080 edbfbf \
+        ee8080 efbfbf e2827f e282c0 e282 e27f80 f0808080 f08fbfbf f0908080 f3bfbfbf f48fbfbf f4908080 \
+        f5808080 f7bfbfbf f8888080 fc8480808080 fe ff f09080 f090807f f0907f80 f07f8080 f0908080c3 61c3a962 \
+        c3a9e282acf09f9880";
+    let text = |text: &str| digits::read(text.as_bytes()).expect("digits");
+    [""].into_iter().chain(borders.split(' ')).map(text).collect()
 }
 
 pub fn stamps() -> Vec<Vec<u8>> {
-    ["20261115-12:00:00", "20261115-12:00:00.000", "00000101-00:00:00", "99991231-23:59:60.999", "20260230-00:00:00",
-     "20260001-00:00:00", "20261301-00:00:00", "20260100-00:00:00", "20260132-00:00:00", "20260101-23:59:60",
-     "20260101-24:00:00", "20260101-00:60:00", "20260101-00:00:61", "20260101-00:00:00.00", "20260101-00:00:00.0000",
-     "20260101-00:00:00.", "20260101-00:00:00,000", "20260101 00:00:00", "20260101-00-00-00", "2026010a-00:00:00",
-     "20260101-0a:00:00", "20260101-00:00:0", " 20260101-00:00:00", "20260101-00:00:00\u{e9}", "20260101-00:00:00.0/0",
-     "20260101-00:00:00.0:0", "2026\u{e9}01-00:00:00"]
-        .map(|stamp| stamp.as_bytes().to_vec())
-        .into()
+    [
+        "20261115-12:00:00",
+        "20261115-12:00:00.000",
+        "00000101-00:00:00",
+        "99991231-23:59:60.999",
+        "20260230-00:00:00",
+        "20260001-00:00:00",
+        "20261301-00:00:00",
+        "20260100-00:00:00",
+        "20260132-00:00:00",
+        "20260101-23:59:60",
+        "20260101-24:00:00",
+        "20260101-00:60:00",
+        "20260101-00:00:61",
+        "20260101-00:00:00.00",
+        "20260101-00:00:00.0000",
+        "20260101-00:00:00.",
+        "20260101-00:00:00,000",
+        "20260101 00:00:00",
+        "20260101-00-00-00",
+        "2026010a-00:00:00",
+        "20260101-0a:00:00",
+        "20260101-00:00:0",
+        " 20260101-00:00:00",
+        "20260101-00:00:00\u{e9}",
+        "20260101-00:00:00.0/0",
+        "20260101-00:00:00.0:0",
+        "2026\u{e9}01-00:00:00",
+    ]
+    .map(|stamp| stamp.as_bytes().to_vec())
+    .into()
 }
 
 pub fn marks() -> Vec<Vec<u8>> {
@@ -889,8 +979,33 @@ fn program_inputs() -> Vec<(&'static str, Vec<u8>)> {
     let longest = digits::write(&wire::hello(1, 5, &vec![b'n'; 8192 - 23], &[]));
     assert_eq!(longest.len(), 16_384, "the longest line");
     let longer = digits::write(&wire::hello(1, 5, &vec![b'n'; 8193 - 23], &[]));
-    let faults = ["", "0", "0g", "0G", "0A", " ", "00 00", "00\r", "+0", "\u{e9}\u{e9}", "00", "000000", "00000000", "00000004", "01000004", "ffffffff",
-        &good[..good.len() - 1], &good[..good.len() - 2], &format!("{good}00"), &format!("{good}{good}"), &good.to_uppercase(), &longest, &longer, &longest[1..], &good];
+    let faults = [
+        "",
+        "0",
+        "0g",
+        "0G",
+        "0A",
+        " ",
+        "00 00",
+        "00\r",
+        "+0",
+        "\u{e9}\u{e9}",
+        "00",
+        "000000",
+        "00000000",
+        "00000004",
+        "01000004",
+        "ffffffff",
+        &good[..good.len() - 1],
+        &good[..good.len() - 2],
+        &format!("{good}00"),
+        &format!("{good}{good}"),
+        &unbound.to_uppercase(),
+        &longest,
+        &longer,
+        &longest[1..],
+        &good,
+    ];
     let faults = faults.map(|line| format!("{line}\n")).concat();
     let mut random = Random(2);
     let mut rubbish: Vec<u8> = (0..3000).map(|_| random.next() as u8).collect();
@@ -930,7 +1045,8 @@ fn large_sending(lengths: &[usize]) -> String {
     rust.frame(&wire::bind(1, 0, 0, &key("B")), false).expect("taken");
     for (seq, len) in (1..).zip(lengths) {
         let msg: Vec<u8> = (0..*len as u64).map(|at| ((seq + at) % 251) as u8).collect();
-        rust.frame(&commit(1, 0, seq, &[change::bare_record(2 * seq - 1), change::record(2 * seq, &msg)]), false).expect("taken");
+        rust.frame(&commit(1, 0, seq, &[change::bare_record(2 * seq - 1), change::record(2 * seq, &msg)]), false)
+            .expect("taken");
     }
     let sent = rust.whole(1, 0, 0, &key("B"), None);
     let frame = |frame: &Vec<u8>| format!("{}:{:016x}", frame.len(), fnv_1a(frame));
@@ -950,7 +1066,8 @@ pub fn files() -> Vec<(String, Vec<u8>)> {
     let mut seen = std::collections::HashSet::new();
     frames.retain(|frame| seen.insert(frame.clone()));
     let frames: String = frames.iter().map(frame_line).collect();
-    let mut files = vec![("frames.txt".into(), frames.into_bytes()), ("large-sendings.txt".into(), large_sendings().into())];
+    let mut files =
+        vec![("frames.txt".into(), frames.into_bytes()), ("large-sendings.txt".into(), large_sendings().into())];
     for (name, Script(text)) in scripts() {
         files.push((format!("scripts/{name}.out"), run::<Rust>(&text).into()));
         files.push((format!("scripts/{name}.in"), text.into()));

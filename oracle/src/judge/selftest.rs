@@ -102,7 +102,11 @@ fn starred(checks: &mut Checks) {
     let last = run::<Rust>(&script).lines().last().map(String::from).unwrap_or_default();
     checks.same("next 3, n 5, nothing stored", &last, &format!("out=3 in=1 flight=- stamp=- marks= last={start}"));
     let third = run::<Rust>("7 0 0 0 0 0\nQ 2 0 1 2 3\n");
-    checks.same("the third push drains one", third.lines().last().unwrap_or_default(), "drained=1 through=1 waiting=2 numbers=1");
+    checks.same(
+        "the third push drains one",
+        third.lines().last().unwrap_or_default(),
+        "drained=1 through=1 waiting=2 numbers=1",
+    );
 }
 
 fn bind() -> String {
@@ -120,10 +124,13 @@ fn key_text() -> String {
 
 /// FNV-1a's own public vectors, then the summary's hash against it.
 fn fnv(checks: &mut Checks) {
-    for (text, must) in [("", 0xcbf2_9ce4_8422_2325_u64), ("a", 0xaf63_dc4c_8601_ec8c), ("foobar", 0x8594_4171_f739_67e8)] {
+    for (text, must) in
+        [("", 0xcbf2_9ce4_8422_2325_u64), ("a", 0xaf63_dc4c_8601_ec8c), ("foobar", 0x8594_4171_f739_67e8)]
+    {
         checks.same(&format!("FNV-1a of {text:?}"), &fnv_1a(text.as_bytes()).to_string(), &must.to_string());
     }
-    let hashed = [&1_u64.to_le_bytes()[..], &3_u64.to_le_bytes(), b"abc", &2_u64.to_le_bytes(), &0_u64.to_le_bytes()].concat();
+    let hashed =
+        [&1_u64.to_le_bytes()[..], &3_u64.to_le_bytes(), b"abc", &2_u64.to_le_bytes(), &0_u64.to_le_bytes()].concat();
     let changes = vec![change::record(1, b"abc"), change::record(2, b""), change::bare_record(3)];
     let script = format!("7 0 9 9 1 1\nF {}\nF {}\nY 9 {}\n", bind(), commit(changes), key_text());
     let must = format!("out=4 in=1 flight=- stamp=- marks= last={}", fnv_1a(&hashed));
@@ -144,7 +151,8 @@ fn utf_8(checks: &mut Checks) {
         &[(0xf4, 0xf4), (0x80, 0x8f), (0x80, 0xbf), (0x80, 0xbf)],
     ];
     let one = |bytes: &[u8]| {
-        let fits = |row: &&[(u8, u8)]| row.len() == bytes.len() && row.iter().zip(bytes).all(|(r, b)| (r.0..=r.1).contains(b));
+        let fits =
+            |row: &&[(u8, u8)]| row.len() == bytes.len() && row.iter().zip(bytes).all(|(r, b)| (r.0..=r.1).contains(b));
         table.iter().any(|row| fits(row))
     };
     let borders = [0x00, 0x7f, 0x80, 0x8f, 0x90, 0x9f, 0xa0, 0xbf, 0xc0, 0xff];
@@ -198,7 +206,9 @@ fn store(checks: &mut Checks) {
     let state = |setting: &str, changes: Vec<Vec<u8>>| {
         let script = format!("{setting}\nF {}\nF {}\nS\n", bind(), commit(changes));
         let text = run::<Rust>(&script);
-        text.lines().find(|line| line.starts_with("session")).map(|line| line[line.find("out=").unwrap_or(0)..].to_string())
+        text.lines()
+            .find(|line| line.starts_with("session"))
+            .map(|line| line[line.find("out=").unwrap_or(0)..].to_string())
     };
     let must = |line: &str| Some(line.to_string());
     let three = || vec![change::record(1, b"aaa"), change::record(2, b"bb"), change::record(3, b"c")];

@@ -124,7 +124,8 @@ impl Standby<'_> {
         }
         let due = match &frame {
             Frame::Batch(batch) => {
-                self.words[1] >= if fault(18) { 63 } else { 64 } || self.pending().iter().any(|word| *word as u32 == batch.handle)
+                self.words[1] >= if fault(18) { 63 } else { 64 }
+                    || self.pending().iter().any(|word| *word as u32 == batch.handle)
             }
             _ => true,
         };

@@ -225,6 +225,12 @@ fn is_stamp(text: &[u8]) -> bool {
     let points = text[8] == b'-' && text[11] == b':' && text[14] == b':';
     let year = two_digits(text, 0).is_some() && two_digits(text, 2).is_some();
     let millis = text.len() == 17 || text[17] == b'.' && text[18..].iter().all(u8::is_ascii_digit);
-    points && year && millis && within(4, 1, 12) && within(6, 1, 31)
-        && within(9, 0, 23) && within(12, 0, 59) && within(15, 0, 60)
+    points
+        && year
+        && millis
+        && within(4, 1, 12)
+        && within(6, 1, 31)
+        && within(9, 0, 23)
+        && within(12, 0, 59)
+        && within(15, 0, 60)
 }

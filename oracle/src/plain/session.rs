@@ -80,9 +80,8 @@ impl Session {
         if fault(13) && self.messages.iter().all(|(seq, _)| *seq < first) {
             return 0;
         }
-        let bytes = |(seq, msg): &(u64, Vec<u8>)| {
-            [&seq.to_le_bytes()[..], &(msg.len() as u64).to_le_bytes(), msg].concat()
-        };
+        let bytes =
+            |(seq, msg): &(u64, Vec<u8>)| [&seq.to_le_bytes()[..], &(msg.len() as u64).to_le_bytes(), msg].concat();
         let hashed = self.messages.iter().filter(|(seq, _)| *seq >= first).flat_map(bytes);
         hashed.fold(0xcbf2_9ce4_8422_2325, |hash: u64, byte| (hash ^ u64::from(byte)).wrapping_mul(0x100_0000_01b3))
     }

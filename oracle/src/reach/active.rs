@@ -49,7 +49,6 @@ pub fn whole(log: &mut dyn StoredSession, handle: u32, epoch: u64, last: u64) ->
     std::mem::take(&mut *link.0.lock().expect("no panic under it"))
 }
 
-
 /// A lag queue.
 pub struct Lag(ReplicatedLog);
 

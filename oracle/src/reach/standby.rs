@@ -81,4 +81,3 @@ impl<S: SessionStorage> Replica<S> {
 pub fn summary(log: &mut dyn StoredSession, n: u64) -> Summary {
     super::summary(log, n).expect("a stand-in's store doesn't fail")
 }
-

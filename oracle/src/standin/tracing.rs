@@ -2,15 +2,21 @@
 
 #[macro_export]
 macro_rules! debug {
-    ($($all:tt)*) => { () };
+    ($($all:tt)*) => {
+        ()
+    };
 }
 
 #[macro_export]
 macro_rules! info {
-    ($($all:tt)*) => { () };
+    ($($all:tt)*) => {
+        ()
+    };
 }
 
 #[macro_export]
 macro_rules! warn {
-    ($($all:tt)*) => { () };
+    ($($all:tt)*) => {
+        ()
+    };
 }

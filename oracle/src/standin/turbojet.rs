@@ -171,7 +171,10 @@ pub mod store {
             (self.0)()
         }
 
-        pub fn map_result<U: 'static>(self, then: impl FnOnce(io::Result<T>) -> io::Result<U> + Send + 'static) -> Job<U> {
+        pub fn map_result<U: 'static>(
+            self,
+            then: impl FnOnce(io::Result<T>) -> io::Result<U> + Send + 'static,
+        ) -> Job<U> {
             Job::blocking(move || then(self.run()))
         }
     }
