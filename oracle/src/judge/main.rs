@@ -1,0 +1,75 @@
+//! The oracle's drivers: see README.md beside the build script.
+
+mod call;
+mod compare;
+mod count;
+mod differences;
+mod digits;
+mod frames;
+mod generate;
+#[cfg(ours)]
+mod ours;
+#[cfg(plain)]
+#[path = "../plain/mod.rs"]
+mod plain;
+mod record;
+mod rust;
+mod selftest;
+mod side;
+#[cfg(ours)]
+mod walk;
+mod wire;
+
+use std::io::{self, Read, Write};
+use std::process::ExitCode;
+
+use rust::Rust;
+
+fn input() -> Vec<u8> {
+    let mut bytes = Vec::new();
+    io::stdin().read_to_end(&mut bytes).expect("standard input can be read");
+    bytes
+}
+
+fn print(text: &str) -> ExitCode {
+    let written = io::stdout().write_all(text.as_bytes());
+    if written.is_ok() { ExitCode::SUCCESS } else { ExitCode::FAILURE }
+}
+
+fn main() -> ExitCode {
+    let arguments: Vec<String> = std::env::args().skip(1).collect();
+    let arguments: Vec<&str> = arguments.iter().map(String::as_str).collect();
+    match arguments[..] {
+        ["rust-calls"] => print(&side::run::<Rust>(&String::from_utf8_lossy(&input()))),
+        ["rust-calls", "alone"] => {
+            differences::leave_out(true);
+            print(&side::run::<Rust>(&String::from_utf8_lossy(&input())))
+        }
+        ["rust-frames"] => print(&frames::read_lines(&input(), frames::read_by_rust)),
+        ["frames-rust"] => print(&frames::program(&input())),
+        #[cfg(ours)]
+        ["our-calls"] => print(&side::run::<ours::Ours>(&String::from_utf8_lossy(&input()))),
+        #[cfg(ours)]
+        ["our-frames"] => print(&frames::read_lines(&input(), |frame| ours::read(frame, &mut Vec::new()))),
+        ["compare", seconds, ref seed @ ..] => match (seconds.parse(), seed.first().map_or(Ok(1), |seed| seed.parse()))
+        {
+            (Ok(seconds), Ok(seed)) => compare::compare(seconds, seed),
+            _ => usage(),
+        },
+        ["selftest", folder] if selftest::selftest(folder.as_ref()) => ExitCode::SUCCESS,
+        ["selftest", _] => ExitCode::FAILURE,
+        ["record", folder] => match record::record(folder.as_ref()) {
+            Ok(count) => print(&format!("record: {count} files\n")),
+            Err(error) => {
+                eprintln!("record: {error}");
+                ExitCode::FAILURE
+            }
+        },
+        _ => usage(),
+    }
+}
+
+fn usage() -> ExitCode {
+    eprintln!("oracle: see oracle/README.md for what can be asked");
+    ExitCode::FAILURE
+}

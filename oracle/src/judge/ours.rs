@@ -1,0 +1,437 @@
+//! Our side: the functions that the static library gives, over areas that this driver lends.
+//! README.md has the signatures and what they answer.
+
+use crate::call::{Counter, Key, Setting};
+use crate::frames::Reading;
+use crate::side::{Answer, Handle, Pushed, Sent, Session, Side, State, Summary};
+use crate::walk::{self, Walk};
+
+/// The standby's counters, as the library has them.
+#[repr(C)]
+#[derive(Debug, Clone, Default)]
+pub struct Counters {
+    pub epoch: u64,
+    pub connections: u64,
+    pub promoted: bool,
+    pub checked: bool,
+}
+
+/// A place of the row of handles, as the library has it.
+#[repr(C)]
+#[derive(Debug, Clone, Default)]
+pub struct Place {
+    pub used: bool,
+    pub handle: u32,
+    pub place: u64,
+    pub commit_no: u64,
+    pub held_len: u64,
+    pub held_bytes: u64,
+}
+
+/// The store's size: session places, C and M.
+#[repr(C)]
+#[derive(Debug, Clone, Copy)]
+pub struct Size {
+    pub sessions: u32,
+    pub bytes: u32,
+    pub messages: u32,
+}
+
+unsafe extern "C" {
+    fn wz_frame(frame: *const u8, frame_len: usize, out: *mut u8, out_len: usize) -> u64;
+
+    fn wz_call(
+        counters: *mut Counters,
+        row: *mut Place,
+        row_len: usize,
+        words: *mut u64,
+        words_len: usize,
+        bytes: *mut u8,
+        bytes_len: usize,
+        holds: *mut u8,
+        holds_len: usize,
+        out: *mut u8,
+        out_len: usize,
+        frame: *const u8,
+        frame_len: usize,
+        sessions: u32,
+        c: u32,
+        m: u32,
+        incarnation: u64,
+        lag: u64,
+        hold: u64,
+        call: u32,
+        number: u64,
+    ) -> u64;
+
+    fn wz_session(
+        words: *const u64,
+        words_len: usize,
+        bytes: *const u8,
+        bytes_len: usize,
+        out: *mut u8,
+        out_len: usize,
+        sessions: u32,
+        c: u32,
+        m: u32,
+        place: u64,
+        n: u64,
+    ) -> u64;
+
+    fn wz_send(
+        words: *const u64,
+        words_len: usize,
+        bytes: *const u8,
+        bytes_len: usize,
+        sending: *mut u64,
+        sending_len: usize,
+        out: *mut u8,
+        out_len: usize,
+        sessions: u32,
+        c: u32,
+        m: u32,
+        place: u64,
+        handle: u32,
+        epoch: u64,
+    ) -> u64;
+
+    fn wz_queue(queue: *mut u64, queue_len: usize, max_lag: u64, last: u64) -> u64;
+}
+
+/// What `wz_call` is to do.
+mod call {
+    pub const MAKE: u32 = 0;
+    pub const ON_FRAME_HELD: u32 = 1;
+    pub const ON_FRAME: u32 = 2;
+    pub const FLUSH: u32 = 3;
+    pub const DISCONNECTED_FROM: u32 = 4;
+    pub const PROMOTE: u32 = 5;
+    pub const PROMOTE_UNCHECKED: u32 = 6;
+}
+
+/// The bits of an answer: work was done; a sending has nothing more to give.
+const WORK: u64 = 1 << 63;
+const DONE: u64 = 1 << 62;
+
+/// What a function answers: a length, or a refusal with its detail.
+fn outcome(answer: u64) -> Result<u64, (u32, u64)> {
+    if answer & WORK != 0 { Ok(answer & !WORK) } else { Err(((answer >> 40) as u32, answer & ((1 << 40) - 1))) }
+}
+
+/// A byte the library isn't to write: areas are filled with it, and looked at afterwards.
+const UNTOUCHED: u8 = 0xa5;
+
+fn untouched(area: &[u8]) -> bool {
+    area.iter().all(|byte| *byte == UNTOUCHED)
+}
+
+/// Reads a frame and writes it again, by the library.
+pub fn read(frame: &[u8], out: &mut Vec<u8>) -> Reading {
+    out.clear();
+    out.resize(frame.len() + 16, UNTOUCHED);
+    let answer = unsafe { wz_frame(frame.as_ptr(), frame.len(), out.as_mut_ptr(), out.len()) };
+    let written = match outcome(answer) {
+        Ok(used) => used.min(out.len() as u64),
+        Err(_) => 0,
+    };
+    assert!(untouched(&out[written as usize..]), "wz_frame wrote past its answer");
+    match outcome(answer) {
+        Ok(used) => Reading::Frame(used, out[..written as usize].to_vec()),
+        Err((0, _)) => Reading::More,
+        Err((3, detail)) => Reading::Refused(3, detail >> 8, detail & 255),
+        Err((number, detail)) => Reading::Refused(number, detail, 0),
+    }
+}
+
+/// The areas' lengths, by docs/AREAS.md.
+fn words_len(size: Size) -> usize {
+    66 + size.sessions as usize * (16 + 2 * size.messages as usize)
+}
+
+fn bytes_len(size: Size) -> usize {
+    size.sessions as usize * (4 * 32 + 32 + 64 + size.bytes as usize)
+}
+
+pub struct Ours {
+    counters: Counters,
+    row: Vec<Place>,
+    words: Vec<u64>,
+    bytes: Vec<u8>,
+    holds: Vec<u8>,
+    out: Vec<u8>,
+    size: Size,
+    incarnation: u64,
+    lag: u64,
+    hold: u64,
+}
+
+/// What `wz_session` tells of a place.
+struct Told {
+    durable: bool,
+    key: Key,
+    summary: Summary,
+}
+
+impl Ours {
+    fn call(&mut self, call: u32, number: u64, frame: &[u8]) -> Answer {
+        self.out.fill(UNTOUCHED);
+        let answer = unsafe {
+            wz_call(
+                &mut self.counters,
+                self.row.as_mut_ptr(),
+                self.row.len(),
+                self.words.as_mut_ptr(),
+                self.words.len(),
+                self.bytes.as_mut_ptr(),
+                self.bytes.len(),
+                self.holds.as_mut_ptr(),
+                self.holds.len(),
+                self.out.as_mut_ptr(),
+                self.out.len(),
+                frame.as_ptr(),
+                frame.len(),
+                self.size.sessions,
+                self.size.bytes,
+                self.size.messages,
+                self.incarnation,
+                self.lag,
+                self.hold,
+                call,
+                number,
+            )
+        };
+        let answer = outcome(answer).map_err(|(number, _)| number);
+        let len = answer.unwrap_or(0) as usize;
+        assert!(untouched(&self.out[len..]), "wz_call wrote past its answer");
+        answer.map(|_| self.out[..len].to_vec())
+    }
+
+    fn told(&mut self, place: u64, n: u64) -> Result<Told, u32> {
+        let answer = unsafe {
+            wz_session(
+                self.words.as_ptr(),
+                self.words.len(),
+                self.bytes.as_ptr(),
+                self.bytes.len(),
+                self.out.as_mut_ptr(),
+                self.out.len(),
+                self.size.sessions,
+                self.size.bytes,
+                self.size.messages,
+                place,
+                n,
+            )
+        };
+        let len = outcome(answer).map_err(|(number, _)| number)? as usize;
+        Ok(told(&self.out[..len]))
+    }
+
+    fn place_of(&mut self, key: &Key) -> Option<u64> {
+        (0..self.words[0]).find(|place| self.told(*place, 0).is_ok_and(|told| told.key == *key))
+    }
+
+    fn send(&mut self, place: u64, handle: u32, epoch: u64, sending: &mut [u64; 4], out: &mut [u8]) -> u64 {
+        unsafe {
+            wz_send(
+                self.words.as_ptr(),
+                self.words.len(),
+                self.bytes.as_ptr(),
+                self.bytes.len(),
+                sending.as_mut_ptr(),
+                sending.len(),
+                out.as_mut_ptr(),
+                out.len(),
+                self.size.sessions,
+                self.size.bytes,
+                self.size.messages,
+                place,
+                handle,
+                epoch,
+            )
+        }
+    }
+
+    /// A sending into an area of `length` bytes.
+    fn send_all(&mut self, place: u64, handle: u32, epoch: u64, last: u64, length: usize) -> Sent {
+        let (mut sending, mut out, mut frames) = ([last, 0, 0, 0], vec![UNTOUCHED; length], Vec::new());
+        loop {
+            let answer = self.send(place, handle, epoch, &mut sending, &mut out);
+            match outcome(answer) {
+                Ok(len) if len == DONE => return Sent { frames, end: Ok(()) },
+                Ok(len) => frames.push(out[..len as usize].to_vec()),
+                Err((number, _)) => return Sent { frames, end: Err(number) },
+            }
+            assert!(frames.len() < 1 << 20, "wz_send never says done");
+        }
+    }
+
+    /// An area that takes any frame of a sending: one batch's limit, one message more, and the
+    /// changes' own bytes.
+    fn long_enough(&self) -> usize {
+        (1_048_576.min(self.size.bytes as usize)) + self.size.bytes as usize + 22 * self.size.messages as usize + 256
+    }
+
+    /// A session's parts, its messages taken from its own sending.
+    fn session(&mut self, place: u64) -> Session {
+        let told = self.told(place, 0).expect("a place in use");
+        let length = self.long_enough();
+        let sent = self.send_all(place, 0, 0, 0, length);
+        assert_eq!(sent.end, Ok(()), "a stored session can be sent");
+        Session {
+            key: told.key,
+            stamp: told.summary.stamp,
+            next_outgoing: told.summary.next_outgoing,
+            next_incoming: told.summary.next_incoming,
+            in_flight: told.summary.in_flight,
+            marks: told.summary.marks,
+            messages: sent.frames.iter().flat_map(|frame| walk::messages(frame)).collect(),
+            durable: told.durable,
+        }
+    }
+
+    fn hold_of(&self, index: usize) -> &[u8] {
+        let start = index * self.hold as usize;
+        &self.holds[start..start + self.row[index].held_len as usize]
+    }
+
+    fn handle(&mut self, index: usize) -> Handle {
+        let Place { handle, place, commit_no, held_bytes, .. } = self.row[index];
+        let key = self.told(place, 0).expect("a place in use").key;
+        let changes = self.hold_of(index).to_vec();
+        Handle { number: handle, key, commit_no, held: walk::count(&changes), held_bytes, changes }
+    }
+
+    fn bound(&mut self, handle: u32) -> Option<&mut Place> {
+        self.row.iter_mut().find(|place| place.used && place.handle == handle)
+    }
+
+    pub fn holds(&self) -> &[u8] {
+        &self.holds
+    }
+
+    /// The store's two areas as they are, if no commit pends.
+    pub fn settled_store(&self) -> Option<(Vec<u64>, Vec<u8>)> {
+        (self.words[1] == 0).then(|| (self.words.clone(), self.bytes.clone()))
+    }
+
+    pub fn store_is(&self, store: &(Vec<u64>, Vec<u8>)) -> bool {
+        self.words == store.0 && self.bytes == store.1
+    }
+
+    pub fn hold_start(&self, handle: u32) -> Option<usize> {
+        let index = self.row.iter().position(|place| place.used && place.handle == handle)?;
+        Some(index * self.hold as usize)
+    }
+}
+
+/// Durable, in flight given, four key blobs, then the summary's fields as in a Bound.
+fn told(bytes: &[u8]) -> Told {
+    let mut walk = Walk(bytes);
+    let (durable, flying) = (walk.u8() == 1, walk.u8() == 1);
+    let key = [walk.blob(), walk.blob(), walk.blob(), walk.blob()];
+    let (next_outgoing, next_incoming, in_flight) = (walk.u64(), walk.u64(), walk.u64());
+    let (stamp, marks, last_outgoing) = (walk.blob(), walk.blob(), walk.u64());
+    let in_flight = flying.then_some(in_flight);
+    let stamp = (!stamp.is_empty()).then_some(stamp);
+    let summary = Summary { next_outgoing, next_incoming, in_flight, stamp, marks, last_outgoing };
+    Told { durable, key, summary }
+}
+
+impl Side for Ours {
+    fn make(setting: &Setting) -> Option<Self> {
+        let fits = |n: u64| u32::try_from(n).unwrap_or(u32::MAX);
+        let size =
+            Size { sessions: fits(setting.sessions), bytes: fits(setting.bytes), messages: fits(setting.messages) };
+        // A store with C or M too great is refused before its area is looked at.
+        let small = setting.bytes <= 1 << 26 && setting.messages <= 1 << 20;
+        let lengths = if small { (words_len(size), bytes_len(size)) } else { (0, 0) };
+        let mut ours = Self {
+            counters: Counters::default(),
+            row: vec![Place::default(); setting.handles as usize],
+            words: vec![u64::from_ne_bytes([UNTOUCHED; 8]); lengths.0],
+            bytes: vec![UNTOUCHED; lengths.1],
+            holds: vec![UNTOUCHED; (setting.hold * setting.handles) as usize],
+            out: vec![0; 4096],
+            size,
+            incarnation: setting.incarnation,
+            lag: setting.lag,
+            hold: setting.hold,
+        };
+        ours.call(call::MAKE, 0, &[]).is_ok().then_some(ours)
+    }
+
+    fn frame(&mut self, bytes: &[u8], held: bool) -> Answer {
+        self.call(if held { call::ON_FRAME_HELD } else { call::ON_FRAME }, 0, bytes)
+    }
+
+    fn flush(&mut self, connection: u64) -> Result<(), u32> {
+        self.call(call::FLUSH, connection, &[]).map(drop)
+    }
+
+    fn line_dropped(&mut self, connection: u64) -> Result<(), u32> {
+        self.call(call::DISCONNECTED_FROM, connection, &[]).map(drop)
+    }
+
+    fn promote(&mut self) -> Result<(), u32> {
+        self.call(call::PROMOTE, 0, &[]).map(drop)
+    }
+
+    fn promote_unchecked(&mut self) -> Result<(), u32> {
+        self.call(call::PROMOTE_UNCHECKED, 0, &[]).map(drop)
+    }
+
+    fn state(&mut self) -> State {
+        let pending = self.words[2..][..self.words[1] as usize].iter().map(|word| *word as u32).collect();
+        let sessions = (0..self.words[0]).map(|place| self.session(place)).collect();
+        let used: Vec<usize> = (0..self.row.len()).filter(|index| self.row[*index].used).collect();
+        let mut handles: Vec<_> = used.into_iter().map(|index| self.handle(index)).collect();
+        handles.sort_by_key(|handle| handle.number);
+        State {
+            epoch: self.counters.epoch,
+            incarnation: self.incarnation.max(1),
+            lag: self.lag,
+            promoted: self.counters.promoted,
+            checked: self.counters.checked,
+            connections: self.counters.connections,
+            pending,
+            sessions,
+            handles,
+        }
+    }
+
+    fn summary(&mut self, n: u64, key: &Key) -> Result<Summary, u32> {
+        let place = self.place_of(key).unwrap_or(self.words[0]);
+        self.told(place, n).map(|told| told.summary)
+    }
+
+    fn whole(&mut self, handle: u32, epoch: u64, last: u64, key: &Key, length: Option<u64>) -> Sent {
+        let place = self.place_of(key).unwrap_or(self.words[0]);
+        let length = length.map_or_else(|| self.long_enough(), |length| length.min(1 << 28) as usize);
+        self.send_all(place, handle, epoch, last, length)
+    }
+
+    fn queue(&mut self, max_lag: u64, drained: u64, lasts: &[u64]) -> Result<Vec<Pushed>, u32> {
+        let mut queue = vec![0; 66];
+        queue[0] = drained;
+        let mut push = |last: &u64| {
+            let before: Vec<u64> = queue[2..][..queue[1] as usize].iter().copied().chain([*last]).collect();
+            let answer = unsafe { wz_queue(queue.as_mut_ptr(), queue.len(), max_lag, *last) };
+            let count = outcome(answer).map_err(|(number, _)| number)? as usize;
+            Ok(Pushed { went: before[..count].to_vec(), drained_through: queue[0], waiting: queue[1] as usize })
+        };
+        lasts.iter().map(&mut push).collect()
+    }
+
+    fn set(&mut self, counter: &Counter) -> bool {
+        match *counter {
+            Counter::Connections(n) => self.counters.connections = n,
+            Counter::Epoch(n) => self.counters.epoch = n,
+            Counter::Commit(handle, n) => return self.bound(handle).map(|place| place.commit_no = n).is_some(),
+            Counter::Bytes(handle, n) => {
+                let holding = self.bound(handle).filter(|place| place.held_len > 0);
+                return holding.map(|place| place.held_bytes = n).is_some();
+            }
+        }
+        true
+    }
+}

@@ -1,0 +1,478 @@
+//! A stand-in for our side: document 01 read a second time, without the Rust and without the
+//! areas' real layout. It tries the comparison out, and faults can be put into it one at a time
+//! (WIZHDULET_FAULT) to see that the comparison finds each.
+
+mod read;
+mod session;
+
+use std::cell::RefCell;
+use std::collections::HashMap;
+use std::slice::{from_raw_parts, from_raw_parts_mut};
+use std::sync::OnceLock;
+
+use crate::ours::{Counters, Place};
+use crate::wire;
+use read::{Batch, Change, Fault, Frame, Left};
+use session::Session;
+
+/// Whether the fault of this number is put in.
+fn fault(number: u32) -> bool {
+    static FAULT: OnceLock<u32> = OnceLock::new();
+    *FAULT.get_or_init(|| std::env::var("WIZHDULET_FAULT").map_or(0, |n| n.parse().unwrap_or(0))) == number
+}
+
+const WORK: u64 = 1 << 63;
+
+fn put(out: *mut u8, out_len: usize, answer: &[u8]) {
+    let out = unsafe { from_raw_parts_mut(out, out_len) };
+    out[..answer.len()].copy_from_slice(answer);
+}
+
+fn refusal(number: u32) -> u64 {
+    u64::from(number) << 40
+}
+
+thread_local! {
+    /// The sessions of each store, by where its words lie.
+    static STORES: RefCell<HashMap<usize, Vec<Session>>> = RefCell::default();
+}
+
+#[unsafe(no_mangle)]
+extern "C" fn wz_frame(frame: *const u8, frame_len: usize, out: *mut u8, out_len: usize) -> u64 {
+    let (frame, out) = unsafe { (from_raw_parts(frame, frame_len), from_raw_parts_mut(out, out_len)) };
+    match read::read(frame) {
+        Err(Fault::More) => 0,
+        Err(Fault::Refused(4, _)) if fault(1) => refusal(2),
+        Err(Fault::Refused(number, detail)) => refusal(number) + detail,
+        Ok((_, used)) => {
+            out[..used as usize].copy_from_slice(&frame[..used as usize]);
+            WORK + used
+        }
+    }
+}
+
+/// All that a call works on.
+struct Standby<'a> {
+    counters: &'a mut Counters,
+    row: &'a mut [Place],
+    words: &'a mut [u64],
+    holds: &'a mut [u8],
+    sessions: Vec<Session>,
+    places: u64,
+    c: u64,
+    m: u64,
+    incarnation: u64,
+    lag: u64,
+    hold: u64,
+}
+
+type Answer = Result<Vec<u8>, u32>;
+
+const STALE_EPOCH: u8 = 1;
+const DIVERGED: u8 = 2;
+const LAG: u8 = 3;
+const RESTARTED: u8 = 4;
+
+impl Standby<'_> {
+    fn pending(&self) -> &[u64] {
+        &self.words[2..][..self.words[1] as usize]
+    }
+
+    fn run_pending(&mut self) {
+        for word in self.pending().to_vec() {
+            self.sessions[(word >> 32) as usize].durable = true;
+        }
+        self.words[1] = 0;
+    }
+
+    fn drop_bindings(&mut self) {
+        self.row.iter_mut().for_each(|place| place.used = false);
+        self.words[1] = 0;
+    }
+
+    fn index(&self, handle: u32) -> Option<usize> {
+        self.row.iter().position(|place| place.used && place.handle == handle)
+    }
+
+    fn flush(&mut self, connection: u64) -> Answer {
+        if connection != self.counters.connections || self.counters.promoted {
+            return Err(22);
+        }
+        self.run_pending();
+        Ok(Vec::new())
+    }
+
+    fn promote(&mut self, unchecked: bool) -> Answer {
+        if !unchecked && !self.counters.checked {
+            return Err(23);
+        }
+        self.counters.promoted = true;
+        self.drop_bindings();
+        let lag = self.lag;
+        self.sessions.iter_mut().for_each(|session| session.taken_over(lag));
+        Ok(Vec::new())
+    }
+
+    fn on_frame(&mut self, bytes: &[u8], held: bool) -> Answer {
+        let frame = match read::read(bytes) {
+            Ok((frame, used)) if used == bytes.len() as u64 => frame,
+            Ok(_) | Err(Fault::More) => return Err(26),
+            Err(Fault::Refused(number, _)) => return Err(number),
+        };
+        if self.counters.promoted {
+            return Err(10);
+        }
+        let due = match &frame {
+            Frame::Batch(batch) => {
+                self.words[1] >= if fault(18) { 63 } else { 64 }
+                    || self.pending().iter().any(|word| *word as u32 == batch.handle)
+            }
+            _ => true,
+        };
+        if due && !fault(2) {
+            self.run_pending();
+        }
+        let answer = self.take(frame)?;
+        if !held {
+            self.run_pending();
+        }
+        Ok(answer)
+    }
+
+    fn take(&mut self, frame: Frame) -> Answer {
+        match frame {
+            Frame::Hello { version, .. } if version != 1 => Err(11),
+            Frame::Hello { kinds, .. } if kinds > 0 => Err(12),
+            Frame::Hello { epoch, .. } => {
+                if epoch >= self.counters.epoch {
+                    self.drop_bindings();
+                    self.counters.connections = self.counters.connections.saturating_add(1);
+                    self.counters.epoch = epoch;
+                }
+                Ok(wire::welcome(self.counters.epoch, self.incarnation))
+            }
+            Frame::Bind { handle, epoch, max_lag, key } => self.bind(handle, epoch, max_lag, key),
+            Frame::Batch(batch) => self.batch(&batch),
+            Frame::Checked { handle, epoch, .. } if epoch < self.counters.epoch => Ok(wire::nack(handle, STALE_EPOCH)),
+            Frame::Checked { handle, incarnation, .. } if incarnation != self.incarnation => {
+                Ok(wire::nack(handle, RESTARTED))
+            }
+            Frame::Checked { handle, epoch, .. } => {
+                self.counters.epoch = epoch;
+                self.counters.checked = true;
+                Ok(wire::ack(handle, 0))
+            }
+            Frame::Other => Err(19),
+        }
+    }
+
+    fn bind(&mut self, handle: u32, epoch: u64, max_lag: u64, key: [Vec<u8>; 4]) -> Answer {
+        if epoch < self.counters.epoch {
+            return Ok(wire::nack(handle, STALE_EPOCH));
+        }
+        if max_lag > self.lag {
+            return Ok(wire::nack(handle, LAG));
+        }
+        let known = self.sessions.iter().position(|session| session.key == key);
+        if known.is_none() && self.sessions.len() as u64 >= self.places {
+            return Err(20);
+        }
+        let free = self.row.iter().position(|place| !place.used);
+        let index = self.index(handle).or(free).ok_or(21_u32)?;
+        let place = known.unwrap_or_else(|| {
+            self.sessions.push(Session::new(key));
+            self.sessions.len() - 1
+        });
+        if fault(3) {
+            self.counters.epoch = epoch;
+        }
+        let place = place as u64;
+        self.row[index] = Place { used: true, handle, place, ..Place::default() };
+        self.words[0] = self.sessions.len() as u64;
+        let session = &self.sessions[place as usize];
+        let numbers = [session.out, session.incoming, session.flight.unwrap_or(0)];
+        Ok(wire::bound(handle, numbers, &session.stamp, &session.marks, session.last_outgoing(max_lag)))
+    }
+
+    fn hold_start(&self, index: usize) -> usize {
+        index * self.hold as usize
+    }
+
+    fn held(&self, index: usize) -> Vec<Change> {
+        let form = &self.holds[self.hold_start(index)..][..self.row[index].held_len as usize];
+        let mut left = Left(form);
+        let mut changes = Vec::new();
+        while !left.0.is_empty() {
+            changes.extend(left.change());
+        }
+        changes
+    }
+
+    /// Holds a part: 16, 17, 18, or its changes written after those held.
+    fn hold(&mut self, index: usize, batch: &Batch) -> Result<(), u32> {
+        let Place { held_len, held_bytes, .. } = self.row[index];
+        if held_len == 0 && !matches!(batch.changes.first(), Some(Change::Reset)) {
+            return Err(16);
+        }
+        let of = |change: &Change| if let Change::Record(_, Some(msg)) = change { msg.len() as u64 } else { 0 };
+        let sum = held_bytes.saturating_add(batch.changes.iter().map(of).sum());
+        if sum > 4_294_967_296 {
+            self.row[index].held_bytes = if fault(5) { held_bytes } else { sum };
+            return Err(17);
+        }
+        let len = held_len + batch.form.len() as u64;
+        if len > self.hold {
+            return Err(18);
+        }
+        let start = self.hold_start(index) + held_len as usize;
+        self.holds[start..start + batch.form.len()].copy_from_slice(&batch.form);
+        if fault(10) && (start + batch.form.len()) % self.hold as usize != 0 {
+            self.holds[start + batch.form.len()] = 0;
+        }
+        (self.row[index].held_len, self.row[index].held_bytes) = (len, sum);
+        Ok(())
+    }
+
+    fn let_go(&mut self, index: usize) {
+        (self.row[index].held_len, self.row[index].held_bytes) = (0, 0);
+    }
+
+    fn batch(&mut self, batch: &Batch) -> Answer {
+        let Batch { handle, epoch, commit_no, part, .. } = *batch;
+        if batch.records > 0 {
+            return Err(13);
+        }
+        if fault(15) && self.index(handle).is_some_and(|index| commit_no != self.row[index].commit_no + 1) {
+            return Ok(wire::nack(handle, DIVERGED));
+        }
+        if epoch < self.counters.epoch {
+            return Ok(wire::nack(handle, STALE_EPOCH));
+        }
+        self.counters.epoch = epoch;
+        if fault(11) && self.index(handle).is_none() {
+            self.words[65] ^= 1;
+        }
+        let index = self.index(handle).ok_or(14_u32)?;
+        if self.row[index].commit_no.checked_add(1) != Some(commit_no) {
+            self.let_go(index);
+            return Ok(wire::nack(handle, DIVERGED));
+        }
+        let changes = if part == wire::COMMIT {
+            if self.row[index].held_len > 0 {
+                return Err(15);
+            }
+            batch.changes.clone()
+        } else {
+            self.hold(index, batch)?;
+            if part == wire::WHOLE {
+                if fault(17) {
+                    let session = &mut self.sessions[self.row[index].place as usize];
+                    batch.changes.iter().for_each(|change| session.apply(change, self.c, self.m));
+                }
+                self.row[index].commit_no = commit_no;
+                return Ok(wire::ack(handle, commit_no));
+            }
+            let changes = self.held(index);
+            if !fault(6) {
+                self.let_go(index);
+            }
+            changes
+        };
+        self.commit(index, commit_no, &changes)
+    }
+
+    fn commit(&mut self, index: usize, commit_no: u64, changes: &[Change]) -> Answer {
+        let Place { handle, place, .. } = self.row[index];
+        let session = &mut self.sessions[place as usize];
+        if !session.fits(changes) && !(fault(7) && changes.len() > 3) {
+            return Ok(wire::nack(handle, DIVERGED));
+        }
+        if !(fault(16) && changes.len() > 4) {
+            changes.iter().for_each(|change| session.apply(change, self.c, self.m));
+        }
+        self.words[2 + self.words[1] as usize] = place << 32 | u64::from(handle);
+        self.words[1] += 1;
+        self.row[index].commit_no = commit_no;
+        Ok(wire::ack(handle, commit_no))
+    }
+}
+
+#[unsafe(no_mangle)]
+extern "C" fn wz_call(
+    counters: *mut Counters,
+    row: *mut Place,
+    row_len: usize,
+    words: *mut u64,
+    words_len: usize,
+    _bytes: *mut u8,
+    _bytes_len: usize,
+    holds: *mut u8,
+    holds_len: usize,
+    out: *mut u8,
+    out_len: usize,
+    frame: *const u8,
+    frame_len: usize,
+    sessions: u32,
+    c: u32,
+    m: u32,
+    incarnation: u64,
+    lag: u64,
+    hold: u64,
+    call: u32,
+    number: u64,
+) -> u64 {
+    if c > 33_554_432 || m > 65_536 {
+        return refusal(25);
+    }
+    let store = words as usize;
+    let taken = STORES.with_borrow_mut(|stores| stores.remove(&store)).unwrap_or_default();
+    let mut standby = Standby {
+        counters: unsafe { &mut *counters },
+        row: unsafe { from_raw_parts_mut(row, row_len) },
+        words: unsafe { from_raw_parts_mut(words, words_len) },
+        holds: unsafe { from_raw_parts_mut(holds, holds_len) },
+        sessions: if call == 0 { Vec::new() } else { taken },
+        places: sessions.into(),
+        c: c.into(),
+        m: m.into(),
+        incarnation: incarnation.max(1),
+        lag,
+        hold,
+    };
+    let frame = unsafe { from_raw_parts(frame, frame_len) };
+    let answer = match call {
+        0 => {
+            (standby.words[0], standby.words[1]) = (0, 0);
+            Ok(Vec::new())
+        }
+        1 => standby.on_frame(frame, true),
+        2 => standby.on_frame(frame, false),
+        3 => standby.flush(number),
+        4 => {
+            if number == standby.counters.connections || fault(8) {
+                standby.drop_bindings();
+            }
+            Ok(Vec::new())
+        }
+        _ => standby.promote(call == 6),
+    };
+    STORES.with_borrow_mut(|stores| stores.insert(store, standby.sessions));
+    match answer {
+        Ok(answer) => {
+            put(out, out_len, &answer);
+            WORK + answer.len() as u64
+        }
+        Err(number) => refusal(number),
+    }
+}
+
+fn stored(words: *const u64, place: u64) -> Option<Session> {
+    STORES.with_borrow(|stores| stores.get(&(words as usize))?.get(usize::try_from(place).ok()?).cloned())
+}
+
+#[unsafe(no_mangle)]
+extern "C" fn wz_session(
+    words: *const u64,
+    _words_len: usize,
+    _bytes: *const u8,
+    _bytes_len: usize,
+    out: *mut u8,
+    out_len: usize,
+    _sessions: u32,
+    _c: u32,
+    _m: u32,
+    place: u64,
+    n: u64,
+) -> u64 {
+    let Some(session) = stored(words, place) else { return refusal(25) };
+    let head = wire::Body::default().u8(session.durable.into()).u8(session.flight.is_some().into());
+    let keyed = session.key.iter().fold(head, |body, part| body.blob(part));
+    let numbers = keyed.u64(session.out).u64(session.incoming).u64(session.flight.unwrap_or(0));
+    let told = numbers.blob(&session.stamp).blob(&session.marks).u64(session.last_outgoing(n)).0;
+    put(out, out_len, &told);
+    WORK + told.len() as u64
+}
+
+/// A session's batches, each a list of changes in frame form.
+fn batches(session: &Session) -> Vec<Vec<Vec<u8>>> {
+    let mut batches = vec![vec![wire::change::reset()]];
+    if !session.stamp.is_empty() {
+        batches[0].push(wire::change::created_at(&session.stamp));
+    }
+    let (mut next, mut bytes) = (1, 0);
+    for (seq, msg) in &session.messages {
+        if bytes > 1_048_576 {
+            batches.push(Vec::new());
+            bytes = 0;
+        }
+        let current = batches.last_mut().expect("one at least");
+        if *seq > next {
+            current.push(wire::change::bare_record(seq - 1));
+        }
+        current.push(wire::change::record(*seq, msg));
+        (next, bytes) = (seq + 1, bytes + msg.len());
+    }
+    let current = batches.last_mut().expect("one at least");
+    if session.out > next {
+        current.push(wire::change::bare_record(session.out - 1));
+    }
+    current.push(match session.flight {
+        Some(flight) => wire::change::next_incoming_in_flight(session.incoming, flight),
+        None => wire::change::next_incoming(session.incoming),
+    });
+    current.push(wire::change::marks(&session.marks));
+    batches
+}
+
+#[unsafe(no_mangle)]
+extern "C" fn wz_send(
+    words: *const u64,
+    _words_len: usize,
+    _bytes: *const u8,
+    _bytes_len: usize,
+    sending: *mut u64,
+    sending_len: usize,
+    out: *mut u8,
+    out_len: usize,
+    _sessions: u32,
+    _c: u32,
+    _m: u32,
+    place: u64,
+    handle: u32,
+    epoch: u64,
+) -> u64 {
+    let sending = unsafe { from_raw_parts_mut(sending, sending_len) };
+    let Some(session) = stored(words, place) else { return refusal(25) };
+    let batches = batches(&session);
+    // Its own count of batches given stands for the next message number.
+    let [last, given] = [sending[0], sending[1]];
+    if given == 0 && last.checked_add(batches.len() as u64).is_none() {
+        return refusal(24);
+    }
+    let Some(changes) = batches.get(given as usize) else { return WORK + (1 << 62) };
+    let part = if given as usize + 1 == batches.len() { wire::LAST_WHOLE } else { wire::WHOLE };
+    let (changes, records) = (changes.clone(), Vec::new());
+    let frame = wire::batch(&wire::Batch { handle, epoch, commit_no: last + 1, part, changes, records });
+    if frame.len() > out_len {
+        return refusal(9);
+    }
+    put(out, out_len, &frame);
+    (sending[0], sending[1]) = (last + 1, given + 1);
+    WORK + frame.len() as u64
+}
+
+#[unsafe(no_mangle)]
+extern "C" fn wz_queue(queue: *mut u64, queue_len: usize, max_lag: u64, last: u64) -> u64 {
+    let queue = unsafe { from_raw_parts_mut(queue, queue_len) };
+    let mut waiting: Vec<u64> = queue[2..][..queue[1] as usize].to_vec();
+    waiting.push(last);
+    let mut count = 0;
+    let bound = if fault(12) { 63 } else { 64 };
+    while last.saturating_sub(queue[0]) > max_lag || waiting.len() > bound {
+        queue[0] = waiting.remove(0);
+        count += 1;
+    }
+    queue[1] = waiting.len() as u64;
+    queue[2..][..waiting.len()].copy_from_slice(&waiting);
+    WORK + count
+}
