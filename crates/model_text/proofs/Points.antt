@@ -9,6 +9,7 @@ use Rattle.model_text.specs.Utf8.{isSurrogate, isScalar, encode, leadLen
 use Rattle.model_text.specs.Printable.{isPlain, isPrintable, isMarks, isKey}
 use Rattle.model_text.specs.Stamp.{isDigit, isPair, isStamp, takesStamp}
 use Rattle.model_text.specs.Hex.{digitValue, lineBytes, digitOf, hexOf, decimal, refusalText}
+use Rattle.model_text.specs.Lines.{linesOf}
 
 -- ---- UTF-8: the examples of RFC 3629, and the edges of each row
 
@@ -145,3 +146,17 @@ written =
 written-hold : map (λ p. p .0) written ≡ map (λ p. p .1) written
 unfolding written digitOf decimal refusalText
 written-hold = refl
+
+-- the lines of a text: none, an empty one, a last one with and without its line feed, an empty one between two others
+splits : List (List ℕ × List (List ℕ))
+splits =
+    ([], [])
+    ∷ (10 ∷ [], [] ∷ [])
+    ∷ (97 ∷ 10 ∷ [], (97 ∷ []) ∷ [])
+    ∷ (97 ∷ 98 ∷ [], (97 ∷ 98 ∷ []) ∷ [])
+    ∷ (97 ∷ 10 ∷ 10 ∷ 98 ∷ 13 ∷ 10 ∷ [], (97 ∷ []) ∷ [] ∷ (98 ∷ 13 ∷ []) ∷ [])
+    ∷ []
+
+splits-hold : map (λ p. linesOf (p .0)) splits ≡ map (λ p. p .1) splits
+unfolding splits
+splits-hold = refl
