@@ -7,12 +7,13 @@ use Prim.Native.Nat.{ℕ, suc, _+_, _*_, _/_, _%_, _<_, _≤_}
 use native.Mathlib.Omega.{arith}
 use native.Mathlib.Numerals.{add-one}
 use lib.ListN.{length, getD, set, take, drop, length-set, length-drop, length-append, take-append-drop}
-use lib.Seq.{take-suc, take-suc-set, drop-cons, append-snoc, length-take-le, sets-eq, take-at, drop-at, drop-drop, take-length}
+use lib.Seq.{take-suc, take-suc-set, drop-cons, append-snoc, length-take-le, sets, sets-eq, take-at, drop-at, drop-drop, take-length}
 use lib.Dec.{ltb}
 use borrow.Author.Tests.{ltb-true, lt-ltb, le-ltb}
 use Rattle.model_text.proofs.Formed.{and-l, and-r}
-use Rattle.model_text.specs.Hex.{digitValue, onto, bytesFrom, longestLine, lineBytes, digitOf, hexOf}
-use Rattle.hex.specs.Lines.{Wrote}
+use Rattle.model_text.proofs.HexBack.{length-hex}
+use Rattle.model_text.specs.Hex.{digitValue, onto, bytesFrom, longestLine, lineBytes, digitOf, hexOf, decimal, refusalText}
+use Rattle.hex.specs.Lines.{Wrote, Puts}
 
 -- ---- two digits of a list
 
@@ -118,10 +119,6 @@ hex-append : (xs ys : List ℕ) → hexOf (xs ++ ys) ≡ hexOf xs ++ hexOf ys
 hex-append [] ys = refl
 hex-append (x ∷ xs) ys = ap (λ (l : List ℕ). digitOf (x / 16) ∷ digitOf (x % 16) ∷ l) (hex-append xs ys)
 
-pub length-hex : (xs : List ℕ) → length (hexOf xs) ≡ 2 * length xs
-length-hex [] = refl
-length-hex (x ∷ xs) = omega (arith, length-hex xs)
-
 -- the digits of the first i bytes stand at the start, and the rest is as it was
 pub record Writing (src before out : List ℕ) (i : ℕ) : Type 0 where
   pub same : length out ≡ length before
@@ -156,3 +153,18 @@ module _ (src before out : List ℕ) (i : ℕ) (g : Writing src before out i) (r
       let digits : length (hexOf src) ≡ 2 * i = length-hex src ∙ ap (λ (k : ℕ). 2 * k) (sym at) in
       sym (take-append-drop (2 * i) out) ∙ (λ j. g .front j ++ g .rest j)
       ∙ (λ j. hexOf (take (at j) src) ++ drop (sym digits j) before) ∙ ap (λ (l : List ℕ). hexOf l ++ drop (length (hexOf src)) before) (take-length src)
+
+-- ---- a refusal
+
+stored : (bs out : List ℕ) → length bs ≤ length out → Puts bs out (sets out 0 bs) (length bs)
+stored bs out h =
+    let z : 0 + length bs ≡ length bs = omega arith in
+    record { count = refl; wrote = rw z at (sets-eq bs out 0 (omega arith)) }
+
+pub one-digit : (n : ℕ) (out : List ℕ) → 4 ≤ length out → n < 10 → Puts (refusalText n) out (set (set (set out 0 82) 1 32) 2 (48 + n)) 3
+unfolding refusalText decimal
+one-digit n out room h = rw (lt-ltb n 10 h) (stored (82 ∷ 32 ∷ (48 + n) ∷ []) out (omega arith))
+
+pub two-digits : (n : ℕ) (out : List ℕ) → 4 ≤ length out → 10 ≤ n → Puts (refusalText n) out (set (set (set (set out 0 82) 1 32) 2 (48 + n / 10)) 3 (48 + n % 10)) 4
+unfolding refusalText decimal
+two-digits n out room h = rw (le-ltb n 10 h) (stored (82 ∷ 32 ∷ (48 + n / 10) ∷ (48 + n % 10) ∷ []) out (omega arith))

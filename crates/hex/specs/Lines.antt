@@ -15,3 +15,8 @@ lineRead out Bad = none
 -- these bytes at the start, and the rest as it was
 abbrev pub Wrote : List ℕ → List ℕ → List ℕ → Type 0
 Wrote bs before after = after ≡ bs ++ drop (length bs) before
+
+-- the same, and how many they are
+pub record Puts (bs before after : List ℕ) (n : ℕ) : Type 0 where
+  pub count : n ≡ length bs
+  pub wrote : Wrote bs before after

@@ -2,8 +2,8 @@
 ghost use mathlib.Core.Path.{_≡_};
 ghost use Prim.Native.Nat.{_+_, _*_, _/_, _%_, _≤_, _<_};
 ghost use lib.ListN.{length, take};
-ghost use Rattle.model_text.specs.Hex.{digitValue, bytesFrom, lineBytes, digitOf, hexOf};
-ghost use Rattle.hex.specs.Lines.{lineRead, Wrote};
+ghost use Rattle.model_text.specs.Hex.{digitValue, bytesFrom, lineBytes, digitOf, hexOf, refusalText};
+ghost use Rattle.hex.specs.Lines.{lineRead, Wrote, Puts};
 
 // The bytes of a line, as the first so many of the area that was lent, or a bad line.
 pub enum Line {
@@ -80,4 +80,21 @@ pub fn put_hex(src: &[u8], out: &mut [u8])
         out[2 * i + 1] = digit_of(b % 16);
         i += 1;
     }
+}
+
+// Writes R, a space and the refusal in decimal at the start of out, and gives their number.
+pub fn put_refusal(n: u8, out: &mut [u8]) -> usize
+    requires { ⌜ n < 100 ⌝ }
+    requires { ⌜ 4 ≤ length (now out) ⌝ }
+    ensures { λ r. ⌜ Puts (refusalText n) (now (out .entry)) (now (out .exit)) r ⌝ }
+{
+    out[0] = b'R';
+    out[1] = b' ';
+    if n < 10 {
+        out[2] = 48 + n;
+        return 3;
+    }
+    out[2] = 48 + n / 10;
+    out[3] = 48 + n % 10;
+    4
 }

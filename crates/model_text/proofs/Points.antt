@@ -2,11 +2,14 @@
 use mathlib.Core.Path.{_≡_, refl}
 use mathlib.Core.Bool.{Bool, true, false}
 use mathlib.Core.List.{List, [], _∷_, map, _++_}
+use mathlib.Core.Option.{Option, none, some}
 use Prim.Native.Nat.{ℕ, _/_, _%_, _+_}
 use lib.ListN.{replicate}
 use Rattle.model_text.specs.Utf8.{isSurrogate, isScalar, encode, leadLength, ownBits, least, fitting, isTail, wellFormed, utf8}
 use Rattle.model_text.specs.Printable.{isPlain, isPrintable, isMarks, isKey}
 use Rattle.model_text.specs.Stamp.{isDigit, isPair, isStamp, takesStamp}
+use Rattle.model_text.specs.Hex.{digitValue, lineBytes, digitOf, hexOf, decimal, refusalText}
+use Rattle.model_text.specs.Lines.{linesOf}
 
 -- ---- UTF-8: the examples of RFC 3629, and the edges of each row
 
@@ -108,3 +111,52 @@ keyOf n m = isKey (replicate n 0x41) (replicate n 0x41) (replicate n 0x41) (repl
 keys-hold : map (λ p. keyOf (p .0 .0) (p .0 .1)) keys ≡ map (λ p. p .1) keys
 unfolding keys keyOf isKey isPrintable isPlain
 keys-hold = refl
+
+-- ---- the program's lines: 09af, 0, nothing, 0g, 0A, AF, the bytes beside each range of digits
+
+hexes : List (List ℕ × Option (List ℕ))
+hexes =
+    (48 ∷ 57 ∷ 97 ∷ 102 ∷ [], some (0x09 ∷ 0xAF ∷ []))
+    ∷ (48 ∷ [], none)
+    ∷ ([], none)
+    ∷ (48 ∷ 103 ∷ [], none)
+    ∷ (48 ∷ 65 ∷ [], none)
+    ∷ (65 ∷ 70 ∷ [], none)
+    ∷ (48 ∷ 47 ∷ [], none)
+    ∷ (48 ∷ 58 ∷ [], none)
+    ∷ (48 ∷ 96 ∷ [], none)
+    ∷ (48 ∷ 48 ∷ 13 ∷ [], none)
+    ∷ []
+
+hexes-hold : map (λ p. lineBytes (p .0)) hexes ≡ map (λ p. p .1) hexes
+unfolding hexes lineBytes digitValue
+hexes-hold = refl
+
+-- what is written of the bytes 09, AF, and of the refusals 1, 9, 10, 26 and 99
+written : List (List ℕ × List ℕ)
+written =
+    (hexOf (0x09 ∷ 0xAF ∷ []), 48 ∷ 57 ∷ 97 ∷ 102 ∷ [])
+    ∷ (refusalText 1, 82 ∷ 32 ∷ 49 ∷ [])
+    ∷ (refusalText 9, 82 ∷ 32 ∷ 57 ∷ [])
+    ∷ (refusalText 10, 82 ∷ 32 ∷ 49 ∷ 48 ∷ [])
+    ∷ (refusalText 26, 82 ∷ 32 ∷ 50 ∷ 54 ∷ [])
+    ∷ (refusalText 99, 82 ∷ 32 ∷ 57 ∷ 57 ∷ [])
+    ∷ []
+
+written-hold : map (λ p. p .0) written ≡ map (λ p. p .1) written
+unfolding written digitOf decimal refusalText
+written-hold = refl
+
+-- the lines of a text: none, an empty one, a last one with and without its line feed, an empty one between two others
+splits : List (List ℕ × List (List ℕ))
+splits =
+    ([], [])
+    ∷ (10 ∷ [], [] ∷ [])
+    ∷ (97 ∷ 10 ∷ [], (97 ∷ []) ∷ [])
+    ∷ (97 ∷ 98 ∷ [], (97 ∷ 98 ∷ []) ∷ [])
+    ∷ (97 ∷ 10 ∷ 10 ∷ 98 ∷ 13 ∷ 10 ∷ [], (97 ∷ []) ∷ [] ∷ (98 ∷ 13 ∷ []) ∷ [])
+    ∷ []
+
+splits-hold : map (λ p. linesOf (p .0)) splits ≡ map (λ p. p .1) splits
+unfolding splits
+splits-hold = refl

@@ -39,3 +39,11 @@ digitOf v = cond (ltb v 10) (48 + v) (87 + v)
 abbrev pub hexOf : List ℕ → List ℕ
 hexOf [] = []
 hexOf (b ∷ l) = digitOf (b / 16) ∷ digitOf (b % 16) ∷ hexOf l
+
+-- a number below 100 in decimal
+unfoldable pub decimal : ℕ → List ℕ
+decimal n = cond (ltb n 10) ((48 + n) ∷ []) ((48 + n / 10) ∷ (48 + n % 10) ∷ [])
+
+-- R, a space and the refusal
+unfoldable pub refusalText : ℕ → List ℕ
+refusalText n = 82 ∷ 32 ∷ decimal n

@@ -3,3 +3,4 @@ pub mod Utf8
 pub mod Printable
 pub mod Stamp
 pub mod Hex
+pub mod Lines

@@ -76,7 +76,7 @@ returns-2 : tie.Need-returns-2 Inv-loop μ-loop
 returns-2 c =
     let a = c .before .before .before .before .before .args in
     let l = c .before .before .loop in
-    reads-odd (length (a .out .now)) (a .line .now) (l .out) (l .i) (l .inv) (omega arith) (omega arith) (c .if2 .taken)
+    reads-odd (length (a .out .now)) (a .line .now) (l .out) (l .i) (l .inv) (omega arith) (omega arith) (omega arith)
 
 same-length-3 : tie.Need-same-length-3 Inv-loop μ-loop
 same-length-3 c = c .before .before .loop .inv .same
@@ -85,7 +85,7 @@ returns-3 : tie.Need-returns-3 Inv-loop μ-loop
 returns-3 c =
     let a = c .before .before .before .before .before .args in
     let l = c .before .before .loop in
-    reads-all (length (a .out .now)) (a .line .now) (l .out) (l .i) (l .inv) (omega arith) (omega arith) (c .if2 .left)
+    reads-all (length (a .out .now)) (a .line .now) (l .out) (l .i) (l .inv) (omega arith) (omega arith) (omega arith)
 
 pub read-digits-spec : {M : Type 1} → statement M
 read-digits-spec =
