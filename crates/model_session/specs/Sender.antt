@@ -4,12 +4,12 @@ use mathlib.Core.Path.{_≡_}
 use Prim.Native.Nat.{ℕ, zero, suc, _+_, max}
 use mathlib.Core.List.{List, [], _∷_, _++_}
 use mathlib.Core.Option.{Option, none, some}
-use mathlib.Core.Bool.{Bool, true, false, cond}
+use mathlib.Core.Bool.{Bool, false, cond}
 use lib.ListN.{length}
 use lib.Dec.{ltb, leb}
 use Rattle.model_frame.specs.Frame.{Change, reset, Part, whole, lastWhole, Frame, batch}
-use Rattle.model_session.specs.Session.{Session, Msg}
-use Rattle.model_session.specs.Whole.{stampPart, sendMsg, closing}
+use Rattle.model_session.specs.Session.{Session, Msg, top}
+use Rattle.model_session.specs.Whole.{stampPart, sendMsg, closing, wholeBatches}
 
 -- what a call hands on to the next
 pub record Sender : Type 0 where
@@ -71,3 +71,12 @@ module _ (limit : ℕ) (a : Session) where
   pub data Sends : Sender → List Frame → Type 0 where
     isDone : {s : Sender} → sendNext s ≡ none → Sends s []
     isNext : {s t : Sender} {f : Frame} {fs : List Frame} → sendNext s ≡ some (f, t) → Sends t fs → Sends s (f ∷ fs)
+
+  -- 24: at the start the commit numbers would pass 2^64 - 1
+  abbrev pub passesTop : ℕ → Option ℕ → Bool
+  passesTop last none = false
+  passesTop last (some zero) = ltb top (last + length (wholeBatches limit a))
+  passesTop last (some (suc n)) = false
+
+  unfoldable pub cannotSend : Sender → Bool
+  cannotSend s = passesTop (s .last) (s .from)

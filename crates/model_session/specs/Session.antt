@@ -1,10 +1,9 @@
 -- The stored session: six parts, the eight changes, the limits C (message bytes) and M (messages).
 -- Assumes nothing.
-use mathlib.Core.Path.{_≡_}
 use Prim.Native.Nat.{ℕ, suc, _+_, _≤_, _<_}
 use mathlib.Core.List.{List, [], _∷_, _++_}
 use mathlib.Core.Option.{Option, none, some}
-use mathlib.Core.Bool.{Bool, true, false, cond, _&&_, _||_}
+use mathlib.Core.Bool.{Bool, true, cond, _&&_}
 use lib.ListN.{length}
 use lib.Dec.{T, ltb, leb, eqb}
 use Rattle.model_text.specs.Printable.{isMarks}
@@ -124,3 +123,14 @@ pub record Holdable (C M : ℕ) (s : Session) : Type 0 where
   pub msgs-rise : Rising 1 (s .nextOut) (s .messages)
   pub msgs-bytes : storedBytes (s .messages) ≤ C
   pub msgs-count : length (s .messages) ≤ M
+
+-- a change whose numbers, bytes, stamp or marks the store can hold
+abbrev pub Storable : Change → Type 0
+Storable (setIncoming n) = n ≤ top
+Storable (setIncomingInFlight n f) = (n ≤ top) × (f ≤ top)
+Storable (setInFlight f) = f ≤ top
+Storable (recordMsg q w) = T (isBytes w)
+Storable (recordBare q) = Unit {0}
+Storable reset = Unit {0}
+Storable (setCreatedAt t) = T (isStamp t)
+Storable (setMarks m) = T (isMarks m)

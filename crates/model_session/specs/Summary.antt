@@ -2,7 +2,7 @@
 use Prim.Native.Nat.{ℕ, _*_, _-_, _^_, _%_, max}
 use lib.Bits.{bitXor}
 use mathlib.Core.List.{List, [], _∷_, _++_}
-use mathlib.Core.Bool.{Bool, true, false, cond, _||_}
+use mathlib.Core.Bool.{cond, _||_}
 use lib.ListN.{length}
 use lib.Dec.{leb, eqb}
 use Rattle.model_frame.specs.Bytes.{bytesOf}

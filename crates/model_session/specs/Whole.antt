@@ -1,11 +1,12 @@
 -- What sends a session whole: the batches, and the frames that carry them.
 -- Assumes nothing.
-use Prim.Native.Nat.{ℕ, zero, suc, _+_, _-_}
+use Prim.Native.Nat.{ℕ, suc, _+_, _*_, _-_}
 use mathlib.Core.List.{List, [], _∷_, _++_}
 use mathlib.Core.Option.{Option, none, some}
 use mathlib.Core.Bool.{Bool, true, false, cond}
 use lib.ListN.{length}
 use lib.Dec.{ltb}
+use Rattle.model_text.specs.Stamp.{longestStamp}
 use Rattle.model_frame.specs.Frame.{Change, setIncoming, setIncomingInFlight, recordMsg, recordBare, reset, setCreatedAt, setMarks, Frame, batch, whole, lastWhole}
 use Rattle.model_session.specs.Session.{Session, Msg}
 
@@ -51,6 +52,11 @@ module _ (limit : ℕ) (a : Session) where
   unfoldable pub wholeBatches : List (List Change)
   wholeBatches = batchesFrom (reset ∷ stampPart (a .stamp)) 0 1 (a .messages)
 
+-- the changes of a list of batches
+abbrev pub joined : List (List Change) → List Change
+joined [] = []
+joined (b ∷ bs) = b ++ joined bs
+
 -- the batches numbered on from `last`: Whole, and LastWhole for the last
 abbrev pub framesOf : ℕ → ℕ → ℕ → List (List Change) → List Frame
 framesOf h e last [] = []
@@ -59,3 +65,7 @@ framesOf h e last (b ∷ c ∷ bs) = batch h e (suc last) whole b [] ∷ framesO
 
 unfoldable pub wholeFrames : ℕ → ℕ → ℕ → ℕ → Session → List Frame
 wholeFrames limit h e last a = framesOf h e last (wholeBatches limit a)
+
+-- a hold area of this length takes any session: C + 22 × M + 122, of which 21 are for the longest stamp
+abbrev pub holdLength : ℕ → ℕ → ℕ
+holdLength C M = C + 22 * M + (101 + longestStamp)

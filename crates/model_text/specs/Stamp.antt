@@ -1,9 +1,8 @@
 -- A time stamp: YYYYMMDD-HH:MM:SS, or that with `.` and three digits. Assumes nothing.
 use mathlib.Core.Bool.{Bool, true, false, _&&_, _||_}
 use mathlib.Core.List.{List, [], _∷_, _++_}
-use Prim.Native.Nat.{ℕ, zero, suc, _+_, _-_, _*_}
+use Prim.Native.Nat.{ℕ, _+_, _-_, _*_}
 use lib.Dec.{leb, eqb}
-use lib.ListN.{getD}
 
 -- a digit, two digits of a number from lo to hi, or one byte
 pub data Part : Type 0 where
@@ -52,8 +51,3 @@ takesStamp version s = isStamp s
 -- the greatest length of a stamp
 abbrev pub longestStamp : ℕ
 longestStamp = 21
-
--- the k bytes of s from i on
-abbrev pub bytesAt : List ℕ → ℕ → ℕ → List ℕ
-bytesAt s i zero = []
-bytesAt s i (suc k) = getD s i 0 ∷ bytesAt s (i + 1) k

@@ -7,9 +7,8 @@
 use mathlib.Core.Path.{_≡_}
 use mathlib.Core.Bool.{Bool, true, false, cond, not, _&&_}
 use mathlib.Core.List.{List, [], _∷_, _++_}
-use Prim.Native.Nat.{ℕ, zero, suc, _+_, _-_, _*_, _/_, _%_, _≤_, _<_}
+use Prim.Native.Nat.{ℕ, zero, suc, _+_, _-_, _*_, _/_, _%_}
 use lib.Dec.{leb, eqb}
-use lib.ListN.{getD}
 
 -- ---- the encoding
 
@@ -91,7 +90,3 @@ utf8From (suc k) (a ∷ l) = utf8From k l
 
 unfoldable pub utf8 : List ℕ → Bool
 utf8 l = utf8From 0 l
-
--- n bytes of s from `at` on are ASCII
-abbrev pub AsciiRun : List ℕ → ℕ → ℕ → Type 0
-AsciiRun s at n = (k : ℕ) → k < n → getD s (at + k) 0 ≤ 0x7F

@@ -1,0 +1,90 @@
+-- What demand 3 says: the start, and the two lists of calls.
+-- Assumes nothing.
+use mathlib.Core.Path.{_≡_}
+use Prim.Native.Nat.{ℕ, _+_, _^_, _≤_, _<_}
+use mathlib.Core.List.{List, [], _∷_}
+use mathlib.Core.Option.{some}
+use mathlib.Core.Bool.{Bool, true, false, cond, not, _&&_, _||_}
+use lib.ListN.{length}
+use lib.Dec.{T, eqb, leb}
+use Rattle.model_frame.specs.Frame.{Frame}
+use Rattle.model_frame.specs.Parse.{isEmpty}
+use Rattle.model_frame.specs.Writing.{encode}
+use Rattle.model_session.specs.Session.{Session, Holdable, top}
+use Rattle.model_session.specs.Whole.{wholeBatches, holdLength}
+use Rattle.model.specs.Answer.{intact, given, Answer, refused, accepted, lower}
+use Rattle.model.specs.Row.{find}
+use Rattle.model.specs.Store.{sessionAt}
+use Rattle.model.specs.State.{Settings, Bound, Standby, Call, onFrameHeld, onFrame, flush, disconnectedFrom, promote, promoteUnchecked}
+use Rattle.model.specs.Standby.{step}
+use Rattle.model.specs.PlainCopy.{OwnKey, ownKey}
+
+-- A is a session that the store can hold. The handle h is bound to the place of session B, whose key is k, with nothing
+-- held and document 01's hold area; the standby is unpromoted. Handle, epoch and the numbers of A's batches are of their
+-- types (else sending gives 8 or 24). Nothing else is asked of the state.
+pub record Start (L : Settings) (limit : ℕ) (A B : Session) (k : OwnKey) (h : ℕ) (b : Bound) (s : Standby) : Type 0 where
+  pub C-limit : L .C ≤ 33554432
+  pub M-limit : L .M ≤ 65536
+  pub A-held : Holdable (L .C) (L .M) A
+  pub unpromoted : s .counters .promoted ≡ false
+  pub bound-so : find h (s .handles) ≡ some b
+  pub is-B : sessionAt (s .places) (b .place) ≡ some B
+  pub its-key : ownKey (s .places) (b .place) ≡ some k
+  pub nothing-held : b .held ≡ []
+  pub area : holdLength (L .C) (L .M) ≤ L .room
+  pub handle-u32 : h < 2 ^ 32
+  pub epoch-u64 : s .counters .epoch ≤ top
+  pub sendable : b .number + length (wholeBatches limit A) ≤ top
+
+-- frames, flushes and drops
+abbrev pub isPlain : Call → Bool
+isPlain (onFrameHeld w) = true
+isPlain (onFrame w) = true
+isPlain (flush n) = true
+isPlain (disconnectedFrom n) = true
+isPlain promote = false
+isPlain promoteUnchecked = false
+
+abbrev pub allPlain : List Call → Bool
+allPlain [] = true
+allPlain (c ∷ cs) = isPlain c && allPlain cs
+
+-- the call hands in the bytes w, by on_frame_held or by on_frame
+pub data Hands : Call → List ℕ → Type 0 where
+  byHeld : {w : List ℕ} → Hands (onFrameHeld w) w
+  byFrame : {w : List ℕ} → Hands (onFrame w) w
+
+-- a number outside 14 to 18
+abbrev pub isOutside : ℕ → Bool
+isOutside n = not (leb 14 n && leb n 18)
+
+-- bytes besides A's, answered so: a frame of an epoch below e, or refused with a number outside 14 to 18
+pub data Aside (e : ℕ) : List ℕ → Answer → Type 0 where
+  isLower : {w : List ℕ} {f : Frame} {a : Answer} → given w ≡ intact f → T (lower e f) → Aside e w a
+  isRefused : {w : List ℕ} {n : ℕ} → T (isOutside n) → Aside e w (refused n)
+
+-- From the state s, of A's frames `left` being still to come: the calls hand in a prefix of these, once each in order,
+-- and besides only asides; flushes and drops stand anywhere.
+pub data FirstList (L : Settings) (e : ℕ) : List Frame → Standby → List Call → Type 0 where
+  ends : {left : List Frame} {s : Standby} → FirstList L e left s []
+  ours : {f : Frame} {left : List Frame} {s : Standby} {c : Call} {cs : List Call} → Hands c (encode f) → FirstList L e left (step L s c .state) cs → FirstList L e (f ∷ left) s (c ∷ cs)
+  aside : {left : List Frame} {s : Standby} {c : Call} {cs : List Call} {w : List ℕ} → Hands c w → Aside e w (step L s c .answer) → FirstList L e left (step L s c .state) cs → FirstList L e left s (c ∷ cs)
+  flushes : {left : List Frame} {s : Standby} {cs : List Call} (n : ℕ) → FirstList L e left (step L s (flush n) .state) cs → FirstList L e left s (flush n ∷ cs)
+  drops : {left : List Frame} {s : Standby} {cs : List Call} (n : ℕ) → FirstList L e left (step L s (disconnectedFrom n) .state) cs → FirstList L e left s (disconnectedFrom n ∷ cs)
+
+module _ {L : Settings} {e : ℕ} where
+  -- A's last is among those accepted
+  abbrev pub tookLast : {left : List Frame} {s : Standby} {cs : List Call} → FirstList L e left s cs → Bool
+  tookLast ends = false
+  tookLast (ours {left} {s} {c} hands rest) = isEmpty left && accepted (step L s c .answer) || tookLast rest
+  tookLast (aside hands p rest) = tookLast rest
+  tookLast (flushes n rest) = tookLast rest
+  tookLast (drops n rest) = tookLast rest
+
+  -- A's frames before any drop of the current line are all accepted
+  abbrev pub AllTaken : {left : List Frame} {s : Standby} {cs : List Call} → FirstList L e left s cs → Type 0
+  AllTaken ends = Unit {0}
+  AllTaken (ours {s} {c} hands rest) = T (accepted (step L s c .answer)) × AllTaken rest
+  AllTaken (aside hands p rest) = AllTaken rest
+  AllTaken (flushes n rest) = AllTaken rest
+  AllTaken (drops {s} n rest) = cond (eqb n (s .counters .connections)) (Unit {0}) (AllTaken rest)

@@ -1,0 +1,110 @@
+-- The points that tell readings apart, by computing the definitions: tables, and one equation over each. Assumes nothing.
+use mathlib.Core.Path.{_≡_, refl}
+use mathlib.Core.Bool.{Bool, true, false}
+use mathlib.Core.List.{List, [], _∷_, map, _++_}
+use Prim.Native.Nat.{ℕ, _/_, _%_, _+_}
+use lib.ListN.{replicate}
+use Rattle.model_text.specs.Utf8.{isSurrogate, isScalar, encode, leadLength, ownBits, least, fitting, isTail, wellFormed, utf8}
+use Rattle.model_text.specs.Printable.{isPlain, isPrintable, isMarks, isKey}
+use Rattle.model_text.specs.Stamp.{isDigit, isPair, isStamp, takesStamp}
+
+-- ---- UTF-8: the examples of RFC 3629, and the edges of each row
+
+texts : List (List ℕ × Bool)
+texts =
+    (0x41 ∷ 0xE2 ∷ 0x89 ∷ 0xA2 ∷ 0xCE ∷ 0x91 ∷ 0x2E ∷ [], true)
+    ∷ (0xED ∷ 0x95 ∷ 0x9C ∷ 0xEA ∷ 0xB5 ∷ 0xAD ∷ 0xEC ∷ 0x96 ∷ 0xB4 ∷ [], true)
+    ∷ (0xE6 ∷ 0x97 ∷ 0xA5 ∷ 0xE6 ∷ 0x9C ∷ 0xAC ∷ 0xE8 ∷ 0xAA ∷ 0x9E ∷ [], true)
+    ∷ (0xEF ∷ 0xBB ∷ 0xBF ∷ 0xF0 ∷ 0xA3 ∷ 0x8E ∷ 0xB4 ∷ [], true)
+    ∷ (0x80 ∷ [], false)
+    ∷ (0xC1 ∷ 0xBF ∷ [], false)
+    ∷ (0xE0 ∷ 0x9F ∷ 0xBF ∷ [], false)
+    ∷ (0xED ∷ 0xA0 ∷ 0x80 ∷ [], false)
+    ∷ (0xED ∷ 0xBF ∷ 0xBF ∷ [], false)
+    ∷ (0xF0 ∷ 0x8F ∷ 0xBF ∷ 0xBF ∷ [], false)
+    ∷ (0xF4 ∷ 0x8F ∷ 0xBF ∷ 0xBF ∷ [], true)
+    ∷ (0xF4 ∷ 0x90 ∷ 0x80 ∷ 0x80 ∷ [], false)
+    ∷ (0xE2 ∷ 0x89 ∷ [], false)
+    ∷ (0xE2 ∷ 0x41 ∷ 0xA2 ∷ [], false)
+    ∷ []
+
+texts-hold : map (λ p. utf8 (p .0)) texts ≡ map (λ p. p .1) texts
+unfolding texts utf8 leadLength ownBits least fitting isTail isScalar isSurrogate wellFormed
+texts-hold = refl
+
+-- the first and the last code point of each row, and two of the examples
+rows : List (ℕ × List ℕ)
+rows =
+    (0x00, 0x00 ∷ [])
+    ∷ (0x7F, 0x7F ∷ [])
+    ∷ (0x80, 0xC2 ∷ 0x80 ∷ [])
+    ∷ (0x7FF, 0xDF ∷ 0xBF ∷ [])
+    ∷ (0x800, 0xE0 ∷ 0xA0 ∷ 0x80 ∷ [])
+    ∷ (0x2262, 0xE2 ∷ 0x89 ∷ 0xA2 ∷ [])
+    ∷ (0xFFFF, 0xEF ∷ 0xBF ∷ 0xBF ∷ [])
+    ∷ (0x10000, 0xF0 ∷ 0x90 ∷ 0x80 ∷ 0x80 ∷ [])
+    ∷ (0x233B4, 0xF0 ∷ 0xA3 ∷ 0x8E ∷ 0xB4 ∷ [])
+    ∷ (0x10FFFF, 0xF4 ∷ 0x8F ∷ 0xBF ∷ 0xBF ∷ [])
+    ∷ []
+
+rows-hold : map (λ p. encode (p .0)) rows ≡ map (λ p. p .1) rows
+unfolding rows encode
+rows-hold = refl
+
+-- ---- stamps
+
+-- two digits
+two : ℕ → List ℕ
+two n = (48 + n / 10) ∷ (48 + n % 10) ∷ []
+
+-- 2024, month m, day d, h:n:s, and then l
+stamp : ℕ → ℕ → ℕ → ℕ → ℕ → List ℕ → List ℕ
+stamp m d h n s l = two 20 ++ two 24 ++ two m ++ two d ++ (45 ∷ []) ++ two h ++ (58 ∷ []) ++ two n ++ (58 ∷ []) ++ two s ++ l
+
+stamps : List (List ℕ × Bool)
+stamps =
+    (stamp 2 29 23 59 60 [], true)
+    ∷ (stamp 2 29 24 0 0 [], false)
+    ∷ (stamp 1 1 0 0 0 [], true)
+    ∷ (stamp 12 31 23 59 59 (46 ∷ 48 ∷ 57 ∷ 48 ∷ []), true)
+    ∷ (stamp 12 31 23 59 59 (46 ∷ 48 ∷ 57 ∷ []), false)
+    ∷ (stamp 12 31 23 59 61 [], false)
+    ∷ (stamp 12 31 23 60 59 [], false)
+    ∷ (stamp 0 31 23 59 59 [], false)
+    ∷ (stamp 13 31 23 59 59 [], false)
+    ∷ (stamp 12 0 23 59 59 [], false)
+    ∷ (stamp 12 32 23 59 59 [], false)
+    ∷ ([], false)
+    ∷ []
+
+-- what the store keeps, and what reading takes in version 1
+stamps-hold : (map (λ p. isStamp (p .0)) stamps ≡ map (λ p. p .1) stamps) × (map (λ p. takesStamp 1 (p .0)) stamps ≡ map (λ p. p .1) stamps)
+unfolding stamps stamp two takesStamp isStamp isDigit isPair
+stamps-hold = (refl, refl)
+
+-- ---- marks and keys
+
+marks : List (List ℕ × Bool)
+marks =
+    ([], true)
+    ∷ (replicate 64 0x20, true)
+    ∷ (replicate 65 0x20, false)
+    ∷ (0x7E ∷ [], true)
+    ∷ (0x7F ∷ [], false)
+    ∷ (0x1F ∷ [], false)
+    ∷ []
+
+marks-hold : map (λ p. isMarks (p .0)) marks ≡ map (λ p. p .1) marks
+unfolding marks isMarks isPrintable isPlain
+marks-hold = refl
+
+-- a key whose three first texts have n bytes, and whose last has m
+keys : List ((ℕ × ℕ) × Bool)
+keys = ((1, 0), true) ∷ ((32, 32), true) ∷ ((0, 0), false) ∷ ((33, 0), false) ∷ ((1, 33), false) ∷ []
+
+keyOf : ℕ → ℕ → Bool
+keyOf n m = isKey (replicate n 0x41) (replicate n 0x41) (replicate n 0x41) (replicate m 0x41)
+
+keys-hold : map (λ p. keyOf (p .0 .0) (p .0 .1)) keys ≡ map (λ p. p .1) keys
+unfolding keys keyOf isKey isPrintable isPlain
+keys-hold = refl
