@@ -1,0 +1,2 @@
+-- The log of one session in two slices, and what reading it answers.
+pub mod Log
