@@ -4,3 +4,5 @@ pub mod Places
 pub mod Copying
 pub mod Taking
 pub mod Demand3
+pub mod Ruling
+pub mod Factoring
