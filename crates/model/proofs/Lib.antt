@@ -6,3 +6,6 @@ pub mod Taking
 pub mod Demand3
 pub mod Ruling
 pub mod Factoring
+pub mod Sanity
+pub mod Answering
+pub mod Holding

@@ -72,7 +72,7 @@ module _ (L : Settings) (Also : Bound → Type 0) (closed : Closed Also) where
   grown : (m n : ℕ) (b : Bound) → m ≤ n → BoundValid L m b → BoundValid L n b
   grown m n b h o = record { place-there = le-trans (o .place-there) h; number-u64 = o .number-u64; bytes-u64 = o .bytes-u64; held-small = o .held-small; held-ok = o .held-ok }
 
-  pub rules-pending : (w : Bool) (s : Standby) → Rules L Also s → Rules L Also (runPending w s)
+  rules-pending : (w : Bool) (s : Standby) → Rules L Also s → Rules L Also (runPending w s)
   rules-pending w s r =
       record {
         epoch-u64 = r .epoch-u64;
@@ -424,6 +424,9 @@ module _ (L : Settings) (Also : Bound → Type 0) (closed : Closed Also) where
 
 closed-valid : Closed (λ _. Unit {0})
 closed-valid = record { binds = λ _. tt; clears = λ _ _. tt; counts = λ _ _ _. tt; raises = λ _ _ _ _ _. tt; takes = λ _ _ _ _ _ _. tt }
+
+pub valid-pending : (L : Settings) (w : Bool) (s : Standby) → Valid L s → Valid L (runPending w s)
+valid-pending L w s r = rules-pending L (λ _. Unit {0}) closed-valid w s r
 
 pub valid-step : (L : Settings) (s : Standby) (c : Call) → OkCall c → Valid L s → Valid L (step L s c .state)
 valid-step L s c o r = rules-step L (λ _. Unit {0}) closed-valid s c o r
