@@ -8,3 +8,5 @@ pub mod Sound
 pub mod Sizes
 pub mod Grow
 pub mod Runs
+pub mod Written
+pub mod Points
