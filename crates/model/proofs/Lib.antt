@@ -9,3 +9,6 @@ pub mod Factoring
 pub mod Sanity
 pub mod Answering
 pub mod Holding
+pub mod Starred
+pub mod Examples
+pub mod Witness
