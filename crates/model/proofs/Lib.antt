@@ -4,3 +4,11 @@ pub mod Places
 pub mod Copying
 pub mod Taking
 pub mod Demand3
+pub mod Ruling
+pub mod Factoring
+pub mod Sanity
+pub mod Answering
+pub mod Holding
+pub mod Starred
+pub mod Examples
+pub mod Witness

@@ -10,3 +10,4 @@ pub mod Demand
 pub mod Rules
 pub mod Hold
 pub mod Core
+pub mod Starred

@@ -29,6 +29,10 @@ withHandle s h b = record { counters = s .counters; places = s .places; handles 
 abbrev pub unbound : Standby → Standby
 unbound s = record { counters = s .counters; places = s .places; handles = freed (s .handles); pending = [] }
 
+-- the session of k is there, new if it wasn't, and h is bound to it anew
+abbrev pub bindTo : Standby → ℕ → Key → Standby
+bindTo s h k = record { counters = s .counters; places = opened k (s .places); handles = put h (newBound (placeOf k (s .places))) (s .handles); pending = s .pending }
+
 -- ---- pending commits
 
 -- they run, if asked
@@ -58,6 +62,10 @@ says s f = record { state = s; answer = reply f }
 abbrev pub refuse : Standby → ℕ → Result
 refuse s n = record { state = s; answer = refused n }
 
+-- on_frame: the pending commits run after every answered frame, a Nack too
+abbrev pub flushed : Result → Result
+flushed r = record { state = runPending (isReply (r .answer)) (r .state); answer = r .answer }
+
 module _ (L : Settings) where
   -- Hello: 11 version not 1, 12 kinds listed; a lower epoch is told the standby's
   unfoldable pub onHello : Standby → ℕ → ℕ → List ℕ → Result
@@ -66,10 +74,6 @@ module _ (L : Settings) where
       (cond (not (isEmpty kinds)) (refuse s 12)
       (cond (ltb e (s .counters .epoch)) (says s (welcome (s .counters .epoch) (incarnationOf L)))
       (says (withCounters (unbound s) (connected e (s .counters))) (welcome e (incarnationOf L)))))
-
-  -- the session of k is there, new if it wasn't, and h is bound to it anew
-  abbrev pub bindTo : Standby → ℕ → Key → Standby
-  bindTo s h k = record { counters = s .counters; places = opened k (s .places); handles = put h (newBound (placeOf k (s .places))) (s .handles); pending = s .pending }
 
   -- Bind: Nack StaleEpoch, Nack Lag, 20 no free session place for a new key, 21 no free handle place for a new handle
   unfoldable pub onBind : Standby → ℕ → ℕ → ℕ → Key → Result
@@ -182,10 +186,6 @@ module _ (L : Settings) where
   unfoldable pub onGiven : Standby → Given → Result
   onGiven s (damaged n) = refuse s n
   onGiven s (intact f) = cond (s .counters .promoted) (refuse s 10) (onIntact (runPending (due (s .pending) f) s) f)
-
-  -- on_frame: the pending commits run after every answered frame, a Nack too
-  abbrev pub flushed : Result → Result
-  flushed r = record { state = runPending (isReply (r .answer)) (r .state); answer = r .answer }
 
   -- promoted; bindings and pending commits go; each session is taken over
   abbrev pub promotion : Standby → Standby

@@ -224,7 +224,7 @@ bytes-sends next (m ∷ ms) =
     )
 
 -- a stamp is at most 21 bytes long
-stamp-short : (s : List ℕ) → T (isStampOrNone s) → length s ≤ longestStamp
+pub stamp-short : (s : List ℕ) → T (isStampOrNone s) → length s ≤ longestStamp
 stamp-short [] t = omega arith
 stamp-short (x ∷ xs) t = stamp-is (x ∷ xs) (T→true (isStamp (x ∷ xs)) t) .most
 

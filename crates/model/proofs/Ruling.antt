@@ -1,0 +1,515 @@
+-- Every call keeps the rules of the state, refused calls too: those of any content, and those of what a new standby reaches.
+-- Assumes nothing.
+use mathlib.Core.Path.{_≡_, refl, sym, ap, subst, _∙_}
+use Prim.Native.Nat.{ℕ, zero, suc, _+_, _-_, _≤_, _<_, min}
+use native.Mathlib.Omega.{arith}
+use native.Mathlib.Nat.{le-trans, le-refl, le-of-eq}
+use mathlib.Core.List.{List, [], _∷_, _++_}
+use mathlib.Core.Option.{Option, none, some, Option·map}
+use mathlib.Core.Bool.{Bool, true, false, cond, not, _&&_, _||_}
+use mathlib.Core.Logic.{_⊎_, inl, inr}
+use lib.ListN.{length, length-append, getD, take, length-take, getElem?}
+use lib.Dec.{T, ltb, leb, eqb, leb→le, nleb→lt, ltb→lt, nltb→le}
+use Rattle.model_text.specs.Printable.{isPlain, allPlain, isPrintable, isMarks}
+use Rattle.model_text.specs.Stamp.{isStamp, takesStamp}
+use Rattle.model_text.specs.Utf8.{utf8}
+use Rattle.model_text.proofs.Laws.{marks-is, takes-keeps}
+use Rattle.model_frame.specs.Frame.{Key, Change, setIncoming, setIncomingInFlight, setInFlight, recordMsg, recordBare, reset, setCreatedAt, setMarks, Part, commit, whole, lastWhole, AppRecord, Frame, hello, welcome, bind, batch, ack, nack, bound, checked, Decoded, more, faulty, got}
+use Rattle.model_frame.specs.Parse.{isEmpty, Each}
+use Rattle.model_frame.specs.Reading.{decode, maxBody}
+use Rattle.model_frame.specs.Writing.{sizes, fine, fineChange, allFine, Ranged, RangedChange, ByteChange, ByteFrame}
+use Rattle.model_frame.proofs.Sizes.{body-size}
+use Rattle.model_frame.proofs.Sound.{decode-sound}
+use Rattle.model_session.specs.Session.{fits, messageBytes, top, Holdable, Storable, isBytes}
+use Rattle.model_session.proofs.Basics.{T→true, true→T, and-l, and-r, and-true, leb-true, cond-cases, none≢some, true≢false, each-append}
+use Rattle.model_session.proofs.Sending.{messageBytes-append}
+use Rattle.model_session.proofs.Keeping.{apply-all-keeps, rising-up, new-holdable}
+use Rattle.model.specs.Answer.{protocolVersion, Given, damaged, intact, judged, given, isReply}
+use Rattle.model.specs.Row.{Row, find, hasRoom, put}
+use Rattle.model.specs.Store.{Stored, Place, placeOf, isStored, onPlace, sessionAt, orNew, newPlace, opened, changed, withB, takenOver}
+use Rattle.model.specs.State.{Settings, incarnationOf, Bound, Standby, Result, Call, onFrameHeld, onFrame, flush, disconnectedFrom, promote, promoteUnchecked, newStandby, atEpoch, newBound, noneHeld, numbered}
+use Rattle.model.specs.Standby.{withCounters, withHandle, unbound, runPending, due, pendsOn, onHello, bindTo, onBind, onChecked, heldSum, raised, maxWhole, startsWithReset, summed, holding, applied, settle, hold, onPart, follows, onHandle, onBatch, onIntact, onGiven, promotion, step, run}
+use Rattle.model.specs.Rules.{OkCall, changesOf, Readable, BoundValid, BoundUsual, Rules, Valid, Usual}
+use Rattle.model.proofs.Rows.{find-freed, find-none, find-put-cases}
+use Rattle.model.proofs.Places.{place-low, length-on, pending-length, length-places, each-at, each-on, each-places, each-mark}
+use Rattle.model.proofs.Taking.{starts-append}
+
+bytes-in-size : (cs : List Change) → messageBytes cs ≤ sizes cs
+bytes-in-size [] = omega arith
+bytes-in-size (setIncoming n ∷ cs) = omega (arith, bytes-in-size cs)
+bytes-in-size (setIncomingInFlight n f ∷ cs) = omega (arith, bytes-in-size cs)
+bytes-in-size (setInFlight f ∷ cs) = omega (arith, bytes-in-size cs)
+bytes-in-size (recordMsg q w ∷ cs) = omega (arith, bytes-in-size cs)
+bytes-in-size (recordBare q ∷ cs) = omega (arith, bytes-in-size cs)
+bytes-in-size (reset ∷ cs) = omega (arith, bytes-in-size cs)
+bytes-in-size (setCreatedAt t ∷ cs) = omega (arith, bytes-in-size cs)
+bytes-in-size (setMarks m ∷ cs) = omega (arith, bytes-in-size cs)
+
+-- what the reader lets pass, or its number
+abbrev pub Passed : Given → Type 0
+Passed (damaged n) = Unit {0}
+Passed (intact f) = Readable f
+
+-- what the operations make of a handle keeps `Also`
+pub record Closed (Also : Bound → Type 0) : Type 0 where
+  pub binds : (p : ℕ) → Also (newBound p)
+  pub clears : (b : Bound) → Also b → Also (noneHeld b)
+  pub counts : (b : Bound) (m : ℕ) → Also b → Also (numbered m b)
+  -- a 17
+  pub raises : (b : Bound) (cs : List Change) → messageBytes cs ≤ maxBody → maxWhole < raised b cs → Also b → Also (summed b cs)
+  -- a Whole
+  pub takes : (b : Bound) (m : ℕ) (cs : List Change) → T (not (isEmpty (b .held) && not (startsWithReset cs))) → raised b cs ≤ maxWhole → Also b → Also (holding b m cs)
+
+module _ (L : Settings) (Also : Bound → Type 0) (closed : Closed Also) where
+  -- what is stored at a place can be held
+  abbrev Held : Place → Type 0
+  Held x = Holdable (L .C) (L .M) (x .stored .session)
+
+  abbrev Fine : ℕ → Bound → Type 0
+  Fine n b = BoundValid L n b × Also b
+
+  -- with more places
+  grown : (m n : ℕ) (b : Bound) → m ≤ n → BoundValid L m b → BoundValid L n b
+  grown m n b h o = record { place-there = le-trans (o .place-there) h; number-u64 = o .number-u64; bytes-u64 = o .bytes-u64; held-small = o .held-small; held-ok = o .held-ok }
+
+  rules-pending : (w : Bool) (s : Standby) → Rules L Also s → Rules L Also (runPending w s)
+  rules-pending w s r =
+      record {
+        epoch-u64 = r .epoch-u64;
+        connections-u64 = r .connections-u64;
+        places-few = le-trans (le-of-eq (pending-length w s)) (r .places-few);
+        sessions-ok = cond-cases (Each Held) w (λ _. each-mark Held (s .pending) (s .places) (λ _ h. h) (r .sessions-ok)) (λ _. r .sessions-ok);
+        handles-ok = λ h b p. grown (length (s .places)) (length (runPending w s .places)) b (le-of-eq (sym (pending-length w s))) (r .handles-ok h b p);
+        handles-also = r .handles-also;
+        pending-few = cond-cases (λ (l : List (ℕ × ℕ)). length l ≤ 64) w (λ _. omega arith) (λ _. r .pending-few);
+      }
+
+  rules-unbound : (s : Standby) → Rules L Also s → Rules L Also (unbound s)
+  rules-unbound s r =
+      record {
+        epoch-u64 = r .epoch-u64;
+        connections-u64 = r .connections-u64;
+        places-few = r .places-few;
+        sessions-ok = r .sessions-ok;
+        handles-ok = λ h b p. absurd (none≢some (sym (find-freed h (s .handles)) ∙ p));
+        handles-also = λ h b p. absurd (none≢some (sym (find-freed h (s .handles)) ∙ p));
+        pending-few = omega arith;
+      }
+
+  rules-epoch : (s : Standby) (e : ℕ) → e ≤ top → Rules L Also s → Rules L Also (withCounters s (atEpoch e (s .counters)))
+  rules-epoch s e h r =
+      record { epoch-u64 = h; connections-u64 = r .connections-u64; places-few = r .places-few; sessions-ok = r .sessions-ok; handles-ok = r .handles-ok; handles-also = r .handles-also; pending-few = r .pending-few }
+
+  found-fine : (n : ℕ) (t : Row Bound) (h : ℕ) (b : Bound) → ((x : ℕ) (y : Bound) → find x t ≡ some y → Fine n y) → Fine n b → (x : ℕ) (y : Bound) → find x (put h b t) ≡ some y → Fine n y
+  found-fine n t h b all fine x y p = go (find-put-cases x h b t y p)
+    where
+      go : (y ≡ b) ⊎ (find x t ≡ some y) → Fine n y
+      go (inl z) = subst (Fine n) (sym z) fine
+      go (inr z) = all x y z
+
+  all-fine : (s : Standby) → Rules L Also s → (x : ℕ) (y : Bound) → find x (s .handles) ≡ some y → Fine (length (s .places)) y
+  all-fine s r x y p = (r .handles-ok x y p, r .handles-also x y p)
+
+  -- a handle gets another value
+  rules-set : (s : Standby) (h : ℕ) (b : Bound) → Fine (length (s .places)) b → Rules L Also s → Rules L Also (withHandle s h b)
+  rules-set s h b fine r =
+      record {
+        epoch-u64 = r .epoch-u64;
+        connections-u64 = r .connections-u64;
+        places-few = r .places-few;
+        sessions-ok = r .sessions-ok;
+        handles-ok = λ x y p. found-fine (length (s .places)) (s .handles) h b (all-fine s r) fine x y p .0;
+        handles-also = λ x y p. found-fine (length (s .places)) (s .handles) h b (all-fine s r) fine x y p .1;
+        pending-few = r .pending-few;
+      }
+
+  none-fine : (n : ℕ) (b : Bound) → Fine n b → Fine n (noneHeld b)
+  none-fine n b o = (record { place-there = o .0 .place-there; number-u64 = o .0 .number-u64; bytes-u64 = omega arith; held-small = omega arith; held-ok = tt }, closed .clears b (o .1))
+
+  -- ---- a settled Batch
+
+  sessions-changed : (ps : List Place) (n : ℕ) (cs : List Change) → Each Storable cs → fits (orNew (sessionAt ps n) .nextOut) cs ≡ true → Each Held ps → Each Held (onPlace n (changed (L .C) (L .M) cs) ps)
+  sessions-changed ps n cs o f r =
+      each-on Held n (changed (L .C) (L .M) cs) ps
+      (λ x p h. apply-all-keeps (L .C) (L .M) cs (x .stored .session) h o (sym (ap (λ (y : Option Place). fits (orNew (Option·map (λ (z : Place). z .stored .session) y) .nextOut) cs) p) ∙ f)) r
+
+  rules-applied : (s : Standby) (h : ℕ) (b : Bound) (n : ℕ) (cs : List Change) → suc (length (s .pending)) ≤ 64 → n ≤ top → Each Storable cs
+      → Fine (length (s .places)) b → fits (orNew (sessionAt (s .places) (b .place)) .nextOut) cs ≡ true → Rules L Also s → Rules L Also (applied L s h b n cs)
+  rules-applied s h b n cs few hn o fine ft r =
+      record {
+        epoch-u64 = r .epoch-u64;
+        connections-u64 = r .connections-u64;
+        places-few = le-trans (le-of-eq same) (r .places-few);
+        sessions-ok = sessions-changed (s .places) (b .place) cs o ft (r .sessions-ok);
+        handles-ok = λ x y p. grown (length (s .places)) (length (applied L s h b n cs .places)) y (le-of-eq (sym same)) (found-fine (length (s .places)) (s .handles) h (numbered n b) (all-fine s r) fine₁ x y p .0);
+        handles-also = λ x y p. found-fine (length (s .places)) (s .handles) h (numbered n b) (all-fine s r) fine₁ x y p .1;
+        pending-few = omega (arith, length-append (s .pending) ((h, b .place) ∷ []));
+      }
+    where
+      same : length (onPlace (b .place) (changed (L .C) (L .M) cs) (s .places)) ≡ length (s .places)
+      same = length-on (b .place) (changed (L .C) (L .M) cs) (s .places)
+
+      fine₁ : Fine (length (s .places)) (numbered n b)
+      fine₁ = (record { place-there = fine .0 .place-there; number-u64 = hn; bytes-u64 = fine .0 .bytes-u64; held-small = fine .0 .held-small; held-ok = fine .0 .held-ok }, closed .counts b n (fine .1))
+
+  abbrev Keeps : Result → Type 0
+  Keeps x = Rules L Also (x .state)
+
+  keeps-settle : (s : Standby) (h : ℕ) (b : Bound) (n : ℕ) (cs : List Change) → suc (length (s .pending)) ≤ 64 → n ≤ top → Each Storable cs → Fine (length (s .places)) b → Rules L Also s → Keeps (settle L s h b n cs)
+  unfolding settle
+  keeps-settle s h b n cs few hn o fine r =
+      cond-cases Keeps (fits (orNew (sessionAt (s .places) (b .place)) .nextOut) cs)
+      (λ t. rules-applied s h b n cs few hn o fine (T→true (fits (orNew (sessionAt (s .places) (b .place)) .nextOut) cs) t) r)
+      (λ _. rules-set s h b fine r)
+
+  -- ---- a Whole or LastWhole
+
+  keeps-hold : (s : Standby) (h : ℕ) (b : Bound) (cs : List Change) (go : Result) → messageBytes cs ≤ maxBody → Fine (length (s .places)) b → Rules L Also s
+      → (T (not (isEmpty (b .held) && not (startsWithReset cs))) → raised b cs ≤ maxWhole → sizes (b .held ++ cs) ≤ L .room → Keeps go) → Keeps (hold L s h b cs go)
+  unfolding hold
+  keeps-hold s h b cs go small o r k =
+      cond-cases Keeps (isEmpty (b .held) && not (startsWithReset cs)) (λ _. r)
+      (λ t₁. cond-cases Keeps (ltb maxWhole (raised b cs))
+      (λ t. rules-set s h (summed b cs) (
+        record { place-there = o .0 .place-there; number-u64 = o .0 .number-u64; bytes-u64 = omega arith; held-small = o .0 .held-small; held-ok = o .0 .held-ok },
+        closed .raises b cs small (leb→le (suc maxWhole) (raised b cs) t) (o .1),
+      ) r)
+      (λ t₂. cond-cases Keeps (ltb (L .room) (sizes (b .held ++ cs))) (λ _. r)
+      (λ t₃. k t₁ (nltb→le maxWhole (raised b cs) t₂) (nltb→le (L .room) (sizes (b .held ++ cs)) t₃))))
+
+  keeps-part : (s : Standby) (h : ℕ) (b : Bound) (n : ℕ) (p : Part) (cs : List Change) → suc (length (s .pending)) ≤ 64 → n ≤ top → Each Storable cs → messageBytes cs ≤ maxBody
+      → Fine (length (s .places)) b → Rules L Also s → Keeps (onPart L s h b n p cs)
+  unfolding onPart
+  keeps-part s h b n commit cs few hn oc small o r = cond-cases Keeps (not (isEmpty (b .held))) (λ _. r) (λ _. keeps-settle s h b n cs few hn oc o r)
+  keeps-part s h b n whole cs few hn oc small o r =
+      keeps-hold s h b cs _ small o r
+      (λ begins le room. rules-set s h (holding b n cs) (
+        record { place-there = o .0 .place-there; number-u64 = hn; bytes-u64 = omega arith; held-small = room; held-ok = each-append Storable (b .held) cs (o .0 .held-ok) oc },
+        closed .takes b n cs begins le (o .1),
+      ) r)
+  keeps-part s h b n lastWhole cs few hn oc small o r =
+      keeps-hold s h b cs _ small o r
+      (λ _ _ _. keeps-settle s h (noneHeld b) n (b .held ++ cs) few hn (each-append Storable (b .held) cs (o .0 .held-ok) oc) (none-fine (length (s .places)) b o) r)
+
+  keeps-handle : (s : Standby) (h : ℕ) (o : Option Bound) (n : ℕ) (p : Part) (cs : List Change) → suc (length (s .pending)) ≤ 64 → n ≤ top → Each Storable cs → messageBytes cs ≤ maxBody
+      → find h (s .handles) ≡ o → Rules L Also s → Keeps (onHandle L s h o n p cs)
+  unfolding onHandle
+  keeps-handle s h none n p cs few hn oc small f r = r
+  keeps-handle s h (some b) n p cs few hn oc small f r =
+      cond-cases Keeps (follows b n) (λ _. keeps-part s h b n p cs few hn oc small (all-fine s r h b f) r)
+      (λ _. rules-set s h (noneHeld b) (none-fine (length (s .places)) b (all-fine s r h b f)) r)
+
+  keeps-batch : (s : Standby) (h e n : ℕ) (p : Part) (cs : List Change) (apps : List AppRecord) → suc (length (s .pending)) ≤ 64 → Readable (batch h e n p cs apps) → Rules L Also s → Keeps (onBatch L s h e n p cs apps)
+  unfolding onBatch
+  keeps-batch s h e n p cs apps few o r =
+      cond-cases Keeps (not (isEmpty apps)) (λ _. r)
+      (λ _. cond-cases Keeps (ltb e (s .counters .epoch)) (λ _. r)
+      (λ _. keeps-handle (withCounters s (atEpoch e (s .counters))) h (find h (s .handles)) n p cs few (omega (arith, o .writable .ranged .2)) (o .storable)
+      (omega (arith, bytes-in-size cs, o .writable .short, body-size (batch h e n p cs apps))) refl (rules-epoch s e (omega (arith, o .writable .ranged .1)) r)))
+
+  -- ---- the other frames
+
+  keeps-hello : (s : Standby) (v e : ℕ) (kinds : List ℕ) → e ≤ top → Rules L Also s → Keeps (onHello L s v e kinds)
+  unfolding onHello
+  keeps-hello s v e kinds he r =
+      cond-cases Keeps (not (eqb v protocolVersion)) (λ _. r)
+      (λ _. cond-cases Keeps (not (isEmpty kinds)) (λ _. r)
+      (λ _. cond-cases Keeps (ltb e (s .counters .epoch)) (λ _. r)
+      (λ _. let u = rules-unbound s r in
+      record { epoch-u64 = he; connections-u64 = omega arith; places-few = u .places-few; sessions-ok = u .sessions-ok; handles-ok = u .handles-ok; handles-also = u .handles-also; pending-few = u .pending-few })))
+
+  keeps-checked : (s : Standby) (h e i : ℕ) → e ≤ top → Rules L Also s → Keeps (onChecked L s h e i)
+  unfolding onChecked
+  keeps-checked s h e i he r =
+      cond-cases Keeps (ltb e (s .counters .epoch)) (λ _. r)
+      (λ _. cond-cases Keeps (not (eqb i (incarnationOf L))) (λ _. r)
+      (λ _. record { epoch-u64 = he; connections-u64 = r .connections-u64; places-few = r .places-few; sessions-ok = r .sessions-ok; handles-ok = r .handles-ok; handles-also = r .handles-also; pending-few = r .pending-few }))
+
+  open-length : (j : Key) (ps : List Place) → length ps ≤ length (opened j ps)
+  open-length j ps = cond-cases (λ (l : List Place). length ps ≤ length l) (isStored j ps) (λ _. le-refl (length ps)) (λ _. omega (arith, length-append ps (newPlace j ∷ [])))
+
+  open-few : (j : Key) (ps : List Place) → length ps ≤ L .S → (isStored j ps || ltb (length ps) (L .S)) ≡ true → length (opened j ps) ≤ L .S
+  open-few j ps h p = go (isStored j ps) p
+    where
+      go : (b : Bool) → (b || ltb (length ps) (L .S)) ≡ true → length (cond b ps (ps ++ (newPlace j ∷ []))) ≤ L .S
+      go true q = h
+      go false q = omega (arith, length-append ps (newPlace j ∷ []), ltb→lt (length ps) (L .S) (true→T (ltb (length ps) (L .S)) q))
+
+  open-there : (j : Key) (ps : List Place) → placeOf j ps < length (opened j ps)
+  open-there j ps =
+      cond-cases (λ (l : List Place). placeOf j ps < length l) (isStored j ps) (λ t. ltb→lt (placeOf j ps) (length ps) t)
+      (λ _. omega (arith, length-append ps (newPlace j ∷ []), place-low j ps))
+
+  open-held : (j : Key) (ps : List Place) → Each Held ps → Each Held (opened j ps)
+  open-held j ps h = cond-cases (Each Held) (isStored j ps) (λ _. h) (λ _. each-append Held ps (newPlace j ∷ []) h (new-holdable (L .C) (L .M), tt))
+
+  rules-bind : (s : Standby) (h : ℕ) (j : Key) → (isStored j (s .places) || ltb (length (s .places)) (L .S)) ≡ true → Rules L Also s → Rules L Also (bindTo s h j)
+  rules-bind s h j room r =
+      record {
+        epoch-u64 = r .epoch-u64;
+        connections-u64 = r .connections-u64;
+        places-few = open-few j (s .places) (r .places-few) room;
+        sessions-ok = open-held j (s .places) (r .sessions-ok);
+        handles-ok = λ x y p. one x y (find-put-cases x h b (s .handles) y p) .0;
+        handles-also = λ x y p. one x y (find-put-cases x h b (s .handles) y p) .1;
+        pending-few = r .pending-few;
+      }
+    where
+      b : Bound
+      b = newBound (placeOf j (s .places))
+
+      one : (x : ℕ) (y : Bound) → (y ≡ b) ⊎ (find x (s .handles) ≡ some y) → Fine (length (opened j (s .places))) y
+      one x y (inl z) =
+          subst (Fine (length (opened j (s .places)))) (sym z)
+          (record { place-there = open-there j (s .places); number-u64 = omega arith; bytes-u64 = omega arith; held-small = omega arith; held-ok = tt }, closed .binds (placeOf j (s .places)))
+      one x y (inr z) = (grown (length (s .places)) (length (opened j (s .places))) y (open-length j (s .places)) (r .handles-ok x y z), r .handles-also x y z)
+
+  keeps-bind : (s : Standby) (h e lag : ℕ) (j : Key) → Rules L Also s → Keeps (onBind L s h e lag j)
+  unfolding onBind
+  keeps-bind s h e lag j r =
+      cond-cases Keeps (ltb e (s .counters .epoch)) (λ _. r)
+      (λ _. cond-cases Keeps (ltb (L .lag) lag) (λ _. r)
+      (λ _. cond-cases Keeps (not (isStored j (s .places) || ltb (length (s .places)) (L .S))) (λ _. r)
+      (λ t. cond-cases Keeps (not (hasRoom h (s .handles))) (λ _. r) (λ _. rules-bind s h j (not-not (isStored j (s .places) || ltb (length (s .places)) (L .S)) t) r))))
+    where
+      not-not : (b : Bool) → T (not (not b)) → b ≡ true
+      not-not true u = refl
+      not-not false u = absurd u
+
+  -- before a Batch fewer than 64 commits are pending
+  few-due : (s : Standby) (h : ℕ) (w : Bool) → (leb 64 (length (s .pending)) || pendsOn h (s .pending)) ≡ w → suc (length (runPending w s .pending)) ≤ 64
+  few-due s h true p = omega arith
+  few-due s h false p = nleb→lt 64 (length (s .pending)) (go (leb 64 (length (s .pending))) (pendsOn h (s .pending)) p)
+    where
+      go : (a b : Bool) → (a || b) ≡ false → T (not a)
+      go true b q = absurd (true≢false q)
+      go false b q = tt
+
+  keeps-intact : (s : Standby) (f : Frame) → Readable f → Rules L Also s → Keeps (onIntact L (runPending (due (s .pending) f) s) f)
+  keeps-intact s (hello v e node kinds) o r = keeps-hello (runPending (due (s .pending) (hello v e node kinds)) s) v e kinds (omega (arith, o .writable .ranged .1)) (rules-pending (due (s .pending) (hello v e node kinds)) s r)
+  keeps-intact s (welcome e i) o r = rules-pending (due (s .pending) (welcome e i)) s r
+  keeps-intact s (bind h e lag k) o r = keeps-bind (runPending (due (s .pending) (bind h e lag k)) s) h e lag k (rules-pending (due (s .pending) (bind h e lag k)) s r)
+  keeps-intact s (batch h e n p cs apps) o r =
+      keeps-batch (runPending (due (s .pending) (batch h e n p cs apps)) s) h e n p cs apps (few-due s h (due (s .pending) (batch h e n p cs apps)) refl) o (rules-pending (due (s .pending) (batch h e n p cs apps)) s r)
+  keeps-intact s (ack h n) o r = rules-pending (due (s .pending) (ack h n)) s r
+  keeps-intact s (nack h x) o r = rules-pending (due (s .pending) (nack h x)) s r
+  keeps-intact s (bound h m) o r = rules-pending (due (s .pending) (bound h m)) s r
+  keeps-intact s (checked h e i) o r = keeps-checked (runPending (due (s .pending) (checked h e i)) s) h e i (omega (arith, o .writable .ranged .1)) (rules-pending (due (s .pending) (checked h e i)) s r)
+
+  keeps-given : (s : Standby) (g : Given) → Passed g → Rules L Also s → Keeps (onGiven L s g)
+  unfolding onGiven
+  keeps-given s (damaged n) o r = r
+  keeps-given s (intact f) o r = cond-cases Keeps (s .counters .promoted) (λ _. r) (λ _. keeps-intact s f o r)
+
+  -- ---- promotion
+
+  plain-append : (x y : List ℕ) → allPlain x ≡ true → allPlain y ≡ true → allPlain (x ++ y) ≡ true
+  plain-append [] y p q = q
+  plain-append (a ∷ x) y p q = go (isPlain a) p (λ t. plain-append x y t q)
+    where
+      go : (b : Bool) → (b && allPlain x) ≡ true → (allPlain x ≡ true → allPlain (x ++ y) ≡ true) → (b && allPlain (x ++ y)) ≡ true
+      go true t ih = ih t
+      go false t ih = t
+
+  plain-take : (n : ℕ) (x : List ℕ) → allPlain x ≡ true → allPlain (take n x) ≡ true
+  plain-take zero x p = refl
+  plain-take (suc n) [] p = refl
+  plain-take (suc n) (a ∷ x) p = go (isPlain a) p (plain-take n x)
+    where
+      go : (b : Bool) → (b && allPlain x) ≡ true → (allPlain x ≡ true → allPlain (take n x) ≡ true) → (b && allPlain (take n x)) ≡ true
+      go true t ih = ih t
+      go false t ih = t
+
+  marks-made : (m : List ℕ) → length m ≤ 64 → allPlain m ≡ true → T (isMarks m)
+  unfolding isMarks isPrintable
+  marks-made m h p = true→T (leb 0 (length m) && (leb (length m) 64 && allPlain m)) (and-true (leb-true {m = 0} {n = length m} (omega arith)) (and-true (leb-true h) p))
+
+  with-B : (m : List ℕ) → T (isMarks m) → T (isMarks (withB m))
+  unfolding isPlain
+  with-B m t =
+      let i = marks-is m (T→true (isMarks m) t) in
+      cond-cases (λ (l : List ℕ). T (isMarks l)) (ltb 0 (length m) && eqb (getD m (length m - 1) 0) 66) (λ _. t)
+      (λ _. cond-cases (λ (l : List ℕ). T (isMarks l)) (leb 64 (length m))
+      (λ _. marks-made (take 63 m ++ (66 ∷ [])) (omega (arith, length-append (take 63 m) (66 ∷ []), length-take 63 m)) (plain-append (take 63 m) (66 ∷ []) (plain-take 63 m (i .plain)) refl))
+      (λ u. marks-made (m ++ (66 ∷ [])) (omega (arith, length-append m (66 ∷ []), nleb→lt 64 (length m) u)) (plain-append m (66 ∷ []) (i .plain) refl)))
+
+  taken-holdable : (lag : ℕ) (d : Stored) → Holdable (L .C) (L .M) (d .session) → Holdable (L .C) (L .M) (takenOver lag d .session)
+  taken-holdable lag d h =
+      let o : (d .session .nextOut ≤ cond (ltb 0 lag) (min (d .session .nextOut + lag) top) (d .session .nextOut)) × (cond (ltb 0 lag) (min (d .session .nextOut + lag) top) (d .session .nextOut) ≤ top) =
+      cond-cases (λ (x : ℕ). (d .session .nextOut ≤ x) × (x ≤ top)) (ltb 0 lag) (λ _. (omega (arith, h .out-high), omega arith)) (λ _. (le-refl (d .session .nextOut), h .out-high)) in
+      record {
+        stamp-ok = h .stamp-ok;
+        out-low = le-trans (h .out-low) (o .0);
+        out-high = o .1;
+        inc-high = h .inc-high;
+        flight-high = h .flight-high;
+        marks-ok = with-B (d .session .marks) (h .marks-ok);
+        msgs-rise = rising-up 1 (d .session .nextOut) _ (d .session .messages) (o .0) (h .msgs-rise);
+        msgs-bytes = h .msgs-bytes;
+        msgs-count = h .msgs-count;
+      }
+
+  rules-promoted : (s : Standby) → Rules L Also s → Rules L Also (promotion L s)
+  rules-promoted s r =
+      record {
+        epoch-u64 = r .epoch-u64;
+        connections-u64 = r .connections-u64;
+        places-few = le-trans (le-of-eq (length-places (takenOver (L .lag)) (s .places))) (r .places-few);
+        sessions-ok = each-places Held (takenOver (L .lag)) (s .places) (λ x h. taken-holdable (L .lag) (x .stored) h) (r .sessions-ok);
+        handles-ok = λ h b p. absurd (none≢some (sym (find-freed h (s .handles)) ∙ p));
+        handles-also = λ h b p. absurd (none≢some (sym (find-freed h (s .handles)) ∙ p));
+        pending-few = omega arith;
+      }
+
+-- ---- every call
+
+-- a change that was read from bytes can be stored
+change-storable : (c : Change) → RangedChange c → fineChange protocolVersion c ≡ true → ByteChange c → Storable c
+change-storable (setIncoming n) r e b = omega arith
+change-storable (setIncomingInFlight n f) r e b = (omega (arith, r .0), omega (arith, r .1))
+change-storable (setInFlight f) r e b = omega arith
+change-storable (recordMsg q w) r e b = b
+change-storable (recordBare q) r e b = tt
+change-storable reset r e b = tt
+change-storable (setCreatedAt x) r e b = true→T (isStamp x) (takes-keeps protocolVersion x (T→true (takesStamp protocolVersion x) (and-r (utf8 x) (takesStamp protocolVersion x) (true→T (utf8 x && takesStamp protocolVersion x) e))))
+change-storable (setMarks m) r e b = and-r (utf8 m) (isMarks m) (true→T (utf8 m && isMarks m) e)
+
+changes-storable : (cs : List Change) → Each RangedChange cs → allFine protocolVersion cs ≡ true → Each ByteChange cs → Each Storable cs
+changes-storable [] r e b = tt
+changes-storable (c ∷ cs) r e b =
+    let t = true→T (fineChange protocolVersion c && allFine protocolVersion cs) e in (
+      change-storable c (r .0) (T→true _ (and-l (fineChange protocolVersion c) (allFine protocolVersion cs) t)) (b .0),
+      changes-storable cs (r .1) (T→true _ (and-r (fineChange protocolVersion c) (allFine protocolVersion cs) t)) (b .1),
+    )
+
+frame-storable : (f : Frame) → Ranged f → fine protocolVersion f ≡ true → ByteFrame f → Each Storable (changesOf f)
+unfolding fine
+frame-storable (hello v e node kinds) r t b = tt
+frame-storable (welcome e i) r t b = tt
+frame-storable (bind h e lag k) r t b = tt
+frame-storable (batch h e n p cs apps) r t b = changes-storable cs (r .4) t (b .0)
+frame-storable (ack h n) r t b = tt
+frame-storable (nack h x) r t b = tt
+frame-storable (bound h m) r t b = tt
+frame-storable (checked h e i) r t b = tt
+
+pub passed : (w : List ℕ) → T (isBytes w) → Passed (given w)
+unfolding given
+passed w t = go (decode protocolVersion w) refl
+  where
+    go : (d : Decoded) → decode protocolVersion w ≡ d → Passed (judged (length w) d)
+    go more p = tt
+    go (faulty x) p = tt
+    go (got f used) p =
+        let a = decode-sound protocolVersion w t p in
+        cond-cases Passed (eqb used (length w)) (λ _. record { writable = a .writable; storable = frame-storable f (a .writable .ranged) (a .writable .texts) (a .blobs) }) (λ _. tt)
+
+module _ (L : Settings) (Also : Bound → Type 0) (closed : Closed Also) where
+  pub rules-step : (s : Standby) (c : Call) → OkCall c → Rules L Also s → Rules L Also (step L s c .state)
+  unfolding step
+  rules-step s (onFrameHeld w) o r = keeps-given L Also closed s (given w) (passed w o) r
+  rules-step s (onFrame w) o r =
+      rules-pending L Also closed (isReply (onGiven L s (given w) .answer)) (onGiven L s (given w) .state) (keeps-given L Also closed s (given w) (passed w o) r)
+  rules-step s (flush n) o r =
+      cond-cases (Keeps L Also closed) (not (eqb n (s .counters .connections)) || s .counters .promoted) (λ _. r) (λ _. rules-pending L Also closed true s r)
+  rules-step s (disconnectedFrom n) o r = cond-cases (Rules L Also) (eqb n (s .counters .connections)) (λ _. rules-unbound L Also closed s r) (λ _. r)
+  rules-step s promote o r = cond-cases (Keeps L Also closed) (s .counters .checked) (λ _. rules-promoted L Also closed s r) (λ _. r)
+  rules-step s promoteUnchecked o r = rules-promoted L Also closed s r
+
+  pub rules-run : (s : Standby) (cs : List Call) → Each OkCall cs → Rules L Also s → Rules L Also (run L s cs)
+  rules-run s [] o r = r
+  rules-run s (c ∷ cs) o r = rules-run (step L s c .state) cs (o .1) (rules-step s c (o .0) r)
+
+-- ---- any content of the areas
+
+closed-valid : Closed (λ _. Unit {0})
+closed-valid = record { binds = λ _. tt; clears = λ _ _. tt; counts = λ _ _ _. tt; raises = λ _ _ _ _ _. tt; takes = λ _ _ _ _ _ _. tt }
+
+pub valid-pending : (L : Settings) (w : Bool) (s : Standby) → Valid L s → Valid L (runPending w s)
+valid-pending L w s r = rules-pending L (λ _. Unit {0}) closed-valid w s r
+
+pub valid-step : (L : Settings) (s : Standby) (c : Call) → OkCall c → Valid L s → Valid L (step L s c .state)
+valid-step L s c o r = rules-step L (λ _. Unit {0}) closed-valid s c o r
+
+pub valid-run : (L : Settings) (s : Standby) (cs : List Call) → Each OkCall cs → Valid L s → Valid L (run L s cs)
+valid-run L s cs o r = rules-run L (λ _. Unit {0}) closed-valid s cs o r
+
+-- ---- what a new standby reaches
+
+starts-all : (H cs : List Change) → (isEmpty H || startsWithReset H) ≡ true → T (not (isEmpty H && not (startsWithReset cs))) → startsWithReset (H ++ cs) ≡ true
+starts-all [] cs p t = go (startsWithReset cs) t
+  where
+    go : (b : Bool) → T (not (not b)) → b ≡ true
+    go true u = refl
+    go false u = absurd u
+starts-all (c ∷ H) cs p t = starts-append (c ∷ H) cs p
+
+not-empty : (l : List Change) → startsWithReset l ≡ true → l ≡ [] → ⊥
+not-empty l p q = true≢false (sym p ∙ ap startsWithReset q)
+
+or-true : (a b : Bool) → b ≡ true → (a || b) ≡ true
+or-true true b p = refl
+or-true false b p = p
+
+-- the byte sum that counts is the byte sum
+sum-counts : (b : Bound) → BoundUsual b → heldSum b ≡ b .bytes
+sum-counts b o = go (b .held) refl
+  where
+    go : (l : List Change) → b .held ≡ l → heldSum b ≡ b .bytes
+    go [] p = ap (λ (x : List Change). cond (isEmpty x) 0 (b .bytes)) p ∙ sym (o .none-sum p)
+    go (c ∷ l) p = ap (λ (x : List Change). cond (isEmpty x) 0 (b .bytes)) p
+
+usual-takes : (b : Bound) (m : ℕ) (cs : List Change) → T (not (isEmpty (b .held) && not (startsWithReset cs))) → raised b cs ≤ maxWhole → BoundUsual b → BoundUsual (holding b m cs)
+usual-takes b m cs begins few o =
+    let st = starts-all (b .held) cs (o .held-begins) begins in
+    record {
+      none-sum = λ p. absurd (not-empty (b .held ++ cs) st p);
+      held-begins = or-true (isEmpty (b .held ++ cs)) (startsWithReset (b .held ++ cs)) st;
+      sum-low = omega (arith, messageBytes-append (b .held) cs, o .sum-low, sum-counts b o, few);
+      held-few = omega (arith, messageBytes-append (b .held) cs, o .sum-low, sum-counts b o, few);
+    }
+
+usual-raises : (b : Bound) (cs : List Change) → messageBytes cs ≤ maxBody → maxWhole < raised b cs → BoundUsual b → BoundUsual (summed b cs)
+usual-raises b cs small over o =
+    record {
+      none-sum = λ p. absurd (omega (arith, o .none-sum p, sum-counts b o, over, small));
+      held-begins = o .held-begins;
+      sum-low = omega (arith, o .sum-low, o .held-few, sum-counts b o);
+      held-few = o .held-few;
+    }
+
+closed-usual : Closed BoundUsual
+closed-usual =
+    record {
+      binds = λ p. record { none-sum = λ _. refl; held-begins = refl; sum-low = omega arith; held-few = omega arith };
+      clears = λ b o. record { none-sum = λ _. refl; held-begins = refl; sum-low = omega arith; held-few = omega arith };
+      counts = λ b m o. record { none-sum = o .none-sum; held-begins = o .held-begins; sum-low = o .sum-low; held-few = o .held-few };
+      raises = usual-raises;
+      takes = usual-takes;
+    }
+
+module _ (L : Settings) (ps : List Place) (n : ℕ) (few : length ps ≤ L .S) (held : Each (λ (x : Place). Holdable (L .C) (L .M) (x .stored .session)) ps) where
+  -- a standby as it is made over a store
+  pub usual-new : Usual L (newStandby ps n)
+  usual-new =
+      record {
+        epoch-u64 = omega arith;
+        connections-u64 = omega arith;
+        places-few = few;
+        sessions-ok = held;
+        handles-ok = λ h b p. absurd (none≢some (sym (find-none h n) ∙ p));
+        handles-also = λ h b p. absurd (none≢some (sym (find-none h n) ∙ p));
+        pending-few = omega arith;
+      }
+
+  module _ (cs : List Call) (ok : Each OkCall cs) where
+    pub usual-run : Usual L (run L (newStandby ps n) cs)
+    usual-run = rules-run L BoundUsual closed-usual (newStandby ps n) cs ok usual-new
+
+    -- In a run from a new standby every stored session is one that the store can hold,
+    pub run-holdable : (p : ℕ) (x : Place) → getElem? (run L (newStandby ps n) cs .places) p ≡ some x → Holdable (L .C) (L .M) (x .stored .session)
+    run-holdable p x q = each-at (λ (y : Place). Holdable (L .C) (L .M) (y .stored .session)) (run L (newStandby ps n) cs .places) p x q (usual-run .sessions-ok)
+
+    -- and counting a byte sum as 0 with nothing held changes nothing: what is raised is the handle's byte sum
+    pub run-raised : (h : ℕ) (b : Bound) → find h (run L (newStandby ps n) cs .handles) ≡ some b → (own : List Change) → raised b own ≡ min (b .bytes + messageBytes own) top
+    run-raised h b q own = ap (λ (x : ℕ). min (x + messageBytes own) top) (sum-counts b (usual-run .handles-also h b q))
