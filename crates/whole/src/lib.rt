@@ -1,0 +1,79 @@
+// One batch of a session that is sent whole (active.rs, send_whole), over the session's log.
+ghost use mathlib.Core.Path.{_≡_};
+ghost use mathlib.Core.Bool.{cond};
+ghost use Prim.Native.Nat.{_+_, _*_, _≤_, _<_};
+ghost use lib.ListN.{length};
+ghost use lib.Dec.{ltb};
+ghost use Rattle.log.specs.Log.{Stands};
+ghost use Rattle.whole.specs.Cut.{Measured};
+
+// A batch: the place in the log where it ends, the next outgoing number there, how many changes its messages make, and their bytes.
+#[repr(C)]
+pub struct Cut {
+    pub left: usize,
+    pub dist: usize,
+    pub next: u64,
+    pub count: usize,
+    pub size: usize,
+}
+
+// How many bare records stand before a message: one if numbers were skipped.
+fn skips(next: u64, number: u64) -> usize
+    ensures is { λ r. ⌜ r ≡ cond (ltb next number) 1 0 ⌝ }
+    ensures within { λ r. ⌜ r ≤ 1 ⌝ }
+{
+    if next < number { 1 } else { 0 }
+}
+
+// Measures the batch that begins at a place in the log of a session whose next outgoing number is end.
+pub fn measure(
+    words: &[u64],
+    bytes: &[u8],
+    max: usize,
+    end: u64,
+    left: usize,
+    dist: usize,
+    next: u64,
+    limit: u64,
+) -> Cut
+    requires { ⌜ 2 + 2 * max ≤ length (now words) ⌝ }
+    requires { ⌜ max ≤ 65536 ⌝ }
+    requires { ⌜ length (now bytes) ≤ 33554432 ⌝ }
+    requires { ⌜ 1 ≤ end ⌝ }
+    requires { ⌜ Stands (length (now bytes)) max end (now words) (now bytes) left dist ⌝ }
+    ensures { λ r. ⌜ Measured limit (length (now (bytes .entry))) max end (now (words .entry)) (now (bytes .entry)) left dist next (r .left) (r .dist) (r .next) (r .count) (r .size) ⌝ }
+{
+    let mut left = left;
+    let mut dist = dist;
+    let mut next = next;
+    let mut count: usize = 0;
+    let mut size: usize = 0;
+    let mut sent: u64 = 0;
+    while 0 < left {
+        if limit < sent {
+            return Cut {
+                left,
+                dist,
+                next,
+                count,
+                size,
+            };
+        }
+        let f = log::message_at(words, bytes, max, end, left, dist);
+        let skip = skips(next, f.number);
+        let len = f.first + f.rest;
+        count = count + skip + 1;
+        size = size + 9 * skip + 13 + len;
+        sent += len as u64;
+        next = f.number + 1;
+        left = f.left;
+        dist = f.dist;
+    }
+    Cut {
+        left,
+        dist,
+        next,
+        count,
+        size,
+    }
+}
