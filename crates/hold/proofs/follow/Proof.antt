@@ -1,0 +1,40 @@
+use Rattle.hold.proofs.Steps.{no-outgoing, onward-past}
+use borrow.Author.Tests.{eq-eqb, ne-eqb, le-leb, lt-leb}
+use mathlib.Core.Path.{sym}
+use borrow.Author.Needs.{needs}
+use Rattle.hold.proofs.follow.Statement.{statement}
+use Rattle.hold.proofs.follow.Tie as tie
+
+returns : tie.Need-returns
+returns c = λ b cs. rw (c .before .before .before .op .given .1, eq-eqb _ _ (c .before .if1 .taken), c .after .ensures) (onward-past (c .before .before .before .op .given .0 .0) cs)
+
+returns-2 : tie.Need-returns-2
+returns-2 c = λ b cs. rw (c .before .before .op .given .1, ne-eqb _ _ (c .if1 .left))
+
+returns-3 : tie.Need-returns-3
+returns-3 c = λ b cs. rw (c .before .before .before .op2 .given .1, le-leb _ _ (c .before .if2 .taken), c .after2 .ensures) (onward-past (c .before .before .before .op2 .given .0 .0) cs)
+
+returns-4 : tie.Need-returns-4
+returns-4 c = λ b cs. rw (c .before .before .op2 .given .1, lt-leb _ _ (c .if2 .left))
+
+returns-5 : tie.Need-returns-5
+returns-5 c = λ b cs. rw (c .enum-told .given .1)
+
+returns-6 : tie.Need-returns-6
+returns-6 c = λ b cs. sym (no-outgoing b cs (c .before .args .next) (c .before .args .op) (c .match .keys4))
+
+pub follow-spec : {M : Type 1} → statement M
+follow-spec =
+    tie.close
+    (tie.spec
+    (λ c. search needs)
+    (λ c κs. search needs)
+    (λ c. search needs)
+    (λ c κs. search needs)
+    (λ c. search needs)
+    returns
+    returns-2
+    returns-3
+    returns-4
+    returns-5
+    returns-6)

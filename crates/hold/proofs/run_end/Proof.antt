@@ -1,0 +1,45 @@
+use borrow.Author.Needs.{needs}
+use mathlib.Core.Path.{sym, ap, _∙_}
+use denote.Ref.{now}
+use Rattle.op.specs.Answers.{resOp}
+use Rattle.hold.proofs.Loops.{Ending, ending, end-next, end-bad, end-none}
+use Rattle.hold.proofs.run_end.Statement.{statement}
+use Rattle.hold.proofs.run_end.Tie as tie
+
+abbrev Inv-loop : tie.InvT-loop
+Inv-loop p buf count d₀ n₀ d n = Ending (p .version) buf (d₀ .at) n₀ (d .at) n
+
+abbrev μ-loop : tie.MeasureT-loop
+μ-loop p buf count d₀ n₀ d n = n
+
+loop-holds : tie.Need-loop-holds Inv-loop μ-loop
+loop-holds c = ending _ (now (c .before .args .buf)) _ _ (λ i. c .shared-slice-known .given i .fits)
+
+returns : tie.Need-returns Inv-loop μ-loop
+returns c =
+    let k = c .before .before in
+    end-bad _ (k .before .before .loop .inv) (sym (k .op-from .ensures) ∙ ap (resOp _) (c .enum-told .given .1))
+
+loop-again : tie.Need-loop-again Inv-loop μ-loop
+loop-again c =
+    let k = c .before .before .before in
+    end-next _ (k .before .before .loop .inv) (k .before .loop-test .taken) (sym (k .op-from .ensures) ∙ ap (resOp _) (c .before .next .given .1))
+
+returns-2 : tie.Need-returns-2 Inv-loop μ-loop
+returns-2 c = end-none _ (c .before .loop .inv) (c .loop-test .left)
+
+pub run-end-spec : {M : Type 1} → statement M
+run-end-spec =
+    tie.close
+    (tie.spec
+    Inv-loop
+    μ-loop
+    loop-holds
+    (λ c κs. search needs)
+    (λ c. search needs)
+    (λ c. search needs)
+    returns
+    (λ c. search needs)
+    (λ c. search needs)
+    loop-again
+    returns-2)

@@ -1,0 +1,32 @@
+use borrow.Author.Needs.{needs}
+use native.Mathlib.Omega.{arith}
+use mathlib.Core.Path.{_≡_}
+use Prim.Native.Nat.{_-_}
+use denote.Ref.{now}
+use Rattle.model_frame.specs.Reading.{readChange}
+use Rattle.model_frame.specs.Writing.{sizes}
+use Rattle.model_frame.proofs.Le.{are-bytes}
+use Rattle.op.specs.Answers.{runOf}
+use Rattle.hold.proofs.Held.{run-part}
+use Rattle.hold.proofs.run_of.Statement.{statement}
+use Rattle.hold.proofs.run_of.Tie as tie
+
+returns : tie.Need-returns
+returns c =
+    let k = c .before .before .before .before .before in
+    let b = now (k .before .args .buf) in
+    let run = k .before .args .run in
+    let size : c .before .before .left .result - c .before .left2 .result ≡ sizes (runOf (readChange (k .before .args .p .version)) b run) = omega (arith, c .before .before .before .run-end .ensures, c .before .before .left .ensures, c .before .left2 .ensures) in
+    run-part _ b run (are-bytes b (λ i. k .shared-slice-known .given i .fits)) size (c .bytes-at .ensures)
+
+pub run-of-spec : {M : Type 1} → statement M
+run-of-spec =
+    tie.close
+    (tie.spec
+    (λ c. search needs)
+    (λ c κs. search needs)
+    (λ c κs. search needs)
+    (λ c κs. search needs)
+    (λ c. search needs)
+    (λ c κs. search needs)
+    returns)

@@ -1,0 +1,40 @@
+-- What the functions over a run of changes answer. Assumes nothing.
+use Prim.Native.Nat.{ℕ, suc}
+use mathlib.Core.Path.{_≡_}
+use mathlib.Core.Bool.{Bool, false, cond}
+use mathlib.Core.List.{List, _∷_}
+use lib.ListN.{length}
+use lib.Dec.{ltb}
+use Rattle.model_frame.specs.Frame.{Change}
+use Rattle.model_frame.specs.Parse.{runBytes}
+use Rattle.model_frame.specs.Reading.{readChange}
+use Rattle.model_frame.specs.Writing.{changeBytes, sizes}
+use Rattle.model_session.specs.Session.{fits, top}
+use Rattle.op.specs.Answers.{opOf, runOf, heldRun}
+use Rattle.op.specs.declared.Op.{Op}
+use Rattle.op.specs.declared.Run.{Run}
+use Rattle.hold.specs.declared.Outgoing
+use Rattle.hold.specs.declared.Outgoing.{Outgoing}
+
+-- all of these bytes are changes
+abbrev pub TakesAll : ℕ → List ℕ → Type 0
+TakesAll version s = sizes (heldRun version s) ≡ length s
+
+-- the outgoing number after a Record
+abbrev pub past : ℕ → Outgoing
+past seq = cond (ltb seq top) (Outgoing.Next (suc seq)) Outgoing.Off
+
+-- whether more changes follow on from there
+abbrev pub onward : Outgoing → List Change → Bool
+onward (Outgoing.Next n) cs = fits n cs
+onward Outgoing.Off cs = false
+
+-- what an operation makes of the next number, whatever its parts of a buffer are
+abbrev pub Follows : Op → ℕ → Outgoing → Type 0
+Follows op next r = (b : List ℕ) (cs : List Change) → onward r cs ≡ fits next (opOf b op ∷ cs)
+
+-- the part r of the buffer b where a run stands: it holds the run's changes, as they are written, and nothing else
+pub record RunPart (version : ℕ) (b : List ℕ) (run : Run) (r : List ℕ) : Type 0 where
+  pub changes : heldRun version r ≡ runOf (readChange version) b run
+  pub all : TakesAll version r
+  pub bytes : r ≡ runBytes changeBytes (runOf (readChange version) b run)
