@@ -15,14 +15,7 @@ use scan::Cursor;
 use stamp::Protocol;
 
 // Makes the change that `op`, which was read from `run`, names.
-pub fn apply(
-    p: Protocol,
-    run: &[u8],
-    op: Op,
-    words: &mut [u64],
-    bytes: &mut [u8],
-    max: usize,
-)
+pub fn apply(p: Protocol, run: &[u8], op: Op, words: &mut [u64], bytes: &mut [u8], max: usize)
     requires { ⌜ 16 + 2 * max ≤ length (now words) ⌝ }
     requires { ⌜ 224 ≤ length (now bytes) ⌝ }
     requires { ⌜ fineChange (p .version) (opOf (now run) op) ≡ true ⌝ }
@@ -40,5 +33,22 @@ pub fn apply(
         Op::Reset => place::reset(words, max),
         Op::SetCreatedAt(at) => place::set_created_at(words, bytes, scan::slice(run, at)),
         Op::SetMarks(marks) => place::set_marks(words, bytes, scan::slice(run, marks)),
+    }
+}
+
+// Makes all changes of a run, whose outgoing numbers follow on from the session's.
+pub fn apply_all(p: Protocol, run: &[u8], words: &mut [u64], bytes: &mut [u8], max: usize)
+    requires { ⌜ 16 + 2 * max ≤ length (now words) ⌝ }
+    requires { ⌜ 224 ≤ length (now bytes) ⌝ }
+    requires { ⌜ fits (nextOutOf (now words)) (heldRun (p .version) (now run)) ≡ true ⌝ }
+    ensures { λ _. ⌜ ((C : ℕ) → length (now (bytes .entry)) ≡ 224 + C → placeIn C max (now (words .exit)) (now (bytes .exit)) ≡ onStored (changed C max (heldRun (p .version) (now (run .entry)))) (placeIn C max (now (words .entry)) (now (bytes .entry)))) ⌝ }
+{
+    let mut d = Cursor { at: 0 };
+    while d.at < run.len() {
+        let OpAt::Got(op, next) = op::op_from(p, run, d) else {
+            return;
+        };
+        apply(p, run, op, words, bytes, max);
+        d = next;
     }
 }

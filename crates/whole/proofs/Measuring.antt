@@ -83,6 +83,7 @@ module _ (limit C M end : ℕ) (w b : List ℕ) (left₀ dist₀ next₀ : ℕ) 
     where
       nothing : Rest 0 ≡ []
       nothing = refl
+
       ends : Measuring 0 dist next count size sent → Rest 0 ≡ [] → Measured limit C M end w b left₀ dist₀ next₀ 0 dist next count size
       ends g e = record {
         stands = g .stands;
@@ -107,9 +108,9 @@ module _ (limit C M end : ℕ) (w b : List ℕ) (left₀ dist₀ next₀ : ℕ) 
       let one : skip ≤ 1 = at-most (ltb next number) s in
       let later : number + 1 ≡ suc number = rw add-one refl in
       let cut : taken limit sent next (Rest left) ≡ sendMsg next m ++ taken limit (sent + (first + rest)) (number + 1) (Rest left') =
-          ap (taken limit sent next) (r .is)
-          ∙ ap (λ (t : Bool). cond t [] (sendMsg next m ++ taken limit (sent + length (m .text)) (suc number) (Rest left'))) going
-          ∙ rw (len, later) refl in
+      ap (taken limit sent next) (r .is)
+      ∙ ap (λ (t : Bool). cond t [] (sendMsg next m ++ taken limit (sent + length (m .text)) (suc number) (Rest left'))) going
+      ∙ rw (len, later) refl in
       record {
         stands = r .stands;
         rest =
