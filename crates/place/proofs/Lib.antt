@@ -7,3 +7,4 @@ pub mod Logging
 pub mod Promotion
 pub mod Keys
 pub mod Messages
+pub mod Holding
