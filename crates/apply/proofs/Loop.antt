@@ -58,7 +58,7 @@ changed-none C M x = ap (λ (b : Bool). record { key = x .key; stored = record {
     flag true = refl
     flag false = refl
 
-next-out : (C M : ℕ) (w b : List ℕ) → placeIn C M w b .stored .session .nextOut ≡ nextOutOf w
+pub next-out : (C M : ℕ) (w b : List ℕ) → placeIn C M w b .stored .session .nextOut ≡ nextOutOf w
 unfolding placeIn sessionOf
 next-out C M w b = refl
 

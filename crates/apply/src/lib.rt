@@ -3,12 +3,14 @@ ghost use mathlib.Core.Path.{_≡_};
 ghost use mathlib.Core.Bool.{true};
 ghost use mathlib.Core.List.{[], _∷_};
 ghost use Prim.Native.Nat.{ℕ, _+_, _*_, _≤_, _<_};
-ghost use lib.ListN.{length};
+ghost use lib.ListN.{length, getD};
 ghost use Rattle.model_frame.specs.Writing.{fineChange};
 ghost use Rattle.model_session.specs.Session.{fits};
 ghost use Rattle.model.specs.Store.{onStored, changed};
 ghost use Rattle.op.specs.Answers.{opOf, heldRun};
 ghost use Rattle.place.specs.Place.{nextOutOf, placeIn};
+ghost use Rattle.areas.specs.Areas.{Rules, Changed, placeAt};
+use areas::Shape;
 use op::Op;
 use op::OpAt;
 use scan::Cursor;
@@ -51,4 +53,32 @@ pub fn apply_all(p: Protocol, run: &[u8], words: &mut [u64], bytes: &mut [u8], m
         apply(p, run, op, words, bytes, max);
         d = next;
     }
+}
+
+// Makes all changes of a run at place i of a store, which is in use.
+pub fn apply_at(
+    p: Protocol,
+    run: &[u8],
+    words: &mut [u64],
+    bytes: &mut [u8],
+    shape: Shape,
+    i: usize,
+)
+    requires { ⌜ Rules shape (now words) (now bytes) ⌝ }
+    requires { ⌜ i < getD (now words) 0 0 ⌝ }
+    requires { ⌜ fits (placeAt shape (now words) (now bytes) i .stored .session .nextOut) (heldRun (p .version) (now run)) ≡ true ⌝ }
+    ensures { λ _. ⌜ Changed shape i (changed (shape .bytes) (shape .messages) (heldRun (p .version) (now (run .entry)))) (now (words .entry)) (now (words .exit)) (now (bytes .entry)) (now (bytes .exit)) ⌝ }
+{
+    let s = areas::spot_of(shape, i);
+    let wa = s.wa;
+    let we = s.we;
+    let ba = s.ba;
+    let be = s.be;
+    apply_all(
+        p,
+        run,
+        &mut words[wa..we],
+        &mut bytes[ba..be],
+        shape.messages as usize,
+    );
 }
