@@ -1,29 +1,29 @@
 // The frames an active instance and its standby exchange, and their wire form (frame.rs).
 ghost use mathlib.Core.Path.{_≡_};
-ghost use Prim.Native.Nat.{_+_, _≤_};
+ghost use Prim.Native.Nat.{ℕ, _+_, _≤_};
 ghost use lib.ListN.{length, take, drop};
 ghost use Rattle.model_frame.specs.Reading.{helloFields, welcomeFields, bindFields, batchFields, ackFields, nackFields, boundFields, checkedFields, fields, body, decode};
 ghost use Rattle.frame.specs.Answers.{resFrame, readingOf};
 pub use op::Op;
 pub use op::Run;
+use op::RunAt;
 pub use parts::AppRecord;
 pub use parts::InFlight;
 pub use parts::NackReason;
 pub use parts::Part;
-pub use parts::SessionId;
-pub use parts::Summary;
-pub use scan::Field;
-pub use scan::FrameError;
-pub use scan::Span;
-pub use scan::Value;
-use op::RunAt;
 use parts::PartAt;
 use parts::ReasonAt;
 use parts::SessionAt;
+pub use parts::SessionId;
+pub use parts::Summary;
 use parts::SummaryAt;
 use scan::Byte;
 use scan::Cursor;
+pub use scan::Field;
+pub use scan::FrameError;
+pub use scan::Span;
 use scan::SpanAt;
+pub use scan::Value;
 use scan::Word16;
 use scan::Word32;
 use scan::Word64;
@@ -102,7 +102,7 @@ pub enum Decoded {
     Bad(FrameError),
 }
 
-fn hello(buf: &[u8], c: Cursor) -> FrameAt
+fn hello_from(buf: &[u8], c: Cursor) -> FrameAt
     ensures { λ r. ⌜ ((v : ℕ) → resFrame v (now (buf .entry)) r ≡ helloFields (drop (c .at) (now (buf .entry)))) ⌝ }
 {
     let Word16::Got(version, d) = scan::u16_from(buf, c) else {
@@ -128,7 +128,7 @@ fn hello(buf: &[u8], c: Cursor) -> FrameAt
     }
 }
 
-fn welcome(buf: &[u8], c: Cursor) -> FrameAt
+fn welcome_from(buf: &[u8], c: Cursor) -> FrameAt
     ensures { λ r. ⌜ ((v : ℕ) → resFrame v (now (buf .entry)) r ≡ welcomeFields (drop (c .at) (now (buf .entry)))) ⌝ }
 {
     let Word64::Got(epoch, d) = scan::u64_from(buf, c) else {
@@ -146,7 +146,7 @@ fn welcome(buf: &[u8], c: Cursor) -> FrameAt
     )
 }
 
-fn bind(buf: &[u8], c: Cursor) -> FrameAt
+fn bind_from(buf: &[u8], c: Cursor) -> FrameAt
     ensures { λ r. ⌜ ((v : ℕ) → resFrame v (now (buf .entry)) r ≡ bindFields (drop (c .at) (now (buf .entry)))) ⌝ }
 {
     let Word32::Got(handle, d) = scan::u32_from(buf, c) else {
@@ -172,7 +172,7 @@ fn bind(buf: &[u8], c: Cursor) -> FrameAt
     }
 }
 
-fn batch(p: Protocol, buf: &[u8], c: Cursor) -> FrameAt
+fn batch_from(p: Protocol, buf: &[u8], c: Cursor) -> FrameAt
     ensures { λ r. ⌜ resFrame (p .version) (now (buf .entry)) r ≡ batchFields (p .version) (drop (c .at) (now (buf .entry))) ⌝ }
 {
     let Word32::Got(handle, d) = scan::u32_from(buf, c) else {
@@ -191,16 +191,14 @@ fn batch(p: Protocol, buf: &[u8], c: Cursor) -> FrameAt
             RunAt::Got(ops, d) => match parts::app_records_from(buf, d) {
                 RunAt::Bad(e) => FrameAt::Bad(e),
                 RunAt::Got(app_records, d) => FrameAt::Got(
-                    Frame::Batch(
-                        Batch {
-                            handle,
-                            epoch: Epoch(epoch),
-                            commit_no: CommitNumber(commit_no),
-                            part,
-                            ops,
-                            app_records,
-                        },
-                    ),
+                    Frame::Batch(Batch {
+                        handle,
+                        epoch: Epoch(epoch),
+                        commit_no: CommitNumber(commit_no),
+                        part,
+                        ops,
+                        app_records,
+                    }),
                     d,
                 ),
             },
@@ -208,7 +206,7 @@ fn batch(p: Protocol, buf: &[u8], c: Cursor) -> FrameAt
     }
 }
 
-fn ack(buf: &[u8], c: Cursor) -> FrameAt
+fn ack_from(buf: &[u8], c: Cursor) -> FrameAt
     ensures { λ r. ⌜ ((v : ℕ) → resFrame v (now (buf .entry)) r ≡ ackFields (drop (c .at) (now (buf .entry)))) ⌝ }
 {
     let Word32::Got(handle, d) = scan::u32_from(buf, c) else {
@@ -226,7 +224,7 @@ fn ack(buf: &[u8], c: Cursor) -> FrameAt
     )
 }
 
-fn nack(buf: &[u8], c: Cursor) -> FrameAt
+fn nack_from(buf: &[u8], c: Cursor) -> FrameAt
     ensures { λ r. ⌜ ((v : ℕ) → resFrame v (now (buf .entry)) r ≡ nackFields (drop (c .at) (now (buf .entry)))) ⌝ }
 {
     let Word32::Got(handle, d) = scan::u32_from(buf, c) else {
@@ -238,7 +236,7 @@ fn nack(buf: &[u8], c: Cursor) -> FrameAt
     }
 }
 
-fn bound(p: Protocol, buf: &[u8], c: Cursor) -> FrameAt
+fn bound_from(p: Protocol, buf: &[u8], c: Cursor) -> FrameAt
     ensures { λ r. ⌜ ((v : ℕ) → resFrame v (now (buf .entry)) r ≡ boundFields (p .version) (drop (c .at) (now (buf .entry)))) ⌝ }
 {
     let Word32::Got(handle, d) = scan::u32_from(buf, c) else {
@@ -250,7 +248,7 @@ fn bound(p: Protocol, buf: &[u8], c: Cursor) -> FrameAt
     }
 }
 
-fn checked(buf: &[u8], c: Cursor) -> FrameAt
+fn checked_from(buf: &[u8], c: Cursor) -> FrameAt
     ensures { λ r. ⌜ ((v : ℕ) → resFrame v (now (buf .entry)) r ≡ checkedFields (drop (c .at) (now (buf .entry)))) ⌝ }
 {
     let Word32::Got(handle, d) = scan::u32_from(buf, c) else {
@@ -280,14 +278,14 @@ fn fields_from(p: Protocol, buf: &[u8], c: Cursor) -> FrameAt
         return FrameAt::Bad(FrameError::Truncated);
     };
     match k {
-        1 => hello(buf, d),
-        2 => welcome(buf, d),
-        3 => bind(buf, d),
-        4 => batch(p, buf, d),
-        5 => ack(buf, d),
-        6 => nack(buf, d),
-        7 => bound(p, buf, d),
-        8 => checked(buf, d),
+        1 => hello_from(buf, d),
+        2 => welcome_from(buf, d),
+        3 => bind_from(buf, d),
+        4 => batch_from(p, buf, d),
+        5 => ack_from(buf, d),
+        6 => nack_from(buf, d),
+        7 => bound_from(p, buf, d),
+        8 => checked_from(buf, d),
         _ => FrameAt::Bad(FrameError::Unknown(Field::FrameKind, k)),
     }
 }
@@ -329,7 +327,7 @@ impl Frame {
         if buf.len() - 4 < len {
             return Decoded::More;
         }
-        match body_from(p, &buf[..4 + len], Cursor { at: 4 }) {
+        match body_from(p, scan::bytes_at(buf, 0, 4 + len), Cursor { at: 4 }) {
             FrameAt::Bad(e) => Decoded::Bad(e),
             FrameAt::Got(f, _) => Decoded::Whole(f, 4 + len),
         }
