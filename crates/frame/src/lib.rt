@@ -1,4 +1,33 @@
 // The frames an active instance and its standby exchange, and their wire form (frame.rs).
+ghost use mathlib.Core.Path.{_≡_};
+ghost use Prim.Native.Nat.{ℕ, _+_, _≤_};
+ghost use lib.ListN.{length, take, drop};
+ghost use Rattle.model_frame.specs.Reading.{helloFields, welcomeFields, bindFields, batchFields, ackFields, nackFields, boundFields, checkedFields, fields, body, decode};
+ghost use Rattle.frame.specs.Answers.{resFrame, readingOf};
+pub use op::Op;
+pub use op::Run;
+use op::RunAt;
+pub use parts::AppRecord;
+pub use parts::InFlight;
+pub use parts::NackReason;
+pub use parts::Part;
+use parts::PartAt;
+use parts::ReasonAt;
+use parts::SessionAt;
+pub use parts::SessionId;
+pub use parts::Summary;
+use parts::SummaryAt;
+use scan::Byte;
+use scan::Cursor;
+pub use scan::Field;
+pub use scan::FrameError;
+pub use scan::Span;
+use scan::SpanAt;
+pub use scan::Value;
+use scan::Word16;
+use scan::Word32;
+use scan::Word64;
+use stamp::Protocol;
 
 // The epoch of the lease that an active holds.
 #[repr(C)]
@@ -11,3 +40,296 @@ pub struct Incarnation(pub u64);
 // A session's commits on one binding, counted from 1.
 #[repr(C)]
 pub struct CommitNumber(pub u64);
+
+// One commit's changes to a session, and the application's records with them: both are runs in the bytes read.
+#[repr(C)]
+pub struct Batch {
+    pub handle: u32,
+    pub epoch: Epoch,
+    pub commit_no: CommitNumber,
+    pub part: Part,
+    pub ops: Run,
+    pub app_records: Run,
+}
+
+// A frame between an active instance and its standby. Texts, changes and records are parts of the bytes it was read from.
+pub enum Frame {
+    Hello {
+        version: u16,
+        epoch: Epoch,
+        node: Span,
+        app_record_kinds: Run,
+    },
+    Welcome {
+        epoch: Epoch,
+        incarnation: Incarnation,
+    },
+    Bind {
+        handle: u32,
+        epoch: Epoch,
+        max_lag: u64,
+        session: SessionId,
+    },
+    Bound {
+        handle: u32,
+        summary: Summary,
+    },
+    Batch(Batch),
+    Ack {
+        handle: u32,
+        commit_no: CommitNumber,
+    },
+    Nack {
+        handle: u32,
+        reason: NackReason,
+    },
+    Checked {
+        handle: u32,
+        epoch: Epoch,
+        incarnation: Incarnation,
+    },
+}
+
+pub enum FrameAt {
+    Got(Frame, Cursor),
+    Bad(FrameError),
+}
+
+// A whole frame and how many bytes it took, more bytes needed, or the first fault.
+pub enum Decoded {
+    Whole(Frame, usize),
+    More,
+    Bad(FrameError),
+}
+
+fn hello_from(buf: &[u8], c: Cursor) -> FrameAt
+    ensures { λ r. ⌜ ((v : ℕ) → resFrame v (now (buf .entry)) r ≡ helloFields (drop (c .at) (now (buf .entry)))) ⌝ }
+{
+    let Word16::Got(version, d) = scan::u16_from(buf, c) else {
+        return FrameAt::Bad(FrameError::Truncated);
+    };
+    let Word64::Got(epoch, d) = scan::u64_from(buf, d) else {
+        return FrameAt::Bad(FrameError::Truncated);
+    };
+    match scan::text_from(buf, d) {
+        SpanAt::Bad(e) => FrameAt::Bad(e),
+        SpanAt::Got(node, d) => match parts::kinds_from(buf, d) {
+            RunAt::Bad(e) => FrameAt::Bad(e),
+            RunAt::Got(app_record_kinds, d) => FrameAt::Got(
+                Frame::Hello {
+                    version,
+                    epoch: Epoch(epoch),
+                    node,
+                    app_record_kinds,
+                },
+                d,
+            ),
+        },
+    }
+}
+
+fn welcome_from(buf: &[u8], c: Cursor) -> FrameAt
+    ensures { λ r. ⌜ ((v : ℕ) → resFrame v (now (buf .entry)) r ≡ welcomeFields (drop (c .at) (now (buf .entry)))) ⌝ }
+{
+    let Word64::Got(epoch, d) = scan::u64_from(buf, c) else {
+        return FrameAt::Bad(FrameError::Truncated);
+    };
+    let Word64::Got(incarnation, d) = scan::u64_from(buf, d) else {
+        return FrameAt::Bad(FrameError::Truncated);
+    };
+    FrameAt::Got(
+        Frame::Welcome {
+            epoch: Epoch(epoch),
+            incarnation: Incarnation(incarnation),
+        },
+        d,
+    )
+}
+
+fn bind_from(buf: &[u8], c: Cursor) -> FrameAt
+    ensures { λ r. ⌜ ((v : ℕ) → resFrame v (now (buf .entry)) r ≡ bindFields (drop (c .at) (now (buf .entry)))) ⌝ }
+{
+    let Word32::Got(handle, d) = scan::u32_from(buf, c) else {
+        return FrameAt::Bad(FrameError::Truncated);
+    };
+    let Word64::Got(epoch, d) = scan::u64_from(buf, d) else {
+        return FrameAt::Bad(FrameError::Truncated);
+    };
+    let Word64::Got(max_lag, d) = scan::u64_from(buf, d) else {
+        return FrameAt::Bad(FrameError::Truncated);
+    };
+    match parts::session_from(buf, d) {
+        SessionAt::Bad(e) => FrameAt::Bad(e),
+        SessionAt::Got(session, d) => FrameAt::Got(
+            Frame::Bind {
+                handle,
+                epoch: Epoch(epoch),
+                max_lag,
+                session,
+            },
+            d,
+        ),
+    }
+}
+
+fn batch_from(p: Protocol, buf: &[u8], c: Cursor) -> FrameAt
+    ensures { λ r. ⌜ resFrame (p .version) (now (buf .entry)) r ≡ batchFields (p .version) (drop (c .at) (now (buf .entry))) ⌝ }
+{
+    let Word32::Got(handle, d) = scan::u32_from(buf, c) else {
+        return FrameAt::Bad(FrameError::Truncated);
+    };
+    let Word64::Got(epoch, d) = scan::u64_from(buf, d) else {
+        return FrameAt::Bad(FrameError::Truncated);
+    };
+    let Word64::Got(commit_no, d) = scan::u64_from(buf, d) else {
+        return FrameAt::Bad(FrameError::Truncated);
+    };
+    match parts::part_from(buf, d) {
+        PartAt::Bad(e) => FrameAt::Bad(e),
+        PartAt::Got(part, d) => match op::ops_from(p, buf, d) {
+            RunAt::Bad(e) => FrameAt::Bad(e),
+            RunAt::Got(ops, d) => match parts::app_records_from(buf, d) {
+                RunAt::Bad(e) => FrameAt::Bad(e),
+                RunAt::Got(app_records, d) => FrameAt::Got(
+                    Frame::Batch(Batch {
+                        handle,
+                        epoch: Epoch(epoch),
+                        commit_no: CommitNumber(commit_no),
+                        part,
+                        ops,
+                        app_records,
+                    }),
+                    d,
+                ),
+            },
+        },
+    }
+}
+
+fn ack_from(buf: &[u8], c: Cursor) -> FrameAt
+    ensures { λ r. ⌜ ((v : ℕ) → resFrame v (now (buf .entry)) r ≡ ackFields (drop (c .at) (now (buf .entry)))) ⌝ }
+{
+    let Word32::Got(handle, d) = scan::u32_from(buf, c) else {
+        return FrameAt::Bad(FrameError::Truncated);
+    };
+    let Word64::Got(commit_no, d) = scan::u64_from(buf, d) else {
+        return FrameAt::Bad(FrameError::Truncated);
+    };
+    FrameAt::Got(
+        Frame::Ack {
+            handle,
+            commit_no: CommitNumber(commit_no),
+        },
+        d,
+    )
+}
+
+fn nack_from(buf: &[u8], c: Cursor) -> FrameAt
+    ensures { λ r. ⌜ ((v : ℕ) → resFrame v (now (buf .entry)) r ≡ nackFields (drop (c .at) (now (buf .entry)))) ⌝ }
+{
+    let Word32::Got(handle, d) = scan::u32_from(buf, c) else {
+        return FrameAt::Bad(FrameError::Truncated);
+    };
+    match parts::reason_from(buf, d) {
+        ReasonAt::Bad(e) => FrameAt::Bad(e),
+        ReasonAt::Got(reason, d) => FrameAt::Got(Frame::Nack { handle, reason }, d),
+    }
+}
+
+fn bound_from(p: Protocol, buf: &[u8], c: Cursor) -> FrameAt
+    ensures { λ r. ⌜ ((v : ℕ) → resFrame v (now (buf .entry)) r ≡ boundFields (p .version) (drop (c .at) (now (buf .entry)))) ⌝ }
+{
+    let Word32::Got(handle, d) = scan::u32_from(buf, c) else {
+        return FrameAt::Bad(FrameError::Truncated);
+    };
+    match parts::summary_from(p, buf, d) {
+        SummaryAt::Bad(e) => FrameAt::Bad(e),
+        SummaryAt::Got(summary, d) => FrameAt::Got(Frame::Bound { handle, summary }, d),
+    }
+}
+
+fn checked_from(buf: &[u8], c: Cursor) -> FrameAt
+    ensures { λ r. ⌜ ((v : ℕ) → resFrame v (now (buf .entry)) r ≡ checkedFields (drop (c .at) (now (buf .entry)))) ⌝ }
+{
+    let Word32::Got(handle, d) = scan::u32_from(buf, c) else {
+        return FrameAt::Bad(FrameError::Truncated);
+    };
+    let Word64::Got(epoch, d) = scan::u64_from(buf, d) else {
+        return FrameAt::Bad(FrameError::Truncated);
+    };
+    let Word64::Got(incarnation, d) = scan::u64_from(buf, d) else {
+        return FrameAt::Bad(FrameError::Truncated);
+    };
+    FrameAt::Got(
+        Frame::Checked {
+            handle,
+            epoch: Epoch(epoch),
+            incarnation: Incarnation(incarnation),
+        },
+        d,
+    )
+}
+
+// The fields of a frame, by its kind.
+fn fields_from(p: Protocol, buf: &[u8], c: Cursor) -> FrameAt
+    ensures { λ r. ⌜ resFrame (p .version) (now (buf .entry)) r ≡ fields (p .version) (drop (c .at) (now (buf .entry))) ⌝ }
+{
+    let Byte::Got(k, d) = scan::u8_from(buf, c) else {
+        return FrameAt::Bad(FrameError::Truncated);
+    };
+    match k {
+        1 => hello_from(buf, d),
+        2 => welcome_from(buf, d),
+        3 => bind_from(buf, d),
+        4 => batch_from(p, buf, d),
+        5 => ack_from(buf, d),
+        6 => nack_from(buf, d),
+        7 => bound_from(p, buf, d),
+        8 => checked_from(buf, d),
+        _ => FrameAt::Bad(FrameError::Unknown(Field::FrameKind, k)),
+    }
+}
+
+// A body from a cursor to the buffer's end: nothing is left over.
+fn body_from(p: Protocol, buf: &[u8], c: Cursor) -> FrameAt
+    ensures { λ r. ⌜ resFrame (p .version) (now (buf .entry)) r ≡ body (p .version) (drop (c .at) (now (buf .entry))) ⌝ }
+{
+    match fields_from(p, buf, c) {
+        FrameAt::Bad(e) => FrameAt::Bad(e),
+        FrameAt::Got(f, d) => {
+            if scan::left(buf, d) == 0 {
+                FrameAt::Got(f, d)
+            } else {
+                FrameAt::Bad(FrameError::Truncated)
+            }
+        }
+    }
+}
+
+impl Frame {
+    // The version of the wire form.
+    pub const VERSION: u16 = 1;
+    // The longest body.
+    pub const LIMIT: u32 = 67108864;
+
+    // The frame at the start of the bytes; its texts, changes and records are parts of them.
+    pub fn decode(p: Protocol, buf: &[u8]) -> Decoded
+        ensures { λ r. ⌜ readingOf (p .version) (now (buf .entry)) r ≡ decode (p .version) (now (buf .entry)) ⌝ }
+    {
+        if buf.len() < 4 {
+            return Decoded::More;
+        }
+        let n = wire::u32_at(buf, 0);
+        if Self::LIMIT < n {
+            return Decoded::Bad(FrameError::TooLong(n));
+        }
+        let len = n as usize;
+        if buf.len() - 4 < len {
+            return Decoded::More;
+        }
+        match body_from(p, scan::bytes_at(buf, 0, 4 + len), Cursor { at: 4 }) {
+            FrameAt::Bad(e) => Decoded::Bad(e),
+            FrameAt::Got(f, _) => Decoded::Whole(f, 4 + len),
+        }
+    }
+}

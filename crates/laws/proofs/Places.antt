@@ -9,7 +9,7 @@ use borrow.Author.Tests.{le-leb, lt-leb}
 use mathlib.Core.Bool.{true, false}
 use lib.ListN.{length, take, drop, getD, length-drop, drop-of-length-le}
 use lib.Seq.{drop-drop, drop-cons, take-all, take-nil}
-use Rattle.model_frame.specs.Bytes.{leAt}
+use Rattle.model_frame.specs.Bytes.{le, leAt}
 use Rattle.model_frame.specs.Frame.{truncated}
 use Rattle.model_frame.specs.Parse.{Res, ok, bad, bytes, num}
 
@@ -28,6 +28,10 @@ num-short n b at e h = rw (bytes-short n b at e h)
 pub num-got : (n : ℕ) (b : List ℕ) (at : ℕ) {k : ℕ} → k ≡ length b - at → n ≤ k → num n (drop at b) ≡ ok (leAt n b at) (drop (at + n) b)
 unfolding num
 num-got n b at e h = rw (bytes-got n b at e h)
+
+pub num-whole : (n : ℕ) (s : List ℕ) → n ≤ length s → num n s ≡ ok (le (take n s)) (drop n s)
+unfolding num bytes
+num-whole n s h = rw (le-leb n (length s) h)
 
 -- a part of the buffer that starts, or ends, past its end
 pub slice-past : (b : List ℕ) (at n : ℕ) → length b ≤ at → take n (drop at b) ≡ []

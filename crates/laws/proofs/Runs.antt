@@ -1,12 +1,18 @@
 -- The laws of a run of items, of any parser: where it ends, one item after the other, and its items. Assumes nothing.
 use mathlib.Core.Path.{_≡_, refl, sym, ap, _∙_}
 use mathlib.Core.List.{List, [], _∷_, _++_}
-use Prim.Native.Nat.{ℕ, zero, suc, _-_, _≤_, _<_}
-use native.Mathlib.Nat.{not-suc-le-zero}
-use native.Mathlib.Numerals.{sub-one}
+use mathlib.Core.Bool.{Bool, true, false, cond}
+use Prim.Native.Nat.{ℕ, zero, suc, _+_, _-_, _*_, _≤_, _<_}
+use native.Mathlib.Nat.{not-suc-le-zero, zero-mul, suc-mul}
 use native.Mathlib.Omega.{arith}
-use Rattle.model_frame.specs.Frame.{Fault}
-use Rattle.model_frame.specs.Parse.{Res, ok, bad, Parser, andThen, many, forget, onto, collect, runBytes}
+use borrow.Author.Tests.{leb-true}
+use lib.Dec.{leb}
+use lib.ListN.{length, take, drop, length-drop}
+use lib.Seq.{drop-drop}
+use Rattle.model_frame.specs.Bytes.{le}
+use Rattle.model_frame.specs.Frame.{Fault, truncated}
+use Rattle.model_frame.specs.Parse.{Res, ok, bad, Parser, andThen, num, count, many, forget, onto, collect, runBytes}
+use Rattle.laws.proofs.Places.{num-whole}
 
 module _ {A : Type 0} where
   forget-cons : (a : A) (m : Res (List A)) → forget (andThen m (λ xs s. ok (a ∷ xs) s)) ≡ forget m
@@ -77,3 +83,30 @@ module _ {A : Type 0} where
   pub bytes-bad : (f : A → List ℕ) (p : Parser A) (n : ℕ) {s : List ℕ} {e : Fault} → p s ≡ bad e → runBytes f (collect n p s) ≡ []
   unfolding runBytes
   bytes-bad f p n e = rw (collect-bad p n e)
+
+-- numbers of w bytes each: where a run of them ends
+pub numbers-end : (w n : ℕ) (s : List ℕ) → n * w ≤ length s → forget (many n (num w) s) ≡ ok tt (drop (n * w) s)
+unfolding many
+numbers-end w zero s h = rw zero-mul
+numbers-end w (suc n) s h =
+    let room : w ≤ length s = omega (arith, suc-mul n w) in
+    let rest : n * w ≤ length (drop w s) = omega (arith, suc-mul n w, length-drop w s) in
+    let one : num w s ≡ ok (le (take w s)) (drop w s) = num-whole w s room in
+    let sum : suc n * w ≡ w + n * w = omega (arith, suc-mul n w) in
+    rw (one, forget-cons (le (take w s)) (many n (num w) (drop w s)), sum, ← drop-drop (n * w) w s) (numbers-end w n (drop w s) rest)
+
+-- a count was followed by room for its items
+pub count-room : (min : ℕ) (s : List ℕ) {n : ℕ} {t : List ℕ} → count min s ≡ ok n t → n * min ≤ length t
+unfolding count
+count-room min s {n} {t} e = go (num 4 s) e
+  where
+    kept : (m : ℕ) (u : List ℕ) (k : Bool) → leb (m * min) (length u) ≡ k → cond k (ok m u) (bad truncated) ≡ ok n t → n * min ≤ length t
+    kept m u true h e =
+        let p : m ≡ n = cc in
+        let q : u ≡ t = cc in
+        rw (← p, ← q) (leb-true (m * min) (length u) h)
+    kept m u false h e = let z : _≡_ {A = ℕ} 0 1 = cc in absurd (omega arith)
+
+    go : (r : Res ℕ) → andThen r (λ m u. cond (leb (m * min) (length u)) (ok m u) (bad truncated)) ≡ ok n t → n * min ≤ length t
+    go (ok m u) e = kept m u (leb (m * min) (length u)) refl e
+    go (bad f) e = let z : _≡_ {A = ℕ} 0 1 = cc in absurd (omega arith)

@@ -13,6 +13,8 @@ use Rattle.op.specs.declared.OpAt.{OpAt}
 use Rattle.op.specs.declared.End
 use Rattle.op.specs.declared.End.{End}
 use Rattle.op.specs.declared.Run.{Run}
+use Rattle.op.specs.declared.RunAt
+use Rattle.op.specs.declared.RunAt.{RunAt}
 
 abbrev pub opOf : List ℕ → Op → Change
 opOf b (Op.SetNextIncoming n) = setIncoming n
@@ -36,6 +38,10 @@ resEnd b (End.Bad e) = bad (faultOf e)
 -- the items of a run
 abbrev pub runOf : {A : Type 0} → Parser A → List ℕ → Run → List A
 runOf p b r = collect (r .count) p (drop (r .at) b)
+
+abbrev pub resRun : {A : Type 0} → Parser A → List ℕ → RunAt → Res (List A)
+resRun p b (RunAt.Got r c) = ok (runOf p b r) (drop (c .at) b)
+resRun p b (RunAt.Bad e) = bad (faultOf e)
 
 -- the changes read one after the other until the bytes end or one can't be read: each takes a byte at least
 unfoldable pub heldRun : ℕ → List ℕ → List Change

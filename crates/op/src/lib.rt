@@ -2,14 +2,15 @@
 ghost use mathlib.Core.Path.{_≡_};
 ghost use lib.ListN.{length, take, drop};
 ghost use Rattle.model_frame.specs.Parse.{many, forget};
-ghost use Rattle.model_frame.specs.Reading.{setIncomingFields, setIncomingInFlightFields, setInFlightFields, recordMsgFields, recordBareFields, setCreatedAtFields, setMarksFields, readChange};
-ghost use Rattle.op.specs.Answers.{resOp, resEnd};
+ghost use Rattle.model_frame.specs.Reading.{setIncomingFields, setIncomingInFlightFields, setInFlightFields, recordMsgFields, recordBareFields, setCreatedAtFields, setMarksFields, readChange, changes};
+ghost use Rattle.op.specs.Answers.{resOp, resEnd, resRun};
 use scan::Byte;
 use scan::Cursor;
 use scan::Field;
 use scan::FrameError;
 use scan::Span;
 use scan::SpanAt;
+use scan::Word32;
 use scan::Word64;
 use stamp::Protocol;
 
@@ -41,6 +42,11 @@ pub enum End {
 pub struct Run {
     pub at: usize,
     pub count: u32,
+}
+
+pub enum RunAt {
+    Got(Run, Cursor),
+    Bad(FrameError),
 }
 
 fn set_next_incoming(buf: &[u8], c: Cursor) -> OpAt
@@ -146,4 +152,20 @@ pub fn ops_end(p: Protocol, buf: &[u8], c: Cursor, count: u32) -> End
         n -= 1;
     }
     End::At(d)
+}
+
+// A count of changes and the changes, as a run.
+pub fn ops_from(p: Protocol, buf: &[u8], c: Cursor) -> RunAt
+    ensures { λ r. ⌜ resRun (readChange (p .version)) (now (buf .entry)) r ≡ changes (p .version) (drop (c .at) (now (buf .entry))) ⌝ }
+{
+    let Word32::Got(count, d) = scan::count_from(buf, c, 1) else {
+        return RunAt::Bad(FrameError::Truncated);
+    };
+    match ops_end(p, buf, d, count) {
+        End::Bad(e) => RunAt::Bad(e),
+        End::At(end) => {
+            let at = d.at;
+            RunAt::Got(Run { at, count }, end)
+        }
+    }
 }

@@ -1,0 +1,42 @@
+use borrow.Author.Needs.{needs}
+use Rattle.model_frame.specs.Reading.{boundFields}
+use Rattle.frame.proofs.bound_from.Statement.{statement}
+use Rattle.frame.proofs.bound_from.Tie as tie
+
+returns : tie.Need-returns
+unfolding boundFields
+returns c =
+    let c1 = c .before .before in
+    λ v. rw (← (c1 .u32-from .ensures), c .enum-told .given .1)
+
+returns-2 : tie.Need-returns-2
+unfolding boundFields
+returns-2 c =
+    let c1 = c .before in
+    let c2 = c1 .before .before in
+    let c3 = c2 .before .before in
+    let c4 = c3 .before .before in
+    λ v. rw (← (c4 .u32-from .ensures), c3 .handle .given .1, ← (c2 .summary-from .ensures), c1 .e .given .1)
+
+returns-3 : tie.Need-returns-3
+unfolding boundFields
+returns-3 c =
+    let c1 = c .before in
+    let c2 = c1 .before .before in
+    let c3 = c2 .before .before in
+    let c4 = c3 .before .before in
+    λ v. rw (← (c4 .u32-from .ensures), c3 .handle .given .1, ← (c2 .summary-from .ensures), c1 .summary .given .1)
+
+pub bound-from-spec : {M : Type 1} → statement M
+bound-from-spec =
+    tie.close
+    (tie.spec
+    (λ c κs. search needs)
+    (λ c. search needs)
+    (λ c. search needs)
+    returns
+    (λ c κs. search needs)
+    (λ c. search needs)
+    (λ c. search needs)
+    returns-2
+    returns-3)

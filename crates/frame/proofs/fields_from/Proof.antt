@@ -1,0 +1,108 @@
+use borrow.Author.Needs.{needs}
+use Rattle.model_frame.specs.Reading.{fields}
+use borrow.Author.Tests.{ne-eqb}
+use Rattle.frame.proofs.fields_from.Statement.{statement}
+use Rattle.frame.proofs.fields_from.Tie as tie
+
+returns : tie.Need-returns
+unfolding fields
+returns c =
+    let c1 = c .before .before in
+    rw (← (c1 .u8-from .ensures), c .enum-told .given .1)
+
+returns-2 : tie.Need-returns-2
+unfolding fields
+returns-2 c =
+    let c1 = c .before in
+    let c2 = c1 .before .before in
+    let c3 = c2 .before .before in
+    rw (← (c3 .u8-from .ensures), c2 .k .given .1, c1 .match2 .keys1) (c .hello-from .ensures _)
+
+returns-3 : tie.Need-returns-3
+unfolding fields
+returns-3 c =
+    let c1 = c .before in
+    let c2 = c1 .before .before in
+    let c3 = c2 .before .before in
+    rw (← (c3 .u8-from .ensures), c2 .k .given .1, c1 .match2 .keys2) (c .welcome-from .ensures _)
+
+returns-4 : tie.Need-returns-4
+unfolding fields
+returns-4 c =
+    let c1 = c .before in
+    let c2 = c1 .before .before in
+    let c3 = c2 .before .before in
+    rw (← (c3 .u8-from .ensures), c2 .k .given .1, c1 .match2 .keys3) (c .bind-from .ensures _)
+
+returns-5 : tie.Need-returns-5
+unfolding fields
+returns-5 c =
+    let c1 = c .before in
+    let c2 = c1 .before .before in
+    let c3 = c2 .before .before in
+    rw (← (c3 .u8-from .ensures), c2 .k .given .1, c1 .match2 .keys4, ← (c .batch-from .ensures))
+
+returns-6 : tie.Need-returns-6
+unfolding fields
+returns-6 c =
+    let c1 = c .before in
+    let c2 = c1 .before .before in
+    let c3 = c2 .before .before in
+    rw (← (c3 .u8-from .ensures), c2 .k .given .1, c1 .match2 .keys5) (c .ack-from .ensures _)
+
+returns-7 : tie.Need-returns-7
+unfolding fields
+returns-7 c =
+    let c1 = c .before in
+    let c2 = c1 .before .before in
+    let c3 = c2 .before .before in
+    rw (← (c3 .u8-from .ensures), c2 .k .given .1, c1 .match2 .keys6) (c .nack-from .ensures _)
+
+returns-8 : tie.Need-returns-8
+unfolding fields
+returns-8 c =
+    let c1 = c .before in
+    let c2 = c1 .before .before in
+    let c3 = c2 .before .before in
+    rw (← (c3 .u8-from .ensures), c2 .k .given .1, c1 .match2 .keys7) (c .bound-from .ensures _)
+
+returns-9 : tie.Need-returns-9
+unfolding fields
+returns-9 c =
+    let c1 = c .before in
+    let c2 = c1 .before .before in
+    let c3 = c2 .before .before in
+    rw (← (c3 .u8-from .ensures), c2 .k .given .1, c1 .match2 .keys8) (c .checked-from .ensures _)
+
+returns-10 : tie.Need-returns-10
+unfolding fields
+returns-10 c =
+    let c1 = c .before .before in
+    let c2 = c1 .before .before in
+    rw (← (c2 .u8-from .ensures), c1 .k .given .1, ne-eqb _ _ (c .match2 .rest .0 .0 .0 .0 .0 .0 .0 .1), ne-eqb _ _ (c .match2 .rest .0 .0 .0 .0 .0 .0 .1), ne-eqb _ _ (c .match2 .rest .0 .0 .0 .0 .0 .1), ne-eqb _ _ (c .match2 .rest .0 .0 .0 .0 .1), ne-eqb _ _ (c .match2 .rest .0 .0 .0 .1), ne-eqb _ _ (c .match2 .rest .0 .0 .1), ne-eqb _ _ (c .match2 .rest .0 .1), ne-eqb _ _ (c .match2 .rest .1))
+
+pub fields-from-spec : {M : Type 1} → statement M
+fields-from-spec =
+    tie.close
+    (tie.spec
+    (λ c κs. search needs)
+    (λ c. search needs)
+    (λ c. search needs)
+    returns
+    (λ c κs. search needs)
+    (λ c κs. search needs)
+    (λ c κs. search needs)
+    (λ c κs. search needs)
+    (λ c κs. search needs)
+    (λ c κs. search needs)
+    (λ c κs. search needs)
+    (λ c κs. search needs)
+    returns-2
+    returns-3
+    returns-4
+    returns-5
+    returns-6
+    returns-7
+    returns-8
+    returns-9
+    returns-10)

@@ -1,0 +1,42 @@
+-- What the code's frames stand for, over the buffer b that they were read from: spans and runs as the bytes and items that they mark. Assumes nothing.
+use Prim.Native.Nat.{ℕ}
+use mathlib.Core.List.{List}
+use lib.ListN.{take, drop}
+use Rattle.model_frame.specs.Frame as the-frame
+use Rattle.model_frame.specs.Frame.{hello, welcome, bind, batch, ack, nack, bound, checked, more, faulty, got}
+use Rattle.model_frame.specs.Parse.{Res, ok, bad, num}
+use Rattle.model_frame.specs.Reading.{readChange, appRecord}
+use Rattle.scan.specs.Answers.{faultOf, spanOf}
+use Rattle.op.specs.Answers.{runOf}
+use Rattle.parts.specs.Answers.{partOf, reasonOf, keyOf, summaryOf}
+use Rattle.frame.specs.declared.Batch.{Batch}
+use Rattle.frame.specs.declared.Frame
+use Rattle.frame.specs.declared.Frame.{Frame}
+use Rattle.frame.specs.declared.FrameAt
+use Rattle.frame.specs.declared.FrameAt.{FrameAt}
+use Rattle.frame.specs.declared.Decoded
+use Rattle.frame.specs.declared.Decoded.{Decoded}
+
+abbrev pub batchOf : ℕ → List ℕ → Batch → the-frame.Frame
+batchOf version b x =
+    batch (x .handle) (x .epoch .0) (x .«commit_no» .0) (partOf (x .part)) (runOf (readChange version) b (x .ops)) (runOf appRecord b (x .«app_records»))
+
+abbrev pub frameOf : ℕ → List ℕ → Frame → the-frame.Frame
+frameOf version b (Frame.Hello v e node ks) = hello v (e .0) (spanOf b node) (runOf (num 2) b ks)
+frameOf version b (Frame.Welcome e i) = welcome (e .0) (i .0)
+frameOf version b (Frame.Bind h e lag k) = bind h (e .0) lag (keyOf b k)
+frameOf version b (Frame.Bound h m) = bound h (summaryOf b m)
+frameOf version b (Frame.Batch x) = batchOf version b x
+frameOf version b (Frame.Ack h n) = ack h (n .0)
+frameOf version b (Frame.Nack h r) = nack h (reasonOf r)
+frameOf version b (Frame.Checked h e i) = checked h (e .0) (i .0)
+
+abbrev pub resFrame : ℕ → List ℕ → FrameAt → Res the-frame.Frame
+resFrame version b (FrameAt.Got f c) = ok (frameOf version b f) (drop (c .at) b)
+resFrame version b (FrameAt.Bad e) = bad (faultOf e)
+
+-- a frame is read from the bytes it took
+abbrev pub readingOf : ℕ → List ℕ → Decoded → the-frame.Decoded
+readingOf version b (Decoded.Whole f n) = got (frameOf version (take n b) f) n
+readingOf version b Decoded.More = more
+readingOf version b (Decoded.Bad e) = faulty (faultOf e)

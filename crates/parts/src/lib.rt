@@ -1,0 +1,262 @@
+// The parts of frames that are more than a number: part and refusal bytes, kinds, application records, keys, summaries.
+ghost use mathlib.Core.Path.{_≡_};
+ghost use lib.ListN.{drop};
+ghost use Rattle.model_frame.specs.Parse.{num, many, forget};
+ghost use Rattle.model_frame.specs.Reading.{kinds, appRecord, appRecords, partByte, reason, key, flight, summary};
+ghost use Rattle.op.specs.Answers.{resEnd, resRun};
+ghost use Rattle.parts.specs.Answers.{resPart, resReason, resRecord, resSession, flightOf, resSummary};
+use op::End;
+use op::Run;
+use op::RunAt;
+use scan::Byte;
+use scan::Cursor;
+use scan::Field;
+use scan::FrameError;
+use scan::JudgedAt;
+use scan::Span;
+use scan::SpanAt;
+use scan::Value;
+use scan::Word16;
+use scan::Word32;
+use scan::Word64;
+use stamp::Protocol;
+
+// Whether a batch is one commit, or a part of a session sent whole.
+pub enum Part {
+    Commit,
+    Whole,
+    LastWhole,
+}
+
+pub enum PartAt {
+    Got(Part, Cursor),
+    Bad(FrameError),
+}
+
+// Why a standby refused.
+pub enum NackReason {
+    StaleEpoch,
+    Diverged,
+    Lag,
+    Restarted,
+}
+
+pub enum ReasonAt {
+    Got(NackReason, Cursor),
+    Bad(FrameError),
+}
+
+// An application's own record.
+#[repr(C)]
+pub struct AppRecord {
+    pub kind: u16,
+    pub bytes: Span,
+}
+
+pub enum AppRecordAt {
+    Got(AppRecord, Cursor),
+    Bad(FrameError),
+}
+
+// A session's key.
+#[repr(C)]
+pub struct SessionId {
+    pub begin_string: Span,
+    pub sender_comp_id: Span,
+    pub target_comp_id: Span,
+    pub key_suffix: Span,
+}
+
+pub enum SessionAt {
+    Got(SessionId, Cursor),
+    Bad(FrameError),
+}
+
+pub enum InFlight {
+    Seq(u64),
+    Nothing,
+}
+
+// A session's stored state, as far as an active and its standby compare it; an empty stamp is none.
+#[repr(C)]
+pub struct Summary {
+    pub next_outgoing: u64,
+    pub next_incoming: u64,
+    pub in_flight: InFlight,
+    pub created_at: Span,
+    pub marks: Span,
+    pub last_outgoing: u64,
+}
+
+pub enum SummaryAt {
+    Got(Summary, Cursor),
+    Bad(FrameError),
+}
+
+pub fn part_from(buf: &[u8], c: Cursor) -> PartAt
+    ensures { λ r. ⌜ resPart (now (buf .entry)) r ≡ partByte (drop (c .at) (now (buf .entry))) ⌝ }
+{
+    let Byte::Got(k, d) = scan::u8_from(buf, c) else {
+        return PartAt::Bad(FrameError::Truncated);
+    };
+    match k {
+        0 => PartAt::Got(Part::Commit, d),
+        1 => PartAt::Got(Part::Whole, d),
+        2 => PartAt::Got(Part::LastWhole, d),
+        _ => PartAt::Bad(FrameError::Unknown(Field::Part, k)),
+    }
+}
+
+pub fn reason_from(buf: &[u8], c: Cursor) -> ReasonAt
+    ensures { λ r. ⌜ resReason (now (buf .entry)) r ≡ reason (drop (c .at) (now (buf .entry))) ⌝ }
+{
+    let Byte::Got(k, d) = scan::u8_from(buf, c) else {
+        return ReasonAt::Bad(FrameError::Truncated);
+    };
+    match k {
+        1 => ReasonAt::Got(NackReason::StaleEpoch, d),
+        2 => ReasonAt::Got(NackReason::Diverged, d),
+        3 => ReasonAt::Got(NackReason::Lag, d),
+        4 => ReasonAt::Got(NackReason::Restarted, d),
+        _ => ReasonAt::Bad(FrameError::Unknown(Field::Refusal, k)),
+    }
+}
+
+// The kinds of application records: a kind is two bytes, so the count says where they end.
+pub fn kinds_from(buf: &[u8], c: Cursor) -> RunAt
+    ensures { λ r. ⌜ resRun (num 2) (now (buf .entry)) r ≡ kinds (drop (c .at) (now (buf .entry))) ⌝ }
+{
+    let Word32::Got(count, d) = scan::count_from(buf, c, 2) else {
+        return RunAt::Bad(FrameError::Truncated);
+    };
+    let at = d.at;
+    RunAt::Got(
+        Run { at, count },
+        Cursor {
+            at: at + (count as usize) * 2,
+        },
+    )
+}
+
+pub fn app_record_from(buf: &[u8], c: Cursor) -> AppRecordAt
+    ensures { λ r. ⌜ resRecord (now (buf .entry)) r ≡ appRecord (drop (c .at) (now (buf .entry))) ⌝ }
+{
+    let Word16::Got(kind, d) = scan::u16_from(buf, c) else {
+        return AppRecordAt::Bad(FrameError::Truncated);
+    };
+    match scan::blob_from(buf, d) {
+        SpanAt::Bad(e) => AppRecordAt::Bad(e),
+        SpanAt::Got(bytes, d) => AppRecordAt::Got(AppRecord { kind, bytes }, d),
+    }
+}
+
+// Where so many records end.
+pub fn app_records_end(buf: &[u8], c: Cursor, count: u32) -> End
+    ensures { λ r. ⌜ resEnd (now (buf .entry)) r ≡ forget (many count appRecord (drop (c .at) (now (buf .entry)))) ⌝ }
+{
+    let mut d = c;
+    let mut n = count;
+    while 0 < n {
+        match app_record_from(buf, d) {
+            AppRecordAt::Bad(e) => return End::Bad(e),
+            AppRecordAt::Got(_, next) => d = next,
+        }
+        n -= 1;
+    }
+    End::At(d)
+}
+
+pub fn app_records_from(buf: &[u8], c: Cursor) -> RunAt
+    ensures { λ r. ⌜ resRun appRecord (now (buf .entry)) r ≡ appRecords (drop (c .at) (now (buf .entry))) ⌝ }
+{
+    let Word32::Got(count, d) = scan::count_from(buf, c, 6) else {
+        return RunAt::Bad(FrameError::Truncated);
+    };
+    match app_records_end(buf, d, count) {
+        End::Bad(e) => RunAt::Bad(e),
+        End::At(end) => {
+            let at = d.at;
+            RunAt::Got(Run { at, count }, end)
+        }
+    }
+}
+
+// The four texts of a key, which is judged after all of them.
+pub fn session_from(buf: &[u8], c: Cursor) -> SessionAt
+    ensures { λ r. ⌜ resSession (now (buf .entry)) r ≡ key (drop (c .at) (now (buf .entry))) ⌝ }
+{
+    match scan::judged_from(buf, c, 1, 32) {
+        JudgedAt::Bad(e) => SessionAt::Bad(e),
+        JudgedAt::Got(begin_string, v, d) => match scan::judged_from(buf, d, 1, 32) {
+            JudgedAt::Bad(e) => SessionAt::Bad(e),
+            JudgedAt::Got(sender_comp_id, w, d) => match scan::judged_from(buf, d, 1, 32) {
+                JudgedAt::Bad(e) => SessionAt::Bad(e),
+                JudgedAt::Got(target_comp_id, x, d) => match scan::judged_from(buf, d, 0, 32) {
+                    JudgedAt::Bad(e) => SessionAt::Bad(e),
+                    JudgedAt::Got(key_suffix, y, d) => {
+                        if v & w & x & y {
+                            SessionAt::Got(
+                                SessionId {
+                                    begin_string,
+                                    sender_comp_id,
+                                    target_comp_id,
+                                    key_suffix,
+                                },
+                                d,
+                            )
+                        } else {
+                            SessionAt::Bad(FrameError::Invalid(Value::Session))
+                        }
+                    }
+                },
+            },
+        },
+    }
+}
+
+fn flight(n: u64) -> InFlight
+    ensures { λ r. ⌜ flightOf r ≡ flight n ⌝ }
+{
+    if n == 0 {
+        InFlight::Nothing
+    } else {
+        InFlight::Seq(n)
+    }
+}
+
+pub fn summary_from(p: Protocol, buf: &[u8], c: Cursor) -> SummaryAt
+    ensures { λ r. ⌜ resSummary (now (buf .entry)) r ≡ summary (p .version) (drop (c .at) (now (buf .entry))) ⌝ }
+{
+    let Word64::Got(next_outgoing, d) = scan::u64_from(buf, c) else {
+        return SummaryAt::Bad(FrameError::Truncated);
+    };
+    let Word64::Got(next_incoming, d) = scan::u64_from(buf, d) else {
+        return SummaryAt::Bad(FrameError::Truncated);
+    };
+    let Word64::Got(n, d) = scan::u64_from(buf, d) else {
+        return SummaryAt::Bad(FrameError::Truncated);
+    };
+    let in_flight = flight(n);
+    match scan::stamp_or_none_from(p, buf, d) {
+        SpanAt::Bad(e) => SummaryAt::Bad(e),
+        SpanAt::Got(created_at, d) => match scan::marks_from(buf, d) {
+            SpanAt::Bad(e) => SummaryAt::Bad(e),
+            SpanAt::Got(marks, d) => {
+                let Word64::Got(last_outgoing, d) = scan::u64_from(buf, d) else {
+                    return SummaryAt::Bad(FrameError::Truncated);
+                };
+                SummaryAt::Got(
+                    Summary {
+                        next_outgoing,
+                        next_incoming,
+                        in_flight,
+                        created_at,
+                        marks,
+                        last_outgoing,
+                    },
+                    d,
+                )
+            }
+        },
+    }
+}
