@@ -5,6 +5,7 @@ pub mod Copying
 pub mod Taking
 pub mod Demand3
 pub mod Ruling
+pub mod Apart
 pub mod Factoring
 pub mod Sanity
 pub mod Answering

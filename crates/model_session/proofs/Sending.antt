@@ -17,7 +17,7 @@ use Rattle.model_text.specs.Stamp.{isStamp, longestStamp}
 use Rattle.model_text.specs.Printable.{isMarks}
 use Rattle.model_text.proofs.Laws.{stamp-is, marks-is}
 use Rattle.model_session.specs.Session.{Session, Msg, storedBytes, hasSpace, evict, keep, apply, applyAll, fits, messageBytes, top, Rising, Holdable, isStampOrNone}
-use Rattle.model_session.specs.Whole.{joined, stampPart, skipTo, sendMsg, incomingPart, closing, stands, batchesFrom, wholeBatches}
+use Rattle.model_session.specs.Whole.{holdLength, joined, stampPart, skipTo, sendMsg, incomingPart, closing, stands, batchesFrom, wholeBatches}
 use Rattle.model_session.proofs.Basics.{T→true, and-true, leb-true, ltb-true, eqb-true, cond-true, cond-cases, snoc-append}
 
 -- ---- the changes in one list
@@ -244,7 +244,7 @@ bytes-end : (n : ℕ) (f : Option ℕ) (mr : List ℕ) → messageBytes (incomin
 bytes-end n none mr = refl
 bytes-end n (some f) mr = refl
 
-pub sizes-whole : (C M : ℕ) (a : Session) → Holdable C M a → sizes (wholeChanges a) ≤ C + 22 * M + 122
+pub sizes-whole : (C M : ℕ) (a : Session) → Holdable C M a → sizes (wholeChanges a) ≤ holdLength C M
 sizes-whole C M a h =
     omega (
       arith,
@@ -274,8 +274,8 @@ bytes-whole a =
     )
 
 -- (c) the encoded size of all changes
-pub whole-size : (limit C M : ℕ) (a : Session) → Holdable C M a → sizes (joined (wholeBatches limit a)) ≤ C + 22 * M + 122
-whole-size limit C M a h = subst (λ (l : List Change). sizes l ≤ C + 22 * M + 122) (sym (joined-whole limit a)) (sizes-whole C M a h)
+pub whole-size : (limit C M : ℕ) (a : Session) → Holdable C M a → sizes (joined (wholeBatches limit a)) ≤ holdLength C M
+whole-size limit C M a h = subst (λ (l : List Change). sizes l ≤ holdLength C M) (sym (joined-whole limit a)) (sizes-whole C M a h)
 
 each-bytes : (n : ℕ) (bs : List (List Change)) → messageBytes (joined bs) ≤ n → Each (λ b. messageBytes b ≤ n) bs
 each-bytes n [] h = tt
@@ -290,5 +290,5 @@ each-sizes n [] h = tt
 each-sizes n (b ∷ bs) h = (omega (arith, sizes-append b (joined bs)), each-sizes n bs (omega (arith, sizes-append b (joined bs))))
 
 -- (c) each batch's encoded changes
-pub batch-sizes : (limit C M : ℕ) (a : Session) → Holdable C M a → Each (λ b. sizes b ≤ C + 22 * M + 122) (wholeBatches limit a)
-batch-sizes limit C M a h = each-sizes (C + 22 * M + 122) (wholeBatches limit a) (whole-size limit C M a h)
+pub batch-sizes : (limit C M : ℕ) (a : Session) → Holdable C M a → Each (λ b. sizes b ≤ holdLength C M) (wholeBatches limit a)
+batch-sizes limit C M a h = each-sizes (holdLength C M) (wholeBatches limit a) (whole-size limit C M a h)
