@@ -5,21 +5,18 @@ use mathlib.Core.Path.{_≡_, refl, sym, ap, _∙_}
 use Prim.Native.Nat.{ℕ, zero, suc, _+_, _≤_, _<_}
 use native.Mathlib.Omega.{arith}
 use mathlib.Core.List.{List, [], _∷_, _++_, map}
-use mathlib.Core.Option.{Option, none, some, Option·map}
-use mathlib.Core.Bool.{Bool, true, false, cond, not, _&&_, _||_}
+use mathlib.Core.Option.{some, Option·map}
+use mathlib.Core.Bool.{Bool, true, false, cond, not, _||_}
 use lib.ListN.{length, length-append, getElem?}
 use lib.Dec.{ltb, eqb, ltb→lt, nltb→le}
-use Rattle.model_frame.specs.Frame.{Key, Change, Part, commit, whole, lastWhole, Frame, hello, welcome, bind, batch, ack, nack, bound, checked}
-use Rattle.model_frame.specs.Parse.{isEmpty}
-use Rattle.model_frame.specs.Writing.{sizes}
-use Rattle.model_session.specs.Session.{fits}
-use Rattle.model.specs.Answer.{protocolVersion, Given, damaged, intact, given, isReply}
-use Rattle.model.specs.Row.{find, hasRoom}
-use Rattle.model.specs.Store.{Stored, Place, sameKey, placeOf, isStored, onPlace, onPlaces, sessionAt, orNew, markDurable, newPlace, opened, changed, markAll, takenOver}
-use Rattle.model.specs.State.{Settings, incarnationOf, Bound, Standby, Result, Call, onFrameHeld, onFrame, flush, disconnectedFrom, promote, promoteUnchecked, atEpoch, noneHeld}
-use Rattle.model.specs.Standby.{withCounters, runPending, due, onHello, onBind, onChecked, follows, raised, maxWhole, startsWithReset, settle, hold, onPart, onHandle, onBatch, onIntact, onGiven, step, run}
+use Rattle.model_frame.specs.Frame.{Key, Change, Part, Frame, checked}
+use Rattle.model.specs.Answer.{Given, damaged, intact, given, isReply}
+use Rattle.model.specs.Store.{Stored, Place, sameKey, placeOf, isStored, onPlace, onPlaces, markDurable, newPlace, opened, changed, markAll, takenOver}
+use Rattle.model.specs.State.{Settings, Standby, Result, Call, onFrameHeld, onFrame, flush, disconnectedFrom, promote, promoteUnchecked}
+use Rattle.model.specs.Standby.{runPending, due, onGiven, step, run}
 use Rattle.model.specs.PlainCopy.{OwnKey, earlier, ownKey}
 use Rattle.model_session.proofs.Basics.{eqb-sound, and-true, true→T, false→notT, cond-cases, none≢some, some-inj}
+use Rattle.model.proofs.Outcomes.{Batches, refuses, clears, raises, holds, applies, diverges, Does, turns, tells, nacks, greets, binds, checks, batches, does}
 use Rattle.model.proofs.Places.{keyAt, at-append, place-low, key-there, earlier-none, own-parts, own-made, earlier-append, bind-is, key-self}
 
 -- no place has an earlier one with its key
@@ -103,54 +100,29 @@ apart-pending : (w : Bool) (s : Standby) → Apart (s .places) → Apart (runPen
 apart-pending true s a = apart-same (s .places) (markAll (s .pending) (s .places)) (keys-mark (s .pending) (s .places)) a
 apart-pending false s a = a
 
+batch-keeps : {L : Settings} {s : Standby} {h n : ℕ} {p : Part} {cs : List Change} {r : Result} → Batches L s h n p cs r → Apart (s .places) → Keeps r
+batch-keeps (refuses t) a = a
+batch-keeps (clears f) a = a
+batch-keeps (raises f t) a = a
+batch-keeps (holds f q t) a = a
+batch-keeps {L} {s} (applies {b₁ = b} {all = cs} f g t) a =
+    apart-same (s .places) (onPlace (b .place) (changed (L .C) (L .M) cs) (s .places)) (keys-on (b .place) (changed (L .C) (L .M) cs) (s .places)) a
+batch-keeps (diverges f g) a = a
+
+does-keeps : {L : Settings} {s : Standby} {f : Frame} {r : Result} → Does L s f r → Apart (s .places) → Keeps r
+does-keeps (turns t) a = a
+does-keeps tells a = a
+does-keeps (nacks q) a = a
+does-keeps (greets le) a = a
+does-keeps {s} (binds {k} le p q) a = apart-open k (s .places) a
+does-keeps (checks le) a = a
+does-keeps (batches le d) a = batch-keeps d a
+
 module _ (L : Settings) where
-  settle-keeps : (s : Standby) (h : ℕ) (b : Bound) (n : ℕ) (cs : List Change) → Apart (s .places) → Keeps (settle L s h b n cs)
-  unfolding settle
-  settle-keeps s h b n cs a =
-      cond-cases Keeps (fits (orNew (sessionAt (s .places) (b .place)) .nextOut) cs)
-      (λ _. apart-same (s .places) (onPlace (b .place) (changed (L .C) (L .M) cs) (s .places)) (keys-on (b .place) (changed (L .C) (L .M) cs) (s .places)) a) (λ _. a)
-
-  hold-keeps : (s : Standby) (h : ℕ) (b : Bound) (cs : List Change) (go : Result) → Apart (s .places) → Keeps go → Keeps (hold L s h b cs go)
-  unfolding hold
-  hold-keeps s h b cs go a g =
-      cond-cases Keeps (isEmpty (b .held) && not (startsWithReset cs)) (λ _. a)
-      (λ _. cond-cases Keeps (ltb maxWhole (raised b cs)) (λ _. a) (λ _. cond-cases Keeps (ltb (L .room) (sizes (b .held ++ cs))) (λ _. a) (λ _. g)))
-
-  part-keeps : (s : Standby) (h : ℕ) (b : Bound) (n : ℕ) (x : Part) (cs : List Change) → Apart (s .places) → Keeps (onPart L s h b n x cs)
-  unfolding onPart
-  part-keeps s h b n commit cs a = cond-cases Keeps (not (isEmpty (b .held))) (λ _. a) (λ _. settle-keeps s h b n cs a)
-  part-keeps s h b n whole cs a = hold-keeps s h b cs _ a a
-  part-keeps s h b n lastWhole cs a = hold-keeps s h b cs _ a (settle-keeps s h (noneHeld b) n (b .held ++ cs) a)
-
-  handle-keeps : (s : Standby) (h : ℕ) (o : Option Bound) (n : ℕ) (x : Part) (cs : List Change) → Apart (s .places) → Keeps (onHandle L s h o n x cs)
-  unfolding onHandle
-  handle-keeps s h none n x cs a = a
-  handle-keeps s h (some b) n x cs a = cond-cases Keeps (follows b n) (λ _. part-keeps s h b n x cs a) (λ _. a)
-
-  intact-keeps : (s : Standby) (f : Frame) → Apart (s .places) → Keeps (onIntact L s f)
-  unfolding onHello onBind onChecked onBatch
-  intact-keeps s (hello v e node kinds) a =
-      cond-cases Keeps (not (eqb v protocolVersion)) (λ _. a)
-      (λ _. cond-cases Keeps (not (isEmpty kinds)) (λ _. a) (λ _. cond-cases Keeps (ltb e (s .counters .epoch)) (λ _. a) (λ _. a)))
-  intact-keeps s (welcome e i) a = a
-  intact-keeps s (bind h e lag k) a =
-      cond-cases Keeps (ltb e (s .counters .epoch)) (λ _. a)
-      (λ _. cond-cases Keeps (ltb (L .lag) lag) (λ _. a)
-      (λ _. cond-cases Keeps (not (isStored k (s .places) || ltb (length (s .places)) (L .S))) (λ _. a)
-      (λ _. cond-cases Keeps (not (hasRoom h (s .handles))) (λ _. a) (λ _. apart-open k (s .places) a))))
-  intact-keeps s (batch h e n x cs apps) a =
-      cond-cases Keeps (not (isEmpty apps)) (λ _. a)
-      (λ _. cond-cases Keeps (ltb e (s .counters .epoch)) (λ _. a) (λ _. handle-keeps (withCounters s (atEpoch e (s .counters))) h (find h (s .handles)) n x cs a))
-  intact-keeps s (ack h n) a = a
-  intact-keeps s (nack h r) a = a
-  intact-keeps s (bound h m) a = a
-  intact-keeps s (checked h e i) a =
-      cond-cases Keeps (ltb e (s .counters .epoch)) (λ _. a) (λ _. cond-cases Keeps (not (eqb i (incarnationOf L))) (λ _. a) (λ _. a))
-
   given-keeps : (s : Standby) (g : Given) → Apart (s .places) → Keeps (onGiven L s g)
   unfolding onGiven
   given-keeps s (damaged n) a = a
-  given-keeps s (intact f) a = cond-cases Keeps (s .counters .promoted) (λ _. a) (λ _. intact-keeps (runPending (due (s .pending) f) s) f (apart-pending (due (s .pending) f) s a))
+  given-keeps s (intact f) a = cond-cases Keeps (s .counters .promoted) (λ _. a) (λ _. does-keeps (does L (runPending (due (s .pending) f) s) f) (apart-pending (due (s .pending) f) s a))
 
   apart-promoted : (ps : List Place) → Apart ps → Apart (onPlaces (takenOver (L .lag)) ps)
   apart-promoted ps a = apart-same ps (onPlaces (takenOver (L .lag)) ps) (keys-places (takenOver (L .lag)) ps) a

@@ -1,6 +1,7 @@
 -- Demand 3 and the laws of the standby.
 pub mod Rows
 pub mod Places
+pub mod Outcomes
 pub mod Copying
 pub mod Taking
 pub mod Demand3

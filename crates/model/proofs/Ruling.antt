@@ -5,16 +5,16 @@ use Prim.Native.Nat.{ℕ, zero, suc, _+_, _-_, _≤_, _<_, min}
 use native.Mathlib.Omega.{arith}
 use native.Mathlib.Nat.{le-trans, le-refl, le-of-eq}
 use mathlib.Core.List.{List, [], _∷_, _++_}
-use mathlib.Core.Option.{Option, none, some, Option·map}
+use mathlib.Core.Option.{Option, some, Option·map}
 use mathlib.Core.Bool.{Bool, true, false, cond, not, _&&_, _||_}
 use mathlib.Core.Logic.{_⊎_, inl, inr}
 use lib.ListN.{length, length-append, getD, take, length-take, getElem?}
-use lib.Dec.{T, ltb, leb, eqb, leb→le, nleb→lt, ltb→lt, nltb→le}
+use lib.Dec.{T, ltb, leb, eqb, nleb→lt, ltb→lt}
 use Rattle.model_text.specs.Printable.{isPlain, allPlain, isPrintable, isMarks}
 use Rattle.model_text.specs.Stamp.{isStamp, takesStamp}
 use Rattle.model_text.specs.Utf8.{utf8}
 use Rattle.model_text.proofs.Laws.{marks-is, takes-keeps}
-use Rattle.model_frame.specs.Frame.{Key, Change, setIncoming, setIncomingInFlight, setInFlight, recordMsg, recordBare, reset, setCreatedAt, setMarks, Part, commit, whole, lastWhole, AppRecord, Frame, hello, welcome, bind, batch, ack, nack, bound, checked, Decoded, more, faulty, got}
+use Rattle.model_frame.specs.Frame.{Key, Change, setIncoming, setIncomingInFlight, setInFlight, recordMsg, recordBare, reset, setCreatedAt, setMarks, Part, Frame, hello, welcome, bind, batch, ack, nack, bound, checked, Decoded, more, faulty, got}
 use Rattle.model_frame.specs.Parse.{isEmpty, Each}
 use Rattle.model_frame.specs.Reading.{decode, maxBody}
 use Rattle.model_frame.specs.Writing.{sizes, fine, fineChange, allFine, Ranged, RangedChange, ByteChange, ByteFrame}
@@ -25,11 +25,12 @@ use Rattle.model_session.proofs.Basics.{T→true, true→T, and-l, and-r, and-t
 use Rattle.model_session.proofs.Sending.{messageBytes-append}
 use Rattle.model_session.proofs.Keeping.{apply-all-keeps, rising-up, new-holdable}
 use Rattle.model.specs.Answer.{protocolVersion, Given, damaged, intact, judged, given, isReply}
-use Rattle.model.specs.Row.{Row, find, hasRoom, put}
+use Rattle.model.specs.Row.{Row, find, put}
 use Rattle.model.specs.Store.{Stored, Place, placeOf, isStored, onPlace, sessionAt, orNew, newPlace, opened, changed, withB, takenOver}
-use Rattle.model.specs.State.{Settings, incarnationOf, Bound, Standby, Result, Call, onFrameHeld, onFrame, flush, disconnectedFrom, promote, promoteUnchecked, newStandby, atEpoch, newBound, noneHeld, numbered}
-use Rattle.model.specs.Standby.{withCounters, withHandle, unbound, runPending, due, pendsOn, onHello, bindTo, onBind, onChecked, heldSum, raised, maxWhole, startsWithReset, summed, holding, applied, settle, hold, onPart, follows, onHandle, onBatch, onIntact, onGiven, promotion, step, run}
+use Rattle.model.specs.State.{Settings, Bound, Standby, Result, Call, onFrameHeld, onFrame, flush, disconnectedFrom, promote, promoteUnchecked, newStandby, atEpoch, newBound, noneHeld, numbered}
+use Rattle.model.specs.Standby.{withCounters, withHandle, unbound, runPending, due, pendsOn, bindTo, heldSum, raised, maxWhole, startsWithReset, summed, holding, applied, onGiven, promotion, step, run}
 use Rattle.model.specs.Rules.{OkCall, changesOf, Readable, BoundValid, BoundUsual, Rules, Valid, Usual}
+use Rattle.model.proofs.Outcomes.{Gathers, ofCommit, ofLast, Batches, refuses, clears, raises, holds, applies, diverges, Does, turns, tells, nacks, greets, binds, checks, batches, does}
 use Rattle.model.proofs.Rows.{find-freed, find-none, find-put-cases}
 use Rattle.model.proofs.Places.{place-low, length-on, pending-length, length-places, each-at, each-on, each-places, each-mark}
 use Rattle.model.proofs.Taking.{starts-append}
@@ -155,75 +156,34 @@ module _ (L : Settings) (Also : Bound → Type 0) (closed : Closed Also) where
   abbrev Keeps : Result → Type 0
   Keeps x = Rules L Also (x .state)
 
-  keeps-settle : (s : Standby) (h : ℕ) (b : Bound) (n : ℕ) (cs : List Change) → suc (length (s .pending)) ≤ 64 → n ≤ top → Each Storable cs → Fine (length (s .places)) b → Rules L Also s → Keeps (settle L s h b n cs)
-  unfolding settle
-  keeps-settle s h b n cs few hn o fine r =
-      cond-cases Keeps (fits (orNew (sessionAt (s .places) (b .place)) .nextOut) cs)
-      (λ t. rules-applied s h b n cs few hn o fine (T→true (fits (orNew (sessionAt (s .places) (b .place)) .nextOut) cs) t) r)
-      (λ _. rules-set s h b fine r)
+  -- ---- a Batch
 
-  -- ---- a Whole or LastWhole
+  gather-fine : {p : Part} {b b₁ : Bound} {cs all : List Change} (n : ℕ) → Gathers L p b cs b₁ all → Fine n b → Each Storable cs → Fine n b₁ × Each Storable all
+  gather-fine n (ofCommit e) o oc = (o, oc)
+  gather-fine n (ofLast {b} {cs} q) o oc = (none-fine n b o, each-append Storable (b .held) cs (o .0 .held-ok) oc)
 
-  keeps-hold : (s : Standby) (h : ℕ) (b : Bound) (cs : List Change) (go : Result) → messageBytes cs ≤ maxBody → Fine (length (s .places)) b → Rules L Also s
-      → (T (not (isEmpty (b .held) && not (startsWithReset cs))) → raised b cs ≤ maxWhole → sizes (b .held ++ cs) ≤ L .room → Keeps go) → Keeps (hold L s h b cs go)
-  unfolding hold
-  keeps-hold s h b cs go small o r k =
-      cond-cases Keeps (isEmpty (b .held) && not (startsWithReset cs)) (λ _. r)
-      (λ t₁. cond-cases Keeps (ltb maxWhole (raised b cs))
-      (λ t. rules-set s h (summed b cs) (
+  keeps-batch : {s : Standby} {h n : ℕ} {p : Part} {cs : List Change} {r : Result} → Batches L s h n p cs r → suc (length (s .pending)) ≤ 64 → n ≤ top → Each Storable cs → messageBytes cs ≤ maxBody
+      → Rules L Also s → Keeps r
+  keeps-batch (refuses t) few hn oc small r = r
+  keeps-batch {s} {h} (clears {b} f) few hn oc small r = rules-set s h (noneHeld b) (none-fine (length (s .places)) b (all-fine s r h b f)) r
+  keeps-batch {s} {h} {cs} (raises {b} f t) few hn oc small r =
+      let o = all-fine s r h b f in
+      rules-set s h (summed b cs) (
         record { place-there = o .0 .place-there; number-u64 = o .0 .number-u64; bytes-u64 = omega arith; held-small = o .0 .held-small; held-ok = o .0 .held-ok },
-        closed .raises b cs small (leb→le (suc maxWhole) (raised b cs) t) (o .1),
-      ) r)
-      (λ t₂. cond-cases Keeps (ltb (L .room) (sizes (b .held ++ cs))) (λ _. r)
-      (λ t₃. k t₁ (nltb→le maxWhole (raised b cs) t₂) (nltb→le (L .room) (sizes (b .held ++ cs)) t₃))))
+        closed .raises b cs small t (o .1),
+      ) r
+  keeps-batch {s} {h} {n} {cs} (holds {b} f e q) few hn oc small r =
+      let o = all-fine s r h b f in
+      rules-set s h (holding b n cs) (
+        record { place-there = o .0 .place-there; number-u64 = hn; bytes-u64 = omega arith; held-small = q .small; held-ok = each-append Storable (b .held) cs (o .0 .held-ok) oc },
+        closed .takes b n cs (q .begins) (q .few) (o .1),
+      ) r
+  keeps-batch {s} {h} {n} (applies {b} {b₁} {all} f g t) few hn oc small r =
+      let o = gather-fine (length (s .places)) g (all-fine s r h b f) oc in
+      rules-applied s h b₁ n all few hn (o .1) (o .0) t r
+  keeps-batch {s} {h} (diverges {b} {b₁} f g) few hn oc small r = rules-set s h b₁ (gather-fine (length (s .places)) g (all-fine s r h b f) oc .0) r
 
-  keeps-part : (s : Standby) (h : ℕ) (b : Bound) (n : ℕ) (p : Part) (cs : List Change) → suc (length (s .pending)) ≤ 64 → n ≤ top → Each Storable cs → messageBytes cs ≤ maxBody
-      → Fine (length (s .places)) b → Rules L Also s → Keeps (onPart L s h b n p cs)
-  unfolding onPart
-  keeps-part s h b n commit cs few hn oc small o r = cond-cases Keeps (not (isEmpty (b .held))) (λ _. r) (λ _. keeps-settle s h b n cs few hn oc o r)
-  keeps-part s h b n whole cs few hn oc small o r =
-      keeps-hold s h b cs _ small o r
-      (λ begins le room. rules-set s h (holding b n cs) (
-        record { place-there = o .0 .place-there; number-u64 = hn; bytes-u64 = omega arith; held-small = room; held-ok = each-append Storable (b .held) cs (o .0 .held-ok) oc },
-        closed .takes b n cs begins le (o .1),
-      ) r)
-  keeps-part s h b n lastWhole cs few hn oc small o r =
-      keeps-hold s h b cs _ small o r
-      (λ _ _ _. keeps-settle s h (noneHeld b) n (b .held ++ cs) few hn (each-append Storable (b .held) cs (o .0 .held-ok) oc) (none-fine (length (s .places)) b o) r)
-
-  keeps-handle : (s : Standby) (h : ℕ) (o : Option Bound) (n : ℕ) (p : Part) (cs : List Change) → suc (length (s .pending)) ≤ 64 → n ≤ top → Each Storable cs → messageBytes cs ≤ maxBody
-      → find h (s .handles) ≡ o → Rules L Also s → Keeps (onHandle L s h o n p cs)
-  unfolding onHandle
-  keeps-handle s h none n p cs few hn oc small f r = r
-  keeps-handle s h (some b) n p cs few hn oc small f r =
-      cond-cases Keeps (follows b n) (λ _. keeps-part s h b n p cs few hn oc small (all-fine s r h b f) r)
-      (λ _. rules-set s h (noneHeld b) (none-fine (length (s .places)) b (all-fine s r h b f)) r)
-
-  keeps-batch : (s : Standby) (h e n : ℕ) (p : Part) (cs : List Change) (apps : List AppRecord) → suc (length (s .pending)) ≤ 64 → Readable (batch h e n p cs apps) → Rules L Also s → Keeps (onBatch L s h e n p cs apps)
-  unfolding onBatch
-  keeps-batch s h e n p cs apps few o r =
-      cond-cases Keeps (not (isEmpty apps)) (λ _. r)
-      (λ _. cond-cases Keeps (ltb e (s .counters .epoch)) (λ _. r)
-      (λ _. keeps-handle (withCounters s (atEpoch e (s .counters))) h (find h (s .handles)) n p cs few (omega (arith, o .writable .ranged .2)) (o .storable)
-      (omega (arith, bytes-in-size cs, o .writable .short, body-size (batch h e n p cs apps))) refl (rules-epoch s e (omega (arith, o .writable .ranged .1)) r)))
-
-  -- ---- the other frames
-
-  keeps-hello : (s : Standby) (v e : ℕ) (kinds : List ℕ) → e ≤ top → Rules L Also s → Keeps (onHello L s v e kinds)
-  unfolding onHello
-  keeps-hello s v e kinds he r =
-      cond-cases Keeps (not (eqb v protocolVersion)) (λ _. r)
-      (λ _. cond-cases Keeps (not (isEmpty kinds)) (λ _. r)
-      (λ _. cond-cases Keeps (ltb e (s .counters .epoch)) (λ _. r)
-      (λ _. let u = rules-unbound s r in
-      record { epoch-u64 = he; connections-u64 = omega arith; places-few = u .places-few; sessions-ok = u .sessions-ok; handles-ok = u .handles-ok; handles-also = u .handles-also; pending-few = u .pending-few })))
-
-  keeps-checked : (s : Standby) (h e i : ℕ) → e ≤ top → Rules L Also s → Keeps (onChecked L s h e i)
-  unfolding onChecked
-  keeps-checked s h e i he r =
-      cond-cases Keeps (ltb e (s .counters .epoch)) (λ _. r)
-      (λ _. cond-cases Keeps (not (eqb i (incarnationOf L))) (λ _. r)
-      (λ _. record { epoch-u64 = he; connections-u64 = r .connections-u64; places-few = r .places-few; sessions-ok = r .sessions-ok; handles-ok = r .handles-ok; handles-also = r .handles-also; pending-few = r .pending-few }))
+  -- ---- a Bind
 
   open-length : (j : Key) (ps : List Place) → length ps ≤ length (opened j ps)
   open-length j ps = cond-cases (λ (l : List Place). length ps ≤ length l) (isStored j ps) (λ _. le-refl (length ps)) (λ _. omega (arith, length-append ps (newPlace j ∷ [])))
@@ -264,17 +224,32 @@ module _ (L : Settings) (Also : Bound → Type 0) (closed : Closed Also) where
           (record { place-there = open-there j (s .places); number-u64 = omega arith; bytes-u64 = omega arith; held-small = omega arith; held-ok = tt }, closed .binds (placeOf j (s .places)))
       one x y (inr z) = (grown (length (s .places)) (length (opened j (s .places))) y (open-length j (s .places)) (r .handles-ok x y z), r .handles-also x y z)
 
-  keeps-bind : (s : Standby) (h e lag : ℕ) (j : Key) → Rules L Also s → Keeps (onBind L s h e lag j)
-  unfolding onBind
-  keeps-bind s h e lag j r =
-      cond-cases Keeps (ltb e (s .counters .epoch)) (λ _. r)
-      (λ _. cond-cases Keeps (ltb (L .lag) lag) (λ _. r)
-      (λ _. cond-cases Keeps (not (isStored j (s .places) || ltb (length (s .places)) (L .S))) (λ _. r)
-      (λ t. cond-cases Keeps (not (hasRoom h (s .handles))) (λ _. r) (λ _. rules-bind s h j (not-not (isStored j (s .places) || ltb (length (s .places)) (L .S)) t) r))))
-    where
-      not-not : (b : Bool) → T (not (not b)) → b ≡ true
-      not-not true u = refl
-      not-not false u = absurd u
+  -- ---- every frame
+
+  -- fewer than 64 commits are pending before a Batch
+  abbrev Room : Standby → Frame → Type 0
+  Room s (hello v e node kinds) = Unit {0}
+  Room s (welcome e i) = Unit {0}
+  Room s (bind h e lag k) = Unit {0}
+  Room s (batch h e n p cs apps) = suc (length (s .pending)) ≤ 64
+  Room s (ack h n) = Unit {0}
+  Room s (nack h r) = Unit {0}
+  Room s (bound h m) = Unit {0}
+  Room s (checked h e i) = Unit {0}
+
+  keeps : {s : Standby} {f : Frame} {r : Result} → Does L s f r → Room s f → Readable f → Rules L Also s → Keeps r
+  keeps (turns t) room o r = r
+  keeps tells room o r = r
+  keeps (nacks q) room o r = r
+  keeps {s} (greets le) room o r =
+      let u = rules-unbound s r in
+      record { epoch-u64 = omega (arith, o .writable .ranged .1); connections-u64 = omega arith; places-few = u .places-few; sessions-ok = u .sessions-ok; handles-ok = u .handles-ok; handles-also = u .handles-also; pending-few = u .pending-few }
+  keeps {s} (binds {h} {k} le p q) room o r = rules-bind s h k p r
+  keeps (checks le) room o r =
+      record { epoch-u64 = omega (arith, o .writable .ranged .1); connections-u64 = r .connections-u64; places-few = r .places-few; sessions-ok = r .sessions-ok; handles-ok = r .handles-ok; handles-also = r .handles-also; pending-few = r .pending-few }
+  keeps {s} (batches {h} {e} {n} {p} {cs} {apps} le d) room o r =
+      keeps-batch d room (omega (arith, o .writable .ranged .2)) (o .storable) (omega (arith, bytes-in-size cs, o .writable .short, body-size (batch h e n p cs apps)))
+      (rules-epoch s e (omega (arith, o .writable .ranged .1)) r)
 
   -- before a Batch fewer than 64 commits are pending
   few-due : (s : Standby) (h : ℕ) (w : Bool) → (leb 64 (length (s .pending)) || pendsOn h (s .pending)) ≡ w → suc (length (runPending w s .pending)) ≤ 64
@@ -285,21 +260,20 @@ module _ (L : Settings) (Also : Bound → Type 0) (closed : Closed Also) where
       go true b q = absurd (true≢false q)
       go false b q = tt
 
-  keeps-intact : (s : Standby) (f : Frame) → Readable f → Rules L Also s → Keeps (onIntact L (runPending (due (s .pending) f) s) f)
-  keeps-intact s (hello v e node kinds) o r = keeps-hello (runPending (due (s .pending) (hello v e node kinds)) s) v e kinds (omega (arith, o .writable .ranged .1)) (rules-pending (due (s .pending) (hello v e node kinds)) s r)
-  keeps-intact s (welcome e i) o r = rules-pending (due (s .pending) (welcome e i)) s r
-  keeps-intact s (bind h e lag k) o r = keeps-bind (runPending (due (s .pending) (bind h e lag k)) s) h e lag k (rules-pending (due (s .pending) (bind h e lag k)) s r)
-  keeps-intact s (batch h e n p cs apps) o r =
-      keeps-batch (runPending (due (s .pending) (batch h e n p cs apps)) s) h e n p cs apps (few-due s h (due (s .pending) (batch h e n p cs apps)) refl) o (rules-pending (due (s .pending) (batch h e n p cs apps)) s r)
-  keeps-intact s (ack h n) o r = rules-pending (due (s .pending) (ack h n)) s r
-  keeps-intact s (nack h x) o r = rules-pending (due (s .pending) (nack h x)) s r
-  keeps-intact s (bound h m) o r = rules-pending (due (s .pending) (bound h m)) s r
-  keeps-intact s (checked h e i) o r = keeps-checked (runPending (due (s .pending) (checked h e i)) s) h e i (omega (arith, o .writable .ranged .1)) (rules-pending (due (s .pending) (checked h e i)) s r)
+  room-due : (s : Standby) (f : Frame) → Room (runPending (due (s .pending) f) s) f
+  room-due s (hello v e node kinds) = tt
+  room-due s (welcome e i) = tt
+  room-due s (bind h e lag k) = tt
+  room-due s (batch h e n p cs apps) = few-due s h (due (s .pending) (batch h e n p cs apps)) refl
+  room-due s (ack h n) = tt
+  room-due s (nack h r) = tt
+  room-due s (bound h m) = tt
+  room-due s (checked h e i) = tt
 
   keeps-given : (s : Standby) (g : Given) → Passed g → Rules L Also s → Keeps (onGiven L s g)
   unfolding onGiven
   keeps-given s (damaged n) o r = r
-  keeps-given s (intact f) o r = cond-cases Keeps (s .counters .promoted) (λ _. r) (λ _. keeps-intact s f o r)
+  keeps-given s (intact f) o r = cond-cases Keeps (s .counters .promoted) (λ _. r) (λ _. keeps (does L (runPending (due (s .pending) f) s) f) (room-due s f) o (rules-pending (due (s .pending) f) s r))
 
   -- ---- promotion
 
