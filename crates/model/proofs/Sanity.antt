@@ -1,15 +1,17 @@
--- What any reader expects of a standby: the epoch never falls, damaged frames and promoted standbys leave all as it was.
+-- What any reader expects of a standby: the epoch never falls; damaged frames, those of lower epochs, and promoted standbys leave
+-- all as it was.
 -- Assumes nothing.
 use mathlib.Core.Path.{_≡_, refl, sym, ap, subst, _∙_}
 use Prim.Native.Nat.{ℕ, _≤_}
 use native.Mathlib.Nat.{le-trans, le-refl}
+use native.Mathlib.Omega.{arith}
 use mathlib.Core.List.{List, [], _∷_}
 use mathlib.Core.Option.{none}
 use mathlib.Core.Bool.{Bool, true, false, not, _||_}
-use lib.Dec.{eqb}
+use lib.Dec.{T, eqb, ltb→lt}
 use Rattle.model_frame.specs.Frame.{Change, Part, Frame, checked}
-use Rattle.model_session.proofs.Basics.{cond-cases, cond-true, true≢false}
-use Rattle.model.specs.Answer.{Given, damaged, intact, given, isReply}
+use Rattle.model_session.proofs.Basics.{cond-cases, cond-true, cond-false, true≢false}
+use Rattle.model.specs.Answer.{Given, damaged, intact, given, lower, isReply}
 use Rattle.model.specs.Row.{find}
 use Rattle.model.specs.State.{Settings, Counters, Standby, Result, Call, onFrameHeld, onFrame, flush, disconnectedFrom, promote, promoteUnchecked}
 use Rattle.model.specs.Standby.{runPending, due, refuse, flushed, onGiven, step, run}
@@ -39,6 +41,16 @@ since (greets le) = (le, refl)
 since {s} (binds le p q) = (le-refl (s .counters .epoch), refl)
 since (checks le) = (le, refl)
 since {s} (batches le d) = (subst (λ (c : Counters). s .counters .epoch ≤ c .epoch) (sym (batch-counters d)) le, ap (λ (c : Counters). c .promoted) (batch-counters d))
+
+-- what changes the state is at the standby's epoch at least
+lower-leaves : {L : Settings} {s : Standby} {f : Frame} {r : Result} → Does L s f r → T (lower (s .counters .epoch) f) → r .state ≡ s
+lower-leaves (turns t) u = refl
+lower-leaves tells u = refl
+lower-leaves (nacks q) u = refl
+lower-leaves {s} (greets {e} h) u = absurd (omega (arith, ltb→lt e (s .counters .epoch) u))
+lower-leaves {s} (binds {e} h p q) u = absurd (omega (arith, ltb→lt e (s .counters .epoch) u))
+lower-leaves {s} (checks {e} h) u = absurd (omega (arith, ltb→lt e (s .counters .epoch) u))
+lower-leaves {s} (batches {e} h d) u = absurd (omega (arith, ltb→lt e (s .counters .epoch) u))
 
 module _ (L : Settings) where
   given-since : (s : Standby) (g : Given) → Since s (onGiven L s g .state)
@@ -72,6 +84,11 @@ module _ (L : Settings) where
   pub damaged-frame : (s : Standby) (w : List ℕ) (n : ℕ) → given w ≡ damaged n → step L s (onFrame w) ≡ refuse s n
   unfolding step onGiven
   damaged-frame s w n p = ap (λ (g : Given). flushed (onGiven L s g)) p
+
+  -- a frame of a lower epoch: at most, due commits run
+  pub lower-frame : (s : Standby) (f : Frame) → s .counters .promoted ≡ false → T (lower (s .counters .epoch) f) → onGiven L s (intact f) .state ≡ runPending (due (s .pending) f) s
+  unfolding onGiven
+  lower-frame s f p t = ap (λ (r : Result). r .state) (cond-false _ _ p) ∙ lower-leaves (does L (runPending (due (s .pending) f) s) f) t
 
   -- any frame after promotion
   promoted-given : (s : Standby) (g : Given) → s .counters .promoted ≡ true → (n : ℕ) × (onGiven L s g ≡ refuse s n)
