@@ -1,13 +1,12 @@
 -- Every call keeps the rules of the state, refused calls too: those of any content, and those of what a new standby reaches.
 -- Assumes nothing.
-use mathlib.Core.Path.{_≡_, refl, sym, ap, subst, _∙_}
+use mathlib.Core.Path.{_≡_, refl, sym, ap, _∙_}
 use Prim.Native.Nat.{ℕ, zero, suc, _+_, _-_, _≤_, _<_, min}
 use native.Mathlib.Omega.{arith}
 use native.Mathlib.Nat.{le-trans, le-refl, le-of-eq}
 use mathlib.Core.List.{List, [], _∷_, _++_}
 use mathlib.Core.Option.{Option, some, Option·map}
 use mathlib.Core.Bool.{Bool, true, false, cond, not, _&&_, _||_}
-use mathlib.Core.Logic.{_⊎_, inl, inr}
 use lib.ListN.{length, length-append, getD, take, length-take, getElem?}
 use lib.Dec.{T, ltb, leb, eqb, nleb→lt, ltb→lt}
 use Rattle.model_text.specs.Printable.{isPlain, allPlain, isPrintable, isMarks}
@@ -21,17 +20,17 @@ use Rattle.model_frame.specs.Writing.{sizes, fine, fineChange, allFine, Ranged,
 use Rattle.model_frame.proofs.Sizes.{body-size}
 use Rattle.model_frame.proofs.Sound.{decode-sound}
 use Rattle.model_session.specs.Session.{fits, messageBytes, top, Holdable, Storable, isBytes}
-use Rattle.model_session.proofs.Basics.{T→true, true→T, and-l, and-r, and-true, leb-true, cond-cases, none≢some, true≢false, each-append}
+use Rattle.model_session.proofs.Basics.{T→true, true→T, and-l, and-r, and-true, leb-true, cond-cases, true≢false, each-append}
 use Rattle.model_session.proofs.Sending.{messageBytes-append}
 use Rattle.model_session.proofs.Keeping.{apply-all-keeps, rising-up, new-holdable}
 use Rattle.model.specs.Answer.{protocolVersion, Given, damaged, intact, judged, given, isReply}
-use Rattle.model.specs.Row.{Row, find, put}
+use Rattle.model.specs.Row.{Row, Used, find}
 use Rattle.model.specs.Store.{Stored, Place, placeOf, isStored, onPlace, sessionAt, orNew, newPlace, opened, changed, withB, takenOver}
 use Rattle.model.specs.State.{Settings, Bound, Standby, Result, Call, onFrameHeld, onFrame, flush, disconnectedFrom, promote, promoteUnchecked, newStandby, atEpoch, newBound, noneHeld, numbered}
 use Rattle.model.specs.Standby.{withCounters, withHandle, unbound, runPending, due, pendsOn, bindTo, heldSum, raised, maxWhole, startsWithReset, summed, holding, applied, onGiven, promotion, step, run}
 use Rattle.model.specs.Rules.{OkCall, changesOf, Readable, BoundValid, BoundUsual, Rules, Valid, Usual}
 use Rattle.model.proofs.Outcomes.{Gathers, ofCommit, ofLast, Batches, refuses, clears, raises, holds, applies, diverges, Does, turns, tells, nacks, greets, binds, checks, batches, does}
-use Rattle.model.proofs.Rows.{find-freed, find-none, find-put-cases}
+use Rattle.model.proofs.Rows.{used-found, used-put, used-freed, used-none, used-map}
 use Rattle.model.proofs.Places.{place-low, length-on, pending-length, length-places, each-at, each-on, each-places, each-mark}
 use Rattle.model.proofs.Taking.{starts-append}
 
@@ -73,6 +72,9 @@ module _ (L : Settings) (Also : Bound → Type 0) (closed : Closed Also) where
   grown : (m n : ℕ) (b : Bound) → m ≤ n → BoundValid L m b → BoundValid L n b
   grown m n b h o = record { place-there = le-trans (o .place-there) h; number-u64 = o .number-u64; bytes-u64 = o .bytes-u64; held-small = o .held-small; held-ok = o .held-ok }
 
+  all-grown : (m n : ℕ) (t : Row Bound) → m ≤ n → Each (Used (BoundValid L m)) t → Each (Used (BoundValid L n)) t
+  all-grown m n t h u = used-map (BoundValid L m) (BoundValid L n) (λ b o. grown m n b h o) t u
+
   rules-pending : (w : Bool) (s : Standby) → Rules L Also s → Rules L Also (runPending w s)
   rules-pending w s r =
       record {
@@ -80,7 +82,7 @@ module _ (L : Settings) (Also : Bound → Type 0) (closed : Closed Also) where
         connections-u64 = r .connections-u64;
         places-few = le-trans (le-of-eq (pending-length w s)) (r .places-few);
         sessions-ok = cond-cases (Each Held) w (λ _. each-mark Held (s .pending) (s .places) (λ _ h. h) (r .sessions-ok)) (λ _. r .sessions-ok);
-        handles-ok = λ h b p. grown (length (s .places)) (length (runPending w s .places)) b (le-of-eq (sym (pending-length w s))) (r .handles-ok h b p);
+        handles-ok = all-grown (length (s .places)) (length (runPending w s .places)) (s .handles) (le-of-eq (sym (pending-length w s))) (r .handles-ok);
         handles-also = r .handles-also;
         pending-few = cond-cases (λ (l : List (ℕ × ℕ)). length l ≤ 64) w (λ _. omega arith) (λ _. r .pending-few);
       }
@@ -92,8 +94,8 @@ module _ (L : Settings) (Also : Bound → Type 0) (closed : Closed Also) where
         connections-u64 = r .connections-u64;
         places-few = r .places-few;
         sessions-ok = r .sessions-ok;
-        handles-ok = λ h b p. absurd (none≢some (sym (find-freed h (s .handles)) ∙ p));
-        handles-also = λ h b p. absurd (none≢some (sym (find-freed h (s .handles)) ∙ p));
+        handles-ok = used-freed (BoundValid L _) (s .handles);
+        handles-also = used-freed Also (s .handles);
         pending-few = omega arith;
       }
 
@@ -101,15 +103,8 @@ module _ (L : Settings) (Also : Bound → Type 0) (closed : Closed Also) where
   rules-epoch s e h r =
       record { epoch-u64 = h; connections-u64 = r .connections-u64; places-few = r .places-few; sessions-ok = r .sessions-ok; handles-ok = r .handles-ok; handles-also = r .handles-also; pending-few = r .pending-few }
 
-  found-fine : (n : ℕ) (t : Row Bound) (h : ℕ) (b : Bound) → ((x : ℕ) (y : Bound) → find x t ≡ some y → Fine n y) → Fine n b → (x : ℕ) (y : Bound) → find x (put h b t) ≡ some y → Fine n y
-  found-fine n t h b all fine x y p = go (find-put-cases x h b t y p)
-    where
-      go : (y ≡ b) ⊎ (find x t ≡ some y) → Fine n y
-      go (inl z) = subst (Fine n) (sym z) fine
-      go (inr z) = all x y z
-
   all-fine : (s : Standby) → Rules L Also s → (x : ℕ) (y : Bound) → find x (s .handles) ≡ some y → Fine (length (s .places)) y
-  all-fine s r x y p = (r .handles-ok x y p, r .handles-also x y p)
+  all-fine s r x y p = (used-found (BoundValid L (length (s .places))) x y (s .handles) (r .handles-ok) p, used-found Also x y (s .handles) (r .handles-also) p)
 
   -- a handle gets another value
   rules-set : (s : Standby) (h : ℕ) (b : Bound) → Fine (length (s .places)) b → Rules L Also s → Rules L Also (withHandle s h b)
@@ -119,8 +114,8 @@ module _ (L : Settings) (Also : Bound → Type 0) (closed : Closed Also) where
         connections-u64 = r .connections-u64;
         places-few = r .places-few;
         sessions-ok = r .sessions-ok;
-        handles-ok = λ x y p. found-fine (length (s .places)) (s .handles) h b (all-fine s r) fine x y p .0;
-        handles-also = λ x y p. found-fine (length (s .places)) (s .handles) h b (all-fine s r) fine x y p .1;
+        handles-ok = used-put (BoundValid L (length (s .places))) h b (s .handles) (fine .0) (r .handles-ok);
+        handles-also = used-put Also h b (s .handles) (fine .1) (r .handles-also);
         pending-few = r .pending-few;
       }
 
@@ -142,8 +137,8 @@ module _ (L : Settings) (Also : Bound → Type 0) (closed : Closed Also) where
         connections-u64 = r .connections-u64;
         places-few = le-trans (le-of-eq same) (r .places-few);
         sessions-ok = sessions-changed (s .places) (b .place) cs o ft (r .sessions-ok);
-        handles-ok = λ x y p. grown (length (s .places)) (length (applied L s h b n cs .places)) y (le-of-eq (sym same)) (found-fine (length (s .places)) (s .handles) h (numbered n b) (all-fine s r) fine₁ x y p .0);
-        handles-also = λ x y p. found-fine (length (s .places)) (s .handles) h (numbered n b) (all-fine s r) fine₁ x y p .1;
+        handles-ok = all-grown (length (s .places)) (length (applied L s h b n cs .places)) (applied L s h b n cs .handles) (le-of-eq (sym same)) (used-put (BoundValid L (length (s .places))) h (numbered n b) (s .handles) (fine₁ .0) (r .handles-ok));
+        handles-also = used-put Also h (numbered n b) (s .handles) (fine₁ .1) (r .handles-also);
         pending-few = omega (arith, length-append (s .pending) ((h, b .place) ∷ []));
       }
     where
@@ -210,19 +205,13 @@ module _ (L : Settings) (Also : Bound → Type 0) (closed : Closed Also) where
         connections-u64 = r .connections-u64;
         places-few = open-few j (s .places) (r .places-few) room;
         sessions-ok = open-held j (s .places) (r .sessions-ok);
-        handles-ok = λ x y p. one x y (find-put-cases x h b (s .handles) y p) .0;
-        handles-also = λ x y p. one x y (find-put-cases x h b (s .handles) y p) .1;
+        handles-ok =
+            used-put (BoundValid L (length (opened j (s .places)))) h (newBound (placeOf j (s .places))) (s .handles)
+            (record { place-there = open-there j (s .places); number-u64 = omega arith; bytes-u64 = omega arith; held-small = omega arith; held-ok = tt })
+            (all-grown (length (s .places)) (length (opened j (s .places))) (s .handles) (open-length j (s .places)) (r .handles-ok));
+        handles-also = used-put Also h (newBound (placeOf j (s .places))) (s .handles) (closed .binds (placeOf j (s .places))) (r .handles-also);
         pending-few = r .pending-few;
       }
-    where
-      b : Bound
-      b = newBound (placeOf j (s .places))
-
-      one : (x : ℕ) (y : Bound) → (y ≡ b) ⊎ (find x (s .handles) ≡ some y) → Fine (length (opened j (s .places))) y
-      one x y (inl z) =
-          subst (Fine (length (opened j (s .places)))) (sym z)
-          (record { place-there = open-there j (s .places); number-u64 = omega arith; bytes-u64 = omega arith; held-small = omega arith; held-ok = tt }, closed .binds (placeOf j (s .places)))
-      one x y (inr z) = (grown (length (s .places)) (length (opened j (s .places))) y (open-length j (s .places)) (r .handles-ok x y z), r .handles-also x y z)
 
   -- ---- every frame
 
@@ -330,8 +319,8 @@ module _ (L : Settings) (Also : Bound → Type 0) (closed : Closed Also) where
         connections-u64 = r .connections-u64;
         places-few = le-trans (le-of-eq (length-places (takenOver (L .lag)) (s .places))) (r .places-few);
         sessions-ok = each-places Held (takenOver (L .lag)) (s .places) (λ x h. taken-holdable (L .lag) (x .stored) h) (r .sessions-ok);
-        handles-ok = λ h b p. absurd (none≢some (sym (find-freed h (s .handles)) ∙ p));
-        handles-also = λ h b p. absurd (none≢some (sym (find-freed h (s .handles)) ∙ p));
+        handles-ok = used-freed (BoundValid L _) (s .handles);
+        handles-also = used-freed Also (s .handles);
         pending-few = omega arith;
       }
 
@@ -471,8 +460,8 @@ module _ (L : Settings) (ps : List Place) (n : ℕ) (few : length ps ≤ L .S) (
         connections-u64 = omega arith;
         places-few = few;
         sessions-ok = held;
-        handles-ok = λ h b p. absurd (none≢some (sym (find-none h n) ∙ p));
-        handles-also = λ h b p. absurd (none≢some (sym (find-none h n) ∙ p));
+        handles-ok = used-none (BoundValid L _) n;
+        handles-also = used-none BoundUsual n;
         pending-few = omega arith;
       }
 
@@ -486,4 +475,4 @@ module _ (L : Settings) (ps : List Place) (n : ℕ) (few : length ps ≤ L .S) (
 
     -- and counting a byte sum as 0 with nothing held changes nothing: what is raised is the handle's byte sum
     pub run-raised : (h : ℕ) (b : Bound) → find h (run L (newStandby ps n) cs .handles) ≡ some b → (own : List Change) → raised b own ≡ min (b .bytes + messageBytes own) top
-    run-raised h b q own = ap (λ (x : ℕ). min (x + messageBytes own) top) (sum-counts b (usual-run .handles-also h b q))
+    run-raised h b q own = ap (λ (x : ℕ). min (x + messageBytes own) top) (sum-counts b (used-found BoundUsual h b (run L (newStandby ps n) cs .handles) (usual-run .handles-also) q))

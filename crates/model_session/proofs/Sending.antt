@@ -292,3 +292,17 @@ each-sizes n (b ∷ bs) h = (omega (arith, sizes-append b (joined bs)), each-siz
 -- (c) each batch's encoded changes
 pub batch-sizes : (limit C M : ℕ) (a : Session) → Holdable C M a → Each (λ b. sizes b ≤ holdLength C M) (wholeBatches limit a)
 batch-sizes limit C M a h = each-sizes (holdLength C M) (wholeBatches limit a) (whole-size limit C M a h)
+
+-- there are no more batches than messages and one
+batches-few : (limit : ℕ) (a : Session) (now : List Change) (bytes next : ℕ) (ms : List Msg) → length (batchesFrom limit a now bytes next ms) ≤ suc (length ms)
+batches-few limit a now bytes next [] = omega arith
+batches-few limit a now bytes next (m ∷ ms) = go (ltb limit bytes) (λ x y. batches-few limit a x y (suc (m .num)) ms)
+  where
+    go : (f : Bool) → ((x : List Change) (y : ℕ) → length (batchesFrom limit a x y (suc (m .num)) ms) ≤ suc (length ms))
+        → length (stands f now (batchesFrom limit a (cond f [] now ++ sendMsg next m) (cond f 0 bytes + length (m .text)) (suc (m .num)) ms)) ≤ suc (suc (length ms))
+    go true ih = omega (arith, ih ([] ++ sendMsg next m) (0 + length (m .text)))
+    go false ih = omega (arith, ih (now ++ sendMsg next m) (bytes + length (m .text)))
+
+pub whole-few : (limit : ℕ) (a : Session) → length (wholeBatches limit a) ≤ suc (length (a .messages))
+unfolding wholeBatches
+whole-few limit a = batches-few limit a (reset ∷ stampPart (a .stamp)) 0 1 (a .messages)
