@@ -4,21 +4,20 @@ use mathlib.Core.Path.{_≡_, refl, sym, ap, subst, _∙_}
 use Prim.Native.Nat.{ℕ}
 use mathlib.Core.List.{List, [], _∷_, _++_}
 use mathlib.Core.Option.{Option, none, some, Option·map}
-use mathlib.Core.Bool.{Bool, true, false, cond, not, _&&_, _||_}
-use lib.ListN.{length, getElem?}
-use lib.Dec.{T, eqb, ltb}
-use Rattle.model_frame.specs.Frame.{Key, Change, Part, commit, whole, lastWhole, AppRecord, Frame, hello, welcome, bind, batch, ack, nack, bound, checked}
-use Rattle.model_frame.specs.Parse.{isEmpty}
-use Rattle.model_frame.specs.Writing.{sizes}
-use Rattle.model_session.specs.Session.{Session, applyAll, fits}
-use Rattle.model.specs.Answer.{protocolVersion, Given, damaged, intact, given, refused, isReply}
+use mathlib.Core.Bool.{Bool, true, false, cond, not, _||_}
+use lib.ListN.{getElem?}
+use lib.Dec.{T, eqb}
+use Rattle.model_frame.specs.Frame.{Reason, Change, Part, AppRecord, Frame, hello, welcome, bind, batch, ack, nack, bound, checked}
+use Rattle.model_session.specs.Session.{Session, applyAll}
+use Rattle.model.specs.Answer.{reply, Given, damaged, intact, given, refused, isReply}
 use Rattle.model.specs.Row.{Row, freed, find, hasRoom, put}
-use Rattle.model.specs.Store.{Place, placeOf, isStored, onStored, onPlace, sessionAt, orNew, changed}
-use Rattle.model.specs.State.{Settings, incarnationOf, Bound, Standby, Result, Call, onFrameHeld, onFrame, flush, disconnectedFrom, promote, promoteUnchecked, atEpoch, newBound, noneHeld, numbered}
-use Rattle.model.specs.Standby.{withCounters, withHandle, runPending, due, onHello, onBind, onChecked, raised, maxWhole, startsWithReset, summed, holding, applied, settle, hold, onPart, follows, onHandle, onBatch, onIntact, onGiven, step, run}
+use Rattle.model.specs.Store.{Place, placeOf, onStored, onPlace, sessionAt, changed}
+use Rattle.model.specs.State.{Settings, Bound, Standby, Result, Call, onFrameHeld, onFrame, flush, disconnectedFrom, promote, promoteUnchecked, newBound, noneHeld, numbered}
+use Rattle.model.specs.Standby.{withHandle, runPending, due, summed, holding, applied, onGiven, step, run}
 use Rattle.model.specs.PlainCopy.{OwnKey, ownKey, keyIs, Copy, setAt, boundKey, boundHeld, copyAt, copySettle, copyBatch, copyFrame, copyGiven, copyStep, copyRun}
 use Rattle.model.specs.Demand.{isPlain, allPlain}
 use Rattle.model_session.proofs.Basics.{and-l, and-r, cond-cases, cond-true, cond-false, eqb-true, eqb-sound, none≢some, some-inj}
+use Rattle.model.proofs.Outcomes.{Nacked, staleBind, lagBind, staleBatch, staleChecked, otherChecked, Gathers, ofCommit, ofLast, Batches, refuses, clears, raises, holds, applies, diverges, Does, turns, tells, nacks, greets, binds, checks, batches, does}
 use Rattle.model.proofs.Rows.{find-freed, find-put-self, find-put-same, find-put-other}
 use Rattle.model.proofs.Places.{session-there, own-is, bind-is, own-on, at-on-same, at-on-other, pending-session, pending-own, open-own, open-session}
 
@@ -81,40 +80,6 @@ module _ (L : Settings) (k : OwnKey) (here : ℕ) where
   abbrev After : Copy → Frame → Result → Type 0
   After c f r = Tracks k here (r .state) (copyFrame L k c f (r .answer))
 
-  after-hello : (s : Standby) (c : Copy) (v e : ℕ) (node kinds : List ℕ) → Tracks k here s c → After c (hello v e node kinds) (onHello L s v e kinds)
-  unfolding onHello
-  after-hello s c v e node kinds t =
-      cond-cases (After c (hello v e node kinds)) (not (eqb v protocolVersion)) (λ _. t)
-      (λ _. cond-cases (After c (hello v e node kinds)) (not (isEmpty kinds)) (λ _. t)
-      (λ _. cond-cases (After c (hello v e node kinds)) (ltb e (s .counters .epoch)) (λ _. t)
-      (λ _. record { same-place = t .same-place; same-session = t .same-session; same-handles = match-freed k here (s .handles) (c .keyOf) (c .heldOf) })))
-
-  after-bind : (s : Standby) (c : Copy) (h e lag : ℕ) (j : Key) → Tracks k here s c → After c (bind h e lag j) (onBind L s h e lag j)
-  unfolding onBind
-  after-bind s c h e lag j t =
-      cond-cases (After c (bind h e lag j)) (ltb e (s .counters .epoch)) (λ _. t)
-      (λ _. cond-cases (After c (bind h e lag j)) (ltb (L .lag) lag) (λ _. t)
-      (λ _. cond-cases (After c (bind h e lag j)) (not (isStored j (s .places) || ltb (length (s .places)) (L .S))) (λ _. t)
-      (λ _. cond-cases (After c (bind h e lag j)) (not (hasRoom h (s .handles))) (λ _. t)
-      (λ r. record {
-        same-place = open-own j (s .places) here k (t .same-place);
-        same-session = open-session j (s .places) here (session-there (s .places) here (c .session) (t .same-session)) ∙ t .same-session;
-        same-handles =
-            match-put k here (s .handles) (c .keyOf) (c .heldOf) h (record { key = j; earlier = 0 }) (placeOf j (s .places)) (bind-is (s .places) here k j (t .same-place)) (t .same-handles)
-            (not-not (hasRoom h (s .handles)) r);
-      }))))
-    where
-      not-not : (b : Bool) → T (not (not b)) → b ≡ true
-      not-not true u = refl
-      not-not false u = absurd u
-
-  after-checked : (s : Standby) (c : Copy) (h e i : ℕ) → Tracks k here s c → After c (checked h e i) (onChecked L s h e i)
-  unfolding onChecked
-  after-checked s c h e i t =
-      cond-cases (After c (checked h e i)) (ltb e (s .counters .epoch)) (λ _. t)
-      (λ _. cond-cases (After c (checked h e i)) (not (eqb i (incarnationOf L))) (λ _. t)
-      (λ _. record { same-place = t .same-place; same-session = t .same-session; same-handles = t .same-handles }))
-
   -- the changes are applied: b, with nothing held, stands for handle h; cs is what the copy held, then the batch's own
   settled-yes : (s : Standby) (c : Copy) (h : ℕ) (b : Bound) (n : ℕ) (cs own : List Change) → Tracks k here s c → keyIs k (c .keyOf h) ≡ eqb (b .place) here → b .held ≡ []
       → cs ≡ c .heldOf h ++ own → Tracks k here (applied L s h b n cs) (copySettle L k c h own)
@@ -153,82 +118,46 @@ module _ (L : Settings) (k : OwnKey) (here : ℕ) where
         same-handles = match-set k here (s .handles) (c .keyOf) (c .heldOf) (setAt h [] (c .heldOf)) h b (t .same-handles) p (setAt-same h [] (c .heldOf) ∙ sym q) (setAt-other h [] (c .heldOf));
       }
 
-  after-settle : (s : Standby) (c : Copy) (h e n : ℕ) (p : Part) (own : List Change) (apps : List AppRecord) (b : Bound) (cs : List Change)
-      → ((h : ℕ) (own : List Change) → copyBatch L k c h p own ≡ copySettle L k c h own) → Tracks k here s c → keyIs k (c .keyOf h) ≡ eqb (b .place) here → b .held ≡ [] → cs ≡ c .heldOf h ++ own
-      → After c (batch h e n p own apps) (settle L s h b n cs)
-  unfolding settle
-  after-settle s c h e n p own apps b cs sp t pk q r =
-      cond-cases (After c (batch h e n p own apps)) (fits (orNew (sessionAt (s .places) (b .place)) .nextOut) cs)
-      (λ _. subst (Tracks k here (applied L s h b n cs)) (sym (sp h own)) (settled-yes s c h b n cs own t pk q r))
-      (λ _. settled-no s c h b t pk q)
+  -- what the copy gathers is what the standby does: the handle's key and nothing held, those held and then its own
+  record Gathered (c : Copy) (h : ℕ) (p : Part) (own : List Change) (b₁ : Bound) (all : List Change) : Type 0 where
+    its-key : keyIs k (c .keyOf h) ≡ eqb (b₁ .place) here
+    none-held : b₁ .held ≡ []
+    is-all : all ≡ c .heldOf h ++ own
+    settles : copyBatch L k c h p own ≡ copySettle L k c h own
 
-  after-hold : (s : Standby) (c : Copy) (h e n : ℕ) (p : Part) (own : List Change) (apps : List AppRecord) (b : Bound) (go : Result)
-      → Tracks k here s c → find h (s .handles) ≡ some b → After c (batch h e n p own apps) go → After c (batch h e n p own apps) (hold L s h b own go)
-  unfolding hold
-  after-hold s c h e n p own apps b go t f g =
-      cond-cases (After c (batch h e n p own apps)) (isEmpty (b .held) && not (startsWithReset own)) (λ _. t)
-      (λ _. cond-cases (After c (batch h e n p own apps)) (ltb maxWhole (raised b own))
-      (λ _. record {
+  gathered : {p : Part} {b b₁ : Bound} {own all : List Change} (s : Standby) (c : Copy) (h : ℕ) → Tracks k here s c → find h (s .handles) ≡ some b → Gathers L p b own b₁ all → Gathered c h p own b₁ all
+  gathered s c h t f (ofCommit {b} {cs = own} e) =
+      let o = t .same-handles h b f in
+      record { its-key = o .0; none-held = e; is-all = sym (ap (λ (l : List Change). l ++ own) (o .1 ∙ e)); settles = refl }
+  gathered s c h t f (ofLast {b} {cs = own} q) =
+      let o = t .same-handles h b f in
+      record { its-key = o .0; none-held = refl; is-all = sym (ap (λ (l : List Change). l ++ own) (o .1)); settles = refl }
+
+  after-batch : {s : Standby} {h n : ℕ} {p : Part} {own : List Change} {r : Result} (c : Copy) (e : ℕ) (apps : List AppRecord) → Batches L s h n p own r → Tracks k here s c → After c (batch h e n p own apps) r
+  after-batch c e apps (refuses u) t = t
+  after-batch {s} {h} c e apps (clears {b} f) t = settled-no s c h (noneHeld b) t (t .same-handles h b f .0) refl
+  after-batch {s} {h} {own} c e apps (raises {b} f u) t =
+      record {
         same-place = t .same-place;
         same-session = t .same-session;
-        same-handles =
-            match-set k here (s .handles) (c .keyOf) (c .heldOf) (c .heldOf) h (summed b own) (t .same-handles)
-            (t .same-handles h b f .0) (t .same-handles h b f .1) (λ _ _. refl);
-      })
-      (λ _. cond-cases (After c (batch h e n p own apps)) (ltb (L .room) (sizes (b .held ++ own))) (λ _. t) (λ _. g)))
-
-  isEmpty-nil : {A : Type 0} (l : List A) → T (not (not (isEmpty l))) → l ≡ []
-  isEmpty-nil [] u = refl
-  isEmpty-nil (x ∷ l) u = absurd u
-
-  after-part : (s : Standby) (c : Copy) (h e n : ℕ) (p : Part) (own : List Change) (apps : List AppRecord) (b : Bound)
-      → Tracks k here s c → find h (s .handles) ≡ some b → After c (batch h e n p own apps) (onPart L s h b n p own)
-  unfolding onPart
-  after-part s c h e n commit own apps b t f =
-      cond-cases (After c (batch h e n commit own apps)) (not (isEmpty (b .held))) (λ _. t)
-      (λ u. let q : b .held ≡ [] = isEmpty-nil (b .held) u in
-      after-settle s c h e n commit own apps b own (λ _ _. refl) t (t .same-handles h b f .0) q
-      (sym (ap (λ (l : List Change). l ++ own) (t .same-handles h b f .1 ∙ q))))
-  after-part s c h e n whole own apps b t f =
-      after-hold s c h e n whole own apps b _ t f
+        same-handles = match-set k here (s .handles) (c .keyOf) (c .heldOf) (c .heldOf) h (summed b own) (t .same-handles) (t .same-handles h b f .0) (t .same-handles h b f .1) (λ _ _. refl);
+      }
+  after-batch {s} {h} {n} {own} c e apps (holds {b} f u q) t =
+      subst (λ (p : Part). Tracks k here (withHandle s h (holding b n own)) (copyBatch L k c h p own)) (sym u)
       (record {
         same-place = t .same-place;
         same-session = t .same-session;
         same-handles =
-            match-set k here (s .handles) (c .keyOf) (c .heldOf) (setAt h (c .heldOf h ++ own) (c .heldOf)) h (holding b n own) (t .same-handles)
-            (t .same-handles h b f .0)
+            match-set k here (s .handles) (c .keyOf) (c .heldOf) (setAt h (c .heldOf h ++ own) (c .heldOf)) h (holding b n own) (t .same-handles) (t .same-handles h b f .0)
             (setAt-same h (c .heldOf h ++ own) (c .heldOf) ∙ ap (λ (l : List Change). l ++ own) (t .same-handles h b f .1))
             (setAt-other h (c .heldOf h ++ own) (c .heldOf));
       })
-  after-part s c h e n lastWhole own apps b t f =
-      after-hold s c h e n lastWhole own apps b _ t f
-      (after-settle s c h e n lastWhole own apps (noneHeld b) (b .held ++ own) (λ _ _. refl) t (t .same-handles h b f .0) refl
-      (sym (ap (λ (l : List Change). l ++ own) (t .same-handles h b f .1))))
-
-  after-handle : (s : Standby) (c : Copy) (h e n : ℕ) (p : Part) (own : List Change) (apps : List AppRecord) (o : Option Bound)
-      → Tracks k here s c → find h (s .handles) ≡ o → After c (batch h e n p own apps) (onHandle L s h o n p own)
-  unfolding onHandle
-  after-handle s c h e n p own apps none t f = t
-  after-handle s c h e n p own apps (some b) t f =
-      cond-cases (After c (batch h e n p own apps)) (follows b n) (λ _. after-part s c h e n p own apps b t f)
-      (λ _. settled-no s c h (noneHeld b) t (t .same-handles h b f .0) refl)
-
-  after-batch : (s : Standby) (c : Copy) (h e n : ℕ) (p : Part) (own : List Change) (apps : List AppRecord) → Tracks k here s c → After c (batch h e n p own apps) (onBatch L s h e n p own apps)
-  unfolding onBatch
-  after-batch s c h e n p own apps t =
-      cond-cases (After c (batch h e n p own apps)) (not (isEmpty apps)) (λ _. t)
-      (λ _. cond-cases (After c (batch h e n p own apps)) (ltb e (s .counters .epoch)) (λ _. t)
-      (λ _. after-handle (withCounters s (atEpoch e (s .counters))) c h e n p own apps (find h (s .handles)) (record { same-place = t .same-place; same-session = t .same-session; same-handles = t .same-handles }) refl))
-
-  after-intact : (s : Standby) (c : Copy) (f : Frame) → Tracks k here s c → After c f (onIntact L s f)
-  after-intact s c (hello v e node kinds) t = after-hello s c v e node kinds t
-  after-intact s c (welcome e i) t = t
-  after-intact s c (bind h e lag j) t = after-bind s c h e lag j t
-  after-intact s c (batch h e n p cs apps) t = after-batch s c h e n p cs apps t
-  after-intact s c (ack h n) t = t
-  after-intact s c (nack h r) t = t
-  after-intact s c (bound h m) t = t
-  after-intact s c (checked h e i) t = after-checked s c h e i t
+  after-batch {s} {h} {n} {own} c e apps (applies {b₁} {all} f g u) t =
+      let o = gathered s c h t f g in
+      subst (Tracks k here (applied L s h b₁ n all)) (sym (o .settles)) (settled-yes s c h b₁ n all own t (o .its-key) (o .none-held) (o .is-all))
+  after-batch {s} {h} c e apps (diverges {b₁} f g) t =
+      let o = gathered s c h t f g in
+      settled-no s c h b₁ t (o .its-key) (o .none-held)
 
   copy-refused : (c : Copy) (f : Frame) (n : ℕ) → copyFrame L k c f (refused n) ≡ c
   copy-refused c (hello v e node kinds) n = refl
@@ -240,12 +169,33 @@ module _ (L : Settings) (k : OwnKey) (here : ℕ) where
   copy-refused c (bound h m) n = refl
   copy-refused c (checked h e i) n = refl
 
+  copy-nacked : {f : Frame} {h : ℕ} {r : Reason} (c : Copy) → Nacked f h r → copyFrame L k c f (reply (nack h r)) ≡ c
+  copy-nacked c staleBind = refl
+  copy-nacked c lagBind = refl
+  copy-nacked c staleBatch = refl
+  copy-nacked c staleChecked = refl
+  copy-nacked c otherChecked = refl
+
+  after : {s : Standby} {f : Frame} {r : Result} (c : Copy) → Does L s f r → Tracks k here s c → After c f r
+  after {s} {f} c (turns {n} u) t = subst (Tracks k here s) (sym (copy-refused c f n)) t
+  after c tells t = t
+  after {s} c (nacks q) t = subst (Tracks k here s) (sym (copy-nacked c q)) t
+  after {s} c (greets le) t = record { same-place = t .same-place; same-session = t .same-session; same-handles = match-freed k here (s .handles) (c .keyOf) (c .heldOf) }
+  after {s} c (binds {h} {k = j} le p q) t =
+      record {
+        same-place = open-own j (s .places) here k (t .same-place);
+        same-session = open-session j (s .places) here (session-there (s .places) here (c .session) (t .same-session)) ∙ t .same-session;
+        same-handles = match-put k here (s .handles) (c .keyOf) (c .heldOf) h (record { key = j; earlier = 0 }) (placeOf j (s .places)) (bind-is (s .places) here k j (t .same-place)) (t .same-handles) q;
+      }
+  after c (checks le) t = record { same-place = t .same-place; same-session = t .same-session; same-handles = t .same-handles }
+  after {s} c (batches {e} {apps} le d) t = after-batch c e apps d (record { same-place = t .same-place; same-session = t .same-session; same-handles = t .same-handles })
+
   after-given : (s : Standby) (c : Copy) (g : Given) → Tracks k here s c → Tracks k here (onGiven L s g .state) (copyGiven L k c g (onGiven L s g .answer))
   unfolding onGiven
   after-given s c (damaged n) t = t
   after-given s c (intact f) t =
       cond-cases (After c f) (s .counters .promoted) (λ _. subst (Tracks k here s) (sym (copy-refused c f 10)) t)
-      (λ _. after-intact (runPending (due (s .pending) f) s) c f (tracks-pending k here (due (s .pending) f) s c t))
+      (λ _. after c (does L (runPending (due (s .pending) f) s) f) (tracks-pending k here (due (s .pending) f) s c t))
 
   -- (e), one call
   pub copy-step : (s : Standby) (c : Copy) (x : Call) → T (isPlain x) → Tracks k here s c → Tracks k here (step L s x .state) (copyStep L k c x (step L s x .answer))

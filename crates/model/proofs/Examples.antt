@@ -10,9 +10,9 @@ use lib.ListN.{replicate}
 use Rattle.model_text.specs.Utf8.{utf8, wellFormed, leadLength, ownBits, least, fitting, isScalar, isSurrogate, isTail}
 use Rattle.model_text.specs.Printable.{isPlain, isPrintable, isMarks, isKey}
 use Rattle.model_frame.specs.Bytes.{le, bytesOf}
-use Rattle.model_frame.specs.Frame.{Key, Change, setInFlight, recordMsg, recordBare, reset, setMarks, commit, whole, lastWhole, staleEpoch, diverged, lagTooGreat, restarted, Frame, hello, welcome, bind, batch, ack, nack, bound, checked}
+use Rattle.model_frame.specs.Frame.{Key, Change, setIncoming, recordMsg, recordBare, reset, setMarks, commit, whole, lastWhole, staleEpoch, diverged, lagTooGreat, restarted, Frame, hello, welcome, bind, batch, ack, nack, bound, checked}
 use Rattle.model_frame.specs.Parse.{bytes, num, blob, text, count, many, runBytes}
-use Rattle.model_frame.specs.Reading.{stamp, marks, setInFlightFields, recordMsgFields, recordBareFields, setMarksFields, readChange, changes, kinds, appRecord, appRecords, partByte, key, helloFields, bindFields, batchFields, ackFields, checkedFields, fields, body, decode}
+use Rattle.model_frame.specs.Reading.{stamp, marks, setIncomingFields, recordMsgFields, recordBareFields, setMarksFields, readChange, changes, kinds, appRecord, appRecords, partByte, key, helloFields, bindFields, batchFields, ackFields, checkedFields, fields, body, decode}
 use Rattle.model_frame.specs.Writing.{blobBytes, changeBytes, appRecordBytes, keyBytes, bodyBytes, encode}
 use Rattle.model_session.specs.Session.{newSession, keep, apply, top}
 use Rattle.model_session.specs.Summary.{summary}
@@ -127,7 +127,7 @@ script-places = refl
 
 -- ---- commits: pending until due
 
--- two sessions, not marked as durable, bound by handles 1 and 2
+-- two new sessions, marked as durable or not, bound by handles 1 and 2 at these numbers
 abbrev two : Bool → Bool → List (ℕ × ℕ) → ℕ → ℕ → Standby
 two d₁ d₂ pending n₁ n₂ =
     record {
@@ -137,30 +137,26 @@ two d₁ d₂ pending n₁ n₂ =
       pending = pending;
     }
 
--- The commit of handle 1 waits while handle 2 has its own, and runs with that one before the next Batch of handle 1, which is
--- then pending, or before a frame of another kind, refused though it is; a damaged frame runs none. A Commit without changes
--- keeps the mark, on_frame runs its own commit too.
-abbrev committed : List (Standby × Standby)
-committed =
-    (run L₁ (two false false [] 0 0) (held (batch 1 0 1 commit (setInFlight 0 ∷ []) []) ∷ held (batch 2 0 1 commit [] []) ∷ []), two′ false false ((1, 0) ∷ (2, 1) ∷ []))
-    ∷ (run L₁ (two false false ((1, 0) ∷ (2, 1) ∷ []) 1 1) (held (batch 1 0 2 commit [] []) ∷ []), two true true ((1, 0) ∷ []) 2 1)
-    ∷ (run L₁ (two false false ((1, 0) ∷ (2, 1) ∷ []) 1 1) (onFrameHeld [] ∷ []), two false false ((1, 0) ∷ (2, 1) ∷ []) 1 1)
-    ∷ (run L₁ (two false false ((1, 0) ∷ (2, 1) ∷ []) 1 1) (held (ack 1 1) ∷ []), two true true [] 1 1)
-    ∷ (run L₁ (two false true [] 0 0) (taken (batch 1 0 1 commit [] []) ∷ []), two true true [] 1 0)
+-- the state before, the calls, the state after
+abbrev commits : List (Standby × List Call × Standby)
+commits =
+    -- A change takes the mark, also one that sets what is there; a Commit without changes keeps it. Both leave a commit pending.
+    (two true true [] 0 0, held (batch 1 0 1 commit (setIncoming 1 ∷ []) []) ∷ held (batch 2 0 1 commit [] []) ∷ [], two false true ((1, 0) ∷ (2, 1) ∷ []) 1 1)
+    -- they run before a Batch of a handle that has one, before a frame of another kind, though it is refused, and by flush
+    ∷ (two false false ((1, 0) ∷ (2, 1) ∷ []) 1 1, held (batch 1 0 2 commit [] []) ∷ [], two true true ((1, 0) ∷ []) 2 1)
+    ∷ (two false false ((1, 0) ∷ (2, 1) ∷ []) 1 1, held (ack 1 1) ∷ [], two true true [] 1 1)
+    ∷ (two false false ((1, 0) ∷ (2, 1) ∷ []) 1 1, flush 0 ∷ [], two true true [] 1 1)
+    -- not for bytes that aren't a frame, nor before another handle's Batch while fewer than 64 pend
+    ∷ (two false false ((1, 0) ∷ []) 1 1, onFrameHeld [] ∷ onFrame [] ∷ held (batch 2 0 2 commit [] []) ∷ [], two false false ((1, 0) ∷ (2, 1) ∷ []) 1 2)
+    ∷ (two false false (replicate 63 (1, 0)) 1 1, held (batch 2 0 2 commit [] []) ∷ held (batch 3 0 1 commit [] []) ∷ [], two true true [] 1 2)
+    -- on_frame runs them after a Nack too, and not after a refusal
+    ∷ (two false false ((1, 0) ∷ []) 1 1, onFrame (encode (batch 2 0 1 commit [] [])) ∷ [], two true false [] 1 1)
+    ∷ (two false false ((1, 0) ∷ []) 1 1, onFrame (encode (batch 3 0 1 commit [] [])) ∷ [], two false false ((1, 0) ∷ []) 1 1)
     ∷ []
-  where
-    two′ : Bool → Bool → List (ℕ × ℕ) → Standby
-    two′ d₁ d₂ pending =
-        record {
-          counters = newStandby [] 0 .counters;
-          places = record { key = keyOf 65; stored = record { session = record { stamp = []; nextOut = 1; nextIn = 1; inFlight = some 0; marks = []; messages = [] }; durable = d₁ } } ∷ record { key = keyOf 66; stored = record { session = newSession; durable = d₂ } } ∷ [];
-          handles = some (1, record { place = 0; number = 1; held = []; bytes = 0 }) ∷ some (2, record { place = 1; number = 1; held = []; bytes = 0 }) ∷ [];
-          pending = pending;
-        }
 
-committed-so : map (λ (p : Standby × Standby). p .0) committed ≡ map (λ (p : Standby × Standby). p .1) committed
-unfolding step onGiven onBatch onHandle onPart settle apply put given encode bodyBytes changeBytes runBytes bytesOf decode le num bytes count many body fields batchFields ackFields changes readChange setInFlightFields appRecords partByte
-committed-so = refl
+commits-so : map (λ (p : Standby × List Call × Standby). run L₁ (p .0) (p .1)) commits ≡ map (λ (p : Standby × List Call × Standby). p .2) commits
+unfolding step onGiven onBatch onHandle onPart settle apply put given encode bodyBytes changeBytes runBytes bytesOf decode le num bytes count many body fields batchFields ackFields changes readChange setIncomingFields appRecords partByte
+commits-so = refl
 
 -- ---- states that no operation makes
 
@@ -202,3 +198,11 @@ twice marks =
 first-counts : run L₁ (twice []) (taken (bind 1 0 0 (keyOf 65)) ∷ taken (batch 1 0 1 commit (setMarks (65 ∷ []) ∷ []) []) ∷ disconnectedFrom 0 ∷ []) ≡ twice (65 ∷ [])
 unfolding step onGiven onBind onBatch onHandle onPart hold settle apply put given encode bodyBytes blobBytes changeBytes keyBytes runBytes bytesOf decode le num bytes blob text count many body fields bindFields batchFields changes readChange setMarksFields appRecords partByte key marks utf8 wellFormed leadLength ownBits least fitting isScalar isSurrogate isPlain isPrintable isMarks isKey
 first-counts = refl
+
+-- a Bind doesn't raise the epoch, nor does a Batch with application records; one that is then refused does
+abbrev epochAfter : Frame → ℕ
+epochAfter f = step L₁ (two true true [] 0 0) (held f) .state .counters .epoch
+
+epochs-so : epochAfter (bind 1 8 0 (keyOf 65)) ∷ epochAfter (batch 3 8 1 commit [] (record { kind = 1; blob = [] } ∷ [])) ∷ epochAfter (batch 3 8 1 commit [] []) ∷ epochAfter (checked 1 8 7) ∷ [] ≡ 0 ∷ 0 ∷ 8 ∷ 8 ∷ []
+unfolding step onGiven onBind onBatch onHandle onChecked given encode bodyBytes blobBytes appRecordBytes keyBytes runBytes bytesOf decode le num bytes blob text count many body fields bindFields batchFields checkedFields changes appRecords appRecord partByte key utf8 wellFormed leadLength ownBits least fitting isScalar isSurrogate isPlain isPrintable isKey
+epochs-so = refl

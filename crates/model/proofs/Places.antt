@@ -58,7 +58,7 @@ at-there [] n a p = absurd (none≢some p)
 at-there (x ∷ l) zero a p = omega arith
 at-there (x ∷ l) (suc n) a p = omega (arith, at-there l n a p)
 
-at-append : {A : Type 0} (l m : List A) (n : ℕ) → n < length l → getElem? (l ++ m) n ≡ getElem? l n
+pub at-append : {A : Type 0} (l m : List A) (n : ℕ) → n < length l → getElem? (l ++ m) n ≡ getElem? l n
 at-append [] m n h = absurd (omega arith)
 at-append (x ∷ l) m zero h = refl
 at-append (x ∷ l) m (suc n) h = at-append l m n (omega arith)
@@ -103,7 +103,7 @@ place-first k (x ∷ ps) zero p = go (sameKey k (x .key)) refl
     go false e = absurd (true≢false (sym (key-self k) ∙ ap (sameKey k) (sym (some-inj p)) ∙ e))
 place-first k (x ∷ ps) (suc n) p = cond-cases (λ (m : ℕ). m ≤ suc n) (sameKey k (x .key)) (λ _. omega arith) (λ _. omega (arith, place-first k ps n p))
 
-earlier-none : (k : Key) (ps : List Place) → earlier k (placeOf k ps) ps ≡ 0
+pub earlier-none : (k : Key) (ps : List Place) → earlier k (placeOf k ps) ps ≡ 0
 earlier-none k [] = refl
 earlier-none k (x ∷ ps) = go (sameKey k (x .key)) refl (earlier-none k ps)
   where
@@ -111,7 +111,7 @@ earlier-none k (x ∷ ps) = go (sameKey k (x .key)) refl (earlier-none k ps)
     go true e ih = refl
     go false e ih = omega (arith, ih, ap (λ (c : Bool). cond {A = ℕ} c 1 0) e)
 
-key-there : (ps : List Place) (n : ℕ) (k : Key) → keyAt ps n ≡ some k → n < length ps
+pub key-there : (ps : List Place) (n : ℕ) (k : Key) → keyAt ps n ≡ some k → n < length ps
 key-there ps n k p =
     let m = map-some (λ (y : Place). y .key) (getElem? ps n) k p in
     at-there ps n (m .0) (m .1)
@@ -268,7 +268,7 @@ earlier-on k (suc n) zero f (x ∷ ps) = refl
 earlier-on k (suc n) (suc m) f (x ∷ ps) = ap (λ (c : ℕ). cond (sameKey k (x .key)) 1 0 + c) (earlier-on k n m f ps)
 
 -- an own key from its parts
-own-made : (ps : List Place) (n : ℕ) (k : OwnKey) → keyAt ps n ≡ some (k .key) → k .earlier ≡ earlier (k .key) n ps → ownKey ps n ≡ some k
+pub own-made : (ps : List Place) (n : ℕ) (k : OwnKey) → keyAt ps n ≡ some (k .key) → k .earlier ≡ earlier (k .key) n ps → ownKey ps n ≡ some k
 own-made ps n k p q = go (getElem? ps n) p
   where
     go : (o : Option Place) → Option·map (λ (x : Place). x .key) o ≡ some (k .key) → Option·map (λ (x : Place). record { key = x .key; earlier = earlier (x .key) n ps }) o ≡ some k
@@ -314,7 +314,7 @@ pending-length false s = refl
 
 -- ---- a place for a key
 
-earlier-append : (k : Key) (n : ℕ) (ps qs : List Place) → n ≤ length ps → earlier k n (ps ++ qs) ≡ earlier k n ps
+pub earlier-append : (k : Key) (n : ℕ) (ps qs : List Place) → n ≤ length ps → earlier k n (ps ++ qs) ≡ earlier k n ps
 earlier-append k zero ps qs h = refl
 earlier-append k (suc n) [] qs h = absurd (omega arith)
 earlier-append k (suc n) (x ∷ ps) qs h = ap (λ (c : ℕ). cond (sameKey k (x .key)) 1 0 + c) (earlier-append k n ps qs (omega arith))

@@ -1,24 +1,20 @@
 -- The row of handles: what a handle finds after each operation.
 -- Assumes nothing.
-use mathlib.Core.Path.{_≡_, refl, sym, ap, _∙_}
+use mathlib.Core.Path.{_≡_, refl, sym, ap, subst, _∙_}
 use Prim.Native.Nat.{ℕ, zero, suc}
 use mathlib.Core.List.{[], _∷_}
 use mathlib.Core.Option.{Option, none, some, Option·map}
 use mathlib.Core.Bool.{Bool, true, false, cond, _||_}
-use mathlib.Core.Logic.{_⊎_, inl, inr}
 use lib.ListN.{replicate}
 use lib.Dec.{eqb}
-use Rattle.model.specs.Row.{Row, isSome, freed, hasFree, fill, find, replace, hasRoom, put}
-use Rattle.model_session.proofs.Basics.{eqb-true, eqb-sound, none≢some, some-inj, true≢false}
+use Rattle.model_frame.specs.Parse.{Each}
+use Rattle.model.specs.Row.{Row, Used, isSome, freed, hasFree, fill, find, replace, hasRoom, put}
+use Rattle.model_session.proofs.Basics.{cond-cases, eqb-true, eqb-sound, none≢some, some-inj, true≢false}
 
 module _ {A : Type 0} where
   pub find-freed : (h : ℕ) (t : Row A) → find h (freed t) ≡ none
   find-freed h [] = refl
   find-freed h (p ∷ t) = find-freed h t
-
-  pub find-none : (h n : ℕ) → find {A = A} h (replicate n none) ≡ none
-  find-none h zero = refl
-  find-none h (suc n) = find-none h n
 
   find-replace-same : (h : ℕ) (v : A) (t : Row A) → find h (replace h v t) ≡ Option·map (λ _. v) (find h t)
   find-replace-same h v [] = refl
@@ -95,39 +91,40 @@ module _ {A : Type 0} where
       go true = find-replace-other h j v t n
       go false = find-fill-other h j v t n
 
-  -- what is found after an operation was put there, or was found before
-  find-replace-cases : (h j : ℕ) (v : A) (t : Row A) (a : A) → find h (replace j v t) ≡ some a → (a ≡ v) ⊎ (find h t ≡ some a)
-  find-replace-cases h j v t a p = go (eqb h j) refl
+-- what holds of every used place
+module _ {A : Type 0} (P : A → Type 0) where
+  pub used-found : (h : ℕ) (a : A) (t : Row A) → Each (Used P) t → find h t ≡ some a → P a
+  used-found h a [] u p = absurd (none≢some p)
+  used-found h a (none ∷ t) u p = used-found h a t (u .1) p
+  used-found h a (some e ∷ t) u p = go (eqb h (e .0)) p (used-found h a t (u .1))
     where
-      pick : (o : Option A) → Option·map (λ _. v) o ≡ some a → a ≡ v
-      pick none r = absurd (none≢some r)
-      pick (some a₀) r = sym (some-inj r)
+      go : (b : Bool) → cond b (some (e .1)) (find h t) ≡ some a → (find h t ≡ some a → P a) → P a
+      go true q ih = subst P (some-inj q) (u .0)
+      go false q ih = ih q
 
-      go : (b : Bool) → eqb h j ≡ b → (a ≡ v) ⊎ (find h t ≡ some a)
-      go true e =
-          let hj : h ≡ j = eqb-sound h j e in
-          inl (pick (find j t) (sym (find-replace-same j v t) ∙ ap (λ (x : ℕ). find x (replace j v t)) (sym hj) ∙ p))
-      go false e = inr (sym (find-replace-other h j v t e) ∙ p)
+  used-replace : (h : ℕ) (v : A) (t : Row A) → P v → Each (Used P) t → Each (Used P) (replace h v t)
+  used-replace h v [] p u = tt
+  used-replace h v (none ∷ t) p u = (tt, used-replace h v t p (u .1))
+  used-replace h v (some e ∷ t) p u = cond-cases (Each (Used P)) (eqb h (e .0)) (λ _. (p, u .1)) (λ _. (u .0, used-replace h v t p (u .1)))
 
-  find-fill-cases : (h j : ℕ) (v : A) (t : Row A) (a : A) → find h (fill j v t) ≡ some a → (a ≡ v) ⊎ (find h t ≡ some a)
-  find-fill-cases h j v [] a p = inr p
-  find-fill-cases h j v (none ∷ t) a p = go (eqb h j) p
-    where
-      go : (b : Bool) → cond b (some v) (find h t) ≡ some a → (a ≡ v) ⊎ (find h t ≡ some a)
-      go true r = inl (sym (some-inj r))
-      go false r = inr r
-  find-fill-cases h j v (some e ∷ t) a p = go (eqb h (e .0)) p (find-fill-cases h j v t a)
-    where
-      go : (b : Bool) → cond b (some (e .1)) (find h (fill j v t)) ≡ some a
-          → (find h (fill j v t) ≡ some a → (a ≡ v) ⊎ (find h t ≡ some a))
-          → (a ≡ v) ⊎ (cond b (some (e .1)) (find h t) ≡ some a)
-      go true r ih = inr r
-      go false r ih = ih r
+  used-fill : (h : ℕ) (v : A) (t : Row A) → P v → Each (Used P) t → Each (Used P) (fill h v t)
+  used-fill h v [] p u = tt
+  used-fill h v (none ∷ t) p u = (p, u .1)
+  used-fill h v (some e ∷ t) p u = (u .0, used-fill h v t p (u .1))
 
-  pub find-put-cases : (h j : ℕ) (v : A) (t : Row A) (a : A) → find h (put j v t) ≡ some a → (a ≡ v) ⊎ (find h t ≡ some a)
+  pub used-put : (h : ℕ) (v : A) (t : Row A) → P v → Each (Used P) t → Each (Used P) (put h v t)
   unfolding put
-  find-put-cases h j v t a p = go (isSome (find j t)) p
-    where
-      go : (b : Bool) → find h (cond b (replace j v t) (fill j v t)) ≡ some a → (a ≡ v) ⊎ (find h t ≡ some a)
-      go true q = find-replace-cases h j v t a q
-      go false q = find-fill-cases h j v t a q
+  used-put h v t p u = cond-cases (Each (Used P)) (isSome (find h t)) (λ _. used-replace h v t p u) (λ _. used-fill h v t p u)
+
+  pub used-freed : (t : Row A) → Each (Used P) (freed t)
+  used-freed [] = tt
+  used-freed (o ∷ t) = (tt, used-freed t)
+
+  pub used-none : (n : ℕ) → Each (Used P) (replicate n none)
+  used-none zero = tt
+  used-none (suc n) = (tt, used-none n)
+
+pub used-map : {A : Type 0} (P Q : A → Type 0) → ((a : A) → P a → Q a) → (t : Row A) → Each (Used P) t → Each (Used Q) t
+used-map P Q f [] u = tt
+used-map P Q f (none ∷ t) u = (tt, used-map P Q f t (u .1))
+used-map P Q f (some e ∷ t) u = (f (e .1) (u .0), used-map P Q f t (u .1))

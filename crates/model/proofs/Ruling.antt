@@ -1,36 +1,36 @@
 -- Every call keeps the rules of the state, refused calls too: those of any content, and those of what a new standby reaches.
 -- Assumes nothing.
-use mathlib.Core.Path.{_≡_, refl, sym, ap, subst, _∙_}
+use mathlib.Core.Path.{_≡_, refl, sym, ap, _∙_}
 use Prim.Native.Nat.{ℕ, zero, suc, _+_, _-_, _≤_, _<_, min}
 use native.Mathlib.Omega.{arith}
 use native.Mathlib.Nat.{le-trans, le-refl, le-of-eq}
 use mathlib.Core.List.{List, [], _∷_, _++_}
-use mathlib.Core.Option.{Option, none, some, Option·map}
+use mathlib.Core.Option.{Option, some, Option·map}
 use mathlib.Core.Bool.{Bool, true, false, cond, not, _&&_, _||_}
-use mathlib.Core.Logic.{_⊎_, inl, inr}
 use lib.ListN.{length, length-append, getD, take, length-take, getElem?}
-use lib.Dec.{T, ltb, leb, eqb, leb→le, nleb→lt, ltb→lt, nltb→le}
+use lib.Dec.{T, ltb, leb, eqb, nleb→lt, ltb→lt}
 use Rattle.model_text.specs.Printable.{isPlain, allPlain, isPrintable, isMarks}
 use Rattle.model_text.specs.Stamp.{isStamp, takesStamp}
 use Rattle.model_text.specs.Utf8.{utf8}
 use Rattle.model_text.proofs.Laws.{marks-is, takes-keeps}
-use Rattle.model_frame.specs.Frame.{Key, Change, setIncoming, setIncomingInFlight, setInFlight, recordMsg, recordBare, reset, setCreatedAt, setMarks, Part, commit, whole, lastWhole, AppRecord, Frame, hello, welcome, bind, batch, ack, nack, bound, checked, Decoded, more, faulty, got}
+use Rattle.model_frame.specs.Frame.{Key, Change, setIncoming, setIncomingInFlight, setInFlight, recordMsg, recordBare, reset, setCreatedAt, setMarks, Part, Frame, hello, welcome, bind, batch, ack, nack, bound, checked, Decoded, more, faulty, got}
 use Rattle.model_frame.specs.Parse.{isEmpty, Each}
 use Rattle.model_frame.specs.Reading.{decode, maxBody}
 use Rattle.model_frame.specs.Writing.{sizes, fine, fineChange, allFine, Ranged, RangedChange, ByteChange, ByteFrame}
 use Rattle.model_frame.proofs.Sizes.{body-size}
 use Rattle.model_frame.proofs.Sound.{decode-sound}
 use Rattle.model_session.specs.Session.{fits, messageBytes, top, Holdable, Storable, isBytes}
-use Rattle.model_session.proofs.Basics.{T→true, true→T, and-l, and-r, and-true, leb-true, cond-cases, none≢some, true≢false, each-append}
+use Rattle.model_session.proofs.Basics.{T→true, true→T, and-l, and-r, and-true, leb-true, cond-cases, true≢false, each-append}
 use Rattle.model_session.proofs.Sending.{messageBytes-append}
 use Rattle.model_session.proofs.Keeping.{apply-all-keeps, rising-up, new-holdable}
 use Rattle.model.specs.Answer.{protocolVersion, Given, damaged, intact, judged, given, isReply}
-use Rattle.model.specs.Row.{Row, find, hasRoom, put}
+use Rattle.model.specs.Row.{Row, Used, find}
 use Rattle.model.specs.Store.{Stored, Place, placeOf, isStored, onPlace, sessionAt, orNew, newPlace, opened, changed, withB, takenOver}
-use Rattle.model.specs.State.{Settings, incarnationOf, Bound, Standby, Result, Call, onFrameHeld, onFrame, flush, disconnectedFrom, promote, promoteUnchecked, newStandby, atEpoch, newBound, noneHeld, numbered}
-use Rattle.model.specs.Standby.{withCounters, withHandle, unbound, runPending, due, pendsOn, onHello, bindTo, onBind, onChecked, heldSum, raised, maxWhole, startsWithReset, summed, holding, applied, settle, hold, onPart, follows, onHandle, onBatch, onIntact, onGiven, promotion, step, run}
+use Rattle.model.specs.State.{Settings, Bound, Standby, Result, Call, onFrameHeld, onFrame, flush, disconnectedFrom, promote, promoteUnchecked, newStandby, atEpoch, newBound, noneHeld, numbered}
+use Rattle.model.specs.Standby.{withCounters, withHandle, unbound, runPending, due, pendsOn, bindTo, heldSum, raised, maxWhole, startsWithReset, summed, holding, applied, onGiven, promotion, step, run}
 use Rattle.model.specs.Rules.{OkCall, changesOf, Readable, BoundValid, BoundUsual, Rules, Valid, Usual}
-use Rattle.model.proofs.Rows.{find-freed, find-none, find-put-cases}
+use Rattle.model.proofs.Outcomes.{Gathers, ofCommit, ofLast, Batches, refuses, clears, raises, holds, applies, diverges, Does, turns, tells, nacks, greets, binds, checks, batches, does}
+use Rattle.model.proofs.Rows.{used-found, used-put, used-freed, used-none, used-map}
 use Rattle.model.proofs.Places.{place-low, length-on, pending-length, length-places, each-at, each-on, each-places, each-mark}
 use Rattle.model.proofs.Taking.{starts-append}
 
@@ -72,6 +72,9 @@ module _ (L : Settings) (Also : Bound → Type 0) (closed : Closed Also) where
   grown : (m n : ℕ) (b : Bound) → m ≤ n → BoundValid L m b → BoundValid L n b
   grown m n b h o = record { place-there = le-trans (o .place-there) h; number-u64 = o .number-u64; bytes-u64 = o .bytes-u64; held-small = o .held-small; held-ok = o .held-ok }
 
+  all-grown : (m n : ℕ) (t : Row Bound) → m ≤ n → Each (Used (BoundValid L m)) t → Each (Used (BoundValid L n)) t
+  all-grown m n t h u = used-map (BoundValid L m) (BoundValid L n) (λ b o. grown m n b h o) t u
+
   rules-pending : (w : Bool) (s : Standby) → Rules L Also s → Rules L Also (runPending w s)
   rules-pending w s r =
       record {
@@ -79,7 +82,7 @@ module _ (L : Settings) (Also : Bound → Type 0) (closed : Closed Also) where
         connections-u64 = r .connections-u64;
         places-few = le-trans (le-of-eq (pending-length w s)) (r .places-few);
         sessions-ok = cond-cases (Each Held) w (λ _. each-mark Held (s .pending) (s .places) (λ _ h. h) (r .sessions-ok)) (λ _. r .sessions-ok);
-        handles-ok = λ h b p. grown (length (s .places)) (length (runPending w s .places)) b (le-of-eq (sym (pending-length w s))) (r .handles-ok h b p);
+        handles-ok = all-grown (length (s .places)) (length (runPending w s .places)) (s .handles) (le-of-eq (sym (pending-length w s))) (r .handles-ok);
         handles-also = r .handles-also;
         pending-few = cond-cases (λ (l : List (ℕ × ℕ)). length l ≤ 64) w (λ _. omega arith) (λ _. r .pending-few);
       }
@@ -91,8 +94,8 @@ module _ (L : Settings) (Also : Bound → Type 0) (closed : Closed Also) where
         connections-u64 = r .connections-u64;
         places-few = r .places-few;
         sessions-ok = r .sessions-ok;
-        handles-ok = λ h b p. absurd (none≢some (sym (find-freed h (s .handles)) ∙ p));
-        handles-also = λ h b p. absurd (none≢some (sym (find-freed h (s .handles)) ∙ p));
+        handles-ok = used-freed (BoundValid L _) (s .handles);
+        handles-also = used-freed Also (s .handles);
         pending-few = omega arith;
       }
 
@@ -100,15 +103,8 @@ module _ (L : Settings) (Also : Bound → Type 0) (closed : Closed Also) where
   rules-epoch s e h r =
       record { epoch-u64 = h; connections-u64 = r .connections-u64; places-few = r .places-few; sessions-ok = r .sessions-ok; handles-ok = r .handles-ok; handles-also = r .handles-also; pending-few = r .pending-few }
 
-  found-fine : (n : ℕ) (t : Row Bound) (h : ℕ) (b : Bound) → ((x : ℕ) (y : Bound) → find x t ≡ some y → Fine n y) → Fine n b → (x : ℕ) (y : Bound) → find x (put h b t) ≡ some y → Fine n y
-  found-fine n t h b all fine x y p = go (find-put-cases x h b t y p)
-    where
-      go : (y ≡ b) ⊎ (find x t ≡ some y) → Fine n y
-      go (inl z) = subst (Fine n) (sym z) fine
-      go (inr z) = all x y z
-
   all-fine : (s : Standby) → Rules L Also s → (x : ℕ) (y : Bound) → find x (s .handles) ≡ some y → Fine (length (s .places)) y
-  all-fine s r x y p = (r .handles-ok x y p, r .handles-also x y p)
+  all-fine s r x y p = (used-found (BoundValid L (length (s .places))) x y (s .handles) (r .handles-ok) p, used-found Also x y (s .handles) (r .handles-also) p)
 
   -- a handle gets another value
   rules-set : (s : Standby) (h : ℕ) (b : Bound) → Fine (length (s .places)) b → Rules L Also s → Rules L Also (withHandle s h b)
@@ -118,8 +114,8 @@ module _ (L : Settings) (Also : Bound → Type 0) (closed : Closed Also) where
         connections-u64 = r .connections-u64;
         places-few = r .places-few;
         sessions-ok = r .sessions-ok;
-        handles-ok = λ x y p. found-fine (length (s .places)) (s .handles) h b (all-fine s r) fine x y p .0;
-        handles-also = λ x y p. found-fine (length (s .places)) (s .handles) h b (all-fine s r) fine x y p .1;
+        handles-ok = used-put (BoundValid L (length (s .places))) h b (s .handles) (fine .0) (r .handles-ok);
+        handles-also = used-put Also h b (s .handles) (fine .1) (r .handles-also);
         pending-few = r .pending-few;
       }
 
@@ -141,8 +137,8 @@ module _ (L : Settings) (Also : Bound → Type 0) (closed : Closed Also) where
         connections-u64 = r .connections-u64;
         places-few = le-trans (le-of-eq same) (r .places-few);
         sessions-ok = sessions-changed (s .places) (b .place) cs o ft (r .sessions-ok);
-        handles-ok = λ x y p. grown (length (s .places)) (length (applied L s h b n cs .places)) y (le-of-eq (sym same)) (found-fine (length (s .places)) (s .handles) h (numbered n b) (all-fine s r) fine₁ x y p .0);
-        handles-also = λ x y p. found-fine (length (s .places)) (s .handles) h (numbered n b) (all-fine s r) fine₁ x y p .1;
+        handles-ok = all-grown (length (s .places)) (length (applied L s h b n cs .places)) (applied L s h b n cs .handles) (le-of-eq (sym same)) (used-put (BoundValid L (length (s .places))) h (numbered n b) (s .handles) (fine₁ .0) (r .handles-ok));
+        handles-also = used-put Also h (numbered n b) (s .handles) (fine₁ .1) (r .handles-also);
         pending-few = omega (arith, length-append (s .pending) ((h, b .place) ∷ []));
       }
     where
@@ -155,75 +151,34 @@ module _ (L : Settings) (Also : Bound → Type 0) (closed : Closed Also) where
   abbrev Keeps : Result → Type 0
   Keeps x = Rules L Also (x .state)
 
-  keeps-settle : (s : Standby) (h : ℕ) (b : Bound) (n : ℕ) (cs : List Change) → suc (length (s .pending)) ≤ 64 → n ≤ top → Each Storable cs → Fine (length (s .places)) b → Rules L Also s → Keeps (settle L s h b n cs)
-  unfolding settle
-  keeps-settle s h b n cs few hn o fine r =
-      cond-cases Keeps (fits (orNew (sessionAt (s .places) (b .place)) .nextOut) cs)
-      (λ t. rules-applied s h b n cs few hn o fine (T→true (fits (orNew (sessionAt (s .places) (b .place)) .nextOut) cs) t) r)
-      (λ _. rules-set s h b fine r)
+  -- ---- a Batch
 
-  -- ---- a Whole or LastWhole
+  gather-fine : {p : Part} {b b₁ : Bound} {cs all : List Change} (n : ℕ) → Gathers L p b cs b₁ all → Fine n b → Each Storable cs → Fine n b₁ × Each Storable all
+  gather-fine n (ofCommit e) o oc = (o, oc)
+  gather-fine n (ofLast {b} {cs} q) o oc = (none-fine n b o, each-append Storable (b .held) cs (o .0 .held-ok) oc)
 
-  keeps-hold : (s : Standby) (h : ℕ) (b : Bound) (cs : List Change) (go : Result) → messageBytes cs ≤ maxBody → Fine (length (s .places)) b → Rules L Also s
-      → (T (not (isEmpty (b .held) && not (startsWithReset cs))) → raised b cs ≤ maxWhole → sizes (b .held ++ cs) ≤ L .room → Keeps go) → Keeps (hold L s h b cs go)
-  unfolding hold
-  keeps-hold s h b cs go small o r k =
-      cond-cases Keeps (isEmpty (b .held) && not (startsWithReset cs)) (λ _. r)
-      (λ t₁. cond-cases Keeps (ltb maxWhole (raised b cs))
-      (λ t. rules-set s h (summed b cs) (
+  keeps-batch : {s : Standby} {h n : ℕ} {p : Part} {cs : List Change} {r : Result} → Batches L s h n p cs r → suc (length (s .pending)) ≤ 64 → n ≤ top → Each Storable cs → messageBytes cs ≤ maxBody
+      → Rules L Also s → Keeps r
+  keeps-batch (refuses t) few hn oc small r = r
+  keeps-batch {s} {h} (clears {b} f) few hn oc small r = rules-set s h (noneHeld b) (none-fine (length (s .places)) b (all-fine s r h b f)) r
+  keeps-batch {s} {h} {cs} (raises {b} f t) few hn oc small r =
+      let o = all-fine s r h b f in
+      rules-set s h (summed b cs) (
         record { place-there = o .0 .place-there; number-u64 = o .0 .number-u64; bytes-u64 = omega arith; held-small = o .0 .held-small; held-ok = o .0 .held-ok },
-        closed .raises b cs small (leb→le (suc maxWhole) (raised b cs) t) (o .1),
-      ) r)
-      (λ t₂. cond-cases Keeps (ltb (L .room) (sizes (b .held ++ cs))) (λ _. r)
-      (λ t₃. k t₁ (nltb→le maxWhole (raised b cs) t₂) (nltb→le (L .room) (sizes (b .held ++ cs)) t₃))))
+        closed .raises b cs small t (o .1),
+      ) r
+  keeps-batch {s} {h} {n} {cs} (holds {b} f e q) few hn oc small r =
+      let o = all-fine s r h b f in
+      rules-set s h (holding b n cs) (
+        record { place-there = o .0 .place-there; number-u64 = hn; bytes-u64 = omega arith; held-small = q .small; held-ok = each-append Storable (b .held) cs (o .0 .held-ok) oc },
+        closed .takes b n cs (q .begins) (q .few) (o .1),
+      ) r
+  keeps-batch {s} {h} {n} (applies {b} {b₁} {all} f g t) few hn oc small r =
+      let o = gather-fine (length (s .places)) g (all-fine s r h b f) oc in
+      rules-applied s h b₁ n all few hn (o .1) (o .0) t r
+  keeps-batch {s} {h} (diverges {b} {b₁} f g) few hn oc small r = rules-set s h b₁ (gather-fine (length (s .places)) g (all-fine s r h b f) oc .0) r
 
-  keeps-part : (s : Standby) (h : ℕ) (b : Bound) (n : ℕ) (p : Part) (cs : List Change) → suc (length (s .pending)) ≤ 64 → n ≤ top → Each Storable cs → messageBytes cs ≤ maxBody
-      → Fine (length (s .places)) b → Rules L Also s → Keeps (onPart L s h b n p cs)
-  unfolding onPart
-  keeps-part s h b n commit cs few hn oc small o r = cond-cases Keeps (not (isEmpty (b .held))) (λ _. r) (λ _. keeps-settle s h b n cs few hn oc o r)
-  keeps-part s h b n whole cs few hn oc small o r =
-      keeps-hold s h b cs _ small o r
-      (λ begins le room. rules-set s h (holding b n cs) (
-        record { place-there = o .0 .place-there; number-u64 = hn; bytes-u64 = omega arith; held-small = room; held-ok = each-append Storable (b .held) cs (o .0 .held-ok) oc },
-        closed .takes b n cs begins le (o .1),
-      ) r)
-  keeps-part s h b n lastWhole cs few hn oc small o r =
-      keeps-hold s h b cs _ small o r
-      (λ _ _ _. keeps-settle s h (noneHeld b) n (b .held ++ cs) few hn (each-append Storable (b .held) cs (o .0 .held-ok) oc) (none-fine (length (s .places)) b o) r)
-
-  keeps-handle : (s : Standby) (h : ℕ) (o : Option Bound) (n : ℕ) (p : Part) (cs : List Change) → suc (length (s .pending)) ≤ 64 → n ≤ top → Each Storable cs → messageBytes cs ≤ maxBody
-      → find h (s .handles) ≡ o → Rules L Also s → Keeps (onHandle L s h o n p cs)
-  unfolding onHandle
-  keeps-handle s h none n p cs few hn oc small f r = r
-  keeps-handle s h (some b) n p cs few hn oc small f r =
-      cond-cases Keeps (follows b n) (λ _. keeps-part s h b n p cs few hn oc small (all-fine s r h b f) r)
-      (λ _. rules-set s h (noneHeld b) (none-fine (length (s .places)) b (all-fine s r h b f)) r)
-
-  keeps-batch : (s : Standby) (h e n : ℕ) (p : Part) (cs : List Change) (apps : List AppRecord) → suc (length (s .pending)) ≤ 64 → Readable (batch h e n p cs apps) → Rules L Also s → Keeps (onBatch L s h e n p cs apps)
-  unfolding onBatch
-  keeps-batch s h e n p cs apps few o r =
-      cond-cases Keeps (not (isEmpty apps)) (λ _. r)
-      (λ _. cond-cases Keeps (ltb e (s .counters .epoch)) (λ _. r)
-      (λ _. keeps-handle (withCounters s (atEpoch e (s .counters))) h (find h (s .handles)) n p cs few (omega (arith, o .writable .ranged .2)) (o .storable)
-      (omega (arith, bytes-in-size cs, o .writable .short, body-size (batch h e n p cs apps))) refl (rules-epoch s e (omega (arith, o .writable .ranged .1)) r)))
-
-  -- ---- the other frames
-
-  keeps-hello : (s : Standby) (v e : ℕ) (kinds : List ℕ) → e ≤ top → Rules L Also s → Keeps (onHello L s v e kinds)
-  unfolding onHello
-  keeps-hello s v e kinds he r =
-      cond-cases Keeps (not (eqb v protocolVersion)) (λ _. r)
-      (λ _. cond-cases Keeps (not (isEmpty kinds)) (λ _. r)
-      (λ _. cond-cases Keeps (ltb e (s .counters .epoch)) (λ _. r)
-      (λ _. let u = rules-unbound s r in
-      record { epoch-u64 = he; connections-u64 = omega arith; places-few = u .places-few; sessions-ok = u .sessions-ok; handles-ok = u .handles-ok; handles-also = u .handles-also; pending-few = u .pending-few })))
-
-  keeps-checked : (s : Standby) (h e i : ℕ) → e ≤ top → Rules L Also s → Keeps (onChecked L s h e i)
-  unfolding onChecked
-  keeps-checked s h e i he r =
-      cond-cases Keeps (ltb e (s .counters .epoch)) (λ _. r)
-      (λ _. cond-cases Keeps (not (eqb i (incarnationOf L))) (λ _. r)
-      (λ _. record { epoch-u64 = he; connections-u64 = r .connections-u64; places-few = r .places-few; sessions-ok = r .sessions-ok; handles-ok = r .handles-ok; handles-also = r .handles-also; pending-few = r .pending-few }))
+  -- ---- a Bind
 
   open-length : (j : Key) (ps : List Place) → length ps ≤ length (opened j ps)
   open-length j ps = cond-cases (λ (l : List Place). length ps ≤ length l) (isStored j ps) (λ _. le-refl (length ps)) (λ _. omega (arith, length-append ps (newPlace j ∷ [])))
@@ -250,31 +205,40 @@ module _ (L : Settings) (Also : Bound → Type 0) (closed : Closed Also) where
         connections-u64 = r .connections-u64;
         places-few = open-few j (s .places) (r .places-few) room;
         sessions-ok = open-held j (s .places) (r .sessions-ok);
-        handles-ok = λ x y p. one x y (find-put-cases x h b (s .handles) y p) .0;
-        handles-also = λ x y p. one x y (find-put-cases x h b (s .handles) y p) .1;
+        handles-ok =
+            used-put (BoundValid L (length (opened j (s .places)))) h (newBound (placeOf j (s .places))) (s .handles)
+            (record { place-there = open-there j (s .places); number-u64 = omega arith; bytes-u64 = omega arith; held-small = omega arith; held-ok = tt })
+            (all-grown (length (s .places)) (length (opened j (s .places))) (s .handles) (open-length j (s .places)) (r .handles-ok));
+        handles-also = used-put Also h (newBound (placeOf j (s .places))) (s .handles) (closed .binds (placeOf j (s .places))) (r .handles-also);
         pending-few = r .pending-few;
       }
-    where
-      b : Bound
-      b = newBound (placeOf j (s .places))
 
-      one : (x : ℕ) (y : Bound) → (y ≡ b) ⊎ (find x (s .handles) ≡ some y) → Fine (length (opened j (s .places))) y
-      one x y (inl z) =
-          subst (Fine (length (opened j (s .places)))) (sym z)
-          (record { place-there = open-there j (s .places); number-u64 = omega arith; bytes-u64 = omega arith; held-small = omega arith; held-ok = tt }, closed .binds (placeOf j (s .places)))
-      one x y (inr z) = (grown (length (s .places)) (length (opened j (s .places))) y (open-length j (s .places)) (r .handles-ok x y z), r .handles-also x y z)
+  -- ---- every frame
 
-  keeps-bind : (s : Standby) (h e lag : ℕ) (j : Key) → Rules L Also s → Keeps (onBind L s h e lag j)
-  unfolding onBind
-  keeps-bind s h e lag j r =
-      cond-cases Keeps (ltb e (s .counters .epoch)) (λ _. r)
-      (λ _. cond-cases Keeps (ltb (L .lag) lag) (λ _. r)
-      (λ _. cond-cases Keeps (not (isStored j (s .places) || ltb (length (s .places)) (L .S))) (λ _. r)
-      (λ t. cond-cases Keeps (not (hasRoom h (s .handles))) (λ _. r) (λ _. rules-bind s h j (not-not (isStored j (s .places) || ltb (length (s .places)) (L .S)) t) r))))
-    where
-      not-not : (b : Bool) → T (not (not b)) → b ≡ true
-      not-not true u = refl
-      not-not false u = absurd u
+  -- fewer than 64 commits are pending before a Batch
+  abbrev Room : Standby → Frame → Type 0
+  Room s (hello v e node kinds) = Unit {0}
+  Room s (welcome e i) = Unit {0}
+  Room s (bind h e lag k) = Unit {0}
+  Room s (batch h e n p cs apps) = suc (length (s .pending)) ≤ 64
+  Room s (ack h n) = Unit {0}
+  Room s (nack h r) = Unit {0}
+  Room s (bound h m) = Unit {0}
+  Room s (checked h e i) = Unit {0}
+
+  keeps : {s : Standby} {f : Frame} {r : Result} → Does L s f r → Room s f → Readable f → Rules L Also s → Keeps r
+  keeps (turns t) room o r = r
+  keeps tells room o r = r
+  keeps (nacks q) room o r = r
+  keeps {s} (greets le) room o r =
+      let u = rules-unbound s r in
+      record { epoch-u64 = omega (arith, o .writable .ranged .1); connections-u64 = omega arith; places-few = u .places-few; sessions-ok = u .sessions-ok; handles-ok = u .handles-ok; handles-also = u .handles-also; pending-few = u .pending-few }
+  keeps {s} (binds {h} {k} le p q) room o r = rules-bind s h k p r
+  keeps (checks le) room o r =
+      record { epoch-u64 = omega (arith, o .writable .ranged .1); connections-u64 = r .connections-u64; places-few = r .places-few; sessions-ok = r .sessions-ok; handles-ok = r .handles-ok; handles-also = r .handles-also; pending-few = r .pending-few }
+  keeps {s} (batches {h} {e} {n} {p} {cs} {apps} le d) room o r =
+      keeps-batch d room (omega (arith, o .writable .ranged .2)) (o .storable) (omega (arith, bytes-in-size cs, o .writable .short, body-size (batch h e n p cs apps)))
+      (rules-epoch s e (omega (arith, o .writable .ranged .1)) r)
 
   -- before a Batch fewer than 64 commits are pending
   few-due : (s : Standby) (h : ℕ) (w : Bool) → (leb 64 (length (s .pending)) || pendsOn h (s .pending)) ≡ w → suc (length (runPending w s .pending)) ≤ 64
@@ -285,21 +249,20 @@ module _ (L : Settings) (Also : Bound → Type 0) (closed : Closed Also) where
       go true b q = absurd (true≢false q)
       go false b q = tt
 
-  keeps-intact : (s : Standby) (f : Frame) → Readable f → Rules L Also s → Keeps (onIntact L (runPending (due (s .pending) f) s) f)
-  keeps-intact s (hello v e node kinds) o r = keeps-hello (runPending (due (s .pending) (hello v e node kinds)) s) v e kinds (omega (arith, o .writable .ranged .1)) (rules-pending (due (s .pending) (hello v e node kinds)) s r)
-  keeps-intact s (welcome e i) o r = rules-pending (due (s .pending) (welcome e i)) s r
-  keeps-intact s (bind h e lag k) o r = keeps-bind (runPending (due (s .pending) (bind h e lag k)) s) h e lag k (rules-pending (due (s .pending) (bind h e lag k)) s r)
-  keeps-intact s (batch h e n p cs apps) o r =
-      keeps-batch (runPending (due (s .pending) (batch h e n p cs apps)) s) h e n p cs apps (few-due s h (due (s .pending) (batch h e n p cs apps)) refl) o (rules-pending (due (s .pending) (batch h e n p cs apps)) s r)
-  keeps-intact s (ack h n) o r = rules-pending (due (s .pending) (ack h n)) s r
-  keeps-intact s (nack h x) o r = rules-pending (due (s .pending) (nack h x)) s r
-  keeps-intact s (bound h m) o r = rules-pending (due (s .pending) (bound h m)) s r
-  keeps-intact s (checked h e i) o r = keeps-checked (runPending (due (s .pending) (checked h e i)) s) h e i (omega (arith, o .writable .ranged .1)) (rules-pending (due (s .pending) (checked h e i)) s r)
+  room-due : (s : Standby) (f : Frame) → Room (runPending (due (s .pending) f) s) f
+  room-due s (hello v e node kinds) = tt
+  room-due s (welcome e i) = tt
+  room-due s (bind h e lag k) = tt
+  room-due s (batch h e n p cs apps) = few-due s h (due (s .pending) (batch h e n p cs apps)) refl
+  room-due s (ack h n) = tt
+  room-due s (nack h r) = tt
+  room-due s (bound h m) = tt
+  room-due s (checked h e i) = tt
 
   keeps-given : (s : Standby) (g : Given) → Passed g → Rules L Also s → Keeps (onGiven L s g)
   unfolding onGiven
   keeps-given s (damaged n) o r = r
-  keeps-given s (intact f) o r = cond-cases Keeps (s .counters .promoted) (λ _. r) (λ _. keeps-intact s f o r)
+  keeps-given s (intact f) o r = cond-cases Keeps (s .counters .promoted) (λ _. r) (λ _. keeps (does L (runPending (due (s .pending) f) s) f) (room-due s f) o (rules-pending (due (s .pending) f) s r))
 
   -- ---- promotion
 
@@ -356,8 +319,8 @@ module _ (L : Settings) (Also : Bound → Type 0) (closed : Closed Also) where
         connections-u64 = r .connections-u64;
         places-few = le-trans (le-of-eq (length-places (takenOver (L .lag)) (s .places))) (r .places-few);
         sessions-ok = each-places Held (takenOver (L .lag)) (s .places) (λ x h. taken-holdable (L .lag) (x .stored) h) (r .sessions-ok);
-        handles-ok = λ h b p. absurd (none≢some (sym (find-freed h (s .handles)) ∙ p));
-        handles-also = λ h b p. absurd (none≢some (sym (find-freed h (s .handles)) ∙ p));
+        handles-ok = used-freed (BoundValid L _) (s .handles);
+        handles-also = used-freed Also (s .handles);
         pending-few = omega arith;
       }
 
@@ -497,8 +460,8 @@ module _ (L : Settings) (ps : List Place) (n : ℕ) (few : length ps ≤ L .S) (
         connections-u64 = omega arith;
         places-few = few;
         sessions-ok = held;
-        handles-ok = λ h b p. absurd (none≢some (sym (find-none h n) ∙ p));
-        handles-also = λ h b p. absurd (none≢some (sym (find-none h n) ∙ p));
+        handles-ok = used-none (BoundValid L _) n;
+        handles-also = used-none BoundUsual n;
         pending-few = omega arith;
       }
 
@@ -512,4 +475,4 @@ module _ (L : Settings) (ps : List Place) (n : ℕ) (few : length ps ≤ L .S) (
 
     -- and counting a byte sum as 0 with nothing held changes nothing: what is raised is the handle's byte sum
     pub run-raised : (h : ℕ) (b : Bound) → find h (run L (newStandby ps n) cs .handles) ≡ some b → (own : List Change) → raised b own ≡ min (b .bytes + messageBytes own) top
-    run-raised h b q own = ap (λ (x : ℕ). min (x + messageBytes own) top) (sum-counts b (usual-run .handles-also h b q))
+    run-raised h b q own = ap (λ (x : ℕ). min (x + messageBytes own) top) (sum-counts b (used-found BoundUsual h b (run L (newStandby ps n) cs .handles) (usual-run .handles-also) q))

@@ -1,88 +1,63 @@
--- What any reader expects of a standby: the epoch never falls, damaged frames and promoted standbys leave all as it was.
+-- What any reader expects of a standby: the epoch never falls; damaged frames, those of lower epochs, and promoted standbys leave
+-- all as it was.
 -- Assumes nothing.
 use mathlib.Core.Path.{_≡_, refl, sym, ap, subst, _∙_}
 use Prim.Native.Nat.{ℕ, _≤_}
 use native.Mathlib.Nat.{le-trans, le-refl}
-use mathlib.Core.List.{List, [], _∷_, _++_}
-use mathlib.Core.Option.{Option, none, some}
-use mathlib.Core.Bool.{Bool, true, false, not, _&&_, _||_}
-use lib.ListN.{length}
-use lib.Dec.{ltb, eqb, nltb→le}
-use Rattle.model_frame.specs.Frame.{Change, Part, commit, whole, lastWhole, Frame, hello, welcome, bind, batch, ack, nack, bound, checked}
-use Rattle.model_frame.specs.Parse.{isEmpty}
-use Rattle.model_frame.specs.Writing.{sizes}
-use Rattle.model_session.specs.Session.{fits}
-use Rattle.model_session.proofs.Basics.{cond-cases, cond-true, true≢false}
-use Rattle.model.specs.Answer.{protocolVersion, Given, damaged, intact, given, isReply}
-use Rattle.model.specs.Row.{find, hasRoom}
-use Rattle.model.specs.Store.{isStored, sessionAt, orNew}
-use Rattle.model.specs.State.{Settings, incarnationOf, Bound, Standby, Result, Call, onFrameHeld, onFrame, flush, disconnectedFrom, promote, promoteUnchecked, atEpoch, noneHeld}
-use Rattle.model.specs.Standby.{withCounters, runPending, due, refuse, flushed, onHello, onBind, onChecked, follows, raised, maxWhole, startsWithReset, settle, hold, onPart, onHandle, onBatch, onIntact, onGiven, step, run}
+use native.Mathlib.Omega.{arith}
+use mathlib.Core.List.{List, [], _∷_}
+use mathlib.Core.Option.{none}
+use mathlib.Core.Bool.{Bool, true, false, not, _||_}
+use lib.Dec.{T, eqb, ltb→lt}
+use Rattle.model_frame.specs.Frame.{Change, Part, Frame, checked}
+use Rattle.model_session.proofs.Basics.{cond-cases, cond-true, cond-false, true≢false}
+use Rattle.model.specs.Answer.{Given, damaged, intact, given, lower, isReply}
+use Rattle.model.specs.Row.{find}
+use Rattle.model.specs.State.{Settings, Counters, Standby, Result, Call, onFrameHeld, onFrame, flush, disconnectedFrom, promote, promoteUnchecked}
+use Rattle.model.specs.Standby.{runPending, due, refuse, flushed, onGiven, step, run}
+use Rattle.model.proofs.Outcomes.{Batches, refuses, clears, raises, holds, applies, diverges, Does, turns, tells, nacks, greets, binds, checks, batches, does}
 use Rattle.model.proofs.Rows.{find-freed}
 
 -- ---- the epoch never falls
 
--- the epoch of a state is at least e, and promoted is q
-abbrev Since : ℕ → Bool → Standby → Type 0
-Since e q s = (e ≤ s .counters .epoch) × (s .counters .promoted ≡ q)
+-- a Batch past its epoch changes no counter
+batch-counters : {L : Settings} {s : Standby} {h n : ℕ} {p : Part} {cs : List Change} {r : Result} → Batches L s h n p cs r → r .state .counters ≡ s .counters
+batch-counters (refuses t) = refl
+batch-counters (clears f) = refl
+batch-counters (raises f t) = refl
+batch-counters (holds f q t) = refl
+batch-counters (applies f g t) = refl
+batch-counters (diverges f g) = refl
 
-abbrev Moves : ℕ → Bool → Result → Type 0
-Moves e q r = Since e q (r .state)
+-- the epoch is not below that of s, and promoted is as in s
+abbrev Since : Standby → Standby → Type 0
+Since s s₁ = (s .counters .epoch ≤ s₁ .counters .epoch) × (s₁ .counters .promoted ≡ s .counters .promoted)
 
-module _ (L : Settings) (e : ℕ) (q : Bool) where
-  settle-moves : (s : Standby) (h : ℕ) (b : Bound) (n : ℕ) (cs : List Change) → Since e q s → Moves e q (settle L s h b n cs)
-  unfolding settle
-  settle-moves s h b n cs p = cond-cases (Moves e q) (fits (orNew (sessionAt (s .places) (b .place)) .nextOut) cs) (λ _. p) (λ _. p)
+since : {L : Settings} {s : Standby} {f : Frame} {r : Result} → Does L s f r → Since s (r .state)
+since {s} (turns t) = (le-refl (s .counters .epoch), refl)
+since {s} tells = (le-refl (s .counters .epoch), refl)
+since {s} (nacks q) = (le-refl (s .counters .epoch), refl)
+since (greets le) = (le, refl)
+since {s} (binds le p q) = (le-refl (s .counters .epoch), refl)
+since (checks le) = (le, refl)
+since {s} (batches le d) = (subst (λ (c : Counters). s .counters .epoch ≤ c .epoch) (sym (batch-counters d)) le, ap (λ (c : Counters). c .promoted) (batch-counters d))
 
-  hold-moves : (s : Standby) (h : ℕ) (b : Bound) (cs : List Change) (go : Result) → Since e q s → Moves e q go → Moves e q (hold L s h b cs go)
-  unfolding hold
-  hold-moves s h b cs go p g =
-      cond-cases (Moves e q) (isEmpty (b .held) && not (startsWithReset cs)) (λ _. p)
-      (λ _. cond-cases (Moves e q) (ltb maxWhole (raised b cs)) (λ _. p) (λ _. cond-cases (Moves e q) (ltb (L .room) (sizes (b .held ++ cs))) (λ _. p) (λ _. g)))
-
-  part-moves : (s : Standby) (h : ℕ) (b : Bound) (n : ℕ) (x : Part) (cs : List Change) → Since e q s → Moves e q (onPart L s h b n x cs)
-  unfolding onPart
-  part-moves s h b n commit cs p = cond-cases (Moves e q) (not (isEmpty (b .held))) (λ _. p) (λ _. settle-moves s h b n cs p)
-  part-moves s h b n whole cs p = hold-moves s h b cs _ p p
-  part-moves s h b n lastWhole cs p = hold-moves s h b cs _ p (settle-moves s h (noneHeld b) n (b .held ++ cs) p)
-
-  handle-moves : (s : Standby) (h : ℕ) (o : Option Bound) (n : ℕ) (x : Part) (cs : List Change) → Since e q s → Moves e q (onHandle L s h o n x cs)
-  unfolding onHandle
-  handle-moves s h none n x cs p = p
-  handle-moves s h (some b) n x cs p =
-      cond-cases (Moves e q) (follows b n) (λ _. part-moves s h b n x cs p) (λ _. p)
-
-  intact-moves : (s : Standby) (f : Frame) → Since e q s → Moves e q (onIntact L s f)
-  unfolding onHello onBind onChecked onBatch
-  intact-moves s (hello v e₁ node kinds) p =
-      cond-cases (Moves e q) (not (eqb v protocolVersion)) (λ _. p)
-      (λ _. cond-cases (Moves e q) (not (isEmpty kinds)) (λ _. p)
-      (λ _. cond-cases (Moves e q) (ltb e₁ (s .counters .epoch)) (λ _. p) (λ t. (le-trans (p .0) (nltb→le e₁ (s .counters .epoch) t), p .1))))
-  intact-moves s (welcome e₁ i) p = p
-  intact-moves s (bind h e₁ lag k) p =
-      cond-cases (Moves e q) (ltb e₁ (s .counters .epoch)) (λ _. p)
-      (λ _. cond-cases (Moves e q) (ltb (L .lag) lag) (λ _. p)
-      (λ _. cond-cases (Moves e q) (not (isStored k (s .places) || ltb (length (s .places)) (L .S))) (λ _. p)
-      (λ _. cond-cases (Moves e q) (not (hasRoom h (s .handles))) (λ _. p) (λ _. p))))
-  intact-moves s (batch h e₁ n x cs apps) p =
-      cond-cases (Moves e q) (not (isEmpty apps)) (λ _. p)
-      (λ _. cond-cases (Moves e q) (ltb e₁ (s .counters .epoch)) (λ _. p)
-      (λ t. handle-moves (withCounters s (atEpoch e₁ (s .counters))) h (find h (s .handles)) n x cs (le-trans (p .0) (nltb→le e₁ (s .counters .epoch) t), p .1)))
-  intact-moves s (ack h n) p = p
-  intact-moves s (nack h r) p = p
-  intact-moves s (bound h m) p = p
-  intact-moves s (checked h e₁ i) p =
-      cond-cases (Moves e q) (ltb e₁ (s .counters .epoch)) (λ _. p)
-      (λ t. cond-cases (Moves e q) (not (eqb i (incarnationOf L))) (λ _. p) (λ _. (le-trans (p .0) (nltb→le e₁ (s .counters .epoch) t), p .1)))
-
-  given-moves : (s : Standby) (g : Given) → Since e q s → Moves e q (onGiven L s g)
-  unfolding onGiven
-  given-moves s (damaged n) p = p
-  given-moves s (intact f) p = cond-cases (Moves e q) (s .counters .promoted) (λ _. p) (λ _. intact-moves (runPending (due (s .pending) f) s) f p)
+-- what changes the state is at the standby's epoch at least
+lower-leaves : {L : Settings} {s : Standby} {f : Frame} {r : Result} → Does L s f r → T (lower (s .counters .epoch) f) → r .state ≡ s
+lower-leaves (turns t) u = refl
+lower-leaves tells u = refl
+lower-leaves (nacks q) u = refl
+lower-leaves {s} (greets {e} h) u = absurd (omega (arith, ltb→lt e (s .counters .epoch) u))
+lower-leaves {s} (binds {e} h p q) u = absurd (omega (arith, ltb→lt e (s .counters .epoch) u))
+lower-leaves {s} (checks {e} h) u = absurd (omega (arith, ltb→lt e (s .counters .epoch) u))
+lower-leaves {s} (batches {e} h d) u = absurd (omega (arith, ltb→lt e (s .counters .epoch) u))
 
 module _ (L : Settings) where
-  given-since : (s : Standby) (g : Given) → Moves (s .counters .epoch) (s .counters .promoted) (onGiven L s g)
-  given-since s g = given-moves L (s .counters .epoch) (s .counters .promoted) s g (le-refl (s .counters .epoch), refl)
+  given-since : (s : Standby) (g : Given) → Since s (onGiven L s g .state)
+  unfolding onGiven
+  given-since s (damaged n) = (le-refl (s .counters .epoch), refl)
+  given-since s (intact f) =
+      cond-cases (λ (r : Result). Since s (r .state)) (s .counters .promoted) (λ _. (le-refl (s .counters .epoch), refl)) (λ _. since (does L (runPending (due (s .pending) f) s) f))
 
   step-epoch : (s : Standby) (c : Call) → s .counters .epoch ≤ step L s c .state .counters .epoch
   unfolding step
@@ -109,6 +84,11 @@ module _ (L : Settings) where
   pub damaged-frame : (s : Standby) (w : List ℕ) (n : ℕ) → given w ≡ damaged n → step L s (onFrame w) ≡ refuse s n
   unfolding step onGiven
   damaged-frame s w n p = ap (λ (g : Given). flushed (onGiven L s g)) p
+
+  -- a frame of a lower epoch: at most, due commits run
+  pub lower-frame : (s : Standby) (f : Frame) → s .counters .promoted ≡ false → T (lower (s .counters .epoch) f) → onGiven L s (intact f) .state ≡ runPending (due (s .pending) f) s
+  unfolding onGiven
+  lower-frame s f p t = ap (λ (r : Result). r .state) (cond-false _ _ p) ∙ lower-leaves (does L (runPending (due (s .pending) f) s) f) t
 
   -- any frame after promotion
   promoted-given : (s : Standby) (g : Given) → s .counters .promoted ≡ true → (n : ℕ) × (onGiven L s g ≡ refuse s n)

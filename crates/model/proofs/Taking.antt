@@ -9,8 +9,8 @@ use mathlib.Core.Option.{Option, none, some, Option·map}
 use mathlib.Core.Bool.{Bool, true, false, cond, not, _&&_, _||_}
 use mathlib.Core.Logic.{_⊎_, inl, inr}
 use lib.ListN.{length, getElem?}
-use lib.Dec.{T, T-not, eqb, ltb}
-use Rattle.model_frame.specs.Frame.{Change, setIncoming, setIncomingInFlight, setInFlight, recordMsg, recordBare, reset, setCreatedAt, setMarks, Part, commit, whole, lastWhole, Frame, hello, welcome, bind, batch, ack, nack, bound, checked}
+use lib.Dec.{ltb→lt, T, T-not, eqb, ltb}
+use Rattle.model_frame.specs.Frame.{Change, setIncoming, setIncomingInFlight, setInFlight, recordMsg, recordBare, reset, setCreatedAt, setMarks, Part, whole, lastWhole, Frame, batch, ack}
 use Rattle.model_frame.specs.Parse.{isEmpty, Each}
 use Rattle.model_frame.specs.Writing.{sizes, encode, Writable}
 use Rattle.model_frame.proofs.RoundTrip.{decode-alone}
@@ -20,11 +20,12 @@ use Rattle.model_session.specs.Whole.{joined, framesOf, holdLength}
 use Rattle.model_session.proofs.Basics.{true→T, and-true, cond-cases, cond-true, cond-false, eqb-true, ltb-true, ltb-false, none≢some}
 use Rattle.model_session.proofs.Sending.{wholeChanges, apply-whole, fits-whole, sizes-whole, bytes-whole, messageBytes-append}
 use Rattle.model.specs.Answer.{protocolVersion, Given, damaged, intact, judged, given, Answer, reply, refused, done, accepted, lower, isReply}
-use Rattle.model.specs.Row.{Row, find, hasRoom, put}
-use Rattle.model.specs.Store.{Place, isStored, onStored, sessionAt, orNew, changed}
-use Rattle.model.specs.State.{Settings, incarnationOf, Bound, Standby, Result, Call, flush, disconnectedFrom, atEpoch, noneHeld}
-use Rattle.model.specs.Standby.{withCounters, withHandle, unbound, runPending, due, says, refuse, onHello, onBind, onChecked, heldSum, raised, maxWhole, startsWithReset, applied, settle, hold, onPart, follows, onHandle, onBatch, onIntact, onGiven, step, run}
+use Rattle.model.specs.Row.{Row, find, put}
+use Rattle.model.specs.Store.{Place, onStored, sessionAt, orNew, changed}
+use Rattle.model.specs.State.{Settings, Bound, Standby, Result, Call, flush, disconnectedFrom, atEpoch, noneHeld}
+use Rattle.model.specs.Standby.{withCounters, withHandle, unbound, runPending, due, says, refuse, heldSum, raised, maxWhole, startsWithReset, applied, settle, hold, onPart, onHandle, onBatch, onIntact, onGiven, step, run}
 use Rattle.model.specs.Demand.{isOutside, Hands, byHeld, byFrame, Aside, isLower, isRefused, FirstList, ends, ours, aside, flushes, drops, tookLast, AllTaken}
+use Rattle.model.proofs.Outcomes.{Batches, refuses, clears, raises, holds, applies, diverges, Does, turns, tells, nacks, greets, binds, checks, batches, does}
 use Rattle.model.proofs.Rows.{find-freed, find-put-found}
 use Rattle.model.proofs.Places.{at-on-same, pending-session}
 
@@ -72,72 +73,35 @@ aside-of : {e : ℕ} {w : List ℕ} {a : Answer} → Aside e w a → AsideOf e (
 aside-of {e} {a} (isLower p t) = subst (λ (g : Given). AsideOf e g a) (sym p) (inl t)
 aside-of {e} {w} (isRefused {n} t) = aside-refused e (given w) n t
 
+-- a Batch that passed 13 and the epoch is answered, or refused with 14 to 18
+batch-inside : {L : Settings} {s : Standby} {h n : ℕ} {p : Part} {cs : List Change} {r : Result} → Batches L s h n p cs r → T (outside (r .answer)) → ⊥
+batch-inside (refuses {m} t) u = T-not (isOutside m) t u
+batch-inside (clears f) u = u
+batch-inside (raises f t) u = u
+batch-inside (holds f q t) u = u
+batch-inside (applies f g t) u = u
+batch-inside (diverges f g) u = u
+
+not-both : (e e₀ e₁ : ℕ) → e₀ ≡ e → e₀ ≤ e₁ → T (ltb e₁ e) → ⊥
+not-both e e₀ e₁ p h u = omega (arith, ltb→lt e₁ e u)
+
+-- an aside leaves all as it was
+leaves : {L : Settings} {s : Standby} {f : Frame} {r : Result} (e : ℕ) → s .counters .epoch ≡ e → Does L s f r → T (lower e f) ⊎ T (outside (r .answer)) → Same s (r .state)
+leaves {s} e p (turns t) a = same-refl s
+leaves {s} e p tells a = same-refl s
+leaves {s} e p (nacks q) a = same-refl s
+leaves {s} e p (greets {e = e₁} h) a = elim a [ inl u ↦ absurd (not-both e (s .counters .epoch) e₁ p h u) | inr u ↦ absurd u ]
+leaves {s} e p (binds {e = e₁} h x y) a = elim a [ inl u ↦ absurd (not-both e (s .counters .epoch) e₁ p h u) | inr u ↦ absurd u ]
+leaves {s} e p (checks {e = e₁} h) a = elim a [ inl u ↦ absurd (not-both e (s .counters .epoch) e₁ p h u) | inr u ↦ absurd u ]
+leaves {s} e p (batches {e = e₁} h d) a = elim a [ inl u ↦ absurd (not-both e (s .counters .epoch) e₁ p h u) | inr u ↦ absurd (batch-inside d u) ]
+
 module _ (L : Settings) where
-  -- a Batch that passed 13 and the epoch is answered, or refused with 14 to 18
-  abbrev Inside : Result → Type 0
-  Inside r = T (outside (r .answer)) → ⊥
-
-  settle-inside : (s : Standby) (h : ℕ) (b : Bound) (n : ℕ) (cs : List Change) → Inside (settle L s h b n cs)
-  unfolding settle
-  settle-inside s h b n cs = cond-cases Inside (fits (orNew (sessionAt (s .places) (b .place)) .nextOut) cs) (λ _ x. x) (λ _ x. x)
-
-  hold-inside : (s : Standby) (h : ℕ) (b : Bound) (cs : List Change) (go : Result) → Inside go → Inside (hold L s h b cs go)
-  unfolding hold
-  hold-inside s h b cs go i =
-      cond-cases Inside (isEmpty (b .held) && not (startsWithReset cs)) (λ _ x. x)
-      (λ _. cond-cases Inside (ltb maxWhole (raised b cs)) (λ _ x. x) (λ _. cond-cases Inside (ltb (L .room) (sizes (b .held ++ cs))) (λ _ x. x) (λ _. i)))
-
-  part-inside : (s : Standby) (h : ℕ) (b : Bound) (n : ℕ) (p : Part) (cs : List Change) → Inside (onPart L s h b n p cs)
-  unfolding onPart
-  part-inside s h b n commit cs = cond-cases Inside (not (isEmpty (b .held))) (λ _ x. x) (λ _. settle-inside s h b n cs)
-  part-inside s h b n whole cs = hold-inside s h b cs _ (λ x. x)
-  part-inside s h b n lastWhole cs = hold-inside s h b cs _ (settle-inside s h (noneHeld b) n (b .held ++ cs))
-
-  handle-inside : (s : Standby) (h : ℕ) (o : Option Bound) (n : ℕ) (p : Part) (cs : List Change) → Inside (onHandle L s h o n p cs)
-  unfolding onHandle
-  handle-inside s h none n p cs = λ x. x
-  handle-inside s h (some b) n p cs =
-      cond-cases Inside (follows b n) (λ _. part-inside s h b n p cs) (λ _ x. x)
-
-  -- an aside leaves all as it was
-  abbrev Leaves : ℕ → Frame → Standby → Result → Type 0
-  Leaves e f s r = T (lower e f) ⊎ T (outside (r .answer)) → Same s (r .state)
-
-  not-both : (e e₀ e₁ : ℕ) → e₀ ≡ e → T (not (ltb e₁ e₀)) → T (ltb e₁ e) → ⊥
-  not-both e e₀ e₁ p t u = T-not (ltb e₁ e) (subst (λ (x : ℕ). T (not (ltb e₁ x))) p t) u
-
-  leaves-intact : (e : ℕ) (s : Standby) (f : Frame) → s .counters .epoch ≡ e → Leaves e f s (onIntact L s f)
-  unfolding onHello onBind onChecked onBatch
-  leaves-intact e s (hello v e₁ node kinds) p =
-      cond-cases (Leaves e (hello v e₁ node kinds) s) (not (eqb v protocolVersion)) (λ _ _. same-refl s)
-      (λ _. cond-cases (Leaves e (hello v e₁ node kinds) s) (not (isEmpty kinds)) (λ _ _. same-refl s)
-      (λ _. cond-cases (Leaves e (hello v e₁ node kinds) s) (ltb e₁ (s .counters .epoch)) (λ _ _. same-refl s)
-      (λ t. elim [ inl u ↦ absurd (not-both e (s .counters .epoch) e₁ p t u) | inr u ↦ absurd u ])))
-  leaves-intact e s (welcome e₁ i) p = λ _. same-refl s
-  leaves-intact e s (bind h e₁ lag j) p =
-      cond-cases (Leaves e (bind h e₁ lag j) s) (ltb e₁ (s .counters .epoch)) (λ _ _. same-refl s)
-      (λ t. cond-cases (Leaves e (bind h e₁ lag j) s) (ltb (L .lag) lag) (λ _ _. same-refl s)
-      (λ _. cond-cases (Leaves e (bind h e₁ lag j) s) (not (isStored j (s .places) || ltb (length (s .places)) (L .S))) (λ _ _. same-refl s)
-      (λ _. cond-cases (Leaves e (bind h e₁ lag j) s) (not (hasRoom h (s .handles))) (λ _ _. same-refl s)
-      (λ _. elim [ inl u ↦ absurd (not-both e (s .counters .epoch) e₁ p t u) | inr u ↦ absurd u ]))))
-  leaves-intact e s (batch h e₁ n q cs apps) p =
-      cond-cases (Leaves e (batch h e₁ n q cs apps) s) (not (isEmpty apps)) (λ _ _. same-refl s)
-      (λ _. cond-cases (Leaves e (batch h e₁ n q cs apps) s) (ltb e₁ (s .counters .epoch)) (λ _ _. same-refl s)
-      (λ t. elim [ inl u ↦ absurd (not-both e (s .counters .epoch) e₁ p t u) | inr u ↦ absurd (handle-inside (withCounters s (atEpoch e₁ (s .counters))) h (find h (s .handles)) n q cs u) ]))
-  leaves-intact e s (ack h n) p = λ _. same-refl s
-  leaves-intact e s (nack h r) p = λ _. same-refl s
-  leaves-intact e s (bound h m) p = λ _. same-refl s
-  leaves-intact e s (checked h e₁ i) p =
-      cond-cases (Leaves e (checked h e₁ i) s) (ltb e₁ (s .counters .epoch)) (λ _ _. same-refl s)
-      (λ t. cond-cases (Leaves e (checked h e₁ i) s) (not (eqb i (incarnationOf L))) (λ _ _. same-refl s)
-      (λ _. elim [ inl u ↦ absurd (not-both e (s .counters .epoch) e₁ p t u) | inr u ↦ absurd u ]))
-
   leaves-given : (e : ℕ) (s : Standby) (g : Given) → s .counters .epoch ≡ e → AsideOf e g (onGiven L s g .answer) → Same s (onGiven L s g .state)
   unfolding onGiven
   leaves-given e s (damaged n) p a = same-refl s
   leaves-given e s (intact f) p a =
-      (cond-cases (Leaves e f s) (s .counters .promoted) (λ _ _. same-refl s)
-      (λ _ v. same-trans s (runPending (due (s .pending) f) s) _ (same-pending (due (s .pending) f) s) (leaves-intact e (runPending (due (s .pending) f) s) f p v)))
+      (cond-cases (λ (r : Result). T (lower e f) ⊎ T (outside (r .answer)) → Same s (r .state)) (s .counters .promoted) (λ _ _. same-refl s)
+      (λ _ v. same-trans s (runPending (due (s .pending) f) s) _ (same-pending (due (s .pending) f) s) (leaves e p (does L (runPending (due (s .pending) f) s) f) v)))
       a
 
 module _ (L : Settings) where
@@ -247,8 +211,8 @@ module _ (L : Settings) (A B : Session) (here h e : ℕ) (okA : Holdable (L .C) 
   same-holding : (s s₁ : Standby) (m : ℕ) (H : List Change) → Same s s₁ → Holding s m H → Holding s₁ m H
   same-holding s s₁ m H p q = record { rests = same-resting s s₁ B p (q .rests); sum = q .sum; handle = ap (find h) (p .handles) ∙ q .handle; counted = q .counted }
 
-  holds : (H cs rest : List Change) → H ++ (cs ++ rest) ≡ wholeChanges A → startsWithReset (H ++ cs) ≡ true → Holds L H cs
-  holds H cs rest w b =
+  fits-in : (H cs rest : List Change) → H ++ (cs ++ rest) ≡ wholeChanges A → startsWithReset (H ++ cs) ≡ true → Holds L H cs
+  fits-in H cs rest w b =
       record {
         begins = b;
         few = omega (arith, messageBytes-append H (cs ++ rest), messageBytes-append cs rest, ap messageBytes w, bytes-whole A, okA .msgs-bytes);
@@ -274,7 +238,7 @@ module _ (L : Settings) (A B : Session) (here h e : ℕ) (okA : Holdable (L .C) 
       is : onBatch L s h e (suc m) whole cs [] ≡ says (withHandle (withCounters s (atEpoch e (s .counters))) h (heldAt L here (suc m) (H ++ cs) y)) (ack h (suc m))
       is =
           batch-part L s e h (heldAt L here m H (q .sum)) whole cs (q .rests .epoch) (q .handle) lt
-          ∙ hold-passes L (withCounters s (atEpoch e (s .counters))) h here m H cs (q .sum) _ (q .counted) (holds H cs rest w b)
+          ∙ hold-passes L (withCounters s (atEpoch e (s .counters))) h here m H cs (q .sum) _ (q .counted) (fits-in H cs rest w b)
 
       now : Holding (withHandle (withCounters s (atEpoch e (s .counters))) h (heldAt L here (suc m) (H ++ cs) y)) (suc m) (H ++ cs)
       now =
@@ -301,7 +265,7 @@ module _ (L : Settings) (A B : Session) (here h e : ℕ) (okA : Holdable (L .C) 
       is : onBatch L s h e (suc m) lastWhole cs [] ≡ says s₁ (ack h (suc m))
       is =
           batch-part L s e h (heldAt L here m H (q .sum)) lastWhole cs (q .rests .epoch) (q .handle) lt
-          ∙ hold-passes L (withCounters s (atEpoch e (s .counters))) h here m H cs (q .sum) _ (q .counted) (holds H cs [] w b)
+          ∙ hold-passes L (withCounters s (atEpoch e (s .counters))) h here m H cs (q .sum) _ (q .counted) (fits-in H cs [] w b)
           ∙ cond-true _ _ (ap (fits (orNew (sessionAt (s .places) here) .nextOut)) all ∙ fits-whole (L .C) (L .M) A (orNew (sessionAt (s .places) here) .nextOut) okA)
 
       up : (o : Option Place) → Option·map (λ (x : Place). x .stored .session) o ≡ some B → Option·map (λ (x : Place). x .stored .session) (Option·map (onStored (changed (L .C) (L .M) (H ++ cs))) o) ≡ some A

@@ -21,7 +21,7 @@ use Rattle.model.specs.Row.{put}
 use Rattle.model.specs.Store.{sessionAt}
 use Rattle.model.specs.State.{Bound, Standby, Call, onFrameHeld, onFrame, flush, disconnectedFrom}
 use Rattle.model.specs.Standby.{onBatch, onHandle, onPart, hold, settle, onGiven, step, run}
-use Rattle.model.specs.PlainCopy.{OwnKey}
+use Rattle.model.specs.PlainCopy.{OwnKey, copyAt, copyRun}
 use Rattle.model.specs.Demand.{Start, byHeld, byFrame, isLower, isRefused, FirstList, ends, ours, aside, flushes, drops, tookLast}
 use Rattle.model.proofs.Demand3.{demand-3}
 use Rattle.model.proofs.Examples.{L₀, keyOf}
@@ -142,7 +142,11 @@ took₂ = refl
 left-B : sessionAt (run L₀ s₀ calls₂ .places) 1 ≡ some newSession
 left-B = demand-3 L₀ 3 A₀ newSession k₀ 9 b₀ s₀ a-start calls₂ list₂ .is-A-or-B ∙ ap (λ (x : Bool). some (cond x A₀ newSession)) took₂
 
--- and by computing
-made-A-so : sessionAt (run L₀ s₀ calls₁ .places) 1 ∷ sessionAt (run L₀ s₀ calls₂ .places) 1 ∷ [] ≡ some A₀ ∷ some newSession ∷ []
+-- and by computing: the standby's session, and the plain copy's
+computed-so : sessionAt (run L₀ s₀ calls₁ .places) 1 ∷ sessionAt (run L₀ s₀ calls₂ .places) 1 ∷ [] ≡ some A₀ ∷ some newSession ∷ []
 unfolding step onGiven onBatch onHandle onPart hold settle apply keep put given encode bodyBytes blobBytes changeBytes runBytes bytesOf decode le num bytes blob text count many body fields batchFields ackFields changes readChange setIncomingInFlightFields recordMsgFields recordBareFields setCreatedAtFields setMarksFields appRecords partByte stamp marks utf8 wellFormed leadLength ownBits least fitting isScalar isSurrogate isPlain isPrintable isMarks isDigit isPair isStamp takesStamp
-made-A-so = refl
+computed-so = refl
+
+copies-so : copyRun L₀ k₀ (copyAt newSession s₀) s₀ calls₁ .session ∷ copyRun L₀ k₀ (copyAt newSession s₀) s₀ calls₂ .session ∷ [] ≡ A₀ ∷ newSession ∷ []
+unfolding step onGiven onBatch onHandle onPart hold settle apply keep put given encode bodyBytes blobBytes changeBytes runBytes bytesOf decode le num bytes blob text count many body fields batchFields ackFields changes readChange setIncomingInFlightFields recordMsgFields recordBareFields setCreatedAtFields setMarksFields appRecords partByte stamp marks utf8 wellFormed leadLength ownBits least fitting isScalar isSurrogate isPlain isPrintable isMarks isDigit isPair isStamp takesStamp
+copies-so = refl

@@ -13,6 +13,11 @@ isSome (some a) = true
 abbrev pub Row : Type 0 → Type 0
 Row A = List (Option (ℕ × A))
 
+-- P holds of the value, where the place is taken
+abbrev pub Used : {A : Type 0} → (A → Type 0) → Option (ℕ × A) → Type 0
+Used P none = Unit {0}
+Used P (some e) = P (e .1)
+
 module _ {A : Type 0} where
   -- all places free
   abbrev pub freed : Row A → Row A

@@ -3,7 +3,6 @@
 use mathlib.Core.Path.{_≡_}
 use Prim.Native.Nat.{ℕ, _≤_, _<_}
 use mathlib.Core.List.{List, []}
-use mathlib.Core.Option.{some}
 use mathlib.Core.Bool.{true, _||_}
 use lib.ListN.{length}
 use lib.Dec.{T}
@@ -12,7 +11,7 @@ use Rattle.model_frame.specs.Parse.{isEmpty, Each}
 use Rattle.model_frame.specs.Writing.{sizes, Writable}
 use Rattle.model_session.specs.Session.{Holdable, Storable, isBytes, messageBytes, top}
 use Rattle.model.specs.Answer.{protocolVersion}
-use Rattle.model.specs.Row.{find}
+use Rattle.model.specs.Row.{Used}
 use Rattle.model.specs.Store.{Place}
 use Rattle.model.specs.State.{Settings, Bound, Standby, Call, onFrameHeld, onFrame, flush, disconnectedFrom, promote, promoteUnchecked}
 use Rattle.model.specs.Standby.{startsWithReset, maxWhole}
@@ -58,8 +57,8 @@ pub record Rules (L : Settings) (Also : Bound → Type 0) (s : Standby) : Type 0
   pub connections-u64 : s .counters .connections ≤ top
   pub places-few : length (s .places) ≤ L .S
   pub sessions-ok : Each (λ (x : Place). Holdable (L .C) (L .M) (x .stored .session)) (s .places)
-  pub handles-ok : (h : ℕ) (b : Bound) → find h (s .handles) ≡ some b → BoundValid L (length (s .places)) b
-  pub handles-also : (h : ℕ) (b : Bound) → find h (s .handles) ≡ some b → Also b
+  pub handles-ok : Each (Used (BoundValid L (length (s .places)))) (s .handles)
+  pub handles-also : Each (Used Also) (s .handles)
   pub pending-few : length (s .pending) ≤ 64
 
 -- what every content of the areas is that docs/AREAS.md allows

@@ -5,8 +5,7 @@ use Prim.Native.Nat.{ℕ, suc, _≤_, _<_}
 use native.Mathlib.Omega.{arith}
 use mathlib.Core.List.{List, [], _∷_, _++_, append-assoc}
 use mathlib.Core.Option.{Option, none, some}
-use mathlib.Core.Bool.{Bool, true, false, cond, not, _&&_, _||_}
-use mathlib.Core.Logic.{_⊎_, inl, inr}
+use mathlib.Core.Bool.{Bool, true, false, cond, not, _&&_}
 use lib.Arith.{lt→nleb, le→nltb}
 use lib.Dec.{T, ltb, leb, eqb, le→leb, eqb→eq, eqb-refl}
 use Rattle.model_frame.specs.Parse.{Each}
@@ -41,10 +40,6 @@ and-l false b t = t
 pub and-r : (a b : Bool) → T (a && b) → T b
 and-r true b t = t
 and-r false b t = absurd t
-
-pub or-cases : (a b : Bool) → T (a || b) → T a ⊎ T b
-or-cases true b t = inl tt
-or-cases false b t = inr t
 
 pub leb-true : {m n : ℕ} → m ≤ n → leb m n ≡ true
 leb-true {m} {n} h = T→true (leb m n) (le→leb m n h)

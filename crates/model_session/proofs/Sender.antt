@@ -7,12 +7,12 @@ use mathlib.Core.List.{List, [], _∷_, _++_, head-eq-of-cons-eq, tail-eq-of-con
 use mathlib.Core.Option.{Option, none, some}
 use mathlib.Core.Bool.{Bool, true, false, cond}
 use lib.ListN.{length}
-use lib.Dec.{ltb, leb}
+use lib.Dec.{ltb, leb, nltb→le}
 use Rattle.model_frame.specs.Frame.{Change, reset, batch}
-use Rattle.model_session.specs.Session.{Session, Msg, Rising, Holdable}
+use Rattle.model_session.specs.Session.{Session, Msg, Rising, Holdable, top}
 use Rattle.model_session.specs.Whole.{stampPart, sendMsg, stands, batchesFrom, wholeBatches, framesOf, wholeFrames}
-use Rattle.model_session.specs.Sender.{Sender, newSender, messagesFrom, partOf, cutBatch, opening, cutFrom, sendNext, Sends, isDone, isNext}
-use Rattle.model_session.proofs.Basics.{cond-true, cond-false, leb-true, leb-false, ltb-false, none≢some, some-inj}
+use Rattle.model_session.specs.Sender.{cannotSend, Sender, newSender, messagesFrom, partOf, cutBatch, opening, cutFrom, sendNext, Sends, isDone, isNext}
+use Rattle.model_session.proofs.Basics.{false→notT, cond-true, cond-false, leb-true, leb-false, ltb-false, none≢some, some-inj}
 
 -- ---- the messages from a number on
 
@@ -122,3 +122,8 @@ unfolding wholeFrames wholeBatches
 sends-whole limit C M h e last a ok =
     sends-from limit a (wholeBatches limit a) h e last 0 (ok .msgs-rise)
     (ap (batchesFrom limit a (reset ∷ stampPart (a .stamp)) 0 1) (sym (from-all 1 1 (a .nextOut) (a .messages) (omega arith) (ok .msgs-rise))))
+
+-- past 24 the commit numbers stay within their type
+pub can-send : (limit h e last : ℕ) (a : Session) → cannotSend limit a (newSender h e last) ≡ false → last + length (wholeBatches limit a) ≤ top
+unfolding cannotSend
+can-send limit h e last a p = nltb→le top (last + length (wholeBatches limit a)) (false→notT (ltb top (last + length (wholeBatches limit a))) p)

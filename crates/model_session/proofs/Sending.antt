@@ -17,7 +17,7 @@ use Rattle.model_text.specs.Stamp.{isStamp, longestStamp}
 use Rattle.model_text.specs.Printable.{isMarks}
 use Rattle.model_text.proofs.Laws.{stamp-is, marks-is}
 use Rattle.model_session.specs.Session.{Session, Msg, storedBytes, hasSpace, evict, keep, apply, applyAll, fits, messageBytes, top, Rising, Holdable, isStampOrNone}
-use Rattle.model_session.specs.Whole.{joined, stampPart, skipTo, sendMsg, incomingPart, closing, stands, batchesFrom, wholeBatches}
+use Rattle.model_session.specs.Whole.{holdLength, joined, stampPart, skipTo, sendMsg, incomingPart, closing, stands, batchesFrom, wholeBatches}
 use Rattle.model_session.proofs.Basics.{T→true, and-true, leb-true, ltb-true, eqb-true, cond-true, cond-cases, snoc-append}
 
 -- ---- the changes in one list
@@ -244,7 +244,7 @@ bytes-end : (n : ℕ) (f : Option ℕ) (mr : List ℕ) → messageBytes (incomin
 bytes-end n none mr = refl
 bytes-end n (some f) mr = refl
 
-pub sizes-whole : (C M : ℕ) (a : Session) → Holdable C M a → sizes (wholeChanges a) ≤ C + 22 * M + 122
+pub sizes-whole : (C M : ℕ) (a : Session) → Holdable C M a → sizes (wholeChanges a) ≤ holdLength C M
 sizes-whole C M a h =
     omega (
       arith,
@@ -274,8 +274,8 @@ bytes-whole a =
     )
 
 -- (c) the encoded size of all changes
-pub whole-size : (limit C M : ℕ) (a : Session) → Holdable C M a → sizes (joined (wholeBatches limit a)) ≤ C + 22 * M + 122
-whole-size limit C M a h = subst (λ (l : List Change). sizes l ≤ C + 22 * M + 122) (sym (joined-whole limit a)) (sizes-whole C M a h)
+pub whole-size : (limit C M : ℕ) (a : Session) → Holdable C M a → sizes (joined (wholeBatches limit a)) ≤ holdLength C M
+whole-size limit C M a h = subst (λ (l : List Change). sizes l ≤ holdLength C M) (sym (joined-whole limit a)) (sizes-whole C M a h)
 
 each-bytes : (n : ℕ) (bs : List (List Change)) → messageBytes (joined bs) ≤ n → Each (λ b. messageBytes b ≤ n) bs
 each-bytes n [] h = tt
@@ -290,5 +290,19 @@ each-sizes n [] h = tt
 each-sizes n (b ∷ bs) h = (omega (arith, sizes-append b (joined bs)), each-sizes n bs (omega (arith, sizes-append b (joined bs))))
 
 -- (c) each batch's encoded changes
-pub batch-sizes : (limit C M : ℕ) (a : Session) → Holdable C M a → Each (λ b. sizes b ≤ C + 22 * M + 122) (wholeBatches limit a)
-batch-sizes limit C M a h = each-sizes (C + 22 * M + 122) (wholeBatches limit a) (whole-size limit C M a h)
+pub batch-sizes : (limit C M : ℕ) (a : Session) → Holdable C M a → Each (λ b. sizes b ≤ holdLength C M) (wholeBatches limit a)
+batch-sizes limit C M a h = each-sizes (holdLength C M) (wholeBatches limit a) (whole-size limit C M a h)
+
+-- there are no more batches than messages and one
+batches-few : (limit : ℕ) (a : Session) (now : List Change) (bytes next : ℕ) (ms : List Msg) → length (batchesFrom limit a now bytes next ms) ≤ suc (length ms)
+batches-few limit a now bytes next [] = omega arith
+batches-few limit a now bytes next (m ∷ ms) = go (ltb limit bytes) (λ x y. batches-few limit a x y (suc (m .num)) ms)
+  where
+    go : (f : Bool) → ((x : List Change) (y : ℕ) → length (batchesFrom limit a x y (suc (m .num)) ms) ≤ suc (length ms))
+        → length (stands f now (batchesFrom limit a (cond f [] now ++ sendMsg next m) (cond f 0 bytes + length (m .text)) (suc (m .num)) ms)) ≤ suc (suc (length ms))
+    go true ih = omega (arith, ih ([] ++ sendMsg next m) (0 + length (m .text)))
+    go false ih = omega (arith, ih (now ++ sendMsg next m) (bytes + length (m .text)))
+
+pub whole-few : (limit : ℕ) (a : Session) → length (wholeBatches limit a) ≤ suc (length (a .messages))
+unfolding wholeBatches
+whole-few limit a = batches-few limit a (reset ∷ stampPart (a .stamp)) 0 1 (a .messages)

@@ -49,21 +49,15 @@ fn next(s: &[u8], at: usize, x: u8) -> usize
     i
 }
 
-// The four parts of s between commas are a key.
-fn is_key_of(s: &[u8]) -> bool {
-    let a = next(s, 0, b',');
-    if a == s.len() {
-        return false;
+// A key of which one part is s and the others are short.
+fn is_key_with(part: u8, s: &[u8]) -> bool {
+    let a = b"A";
+    match part {
+        b'1' => is_key(s, a, a, a),
+        b'2' => is_key(a, s, a, a),
+        b'3' => is_key(a, a, s, a),
+        _ => is_key(a, a, a, s),
     }
-    let b = next(s, a + 1, b',');
-    if b == s.len() {
-        return false;
-    }
-    let c = next(s, b + 1, b',');
-    if c == s.len() {
-        return false;
-    }
-    is_key(&s[0..a], &s[a + 1..b], &s[b + 1..c], &s[c + 1..])
 }
 
 fn is_taken(kind: u8, s: &[u8]) -> bool {
@@ -71,7 +65,7 @@ fn is_taken(kind: u8, s: &[u8]) -> bool {
         b'u' => is_utf8(s),
         b's' => is_stamp(s) & takes_stamp(Protocol { version: 1 }, s),
         b'm' => is_marks(s),
-        _ => is_key_of(s),
+        _ => is_key_with(kind, s),
     }
 }
 
@@ -144,103 +138,93 @@ fn line(name: &[u8], t: Tally) {
     io::write_all(1, b"\n");
 }
 
+// The answers to the parts of s.
+fn row(name: &[u8], kind: u8, s: &[u8]) {
+    line(name, table(kind, s));
+}
+
+// The answers to all n inputs of that shape.
+fn sweep(name: &[u8], shape: u8, n: u64) {
+    line(name, shapes(shape, n));
+}
+
 // The examples of RFC 3629, and the first and the last of each length.
 fn texts_taken() {
-    line(
+    row(
         b"RFC 3629, section 7",
-        table(
-            b'u',
-            b"A\xE2\x89\xA2\xCE\x91.|\xED\x95\x9C\xEA\xB5\xAD\xEC\x96\xB4|\
+        b'u',
+        b"A\xE2\x89\xA2\xCE\x91.|\xED\x95\x9C\xEA\xB5\xAD\xEC\x96\xB4|\
         \xE6\x97\xA5\xE6\x9C\xAC\xE8\xAA\x9E|\xEF\xBB\xBF\xF0\xA3\x8E\xB4|",
-        ),
     );
-    line(
+    row(
         b"first and last of each length",
-        table(
-            b'u',
-            b"\x00|\x7F|\xC2\x80|\xDF\xBF|\xE0\xA0\x80|\xED\x9F\xBF|\xEE\x80\x80|\xEF\xBF\xBF|\
+        b'u',
+        b"\x00|\x7F|\xC2\x80|\xDF\xBF|\xE0\xA0\x80|\xED\x9F\xBF|\xEE\x80\x80|\xEF\xBF\xBF|\
         \xF0\x90\x80\x80|\xF4\x8F\xBF\xBF||",
-        ),
     );
 }
 
 // One before the first and one after the last of each length, then sequences out of form.
 fn texts_refused() {
-    line(
+    row(
         b"overlong, surrogates, above 10FFFF",
-        table(
-            b'u',
-            b"\xC0\x80|\xC1\xBF|\xE0\x80\x80|\xE0\x9F\xBF|\xED\xA0\x80|\xED\xAF\xBF|\
+        b'u',
+        b"\xC0\x80|\xC1\xBF|\xE0\x80\x80|\xE0\x9F\xBF|\xED\xA0\x80|\xED\xAF\xBF|\
         \xED\xB0\x80|\xED\xBF\xBF|\xED\xA1\x8C\xED\xBE\xB4|\xF0\x80\x80\x80|\xF0\x8F\xBF\xBF|\xF4\x90\x80\x80|\xF5\x80\x80\x80|\xF7\xBF\xBF\xBF|",
-        ),
     );
-    line(
+    row(
         b"out of form",
-        table(
-            b'u',
-            b"\x80|\xBF|\xF8\x88\x80\x80\x80|\xFC\x84\x80\x80\x80\x80|\xFE|\xFF|\xC2|\xC2A|\xC2\xC0|\xE2\x89|\
+        b'u',
+        b"\x80|\xBF|\xF8\x88\x80\x80\x80|\xFC\x84\x80\x80\x80\x80|\xFE|\xFF|\xC2|\xC2A|\xC2\xC0|\xE2\x89|\
         \xE2\x89A|\xE2A\xA2|A\xF0\xA3\x8E|\xF0\xA3\x8E\xC0|\xF0\xA3\x41\xB4|A\x80|",
-        ),
     );
 }
 
 fn stamps() {
-    line(
+    row(
         b"stamps in range",
-        table(
-            b's',
-            b"20240229-23:59:60|00000101-00:00:00|99991231-23:59:59.999|20240131-00:00:00.000|20230230-12:30:30|",
-        ),
+        b's',
+        b"20240229-23:59:60|00000101-00:00:00|99991231-23:59:59.999|20240131-00:00:00.000|20230230-12:30:30|",
     );
-    line(
+    row(
         b"stamps out of range",
-        table(
-            b's',
-            b"20240229-24:00:00|20240229-23:60:00|20240229-23:59:61|20240029-23:59:59|20241329-23:59:59|\
+        b's',
+        b"20240229-24:00:00|20240229-23:60:00|20240229-23:59:61|20240029-23:59:59|20241329-23:59:59|\
         20240200-23:59:59|20240132-23:59:59|2024022a-23:59:59|20240229-2/:59:59|",
-        ),
     );
-    line(
+    row(
         b"stamps out of form",
-        table(
-            b's',
-            b"|20240229-23:59:5|20240229 23:59:59|20240229-23.59:59|20240229-23:59:59.|20240229-23:59:59.12|\
+        b's',
+        b"|20240229-23:59:5|20240229 23:59:59|20240229-23.59:59|20240229-23:59:59.|20240229-23:59:59.12|\
         20240229-23:59:59,123|20240229-23:59:59.1234|20240229-23:59:59.123456|20240229-23:59:59.12a|",
-        ),
     );
 }
 
 fn names() {
-    line(
+    row(
         b"marks",
-        table(
-            b'm',
-            b"|B|ABCDEFGHIJKLMNOPQRSTUVWXYZ012345ABCDEFGHIJKLMNOPQRSTUVWXYZ012345|\
+        b'm',
+        b"|B|ABCDEFGHIJKLMNOPQRSTUVWXYZ012345ABCDEFGHIJKLMNOPQRSTUVWXYZ012345|\
         ABCDEFGHIJKLMNOPQRSTUVWXYZ012345ABCDEFGHIJKLMNOPQRSTUVWXYZ0123456| ~|\x1F|\x7F|A\xC2\x80|A\n|",
-        ),
     );
-    line(
-        b"keys",
-        table(
-            b'k',
-            b"FIX.4.4,A,B,|ABCDEFGHIJKLMNOPQRSTUVWXYZ012345,ABCDEFGHIJKLMNOPQRSTUVWXYZ012345,\
-        ABCDEFGHIJKLMNOPQRSTUVWXYZ012345,ABCDEFGHIJKLMNOPQRSTUVWXYZ012345|,A,B,C|F,,B,C|F,A,,C|ABCDEFGHIJKLMNOPQRSTUVWXYZ0123456,A,B,|\
-        F,ABCDEFGHIJKLMNOPQRSTUVWXYZ0123456,B,|F,A,ABCDEFGHIJKLMNOPQRSTUVWXYZ0123456,|F,A,B,ABCDEFGHIJKLMNOPQRSTUVWXYZ0123456|F,A,B,\xC2\x80|\
-        \x7F,A,B,|F,A,\x1F,|",
-        ),
-    );
+    let parts =
+        b"|A|ABCDEFGHIJKLMNOPQRSTUVWXYZ012345|ABCDEFGHIJKLMNOPQRSTUVWXYZ0123456| ~|\x1F|\x7F|\xC2\x80|";
+    row(b"begin string", b'1', parts);
+    row(b"sender", b'2', parts);
+    row(b"target", b'3', parts);
+    row(b"suffix", b'4', parts);
 }
 
 fn inputs() {
-    line(b"all of one byte", shapes(1, 256));
-    line(b"all of two bytes", shapes(2, 65536));
-    line(b"all of three bytes", shapes(3, 16777216));
-    line(b"first two of four", shapes(4, 65536));
-    line(b"first and third, after 8F", shapes(5, 65536));
-    line(b"first and third, after 90", shapes(6, 65536));
-    line(b"first and last, after 90 80", shapes(7, 65536));
-    line(b"first and last, after 8F BF", shapes(8, 65536));
-    line(b"a byte in 80 of ASCII", shapes(9, 20480));
+    sweep(b"all of one byte", 1, 256);
+    sweep(b"all of two bytes", 2, 65536);
+    sweep(b"all of three bytes", 3, 16777216);
+    sweep(b"first two of four", 4, 65536);
+    sweep(b"first and third, after 8F", 5, 65536);
+    sweep(b"first and third, after 90", 6, 65536);
+    sweep(b"first and last, after 90 80", 7, 65536);
+    sweep(b"first and last, after 8F BF", 8, 65536);
+    sweep(b"a byte in 80 of ASCII", 9, 20480);
 }
 
 fn main() {
