@@ -1,11 +1,16 @@
-use native.Mathlib.Numerals.{add-one}
-use borrow.Author.Tests.{lt-ltb, le-ltb}
 use borrow.Author.Needs.{needs}
+use borrow.Author.Tests.{lt-ltb, le-ltb}
+use native.Mathlib.Omega.{arith}
+use native.Mathlib.Numerals.{add-one}
+use Prim.Native.Nat.{_<_}
+use Rattle.model_session.specs.Session.{top}
 use Rattle.hold.proofs.after.Statement.{statement}
 use Rattle.hold.proofs.after.Tie as tie
 
 returns : tie.Need-returns
-returns c = rw (lt-ltb _ _ (c .if1 .taken), add-one)
+returns c =
+    let below : c .before .args .seq < top = omega arith in
+    rw (lt-ltb _ _ below, add-one)
 
 returns-2 : tie.Need-returns-2
 returns-2 c = rw (le-ltb _ _ (c .if1 .left))

@@ -1,18 +1,28 @@
-use Rattle.hold.proofs.Steps.{no-outgoing, onward-past}
-use borrow.Author.Tests.{eq-eqb, ne-eqb, le-leb, lt-leb}
-use mathlib.Core.Path.{sym}
 use borrow.Author.Needs.{needs}
+use borrow.Author.Tests.{eq-eqb, ne-eqb, le-leb, lt-leb}
+use native.Mathlib.Omega.{arith}
+use mathlib.Core.Path.{_≡_, sym}
+use Prim.Native.Nat.{_≤_}
+use Rattle.hold.proofs.Steps.{no-outgoing, onward-past}
 use Rattle.hold.proofs.follow.Statement.{statement}
 use Rattle.hold.proofs.follow.Tie as tie
 
 returns : tie.Need-returns
-returns c = λ b cs. rw (c .before .before .before .op .given .1, eq-eqb _ _ (c .before .if1 .taken), c .after .ensures) (onward-past (c .before .before .before .op .given .0 .0) cs)
+returns c = λ b cs.
+    let k = c .before .before .before in
+    let seq = k .op .given .0 .0 in
+    let same : seq ≡ k .before .before .args .next = omega arith in
+    rw (k .op .given .1, eq-eqb _ _ same, c .after .ensures) (onward-past seq cs)
 
 returns-2 : tie.Need-returns-2
 returns-2 c = λ b cs. rw (c .before .before .op .given .1, ne-eqb _ _ (c .if1 .left))
 
 returns-3 : tie.Need-returns-3
-returns-3 c = λ b cs. rw (c .before .before .before .op2 .given .1, le-leb _ _ (c .before .if2 .taken), c .after2 .ensures) (onward-past (c .before .before .before .op2 .given .0 .0) cs)
+returns-3 c = λ b cs.
+    let k = c .before .before .before in
+    let seq = k .op2 .given .0 .0 in
+    let above : k .before .before .args .next ≤ seq = omega arith in
+    rw (k .op2 .given .1, le-leb _ _ above, c .after2 .ensures) (onward-past seq cs)
 
 returns-4 : tie.Need-returns-4
 returns-4 c = λ b cs. rw (c .before .before .op2 .given .1, lt-leb _ _ (c .if2 .left))

@@ -1,5 +1,7 @@
 use borrow.Author.Needs.{needs}
+use native.Mathlib.Omega.{arith}
 use mathlib.Core.Path.{sym, ap, _∙_}
+use Prim.Native.Nat.{_<_, _≤_}
 use denote.Ref.{now}
 use Rattle.op.specs.Answers.{resOp}
 use Rattle.hold.proofs.Loops.{Ending, ending, end-next, end-bad, end-none}
@@ -23,10 +25,13 @@ returns c =
 loop-again : tie.Need-loop-again Inv-loop μ-loop
 loop-again c =
     let k = c .before .before .before in
-    end-next _ (k .before .before .loop .inv) (k .before .loop-test .taken) (sym (k .op-from .ensures) ∙ ap (resOp _) (c .before .next .given .1))
+    let some : 0 < k .before .before .loop .n = omega arith in
+    end-next _ (k .before .before .loop .inv) some (sym (k .op-from .ensures) ∙ ap (resOp _) (c .before .next .given .1))
 
 returns-2 : tie.Need-returns-2 Inv-loop μ-loop
-returns-2 c = end-none _ (c .before .loop .inv) (c .loop-test .left)
+returns-2 c =
+    let none : c .before .loop .n ≤ 0 = omega arith in
+    end-none _ (c .before .loop .inv) none
 
 pub run-end-spec : {M : Type 1} → statement M
 run-end-spec =
