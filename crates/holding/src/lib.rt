@@ -1,0 +1,85 @@
+// Holding a part of a session that is sent whole, until the last (standby.rs, hold).
+ghost use mathlib.Core.Path.{_≡_};
+ghost use mathlib.Core.Bool.{cond, not, _&&_};
+ghost use Prim.Native.Nat.{_+_, _≤_, min};
+ghost use lib.ListN.{length};
+ghost use lib.Dec.{eqb};
+ghost use Rattle.model.specs.Standby.{startsWithReset};
+ghost use Rattle.op.specs.Answers.{heldRun};
+ghost use Rattle.hold.specs.Held.{TakesAll};
+ghost use Rattle.holding.specs.Holding.{Holds};
+use stamp::Protocol;
+
+// The most message bytes that are held of a session.
+pub const MAX_WHOLE_SESSION_BYTES: u64 = 4_294_967_296;
+
+// 0 or the refusal, how many bytes of the area are held now, and their messages' byte sum.
+#[repr(C)]
+pub struct Held {
+    pub refusal: u8,
+    pub used: usize,
+    pub sum: u64,
+}
+
+// The byte sum of what is held: with nothing held it counts as 0.
+fn counted(used: usize, sum: u64) -> u64
+    ensures { λ r. ⌜ r ≡ cond (eqb used 0) 0 sum ⌝ }
+{
+    if used == 0 { 0 } else { sum }
+}
+
+// sum + more, but at most 2^64 - 1.
+fn raised(sum: u64, more: u64) -> u64
+    ensures { λ r. ⌜ r ≡ min (sum + more) 18446744073709551615 ⌝ }
+{
+    if more <= u64::MAX - sum {
+        sum + more
+    } else {
+        u64::MAX
+    }
+}
+
+// Whether nothing is held and no Reset stands in front.
+fn lacks_reset(p: Protocol, run: &[u8], used: usize) -> bool
+    ensures { λ r. ⌜ r ≡ (eqb used 0 && not (startsWithReset (heldRun (p .version) (now (run .entry))))) ⌝ }
+{
+    (used == 0) & !hold::starts_with_reset(p, run)
+}
+
+// Writes a run of changes after those held in the first `len` bytes of the area, whose messages' byte sum is given.
+pub fn hold(p: Protocol, run: &[u8], area: &mut [u8], len: usize, sum: u64) -> Held
+    requires { ⌜ len ≤ length (now area) ⌝ }
+    requires { ⌜ TakesAll (p .version) (now run) ⌝ }
+    ensures { λ r. ⌜ Holds (p .version) (now (run .entry)) (now (area .entry)) len sum (now (area .exit)) r ⌝ }
+{
+    let used = hold::run_length(p, &area[0..len]);
+    let sum = raised(counted(used, sum), hold::message_bytes(p, run));
+    let end = used + run.len();
+    if lacks_reset(p, run, used) {
+        return Held {
+            refusal: 16,
+            used: end,
+            sum,
+        };
+    }
+    if MAX_WHOLE_SESSION_BYTES < sum {
+        return Held {
+            refusal: 17,
+            used: end,
+            sum,
+        };
+    }
+    if area.len() < end {
+        return Held {
+            refusal: 18,
+            used: end,
+            sum,
+        };
+    }
+    hold::hold_run(area, used, run);
+    Held {
+        refusal: 0,
+        used: end,
+        sum,
+    }
+}
