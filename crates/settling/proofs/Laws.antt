@@ -31,7 +31,7 @@ past-66 a n w w' o = record {
       drop-drop (a + n) 66 w' ∙ subst (λ (k : ℕ). drop k w' ≡ drop k w) (sym sum) (o .back) ∙ sym (drop-drop (a + n) 66 w);
 }
 
-touched-none : (s : Shape) (i : ℕ) (w b : List ℕ) → Touched s i w w b b
+pub touched-none : (s : Shape) (i : ℕ) (w b : List ℕ) → Touched s i w w b b
 touched-none s i w b = record { words = only-none (i * placeWords s) (i * placeWords s + placeWords s) (drop 66 w); bytes = only-none (bytesAt s i) (bytesAt s i + placeBytes s) b }
 
 pub next-is : (s : Shape) (i wa we ba be : ℕ) (at : SpotIs s i wa we ba be) (w b : List ℕ) → Rules s w b → i < getD w 0 0 → {n : ℕ} → n ≡ nextOutOf (midOf wa (we - wa) w) → n ≡ placeAt s w b i .stored .session .nextOut

@@ -1,0 +1,42 @@
+-- What a Commit, a Whole or a LastWhole does on its handle, past the commit number. Assumes nothing.
+use mathlib.Core.Path.{_≡_}
+use mathlib.Core.Bool.{Bool, true, false, cond, not, _&&_, _||_}
+use mathlib.Core.List.{List, [], _∷_}
+use Prim.Native.Nat.{ℕ}
+use lib.ListN.{length, take}
+use lib.Dec.{eqb}
+use Rattle.model_frame.specs.Bytes.{write}
+use Rattle.model_frame.specs.Frame.{Change, diverged, ack, nack}
+use Rattle.model_frame.specs.Frame as the-frame
+use Rattle.model_frame.specs.Writing.{sizes}
+use Rattle.op.specs.Answers.{heldRun}
+use Rattle.row.specs.declared.Handle.{Handle}
+use Rattle.areas.specs.declared.Shape.{Shape}
+use Rattle.areas.specs.Areas.{Rules}
+use Rattle.settling.specs.Settling.{Touched}
+use Rattle.model.specs.Answer.{reply, refused}
+use Rattle.model.specs.State.{Counters}
+use Rattle.model.specs.Core.{leave, store, Core, CoreResult, corePart}
+use Rattle.on_batch.specs.declared.Done.{Done}
+use Rattle.on_batch.specs.State.{boundOf, coreAt, settingsFor}
+
+-- the answer and what is to be done to the row, of a Batch with this commit number on a handle, over its hold area
+abbrev pub resultOf : ℕ → ℕ → ℕ → List ℕ → Done → Core → CoreResult
+resultOf version h n area d k =
+    record {
+      core = k;
+      action = cond (d .stores) (store h (boundOf version (d .slot) area)) leave;
+      answer = cond (eqb (d .refusal) 0) (reply (cond (d .nack) (nack h diverged) (ack h n))) (refused (d .refusal));
+    }
+
+-- equal to the definition, whatever the counters and the settings; a refusal and a Nack leave the store as it was
+pub record PartIs (version : ℕ) (s : Shape) (h : Handle) (n : ℕ) (part : the-frame.Part) (cs : List Change) (w w' b b' area area' : List ℕ) (d : Done) : Type 0 where
+  pub is : (c : Counters) (incarnation lag : ℕ)
+      → resultOf version (h .handle) n area' d (coreAt c s w' b') ≡ corePart (settingsFor s (length area) incarnation lag) (coreAt c s w b) (h .handle) (boundOf version h area) n part cs
+  pub rules : Rules s w' b'
+  pub touched : Touched s (h .place) w w' b b'
+  pub quiet : (not (eqb (d .refusal) 0) || d .nack) ≡ true → (w' ≡ w) × (b' ≡ b)
+
+-- the hold area: the run after the changes held, where it is not refused
+abbrev pub AreaIs : ℕ → Handle → List ℕ → List ℕ → List ℕ → Done → Type 0
+AreaIs version h run area area' d = area' ≡ cond (eqb (d .refusal) 0) (write area (sizes (heldRun version (take (h .«held_len») area))) run) area

@@ -1,0 +1,26 @@
+-- What the code's state stands for: counters, one bound handle with its hold area, the store's places, the pending commits. Assumes nothing.
+use Prim.Native.Nat.{ℕ}
+use mathlib.Core.List.{List}
+use lib.ListN.{take}
+use Rattle.frame.specs.declared.CommitNumber.{CommitNumber}
+use Rattle.row.specs.declared.Handle.{Handle}
+use Rattle.op.specs.Answers.{heldRun}
+use Rattle.areas.specs.declared.Shape.{Shape}
+use Rattle.areas.specs.Areas.{placesOf}
+use Rattle.pending.specs.Pending.{pendingOf}
+use Rattle.model.specs.State.{Settings, Counters, Bound}
+use Rattle.model.specs.Core.{Core}
+
+-- the changes held are the longest run of valid ones in the first bytes of the hold area
+abbrev pub boundOf : ℕ → Handle → List ℕ → Bound
+boundOf version h area = record { place = h .place; number = h .«commit_no» .0; held = heldRun version (take (h .«held_len») area); bytes = h .«held_bytes» }
+
+abbrev pub coreAt : Counters → Shape → List ℕ → List ℕ → Core
+coreAt c s w b = record { counters = c; places = placesOf s w b; pending = pendingOf w }
+
+abbrev pub settingsFor : Shape → ℕ → ℕ → ℕ → Settings
+settingsFor s room incarnation lag = record { C = s .bytes; M = s .messages; S = s .places; room = room; incarnation = incarnation; lag = lag }
+
+-- a handle's record with another commit number
+abbrev pub numberedTo : Handle → CommitNumber → Handle
+numberedTo h n = record { used = h .used; handle = h .handle; place = h .place; «commit_no» = n; «held_len» = h .«held_len»; «held_bytes» = h .«held_bytes» }

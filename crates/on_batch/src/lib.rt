@@ -1,0 +1,75 @@
+// A Batch on a bound handle (standby.rs, on_batch): Commit, Whole, LastWhole.
+ghost use mathlib.Core.Path.{_≡_};
+ghost use Prim.Native.Nat.{_≤_, _<_};
+ghost use lib.ListN.{length, getD};
+ghost use Rattle.model_frame.specs.Frame.{commit, whole, lastWhole};
+ghost use Rattle.op.specs.Answers.{heldRun};
+ghost use Rattle.hold.specs.Held.{TakesAll};
+ghost use Rattle.areas.specs.Areas.{Rules};
+ghost use Rattle.pending.specs.Pending.{countOf};
+ghost use Rattle.on_batch.specs.Part.{PartIs, AreaIs};
+ghost use Rattle.on_batch.specs.State.{numberedTo};
+use areas::Shape;
+use frame::CommitNumber;
+use row::Handle;
+use stamp::Protocol;
+
+// 0 or the refusal; whether the handle's record is to be stored, and what it becomes; whether the answer is a Nack.
+#[repr(C)]
+pub struct Done {
+    pub refusal: u8,
+    pub stores: bool,
+    pub slot: Handle,
+    pub nack: bool,
+}
+
+// The record with another commit number.
+fn numbered(h: Handle, n: CommitNumber) -> Handle
+    ensures { λ r. ⌜ r ≡ numberedTo h n ⌝ }
+{
+    let mut g = h;
+    g.commit_no = n;
+    g
+}
+
+// A Commit: 15 while changes are held.
+pub fn on_commit(
+    p: Protocol,
+    run: &[u8],
+    words: &mut [u64],
+    bytes: &mut [u8],
+    area: &[u8],
+    shape: Shape,
+    h: Handle,
+    n: CommitNumber,
+) -> Done
+    requires { ⌜ Rules shape (now words) (now bytes) ⌝ }
+    requires { ⌜ h .place < getD (now words) 0 0 ⌝ }
+    requires { ⌜ countOf (now words) < 64 ⌝ }
+    requires { ⌜ h .«held_len» ≤ length (now area) ⌝ }
+    ensures { λ r. ⌜ PartIs (p .version) shape h (n .0) commit (heldRun (p .version) (now (run .entry))) (now (words .entry)) (now (words .exit)) (now (bytes .entry)) (now (bytes .exit)) (now (area .entry)) (now (area .entry)) r ⌝ }
+{
+    let len = h.held_len;
+    if hold::run_length(p, &area[0..len]) != 0 {
+        return Done {
+            refusal: 15,
+            stores: false,
+            slot: h,
+            nack: false,
+        };
+    }
+    if settling::settle(p, run, words, bytes, shape, h.place, h.handle) {
+        return Done {
+            refusal: 0,
+            stores: true,
+            slot: numbered(h, n),
+            nack: false,
+        };
+    }
+    Done {
+        refusal: 0,
+        stores: true,
+        slot: h,
+        nack: true,
+    }
+}
