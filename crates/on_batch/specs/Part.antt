@@ -6,7 +6,7 @@ use Prim.Native.Nat.{ℕ}
 use lib.ListN.{length, take}
 use lib.Dec.{eqb}
 use Rattle.model_frame.specs.Bytes.{write}
-use Rattle.model_frame.specs.Frame.{Change, diverged, ack, nack}
+use Rattle.model_frame.specs.Frame.{Change, whole, diverged, ack, nack}
 use Rattle.model_frame.specs.Frame as the-frame
 use Rattle.model_frame.specs.Writing.{sizes}
 use Rattle.op.specs.Answers.{heldRun}
@@ -37,6 +37,10 @@ pub record PartIs (version : ℕ) (s : Shape) (h : Handle) (n : ℕ) (part : the
   pub touched : Touched s (h .place) w w' b b'
   pub quiet : (not (eqb (d .refusal) 0) || d .nack) ≡ true → (w' ≡ w) × (b' ≡ b)
 
+-- a Whole leaves the store as it was
+abbrev pub WholeIs : ℕ → Handle → ℕ → List Change → List ℕ → List ℕ → Done → Type 0
+WholeIs version h n cs area area' d = (s : Shape) (w b : List ℕ) → Rules s w b → PartIs version s h n whole cs w w b b area area' d
+
 -- the hold area: the run after the changes held, where it is not refused
-abbrev pub AreaIs : ℕ → Handle → List ℕ → List ℕ → List ℕ → Done → Type 0
-AreaIs version h run area area' d = area' ≡ cond (eqb (d .refusal) 0) (write area (sizes (heldRun version (take (h .«held_len») area))) run) area
+abbrev pub AreaIs : ℕ → Handle → List ℕ → List ℕ → List ℕ → ℕ → Type 0
+AreaIs version h run area area' refusal = area' ≡ cond (eqb refusal 0) (write area (sizes (heldRun version (take (h .«held_len») area))) run) area

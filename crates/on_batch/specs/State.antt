@@ -24,3 +24,11 @@ settingsFor s room incarnation lag = record { C = s .bytes; M = s .messages; S =
 -- a handle's record with another commit number
 abbrev pub numberedTo : Handle → CommitNumber → Handle
 numberedTo h n = record { used = h .used; handle = h .handle; place = h .place; «commit_no» = n; «held_len» = h .«held_len»; «held_bytes» = h .«held_bytes» }
+
+-- with another byte sum
+abbrev pub summedTo : Handle → ℕ → Handle
+summedTo h sum = record { used = h .used; handle = h .handle; place = h .place; «commit_no» = h .«commit_no»; «held_len» = h .«held_len»; «held_bytes» = sum }
+
+-- with another commit number and other held changes
+abbrev pub holdingTo : Handle → CommitNumber → ℕ → ℕ → Handle
+holdingTo h n len sum = record { used = h .used; handle = h .handle; place = h .place; «commit_no» = n; «held_len» = len; «held_bytes» = sum }

@@ -7,8 +7,8 @@ ghost use Rattle.op.specs.Answers.{heldRun};
 ghost use Rattle.hold.specs.Held.{TakesAll};
 ghost use Rattle.areas.specs.Areas.{Rules};
 ghost use Rattle.pending.specs.Pending.{countOf};
-ghost use Rattle.on_batch.specs.Part.{PartIs, AreaIs};
-ghost use Rattle.on_batch.specs.State.{numberedTo};
+ghost use Rattle.on_batch.specs.Part.{PartIs, WholeIs, AreaIs};
+ghost use Rattle.on_batch.specs.State.{numberedTo, summedTo, holdingTo};
 use areas::Shape;
 use frame::CommitNumber;
 use row::Handle;
@@ -71,5 +71,58 @@ pub fn on_commit(
         stores: true,
         slot: h,
         nack: true,
+    }
+}
+
+// The record with another byte sum.
+fn summed(h: Handle, sum: u64) -> Handle
+    ensures { λ r. ⌜ r ≡ summedTo h sum ⌝ }
+{
+    let mut g = h;
+    g.held_bytes = sum;
+    g
+}
+
+// The record with another commit number and other held changes.
+fn holding_to(h: Handle, n: CommitNumber, len: usize, sum: u64) -> Handle
+    ensures { λ r. ⌜ r ≡ holdingTo h n len sum ⌝ }
+{
+    let mut g = h;
+    g.commit_no = n;
+    g.held_len = len;
+    g.held_bytes = sum;
+    g
+}
+
+// A Whole: its changes are held after those before them.
+pub fn on_whole(p: Protocol, run: &[u8], area: &mut [u8], h: Handle, n: CommitNumber) -> Done
+    requires { ⌜ h .«held_len» ≤ length (now area) ⌝ }
+    requires { ⌜ TakesAll (p .version) (now run) ⌝ }
+    ensures is { λ r. ⌜ WholeIs (p .version) h (n .0) (heldRun (p .version) (now (run .entry))) (now (area .entry)) (now (area .exit)) r ⌝ }
+    ensures area { λ r. ⌜ AreaIs (p .version) h (now (run .entry)) (now (area .entry)) (now (area .exit)) (r .refusal) ⌝ }
+{
+    let g = holding::hold(p, run, area, h.held_len, h.held_bytes);
+    let refusal = g.refusal;
+    if refusal == 17 {
+        return Done {
+            refusal,
+            stores: true,
+            slot: summed(h, g.sum),
+            nack: false,
+        };
+    }
+    if refusal != 0 {
+        return Done {
+            refusal,
+            stores: false,
+            slot: h,
+            nack: false,
+        };
+    }
+    Done {
+        refusal,
+        stores: true,
+        slot: holding_to(h, n, g.used, g.sum),
+        nack: false,
     }
 }
