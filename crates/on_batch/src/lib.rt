@@ -126,3 +126,57 @@ pub fn on_whole(p: Protocol, run: &[u8], area: &mut [u8], h: Handle, n: CommitNu
         nack: false,
     }
 }
+
+// A LastWhole: its changes are held too, and all of them are settled at once.
+pub fn on_last_whole(
+    p: Protocol,
+    run: &[u8],
+    words: &mut [u64],
+    bytes: &mut [u8],
+    area: &mut [u8],
+    shape: Shape,
+    h: Handle,
+    n: CommitNumber,
+) -> Done
+    requires { ⌜ Rules shape (now words) (now bytes) ⌝ }
+    requires { ⌜ h .place < getD (now words) 0 0 ⌝ }
+    requires { ⌜ countOf (now words) < 64 ⌝ }
+    requires { ⌜ h .«held_len» ≤ length (now area) ⌝ }
+    requires { ⌜ TakesAll (p .version) (now run) ⌝ }
+    ensures is { λ r. ⌜ PartIs (p .version) shape h (n .0) lastWhole (heldRun (p .version) (now (run .entry))) (now (words .entry)) (now (words .exit)) (now (bytes .entry)) (now (bytes .exit)) (now (area .entry)) (now (area .exit)) r ⌝ }
+    ensures area { λ r. ⌜ AreaIs (p .version) h (now (run .entry)) (now (area .entry)) (now (area .exit)) (r .refusal) ⌝ }
+{
+    let g = holding::hold(p, run, area, h.held_len, h.held_bytes);
+    let refusal = g.refusal;
+    if refusal == 17 {
+        return Done {
+            refusal,
+            stores: true,
+            slot: summed(h, g.sum),
+            nack: false,
+        };
+    }
+    if refusal != 0 {
+        return Done {
+            refusal,
+            stores: false,
+            slot: h,
+            nack: false,
+        };
+    }
+    let used = g.used;
+    if settling::settle(p, &area[0..used], words, bytes, shape, h.place, h.handle) {
+        return Done {
+            refusal,
+            stores: true,
+            slot: holding_to(h, n, 0, 0),
+            nack: false,
+        };
+    }
+    Done {
+        refusal,
+        stores: true,
+        slot: holding_to(h, h.commit_no, 0, 0),
+        nack: true,
+    }
+}
