@@ -55,18 +55,18 @@ row-field n ys is = (is .0, ((is .1 .0 .0, length-map ys (T.the-field .into) ∙
 
 -- what a reference to a local owns
 module _ (S R : RattleType) (l m : ℕ) where
-  abbrev pub Record : ℕ → GName → S .Denot → Fml
-  Record α γ c = MutRef (named 0) (α ∷ []) S .own (record { ptr = (l, 0); name = γ; now = c }) (vptr l 0 ∷ [])
+  abbrev pub LentRecord : ℕ → GName → S .Denot → Fml
+  LentRecord α γ c = MutRef (named 0) (α ∷ []) S .own (record { ptr = (l, 0); name = γ; now = c }) (vptr l 0 ∷ [])
 
-  abbrev pub Rows : ℕ → GName → List (R .Denot) → Fml
-  Rows α γ ys = MutSlice (named 1) (α ∷ []) R .own (record { ptr = (m, 0); name = γ; now = ys }) (sliceVal (m, 0) (length ys) ∷ [])
+  abbrev pub LentRow : ℕ → GName → List (R .Denot) → Fml
+  LentRow α γ ys = MutSlice (named 1) (α ∷ []) R .own (record { ptr = (m, 0); name = γ; now = ys }) (sliceVal (m, 0) (length ys) ∷ [])
 
 module _ {M : Type 1} {𝓤 : URA M} {H : Heap 𝓤} {A : Atoms 𝓤} {K : Type 0} {W : Given 𝓤 H A} {Γ : List (Item 𝓤)} {E : Env 𝓤 H} {C : Calls 𝓤 H} {Λ : Loops 𝓤 H} {q : Post 𝓤 H} {d : Place} {rest : Body} {xs : List Operand} {f : Name} where
   module _ (S R : RattleType) (τ σ : Ty) (one : S .mir ≡ τ ∷ []) (n : ℕ) (many : Array R n .mir ≡ σ ∷ []) (single : Single (R .mir)) (room : Room R n) (val : S .Denot → Val) (tells-S : Tells S (Is S) (λ x. val x ∷ [])) (makes-S : Makes 𝓤 H A S (Is S)) (vals : R .Denot → List Val)
       (tells-R : Tells R (Is R) vals) (makes-R : Makes 𝓤 H A R (Is R)) (l m : ℕ) where
     pub calls-lending : K → FmC 𝓤 H (W .laws) C → (c : Contract 𝓤) → Triple 𝓤 (C f) c → (to : ℕ → ℕ → GName → GName → c .Ghost) {X : Type 0} (v : X → Val) (φ : X → Type 0) (s : S .Denot) (ys : List (R .Denot)) (s′ : X → S .Denot) (ys′ : X → List (R .Denot)) (i : Item 𝓤) (k : X → Item 𝓤)
         → Is S s (val s ∷ []) → Is (Array R n) ys (rowVal vals ys ∷ [])
-        → ((α β : ℕ) (γ δ : GName) → ent 𝓤 (mean 𝓤 H A (‵ (flft (α ∷ []) fullShare) ⊛ (‵ (flft (β ∷ []) fullShare) ⊛ (‵ (Record S R l m α γ s) ⊛ (‵ (Rows S R l m β δ ys) ⊛ i))))) (c .pre (to α β γ δ)))
+        → ((α β : ℕ) (γ δ : GName) → ent 𝓤 (mean 𝓤 H A (‵ (flft (α ∷ []) fullShare) ⊛ (‵ (flft (β ∷ []) fullShare) ⊛ (‵ (LentRecord S R l m α γ s) ⊛ (‵ (LentRow S R l m β δ ys) ⊛ i))))) (c .pre (to α β γ δ)))
         → ((α β : ℕ) (γ δ : GName) (w : Val) → ent 𝓤 (c .post (to α β γ δ) w)
         (H .⇛ (mean 𝓤 H A (some (λ (x : X). (‵ (flft (α ∷ []) fullShare) ⊛ (‵ (flft (β ∷ []) fullShare) ⊛ (‵ (fres γ (S .coded .code (s′ x))) ⊛ (‵ (finally R δ (ys′ x)) ⊛ k x)))) ⊛ raw (fact 𝓤 ((w ≡ v x) × φ x)))))))
         → ((α β : ℕ) (γ δ : GName) (j : Item 𝓤) → Opds K W (j ∷ Γ) E xs (c .args (to α β γ δ)))
@@ -74,13 +74,13 @@ module _ {M : Type 1} {𝓤 : URA M} {H : Heap 𝓤} {A : Atoms 𝓤} {K : Type 
         → Seq K W (‵ (fat fullShare τ l 0 (val s)) ∷ ‵ (fat fullShare σ m 0 (rowVal vals ys)) ∷ i ∷ Γ) (runs C Λ E (seq (call f xs d) rest) q)
     calls-lending t fm c known to {X} v φ s ys s′ ys′ i k is-s is-ys goes told ops go =
         use1 W (‵ (mem S .lies s l 0)) (lies-in 𝓤 H A W S τ one l 0 makes-S s (val s) is-s) $
-        lft-new t tt (λ α. move t (1 ∷ []) $ use1 W (later (some (λ (γ : GName). ‵ (Record S R l m α γ s) ⊛ ‵ (flent (α ∷ []) (Inside (mem S) l 0 γ))))) (lends-ref 𝓤 H A W S (named 0) (α ∷ []) s l 0) $ await t tt $ pick t (λ γ. split t $
+        lft-new t tt (λ α. move t (1 ∷ []) $ use1 W (later (some (λ (γ : GName). ‵ (LentRecord S R l m α γ s) ⊛ ‵ (flent (α ∷ []) (Inside (mem S) l 0 γ))))) (lends-ref 𝓤 H A W S (named 0) (α ∷ []) s l 0) $ await t tt $ pick t (λ γ. split t $
         move t (3 ∷ []) $ use1 W (‵ (mem (Array R n) .lies ys m 0)) (lies-in 𝓤 H A W (Array R n) σ many m 0 (array-makes 𝓤 H A W R makes-R n) ys (rowVal vals ys) is-ys) $
         use1 W (‵ (arr-parts (shares R) n .part fullShare ys m 0)) (array-apart 𝓤 H A W R fullShare single n ys m 0) $ fsplit t $ drop t $ use1 W (‵ (cells (mem R) ys m 0)) (whole-in 𝓤 H A W R ys m 0) $
-        lft-new t tt (λ β. move t (1 ∷ []) $ use1 W (later (some (λ (δ : GName). ‵ (Rows S R l m β δ ys) ⊛ ‵ (flent (β ∷ []) (Held R (length ys) m 0 δ))))) (lends-slice 𝓤 H A W R (named 1) (β ∷ []) ys m 0 (subst (Room R) (sym as-many) room)) $ await t tt $ pick t (λ δ. split t $
+        lft-new t tt (λ β. move t (1 ∷ []) $ use1 W (later (some (λ (δ : GName). ‵ (LentRow S R l m β δ ys) ⊛ ‵ (flent (β ∷ []) (Held R (length ys) m 0 δ))))) (lends-slice 𝓤 H A W R (named 1) (β ∷ []) ys m 0 (subst (Room R) (sym as-many) room)) $ await t tt $ pick t (λ δ. split t $
         -- [the slice; its lender's part; its token; the reference; its lender's part; its token; i]
         move t (0 ∷ 6 ∷ []) $ join t $ move t (3 ∷ 0 ∷ []) $ join t $ move t (2 ∷ 0 ∷ []) $ join t $ move t (3 ∷ 0 ∷ []) $ join t $ move t (1 ∷ 2 ∷ []) $ join t $ move t (1 ∷ []) $ join t $
-        calls-with t fm c known (to α β γ δ) v φ (‵ (flft (α ∷ []) fullShare) ⊛ (‵ (flft (β ∷ []) fullShare) ⊛ (‵ (Record S R l m α γ s) ⊛ (‵ (Rows S R l m β δ ys) ⊛ i)))) (‵ (flent (β ∷ []) (Held R (length ys) m 0 δ)) ⊛ ‵ (flent (α ∷ []) (Inside (mem S) l 0 γ)))
+        calls-with t fm c known (to α β γ δ) v φ (‵ (flft (α ∷ []) fullShare) ⊛ (‵ (flft (β ∷ []) fullShare) ⊛ (‵ (LentRecord S R l m α γ s) ⊛ (‵ (LentRow S R l m β δ ys) ⊛ i)))) (‵ (flent (β ∷ []) (Held R (length ys) m 0 δ)) ⊛ ‵ (flent (α ∷ []) (Inside (mem S) l 0 γ)))
         (λ x. ‵ (flft (α ∷ []) fullShare) ⊛ (‵ (flft (β ∷ []) fullShare) ⊛ (‵ (fres γ (S .coded .code (s′ x))) ⊛ (‵ (finally R δ (ys′ x)) ⊛ k x)))) (goes α β γ δ) (told α β γ δ) (ops α β γ δ _) (λ x p.
         split t $ lft-end t tt $ move t (1 ∷ []) $ split t $ lft-end t tt $ move t (1 ∷ []) $ split t $ move t (1 ∷ []) $ split t $ move t (5 ∷ []) $ split t $
         -- [the slice's lender's part; the reference's; the last list; k; the last record; the slice's lifetime is over; the reference's]
