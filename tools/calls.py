@@ -3,13 +3,14 @@ from walk import ROOT, nest
 
 TYPES = {'w32': ('u32', '32'), 'w64': ('usize', '64')}
 # function; its numbers beside the row, and a record or none; what it gives (a number, a record, or the row)
-READS = [('find', [('k', 'w32')], 'findOf ys k'), ('find_free', [], 'freeOf ys'), ('find_broken', [('places', 'w64'), ('most', 'w64')], 'brokenOf ys places most'), ('get_or', [('i', 'w64')], None)]
-WRITES = [('put_if', [('i', 'w64')], True, 'set ys i h'), ('clear_from', [('i', 'w64')], False, 'clearedFrom i ys'), ('clear', [], False, 'clearedAll ys')]
+READS = [('find', [('k', 'w32')], 'findOf ys k'), ('find_free', [], 'freeOf ys'), ('find_broken', [('places', 'w64'), ('most', 'w64')], 'brokenOf ys places most'), ('get_or', [('i', 'w64')], None), ('look', [('k', 'w32'), ('places', 'w64'), ('most', 'w64')], 'seenOf ys k places most')]
+WRITES = [('put_if', [('i', 'w64')], True, 'set ys i h'), ('clear_from', [('i', 'w64')], False, 'clearedFrom i ys'), ('clear', [], False, 'clearedAll ys'),
+          ('act', [('i', 'w64'), ('k', 'w64')], True, 'clearedFrom k (set ys i h)')]
 name = lambda f: f.replace('_', '-')
 contract = lambda f: ''.join(p.capitalize() for p in f.split('_'))
 fns = [f for f, *_ in READS + WRITES]
 out = '''-- The call rules of the crate's functions, for whoever walks code that has a row of `Handle`s open: at the head of the context stands the whole share of the row, and `Lent.antt` lends it for the call. One line of the caller's walk is one call.
---     calls-find, calls-find-free, calls-find-broken, calls-get-or     the row is lent as `&[Handle]`.        calls-put-if, calls-clear-from, calls-clear      as `&mut [Handle]`
+--     calls-find, calls-find-free, calls-find-broken, calls-get-or, calls-look     the row is lent as `&[Handle]`.        calls-put-if, calls-clear-from, calls-clear, calls-act      as `&mut [Handle]`
 --     Find, FindFree, ..       the contracts, which the caller has of its table of calls (`cited`)
 -- Each rule is its callee's `to`, `goes` and `told` (`Lent.antt`). The operands are read in the context whose head is any item, and whose rest is the caller's.
 -- Assumes `Given`, and that the table of calls is monotone under a frame.
@@ -41,9 +42,10 @@ use denote.Triple.Spec.{tripleOf}
 use denote.Triple.Statement.{Contract, Triple}
 use denote.Triple.Clauses.{ensured, lasts}
 use Rattle.row.specs.declared.Handle.{Handle}
-use Rattle.row.specs.Row.{none, findOf, freeOf, brokenOf, clearedFrom, clearedAll}
+use Rattle.row.specs.Row.{none, findOf, freeOf, brokenOf, clearedFrom, clearedAll, seenOf}
 use Rattle.row.proofs.Lent.{at, Shared, Unique, calls-shared, calls-unique, told-shared, told-unique}
 use Rattle.row.proofs.Rows.{R, vals, val, tells, makes}
+use Rattle.row.proofs.Records.{R-Seen, val-Seen, vals-Seen, tells-Seen}
 '''
 for f in fns:
     out += f'use Rattle.row.proofs.{f} as {name(f)}\nuse Rattle.row.proofs.{f}.Symbol.{{name as #row·{name(f)}}}\n'
@@ -70,11 +72,13 @@ def rule(f, nums, record, gives, mutable):
         told = f'told-unique W (α ∷ []) fullShare w R γ ({gives}) {last} (λ ws. ws .0) (λ ws. lasts {n}.ended (α ∷ [], tt) {args} ws) (λ ws. qed W (‵ (lasts {n}.ended (α ∷ [], tt) {args} ws) ∷ []) ∵ fsplit ! $ fsplit ! $ keep ! (0 ∷ []) $ done !)'
         lead = f'calls-unique R b o t fm {c} known to vunit (Unit {{0}}) ys ({gives}) room'
     else:
-        if gives:
+        if f == 'look':
+            q, vs, tl, g, v = 'R-Seen', 'vals-Seen', 'tells-Seen', f'({gives})', f'(val-Seen ({gives}))'
+        elif gives:
             q, vs, tl, g, v = 'usize', '(uint-vals w64)', '(uint-tells w64)', f'({gives})', f'(vint w64 ({gives}))'
         else:
             q, vs, tl, g, v = 'R', 'vals', 'tells', '(getD ys i none)', '(val (getD ys i none))'
-        after, phi, then, go = 'ys', f'Is {q} {g} ({vs[1:-1] if gives else vs} {g})', '', 'go'
+        after, phi, then, go = 'ys', f'Is {q} {g} ({vs.strip("()")} {g})', '', 'go'
         then = f'{phi} → '
         post = f'sep 𝓤 (A .lft (α ∷ []) fullShare) (fact 𝓤 ((w ≡ {v[1:-1]}) × {phi}))'
         said = f'ensured 𝓤 H A {n}.ended ({n}.clauses 𝓤 H A memory run) (α ∷ [], tt) {args} tt'

@@ -1,5 +1,5 @@
 -- The call rules of the crate's functions, for whoever walks code that has a row of `Handle`s open: at the head of the context stands the whole share of the row, and `Lent.antt` lends it for the call. One line of the caller's walk is one call.
---     calls-find, calls-find-free, calls-find-broken, calls-get-or     the row is lent as `&[Handle]`.        calls-put-if, calls-clear-from, calls-clear      as `&mut [Handle]`
+--     calls-find, calls-find-free, calls-find-broken, calls-get-or, calls-look     the row is lent as `&[Handle]`.        calls-put-if, calls-clear-from, calls-clear, calls-act      as `&mut [Handle]`
 --     Find, FindFree, ..       the contracts, which the caller has of its table of calls (`cited`)
 -- Each rule is its callee's `to`, `goes` and `told` (`Lent.antt`). The operands are read in the context whose head is any item, and whose rest is the caller's.
 -- Assumes `Given`, and that the table of calls is monotone under a frame.
@@ -31,9 +31,10 @@ use denote.Triple.Spec.{tripleOf}
 use denote.Triple.Statement.{Contract, Triple}
 use denote.Triple.Clauses.{ensured, lasts}
 use Rattle.row.specs.declared.Handle.{Handle}
-use Rattle.row.specs.Row.{none, findOf, freeOf, brokenOf, clearedFrom, clearedAll}
+use Rattle.row.specs.Row.{none, findOf, freeOf, brokenOf, clearedFrom, clearedAll, seenOf}
 use Rattle.row.proofs.Lent.{at, Shared, Unique, calls-shared, calls-unique, told-shared, told-unique}
 use Rattle.row.proofs.Rows.{R, vals, val, tells, makes}
+use Rattle.row.proofs.Records.{R-Seen, val-Seen, vals-Seen, tells-Seen}
 use Rattle.row.proofs.find as find
 use Rattle.row.proofs.find.Symbol.{name as #row·find}
 use Rattle.row.proofs.find_free as find-free
@@ -42,12 +43,16 @@ use Rattle.row.proofs.find_broken as find-broken
 use Rattle.row.proofs.find_broken.Symbol.{name as #row·find-broken}
 use Rattle.row.proofs.get_or as get-or
 use Rattle.row.proofs.get_or.Symbol.{name as #row·get-or}
+use Rattle.row.proofs.look as look
+use Rattle.row.proofs.look.Symbol.{name as #row·look}
 use Rattle.row.proofs.put_if as put-if
 use Rattle.row.proofs.put_if.Symbol.{name as #row·put-if}
 use Rattle.row.proofs.clear_from as clear-from
 use Rattle.row.proofs.clear_from.Symbol.{name as #row·clear-from}
 use Rattle.row.proofs.clear as clear
 use Rattle.row.proofs.clear.Symbol.{name as #row·clear}
+use Rattle.row.proofs.act as act
+use Rattle.row.proofs.act.Symbol.{name as #row·act}
 
 module _ {M : Type 1} (𝓤 : URA M) (H : Heap 𝓤) (A : Atoms 𝓤) (memory : Memory → SProp 𝓤) (run : Routine → Fun 𝓤) where
   abbrev pub Find : Contract 𝓤
@@ -62,6 +67,9 @@ module _ {M : Type 1} (𝓤 : URA M) (H : Heap 𝓤) (A : Atoms 𝓤) (memory : 
   abbrev pub GetOr : Contract 𝓤
   GetOr = tripleOf 𝓤 H A get-or.signature (get-or.spec 𝓤 H A memory run)
 
+  abbrev pub Look : Contract 𝓤
+  Look = tripleOf 𝓤 H A look.signature (look.spec 𝓤 H A memory run)
+
   abbrev pub PutIf : Contract 𝓤
   PutIf = tripleOf 𝓤 H A put-if.signature (put-if.spec 𝓤 H A memory run)
 
@@ -70,6 +78,9 @@ module _ {M : Type 1} (𝓤 : URA M) (H : Heap 𝓤) (A : Atoms 𝓤) (memory : 
 
   abbrev pub Clear : Contract 𝓤
   Clear = tripleOf 𝓤 H A clear.signature (clear.spec 𝓤 H A memory run)
+
+  abbrev pub Act : Contract 𝓤
+  Act = tripleOf 𝓤 H A act.signature (act.spec 𝓤 H A memory run)
 
 module _ {M : Type 1} {𝓤 : URA M} {H : Heap 𝓤} {A : Atoms 𝓤} {K : Type 0} {W : Given 𝓤 H A} {Γ : List (Item 𝓤)} {E : Env 𝓤 H} {C : Calls 𝓤 H} {Λ : Loops 𝓤 H} {q : Post 𝓤 H} {d : Place} {rest : Body} {xs : List Operand} where
   pub calls-find : K → FmC 𝓤 H (W .laws) C → (memory : Memory → SProp 𝓤) (run : Routine → Fun 𝓤) → Triple 𝓤 (C #row·find) (Find 𝓤 H A memory run) → (ys : List Handle) (b o k : ℕ) → Room R (length ys) → k < 2 ^ 32
@@ -136,6 +147,22 @@ module _ {M : Type 1} {𝓤 : URA M} {H : Heap 𝓤} {A : Atoms 𝓤} {K : Type 
       told : (α : ℕ) (γ : GName) (w : Val) → ent 𝓤 (GetOr 𝓤 H A memory run .post (to α γ) w) (H .⇛ (sep 𝓤 (A .lft (α ∷ []) fullShare) (fact 𝓤 ((w ≡ val (getD ys i none)) × Is R (getD ys i none) (vals (getD ys i none))))))
       told α γ w = told-shared W (α ∷ []) fullShare w R vals tells (getD ys i none) (ensured 𝓤 H A get-or.ended (get-or.clauses 𝓤 H A memory run) (α ∷ [], tt) (at R b o γ ys, (i, tt)) tt) (λ r. exE 𝓤 _ (λ ws. snd∗ 𝓤 (sem 𝓤 H A (lasts get-or.ended (α ∷ [], tt) (at R b o γ ys, (i, tt)) ws)) (fact 𝓤 (r ≡ getD ys i none))))
 
+  pub calls-look : K → FmC 𝓤 H (W .laws) C → (memory : Memory → SProp 𝓤) (run : Routine → Fun 𝓤) → Triple 𝓤 (C #row·look) (Look 𝓤 H A memory run) → (ys : List Handle) (b o k places most : ℕ) → Room R (length ys) → k < 2 ^ 32 → places < 2 ^ 64 → most < 2 ^ 64
+      → ((j : Item 𝓤) → Opds K W (j ∷ Γ) E xs (sliceVal (b, o) (length ys) ∷ vint w32 k ∷ vint w64 places ∷ vint w64 most ∷ [])) → (Is R-Seen (seenOf ys k places most) (vals-Seen (seenOf ys k places most)) → Seq K W (‵ (row R fullShare ys b o) ∷ Γ) (lands C Λ E d (val-Seen (seenOf ys k places most)) rest q))
+      → Seq K W (‵ (row R fullShare ys b o) ∷ Γ) (runs C Λ E (seq (call #row·look xs d) rest) q)
+  calls-look t fm memory run known ys b o k places most room k-fits places-fits most-fits ops go = calls-shared R b o t fm (Look 𝓤 H A memory run) known to (val-Seen (seenOf ys k places most)) (Is R-Seen (seenOf ys k places most) (vals-Seen (seenOf ys k places most))) ys room goes told (λ α γ j. ops j) go
+    where
+      to : ℕ → GName → Look 𝓤 H A memory run .Ghost
+      to α γ = (((α ∷ [], tt), (fullShare, tt), tt, (at R b o γ ys, (k, (places, (most, tt)))), (sliceVal (b, o) (length ys) ∷ [], (vint w32 k ∷ [], (vint w64 places ∷ [], (vint w64 most ∷ [], tt))))), tt)
+
+      goes : (α : ℕ) (γ : GName) → ent 𝓤 (sep 𝓤 (A .lft (α ∷ []) fullShare) (sem 𝓤 H A (Shared R b o α γ ys))) (Look 𝓤 H A memory run .pre (to α γ))
+      goes α γ =
+          qed W (‵ (flft (α ∷ []) fullShare) ∷ ‵ (Shared R b o α γ ys) ∷ []) ∵ nothing ! $ move ! (1 ∷ 0 ∷ []) $ join ! $
+          nothing ! $ owned ! usize (Is usize) (uint-makes 𝓤 H A W w64) most _ (refl, most-fits) $ fjoin ! $ owned ! usize (Is usize) (uint-makes 𝓤 H A W w64) places _ (refl, places-fits) $ fjoin ! $ owned ! u32 (Is u32) (uint-makes 𝓤 H A W w32) k _ (refl, k-fits) $ fjoin ! $ move ! (2 ∷ 0 ∷ []) $ fjoin ! $ move ! (1 ∷ 0 ∷ []) $ join ! $ nothing ! $ move ! (1 ∷ 0 ∷ []) $ done !
+
+      told : (α : ℕ) (γ : GName) (w : Val) → ent 𝓤 (Look 𝓤 H A memory run .post (to α γ) w) (H .⇛ (sep 𝓤 (A .lft (α ∷ []) fullShare) (fact 𝓤 ((w ≡ val-Seen (seenOf ys k places most)) × Is R-Seen (seenOf ys k places most) (vals-Seen (seenOf ys k places most))))))
+      told α γ w = told-shared W (α ∷ []) fullShare w R-Seen vals-Seen tells-Seen (seenOf ys k places most) (ensured 𝓤 H A look.ended (look.clauses 𝓤 H A memory run) (α ∷ [], tt) (at R b o γ ys, (k, (places, (most, tt)))) tt) (λ r. exE 𝓤 _ (λ ws. snd∗ 𝓤 (sem 𝓤 H A (lasts look.ended (α ∷ [], tt) (at R b o γ ys, (k, (places, (most, tt)))) ws)) (fact 𝓤 (r ≡ seenOf ys k places most))))
+
   pub calls-put-if : K → FmC 𝓤 H (W .laws) C → (memory : Memory → SProp 𝓤) (run : Routine → Fun 𝓤) → Triple 𝓤 (C #row·put-if) (PutIf 𝓤 H A memory run) → (ys : List Handle) (b o i : ℕ) (h : Handle) → Room R (length ys) → i < 2 ^ 64 → Is R h (vals h)
       → ((j : Item 𝓤) → Opds K W (j ∷ Γ) E xs (sliceVal (b, o) (length ys) ∷ vint w64 i ∷ val h ∷ [])) → Seq K W (‵ (row R fullShare (set ys i h) b o) ∷ Γ) (lands C Λ E d vunit rest q)
       → Seq K W (‵ (row R fullShare ys b o) ∷ Γ) (runs C Λ E (seq (call #row·put-if xs d) rest) q)
@@ -183,3 +210,19 @@ module _ {M : Type 1} {𝓤 : URA M} {H : Heap 𝓤} {A : Atoms 𝓤} {K : Type 
 
       told : (α : ℕ) (γ : GName) (w : Val) → ent 𝓤 (Clear 𝓤 H A memory run .post (to α γ) w) (H .⇛ (sep 𝓤 (sep 𝓤 (A .lft (α ∷ []) fullShare) (sem 𝓤 H A (finally R γ (clearedAll ys)))) (fact 𝓤 ((w ≡ vunit) × Unit {0}))))
       told α γ w = told-unique W (α ∷ []) fullShare w R γ (clearedAll ys) (List Handle × Unit {0}) (λ ws. ws .0) (λ ws. lasts clear.ended (α ∷ [], tt) (at R b o γ ys, tt) ws) (λ ws. qed W (‵ (lasts clear.ended (α ∷ [], tt) (at R b o γ ys, tt) ws) ∷ []) ∵ fsplit ! $ fsplit ! $ keep ! (0 ∷ []) $ done !)
+
+  pub calls-act : K → FmC 𝓤 H (W .laws) C → (memory : Memory → SProp 𝓤) (run : Routine → Fun 𝓤) → Triple 𝓤 (C #row·act) (Act 𝓤 H A memory run) → (ys : List Handle) (b o i k : ℕ) (h : Handle) → Room R (length ys) → i < 2 ^ 64 → k < 2 ^ 64 → Is R h (vals h)
+      → ((j : Item 𝓤) → Opds K W (j ∷ Γ) E xs (sliceVal (b, o) (length ys) ∷ vint w64 i ∷ vint w64 k ∷ val h ∷ [])) → Seq K W (‵ (row R fullShare (clearedFrom k (set ys i h)) b o) ∷ Γ) (lands C Λ E d vunit rest q)
+      → Seq K W (‵ (row R fullShare ys b o) ∷ Γ) (runs C Λ E (seq (call #row·act xs d) rest) q)
+  calls-act t fm memory run known ys b o i k h room i-fits k-fits is-h ops go = calls-unique R b o t fm (Act 𝓤 H A memory run) known to vunit (Unit {0}) ys (clearedFrom k (set ys i h)) room goes told (λ α γ j. ops j) (λ _. go)
+    where
+      to : ℕ → GName → Act 𝓤 H A memory run .Ghost
+      to α γ = (((α ∷ [], tt), (fullShare, tt), tt, (at R b o γ ys, (i, (k, (h, tt)))), (sliceVal (b, o) (length ys) ∷ [], (vint w64 i ∷ [], (vint w64 k ∷ [], (vals h, tt))))), tt)
+
+      goes : (α : ℕ) (γ : GName) → ent 𝓤 (sep 𝓤 (A .lft (α ∷ []) fullShare) (sem 𝓤 H A (Unique R b o α γ ys))) (Act 𝓤 H A memory run .pre (to α γ))
+      goes α γ =
+          qed W (‵ (flft (α ∷ []) fullShare) ∷ ‵ (Unique R b o α γ ys) ∷ []) ∵ nothing ! $ move ! (1 ∷ 0 ∷ []) $ join ! $
+          nothing ! $ owned ! R (Is R) (makes 𝓤 H A W) h (vals h) is-h $ fjoin ! $ owned ! usize (Is usize) (uint-makes 𝓤 H A W w64) k _ (refl, k-fits) $ fjoin ! $ owned ! usize (Is usize) (uint-makes 𝓤 H A W w64) i _ (refl, i-fits) $ fjoin ! $ move ! (2 ∷ 0 ∷ []) $ fjoin ! $ move ! (1 ∷ 0 ∷ []) $ join ! $ nothing ! $ move ! (1 ∷ 0 ∷ []) $ done !
+
+      told : (α : ℕ) (γ : GName) (w : Val) → ent 𝓤 (Act 𝓤 H A memory run .post (to α γ) w) (H .⇛ (sep 𝓤 (sep 𝓤 (A .lft (α ∷ []) fullShare) (sem 𝓤 H A (finally R γ (clearedFrom k (set ys i h))))) (fact 𝓤 ((w ≡ vunit) × Unit {0}))))
+      told α γ w = told-unique W (α ∷ []) fullShare w R γ (clearedFrom k (set ys i h)) (List Handle × (Unit {0} × (Unit {0} × (Unit {0} × Unit {0})))) (λ ws. ws .0) (λ ws. lasts act.ended (α ∷ [], tt) (at R b o γ ys, (i, (k, (h, tt)))) ws) (λ ws. qed W (‵ (lasts act.ended (α ∷ [], tt) (at R b o γ ys, (i, (k, (h, tt)))) ws) ∷ []) ∵ fsplit ! $ fsplit ! $ keep ! (0 ∷ []) $ done !)

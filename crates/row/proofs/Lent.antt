@@ -3,7 +3,7 @@
 --     calls-beside     the row at the head is lent as a `&[T]` for a lifetime that is made for the call, and is back after it; e, the next, stays with the call.        calls-shared       the same without e
 --     calls-unique     the row at the head is lent as a `&mut [T]` likewise, and is back at the list zs that the callee's contract says
 --     calls-peek       a `&mut [T]` that the caller owns, with its lifetime's token, is lent as a `&[T]`, and is back
---     calls-look       a `&[T]` that the caller owns, with its lifetime's token, is handed on, and is had after the call too
+--     calls-handed       a `&[T]` that the caller owns, with its lifetime's token, is handed on, and is had after the call too
 --     told-shared, told-unique     of a callee's `post` what these rules ask: the result is v's machine value, and of a `&mut [T]` the last list is zs
 -- Of the callee's contract the rules take: `to`, what its triple binds outside; `goes`, that its `pre` is had; and `told`, that its `post` gives the token back, with the fact and, of a `&mut`, the last list.
 -- The operands are read in the context whose head is any item, and whose rest is the caller's.
@@ -124,12 +124,12 @@ module _ {M : Type 1} {𝓤 : URA M} {H : Heap 𝓤} {A : Atoms 𝓤} {K : Type 
         move t (1 ∷ []) $ split t $ move t (1 ∷ []) $ split t $ move t (3 ∷ 2 ∷ 0 ∷ 1 ∷ []) $ closes-slice t tt R ys ys refl b o $
         fjoin t $ pureI t (at-slice R (at R b o γ ys) (sliceVal (b, o) (length ys) ∷ [])) (tt, (tt, tt)) (refl, room) $ fjoin t $ move t (1 ∷ 0 ∷ []) $ join t $ go e)
 
-    pub calls-look : K → FmC 𝓤 H (W .laws) C → (c : Contract 𝓤) → Triple 𝓤 (C f) c → (to : c .Ghost) (v : Val) (φ : Type 0) (ys : List (R .Denot)) (ℓ : Lifetime) (κ : Lft) (p : Share) (γ : GName)
+    pub calls-handed : K → FmC 𝓤 H (W .laws) C → (c : Contract 𝓤) → Triple 𝓤 (C f) c → (to : c .Ghost) (v : Val) (φ : Type 0) (ys : List (R .Denot)) (ℓ : Lifetime) (κ : Lft) (p : Share) (γ : GName)
         → ent 𝓤 (sep 𝓤 (A .lft κ p) (sem 𝓤 H A (ShrSlice ℓ κ R .own (at R b o γ ys) (sliceVal (b, o) (length ys) ∷ [])))) (c .pre to)
         → ((w : Val) → ent 𝓤 (c .post to w) (H .⇛ (sep 𝓤 (A .lft κ p) (fact 𝓤 ((w ≡ v) × φ))))) → ((j : Item 𝓤) → Opds K W (j ∷ Γ) E xs (c .args to))
         → (φ → Seq K W ((‵ (flft κ p) ⊛ ‵ (ShrSlice ℓ κ R .own (at R b o γ ys) (sliceVal (b, o) (length ys) ∷ []))) ∷ Γ) (lands C Λ E d v rest q))
         → Seq K W ((‵ (flft κ p) ⊛ ‵ (ShrSlice ℓ κ R .own (at R b o γ ys) (sliceVal (b, o) (length ys) ∷ []))) ∷ Γ) (runs C Λ E (seq (call f xs d) rest) q)
-    calls-look t fm c known to v φ ys ℓ κ p γ goes told ops go =
+    calls-handed t fm c known to v φ ys ℓ κ p γ goes told ops go =
         split t $ move t (1 ∷ []) $ use1 W (‵ mine ⊛ ‵ mine) (shr-slice-copy 𝓤 H A W ℓ κ R .twice (at R b o γ ys) (sliceVal (b, o) (length ys) ∷ [])) $ split t $ move t (2 ∷ 0 ∷ []) $ use2 W (raw (c .pre to)) goes $ join t $
         calls-from t fm (raw (c .pre to) ⊛ ‵ mine) (c .args to) (λ w. sep 𝓤 (c .post to w) (sem 𝓤 H A mine)) (via 𝓤 _ (monoL 𝓤 (sem 𝓤 H A mine) (known to)) (fm f (c .args to) _ _ (sem 𝓤 H A mine) (λ w. id⊢ 𝓤 _))) (ops _) (λ w.
         use1 W (later (‵ (flft κ p) ⊛ raw (fact 𝓤 ((w ≡ v) × φ))) ⊛ ‵ mine) (monoL 𝓤 (sem 𝓤 H A mine) (told w)) $

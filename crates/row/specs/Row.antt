@@ -4,7 +4,9 @@ use Prim.Native.Nat.{ℕ, zero, suc}
 use mathlib.Core.Bool.{Bool, true, false, not, _&&_, _||_}
 use mathlib.Core.List.{List, [], _∷_, map}
 use lib.Dec.{eqb, leb, ltb}
+use lib.ListN.{length, getD}
 use Rattle.row.specs.declared.Handle.{Handle}
+use Rattle.row.specs.declared.Seen.{Seen}
 
 -- what is read past the end of a row
 abbrev pub none : Handle
@@ -51,3 +53,7 @@ abbrev pub clearedFrom : ℕ → List Handle → List Handle
 clearedFrom zero hs = clearedAll hs
 clearedFrom (suc i) [] = []
 clearedFrom (suc i) (h ∷ hs) = h ∷ clearedFrom i hs
+
+-- all that is found for a handle
+abbrev pub seenOf : List Handle → ℕ → ℕ → ℕ → Seen
+seenOf hs k places room = record { at = findOf hs k; free = freeOf hs; len = length hs; broken = brokenOf hs places room; bound = getD hs (findOf hs k) none }

@@ -2,7 +2,7 @@
 use frame::CommitNumber;
 ghost use mathlib.Core.Path.{_≡_};
 ghost use lib.ListN.{length, set, getD};
-ghost use Rattle.row.specs.Row.{none, isOf, isFree, breaksOf, findOf, freeOf, brokenOf, clearedFrom, clearedAll};
+ghost use Rattle.row.specs.Row.{none, isOf, isFree, breaksOf, findOf, freeOf, brokenOf, clearedFrom, clearedAll, seenOf};
 
 // A handle that is bound to a session's place, with what it holds back; a record that is not used is free.
 #[repr(C)]
@@ -139,4 +139,40 @@ pub fn clear(row: &mut [Handle])
     ensures { λ _. ⌜ now (row .exit) ≡ clearedAll (now (row .entry)) ⌝ }
 {
     clear_from(row, 0);
+}
+
+// What is found in a row for a handle: its place, the first free one, the length, the first that breaks the rules, and the record at its place.
+#[repr(C)]
+pub struct Seen {
+    pub at: usize,
+    pub free: usize,
+    pub len: usize,
+    pub broken: usize,
+    pub bound: Handle,
+}
+
+// All that a core asks of a row.
+pub fn look(row: &[Handle], handle: u32, places: usize, room: usize) -> Seen
+    ensures { λ r. ⌜ r ≡ seenOf (now (row .entry)) handle places room ⌝ }
+{
+    let at = find(row, handle);
+    let free = find_free(row);
+    let len = row.len();
+    let broken = find_broken(row, places, room);
+    let bound = get_or(row, at);
+    Seen {
+        at: at,
+        free: free,
+        len: len,
+        broken: broken,
+        bound: bound,
+    }
+}
+
+// All that a core does to a row: a record is put at a place, and every record from another place on is freed; past the end is nowhere.
+pub fn act(row: &mut [Handle], at: usize, from: usize, h: Handle)
+    ensures { λ _. ⌜ now (row .exit) ≡ clearedFrom from (set (now (row .entry)) at h) ⌝ }
+{
+    put_if(row, at, h);
+    clear_from(row, from);
 }
