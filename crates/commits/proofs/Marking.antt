@@ -8,7 +8,7 @@ use native.Mathlib.Omega.{arith}
 use borrow.Author.Tests.{lt-ltb, le-ltb}
 use lib.Dec.{ltb}
 use lib.ListN.{length, take, drop, getD, set, length-set, length-drop}
-use lib.Seq.{length-take-le, take-set-le, take-set-lt, drop-set-add, getD-set-same}
+use lib.Seq.{length-take-le, take-set-le, take-set-lt, drop-set-add}
 use Rattle.model.specs.Store.{Stored, Place, onPlace, onStored, markDurable, markAll}
 use Rattle.log.proofs.Walk.{cmp}
 use Rattle.place.specs.Only.{Only}
@@ -22,7 +22,7 @@ use Rattle.areas.proofs.Lifting.{within, changed-at, rules-kept, places-length}
 use Rattle.pending.specs.Pending.{pendingOf}
 use Rattle.pending.proofs.Laws.{cleared}
 use Rattle.commits.specs.Commits.{durableAt, markedAt, markedWords, ranWords, Ran, RanIf}
-use Rattle.commits.proofs.Head.{word-same, used-kept, places-kept, rules-stay}
+use Rattle.commits.proofs.Head.{word-same, used-kept, places-kept, clear-only, clear-rules}
 
 -- ---- one session
 
@@ -135,12 +135,12 @@ ran s b w r =
     let v : List ℕ = markedWords s (getD w 0 0) (pendingOf w) w in
     let m : Marks s b w v (markAll (pendingOf w) (placesOf s w b)) = mark-all s b (getD w 0 0) (pendingOf w) w refl r in
     let long : 66 ≤ length v = omega (arith, m .rules .room .words-long) in
-    let o : Only 1 66 v (set v 1 0) = only-wider 1 2 1 66 v (set v 1 0) (only-set 1 0 v) (omega arith) (omega arith) in
+    let o : Only 1 66 v (set v 1 0) = clear-only v in
     record {
       words = refl;
       places = places-kept s v (set v 1 0) b o ∙ m .places;
       pending = cleared v long;
-      rules = rules-stay s v (set v 1 0) b o (m .rules) (omega (arith, getD-set-same v 1 0 0 (omega arith)));
+      rules = clear-rules s v b (m .rules);
       used = used-kept s v (set v 1 0) b o ∙ word-same 0 w v (m .front) (omega arith);
       same-length = length-set v 1 0 ∙ m .same-length;
     }
