@@ -16,6 +16,19 @@ use Rattle.areas.proofs.Lists.{count-same, word-kept}
 pub word-same : (k : ℕ) (w w' : List ℕ) → take 66 w' ≡ take 66 w → k < 66 → getD w' k 0 ≡ getD w k 0
 word-same k w w' e h = sym (getD-take 66 w' k 0 h) ∙ ap (λ (l : List ℕ). getD l k 0) e ∙ getD-take 66 w k 0 h
 
+-- the rules speak of these words and of the lengths only
+pub rules-front : (s : Shape) (w w' b b' : List ℕ) → take 66 w' ≡ take 66 w → length w' ≡ length w → length b' ≡ length b → Rules s w b → Rules s w' b'
+rules-front s w w' b b' e lw lb r = record {
+  room = record {
+    bytes-limit = r .room .bytes-limit;
+    messages-limit = r .room .messages-limit;
+    words-long = omega (arith, r .room .words-long);
+    bytes-long = omega (arith, r .room .bytes-long);
+  };
+  used = omega (arith, r .used, word-same 0 w w' e (omega arith));
+  pending = omega (arith, r .pending, word-same 1 w w' e (omega arith));
+}
+
 -- what only changes words 1 to 65 changes no place
 module _ (s : Shape) (w w' b : List ℕ) (o : Only 1 66 w w') where
   pub used-kept : getD w' 0 0 ≡ getD w 0 0

@@ -1,14 +1,13 @@
--- What running the pending commits, and promotion, leave of a store. Assumes nothing.
+-- What running the pending commits leaves of a store. Assumes nothing.
 use mathlib.Core.Path.{_≡_}
 use mathlib.Core.Bool.{Bool, cond}
 use mathlib.Core.List.{List, [], _∷_}
 use Prim.Native.Nat.{ℕ, _+_}
 use lib.Dec.{ltb}
 use lib.ListN.{length, getD, set}
-use Rattle.model.specs.Store.{markAll, onPlaces, takenOver}
-use Rattle.place.specs.Only.{Only}
+use Rattle.model.specs.Store.{markAll}
 use Rattle.areas.specs.declared.Shape.{Shape}
-use Rattle.areas.specs.Areas.{wordsAt, bytesAt, Rules, placesOf}
+use Rattle.areas.specs.Areas.{wordsAt, Rules, placesOf}
 use Rattle.pending.specs.Pending.{pendingOf}
 
 -- where the word stands that says whether the session at place i is durable
@@ -45,11 +44,3 @@ pub record RanIf (due : Bool) (s : Shape) (b w w' : List ℕ) : Type 0 where
   pub rules : Rules s w' b
   pub used : getD w' 0 0 ≡ getD w 0 0
   pub same-length : length w' ≡ length w
-
--- every session in use was taken over; words 0 to 65 and all that lies outside the places in use are as they were
-pub record Promoted (s : Shape) (lag : ℕ) (w w' b b' : List ℕ) : Type 0 where
-  pub places : placesOf s w' b' ≡ onPlaces (takenOver lag) (placesOf s w b)
-  pub words : Only 66 (wordsAt s (getD w 0 0)) w w'
-  pub bytes : Only 0 (bytesAt s (getD w 0 0)) b b'
-  pub rules : Rules s w' b'
-  pub used : getD w' 0 0 ≡ getD w 0 0

@@ -1,15 +1,14 @@
-// What the standby does with pending commits, each of which marks its session as durable, and with all sessions at promotion.
+// What the standby does with pending commits: each marks its session as durable.
 ghost use mathlib.Core.Path.{_≡_};
 ghost use mathlib.Core.Bool.{_||_, not};
 ghost use Prim.Native.Nat.{_+_, _*_, _≤_, _<_};
 ghost use lib.Dec.{leb};
 ghost use lib.ListN.{length, getD, set};
 ghost use Rattle.model_frame.specs.Parse.{isEmpty};
-ghost use Rattle.model.specs.Store.{takenOver};
 ghost use Rattle.model.specs.Standby.{pendsOn};
-ghost use Rattle.areas.specs.Areas.{placeWords, Rules, Changed};
+ghost use Rattle.areas.specs.Areas.{placeWords, Rules};
 ghost use Rattle.pending.specs.Pending.{countOf, pendingOf};
-ghost use Rattle.commits.specs.Commits.{durableAt, markedAt, Ran, RanIf, Promoted};
+ghost use Rattle.commits.specs.Commits.{durableAt, markedAt, Ran, RanIf};
 use areas::Shape;
 
 // The word of a place that says whether its session is durable.
@@ -82,36 +81,4 @@ pub fn is_due_batch(words: &[u64], handle: u32) -> bool
         return true;
     }
     pending::pends_on(words, handle)
-}
-
-// Promotion of the session at place i, which is in use.
-fn take_over(words: &mut [u64], bytes: &mut [u8], shape: Shape, i: usize, lag: u64)
-    requires { ⌜ Rules shape (now words) (now bytes) ⌝ }
-    requires { ⌜ i < getD (now words) 0 0 ⌝ }
-    ensures { λ _. ⌜ Changed shape i (takenOver lag) (now (words .entry)) (now (words .exit)) (now (bytes .entry)) (now (bytes .exit)) ⌝ }
-{
-    let s = areas::spot_of(shape, i);
-    let wa = s.wa;
-    let we = s.we;
-    let ba = s.ba;
-    let be = s.be;
-    place::take_over(
-        &mut words[wa..we],
-        &mut bytes[ba..be],
-        shape.messages as usize,
-        lag,
-    );
-}
-
-// Promotion of every session.
-pub fn promote_all(words: &mut [u64], bytes: &mut [u8], shape: Shape, lag: u64)
-    requires { ⌜ Rules shape (now words) (now bytes) ⌝ }
-    ensures { λ _. ⌜ Promoted shape lag (now (words .entry)) (now (words .exit)) (now (bytes .entry)) (now (bytes .exit)) ⌝ }
-{
-    let used = words[0] as usize;
-    let mut i: usize = 0;
-    while i < used {
-        take_over(words, bytes, shape, i, lag);
-        i += 1;
-    }
 }
