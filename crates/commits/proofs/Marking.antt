@@ -8,7 +8,7 @@ use native.Mathlib.Omega.{arith}
 use borrow.Author.Tests.{lt-ltb, le-ltb}
 use lib.Dec.{ltb}
 use lib.ListN.{length, take, drop, getD, set, length-set, length-drop}
-use lib.Seq.{length-take-le, take-set-le, take-set-lt, drop-set-add, getD-set-same}
+use lib.Seq.{length-take-le, take-set-le, take-set-lt, drop-set-add}
 use Rattle.model.specs.Store.{Stored, Place, onPlace, onStored, markDurable, markAll}
 use Rattle.log.proofs.Walk.{cmp}
 use Rattle.place.specs.Only.{Only}
@@ -18,11 +18,11 @@ use Rattle.place.proofs.Changes as changes
 use Rattle.areas.specs.declared.Shape.{Shape}
 use Rattle.areas.specs.Areas.{placeWords, placeBytes, wordsAt, bytesAt, Rules, part, placeAt, placesOf, Changed}
 use Rattle.areas.proofs.Lists.{inside}
-use Rattle.areas.proofs.Lifting.{within, changed-at, rules-kept, places-length}
+use Rattle.areas.proofs.Lifting.{within, changed-at, places-length}
 use Rattle.pending.specs.Pending.{pendingOf}
 use Rattle.pending.proofs.Laws.{cleared}
 use Rattle.commits.specs.Commits.{durableAt, markedAt, markedWords, ranWords, Ran, RanIf}
-use Rattle.commits.proofs.Head.{word-same, used-kept, places-kept, rules-stay}
+use Rattle.commits.proofs.Head.{word-same, rules-front, used-kept, places-kept, clear-only, clear-rules}
 
 -- ---- one session
 
@@ -64,7 +64,6 @@ past (suc n) f (x ∷ ps) h = ap (λ (l : List Place). x ∷ l) (past n f ps (om
 -- what marking leaves as it was, and the places that it leaves
 pub record Marks (s : Shape) (b w w' : List ℕ) (ps : List Place) : Type 0 where
   pub places : placesOf s w' b ≡ ps
-  pub rules : Rules s w' b
   pub front : take 66 w' ≡ take 66 w
   pub same-length : length w' ≡ length w
 
@@ -90,39 +89,26 @@ marked-length s used i w = go (ltb i used)
 
 module _ (s : Shape) (b : List ℕ) (used : ℕ) where
   mark-one : (i : ℕ) (w : List ℕ) → getD w 0 0 ≡ used → Rules s w b → Marks s b w (markedAt s used i w) (onPlace i markDurable (placesOf s w b))
-  mark-one i w e r = go (cmp used i)
+  mark-one i w e r = record { places = go (cmp used i); front = marked-front s used i w; same-length = marked-length s used i w }
     where
-      there : i < getD w 0 0 → set w (durableAt s i) 1 ≡ markedAt s used i w → Marks s b w (markedAt s used i w) (onPlace i markDurable (placesOf s w b))
-      there h q =
-          let k : Changed s i markDurable w (set w (durableAt s i) 1) b b = marked s i w b r h in
-          record {
-            places = ap (λ (l : List ℕ). placesOf s l b) (sym q) ∙ k .places;
-            rules = subst (λ (l : List ℕ). Rules s l b) q (rules-kept s i markDurable w (set w (durableAt s i) 1) b b k r);
-            front = marked-front s used i w;
-            same-length = marked-length s used i w;
-          }
+      there : i < getD w 0 0 → set w (durableAt s i) 1 ≡ markedAt s used i w → placesOf s (markedAt s used i w) b ≡ onPlace i markDurable (placesOf s w b)
+      there h q = ap (λ (l : List ℕ). placesOf s l b) (sym q) ∙ marked s i w b r h .places
 
-      not-there : length (placesOf s w b) ≤ i → w ≡ markedAt s used i w → Marks s b w (markedAt s used i w) (onPlace i markDurable (placesOf s w b))
-      not-there h q = record {
-        places = ap (λ (l : List ℕ). placesOf s l b) (sym q) ∙ sym (past i markDurable (placesOf s w b) h);
-        rules = subst (λ (l : List ℕ). Rules s l b) q r;
-        front = marked-front s used i w;
-        same-length = marked-length s used i w;
-      }
+      not-there : length (placesOf s w b) ≤ i → w ≡ markedAt s used i w → placesOf s (markedAt s used i w) b ≡ onPlace i markDurable (placesOf s w b)
+      not-there h q = ap (λ (l : List ℕ). placesOf s l b) (sym q) ∙ sym (past i markDurable (placesOf s w b) h)
 
-      go : (used ≤ i) ⊎ (i < used) → Marks s b w (markedAt s used i w) (onPlace i markDurable (placesOf s w b))
+      go : (used ≤ i) ⊎ (i < used) → placesOf s (markedAt s used i w) b ≡ onPlace i markDurable (placesOf s w b)
       go (inl h) = not-there (omega (arith, places-length s w b, e)) (marked-past s used i w h)
       go (inr h) = there (omega (arith, e)) (marked-there s used i w h)
 
   pub mark-all : (cs : List (ℕ × ℕ)) (w : List ℕ) → getD w 0 0 ≡ used → Rules s w b → Marks s b w (markedWords s used cs w) (markAll cs (placesOf s w b))
-  mark-all [] w e r = record { places = refl; rules = r; front = refl; same-length = refl }
+  mark-all [] w e r = record { places = refl; front = refl; same-length = refl }
   mark-all (c ∷ cs) w e r =
       let v : List ℕ = markedAt s used (c .1) w in
       let k : Marks s b w v (onPlace (c .1) markDurable (placesOf s w b)) = mark-one (c .1) w e r in
-      let m : Marks s b v (markedWords s used cs v) (markAll cs (placesOf s v b)) = mark-all cs v (word-same 0 w v (k .front) (omega arith) ∙ e) (k .rules) in
+      let m : Marks s b v (markedWords s used cs v) (markAll cs (placesOf s v b)) = mark-all cs v (word-same 0 w v (k .front) (omega arith) ∙ e) (rules-front s w v b b (k .front) (k .same-length) refl r) in
       record {
         places = m .places ∙ ap (markAll cs) (k .places);
-        rules = m .rules;
         front = m .front ∙ k .front;
         same-length = m .same-length ∙ k .same-length;
       }
@@ -134,13 +120,14 @@ unfolding ranWords
 ran s b w r =
     let v : List ℕ = markedWords s (getD w 0 0) (pendingOf w) w in
     let m : Marks s b w v (markAll (pendingOf w) (placesOf s w b)) = mark-all s b (getD w 0 0) (pendingOf w) w refl r in
-    let long : 66 ≤ length v = omega (arith, m .rules .room .words-long) in
-    let o : Only 1 66 v (set v 1 0) = only-wider 1 2 1 66 v (set v 1 0) (only-set 1 0 v) (omega arith) (omega arith) in
+    let kept : Rules s v b = rules-front s w v b b (m .front) (m .same-length) refl r in
+    let long : 66 ≤ length v = omega (arith, kept .room .words-long) in
+    let o : Only 1 66 v (set v 1 0) = clear-only v in
     record {
       words = refl;
       places = places-kept s v (set v 1 0) b o ∙ m .places;
       pending = cleared v long;
-      rules = rules-stay s v (set v 1 0) b o (m .rules) (omega (arith, getD-set-same v 1 0 0 (omega arith)));
+      rules = clear-rules s v b kept;
       used = used-kept s v (set v 1 0) b o ∙ word-same 0 w v (m .front) (omega arith);
       same-length = length-set v 1 0 ∙ m .same-length;
     }

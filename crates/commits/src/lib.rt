@@ -1,4 +1,4 @@
-// What the standby does with pending commits (standby.rs, run_pending): each marks its session as durable.
+// What the standby does with pending commits: each marks its session as durable.
 ghost use mathlib.Core.Path.{_≡_};
 ghost use mathlib.Core.Bool.{_||_, not};
 ghost use Prim.Native.Nat.{_+_, _*_, _≤_, _<_};

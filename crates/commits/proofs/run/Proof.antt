@@ -1,4 +1,3 @@
-use mathlib.Core.Path.{_∙_}
 use Prim.Native.Nat.{_-_}
 use native.Mathlib.Omega.{arith}
 use lib.ListN.{length-set}
@@ -37,16 +36,16 @@ loop-less : tie.Need-loop-less Inv-loop μ-loop
 loop-less c = omega arith
 
 loop-again : tie.Need-loop-again Inv-loop μ-loop
-loop-again c = goes-on _ _ _ _ _ _ (c .before .before .before .before .before .before .loop .inv) (c .before .before .before .before .before .loop-test .taken) (c .before .before .mark-used .ensures)
+loop-again c = goes-on _ _ _ _ _ _ (c .before .before .before .before .before .before .loop .inv) (omega arith) (c .before .before .mark-used .ensures)
 
 slice-write-words : tie.Need-slice-write-words Inv-loop μ-loop
 slice-write-words c = omega arith
 
 same-length : tie.Need-same-length Inv-loop μ-loop
-same-length c = length-set (c .before .loop .words) 1 0 ∙ c .before .loop .inv .same-length
+same-length c = simp length-set (c .before .loop .inv .same-length)
 
 returns : tie.Need-returns Inv-loop μ-loop
-returns c = ends _ _ _ _ _ (c .before .loop .inv) (c .loop-test .left)
+returns c = ends _ _ _ _ _ (c .before .loop .inv) (omega arith)
 
 pub run-spec : {M : Type 1} → statement M
 run-spec =
