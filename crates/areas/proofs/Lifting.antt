@@ -14,7 +14,7 @@ use Rattle.place.specs.Only.{Only}
 use Rattle.place.specs.Place.{placeIn}
 use Rattle.place.proofs.Fields.{only-none, only-put}
 use Rattle.areas.specs.declared.Shape.{Shape}
-use Rattle.areas.specs.Areas.{placeWords, placeBytes, wordsAt, bytesAt, SpotIs, Room, Rules, part, placeAt, countUp, placesOf, Changed}
+use Rattle.areas.specs.Areas.{placeWords, placeBytes, wordsAt, bytesAt, SpotIs, SpotIn, Room, Rules, part, placeAt, countUp, placesOf, Changed}
 use Rattle.areas.proofs.Lists.{count-length, count-at, count-one, inside, apart, part-kept, word-kept}
 
 -- ---- a place in use lies within the areas
@@ -167,20 +167,20 @@ module _ (s : Shape) (i wa we ba be : ℕ) (at : SpotIs s i wa we ba be) (w b : 
       → Changed s i f w (putMid c (d - c) w x) b b)
       (λ k e. lift-words s i w b x b r h f k (e (midOf (bytesAt s i) (bytesAt s i + placeBytes s - bytesAt s i) b)))
 
-  -- how long the parts are
-  pub spot-words-long : length (midOf wa (we - wa) w) ≡ placeWords s
-  spot-words-long =
-      moved (λ c d e g. length (midOf c (d - c) w) ≡ placeWords s) (part-length (wordsAt s i) (placeWords s) w (midOf (wordsAt s i) (wordsAt s i + placeWords s - wordsAt s i) w) (within s i w b r h .words-in) refl)
-
-  pub spot-bytes-long : length (midOf ba (be - ba) b) ≡ placeBytes s
-  spot-bytes-long =
-      moved (λ c d e g. length (midOf e (g - e) b) ≡ placeBytes s) (part-length (bytesAt s i) (placeBytes s) b (midOf (bytesAt s i) (bytesAt s i + placeBytes s - bytesAt s i) b) (within s i w b r h .bytes-in) refl)
-
-  -- and that they lie within the areas
-  pub spot-within : (we ≤ length w) × (be ≤ length b) × (wa ≤ we) × (ba ≤ be)
-  spot-within =
+  -- the parts lie within the areas, and how long they are
+  pub spot-in : SpotIn s i w b wa we ba be
+  spot-in =
       let v : Within s i w b = within s i w b r h in
-      (omega (arith, at .words-to, v .words-in), omega (arith, at .bytes-to, v .bytes-in), omega (arith, at .words-to, at .words-from), omega (arith, at .bytes-to, at .bytes-from))
+      record {
+        at = at;
+        words-order = omega (arith, at .words-to, at .words-from);
+        bytes-order = omega (arith, at .bytes-to, at .bytes-from);
+        words-end = omega (arith, at .words-to, v .words-in);
+        bytes-end = omega (arith, at .bytes-to, v .bytes-in);
+        words-part = moved (λ c d e g. length (midOf c (d - c) w) ≡ placeWords s) (part-length (wordsAt s i) (placeWords s) w (midOf (wordsAt s i) (wordsAt s i + placeWords s - wordsAt s i) w) (v .words-in) refl);
+        bytes-part = moved (λ c d e g. length (midOf e (g - e) b) ≡ placeBytes s) (part-length (bytesAt s i) (placeBytes s) b (midOf (bytesAt s i) (bytesAt s i + placeBytes s - bytesAt s i) b) (v .bytes-in) refl);
+        messages-few = v .messages-few;
+      }
 
 -- ---- what the list of places says
 
