@@ -21,6 +21,17 @@ pub struct Text {
     pub len: usize,
 }
 
+// What a Bound says of a session; the stamp is empty for none.
+#[repr(C)]
+pub struct Summary {
+    pub next_outgoing: u64,
+    pub next_incoming: u64,
+    pub in_flight: Flight,
+    pub created_at: Text,
+    pub marks: Text,
+    pub last_outgoing: u64,
+}
+
 // ---- reading a session in use: each function asks that the areas keep the rules and that place i is in use
 
 pub fn next_outgoing(words: &[u64], bytes: &[u8], shape: Shape, i: usize) -> u64
