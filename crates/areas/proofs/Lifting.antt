@@ -14,7 +14,7 @@ use Rattle.place.specs.Only.{Only}
 use Rattle.place.specs.Place.{placeIn}
 use Rattle.place.proofs.Fields.{only-none, only-put}
 use Rattle.areas.specs.declared.Shape.{Shape}
-use Rattle.areas.specs.Areas.{placeWords, placeBytes, wordsAt, bytesAt, SpotIs, Room, Rules, part, placeAt, countUp, placesOf, Changed}
+use Rattle.areas.specs.Areas.{placeWords, placeBytes, wordsAt, bytesAt, SpotIs, SpotIn, Room, Rules, part, placeAt, countUp, placesOf, Changed}
 use Rattle.areas.proofs.Lists.{count-length, count-at, count-one, inside, apart, part-kept, word-kept}
 
 -- ---- a place in use lies within the areas
@@ -138,6 +138,23 @@ module _ (s : Shape) (i : ℕ) (w b x y : List ℕ) (r : Rules s w b) (h : i < g
       ((λ k. placeIn (s .bytes) (s .messages) (part-own (wordsAt s i) (placeWords s) w x (v .words-in) sx k) (sym (part-lent (bytesAt s i) (placeBytes s) b mb (v .bytes-in) refl) k))
       ∙ e ∙ ap (onStored f) lent-place)
 
+-- a place that is put back whole
+pub record Put (s : Shape) (i : ℕ) (w w' b b' : List ℕ) (p : Place) : Type 0 where
+  pub own : placeAt s w' b' i ≡ p
+  pub words : Only (wordsAt s i) (wordsAt s i + placeWords s) w w'
+  pub bytes : Only (bytesAt s i) (bytesAt s i + placeBytes s) b b'
+
+put-both : (s : Shape) (i : ℕ) (w b x y : List ℕ) (r : Rules s w b) (h : i < getD w 0 0) → length x ≡ length (mw s i w b x y r h) → length y ≡ length (mb s i w b x y r h)
+    → Put s i w (vw s i w b x y r h) b (vb s i w b x y r h) (placeIn (s .bytes) (s .messages) x y)
+unfolding placeAt
+put-both s i w b x y r h sx sy =
+    let v : Within s i w b = within s i w b r h in
+    record {
+      own = λ k. placeIn (s .bytes) (s .messages) (part-own (wordsAt s i) (placeWords s) w x (v .words-in) sx k) (part-own (bytesAt s i) (placeBytes s) b y (v .bytes-in) sy k);
+      words = part-only (wordsAt s i) (placeWords s) w x (v .words-in) sx;
+      bytes = part-only (bytesAt s i) (placeBytes s) b y (v .bytes-in) sy;
+    }
+
 -- ---- the same where the code's own numbers say where the place stands
 
 module _ (s : Shape) (i wa we ba be : ℕ) (at : SpotIs s i wa we ba be) (w b : List ℕ) (r : Rules s w b) (h : i < getD w 0 0) where
@@ -167,20 +184,37 @@ module _ (s : Shape) (i wa we ba be : ℕ) (at : SpotIs s i wa we ba be) (w b : 
       → Changed s i f w (putMid c (d - c) w x) b b)
       (λ k e. lift-words s i w b x b r h f k (e (midOf (bytesAt s i) (bytesAt s i + placeBytes s - bytesAt s i) b)))
 
-  -- how long the parts are
-  pub spot-words-long : length (midOf wa (we - wa) w) ≡ placeWords s
-  spot-words-long =
-      moved (λ c d e g. length (midOf c (d - c) w) ≡ placeWords s) (part-length (wordsAt s i) (placeWords s) w (midOf (wordsAt s i) (wordsAt s i + placeWords s - wordsAt s i) w) (within s i w b r h .words-in) refl)
+  -- the parts as the definitions have them
+  pub spot-words-part : midOf wa (we - wa) w ≡ part (wordsAt s i) (placeWords s) w
+  spot-words-part =
+      moved (λ c d e g. midOf c (d - c) w ≡ part (wordsAt s i) (placeWords s) w) (part-lent (wordsAt s i) (placeWords s) w (midOf (wordsAt s i) (wordsAt s i + placeWords s - wordsAt s i) w) (within s i w b r h .words-in) refl)
 
-  pub spot-bytes-long : length (midOf ba (be - ba) b) ≡ placeBytes s
-  spot-bytes-long =
-      moved (λ c d e g. length (midOf e (g - e) b) ≡ placeBytes s) (part-length (bytesAt s i) (placeBytes s) b (midOf (bytesAt s i) (bytesAt s i + placeBytes s - bytesAt s i) b) (within s i w b r h .bytes-in) refl)
+  pub spot-bytes-part : midOf ba (be - ba) b ≡ part (bytesAt s i) (placeBytes s) b
+  spot-bytes-part =
+      moved (λ c d e g. midOf e (g - e) b ≡ part (bytesAt s i) (placeBytes s) b) (part-lent (bytesAt s i) (placeBytes s) b (midOf (bytesAt s i) (bytesAt s i + placeBytes s - bytesAt s i) b) (within s i w b r h .bytes-in) refl)
 
-  -- and that they lie within the areas
-  pub spot-within : (we ≤ length w) × (be ≤ length b) × (wa ≤ we) × (ba ≤ be)
-  spot-within =
+  -- parts that are put back whole, with another key too
+  pub spot-put : (x y : List ℕ) → length x ≡ length (midOf wa (we - wa) w) → length y ≡ length (midOf ba (be - ba) b)
+      → Put s i w (putMid wa (we - wa) w x) b (putMid ba (be - ba) b y) (placeIn (s .bytes) (s .messages) x y)
+  spot-put x y =
+      moved (λ c d e g. length x ≡ length (midOf c (d - c) w) → length y ≡ length (midOf e (g - e) b)
+      → Put s i w (putMid c (d - c) w x) b (putMid e (g - e) b y) (placeIn (s .bytes) (s .messages) x y))
+      (put-both s i w b x y r h)
+
+  -- the parts lie within the areas, and how long they are
+  pub spot-in : SpotIn s i w b wa we ba be
+  spot-in =
       let v : Within s i w b = within s i w b r h in
-      (omega (arith, at .words-to, v .words-in), omega (arith, at .bytes-to, v .bytes-in), omega (arith, at .words-to, at .words-from), omega (arith, at .bytes-to, at .bytes-from))
+      record {
+        at = at;
+        words-order = omega (arith, at .words-to, at .words-from);
+        bytes-order = omega (arith, at .bytes-to, at .bytes-from);
+        words-end = omega (arith, at .words-to, v .words-in);
+        bytes-end = omega (arith, at .bytes-to, v .bytes-in);
+        words-part = moved (λ c d e g. length (midOf c (d - c) w) ≡ placeWords s) (part-length (wordsAt s i) (placeWords s) w (midOf (wordsAt s i) (wordsAt s i + placeWords s - wordsAt s i) w) (v .words-in) refl);
+        bytes-part = moved (λ c d e g. length (midOf e (g - e) b) ≡ placeBytes s) (part-length (bytesAt s i) (placeBytes s) b (midOf (bytesAt s i) (bytesAt s i + placeBytes s - bytesAt s i) b) (v .bytes-in) refl);
+        messages-few = v .messages-few;
+      }
 
 -- ---- what the list of places says
 

@@ -2,7 +2,7 @@
 -- Words: 0 how many places are in use, 1 how many commits are pending, 2 to 65 the pending commits (place × 2^32 + handle);
 -- from 66 on the words of place 0, of place 1, and so on. Bytes: those of place 0, of place 1, and so on. Assumes nothing.
 use mathlib.Core.Path.{_≡_}
-use Prim.Native.Nat.{ℕ, zero, suc, _+_, _*_, _≤_, _<_}
+use Prim.Native.Nat.{ℕ, zero, suc, _+_, _-_, _*_, _≤_, _<_}
 use mathlib.Core.Bool.{Bool, true, false, _&&_}
 use mathlib.Core.List.{List, [], _∷_, _++_}
 use lib.ListN.{length, take, drop, getD, set}
@@ -59,6 +59,17 @@ pub record Rules (s : Shape) (w b : List ℕ) : Type 0 where
   pub room : Room s w b
   pub used : getD w 0 0 ≤ s .places
   pub pending : getD w 1 0 ≤ 64
+
+-- where a place in use stands
+pub record SpotIn (s : Shape) (i : ℕ) (w b : List ℕ) (wa we ba be : ℕ) : Type 0 where
+  pub at : SpotIs s i wa we ba be
+  pub words-order : wa ≤ we
+  pub bytes-order : ba ≤ be
+  pub words-end : we ≤ length w
+  pub bytes-end : be ≤ length b
+  pub words-part : length (take (we - wa) (drop wa w)) ≡ placeWords s
+  pub bytes-part : length (take (be - ba) (drop ba b)) ≡ placeBytes s
+  pub messages-few : s .messages ≤ 65536
 
 -- ---- what the areas hold
 

@@ -4,7 +4,7 @@ ghost use Prim.Native.Nat.{ℕ, _+_, _*_, _≤_, _<_};
 ghost use mathlib.Core.Bool.{Bool, true, false};
 ghost use mathlib.Core.List.{List};
 ghost use lib.ListN.{length, getD, set};
-ghost use Rattle.areas.specs.Areas.{placeWords, placeBytes, wordsAt, bytesAt, roomy, allowed, SpotIs, Making};
+ghost use Rattle.areas.specs.Areas.{placeWords, placeBytes, wordsAt, bytesAt, roomy, allowed, Rules, SpotIs, SpotIn, Making};
 
 // How many session places, and for each the message bytes (C) and the messages (M).
 #[repr(C)]
@@ -57,7 +57,7 @@ pub struct Spot {
 }
 
 // Where place i stands.
-pub fn spot_of(shape: Shape, i: usize) -> Spot
+fn spot_of(shape: Shape, i: usize) -> Spot
     requires { ⌜ shape .messages ≤ 65536 ⌝ }
     requires { ⌜ shape .bytes ≤ 33554432 ⌝ }
     requires { ⌜ i < 4294967296 ⌝ }
@@ -73,6 +73,15 @@ pub fn spot_of(shape: Shape, i: usize) -> Spot
         ba,
         be: ba + size,
     }
+}
+
+// Where place i stands in areas that keep the rules: the place is in use.
+pub fn spot_in(words: &[u64], bytes: &[u8], shape: Shape, i: usize) -> Spot
+    requires { ⌜ Rules shape (now words) (now bytes) ⌝ }
+    requires { ⌜ i < getD (now words) 0 0 ⌝ }
+    ensures { λ r. ⌜ SpotIn shape i (now (words .entry)) (now (bytes .entry)) (r .wa) (r .we) (r .ba) (r .be) ⌝ }
+{
+    spot_of(shape, i)
 }
 
 // Whether C and M are within their limits and the areas are as long as they ask.

@@ -1,0 +1,266 @@
+// The sessions of a store: finding and opening one, its summary and its messages, promotion of all.
+ghost use mathlib.Core.Path.{_≡_};
+ghost use mathlib.Core.Bool.{Bool, true};
+ghost use mathlib.Core.List.{List, [], _∷_, _++_};
+ghost use Prim.Native.Nat.{ℕ, _+_, _-_, _*_, _≤_, _<_};
+ghost use lib.ListN.{length, take, drop, getD, set};
+ghost use Rattle.model_session.specs.Summary.{lastOut, summary};
+ghost use Rattle.model.specs.Store.{sameKey, placeOf};
+ghost use Rattle.place.specs.Place.{keyFrom};
+ghost use Rattle.areas.specs.Areas.{Rules, placeAt, placesOf};
+ghost use Rattle.sessions.specs.Answers.{soughtIs, soughtIn, Opened, TakenOver, summaryIs, summarisedIs, summarisedIn, StandsAt, FromAt, ReadAt};
+use areas::Shape;
+use log::Cursor;
+use store::Summary;
+
+// The answer to a search: the place of the key, or, where it has none, the number of places in use.
+pub enum Sought {
+    Place(usize),
+    Unfit,
+}
+
+// The answer to a request for a summary.
+pub enum Summarised {
+    Session(Summary),
+    Unfit,
+}
+
+// A stored message: its number, its bytes in two parts of the byte area, and the place in the log after it.
+#[repr(C)]
+pub struct Message {
+    pub number: u64,
+    pub at: usize,
+    pub first: usize,
+    pub again: usize,
+    pub rest: usize,
+    pub left: usize,
+    pub dist: usize,
+}
+
+// ---- keys
+
+// Whether place i has this key.
+fn has_key(
+    words: &[u64],
+    bytes: &[u8],
+    shape: Shape,
+    i: usize,
+    begin: &[u8],
+    sender: &[u8],
+    target: &[u8],
+    suffix: &[u8],
+) -> bool
+    requires { ⌜ Rules shape (now words) (now bytes) ⌝ }
+    requires { ⌜ i < getD (now words) 0 0 ⌝ }
+    ensures { λ r. ⌜ r ≡ sameKey (keyFrom (now (begin .entry)) (now (sender .entry)) (now (target .entry)) (now (suffix .entry))) (placeAt shape (now (words .entry)) (now (bytes .entry)) i .key) ⌝ }
+{
+    let p = areas::spot_in(words, bytes, shape, i);
+    let wa = p.wa;
+    let we = p.we;
+    let ba = p.ba;
+    let be = p.be;
+    place::has_key(
+        &words[wa..we],
+        &bytes[ba..be],
+        begin,
+        sender,
+        target,
+        suffix,
+    )
+}
+
+// The first place with this key, or the number of places in use where none has it.
+pub fn place_of(
+    words: &[u64],
+    bytes: &[u8],
+    shape: Shape,
+    begin: &[u8],
+    sender: &[u8],
+    target: &[u8],
+    suffix: &[u8],
+) -> usize
+    requires { ⌜ Rules shape (now words) (now bytes) ⌝ }
+    ensures { λ r. ⌜ r ≡ placeOf (keyFrom (now (begin .entry)) (now (sender .entry)) (now (target .entry)) (now (suffix .entry))) (placesOf shape (now (words .entry)) (now (bytes .entry))) ⌝ }
+{
+    let used = words[0] as usize;
+    let mut i = 0;
+    while i < used {
+        if has_key(words, bytes, shape, i, begin, sender, target, suffix) {
+            return i;
+        }
+        i += 1;
+    }
+    i
+}
+
+// The same on any areas.
+pub fn find(
+    words: &[u64],
+    bytes: &[u8],
+    shape: Shape,
+    begin: &[u8],
+    sender: &[u8],
+    target: &[u8],
+    suffix: &[u8],
+) -> Sought
+    ensures { λ r. ⌜ soughtIs r ≡ soughtIn shape (now (words .entry)) (now (bytes .entry)) (keyFrom (now (begin .entry)) (now (sender .entry)) (now (target .entry)) (now (suffix .entry))) ⌝ }
+{
+    if areas::allowed(shape, words, bytes) {
+        return Sought::Place(place_of(words, bytes, shape, begin, sender, target, suffix));
+    }
+    Sought::Unfit
+}
+
+// Opens the new session of a key at the next free place.
+pub fn open(
+    words: &mut [u64],
+    bytes: &mut [u8],
+    shape: Shape,
+    begin: &[u8],
+    sender: &[u8],
+    target: &[u8],
+    suffix: &[u8],
+)
+    requires { ⌜ Rules shape (now words) (now bytes) ⌝ }
+    requires { ⌜ getD (now words) 0 0 < shape .places ⌝ }
+    requires { ⌜ length (now begin) ≤ 32 ⌝ }
+    requires { ⌜ length (now sender) ≤ 32 ⌝ }
+    requires { ⌜ length (now target) ≤ 32 ⌝ }
+    requires { ⌜ length (now suffix) ≤ 32 ⌝ }
+    ensures { λ _. ⌜ Opened shape (keyFrom (now (begin .entry)) (now (sender .entry)) (now (target .entry)) (now (suffix .entry))) (now (words .entry)) (now (words .exit)) (now (bytes .entry)) (now (bytes .exit)) ⌝ }
+{
+    let used = words[0] as usize;
+    words[0] = (used + 1) as u64;
+    let p = areas::spot_in(words, bytes, shape, used);
+    let wa = p.wa;
+    let we = p.we;
+    let ba = p.ba;
+    let be = p.be;
+    let max = shape.messages as usize;
+    place::new_session(
+        &mut words[wa..we],
+        &mut bytes[ba..be],
+        max,
+        begin,
+        sender,
+        target,
+        suffix,
+    );
+}
+
+// ---- promotion
+
+// Promotion's work on all sessions.
+pub fn take_over_all(words: &mut [u64], bytes: &mut [u8], shape: Shape, lag: u64)
+    requires { ⌜ Rules shape (now words) (now bytes) ⌝ }
+    ensures { λ _. ⌜ TakenOver shape lag (now (words .entry)) (now (words .exit)) (now (bytes .entry)) (now (bytes .exit)) ⌝ }
+{
+    let used = words[0] as usize;
+    let mut i = 0;
+    while i < used {
+        store::take_over(words, bytes, shape, i, lag);
+        i += 1;
+    }
+}
+
+// ---- summaries
+
+// last_outgoing over n, of a session in use.
+pub fn last_outgoing(words: &[u64], bytes: &[u8], shape: Shape, i: usize, n: u64) -> u64
+    requires { ⌜ Rules shape (now words) (now bytes) ⌝ }
+    requires { ⌜ i < getD (now words) 0 0 ⌝ }
+    ensures { λ r. ⌜ r ≡ lastOut (placeAt shape (now (words .entry)) (now (bytes .entry)) i .stored .session) n ⌝ }
+{
+    let p = areas::spot_in(words, bytes, shape, i);
+    let wa = p.wa;
+    let we = p.we;
+    let ba = p.ba;
+    let be = p.be;
+    let max = shape.messages as usize;
+    place::last_outgoing(&words[wa..we], &bytes[ba..be], max, n)
+}
+
+// The summary of a session in use, with last_outgoing over n.
+pub fn summary_of(words: &[u64], bytes: &[u8], shape: Shape, i: usize, n: u64) -> Summary
+    requires { ⌜ Rules shape (now words) (now bytes) ⌝ }
+    requires { ⌜ i < getD (now words) 0 0 ⌝ }
+    ensures { λ r. ⌜ summaryIs (now (bytes .entry)) r ≡ summary (placeAt shape (now (words .entry)) (now (bytes .entry)) i .stored .session) n ⌝ }
+{
+    let next_outgoing = store::next_outgoing(words, bytes, shape, i);
+    let next_incoming = store::next_incoming(words, bytes, shape, i);
+    let in_flight = store::in_flight(words, bytes, shape, i);
+    let created_at = store::created_at(words, bytes, shape, i);
+    let marks = store::marks(words, bytes, shape, i);
+    let last_outgoing = last_outgoing(words, bytes, shape, i, n);
+    Summary {
+        next_outgoing,
+        next_incoming,
+        in_flight,
+        created_at,
+        marks,
+        last_outgoing,
+    }
+}
+
+// The same on any areas and of any place.
+pub fn summary(words: &[u64], bytes: &[u8], shape: Shape, i: usize, n: u64) -> Summarised
+    ensures { λ r. ⌜ summarisedIs (now (bytes .entry)) r ≡ summarisedIn shape (now (words .entry)) (now (bytes .entry)) i n ⌝ }
+{
+    if areas::allowed(shape, words, bytes) {
+        if i < words[0] as usize {
+            return Summarised::Session(summary_of(words, bytes, shape, i, n));
+        }
+    }
+    Summarised::Unfit
+}
+
+// ---- messages
+
+// The place in the log of a session where the messages with numbers from low begin.
+pub fn messages_from(words: &[u64], bytes: &[u8], shape: Shape, i: usize, low: u64) -> Cursor
+    requires { ⌜ Rules shape (now words) (now bytes) ⌝ }
+    requires { ⌜ i < getD (now words) 0 0 ⌝ }
+    requires { ⌜ 1 ≤ low ⌝ }
+    ensures { λ r. ⌜ FromAt shape (now (words .entry)) (now (bytes .entry)) i low (r .left) (r .dist) ⌝ }
+{
+    let p = areas::spot_in(words, bytes, shape, i);
+    let wa = p.wa;
+    let we = p.we;
+    let ba = p.ba;
+    let be = p.be;
+    let max = shape.messages as usize;
+    place::messages_from(&words[wa..we], &bytes[ba..be], max, low)
+}
+
+// The next message at a place in the log of a session.
+pub fn message_at(
+    words: &[u64],
+    bytes: &[u8],
+    shape: Shape,
+    i: usize,
+    left: usize,
+    dist: usize,
+) -> Message
+    requires { ⌜ Rules shape (now words) (now bytes) ⌝ }
+    requires { ⌜ i < getD (now words) 0 0 ⌝ }
+    requires { ⌜ StandsAt shape (now words) (now bytes) i left dist ⌝ }
+    requires { ⌜ 1 ≤ left ⌝ }
+    ensures { λ r. ⌜ ReadAt shape (now (words .entry)) (now (bytes .entry)) i left dist (r .number) (r .at) (r .first) (r .again) (r .rest) (r .left) (r .dist) ⌝ }
+{
+    let p = areas::spot_in(words, bytes, shape, i);
+    let wa = p.wa;
+    let we = p.we;
+    let ba = p.ba;
+    let be = p.be;
+    let max = shape.messages as usize;
+    let f = place::message_at(&words[wa..we], &bytes[ba..be], max, left, dist);
+    Message {
+        number: f.number,
+        at: ba + f.start,
+        first: f.first,
+        again: ba + 224,
+        rest: f.rest,
+        left: f.left,
+        dist: f.dist,
+    }
+}
