@@ -67,7 +67,7 @@ def rule(f, nums, record, gives, mutable):
         after, v, phi, then, go = f'({gives})', 'vunit', 'Unit {0}', '', '(λ _. go)'
         post = f'sep 𝓤 (sep 𝓤 (A .lft (α ∷ []) fullShare) (sem 𝓤 H A (finally R γ ({gives})))) (fact 𝓤 ((w ≡ vunit) × Unit {{0}}))'
         last = nest(['List Handle'] + ['Unit {0}'] * (len(nums) + record), 'Unit {0}', ' × ')
-        told = f'told-unique W α w R γ ({gives}) {last} (λ ws. ws .0) (λ ws. lasts {n}.ended (α ∷ [], tt) {args} ws) (λ ws. qed W (‵ (lasts {n}.ended (α ∷ [], tt) {args} ws) ∷ []) ∵ fsplit ! $ fsplit ! $ keep ! (0 ∷ []) $ done !)'
+        told = f'told-unique W (α ∷ []) fullShare w R γ ({gives}) {last} (λ ws. ws .0) (λ ws. lasts {n}.ended (α ∷ [], tt) {args} ws) (λ ws. qed W (‵ (lasts {n}.ended (α ∷ [], tt) {args} ws) ∷ []) ∵ fsplit ! $ fsplit ! $ keep ! (0 ∷ []) $ done !)'
         lead = f'calls-unique R b o t fm {c} known to vunit (Unit {{0}}) ys ({gives}) room'
     else:
         if gives:
@@ -78,7 +78,7 @@ def rule(f, nums, record, gives, mutable):
         then = f'{phi} → '
         post = f'sep 𝓤 (A .lft (α ∷ []) fullShare) (fact 𝓤 ((w ≡ {v[1:-1]}) × {phi}))'
         said = f'ensured 𝓤 H A {n}.ended ({n}.clauses 𝓤 H A memory run) (α ∷ [], tt) {args} tt'
-        told = f'told-shared W α w {q} {vs} {tl} {g} ({said}) (λ r. exE 𝓤 _ (λ ws. snd∗ 𝓤 (sem 𝓤 H A (lasts {n}.ended (α ∷ [], tt) {args} ws)) (fact 𝓤 (r ≡ {g[1:-1]}))))'
+        told = f'told-shared W (α ∷ []) fullShare w {q} {vs} {tl} {g} ({said}) (λ r. exE 𝓤 _ (λ ws. snd∗ 𝓤 (sem 𝓤 H A (lasts {n}.ended (α ∷ [], tt) {args} ws)) (fact 𝓤 (r ≡ {g[1:-1]}))))'
         lead = f'calls-shared R b o t fm {c} known to {v} ({phi}) ys room'
     land = f'Seq K W (‵ (row R fullShare {after} b o) ∷ Γ) (lands C Λ E d {v} rest q)'
     return f'''

@@ -13,7 +13,9 @@ use borrow.Author.Tests.{ltb-true, lt-ltb, le-ltb}
 use Rattle.model_text.proofs.Formed.{and-l, and-r}
 use Rattle.model_text.proofs.HexBack.{length-hex}
 use Rattle.model_text.specs.Hex.{digitValue, onto, bytesFrom, longestLine, lineBytes, digitOf, hexOf, decimal, refusalText}
-use Rattle.hex.specs.Lines.{Wrote, Puts}
+use Rattle.hex.specs.declared.Line.{Line}
+use Rattle.hex.specs.declared.Line.the-variants.{Bytes, Bad}
+use Rattle.hex.specs.Lines.{Reads, Wrote, Puts}
 
 -- ---- two digits of a list
 
@@ -70,8 +72,8 @@ module _ (size : ℕ) (line out : List ℕ) (i : ℕ) (g : Reading size line out
         ∙ (λ j. cond (ltb (sym ea j) 16 && ltb (sym eb j) 16) (onto (sym ea j * 16 + sym eb j) (bytesFrom (drop (2 * (i + 1)) line))) none)
         ∙ ap (λ (t : Bool). cond t (onto (a * 16 + b) (bytesFrom (drop (2 * (i + 1)) line))) none) e
 
-    pub reads-bad : (ltb a 16 && ltb b 16) ≡ false → none ≡ bytesFrom line
-    reads-bad e = sym (g .left ∙ ap (behind (take i out)) (tested e))
+    pub reads-bad : (ltb a 16 && ltb b 16) ≡ false → Reads (bytesFrom line) out Bad
+    reads-bad e = record { bytes = sym (g .left ∙ ap (behind (take i out)) (tested e)); within = omega arith }
 
     pub reads-on : (ltb a 16 && ltb b 16) ≡ true → Reading size line (set out i (a * 16 + b)) (i + 1)
     reads-on e = record {
@@ -86,32 +88,35 @@ module _ (size : ℕ) (line out : List ℕ) (i : ℕ) (g : Reading size line out
 
   -- nothing is left, or one digit
   module _ (end : length line / 2 ≤ i) where
-    pub reads-odd : 2 * (length line / 2) < length line → none ≡ bytesFrom line
+    pub reads-odd : 2 * (length line / 2) < length line → Reads (bytesFrom line) out Bad
     reads-odd odd =
         let one : length (drop (2 * i) line) ≡ 1 = omega (arith, length-drop (2 * i) line, g .upto) in
-        sym (g .left ∙ ap (behind (take i out)) (alone (drop (2 * i) line) one))
+        record { bytes = sym (g .left ∙ ap (behind (take i out)) (alone (drop (2 * i) line) one)); within = omega arith }
 
-    pub reads-all : length line ≤ 2 * (length line / 2) → some (take (length line / 2) out) ≡ bytesFrom line
+    pub reads-all : length line ≤ 2 * (length line / 2) → Reads (bytesFrom line) out (Bytes (length line / 2))
     reads-all even =
         let none-left : length (drop (2 * i) line) ≡ 0 = omega (arith, length-drop (2 * i) line, g .upto) in
         let at : i ≡ length line / 2 = omega (arith, g .upto) in
-        sym (g .left ∙ ap (behind (take i out)) (nothing (drop (2 * i) line) none-left) ∙ ap some (append-nil (take i out)) ∙ ap (λ (k : ℕ). some (take k out)) at)
+        record {
+          bytes = sym (g .left ∙ ap (behind (take i out)) (nothing (drop (2 * i) line) none-left) ∙ ap some (append-nil (take i out)) ∙ ap (λ (k : ℕ). some (take k out)) at);
+          within = omega (arith, g .same);
+        }
 
 -- ---- a line
 
-pub blank-line : (l : List ℕ) → length l ≡ 0 → none ≡ lineBytes l
+pub blank-line : (l out : List ℕ) → length l ≡ 0 → Reads (lineBytes l) out Bad
 unfolding lineBytes
-blank-line [] e = refl
-blank-line (b ∷ l) e = absurd (omega arith)
+blank-line [] out e = record { bytes = refl; within = omega arith }
+blank-line (b ∷ l) out e = absurd (omega arith)
 
-pub long-line : (l : List ℕ) → longestLine < length l → none ≡ lineBytes l
+pub long-line : (l out : List ℕ) → longestLine < length l → Reads (lineBytes l) out Bad
 unfolding lineBytes
-long-line l h = simp (lt-ltb longestLine (length l) h, or-true)
+long-line l out h = record { bytes = simp (lt-ltb longestLine (length l) h, or-true); within = omega arith }
 
-pub some-line : (l : List ℕ) → (length l ≡ 0 → ⊥) → length l ≤ longestLine → bytesFrom l ≡ lineBytes l
+pub some-line : (l out : List ℕ) (r : Line) → (length l ≡ 0 → ⊥) → length l ≤ longestLine → Reads (bytesFrom l) out r → Reads (lineBytes l) out r
 unfolding lineBytes
-some-line [] e h = absurd (e refl)
-some-line (b ∷ l) e h = rw (le-ltb longestLine (length (b ∷ l)) h) refl
+some-line [] out r e h g = absurd (e refl)
+some-line (b ∷ l) out r e h g = rw (le-ltb longestLine (length (b ∷ l)) h) g
 
 -- ---- writing
 

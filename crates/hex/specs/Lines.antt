@@ -2,7 +2,7 @@
 use mathlib.Core.Path.{_≡_}
 use mathlib.Core.List.{List, _++_}
 use mathlib.Core.Option.{Option, none, some}
-use Prim.Native.Nat.{ℕ}
+use Prim.Native.Nat.{ℕ, _≤_}
 use lib.ListN.{length, take, drop}
 use Rattle.hex.specs.declared.Line.{Line}
 use Rattle.hex.specs.declared.Line.the-variants.{Bytes, Bad}
@@ -11,6 +11,15 @@ use Rattle.hex.specs.declared.Line.the-variants.{Bytes, Bad}
 abbrev pub lineRead : List ℕ → Line → Option (List ℕ)
 lineRead out (Bytes n) = some (take n out)
 lineRead out Bad = none
+
+abbrev pub lineLength : Line → ℕ
+lineLength (Bytes n) = n
+lineLength Bad = 0
+
+-- the answer gives these bytes, and they stand within the area
+pub record Reads (bs : Option (List ℕ)) (out : List ℕ) (r : Line) : Type 0 where
+  pub bytes : lineRead out r ≡ bs
+  pub within : lineLength r ≤ length out
 
 -- these bytes at the start, and the rest as it was
 abbrev pub Wrote : List ℕ → List ℕ → List ℕ → Type 0

@@ -1,9 +1,9 @@
 // Lines of lower-case hexadecimal digits, read into bytes and written from them.
 ghost use mathlib.Core.Path.{_≡_};
 ghost use Prim.Native.Nat.{_+_, _*_, _/_, _%_, _≤_, _<_};
-ghost use lib.ListN.{length, take};
+ghost use lib.ListN.{length};
 ghost use Rattle.model_text.specs.Hex.{digitValue, bytesFrom, lineBytes, digitOf, hexOf, refusalText};
-ghost use Rattle.hex.specs.Lines.{lineRead, Wrote, Puts};
+ghost use Rattle.hex.specs.Lines.{Reads, Wrote, Puts};
 
 // The bytes of a line, as the first so many of the area that was lent, or a bad line.
 pub enum Line {
@@ -27,7 +27,7 @@ fn digit_value(b: u8) -> u8
 // The bytes of an even number of digits.
 fn read_digits(line: &[u8], out: &mut [u8]) -> Line
     requires { ⌜ length (now line) ≤ 2 * length (now out) ⌝ }
-    ensures { λ r. ⌜ lineRead (now (out .exit)) r ≡ bytesFrom (now (line .entry)) ⌝ }
+    ensures { λ r. ⌜ Reads (bytesFrom (now (line .entry))) (now (out .exit)) r ⌝ }
 {
     let n = line.len() / 2;
     let mut i: usize = 0;
@@ -49,7 +49,7 @@ fn read_digits(line: &[u8], out: &mut [u8]) -> Line
 // The bytes of a line of at most 16,384 digits.
 pub fn read_line(line: &[u8], out: &mut [u8]) -> Line
     requires { ⌜ 8192 ≤ length (now out) ⌝ }
-    ensures { λ r. ⌜ lineRead (now (out .exit)) r ≡ lineBytes (now (line .entry)) ⌝ }
+    ensures { λ r. ⌜ Reads (lineBytes (now (line .entry))) (now (out .exit)) r ⌝ }
 {
     if line.len() == 0 {
         return Line::Bad;

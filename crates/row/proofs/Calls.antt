@@ -86,7 +86,7 @@ module _ {M : Type 1} {𝓤 : URA M} {H : Heap 𝓤} {A : Atoms 𝓤} {K : Type 
           nothing ! $ owned ! u32 (Is u32) (uint-makes 𝓤 H A W w32) k _ (refl, k-fits) $ fjoin ! $ move ! (2 ∷ 0 ∷ []) $ fjoin ! $ move ! (1 ∷ 0 ∷ []) $ join ! $ nothing ! $ move ! (1 ∷ 0 ∷ []) $ done !
 
       told : (α : ℕ) (γ : GName) (w : Val) → ent 𝓤 (Find 𝓤 H A memory run .post (to α γ) w) (H .⇛ (sep 𝓤 (A .lft (α ∷ []) fullShare) (fact 𝓤 ((w ≡ vint w64 (findOf ys k)) × Is usize (findOf ys k) (uint-vals w64 (findOf ys k))))))
-      told α γ w = told-shared W α w usize (uint-vals w64) (uint-tells w64) (findOf ys k) (ensured 𝓤 H A find.ended (find.clauses 𝓤 H A memory run) (α ∷ [], tt) (at R b o γ ys, (k, tt)) tt) (λ r. exE 𝓤 _ (λ ws. snd∗ 𝓤 (sem 𝓤 H A (lasts find.ended (α ∷ [], tt) (at R b o γ ys, (k, tt)) ws)) (fact 𝓤 (r ≡ findOf ys k))))
+      told α γ w = told-shared W (α ∷ []) fullShare w usize (uint-vals w64) (uint-tells w64) (findOf ys k) (ensured 𝓤 H A find.ended (find.clauses 𝓤 H A memory run) (α ∷ [], tt) (at R b o γ ys, (k, tt)) tt) (λ r. exE 𝓤 _ (λ ws. snd∗ 𝓤 (sem 𝓤 H A (lasts find.ended (α ∷ [], tt) (at R b o γ ys, (k, tt)) ws)) (fact 𝓤 (r ≡ findOf ys k))))
 
   pub calls-find-free : K → FmC 𝓤 H (W .laws) C → (memory : Memory → SProp 𝓤) (run : Routine → Fun 𝓤) → Triple 𝓤 (C #row·find-free) (FindFree 𝓤 H A memory run) → (ys : List Handle) (b o : ℕ) → Room R (length ys)
       → ((j : Item 𝓤) → Opds K W (j ∷ Γ) E xs (sliceVal (b, o) (length ys) ∷ [])) → (Is usize (freeOf ys) (uint-vals w64 (freeOf ys)) → Seq K W (‵ (row R fullShare ys b o) ∷ Γ) (lands C Λ E d (vint w64 (freeOf ys)) rest q))
@@ -102,7 +102,7 @@ module _ {M : Type 1} {𝓤 : URA M} {H : Heap 𝓤} {A : Atoms 𝓤} {K : Type 
           nothing ! $ move ! (2 ∷ 0 ∷ []) $ fjoin ! $ move ! (1 ∷ 0 ∷ []) $ join ! $ nothing ! $ move ! (1 ∷ 0 ∷ []) $ done !
 
       told : (α : ℕ) (γ : GName) (w : Val) → ent 𝓤 (FindFree 𝓤 H A memory run .post (to α γ) w) (H .⇛ (sep 𝓤 (A .lft (α ∷ []) fullShare) (fact 𝓤 ((w ≡ vint w64 (freeOf ys)) × Is usize (freeOf ys) (uint-vals w64 (freeOf ys))))))
-      told α γ w = told-shared W α w usize (uint-vals w64) (uint-tells w64) (freeOf ys) (ensured 𝓤 H A find-free.ended (find-free.clauses 𝓤 H A memory run) (α ∷ [], tt) (at R b o γ ys, tt) tt) (λ r. exE 𝓤 _ (λ ws. snd∗ 𝓤 (sem 𝓤 H A (lasts find-free.ended (α ∷ [], tt) (at R b o γ ys, tt) ws)) (fact 𝓤 (r ≡ freeOf ys))))
+      told α γ w = told-shared W (α ∷ []) fullShare w usize (uint-vals w64) (uint-tells w64) (freeOf ys) (ensured 𝓤 H A find-free.ended (find-free.clauses 𝓤 H A memory run) (α ∷ [], tt) (at R b o γ ys, tt) tt) (λ r. exE 𝓤 _ (λ ws. snd∗ 𝓤 (sem 𝓤 H A (lasts find-free.ended (α ∷ [], tt) (at R b o γ ys, tt) ws)) (fact 𝓤 (r ≡ freeOf ys))))
 
   pub calls-find-broken : K → FmC 𝓤 H (W .laws) C → (memory : Memory → SProp 𝓤) (run : Routine → Fun 𝓤) → Triple 𝓤 (C #row·find-broken) (FindBroken 𝓤 H A memory run) → (ys : List Handle) (b o places most : ℕ) → Room R (length ys) → places < 2 ^ 64 → most < 2 ^ 64
       → ((j : Item 𝓤) → Opds K W (j ∷ Γ) E xs (sliceVal (b, o) (length ys) ∷ vint w64 places ∷ vint w64 most ∷ [])) → (Is usize (brokenOf ys places most) (uint-vals w64 (brokenOf ys places most)) → Seq K W (‵ (row R fullShare ys b o) ∷ Γ) (lands C Λ E d (vint w64 (brokenOf ys places most)) rest q))
@@ -118,7 +118,7 @@ module _ {M : Type 1} {𝓤 : URA M} {H : Heap 𝓤} {A : Atoms 𝓤} {K : Type 
           nothing ! $ owned ! usize (Is usize) (uint-makes 𝓤 H A W w64) most _ (refl, most-fits) $ fjoin ! $ owned ! usize (Is usize) (uint-makes 𝓤 H A W w64) places _ (refl, places-fits) $ fjoin ! $ move ! (2 ∷ 0 ∷ []) $ fjoin ! $ move ! (1 ∷ 0 ∷ []) $ join ! $ nothing ! $ move ! (1 ∷ 0 ∷ []) $ done !
 
       told : (α : ℕ) (γ : GName) (w : Val) → ent 𝓤 (FindBroken 𝓤 H A memory run .post (to α γ) w) (H .⇛ (sep 𝓤 (A .lft (α ∷ []) fullShare) (fact 𝓤 ((w ≡ vint w64 (brokenOf ys places most)) × Is usize (brokenOf ys places most) (uint-vals w64 (brokenOf ys places most))))))
-      told α γ w = told-shared W α w usize (uint-vals w64) (uint-tells w64) (brokenOf ys places most) (ensured 𝓤 H A find-broken.ended (find-broken.clauses 𝓤 H A memory run) (α ∷ [], tt) (at R b o γ ys, (places, (most, tt))) tt) (λ r. exE 𝓤 _ (λ ws. snd∗ 𝓤 (sem 𝓤 H A (lasts find-broken.ended (α ∷ [], tt) (at R b o γ ys, (places, (most, tt))) ws)) (fact 𝓤 (r ≡ brokenOf ys places most))))
+      told α γ w = told-shared W (α ∷ []) fullShare w usize (uint-vals w64) (uint-tells w64) (brokenOf ys places most) (ensured 𝓤 H A find-broken.ended (find-broken.clauses 𝓤 H A memory run) (α ∷ [], tt) (at R b o γ ys, (places, (most, tt))) tt) (λ r. exE 𝓤 _ (λ ws. snd∗ 𝓤 (sem 𝓤 H A (lasts find-broken.ended (α ∷ [], tt) (at R b o γ ys, (places, (most, tt))) ws)) (fact 𝓤 (r ≡ brokenOf ys places most))))
 
   pub calls-get-or : K → FmC 𝓤 H (W .laws) C → (memory : Memory → SProp 𝓤) (run : Routine → Fun 𝓤) → Triple 𝓤 (C #row·get-or) (GetOr 𝓤 H A memory run) → (ys : List Handle) (b o i : ℕ) → Room R (length ys) → i < 2 ^ 64
       → ((j : Item 𝓤) → Opds K W (j ∷ Γ) E xs (sliceVal (b, o) (length ys) ∷ vint w64 i ∷ [])) → (Is R (getD ys i none) (vals (getD ys i none)) → Seq K W (‵ (row R fullShare ys b o) ∷ Γ) (lands C Λ E d (val (getD ys i none)) rest q))
@@ -134,7 +134,7 @@ module _ {M : Type 1} {𝓤 : URA M} {H : Heap 𝓤} {A : Atoms 𝓤} {K : Type 
           nothing ! $ owned ! usize (Is usize) (uint-makes 𝓤 H A W w64) i _ (refl, i-fits) $ fjoin ! $ move ! (2 ∷ 0 ∷ []) $ fjoin ! $ move ! (1 ∷ 0 ∷ []) $ join ! $ nothing ! $ move ! (1 ∷ 0 ∷ []) $ done !
 
       told : (α : ℕ) (γ : GName) (w : Val) → ent 𝓤 (GetOr 𝓤 H A memory run .post (to α γ) w) (H .⇛ (sep 𝓤 (A .lft (α ∷ []) fullShare) (fact 𝓤 ((w ≡ val (getD ys i none)) × Is R (getD ys i none) (vals (getD ys i none))))))
-      told α γ w = told-shared W α w R vals tells (getD ys i none) (ensured 𝓤 H A get-or.ended (get-or.clauses 𝓤 H A memory run) (α ∷ [], tt) (at R b o γ ys, (i, tt)) tt) (λ r. exE 𝓤 _ (λ ws. snd∗ 𝓤 (sem 𝓤 H A (lasts get-or.ended (α ∷ [], tt) (at R b o γ ys, (i, tt)) ws)) (fact 𝓤 (r ≡ getD ys i none))))
+      told α γ w = told-shared W (α ∷ []) fullShare w R vals tells (getD ys i none) (ensured 𝓤 H A get-or.ended (get-or.clauses 𝓤 H A memory run) (α ∷ [], tt) (at R b o γ ys, (i, tt)) tt) (λ r. exE 𝓤 _ (λ ws. snd∗ 𝓤 (sem 𝓤 H A (lasts get-or.ended (α ∷ [], tt) (at R b o γ ys, (i, tt)) ws)) (fact 𝓤 (r ≡ getD ys i none))))
 
   pub calls-put-if : K → FmC 𝓤 H (W .laws) C → (memory : Memory → SProp 𝓤) (run : Routine → Fun 𝓤) → Triple 𝓤 (C #row·put-if) (PutIf 𝓤 H A memory run) → (ys : List Handle) (b o i : ℕ) (h : Handle) → Room R (length ys) → i < 2 ^ 64 → Is R h (vals h)
       → ((j : Item 𝓤) → Opds K W (j ∷ Γ) E xs (sliceVal (b, o) (length ys) ∷ vint w64 i ∷ val h ∷ [])) → Seq K W (‵ (row R fullShare (set ys i h) b o) ∷ Γ) (lands C Λ E d vunit rest q)
@@ -150,7 +150,7 @@ module _ {M : Type 1} {𝓤 : URA M} {H : Heap 𝓤} {A : Atoms 𝓤} {K : Type 
           nothing ! $ owned ! R (Is R) (makes 𝓤 H A W) h (vals h) is-h $ fjoin ! $ owned ! usize (Is usize) (uint-makes 𝓤 H A W w64) i _ (refl, i-fits) $ fjoin ! $ move ! (2 ∷ 0 ∷ []) $ fjoin ! $ move ! (1 ∷ 0 ∷ []) $ join ! $ nothing ! $ move ! (1 ∷ 0 ∷ []) $ done !
 
       told : (α : ℕ) (γ : GName) (w : Val) → ent 𝓤 (PutIf 𝓤 H A memory run .post (to α γ) w) (H .⇛ (sep 𝓤 (sep 𝓤 (A .lft (α ∷ []) fullShare) (sem 𝓤 H A (finally R γ (set ys i h)))) (fact 𝓤 ((w ≡ vunit) × Unit {0}))))
-      told α γ w = told-unique W α w R γ (set ys i h) (List Handle × (Unit {0} × (Unit {0} × Unit {0}))) (λ ws. ws .0) (λ ws. lasts put-if.ended (α ∷ [], tt) (at R b o γ ys, (i, (h, tt))) ws) (λ ws. qed W (‵ (lasts put-if.ended (α ∷ [], tt) (at R b o γ ys, (i, (h, tt))) ws) ∷ []) ∵ fsplit ! $ fsplit ! $ keep ! (0 ∷ []) $ done !)
+      told α γ w = told-unique W (α ∷ []) fullShare w R γ (set ys i h) (List Handle × (Unit {0} × (Unit {0} × Unit {0}))) (λ ws. ws .0) (λ ws. lasts put-if.ended (α ∷ [], tt) (at R b o γ ys, (i, (h, tt))) ws) (λ ws. qed W (‵ (lasts put-if.ended (α ∷ [], tt) (at R b o γ ys, (i, (h, tt))) ws) ∷ []) ∵ fsplit ! $ fsplit ! $ keep ! (0 ∷ []) $ done !)
 
   pub calls-clear-from : K → FmC 𝓤 H (W .laws) C → (memory : Memory → SProp 𝓤) (run : Routine → Fun 𝓤) → Triple 𝓤 (C #row·clear-from) (ClearFrom 𝓤 H A memory run) → (ys : List Handle) (b o i : ℕ) → Room R (length ys) → i < 2 ^ 64
       → ((j : Item 𝓤) → Opds K W (j ∷ Γ) E xs (sliceVal (b, o) (length ys) ∷ vint w64 i ∷ [])) → Seq K W (‵ (row R fullShare (clearedFrom i ys) b o) ∷ Γ) (lands C Λ E d vunit rest q)
@@ -166,7 +166,7 @@ module _ {M : Type 1} {𝓤 : URA M} {H : Heap 𝓤} {A : Atoms 𝓤} {K : Type 
           nothing ! $ owned ! usize (Is usize) (uint-makes 𝓤 H A W w64) i _ (refl, i-fits) $ fjoin ! $ move ! (2 ∷ 0 ∷ []) $ fjoin ! $ move ! (1 ∷ 0 ∷ []) $ join ! $ nothing ! $ move ! (1 ∷ 0 ∷ []) $ done !
 
       told : (α : ℕ) (γ : GName) (w : Val) → ent 𝓤 (ClearFrom 𝓤 H A memory run .post (to α γ) w) (H .⇛ (sep 𝓤 (sep 𝓤 (A .lft (α ∷ []) fullShare) (sem 𝓤 H A (finally R γ (clearedFrom i ys)))) (fact 𝓤 ((w ≡ vunit) × Unit {0}))))
-      told α γ w = told-unique W α w R γ (clearedFrom i ys) (List Handle × (Unit {0} × Unit {0})) (λ ws. ws .0) (λ ws. lasts clear-from.ended (α ∷ [], tt) (at R b o γ ys, (i, tt)) ws) (λ ws. qed W (‵ (lasts clear-from.ended (α ∷ [], tt) (at R b o γ ys, (i, tt)) ws) ∷ []) ∵ fsplit ! $ fsplit ! $ keep ! (0 ∷ []) $ done !)
+      told α γ w = told-unique W (α ∷ []) fullShare w R γ (clearedFrom i ys) (List Handle × (Unit {0} × Unit {0})) (λ ws. ws .0) (λ ws. lasts clear-from.ended (α ∷ [], tt) (at R b o γ ys, (i, tt)) ws) (λ ws. qed W (‵ (lasts clear-from.ended (α ∷ [], tt) (at R b o γ ys, (i, tt)) ws) ∷ []) ∵ fsplit ! $ fsplit ! $ keep ! (0 ∷ []) $ done !)
 
   pub calls-clear : K → FmC 𝓤 H (W .laws) C → (memory : Memory → SProp 𝓤) (run : Routine → Fun 𝓤) → Triple 𝓤 (C #row·clear) (Clear 𝓤 H A memory run) → (ys : List Handle) (b o : ℕ) → Room R (length ys)
       → ((j : Item 𝓤) → Opds K W (j ∷ Γ) E xs (sliceVal (b, o) (length ys) ∷ [])) → Seq K W (‵ (row R fullShare (clearedAll ys) b o) ∷ Γ) (lands C Λ E d vunit rest q)
@@ -182,4 +182,4 @@ module _ {M : Type 1} {𝓤 : URA M} {H : Heap 𝓤} {A : Atoms 𝓤} {K : Type 
           nothing ! $ move ! (2 ∷ 0 ∷ []) $ fjoin ! $ move ! (1 ∷ 0 ∷ []) $ join ! $ nothing ! $ move ! (1 ∷ 0 ∷ []) $ done !
 
       told : (α : ℕ) (γ : GName) (w : Val) → ent 𝓤 (Clear 𝓤 H A memory run .post (to α γ) w) (H .⇛ (sep 𝓤 (sep 𝓤 (A .lft (α ∷ []) fullShare) (sem 𝓤 H A (finally R γ (clearedAll ys)))) (fact 𝓤 ((w ≡ vunit) × Unit {0}))))
-      told α γ w = told-unique W α w R γ (clearedAll ys) (List Handle × Unit {0}) (λ ws. ws .0) (λ ws. lasts clear.ended (α ∷ [], tt) (at R b o γ ys, tt) ws) (λ ws. qed W (‵ (lasts clear.ended (α ∷ [], tt) (at R b o γ ys, tt) ws) ∷ []) ∵ fsplit ! $ fsplit ! $ keep ! (0 ∷ []) $ done !)
+      told α γ w = told-unique W (α ∷ []) fullShare w R γ (clearedAll ys) (List Handle × Unit {0}) (λ ws. ws .0) (λ ws. lasts clear.ended (α ∷ [], tt) (at R b o γ ys, tt) ws) (λ ws. qed W (‵ (lasts clear.ended (α ∷ [], tt) (at R b o γ ys, tt) ws) ∷ []) ∵ fsplit ! $ fsplit ! $ keep ! (0 ∷ []) $ done !)
