@@ -1,2 +1,4 @@
 pub mod Numbers
 pub mod Measuring
+pub mod Putting
+pub mod Sending

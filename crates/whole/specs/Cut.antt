@@ -2,7 +2,7 @@
 use mathlib.Core.Path.{_≡_}
 use mathlib.Core.Bool.{cond}
 use mathlib.Core.List.{List, [], _∷_, _++_}
-use Prim.Native.Nat.{ℕ, suc, _+_}
+use Prim.Native.Nat.{ℕ, suc, _+_, _*_, _≤_, _<_}
 use lib.ListN.{length}
 use lib.Dec.{ltb}
 use Rattle.model_frame.specs.Frame.{Change}
@@ -34,3 +34,6 @@ pub record Measured (limit C M end : ℕ) (w b : List ℕ) (left dist next left'
   pub after : next' ≡ nextAfter limit 0 next (restOf C M end w b left)
   pub counts : count ≡ length (taken limit 0 next (restOf C M end w b left))
   pub spans : size ≡ sizes (taken limit 0 next (restOf C M end w b left))
+  pub few : count + 2 * left' ≤ 2 * left
+  pub small : size + 22 * left' + dist' ≤ 22 * left + dist
+  pub goes : 0 < left' → dist' < dist
