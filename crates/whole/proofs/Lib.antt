@@ -2,3 +2,5 @@ pub mod Numbers
 pub mod Measuring
 pub mod Putting
 pub mod Sending
+pub mod Cutting
+pub mod Counting

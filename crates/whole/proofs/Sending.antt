@@ -59,8 +59,8 @@ module _ (limit C M end : ℕ) (w b : List ℕ) where
       pub has-room : at + sizes (taken limit 0 next₀ (restOf C M end w b left₀)) ≤ length first → pos + sizes (skipTo next number) + 13 + part + rest ≤ length out
       has-room k =
           let room : pos + length (runBytes changeBytes this) ≤ length out =
-              left-room (runBytes changeBytes this) (toWrite (sent + (part + rest)) (number + 1) left') (g .writes) more
-              (omega (arith, k, changes-size (taken limit 0 next₀ (restOf C M end w b left₀)))) in
+          left-room (runBytes changeBytes this) (toWrite (sent + (part + rest)) (number + 1) left') (g .writes) more
+          (omega (arith, k, changes-size (taken limit 0 next₀ (restOf C M end w b left₀)))) in
           omega (arith, room, changes-size this, sizes-append (skipTo next number) (recordMsg number (take part (drop start b) ++ take rest b) ∷ []), piece-of C M end w b left dist number start part rest left' dist' long r)
 
       pub goes-on : (out' : List ℕ) (pos' : ℕ) → Wrote out pos (runBytes changeBytes this) out' pos' → Sending out' left' dist' (number + 1) (sent + (part + rest)) pos'

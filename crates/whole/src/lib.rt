@@ -9,8 +9,9 @@ ghost use lib.Dec.{ltb};
 ghost use Rattle.model_frame.specs.Parse.{runBytes};
 ghost use Rattle.model_frame.specs.Writing.{changeBytes, sizes};
 ghost use Rattle.laws.specs.Wrote.{Wrote};
-ghost use Rattle.log.specs.Log.{Stands, restOf};
-ghost use Rattle.whole.specs.Cut.{taken, Measured};
+ghost use Rattle.model_session.specs.Summary.{numberedFrom};
+ghost use Rattle.log.specs.Log.{Stands, logOf, restOf};
+ghost use Rattle.whole.specs.Cut.{taken, batchCount, Measured};
 
 // A batch: the place in the log where it ends, the next outgoing number there, how many changes its messages make, and their bytes.
 #[repr(C)]
@@ -119,4 +120,27 @@ pub fn put_messages(
         dist = f.dist;
     }
     pos
+}
+
+// How many batches send the log.
+pub fn batches(words: &[u64], bytes: &[u8], max: usize, end: u64, limit: u64) -> usize
+    requires { ⌜ 2 + 2 * max ≤ length (now words) ⌝ }
+    requires { ⌜ max ≤ 65536 ⌝ }
+    requires { ⌜ length (now bytes) ≤ 33554432 ⌝ }
+    requires { ⌜ 1 ≤ end ⌝ }
+    ensures is { λ r. ⌜ r ≡ batchCount limit 0 (numberedFrom 1 (logOf (length (now (bytes .entry))) max end (now (words .entry)) (now (bytes .entry)))) ⌝ }
+    ensures few { λ r. ⌜ r ≤ 33554433 ⌝ }
+{
+    let c = log::messages_from(words, bytes, max, end, 1);
+    let first = measure(words, bytes, max, end, c.left, c.dist, 1, limit);
+    let mut left = first.left;
+    let mut dist = first.dist;
+    let mut count = 1;
+    while 0 < left {
+        let cut = measure(words, bytes, max, end, left, dist, 1, limit);
+        left = cut.left;
+        dist = cut.dist;
+        count += 1;
+    }
+    count
 }

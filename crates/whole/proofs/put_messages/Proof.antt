@@ -6,10 +6,6 @@ use Rattle.whole.proofs.Numbers.{below}
 use Rattle.whole.proofs.Sending.{Sending, begins, full-stop, last-stop, has-room, goes-on}
 use Rattle.whole.proofs.put_messages.Statement.{statement}
 use Rattle.whole.proofs.put_messages.Tie as tie
-use Rattle.whole.proofs.put_messages.Reads as reads
-use Rattle.whole.proofs.put_messages.Lts as lts
-use Rattle.log.proofs.message_at.Reads as message-at-reads
-use Rattle.whole.proofs.put.put_sent.Reads as put-sent-reads
 
 abbrev Inv-loop : tie.InvT-loop
 Inv-loop words bytes max end left dist next limit out₀ at left₀ dist₀ next₀ sent₀ pos₀ out left' dist' next' sent pos =
@@ -19,23 +15,18 @@ abbrev μ-loop : tie.MeasureT-loop
 μ-loop words bytes max end left dist next limit out₀ at left₀ dist₀ next₀ sent₀ pos₀ out left' dist' next' sent pos =
     left'
 
--- src/lib.rt:110:5
 loop-holds : tie.Need-loop-holds Inv-loop μ-loop
 loop-holds c = begins _ _ _ _ _ _ _ _ _ _ _ (c .before .before .before .pre .1 .1 .0)
 
--- src/lib.rt:112:13
 same-length : tie.Need-same-length Inv-loop μ-loop
 same-length c = c .before .before .loop .inv .writes .same
 
--- src/lib.rt:112:13
 returns : tie.Need-returns Inv-loop μ-loop
 returns c = full-stop _ _ _ _ _ _ _ _ _ _ _ _ _ _ _ _ _ (c .before .before .loop .inv) (c .if1 .taken)
 
--- src/lib.rt:114:13
 message-at-requires : tie.Need-message-at-requires Inv-loop μ-loop
 message-at-requires c κs = (c .before .before .before .before .before .before .pre .0, (c .before .before .loop .inv .stands, omega arith))
 
--- src/lib.rt:115:9
 put-sent-requires : tie.Need-put-sent-requires Inv-loop μ-loop
 put-sent-requires c κs =
     let r = c .before .message-at .ensures in
@@ -43,31 +34,24 @@ put-sent-requires c κs =
     let k = has-room _ _ _ _ _ _ _ _ _ _ _ _ _ _ _ _ _ _ _ _ _ _ _ g (c .before .before .if1 .left) refl r (c .before .before .before .before .before .before .before .before .pre .1 .1 .1) in
     (omega (arith, r .inside), (omega (arith, r .front), (omega (arith, r .nearer, g .stands .room, c .before .before .before .before .before .before .before .before .pre .1 .0), k)))
 
--- src/lib.rt:116:18
 add-sent : tie.Need-add-sent Inv-loop μ-loop
 add-sent c = omega (arith, c .before .before .before .before .before .message-at .ensures .nearer, c .before .before .before .before .before .before .before .before .loop .inv .stands .room, c .before .before .before .before .before .before .before .before .before .before .before .before .pre .1 .0)
 
--- src/lib.rt:116:9
 add-sent-2 : tie.Need-add-sent-2 Inv-loop μ-loop
 add-sent-2 c = omega (arith, c .before .before .before .before .before .message-at .ensures .nearer, c .before .before .before .before .before .before .before .before .loop .inv .stands .room, c .before .before .before .before .before .before .before .before .before .before .before .before .pre .1 .0, c .before .before .before .before .before .before .before .before .loop .inv .sums)
 
--- src/lib.rt:117:16
 add-next : tie.Need-add-next Inv-loop μ-loop
 add-next c = omega (arith, below _ _ _ _ _ _ _ _ (c .before .before .before .before .before .before .message-at .ensures .is))
 
--- src/lib.rt:110:5
 loop-less : tie.Need-loop-less Inv-loop μ-loop
 loop-less c = omega (arith, c .before .before .before .before .before .before .message-at .ensures .fewer)
 
--- src/lib.rt:110:5
 loop-again : tie.Need-loop-again Inv-loop μ-loop
 loop-again c = goes-on _ _ _ _ _ _ _ _ _ _ _ _ _ _ _ _ _ _ _ _ _ _ _ (c .before .before .before .before .before .before .before .before .before .loop .inv) (c .before .before .before .before .before .before .before .if1 .left) refl (c .before .before .before .before .before .before .message-at .ensures) _ _ (c .before .before .before .before .put-sent .ensures)
 
--- src/lib.rt:87:1
 same-length-2 : tie.Need-same-length-2 Inv-loop μ-loop
 same-length-2 c = c .before .loop .inv .writes .same
 
--- src/lib.rt:87:1
 returns-2 : tie.Need-returns-2 Inv-loop μ-loop
 returns-2 c = last-stop _ _ _ _ _ _ _ _ _ _ _ _ _ _ _ _ _ (c .before .loop .inv) (c .loop-test .left)
 

@@ -3,26 +3,12 @@ use Rattle.whole.proofs.Putting.{wrote-sent, skip-past}
 use borrow.Author.Needs.{needs}
 use Rattle.whole.proofs.put.put_sent.Statement.{statement}
 use Rattle.whole.proofs.put.put_sent.Tie as tie
-use Rattle.whole.proofs.put.put_sent.Reads as reads
-use Rattle.whole.proofs.put.put_sent.Lts as lts
-use Rattle.whole.proofs.put.put_record.Reads as put-record-reads
-use Rattle.whole.proofs.put.put_skip.Reads as put-skip-reads
 
--- src/put.rt:112:9
-put-skip-requires : tie.Need-put-skip-requires
-put-skip-requires c κs = search needs
-
--- src/put.rt:113:5
 put-record-requires : tie.Need-put-record-requires
 put-record-requires c κs = let s = c .before .before .before .before .before .before .before in let p = s .pre in (p .0, (p .1 .0, (p .1 .1 .0, omega (arith, p .1 .1 .1, skip-past (s .args .at) (s .args .next) (s .args .number) (c .before .before .before .put-skip .ensures)))))
 
--- src/put.rt:96:1
-same-length : tie.Need-same-length
-same-length c = search needs
-
--- src/put.rt:96:1
 returns : tie.Need-returns
 returns c = wrote-sent _ _ _ _ (c .before .before .before .before .before .before .put-skip .ensures) (c .before .before .put-record .ensures)
 
 pub put-sent-spec : {M : Type 1} → statement M
-put-sent-spec = tie.close (tie.spec put-skip-requires put-record-requires same-length returns)
+put-sent-spec = tie.close (tie.spec (λ c κs. search needs) put-record-requires (λ c. search needs) returns)
