@@ -9,7 +9,7 @@ ghost use Rattle.model_frame.specs.Bytes.{write};
 ghost use Rattle.model_frame.specs.Frame.{batch};
 ghost use Rattle.model_frame.specs.Parse.{runBytes};
 ghost use Rattle.model_frame.specs.Writing.{changeBytes, sizeOf, sizes, partNumber, encode};
-ghost use Rattle.model_session.specs.Whole.{incomingPart};
+ghost use Rattle.model_session.specs.Whole.{incomingPart, wholeBatches};
 ghost use Rattle.laws.specs.Wrote.{Wrote};
 ghost use Rattle.log.specs.Log.{Stands};
 ghost use Rattle.place.specs.Place.{flightIs, sessionOf};
@@ -192,7 +192,16 @@ fn plan_from(h: Header, words: &[u64], bytes: &[u8], max: usize, from: u64, limi
 {
     let next = first_number(from);
     let c = log::messages_from(words, bytes, max, h.next_outgoing, next);
-    let cut = whole::measure(words, bytes, max, h.next_outgoing, c.left, c.dist, next, limit);
+    let cut = whole::measure(
+        words,
+        bytes,
+        max,
+        h.next_outgoing,
+        c.left,
+        c.dist,
+        next,
+        limit,
+    );
     let opening = opening_extent(h.stamp, from);
     let ending = ending_extent(h, cut.left, cut.next);
     Plan {
@@ -286,4 +295,96 @@ fn put_head(
     wire::put_u64(out, 17, number.0);
     wire::put_u8(out, 25, part_byte(last));
     wire::put_u32(out, 26, count as u32);
+}
+
+// Writes the frame of a batch that goes by a plan at the start of the area.
+fn put_frame(
+    h: Header,
+    stamp: &[u8],
+    marks: &[u8],
+    words: &[u64],
+    bytes: &[u8],
+    max: usize,
+    from: u64,
+    limit: u64,
+    p: Plan,
+    handle: u32,
+    epoch: Epoch,
+    number: CommitNumber,
+    out: &mut [u8],
+)
+    requires { ⌜ 2 + 2 * max ≤ length (now words) ⌝ }
+    requires { ⌜ length (now bytes) ≤ 33554432 ⌝ }
+    requires { ⌜ length (now stamp) ≡ h .stamp ⌝ }
+    requires { ⌜ h .stamp ≤ 32 ⌝ }
+    requires { ⌜ length (now marks) ≡ h .marks ⌝ }
+    requires { ⌜ h .marks ≤ 64 ⌝ }
+    requires { ⌜ Planned limit (length (now bytes)) max h (now words) (now bytes) from p ⌝ }
+    requires { ⌜ 34 + p .size ≤ length (now out) ⌝ }
+    ensures { λ _. ⌜ now (out .exit) ≡ write (now (out .entry)) 0 (encode (batch handle (epoch .0) (number .0) (partIs (p .last)) (changesOf limit (length (now (bytes .entry))) max h (now (words .entry)) (now (bytes .entry)) (now (stamp .entry)) (now (marks .entry)) from p) [])) ⌝ }
+{
+    put_head(p.size, handle, epoch, number, p.last, p.count, out);
+    let pos = put_changes(h, stamp, marks, words, bytes, max, from, limit, p, out, 30);
+    wire::put_u32(out, pos, 0);
+}
+
+// Writes the frame of the batch that begins at a number, of the session at a place.
+pub fn send(
+    words: &[u64],
+    bytes: &[u8],
+    max: usize,
+    from: u64,
+    limit: u64,
+    handle: u32,
+    epoch: Epoch,
+    number: CommitNumber,
+    out: &mut [u8],
+) -> Written
+    requires { ⌜ 16 + 2 * max ≤ length (now words) ⌝ }
+    requires { ⌜ max ≤ 65536 ⌝ }
+    requires { ⌜ 224 ≤ length (now bytes) ⌝ }
+    requires { ⌜ length (now bytes) ≤ 33554656 ⌝ }
+    ensures { λ r. ⌜ ((C : ℕ) → length (now (bytes .entry)) ≡ 224 + C → Sent limit (sessionOf C max (now (words .entry)) (now (bytes .entry))) handle (epoch .0) (number .0) from (now (out .entry)) (now (out .exit)) r) ⌝ }
+{
+    let h = header_of(words, bytes);
+    let stamp_end = 128 + h.stamp;
+    let marks_end = 160 + h.marks;
+    let log = &words[14..];
+    let ring = &bytes[224..];
+    let p = plan_from(h, log, ring, max, from, limit);
+    let len = 34 + p.size;
+    if out.len() < len {
+        return Written::TooShort;
+    }
+    let stamp = &bytes[128..stamp_end];
+    let marks = &bytes[160..marks_end];
+    put_frame(
+        h,
+        stamp,
+        marks,
+        log,
+        ring,
+        max,
+        from,
+        limit,
+        p,
+        handle,
+        epoch,
+        number,
+        out,
+    );
+    Written::Batch(len, p.goes, p.last)
+}
+
+// How many batches send the session at a place.
+pub fn batches(words: &[u64], bytes: &[u8], max: usize, limit: u64) -> usize
+    requires { ⌜ 16 + 2 * max ≤ length (now words) ⌝ }
+    requires { ⌜ max ≤ 65536 ⌝ }
+    requires { ⌜ 224 ≤ length (now bytes) ⌝ }
+    requires { ⌜ length (now bytes) ≤ 33554656 ⌝ }
+    ensures is { λ r. ⌜ ((C : ℕ) → length (now (bytes .entry)) ≡ 224 + C → r ≡ length (wholeBatches limit (sessionOf C max (now (words .entry)) (now (bytes .entry))))) ⌝ }
+    ensures few { λ r. ⌜ r ≤ 33554433 ⌝ }
+{
+    let next = place::next_outgoing(words);
+    whole::batches(&words[14..], &bytes[224..], max, next, limit)
 }

@@ -45,14 +45,15 @@ module _ (limit : ℕ) (a : Session) where
           (regroup before (sendMsg next m) (taken limit (sent + length (m .text)) (suc (m .num)) ms) (ends a (nextAfter limit (sent + length (m .text)) (suc (m .num)) ms) (leftOver limit (sent + length (m .text)) ms)))
 
 -- the messages from a number on, where numbers rise
+pub numbered-all : (n low N : ℕ) (ms : List Msg) → n ≤ low → Rising low N ms → numberedFrom n ms ≡ ms
+numbered-all n low N [] h r = refl
+numbered-all n low N (m ∷ ms) h r =
+    rw (le-leb n (m .num) (omega (arith, r .0))) (ap (λ (y : List Msg). m ∷ y) (numbered-all n (suc (m .num)) N ms (omega (arith, r .0)) (r .3)))
+
 pub from-same : (n low N : ℕ) (ms : List Msg) → Rising low N ms → messagesFrom n ms ≡ numberedFrom n ms
 from-same n low N [] r = refl
 from-same n low N (m ∷ ms) r = go (leb n (m .num)) refl (from-same n (suc (m .num)) N ms (r .3))
   where
-    all : (k : ℕ) (l : List Msg) → n ≤ k → Rising k N l → l ≡ numberedFrom n l
-    all k [] h r = refl
-    all k (x ∷ l) h r = rw (le-leb n (x .num) (omega (arith, r .0))) (ap (λ (y : List Msg). x ∷ y) (all (suc (x .num)) l (omega (arith, r .0)) (r .3)))
-
     go : (t : Bool) → leb n (m .num) ≡ t → messagesFrom n ms ≡ numberedFrom n ms → cond t (m ∷ ms) (messagesFrom n ms) ≡ cond t (m ∷ numberedFrom n ms) (numberedFrom n ms)
-    go true e ih = ap (λ (y : List Msg). m ∷ y) (all (suc (m .num)) ms (omega (arith, leb-true n (m .num) e)) (r .3))
+    go true e ih = ap (λ (y : List Msg). m ∷ y) (sym (numbered-all n (suc (m .num)) N ms (omega (arith, leb-true n (m .num) e)) (r .3)))
     go false e ih = ih

@@ -20,7 +20,7 @@ use Rattle.laws.specs.Wrote.{Wrote}
 use Rattle.laws.proofs.Little.{write-none}
 use Rattle.laws.proofs.Writes.{wrote-then, wrote-on, wrote-number}
 
-byte-one : (k : ℕ) → k < 256 → bytesOf 1 k ≡ k ∷ []
+pub byte-one : (k : ℕ) → k < 256 → bytesOf 1 k ≡ k ∷ []
 unfolding bytesOf
 byte-one k h = rw (mod-eq-of-lt h)
 

@@ -9,13 +9,7 @@ use Rattle.batch.proofs.Framing.{wrote-three, three-sizes}
 use borrow.Author.Needs.{needs}
 use Rattle.batch.proofs.put_changes.Statement.{statement}
 use Rattle.batch.proofs.put_changes.Tie as tie
-use Rattle.batch.proofs.put_changes.Reads as reads
-use Rattle.batch.proofs.put_changes.Lts as lts
-use Rattle.batch.proofs.put_ending.Reads as put-ending-reads
-use Rattle.batch.proofs.put_opening.Reads as put-opening-reads
-use Rattle.whole.proofs.put_messages.Reads as put-messages-reads
 
--- src/lib.rt:245:9
 put-opening-requires : tie.Need-put-opening-requires
 put-opening-requires c κs =
     let s = c .before .before .before .before .before .before in
@@ -23,7 +17,6 @@ put-opening-requires c κs =
     let b = now (a .bytes) in
     (s .pre .1 .1 .0, omega (arith, s .pre .1 .1 .1 .1 .1, three-sizes (openingOf (now (a .stamp)) (a .from)) (taken (a .limit) 0 (a .p .next) (restOf (length b) (a .max) (a .h .«next_outgoing») (now (a .words)) b (a .p .left))) (endingOf (a .h) (now (a .marks)) (a .p .last) (a .p .goes))))
 
--- src/lib.rt:246:9
 put-messages-requires : tie.Need-put-messages-requires
 put-messages-requires c κs =
     let s = c .before .before .before .before .before .before .before .before .before .before in
@@ -31,7 +24,6 @@ put-messages-requires c κs =
     let b = now (a .bytes) in
     (s .pre .0, (s .pre .1 .0, (s .pre .1 .1 .1 .1 .0, omega (arith, s .pre .1 .1 .1 .1 .1, three-sizes (openingOf (now (a .stamp)) (a .from)) (taken (a .limit) 0 (a .p .next) (restOf (length b) (a .max) (a .h .«next_outgoing») (now (a .words)) b (a .p .left))) (endingOf (a .h) (now (a .marks)) (a .p .last) (a .p .goes)), run-past (openingOf (now (a .stamp)) (a .from)) (c .before .before .before .put-opening .ensures)))))
 
--- src/lib.rt:258:5
 put-ending-requires : tie.Need-put-ending-requires
 put-ending-requires c κs =
     let s = c .before .before .before .before .before .before .before .before .before .before .before .before .before .before in
@@ -40,11 +32,6 @@ put-ending-requires c κs =
     let ms = taken (a .limit) 0 (a .p .next) (restOf (length b) (a .max) (a .h .«next_outgoing») (now (a .words)) b (a .p .left)) in
     (s .pre .1 .1 .1 .0, omega (arith, s .pre .1 .1 .1 .1 .1, three-sizes (openingOf (now (a .stamp)) (a .from)) ms (endingOf (a .h) (now (a .marks)) (a .p .last) (a .p .goes)), run-past (openingOf (now (a .stamp)) (a .from)) (c .before .before .before .before .before .before .before .put-opening .ensures), run-past ms (c .before .before .before .put-messages .ensures)))
 
--- src/lib.rt:224:1
-same-length : tie.Need-same-length
-same-length c = search needs
-
--- src/lib.rt:224:1
 returns : tie.Need-returns
 returns c =
     let a = c .before .before .before .before .before .before .before .before .before .before .before .before .before .before .before .before .before .args in
@@ -54,4 +41,4 @@ returns c =
 pub put-changes-spec : {M : Type 1} → statement M
 put-changes-spec =
     tie.close
-    (tie.spec put-opening-requires put-messages-requires put-ending-requires same-length returns)
+    (tie.spec put-opening-requires put-messages-requires put-ending-requires (λ c. search needs) returns)

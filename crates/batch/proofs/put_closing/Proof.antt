@@ -6,27 +6,19 @@ use Rattle.batch.proofs.Ends.{close-size, run-past, change-past, wrote-
 use borrow.Author.Needs.{needs}
 use Rattle.batch.proofs.put_closing.Statement.{statement}
 use Rattle.batch.proofs.put_closing.Tie as tie
-use Rattle.batch.proofs.put_closing.Reads as reads
-use Rattle.batch.proofs.put_closing.Lts as lts
-use Rattle.batch.proofs.put_incoming.Reads as put-incoming-reads
-use Rattle.whole.proofs.put.put_skip.Reads as put-skip-reads
-use Rattle.whole.proofs.put.put_text.Reads as put-text-reads
 
--- src/lib.rt:153:9
 put-skip-requires : tie.Need-put-skip-requires
 put-skip-requires c κs =
     let s = c .before .before .before in
     let h = s .args .h in
     omega (arith, s .pre .1, close-size (s .args .next) (h .«next_outgoing») (incomingPart (h .«next_incoming») (flightIs (h .«in_flight»))) (now (s .args .marks)))
 
--- src/lib.rt:154:9
 put-incoming-requires : tie.Need-put-incoming-requires
 put-incoming-requires c κs =
     let s = c .before .before .before .before .before .before .before in
     let h = s .args .h in
     omega (arith, s .pre .1, close-size (s .args .next) (h .«next_outgoing») (incomingPart (h .«next_incoming») (flightIs (h .«in_flight»))) (now (s .args .marks)), run-past (skipTo (s .args .next) (h .«next_outgoing»)) (c .before .before .before .put-skip .ensures))
 
--- src/lib.rt:155:5
 put-text-requires : tie.Need-put-text-requires
 put-text-requires c κs =
     let s = c .before .before .before .before .before .before .before .before .before .before .before in
@@ -34,11 +26,6 @@ put-text-requires c κs =
     let inc = incomingPart (h .«next_incoming») (flightIs (h .«in_flight»)) in
     (omega (arith, s .pre .1, close-size (s .args .next) (h .«next_outgoing») inc (now (s .args .marks)), run-past (skipTo (s .args .next) (h .«next_outgoing»)) (c .before .before .before .before .before .before .before .put-skip .ensures), change-past inc (c .before .before .before .put-incoming .ensures)), omega arith)
 
--- src/lib.rt:147:1
-same-length : tie.Need-same-length
-same-length c = search needs
-
--- src/lib.rt:147:1
 returns : tie.Need-returns
 returns c =
     let s = c .before .before .before .before .before .before .before .before .before .before .before .before .before .before in
@@ -48,4 +35,4 @@ returns c =
 pub put-closing-spec : {M : Type 1} → statement M
 put-closing-spec =
     tie.close
-    (tie.spec put-skip-requires put-incoming-requires put-text-requires same-length returns)
+    (tie.spec put-skip-requires put-incoming-requires put-text-requires (λ c. search needs) returns)
