@@ -1,0 +1,2 @@
+-- The store's areas as a list of places.
+pub mod Areas

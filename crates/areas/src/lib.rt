@@ -1,0 +1,122 @@
+// The store's two areas: their shape, the rules that they keep, and where each place's words and bytes stand.
+ghost use mathlib.Core.Path.{_≡_};
+ghost use Prim.Native.Nat.{ℕ, _+_, _*_, _≤_, _<_};
+ghost use mathlib.Core.Bool.{Bool, true, false};
+ghost use mathlib.Core.List.{List};
+ghost use lib.ListN.{length, getD, set};
+ghost use Rattle.areas.specs.Areas.{placeWords, placeBytes, wordsAt, bytesAt, roomy, allowed, Rules, SpotIs, SpotIn, Making};
+
+// How many session places, and for each the message bytes (C) and the messages (M).
+#[repr(C)]
+pub struct Shape {
+    pub places: u32,
+    pub bytes: u32,
+    pub messages: u32,
+}
+
+impl Shape {
+    pub const MAX_BYTES: u32 = 33_554_432;
+
+    pub const MAX_MESSAGES: u32 = 65_536;
+}
+
+// The words that stand before the first place's.
+pub const COUNT_WORDS: usize = 66;
+
+// The most commits that can be pending.
+pub const MAX_PENDING: u64 = 64;
+
+// The answer to making a store.
+pub enum Made {
+    Ready,
+    Unfit,
+}
+
+// The words of a place.
+pub fn place_words(shape: Shape) -> usize
+    requires { ⌜ shape .messages ≤ 65536 ⌝ }
+    ensures { λ r. ⌜ r ≡ placeWords shape ⌝ }
+{
+    16 + 2 * (shape.messages as usize)
+}
+
+// The bytes of a place.
+pub fn place_bytes(shape: Shape) -> usize
+    ensures { λ r. ⌜ r ≡ placeBytes shape ⌝ }
+{
+    224 + (shape.bytes as usize)
+}
+
+// Where the words and the bytes of a place begin and end.
+#[repr(C)]
+pub struct Spot {
+    pub wa: usize,
+    pub we: usize,
+    pub ba: usize,
+    pub be: usize,
+}
+
+// Where place i stands.
+fn spot_of(shape: Shape, i: usize) -> Spot
+    requires { ⌜ shape .messages ≤ 65536 ⌝ }
+    requires { ⌜ shape .bytes ≤ 33554432 ⌝ }
+    requires { ⌜ i < 4294967296 ⌝ }
+    ensures { λ r. ⌜ SpotIs shape i (r .wa) (r .we) (r .ba) (r .be) ⌝ }
+{
+    let width = place_words(shape);
+    let size = place_bytes(shape);
+    let wa = COUNT_WORDS + i * width;
+    let ba = i * size;
+    Spot {
+        wa,
+        we: wa + width,
+        ba,
+        be: ba + size,
+    }
+}
+
+// Where place i stands in areas that keep the rules: the place is in use.
+pub fn spot_in(words: &[u64], bytes: &[u8], shape: Shape, i: usize) -> Spot
+    requires { ⌜ Rules shape (now words) (now bytes) ⌝ }
+    requires { ⌜ i < getD (now words) 0 0 ⌝ }
+    ensures { λ r. ⌜ SpotIn shape i (now (words .entry)) (now (bytes .entry)) (r .wa) (r .we) (r .ba) (r .be) ⌝ }
+{
+    spot_of(shape, i)
+}
+
+// Whether C and M are within their limits and the areas are as long as they ask.
+pub fn roomy(shape: Shape, words: &[u64], bytes: &[u8]) -> bool
+    ensures { λ r. ⌜ r ≡ roomy shape (now (words .entry)) (now (bytes .entry)) ⌝ }
+{
+    if Shape::MAX_BYTES < shape.bytes {
+        return false;
+    }
+    if Shape::MAX_MESSAGES < shape.messages {
+        return false;
+    }
+    let places = shape.places as usize;
+    (COUNT_WORDS + places * place_words(shape) <= words.len())
+        & (places * place_bytes(shape) <= bytes.len())
+}
+
+// Whether the areas keep the rules.
+pub fn allowed(shape: Shape, words: &[u64], bytes: &[u8]) -> bool
+    ensures { λ r. ⌜ r ≡ allowed shape (now (words .entry)) (now (bytes .entry)) ⌝ }
+{
+    if roomy(shape, words, bytes) {
+        return (words[0] <= shape.places as u64) & (words[1] <= MAX_PENDING);
+    }
+    false
+}
+
+// Makes a store without sessions and pending commits.
+pub fn make(shape: Shape, words: &mut [u64], bytes: &[u8]) -> Made
+    ensures { λ r. ⌜ Making shape (now (words .entry)) (now (words .exit)) (now (bytes .entry)) r ⌝ }
+{
+    if roomy(shape, words, bytes) {
+        words[0] = 0;
+        words[1] = 0;
+        return Made::Ready;
+    }
+    Made::Unfit
+}

@@ -1,0 +1,2 @@
+-- `Reading` says of a place what is read of its parts.
+pub mod Reading

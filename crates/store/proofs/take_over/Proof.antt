@@ -1,0 +1,32 @@
+use mathlib.Core.List.{[], _∷_}
+use Rattle.model_frame.specs.Frame.{recordMsg, setCreatedAt, setMarks}
+use Rattle.model.specs.Store.{changed, takenOver}
+use Rattle.areas.proofs.Lifting.{spot-both}
+use borrow.Author.Needs.{needs}
+use Rattle.store.proofs.take_over.Statement.{statement}
+use Rattle.store.proofs.take_over.Tie as tie
+
+returns : tie.Need-returns
+returns c =
+    let a = (c .before .before .before .before .before .before .before .before .before .before .before .before .before .args) in
+    let r = (c .before .before .before .before .take-over) in
+    let p = (c .before .before .before .before .before .before .before .before .before .before .before .before .before .pre) in
+    spot-both (a .shape) (a .i) _ _ _ _ ((c .before .before .before .before .before .before .before .before .spot-in) .ensures .at) (a .words .now) (a .bytes .now) (p .0) (p .1) (takenOver (a .lag)) (r .last .0) (r .last .1 .0) (r .kept .0) (r .kept .1 .0) (r .ensures (a .shape .bytes))
+
+pub take-over-spec : {M : Type 1} → statement M
+take-over-spec =
+    tie.close
+    (tie.spec
+    (λ c κs. search needs)
+    (λ c. search needs)
+    (λ c. search needs)
+    (λ c. search needs)
+    (λ c. search needs)
+    (λ c. search needs)
+    (λ c. search needs)
+    (λ c. search needs)
+    (λ c. search needs)
+    (λ c κs. search needs)
+    (λ c. search needs)
+    (λ c. search needs)
+    returns)

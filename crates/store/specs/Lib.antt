@@ -1,0 +1,2 @@
+-- What the store's functions answer.
+pub mod Answers
