@@ -1,10 +1,11 @@
 -- One writer after another. Assumes nothing.
-use mathlib.Core.Path.{_≡_, refl, sym, ap, _∙_}
+use mathlib.Core.Path.{_≡_, refl, sym, ap, subst, _∙_}
 use mathlib.Core.List.{List, [], _++_}
 use Prim.Native.Nat.{ℕ, _+_, _≤_}
 use native.Mathlib.Omega.{arith}
 use lib.ListN.{length, length-append}
-use Rattle.model_frame.specs.Bytes.{write}
+use Rattle.model_frame.specs.Bytes.{bytesOf, write}
+use Rattle.model_frame.proofs.Le.{length-bytes}
 use Rattle.laws.proofs.Little.{write-then, write-append, write-none, length-write}
 use Rattle.laws.specs.Wrote.{Wrote}
 
@@ -13,6 +14,14 @@ wrote-then {l} {xs} {l₁} {ys} {l₂} {at} w v e = record {
   bytes = write-then l xs ys at (w .bytes) (v .bytes) e;
   past = omega (arith, v .past, length-append xs ys);
 }
+
+-- the same where the second begins at the position that the first gave
+pub wrote-on : {l xs l₁ ys l₂ : List ℕ} {at k r : ℕ} → Wrote l at xs l₁ k → Wrote l₁ k ys l₂ r → Wrote l at (xs ++ ys) l₂ r
+wrote-on {l} {xs} {l₁} {ys} {l₂} {at} {k} {r} w v = wrote-then w (subst (λ (p : ℕ). Wrote l₁ p ys l₂ r) (w .past) v) refl
+
+-- a number at a position, and the position past it
+pub wrote-number : {l l₁ : List ℕ} (at n v : ℕ) → l₁ ≡ write l at (bytesOf n v) → Wrote l at (bytesOf n v) l₁ (at + n)
+wrote-number at n v e = record { bytes = e; past = omega (arith, length-bytes n v) }
 
 -- What is still to be written, `rest` from `pos` on, makes of the list as it is what `all` from `at` on makes of the first: the invariant of a loop that writes.
 pub record Left (first : List ℕ) (at : ℕ) (all out : List ℕ) (pos : ℕ) (rest : List ℕ) : Type 0 where

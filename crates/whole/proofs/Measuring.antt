@@ -5,7 +5,7 @@ use mathlib.Core.List.{List, [], _∷_, _++_}
 use Prim.Native.Nat.{ℕ, zero, suc, _+_, _-_, _*_, _<_, _≤_}
 use native.Mathlib.Omega.{arith}
 use native.Mathlib.Numerals.{add-one}
-use lib.ListN.{length, take, drop, length-append, length-drop, length-take}
+use lib.ListN.{length, take, drop, length-append}
 use lib.Dec.{ltb}
 use borrow.Author.Tests.{lt-ltb, le-ltb}
 use Rattle.model_frame.specs.Frame.{Change, recordMsg, recordBare}
@@ -14,6 +14,7 @@ use Rattle.model_frame.proofs.Runs.{sizes-append}
 use Rattle.model_session.specs.Session.{Msg}
 use Rattle.model_session.specs.Whole.{skipTo, sendMsg}
 use Rattle.log.specs.Log.{msg, restOf, Stands, Read}
+use Rattle.whole.proofs.Putting.{piece-length}
 use Rattle.whole.specs.Cut.{taken, leftOver, nextAfter, Measured}
 
 -- how many changes a message makes, and their bytes
@@ -31,12 +32,9 @@ send-size next m = go (ltb next (m .num))
     go true = omega arith
     go false = omega arith
 
-piece-length : (b : List ℕ) (start first rest : ℕ) → start + first ≤ length b → rest ≤ length b → length (take first (drop start b) ++ take rest b) ≡ first + rest
-piece-length b start first rest h g = omega (arith, length-append (take first (drop start b)) (take rest b), length-take first (drop start b), length-drop start b, length-take rest b)
-
 -- a batch that is full takes no more
 module _ (limit sent next : ℕ) (full : ltb limit sent ≡ true) where
-  full-taken : (ms : List Msg) → taken limit sent next ms ≡ []
+  pub full-taken : (ms : List Msg) → taken limit sent next ms ≡ []
   full-taken [] = refl
   full-taken (m ∷ ms) = ap (λ (b : Bool). cond b [] (sendMsg next m ++ taken limit (sent + length (m .text)) (suc (m .num)) ms)) full
 
@@ -48,16 +46,54 @@ module _ (limit sent next : ℕ) (full : ltb limit sent ≡ true) where
   full-next [] = refl
   full-next (m ∷ ms) = ap (λ (b : Bool). cond b next (nextAfter limit (sent + length (m .text)) (suc (m .num)) ms)) full
 
-module _ (limit C M end : ℕ) (w b : List ℕ) (left₀ dist₀ next₀ : ℕ) where
-  abbrev Rest : ℕ → List Msg
+pub piece-of : (C M end : ℕ) (w b : List ℕ) (left dist number start first rest left' dist' : ℕ) → length b ≡ C → Read C M end w b left dist number start first rest left' dist'
+    → length (take first (drop start b) ++ take rest b) ≡ first + rest
+piece-of C M end w b left dist number start first rest left' dist' long r = piece-length b start first rest (omega (arith, r .inside)) (omega (arith, r .front))
+
+-- a batch that isn't full takes the next message
+module _ (limit C M end : ℕ) (w b : List ℕ) where
+  abbrev pub Rest : ℕ → List Msg
   Rest left = restOf C M end w b left
+
+  pub taken-more : (left dist next sent number start first rest left' dist' : ℕ) → sent ≤ limit → length b ≡ C → Read C M end w b left dist number start first rest left' dist'
+      → taken limit sent next (Rest left) ≡ sendMsg next (msg number (take first (drop start b) ++ take rest b)) ++ taken limit (sent + (first + rest)) (number + 1) (Rest left')
+  taken-more left dist next sent number start first rest left' dist' h long r =
+      let m : Msg = msg number (take first (drop start b) ++ take rest b) in
+      let len : length (m .text) ≡ first + rest = piece-of C M end w b left dist number start first rest left' dist' long r in
+      let later : number + 1 ≡ suc number = rw add-one refl in
+      ap (taken limit sent next) (r .is)
+      ∙ ap (λ (t : Bool). cond t [] (sendMsg next m ++ taken limit (sent + length (m .text)) (suc number) (Rest left'))) (le-ltb limit sent h)
+      ∙ rw (len, later) refl
+
+  left-more : (left dist sent number start first rest left' dist' : ℕ) → sent ≤ limit → length b ≡ C → Read C M end w b left dist number start first rest left' dist'
+      → leftOver limit sent (Rest left) ≡ leftOver limit (sent + (first + rest)) (Rest left')
+  left-more left dist sent number start first rest left' dist' h long r =
+      let m : Msg = msg number (take first (drop start b) ++ take rest b) in
+      let len : length (m .text) ≡ first + rest = piece-of C M end w b left dist number start first rest left' dist' long r in
+      ap (leftOver limit sent) (r .is)
+      ∙ ap (λ (t : Bool). cond t (m ∷ Rest left') (leftOver limit (sent + length (m .text)) (Rest left'))) (le-ltb limit sent h)
+      ∙ ap (λ (k : ℕ). leftOver limit (sent + k) (Rest left')) len
+
+  next-more : (left dist next sent number start first rest left' dist' : ℕ) → sent ≤ limit → length b ≡ C → Read C M end w b left dist number start first rest left' dist'
+      → nextAfter limit sent next (Rest left) ≡ nextAfter limit (sent + (first + rest)) (number + 1) (Rest left')
+  next-more left dist next sent number start first rest left' dist' h long r =
+      let m : Msg = msg number (take first (drop start b) ++ take rest b) in
+      let len : length (m .text) ≡ first + rest = piece-of C M end w b left dist number start first rest left' dist' long r in
+      let later : number + 1 ≡ suc number = rw add-one refl in
+      ap (nextAfter limit sent next) (r .is)
+      ∙ ap (λ (t : Bool). cond t next (nextAfter limit (sent + length (m .text)) (suc number) (Rest left'))) (le-ltb limit sent h)
+      ∙ rw (len, later) refl
+
+module _ (limit C M end : ℕ) (w b : List ℕ) (left₀ dist₀ next₀ : ℕ) where
+  abbrev Rest₀ : ℕ → List Msg
+  Rest₀ left = restOf C M end w b left
 
   pub record Measuring (left dist next count size sent : ℕ) : Type 0 where
     pub stands : Stands C M end w b left dist
-    pub rest : leftOver limit sent (Rest left) ≡ leftOver limit 0 (Rest left₀)
-    pub after : nextAfter limit sent next (Rest left) ≡ nextAfter limit 0 next₀ (Rest left₀)
-    pub counts : count + length (taken limit sent next (Rest left)) ≡ length (taken limit 0 next₀ (Rest left₀))
-    pub spans : size + sizes (taken limit sent next (Rest left)) ≡ sizes (taken limit 0 next₀ (Rest left₀))
+    pub rest : leftOver limit sent (Rest₀ left) ≡ leftOver limit 0 (Rest₀ left₀)
+    pub after : nextAfter limit sent next (Rest₀ left) ≡ nextAfter limit 0 next₀ (Rest₀ left₀)
+    pub counts : count + length (taken limit sent next (Rest₀ left)) ≡ length (taken limit 0 next₀ (Rest₀ left₀))
+    pub spans : size + sizes (taken limit sent next (Rest₀ left)) ≡ sizes (taken limit 0 next₀ (Rest₀ left₀))
     pub few : count + 2 * left ≤ 2 * left₀
     pub small : size + 22 * left + dist ≤ 22 * left₀ + dist₀
     pub sums : sent + dist ≤ dist₀
@@ -68,29 +104,38 @@ module _ (limit C M end : ℕ) (w b : List ℕ) (left₀ dist₀ next₀ : ℕ) 
   pub full-stop : (left dist next count size sent : ℕ) → Measuring left dist next count size sent → limit < sent → Measured limit C M end w b left₀ dist₀ next₀ left dist next count size
   full-stop left dist next count size sent g h =
       let full : ltb limit sent ≡ true = lt-ltb limit sent h in
-      let none : taken limit sent next (Rest left) ≡ [] = full-taken limit sent next full (Rest left) in
+      let none : taken limit sent next (Rest₀ left) ≡ [] = full-taken limit sent next full (Rest₀ left) in
       record {
         stands = g .stands;
-        rest = sym (full-left limit sent next full (Rest left)) ∙ g .rest;
-        after = sym (full-next limit sent next full (Rest left)) ∙ g .after;
+        rest = sym (full-left limit sent next full (Rest₀ left)) ∙ g .rest;
+        after = sym (full-next limit sent next full (Rest₀ left)) ∙ g .after;
         counts = omega (arith, g .counts, ap length none);
         spans = omega (arith, g .spans, ap sizes none);
+        few = g .few;
+        small = g .small;
+        goes = λ _. omega (arith, g .sums);
       }
 
   pub last-stop : (left dist next count size sent : ℕ) → Measuring left dist next count size sent → left ≤ 0 → Measured limit C M end w b left₀ dist₀ next₀ left dist next count size
   unfolding restOf
   last-stop zero dist next count size sent g h = ends g nothing
     where
-      nothing : Rest 0 ≡ []
+      nothing : Rest₀ 0 ≡ []
       nothing = refl
 
-      ends : Measuring 0 dist next count size sent → Rest 0 ≡ [] → Measured limit C M end w b left₀ dist₀ next₀ 0 dist next count size
+      never : 0 < 0 → ⊥
+      never k = omega arith
+
+      ends : Measuring 0 dist next count size sent → Rest₀ 0 ≡ [] → Measured limit C M end w b left₀ dist₀ next₀ 0 dist next count size
       ends g e = record {
         stands = g .stands;
         rest = e ∙ sym (ap (leftOver limit sent) e) ∙ g .rest;
         after = sym (ap (nextAfter limit sent next) e) ∙ g .after;
         counts = omega (arith, g .counts, ap (λ (l : List Msg). length (taken limit sent next l)) e);
         spans = omega (arith, g .spans, ap (λ (l : List Msg). sizes (taken limit sent next l)) e);
+        few = g .few;
+        small = g .small;
+        goes = λ k. absurd (never k);
       }
   last-stop (suc left) dist next count size sent g h = absurd (no h)
     where
@@ -104,21 +149,14 @@ module _ (limit C M end : ℕ) (w b : List ℕ) (left₀ dist₀ next₀ : ℕ) 
   turns left dist next count size sent number start first rest left' dist' skip g h long r s =
       let m : Msg = msg number (take first (drop start b) ++ take rest b) in
       let len : length (m .text) ≡ first + rest = piece-length b start first rest (omega (arith, r .inside)) (omega (arith, r .front)) in
-      let going : ltb limit sent ≡ false = le-ltb limit sent h in
       let one : skip ≤ 1 = at-most (ltb next number) s in
-      let later : number + 1 ≡ suc number = rw add-one refl in
-      let cut : taken limit sent next (Rest left) ≡ sendMsg next m ++ taken limit (sent + (first + rest)) (number + 1) (Rest left') =
-      ap (taken limit sent next) (r .is)
-      ∙ ap (λ (t : Bool). cond t [] (sendMsg next m ++ taken limit (sent + length (m .text)) (suc number) (Rest left'))) going
-      ∙ rw (len, later) refl in
+      let cut = taken-more limit C M end w b left dist next sent number start first rest left' dist' h long r in
       record {
         stands = r .stands;
-        rest =
-            sym (ap (leftOver limit sent) (r .is) ∙ ap (λ (t : Bool). cond t (m ∷ Rest left') (leftOver limit (sent + length (m .text)) (Rest left'))) going ∙ ap (λ (k : ℕ). leftOver limit (sent + k) (Rest left')) len) ∙ g .rest;
-        after =
-            sym (ap (nextAfter limit sent next) (r .is) ∙ ap (λ (t : Bool). cond t next (nextAfter limit (sent + length (m .text)) (suc number) (Rest left'))) going ∙ rw (len, later) refl) ∙ g .after;
-        counts = omega (arith, g .counts, ap length cut, length-append (sendMsg next m) (taken limit (sent + (first + rest)) (number + 1) (Rest left')), send-count next m, s);
-        spans = omega (arith, g .spans, ap sizes cut, sizes-append (sendMsg next m) (taken limit (sent + (first + rest)) (number + 1) (Rest left')), send-size next m, s, len);
+        rest = sym (left-more limit C M end w b left dist sent number start first rest left' dist' h long r) ∙ g .rest;
+        after = sym (next-more limit C M end w b left dist next sent number start first rest left' dist' h long r) ∙ g .after;
+        counts = omega (arith, g .counts, ap length cut, length-append (sendMsg next m) (taken limit (sent + (first + rest)) (number + 1) (Rest₀ left')), send-count next m, s);
+        spans = omega (arith, g .spans, ap sizes cut, sizes-append (sendMsg next m) (taken limit (sent + (first + rest)) (number + 1) (Rest₀ left')), send-size next m, s, len);
         few = omega (arith, g .few, r .fewer, one);
         small = omega (arith, g .small, r .fewer, r .nearer, one);
         sums = omega (arith, g .sums, r .nearer);

@@ -1,11 +1,17 @@
 // One batch of a session that is sent whole (active.rs, send_whole), over the session's log.
+pub mod put;
+
 ghost use mathlib.Core.Path.{_≡_};
 ghost use mathlib.Core.Bool.{cond};
 ghost use Prim.Native.Nat.{_+_, _*_, _≤_, _<_};
 ghost use lib.ListN.{length};
 ghost use lib.Dec.{ltb};
-ghost use Rattle.log.specs.Log.{Stands};
-ghost use Rattle.whole.specs.Cut.{Measured};
+ghost use Rattle.model_frame.specs.Parse.{runBytes};
+ghost use Rattle.model_frame.specs.Writing.{changeBytes, sizes};
+ghost use Rattle.laws.specs.Wrote.{Wrote};
+ghost use Rattle.model_session.specs.Summary.{numberedFrom};
+ghost use Rattle.log.specs.Log.{Stands, logOf, restOf};
+ghost use Rattle.whole.specs.Cut.{taken, batchCount, Measured};
 
 // A batch: the place in the log where it ends, the next outgoing number there, how many changes its messages make, and their bytes.
 #[repr(C)]
@@ -76,4 +82,65 @@ pub fn measure(
         count,
         size,
     }
+}
+
+// Writes the changes of the messages of that batch.
+pub fn put_messages(
+    words: &[u64],
+    bytes: &[u8],
+    max: usize,
+    end: u64,
+    left: usize,
+    dist: usize,
+    next: u64,
+    limit: u64,
+    out: &mut [u8],
+    at: usize,
+) -> usize
+    requires { ⌜ 2 + 2 * max ≤ length (now words) ⌝ }
+    requires { ⌜ length (now bytes) ≤ 33554432 ⌝ }
+    requires { ⌜ Stands (length (now bytes)) max end (now words) (now bytes) left dist ⌝ }
+    requires { ⌜ at + sizes (taken limit 0 next (restOf (length (now bytes)) max end (now words) (now bytes) left)) ≤ length (now out) ⌝ }
+    ensures { λ r. ⌜ Wrote (now (out .entry)) at (runBytes changeBytes (taken limit 0 next (restOf (length (now (bytes .entry))) max end (now (words .entry)) (now (bytes .entry)) left))) (now (out .exit)) r ⌝ }
+{
+    let mut left = left;
+    let mut dist = dist;
+    let mut next = next;
+    let mut sent: u64 = 0;
+    let mut pos = at;
+    while 0 < left {
+        if limit < sent {
+            return pos;
+        }
+        let f = log::message_at(words, bytes, max, end, left, dist);
+        pos = put::put_sent(next, f.number, bytes, f.start, f.first, f.rest, out, pos);
+        sent += (f.first + f.rest) as u64;
+        next = f.number + 1;
+        left = f.left;
+        dist = f.dist;
+    }
+    pos
+}
+
+// How many batches send the log.
+pub fn batches(words: &[u64], bytes: &[u8], max: usize, end: u64, limit: u64) -> usize
+    requires { ⌜ 2 + 2 * max ≤ length (now words) ⌝ }
+    requires { ⌜ max ≤ 65536 ⌝ }
+    requires { ⌜ length (now bytes) ≤ 33554432 ⌝ }
+    requires { ⌜ 1 ≤ end ⌝ }
+    ensures is { λ r. ⌜ r ≡ batchCount limit 0 (numberedFrom 1 (logOf (length (now (bytes .entry))) max end (now (words .entry)) (now (bytes .entry)))) ⌝ }
+    ensures few { λ r. ⌜ r ≤ 33554433 ⌝ }
+{
+    let c = log::messages_from(words, bytes, max, end, 1);
+    let first = measure(words, bytes, max, end, c.left, c.dist, 1, limit);
+    let mut left = first.left;
+    let mut dist = first.dist;
+    let mut count = 1;
+    while 0 < left {
+        let cut = measure(words, bytes, max, end, left, dist, 1, limit);
+        left = cut.left;
+        dist = cut.dist;
+        count += 1;
+    }
+    count
 }

@@ -1,0 +1,4 @@
+pub mod Ends
+pub mod Planning
+pub mod Framing
+pub mod Sending

@@ -1,0 +1,99 @@
+-- One batch of a whole sending by its parts, and the frame that carries it. Assumes nothing.
+use mathlib.Core.Path.{_≡_}
+use mathlib.Core.Bool.{Bool, true, false, cond}
+use mathlib.Core.List.{List, [], _∷_, _++_}
+use mathlib.Core.Option.{Option, none, some}
+use Prim.Native.Nat.{ℕ, zero, suc, _+_, _≤_, max}
+use lib.ListN.{length, take, drop, getD}
+use Rattle.model_frame.specs.Bytes.{bytesOf, write}
+use Rattle.model_frame.specs.Frame.{Change, reset, setMarks, Part, whole, lastWhole, Frame, batch}
+use Rattle.model_frame.specs.Parse.{isEmpty}
+use Rattle.model_frame.specs.Writing.{sizes, encode}
+use Rattle.model_session.specs.Session.{Session, Msg}
+use Rattle.model_session.specs.Whole.{stampPart, skipTo, incomingPart}
+use Rattle.model_session.specs.Sender.{partOf, cutFrom}
+use Rattle.model_session.specs.Summary.{numberedFrom}
+use Rattle.log.specs.Log.{logOf, restOf, Stands}
+use Rattle.place.specs.Place.{nextOutOf, flightOf, stampOf, marksOf, flightIs, sessionOf}
+use Rattle.whole.specs.Cut.{taken, leftOver, nextAfter}
+use Rattle.batch.specs.declared.Header.{Header}
+use Rattle.batch.specs.declared.Plan.{Plan}
+use Rattle.batch.specs.declared.Written.{Written}
+use Rattle.batch.specs.declared.Written.the-variants.{Batch, TooShort}
+
+-- a header is that of a place
+pub record Heads (w b : List ℕ) (h : Header) : Type 0 where
+  pub outgoing : h .«next_outgoing» ≡ nextOutOf w
+  pub incoming : h .«next_incoming» ≡ getD w 1 0
+  pub flight : flightIs (h .«in_flight») ≡ flightOf w
+  pub stamp-is : take (h .stamp) (drop 128 b) ≡ stampOf w b
+  pub stamp-most : h .stamp ≤ 32
+  pub marks-is : take (h .marks) (drop 160 b) ≡ marksOf w b
+  pub marks-most : h .marks ≤ 64
+
+-- the session with this header, these texts and these messages
+abbrev pub sessionWith : Header → List ℕ → List ℕ → List Msg → Session
+sessionWith h stamp marks ms =
+    record {
+      stamp = stamp;
+      nextOut = h .«next_outgoing»;
+      nextIn = h .«next_incoming»;
+      inFlight = flightIs (h .«in_flight»);
+      marks = marks;
+      messages = ms;
+    }
+
+-- changes: how many, and their bytes
+pub record Spans (cs : List Change) (count size : ℕ) : Type 0 where
+  pub counts : count ≡ length cs
+  pub sums : size ≡ sizes cs
+
+-- before the messages, from number 0: Reset, the stamp if any
+abbrev pub openingOf : List ℕ → ℕ → List Change
+openingOf stamp zero = reset ∷ stampPart stamp
+openingOf stamp (suc n) = []
+
+-- after the messages
+abbrev pub closingOf : Header → List ℕ → ℕ → List Change
+closingOf h marks next = skipTo next (h .«next_outgoing») ++ (incomingPart (h .«next_incoming») (flightIs (h .«in_flight»)) ∷ setMarks marks ∷ [])
+
+-- and only in the last batch
+abbrev pub endingOf : Header → List ℕ → Bool → ℕ → List Change
+endingOf h marks last next = cond last (closingOf h marks next) []
+
+module _ (limit C M : ℕ) (h : Header) (log ring : List ℕ) where
+  -- the changes of a batch that goes by a plan
+  abbrev pub changesOf : List ℕ → List ℕ → ℕ → Plan → List Change
+  changesOf stamp marks from p = openingOf stamp from ++ (taken limit 0 (p .next) (restOf C M (h .«next_outgoing») log ring (p .left)) ++ endingOf h marks (p .last) (p .goes))
+
+  pub record Planned (from : ℕ) (p : Plan) : Type 0 where
+    pub stands : Stands C M (h .«next_outgoing») log ring (p .left) (p .dist)
+    pub starts : restOf C M (h .«next_outgoing») log ring (p .left) ≡ numberedFrom (max from 1) (logOf C M (h .«next_outgoing») log ring)
+    pub begins : p .next ≡ max from 1
+    pub goes-on : p .goes ≡ nextAfter limit 0 (p .next) (restOf C M (h .«next_outgoing») log ring (p .left))
+    pub is-last : p .last ≡ isEmpty (leftOver limit 0 (restOf C M (h .«next_outgoing») log ring (p .left)))
+    pub spans : (stamp marks : List ℕ) → length stamp ≡ h .stamp → length marks ≡ h .marks → Spans (changesOf stamp marks from p) (p .count) (p .size)
+    pub few : p .count ≤ 131077
+    pub small : p .size ≤ 34996357
+
+-- the first 30 bytes of the frame: the body's length, kind, handle, epoch, commit number, part and count
+unfoldable pub headBytes : ℕ → ℕ → ℕ → ℕ → ℕ → ℕ → List ℕ
+headBytes size h e n part count = bytesOf 4 (30 + size) ++ bytesOf 1 4 ++ bytesOf 4 h ++ bytesOf 8 e ++ bytesOf 8 n ++ bytesOf 1 part ++ bytesOf 4 count
+
+abbrev pub partIs : Bool → Part
+partIs true = lastWhole
+partIs false = whole
+
+-- the frame that carries the batch from a number on
+unfoldable pub frameFrom : ℕ → Session → ℕ → ℕ → ℕ → ℕ → Frame
+frameFrom limit a h e n from = batch h e n (partOf (cutFrom limit a from .goesOn)) (cutFrom limit a from .changes) []
+
+-- where sending goes on, in the code's terms
+abbrev pub onward : ℕ → Bool → Option ℕ
+onward from done = cond done none (some from)
+
+-- what is answered, and what stands in the lent area: the frame at its start and the rest as it was, or 9 and all as it was
+abbrev pub Sent : ℕ → Session → ℕ → ℕ → ℕ → ℕ → List ℕ → List ℕ → Written → Type 0
+Sent limit a h e n from out out' (Batch len next done) =
+    (len ≡ length (encode (frameFrom limit a h e n from))) × (len ≤ length out) × (out' ≡ write out 0 (encode (frameFrom limit a h e n from))) × (cutFrom limit a from .goesOn ≡ onward next done)
+Sent limit a h e n from out out' TooShort = (suc (length out) ≤ length (encode (frameFrom limit a h e n from))) × (out' ≡ out)
