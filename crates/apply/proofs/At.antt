@@ -11,11 +11,11 @@ use Rattle.model_session.specs.Session.{fits}
 use Rattle.model.specs.Store.{Place, onStored, changed}
 use Rattle.place.specs.Place.{nextOutOf, placeIn}
 use Rattle.areas.specs.declared.Shape.{Shape}
-use Rattle.areas.specs.Areas.{SpotIs, Rules, Changed, placeAt}
-use Rattle.areas.proofs.Lifting.{spot-place, spot-both, spot-words-long, spot-bytes-long}
+use Rattle.areas.specs.Areas.{SpotIn, Rules, Changed, placeAt}
+use Rattle.areas.proofs.Lifting.{spot-place, spot-both}
 use Rattle.apply.proofs.Loop.{next-out}
 
-module _ (s : Shape) (i wa we ba be : ℕ) (at : SpotIs s i wa we ba be) (w b : List ℕ) (r : Rules s w b) (h : i < getD w 0 0) (cs : List Change) where
+module _ (s : Shape) (i wa we ba be : ℕ) (w b : List ℕ) (spot : SpotIn s i w b wa we ba be) (r : Rules s w b) (h : i < getD w 0 0) (cs : List Change) where
   abbrev mw : List ℕ
   mw = midOf wa (we - wa) w
 
@@ -25,10 +25,10 @@ module _ (s : Shape) (i wa we ba be : ℕ) (at : SpotIs s i wa we ba be) (w b : 
   -- what the place's own function asks
   pub asks : fits (placeAt s w b i .stored .session .nextOut) cs ≡ true → (16 + 2 * s .messages ≤ length mw) × ((224 ≤ length mb) × (fits (nextOutOf mw) cs ≡ true))
   asks f = (
-    omega (arith, spot-words-long s i wa we ba be at w b r h),
+    omega (arith, spot .words-part),
     (
-      omega (arith, spot-bytes-long s i wa we ba be at w b r h),
-      subst (λ (n : ℕ). fits n cs ≡ true) (sym (sym (next-out (s .bytes) (s .messages) mw mb) ∙ ap (λ (x : Place). x .stored .session .nextOut) (spot-place s i wa we ba be at w b r h))) f,
+      omega (arith, spot .bytes-part),
+      subst (λ (n : ℕ). fits n cs ≡ true) (sym (sym (next-out (s .bytes) (s .messages) mw mb) ∙ ap (λ (x : Place). x .stored .session .nextOut) (spot-place s i wa we ba be (spot .at) w b r h))) f,
     ),
   )
 
@@ -36,4 +36,4 @@ module _ (s : Shape) (i wa we ba be : ℕ) (at : SpotIs s i wa we ba be) (w b : 
   pub made : (x y : List ℕ) → length x ≡ length mw → length y ≡ length mb
       → ((C : ℕ) → length mb ≡ 224 + C → placeIn C (s .messages) x y ≡ onStored (changed C (s .messages) cs) (placeIn C (s .messages) mw mb))
       → Changed s i (changed (s .bytes) (s .messages) cs) w (putMid wa (we - wa) w x) b (putMid ba (be - ba) b y)
-  made x y lx ly did = spot-both s i wa we ba be at w b r h (changed (s .bytes) (s .messages) cs) x y lx ly (did (s .bytes) (spot-bytes-long s i wa we ba be at w b r h))
+  made x y lx ly did = spot-both s i wa we ba be (spot .at) w b r h (changed (s .bytes) (s .messages) cs) x y lx ly (did (s .bytes) (spot .bytes-part))

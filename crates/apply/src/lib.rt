@@ -69,7 +69,7 @@ pub fn apply_at(
     requires { ⌜ fits (placeAt shape (now words) (now bytes) i .stored .session .nextOut) (heldRun (p .version) (now run)) ≡ true ⌝ }
     ensures { λ _. ⌜ Changed shape i (changed (shape .bytes) (shape .messages) (heldRun (p .version) (now (run .entry)))) (now (words .entry)) (now (words .exit)) (now (bytes .entry)) (now (bytes .exit)) ⌝ }
 {
-    let s = areas::spot_of(shape, i);
+    let s = areas::spot_in(words, bytes, shape, i);
     let wa = s.wa;
     let we = s.we;
     let ba = s.ba;

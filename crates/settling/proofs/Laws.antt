@@ -8,15 +8,12 @@ use lib.ListN.{length, getD, set, take, drop, length-set, length-drop}
 use lib.Seq.{take-take, getD-take, getD-set-same, drop-drop}
 use Rattle.model_frame.specs.Frame.{Change}
 use Rattle.model_session.specs.Session.{fits}
-use Rattle.model.specs.Store.{Place, onPlace, changed}
-use borrow.Rule.Slice.PartMut.{midOf}
+use Rattle.model.specs.Store.{onPlace, changed}
 use Rattle.place.specs.Only.{Only}
-use Rattle.place.specs.Place.{nextOutOf}
 use Rattle.place.proofs.Fields.{only-none}
 use Rattle.areas.specs.declared.Shape.{Shape}
-use Rattle.areas.specs.Areas.{SpotIs, placeWords, placeBytes, wordsAt, bytesAt, Room, Rules, Changed, placeAt, placesOf}
-use Rattle.areas.proofs.Lifting.{rules-kept, spot-place}
-use Rattle.apply.proofs.Loop.{next-out}
+use Rattle.areas.specs.Areas.{placeWords, placeBytes, wordsAt, bytesAt, Room, Rules, Changed, placeAt, placesOf}
+use Rattle.areas.proofs.Lifting.{rules-kept}
 use Rattle.pending.specs.Pending.{countOf, pendingOf}
 use Rattle.settling.specs.Settling.{Touched, Settles}
 use Rattle.settling.proofs.Header.{count-kept, places-kept, rest-kept, pending-kept, drop-take}
@@ -33,10 +30,6 @@ past-66 a n w w' o = record {
 
 pub touched-none : (s : Shape) (i : ℕ) (w b : List ℕ) → Touched s i w w b b
 touched-none s i w b = record { words = only-none (i * placeWords s) (i * placeWords s + placeWords s) (drop 66 w); bytes = only-none (bytesAt s i) (bytesAt s i + placeBytes s) b }
-
-pub next-is : (s : Shape) (i wa we ba be : ℕ) (at : SpotIs s i wa we ba be) (w b : List ℕ) → Rules s w b → i < getD w 0 0 → {n : ℕ} → n ≡ nextOutOf (midOf wa (we - wa) w) → n ≡ placeAt s w b i .stored .session .nextOut
-next-is s i wa we ba be at w b r h e =
-    e ∙ sym (next-out (s .bytes) (s .messages) (midOf wa (we - wa) w) (midOf ba (be - ba) b)) ∙ ap (λ (x : Place). x .stored .session .nextOut) (spot-place s i wa we ba be at w b r h)
 
 module _ (s : Shape) (i h : ℕ) (cs : List Change) (w b : List ℕ) (r : Rules s w b) (n : ℕ) (is : n ≡ placeAt s w b i .stored .session .nextOut) where
   pub refused : {yes : Bool} → yes ≡ fits n cs → yes ≡ false → Settles s i h cs w w b b false

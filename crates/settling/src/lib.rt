@@ -1,25 +1,12 @@
 // The end of a Commit or LastWhole (standby.rs, on_batch): outgoing numbers are checked before anything is applied.
-ghost use mathlib.Core.Path.{_≡_};
 ghost use Prim.Native.Nat.{_<_};
 ghost use lib.ListN.{getD};
 ghost use Rattle.op.specs.Answers.{heldRun};
-ghost use Rattle.areas.specs.Areas.{Rules, placeAt};
+ghost use Rattle.areas.specs.Areas.{Rules};
 ghost use Rattle.pending.specs.Pending.{countOf};
 ghost use Rattle.settling.specs.Settling.{Settles};
 use areas::Shape;
 use stamp::Protocol;
-
-// The next outgoing number of the session at place i.
-fn next_outgoing(words: &[u64], bytes: &[u8], shape: Shape, i: usize) -> u64
-    requires { ⌜ Rules shape (now words) (now bytes) ⌝ }
-    requires { ⌜ i < getD (now words) 0 0 ⌝ }
-    ensures { λ r. ⌜ r ≡ placeAt shape (now (words .entry)) (now (bytes .entry)) i .stored .session .nextOut ⌝ }
-{
-    let s = areas::spot_of(shape, i);
-    let wa = s.wa;
-    let we = s.we;
-    place::next_outgoing(&words[wa..we])
-}
 
 // Applies a run of changes to the session at place i, and leaves a commit pending, if its outgoing numbers follow on.
 pub fn settle(
@@ -36,7 +23,7 @@ pub fn settle(
     requires { ⌜ countOf (now words) < 64 ⌝ }
     ensures { λ r. ⌜ Settles shape i handle (heldRun (p .version) (now (run .entry))) (now (words .entry)) (now (words .exit)) (now (bytes .entry)) (now (bytes .exit)) r ⌝ }
 {
-    let next = next_outgoing(words, bytes, shape, i);
+    let next = store::next_outgoing(words, bytes, shape, i);
     if !hold::fits(p, run, next) {
         return false;
     }

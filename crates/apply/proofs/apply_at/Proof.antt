@@ -1,43 +1,30 @@
-use native.Mathlib.Omega.{arith}
+use borrow.Author.Needs.{needs}
 use denote.Ref.{now}
 use Rattle.op.specs.Answers.{heldRun}
-use borrow.Author.Needs.{needs}
-use Rattle.areas.proofs.Lifting.{spot-within}
 use Rattle.apply.proofs.At.{asks, made}
 use Rattle.apply.proofs.apply_at.Statement.{statement}
 use Rattle.apply.proofs.apply_at.Tie as tie
 
-mul-apply-all : tie.Need-mul-apply-all
-mul-apply-all c =
-    let v = spot-within _ _ _ _ _ _ (c .spot-of .ensures) _ _ (c .before .before .before .before .pre .0) (c .before .before .before .before .pre .1 .0) in
-    omega (arith, v .0, v .2)
-
-part-apply-all-end : tie.Need-part-apply-all-end
-part-apply-all-end c = spot-within _ _ _ _ _ _ (c .spot-of .ensures) _ _ (c .before .before .before .before .pre .0) (c .before .before .before .before .pre .1 .0) .0
-
-part-apply-all-end-2 : tie.Need-part-apply-all-end-2
-part-apply-all-end-2 c = spot-within _ _ _ _ _ _ (c .before .spot-of .ensures) _ _ (c .before .before .before .before .before .pre .0) (c .before .before .before .before .before .pre .1 .0) .1
-
 apply-all-requires : tie.Need-apply-all-requires
-apply-all-requires c κs = asks _ _ _ _ _ _ (c .before .before .before .spot-of .ensures) _ _ (c .before .before .before .before .before .before .before .pre .0) (c .before .before .before .before .before .before .before .pre .1 .0) (heldRun (c .before .before .before .before .before .before .before .args .p .version) (now (c .before .before .before .before .before .before .before .args .run))) (c .before .before .before .before .before .before .before .pre .1 .1)
+apply-all-requires c κs = asks _ _ _ _ _ _ _ _ (c .before .before .before .spot-in .ensures) (c .before .before .before .before .before .before .before .before .before .pre .0) (c .before .before .before .before .before .before .before .before .before .pre .1 .0) (heldRun (c .before .before .before .before .before .before .before .before .before .args .p .version) (now (c .before .before .before .before .before .before .before .before .before .args .run))) (c .before .before .before .before .before .before .before .before .before .pre .1 .1)
 
 returns : tie.Need-returns
 returns c =
     let a = c .before .before .before .before .apply-all in
-    made _ _ _ _ _ _ (c .before .before .before .before .before .before .before .before .spot-of .ensures) _ _ (c .before .before .before .before .before .before .before .before .before .before .before .before .pre .0) (c .before .before .before .before .before .before .before .before .before .before .before .before .pre .1 .0) (heldRun (c .before .before .before .before .before .before .before .before .before .before .before .before .args .p .version) (now (c .before .before .before .before .before .before .before .before .before .before .before .before .args .run))) _ _ (a .kept .1 .1 .0) (a .kept .1 .1 .1 .0) (a .ensures)
+    made _ _ _ _ _ _ _ _ (c .before .before .before .before .before .before .before .before .spot-in .ensures) (c .before .before .before .before .before .before .before .before .before .before .before .before .before .before .pre .0) (c .before .before .before .before .before .before .before .before .before .before .before .before .before .before .pre .1 .0) (heldRun (c .before .before .before .before .before .before .before .before .before .before .before .before .before .before .args .p .version) (now (c .before .before .before .before .before .before .before .before .before .before .before .before .before .before .args .run))) _ _ (a .kept .1 .1 .0) (a .kept .1 .1 .1 .0) (a .ensures)
 
 pub apply-at-spec : {M : Type 1} → statement M
 apply-at-spec =
     tie.close
     (tie.spec
     (λ c κs. search needs)
-    mul-apply-all
     (λ c. search needs)
     (λ c. search needs)
-    part-apply-all-end
     (λ c. search needs)
     (λ c. search needs)
-    part-apply-all-end-2
+    (λ c. search needs)
+    (λ c. search needs)
+    (λ c. search needs)
     (λ c. search needs)
     apply-all-requires
     (λ c. search needs)
