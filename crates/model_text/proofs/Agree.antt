@@ -64,8 +64,13 @@ taken n a l e w =
 pub ascii-first : (b : ℕ) (l : List ℕ) → b ≤ 0x7F → utf8From 0 (b ∷ l) ≡ utf8From 0 l
 ascii-first b l h = taken 1 b l (lead-one b h) (sym (formed-one b l))
 
-fits-from : (k c : ℕ) → k ≤ c → isScalar c ≡ true → true ≡ (leb k c && isScalar c)
-fits-from k c h e = sym (ap₂ _&&_ (le-leb k c h) e)
+fits-from : (n c : ℕ) → least n ≤ c → isScalar c ≡ true → true ≡ fitting n c
+unfolding fitting
+fits-from n c h e = sym (ap₂ _&&_ (le-leb (least n) c h) e)
+
+fits-is : (n c : ℕ) → fitting n c ≡ true → (least n ≤ c) × (isScalar c ≡ true)
+unfolding fitting
+fits-is n c e = (leb-true (least n) c (and-l (leb (least n) c) (isScalar c) e), and-r (leb (least n) c) (isScalar c) e)
 
 -- four bytes' bits are c again (omega does two and three by itself)
 rejoined : (c : ℕ) → c ≤ 0x10FFFF
@@ -84,28 +89,31 @@ rejoined c h =
 
 module _ (c : ℕ) (s : isScalar c ≡ true) (l : List ℕ) where
   read-two : 0x7F < c → c ≤ 0x7FF → utf8From 0 ((0xC0 + c / 64) ∷ (0x80 + c % 64) ∷ l) ≡ utf8From 0 l
+  unfolding least
   read-two g h =
       let a : ℕ = 0xC0 + c / 64 in
       let b : ℕ = 0x80 + c % 64 in
-      taken 2 a (b ∷ l) (lead-two a (omega arith) (omega arith)) (formed-two a b (tail-is c) {n = c} (omega arith) (fits-from 0x80 c g s) l)
+      taken 2 a (b ∷ l) (lead-two a (omega arith) (omega arith)) (formed-two a b (tail-is c) {n = c} (omega arith) (fits-from 2 c (omega arith) s) l)
 
   read-three : 0x7FF < c → c ≤ 0xFFFF → utf8From 0 ((0xE0 + c / 64 / 64) ∷ (0x80 + c / 64 % 64) ∷ (0x80 + c % 64) ∷ l) ≡ utf8From 0 l
+  unfolding least
   read-three g h =
       let a : ℕ = 0xE0 + c / 64 / 64 in
       let b : ℕ = 0x80 + c / 64 % 64 in
       let d : ℕ = 0x80 + c % 64 in
       taken 3 a (b ∷ d ∷ l) (lead-three a (omega arith) (omega arith))
-      (formed-three a b (tail-is (c / 64)) d (tail-is c) {n = c} (omega arith) (fits-from 0x800 c g s) l)
+      (formed-three a b (tail-is (c / 64)) d (tail-is c) {n = c} (omega arith) (fits-from 3 c (omega arith) s) l)
 
   read-four : 0xFFFF < c → c ≤ 0x10FFFF
       → utf8From 0 ((0xF0 + c / 64 / 64 / 64) ∷ (0x80 + c / 64 / 64 % 64) ∷ (0x80 + c / 64 % 64) ∷ (0x80 + c % 64) ∷ l) ≡ utf8From 0 l
+  unfolding least
   read-four g h =
       let a : ℕ = 0xF0 + c / 64 / 64 / 64 in
       let b : ℕ = 0x80 + c / 64 / 64 % 64 in
       let d : ℕ = 0x80 + c / 64 % 64 in
       let f : ℕ = 0x80 + c % 64 in
       taken 4 a (b ∷ d ∷ f ∷ l) (lead-four a (omega arith) (omega arith))
-      (formed-four a b (tail-is (c / 64 / 64)) d (tail-is (c / 64)) f (tail-is c) {n = c} (rejoined c h) (fits-from 0x10000 c g s) l)
+      (formed-four a b (tail-is (c / 64 / 64)) d (tail-is (c / 64)) f (tail-is c) {n = c} (rejoined c h) (fits-from 4 c (omega arith) s) l)
 
 read : (c : ℕ) → isScalar c ≡ true → (l : List ℕ) → utf8From 0 (encode c ++ l) ≡ utf8From 0 l
 read c s l =
@@ -146,22 +154,23 @@ front-one : (a : ℕ) (l : List ℕ) → a ≤ 0x7F → Front 1 a l
 front-one a l h = record { value = a; scalar = scalar-low a h; spelt = rw (encode-one a h) }
 
 front-two : (a : ℕ) (l : List ℕ) → 0xBF < a → a ≤ 0xDF → Formed 2 a l → Front 2 a l
-unfolding fitting least ownBits
+unfolding least ownBits
 front-two a [] g h f = absurd (let no : 1 ≤ 0 = f .long in omega arith)
 front-two a (b ∷ l) g h f =
     let c : ℕ = a % 32 * 64 + b % 64 in
     let t = tail-bounds b (and-l (isTail b) true (f .tailed)) in
-    let low : 0x80 ≤ c = leb-true 0x80 c (and-l (leb 0x80 c) (isScalar c) (f .fits)) in
+    let fit : (least 2 ≤ c) × (isScalar c ≡ true) = fits-is 2 c (f .fits) in
+    let low : least 2 ≤ c = fit .0 in
     let e₀ : 0xC0 + c / 64 ≡ a = omega arith in
     let e₁ : 0x80 + c % 64 ≡ b = omega arith in
     record {
       value = c;
-      scalar = and-r (leb 0x80 c) (isScalar c) (f .fits);
-      spelt = rw (encode-two c low (omega arith)) (λ i. e₀ i ∷ e₁ i ∷ l);
+      scalar = fit .1;
+      spelt = rw (encode-two c (omega arith) (omega arith)) (λ i. e₀ i ∷ e₁ i ∷ l);
     }
 
 front-three : (a : ℕ) (l : List ℕ) → 0xDF < a → a ≤ 0xEF → Formed 3 a l → Front 3 a l
-unfolding fitting least ownBits
+unfolding least ownBits
 front-three a [] g h f = absurd (let no : 2 ≤ 0 = f .long in omega arith)
 front-three a (b ∷ []) g h f = absurd (let no : 2 ≤ 1 = f .long in omega arith)
 front-three a (b ∷ d ∷ l) g h f =
@@ -169,7 +178,8 @@ front-three a (b ∷ d ∷ l) g h f =
     let c : ℕ = p * 64 + d % 64 in
     let tb : isTail b ≡ true = and-l (isTail b) (isTail d && true) (f .tailed) in
     let td : isTail d ≡ true = and-l (isTail d) true (and-r (isTail b) (isTail d && true) (f .tailed)) in
-    let low : 0x800 ≤ c = leb-true 0x800 c (and-l (leb 0x800 c) (isScalar c) (f .fits)) in
+    let fit : (least 3 ≤ c) × (isScalar c ≡ true) = fits-is 3 c (f .fits) in
+    let low : least 3 ≤ c = fit .0 in
     let q : c / 64 ≡ p = over p d in
     let r : p / 64 ≡ a % 16 = over (a % 16) b in
     let top : 0xE0 + a % 16 ≡ a = omega arith in
@@ -177,12 +187,12 @@ front-three a (b ∷ d ∷ l) g h f =
     let e₁ : 0x80 + c / 64 % 64 ≡ b = (λ i. 0x80 + q i % 64) ∙ under (a % 16) b tb in
     record {
       value = c;
-      scalar = and-r (leb 0x800 c) (isScalar c) (f .fits);
-      spelt = rw (encode-three c low (omega arith)) (λ i. e₀ i ∷ e₁ i ∷ under p d td i ∷ l);
+      scalar = fit .1;
+      spelt = rw (encode-three c (omega arith) (omega arith)) (λ i. e₀ i ∷ e₁ i ∷ under p d td i ∷ l);
     }
 
 front-four : (a : ℕ) (l : List ℕ) → 0xEF < a → a ≤ 0xF7 → Formed 4 a l → Front 4 a l
-unfolding fitting least ownBits
+unfolding least ownBits
 front-four a [] g h f = absurd (let no : 3 ≤ 0 = f .long in omega arith)
 front-four a (b ∷ []) g h f = absurd (let no : 3 ≤ 1 = f .long in omega arith)
 front-four a (b ∷ d ∷ []) g h f = absurd (let no : 3 ≤ 2 = f .long in omega arith)
@@ -195,7 +205,8 @@ front-four a (b ∷ d ∷ k ∷ l) g h f =
     let more : (isTail d && v) ≡ true = and-r (isTail b) (isTail d && v) (f .tailed) in
     let td : isTail d ≡ true = and-l (isTail d) v more in
     let tk : isTail k ≡ true = and-l (isTail k) true (and-r (isTail d) v more) in
-    let low : 0x10000 ≤ c = leb-true 0x10000 c (and-l (leb 0x10000 c) (isScalar c) (f .fits)) in
+    let fit : (least 4 ≤ c) × (isScalar c ≡ true) = fits-is 4 c (f .fits) in
+    let low : least 4 ≤ c = fit .0 in
     let q : c / 64 ≡ p = over p k in
     let r : c / 64 / 64 ≡ o = (λ i. q i / 64) ∙ over o d in
     let top : 0xF0 + a % 8 ≡ a = omega arith in
@@ -204,8 +215,8 @@ front-four a (b ∷ d ∷ k ∷ l) g h f =
     let e₂ : 0x80 + c / 64 % 64 ≡ d = (λ i. 0x80 + q i % 64) ∙ under o d td in
     record {
       value = c;
-      scalar = and-r (leb 0x10000 c) (isScalar c) (f .fits);
-      spelt = rw (encode-four c low) (λ i. e₀ i ∷ e₁ i ∷ e₂ i ∷ under p k tk i ∷ l);
+      scalar = fit .1;
+      spelt = rw (encode-four c (omega arith)) (λ i. e₀ i ∷ e₁ i ∷ e₂ i ∷ under p k tk i ∷ l);
     }
 
 at-length : {n : ℕ} (a : ℕ) (l : List ℕ) → leadLength a ≡ n → wellFormed (leadLength a) a l ≡ true → (Formed n a l → Front n a l) → Front (leadLength a) a l

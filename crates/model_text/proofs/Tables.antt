@@ -5,8 +5,7 @@ use mathlib.Core.List.{List, _∷_}
 use Prim.Native.Nat.{ℕ, _≤_, _<_, _+_, _*_, _%_}
 use native.Mathlib.Omega.{arith}
 use borrow.Author.Tests.{le-leb, lt-leb}
-use lib.Dec.{leb}
-use Rattle.model_text.specs.Utf8.{leadLength, ownBits, isTail, isScalar, fitting, least, wellFormed}
+use Rattle.model_text.specs.Utf8.{leadLength, ownBits, isTail, fitting, wellFormed}
 
 module _ (a : ℕ) where
   pub lead-one : a ≤ 0x7F → leadLength a ≡ 1
@@ -36,19 +35,19 @@ module _ (a : ℕ) where
 -- ---- a sequence of two, three, four bytes
 
 module _ (a b : ℕ) {t : Bool} (et : t ≡ isTail b) where
-  pub formed-two : {n : ℕ} {f : Bool} → n ≡ a % 32 * 64 + b % 64 → f ≡ (leb 0x80 n && isScalar n) → (l : List ℕ) → (t && f) ≡ wellFormed 2 a (b ∷ l)
-  unfolding wellFormed fitting least ownBits
-  formed-two en ef l = (λ i. et i && ef i) ∙ (λ i. isTail b && (leb 0x80 (en i) && isScalar (en i))) ∙ sym (simp and-true)
+  pub formed-two : {n : ℕ} {f : Bool} → n ≡ a % 32 * 64 + b % 64 → f ≡ fitting 2 n → (l : List ℕ) → (t && f) ≡ wellFormed 2 a (b ∷ l)
+  unfolding wellFormed ownBits
+  formed-two en ef l = (λ i. et i && ef i) ∙ (λ i. isTail b && fitting 2 (en i)) ∙ sym (simp and-true)
 
   module _ (c : ℕ) {u : Bool} (eu : u ≡ isTail c) where
-    pub formed-three : {n : ℕ} {f : Bool} → n ≡ (a % 16 * 64 + b % 64) * 64 + c % 64 → f ≡ (leb 0x800 n && isScalar n)
+    pub formed-three : {n : ℕ} {f : Bool} → n ≡ (a % 16 * 64 + b % 64) * 64 + c % 64 → f ≡ fitting 3 n
         → (l : List ℕ) → (t && u && f) ≡ wellFormed 3 a (b ∷ c ∷ l)
-    unfolding wellFormed fitting least ownBits
-    formed-three en ef l = (λ i. et i && eu i && ef i) ∙ (λ i. isTail b && isTail c && (leb 0x800 (en i) && isScalar (en i))) ∙ sym (simp and-true)
+    unfolding wellFormed ownBits
+    formed-three en ef l = (λ i. et i && eu i && ef i) ∙ (λ i. isTail b && isTail c && fitting 3 (en i)) ∙ sym (simp and-true)
 
     pub formed-four : (d : ℕ) {v : Bool} → v ≡ isTail d → {n : ℕ} {f : Bool} → n ≡ ((a % 8 * 64 + b % 64) * 64 + c % 64) * 64 + d % 64
-        → f ≡ (leb 0x10000 n && isScalar n) → (l : List ℕ) → (t && u && v && f) ≡ wellFormed 4 a (b ∷ c ∷ d ∷ l)
-    unfolding wellFormed fitting least ownBits
+        → f ≡ fitting 4 n → (l : List ℕ) → (t && u && v && f) ≡ wellFormed 4 a (b ∷ c ∷ d ∷ l)
+    unfolding wellFormed ownBits
     formed-four d ev en ef l =
-        (λ i. et i && eu i && ev i && ef i) ∙ (λ i. isTail b && isTail c && isTail d && (leb 0x10000 (en i) && isScalar (en i)))
+        (λ i. et i && eu i && ev i && ef i) ∙ (λ i. isTail b && isTail c && isTail d && fitting 4 (en i))
         ∙ simp (and-assoc, and-true)

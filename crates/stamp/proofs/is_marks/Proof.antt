@@ -4,12 +4,9 @@ use borrow.Author.Needs.{needs}
 use Rattle.stamp.proofs.is_marks.Statement.{statement}
 use Rattle.stamp.proofs.is_marks.Tie as tie
 
-is-printable-requires : tie.Need-is-printable-requires
-is-printable-requires c κs = search needs
-
 returns : tie.Need-returns
 unfolding isMarks
 returns c = c .is-printable .ensures
 
 pub is-marks-spec : {M : Type 1} → statement M
-is-marks-spec = tie.close (tie.spec is-printable-requires returns)
+is-marks-spec = tie.close (tie.spec (λ c κs. search needs) returns)

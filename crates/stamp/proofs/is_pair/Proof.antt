@@ -6,12 +6,6 @@ use borrow.Author.Needs.{needs}
 use Rattle.stamp.proofs.is_pair.Statement.{statement}
 use Rattle.stamp.proofs.is_pair.Tie as tie
 
-is-digit-requires : tie.Need-is-digit-requires
-is-digit-requires c κs = search needs
-
-is-digit-requires-2 : tie.Need-is-digit-requires-2
-is-digit-requires-2 c κs = search needs
-
 sub-n : tie.Need-sub-n
 sub-n c = let h = two-digits _ _ (c .before .before .is-digit .ensures) (c .before .is-digit2 .ensures) (c .if1 .taken) in omega arith
 
@@ -33,4 +27,4 @@ returns-2 c = pair-by _ _ (c .before .before .is-digit .ensures) (c .before .is-
 pub is-pair-spec : {M : Type 1} → statement M
 is-pair-spec =
     tie.close
-    (tie.spec is-digit-requires is-digit-requires-2 sub-n mul-n sub-n-2 add-n returns returns-2)
+    (tie.spec (λ c κs. search needs) (λ c κs. search needs) sub-n mul-n sub-n-2 add-n returns returns-2)

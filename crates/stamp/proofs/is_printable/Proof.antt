@@ -10,11 +10,8 @@ returns c = too-short _ _ _ (c .if1 .taken)
 returns-2 : tie.Need-returns-2
 returns-2 c = too-long _ _ _ (c .before .if1 .left) (c .if2 .taken)
 
-all-plain-requires : tie.Need-all-plain-requires
-all-plain-requires c κs = search needs
-
 returns-3 : tie.Need-returns-3
 returns-3 c = in-between _ _ _ (c .before .before .if1 .left) (c .before .if2 .left) (c .all-plain .ensures)
 
 pub is-printable-spec : {M : Type 1} → statement M
-is-printable-spec = tie.close (tie.spec returns returns-2 all-plain-requires returns-3)
+is-printable-spec = tie.close (tie.spec returns returns-2 (λ c κs. search needs) returns-3)

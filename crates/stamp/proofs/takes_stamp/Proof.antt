@@ -4,12 +4,9 @@ use borrow.Author.Needs.{needs}
 use Rattle.stamp.proofs.takes_stamp.Statement.{statement}
 use Rattle.stamp.proofs.takes_stamp.Tie as tie
 
-is-stamp-requires : tie.Need-is-stamp-requires
-is-stamp-requires c κs = search needs
-
 returns : tie.Need-returns
 unfolding takesStamp
 returns c = c .is-stamp .ensures
 
 pub takes-stamp-spec : {M : Type 1} → statement M
-takes-stamp-spec = tie.close (tie.spec is-stamp-requires returns)
+takes-stamp-spec = tie.close (tie.spec (λ c κs. search needs) returns)

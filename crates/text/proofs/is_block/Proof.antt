@@ -31,7 +31,8 @@ loop-again : tie.Need-loop-again Inv-loop μ-loop
 loop-again c = let b = c .before .before in gathers (b .before .args .s .now) (b .before .args .at) (b .loop .m) (b .loop .j) (b .loop .inv) (omega arith)
 
 returns : tie.Need-returns Inv-loop μ-loop
-returns c = λ e. let b = c .before in gathered (b .before .args .s .now) (b .before .args .at) (b .loop .m) (b .loop .j) (b .loop .inv) (omega arith) (ltb-true (b .loop .m) 128 e)
+returns c = λ e.
+    let b = c .before in gathered (b .before .args .s .now) (b .before .args .at) (b .loop .m) (b .loop .j) (b .loop .inv) (omega arith) (ltb-true _ _ e)
 
 pub is-block-spec : {M : Type 1} → statement M
 is-block-spec =

@@ -1,9 +1,7 @@
 -- `text::is_utf8` meets its contract: the loop goes from sequence to sequence (`Scanned`), or past 32 ASCII bytes. Assumes nothing.
 use Prim.Native.Nat.{_+_, _-_, _≤_}
 use native.Mathlib.Omega.{arith}
-use borrow.Author.Tests.{not-true, not-false}
 use lib.ListN.{length}
-use mathlib.Core.Path.{_∙_, sym}
 use Rattle.text.proofs.Ascii.{passes}
 use Rattle.text.proofs.Scan.{Scanned, starts, ends, stops, goes-on}
 use Rattle.text.proofs.is_utf8.Statement.{statement}
@@ -46,7 +44,7 @@ returns : tie.Need-returns Inv-loop μ-loop
 returns c =
     let b = c .before .before .before .before .before .before .before in
     stops (b .before .before .args .s .now) (b .loop .i) (c .before .before .lead-length .result) (b .loop .inv) (omega arith)
-    (c .before .before .lead-length .ensures .0) (sym (not-true _ (c .if2 .taken)) ∙ c .before .is-formed .ensures)
+    (c .before .before .lead-length .ensures .0) (c .before .is-formed .result) (c .if2 .taken) (c .before .is-formed .ensures)
 
 -- the sequence is passed
 passed : (c : tie.Else2 Inv-loop μ-loop)
@@ -56,7 +54,7 @@ passed : (c : tie.Else2 Inv-loop μ-loop)
 passed c =
     let b = c .before .before .before .before .before .before .before in
     goes-on (b .before .before .args .s .now) (b .loop .i) (c .before .before .lead-length .result) (b .loop .inv) (omega arith)
-    (c .before .before .lead-length .ensures .0) (sym (not-false _ (c .if2 .left)) ∙ c .before .is-formed .ensures)
+    (c .before .before .lead-length .ensures .0) (c .before .is-formed .result) (c .if2 .left) (c .before .is-formed .ensures)
 
 add-i-2 : tie.Need-add-i-2 Inv-loop μ-loop
 add-i-2 c = let p = passed c in omega arith
