@@ -1,7 +1,7 @@
 -- Little-endian numbers there and back, once over the width. Assumes nothing.
 use mathlib.Core.Path.{_≡_, refl, sym, ap}
 use mathlib.Core.Bool.{Bool, true, false, _&&_}
-use mathlib.Core.List.{List, [], _∷_}
+use mathlib.Core.List.{List, [], _∷_, _++_}
 use Prim.Native.Nat.{ℕ, zero, suc, _+_, _*_, _/_, _%_, _^_, _<_}
 use native.Mathlib.Nat.{pow-suc, pow-succ', mod-one}
 use native.Mathlib.Omega.{arith}
@@ -81,3 +81,26 @@ pub le-below : (bs : List ℕ) → Each Byte bs → le bs < 256 ^ length bs
 unfolding le
 le-below [] h = omega arith
 le-below (x ∷ xs) h = rw pow-succ' (omega (arith, le-below xs (h .1), h .0))
+
+-- ---- lists of bytes that are put together and cut
+
+each-append : (s t : List ℕ) → Each Byte s → Each Byte t → Each Byte (s ++ t)
+each-append [] t h k = k
+each-append (x ∷ s) t h k = (h .0, each-append s t (h .1) k)
+
+pub bytes-append : (s t : List ℕ) → T (isBytes s) → T (isBytes t) → T (isBytes (s ++ t))
+bytes-append s t h k = each-bytes (s ++ t) (each-append s t (bytes-each s h) (bytes-each t k))
+
+pub bytes-take : (n : ℕ) (s : List ℕ) → T (isBytes s) → T (isBytes (take n s))
+bytes-take n s h = each-bytes (take n s) (each-take n s (bytes-each s h))
+
+pub bytes-drop : (n : ℕ) (s : List ℕ) → T (isBytes s) → T (isBytes (drop n s))
+bytes-drop n s h = each-bytes (drop n s) (each-drop n s (bytes-each s h))
+
+each-number : (n v : ℕ) → Each Byte (bytesOf n v)
+unfolding bytesOf
+each-number zero v = tt
+each-number (suc n) v = (omega arith, each-number n (v / 256))
+
+pub bytes-number : (n v : ℕ) → T (isBytes (bytesOf n v))
+bytes-number n v = each-bytes (bytesOf n v) (each-number n v)

@@ -6,3 +6,7 @@ pub mod Canon
 pub mod SoundChange
 pub mod Sound
 pub mod Sizes
+pub mod Grow
+pub mod Runs
+pub mod Written
+pub mod Points

@@ -182,6 +182,10 @@ body-back version f r t =
     let e : fields version (bodyBytes f) ≡ ok (shown f) [] = rw append-nil at (fields-back version f [] r t) in
     rw e
 
+-- the length that stands in front of a body
+pub size-back : {version : ℕ} {f : Frame} → Writable version f → le (bytesOf 4 (length (bodyBytes f))) ≡ length (bodyBytes f)
+size-back {f = f} w = le-bytes 4 (length (bodyBytes f)) ∙ mod-eq-of-lt (omega (arith, w .short))
+
 pub decode-encode : (version : ℕ) (f : Frame) (rest : List ℕ) → Writable version f → decode version (encode f ++ rest) ≡ got (shown f) (length (encode f))
 unfolding decode encode
 decode-encode version f rest w =
@@ -189,9 +193,8 @@ decode-encode version f rest w =
     let four = length-bytes 4 n in
     let all : length (bytesOf 4 n ++ (bodyBytes f ++ rest)) ≡ 4 + (n + length rest) =
     length-append (bytesOf 4 n) (bodyBytes f ++ rest) ∙ omega (arith, length-append (bodyBytes f) rest) in
-    let value : le (bytesOf 4 n) ≡ n = le-bytes 4 n ∙ mod-eq-of-lt (omega (arith, w .short)) in
     let whole : List ℕ = bytesOf 4 n ++ (bodyBytes f ++ rest) in
-    rw (append-assoc, take-at (bytesOf 4 n) (bodyBytes f ++ rest) 4 four, drop-at (bytesOf 4 n) (bodyBytes f ++ rest) 4 four, value)
+    rw (append-assoc, take-at (bytesOf 4 n) (bodyBytes f ++ rest) 4 four, drop-at (bytesOf 4 n) (bodyBytes f ++ rest) 4 four, size-back w)
     (rw (le-ltb (length whole) 4 (omega arith), le-ltb maxBody n (w .short), le-ltb (length whole - 4) n (omega arith), take-at (bodyBytes f) rest n refl, body-back version f (w .ranged) (w .texts), length-append (bytesOf 4 n) (bodyBytes f), four))
 
 -- the same where the frame is all that there is

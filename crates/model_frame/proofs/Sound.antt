@@ -237,12 +237,12 @@ pub record Taking (version : ℕ) (w : List ℕ) (f : Frame) (used : ℕ) : Type
   pub counted : used ≡ 4 + le (take 4 w)
   pub whole : body version (take (le (take 4 w)) (drop 4 w)) ≡ ok f []
 
-more-got : {f : Frame} {n : ℕ} → more ≡ got f n → ⊥
+pub more-got : {f : Frame} {n : ℕ} → more ≡ got f n → ⊥
 more-got e =
     let z : _≡_ {A = ℕ} 0 1 = cc in
     omega arith
 
-faulty-got : {x : Fault} {f : Frame} {n : ℕ} → faulty x ≡ got f n → ⊥
+pub faulty-got : {x : Fault} {f : Frame} {n : ℕ} → faulty x ≡ got f n → ⊥
 faulty-got e =
     let z : _≡_ {A = ℕ} 0 1 = cc in
     omega arith
