@@ -1,5 +1,5 @@
 pub mod Little
 pub mod Places
 pub mod Runs
-pub mod Stands
+pub mod StandsAt
 pub mod Writes

@@ -11,6 +11,6 @@ pub record Wrote (before : List ℕ) (at : ℕ) (bs : List ℕ) (after : List �
   pub past : next ≡ at + length bs
 
 -- the n bytes at a position are these
-pub record Stands (b : List ℕ) (at n : ℕ) (bs : List ℕ) : Type 0 where
+pub record StandsAt (b : List ℕ) (at n : ℕ) (bs : List ℕ) : Type 0 where
   pub same : take n (drop at b) ≡ bs
   pub size : n ≡ length bs

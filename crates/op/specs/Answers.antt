@@ -7,7 +7,7 @@ use Rattle.model_frame.specs.Frame.{Change, setIncoming, setIncomingInFlight, s
 use Rattle.model_frame.specs.Parse.{Res, ok, bad, Parser, many, collect, runBytes}
 use Rattle.model_frame.specs.Reading.{readChange}
 use Rattle.model_frame.specs.Writing.{changeBytes}
-use Rattle.laws.specs.Wrote.{Stands}
+use Rattle.laws.specs.Wrote.{StandsAt}
 use Rattle.scan.specs.Answers.{faultOf, spanOf}
 use Rattle.op.specs.declared.Op
 use Rattle.op.specs.declared.Op.{Op}
@@ -52,7 +52,7 @@ resRun p b (RunAt.Bad e) = bad (faultOf e)
 abbrev pub OpsLen : ℕ → List ℕ → Run → RunLen → Type 0
 OpsLen version b r (RunLen.Bytes n) =
     (many (r .count) (readChange version) (drop (r .at) b) ≡ ok (runOf (readChange version) b r) (drop (r .at + n) b))
-    × Stands b (r .at) n (runBytes changeBytes (runOf (readChange version) b r))
+    × StandsAt b (r .at) n (runBytes changeBytes (runOf (readChange version) b r))
 OpsLen version b r (RunLen.Bad e) = many (r .count) (readChange version) (drop (r .at) b) ≡ bad (faultOf e)
 
 -- the changes read one after the other until the bytes end or one can't be read: each takes a byte at least

@@ -6,7 +6,7 @@ ghost use lib.ListN.{length, take, drop};
 ghost use Rattle.model_frame.specs.Bytes.{bytesOf};
 ghost use Rattle.model_frame.specs.Parse.{many, forget, runBytes};
 ghost use Rattle.model_frame.specs.Writing.{blobBytes, changeBytes, sizeOf, sizes};
-ghost use Rattle.laws.specs.Wrote.{Wrote, Stands};
+ghost use Rattle.laws.specs.Wrote.{Wrote, StandsAt};
 ghost use Rattle.model_frame.specs.Reading.{setIncomingFields, setIncomingInFlightFields, setInFlightFields, recordMsgFields, recordBareFields, setCreatedAtFields, setMarksFields, readChange, changes};
 ghost use Rattle.op.specs.Answers.{runOf, opOf, resOp, resEnd, resRun, OpsLen, heldRun};
 use scan::Byte;
@@ -290,7 +290,7 @@ pub fn put_op(src: &[u8], o: Op, out: &mut [u8], at: usize) -> usize
 
 // The changes of a run of n bytes, which are copied as they stand.
 pub fn put_ops(p: Protocol, src: &[u8], run: Run, n: usize, out: &mut [u8], at: usize) -> usize
-    requires { ⌜ Stands (now src) (run .at) n (runBytes changeBytes (runOf (readChange (p .version)) (now src) run)) ⌝ }
+    requires { ⌜ StandsAt (now src) (run .at) n (runBytes changeBytes (runOf (readChange (p .version)) (now src) run)) ⌝ }
     requires { ⌜ at + n ≤ length (now out) ⌝ }
     ensures { λ r. ⌜ Wrote (now (out .entry)) at (runBytes changeBytes (runOf (readChange (p .version)) (now (src .entry)) run)) (now (out .exit)) r ⌝ }
     ensures { λ r. ⌜ r ≡ at + n ⌝ }

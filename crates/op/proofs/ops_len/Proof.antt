@@ -13,7 +13,7 @@ use Rattle.model_frame.specs.Writing.{changeBytes}
 use Rattle.model_frame.proofs.Le.{are-bytes}
 use Rattle.model_frame.proofs.SoundChange.{TakenChange, change-canon}
 use Rattle.laws.proofs.Runs.{run-fault}
-use Rattle.laws.proofs.Stands.{run-stands, run-past, run-forward}
+use Rattle.laws.proofs.StandsAt.{run-stands, run-past, run-forward}
 use Rattle.op.specs.Answers.{resEnd}
 use Rattle.op.proofs.ops_len.Statement.{statement}
 use Rattle.op.proofs.ops_len.Tie as tie

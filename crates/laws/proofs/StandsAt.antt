@@ -10,7 +10,7 @@ use Rattle.model_frame.specs.Bytes.{isBytes}
 use Rattle.model_frame.specs.Parse.{Parser, ok, forget, many, collect, runBytes, Each}
 use Rattle.model_frame.proofs.Le.{bytes-each, each-drop}
 use Rattle.model_frame.proofs.Canon.{Was, Canon, run-canon, Run}
-use Rattle.laws.specs.Wrote.{Stands}
+use Rattle.laws.specs.Wrote.{StandsAt}
 use Rattle.laws.proofs.Runs.{run-items}
 
 module _ {A : Type 0} (p : Parser A) (f : A → List ℕ) (U : A → Type 0) (canon : Canon [] p f U) (n : ℕ) (b : List ℕ) (at d : ℕ) (known : T (isBytes b)) (e : ok tt (drop d b) ≡ forget (many n p (drop at b))) where
@@ -32,7 +32,7 @@ module _ {A : Type 0} (p : Parser A) (f : A → List ℕ) (U : A → Type 0) (ca
   size : length b - at ≡ length (runBytes f (collect n p (drop at b))) + (length b - d)
   size = sym (length-drop at b) ∙ ap length split ∙ length-append (runBytes f (collect n p (drop at b))) (drop d b) ∙ ap (λ (k : ℕ). length (runBytes f (collect n p (drop at b))) + k) (length-drop d b)
 
-  pub run-stands : {i j : ℕ} → i ≡ length b - at → j ≡ length b - d → Stands b at (i - j) (runBytes f (collect n p (drop at b)))
+  pub run-stands : {i j : ℕ} → i ≡ length b - at → j ≡ length b - d → StandsAt b at (i - j) (runBytes f (collect n p (drop at b)))
   run-stands {i} {j} ei ej =
       let k : i - j ≡ length (runBytes f (collect n p (drop at b))) = omega (arith, size) in
       record {
