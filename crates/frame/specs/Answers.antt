@@ -1,6 +1,8 @@
 -- What the code's frames stand for, over the buffer b that they were read from: spans and runs as the bytes and items that they mark. Assumes nothing.
 use Prim.Native.Nat.{ℕ}
+use mathlib.Core.Bool.{Bool, true, _&&_}
 use mathlib.Core.List.{List}
+use mathlib.Core.Option.{Option}
 use lib.ListN.{take, drop}
 use Rattle.model_frame.specs.Frame as the-frame
 use Rattle.model_frame.specs.Frame.{hello, welcome, bind, batch, ack, nack, bound, checked, more, faulty, got}
@@ -9,6 +11,7 @@ use Rattle.model_frame.specs.Reading.{readChange, appRecord}
 use Rattle.scan.specs.Answers.{faultOf, spanOf}
 use Rattle.op.specs.Answers.{runOf}
 use Rattle.parts.specs.Answers.{partOf, reasonOf, keyOf, summaryOf}
+use Rattle.print.specs.Encoding.{spanFits, runReads, keyFits, summaryFits, given}
 use Rattle.frame.specs.declared.Batch.{Batch}
 use Rattle.frame.specs.declared.Frame
 use Rattle.frame.specs.declared.Frame.{Frame}
@@ -40,3 +43,18 @@ abbrev pub readingOf : ℕ → List ℕ → Decoded → the-frame.Decoded
 readingOf version b (Decoded.Whole f n) = got (frameOf version (take n b) f) n
 readingOf version b Decoded.More = more
 readingOf version b (Decoded.Bad e) = faulty (faultOf e)
+
+-- ---- writing: what a frame's spans and runs stand for in a source slice, where they lie in it and can be read
+
+abbrev pub readable : ℕ → List ℕ → Frame → Bool
+readable version src (Frame.Hello v e node ks) = spanFits src node && runReads (num 2) src ks
+readable version src (Frame.Welcome e i) = true
+readable version src (Frame.Bind h e lag k) = keyFits src k
+readable version src (Frame.Bound h m) = summaryFits src m
+readable version src (Frame.Batch x) = runReads (readChange version) src (x .ops) && runReads appRecord src (x .«app_records»)
+readable version src (Frame.Ack h n) = true
+readable version src (Frame.Nack h r) = true
+readable version src (Frame.Checked h e i) = true
+
+abbrev pub frameIn : ℕ → List ℕ → Frame → Option the-frame.Frame
+frameIn version src f = given (readable version src f) (frameOf version src f)

@@ -2,8 +2,9 @@
 ghost use mathlib.Core.Path.{_≡_};
 ghost use Prim.Native.Nat.{ℕ, _+_, _≤_};
 ghost use lib.ListN.{length, take, drop};
-ghost use Rattle.model_frame.specs.Reading.{helloFields, welcomeFields, bindFields, batchFields, ackFields, nackFields, boundFields, checkedFields, fields, body, decode};
-ghost use Rattle.frame.specs.Answers.{resFrame, readingOf};
+ghost use Rattle.model_frame.specs.Reading.{helloFields, welcomeFields, bindFields, batchFields, ackFields, nackFields, boundFields, checkedFields, maxBody, fields, body, decode};
+ghost use Rattle.frame.specs.Answers.{resFrame, readingOf, frameIn};
+ghost use Rattle.print.specs.Encoding.{Encoded};
 pub use op::Op;
 pub use op::Run;
 use op::RunAt;
@@ -17,6 +18,7 @@ use parts::SessionAt;
 pub use parts::SessionId;
 pub use parts::Summary;
 use parts::SummaryAt;
+pub use print::Written;
 use scan::Byte;
 use scan::Cursor;
 pub use scan::Field;
@@ -332,4 +334,71 @@ impl Frame {
             FrameAt::Got(f, _) => Decoded::Whole(f, 4 + len),
         }
     }
+
+    // The frame's bytes at the area's start: its texts, changes and records are taken from the source.
+    pub fn encode(self, p: Protocol, src: &[u8], out: &mut [u8]) -> Written
+        ensures { λ r. ⌜ Encoded (p .version) (frameIn (p .version) (now (src .entry)) self) (now (out .entry)) (now (out .exit)) r ⌝ }
+    {
+        match self {
+            Frame::Hello {
+                version,
+                epoch,
+                node,
+                app_record_kinds,
+            } => {
+                encode::hello(
+                    Self::LIMIT,
+                    src,
+                    version,
+                    epoch.0,
+                    node,
+                    app_record_kinds,
+                    out,
+                )
+            }
+            Frame::Welcome { epoch, incarnation } => {
+                encode::welcome(Self::LIMIT, epoch.0, incarnation.0, out)
+            }
+            Frame::Bind {
+                handle,
+                epoch,
+                max_lag,
+                session,
+            } => { encode::bind(Self::LIMIT, src, handle, epoch.0, max_lag, session, out) }
+            Frame::Bound { handle, summary } => {
+                encode::bound(Self::LIMIT, p, src, handle, summary, out)
+            }
+            Frame::Batch(b) => encode_batch(Self::LIMIT, p, src, b, out),
+            Frame::Ack { handle, commit_no } => encode::ack(Self::LIMIT, handle, commit_no.0, out),
+            Frame::Nack { handle, reason } => encode::nack(Self::LIMIT, handle, reason, out),
+            Frame::Checked {
+                handle,
+                epoch,
+                incarnation,
+            } => { encode::checked(Self::LIMIT, handle, epoch.0, incarnation.0, out) }
+        }
+    }
+}
+
+fn encode_batch(limit: u32, p: Protocol, src: &[u8], b: Batch, out: &mut [u8]) -> Written
+    requires { ⌜ limit ≡ maxBody ⌝ }
+    ensures { λ r. ⌜ Encoded (p .version) (frameIn (p .version) (now (src .entry)) (Frame.Batch b)) (now (out .entry)) (now (out .exit)) r ⌝ }
+{
+    let epoch = b.epoch;
+    let commit_no = b.commit_no;
+    let part = b.part;
+    let ops = b.ops;
+    let app_records = b.app_records;
+    encode::batch(
+        limit,
+        p,
+        src,
+        b.handle,
+        epoch.0,
+        commit_no.0,
+        part,
+        ops,
+        app_records,
+        out,
+    )
 }

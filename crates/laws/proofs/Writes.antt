@@ -1,12 +1,12 @@
 -- One writer after another. Assumes nothing.
-use mathlib.Core.Path.{_≡_, refl, sym, ap, subst, _∙_}
+use mathlib.Core.Path.{_≡_, refl, sym, ap, _∙_}
 use mathlib.Core.List.{List, [], _++_}
-use Prim.Native.Nat.{ℕ, _+_, _≤_}
+use Prim.Native.Nat.{ℕ, _+_, _/_, _%_, _^_, _≤_}
 use native.Mathlib.Omega.{arith}
 use lib.ListN.{length, length-append}
 use Rattle.model_frame.specs.Bytes.{bytesOf, write}
 use Rattle.model_frame.proofs.Le.{length-bytes}
-use Rattle.laws.proofs.Little.{write-then, write-append, write-none, length-write}
+use Rattle.laws.proofs.Little.{put-join, write-then, write-append, write-none, length-write}
 use Rattle.laws.specs.Wrote.{Wrote}
 
 pub wrote-then : {l xs l₁ ys l₂ : List ℕ} {at n k r : ℕ} → Wrote l at xs l₁ k → Wrote l₁ (at + n) ys l₂ r → length xs ≡ n → Wrote l at (xs ++ ys) l₂ r
@@ -15,9 +15,19 @@ wrote-then {l} {xs} {l₁} {ys} {l₂} {at} w v e = record {
   past = omega (arith, v .past, length-append xs ys);
 }
 
--- the same where the second begins at the position that the first gave
+-- the second where the first ended
 pub wrote-on : {l xs l₁ ys l₂ : List ℕ} {at k r : ℕ} → Wrote l at xs l₁ k → Wrote l₁ k ys l₂ r → Wrote l at (xs ++ ys) l₂ r
-wrote-on {l} {xs} {l₁} {ys} {l₂} {at} {k} {r} w v = wrote-then w (subst (λ (p : ℕ). Wrote l₁ p ys l₂ r) (w .past) v) refl
+wrote-on {l} {xs} {l₁} {ys} {l₂} {at} w v = record {
+  bytes = rw (v .bytes, w .bytes, w .past) (sym (write-append l xs ys at));
+  past = omega (arith, w .past, v .past, length-append xs ys);
+}
+
+-- the low and the high part of a number
+pub wrote-join : (m n v : ℕ) {l l₁ l₂ : List ℕ} {at k r : ℕ} → Wrote l at (bytesOf m (v % 256 ^ m)) l₁ k → Wrote l₁ (at + m) (bytesOf n (v / 256 ^ m)) l₂ r → Wrote l at (bytesOf (m + n) v) l₂ r
+wrote-join m n v {l} {l₁} {l₂} {at} w u = record {
+  bytes = rw (u .bytes, w .bytes) (put-join m n l at v);
+  past = omega (arith, u .past, length-bytes n (v / 256 ^ m), length-bytes (m + n) v);
+}
 
 -- a number at a position, and the position past it
 pub wrote-number : {l l₁ : List ℕ} (at n v : ℕ) → l₁ ≡ write l at (bytesOf n v) → Wrote l at (bytesOf n v) l₁ (at + n)

@@ -31,7 +31,7 @@ changes-canon : (version : ℕ) → Canon [] (changes version) (λ cs. bytesOf 4
 unfolding changes
 changes-canon version = counted-canon 1 (change-canon version)
 
-record-canon : Canon [] appRecord appRecordBytes (λ r. RangedRecord r × ByteRecord r)
+pub record-canon : Canon [] appRecord appRecordBytes (λ r. RangedRecord r × ByteRecord r)
 unfolding appRecord appRecordBytes
 record-canon = canon-then (num-canon 2) (λ k h. canon-then blob-canon (λ bs w. canon-done refl ((h, w .0), w .1)))
 

@@ -1,10 +1,13 @@
 -- What the code's answers stand for, over the buffer b that was read: spans and runs as the bytes and items that they mark. Assumes nothing.
-use Prim.Native.Nat.{ℕ}
+use Prim.Native.Nat.{ℕ, _+_}
+use mathlib.Core.Path.{_≡_}
 use mathlib.Core.List.{List}
 use lib.ListN.{length, drop}
 use Rattle.model_frame.specs.Frame.{Change, setIncoming, setIncomingInFlight, setInFlight, recordMsg, recordBare, reset, setCreatedAt, setMarks}
-use Rattle.model_frame.specs.Parse.{Res, ok, bad, Parser, collect}
+use Rattle.model_frame.specs.Parse.{Res, ok, bad, Parser, many, collect, runBytes}
 use Rattle.model_frame.specs.Reading.{readChange}
+use Rattle.model_frame.specs.Writing.{changeBytes}
+use Rattle.laws.specs.Wrote.{StandsAt}
 use Rattle.scan.specs.Answers.{faultOf, spanOf}
 use Rattle.op.specs.declared.Op
 use Rattle.op.specs.declared.Op.{Op}
@@ -15,6 +18,8 @@ use Rattle.op.specs.declared.End.{End}
 use Rattle.op.specs.declared.Run.{Run}
 use Rattle.op.specs.declared.RunAt
 use Rattle.op.specs.declared.RunAt.{RunAt}
+use Rattle.op.specs.declared.RunLen
+use Rattle.op.specs.declared.RunLen.{RunLen}
 
 abbrev pub opOf : List ℕ → Op → Change
 opOf b (Op.SetNextIncoming n) = setIncoming n
@@ -42,6 +47,13 @@ runOf p b r = collect (r .count) p (drop (r .at) b)
 abbrev pub resRun : {A : Type 0} → Parser A → List ℕ → RunAt → Res (List A)
 resRun p b (RunAt.Got r c) = ok (runOf p b r) (drop (c .at) b)
 resRun p b (RunAt.Bad e) = bad (faultOf e)
+
+-- how many bytes a run of changes takes: they are the changes, written; or the fault that reading it meets
+abbrev pub OpsLen : ℕ → List ℕ → Run → RunLen → Type 0
+OpsLen version b r (RunLen.Bytes n) =
+    (many (r .count) (readChange version) (drop (r .at) b) ≡ ok (runOf (readChange version) b r) (drop (r .at + n) b))
+    × StandsAt b (r .at) n (runBytes changeBytes (runOf (readChange version) b r))
+OpsLen version b r (RunLen.Bad e) = many (r .count) (readChange version) (drop (r .at) b) ≡ bad (faultOf e)
 
 -- the changes read one after the other until the bytes end or one can't be read: each takes a byte at least
 unfoldable pub heldRun : ℕ → List ℕ → List Change

@@ -1,9 +1,14 @@
 // A change to a session's stored state: read at a position, walked over, and written.
 ghost use mathlib.Core.Path.{_≡_};
+ghost use mathlib.Core.List.{[], _∷_};
+ghost use Prim.Native.Nat.{_+_, _^_, _≤_, _<_};
 ghost use lib.ListN.{length, take, drop};
-ghost use Rattle.model_frame.specs.Parse.{many, forget};
+ghost use Rattle.model_frame.specs.Bytes.{bytesOf};
+ghost use Rattle.model_frame.specs.Parse.{many, forget, runBytes};
+ghost use Rattle.model_frame.specs.Writing.{blobBytes, changeBytes, sizeOf, sizes};
+ghost use Rattle.laws.specs.Wrote.{Wrote, StandsAt};
 ghost use Rattle.model_frame.specs.Reading.{setIncomingFields, setIncomingInFlightFields, setInFlightFields, recordMsgFields, recordBareFields, setCreatedAtFields, setMarksFields, readChange, changes};
-ghost use Rattle.op.specs.Answers.{resOp, resEnd, resRun};
+ghost use Rattle.op.specs.Answers.{runOf, opOf, resOp, resEnd, resRun, OpsLen, heldRun};
 use scan::Byte;
 use scan::Cursor;
 use scan::Field;
@@ -46,6 +51,12 @@ pub struct Run {
 
 pub enum RunAt {
     Got(Run, Cursor),
+    Bad(FrameError),
+}
+
+// How many bytes a run takes.
+pub enum RunLen {
+    Bytes(usize),
     Bad(FrameError),
 }
 
@@ -168,4 +179,121 @@ pub fn ops_from(p: Protocol, buf: &[u8], c: Cursor) -> RunAt
             RunAt::Got(Run { at, count }, end)
         }
     }
+}
+
+// How many bytes so many changes take.
+pub fn ops_len(p: Protocol, buf: &[u8], run: Run) -> RunLen
+    ensures { λ r. ⌜ OpsLen (p .version) (now (buf .entry)) run r ⌝ }
+{
+    let at = run.at;
+    match ops_end(p, buf, Cursor { at }, run.count) {
+        End::Bad(e) => RunLen::Bad(e),
+        End::At(d) => RunLen::Bytes(scan::left(buf, Cursor { at }) - scan::left(buf, d)),
+    }
+}
+
+// How many bytes the changes take that stand at the front, up to the first that can't be read.
+fn front_len(p: Protocol, buf: &[u8]) -> usize
+    ensures { λ r. ⌜ r ≡ sizes (heldRun (p .version) (now (buf .entry))) ⌝ }
+{
+    let mut d = Cursor { at: 0 };
+    loop {
+        match op_from(p, buf, d) {
+            OpAt::Bad(_) => return buf.len() - scan::left(buf, d),
+            OpAt::Got(_, next) => d = next,
+        }
+    }
+}
+
+// The same of the n bytes at a position: a hold area's changes.
+pub fn held_end(p: Protocol, hold: &[u8], at: usize, n: usize) -> usize
+    ensures { λ r. ⌜ r ≡ sizes (heldRun (p .version) (take n (drop at (now (hold .entry))))) ⌝ }
+{
+    front_len(p, scan::bytes_at(hold, at, n))
+}
+
+// A tag; a tag and a number; a blob.
+pub fn tag(out: &mut [u8], at: usize, k: u8) -> usize
+    requires { ⌜ at + 1 ≤ length (now out) ⌝ }
+    ensures { λ r. ⌜ Wrote (now (out .entry)) at (k ∷ []) (now (out .exit)) r ⌝ }
+    ensures { λ r. ⌜ r ≡ at + 1 ⌝ }
+{
+    out[at] = k;
+    at + 1
+}
+
+pub fn tagged(out: &mut [u8], at: usize, k: u8, n: u64) -> usize
+    requires { ⌜ at + 9 ≤ length (now out) ⌝ }
+    ensures { λ r. ⌜ Wrote (now (out .entry)) at (k ∷ bytesOf 8 n) (now (out .exit)) r ⌝ }
+    ensures { λ r. ⌜ r ≡ at + 9 ⌝ }
+{
+    let next = tag(out, at, k);
+    wire::put_u64(out, next, n)
+}
+
+pub fn blob(s: &[u8], out: &mut [u8], at: usize) -> usize
+    requires { ⌜ at + (4 + length (now s)) ≤ length (now out) ⌝ }
+    requires { ⌜ length (now s) < 2 ^ 32 ⌝ }
+    ensures { λ r. ⌜ Wrote (now (out .entry)) at (blobBytes (now (s .entry))) (now (out .exit)) r ⌝ }
+    ensures { λ r. ⌜ r ≡ at + (4 + length (now (s .entry))) ⌝ }
+{
+    let next = wire::put_u32(out, at, s.len() as u32);
+    wire::copy(s, out, next)
+}
+
+// A change's length in a frame.
+pub fn op_size(src: &[u8], o: Op) -> usize
+    ensures { λ r. ⌜ r ≡ sizeOf (opOf (now (src .entry)) o) ⌝ }
+{
+    match o {
+        Op::SetNextIncoming(_) => 9,
+        Op::SetNextIncomingInFlight {
+            seq: _,
+            in_flight: _,
+        } => 17,
+        Op::SetInFlight(_) => 9,
+        Op::Record(_, msg) => 13 + scan::slice(src, msg).len(),
+        Op::RecordNone(_) => 9,
+        Op::Reset => 1,
+        Op::SetCreatedAt(t) => 5 + scan::slice(src, t).len(),
+        Op::SetMarks(t) => 5 + scan::slice(src, t).len(),
+    }
+}
+
+pub fn put_op(src: &[u8], o: Op, out: &mut [u8], at: usize) -> usize
+    requires { ⌜ at + sizeOf (opOf (now src) o) ≤ length (now out) ⌝ }
+    ensures { λ r. ⌜ Wrote (now (out .entry)) at (changeBytes (opOf (now (src .entry)) o)) (now (out .exit)) r ⌝ }
+{
+    match o {
+        Op::SetNextIncoming(n) => tagged(out, at, 1, n),
+        Op::SetNextIncomingInFlight { seq, in_flight } => {
+            let next = tagged(out, at, 2, seq);
+            wire::put_u64(out, next, in_flight)
+        }
+        Op::SetInFlight(n) => tagged(out, at, 3, n),
+        Op::Record(n, msg) => {
+            let next = tagged(out, at, 4, n);
+            blob(scan::slice(src, msg), out, next)
+        }
+        Op::RecordNone(n) => tagged(out, at, 5, n),
+        Op::Reset => tag(out, at, 6),
+        Op::SetCreatedAt(t) => {
+            let next = tag(out, at, 7);
+            blob(scan::slice(src, t), out, next)
+        }
+        Op::SetMarks(t) => {
+            let next = tag(out, at, 8);
+            blob(scan::slice(src, t), out, next)
+        }
+    }
+}
+
+// The changes of a run of n bytes, which are copied as they stand.
+pub fn put_ops(p: Protocol, src: &[u8], run: Run, n: usize, out: &mut [u8], at: usize) -> usize
+    requires { ⌜ StandsAt (now src) (run .at) n (runBytes changeBytes (runOf (readChange (p .version)) (now src) run)) ⌝ }
+    requires { ⌜ at + n ≤ length (now out) ⌝ }
+    ensures { λ r. ⌜ Wrote (now (out .entry)) at (runBytes changeBytes (runOf (readChange (p .version)) (now (src .entry)) run)) (now (out .exit)) r ⌝ }
+    ensures { λ r. ⌜ r ≡ at + n ⌝ }
+{
+    wire::copy(scan::bytes_at(src, run.at, n), out, at)
 }

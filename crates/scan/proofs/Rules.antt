@@ -31,7 +31,7 @@ module _ (rule : List ℕ → Bool) (f : Fault) where
   unfolding text
   rule-fault s h = rw h
 
-none-or-coded : (version : ℕ) (s : List ℕ) → (isEmpty s || takesStamp version s) ≡ true → utf8 s ≡ true
+pub none-or-coded : (version : ℕ) (s : List ℕ) → (isEmpty s || takesStamp version s) ≡ true → utf8 s ≡ true
 unfolding utf8
 none-or-coded version [] h = refl
 none-or-coded version (x ∷ xs) h = takes-is version (x ∷ xs) h .coded

@@ -32,7 +32,7 @@ returns c =
     let p = s .pre in
     let q = p .1 .1 .1 .1 .1 .1 in
     let b = now (a .bytes) in
-    wrote-frame _ _ _ _ (partIs (a .p .last)) (changesOf (a .limit) (length b) (a .max) (a .h) (now (a .words)) b (now (a .stamp)) (now (a .marks)) (a .from) (a .p)) (q .0 .spans _ _ (p .1 .1 .0) (p .1 .1 .1 .1 .0)) (c .before .before .before .before .before .before .before .before .before .before .put-head .ensures) (c .before .before .before .before .before .before .put-changes .ensures) (c .before .before .put-u32 .ensures)
+    wrote-frame _ _ _ _ (partIs (a .p .last)) (changesOf (a .limit) (length b) (a .max) (a .h) (now (a .words)) b (now (a .stamp)) (now (a .marks)) (a .from) (a .p)) (q .0 .spans _ _ (p .1 .1 .0) (p .1 .1 .1 .1 .0)) (c .before .before .before .before .before .before .before .before .before .before .put-head .ensures) (c .before .before .before .before .before .before .put-changes .ensures) (c .before .before .put-u32 .ensures .0 .bytes)
 
 pub put-frame-spec : {M : Type 1} → statement M
 put-frame-spec =

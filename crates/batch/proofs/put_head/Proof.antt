@@ -5,7 +5,7 @@ use Rattle.batch.proofs.put_head.Statement.{statement}
 use Rattle.batch.proofs.put_head.Tie as tie
 
 returns : tie.Need-returns
-returns c = rw (← (c .before .before .before .before .before .before .before .part-byte .ensures)) (wrote-head _ _ _ _ _ _ _ (c .before .before .before .before .before .before .before .before .before .before .before .before .before .before .before .before .before .before .before .before .before .before .before .before .before .before .before .put-u32 .ensures) (c .before .before .before .before .before .before .before .before .before .before .before .before .before .before .before .before .before .before .before .before .before .before .before .put-u8 .ensures) (c .before .before .before .before .before .before .before .before .before .before .before .before .before .before .before .before .before .before .before .put-u322 .ensures) (c .before .before .before .before .before .before .before .before .before .before .before .before .before .before .before .put-u64 .ensures) (c .before .before .before .before .before .before .before .before .before .before .before .put-u642 .ensures) (c .before .before .before .before .before .before .put-u82 .ensures) (c .before .before .put-u323 .ensures))
+returns c = rw (← (c .before .before .before .before .before .before .before .part-byte .ensures)) (wrote-head _ _ _ _ _ _ _ (c .before .before .before .before .before .before .before .before .before .before .before .before .before .before .before .before .before .before .before .before .before .before .before .before .before .before .before .put-u32 .ensures .0 .bytes) (c .before .before .before .before .before .before .before .before .before .before .before .before .before .before .before .before .before .before .before .before .before .before .before .put-u8 .ensures .0 .bytes) (c .before .before .before .before .before .before .before .before .before .before .before .before .before .before .before .before .before .before .before .put-u322 .ensures .0 .bytes) (c .before .before .before .before .before .before .before .before .before .before .before .before .before .before .before .put-u64 .ensures .0 .bytes) (c .before .before .before .before .before .before .before .before .before .before .before .put-u642 .ensures .0 .bytes) (c .before .before .before .before .before .before .put-u82 .ensures .0 .bytes) (c .before .before .put-u323 .ensures .0 .bytes))
 
 pub put-head-spec : {M : Type 1} → statement M
 put-head-spec =

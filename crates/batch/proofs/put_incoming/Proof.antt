@@ -19,7 +19,7 @@ unfolding changeBytes
 returns c = rw (c .before .before .before .before .enum-told .given .1) (c .before .before .put-number .ensures)
 
 returns-2 : tie.Need-returns-2
-returns-2 c = rw (c .before .before .before .before .before .before .before .before .before .in-flight .given .1) (wrote-flight _ _ _ (c .before .before .before .before .before .before .put-number2 .ensures) (c .before .before .put-u64 .ensures))
+returns-2 c = rw (c .before .before .before .before .before .before .before .before .before .in-flight .given .1) (wrote-flight _ _ _ (c .before .before .before .before .before .before .put-number2 .ensures) (c .before .before .put-u64 .ensures .0 .bytes))
 
 pub put-incoming-spec : {M : Type 1} → statement M
 put-incoming-spec =

@@ -1,13 +1,13 @@
 use borrow.Author.Needs.{needs}
-use denote.Ref.{now}
-use Rattle.laws.proofs.Little.{put-join}
+use native.Mathlib.Omega.{arith}
+use Rattle.laws.proofs.Writes.{wrote-join}
 use Rattle.wire.proofs.put_u16.Statement.{statement}
 use Rattle.wire.proofs.put_u16.Tie as tie
 
 returns : tie.Need-returns
 returns c =
-    let a = c .before .before .before .before .before .before .before .before .before .args in
-    cc (put-join 1 1 (now (a .out)) (a .at) (a .v))
+    let b = c .before .before in
+    (wrote-join 1 1 _ (b .before .before .before .before .put-u8 .ensures .0) (b .put-u82 .ensures .0), omega (arith, b .put-u82 .ensures .1))
 
 pub put-u16-spec : {M : Type 1} → statement M
 put-u16-spec =

@@ -1,13 +1,13 @@
 use borrow.Author.Needs.{needs}
-use denote.Ref.{now}
-use Rattle.laws.proofs.Little.{put-join}
+use native.Mathlib.Omega.{arith}
+use Rattle.laws.proofs.Writes.{wrote-join}
 use Rattle.wire.proofs.put_u32.Statement.{statement}
 use Rattle.wire.proofs.put_u32.Tie as tie
 
 returns : tie.Need-returns
 returns c =
-    let a = c .before .before .before .before .before .before .before .before .before .args in
-    cc (put-join 2 2 (now (a .out)) (a .at) (a .v))
+    let b = c .before .before in
+    (wrote-join 2 2 _ (b .before .before .before .before .put-u16 .ensures .0) (b .put-u162 .ensures .0), omega (arith, b .put-u162 .ensures .1))
 
 pub put-u32-spec : {M : Type 1} → statement M
 put-u32-spec =

@@ -1,13 +1,13 @@
 use borrow.Author.Needs.{needs}
-use denote.Ref.{now}
-use Rattle.laws.proofs.Little.{put-join}
+use native.Mathlib.Omega.{arith}
+use Rattle.laws.proofs.Writes.{wrote-join}
 use Rattle.wire.proofs.put_u64.Statement.{statement}
 use Rattle.wire.proofs.put_u64.Tie as tie
 
 returns : tie.Need-returns
 returns c =
-    let a = c .before .before .before .before .before .before .before .before .before .args in
-    cc (put-join 4 4 (now (a .out)) (a .at) (a .v))
+    let b = c .before .before in
+    (wrote-join 4 4 _ (b .before .before .before .before .put-u32 .ensures .0) (b .put-u322 .ensures .0), omega (arith, b .put-u322 .ensures .1))
 
 pub put-u64-spec : {M : Type 1} → statement M
 put-u64-spec =

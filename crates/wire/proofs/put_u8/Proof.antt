@@ -1,12 +1,15 @@
 use borrow.Author.Needs.{needs}
-use mathlib.Core.Path.{refl}
+use mathlib.Core.Path.{refl, sym}
 use denote.Ref.{now}
 use Rattle.laws.proofs.Little.{put-one}
+use Rattle.model_frame.proofs.Le.{length-bytes}
 use Rattle.wire.proofs.put_u8.Statement.{statement}
 use Rattle.wire.proofs.put_u8.Tie as tie
 
 returns : tie.Need-returns
-returns c = rw (put-one (now (c .args .out)) (c .args .at) (c .args .v) (search needs)) refl
+returns c =
+    let a = c .args in
+    (record { bytes = sym (put-one (now (a .out)) (a .at) (a .v) (search needs)); past = rw length-bytes refl }, refl)
 
 pub put-u8-spec : {M : Type 1} → statement M
-put-u8-spec = tie.close (tie.spec (λ c. search needs) (λ c. search needs) returns)
+put-u8-spec = tie.close (tie.spec (λ c. search needs) (λ c. search needs) (λ c. search needs) returns)

@@ -4,7 +4,7 @@ use Rattle.whole.proofs.put.put_text.Statement.{statement}
 use Rattle.whole.proofs.put.put_text.Tie as tie
 
 returns : tie.Need-returns
-returns c = wrote-text _ _ _ (c .before .before .before .before .before .before .before .before .before .before .put-byte .ensures) (c .before .before .before .before .before .before .put-u32 .ensures) (c .before .before .copy .ensures)
+returns c = wrote-text _ _ _ (c .before .before .before .before .before .before .before .before .before .before .put-byte .ensures) (c .before .before .before .before .before .before .put-u32 .ensures .0 .bytes) (c .before .before .copy .ensures)
 
 pub put-text-spec : {M : Type 1} → statement M
 put-text-spec =

@@ -1,0 +1,190 @@
+// Writing frames, kind by kind: whether every field can be written, whether there is room, then the bytes.
+ghost use mathlib.Core.Path.{_≡_};
+ghost use mathlib.Core.Bool.{true, _&&_};
+ghost use mathlib.Core.List.{_∷_, _++_};
+ghost use Prim.Native.Nat.{ℕ, _+_, _*_, _^_, _≤_, _<_};
+ghost use lib.ListN.{length};
+ghost use Rattle.model_frame.specs.Bytes.{bytesOf};
+ghost use Rattle.model_frame.specs.Frame.{hello, welcome, bind, batch, ack, nack, bound, checked};
+ghost use Rattle.model_frame.specs.Parse.{num};
+ghost use Rattle.model_frame.specs.Reading.{readChange, appRecord, maxBody};
+ghost use Rattle.model_frame.specs.Writing.{blobBytes, keyBytes, summaryBytes, partNumber, reasonNumber, flightNumber, fineKey, fineSummary};
+ghost use Rattle.laws.specs.Wrote.{Wrote};
+ghost use Rattle.scan.specs.Answers.{spanOf};
+ghost use Rattle.op.specs.Answers.{runOf};
+ghost use Rattle.parts.specs.Answers.{partOf, reasonOf, flightOf, keyOf, summaryOf};
+ghost use Rattle.print.specs.Encoding.{spanFits, runReads, keyFits, summaryFits, RecordsLen, keySize, summarySize, given, Encoded, Started};
+use op::End;
+use op::Run;
+use op::RunLen;
+use parts::InFlight;
+use parts::NackReason;
+use parts::Part;
+use parts::SessionId;
+use parts::Summary;
+use scan::Cursor;
+use scan::Span;
+use stamp::Protocol;
+
+// How many bytes were written, or why none was: a field that reading would refuse, a body too long, an area too short.
+pub enum Written {
+    Took(usize),
+    Unreadable,
+    TooLong,
+    NoRoom,
+}
+
+pub enum Start {
+    At(usize),
+    TooLong,
+    NoRoom,
+}
+
+// Whether a part lies in the source.
+pub fn within(src: &[u8], p: Span) -> bool
+    ensures { λ r. ⌜ r ≡ spanFits (now (src .entry)) p ⌝ }
+{
+    let at = p.at;
+    if src.len() < at {
+        return false;
+    }
+    (p.len as usize) <= src.len() - at
+}
+
+// Whether so many kinds can be read.
+pub fn kinds_fit(src: &[u8], run: Run) -> bool
+    ensures { λ r. ⌜ r ≡ runReads (num 2) (now (src .entry)) run ⌝ }
+{
+    let at = run.at;
+    (run.count as usize) * 2 <= scan::left(src, Cursor { at })
+}
+
+pub fn session_fits(src: &[u8], k: SessionId) -> bool
+    ensures { λ r. ⌜ r ≡ (keyFits (now (src .entry)) k && fineKey (keyOf (now (src .entry)) k)) ⌝ }
+{
+    let begin = k.begin_string;
+    let sender = k.sender_comp_id;
+    let target = k.target_comp_id;
+    let suffix = k.key_suffix;
+    let fits = within(src, begin) & within(src, sender) & within(src, target) & within(src, suffix);
+    fits
+        & stamp::is_key(
+            scan::slice(src, begin),
+            scan::slice(src, sender),
+            scan::slice(src, target),
+            scan::slice(src, suffix),
+        )
+}
+
+pub fn summary_fits(p: Protocol, src: &[u8], m: Summary) -> bool
+    ensures { λ r. ⌜ r ≡ (summaryFits (now (src .entry)) m && fineSummary (p .version) (summaryOf (now (src .entry)) m)) ⌝ }
+{
+    let created_at = m.created_at;
+    let marks = m.marks;
+    let fits = within(src, created_at) & within(src, marks);
+    let dated = scan::is_stamp_or_none(p, scan::slice(src, created_at));
+    fits & (dated & stamp::is_marks(scan::slice(src, marks)))
+}
+
+// How many bytes so many application records take.
+pub fn records_len(src: &[u8], run: Run) -> RunLen
+    ensures { λ r. ⌜ RecordsLen (now (src .entry)) run r ⌝ }
+{
+    let at = run.at;
+    match parts::app_records_end(src, Cursor { at }, run.count) {
+        End::Bad(e) => RunLen::Bad(e),
+        End::At(d) => RunLen::Bytes(scan::left(src, Cursor { at }) - scan::left(src, d)),
+    }
+}
+
+// The length of a body, if the body is short enough and the area has room for both.
+pub fn begin(out: &mut [u8], limit: u32, n: usize) -> Start
+    requires { ⌜ limit ≡ maxBody ⌝ }
+    ensures { λ r. ⌜ Started n (now (out .entry)) (now (out .exit)) r ⌝ }
+{
+    if (limit as usize) < n {
+        return Start::TooLong;
+    }
+    if out.len() < 4 + n {
+        return Start::NoRoom;
+    }
+    Start::At(wire::put_u32(out, 0, n as u32))
+}
+
+// A part of the source as a blob.
+pub fn put_span(src: &[u8], p: Span, out: &mut [u8], at: usize) -> usize
+    requires { ⌜ at + (4 + length (spanOf (now src) p)) ≤ length (now out) ⌝ }
+    ensures { λ r. ⌜ Wrote (now (out .entry)) at (blobBytes (spanOf (now (src .entry)) p)) (now (out .exit)) r ⌝ }
+    ensures { λ r. ⌜ r ≡ at + (4 + length (spanOf (now (src .entry)) p)) ⌝ }
+{
+    op::blob(scan::slice(src, p), out, at)
+}
+
+pub fn put_session(src: &[u8], k: SessionId, out: &mut [u8], at: usize) -> usize
+    requires { ⌜ at + keySize (keyOf (now src) k) ≤ length (now out) ⌝ }
+    ensures { λ r. ⌜ Wrote (now (out .entry)) at (keyBytes (keyOf (now (src .entry)) k)) (now (out .exit)) r ⌝ }
+{
+    let begin = k.begin_string;
+    let sender = k.sender_comp_id;
+    let target = k.target_comp_id;
+    let suffix = k.key_suffix;
+    let at = put_span(src, begin, out, at);
+    let at = put_span(src, sender, out, at);
+    let at = put_span(src, target, out, at);
+    put_span(src, suffix, out, at)
+}
+
+fn flight_number(f: InFlight) -> u64
+    ensures { λ r. ⌜ r ≡ flightNumber (flightOf f) ⌝ }
+{
+    match f {
+        InFlight::Seq(n) => n,
+        InFlight::Nothing => 0,
+    }
+}
+
+pub fn put_summary(src: &[u8], m: Summary, out: &mut [u8], at: usize) -> usize
+    requires { ⌜ at + summarySize (summaryOf (now src) m) ≤ length (now out) ⌝ }
+    ensures { λ r. ⌜ Wrote (now (out .entry)) at (summaryBytes (summaryOf (now (src .entry)) m)) (now (out .exit)) r ⌝ }
+{
+    let in_flight = m.in_flight;
+    let created_at = m.created_at;
+    let marks = m.marks;
+    let at = wire::put_u64(out, at, m.next_outgoing);
+    let at = wire::put_u64(out, at, m.next_incoming);
+    let at = wire::put_u64(out, at, flight_number(in_flight));
+    let at = put_span(src, created_at, out, at);
+    let at = put_span(src, marks, out, at);
+    wire::put_u64(out, at, m.last_outgoing)
+}
+
+pub fn part_byte(p: Part) -> u8
+    ensures { λ r. ⌜ r ≡ partNumber (partOf p) ⌝ }
+{
+    match p {
+        Part::Commit => 0,
+        Part::Whole => 1,
+        Part::LastWhole => 2,
+    }
+}
+
+pub fn reason_byte(r: NackReason) -> u8
+    ensures { λ n. ⌜ n ≡ reasonNumber (reasonOf r) ⌝ }
+{
+    match r {
+        NackReason::StaleEpoch => 1,
+        NackReason::Diverged => 2,
+        NackReason::Lag => 3,
+        NackReason::Restarted => 4,
+    }
+}
+
+// A kind and a handle.
+pub fn put_handle(out: &mut [u8], at: usize, kind: u8, handle: u32) -> usize
+    requires { ⌜ at + 5 ≤ length (now out) ⌝ }
+    ensures { λ r. ⌜ Wrote (now (out .entry)) at (kind ∷ bytesOf 4 handle) (now (out .exit)) r ⌝ }
+    ensures { λ r. ⌜ r ≡ at + 5 ⌝ }
+{
+    let at = op::tag(out, at, kind);
+    wire::put_u32(out, at, handle)
+}
