@@ -1,0 +1,2 @@
+-- The pending commits in the store's words.
+pub mod Pending
