@@ -15,7 +15,7 @@ use Rattle.place.specs.Place.{placeIn}
 use Rattle.place.proofs.Fields.{only-none, only-put}
 use Rattle.areas.specs.declared.Shape.{Shape}
 use Rattle.areas.specs.Areas.{placeWords, placeBytes, wordsAt, bytesAt, SpotIs, SpotIn, Room, Rules, part, placeAt, countUp, placesOf, Changed}
-use Rattle.areas.proofs.Lists.{count-length, count-at, count-one, inside, apart, part-kept, word-kept}
+use Rattle.areas.proofs.Lists.{count-length, count-same, count-at, count-one, inside, apart, part-kept, word-kept}
 
 -- ---- a place in use lies within the areas
 
@@ -230,3 +230,23 @@ place-is s w b i h =
 
 pub session-is : (s : Shape) (w b : List ℕ) (i : ℕ) → i < getD w 0 0 → sessionAt (placesOf s w b) i ≡ some (placeAt s w b i .stored .session)
 session-is s w b i h = ap (Option·map (λ (x : Place). x .stored .session)) (place-is s w b i h)
+
+-- ---- the words before the places, but for the first, say nothing of them
+
+pub heads-places : (s : Shape) (w w' b : List ℕ) → Only 1 66 w w' → placesOf s w' b ≡ placesOf s w b
+unfolding placesOf placeAt
+heads-places s w w' b o =
+    ap (countUp (placeAt s w' b) 0) (word-kept 1 66 0 w w' o (omega arith))
+    ∙ count-same (placeAt s w b) (placeAt s w' b) 0 (getD w 0 0) (λ j _ l. ap (λ (x : List ℕ). placeIn (s .bytes) (s .messages) x (part (bytesAt s j) (placeBytes s) b)) (part-kept 1 66 (wordsAt s j) (placeWords s) w w' o (inr (omega arith))))
+
+pub heads-rules : (s : Shape) (w w' b : List ℕ) → Only 1 66 w w' → getD w' 1 0 ≤ 64 → Rules s w b → Rules s w' b
+heads-rules s w w' b o h r = record {
+  room = record {
+    bytes-limit = r .room .bytes-limit;
+    messages-limit = r .room .messages-limit;
+    words-long = omega (arith, r .room .words-long, o .same-length);
+    bytes-long = r .room .bytes-long;
+  };
+  used = omega (arith, r .used, word-kept 1 66 0 w w' o (omega arith));
+  pending = h;
+}

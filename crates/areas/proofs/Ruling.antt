@@ -101,3 +101,6 @@ made-places s w b r =
     let v : List ℕ = set (set w 0 0) 1 0 in
     let a : getD v 0 0 ≡ 0 = getD-set-other (set w 0 0) 1 0 0 0 (λ e. omega arith) ∙ getD-set-same w 0 0 0 (omega (arith, r .words-long)) in
     ap (countUp (placeAt s v b) 0) a
+
+pub never : false ≡ true → ⊥
+never e = let z : _≡_ {A = ℕ} 0 1 = cc in omega arith

@@ -60,6 +60,11 @@ pub record Rules (s : Shape) (w b : List ℕ) : Type 0 where
   pub used : getD w 0 0 ≤ s .places
   pub pending : getD w 1 0 ≤ 64
 
+-- place i is in use in areas that keep the rules
+pub record InUse (s : Shape) (w b : List ℕ) (i : ℕ) : Type 0 where
+  pub rules : Rules s w b
+  pub at : i < getD w 0 0
+
 -- where a place in use stands
 pub record SpotIn (s : Shape) (i : ℕ) (w b : List ℕ) (wa we ba be : ℕ) : Type 0 where
   pub at : SpotIs s i wa we ba be

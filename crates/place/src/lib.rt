@@ -3,7 +3,7 @@ ghost use mathlib.Core.Path.{_≡_};
 ghost use mathlib.Core.Bool.{Bool, true};
 ghost use mathlib.Core.List.{List, [], _∷_};
 ghost use Prim.Native.Nat.{ℕ, _+_, _-_, _*_, _≤_, _<_, min};
-ghost use lib.ListN.{length, take, drop, getD};
+ghost use lib.ListN.{length, take, drop, getD, set};
 ghost use Rattle.model_text.specs.Printable.{isMarks};
 ghost use Rattle.model_text.specs.Stamp.{isStamp};
 ghost use Rattle.model_frame.specs.Frame.{Key, Change, setIncoming, setIncomingInFlight, setInFlight, recordMsg, recordBare, reset, setCreatedAt, setMarks};
@@ -196,7 +196,8 @@ pub fn set_marks(words: &mut [u64], bytes: &mut [u8], text: &[u8])
 
 pub fn mark_durable(words: &mut [u64])
     requires { ⌜ 16 ≤ length (now words) ⌝ }
-    ensures { λ _. ⌜ ((C M : ℕ) (b : List ℕ) → placeIn C M (now (words .exit)) b ≡ onStored markDurable (placeIn C M (now (words .entry)) b)) ⌝ }
+    ensures marked { λ _. ⌜ ((C M : ℕ) (b : List ℕ) → placeIn C M (now (words .exit)) b ≡ onStored markDurable (placeIn C M (now (words .entry)) b)) ⌝ }
+    ensures word { λ _. ⌜ now (words .exit) ≡ set (now (words .entry)) 4 1 ⌝ }
 {
     words[4] = 1;
 }

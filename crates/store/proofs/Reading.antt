@@ -5,15 +5,15 @@ use mathlib.Core.List.{List}
 use mathlib.Core.Option.{Option}
 use Prim.Native.Nat.{ℕ, _+_, _-_, _*_, _≤_, _<_}
 use native.Mathlib.Omega.{arith}
-use lib.ListN.{length, take, drop, getD, length-take, length-drop}
+use lib.ListN.{length, take, drop, getD, set, length-take, length-drop}
 use lib.Seq.{drop-drop}
-use borrow.Rule.Slice.PartMut.{midOf}
+use borrow.Rule.Slice.PartMut.{midOf, putMid, set-mid-at}
 use Rattle.model_session.specs.Session.{Session}
 use Rattle.model.specs.Store.{Stored, Place}
 use Rattle.log.proofs.Spans.{within}
 use Rattle.place.specs.Place.{nextOutOf, flightOf, durableOf, stampOf, marksOf, sessionOf, placeIn}
 use Rattle.areas.specs.declared.Shape.{Shape}
-use Rattle.areas.specs.Areas.{Rules, SpotIs, SpotIn, placeAt}
+use Rattle.areas.specs.Areas.{placeWords, wordsAt, Rules, SpotIs, SpotIn, placeAt}
 use Rattle.areas.proofs.Lifting.{spot-place}
 use Rattle.store.specs.Answers.{TextAt}
 
@@ -68,3 +68,8 @@ module _ (s : Shape) (i wa we ba be : ℕ) (w b : List ℕ) (at : SpotIn s i w b
 
   pub marks-at : (n : ℕ) → n ≤ 64 → take n (drop 160 mb) ≡ marksOf mw mb → TextAt b (placeAt s w b i .stored .session .marks) (ba + 160) n
   marks-at n g e = text-at (placeAt s w b i .stored .session .marks) 160 n (omega arith) (e ∙ marks-is)
+
+  -- one of the place's words is set
+  pub word-set : (k v : ℕ) (x : List ℕ) → k < 16 → x ≡ set mw k v → putMid wa (we - wa) w x ≡ set w (wordsAt s i + k) v
+  word-set k v x g e =
+      ap (putMid wa (we - wa) w) e ∙ set-mid-at wa (we - wa) k w v (omega (arith, at .words-part)) ∙ ap (λ (j : ℕ). set w (j + k) v) (at .at .words-from)

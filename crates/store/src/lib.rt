@@ -9,7 +9,7 @@ ghost use Rattle.model_text.specs.Stamp.{isStamp};
 ghost use Rattle.model_frame.specs.Frame.{setIncoming, setIncomingInFlight, setInFlight, recordMsg, recordBare, reset, setCreatedAt, setMarks};
 ghost use Rattle.model.specs.Store.{changed, markDurable, takenOver, placeOf};
 ghost use Rattle.place.specs.Place.{keyFrom, flightIs};
-ghost use Rattle.areas.specs.Areas.{Rules, Changed, placeAt, placesOf};
+ghost use Rattle.areas.specs.Areas.{wordsAt, Rules, Changed, placeAt, placesOf};
 ghost use Rattle.store.specs.Answers.{TextAt};
 use areas::Shape;
 use place::Flight;
@@ -227,7 +227,8 @@ pub fn set_marks(words: &mut [u64], bytes: &mut [u8], shape: Shape, i: usize, te
 pub fn mark_durable(words: &mut [u64], bytes: &[u8], shape: Shape, i: usize)
     requires { ⌜ Rules shape (now words) (now bytes) ⌝ }
     requires { ⌜ i < getD (now words) 0 0 ⌝ }
-    ensures { λ _. ⌜ Changed shape i (markDurable) (now (words .entry)) (now (words .exit)) (now (bytes .entry)) (now (bytes .entry)) ⌝ }
+    ensures marked { λ _. ⌜ Changed shape i (markDurable) (now (words .entry)) (now (words .exit)) (now (bytes .entry)) (now (bytes .entry)) ⌝ }
+    ensures word { λ _. ⌜ now (words .exit) ≡ set (now (words .entry)) (wordsAt shape i + 4) 1 ⌝ }
 {
     let p = areas::spot_in(words, bytes, shape, i);
     let wa = p.wa;

@@ -1,7 +1,7 @@
-use mathlib.Core.List.{[], _∷_}
-use Rattle.model_frame.specs.Frame.{setIncoming, setIncomingInFlight, setInFlight, recordBare, reset}
-use Rattle.model.specs.Store.{changed, markDurable}
+use native.Mathlib.Omega.{arith}
+use Rattle.model.specs.Store.{markDurable}
 use Rattle.areas.proofs.Lifting.{spot-words}
+use Rattle.store.proofs.Reading.{word-set}
 use borrow.Author.Needs.{needs}
 use Rattle.store.proofs.mark_durable.Statement.{statement}
 use Rattle.store.proofs.mark_durable.Tie as tie
@@ -11,7 +11,8 @@ returns c =
     let a = (c .before .before .before .before .before .before .before .before .args) in
     let r = (c .before .before .mark-durable) in
     let p = (c .before .before .before .before .before .before .before .before .pre) in
-    spot-words (a .shape) (a .i) _ _ _ _ ((c .before .before .before .before .spot-in) .ensures .at) (a .words .now) (a .bytes .now) (p .0) (p .1) (markDurable) (r .last .0) (r .kept .0) (r .ensures (a .shape .bytes) (a .shape .messages))
+    let at = c .before .before .before .before .spot-in .ensures in
+    (spot-words (a .shape) (a .i) _ _ _ _ (at .at) (a .words .now) (a .bytes .now) (p .0) (p .1) markDurable (r .last .0) (r .kept .0) (r .ensures .0 (a .shape .bytes) (a .shape .messages)), word-set (a .shape) (a .i) _ _ _ _ (a .words .now) (a .bytes .now) at (p .0) (p .1) 4 1 (r .last .0) (omega arith) (r .ensures .1))
 
 pub mark-durable-spec : {M : Type 1} → statement M
 mark-durable-spec =

@@ -1,0 +1,31 @@
+use native.Mathlib.Omega.{arith}
+use borrow.Author.Tests.{not-false}
+use borrow.Author.Needs.{needs}
+use Rattle.store_c.proofs.store_record_none.Statement.{statement}
+use Rattle.store_c.proofs.store_record_none.Tie as tie
+
+next-outgoing-requires : tie.Need-next-outgoing-requires
+next-outgoing-requires c κs =
+    let u = c .before .before .before .in-use .ensures (not-false _ (c .before .before .if1 .left)) in
+    (u .rules, u .at)
+
+record-none-requires : tie.Need-record-none-requires
+record-none-requires c κs =
+    let u = c .before .before .before .before .before .before .in-use .ensures (not-false _ (c .before .before .before .before .before .if1 .left)) in
+    (u .rules, (u .at, (omega (arith, c .before .before .next-outgoing .ensures, c .before .if3 .left), omega (arith, c .before .before .before .before .if2 .left))))
+
+pub store-record-none-spec : {M : Type 1} → statement M
+store-record-none-spec =
+    tie.close
+    (tie.spec
+    (λ c κs. search needs)
+    (λ c. search needs)
+    (λ c. search needs)
+    (λ c. search needs)
+    (λ c. search needs)
+    next-outgoing-requires
+    (λ c. search needs)
+    (λ c. search needs)
+    record-none-requires
+    (λ c. search needs)
+    (λ c. search needs))

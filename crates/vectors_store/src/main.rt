@@ -1,0 +1,218 @@
+// Runs a script of recordings on small stores, and writes what is stored: lines of numbers, lengths and hashes, and public vectors of
+// FNV-1a. Commands: `n C M` a new store, `r LENGTH COUNT` Records with messages, `g K` a Record without one that skips K numbers,
+// `z` Reset, `p LAG` promotion, `l` a listing, `h N` last_outgoing, `f TEXT` the hash of a text. What it must write was made by
+// tests/store_vectors, which has the rules in Python.
+ghost use Prim.Native.Nat.{_+_, _≤_, _<_};
+ghost use lib.ListN.{length};
+ghost use Rattle.areas.specs.Areas.{Rules};
+ghost use Rattle.sessions.specs.Answers.{StandsAt};
+use areas::Shape;
+use libc::STDIN_FILENO;
+use libc::STDOUT_FILENO;
+use std::num::wrapping_add_u64;
+
+// A number in a line, and where it ends.
+#[repr(C)]
+struct Number {
+    value: u32,
+    end: usize,
+}
+
+// The end of the line that starts at `at`.
+fn line_end(s: &[u8], at: usize) -> usize
+    requires { ⌜ at ≤ length (now s) ⌝ }
+    ensures { λ r. ⌜ (at ≤ r) × (r ≤ length (now (s .entry))) ⌝ }
+{
+    let mut i = at;
+    while i < s.len() {
+        if s[i] == b'\n' {
+            return i;
+        }
+        i += 1;
+    }
+    i
+}
+
+// The number that starts at `at`.
+fn number_at(s: &[u8], at: usize) -> Number {
+    let mut value: u32 = 0;
+    let mut i = at;
+    while i < s.len() {
+        let b = s[i];
+        if b < 48 {
+            return Number { value, end: i + 1 };
+        }
+        value = value % 100_000_000 * 10 + (b % 16) as u32;
+        i += 1;
+    }
+    Number { value, end: i }
+}
+
+fn put_text(text: &[u8]) {
+    io::write_all(STDOUT_FILENO, text);
+}
+
+fn put_number(n: u64) {
+    io::print_decimal(STDOUT_FILENO, n);
+}
+
+fn put_hash(h: u64) {
+    io::print_hex(STDOUT_FILENO, h, 16);
+}
+
+// Records the first len bytes of a text.
+fn record_front(words: &mut [u64], bytes: &mut [u8], cap: u32, max: u32, text: &[u8], len: usize) {
+    if len <= text.len() {
+        store_c::store_record(words, bytes, 2, cap, max, 0, &text[0..len]);
+    }
+}
+
+// Records a message of len bytes under the next number, from which its bytes come.
+fn record(words: &mut [u64], bytes: &mut [u8], cap: u32, max: u32, len: usize) {
+    let next = store_c::store_next_outgoing(words, bytes, 2, cap, max, 0);
+    let mut text = [0u8; 80];
+    let mut j: usize = 0;
+    while j < 80 {
+        text[j] = (wrapping_add_u64(next, j as u64) % 251) as u8;
+        j += 1;
+    }
+    record_front(words, bytes, cap, max, &text, len);
+}
+
+fn record_many(words: &mut [u64], bytes: &mut [u8], cap: u32, max: u32, len: usize, count: u32) {
+    let mut k: u32 = 0;
+    while k < count {
+        record(words, bytes, cap, max, len);
+        k += 1;
+    }
+}
+
+// A message's number, length and hash.
+fn put_message(bytes: &[u8], number: u64, at: usize, first: usize, again: usize, rest: usize)
+    requires { ⌜ at + first ≤ length (now bytes) ⌝ }
+    requires { ⌜ again + rest ≤ length (now bytes) ⌝ }
+{
+    let end = at + first;
+    let done = again + rest;
+    put_text(b" ");
+    put_number(number);
+    put_text(b"/");
+    put_number(wrapping_add_u64(first as u64, rest as u64));
+    put_text(b"/");
+    let h = log::fnv::bytes(0xcbf2_9ce4_8422_2325, &bytes[at..end]);
+    put_hash(log::fnv::bytes(h, &bytes[again..done]));
+}
+
+// The next number and each message's number, length and hash.
+fn list(words: &[u64], bytes: &[u8], shape: Shape) {
+    put_number(store_c::store_next_outgoing(words, bytes, 2, shape.bytes, shape.messages, 0));
+    put_text(b":");
+    if areas::in_use(words, bytes, shape, 0) {
+        let c = sessions::messages_from(words, bytes, shape, 0, 1);
+        let mut left = c.left;
+        let mut dist = c.dist;
+        while 0 < left {
+            let m = sessions::message_at(words, bytes, shape, 0, left, dist);
+            put_message(bytes, m.number, m.at, m.first, m.again, m.rest);
+            left = m.left;
+            dist = m.dist;
+        }
+    }
+    put_text(b"\n");
+}
+
+// One command.
+fn command(line: &[u8], words: &mut [u64], bytes: &mut [u8], shape: Shape) -> Shape {
+    if line.len() == 0 {
+        return shape;
+    }
+    let a = number_at(line, 2);
+    let b = number_at(line, a.end);
+    let cap = shape.bytes;
+    let max = shape.messages;
+    match line[0] {
+        b'n' => {
+            store_c::store_make(words, bytes, 2, a.value, b.value);
+            store_c::store_open(
+                words,
+                bytes,
+                2,
+                a.value,
+                b.value,
+                b"FIX.4.4",
+                b"A",
+                b"B",
+                b"",
+            );
+            store_c::store_open(
+                words,
+                bytes,
+                2,
+                a.value,
+                b.value,
+                b"FIX.4.4",
+                b"A",
+                b"C",
+                b"",
+            );
+            return Shape {
+                places: 2,
+                bytes: a.value,
+                messages: b.value,
+            };
+        }
+        b'r' => record_many(words, bytes, cap, max, a.value as usize, b.value),
+        b'g' => {
+            let next = store_c::store_next_outgoing(words, bytes, 2, cap, max, 0);
+            store_c::store_record_none(
+                words,
+                bytes,
+                2,
+                cap,
+                max,
+                0,
+                wrapping_add_u64(next, a.value as u64),
+            );
+        }
+        b'z' => {
+            store_c::store_reset(words, bytes, 2, cap, max, 0);
+        }
+        b'p' => {
+            store_c::store_take_over(words, bytes, 2, cap, max, 0, a.value as u64);
+        }
+        b'l' => list(words, bytes, shape),
+        b'h' => {
+            put_hash(store_c::store_last_outgoing(words, bytes, 2, cap, max, 0, a.value as u64));
+            put_text(b"\n");
+        }
+        _ => {
+            if 2 <= line.len() {
+                put_hash(log::fnv::bytes(0xcbf2_9ce4_8422_2325, &line[2..]));
+                put_text(b"\n");
+            }
+        }
+    }
+    shape
+}
+
+fn run(script: &[u8], words: &mut [u64], bytes: &mut [u8]) {
+    let mut shape = Shape {
+        places: 2,
+        bytes: 0,
+        messages: 0,
+    };
+    let mut at: usize = 0;
+    while at < script.len() {
+        let end = line_end(script, at);
+        shape = command(&script[at..end], words, bytes, shape);
+        at = end + 1;
+    }
+}
+
+fn main() {
+    let mut script = io::large_buffer();
+    let n = io::read_full(STDIN_FILENO, &mut script);
+    let mut words = [0u64; 162];
+    let mut bytes = [0u8; 576];
+    run(&script[..n], &mut words, &mut bytes);
+}
