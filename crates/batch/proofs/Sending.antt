@@ -24,7 +24,7 @@ use Rattle.batch.specs.declared.Header.{Header}
 use Rattle.batch.specs.declared.Plan.{Plan}
 use Rattle.batch.specs.declared.Written.{Written}
 use Rattle.batch.specs.declared.Written.the-variants.{Batch, TooShort}
-use Rattle.batch.specs.Batch.{Heads, sessionWith, changesOf, Planned, partIs, frameFrom, onward, Sent}
+use Rattle.batch.specs.Batch.{Heads, sessionWith, changesOf, Planned, partIs, frameFrom, onward, WroteBatch}
 use Rattle.batch.proofs.Planning.{cut-planned}
 use Rattle.batch.proofs.Framing.{frame-length}
 
@@ -97,10 +97,10 @@ module _ (limit C M : ℕ) (w b : List ℕ) (lb : length b ≡ 224 + C) (hd : He
     long = ap (λ (f : Frame). length (encode f)) frame-is ∙ frame-length h e n (partIs (p .last)) changes (q .spans stamp marks stamp-length marks-length)
 
     pub sent : (out out' : List ℕ) → 34 + p .size ≤ length out → out' ≡ write out 0 (encode (batch h e n (partIs (p .last)) changes []))
-        → Sent limit (sessionOf C M w b) h e n from out out' (Batch (34 + p .size) (p .goes) (p .last))
+        → WroteBatch limit (sessionOf C M w b) h e n from out out' (Batch (34 + p .size) (p .goes) (p .last))
     sent out out' k v = (sym long, k, v ∙ ap (λ (f : Frame). write out 0 (encode f)) (sym frame-is), ap (λ (c : Cut). c .goesOn) cut-at)
 
-    pub too-short : (out : List ℕ) → length out < 34 + p .size → Sent limit (sessionOf C M w b) h e n from out out TooShort
+    pub too-short : (out : List ℕ) → length out < 34 + p .size → WroteBatch limit (sessionOf C M w b) h e n from out out TooShort
     too-short out k = (omega (arith, long), refl)
 
 -- ---- how many batches there are

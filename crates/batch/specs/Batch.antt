@@ -93,7 +93,7 @@ abbrev pub onward : ℕ → Bool → Option ℕ
 onward from done = cond done none (some from)
 
 -- what is answered, and what stands in the lent area: the frame at its start and the rest as it was, or 9 and all as it was
-abbrev pub Sent : ℕ → Session → ℕ → ℕ → ℕ → ℕ → List ℕ → List ℕ → Written → Type 0
-Sent limit a h e n from out out' (Batch len next done) =
+abbrev pub WroteBatch : ℕ → Session → ℕ → ℕ → ℕ → ℕ → List ℕ → List ℕ → Written → Type 0
+WroteBatch limit a h e n from out out' (Batch len next done) =
     (len ≡ length (encode (frameFrom limit a h e n from))) × (len ≤ length out) × (out' ≡ write out 0 (encode (frameFrom limit a h e n from))) × (cutFrom limit a from .goesOn ≡ onward next done)
-Sent limit a h e n from out out' TooShort = (suc (length out) ≤ length (encode (frameFrom limit a h e n from))) × (out' ≡ out)
+WroteBatch limit a h e n from out out' TooShort = (suc (length out) ≤ length (encode (frameFrom limit a h e n from))) × (out' ≡ out)

@@ -13,7 +13,7 @@ ghost use Rattle.model_session.specs.Whole.{incomingPart, wholeBatches};
 ghost use Rattle.laws.specs.Wrote.{Wrote};
 ghost use Rattle.log.specs.Log.{Stands};
 ghost use Rattle.place.specs.Place.{flightIs, sessionOf};
-ghost use Rattle.batch.specs.Batch.{Heads, Spans, openingOf, closingOf, endingOf, changesOf, Planned, headBytes, partIs, Sent};
+ghost use Rattle.batch.specs.Batch.{Heads, Spans, openingOf, closingOf, endingOf, changesOf, Planned, headBytes, partIs, WroteBatch};
 use frame::CommitNumber;
 use frame::Epoch;
 use place::Flight;
@@ -344,7 +344,7 @@ pub fn send(
     requires { ⌜ max ≤ 65536 ⌝ }
     requires { ⌜ 224 ≤ length (now bytes) ⌝ }
     requires { ⌜ length (now bytes) ≤ 33554656 ⌝ }
-    ensures { λ r. ⌜ ((C : ℕ) → length (now (bytes .entry)) ≡ 224 + C → Sent limit (sessionOf C max (now (words .entry)) (now (bytes .entry))) handle (epoch .0) (number .0) from (now (out .entry)) (now (out .exit)) r) ⌝ }
+    ensures { λ r. ⌜ ((C : ℕ) → length (now (bytes .entry)) ≡ 224 + C → WroteBatch limit (sessionOf C max (now (words .entry)) (now (bytes .entry))) handle (epoch .0) (number .0) from (now (out .entry)) (now (out .exit)) r) ⌝ }
 {
     let h = header_of(words, bytes);
     let stamp_end = 128 + h.stamp;
