@@ -1,2 +1,3 @@
 pub mod Storing
 pub mod Calling
+pub mod Giving

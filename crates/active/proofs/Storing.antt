@@ -3,18 +3,22 @@ use mathlib.Core.Path.{_≡_, refl, sym, ap, subst, _∙_}
 use mathlib.Core.Bool.{Bool, true, false, cond, _&&_}
 use mathlib.Core.List.{List, [], _∷_}
 use mathlib.Core.Option.{Option, none, some, Option·map}
-use Prim.Native.Nat.{ℕ, zero, suc, _+_, _-_, _≤_, _<_}
+use Prim.Native.Nat.{ℕ, zero, suc, _+_, _-_, _^_, _≤_, _<_}
 use native.Mathlib.Omega.{arith}
 use lib.ListN.{length, take, drop, getD, getElem?}
 use lib.Dec.{ltb}
 use borrow.Author.Tests.{ltb-true, ltb-false}
 use borrow.Rule.Slice.PartMut.{midOf}
 use Rattle.model_text.proofs.Formed.{and-l, and-r}
-use Rattle.model_session.specs.Session.{Session}
+use Rattle.model_frame.specs.Parse.{Each}
+use Rattle.model_session.specs.Session.{Session, Holdable}
+use Rattle.model_session.proofs.Basics.{none≢some, some-inj}
 use Rattle.model.specs.Store.{Place, sessionAt}
 use Rattle.place.specs.Place.{sessionOf, placeIn}
 use Rattle.areas.specs.declared.Shape.{Shape}
 use Rattle.areas.specs.Areas.{allowed, Rules, SpotIn, placeAt, placesOf}
+use Rattle.log.proofs.Lawful.{Small}
+use Rattle.areas.proofs.Holding.{all-holdable}
 use Rattle.areas.proofs.Lifting.{spot-place, places-length, session-is}
 use Rattle.areas.proofs.Ruling.{rules-of}
 use Rattle.active.specs.Whole.{storedAt}
@@ -60,3 +64,20 @@ module _ (s : Shape) (w b : List ℕ) (i : ℕ) where
     pub lent-session : sessionOf (s .bytes) (s .messages) (midOf wa (we - wa) w) (midOf ba (be - ba) b) ≡ held
     unfolding placeIn
     lent-session = ap (λ (p : Place). p .stored .session) (spot-place s i wa we ba be (at .at) w b r h)
+
+-- what is stored can be held
+pub stored-holdable : (s : Shape) (w b : List ℕ) (i : ℕ) (a : Session) → Small (2 ^ 64) w → Small 256 b → storedAt s w b i ≡ some a → Holdable (s .bytes) (s .messages) a
+unfolding storedAt
+stored-holdable s w b i a hw hb k = go (allowed s w b) k
+  where
+    fits : Each (λ (p : Place). Holdable (s .bytes) (s .messages) (p .stored .session)) (placesOf s w b)
+    fits = all-holdable s w b hw hb
+
+    at : (ps : List Place) (j : ℕ) → Each (λ (p : Place). Holdable (s .bytes) (s .messages) (p .stored .session)) ps → sessionAt ps j ≡ some a → Holdable (s .bytes) (s .messages) a
+    at [] j h e = absurd (none≢some e)
+    at (p ∷ ps) zero h e = subst (Holdable (s .bytes) (s .messages)) (some-inj e) (h .0)
+    at (p ∷ ps) (suc j) h e = at ps j (h .1) e
+
+    go : (t : Bool) → cond t (sessionAt (placesOf s w b) i) none ≡ some a → Holdable (s .bytes) (s .messages) a
+    go true e = at (placesOf s w b) i fits e
+    go false e = absurd (none≢some e)

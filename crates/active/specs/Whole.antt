@@ -1,8 +1,8 @@
 -- Sending a session of a store whole, one frame a call: what the code's state, answers and lent area are. Assumes nothing.
 use mathlib.Core.Path.{_≡_}
-use Prim.Native.Nat.{ℕ, _≤_}
+use Prim.Native.Nat.{ℕ, _+_, _*_, _≤_}
 use mathlib.Core.Bool.{Bool, true, false, cond}
-use mathlib.Core.List.{List, [], _∷_}
+use mathlib.Core.List.{List, [], _∷_, _++_, map}
 use mathlib.Core.Option.{Option, none, some}
 use lib.ListN.{length, take}
 use lib.Dec.{ltb, leb}
@@ -11,6 +11,7 @@ use Rattle.model_frame.specs.Frame.{Frame}
 use Rattle.model_frame.specs.Writing.{encode}
 use Rattle.model_session.specs.Session.{Session, top}
 use Rattle.model_session.specs.Sender.{Sender, newSender, sendNext, cannotSend}
+use Rattle.model_session.specs.Whole.{wholeFrames}
 use Rattle.model.specs.Store.{sessionAt}
 use Rattle.areas.specs.declared.Shape.{Shape}
 use Rattle.areas.specs.Areas.{allowed, placesOf}
@@ -93,3 +94,20 @@ pub data Given (limit : ℕ) (shape : Shape) (w b : List ℕ) : Sending → List
   tooShort : {s t : Sending} {fs : List (List ℕ)} {out out' : List ℕ} → SendsWhole limit shape w b s out out' Sent.TooShort → Given limit shape w b s fs t → Given limit shape w b s fs t
   frame : {s s' t : Sending} {fs : List (List ℕ)} {out out' : List ℕ} {len : ℕ} → SendsWhole limit shape w b s out out' (Sent.Frame len s') → Given limit shape w b s' fs t
       → Given limit shape w b s (take len out' ∷ fs) t
+
+-- the frames given so far are these, as bytes, and those still to come are `left`
+pub record Sofar (frames : List Frame) (fs : List (List ℕ)) : Type 0 where
+  pub sent : List Frame
+  pub left : List Frame
+  pub all : frames ≡ sent ++ left
+  pub bytes : fs ≡ map encode sent
+
+-- WHAT CALLS FROM A BEGINNING COME TO, over one store: the frames given are the first of those that send the session whole, as bytes, once each
+-- in order. The rest is said of any next call: it answers "done" when no frame is left and no sooner, with the area as it was; 25 never; and 9
+-- never in an area of C + 22 × M + 156 bytes.
+pub record SentWhole (limit : ℕ) (shape : Shape) (w b : List ℕ) (a : Session) (h e last : ℕ) (fs : List (List ℕ)) (t : Sending) : Type 0 where
+  pub so : Sofar (wholeFrames limit h e last a) fs
+  pub at-end : (out out' : List ℕ) (r : Sent) → so .left ≡ [] → SendsWhole limit shape w b t out out' r → (r ≡ Sent.Done) × (out' ≡ out)
+  pub then-all : (out out' : List ℕ) → SendsWhole limit shape w b t out out' Sent.Done → fs ≡ map encode (wholeFrames limit h e last a)
+  pub never-unfit : (out out' : List ℕ) → SendsWhole limit shape w b t out out' Sent.Unfit → ⊥
+  pub never-short : (out out' : List ℕ) → shape .bytes + 22 * shape .messages + 156 ≤ length out → SendsWhole limit shape w b t out out' Sent.TooShort → ⊥

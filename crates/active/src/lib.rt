@@ -115,16 +115,14 @@ impl Sending {
             if u64::MAX - last.0 < count as u64 {
                 return Begun::NumbersPast;
             }
-            return Begun::Ready(
-                Sending {
-                    place,
-                    handle,
-                    epoch,
-                    last,
-                    from: 0,
-                    done: false,
-                },
-            );
+            return Begun::Ready(Sending {
+                place,
+                handle,
+                epoch,
+                last,
+                from: 0,
+                done: false,
+            });
         }
         Begun::Unfit
     }

@@ -6,41 +6,25 @@ use Rattle.active.proofs.Calling.{numbers-past, numbers-fit}
 use borrow.Author.Needs.{needs}
 use Rattle.active.proofs.Sending.begin.Statement.{statement}
 use Rattle.active.proofs.Sending.begin.Tie as tie
-use Rattle.active.proofs.Sending.begin.Reads as reads
-use Rattle.active.proofs.Sending.begin.Lts as lts
-use Rattle.active.proofs.batches_at.Reads as batches-at-reads
-use Rattle.active.proofs.is_stored.Reads as is-stored-reads
 
--- src/lib.rt:113:12
-is-stored-requires : tie.Need-is-stored-requires
-is-stored-requires c κs = search needs
-
--- src/lib.rt:114:17
 batches-at-requires : tie.Need-batches-at-requires
 batches-at-requires c κs =
     let a = c .before .before .before .before .args in
     let q = c .before .is-stored in
     (rules-hold (a .shape) (now (a .words)) (now (a .bytes)) (a .place) (q .result) (q .ensures) (c .if1 .taken), in-use (a .shape) (now (a .words)) (now (a .bytes)) (a .place) (q .result) (q .ensures) (c .if1 .taken))
 
--- src/lib.rt:115:16
-sub-if2 : tie.Need-sub-if2
-sub-if2 c = search needs
-
--- src/lib.rt:116:17
 returns : tie.Need-returns
 returns c =
     let a = c .before .before .before .before .before .before .before .args in
     let q = c .before .before .before .before .is-stored in
     rw (is-held (a .shape) (now (a .words)) (now (a .bytes)) (a .place) (q .result) (q .ensures) (c .before .before .before .if1 .taken)) (numbers-past _ _ _ _ _ _ _ (c .before .before .batches-at .ensures .0) (omega arith) (c .if2 .taken))
 
--- src/lib.rt:118:13
 returns-2 : tie.Need-returns-2
 returns-2 c =
     let a = c .before .before .before .before .before .before .before .args in
     let q = c .before .before .before .before .is-stored in
     rw (is-held (a .shape) (now (a .words)) (now (a .bytes)) (a .place) (q .result) (q .ensures) (c .before .before .before .if1 .taken)) (numbers-fit _ _ _ _ _ _ _ (c .before .before .batches-at .ensures .0) (omega arith) (c .if2 .left))
 
--- src/lib.rt:102:5
 returns-3 : tie.Need-returns-3
 unfolding startFrom
 returns-3 c =
@@ -50,4 +34,4 @@ returns-3 c =
 
 pub begin-spec : {M : Type 1} → statement M
 begin-spec =
-    tie.close (tie.spec is-stored-requires batches-at-requires sub-if2 returns returns-2 returns-3)
+    tie.close (tie.spec (λ c κs. search needs) batches-at-requires (λ c. search needs) returns returns-2 returns-3)
