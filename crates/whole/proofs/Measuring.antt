@@ -7,7 +7,7 @@ use native.Mathlib.Omega.{arith}
 use native.Mathlib.Numerals.{add-one}
 use lib.ListN.{length, take, drop, length-append}
 use lib.Dec.{ltb}
-use borrow.Author.Tests.{lt-ltb, le-ltb}
+use borrow.Author.Tests.{ltb-true}
 use Rattle.model_frame.specs.Frame.{Change, recordMsg, recordBare}
 use Rattle.model_frame.specs.Writing.{sizes}
 use Rattle.model_frame.proofs.Runs.{sizes-append}
@@ -55,33 +55,33 @@ module _ (limit C M end : ℕ) (w b : List ℕ) where
   abbrev pub Rest : ℕ → List Msg
   Rest left = restOf C M end w b left
 
-  pub taken-more : (left dist next sent number start first rest left' dist' : ℕ) → sent ≤ limit → length b ≡ C → Read C M end w b left dist number start first rest left' dist'
+  pub taken-more : (left dist next sent number start first rest left' dist' : ℕ) → ltb limit sent ≡ false → length b ≡ C → Read C M end w b left dist number start first rest left' dist'
       → taken limit sent next (Rest left) ≡ sendMsg next (msg number (take first (drop start b) ++ take rest b)) ++ taken limit (sent + (first + rest)) (number + 1) (Rest left')
   taken-more left dist next sent number start first rest left' dist' h long r =
       let m : Msg = msg number (take first (drop start b) ++ take rest b) in
       let len : length (m .text) ≡ first + rest = piece-of C M end w b left dist number start first rest left' dist' long r in
       let later : number + 1 ≡ suc number = rw add-one refl in
       ap (taken limit sent next) (r .is)
-      ∙ ap (λ (t : Bool). cond t [] (sendMsg next m ++ taken limit (sent + length (m .text)) (suc number) (Rest left'))) (le-ltb limit sent h)
+      ∙ ap (λ (t : Bool). cond t [] (sendMsg next m ++ taken limit (sent + length (m .text)) (suc number) (Rest left'))) h
       ∙ rw (len, later) refl
 
-  left-more : (left dist sent number start first rest left' dist' : ℕ) → sent ≤ limit → length b ≡ C → Read C M end w b left dist number start first rest left' dist'
+  left-more : (left dist sent number start first rest left' dist' : ℕ) → ltb limit sent ≡ false → length b ≡ C → Read C M end w b left dist number start first rest left' dist'
       → leftOver limit sent (Rest left) ≡ leftOver limit (sent + (first + rest)) (Rest left')
   left-more left dist sent number start first rest left' dist' h long r =
       let m : Msg = msg number (take first (drop start b) ++ take rest b) in
       let len : length (m .text) ≡ first + rest = piece-of C M end w b left dist number start first rest left' dist' long r in
       ap (leftOver limit sent) (r .is)
-      ∙ ap (λ (t : Bool). cond t (m ∷ Rest left') (leftOver limit (sent + length (m .text)) (Rest left'))) (le-ltb limit sent h)
+      ∙ ap (λ (t : Bool). cond t (m ∷ Rest left') (leftOver limit (sent + length (m .text)) (Rest left'))) h
       ∙ ap (λ (k : ℕ). leftOver limit (sent + k) (Rest left')) len
 
-  next-more : (left dist next sent number start first rest left' dist' : ℕ) → sent ≤ limit → length b ≡ C → Read C M end w b left dist number start first rest left' dist'
+  next-more : (left dist next sent number start first rest left' dist' : ℕ) → ltb limit sent ≡ false → length b ≡ C → Read C M end w b left dist number start first rest left' dist'
       → nextAfter limit sent next (Rest left) ≡ nextAfter limit (sent + (first + rest)) (number + 1) (Rest left')
   next-more left dist next sent number start first rest left' dist' h long r =
       let m : Msg = msg number (take first (drop start b) ++ take rest b) in
       let len : length (m .text) ≡ first + rest = piece-of C M end w b left dist number start first rest left' dist' long r in
       let later : number + 1 ≡ suc number = rw add-one refl in
       ap (nextAfter limit sent next) (r .is)
-      ∙ ap (λ (t : Bool). cond t next (nextAfter limit (sent + length (m .text)) (suc number) (Rest left'))) (le-ltb limit sent h)
+      ∙ ap (λ (t : Bool). cond t next (nextAfter limit (sent + length (m .text)) (suc number) (Rest left'))) h
       ∙ rw (len, later) refl
 
 module _ (limit C M end : ℕ) (w b : List ℕ) (left₀ dist₀ next₀ : ℕ) where
@@ -101,19 +101,18 @@ module _ (limit C M end : ℕ) (w b : List ℕ) (left₀ dist₀ next₀ : ℕ) 
   pub begins : Stands C M end w b left₀ dist₀ → Measuring left₀ dist₀ next₀ 0 0 0
   begins s = record { stands = s; rest = refl; after = refl; counts = omega arith; spans = omega arith; few = omega arith; small = omega arith; sums = omega arith }
 
-  pub full-stop : (left dist next count size sent : ℕ) → Measuring left dist next count size sent → limit < sent → Measured limit C M end w b left₀ dist₀ next₀ left dist next count size
+  pub full-stop : (left dist next count size sent : ℕ) → Measuring left dist next count size sent → ltb limit sent ≡ true → Measured limit C M end w b left₀ dist₀ next₀ left dist next count size
   full-stop left dist next count size sent g h =
-      let full : ltb limit sent ≡ true = lt-ltb limit sent h in
-      let none : taken limit sent next (Rest₀ left) ≡ [] = full-taken limit sent next full (Rest₀ left) in
+      let none : taken limit sent next (Rest₀ left) ≡ [] = full-taken limit sent next h (Rest₀ left) in
       record {
         stands = g .stands;
-        rest = sym (full-left limit sent next full (Rest₀ left)) ∙ g .rest;
-        after = sym (full-next limit sent next full (Rest₀ left)) ∙ g .after;
+        rest = sym (full-left limit sent next h (Rest₀ left)) ∙ g .rest;
+        after = sym (full-next limit sent next h (Rest₀ left)) ∙ g .after;
         counts = omega (arith, g .counts, ap length none);
         spans = omega (arith, g .spans, ap sizes none);
         few = g .few;
         small = g .small;
-        goes = λ _. omega (arith, g .sums);
+        goes = λ _. omega (arith, g .sums, ltb-true limit sent h);
       }
 
   pub last-stop : (left dist next count size sent : ℕ) → Measuring left dist next count size sent → left ≤ 0 → Measured limit C M end w b left₀ dist₀ next₀ left dist next count size
@@ -143,7 +142,7 @@ module _ (limit C M end : ℕ) (w b : List ℕ) (left₀ dist₀ next₀ : ℕ) 
       no h = omega arith
 
   -- a turn: one message more
-  pub turns : (left dist next count size sent number start first rest left' dist' skip : ℕ) → Measuring left dist next count size sent → sent ≤ limit → length b ≡ C
+  pub turns : (left dist next count size sent number start first rest left' dist' skip : ℕ) → Measuring left dist next count size sent → ltb limit sent ≡ false → length b ≡ C
       → Read C M end w b left dist number start first rest left' dist' → skip ≡ cond (ltb next number) 1 0
       → Measuring left' dist' (number + 1) (count + skip + 1) (size + 9 * skip + 13 + (first + rest)) (sent + (first + rest))
   turns left dist next count size sent number start first rest left' dist' skip g h long r s =

@@ -6,7 +6,6 @@ use Prim.Native.Nat.{ℕ, zero, suc, _+_, _-_, _<_, _≤_}
 use native.Mathlib.Omega.{arith}
 use lib.ListN.{length, take, drop, length-append}
 use lib.Dec.{ltb}
-use borrow.Author.Tests.{lt-ltb}
 use Rattle.model_frame.specs.Frame.{Change, recordMsg}
 use Rattle.model_frame.specs.Parse.{runBytes}
 use Rattle.model_frame.specs.Writing.{changeBytes, sizes}
@@ -34,9 +33,9 @@ module _ (limit C M end : ℕ) (w b : List ℕ) where
     pub begins : Stands C M end w b left₀ dist₀ → Sending first left₀ dist₀ next₀ 0 at
     begins s = record { stands = s; sums = omega arith; writes = left-start first at (toWrite 0 next₀ left₀) }
 
-    pub full-stop : (out : List ℕ) (left dist next sent pos : ℕ) → Sending out left dist next sent pos → limit < sent → Wrote first at (toWrite 0 next₀ left₀) out pos
+    pub full-stop : (out : List ℕ) (left dist next sent pos : ℕ) → Sending out left dist next sent pos → ltb limit sent ≡ true → Wrote first at (toWrite 0 next₀ left₀) out pos
     unfolding runBytes
-    full-stop out left dist next sent pos g h = left-done (g .writes) (ap (runBytes changeBytes) (full-taken limit sent next (lt-ltb limit sent h) (restOf C M end w b left)))
+    full-stop out left dist next sent pos g h = left-done (g .writes) (ap (runBytes changeBytes) (full-taken limit sent next h (restOf C M end w b left)))
 
     pub last-stop : (out : List ℕ) (left dist next sent pos : ℕ) → Sending out left dist next sent pos → left ≤ 0 → Wrote first at (toWrite 0 next₀ left₀) out pos
     unfolding restOf runBytes
@@ -46,7 +45,7 @@ module _ (limit C M end : ℕ) (w b : List ℕ) where
         no : suc left ≤ 0 → ⊥
         no h = omega arith
 
-    module _ (out : List ℕ) (left dist next sent pos number start part rest left' dist' : ℕ) (g : Sending out left dist next sent pos) (h : sent ≤ limit) (long : length b ≡ C)
+    module _ (out : List ℕ) (left dist next sent pos number start part rest left' dist' : ℕ) (g : Sending out left dist next sent pos) (h : ltb limit sent ≡ false) (long : length b ≡ C)
         (r : Read C M end w b left dist number start part rest left' dist') where
       abbrev this : List Change
       this = sendMsg next (msg number (take part (drop start b) ++ take rest b))

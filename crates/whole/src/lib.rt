@@ -31,6 +31,13 @@ fn skips(next: u64, number: u64) -> usize
     if next < number { 1 } else { 0 }
 }
 
+// Whether a batch with so many message bytes takes no more.
+fn is_full(limit: u64, sent: u64) -> bool
+    ensures { λ r. ⌜ r ≡ ltb limit sent ⌝ }
+{
+    limit < sent
+}
+
 // Measures the batch that begins at a place in the log of a session whose next outgoing number is end.
 pub fn measure(
     words: &[u64],
@@ -56,7 +63,7 @@ pub fn measure(
     let mut size: usize = 0;
     let mut sent: u64 = 0;
     while 0 < left {
-        if limit < sent {
+        if is_full(limit, sent) {
             return Cut {
                 left,
                 dist,
@@ -109,7 +116,7 @@ pub fn put_messages(
     let mut sent: u64 = 0;
     let mut pos = at;
     while 0 < left {
-        if limit < sent {
+        if is_full(limit, sent) {
             return pos;
         }
         let f = log::message_at(words, bytes, max, end, left, dist);

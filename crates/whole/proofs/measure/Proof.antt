@@ -1,14 +1,10 @@
-use Rattle.whole.proofs.measure.Statement.{statement}
-use Rattle.whole.proofs.measure.Tie as tie
-use Rattle.whole.proofs.measure.Reads as reads
-use Rattle.whole.proofs.measure.Lts as lts
-use Rattle.log.proofs.message_at.Reads as message-at-reads
-use Rattle.whole.proofs.skips.Reads as skips-reads
 use native.Mathlib.Omega.{arith}
+use mathlib.Core.Path.{refl, sym, _∙_}
 use lib.ListN.{length}
-use mathlib.Core.Path.{refl}
 use Rattle.whole.proofs.Numbers.{below}
 use Rattle.whole.proofs.Measuring.{Measuring, begins, full-stop, last-stop, turns}
+use Rattle.whole.proofs.measure.Statement.{statement}
+use Rattle.whole.proofs.measure.Tie as tie
 
 abbrev Inv-loop : tie.InvT-loop
 Inv-loop words bytes max end left dist next limit left₀ dist₀ next₀ count₀ size₀ sent₀ left' dist' next' count size sent =
@@ -17,67 +13,54 @@ Inv-loop words bytes max end left dist next limit left₀ dist₀ next₀ count�
 abbrev μ-loop : tie.MeasureT-loop
 μ-loop words bytes max end left dist next limit left₀ dist₀ next₀ count₀ size₀ sent₀ left' dist' next' count size sent = left'
 
--- src/lib.rt:52:5
 loop-holds : tie.Need-loop-holds Inv-loop μ-loop
 loop-holds c = begins _ _ _ _ _ _ _ _ _ (c .before .before .pre .1 .1 .1 .1)
 
--- src/lib.rt:54:13
+is-full-requires : tie.Need-is-full-requires Inv-loop μ-loop
+is-full-requires c κs = tt
+
 returns : tie.Need-returns Inv-loop μ-loop
-returns c = full-stop _ _ _ _ _ _ _ _ _ _ _ _ _ _ _ (c .before .before .loop .inv) (c .if1 .taken)
+returns c = full-stop _ _ _ _ _ _ _ _ _ _ _ _ _ _ _ (c .before .before .before .loop .inv) (sym (c .before .is-full .ensures) ∙ c .if1 .taken)
 
--- src/lib.rt:62:13
 message-at-requires : tie.Need-message-at-requires Inv-loop μ-loop
-message-at-requires c κs = (omega arith, (c .before .before .loop .inv .stands, omega arith))
+message-at-requires c κs = (omega arith, (c .before .before .before .loop .inv .stands, omega arith))
 
--- src/lib.rt:63:13
 skips-requires : tie.Need-skips-requires Inv-loop μ-loop
 skips-requires c κs = tt
 
--- src/lib.rt:64:19
 add-len : tie.Need-add-len Inv-loop μ-loop
 add-len c = omega arith
 
--- src/lib.rt:65:17
 add-count : tie.Need-add-count Inv-loop μ-loop
 add-count c = omega arith
 
--- src/lib.rt:65:17
 add-count-2 : tie.Need-add-count-2 Inv-loop μ-loop
 add-count-2 c = omega arith
 
--- src/lib.rt:66:23
 mul-size : tie.Need-mul-size Inv-loop μ-loop
 mul-size c = omega arith
 
--- src/lib.rt:66:16
 add-size : tie.Need-add-size Inv-loop μ-loop
 add-size c = omega arith
 
--- src/lib.rt:66:16
 add-size-2 : tie.Need-add-size-2 Inv-loop μ-loop
 add-size-2 c = omega arith
 
--- src/lib.rt:66:16
 add-size-3 : tie.Need-add-size-3 Inv-loop μ-loop
 add-size-3 c = omega arith
 
--- src/lib.rt:67:9
 add-sent : tie.Need-add-sent Inv-loop μ-loop
 add-sent c = omega arith
 
--- src/lib.rt:68:16
 add-next : tie.Need-add-next Inv-loop μ-loop
 add-next c = omega (arith, below _ _ _ _ _ _ _ _ (c .before .before .before .message-at .ensures .is))
 
--- src/lib.rt:52:5
 loop-less : tie.Need-loop-less Inv-loop μ-loop
 loop-less c = omega arith
 
--- src/lib.rt:52:5
 loop-again : tie.Need-loop-again Inv-loop μ-loop
-loop-again c = turns _ _ _ _ _ _ _ _ _ _ _ _ _ _ _ _ _ _ _ _ _ _ (c .before .before .before .before .before .before .loop .inv) (c .before .before .before .before .if1 .left) refl (c .before .before .before .message-at .ensures) (c .before .before .skips .ensures .0)
+loop-again c = turns _ _ _ _ _ _ _ _ _ _ _ _ _ _ _ _ _ _ _ _ _ _ (c .before .before .before .before .before .before .before .loop .inv) (sym (c .before .before .before .before .before .is-full .ensures) ∙ c .before .before .before .before .if1 .left) refl (c .before .before .before .message-at .ensures) (c .before .before .skips .ensures .0)
 
--- src/lib.rt:29:1
 returns-2 : tie.Need-returns-2 Inv-loop μ-loop
 returns-2 c = last-stop _ _ _ _ _ _ _ _ _ _ _ _ _ _ _ (c .before .loop .inv) (c .loop-test .left)
 
@@ -88,6 +71,7 @@ measure-spec =
     Inv-loop
     μ-loop
     loop-holds
+    is-full-requires
     returns
     message-at-requires
     skips-requires

@@ -1,7 +1,6 @@
 use native.Mathlib.Omega.{arith}
-use mathlib.Core.Path.{refl}
+use mathlib.Core.Path.{refl, sym, _∙_}
 use lib.ListN.{length}
-use denote.Ref.{now}
 use Rattle.whole.proofs.Numbers.{below}
 use Rattle.whole.proofs.Sending.{Sending, begins, full-stop, last-stop, has-room, goes-on}
 use Rattle.whole.proofs.put_messages.Statement.{statement}
@@ -18,27 +17,30 @@ abbrev μ-loop : tie.MeasureT-loop
 loop-holds : tie.Need-loop-holds Inv-loop μ-loop
 loop-holds c = begins _ _ _ _ _ _ _ _ _ _ _ (c .before .before .before .pre .1 .1 .0)
 
+is-full-requires : tie.Need-is-full-requires Inv-loop μ-loop
+is-full-requires c κs = tt
+
 same-length : tie.Need-same-length Inv-loop μ-loop
-same-length c = c .before .before .loop .inv .writes .same
+same-length c = c .before .before .before .loop .inv .writes .same
 
 returns : tie.Need-returns Inv-loop μ-loop
-returns c = full-stop _ _ _ _ _ _ _ _ _ _ _ _ _ _ _ _ _ (c .before .before .loop .inv) (c .if1 .taken)
+returns c = full-stop _ _ _ _ _ _ _ _ _ _ _ _ _ _ _ _ _ (c .before .before .before .loop .inv) (sym (c .before .is-full .ensures) ∙ c .if1 .taken)
 
 message-at-requires : tie.Need-message-at-requires Inv-loop μ-loop
-message-at-requires c κs = (c .before .before .before .before .before .before .pre .0, (c .before .before .loop .inv .stands, omega arith))
+message-at-requires c κs = (c .before .before .before .before .before .before .before .pre .0, (c .before .before .before .loop .inv .stands, omega arith))
 
 put-sent-requires : tie.Need-put-sent-requires Inv-loop μ-loop
 put-sent-requires c κs =
     let r = c .before .message-at .ensures in
-    let g = c .before .before .before .before .loop .inv in
-    let k = has-room _ _ _ _ _ _ _ _ _ _ _ _ _ _ _ _ _ _ _ _ _ _ _ g (c .before .before .if1 .left) refl r (c .before .before .before .before .before .before .before .before .pre .1 .1 .1) in
-    (omega (arith, r .inside), (omega (arith, r .front), (omega (arith, r .nearer, g .stands .room, c .before .before .before .before .before .before .before .before .pre .1 .0), k)))
+    let g = c .before .before .before .before .before .loop .inv in
+    let k = has-room _ _ _ _ _ _ _ _ _ _ _ _ _ _ _ _ _ _ _ _ _ _ _ g (sym (c .before .before .before .is-full .ensures) ∙ c .before .before .if1 .left) refl r (c .before .before .before .before .before .before .before .before .before .pre .1 .1 .1) in
+    (omega (arith, r .inside), (omega (arith, r .front), (omega (arith, r .nearer, g .stands .room, c .before .before .before .before .before .before .before .before .before .pre .1 .0), k)))
 
 add-sent : tie.Need-add-sent Inv-loop μ-loop
-add-sent c = omega (arith, c .before .before .before .before .before .message-at .ensures .nearer, c .before .before .before .before .before .before .before .before .loop .inv .stands .room, c .before .before .before .before .before .before .before .before .before .before .before .before .pre .1 .0)
+add-sent c = omega (arith, c .before .before .before .before .before .message-at .ensures .nearer, c .before .before .before .before .before .before .before .before .before .loop .inv .stands .room, c .before .before .before .before .before .before .before .before .before .before .before .before .before .pre .1 .0)
 
 add-sent-2 : tie.Need-add-sent-2 Inv-loop μ-loop
-add-sent-2 c = omega (arith, c .before .before .before .before .before .message-at .ensures .nearer, c .before .before .before .before .before .before .before .before .loop .inv .stands .room, c .before .before .before .before .before .before .before .before .before .before .before .before .pre .1 .0, c .before .before .before .before .before .before .before .before .loop .inv .sums)
+add-sent-2 c = omega (arith, c .before .before .before .before .before .message-at .ensures .nearer, c .before .before .before .before .before .before .before .before .before .loop .inv .stands .room, c .before .before .before .before .before .before .before .before .before .before .before .before .before .pre .1 .0, c .before .before .before .before .before .before .before .before .before .loop .inv .sums)
 
 add-next : tie.Need-add-next Inv-loop μ-loop
 add-next c = omega (arith, below _ _ _ _ _ _ _ _ (c .before .before .before .before .before .before .message-at .ensures .is))
@@ -47,7 +49,7 @@ loop-less : tie.Need-loop-less Inv-loop μ-loop
 loop-less c = omega (arith, c .before .before .before .before .before .before .message-at .ensures .fewer)
 
 loop-again : tie.Need-loop-again Inv-loop μ-loop
-loop-again c = goes-on _ _ _ _ _ _ _ _ _ _ _ _ _ _ _ _ _ _ _ _ _ _ _ (c .before .before .before .before .before .before .before .before .before .loop .inv) (c .before .before .before .before .before .before .before .if1 .left) refl (c .before .before .before .before .before .before .message-at .ensures) _ _ (c .before .before .before .before .put-sent .ensures)
+loop-again c = goes-on _ _ _ _ _ _ _ _ _ _ _ _ _ _ _ _ _ _ _ _ _ _ _ (c .before .before .before .before .before .before .before .before .before .before .loop .inv) (sym (c .before .before .before .before .before .before .before .before .is-full .ensures) ∙ c .before .before .before .before .before .before .before .if1 .left) refl (c .before .before .before .before .before .before .message-at .ensures) _ _ (c .before .before .before .before .put-sent .ensures)
 
 same-length-2 : tie.Need-same-length-2 Inv-loop μ-loop
 same-length-2 c = c .before .loop .inv .writes .same
@@ -62,6 +64,7 @@ put-messages-spec =
     Inv-loop
     μ-loop
     loop-holds
+    is-full-requires
     same-length
     returns
     message-at-requires

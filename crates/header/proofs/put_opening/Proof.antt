@@ -1,9 +1,9 @@
 use native.Mathlib.Omega.{arith}
 use denote.Ref.{now}
-use Rattle.batch.proofs.Ends.{open-first, open-room, wrote-open-none, wrote-open-bare, wrote-open-stamped}
+use Rattle.header.proofs.Ends.{open-first, open-room, wrote-open-none, wrote-open-bare, wrote-open-stamped}
 use borrow.Author.Needs.{needs}
-use Rattle.batch.proofs.put_opening.Statement.{statement}
-use Rattle.batch.proofs.put_opening.Tie as tie
+use Rattle.header.proofs.put_opening.Statement.{statement}
+use Rattle.header.proofs.put_opening.Tie as tie
 
 returns : tie.Need-returns
 returns c = wrote-open-none _ _ _ _ (c .if1 .taken)

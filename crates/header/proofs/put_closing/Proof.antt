@@ -2,10 +2,10 @@ use native.Mathlib.Omega.{arith}
 use denote.Ref.{now}
 use Rattle.model_session.specs.Whole.{skipTo, incomingPart}
 use Rattle.place.specs.Place.{flightIs}
-use Rattle.batch.proofs.Ends.{close-size, run-past, change-past, wrote-closing}
+use Rattle.header.proofs.Ends.{close-size, run-past, change-past, wrote-closing}
 use borrow.Author.Needs.{needs}
-use Rattle.batch.proofs.put_closing.Statement.{statement}
-use Rattle.batch.proofs.put_closing.Tie as tie
+use Rattle.header.proofs.put_closing.Statement.{statement}
+use Rattle.header.proofs.put_closing.Tie as tie
 
 put-skip-requires : tie.Need-put-skip-requires
 put-skip-requires c κs =

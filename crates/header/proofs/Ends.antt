@@ -19,7 +19,7 @@ use Rattle.model_session.specs.Whole.{skipTo, incomingPart}
 use Rattle.laws.specs.Wrote.{Wrote}
 use Rattle.laws.proofs.Writes.{wrote-then, wrote-on, wrote-number}
 use Rattle.whole.proofs.Putting.{wrote-none}
-use Rattle.batch.specs.Batch.{Spans, openingOf}
+use Rattle.header.specs.Ends.{Spans, openingOf}
 
 no : 0 < 0 → ⊥
 no h = omega arith
@@ -106,3 +106,7 @@ unfolding runBytes changeBytes
 wrote-closing cs inc marks {l} {l₁} {l₂} {l₃} {at} {p} {q} {r} w v u =
     let last : Wrote l₁ p (runBytes changeBytes (inc ∷ setMarks marks ∷ [])) l₃ r = rw (append-nil (8 ∷ blobBytes marks)) (wrote-on v u) in
     rw (run-append changeBytes cs (inc ∷ setMarks marks ∷ [])) (wrote-on w last)
+
+pub nothing-wrote : (l : List ℕ) (at : ℕ) → Wrote l at (runBytes changeBytes []) l at
+unfolding runBytes
+nothing-wrote l at = wrote-none l at

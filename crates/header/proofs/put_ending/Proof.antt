@@ -1,8 +1,8 @@
 use native.Mathlib.Omega.{arith}
-use Rattle.batch.proofs.Framing.{nothing-wrote}
+use Rattle.header.proofs.Ends.{nothing-wrote}
 use borrow.Author.Needs.{needs}
-use Rattle.batch.proofs.put_ending.Statement.{statement}
-use Rattle.batch.proofs.put_ending.Tie as tie
+use Rattle.header.proofs.put_ending.Statement.{statement}
+use Rattle.header.proofs.put_ending.Tie as tie
 
 put-closing-requires : tie.Need-put-closing-requires
 put-closing-requires c κs = (c .before .before .before .before .pre .0, rw (c .before .if1 .taken) at (c .before .before .before .before .pre .1))
