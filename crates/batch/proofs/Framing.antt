@@ -15,8 +15,9 @@ use Rattle.model_frame.proofs.Sizes.{changes-size, body-size, encode-size}
 use Rattle.laws.specs.Wrote.{Wrote}
 use Rattle.laws.proofs.Little.{write-on}
 use Rattle.laws.proofs.Writes.{wrote-then, wrote-on, wrote-number}
-use Rattle.whole.proofs.Putting.{byte-one, wrote-none}
-use Rattle.batch.specs.Batch.{Spans, headBytes}
+use Rattle.whole.proofs.Putting.{byte-one}
+use Rattle.header.specs.Ends.{Spans}
+use Rattle.batch.specs.Batch.{headBytes}
 
 pub wrote-head : (l : List ℕ) (size h e n part count : ℕ) {l₁ l₂ l₃ l₄ l₅ l₆ l₇ : List ℕ} → l₁ ≡ write l 0 (bytesOf 4 (30 + size)) → l₂ ≡ write l₁ 4 (bytesOf 1 4) → l₃ ≡ write l₂ 5 (bytesOf 4 h)
     → l₄ ≡ write l₃ 9 (bytesOf 8 e) → l₅ ≡ write l₄ 17 (bytesOf 8 n) → l₆ ≡ write l₅ 25 (bytesOf 1 part) → l₇ ≡ write l₆ 26 (bytesOf 4 count) → l₇ ≡ write l 0 (headBytes size h e n part count)
@@ -41,10 +42,6 @@ wrote-three xs ys zs w v u = rw (run-append changeBytes xs (ys ++ zs), run-appen
 
 pub three-sizes : (xs ys zs : List Change) → sizes (xs ++ (ys ++ zs)) ≡ sizes xs + sizes ys + sizes zs
 three-sizes xs ys zs = omega (arith, sizes-append xs (ys ++ zs), sizes-append ys zs)
-
-pub nothing-wrote : (l : List ℕ) (at : ℕ) → Wrote l at (runBytes changeBytes []) l at
-unfolding runBytes
-nothing-wrote l at = wrote-none l at
 
 part-small : (p : Part) → partNumber p < 256
 part-small commit = omega arith

@@ -1,4 +1,3 @@
-pub mod Ends
 pub mod Planning
 pub mod Framing
 pub mod Sending

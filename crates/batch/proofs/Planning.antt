@@ -19,9 +19,10 @@ use Rattle.log.specs.Log.{logOf, restOf, Stands, From}
 use Rattle.whole.specs.Cut.{taken, leftOver, nextAfter, ends, goesFrom, Measured}
 use Rattle.whole.proofs.Counting.{rest-length}
 use Rattle.whole.proofs.Cutting.{cut-is, byParts, from-same}
-use Rattle.batch.specs.declared.Header.{Header}
+use Rattle.header.specs.declared.Header.{Header}
 use Rattle.batch.specs.declared.Plan.{Plan}
-use Rattle.batch.specs.Batch.{sessionWith, Spans, openingOf, closingOf, endingOf, changesOf, Planned, onward}
+use Rattle.header.specs.Ends.{Spans, openingOf, closingOf, endingOf}
+use Rattle.batch.specs.Batch.{sessionWith, changesOf, Planned, onward}
 
 empty-is : (n : ℕ) (ms : List Msg) → length ms ≡ n → eqb n 0 ≡ isEmpty ms
 empty-is n [] e = eq-eqb n 0 (sym e)

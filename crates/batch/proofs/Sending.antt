@@ -20,11 +20,12 @@ use Rattle.place.proofs.Messages.{tail-is}
 use Rattle.whole.specs.Cut.{batchCount}
 use Rattle.whole.proofs.Counting.{count-is}
 use Rattle.whole.proofs.Cutting.{numbered-all}
-use Rattle.batch.specs.declared.Header.{Header}
+use Rattle.header.specs.declared.Header.{Header}
 use Rattle.batch.specs.declared.Plan.{Plan}
 use Rattle.batch.specs.declared.Written.{Written}
 use Rattle.batch.specs.declared.Written.the-variants.{Batch, TooShort}
-use Rattle.batch.specs.Batch.{Heads, sessionWith, changesOf, Planned, partIs, frameFrom, onward, WroteBatch}
+use Rattle.header.specs.Ends.{Heads}
+use Rattle.batch.specs.Batch.{sessionWith, changesOf, Planned, partIs, frameFrom, onward, WroteBatch}
 use Rattle.batch.proofs.Planning.{cut-planned}
 use Rattle.batch.proofs.Framing.{frame-length}
 

@@ -3,33 +3,23 @@ use mathlib.Core.Path.{_≡_}
 use mathlib.Core.Bool.{Bool, true, false, cond}
 use mathlib.Core.List.{List, [], _∷_, _++_}
 use mathlib.Core.Option.{Option, none, some}
-use Prim.Native.Nat.{ℕ, zero, suc, _+_, _≤_, max}
-use lib.ListN.{length, take, drop, getD}
+use Prim.Native.Nat.{ℕ, suc, _+_, _≤_, max}
+use lib.ListN.{length}
 use Rattle.model_frame.specs.Bytes.{bytesOf, write}
-use Rattle.model_frame.specs.Frame.{Change, reset, setMarks, Part, whole, lastWhole, Frame, batch}
+use Rattle.model_frame.specs.Frame.{Change, Part, whole, lastWhole, Frame, batch}
 use Rattle.model_frame.specs.Parse.{isEmpty}
-use Rattle.model_frame.specs.Writing.{sizes, encode}
+use Rattle.model_frame.specs.Writing.{encode}
 use Rattle.model_session.specs.Session.{Session, Msg}
-use Rattle.model_session.specs.Whole.{stampPart, skipTo, incomingPart}
 use Rattle.model_session.specs.Sender.{partOf, cutFrom}
 use Rattle.model_session.specs.Summary.{numberedFrom}
 use Rattle.log.specs.Log.{logOf, restOf, Stands}
-use Rattle.place.specs.Place.{nextOutOf, flightOf, stampOf, marksOf, flightIs, sessionOf}
+use Rattle.place.specs.Place.{flightIs}
 use Rattle.whole.specs.Cut.{taken, leftOver, nextAfter}
-use Rattle.batch.specs.declared.Header.{Header}
+use Rattle.header.specs.declared.Header.{Header}
+use Rattle.header.specs.Ends.{Spans, openingOf, endingOf}
 use Rattle.batch.specs.declared.Plan.{Plan}
 use Rattle.batch.specs.declared.Written.{Written}
 use Rattle.batch.specs.declared.Written.the-variants.{Batch, TooShort}
-
--- a header is that of a place
-pub record Heads (w b : List ℕ) (h : Header) : Type 0 where
-  pub outgoing : h .«next_outgoing» ≡ nextOutOf w
-  pub incoming : h .«next_incoming» ≡ getD w 1 0
-  pub flight : flightIs (h .«in_flight») ≡ flightOf w
-  pub stamp-is : take (h .stamp) (drop 128 b) ≡ stampOf w b
-  pub stamp-most : h .stamp ≤ 32
-  pub marks-is : take (h .marks) (drop 160 b) ≡ marksOf w b
-  pub marks-most : h .marks ≤ 64
 
 -- the session with this header, these texts and these messages
 abbrev pub sessionWith : Header → List ℕ → List ℕ → List Msg → Session
@@ -42,24 +32,6 @@ sessionWith h stamp marks ms =
       marks = marks;
       messages = ms;
     }
-
--- changes: how many, and their bytes
-pub record Spans (cs : List Change) (count size : ℕ) : Type 0 where
-  pub counts : count ≡ length cs
-  pub sums : size ≡ sizes cs
-
--- before the messages, from number 0: Reset, the stamp if any
-abbrev pub openingOf : List ℕ → ℕ → List Change
-openingOf stamp zero = reset ∷ stampPart stamp
-openingOf stamp (suc n) = []
-
--- after the messages
-abbrev pub closingOf : Header → List ℕ → ℕ → List Change
-closingOf h marks next = skipTo next (h .«next_outgoing») ++ (incomingPart (h .«next_incoming») (flightIs (h .«in_flight»)) ∷ setMarks marks ∷ [])
-
--- and only in the last batch
-abbrev pub endingOf : Header → List ℕ → Bool → ℕ → List Change
-endingOf h marks last next = cond last (closingOf h marks next) []
 
 module _ (limit C M : ℕ) (h : Header) (log ring : List ℕ) where
   -- the changes of a batch that goes by a plan

@@ -1,40 +1,20 @@
 // One batch of a session that is sent whole, as a frame, over the words and bytes of the session's place (active.rs, send_whole).
 ghost use mathlib.Core.Path.{_≡_};
-ghost use mathlib.Core.Bool.{cond};
 ghost use mathlib.Core.List.{List, [], _∷_};
 ghost use Prim.Native.Nat.{ℕ, _+_, _-_, _*_, _≤_, _<_, max};
 ghost use lib.ListN.{length};
-ghost use lib.Dec.{eqb};
 ghost use Rattle.model_frame.specs.Bytes.{write};
 ghost use Rattle.model_frame.specs.Frame.{batch};
 ghost use Rattle.model_frame.specs.Parse.{runBytes};
-ghost use Rattle.model_frame.specs.Writing.{changeBytes, sizeOf, sizes, partNumber, encode};
-ghost use Rattle.model_session.specs.Whole.{incomingPart, wholeBatches};
+ghost use Rattle.model_frame.specs.Writing.{changeBytes, sizes, partNumber, encode};
+ghost use Rattle.model_session.specs.Whole.{wholeBatches};
 ghost use Rattle.laws.specs.Wrote.{Wrote};
 ghost use Rattle.log.specs.Log.{Stands};
-ghost use Rattle.place.specs.Place.{flightIs, sessionOf};
-ghost use Rattle.batch.specs.Batch.{Heads, Spans, openingOf, closingOf, endingOf, changesOf, Planned, headBytes, partIs, WroteBatch};
+ghost use Rattle.place.specs.Place.{sessionOf};
+ghost use Rattle.batch.specs.Batch.{changesOf, Planned, headBytes, partIs, WroteBatch};
 use frame::CommitNumber;
 use frame::Epoch;
-use place::Flight;
-use whole::put;
-
-// What a session has beside its messages: stamp and marks by their lengths.
-#[repr(C)]
-pub struct Header {
-    pub next_outgoing: u64,
-    pub next_incoming: u64,
-    pub in_flight: Flight,
-    pub stamp: usize,
-    pub marks: usize,
-}
-
-// How many changes, and their bytes.
-#[repr(C)]
-pub struct Extent {
-    pub count: usize,
-    pub size: usize,
-}
+use header::Header;
 
 // A batch: the place in the log where its messages begin, its first number, the next number after it, whether it is the last,
 // how many changes it has, and their bytes.
@@ -55,108 +35,6 @@ pub enum Written {
     TooShort,
 }
 
-pub fn header_of(words: &[u64], bytes: &[u8]) -> Header
-    requires { ⌜ 16 ≤ length (now words) ⌝ }
-    requires { ⌜ 224 ≤ length (now bytes) ⌝ }
-    ensures { λ r. ⌜ Heads (now (words .entry)) (now (bytes .entry)) r ⌝ }
-{
-    let in_flight = place::in_flight(words);
-    Header {
-        next_outgoing: place::next_outgoing(words),
-        next_incoming: place::next_incoming(words),
-        in_flight,
-        stamp: place::stamp_len(words, bytes),
-        marks: place::marks_len(words, bytes),
-    }
-}
-
-// ---- what stands before the messages
-
-fn opening_extent(stamp: usize, from: u64) -> Extent
-    requires { ⌜ stamp ≤ 32 ⌝ }
-    ensures spans { λ r. ⌜ ((text : List ℕ) → length text ≡ stamp → Spans (openingOf text from) (r .count) (r .size)) ⌝ }
-    ensures small { λ r. ⌜ (r .count ≤ 2) × (r .size ≤ 38) ⌝ }
-{
-    if 0 < from {
-        return Extent { count: 0, size: 0 };
-    }
-    if stamp == 0 {
-        return Extent { count: 1, size: 1 };
-    }
-    Extent {
-        count: 2,
-        size: 6 + stamp,
-    }
-}
-
-fn put_opening(stamp: &[u8], from: u64, out: &mut [u8], at: usize) -> usize
-    requires { ⌜ length (now stamp) ≤ 32 ⌝ }
-    requires { ⌜ at + sizes (openingOf (now stamp) from) ≤ length (now out) ⌝ }
-    ensures { λ r. ⌜ Wrote (now (out .entry)) at (runBytes changeBytes (openingOf (now (stamp .entry)) from)) (now (out .exit)) r ⌝ }
-{
-    if 0 < from {
-        return at;
-    }
-    let pos = put::put_byte(6, out, at);
-    if stamp.len() == 0 {
-        return pos;
-    }
-    put::put_text(7, stamp, out, pos)
-}
-
-// ---- what stands after them
-
-fn incoming_size(in_flight: Flight) -> usize
-    ensures is { λ r. ⌜ ((n : ℕ) → r ≡ sizeOf (incomingPart n (flightIs «in_flight»))) ⌝ }
-    ensures small { λ r. ⌜ r ≤ 17 ⌝ }
-{
-    match in_flight {
-        Flight::Nothing => 9,
-        Flight::Number(_) => 17,
-    }
-}
-
-fn put_incoming(next: u64, in_flight: Flight, out: &mut [u8], at: usize) -> usize
-    requires { ⌜ at + sizeOf (incomingPart next (flightIs «in_flight»)) ≤ length (now out) ⌝ }
-    ensures { λ r. ⌜ Wrote (now (out .entry)) at (changeBytes (incomingPart next (flightIs «in_flight»))) (now (out .exit)) r ⌝ }
-{
-    match in_flight {
-        Flight::Nothing => put::put_number(1, next, out, at),
-        Flight::Number(f) => {
-            put::put_number(2, next, out, at);
-            wire::put_u64(out, at + 9, f);
-            at + 17
-        }
-    }
-}
-
-fn closing_extent(h: Header, next: u64) -> Extent
-    requires { ⌜ h .marks ≤ 64 ⌝ }
-    ensures spans { λ r. ⌜ ((text : List ℕ) → length text ≡ h .marks → Spans (closingOf h text next) (r .count) (r .size)) ⌝ }
-    ensures small { λ r. ⌜ (r .count ≤ 3) × (r .size ≤ 95) ⌝ }
-{
-    let in_flight = h.in_flight;
-    let size = incoming_size(in_flight) + 5 + h.marks;
-    if next < h.next_outgoing {
-        return Extent {
-            count: 3,
-            size: size + 9,
-        };
-    }
-    Extent { count: 2, size }
-}
-
-fn put_closing(h: Header, marks: &[u8], next: u64, out: &mut [u8], at: usize) -> usize
-    requires { ⌜ length (now marks) ≤ 64 ⌝ }
-    requires { ⌜ at + sizes (closingOf h (now marks) next) ≤ length (now out) ⌝ }
-    ensures { λ r. ⌜ Wrote (now (out .entry)) at (runBytes changeBytes (closingOf h (now (marks .entry)) next)) (now (out .exit)) r ⌝ }
-{
-    let in_flight = h.in_flight;
-    let skipped = put::put_skip(next, h.next_outgoing, out, at);
-    let pos = put_incoming(h.next_incoming, in_flight, out, skipped);
-    put::put_text(8, marks, out, pos)
-}
-
 // ---- the batch
 
 // The number from which the messages are sent.
@@ -165,19 +43,6 @@ fn first_number(from: u64) -> u64
     ensures low { λ r. ⌜ 1 ≤ r ⌝ }
 {
     if from < 1 { 1 } else { from }
-}
-
-// What stands after the messages, where so many are left.
-fn ending_extent(h: Header, left: usize, next: u64) -> Extent
-    requires { ⌜ h .marks ≤ 64 ⌝ }
-    ensures spans { λ r. ⌜ ((text : List ℕ) → length text ≡ h .marks → Spans (endingOf h text (eqb left 0) next) (r .count) (r .size)) ⌝ }
-    ensures small { λ r. ⌜ (r .count ≤ 3) × (r .size ≤ 95) ⌝ }
-{
-    if left == 0 {
-        closing_extent(h, next)
-    } else {
-        Extent { count: 0, size: 0 }
-    }
 }
 
 // Plans the batch that begins at a number, in the log of a session with this header.
@@ -202,8 +67,8 @@ fn plan_from(h: Header, words: &[u64], bytes: &[u8], max: usize, from: u64, limi
         next,
         limit,
     );
-    let opening = opening_extent(h.stamp, from);
-    let ending = ending_extent(h, cut.left, cut.next);
+    let opening = header::opening_extent(h.stamp, from);
+    let ending = header::ending_extent(h, cut.left, cut.next);
     Plan {
         left: c.left,
         dist: c.dist,
@@ -216,18 +81,6 @@ fn plan_from(h: Header, words: &[u64], bytes: &[u8], max: usize, from: u64, limi
 }
 
 // ---- the frame
-
-fn put_ending(h: Header, marks: &[u8], last: bool, next: u64, out: &mut [u8], at: usize) -> usize
-    requires { ⌜ length (now marks) ≤ 64 ⌝ }
-    requires { ⌜ at + sizes (endingOf h (now marks) last next) ≤ length (now out) ⌝ }
-    ensures { λ r. ⌜ Wrote (now (out .entry)) at (runBytes changeBytes (endingOf h (now (marks .entry)) last next)) (now (out .exit)) r ⌝ }
-{
-    if last {
-        put_closing(h, marks, next, out, at)
-    } else {
-        at
-    }
-}
 
 // Writes the changes of a batch that goes by a plan.
 fn put_changes(
@@ -251,7 +104,7 @@ fn put_changes(
     requires { ⌜ at + sizes (changesOf limit (length (now bytes)) max h (now words) (now bytes) (now stamp) (now marks) from p) ≤ length (now out) ⌝ }
     ensures { λ r. ⌜ Wrote (now (out .entry)) at (runBytes changeBytes (changesOf limit (length (now (bytes .entry))) max h (now (words .entry)) (now (bytes .entry)) (now (stamp .entry)) (now (marks .entry)) from p)) (now (out .exit)) r ⌝ }
 {
-    let opened = put_opening(stamp, from, out, at);
+    let opened = header::put_opening(stamp, from, out, at);
     let pos = whole::put_messages(
         words,
         bytes,
@@ -264,7 +117,7 @@ fn put_changes(
         out,
         opened,
     );
-    put_ending(h, marks, p.last, p.goes, out, pos)
+    header::put_ending(h, marks, p.last, p.goes, out, pos)
 }
 
 fn part_byte(last: bool) -> u8
@@ -346,7 +199,7 @@ pub fn send(
     requires { ⌜ length (now bytes) ≤ 33554656 ⌝ }
     ensures { λ r. ⌜ ((C : ℕ) → length (now (bytes .entry)) ≡ 224 + C → WroteBatch limit (sessionOf C max (now (words .entry)) (now (bytes .entry))) handle (epoch .0) (number .0) from (now (out .entry)) (now (out .exit)) r) ⌝ }
 {
-    let h = header_of(words, bytes);
+    let h = header::header_of(words, bytes);
     let stamp_end = 128 + h.stamp;
     let marks_end = 160 + h.marks;
     let log = &words[14..];

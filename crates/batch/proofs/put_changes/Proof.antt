@@ -3,8 +3,8 @@ use lib.ListN.{length}
 use denote.Ref.{now}
 use Rattle.log.specs.Log.{restOf}
 use Rattle.whole.specs.Cut.{taken}
-use Rattle.batch.specs.Batch.{openingOf, endingOf}
-use Rattle.batch.proofs.Ends.{run-past}
+use Rattle.header.specs.Ends.{openingOf, endingOf}
+use Rattle.header.proofs.Ends.{run-past}
 use Rattle.batch.proofs.Framing.{wrote-three, three-sizes}
 use borrow.Author.Needs.{needs}
 use Rattle.batch.proofs.put_changes.Statement.{statement}

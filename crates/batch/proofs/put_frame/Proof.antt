@@ -2,7 +2,7 @@ use native.Mathlib.Omega.{arith}
 use lib.ListN.{length}
 use denote.Ref.{now}
 use Rattle.batch.specs.Batch.{partIs, changesOf}
-use Rattle.batch.proofs.Ends.{run-past}
+use Rattle.header.proofs.Ends.{run-past}
 use Rattle.batch.proofs.Framing.{wrote-frame}
 use borrow.Author.Needs.{needs}
 use Rattle.batch.proofs.put_frame.Statement.{statement}

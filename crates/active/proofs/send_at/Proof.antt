@@ -1,0 +1,30 @@
+use native.Mathlib.Omega.{arith}
+use denote.Ref.{now}
+use Rattle.active.proofs.Storing.{lent-session}
+use borrow.Author.Needs.{needs}
+use Rattle.active.proofs.send_at.Statement.{statement}
+use Rattle.active.proofs.send_at.Tie as tie
+
+returns : tie.Need-returns
+returns c =
+    let s = c .before .before .before .before .before .before .before .before .before .before .before in
+    let a = s .args in
+    let p = c .before .before .before .before .before .before .before .spot-in in
+    rw (← (lent-session (a .shape) (now (a .words)) (now (a .bytes)) (a .i) (p .result .wa) (p .result .we) (p .result .ba) (p .result .be) (p .ensures) (s .pre .0) (s .pre .1))) (c .before .before .send .ensures (a .shape .bytes) (p .ensures .bytes-part))
+
+pub send-at-spec : {M : Type 1} → statement M
+send-at-spec =
+    tie.close
+    (tie.spec
+    (λ c κs. search needs)
+    (λ c. search needs)
+    (λ c. search needs)
+    (λ c. search needs)
+    (λ c. search needs)
+    (λ c. search needs)
+    (λ c. search needs)
+    (λ c. search needs)
+    (λ c. search needs)
+    (λ c κs. search needs)
+    (λ c. search needs)
+    returns)

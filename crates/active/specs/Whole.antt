@@ -1,0 +1,113 @@
+-- Sending a session of a store whole, one frame a call: what the code's state, answers and lent area are. Assumes nothing.
+use mathlib.Core.Path.{_≡_}
+use Prim.Native.Nat.{ℕ, _+_, _*_, _≤_}
+use mathlib.Core.Bool.{Bool, true, false, cond}
+use mathlib.Core.List.{List, [], _∷_, _++_, map}
+use mathlib.Core.Option.{Option, none, some}
+use lib.ListN.{length, take}
+use lib.Dec.{ltb, leb}
+use Rattle.model_frame.specs.Bytes.{write}
+use Rattle.model_frame.specs.Frame.{Frame}
+use Rattle.model_frame.specs.Writing.{encode}
+use Rattle.model_session.specs.Session.{Session, top}
+use Rattle.model_session.specs.Sender.{Sender, newSender, sendNext, cannotSend}
+use Rattle.model_session.specs.Whole.{wholeFrames}
+use Rattle.model.specs.Store.{sessionAt}
+use Rattle.areas.specs.declared.Shape.{Shape}
+use Rattle.areas.specs.Areas.{allowed, placesOf}
+use Rattle.batch.specs.Batch.{onward}
+use Rattle.active.specs.declared.Sending.{Sending}
+use Rattle.active.specs.declared.Begun.{Begun}
+use Rattle.active.specs.declared.Begun
+use Rattle.active.specs.declared.Sent.{Sent}
+use Rattle.active.specs.declared.Sent
+
+-- the model's sender: none is left to send where the state is done, whatever number it goes on from
+abbrev pub senderOf : Sending → Sender
+senderOf s = record { handle = s .handle; epoch = s .epoch .0; last = s .last .0; from = onward (s .from) (s .done) }
+
+-- the session at a place; none, which is 25, where the areas break the rules or the place holds no session
+unfoldable pub storedAt : Shape → List ℕ → List ℕ → ℕ → Option Session
+storedAt s w b i = cond (allowed s w b) (sessionAt (placesOf s w b) i) none
+
+-- ---- beginning
+
+-- a refusal's number, or what to hand to the first call: a place and a sender
+pub data Start : Type 0 where
+  refused : ℕ → Start
+  ready : ℕ → Sender → Start
+
+abbrev pub startOf : Begun → Start
+startOf (Begun.Ready s) = ready (s .place) (senderOf s)
+startOf Begun.NumbersPast = refused 24
+startOf Begun.Unfit = refused 25
+
+unfoldable pub startFrom : ℕ → Option Session → ℕ → ℕ → ℕ → ℕ → Start
+startFrom limit none i h e last = refused 25
+startFrom limit (some a) i h e last = cond (cannotSend limit a (newSender h e last)) (refused 24) (ready i (newSender h e last))
+
+-- ---- one call
+
+-- a refusal's number; a frame's length and what to hand to the next call; done
+pub data Step : Type 0 where
+  refused : ℕ → Step
+  gives : ℕ → ℕ → Sender → Step
+  finished : Step
+
+abbrev pub stepOf : Sent → Step
+stepOf (Sent.Frame len s) = gives len (s .place) (senderOf s)
+stepOf Sent.Done = finished
+stepOf Sent.TooShort = refused 9
+stepOf Sent.Unfit = refused 25
+
+-- a frame is still to be sent, and its commit number would pass 2^64 - 1: no operation leaves such a state
+abbrev pub spent : ℕ → Option ℕ → Bool
+spent last none = false
+spent last (some n) = leb top last
+
+-- 9 where the frame is longer than the area
+abbrev pub answerTo : ℕ → ℕ → Option (Frame × Sender) → Step
+answerTo room i none = finished
+answerTo room i (some (f, t)) = cond (ltb room (length (encode f))) (refused 9) (gives (length (encode f)) i t)
+
+unfoldable pub stepFrom : ℕ → Option Session → ℕ → Sender → ℕ → Step
+stepFrom limit none i s room = refused 25
+stepFrom limit (some a) i s room = cond (spent (s .last) (s .from)) (refused 25) (answerTo room i (sendNext limit a s))
+
+-- what the area holds then: the frame at its start, and the rest as it was; without a frame all is as it was
+abbrev pub filledBy : Option (Frame × Sender) → List ℕ → List ℕ
+filledBy none out = out
+filledBy (some (f, t)) out = cond (ltb (length out) (length (encode f))) out (write out 0 (encode f))
+
+unfoldable pub areaFrom : ℕ → Option Session → Sender → List ℕ → List ℕ
+areaFrom limit none s out = out
+areaFrom limit (some a) s out = cond (spent (s .last) (s .from)) out (filledBy (sendNext limit a s) out)
+
+-- THE PROMISE OF A CALL: the store is only read
+pub record SendsWhole (limit : ℕ) (shape : Shape) (w b : List ℕ) (s : Sending) (out out' : List ℕ) (r : Sent) : Type 0 where
+  pub answer : stepOf r ≡ stepFrom limit (storedAt shape w b (s .place)) (s .place) (senderOf s) (length out)
+  pub area : out' ≡ areaFrom limit (storedAt shape w b (s .place)) (senderOf s) out
+
+-- calls, one after the other, over one store: the frames that they gave, as bytes, and the state that the last one left
+pub data Given (limit : ℕ) (shape : Shape) (w b : List ℕ) : Sending → List (List ℕ) → Sending → Type 0 where
+  nothing : {s : Sending} → Given limit shape w b s [] s
+  tooShort : {s t : Sending} {fs : List (List ℕ)} {out out' : List ℕ} → SendsWhole limit shape w b s out out' Sent.TooShort → Given limit shape w b s fs t → Given limit shape w b s fs t
+  frame : {s s' t : Sending} {fs : List (List ℕ)} {out out' : List ℕ} {len : ℕ} → SendsWhole limit shape w b s out out' (Sent.Frame len s') → Given limit shape w b s' fs t
+      → Given limit shape w b s (take len out' ∷ fs) t
+
+-- the frames given so far are these, as bytes, and those still to come are `left`
+pub record Sofar (frames : List Frame) (fs : List (List ℕ)) : Type 0 where
+  pub sent : List Frame
+  pub left : List Frame
+  pub all : frames ≡ sent ++ left
+  pub bytes : fs ≡ map encode sent
+
+-- WHAT CALLS FROM A BEGINNING COME TO, over one store: the frames given are the first of those that send the session whole, as bytes, once each
+-- in order. The rest is said of any next call: it answers "done" when no frame is left and no sooner, with the area as it was; 25 never; and 9
+-- never in an area of C + 22 × M + 156 bytes.
+pub record SentWhole (limit : ℕ) (shape : Shape) (w b : List ℕ) (a : Session) (h e last : ℕ) (fs : List (List ℕ)) (t : Sending) : Type 0 where
+  pub so : Sofar (wholeFrames limit h e last a) fs
+  pub at-end : (out out' : List ℕ) (r : Sent) → so .left ≡ [] → SendsWhole limit shape w b t out out' r → (r ≡ Sent.Done) × (out' ≡ out)
+  pub then-all : (out out' : List ℕ) → SendsWhole limit shape w b t out out' Sent.Done → fs ≡ map encode (wholeFrames limit h e last a)
+  pub never-unfit : (out out' : List ℕ) → SendsWhole limit shape w b t out out' Sent.Unfit → ⊥
+  pub never-short : (out out' : List ℕ) → shape .bytes + 22 * shape .messages + 156 ≤ length out → SendsWhole limit shape w b t out out' Sent.TooShort → ⊥

@@ -1,0 +1,174 @@
+// Sending a session whole, one frame a call (active.rs, send_whole).
+ghost use mathlib.Core.Path.{_≡_};
+ghost use mathlib.Core.Bool.{_&&_};
+ghost use Prim.Native.Nat.{ℕ, _≤_, _<_};
+ghost use lib.ListN.{length, getD};
+ghost use lib.Dec.{ltb};
+ghost use Rattle.model_session.specs.Whole.{batchLimit, wholeBatches};
+ghost use Rattle.areas.specs.Areas.{allowed, Rules, placeAt};
+ghost use Rattle.batch.specs.Batch.{WroteBatch};
+ghost use Rattle.active.specs.Whole.{storedAt, startOf, startFrom, SendsWhole};
+use areas::Shape;
+use batch::Written;
+use frame::CommitNumber;
+use frame::Epoch;
+
+// A sending: the session's place, the handle, the epoch, the last commit number, the number that it goes on from (0 at first),
+// and whether it is done.
+#[repr(C)]
+pub struct Sending {
+    pub place: usize,
+    pub handle: u32,
+    pub epoch: Epoch,
+    pub last: CommitNumber,
+    pub from: u64,
+    pub done: bool,
+}
+
+// The answer to beginning: what to hand to the first call; 24; 25.
+pub enum Begun {
+    Ready(Sending),
+    NumbersPast,
+    Unfit,
+}
+
+// The answer to a call: a frame's length and what to hand to the next call; done; 9; 25.
+pub enum Sent {
+    Frame(usize, Sending),
+    Done,
+    TooShort,
+    Unfit,
+}
+
+// Whether the areas keep the rules and the place holds a session.
+fn is_stored(words: &[u64], bytes: &[u8], shape: Shape, i: usize) -> bool
+    ensures { λ r. ⌜ r ≡ (allowed shape (now (words .entry)) (now (bytes .entry)) && ltb i (getD (now (words .entry)) 0 0)) ⌝ }
+{
+    if areas::allowed(shape, words, bytes) {
+        return i < words[0] as usize;
+    }
+    false
+}
+
+// How many batches send the session at place i.
+fn batches_at(words: &[u64], bytes: &[u8], shape: Shape, i: usize, limit: u64) -> usize
+    requires { ⌜ Rules shape (now words) (now bytes) ⌝ }
+    requires { ⌜ i < getD (now words) 0 0 ⌝ }
+    ensures is { λ r. ⌜ r ≡ length (wholeBatches limit (placeAt shape (now (words .entry)) (now (bytes .entry)) i .stored .session)) ⌝ }
+    ensures few { λ r. ⌜ r ≤ 33554433 ⌝ }
+{
+    let p = areas::spot_in(words, bytes, shape, i);
+    let wa = p.wa;
+    let we = p.we;
+    let ba = p.ba;
+    let be = p.be;
+    let max = shape.messages as usize;
+    batch::batches(&words[wa..we], &bytes[ba..be], max, limit)
+}
+
+// Writes the frame of the batch that begins at a number, of the session at place i.
+fn send_at(
+    words: &[u64],
+    bytes: &[u8],
+    shape: Shape,
+    i: usize,
+    from: u64,
+    limit: u64,
+    handle: u32,
+    epoch: Epoch,
+    number: CommitNumber,
+    out: &mut [u8],
+) -> Written
+    requires { ⌜ Rules shape (now words) (now bytes) ⌝ }
+    requires { ⌜ i < getD (now words) 0 0 ⌝ }
+    ensures { λ r. ⌜ WroteBatch limit (placeAt shape (now (words .entry)) (now (bytes .entry)) i .stored .session) handle (epoch .0) (number .0) from (now (out .entry)) (now (out .exit)) r ⌝ }
+{
+    let p = areas::spot_in(words, bytes, shape, i);
+    let wa = p.wa;
+    let we = p.we;
+    let ba = p.ba;
+    let be = p.be;
+    let max = shape.messages as usize;
+    let w = &words[wa..we];
+    let b = &bytes[ba..be];
+    batch::send(w, b, max, from, limit, handle, epoch, number, out)
+}
+
+impl Sending {
+    // The message bytes above which a batch is full.
+    pub const BATCH_BYTES: u64 = 1_048_576;
+
+    // Begins to send the session at a place to a handle, numbered on from its last commit number.
+    pub fn begin(
+        shape: Shape,
+        words: &[u64],
+        bytes: &[u8],
+        place: usize,
+        handle: u32,
+        epoch: Epoch,
+        last: CommitNumber,
+    ) -> Begun
+        ensures { λ r. ⌜ startOf r ≡ startFrom batchLimit (storedAt shape (now (words .entry)) (now (bytes .entry)) place) place handle (epoch .0) (last .0) ⌝ }
+    {
+        if is_stored(words, bytes, shape, place) {
+            let count = batches_at(words, bytes, shape, place, Self::BATCH_BYTES);
+            if u64::MAX - last.0 < count as u64 {
+                return Begun::NumbersPast;
+            }
+            return Begun::Ready(Sending {
+                place,
+                handle,
+                epoch,
+                last,
+                from: 0,
+                done: false,
+            });
+        }
+        Begun::Unfit
+    }
+
+    // Gives the next frame at the start of the lent area.
+    pub fn send_whole(self, shape: Shape, words: &[u64], bytes: &[u8], out: &mut [u8]) -> Sent
+        ensures { λ r. ⌜ SendsWhole batchLimit shape (now (words .entry)) (now (bytes .entry)) self (now (out .entry)) (now (out .exit)) r ⌝ }
+    {
+        let place = self.place;
+        let handle = self.handle;
+        let epoch = self.epoch;
+        let limit = Self::BATCH_BYTES;
+        if is_stored(words, bytes, shape, place) {
+            if self.done {
+                return Sent::Done;
+            }
+            if self.last.0 == u64::MAX {
+                return Sent::Unfit;
+            }
+            let last = CommitNumber(self.last.0 + 1);
+            return match send_at(
+                words,
+                bytes,
+                shape,
+                place,
+                self.from,
+                limit,
+                handle,
+                epoch,
+                last,
+                out,
+            ) {
+                Written::TooShort => Sent::TooShort,
+                Written::Batch(len, from, done) => Sent::Frame(
+                    len,
+                    Sending {
+                        place,
+                        handle,
+                        epoch,
+                        last,
+                        from,
+                        done,
+                    },
+                ),
+            };
+        }
+        Sent::Unfit
+    }
+}
