@@ -64,17 +64,17 @@ abbrev pub dueNow : Bool → List (ℕ × ℕ) → Given → Bool
 dueNow promoted pending (damaged n) = false
 dueNow promoted pending (intact f) = not promoted && due pending f
 
--- the place of the store that a frame may change: a Bind's is its key's, else it is the handle's
+-- the place of the store that a frame may change: a Bind's is its key's, a Batch's is its handle's; no other frame changes one (for these it is written 0)
 abbrev pub placeBy : List Place → ℕ → Given → ℕ
-placeBy ps p (damaged n) = p
-placeBy ps p (intact (hello v e node kinds)) = p
-placeBy ps p (intact (welcome e i)) = p
+placeBy ps p (damaged n) = 0
+placeBy ps p (intact (hello v e node kinds)) = 0
+placeBy ps p (intact (welcome e i)) = 0
 placeBy ps p (intact (bind h e lag k)) = placeOf k ps
 placeBy ps p (intact (batch h e n part cs apps)) = p
-placeBy ps p (intact (ack h n)) = p
-placeBy ps p (intact (nack h r)) = p
-placeBy ps p (intact (bound h m)) = p
-placeBy ps p (intact (checked h e i)) = p
+placeBy ps p (intact (ack h n)) = 0
+placeBy ps p (intact (nack h r)) = 0
+placeBy ps p (intact (bound h m)) = 0
+placeBy ps p (intact (checked h e i)) = 0
 
 -- commits run before, if they are due; then only place i and the first 66 words change, and nothing for a refusal or a Nack; then commits run after it, if asked
 pub record FrameLeaves (s : Shape) (i : ℕ) (before after quiet : Bool) (w w' b b' : List ℕ) : Type 0 where
@@ -114,6 +114,26 @@ writesBy L c found promoteUnchecked = none
 
 -- ---- a call
 
+-- the frame has a handle to look up: it is a Bind or a Batch
+abbrev pub hasHandle : Given → Bool
+hasHandle (damaged n) = false
+hasHandle (intact (hello v e node kinds)) = false
+hasHandle (intact (welcome e i)) = false
+hasHandle (intact (bind h e lag k)) = true
+hasHandle (intact (batch h e n part cs apps)) = true
+hasHandle (intact (ack h n)) = false
+hasHandle (intact (nack h r)) = false
+hasHandle (intact (bound h m)) = false
+hasHandle (intact (checked h e i)) = false
+
+abbrev pub asks : Call → Bool
+asks (onFrameHeld f) = hasHandle (given f)
+asks (onFrame f) = hasHandle (given f)
+asks (flush n) = false
+asks (disconnectedFrom n) = false
+asks promote = false
+asks promoteUnchecked = false
+
 pub record Stepped (s : Settings) (c : Replica) (seen : Seen) (call : Call) (w w' b b' h h' : List ℕ) (r : Outcome) : Type 0 where
   pub is : outcomeOf protocolVersion (roomIn seen h) (s .shape) w' b' h' r ≡ coreStep (settingsOf s (roomIn seen h)) (coreAt (countersOf c) (s .shape) w b) (foundIn seen h) (ltb (seen .free) (seen .len)) call
   pub lands : Lands seen (getD w' 0 0) (roomIn seen h) r
@@ -122,7 +142,7 @@ pub record Stepped (s : Settings) (c : Replica) (seen : Seen) (call : Call) (w w
   pub leaves : Leaves (s .shape) c (seen .bound .place) call w w' b b' (r .answer)
   pub holds : h' ≡ holdsAfter (roomIn seen h) (seen .at) (writesBy (settingsOf s (roomIn seen h)) (countersOf c) (foundIn seen h) call) h
 
--- 25 where the rules are broken; else the step, where the record found is of the call's handle
+-- 25 where the rules are broken; else the step, where the record found is of the call's handle, if the call has one
 pub record StepIs (s : Settings) (c : Replica) (seen : Seen) (call : Call) (w w' b b' h h' : List ℕ) (r : Outcome) : Type 0 where
   pub refuses : seenAllowed (s .shape) seen w b h ≡ false → (r ≡ leaving c seen (isRefused 25)) × ((w' ≡ w) × ((b' ≡ b) × (h' ≡ h)))
-  pub steps : seenAllowed (s .shape) seen w b h ≡ true → (isFound seen ≡ true → seen .bound .handle ≡ handleOf call) → Stepped s c seen call w w' b b' h h' r
+  pub steps : seenAllowed (s .shape) seen w b h ≡ true → (isFound seen ≡ true → asks call ≡ true → seen .bound .handle ≡ handleOf call) → Stepped s c seen call w w' b b' h h' r
