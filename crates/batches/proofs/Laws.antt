@@ -110,6 +110,7 @@ module _ (s : Settings) (c : Replica) (seen : Seen) (h : ℕ) (e : Epoch) (n : C
         is = is ∙ sym (tests ∙ (λ j. Goes (p j) (q j)));
         lands = leaving-lands c seen x (getD w 0 0) (length area);
         stays = refl;
+        stored = λ y. absurd (true≢false (sym y));
         rules = rules;
         used = refl;
         touched = touched-none (s .shape) (seen .bound .place) w b;
@@ -160,6 +161,10 @@ module _ (s : Settings) (c : Replica) (seen : Seen) (h : ℕ) (e : Epoch) (n : C
     says-so : (t : Bool) → X t .answer ≡ A
     says-so true = refl
     says-so false = refl
+
+    stores-so : (t : Bool) → X t .stores ≡ t
+    stores-so true = refl
+    stores-so false = refl
 
     clears-none : (t : Bool) → X t .clears ≡ false
     clears-none true = refl
@@ -258,6 +263,7 @@ module _ (s : Settings) (c : Replica) (seen : Seen) (h : ℕ) (e : Epoch) (n : C
           is = reads (d .stores) ∙ (λ j. record { core = coreAt (countersOf (epochTo c e)) (s .shape) w' b'; action = cond (d .stores) (store h (boundOf protocolVersion (d .slot) area')) leave; answer = answer-is d h n b' j }) ∙ handled ∙ sym went;
           lands = lands-in (d .stores) refl;
           stays = clears-none (d .stores);
+          stored = λ y. sym found-is ∙ stored-found (sym (stores-so (d .stores)) ∙ y);
           rules = g .rules;
           used = used-same;
           touched = g .touched;

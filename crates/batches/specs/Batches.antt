@@ -65,6 +65,7 @@ pub record BatchIs (s : Settings) (c : Replica) (seen : Seen) (h e n : ℕ) (par
     ≡ coreBatch (settingsOf s (length area)) (coreAt (countersOf c) (s .shape) w b) (foundAt seen h area) h e n part cs apps
   pub lands : Lands seen (getD w' 0 0) (length area) r
   pub stays : r .clears ≡ false
+  pub stored : r .stores ≡ true → foundFor seen h ≡ true
   pub rules : Rules (s .shape) w' b'
   pub used : getD w' 0 0 ≡ getD w 0 0
   pub touched : Touched (s .shape) (seen .bound .place) w w' b b'
