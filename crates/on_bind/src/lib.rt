@@ -1,8 +1,8 @@
 // Bind (standby.rs, on_bind): a handle is bound to the session of a key, which is opened if it is new, and its summary is answered.
 ghost use mathlib.Core.Path.{_≡_};
 ghost use mathlib.Core.Bool.{_||_};
-ghost use Prim.Native.Nat.{_<_, _≤_, min};
-ghost use lib.ListN.{length, getD};
+ghost use Prim.Native.Nat.{_<_, _≤_};
+ghost use lib.ListN.{getD};
 ghost use lib.Dec.{ltb};
 ghost use Rattle.model_session.specs.Summary.{summary};
 ghost use Rattle.model.specs.Store.{placeOf};
@@ -125,6 +125,13 @@ fn open(words: &mut [u64], bytes: &mut [u8], frame: &[u8], shape: Shape, k: Sess
     );
 }
 
+// Whether there is a session place for a key: its own, or a free one.
+fn has_place(used: u64, place: usize, places: u32) -> bool
+    ensures { λ r. ⌜ r ≡ (ltb place used || ltb used places) ⌝ }
+{
+    ((place as u64) < used) | (used < places as u64)
+}
+
 // Whether the row has a place for the handle: its own, or a free one.
 fn has_room(seen: Seen) -> bool
     ensures { λ r. ⌜ r ≡ roomFor seen ⌝ }
@@ -172,7 +179,7 @@ pub fn on_bind(
     }
     let shape = s.shape;
     let place = place_of(words, bytes, frame, shape, k);
-    if (words[0] <= place as u64) & (shape.places as u64 <= words[0]) {
+    if !has_place(words[0], place, shape.places) {
         return outcome::leaves(c, seen, outcome::refused(20));
     }
     if !has_room(seen) {

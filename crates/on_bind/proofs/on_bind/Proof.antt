@@ -1,165 +1,63 @@
 use borrow.Author.Needs.{needs}
+use native.Mathlib.Omega.{arith}
+use Rattle.on_bind.proofs.Laws.{free-there, stale, lagging, all-places, all-handles, binds}
+use Rattle.parts.specs.Answers.{keyOf}
+use borrow.Author.Tests.{not-false}
+use lib.ListN.{getD}
+use denote.Ref.{now}
 use Rattle.on_bind.proofs.on_bind.Statement.{statement}
 use Rattle.on_bind.proofs.on_bind.Tie as tie
-use Rattle.on_bind.proofs.on_bind.Reads as reads
-use Rattle.on_bind.proofs.on_bind.Lts as lts
-use Rattle.on_bind.proofs.brief_at.Reads as brief-at-reads
-use Rattle.on_bind.proofs.has_room.Reads as has-room-reads
-use Rattle.on_bind.proofs.new_handle.Reads as new-handle-reads
-use Rattle.on_bind.proofs.open.Reads as open-reads
-use Rattle.on_bind.proofs.place_of.Reads as place-of-reads
-use Rattle.outcome.proofs.bound.Reads as bound-reads
-use Rattle.outcome.proofs.leaves.Reads as leaves-reads
-use Rattle.outcome.proofs.nack.Reads as nack-reads
-use Rattle.outcome.proofs.refused.Reads as refused-reads
-use Rattle.outcome.proofs.stores.Reads as stores-reads
 
--- src/lib.rt:168:41
-nack-requires : tie.Need-nack-requires
-nack-requires c κs = search needs
-
--- src/lib.rt:168:9
-leaves-requires : tie.Need-leaves-requires
-leaves-requires c κs = search needs
-
--- src/lib.rt:168:9
 returns : tie.Need-returns
-returns c = ?
+returns c = stale (c .before .before .before .before .before .before .before .before .before .args .s) (c .before .before .before .before .before .before .before .before .before .args .c) (c .before .before .before .before .before .before .before .before .before .args .seen) (c .before .before .before .before .before .before .before .before .before .args .handle) (c .before .before .before .before .before .before .before .before .before .args .epoch .0) (c .before .before .before .before .before .before .before .before .before .args .max-lag) (keyOf (now (c .before .before .before .before .before .before .before .before .before .args .frame)) (c .before .before .before .before .before .before .before .before .before .args .k)) (now (c .before .before .before .before .before .before .before .before .before .args .words)) (now (c .before .before .before .before .before .before .before .before .before .args .bytes)) (c .before .before .before .before .before .before .before .before .before .pre .0) (omega (arith, c .before .before .if1 .taken)) (c .leaves .ensures) (c .before .nack .ensures)
 
--- src/lib.rt:171:41
-nack-requires-2 : tie.Need-nack-requires-2
-nack-requires-2 c κs = search needs
-
--- src/lib.rt:171:9
-leaves-requires-2 : tie.Need-leaves-requires-2
-leaves-requires-2 c κs = search needs
-
--- src/lib.rt:171:9
 returns-2 : tie.Need-returns-2
-returns-2 c = ?
+returns-2 c = lagging (c .before .before .before .before .before .before .before .before .before .before .before .args .s) (c .before .before .before .before .before .before .before .before .before .before .before .args .c) (c .before .before .before .before .before .before .before .before .before .before .before .args .seen) (c .before .before .before .before .before .before .before .before .before .before .before .args .handle) (c .before .before .before .before .before .before .before .before .before .before .before .args .epoch .0) (c .before .before .before .before .before .before .before .before .before .before .before .args .max-lag) (keyOf (now (c .before .before .before .before .before .before .before .before .before .before .before .args .frame)) (c .before .before .before .before .before .before .before .before .before .before .before .args .k)) (now (c .before .before .before .before .before .before .before .before .before .before .before .args .words)) (now (c .before .before .before .before .before .before .before .before .before .before .before .args .bytes)) (c .before .before .before .before .before .before .before .before .before .before .before .pre .0) (omega (arith, c .before .before .before .before .if1 .left)) (omega (arith, c .before .before .if2 .taken)) (c .leaves2 .ensures) (c .before .nack2 .ensures)
 
--- src/lib.rt:174:9
-place-of-requires : tie.Need-place-of-requires
-place-of-requires c κs = search needs
-
--- src/lib.rt:175:9
-slice-read-if3 : tie.Need-slice-read-if3
-slice-read-if3 c = search needs
-
--- src/lib.rt:175:38
-cast-if3 : tie.Need-cast-if3
-cast-if3 c = search needs
-
--- src/lib.rt:175:61
-slice-read-if3-2 : tie.Need-slice-read-if3-2
-slice-read-if3-2 c = search needs
-
--- src/lib.rt:176:41
-refused-requires : tie.Need-refused-requires
-refused-requires c κs = search needs
-
--- src/lib.rt:176:9
-leaves-requires-3 : tie.Need-leaves-requires-3
-leaves-requires-3 c κs = search needs
-
--- src/lib.rt:176:9
-same-length : tie.Need-same-length
-same-length c = search needs
-
--- src/lib.rt:176:9
-same-length-2 : tie.Need-same-length-2
-same-length-2 c = search needs
-
--- src/lib.rt:176:9
 returns-3 : tie.Need-returns-3
-returns-3 c = ?
+returns-3 c = all-places (c .before .before .before .before .before .before .before .before .before .before .before .before .before .before .before .before .before .before .args .s) (c .before .before .before .before .before .before .before .before .before .before .before .before .before .before .before .before .before .before .args .c) (c .before .before .before .before .before .before .before .before .before .before .before .before .before .before .before .before .before .before .args .seen) (c .before .before .before .before .before .before .before .before .before .before .before .before .before .before .before .before .before .before .args .handle) (c .before .before .before .before .before .before .before .before .before .before .before .before .before .before .before .before .before .before .args .epoch .0) (c .before .before .before .before .before .before .before .before .before .before .before .before .before .before .before .before .before .before .args .max-lag) (keyOf (now (c .before .before .before .before .before .before .before .before .before .before .before .before .before .before .before .before .before .before .args .frame)) (c .before .before .before .before .before .before .before .before .before .before .before .before .before .before .before .before .before .before .args .k)) (now (c .before .before .before .before .before .before .before .before .before .before .before .before .before .before .before .before .before .before .args .words)) (now (c .before .before .before .before .before .before .before .before .before .before .before .before .before .before .before .before .before .before .args .bytes)) (c .before .before .before .before .before .before .before .before .before .before .before .before .before .before .before .before .before .before .pre .0) (omega (arith, c .before .before .before .before .before .before .before .before .before .before .before .if1 .left)) (omega (arith, c .before .before .before .before .before .before .before .before .before .if2 .left)) (c .before .before .before .before .before .place-of .ensures) (c .before .before .before .has-place .ensures) (c .before .before .if3 .taken) (c .leaves3 .ensures) (c .before .refused .ensures)
 
--- src/lib.rt:178:9
-has-room-requires : tie.Need-has-room-requires
-has-room-requires c κs = search needs
-
--- src/lib.rt:179:41
-refused-requires-2 : tie.Need-refused-requires-2
-refused-requires-2 c κs = search needs
-
--- src/lib.rt:179:9
-leaves-requires-4 : tie.Need-leaves-requires-4
-leaves-requires-4 c κs = search needs
-
--- src/lib.rt:179:9
-same-length-3 : tie.Need-same-length-3
-same-length-3 c = search needs
-
--- src/lib.rt:179:9
-same-length-4 : tie.Need-same-length-4
-same-length-4 c = search needs
-
--- src/lib.rt:179:9
 returns-4 : tie.Need-returns-4
-returns-4 c = ?
+returns-4 c = all-handles (c .before .before .before .before .before .before .before .before .before .before .before .before .before .before .before .before .before .before .before .before .args .s) (c .before .before .before .before .before .before .before .before .before .before .before .before .before .before .before .before .before .before .before .before .args .c) (c .before .before .before .before .before .before .before .before .before .before .before .before .before .before .before .before .before .before .before .before .args .seen) (c .before .before .before .before .before .before .before .before .before .before .before .before .before .before .before .before .before .before .before .before .args .handle) (c .before .before .before .before .before .before .before .before .before .before .before .before .before .before .before .before .before .before .before .before .args .epoch .0) (c .before .before .before .before .before .before .before .before .before .before .before .before .before .before .before .before .before .before .before .before .args .max-lag) (keyOf (now (c .before .before .before .before .before .before .before .before .before .before .before .before .before .before .before .before .before .before .before .before .args .frame)) (c .before .before .before .before .before .before .before .before .before .before .before .before .before .before .before .before .before .before .before .before .args .k)) (now (c .before .before .before .before .before .before .before .before .before .before .before .before .before .before .before .before .before .before .before .before .args .words)) (now (c .before .before .before .before .before .before .before .before .before .before .before .before .before .before .before .before .before .before .before .before .args .bytes)) (c .before .before .before .before .before .before .before .before .before .before .before .before .before .before .before .before .before .before .before .before .pre .0) (omega (arith, c .before .before .before .before .before .before .before .before .before .before .before .before .before .if1 .left)) (omega (arith, c .before .before .before .before .before .before .before .before .before .before .before .if2 .left)) (c .before .before .before .before .before .before .before .place-of .ensures) (c .before .before .before .before .before .has-place .ensures) (c .before .before .before .before .if3 .left) (c .before .before .before .has-room .ensures) (c .before .before .if4 .taken) (c .leaves4 .ensures) (c .before .refused2 .ensures)
 
--- src/lib.rt:181:5
 open-requires : tie.Need-open-requires
-open-requires c κs = ?
+open-requires c κs = (c .before .before .before .before .before .before .before .before .before .before .before .before .before .before .before .before .before .before .before .before .pre .0, (c .before .before .before .before .before .before .before .place-of .ensures, (free-there (c .before .before .before .before .before .before .before .place-of .result) (getD (now (c .before .before .before .before .before .before .before .before .before .before .before .before .before .before .before .before .before .before .before .before .args .words)) 0 0) (c .before .before .before .before .before .before .before .before .before .before .before .before .before .before .before .before .before .before .before .before .args .s .shape .places) (c .before .before .before .before .before .has-place .ensures) (not-false (c .before .before .before .before .before .has-place .result) (c .before .before .before .before .if3 .left)), c .before .before .before .before .before .before .before .before .before .before .before .before .before .before .before .before .before .before .before .before .pre .1)))
 
--- src/lib.rt:182:9
-brief-at-requires : tie.Need-brief-at-requires
-brief-at-requires c κs = search needs
-
--- src/lib.rt:186:9
-bound-requires : tie.Need-bound-requires
-bound-requires c κs = search needs
-
--- src/lib.rt:188:9
-new-handle-requires : tie.Need-new-handle-requires
-new-handle-requires c κs = search needs
-
--- src/lib.rt:183:5
-stores-requires : tie.Need-stores-requires
-stores-requires c κs = search needs
-
--- src/lib.rt:150:1
 same-length-5 : tie.Need-same-length-5
-same-length-5 c = ?
+same-length-5 c = c .before .before .before .before .before .before .before .before .before .before .«open» .kept .0
 
--- src/lib.rt:150:1
-same-length-6 : tie.Need-same-length-6
-same-length-6 c = search needs
-
--- src/lib.rt:150:1
 returns-5 : tie.Need-returns-5
-returns-5 c = ?
+returns-5 c = binds (c .before .before .before .before .before .before .before .before .before .before .before .before .before .before .before .before .before .before .before .before .before .before .before .before .before .before .before .before .before .before .before .args .s) (c .before .before .before .before .before .before .before .before .before .before .before .before .before .before .before .before .before .before .before .before .before .before .before .before .before .before .before .before .before .before .before .args .c) (c .before .before .before .before .before .before .before .before .before .before .before .before .before .before .before .before .before .before .before .before .before .before .before .before .before .before .before .before .before .before .before .args .seen) (c .before .before .before .before .before .before .before .before .before .before .before .before .before .before .before .before .before .before .before .before .before .before .before .before .before .before .before .before .before .before .before .args .handle) (c .before .before .before .before .before .before .before .before .before .before .before .before .before .before .before .before .before .before .before .before .before .before .before .before .before .before .before .before .before .before .before .args .epoch .0) (c .before .before .before .before .before .before .before .before .before .before .before .before .before .before .before .before .before .before .before .before .before .before .before .before .before .before .before .before .before .before .before .args .max-lag) (keyOf (now (c .before .before .before .before .before .before .before .before .before .before .before .before .before .before .before .before .before .before .before .before .before .before .before .before .before .before .before .before .before .before .before .args .frame)) (c .before .before .before .before .before .before .before .before .before .before .before .before .before .before .before .before .before .before .before .before .before .before .before .before .before .before .before .before .before .before .before .args .k)) (now (c .before .before .before .before .before .before .before .before .before .before .before .before .before .before .before .before .before .before .before .before .before .before .before .before .before .before .before .before .before .before .before .args .words)) (now (c .before .before .before .before .before .before .before .before .before .before .before .before .before .before .before .before .before .before .before .before .before .before .before .before .before .before .before .before .before .before .before .args .bytes)) (c .before .before .before .before .before .before .before .before .before .before .before .before .before .before .before .before .before .before .before .before .before .before .before .before .before .before .before .before .before .before .before .pre .0) (omega (arith, c .before .before .before .before .before .before .before .before .before .before .before .before .before .before .before .before .before .before .before .before .before .before .before .before .if1 .left)) (omega (arith, c .before .before .before .before .before .before .before .before .before .before .before .before .before .before .before .before .before .before .before .before .before .before .if2 .left)) (c .before .before .before .before .before .before .before .before .before .before .before .before .before .before .before .before .before .before .place-of .ensures) (c .before .before .before .before .before .before .before .before .before .before .before .before .before .before .before .before .has-place .ensures) (c .before .before .before .before .before .before .before .before .before .before .before .before .before .before .before .if3 .left) (c .before .before .before .before .before .before .before .before .before .before .before .before .before .before .has-room .ensures) (c .before .before .before .before .before .before .before .before .before .before .before .before .before .if4 .left) (c .before .before .before .before .before .before .before .before .before .before .«open» .ensures) (c .before .before .before .brief-at .ensures) (c .before .before .bound .ensures) (c .before .new-handle .ensures) (c .stores .ensures)
 
 pub on-bind-spec : {M : Type 1} → statement M
 on-bind-spec =
     tie.close
     (tie.spec
-    nack-requires
-    leaves-requires
+    (λ c κs. search needs)
+    (λ c κs. search needs)
     returns
-    nack-requires-2
-    leaves-requires-2
+    (λ c κs. search needs)
+    (λ c κs. search needs)
     returns-2
-    place-of-requires
-    slice-read-if3
-    cast-if3
-    slice-read-if3-2
-    refused-requires
-    leaves-requires-3
-    same-length
-    same-length-2
+    (λ c κs. search needs)
+    (λ c. search needs)
+    (λ c κs. search needs)
+    (λ c κs. search needs)
+    (λ c κs. search needs)
+    (λ c. search needs)
+    (λ c. search needs)
     returns-3
-    has-room-requires
-    refused-requires-2
-    leaves-requires-4
-    same-length-3
-    same-length-4
+    (λ c κs. search needs)
+    (λ c κs. search needs)
+    (λ c κs. search needs)
+    (λ c. search needs)
+    (λ c. search needs)
     returns-4
     open-requires
-    brief-at-requires
-    bound-requires
-    new-handle-requires
-    stores-requires
+    (λ c κs. search needs)
+    (λ c κs. search needs)
+    (λ c κs. search needs)
+    (λ c κs. search needs)
     same-length-5
-    same-length-6
+    (λ c. search needs)
     returns-5)

@@ -1,62 +1,30 @@
 use borrow.Author.Needs.{needs}
+use Rattle.on_bind.proofs.Laws.{short-as, key-is, was-there, newly-there}
+use Rattle.parts.specs.Answers.{keyOf}
+use denote.Ref.{now}
 use Rattle.on_bind.proofs.open.Statement.{statement}
 use Rattle.on_bind.proofs.open.Tie as tie
-use Rattle.on_bind.proofs.open.Reads as reads
-use Rattle.on_bind.proofs.open.Lts as lts
-use Rattle.scan.proofs.slice.Reads as slice-reads
-use Rattle.sessions.proofs.open.Reads as open-reads
 
--- src/lib.rt:110:25
-slice-read-if1 : tie.Need-slice-read-if1
-slice-read-if1 c = search needs
-
--- src/lib.rt:111:9
 returns : tie.Need-returns
-returns c = ?
+returns c = was-there (c .before .before .before .before .before .args .shape) (keyOf (now (c .before .before .before .before .before .args .frame)) (c .before .before .before .before .before .args .k)) (now (c .before .before .before .before .before .args .words)) (now (c .before .before .before .before .before .args .bytes)) (c .before .before .before .before .before .pre .0) (c .before .before .before .before .before .args .place) (c .before .before .before .before .before .pre .1 .0) (c .if1 .taken)
 
--- src/lib.rt:121:9
-slice-requires : tie.Need-slice-requires
-slice-requires c κs = search needs
-
--- src/lib.rt:122:9
-slice-requires-2 : tie.Need-slice-requires-2
-slice-requires-2 c κs = search needs
-
--- src/lib.rt:123:9
-slice-requires-3 : tie.Need-slice-requires-3
-slice-requires-3 c κs = search needs
-
--- src/lib.rt:124:9
-slice-requires-4 : tie.Need-slice-requires-4
-slice-requires-4 c κs = search needs
-
--- src/lib.rt:117:5
 open-requires : tie.Need-open-requires
-open-requires c κs = ?
+open-requires c κs = (c .before .before .before .before .before .before .before .before .before .before .before .before .before .before .before .pre .0, (c .before .before .before .before .before .before .before .before .before .before .before .before .before .before .before .pre .1 .1 .0 (c .before .before .before .before .before .before .before .before .before .before .if1 .left), (short-as (c .before .before .before .slice .ensures) (c .before .before .before .before .before .before .before .before .before .before .before .before .before .before .before .pre .1 .1 .1 .begin), (short-as (c .before .before .slice2 .ensures) (c .before .before .before .before .before .before .before .before .before .before .before .before .before .before .before .pre .1 .1 .1 .sender), (short-as (c .before .slice3 .ensures) (c .before .before .before .before .before .before .before .before .before .before .before .before .before .before .before .pre .1 .1 .1 .target), short-as (c .slice4 .ensures) (c .before .before .before .before .before .before .before .before .before .before .before .before .before .before .before .pre .1 .1 .1 .suffix))))))
 
--- src/lib.rt:103:1
-same-length : tie.Need-same-length
-same-length c = search needs
-
--- src/lib.rt:103:1
-same-length-2 : tie.Need-same-length-2
-same-length-2 c = search needs
-
--- src/lib.rt:103:1
 returns-2 : tie.Need-returns-2
-returns-2 c = ?
+returns-2 c = newly-there (c .before .before .before .before .before .before .before .before .before .before .before .before .before .before .before .before .before .before .before .before .args .shape) (keyOf (now (c .before .before .before .before .before .before .before .before .before .before .before .before .before .before .before .before .before .before .before .before .args .frame)) (c .before .before .before .before .before .before .before .before .before .before .before .before .before .before .before .before .before .before .before .before .args .k)) (now (c .before .before .before .before .before .before .before .before .before .before .before .before .before .before .before .before .before .before .before .before .args .words)) (now (c .before .before .before .before .before .before .before .before .before .before .before .before .before .before .before .before .before .before .before .before .args .bytes)) (c .before .before .before .before .before .before .before .before .before .before .before .before .before .before .before .before .before .before .before .before .pre .0) (c .before .before .before .before .before .before .before .before .before .before .before .before .before .before .before .before .before .before .before .before .args .place) (c .before .before .before .before .before .before .before .before .before .before .before .before .before .before .before .before .before .before .before .before .pre .1 .0) (key-is (now (c .before .before .before .before .before .before .before .before .before .before .before .before .before .before .before .before .before .before .before .before .args .frame)) (c .before .before .before .before .before .before .before .before .before .before .before .before .before .before .before .before .before .before .before .before .args .k) (c .before .before .before .before .before .before .before .before .slice .ensures) (c .before .before .before .before .before .before .before .slice2 .ensures) (c .before .before .before .before .before .before .slice3 .ensures) (c .before .before .before .before .before .slice4 .ensures)) (c .before .before .before .before .before .before .before .before .before .before .before .before .before .before .before .if1 .left) (c .before .before .before .before .before .before .before .before .before .before .before .before .before .before .before .before .before .before .before .before .pre .1 .1 .0 (c .before .before .before .before .before .before .before .before .before .before .before .before .before .before .before .if1 .left)) (c .before .before .before .before .«open» .ensures)
 
 pub open-spec : {M : Type 1} → statement M
 open-spec =
     tie.close
     (tie.spec
-    slice-read-if1
+    (λ c. search needs)
     returns
-    slice-requires
-    slice-requires-2
-    slice-requires-3
-    slice-requires-4
+    (λ c κs. search needs)
+    (λ c κs. search needs)
+    (λ c κs. search needs)
+    (λ c κs. search needs)
     open-requires
-    same-length
-    same-length-2
+    (λ c. search needs)
+    (λ c. search needs)
     returns-2)

@@ -1,20 +1,13 @@
 use borrow.Author.Needs.{needs}
+use Rattle.on_bind.proofs.Laws.{cut-short, cut-long}
 use Rattle.on_bind.proofs.span.Statement.{statement}
 use Rattle.on_bind.proofs.span.Tie as tie
-use Rattle.on_bind.proofs.span.Reads as reads
-use Rattle.on_bind.proofs.span.Lts as lts
 
--- src/lib.rt:37:18
-cast-t4 : tie.Need-cast-t4
-cast-t4 c = search needs
-
--- src/lib.rt:35:9
 returns : tie.Need-returns
-returns c = ?
+returns c = cut-short (c .before .before .before .args .t) (c .before .if1 .taken)
 
--- src/lib.rt:30:1
 returns-2 : tie.Need-returns-2
-returns-2 c = ?
+returns-2 c = cut-long (c .before .before .args .t) (c .if1 .left)
 
 pub span-spec : {M : Type 1} → statement M
-span-spec = tie.close (tie.spec cast-t4 returns returns-2)
+span-spec = tie.close (tie.spec (λ c. search needs) returns returns-2)
