@@ -272,12 +272,12 @@ module _ (s : Settings) (c : Replica) (row : List Handle) (call : Call) (w w' b 
     called-steps =
         record {
           is =
-            (λ i. record {
-              state = record { counters = countersOf (o .replica); places = placesOf (s .shape) w' b'; handles = handles-are i; pending = pendingOf w' };
-              answer = answerOf b' (o .answer);
-            })
-            ∙ ap (acted T) (st .is ∙ found-own-core)
-            ∙ sym (factored L (standbyOf s c row w b h) call);
+              (λ i. record {
+                state = record { counters = countersOf (o .replica); places = placesOf (s .shape) w' b'; handles = handles-are i; pending = pendingOf w' };
+                answer = answerOf b' (o .answer);
+              })
+              ∙ ap (acted T) (st .is ∙ found-own-core)
+              ∙ sym (factored L (standbyOf s c row w b h) call);
           allowed = allowed-after;
           leaves = leaves-own;
           holds = holds-own;
@@ -300,7 +300,7 @@ module _ (s : Settings) (c : Replica) (row : List Handle) (call : Call) (w w' b 
           ap (λ (x : Outcome). x .replica) (q .0),
           (
             ap (λ (x : Outcome). clearedFrom (x .from) (set row (x .at) (x .slot))) (q .0)
-            ∙ ap (clearedFrom (length row)) (set-out row (length row) (See .bound) (omega arith)) ∙ clears-end (length row) row (omega arith),
+                ∙ ap (clearedFrom (length row)) (set-out row (length row) (See .bound) (omega arith)) ∙ clears-end (length row) row (omega arith),
             q .1,
           ),
         ),
