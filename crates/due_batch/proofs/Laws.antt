@@ -199,17 +199,17 @@ module _ (s : Settings) (c : Replica) (seen : Seen) (h e n : ℕ) (part : the-fr
     }
 
   -- over the part as it was lent
-  module _ {w' b' area' : List ℕ} {r : Outcome} where
-    abbrev Goes : ℕ → ℕ → Type 0
-    Goes room lo =
-        length area' ≡ length (midOf lo (lo + room - lo) l) → BatchIs s c seen h e n part cs apps w1 w' b b' (midOf lo (lo + room - lo) l) area' r
-        → BatchIn s c seen h e n part cs apps w w' b b' l (putMid lo (lo + room - lo) l area') r
+  abbrev Goes : List ℕ → List ℕ → List ℕ → Outcome → ℕ → ℕ → Type 0
+  Goes w' b' area' r room lo =
+      length area' ≡ length (midOf lo (lo + room - lo) l) → BatchIs s c seen h e n part cs apps w1 w' b b' (midOf lo (lo + room - lo) l) area' r
+      → BatchIn s c seen h e n part cs apps w w' b b' l (putMid lo (lo + room - lo) l area') r
 
-    goes : Goes R A
-    goes size g = batch-in size (subst (λ (x : List ℕ). BatchIs s c seen h e n part cs apps w1 w' b b' x area' r) (part-lent A R l area' (within seen l) size) g)
+  goes : (w' b' area' : List ℕ) (r : Outcome) → Goes w' b' area' r R A
+  goes w' b' area' r size g = batch-in size (subst (λ (x : List ℕ). BatchIs s c seen h e n part cs apps w1 w' b b' x area' r) (part-lent A R l area' (within seen l) size) g)
 
-    pub batch-at : {room lo : ℕ} → room ≡ R → lo ≡ spotIn seen * room → Goes room lo
-    batch-at {room} {lo} p q = subst (λ (k : ℕ). (x : ℕ) → x ≡ spotIn seen * k → Goes k x) (sym p) (λ x f. subst (Goes R) (sym f) goes) lo q
+  pub batch-at : (w' b' area' : List ℕ) (r : Outcome) {room lo : ℕ} → room ≡ R → lo ≡ spotIn seen * room → Goes w' b' area' r room lo
+  batch-at w' b' area' r {room} {lo} p q =
+      subst (λ (k : ℕ). (x : ℕ) → x ≡ spotIn seen * k → Goes w' b' area' r k x) (sym p) (λ x f. subst (Goes w' b' area' r R) (sym f) (goes w' b' area' r)) lo q
 
 -- ---- what the Batch asks
 

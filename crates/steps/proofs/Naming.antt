@@ -116,14 +116,14 @@ unfolding fields
 fields-names version s =
     let t : List ℕ = drop 1 s in
     kind-first s _ (λ k.
-      row-or (eqb k 1) (starts (hello-names t))
-      (row-or (eqb k 2) (starts (welcome-names t))
-      (row-or (eqb k 3) (bind-names t)
-      (row-or (eqb k 4) (batch-names version t)
-      (row-or (eqb k 5) (starts (ack-names t))
-      (row-or (eqb k 6) (starts (nack-names t))
-      (row-or (eqb k 7) (starts (bound-names version t))
-      (row-or (eqb k 8) (starts (checked-names t)) (record { says = tt })))))))))
+    row-or (eqb k 1) (starts (hello-names t))
+    (row-or (eqb k 2) (starts (welcome-names t))
+    (row-or (eqb k 3) (bind-names t)
+    (row-or (eqb k 4) (batch-names version t)
+    (row-or (eqb k 5) (starts (ack-names t))
+    (row-or (eqb k 6) (starts (nack-names t))
+    (row-or (eqb k 7) (starts (bound-names version t))
+    (row-or (eqb k 8) (starts (checked-names t)) (record { says = tt })))))))))
 
 body-names : (version : ℕ) (s : List ℕ) {f : Frame} → body version s ≡ ok f [] → Names (drop 1 s) f
 unfolding body
@@ -151,10 +151,10 @@ at-five w h four fits f =
     let nine : 9 ≤ length w = omega arith in
     let one : n ≡ suc (n - 1) = omega arith in
     let same : take 4 (drop 1 (take n (drop 4 w))) ≡ take 4 (drop 5 w) =
-        ap (λ (k : ℕ). take 4 (drop 1 (take k (drop 4 w)))) one
-        ∙ ap (take 4) (behind-one (n - 1) (drop 4 w))
-        ∙ take-take 4 (n - 1) (drop 1 (drop 4 w)) (omega arith)
-        ∙ ap (take 4) (drop-drop 1 4 w) in
+    ap (λ (k : ℕ). take 4 (drop 1 (take k (drop 4 w)))) one
+    ∙ ap (take 4) (behind-one (n - 1) (drop 4 w))
+    ∙ take-take 4 (n - 1) (drop 1 (drop 4 w)) (omega arith)
+    ∙ ap (take 4) (drop-drop 1 4 w) in
     ap (λ (t : Bool). cond t 0 (le (take 4 (drop 5 w)))) (le-ltb (length w) 9 nine) ∙ ap le (sym same) ∙ sym (f .1)
 
 -- what was handed in as a frame was read as it, to its end
