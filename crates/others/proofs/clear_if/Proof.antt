@@ -1,4 +1,7 @@
 use borrow.Author.Needs.{needs}
+use Rattle.others.proofs.Laws.{cleared-words, left-words}
+use mathlib.Core.Path.{sym}
+use denote.Ref.{now}
 use Rattle.others.proofs.clear_if.Statement.{statement}
 use Rattle.others.proofs.clear_if.Tie as tie
 use Rattle.others.proofs.clear_if.Reads as reads
@@ -15,7 +18,7 @@ same-length c = search needs
 
 -- src/lib.rt:37:1
 returns : tie.Need-returns
-returns c = ?
+returns c = cleared-words (now (c .before .before .before .before .before .before .args .words)) (c .before .before .before .before .if1 .taken) (c .before .before .clear .ensures .1)
 
 -- src/lib.rt:37:1
 returns-2 : tie.Need-returns-2

@@ -1,4 +1,7 @@
 use borrow.Author.Needs.{needs}
+use Rattle.others.proofs.Laws.{other-in}
+use Rattle.frame.specs.Answers.{frameOf}
+use denote.Ref.{now}
 use Rattle.others.proofs.other_in.Statement.{statement}
 use Rattle.others.proofs.other_in.Tie as tie
 use Rattle.others.proofs.other_in.Reads as reads
@@ -29,7 +32,7 @@ same-length-2 c = search needs
 
 -- src/lib.rt:102:1
 returns : tie.Need-returns
-returns c = ?
+returns c = other-in (c .before .before .before .before .before .before .before .before .before .before .before .before .before .before .before .before .before .before .args .s) (c .before .before .before .before .before .before .before .before .before .before .before .before .before .before .before .before .before .before .args .c) (c .before .before .before .before .before .before .before .before .before .before .before .before .before .before .before .before .before .before .args .seen) (frameOf 1 (now (c .before .before .before .before .before .before .before .before .before .before .before .before .before .before .before .before .before .before .args .frame)) (c .before .before .before .before .before .before .before .before .before .before .before .before .before .before .before .before .before .before .args .f)) (now (c .before .before .before .before .before .before .before .before .before .before .before .before .before .before .before .before .before .before .args .words)) (now (c .before .before .before .before .before .before .before .before .before .before .before .before .before .before .before .before .before .before .args .bytes)) (c .before .before .before .before .before .before .before .before .before .before .before .before .is-pending .ensures) (c .before .before .before .before .before .before .before .before .before .run-if .ensures) (c .before .before .before .before .answer .ensures)
 
 pub other-in-spec : {M : Type 1} → statement M
 other-in-spec =

@@ -1,4 +1,9 @@
 use borrow.Author.Needs.{needs}
+use Rattle.others.proofs.Laws.{nineteen}
+use Rattle.op.specs.Answers.{runOf}
+use Rattle.model_frame.specs.Parse.{num}
+use mathlib.Core.Path.{sym}
+use denote.Ref.{now}
 use Rattle.others.proofs.reply.Statement.{statement}
 use Rattle.others.proofs.reply.Tie as tie
 use Rattle.others.proofs.reply.Reads as reads
@@ -39,15 +44,15 @@ leaves-requires c κs = search needs
 
 -- src/lib.rt:47:1
 returns : tie.Need-returns
-returns c = ?
+returns c = rw (c .before .before .before .f .given .1) (c .hello .ensures _ (sym (c .before .no-kinds .ensures)))
 
 -- src/lib.rt:47:1
 returns-2 : tie.Need-returns-2
-returns-2 c = ?
+returns-2 c = rw (c .before .before .f2 .given .1) (c .checked .ensures)
 
 -- src/lib.rt:47:1
 returns-3 : tie.Need-returns-3
-returns-3 c = ?
+returns-3 c = nineteen (c .before .before .before .before .args .c) (c .before .before .before .before .args .s) (c .before .before .before .before .args .seen) (now (c .before .before .before .before .args .frame)) (c .before .before .before .before .args .f) (c .before .before .match .keys3) (c .before .before .before .before .pre) (c .leaves .ensures) (c .before .refused .ensures)
 
 pub reply-spec : {M : Type 1} → statement M
 reply-spec =
