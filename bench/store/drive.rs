@@ -216,6 +216,40 @@ fn time(n: u64, mut turn: impl FnMut(u64)) -> f64 {
     best
 }
 
+/// Nanoseconds for a copy of the text alone, round a ring of cap bytes.
+fn copy_round(cap: usize, text: &[u8], n: u64) -> f64 {
+    let mut ring = vec![1u8; cap];
+    let mut at = 0;
+    time(n, |_| {
+        if cap < at + text.len() {
+            at = 0;
+        }
+        ring[at..at + text.len()].copy_from_slice(black_box(text));
+        black_box(&mut ring);
+        at += text.len();
+    })
+}
+
+/// The same messages in stores that differ in C only, beside a copy alone.
+fn by_bytes() {
+    println!("record, ns each, M 64, 4000 bytes, by C     ours   copy alone   VecDeque");
+    let text = vec![0x41u8; 4_000];
+    for &cap in &[262_144u32, 1_048_576, 4_194_304, 33_554_432] {
+        let mut ours = Ours::new(1, cap, 64);
+        let mut queue = Queue::new(cap as usize, 64);
+        for _ in 0..10_000 {
+            ours.record(0, &text);
+            queue.record(&text);
+        }
+        let a = time(60_000, |_| {
+            black_box(ours.record(0, black_box(&text)));
+        });
+        let b = copy_round(cap as usize, &text, 60_000);
+        let c = time(60_000, |_| queue.record(black_box(&text)));
+        println!("C {cap:8}  {a:37.1}    {b:9.1}    {c:7.1}");
+    }
+}
+
 fn compare(rounds: u64) {
     let mut r = Random(88_172_645_463_325_252);
     let mut calls = 0u64;
@@ -314,6 +348,7 @@ fn main() {
             println!("S {places:2} C {cap:8} M {max:5} bytes {len:4}  {a:7.1}    {b:7.1}    {c:7.1}");
         }
     }
+    by_bytes();
     let mut ours = Ours::new(1, 33_554_432, 65_536);
     let mut queue = Queue::new(33_554_432, 65_536);
     let text = vec![0x41u8; 100];
