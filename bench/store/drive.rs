@@ -203,15 +203,16 @@ impl Random {
     }
 }
 
-/// Nanoseconds for each of n turns: the best of three rounds.
+/// Nanoseconds for a turn: the best of thirty short rounds, 3 n turns in all, since other programs may interrupt a long one.
 fn time(n: u64, mut turn: impl FnMut(u64)) -> f64 {
+    let short = (n / 10).max(1);
     let mut best = f64::MAX;
-    for _ in 0..3 {
+    for _ in 0..30 {
         let begin = Instant::now();
-        for k in 0..n {
+        for k in 0..short {
             turn(k);
         }
-        best = best.min(begin.elapsed().as_nanos() as f64 / n as f64);
+        best = best.min(begin.elapsed().as_nanos() as f64 / short as f64);
     }
     best
 }
