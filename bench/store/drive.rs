@@ -203,17 +203,52 @@ impl Random {
     }
 }
 
-/// Nanoseconds for each of n turns: the best of three rounds.
+/// Nanoseconds for a turn: the best of thirty short rounds, 3 n turns in all, since other programs may interrupt a long one.
 fn time(n: u64, mut turn: impl FnMut(u64)) -> f64 {
+    let short = (n / 10).max(1);
     let mut best = f64::MAX;
-    for _ in 0..3 {
+    for _ in 0..30 {
         let begin = Instant::now();
-        for k in 0..n {
+        for k in 0..short {
             turn(k);
         }
-        best = best.min(begin.elapsed().as_nanos() as f64 / n as f64);
+        best = best.min(begin.elapsed().as_nanos() as f64 / short as f64);
     }
     best
+}
+
+/// Nanoseconds for a copy of the text alone, round a ring of cap bytes.
+fn copy_round(cap: usize, text: &[u8], n: u64) -> f64 {
+    let mut ring = vec![1u8; cap];
+    let mut at = 0;
+    time(n, |_| {
+        if cap < at + text.len() {
+            at = 0;
+        }
+        ring[at..at + text.len()].copy_from_slice(black_box(text));
+        black_box(&mut ring);
+        at += text.len();
+    })
+}
+
+/// The same messages in stores that differ in C only, beside a copy alone.
+fn by_bytes() {
+    println!("record, ns each, M 64, 4000 bytes, by C     ours   copy alone   VecDeque");
+    let text = vec![0x41u8; 4_000];
+    for &cap in &[262_144u32, 1_048_576, 4_194_304, 33_554_432] {
+        let mut ours = Ours::new(1, cap, 64);
+        let mut queue = Queue::new(cap as usize, 64);
+        for _ in 0..10_000 {
+            ours.record(0, &text);
+            queue.record(&text);
+        }
+        let a = time(60_000, |_| {
+            black_box(ours.record(0, black_box(&text)));
+        });
+        let b = copy_round(cap as usize, &text, 60_000);
+        let c = time(60_000, |_| queue.record(black_box(&text)));
+        println!("C {cap:8}  {a:37.1}    {b:9.1}    {c:7.1}");
+    }
 }
 
 fn compare(rounds: u64) {
@@ -314,6 +349,7 @@ fn main() {
             println!("S {places:2} C {cap:8} M {max:5} bytes {len:4}  {a:7.1}    {b:7.1}    {c:7.1}");
         }
     }
+    by_bytes();
     let mut ours = Ours::new(1, 33_554_432, 65_536);
     let mut queue = Queue::new(33_554_432, 65_536);
     let text = vec![0x41u8; 100];

@@ -1,5 +1,6 @@
--- `Lists` has the laws of lists that count up, `Lifting` says of the store what is said of one place.
+-- `Lists` has the laws of lists that count up, `Lifting` says of the store what is said of one place, `Size` how much memory is lent at most.
 pub mod Lists
 pub mod Lifting
 pub mod Ruling
 pub mod Holding
+pub mod Size

@@ -1,14 +1,16 @@
--- The two loops' invariants, what a turn of each does, and what feeding a piece gives. Assumes nothing.
+-- The search's invariant, what a turn of it does, what a copy leaves, and what feeding a piece gives. Assumes nothing.
 use mathlib.Core.Path.{_≡_, refl, sym, ap, _∙_}
 use mathlib.Core.Bool.{Bool, true, false, true≢false}
 use mathlib.Core.List.{List, [], _∷_, _++_}
 use Prim.Native.Nat.{ℕ, suc, _+_, _-_, _<_, _≤_, min}
 use native.Mathlib.Omega.{arith}
 use native.Mathlib.Numerals.{add-one}
-use lib.ListN.{length, getD, set, take, drop, length-set, length-drop, length-take, drop-of-length-le}
-use lib.Seq.{paste, paste-zero, paste-suc, take-paste, take-take, take-all, take-append-add, drop-drop, drop-cons, getD-drop, length-take-le}
+use lib.ListN.{length, getD, take, drop, length-drop, length-take, drop-of-length-le}
+use lib.Seq.{paste, take-paste, take-take, take-all, take-append-add, drop-drop, drop-cons, length-take-le}
 use lib.Dec.{leb, eqb}
 use borrow.Author.Tests.{leb-true, leb-false, lt-ltb, le-ltb, eq-eqb, ne-eqb}
+use Rattle.model_frame.specs.Bytes.{write}
+use Rattle.laws.proofs.Little.{write-is}
 use Rattle.model_text.specs.Lines.{feed, firstFeed, whole, part, cutAt}
 use Rattle.lines.specs.Feeding.{Feeds}
 
@@ -44,30 +46,15 @@ feed-le (b ∷ s) = go (eqb b feed) refl (feed-le s)
 
 -- ---- copying
 
-pub record Copying (before : List ℕ) (at : ℕ) (src : List ℕ) (from n : ℕ) (out : List ℕ) (j : ℕ) : Type 0 where
-  pub same : length out ≡ length before
-  pub upto : j ≤ n
-  pub done : out ≡ paste before at (drop from src) j
-
-pub copying : (before : List ℕ) (at : ℕ) (src : List ℕ) (from n : ℕ) → Copying before at src from n before 0
-copying before at src from n = record { same = refl; upto = omega arith; done = paste-zero before at (drop from src) }
-
-pub copies : (before : List ℕ) (at : ℕ) (src : List ℕ) (from n : ℕ) (out : List ℕ) (j : ℕ) → at + n ≤ length before → from + n ≤ length src → Copying before at src from n out j → j < n
-    → Copying before at src from n (set out (at + j) (getD src (from + j) 0)) (j + 1)
-copies before at src from n out j room long g less = record {
-  same = length-set out (at + j) (getD src (from + j) 0) ∙ g .same;
-  upto = omega arith;
-  done =
-      let inside : at + j < length before = omega arith in
-      let left : j < length (drop from src) = omega (arith, length-drop from src) in
-      (λ i. set (g .done i) (at + j) (sym (getD-drop from src j 0) i)) ∙ paste-suc before at (drop from src) j 0 inside left
-      ∙ ap (paste before at (drop from src)) (sym (add-one j));
-}
-
-pub copied : (before : List ℕ) (at : ℕ) (src : List ℕ) (from n : ℕ) (out : List ℕ) (j : ℕ) → Copying before at src from n out j → n ≤ j → out ≡ paste before at (drop from src) n
-copied before at src from n out j g end =
-    let all : j ≡ n = omega (arith, g .upto) in
-    g .done ∙ ap (paste before at (drop from src)) all
+pub copied : (before : List ℕ) (at : ℕ) (src : List ℕ) (from n : ℕ) → at + n ≤ length before → from + n ≤ length src
+    → write before at (take (from + n - from) (drop from src)) ≡ paste before at (drop from src) n
+copied before at src from n room long =
+    let here : from + n - from ≡ n = omega arith in
+    let fits : n ≤ length (drop from src) = rw (length-drop from src) (omega arith) in
+    let long-n : length (take n (drop from src)) ≡ n = length-take-le n (drop from src) fits in
+    ap (λ (k : ℕ). write before at (take k (drop from src))) here
+    ∙ write-is before at (take n (drop from src)) (omega arith)
+    ∙ ap (λ (k : ℕ). take at before ++ take n (drop from src) ++ drop (at + k) before) long-n
 
 -- ---- feeding
 

@@ -40,11 +40,8 @@ fn copy(dst: &mut [u8], at: usize, src: &[u8], from: usize, n: usize)
     requires { ⌜ from + n ≤ length (now src) ⌝ }
     ensures { λ _. ⌜ now (dst .exit) ≡ paste (now (dst .entry)) at (drop from (now (src .entry))) n ⌝ }
 {
-    let mut j: usize = 0;
-    while j < n {
-        dst[at + j] = src[from + j];
-        j += 1;
-    }
+    let end = from + n;
+    wire::copy(&src[from..end], dst, at);
 }
 
 // Takes the piece's bytes from `from` on up to its next line feed or its end behind the first len bytes of the line.

@@ -15,11 +15,7 @@ pub fn copy_into(dst: &mut [u8], at: usize, src: &[u8])
     requires { ⌜ at + length (now src) ≤ length (now dst) ⌝ }
     ensures { λ _. ⌜ now (dst .exit) ≡ paste (now (dst .entry)) at (now (src .entry)) (length (now (src .entry))) ⌝ }
 {
-    let mut i = 0;
-    while i < src.len() {
-        dst[at + i] = src[i];
-        i += 1;
-    }
+    wire::copy(src, dst, at);
 }
 
 // Writes msg into the ring from its tail at, and returns the new tail.

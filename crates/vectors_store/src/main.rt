@@ -121,6 +121,38 @@ fn list(words: &[u64], bytes: &[u8], shape: Shape) {
     put_text(b"\n");
 }
 
+// Makes a store of two sessions, of which the first is recorded to.
+fn make(words: &mut [u64], bytes: &mut [u8], cap: u32, max: u32) -> Shape {
+    store_c::store_make(words, bytes, 2, cap, max);
+    store_c::store_open(words, bytes, 2, cap, max, b"FIX.4.4", b"A", b"B", b"");
+    store_c::store_open(words, bytes, 2, cap, max, b"FIX.4.4", b"A", b"C", b"");
+    Shape {
+        places: 2,
+        bytes: cap,
+        messages: max,
+    }
+}
+
+// A Record without message that skips some numbers.
+fn record_none(words: &mut [u64], bytes: &mut [u8], cap: u32, max: u32, skip: u32) {
+    let next = store_c::store_next_outgoing(words, bytes, 2, cap, max, 0);
+    let seq = wrapping_add_u64(next, skip as u64);
+    store_c::store_record_none(words, bytes, 2, cap, max, 0, seq);
+}
+
+fn put_last_outgoing(words: &[u64], bytes: &[u8], cap: u32, max: u32, n: u32) {
+    put_hash(store_c::store_last_outgoing(words, bytes, 2, cap, max, 0, n as u64));
+    put_text(b"\n");
+}
+
+// The hash of a command's text.
+fn put_text_hash(line: &[u8]) {
+    if 2 <= line.len() {
+        put_hash(log::fnv::bytes(0xcbf2_9ce4_8422_2325, &line[2..]));
+        put_text(b"\n");
+    }
+}
+
 // One command.
 fn command(line: &[u8], words: &mut [u64], bytes: &mut [u8], shape: Shape) -> Shape {
     if line.len() == 0 {
@@ -132,48 +164,10 @@ fn command(line: &[u8], words: &mut [u64], bytes: &mut [u8], shape: Shape) -> Sh
     let max = shape.messages;
     match line[0] {
         b'n' => {
-            store_c::store_make(words, bytes, 2, a.value, b.value);
-            store_c::store_open(
-                words,
-                bytes,
-                2,
-                a.value,
-                b.value,
-                b"FIX.4.4",
-                b"A",
-                b"B",
-                b"",
-            );
-            store_c::store_open(
-                words,
-                bytes,
-                2,
-                a.value,
-                b.value,
-                b"FIX.4.4",
-                b"A",
-                b"C",
-                b"",
-            );
-            return Shape {
-                places: 2,
-                bytes: a.value,
-                messages: b.value,
-            };
+            return make(words, bytes, a.value, b.value);
         }
         b'r' => record_many(words, bytes, cap, max, a.value as usize, b.value),
-        b'g' => {
-            let next = store_c::store_next_outgoing(words, bytes, 2, cap, max, 0);
-            store_c::store_record_none(
-                words,
-                bytes,
-                2,
-                cap,
-                max,
-                0,
-                wrapping_add_u64(next, a.value as u64),
-            );
-        }
+        b'g' => record_none(words, bytes, cap, max, a.value),
         b'z' => {
             store_c::store_reset(words, bytes, 2, cap, max, 0);
         }
@@ -181,16 +175,8 @@ fn command(line: &[u8], words: &mut [u64], bytes: &mut [u8], shape: Shape) -> Sh
             store_c::store_take_over(words, bytes, 2, cap, max, 0, a.value as u64);
         }
         b'l' => list(words, bytes, shape),
-        b'h' => {
-            put_hash(store_c::store_last_outgoing(words, bytes, 2, cap, max, 0, a.value as u64));
-            put_text(b"\n");
-        }
-        _ => {
-            if 2 <= line.len() {
-                put_hash(log::fnv::bytes(0xcbf2_9ce4_8422_2325, &line[2..]));
-                put_text(b"\n");
-            }
-        }
+        b'h' => put_last_outgoing(words, bytes, cap, max, a.value),
+        _ => put_text_hash(line),
     }
     shape
 }

@@ -5,10 +5,10 @@ use Rattle.areas.proofs.roomy.Statement.{statement}
 use Rattle.areas.proofs.roomy.Tie as tie
 
 returns : tie.Need-returns
-returns c = bytes-beyond (c .before .before .before .before .args .shape) (c .before .before .before .before .args .words .now) (c .before .before .before .before .args .bytes .now) (c .if1 .taken)
+returns c = bytes-beyond (c .before .before .before .before .args .shape) (c .before .before .before .before .args .words .now) (c .before .before .before .before .args .bytes .now) (omega arith)
 
 returns-2 : tie.Need-returns-2
-returns-2 c = messages-beyond (c .before .before .before .before .before .before .args .shape) (c .before .before .before .before .before .before .args .words .now) (c .before .before .before .before .before .before .args .bytes .now) (omega arith) (c .if2 .taken)
+returns-2 c = messages-beyond (c .before .before .before .before .before .before .args .shape) (c .before .before .before .before .before .before .args .words .now) (c .before .before .before .before .before .before .args .bytes .now) (omega arith) (omega arith)
 
 mul-result : tie.Need-mul-result
 mul-result c = omega (arith, product (c .before .before .before .before .before .before .before .before .args .shape .places) (c .place-words .result) 4294967296 131088 (omega arith) (omega (arith, c .place-words .ensures)))
