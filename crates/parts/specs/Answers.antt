@@ -4,8 +4,8 @@ use mathlib.Core.List.{List}
 use mathlib.Core.Option.{Option, none, some}
 use lib.ListN.{drop}
 use Rattle.model_frame.specs.Frame as the-frame
-use Rattle.model_frame.specs.Frame.{Key, Reason, staleEpoch, diverged, lagTooGreat, restarted, commit, whole, lastWhole}
-use Rattle.model_frame.specs.Parse.{Res, ok, bad}
+use Rattle.model_frame.specs.Frame.{Key, Reason, staleEpoch, diverged, lagTooGreat, restarted, commit, whole, lastWhole, badSession}
+use Rattle.model_frame.specs.Parse.{Res, ok, bad, andThen, fail}
 use Rattle.scan.specs.Answers.{faultOf, spanOf}
 use Rattle.parts.specs.declared.Part
 use Rattle.parts.specs.declared.Part.{Part}
@@ -64,6 +64,10 @@ keyOf b k = record {
 abbrev pub resSession : List ℕ → SessionAt → Res Key
 resSession b (SessionAt.Got k c) = ok (keyOf b k) (drop (c .at) b)
 resSession b (SessionAt.Bad e) = bad (faultOf e)
+
+-- the fourth text's own fault, or the key's
+abbrev pub noKey : Res (List ℕ) → Res Key
+noKey suffix = andThen suffix (λ t. fail badSession)
 
 abbrev pub flightOf : InFlight → Option ℕ
 flightOf (InFlight.Seq n) = some n

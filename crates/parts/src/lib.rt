@@ -1,10 +1,13 @@
 // The parts of frames that are more than a number: part and refusal bytes, kinds, application records, keys, summaries.
 ghost use mathlib.Core.Path.{_≡_};
+ghost use mathlib.Core.List.{List};
+ghost use Prim.Native.Nat.{ℕ};
 ghost use lib.ListN.{drop};
 ghost use Rattle.model_frame.specs.Parse.{num, many, forget};
 ghost use Rattle.model_frame.specs.Reading.{kinds, appRecord, appRecords, partByte, reason, key, flight, summary};
+ghost use Rattle.scan.specs.Answers.{resSpan};
 ghost use Rattle.op.specs.Answers.{resEnd, resRun};
-ghost use Rattle.parts.specs.Answers.{resPart, resReason, resRecord, resSession, flightOf, resSummary};
+ghost use Rattle.parts.specs.Answers.{resPart, resReason, resRecord, resSession, noKey, flightOf, resSummary};
 use op::End;
 use op::Run;
 use op::RunAt;
@@ -181,6 +184,16 @@ pub fn app_records_from(buf: &[u8], c: Cursor) -> RunAt
     }
 }
 
+// A key whose first three texts are none of a key's: a fault of the fourth goes before the key's.
+fn no_session(suffix: SpanAt) -> SessionAt
+    ensures { λ r. ⌜ ((b : List ℕ) → resSession b r ≡ noKey (resSpan b suffix)) ⌝ }
+{
+    match suffix {
+        SpanAt::Bad(e) => SessionAt::Bad(e),
+        SpanAt::Got(_, _) => SessionAt::Bad(FrameError::Invalid(Value::Session)),
+    }
+}
+
 // The four texts of a key, which is judged after all of them.
 pub fn session_from(buf: &[u8], c: Cursor) -> SessionAt
     ensures { λ r. ⌜ resSession (now (buf .entry)) r ≡ key (drop (c .at) (now (buf .entry))) ⌝ }
@@ -191,24 +204,29 @@ pub fn session_from(buf: &[u8], c: Cursor) -> SessionAt
             JudgedAt::Bad(e) => SessionAt::Bad(e),
             JudgedAt::Got(sender_comp_id, w, d) => match scan::judged_from(buf, d, 1, 32) {
                 JudgedAt::Bad(e) => SessionAt::Bad(e),
-                JudgedAt::Got(target_comp_id, x, d) => match scan::judged_from(buf, d, 0, 32) {
-                    JudgedAt::Bad(e) => SessionAt::Bad(e),
-                    JudgedAt::Got(key_suffix, y, d) => {
-                        if v & w & x & y {
-                            SessionAt::Got(
-                                SessionId {
-                                    begin_string,
-                                    sender_comp_id,
-                                    target_comp_id,
-                                    key_suffix,
-                                },
-                                d,
-                            )
-                        } else {
-                            SessionAt::Bad(FrameError::Invalid(Value::Session))
+                JudgedAt::Got(target_comp_id, x, d) => {
+                    if !(v & w & x) {
+                        return no_session(scan::text_from(buf, d));
+                    }
+                    match scan::judged_from(buf, d, 0, 32) {
+                        JudgedAt::Bad(e) => SessionAt::Bad(e),
+                        JudgedAt::Got(key_suffix, y, d) => {
+                            if y {
+                                SessionAt::Got(
+                                    SessionId {
+                                        begin_string,
+                                        sender_comp_id,
+                                        target_comp_id,
+                                        key_suffix,
+                                    },
+                                    d,
+                                )
+                            } else {
+                                SessionAt::Bad(FrameError::Invalid(Value::Session))
+                            }
                         }
                     }
-                },
+                }
             },
         },
     }

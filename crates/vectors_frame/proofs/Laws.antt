@@ -1,0 +1,39 @@
+-- A frame that was written lies within its area. Assumes nothing.
+use mathlib.Core.Path.{_≡_, refl, ap, _∙_}
+use mathlib.Core.Bool.{Bool, true, false, cond}
+use mathlib.Core.List.{List}
+use mathlib.Core.Option.{Option, none, some}
+use Prim.Native.Nat.{ℕ, _≤_}
+use native.Mathlib.Omega.{arith}
+use borrow.Author.Tests.{ltb-false}
+use lib.Dec.{ltb}
+use lib.ListN.{length}
+use Rattle.model_frame.specs.Frame.{Frame}
+use Rattle.model_frame.specs.Reading.{maxBody}
+use Rattle.model_frame.specs.Writing.{bodyBytes, encode, fine}
+use Rattle.print.specs.Encoding.{Outcome, wrote, refused, outcome, Answer, took, refusal, answerOf, writtenOf, Encoded}
+use Rattle.print.specs.declared.Written.{Written}
+use Rattle.print.specs.declared.Written
+
+-- how many bytes an answer tells of
+abbrev told : Answer → ℕ
+told (took n) = n
+told (refusal n) = 0
+
+room : (version : ℕ) (f : Option Frame) (k : ℕ) → told (answerOf (outcome version f k)) ≤ k
+unfolding outcome
+room version none k = omega arith
+room version (some f) k = go (fine version f) (ltb maxBody (length (bodyBytes f))) (ltb k (length (encode f))) refl
+  where
+    go :
+        (a b t : Bool) → ltb k (length (encode f)) ≡ t →
+        told (answerOf (cond a (cond b (refused 1) (cond t (refused 9) (wrote (encode f)))) (refused 8))) ≤ k
+    go false b t e = omega arith
+    go true true t e = omega arith
+    go true false true e = omega arith
+    go true false false e = ltb-false k (length (encode f)) e
+
+pub took-fits : {version n : ℕ} {f : Option Frame} {before after : List ℕ} → Encoded version f before after (Written.Took n) → n ≤ length before
+took-fits {version} {n} {f} {before} e =
+    let same : n ≡ told (answerOf (outcome version f (length before))) = ap told (e .answer) in
+    omega (arith, same, room version f (length before))
