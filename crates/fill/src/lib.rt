@@ -1,6 +1,4 @@
 // The changes of a session, each only where the areas keep the rules and the place is in use.
-ghost use Prim.Native.Nat.{_≤_};
-ghost use lib.ListN.{length};
 use areas::Shape;
 use std::num::wrapping_add_u64;
 

@@ -5,10 +5,6 @@
 // Record with this message, `l LENGTH` one with a made message, `g N` one without message, `z` Reset;
 // `w HANDLE EPOCH LAST` a sending, `v HANDLE EPOCH LAST LENGTH` one that lends so many bytes first and more after a 9,
 // `x LAST FROM` a call with a state that no beginning gave.
-mod send;
-
-ghost use Prim.Native.Nat.{_≤_};
-ghost use lib.ListN.{length};
 use areas::Shape;
 use libc::STDIN_FILENO;
 
@@ -99,12 +95,12 @@ fn sending(
     let c = script::field(line, 2);
     let long = out.len();
     match letter {
-        b'w' => send::whole(words, bytes, shape, i, script::low(a), b, c, out, long),
+        b'w' => sendings::whole(words, bytes, shape, i, script::low(a), b, c, out, long),
         b'v' => {
             let short = script::field(line, 3) as usize;
-            send::whole(words, bytes, shape, i, script::low(a), b, c, out, short)
+            sendings::whole(words, bytes, shape, i, script::low(a), b, c, out, short)
         }
-        b'x' => send::odd(words, bytes, shape, i, a, b, out),
+        b'x' => sendings::odd(words, bytes, shape, i, a, b, out),
         _ => {}
     }
 }

@@ -1,6 +1,4 @@
 // Sendings of a session, and what they give in text.
-ghost use Prim.Native.Nat.{_≤_};
-ghost use lib.ListN.{length};
 use active::Begun;
 use active::Sending;
 use active::Sent;
