@@ -1,7 +1,7 @@
 // Runs a script: fills sessions of small stores and sends them whole. What it must write was recorded from the Rust by
 // tests/active_vectors, which also wrote the script. A line is a letter, a character, and what it takes:
-// `n S C M` a new store of S places, `o TEXT` opens the session with this target, `p I` place I; what follows is about that place:
-// `i N` SetNextIncoming, `b N F` SetNextIncomingInFlight, `f N` SetInFlight, `t TEXT` the stamp, `k TEXT` the marks, `m TEXT` a
+// `n S C M` a new store of S places, `o:TEXT` opens the session with this target, `p I` place I; what follows is about that place:
+// `i N` SetNextIncoming, `b N F` SetNextIncomingInFlight, `f N` SetInFlight, `t:TEXT` the stamp, `k:TEXT` the marks, `m:TEXT` a
 // Record with this message, `l LENGTH` one with a made message, `g N` one without message, `z` Reset;
 // `w HANDLE EPOCH LAST` a sending, `v HANDLE EPOCH LAST LENGTH` one that lends so many bytes first and more after a 9,
 // `x LAST FROM` a call with a state that no beginning gave.
