@@ -10,3 +10,5 @@ gen flush flushes '(flush the-connection)'
 gen disconnected_from drops '(disconnectedFrom the-connection)'
 gen promote promotes promote
 gen promote_unchecked promotes_unchecked promoteUnchecked
+python3 tools/entry.py replica make made "(made-over the-s the-c the-row the-words (x .1 .1 .1 .0) the-bytes (x .0) (p .1))" 'Rattle.replica.proofs.Making.{made-over}'
+python3 tools/entry.py replica on_frame4 on_frame

@@ -21,6 +21,9 @@ use Rattle.outcome.proofs.Answer.Laws as Answer-laws
 use Rattle.outcome.specs.declared.Outcome.{Outcome}
 use Rattle.outcome.proofs.Outcome as Outcome-type
 use Rattle.outcome.proofs.Outcome.Laws as Outcome-laws
+use Rattle.replica.specs.declared.Kept.{Kept}
+use Rattle.replica.proofs.Kept as Kept-type
+use Rattle.replica.proofs.Kept.Laws as Kept-laws
 
 abbrev pub R-Replica : RattleType
 R-Replica = Replica-type.the-row
@@ -85,3 +88,19 @@ tells-Outcome = LL.tells Outcome-type.the-type Outcome-laws.the-laws
 module _ {M : Type 1} (𝓤 : URA M) (H : Heap 𝓤) (A : Atoms 𝓤) (W : Given 𝓤 H A) where
   pub makes-Outcome : Makes 𝓤 H A R-Outcome (Is R-Outcome)
   makes-Outcome = LL.makes Outcome-type.the-type Outcome-laws.the-plain 𝓤 H A
+
+abbrev pub R-Kept : RattleType
+R-Kept = Kept-type.the-row
+
+abbrev pub val-Kept : Kept → Val
+val-Kept = LL.val Kept-type.the-type Kept-laws.the-laws
+
+abbrev pub vals-Kept : Kept → List Val
+vals-Kept = LL.vals Kept-type.the-type Kept-laws.the-laws
+
+pub tells-Kept : Tells R-Kept (Is R-Kept) vals-Kept
+tells-Kept = LL.tells Kept-type.the-type Kept-laws.the-laws
+
+module _ {M : Type 1} (𝓤 : URA M) (H : Heap 𝓤) (A : Atoms 𝓤) (W : Given 𝓤 H A) where
+  pub makes-Kept : Makes 𝓤 H A R-Kept (Is R-Kept)
+  makes-Kept = LL.makes Kept-type.the-type Kept-laws.the-plain 𝓤 H A

@@ -198,7 +198,7 @@ module _ {M : Type 1} (𝓤 : URA M) (H : Heap 𝓤) (A : Atoms 𝓤) (W : Given
   abbrev to-places-in-use : ℕ → GName → PlacesInUse 𝓤 H A memory run .Ghost
   to-places-in-use α γ = (((α ∷ [], tt), (fullShare, tt), tt, (at u64 (words-at .ptr .0) (words-at .ptr .1) γ the-words, tt), (s-words ∷ [], tt)), tt)
 
-  goes-places-in-use : (α : ℕ) (γ : GName)  → ent 𝓤 (sep 𝓤 (A .lft (α ∷ []) fullShare) (sem 𝓤 H A (Shared u64 (words-at .ptr .0) (words-at .ptr .1) α γ the-words))) (PlacesInUse 𝓤 H A memory run .pre (to-places-in-use α γ))
+  goes-places-in-use : (α : ℕ) (γ : GName) → ent 𝓤 (sep 𝓤 (A .lft (α ∷ []) fullShare) (sem 𝓤 H A (Shared u64 (words-at .ptr .0) (words-at .ptr .1) α γ the-words))) (PlacesInUse 𝓤 H A memory run .pre (to-places-in-use α γ))
   goes-places-in-use α γ = qed W (‵ (flft (α ∷ []) fullShare) ∷ ‵ (Shared u64 (words-at .ptr .0) (words-at .ptr .1) α γ the-words) ∷ []) ∵ nothing ! $ move ! (2 ∷ 0 ∷ []) $ fjoin ! $ nothing ! $ move ! (2 ∷ 0 ∷ []) $ join ! $ join ! $ nothing ! $ move ! (1 ∷ 0 ∷ []) $ done !
 
   told-places-in-use : (α : ℕ) (γ : GName) (u : Val) → ent 𝓤 (PlacesInUse 𝓤 H A memory run .post (to-places-in-use α γ) u) (H .⇛ (sep 𝓤 (A .lft (α ∷ []) fullShare) (fact 𝓤 ((u ≡ vint w64 x₇) × Is u64 x₇ (vint w64 x₇ ∷ [])))))
@@ -208,7 +208,7 @@ module _ {M : Type 1} (𝓤 : URA M) (H : Heap 𝓤) (A : Atoms 𝓤) (W : Given
   abbrev to-room-of : ℕ → GName → RoomOf 𝓤 H A memory run .Ghost
   to-room-of α γ = (((α ∷ [], tt), (fullShare, tt), tt, (at u8 (holds-at .ptr .0) (holds-at .ptr .1) γ the-holds, (x₈, tt)), (s-holds ∷ [], (vint w64 x₈ ∷ [], tt))), tt)
 
-  goes-room-of : (α : ℕ) (γ : GName)  → ent 𝓤 (sep 𝓤 (A .lft (α ∷ []) fullShare) (sem 𝓤 H A (Shared u8 (holds-at .ptr .0) (holds-at .ptr .1) α γ the-holds))) (RoomOf 𝓤 H A memory run .pre (to-room-of α γ))
+  goes-room-of : (α : ℕ) (γ : GName) → ent 𝓤 (sep 𝓤 (A .lft (α ∷ []) fullShare) (sem 𝓤 H A (Shared u8 (holds-at .ptr .0) (holds-at .ptr .1) α γ the-holds))) (RoomOf 𝓤 H A memory run .pre (to-room-of α γ))
   goes-room-of α γ = qed W (‵ (flft (α ∷ []) fullShare) ∷ ‵ (Shared u8 (holds-at .ptr .0) (holds-at .ptr .1) α γ the-holds) ∷ []) ∵ nothing ! $ owned ! u64 (Is u64) (uint-makes 𝓤 H A W w64) x₈ (vint w64 x₈ ∷ []) len-row $ fjoin ! $ move ! (2 ∷ 0 ∷ []) $ fjoin ! $ nothing ! $ move ! (2 ∷ 0 ∷ []) $ join ! $ join ! $ nothing ! $ move ! (1 ∷ 0 ∷ []) $ done !
 
   told-room-of : (α : ℕ) (γ : GName) (u : Val) → ent 𝓤 (RoomOf 𝓤 H A memory run .post (to-room-of α γ) u) (H .⇛ (sep 𝓤 (A .lft (α ∷ []) fullShare) (fact 𝓤 ((u ≡ vint w64 x₉) × Is u64 x₉ (vint w64 x₉ ∷ [])))))
@@ -263,34 +263,34 @@ module _ {M : Type 1} (𝓤 : URA M) (H : Heap 𝓤) (A : Atoms 𝓤) (W : Given
 
     part₁₉ : (is-c : Is R-Replica the-c (vals-Replica the-c)) → (f₇ : Is u64 x₇ (vint w64 x₇ ∷ [])) → (f₉ : Is u64 x₉ (vint w64 x₉ ∷ [])) → (f₁₀ : Is R-Seen x₁₀ (vals-Seen x₁₀)) → (x : CoreGives) → (p : CoreTold x) → Sq W (After x ∷ ‵ (row R-Handle fullShare the-row (row-at .ptr .0) (row-at .ptr .1)) ∷ ‵ (cellAt fullShare (R-Replica .mir) (vals-Replica the-c) (c-at .ptr .0) (c-at .ptr .1)) ∷ ‵ (R-Replica .own the-c (vals-Replica the-c)) ∷ ‵ (fobor κ₀ q₀ (Inside (mem R-Replica) (c-at .ptr .0) (c-at .ptr .1) (c-at .name))) ∷ ‵ (fobs (c-at .name) (R-Replica .coded .code the-c)) ∷ ‵ (fauth (c-at .name) (R-Replica .coded .code the-c)) ∷ ‵ (fobor κ₁ q₁ (Held R-Handle (length the-row) (row-at .ptr .0) (row-at .ptr .1) (row-at .name))) ∷ ‵ (fobs (row-at .name) (codedHoleys R-Handle .code (heres R-Handle the-row))) ∷ ‵ (fauth (row-at .name) (codedHoleys R-Handle .code (heres R-Handle the-row))) ∷ stack 𝓤 H A (empty Answer-laws.mir l₀ ∷ filled (tyRef (named 0) mut (pointee (R-Replica .written))) l₁ (s-c) ∷ filled (sliceTy (tyRef (named 1) mut (pointee (R-Handle .written)))) l₂ (s-row) ∷ filled (sliceTy (tyRef (named 2) mut word)) l₃ (s-words) ∷ filled (sliceTy (tyRef (named 3) mut (tyInt w8))) l₄ (s-bytes) ∷ filled (sliceTy (tyRef (named 4) mut (tyInt w8))) l₅ (s-holds) ∷ filled Settings-laws.mir l₆ (val-Settings the-s) ∷ filled word l₇ (vint w64 x₇) ∷ filled word l₈ (vint w64 x₈) ∷ filled word l₉ (vint w64 x₉) ∷ filled Seen-laws.mir l₁₀ (val-Seen x₁₀) ∷ filled Outcome-laws.mir l₁₁ (val-Outcome (x .0)) ∷ filled (tyRef erased imm word) l₁₂ (vptr (words-at .ptr .0) (words-at .ptr .1)) ∷ filled (sliceTy (tyRef erased imm word)) l₁₃ (s-words) ∷ filled (tyRef erased imm (tyInt w8)) l₁₄ (vptr (holds-at .ptr .0) (holds-at .ptr .1)) ∷ filled (sliceTy (tyRef erased imm (tyInt w8))) l₁₅ (s-holds) ∷ filled (tyRef erased imm (pointee (R-Handle .written))) l₁₆ (vptr (row-at .ptr .0) (row-at .ptr .1)) ∷ filled (sliceTy (tyRef erased imm (pointee (R-Handle .written)))) l₁₇ (s-row) ∷ filled Replica-laws.mir l₁₈ (val-Replica the-c) ∷ filled (tyRef erased mut word) l₁₉ (vptr (words-at .ptr .0) (words-at .ptr .1)) ∷ filled (sliceTy (tyRef erased mut word)) l₂₀ (s-words) ∷ filled (tyRef erased mut (tyInt w8)) l₂₁ (vptr (bytes-at .ptr .0) (bytes-at .ptr .1)) ∷ filled (sliceTy (tyRef erased mut (tyInt w8))) l₂₂ (s-bytes) ∷ filled (tyRef erased mut (tyInt w8)) l₂₃ (vptr (holds-at .ptr .0) (holds-at .ptr .1)) ∷ filled (sliceTy (tyRef erased mut (tyInt w8))) l₂₄ (s-holds) ∷ empty tyUnit l₂₅ ∷ empty (tyRef erased mut (pointee (R-Handle .written))) l₂₆ ∷ empty (sliceTy (tyRef erased mut (pointee (R-Handle .written)))) l₂₇ ∷ []) []) (runs Ct Λ En text.t-19 (atRet En Post))
     part₁₉ is-c f₇ f₉ f₁₀ x p =
-        assigns ! (addr ! (from ! (fld ! refl (hop ! (look-in ! 60 (sub ! 0 refl (whole !))) (stop !))))) (from ! (stop !)) (init ! 12 refl (tt, tt)) $ 
-        assigns ! (agg ! (and-then ! (load ! (from ! (stop !)) (look ! 12 refl)) (and-then ! (load ! (from ! (fld ! refl (stop !))) (look-in ! 60 (sub ! 1 refl (whole !)))) (no-more !)))) (from ! (stop !)) (init ! 10 refl (tt, (tt, (record { fits = room-row .0 }, tt)))) $ move ! (1 ∷ []) $ 
-        calls-act ! fm memory run known-act the-row (row-at .ptr .0) (row-at .ptr .1) ((x .0) .at) ((x .0) .from) ((x .0) .slot) room-row ((LL.owed Outcome-type.the-type Outcome-laws.the-laws (x .0) _ (p .0) .1 .1 .1 .1 .0) .1) ((LL.owed Outcome-type.the-type Outcome-laws.the-laws (x .0) _ (p .0) .1 .1 .1 .1 .1 .0) .1) (LL.owed Outcome-type.the-type Outcome-laws.the-laws (x .0) _ (p .0) .1 .1 .1 .1 .1 .1 .0) (λ j. (and-then ! (load ! (from ! (stop !)) (look ! 10 refl)) (and-then ! (load ! (from ! (fld ! refl (stop !))) (look-in ! 42 (sub ! 4 refl (whole !)))) (and-then ! (load ! (from ! (fld ! refl (stop !))) (look-in ! 42 (sub ! 5 refl (whole !)))) (and-then ! (load ! (from ! (fld ! refl (stop !))) (look-in ! 42 (sub ! 6 refl (whole !)))) (no-more !)))))) ( land ! (from ! (stop !)) (init ! 14 refl (tt, tt)) $ 
-        assigns ! (of-opd ! (load ! (from ! (fld ! refl (stop !))) (look-in ! 42 (sub ! 0 refl (whole !))))) (from ! (hop ! (look ! 62 refl) (stop !))) (store-raw ! 2 refl (LL.lawful Replica-type.the-type Replica-laws.the-laws 𝓤 H A W .typed ((x .0) .replica) (vals-Replica ((x .0) .replica)) (LL.owed Outcome-type.the-type Outcome-laws.the-laws (x .0) _ (p .0) .0) .0)) $ 
-        assigns ! (of-opd ! (load ! (from ! (fld ! refl (stop !))) (look-in ! 42 (sub ! 1 refl (whole !))))) (from ! (stop !)) (init ! 64 refl (LL.lawful Answer-type.the-type Answer-laws.the-laws 𝓤 H A W .typed ((x .0) .answer) (vals-Answer ((x .0) .answer)) (LL.owed Outcome-type.the-type Outcome-laws.the-laws (x .0) _ (p .0) .1 .0) .0)) $ 
-         move ! (3 ∷ []) $ drop ! $ owned ! R-Replica (Is R-Replica) (makes-Replica 𝓤 H A W) ((x .0) .replica) (vals-Replica ((x .0) .replica)) (LL.owed Outcome-type.the-type Outcome-laws.the-laws (x .0) _ (p .0) .0) $ move ! (3 ∷ 0 ∷ 4 ∷ 5 ∷ 6 ∷ []) $ closes ! tt R-Replica ((x .0) .replica) (vals-Replica ((x .0) .replica)) (c-at .ptr .0) (c-at .ptr .1) $ move ! (3 ∷ 5 ∷ 6 ∷ 7 ∷ []) $ closes-slice ! tt R-Handle the-row (row₁ x) (same₁ x) (row-at .ptr .0) (row-at .ptr .1) $ returns ! (look ! 61 refl) $
-         by ! (frees-stack 𝓤 H A W (filled Answer-laws.mir l₀ _ ∷ filled (tyRef (named 0) mut (pointee (R-Replica .written))) l₁ _ ∷ filled (sliceTy (tyRef (named 1) mut (pointee (R-Handle .written)))) l₂ _ ∷ filled (sliceTy (tyRef (named 2) mut word)) l₃ _ ∷ filled (sliceTy (tyRef (named 3) mut (tyInt w8))) l₄ _ ∷ filled (sliceTy (tyRef (named 4) mut (tyInt w8))) l₅ _ ∷ filled Settings-laws.mir l₆ _ ∷ filled word l₇ _ ∷ filled word l₈ _ ∷ filled word l₉ _ ∷ filled Seen-laws.mir l₁₀ _ ∷ filled Outcome-laws.mir l₁₁ _ ∷ filled (tyRef erased imm word) l₁₂ _ ∷ filled (sliceTy (tyRef erased imm word)) l₁₃ _ ∷ filled (tyRef erased imm (tyInt w8)) l₁₄ _ ∷ filled (sliceTy (tyRef erased imm (tyInt w8))) l₁₅ _ ∷ filled (tyRef erased imm (pointee (R-Handle .written))) l₁₆ _ ∷ filled (sliceTy (tyRef erased imm (pointee (R-Handle .written)))) l₁₇ _ ∷ filled Replica-laws.mir l₁₈ _ ∷ filled (tyRef erased mut word) l₁₉ _ ∷ filled (sliceTy (tyRef erased mut word)) l₂₀ _ ∷ filled (tyRef erased mut (tyInt w8)) l₂₁ _ ∷ filled (sliceTy (tyRef erased mut (tyInt w8))) l₂₂ _ ∷ filled (tyRef erased mut (tyInt w8)) l₂₃ _ ∷ filled (sliceTy (tyRef erased mut (tyInt w8))) l₂₄ _ ∷ filled tyUnit l₂₅ _ ∷ filled (tyRef erased mut (pointee (R-Handle .written))) l₂₆ _ ∷ filled (sliceTy (tyRef erased mut (pointee (R-Handle .written)))) l₂₇ _ ∷ []) (‵ (fobs (row-at .name) (codedHoleys R-Handle .code (heres R-Handle (row₁ x)))) ∷ ‵ (fbor κ₁ (Held R-Handle (length (row₁ x)) (row-at .ptr .0) (row-at .ptr .1) (row-at .name))) ∷ ‵ (flft κ₁ q₁) ∷ ‵ (fobs (c-at .name) (R-Replica .coded .code ((x .0) .replica))) ∷ ‵ (fbor κ₀ (Inside (mem R-Replica) (c-at .ptr .0) (c-at .ptr .1) (c-at .name))) ∷ ‵ (flft κ₀ q₀) ∷ After x ∷ []) (Post (val-Answer ((x .0) .answer))) (exits x p)))
+        assigns ! (addr ! (from ! (fld ! refl (hop ! (look-in ! 60 (sub ! 0 refl (whole !))) (stop !))))) (from ! (stop !)) (init ! 12 refl (tt, tt)) $
+        assigns ! (agg ! (and-then ! (load ! (from ! (stop !)) (look ! 12 refl)) (and-then ! (load ! (from ! (fld ! refl (stop !))) (look-in ! 60 (sub ! 1 refl (whole !)))) (no-more !)))) (from ! (stop !)) (init ! 10 refl (tt, (tt, (record { fits = room-row .0 }, tt)))) $ move ! (1 ∷ []) $
+        calls-act ! fm memory run known-act the-row (row-at .ptr .0) (row-at .ptr .1) ((x .0) .at) ((x .0) .from) ((x .0) .slot) room-row ((LL.owed Outcome-type.the-type Outcome-laws.the-laws (x .0) _ (p .0) .1 .1 .1 .1 .0) .1) ((LL.owed Outcome-type.the-type Outcome-laws.the-laws (x .0) _ (p .0) .1 .1 .1 .1 .1 .0) .1) (LL.owed Outcome-type.the-type Outcome-laws.the-laws (x .0) _ (p .0) .1 .1 .1 .1 .1 .1 .0) (λ j. (and-then ! (load ! (from ! (stop !)) (look ! 10 refl)) (and-then ! (load ! (from ! (fld ! refl (stop !))) (look-in ! 42 (sub ! 4 refl (whole !)))) (and-then ! (load ! (from ! (fld ! refl (stop !))) (look-in ! 42 (sub ! 5 refl (whole !)))) (and-then ! (load ! (from ! (fld ! refl (stop !))) (look-in ! 42 (sub ! 6 refl (whole !)))) (no-more !)))))) (land ! (from ! (stop !)) (init ! 14 refl (tt, tt)) $
+        assigns ! (of-opd ! (load ! (from ! (fld ! refl (stop !))) (look-in ! 42 (sub ! 0 refl (whole !))))) (from ! (hop ! (look ! 62 refl) (stop !))) (store-raw ! 2 refl (LL.lawful Replica-type.the-type Replica-laws.the-laws 𝓤 H A W .typed ((x .0) .replica) (vals-Replica ((x .0) .replica)) (LL.owed Outcome-type.the-type Outcome-laws.the-laws (x .0) _ (p .0) .0) .0)) $
+        assigns ! (of-opd ! (load ! (from ! (fld ! refl (stop !))) (look-in ! 42 (sub ! 1 refl (whole !))))) (from ! (stop !)) (init ! 64 refl (LL.lawful Answer-type.the-type Answer-laws.the-laws 𝓤 H A W .typed ((x .0) .answer) (vals-Answer ((x .0) .answer)) (LL.owed Outcome-type.the-type Outcome-laws.the-laws (x .0) _ (p .0) .1 .0) .0)) $
+        move ! (3 ∷ []) $ drop ! $ owned ! R-Replica (Is R-Replica) (makes-Replica 𝓤 H A W) ((x .0) .replica) (vals-Replica ((x .0) .replica)) (LL.owed Outcome-type.the-type Outcome-laws.the-laws (x .0) _ (p .0) .0) $ move ! (3 ∷ 0 ∷ 4 ∷ 5 ∷ 6 ∷ []) $ closes ! tt R-Replica ((x .0) .replica) (vals-Replica ((x .0) .replica)) (c-at .ptr .0) (c-at .ptr .1) $ move ! (3 ∷ 5 ∷ 6 ∷ 7 ∷ []) $ closes-slice ! tt R-Handle the-row (row₁ x) (same₁ x) (row-at .ptr .0) (row-at .ptr .1) $ returns ! (look ! 61 refl) $
+        by ! (frees-stack 𝓤 H A W (filled Answer-laws.mir l₀ _ ∷ filled (tyRef (named 0) mut (pointee (R-Replica .written))) l₁ _ ∷ filled (sliceTy (tyRef (named 1) mut (pointee (R-Handle .written)))) l₂ _ ∷ filled (sliceTy (tyRef (named 2) mut word)) l₃ _ ∷ filled (sliceTy (tyRef (named 3) mut (tyInt w8))) l₄ _ ∷ filled (sliceTy (tyRef (named 4) mut (tyInt w8))) l₅ _ ∷ filled Settings-laws.mir l₆ _ ∷ filled word l₇ _ ∷ filled word l₈ _ ∷ filled word l₉ _ ∷ filled Seen-laws.mir l₁₀ _ ∷ filled Outcome-laws.mir l₁₁ _ ∷ filled (tyRef erased imm word) l₁₂ _ ∷ filled (sliceTy (tyRef erased imm word)) l₁₃ _ ∷ filled (tyRef erased imm (tyInt w8)) l₁₄ _ ∷ filled (sliceTy (tyRef erased imm (tyInt w8))) l₁₅ _ ∷ filled (tyRef erased imm (pointee (R-Handle .written))) l₁₆ _ ∷ filled (sliceTy (tyRef erased imm (pointee (R-Handle .written)))) l₁₇ _ ∷ filled Replica-laws.mir l₁₈ _ ∷ filled (tyRef erased mut word) l₁₉ _ ∷ filled (sliceTy (tyRef erased mut word)) l₂₀ _ ∷ filled (tyRef erased mut (tyInt w8)) l₂₁ _ ∷ filled (sliceTy (tyRef erased mut (tyInt w8))) l₂₂ _ ∷ filled (tyRef erased mut (tyInt w8)) l₂₃ _ ∷ filled (sliceTy (tyRef erased mut (tyInt w8))) l₂₄ _ ∷ filled tyUnit l₂₅ _ ∷ filled (tyRef erased mut (pointee (R-Handle .written))) l₂₆ _ ∷ filled (sliceTy (tyRef erased mut (pointee (R-Handle .written)))) l₂₇ _ ∷ []) (‵ (fobs (row-at .name) (codedHoleys R-Handle .code (heres R-Handle (row₁ x)))) ∷ ‵ (fbor κ₁ (Held R-Handle (length (row₁ x)) (row-at .ptr .0) (row-at .ptr .1) (row-at .name))) ∷ ‵ (flft κ₁ q₁) ∷ ‵ (fobs (c-at .name) (R-Replica .coded .code ((x .0) .replica))) ∷ ‵ (fbor κ₀ (Inside (mem R-Replica) (c-at .ptr .0) (c-at .ptr .1) (c-at .name))) ∷ ‵ (flft κ₀ q₀) ∷ After x ∷ []) (Post (val-Answer ((x .0) .answer))) (exits x p)))
 
     part₁ : (is-c : Is R-Replica the-c (vals-Replica the-c)) → Sq W (‵ (row R-Handle fullShare the-row (row-at .ptr .0) (row-at .ptr .1)) ∷ ‵ (cellAt fullShare (R-Replica .mir) (vals-Replica the-c) (c-at .ptr .0) (c-at .ptr .1)) ∷ ‵ (R-Replica .own the-c (vals-Replica the-c)) ∷ ‵ (fobor κ₀ q₀ (Inside (mem R-Replica) (c-at .ptr .0) (c-at .ptr .1) (c-at .name))) ∷ ‵ (fobs (c-at .name) (R-Replica .coded .code the-c)) ∷ ‵ (fauth (c-at .name) (R-Replica .coded .code the-c)) ∷ ‵ (fobor κ₁ q₁ (Held R-Handle (length the-row) (row-at .ptr .0) (row-at .ptr .1) (row-at .name))) ∷ ‵ (fobs (row-at .name) (codedHoleys R-Handle .code (heres R-Handle the-row))) ∷ ‵ (fauth (row-at .name) (codedHoleys R-Handle .code (heres R-Handle the-row))) ∷ Plain-words ∷ Plain-bytes ∷ Plain-holds ∷ stack 𝓤 H A (empty Answer-laws.mir l₀ ∷ filled (tyRef (named 0) mut (pointee (R-Replica .written))) l₁ (s-c) ∷ filled (sliceTy (tyRef (named 1) mut (pointee (R-Handle .written)))) l₂ (s-row) ∷ filled (sliceTy (tyRef (named 2) mut word)) l₃ (s-words) ∷ filled (sliceTy (tyRef (named 3) mut (tyInt w8))) l₄ (s-bytes) ∷ filled (sliceTy (tyRef (named 4) mut (tyInt w8))) l₅ (s-holds) ∷ filled Settings-laws.mir l₆ (val-Settings the-s) ∷ empty word l₇ ∷ empty word l₈ ∷ empty word l₉ ∷ empty Seen-laws.mir l₁₀ ∷ empty Outcome-laws.mir l₁₁ ∷ empty (tyRef erased imm word) l₁₂ ∷ empty (sliceTy (tyRef erased imm word)) l₁₃ ∷ empty (tyRef erased imm (tyInt w8)) l₁₄ ∷ empty (sliceTy (tyRef erased imm (tyInt w8))) l₁₅ ∷ empty (tyRef erased imm (pointee (R-Handle .written))) l₁₆ ∷ empty (sliceTy (tyRef erased imm (pointee (R-Handle .written)))) l₁₇ ∷ empty Replica-laws.mir l₁₈ ∷ empty (tyRef erased mut word) l₁₉ ∷ empty (sliceTy (tyRef erased mut word)) l₂₀ ∷ empty (tyRef erased mut (tyInt w8)) l₂₁ ∷ empty (sliceTy (tyRef erased mut (tyInt w8))) l₂₂ ∷ empty (tyRef erased mut (tyInt w8)) l₂₃ ∷ empty (sliceTy (tyRef erased mut (tyInt w8))) l₂₄ ∷ empty tyUnit l₂₅ ∷ empty (tyRef erased mut (pointee (R-Handle .written))) l₂₆ ∷ empty (sliceTy (tyRef erased mut (pointee (R-Handle .written)))) l₂₇ ∷ []) []) (runs Ct Λ En text.t-1 (atRet En Post))
     part₁ is-c =
-        assigns ! (addr ! (from ! (fld ! refl (hop ! (look-in ! 60 (sub ! 0 refl (whole !))) (stop !))))) (from ! (stop !)) (init ! 42 refl (tt, tt)) $ 
-        assigns ! (agg ! (and-then ! (load ! (from ! (stop !)) (look ! 42 refl)) (and-then ! (load ! (from ! (fld ! refl (stop !))) (look-in ! 60 (sub ! 1 refl (whole !)))) (no-more !)))) (from ! (stop !)) (init ! 40 refl (tt, (tt, (record { fits = room-words .0 }, tt)))) $ move ! (9 ∷ []) $ 
-        calls-peek u64 (words-at .ptr .0) (words-at .ptr .1) ! fm (PlacesInUse 𝓤 H A memory run) known-places-in-use to-places-in-use (vint w64 x₇) (Is u64 x₇ (vint w64 x₇ ∷ [])) the-words (named 2) κ₂ q₂ (words-at .name) room-words goes-places-in-use told-places-in-use (λ α γ j. (and-then ! (load ! (from ! (stop !)) (look ! 40 refl)) (no-more !))) (λ f₇. land ! (from ! (stop !)) (init ! 52 refl (tt, record { fits = f₇ .1 })) $ 
-        assigns ! (of-opd ! (load ! (from ! (fld ! refl (stop !))) (look-in ! 62 (sub ! 1 refl (whole !))))) (from ! (stop !)) (init ! 50 refl (tt, record { fits = len-row .1 })) $ 
-        assigns ! (addr ! (from ! (fld ! refl (hop ! (look-in ! 56 (sub ! 0 refl (whole !))) (stop !))))) (from ! (stop !)) (init ! 38 refl (tt, tt)) $ 
-        assigns ! (agg ! (and-then ! (load ! (from ! (stop !)) (look ! 38 refl)) (and-then ! (load ! (from ! (fld ! refl (stop !))) (look-in ! 56 (sub ! 1 refl (whole !)))) (no-more !)))) (from ! (stop !)) (init ! 36 refl (tt, (tt, (record { fits = room-holds .0 }, tt)))) $ move ! (11 ∷ []) $ 
-        calls-peek u8 (holds-at .ptr .0) (holds-at .ptr .1) ! fm (RoomOf 𝓤 H A memory run) known-room-of to-room-of (vint w64 x₉) (Is u64 x₉ (vint w64 x₉ ∷ [])) the-holds (named 4) κ₄ q₄ (holds-at .name) room-holds goes-room-of told-room-of (λ α γ j. (and-then ! (load ! (from ! (stop !)) (look ! 36 refl)) (and-then ! (load ! (from ! (stop !)) (look ! 50 refl)) (no-more !)))) (λ f₉. land ! (from ! (stop !)) (init ! 48 refl (tt, record { fits = f₉ .1 })) $ 
-        assigns ! (addr ! (from ! (fld ! refl (hop ! (look-in ! 62 (sub ! 0 refl (whole !))) (stop !))))) (from ! (stop !)) (init ! 34 refl (tt, tt)) $ 
-        assigns ! (agg ! (and-then ! (load ! (from ! (stop !)) (look ! 34 refl)) (and-then ! (load ! (from ! (fld ! refl (stop !))) (look-in ! 62 (sub ! 1 refl (whole !)))) (no-more !)))) (from ! (stop !)) (init ! 32 refl (tt, (tt, (record { fits = room-row .0 }, tt)))) $ move ! (2 ∷ []) $ 
-        calls-look ! fm memory run known-look the-row (row-at .ptr .0) (row-at .ptr .1) 0 x₇ x₉ room-row (lit< tt) (f₇ .1) (f₉ .1) (λ j. (and-then ! (load ! (from ! (stop !)) (look ! 32 refl)) (and-then ! (lit ! tt) (and-then ! (load ! (from ! (stop !)) (look ! 52 refl)) (and-then ! (load ! (from ! (stop !)) (look ! 48 refl)) (no-more !)))))) (λ f₁₀. land ! (from ! (stop !)) (init ! 46 refl (LL.lawful Seen-type.the-type Seen-laws.the-laws 𝓤 H A W .typed x₁₀ (vals-Seen x₁₀) f₁₀ .0)) $ 
-        assigns ! (of-opd ! (load ! (from ! (hop ! (look ! 64 refl) (stop !))) (look-raw ! 3 refl))) (from ! (stop !)) (init ! 30 refl (LL.lawful Replica-type.the-type Replica-laws.the-laws 𝓤 H A W .typed the-c (vals-Replica the-c) is-c .0)) $ 
-        assigns ! (addr ! (from ! (fld ! refl (hop ! (look-in ! 60 (sub ! 0 refl (whole !))) (stop !))))) (from ! (stop !)) (init ! 28 refl (tt, tt)) $ 
-        assigns ! (agg ! (and-then ! (load ! (from ! (stop !)) (look ! 28 refl)) (and-then ! (load ! (from ! (fld ! refl (stop !))) (look-in ! 60 (sub ! 1 refl (whole !)))) (no-more !)))) (from ! (stop !)) (init ! 26 refl (tt, (tt, (record { fits = room-words .0 }, tt)))) $ 
-        assigns ! (addr ! (from ! (fld ! refl (hop ! (look-in ! 58 (sub ! 0 refl (whole !))) (stop !))))) (from ! (stop !)) (init ! 24 refl (tt, tt)) $ 
-        assigns ! (agg ! (and-then ! (load ! (from ! (stop !)) (look ! 24 refl)) (and-then ! (load ! (from ! (fld ! refl (stop !))) (look-in ! 58 (sub ! 1 refl (whole !)))) (no-more !)))) (from ! (stop !)) (init ! 22 refl (tt, (tt, (record { fits = room-bytes .0 }, tt)))) $ 
-        assigns ! (addr ! (from ! (fld ! refl (hop ! (look-in ! 56 (sub ! 0 refl (whole !))) (stop !))))) (from ! (stop !)) (init ! 20 refl (tt, tt)) $ 
-        assigns ! (agg ! (and-then ! (load ! (from ! (stop !)) (look ! 20 refl)) (and-then ! (load ! (from ! (fld ! refl (stop !))) (look-in ! 56 (sub ! 1 refl (whole !)))) (no-more !)))) (from ! (stop !)) (init ! 18 refl (tt, (tt, (record { fits = room-holds .0 }, tt)))) $ 
-         nothing ! $ move ! (12 ∷ 2 ∷ []) $ join ! $ move ! (3 ∷ 0 ∷ []) $ join ! $ join ! $ calls-with ! fm (Promotes 𝓤 H A memory run) known-promotes to-promotes (λ x. val-Outcome (x .0)) CoreTold Before (‵ ftrue) After (goes-promotes is-c f₁₀ is-s) told-promotes (and-then ! (load ! (from ! (stop !)) (look ! 28 refl)) (and-then ! (load ! (from ! (stop !)) (look ! 44 refl)) (and-then ! (load ! (from ! (stop !)) (look ! 24 refl)) (and-then ! (load ! (from ! (stop !)) (look ! 20 refl)) (and-then ! (load ! (from ! (stop !)) (look ! 16 refl)) (and-then ! (load ! (from ! (stop !)) (look ! 52 refl)) (no-more !))))))) (λ x p. move ! (1 ∷ []) $ drop ! $ land ! (from ! (stop !)) (init ! 42 refl (LL.lawful Outcome-type.the-type Outcome-laws.the-laws 𝓤 H A W .typed (x .0) (vals-Outcome (x .0)) (p .0) .0)) $ 
+        assigns ! (addr ! (from ! (fld ! refl (hop ! (look-in ! 60 (sub ! 0 refl (whole !))) (stop !))))) (from ! (stop !)) (init ! 42 refl (tt, tt)) $
+        assigns ! (agg ! (and-then ! (load ! (from ! (stop !)) (look ! 42 refl)) (and-then ! (load ! (from ! (fld ! refl (stop !))) (look-in ! 60 (sub ! 1 refl (whole !)))) (no-more !)))) (from ! (stop !)) (init ! 40 refl (tt, (tt, (record { fits = room-words .0 }, tt)))) $ move ! (9 ∷ []) $
+        calls-peek u64 (words-at .ptr .0) (words-at .ptr .1) ! fm (PlacesInUse 𝓤 H A memory run) known-places-in-use to-places-in-use (vint w64 x₇) (Is u64 x₇ (vint w64 x₇ ∷ [])) the-words (named 2) κ₂ q₂ (words-at .name) room-words goes-places-in-use told-places-in-use (λ α γ j. (and-then ! (load ! (from ! (stop !)) (look ! 40 refl)) (no-more !))) (λ f₇. land ! (from ! (stop !)) (init ! 52 refl (tt, record { fits = f₇ .1 })) $
+        assigns ! (of-opd ! (load ! (from ! (fld ! refl (stop !))) (look-in ! 62 (sub ! 1 refl (whole !))))) (from ! (stop !)) (init ! 50 refl (tt, record { fits = len-row .1 })) $
+        assigns ! (addr ! (from ! (fld ! refl (hop ! (look-in ! 56 (sub ! 0 refl (whole !))) (stop !))))) (from ! (stop !)) (init ! 38 refl (tt, tt)) $
+        assigns ! (agg ! (and-then ! (load ! (from ! (stop !)) (look ! 38 refl)) (and-then ! (load ! (from ! (fld ! refl (stop !))) (look-in ! 56 (sub ! 1 refl (whole !)))) (no-more !)))) (from ! (stop !)) (init ! 36 refl (tt, (tt, (record { fits = room-holds .0 }, tt)))) $ move ! (11 ∷ []) $
+        calls-peek u8 (holds-at .ptr .0) (holds-at .ptr .1) ! fm (RoomOf 𝓤 H A memory run) known-room-of to-room-of (vint w64 x₉) (Is u64 x₉ (vint w64 x₉ ∷ [])) the-holds (named 4) κ₄ q₄ (holds-at .name) room-holds goes-room-of told-room-of (λ α γ j. (and-then ! (load ! (from ! (stop !)) (look ! 36 refl)) (and-then ! (load ! (from ! (stop !)) (look ! 50 refl)) (no-more !)))) (λ f₉. land ! (from ! (stop !)) (init ! 48 refl (tt, record { fits = f₉ .1 })) $
+        assigns ! (addr ! (from ! (fld ! refl (hop ! (look-in ! 62 (sub ! 0 refl (whole !))) (stop !))))) (from ! (stop !)) (init ! 34 refl (tt, tt)) $
+        assigns ! (agg ! (and-then ! (load ! (from ! (stop !)) (look ! 34 refl)) (and-then ! (load ! (from ! (fld ! refl (stop !))) (look-in ! 62 (sub ! 1 refl (whole !)))) (no-more !)))) (from ! (stop !)) (init ! 32 refl (tt, (tt, (record { fits = room-row .0 }, tt)))) $ move ! (2 ∷ []) $
+        calls-look ! fm memory run known-look the-row (row-at .ptr .0) (row-at .ptr .1) 0 x₇ x₉ room-row (lit< tt) (f₇ .1) (f₉ .1) (λ j. (and-then ! (load ! (from ! (stop !)) (look ! 32 refl)) (and-then ! (lit ! tt) (and-then ! (load ! (from ! (stop !)) (look ! 52 refl)) (and-then ! (load ! (from ! (stop !)) (look ! 48 refl)) (no-more !)))))) (λ f₁₀. land ! (from ! (stop !)) (init ! 46 refl (LL.lawful Seen-type.the-type Seen-laws.the-laws 𝓤 H A W .typed x₁₀ (vals-Seen x₁₀) f₁₀ .0)) $
+        assigns ! (of-opd ! (load ! (from ! (hop ! (look ! 64 refl) (stop !))) (look-raw ! 3 refl))) (from ! (stop !)) (init ! 30 refl (LL.lawful Replica-type.the-type Replica-laws.the-laws 𝓤 H A W .typed the-c (vals-Replica the-c) is-c .0)) $
+        assigns ! (addr ! (from ! (fld ! refl (hop ! (look-in ! 60 (sub ! 0 refl (whole !))) (stop !))))) (from ! (stop !)) (init ! 28 refl (tt, tt)) $
+        assigns ! (agg ! (and-then ! (load ! (from ! (stop !)) (look ! 28 refl)) (and-then ! (load ! (from ! (fld ! refl (stop !))) (look-in ! 60 (sub ! 1 refl (whole !)))) (no-more !)))) (from ! (stop !)) (init ! 26 refl (tt, (tt, (record { fits = room-words .0 }, tt)))) $
+        assigns ! (addr ! (from ! (fld ! refl (hop ! (look-in ! 58 (sub ! 0 refl (whole !))) (stop !))))) (from ! (stop !)) (init ! 24 refl (tt, tt)) $
+        assigns ! (agg ! (and-then ! (load ! (from ! (stop !)) (look ! 24 refl)) (and-then ! (load ! (from ! (fld ! refl (stop !))) (look-in ! 58 (sub ! 1 refl (whole !)))) (no-more !)))) (from ! (stop !)) (init ! 22 refl (tt, (tt, (record { fits = room-bytes .0 }, tt)))) $
+        assigns ! (addr ! (from ! (fld ! refl (hop ! (look-in ! 56 (sub ! 0 refl (whole !))) (stop !))))) (from ! (stop !)) (init ! 20 refl (tt, tt)) $
+        assigns ! (agg ! (and-then ! (load ! (from ! (stop !)) (look ! 20 refl)) (and-then ! (load ! (from ! (fld ! refl (stop !))) (look-in ! 56 (sub ! 1 refl (whole !)))) (no-more !)))) (from ! (stop !)) (init ! 18 refl (tt, (tt, (record { fits = room-holds .0 }, tt)))) $
+        nothing ! $ move ! (12 ∷ 2 ∷ []) $ join ! $ move ! (3 ∷ 0 ∷ []) $ join ! $ join ! $ calls-with ! fm (Promotes 𝓤 H A memory run) known-promotes to-promotes (λ x. val-Outcome (x .0)) CoreTold Before (‵ ftrue) After (goes-promotes is-c f₁₀ is-s) told-promotes (and-then ! (load ! (from ! (stop !)) (look ! 28 refl)) (and-then ! (load ! (from ! (stop !)) (look ! 44 refl)) (and-then ! (load ! (from ! (stop !)) (look ! 24 refl)) (and-then ! (load ! (from ! (stop !)) (look ! 20 refl)) (and-then ! (load ! (from ! (stop !)) (look ! 16 refl)) (and-then ! (load ! (from ! (stop !)) (look ! 52 refl)) (no-more !))))))) (λ x p. move ! (1 ∷ []) $ drop ! $ land ! (from ! (stop !)) (init ! 42 refl (LL.lawful Outcome-type.the-type Outcome-laws.the-laws 𝓤 H A W .typed (x .0) (vals-Outcome (x .0)) (p .0) .0)) $
         part₁₉ is-c f₇ f₉ f₁₀ x p))))
 
   module _ (Ct : Calls 𝓤 H) (Λ : Loops 𝓤 H) (fm : FmC 𝓤 H (W .laws) Ct) (known-places-in-use : Triple 𝓤 (Ct #replica·places-in-use) (PlacesInUse 𝓤 H A memory run)) (known-room-of : Triple 𝓤 (Ct #replica·room-of) (RoomOf 𝓤 H A memory run)) (known-look : Triple 𝓤 (Ct #row·look) (Look 𝓤 H A memory run)) (known-promotes : Triple 𝓤 (Ct #replica·promotes) (Promotes 𝓤 H A memory run)) (known-act : Triple 𝓤 (Ct #row·act) (Act 𝓤 H A memory run)) where
@@ -299,8 +299,8 @@ module _ {M : Type 1} (𝓤 : URA M) (H : Heap 𝓤) (A : Atoms 𝓤) (W : Given
         qed W ((‵ (flft κ₀ q₀) ⊛ (‵ (flft κ₁ q₁) ⊛ (‵ (flft κ₂ q₂) ⊛ (‵ (flft κ₃ q₃) ⊛ (‵ (flft κ₄ q₄) ⊛ (‵ ftrue)))))) ∷ ‵ (owns (MutRef (named 0) κ₀ R-Replica ∷ MutSlice (named 1) κ₁ R-Handle ∷ MutSlice (named 2) κ₂ u64 ∷ MutSlice (named 3) κ₃ u8 ∷ MutSlice (named 4) κ₄ u8 ∷ R-Settings ∷ []) x-all at-all) ∷ []) ∵ enter ! Ct Λ code.function (s-c ∷ s-row ∷ s-words ∷ s-bytes ∷ s-holds ∷ val-Settings the-s ∷ []) _ $
         alloc1 ! (λ l₀. alloc1 ! (λ l₁. alloc1 ! (λ l₂. alloc1 ! (λ l₃. alloc1 ! (λ l₄. alloc1 ! (λ l₅. alloc1 ! (λ l₆. alloc1 ! (λ l₇. alloc1 ! (λ l₈. alloc1 ! (λ l₉. alloc1 ! (λ l₁₀. alloc1 ! (λ l₁₁. alloc1 ! (λ l₁₂. alloc1 ! (λ l₁₃. alloc1 ! (λ l₁₄. alloc1 ! (λ l₁₅. alloc1 ! (λ l₁₆. alloc1 ! (λ l₁₇. alloc1 ! (λ l₁₈. alloc1 ! (λ l₁₉. alloc1 ! (λ l₂₀. alloc1 ! (λ l₂₁. alloc1 ! (λ l₂₂. alloc1 ! (λ l₂₃. alloc1 ! (λ l₂₄. alloc1 ! (λ l₂₅. alloc1 ! (λ l₂₆. alloc1 ! (λ l₂₇. alloc0 ! $ params1 ! $
         pass1 ! (init ! 52 refl (tt, tt)) $ pass1 ! (init ! 50 refl (tt, (tt, (record { fits = room-row .0 }, tt)))) $ pass1 ! (init ! 48 refl (tt, (tt, (record { fits = room-words .0 }, tt)))) $ pass1 ! (init ! 46 refl (tt, (tt, (record { fits = room-bytes .0 }, tt)))) $ pass1 ! (init ! 44 refl (tt, (tt, (record { fits = room-holds .0 }, tt)))) $ pass1 ! (init ! 42 refl (LL.lawful Settings-type.the-type Settings-laws.the-laws 𝓤 H A W .typed the-s (vals-Settings the-s) is-s .0)) $ pass0 ! $
-         move ! (57 ∷ []) $ fsplit ! $ fsplit3 ! $ drop ! $ move ! (2 ∷ []) $ fsplit ! $ fsplit ! $ drop ! $ fsplit ! $ move ! (2 ∷ []) $ fsplit ! $ move ! (1 ∷ []) $ fsplit ! $ move ! (1 ∷ []) $ fsplit ! $ move ! (1 ∷ []) $ fsplit ! $ drop ! $ drop ! $ move ! (63 ∷ []) $ split ! $ move ! (1 ∷ []) $ split ! $ move ! (1 ∷ []) $ split ! $ move ! (1 ∷ []) $ split ! $ move ! (1 ∷ []) $ split ! $ move ! (1 ∷ []) $ drop ! $ move ! (2 ∷ 7 ∷ []) $ join ! $ move ! (2 ∷ 6 ∷ []) $ join ! $ move ! (2 ∷ 5 ∷ []) $ join ! $ 
-         move ! (7 ∷ 8 ∷ 4 ∷ []) $ opens ! tt R-Replica {h = the-c} (c-at .ptr .0) (c-at .ptr .1) (λ vs. spelt ! R-Replica (Is R-Replica) (shows 𝓤 H A R-Replica) vals-Replica tells-Replica fullShare the-c vs (c-at .ptr .0) (c-at .ptr .1) $ move ! (1 ∷ []) $ peeks ! R-Replica (Is R-Replica) (shows 𝓤 H A R-Replica) the-c (vals-Replica the-c) (λ is-c. move ! (9 ∷ 10 ∷ 8 ∷ []) $ opens-slice ! tt R-Handle the-row (row-at .ptr .0) (row-at .ptr .1) $ keep ! (0 ∷ 5 ∷ 4 ∷ 6 ∷ 7 ∷ 8 ∷ 1 ∷ 2 ∷ 3 ∷ 11 ∷ 10 ∷ 9 ∷ 12 ∷ 13 ∷ 14 ∷ 15 ∷ 16 ∷ 17 ∷ 18 ∷ 19 ∷ 20 ∷ 21 ∷ 22 ∷ 23 ∷ 24 ∷ 25 ∷ 26 ∷ 27 ∷ 28 ∷ 29 ∷ 30 ∷ 31 ∷ 32 ∷ 33 ∷ 34 ∷ 35 ∷ 36 ∷ 37 ∷ 38 ∷ 39 ∷ 40 ∷ 41 ∷ 42 ∷ 43 ∷ 44 ∷ 45 ∷ 46 ∷ 47 ∷ 48 ∷ 49 ∷ 50 ∷ 51 ∷ 52 ∷ 53 ∷ 54 ∷ 55 ∷ 56 ∷ 57 ∷ 58 ∷ 59 ∷ 60 ∷ 61 ∷ 62 ∷ 63 ∷ 64 ∷ 65 ∷ 66 ∷ 67 ∷ []) $ 
+        move ! (57 ∷ []) $ fsplit ! $ fsplit3 ! $ drop ! $ move ! (2 ∷ []) $ fsplit ! $ fsplit ! $ drop ! $ fsplit ! $ move ! (2 ∷ []) $ fsplit ! $ move ! (1 ∷ []) $ fsplit ! $ move ! (1 ∷ []) $ fsplit ! $ move ! (1 ∷ []) $ fsplit ! $ drop ! $ drop ! $ move ! (63 ∷ []) $ split ! $ move ! (1 ∷ []) $ split ! $ move ! (1 ∷ []) $ split ! $ move ! (1 ∷ []) $ split ! $ move ! (1 ∷ []) $ split ! $ move ! (1 ∷ []) $ drop ! $ move ! (2 ∷ 7 ∷ []) $ join ! $ move ! (2 ∷ 6 ∷ []) $ join ! $ move ! (2 ∷ 5 ∷ []) $ join ! $
+        move ! (7 ∷ 8 ∷ 4 ∷ []) $ opens ! tt R-Replica {h = the-c} (c-at .ptr .0) (c-at .ptr .1) (λ vs. spelt ! R-Replica (Is R-Replica) (shows 𝓤 H A R-Replica) vals-Replica tells-Replica fullShare the-c vs (c-at .ptr .0) (c-at .ptr .1) $ move ! (1 ∷ []) $ peeks ! R-Replica (Is R-Replica) (shows 𝓤 H A R-Replica) the-c (vals-Replica the-c) (λ is-c. move ! (9 ∷ 10 ∷ 8 ∷ []) $ opens-slice ! tt R-Handle the-row (row-at .ptr .0) (row-at .ptr .1) $ keep ! (0 ∷ 5 ∷ 4 ∷ 6 ∷ 7 ∷ 8 ∷ 1 ∷ 2 ∷ 3 ∷ 11 ∷ 10 ∷ 9 ∷ 12 ∷ 13 ∷ 14 ∷ 15 ∷ 16 ∷ 17 ∷ 18 ∷ 19 ∷ 20 ∷ 21 ∷ 22 ∷ 23 ∷ 24 ∷ 25 ∷ 26 ∷ 27 ∷ 28 ∷ 29 ∷ 30 ∷ 31 ∷ 32 ∷ 33 ∷ 34 ∷ 35 ∷ 36 ∷ 37 ∷ 38 ∷ 39 ∷ 40 ∷ 41 ∷ 42 ∷ 43 ∷ 44 ∷ 45 ∷ 46 ∷ 47 ∷ 48 ∷ 49 ∷ 50 ∷ 51 ∷ 52 ∷ 53 ∷ 54 ∷ 55 ∷ 56 ∷ 57 ∷ 58 ∷ 59 ∷ 60 ∷ 61 ∷ 62 ∷ 63 ∷ 64 ∷ 65 ∷ 66 ∷ 67 ∷ []) $
         part₁ Ct Λ fm known-places-in-use known-room-of known-look known-promotes known-act l₀ l₁ l₂ l₃ l₄ l₅ l₆ l₇ l₈ l₉ l₁₀ l₁₁ l₁₂ l₁₃ l₁₄ l₁₅ l₁₆ l₁₇ l₁₈ l₁₉ l₂₀ l₂₁ l₂₂ l₂₃ l₂₄ l₂₅ l₂₆ l₂₇ is-c))))))))))))))))))))))))))))))
 
 module _ {M : Type 1} (𝓤 : URA M) (H : Heap 𝓤) (A : Atoms 𝓤) (W : Given 𝓤 H A) (memory : Memory → SProp 𝓤) (run : Routine → Fun 𝓤) (𝓣 : Tables 𝓤 H) (known-places-in-use : Triple 𝓤 (𝓣 .C #replica·places-in-use) (PlacesInUse 𝓤 H A memory run)) (known-room-of : Triple 𝓤 (𝓣 .C #replica·room-of) (RoomOf 𝓤 H A memory run)) (known-look : Triple 𝓤 (𝓣 .C #row·look) (Look 𝓤 H A memory run)) (known-promotes : Triple 𝓤 (𝓣 .C #replica·promotes) (Promotes 𝓤 H A memory run)) (known-act : Triple 𝓤 (𝓣 .C #row·act) (Act 𝓤 H A memory run)) where
