@@ -8,16 +8,16 @@ use row::Seen;
 pub fn sound(words: &[u64], bytes: &[u8], holds: &[u8], shape: Shape, seen: Seen) -> bool
     ensures { λ r. ⌜ r ≡ seenAllowed shape seen (now (words .entry)) (now (bytes .entry)) (now (holds .entry)) ⌝ }
 {
-    if !areas::allowed(shape, words, bytes) {
-        return false;
+    if areas::allowed(shape, words, bytes) {
+        if seen.broken < seen.len {
+            return false;
+        }
+        if seen.len <= seen.at {
+            return true;
+        }
+        let room = due_batch::room_of(holds, seen.len);
+        let h = seen.bound;
+        return ((h.place as u64) < words[0]) & (h.held_len <= room);
     }
-    if seen.broken < seen.len {
-        return false;
-    }
-    if seen.len <= seen.at {
-        return true;
-    }
-    let room = due_batch::room_of(holds, seen.len);
-    let h = seen.bound;
-    ((h.place as u64) < words[0]) & (h.held_len <= room)
+    false
 }

@@ -143,19 +143,18 @@ behind-one : (m : ℕ) (l : List ℕ) → drop 1 (take (suc m) l) ≡ take m (dr
 behind-one m [] = sym (take-nil m)
 behind-one m (x ∷ l) = refl
 
-at-five : (w : List ℕ) (h : ℕ) → 4 ≤ length w → le (take 4 w) ≤ length w - 4 → First (drop 1 (take (le (take 4 w)) (drop 4 w))) h → handleAt w ≡ h
-at-five w h four fits f =
-    let n : ℕ = le (take 4 w) in
+handle-bytes : (w : List ℕ) (n m : ℕ) → n ≡ suc m → 4 ≤ m → take 4 (drop 1 (take n (drop 4 w))) ≡ take 4 (drop 5 w)
+handle-bytes w n m e four =
+    ap (λ (k : ℕ). take 4 (drop 1 (take k (drop 4 w)))) e ∙ ap (take 4) (behind-one m (drop 4 w)) ∙ take-take 4 m (drop 1 (drop 4 w)) four ∙ ap (take 4) (drop-drop 1 4 w)
+
+handle-long : (w : List ℕ) → 9 ≤ length w → handleAt w ≡ le (take 4 (drop 5 w))
+handle-long w nine = ap (λ (t : Bool). cond t 0 (le (take 4 (drop 5 w)))) (le-ltb (length w) 9 nine)
+
+at-five : (w : List ℕ) (n h : ℕ) → 4 ≤ length w → n ≤ length w - 4 → First (drop 1 (take n (drop 4 w))) h → handleAt w ≡ h
+at-five w n h four fits f =
     let size : length (take n (drop 4 w)) ≡ n = length-take-le n (drop 4 w) (omega (arith, length-drop 4 w)) in
     let five : 5 ≤ n = omega (arith, f .0, length-drop 1 (take n (drop 4 w)), size) in
-    let nine : 9 ≤ length w = omega arith in
-    let one : n ≡ suc (n - 1) = omega arith in
-    let same : take 4 (drop 1 (take n (drop 4 w))) ≡ take 4 (drop 5 w) =
-    ap (λ (k : ℕ). take 4 (drop 1 (take k (drop 4 w)))) one
-    ∙ ap (take 4) (behind-one (n - 1) (drop 4 w))
-    ∙ take-take 4 (n - 1) (drop 1 (drop 4 w)) (omega arith)
-    ∙ ap (take 4) (drop-drop 1 4 w) in
-    ap (λ (t : Bool). cond t 0 (le (take 4 (drop 5 w)))) (le-ltb (length w) 9 nine) ∙ ap le (sym same) ∙ sym (f .1)
+    handle-long w (omega arith) ∙ ap le (sym (handle-bytes w n (n - 1) (omega arith) (omega arith))) ∙ sym (f .1)
 
 -- what was handed in as a frame was read as it, to its end
 taken : (w : List ℕ) (f : Frame) → given w ≡ intact f → (used : ℕ) × (decode protocolVersion w ≡ got f used)
@@ -183,8 +182,8 @@ frame-sought : (w : List ℕ) (g : Given) → given w ≡ g → hasHandle g ≡ 
 frame-sought w (damaged n) e t = absurd (true≢false (sym t))
 frame-sought w (intact (hello v e₁ node kinds)) e t = absurd (true≢false (sym t))
 frame-sought w (intact (welcome e₁ i)) e t = absurd (true≢false (sym t))
-frame-sought w (intact (bind h e₁ lag k)) e t = let r = read-names w (bind h e₁ lag k) e in at-five w h (r .0) (r .1) (r .2)
-frame-sought w (intact (batch h e₁ n part cs apps)) e t = let r = read-names w (batch h e₁ n part cs apps) e in at-five w h (r .0) (r .1) (r .2)
+frame-sought w (intact (bind h e₁ lag k)) e t = let r = read-names w (bind h e₁ lag k) e in at-five w (le (take 4 w)) h (r .0) (r .1) (r .2)
+frame-sought w (intact (batch h e₁ n part cs apps)) e t = let r = read-names w (batch h e₁ n part cs apps) e in at-five w (le (take 4 w)) h (r .0) (r .1) (r .2)
 frame-sought w (intact (ack h n)) e t = absurd (true≢false (sym t))
 frame-sought w (intact (nack h r)) e t = absurd (true≢false (sym t))
 frame-sought w (intact (bound h m)) e t = absurd (true≢false (sym t))

@@ -1,4 +1,5 @@
 use borrow.Author.Needs.{needs}
+use Rattle.replica.proofs.Laws.{no-words}
 use Rattle.replica.proofs.places_in_use.Statement.{statement}
 use Rattle.replica.proofs.places_in_use.Tie as tie
 use Rattle.replica.proofs.places_in_use.Reads as reads
@@ -6,7 +7,7 @@ use Rattle.replica.proofs.places_in_use.Lts as lts
 
 -- src/lib.rt:29:9
 returns : tie.Need-returns
-returns c = ?
+returns c = no-words (c .before .args .words .now) (c .if1 .taken)
 
 -- src/lib.rt:31:5
 shared-slice-read-result : tie.Need-shared-slice-read-result
