@@ -40,30 +40,6 @@ pub struct Size {
 unsafe extern "C" {
     fn wz_frame(frame: *const u8, frame_len: usize, out: *mut u8, out_len: usize) -> u64;
 
-    fn wz_call(
-        counters: *mut Counters,
-        row: *mut Place,
-        row_len: usize,
-        words: *mut u64,
-        words_len: usize,
-        bytes: *mut u8,
-        bytes_len: usize,
-        holds: *mut u8,
-        holds_len: usize,
-        out: *mut u8,
-        out_len: usize,
-        frame: *const u8,
-        frame_len: usize,
-        sessions: u32,
-        c: u32,
-        m: u32,
-        incarnation: u64,
-        lag: u64,
-        hold: u64,
-        call: u32,
-        number: u64,
-    ) -> u64;
-
     fn wz_session(
         words: *const u64,
         words_len: usize,
@@ -96,6 +72,33 @@ unsafe extern "C" {
     ) -> u64;
 
     fn wz_queue(queue: *mut u64, queue_len: usize, max_lag: u64, last: u64) -> u64;
+}
+
+#[cfg(calls)]
+unsafe extern "C" {
+    fn wz_call(
+        counters: *mut Counters,
+        row: *mut Place,
+        row_len: usize,
+        words: *mut u64,
+        words_len: usize,
+        bytes: *mut u8,
+        bytes_len: usize,
+        holds: *mut u8,
+        holds_len: usize,
+        out: *mut u8,
+        out_len: usize,
+        frame: *const u8,
+        frame_len: usize,
+        sessions: u32,
+        c: u32,
+        m: u32,
+        incarnation: u64,
+        lag: u64,
+        hold: u64,
+        call: u32,
+        number: u64,
+    ) -> u64;
 }
 
 /// What `wz_call` is to do.
@@ -173,6 +176,59 @@ struct Told {
 }
 
 impl Ours {
+    /// A library without `wz_call` has stores made by the driver alone (`filled`).
+    #[cfg(not(calls))]
+    fn call(&mut self, call: u32, _: u64, _: &[u8]) -> Answer {
+        assert_eq!(call, call::MAKE, "the library has no wz_call");
+        self.words.iter_mut().take(2).for_each(|word| *word = 0);
+        Ok(Vec::new())
+    }
+
+    /// A store whose areas hold these sessions, written by docs/AREAS.md. Each log starts at another
+    /// entry and at another byte of its rings.
+    #[cfg(not(calls))]
+    pub fn filled(setting: &Setting, sessions: &[Session]) -> Option<Self> {
+        let mut ours = Self::make(setting)?;
+        let (c, m) = (ours.size.bytes as usize, ours.size.messages as usize);
+        ours.words[0] = sessions.len() as u64;
+        for (place, session) in sessions.iter().enumerate() {
+            let words = &mut ours.words[66 + place * (16 + 2 * m)..][..16 + 2 * m];
+            let bytes = &mut ours.bytes[place * (224 + c)..][..224 + c];
+            words[..5].copy_from_slice(&[
+                session.next_outgoing,
+                session.next_incoming,
+                session.in_flight.is_some().into(),
+                session.in_flight.unwrap_or(0),
+                session.durable.into(),
+            ]);
+            let none = Vec::new();
+            let stamp = session.stamp.as_ref().unwrap_or(&none);
+            let [begin, sender, target, suffix] = &session.key;
+            let texts = [(5, 128, stamp), (6, 160, &session.marks), (7, 0, begin), (8, 32, sender), (9, 64, target)];
+            for (word, at, text) in texts.into_iter().chain([(10, 96, suffix)]) {
+                words[word] = text.len() as u64;
+                bytes[at..at + text.len()].copy_from_slice(text);
+            }
+            let mut at = if c == 0 { 0 } else { session.next_outgoing as usize % c };
+            let mut slot = if m == 0 { 0 } else { session.next_incoming as usize % m };
+            if m > 0 {
+                words[16 + 2 * ((slot + m - 1) % m)] = 0;
+            }
+            for (number, message) in &session.messages {
+                words[16 + 2 * slot] = *number;
+                words[17 + 2 * slot] = message.len() as u64;
+                slot = (slot + 1) % m;
+                for byte in message {
+                    bytes[224 + at] = *byte;
+                    at = (at + 1) % c;
+                }
+            }
+            (words[14], words[15]) = (slot as u64, at as u64);
+        }
+        Some(ours)
+    }
+
+    #[cfg(calls)]
     fn call(&mut self, call: u32, number: u64, frame: &[u8]) -> Answer {
         self.out.fill(UNTOUCHED);
         let answer = unsafe {
@@ -305,19 +361,23 @@ impl Ours {
         self.row.iter_mut().find(|place| place.used && place.handle == handle)
     }
 
+    #[cfg(calls)]
     pub fn holds(&self) -> &[u8] {
         &self.holds
     }
 
     /// The store's two areas as they are, if no commit pends.
+    #[cfg(calls)]
     pub fn settled_store(&self) -> Option<(Vec<u64>, Vec<u8>)> {
         (self.words[1] == 0).then(|| (self.words.clone(), self.bytes.clone()))
     }
 
+    #[cfg(calls)]
     pub fn store_is(&self, store: &(Vec<u64>, Vec<u8>)) -> bool {
         self.words == store.0 && self.bytes == store.1
     }
 
+    #[cfg(calls)]
     pub fn hold_start(&self, handle: u32) -> Option<usize> {
         let index = self.row.iter().position(|place| place.used && place.handle == handle)?;
         Some(index * self.hold as usize)
