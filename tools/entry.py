@@ -15,6 +15,7 @@ from mir import *
 
 core = sys.argv[3]
 L, D = (lambda j: ('L', j)), (lambda j: ('D', j))
+LITERAL = '(refl, lit< tt)'                          # what is known of a literal
 lname = lambda j: f'l{sub(j)}'
 w = Ctx([y for j in reversed(range(N)) for y in (L(j), D(j))] + ['tokens', 'owns'])
 parens, known, defs, readers = N, [], [], []
@@ -46,7 +47,7 @@ def operand(o):
 
 def value(o):
     if o[0] == 'int':
-        return Value(['tyInt', o[1]], o[2], f'(refl, lit< tt)')
+        return Value(['tyInt', o[1]], o[2], LITERAL)
     j, projs = int(o[1][1]), items(o[1][2])
     return holds[j] if not projs else holds[j].field(int(projs[0][1]))
 
@@ -211,7 +212,7 @@ for step, st in enumerate(statements(body), 1):
             known.append(name) if name not in known else None
             w.front('row')
             args = ''.join(f' {v.x}' for v in vs)
-            facts = ''.join(f' ({v.is_} .1)' if v.t[0] == 'tyInt' else f' {v.is_}' for v in vs)
+            facts = ''.join(' (lit< tt)' if v.is_ == LITERAL else f' ({v.is_} .1)' if v.t[0] == 'tyInt' else f' {v.is_}' for v in vs)
             w.say(f'\ncalls-{dash(f)} ! fm memory run known-{dash(f)} {state["row"]} {row.b} {row.o}{args} {room_now()}{facts} (λ j. {operands(xs)})')
             if f in READS:
                 expr = READS[f].format(*[v.x for v in vs], r=state['row'])

@@ -149,7 +149,7 @@ module _ (boundOf : Handle → List ℕ → Bound) (room : ℕ) where
   -- ---- a record is set, and the hold areas of the other places stay
 
   -- hold areas that differ in the part of place i alone
-  abbrev Apart : ℕ → List ℕ → List ℕ → Type 0
+  abbrev pub Apart : ℕ → List ℕ → List ℕ → Type 0
   Apart zero a b = drop room b ≡ drop room a
   Apart (suc i) a b = (take room b ≡ take room a) × Apart i (drop room a) (drop room b)
 

@@ -72,6 +72,8 @@ module _ (version : ℕ) (s : Shape) (h : Handle) (n : CommitNumber) (cs : List 
     rules = r;
     touched = touched-none s (h .place) w b;
     quiet = λ _. (refl, refl);
+    slot-place = refl;
+    slot-len = λ l. l;
   }
 
   module _ (empty : len ≡ 0) (used : h .place < getD w 0 0) where
@@ -95,6 +97,8 @@ module _ (version : ℕ) (s : Shape) (h : Handle) (n : CommitNumber) (cs : List 
           rules = g .rules;
           touched = g .touched;
           quiet = λ e. absurd (true≢false (sym e));
+          slot-place = refl;
+          slot-len = λ l. l;
         }
 
     pub commit-off : {w' b' : List ℕ} {yes : Bool} → Settles s (h .place) (h .handle) cs w w' b b' yes → yes ≡ false
@@ -107,4 +111,6 @@ module _ (version : ℕ) (s : Shape) (h : Handle) (n : CommitNumber) (cs : List 
           rules = g .rules;
           touched = g .touched;
           quiet = λ _. g .unless refl;
+          slot-place = refl;
+          slot-len = λ l. l;
         }

@@ -140,6 +140,8 @@ module _ (version : ℕ) (h : Handle) (n : CommitNumber) (run area : List ℕ) (
     rules = rules;
     touched = touched-none s (h .place) w b;
     quiet = λ _. (refl, refl);
+    slot-place = ap (λ (x : Handle). x .place) is;
+    slot-len = λ l. subst (λ (x : Handle). x .«held_len» ≤ length area) (sym is) l;
   }
     where
       kept : area' ≡ area
@@ -154,6 +156,8 @@ module _ (version : ℕ) (h : Handle) (n : CommitNumber) (run area : List ℕ) (
     rules = rules;
     touched = touched-none s (h .place) w b;
     quiet = λ _. (refl, refl);
+    slot-place = refl;
+    slot-len = λ l. l;
   }
 
 -- ---- Whole
@@ -199,6 +203,8 @@ module _ (version : ℕ) (h : Handle) (n : CommitNumber) (run area : List ℕ) (
     rules = rules;
     touched = touched-none s (h .place) w b;
     quiet = λ t. absurd (true≢false (sym t ∙ ap (λ (m : ℕ). not (eqb m 0) || false) e));
+    slot-place = ap (λ (x : Handle). x .place) is;
+    slot-len = λ _. subst (λ (x : Handle). x .«held_len» ≤ length area) (sym is) (subst (λ (k : ℕ). k ≤ length area) (sym (g .ends)) (within-area e));
   }
 
   pub whole-on : (s : Shape) (w b : List ℕ) → GoesOn version h (n .0) whole run area s w b (λ c _ _. coreSays (coreAt c s w b) (store (h .handle) (holding (boundOf version h area) (n .0) (heldRun version run))) (ack (h .handle) (n .0)))
@@ -256,6 +262,8 @@ module _ (version : ℕ) (h : Handle) (n : CommitNumber) (run area : List ℕ) (
       rules = t .rules;
       touched = t .touched;
       quiet = λ q. absurd (true≢false (sym q ∙ ap (λ (m : ℕ). not (eqb m 0) || false) e));
+      slot-place = ap (λ (x : Handle). x .place) is;
+      slot-len = λ _. subst (λ (x : Handle). x .«held_len» ≤ length area) (sym is) (omega arith);
     }
 
     pub last-diverged : {slot : Handle} → yes ≡ false → slot ≡ holdingTo h (h .«commit_no») 0 0
@@ -281,4 +289,6 @@ module _ (version : ℕ) (h : Handle) (n : CommitNumber) (run area : List ℕ) (
       rules = t .rules;
       touched = t .touched;
       quiet = λ _. t .unless y;
+      slot-place = ap (λ (x : Handle). x .place) is;
+      slot-len = λ _. subst (λ (x : Handle). x .«held_len» ≤ length area) (sym is) (omega arith);
     }

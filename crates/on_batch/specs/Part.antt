@@ -2,7 +2,7 @@
 use mathlib.Core.Path.{_≡_}
 use mathlib.Core.Bool.{Bool, true, false, cond, not, _&&_, _||_}
 use mathlib.Core.List.{List, [], _∷_}
-use Prim.Native.Nat.{ℕ}
+use Prim.Native.Nat.{ℕ, _≤_}
 use lib.ListN.{length, take}
 use lib.Dec.{eqb}
 use Rattle.model_frame.specs.Bytes.{write}
@@ -36,6 +36,8 @@ pub record PartIs (version : ℕ) (s : Shape) (h : Handle) (n : ℕ) (part : the
   pub rules : Rules s w' b'
   pub touched : Touched s (h .place) w w' b b'
   pub quiet : (not (eqb (d .refusal) 0) || d .nack) ≡ true → (w' ≡ w) × (b' ≡ b)
+  pub slot-place : d .slot .place ≡ h .place
+  pub slot-len : h .«held_len» ≤ length area → d .slot .«held_len» ≤ length area
 
 -- a Whole leaves the store as it was
 abbrev pub WholeIs : ℕ → Handle → ℕ → List Change → List ℕ → List ℕ → Done → Type 0

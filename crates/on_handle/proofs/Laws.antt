@@ -56,6 +56,8 @@ module _ (version : ℕ) (s : Shape) (handle : ℕ) (h : Handle) (n : ℕ) (part
     rules = r;
     touched = touched-none s (h .place) w b;
     quiet = λ _. (refl, refl);
+    slot-place = refl;
+    slot-len = λ l. l;
   }
 
   -- bound, and past the commit number
@@ -79,6 +81,8 @@ module _ (version : ℕ) (s : Shape) (handle : ℕ) (h : Handle) (n : ℕ) (part
     rules = r;
     touched = touched-none s (h .place) w b;
     quiet = λ _. (refl, refl);
+    slot-place = ap (λ (x : Handle). x .place) is;
+    slot-len = λ _. subst (λ (x : Handle). x .«held_len» ≤ length area) (sym is) (omega arith);
   }
 
   pub by-part : {found next : Bool} {w' b' area' : List ℕ} {d : Done} → found ≡ true → next ≡ followsOf h n → next ≡ true → h .handle ≡ handle
@@ -91,6 +95,8 @@ module _ (version : ℕ) (s : Shape) (handle : ℕ) (h : Handle) (n : ℕ) (part
     rules = p .rules;
     touched = p .touched;
     quiet = p .quiet;
+    slot-place = p .slot-place;
+    slot-len = p .slot-len;
   }
 
 -- ---- the hold area

@@ -52,3 +52,5 @@ pub record HandleIs (version : ℕ) (s : Shape) (handle : ℕ) (found : Bool) (h
   pub rules : Rules s w' b'
   pub touched : Touched s (h .place) w w' b b'
   pub quiet : (not (eqb (d .refusal) 0) || d .nack) ≡ true → (w' ≡ w) × (b' ≡ b)
+  pub slot-place : d .slot .place ≡ h .place
+  pub slot-len : h .«held_len» ≤ length area → d .slot .«held_len» ≤ length area

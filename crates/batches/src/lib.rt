@@ -1,0 +1,116 @@
+// A Batch on the row's record of its handle (standby.rs, on_batch): 13 application records, Nack StaleEpoch, the epoch, then the handle.
+ghost use mathlib.Core.Path.{_≡_};
+ghost use mathlib.Core.Bool.{true, _&&_};
+ghost use Prim.Native.Nat.{_<_};
+ghost use lib.Dec.{eqb};
+ghost use Rattle.model_frame.specs.Parse.{isEmpty};
+ghost use Rattle.model_frame.specs.Reading.{readChange, appRecord};
+ghost use Rattle.op.specs.Answers.{runOf};
+ghost use Rattle.parts.specs.Answers.{partOf};
+ghost use Rattle.areas.specs.Areas.{Rules};
+ghost use Rattle.pending.specs.Pending.{countOf};
+ghost use Rattle.steps.specs.Steps.{isFound};
+ghost use Rattle.batches.specs.Batches.{epochTo, foundFor, answerBy, settledOf, Kept, BatchIs};
+use frame::Batch;
+use frame::CommitNumber;
+use frame::Epoch;
+use on_batch::Done;
+use op::Run;
+use outcome::Answer;
+use outcome::Outcome;
+use outcome::Replica;
+use outcome::Settings;
+use parts::AppRecordAt;
+use row::Seen;
+use scan::Cursor;
+use stamp::Protocol;
+
+// Whether a run of application records is empty.
+fn no_records(frame: &[u8], run: Run) -> bool
+    ensures { λ r. ⌜ r ≡ isEmpty (runOf appRecord (now (frame .entry)) run) ⌝ }
+{
+    if run.count == 0 {
+        return true;
+    }
+    match parts::app_record_from(frame, Cursor { at: run.at }) {
+        AppRecordAt::Got(_, _) => false,
+        AppRecordAt::Bad(_) => true,
+    }
+}
+
+fn at_epoch(c: Replica, epoch: Epoch) -> Replica
+    ensures { λ r. ⌜ r ≡ epochTo c epoch ⌝ }
+{
+    let mut d = c;
+    d.epoch = epoch;
+    d
+}
+
+// Whether the record that was found is the handle's.
+fn is_found(seen: Seen, handle: u32) -> bool
+    ensures { λ r. ⌜ r ≡ foundFor seen handle ⌝ }
+{
+    let h = seen.bound;
+    (seen.at < seen.len) & (h.handle == handle)
+}
+
+fn answer_by(x: Done, handle: u32, n: CommitNumber) -> Answer
+    ensures { λ r. ⌜ r ≡ answerBy x handle n ⌝ }
+{
+    if x.refusal != 0 {
+        return outcome::refused(x.refusal);
+    }
+    if x.nack {
+        return outcome::nack(handle, 2);
+    }
+    outcome::ack(handle, n)
+}
+
+// What the row's record becomes, and the answer.
+fn settled(c: Replica, seen: Seen, x: Done, handle: u32, n: CommitNumber) -> Outcome
+    ensures { λ r. ⌜ r ≡ settledOf c seen x handle n ⌝ }
+{
+    let a = answer_by(x, handle, n);
+    if x.stores {
+        let slot = x.slot;
+        return outcome::stores(c, seen, a, handle, slot);
+    }
+    outcome::leaves(c, seen, a)
+}
+
+pub fn on_batch(
+    words: &mut [u64],
+    bytes: &mut [u8],
+    area: &mut [u8],
+    frame: &[u8],
+    c: Replica,
+    s: Settings,
+    seen: Seen,
+    b: Batch,
+) -> Outcome
+    requires { ⌜ Rules (s .shape) (now words) (now bytes) ⌝ }
+    requires { ⌜ countOf (now words) < 64 ⌝ }
+    requires { ⌜ (isFound seen ≡ true → Kept seen (now words) (now area)) ⌝ }
+    ensures { λ r. ⌜ BatchIs s c seen (b .handle) (b .epoch .0) (b .«commit_no» .0) (partOf (b .part)) (runOf (readChange 1) (now (frame .entry)) (b .ops)) (runOf appRecord (now (frame .entry)) (b .«app_records»)) (now (words .entry)) (now (words .exit)) (now (bytes .entry)) (now (bytes .exit)) (now (area .entry)) (now (area .exit)) r ⌝ }
+{
+    let records = b.app_records;
+    if !no_records(frame, records) {
+        return outcome::leaves(c, seen, outcome::refused(13));
+    }
+    let own = c.epoch;
+    let epoch = b.epoch;
+    let handle = b.handle;
+    if epoch.0 < own.0 {
+        return outcome::leaves(c, seen, outcome::nack(handle, 1));
+    }
+    let shape = s.shape;
+    let n = b.commit_no;
+    let ops = b.ops;
+    let part = b.part;
+    let h = seen.bound;
+    let p = Protocol { version: 1 };
+    let found = is_found(seen, handle);
+    let run = hold::run_of(p, frame, ops);
+    let x = on_handle::on_handle(p, run, words, bytes, area, shape, handle, found, h, n, part);
+    settled(at_epoch(c, epoch), seen, x, handle, n)
+}

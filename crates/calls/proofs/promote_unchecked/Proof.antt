@@ -1,0 +1,82 @@
+use borrow.Author.Needs.{needs}
+use Rattle.model.specs.State.{promoteUnchecked}
+use Rattle.calls.proofs.Laws.{unsound, keeps, promoted-unchecked}
+use Prim.Native.Nat.{_≤_}
+use lib.ListN.{length}
+use denote.Ref.{now}
+use borrow.Author.Tests.{not-true, not-false}
+use mathlib.Core.Path.{_∙_, sym, refl}
+use native.Mathlib.Omega.{arith}
+use Rattle.calls.proofs.promote_unchecked.Statement.{statement}
+use Rattle.calls.proofs.promote_unchecked.Tie as tie
+use Rattle.calls.proofs.promote_unchecked.Reads as reads
+use Rattle.calls.proofs.promote_unchecked.Lts as lts
+use Rattle.calls.proofs.promotion.Reads as promotion-reads
+use Rattle.outcome.proofs.leaves.Reads as leaves-reads
+use Rattle.outcome.proofs.refused.Reads as refused-reads
+use Rattle.sound.proofs.sound.Reads as sound-reads
+
+-- src/lib.rt:124:9
+sound-requires : tie.Need-sound-requires
+sound-requires c κs = search needs
+
+-- src/lib.rt:125:41
+refused-requires : tie.Need-refused-requires
+refused-requires c κs = search needs
+
+-- src/lib.rt:125:9
+leaves-requires : tie.Need-leaves-requires
+leaves-requires c κs = search needs
+
+-- src/lib.rt:125:9
+same-length : tie.Need-same-length
+same-length c = search needs
+
+-- src/lib.rt:125:9
+same-length-2 : tie.Need-same-length-2
+same-length-2 c = search needs
+
+-- src/lib.rt:125:9
+same-length-3 : tie.Need-same-length-3
+same-length-3 c = search needs
+
+-- src/lib.rt:125:9
+returns : tie.Need-returns
+returns c = unsound (c .before .before .before .before .before .before .before .before .before .before .args .s) (c .before .before .before .before .before .before .before .before .before .before .args .c) (c .before .before .before .before .before .before .before .before .before .before .args .seen) (now (c .before .before .before .before .before .before .before .before .before .before .args .words)) (now (c .before .before .before .before .before .before .before .before .before .before .args .bytes)) (now (c .before .before .before .before .before .before .before .before .before .before .args .holds)) promoteUnchecked (sym (c .before .before .before .sound .ensures) ∙ not-true _ (c .before .before .if1 .taken)) (c .before .refused .ensures) (c .leaves .ensures)
+
+-- src/lib.rt:127:5
+promotion-requires : tie.Need-promotion-requires
+promotion-requires c κs = keeps (c .before .before .before .before .before .before .before .before .before .before .args .s) (c .before .before .before .before .before .before .before .before .before .before .args .c) (c .before .before .before .before .before .before .before .before .before .before .args .seen) (now (c .before .before .before .before .before .before .before .before .before .before .args .words)) (now (c .before .before .before .before .before .before .before .before .before .before .args .bytes)) (now (c .before .before .before .before .before .before .before .before .before .before .args .holds)) (sym (c .before .before .before .sound .ensures) ∙ not-false _ (c .before .before .if1 .left))
+
+-- src/lib.rt:114:1
+same-length-4 : tie.Need-same-length-4
+same-length-4 c = search needs
+
+-- src/lib.rt:114:1
+same-length-5 : tie.Need-same-length-5
+same-length-5 c = search needs
+
+-- src/lib.rt:114:1
+same-length-6 : tie.Need-same-length-6
+same-length-6 c = search needs
+
+-- src/lib.rt:114:1
+returns-2 : tie.Need-returns-2
+returns-2 c = promoted-unchecked (c .before .before .before .before .before .before .before .before .before .before .before .before .before .before .before .args .s) (c .before .before .before .before .before .before .before .before .before .before .before .before .before .before .before .args .c) (c .before .before .before .before .before .before .before .before .before .before .before .before .before .before .before .args .seen) (now (c .before .before .before .before .before .before .before .before .before .before .before .before .before .before .before .args .words)) (now (c .before .before .before .before .before .before .before .before .before .before .before .before .before .before .before .args .bytes)) (now (c .before .before .before .before .before .before .before .before .before .before .before .before .before .before .before .args .holds)) (sym (c .before .before .before .before .before .before .before .before .sound .ensures) ∙ not-false _ (c .before .before .before .before .before .before .before .if1 .left)) (c .before .before .before .before .promotion .ensures)
+
+pub promote-unchecked-spec : {M : Type 1} → statement M
+promote-unchecked-spec =
+    tie.close
+    (tie.spec
+    sound-requires
+    refused-requires
+    leaves-requires
+    same-length
+    same-length-2
+    same-length-3
+    returns
+    promotion-requires
+    same-length-4
+    same-length-5
+    same-length-6
+    returns-2)

@@ -1,0 +1,28 @@
+-- What promotion leaves and answers, of areas that keep the rules. Assumes nothing.
+use Prim.Native.Nat.{ℕ}
+use mathlib.Core.Path.{_≡_}
+use mathlib.Core.Bool.{true}
+use mathlib.Core.List.{List, []}
+use lib.ListN.{getD, set}
+use Rattle.row.specs.declared.Seen.{Seen}
+use Rattle.place.specs.Only.{Only}
+use Rattle.areas.specs.Areas.{wordsAt, bytesAt, Rules, placesOf}
+use Rattle.pending.specs.Pending.{pendingOf}
+use Rattle.model.specs.Store.{onPlaces, takenOver}
+use Rattle.outcome.specs.declared.Replica.{Replica}
+use Rattle.outcome.specs.declared.Settings.{Settings}
+use Rattle.outcome.specs.declared.Outcome.{Outcome}
+use Rattle.outcome.specs.Answers.{isDone}
+use Rattle.outcome.specs.Outcomes.{clearing}
+
+abbrev pub promotedFrom : Replica → Replica
+promotedFrom c = record { epoch = c .epoch; connections = c .connections; promoted = true; checked = c .checked }
+
+pub record Promoted (s : Settings) (c : Replica) (seen : Seen) (w w' b b' : List ℕ) (r : Outcome) : Type 0 where
+  pub is : r ≡ clearing (promotedFrom c) seen isDone
+  pub places : placesOf (s .shape) w' b' ≡ onPlaces (takenOver (s .lag)) (placesOf (s .shape) w b)
+  pub pending : pendingOf w' ≡ []
+  pub rules : Rules (s .shape) w' b'
+  pub used : getD w' 0 0 ≡ getD w 0 0
+  pub words : Only 66 (wordsAt (s .shape) (getD w 0 0)) (set w 1 0) w'
+  pub bytes : Only 0 (bytesAt (s .shape) (getD w 0 0)) b b'

@@ -1,0 +1,129 @@
+// The calls that carry no frame, by value: flush, a connection lost, promotion (standby.rs, `flush`, `disconnected_from`, `promote`, `promote_unchecked`).
+ghost use mathlib.Core.Path.{_≡_};
+ghost use mathlib.Core.Bool.{cond};
+ghost use mathlib.Core.List.{[]};
+ghost use Prim.Native.Nat.{_≤_};
+ghost use lib.ListN.{length, set};
+ghost use Rattle.areas.specs.Areas.{Rules};
+ghost use Rattle.pending.specs.Pending.{pendingOf};
+ghost use Rattle.model.specs.State.{flush, disconnectedFrom, promote, promoteUnchecked};
+ghost use Rattle.steps.specs.Steps.{StepIs};
+ghost use Rattle.calls.specs.Calls.{promotedFrom, Promoted};
+use outcome::Outcome;
+use outcome::Replica;
+use outcome::Settings;
+use row::Seen;
+
+// Forgets the pending commits, if asked.
+fn forget(words: &mut [u64], asked: bool)
+    requires { ⌜ 66 ≤ length (now words) ⌝ }
+    ensures { λ _. ⌜ now (words .exit) ≡ cond asked (set (now (words .entry)) 1 0) (now (words .entry)) ⌝ }
+{
+    if asked {
+        pending::clear(words);
+    }
+}
+
+// The counters of a standby that is promoted.
+fn promoted_from(c: Replica) -> Replica
+    ensures { λ r. ⌜ r ≡ promotedFrom c ⌝ }
+{
+    let mut d = c;
+    d.promoted = true;
+    d
+}
+
+// Promotion: pending commits are forgotten, every session is taken over, every handle is freed.
+fn promotion(c: Replica, seen: Seen, words: &mut [u64], bytes: &mut [u8], s: Settings) -> Outcome
+    requires { ⌜ Rules (s .shape) (now words) (now bytes) ⌝ }
+    ensures { λ r. ⌜ Promoted s c seen (now (words .entry)) (now (words .exit)) (now (bytes .entry)) (now (bytes .exit)) r ⌝ }
+{
+    forget(words, true);
+    sessions::take_over_all(words, bytes, s.shape, s.lag);
+    outcome::clears(promoted_from(c), seen, outcome::done())
+}
+
+// Runs the pending commits of the connection: 22 if it is not the newest one, or after promotion.
+pub fn flush(
+    c: Replica,
+    seen: Seen,
+    words: &mut [u64],
+    bytes: &mut [u8],
+    holds: &mut [u8],
+    connection: u64,
+    s: Settings,
+) -> Outcome
+    ensures { λ r. ⌜ StepIs s c seen (flush connection) (now (words .entry)) (now (words .exit)) (now (bytes .entry)) (now (bytes .exit)) (now (holds .entry)) (now (holds .exit)) r ⌝ }
+{
+    if !sound::sound(words, bytes, holds, s.shape, seen) {
+        return outcome::leaves(c, seen, outcome::refused(25));
+    }
+    if connection != c.connections {
+        return outcome::leaves(c, seen, outcome::refused(22));
+    }
+    if c.promoted {
+        return outcome::leaves(c, seen, outcome::refused(22));
+    }
+    commits::run(words, bytes, s.shape);
+    outcome::leaves(c, seen, outcome::done())
+}
+
+// The newest connection is lost: its handles are freed and its pending commits forgotten. Another one changes nothing.
+pub fn disconnected_from(
+    c: Replica,
+    seen: Seen,
+    words: &mut [u64],
+    bytes: &mut [u8],
+    holds: &mut [u8],
+    connection: u64,
+    s: Settings,
+) -> Outcome
+    ensures { λ r. ⌜ StepIs s c seen (disconnectedFrom connection) (now (words .entry)) (now (words .exit)) (now (bytes .entry)) (now (bytes .exit)) (now (holds .entry)) (now (holds .exit)) r ⌝ }
+{
+    if !sound::sound(words, bytes, holds, s.shape, seen) {
+        return outcome::leaves(c, seen, outcome::refused(25));
+    }
+    let own = connection == c.connections;
+    forget(words, own);
+    if own {
+        return outcome::clears(c, seen, outcome::done());
+    }
+    outcome::leaves(c, seen, outcome::done())
+}
+
+// Promotes the standby: 23 if no Checked came for it.
+pub fn promote(
+    c: Replica,
+    seen: Seen,
+    words: &mut [u64],
+    bytes: &mut [u8],
+    holds: &mut [u8],
+    s: Settings,
+) -> Outcome
+    ensures { λ r. ⌜ StepIs s c seen promote (now (words .entry)) (now (words .exit)) (now (bytes .entry)) (now (bytes .exit)) (now (holds .entry)) (now (holds .exit)) r ⌝ }
+{
+    if !sound::sound(words, bytes, holds, s.shape, seen) {
+        return outcome::leaves(c, seen, outcome::refused(25));
+    }
+    if c.checked {
+        return promotion(c, seen, words, bytes, s);
+    }
+    outcome::leaves(c, seen, outcome::refused(23))
+}
+
+// Promotes the standby without that.
+pub fn promote_unchecked(
+    c: Replica,
+    seen: Seen,
+    words: &mut [u64],
+    bytes: &mut [u8],
+    holds: &mut [u8],
+    s: Settings,
+) -> Outcome
+    ensures { λ r. ⌜ StepIs s c seen promoteUnchecked (now (words .entry)) (now (words .exit)) (now (bytes .entry)) (now (bytes .exit)) (now (holds .entry)) (now (holds .exit)) r ⌝ }
+{
+    if !sound::sound(words, bytes, holds, s.shape, seen) {
+        return outcome::leaves(c, seen, outcome::refused(25));
+    }
+    promotion(c, seen, words, bytes, s)
+}

@@ -1,0 +1,23 @@
+use Rattle.due_batch.proofs.area_start.Statement.{statement}
+use Rattle.due_batch.proofs.Areas.{start-found, start-none}
+use lib.ListN.{length}
+use denote.Ref.{now}
+use native.Mathlib.Omega.{arith}
+use Rattle.due_batch.proofs.area_start.Tie as tie
+use Rattle.due_batch.proofs.area_start.Reads as reads
+use Rattle.due_batch.proofs.area_start.Lts as lts
+
+-- src/lib.rt:34:16
+mul-result : tie.Need-mul-result
+mul-result c = omega (arith, c .before .before .before .pre, start-found (c .before .before .before .args .seen) (c .before .before .before .args .room) (c .before .if1 .taken))
+
+-- src/lib.rt:34:9
+returns : tie.Need-returns
+returns c = start-found (c .before .before .before .args .seen) (c .before .before .before .args .room) (c .before .if1 .taken)
+
+-- src/lib.rt:29:1
+returns-2 : tie.Need-returns-2
+returns-2 c = start-none (c .before .before .args .seen) (c .before .before .args .room) (c .if1 .left)
+
+pub area-start-spec : {M : Type 1} → statement M
+area-start-spec = tie.close (tie.spec mul-result returns returns-2)

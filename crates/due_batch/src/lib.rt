@@ -1,0 +1,60 @@
+// A Batch among the hold areas of the row's places: due commits run first (standby.rs, on_frame_held).
+ghost use mathlib.Core.Path.{_≡_};
+ghost use mathlib.Core.Bool.{true, cond};
+ghost use Prim.Native.Nat.{_+_, _*_, _≤_};
+ghost use lib.ListN.{length};
+ghost use Rattle.model_frame.specs.Reading.{readChange, appRecord};
+ghost use Rattle.op.specs.Answers.{runOf};
+ghost use Rattle.parts.specs.Answers.{partOf};
+ghost use Rattle.areas.specs.Areas.{Rules};
+ghost use Rattle.steps.specs.Steps.{roomOf, roomIn, isFound};
+ghost use Rattle.due_batch.specs.DueBatch.{spotIn, Holds, BatchIn};
+use frame::Batch;
+use outcome::Outcome;
+use outcome::Replica;
+use outcome::Settings;
+use row::Seen;
+
+// The length of each hold area: the bytes are divided evenly among the row's places.
+pub fn room_of(holds: &[u8], places: usize) -> usize
+    ensures { λ r. ⌜ r ≡ roomOf (length (now (holds .entry))) places ⌝ }
+{
+    if places == 0 {
+        return 0;
+    }
+    holds.len() / places
+}
+
+// Where the hold area of the record found begins; that of none begins at 0.
+fn area_start(seen: Seen, room: usize, len: usize) -> usize
+    requires { ⌜ spotIn seen * room + room ≤ len ⌝ }
+    ensures { λ r. ⌜ r ≡ spotIn seen * room ⌝ }
+{
+    if seen.at < seen.len {
+        return seen.at * room;
+    }
+    0
+}
+
+pub fn batch_in(
+    words: &mut [u64],
+    bytes: &mut [u8],
+    holds: &mut [u8],
+    frame: &[u8],
+    c: Replica,
+    s: Settings,
+    seen: Seen,
+    b: Batch,
+) -> Outcome
+    requires { ⌜ Rules (s .shape) (now words) (now bytes) ⌝ }
+    requires { ⌜ (isFound seen ≡ true → Holds seen (now words) (now holds)) ⌝ }
+    ensures { λ r. ⌜ BatchIn s c seen (b .handle) (b .epoch .0) (b .«commit_no» .0) (partOf (b .part)) (runOf (readChange 1) (now (frame .entry)) (b .ops)) (runOf appRecord (now (frame .entry)) (b .«app_records»)) (now (words .entry)) (now (words .exit)) (now (bytes .entry)) (now (bytes .exit)) (now (holds .entry)) (now (holds .exit)) r ⌝ }
+{
+    let shape = s.shape;
+    let due = commits::is_due_batch(words, b.handle);
+    commits::run_if(words, bytes, shape, due);
+    let room = room_of(holds, seen.len);
+    let lo = area_start(seen, room, holds.len());
+    let hi = lo + room;
+    batches::on_batch(words, bytes, &mut holds[lo..hi], frame, c, s, seen, b)
+}

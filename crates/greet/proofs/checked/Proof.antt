@@ -1,0 +1,72 @@
+use borrow.Author.Needs.{needs}
+use Rattle.greet.proofs.Laws.{stale, other-run, said}
+use mathlib.Core.Path.{refl}
+use Rattle.greet.proofs.checked.Statement.{statement}
+use Rattle.greet.proofs.checked.Tie as tie
+use Rattle.greet.proofs.checked.Reads as reads
+use Rattle.greet.proofs.checked.Lts as lts
+use Rattle.greet.proofs.checked_at.Reads as checked-at-reads
+use Rattle.greet.proofs.incarnation.Reads as incarnation-reads
+use Rattle.outcome.proofs.ack.Reads as ack-reads
+use Rattle.outcome.proofs.leaves.Reads as leaves-reads
+use Rattle.outcome.proofs.nack.Reads as nack-reads
+
+-- src/lib.rt:87:41
+nack-requires : tie.Need-nack-requires
+nack-requires c κs = search needs
+
+-- src/lib.rt:87:9
+leaves-requires : tie.Need-leaves-requires
+leaves-requires c κs = search needs
+
+-- src/lib.rt:87:9
+returns : tie.Need-returns
+returns c = stale (c .before .before .before .before .before .before .args .c) (c .before .before .before .before .before .before .args .s) (c .before .before .before .before .before .before .args .seen) (c .before .before .before .before .before .before .args .handle) (c .before .before .before .before .before .before .args .epoch .0) (c .before .before .before .before .before .before .args .run .0) (c .before .before .if1 .taken) (c .leaves .ensures) (c .before .nack .ensures)
+
+-- src/lib.rt:89:17
+incarnation-requires : tie.Need-incarnation-requires
+incarnation-requires c κs = search needs
+
+-- src/lib.rt:90:41
+nack-requires-2 : tie.Need-nack-requires-2
+nack-requires-2 c κs = search needs
+
+-- src/lib.rt:90:9
+leaves-requires-2 : tie.Need-leaves-requires-2
+leaves-requires-2 c κs = search needs
+
+-- src/lib.rt:90:9
+returns-2 : tie.Need-returns-2
+returns-2 c = other-run (c .before .before .before .before .before .before .before .before .before .before .args .c) (c .before .before .before .before .before .before .before .before .before .before .args .s) (c .before .before .before .before .before .before .before .before .before .before .args .seen) (c .before .before .before .before .before .before .before .before .before .before .args .handle) (c .before .before .before .before .before .before .before .before .before .before .args .epoch .0) (c .before .before .before .before .before .before .before .before .before .before .args .run .0) (c .before .before .before .before .before .before .if1 .left) (c .before .before .before .before .before .incarnation .ensures) (c .before .before .if2 .taken) (c .leaves2 .ensures) (c .before .nack2 .ensures)
+
+-- src/lib.rt:93:9
+checked-at-requires : tie.Need-checked-at-requires
+checked-at-requires c κs = search needs
+
+-- src/lib.rt:95:9
+ack-requires : tie.Need-ack-requires
+ack-requires c κs = search needs
+
+-- src/lib.rt:92:5
+leaves-requires-3 : tie.Need-leaves-requires-3
+leaves-requires-3 c κs = search needs
+
+-- src/lib.rt:75:1
+returns-3 : tie.Need-returns-3
+returns-3 c = said (c .before .before .before .before .before .before .before .before .before .before .before .args .c) (c .before .before .before .before .before .before .before .before .before .before .before .args .s) (c .before .before .before .before .before .before .before .before .before .before .before .args .seen) (c .before .before .before .before .before .before .before .before .before .before .before .args .handle) (c .before .before .before .before .before .before .before .before .before .before .before .args .epoch .0) (c .before .before .before .before .before .before .before .before .before .before .before .args .run .0) (c .before .before .before .before .before .before .before .if1 .left) (c .before .before .before .before .before .before .incarnation .ensures) refl (c .before .before .before .if2 .left) (c .before .before .checked-at .ensures) (c .leaves3 .ensures) (c .before .ack .ensures)
+
+pub checked-spec : {M : Type 1} → statement M
+checked-spec =
+    tie.close
+    (tie.spec
+    nack-requires
+    leaves-requires
+    returns
+    incarnation-requires
+    nack-requires-2
+    leaves-requires-2
+    returns-2
+    checked-at-requires
+    ack-requires
+    leaves-requires-3
+    returns-3)

@@ -1,0 +1,13 @@
+use borrow.Author.Needs.{needs}
+use Rattle.on_bind.proofs.Laws.{cut-short, cut-long}
+use Rattle.on_bind.proofs.span.Statement.{statement}
+use Rattle.on_bind.proofs.span.Tie as tie
+
+returns : tie.Need-returns
+returns c = cut-short (c .before .before .before .args .t) (c .before .if1 .taken)
+
+returns-2 : tie.Need-returns-2
+returns-2 c = cut-long (c .before .before .args .t) (c .if1 .left)
+
+pub span-spec : {M : Type 1} → statement M
+span-spec = tie.close (tie.spec (λ c. search needs) returns returns-2)

@@ -1,0 +1,197 @@
+// Bind (standby.rs, on_bind): a handle is bound to the session of a key, which is opened if it is new, and its summary is answered.
+ghost use mathlib.Core.Path.{_≡_};
+ghost use mathlib.Core.Bool.{_||_};
+ghost use Prim.Native.Nat.{_<_, _≤_};
+ghost use lib.ListN.{getD};
+ghost use lib.Dec.{ltb};
+ghost use Rattle.model_session.specs.Summary.{summary};
+ghost use Rattle.model.specs.Store.{placeOf};
+ghost use Rattle.parts.specs.Answers.{keyOf};
+ghost use Rattle.areas.specs.Areas.{Rules, placeAt, placesOf};
+ghost use Rattle.outcome.specs.Answers.{briefOf};
+ghost use Rattle.place.specs.Place.{flightIs};
+ghost use Rattle.model.specs.Row.{isSome};
+ghost use Rattle.on_bind.specs.Binding.{Short, cutTo, numberIn, newHandle, roomFor, OpenIs, BindIs};
+use areas::Shape;
+use frame::CommitNumber;
+use frame::Epoch;
+use frame::SessionId;
+use outcome::Brief;
+use outcome::Outcome;
+use outcome::Replica;
+use outcome::Settings;
+use place::Flight;
+use row::Handle;
+use row::Seen;
+use scan::Span;
+use store::Text;
+
+// A text of the store as a frame's: no stamp and no marks are longer than 64 bytes.
+fn span(t: Text) -> Span
+    ensures { λ r. ⌜ r ≡ cutTo t ⌝ }
+{
+    let at = t.at;
+    if t.len < 64 {
+        return Span {
+            at,
+            len: t.len as u32,
+        };
+    }
+    Span { at, len: 64 }
+}
+
+fn flying(f: Flight) -> bool
+    ensures { λ r. ⌜ r ≡ isSome (flightIs f) ⌝ }
+{
+    match f {
+        Flight::Nothing => false,
+        Flight::Number(_) => true,
+    }
+}
+
+fn in_flight(f: Flight) -> u64
+    ensures { λ r. ⌜ r ≡ numberIn (flightIs f) ⌝ }
+{
+    match f {
+        Flight::Nothing => 0,
+        Flight::Number(n) => n,
+    }
+}
+
+// What a Bound says of the session at a place in use.
+fn brief_at(words: &[u64], bytes: &[u8], shape: Shape, place: usize, n: u64) -> Brief
+    requires { ⌜ Rules shape (now words) (now bytes) ⌝ }
+    requires { ⌜ place < getD (now words) 0 0 ⌝ }
+    ensures { λ r. ⌜ briefOf (now (bytes .entry)) r ≡ summary (placeAt shape (now (words .entry)) (now (bytes .entry)) place .stored .session) n ⌝ }
+{
+    let m = sessions::summary_of(words, bytes, shape, place, n);
+    let f = m.in_flight;
+    let created_at = m.created_at;
+    let marks = m.marks;
+    Brief {
+        next_outgoing: m.next_outgoing,
+        next_incoming: m.next_incoming,
+        has_in_flight: flying(f),
+        in_flight: in_flight(f),
+        created_at: span(created_at),
+        marks: span(marks),
+        last_outgoing: m.last_outgoing,
+    }
+}
+
+// The place of a key, or the number of places in use.
+fn place_of(words: &[u64], bytes: &[u8], frame: &[u8], shape: Shape, k: SessionId) -> usize
+    requires { ⌜ Rules shape (now words) (now bytes) ⌝ }
+    ensures { λ r. ⌜ r ≡ placeOf (keyOf (now (frame .entry)) k) (placesOf shape (now (words .entry)) (now (bytes .entry))) ⌝ }
+{
+    let begin = k.begin_string;
+    let sender = k.sender_comp_id;
+    let target = k.target_comp_id;
+    let suffix = k.key_suffix;
+    sessions::place_of(
+        words,
+        bytes,
+        shape,
+        scan::slice(frame, begin),
+        scan::slice(frame, sender),
+        scan::slice(frame, target),
+        scan::slice(frame, suffix),
+    )
+}
+
+// Opens the session of a key where it is new.
+fn open(words: &mut [u64], bytes: &mut [u8], frame: &[u8], shape: Shape, k: SessionId, place: usize)
+    requires { ⌜ Rules shape (now words) (now bytes) ⌝ }
+    requires { ⌜ place ≡ placeOf (keyOf (now frame) k) (placesOf shape (now words) (now bytes)) ⌝ }
+    requires { ⌜ (getD (now words) 0 0 ≤ place → getD (now words) 0 0 < shape .places) ⌝ }
+    requires { ⌜ Short (keyOf (now frame) k) ⌝ }
+    ensures { λ _. ⌜ OpenIs shape (keyOf (now (frame .entry)) k) (now (words .entry)) (now (words .exit)) (now (bytes .entry)) (now (bytes .exit)) ⌝ }
+{
+    if (place as u64) < words[0] {
+        return;
+    }
+    let begin = k.begin_string;
+    let sender = k.sender_comp_id;
+    let target = k.target_comp_id;
+    let suffix = k.key_suffix;
+    sessions::open(
+        words,
+        bytes,
+        shape,
+        scan::slice(frame, begin),
+        scan::slice(frame, sender),
+        scan::slice(frame, target),
+        scan::slice(frame, suffix),
+    );
+}
+
+// Whether there is a session place for a key: its own, or a free one.
+fn has_place(used: u64, place: usize, places: u32) -> bool
+    ensures { λ r. ⌜ r ≡ (ltb place used || ltb used places) ⌝ }
+{
+    ((place as u64) < used) | (used < places as u64)
+}
+
+// Whether the row has a place for the handle: its own, or a free one.
+fn has_room(seen: Seen) -> bool
+    ensures { λ r. ⌜ r ≡ roomFor seen ⌝ }
+{
+    (seen.at < seen.len) | (seen.free < seen.len)
+}
+
+// A handle newly bound to a place.
+fn new_handle(handle: u32, place: usize) -> Handle
+    ensures { λ r. ⌜ r ≡ newHandle handle place ⌝ }
+{
+    Handle {
+        used: true,
+        handle,
+        place,
+        commit_no: CommitNumber(0),
+        held_len: 0,
+        held_bytes: 0,
+    }
+}
+
+// Nack StaleEpoch, Nack Lag, 20 no free session place for a new key, 21 no free place in the row; all are found before anything changes.
+pub fn on_bind(
+    words: &mut [u64],
+    bytes: &mut [u8],
+    frame: &[u8],
+    c: Replica,
+    s: Settings,
+    seen: Seen,
+    handle: u32,
+    epoch: Epoch,
+    max_lag: u64,
+    k: SessionId,
+) -> Outcome
+    requires { ⌜ Rules (s .shape) (now words) (now bytes) ⌝ }
+    requires { ⌜ Short (keyOf (now frame) k) ⌝ }
+    ensures { λ r. ⌜ BindIs s c seen handle (epoch .0) «max_lag» (keyOf (now (frame .entry)) k) (now (words .entry)) (now (words .exit)) (now (bytes .entry)) (now (bytes .exit)) r ⌝ }
+{
+    let own = c.epoch;
+    if epoch.0 < own.0 {
+        return outcome::leaves(c, seen, outcome::nack(handle, 1));
+    }
+    if s.lag < max_lag {
+        return outcome::leaves(c, seen, outcome::nack(handle, 3));
+    }
+    let shape = s.shape;
+    let place = place_of(words, bytes, frame, shape, k);
+    if !has_place(words[0], place, shape.places) {
+        return outcome::leaves(c, seen, outcome::refused(20));
+    }
+    if !has_room(seen) {
+        return outcome::leaves(c, seen, outcome::refused(21));
+    }
+    open(words, bytes, frame, shape, k, place);
+    let brief = brief_at(words, bytes, shape, place, max_lag);
+    outcome::stores(
+        c,
+        seen,
+        outcome::bound(handle, brief),
+        handle,
+        new_handle(handle, place),
+    )
+}

@@ -1,0 +1,46 @@
+use borrow.Author.Needs.{needs}
+use Rattle.others.proofs.Laws.{other-in}
+use Rattle.frame.specs.Answers.{frameOf}
+use denote.Ref.{now}
+use Rattle.others.proofs.other_in.Statement.{statement}
+use Rattle.others.proofs.other_in.Tie as tie
+use Rattle.others.proofs.other_in.Reads as reads
+use Rattle.others.proofs.other_in.Lts as lts
+use Rattle.commits.proofs.is_pending.Reads as is-pending-reads
+use Rattle.commits.proofs.run_if.Reads as run-if-reads
+use Rattle.others.proofs.answer.Reads as answer-reads
+
+-- src/lib.rt:116:9
+is-pending-requires : tie.Need-is-pending-requires
+is-pending-requires c κs = search needs
+
+-- src/lib.rt:117:5
+run-if-requires : tie.Need-run-if-requires
+run-if-requires c κs = search needs
+
+-- src/lib.rt:118:5
+answer-requires : tie.Need-answer-requires
+answer-requires c κs = search needs
+
+-- src/lib.rt:102:1
+same-length : tie.Need-same-length
+same-length c = search needs
+
+-- src/lib.rt:102:1
+same-length-2 : tie.Need-same-length-2
+same-length-2 c = search needs
+
+-- src/lib.rt:102:1
+returns : tie.Need-returns
+returns c = other-in (c .before .before .before .before .before .before .before .before .before .before .before .before .before .before .before .before .before .before .args .s) (c .before .before .before .before .before .before .before .before .before .before .before .before .before .before .before .before .before .before .args .c) (c .before .before .before .before .before .before .before .before .before .before .before .before .before .before .before .before .before .before .args .seen) (frameOf 1 (now (c .before .before .before .before .before .before .before .before .before .before .before .before .before .before .before .before .before .before .args .frame)) (c .before .before .before .before .before .before .before .before .before .before .before .before .before .before .before .before .before .before .args .f)) (now (c .before .before .before .before .before .before .before .before .before .before .before .before .before .before .before .before .before .before .args .words)) (now (c .before .before .before .before .before .before .before .before .before .before .before .before .before .before .before .before .before .before .args .bytes)) (c .before .before .before .before .before .before .before .before .before .before .before .before .is-pending .ensures) (c .before .before .before .before .before .before .before .before .before .run-if .ensures) (c .before .before .before .before .answer .ensures)
+
+pub other-in-spec : {M : Type 1} → statement M
+other-in-spec =
+    tie.close
+    (tie.spec
+    is-pending-requires
+    run-if-requires
+    answer-requires
+    same-length
+    same-length-2
+    returns)

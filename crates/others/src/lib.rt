@@ -1,0 +1,119 @@
+// Frames that are no Batch: pending commits run first, then Hello, Bind, Checked, or 19 (standby.rs, on_frame_held).
+ghost use mathlib.Core.Path.{_≡_};
+ghost use mathlib.Core.Bool.{false};
+ghost use mathlib.Core.Option.{none};
+ghost use Prim.Native.Nat.{_≤_};
+ghost use lib.ListN.{length};
+ghost use Rattle.model_frame.specs.Parse.{isEmpty, num};
+ghost use Rattle.op.specs.Answers.{runOf};
+ghost use Rattle.frame.specs.Answers.{frameOf};
+ghost use Rattle.areas.specs.Areas.{Rules};
+ghost use Rattle.greet.specs.Greeting.{Replies};
+ghost use Rattle.model.specs.Core.{coreIntact};
+ghost use Rattle.others.specs.Others.{Plain, Fit, clearedIf, OtherIs, OtherIn};
+use frame::Frame;
+use op::Run;
+use outcome::Outcome;
+use outcome::Replica;
+use outcome::Settings;
+use row::Seen;
+use scan::Cursor;
+use scan::Word16;
+
+// Whether a run of kinds is empty.
+fn no_kinds(frame: &[u8], run: Run) -> bool
+    ensures { λ r. ⌜ r ≡ isEmpty (runOf (num 2) (now (frame .entry)) run) ⌝ }
+{
+    if run.count == 0 {
+        return true;
+    }
+    match scan::u16_from(frame, Cursor { at: run.at }) {
+        Word16::Got(_, _) => false,
+        Word16::Short => true,
+    }
+}
+
+// Drops the pending commits, if the bindings go.
+fn clear_if(words: &mut [u64], clears: bool)
+    requires { ⌜ 66 ≤ length (now words) ⌝ }
+    ensures { λ _. ⌜ now (words .exit) ≡ clearedIf clears (now (words .entry)) ⌝ }
+{
+    if clears {
+        pending::clear(words);
+    }
+}
+
+// What a frame answers that needs no more than the counters.
+fn reply(frame: &[u8], c: Replica, s: Settings, seen: Seen, f: Frame) -> Outcome
+    requires { ⌜ Plain (frameOf 1 (now frame) f) ⌝ }
+    ensures { λ r. ⌜ Replies c s seen (λ L k. coreIntact L k none false (frameOf 1 (now (frame .entry)) f)) r ⌝ }
+{
+    match f {
+        Frame::Hello {
+            version,
+            epoch,
+            node: _,
+            app_record_kinds,
+        } => {
+            let none = no_kinds(frame, app_record_kinds);
+            greet::hello(c, s, seen, version, epoch, none)
+        }
+        Frame::Checked {
+            handle,
+            epoch,
+            incarnation,
+        } => greet::checked(c, s, seen, handle, epoch, incarnation),
+        _ => outcome::leaves(c, seen, outcome::refused(19)),
+    }
+}
+
+// What the frame answers, once due commits have run.
+fn answer(
+    words: &mut [u64],
+    bytes: &mut [u8],
+    frame: &[u8],
+    c: Replica,
+    s: Settings,
+    seen: Seen,
+    f: Frame,
+) -> Outcome
+    requires { ⌜ Rules (s .shape) (now words) (now bytes) ⌝ }
+    requires { ⌜ Fit (frameOf 1 (now frame) f) ⌝ }
+    ensures { λ r. ⌜ OtherIs s c seen (frameOf 1 (now (frame .entry)) f) (now (words .entry)) (now (words .exit)) (now (bytes .entry)) (now (bytes .exit)) r ⌝ }
+{
+    match f {
+        Frame::Bind {
+            handle,
+            epoch,
+            max_lag,
+            session,
+        } => on_bind::on_bind(
+            words, bytes, frame, c, s, seen, handle, epoch, max_lag, session,
+        ),
+        _ => {
+            let o = reply(frame, c, s, seen, f);
+            clear_if(words, o.clears);
+            o
+        }
+    }
+}
+
+// Pending commits run, and then the frame is answered.
+pub fn other_in(
+    words: &mut [u64],
+    bytes: &mut [u8],
+    frame: &[u8],
+    c: Replica,
+    s: Settings,
+    seen: Seen,
+    f: Frame,
+) -> Outcome
+    requires { ⌜ Rules (s .shape) (now words) (now bytes) ⌝ }
+    requires { ⌜ Fit (frameOf 1 (now frame) f) ⌝ }
+    ensures { λ r. ⌜ OtherIn s c seen (frameOf 1 (now (frame .entry)) f) (now (words .entry)) (now (words .exit)) (now (bytes .entry)) (now (bytes .exit)) r ⌝ }
+{
+    let shape = s.shape;
+    let due = commits::is_pending(words);
+    commits::run_if(words, bytes, shape, due);
+    answer(words, bytes, frame, c, s, seen, f)
+}

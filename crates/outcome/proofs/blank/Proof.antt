@@ -1,0 +1,20 @@
+use borrow.Author.Needs.{needs}
+use Rattle.outcome.proofs.blank.Statement.{statement}
+use Rattle.outcome.proofs.blank.Tie as tie
+use Rattle.outcome.proofs.blank.Reads as reads
+use Rattle.outcome.proofs.blank.Lts as lts
+use Rattle.outcome.proofs.no_brief.Reads as no-brief-reads
+use mathlib.Core.Path.{ap, sym}
+use Rattle.outcome.specs.declared.Brief.{Brief}
+use Rattle.outcome.specs.declared.Answer.{Answer}
+
+-- src/lib.rt:99:16
+no-brief-requires : tie.Need-no-brief-requires
+no-brief-requires c κs = search needs
+
+-- src/lib.rt:88:1
+returns : tie.Need-returns
+returns c = (λ j. record { refusal = c .before .args .refusal; kind = c .before .args .kind; handle = c .before .args .handle; epoch = record { 0 = 0 }; incarnation = record { 0 = 0 }; «commit_no» = record { 0 = 0 }; reason = 0; brief = c .no-brief .ensures j })
+
+pub blank-spec : {M : Type 1} → statement M
+blank-spec = tie.close (tie.spec no-brief-requires returns)

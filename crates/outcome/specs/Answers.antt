@@ -1,0 +1,77 @@
+-- What an answer stands for: a refusal by its number, a frame, or done. Its texts are parts of the store's bytes b. Assumes nothing.
+use Prim.Native.Nat.{ℕ}
+use mathlib.Core.Bool.{Bool, true, false, cond}
+use mathlib.Core.List.{List}
+use mathlib.Core.Option.{none, some}
+use lib.Dec.{eqb}
+use Rattle.model_frame.specs.Frame.{Reason, staleEpoch, diverged, lagTooGreat, restarted, Frame, welcome, ack, nack, bound}
+use Rattle.model_frame.specs.Frame as the-frame
+use Rattle.scan.specs.Answers.{spanOf}
+use Rattle.frame.specs.declared.CommitNumber.{CommitNumber}
+use Rattle.frame.specs.declared.Epoch.{Epoch}
+use Rattle.frame.specs.declared.Incarnation.{Incarnation}
+use Rattle.model.specs.Answer.{reply, refused, done}
+use Rattle.model.specs.Answer as the-answer
+use Rattle.outcome.specs.declared.Brief.{Brief}
+use Rattle.outcome.specs.declared.Answer.{Answer}
+
+abbrev pub briefOf : List ℕ → Brief → the-frame.Summary
+briefOf b m =
+    record {
+      nextOut = m .«next_outgoing»;
+      nextIn = m .«next_incoming»;
+      inFlight = cond (m .«has_in_flight») (some (m .«in_flight»)) none;
+      stampText = spanOf b (m .«created_at»);
+      marksText = spanOf b (m .marks);
+      lastOutgoing = m .«last_outgoing»;
+    }
+
+-- a Nack's reason by its byte
+abbrev pub reasonBy : ℕ → Reason
+reasonBy r = cond (eqb r 1) staleEpoch (cond (eqb r 2) diverged (cond (eqb r 3) lagTooGreat restarted))
+
+-- the frame by its kind
+abbrev pub frameBy : List ℕ → Answer → Frame
+frameBy b a =
+    cond (eqb (a .kind) 2) (welcome (a .epoch .0) (a .incarnation .0))
+    (cond (eqb (a .kind) 5) (ack (a .handle) (a .«commit_no» .0))
+    (cond (eqb (a .kind) 6) (nack (a .handle) (reasonBy (a .reason))) (bound (a .handle) (briefOf b (a .brief)))))
+
+abbrev pub answerOf : List ℕ → Answer → the-answer.Answer
+answerOf b a = cond (eqb (a .refusal) 0) (cond (eqb (a .kind) 0) done (reply (frameBy b a))) (refused (a .refusal))
+
+-- ---- each answer as it is made
+
+abbrev pub noBrief : Brief
+noBrief =
+    record {
+      «next_outgoing» = 0;
+      «next_incoming» = 0;
+      «has_in_flight» = false;
+      «in_flight» = 0;
+      «created_at» = record { at = 0; len = 0 };
+      marks = record { at = 0; len = 0 };
+      «last_outgoing» = 0;
+    }
+
+abbrev pub blankOf : ℕ → ℕ → ℕ → Answer
+blankOf refusal kind handle =
+    record { refusal = refusal; kind = kind; handle = handle; epoch = record { 0 = 0 }; incarnation = record { 0 = 0 }; «commit_no» = record { 0 = 0 }; reason = 0; brief = noBrief }
+
+abbrev pub isRefused : ℕ → Answer
+isRefused n = blankOf n 0 0
+
+abbrev pub isDone : Answer
+isDone = blankOf 0 0 0
+
+abbrev pub isWelcome : Epoch → Incarnation → Answer
+isWelcome e i = record { refusal = 0; kind = 2; handle = 0; epoch = e; incarnation = i; «commit_no» = record { 0 = 0 }; reason = 0; brief = noBrief }
+
+abbrev pub isAck : ℕ → CommitNumber → Answer
+isAck h n = record { refusal = 0; kind = 5; handle = h; epoch = record { 0 = 0 }; incarnation = record { 0 = 0 }; «commit_no» = n; reason = 0; brief = noBrief }
+
+abbrev pub isNack : ℕ → ℕ → Answer
+isNack h r = record { refusal = 0; kind = 6; handle = h; epoch = record { 0 = 0 }; incarnation = record { 0 = 0 }; «commit_no» = record { 0 = 0 }; reason = r; brief = noBrief }
+
+abbrev pub isBound : ℕ → Brief → Answer
+isBound h m = record { refusal = 0; kind = 7; handle = h; epoch = record { 0 = 0 }; incarnation = record { 0 = 0 }; «commit_no» = record { 0 = 0 }; reason = 0; brief = m }

@@ -1,0 +1,209 @@
+// The standby's counters and settings, what a call answers, and what it does to the row of handles (standby.rs, `Replica`).
+ghost use mathlib.Core.Path.{_≡_};
+ghost use Rattle.outcome.specs.Answers.{noBrief, blankOf, isRefused, isDone, isWelcome, isAck, isNack, isBound};
+ghost use Rattle.outcome.specs.Outcomes.{spotOf, leaving, clearing, storing};
+use areas::Shape;
+use frame::CommitNumber;
+use frame::Epoch;
+use frame::Incarnation;
+use row::Handle;
+use row::Seen;
+use scan::Span;
+
+// The standby's counters: a small record lent for each call.
+#[repr(C)]
+pub struct Replica {
+    pub epoch: Epoch,
+    pub connections: u64,
+    pub promoted: bool,
+    pub checked: bool,
+}
+
+impl Replica {
+    // The most commits that may be pending.
+    pub const MAX_PENDING: u64 = 64;
+    // The most message bytes that a session sent whole may hold back.
+    pub const MAX_WHOLE: u64 = 4294967296;
+}
+
+// What no call changes: the store's shape, this run of the standby (0 is taken as 1), and the accepted lag.
+#[repr(C)]
+pub struct Settings {
+    pub shape: Shape,
+    pub incarnation: Incarnation,
+    pub lag: u64,
+}
+
+// What a Bound says of a session; its texts are parts of the store's byte area.
+#[repr(C)]
+pub struct Brief {
+    pub next_outgoing: u64,
+    pub next_incoming: u64,
+    pub has_in_flight: bool,
+    pub in_flight: u64,
+    pub created_at: Span,
+    pub marks: Span,
+    pub last_outgoing: u64,
+}
+
+// A refusal by its number, or the frame that is answered by its kind: 2 Welcome, 5 Ack, 6 Nack, 7 Bound; both 0: done.
+#[repr(C)]
+pub struct Answer {
+    pub refusal: u8,
+    pub kind: u8,
+    pub handle: u32,
+    pub epoch: Epoch,
+    pub incarnation: Incarnation,
+    pub commit_no: CommitNumber,
+    pub reason: u8,
+    pub brief: Brief,
+}
+
+// What a call makes of the counters, what it answers, and what is done to the row: a record is put at a place, every record from another place on is freed.
+#[repr(C)]
+pub struct Outcome {
+    pub replica: Replica,
+    pub answer: Answer,
+    pub stores: bool,
+    pub clears: bool,
+    pub at: usize,
+    pub from: usize,
+    pub slot: Handle,
+}
+
+fn no_brief() -> Brief
+    ensures { λ r. ⌜ r ≡ noBrief ⌝ }
+{
+    Brief {
+        next_outgoing: 0,
+        next_incoming: 0,
+        has_in_flight: false,
+        in_flight: 0,
+        created_at: Span { at: 0, len: 0 },
+        marks: Span { at: 0, len: 0 },
+        last_outgoing: 0,
+    }
+}
+
+fn blank(refusal: u8, kind: u8, handle: u32) -> Answer
+    ensures { λ r. ⌜ r ≡ blankOf refusal kind handle ⌝ }
+{
+    Answer {
+        refusal,
+        kind,
+        handle,
+        epoch: Epoch(0),
+        incarnation: Incarnation(0),
+        commit_no: CommitNumber(0),
+        reason: 0,
+        brief: no_brief(),
+    }
+}
+
+// A refusal by its number.
+pub fn refused(number: u8) -> Answer
+    ensures { λ r. ⌜ r ≡ isRefused number ⌝ }
+{
+    blank(number, 0, 0)
+}
+
+// Done, with no frame.
+pub fn done() -> Answer
+    ensures { λ r. ⌜ r ≡ isDone ⌝ }
+{
+    blank(0, 0, 0)
+}
+
+pub fn welcome(epoch: Epoch, incarnation: Incarnation) -> Answer
+    ensures { λ r. ⌜ r ≡ isWelcome epoch incarnation ⌝ }
+{
+    let mut a = blank(0, 2, 0);
+    a.epoch = epoch;
+    a.incarnation = incarnation;
+    a
+}
+
+pub fn ack(handle: u32, commit_no: CommitNumber) -> Answer
+    ensures { λ r. ⌜ r ≡ isAck handle «commit_no» ⌝ }
+{
+    let mut a = blank(0, 5, handle);
+    a.commit_no = commit_no;
+    a
+}
+
+// 1 StaleEpoch, 2 Diverged, 3 Lag, 4 Restarted.
+pub fn nack(handle: u32, reason: u8) -> Answer
+    ensures { λ r. ⌜ r ≡ isNack handle reason ⌝ }
+{
+    let mut a = blank(0, 6, handle);
+    a.reason = reason;
+    a
+}
+
+pub fn bound(handle: u32, brief: Brief) -> Answer
+    ensures { λ r. ⌜ r ≡ isBound handle brief ⌝ }
+{
+    let mut a = blank(0, 7, handle);
+    a.brief = brief;
+    a
+}
+
+// The row stays as it is.
+pub fn leaves(c: Replica, seen: Seen, a: Answer) -> Outcome
+    ensures { λ r. ⌜ r ≡ leaving c seen a ⌝ }
+{
+    let slot = seen.bound;
+    Outcome {
+        replica: c,
+        answer: a,
+        stores: false,
+        clears: false,
+        at: seen.len,
+        from: seen.len,
+        slot,
+    }
+}
+
+// Every record of the row is freed.
+pub fn clears(c: Replica, seen: Seen, a: Answer) -> Outcome
+    ensures { λ r. ⌜ r ≡ clearing c seen a ⌝ }
+{
+    let slot = seen.bound;
+    Outcome {
+        replica: c,
+        answer: a,
+        stores: false,
+        clears: true,
+        at: seen.len,
+        from: 0,
+        slot,
+    }
+}
+
+// The handle's own place, or the first free one.
+fn spot(seen: Seen) -> usize
+    ensures { λ r. ⌜ r ≡ spotOf seen ⌝ }
+{
+    if seen.at < seen.len {
+        return seen.at;
+    }
+    seen.free
+}
+
+// The handle gets a record, at its own place or the first free one.
+pub fn stores(c: Replica, seen: Seen, a: Answer, handle: u32, h: Handle) -> Outcome
+    ensures { λ r. ⌜ r ≡ storing c seen a handle h ⌝ }
+{
+    let mut slot = h;
+    slot.used = true;
+    slot.handle = handle;
+    Outcome {
+        replica: c,
+        answer: a,
+        stores: true,
+        clears: false,
+        at: spot(seen),
+        from: seen.len,
+        slot,
+    }
+}

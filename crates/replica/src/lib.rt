@@ -1,0 +1,362 @@
+// The standby's calls over the lent counters, the lent row of handles, the store's two areas and the hold areas (standby.rs, `Replica`).
+ghost use mathlib.Core.Path.{_≡_};
+ghost use Prim.Native.Nat.{max};
+ghost use lib.ListN.{length, getD};
+ghost use Rattle.model.specs.State.{onFrameHeld, onFrame, flush, disconnectedFrom, promote, promoteUnchecked};
+ghost use Rattle.steps.specs.Steps.{roomOf, StepIs};
+ghost use Rattle.steps.specs.Calls.{handleAt, Called};
+ghost use Rattle.replica.specs.Making.{newReplica, MakeIs, MadeOver};
+use frame::Epoch;
+use frame::Incarnation;
+use outcome::Answer;
+use outcome::Outcome;
+use outcome::Replica;
+use outcome::Settings;
+use row::Handle;
+use row::Seen;
+
+// Where a Bind and a Batch have their handle.
+fn handle_at(frame: &[u8]) -> u32
+    ensures { λ r. ⌜ r ≡ handleAt (now (frame .entry)) ⌝ }
+{
+    if frame.len() < 9 {
+        return 0;
+    }
+    wire::u32_at(frame, 5)
+}
+
+// How many places of the store are in use.
+fn places_in_use(words: &[u64]) -> usize
+    ensures { λ r. ⌜ r ≡ getD (now (words .entry)) 0 0 ⌝ }
+{
+    if words.len() == 0 {
+        return 0;
+    }
+    words[0] as usize
+}
+
+// The length of each hold area: the bytes are divided evenly among the row's records.
+fn room_of(holds: &[u8], len: usize) -> usize
+    ensures { λ r. ⌜ r ≡ roomOf (length (now (holds .entry))) len ⌝ }
+{
+    if len == 0 {
+        return 0;
+    }
+    holds.len() / len
+}
+
+fn frame_held(
+    c: Replica,
+    seen: Seen,
+    words: &mut [u64],
+    bytes: &mut [u8],
+    holds: &mut [u8],
+    frame: &[u8],
+    s: Settings,
+) -> Outcome
+    ensures { λ r. ⌜ StepIs s c seen (onFrameHeld (now (frame .entry))) (now (words .entry)) (now (words .exit)) (now (bytes .entry)) (now (bytes .exit)) (now (holds .entry)) (now (holds .exit)) r ⌝ }
+{
+    outcome::leaves(c, seen, outcome::refused(25))
+}
+
+fn frame_now(
+    c: Replica,
+    seen: Seen,
+    words: &mut [u64],
+    bytes: &mut [u8],
+    holds: &mut [u8],
+    frame: &[u8],
+    s: Settings,
+) -> Outcome
+    ensures { λ r. ⌜ StepIs s c seen (onFrame (now (frame .entry))) (now (words .entry)) (now (words .exit)) (now (bytes .entry)) (now (bytes .exit)) (now (holds .entry)) (now (holds .exit)) r ⌝ }
+{
+    outcome::leaves(c, seen, outcome::refused(25))
+}
+
+fn flushes(
+    c: Replica,
+    seen: Seen,
+    words: &mut [u64],
+    bytes: &mut [u8],
+    holds: &mut [u8],
+    connection: u64,
+    s: Settings,
+) -> Outcome
+    ensures { λ r. ⌜ StepIs s c seen (flush connection) (now (words .entry)) (now (words .exit)) (now (bytes .entry)) (now (bytes .exit)) (now (holds .entry)) (now (holds .exit)) r ⌝ }
+{
+    outcome::leaves(c, seen, outcome::refused(25))
+}
+
+fn drops(
+    c: Replica,
+    seen: Seen,
+    words: &mut [u64],
+    bytes: &mut [u8],
+    holds: &mut [u8],
+    connection: u64,
+    s: Settings,
+) -> Outcome
+    ensures { λ r. ⌜ StepIs s c seen (disconnectedFrom connection) (now (words .entry)) (now (words .exit)) (now (bytes .entry)) (now (bytes .exit)) (now (holds .entry)) (now (holds .exit)) r ⌝ }
+{
+    outcome::leaves(c, seen, outcome::refused(25))
+}
+
+fn promotes(
+    c: Replica,
+    seen: Seen,
+    words: &mut [u64],
+    bytes: &mut [u8],
+    holds: &mut [u8],
+    s: Settings,
+) -> Outcome
+    ensures { λ r. ⌜ StepIs s c seen promote (now (words .entry)) (now (words .exit)) (now (bytes .entry)) (now (bytes .exit)) (now (holds .entry)) (now (holds .exit)) r ⌝ }
+{
+    outcome::leaves(c, seen, outcome::refused(25))
+}
+
+fn promotes_unchecked(
+    c: Replica,
+    seen: Seen,
+    words: &mut [u64],
+    bytes: &mut [u8],
+    holds: &mut [u8],
+    s: Settings,
+) -> Outcome
+    ensures { λ r. ⌜ StepIs s c seen promoteUnchecked (now (words .entry)) (now (words .exit)) (now (bytes .entry)) (now (bytes .exit)) (now (holds .entry)) (now (holds .exit)) r ⌝ }
+{
+    outcome::leaves(c, seen, outcome::refused(25))
+}
+
+// A frame that may be held back: its answer is sent once the pending commits have run.
+pub fn on_frame_held(
+    c: &mut Replica,
+    row: &mut [Handle],
+    words: &mut [u64],
+    bytes: &mut [u8],
+    holds: &mut [u8],
+    frame: &[u8],
+    s: Settings,
+) -> Answer
+    ensures { λ r. ⌜ Called s (onFrameHeld (now (frame .entry))) (now (c .entry)) (now (c .exit)) (now (row .entry)) (now (row .exit)) (now (words .entry)) (now (words .exit)) (now (bytes .entry)) (now (bytes .exit)) (now (holds .entry)) (now (holds .exit)) r ⌝ }
+{
+    let handle = handle_at(frame);
+    let used = places_in_use(words);
+    let len = row.len();
+    let room = room_of(holds, len);
+    let seen = row::look(row, handle, used, room);
+    let o = frame_held(*c, seen, words, bytes, holds, frame, s);
+    row::act(row, o.at, o.from, o.slot);
+    *c = o.replica;
+    o.answer
+}
+
+// A frame, and then the pending commits.
+pub fn on_frame(
+    c: &mut Replica,
+    row: &mut [Handle],
+    words: &mut [u64],
+    bytes: &mut [u8],
+    holds: &mut [u8],
+    frame: &[u8],
+    s: Settings,
+) -> Answer
+    ensures { λ r. ⌜ Called s (onFrame (now (frame .entry))) (now (c .entry)) (now (c .exit)) (now (row .entry)) (now (row .exit)) (now (words .entry)) (now (words .exit)) (now (bytes .entry)) (now (bytes .exit)) (now (holds .entry)) (now (holds .exit)) r ⌝ }
+{
+    let handle = handle_at(frame);
+    let used = places_in_use(words);
+    let len = row.len();
+    let room = room_of(holds, len);
+    let seen = row::look(row, handle, used, room);
+    let o = frame_now(*c, seen, words, bytes, holds, frame, s);
+    row::act(row, o.at, o.from, o.slot);
+    *c = o.replica;
+    o.answer
+}
+
+// Runs the pending commits of a connection.
+pub fn flush(
+    c: &mut Replica,
+    row: &mut [Handle],
+    words: &mut [u64],
+    bytes: &mut [u8],
+    holds: &mut [u8],
+    connection: u64,
+    s: Settings,
+) -> Answer
+    ensures { λ r. ⌜ Called s (flush connection) (now (c .entry)) (now (c .exit)) (now (row .entry)) (now (row .exit)) (now (words .entry)) (now (words .exit)) (now (bytes .entry)) (now (bytes .exit)) (now (holds .entry)) (now (holds .exit)) r ⌝ }
+{
+    let used = places_in_use(words);
+    let len = row.len();
+    let room = room_of(holds, len);
+    let seen = row::look(row, 0, used, room);
+    let o = flushes(*c, seen, words, bytes, holds, connection, s);
+    row::act(row, o.at, o.from, o.slot);
+    *c = o.replica;
+    o.answer
+}
+
+// The connection is gone: with it go the bindings and the pending commits.
+pub fn disconnected_from(
+    c: &mut Replica,
+    row: &mut [Handle],
+    words: &mut [u64],
+    bytes: &mut [u8],
+    holds: &mut [u8],
+    connection: u64,
+    s: Settings,
+) -> Answer
+    ensures { λ r. ⌜ Called s (disconnectedFrom connection) (now (c .entry)) (now (c .exit)) (now (row .entry)) (now (row .exit)) (now (words .entry)) (now (words .exit)) (now (bytes .entry)) (now (bytes .exit)) (now (holds .entry)) (now (holds .exit)) r ⌝ }
+{
+    let used = places_in_use(words);
+    let len = row.len();
+    let room = room_of(holds, len);
+    let seen = row::look(row, 0, used, room);
+    let o = drops(*c, seen, words, bytes, holds, connection, s);
+    row::act(row, o.at, o.from, o.slot);
+    *c = o.replica;
+    o.answer
+}
+
+// Promotes a standby that was checked.
+pub fn promote(
+    c: &mut Replica,
+    row: &mut [Handle],
+    words: &mut [u64],
+    bytes: &mut [u8],
+    holds: &mut [u8],
+    s: Settings,
+) -> Answer
+    ensures { λ r. ⌜ Called s promote (now (c .entry)) (now (c .exit)) (now (row .entry)) (now (row .exit)) (now (words .entry)) (now (words .exit)) (now (bytes .entry)) (now (bytes .exit)) (now (holds .entry)) (now (holds .exit)) r ⌝ }
+{
+    let used = places_in_use(words);
+    let len = row.len();
+    let room = room_of(holds, len);
+    let seen = row::look(row, 0, used, room);
+    let o = promotes(*c, seen, words, bytes, holds, s);
+    row::act(row, o.at, o.from, o.slot);
+    *c = o.replica;
+    o.answer
+}
+
+// Promotes a standby, checked or not.
+pub fn promote_unchecked(
+    c: &mut Replica,
+    row: &mut [Handle],
+    words: &mut [u64],
+    bytes: &mut [u8],
+    holds: &mut [u8],
+    s: Settings,
+) -> Answer
+    ensures { λ r. ⌜ Called s promoteUnchecked (now (c .entry)) (now (c .exit)) (now (row .entry)) (now (row .exit)) (now (words .entry)) (now (words .exit)) (now (bytes .entry)) (now (bytes .exit)) (now (holds .entry)) (now (holds .exit)) r ⌝ }
+{
+    let used = places_in_use(words);
+    let len = row.len();
+    let room = room_of(holds, len);
+    let seen = row::look(row, 0, used, room);
+    let o = promotes_unchecked(*c, seen, words, bytes, holds, s);
+    row::act(row, o.at, o.from, o.slot);
+    *c = o.replica;
+    o.answer
+}
+
+// The counters of a standby that is new: no epoch yet, no connection, neither promoted nor checked.
+pub fn new() -> Replica
+    ensures { λ r. ⌜ r ≡ newReplica ⌝ }
+{
+    Replica {
+        epoch: Epoch(0),
+        connections: 0,
+        promoted: false,
+        checked: false,
+    }
+}
+
+fn made(c: Replica, seen: Seen, words: &mut [u64], bytes: &[u8], s: Settings) -> Outcome
+    ensures { λ r. ⌜ MakeIs s c seen (now (words .entry)) (now (words .exit)) (now (bytes .entry)) r ⌝ }
+{
+    if areas::allowed(s.shape, words, bytes) {
+        words[1] = 0;
+        return outcome::clears(new(), seen, outcome::done());
+    }
+    outcome::leaves(c, seen, outcome::refused(25))
+}
+
+// Makes a standby over a store: new counters, no pending commit, every record of the row freed.
+pub fn make(
+    c: &mut Replica,
+    row: &mut [Handle],
+    words: &mut [u64],
+    bytes: &[u8],
+    s: Settings,
+) -> Answer
+    ensures { λ r. ⌜ MadeOver s (now (c .entry)) (now (c .exit)) (now (row .entry)) (now (row .exit)) (now (words .entry)) (now (words .exit)) (now (bytes .entry)) r ⌝ }
+{
+    let seen = row::look(row, 0, 0, 0);
+    let o = made(*c, seen, words, bytes, s);
+    row::act(row, o.at, o.from, o.slot);
+    *c = o.replica;
+    o.answer
+}
+
+// The standby's epoch.
+pub fn epoch(c: Replica) -> Epoch
+    ensures { λ r. ⌜ r ≡ c .epoch ⌝ }
+{
+    c.epoch
+}
+
+// The connections so far: the number of the last one.
+pub fn connection(c: Replica) -> u64
+    ensures { λ r. ⌜ r ≡ c .connections ⌝ }
+{
+    c.connections
+}
+
+pub fn checked(c: Replica) -> bool
+    ensures { λ r. ⌜ r ≡ c .checked ⌝ }
+{
+    c.checked
+}
+
+pub fn promoted(c: Replica) -> bool
+    ensures { λ r. ⌜ r ≡ c .promoted ⌝ }
+{
+    c.promoted
+}
+
+// This run of the standby: 0 is taken as 1.
+pub fn incarnation(s: Settings) -> Incarnation
+    ensures { λ r. ⌜ r .0 ≡ max (s .incarnation .0) 1 ⌝ }
+{
+    greet::incarnation(s)
+}
+
+// What a call by value gives: the counters and the row after it, and its answer.
+#[repr(C)]
+pub struct Kept {
+    pub replica: Replica,
+    pub row: [Handle; 4],
+    pub answer: Answer,
+}
+
+// A frame by value, over four handles: it lends the counters and the row itself, so whoever calls it needs no walk.
+pub fn on_frame4(
+    c: Replica,
+    row: [Handle; 4],
+    words: &mut [u64],
+    bytes: &mut [u8],
+    holds: &mut [u8],
+    frame: &[u8],
+    s: Settings,
+) -> Kept
+    ensures { λ r. ⌜ Called s (onFrame (now (frame .entry))) c (r .replica) row (r .row) (now (words .entry)) (now (words .exit)) (now (bytes .entry)) (now (bytes .exit)) (now (holds .entry)) (now (holds .exit)) (r .answer) ⌝ }
+{
+    let mut d = c;
+    let mut t = row;
+    let answer = on_frame(&mut d, &mut t, words, bytes, holds, frame, s);
+    Kept {
+        replica: d,
+        row: t,
+        answer: answer,
+    }
+}

@@ -1,0 +1,4 @@
+pub mod Naming
+pub mod Fitting
+pub mod Rows
+pub mod Called

@@ -1,0 +1,66 @@
+-- What a call on the standby promises, over the counters, the lent row, the store's two areas and the hold areas. Assumes nothing.
+use Prim.Native.Nat.{ℕ}
+use mathlib.Core.Path.{_≡_}
+use mathlib.Core.Bool.{Bool, true, false, cond, _&&_}
+use mathlib.Core.List.{List}
+use lib.ListN.{length, getD}
+use lib.Dec.{leb, ltb}
+use Rattle.model_frame.specs.Bytes.{leAt}
+use Rattle.row.specs.declared.Handle.{Handle}
+use Rattle.row.specs.Row.{none, findOf, brokenOf}
+use Rattle.bindings.specs.Rows.{rowOf}
+use Rattle.areas.specs.Areas.{allowed, placesOf}
+use Rattle.pending.specs.Pending.{pendingOf}
+use Rattle.model.specs.Answer.{protocolVersion}
+use Rattle.model.specs.Row.{find}
+use Rattle.model.specs.State.{Standby, Call, onFrameHeld, onFrame, flush, disconnectedFrom, promote, promoteUnchecked}
+use Rattle.model.specs.Standby.{step}
+use Rattle.model.specs.Core.{handleOf}
+use Rattle.on_batch.specs.State.{boundOf}
+use Rattle.outcome.specs.declared.Replica.{Replica}
+use Rattle.outcome.specs.declared.Settings.{Settings}
+use Rattle.outcome.specs.declared.Answer.{Answer}
+use Rattle.outcome.specs.Answers.{answerOf, isRefused}
+use Rattle.outcome.specs.Outcomes.{countersOf, settingsOf}
+use Rattle.steps.specs.Steps.{roomOf, Leaves, holdsAfter, writesBy}
+
+-- the length of each hold area
+abbrev pub roomAll : List Handle → List ℕ → ℕ
+roomAll row h = roomOf (length h) (length row)
+
+-- what it all stands for
+abbrev pub standbyOf : Settings → Replica → List Handle → List ℕ → List ℕ → List ℕ → Standby
+standbyOf s c row w b h =
+    record { counters = countersOf c; places = placesOf (s .shape) w b; handles = rowOf (boundOf protocolVersion) (roomAll row h) row h; pending = pendingOf w }
+
+-- the rules: the store's, and no used record names a place that isn't in use or holds more than its area has
+abbrev pub allowedAll : Settings → List Handle → List ℕ → List ℕ → List ℕ → Bool
+allowedAll s row w b h = allowed (s .shape) w b && leb (length row) (brokenOf row (getD w 0 0) (roomAll row h))
+
+-- the four bytes where a Bind and a Batch have their handle
+abbrev pub handleAt : List ℕ → ℕ
+handleAt f = cond (ltb (length f) 9) 0 (leAt 4 f 5)
+
+-- the handle that is looked up
+abbrev pub soughtBy : Call → ℕ
+soughtBy (onFrameHeld f) = handleAt f
+soughtBy (onFrame f) = handleAt f
+soughtBy (flush n) = 0
+soughtBy (disconnectedFrom n) = 0
+soughtBy promote = 0
+soughtBy promoteUnchecked = 0
+
+-- the definition's step, and what stays as it was
+pub record CalledSteps (s : Settings) (call : Call) (c c' : Replica) (row row' : List Handle) (w w' b b' h h' : List ℕ) (a : Answer) : Type 0 where
+  pub is : record { state = standbyOf s c' row' w' b' h'; answer = answerOf b' a } ≡ step (settingsOf s (roomAll row h)) (standbyOf s c row w b h) call
+  pub allowed : allowedAll s row' w' b' h' ≡ true
+  pub leaves : Leaves (s .shape) c (getD row (findOf row (handleOf call)) none .place) call w w' b b' a
+  pub holds : h' ≡ holdsAfter (roomAll row h) (findOf row (handleOf call))
+      (writesBy (settingsOf s (roomAll row h)) (countersOf c) (find (handleOf call) (standbyOf s c row w b h .handles)) call) h
+  pub row-length : length row' ≡ length row
+  pub holds-length : length h' ≡ length h
+
+-- 25 where the rules are broken, and all is as it was; else the step
+pub record Called (s : Settings) (call : Call) (c c' : Replica) (row row' : List Handle) (w w' b b' h h' : List ℕ) (a : Answer) : Type 0 where
+  pub refuses : allowedAll s row w b h ≡ false → (a ≡ isRefused 25) × ((c' ≡ c) × ((row' ≡ row) × ((w' ≡ w) × ((b' ≡ b) × (h' ≡ h)))))
+  pub steps : allowedAll s row w b h ≡ true → CalledSteps s call c c' row row' w w' b b' h h' a
