@@ -58,11 +58,11 @@ foundAt seen h area = foundOf protocolVersion (foundFor seen h) (seen .bound) ar
 -- equal to the definition; a refusal and a Nack leave the store as it was
 pub record BatchIs (s : Settings) (c : Replica) (seen : Seen) (h e n : ℕ) (part : the-frame.Part) (cs : List Change) (apps : List AppRecord) (w w' b b' area area' : List ℕ) (r : Outcome) : Type 0 where
   pub is : record {
-      core = coreAt (countersOf (r .replica)) (s .shape) w' b';
-      action = cond (r .stores) (store (r .slot .handle) (boundOf protocolVersion (r .slot) area')) leave;
-      answer = answerOf b' (r .answer);
-    }
-    ≡ coreBatch (settingsOf s (length area)) (coreAt (countersOf c) (s .shape) w b) (foundAt seen h area) h e n part cs apps
+    core = coreAt (countersOf (r .replica)) (s .shape) w' b';
+    action = cond (r .stores) (store (r .slot .handle) (boundOf protocolVersion (r .slot) area')) leave;
+    answer = answerOf b' (r .answer);
+  }
+      ≡ coreBatch (settingsOf s (length area)) (coreAt (countersOf c) (s .shape) w b) (foundAt seen h area) h e n part cs apps
   pub lands : Lands seen (getD w' 0 0) (length area) r
   pub stays : r .clears ≡ false
   pub stored : r .stores ≡ true → foundFor seen h ≡ true

@@ -2,6 +2,7 @@
 use active::Begun;
 use active::Sending;
 use active::Sent;
+use areas::Made;
 use areas::Shape;
 use areas::Spot;
 use frame::CommitNumber;
@@ -13,6 +14,7 @@ use frame::FrameError;
 use frame::Value;
 use frame::Written;
 use lag::ReplicatedLog;
+use outcome::Answer;
 use place::Flight;
 use stamp::Protocol;
 use store::Summary;
@@ -261,6 +263,20 @@ fn ended(at: usize) -> u64 {
     done(at)
 }
 
+// Makes a store without sessions.
+#[no_mangle]
+pub extern "C" fn wz_make(words: &mut [u64], bytes: &[u8], sessions: u32, c: u32, m: u32) -> u64 {
+    let shape = Shape {
+        places: sessions,
+        bytes: c,
+        messages: m,
+    };
+    match areas::make(shape, words, bytes) {
+        Made::Ready => done(0),
+        Made::Unfit => refusal(25, 0),
+    }
+}
+
 // The session at a place.
 #[no_mangle]
 pub extern "C" fn wz_session(
@@ -420,6 +436,25 @@ pub extern "C" fn wz_queue(queue: &mut [u64], max_lag: u64, last: u64) -> u64 {
     let next = q.log;
     put_queue(queue, next);
     done(q.drained)
+}
+
+// ---- the standby's answers
+
+// An answer's frame; 0 bytes where it has none. The byte area is the store's.
+#[no_mangle]
+pub extern "C" fn wz_answer(a: Answer, bytes: &[u8], out: &mut [u8]) -> u64 {
+    if a.refusal != 0 {
+        return refusal(a.refusal, 0);
+    }
+    if a.kind == 0 {
+        return done(0);
+    }
+    match reply::write(a, bytes, out) {
+        Written::Took(n) => done(n),
+        Written::Unreadable => refusal(8, 0),
+        Written::TooLong => refusal(1, 0),
+        Written::NoRoom => refusal(9, 0),
+    }
 }
 
 // ---- for the bench

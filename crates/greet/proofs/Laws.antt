@@ -91,17 +91,17 @@ module _ (c : Replica) (s : Settings) (seen : Seen) where
         pub lower-told : {r : Outcome} {a : Answer} {i : Incarnation} → e < c .epoch .0 → i .0 ≡ max (s .incarnation .0) 1 → r ≡ leaving c seen a → a ≡ isWelcome (c .epoch) i → Replies c s seen Hello r
         lower-told {i = i} less own e₁ e₂ =
             as-left Hello e₁ e₂ (λ room b ps pending.
-              ap (λ (x : ℕ). record { core = At c ps pending; action = leave; answer = reply (welcome (c .epoch .0) x) }) own
-              ∙ sym (second (settingsOf s room) (At c ps pending) ∙ ap (Lower (settingsOf s room) (At c ps pending)) (lt-ltb e (c .epoch .0) less)))
+            ap (λ (x : ℕ). record { core = At c ps pending; action = leave; answer = reply (welcome (c .epoch .0) x) }) own
+            ∙ sym (second (settingsOf s room) (At c ps pending) ∙ ap (Lower (settingsOf s room) (At c ps pending)) (lt-ltb e (c .epoch .0) less)))
 
         pub taken : {r : Outcome} {a : Answer} {i : Incarnation} {d : Replica} {n : Epoch} → n .0 ≡ e → c .epoch .0 ≤ e → i .0 ≡ max (s .incarnation .0) 1 → d ≡ connectedTo c n → r ≡ clearing d seen a → a ≡ isWelcome n i
             → Replies c s seen Hello r
         taken {i = i} {d = d} {n = n} is high own e₀ e₁ e₂ =
             subst (Replies c s seen Hello) (sym (e₁ ∙ (λ j. clearing (e₀ j) seen (e₂ j))))
             (clears-is c s seen Hello (connectedTo c n) (isWelcome n i) refl (λ room b ps pending.
-              ap (λ (x : ℕ). record { core = At (connectedTo c n) ps []; action = clear; answer = reply (welcome (n .0) x) }) own
-              ∙ ap (λ (x : ℕ). record { core = At (connectedTo c (record { 0 = x })) ps []; action = clear; answer = reply (welcome x (max (s .incarnation .0) 1)) }) is
-              ∙ sym (second (settingsOf s room) (At c ps pending) ∙ ap (Lower (settingsOf s room) (At c ps pending)) (le-ltb e (c .epoch .0) high))))
+            ap (λ (x : ℕ). record { core = At (connectedTo c n) ps []; action = clear; answer = reply (welcome (n .0) x) }) own
+            ∙ ap (λ (x : ℕ). record { core = At (connectedTo c (record { 0 = x })) ps []; action = clear; answer = reply (welcome x (max (s .incarnation .0) 1)) }) is
+            ∙ sym (second (settingsOf s room) (At c ps pending) ∙ ap (Lower (settingsOf s room) (At c ps pending)) (le-ltb e (c .epoch .0) high))))
 
   -- ---- Checked
 
@@ -130,5 +130,5 @@ module _ (c : Replica) (s : Settings) (seen : Seen) where
       pub said : {r : Outcome} {a : Answer} {d : Replica} {n : Epoch} → n .0 ≡ e → i ≡ own → d ≡ checkedTo c n → r ≡ leaving d seen a → a ≡ isAck h (record { 0 = 0 }) → Replies c s seen Checked r
       said {a = a} {d = d} {n = n} at same e₀ e₁ e₂ =
           as-left Checked (e₁ ∙ ap (λ (x : Replica). leaving x seen a) e₀) e₂ (λ room b ps pending.
-            ap (λ (x : ℕ). record { core = At (checkedTo c (record { 0 = x })) ps pending; action = leave; answer = reply (ack h 0) }) at
-            ∙ sym (not-stale room ps pending ∙ ap (Asks (settingsOf s room) (At c ps pending) false) (eq-eqb i own same)))
+          ap (λ (x : ℕ). record { core = At (checkedTo c (record { 0 = x })) ps pending; action = leave; answer = reply (ack h 0) }) at
+          ∙ sym (not-stale room ps pending ∙ ap (Asks (settingsOf s room) (At c ps pending) false) (eq-eqb i own same)))

@@ -88,7 +88,16 @@ fn answer(
             max_lag,
             session,
         } => on_bind::on_bind(
-            words, bytes, frame, c, s, seen, handle, epoch, max_lag, session,
+            words,
+            bytes,
+            frame,
+            c,
+            s,
+            seen,
+            handle,
+            epoch,
+            max_lag,
+            session,
         ),
         _ => {
             let o = reply(frame, c, s, seen, f);

@@ -15,14 +15,14 @@ add-d c = search needs
 
 -- src/lib.rt:26:1
 returns : tie.Need-returns
-returns c = 
+returns c =
     let a = c .before .before .before .args in
     let e : a .c .connections + 1 ≡ min (suc (a .c .connections)) top = omega (arith, c .before .if1 .taken) in
     ap (λ (x : ℕ). record { epoch = a .epoch; connections = x; promoted = a .c .promoted; checked = a .c .checked }) e
 
 -- src/lib.rt:26:1
 returns-2 : tie.Need-returns-2
-returns-2 c = 
+returns-2 c =
     let a = c .before .before .args in
     let e : a .c .connections ≡ min (suc (a .c .connections)) top = omega (arith, c .if1 .left) in
     ap (λ (x : ℕ). record { epoch = a .epoch; connections = x; promoted = a .c .promoted; checked = a .c .checked }) e
