@@ -215,7 +215,7 @@ fn differ(setting: &Setting, calls: &[Call]) -> bool {
     calls.iter().chain([&Call::State]).any(differs)
 }
 
-/// A library without `wz_call`: a sending, a summary, a queue and the sessions of a state, over areas that
+/// A library without the entry points: a sending, a summary, a queue and the sessions of a state, over areas that
 /// the driver fills from the Rust's state.
 #[cfg(all(ours, not(calls)))]
 struct Run {
@@ -303,7 +303,7 @@ pub fn compare(seconds: u64, seed: u64) -> ExitCode {
             ExitCode::SUCCESS
         }
         Ok(()) if cfg!(ours) => {
-            println!("no difference in frames, summaries, sendings and queues: the library has no wz_call");
+            println!("no difference in frames, summaries, sendings and queues: the library has no entry points");
             ExitCode::SUCCESS
         }
         Ok(()) => {

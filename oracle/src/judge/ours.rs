@@ -333,10 +333,10 @@ struct Told {
 }
 
 impl Ours {
-    /// A library without `wz_call` has stores made by the driver alone (`filled`).
+    /// A library without the entry points has stores made by the driver alone (`filled`).
     #[cfg(not(calls))]
     fn call(&mut self, call: u32, _: u64, _: &[u8]) -> Answer {
-        assert_eq!(call, call::MAKE, "the library has no wz_call");
+        assert_eq!(call, call::MAKE, "the library has no entry points");
         self.words.iter_mut().take(2).for_each(|word| *word = 0);
         Ok(Vec::new())
     }
