@@ -21,9 +21,9 @@ pub struct Replica {
 
 impl Replica {
     // The most commits that may be pending.
-    pub const MAX_PENDING: u64 = 64;
+    pub const MAX_PENDING: u64 = areas::MAX_PENDING;
     // The most message bytes that a session sent whole may hold back.
-    pub const MAX_WHOLE: u64 = 4294967296;
+    pub const MAX_WHOLE_SESSION_BYTES: u64 = holding::MAX_WHOLE_SESSION_BYTES;
 }
 
 // What no call changes: the store's shape, this run of the standby (0 is taken as 1), and the accepted lag.
