@@ -2,7 +2,6 @@
 
 use std::hint::black_box;
 use std::process::ExitCode;
-use std::time::Instant;
 
 use turbojet::SessionId;
 use turbojet::store::SessionStorage;
@@ -24,10 +23,30 @@ struct Row {
     rust: f64,
 }
 
+/// A moment, as C has it.
+#[repr(C)]
+#[derive(Default)]
+struct Moment {
+    seconds: i64,
+    nanoseconds: i64,
+}
+
+unsafe extern "C" {
+    fn clock_gettime(clock: i32, moment: *mut Moment) -> i32;
+}
+
+/// The processor's time of this thread: other work on the machine doesn't count, but for what it takes of the caches.
+fn now() -> f64 {
+    const THREAD: i32 = 3;
+    let mut moment = Moment::default();
+    assert_eq!(unsafe { clock_gettime(THREAD, &raw mut moment) }, 0, "Linux has this clock");
+    moment.seconds as f64 * 1e9 + moment.nanoseconds as f64
+}
+
 fn nanoseconds(turns: u64, turn: &mut impl FnMut()) -> f64 {
-    let start = Instant::now();
+    let start = now();
     (0..turns).for_each(|_| turn());
-    start.elapsed().as_nanos() as f64 / turns as f64
+    (now() - start) / turns as f64
 }
 
 /// The sides in turns, each as often.
@@ -173,48 +192,62 @@ fn binding() -> Row {
     timed("Bind with lag 64, messages of 200", 10_000, || by_us(&mut us, &bind), || by_rust(&mut rust, &bind, &mut out))
 }
 
-/// A full session of messages of this length sent whole into a standby; and how many bytes went.
-fn sending(length: usize) -> (Row, usize) {
+/// A full session of messages of this length, sent whole and taken by a standby: both, the sending, the taking; and how
+/// many bytes went.
+fn sending(length: usize) -> ([Row; 3], usize) {
     const MESSAGES: u64 = 65_536;
     let setting = setting(1, 33_554_432, MESSAGES, 0);
     let mut pair = Pair::new(&setting);
     let mut commit = Commit::new(length);
     (1..=MESSAGES).for_each(|number| pair.both(commit.of(0, number)));
-    let Pair { mut us, rust, .. } = pair;
+    let Pair { mut us, rust: mut theirs, .. } = pair;
     let Pair { us: mut our_standby, rust: mut their_standby, mut out } = Pair::new(&setting);
     let [begin, sender, target, _] = key(0).map(|text| String::from_utf8(text).expect("ASCII"));
     let id = SessionId::from_key(begin, sender, target, "").expect("a key");
     let bind = wire::bind(0, 0, 0, &key(0));
-    let mut area = vec![0; 2 << 20];
-    let mut sent = 0;
-    let (mut frame, mut storage) = (Vec::new(), rust);
-    let name = format!("{MESSAGES} messages of {length} sent whole into a standby");
-    let mut row = Row { name, ours: f64::MAX, rust: f64::MAX };
-    for _ in 0..3 {
+    let (mut area, mut frame) = (vec![0; 2 << 20], Vec::new());
+    let row = |what| Row { name: format!("{MESSAGES} messages of {length}{what}"), ours: f64::MAX, rust: f64::MAX };
+    let [mut both, mut sent, mut taken] = ["sent whole into a standby", "the sending alone", "the taking alone"].map(|what| row(format!(": {what}")));
+    let mut bytes = 0;
+    for _ in 0..ROUNDS {
         by_us(&mut our_standby, &bind);
         by_rust(&mut their_standby, &bind, &mut out);
-        let mut by_our_side = || {
-            sent = 0;
-            let mut sending = [0; 4];
-            while let Some(len) = us.next_frame(&mut sending, &mut area) {
-                by_us(&mut our_standby, &area[..len]);
-                sent += len;
-            }
-        };
-        row.ours = row.ours.min(nanoseconds(1, &mut by_our_side));
-        let mut by_theirs = || {
-            let mut log = storage.replica.storage().open(&id).expect("stored");
-            for batch in whole(log.as_mut(), 0, 0, 0) {
+        let (mut sending, mut takes, mut sends) = ([0; 4], 0.0, 0.0);
+        bytes = 0;
+        loop {
+            let mut len = None;
+            sends += nanoseconds(1, &mut || len = us.next_frame(&mut sending, &mut area));
+            let Some(len) = len else { break };
+            takes += nanoseconds(1, &mut || by_us(&mut our_standby, &area[..len]));
+            bytes += len;
+        }
+        least(&mut sent.ours, sends);
+        least(&mut taken.ours, takes);
+        least(&mut both.ours, sends + takes);
+        let (mut batches, mut takes) = (Vec::new(), 0.0);
+        let mut sends = nanoseconds(1, &mut || {
+            let mut log = theirs.replica.storage().open(&id).expect("stored");
+            batches = whole(log.as_mut(), 0, 0, 0);
+        });
+        for batch in batches {
+            let batch = Frame::Batch(batch);
+            sends += nanoseconds(1, &mut || {
                 frame.clear();
-                Frame::Batch(batch).encode(&mut frame);
-                by_rust(&mut their_standby, &frame, &mut out);
-            }
-        };
-        row.rust = row.rust.min(nanoseconds(1, &mut by_theirs));
+                batch.encode(&mut frame);
+            });
+            takes += nanoseconds(1, &mut || by_rust(&mut their_standby, &frame, &mut out));
+        }
+        least(&mut sent.rust, sends);
+        least(&mut taken.rust, takes);
+        least(&mut both.rust, sends + takes);
     }
     assert_eq!(our_standby.state().sessions, their_standby.state().sessions, "both have the session");
-    assert_eq!(us.state().sessions, storage.state().sessions, "both sent the same");
-    (row, sent)
+    assert_eq!(us.state().sessions, theirs.state().sessions, "both sent the same");
+    ([both, sent, taken], bytes)
+}
+
+fn least(least: &mut f64, value: f64) {
+    *least = least.min(value);
 }
 
 /// FNV-1a as standby.rs has it.
@@ -249,6 +282,12 @@ fn print(row: &Row) {
 
 pub fn bench() -> ExitCode {
     println!("| | ours, ns | the Rust, ns | ours / Rust |\n|---|---|---|---|");
+    calls();
+    sendings();
+    ExitCode::SUCCESS
+}
+
+fn calls() {
     print(&decoding());
     print(&encoding());
     for sessions in [1, 50] {
@@ -263,12 +302,14 @@ pub fn bench() -> ExitCode {
         print(&pair.commits(name, 1, 300, messages + 10, 100_000));
     }
     print(&hashing());
+}
+
+pub fn sendings() {
     for length in [300, 512] {
-        let (row, sent) = sending(length);
-        print(&row);
+        let (rows, sent) = sending(length);
+        rows.iter().for_each(print);
         let copy = copying(sent);
-        let (ours, rust) = (row.ours / copy, row.rust / copy);
+        let (ours, rust) = (rows[0].ours / copy, rows[0].rust / copy);
         println!("| one memcpy of its {sent} bytes: ours is {ours:.1} of them, the Rust's {rust:.1} | {copy:.1} | {copy:.1} | |");
     }
-    ExitCode::SUCCESS
 }

@@ -55,6 +55,11 @@ fn main() -> ExitCode {
         ["our-frames"] => print(&frames::read_lines(&input(), |frame| ours::read(frame, &mut Vec::new()))),
         #[cfg(all(calls, not(plain)))]
         ["bench"] => bench::bench(),
+        #[cfg(all(calls, not(plain)))]
+        ["bench", "whole"] => {
+            bench::sendings();
+            ExitCode::SUCCESS
+        }
         ["compare", seconds, ref seed @ ..] => match (seconds.parse(), seed.first().map_or(Ok(1), |seed| seed.parse()))
         {
             (Ok(seconds), Ok(seed)) => compare::compare(seconds, seed),
