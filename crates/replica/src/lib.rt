@@ -35,7 +35,8 @@ fn places_in_use(words: &[u64]) -> usize
 }
 
 // A frame that may be held back: its answer is sent once the pending commits have run.
-pub fn on_frame_held(
+#[no_mangle]
+pub extern "C" fn on_frame_held(
     c: &mut Replica,
     row: &mut [Handle],
     words: &mut [u64],
@@ -58,7 +59,8 @@ pub fn on_frame_held(
 }
 
 // A frame, and then the pending commits.
-pub fn on_frame(
+#[no_mangle]
+pub extern "C" fn on_frame(
     c: &mut Replica,
     row: &mut [Handle],
     words: &mut [u64],
@@ -81,7 +83,8 @@ pub fn on_frame(
 }
 
 // Runs the pending commits of a connection.
-pub fn flush(
+#[no_mangle]
+pub extern "C" fn flush(
     c: &mut Replica,
     row: &mut [Handle],
     words: &mut [u64],
@@ -103,7 +106,8 @@ pub fn flush(
 }
 
 // The connection is gone: with it go the bindings and the pending commits.
-pub fn disconnected_from(
+#[no_mangle]
+pub extern "C" fn disconnected_from(
     c: &mut Replica,
     row: &mut [Handle],
     words: &mut [u64],
@@ -125,7 +129,8 @@ pub fn disconnected_from(
 }
 
 // Promotes a standby that was checked.
-pub fn promote(
+#[no_mangle]
+pub extern "C" fn promote(
     c: &mut Replica,
     row: &mut [Handle],
     words: &mut [u64],
@@ -146,7 +151,8 @@ pub fn promote(
 }
 
 // Promotes a standby, checked or not.
-pub fn promote_unchecked(
+#[no_mangle]
+pub extern "C" fn promote_unchecked(
     c: &mut Replica,
     row: &mut [Handle],
     words: &mut [u64],
@@ -189,7 +195,8 @@ fn made(c: Replica, seen: Seen, words: &mut [u64], bytes: &[u8], s: Settings) ->
 }
 
 // Makes a standby over a store: new counters, no pending commit, every record of the row freed.
-pub fn make(
+#[no_mangle]
+pub extern "C" fn make(
     c: &mut Replica,
     row: &mut [Handle],
     words: &mut [u64],

@@ -3,12 +3,8 @@
 const DIGITS: &[u8; 16] = b"0123456789abcdef";
 
 pub fn write(bytes: &[u8]) -> String {
-    let mut text = String::with_capacity(2 * bytes.len());
-    for byte in bytes {
-        text.push(DIGITS[usize::from(byte >> 4)].into());
-        text.push(DIGITS[usize::from(byte & 15)].into());
-    }
-    text
+    let pair = |byte: &u8| [DIGITS[usize::from(byte >> 4)], DIGITS[usize::from(byte & 15)]];
+    String::from_utf8(bytes.iter().flat_map(pair).collect()).expect("digits are ASCII")
 }
 
 fn value(digit: u8) -> Option<u8> {

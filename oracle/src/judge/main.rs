@@ -1,5 +1,7 @@
 //! The oracle's drivers: see README.md beside the build script.
 
+#[cfg(all(calls, not(plain)))]
+mod bench;
 mod call;
 mod compare;
 mod count;
@@ -51,6 +53,13 @@ fn main() -> ExitCode {
         ["our-calls"] => print(&side::run::<ours::Ours>(&String::from_utf8_lossy(&input()))),
         #[cfg(ours)]
         ["our-frames"] => print(&frames::read_lines(&input(), |frame| ours::read(frame, &mut Vec::new()))),
+        #[cfg(all(calls, not(plain)))]
+        ["bench"] => bench::bench(),
+        #[cfg(all(calls, not(plain)))]
+        ["bench", "whole"] => {
+            bench::sendings();
+            ExitCode::SUCCESS
+        }
         ["compare", seconds, ref seed @ ..] => match (seconds.parse(), seed.first().map_or(Ok(1), |seed| seed.parse()))
         {
             (Ok(seconds), Ok(seed)) => compare::compare(seconds, seed),

@@ -108,7 +108,7 @@ impl Rust {
 
     /// Where a frame would put its changes into a hold area: its handle, the length held before,
     /// and the changes in frame form.
-    #[cfg(ours)]
+    #[cfg(calls)]
     pub fn will_hold(&self, bytes: &[u8]) -> Option<(u32, u64, Vec<u8>)> {
         match Frame::decode(bytes) {
             Ok(Some((Frame::Batch(batch), used))) if used == bytes.len() && !self.replica.promoted() => {

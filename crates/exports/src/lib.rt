@@ -1,0 +1,466 @@
+// The boundary for programs in C or Rust (oracle/README.md has the signatures and what is returned). Nothing is asked of a caller.
+use active::Begun;
+use active::Sending;
+use active::Sent;
+use areas::Made;
+use areas::Shape;
+use areas::Spot;
+use frame::CommitNumber;
+use frame::Decoded;
+use frame::Epoch;
+use frame::Field;
+use frame::Frame;
+use frame::FrameError;
+use frame::Value;
+use frame::Written;
+use lag::ReplicatedLog;
+use outcome::Answer;
+use place::Flight;
+use stamp::Protocol;
+use store::Summary;
+use store::Text;
+
+// ---- what is returned
+
+// Refusal n, with its detail.
+fn refusal(n: u8, detail: u32) -> u64 {
+    (n as u64) * 1_099_511_627_776 + (detail as u64)
+}
+
+// Done, with a count.
+fn done(count: usize) -> u64 {
+    if count < 4_611_686_018_427_387_904 {
+        return 9_223_372_036_854_775_808 + (count as u64);
+    }
+    u64::MAX
+}
+
+// Done, and nothing is left.
+const LAST: u64 = 13_835_058_055_282_163_712;
+
+fn field_number(f: Field) -> u32 {
+    match f {
+        Field::FrameKind => 0,
+        Field::Part => 1,
+        Field::Refusal => 2,
+        Field::Change => 3,
+    }
+}
+
+fn value_number(v: Value) -> u8 {
+    match v {
+        Value::Text => 4,
+        Value::Session => 5,
+        Value::Timestamp => 6,
+        Value::Marks => 7,
+    }
+}
+
+fn unknown(f: u32, v: u8) -> u64 {
+    if f < 4 {
+        return refusal(3, f * 256 + (v as u32));
+    }
+    refusal(3, 0)
+}
+
+fn fault(e: FrameError) -> u64 {
+    match e {
+        FrameError::TooLong(n) => refusal(1, n),
+        FrameError::Truncated => refusal(2, 0),
+        FrameError::Unknown(f, v) => unknown(field_number(f), v),
+        FrameError::Invalid(v) => refusal(value_number(v), 0),
+    }
+}
+
+// ---- frames
+
+// A frame that was read from src, written again; `used` is how many bytes it took.
+fn again(f: Frame, used: usize, src: &[u8], out: &mut [u8]) -> u64 {
+    match f.encode(Protocol { version: 1 }, src, out) {
+        Written::Took(_) => done(used),
+        Written::Unreadable => refusal(8, 0),
+        Written::TooLong => refusal(1, 0),
+        Written::NoRoom => refusal(9, 0),
+    }
+}
+
+// Reads one frame and writes it again.
+#[no_mangle]
+pub extern "C" fn wz_frame(frame: &[u8], out: &mut [u8]) -> u64 {
+    match Frame::decode(Protocol { version: 1 }, frame) {
+        Decoded::More => 0,
+        Decoded::Bad(e) => fault(e),
+        Decoded::Whole(f, used) => again(f, used, frame, out),
+    }
+}
+
+// Reads one frame.
+#[no_mangle]
+pub extern "C" fn wz_read(frame: &[u8]) -> u64 {
+    match Frame::decode(Protocol { version: 1 }, frame) {
+        Decoded::More => 0,
+        Decoded::Bad(e) => fault(e),
+        Decoded::Whole(_, used) => done(used),
+    }
+}
+
+// ---- sessions: writers that give the position past what they wrote; past the area's end there is none, and nothing is written
+
+const NOWHERE: usize = 18_446_744_073_709_551_615;
+
+fn put_u8(out: &mut [u8], at: usize, v: u8) -> usize {
+    if at < out.len() {
+        out[at] = v;
+        return at + 1;
+    }
+    NOWHERE
+}
+
+fn put_u32(out: &mut [u8], at: usize, v: u32) -> usize {
+    if at <= out.len() {
+        if 4 <= out.len() - at {
+            return wire::put_u32(out, at, v);
+        }
+    }
+    NOWHERE
+}
+
+fn put_u64(out: &mut [u8], at: usize, v: u64) -> usize {
+    if at <= out.len() {
+        if 8 <= out.len() - at {
+            return wire::put_u64(out, at, v);
+        }
+    }
+    NOWHERE
+}
+
+fn put_bytes(out: &mut [u8], at: usize, text: &[u8]) -> usize {
+    if at <= out.len() {
+        if text.len() <= out.len() - at {
+            return wire::copy(text, out, at);
+        }
+    }
+    NOWHERE
+}
+
+// A text with its length before it.
+fn put_text(out: &mut [u8], at: usize, text: &[u8]) -> usize {
+    if text.len() < 256 {
+        let next = put_u32(out, at, text.len() as u32);
+        return put_bytes(out, next, text);
+    }
+    NOWHERE
+}
+
+// The text of so many bytes at a place of the byte area.
+fn put_part(out: &mut [u8], at: usize, bytes: &[u8], from: usize, len: usize) -> usize {
+    if from <= bytes.len() {
+        if len <= bytes.len() - from {
+            let end = from + len;
+            return put_text(out, at, &bytes[from..end]);
+        }
+    }
+    NOWHERE
+}
+
+fn put_flag(out: &mut [u8], at: usize, v: bool) -> usize {
+    if v {
+        return put_u8(out, at, 1);
+    }
+    put_u8(out, at, 0)
+}
+
+// A key's text: its length, cut to 32, is a word of the place.
+fn put_key_text(
+    out: &mut [u8],
+    at: usize,
+    words: &[u64],
+    w: usize,
+    bytes: &[u8],
+    b: usize,
+) -> usize {
+    if w < words.len() {
+        if words[w] < 32 {
+            return put_part(out, at, bytes, b, words[w] as usize);
+        }
+        return put_part(out, at, bytes, b, 32);
+    }
+    NOWHERE
+}
+
+// The four texts of the key of a place's own words and bytes.
+fn put_key(out: &mut [u8], at: usize, words: &[u64], bytes: &[u8]) -> usize {
+    let a = put_key_text(out, at, words, 7, bytes, 0);
+    let b = put_key_text(out, a, words, 8, bytes, 32);
+    let c = put_key_text(out, b, words, 9, bytes, 64);
+    put_key_text(out, c, words, 10, bytes, 96)
+}
+
+fn is_flying(f: Flight) -> bool {
+    match f {
+        Flight::Nothing => false,
+        Flight::Number(_) => true,
+    }
+}
+
+fn flight_number(f: Flight) -> u64 {
+    match f {
+        Flight::Nothing => 0,
+        Flight::Number(n) => n,
+    }
+}
+
+// A summary, as in a Bound.
+fn put_summary(out: &mut [u8], at: usize, bytes: &[u8], s: Summary) -> usize {
+    let flight = s.in_flight;
+    let stamp = s.created_at;
+    let marks = s.marks;
+    let a = put_u64(out, at, s.next_outgoing);
+    let b = put_u64(out, a, s.next_incoming);
+    let c = put_u64(out, b, flight_number(flight));
+    let d = put_part(out, c, bytes, stamp.at, stamp.len);
+    let e = put_part(out, d, bytes, marks.at, marks.len);
+    put_u64(out, e, s.last_outgoing)
+}
+
+fn put_place_key(out: &mut [u8], at: usize, words: &[u64], bytes: &[u8], p: Spot) -> usize {
+    let wa = p.wa;
+    let we = p.we;
+    let ba = p.ba;
+    let be = p.be;
+    if wa <= we {
+        if we <= words.len() {
+            if ba <= be {
+                if be <= bytes.len() {
+                    return put_key(out, at, &words[wa..we], &bytes[ba..be]);
+                }
+            }
+        }
+    }
+    NOWHERE
+}
+
+fn put_session(
+    out: &mut [u8],
+    words: &[u64],
+    bytes: &[u8],
+    p: Spot,
+    durable: bool,
+    s: Summary,
+) -> usize {
+    let flight = s.in_flight;
+    let a = put_flag(out, 0, durable);
+    let b = put_flag(out, a, is_flying(flight));
+    let c = put_place_key(out, b, words, bytes, p);
+    put_summary(out, c, bytes, s)
+}
+
+// Done with a length, or 9.
+fn ended(at: usize) -> u64 {
+    if at == NOWHERE {
+        return refusal(9, 0);
+    }
+    done(at)
+}
+
+// Makes a store without sessions.
+#[no_mangle]
+pub extern "C" fn wz_make(words: &mut [u64], bytes: &[u8], sessions: u32, c: u32, m: u32) -> u64 {
+    let shape = Shape {
+        places: sessions,
+        bytes: c,
+        messages: m,
+    };
+    match areas::make(shape, words, bytes) {
+        Made::Ready => done(0),
+        Made::Unfit => refusal(25, 0),
+    }
+}
+
+// The session at a place.
+#[no_mangle]
+pub extern "C" fn wz_session(
+    words: &[u64],
+    bytes: &[u8],
+    out: &mut [u8],
+    sessions: u32,
+    c: u32,
+    m: u32,
+    place: usize,
+    n: u64,
+) -> u64 {
+    let shape = Shape {
+        places: sessions,
+        bytes: c,
+        messages: m,
+    };
+    if !areas::in_use(words, bytes, shape, place) {
+        return refusal(25, 0);
+    }
+    let p = areas::spot_in(words, bytes, shape, place);
+    let durable = store::durable(words, bytes, shape, place);
+    let s = sessions::summary_of(words, bytes, shape, place, n);
+    ended(put_session(out, words, bytes, p, durable, s))
+}
+
+// ---- whole sending: the last commit number, whether it has begun, where it goes on, whether it is done
+
+fn flag(b: bool) -> u64 {
+    if b { 1 } else { 0 }
+}
+
+fn put_word(words: &mut [u64], at: usize, v: u64) {
+    if at < words.len() {
+        words[at] = v;
+    }
+}
+
+// The words of a sending for its next call.
+fn put_sending(sending: &mut [u64], last: CommitNumber, from: u64, done: u64) {
+    put_word(sending, 0, last.0);
+    put_word(sending, 1, 1);
+    put_word(sending, 2, from);
+    put_word(sending, 3, done);
+}
+
+// What a call of a sending gave, and the sending's words after it.
+fn sent(
+    s: Sending,
+    shape: Shape,
+    words: &[u64],
+    bytes: &[u8],
+    sending: &mut [u64],
+    out: &mut [u8],
+) -> u64 {
+    match s.send_whole(shape, words, bytes, out) {
+        Sent::Frame(len, next) => {
+            let last = next.last;
+            put_sending(sending, last, next.from, flag(next.done));
+            done(len)
+        }
+        Sent::Done => LAST,
+        Sent::TooShort => refusal(9, 0),
+        Sent::Unfit => refusal(25, 0),
+    }
+}
+
+// The next frame of a whole sending.
+#[no_mangle]
+pub extern "C" fn wz_send(
+    words: &[u64],
+    bytes: &[u8],
+    sending: &mut [u64],
+    out: &mut [u8],
+    sessions: u32,
+    c: u32,
+    m: u32,
+    place: usize,
+    handle: u32,
+    epoch: u64,
+) -> u64 {
+    let shape = Shape {
+        places: sessions,
+        bytes: c,
+        messages: m,
+    };
+    if sending.len() < 4 {
+        return refusal(25, 0);
+    }
+    let last = CommitNumber(sending[0]);
+    if sending[1] != 0 {
+        let s = Sending {
+            place,
+            handle,
+            epoch: Epoch(epoch),
+            last,
+            from: sending[2],
+            done: sending[3] != 0,
+        };
+        return sent(s, shape, words, bytes, sending, out);
+    }
+    match Sending::begin(shape, words, bytes, place, handle, Epoch(epoch), last) {
+        Begun::Ready(s) => sent(s, shape, words, bytes, sending, out),
+        Begun::NumbersPast => refusal(24, 0),
+        Begun::Unfit => refusal(25, 0),
+    }
+}
+
+// ---- the lag queue: drained, how many wait, 64 numbers
+
+// The 64 numbers from the third on, and one more.
+fn numbers(queue: &[u64]) -> [u64; 65] {
+    let mut out = [0; 65];
+    if 66 <= queue.len() {
+        let mut i: usize = 0;
+        while i < 64 {
+            out[i] = queue[i + 2];
+            i += 1;
+        }
+    }
+    out
+}
+
+fn put_numbers(queue: &mut [u64], from: [u64; 65]) {
+    if 66 <= queue.len() {
+        let mut i: usize = 0;
+        while i < 64 {
+            queue[i + 2] = from[i];
+            i += 1;
+        }
+    }
+}
+
+fn put_queue(queue: &mut [u64], log: ReplicatedLog) {
+    let from = log.queued;
+    put_word(queue, 0, log.drained_through);
+    put_word(queue, 1, log.count as u64);
+    put_numbers(queue, from);
+}
+
+// One push.
+#[no_mangle]
+pub extern "C" fn wz_queue(queue: &mut [u64], max_lag: u64, last: u64) -> u64 {
+    if queue.len() < 66 {
+        return refusal(25, 0);
+    }
+    let queued = numbers(queue);
+    let log = ReplicatedLog {
+        drained_through: queue[0],
+        count: queue[1] as usize,
+        queued,
+    };
+    let q = log.queue(last, max_lag);
+    if q.refusal != 0 {
+        return refusal(q.refusal, 0);
+    }
+    let next = q.log;
+    put_queue(queue, next);
+    done(q.drained)
+}
+
+// ---- the standby's answers
+
+// An answer's frame; 0 bytes where it has none. The byte area is the store's.
+#[no_mangle]
+pub extern "C" fn wz_answer(a: Answer, bytes: &[u8], out: &mut [u8]) -> u64 {
+    if a.refusal != 0 {
+        return refusal(a.refusal, 0);
+    }
+    if a.kind == 0 {
+        return done(0);
+    }
+    match reply::write(a, bytes, out) {
+        Written::Took(n) => done(n),
+        Written::Unreadable => refusal(8, 0),
+        Written::TooLong => refusal(1, 0),
+        Written::NoRoom => refusal(9, 0),
+    }
+}
+
+// ---- for the bench
+
+// FNV-1a over bytes, on from h.
+#[no_mangle]
+pub extern "C" fn wz_fnv(h: u64, bytes: &[u8]) -> u64 {
+    log::fnv::bytes(h, bytes)
+}
