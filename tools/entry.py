@@ -490,6 +490,7 @@ SAYS = sys.argv[4] if len(sys.argv) > 4 else '(p .1)' if clents else f'(x .0, (p
 
 # ---- the whole file
 me = dash(fn)
+mine_ = 'this'                                       # the function's own modules: its core may have its name
 Y = f'(({nest([p.k for p in refs])}, {nest([p.q for p in refs])}, tt, x-all, at-all), tt)'
 own_structs = [s for s in structs if not s.startswith('row::') or crate == 'row']
 facade = lambda c, kind: f'Rattle.{c}.{kind}' if c == crate else f'Rattle.{c}.{kind}'
@@ -527,7 +528,7 @@ for name in known:
         uses.append(f'use {pre}.{n} as {dash(n)}')
     uses += [f'use {pre}.{n}.Symbol as {dash(n)}-def', f'use {pre}.{n}.Symbol.{{name as #{c}·{dash(n)}}}', f'use {pre}.{n}.Met as {dash(n)}-thm']
 mine = facade(crate, 'proofs')
-uses += [f'use {mine}.{fn}.Key.{{name as #{crate}·{me}}}', f'use {mine}.{fn} as {me}', f'use {mine}.{fn}.Statement as stated', f'use {mine}.{fn}.Code as code', f'use {mine}.{fn}.Code.Mir as text']
+uses += [f'use {mine}.{fn}.Key.{{name as #{crate}·{me}}}', f'use {mine}.{fn} as {mine_}', f'use {mine}.{fn}.Statement as stated', f'use {mine}.{fn}.Code as code', f'use {mine}.{fn}.Code.Mir as text']
 symbol = lambda f: f'#{f.split("::")[0]}·{dash(f)}'
 knowns = lambda C: ' '.join(f'(known-{dash(f)} : Triple 𝓤 ({C} {symbol(f)}) ({camel(f)} 𝓤 H A memory run))' for f in known)
 cited = '\n'.join(f'    (cited 𝓤 H ({camel(f)} 𝓤 H (𝓖 .A) (𝓜 .mem) (𝓡 .run)) 𝓜 𝓡 code.env {symbol(f)} {dash(f)}-def.routine code.calls-{f.split("::")[0].replace("_", "-")}·{dash(f)} ({dash(f)}-thm.met 𝓤 H 𝓜 𝓖 𝓡))' for f in known)
@@ -610,7 +611,7 @@ use denote.Exit.{{yes}}
 {nl.join(ghosts)}
 {nl.join(uses)}
 
-abbrev stayed : Stays ({me}.ended .signature .params) ({me}.ended .kept)
+abbrev stayed : Stays ({mine_}.ended .signature .params) ({mine_}.ended .kept)
 stayed = {stay}
 
 abbrev word : Ty
@@ -633,7 +634,7 @@ module _ {{M : Type 1}} (𝓤 : URA M) (H : Heap 𝓤) (A : Atoms 𝓤) (W : Giv
   at-all = {nest([f'{p.s_} ∷ []' if p.ref else Value(p.t, p.val, '').vals for p in params])}
 
   abbrev Post : Val → SProp 𝓤
-  Post = walkOf 𝓤 H A {me}.ended stayed ({me}.clauses 𝓤 H A memory run) .post {Y}
+  Post = walkOf 𝓤 H A {mine_}.ended stayed ({mine_}.clauses 𝓤 H A memory run) .post {Y}
 
   -- what is found
   {(nl + nl + '  ').join(before)}
@@ -683,7 +684,7 @@ module _ {{M : Type 1}} (𝓤 : URA M) (H : Heap 𝓤) (A : Atoms 𝓤) (W : Giv
   exits : (x : CoreGives) → CoreTold x{exit_facts} → ent 𝓤 (⋆ 𝓤 H A ({final_items})) (Post ({result.machine}))
   exits x p{exit_names} =
       qed W ({final_items}) ∵
-      suffices ! _ (ends-at 𝓤 H A {me}.ended stayed ({me}.clauses 𝓤 H A memory run) W {Y} ({result.machine}) {result.x} {lasts_entry} {fit_entry}) $ says ! {SAYS} $
+      suffices ! _ (ends-at 𝓤 H A {mine_}.ended stayed ({mine_}.clauses 𝓤 H A memory run) W {Y} ({result.machine}) {result.x} {lasts_entry} {fit_entry}) $ says ! {SAYS} $
       {' '.join(c5.out)}
 
   module _ (Ct : Calls 𝓤 H) (Λ : Loops 𝓤 H) (fm : FmC 𝓤 H (W .laws) Ct) {knowns('Ct')} ({' '.join(lname(j) for j in range(N))} : ℕ) where
@@ -693,25 +694,25 @@ module _ {{M : Type 1}} (𝓤 : URA M) (H : Heap 𝓤) (A : Atoms 𝓤) (W : Giv
     -- the walk's parts, the last first
 {''.join(lemma(*x) for x in reversed(parts[1:]))}
   module _ (Ct : Calls 𝓤 H) (Λ : Loops 𝓤 H) (fm : FmC 𝓤 H (W .laws) Ct) {knowns('Ct')} where
-    walk : ent 𝓤 (onEntry 𝓤 H A {me}.signature {nest([p.k for p in refs])} {nest([p.q for p in refs])} x-all at-all) (WpFn 𝓤 H Ct Λ code.function ({values_}) Post)
+    walk : ent 𝓤 (onEntry 𝓤 H A {mine_}.signature {nest([p.k for p in refs])} {nest([p.q for p in refs])} x-all at-all) (WpFn 𝓤 H Ct Λ code.function ({values_}) Post)
     walk =
         qed W (({tokens}) ∷ ‵ (owns ({rows}) x-all at-all) ∷ []) ∵ enter ! Ct Λ code.function ({values_}) _ $
         {' '.join(f'alloc1 ! (λ {lname(j)}.' for j in range(N))} alloc0 ! $ params1 ! $
         {first.replace(nl, nl + '        ')}
 
 module _ {{M : Type 1}} (𝓤 : URA M) (H : Heap 𝓤) (A : Atoms 𝓤) (W : Given 𝓤 H A) (memory : Memory → SProp 𝓤) (run : Routine → Fun 𝓤) (𝓣 : Tables 𝓤 H) {knowns('𝓣 .C')} where
-  {me}-walks : Walks 𝓤 H A {me}.ended stayed (WpFn 𝓤 H (𝓣 .C) (𝓣 .Λ) code.function) ({me}.clauses 𝓤 H A memory run)
-  {me}-walks = walked 𝓤 H A {me}.ended stayed ({me}.clauses 𝓤 H A memory run) (WpFn 𝓤 H (𝓣 .C) (𝓣 .Λ) code.function) (λ κs. {spell})
+  {me}-walks : Walks 𝓤 H A {mine_}.ended stayed (WpFn 𝓤 H (𝓣 .C) (𝓣 .Λ) code.function) ({mine_}.clauses 𝓤 H A memory run)
+  {me}-walks = walked 𝓤 H A {mine_}.ended stayed ({mine_}.clauses 𝓤 H A memory run) (WpFn 𝓤 H (𝓣 .C) (𝓣 .Λ) code.function) (λ κs. {spell})
       (λ κs. {tell})
       (λ κs qs bounds a g are. via 𝓤 _ (fst∗ 𝓤 _ (emp 𝓤)) (walk 𝓤 H A W memory run {call} (𝓣 .C) (𝓣 .Λ) (fmOf 𝓤 H (W .laws) 𝓣) {' '.join(f'known-{dash(f)}' for f in known)}))
 
-  {me}-meets : Meets 𝓤 H A {me}.signature (WpFn 𝓤 H (𝓣 .C) (𝓣 .Λ) code.function) ({me}.spec 𝓤 H A memory run)
-  {me}-meets = walk-meets 𝓤 H A {me}.ended stayed W {goes} ({me}.clauses 𝓤 H A memory run) (WpFn 𝓤 H (𝓣 .C) (𝓣 .Λ) code.function) (WpFn-mono 𝓤 H (W .laws) 𝓣 code.function) {me}-walks
+  {me}-meets : Meets 𝓤 H A {mine_}.signature (WpFn 𝓤 H (𝓣 .C) (𝓣 .Λ) code.function) ({mine_}.spec 𝓤 H A memory run)
+  {me}-meets = walk-meets 𝓤 H A {mine_}.ended stayed W {goes} ({mine_}.clauses 𝓤 H A memory run) (WpFn 𝓤 H (𝓣 .C) (𝓣 .Λ) code.function) (WpFn-mono 𝓤 H (W .laws) 𝓣 code.function) {me}-walks
 
 pub {me}-spec : {{M : Type 1}} → stated.statement M
 unfolding code.routine tablesOf
 {me}-spec 𝓤 H 𝓜 𝓖 𝓡 =
-    entered 𝓤 H (tripleOf 𝓤 H (𝓖 .A) {me}.signature ({me}.spec 𝓤 H (𝓖 .A) (𝓜 .mem) (𝓡 .run)))
+    entered 𝓤 H (tripleOf 𝓤 H (𝓖 .A) {mine_}.signature ({mine_}.spec 𝓤 H (𝓖 .A) (𝓜 .mem) (𝓡 .run)))
     (tables 𝓤 H 𝓜 𝓡 code.env .C) (tables 𝓤 H 𝓜 𝓡 code.env .Λ) #{crate}·{me} code.function (code.unfolded 𝓤 H 𝓜 𝓡)
     ({me}-meets 𝓤 H (𝓖 .A) (givenOf 𝓤 H 𝓜 𝓖) (𝓜 .mem) (𝓡 .run) (tablesOf 𝓤 H 𝓜 (tables 𝓤 H 𝓜 𝓡 code.env))
 {cited})

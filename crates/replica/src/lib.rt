@@ -1,9 +1,8 @@
 // The standby's calls over the lent counters, the lent row of handles, the store's two areas and the hold areas (standby.rs, `Replica`).
 ghost use mathlib.Core.Path.{_≡_};
 ghost use Prim.Native.Nat.{max};
-ghost use lib.ListN.{length, getD};
+ghost use lib.ListN.{getD};
 ghost use Rattle.model.specs.State.{onFrameHeld, onFrame, flush, disconnectedFrom, promote, promoteUnchecked};
-ghost use Rattle.steps.specs.Steps.{roomOf, StepIs};
 ghost use Rattle.steps.specs.Calls.{handleAt, Called};
 ghost use Rattle.replica.specs.Making.{newReplica, MakeIs, MadeOver};
 use frame::Epoch;
@@ -35,98 +34,6 @@ fn places_in_use(words: &[u64]) -> usize
     words[0] as usize
 }
 
-// The length of each hold area: the bytes are divided evenly among the row's records.
-fn room_of(holds: &[u8], len: usize) -> usize
-    ensures { λ r. ⌜ r ≡ roomOf (length (now (holds .entry))) len ⌝ }
-{
-    if len == 0 {
-        return 0;
-    }
-    holds.len() / len
-}
-
-fn frame_held(
-    c: Replica,
-    seen: Seen,
-    words: &mut [u64],
-    bytes: &mut [u8],
-    holds: &mut [u8],
-    frame: &[u8],
-    s: Settings,
-) -> Outcome
-    ensures { λ r. ⌜ StepIs s c seen (onFrameHeld (now (frame .entry))) (now (words .entry)) (now (words .exit)) (now (bytes .entry)) (now (bytes .exit)) (now (holds .entry)) (now (holds .exit)) r ⌝ }
-{
-    outcome::leaves(c, seen, outcome::refused(25))
-}
-
-fn frame_now(
-    c: Replica,
-    seen: Seen,
-    words: &mut [u64],
-    bytes: &mut [u8],
-    holds: &mut [u8],
-    frame: &[u8],
-    s: Settings,
-) -> Outcome
-    ensures { λ r. ⌜ StepIs s c seen (onFrame (now (frame .entry))) (now (words .entry)) (now (words .exit)) (now (bytes .entry)) (now (bytes .exit)) (now (holds .entry)) (now (holds .exit)) r ⌝ }
-{
-    outcome::leaves(c, seen, outcome::refused(25))
-}
-
-fn flushes(
-    c: Replica,
-    seen: Seen,
-    words: &mut [u64],
-    bytes: &mut [u8],
-    holds: &mut [u8],
-    connection: u64,
-    s: Settings,
-) -> Outcome
-    ensures { λ r. ⌜ StepIs s c seen (flush connection) (now (words .entry)) (now (words .exit)) (now (bytes .entry)) (now (bytes .exit)) (now (holds .entry)) (now (holds .exit)) r ⌝ }
-{
-    outcome::leaves(c, seen, outcome::refused(25))
-}
-
-fn drops(
-    c: Replica,
-    seen: Seen,
-    words: &mut [u64],
-    bytes: &mut [u8],
-    holds: &mut [u8],
-    connection: u64,
-    s: Settings,
-) -> Outcome
-    ensures { λ r. ⌜ StepIs s c seen (disconnectedFrom connection) (now (words .entry)) (now (words .exit)) (now (bytes .entry)) (now (bytes .exit)) (now (holds .entry)) (now (holds .exit)) r ⌝ }
-{
-    outcome::leaves(c, seen, outcome::refused(25))
-}
-
-fn promotes(
-    c: Replica,
-    seen: Seen,
-    words: &mut [u64],
-    bytes: &mut [u8],
-    holds: &mut [u8],
-    s: Settings,
-) -> Outcome
-    ensures { λ r. ⌜ StepIs s c seen promote (now (words .entry)) (now (words .exit)) (now (bytes .entry)) (now (bytes .exit)) (now (holds .entry)) (now (holds .exit)) r ⌝ }
-{
-    outcome::leaves(c, seen, outcome::refused(25))
-}
-
-fn promotes_unchecked(
-    c: Replica,
-    seen: Seen,
-    words: &mut [u64],
-    bytes: &mut [u8],
-    holds: &mut [u8],
-    s: Settings,
-) -> Outcome
-    ensures { λ r. ⌜ StepIs s c seen promoteUnchecked (now (words .entry)) (now (words .exit)) (now (bytes .entry)) (now (bytes .exit)) (now (holds .entry)) (now (holds .exit)) r ⌝ }
-{
-    outcome::leaves(c, seen, outcome::refused(25))
-}
-
 // A frame that may be held back: its answer is sent once the pending commits have run.
 pub fn on_frame_held(
     c: &mut Replica,
@@ -142,9 +49,9 @@ pub fn on_frame_held(
     let handle = handle_at(frame);
     let used = places_in_use(words);
     let len = row.len();
-    let room = room_of(holds, len);
+    let room = due_batch::room_of(holds, len);
     let seen = row::look(row, handle, used, room);
-    let o = frame_held(*c, seen, words, bytes, holds, frame, s);
+    let o = standby::frame_held(*c, seen, words, bytes, holds, frame, s);
     row::act(row, o.at, o.from, o.slot);
     *c = o.replica;
     o.answer
@@ -165,9 +72,9 @@ pub fn on_frame(
     let handle = handle_at(frame);
     let used = places_in_use(words);
     let len = row.len();
-    let room = room_of(holds, len);
+    let room = due_batch::room_of(holds, len);
     let seen = row::look(row, handle, used, room);
-    let o = frame_now(*c, seen, words, bytes, holds, frame, s);
+    let o = standby::frame_now(*c, seen, words, bytes, holds, frame, s);
     row::act(row, o.at, o.from, o.slot);
     *c = o.replica;
     o.answer
@@ -187,9 +94,9 @@ pub fn flush(
 {
     let used = places_in_use(words);
     let len = row.len();
-    let room = room_of(holds, len);
+    let room = due_batch::room_of(holds, len);
     let seen = row::look(row, 0, used, room);
-    let o = flushes(*c, seen, words, bytes, holds, connection, s);
+    let o = calls::flush(*c, seen, words, bytes, holds, connection, s);
     row::act(row, o.at, o.from, o.slot);
     *c = o.replica;
     o.answer
@@ -209,9 +116,9 @@ pub fn disconnected_from(
 {
     let used = places_in_use(words);
     let len = row.len();
-    let room = room_of(holds, len);
+    let room = due_batch::room_of(holds, len);
     let seen = row::look(row, 0, used, room);
-    let o = drops(*c, seen, words, bytes, holds, connection, s);
+    let o = calls::disconnected_from(*c, seen, words, bytes, holds, connection, s);
     row::act(row, o.at, o.from, o.slot);
     *c = o.replica;
     o.answer
@@ -230,9 +137,9 @@ pub fn promote(
 {
     let used = places_in_use(words);
     let len = row.len();
-    let room = room_of(holds, len);
+    let room = due_batch::room_of(holds, len);
     let seen = row::look(row, 0, used, room);
-    let o = promotes(*c, seen, words, bytes, holds, s);
+    let o = calls::promote(*c, seen, words, bytes, holds, s);
     row::act(row, o.at, o.from, o.slot);
     *c = o.replica;
     o.answer
@@ -251,9 +158,9 @@ pub fn promote_unchecked(
 {
     let used = places_in_use(words);
     let len = row.len();
-    let room = room_of(holds, len);
+    let room = due_batch::room_of(holds, len);
     let seen = row::look(row, 0, used, room);
-    let o = promotes_unchecked(*c, seen, words, bytes, holds, s);
+    let o = calls::promote_unchecked(*c, seen, words, bytes, holds, s);
     row::act(row, o.at, o.from, o.slot);
     *c = o.replica;
     o.answer

@@ -88,12 +88,12 @@ use Rattle.row.proofs.act.Symbol as act-def
 use Rattle.row.proofs.act.Symbol.{name as #row·act}
 use Rattle.row.proofs.act.Met as act-thm
 use Rattle.replica.proofs.make.Key.{name as #replica·make}
-use Rattle.replica.proofs.make as make
+use Rattle.replica.proofs.make as this
 use Rattle.replica.proofs.make.Statement as stated
 use Rattle.replica.proofs.make.Code as code
 use Rattle.replica.proofs.make.Code.Mir as text
 
-abbrev stayed : Stays (make.ended .signature .params) (make.ended .kept)
+abbrev stayed : Stays (this.ended .signature .params) (this.ended .kept)
 stayed = (stay-ref (0 ∷ []) tt (plain (λ _. R-Replica)), (stay-slice (1 ∷ []) tt (plain (λ _. R-Handle)), (gave-slice (2 ∷ []) tt (plain (λ _. u64)), (stay-dropped (shrSliceOf (3 ∷ []) tt (plain (λ _. u8))) yes, (stay-dropped (plain (λ _. R-Settings)) yes, tt)))))
 
 abbrev word : Ty
@@ -139,7 +139,7 @@ module _ {M : Type 1} (𝓤 : URA M) (H : Heap 𝓤) (A : Atoms 𝓤) (W : Given
   at-all = (s-c ∷ [], (s-row ∷ [], (s-words ∷ [], (s-bytes ∷ [], (vals-Settings the-s, tt)))))
 
   abbrev Post : Val → SProp 𝓤
-  Post = walkOf 𝓤 H A make.ended stayed (make.clauses 𝓤 H A memory run) .post (((κ₀, (κ₁, (κ₂, (κ₃, tt)))), (q₀, (q₁, (q₂, (q₃, tt)))), tt, x-all, at-all), tt)
+  Post = walkOf 𝓤 H A this.ended stayed (this.clauses 𝓤 H A memory run) .post (((κ₀, (κ₁, (κ₂, (κ₃, tt)))), (q₀, (q₁, (q₂, (q₃, tt)))), tt, x-all, at-all), tt)
 
   -- what is found
   abbrev x₆ : Seen
@@ -196,7 +196,7 @@ module _ {M : Type 1} (𝓤 : URA M) (H : Heap 𝓤) (A : Atoms 𝓤) (W : Given
   exits : (x : CoreGives) → CoreTold x → ent 𝓤 (⋆ 𝓤 H A (‵ (fobs (row-at .name) (codedHoleys R-Handle .code (heres R-Handle (row₁ x)))) ∷ ‵ (fbor κ₁ (Held R-Handle (length (row₁ x)) (row-at .ptr .0) (row-at .ptr .1) (row-at .name))) ∷ ‵ (flft κ₁ q₁) ∷ ‵ (fobs (c-at .name) (R-Replica .coded .code ((x .0) .replica))) ∷ ‵ (fbor κ₀ (Inside (mem R-Replica) (c-at .ptr .0) (c-at .ptr .1) (c-at .name))) ∷ ‵ (flft κ₀ q₀) ∷ After x ∷ [])) (Post (val-Answer ((x .0) .answer)))
   exits x p =
       qed W (‵ (fobs (row-at .name) (codedHoleys R-Handle .code (heres R-Handle (row₁ x)))) ∷ ‵ (fbor κ₁ (Held R-Handle (length (row₁ x)) (row-at .ptr .0) (row-at .ptr .1) (row-at .name))) ∷ ‵ (flft κ₁ q₁) ∷ ‵ (fobs (c-at .name) (R-Replica .coded .code ((x .0) .replica))) ∷ ‵ (fbor κ₀ (Inside (mem R-Replica) (c-at .ptr .0) (c-at .ptr .1) (c-at .name))) ∷ ‵ (flft κ₀ q₀) ∷ After x ∷ []) ∵
-      suffices ! _ (ends-at 𝓤 H A make.ended stayed (make.clauses 𝓤 H A memory run) W (((κ₀, (κ₁, (κ₂, (κ₃, tt)))), (q₀, (q₁, (q₂, (q₃, tt)))), tt, x-all, at-all), tt) (val-Answer ((x .0) .answer)) ((x .0) .answer) (((x .0) .replica), ((row₁ x), (x .1 .1 .1 .0, (tt, (tt, tt))))) (tt, (same₁ x, (p .2, (tt, (tt, tt)))))) $ says ! (made-over the-s the-c the-row the-words (x .1 .1 .1 .0) the-bytes (x .0) (p .1)) $
+      suffices ! _ (ends-at 𝓤 H A this.ended stayed (this.clauses 𝓤 H A memory run) W (((κ₀, (κ₁, (κ₂, (κ₃, tt)))), (q₀, (q₁, (q₂, (q₃, tt)))), tt, x-all, at-all), tt) (val-Answer ((x .0) .answer)) ((x .0) .answer) (((x .0) .replica), ((row₁ x), (x .1 .1 .1 .0, (tt, (tt, tt))))) (tt, (same₁ x, (p .2, (tt, (tt, tt)))))) $ says ! (made-over the-s the-c the-row the-words (x .1 .1 .1 .0) the-bytes (x .0) (p .1)) $
       move ! (6 ∷ []) $ split ! $ move ! (4 ∷ 0 ∷ []) $ join ! $ move ! (6 ∷ 0 ∷ []) $ join ! $ frame ! $ nothing ! $ nothing ! $ fjoin ! $ nothing ! $ fjoin ! $ move ! (1 ∷ 0 ∷ []) $ fjoin ! $ move ! (1 ∷ 2 ∷ []) $ fjoin ! $ pureI ! (at-slice R-Handle (record { ptr = row-at .ptr; name = row-at .name; now = (row₁ x) }) (s-row ∷ [])) (tt, (tt, tt)) (ap (λ (m : ℕ). sliceVal (row-at .ptr) m ∷ []) (sym (same₁ x)), (subst (Room R-Handle) (sym (same₁ x)) room-row)) $ fjoin ! $ fjoin ! $ move ! (1 ∷ 2 ∷ []) $ feqI ! (List Val) (s-c ∷ []) (s-c ∷ []) refl $ fjoin3 ! $ fjoin ! $ frame ! $ owned ! R-Answer (Is R-Answer) (makes-Answer 𝓤 H A W) ((x .0) .answer) (vals-Answer ((x .0) .answer)) (LL.owed Outcome-type.the-type Outcome-laws.the-laws (x .0) _ (p .0) .1 .0) $ done !
 
   module _ (Ct : Calls 𝓤 H) (Λ : Loops 𝓤 H) (fm : FmC 𝓤 H (W .laws) Ct) (known-look : Triple 𝓤 (Ct #row·look) (Look 𝓤 H A memory run)) (known-made : Triple 𝓤 (Ct #replica·made) (Made 𝓤 H A memory run)) (known-act : Triple 𝓤 (Ct #row·act) (Act 𝓤 H A memory run)) (l₀ l₁ l₂ l₃ l₄ l₅ l₆ l₇ l₈ l₉ l₁₀ l₁₁ l₁₂ l₁₃ l₁₄ l₁₅ : ℕ) where
@@ -227,7 +227,7 @@ module _ {M : Type 1} (𝓤 : URA M) (H : Heap 𝓤) (A : Atoms 𝓤) (W : Given
         part₈ is-c f₆ x p))
 
   module _ (Ct : Calls 𝓤 H) (Λ : Loops 𝓤 H) (fm : FmC 𝓤 H (W .laws) Ct) (known-look : Triple 𝓤 (Ct #row·look) (Look 𝓤 H A memory run)) (known-made : Triple 𝓤 (Ct #replica·made) (Made 𝓤 H A memory run)) (known-act : Triple 𝓤 (Ct #row·act) (Act 𝓤 H A memory run)) where
-    walk : ent 𝓤 (onEntry 𝓤 H A make.signature (κ₀, (κ₁, (κ₂, (κ₃, tt)))) (q₀, (q₁, (q₂, (q₃, tt)))) x-all at-all) (WpFn 𝓤 H Ct Λ code.function (s-c ∷ s-row ∷ s-words ∷ s-bytes ∷ val-Settings the-s ∷ []) Post)
+    walk : ent 𝓤 (onEntry 𝓤 H A this.signature (κ₀, (κ₁, (κ₂, (κ₃, tt)))) (q₀, (q₁, (q₂, (q₃, tt)))) x-all at-all) (WpFn 𝓤 H Ct Λ code.function (s-c ∷ s-row ∷ s-words ∷ s-bytes ∷ val-Settings the-s ∷ []) Post)
     walk =
         qed W ((‵ (flft κ₀ q₀) ⊛ (‵ (flft κ₁ q₁) ⊛ (‵ (flft κ₂ q₂) ⊛ (‵ (flft κ₃ q₃) ⊛ (‵ ftrue))))) ∷ ‵ (owns (MutRef (named 0) κ₀ R-Replica ∷ MutSlice (named 1) κ₁ R-Handle ∷ MutSlice (named 2) κ₂ u64 ∷ ShrSlice (named 3) κ₃ u8 ∷ R-Settings ∷ []) x-all at-all) ∷ []) ∵ enter ! Ct Λ code.function (s-c ∷ s-row ∷ s-words ∷ s-bytes ∷ val-Settings the-s ∷ []) _ $
         alloc1 ! (λ l₀. alloc1 ! (λ l₁. alloc1 ! (λ l₂. alloc1 ! (λ l₃. alloc1 ! (λ l₄. alloc1 ! (λ l₅. alloc1 ! (λ l₆. alloc1 ! (λ l₇. alloc1 ! (λ l₈. alloc1 ! (λ l₉. alloc1 ! (λ l₁₀. alloc1 ! (λ l₁₁. alloc1 ! (λ l₁₂. alloc1 ! (λ l₁₃. alloc1 ! (λ l₁₄. alloc1 ! (λ l₁₅. alloc0 ! $ params1 ! $
@@ -237,18 +237,18 @@ module _ {M : Type 1} (𝓤 : URA M) (H : Heap 𝓤) (A : Atoms 𝓤) (W : Given
         part₁ Ct Λ fm known-look known-made known-act l₀ l₁ l₂ l₃ l₄ l₅ l₆ l₇ l₈ l₉ l₁₀ l₁₁ l₁₂ l₁₃ l₁₄ l₁₅ is-c))))))))))))))))))
 
 module _ {M : Type 1} (𝓤 : URA M) (H : Heap 𝓤) (A : Atoms 𝓤) (W : Given 𝓤 H A) (memory : Memory → SProp 𝓤) (run : Routine → Fun 𝓤) (𝓣 : Tables 𝓤 H) (known-look : Triple 𝓤 (𝓣 .C #row·look) (Look 𝓤 H A memory run)) (known-made : Triple 𝓤 (𝓣 .C #replica·made) (Made 𝓤 H A memory run)) (known-act : Triple 𝓤 (𝓣 .C #row·act) (Act 𝓤 H A memory run)) where
-  make-walks : Walks 𝓤 H A make.ended stayed (WpFn 𝓤 H (𝓣 .C) (𝓣 .Λ) code.function) (make.clauses 𝓤 H A memory run)
-  make-walks = walked 𝓤 H A make.ended stayed (make.clauses 𝓤 H A memory run) (WpFn 𝓤 H (𝓣 .C) (𝓣 .Λ) code.function) (λ κs. (ptr-vals, (slice-vals, (slice-vals, (slice-vals, (vals-Settings, tt))))))
+  make-walks : Walks 𝓤 H A this.ended stayed (WpFn 𝓤 H (𝓣 .C) (𝓣 .Λ) code.function) (this.clauses 𝓤 H A memory run)
+  make-walks = walked 𝓤 H A this.ended stayed (this.clauses 𝓤 H A memory run) (WpFn 𝓤 H (𝓣 .C) (𝓣 .Λ) code.function) (λ κs. (ptr-vals, (slice-vals, (slice-vals, (slice-vals, (vals-Settings, tt))))))
       (λ κs. (mut-tells (named 0) (κs .0) R-Replica, (mut-slice-tells (named 1) (κs .1 .0) R-Handle, (mut-slice-tells (named 2) (κs .1 .1 .0) u64, (shr-slice-tells (named 3) (κs .1 .1 .1 .0) u8, (tells-Settings, tt))))))
       (λ κs qs bounds a g are. via 𝓤 _ (fst∗ 𝓤 _ (emp 𝓤)) (walk 𝓤 H A W memory run (κs .0) (κs .1 .0) (κs .1 .1 .0) (κs .1 .1 .1 .0) (qs .0) (qs .1 .0) (qs .1 .1 .0) (qs .1 .1 .1 .0) (a .0) (a .1 .0) (a .1 .1 .0) (a .1 .1 .1 .0) (a .1 .1 .1 .1 .0) (are .1 .0 .0 .1) (are .1 .1 .0 .0 .1) (are .1 .1 .1 .0 .0 .1) (are .1 .1 .1 .1 .0) (𝓣 .C) (𝓣 .Λ) (fmOf 𝓤 H (W .laws) 𝓣) known-look known-made known-act))
 
-  make-meets : Meets 𝓤 H A make.signature (WpFn 𝓤 H (𝓣 .C) (𝓣 .Λ) code.function) (make.spec 𝓤 H A memory run)
-  make-meets = walk-meets 𝓤 H A make.ended stayed W (goes-ref 𝓤 H A W 4 0 tt (plain (λ _. R-Replica)), (goes-slice 𝓤 H A W 4 1 tt (plain (λ _. R-Handle)), (goes-gave-slice 𝓤 H A W 4 2 tt (plain (λ _. u64)), (goes-dropped 𝓤 H A W 4 (shrSliceOf (3 ∷ []) tt (plain (λ _. u8))) yes (λ κs x f. refl), (goes-dropped 𝓤 H A W 4 (plain (λ _. R-Settings)) yes (λ κs x f. refl), tt))))) (make.clauses 𝓤 H A memory run) (WpFn 𝓤 H (𝓣 .C) (𝓣 .Λ) code.function) (WpFn-mono 𝓤 H (W .laws) 𝓣 code.function) make-walks
+  make-meets : Meets 𝓤 H A this.signature (WpFn 𝓤 H (𝓣 .C) (𝓣 .Λ) code.function) (this.spec 𝓤 H A memory run)
+  make-meets = walk-meets 𝓤 H A this.ended stayed W (goes-ref 𝓤 H A W 4 0 tt (plain (λ _. R-Replica)), (goes-slice 𝓤 H A W 4 1 tt (plain (λ _. R-Handle)), (goes-gave-slice 𝓤 H A W 4 2 tt (plain (λ _. u64)), (goes-dropped 𝓤 H A W 4 (shrSliceOf (3 ∷ []) tt (plain (λ _. u8))) yes (λ κs x f. refl), (goes-dropped 𝓤 H A W 4 (plain (λ _. R-Settings)) yes (λ κs x f. refl), tt))))) (this.clauses 𝓤 H A memory run) (WpFn 𝓤 H (𝓣 .C) (𝓣 .Λ) code.function) (WpFn-mono 𝓤 H (W .laws) 𝓣 code.function) make-walks
 
 pub make-spec : {M : Type 1} → stated.statement M
 unfolding code.routine tablesOf
 make-spec 𝓤 H 𝓜 𝓖 𝓡 =
-    entered 𝓤 H (tripleOf 𝓤 H (𝓖 .A) make.signature (make.spec 𝓤 H (𝓖 .A) (𝓜 .mem) (𝓡 .run)))
+    entered 𝓤 H (tripleOf 𝓤 H (𝓖 .A) this.signature (this.spec 𝓤 H (𝓖 .A) (𝓜 .mem) (𝓡 .run)))
     (tables 𝓤 H 𝓜 𝓡 code.env .C) (tables 𝓤 H 𝓜 𝓡 code.env .Λ) #replica·make code.function (code.unfolded 𝓤 H 𝓜 𝓡)
     (make-meets 𝓤 H (𝓖 .A) (givenOf 𝓤 H 𝓜 𝓖) (𝓜 .mem) (𝓡 .run) (tablesOf 𝓤 H 𝓜 (tables 𝓤 H 𝓜 𝓡 code.env))
     (cited 𝓤 H (Look 𝓤 H (𝓖 .A) (𝓜 .mem) (𝓡 .run)) 𝓜 𝓡 code.env #row·look look-def.routine code.calls-row·look (look-thm.met 𝓤 H 𝓜 𝓖 𝓡))

@@ -83,12 +83,12 @@ use Rattle.replica.proofs.on_frame.Symbol as on-frame-def
 use Rattle.replica.proofs.on_frame.Symbol.{name as #replica·on-frame}
 use Rattle.replica.proofs.on_frame.Met as on-frame-thm
 use Rattle.replica.proofs.on_frame4.Key.{name as #replica·on-frame4}
-use Rattle.replica.proofs.on_frame4 as on-frame4
+use Rattle.replica.proofs.on_frame4 as this
 use Rattle.replica.proofs.on_frame4.Statement as stated
 use Rattle.replica.proofs.on_frame4.Code as code
 use Rattle.replica.proofs.on_frame4.Code.Mir as text
 
-abbrev stayed : Stays (on-frame4.ended .signature .params) (on-frame4.ended .kept)
+abbrev stayed : Stays (this.ended .signature .params) (this.ended .kept)
 stayed = (stay-dropped (plain (λ _. R-Replica)) yes, (stay-dropped (arrayOf (plain (λ _. R-Handle)) 4) yes, (gave-slice (0 ∷ []) tt (plain (λ _. u64)), (gave-slice (1 ∷ []) tt (plain (λ _. u8)), (gave-slice (2 ∷ []) tt (plain (λ _. u8)), (stay-dropped (shrSliceOf (3 ∷ []) tt (plain (λ _. u8))) yes, (stay-dropped (plain (λ _. R-Settings)) yes, tt)))))))
 
 abbrev word : Ty
@@ -134,7 +134,7 @@ module _ {M : Type 1} (𝓤 : URA M) (H : Heap 𝓤) (A : Atoms 𝓤) (W : Given
   at-all = (vals-Replica the-c, (rowVal vals-Handle the-row ∷ [], (s-words ∷ [], (s-bytes ∷ [], (s-holds ∷ [], (s-frame ∷ [], (vals-Settings the-s, tt)))))))
 
   abbrev Post : Val → SProp 𝓤
-  Post = walkOf 𝓤 H A on-frame4.ended stayed (on-frame4.clauses 𝓤 H A memory run) .post (((κ₀, (κ₁, (κ₂, (κ₃, tt)))), (q₀, (q₁, (q₂, (q₃, tt)))), tt, x-all, at-all), tt)
+  Post = walkOf 𝓤 H A this.ended stayed (this.clauses 𝓤 H A memory run) .post (((κ₀, (κ₁, (κ₂, (κ₃, tt)))), (q₀, (q₁, (q₂, (q₃, tt)))), tt, x-all, at-all), tt)
 
   -- what is found
 
@@ -198,7 +198,7 @@ module _ {M : Type 1} (𝓤 : URA M) (H : Heap 𝓤) (A : Atoms 𝓤) (W : Given
   exits : (x : CoreGives) → CoreTold x → Is R-Replica (x .1 .0) (vals-Replica (x .1 .0)) → Is (Array R-Handle 4) (x .1 .1 .0) (rowVal vals-Handle (x .1 .1 .0) ∷ []) → Is R-Answer (x .0) (vals-Answer (x .0)) → ent 𝓤 (⋆ 𝓤 H A (After x ∷ [])) (Post (machine x))
   exits x p i₀ i₁ i₂ =
       qed W (After x ∷ []) ∵
-      suffices ! _ (ends-at 𝓤 H A on-frame4.ended stayed (on-frame4.clauses 𝓤 H A memory run) W (((κ₀, (κ₁, (κ₂, (κ₃, tt)))), (q₀, (q₁, (q₂, (q₃, tt)))), tt, x-all, at-all), tt) (machine x) (made x) (tt, (tt, (x .1 .1 .1 .0, (x .1 .1 .1 .1 .0, (x .1 .1 .1 .1 .1 .0, (tt, (tt, tt))))))) (tt, (tt, (p .2, (p .3, (p .4, (tt, (tt, tt)))))))) $ says ! (p .1) $
+      suffices ! _ (ends-at 𝓤 H A this.ended stayed (this.clauses 𝓤 H A memory run) W (((κ₀, (κ₁, (κ₂, (κ₃, tt)))), (q₀, (q₁, (q₂, (q₃, tt)))), tt, x-all, at-all), tt) (machine x) (made x) (tt, (tt, (x .1 .1 .1 .0, (x .1 .1 .1 .1 .0, (x .1 .1 .1 .1 .1 .0, (tt, (tt, tt))))))) (tt, (tt, (p .2, (p .3, (p .4, (tt, (tt, tt)))))))) $ says ! (p .1) $
       split ! $ frame ! $ split ! $ move ! (1 ∷ []) $ split ! $ nothing ! $ nothing ! $ fjoin ! $ nothing ! $ fjoin ! $ move ! (2 ∷ 0 ∷ []) $ fjoin ! $ move ! (1 ∷ 0 ∷ []) $ fjoin ! $ move ! (1 ∷ 0 ∷ []) $ fjoin ! $ nothing ! $ fjoin ! $ nothing ! $ fjoin ! $ frame ! $ owned ! Kept-type.the-row (Is Kept-type.the-row) (LL.makes Kept-type.the-type Kept-laws.the-plain 𝓤 H A) (made x) _ (made-is x i₀ i₁ i₂) $ done !
 
   module _ (Ct : Calls 𝓤 H) (Λ : Loops 𝓤 H) (fm : FmC 𝓤 H (W .laws) Ct) (known-on-frame : Triple 𝓤 (Ct #replica·on-frame) (OnFrame 𝓤 H A memory run)) (l₀ l₁ l₂ l₃ l₄ l₅ l₆ l₇ l₈ l₉ l₁₀ l₁₁ l₁₂ l₁₃ l₁₄ l₁₅ l₁₆ l₁₇ l₁₈ l₁₉ l₂₀ l₂₁ : ℕ) where
@@ -232,7 +232,7 @@ module _ {M : Type 1} (𝓤 : URA M) (H : Heap 𝓤) (A : Atoms 𝓤) (W : Given
         part₁₃ x p is-rec is-row)
 
   module _ (Ct : Calls 𝓤 H) (Λ : Loops 𝓤 H) (fm : FmC 𝓤 H (W .laws) Ct) (known-on-frame : Triple 𝓤 (Ct #replica·on-frame) (OnFrame 𝓤 H A memory run)) where
-    walk : ent 𝓤 (onEntry 𝓤 H A on-frame4.signature (κ₀, (κ₁, (κ₂, (κ₃, tt)))) (q₀, (q₁, (q₂, (q₃, tt)))) x-all at-all) (WpFn 𝓤 H Ct Λ code.function (val-Replica the-c ∷ rowVal vals-Handle the-row ∷ s-words ∷ s-bytes ∷ s-holds ∷ s-frame ∷ val-Settings the-s ∷ []) Post)
+    walk : ent 𝓤 (onEntry 𝓤 H A this.signature (κ₀, (κ₁, (κ₂, (κ₃, tt)))) (q₀, (q₁, (q₂, (q₃, tt)))) x-all at-all) (WpFn 𝓤 H Ct Λ code.function (val-Replica the-c ∷ rowVal vals-Handle the-row ∷ s-words ∷ s-bytes ∷ s-holds ∷ s-frame ∷ val-Settings the-s ∷ []) Post)
     walk =
         qed W ((‵ (flft κ₀ q₀) ⊛ (‵ (flft κ₁ q₁) ⊛ (‵ (flft κ₂ q₂) ⊛ (‵ (flft κ₃ q₃) ⊛ (‵ ftrue))))) ∷ ‵ (owns (R-Replica ∷ (Array R-Handle 4) ∷ MutSlice (named 0) κ₀ u64 ∷ MutSlice (named 1) κ₁ u8 ∷ MutSlice (named 2) κ₂ u8 ∷ ShrSlice (named 3) κ₃ u8 ∷ R-Settings ∷ []) x-all at-all) ∷ []) ∵ enter ! Ct Λ code.function (val-Replica the-c ∷ rowVal vals-Handle the-row ∷ s-words ∷ s-bytes ∷ s-holds ∷ s-frame ∷ val-Settings the-s ∷ []) _ $
         alloc1 ! (λ l₀. alloc1 ! (λ l₁. alloc1 ! (λ l₂. alloc1 ! (λ l₃. alloc1 ! (λ l₄. alloc1 ! (λ l₅. alloc1 ! (λ l₆. alloc1 ! (λ l₇. alloc1 ! (λ l₈. alloc1 ! (λ l₉. alloc1 ! (λ l₁₀. alloc1 ! (λ l₁₁. alloc1 ! (λ l₁₂. alloc1 ! (λ l₁₃. alloc1 ! (λ l₁₄. alloc1 ! (λ l₁₅. alloc1 ! (λ l₁₆. alloc1 ! (λ l₁₇. alloc1 ! (λ l₁₈. alloc1 ! (λ l₁₉. alloc1 ! (λ l₂₀. alloc1 ! (λ l₂₁. alloc0 ! $ params1 ! $
@@ -242,18 +242,18 @@ module _ {M : Type 1} (𝓤 : URA M) (H : Heap 𝓤) (A : Atoms 𝓤) (W : Given
         part₁ Ct Λ fm known-on-frame l₀ l₁ l₂ l₃ l₄ l₅ l₆ l₇ l₈ l₉ l₁₀ l₁₁ l₁₂ l₁₃ l₁₄ l₁₅ l₁₆ l₁₇ l₁₈ l₁₉ l₂₀ l₂₁))))))))))))))))))))))
 
 module _ {M : Type 1} (𝓤 : URA M) (H : Heap 𝓤) (A : Atoms 𝓤) (W : Given 𝓤 H A) (memory : Memory → SProp 𝓤) (run : Routine → Fun 𝓤) (𝓣 : Tables 𝓤 H) (known-on-frame : Triple 𝓤 (𝓣 .C #replica·on-frame) (OnFrame 𝓤 H A memory run)) where
-  on-frame4-walks : Walks 𝓤 H A on-frame4.ended stayed (WpFn 𝓤 H (𝓣 .C) (𝓣 .Λ) code.function) (on-frame4.clauses 𝓤 H A memory run)
-  on-frame4-walks = walked 𝓤 H A on-frame4.ended stayed (on-frame4.clauses 𝓤 H A memory run) (WpFn 𝓤 H (𝓣 .C) (𝓣 .Λ) code.function) (λ κs. (vals-Replica, ((array-vals vals-Handle), (slice-vals, (slice-vals, (slice-vals, (slice-vals, (vals-Settings, tt))))))))
+  on-frame4-walks : Walks 𝓤 H A this.ended stayed (WpFn 𝓤 H (𝓣 .C) (𝓣 .Λ) code.function) (this.clauses 𝓤 H A memory run)
+  on-frame4-walks = walked 𝓤 H A this.ended stayed (this.clauses 𝓤 H A memory run) (WpFn 𝓤 H (𝓣 .C) (𝓣 .Λ) code.function) (λ κs. (vals-Replica, ((array-vals vals-Handle), (slice-vals, (slice-vals, (slice-vals, (slice-vals, (vals-Settings, tt))))))))
       (λ κs. (tells-Replica, ((array-tells R-Handle vals-Handle tells-Handle 4), (mut-slice-tells (named 0) (κs .0) u64, (mut-slice-tells (named 1) (κs .1 .0) u8, (mut-slice-tells (named 2) (κs .1 .1 .0) u8, (shr-slice-tells (named 3) (κs .1 .1 .1 .0) u8, (tells-Settings, tt))))))))
       (λ κs qs bounds a g are. via 𝓤 _ (fst∗ 𝓤 _ (emp 𝓤)) (walk 𝓤 H A W memory run (κs .0) (κs .1 .0) (κs .1 .1 .0) (κs .1 .1 .1 .0) (qs .0) (qs .1 .0) (qs .1 .1 .0) (qs .1 .1 .1 .0) (a .0) (a .1 .0) (a .1 .1 .0) (a .1 .1 .1 .0) (a .1 .1 .1 .1 .0) (a .1 .1 .1 .1 .1 .0) (a .1 .1 .1 .1 .1 .1 .0) (are .0) (are .1 .0) (are .1 .1 .0 .0 .1) (are .1 .1 .1 .0 .0 .1) (are .1 .1 .1 .1 .0 .0 .1) (are .1 .1 .1 .1 .1 .0 .0 .1) (are .1 .1 .1 .1 .1 .1 .0) (𝓣 .C) (𝓣 .Λ) (fmOf 𝓤 H (W .laws) 𝓣) known-on-frame))
 
-  on-frame4-meets : Meets 𝓤 H A on-frame4.signature (WpFn 𝓤 H (𝓣 .C) (𝓣 .Λ) code.function) (on-frame4.spec 𝓤 H A memory run)
-  on-frame4-meets = walk-meets 𝓤 H A on-frame4.ended stayed W (goes-dropped 𝓤 H A W 4 (plain (λ _. R-Replica)) yes (λ κs x f. refl), (goes-dropped 𝓤 H A W 4 (arrayOf (plain (λ _. R-Handle)) 4) yes (λ κs x f. refl), (goes-gave-slice 𝓤 H A W 4 0 tt (plain (λ _. u64)), (goes-gave-slice 𝓤 H A W 4 1 tt (plain (λ _. u8)), (goes-gave-slice 𝓤 H A W 4 2 tt (plain (λ _. u8)), (goes-dropped 𝓤 H A W 4 (shrSliceOf (3 ∷ []) tt (plain (λ _. u8))) yes (λ κs x f. refl), (goes-dropped 𝓤 H A W 4 (plain (λ _. R-Settings)) yes (λ κs x f. refl), tt))))))) (on-frame4.clauses 𝓤 H A memory run) (WpFn 𝓤 H (𝓣 .C) (𝓣 .Λ) code.function) (WpFn-mono 𝓤 H (W .laws) 𝓣 code.function) on-frame4-walks
+  on-frame4-meets : Meets 𝓤 H A this.signature (WpFn 𝓤 H (𝓣 .C) (𝓣 .Λ) code.function) (this.spec 𝓤 H A memory run)
+  on-frame4-meets = walk-meets 𝓤 H A this.ended stayed W (goes-dropped 𝓤 H A W 4 (plain (λ _. R-Replica)) yes (λ κs x f. refl), (goes-dropped 𝓤 H A W 4 (arrayOf (plain (λ _. R-Handle)) 4) yes (λ κs x f. refl), (goes-gave-slice 𝓤 H A W 4 0 tt (plain (λ _. u64)), (goes-gave-slice 𝓤 H A W 4 1 tt (plain (λ _. u8)), (goes-gave-slice 𝓤 H A W 4 2 tt (plain (λ _. u8)), (goes-dropped 𝓤 H A W 4 (shrSliceOf (3 ∷ []) tt (plain (λ _. u8))) yes (λ κs x f. refl), (goes-dropped 𝓤 H A W 4 (plain (λ _. R-Settings)) yes (λ κs x f. refl), tt))))))) (this.clauses 𝓤 H A memory run) (WpFn 𝓤 H (𝓣 .C) (𝓣 .Λ) code.function) (WpFn-mono 𝓤 H (W .laws) 𝓣 code.function) on-frame4-walks
 
 pub on-frame4-spec : {M : Type 1} → stated.statement M
 unfolding code.routine tablesOf
 on-frame4-spec 𝓤 H 𝓜 𝓖 𝓡 =
-    entered 𝓤 H (tripleOf 𝓤 H (𝓖 .A) on-frame4.signature (on-frame4.spec 𝓤 H (𝓖 .A) (𝓜 .mem) (𝓡 .run)))
+    entered 𝓤 H (tripleOf 𝓤 H (𝓖 .A) this.signature (this.spec 𝓤 H (𝓖 .A) (𝓜 .mem) (𝓡 .run)))
     (tables 𝓤 H 𝓜 𝓡 code.env .C) (tables 𝓤 H 𝓜 𝓡 code.env .Λ) #replica·on-frame4 code.function (code.unfolded 𝓤 H 𝓜 𝓡)
     (on-frame4-meets 𝓤 H (𝓖 .A) (givenOf 𝓤 H 𝓜 𝓖) (𝓜 .mem) (𝓡 .run) (tablesOf 𝓤 H 𝓜 (tables 𝓤 H 𝓜 𝓡 code.env))
     (cited 𝓤 H (OnFrame 𝓤 H (𝓖 .A) (𝓜 .mem) (𝓡 .run)) 𝓜 𝓡 code.env #replica·on-frame on-frame-def.routine code.calls-replica·on-frame (on-frame-thm.met 𝓤 H 𝓜 𝓖 𝓡)))
