@@ -84,7 +84,6 @@ pub fn put_hex(src: &[u8], out: &mut [u8])
 
 // Writes R, a space and the refusal in decimal at the start of out, and gives their number.
 pub fn put_refusal(n: u8, out: &mut [u8]) -> usize
-    requires { ⌜ n < 100 ⌝ }
     requires { ⌜ 4 ≤ length (now out) ⌝ }
     ensures { λ r. ⌜ Puts (refusalText n) (now (out .entry)) (now (out .exit)) r ⌝ }
 {

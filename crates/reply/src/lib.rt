@@ -1,4 +1,15 @@
 // What a call of the standby answers, as a frame and as its bytes.
+ghost use mathlib.Core.Path.{_≡_};
+ghost use mathlib.Core.Bool.{true};
+ghost use mathlib.Core.Option.{some};
+ghost use Prim.Native.Nat.{_+_, _≤_};
+ghost use lib.ListN.{length};
+ghost use Rattle.scan.specs.Answers.{spanOf};
+ghost use Rattle.parts.specs.Answers.{reasonOf, flightOf};
+ghost use Rattle.print.specs.Encoding.{Encoded};
+ghost use Rattle.frame.specs.Answers.{frameIn};
+ghost use Rattle.outcome.specs.Answers.{reasonBy, frameBy};
+ghost use Rattle.reply.specs.Replies.{flightBy, CutTo, Shows};
 use frame::Frame;
 use frame::InFlight;
 use frame::NackReason;
@@ -6,33 +17,57 @@ use frame::Summary;
 use frame::Written;
 use outcome::Answer;
 use outcome::Brief;
+use scan::Span;
 use stamp::Protocol;
 
 // By the reason's number in an answer.
-fn reason(n: u8) -> NackReason {
-    match n {
-        1 => NackReason::StaleEpoch,
-        2 => NackReason::Diverged,
-        3 => NackReason::Lag,
-        _ => NackReason::Restarted,
+fn reason(n: u8) -> NackReason
+    ensures { λ r. ⌜ reasonOf r ≡ reasonBy n ⌝ }
+{
+    if n == 1 {
+        return NackReason::StaleEpoch;
     }
+    if n == 2 {
+        return NackReason::Diverged;
+    }
+    if n == 3 {
+        return NackReason::Lag;
+    }
+    NackReason::Restarted
 }
 
-// In a frame 0 is none.
-fn in_flight(has: bool, n: u64) -> InFlight {
+fn in_flight(has: bool, n: u64) -> InFlight
+    ensures { λ r. ⌜ flightOf r ≡ flightBy has n ⌝ }
+{
     if has {
-        if n == 0 {
-            return InFlight::Nothing;
-        }
         return InFlight::Seq(n);
     }
     InFlight::Nothing
 }
 
-fn summary(b: Brief) -> Summary {
+// The same bytes as a part that lies in the area.
+fn cut(bytes: &[u8], s: Span) -> Span
+    ensures { λ r. ⌜ CutTo (now (bytes .entry)) s r ⌝ }
+{
+    if bytes.len() < s.at {
+        return Span { at: 0, len: 0 };
+    }
+    let left = bytes.len() - s.at;
+    if left < s.len as usize {
+        return Span {
+            at: s.at,
+            len: left as u32,
+        };
+    }
+    s
+}
+
+fn summary(b: Brief, bytes: &[u8]) -> Summary
+    ensures { λ r. ⌜ Shows (now (bytes .entry)) b r ⌝ }
+{
     let in_flight = in_flight(b.has_in_flight, b.in_flight);
-    let created_at = b.created_at;
-    let marks = b.marks;
+    let created_at = cut(bytes, b.created_at);
+    let marks = cut(bytes, b.marks);
     Summary {
         next_outgoing: b.next_outgoing,
         next_incoming: b.next_incoming,
@@ -44,29 +79,36 @@ fn summary(b: Brief) -> Summary {
 }
 
 // The frame of an answer that has one.
-fn frame(a: Answer) -> Frame {
-    let kind = a.kind;
+fn frame(a: Answer, bytes: &[u8]) -> Frame
+    ensures { λ r. ⌜ frameIn 1 (now (bytes .entry)) r ≡ some (frameBy (now (bytes .entry)) a) ⌝ }
+{
     let handle = a.handle;
-    let epoch = a.epoch;
-    let incarnation = a.incarnation;
-    let commit_no = a.commit_no;
-    let brief = a.brief;
-    match kind {
-        2 => Frame::Welcome { epoch, incarnation },
-        5 => Frame::Ack { handle, commit_no },
-        6 => Frame::Nack {
+    if a.kind == 2 {
+        let epoch = a.epoch;
+        let incarnation = a.incarnation;
+        return Frame::Welcome { epoch, incarnation };
+    }
+    if a.kind == 5 {
+        let commit_no = a.commit_no;
+        return Frame::Ack { handle, commit_no };
+    }
+    if a.kind == 6 {
+        return Frame::Nack {
             handle,
             reason: reason(a.reason),
-        },
-        _ => Frame::Bound {
-            handle,
-            summary: summary(brief),
-        },
+        };
+    }
+    let brief = a.brief;
+    Frame::Bound {
+        handle,
+        summary: summary(brief, bytes),
     }
 }
 
 // The bytes of an answer that has a frame; `bytes` is the store's byte area, where a Bound has its texts.
-pub fn write(a: Answer, bytes: &[u8], out: &mut [u8]) -> Written {
-    let f = frame(a);
+pub fn write(a: Answer, bytes: &[u8], out: &mut [u8]) -> Written
+    ensures { λ r. ⌜ Encoded 1 (some (frameBy (now (bytes .entry)) a)) (now (out .entry)) (now (out .exit)) r ⌝ }
+{
+    let f = frame(a, bytes);
     f.encode(Protocol { version: 1 }, bytes, out)
 }

@@ -1,0 +1,56 @@
+-- What the program `frames` answers to a line. Assumes nothing.
+use Prim.Native.Nat.{ℕ}
+use mathlib.Core.Path.{_≡_}
+use mathlib.Core.Bool.{true}
+use mathlib.Core.List.{List}
+use mathlib.Core.Option.{Option, none, some}
+use lib.ListN.{length, take}
+use Rattle.model_text.specs.Hex.{lineBytes, refusalText}
+use Rattle.model.specs.State as the-state
+use Rattle.model.specs.State.{Standby, onFrame}
+use Rattle.model.specs.Standby.{step}
+use Rattle.hex.specs.Lines.{Puts}
+use Rattle.row.specs.declared.Handle.{Handle}
+use Rattle.outcome.specs.declared.Replica.{Replica}
+use Rattle.outcome.specs.declared.Settings.{Settings}
+use Rattle.outcome.specs.declared.Answer.{Answer}
+use Rattle.outcome.specs.Answers.{answerOf}
+use Rattle.outcome.specs.Outcomes.{settingsOf}
+use Rattle.reply_text.specs.Texts.{answerText}
+use Rattle.steps.specs.Calls.{roomAll, standbyOf, allowedAll, Called}
+
+-- four sessions, C 4,096, M 64, incarnation 7, lag 0
+abbrev pub theSettings : Settings
+theSettings = record { shape = record { places = 4; bytes = 4096; messages = 64 }; incarnation = record { 0 = 7 }; lag = 0 }
+
+-- ---- a line on the definition's standby
+
+pub record Spoken : Type 0 where
+  pub state : Standby
+  pub text : List ℕ
+
+-- what a call gives, as a text
+abbrev pub spoken : ℕ → the-state.Result → Spoken
+spoken room r = record { state = r .state; text = answerText room (r .answer) }
+
+-- 26 for a line that has no bytes, and nothing changes; else the call
+abbrev pub onBytes : the-state.Settings → ℕ → Standby → Option (List ℕ) → Spoken
+onBytes L room st none = record { state = st; text = refusalText 26 }
+onBytes L room st (some f) = spoken room (step L st (onFrame f))
+
+abbrev pub lineStep : the-state.Settings → ℕ → Standby → List ℕ → Spoken
+lineStep L room st l = onBytes L room st (lineBytes l)
+
+-- ---- a line on the lent areas, and its text
+
+pub data Heard (l : List ℕ) (room : ℕ) (c c' : Replica) (row row' : List Handle) (w w' b b' h h' : List ℕ) : List ℕ → Type 0 where
+  unread : lineBytes l ≡ none → c' ≡ c → row' ≡ row → w' ≡ w → b' ≡ b → h' ≡ h → Heard l room c c' row row' w w' b b' h h' (refusalText 26)
+  called : (f : List ℕ) (a : Answer) → lineBytes l ≡ some f → Called theSettings (onFrame f) c c' row row' w w' b b' h h' a → Heard l room c c' row row' w w' b b' h h' (answerText room (answerOf b' a))
+
+-- the text stands at the start of the output area, the rest of which is as it was; and state and text are the definition's
+pub record AnswersLine (l : List ℕ) (room : ℕ) (c c' : Replica) (row row' : List Handle) (w w' b b' h h' out out' : List ℕ) (len : ℕ) : Type 0 where
+  pub text : List ℕ
+  pub heard : Heard l room c c' row row' w w' b b' h h' text
+  pub puts : Puts text out out' len
+  pub is : allowedAll theSettings row w b h ≡ true
+      → record { state = standbyOf theSettings c' row' w' b' h'; text = take len out' } ≡ lineStep (settingsOf theSettings (roomAll row h)) room (standbyOf theSettings c row w b h) l

@@ -1,0 +1,20 @@
+-- The text of an answer. Assumes nothing.
+use Prim.Native.Nat.{ℕ}
+use mathlib.Core.List.{List, []}
+use mathlib.Core.Option.{some}
+use Rattle.model_text.specs.Hex.{hexOf, refusalText}
+use Rattle.model.specs.Answer.{reply, refused, done, protocolVersion}
+use Rattle.model.specs.Answer as the-answer
+use Rattle.print.specs.Encoding as the-writing
+use Rattle.print.specs.Encoding.{outcome, wrote}
+
+-- the digits of what was written, or R and the number
+abbrev pub outcomeText : the-writing.Outcome → List ℕ
+outcomeText (wrote bs) = hexOf bs
+outcomeText (the-writing.refused n) = refusalText n
+
+-- the digits of the frame that is answered, which may take so many bytes, or R and the refusal; no frame is answered with 'done'
+abbrev pub answerText : ℕ → the-answer.Answer → List ℕ
+answerText room (reply f) = outcomeText (outcome protocolVersion (some f) room)
+answerText room (refused n) = refusalText n
+answerText room done = []

@@ -1,0 +1,42 @@
+// What a call of the standby answers, as a line's text: the digits of its frame, or R and the refusal.
+ghost use mathlib.Core.Option.{some};
+ghost use Prim.Native.Nat.{_*_, _≤_};
+ghost use lib.ListN.{length};
+ghost use Rattle.hex.specs.Lines.{Puts};
+ghost use Rattle.print.specs.Encoding.{outcome};
+ghost use Rattle.outcome.specs.Answers.{frameBy, answerOf};
+ghost use Rattle.reply_text.specs.Texts.{outcomeText, answerText};
+use frame::Written;
+use outcome::Answer;
+
+// The digits of an answer's frame, or the refusal where it can't be written; buf is for its bytes.
+fn put_reply(a: Answer, bytes: &[u8], buf: &mut [u8], out: &mut [u8]) -> usize
+    requires { ⌜ 4 ≤ length (now buf) ⌝ }
+    requires { ⌜ 2 * length (now buf) ≤ length (now out) ⌝ }
+    ensures { λ r. ⌜ Puts (outcomeText (outcome 1 (some (frameBy (now (bytes .entry)) a)) (length (now (buf .entry))))) (now (out .entry)) (now (out .exit)) r ⌝ }
+{
+    match reply::write(a, bytes, buf) {
+        Written::Took(n) => {
+            hex::put_hex(&buf[0..n], out);
+            2 * n
+        }
+        Written::Unreadable => hex::put_refusal(8, out),
+        Written::TooLong => hex::put_refusal(1, out),
+        Written::NoRoom => hex::put_refusal(9, out),
+    }
+}
+
+// The text of an answer: `R n`, or the digits of its frame.
+pub fn put_answer(a: Answer, bytes: &[u8], buf: &mut [u8], out: &mut [u8]) -> usize
+    requires { ⌜ 4 ≤ length (now buf) ⌝ }
+    requires { ⌜ 2 * length (now buf) ≤ length (now out) ⌝ }
+    ensures { λ r. ⌜ Puts (answerText (length (now (buf .entry))) (answerOf (now (bytes .entry)) a)) (now (out .entry)) (now (out .exit)) r ⌝ }
+{
+    if a.refusal == 0 {
+        if a.kind == 0 {
+            return 0;
+        }
+        return put_reply(a, bytes, buf, out);
+    }
+    hex::put_refusal(a.refusal, out)
+}
