@@ -1,0 +1,96 @@
+use Rattle.frames.proofs.read_all.Statement.{statement}
+use Rattle.frames.proofs.Laws.{Going}
+use native.Mathlib.Omega.{arith}
+use mathlib.Core.Path.{_≡_, refl, sym, _∙_}
+use Rattle.frames.proofs.read_all.Tie as tie
+use Rattle.frames.proofs.read_all.Reads as reads
+use Rattle.frames.proofs.read_all.Lts as lts
+use Rattle.frames.proofs.read_on.Reads as read-on-reads
+
+abbrev Inv-loop : tie.InvT-loop
+Inv-loop words₀ bytes₀ holds₀ line₀ now₀ turns₀ words bytes holds line now turns = Going words₀ words bytes₀ bytes holds₀ holds line₀ line line₀ (now .len) 0
+
+abbrev μ-loop : tie.MeasureT-loop
+μ-loop words₀ bytes₀ holds₀ line₀ now₀ turns₀ words bytes holds line now turns = turns
+
+-- src/main.rt:125:5
+loop-holds : tie.Need-loop-holds Inv-loop μ-loop
+loop-holds c = record { words = refl; bytes = refl; holds = refl; line = refl; kept = c .before .before .before .before .pre; within = omega arith }
+
+-- src/main.rt:126:9
+read-on-requires : tie.Need-read-on-requires Inv-loop μ-loop
+read-on-requires c κs = omega (arith, c .before .before .before .before .before .before .loop .inv .line, c .before .before .before .before .before .before .loop .inv .kept)
+
+-- src/main.rt:127:9
+sub-turns : tie.Need-sub-turns Inv-loop μ-loop
+sub-turns c = omega arith
+
+-- src/main.rt:125:5
+loop-less : tie.Need-loop-less Inv-loop μ-loop
+loop-less c = omega arith
+
+-- src/main.rt:125:5
+loop-again : tie.Need-loop-again Inv-loop μ-loop
+loop-again c = record { words = (c .before .before .before .before .before .before .before .before .read-on .kept .1 .0) ∙ (c .before .before .before .before .before .before .before .before .before .before .before .before .before .before .before .loop .inv .words); bytes = (c .before .before .before .before .before .before .before .before .read-on .kept .1 .1 .0) ∙ (c .before .before .before .before .before .before .before .before .before .before .before .before .before .before .before .loop .inv .bytes); holds = (c .before .before .before .before .before .before .before .before .read-on .kept .1 .1 .1 .0) ∙ (c .before .before .before .before .before .before .before .before .before .before .before .before .before .before .before .loop .inv .holds); line = (c .before .before .before .before .before .before .before .before .read-on .kept .1 .1 .1 .1 .0) ∙ (c .before .before .before .before .before .before .before .before .before .before .before .before .before .before .before .loop .inv .line); kept = omega (arith, c .before .before .before .before .before .before .before .before .read-on .ensures, c .before .before .before .before .before .before .before .before .before .before .before .before .before .before .before .loop .inv .line); within = omega arith }
+
+-- src/main.rt:113:1
+same-length : tie.Need-same-length Inv-loop μ-loop
+same-length c = c .before .before .loop .inv .words
+
+-- src/main.rt:113:1
+same-length-2 : tie.Need-same-length-2 Inv-loop μ-loop
+same-length-2 c = c .before .before .loop .inv .bytes
+
+-- src/main.rt:113:1
+same-length-3 : tie.Need-same-length-3 Inv-loop μ-loop
+same-length-3 c = c .before .before .loop .inv .holds
+
+-- src/main.rt:113:1
+same-length-4 : tie.Need-same-length-4 Inv-loop μ-loop
+same-length-4 c = c .before .before .loop .inv .line
+
+-- src/main.rt:113:1
+returns : tie.Need-returns Inv-loop μ-loop
+returns c = c .before .before .loop .inv .kept
+
+-- src/main.rt:113:1
+same-length-5 : tie.Need-same-length-5 Inv-loop μ-loop
+same-length-5 c = c .before .loop .inv .words
+
+-- src/main.rt:113:1
+same-length-6 : tie.Need-same-length-6 Inv-loop μ-loop
+same-length-6 c = c .before .loop .inv .bytes
+
+-- src/main.rt:113:1
+same-length-7 : tie.Need-same-length-7 Inv-loop μ-loop
+same-length-7 c = c .before .loop .inv .holds
+
+-- src/main.rt:113:1
+same-length-8 : tie.Need-same-length-8 Inv-loop μ-loop
+same-length-8 c = c .before .loop .inv .line
+
+-- src/main.rt:113:1
+returns-2 : tie.Need-returns-2 Inv-loop μ-loop
+returns-2 c = c .before .loop .inv .kept
+
+pub read-all-spec : {M : Type 1} → statement M
+read-all-spec =
+    tie.close
+    (tie.spec
+    Inv-loop
+    μ-loop
+    loop-holds
+    read-on-requires
+    sub-turns
+    loop-less
+    loop-again
+    same-length
+    same-length-2
+    same-length-3
+    same-length-4
+    returns
+    same-length-5
+    same-length-6
+    same-length-7
+    same-length-8
+    returns-2)
