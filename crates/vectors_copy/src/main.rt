@@ -2,7 +2,7 @@
 // way. After each frame that the standby is given it writes the answer (kind, refusal, reason) and which session the standby then has: A,
 // B or neither, by a hash over all six parts. What it must write was recorded from the Rust by tests/copy_vectors, which also wrote
 // the script. A line is a letter, a character, and what it takes:
-// `n S C M` two new stores of S places and a new standby; changes of A: `m:TEXT` a Record with this message, `l LENGTH` one with a made
+// `n S C M` two new stores of S places and a new standby, `o:TEXT` opens A with this target; changes of A: `m:TEXT` a Record with this message, `l LENGTH` one with a made
 // message, `g N` one without message, `b N F` SetNextIncomingInFlight, `t:TEXT` the stamp, `k:TEXT` the marks;
 // `h:DIGITS` a frame for the standby; `w HANDLE EPOCH LAST` begins the sending: what the standby has now is B;
 // `f` takes the next frame; `=` gives it to the standby; `x AT N` gives it with N added to its byte AT.
@@ -104,13 +104,12 @@ fn put_which(now: u64, a: u64, b: u64) {
     }
 }
 
-// Two new stores, a session in the first, and a new standby.
-fn make(line: &[u8], wa: &mut [u64], ba: &mut [u8], wb: &mut [u64], bb: &[u8]) -> Way {
+// Two new stores and a new standby.
+fn make(line: &[u8], wa: &mut [u64], ba: &[u8], wb: &mut [u64], bb: &[u8]) -> Way {
     let places = script::low(script::field(line, 0));
     let cap = script::low(script::field(line, 1));
     let max = script::low(script::field(line, 2));
     store_c::store_make(wa, ba, places, cap, max);
-    store_c::store_open(wa, ba, places, cap, max, b"FIX.4.4", b"A", b"B", b"");
     store_c::store_make(wb, bb, places, cap, max);
     start(Shape {
         places,
@@ -138,6 +137,21 @@ fn start(shape: Shape) -> Way {
     }
 }
 
+// Opens A, with this target.
+fn open(words: &mut [u64], bytes: &mut [u8], shape: Shape, target: &[u8]) {
+    store_c::store_open(
+        words,
+        bytes,
+        shape.places,
+        shape.bytes,
+        shape.messages,
+        b"FIX.4.4",
+        b"A",
+        target,
+        b"",
+    );
+}
+
 // A change of A.
 fn change(
     letter: u8,
@@ -152,6 +166,7 @@ fn change(
         return;
     }
     match letter {
+        b'o' => open(words, bytes, shape, &line[2..]),
         b'm' => fill::record(words, bytes, shape, 0, &line[2..]),
         b'l' => fill::record_made(words, bytes, shape, 0, n as usize, room),
         b'g' => fill::skip(words, bytes, shape, 0, n),
@@ -172,23 +187,23 @@ fn hand(
     a: u64,
 ) -> Way {
     let shape = w.shape;
+    let before = w.replica;
     let row = w.row;
     let s = Settings {
         shape,
         incarnation: Incarnation(7),
         lag: 0,
     };
-    let k = replica::on_frame4(w.replica, row, words, bytes, holds, frame, s);
-    put_answer(k.answer);
+    let k = replica::on_frame4(before, row, words, bytes, holds, frame, s);
+    let replica = k.replica;
+    let row = k.row;
+    let answer = k.answer;
+    put_answer(answer);
     put_which(hash(words, bytes, shape), a, w.before);
-    Way {
-        shape,
-        replica: k.replica,
-        row: k.row,
-        sending: w.sending,
-        len: w.len,
-        before: w.before,
-    }
+    let mut next = w;
+    next.replica = replica;
+    next.row = row;
+    next
 }
 
 // Gives the standby a frame in digits.
@@ -233,7 +248,10 @@ fn hand_with(
     let good = out[at];
     out[at] = std::num::wrapping_add_u8(good, n);
     let next = hand(&out[0..len], words, bytes, holds, w, a);
-    out[at] = good;
+    if at < out.len() {
+        out[at] = good;
+        return next;
+    }
     next
 }
 
