@@ -350,9 +350,10 @@ fn run(
     });
     let mut at: usize = 0;
     while at < script.len() {
-        let end = script::line_end(script, at);
-        now = command(&script[at..end], wa, ba, wb, bb, holds, out, now);
+        let from = at;
+        let end = script::line_end(script, from);
         at = end + 1;
+        now = command(&script[from..end], wa, ba, wb, bb, holds, out, now);
     }
 }
 

@@ -40,7 +40,7 @@ loop-less : tie.Need-loop-less Inv-loop μ-loop
 loop-less c = search needs
 
 loop-again : tie.Need-loop-again Inv-loop μ-loop
-loop-again c = search needs
+loop-again c = search needs depth 9
 
 same-length : tie.Need-same-length Inv-loop μ-loop
 same-length c = search needs
@@ -72,11 +72,11 @@ run-spec =
     start-requires
     loop-holds
     line-end-requires
+    add-at
     sub-command
     part-command-start
     part-command-end
     command-requires
-    add-at
     loop-less
     loop-again
     same-length
