@@ -1,15 +1,14 @@
 -- Beginning, and one call: what the code answers is what the definitions say. Assumes nothing.
-use mathlib.Core.Path.{_≡_, refl, sym, ap, subst, _∙_}
-use mathlib.Core.Bool.{Bool, true, false, cond}
-use mathlib.Core.List.{List, [], _∷_}
+use mathlib.Core.Path.{_≡_, refl, sym, ap, _∙_}
+use mathlib.Core.Bool.{Bool, true, false}
+use mathlib.Core.List.{List}
 use mathlib.Core.Option.{Option, none, some}
-use Prim.Native.Nat.{ℕ, zero, suc, _+_, _-_, _≤_, _<_}
+use Prim.Native.Nat.{ℕ, _+_, _-_, _≤_, _<_}
 use native.Mathlib.Omega.{arith}
 use native.Mathlib.Numerals.{add-one}
 use lib.ListN.{length}
-use lib.Dec.{ltb, leb}
+use lib.Dec.{ltb}
 use borrow.Author.Tests.{lt-ltb, le-ltb, le-leb, lt-leb}
-use Rattle.model_frame.specs.Bytes.{write}
 use Rattle.model_frame.specs.Frame.{Frame}
 use Rattle.model_frame.specs.Writing.{encode}
 use Rattle.model_session.specs.Session.{Session, top}
@@ -21,7 +20,7 @@ use Rattle.areas.specs.declared.Shape.{Shape}
 use Rattle.active.specs.declared.Sending.{Sending}
 use Rattle.active.specs.declared.Sent.{Sent}
 use Rattle.active.specs.declared.Sent
-use Rattle.active.specs.Whole.{Start, startFrom, Step, spent, answerTo, filledBy, stepFrom, areaFrom, senderOf, storedAt, SendsWhole}
+use Rattle.active.specs.Whole.{Start, startFrom, Step, answerTo, filledBy, stepFrom, areaFrom, storedAt, SendsWhole}
 use Rattle.active.specs.Whole as whole
 
 -- ---- beginning

@@ -2,10 +2,10 @@
 use mathlib.Core.Path.{_≡_, refl, sym, ap, subst, _∙_}
 use mathlib.Core.Bool.{Bool, true, false, _&&_}
 use mathlib.Core.List.{List, [], _∷_}
-use Prim.Native.Nat.{ℕ, suc, _+_, _*_, _-_, _≤_, _<_}
+use Prim.Native.Nat.{ℕ, suc, _+_, _-_, _≤_, _<_}
 use native.Mathlib.Omega.{arith}
 use lib.Dec.{T, leb, ltb, eqb}
-use lib.ListN.{length, getD, drop}
+use lib.ListN.{length, getD}
 use Rattle.model_text.proofs.Formed.{and-l, and-r}
 use Rattle.model_frame.specs.Bytes.{isBytes}
 use Rattle.model_frame.specs.Frame.{Change, setIncoming, setIncomingInFlight, setInFlight, recordMsg, recordBare, reset, setCreatedAt, setMarks, Fault}
@@ -15,7 +15,7 @@ use Rattle.model_frame.specs.Writing.{fineChange}
 use Rattle.model_frame.proofs.Le.{are-bytes}
 use Rattle.model_frame.proofs.SoundChange.{change-sound}
 use Rattle.model_session.specs.Session.{Session, fits, apply, applyAll, top}
-use Rattle.model.specs.Store.{Stored, Place, onStored, changed}
+use Rattle.model.specs.Store.{Place, onStored, changed}
 use Rattle.op.specs.Answers.{heldRun}
 use Rattle.hold.proofs.Held.{held-none, held-bad, held-more}
 use Rattle.place.specs.Place.{nextOutOf, sessionOf, placeIn}

@@ -1,22 +1,20 @@
 -- THE ABSTRACTION IS TOTAL AND ONTO: whatever areas hold is a list of places with holdable sessions, and every holdable session is
 -- held at any place in use by areas that differ only there. Assumes nothing.
-use mathlib.Core.Path.{_≡_, refl, sym, ap, _∙_}
-use mathlib.Core.Bool.{Bool}
-use mathlib.Core.List.{List, [], _∷_, _++_}
-use Prim.Native.Nat.{ℕ, zero, suc, _+_, _-_, _*_, _^_, _≤_, _<_, min}
+use mathlib.Core.Path.{_≡_, refl, sym, _∙_}
+use mathlib.Core.List.{List, _++_}
+use Prim.Native.Nat.{ℕ, zero, suc, _+_, _-_, _^_, _<_, min}
 use native.Mathlib.Omega.{arith}
 use lib.ListN.{length, take, drop, getD, length-take}
 use borrow.Rule.Slice.PartMut.{midOf, postOf, putMid}
-use Rattle.model_frame.specs.Frame.{Key}
 use Rattle.model_frame.specs.Parse.{Each}
-use Rattle.model_session.specs.Session.{Session, Holdable}
-use Rattle.model.specs.Store.{Stored, Place, onStored}
+use Rattle.model_session.specs.Session.{Holdable}
+use Rattle.model.specs.Store.{Stored, Place}
 use Rattle.log.proofs.Lawful.{Small, small-take, small-drop, small-append}
-use Rattle.place.specs.Place.{field, keyOf, sessionOf, placeIn}
+use Rattle.place.specs.Place.{field, keyOf, placeIn}
 use Rattle.place.proofs.Holding.{holdable, Kept, Short, ShortKey, kept}
 use Rattle.areas.specs.declared.Shape.{Shape}
 use Rattle.areas.specs.Areas.{placeWords, placeBytes, wordsAt, bytesAt, Rules, part, placeAt, countUp, placesOf, Changed}
-use Rattle.areas.proofs.Lifting.{Within, within, part-length, lent-place, lift-both, rules-kept}
+use Rattle.areas.proofs.Lifting.{Within, within, part-length, lift-both, rules-kept}
 
 -- ---- total
 

@@ -1,15 +1,14 @@
 -- What is said of the words and bytes of one place, said of the store. Assumes nothing.
 use mathlib.Core.Path.{_≡_, refl, sym, ap, _∙_, subst}
 use mathlib.Core.Logic.{_⊎_, inl, inr}
-use mathlib.Core.List.{List, [], _∷_, _++_}
-use mathlib.Core.Option.{Option, none, some, Option·map}
-use Prim.Native.Nat.{ℕ, suc, _+_, _-_, _*_, _≤_, _<_}
+use mathlib.Core.List.{List, _++_}
+use mathlib.Core.Option.{Option, some, Option·map}
+use Prim.Native.Nat.{ℕ, _+_, _-_, _*_, _≤_, _<_}
 use native.Mathlib.Omega.{arith}
 use lib.ListN.{length, take, drop, getD, getElem?}
 use lib.Seq.{length-take-le, take-at, drop-at}
 use borrow.Rule.Slice.PartMut.{midOf, postOf, putMid, mid-len}
-use Rattle.model_session.specs.Session.{Session}
-use Rattle.model.specs.Store.{Stored, Place, onStored, onPlace, sessionAt}
+use Rattle.model.specs.Store.{Stored, Place, onStored, sessionAt}
 use Rattle.place.specs.Only.{Only}
 use Rattle.place.specs.Place.{placeIn}
 use Rattle.place.proofs.Fields.{only-none, only-put}

@@ -2,11 +2,11 @@
 use mathlib.Core.Path.{_≡_, refl, sym, ap, _∙_}
 use mathlib.Core.Logic.{_⊎_, inl, inr}
 use mathlib.Core.List.{List, [], _∷_, _++_}
-use mathlib.Core.Option.{Option, none, some}
+use mathlib.Core.Option.{some}
 use Prim.Native.Nat.{ℕ, zero, suc, _+_, _-_, _*_, _≤_, _<_}
 use native.Mathlib.Omega.{arith}
 use native.Mathlib.Nat.{mul-le-mul-right, suc-mul}
-use lib.ListN.{length, take, drop, getD, getElem?}
+use lib.ListN.{length, take, getD, getElem?}
 use lib.Seq.{getD-take}
 use Rattle.model.specs.Store.{Stored, Place, onStored, onPlace}
 use Rattle.log.proofs.Walk.{cmp}

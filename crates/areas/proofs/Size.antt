@@ -1,5 +1,5 @@
 -- What a caller lends at most, in bytes: (S + 1) × (C + 64 × M + 1,024). Assumes nothing.
-use Prim.Native.Nat.{ℕ, _+_, _*_, _≤_}
+use Prim.Native.Nat.{_+_, _*_, _≤_}
 use native.Mathlib.Omega.{arith}
 use Rattle.areas.specs.declared.Shape.{Shape}
 use Rattle.areas.specs.Areas.{placeWords, placeBytes}

@@ -4,10 +4,9 @@
 use mathlib.Core.Path.{_≡_}
 use Prim.Native.Nat.{ℕ, zero, suc, _+_, _-_, _*_, _≤_, _<_}
 use mathlib.Core.Bool.{Bool, true, false, _&&_}
-use mathlib.Core.List.{List, [], _∷_, _++_}
+use mathlib.Core.List.{List, [], _∷_}
 use lib.ListN.{length, take, drop, getD, set}
 use lib.Dec.{leb}
-use Rattle.model_session.specs.Session.{Session}
 use Rattle.model.specs.Store.{Stored, Place, onPlace}
 use Rattle.place.specs.Only.{Only}
 use Rattle.place.specs.Place.{placeIn}

@@ -1,20 +1,19 @@
 -- Writing the frame of a batch piece by piece. Assumes nothing.
-use mathlib.Core.Path.{_≡_, refl, sym, ap, subst, _∙_}
-use mathlib.Core.Bool.{Bool, true, false, cond}
+use mathlib.Core.Path.{_≡_, _∙_}
 use mathlib.Core.List.{List, [], _∷_, _++_, append-assoc, append-nil}
-use Prim.Native.Nat.{ℕ, zero, suc, _+_, _≤_, _<_}
+use Prim.Native.Nat.{ℕ, _+_, _<_}
 use native.Mathlib.Omega.{arith}
 use lib.ListN.{length, length-append}
 use Rattle.model_frame.specs.Bytes.{bytesOf, write}
 use Rattle.model_frame.specs.Frame.{Change, Part, commit, whole, lastWhole, batch}
 use Rattle.model_frame.specs.Parse.{runBytes}
-use Rattle.model_frame.specs.Writing.{changeBytes, appRecordBytes, sizes, partNumber, bodyBytes, encode}
+use Rattle.model_frame.specs.Writing.{changeBytes, sizes, partNumber, bodyBytes, encode}
 use Rattle.model_frame.proofs.Le.{length-bytes}
 use Rattle.model_frame.proofs.Runs.{run-append, sizes-append}
-use Rattle.model_frame.proofs.Sizes.{changes-size, body-size, encode-size}
+use Rattle.model_frame.proofs.Sizes.{body-size, encode-size}
 use Rattle.laws.specs.Wrote.{Wrote}
 use Rattle.laws.proofs.Little.{write-on}
-use Rattle.laws.proofs.Writes.{wrote-then, wrote-on, wrote-number}
+use Rattle.laws.proofs.Writes.{wrote-on}
 use Rattle.whole.proofs.Putting.{byte-one}
 use Rattle.header.specs.Ends.{Spans}
 use Rattle.batch.specs.Batch.{headBytes}

@@ -1,27 +1,24 @@
 -- Planning a batch: its parts are those of the cut. Assumes nothing.
-use mathlib.Core.Path.{_≡_, refl, sym, ap, subst, _∙_}
-use mathlib.Core.Bool.{Bool, true, false, cond}
+use mathlib.Core.Path.{_≡_, refl, sym, ap, _∙_}
 use mathlib.Core.List.{List, [], _∷_, _++_}
-use mathlib.Core.Option.{Option, none, some}
-use Prim.Native.Nat.{ℕ, zero, suc, _+_, _*_, _≤_, _<_, max}
+use Prim.Native.Nat.{ℕ, zero, suc, _+_, _≤_, max}
 use native.Mathlib.Omega.{arith}
 use lib.ListN.{length, length-append}
 use lib.Dec.{eqb}
 use borrow.Author.Tests.{eq-eqb, ne-eqb}
 use Rattle.model_frame.specs.Frame.{Change}
 use Rattle.model_frame.specs.Parse.{isEmpty}
-use Rattle.model_frame.specs.Writing.{sizes}
 use Rattle.model_frame.proofs.Runs.{sizes-append}
 use Rattle.model_session.specs.Session.{Session, Msg, Rising}
 use Rattle.model_session.specs.Summary.{numberedFrom}
-use Rattle.model_session.specs.Sender.{Cut, opening, cutBatch, cutFrom, messagesFrom}
-use Rattle.log.specs.Log.{logOf, restOf, Stands, From}
-use Rattle.whole.specs.Cut.{taken, leftOver, nextAfter, ends, goesFrom, Measured}
+use Rattle.model_session.specs.Sender.{opening, cutBatch, cutFrom, messagesFrom}
+use Rattle.log.specs.Log.{logOf, restOf, From}
+use Rattle.whole.specs.Cut.{taken, ends, goesFrom, Measured}
 use Rattle.whole.proofs.Counting.{rest-length}
-use Rattle.whole.proofs.Cutting.{cut-is, byParts, from-same}
+use Rattle.whole.proofs.Cutting.{cut-is, from-same}
 use Rattle.header.specs.declared.Header.{Header}
 use Rattle.batch.specs.declared.Plan.{Plan}
-use Rattle.header.specs.Ends.{Spans, openingOf, closingOf, endingOf}
+use Rattle.header.specs.Ends.{Spans, openingOf, endingOf}
 use Rattle.batch.specs.Batch.{sessionWith, changesOf, Planned, onward}
 
 empty-is : (n : ℕ) (ms : List Msg) → length ms ≡ n → eqb n 0 ≡ isEmpty ms

@@ -1,11 +1,10 @@
 -- The frame that is written is that of the session at the place. Assumes nothing.
-use mathlib.Core.Path.{_≡_, refl, sym, ap, subst, _∙_}
-use mathlib.Core.Bool.{Bool, true, false, cond}
-use mathlib.Core.List.{List, [], _∷_, _++_}
-use mathlib.Core.Option.{Option, none, some}
-use Prim.Native.Nat.{ℕ, zero, suc, _+_, _-_, _≤_, _<_}
+use mathlib.Core.Path.{_≡_, refl, sym, ap, _∙_}
+use mathlib.Core.Bool.{Bool, true, false}
+use mathlib.Core.List.{List, [], _∷_}
+use Prim.Native.Nat.{ℕ, _+_, _-_, _≤_, _<_}
 use native.Mathlib.Omega.{arith}
-use lib.ListN.{length, take, drop, getD, length-take, length-drop}
+use lib.ListN.{length, take, drop, length-take, length-drop}
 use Rattle.model_frame.specs.Bytes.{write}
 use Rattle.model_frame.specs.Frame.{Change, reset, Part, Frame, batch}
 use Rattle.model_frame.specs.Writing.{encode}
@@ -15,14 +14,13 @@ use Rattle.model_session.specs.Summary.{numberedFrom}
 use Rattle.model_session.specs.Whole.{stampPart, wholeBatches}
 use Rattle.log.specs.Log.{logOf}
 use Rattle.log.proofs.Lawful.{Small, small-take, small-drop, lawful}
-use Rattle.place.specs.Place.{nextOutOf, flightOf, stampOf, marksOf, flightIs, sessionOf}
+use Rattle.place.specs.Place.{nextOutOf, stampOf, sessionOf}
 use Rattle.place.proofs.Messages.{tail-is}
 use Rattle.whole.specs.Cut.{batchCount}
 use Rattle.whole.proofs.Counting.{count-is}
 use Rattle.whole.proofs.Cutting.{numbered-all}
 use Rattle.header.specs.declared.Header.{Header}
 use Rattle.batch.specs.declared.Plan.{Plan}
-use Rattle.batch.specs.declared.Written.{Written}
 use Rattle.batch.specs.declared.Written.the-variants.{Batch, TooShort}
 use Rattle.header.specs.Ends.{Heads}
 use Rattle.batch.specs.Batch.{sessionWith, changesOf, Planned, partIs, frameFrom, onward, WroteBatch}

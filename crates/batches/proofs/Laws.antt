@@ -4,39 +4,38 @@ use mathlib.Core.Path.{_≡_, refl, sym, ap, subst, _∙_}
 use mathlib.Core.Bool.{Bool, true, false, cond, not, _&&_, _||_, true≢false}
 use mathlib.Core.List.{List}
 use mathlib.Core.Option.{Option, none, some}
-use lib.ListN.{length, getD, take}
+use lib.ListN.{length, getD}
 use lib.Dec.{eqb, ltb}
 use borrow.Author.Tests.{lt-ltb, le-ltb, eqb-true}
+use Rattle.laws.proofs.Lists.{both}
 use Rattle.model_frame.specs.Bytes.{write}
 use Rattle.model_frame.specs.Frame.{Change, AppRecord, commit, whole, lastWhole, batch, nack, ack, staleEpoch, diverged}
 use Rattle.model_frame.specs.Frame as the-frame
 use Rattle.model_frame.specs.Parse.{isEmpty}
 use Rattle.model_frame.specs.Writing.{sizes}
-use Rattle.op.specs.Answers.{heldRun}
 use Rattle.frame.specs.declared.CommitNumber.{CommitNumber}
 use Rattle.frame.specs.declared.Epoch.{Epoch}
-use Rattle.row.specs.declared.Handle.{Handle}
 use Rattle.row.specs.declared.Seen.{Seen}
-use Rattle.areas.specs.Areas.{Rules, placesOf}
+use Rattle.areas.specs.Areas.{Rules}
 use Rattle.areas.proofs.Lifting.{places-length}
 use Rattle.settling.proofs.Laws.{touched-none}
 use Rattle.model.specs.Answer.{protocolVersion, reply, refused, isReply}
 use Rattle.model.specs.Answer as the-answer
-use Rattle.model.specs.State.{Bound, Counters, atEpoch}
+use Rattle.model.specs.State.{Bound, atEpoch}
 use Rattle.model.specs.State as state
 use Rattle.model.specs.Hold.{Written, heldBytes, writesPart, writesFrame}
 use Rattle.model.specs.Core.{Action, leave, store, Core, CoreResult, coreSays, coreRefuse, counting, coreHandle, coreBatch}
 use Rattle.on_batch.specs.declared.Done.{Done}
 use Rattle.on_batch.specs.State.{boundOf, coreAt}
 use Rattle.on_batch.specs.Part.{resultOf}
-use Rattle.on_handle.specs.Handling.{followsOf, foundOf, Sound, isHeld, areaAfter, HandleIs}
+use Rattle.on_handle.specs.Handling.{followsOf, foundOf, Sound, areaAfter, HandleIs}
 use Rattle.steps.specs.Steps.{isFound}
 use Rattle.outcome.specs.declared.Replica.{Replica}
 use Rattle.outcome.specs.declared.Settings.{Settings}
 use Rattle.outcome.specs.declared.Answer.{Answer}
 use Rattle.outcome.specs.declared.Outcome.{Outcome}
 use Rattle.outcome.specs.Answers.{answerOf, isRefused, isNack, isAck}
-use Rattle.outcome.specs.Outcomes.{countersOf, settingsOf, usedFor, leaving, storing, Lands}
+use Rattle.outcome.specs.Outcomes.{countersOf, settingsOf, leaving, storing, Lands}
 use Rattle.greet.specs.Greeting.{isQuiet}
 use Rattle.greet.proofs.Laws.{leaving-lands}
 use Rattle.batches.specs.Batches.{epochTo, foundFor, answerBy, settledOf, Kept, areaBy, foundAt, BatchIs}
@@ -272,10 +271,6 @@ module _ (s : Settings) (c : Replica) (seen : Seen) (h : ℕ) (e : Epoch) (n : C
         })
 
 -- ---- what the handle asks
-
-both : (x y : Bool) → (x && y) ≡ true → (x ≡ true) × (y ≡ true)
-both true y e = (refl, e)
-both false y e = absurd (true≢false (sym e))
 
 module _ (seen : Seen) (h : ℕ) (w area : List ℕ) (kept : isFound seen ≡ true → Kept seen w area) {found : Bool} (is : found ≡ foundFor seen h) where
   pub kept-of : found ≡ true → Kept seen w area

@@ -1,8 +1,8 @@
 -- What a Batch's answer says of its changes: whether they were held, how many places there are, whether its handle was bound. Assumes nothing.
 use Prim.Native.Nat.{ℕ}
-use mathlib.Core.Path.{_≡_, refl, sym, ap, _∙_}
+use mathlib.Core.Path.{_≡_, refl, ap, _∙_}
 use mathlib.Core.Bool.{Bool, true, false, cond, not, _&&_}
-use mathlib.Core.List.{List, [], _∷_, _++_}
+use mathlib.Core.List.{List, _++_}
 use mathlib.Core.Option.{Option, none, some}
 use lib.ListN.{length}
 use lib.Dec.{ltb}
@@ -10,11 +10,11 @@ use Rattle.model_frame.specs.Frame.{Change, Part, commit, whole, lastWhole, ack
 use Rattle.model_frame.specs.Parse.{isEmpty}
 use Rattle.model_frame.specs.Writing.{sizes}
 use Rattle.model_session.specs.Session.{fits}
-use Rattle.model.specs.Answer.{Answer, reply, refused, isReply}
-use Rattle.model.specs.Store.{Place, onPlace, changed, sessionAt, orNew}
+use Rattle.model.specs.Answer.{isReply}
+use Rattle.model.specs.Store.{changed, sessionAt, orNew}
 use Rattle.model.specs.State.{Settings, Bound, noneHeld}
 use Rattle.model.specs.Standby.{follows, raised, maxWhole, startsWithReset, holding}
-use Rattle.model.specs.Core.{Action, leave, store, clear, Core, CoreResult, coreSays, coreRefuse, coreSettle, coreHold, corePart, coreHandle}
+use Rattle.model.specs.Core.{Action, leave, store, clear, Core, CoreResult, coreSays, coreSettle, coreHold, corePart, coreHandle}
 use Rattle.model.proofs.Places.{length-on}
 
 -- ---- as many places as before

@@ -17,7 +17,7 @@ use Rattle.settling.specs.Settling.{Touched}
 use Rattle.model.specs.Answer.{protocolVersion}
 use Rattle.model.specs.State.{Bound}
 use Rattle.model.specs.Hold.{Written, writesFrame}
-use Rattle.model.specs.Core.{Action, leave, store, coreBatch}
+use Rattle.model.specs.Core.{leave, store, coreBatch}
 use Rattle.on_batch.specs.declared.Done.{Done}
 use Rattle.on_batch.specs.State.{boundOf, coreAt}
 use Rattle.on_handle.specs.Handling.{foundOf}

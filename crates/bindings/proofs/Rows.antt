@@ -5,11 +5,12 @@ use mathlib.Core.List.{List, [], _∷_}
 use mathlib.Core.Option.{Option, none, some}
 use Prim.Native.Nat.{ℕ, zero, suc, _+_, _*_, _<_, _≤_}
 use native.Mathlib.Omega.{arith}
-use native.Mathlib.Nat.{zero-add, suc-add, zero-mul, suc-mul}
+use native.Mathlib.Nat.{zero-mul, suc-mul}
 use lib.ListN.{length, getD, set, take, drop}
-use lib.Seq.{drop-drop, take-take, take-nil}
+use lib.Seq.{drop-drop, take-take}
 use lib.Dec.{eqb}
 use borrow.Author.Tests.{eqb-true, eqb-false, eq-eqb, ne-eqb}
+use Rattle.laws.proofs.Lists.{drop-take}
 use Rattle.row.specs.declared.Handle.{Handle}
 use Rattle.row.specs.Row.{isOf, isFree, next, findOf, freeOf, clearedAll}
 use Rattle.row.specs.Row as handles
@@ -23,12 +24,6 @@ eqb-comm a b = go (eqb a b) refl
     go : (t : Bool) → eqb a b ≡ t → t ≡ eqb b a
     go true h = sym (eq-eqb b a (sym (eqb-true a b h)))
     go false h = sym (ne-eqb b a (λ e. eqb-false a b h (sym e)))
-
--- a part, cut before or after its end is
-drop-take : (g k : ℕ) (l : List ℕ) → drop g (take (g + k) l) ≡ take k (drop g l)
-drop-take zero k l = ap (λ (n : ℕ). take n l) (zero-add k)
-drop-take (suc g) k [] = ap (drop (suc g)) (take-nil (suc g + k)) ∙ sym (take-nil k)
-drop-take (suc g) k (x ∷ l) = ap (λ (n : ℕ). drop (suc g) (take n (x ∷ l))) (suc-add g k) ∙ drop-take g k l
 
 -- ---- one place of a row, by whether it is used and whose it is
 

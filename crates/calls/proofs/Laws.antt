@@ -1,25 +1,24 @@
 -- Each way through the calls that carry no frame is the definition's. Assumes nothing.
-use Prim.Native.Nat.{ℕ, _+_, _*_, _≤_, _<_}
+use Prim.Native.Nat.{ℕ, _≤_}
 use mathlib.Core.Path.{_≡_, refl, sym, ap, subst, _∙_}
 use mathlib.Core.Bool.{Bool, true, false, cond, not, _&&_, _||_, true≢false}
-use mathlib.Core.List.{List, []}
+use mathlib.Core.List.{List}
 use native.Mathlib.Omega.{arith}
 use lib.ListN.{length, getD, set, length-set}
 use lib.Dec.{eqb, ltb}
 use borrow.Author.Tests.{eq-eqb, ne-eqb}
 use Rattle.row.specs.declared.Seen.{Seen}
 use Rattle.areas.specs.declared.Shape.{Shape}
-use Rattle.areas.specs.Areas.{wordsAt, bytesAt, allowed, Rules, placesOf}
+use Rattle.areas.specs.Areas.{wordsAt, bytesAt, allowed, Rules}
 use Rattle.areas.proofs.Ruling.{rules-of}
 use Rattle.place.specs.Only.{Only}
-use Rattle.pending.specs.Pending.{countOf, pendingOf}
 use Rattle.pending.proofs.Laws.{cleared}
 use Rattle.settling.proofs.Header.{pending-kept}
-use Rattle.commits.specs.Commits.{ranWords, Ran}
+use Rattle.commits.specs.Commits.{Ran}
 use Rattle.commits.proofs.Head.{word-same, used-kept, places-kept, rules-front, clear-only, clear-rules}
 use Rattle.sessions.specs.Answers.{TakenOver}
-use Rattle.model.specs.Answer.{protocolVersion, refused, done}
-use Rattle.model.specs.Store.{Place, onPlaces, takenOver}
+use Rattle.model.specs.Answer.{done}
+use Rattle.model.specs.Store.{onPlaces, takenOver}
 use Rattle.model.specs.State.{Call, flush, disconnectedFrom, promote, promoteUnchecked}
 use Rattle.model.specs.Core.{Core, CoreResult, leave, clear, coreRefuse, coreDone, coreRun, coreUnbound, corePromotion, coreStep}
 use Rattle.on_batch.specs.State.{coreAt}

@@ -1,15 +1,13 @@
 -- DEMAND 3 ON THE CODE, proved: the entry points' promises are the model's steps, and the model's theorem does the rest. Assumes nothing.
-use Prim.Native.Nat.{ℕ, _≤_}
-use mathlib.Core.Path.{_≡_, refl, sym, ap, subst, _∙_}
-use mathlib.Core.Bool.{Bool, true, false, cond, _&&_, true≢false}
+use Prim.Native.Nat.{ℕ}
+use mathlib.Core.Path.{_≡_, refl, sym, ap, _∙_}
+use mathlib.Core.Bool.{Bool, cond}
 use mathlib.Core.List.{List, [], _∷_, _++_, map}
 use mathlib.Core.Option.{some}
-use lib.ListN.{length}
-use lib.Dec.{T}
+use Rattle.laws.proofs.Lists.{both}
 use Rattle.model_frame.specs.Frame.{Frame}
 use Rattle.model_frame.specs.Writing.{encode}
 use Rattle.model_session.specs.Session.{Session}
-use Rattle.model_session.specs.Whole.{wholeFrames}
 use Rattle.areas.specs.declared.Shape.{Shape}
 use Rattle.areas.specs.Areas.{allowed, Rules, placesOf}
 use Rattle.areas.proofs.Ruling.{rules-of}
@@ -17,8 +15,7 @@ use Rattle.model.specs.Store.{sessionAt}
 use Rattle.model.specs.State.{Bound, Standby, Call, onFrameHeld}
 use Rattle.model.specs.State as state
 use Rattle.model.specs.Standby.{step, run}
-use Rattle.model.specs.PlainCopy.{OwnKey, copyAt, copyRun}
-use Rattle.model.specs.Demand.{allPlain}
+use Rattle.model.specs.PlainCopy.{OwnKey}
 use Rattle.model.specs.Demand as model
 use Rattle.model.proofs.Demand3 as theorem
 use Rattle.active.specs.declared.Sending.{Sending}
@@ -26,14 +23,9 @@ use Rattle.active.specs.declared.Sent
 use Rattle.active.specs.declared.Sent.{Sent}
 use Rattle.active.specs.Whole.{SendsWhole, Sofar, SentWhole}
 use Rattle.outcome.specs.declared.Settings.{Settings}
-use Rattle.outcome.specs.Outcomes.{settingsOf}
 use Rattle.steps.specs.Calls.{roomAll}
-use Rattle.demand.specs.Demand.{Lent, stands, settings, Allowed, Runs, First, tookLast, AllTaken, Start, framesOfA, Claim}
+use Rattle.demand.specs.Demand.{Lent, stands, settings, Runs, First, Start, framesOfA, Claim}
 use Rattle.demand.proofs.Model.{runs, modelled}
-
-both : (x y : Bool) → (x && y) ≡ true → (x ≡ true) × (y ≡ true)
-both true y e = (refl, e)
-both false y e = absurd (true≢false (sym e))
 
 run-append : (L : state.Settings) (st : Standby) (cs more : List Call) → run L (run L st cs) more ≡ run L st (cs ++ more)
 run-append L st [] more = refl

@@ -1,16 +1,14 @@
 -- Demand 3 on the code is no empty claim: areas of one place (C = 0, M = 0) that keep the rules, a handle bound in them, and a start. Assumes nothing.
-use Prim.Native.Nat.{ℕ, _≤_, _<_}
-use mathlib.Core.Path.{_≡_, refl, sym, ap, _∙_}
-use mathlib.Core.Bool.{Bool, true, false, cond, _&&_}
-use mathlib.Core.List.{List, [], _∷_}
-use mathlib.Core.Option.{Option, none, some, Option·map}
+use mathlib.Core.Path.{refl, ap}
+use mathlib.Core.Bool.{Bool, true, false, _&&_}
+use mathlib.Core.List.{[], _∷_}
+use mathlib.Core.Option.{Option, Option·map}
 use native.Mathlib.Omega.{arith}
-use lib.ListN.{length, take, replicate}
+use lib.ListN.{replicate}
 use Rattle.model_text.specs.Printable.{isPlain, isPrintable, isMarks}
-use Rattle.model_session.specs.Session.{Session, newSession, Holdable}
+use Rattle.model_session.specs.Session.{newSession, Holdable}
 use Rattle.model_session.specs.Whole.{wholeBatches}
 use Rattle.row.specs.declared.Handle.{Handle}
-use Rattle.areas.specs.declared.Shape.{Shape}
 use Rattle.areas.specs.Areas.{allowed, placeAt, placesOf, Rules}
 use Rattle.areas.proofs.Ruling.{rules-true}
 use Rattle.areas.proofs.Lifting.{place-is, session-is}
@@ -18,7 +16,6 @@ use Rattle.hold.proofs.Held.{held-none}
 use Rattle.model.specs.Answer.{protocolVersion}
 use Rattle.model.specs.Store.{Place}
 use Rattle.model.specs.State.{Bound}
-use Rattle.model.specs.PlainCopy.{OwnKey}
 use Rattle.model.proofs.Places.{own-made}
 use Rattle.on_batch.specs.State.{boundOf}
 use Rattle.outcome.specs.declared.Settings.{Settings}

@@ -2,9 +2,8 @@
 use Prim.Native.Nat.{ℕ}
 use mathlib.Core.Path.{_≡_, refl, sym, ap, subst, _∙_}
 use mathlib.Core.Bool.{Bool, true, false, cond, _&&_, _||_}
-use mathlib.Core.List.{List, [], _∷_, _++_}
+use mathlib.Core.List.{List}
 use lib.Dec.{T, eqb}
-use lib.ListN.{length}
 use Rattle.model_frame.specs.Frame.{Frame}
 use Rattle.model_frame.specs.Parse.{isEmpty}
 use Rattle.model.specs.Answer.{accepted}
@@ -12,7 +11,7 @@ use Rattle.model.specs.Answer as answer
 use Rattle.model.specs.State.{Standby, Call, Result}
 use Rattle.model.specs.State as state
 use Rattle.model.specs.Standby.{step, run}
-use Rattle.model.specs.Demand.{Hands, Aside, FirstList}
+use Rattle.model.specs.Demand.{Aside, FirstList}
 use Rattle.model.specs.Demand as model
 use Rattle.outcome.specs.declared.Settings.{Settings}
 use Rattle.outcome.specs.declared.Answer.{Answer}

@@ -1,20 +1,18 @@
 -- The hold areas: where one begins, and that what is written to one is written to all at its place. Assumes nothing.
 use Prim.Native.Nat.{ℕ, zero, suc, _+_, _-_, _*_, _/_, _%_, _<_, _≤_}
-use mathlib.Core.Path.{_≡_, refl, sym, ap, subst, _∙_}
-use mathlib.Core.Bool.{Bool, true, false, cond, not, _&&_, _||_, true≢false}
+use mathlib.Core.Path.{_≡_, refl, sym, ap, _∙_}
+use mathlib.Core.Bool.{Bool, true, false, cond}
 use mathlib.Core.List.{List, [], _∷_, _++_}
-use mathlib.Core.Option.{Option, none, some}
 use native.Mathlib.Omega.{arith}
-use native.Mathlib.Nat.{zero-add, suc-add, add-suc, zero-mul, mul-zero, div-add-mod', mul-comm}
+use native.Mathlib.Nat.{zero-add, suc-add, zero-mul, mul-zero, div-add-mod', mul-comm}
 use lib.ListN.{length, set, take, drop, length-set, take-append-drop}
 use lib.Seq.{sets, set-append-left, length-take-le}
-use lib.Dec.{eqb, ltb}
+use lib.Dec.{eqb}
 use borrow.Author.Tests.{eqb-true, eqb-false, ltb-true, ltb-false}
 use borrow.Rule.Slice.PartMut.{midOf, postOf, putMid}
 use Rattle.model_frame.specs.Bytes.{write}
 use Rattle.row.specs.declared.Seen.{Seen}
 use Rattle.areas.proofs.Lists.{inside}
-use Rattle.outcome.specs.Outcomes.{areaAt}
 use Rattle.steps.specs.Steps.{roomOf, roomIn, isFound}
 use Rattle.due_batch.specs.DueBatch.{spotIn}
 

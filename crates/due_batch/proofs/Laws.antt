@@ -5,10 +5,11 @@ use mathlib.Core.Bool.{Bool, true, false, cond, not, _&&_, _||_, true≢false}
 use mathlib.Core.List.{List, [], _++_}
 use mathlib.Core.Option.{Option, none, some}
 use native.Mathlib.Omega.{arith}
-use lib.ListN.{length, getD, take, drop}
+use lib.ListN.{length, getD}
 use lib.Dec.{eqb, ltb, leb}
-use borrow.Author.Tests.{eq-eqb, ltb-false, ltb-true, leb-false}
+use borrow.Author.Tests.{eq-eqb, ltb-false, leb-false}
 use borrow.Rule.Slice.PartMut.{midOf, putMid, put-same, mid-len}
+use Rattle.laws.proofs.Lists.{both}
 use Rattle.model_frame.specs.Bytes.{write}
 use Rattle.model_frame.specs.Frame.{Change, AppRecord, commit, whole, lastWhole, batch}
 use Rattle.model_frame.specs.Frame as the-frame
@@ -28,23 +29,18 @@ use Rattle.model.specs.State.{Bound, Counters}
 use Rattle.model.specs.State as state
 use Rattle.model.specs.Standby.{follows, startsWithReset, raised, maxWhole, pendsOn}
 use Rattle.model.specs.Hold.{Written, heldBytes, heldPasses, writesAt, writesPart, writesFrame}
-use Rattle.model.specs.Core.{Action, leave, store, clear, Core, CoreResult, coreRun, coreBatch}
+use Rattle.model.specs.Core.{leave, store, clear, coreRun, coreBatch}
 use Rattle.on_batch.specs.State.{boundOf, coreAt}
 use Rattle.on_handle.specs.Handling.{foundOf}
 use Rattle.outcome.specs.declared.Replica.{Replica}
 use Rattle.outcome.specs.declared.Settings.{Settings}
 use Rattle.outcome.specs.declared.Outcome.{Outcome}
 use Rattle.outcome.specs.Answers.{answerOf}
-use Rattle.outcome.specs.Outcomes.{countersOf, settingsOf, areaAt, outcomeOf, spotOf, Lands}
-use Rattle.greet.specs.Greeting.{isQuiet}
-use Rattle.steps.specs.Steps.{roomOf, roomIn, isFound, foundIn, FrameLeaves, holdsAfter}
+use Rattle.outcome.specs.Outcomes.{countersOf, settingsOf, areaAt, spotOf, Lands}
+use Rattle.steps.specs.Steps.{roomIn, isFound, foundIn, holdsAfter}
 use Rattle.batches.specs.Batches.{foundFor, Kept, areaBy, foundAt, BatchIs}
 use Rattle.due_batch.specs.DueBatch.{spotIn, Holds, dueBatch, BatchIn}
 use Rattle.due_batch.proofs.Areas.{within, write-part}
-
-both : (x y : Bool) → (x && y) ≡ true → (x ≡ true) × (y ≡ true)
-both true y e = (refl, e)
-both false y e = absurd (true≢false (sym e))
 
 -- ---- what is written fits the area
 

@@ -1,5 +1,5 @@
 -- For each kind of frame: when it can be written, how long its body is, and what was written. Assumes nothing.
-use mathlib.Core.Path.{_≡_, refl, sym, ap, _∙_}
+use mathlib.Core.Path.{_≡_, refl, sym, _∙_}
 use mathlib.Core.Bool.{Bool, true, false, _&&_}
 use mathlib.Core.List.{List, [], _∷_, _++_, append-assoc}
 use Prim.Native.Nat.{ℕ, _+_, _-_, _*_, _^_, _≤_, _<_}
@@ -13,7 +13,7 @@ use Rattle.model_frame.specs.Bytes.{isBytes, bytesOf}
 use Rattle.model_frame.specs.Frame.{Part, Reason, AppRecord, Frame, hello, welcome, bind, batch, ack, nack, bound, checked, Fault}
 use Rattle.model_frame.specs.Parse.{Parser, ok, bad, num, many, forget, runBytes, Each}
 use Rattle.model_frame.specs.Reading.{readChange, appRecord}
-use Rattle.model_frame.specs.Writing.{blobBytes, changeBytes, appRecordBytes, partNumber, bodyBytes, fine, fineKey, fineSummary, allFine, RangedRecord, ByteRecord}
+use Rattle.model_frame.specs.Writing.{blobBytes, changeBytes, appRecordBytes, partNumber, bodyBytes, fine, fineKey, fineSummary, RangedRecord, ByteRecord}
 use Rattle.model_frame.proofs.Le.{bytes-each, bytes-drop}
 use Rattle.model_frame.proofs.Canon.{Was, Canon, run-canon, num-canon, Run}
 use Rattle.model_frame.proofs.RoundTrip.{and-left, and-right}
@@ -30,7 +30,7 @@ use Rattle.op.specs.Answers.{runOf}
 use Rattle.parts.specs.declared.SessionId.{SessionId}
 use Rattle.parts.specs.declared.Summary as the-summary
 use Rattle.parts.specs.Answers.{keyOf, summaryOf}
-use Rattle.print.specs.Encoding.{spanFits, isOk, runReads, keyFits, summaryFits}
+use Rattle.print.specs.Encoding.{spanFits, runReads, keyFits, summaryFits}
 use Rattle.print.proofs.Fits.{span-length, numbers-read}
 use Rattle.print.proofs.Encoded.{Ready, Unready}
 

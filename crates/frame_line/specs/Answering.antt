@@ -2,10 +2,13 @@
 use Prim.Native.Nat.{ℕ}
 use mathlib.Core.Path.{_≡_}
 use mathlib.Core.Bool.{true}
-use mathlib.Core.List.{List}
+use mathlib.Core.List.{List, []}
 use mathlib.Core.Option.{Option, none, some}
-use lib.ListN.{length, take}
-use Rattle.model_text.specs.Hex.{lineBytes, refusalText}
+use lib.ListN.{take}
+use Rattle.model_text.specs.Hex.{hexOf, lineBytes, refusalText}
+use Rattle.model_frame.specs.Writing.{encode}
+use Rattle.model.specs.Answer as the-answer
+use Rattle.model.specs.Answer.{reply, refused, done}
 use Rattle.model.specs.State as the-state
 use Rattle.model.specs.State.{Standby, onFrame}
 use Rattle.model.specs.Standby.{step}
@@ -16,7 +19,6 @@ use Rattle.outcome.specs.declared.Settings.{Settings}
 use Rattle.outcome.specs.declared.Answer.{Answer}
 use Rattle.outcome.specs.Answers.{answerOf}
 use Rattle.outcome.specs.Outcomes.{settingsOf}
-use Rattle.reply_text.specs.Texts.{answerText}
 use Rattle.steps.specs.Calls.{roomAll, standbyOf, allowedAll, Called}
 
 -- four sessions, C 4,096, M 64, incarnation 7, lag 0
@@ -25,32 +27,38 @@ theSettings = record { shape = record { places = 4; bytes = 4096; messages = 64 
 
 -- ---- a line on the definition's standby
 
+-- the digits of the frame that is answered, or R and the refusal; no frame is answered with 'done'
+abbrev pub lineText : the-answer.Answer → List ℕ
+lineText (reply f) = hexOf (encode f)
+lineText (refused n) = refusalText n
+lineText done = []
+
 pub record Spoken : Type 0 where
   pub state : Standby
   pub text : List ℕ
 
 -- what a call gives, as a text
-abbrev pub spoken : ℕ → the-state.Result → Spoken
-spoken room r = record { state = r .state; text = answerText room (r .answer) }
+abbrev pub spoken : the-state.Result → Spoken
+spoken r = record { state = r .state; text = lineText (r .answer) }
 
 -- 26 for a line that has no bytes, and nothing changes; else the call
-abbrev pub onBytes : the-state.Settings → ℕ → Standby → Option (List ℕ) → Spoken
-onBytes L room st none = record { state = st; text = refusalText 26 }
-onBytes L room st (some f) = spoken room (step L st (onFrame f))
+abbrev pub onBytes : the-state.Settings → Standby → Option (List ℕ) → Spoken
+onBytes L st none = record { state = st; text = refusalText 26 }
+onBytes L st (some f) = spoken (step L st (onFrame f))
 
-abbrev pub lineStep : the-state.Settings → ℕ → Standby → List ℕ → Spoken
-lineStep L room st l = onBytes L room st (lineBytes l)
+abbrev pub lineStep : the-state.Settings → Standby → List ℕ → Spoken
+lineStep L st l = onBytes L st (lineBytes l)
 
 -- ---- a line on the lent areas, and its text
 
-pub data Heard (l : List ℕ) (room : ℕ) (c c' : Replica) (row row' : List Handle) (w w' b b' h h' : List ℕ) : List ℕ → Type 0 where
-  unread : lineBytes l ≡ none → c' ≡ c → row' ≡ row → w' ≡ w → b' ≡ b → h' ≡ h → Heard l room c c' row row' w w' b b' h h' (refusalText 26)
-  called : (f : List ℕ) (a : Answer) → lineBytes l ≡ some f → Called theSettings (onFrame f) c c' row row' w w' b b' h h' a → Heard l room c c' row row' w w' b b' h h' (answerText room (answerOf b' a))
+pub data Heard (l : List ℕ) (c c' : Replica) (row row' : List Handle) (w w' b b' h h' : List ℕ) : List ℕ → Type 0 where
+  unread : lineBytes l ≡ none → c' ≡ c → row' ≡ row → w' ≡ w → b' ≡ b → h' ≡ h → Heard l c c' row row' w w' b b' h h' (refusalText 26)
+  called : (f : List ℕ) (a : Answer) → lineBytes l ≡ some f → Called theSettings (onFrame f) c c' row row' w w' b b' h h' a → Heard l c c' row row' w w' b b' h h' (lineText (answerOf b' a))
 
 -- the text stands at the start of the output area, the rest of which is as it was; and state and text are the definition's
-pub record AnswersLine (l : List ℕ) (room : ℕ) (c c' : Replica) (row row' : List Handle) (w w' b b' h h' out out' : List ℕ) (len : ℕ) : Type 0 where
+pub record AnswersLine (l : List ℕ) (c c' : Replica) (row row' : List Handle) (w w' b b' h h' out out' : List ℕ) (len : ℕ) : Type 0 where
   pub text : List ℕ
-  pub heard : Heard l room c c' row row' w w' b b' h h' text
+  pub heard : Heard l c c' row row' w w' b b' h h' text
   pub puts : Puts text out out' len
   pub is : allowedAll theSettings row w b h ≡ true
-      → record { state = standbyOf theSettings c' row' w' b' h'; text = take len out' } ≡ lineStep (settingsOf theSettings (roomAll row h)) room (standbyOf theSettings c row w b h) l
+      → record { state = standbyOf theSettings c' row' w' b' h'; text = take len out' } ≡ lineStep (settingsOf theSettings (roomAll row h)) (standbyOf theSettings c row w b h) l

@@ -53,7 +53,7 @@ pub fn answer_line(
 ) -> Told
     requires { ⌜ 8192 ≤ length (now buf) ⌝ }
     requires { ⌜ 2 * length (now buf) ≤ length (now out) ⌝ }
-    ensures { λ r. ⌜ AnswersLine (now (line .entry)) (length (now (buf .entry))) c (r .replica) row (r .row) (now (words .entry)) (now (words .exit)) (now (bytes .entry)) (now (bytes .exit)) (now (holds .entry)) (now (holds .exit)) (now (out .entry)) (now (out .exit)) (r .len) ⌝ }
+    ensures { λ r. ⌜ AnswersLine (now (line .entry)) c (r .replica) row (r .row) (now (words .entry)) (now (words .exit)) (now (bytes .entry)) (now (bytes .exit)) (now (holds .entry)) (now (holds .exit)) (now (out .entry)) (now (out .exit)) (r .len) ⌝ }
 {
     match hex::read_line(line, buf) {
         Line::Bytes(n) => {

@@ -2,18 +2,15 @@
 use mathlib.Core.Path.{_≡_, refl, sym, ap, subst, _∙_}
 use mathlib.Core.Bool.{Bool, true, false, cond, not, true≢false}
 use mathlib.Core.List.{List, []}
-use Prim.Native.Nat.{ℕ, suc, _+_, _<_, _≤_, max, min}
-use native.Mathlib.Omega.{arith}
-use native.Mathlib.Numerals.{add-one}
+use Prim.Native.Nat.{ℕ, _<_, _≤_, max}
 use lib.Dec.{eqb, ltb}
 use borrow.Author.Tests.{lt-ltb, le-ltb, ne-eqb, eq-eqb}
 use Rattle.model_frame.specs.Frame.{welcome, nack, ack, staleEpoch, restarted}
 use Rattle.model_frame.specs.Parse.{isEmpty}
 use Rattle.frame.specs.declared.Epoch.{Epoch}
 use Rattle.frame.specs.declared.Incarnation.{Incarnation}
-use Rattle.frame.specs.declared.CommitNumber.{CommitNumber}
 use Rattle.row.specs.declared.Seen.{Seen}
-use Rattle.model.specs.Answer.{reply, refused}
+use Rattle.model.specs.Answer.{reply}
 use Rattle.model.specs.Store.{Place}
 use Rattle.model.specs.State.{connected, checkedAt}
 use Rattle.model.specs.State as state

@@ -1,21 +1,18 @@
 -- What stands before the messages of a whole sending, and after them. Assumes nothing.
-use mathlib.Core.Path.{_≡_, refl, sym, ap, subst, _∙_}
-use mathlib.Core.Bool.{true, false}
-use mathlib.Core.List.{List, [], _∷_, _++_, append-assoc, append-nil}
-use mathlib.Core.Option.{Option, none, some}
+use mathlib.Core.Path.{_≡_, refl, sym, ap, _∙_}
+use mathlib.Core.List.{List, [], _∷_, _++_, append-nil}
 use Prim.Native.Nat.{ℕ, zero, suc, _+_, _-_, _≤_, _<_}
 use native.Mathlib.Omega.{arith}
-use lib.ListN.{length, length-append}
-use lib.Dec.{ltb}
+use lib.ListN.{length}
 use borrow.Author.Tests.{lt-ltb, le-ltb}
 use Rattle.model_frame.specs.Bytes.{bytesOf, write}
-use Rattle.model_frame.specs.Frame.{Change, setIncoming, setIncomingInFlight, reset, setCreatedAt, setMarks, recordBare}
+use Rattle.model_frame.specs.Frame.{Change, setIncomingInFlight, reset, setCreatedAt, setMarks, recordBare}
 use Rattle.model_frame.specs.Parse.{runBytes}
 use Rattle.model_frame.specs.Writing.{blobBytes, changeBytes, sizeOf, sizes}
 use Rattle.model_frame.proofs.Le.{length-bytes}
 use Rattle.model_frame.proofs.Runs.{run-append, sizes-append}
 use Rattle.model_frame.proofs.Sizes.{change-size, changes-size}
-use Rattle.model_session.specs.Whole.{skipTo, incomingPart}
+use Rattle.model_session.specs.Whole.{skipTo}
 use Rattle.laws.specs.Wrote.{Wrote}
 use Rattle.laws.proofs.Writes.{wrote-then, wrote-on, wrote-number}
 use Rattle.whole.proofs.Putting.{wrote-none}

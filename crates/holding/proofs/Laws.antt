@@ -1,5 +1,5 @@
 -- The ways out of holding, each over what was found before it. Assumes nothing.
-use mathlib.Core.Path.{_≡_, refl, sym, ap, subst, _∙_}
+use mathlib.Core.Path.{_≡_, refl, sym, ap, _∙_}
 use mathlib.Core.Bool.{Bool, true, false, cond, not, _&&_}
 use mathlib.Core.List.{List, [], _∷_}
 use Prim.Native.Nat.{ℕ, _+_, _-_, _<_, _≤_, min}
@@ -18,7 +18,6 @@ use Rattle.op.specs.Answers.{heldRun}
 use Rattle.model_frame.proofs.Le.{are-bytes, bytes-take}
 use Rattle.hold.specs.Held.{TakesAll}
 use Rattle.hold.proofs.Held.{held-sizes}
-use Rattle.holding.specs.declared.Held.{Held}
 use Rattle.holding.specs.Holding.{sumOf, refusalOf, Holds}
 
 positive : (c : Change) → 0 < sizeOf c

@@ -1,7 +1,7 @@
 -- Holding a part of a session that is sent whole: 16, 17, 18, or its changes after those held. Assumes nothing.
 use mathlib.Core.Path.{_≡_}
-use mathlib.Core.Bool.{Bool, cond, not, _&&_}
-use mathlib.Core.List.{List, _++_}
+use mathlib.Core.Bool.{cond, not, _&&_}
+use mathlib.Core.List.{List}
 use Prim.Native.Nat.{ℕ, _+_, min}
 use lib.ListN.{length, take}
 use lib.Dec.{ltb, eqb}

@@ -5,11 +5,11 @@ use mathlib.Core.List.{List, [], _∷_, _++_}
 use Prim.Native.Nat.{ℕ, suc, _+_, _-_, _<_, _≤_}
 use native.Mathlib.Omega.{arith}
 use native.Mathlib.Numerals.{add-one}
-use native.Mathlib.Nat.{le-antisymm}
-use lib.ListN.{length, getD, set, take, drop, length-set, length-drop, length-take, drop-of-length-le}
-use lib.Seq.{take-suc, take-suc-set, getD-drop, getD-take, take-add, drop-at, drop-cons, length-take-le}
+use lib.ListN.{length, getD, set, take, drop, length-set, length-drop, drop-of-length-le}
+use lib.Seq.{take-suc, take-suc-set, getD-drop, getD-take, drop-cons, length-take-le}
 use lib.Dec.{ltb}
 use borrow.Author.Tests.{ltb-false, lt-ltb, le-ltb}
+use Rattle.laws.proofs.Lists.{drop-take}
 use Rattle.lag.specs.declared.ReplicatedLog.{ReplicatedLog}
 use Rattle.lag.specs.Queue.{Drains, Answers}
 use Rattle.model_session.specs.Lag.{Pushed, over, drain, push}
@@ -31,16 +31,12 @@ moves gone n q out j long few m less = record {
       rw (add-one, take-suc-set out j (getD q (gone + j) 0) inside, take-suc (drop gone q) j 0 left, getD-drop gone q j 0, m .front) refl;
 }
 
--- a part, cut before or after its end is
-pub drop-take : (g k : ℕ) (l : List ℕ) → g ≤ length l → take k (drop g l) ≡ drop g (take (g + k) l)
-drop-take g k l h = sym (ap (drop g) (take-add g k l) ∙ drop-at (take g l) (take k (drop g l)) g (length-take-le g l h))
-
 pub moved-all : (gone n : ℕ) (q out : List ℕ) (j : ℕ) → length q ≡ 65 → n ≤ 65 → gone ≤ n → Moving gone n q out j → n - gone ≤ j → take (n - gone) out ≡ drop gone (take n q)
 moved-all gone n q out j long few le m end =
     let last : j ≡ n - gone = omega (arith, m .upto) in
     let sum : gone + (n - gone) ≡ n = omega arith in
     let inside : gone ≤ length q = omega arith in
-    ap (λ (k : ℕ). take k out) (sym last) ∙ m .front ∙ ap (λ (k : ℕ). take k (drop gone q)) last ∙ drop-take gone (n - gone) q inside ∙ ap (λ (k : ℕ). drop gone (take k q)) sum
+    ap (λ (k : ℕ). take k out) (sym last) ∙ m .front ∙ ap (λ (k : ℕ). take k (drop gone q)) last ∙ sym (drop-take gone (n - gone) q) ∙ ap (λ (k : ℕ). drop gone (take k q)) sum
 
 -- ---- draining the front
 

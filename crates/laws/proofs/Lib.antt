@@ -1,4 +1,5 @@
 pub mod Little
+pub mod Lists
 pub mod Places
 pub mod Runs
 pub mod StandsAt

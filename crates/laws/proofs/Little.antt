@@ -1,5 +1,5 @@
 -- The laws of little-endian numbers, once over the width: a number of m + n bytes is its low m bytes and its high n. Assumes nothing.
-use mathlib.Core.Path.{_≡_, refl, sym, ap, ap₂, _∙_}
+use mathlib.Core.Path.{_≡_, refl, sym}
 use mathlib.Core.List.{List, [], _∷_, _++_, append-assoc}
 use Prim.Native.Nat.{ℕ, zero, suc, _+_, _*_, _/_, _%_, _^_, _<_, _≤_}
 use native.Mathlib.Nat.{zero-add, suc-add, add-suc, add-zero, pow-succ', pow-suc, mul-assoc, div-one, div-div-eq-div-mul, mod-eq-of-lt}

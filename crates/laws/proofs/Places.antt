@@ -1,7 +1,7 @@
 -- The laws of the parsers at a position of a buffer, once over the width. Assumes nothing.
-use mathlib.Core.Path.{_≡_, refl, sym, ap, _∙_}
+use mathlib.Core.Path.{_≡_, sym, _∙_}
 use mathlib.Core.List.{List, [], _∷_}
-use Prim.Native.Nat.{ℕ, zero, suc, _+_, _-_, _*_, _^_, _≤_, _<_}
+use Prim.Native.Nat.{ℕ, suc, _+_, _-_, _*_, _^_, _≤_, _<_}
 use native.Mathlib.Nat.{lt-of-le-of-lt, mul-le-mul-left}
 use lib.Dec.{leb}
 use native.Mathlib.Omega.{arith}
@@ -11,7 +11,7 @@ use lib.ListN.{length, take, drop, getD, length-drop, drop-of-length-le}
 use lib.Seq.{drop-drop, drop-cons, take-all, take-nil}
 use Rattle.model_frame.specs.Bytes.{le, leAt}
 use Rattle.model_frame.specs.Frame.{truncated}
-use Rattle.model_frame.specs.Parse.{Res, ok, bad, bytes, num}
+use Rattle.model_frame.specs.Parse.{ok, bad, bytes, num}
 
 pub bytes-short : (n : ℕ) (b : List ℕ) (at : ℕ) {k : ℕ} → k ≡ length b - at → k < n → bytes n (drop at b) ≡ bad truncated
 unfolding bytes

@@ -1,7 +1,7 @@
 -- A few cases of the definitions, which antt computes. Assumes nothing.
 use mathlib.Core.Path.{_≡_, refl}
-use mathlib.Core.List.{List, [], _∷_}
-use Rattle.model_session.specs.Session.{Msg, keep}
+use mathlib.Core.List.{[], _∷_}
+use Rattle.model_session.specs.Session.{keep}
 use Rattle.log.specs.Log.{msg, logOf}
 
 -- no room for the bytes: the oldest two go

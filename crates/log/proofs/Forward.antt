@@ -1,15 +1,13 @@
 -- Reading the messages from the oldest on. Assumes nothing.
 use mathlib.Core.Path.{_≡_, refl, sym, ap, _∙_}
-use mathlib.Core.Bool.{Bool, true, false, cond}
 use mathlib.Core.Logic.{_⊎_, inl, inr}
-use mathlib.Core.List.{List, [], _∷_, _++_, append-nil, reverse, reverse-cons, reverse-append}
-use Prim.Native.Nat.{ℕ, zero, suc, _+_, _-_, _*_, _≤_, _<_}
+use mathlib.Core.List.{List, [], _∷_, _++_, append-nil, reverse, reverse-cons}
+use Prim.Native.Nat.{ℕ, zero, suc, _+_, _-_, _≤_, _<_}
 use native.Mathlib.Omega.{arith}
 use native.Mathlib.Nat.{add-assoc}
-use borrow.Author.Tests.{lt-ltb, le-ltb, le-leb, lt-leb}
-use lib.Dec.{leb, ltb}
-use lib.ListN.{length, take, drop, getD, length-drop, length-take}
-use lib.Seq.{length-take-le, take-suc, take-all}
+use borrow.Author.Tests.{le-leb, lt-leb}
+use lib.ListN.{length, take, drop, getD, length-drop}
+use lib.Seq.{length-take-le}
 use Rattle.model_session.specs.Session.{Msg, storedBytes}
 use Rattle.model_session.specs.Summary.{numberedFrom}
 use Rattle.log.specs.Log.{msg, Entry, entry, numOf, lenOf, walk, since}

@@ -1,13 +1,13 @@
 -- Products modulo 2 ^ 64 by halves, and FNV over lists. Assumes nothing.
-use mathlib.Core.Path.{_≡_, refl, sym, ap, _∙_, subst⁻¹}
-use mathlib.Core.List.{List, [], _∷_, _++_, append-assoc, reverse}
+use mathlib.Core.Path.{_≡_, refl, sym, ap, _∙_}
+use mathlib.Core.List.{List, [], _∷_, _++_}
 use Prim.Native.Nat.{ℕ, zero, suc, _+_, _-_, _*_, _/_, _%_, _^_, _≤_, _<_}
 use native.Mathlib.Omega.{arith}
 use native.Mathlib.Nat.{mul-one, mod-lt, mod-eq-of-lt, pow-suc, pow-succ', div-lt-iff-lt-mul, add-assoc, add-comm, add-left-comm, mul-assoc, mul-comm, mul-left-comm, mul-add, add-mul, div-add-mod', add-mod-mod, add-mul-mod-self-right, le-of-lt, lt-of-le-of-lt, mul-le-mul-left, mul-lt-mul-of-pos-right}
 use native.Mathlib.Numerals.{add-one}
 use lib.ListN.{length, take, drop, getD, drop-of-length-le, length-append, length-drop}
 use lib.Seq.{drop-cons, length-take-le}
-use lib.Pow.{pow-pos, pow-add, split}
+use lib.Pow.{pow-pos, split}
 use lib.Bits.{bitAnd, bitXor, and-mask, xor-zero-r}
 use Rattle.model_frame.specs.Bytes.{bytesOf}
 use Rattle.model_session.specs.Summary.{fnvStep, fnv, fnvMessage}

@@ -1,12 +1,10 @@
 -- THE LAW OF THE LOG, whatever the slices hold; and lists of small numbers. Assumes nothing.
-use mathlib.Core.Path.{_≡_, refl, sym, ap, _∙_}
-use mathlib.Core.Bool.{Bool, true, false, _&&_}
-use mathlib.Core.Logic.{_⊎_, inl, inr}
+use mathlib.Core.Path.{_≡_, refl, ap}
 use mathlib.Core.List.{List, [], _∷_, _++_, reverse, reverse-cons}
 use Prim.Native.Nat.{ℕ, zero, suc, _+_, _-_, _≤_, _<_}
 use native.Mathlib.Omega.{arith}
 use borrow.Author.Tests.{lt-ltb}
-use lib.Dec.{T, ltb}
+use lib.Dec.{T}
 use lib.ListN.{length, take, drop, getD, length-take, length-reverse}
 use Rattle.model_session.specs.Session.{Msg, storedBytes, isBytes, Rising}
 use Rattle.log.specs.Log.{msg, Entry, entry, walk, entries, before, newest, newestFirst, headOf, tailOf, unrolled, logOf, Lawful}

@@ -1,13 +1,13 @@
 -- EVERY LOG THAT THE STORE CAN HOLD is that of some areas. Assumes nothing.
 use mathlib.Core.Path.{_≡_, refl, sym, ap, _∙_}
-use mathlib.Core.Bool.{Bool, true, false, cond, _&&_}
+use mathlib.Core.Bool.{Bool, true, false, _&&_}
 use mathlib.Core.List.{List, [], _∷_, _++_, append-nil, append-assoc, reverse}
 use Prim.Native.Nat.{ℕ, zero, suc, _+_, _-_, _*_, _^_, _≤_, _<_}
 use native.Mathlib.Omega.{arith}
 use lib.Dec.{T, ltb, ltb→lt}
-use lib.ListN.{length, take, drop, getD, set, replicate, length-append, length-take, length-drop, length-replicate, length-set}
+use lib.ListN.{length, take, drop, getD, set, replicate, length-append, length-drop, length-replicate, length-set}
 use Rattle.model_session.specs.Session.{Msg, storedBytes, isBytes, Rising, keep}
-use Rattle.log.specs.Log.{msg, Entry, entry, before, entries, newest, headOf, tailOf, unrolled, walk, logOf, Lawful}
+use Rattle.log.specs.Log.{before, entries, headOf, tailOf, unrolled, logOf, Lawful}
 use Rattle.log.proofs.Walk.{walk-low, stored-append}
 use Rattle.log.proofs.Ring.{length-unrolled}
 use Rattle.log.proofs.Slots.{head-lt, tail-le, stored, stored-newest, stored-tail}

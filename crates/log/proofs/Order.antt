@@ -1,12 +1,10 @@
 -- Where numbers rise, the messages numbered from `low` on are the end of the list. Assumes nothing.
-use mathlib.Core.Path.{_≡_, refl, sym, ap, _∙_}
-use mathlib.Core.Bool.{Bool, true, false, cond}
+use mathlib.Core.Path.{_≡_, refl, sym, ap}
 use mathlib.Core.Logic.{_⊎_, inl, inr}
 use mathlib.Core.List.{List, [], _∷_}
 use Prim.Native.Nat.{ℕ, suc, _≤_, _<_}
 use native.Mathlib.Omega.{arith}
 use borrow.Author.Tests.{le-leb, lt-leb}
-use lib.Dec.{leb}
 use Rattle.model_session.specs.Session.{Msg, Rising}
 use Rattle.model_session.specs.Sender.{messagesFrom}
 use Rattle.model_session.specs.Summary.{numberedFrom}

@@ -1,17 +1,13 @@
 -- Walking the entries from the newest back. Assumes nothing.
 use mathlib.Core.Path.{_≡_, refl, sym, ap, _∙_}
-use mathlib.Core.Bool.{Bool, true, false, cond}
-use mathlib.Core.Logic.{_⊎_, inl, inr}
-use mathlib.Core.List.{List, [], _∷_, _++_, reverse}
-use Prim.Native.Nat.{ℕ, zero, suc, _+_, _-_, _*_, _≤_, _<_}
+use mathlib.Core.List.{List, [], _∷_, reverse}
+use Prim.Native.Nat.{ℕ, suc, _+_, _-_, _*_, _≤_, _<_}
 use native.Mathlib.Omega.{arith}
-use borrow.Author.Tests.{lt-ltb, le-ltb, le-leb, lt-leb}
-use lib.Dec.{leb, ltb}
+use borrow.Author.Tests.{le-leb, lt-leb}
 use lib.ListN.{length, take, drop, getD, length-drop}
 use lib.Seq.{length-take-le}
 use Rattle.model_session.specs.Session.{Msg, storedBytes}
-use Rattle.model_session.specs.Summary.{numberedFrom}
-use Rattle.log.specs.Log.{msg, Entry, entry, entryAt, before, entries, newest, newestFirst, headOf, tailOf, unrolled, walk, since, logOf, restOf, Stands, From}
+use Rattle.log.specs.Log.{msg, before, entries, newest, newestFirst, headOf, tailOf, unrolled, walk, since, logOf, restOf, From}
 use Rattle.log.proofs.Walk.{Look, hit, low, high, full, look, walk-hit, walk-low, walk-high, walk-full}
 use Rattle.log.proofs.Forward.{since-taken, from-since}
 

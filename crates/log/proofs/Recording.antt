@@ -1,16 +1,16 @@
 -- What `settle` and `record` do, said of the log. Assumes nothing.
 use mathlib.Core.Path.{_≡_, refl, sym, ap, _∙_}
-use mathlib.Core.Bool.{Bool, true, false, cond, and-false}
+use mathlib.Core.Bool.{cond, and-false}
 use mathlib.Core.Logic.{_⊎_, inl, inr}
 use mathlib.Core.List.{List, [], _∷_, _++_, append-nil, append-assoc, reverse}
 use Prim.Native.Nat.{ℕ, zero, suc, _+_, _-_, _*_, _≤_, _<_}
 use native.Mathlib.Omega.{arith}
 use borrow.Author.Tests.{lt-ltb, le-ltb, le-leb, lt-leb}
-use lib.Dec.{leb, ltb}
+use lib.Dec.{ltb}
 use lib.ListN.{length, take, drop, getD, set, length-append}
 use lib.Seq.{getD-set-same, getD-set-other}
 use Rattle.model_session.specs.Session.{Msg, storedBytes, keep}
-use Rattle.log.specs.Log.{msg, Entry, entry, entryAt, before, entries, newest, newestFirst, headOf, tailOf, unrolled, walk, logOf, replayed, Lawful}
+use Rattle.log.specs.Log.{msg, Entry, entry, before, entries, newest, headOf, tailOf, unrolled, walk, logOf, replayed, Lawful}
 use Rattle.log.proofs.Walk.{walk-low, walk-high, walk-record, stored-append}
 use Rattle.log.proofs.Ring.{length-unrolled}
 

@@ -1,8 +1,8 @@
 -- Reading the messages one by one from a place in the log, and their hash. Assumes nothing.
 use mathlib.Core.Path.{_≡_, refl, sym, ap, _∙_}
-use mathlib.Core.Bool.{Bool, true, false, or-true}
+use mathlib.Core.Bool.{or-true}
 use mathlib.Core.List.{List, [], _∷_, _++_, reverse, reverse-append}
-use Prim.Native.Nat.{ℕ, zero, suc, _+_, _-_, _*_, _≤_, _<_, max}
+use Prim.Native.Nat.{ℕ, zero, suc, _+_, _-_, _*_, _≤_, max}
 use native.Mathlib.Omega.{arith}
 use borrow.Author.Tests.{eq-eqb, ne-eqb}
 use lib.ListN.{length, take, drop, getD}

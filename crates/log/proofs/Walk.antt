@@ -1,18 +1,18 @@
 -- The log that the entries hold: one message more at the newest end cuts the oldest ones off, which is what `evict` does. Assumes nothing.
 use mathlib.Core.Path.{_≡_, refl, sym, ap, _∙_}
-use mathlib.Core.Bool.{Bool, true, false, cond, _&&_, and-false}
+use mathlib.Core.Bool.{cond, and-false}
 use mathlib.Core.Logic.{_⊎_, inl, inr}
-use mathlib.Core.List.{List, [], _∷_, _++_, append-assoc, append-nil, reverse, reverse-cons, reverse-reverse}
+use mathlib.Core.List.{List, [], _∷_, _++_, reverse, reverse-cons, reverse-reverse}
 use Prim.Native.Nat.{ℕ, zero, suc, _+_, _-_, _≤_, _<_}
 use native.Mathlib.Omega.{arith}
 use native.Mathlib.Nat.{zero-add}
 use native.Mathlib.Decide.{decLe}
 use borrow.Author.Tests.{lt-ltb, le-ltb, le-leb, lt-leb}
-use lib.Dec.{leb, ltb}
-use lib.ListN.{length, take, drop, length-append, length-take, length-drop, length-reverse}
+use lib.Dec.{leb}
+use lib.ListN.{length, take, drop, length-append, length-drop, length-reverse}
 use lib.Seq.{drop-append-le, take-append-le, drop-drop, length-take-le, drop-at, take-length}
-use Rattle.model_session.specs.Session.{Msg, storedBytes, hasSpace, evict, keep}
-use Rattle.log.specs.Log.{msg, Entry, entry, takes, walk}
+use Rattle.model_session.specs.Session.{Msg, storedBytes, evict, keep}
+use Rattle.log.specs.Log.{msg, Entry, entry, walk}
 
 -- ---- cases
 

@@ -1,6 +1,6 @@
 -- How a frame is read: document 01's tables of kinds and changes. The version decides which stamps are taken. Assumes nothing.
-use Prim.Native.Nat.{ℕ, zero, suc, _+_, _-_}
-use mathlib.Core.Bool.{Bool, true, false, cond, _||_}
+use Prim.Native.Nat.{ℕ, _+_, _-_}
+use mathlib.Core.Bool.{cond, _||_}
 use mathlib.Core.List.{List, [], _∷_}
 use mathlib.Core.Option.{Option, none, some}
 use lib.ListN.{length, take, drop}
@@ -8,7 +8,7 @@ use lib.Dec.{ltb, eqb}
 use Rattle.model_text.specs.Printable.{isMarks, isKey}
 use Rattle.model_text.specs.Stamp.{takesStamp}
 use Rattle.model_frame.specs.Bytes.{le}
-use Rattle.model_frame.specs.Frame.{Key, Change, setIncoming, setIncomingInFlight, setInFlight, recordMsg, recordBare, reset, setCreatedAt, setMarks, Part, commit, whole, lastWhole, Reason, staleEpoch, diverged, lagTooGreat, restarted, AppRecord, Summary, Frame, hello, welcome, bind, batch, ack, nack, bound, checked, Field, frameKind, part, refusal, change, Fault, tooLong, truncated, unknown, badSession, badTimestamp, badMarks, Decoded, more, faulty, got}
+use Rattle.model_frame.specs.Frame.{Key, Change, setIncoming, setIncomingInFlight, setInFlight, recordMsg, recordBare, reset, setCreatedAt, setMarks, Part, commit, whole, lastWhole, Reason, staleEpoch, diverged, lagTooGreat, restarted, AppRecord, Summary, Frame, hello, welcome, bind, batch, ack, nack, bound, checked, Field, frameKind, part, refusal, change, tooLong, truncated, unknown, badSession, badTimestamp, badMarks, Decoded, more, faulty, got}
 use Rattle.model_frame.specs.Parse.{isEmpty, Res, ok, bad, Parser, choose, andThen, _>>=_, done, fail, num, blob, text, count, many}
 
 -- the longest body

@@ -1,15 +1,15 @@
 -- Each way through a Batch's part is the definition's. Assumes nothing.
 use mathlib.Core.Path.{_≡_, refl, sym, ap, subst, _∙_}
-use mathlib.Core.Bool.{Bool, true, false, cond, not, _&&_, _||_, true≢false}
+use mathlib.Core.Bool.{Bool, true, false, cond, not, true≢false}
 use mathlib.Core.List.{List, [], _∷_, _++_}
-use Prim.Native.Nat.{ℕ, _<_, _≤_}
+use Prim.Native.Nat.{ℕ, _<_}
 use lib.ListN.{length, getD, take}
 use lib.Dec.{eqb}
 use borrow.Author.Tests.{eq-eqb, ne-eqb}
-use Rattle.model_frame.specs.Frame.{Change, commit, whole, lastWhole, diverged, ack, nack}
+use Rattle.model_frame.specs.Frame.{Change, commit, diverged, ack, nack}
 use Rattle.model_frame.specs.Parse.{isEmpty}
 use Rattle.model_frame.specs.Writing.{sizes}
-use Rattle.model_session.specs.Session.{Session, fits}
+use Rattle.model_session.specs.Session.{fits}
 use Rattle.op.specs.Answers.{heldRun}
 use Rattle.frame.specs.declared.CommitNumber.{CommitNumber}
 use Rattle.row.specs.declared.Handle.{Handle}
@@ -17,16 +17,15 @@ use Rattle.areas.specs.declared.Shape.{Shape}
 use Rattle.areas.specs.Areas.{Rules, placeAt, placesOf}
 use Rattle.areas.proofs.Lifting.{session-is}
 use Rattle.pending.specs.Pending.{pendingOf}
-use Rattle.settling.specs.Settling.{Touched, Settles}
+use Rattle.settling.specs.Settling.{Settles}
 use Rattle.settling.proofs.Laws.{touched-none}
 use Rattle.holding.proofs.Laws.{empty-size}
-use Rattle.model.specs.Store.{Place, onPlace, changed, sessionAt, orNew}
-use Rattle.model.specs.Answer.{reply, refused}
+use Rattle.model.specs.Store.{onPlace, changed, sessionAt, orNew}
+use Rattle.model.specs.Answer.{reply}
 use Rattle.model.specs.State.{Settings, Counters, Bound, numbered}
-use Rattle.model.specs.Core.{Action, leave, store, Core, CoreResult, coreSays, coreRefuse, coreSettle, coreHold, corePart}
-use Rattle.on_batch.specs.declared.Done.{Done}
+use Rattle.model.specs.Core.{leave, store, CoreResult, coreSays, coreRefuse, coreSettle, corePart}
 use Rattle.on_batch.specs.State.{boundOf, coreAt, settingsFor, numberedTo}
-use Rattle.on_batch.specs.Part.{resultOf, PartIs}
+use Rattle.on_batch.specs.Part.{PartIs}
 
 -- what is left of a Commit or LastWhole once it is settled, as the definition has it
 module _ (s : Shape) (h : ℕ) (cs : List Change) (w w' b b' : List ℕ) (yes : Bool) (x : Bound) (n : ℕ) (used : x .place < getD w 0 0) (g : Settles s (x .place) h cs w w' b b' yes)

@@ -1,7 +1,7 @@
 -- A Whole's ways are the definition's; a LastWhole's up to where it is settled. Assumes nothing.
 use mathlib.Core.Path.{_≡_, refl, sym, ap, subst, _∙_}
 use mathlib.Core.Bool.{Bool, true, false, cond, not, _&&_, _||_, true≢false}
-use mathlib.Core.List.{List, [], _∷_, _++_}
+use mathlib.Core.List.{List, [], _++_}
 use Prim.Native.Nat.{ℕ, _+_, _-_, _<_, _≤_}
 use native.Mathlib.Omega.{arith}
 use native.Mathlib.Nat.{sub-zero}
@@ -24,14 +24,13 @@ use Rattle.areas.specs.Areas.{Rules}
 use Rattle.settling.specs.Settling.{Settles}
 use Rattle.settling.proofs.Laws.{touched-none}
 use Rattle.holding.specs.declared.Held.{Held}
-use Rattle.holding.specs.Holding.{sumOf, refusalOf, Holds}
+use Rattle.holding.specs.Holding.{sumOf, Holds}
 use Rattle.model.specs.Answer.{reply, refused}
 use Rattle.model.specs.State.{Settings, Counters, noneHeld, numbered}
 use Rattle.model.specs.Standby.{maxWhole, startsWithReset, summed, holding}
 use Rattle.model.specs.Core.{leave, store, Core, CoreResult, coreSays, coreRefuse, coreSettle, coreHold, corePart}
-use Rattle.on_batch.specs.declared.Done.{Done}
 use Rattle.on_batch.specs.State.{boundOf, coreAt, settingsFor, summedTo, holdingTo}
-use Rattle.on_batch.specs.Part.{resultOf, PartIs}
+use Rattle.on_batch.specs.Part.{PartIs}
 use Rattle.on_batch.proofs.Parts.{settle-is}
 
 -- three tests and the number that they give

@@ -1,7 +1,7 @@
 -- What a Commit, a Whole or a LastWhole does on its handle, past the commit number. Assumes nothing.
 use mathlib.Core.Path.{_≡_}
-use mathlib.Core.Bool.{Bool, true, false, cond, not, _&&_, _||_}
-use mathlib.Core.List.{List, [], _∷_}
+use mathlib.Core.Bool.{true, cond, not, _||_}
+use mathlib.Core.List.{List}
 use Prim.Native.Nat.{ℕ, _≤_}
 use lib.ListN.{length, take}
 use lib.Dec.{eqb}

@@ -5,8 +5,8 @@ use mathlib.Core.List.{List, [], _∷_, _++_, map}
 use mathlib.Core.Option.{Option, none, some, Option·map}
 use Prim.Native.Nat.{ℕ, _+_, _*_, _-_, _^_, _<_, _≤_, min}
 use native.Mathlib.Omega.{arith}
-use lib.ListN.{length, getD, set, take, drop, getElem?, length-set, length-take, length-drop}
-use lib.Seq.{take-all, take-take, drop-drop, drop-set-lt, getD-set-same, getD-set-other}
+use lib.ListN.{length, getD, set, take, drop, getElem?, length-set, length-take}
+use lib.Seq.{take-all, take-take, drop-set-lt, getD-set-same, getD-set-other}
 use lib.Dec.{ltb}
 use borrow.Author.Tests.{lt-ltb, le-ltb, ltb-true, not-true, not-false}
 use Rattle.model_text.specs.Printable.{isMarks}
@@ -43,7 +43,7 @@ use Rattle.sessions.proofs.Opening.{opened-rules}
 use Rattle.hold.proofs.Held.{held-none}
 use Rattle.pending.specs.Pending.{countOf, commitOf, pendingOf}
 use Rattle.settling.specs.Settling.{Touched}
-use Rattle.settling.proofs.Header.{drop-take, pending-kept}
+use Rattle.settling.proofs.Header.{past-66, pending-kept}
 use Rattle.settling.proofs.Laws.{touched-none}
 use Rattle.row.specs.declared.Handle.{Handle}
 use Rattle.row.specs.declared.Seen.{Seen}
@@ -148,16 +148,6 @@ at-end (y ∷ l) x = at-end l x
 past-end : {A : Type 0} (l : List A) → getElem? l (length l) ≡ none
 past-end [] = refl
 past-end (y ∷ l) = past-end l
-
--- what is outside a part of a list, past the first 66
-past-66 : (a n : ℕ) (w w' : List ℕ) → Only (66 + a) (66 + a + n) w w' → Only a (a + n) (drop 66 w) (drop 66 w')
-past-66 a n w w' o = record {
-  same-length = length-drop 66 w' ∙ ap (λ (k : ℕ). k - 66) (o .same-length) ∙ sym (length-drop 66 w);
-  front = sym (drop-take 66 a w') ∙ ap (drop 66) (o .front) ∙ drop-take 66 a w;
-  back =
-      let sum : 66 + (a + n) ≡ 66 + a + n = omega arith in
-      drop-drop (a + n) 66 w' ∙ subst (λ (k : ℕ). drop k w' ≡ drop k w) (sym sum) (o .back) ∙ sym (drop-drop (a + n) 66 w);
-}
 
 module _ (s : Shape) (k : Key) (w b : List ℕ) (r : Rules s w b) (place : ℕ) (is : place ≡ placeOf k (placesOf s w b)) where
   abbrev ps : List Place

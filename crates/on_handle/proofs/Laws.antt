@@ -1,12 +1,11 @@
 -- Each way of a Batch on a handle is the definition's. Assumes nothing.
 use mathlib.Core.Path.{_≡_, refl, sym, ap, subst, _∙_}
-use mathlib.Core.Bool.{Bool, true, false, cond, not, _&&_, _||_}
+use mathlib.Core.Bool.{Bool, true, false, cond, _&&_}
 use mathlib.Core.List.{List, []}
-use mathlib.Core.Option.{Option, none, some}
 use Prim.Native.Nat.{ℕ, suc, _+_, _<_, _≤_}
 use native.Mathlib.Omega.{arith}
 use native.Mathlib.Numerals.{add-one}
-use lib.ListN.{length, getD, take}
+use lib.ListN.{length, take}
 use lib.Dec.{eqb, ltb}
 use borrow.Author.Tests.{lt-ltb, le-ltb}
 use Rattle.model_frame.specs.Bytes.{write}
@@ -16,14 +15,13 @@ use Rattle.model_frame.specs.Writing.{sizes}
 use Rattle.model_session.specs.Session.{top}
 use Rattle.op.specs.Answers.{heldRun}
 use Rattle.hold.proofs.Held.{held-none}
-use Rattle.frame.specs.declared.CommitNumber.{CommitNumber}
 use Rattle.row.specs.declared.Handle.{Handle}
 use Rattle.areas.specs.declared.Shape.{Shape}
 use Rattle.areas.specs.Areas.{Rules}
 use Rattle.settling.proofs.Laws.{touched-none}
-use Rattle.model.specs.Answer.{reply, refused}
-use Rattle.model.specs.State.{Settings, Counters, Bound, noneHeld}
-use Rattle.model.specs.Core.{leave, store, Core, CoreResult, coreSays, coreRefuse, corePart, coreHandle}
+use Rattle.model.specs.Answer.{reply}
+use Rattle.model.specs.State.{Counters, noneHeld}
+use Rattle.model.specs.Core.{store, coreSays, corePart, coreHandle}
 use Rattle.on_batch.specs.declared.Done.{Done}
 use Rattle.on_batch.specs.State.{boundOf, coreAt, settingsFor, holdingTo}
 use Rattle.on_batch.specs.Part.{resultOf, PartIs, AreaIs}

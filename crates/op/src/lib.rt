@@ -2,13 +2,13 @@
 ghost use mathlib.Core.Path.{_≡_};
 ghost use mathlib.Core.List.{[], _∷_};
 ghost use Prim.Native.Nat.{_+_, _^_, _≤_, _<_};
-ghost use lib.ListN.{length, take, drop};
+ghost use lib.ListN.{length, drop};
 ghost use Rattle.model_frame.specs.Bytes.{bytesOf};
 ghost use Rattle.model_frame.specs.Parse.{many, forget, runBytes};
-ghost use Rattle.model_frame.specs.Writing.{blobBytes, changeBytes, sizeOf, sizes};
+ghost use Rattle.model_frame.specs.Writing.{blobBytes, changeBytes, sizeOf};
 ghost use Rattle.laws.specs.Wrote.{Wrote, StandsAt};
 ghost use Rattle.model_frame.specs.Reading.{setIncomingFields, setIncomingInFlightFields, setInFlightFields, recordMsgFields, recordBareFields, setCreatedAtFields, setMarksFields, readChange, changes};
-ghost use Rattle.op.specs.Answers.{runOf, opOf, resOp, resEnd, resRun, OpsLen, heldRun};
+ghost use Rattle.op.specs.Answers.{runOf, opOf, resOp, resEnd, resRun, OpsLen};
 use scan::Byte;
 use scan::Cursor;
 use scan::Field;
@@ -190,26 +190,6 @@ pub fn ops_len(p: Protocol, buf: &[u8], run: Run) -> RunLen
         End::Bad(e) => RunLen::Bad(e),
         End::At(d) => RunLen::Bytes(scan::left(buf, Cursor { at }) - scan::left(buf, d)),
     }
-}
-
-// How many bytes the changes take that stand at the front, up to the first that can't be read.
-fn front_len(p: Protocol, buf: &[u8]) -> usize
-    ensures { λ r. ⌜ r ≡ sizes (heldRun (p .version) (now (buf .entry))) ⌝ }
-{
-    let mut d = Cursor { at: 0 };
-    loop {
-        match op_from(p, buf, d) {
-            OpAt::Bad(_) => return buf.len() - scan::left(buf, d),
-            OpAt::Got(_, next) => d = next,
-        }
-    }
-}
-
-// The same of the n bytes at a position: a hold area's changes.
-pub fn held_end(p: Protocol, hold: &[u8], at: usize, n: usize) -> usize
-    ensures { λ r. ⌜ r ≡ sizes (heldRun (p .version) (take n (drop at (now (hold .entry))))) ⌝ }
-{
-    front_len(p, scan::bytes_at(hold, at, n))
 }
 
 // A tag; a tag and a number; a blob.

@@ -3,7 +3,7 @@ use Prim.Native.Nat.{ℕ, zero, suc, _*_, _+_, _≤_}
 use mathlib.Core.Path.{_≡_, refl, sym, ap, subst, _∙_}
 use mathlib.Core.Bool.{Bool, true, false, cond, not, _||_}
 use mathlib.Core.List.{List, [], _∷_}
-use mathlib.Core.Option.{Option, none, some}
+use mathlib.Core.Option.{Option, none}
 use native.Mathlib.Omega.{arith}
 use native.Mathlib.Nat.{le-of-eq}
 use lib.ListN.{length, getD, set, drop}
@@ -29,23 +29,22 @@ use Rattle.commits.specs.Commits.{ranWords, RanIf}
 use Rattle.commits.proofs.Head.{clear-only, clear-rules}
 use Rattle.settling.specs.Settling.{Touched}
 use Rattle.settling.proofs.Laws.{touched-none}
-use Rattle.model.specs.Answer.{intact, refused}
-use Rattle.model.specs.Row.{isSome}
+use Rattle.model.specs.Answer.{intact}
 use Rattle.model.specs.Store.{Stored, Place, sameKey, placeOf, onPlace, markDurable, markAll}
 use Rattle.model.specs.State.{Bound}
 use Rattle.model.specs.State as state
-use Rattle.model.specs.Core.{Core, CoreResult, leave, coreBind, coreIntact, coreRun}
+use Rattle.model.specs.Core.{Core, coreBind, coreIntact, coreRun}
 use Rattle.on_batch.specs.State.{coreAt}
 use Rattle.outcome.specs.declared.Replica.{Replica}
 use Rattle.outcome.specs.declared.Settings.{Settings}
 use Rattle.outcome.specs.declared.Answer.{Answer}
 use Rattle.outcome.specs.declared.Outcome.{Outcome}
 use Rattle.outcome.specs.Answers.{answerOf, isRefused}
-use Rattle.outcome.specs.Outcomes.{countersOf, settingsOf, actionOf, outcomeOf, leaving, Lands}
-use Rattle.greet.specs.Greeting.{isQuiet, Replies}
+use Rattle.outcome.specs.Outcomes.{countersOf, settingsOf, actionOf, leaving}
+use Rattle.greet.specs.Greeting.{Replies}
 use Rattle.greet.proofs.Laws.{as-left}
 use Rattle.on_bind.specs.Binding.{BindIs}
-use Rattle.steps.specs.Steps.{isFound, placeBy, FrameLeaves}
+use Rattle.steps.specs.Steps.{placeBy}
 use Rattle.others.specs.Others.{Plain, Fit, clearedIf, OtherIs, OtherIn}
 
 -- ---- frames

@@ -1,6 +1,6 @@
 -- What an answer stands for: a refusal by its number, a frame, or done. Its texts are parts of the store's bytes b. Assumes nothing.
 use Prim.Native.Nat.{ℕ}
-use mathlib.Core.Bool.{Bool, true, false, cond}
+use mathlib.Core.Bool.{false, cond}
 use mathlib.Core.List.{List}
 use mathlib.Core.Option.{none, some}
 use lib.Dec.{eqb}

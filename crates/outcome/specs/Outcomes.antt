@@ -1,7 +1,7 @@
 -- What a call's outcome stands for: the state but for the row, what is to be done to the row, and the answer. Assumes nothing.
 use Prim.Native.Nat.{ℕ, _*_, _<_, _≤_}
 use mathlib.Core.Path.{_≡_}
-use mathlib.Core.Bool.{Bool, true, false, cond}
+use mathlib.Core.Bool.{true, false, cond}
 use mathlib.Core.List.{List}
 use lib.ListN.{take, drop}
 use lib.Dec.{ltb}

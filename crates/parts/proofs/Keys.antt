@@ -5,7 +5,7 @@ use mathlib.Core.Bool.{Bool, true, false, cond, not, _&&_}
 use mathlib.Core.List.{List}
 use borrow.Author.Tests.{not-true, not-false}
 use Rattle.model_text.specs.Printable.{isPrintable, isKey}
-use Rattle.model_frame.specs.Frame.{Key, badSession}
+use Rattle.model_frame.specs.Frame.{badSession}
 use Rattle.model_frame.specs.Parse.{Res, ok, bad, andThen, done, fail}
 use Rattle.parts.specs.Answers.{noKey}
 

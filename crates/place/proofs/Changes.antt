@@ -1,17 +1,13 @@
 -- What the changes that store words only leave: on named words each is an equation that computes. Assumes nothing.
-use mathlib.Core.Path.{_≡_, refl, sym, ap, _∙_}
-use mathlib.Core.Bool.{Bool, true, false, and-false}
-use mathlib.Core.List.{List, [], _∷_, _++_, append-nil}
-use Prim.Native.Nat.{ℕ, suc, _+_, _-_, _*_, _≤_, _<_, max}
-use native.Mathlib.Omega.{arith}
-use native.Mathlib.Numerals.{add-one}
-use lib.ListN.{length, take, drop, getD, set, drop-of-length-le}
-use borrow.Rule.Slice.PartMut.{midOf, postOf, putMid}
-use Rattle.model_frame.specs.Frame.{Change, setIncoming, setIncomingInFlight, setInFlight, recordMsg, recordBare, reset, setCreatedAt, setMarks}
-use Rattle.model_session.specs.Session.{Session, Msg, apply, keep}
-use Rattle.model.specs.Store.{Stored, Place, onStored, changed, markDurable}
-use Rattle.log.specs.Log.{logOf, msg}
-use Rattle.place.specs.Place.{nextOutOf, flightOf, durableOf, field, stampOf, marksOf, keyOf, sessionOf, placeIn}
+use mathlib.Core.Path.{_≡_, refl, sym, _∙_}
+use mathlib.Core.Bool.{false, and-false}
+use mathlib.Core.List.{List, [], _∷_}
+use Prim.Native.Nat.{ℕ, _-_, _≤_}
+use lib.ListN.{length, set}
+use Rattle.model_frame.specs.Frame.{Change, setIncoming, setIncomingInFlight, setInFlight}
+use Rattle.model_session.specs.Session.{Session, apply}
+use Rattle.model.specs.Store.{Place, onStored, changed, markDurable}
+use Rattle.place.specs.Place.{nextOutOf, flightOf, durableOf, stampOf, marksOf, keyOf, sessionOf, placeIn}
 use Rattle.place.proofs.Header.{Header, header, header-of}
 
 -- a place with another session, which isn't marked

@@ -1,12 +1,12 @@
 -- Parts of a list of which only some elements change. Assumes nothing.
 use mathlib.Core.Path.{_≡_, refl, sym, ap, _∙_}
 use mathlib.Core.Logic.{_⊎_, inl, inr}
-use mathlib.Core.List.{List, [], _∷_, _++_, append-assoc, append-nil}
-use Prim.Native.Nat.{ℕ, zero, suc, _+_, _-_, _≤_, _<_, min}
+use mathlib.Core.List.{List, _++_, append-assoc}
+use Prim.Native.Nat.{ℕ, _+_, _-_, _≤_, min}
 use native.Mathlib.Omega.{arith}
-use lib.ListN.{length, take, drop, set, length-take, length-drop, length-set}
-use lib.Seq.{paste, length-paste, drop-paste, length-take-le, take-take, drop-drop, take-set-le, drop-set-lt, take-at, drop-at, take-all, drop-append-le, take-append-le, take-length}
-use borrow.Rule.Slice.PartMut.{midOf, postOf, putMid, same-len-mid, mid-len, take-put, drop-put}
+use lib.ListN.{length, take, drop, set, length-set}
+use lib.Seq.{paste, length-paste, drop-paste, length-take-le, take-take, drop-drop, take-set-le, drop-set-lt, take-at, drop-at, take-length}
+use borrow.Rule.Slice.PartMut.{midOf, putMid, same-len-mid, mid-len, take-put, drop-put}
 use Rattle.log.proofs.Spans.{within}
 use Rattle.place.specs.Only.{Only}
 use Rattle.place.specs.Place.{field, PutText}

@@ -1,8 +1,8 @@
 -- The first fourteen words of a place, by name: on them reading and storing compute. Assumes nothing.
 use mathlib.Core.List.{List, [], _∷_}
-use Prim.Native.Nat.{ℕ, _≤_, max}
+use Prim.Native.Nat.{ℕ, _≤_}
 use native.Mathlib.Omega.{arith}
-use lib.ListN.{length, getD}
+use lib.ListN.{length}
 use Rattle.place.specs.Place.{nextOutOf}
 
 pub data Header : List ℕ → Type 0 where

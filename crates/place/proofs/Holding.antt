@@ -6,7 +6,7 @@ use mathlib.Core.Option.{Option, none, some}
 use Prim.Native.Nat.{ℕ, zero, suc, _+_, _-_, _*_, _^_, _≤_, _<_, min, max}
 use native.Mathlib.Omega.{arith}
 use borrow.Author.Tests.{le-leb}
-use lib.Dec.{T, leb, eqb, leb→le}
+use lib.Dec.{T, eqb, leb→le}
 use lib.ListN.{length, take, drop, getD, length-append, length-replicate}
 use lib.Seq.{take-at, drop-at, drop-drop}
 use Rattle.model_text.specs.Printable.{isPlain, allPlain, isMarks, isKey}
@@ -14,11 +14,11 @@ use Rattle.model_text.specs.Stamp.{isStamp}
 use Rattle.model_text.proofs.Formed.{and-l, and-r}
 use Rattle.model_text.proofs.Laws.{plain-bounds, stamp-is, marks-is, key-is}
 use Rattle.model_frame.specs.Frame.{Key}
-use Rattle.model_session.specs.Session.{Session, Msg, Holdable, isStampOrNone, smallFlight, isBytes}
-use Rattle.model.specs.Store.{Stored, Place}
+use Rattle.model_session.specs.Session.{Session, Holdable, isStampOrNone, smallFlight}
+use Rattle.model.specs.Store.{Place}
 use Rattle.log.specs.Log.{logOf, Lawful}
-use Rattle.log.proofs.Lawful.{Small, small-take, small-drop, small-append, lawful}
-use Rattle.log.proofs.Onto.{zeros, small-zeros, bytes-small, Held, held}
+use Rattle.log.proofs.Lawful.{Small, small-drop, small-append, lawful}
+use Rattle.log.proofs.Onto.{zeros, small-zeros, Held, held}
 use Rattle.place.specs.Place.{nextOutOf, flightOf, durableOf, field, stampOf, marksOf, keyOf, sessionOf, placeIn}
 use Rattle.place.proofs.Texts.{orNone}
 use Rattle.place.proofs.Promotion.{marks-marks}

@@ -1,7 +1,7 @@
 -- Comparing texts; the key and the session of a new place. Assumes nothing.
 use mathlib.Core.Path.{_≡_, refl, sym, ap, _∙_}
 use mathlib.Core.Bool.{Bool, true, false, _&&_, and-false}
-use mathlib.Core.Logic.{_⊎_, inl, inr}
+use mathlib.Core.Logic.{inl}
 use mathlib.Core.List.{List, [], _∷_}
 use Prim.Native.Nat.{ℕ, suc, _+_, _-_, _≤_, _<_, min}
 use native.Mathlib.Omega.{arith}
@@ -12,9 +12,8 @@ use lib.ListN.{length, take, drop, getD, set, drop-of-length-le}
 use lib.Seq.{drop-cons}
 use Rattle.model_frame.specs.Frame.{Key, reset}
 use Rattle.model_session.specs.Session.{newSession, apply}
-use Rattle.model.specs.Store.{Place, sameBytes, onStored, changed, newPlace}
-use Rattle.place.specs.Only.{Only}
-use Rattle.place.specs.Place.{field, keyOf, keyFrom, durableOf, sessionOf, placeIn, PutText}
+use Rattle.model.specs.Store.{sameBytes, onStored, changed, newPlace}
+use Rattle.place.specs.Place.{field, keyOf, keyFrom, durableOf, placeIn, PutText}
 use Rattle.place.proofs.Header.{Header, header, header-of}
 use Rattle.place.proofs.Fields.{field-kept}
 

@@ -1,19 +1,19 @@
 -- What the changes that touch the log or the texts leave. Assumes nothing.
-use mathlib.Core.Path.{_≡_, refl, sym, ap, _∙_}
-use mathlib.Core.Bool.{Bool, true, false, cond}
+use mathlib.Core.Path.{_≡_, sym, ap, _∙_}
+use mathlib.Core.Bool.{Bool, true, false}
 use mathlib.Core.Logic.{_⊎_, inl, inr}
 use mathlib.Core.List.{List, [], _∷_, _++_, append-nil}
 use mathlib.Core.Option.{none}
-use Prim.Native.Nat.{ℕ, suc, _+_, _-_, _*_, _≤_, _<_, max}
+use Prim.Native.Nat.{ℕ, suc, _+_, _-_, _≤_, max}
 use native.Mathlib.Omega.{arith}
 use lib.ListN.{length, take, drop, getD, set, drop-of-length-le, length-drop}
 use lib.Seq.{drop-at, length-take-le, take-all}
 use borrow.Rule.Slice.PartMut.{midOf, postOf, putMid, mid-len}
 use Rattle.model_text.specs.Printable.{isMarks, isPrintable}
 use Rattle.model_text.specs.Stamp.{isStamp}
-use Rattle.model_frame.specs.Frame.{Key, Change, recordMsg, recordBare, reset, setCreatedAt, setMarks}
-use Rattle.model_session.specs.Session.{Session, Msg, apply, keep}
-use Rattle.model.specs.Store.{Stored, Place, onStored, changed, markDurable}
+use Rattle.model_frame.specs.Frame.{recordMsg, recordBare, reset, setCreatedAt, setMarks}
+use Rattle.model_session.specs.Session.{apply, keep}
+use Rattle.model.specs.Store.{onStored, changed}
 use Rattle.log.specs.Log.{logOf, msg}
 use Rattle.place.specs.Only.{Only}
 use Rattle.place.specs.Place.{nextOutOf, flightOf, durableOf, field, stampOf, marksOf, keyOf, sessionOf, placeIn, PutText}

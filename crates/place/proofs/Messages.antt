@@ -1,11 +1,10 @@
 -- Reading the messages of a place, as its log has them. Assumes nothing.
-use mathlib.Core.Path.{_≡_, refl, sym, ap, _∙_, subst}
-use mathlib.Core.List.{List, [], _∷_, _++_}
-use Prim.Native.Nat.{ℕ, _+_, _-_, _≤_, _<_}
+use mathlib.Core.Path.{_≡_, sym, ap, _∙_, subst}
+use mathlib.Core.List.{List, _∷_, _++_}
+use Prim.Native.Nat.{ℕ, _+_, _-_}
 use native.Mathlib.Omega.{arith}
 use lib.ListN.{length, take, drop, length-drop}
 use lib.Seq.{take-all, drop-drop}
-use Rattle.model_session.specs.Session.{Session, Msg}
 use Rattle.model_session.specs.Summary.{lastOut}
 use Rattle.log.specs.Log.{msg, logOf, restOf, lastOf, Stands, From, Read}
 use Rattle.place.specs.Place.{nextOutOf, sessionOf, restIn, StandsIn, FromIn, ReadIn}

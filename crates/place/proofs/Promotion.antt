@@ -3,10 +3,10 @@ use mathlib.Core.Path.{_≡_, refl, sym, ap, _∙_}
 use mathlib.Core.Bool.{Bool, true, false, cond, _&&_}
 use mathlib.Core.Logic.{_⊎_, inl, inr}
 use mathlib.Core.List.{List, [], _∷_, _++_}
-use Prim.Native.Nat.{ℕ, zero, suc, _+_, _-_, _*_, _≤_, _<_, min, max}
+use Prim.Native.Nat.{ℕ, zero, suc, _+_, _-_, _≤_, _<_, min, max}
 use native.Mathlib.Omega.{arith}
 use native.Mathlib.Numerals.{add-one}
-use borrow.Author.Tests.{leb-false, lt-ltb, le-ltb, le-leb, lt-leb, eq-eqb, ne-eqb}
+use borrow.Author.Tests.{leb-false, lt-ltb, le-ltb, le-leb, lt-leb}
 use lib.Dec.{leb, ltb, eqb}
 use lib.ListN.{length, take, drop, getD, set, length-append, length-take, length-drop}
 use lib.Seq.{length-take-le, take-take, drop-set-add, take-suc-set, getD-take, getD-drop, take-all}
@@ -14,8 +14,8 @@ use borrow.Rule.Slice.PartMut.{midOf, putMid}
 use Rattle.model_text.specs.Printable.{isPlain, allPlain, isMarks, isPrintable}
 use Rattle.model_text.proofs.Formed.{and-l, and-r}
 use Rattle.model_text.proofs.Laws.{marks-is}
-use Rattle.model_session.specs.Session.{Session, Msg, top}
-use Rattle.model.specs.Store.{Stored, Place, onStored, withB, takenOver}
+use Rattle.model_session.specs.Session.{top}
+use Rattle.model.specs.Store.{onStored, withB, takenOver}
 use Rattle.log.specs.Log.{logOf}
 use Rattle.log.proofs.Walk.{cmp}
 use Rattle.place.specs.Only.{Only}

@@ -4,7 +4,7 @@
 -- Bytes: 0, 32, 64 and 96 the key's texts, 128 the stamp, 160 the marks; from 224 on the ring. Assumes nothing.
 use mathlib.Core.Path.{_≡_}
 use Prim.Native.Nat.{ℕ, _+_, _-_, _≤_, min, max}
-use mathlib.Core.Bool.{Bool, true, false, cond, not, _&&_}
+use mathlib.Core.Bool.{Bool, cond, not, _&&_}
 use mathlib.Core.List.{List, [], _∷_, _++_}
 use mathlib.Core.Option.{Option, none, some}
 use lib.ListN.{length, take, drop, getD}
@@ -14,7 +14,7 @@ use Rattle.model_text.specs.Stamp.{isStamp}
 use Rattle.model_frame.specs.Frame.{Key}
 use Rattle.model_session.specs.Session.{Session, Msg}
 use Rattle.model_session.specs.Summary.{numberedFrom}
-use Rattle.model.specs.Store.{Stored, Place}
+use Rattle.model.specs.Store.{Place}
 use Rattle.log.specs.Log.{msg, logOf, restOf, Stands}
 use Rattle.place.specs.declared.Flight.{Flight}
 use Rattle.place.specs.declared.Flight.the-variants.{Nothing, Number}

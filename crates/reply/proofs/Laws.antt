@@ -1,26 +1,24 @@
 -- A span cut to its area, a summary, and the frame by its kind. Assumes nothing.
 use mathlib.Core.Path.{_≡_, refl, sym, ap, subst, _∙_}
-use mathlib.Core.Bool.{Bool, true, false, cond, _&&_}
-use mathlib.Core.List.{List, []}
-use mathlib.Core.Option.{Option, none, some}
+use mathlib.Core.Bool.{Bool, true, _&&_}
+use mathlib.Core.List.{List}
+use mathlib.Core.Option.{Option, some}
 use Prim.Native.Nat.{ℕ, _+_, _-_, _≤_, _<_}
 use native.Mathlib.Omega.{arith}
 use borrow.Author.Tests.{le-leb, eq-eqb, ne-eqb}
-use lib.Dec.{leb, eqb}
 use lib.ListN.{length, take, drop, length-drop, drop-of-length-le}
 use lib.Seq.{take-all, take-nil}
 use Rattle.model_frame.specs.Frame.{Reason, staleEpoch, diverged, lagTooGreat, restarted, Frame, welcome, ack, nack, bound}
 use Rattle.model_frame.specs.Frame as the-frame
 use Rattle.scan.specs.declared.Span.{Span}
-use Rattle.scan.specs.Answers.{spanOf}
 use Rattle.parts.specs.declared.InFlight.{InFlight}
 use Rattle.parts.specs.declared.Summary.{Summary}
 use Rattle.parts.specs.Answers.{summaryOf, flightOf}
-use Rattle.print.specs.Encoding.{spanFits, summaryFits, given, Encoded}
+use Rattle.print.specs.Encoding.{summaryFits, given, Encoded}
 use Rattle.print.specs.declared.Written.{Written}
 use Rattle.outcome.specs.declared.Brief.{Brief}
 use Rattle.outcome.specs.declared.Answer.{Answer}
-use Rattle.outcome.specs.Answers.{briefOf, reasonBy, frameBy}
+use Rattle.outcome.specs.Answers.{reasonBy, frameBy}
 use Rattle.reply.specs.Replies.{flightBy, CutTo, Shows}
 
 -- ---- spans

@@ -13,7 +13,6 @@ use Rattle.scan.specs.declared.Field
 use Rattle.scan.specs.declared.Field.{Field}
 use Rattle.scan.specs.declared.Value
 use Rattle.scan.specs.declared.Value.{Value}
-use Rattle.scan.specs.declared.Cursor.{Cursor}
 use Rattle.scan.specs.declared.Span.{Span}
 use Rattle.scan.specs.declared.Byte
 use Rattle.scan.specs.declared.Byte.{Byte}

@@ -1,20 +1,19 @@
 -- A new session at the next free place. Assumes nothing.
-use mathlib.Core.Path.{_≡_, refl, sym, ap, _∙_}
-use mathlib.Core.Logic.{_⊎_, inl, inr}
+use mathlib.Core.Path.{_≡_, ap, _∙_}
+use mathlib.Core.Logic.{inr}
 use mathlib.Core.List.{List, [], _∷_, _++_}
-use Prim.Native.Nat.{ℕ, suc, _+_, _-_, _*_, _≤_, _<_}
+use Prim.Native.Nat.{ℕ, suc, _+_, _-_, _<_}
 use native.Mathlib.Omega.{arith}
 use native.Mathlib.Numerals.{add-one}
-use lib.ListN.{length, take, drop, getD, set, length-set}
+use lib.ListN.{length, getD, set, length-set}
 use lib.Seq.{getD-set-same, getD-set-other}
 use borrow.Rule.Slice.PartMut.{midOf, putMid}
 use Rattle.model_frame.specs.Frame.{Key}
-use Rattle.model.specs.Store.{Place, newPlace}
-use Rattle.place.specs.Only.{Only}
+use Rattle.model.specs.Store.{newPlace}
 use Rattle.place.specs.Place.{placeIn}
-use Rattle.place.proofs.Fields.{only-set, only-none}
+use Rattle.place.proofs.Fields.{only-set}
 use Rattle.areas.specs.declared.Shape.{Shape}
-use Rattle.areas.specs.Areas.{placeWords, placeBytes, wordsAt, bytesAt, SpotIn, Room, Rules, part, placeAt, countUp, placesOf}
+use Rattle.areas.specs.Areas.{placeWords, placeBytes, wordsAt, bytesAt, SpotIn, Rules, part, placeAt, countUp, placesOf}
 use Rattle.areas.proofs.Lists.{count-same, count-snoc, part-kept}
 use Rattle.areas.proofs.Lifting.{Put, spot-put, count-kept, other-place, rules-kept-by}
 use Rattle.sessions.specs.Answers.{Opened}

@@ -3,14 +3,14 @@ use mathlib.Core.Path.{_≡_, refl, sym, ap, _∙_, subst, subst₂}
 use mathlib.Core.Bool.{Bool, true, false, cond}
 use mathlib.Core.List.{List, [], _∷_, _++_}
 use mathlib.Core.Option.{Option, none, some, Option·map}
-use Prim.Native.Nat.{ℕ, zero, suc, _+_, _-_, _*_, _≤_, _<_}
+use Prim.Native.Nat.{ℕ, zero, suc, _+_, _-_, _≤_, _<_}
 use native.Mathlib.Omega.{arith}
 use lib.ListN.{length, take, drop, getD}
 use borrow.Rule.Slice.PartMut.{midOf}
 use Rattle.model_frame.specs.Frame.{Key}
 use Rattle.model_frame.specs.Frame as model-frame
-use Rattle.model_session.specs.Session.{Session, Msg}
-use Rattle.model_session.specs.Summary.{lastOut, summary, numberedFrom}
+use Rattle.model_session.specs.Session.{Session}
+use Rattle.model_session.specs.Summary.{lastOut, summary}
 use Rattle.model.specs.Store.{Place, sameKey, sessionAt}
 use Rattle.log.specs.Log.{msg}
 use Rattle.place.specs.Place.{flightIs, keyOf, sessionOf, placeIn, restIn, StandsIn, FromIn, ReadIn}

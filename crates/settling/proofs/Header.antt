@@ -1,28 +1,31 @@
 -- The words before the first place's: what is written there changes no place. Assumes nothing.
-use mathlib.Core.Path.{_≡_, refl, sym, ap, subst, _∙_}
-use mathlib.Core.List.{List, [], _∷_, map}
-use Prim.Native.Nat.{ℕ, zero, suc, _+_, _*_, _-_, _<_, _≤_}
+use mathlib.Core.Path.{_≡_, sym, ap, subst, _∙_}
+use mathlib.Core.List.{List, map}
+use Prim.Native.Nat.{ℕ, _+_, _-_, _<_, _≤_}
 use native.Mathlib.Omega.{arith}
-use native.Mathlib.Nat.{zero-add, suc-add}
-use mathlib.Core.Logic.{_⊎_, inl, inr}
-use lib.ListN.{length, getD, set, take, drop, length-set, length-drop, length-take}
-use lib.Seq.{take-nil, take-set-le, drop-set-lt, take-take, getD-take, drop-drop, getD-set-other}
-use Rattle.model.specs.Store.{Place}
+use mathlib.Core.Logic.{inr}
+use lib.ListN.{length, getD, set, take, drop, length-set, length-drop}
+use lib.Seq.{take-set-le, drop-set-lt, take-take, getD-take, drop-drop, getD-set-other}
+use Rattle.laws.proofs.Lists.{drop-take}
 use Rattle.place.specs.Only.{Only}
 use Rattle.place.specs.Place.{placeIn}
 use Rattle.areas.specs.declared.Shape.{Shape}
-use Rattle.areas.specs.Areas.{placeWords, wordsAt, bytesAt, placeBytes, part, Room, Rules, placeAt, countUp, placesOf}
+use Rattle.areas.specs.Areas.{placeWords, wordsAt, bytesAt, placeBytes, part, placeAt, countUp, placesOf}
 use Rattle.areas.proofs.Lists.{count-same, part-kept}
 use Rattle.pending.specs.Pending.{countOf, commitOf, pendingOf}
 
 only-set : (w : List ℕ) (j v : ℕ) → Only j (j + 1) w (set w j v)
 only-set w j v = record { same-length = length-set w j v; front = take-set-le j w j v (omega arith); back = drop-set-lt (j + 1) w j v (omega arith) }
 
--- a part, cut before or after its end is
-pub drop-take : (m n : ℕ) (l : List ℕ) → drop m (take (m + n) l) ≡ take n (drop m l)
-drop-take zero n l = rw zero-add
-drop-take (suc m) n [] = rw (suc-add, take-nil n)
-drop-take (suc m) n (x ∷ xs) = rw suc-add (drop-take m n xs)
+-- what is outside a part of a list, past the first 66
+pub past-66 : (a n : ℕ) (w w' : List ℕ) → Only (66 + a) (66 + a + n) w w' → Only a (a + n) (drop 66 w) (drop 66 w')
+past-66 a n w w' o = record {
+  same-length = length-drop 66 w' ∙ ap (λ (k : ℕ). k - 66) (o .same-length) ∙ sym (length-drop 66 w);
+  front = sym (drop-take 66 a w') ∙ ap (drop 66) (o .front) ∙ drop-take 66 a w;
+  back =
+      let sum : 66 + (a + n) ≡ 66 + a + n = omega arith in
+      drop-drop (a + n) 66 w' ∙ subst (λ (k : ℕ). drop k w' ≡ drop k w) (sym sum) (o .back) ∙ sym (drop-drop (a + n) 66 w);
+}
 
 -- a word of the header but the first
 module _ (s : Shape) (w b : List ℕ) (j v : ℕ) (low : 1 ≤ j) (high : j < 66) where

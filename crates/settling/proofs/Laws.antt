@@ -1,32 +1,22 @@
 -- From what the callees leave to what settling promises. Assumes nothing.
 use mathlib.Core.Path.{_≡_, refl, sym, ap, subst, _∙_}
-use mathlib.Core.Bool.{Bool, true, false, cond, true≢false}
+use mathlib.Core.Bool.{Bool, true, false, true≢false}
 use mathlib.Core.List.{List, [], _∷_, _++_}
 use Prim.Native.Nat.{ℕ, _+_, _*_, _-_, _<_, _≤_}
 use native.Mathlib.Omega.{arith}
-use lib.ListN.{length, getD, set, take, drop, length-set, length-drop}
-use lib.Seq.{take-take, getD-take, getD-set-same, drop-drop}
+use lib.ListN.{length, getD, set, take, drop, length-set}
+use lib.Seq.{take-take, getD-take, getD-set-same}
 use Rattle.model_frame.specs.Frame.{Change}
 use Rattle.model_session.specs.Session.{fits}
-use Rattle.model.specs.Store.{onPlace, changed}
+use Rattle.model.specs.Store.{changed}
 use Rattle.place.specs.Only.{Only}
 use Rattle.place.proofs.Fields.{only-none}
 use Rattle.areas.specs.declared.Shape.{Shape}
-use Rattle.areas.specs.Areas.{placeWords, placeBytes, wordsAt, bytesAt, Room, Rules, Changed, placeAt, placesOf}
+use Rattle.areas.specs.Areas.{placeWords, placeBytes, wordsAt, bytesAt, Rules, Changed, placeAt, placesOf}
 use Rattle.areas.proofs.Lifting.{rules-kept}
 use Rattle.pending.specs.Pending.{countOf, pendingOf}
 use Rattle.settling.specs.Settling.{Touched, Settles}
-use Rattle.settling.proofs.Header.{count-kept, places-kept, rest-kept, pending-kept, drop-take}
-
--- what is outside a part of a list, past the first 66
-past-66 : (a n : ℕ) (w w' : List ℕ) → Only (66 + a) (66 + a + n) w w' → Only a (a + n) (drop 66 w) (drop 66 w')
-past-66 a n w w' o = record {
-  same-length = length-drop 66 w' ∙ ap (λ (k : ℕ). k - 66) (o .same-length) ∙ sym (length-drop 66 w);
-  front = sym (drop-take 66 a w') ∙ ap (drop 66) (o .front) ∙ drop-take 66 a w;
-  back =
-      let sum : 66 + (a + n) ≡ 66 + a + n = omega arith in
-      drop-drop (a + n) 66 w' ∙ subst (λ (k : ℕ). drop k w' ≡ drop k w) (sym sum) (o .back) ∙ sym (drop-drop (a + n) 66 w);
-}
+use Rattle.settling.proofs.Header.{count-kept, places-kept, rest-kept, pending-kept, past-66}
 
 pub touched-none : (s : Shape) (i : ℕ) (w b : List ℕ) → Touched s i w w b b
 touched-none s i w b = record { words = only-none (i * placeWords s) (i * placeWords s + placeWords s) (drop 66 w); bytes = only-none (bytesAt s i) (bytesAt s i + placeBytes s) b }

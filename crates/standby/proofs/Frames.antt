@@ -1,18 +1,19 @@
 -- What was read of a frame, and what its kind says of it. Assumes nothing.
 use Prim.Native.Nat.{ℕ, _≤_}
 use mathlib.Core.Path.{_≡_, refl, sym, ap, subst, _∙_}
-use mathlib.Core.Bool.{Bool, true, false, cond, not, _&&_, true≢false}
+use mathlib.Core.Bool.{Bool, true, false, cond, not, _&&_}
 use mathlib.Core.List.{List, [], _∷_}
-use mathlib.Core.Option.{Option, none, some}
+use mathlib.Core.Option.{Option, none}
 use lib.ListN.{length, take}
 use lib.Seq.{take-length}
 use lib.Dec.{eqb, leb, T}
 use borrow.Author.Tests.{ne-eqb, eq-eqb, leb-true}
 use types.Run.{OneOf, miss}
 use denote.Enum.Declared.{tagOf}
+use Rattle.laws.proofs.Lists.{both}
 use Rattle.model_text.specs.Printable.{isPrintable, isKey}
 use Rattle.model_frame.specs.Bytes.{isBytes}
-use Rattle.model_frame.specs.Frame.{Key, Fault, tooLong, truncated, unknown, badText, badSession, badTimestamp, badMarks, number, hello, welcome, bind, batch, ack, nack, bound, checked, got}
+use Rattle.model_frame.specs.Frame.{Key, Fault, tooLong, truncated, unknown, badText, badSession, badTimestamp, badMarks, number, hello, welcome, bind, batch, ack, nack, bound, checked}
 use Rattle.model_frame.specs.Frame as the-frame
 use Rattle.model_frame.specs.Parse.{isEmpty}
 use Rattle.model_frame.specs.Reading.{decode}
@@ -31,7 +32,7 @@ use Rattle.model.specs.Answer.{damaged, intact, judged, given}
 use Rattle.model.specs.State.{Bound, Counters}
 use Rattle.model.specs.State as state
 use Rattle.model.specs.Standby.{due}
-use Rattle.model.specs.Hold.{Written, writesFrame}
+use Rattle.model.specs.Hold.{writesFrame}
 use Rattle.on_bind.specs.Binding.{Short}
 use Rattle.others.specs.Others.{Fit}
 
@@ -75,10 +76,6 @@ module _ (w : List ℕ) {d : Decoded} (read : readingOf 1 w d ≡ decode 1 w) wh
         subst (λ (b : List ℕ). Writable 1 (frameOf 1 b f)) (all is) (decode-sound 1 w t (sym read ∙ ap (readingOf 1 w) e) .writable)
 
 -- ---- frames that are no Batch
-
-both : (x y : Bool) → (x && y) ≡ true → (x ≡ true) × (y ≡ true)
-both true y e = (refl, e)
-both false y e = absurd (true≢false (sym e))
 
 printable-short : (lo hi : ℕ) (s : List ℕ) → isPrintable lo hi s ≡ true → length s ≤ hi
 unfolding isPrintable

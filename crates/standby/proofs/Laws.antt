@@ -1,16 +1,16 @@
 -- Each way of taking a frame is the definition's step. Assumes nothing.
-use Prim.Native.Nat.{ℕ, _≤_, _<_}
+use Prim.Native.Nat.{ℕ, _≤_}
 use mathlib.Core.Path.{_≡_, refl, sym, ap, subst, _∙_}
 use mathlib.Core.Bool.{Bool, true, false, cond, not, _&&_, _||_, true≢false}
 use mathlib.Core.List.{List}
-use mathlib.Core.Option.{Option, none, some}
+use mathlib.Core.Option.{Option, none}
 use native.Mathlib.Nat.{le-refl, le-of-eq}
 use lib.ListN.{getD}
 use lib.Dec.{eqb, ltb, leb}
 use borrow.Author.Tests.{ltb-true, leb-true}
+use Rattle.laws.proofs.Lists.{both}
 use Rattle.model_frame.specs.Frame.{Change, AppRecord, batch}
 use Rattle.model_frame.specs.Frame as the-frame
-use Rattle.model_frame.specs.Parse.{isEmpty}
 use Rattle.row.specs.declared.Seen.{Seen}
 use Rattle.areas.specs.Areas.{allowed, Rules, placesOf}
 use Rattle.areas.proofs.Ruling.{rules-of}
@@ -37,7 +37,7 @@ use Rattle.greet.specs.Greeting.{isQuiet}
 use Rattle.greet.proofs.Laws.{leaving-lands}
 use Rattle.due_batch.specs.DueBatch.{Holds, BatchIn}
 use Rattle.others.specs.Others.{Fit, OtherIn}
-use Rattle.steps.specs.Steps.{roomIn, isFound, foundIn, seenAllowed, dueNow, placeBy, FrameLeaves, holdsAfter, hasHandle, Stepped, StepIs}
+use Rattle.steps.specs.Steps.{roomIn, isFound, foundIn, seenAllowed, dueNow, placeBy, FrameLeaves, holdsAfter, hasHandle, StepIs}
 use Rattle.standby.specs.Taking.{isAnswered, Own, IntactIs, Takes}
 use Rattle.standby.proofs.Frames.{due-other, writes-other}
 
@@ -158,10 +158,6 @@ module _ (s : Settings) (c : Replica) (seen : Seen) (frame w b h : List ℕ) (ru
   }
 
 -- ---- the call: 25, or the frame
-
-both : (x y : Bool) → (x && y) ≡ true → (x ≡ true) × (y ≡ true)
-both true y e = (refl, e)
-both false y e = absurd (true≢false (sym e))
 
 module _ (s : Settings) (c : Replica) (seen : Seen) (w b h : List ℕ) where
   pub rules-seen : seenAllowed (s .shape) seen w b h ≡ true → Rules (s .shape) w b

@@ -1,12 +1,12 @@
 -- From what a core says, of what was found in the row, to what a call promises. Assumes nothing.
 use mathlib.Core.Path.{_≡_, refl, sym, ap, subst, _∙_}
 use mathlib.Core.Bool.{Bool, true, false, cond, _&&_, _||_, true≢false}
-use mathlib.Core.List.{List, [], _∷_}
+use mathlib.Core.List.{List}
 use mathlib.Core.Option.{Option, none, some}
 use Prim.Native.Nat.{ℕ, _+_, _*_, _≤_, _<_}
 use native.Mathlib.Omega.{arith}
 use lib.Dec.{leb, ltb}
-use lib.ListN.{length, getD, set, take, drop, length-set}
+use lib.ListN.{length, getD, set, length-set}
 use lib.Seq.{set-out}
 use borrow.Author.Tests.{ltb-true, ltb-false}
 use Rattle.model_frame.specs.Bytes.{write}
@@ -23,20 +23,18 @@ use Rattle.areas.proofs.Ruling.{rules-true}
 use Rattle.pending.specs.Pending.{pendingOf}
 use Rattle.model.specs.Answer.{protocolVersion}
 use Rattle.model.specs.Row.{Row, isSome, hasFree, find, put}
-use Rattle.model.specs.State.{Bound, Standby, Call}
+use Rattle.model.specs.State.{Bound, Call}
 use Rattle.model.specs.State as state
-use Rattle.model.specs.Standby.{step}
 use Rattle.model.specs.Hold.{Written}
 use Rattle.model.specs.Core.{Action, leave, store, clear, CoreResult, act, acted, coreStep, handleOf}
 use Rattle.model.proofs.Factoring.{factored}
 use Rattle.on_batch.specs.State.{boundOf, coreAt}
 use Rattle.outcome.specs.declared.Replica.{Replica}
 use Rattle.outcome.specs.declared.Settings.{Settings}
-use Rattle.outcome.specs.declared.Answer.{Answer}
 use Rattle.outcome.specs.declared.Outcome.{Outcome}
 use Rattle.outcome.specs.Answers.{answerOf, isRefused}
-use Rattle.outcome.specs.Outcomes.{countersOf, settingsOf, leaving, spotOf, areaAt, actionOf, outcomeOf, Lands}
-use Rattle.steps.specs.Steps.{roomOf, foundIn, seenAllowed, asks, Leaves, holdsAfter, writesBy, Stepped, StepIs}
+use Rattle.outcome.specs.Outcomes.{countersOf, settingsOf, leaving, spotOf, areaAt, actionOf, Lands}
+use Rattle.steps.specs.Steps.{roomOf, foundIn, asks, Leaves, holdsAfter, writesBy, Stepped, StepIs}
 use Rattle.steps.specs.Calls.{roomAll, standbyOf, allowedAll, soughtBy, CalledSteps, Called}
 use Rattle.steps.proofs.Naming.{sought-own}
 use Rattle.steps.proofs.Fitting.{Fit, step-fit, step-any, writes-none, written-inside, leaves-any}

@@ -7,8 +7,7 @@ use mathlib.Core.Option.{Option, none, some}
 use lib.ListN.{length, getD, set}
 use lib.Dec.{eqb, ltb, leb}
 use Rattle.model_frame.specs.Bytes.{write}
-use Rattle.model_frame.specs.Frame.{Frame, hello, welcome, bind, batch, ack, nack, bound, checked}
-use Rattle.row.specs.declared.Handle.{Handle}
+use Rattle.model_frame.specs.Frame.{hello, welcome, bind, batch, ack, nack, bound, checked}
 use Rattle.row.specs.declared.Seen.{Seen}
 use Rattle.place.specs.Only.{Only}
 use Rattle.areas.specs.declared.Shape.{Shape}

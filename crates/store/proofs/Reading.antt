@@ -1,19 +1,16 @@
 -- What is read of the parts of a place, said of the place. Assumes nothing.
-use mathlib.Core.Path.{_≡_, refl, sym, ap, _∙_}
-use mathlib.Core.Bool.{Bool}
+use mathlib.Core.Path.{_≡_, sym, ap, _∙_}
 use mathlib.Core.List.{List}
-use mathlib.Core.Option.{Option}
-use Prim.Native.Nat.{ℕ, _+_, _-_, _*_, _≤_, _<_}
+use Prim.Native.Nat.{ℕ, _+_, _-_, _≤_, _<_}
 use native.Mathlib.Omega.{arith}
-use lib.ListN.{length, take, drop, getD, set, length-take, length-drop}
+use lib.ListN.{length, take, drop, getD, set, length-take}
 use lib.Seq.{drop-drop}
 use borrow.Rule.Slice.PartMut.{midOf, putMid, set-mid-at}
-use Rattle.model_session.specs.Session.{Session}
-use Rattle.model.specs.Store.{Stored, Place}
+use Rattle.model.specs.Store.{Place}
 use Rattle.log.proofs.Spans.{within}
 use Rattle.place.specs.Place.{nextOutOf, flightOf, durableOf, stampOf, marksOf, sessionOf, placeIn}
 use Rattle.areas.specs.declared.Shape.{Shape}
-use Rattle.areas.specs.Areas.{placeWords, wordsAt, Rules, SpotIs, SpotIn, placeAt}
+use Rattle.areas.specs.Areas.{wordsAt, Rules, SpotIn, placeAt}
 use Rattle.areas.proofs.Lifting.{spot-place}
 use Rattle.store.specs.Answers.{TextAt}
 

@@ -1,5 +1,5 @@
 -- A frame that was written lies within its area. Assumes nothing.
-use mathlib.Core.Path.{_≡_, refl, ap, _∙_}
+use mathlib.Core.Path.{_≡_, refl, ap}
 use mathlib.Core.Bool.{Bool, true, false, cond}
 use mathlib.Core.List.{List}
 use mathlib.Core.Option.{Option, none, some}
@@ -11,7 +11,7 @@ use lib.ListN.{length}
 use Rattle.model_frame.specs.Frame.{Frame}
 use Rattle.model_frame.specs.Reading.{maxBody}
 use Rattle.model_frame.specs.Writing.{bodyBytes, encode, fine}
-use Rattle.print.specs.Encoding.{Outcome, wrote, refused, outcome, Answer, took, refusal, answerOf, writtenOf, Encoded}
+use Rattle.print.specs.Encoding.{wrote, refused, outcome, Answer, took, refusal, answerOf, Encoded}
 use Rattle.print.specs.declared.Written.{Written}
 use Rattle.print.specs.declared.Written
 

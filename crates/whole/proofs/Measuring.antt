@@ -1,5 +1,5 @@
 -- Measuring a batch: what is left gives what the whole gives. Assumes nothing.
-use mathlib.Core.Path.{_≡_, refl, sym, ap, subst, _∙_}
+use mathlib.Core.Path.{_≡_, refl, sym, ap, _∙_}
 use mathlib.Core.Bool.{Bool, true, false, cond}
 use mathlib.Core.List.{List, [], _∷_, _++_}
 use Prim.Native.Nat.{ℕ, zero, suc, _+_, _-_, _*_, _<_, _≤_}
@@ -8,11 +8,11 @@ use native.Mathlib.Numerals.{add-one}
 use lib.ListN.{length, take, drop, length-append}
 use lib.Dec.{ltb}
 use borrow.Author.Tests.{ltb-true}
-use Rattle.model_frame.specs.Frame.{Change, recordMsg, recordBare}
+use Rattle.model_frame.specs.Frame.{recordMsg, recordBare}
 use Rattle.model_frame.specs.Writing.{sizes}
 use Rattle.model_frame.proofs.Runs.{sizes-append}
 use Rattle.model_session.specs.Session.{Msg}
-use Rattle.model_session.specs.Whole.{skipTo, sendMsg}
+use Rattle.model_session.specs.Whole.{sendMsg}
 use Rattle.log.specs.Log.{msg, restOf, Stands, Read}
 use Rattle.whole.proofs.Putting.{piece-length}
 use Rattle.whole.specs.Cut.{taken, leftOver, nextAfter, Measured}

@@ -1,14 +1,13 @@
 -- Writing a change piece by piece. Assumes nothing.
-use mathlib.Core.Path.{_≡_, refl, sym, ap, subst, _∙_}
-use mathlib.Core.Bool.{true, false}
+use mathlib.Core.Path.{_≡_, refl, sym, ap, _∙_}
 use mathlib.Core.List.{List, [], _∷_, _++_, append-assoc, append-nil}
 use Prim.Native.Nat.{ℕ, suc, _+_, _-_, _≤_, _<_}
-use native.Mathlib.Nat.{mod-eq-of-lt, add-assoc}
+use native.Mathlib.Nat.{mod-eq-of-lt}
 use native.Mathlib.Omega.{arith}
 use lib.ListN.{length, take, drop, length-append, length-take, length-drop}
 use borrow.Author.Tests.{lt-ltb, le-ltb}
 use Rattle.model_frame.specs.Bytes.{bytesOf, write}
-use Rattle.model_frame.specs.Frame.{recordMsg, recordBare}
+use Rattle.model_frame.specs.Frame.{recordMsg}
 use Rattle.model_frame.specs.Parse.{runBytes}
 use Rattle.model_frame.specs.Writing.{blobBytes, changeBytes, sizes}
 use Rattle.model_frame.proofs.Le.{length-bytes}

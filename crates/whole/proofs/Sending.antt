@@ -1,17 +1,16 @@
 -- Writing the messages of a batch: what is still to be written. Assumes nothing.
-use mathlib.Core.Path.{_≡_, refl, sym, ap, _∙_}
-use mathlib.Core.Bool.{Bool, true, false}
+use mathlib.Core.Path.{_≡_, refl, ap, _∙_}
+use mathlib.Core.Bool.{true, false}
 use mathlib.Core.List.{List, [], _∷_, _++_}
-use Prim.Native.Nat.{ℕ, zero, suc, _+_, _-_, _<_, _≤_}
+use Prim.Native.Nat.{ℕ, zero, suc, _+_, _-_, _≤_}
 use native.Mathlib.Omega.{arith}
-use lib.ListN.{length, take, drop, length-append}
+use lib.ListN.{length, take, drop}
 use lib.Dec.{ltb}
 use Rattle.model_frame.specs.Frame.{Change, recordMsg}
 use Rattle.model_frame.specs.Parse.{runBytes}
 use Rattle.model_frame.specs.Writing.{changeBytes, sizes}
 use Rattle.model_frame.proofs.Runs.{run-append, sizes-append}
 use Rattle.model_frame.proofs.Sizes.{changes-size}
-use Rattle.model_session.specs.Session.{Msg}
 use Rattle.model_session.specs.Whole.{skipTo, sendMsg}
 use Rattle.laws.specs.Wrote.{Wrote}
 use Rattle.laws.proofs.Writes.{Left, left-start, left-room, left-step, left-done}

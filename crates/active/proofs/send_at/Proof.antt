@@ -1,4 +1,3 @@
-use native.Mathlib.Omega.{arith}
 use denote.Ref.{now}
 use Rattle.active.proofs.Storing.{lent-session}
 use borrow.Author.Needs.{needs}

@@ -1,4 +1,3 @@
-use mathlib.Core.Path.{ap, _∙_}
 use Rattle.batch.proofs.Framing.{wrote-head}
 use borrow.Author.Needs.{needs}
 use Rattle.batch.proofs.put_head.Statement.{statement}

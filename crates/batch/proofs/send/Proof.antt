@@ -1,6 +1,6 @@
 use native.Mathlib.Omega.{arith}
-use mathlib.Core.Path.{ap, _∙_}
-use Prim.Native.Nat.{_+_, _-_}
+use mathlib.Core.Path.{ap}
+use Prim.Native.Nat.{_-_}
 use lib.ListN.{length, length-drop}
 use denote.Ref.{now}
 use Rattle.place.proofs.Header.{next-pos}

@@ -1,6 +1,5 @@
 use borrow.Author.Needs.{needs}
 use Rattle.outcome.specs.Answers.{isRefused, isNack, isAck}
-use Rattle.outcome.specs.declared.Answer.{Answer}
 use borrow.Author.Tests.{ne-eqb, eq-eqb}
 use mathlib.Core.Bool.{Bool, cond}
 use mathlib.Core.Path.{_∙_, sym, ap}

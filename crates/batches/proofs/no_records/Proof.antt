@@ -3,7 +3,7 @@ use denote.Ref.{now}
 use Rattle.batches.proofs.Runs.{run-none, run-some, run-bad}
 use Rattle.parts.specs.Answers.{resRecord}
 use Rattle.model_frame.specs.Reading.{appRecord}
-use mathlib.Core.Path.{_∙_, sym, ap, subst}
+use mathlib.Core.Path.{_∙_, sym, ap}
 use Rattle.batches.proofs.no_records.Statement.{statement}
 use Rattle.batches.proofs.no_records.Tie as tie
 use Rattle.batches.proofs.no_records.Reads as reads

@@ -1,12 +1,11 @@
 use borrow.Author.Needs.{needs}
 use Rattle.batches.proofs.Laws.{with-records, stale, handled-is, kept-of, sound-of}
-use Rattle.on_handle.specs.Handling.{HandleIs}
 use Rattle.parts.specs.Answers.{partOf}
 use Rattle.op.specs.Answers.{runOf}
 use Rattle.model_frame.specs.Reading.{readChange, appRecord}
 use denote.Ref.{now}
 use borrow.Author.Tests.{not-true, not-false}
-use mathlib.Core.Path.{_∙_, sym, ap, refl}
+use mathlib.Core.Path.{_∙_, sym}
 use Rattle.batches.proofs.on_batch.Statement.{statement}
 use Rattle.batches.proofs.on_batch.Tie as tie
 use Rattle.batches.proofs.on_batch.Reads as reads

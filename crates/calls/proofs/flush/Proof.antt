@@ -1,11 +1,9 @@
 use borrow.Author.Needs.{needs}
 use Rattle.model.specs.State.{flush}
 use Rattle.calls.proofs.Laws.{unsound, keeps, other-connection, after-promotion, flushed}
-use Prim.Native.Nat.{_≤_}
-use lib.ListN.{length}
 use denote.Ref.{now}
 use borrow.Author.Tests.{not-true, not-false}
-use mathlib.Core.Path.{_∙_, sym, refl}
+use mathlib.Core.Path.{_∙_, sym}
 use native.Mathlib.Omega.{arith}
 use Rattle.calls.proofs.flush.Statement.{statement}
 use Rattle.calls.proofs.flush.Tie as tie

@@ -1,12 +1,9 @@
 use borrow.Author.Needs.{needs}
 use Rattle.model.specs.State.{promote}
 use Rattle.calls.proofs.Laws.{unsound, keeps, not-checked, promoted-checked}
-use Prim.Native.Nat.{_≤_}
-use lib.ListN.{length}
 use denote.Ref.{now}
 use borrow.Author.Tests.{not-true, not-false}
-use mathlib.Core.Path.{_∙_, sym, refl}
-use native.Mathlib.Omega.{arith}
+use mathlib.Core.Path.{_∙_, sym}
 use Rattle.calls.proofs.promote.Statement.{statement}
 use Rattle.calls.proofs.promote.Tie as tie
 use Rattle.calls.proofs.promote.Reads as reads

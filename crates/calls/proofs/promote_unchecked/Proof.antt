@@ -1,12 +1,9 @@
 use borrow.Author.Needs.{needs}
 use Rattle.model.specs.State.{promoteUnchecked}
 use Rattle.calls.proofs.Laws.{unsound, keeps, promoted-unchecked}
-use Prim.Native.Nat.{_≤_}
-use lib.ListN.{length}
 use denote.Ref.{now}
 use borrow.Author.Tests.{not-true, not-false}
-use mathlib.Core.Path.{_∙_, sym, refl}
-use native.Mathlib.Omega.{arith}
+use mathlib.Core.Path.{_∙_, sym}
 use Rattle.calls.proofs.promote_unchecked.Statement.{statement}
 use Rattle.calls.proofs.promote_unchecked.Tie as tie
 use Rattle.calls.proofs.promote_unchecked.Reads as reads

@@ -1,7 +1,5 @@
 use Rattle.due_batch.proofs.area_start.Statement.{statement}
 use Rattle.due_batch.proofs.Areas.{start-found, start-none}
-use lib.ListN.{length}
-use denote.Ref.{now}
 use native.Mathlib.Omega.{arith}
 use Rattle.due_batch.proofs.area_start.Tie as tie
 use Rattle.due_batch.proofs.area_start.Reads as reads

@@ -9,7 +9,7 @@ use Prim.Native.Nat.{ℕ, _+_, _*_, _≤_}
 use lib.ListN.{length}
 use denote.Ref.{now}
 use native.Mathlib.Omega.{arith}
-use mathlib.Core.Path.{_∙_, sym, subst}
+use mathlib.Core.Path.{sym, subst}
 use Rattle.due_batch.proofs.batch_in.Statement.{statement}
 use Rattle.due_batch.proofs.batch_in.Tie as tie
 use Rattle.due_batch.proofs.batch_in.Reads as reads

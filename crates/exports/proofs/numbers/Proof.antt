@@ -1,8 +1,5 @@
 use borrow.Author.Needs.{needs}
-use native.Mathlib.Omega.{arith}
-use mathlib.Core.Path.{_≡_}
 use Prim.Native.Nat.{_-_, _≤_}
-use lib.ListN.{length}
 use Rattle.exports.proofs.numbers.Statement.{statement}
 use Rattle.exports.proofs.numbers.Tie as tie
 use Rattle.exports.proofs.numbers.Reads as reads

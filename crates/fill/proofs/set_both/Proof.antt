@@ -1,5 +1,4 @@
 use borrow.Author.Needs.{needs}
-use native.Mathlib.Omega.{arith}
 use Rattle.fill.proofs.set_both.Statement.{statement}
 use Rattle.fill.proofs.set_both.Tie as tie
 

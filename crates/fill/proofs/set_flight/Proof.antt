@@ -1,5 +1,4 @@
 use borrow.Author.Needs.{needs}
-use native.Mathlib.Omega.{arith}
 use Rattle.fill.proofs.set_flight.Statement.{statement}
 use Rattle.fill.proofs.set_flight.Tie as tie
 

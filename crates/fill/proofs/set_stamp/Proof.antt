@@ -1,5 +1,4 @@
 use borrow.Author.Needs.{needs}
-use native.Mathlib.Omega.{arith}
 use mathlib.Core.Path.{sym, _∙_}
 use Rattle.fill.proofs.set_stamp.Statement.{statement}
 use Rattle.fill.proofs.set_stamp.Tie as tie

@@ -1,7 +1,7 @@
 use Rattle.frames.proofs.read_all.Statement.{statement}
 use Rattle.frames.proofs.Laws.{Going}
 use native.Mathlib.Omega.{arith}
-use mathlib.Core.Path.{_≡_, refl, sym, _∙_}
+use mathlib.Core.Path.{refl, _∙_}
 use Rattle.frames.proofs.read_all.Tie as tie
 use Rattle.frames.proofs.read_all.Reads as reads
 use Rattle.frames.proofs.read_all.Lts as lts

@@ -5,7 +5,7 @@ use lib.ListN.{length}
 use Prim.Native.Nat.{_-_}
 use borrow.Author.Needs.{needs}
 use native.Mathlib.Omega.{arith}
-use mathlib.Core.Path.{_≡_, refl, sym, _∙_}
+use mathlib.Core.Path.{refl, _∙_}
 use Rattle.frames.proofs.take_piece.Tie as tie
 use Rattle.frames.proofs.take_piece.Reads as reads
 use Rattle.frames.proofs.take_piece.Lts as lts

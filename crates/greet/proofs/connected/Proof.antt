@@ -1,9 +1,8 @@
 use borrow.Author.Needs.{needs}
-use Rattle.outcome.specs.declared.Replica.{Replica}
 use Rattle.model_session.specs.Session.{top}
 use Prim.Native.Nat.{ℕ, suc, _+_, min}
 use native.Mathlib.Omega.{arith}
-use mathlib.Core.Path.{_≡_, sym, ap}
+use mathlib.Core.Path.{_≡_, ap}
 use Rattle.greet.proofs.connected.Statement.{statement}
 use Rattle.greet.proofs.connected.Tie as tie
 use Rattle.greet.proofs.connected.Reads as reads

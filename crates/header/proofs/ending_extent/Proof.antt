@@ -1,7 +1,6 @@
 use native.Mathlib.Omega.{arith}
 use mathlib.Core.Path.{refl}
 use borrow.Author.Tests.{eq-eqb, ne-eqb}
-use Rattle.header.proofs.Ends.{spans-are}
 use borrow.Author.Needs.{needs}
 use Rattle.header.proofs.ending_extent.Statement.{statement}
 use Rattle.header.proofs.ending_extent.Tie as tie

@@ -1,4 +1,3 @@
-use native.Mathlib.Omega.{arith}
 use Rattle.header.proofs.Ends.{nothing-wrote}
 use borrow.Author.Needs.{needs}
 use Rattle.header.proofs.put_ending.Statement.{statement}

@@ -1,10 +1,10 @@
 use Rattle.lag.proofs.drain_front.Statement.{statement}
 use Rattle.lag.proofs.drain_front.Tie as tie
-use mathlib.Core.Path.{_≡_, refl, sym, _∙_}
-use Prim.Native.Nat.{ℕ, _-_}
+use mathlib.Core.Path.{refl}
+use Prim.Native.Nat.{_-_}
 use native.Mathlib.Omega.{arith}
 use borrow.Author.Tests.{not-true, not-false}
-use lib.ListN.{take, length}
+use lib.ListN.{take}
 use Rattle.lag.proofs.Laws.{Draining, turned, stopped, ended}
 
 abbrev Inv-loop : tie.InvT-loop

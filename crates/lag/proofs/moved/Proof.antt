@@ -1,7 +1,7 @@
 use Rattle.lag.proofs.moved.Statement.{statement}
 use Rattle.lag.proofs.moved.Tie as tie
-use mathlib.Core.Path.{_≡_, refl}
-use Prim.Native.Nat.{ℕ, _-_}
+use mathlib.Core.Path.{refl}
+use Prim.Native.Nat.{_-_}
 use native.Mathlib.Omega.{arith}
 use Rattle.lag.proofs.Laws.{Moving, moves, moved-all}
 

@@ -1,7 +1,7 @@
 use native.Mathlib.Omega.{arith}
-use mathlib.Core.Path.{_≡_, refl, subst}
+use mathlib.Core.Path.{refl, subst}
 use lib.ListN.{length, getD}
-use Prim.Native.Nat.{ℕ, _+_, _*_}
+use Prim.Native.Nat.{_+_, _*_}
 use Rattle.log.specs.Log.{Spanned}
 use Rattle.log.proofs.Summing.{Seen, seen, read}
 use borrow.Author.Needs.{needs}

@@ -1,9 +1,7 @@
 use native.Mathlib.Omega.{arith}
-use borrow.Author.Needs.{needs}
-use mathlib.Core.Path.{_≡_, refl, sym, ap, _∙_}
 use Prim.Native.Nat.{_-_}
 use lib.ListN.{length}
-use Rattle.log.specs.Log.{before, unrolled, tailOf, headOf, since, newestFirst, newest}
+use Rattle.log.specs.Log.{before, unrolled, tailOf, since, newestFirst}
 use Rattle.log.proofs.Slots.{tail-le}
 use Rattle.log.proofs.Ring.{length-unrolled}
 use Rattle.log.proofs.Reading.{Counting, done-low, done-high, done-full, counts, done-all, counted, counted-none, counting-starts}

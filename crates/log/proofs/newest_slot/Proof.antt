@@ -1,5 +1,5 @@
 use native.Mathlib.Omega.{arith}
-use mathlib.Core.Path.{_≡_, sym, ap, _∙_}
+use mathlib.Core.Path.{ap, _∙_}
 use Rattle.log.specs.Log.{before}
 use borrow.Author.Needs.{needs}
 use Rattle.log.proofs.newest_slot.Statement.{statement}

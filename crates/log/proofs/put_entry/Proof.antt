@@ -1,5 +1,4 @@
 use native.Mathlib.Omega.{arith}
-use mathlib.Core.Path.{sym}
 use lib.ListN.{length-set}
 use Rattle.log.proofs.Slots.{stored-newest, stored-tail}
 use borrow.Author.Needs.{needs}

@@ -1,9 +1,8 @@
 -- `log::ring_write` meets its contract, by `Ring`'s two laws. Assumes nothing.
-use mathlib.Core.Path.{_≡_, refl, sym, ap, _∙_}
-use mathlib.Core.List.{List}
-use Prim.Native.Nat.{ℕ, _+_, _-_, _<_, _≤_}
+use mathlib.Core.Path.{ap, _∙_}
+use Prim.Native.Nat.{_+_, _-_, _≤_}
 use native.Mathlib.Omega.{arith}
-use lib.ListN.{length, take, drop, length-take, length-drop}
+use lib.ListN.{length, length-take}
 use borrow.Author.Needs.{needs}
 use Rattle.log.specs.Log.{unrolled}
 use Rattle.log.proofs.Ring.{write-one, write-wraps}

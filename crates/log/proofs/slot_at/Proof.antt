@@ -1,5 +1,5 @@
 use native.Mathlib.Omega.{arith}
-use mathlib.Core.Path.{_≡_, sym, _∙_}
+use mathlib.Core.Path.{sym, _∙_}
 use Rattle.log.proofs.Slots.{slot-low, slot-high}
 use borrow.Author.Needs.{needs}
 use Rattle.log.proofs.slot_at.Statement.{statement}

@@ -1,5 +1,5 @@
 use native.Mathlib.Omega.{arith}
-use mathlib.Core.Path.{_≡_, sym, ap, _∙_}
+use mathlib.Core.Path.{sym, ap}
 use Rattle.log.specs.Log.{before}
 use Rattle.log.proofs.Recording.{before-pos}
 use borrow.Author.Needs.{needs}

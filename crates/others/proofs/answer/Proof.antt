@@ -1,10 +1,9 @@
 use borrow.Author.Needs.{needs}
 use Rattle.others.proofs.Laws.{replied, bound-to, plain-of}
 use Rattle.others.specs.Others.{Fit}
-use Rattle.parts.specs.Answers.{keyOf}
 use Rattle.frame.specs.declared.Frame.{Frame}
 use Rattle.frame.specs.Answers.{frameOf}
-use mathlib.Core.Path.{sym, subst}
+use mathlib.Core.Path.{subst}
 use denote.Ref.{now}
 use Rattle.others.proofs.answer.Statement.{statement}
 use Rattle.others.proofs.answer.Tie as tie

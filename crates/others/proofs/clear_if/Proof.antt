@@ -1,6 +1,5 @@
 use borrow.Author.Needs.{needs}
-use Rattle.others.proofs.Laws.{cleared-words, left-words}
-use mathlib.Core.Path.{sym}
+use Rattle.others.proofs.Laws.{cleared-words}
 use denote.Ref.{now}
 use Rattle.others.proofs.clear_if.Statement.{statement}
 use Rattle.others.proofs.clear_if.Tie as tie

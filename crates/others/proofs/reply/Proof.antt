@@ -1,7 +1,5 @@
 use borrow.Author.Needs.{needs}
 use Rattle.others.proofs.Laws.{nineteen}
-use Rattle.op.specs.Answers.{runOf}
-use Rattle.model_frame.specs.Parse.{num}
 use mathlib.Core.Path.{sym}
 use denote.Ref.{now}
 use Rattle.others.proofs.reply.Statement.{statement}

@@ -4,9 +4,6 @@ use Rattle.outcome.proofs.blank.Tie as tie
 use Rattle.outcome.proofs.blank.Reads as reads
 use Rattle.outcome.proofs.blank.Lts as lts
 use Rattle.outcome.proofs.no_brief.Reads as no-brief-reads
-use mathlib.Core.Path.{ap, sym}
-use Rattle.outcome.specs.declared.Brief.{Brief}
-use Rattle.outcome.specs.declared.Answer.{Answer}
 
 -- src/lib.rt:99:16
 no-brief-requires : tie.Need-no-brief-requires

@@ -4,7 +4,7 @@ use Rattle.outcome.proofs.bound.Tie as tie
 use Rattle.outcome.proofs.bound.Reads as reads
 use Rattle.outcome.proofs.bound.Lts as lts
 use Rattle.outcome.proofs.blank.Reads as blank-reads
-use mathlib.Core.Path.{ap, sym}
+use mathlib.Core.Path.{ap}
 use Rattle.outcome.specs.declared.Answer.{Answer}
 
 -- src/lib.rt:146:9

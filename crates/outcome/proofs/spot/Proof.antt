@@ -4,7 +4,6 @@ use Rattle.outcome.proofs.spot.Reads as reads
 use Rattle.outcome.proofs.spot.Lts as lts
 use borrow.Author.Tests.{lt-ltb, le-ltb}
 use mathlib.Core.Path.{ap, sym}
-use Prim.Native.Nat.{ℕ}
 use mathlib.Core.Bool.{Bool, cond}
 
 -- src/lib.rt:186:9

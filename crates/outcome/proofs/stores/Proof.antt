@@ -4,10 +4,9 @@ use Rattle.outcome.proofs.stores.Tie as tie
 use Rattle.outcome.proofs.stores.Reads as reads
 use Rattle.outcome.proofs.stores.Lts as lts
 use Rattle.outcome.proofs.spot.Reads as spot-reads
-use mathlib.Core.Path.{ap, sym}
+use mathlib.Core.Path.{ap}
 use Prim.Native.Nat.{ℕ}
 use mathlib.Core.Bool.{true, false}
-use Rattle.outcome.specs.declared.Outcome.{Outcome}
 use Rattle.outcome.specs.Outcomes.{usedFor}
 
 -- src/lib.rt:203:13

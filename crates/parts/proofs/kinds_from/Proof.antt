@@ -1,11 +1,10 @@
 use borrow.Author.Needs.{needs}
-use native.Mathlib.Omega.{arith}
-use mathlib.Core.Path.{_≡_, sym, ap, _∙_}
+use mathlib.Core.Path.{sym, ap, _∙_}
 use Prim.Native.Nat.{_*_, _≤_}
 use denote.Ref.{now}
 use lib.ListN.{length, drop, length-drop}
 use lib.Seq.{drop-drop}
-use Rattle.model_frame.specs.Parse.{ok, count}
+use Rattle.model_frame.specs.Parse.{count}
 use Rattle.model_frame.specs.Reading.{kinds}
 use Rattle.scan.specs.Answers.{res32}
 use Rattle.laws.proofs.Runs.{numbers-end, count-room, run-items}

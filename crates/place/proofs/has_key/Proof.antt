@@ -1,4 +1,3 @@
-use Prim.Native.Nat.{ℕ}
 use mathlib.Core.Bool.{_&&_}
 use Rattle.place.specs.Place.{keyOf}
 use borrow.Author.Needs.{needs}

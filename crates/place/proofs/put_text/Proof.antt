@@ -1,4 +1,3 @@
-use native.Mathlib.Omega.{arith}
 use Rattle.place.proofs.Fields.{put-text}
 use borrow.Author.Needs.{needs}
 use Rattle.place.proofs.put_text.Statement.{statement}

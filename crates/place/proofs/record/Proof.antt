@@ -1,5 +1,5 @@
 use native.Mathlib.Omega.{arith}
-use lib.ListN.{length, length-set}
+use lib.ListN.{length-set}
 use Rattle.place.proofs.Header.{next-pos}
 use Rattle.place.proofs.Logging.{recorded}
 use borrow.Author.Needs.{needs}

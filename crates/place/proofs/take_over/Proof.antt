@@ -1,5 +1,4 @@
 use native.Mathlib.Omega.{arith}
-use mathlib.Core.Path.{_∙_}
 use lib.ListN.{length-set}
 use Rattle.place.proofs.Promotion.{taken}
 use borrow.Author.Needs.{needs}

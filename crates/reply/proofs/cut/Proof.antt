@@ -1,7 +1,6 @@
 use mathlib.Core.Path.{refl}
 use borrow.Author.Needs.{needs}
 use Rattle.reply.proofs.Laws.{past-end, cut-short, whole}
-use native.Mathlib.Omega.{arith}
 use denote.Ref.{now}
 use Rattle.reply.proofs.cut.Statement.{statement}
 use Rattle.reply.proofs.cut.Tie as tie

@@ -1,7 +1,7 @@
 use borrow.Author.Needs.{needs}
 use Rattle.reply.specs.Replies.{flightBy}
 use mathlib.Core.Bool.{Bool}
-use mathlib.Core.Path.{_≡_, refl, sym, ap}
+use mathlib.Core.Path.{sym, ap}
 use Rattle.reply.proofs.in_flight.Statement.{statement}
 use Rattle.reply.proofs.in_flight.Tie as tie
 use Rattle.reply.proofs.in_flight.Reads as reads

@@ -1,10 +1,9 @@
 use borrow.Author.Needs.{needs}
 use Rattle.reply_text.proofs.Laws.{took-fits, put-digits, put-no}
 use Rattle.print.specs.Encoding.{writtenOf}
-use mathlib.Core.Path.{_≡_, ap}
+use mathlib.Core.Path.{ap}
 use denote.Ref.{now}
 use native.Mathlib.Omega.{arith}
-use mathlib.Core.Path.{refl}
 use Rattle.reply_text.proofs.put_reply.Statement.{statement}
 use Rattle.reply_text.proofs.put_reply.Tie as tie
 use Rattle.reply_text.proofs.put_reply.Reads as reads

@@ -1,7 +1,6 @@
 use borrow.Author.Needs.{needs}
-use mathlib.Core.Path.{refl, sym, ap, _∙_}
+use mathlib.Core.Path.{sym, _∙_}
 use Rattle.model_frame.specs.Parse.{text}
-use Rattle.scan.specs.Answers.{resSpan}
 use Rattle.model_text.proofs.Laws.{printable-is}
 use Rattle.scan.proofs.judged_from.Statement.{statement}
 use Rattle.scan.proofs.judged_from.Tie as tie

@@ -1,5 +1,4 @@
 use borrow.Author.Needs.{needs}
-use native.Mathlib.Omega.{arith}
 use Prim.Native.Nat.{_≤_}
 use Rattle.script.proofs.start.Statement.{statement}
 use Rattle.script.proofs.start.Tie as tie

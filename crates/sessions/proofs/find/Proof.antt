@@ -1,8 +1,4 @@
-use mathlib.Core.Path.{sym, ap, _∙_}
-use mathlib.Core.Bool.{Bool, cond}
-use mathlib.Core.Option.{some, none}
-use Rattle.model.specs.Store.{placeOf}
-use Rattle.areas.specs.Areas.{placesOf}
+use mathlib.Core.Path.{sym, _∙_}
 use Rattle.areas.proofs.Ruling.{rules-of}
 use Rattle.sessions.proofs.Seeking.{sought, not-sought}
 use borrow.Author.Needs.{needs}

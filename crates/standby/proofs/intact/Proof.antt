@@ -3,7 +3,6 @@ use Rattle.standby.proofs.Laws.{batch-intact, other-intact}
 use Rattle.standby.proofs.Frames.{fit-of}
 use Rattle.frame.specs.Answers.{frameOf}
 use denote.Ref.{now}
-use mathlib.Core.Path.{sym}
 use Rattle.standby.proofs.intact.Statement.{statement}
 use Rattle.standby.proofs.intact.Tie as tie
 use Rattle.standby.proofs.intact.Reads as reads

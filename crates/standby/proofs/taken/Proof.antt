@@ -3,14 +3,10 @@ use Rattle.standby.proofs.Laws.{damaged-left, promoted-left, intact-tak
 use Rattle.standby.proofs.Frames.{number-some, given-bad, given-more, given-short, given-whole, read-writable}
 use Rattle.model_frame.proofs.Le.{are-bytes}
 use Rattle.model_frame.specs.Frame.{number}
-use Rattle.frame.specs.Answers.{frameOf}
 use Rattle.outcome.specs.Answers.{isRefused}
 use Rattle.scan.specs.Answers.{faultOf}
 use denote.Ref.{now}
-use Prim.Native.Nat.{ℕ}
-use lib.Dec.{eqb}
-use mathlib.Core.Bool.{Bool, true, false}
-use mathlib.Core.Path.{_∙_, refl, sym, ap, subst}
+use mathlib.Core.Path.{_∙_, refl, ap}
 use Rattle.standby.proofs.taken.Statement.{statement}
 use Rattle.standby.proofs.taken.Tie as tie
 use Rattle.standby.proofs.taken.Reads as reads

@@ -2,8 +2,8 @@ use native.Mathlib.Omega.{arith}
 use mathlib.Core.Path.{sym, _∙_}
 use Rattle.store.proofs.Reading.{out-is}
 use mathlib.Core.List.{[], _∷_}
-use Rattle.model_frame.specs.Frame.{recordMsg, setCreatedAt, setMarks}
-use Rattle.model.specs.Store.{changed, takenOver}
+use Rattle.model_frame.specs.Frame.{recordMsg}
+use Rattle.model.specs.Store.{changed}
 use Rattle.areas.proofs.Lifting.{spot-both}
 use borrow.Author.Needs.{needs}
 use Rattle.store.proofs.record.Statement.{statement}

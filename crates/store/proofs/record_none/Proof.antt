@@ -1,8 +1,8 @@
 use native.Mathlib.Omega.{arith}
 use Rattle.store.proofs.Reading.{out-is}
 use mathlib.Core.List.{[], _∷_}
-use Rattle.model_frame.specs.Frame.{setIncoming, setIncomingInFlight, setInFlight, recordBare, reset}
-use Rattle.model.specs.Store.{changed, markDurable}
+use Rattle.model_frame.specs.Frame.{recordBare}
+use Rattle.model.specs.Store.{changed}
 use Rattle.areas.proofs.Lifting.{spot-words}
 use borrow.Author.Needs.{needs}
 use Rattle.store.proofs.record_none.Statement.{statement}

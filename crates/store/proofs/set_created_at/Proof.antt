@@ -1,7 +1,7 @@
 use native.Mathlib.Omega.{arith}
 use mathlib.Core.List.{[], _∷_}
-use Rattle.model_frame.specs.Frame.{recordMsg, setCreatedAt, setMarks}
-use Rattle.model.specs.Store.{changed, takenOver}
+use Rattle.model_frame.specs.Frame.{setCreatedAt}
+use Rattle.model.specs.Store.{changed}
 use Rattle.areas.proofs.Lifting.{spot-both}
 use borrow.Author.Needs.{needs}
 use Rattle.store.proofs.set_created_at.Statement.{statement}

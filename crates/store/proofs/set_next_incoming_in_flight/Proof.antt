@@ -1,6 +1,6 @@
 use mathlib.Core.List.{[], _∷_}
-use Rattle.model_frame.specs.Frame.{setIncoming, setIncomingInFlight, setInFlight, recordBare, reset}
-use Rattle.model.specs.Store.{changed, markDurable}
+use Rattle.model_frame.specs.Frame.{setIncomingInFlight}
+use Rattle.model.specs.Store.{changed}
 use Rattle.areas.proofs.Lifting.{spot-words}
 use borrow.Author.Needs.{needs}
 use Rattle.store.proofs.set_next_incoming_in_flight.Statement.{statement}

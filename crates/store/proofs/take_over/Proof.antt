@@ -1,6 +1,4 @@
-use mathlib.Core.List.{[], _∷_}
-use Rattle.model_frame.specs.Frame.{recordMsg, setCreatedAt, setMarks}
-use Rattle.model.specs.Store.{changed, takenOver}
+use Rattle.model.specs.Store.{takenOver}
 use Rattle.areas.proofs.Lifting.{spot-both}
 use borrow.Author.Needs.{needs}
 use Rattle.store.proofs.take_over.Statement.{statement}

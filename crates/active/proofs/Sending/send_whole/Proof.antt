@@ -1,11 +1,8 @@
-use Rattle.batch.specs.Batch.{WroteBatch}
 use Rattle.active.proofs.Calling.{not-stored, is-done, is-spent, is-short, is-frame}
 use native.Mathlib.Omega.{arith}
-use mathlib.Core.Path.{refl, sym, ap, _∙_}
+use mathlib.Core.Path.{refl}
 use denote.Ref.{now}
-use Rattle.active.specs.Whole.{stepFrom, areaFrom}
 use Rattle.active.proofs.Storing.{rules-hold, in-use, is-held, not-held}
-use Rattle.active.proofs.Calling.{done-step, done-area, spent-step, spent-area, short-step, short-area, frame-step, frame-area}
 use borrow.Author.Needs.{needs}
 use Rattle.active.proofs.Sending.send_whole.Statement.{statement}
 use Rattle.active.proofs.Sending.send_whole.Tie as tie

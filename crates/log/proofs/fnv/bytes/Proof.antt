@@ -1,8 +1,8 @@
 use native.Mathlib.Omega.{arith}
 use borrow.Author.Needs.{needs}
-use mathlib.Core.Path.{_≡_, refl, sym, ap, _∙_}
+use mathlib.Core.Path.{_≡_, refl}
 use Prim.Native.Nat.{_-_, _≤_}
-use lib.ListN.{length, drop, getD}
+use lib.ListN.{length, drop}
 use Rattle.model_session.specs.Summary.{fnv}
 use Rattle.log.proofs.Hash.{fnv-next, fnv-done}
 use Rattle.log.proofs.fnv.bytes.Statement.{statement}

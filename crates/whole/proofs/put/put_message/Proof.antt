@@ -1,5 +1,5 @@
 use native.Mathlib.Omega.{arith}
-use lib.ListN.{length-take, length-drop, take, drop}
+use lib.ListN.{length-take, length-drop, drop}
 use Prim.Native.Nat.{_+_, _-_}
 use denote.Ref.{now}
 use Rattle.whole.proofs.Putting.{wrote-pieces}
