@@ -1,12 +1,12 @@
 -- Each way of a Batch is the definition's. Assumes nothing.
-use Prim.Native.Nat.{ℕ, _<_, _≤_}
+use Prim.Native.Nat.{ℕ, _<_}
 use mathlib.Core.Path.{_≡_, refl, sym, ap, subst, _∙_}
 use mathlib.Core.Bool.{Bool, true, false, cond, not, _&&_, _||_, true≢false}
 use mathlib.Core.List.{List}
 use mathlib.Core.Option.{Option, none, some}
 use lib.ListN.{length, getD}
 use lib.Dec.{eqb, ltb}
-use borrow.Author.Tests.{lt-ltb, le-ltb, eqb-true}
+use borrow.Author.Tests.{eqb-true}
 use Rattle.laws.proofs.Lists.{both}
 use Rattle.model_frame.specs.Bytes.{write}
 use Rattle.model_frame.specs.Frame.{Change, AppRecord, commit, whole, lastWhole, batch, nack, ack, staleEpoch, diverged}
@@ -120,12 +120,12 @@ module _ (s : Settings) (c : Replica) (seen : Seen) (h : ℕ) (e : Epoch) (n : C
   pub with-records : {r : Outcome} {a : Answer} → isEmpty apps ≡ false → r ≡ leaving c seen a → a ≡ isRefused 13 → Is w b area r
   with-records p e₁ e₂ = left false (ltb (e .0) (c .epoch .0)) p refl (isRefused 13) e₁ e₂ refl refl
 
-  pub stale : {r : Outcome} {a : Answer} → isEmpty apps ≡ true → e .0 < c .epoch .0 → r ≡ leaving c seen a → a ≡ isNack h 1 → Is w b area r
-  stale p less e₁ e₂ = left true true p (lt-ltb (e .0) (c .epoch .0) less) (isNack h 1) e₁ e₂ refl refl
+  pub stale : {r : Outcome} {a : Answer} → isEmpty apps ≡ true → ltb (e .0) (c .epoch .0) ≡ true → r ≡ leaving c seen a → a ≡ isNack h 1 → Is w b area r
+  stale p less e₁ e₂ = left true true p less (isNack h 1) e₁ e₂ refl refl
 
   -- ---- past them
 
-  module _ (p : isEmpty apps ≡ true) (high : c .epoch .0 ≤ e .0) {found : Bool} (found-is : found ≡ foundFor seen h) {w' b' area' run : List ℕ} {d : Done}
+  module _ (p : isEmpty apps ≡ true) (high : ltb (e .0) (c .epoch .0) ≡ false) {found : Bool} (found-is : found ≡ foundFor seen h) {w' b' area' run : List ℕ} {d : Done}
       (g : HandleIs protocolVersion (s .shape) h found (seen .bound) (n .0) part cs w w' b b' area area' d)
       (written : area' ≡ areaAfter protocolVersion found (seen .bound) (n .0) part run area (d .refusal)) (bytes : run ≡ heldBytes cs)
       (kept : found ≡ true → Kept seen w area) where
@@ -136,7 +136,7 @@ module _ (s : Settings) (c : Replica) (seen : Seen) (h : ℕ) (e : Epoch) (n : C
     K' = coreAt (countersOf (epochTo c e)) (s .shape) w b
 
     went : coreBatch L K F h (e .0) (n .0) part cs apps ≡ coreHandle L K' h (foundOf protocolVersion found (seen .bound) area) (n .0) part cs
-    went = tests ∙ (λ j. Goes (p j) (le-ltb (e .0) (c .epoch .0) high j)) ∙ ap (λ (t : Bool). coreHandle L K' h (foundOf protocolVersion t (seen .bound) area) (n .0) part cs) (sym found-is)
+    went = tests ∙ (λ j. Goes (p j) (high j)) ∙ ap (λ (t : Bool). coreHandle L K' h (foundOf protocolVersion t (seen .bound) area) (n .0) part cs) (sym found-is)
 
     handled : resultOf protocolVersion h (n .0) area' d (coreAt (countersOf (epochTo c e)) (s .shape) w' b') ≡ coreHandle L K' h (foundOf protocolVersion found (seen .bound) area) (n .0) part cs
     handled = g .is (countersOf (epochTo c e)) (s .incarnation .0) (s .lag)
@@ -253,7 +253,7 @@ module _ (s : Settings) (c : Replica) (seen : Seen) (h : ℕ) (e : Epoch) (n : C
     area-whole : area' ≡ areaBy (writesFrame L (countersOf c) F (batch h (e .0) (n .0) part cs apps)) area
     area-whole =
         area-part ∙ ap (λ (t : Bool). areaBy (writesPart L h (foundOf protocolVersion t (seen .bound) area) (n .0) part cs) area) found-is
-        ∙ ap (λ (o : Option Written). areaBy o area) (sym (λ j. Writes (p j) (le-ltb (e .0) (c .epoch .0) high j)))
+        ∙ ap (λ (o : Option Written). areaBy o area) (sym (λ j. Writes (p j) (high j)))
 
     pub handled-is : {r : Outcome} {c' : Replica} → c' ≡ epochTo c e → r ≡ settledOf c' seen d h n → Is w' b' area' r
     handled-is e₁ e₂ =

@@ -2,7 +2,7 @@
 ghost use mathlib.Core.Path.{_≡_};
 ghost use mathlib.Core.Bool.{true, _&&_};
 ghost use Prim.Native.Nat.{_<_};
-ghost use lib.Dec.{eqb};
+ghost use lib.Dec.{eqb, ltb};
 ghost use Rattle.model_frame.specs.Parse.{isEmpty};
 ghost use Rattle.model_frame.specs.Reading.{readChange, appRecord};
 ghost use Rattle.op.specs.Answers.{runOf};
@@ -36,6 +36,13 @@ fn no_records(frame: &[u8], run: Run) -> bool
         AppRecordAt::Got(_, _) => false,
         AppRecordAt::Bad(_) => true,
     }
+}
+
+// Whether a Batch is of an epoch below the standby's.
+fn is_stale(c: Replica, b: Batch) -> bool
+    ensures { λ r. ⌜ r ≡ ltb (b .epoch .0) (c .epoch .0) ⌝ }
+{
+    b.epoch.0 < c.epoch.0
 }
 
 fn at_epoch(c: Replica, epoch: Epoch) -> Replica
@@ -97,13 +104,12 @@ pub fn on_batch(
     if !no_records(frame, records) {
         return outcome::leaves(c, seen, outcome::refused(13));
     }
-    let own = c.epoch;
-    let epoch = b.epoch;
     let handle = b.handle;
-    if epoch.0 < own.0 {
+    if is_stale(c, b) {
         return outcome::leaves(c, seen, outcome::nack(handle, 1));
     }
     let shape = s.shape;
+    let epoch = b.epoch;
     let n = b.commit_no;
     let ops = b.ops;
     let part = b.part;

@@ -146,13 +146,13 @@ pub fn on_last_whole(
     ensures is { λ r. ⌜ PartIs (p .version) shape h (n .0) lastWhole (heldRun (p .version) (now (run .entry))) (now (words .entry)) (now (words .exit)) (now (bytes .entry)) (now (bytes .exit)) (now (area .entry)) (now (area .exit)) r ⌝ }
     ensures area { λ r. ⌜ AreaIs (p .version) h (now (run .entry)) (now (area .entry)) (now (area .exit)) (r .refusal) ⌝ }
 {
-    let g = holding::hold(p, run, area, h.held_len, h.held_bytes);
-    let refusal = g.refusal;
+    let all = holding::hold(p, run, area, h.held_len, h.held_bytes);
+    let refusal = all.refusal;
     if refusal == 17 {
         return Done {
             refusal,
             stores: true,
-            slot: summed(h, g.sum),
+            slot: summed(h, all.sum),
             nack: false,
         };
     }
@@ -164,7 +164,7 @@ pub fn on_last_whole(
             nack: false,
         };
     }
-    let used = g.used;
+    let used = all.used;
     if settling::settle(p, &area[0..used], words, bytes, shape, h.place, h.handle) {
         return Done {
             refusal,

@@ -36,6 +36,10 @@ leaves-requires c κs = search needs
 returns : tie.Need-returns
 returns c = with-records (c .before .before .before .before .before .before .before .before .before .args .s) (c .before .before .before .before .before .before .before .before .before .args .c) (c .before .before .before .before .before .before .before .before .before .args .seen) (c .before .before .before .before .before .before .before .before .before .args .b .handle) (c .before .before .before .before .before .before .before .before .before .args .b .epoch) (c .before .before .before .before .before .before .before .before .before .args .b .«commit_no») (partOf (c .before .before .before .before .before .before .before .before .before .args .b .part)) (runOf (readChange 1) (now (c .before .before .before .before .before .before .before .before .before .args .frame)) (c .before .before .before .before .before .before .before .before .before .args .b .ops)) (runOf appRecord (now (c .before .before .before .before .before .before .before .before .before .args .frame)) (c .before .before .before .before .before .before .before .before .before .args .b .«app_records»)) (now (c .before .before .before .before .before .before .before .before .before .args .words)) (now (c .before .before .before .before .before .before .before .before .before .args .bytes)) (now (c .before .before .before .before .before .before .before .before .before .args .area)) (c .before .before .before .before .before .before .before .before .before .pre .0) (sym (c .before .before .before .no-records .ensures) ∙ not-true _ (c .before .before .if1 .taken)) (c .leaves .ensures) (c .before .refused .ensures)
 
+-- src/lib.rt
+is-stale-requires : tie.Need-is-stale-requires
+is-stale-requires c κs = search needs
+
 -- src/lib.rt:104:41
 nack-requires : tie.Need-nack-requires
 nack-requires c κs = search needs
@@ -46,7 +50,7 @@ leaves-requires-2 c κs = search needs
 
 -- src/lib.rt:104:9
 returns-2 : tie.Need-returns-2
-returns-2 c = stale (c .before .before .before .before .before .before .before .before .before .before .before .before .before .before .args .s) (c .before .before .before .before .before .before .before .before .before .before .before .before .before .before .args .c) (c .before .before .before .before .before .before .before .before .before .before .before .before .before .before .args .seen) (c .before .before .before .before .before .before .before .before .before .before .before .before .before .before .args .b .handle) (c .before .before .before .before .before .before .before .before .before .before .before .before .before .before .args .b .epoch) (c .before .before .before .before .before .before .before .before .before .before .before .before .before .before .args .b .«commit_no») (partOf (c .before .before .before .before .before .before .before .before .before .before .before .before .before .before .args .b .part)) (runOf (readChange 1) (now (c .before .before .before .before .before .before .before .before .before .before .before .before .before .before .args .frame)) (c .before .before .before .before .before .before .before .before .before .before .before .before .before .before .args .b .ops)) (runOf appRecord (now (c .before .before .before .before .before .before .before .before .before .before .before .before .before .before .args .frame)) (c .before .before .before .before .before .before .before .before .before .before .before .before .before .before .args .b .«app_records»)) (now (c .before .before .before .before .before .before .before .before .before .before .before .before .before .before .args .words)) (now (c .before .before .before .before .before .before .before .before .before .before .before .before .before .before .args .bytes)) (now (c .before .before .before .before .before .before .before .before .before .before .before .before .before .before .args .area)) (c .before .before .before .before .before .before .before .before .before .before .before .before .before .before .pre .0) (sym (c .before .before .before .before .before .before .before .before .no-records .ensures) ∙ not-false _ (c .before .before .before .before .before .before .before .if1 .left)) (c .before .before .if2 .taken) (c .leaves2 .ensures) (c .before .nack .ensures)
+returns-2 c = stale (c .before .before .before .before .before .before .before .before .before .before .before .args .s) (c .before .before .before .before .before .before .before .before .before .before .before .args .c) (c .before .before .before .before .before .before .before .before .before .before .before .args .seen) (c .before .before .before .before .before .before .before .before .before .before .before .args .b .handle) (c .before .before .before .before .before .before .before .before .before .before .before .args .b .epoch) (c .before .before .before .before .before .before .before .before .before .before .before .args .b .«commit_no») (partOf (c .before .before .before .before .before .before .before .before .before .before .before .args .b .part)) (runOf (readChange 1) (now (c .before .before .before .before .before .before .before .before .before .before .before .args .frame)) (c .before .before .before .before .before .before .before .before .before .before .before .args .b .ops)) (runOf appRecord (now (c .before .before .before .before .before .before .before .before .before .before .before .args .frame)) (c .before .before .before .before .before .before .before .before .before .before .before .args .b .«app_records»)) (now (c .before .before .before .before .before .before .before .before .before .before .before .args .words)) (now (c .before .before .before .before .before .before .before .before .before .before .before .args .bytes)) (now (c .before .before .before .before .before .before .before .before .before .before .before .args .area)) (c .before .before .before .before .before .before .before .before .before .before .before .pre .0) (sym (c .before .before .before .before .before .no-records .ensures) ∙ not-false _ (c .before .before .before .before .if1 .left)) (sym (c .before .before .before .is-stale .ensures) ∙ c .before .before .if2 .taken) (c .leaves2 .ensures) (c .before .nack .ensures)
 
 -- src/lib.rt:112:9
 is-found-requires : tie.Need-is-found-requires
@@ -58,7 +62,7 @@ run-of-requires c κs = search needs
 
 -- src/lib.rt:114:9
 on-handle-requires : tie.Need-on-handle-requires
-on-handle-requires c κs = (c .before .before .before .before .before .before .before .before .before .before .before .before .before .before .before .before .before .before .before .before .before .pre .0, (c .before .before .before .before .before .before .before .before .before .before .before .before .before .before .before .before .before .before .before .before .before .pre .1 .0, (c .before .before .before .run-of .ensures .all, λ t. sound-of (c .before .before .before .before .before .before .before .before .before .before .before .before .before .before .before .before .before .before .before .before .before .args .seen) (c .before .before .before .before .before .before .before .before .before .before .before .before .before .before .before .before .before .before .before .before .before .args .b .handle) (now (c .before .before .before .before .before .before .before .before .before .before .before .before .before .before .before .before .before .before .before .before .before .args .words)) (now (c .before .before .before .before .before .before .before .before .before .before .before .before .before .before .before .before .before .before .before .before .before .args .area)) (c .before .before .before .before .before .before .before .before .before .before .before .before .before .before .before .before .before .before .before .before .before .pre .1 .1) (c .before .before .before .before .is-found .ensures) t)))
+on-handle-requires c κs = (c .before .before .before .before .before .before .before .before .before .before .before .before .before .before .before .before .before .before .before .pre .0, (c .before .before .before .before .before .before .before .before .before .before .before .before .before .before .before .before .before .before .before .pre .1 .0, (c .before .before .before .run-of .ensures .all, λ t. sound-of (c .before .before .before .before .before .before .before .before .before .before .before .before .before .before .before .before .before .before .before .args .seen) (c .before .before .before .before .before .before .before .before .before .before .before .before .before .before .before .before .before .before .before .args .b .handle) (now (c .before .before .before .before .before .before .before .before .before .before .before .before .before .before .before .before .before .before .before .args .words)) (now (c .before .before .before .before .before .before .before .before .before .before .before .before .before .before .before .before .before .before .before .args .area)) (c .before .before .before .before .before .before .before .before .before .before .before .before .before .before .before .before .before .before .before .pre .1 .1) (c .before .before .before .before .is-found .ensures) t)))
 
 -- src/lib.rt:115:13
 at-epoch-requires : tie.Need-at-epoch-requires
@@ -82,7 +86,7 @@ same-length-3 c = search needs
 
 -- src/lib.rt:81:1
 returns-3 : tie.Need-returns-3
-returns-3 c = handled-is (c .before .before .before .before .before .before .before .before .before .before .before .before .before .before .before .before .before .before .before .before .before .before .before .before .before .before .before .before .before .before .args .s) (c .before .before .before .before .before .before .before .before .before .before .before .before .before .before .before .before .before .before .before .before .before .before .before .before .before .before .before .before .before .before .args .c) (c .before .before .before .before .before .before .before .before .before .before .before .before .before .before .before .before .before .before .before .before .before .before .before .before .before .before .before .before .before .before .args .seen) (c .before .before .before .before .before .before .before .before .before .before .before .before .before .before .before .before .before .before .before .before .before .before .before .before .before .before .before .before .before .before .args .b .handle) (c .before .before .before .before .before .before .before .before .before .before .before .before .before .before .before .before .before .before .before .before .before .before .before .before .before .before .before .before .before .before .args .b .epoch) (c .before .before .before .before .before .before .before .before .before .before .before .before .before .before .before .before .before .before .before .before .before .before .before .before .before .before .before .before .before .before .args .b .«commit_no») (partOf (c .before .before .before .before .before .before .before .before .before .before .before .before .before .before .before .before .before .before .before .before .before .before .before .before .before .before .before .before .before .before .args .b .part)) (runOf (readChange 1) (now (c .before .before .before .before .before .before .before .before .before .before .before .before .before .before .before .before .before .before .before .before .before .before .before .before .before .before .before .before .before .before .args .frame)) (c .before .before .before .before .before .before .before .before .before .before .before .before .before .before .before .before .before .before .before .before .before .before .before .before .before .before .before .before .before .before .args .b .ops)) (runOf appRecord (now (c .before .before .before .before .before .before .before .before .before .before .before .before .before .before .before .before .before .before .before .before .before .before .before .before .before .before .before .before .before .before .args .frame)) (c .before .before .before .before .before .before .before .before .before .before .before .before .before .before .before .before .before .before .before .before .before .before .before .before .before .before .before .before .before .before .args .b .«app_records»)) (now (c .before .before .before .before .before .before .before .before .before .before .before .before .before .before .before .before .before .before .before .before .before .before .before .before .before .before .before .before .before .before .args .words)) (now (c .before .before .before .before .before .before .before .before .before .before .before .before .before .before .before .before .before .before .before .before .before .before .before .before .before .before .before .before .before .before .args .bytes)) (now (c .before .before .before .before .before .before .before .before .before .before .before .before .before .before .before .before .before .before .before .before .before .before .before .before .before .before .before .before .before .before .args .area)) (c .before .before .before .before .before .before .before .before .before .before .before .before .before .before .before .before .before .before .before .before .before .before .before .before .before .before .before .before .before .before .pre .0) (sym (c .before .before .before .before .before .before .before .before .before .before .before .before .before .before .before .before .before .before .before .before .before .before .before .before .no-records .ensures) ∙ not-false _ (c .before .before .before .before .before .before .before .before .before .before .before .before .before .before .before .before .before .before .before .before .before .before .before .if1 .left)) (c .before .before .before .before .before .before .before .before .before .before .before .before .before .before .before .before .before .before .if2 .left) (c .before .before .before .before .before .before .before .before .before .before .before .before .before .is-found .ensures) (rw (c .before .before .before .before .before .before .before .before .before .before .before .before .run-of .ensures .changes) at (c .before .before .before .before .before .before .before .before .on-handle .ensures .0)) (c .before .before .before .before .before .before .before .before .on-handle .ensures .1) (c .before .before .before .before .before .before .before .before .before .before .before .before .run-of .ensures .bytes) (kept-of (c .before .before .before .before .before .before .before .before .before .before .before .before .before .before .before .before .before .before .before .before .before .before .before .before .before .before .before .before .before .before .args .seen) (c .before .before .before .before .before .before .before .before .before .before .before .before .before .before .before .before .before .before .before .before .before .before .before .before .before .before .before .before .before .before .args .b .handle) (now (c .before .before .before .before .before .before .before .before .before .before .before .before .before .before .before .before .before .before .before .before .before .before .before .before .before .before .before .before .before .before .args .words)) (now (c .before .before .before .before .before .before .before .before .before .before .before .before .before .before .before .before .before .before .before .before .before .before .before .before .before .before .before .before .before .before .args .area)) (c .before .before .before .before .before .before .before .before .before .before .before .before .before .before .before .before .before .before .before .before .before .before .before .before .before .before .before .before .before .before .pre .1 .1) (c .before .before .before .before .before .before .before .before .before .before .before .before .before .is-found .ensures)) (c .before .at-epoch .ensures) (c .settled .ensures)
+returns-3 c = handled-is (c .before .before .before .before .before .before .before .before .before .before .before .before .before .before .before .before .before .before .before .before .before .before .before .before .before .before .before .before .args .s) (c .before .before .before .before .before .before .before .before .before .before .before .before .before .before .before .before .before .before .before .before .before .before .before .before .before .before .before .before .args .c) (c .before .before .before .before .before .before .before .before .before .before .before .before .before .before .before .before .before .before .before .before .before .before .before .before .before .before .before .before .args .seen) (c .before .before .before .before .before .before .before .before .before .before .before .before .before .before .before .before .before .before .before .before .before .before .before .before .before .before .before .before .args .b .handle) (c .before .before .before .before .before .before .before .before .before .before .before .before .before .before .before .before .before .before .before .before .before .before .before .before .before .before .before .before .args .b .epoch) (c .before .before .before .before .before .before .before .before .before .before .before .before .before .before .before .before .before .before .before .before .before .before .before .before .before .before .before .before .args .b .«commit_no») (partOf (c .before .before .before .before .before .before .before .before .before .before .before .before .before .before .before .before .before .before .before .before .before .before .before .before .before .before .before .before .args .b .part)) (runOf (readChange 1) (now (c .before .before .before .before .before .before .before .before .before .before .before .before .before .before .before .before .before .before .before .before .before .before .before .before .before .before .before .before .args .frame)) (c .before .before .before .before .before .before .before .before .before .before .before .before .before .before .before .before .before .before .before .before .before .before .before .before .before .before .before .before .args .b .ops)) (runOf appRecord (now (c .before .before .before .before .before .before .before .before .before .before .before .before .before .before .before .before .before .before .before .before .before .before .before .before .before .before .before .before .args .frame)) (c .before .before .before .before .before .before .before .before .before .before .before .before .before .before .before .before .before .before .before .before .before .before .before .before .before .before .before .before .args .b .«app_records»)) (now (c .before .before .before .before .before .before .before .before .before .before .before .before .before .before .before .before .before .before .before .before .before .before .before .before .before .before .before .before .args .words)) (now (c .before .before .before .before .before .before .before .before .before .before .before .before .before .before .before .before .before .before .before .before .before .before .before .before .before .before .before .before .args .bytes)) (now (c .before .before .before .before .before .before .before .before .before .before .before .before .before .before .before .before .before .before .before .before .before .before .before .before .before .before .before .before .args .area)) (c .before .before .before .before .before .before .before .before .before .before .before .before .before .before .before .before .before .before .before .before .before .before .before .before .before .before .before .before .pre .0) (sym (c .before .before .before .before .before .before .before .before .before .before .before .before .before .before .before .before .before .before .before .before .before .before .no-records .ensures) ∙ not-false _ (c .before .before .before .before .before .before .before .before .before .before .before .before .before .before .before .before .before .before .before .before .before .if1 .left)) (sym (c .before .before .before .before .before .before .before .before .before .before .before .before .before .before .before .before .before .before .before .before .is-stale .ensures) ∙ c .before .before .before .before .before .before .before .before .before .before .before .before .before .before .before .before .before .before .before .if2 .left) (c .before .before .before .before .before .before .before .before .before .before .before .before .before .is-found .ensures) (rw (c .before .before .before .before .before .before .before .before .before .before .before .before .run-of .ensures .changes) at (c .before .before .before .before .before .before .before .before .on-handle .ensures .0)) (c .before .before .before .before .before .before .before .before .on-handle .ensures .1) (c .before .before .before .before .before .before .before .before .before .before .before .before .run-of .ensures .bytes) (kept-of (c .before .before .before .before .before .before .before .before .before .before .before .before .before .before .before .before .before .before .before .before .before .before .before .before .before .before .before .before .args .seen) (c .before .before .before .before .before .before .before .before .before .before .before .before .before .before .before .before .before .before .before .before .before .before .before .before .before .before .before .before .args .b .handle) (now (c .before .before .before .before .before .before .before .before .before .before .before .before .before .before .before .before .before .before .before .before .before .before .before .before .before .before .before .before .args .words)) (now (c .before .before .before .before .before .before .before .before .before .before .before .before .before .before .before .before .before .before .before .before .before .before .before .before .before .before .before .before .args .area)) (c .before .before .before .before .before .before .before .before .before .before .before .before .before .before .before .before .before .before .before .before .before .before .before .before .before .before .before .before .pre .1 .1) (c .before .before .before .before .before .before .before .before .before .before .before .before .before .is-found .ensures)) (c .before .at-epoch .ensures) (c .settled .ensures)
 
 pub on-batch-spec : {M : Type 1} → statement M
 on-batch-spec =
@@ -92,6 +96,7 @@ on-batch-spec =
     refused-requires
     leaves-requires
     returns
+    is-stale-requires
     nack-requires
     leaves-requires-2
     returns-2
