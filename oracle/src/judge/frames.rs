@@ -58,8 +58,8 @@ fn lines(input: &[u8]) -> Vec<&[u8]> {
 }
 
 /// Single frames, a line of digits each.
-pub fn read_lines(input: &[u8], mut read: impl FnMut(&[u8]) -> Reading) -> String {
-    let mut answer = |line: &[u8]| match digits::read(line) {
+pub fn read_lines(input: &[u8], read: impl Fn(&[u8]) -> Reading) -> String {
+    let answer = |line: &[u8]| match digits::read(line) {
         Some(bytes) => read(&bytes).text(),
         None => format!("? {}", String::from_utf8_lossy(line)),
     };

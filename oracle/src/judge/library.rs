@@ -120,13 +120,13 @@ pub fn outcome(answer: u64) -> Outcome {
 }
 
 #[cfg(plain)]
-pub use crate::plain::{Said, answer, frame, made, queue, said, send, session};
+pub use crate::plain::{Said, answer, frame, made, queue, read, said, send, session};
 
 #[cfg(not(plain))]
-pub use exports::{frame, queue, send, session};
+pub use exports::{frame, queue, read, send, session};
 
 #[cfg(all(calls, not(plain)))]
-pub use entry::{Said, answer, fnv, made, read, said};
+pub use entry::{Said, answer, fnv, made, said};
 
 #[cfg(not(plain))]
 mod exports {
@@ -135,10 +135,12 @@ mod exports {
     unsafe extern "C" {
         fn wz_frame(frame: *const u8, frame_len: usize, out: *mut u8, out_len: usize) -> u64;
 
+        fn wz_read(frame: *const u8, frame_len: usize) -> u64;
+
         fn wz_queue(queue: *mut u64, queue_len: usize, max_lag: u64, last: u64) -> u64;
     }
 
-    /// Functions that read a store: those of their own stand before the output area, and after the place.
+    /// Functions that read a store: their own parameters stand before the output area, and after the place.
     macro_rules! readers {
         ($(fn $name:ident($($own:ident: $own_ty:ty),*; $($more:ident: $more_ty:ty),*);)*) => {
             unsafe extern "C" {
@@ -177,6 +179,11 @@ mod exports {
 
     pub fn frame(frame: &[u8], out: &mut [u8]) -> u64 {
         unsafe { wz_frame(frame.as_ptr(), frame.len(), out.as_mut_ptr(), out.len()) }
+    }
+
+    /// Reads a frame only.
+    pub fn read(frame: &[u8]) -> u64 {
+        unsafe { wz_read(frame.as_ptr(), frame.len()) }
     }
 
     pub fn queue(queue: &mut [u64], max_lag: u64, last: u64) -> u64 {
@@ -280,8 +287,6 @@ mod entry {
 
         fn wz_answer(said: Said, bytes: *const u8, bytes_len: usize, out: *mut u8, out_len: usize) -> u64;
 
-        fn wz_read(frame: *const u8, frame_len: usize) -> u64;
-
         fn wz_fnv(hash: u64, bytes: *const u8, bytes_len: usize) -> u64;
     }
 
@@ -320,11 +325,6 @@ mod entry {
     /// Writes an answer's frame.
     pub fn answer(said: &Said, bytes: &[u8], out: &mut [u8]) -> u64 {
         unsafe { wz_answer(*said, bytes.as_ptr(), bytes.len(), out.as_mut_ptr(), out.len()) }
-    }
-
-    /// Reads a frame only.
-    pub fn read(frame: &[u8]) -> u64 {
-        unsafe { wz_read(frame.as_ptr(), frame.len()) }
     }
 
     pub fn fnv(bytes: &[u8]) -> u64 {

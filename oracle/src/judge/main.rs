@@ -61,10 +61,7 @@ fn main() -> ExitCode {
         #[cfg(ours)]
         ["our-calls"] => print(&side::run::<ours::Ours>(&String::from_utf8_lossy(&input()))),
         #[cfg(ours)]
-        ["our-frames"] => {
-            let mut reader = ours::Reader::default();
-            print(&frames::read_lines(&input(), |frame| reader.read(frame, frame.len())))
-        }
+        ["our-frames"] => print(&frames::read_lines(&input(), ours::read)),
         #[cfg(all(calls, not(plain)))]
         ["bench"] => bench::bench(),
         #[cfg(all(calls, not(plain)))]

@@ -17,9 +17,10 @@ use crate::walk::{self, Walk};
 pub struct Reader(Out);
 
 impl Reader {
-    /// Into an area of `length` bytes.
+    /// Into an area of `length` bytes. Where that is long enough, a frame only read gives the same.
     pub fn read(&mut self, frame: &[u8], length: usize) -> Reading {
         let mut answer = outcome(library::frame(frame, self.0.lend(length)));
+        assert!(length < frame.len() || answer == outcome(library::read(frame)), "wz_read and wz_frame differ");
         faults::after_reading(&mut answer, &mut self.0);
         let written = self.0.taken(answer.unwrap_or(0) as usize, "wz_frame");
         match answer {
@@ -29,6 +30,11 @@ impl Reader {
             Err((number, detail)) => Reading::Refused(number, detail, 0),
         }
     }
+}
+
+/// Reads a frame and writes it again, by the library.
+pub fn read(frame: &[u8]) -> Reading {
+    Reader::default().read(frame, frame.len())
 }
 
 pub struct Ours {
@@ -99,12 +105,6 @@ impl Ours {
 
     pub fn size(&self) -> Size {
         self.settings.size
-    }
-
-    /// Epoch, connections, promoted, checked.
-    pub fn counters(&self) -> (u64, u64, bool, bool) {
-        let Counters { epoch, connections, promoted, checked } = self.counters;
-        (epoch, connections, promoted, checked)
     }
 }
 

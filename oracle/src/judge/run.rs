@@ -37,17 +37,28 @@ struct Watched {
     shadow: Shadow,
 }
 
-/// What isn't alike: as the Rust or a rule has it, and as our side has it.
+/// What isn't alike, or what isn't as it must be in our areas.
 #[cfg(calls)]
-struct Unlike(String, String);
+struct Unlike(String);
+
+#[cfg(calls)]
+impl Unlike {
+    fn answers(rust: &str, us: &str) -> Self {
+        Self(format!("the Rust: {rust}\nours:     {us}"))
+    }
+
+    fn areas(what: String) -> Self {
+        Self(format!("ours:     {what}"))
+    }
+}
 
 #[cfg(calls)]
 impl Watched {
     fn new(setting: &Setting) -> Result<Self, Unlike> {
         let us = Ours::make(setting).expect("the Rust's side was made");
         let mut shadow = Shadow::new(setting, us.size());
-        let made = shadow.look(us.areas(), &Call::State, "", None);
-        made.map(|()| Self { us, shadow }).map_err(|written| Unlike("making writes the two counts".into(), written))
+        shadow.look(us.areas(), &Call::State, "", None).map_err(Unlike::areas)?;
+        Ok(Self { us, shadow })
     }
 
     /// Asks the Rust, and our side the same: the Rust's answer, or what isn't alike.
@@ -59,16 +70,16 @@ impl Watched {
         let answered = answer(rust, call);
         let us = looked(|| answer(&mut self.us, call)).unwrap_or_else(|words| words);
         if us != answered {
-            return Err(Unlike(answered, us));
+            return Err(Unlike::answers(&answered, &us));
         }
-        let (rust, us) = (rust.counters(), self.us.counters());
-        if us != rust {
-            return Err(Unlike(format!("{rust:?}"), format!("{us:?}")));
+        let state = rust.state();
+        let us = looked(|| self.us.state());
+        if us.as_ref() != Ok(&state) {
+            return Err(Unlike::answers(&state.lines(), &us.map_or_else(|words| words, |us| us.lines())));
         }
-        match self.shadow.look(self.us.areas(), call, &answered, held) {
-            Ok(()) => Ok(answered),
-            Err(written) => Err(Unlike("writes what the call writes and nothing else".into(), written)),
-        }
+        let look = looked(|| self.shadow.look(self.us.areas(), call, &answered, held));
+        look.and_then(|look| look).map_err(Unlike::areas)?;
+        Ok(answered)
     }
 }
 
@@ -95,7 +106,7 @@ impl Run {
 
 /// The script, with every call that doesn't matter left out.
 #[cfg(calls)]
-fn difference(setting: &Setting, calls: &[Call], Unlike(rust, us): &Unlike) -> Difference {
+fn difference(setting: &Setting, calls: &[Call], Unlike(told): &Unlike) -> Difference {
     let hook = take_hook();
     set_hook(Box::new(|_| {}));
     let mut calls = calls.to_vec();
@@ -104,7 +115,7 @@ fn difference(setting: &Setting, calls: &[Call], Unlike(rust, us): &Unlike) -> D
     }
     set_hook(hook);
     let script: String = calls.iter().map(|call| format!("{call}\n")).collect();
-    Difference(format!("a script\n{setting}\n{script}first seen as\nthe Rust: {rust}\nours:     {us}\n"))
+    Difference(format!("a script\n{setting}\n{script}first seen as\n{told}\n"))
 }
 
 /// The calls without those that can go one by one, if any can and the sides still differ.

@@ -120,13 +120,6 @@ impl Rust {
         }
     }
 
-    /// Epoch, connections, promoted, checked.
-    #[cfg(calls)]
-    pub fn counters(&self) -> (u64, u64, bool, bool) {
-        let replica = &self.replica;
-        (replica.epoch(), replica.connection(), replica.promoted(), replica.checked())
-    }
-
     pub fn is_stored(&self, id: &SessionId) -> bool {
         self.replica.storage().stored(id).is_some()
     }

@@ -128,7 +128,7 @@ impl Shadow {
         Self { areas, size, hold }
     }
 
-    /// Looks at the areas after a call that gave this answer: what is there that it may not have written.
+    /// Looks at the areas after a call that gave this answer; the first thing that isn't as it must be.
     pub fn look(&mut self, areas: &Areas, call: &Call, answer: &str, held: Option<Held>) -> Result<(), String> {
         held.into_iter().for_each(|held| self.hold(held));
         let free = self.moved_on(areas, call, answer);
@@ -137,16 +137,16 @@ impl Shadow {
 
     /// Compares the areas with the copy, and takes over what may have been written.
     fn compare(&mut self, areas: &Areas, mut free: Free) -> Result<(), String> {
-        let changed = |what: &str, at: usize| Err(format!("{what} {at} was written"));
+        let wrong = |what: &str, at: usize| Err(format!("{what} {at} isn't as the call must leave it"));
         let copy = &mut self.areas;
         if let Some(at) = first_change(&areas.words, &copy.words, &mut free.words) {
-            return changed("word", at);
+            return wrong("word", at);
         }
         if let Some(at) = first_change(&areas.bytes, &copy.bytes, &mut free.bytes) {
-            return changed("byte", at);
+            return wrong("byte", at);
         }
         if let Some(at) = first_change(&areas.holds, &copy.holds, &mut []) {
-            return changed("byte of the hold areas", at);
+            return wrong("byte of the hold areas", at);
         }
         let mut row = match free.row {
             Records::One(at) => vec![at..at + 1],
@@ -154,7 +154,7 @@ impl Shadow {
             _ => Vec::new(),
         };
         if let Some(at) = first_change(&areas.row, &copy.row, &mut row) {
-            return changed("record", at);
+            return wrong("record", at);
         }
         take_over(&areas.words, &mut copy.words, free.words);
         take_over(&areas.bytes, &mut copy.bytes, free.bytes);
@@ -183,7 +183,12 @@ impl Shadow {
                 self.run_pending();
                 Free::default()
             }
-            Call::Drop(_) => Free { words: vec![1..2], row: Records::StayOrAreFreed, ..Free::default() },
+            Call::Drop(_) => {
+                if areas.words[1] == 0 {
+                    self.areas.words[1] = 0;
+                }
+                Free { row: Records::StayOrAreFreed, ..Free::default() }
+            }
             Call::Promote | Call::Unchecked if answer == "ok" => self.promotion(),
             Call::Set(_) => {
                 self.areas.row.clone_from(&areas.row);

@@ -46,6 +46,10 @@ pub fn frame(frame: &[u8], out: &mut [u8]) -> u64 {
     }
 }
 
+pub fn read(bytes: &[u8]) -> u64 {
+    frame(bytes, &mut vec![0; bytes.len()])
+}
+
 /// All that a call works on.
 struct Standby<'a> {
     counters: &'a mut Counters,
@@ -255,27 +259,29 @@ impl Standby<'_> {
             self.let_go(index);
             return Ok(wire::nack(handle, DIVERGED));
         }
-        let changes = if part == wire::COMMIT {
-            if self.row[index].held_len > 0 {
-                return Err(15);
+        match part {
+            wire::COMMIT if self.row[index].held_len > 0 => Err(15),
+            wire::COMMIT => self.commit(index, commit_no, &batch.changes),
+            _ => self.whole(index, batch),
+        }
+    }
+
+    /// A Whole is held, a LastWhole joined to all held before it.
+    fn whole(&mut self, index: usize, batch: &Batch) -> Answer {
+        let Batch { handle, commit_no, part, .. } = *batch;
+        self.hold(index, batch)?;
+        if part == wire::WHOLE {
+            if fault(17) {
+                let session = &mut self.sessions[self.row[index].place as usize];
+                batch.changes.iter().for_each(|change| session.apply(change, self.c, self.m));
             }
-            batch.changes.clone()
-        } else {
-            self.hold(index, batch)?;
-            if part == wire::WHOLE {
-                if fault(17) {
-                    let session = &mut self.sessions[self.row[index].place as usize];
-                    batch.changes.iter().for_each(|change| session.apply(change, self.c, self.m));
-                }
-                self.row[index].commit_no = commit_no;
-                return Ok(wire::ack(handle, commit_no));
-            }
-            let changes = self.held(index);
-            if !fault(6) {
-                self.let_go(index);
-            }
-            changes
-        };
+            self.row[index].commit_no = commit_no;
+            return Ok(wire::ack(handle, commit_no));
+        }
+        let changes = self.held(index);
+        if !fault(6) {
+            self.let_go(index);
+        }
         self.commit(index, commit_no, &changes)
     }
 
