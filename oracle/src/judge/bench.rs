@@ -9,7 +9,8 @@ use turbojet_replica::active::reach::whole;
 use turbojet_replica::frame::Frame;
 
 use crate::call::{Key, Setting, hold_for_any};
-use crate::ours::{self, Ours};
+use crate::library::{self, outcome};
+use crate::ours::Ours;
 use crate::rust::Rust;
 use crate::side::Side;
 use crate::wire::{self, Batch, change};
@@ -95,7 +96,7 @@ fn by_rust(rust: &mut Rust, frame: &[u8], out: &mut Vec<u8>) {
 }
 
 fn by_us(us: &mut Ours, frame: &[u8]) {
-    assert!(ours::is_work(us.ask(frame)), "a frame is taken");
+    assert!(outcome(us.ask(frame)).is_ok(), "a frame is taken");
 }
 
 /// Two standbys with their sessions bound to handles 0, 1 ..., and the last number of each.
@@ -156,7 +157,7 @@ fn decoding() -> Row {
     timed(
         "decode of a 200-byte Commit",
         1_000_000,
-        || assert!(ours::is_work(ours::read_alone(black_box(&frame)))),
+        || assert!(outcome(library::read(black_box(&frame))).is_ok()),
         || assert!(black_box(Frame::decode(black_box(&frame))).is_ok()),
     )
 }
@@ -173,7 +174,7 @@ fn encoding() -> Row {
     timed(
         "encode of a Bound",
         1_000_000,
-        || assert!(ours::is_work(us.write(black_box(&said)))),
+        || assert!(outcome(us.write(black_box(&said))).is_ok()),
         || {
             out.clear();
             black_box(&answer).encode(&mut out);
@@ -207,7 +208,8 @@ fn sending(length: usize) -> ([Row; 3], usize) {
     let bind = wire::bind(0, 0, 0, &key(0));
     let (mut area, mut frame) = (vec![0; 2 << 20], Vec::new());
     let row = |what| Row { name: format!("{MESSAGES} messages of {length}{what}"), ours: f64::MAX, rust: f64::MAX };
-    let [mut both, mut sent, mut taken] = ["sent whole into a standby", "the sending alone", "the taking alone"].map(|what| row(format!(": {what}")));
+    let [mut both, mut sent, mut taken] =
+        ["sent whole into a standby", "the sending alone", "the taking alone"].map(|what| row(format!(": {what}")));
     let mut bytes = 0;
     for _ in 0..ROUNDS {
         by_us(&mut our_standby, &bind);
@@ -257,11 +259,11 @@ fn fnv(bytes: &[u8]) -> u64 {
 
 fn hashing() -> Row {
     let bytes: Vec<u8> = (0..1_u32 << 20).map(|at| (at * 7) as u8).collect();
-    assert_eq!(fnv(&bytes), ours::fnv(&bytes));
+    assert_eq!(fnv(&bytes), library::fnv(&bytes));
     let mut row = timed(
         "FNV-1a, a byte",
         20,
-        || assert_ne!(ours::fnv(black_box(&bytes)), 0),
+        || assert_ne!(library::fnv(black_box(&bytes)), 0),
         || assert_ne!(fnv(black_box(&bytes)), 0),
     );
     row.ours /= bytes.len() as f64;
@@ -310,6 +312,8 @@ pub fn sendings() {
         rows.iter().for_each(print);
         let copy = copying(sent);
         let (ours, rust) = (rows[0].ours / copy, rows[0].rust / copy);
-        println!("| one memcpy of its {sent} bytes: ours is {ours:.1} of them, the Rust's {rust:.1} | {copy:.1} | {copy:.1} | |");
+        println!(
+            "| one memcpy of its {sent} bytes: ours is {ours:.1} of them, the Rust's {rust:.1} | {copy:.1} | {copy:.1} | |"
+        );
     }
 }

@@ -60,6 +60,12 @@ impl Counts {
         self.add(format!("read {}", kind(frame)), answered);
     }
 
+    /// A frame written again into an area that is too short.
+    #[cfg(ours)]
+    pub fn written_short(&mut self, frame: &[u8]) {
+        self.add(format!("write {}", kind(frame)), "R 9".into());
+    }
+
     pub fn call(&mut self, call: &Call, answer: &str) {
         let frame = |bytes: &[u8]| {
             let answered = if answer.starts_with('R') { answer.into() } else { frame_name(answer) };

@@ -1,9 +1,11 @@
 //! Document 01's listed differences, each applied here and nowhere else, around the unchanged
 //! Rust. docs/DIFFERENCES.md has the reasons.
 //!
-//! 8, 9 and 1 in writing don't show here: the drivers write only frames that can be written,
-//! into areas that grow. The byte sum's cap needs nothing: the Rust's own addition saturates.
+//! 8 and 1 in writing don't show here: the drivers write only frames that can be written. The
+//! byte sum's cap needs nothing: the Rust's own addition saturates.
 
+#[cfg(ours)]
+use std::borrow::Cow;
 use std::sync::atomic::{AtomicBool, Ordering};
 
 use turbojet::SessionId;
@@ -14,6 +16,8 @@ use turbojet_replica::standby::Replica;
 use turbojet_replica::standby::reach::WHOLE_SESSION_BYTES;
 
 use crate::call::Setting;
+#[cfg(ours)]
+use crate::frames::Reading;
 use crate::rust::{Rust, stand_in_limits};
 use crate::side::Sent;
 
@@ -157,6 +161,18 @@ pub fn cap_promotion(replica: &Replica<MemoryStorage>, capped: &[SessionId]) {
     }
 }
 
+/// Difference 9: what is written is longer than its area, where the Rust's buffer grows.
+pub fn no_room(len: usize, area: usize) -> Option<u32> {
+    (!alone() && len > area).then_some(9)
+}
+
+/// Difference 9 where a frame that was read is written again.
+#[cfg(ours)]
+pub fn writing(rust: &Reading, area: usize) -> Cow<'_, Reading> {
+    let refusal = if let Reading::Frame(_, frame) = rust { no_room(frame.len(), area) } else { None };
+    refusal.map_or(Cow::Borrowed(rust), |number| Cow::Owned(Reading::Refused(number, 0, 0)))
+}
+
 /// Differences 24 and 9: commit numbers past 2^64 - 1, and a frame too long for its area.
 pub fn sending(last: u64, frames: Vec<Vec<u8>>, length: Option<u64>) -> Sent {
     if alone() {
@@ -165,8 +181,8 @@ pub fn sending(last: u64, frames: Vec<Vec<u8>>, length: Option<u64>) -> Sent {
     if last.checked_add(frames.len() as u64).is_none() {
         return Sent { frames: Vec::new(), end: Err(24) };
     }
-    let fits = |frame: &&Vec<u8>| length.is_none_or(|length| frame.len() as u64 <= length);
-    let count = frames.iter().take_while(fits).count();
-    let end = if count == frames.len() { Ok(()) } else { Err(9) };
-    Sent { frames: frames.into_iter().take(count).collect(), end }
+    let area = length.map_or(usize::MAX, |length| length as usize);
+    let room = |frame: &Vec<u8>| no_room(frame.len(), area);
+    let end = frames.iter().find_map(room).map_or(Ok(()), Err);
+    Sent { frames: frames.into_iter().take_while(|frame| room(frame).is_none()).collect(), end }
 }

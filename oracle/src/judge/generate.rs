@@ -271,7 +271,8 @@ pub struct Player {
 
 /// A setting: mostly a few places and small limits, so that they are met.
 pub fn setting(random: &mut Random) -> Setting {
-    let (many, large) = (random.percent(4), random.below(400) == 0);
+    let (many, large) = (random.percent(2), random.below(600) == 0);
+    let many = many && !large;
     let bytes = if large { 4 << 20 } else { random.pick(&[0, 1, 7, 20, 40, 200]) };
     let messages = if large { 12 } else { random.pick(&[0, 1, 2, 3, 4, 8]) };
     let any = hold_for_any(bytes, messages);

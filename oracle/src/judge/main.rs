@@ -7,16 +7,25 @@ mod compare;
 mod count;
 mod differences;
 mod digits;
+#[cfg(ours)]
+mod faults;
 mod frames;
 mod generate;
 #[cfg(ours)]
+mod library;
+#[cfg(ours)]
 mod ours;
+#[cfg(ours)]
+mod out;
 #[cfg(plain)]
 #[path = "../plain/mod.rs"]
 mod plain;
 mod record;
+mod run;
 mod rust;
 mod selftest;
+#[cfg(calls)]
+mod shadow;
 mod side;
 #[cfg(ours)]
 mod walk;
@@ -52,7 +61,7 @@ fn main() -> ExitCode {
         #[cfg(ours)]
         ["our-calls"] => print(&side::run::<ours::Ours>(&String::from_utf8_lossy(&input()))),
         #[cfg(ours)]
-        ["our-frames"] => print(&frames::read_lines(&input(), |frame| ours::read(frame, &mut Vec::new()))),
+        ["our-frames"] => print(&frames::read_lines(&input(), ours::read)),
         #[cfg(all(calls, not(plain)))]
         ["bench"] => bench::bench(),
         #[cfg(all(calls, not(plain)))]

@@ -1,31 +1,26 @@
 //! A stand-in for our side: document 01 read a second time, without the Rust and without the
-//! areas' real layout. It tries the comparison out, and faults can be put into it one at a time
-//! (WIZHDULET_FAULT) to see that the comparison finds each.
+//! areas' real layout, but for the counts and the durable mark. It tries the comparison out, and faults can be put into
+//! it one at a time (WIZHDULET_FAULT) to see that the comparison finds each.
 
 mod read;
 mod session;
 
 use std::cell::RefCell;
 use std::collections::HashMap;
-use std::slice::{from_raw_parts, from_raw_parts_mut};
-use std::sync::OnceLock;
 
-use crate::ours::{Counters, Place};
+use crate::faults::fault;
+use crate::library::{Areas, Ask, Counters, Place, Settings, Size};
 use crate::wire;
 use read::{Batch, Change, Fault, Frame, Left};
 use session::Session;
 
-/// Whether the fault of this number is put in.
-fn fault(number: u32) -> bool {
-    static FAULT: OnceLock<u32> = OnceLock::new();
-    *FAULT.get_or_init(|| std::env::var("WIZHDULET_FAULT").map_or(0, |n| n.parse().unwrap_or(0))) == number
-}
-
 const WORK: u64 = 1 << 63;
 
-fn put(out: *mut u8, out_len: usize, answer: &[u8]) {
-    let out = unsafe { from_raw_parts_mut(out, out_len) };
-    out[..answer.len()].copy_from_slice(answer);
+/// Writes an answer, or says 9.
+fn put(out: &mut [u8], answer: &[u8]) -> u64 {
+    let Some(out) = out.get_mut(..answer.len()) else { return refusal(9) };
+    out.copy_from_slice(answer);
+    WORK + answer.len() as u64
 }
 
 fn refusal(number: u32) -> u64 {
@@ -37,18 +32,22 @@ thread_local! {
     static STORES: RefCell<HashMap<usize, Vec<Session>>> = RefCell::default();
 }
 
-#[unsafe(no_mangle)]
-extern "C" fn wz_frame(frame: *const u8, frame_len: usize, out: *mut u8, out_len: usize) -> u64 {
-    let (frame, out) = unsafe { (from_raw_parts(frame, frame_len), from_raw_parts_mut(out, out_len)) };
+/// The name of a store.
+fn store(areas: &Areas) -> usize {
+    areas.words.as_ptr() as usize
+}
+
+pub fn frame(frame: &[u8], out: &mut [u8]) -> u64 {
     match read::read(frame) {
         Err(Fault::More) => 0,
         Err(Fault::Refused(4, _)) if fault(1) => refusal(2),
         Err(Fault::Refused(number, detail)) => refusal(number) + detail,
-        Ok((_, used)) => {
-            out[..used as usize].copy_from_slice(&frame[..used as usize]);
-            WORK + used
-        }
+        Ok((_, used)) => put(out, &frame[..used as usize]),
     }
+}
+
+pub fn read(bytes: &[u8]) -> u64 {
+    frame(bytes, &mut vec![0; bytes.len()])
 }
 
 /// All that a call works on.
@@ -58,6 +57,7 @@ struct Standby<'a> {
     words: &'a mut [u64],
     holds: &'a mut [u8],
     sessions: Vec<Session>,
+    size: Size,
     places: u64,
     c: u64,
     m: u64,
@@ -80,7 +80,9 @@ impl Standby<'_> {
 
     fn run_pending(&mut self) {
         for word in self.pending().to_vec() {
-            self.sessions[(word >> 32) as usize].durable = true;
+            let place = (word >> 32) as usize;
+            self.sessions[place].durable = true;
+            self.words[self.size.start(place).0 + 4] = 1;
         }
         self.words[1] = 0;
     }
@@ -257,27 +259,29 @@ impl Standby<'_> {
             self.let_go(index);
             return Ok(wire::nack(handle, DIVERGED));
         }
-        let changes = if part == wire::COMMIT {
-            if self.row[index].held_len > 0 {
-                return Err(15);
+        match part {
+            wire::COMMIT if self.row[index].held_len > 0 => Err(15),
+            wire::COMMIT => self.commit(index, commit_no, &batch.changes),
+            _ => self.whole(index, batch),
+        }
+    }
+
+    /// A Whole is held, a LastWhole joined to all held before it.
+    fn whole(&mut self, index: usize, batch: &Batch) -> Answer {
+        let Batch { handle, commit_no, part, .. } = *batch;
+        self.hold(index, batch)?;
+        if part == wire::WHOLE {
+            if fault(17) {
+                let session = &mut self.sessions[self.row[index].place as usize];
+                batch.changes.iter().for_each(|change| session.apply(change, self.c, self.m));
             }
-            batch.changes.clone()
-        } else {
-            self.hold(index, batch)?;
-            if part == wire::WHOLE {
-                if fault(17) {
-                    let session = &mut self.sessions[self.row[index].place as usize];
-                    batch.changes.iter().for_each(|change| session.apply(change, self.c, self.m));
-                }
-                self.row[index].commit_no = commit_no;
-                return Ok(wire::ack(handle, commit_no));
-            }
-            let changes = self.held(index);
-            if !fault(6) {
-                self.let_go(index);
-            }
-            changes
-        };
+            self.row[index].commit_no = commit_no;
+            return Ok(wire::ack(handle, commit_no));
+        }
+        let changes = self.held(index);
+        if !fault(6) {
+            self.let_go(index);
+        }
         self.commit(index, commit_no, &changes)
     }
 
@@ -297,100 +301,68 @@ impl Standby<'_> {
     }
 }
 
-#[unsafe(no_mangle)]
-extern "C" fn wz_call(
-    counters: *mut Counters,
-    row: *mut Place,
-    row_len: usize,
-    words: *mut u64,
-    words_len: usize,
-    _bytes: *mut u8,
-    _bytes_len: usize,
-    holds: *mut u8,
-    holds_len: usize,
-    out: *mut u8,
-    out_len: usize,
-    frame: *const u8,
-    frame_len: usize,
-    sessions: u32,
-    c: u32,
-    m: u32,
-    incarnation: u64,
-    lag: u64,
-    hold: u64,
-    call: u32,
-    number: u64,
-) -> u64 {
-    if c > 33_554_432 || m > 65_536 {
+/// What a call gives: the answer's frame, or a refusal.
+pub struct Said(Answer);
+
+/// Makes a store, and a standby over it.
+pub fn made(_: &mut Counters, areas: &mut Areas, settings: Settings) -> u64 {
+    if settings.size.bytes > 33_554_432 || settings.size.messages > 65_536 {
         return refusal(25);
     }
-    let store = words as usize;
-    let taken = STORES.with_borrow_mut(|stores| stores.remove(&store)).unwrap_or_default();
+    areas.words[..2].fill(0);
+    STORES.with_borrow_mut(|stores| stores.insert(store(areas), Vec::new()));
+    WORK
+}
+
+pub fn said(counters: &mut Counters, areas: &mut Areas, settings: Settings, ask: Ask) -> Said {
+    let store = store(areas);
+    let Size { sessions, bytes: c, messages: m } = settings.size;
     let mut standby = Standby {
-        counters: unsafe { &mut *counters },
-        row: unsafe { from_raw_parts_mut(row, row_len) },
-        words: unsafe { from_raw_parts_mut(words, words_len) },
-        holds: unsafe { from_raw_parts_mut(holds, holds_len) },
-        sessions: if call == 0 { Vec::new() } else { taken },
+        counters,
+        hold: (areas.holds.len() / areas.row.len().max(1)) as u64,
+        row: &mut areas.row,
+        words: &mut areas.words,
+        holds: &mut areas.holds,
+        sessions: STORES.with_borrow_mut(|stores| stores.remove(&store)).unwrap_or_default(),
+        size: settings.size,
         places: sessions.into(),
         c: c.into(),
         m: m.into(),
-        incarnation: incarnation.max(1),
-        lag,
-        hold,
+        incarnation: settings.incarnation.max(1),
+        lag: settings.lag,
     };
-    let frame = unsafe { from_raw_parts(frame, frame_len) };
-    let answer = match call {
-        0 => {
-            (standby.words[0], standby.words[1]) = (0, 0);
-            Ok(Vec::new())
-        }
-        1 => standby.on_frame(frame, true),
-        2 => standby.on_frame(frame, false),
-        3 => standby.flush(number),
-        4 => {
-            if number == standby.counters.connections || fault(8) {
+    let answer = match ask {
+        Ask::Held(frame) => standby.on_frame(frame, true),
+        Ask::Frame(frame) => standby.on_frame(frame, false),
+        Ask::Flush(connection) => standby.flush(connection),
+        Ask::Drop(connection) => {
+            if connection == standby.counters.connections || fault(8) {
                 standby.drop_bindings();
             }
             Ok(Vec::new())
         }
-        _ => standby.promote(call == 6),
+        Ask::Promote => standby.promote(false),
+        Ask::Unchecked => standby.promote(true),
     };
     STORES.with_borrow_mut(|stores| stores.insert(store, standby.sessions));
-    match answer {
-        Ok(answer) => {
-            put(out, out_len, &answer);
-            WORK + answer.len() as u64
-        }
-        Err(number) => refusal(number),
-    }
+    Said(answer)
 }
 
-fn stored(words: *const u64, place: u64) -> Option<Session> {
-    STORES.with_borrow(|stores| stores.get(&(words as usize))?.get(usize::try_from(place).ok()?).cloned())
+/// Writes an answer's frame.
+pub fn answer(said: &Said, _: &[u8], out: &mut [u8]) -> u64 {
+    said.0.as_ref().map_or_else(|number| refusal(*number), |frame| put(out, frame))
 }
 
-#[unsafe(no_mangle)]
-extern "C" fn wz_session(
-    words: *const u64,
-    _words_len: usize,
-    _bytes: *const u8,
-    _bytes_len: usize,
-    out: *mut u8,
-    out_len: usize,
-    _sessions: u32,
-    _c: u32,
-    _m: u32,
-    place: u64,
-    n: u64,
-) -> u64 {
-    let Some(session) = stored(words, place) else { return refusal(25) };
+fn stored(areas: &Areas, place: u64) -> Option<Session> {
+    STORES.with_borrow(|stores| stores.get(&store(areas))?.get(usize::try_from(place).ok()?).cloned())
+}
+
+pub fn session(areas: &Areas, _: Size, out: &mut [u8], place: u64, n: u64) -> u64 {
+    let Some(session) = stored(areas, place) else { return refusal(25) };
     let head = wire::Body::default().u8(session.durable.into()).u8(session.flight.is_some().into());
     let keyed = session.key.iter().fold(head, |body, part| body.blob(part));
     let numbers = keyed.u64(session.out).u64(session.incoming).u64(session.flight.unwrap_or(0));
-    let told = numbers.blob(&session.stamp).blob(&session.marks).u64(session.last_outgoing(n)).0;
-    put(out, out_len, &told);
-    WORK + told.len() as u64
+    put(out, &numbers.blob(&session.stamp).blob(&session.marks).u64(session.last_outgoing(n)).0)
 }
 
 /// A session's batches, each a list of changes in frame form.
@@ -424,25 +396,15 @@ fn batches(session: &Session) -> Vec<Vec<Vec<u8>>> {
     batches
 }
 
-#[unsafe(no_mangle)]
-extern "C" fn wz_send(
-    words: *const u64,
-    _words_len: usize,
-    _bytes: *const u8,
-    _bytes_len: usize,
-    sending: *mut u64,
-    sending_len: usize,
-    out: *mut u8,
-    out_len: usize,
-    _sessions: u32,
-    _c: u32,
-    _m: u32,
+pub fn send(
+    areas: &Areas,
+    _: Size,
+    sending: &mut [u64],
+    out: &mut [u8],
     place: u64,
-    handle: u32,
-    epoch: u64,
+    (handle, epoch): (u32, u64),
 ) -> u64 {
-    let sending = unsafe { from_raw_parts_mut(sending, sending_len) };
-    let Some(session) = stored(words, place) else { return refusal(25) };
+    let Some(session) = stored(areas, place) else { return refusal(25) };
     let batches = batches(&session);
     // Its own count of batches given stands for the next message number.
     let [last, given] = [sending[0], sending[1]];
@@ -453,17 +415,13 @@ extern "C" fn wz_send(
     let part = if given as usize + 1 == batches.len() { wire::LAST_WHOLE } else { wire::WHOLE };
     let (changes, records) = (changes.clone(), Vec::new());
     let frame = wire::batch(&wire::Batch { handle, epoch, commit_no: last + 1, part, changes, records });
-    if frame.len() > out_len {
-        return refusal(9);
+    if frame.len() <= out.len() {
+        (sending[0], sending[1]) = (last + 1, given + 1);
     }
-    put(out, out_len, &frame);
-    (sending[0], sending[1]) = (last + 1, given + 1);
-    WORK + frame.len() as u64
+    put(out, &frame)
 }
 
-#[unsafe(no_mangle)]
-extern "C" fn wz_queue(queue: *mut u64, queue_len: usize, max_lag: u64, last: u64) -> u64 {
-    let queue = unsafe { from_raw_parts_mut(queue, queue_len) };
+pub fn queue(queue: &mut [u64], max_lag: u64, last: u64) -> u64 {
     let mut waiting: Vec<u64> = queue[2..][..queue[1] as usize].to_vec();
     waiting.push(last);
     let mut count = 0;

@@ -1,7 +1,7 @@
 //! A stored session, by document 01 alone.
 
-use super::fault;
 use super::read::Change;
+use crate::faults::fault;
 
 #[derive(Clone)]
 pub struct Session {
