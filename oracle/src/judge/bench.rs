@@ -292,10 +292,12 @@ pub fn bench() -> ExitCode {
 fn calls() {
     print(&decoding());
     print(&encoding());
-    for sessions in [1, 50] {
-        let pair = Pair::new(&setting(sessions, 1 << 20, 1024, 0));
-        let name = format!("on_frame: Commit of one message of 200, sessions bound {sessions}");
-        print(&pair.commits(name, sessions as u32, 200, 10, 100_000));
+    for (c, m) in [(4096, 64), (1 << 20, 1024)] {
+        for sessions in [1, 50] {
+            let pair = Pair::new(&setting(sessions, c, m, 0));
+            let name = format!("on_frame: Commit of one message of 200, C = {c}, M = {m}, sessions bound {sessions}");
+            print(&pair.commits(name, sessions as u32, 200, m + 10, 100_000));
+        }
     }
     print(&binding());
     for messages in [64, 65_536] {
