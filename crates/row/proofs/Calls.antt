@@ -40,6 +40,7 @@ use Rattle.row.proofs.find.Symbol.{name as #row·find}
 use Rattle.row.proofs.find_free as find-free
 use Rattle.row.proofs.find_free.Symbol.{name as #row·find-free}
 use Rattle.row.proofs.find_broken as find-broken
+use Rattle.row.proofs.find_free_for as find-free-for
 use Rattle.row.proofs.find_broken.Symbol.{name as #row·find-broken}
 use Rattle.row.proofs.get_or as get-or
 use Rattle.row.proofs.get_or.Symbol.{name as #row·get-or}
@@ -63,6 +64,9 @@ module _ {M : Type 1} (𝓤 : URA M) (H : Heap 𝓤) (A : Atoms 𝓤) (memory : 
 
   abbrev pub FindBroken : Contract 𝓤
   FindBroken = tripleOf 𝓤 H A find-broken.signature (find-broken.spec 𝓤 H A memory run)
+
+  abbrev pub FindFreeFor : Contract 𝓤
+  FindFreeFor = tripleOf 𝓤 H A find-free-for.signature (find-free-for.spec 𝓤 H A memory run)
 
   abbrev pub GetOr : Contract 𝓤
   GetOr = tripleOf 𝓤 H A get-or.signature (get-or.spec 𝓤 H A memory run)

@@ -19,6 +19,10 @@ isOf h k = h .used && eqb (h .handle) k
 abbrev pub isFree : Handle → Bool
 isFree h = not (h .used)
 
+-- it ends the search for a free record: it is free, or none is sought, since the handle stands at a place `at` of n
+abbrev pub isFreeFor : Handle → ℕ → ℕ → Bool
+isFreeFor h at n = ltb at n || not (h .used)
+
 abbrev pub breaksOf : Handle → ℕ → ℕ → Bool
 breaksOf h places room = h .used && (leb places (h .place) || ltb room (h .«held_len»))
 
@@ -38,6 +42,9 @@ findOf hs k = firstOf (λ h. isOf h k) hs
 abbrev pub freeOf : List Handle → ℕ
 freeOf hs = firstOf isFree hs
 
+abbrev pub freeFor : List Handle → ℕ → ℕ → ℕ
+freeFor hs at n = firstOf (λ h. isFreeFor h at n) hs
+
 abbrev pub brokenOf : List Handle → ℕ → ℕ → ℕ
 brokenOf hs places room = firstOf (λ h. breaksOf h places room) hs
 
@@ -56,4 +63,4 @@ clearedFrom (suc i) (h ∷ hs) = h ∷ clearedFrom i hs
 
 -- all that is found for a handle
 abbrev pub seenOf : List Handle → ℕ → ℕ → ℕ → Seen
-seenOf hs k places room = record { at = findOf hs k; free = freeOf hs; len = length hs; broken = brokenOf hs places room; bound = getD hs (findOf hs k) none }
+seenOf hs k places room = record { at = findOf hs k; free = freeFor hs (findOf hs k) (length hs); len = length hs; broken = brokenOf hs places room; bound = getD hs (findOf hs k) none }

@@ -2,7 +2,7 @@
 use frame::CommitNumber;
 ghost use mathlib.Core.Path.{_≡_};
 ghost use lib.ListN.{length, set, getD};
-ghost use Rattle.row.specs.Row.{none, isOf, isFree, breaksOf, findOf, freeOf, brokenOf, clearedFrom, clearedAll, seenOf};
+ghost use Rattle.row.specs.Row.{none, isOf, isFree, isFreeFor, breaksOf, findOf, freeOf, freeFor, brokenOf, clearedFrom, clearedAll, seenOf};
 
 // A handle that is bound to a session's place, with what it holds back; a record that is not used is free.
 #[repr(C)]
@@ -41,6 +41,13 @@ pub fn is_free(h: Handle) -> bool
     ensures { λ r. ⌜ r ≡ isFree h ⌝ }
 {
     !h.used
+}
+
+// Whether a record ends the search for a free one: it is free, or none is sought, since the handle stands at `at` of `len`.
+pub fn is_free_for(h: Handle, at: usize, len: usize) -> bool
+    ensures { λ r. ⌜ r ≡ isFreeFor h at len ⌝ }
+{
+    (at < len) | !h.used
 }
 
 // Whether a used record breaks the rules: its place is not below `places`, or it holds more than `room` bytes.
@@ -95,6 +102,21 @@ pub fn find_broken(row: &[Handle], places: usize, room: usize) -> usize
     i
 }
 
+// The place of the first free record, or the length; for a handle that stands at `at` of `len` none is sought, and it is the first place.
+pub fn find_free_for(row: &[Handle], at: usize, len: usize) -> usize
+    ensures { λ r. ⌜ r ≡ freeFor (now (row .entry)) at len ⌝ }
+{
+    let mut i = 0;
+    while i < row.len() {
+        let h = row[i];
+        if is_free_for(h, at, len) {
+            return i;
+        }
+        i += 1;
+    }
+    i
+}
+
 // The record at a place, and past the end `nobody`.
 pub fn get_or(row: &[Handle], i: usize) -> Handle
     ensures { λ r. ⌜ r ≡ getD (now (row .entry)) i none ⌝ }
@@ -141,7 +163,7 @@ pub fn clear(row: &mut [Handle])
     clear_from(row, 0);
 }
 
-// What is found in a row for a handle: its place, the first free one, the length, the first that breaks the rules, and the record at its place.
+// What is found in a row for a handle: its place, the first free one where it has none, the length, the first that breaks the rules, and the record at its place.
 #[repr(C)]
 pub struct Seen {
     pub at: usize,
@@ -156,8 +178,8 @@ pub fn look(row: &[Handle], handle: u32, places: usize, room: usize) -> Seen
     ensures { λ r. ⌜ r ≡ seenOf (now (row .entry)) handle places room ⌝ }
 {
     let at = find(row, handle);
-    let free = find_free(row);
     let len = row.len();
+    let free = find_free_for(row, at, len);
     let broken = find_broken(row, places, room);
     let bound = get_or(row, at);
     Seen {

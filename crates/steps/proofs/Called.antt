@@ -13,7 +13,7 @@ use Rattle.model_frame.specs.Bytes.{write}
 use Rattle.laws.proofs.Little.{length-write}
 use Rattle.row.specs.declared.Handle.{Handle}
 use Rattle.row.specs.declared.Seen.{Seen}
-use Rattle.row.specs.Row.{findOf, freeOf, brokenOf, clearedFrom, clearedAll, seenOf}
+use Rattle.row.specs.Row.{isFree, firstOf, findOf, freeOf, brokenOf, clearedFrom, clearedAll, seenOf}
 use Rattle.row.specs.Row as handles
 use Rattle.row.proofs.Lists.{clears-end, cleared-length}
 use Rattle.bindings.specs.Rows.{rowOf}
@@ -26,7 +26,7 @@ use Rattle.model.specs.Row.{Row, isSome, hasFree, find, put}
 use Rattle.model.specs.State.{Bound, Call}
 use Rattle.model.specs.State as state
 use Rattle.model.specs.Hold.{Written}
-use Rattle.model.specs.Core.{Action, leave, store, clear, CoreResult, act, acted, coreStep, handleOf}
+use Rattle.model.specs.Core.{Core, Action, leave, store, clear, CoreResult, act, acted, coreStep, handleOf}
 use Rattle.model.proofs.Factoring.{factored}
 use Rattle.on_batch.specs.State.{boundOf, coreAt}
 use Rattle.outcome.specs.declared.Replica.{Replica}
@@ -37,7 +37,7 @@ use Rattle.outcome.specs.Outcomes.{countersOf, settingsOf, leaving, spotOf, are
 use Rattle.steps.specs.Steps.{roomOf, foundIn, asks, Leaves, holdsAfter, writesBy, Stepped, StepIs}
 use Rattle.steps.specs.Calls.{roomAll, standbyOf, allowedAll, soughtBy, CalledSteps, Called}
 use Rattle.steps.proofs.Naming.{sought-own}
-use Rattle.steps.proofs.Fitting.{Fit, step-fit, step-any, writes-none, written-inside, leaves-any}
+use Rattle.steps.proofs.Fitting.{Fit, step-fit, step-any, step-own, writes-none, written-inside, leaves-any}
 use Rattle.steps.proofs.Rows.{Whole, whole-of, of-whole, whole-more, record-whole, whole-cleared, none-set, found-own, seen-allowed, take-write, drop-write}
 use Rattle.model_text.proofs.Formed.{and-r}
 
@@ -77,12 +77,32 @@ module _ (row : List Handle) (k : ℕ) (w h : List ℕ) where
       go true e = sym (find-hit (boundOf protocolVersion) Room k row h (ltb-true (findOf row k) (length row) e))
       go false e = sym (find-miss (boundOf protocolVersion) Room k row h (ltb-false (findOf row k) (length row) e))
 
+  -- the place for a handle that has none: the first free one
+  abbrev Free : ℕ
+  Free = Looked .free
+
+  free-of : ltb (findOf row k) (length row) ≡ false → Free ≡ freeOf row
+  free-of e = ap (λ (t : Bool). firstOf (λ x. t || isFree x) row) e
+
   free-in : ltb (freeOf row) (length row) ≡ hasFree Handles
   free-in = go (ltb (freeOf row) (length row)) refl
     where
       go : (t : Bool) → ltb (freeOf row) (length row) ≡ t → t ≡ hasFree Handles
       go true e = sym (free-hit (boundOf protocolVersion) Room row h (ltb-true (freeOf row) (length row) e))
       go false e = sym (free-miss (boundOf protocolVersion) Room row h (ltb-false (freeOf row) (length row) e))
+
+  abbrev Own : Bound
+  Own = boundOf protocolVersion (getD row (findOf row k) handles.none) (areaAt Room (findOf row k) h)
+
+  found-core : (L : state.Settings) (x : Core) (call : Call) → coreStep L x (foundIn Looked h) (ltb Free (length row)) call ≡ coreStep L x (find k Handles) (hasFree Handles) call
+  found-core L x call = go (ltb (findOf row k) (length row)) refl
+    where
+      go : (t : Bool) → ltb (findOf row k) (length row) ≡ t → coreStep L x (foundIn Looked h) (ltb Free (length row)) call ≡ coreStep L x (find k Handles) (hasFree Handles) call
+      go true e =
+          subst (λ (y : Option Bound). coreStep L x y (ltb Free (length row)) call ≡ coreStep L x y (hasFree Handles) call) (sym (ap (λ (t : Bool). cond t (some Own) none) e))
+          (step-own L x Own (ltb Free (length row)) (hasFree Handles) call)
+          ∙ ap (λ (y : Option Bound). coreStep L x y (hasFree Handles) call) found-in
+      go false e = (λ i. coreStep L x (found-in i) ((ap (λ (n : ℕ). ltb n (length row)) (free-of e) ∙ free-in) i) call)
 
   -- ---- what is done to the row
 
@@ -126,7 +146,7 @@ module _ (row : List Handle) (k : ℕ) (w h : List ℕ) where
         go false false e f = subst (Whole used Room) (sym (same-row e f)) grown
 
     module _ (own : ℕ) (asked : Bool) (wr : Option Written) (h' : List ℕ) (mine : asked ≡ true → k ≡ own)
-        (fit : Fit asked own (foundIn Looked h) (ltb (freeOf row) (length row)) wr (actionOf protocolVersion Room h' o))
+        (fit : Fit asked own (foundIn Looked h) (ltb Free (length row)) wr (actionOf protocolVersion Room h' o))
         (holds : h' ≡ holdsAfter Room (findOf row k) wr h) (inside : (x : Written) → wr ≡ some x → x .offset + length (x .bytes) ≤ Room) where
       abbrev After : List Handle → List ℕ → Row Bound
       After r x = rowOf (boundOf protocolVersion) Room r x
@@ -144,7 +164,7 @@ module _ (row : List Handle) (k : ℕ) (w h : List ℕ) where
           other-action c e f =
               (λ i. cond (e i) (store (o .slot .handle) (boundOf protocolVersion (o .slot) (areaAt Room (o .at) h'))) (cond (f i) clear leave))
 
-          puts : o .stores ≡ true → Fit asked own (foundIn Looked h) (ltb (freeOf row) (length row)) wr (store (o .slot .handle) (boundOf protocolVersion (o .slot) (areaAt Room (o .at) h')))
+          puts : o .stores ≡ true → Fit asked own (foundIn Looked h) (ltb Free (length row)) wr (store (o .slot .handle) (boundOf protocolVersion (o .slot) (areaAt Room (o .at) h')))
               → After (set row (o .at) (o .slot)) h' ≡ put (o .slot .handle) (boundOf protocolVersion (o .slot) (areaAt Room (o .at) h')) Handles
           puts e f = by-place (ltb (findOf row k) (length row)) refl
             where
@@ -158,8 +178,8 @@ module _ (row : List Handle) (k : ℕ) (w h : List ℕ) where
                   ap (λ (j : ℕ). After (set row j (o .slot)) h') at ∙ p
                   ∙ sym (λ j. put (is-k j) (boundOf protocolVersion (o .slot) (areaAt Room (at j) h')) Handles)
 
-              spot : (t : Bool) → ltb (findOf row k) (length row) ≡ t → o .at ≡ cond t (findOf row k) (freeOf row)
-              spot t p = lands .at-is ∙ (λ i. cond (e i) (cond (p i) (findOf row k) (freeOf row)) (length row))
+              spot : (t : Bool) → ltb (findOf row k) (length row) ≡ t → o .at ≡ cond t (findOf row k) Free
+              spot t p = lands .at-is ∙ (λ i. cond (e i) (cond (p i) (findOf row k) Free) (length row))
 
               by-place : (t : Bool) → ltb (findOf row k) (length row) ≡ t
                   → After (set row (o .at) (o .slot)) h' ≡ put (o .slot .handle) (boundOf protocolVersion (o .slot) (areaAt Room (o .at) h')) Handles
@@ -168,7 +188,7 @@ module _ (row : List Handle) (k : ℕ) (w h : List ℕ) where
                   (put-own (boundOf protocolVersion) Room k (o .slot) (lands .slot-used e) is-k row h h' (ltb-true (findOf row k) (length row) p)
                   (subst (Apart (boundOf protocolVersion) Room (findOf row k) h) (sym holds) (holds-apart Room (findOf row k) wr h inside)))
               by-place false p =
-                  at-place (freeOf row) (spot false p)
+                  at-place (freeOf row) (spot false p ∙ free-of p)
                   (subst (λ (x : List ℕ). After (set row (freeOf row) (o .slot)) x ≡ put k (boundOf protocolVersion (o .slot) (areaAt Room (freeOf row) x)) Handles) (sym (still (f .1 .1 .1 not-found)))
                   (put-new (boundOf protocolVersion) Room k (o .slot) (lands .slot-used e) is-k row h (ltb-false (findOf row k) (length row) p) free))
                 where
@@ -176,18 +196,18 @@ module _ (row : List Handle) (k : ℕ) (w h : List ℕ) where
                   not-found = ap (λ (t : Bool). isSome (cond t (some (boundOf protocolVersion (getD row (findOf row k) handles.none) (areaAt Room (findOf row k) h))) none)) p
 
                   free : freeOf row < length row
-                  free = ltb-true (freeOf row) (length row) (sym (ap (λ (t : Bool). t || ltb (freeOf row) (length row)) not-found) ∙ f .1 .1 .0)
+                  free = subst (λ (n : ℕ). n < length row) (free-of p) (ltb-true Free (length row) (sym (ap (λ (t : Bool). t || ltb Free (length row)) not-found) ∙ f .1 .1 .0))
 
           go : (s c : Bool) → o .stores ≡ s → o .clears ≡ c → After Next h' ≡ act (actionOf protocolVersion Room h' o) Handles
           go true c e f =
               ap (λ (r : List Handle). After r h') (put-row e)
-              ∙ puts e (subst (Fit asked own (foundIn Looked h) (ltb (freeOf row) (length row)) wr) (put-action e) fit)
+              ∙ puts e (subst (Fit asked own (foundIn Looked h) (ltb Free (length row)) wr) (put-action e) fit)
               ∙ sym (ap (λ (a : Action). act a Handles) (put-action e))
           go false true e f =
-              let quiet : wr ≡ none = subst (Fit asked own (foundIn Looked h) (ltb (freeOf row) (length row)) wr) (other-action true e f) fit in
+              let quiet : wr ≡ none = subst (Fit asked own (foundIn Looked h) (ltb Free (length row)) wr) (other-action true e f) fit in
               (λ i. After (freed-row e f i) (still quiet i)) ∙ all-freed (boundOf protocolVersion) Room row h ∙ sym (ap (λ (a : Action). act a Handles) (other-action true e f))
           go false false e f =
-              let quiet : wr ≡ none = subst (Fit asked own (foundIn Looked h) (ltb (freeOf row) (length row)) wr) (other-action false e f) fit in
+              let quiet : wr ≡ none = subst (Fit asked own (foundIn Looked h) (ltb Free (length row)) wr) (other-action false e f) fit in
               (λ i. After (same-row e f i) (still quiet i)) ∙ sym (ap (λ (a : Action). act a Handles) (other-action false e f))
 
 -- ---- a call
@@ -224,10 +244,10 @@ module _ (s : Settings) (c : Replica) (row : List Handle) (call : Call) (w w' b 
     room-same : roomAll Row' h' ≡ R
     room-same = (λ i. roomOf (holds-same i) (row-same i))
 
-    fits : Fit (asks call) (handleOf call) (foundIn See h) (ltb (freeOf row) (length row)) Wr (actionOf protocolVersion R h' o)
+    fits : Fit (asks call) (handleOf call) (foundIn See h) (ltb (See .free) (length row)) Wr (actionOf protocolVersion R h' o)
     fits =
-        subst (Fit (asks call) (handleOf call) (foundIn See h) (ltb (freeOf row) (length row)) Wr) (sym (ap (λ (r : CoreResult). r .action) (st .is)))
-        (step-fit L (coreAt (countersOf c) (s .shape) w b) (foundIn See h) (ltb (freeOf row) (length row)) call)
+        subst (Fit (asks call) (handleOf call) (foundIn See h) (ltb (See .free) (length row)) Wr) (sym (ap (λ (r : CoreResult). r .action) (st .is)))
+        (step-fit L (coreAt (countersOf c) (s .shape) w b) (foundIn See h) (ltb (See .free) (length row)) call)
 
     handles-are : rowOf (boundOf protocolVersion) (roomAll Row' h') Row' h' ≡ act (actionOf protocolVersion R h' o) T
     handles-are =
@@ -235,10 +255,10 @@ module _ (s : Settings) (c : Replica) (row : List Handle) (call : Call) (w w' b 
         ∙ next-handles row K w h o (getD w' 0 0) (st .lands) (handleOf call) (asks call) Wr h' (sought-own call) fits (st .holds) (written-inside L (countersOf c) (foundIn See h) call)
 
     -- what is found for the handle looked up is what is found for the call's
-    found-own-core : coreStep L (coreAt (countersOf c) (s .shape) w b) (foundIn See h) (ltb (freeOf row) (length row)) call
+    found-own-core : coreStep L (coreAt (countersOf c) (s .shape) w b) (foundIn See h) (ltb (See .free) (length row)) call
         ≡ coreStep L (coreAt (countersOf c) (s .shape) w b) (find (handleOf call) T) (hasFree T) call
     found-own-core =
-        (λ i. coreStep L (coreAt (countersOf c) (s .shape) w b) (found-in row K w h i) (free-in row K w h i) call) ∙ go (asks call) refl
+        found-core row K w h L (coreAt (countersOf c) (s .shape) w b) call ∙ go (asks call) refl
       where
         go : (t : Bool) → asks call ≡ t → coreStep L (coreAt (countersOf c) (s .shape) w b) (find K T) (hasFree T) call ≡ coreStep L (coreAt (countersOf c) (s .shape) w b) (find (handleOf call) T) (hasFree T) call
         go true e = ap (λ (k : ℕ). coreStep L (coreAt (countersOf c) (s .shape) w b) (find k T) (hasFree T) call) (sought-own call e)

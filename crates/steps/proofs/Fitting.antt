@@ -182,6 +182,28 @@ module _ (L : Settings) where
   step-any k x y free promote e = refl
   step-any k x y free promoteUnchecked e = refl
 
+  -- a handle that has a place: whether another is free is of no matter
+  given-own : (k : Core) (b : Bound) (f g : Bool) (x : Given) → coreGiven L k (some b) f x ≡ coreGiven L k (some b) g x
+  unfolding coreGiven
+  given-own k b f g (damaged n) = refl
+  given-own k b f g (intact (hello v e node kinds)) = refl
+  given-own k b f g (intact (welcome e i)) = refl
+  given-own k b f g (intact (bind h e lag j)) = refl
+  given-own k b f g (intact (batch h e n p cs apps)) = refl
+  given-own k b f g (intact (ack h n)) = refl
+  given-own k b f g (intact (nack h r)) = refl
+  given-own k b f g (intact (bound h m)) = refl
+  given-own k b f g (intact (checked h e i)) = refl
+
+  pub step-own : (k : Core) (b : Bound) (f g : Bool) (c : Call) → coreStep L k (some b) f c ≡ coreStep L k (some b) g c
+  unfolding coreStep
+  step-own k b f g (onFrameHeld w) = given-own k b f g (given w)
+  step-own k b f g (onFrame w) = ap (coreFlushed L) (given-own k b f g (given w))
+  step-own k b f g (flush n) = refl
+  step-own k b f g (disconnectedFrom n) = refl
+  step-own k b f g promote = refl
+  step-own k b f g promoteUnchecked = refl
+
   given-none : (c : Counters) (x : Option Bound) (g : Given) → hasHandle g ≡ false → writes L c x g ≡ none
   unfolding writes
   given-none c x (damaged n) e = refl
