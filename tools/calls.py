@@ -3,7 +3,7 @@ from walk import ROOT, nest
 
 TYPES = {'w32': ('u32', '32'), 'w64': ('usize', '64')}
 # function; its numbers beside the row, and a record or none; what it gives (a number, a record, or the row)
-READS = [('find', [('k', 'w32')], 'findOf ys k'), ('find_free', [], 'freeOf ys'), ('find_broken', [('places', 'w64'), ('most', 'w64')], 'brokenOf ys places most'), ('get_or', [('i', 'w64')], None), ('look', [('k', 'w32'), ('places', 'w64'), ('most', 'w64')], 'seenOf ys k places most')]
+READS = [('find', [('k', 'w32')], 'findOf ys k'), ('find_free', [('spot', 'w64'), ('most', 'w64')], 'freeFor ys spot most'), ('find_broken', [('places', 'w64'), ('most', 'w64')], 'brokenOf ys places most'), ('get_or', [('i', 'w64')], None), ('look', [('k', 'w32'), ('places', 'w64'), ('most', 'w64')], 'seenOf ys k places most')]
 WRITES = [('put_if', [('i', 'w64')], True, 'set ys i h'), ('clear_from', [('i', 'w64')], False, 'clearedFrom i ys'), ('clear', [], False, 'clearedAll ys'),
           ('act', [('i', 'w64'), ('k', 'w64')], True, 'clearedFrom k (set ys i h)')]
 name = lambda f: f.replace('_', '-')
@@ -42,7 +42,7 @@ use denote.Triple.Spec.{tripleOf}
 use denote.Triple.Statement.{Contract, Triple}
 use denote.Triple.Clauses.{ensured, lasts}
 use Rattle.row.specs.declared.Handle.{Handle}
-use Rattle.row.specs.Row.{none, findOf, freeOf, brokenOf, clearedFrom, clearedAll, seenOf}
+use Rattle.row.specs.Row.{none, findOf, freeFor, brokenOf, clearedFrom, clearedAll, seenOf}
 use Rattle.row.proofs.Lent.{at, Shared, Unique, calls-shared, calls-unique, told-shared, told-unique}
 use Rattle.row.proofs.Rows.{R, vals, val, tells, makes}
 use Rattle.row.proofs.Records.{R-Seen, val-Seen, vals-Seen, tells-Seen}

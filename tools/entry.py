@@ -164,7 +164,7 @@ if row:
 w.keeps(opened + [p.item for p in plains] + [y for j in reversed(range(N)) for y in (L(j), D(j))])
 
 # ---- the statements
-READS = {'find': 'findOf {r} {0}', 'find_free': 'freeOf {r}', 'find_broken': 'brokenOf {r} {0} {1}', 'get_or': 'getD {r} {0} none', 'look': 'seenOf {r} {0} {1} {2}'}
+READS = {'find': 'findOf {r} {0}', 'find_free': 'freeFor {r} {0} {1}', 'find_broken': 'brokenOf {r} {0} {1}', 'get_or': 'getD {r} {0} none', 'look': 'seenOf {r} {0} {1} {2}'}
 WRITES = {'put_if': ('set {r} {0} {1}', 'length-set {r} {0} {1}'), 'clear_from': ('clearedFrom {0} {r}', 'cleared-length {0} {r}'), 'clear': ('clearedAll {r}', 'cleared-length 0 {r}'),
           'act': ('clearedFrom {1} (set {r} {0} {2})', 'cleared-length {1} (set {r} {0} {2}) ∙ length-set {r} {0} {2}')}
 the_core, was_core, made_facts = None, False, []
@@ -503,7 +503,7 @@ for s in structs:
     else:
         uses.append(f'use {facade(c if c == "row" else crate, "proofs")}.Records.{{{", ".join(f"{k}-{n}" for k in ("R", "val", "vals", "tells", "makes"))}}}')
 rowfns = [f for f in known if f.startswith('row::')]
-uses.append('use Rattle.row.specs.Row.{none, findOf, freeOf, brokenOf, clearedFrom, clearedAll, seenOf}')
+uses.append('use Rattle.row.specs.Row.{none, findOf, freeFor, brokenOf, clearedFrom, clearedAll, seenOf}')
 uses.append('use Rattle.row.proofs.Lists.{cleared-length}')
 uses.append('use Rattle.row.proofs.Locals.{filled, empty, stack, frees-stack}')
 uses.append('use Rattle.row.proofs.Lent.{at, Shared, calls-with, calls-peek, calls-handed, told-shared}')

@@ -283,5 +283,5 @@ unfolding code.routine tablesOf
     open(ROOT + f'/crates/row/proofs/{path}/Proof.antt', 'w').write(txt)
 
 gen('find', 'is_of', 'isOf h k', [('k', 'w32')])
-gen('find_free', 'is_free', 'isFree h', [])
+gen('find_free', 'is_free', 'isFreeFor h spot most', [('spot', 'w64'), ('most', 'w64')])
 gen('find_broken', 'breaks', 'breaksOf h places most', [('places', 'w64'), ('most', 'w64')])

@@ -31,7 +31,7 @@ use denote.Triple.Spec.{tripleOf}
 use denote.Triple.Statement.{Contract, Triple}
 use denote.Triple.Clauses.{ensured, lasts}
 use Rattle.row.specs.declared.Handle.{Handle}
-use Rattle.row.specs.Row.{none, findOf, freeOf, brokenOf, clearedFrom, clearedAll, seenOf}
+use Rattle.row.specs.Row.{none, findOf, freeFor, brokenOf, clearedFrom, clearedAll, seenOf}
 use Rattle.row.proofs.Lent.{at, Shared, Unique, calls-shared, calls-unique, told-shared, told-unique}
 use Rattle.row.proofs.Rows.{R, vals, val, tells, makes}
 use Rattle.row.proofs.Records.{R-Seen, val-Seen, vals-Seen, tells-Seen}
@@ -40,7 +40,6 @@ use Rattle.row.proofs.find.Symbol.{name as #row·find}
 use Rattle.row.proofs.find_free as find-free
 use Rattle.row.proofs.find_free.Symbol.{name as #row·find-free}
 use Rattle.row.proofs.find_broken as find-broken
-use Rattle.row.proofs.find_free_for as find-free-for
 use Rattle.row.proofs.find_broken.Symbol.{name as #row·find-broken}
 use Rattle.row.proofs.get_or as get-or
 use Rattle.row.proofs.get_or.Symbol.{name as #row·get-or}
@@ -64,9 +63,6 @@ module _ {M : Type 1} (𝓤 : URA M) (H : Heap 𝓤) (A : Atoms 𝓤) (memory : 
 
   abbrev pub FindBroken : Contract 𝓤
   FindBroken = tripleOf 𝓤 H A find-broken.signature (find-broken.spec 𝓤 H A memory run)
-
-  abbrev pub FindFreeFor : Contract 𝓤
-  FindFreeFor = tripleOf 𝓤 H A find-free-for.signature (find-free-for.spec 𝓤 H A memory run)
 
   abbrev pub GetOr : Contract 𝓤
   GetOr = tripleOf 𝓤 H A get-or.signature (get-or.spec 𝓤 H A memory run)
@@ -103,21 +99,21 @@ module _ {M : Type 1} {𝓤 : URA M} {H : Heap 𝓤} {A : Atoms 𝓤} {K : Type 
       told : (α : ℕ) (γ : GName) (w : Val) → ent 𝓤 (Find 𝓤 H A memory run .post (to α γ) w) (H .⇛ (sep 𝓤 (A .lft (α ∷ []) fullShare) (fact 𝓤 ((w ≡ vint w64 (findOf ys k)) × Is usize (findOf ys k) (uint-vals w64 (findOf ys k))))))
       told α γ w = told-shared W (α ∷ []) fullShare w usize (uint-vals w64) (uint-tells w64) (findOf ys k) (ensured 𝓤 H A find.ended (find.clauses 𝓤 H A memory run) (α ∷ [], tt) (at R b o γ ys, (k, tt)) tt) (λ r. exE 𝓤 _ (λ ws. snd∗ 𝓤 (sem 𝓤 H A (lasts find.ended (α ∷ [], tt) (at R b o γ ys, (k, tt)) ws)) (fact 𝓤 (r ≡ findOf ys k))))
 
-  pub calls-find-free : K → FmC 𝓤 H (W .laws) C → (memory : Memory → SProp 𝓤) (run : Routine → Fun 𝓤) → Triple 𝓤 (C #row·find-free) (FindFree 𝓤 H A memory run) → (ys : List Handle) (b o : ℕ) → Room R (length ys)
-      → ((j : Item 𝓤) → Opds K W (j ∷ Γ) E xs (sliceVal (b, o) (length ys) ∷ [])) → (Is usize (freeOf ys) (uint-vals w64 (freeOf ys)) → Seq K W (‵ (row R fullShare ys b o) ∷ Γ) (lands C Λ E d (vint w64 (freeOf ys)) rest q))
+  pub calls-find-free : K → FmC 𝓤 H (W .laws) C → (memory : Memory → SProp 𝓤) (run : Routine → Fun 𝓤) → Triple 𝓤 (C #row·find-free) (FindFree 𝓤 H A memory run) → (ys : List Handle) (b o spot most : ℕ) → Room R (length ys) → spot < 2 ^ 64 → most < 2 ^ 64
+      → ((j : Item 𝓤) → Opds K W (j ∷ Γ) E xs (sliceVal (b, o) (length ys) ∷ vint w64 spot ∷ vint w64 most ∷ [])) → (Is usize (freeFor ys spot most) (uint-vals w64 (freeFor ys spot most)) → Seq K W (‵ (row R fullShare ys b o) ∷ Γ) (lands C Λ E d (vint w64 (freeFor ys spot most)) rest q))
       → Seq K W (‵ (row R fullShare ys b o) ∷ Γ) (runs C Λ E (seq (call #row·find-free xs d) rest) q)
-  calls-find-free t fm memory run known ys b o room ops go = calls-shared R b o t fm (FindFree 𝓤 H A memory run) known to (vint w64 (freeOf ys)) (Is usize (freeOf ys) (uint-vals w64 (freeOf ys))) ys room goes told (λ α γ j. ops j) go
+  calls-find-free t fm memory run known ys b o spot most room spot-fits most-fits ops go = calls-shared R b o t fm (FindFree 𝓤 H A memory run) known to (vint w64 (freeFor ys spot most)) (Is usize (freeFor ys spot most) (uint-vals w64 (freeFor ys spot most))) ys room goes told (λ α γ j. ops j) go
     where
       to : ℕ → GName → FindFree 𝓤 H A memory run .Ghost
-      to α γ = (((α ∷ [], tt), (fullShare, tt), tt, (at R b o γ ys, tt), (sliceVal (b, o) (length ys) ∷ [], tt)), tt)
+      to α γ = (((α ∷ [], tt), (fullShare, tt), tt, (at R b o γ ys, (spot, (most, tt))), (sliceVal (b, o) (length ys) ∷ [], (vint w64 spot ∷ [], (vint w64 most ∷ [], tt)))), tt)
 
       goes : (α : ℕ) (γ : GName) → ent 𝓤 (sep 𝓤 (A .lft (α ∷ []) fullShare) (sem 𝓤 H A (Shared R b o α γ ys))) (FindFree 𝓤 H A memory run .pre (to α γ))
       goes α γ =
           qed W (‵ (flft (α ∷ []) fullShare) ∷ ‵ (Shared R b o α γ ys) ∷ []) ∵ nothing ! $ move ! (1 ∷ 0 ∷ []) $ join ! $
-          nothing ! $ move ! (2 ∷ 0 ∷ []) $ fjoin ! $ move ! (1 ∷ 0 ∷ []) $ join ! $ nothing ! $ move ! (1 ∷ 0 ∷ []) $ done !
+          nothing ! $ owned ! usize (Is usize) (uint-makes 𝓤 H A W w64) most _ (refl, most-fits) $ fjoin ! $ owned ! usize (Is usize) (uint-makes 𝓤 H A W w64) spot _ (refl, spot-fits) $ fjoin ! $ move ! (2 ∷ 0 ∷ []) $ fjoin ! $ move ! (1 ∷ 0 ∷ []) $ join ! $ nothing ! $ move ! (1 ∷ 0 ∷ []) $ done !
 
-      told : (α : ℕ) (γ : GName) (w : Val) → ent 𝓤 (FindFree 𝓤 H A memory run .post (to α γ) w) (H .⇛ (sep 𝓤 (A .lft (α ∷ []) fullShare) (fact 𝓤 ((w ≡ vint w64 (freeOf ys)) × Is usize (freeOf ys) (uint-vals w64 (freeOf ys))))))
-      told α γ w = told-shared W (α ∷ []) fullShare w usize (uint-vals w64) (uint-tells w64) (freeOf ys) (ensured 𝓤 H A find-free.ended (find-free.clauses 𝓤 H A memory run) (α ∷ [], tt) (at R b o γ ys, tt) tt) (λ r. exE 𝓤 _ (λ ws. snd∗ 𝓤 (sem 𝓤 H A (lasts find-free.ended (α ∷ [], tt) (at R b o γ ys, tt) ws)) (fact 𝓤 (r ≡ freeOf ys))))
+      told : (α : ℕ) (γ : GName) (w : Val) → ent 𝓤 (FindFree 𝓤 H A memory run .post (to α γ) w) (H .⇛ (sep 𝓤 (A .lft (α ∷ []) fullShare) (fact 𝓤 ((w ≡ vint w64 (freeFor ys spot most)) × Is usize (freeFor ys spot most) (uint-vals w64 (freeFor ys spot most))))))
+      told α γ w = told-shared W (α ∷ []) fullShare w usize (uint-vals w64) (uint-tells w64) (freeFor ys spot most) (ensured 𝓤 H A find-free.ended (find-free.clauses 𝓤 H A memory run) (α ∷ [], tt) (at R b o γ ys, (spot, (most, tt))) tt) (λ r. exE 𝓤 _ (λ ws. snd∗ 𝓤 (sem 𝓤 H A (lasts find-free.ended (α ∷ [], tt) (at R b o γ ys, (spot, (most, tt))) ws)) (fact 𝓤 (r ≡ freeFor ys spot most))))
 
   pub calls-find-broken : K → FmC 𝓤 H (W .laws) C → (memory : Memory → SProp 𝓤) (run : Routine → Fun 𝓤) → Triple 𝓤 (C #row·find-broken) (FindBroken 𝓤 H A memory run) → (ys : List Handle) (b o places most : ℕ) → Room R (length ys) → places < 2 ^ 64 → most < 2 ^ 64
       → ((j : Item 𝓤) → Opds K W (j ∷ Γ) E xs (sliceVal (b, o) (length ys) ∷ vint w64 places ∷ vint w64 most ∷ [])) → (Is usize (brokenOf ys places most) (uint-vals w64 (brokenOf ys places most)) → Seq K W (‵ (row R fullShare ys b o) ∷ Γ) (lands C Λ E d (vint w64 (brokenOf ys places most)) rest q))

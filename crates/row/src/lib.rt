@@ -2,7 +2,7 @@
 use frame::CommitNumber;
 ghost use mathlib.Core.Path.{_≡_};
 ghost use lib.ListN.{length, set, getD};
-ghost use Rattle.row.specs.Row.{none, isOf, isFree, isFreeFor, breaksOf, findOf, freeOf, freeFor, brokenOf, clearedFrom, clearedAll, seenOf};
+ghost use Rattle.row.specs.Row.{none, isOf, isFreeFor, breaksOf, findOf, freeOf, freeFor, brokenOf, clearedFrom, clearedAll, seenOf};
 
 // A handle that is bound to a session's place, with what it holds back; a record that is not used is free.
 #[repr(C)]
@@ -36,15 +36,8 @@ pub fn is_of(h: Handle, handle: u32) -> bool
     h.used && h.handle == handle
 }
 
-// Whether a record is free.
-pub fn is_free(h: Handle) -> bool
-    ensures { λ r. ⌜ r ≡ isFree h ⌝ }
-{
-    !h.used
-}
-
 // Whether a record ends the search for a free one: it is free, or none is sought, since the handle stands at `at` of `len`.
-pub fn is_free_for(h: Handle, at: usize, len: usize) -> bool
+pub fn is_free(h: Handle, at: usize, len: usize) -> bool
     ensures { λ r. ⌜ r ≡ isFreeFor h at len ⌝ }
 {
     (at < len) | !h.used
@@ -72,21 +65,6 @@ pub fn find(row: &[Handle], handle: u32) -> usize
     i
 }
 
-// The place of the first free record, or the length.
-pub fn find_free(row: &[Handle]) -> usize
-    ensures { λ r. ⌜ r ≡ freeOf (now (row .entry)) ⌝ }
-{
-    let mut i = 0;
-    while i < row.len() {
-        let h = row[i];
-        if is_free(h) {
-            return i;
-        }
-        i += 1;
-    }
-    i
-}
-
 // The place of the first record that breaks the rules, or the length.
 pub fn find_broken(row: &[Handle], places: usize, room: usize) -> usize
     ensures { λ r. ⌜ r ≡ brokenOf (now (row .entry)) places room ⌝ }
@@ -103,13 +81,13 @@ pub fn find_broken(row: &[Handle], places: usize, room: usize) -> usize
 }
 
 // The place of the first free record, or the length; for a handle that stands at `at` of `len` none is sought, and it is the first place.
-pub fn find_free_for(row: &[Handle], at: usize, len: usize) -> usize
+pub fn find_free(row: &[Handle], at: usize, len: usize) -> usize
     ensures { λ r. ⌜ r ≡ freeFor (now (row .entry)) at len ⌝ }
 {
     let mut i = 0;
     while i < row.len() {
         let h = row[i];
-        if is_free_for(h, at, len) {
+        if is_free(h, at, len) {
             return i;
         }
         i += 1;
@@ -140,7 +118,7 @@ pub fn put_if(row: &mut [Handle], i: usize, h: Handle)
 pub fn insert(row: &mut [Handle], h: Handle) -> usize
     ensures { λ r. ⌜ (r ≡ freeOf (now (row .entry))) × (now (row .exit) ≡ set (now (row .entry)) (freeOf (now (row .entry))) h) ⌝ }
 {
-    let i = find_free(row);
+    let i = find_free(row, 0, 0);
     put_if(row, i, h);
     i
 }
@@ -179,7 +157,7 @@ pub fn look(row: &[Handle], handle: u32, places: usize, room: usize) -> Seen
 {
     let at = find(row, handle);
     let len = row.len();
-    let free = find_free_for(row, at, len);
+    let free = find_free(row, at, len);
     let broken = find_broken(row, places, room);
     let bound = get_or(row, at);
     Seen {

@@ -49,15 +49,15 @@ use Rattle.row.proofs.Rows.{R, val, vals, tells}
 use Rattle.row.proofs.Records.{R-Seen, val-Seen, vals-Seen, makes-Seen}
 use Rattle.row.proofs.Lent.{calls-handed, told-shared}
 use Rattle.row.proofs.Locals.{filled, frees-stack}
-use Rattle.row.proofs.Calls.{Find, FindFreeFor, FindBroken, GetOr}
+use Rattle.row.proofs.Calls.{Find, FindFree, FindBroken, GetOr}
 use Rattle.row.proofs.find as find
 use Rattle.row.proofs.find.Symbol as find-def
 use Rattle.row.proofs.find.Symbol.{name as #row·find}
 use Rattle.row.proofs.find.Met as find-thm
-use Rattle.row.proofs.find_free_for as find-free-for
-use Rattle.row.proofs.find_free_for.Symbol as find-free-for-def
-use Rattle.row.proofs.find_free_for.Symbol.{name as #row·find-free-for}
-use Rattle.row.proofs.find_free_for.Met as find-free-for-thm
+use Rattle.row.proofs.find_free as find-free
+use Rattle.row.proofs.find_free.Symbol as find-free-def
+use Rattle.row.proofs.find_free.Symbol.{name as #row·find-free}
+use Rattle.row.proofs.find_free.Met as find-free-thm
 use Rattle.row.proofs.find_broken as find-broken
 use Rattle.row.proofs.find_broken.Symbol as find-broken-def
 use Rattle.row.proofs.find_broken.Symbol.{name as #row·find-broken}
@@ -120,16 +120,16 @@ module _ {M : Type 1} (𝓤 : URA M) (H : Heap 𝓤) (A : Atoms 𝓤) (W : Given
   told-find : (u : Val) → ent 𝓤 (Find 𝓤 H A memory run .post to-find u) (H .⇛ (sep 𝓤 (A .lft κ q) (fact 𝓤 ((u ≡ vint w64 (findOf ys k)) × Is usize (findOf ys k) (uint-vals w64 (findOf ys k))))))
   told-find u = told-shared W κ q u usize (uint-vals w64) (uint-tells w64) (findOf ys k) (ensured 𝓤 H A find.ended (find.clauses 𝓤 H A memory run) (κ, tt) (x .0, (k, tt)) tt) (λ r. exE 𝓤 _ (λ ws. snd∗ 𝓤 (sem 𝓤 H A (lasts find.ended (κ, tt) (x .0, (k, tt)) ws)) (fact 𝓤 (r ≡ findOf ys k))))
 
-  abbrev to-find-free-for : FindFreeFor 𝓤 H A memory run .Ghost
-  to-find-free-for = (((κ, tt), (q, tt), tt, (x .0, (findOf ys k, (length ys, tt))), (s ∷ [], (vint w64 (findOf ys k) ∷ [], (vint w64 (length ys) ∷ [], tt)))), tt)
+  abbrev to-find-free : FindFree 𝓤 H A memory run .Ghost
+  to-find-free = (((κ, tt), (q, tt), tt, (x .0, (findOf ys k, (length ys, tt))), (s ∷ [], (vint w64 (findOf ys k) ∷ [], (vint w64 (length ys) ∷ [], tt)))), tt)
 
-  goes-find-free-for : findOf ys k < 2 ^ 64 → ent 𝓤 (sep 𝓤 (A .lft κ q) (sem 𝓤 H A Own)) (FindFreeFor 𝓤 H A memory run .pre to-find-free-for)
-  goes-find-free-for at-fits =
+  goes-find-free : findOf ys k < 2 ^ 64 → ent 𝓤 (sep 𝓤 (A .lft κ q) (sem 𝓤 H A Own)) (FindFree 𝓤 H A memory run .pre to-find-free)
+  goes-find-free at-fits =
       qed W (‵ (flft κ q) ∷ ‵ Own ∷ []) ∵ nothing ! $ move ! (1 ∷ 0 ∷ []) $ join ! $
       nothing ! $ owned ! usize (Is usize) (uint-makes 𝓤 H A W w64) (length ys) _ (refl, room .0) $ fjoin ! $ owned ! usize (Is usize) (uint-makes 𝓤 H A W w64) (findOf ys k) _ (refl, at-fits) $ fjoin ! $ move ! (2 ∷ 0 ∷ []) $ fjoin ! $ move ! (1 ∷ 0 ∷ []) $ join ! $ nothing ! $ move ! (1 ∷ 0 ∷ []) $ done !
 
-  told-find-free-for : (u : Val) → ent 𝓤 (FindFreeFor 𝓤 H A memory run .post to-find-free-for u) (H .⇛ (sep 𝓤 (A .lft κ q) (fact 𝓤 ((u ≡ vint w64 (freeFor ys (findOf ys k) (length ys))) × Is usize (freeFor ys (findOf ys k) (length ys)) (uint-vals w64 (freeFor ys (findOf ys k) (length ys)))))))
-  told-find-free-for u = told-shared W κ q u usize (uint-vals w64) (uint-tells w64) (freeFor ys (findOf ys k) (length ys)) (ensured 𝓤 H A find-free-for.ended (find-free-for.clauses 𝓤 H A memory run) (κ, tt) (x .0, (findOf ys k, (length ys, tt))) tt) (λ r. exE 𝓤 _ (λ ws. snd∗ 𝓤 (sem 𝓤 H A (lasts find-free-for.ended (κ, tt) (x .0, (findOf ys k, (length ys, tt))) ws)) (fact 𝓤 (r ≡ (freeFor ys (findOf ys k) (length ys))))))
+  told-find-free : (u : Val) → ent 𝓤 (FindFree 𝓤 H A memory run .post to-find-free u) (H .⇛ (sep 𝓤 (A .lft κ q) (fact 𝓤 ((u ≡ vint w64 (freeFor ys (findOf ys k) (length ys))) × Is usize (freeFor ys (findOf ys k) (length ys)) (uint-vals w64 (freeFor ys (findOf ys k) (length ys)))))))
+  told-find-free u = told-shared W κ q u usize (uint-vals w64) (uint-tells w64) (freeFor ys (findOf ys k) (length ys)) (ensured 𝓤 H A find-free.ended (find-free.clauses 𝓤 H A memory run) (κ, tt) (x .0, (findOf ys k, (length ys, tt))) tt) (λ r. exE 𝓤 _ (λ ws. snd∗ 𝓤 (sem 𝓤 H A (lasts find-free.ended (κ, tt) (x .0, (findOf ys k, (length ys, tt))) ws)) (fact 𝓤 (r ≡ (freeFor ys (findOf ys k) (length ys))))))
 
   abbrev to-find-broken : FindBroken 𝓤 H A memory run .Ghost
   to-find-broken = (((κ, tt), (q, tt), tt, (x .0, (places, (most, tt))), (s ∷ [], (vint w64 places ∷ [], (vint w64 most ∷ [], tt)))), tt)
@@ -153,7 +153,7 @@ module _ {M : Type 1} (𝓤 : URA M) (H : Heap 𝓤) (A : Atoms 𝓤) (W : Given
   told-get-or : (u : Val) → ent 𝓤 (GetOr 𝓤 H A memory run .post to-get-or u) (H .⇛ (sep 𝓤 (A .lft κ q) (fact 𝓤 ((u ≡ val (getD ys (findOf ys k) none)) × Is R (getD ys (findOf ys k) none) (vals (getD ys (findOf ys k) none))))))
   told-get-or u = told-shared W κ q u R vals tells (getD ys (findOf ys k) none) (ensured 𝓤 H A get-or.ended (get-or.clauses 𝓤 H A memory run) (κ, tt) (x .0, ((findOf ys k), tt)) tt) (λ r. exE 𝓤 _ (λ ws. snd∗ 𝓤 (sem 𝓤 H A (lasts get-or.ended (κ, tt) (x .0, ((findOf ys k), tt)) ws)) (fact 𝓤 (r ≡ getD ys (findOf ys k) none))))
 
-  module _ (Ct : Calls 𝓤 H) (Λ : Loops 𝓤 H) (fm : FmC 𝓤 H (W .laws) Ct) (known-find : Triple 𝓤 (Ct #row·find) (Find 𝓤 H A memory run)) (known-find-free-for : Triple 𝓤 (Ct #row·find-free-for) (FindFreeFor 𝓤 H A memory run)) (known-find-broken : Triple 𝓤 (Ct #row·find-broken) (FindBroken 𝓤 H A memory run)) (known-get-or : Triple 𝓤 (Ct #row·get-or) (GetOr 𝓤 H A memory run)) where
+  module _ (Ct : Calls 𝓤 H) (Λ : Loops 𝓤 H) (fm : FmC 𝓤 H (W .laws) Ct) (known-find : Triple 𝓤 (Ct #row·find) (Find 𝓤 H A memory run)) (known-find-free : Triple 𝓤 (Ct #row·find-free) (FindFree 𝓤 H A memory run)) (known-find-broken : Triple 𝓤 (Ct #row·find-broken) (FindBroken 𝓤 H A memory run)) (known-get-or : Triple 𝓤 (Ct #row·get-or) (GetOr 𝓤 H A memory run)) where
     walk : ent 𝓤 (onEntry 𝓤 H A looks.signature (κ, tt) (q, tt) x at-all) (WpFn 𝓤 H Ct Λ code.function (s ∷ vint w32 k ∷ vint w64 places ∷ vint w64 most ∷ []) Post)
     walk =
         qed W ((‵ (flft κ q) ⊛ ‵ ftrue) ∷ ‵ (owns (ShrSlice (named 0) κ R ∷ u32 ∷ usize ∷ usize ∷ []) x at-all) ∷ []) ∵ enter ! Ct Λ code.function (s ∷ vint w32 k ∷ vint w64 places ∷ vint w64 most ∷ []) _ $
@@ -163,16 +163,16 @@ module _ {M : Type 1} (𝓤 : URA M) (H : Heap 𝓤) (A : Atoms 𝓤) (W : Given
         move ! (21 ∷ []) $ fsplit ! $ move ! (22 ∷ []) $ split ! $ move ! (0 ∷ 2 ∷ []) $ join ! $ keep ! (0 ∷ 3 ∷ 4 ∷ 5 ∷ 6 ∷ 7 ∷ 8 ∷ 9 ∷ 10 ∷ 11 ∷ 12 ∷ 13 ∷ 14 ∷ 15 ∷ 16 ∷ 17 ∷ 18 ∷ 19 ∷ 20 ∷ 21 ∷ 22 ∷ []) $
         calls-handed R b o ! fm (Find 𝓤 H A memory run) known-find to-find (vint w64 (findOf ys k)) (Is usize (findOf ys k) (uint-vals w64 (findOf ys k))) ys (named 0) κ q γ goes-find told-find (λ j. (and-then ! (load ! (from ! (stop !)) (look ! 17 refl)) (and-then ! (load ! (from ! (stop !)) (look ! 15 refl)) (no-more !)))) (λ f₅. land ! (from ! (stop !)) (init ! 9 refl (tt, record { fits = f₅ .1 })) $
         assigns ! (of-opd ! (load ! (from ! (fld ! refl (stop !))) (look-in ! 17 (sub ! 1 refl (whole !))))) (from ! (stop !)) (init ! 7 refl (tt, record { fits = room .0 })) $
-        calls-handed R b o ! fm (FindFreeFor 𝓤 H A memory run) known-find-free-for to-find-free-for (vint w64 (freeFor ys (findOf ys k) (length ys))) (Is usize (freeFor ys (findOf ys k) (length ys)) (uint-vals w64 (freeFor ys (findOf ys k) (length ys)))) ys (named 0) κ q γ (goes-find-free-for (f₅ .1)) told-find-free-for (λ j. (and-then ! (load ! (from ! (stop !)) (look ! 17 refl)) (and-then ! (load ! (from ! (stop !)) (look ! 9 refl)) (and-then ! (load ! (from ! (stop !)) (look ! 7 refl)) (no-more !))))) (λ f₆. land ! (from ! (stop !)) (init ! 5 refl (tt, record { fits = f₆ .1 })) $
+        calls-handed R b o ! fm (FindFree 𝓤 H A memory run) known-find-free to-find-free (vint w64 (freeFor ys (findOf ys k) (length ys))) (Is usize (freeFor ys (findOf ys k) (length ys)) (uint-vals w64 (freeFor ys (findOf ys k) (length ys)))) ys (named 0) κ q γ (goes-find-free (f₅ .1)) told-find-free (λ j. (and-then ! (load ! (from ! (stop !)) (look ! 17 refl)) (and-then ! (load ! (from ! (stop !)) (look ! 9 refl)) (and-then ! (load ! (from ! (stop !)) (look ! 7 refl)) (no-more !))))) (λ f₆. land ! (from ! (stop !)) (init ! 5 refl (tt, record { fits = f₆ .1 })) $
         calls-handed R b o ! fm (FindBroken 𝓤 H A memory run) known-find-broken to-find-broken (vint w64 (brokenOf ys places most)) (Is usize (brokenOf ys places most) (uint-vals w64 (brokenOf ys places most))) ys (named 0) κ q γ goes-find-broken told-find-broken (λ j. (and-then ! (load ! (from ! (stop !)) (look ! 17 refl)) (and-then ! (load ! (from ! (stop !)) (look ! 13 refl)) (and-then ! (load ! (from ! (stop !)) (look ! 11 refl)) (no-more !))))) (λ f₈. land ! (from ! (stop !)) (init ! 3 refl (tt, record { fits = f₈ .1 })) $
         calls-handed R b o ! fm (GetOr 𝓤 H A memory run) known-get-or to-get-or (val (getD ys (findOf ys k) none)) (Is R (getD ys (findOf ys k) none) (vals (getD ys (findOf ys k) none))) ys (named 0) κ q γ (goes-get-or (f₅ .1)) told-get-or (λ j. (and-then ! (load ! (from ! (stop !)) (look ! 17 refl)) (and-then ! (load ! (from ! (stop !)) (look ! 9 refl)) (no-more !)))) (λ f₉. land ! (from ! (stop !)) (init ! 1 refl (LL.lawful T.the-type T′.the-laws 𝓤 H A W .typed (getD ys (findOf ys k) none) (vals (getD ys (findOf ys k) none)) f₉ .0)) $
         assigns ! (agg ! (and-then ! (load ! (from ! (stop !)) (look ! 9 refl)) (and-then ! (load ! (from ! (stop !)) (look ! 5 refl)) (and-then ! (load ! (from ! (stop !)) (look ! 7 refl)) (and-then ! (load ! (from ! (stop !)) (look ! 3 refl)) (and-then ! (load ! (from ! (stop !)) (look ! 1 refl)) (no-more !))))))) (from ! (stop !)) (init ! 19 refl (LL.lawful Seen-type.the-type Seen-laws.the-laws 𝓤 H A W .typed seen (vals-Seen seen) (seen-is (f₅ .1) (f₆ .1) (f₈ .1) f₉) .0)) $
         returns ! (look ! 19 refl) $ split ! $ move ! (1 ∷ []) $ drop ! $ by ! (frees-stack 𝓤 H A W (filled Seen-laws.mir l₀ _ ∷ filled slice l₁ _ ∷ filled (tyInt w32) l₂ _ ∷ filled word l₃ _ ∷ filled word l₄ _ ∷ filled word l₅ _ ∷ filled word l₆ _ ∷ filled word l₇ _ ∷ filled word l₈ _ ∷ filled T′.mir l₉ _ ∷ []) (‵ (flft κ q) ∷ []) (Post (val-Seen seen)) (exits (seen-is (f₅ .1) (f₆ .1) (f₈ .1) f₉)))))))))))))))))
 
-module _ {M : Type 1} (𝓤 : URA M) (H : Heap 𝓤) (A : Atoms 𝓤) (W : Given 𝓤 H A) (memory : Memory → SProp 𝓤) (run : Routine → Fun 𝓤) (𝓣 : Tables 𝓤 H) (known-find : Triple 𝓤 (𝓣 .C #row·find) (Find 𝓤 H A memory run)) (known-find-free-for : Triple 𝓤 (𝓣 .C #row·find-free-for) (FindFreeFor 𝓤 H A memory run)) (known-find-broken : Triple 𝓤 (𝓣 .C #row·find-broken) (FindBroken 𝓤 H A memory run)) (known-get-or : Triple 𝓤 (𝓣 .C #row·get-or) (GetOr 𝓤 H A memory run)) where
+module _ {M : Type 1} (𝓤 : URA M) (H : Heap 𝓤) (A : Atoms 𝓤) (W : Given 𝓤 H A) (memory : Memory → SProp 𝓤) (run : Routine → Fun 𝓤) (𝓣 : Tables 𝓤 H) (known-find : Triple 𝓤 (𝓣 .C #row·find) (Find 𝓤 H A memory run)) (known-find-free : Triple 𝓤 (𝓣 .C #row·find-free) (FindFree 𝓤 H A memory run)) (known-find-broken : Triple 𝓤 (𝓣 .C #row·find-broken) (FindBroken 𝓤 H A memory run)) (known-get-or : Triple 𝓤 (𝓣 .C #row·get-or) (GetOr 𝓤 H A memory run)) where
   look-walks : Walks 𝓤 H A looks.ended stayed (WpFn 𝓤 H (𝓣 .C) (𝓣 .Λ) code.function) (looks.clauses 𝓤 H A memory run)
   look-walks = walked 𝓤 H A looks.ended stayed (looks.clauses 𝓤 H A memory run) (WpFn 𝓤 H (𝓣 .C) (𝓣 .Λ) code.function) (λ κs. (slice-vals, (uint-vals w32, (uint-vals w64, (uint-vals w64, tt))))) (λ κs. (shr-slice-tells (named 0) (κs .0) R, (uint-tells w32, (uint-tells w64, (uint-tells w64, tt)))))
-      (λ κs qs bounds a g are. via 𝓤 _ (fst∗ 𝓤 _ (emp 𝓤)) (walk 𝓤 H A W memory run (κs .0) (qs .0) (a .0 .ptr .0) (a .0 .ptr .1) (a .0 .name) (a .0 .now) (a .1 .0) (a .1 .1 .0) (a .1 .1 .1 .0) (are .0 .0 .1) (are .1 .0 .1) (are .1 .1 .0 .1) (are .1 .1 .1 .0 .1) (𝓣 .C) (𝓣 .Λ) (fmOf 𝓤 H (W .laws) 𝓣) known-find known-find-free-for known-find-broken known-get-or))
+      (λ κs qs bounds a g are. via 𝓤 _ (fst∗ 𝓤 _ (emp 𝓤)) (walk 𝓤 H A W memory run (κs .0) (qs .0) (a .0 .ptr .0) (a .0 .ptr .1) (a .0 .name) (a .0 .now) (a .1 .0) (a .1 .1 .0) (a .1 .1 .1 .0) (are .0 .0 .1) (are .1 .0 .1) (are .1 .1 .0 .1) (are .1 .1 .1 .0 .1) (𝓣 .C) (𝓣 .Λ) (fmOf 𝓤 H (W .laws) 𝓣) known-find known-find-free known-find-broken known-get-or))
 
   look-meets : Meets 𝓤 H A looks.signature (WpFn 𝓤 H (𝓣 .C) (𝓣 .Λ) code.function) (looks.spec 𝓤 H A memory run)
   look-meets = walk-meets 𝓤 H A looks.ended stayed W (goes-dropped 𝓤 H A W 1 (shrSliceOf (0 ∷ []) tt (plain (λ _. R))) yes (λ κs x f. refl), (goes-dropped 𝓤 H A W 1 (plain (λ _. u32)) yes (λ κs x f. refl), (goes-dropped 𝓤 H A W 1 (plain (λ _. usize)) yes (λ κs x f. refl), (goes-dropped 𝓤 H A W 1 (plain (λ _. usize)) yes (λ κs x f. refl), tt)))) (looks.clauses 𝓤 H A memory run)
@@ -185,6 +185,6 @@ look-spec 𝓤 H 𝓜 𝓖 𝓡 =
     (tables 𝓤 H 𝓜 𝓡 code.env .C) (tables 𝓤 H 𝓜 𝓡 code.env .Λ) #row·look code.function (code.unfolded 𝓤 H 𝓜 𝓡)
     (look-meets 𝓤 H (𝓖 .A) (givenOf 𝓤 H 𝓜 𝓖) (𝓜 .mem) (𝓡 .run) (tablesOf 𝓤 H 𝓜 (tables 𝓤 H 𝓜 𝓡 code.env))
     (cited 𝓤 H (Find 𝓤 H (𝓖 .A) (𝓜 .mem) (𝓡 .run)) 𝓜 𝓡 code.env #row·find find-def.routine code.calls-row·find (find-thm.met 𝓤 H 𝓜 𝓖 𝓡))
-    (cited 𝓤 H (FindFreeFor 𝓤 H (𝓖 .A) (𝓜 .mem) (𝓡 .run)) 𝓜 𝓡 code.env #row·find-free-for find-free-for-def.routine code.calls-row·find-free-for (find-free-for-thm.met 𝓤 H 𝓜 𝓖 𝓡))
+    (cited 𝓤 H (FindFree 𝓤 H (𝓖 .A) (𝓜 .mem) (𝓡 .run)) 𝓜 𝓡 code.env #row·find-free find-free-def.routine code.calls-row·find-free (find-free-thm.met 𝓤 H 𝓜 𝓖 𝓡))
     (cited 𝓤 H (FindBroken 𝓤 H (𝓖 .A) (𝓜 .mem) (𝓡 .run)) 𝓜 𝓡 code.env #row·find-broken find-broken-def.routine code.calls-row·find-broken (find-broken-thm.met 𝓤 H 𝓜 𝓖 𝓡))
     (cited 𝓤 H (GetOr 𝓤 H (𝓖 .A) (𝓜 .mem) (𝓡 .run)) 𝓜 𝓡 code.env #row·get-or get-or-def.routine code.calls-row·get-or (get-or-thm.met 𝓤 H 𝓜 𝓖 𝓡)))
