@@ -20,7 +20,7 @@ use Rattle.model.specs.Answer as the-answer
 use Rattle.model.specs.Answer.{reply, refused, done}
 use Rattle.model.specs.State as the-state
 use Rattle.model.specs.State.{Standby, onFrame}
-use Rattle.model.proofs.Answering.{Tellable, Told, Telling, frame-told}
+use Rattle.model.proofs.Answering.{answerBytes, Tellable, Told, Telling, frame-told}
 use Rattle.log.proofs.Lawful.{Small}
 use Rattle.areas.proofs.Holding.{all-holdable}
 use Rattle.print.specs.Encoding.{outcome}
@@ -44,7 +44,7 @@ pub roomy : {p q o : ℕ} → q ≡ p → 8192 ≤ p → 2 * p ≤ o → (4 ≤ 
 roomy e h h₁ = (omega arith, omega arith)
 
 -- the first takes any answer
-pub takes-any : {p q : ℕ} → q ≡ p → 8192 ≤ p → 134 ≤ q
+pub takes-any : {p q : ℕ} → q ≡ p → 8192 ≤ p → answerBytes ≤ q
 takes-any e h = omega arith
 
 -- the bytes lie in the area
@@ -56,11 +56,11 @@ put-text {t} {out} {out'} {n} p = ap (take n) (p .wrote) ∙ take-at t (drop (le
 
 -- ---- the answer's text: what is told can be written, and fits
 
-said : (f : Frame) {room : ℕ} → Tellable f → 134 ≤ room → outcomeText (outcome 1 (some f) room) ≡ hexOf (encode f)
+said : (f : Frame) {room : ℕ} → Tellable f → answerBytes ≤ room → outcomeText (outcome 1 (some f) room) ≡ hexOf (encode f)
 unfolding outcome
 said f {room} t big = rw (t .writable .texts, le-ltb maxBody (length (bodyBytes f)) (t .writable .short), le-ltb room (length (encode f)) (le-trans (t .small) big)) refl
 
-text-is : (a : the-answer.Answer) {room : ℕ} → Told a → 134 ≤ room → answerText room a ≡ lineText a
+text-is : (a : the-answer.Answer) {room : ℕ} → Told a → answerBytes ≤ room → answerText room a ≡ lineText a
 text-is (reply f) t big = said f t big
 text-is (refused n) t big = refl
 text-is done t big = absurd t
@@ -99,7 +99,7 @@ module _ (l : List ℕ) (c : Replica) (row : List Handle) (w b h out : List ℕ)
   pub bad-line : {buf out' : List ℕ} {r : Line} {n : ℕ} → Reads (lineBytes l) buf r → r ≡ Bad → Puts (refusalText 26) out out' n → AnswersLine l c c row row w w b b h h out out' n
   bad-line {buf} g e p = answers (unread (sym (g .bytes) ∙ ap (lineRead buf) e) refl refl refl refl refl) p
 
-  pub some-line : {buf : List ℕ} {r : Line} (m : ℕ) → Numbers c w b → Reads (lineBytes l) buf r → ((i : ℕ) → getD buf i 0 < 256) → r ≡ Bytes m → {c' : Replica} {row' : List Handle} {w' b' h' out' : List ℕ} {s : Settings} {a : the-code.Answer} {n k : ℕ} → 134 ≤ k → s ≡ theSettings → Called s (onFrame (take (m - 0) (drop 0 buf))) c c' row row' w w' b b' h h' a → Puts (answerText k (the-answers.answerOf b' a)) out out' n → AnswersLine l c c' row row' w w' b b' h h' out out' n
+  pub some-line : {buf : List ℕ} {r : Line} (m : ℕ) → Numbers c w b → Reads (lineBytes l) buf r → ((i : ℕ) → getD buf i 0 < 256) → r ≡ Bytes m → {c' : Replica} {row' : List Handle} {w' b' h' out' : List ℕ} {s : Settings} {a : the-code.Answer} {n k : ℕ} → answerBytes ≤ k → s ≡ theSettings → Called s (onFrame (take (m - 0) (drop 0 buf))) c c' row row' w w' b b' h h' a → Puts (answerText k (the-answers.answerOf b' a)) out out' n → AnswersLine l c c' row row' w w' b b' h h' out out' n
   some-line {buf} m num g ok e {c'} {row'} {w'} {b'} {h'} {out' = out'} {a = a} {n = n} {k = room} big es k p =
       let cut : m - 0 ≡ m = omega arith in
       let call : Called theSettings (onFrame (take m buf)) c c' row row' w w' b b' h h' a =

@@ -40,8 +40,8 @@ pub fn settings() -> Settings
     }
 }
 
-// The answer to a line: its text stands at the start of out. buf is for the frame's bytes and then for the answer's.
-pub fn answer_line(
+// The answer to a line, over slices that are long enough.
+fn answer_in(
     c: Replica,
     row: [Handle; 4],
     words: &mut [u64],
@@ -72,4 +72,20 @@ pub fn answer_line(
             len: hex::put_refusal(26, out),
         },
     }
+}
+
+// The answer to a line: its text stands at the start of out. buf is for the frame's bytes and then for the answer's.
+pub fn answer_line(
+    c: Replica,
+    row: [Handle; 4],
+    words: &mut [u64],
+    bytes: &mut [u8],
+    holds: &mut [u8],
+    line: &[u8],
+    buf: &mut [u8; 8192],
+    out: &mut [u8; 16384],
+) -> Told
+    ensures { λ r. ⌜ AnswersLine (now (line .entry)) c (r .replica) row (r .row) (now (words .entry)) (now (words .exit)) (now (bytes .entry)) (now (bytes .exit)) (now (holds .entry)) (now (holds .exit)) (now (out .entry)) (now (out .exit)) (r .len) ⌝ }
+{
+    answer_in(c, row, words, bytes, holds, line, buf, out)
 }

@@ -1,20 +1,12 @@
 use borrow.Author.Needs.{needs}
-use Rattle.frame_line.proofs.Laws.{told-fits}
 use native.Mathlib.Omega.{arith}
+use Rattle.frame_line.proofs.Laws.{told-fits}
 use Rattle.frames.proofs.tell.Statement.{statement}
 use Rattle.frames.proofs.tell.Tie as tie
 use Rattle.frames.proofs.tell.Reads as reads
 use Rattle.frames.proofs.tell.Lts as lts
 use Rattle.frame_line.proofs.answer_line.Reads as answer-line-reads
 use Rattle.io.proofs.write_all.Reads as write-all-reads
-
--- src/main.rt:29:78
-slice-aggregate-answer-line : tie.Need-slice-aggregate-answer-line
-slice-aggregate-answer-line c = search needs
-
--- src/main.rt:29:88
-slice-aggregate-answer-line-2 : tie.Need-slice-aggregate-answer-line-2
-slice-aggregate-answer-line-2 c = search needs
 
 -- src/main.rt:29:9
 answer-line-requires : tie.Need-answer-line-requires
@@ -30,7 +22,7 @@ part-write-all-start c = search needs
 
 -- src/main.rt:31:34
 part-write-all-end : tie.Need-part-write-all-end
-part-write-all-end c = omega (arith, told-fits (c .before .before .before .before .before .before .before .before .before .answer-line .ensures))
+part-write-all-end c = omega (arith, told-fits (c .before .before .before .before .before .before .before .answer-line .ensures))
 
 -- src/main.rt:31:5
 write-all-requires : tie.Need-write-all-requires
@@ -64,8 +56,6 @@ pub tell-spec : {M : Type 1} → statement M
 tell-spec =
     tie.close
     (tie.spec
-    slice-aggregate-answer-line
-    slice-aggregate-answer-line-2
     answer-line-requires
     sub-write-all
     part-write-all-start

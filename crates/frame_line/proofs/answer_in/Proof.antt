@@ -5,10 +5,10 @@ use Rattle.frame_line.proofs.Laws.{bad-line, some-line, takes-any, read
 use denote.Ref.{now}
 use native.Mathlib.Omega.{arith}
 use mathlib.Core.Path.{_∙_}
-use Rattle.frame_line.proofs.answer_line.Statement.{statement}
-use Rattle.frame_line.proofs.answer_line.Tie as tie
-use Rattle.frame_line.proofs.answer_line.Reads as reads
-use Rattle.frame_line.proofs.answer_line.Lts as lts
+use Rattle.frame_line.proofs.answer_in.Statement.{statement}
+use Rattle.frame_line.proofs.answer_in.Tie as tie
+use Rattle.frame_line.proofs.answer_in.Reads as reads
+use Rattle.frame_line.proofs.answer_in.Lts as lts
 use Rattle.frame_line.proofs.settings.Reads as settings-reads
 use Rattle.hex.proofs.put_refusal.Reads as put-refusal-reads
 use Rattle.hex.proofs.read_line.Reads as read-line-reads
@@ -95,8 +95,8 @@ same-length-7 c = search needs
 returns-2 : tie.Need-returns-2
 returns-2 c = bad-line (now (c .before .before .before .before .before .before .before .before .before .before .before .before .before .before .before .before .args .line)) (c .before .before .before .before .before .before .before .before .before .before .before .before .before .before .before .before .args .c) (c .before .before .before .before .before .before .before .before .before .before .before .before .before .before .before .before .args .row) (now (c .before .before .before .before .before .before .before .before .before .before .before .before .before .before .before .before .args .words)) (now (c .before .before .before .before .before .before .before .before .before .before .before .before .before .before .before .before .args .bytes)) (now (c .before .before .before .before .before .before .before .before .before .before .before .before .before .before .before .before .args .holds)) (now (c .before .before .before .before .before .before .before .before .before .before .before .before .before .before .before .before .args .out)) (c .before .before .before .before .before .before .before .before .read-line .ensures) (c .before .before .before .before .enum-told .given .1) (c .before .before .put-refusal .ensures)
 
-pub answer-line-spec : {M : Type 1} → statement M
-answer-line-spec =
+pub answer-in-spec : {M : Type 1} → statement M
+answer-in-spec =
     tie.close
     (tie.spec
     read-line-requires
