@@ -5,7 +5,7 @@ use mathlib.Core.List.{List}
 use mathlib.Core.Option.{Option, none, some}
 use Prim.Native.Nat.{ℕ, _+_, _*_, _≤_, _<_}
 use native.Mathlib.Omega.{arith}
-use lib.Dec.{leb, ltb}
+use lib.Dec.{eqb, leb, ltb}
 use lib.ListN.{length, getD, set, length-set}
 use lib.Seq.{set-out}
 use borrow.Author.Tests.{ltb-true, ltb-false}
@@ -21,7 +21,7 @@ use Rattle.bindings.proofs.Rows.{Apart, find-hit, find-miss, free-hit, free-mis
 use Rattle.areas.specs.Areas.{allowed, placesOf}
 use Rattle.areas.proofs.Ruling.{rules-true}
 use Rattle.pending.specs.Pending.{pendingOf}
-use Rattle.model.specs.Answer.{protocolVersion}
+use Rattle.model.specs.Answer.{protocolVersion, refused}
 use Rattle.model.specs.Row.{Row, isSome, hasFree, find, put}
 use Rattle.model.specs.State.{Bound, Call}
 use Rattle.model.specs.State as state
@@ -35,9 +35,10 @@ use Rattle.outcome.specs.declared.Outcome.{Outcome}
 use Rattle.outcome.specs.Answers.{answerOf, isRefused}
 use Rattle.outcome.specs.Outcomes.{countersOf, settingsOf, leaving, spotOf, areaAt, actionOf, Lands}
 use Rattle.steps.specs.Steps.{roomOf, foundIn, asks, Leaves, holdsAfter, writesBy, Stepped, StepIs}
-use Rattle.steps.specs.Calls.{roomAll, standbyOf, allowedAll, soughtBy, CalledSteps, Called}
+use Rattle.steps.specs.Calls.{roomAll, standbyOf, allowedAll, soughtBy, spotFor, RowLeaves, actionBy, CalledSteps, Called}
 use Rattle.steps.proofs.Naming.{sought-own}
 use Rattle.steps.proofs.Fitting.{Fit, step-fit, step-any, step-own, writes-none, written-inside, leaves-any}
+use Rattle.steps.proofs.Still.{refused-still}
 use Rattle.steps.proofs.Rows.{Whole, whole-of, of-whole, whole-more, record-whole, whole-cleared, none-set, found-own, seen-allowed, take-write, drop-write}
 use Rattle.model_text.proofs.Formed.{and-r}
 
@@ -280,6 +281,42 @@ module _ (s : Settings) (c : Replica) (row : List Handle) (call : Call) (w w' b 
         go true e = subst (λ (k : ℕ). Leaves (s .shape) c (getD row (findOf row k) handles.none .place) call w w' b b' (o .answer)) (sought-own call e) (st .leaves)
         go false e = leaves-any (s .shape) c (getD row (findOf row K) handles.none .place) (getD row (findOf row (handleOf call)) handles.none .place) call w w' b b' (o .answer) e (st .leaves)
 
+    -- ---- the row, record for record
+
+    abbrev Spot : ℕ
+    Spot = spotFor row (handleOf call)
+
+    abbrev Puts : Action
+    Puts = store (o .slot .handle) (boundOf protocolVersion (o .slot) (areaAt R (o .at) h'))
+
+    at-spot : o .stores ≡ true → o .at ≡ Spot
+    at-spot e = st .lands .at-is ∙ ap (λ (t : Bool). cond t (spotOf See) (length row)) e ∙ own (ltb (findOf row K) (length row)) refl ∙ ap (spotFor row) (sought-own call asked)
+      where
+        asked : asks call ≡ true
+        asked = subst (Fit (asks call) (handleOf call) (foundIn See h) (ltb (See .free) (length row)) Wr) (ap (λ (t : Bool). cond t Puts (cond (o .clears) clear leave)) e) fits .0
+
+        own : (t : Bool) → ltb (findOf row K) (length row) ≡ t → spotOf See ≡ spotFor row K
+        own true f = ap (λ (t : Bool). cond t (findOf row K) (See .free)) f ∙ sym (ap (λ (t : Bool). cond t (findOf row K) (freeOf row)) f)
+        own false f = ap (λ (t : Bool). cond t (findOf row K) (See .free)) f ∙ free-of row K w h f ∙ sym (ap (λ (t : Bool). cond t (findOf row K) (freeOf row)) f)
+
+    row-done : RowLeaves Spot (actionOf protocolVersion R h' o) row Row'
+    row-done = go (o .stores) (o .clears) refl refl
+      where
+        go : (t u : Bool) → o .stores ≡ t → o .clears ≡ u → RowLeaves Spot (actionOf protocolVersion R h' o) row Row'
+        go true u e f =
+            subst (λ (x : Action). RowLeaves Spot x row Row') (sym (ap (λ (t : Bool). cond t Puts (cond (o .clears) clear leave)) e))
+            (record { slot = o .slot; is = put-row row K w h o (getD w' 0 0) (st .lands) e ∙ ap (λ (n : ℕ). set row n (o .slot)) (at-spot e) })
+        go false true e f = subst (λ (x : Action). RowLeaves Spot x row Row') (sym (λ i. cond (e i) Puts (cond (f i) clear leave))) (freed-row row K w h o (getD w' 0 0) (st .lands) e f)
+        go false false e f = subst (λ (x : Action). RowLeaves Spot x row Row') (sym (λ i. cond (e i) Puts (cond (f i) clear leave))) (same-row row K w h o (getD w' 0 0) (st .lands) e f)
+
+    row-by : RowLeaves Spot (actionBy L (standbyOf s c row w b h) call) row Row'
+    row-by = subst (λ (x : Action). RowLeaves Spot x row Row') (ap (λ (r : CoreResult). r .action) (st .is ∙ found-own-core)) row-done
+
+    still-row : (n : ℕ) → answerOf b' (o .answer) ≡ refused n → eqb n 17 ≡ false → Row' ≡ row
+    still-row n e f =
+        subst (λ (x : Action). RowLeaves Spot x row Row')
+        (refused-still L (coreAt (countersOf c) (s .shape) w b) (find (handleOf call) T) (hasFree T) call n (sym (ap (λ (r : CoreResult). r .answer) (st .is ∙ found-own-core)) ∙ e) f) row-by
+
     allowed-after : allowedAll s Row' w' b' h' ≡ true
     allowed-after =
         (λ i. rules-true (s .shape) w' b' (st .rules) i && leb (length Row') (brokenOf Row' (getD w' 0 0) (room-same i)))
@@ -299,6 +336,8 @@ module _ (s : Settings) (c : Replica) (row : List Handle) (call : Call) (w w' b 
           allowed = allowed-after;
           leaves = leaves-own;
           holds = holds-own;
+          row-leaves = row-by;
+          row-still = still-row;
           row-length = row-same;
           holds-length = holds-same;
         }

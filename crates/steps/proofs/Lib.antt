@@ -1,4 +1,5 @@
 pub mod Naming
 pub mod Fitting
 pub mod Rows
+pub mod Still
 pub mod Called

@@ -3,19 +3,20 @@ use Prim.Native.Nat.{ℕ}
 use mathlib.Core.Path.{_≡_}
 use mathlib.Core.Bool.{Bool, true, false, cond, _&&_}
 use mathlib.Core.List.{List}
-use lib.ListN.{length, getD}
-use lib.Dec.{leb, ltb}
+use lib.ListN.{length, getD, set}
+use lib.Dec.{eqb, leb, ltb}
 use Rattle.model_frame.specs.Bytes.{leAt}
 use Rattle.row.specs.declared.Handle.{Handle}
-use Rattle.row.specs.Row.{none, findOf, brokenOf}
+use Rattle.row.specs.Row.{none, findOf, freeOf, brokenOf, clearedAll}
 use Rattle.bindings.specs.Rows.{rowOf}
 use Rattle.areas.specs.Areas.{allowed, placesOf}
 use Rattle.pending.specs.Pending.{pendingOf}
-use Rattle.model.specs.Answer.{protocolVersion}
-use Rattle.model.specs.Row.{find}
+use Rattle.model.specs.Answer.{protocolVersion, refused}
+use Rattle.model.specs.Row.{find, hasFree}
 use Rattle.model.specs.State.{Standby, Call, onFrameHeld, onFrame, flush, disconnectedFrom, promote, promoteUnchecked}
+use Rattle.model.specs.State as state
 use Rattle.model.specs.Standby.{step}
-use Rattle.model.specs.Core.{handleOf}
+use Rattle.model.specs.Core.{Action, leave, store, clear, coreOf, coreStep, handleOf}
 use Rattle.on_batch.specs.State.{boundOf}
 use Rattle.outcome.specs.declared.Replica.{Replica}
 use Rattle.outcome.specs.declared.Settings.{Settings}
@@ -50,6 +51,27 @@ soughtBy (disconnectedFrom n) = 0
 soughtBy promote = 0
 soughtBy promoteUnchecked = 0
 
+-- ---- the row, record for record
+
+-- the place for a handle: its own, or the first free one
+abbrev pub spotFor : List Handle → ℕ → ℕ
+spotFor row k = cond (ltb (findOf row k) (length row)) (findOf row k) (freeOf row)
+
+-- one record is put at place i
+pub record OnePut (i : ℕ) (row row' : List Handle) : Type 0 where
+  pub slot : Handle
+  pub is : row' ≡ set row i slot
+
+-- by what the definition does to the row: nothing, one record is put at place i, or every record is freed and keeps its other fields
+abbrev pub RowLeaves : ℕ → Action → List Handle → List Handle → Type 0
+RowLeaves i leave row row' = row' ≡ row
+RowLeaves i (store h b) row row' = OnePut i row row'
+RowLeaves i clear row row' = row' ≡ clearedAll row
+
+-- what the definition does to the row
+abbrev pub actionBy : state.Settings → Standby → Call → Action
+actionBy L x call = coreStep L (coreOf x) (find (handleOf call) (x .handles)) (hasFree (x .handles)) call .action
+
 -- the definition's step, and what stays as it was
 pub record CalledSteps (s : Settings) (call : Call) (c c' : Replica) (row row' : List Handle) (w w' b b' h h' : List ℕ) (a : Answer) : Type 0 where
   pub is : record { state = standbyOf s c' row' w' b' h'; answer = answerOf b' a } ≡ step (settingsOf s (roomAll row h)) (standbyOf s c row w b h) call
@@ -57,6 +79,9 @@ pub record CalledSteps (s : Settings) (call : Call) (c c' : Replica) (row row' :
   pub leaves : Leaves (s .shape) c (getD row (findOf row (handleOf call)) none .place) call w w' b b' a
   pub holds : h' ≡ holdsAfter (roomAll row h) (findOf row (handleOf call))
       (writesBy (settingsOf s (roomAll row h)) (countersOf c) (find (handleOf call) (standbyOf s c row w b h .handles)) call) h
+  pub row-leaves : RowLeaves (spotFor row (handleOf call)) (actionBy (settingsOf s (roomAll row h)) (standbyOf s c row w b h) call) row row'
+  -- a refusal leaves the row as it was; 17 raises the byte sum of its handle's record
+  pub row-still : (n : ℕ) → answerOf b' a ≡ refused n → eqb n 17 ≡ false → row' ≡ row
   pub row-length : length row' ≡ length row
   pub holds-length : length h' ≡ length h
 
