@@ -21,13 +21,13 @@ slice-read-if3 : tie.Need-slice-read-if3
 slice-read-if3 c = omega (arith, rules-of _ _ _ (sym (c .before .before .before .before .before .before .before .allowed .ensures) ∙ not-false _ (c .before .before .before .before .before .before .if1 .left)) .room .words-long)
 
 returns-3 : tie.Need-returns-3
-returns-3 c = stored _ _ _ _ (c .before .before .before .before .before .before .before .before .allowed .ensures) (not-false _ (c .before .before .before .before .before .before .before .if1 .left)) (c .before .before .before .before .before .before .is-key .ensures) (not-false _ (c .before .before .before .before .before .if2 .left)) (c .before .before .place-of .ensures) (c .if3 .taken)
+returns-3 c = stored _ _ _ _ (c .before .before .before .before .before .before .before .before .allowed .ensures) (not-false _ (c .before .before .before .before .before .before .before .if1 .left)) (c .before .before .before .before .before .before .is-key .ensures) (not-false _ (c .before .before .before .before .before .if2 .left)) (c .before .before .place-of .ensures) (omega (arith, c .if3 .taken))
 
 slice-read-if4 : tie.Need-slice-read-if4
 slice-read-if4 c = omega (arith, rules-of _ _ _ (sym (c .before .before .before .before .before .before .before .before .before .before .allowed .ensures) ∙ not-false _ (c .before .before .before .before .before .before .before .before .before .if1 .left)) .room .words-long)
 
 returns-4 : tie.Need-returns-4
-returns-4 c = no-place _ _ _ _ (c .before .before .before .before .before .before .before .before .before .before .before .allowed .ensures) (not-false _ (c .before .before .before .before .before .before .before .before .before .before .if1 .left)) (c .before .before .before .before .before .before .before .before .before .is-key .ensures) (not-false _ (c .before .before .before .before .before .before .before .before .if2 .left)) (c .before .before .before .before .before .place-of .ensures) (c .before .before .before .if3 .left) (c .if4 .taken)
+returns-4 c = no-place _ _ _ _ (c .before .before .before .before .before .before .before .before .before .before .before .allowed .ensures) (not-false _ (c .before .before .before .before .before .before .before .before .before .before .if1 .left)) (c .before .before .before .before .before .before .before .before .before .is-key .ensures) (not-false _ (c .before .before .before .before .before .before .before .before .if2 .left)) (c .before .before .before .before .before .place-of .ensures) (c .before .before .before .if3 .left) (omega (arith, c .if4 .taken))
 
 open-requires : tie.Need-open-requires
 open-requires c κs = let k = key-is _ _ _ _ (sym (c .before .before .before .before .before .before .before .before .before .before .before .is-key .ensures) ∙ not-false _ (c .before .before .before .before .before .before .before .before .before .before .if2 .left)) in (rules-of _ _ _ (sym (c .before .before .before .before .before .before .before .before .before .before .before .before .before .allowed .ensures) ∙ not-false _ (c .before .before .before .before .before .before .before .before .before .before .before .before .if1 .left)), (omega (arith, c .before .before .if4 .left), (k .0 .most, (k .1 .most, (k .2 .most, k .3 .most)))))
