@@ -4,30 +4,38 @@ use std::collections::{BTreeMap, VecDeque};
 use std::hint::black_box;
 use std::time::Instant;
 
+#[repr(C)]
+#[derive(Clone, Copy)]
+struct Shape {
+    places: u32,
+    bytes: u32,
+    messages: u32,
+}
+
 extern "C" {
-    fn store_make(w: *mut u64, wl: usize, b: *const u8, bl: usize, places: u32, cap: u32, max: u32) -> u32;
+    fn store_make(w: *mut u64, wl: usize, b: *const u8, bl: usize, shape: Shape) -> u32;
     #[allow(clippy::too_many_arguments)]
     fn store_open(
-        w: *mut u64, wl: usize, b: *mut u8, bl: usize, places: u32, cap: u32, max: u32,
+        w: *mut u64, wl: usize, b: *mut u8, bl: usize, shape: Shape,
         begin: *const u8, beginl: usize, sender: *const u8, senderl: usize,
         target: *const u8, targetl: usize, suffix: *const u8, suffixl: usize,
     ) -> u64;
     fn store_record(
-        w: *mut u64, wl: usize, b: *mut u8, bl: usize, places: u32, cap: u32, max: u32,
+        w: *mut u64, wl: usize, b: *mut u8, bl: usize, shape: Shape,
         i: usize, text: *const u8, textl: usize,
     ) -> u32;
     fn store_record_none(
-        w: *mut u64, wl: usize, b: *const u8, bl: usize, places: u32, cap: u32, max: u32, i: usize, seq: u64,
+        w: *mut u64, wl: usize, b: *const u8, bl: usize, shape: Shape, i: usize, seq: u64,
     ) -> u32;
-    fn store_reset(w: *mut u64, wl: usize, b: *const u8, bl: usize, places: u32, cap: u32, max: u32, i: usize) -> u32;
+    fn store_reset(w: *mut u64, wl: usize, b: *const u8, bl: usize, shape: Shape, i: usize) -> u32;
     fn store_take_over(
-        w: *mut u64, wl: usize, b: *mut u8, bl: usize, places: u32, cap: u32, max: u32, i: usize, lag: u64,
+        w: *mut u64, wl: usize, b: *mut u8, bl: usize, shape: Shape, i: usize, lag: u64,
     ) -> u32;
-    fn store_next_outgoing(w: *const u64, wl: usize, b: *const u8, bl: usize, places: u32, cap: u32, max: u32, i: usize) -> u64;
+    fn store_next_outgoing(w: *const u64, wl: usize, b: *const u8, bl: usize, shape: Shape, i: usize) -> u64;
     fn store_last_outgoing(
-        w: *const u64, wl: usize, b: *const u8, bl: usize, places: u32, cap: u32, max: u32, i: usize, n: u64,
+        w: *const u64, wl: usize, b: *const u8, bl: usize, shape: Shape, i: usize, n: u64,
     ) -> u64;
-    fn store_count(w: *const u64, wl: usize, b: *const u8, bl: usize, places: u32, cap: u32, max: u32, i: usize) -> u64;
+    fn store_count(w: *const u64, wl: usize, b: *const u8, bl: usize, shape: Shape, i: usize) -> u64;
     fn store_fnv(h: u64, s: *const u8, sl: usize) -> u64;
 }
 
@@ -37,9 +45,7 @@ const START: u64 = 0xcbf2_9ce4_8422_2325;
 struct Ours {
     words: Vec<u64>,
     bytes: Vec<u8>,
-    places: u32,
-    cap: u32,
-    max: u32,
+    shape: Shape,
 }
 
 impl Ours {
@@ -50,8 +56,9 @@ impl Ours {
 
     fn new(places: u32, cap: u32, max: u32) -> Self {
         let (w, b) = Self::areas(places, cap, max);
-        let mut it = Self { words: vec![0; w], bytes: vec![0; b], places, cap, max };
-        let made = unsafe { store_make(it.words.as_mut_ptr(), w, it.bytes.as_ptr(), b, places, cap, max) };
+        let shape = Shape { places, bytes: cap, messages: max };
+        let mut it = Self { words: vec![0; w], bytes: vec![0; b], shape };
+        let made = unsafe { store_make(it.words.as_mut_ptr(), w, it.bytes.as_ptr(), b, shape) };
         assert_eq!(made, 0);
         for i in 0..places {
             assert_eq!(it.open(&format!("T{i}")), u64::from(i));
@@ -60,10 +67,9 @@ impl Ours {
     }
 
     fn open(&mut self, target: &str) -> u64 {
-        let (p, c, m) = (self.places, self.cap, self.max);
         unsafe {
             store_open(
-                self.words.as_mut_ptr(), self.words.len(), self.bytes.as_mut_ptr(), self.bytes.len(), p, c, m,
+                self.words.as_mut_ptr(), self.words.len(), self.bytes.as_mut_ptr(), self.bytes.len(), self.shape,
                 b"FIX.4.4".as_ptr(), 7, b"GATE".as_ptr(), 4, target.as_ptr(), target.len(), b"".as_ptr(), 0,
             )
         }
@@ -71,43 +77,36 @@ impl Ours {
 
     #[inline]
     fn record(&mut self, i: usize, text: &[u8]) -> u32 {
-        let (p, c, m) = (self.places, self.cap, self.max);
         unsafe {
             store_record(
-                self.words.as_mut_ptr(), self.words.len(), self.bytes.as_mut_ptr(), self.bytes.len(), p, c, m,
+                self.words.as_mut_ptr(), self.words.len(), self.bytes.as_mut_ptr(), self.bytes.len(), self.shape,
                 i, text.as_ptr(), text.len(),
             )
         }
     }
 
     fn bare(&mut self, i: usize, seq: u64) -> u32 {
-        let (p, c, m) = (self.places, self.cap, self.max);
-        unsafe { store_record_none(self.words.as_mut_ptr(), self.words.len(), self.bytes.as_ptr(), self.bytes.len(), p, c, m, i, seq) }
+        unsafe { store_record_none(self.words.as_mut_ptr(), self.words.len(), self.bytes.as_ptr(), self.bytes.len(), self.shape, i, seq) }
     }
 
     fn reset(&mut self, i: usize) -> u32 {
-        let (p, c, m) = (self.places, self.cap, self.max);
-        unsafe { store_reset(self.words.as_mut_ptr(), self.words.len(), self.bytes.as_ptr(), self.bytes.len(), p, c, m, i) }
+        unsafe { store_reset(self.words.as_mut_ptr(), self.words.len(), self.bytes.as_ptr(), self.bytes.len(), self.shape, i) }
     }
 
     fn take_over(&mut self, i: usize, lag: u64) -> u32 {
-        let (p, c, m) = (self.places, self.cap, self.max);
-        unsafe { store_take_over(self.words.as_mut_ptr(), self.words.len(), self.bytes.as_mut_ptr(), self.bytes.len(), p, c, m, i, lag) }
+        unsafe { store_take_over(self.words.as_mut_ptr(), self.words.len(), self.bytes.as_mut_ptr(), self.bytes.len(), self.shape, i, lag) }
     }
 
     fn next(&self, i: usize) -> u64 {
-        let (p, c, m) = (self.places, self.cap, self.max);
-        unsafe { store_next_outgoing(self.words.as_ptr(), self.words.len(), self.bytes.as_ptr(), self.bytes.len(), p, c, m, i) }
+        unsafe { store_next_outgoing(self.words.as_ptr(), self.words.len(), self.bytes.as_ptr(), self.bytes.len(), self.shape, i) }
     }
 
     fn last(&self, i: usize, n: u64) -> u64 {
-        let (p, c, m) = (self.places, self.cap, self.max);
-        unsafe { store_last_outgoing(self.words.as_ptr(), self.words.len(), self.bytes.as_ptr(), self.bytes.len(), p, c, m, i, n) }
+        unsafe { store_last_outgoing(self.words.as_ptr(), self.words.len(), self.bytes.as_ptr(), self.bytes.len(), self.shape, i, n) }
     }
 
     fn count(&self, i: usize) -> u64 {
-        let (p, c, m) = (self.places, self.cap, self.max);
-        unsafe { store_count(self.words.as_ptr(), self.words.len(), self.bytes.as_ptr(), self.bytes.len(), p, c, m, i) }
+        unsafe { store_count(self.words.as_ptr(), self.words.len(), self.bytes.as_ptr(), self.bytes.len(), self.shape, i) }
     }
 }
 

@@ -1,11 +1,9 @@
 // Sending a session whole, one frame a call (active.rs, send_whole).
 ghost use mathlib.Core.Path.{_≡_};
-ghost use mathlib.Core.Bool.{_&&_};
 ghost use Prim.Native.Nat.{ℕ, _≤_, _<_};
 ghost use lib.ListN.{length, getD};
-ghost use lib.Dec.{ltb};
 ghost use Rattle.model_session.specs.Whole.{batchLimit, wholeBatches};
-ghost use Rattle.areas.specs.Areas.{allowed, Rules, placeAt};
+ghost use Rattle.areas.specs.Areas.{Rules, placeAt};
 ghost use Rattle.batch.specs.Batch.{WroteBatch};
 ghost use Rattle.active.specs.Whole.{storedAt, startOf, startFrom, SendsWhole};
 use areas::Shape;
@@ -38,16 +36,6 @@ pub enum Sent {
     Done,
     TooShort,
     Unfit,
-}
-
-// Whether the areas keep the rules and the place holds a session.
-fn is_stored(words: &[u64], bytes: &[u8], shape: Shape, i: usize) -> bool
-    ensures { λ r. ⌜ r ≡ (allowed shape (now (words .entry)) (now (bytes .entry)) && ltb i (getD (now (words .entry)) 0 0)) ⌝ }
-{
-    if areas::allowed(shape, words, bytes) {
-        return i < words[0] as usize;
-    }
-    false
 }
 
 // How many batches send the session at place i.
@@ -110,7 +98,7 @@ impl Sending {
     ) -> Begun
         ensures { λ r. ⌜ startOf r ≡ startFrom batchLimit (storedAt shape (now (words .entry)) (now (bytes .entry)) place) place handle (epoch .0) (last .0) ⌝ }
     {
-        if is_stored(words, bytes, shape, place) {
+        if areas::in_use(words, bytes, shape, place) {
             let count = batches_at(words, bytes, shape, place, Self::BATCH_BYTES);
             if u64::MAX - last.0 < count as u64 {
                 return Begun::NumbersPast;
@@ -135,7 +123,7 @@ impl Sending {
         let handle = self.handle;
         let epoch = self.epoch;
         let limit = Self::BATCH_BYTES;
-        if is_stored(words, bytes, shape, place) {
+        if areas::in_use(words, bytes, shape, place) {
             if self.done {
                 return Sent::Done;
             }

@@ -5,13 +5,13 @@ use mathlib.Core.List.{List, []}
 use Prim.Native.Nat.{ℕ, _+_, _*_, _≤_, _<_}
 use native.Mathlib.Omega.{arith}
 use native.Mathlib.Nat.{le-trans, mul-le-mul-left, mul-le-mul-right}
-use borrow.Author.Tests.{le-leb, lt-leb, leb-true}
-use lib.Dec.{leb}
+use borrow.Author.Tests.{le-leb, lt-leb, leb-true, ltb-true}
+use lib.Dec.{leb, ltb}
 use lib.ListN.{length, getD, set, length-set}
 use lib.Seq.{getD-set-same, getD-set-other}
 use Rattle.model_text.proofs.Formed.{and-l, and-r}
 use Rattle.areas.specs.declared.Shape.{Shape}
-use Rattle.areas.specs.Areas.{placeWords, placeBytes, roomy, allowed, Room, Rules, placeAt, countUp, placesOf}
+use Rattle.areas.specs.Areas.{placeWords, placeBytes, roomy, allowed, Room, Rules, inUse, InUse, placeAt, countUp, placesOf}
 
 module _ (s : Shape) (w b : List ℕ) where
   t1 : Bool
@@ -49,6 +49,9 @@ module _ (s : Shape) (w b : List ℕ) where
       let v : Bool = leb (getD w 1 0) 64 in
       let e2 : (u && v) ≡ true = and-r (roomy s w b) (u && v) e in
       record { room = room-of (and-l (roomy s w b) (u && v) e); used = leb-true (getD w 0 0) (s .places) (and-l u v e2); pending = leb-true (getD w 1 0) 64 (and-r u v e2) }
+
+  pub in-use-of : (i : ℕ) → inUse s w b i ≡ true → InUse s w b i
+  in-use-of i e = record { rules = rules-of (and-l (allowed s w b) (ltb i (getD w 0 0)) e); at = ltb-true i (getD w 0 0) (and-r (allowed s w b) (ltb i (getD w 0 0)) e) }
 
   pub rules-true : Rules s w b → allowed s w b ≡ true
   unfolding allowed
@@ -100,6 +103,3 @@ made-places s w b r =
     let v : List ℕ = set (set w 0 0) 1 0 in
     let a : getD v 0 0 ≡ 0 = getD-set-other (set w 0 0) 1 0 0 0 (λ e. omega arith) ∙ getD-set-same w 0 0 0 (omega (arith, r .words-long)) in
     ap (countUp (placeAt s v b) 0) a
-
-pub never : false ≡ true → ⊥
-never e = let z : _≡_ {A = ℕ} 0 1 = cc in omega arith

@@ -6,7 +6,7 @@ use Prim.Native.Nat.{ℕ, zero, suc, _+_, _-_, _*_, _≤_, _<_}
 use mathlib.Core.Bool.{Bool, true, false, _&&_}
 use mathlib.Core.List.{List, [], _∷_}
 use lib.ListN.{length, take, drop, getD, set}
-use lib.Dec.{leb}
+use lib.Dec.{leb, ltb}
 use Rattle.model.specs.Store.{Stored, Place, onPlace}
 use Rattle.place.specs.Only.{Only}
 use Rattle.place.specs.Place.{placeIn}
@@ -60,6 +60,10 @@ pub record Rules (s : Shape) (w b : List ℕ) : Type 0 where
   pub pending : getD w 1 0 ≤ 64
 
 -- place i is in use in areas that keep the rules
+abbrev pub inUse : Shape → List ℕ → List ℕ → ℕ → Bool
+inUse s w b i = allowed s w b && ltb i (getD w 0 0)
+
+-- the same as facts
 pub record InUse (s : Shape) (w b : List ℕ) (i : ℕ) : Type 0 where
   pub rules : Rules s w b
   pub at : i < getD w 0 0

@@ -4,7 +4,7 @@ ghost use Prim.Native.Nat.{ℕ, _+_, _*_, _≤_, _<_};
 ghost use mathlib.Core.Bool.{Bool, true, false};
 ghost use mathlib.Core.List.{List};
 ghost use lib.ListN.{length, getD, set};
-ghost use Rattle.areas.specs.Areas.{placeWords, placeBytes, wordsAt, bytesAt, roomy, allowed, Rules, SpotIs, SpotIn, InUse, Making};
+ghost use Rattle.areas.specs.Areas.{placeWords, placeBytes, wordsAt, bytesAt, roomy, allowed, Rules, SpotIs, SpotIn, inUse, Making};
 
 // How many session places, and for each the message bytes (C) and the messages (M).
 #[repr(C)]
@@ -111,7 +111,7 @@ pub fn allowed(shape: Shape, words: &[u64], bytes: &[u8]) -> bool
 
 // Whether the areas keep the rules and place i is in use.
 pub fn in_use(words: &[u64], bytes: &[u8], shape: Shape, i: usize) -> bool
-    ensures { λ r. ⌜ (r ≡ true → InUse shape (now (words .entry)) (now (bytes .entry)) i) ⌝ }
+    ensures { λ r. ⌜ r ≡ inUse shape (now (words .entry)) (now (bytes .entry)) i ⌝ }
 {
     if allowed(shape, words, bytes) {
         return (i as u64) < words[0];

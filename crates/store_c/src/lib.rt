@@ -1,20 +1,25 @@
-// The store for programs in C or Rust. Each function turns areas that break the rules down (25), and asks nothing of its caller.
+// The store's operations for programs in C or Rust: each turns areas that break the rules down (25), and asks nothing of its caller.
+ghost use mathlib.Core.Path.{_≡_};
+ghost use mathlib.Core.Bool.{true, _&&_};
+ghost use mathlib.Core.List.{[], _∷_};
+ghost use lib.ListN.{length};
+ghost use lib.Dec.{leb, ltb};
+ghost use Rattle.model_text.specs.Printable.{isMarks};
+ghost use Rattle.model_text.specs.Stamp.{isStamp};
+ghost use Rattle.model_frame.specs.Frame.{setIncoming, setIncomingInFlight, setInFlight, recordMsg, recordBare, reset, setCreatedAt, setMarks};
+ghost use Rattle.model_session.specs.Session.{Session, top};
+ghost use Rattle.model_session.specs.Summary.{fnv, numberedFrom, lastOut};
+ghost use Rattle.model.specs.Store.{changed, markDurable, takenOver};
+ghost use Rattle.place.specs.Place.{keyFrom};
+ghost use Rattle.store_c.specs.Total.{sessionIn, Reads, MadeIs, ChangeIs, OpenIs};
 use areas::Made;
 use areas::Shape;
 
+// Makes a store without sessions.
 #[no_mangle]
-pub extern "C" fn store_make(
-    words: &mut [u64],
-    bytes: &[u8],
-    places: u32,
-    cap: u32,
-    max: u32,
-) -> u32 {
-    let shape = Shape {
-        places,
-        bytes: cap,
-        messages: max,
-    };
+pub extern "C" fn store_make(words: &mut [u64], bytes: &[u8], shape: Shape) -> u32
+    ensures { λ r. ⌜ MadeIs shape (now (words .entry)) (now (words .exit)) (now (bytes .entry)) r ⌝ }
+{
     match areas::make(shape, words, bytes) {
         Made::Ready => 0,
         Made::Unfit => 25,
@@ -26,19 +31,14 @@ pub extern "C" fn store_make(
 pub extern "C" fn store_open(
     words: &mut [u64],
     bytes: &mut [u8],
-    places: u32,
-    cap: u32,
-    max: u32,
+    shape: Shape,
     begin: &[u8],
     sender: &[u8],
     target: &[u8],
     suffix: &[u8],
-) -> u64 {
-    let shape = Shape {
-        places,
-        bytes: cap,
-        messages: max,
-    };
+) -> u64
+    ensures { λ r. ⌜ OpenIs shape (keyFrom (now (begin .entry)) (now (sender .entry)) (now (target .entry)) (now (suffix .entry))) (now (words .entry)) (now (words .exit)) (now (bytes .entry)) (now (bytes .exit)) r ⌝ }
+{
     if !areas::allowed(shape, words, bytes) {
         return u64::MAX;
     }
@@ -49,49 +49,119 @@ pub extern "C" fn store_open(
     if (i as u64) < words[0] {
         return i as u64;
     }
-    if places as u64 <= words[0] {
+    if shape.places as u64 <= words[0] {
         return u64::MAX;
     }
     sessions::open(words, bytes, shape, begin, sender, target, suffix);
     i as u64
 }
 
+// ---- reading: 0 for a session that isn't stored
+
 #[no_mangle]
-pub extern "C" fn store_next_outgoing(
-    words: &[u64],
-    bytes: &[u8],
-    places: u32,
-    cap: u32,
-    max: u32,
-    i: usize,
-) -> u64 {
-    let shape = Shape {
-        places,
-        bytes: cap,
-        messages: max,
-    };
+pub extern "C" fn store_next_outgoing(words: &[u64], bytes: &[u8], shape: Shape, i: usize) -> u64
+    ensures { λ r. ⌜ Reads shape (now (words .entry)) (now (bytes .entry)) i (λ x. x .nextOut) r ⌝ }
+{
     if !areas::in_use(words, bytes, shape, i) {
         return 0;
     }
     store::next_outgoing(words, bytes, shape, i)
 }
 
-// A Record of the next outgoing number with this message; 2 if there is no such number.
+// The hash of the newest n numbers' messages.
+#[no_mangle]
+pub extern "C" fn store_last_outgoing(
+    words: &[u64],
+    bytes: &[u8],
+    shape: Shape,
+    i: usize,
+    n: u64,
+) -> u64
+    ensures { λ r. ⌜ Reads shape (now (words .entry)) (now (bytes .entry)) i (λ x. lastOut x n) r ⌝ }
+{
+    if !areas::in_use(words, bytes, shape, i) {
+        return 0;
+    }
+    sessions::last_outgoing(words, bytes, shape, i, n)
+}
+
+// How many messages are stored: every stored number is from 1.
+#[no_mangle]
+pub extern "C" fn store_count(words: &[u64], bytes: &[u8], shape: Shape, i: usize) -> u64
+    ensures { λ r. ⌜ Reads shape (now (words .entry)) (now (bytes .entry)) i (λ x. length (numberedFrom 1 (x .messages))) r ⌝ }
+{
+    if !areas::in_use(words, bytes, shape, i) {
+        return 0;
+    }
+    let c = sessions::messages_from(words, bytes, shape, i, 1);
+    c.left as u64
+}
+
+// ---- the eight changes, the durable mark, promotion: 0, 25, or 2 for a change that can't be made
+
+#[no_mangle]
+pub extern "C" fn store_set_next_incoming(
+    words: &mut [u64],
+    bytes: &[u8],
+    shape: Shape,
+    i: usize,
+    seq: u64,
+) -> u32
+    ensures { λ r. ⌜ ChangeIs shape i true (changed (shape .bytes) (shape .messages) (setIncoming seq ∷ [])) (now (words .entry)) (now (words .exit)) (now (bytes .entry)) (now (bytes .entry)) r ⌝ }
+{
+    if !areas::in_use(words, bytes, shape, i) {
+        return 25;
+    }
+    store::set_next_incoming(words, bytes, shape, i, seq);
+    0
+}
+
+#[no_mangle]
+pub extern "C" fn store_set_next_incoming_in_flight(
+    words: &mut [u64],
+    bytes: &[u8],
+    shape: Shape,
+    i: usize,
+    seq: u64,
+    in_flight: u64,
+) -> u32
+    ensures { λ r. ⌜ ChangeIs shape i true (changed (shape .bytes) (shape .messages) (setIncomingInFlight seq «in_flight» ∷ [])) (now (words .entry)) (now (words .exit)) (now (bytes .entry)) (now (bytes .entry)) r ⌝ }
+{
+    if !areas::in_use(words, bytes, shape, i) {
+        return 25;
+    }
+    store::set_next_incoming_in_flight(words, bytes, shape, i, seq, in_flight);
+    0
+}
+
+#[no_mangle]
+pub extern "C" fn store_set_in_flight(
+    words: &mut [u64],
+    bytes: &[u8],
+    shape: Shape,
+    i: usize,
+    seq: u64,
+) -> u32
+    ensures { λ r. ⌜ ChangeIs shape i true (changed (shape .bytes) (shape .messages) (setInFlight seq ∷ [])) (now (words .entry)) (now (words .exit)) (now (bytes .entry)) (now (bytes .entry)) r ⌝ }
+{
+    if !areas::in_use(words, bytes, shape, i) {
+        return 25;
+    }
+    store::set_in_flight(words, bytes, shape, i, seq);
+    0
+}
+
+// A Record of the next outgoing number with this message; 2 if no number is left.
 #[no_mangle]
 pub extern "C" fn store_record(
     words: &mut [u64],
     bytes: &mut [u8],
-    places: u32,
-    cap: u32,
-    max: u32,
+    shape: Shape,
     i: usize,
     text: &[u8],
-) -> u32 {
-    let shape = Shape {
-        places,
-        bytes: cap,
-        messages: max,
-    };
+) -> u32
+    ensures { λ r. ⌜ ChangeIs shape i (ltb (sessionIn shape (now (words .entry)) (now (bytes .entry)) i .nextOut) top) (changed (shape .bytes) (shape .messages) (recordMsg (sessionIn shape (now (words .entry)) (now (bytes .entry)) i .nextOut) (now (text .entry)) ∷ [])) (now (words .entry)) (now (words .exit)) (now (bytes .entry)) (now (bytes .exit)) r ⌝ }
+{
     if !areas::in_use(words, bytes, shape, i) {
         return 25;
     }
@@ -108,17 +178,12 @@ pub extern "C" fn store_record(
 pub extern "C" fn store_record_none(
     words: &mut [u64],
     bytes: &[u8],
-    places: u32,
-    cap: u32,
-    max: u32,
+    shape: Shape,
     i: usize,
     seq: u64,
-) -> u32 {
-    let shape = Shape {
-        places,
-        bytes: cap,
-        messages: max,
-    };
+) -> u32
+    ensures { λ r. ⌜ ChangeIs shape i (leb (sessionIn shape (now (words .entry)) (now (bytes .entry)) i .nextOut) seq && ltb seq top) (changed (shape .bytes) (shape .messages) (recordBare seq ∷ [])) (now (words .entry)) (now (words .exit)) (now (bytes .entry)) (now (bytes .entry)) r ⌝ }
+{
     if !areas::in_use(words, bytes, shape, i) {
         return 25;
     }
@@ -133,19 +198,9 @@ pub extern "C" fn store_record_none(
 }
 
 #[no_mangle]
-pub extern "C" fn store_reset(
-    words: &mut [u64],
-    bytes: &[u8],
-    places: u32,
-    cap: u32,
-    max: u32,
-    i: usize,
-) -> u32 {
-    let shape = Shape {
-        places,
-        bytes: cap,
-        messages: max,
-    };
+pub extern "C" fn store_reset(words: &mut [u64], bytes: &[u8], shape: Shape, i: usize) -> u32
+    ensures { λ r. ⌜ ChangeIs shape i true (changed (shape .bytes) (shape .messages) (reset ∷ [])) (now (words .entry)) (now (words .exit)) (now (bytes .entry)) (now (bytes .entry)) r ⌝ }
+{
     if !areas::in_use(words, bytes, shape, i) {
         return 25;
     }
@@ -154,20 +209,66 @@ pub extern "C" fn store_reset(
 }
 
 #[no_mangle]
+pub extern "C" fn store_set_created_at(
+    words: &mut [u64],
+    bytes: &mut [u8],
+    shape: Shape,
+    i: usize,
+    text: &[u8],
+) -> u32
+    ensures { λ r. ⌜ ChangeIs shape i (isStamp (now (text .entry))) (changed (shape .bytes) (shape .messages) (setCreatedAt (now (text .entry)) ∷ [])) (now (words .entry)) (now (words .exit)) (now (bytes .entry)) (now (bytes .exit)) r ⌝ }
+{
+    if !areas::in_use(words, bytes, shape, i) {
+        return 25;
+    }
+    if !stamp::is_stamp(text) {
+        return 2;
+    }
+    store::set_created_at(words, bytes, shape, i, text);
+    0
+}
+
+#[no_mangle]
+pub extern "C" fn store_set_marks(
+    words: &mut [u64],
+    bytes: &mut [u8],
+    shape: Shape,
+    i: usize,
+    text: &[u8],
+) -> u32
+    ensures { λ r. ⌜ ChangeIs shape i (isMarks (now (text .entry))) (changed (shape .bytes) (shape .messages) (setMarks (now (text .entry)) ∷ [])) (now (words .entry)) (now (words .exit)) (now (bytes .entry)) (now (bytes .exit)) r ⌝ }
+{
+    if !areas::in_use(words, bytes, shape, i) {
+        return 25;
+    }
+    if !stamp::is_marks(text) {
+        return 2;
+    }
+    store::set_marks(words, bytes, shape, i, text);
+    0
+}
+
+#[no_mangle]
+pub extern "C" fn store_mark_durable(words: &mut [u64], bytes: &[u8], shape: Shape, i: usize) -> u32
+    ensures { λ r. ⌜ ChangeIs shape i true markDurable (now (words .entry)) (now (words .exit)) (now (bytes .entry)) (now (bytes .entry)) r ⌝ }
+{
+    if !areas::in_use(words, bytes, shape, i) {
+        return 25;
+    }
+    store::mark_durable(words, bytes, shape, i);
+    0
+}
+
+#[no_mangle]
 pub extern "C" fn store_take_over(
     words: &mut [u64],
     bytes: &mut [u8],
-    places: u32,
-    cap: u32,
-    max: u32,
+    shape: Shape,
     i: usize,
     lag: u64,
-) -> u32 {
-    let shape = Shape {
-        places,
-        bytes: cap,
-        messages: max,
-    };
+) -> u32
+    ensures { λ r. ⌜ ChangeIs shape i true (takenOver lag) (now (words .entry)) (now (words .exit)) (now (bytes .entry)) (now (bytes .exit)) r ⌝ }
+{
     if !areas::in_use(words, bytes, shape, i) {
         return 25;
     }
@@ -175,50 +276,10 @@ pub extern "C" fn store_take_over(
     0
 }
 
+// FNV-1a over bytes, on from h.
 #[no_mangle]
-pub extern "C" fn store_last_outgoing(
-    words: &[u64],
-    bytes: &[u8],
-    places: u32,
-    cap: u32,
-    max: u32,
-    i: usize,
-    n: u64,
-) -> u64 {
-    let shape = Shape {
-        places,
-        bytes: cap,
-        messages: max,
-    };
-    if !areas::in_use(words, bytes, shape, i) {
-        return 0;
-    }
-    sessions::last_outgoing(words, bytes, shape, i, n)
-}
-
-// How many messages are stored.
-#[no_mangle]
-pub extern "C" fn store_count(
-    words: &[u64],
-    bytes: &[u8],
-    places: u32,
-    cap: u32,
-    max: u32,
-    i: usize,
-) -> u64 {
-    let shape = Shape {
-        places,
-        bytes: cap,
-        messages: max,
-    };
-    if !areas::in_use(words, bytes, shape, i) {
-        return 0;
-    }
-    let c = sessions::messages_from(words, bytes, shape, i, 1);
-    c.left as u64
-}
-
-#[no_mangle]
-pub extern "C" fn store_fnv(h: u64, s: &[u8]) -> u64 {
+pub extern "C" fn store_fnv(h: u64, s: &[u8]) -> u64
+    ensures { λ r. ⌜ r ≡ fnv h (now (s .entry)) ⌝ }
+{
     log::fnv::bytes(h, s)
 }

@@ -20,15 +20,13 @@ fn make(line: &[u8], words: &mut [u64], bytes: &[u8]) -> At {
     let places = script::low(script::field(line, 0));
     let cap = script::low(script::field(line, 1));
     let max = script::low(script::field(line, 2));
-    store_c::store_make(words, bytes, places, cap, max);
-    At {
-        shape: Shape {
-            places,
-            bytes: cap,
-            messages: max,
-        },
-        place: 0,
-    }
+    let shape = Shape {
+        places,
+        bytes: cap,
+        messages: max,
+    };
+    store_c::store_make(words, bytes, shape);
+    At { shape, place: 0 }
 }
 
 // The session of a key, opened where it isn't stored yet.
@@ -37,17 +35,7 @@ fn open(line: &[u8], words: &mut [u64], bytes: &mut [u8], at: At) -> At {
     if line.len() < 2 {
         return at;
     }
-    let place = store_c::store_open(
-        words,
-        bytes,
-        shape.places,
-        shape.bytes,
-        shape.messages,
-        b"FIX.4.4",
-        b"A",
-        &line[2..],
-        b"",
-    );
+    let place = store_c::store_open(words, bytes, shape, b"FIX.4.4", b"A", &line[2..], b"");
     At {
         shape,
         place: place as usize,

@@ -109,13 +109,14 @@ fn make(line: &[u8], wa: &mut [u64], ba: &[u8], wb: &mut [u64], bb: &[u8]) -> Wa
     let places = script::low(script::field(line, 0));
     let cap = script::low(script::field(line, 1));
     let max = script::low(script::field(line, 2));
-    store_c::store_make(wa, ba, places, cap, max);
-    store_c::store_make(wb, bb, places, cap, max);
-    start(Shape {
+    let shape = Shape {
         places,
         bytes: cap,
         messages: max,
-    })
+    };
+    store_c::store_make(wa, ba, shape);
+    store_c::store_make(wb, bb, shape);
+    start(shape)
 }
 
 // A new standby, and no sending yet.
@@ -139,17 +140,7 @@ fn start(shape: Shape) -> Way {
 
 // Opens A, with this target.
 fn open(words: &mut [u64], bytes: &mut [u8], shape: Shape, target: &[u8]) {
-    store_c::store_open(
-        words,
-        bytes,
-        shape.places,
-        shape.bytes,
-        shape.messages,
-        b"FIX.4.4",
-        b"A",
-        target,
-        b"",
-    );
+    store_c::store_open(words, bytes, shape, b"FIX.4.4", b"A", target, b"");
 }
 
 // A change of A.

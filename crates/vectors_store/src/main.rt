@@ -61,28 +61,28 @@ fn put_hash(h: u64) {
 }
 
 // Records the first len bytes of a text.
-fn record_front(words: &mut [u64], bytes: &mut [u8], cap: u32, max: u32, text: &[u8], len: usize) {
+fn record_front(words: &mut [u64], bytes: &mut [u8], shape: Shape, text: &[u8], len: usize) {
     if len <= text.len() {
-        store_c::store_record(words, bytes, 2, cap, max, 0, &text[0..len]);
+        store_c::store_record(words, bytes, shape, 0, &text[0..len]);
     }
 }
 
 // Records a message of len bytes under the next number, from which its bytes come.
-fn record(words: &mut [u64], bytes: &mut [u8], cap: u32, max: u32, len: usize) {
-    let next = store_c::store_next_outgoing(words, bytes, 2, cap, max, 0);
+fn record(words: &mut [u64], bytes: &mut [u8], shape: Shape, len: usize) {
+    let next = store_c::store_next_outgoing(words, bytes, shape, 0);
     let mut text = [0u8; 80];
     let mut j: usize = 0;
     while j < 80 {
         text[j] = (wrapping_add_u64(next, j as u64) % 251) as u8;
         j += 1;
     }
-    record_front(words, bytes, cap, max, &text, len);
+    record_front(words, bytes, shape, &text, len);
 }
 
-fn record_many(words: &mut [u64], bytes: &mut [u8], cap: u32, max: u32, len: usize, count: u32) {
+fn record_many(words: &mut [u64], bytes: &mut [u8], shape: Shape, len: usize, count: u32) {
     let mut k: u32 = 0;
     while k < count {
-        record(words, bytes, cap, max, len);
+        record(words, bytes, shape, len);
         k += 1;
     }
 }
@@ -105,7 +105,7 @@ fn put_message(bytes: &[u8], number: u64, at: usize, first: usize, again: usize,
 
 // The next number and each message's number, length and hash.
 fn list(words: &[u64], bytes: &[u8], shape: Shape) {
-    put_number(store_c::store_next_outgoing(words, bytes, 2, shape.bytes, shape.messages, 0));
+    put_number(store_c::store_next_outgoing(words, bytes, shape, 0));
     put_text(b":");
     if areas::in_use(words, bytes, shape, 0) {
         let c = sessions::messages_from(words, bytes, shape, 0, 1);
@@ -123,25 +123,26 @@ fn list(words: &[u64], bytes: &[u8], shape: Shape) {
 
 // Makes a store of two sessions, of which the first is recorded to.
 fn make(words: &mut [u64], bytes: &mut [u8], cap: u32, max: u32) -> Shape {
-    store_c::store_make(words, bytes, 2, cap, max);
-    store_c::store_open(words, bytes, 2, cap, max, b"FIX.4.4", b"A", b"B", b"");
-    store_c::store_open(words, bytes, 2, cap, max, b"FIX.4.4", b"A", b"C", b"");
-    Shape {
+    let shape = Shape {
         places: 2,
         bytes: cap,
         messages: max,
-    }
+    };
+    store_c::store_make(words, bytes, shape);
+    store_c::store_open(words, bytes, shape, b"FIX.4.4", b"A", b"B", b"");
+    store_c::store_open(words, bytes, shape, b"FIX.4.4", b"A", b"C", b"");
+    shape
 }
 
 // A Record without message that skips some numbers.
-fn record_none(words: &mut [u64], bytes: &mut [u8], cap: u32, max: u32, skip: u32) {
-    let next = store_c::store_next_outgoing(words, bytes, 2, cap, max, 0);
+fn record_none(words: &mut [u64], bytes: &mut [u8], shape: Shape, skip: u32) {
+    let next = store_c::store_next_outgoing(words, bytes, shape, 0);
     let seq = wrapping_add_u64(next, skip as u64);
-    store_c::store_record_none(words, bytes, 2, cap, max, 0, seq);
+    store_c::store_record_none(words, bytes, shape, 0, seq);
 }
 
-fn put_last_outgoing(words: &[u64], bytes: &[u8], cap: u32, max: u32, n: u32) {
-    put_hash(store_c::store_last_outgoing(words, bytes, 2, cap, max, 0, n as u64));
+fn put_last_outgoing(words: &[u64], bytes: &[u8], shape: Shape, n: u32) {
+    put_hash(store_c::store_last_outgoing(words, bytes, shape, 0, n as u64));
     put_text(b"\n");
 }
 
@@ -160,22 +161,20 @@ fn command(line: &[u8], words: &mut [u64], bytes: &mut [u8], shape: Shape) -> Sh
     }
     let a = number_at(line, 2);
     let b = number_at(line, a.end);
-    let cap = shape.bytes;
-    let max = shape.messages;
     match line[0] {
         b'n' => {
             return make(words, bytes, a.value, b.value);
         }
-        b'r' => record_many(words, bytes, cap, max, a.value as usize, b.value),
-        b'g' => record_none(words, bytes, cap, max, a.value),
+        b'r' => record_many(words, bytes, shape, a.value as usize, b.value),
+        b'g' => record_none(words, bytes, shape, a.value),
         b'z' => {
-            store_c::store_reset(words, bytes, 2, cap, max, 0);
+            store_c::store_reset(words, bytes, shape, 0);
         }
         b'p' => {
-            store_c::store_take_over(words, bytes, 2, cap, max, 0, a.value as u64);
+            store_c::store_take_over(words, bytes, shape, 0, a.value as u64);
         }
         b'l' => list(words, bytes, shape),
-        b'h' => put_last_outgoing(words, bytes, cap, max, a.value),
+        b'h' => put_last_outgoing(words, bytes, shape, a.value),
         _ => put_text_hash(line),
     }
     shape

@@ -1,7 +1,6 @@
 use native.Mathlib.Omega.{arith}
 use mathlib.Core.Path.{sym, _∙_}
-use borrow.Author.Tests.{ltb-true}
-use Rattle.areas.proofs.Ruling.{rules-of, never}
+use Rattle.areas.proofs.Ruling.{rules-of}
 use borrow.Author.Needs.{needs}
 use Rattle.areas.proofs.in_use.Statement.{statement}
 use Rattle.areas.proofs.in_use.Tie as tie
@@ -10,10 +9,10 @@ shared-slice-read-result : tie.Need-shared-slice-read-result
 shared-slice-read-result c = omega (arith, rules-of _ _ _ (sym (c .before .before .allowed .ensures) ∙ c .before .if1 .taken) .room .words-long)
 
 returns : tie.Need-returns
-returns c = λ e. record { rules = rules-of _ _ _ (sym (c .before .before .allowed .ensures) ∙ c .before .if1 .taken); at = ltb-true _ _ e }
+returns c = rw (← (c .before .before .allowed .ensures), c .before .if1 .taken)
 
 returns-2 : tie.Need-returns-2
-returns-2 c = λ e. absurd (never e)
+returns-2 c = rw (← (c .before .allowed .ensures), c .if1 .left)
 
 pub in-use-spec : {M : Type 1} → statement M
 in-use-spec = tie.close (tie.spec (λ c κs. search needs) shared-slice-read-result returns returns-2)

@@ -1,5 +1,7 @@
 use borrow.Author.Needs.{needs}
 use native.Mathlib.Omega.{arith}
+use mathlib.Core.Path.{sym, _∙_}
+use Rattle.areas.proofs.Ruling.{in-use-of}
 use Rattle.sessions.specs.Answers.{StandsAt}
 use Rattle.vectors_store.proofs.list.Statement.{statement}
 use Rattle.vectors_store.proofs.list.Tie as tie
@@ -12,12 +14,12 @@ abbrev μ-loop : tie.MeasureT-loop
 
 messages-from-requires : tie.Need-messages-from-requires Inv-loop μ-loop
 messages-from-requires c κs =
-    let u = c .before .in-use .ensures (c .if1 .taken) in
+    let u = in-use-of _ _ _ _ (sym (c .before .in-use .ensures) ∙ c .if1 .taken) in
     (u .rules, (u .at, omega arith))
 
 message-at-requires : tie.Need-message-at-requires Inv-loop μ-loop
 message-at-requires c κs =
-    let u = c .before .before .before .before .in-use .ensures (c .before .before .before .if1 .taken) in
+    let u = in-use-of _ _ _ _ (sym (c .before .before .before .before .in-use .ensures) ∙ c .before .before .before .if1 .taken) in
     (u .rules, (u .at, (c .before .loop .inv, c .loop-test .taken)))
 
 pub list-spec : {M : Type 1} → statement M

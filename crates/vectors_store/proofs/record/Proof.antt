@@ -6,10 +6,10 @@ use Rattle.vectors_store.proofs.record.Statement.{statement}
 use Rattle.vectors_store.proofs.record.Tie as tie
 
 abbrev Inv-loop : tie.InvT-loop
-Inv-loop words bytes cap max len next text₀ j₀ text j = length text ≡ 80
+Inv-loop words bytes shape len next text₀ j₀ text j = length text ≡ 80
 
 abbrev μ-loop : tie.MeasureT-loop
-μ-loop words bytes cap max len next text₀ j₀ text j = 80 - j
+μ-loop words bytes shape len next text₀ j₀ text j = 80 - j
 
 pub record-spec : {M : Type 1} → statement M
 record-spec =

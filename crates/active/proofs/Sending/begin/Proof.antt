@@ -10,26 +10,26 @@ use Rattle.active.proofs.Sending.begin.Tie as tie
 batches-at-requires : tie.Need-batches-at-requires
 batches-at-requires c κs =
     let a = c .before .before .before .before .args in
-    let q = c .before .is-stored in
+    let q = c .before .in-use in
     (rules-hold (a .shape) (now (a .words)) (now (a .bytes)) (a .place) (q .result) (q .ensures) (c .if1 .taken), in-use (a .shape) (now (a .words)) (now (a .bytes)) (a .place) (q .result) (q .ensures) (c .if1 .taken))
 
 returns : tie.Need-returns
 returns c =
     let a = c .before .before .before .before .before .before .before .args in
-    let q = c .before .before .before .before .is-stored in
+    let q = c .before .before .before .before .in-use in
     rw (is-held (a .shape) (now (a .words)) (now (a .bytes)) (a .place) (q .result) (q .ensures) (c .before .before .before .if1 .taken)) (numbers-past _ _ _ _ _ _ _ (c .before .before .batches-at .ensures .0) (omega arith) (c .if2 .taken))
 
 returns-2 : tie.Need-returns-2
 returns-2 c =
     let a = c .before .before .before .before .before .before .before .args in
-    let q = c .before .before .before .before .is-stored in
+    let q = c .before .before .before .before .in-use in
     rw (is-held (a .shape) (now (a .words)) (now (a .bytes)) (a .place) (q .result) (q .ensures) (c .before .before .before .if1 .taken)) (numbers-fit _ _ _ _ _ _ _ (c .before .before .batches-at .ensures .0) (omega arith) (c .if2 .left))
 
 returns-3 : tie.Need-returns-3
 unfolding startFrom
 returns-3 c =
     let a = c .before .before .before .before .args in
-    let q = c .before .is-stored in
+    let q = c .before .in-use in
     rw (not-held (a .shape) (now (a .words)) (now (a .bytes)) (a .place) (q .result) (q .ensures) (c .if1 .left))
 
 pub begin-spec : {M : Type 1} → statement M

@@ -1,0 +1,2 @@
+-- What the store's functions for C and Rust answer and leave.
+pub mod Total
