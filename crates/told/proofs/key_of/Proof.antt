@@ -5,7 +5,9 @@ use Rattle.told.proofs.key_of.Statement.{statement}
 use Rattle.told.proofs.key_of.Tie as tie
 
 returns : tie.Need-returns
-returns c = key-is (c .before .before .before .before .before .before .before .before .before .before .before .args .shape) (c .before .before .before .before .before .before .before .before .before .before .before .args .i) _ _ _ _ (now (c .before .before .before .before .before .before .before .before .before .before .before .args .words)) (now (c .before .before .before .before .before .before .before .before .before .before .before .args .bytes)) (c .before .before .before .before .before .before .before .before .spot-in .ensures) (c .before .before .before .before .before .before .before .before .before .before .before .pre .0) (c .before .before .before .before .before .before .before .before .before .before .before .pre .1) (c .before .before .before .before .before .before .span .ensures) (c .before .before .before .before .span2 .ensures) (c .before .before .span3 .ensures) (c .span4 .ensures)
+returns c =
+    let a = c .before .before .before .before .before .before .before .before .before .before .before .args in
+    key-is (a .shape) (a .i) _ _ _ _ (now (a .words)) (now (a .bytes)) (c .before .before .before .before .before .before .before .before .spot-in .ensures) (c .before .before .before .before .before .before .before .before .before .before .before .pre .0) (c .before .before .before .before .before .before .before .before .before .before .before .pre .1) (c .before .before .before .before .before .before .span .ensures) (c .before .before .before .before .span2 .ensures) (c .before .before .span3 .ensures) (c .span4 .ensures)
 
 pub key-of-spec : {M : Type 1} → statement M
 key-of-spec =

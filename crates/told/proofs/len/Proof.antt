@@ -7,7 +7,9 @@ use Rattle.told.proofs.len.Statement.{statement}
 use Rattle.told.proofs.len.Tie as tie
 
 returns : tie.Need-returns
-returns c = (ap length (c .slice .ensures), part-short (now (c .before .before .args .bytes)) (c .before .before .args .p) (ap length (c .slice .ensures)) (search needs))
+returns c =
+    let a = c .before .before .args in
+    (ap length (c .slice .ensures), part-short (now (a .bytes)) (a .p) (ap length (c .slice .ensures)) (search needs))
 
 pub len-spec : {M : Type 1} → statement M
 len-spec = tie.close (tie.spec (λ c κs. search needs) returns)

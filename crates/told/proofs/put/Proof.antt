@@ -8,7 +8,9 @@ use Rattle.told.proofs.put.Statement.{statement}
 use Rattle.told.proofs.put.Tie as tie
 
 put-summary-requires : tie.Need-put-summary-requires
-put-summary-requires c κs = omega (arith, c .before .before .before .before .before .before .before .before .before .before .before .before .before .before .before .before .before .pre, c .before .before .before .before .before .before .before .before .before .before .before .before .tag .ensures .1, c .before .before .before .before .before .before .before .tag2 .ensures .1, c .before .before .before .before .before .before .before .before .before .before .before .before .tag .kept .0, c .before .before .before .before .before .before .before .tag2 .kept .0, c .before .before .before .put-session .kept .1 .1 .0, c .before .before .before .put-session .ensures .past, key-size (keyOf (now (c .before .before .before .before .before .before .before .before .before .before .before .before .before .before .before .before .before .args .bytes)) (c .before .before .before .before .before .before .before .before .before .before .before .before .before .before .before .before .before .args .k)))
+put-summary-requires c κs =
+    let a = c .before .before .before .before .before .before .before .before .before .before .before .before .before .before .before .before .before .args in
+    omega (arith, c .before .before .before .before .before .before .before .before .before .before .before .before .before .before .before .before .before .pre, c .before .before .before .before .before .before .before .before .before .before .before .before .tag .ensures .1, c .before .before .before .before .before .before .before .tag2 .ensures .1, c .before .before .before .before .before .before .before .before .before .before .before .before .tag .kept .0, c .before .before .before .before .before .before .before .tag2 .kept .0, c .before .before .before .put-session .kept .1 .1 .0, c .before .before .before .put-session .ensures .past, key-size (keyOf (now (a .bytes)) (a .k)))
 
 returns : tie.Need-returns
 returns c = rw (← (c .before .before .before .before .before .before .before .before .before .before .before .before .before .before .before .before .durable-flag .ensures), ← (c .before .before .before .before .before .before .before .before .before .before .before .flight-flag .ensures)) (wrote-on (wrote-on (wrote-on (c .before .before .before .before .before .before .before .before .before .before .before .before .before .before .before .tag .ensures .0) (c .before .before .before .before .before .before .before .before .before .before .tag2 .ensures .0)) (c .before .before .before .before .before .before .put-session .ensures)) (c .before .before .put-summary .ensures))

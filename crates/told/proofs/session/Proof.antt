@@ -14,13 +14,19 @@ tell-requires : tie.Need-tell-requires
 tell-requires c κs = (rules-of _ _ _ (sym (c .before .before .before .before .allowed .ensures) ∙ c .before .before .before .if1 .taken), c .before .if2 .taken)
 
 returns : tie.Need-returns
-returns c = told-in (in-use (c .before .before .before .before .before .before .before .before .before .before .before .args .shape) (now (c .before .before .before .before .before .before .before .before .before .before .before .args .words)) (now (c .before .before .before .before .before .before .before .before .before .before .before .args .bytes)) (c .before .before .before .before .before .before .before .before .before .before .before .args .place) (c .before .before .before .before .before .before .before .before .before .before .before .args .n) (sym (c .before .before .before .before .before .before .before .allowed .ensures) ∙ c .before .before .before .before .before .before .if1 .taken) (c .before .before .before .before .if2 .taken)) (c .before .before .tell .ensures)
+returns c =
+    let a = c .before .before .before .before .before .before .before .before .before .before .before .args in
+    told-in (in-use (a .shape) (now (a .words)) (now (a .bytes)) (a .place) (a .n) (sym (c .before .before .before .before .before .before .before .allowed .ensures) ∙ c .before .before .before .before .before .before .if1 .taken) (c .before .before .before .before .if2 .taken)) (c .before .before .tell .ensures)
 
 returns-2 : tie.Need-returns-2
-returns-2 c = unfit _ (unused (c .before .before .before .before .before .before .before .args .shape) (now (c .before .before .before .before .before .before .before .args .words)) (now (c .before .before .before .before .before .before .before .args .bytes)) (c .before .before .before .before .before .before .before .args .place) (c .before .before .before .before .before .before .before .args .n) (sym (c .before .before .before .allowed .ensures) ∙ c .before .before .if1 .taken) (c .if2 .left))
+returns-2 c =
+    let a = c .before .before .before .before .before .before .before .args in
+    unfit _ (unused (a .shape) (now (a .words)) (now (a .bytes)) (a .place) (a .n) (sym (c .before .before .before .allowed .ensures) ∙ c .before .before .if1 .taken) (c .if2 .left))
 
 returns-3 : tie.Need-returns-3
-returns-3 c = unfit _ (broken (c .before .before .before .before .before .args .shape) (now (c .before .before .before .before .before .args .words)) (now (c .before .before .before .before .before .args .bytes)) (c .before .before .before .before .before .args .place) (c .before .before .before .before .before .args .n) (sym (c .before .allowed .ensures) ∙ c .if1 .left))
+returns-3 c =
+    let a = c .before .before .before .before .before .args in
+    unfit _ (broken (a .shape) (now (a .words)) (now (a .bytes)) (a .place) (a .n) (sym (c .before .allowed .ensures) ∙ c .if1 .left))
 
 pub session-spec : {M : Type 1} → statement M
 session-spec =

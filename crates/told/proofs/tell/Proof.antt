@@ -6,10 +6,14 @@ use Rattle.told.proofs.tell.Statement.{statement}
 use Rattle.told.proofs.tell.Tie as tie
 
 returns : tie.Need-returns
-returns c = no-room (placeAt (c .before .before .before .before .before .before .before .before .args .shape) (now (c .before .before .before .before .before .before .before .before .args .words)) (now (c .before .before .before .before .before .before .before .before .args .bytes)) (c .before .before .before .before .before .before .before .before .args .place)) (c .before .before .before .before .before .before .before .before .args .n) (now (c .before .before .before .before .before .before .before .before .args .bytes)) (c .before .before .before .key-of .result) (c .before .before .summary-of .result) (c .before .before .before .key-of .ensures) (c .before .before .summary-of .ensures) (c .before .size .ensures) (c .if1 .taken)
+returns c =
+    let a = c .before .before .before .before .before .before .before .before .args in
+    no-room (placeAt (a .shape) (now (a .words)) (now (a .bytes)) (a .place)) (a .n) (now (a .bytes)) (c .before .before .before .key-of .result) (c .before .before .summary-of .result) (c .before .before .before .key-of .ensures) (c .before .before .summary-of .ensures) (c .before .size .ensures) (c .if1 .taken)
 
 returns-2 : tie.Need-returns-2
-returns-2 c = told (placeAt (c .before .before .before .before .before .before .before .before .before .before .before .before .args .shape) (now (c .before .before .before .before .before .before .before .before .before .before .before .before .args .words)) (now (c .before .before .before .before .before .before .before .before .before .before .before .before .args .bytes)) (c .before .before .before .before .before .before .before .before .before .before .before .before .args .place)) (c .before .before .before .before .before .before .before .before .before .before .before .before .args .n) (now (c .before .before .before .before .before .before .before .before .before .before .before .before .args .bytes)) (c .before .before .before .before .before .before .before .key-of .result) (c .before .before .before .before .before .before .summary-of .result) (c .before .before .before .before .before .before .before .key-of .ensures) (c .before .before .before .before .before .before .summary-of .ensures) (c .before .before .before .before .before .size .ensures) (c .before .before .before .before .before .before .before .before .durable .ensures) (c .before .before .before .before .if1 .left) (c .before .before .put .ensures)
+returns-2 c =
+    let a = c .before .before .before .before .before .before .before .before .before .before .before .before .args in
+    told (placeAt (a .shape) (now (a .words)) (now (a .bytes)) (a .place)) (a .n) (now (a .bytes)) (c .before .before .before .before .before .before .before .key-of .result) (c .before .before .before .before .before .before .summary-of .result) (c .before .before .before .before .before .before .before .key-of .ensures) (c .before .before .before .before .before .before .summary-of .ensures) (c .before .before .before .before .before .size .ensures) (c .before .before .before .before .before .before .before .before .durable .ensures) (c .before .before .before .before .if1 .left) (c .before .before .put .ensures)
 
 pub tell-spec : {M : Type 1} → statement M
 tell-spec =
