@@ -1,5 +1,5 @@
 -- A place's key and summary as parts of the byte area, the length of what is told, and the four ways that telling ends. Assumes nothing.
-use mathlib.Core.Path.{_≡_, refl, sym, ap, subst, _∙_}
+use mathlib.Core.Path.{_≡_, refl, sym, ap, subst, subst₂, _∙_}
 use mathlib.Core.Bool.{Bool, true, false, cond}
 use mathlib.Core.List.{List, [], _∷_, _++_}
 use mathlib.Core.Option.{Option, none, some, Option·map}
@@ -143,6 +143,10 @@ unfolding toldBytes
 told-size x n = omega (arith, length-append (keyBytes (x .key)) (summaryBytes (summary (x .stored .session) n)), key-size (x .key), summary-size (summary (x .stored .session) n))
 
 -- ---- a place in use, by its key and summary
+
+-- the two flags, by their bytes
+pub flagged : {d e d' e' : ℕ} {rest out out' : List ℕ} {next : ℕ} → d' ≡ d → e' ≡ e → Wrote out 0 (d' ∷ e' ∷ rest) out' next → Wrote out 0 (d ∷ e ∷ rest) out' next
+flagged {rest = rest} {out = out} {out' = out'} {next = next} ed ee w = subst₂ (λ (x y : ℕ). Wrote out 0 (x ∷ y ∷ rest) out' next) ed ee w
 
 module _ (x : Place) (n : ℕ) (b : List ℕ) (k : SessionId) (m : Summary) {z : ℕ} (ek : keyOf b k ≡ x .key) (em : summaryOf b m ≡ summary (x .stored .session) n) (ez : z ≡ 2 + keySize (keyOf b k) + summarySize (summaryOf b m)) where
   size-is : z ≡ length (toldBytes x n)

@@ -1,5 +1,5 @@
 use borrow.Author.Needs.{needs}
-use Rattle.told.proofs.Laws.{key-size}
+use Rattle.told.proofs.Laws.{key-size, flagged}
 use Rattle.parts.specs.Answers.{keyOf}
 use Rattle.laws.proofs.Writes.{wrote-on}
 use denote.Ref.{now}
@@ -13,7 +13,7 @@ put-summary-requires c κs =
     omega (arith, c .before .before .before .before .before .before .before .before .before .before .before .before .before .before .before .before .before .pre, c .before .before .before .before .before .before .before .before .before .before .before .before .tag .ensures .1, c .before .before .before .before .before .before .before .tag2 .ensures .1, c .before .before .before .before .before .before .before .before .before .before .before .before .tag .kept .0, c .before .before .before .before .before .before .before .tag2 .kept .0, c .before .before .before .put-session .kept .1 .1 .0, c .before .before .before .put-session .ensures .past, key-size (keyOf (now (a .bytes)) (a .k)))
 
 returns : tie.Need-returns
-returns c = rw (← (c .before .before .before .before .before .before .before .before .before .before .before .before .before .before .before .before .durable-flag .ensures), ← (c .before .before .before .before .before .before .before .before .before .before .before .flight-flag .ensures)) (wrote-on (wrote-on (wrote-on (c .before .before .before .before .before .before .before .before .before .before .before .before .before .before .before .tag .ensures .0) (c .before .before .before .before .before .before .before .before .before .before .tag2 .ensures .0)) (c .before .before .before .before .before .before .put-session .ensures)) (c .before .before .put-summary .ensures))
+returns c = flagged (c .before .before .before .before .before .before .before .before .before .before .before .before .before .before .before .before .durable-flag .ensures) (c .before .before .before .before .before .before .before .before .before .before .before .flight-flag .ensures) (wrote-on (wrote-on (wrote-on (c .before .before .before .before .before .before .before .before .before .before .before .before .before .before .before .tag .ensures .0) (c .before .before .before .before .before .before .before .before .before .before .tag2 .ensures .0)) (c .before .before .before .before .before .before .put-session .ensures)) (c .before .before .put-summary .ensures))
 
 pub put-spec : {M : Type 1} → statement M
 put-spec =
