@@ -4,7 +4,6 @@ use active::Sending;
 use active::Sent;
 use areas::Made;
 use areas::Shape;
-use areas::Spot;
 use frame::CommitNumber;
 use frame::Decoded;
 use frame::Epoch;
@@ -15,10 +14,8 @@ use frame::Value;
 use frame::Written;
 use lag::ReplicatedLog;
 use outcome::Answer;
-use place::Flight;
 use stamp::Protocol;
-use store::Summary;
-use store::Text;
+use told::Told;
 
 // ---- what is returned
 
@@ -104,164 +101,7 @@ pub extern "C" fn wz_read(frame: &[u8]) -> u64 {
     }
 }
 
-// ---- sessions: writers that give the position past what they wrote; past the area's end there is none, and nothing is written
-
-const NOWHERE: usize = 18_446_744_073_709_551_615;
-
-fn put_u8(out: &mut [u8], at: usize, v: u8) -> usize {
-    if at < out.len() {
-        out[at] = v;
-        return at + 1;
-    }
-    NOWHERE
-}
-
-fn put_u32(out: &mut [u8], at: usize, v: u32) -> usize {
-    if at <= out.len() {
-        if 4 <= out.len() - at {
-            return wire::put_u32(out, at, v);
-        }
-    }
-    NOWHERE
-}
-
-fn put_u64(out: &mut [u8], at: usize, v: u64) -> usize {
-    if at <= out.len() {
-        if 8 <= out.len() - at {
-            return wire::put_u64(out, at, v);
-        }
-    }
-    NOWHERE
-}
-
-fn put_bytes(out: &mut [u8], at: usize, text: &[u8]) -> usize {
-    if at <= out.len() {
-        if text.len() <= out.len() - at {
-            return wire::copy(text, out, at);
-        }
-    }
-    NOWHERE
-}
-
-// A text with its length before it.
-fn put_text(out: &mut [u8], at: usize, text: &[u8]) -> usize {
-    if text.len() < 256 {
-        let next = put_u32(out, at, text.len() as u32);
-        return put_bytes(out, next, text);
-    }
-    NOWHERE
-}
-
-// The text of so many bytes at a place of the byte area.
-fn put_part(out: &mut [u8], at: usize, bytes: &[u8], from: usize, len: usize) -> usize {
-    if from <= bytes.len() {
-        if len <= bytes.len() - from {
-            let end = from + len;
-            return put_text(out, at, &bytes[from..end]);
-        }
-    }
-    NOWHERE
-}
-
-fn put_flag(out: &mut [u8], at: usize, v: bool) -> usize {
-    if v {
-        return put_u8(out, at, 1);
-    }
-    put_u8(out, at, 0)
-}
-
-// A key's text: its length, cut to 32, is a word of the place.
-fn put_key_text(
-    out: &mut [u8],
-    at: usize,
-    words: &[u64],
-    w: usize,
-    bytes: &[u8],
-    b: usize,
-) -> usize {
-    if w < words.len() {
-        if words[w] < 32 {
-            return put_part(out, at, bytes, b, words[w] as usize);
-        }
-        return put_part(out, at, bytes, b, 32);
-    }
-    NOWHERE
-}
-
-// The four texts of the key of a place's own words and bytes.
-fn put_key(out: &mut [u8], at: usize, words: &[u64], bytes: &[u8]) -> usize {
-    let a = put_key_text(out, at, words, 7, bytes, 0);
-    let b = put_key_text(out, a, words, 8, bytes, 32);
-    let c = put_key_text(out, b, words, 9, bytes, 64);
-    put_key_text(out, c, words, 10, bytes, 96)
-}
-
-fn is_flying(f: Flight) -> bool {
-    match f {
-        Flight::Nothing => false,
-        Flight::Number(_) => true,
-    }
-}
-
-fn flight_number(f: Flight) -> u64 {
-    match f {
-        Flight::Nothing => 0,
-        Flight::Number(n) => n,
-    }
-}
-
-// A summary, as in a Bound.
-fn put_summary(out: &mut [u8], at: usize, bytes: &[u8], s: Summary) -> usize {
-    let flight = s.in_flight;
-    let stamp = s.created_at;
-    let marks = s.marks;
-    let a = put_u64(out, at, s.next_outgoing);
-    let b = put_u64(out, a, s.next_incoming);
-    let c = put_u64(out, b, flight_number(flight));
-    let d = put_part(out, c, bytes, stamp.at, stamp.len);
-    let e = put_part(out, d, bytes, marks.at, marks.len);
-    put_u64(out, e, s.last_outgoing)
-}
-
-fn put_place_key(out: &mut [u8], at: usize, words: &[u64], bytes: &[u8], p: Spot) -> usize {
-    let wa = p.wa;
-    let we = p.we;
-    let ba = p.ba;
-    let be = p.be;
-    if wa <= we {
-        if we <= words.len() {
-            if ba <= be {
-                if be <= bytes.len() {
-                    return put_key(out, at, &words[wa..we], &bytes[ba..be]);
-                }
-            }
-        }
-    }
-    NOWHERE
-}
-
-fn put_session(
-    out: &mut [u8],
-    words: &[u64],
-    bytes: &[u8],
-    p: Spot,
-    durable: bool,
-    s: Summary,
-) -> usize {
-    let flight = s.in_flight;
-    let a = put_flag(out, 0, durable);
-    let b = put_flag(out, a, is_flying(flight));
-    let c = put_place_key(out, b, words, bytes, p);
-    put_summary(out, c, bytes, s)
-}
-
-// Done with a length, or 9.
-fn ended(at: usize) -> u64 {
-    if at == NOWHERE {
-        return refusal(9, 0);
-    }
-    done(at)
-}
+// ---- sessions
 
 // Makes a store without sessions.
 #[no_mangle]
@@ -294,13 +134,11 @@ pub extern "C" fn wz_session(
         bytes: c,
         messages: m,
     };
-    if !areas::in_use(words, bytes, shape, place) {
-        return refusal(25, 0);
+    match told::session(words, bytes, shape, place, n, out) {
+        Told::Took(len) => done(len),
+        Told::NoRoom => refusal(9, 0),
+        Told::Unfit => refusal(25, 0),
     }
-    let p = areas::spot_in(words, bytes, shape, place);
-    let durable = store::durable(words, bytes, shape, place);
-    let s = sessions::summary_of(words, bytes, shape, place, n);
-    ended(put_session(out, words, bytes, p, durable, s))
 }
 
 // ---- whole sending: the last commit number, whether it has begun, where it goes on, whether it is done

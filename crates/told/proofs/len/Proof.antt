@@ -1,0 +1,15 @@
+use borrow.Author.Needs.{needs}
+use Rattle.told.proofs.Laws.{part-short}
+use lib.ListN.{length}
+use mathlib.Core.Path.{ap}
+use denote.Ref.{now}
+use Rattle.told.proofs.len.Statement.{statement}
+use Rattle.told.proofs.len.Tie as tie
+
+returns : tie.Need-returns
+returns c =
+    let a = c .before .before .args in
+    (ap length (c .slice .ensures), part-short (now (a .bytes)) (a .p) (ap length (c .slice .ensures)) (search needs))
+
+pub len-spec : {M : Type 1} → statement M
+len-spec = tie.close (tie.spec (λ c κs. search needs) returns)

@@ -1,0 +1,2 @@
+-- What is told of a place of the store.
+pub mod Telling

@@ -1,0 +1,182 @@
+// The session at a place of the store, written as bytes: whether it is durable, whether a number is in flight, its key, its summary.
+ghost use mathlib.Core.Path.{_≡_};
+ghost use mathlib.Core.List.{_∷_, _++_};
+ghost use mathlib.Core.Option.{some};
+ghost use Prim.Native.Nat.{ℕ, _+_, _≤_, _<_};
+ghost use lib.ListN.{length, getD};
+ghost use Rattle.model_frame.specs.Writing.{keyBytes, summaryBytes};
+ghost use Rattle.model_session.specs.Summary.{summary};
+ghost use Rattle.model.specs.Row.{isSome};
+ghost use Rattle.laws.specs.Wrote.{Wrote};
+ghost use Rattle.scan.specs.Answers.{spanOf};
+ghost use Rattle.parts.specs.Answers.{flightOf, keyOf, summaryOf};
+ghost use Rattle.print.specs.Encoding.{keySize, summarySize};
+ghost use Rattle.place.specs.Place.{flightIs};
+ghost use Rattle.areas.specs.Areas.{Rules, placeAt};
+ghost use Rattle.told.specs.Telling.{cutTo, flag, toldBytes, toldAt, Tells};
+use areas::Shape;
+use parts::InFlight;
+use parts::SessionId;
+use parts::Summary;
+use place::Flight;
+use scan::Span;
+
+// How many bytes were written, or why none was: an area too short, broken rules or a place that is not in use.
+pub enum Told {
+    Took(usize),
+    NoRoom,
+    Unfit,
+}
+
+// ---- what stands in the byte area
+
+// The n bytes at a position, or the first `most` of them.
+fn span(at: usize, n: u64, most: u32) -> Span
+    ensures { λ r. ⌜ r ≡ cutTo at n most ⌝ }
+{
+    if n < most as u64 {
+        return Span { at, len: n as u32 };
+    }
+    Span { at, len: most }
+}
+
+// The key of a place in use.
+fn key_of(words: &[u64], bytes: &[u8], shape: Shape, i: usize) -> SessionId
+    requires { ⌜ Rules shape (now words) (now bytes) ⌝ }
+    requires { ⌜ i < getD (now words) 0 0 ⌝ }
+    ensures { λ r. ⌜ keyOf (now (bytes .entry)) r ≡ placeAt shape (now (words .entry)) (now (bytes .entry)) i .key ⌝ }
+{
+    let p = areas::spot_in(words, bytes, shape, i);
+    let wa = p.wa;
+    let ba = p.ba;
+    let begin_string = span(ba, words[wa + 7], 32);
+    let sender_comp_id = span(ba + 32, words[wa + 8], 32);
+    let target_comp_id = span(ba + 64, words[wa + 9], 32);
+    let key_suffix = span(ba + 96, words[wa + 10], 32);
+    SessionId {
+        begin_string,
+        sender_comp_id,
+        target_comp_id,
+        key_suffix,
+    }
+}
+
+fn in_flight(f: Flight) -> InFlight
+    ensures { λ r. ⌜ flightOf r ≡ flightIs f ⌝ }
+{
+    match f {
+        Flight::Nothing => InFlight::Nothing,
+        Flight::Number(n) => InFlight::Seq(n),
+    }
+}
+
+// The summary of a session in use; no stamp and no marks are longer than 64 bytes.
+fn summary_of(words: &[u64], bytes: &[u8], shape: Shape, i: usize, n: u64) -> Summary
+    requires { ⌜ Rules shape (now words) (now bytes) ⌝ }
+    requires { ⌜ i < getD (now words) 0 0 ⌝ }
+    ensures { λ r. ⌜ summaryOf (now (bytes .entry)) r ≡ summary (placeAt shape (now (words .entry)) (now (bytes .entry)) i .stored .session) n ⌝ }
+{
+    let m = sessions::summary_of(words, bytes, shape, i, n);
+    let f = m.in_flight;
+    let t = m.created_at;
+    let u = m.marks;
+    let in_flight = in_flight(f);
+    let created_at = span(t.at, t.len as u64, 64);
+    let marks = span(u.at, u.len as u64, 64);
+    Summary {
+        next_outgoing: m.next_outgoing,
+        next_incoming: m.next_incoming,
+        in_flight,
+        created_at,
+        marks,
+        last_outgoing: m.last_outgoing,
+    }
+}
+
+// ---- lengths
+
+// How many bytes a part has.
+fn len(bytes: &[u8], p: Span) -> usize
+    ensures { λ r. ⌜ r ≡ length (spanOf (now (bytes .entry)) p) ⌝ }
+    ensures { λ r. ⌜ r < 4294967296 ⌝ }
+{
+    scan::slice(bytes, p).len()
+}
+
+// How many bytes a session's key and summary take with the two flags before them.
+fn size(bytes: &[u8], k: SessionId, m: Summary) -> usize
+    ensures { λ r. ⌜ r ≡ 2 + keySize (keyOf (now (bytes .entry)) k) + summarySize (summaryOf (now (bytes .entry)) m) ⌝ }
+{
+    let begin = k.begin_string;
+    let sender = k.sender_comp_id;
+    let target = k.target_comp_id;
+    let suffix = k.key_suffix;
+    let created_at = m.created_at;
+    let marks = m.marks;
+    let key = 16 + len(bytes, begin) + len(bytes, sender) + len(bytes, target) + len(bytes, suffix);
+    let summary = 40 + len(bytes, created_at) + len(bytes, marks);
+    2 + key + summary
+}
+
+// ---- writing
+
+fn durable_flag(durable: bool) -> u8
+    ensures { λ r. ⌜ r ≡ flag durable ⌝ }
+{
+    if durable { 1 } else { 0 }
+}
+
+fn flight_flag(f: InFlight) -> u8
+    ensures { λ r. ⌜ r ≡ flag (isSome (flightOf f)) ⌝ }
+{
+    match f {
+        InFlight::Seq(_) => 1,
+        InFlight::Nothing => 0,
+    }
+}
+
+// A session from the start of an area that has the room.
+fn put(bytes: &[u8], durable: bool, k: SessionId, m: Summary, out: &mut [u8]) -> usize
+    requires { ⌜ 2 + keySize (keyOf (now bytes) k) + summarySize (summaryOf (now bytes) m) ≤ length (now out) ⌝ }
+    ensures { λ r. ⌜ Wrote (now (out .entry)) 0 (flag durable ∷ flag (isSome (flightOf (m .«in_flight»))) ∷ (keyBytes (keyOf (now (bytes .entry)) k) ++ summaryBytes (summaryOf (now (bytes .entry)) m))) (now (out .exit)) r ⌝ }
+{
+    let f = m.in_flight;
+    let at = op::tag(out, 0, durable_flag(durable));
+    let at = op::tag(out, at, flight_flag(f));
+    let at = print::put_session(bytes, k, out, at);
+    print::put_summary(bytes, m, out, at)
+}
+
+// The session at a place in use.
+fn tell(words: &[u64], bytes: &[u8], shape: Shape, place: usize, n: u64, out: &mut [u8]) -> Told
+    requires { ⌜ Rules shape (now words) (now bytes) ⌝ }
+    requires { ⌜ place < getD (now words) 0 0 ⌝ }
+    ensures { λ r. ⌜ Tells (some (toldBytes (placeAt shape (now (words .entry)) (now (bytes .entry)) place) n)) (now (out .entry)) (now (out .exit)) r ⌝ }
+{
+    let durable = store::durable(words, bytes, shape, place);
+    let k = key_of(words, bytes, shape, place);
+    let m = summary_of(words, bytes, shape, place, n);
+    if out.len() < size(bytes, k, m) {
+        return Told::NoRoom;
+    }
+    Told::Took(put(bytes, durable, k, m, out))
+}
+
+// The session at a place: 25 broken rules or a place that is not in use, 9 an area too short; both leave the area as it was.
+pub fn session(
+    words: &[u64],
+    bytes: &[u8],
+    shape: Shape,
+    place: usize,
+    n: u64,
+    out: &mut [u8],
+) -> Told
+    ensures { λ r. ⌜ Tells (toldAt shape (now (words .entry)) (now (bytes .entry)) place n) (now (out .entry)) (now (out .exit)) r ⌝ }
+{
+    if areas::allowed(shape, words, bytes) {
+        if place < words[0] as usize {
+            return tell(words, bytes, shape, place, n, out);
+        }
+    }
+    Told::Unfit
+}
