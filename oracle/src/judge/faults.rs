@@ -47,10 +47,12 @@ pub fn after_sending(outcome: Outcome, out: &mut Out, sending: &mut [u64]) {
 }
 
 /// A session told of.
-pub fn after_telling(outcome: Outcome, out: &mut Out, bytes: &mut [u8]) {
-    match outcome {
+pub fn after_telling(outcome: &mut Outcome, out: &mut Out, bytes: &mut [u8]) {
+    match *outcome {
         Ok(len) if fault(123) => out.flip(len as usize),
         Ok(_) if fault(124) => flip(bytes.last_mut()),
+        Err((9, _)) if fault(140) => out.flip(0),
+        Err((9, _)) if fault(141) => *outcome = Err((25, 0)),
         _ => {}
     }
 }

@@ -202,11 +202,16 @@ fn fill_log(size: Size, words: &mut [u64], bytes: &mut [u8], session: &Session) 
 }
 
 impl Ours {
-    fn told(&mut self, place: u64, n: u64) -> Result<Told, u32> {
-        let answer = outcome(library::session(&self.areas, self.settings.size, self.told.lend(LONG), place, n));
-        faults::after_telling(answer, &mut self.told, &mut self.areas.bytes);
+    /// What `wz_session` writes into an area of so many bytes.
+    fn telling(&mut self, place: u64, n: u64, room: usize) -> Result<Vec<u8>, u32> {
+        let mut answer = outcome(library::session(&self.areas, self.settings.size, self.told.lend(room), place, n));
+        faults::after_telling(&mut answer, &mut self.told, &mut self.areas.bytes);
         let bytes = self.told.taken(answer.unwrap_or(0) as usize, "wz_session");
-        answer.map(|_| told(&bytes)).map_err(|(number, _)| number)
+        answer.map(|_| bytes).map_err(|(number, _)| number)
+    }
+
+    fn told(&mut self, place: u64, n: u64) -> Result<Told, u32> {
+        self.telling(place, n, LONG).map(|bytes| told(&bytes))
     }
 
     fn place_of(&mut self, key: &Key) -> Option<u64> {
@@ -247,9 +252,13 @@ impl Ours {
         (1_048_576.min(bytes as usize)) + bytes as usize + 22 * messages as usize + 256
     }
 
-    /// A session's parts, its messages taken from its own sending.
+    /// A session's parts, its messages taken from its own sending. It must be told alike in an area of just its length, and
+    /// 9 in one shorter by a byte.
     fn session(&mut self, place: u64) -> Session {
-        let told = self.told(place, 0).expect("a place in use");
+        let bytes = self.telling(place, 0, LONG).expect("a place in use");
+        let told = told(&bytes);
+        assert_eq!(self.telling(place, 0, bytes.len() - 1), Err(9), "wz_session in an area too short");
+        assert_eq!(self.telling(place, 0, bytes.len()), Ok(bytes), "wz_session in an area of its length");
         let sent = self.send_all(place, (0, 0), 0, self.long_enough());
         assert_eq!(sent.end, Ok(()), "a stored session can be sent");
         Session {
