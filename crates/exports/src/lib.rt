@@ -1,4 +1,14 @@
 // The boundary for programs in C or Rust (oracle/README.md has the signatures and what is returned). Nothing is asked of a caller.
+ghost use mathlib.Core.Path.{_≡_};
+ghost use Prim.Native.Nat.{_+_, _*_, _<_};
+ghost use Rattle.model_frame.specs.Reading.{decode};
+ghost use Rattle.model_session.specs.Summary.{fnv};
+ghost use Rattle.scan.specs.Answers.{fieldOf, invalidOf, faultOf};
+ghost use Rattle.model_frame.specs.Frame.{number};
+ghost use Rattle.outcome.specs.Answers.{answerOf};
+ghost use Rattle.exports.specs.Exports.{shapeOf, Makes, Tells};
+ghost use Rattle.exports.specs.Returned.{refusalCode, doneCode, lastCode, fieldNumber, faultCode, readCode, writtenCode};
+ghost use Rattle.print.specs.Encoding.{writtenOf};
 use active::Begun;
 use active::Sending;
 use active::Sent;
@@ -23,12 +33,16 @@ use store::Text;
 // ---- what is returned
 
 // Refusal n, with its detail.
-fn refusal(n: u8, detail: u32) -> u64 {
+fn refusal(n: u8, detail: u32) -> u64
+    ensures { λ r. ⌜ r ≡ refusalCode n detail ⌝ }
+{
     (n as u64) * 1_099_511_627_776 + (detail as u64)
 }
 
 // Done, with a count.
-fn done(count: usize) -> u64 {
+fn done(count: usize) -> u64
+    ensures { λ r. ⌜ r ≡ doneCode count ⌝ }
+{
     if count < 4_611_686_018_427_387_904 {
         return 9_223_372_036_854_775_808 + (count as u64);
     }
@@ -38,7 +52,10 @@ fn done(count: usize) -> u64 {
 // Done, and nothing is left.
 const LAST: u64 = 13_835_058_055_282_163_712;
 
-fn field_number(f: Field) -> u32 {
+fn field_number(f: Field) -> u32
+    ensures is { λ r. ⌜ r ≡ fieldNumber (fieldOf f) ⌝ }
+    ensures small { λ r. ⌜ r < 4 ⌝ }
+{
     match f {
         Field::FrameKind => 0,
         Field::Part => 1,
@@ -47,7 +64,9 @@ fn field_number(f: Field) -> u32 {
     }
 }
 
-fn value_number(v: Value) -> u8 {
+fn value_number(v: Value) -> u8
+    ensures { λ r. ⌜ r ≡ number (invalidOf v) ⌝ }
+{
     match v {
         Value::Text => 4,
         Value::Session => 5,
@@ -56,19 +75,32 @@ fn value_number(v: Value) -> u8 {
     }
 }
 
-fn unknown(f: u32, v: u8) -> u64 {
-    if f < 4 {
-        return refusal(3, f * 256 + (v as u32));
-    }
-    refusal(3, 0)
+fn unknown(f: u32, v: u8) -> u64
+    requires { ⌜ f < 4 ⌝ }
+    ensures { λ r. ⌜ r ≡ refusalCode 3 (f * 256 + v) ⌝ }
+{
+    refusal(3, f * 256 + (v as u32))
 }
 
-fn fault(e: FrameError) -> u64 {
+fn fault(e: FrameError) -> u64
+    ensures { λ r. ⌜ r ≡ faultCode (faultOf e) ⌝ }
+{
     match e {
         FrameError::TooLong(n) => refusal(1, n),
         FrameError::Truncated => refusal(2, 0),
         FrameError::Unknown(f, v) => unknown(field_number(f), v),
         FrameError::Invalid(v) => refusal(value_number(v), 0),
+    }
+}
+
+fn written(w: Written) -> u64
+    ensures { λ r. ⌜ r ≡ writtenCode (writtenOf w) ⌝ }
+{
+    match w {
+        Written::Took(n) => done(n),
+        Written::Unreadable => refusal(8, 0),
+        Written::TooLong => refusal(1, 0),
+        Written::NoRoom => refusal(9, 0),
     }
 }
 
@@ -96,7 +128,9 @@ pub extern "C" fn wz_frame(frame: &[u8], out: &mut [u8]) -> u64 {
 
 // Reads one frame.
 #[no_mangle]
-pub extern "C" fn wz_read(frame: &[u8]) -> u64 {
+pub extern "C" fn wz_read(frame: &[u8]) -> u64
+    ensures { λ r. ⌜ r ≡ readCode (decode 1 (now (frame .entry))) ⌝ }
+{
     match Frame::decode(Protocol { version: 1 }, frame) {
         Decoded::More => 0,
         Decoded::Bad(e) => fault(e),
@@ -265,7 +299,9 @@ fn ended(at: usize) -> u64 {
 
 // Makes a store without sessions.
 #[no_mangle]
-pub extern "C" fn wz_make(words: &mut [u64], bytes: &[u8], sessions: u32, c: u32, m: u32) -> u64 {
+pub extern "C" fn wz_make(words: &mut [u64], bytes: &[u8], sessions: u32, c: u32, m: u32) -> u64
+    ensures { λ r. ⌜ Makes (shapeOf sessions c m) (now (words .entry)) (now (words .exit)) (now (bytes .entry)) r ⌝ }
+{
     let shape = Shape {
         places: sessions,
         bytes: c,
@@ -442,25 +478,24 @@ pub extern "C" fn wz_queue(queue: &mut [u64], max_lag: u64, last: u64) -> u64 {
 
 // An answer's frame; 0 bytes where it has none. The byte area is the store's.
 #[no_mangle]
-pub extern "C" fn wz_answer(a: Answer, bytes: &[u8], out: &mut [u8]) -> u64 {
+pub extern "C" fn wz_answer(a: Answer, bytes: &[u8], out: &mut [u8]) -> u64
+    ensures { λ r. ⌜ Tells (answerOf (now (bytes .entry)) a) (now (out .entry)) (now (out .exit)) r ⌝ }
+{
     if a.refusal != 0 {
         return refusal(a.refusal, 0);
     }
     if a.kind == 0 {
         return done(0);
     }
-    match reply::write(a, bytes, out) {
-        Written::Took(n) => done(n),
-        Written::Unreadable => refusal(8, 0),
-        Written::TooLong => refusal(1, 0),
-        Written::NoRoom => refusal(9, 0),
-    }
+    written(reply::write(a, bytes, out))
 }
 
 // ---- for the bench
 
 // FNV-1a over bytes, on from h.
 #[no_mangle]
-pub extern "C" fn wz_fnv(h: u64, bytes: &[u8]) -> u64 {
+pub extern "C" fn wz_fnv(h: u64, bytes: &[u8]) -> u64
+    ensures { λ r. ⌜ r ≡ fnv h (now (bytes .entry)) ⌝ }
+{
     log::fnv::bytes(h, bytes)
 }
