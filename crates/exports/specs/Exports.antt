@@ -1,15 +1,46 @@
 -- What each exported function leaves and returns. Assumes nothing.
 use mathlib.Core.Path.{_≡_}
 use Prim.Native.Nat.{ℕ}
-use mathlib.Core.Bool.{cond}
+use mathlib.Core.Bool.{Bool, cond}
 use mathlib.Core.List.{List, []}
 use mathlib.Core.Option.{some}
 use lib.ListN.{length, set}
+use lib.Dec.{ltb}
+use Rattle.model_frame.specs.Frame.{Frame, Decoded, more, faulty, got}
+use Rattle.model_frame.specs.Writing.{encode}
 use Rattle.print.specs.Encoding.{Outcome, wrote, refused, outcome, areaAfter, answerOf}
 use Rattle.model.specs.Answer as the-answer
 use Rattle.areas.specs.declared.Shape.{Shape}
 use Rattle.areas.specs.Areas.{roomy}
-use Rattle.exports.specs.Returned.{refusalCode, doneCode, writtenCode}
+use Rattle.exports.specs.Returned.{refusalCode, doneCode, faultCode, writtenCode, takenCode}
+
+-- ---- a frame that was read, written again
+
+-- what is written, or a refusal, and the area as that leaves it
+pub record Again (used : ℕ) (o : Outcome) (out out' : List ℕ) (r : ℕ) : Type 0 where
+  pub answer : r ≡ takenCode used (answerOf o)
+  pub area : out' ≡ areaAfter o out
+
+-- 8 where the parts that reading gave aren't held by the bytes; 9 where the area is too short; else the frame's bytes
+abbrev pub rewritten : Bool → Frame → ℕ → Outcome
+rewritten held f room = cond held (cond (ltb room (length (encode f))) (refused 9) (wrote (encode f))) (refused 8)
+
+-- 0 where more is needed, a fault, or the bytes taken and written again
+abbrev pub frameCode : Bool → Decoded → ℕ → ℕ
+frameCode held more room = 0
+frameCode held (faulty e) room = faultCode e
+frameCode held (got f used) room = takenCode used (answerOf (rewritten held f room))
+
+abbrev pub frameArea : Bool → Decoded → List ℕ → List ℕ
+frameArea held more out = out
+frameArea held (faulty e) out = out
+frameArea held (got f used) out = areaAfter (rewritten held f (length out)) out
+
+-- that the bytes hold those parts is not promised by reading
+pub record Rewrites (d : Decoded) (out out' : List ℕ) (r : ℕ) : Type 0 where
+  pub held : Bool
+  pub answer : r ≡ frameCode held d (length out)
+  pub area : out' ≡ frameArea held d out
 
 -- ---- making a store
 

@@ -51,3 +51,8 @@ readCode (got f used) = doneCode used
 abbrev pub writtenCode : Answer → ℕ
 writtenCode (took n) = doneCode n
 writtenCode (writing.refusal n) = refusalCode n 0
+
+-- the same for a frame that was read: the bytes taken
+abbrev pub takenCode : ℕ → Answer → ℕ
+takenCode used (took n) = doneCode used
+takenCode used (writing.refusal n) = refusalCode n 0

@@ -1,14 +1,16 @@
 // The boundary for programs in C or Rust (oracle/README.md has the signatures and what is returned). Nothing is asked of a caller.
 ghost use mathlib.Core.Path.{_≡_};
-ghost use Prim.Native.Nat.{_+_, _*_, _<_};
+ghost use Prim.Native.Nat.{_+_, _*_, _<_, _≤_};
+ghost use lib.ListN.{length, take};
 ghost use Rattle.model_frame.specs.Reading.{decode};
 ghost use Rattle.model_session.specs.Summary.{fnv};
 ghost use Rattle.scan.specs.Answers.{fieldOf, invalidOf, faultOf};
 ghost use Rattle.model_frame.specs.Frame.{number};
 ghost use Rattle.outcome.specs.Answers.{answerOf};
-ghost use Rattle.exports.specs.Exports.{shapeOf, Makes, Tells};
-ghost use Rattle.exports.specs.Returned.{refusalCode, doneCode, lastCode, fieldNumber, faultCode, readCode, writtenCode};
-ghost use Rattle.print.specs.Encoding.{writtenOf};
+ghost use Rattle.exports.specs.Exports.{Again, Rewrites, shapeOf, Makes, Tells};
+ghost use Rattle.exports.specs.Returned.{refusalCode, doneCode, lastCode, fieldNumber, faultCode, readCode, writtenCode, takenCode};
+ghost use Rattle.print.specs.Encoding.{outcome, writtenOf};
+ghost use Rattle.frame.specs.Answers.{frameIn};
 use active::Begun;
 use active::Sending;
 use active::Sent;
@@ -106,9 +108,10 @@ fn written(w: Written) -> u64
 
 // ---- frames
 
-// A frame that was read from src, written again; `used` is how many bytes it took.
-fn again(f: Frame, used: usize, src: &[u8], out: &mut [u8]) -> u64 {
-    match f.encode(Protocol { version: 1 }, src, out) {
+fn taken(w: Written, used: usize) -> u64
+    ensures { λ r. ⌜ r ≡ takenCode used (writtenOf w) ⌝ }
+{
+    match w {
         Written::Took(_) => done(used),
         Written::Unreadable => refusal(8, 0),
         Written::TooLong => refusal(1, 0),
@@ -116,9 +119,19 @@ fn again(f: Frame, used: usize, src: &[u8], out: &mut [u8]) -> u64 {
     }
 }
 
+// A frame that was read from src, written again; `used` is how many bytes it took.
+fn again(f: Frame, used: usize, src: &[u8], out: &mut [u8]) -> u64
+    requires { ⌜ used ≤ length (now src) ⌝ }
+    ensures { λ r. ⌜ Again used (outcome 1 (frameIn 1 (take used (now (src .entry))) f) (length (now (out .entry)))) (now (out .entry)) (now (out .exit)) r ⌝ }
+{
+    taken(f.encode(Protocol { version: 1 }, &src[0..used], out), used)
+}
+
 // Reads one frame and writes it again.
 #[no_mangle]
-pub extern "C" fn wz_frame(frame: &[u8], out: &mut [u8]) -> u64 {
+pub extern "C" fn wz_frame(frame: &[u8], out: &mut [u8]) -> u64
+    ensures { λ r. ⌜ Rewrites (decode 1 (now (frame .entry))) (now (out .entry)) (now (out .exit)) r ⌝ }
+{
     match Frame::decode(Protocol { version: 1 }, frame) {
         Decoded::More => 0,
         Decoded::Bad(e) => fault(e),
