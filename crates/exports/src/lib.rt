@@ -1,7 +1,12 @@
 // The boundary for programs in C or Rust (oracle/README.md has the signatures and what is returned). Nothing is asked of a caller.
 ghost use mathlib.Core.Path.{_≡_};
 ghost use Prim.Native.Nat.{_+_, _*_, _<_, _≤_};
-ghost use lib.ListN.{length, take};
+ghost use mathlib.Core.Bool.{cond};
+ghost use lib.ListN.{length, take, drop, set};
+ghost use Rattle.model_session.specs.Whole.{batchLimit};
+ghost use Rattle.active.specs.Whole.{ready, senderOf, storedAt};
+ghost use Rattle.exports.specs.Queues.{Pushes, Numbered, Filled};
+ghost use Rattle.exports.specs.Sendings.{Sends, SendsNext};
 ghost use Rattle.model_frame.specs.Reading.{decode};
 ghost use Rattle.model_session.specs.Summary.{fnv};
 ghost use Rattle.scan.specs.Answers.{fieldOf, invalidOf, faultOf};
@@ -354,22 +359,21 @@ pub extern "C" fn wz_session(
 
 // ---- whole sending: the last commit number, whether it has begun, where it goes on, whether it is done
 
-fn flag(b: bool) -> u64 {
+fn flag(b: bool) -> u64
+    ensures { λ r. ⌜ r ≡ cond b 1 0 ⌝ }
+{
     if b { 1 } else { 0 }
 }
 
-fn put_word(words: &mut [u64], at: usize, v: u64) {
-    if at < words.len() {
-        words[at] = v;
-    }
-}
-
 // The words of a sending for its next call.
-fn put_sending(sending: &mut [u64], last: CommitNumber, from: u64, done: u64) {
-    put_word(sending, 0, last.0);
-    put_word(sending, 1, 1);
-    put_word(sending, 2, from);
-    put_word(sending, 3, done);
+fn put_sending(sending: &mut [u64], last: CommitNumber, from: u64, done: u64)
+    requires { ⌜ 4 ≤ length (now sending) ⌝ }
+    ensures { λ r. ⌜ now (sending .exit) ≡ set (set (set (set (now (sending .entry)) 0 (last .0)) 1 1) 2 from) 3 done ⌝ }
+{
+    sending[0] = last.0;
+    sending[1] = 1;
+    sending[2] = from;
+    sending[3] = done;
 }
 
 // What a call of a sending gave, and the sending's words after it.
@@ -380,7 +384,10 @@ fn sent(
     bytes: &[u8],
     sending: &mut [u64],
     out: &mut [u8],
-) -> u64 {
+) -> u64
+    requires { ⌜ 4 ≤ length (now sending) ⌝ }
+    ensures { λ r. ⌜ Sends batchLimit (storedAt shape (now (words .entry)) (now (bytes .entry)) (s .place)) (s .handle) (s .epoch .0) (ready (s .place) (senderOf s)) (now (sending .entry)) (now (sending .exit)) (now (out .entry)) (now (out .exit)) r ⌝ }
+{
     match s.send_whole(shape, words, bytes, out) {
         Sent::Frame(len, next) => {
             let last = next.last;
@@ -406,7 +413,9 @@ pub extern "C" fn wz_send(
     place: usize,
     handle: u32,
     epoch: u64,
-) -> u64 {
+) -> u64
+    ensures { λ r. ⌜ SendsNext (storedAt (shapeOf sessions c m) (now (words .entry)) (now (bytes .entry)) place) place handle epoch (now (sending .entry)) (now (sending .exit)) (now (out .entry)) (now (out .exit)) r ⌝ }
+{
     let shape = Shape {
         places: sessions,
         bytes: c,
@@ -437,38 +446,45 @@ pub extern "C" fn wz_send(
 // ---- the lag queue: drained, how many wait, 64 numbers
 
 // The 64 numbers from the third on, and one more.
-fn numbers(queue: &[u64]) -> [u64; 65] {
+fn numbers(queue: &[u64]) -> [u64; 65]
+    requires { ⌜ 66 ≤ length (now queue) ⌝ }
+    ensures { λ r. ⌜ take 64 r ≡ take 64 (drop 2 (now (queue .entry))) ⌝ }
+{
     let mut out = [0; 65];
-    if 66 <= queue.len() {
-        let mut i: usize = 0;
-        while i < 64 {
-            out[i] = queue[i + 2];
-            i += 1;
-        }
+    let mut i: usize = 0;
+    while i < 64 {
+        out[i] = queue[2 + i];
+        i += 1;
     }
     out
 }
 
-fn put_numbers(queue: &mut [u64], from: [u64; 65]) {
-    if 66 <= queue.len() {
-        let mut i: usize = 0;
-        while i < 64 {
-            queue[i + 2] = from[i];
-            i += 1;
-        }
+fn put_numbers(queue: &mut [u64], from: [u64; 65])
+    requires { ⌜ 66 ≤ length (now queue) ⌝ }
+    ensures { λ r. ⌜ Numbered from (now (queue .entry)) (now (queue .exit)) ⌝ }
+{
+    let mut i: usize = 0;
+    while i < 64 {
+        queue[2 + i] = from[i];
+        i += 1;
     }
 }
 
-fn put_queue(queue: &mut [u64], log: ReplicatedLog) {
+fn put_queue(queue: &mut [u64], log: ReplicatedLog)
+    requires { ⌜ 66 ≤ length (now queue) ⌝ }
+    ensures { λ r. ⌜ Filled (log .«drained_through») (log .count) (log .queued) (now (queue .entry)) (now (queue .exit)) ⌝ }
+{
     let from = log.queued;
-    put_word(queue, 0, log.drained_through);
-    put_word(queue, 1, log.count as u64);
+    queue[0] = log.drained_through;
+    queue[1] = log.count as u64;
     put_numbers(queue, from);
 }
 
 // One push.
 #[no_mangle]
-pub extern "C" fn wz_queue(queue: &mut [u64], max_lag: u64, last: u64) -> u64 {
+pub extern "C" fn wz_queue(queue: &mut [u64], max_lag: u64, last: u64) -> u64
+    ensures { λ r. ⌜ Pushes «max_lag» last (now (queue .entry)) (now (queue .exit)) r ⌝ }
+{
     if queue.len() < 66 {
         return refusal(25, 0);
     }
