@@ -17,7 +17,7 @@ slice-write-sending-2 c = lt-length-set (c .args .sending .now) 0 (c .args .last
 
 -- src/lib.rt:375:5
 slice-write-sending-3 : tie.Need-slice-write-sending-3
-slice-write-sending-3 c = lt-length-set (set (c .args .sending .now) 0 (c .args .last .0)) 1 1 (lt-length-set (c .args .sending .now) 0 (c .args .last .0) (omega arith))
+slice-write-sending-3 c = lt-length-set (set (c .args .sending .now) 0 (c .args .last .0)) 1 _ (lt-length-set (c .args .sending .now) 0 (c .args .last .0) (omega arith))
 
 -- src/lib.rt:376:5
 slice-write-sending-4 : tie.Need-slice-write-sending-4
