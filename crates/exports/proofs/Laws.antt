@@ -1,19 +1,19 @@
 -- What the exported functions return, from what the functions that they call promise. Assumes nothing.
 use mathlib.Core.Path.{_≡_, refl, sym, ap, subst, _∙_}
-use mathlib.Core.Bool.{Bool, true, false, cond}
-use mathlib.Core.List.{List, []}
-use mathlib.Core.Option.{Option, some}
+use mathlib.Core.Bool.{Bool, true, false}
+use mathlib.Core.List.{List}
+use mathlib.Core.Option.{some}
 use Prim.Native.Nat.{ℕ, _+_, _-_, _*_, _^_, _<_, _≤_}
 use native.Mathlib.Nat.{sub-zero}
 use borrow.Author.Tests.{lt-ltb, le-ltb, eq-eqb, ne-eqb}
-use lib.Dec.{T, ltb, eqb}
-use lib.ListN.{length, take, set}
+use lib.Dec.{T}
+use lib.ListN.{length, take}
 use Rattle.laws.proofs.Little.{write-none}
 use Rattle.model_frame.specs.Bytes.{isBytes}
 use Rattle.model_frame.specs.Frame.{Frame, number}
 use Rattle.model_frame.specs.Frame as the-frame
 use Rattle.model_frame.specs.Reading.{maxBody, decode}
-use Rattle.model_frame.specs.Writing.{bodyBytes, encode, fine, Writable}
+use Rattle.model_frame.specs.Writing.{bodyBytes, Writable}
 use Rattle.model_frame.proofs.Sound.{Accepted, decode-sound}
 use Rattle.model.specs.Answer as the-answer
 use Rattle.scan.specs.declared.FrameError.{FrameError}
@@ -30,12 +30,12 @@ use Rattle.frame.specs.Answers.{frameOf, readingOf, readable, frameIn}
 use Rattle.areas.specs.declared.Shape.{Shape}
 use Rattle.areas.specs.declared.Made.{Made}
 use Rattle.areas.specs.declared.Made.the-variants.{Ready, Unfit}
-use Rattle.areas.specs.Areas.{roomy, Making}
+use Rattle.areas.specs.Areas.{Making}
 use Rattle.outcome.specs.declared.Answer as code
 use Rattle.outcome.specs.Answers.{frameBy}
 use Rattle.outcome.specs.Answers as replies
 use Rattle.exports.specs.Returned.{refusalCode, doneCode, fieldNumber, faultCode, readCode, writtenCode, takenCode}
-use Rattle.exports.specs.Exports.{Again, rewritten, Rewrites, Makes, told, Tells}
+use Rattle.exports.specs.Exports.{Again, rewritten, Rewrites, Makes, Tells}
 
 -- ---- numbers
 

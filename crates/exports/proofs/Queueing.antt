@@ -1,6 +1,6 @@
 -- The lag queue in words: its numbers read and written, and one push. Assumes nothing.
 use mathlib.Core.Path.{_≡_, refl, sym, ap, subst, _∙_}
-use mathlib.Core.Bool.{Bool, true, false, cond, _||_, true≢false}
+use mathlib.Core.Bool.{Bool, true, false, cond, true≢false}
 use mathlib.Core.List.{List, _++_}
 use Prim.Native.Nat.{ℕ, _+_, _≤_, _<_}
 use native.Mathlib.Omega.{arith}
@@ -8,14 +8,14 @@ use native.Mathlib.Numerals.{add-one}
 use borrow.Author.Tests.{le-ltb, lt-ltb, ltb-false}
 use lib.Dec.{ltb}
 use lib.ListN.{length, getD, set, take, drop, length-set, length-drop}
-use lib.Seq.{take-suc, take-suc-set, take-take, take-at, drop-at, getD-drop, getD-take, getD-set-same, getD-set-other, drop-set-lt, length-take-le, paste, paste-zero, paste-suc, length-paste, take-paste, drop-paste}
+use lib.Seq.{take-suc, take-suc-set, take-take, take-at, drop-at, getD-drop, getD-take, getD-set-same, getD-set-other, drop-set-lt, length-take-le, paste, paste-suc, take-paste, drop-paste}
 use Rattle.laws.proofs.Lists.{drop-take}
 use Rattle.model_session.specs.Lag.{Queue, push}
 use Rattle.lag.specs.declared.ReplicatedLog.{ReplicatedLog}
 use Rattle.lag.specs.declared.Queued.{Queued}
 use Rattle.lag.specs.Queue.{queueOf, Answers}
 use Rattle.exports.specs.Returned.{refusalCode, doneCode}
-use Rattle.exports.specs.Queues.{queueIn, noQueue, Holds, Pushes, Numbered, Filled}
+use Rattle.exports.specs.Queues.{queueIn, noQueue, Pushes, Numbered, Filled}
 
 -- ---- the numbers, read
 

@@ -19,10 +19,10 @@ use Rattle.active.specs.declared.Begun.{Begun}
 use Rattle.active.specs.declared.Begun
 use Rattle.active.specs.declared.Sent.{Sent}
 use Rattle.active.specs.declared.Sent
-use Rattle.active.specs.Whole.{senderOf, storedAt, Start, ready, startOf, startFrom, Step, gives, finished, stepOf, spent, answerTo, stepFrom, areaFrom, SendsWhole}
+use Rattle.active.specs.Whole.{senderOf, storedAt, Start, ready, startOf, startFrom, Step, gives, finished, stepOf, spent, answerTo, stepFrom, SendsWhole}
 use Rattle.active.specs.Whole as whole
 use Rattle.exports.specs.Returned.{refusalCode, doneCode, lastCode}
-use Rattle.exports.specs.Sendings.{senderIn, startIn, stepBy, areaBy, sendCode, Handed, Resumes, Sends}
+use Rattle.exports.specs.Sendings.{senderIn, startIn, sendCode, Handed, Resumes, Sends}
 
 -- ---- a call keeps the handle and the epoch
 

@@ -31,12 +31,13 @@ frameCode held more room = 0
 frameCode held (faulty e) room = faultCode e
 frameCode held (got f used) room = takenCode used (answerOf (rewritten held f room))
 
+-- the area: the frame at its start, or all of it as it was
 abbrev pub frameArea : Bool → Decoded → List ℕ → List ℕ
 frameArea held more out = out
 frameArea held (faulty e) out = out
 frameArea held (got f used) out = areaAfter (rewritten held f (length out)) out
 
--- that the bytes hold those parts is not promised by reading
+-- what wz_frame promises; that the bytes hold the parts is not promised by reading, so 8 is not excluded. 1 is
 pub record Rewrites (d : Decoded) (out out' : List ℕ) (r : ℕ) : Type 0 where
   pub held : Bool
   pub answer : r ≡ frameCode held d (length out)
@@ -44,6 +45,7 @@ pub record Rewrites (d : Decoded) (out out' : List ℕ) (r : ℕ) : Type 0 where
 
 -- ---- making a store
 
+-- how many places, the bytes of each, the messages of each
 abbrev pub shapeOf : ℕ → ℕ → ℕ → Shape
 shapeOf sessions c m = record { places = sessions; bytes = c; messages = m }
 

@@ -8,6 +8,7 @@ use lib.Dec.{ltb}
 use Rattle.model_session.specs.Lag.{Queue, push}
 use Rattle.exports.specs.Returned.{refusalCode, doneCode}
 
+-- the queue that the words stand for
 abbrev pub queueIn : List ℕ → Queue
 queueIn q = record { drained = getD q 0 0; waiting = take (getD q 1 0) (drop 2 q) }
 
@@ -37,7 +38,7 @@ pub record Numbered (from q q' : List ℕ) : Type 0 where
   pub same : length q' ≡ length q
   pub rest : drop 66 q' ≡ drop 66 q
 
--- all 66
+-- all 66 words are set: drained, how many wait, and the numbers
 pub record Filled (drained count : ℕ) (from q q' : List ℕ) : Type 0 where
   pub first : getD q' 0 0 ≡ drained
   pub second : getD q' 1 0 ≡ count

@@ -2,7 +2,7 @@
 -- Assumes nothing.
 use mathlib.Core.Path.{_≡_}
 use Prim.Native.Nat.{ℕ}
-use mathlib.Core.Bool.{Bool, not, cond}
+use mathlib.Core.Bool.{not, cond}
 use mathlib.Core.List.{List}
 use mathlib.Core.Option.{Option}
 use lib.ListN.{length, getD, drop}
@@ -30,10 +30,12 @@ abbrev pub stepBy : ℕ → Option Session → Start → ℕ → Step
 stepBy limit a (whole.Start.refused n) room = whole.Step.refused n
 stepBy limit a (ready i s) room = stepFrom limit a i s room
 
+-- the area after it
 abbrev pub areaBy : ℕ → Option Session → Start → List ℕ → List ℕ
 areaBy limit a (whole.Start.refused n) out = out
 areaBy limit a (ready i s) out = areaFrom limit a s out
 
+-- a refusal, a frame by its length, or done
 abbrev pub sendCode : Step → ℕ
 sendCode (whole.Step.refused n) = refusalCode n 0
 sendCode (gives len i t) = doneCode len

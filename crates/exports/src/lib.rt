@@ -100,6 +100,7 @@ fn fault(e: FrameError) -> u64
     }
 }
 
+// What writing came to: the bytes written, or a refusal.
 fn written(w: Written) -> u64
     ensures { λ r. ⌜ r ≡ writtenCode (writtenOf w) ⌝ }
 {
@@ -113,6 +114,7 @@ fn written(w: Written) -> u64
 
 // ---- frames
 
+// The same for a frame that was read: the bytes that it took.
 fn taken(w: Written, used: usize) -> u64
     ensures { λ r. ⌜ r ≡ takenCode used (writtenOf w) ⌝ }
 {
@@ -459,6 +461,7 @@ fn numbers(queue: &[u64]) -> [u64; 65]
     out
 }
 
+// Puts 64 numbers where they stand.
 fn put_numbers(queue: &mut [u64], from: [u64; 65])
     requires { ⌜ 66 ≤ length (now queue) ⌝ }
     ensures { λ r. ⌜ Numbered from (now (queue .entry)) (now (queue .exit)) ⌝ }
@@ -470,6 +473,7 @@ fn put_numbers(queue: &mut [u64], from: [u64; 65])
     }
 }
 
+// Puts the queue into its words.
 fn put_queue(queue: &mut [u64], log: ReplicatedLog)
     requires { ⌜ 66 ≤ length (now queue) ⌝ }
     ensures { λ r. ⌜ Filled (log .«drained_through») (log .count) (log .queued) (now (queue .entry)) (now (queue .exit)) ⌝ }
