@@ -1,4 +1,21 @@
 // The boundary for programs in C or Rust (oracle/README.md has the signatures and what is returned). Nothing is asked of a caller.
+ghost use mathlib.Core.Path.{_≡_};
+ghost use mathlib.Core.Bool.{cond};
+ghost use Prim.Native.Nat.{_+_, _*_, _<_, _≤_};
+ghost use lib.ListN.{length, take, drop, set};
+ghost use Rattle.model_frame.specs.Frame.{number};
+ghost use Rattle.model_frame.specs.Reading.{decode};
+ghost use Rattle.model_session.specs.Summary.{fnv};
+ghost use Rattle.model_session.specs.Whole.{batchLimit};
+ghost use Rattle.scan.specs.Answers.{fieldOf, invalidOf, faultOf};
+ghost use Rattle.print.specs.Encoding.{outcome, writtenOf};
+ghost use Rattle.frame.specs.Answers.{frameIn};
+ghost use Rattle.outcome.specs.Answers.{answerOf};
+ghost use Rattle.active.specs.Whole.{ready, senderOf, storedAt};
+ghost use Rattle.exports.specs.Returned.{refusalCode, doneCode, fieldNumber, faultCode, readCode, writtenCode, takenCode};
+ghost use Rattle.exports.specs.Exports.{Again, Rewrites, shapeOf, Makes, Tells};
+ghost use Rattle.exports.specs.Queues.{Pushes, Numbered, Filled};
+ghost use Rattle.exports.specs.Sendings.{Sends, SendsNext};
 use active::Begun;
 use active::Sending;
 use active::Sent;
@@ -20,12 +37,16 @@ use told::Told;
 // ---- what is returned
 
 // Refusal n, with its detail.
-fn refusal(n: u8, detail: u32) -> u64 {
+fn refusal(n: u8, detail: u32) -> u64
+    ensures { λ r. ⌜ r ≡ refusalCode n detail ⌝ }
+{
     (n as u64) * 1_099_511_627_776 + (detail as u64)
 }
 
 // Done, with a count.
-fn done(count: usize) -> u64 {
+fn done(count: usize) -> u64
+    ensures { λ r. ⌜ r ≡ doneCode count ⌝ }
+{
     if count < 4_611_686_018_427_387_904 {
         return 9_223_372_036_854_775_808 + (count as u64);
     }
@@ -35,7 +56,10 @@ fn done(count: usize) -> u64 {
 // Done, and nothing is left.
 const LAST: u64 = 13_835_058_055_282_163_712;
 
-fn field_number(f: Field) -> u32 {
+fn field_number(f: Field) -> u32
+    ensures is { λ r. ⌜ r ≡ fieldNumber (fieldOf f) ⌝ }
+    ensures small { λ r. ⌜ r < 4 ⌝ }
+{
     match f {
         Field::FrameKind => 0,
         Field::Part => 1,
@@ -44,7 +68,9 @@ fn field_number(f: Field) -> u32 {
     }
 }
 
-fn value_number(v: Value) -> u8 {
+fn value_number(v: Value) -> u8
+    ensures { λ r. ⌜ r ≡ number (invalidOf v) ⌝ }
+{
     match v {
         Value::Text => 4,
         Value::Session => 5,
@@ -53,14 +79,16 @@ fn value_number(v: Value) -> u8 {
     }
 }
 
-fn unknown(f: u32, v: u8) -> u64 {
-    if f < 4 {
-        return refusal(3, f * 256 + (v as u32));
-    }
-    refusal(3, 0)
+fn unknown(f: u32, v: u8) -> u64
+    requires { ⌜ f < 4 ⌝ }
+    ensures { λ r. ⌜ r ≡ refusalCode 3 (f * 256 + v) ⌝ }
+{
+    refusal(3, f * 256 + (v as u32))
 }
 
-fn fault(e: FrameError) -> u64 {
+fn fault(e: FrameError) -> u64
+    ensures { λ r. ⌜ r ≡ faultCode (faultOf e) ⌝ }
+{
     match e {
         FrameError::TooLong(n) => refusal(1, n),
         FrameError::Truncated => refusal(2, 0),
@@ -69,11 +97,25 @@ fn fault(e: FrameError) -> u64 {
     }
 }
 
+// What writing came to: the bytes written, or a refusal.
+fn written(w: Written) -> u64
+    ensures { λ r. ⌜ r ≡ writtenCode (writtenOf w) ⌝ }
+{
+    match w {
+        Written::Took(n) => done(n),
+        Written::Unreadable => refusal(8, 0),
+        Written::TooLong => refusal(1, 0),
+        Written::NoRoom => refusal(9, 0),
+    }
+}
+
 // ---- frames
 
-// A frame that was read from src, written again; `used` is how many bytes it took.
-fn again(f: Frame, used: usize, src: &[u8], out: &mut [u8]) -> u64 {
-    match f.encode(Protocol { version: 1 }, src, out) {
+// The same for a frame that was read: the bytes that it took.
+fn taken(w: Written, used: usize) -> u64
+    ensures { λ r. ⌜ r ≡ takenCode used (writtenOf w) ⌝ }
+{
+    match w {
         Written::Took(_) => done(used),
         Written::Unreadable => refusal(8, 0),
         Written::TooLong => refusal(1, 0),
@@ -81,9 +123,19 @@ fn again(f: Frame, used: usize, src: &[u8], out: &mut [u8]) -> u64 {
     }
 }
 
+// A frame that was read from src, written again; `used` is how many bytes it took.
+fn again(f: Frame, used: usize, src: &[u8], out: &mut [u8]) -> u64
+    requires { ⌜ used ≤ length (now src) ⌝ }
+    ensures { λ r. ⌜ Again used (outcome 1 (frameIn 1 (take used (now (src .entry))) f) (length (now (out .entry)))) (now (out .entry)) (now (out .exit)) r ⌝ }
+{
+    taken(f.encode(Protocol { version: 1 }, &src[0..used], out), used)
+}
+
 // Reads one frame and writes it again.
 #[no_mangle]
-pub extern "C" fn wz_frame(frame: &[u8], out: &mut [u8]) -> u64 {
+pub extern "C" fn wz_frame(frame: &[u8], out: &mut [u8]) -> u64
+    ensures { λ r. ⌜ Rewrites (decode 1 (now (frame .entry))) (now (out .entry)) (now (out .exit)) r ⌝ }
+{
     match Frame::decode(Protocol { version: 1 }, frame) {
         Decoded::More => 0,
         Decoded::Bad(e) => fault(e),
@@ -93,7 +145,9 @@ pub extern "C" fn wz_frame(frame: &[u8], out: &mut [u8]) -> u64 {
 
 // Reads one frame.
 #[no_mangle]
-pub extern "C" fn wz_read(frame: &[u8]) -> u64 {
+pub extern "C" fn wz_read(frame: &[u8]) -> u64
+    ensures { λ r. ⌜ r ≡ readCode (decode 1 (now (frame .entry))) ⌝ }
+{
     match Frame::decode(Protocol { version: 1 }, frame) {
         Decoded::More => 0,
         Decoded::Bad(e) => fault(e),
@@ -105,7 +159,9 @@ pub extern "C" fn wz_read(frame: &[u8]) -> u64 {
 
 // Makes a store without sessions.
 #[no_mangle]
-pub extern "C" fn wz_make(words: &mut [u64], bytes: &[u8], sessions: u32, c: u32, m: u32) -> u64 {
+pub extern "C" fn wz_make(words: &mut [u64], bytes: &[u8], sessions: u32, c: u32, m: u32) -> u64
+    ensures { λ r. ⌜ Makes (shapeOf sessions c m) (now (words .entry)) (now (words .exit)) (now (bytes .entry)) r ⌝ }
+{
     let shape = Shape {
         places: sessions,
         bytes: c,
@@ -143,22 +199,21 @@ pub extern "C" fn wz_session(
 
 // ---- whole sending: the last commit number, whether it has begun, where it goes on, whether it is done
 
-fn flag(b: bool) -> u64 {
+fn flag(b: bool) -> u64
+    ensures { λ r. ⌜ r ≡ cond b 1 0 ⌝ }
+{
     if b { 1 } else { 0 }
 }
 
-fn put_word(words: &mut [u64], at: usize, v: u64) {
-    if at < words.len() {
-        words[at] = v;
-    }
-}
-
 // The words of a sending for its next call.
-fn put_sending(sending: &mut [u64], last: CommitNumber, from: u64, done: u64) {
-    put_word(sending, 0, last.0);
-    put_word(sending, 1, 1);
-    put_word(sending, 2, from);
-    put_word(sending, 3, done);
+fn put_sending(sending: &mut [u64], last: CommitNumber, from: u64, done: u64)
+    requires { ⌜ 4 ≤ length (now sending) ⌝ }
+    ensures { λ r. ⌜ now (sending .exit) ≡ set (set (set (set (now (sending .entry)) 0 (last .0)) 1 1) 2 from) 3 done ⌝ }
+{
+    sending[0] = last.0;
+    sending[1] = 1;
+    sending[2] = from;
+    sending[3] = done;
 }
 
 // What a call of a sending gave, and the sending's words after it.
@@ -169,7 +224,10 @@ fn sent(
     bytes: &[u8],
     sending: &mut [u64],
     out: &mut [u8],
-) -> u64 {
+) -> u64
+    requires { ⌜ 4 ≤ length (now sending) ⌝ }
+    ensures { λ r. ⌜ Sends batchLimit (storedAt shape (now (words .entry)) (now (bytes .entry)) (s .place)) (s .handle) (s .epoch .0) (ready (s .place) (senderOf s)) (now (sending .entry)) (now (sending .exit)) (now (out .entry)) (now (out .exit)) r ⌝ }
+{
     match s.send_whole(shape, words, bytes, out) {
         Sent::Frame(len, next) => {
             let last = next.last;
@@ -195,7 +253,9 @@ pub extern "C" fn wz_send(
     place: usize,
     handle: u32,
     epoch: u64,
-) -> u64 {
+) -> u64
+    ensures { λ r. ⌜ SendsNext (storedAt (shapeOf sessions c m) (now (words .entry)) (now (bytes .entry)) place) place handle epoch (now (sending .entry)) (now (sending .exit)) (now (out .entry)) (now (out .exit)) r ⌝ }
+{
     let shape = Shape {
         places: sessions,
         bytes: c,
@@ -226,38 +286,47 @@ pub extern "C" fn wz_send(
 // ---- the lag queue: drained, how many wait, 64 numbers
 
 // The 64 numbers from the third on, and one more.
-fn numbers(queue: &[u64]) -> [u64; 65] {
+fn numbers(queue: &[u64]) -> [u64; 65]
+    requires { ⌜ 66 ≤ length (now queue) ⌝ }
+    ensures { λ r. ⌜ take 64 r ≡ take 64 (drop 2 (now (queue .entry))) ⌝ }
+{
     let mut out = [0; 65];
-    if 66 <= queue.len() {
-        let mut i: usize = 0;
-        while i < 64 {
-            out[i] = queue[i + 2];
-            i += 1;
-        }
+    let mut i: usize = 0;
+    while i < 64 {
+        out[i] = queue[2 + i];
+        i += 1;
     }
     out
 }
 
-fn put_numbers(queue: &mut [u64], from: [u64; 65]) {
-    if 66 <= queue.len() {
-        let mut i: usize = 0;
-        while i < 64 {
-            queue[i + 2] = from[i];
-            i += 1;
-        }
+// Puts 64 numbers where they stand.
+fn put_numbers(queue: &mut [u64], from: [u64; 65])
+    requires { ⌜ 66 ≤ length (now queue) ⌝ }
+    ensures { λ r. ⌜ Numbered from (now (queue .entry)) (now (queue .exit)) ⌝ }
+{
+    let mut i: usize = 0;
+    while i < 64 {
+        queue[2 + i] = from[i];
+        i += 1;
     }
 }
 
-fn put_queue(queue: &mut [u64], log: ReplicatedLog) {
+// Puts the queue into its words.
+fn put_queue(queue: &mut [u64], log: ReplicatedLog)
+    requires { ⌜ 66 ≤ length (now queue) ⌝ }
+    ensures { λ r. ⌜ Filled (log .«drained_through») (log .count) (log .queued) (now (queue .entry)) (now (queue .exit)) ⌝ }
+{
     let from = log.queued;
-    put_word(queue, 0, log.drained_through);
-    put_word(queue, 1, log.count as u64);
+    queue[0] = log.drained_through;
+    queue[1] = log.count as u64;
     put_numbers(queue, from);
 }
 
 // One push.
 #[no_mangle]
-pub extern "C" fn wz_queue(queue: &mut [u64], max_lag: u64, last: u64) -> u64 {
+pub extern "C" fn wz_queue(queue: &mut [u64], max_lag: u64, last: u64) -> u64
+    ensures { λ r. ⌜ Pushes «max_lag» last (now (queue .entry)) (now (queue .exit)) r ⌝ }
+{
     if queue.len() < 66 {
         return refusal(25, 0);
     }
@@ -280,25 +349,24 @@ pub extern "C" fn wz_queue(queue: &mut [u64], max_lag: u64, last: u64) -> u64 {
 
 // An answer's frame; 0 bytes where it has none. The byte area is the store's.
 #[no_mangle]
-pub extern "C" fn wz_answer(a: Answer, bytes: &[u8], out: &mut [u8]) -> u64 {
+pub extern "C" fn wz_answer(a: Answer, bytes: &[u8], out: &mut [u8]) -> u64
+    ensures { λ r. ⌜ Tells (answerOf (now (bytes .entry)) a) (now (out .entry)) (now (out .exit)) r ⌝ }
+{
     if a.refusal != 0 {
         return refusal(a.refusal, 0);
     }
     if a.kind == 0 {
         return done(0);
     }
-    match reply::write(a, bytes, out) {
-        Written::Took(n) => done(n),
-        Written::Unreadable => refusal(8, 0),
-        Written::TooLong => refusal(1, 0),
-        Written::NoRoom => refusal(9, 0),
-    }
+    written(reply::write(a, bytes, out))
 }
 
 // ---- for the bench
 
 // FNV-1a over bytes, on from h.
 #[no_mangle]
-pub extern "C" fn wz_fnv(h: u64, bytes: &[u8]) -> u64 {
+pub extern "C" fn wz_fnv(h: u64, bytes: &[u8]) -> u64
+    ensures { λ r. ⌜ r ≡ fnv h (now (bytes .entry)) ⌝ }
+{
     log::fnv::bytes(h, bytes)
 }

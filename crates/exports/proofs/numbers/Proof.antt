@@ -1,59 +1,58 @@
-use borrow.Author.Needs.{needs}
-use Prim.Native.Nat.{_-_, _≤_}
+use Rattle.exports.proofs.Queueing.{Copied, copies, copied}
+use denote.Ref.{now}
+use mathlib.Core.Path.{refl}
+use Prim.Native.Nat.{_-_}
+use native.Mathlib.Omega.{arith}
 use Rattle.exports.proofs.numbers.Statement.{statement}
 use Rattle.exports.proofs.numbers.Tie as tie
 use Rattle.exports.proofs.numbers.Reads as reads
 use Rattle.exports.proofs.numbers.Lts as lts
 
 abbrev Inv-loop : tie.InvT-loop
-Inv-loop queue out₀ i₀ out i = i ≤ 64
+Inv-loop queue out₀ i₀ out i = Copied queue out i
 
 abbrev μ-loop : tie.MeasureT-loop
 μ-loop queue out₀ i₀ out i = 64 - i
 
--- src/lib.rt:371:9
+-- src/lib.rt:455:5
 loop-holds : tie.Need-loop-holds Inv-loop μ-loop
-loop-holds c = search needs
+loop-holds c = record { same = omega arith; upto = omega arith; front = refl }
 
--- src/lib.rt:372:28
+-- src/lib.rt:456:24
 add-out : tie.Need-add-out Inv-loop μ-loop
-add-out c = search needs
+add-out c = omega arith
 
--- src/lib.rt:372:22
+-- src/lib.rt:456:18
 mul-out : tie.Need-mul-out Inv-loop μ-loop
-mul-out c = search needs
+mul-out c = omega arith
 
--- src/lib.rt:372:22
+-- src/lib.rt:456:18
 shared-slice-read-out : tie.Need-shared-slice-read-out Inv-loop μ-loop
-shared-slice-read-out c = search needs
+shared-slice-read-out c = omega arith
 
--- src/lib.rt:372:13
+-- src/lib.rt:456:9
 mul-out-2 : tie.Need-mul-out-2 Inv-loop μ-loop
-mul-out-2 c = search needs
+mul-out-2 c = omega arith
 
--- src/lib.rt:372:13
+-- src/lib.rt:456:9
 array-write-out : tie.Need-array-write-out Inv-loop μ-loop
-array-write-out c = search needs
+array-write-out c = omega arith
 
--- src/lib.rt:373:13
+-- src/lib.rt:457:9
 add-i : tie.Need-add-i Inv-loop μ-loop
-add-i c = search needs
+add-i c = omega arith
 
--- src/lib.rt:371:9
+-- src/lib.rt:455:5
 loop-less : tie.Need-loop-less Inv-loop μ-loop
-loop-less c = search needs
+loop-less c = omega arith
 
--- src/lib.rt:371:9
+-- src/lib.rt:455:5
 loop-again : tie.Need-loop-again Inv-loop μ-loop
-loop-again c = search needs
+loop-again c = copies (now (c .before .before .before .args .queue)) (c .before .before .loop .out) (c .before .before .loop .i) (omega arith) (c .before .before .loop .inv) (omega arith)
 
--- src/lib.rt:367:1
+-- src/lib.rt:449:1
 returns : tie.Need-returns Inv-loop μ-loop
-returns c = search needs
-
--- src/lib.rt:367:1
-returns-2 : tie.Need-returns-2 Inv-loop μ-loop
-returns-2 c = search needs
+returns c = copied (now (c .before .before .args .queue)) (c .before .loop .out) (c .before .loop .i) (c .before .loop .inv) (omega arith)
 
 pub numbers-spec : {M : Type 1} → statement M
 numbers-spec =
@@ -70,5 +69,4 @@ numbers-spec =
     add-i
     loop-less
     loop-again
-    returns
-    returns-2)
+    returns)

@@ -1,0 +1,144 @@
+-- What the exported functions return, from what the functions that they call promise. Assumes nothing.
+use mathlib.Core.Path.{_≡_, refl, sym, ap, subst, _∙_}
+use mathlib.Core.Bool.{Bool, true, false}
+use mathlib.Core.List.{List}
+use mathlib.Core.Option.{some}
+use Prim.Native.Nat.{ℕ, _+_, _-_, _*_, _^_, _<_, _≤_}
+use native.Mathlib.Nat.{sub-zero}
+use borrow.Author.Tests.{lt-ltb, le-ltb, eq-eqb, ne-eqb}
+use lib.Dec.{T}
+use lib.ListN.{length, take}
+use Rattle.laws.proofs.Little.{write-none}
+use Rattle.model_frame.specs.Bytes.{isBytes}
+use Rattle.model_frame.specs.Frame.{Frame, number}
+use Rattle.model_frame.specs.Frame as the-frame
+use Rattle.model_frame.specs.Reading.{maxBody, decode}
+use Rattle.model_frame.specs.Writing.{bodyBytes, Writable}
+use Rattle.model_frame.proofs.Sound.{Accepted, decode-sound}
+use Rattle.model.specs.Answer as the-answer
+use Rattle.scan.specs.declared.FrameError.{FrameError}
+use Rattle.scan.specs.declared.Field.{Field}
+use Rattle.scan.specs.declared.Value
+use Rattle.scan.specs.declared.Value.{Value}
+use Rattle.scan.specs.Answers.{fieldOf, invalidOf, faultOf}
+use Rattle.print.specs.declared.Written.{Written}
+use Rattle.print.specs.Encoding.{Outcome, given, outcome, answerOf, areaAfter, writtenOf, Encoded}
+use Rattle.frame.specs.declared.Decoded
+use Rattle.frame.specs.declared.Decoded.{Decoded}
+use Rattle.frame.specs.declared.Frame as code-frame
+use Rattle.frame.specs.Answers.{frameOf, readingOf, readable, frameIn}
+use Rattle.areas.specs.declared.Shape.{Shape}
+use Rattle.areas.specs.declared.Made.{Made}
+use Rattle.areas.specs.declared.Made.the-variants.{Ready, Unfit}
+use Rattle.areas.specs.Areas.{Making}
+use Rattle.outcome.specs.declared.Answer as code
+use Rattle.outcome.specs.Answers.{frameBy}
+use Rattle.outcome.specs.Answers as replies
+use Rattle.exports.specs.Returned.{refusalCode, doneCode, fieldNumber, faultCode, readCode, writtenCode, takenCode}
+use Rattle.exports.specs.Exports.{Again, rewritten, Rewrites, Makes, Tells}
+
+-- ---- numbers
+
+pub few-done : (k : ℕ) → k < 2 ^ 62 → 2 ^ 63 + k ≡ doneCode k
+few-done k h = rw (lt-ltb k (2 ^ 62) h) refl
+
+pub many-done : (k : ℕ) → 2 ^ 62 ≤ k → 2 ^ 64 - 1 ≡ doneCode k
+many-done k h = rw (le-ltb k (2 ^ 62) h) refl
+
+-- ---- reading
+
+module _ {e : FrameError} {r : ℕ} where
+  pub fault-as : {f : FrameError} → e ≡ f → r ≡ faultCode (faultOf f) → r ≡ faultCode (faultOf e)
+  fault-as p q = q ∙ ap (λ (x : FrameError). faultCode (faultOf x)) (sym p)
+
+pub unknown-is : (f : Field) (v : ℕ) {k r : ℕ} → k ≡ fieldNumber (fieldOf f) → r ≡ refusalCode 3 (k * 256 + v) → r ≡ refusalCode 3 (fieldNumber (fieldOf f) * 256 + v)
+unknown-is f v p q = q ∙ ap (λ (x : ℕ). refusalCode 3 (x * 256 + v)) p
+
+pub invalid-is : (v : Value) {k r : ℕ} → k ≡ number (invalidOf v) → r ≡ refusalCode k 0 → r ≡ faultCode (invalidOf v)
+invalid-is Value.Text p q = q ∙ ap (λ (x : ℕ). refusalCode x 0) p
+invalid-is Value.Session p q = q ∙ ap (λ (x : ℕ). refusalCode x 0) p
+invalid-is Value.Timestamp p q = q ∙ ap (λ (x : ℕ). refusalCode x 0) p
+invalid-is Value.Marks p q = q ∙ ap (λ (x : ℕ). refusalCode x 0) p
+
+pub read-as : (w : List ℕ) {d x : Decoded} {r : ℕ} → readingOf 1 w d ≡ decode 1 w → d ≡ x → r ≡ readCode (readingOf 1 w x) → r ≡ readCode (decode 1 w)
+read-as w read p q = q ∙ ap (λ (y : Decoded). readCode (readingOf 1 w y)) (sym p) ∙ ap readCode read
+
+-- ---- writing again
+
+pub taken-as : (used : ℕ) {w x : Written} {r : ℕ} → w ≡ x → r ≡ takenCode used (writtenOf x) → r ≡ takenCode used (writtenOf w)
+taken-as used p q = q ∙ ap (λ (y : Written). takenCode used (writtenOf y)) (sym p)
+
+pub again-is :
+    (used : ℕ) (s : List ℕ) (f : code-frame.Frame) {out out' : List ℕ} {x : Written} {r : ℕ} → Encoded 1 (frameIn 1 (take (used - 0) s) f) out out' x → r ≡ takenCode used (writtenOf x)
+    → Again used (outcome 1 (frameIn 1 (take used s) f) (length out)) out out' r
+again-is used s f {out} {out'} {x} w q =
+    let v : Encoded 1 (frameIn 1 (take used s) f) out out' x = subst (λ (k : ℕ). Encoded 1 (frameIn 1 (take k s) f) out out' x) (sub-zero used) w in
+    record { answer = q ∙ ap (takenCode used) (v .answer); area = v .area }
+
+-- what can be written is refused for its room only
+room-only : (f : Frame) (room : ℕ) (t : Bool) → Writable 1 f → outcome 1 (given t f) room ≡ rewritten t f room
+unfolding outcome
+room-only f room true w = rw (w .texts, le-ltb maxBody (length (bodyBytes f)) (w .short)) refl
+room-only f room false w = refl
+
+module _ (w : List ℕ) {d : Decoded} (read : readingOf 1 w d ≡ decode 1 w) where
+  by-reading : {x : Decoded} {out out' : List ℕ} {r : ℕ} → d ≡ x → Rewrites (readingOf 1 w x) out out' r → Rewrites (decode 1 w) out out' r
+  by-reading {x} {out} {out'} {r} p h = subst (λ (y : the-frame.Decoded). Rewrites y out out' r) (ap (readingOf 1 w) (sym p) ∙ read) h
+
+  pub again-more : {out : List ℕ} → d ≡ Decoded.More → Rewrites (decode 1 w) out out 0
+  again-more p = by-reading p (record { held = true; answer = refl; area = refl })
+
+  pub again-bad : {e : FrameError} {out : List ℕ} {r : ℕ} → d ≡ Decoded.Bad e → r ≡ faultCode (faultOf e) → Rewrites (decode 1 w) out out r
+  again-bad p q = by-reading p (record { held = true; answer = q; area = refl })
+
+  module _ {f : code-frame.Frame} {used : ℕ} (p : d ≡ Decoded.Whole f used) (bytes : T (isBytes w)) where
+    accepted : Accepted 1 w (frameOf 1 (take used w) f) used
+    accepted = decode-sound 1 w bytes (sym read ∙ ap (readingOf 1 w) p)
+
+    pub again-room : used ≤ length w
+    again-room = accepted .within
+
+    pub again-whole : {out out' : List ℕ} {r : ℕ} → Again used (outcome 1 (frameIn 1 (take used w) f) (length out)) out out' r → Rewrites (decode 1 w) out out' r
+    again-whole {out} h =
+        let only = room-only (frameOf 1 (take used w) f) (length out) (readable 1 (take used w) f) (accepted .writable) in
+        by-reading p (record {
+          held = readable 1 (take used w) f;
+          answer = h .answer ∙ ap (λ (o : Outcome). takenCode used (answerOf o)) only;
+          area = h .area ∙ ap (λ (o : Outcome). areaAfter o out) only;
+        })
+
+-- ---- making
+
+module _ {s : Shape} {w w' b : List ℕ} {d : Made} {r : ℕ} where
+  pub made : Making s w w' b d → d ≡ Ready → r ≡ doneCode 0 → Makes s w w' b r
+  made m p q =
+      let h : Making s w w' b Ready = rw p at m in
+      record { answer = q ∙ rw (h .0) refl; words = h .1 ∙ rw (h .0) refl }
+
+  pub unfit : Making s w w' b d → d ≡ Unfit → r ≡ refusalCode 25 0 → Makes s w w' b r
+  unfit m p q =
+      let h : Making s w w' b Unfit = rw p at m in
+      record { answer = q ∙ rw (h .0) refl; words = h .1 ∙ rw (h .0) refl }
+
+-- ---- answers
+
+module _ (b : List ℕ) (a : code.Answer) (out : List ℕ) {r : ℕ} where
+  pub tells-refusal : (a .refusal ≡ 0 → ⊥) → r ≡ refusalCode (a .refusal) 0 → Tells (replies.answerOf b a) out out r
+  tells-refusal n q =
+      let e : replies.answerOf b a ≡ the-answer.refused (a .refusal) = rw (ne-eqb (a .refusal) 0 n) refl in
+      rw e (record { answer = q; area = refl })
+
+  pub tells-nothing : a .refusal ≡ 0 → a .kind ≡ 0 → r ≡ doneCode 0 → Tells (replies.answerOf b a) out out r
+  tells-nothing z k q =
+      let e : replies.answerOf b a ≡ the-answer.done = rw (eq-eqb (a .refusal) 0 z, eq-eqb (a .kind) 0 k) refl in
+      rw e (record { answer = q; area = sym (write-none out 0) })
+
+  pub tells-frame :
+      {out' : List ℕ} {x : Written} → a .refusal ≡ 0 → (a .kind ≡ 0 → ⊥) → Encoded 1 (some (frameBy b a)) out out' x → r ≡ writtenCode (writtenOf x)
+      → Tells (replies.answerOf b a) out out' r
+  tells-frame z k w q =
+      let e : replies.answerOf b a ≡ the-answer.reply (frameBy b a) = rw (eq-eqb (a .refusal) 0 z, ne-eqb (a .kind) 0 k) refl in
+      rw e (record { answer = q ∙ ap writtenCode (w .answer); area = w .area })
+
+pub written-as : {w x : Written} {r : ℕ} → w ≡ x → r ≡ writtenCode (writtenOf x) → r ≡ writtenCode (writtenOf w)
+written-as p q = q ∙ ap (λ (y : Written). writtenCode (writtenOf y)) (sym p)

@@ -1,0 +1,68 @@
+-- What each exported function leaves and returns. Assumes nothing.
+use mathlib.Core.Path.{_≡_}
+use Prim.Native.Nat.{ℕ}
+use mathlib.Core.Bool.{Bool, cond}
+use mathlib.Core.List.{List, []}
+use mathlib.Core.Option.{some}
+use lib.ListN.{length, set}
+use lib.Dec.{ltb}
+use Rattle.model_frame.specs.Frame.{Frame, Decoded, more, faulty, got}
+use Rattle.model_frame.specs.Writing.{encode}
+use Rattle.print.specs.Encoding.{Outcome, wrote, refused, outcome, areaAfter, answerOf}
+use Rattle.model.specs.Answer as the-answer
+use Rattle.areas.specs.declared.Shape.{Shape}
+use Rattle.areas.specs.Areas.{roomy}
+use Rattle.exports.specs.Returned.{refusalCode, doneCode, faultCode, writtenCode, takenCode}
+
+-- ---- a frame that was read, written again
+
+-- what is written, or a refusal, and the area as that leaves it
+pub record Again (used : ℕ) (o : Outcome) (out out' : List ℕ) (r : ℕ) : Type 0 where
+  pub answer : r ≡ takenCode used (answerOf o)
+  pub area : out' ≡ areaAfter o out
+
+-- 8 where the parts that reading gave aren't held by the bytes; 9 where the area is too short; else the frame's bytes
+abbrev pub rewritten : Bool → Frame → ℕ → Outcome
+rewritten held f room = cond held (cond (ltb room (length (encode f))) (refused 9) (wrote (encode f))) (refused 8)
+
+-- 0 where more is needed, a fault, or the bytes taken and written again
+abbrev pub frameCode : Bool → Decoded → ℕ → ℕ
+frameCode held more room = 0
+frameCode held (faulty e) room = faultCode e
+frameCode held (got f used) room = takenCode used (answerOf (rewritten held f room))
+
+-- the area: the frame at its start, or all of it as it was
+abbrev pub frameArea : Bool → Decoded → List ℕ → List ℕ
+frameArea held more out = out
+frameArea held (faulty e) out = out
+frameArea held (got f used) out = areaAfter (rewritten held f (length out)) out
+
+-- what wz_frame promises; that the bytes hold the parts is not promised by reading, so 8 is not excluded. 1 is
+pub record Rewrites (d : Decoded) (out out' : List ℕ) (r : ℕ) : Type 0 where
+  pub held : Bool
+  pub answer : r ≡ frameCode held d (length out)
+  pub area : out' ≡ frameArea held d out
+
+-- ---- making a store
+
+-- how many places, the bytes of each, the messages of each
+abbrev pub shapeOf : ℕ → ℕ → ℕ → Shape
+shapeOf sessions c m = record { places = sessions; bytes = c; messages = m }
+
+-- 25 and nothing is written where the areas have no room for the shape; else no place is in use and no commit is pending
+pub record Makes (s : Shape) (w w' b : List ℕ) (r : ℕ) : Type 0 where
+  pub answer : r ≡ cond (roomy s w b) (doneCode 0) (refusalCode 25 0)
+  pub words : w' ≡ cond (roomy s w b) (set (set w 0 0) 1 0) w
+
+-- ---- the standby's answers
+
+-- an answer without a frame is no bytes; a frame is written, or refused as in writing
+abbrev pub told : the-answer.Answer → ℕ → Outcome
+told (the-answer.reply f) room = outcome 1 (some f) room
+told (the-answer.refused n) room = refused n
+told the-answer.done room = wrote []
+
+-- that outcome's number, and the area as it leaves it
+pub record Tells (a : the-answer.Answer) (out out' : List ℕ) (r : ℕ) : Type 0 where
+  pub answer : r ≡ writtenCode (answerOf (told a (length out)))
+  pub area : out' ≡ areaAfter (told a (length out)) out

@@ -1,0 +1,4 @@
+pub mod Returned
+pub mod Exports
+pub mod Queues
+pub mod Sendings
