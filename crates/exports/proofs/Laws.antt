@@ -2,7 +2,7 @@
 use mathlib.Core.Path.{_≡_, refl, sym, ap, subst, _∙_}
 use mathlib.Core.Bool.{Bool, true, false}
 use mathlib.Core.List.{List}
-use mathlib.Core.Option.{some}
+use mathlib.Core.Option.{Option, some}
 use Prim.Native.Nat.{ℕ, _+_, _-_, _*_, _^_, _<_, _≤_}
 use native.Mathlib.Nat.{sub-zero}
 use borrow.Author.Tests.{lt-ltb, le-ltb, eq-eqb, ne-eqb}
@@ -34,8 +34,11 @@ use Rattle.areas.specs.Areas.{Making}
 use Rattle.outcome.specs.declared.Answer as code
 use Rattle.outcome.specs.Answers.{frameBy}
 use Rattle.outcome.specs.Answers as replies
+use Rattle.told.specs.Telling as telling
+use Rattle.told.specs.Telling.{toldOf}
+use Rattle.told.specs.declared.Told.{Told}
 use Rattle.exports.specs.Returned.{refusalCode, doneCode, fieldNumber, faultCode, readCode, writtenCode, takenCode}
-use Rattle.exports.specs.Exports.{Again, rewritten, Rewrites, Makes, Tells}
+use Rattle.exports.specs.Exports.{Again, rewritten, Rewrites, Makes, TellsPlace, Tells}
 
 -- ---- numbers
 
@@ -142,3 +145,11 @@ module _ (b : List ℕ) (a : code.Answer) (out : List ℕ) {r : ℕ} where
 
 pub written-as : {w x : Written} {r : ℕ} → w ≡ x → r ≡ writtenCode (writtenOf x) → r ≡ writtenCode (writtenOf w)
 written-as p q = q ∙ ap (λ (y : Written). writtenCode (writtenOf y)) (sym p)
+
+-- ---- a session told of
+
+pub told-as : {w x : Told} {r : ℕ} → w ≡ x → r ≡ writtenCode (toldOf x) → r ≡ writtenCode (toldOf w)
+told-as p q = q ∙ ap (λ (y : Told). writtenCode (toldOf y)) (sym p)
+
+pub tells-place : {bytes : Option (List ℕ)} {out out' : List ℕ} {x : Told} {r : ℕ} → telling.Tells bytes out out' x → r ≡ writtenCode (toldOf x) → TellsPlace bytes out out' r
+tells-place t q = record { answer = q ∙ ap writtenCode (t .answer); area = t .area }

@@ -3,13 +3,14 @@ use mathlib.Core.Path.{_≡_}
 use Prim.Native.Nat.{ℕ}
 use mathlib.Core.Bool.{Bool, cond}
 use mathlib.Core.List.{List, []}
-use mathlib.Core.Option.{some}
+use mathlib.Core.Option.{Option, some}
 use lib.ListN.{length, set}
 use lib.Dec.{ltb}
 use Rattle.model_frame.specs.Frame.{Frame, Decoded, more, faulty, got}
 use Rattle.model_frame.specs.Writing.{encode}
 use Rattle.print.specs.Encoding.{Outcome, wrote, refused, outcome, areaAfter, answerOf}
 use Rattle.model.specs.Answer as the-answer
+use Rattle.told.specs.Telling as telling
 use Rattle.areas.specs.declared.Shape.{Shape}
 use Rattle.areas.specs.Areas.{roomy}
 use Rattle.exports.specs.Returned.{refusalCode, doneCode, faultCode, writtenCode, takenCode}
@@ -53,6 +54,13 @@ shapeOf sessions c m = record { places = sessions; bytes = c; messages = m }
 pub record Makes (s : Shape) (w w' b : List ℕ) (r : ℕ) : Type 0 where
   pub answer : r ≡ cond (roomy s w b) (doneCode 0) (refusalCode 25 0)
   pub words : w' ≡ cond (roomy s w b) (set (set w 0 0) 1 0) w
+
+-- ---- sessions
+
+-- the bytes of a session, or none, which is 25; 9 where the area is too short; the area as that leaves it
+pub record TellsPlace (bytes : Option (List ℕ)) (out out' : List ℕ) (r : ℕ) : Type 0 where
+  pub answer : r ≡ writtenCode (answerOf (telling.outcome bytes (length out)))
+  pub area : out' ≡ areaAfter (telling.outcome bytes (length out)) out
 
 -- ---- the standby's answers
 

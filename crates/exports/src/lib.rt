@@ -12,8 +12,9 @@ ghost use Rattle.print.specs.Encoding.{outcome, writtenOf};
 ghost use Rattle.frame.specs.Answers.{frameIn};
 ghost use Rattle.outcome.specs.Answers.{answerOf};
 ghost use Rattle.active.specs.Whole.{ready, senderOf, storedAt};
+ghost use Rattle.told.specs.Telling.{toldAt, toldOf};
 ghost use Rattle.exports.specs.Returned.{refusalCode, doneCode, fieldNumber, faultCode, readCode, writtenCode, takenCode};
-ghost use Rattle.exports.specs.Exports.{Again, Rewrites, shapeOf, Makes, Tells};
+ghost use Rattle.exports.specs.Exports.{Again, Rewrites, shapeOf, Makes, TellsPlace, Tells};
 ghost use Rattle.exports.specs.Queues.{Pushes, Numbered, Filled};
 ghost use Rattle.exports.specs.Sendings.{Sends, SendsNext};
 use active::Begun;
@@ -173,6 +174,17 @@ pub extern "C" fn wz_make(words: &mut [u64], bytes: &[u8], sessions: u32, c: u32
     }
 }
 
+// What telling came to: the bytes told, or a refusal.
+fn told(t: Told) -> u64
+    ensures { λ r. ⌜ r ≡ writtenCode (toldOf t) ⌝ }
+{
+    match t {
+        Told::Took(n) => done(n),
+        Told::NoRoom => refusal(9, 0),
+        Told::Unfit => refusal(25, 0),
+    }
+}
+
 // The session at a place.
 #[no_mangle]
 pub extern "C" fn wz_session(
@@ -184,17 +196,15 @@ pub extern "C" fn wz_session(
     m: u32,
     place: usize,
     n: u64,
-) -> u64 {
+) -> u64
+    ensures { λ r. ⌜ TellsPlace (toldAt (shapeOf sessions c m) (now (words .entry)) (now (bytes .entry)) place n) (now (out .entry)) (now (out .exit)) r ⌝ }
+{
     let shape = Shape {
         places: sessions,
         bytes: c,
         messages: m,
     };
-    match told::session(words, bytes, shape, place, n, out) {
-        Told::Took(len) => done(len),
-        Told::NoRoom => refusal(9, 0),
-        Told::Unfit => refusal(25, 0),
-    }
+    told(told::session(words, bytes, shape, place, n, out))
 }
 
 // ---- whole sending: the last commit number, whether it has begun, where it goes on, whether it is done

@@ -5,8 +5,6 @@ use Prim.Native.Nat.{_-_}
 use native.Mathlib.Omega.{arith}
 use Rattle.exports.proofs.numbers.Statement.{statement}
 use Rattle.exports.proofs.numbers.Tie as tie
-use Rattle.exports.proofs.numbers.Reads as reads
-use Rattle.exports.proofs.numbers.Lts as lts
 
 abbrev Inv-loop : tie.InvT-loop
 Inv-loop queue out₀ i₀ out i = Copied queue out i
@@ -14,43 +12,33 @@ Inv-loop queue out₀ i₀ out i = Copied queue out i
 abbrev μ-loop : tie.MeasureT-loop
 μ-loop queue out₀ i₀ out i = 64 - i
 
--- src/lib.rt:455:5
 loop-holds : tie.Need-loop-holds Inv-loop μ-loop
 loop-holds c = record { same = omega arith; upto = omega arith; front = refl }
 
--- src/lib.rt:456:24
 add-out : tie.Need-add-out Inv-loop μ-loop
 add-out c = omega arith
 
--- src/lib.rt:456:18
 mul-out : tie.Need-mul-out Inv-loop μ-loop
 mul-out c = omega arith
 
--- src/lib.rt:456:18
 shared-slice-read-out : tie.Need-shared-slice-read-out Inv-loop μ-loop
 shared-slice-read-out c = omega arith
 
--- src/lib.rt:456:9
 mul-out-2 : tie.Need-mul-out-2 Inv-loop μ-loop
 mul-out-2 c = omega arith
 
--- src/lib.rt:456:9
 array-write-out : tie.Need-array-write-out Inv-loop μ-loop
 array-write-out c = omega arith
 
--- src/lib.rt:457:9
 add-i : tie.Need-add-i Inv-loop μ-loop
 add-i c = omega arith
 
--- src/lib.rt:455:5
 loop-less : tie.Need-loop-less Inv-loop μ-loop
 loop-less c = omega arith
 
--- src/lib.rt:455:5
 loop-again : tie.Need-loop-again Inv-loop μ-loop
 loop-again c = copies (now (c .before .before .before .args .queue)) (c .before .before .loop .out) (c .before .before .loop .i) (omega arith) (c .before .before .loop .inv) (omega arith)
 
--- src/lib.rt:449:1
 returns : tie.Need-returns Inv-loop μ-loop
 returns c = copied (now (c .before .before .args .queue)) (c .before .loop .out) (c .before .loop .i) (c .before .loop .inv) (omega arith)
 

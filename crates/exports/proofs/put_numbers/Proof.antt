@@ -6,8 +6,6 @@ use Prim.Native.Nat.{_-_}
 use native.Mathlib.Omega.{arith}
 use Rattle.exports.proofs.put_numbers.Statement.{statement}
 use Rattle.exports.proofs.put_numbers.Tie as tie
-use Rattle.exports.proofs.put_numbers.Reads as reads
-use Rattle.exports.proofs.put_numbers.Lts as lts
 
 abbrev Inv-loop : tie.InvT-loop
 Inv-loop queue₀ from i₀ queue i = Pasted from queue₀ queue i
@@ -15,47 +13,36 @@ Inv-loop queue₀ from i₀ queue i = Pasted from queue₀ queue i
 abbrev μ-loop : tie.MeasureT-loop
 μ-loop queue₀ from i₀ queue i = 64 - i
 
--- src/lib.rt:467:5
 loop-holds : tie.Need-loop-holds Inv-loop μ-loop
 loop-holds c = record { upto = omega arith; same = refl; is = paste-zero (now (c .args .queue)) 2 (c .args .t2) }
 
--- src/lib.rt:468:24
 mul-queue : tie.Need-mul-queue Inv-loop μ-loop
 mul-queue c = omega arith
 
--- src/lib.rt:468:24
 array-read-queue : tie.Need-array-read-queue Inv-loop μ-loop
 array-read-queue c = omega arith
 
--- src/lib.rt:468:15
 add-queue : tie.Need-add-queue Inv-loop μ-loop
 add-queue c = omega arith
 
--- src/lib.rt:468:9
 mul-queue-2 : tie.Need-mul-queue-2 Inv-loop μ-loop
 mul-queue-2 c = omega arith
 
--- src/lib.rt:468:9
 slice-write-queue : tie.Need-slice-write-queue Inv-loop μ-loop
 slice-write-queue c = omega arith
 
--- src/lib.rt:469:9
 add-i : tie.Need-add-i Inv-loop μ-loop
 add-i c = omega arith
 
--- src/lib.rt:467:5
 loop-less : tie.Need-loop-less Inv-loop μ-loop
 loop-less c = omega arith
 
--- src/lib.rt:467:5
 loop-again : tie.Need-loop-again Inv-loop μ-loop
 loop-again c = pastes (c .before .before .args .t2) (now (c .before .before .args .queue)) (c .before .loop .queue) (c .before .loop .i) (omega arith) (omega arith) (c .before .loop .inv) (omega arith)
 
--- src/lib.rt:462:1
 same-length : tie.Need-same-length Inv-loop μ-loop
 same-length c = omega arith
 
--- src/lib.rt:462:1
 returns : tie.Need-returns Inv-loop μ-loop
 returns c = pasted (c .before .before .args .t2) (now (c .before .before .args .queue)) (c .before .loop .queue) (c .before .loop .i) (omega arith) (omega arith) (c .before .loop .inv) (omega arith)
 

@@ -1,0 +1,21 @@
+use borrow.Author.Needs.{needs}
+use Rattle.exports.proofs.Laws.{told-as}
+use Rattle.exports.proofs.told.Statement.{statement}
+use Rattle.exports.proofs.told.Tie as tie
+
+returns : tie.Need-returns
+returns c = told-as (c .before .before .t .given .1) (c .done .ensures)
+
+pub told-spec : {M : Type 1} → statement M
+told-spec =
+    tie.close
+    (tie.spec
+    (λ c. search needs)
+    (λ c κs. search needs)
+    (λ c. search needs)
+    (λ c κs. search needs)
+    (λ c. search needs)
+    (λ c κs. search needs)
+    returns
+    (λ c. search needs)
+    (λ c. search needs))
