@@ -6,11 +6,11 @@ use mathlib.Core.Option.{none}
 use Prim.Native.Nat.{ℕ, _<_}
 use native.Mathlib.Omega.{arith}
 use lib.Dec.{leb}
-use lib.ListN.{length, getD, set, drop, replicate, length-map}
+use lib.ListN.{length, getD, set, drop, replicate}
 use lib.Seq.{set-out}
 use Rattle.row.specs.declared.Handle.{Handle}
 use Rattle.row.specs.declared.Seen.{Seen}
-use Rattle.row.specs.Row.{brokenOf, cleared, clearedFrom, clearedAll, seenOf}
+use Rattle.row.specs.Row.{brokenOf, clearedFrom, clearedAll, seenOf}
 use Rattle.row.proofs.Lists.{clears-end}
 use Rattle.bindings.specs.Rows.{rowOf}
 use Rattle.areas.specs.Areas.{allowed, Rules, placesOf}
@@ -79,7 +79,7 @@ module _ (s : Settings) (c : Replica) (row : List Handle) (w w' b : List ℕ) (o
             is = λ h. (λ i. standbyOf s (q .0 i .replica) (free i) (q .1 i) b h) ∙ new h;
             allowed = λ h. (λ i. allowedAll s (free i) (q .1 i) b h) ∙ sound h;
             words = q .1;
-            row-length = ap length free ∙ length-map row cleared;
+            freed = free;
           }
         where
           rules : Rules (s .shape) w b

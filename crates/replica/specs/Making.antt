@@ -6,6 +6,7 @@ use mathlib.Core.List.{List}
 use lib.ListN.{length, set}
 use Rattle.row.specs.declared.Handle.{Handle}
 use Rattle.row.specs.declared.Seen.{Seen}
+use Rattle.row.specs.Row.{clearedAll}
 use Rattle.areas.specs.Areas.{allowed, placesOf}
 use Rattle.model.specs.State.{newStandby}
 use Rattle.outcome.specs.declared.Replica.{Replica}
@@ -25,13 +26,14 @@ pub record MakeIs (s : Settings) (c : Replica) (seen : Seen) (w w' b : List ℕ)
   pub refuses : allowed (s .shape) w b ≡ false → (r ≡ leaving c seen (isRefused 25)) × (w' ≡ w)
   pub makes : allowed (s .shape) w b ≡ true → (r ≡ clearing newReplica seen isDone) × (w' ≡ set w 1 0)
 
--- a new standby with the store's places, whatever the hold areas; no byte changes, and of the words just the count of pending commits
+-- a new standby with the store's places, whatever the hold areas; no byte changes, of the words just the count of pending commits, and of the row
+-- just that each record is free
 pub record MadeNew (s : Settings) (c' : Replica) (row row' : List Handle) (w w' b : List ℕ) (a : Answer) : Type 0 where
   pub done : a ≡ isDone
   pub is : (h : List ℕ) → standbyOf s c' row' w' b h ≡ newStandby (placesOf (s .shape) w b) (length row)
   pub allowed : (h : List ℕ) → allowedAll s row' w' b h ≡ true
   pub words : w' ≡ set w 1 0
-  pub row-length : length row' ≡ length row
+  pub freed : row' ≡ clearedAll row
 
 -- 25 where the store's rules are broken, and all is as it was
 pub record MadeOver (s : Settings) (c c' : Replica) (row row' : List Handle) (w w' b : List ℕ) (a : Answer) : Type 0 where
