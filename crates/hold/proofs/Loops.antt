@@ -1,6 +1,6 @@
 -- The loops' invariants over what is left of a run, and what a turn of each does. Assumes nothing.
 use mathlib.Core.Path.{_≡_, refl, sym, ap, _∙_}
-use mathlib.Core.Bool.{true, false}
+use mathlib.Core.Bool.{Bool, true, false, true≢false}
 use mathlib.Core.List.{List, [], _∷_}
 use Prim.Native.Nat.{ℕ, _+_, _-_, _≤_, _<_}
 use native.Mathlib.Omega.{arith}
@@ -8,8 +8,8 @@ use lib.Dec.{T}
 use lib.ListN.{length, getD, drop, length-drop}
 use Rattle.model_frame.specs.Bytes.{isBytes}
 use Rattle.model_frame.specs.Frame.{Change, Fault}
-use Rattle.model_frame.specs.Parse.{ok, bad, collect}
-use Rattle.model_frame.specs.Reading.{readChange}
+use Rattle.model_frame.specs.Parse.{Res, ok, bad, bytes, num, blob, forget, collect}
+use Rattle.model_frame.specs.Reading.{recordMsgFields, readChange}
 use Rattle.model_frame.specs.Writing.{sizes}
 use Rattle.model_frame.proofs.Le.{are-bytes, bytes-drop}
 use Rattle.model_frame.proofs.Runs.{change-shorter}
@@ -21,6 +21,15 @@ use Rattle.hold.specs.Held.{onward}
 use Rattle.hold.specs.declared.Outgoing
 use Rattle.hold.specs.declared.Outgoing.{Outgoing}
 use Rattle.hold.proofs.Held.{held-none, held-bad, held-more, held-messages}
+
+-- whether something was read, and what is left then
+abbrev reads : {A : Type 0} → Res A → Bool
+reads (ok a s) = true
+reads (bad e) = false
+
+abbrev rest : {A : Type 0} → Res A → List ℕ
+rest (ok a s) = s
+rest (bad e) = []
 
 module _ (version : ℕ) where
   -- ---- the message bytes: those so far and those of what is left are all
@@ -97,7 +106,7 @@ module _ (version : ℕ) where
   ending b at n known = record { octets = bytes-drop at b (are-bytes b known); same = omega arith }
 
   module _ {b : List ℕ} {at n₀ d n : ℕ} (w : Ending b at n₀ d n) where
-    pub end-next : {to : ℕ} {c : Change} → 0 < n → readChange version (drop d b) ≡ ok c (drop to b) → Ending b at n₀ to (n - 1)
+    end-next : {to : ℕ} {c : Change} → 0 < n → readChange version (drop d b) ≡ ok c (drop to b) → Ending b at n₀ to (n - 1)
     end-next {to} {c} some e = record {
       octets = change-sound version (drop d b) (w .octets) e .2;
       same =
@@ -105,8 +114,25 @@ module _ (version : ℕ) where
           (arith, w .same, ap sizes (collect-more (readChange version) n some e), change-shorter version (drop d b) (w .octets) e .0, length-drop d b, length-drop to b);
     }
 
-    pub end-bad : {f : Fault} → readChange version (drop d b) ≡ bad f → length b - at ≡ left b at n₀ + (length b - d)
-    end-bad e = omega (arith, w .same, ap sizes (collect-bad (readChange version) n e))
+    pub end-past : {to : ℕ} → 0 < n → forget (readChange version (drop d b)) ≡ ok tt (drop to b) → Ending b at n₀ to (n - 1)
+    end-past {to} some e = go (readChange version (drop d b)) refl e
+      where
+        go : (r : Res Change) → readChange version (drop d b) ≡ r → forget r ≡ ok tt (drop to b) → Ending b at n₀ to (n - 1)
+        go (ok c s) p q = end-next some (p ∙ ap (ok c) (ap rest q))
+        go (bad f) p q = absurd (true≢false (sym (ap reads q)))
+
+    pub end-bad : {f : Fault} → forget (readChange version (drop d b)) ≡ bad f → length b - at ≡ left b at n₀ + (length b - d)
+    end-bad {f} e = go (readChange version (drop d b)) refl e
+      where
+        go : (r : Res Change) → readChange version (drop d b) ≡ r → forget r ≡ bad f → length b - at ≡ left b at n₀ + (length b - d)
+        go (ok c s) p q = absurd (true≢false (ap reads q))
+        go (bad g) p q = omega (arith, w .same, ap sizes (collect-bad (readChange version) n p))
 
     pub end-none : n ≤ 0 → length b - at ≡ left b at n₀ + (length b - d)
     end-none none = omega (arith, w .same, ap sizes (collect-none (readChange version) n (drop d b) none))
+
+-- a Record with a message of len bytes is read: its tag, its number, its message's length and as many bytes
+pub record-there : (version : ℕ) (s : List ℕ) {s₁ s₂ s₃ s₄ w : List ℕ} {k q n len : ℕ} → num 1 s ≡ ok k s₁ → k ≡ 4 → num 8 s₁ ≡ ok q s₂ → num 4 s₂ ≡ ok n s₃ → n ≡ len → bytes len s₃ ≡ ok w s₄
+    → forget (readChange version s) ≡ ok tt s₄
+unfolding readChange recordMsgFields blob
+record-there version s tag is-4 number size is-len message = rw (tag, is-4, number, size, is-len, message)

@@ -3,16 +3,19 @@ use Prim.Native.Nat.{ℕ, suc}
 use mathlib.Core.Path.{_≡_}
 use mathlib.Core.Bool.{Bool, false, cond}
 use mathlib.Core.List.{List, _∷_}
-use lib.ListN.{length}
+use lib.ListN.{length, drop}
 use lib.Dec.{ltb}
 use Rattle.model_frame.specs.Frame.{Change}
-use Rattle.model_frame.specs.Parse.{runBytes}
+use Rattle.model_frame.specs.Parse.{Res, ok, bad, forget, runBytes}
 use Rattle.model_frame.specs.Reading.{readChange}
 use Rattle.model_frame.specs.Writing.{changeBytes, sizes}
 use Rattle.model_session.specs.Session.{fits, top}
 use Rattle.op.specs.Answers.{opOf, runOf, heldRun}
 use Rattle.op.specs.declared.Op.{Op}
 use Rattle.op.specs.declared.Run.{Run}
+use Rattle.scan.specs.Answers.{faultOf}
+use Rattle.hold.specs.declared.Past
+use Rattle.hold.specs.declared.Past.{Past}
 use Rattle.hold.specs.declared.Outgoing
 use Rattle.hold.specs.declared.Outgoing.{Outgoing}
 
@@ -32,6 +35,16 @@ onward Outgoing.Off cs = false
 -- what an operation makes of the next number, whatever its parts of a buffer are
 abbrev pub Follows : Op → ℕ → Outgoing → Type 0
 Follows op next r = (b : List ℕ) (cs : List Change) → onward r cs ≡ fits next (opOf b op ∷ cs)
+
+-- where a change ends, or the fault that reading it meets
+abbrev pub resPast : List ℕ → Past → Res (Unit {0})
+resPast b (Past.At c n) = ok tt (drop (c .at) b)
+resPast b (Past.Bad e) = bad (faultOf e)
+
+-- a change that ends there stands at a position of the buffer b; else nothing is said
+abbrev pub PastRecord : List ℕ → ℕ → Past → Type 0
+PastRecord b at (Past.At c n) = (version : ℕ) → forget (readChange version (drop at b)) ≡ ok tt (drop (c .at) b)
+PastRecord b at (Past.Bad e) = Unit {0}
 
 -- the part r of the buffer b where a run stands: it holds the run's changes, as they are written, and nothing else
 pub record RunPart (version : ℕ) (b : List ℕ) (run : Run) (r : List ℕ) : Type 0 where

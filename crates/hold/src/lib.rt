@@ -4,17 +4,21 @@ ghost use mathlib.Core.Path.{_≡_};
 ghost use Prim.Native.Nat.{_+_, _-_, _≤_};
 ghost use lib.ListN.{length, drop};
 ghost use Rattle.model_frame.specs.Bytes.{write};
-ghost use Rattle.model_frame.specs.Parse.{collect};
+ghost use Rattle.model_frame.specs.Parse.{collect, forget};
 ghost use Rattle.model_frame.specs.Reading.{readChange};
 ghost use Rattle.model_frame.specs.Writing.{sizes};
 ghost use Rattle.model_session.specs.Session.{fits, messageLength, messageBytes};
 ghost use Rattle.model.specs.Standby.{startsWithReset};
 ghost use Rattle.op.specs.Answers.{opOf, heldRun};
-ghost use Rattle.hold.specs.Held.{past, Follows, RunPart};
+ghost use Rattle.hold.specs.Held.{past, Follows, resPast, PastRecord, RunPart};
 use op::Op;
 use op::OpAt;
 use op::Run;
+use scan::Byte;
 use scan::Cursor;
+use scan::FrameError;
+use scan::Word32;
+use scan::Word64;
 use stamp::Protocol;
 
 // The greatest u64: no outgoing number follows it.
@@ -24,6 +28,12 @@ const TOP: u64 = 18446744073709551615;
 pub enum Outgoing {
     Next(u64),
     Off,
+}
+
+// Past a change, with the message length of the last Record; or why it can't be read.
+pub enum Past {
+    At(Cursor, u32),
+    Bad(FrameError),
 }
 
 // The first change is a Reset.
@@ -112,17 +122,75 @@ pub fn fits(p: Protocol, run: &[u8], next_outgoing: u64) -> bool
     true
 }
 
+// The message length of a Record; of another change that of the one before it.
+fn record_length(op: Op, len: u32) -> u32 {
+    match op {
+        Op::Record(_, msg) => msg.len,
+        _ => len,
+    }
+}
+
+// Past a Record with a message of `len` bytes, if one stands here. Where the next begins doesn't wait for the length that is read, so that
+// Records of one length are passed over while their bytes are on the way.
+fn past_record(buf: &[u8], c: Cursor, len: u32) -> Past
+    ensures { λ r. ⌜ PastRecord (now (buf .entry)) (c .at) r ⌝ }
+{
+    let Byte::Got(k, d) = scan::u8_from(buf, c) else {
+        return Past::Bad(FrameError::Truncated);
+    };
+    let Word64::Got(_, d) = scan::u64_from(buf, d) else {
+        return Past::Bad(FrameError::Truncated);
+    };
+    let Word32::Got(n, d) = scan::u32_from(buf, d) else {
+        return Past::Bad(FrameError::Truncated);
+    };
+    if k != 4 {
+        return Past::Bad(FrameError::Truncated);
+    }
+    if n != len {
+        return Past::Bad(FrameError::Truncated);
+    }
+    let size = len as usize;
+    if scan::left(buf, d) < size {
+        return Past::Bad(FrameError::Truncated);
+    }
+    let at = d.at;
+    Past::At(Cursor { at: at + size }, len)
+}
+
+// Past one change of any kind.
+fn past_any(p: Protocol, buf: &[u8], c: Cursor, len: u32) -> Past
+    ensures { λ r. ⌜ resPast (now (buf .entry)) r ≡ forget (readChange (p .version) (drop (c .at) (now (buf .entry)))) ⌝ }
+{
+    match op::op_from(p, buf, c) {
+        OpAt::Bad(e) => Past::Bad(e),
+        OpAt::Got(op, d) => Past::At(d, record_length(op, len)),
+    }
+}
+
+// Past one change; it is likely a Record as long as the last one.
+fn past_one(p: Protocol, buf: &[u8], c: Cursor, len: u32) -> Past
+    ensures { λ r. ⌜ resPast (now (buf .entry)) r ≡ forget (readChange (p .version) (drop (c .at) (now (buf .entry)))) ⌝ }
+{
+    match past_record(buf, c, len) {
+        Past::At(d, n) => Past::At(d, n),
+        Past::Bad(_) => past_any(p, buf, c, len),
+    }
+}
+
 // Past the first `count` changes from c on, or as many of them as can be read.
 fn run_end(p: Protocol, buf: &[u8], c: Cursor, count: usize) -> Cursor
     ensures { λ r. ⌜ length (now (buf .entry)) - (c .at) ≡ sizes (collect count (readChange (p .version)) (drop (c .at) (now (buf .entry)))) + (length (now (buf .entry)) - (r .at)) ⌝ }
 {
     let mut d = c;
     let mut n = count;
+    let mut len: u32 = 0;
     while 0 < n {
-        let OpAt::Got(_, next) = op::op_from(p, buf, d) else {
+        let Past::At(next, last) = past_one(p, buf, d, len) else {
             return d;
         };
         d = next;
+        len = last;
         n -= 1;
     }
     d

@@ -1,36 +1,31 @@
-use borrow.Author.Needs.{needs}
-use native.Mathlib.Omega.{arith}
-use mathlib.Core.Path.{sym, ap, _∙_}
-use Prim.Native.Nat.{_<_, _≤_}
-use denote.Ref.{now}
-use Rattle.op.specs.Answers.{resOp}
-use Rattle.hold.proofs.Loops.{Ending, ending, end-next, end-bad, end-none}
 use Rattle.hold.proofs.run_end.Statement.{statement}
+use Rattle.hold.proofs.Loops.{Ending, ending, end-past, end-bad, end-none}
+use Rattle.hold.specs.Held.{resPast}
+use denote.Ref.{now}
+use Prim.Native.Nat.{_<_, _≤_}
+use mathlib.Core.Path.{sym, ap, _∙_}
+use native.Mathlib.Omega.{arith}
+use borrow.Author.Needs.{needs}
 use Rattle.hold.proofs.run_end.Tie as tie
 
 abbrev Inv-loop : tie.InvT-loop
-Inv-loop p buf count d₀ n₀ d n = Ending (p .version) buf (d₀ .at) n₀ (d .at) n
+Inv-loop p buf count d₀ n₀ len₀ d n len = Ending (p .version) buf (d₀ .at) n₀ (d .at) n
 
 abbrev μ-loop : tie.MeasureT-loop
-μ-loop p buf count d₀ n₀ d n = n
+μ-loop p buf count d₀ n₀ len₀ d n len = n
 
 loop-holds : tie.Need-loop-holds Inv-loop μ-loop
 loop-holds c = ending _ (now (c .before .args .buf)) _ _ (λ i. c .shared-slice-known .given i .fits)
 
 returns : tie.Need-returns Inv-loop μ-loop
-returns c =
-    let k = c .before .before in
-    end-bad _ (k .before .before .loop .inv) (sym (k .op-from .ensures) ∙ ap (resOp _) (c .enum-told .given .1))
+returns c = end-bad _ (c .before .before .before .before .loop .inv) (sym (c .before .before .past-one .ensures) ∙ ap (resPast _) (c .enum-told .given .1))
 
 loop-again : tie.Need-loop-again Inv-loop μ-loop
-loop-again c =
-    let k = c .before .before .before in
-    let some : 0 < k .before .before .loop .n = omega arith in
-    end-next _ (k .before .before .loop .inv) some (sym (k .op-from .ensures) ∙ ap (resOp _) (c .before .next .given .1))
+loop-again c = let some : 0 < c .before .before .before .before .before .loop .n = omega arith in
+    end-past _ (c .before .before .before .before .before .loop .inv) some (sym (c .before .before .before .past-one .ensures) ∙ ap (resPast _) (c .before .next .given .1))
 
 returns-2 : tie.Need-returns-2 Inv-loop μ-loop
-returns-2 c =
-    let none : c .before .loop .n ≤ 0 = omega arith in
+returns-2 c = let none : c .before .loop .n ≤ 0 = omega arith in
     end-none _ (c .before .loop .inv) none
 
 pub run-end-spec : {M : Type 1} → statement M

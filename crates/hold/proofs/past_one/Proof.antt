@@ -1,0 +1,12 @@
+use borrow.Author.Needs.{needs}
+use mathlib.Core.Path.{sym}
+use Rattle.hold.proofs.past_one.Statement.{statement}
+use Rattle.hold.proofs.past_one.Tie as tie
+
+returns : tie.Need-returns
+returns c = sym ((rw (c .before .d .given .1) at (c .before .before .before .past-record .ensures)) _)
+
+pub past-one-spec : {M : Type 1} → statement M
+past-one-spec =
+    tie.close
+    (tie.spec (λ c κs. search needs) (λ c. search needs) (λ c. search needs) (λ c κs. search needs) returns (λ c. search needs))
