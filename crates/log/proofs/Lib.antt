@@ -8,7 +8,6 @@ pub mod Recording
 pub mod Onto
 pub mod Forward
 pub mod Reading
-pub mod Order
 pub mod Hash
 pub mod Spans
 pub mod Summing
