@@ -1,5 +1,6 @@
 -- What the code's frames stand for, over the buffer b that they were read from: spans and runs as the bytes and items that they mark. Assumes nothing.
 use Prim.Native.Nat.{ℕ}
+use mathlib.Core.Path.{_≡_}
 use mathlib.Core.Bool.{Bool, true, _&&_}
 use mathlib.Core.List.{List}
 use mathlib.Core.Option.{Option}
@@ -58,3 +59,20 @@ readable version src (Frame.Checked h e i) = true
 
 abbrev pub frameIn : ℕ → List ℕ → Frame → Option the-frame.Frame
 frameIn version src f = given (readable version src f) (frameOf version src f)
+
+-- ---- reading, then writing: what was read stands in the bytes
+
+abbrev pub ReadIn : ℕ → List ℕ → FrameAt → Type 0
+ReadIn version b (FrameAt.Got f c) = readable version b f ≡ true
+ReadIn version b (FrameAt.Bad e) = Unit {0}
+
+-- a frame of n bytes stands in the bytes that it took, and in all the bytes it is the same frame
+pub record Stands (version : ℕ) (b : List ℕ) (f : Frame) (n : ℕ) : Type 0 where
+  pub own : readable version (take n b) f ≡ true
+  pub all : readable version b f ≡ true
+  pub same : frameOf version b f ≡ frameOf version (take n b) f
+
+abbrev pub StandsIn : ℕ → List ℕ → Decoded → Type 0
+StandsIn version b (Decoded.Whole f n) = Stands version b f n
+StandsIn version b Decoded.More = Unit {0}
+StandsIn version b (Decoded.Bad e) = Unit {0}

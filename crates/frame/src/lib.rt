@@ -3,7 +3,7 @@ ghost use mathlib.Core.Path.{_≡_};
 ghost use Prim.Native.Nat.{ℕ, _+_, _≤_};
 ghost use lib.ListN.{length, take, drop};
 ghost use Rattle.model_frame.specs.Reading.{helloFields, welcomeFields, bindFields, batchFields, ackFields, nackFields, boundFields, checkedFields, maxBody, fields, body, decode};
-ghost use Rattle.frame.specs.Answers.{resFrame, readingOf, frameIn};
+ghost use Rattle.frame.specs.Answers.{resFrame, ReadIn, readingOf, StandsIn, frameIn};
 ghost use Rattle.print.specs.Encoding.{Encoded};
 pub use op::Op;
 pub use op::Run;
@@ -106,6 +106,7 @@ pub enum Decoded {
 
 fn hello_from(buf: &[u8], c: Cursor) -> FrameAt
     ensures { λ r. ⌜ ((v : ℕ) → resFrame v (now (buf .entry)) r ≡ helloFields (drop (c .at) (now (buf .entry)))) ⌝ }
+    ensures { λ r. ⌜ ((v : ℕ) → ReadIn v (now (buf .entry)) r) ⌝ }
 {
     let Word16::Got(version, d) = scan::u16_from(buf, c) else {
         return FrameAt::Bad(FrameError::Truncated);
@@ -132,6 +133,7 @@ fn hello_from(buf: &[u8], c: Cursor) -> FrameAt
 
 fn welcome_from(buf: &[u8], c: Cursor) -> FrameAt
     ensures { λ r. ⌜ ((v : ℕ) → resFrame v (now (buf .entry)) r ≡ welcomeFields (drop (c .at) (now (buf .entry)))) ⌝ }
+    ensures { λ r. ⌜ ((v : ℕ) → ReadIn v (now (buf .entry)) r) ⌝ }
 {
     let Word64::Got(epoch, d) = scan::u64_from(buf, c) else {
         return FrameAt::Bad(FrameError::Truncated);
@@ -150,6 +152,7 @@ fn welcome_from(buf: &[u8], c: Cursor) -> FrameAt
 
 fn bind_from(buf: &[u8], c: Cursor) -> FrameAt
     ensures { λ r. ⌜ ((v : ℕ) → resFrame v (now (buf .entry)) r ≡ bindFields (drop (c .at) (now (buf .entry)))) ⌝ }
+    ensures { λ r. ⌜ ((v : ℕ) → ReadIn v (now (buf .entry)) r) ⌝ }
 {
     let Word32::Got(handle, d) = scan::u32_from(buf, c) else {
         return FrameAt::Bad(FrameError::Truncated);
@@ -176,6 +179,7 @@ fn bind_from(buf: &[u8], c: Cursor) -> FrameAt
 
 fn batch_from(p: Protocol, buf: &[u8], c: Cursor) -> FrameAt
     ensures { λ r. ⌜ resFrame (p .version) (now (buf .entry)) r ≡ batchFields (p .version) (drop (c .at) (now (buf .entry))) ⌝ }
+    ensures { λ r. ⌜ ReadIn (p .version) (now (buf .entry)) r ⌝ }
 {
     let Word32::Got(handle, d) = scan::u32_from(buf, c) else {
         return FrameAt::Bad(FrameError::Truncated);
@@ -210,6 +214,7 @@ fn batch_from(p: Protocol, buf: &[u8], c: Cursor) -> FrameAt
 
 fn ack_from(buf: &[u8], c: Cursor) -> FrameAt
     ensures { λ r. ⌜ ((v : ℕ) → resFrame v (now (buf .entry)) r ≡ ackFields (drop (c .at) (now (buf .entry)))) ⌝ }
+    ensures { λ r. ⌜ ((v : ℕ) → ReadIn v (now (buf .entry)) r) ⌝ }
 {
     let Word32::Got(handle, d) = scan::u32_from(buf, c) else {
         return FrameAt::Bad(FrameError::Truncated);
@@ -228,6 +233,7 @@ fn ack_from(buf: &[u8], c: Cursor) -> FrameAt
 
 fn nack_from(buf: &[u8], c: Cursor) -> FrameAt
     ensures { λ r. ⌜ ((v : ℕ) → resFrame v (now (buf .entry)) r ≡ nackFields (drop (c .at) (now (buf .entry)))) ⌝ }
+    ensures { λ r. ⌜ ((v : ℕ) → ReadIn v (now (buf .entry)) r) ⌝ }
 {
     let Word32::Got(handle, d) = scan::u32_from(buf, c) else {
         return FrameAt::Bad(FrameError::Truncated);
@@ -240,6 +246,7 @@ fn nack_from(buf: &[u8], c: Cursor) -> FrameAt
 
 fn bound_from(p: Protocol, buf: &[u8], c: Cursor) -> FrameAt
     ensures { λ r. ⌜ ((v : ℕ) → resFrame v (now (buf .entry)) r ≡ boundFields (p .version) (drop (c .at) (now (buf .entry)))) ⌝ }
+    ensures { λ r. ⌜ ((v : ℕ) → ReadIn v (now (buf .entry)) r) ⌝ }
 {
     let Word32::Got(handle, d) = scan::u32_from(buf, c) else {
         return FrameAt::Bad(FrameError::Truncated);
@@ -252,6 +259,7 @@ fn bound_from(p: Protocol, buf: &[u8], c: Cursor) -> FrameAt
 
 fn checked_from(buf: &[u8], c: Cursor) -> FrameAt
     ensures { λ r. ⌜ ((v : ℕ) → resFrame v (now (buf .entry)) r ≡ checkedFields (drop (c .at) (now (buf .entry)))) ⌝ }
+    ensures { λ r. ⌜ ((v : ℕ) → ReadIn v (now (buf .entry)) r) ⌝ }
 {
     let Word32::Got(handle, d) = scan::u32_from(buf, c) else {
         return FrameAt::Bad(FrameError::Truncated);
@@ -275,6 +283,7 @@ fn checked_from(buf: &[u8], c: Cursor) -> FrameAt
 // The fields of a frame, by its kind.
 fn fields_from(p: Protocol, buf: &[u8], c: Cursor) -> FrameAt
     ensures { λ r. ⌜ resFrame (p .version) (now (buf .entry)) r ≡ fields (p .version) (drop (c .at) (now (buf .entry))) ⌝ }
+    ensures { λ r. ⌜ ReadIn (p .version) (now (buf .entry)) r ⌝ }
 {
     let Byte::Got(k, d) = scan::u8_from(buf, c) else {
         return FrameAt::Bad(FrameError::Truncated);
@@ -295,6 +304,7 @@ fn fields_from(p: Protocol, buf: &[u8], c: Cursor) -> FrameAt
 // A body from a cursor to the buffer's end: nothing is left over.
 fn body_from(p: Protocol, buf: &[u8], c: Cursor) -> FrameAt
     ensures { λ r. ⌜ resFrame (p .version) (now (buf .entry)) r ≡ body (p .version) (drop (c .at) (now (buf .entry))) ⌝ }
+    ensures { λ r. ⌜ ReadIn (p .version) (now (buf .entry)) r ⌝ }
 {
     match fields_from(p, buf, c) {
         FrameAt::Bad(e) => FrameAt::Bad(e),
@@ -317,6 +327,7 @@ impl Frame {
     // The frame at the start of the bytes; its texts, changes and records are parts of them.
     pub fn decode(p: Protocol, buf: &[u8]) -> Decoded
         ensures { λ r. ⌜ readingOf (p .version) (now (buf .entry)) r ≡ decode (p .version) (now (buf .entry)) ⌝ }
+        ensures { λ r. ⌜ StandsIn (p .version) (now (buf .entry)) r ⌝ }
     {
         if buf.len() < 4 {
             return Decoded::More;

@@ -14,7 +14,7 @@ use Rattle.model_text.specs.Stamp.{takesStamp}
 use Rattle.model_frame.specs.Bytes.{le}
 use Rattle.model_frame.specs.Frame.{Fault, truncated, tooLong, Frame, Decoded, more, faulty, got}
 use Rattle.model_frame.specs.Parse.{Res, ok, bad, Parser, andThen, _>>=_, done, fail, bytes, num, blob, text, many}
-use Rattle.model_frame.specs.Reading.{maxBody, stamp, marks, setIncomingFields, setIncomingInFlightFields, setInFlightFields, recordMsgFields, recordBareFields, setCreatedAtFields, setMarksFields, readChange, body, taken, decode}
+use Rattle.model_frame.specs.Reading.{maxBody, stamp, marks, setIncomingFields, setIncomingInFlightFields, setInFlightFields, recordMsgFields, recordBareFields, setCreatedAtFields, setMarksFields, readChange, appRecord, body, taken, decode}
 use Rattle.model_frame.proofs.Sound.{more-got}
 
 pub record Grows {A : Type 0} (p : Parser A) : Type 0 where
@@ -54,7 +54,7 @@ grow-bytes n = record { grows = λ s t e. go s t (leb n (length s)) refl e }
         rw (le-leb n (length (s ++ t)) longer, take-append-le n s t fits, drop-append-le n s t fits) (cc)
     go s t false q e = cc
 
-grow-num : (n : ℕ) → Grows (num n)
+pub grow-num : (n : ℕ) → Grows (num n)
 unfolding num
 grow-num n = grow-then (grow-bytes n) (λ bs. grow-done)
 
@@ -92,6 +92,10 @@ change-grows version =
     (grow-cond (eqb k 6) grow-done
     (grow-cond (eqb k 7) (grow-then (grow-stamp version) (λ t. grow-done))
     (grow-cond (eqb k 8) (grow-then grow-marks (λ t. grow-done)) grow-fail))))))))
+
+pub record-grows : Grows appRecord
+unfolding appRecord
+record-grows = grow-then (grow-num 2) (λ k. grow-then grow-blob (λ bs. grow-done))
 
 -- ---- the frame at the start of the bytes
 

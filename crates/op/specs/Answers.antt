@@ -48,6 +48,11 @@ abbrev pub resRun : {A : Type 0} → Parser A → List ℕ → RunAt → Res (Li
 resRun p b (RunAt.Got r c) = ok (runOf p b r) (drop (c .at) b)
 resRun p b (RunAt.Bad e) = bad (faultOf e)
 
+-- a run that was read can be read again, to where it ended
+abbrev pub RunIn : {A : Type 0} → Parser A → List ℕ → RunAt → Type 0
+RunIn p b (RunAt.Got r c) = many (r .count) p (drop (r .at) b) ≡ ok (runOf p b r) (drop (c .at) b)
+RunIn p b (RunAt.Bad e) = Unit {0}
+
 -- how many bytes a run of changes takes: they are the changes, written; or the fault that reading it meets
 abbrev pub OpsLen : ℕ → List ℕ → Run → RunLen → Type 0
 OpsLen version b r (RunLen.Bytes n) =

@@ -6,7 +6,7 @@ use lib.ListN.{drop}
 use Rattle.model_frame.specs.Frame as the-frame
 use Rattle.model_frame.specs.Frame.{Key, Reason, staleEpoch, diverged, lagTooGreat, restarted, commit, whole, lastWhole, badSession}
 use Rattle.model_frame.specs.Parse.{Res, ok, bad, andThen, fail}
-use Rattle.scan.specs.Answers.{faultOf, spanOf}
+use Rattle.scan.specs.Answers.{faultOf, spanOf, Lies}
 use Rattle.parts.specs.declared.Part
 use Rattle.parts.specs.declared.Part.{Part}
 use Rattle.parts.specs.declared.PartAt
@@ -65,6 +65,11 @@ abbrev pub resSession : List ℕ → SessionAt → Res Key
 resSession b (SessionAt.Got k c) = ok (keyOf b k) (drop (c .at) b)
 resSession b (SessionAt.Bad e) = bad (faultOf e)
 
+-- the four texts of a key lie in the buffer
+abbrev pub KeyIn : List ℕ → SessionAt → Type 0
+KeyIn b (SessionAt.Got k c) = Lies b (k .«begin_string») × Lies b (k .«sender_comp_id») × Lies b (k .«target_comp_id») × Lies b (k .«key_suffix»)
+KeyIn b (SessionAt.Bad e) = Unit {0}
+
 -- the fourth text's own fault, or the key's
 abbrev pub noKey : Res (List ℕ) → Res Key
 noKey suffix = andThen suffix (λ t. fail badSession)
@@ -86,3 +91,8 @@ summaryOf b m = record {
 abbrev pub resSummary : List ℕ → SummaryAt → Res the-frame.Summary
 resSummary b (SummaryAt.Got m c) = ok (summaryOf b m) (drop (c .at) b)
 resSummary b (SummaryAt.Bad e) = bad (faultOf e)
+
+-- the two texts of a summary lie in the buffer
+abbrev pub SummaryIn : List ℕ → SummaryAt → Type 0
+SummaryIn b (SummaryAt.Got m c) = Lies b (m .«created_at») × Lies b (m .marks)
+SummaryIn b (SummaryAt.Bad e) = Unit {0}

@@ -6,8 +6,8 @@ ghost use lib.ListN.{drop};
 ghost use Rattle.model_frame.specs.Parse.{num, many, forget};
 ghost use Rattle.model_frame.specs.Reading.{kinds, appRecord, appRecords, partByte, reason, key, flight, summary};
 ghost use Rattle.scan.specs.Answers.{resSpan};
-ghost use Rattle.op.specs.Answers.{resEnd, resRun};
-ghost use Rattle.parts.specs.Answers.{resPart, resReason, resRecord, resSession, noKey, flightOf, resSummary};
+ghost use Rattle.op.specs.Answers.{resEnd, resRun, RunIn};
+ghost use Rattle.parts.specs.Answers.{resPart, resReason, resRecord, resSession, KeyIn, noKey, flightOf, resSummary, SummaryIn};
 use op::End;
 use op::Run;
 use op::RunAt;
@@ -128,6 +128,7 @@ pub fn reason_from(buf: &[u8], c: Cursor) -> ReasonAt
 // The kinds of application records: a kind is two bytes, so the count says where they end.
 pub fn kinds_from(buf: &[u8], c: Cursor) -> RunAt
     ensures { λ r. ⌜ resRun (num 2) (now (buf .entry)) r ≡ kinds (drop (c .at) (now (buf .entry))) ⌝ }
+    ensures { λ r. ⌜ RunIn (num 2) (now (buf .entry)) r ⌝ }
 {
     let Word32::Got(count, d) = scan::count_from(buf, c, 2) else {
         return RunAt::Bad(FrameError::Truncated);
@@ -171,6 +172,7 @@ pub fn app_records_end(buf: &[u8], c: Cursor, count: u32) -> End
 
 pub fn app_records_from(buf: &[u8], c: Cursor) -> RunAt
     ensures { λ r. ⌜ resRun appRecord (now (buf .entry)) r ≡ appRecords (drop (c .at) (now (buf .entry))) ⌝ }
+    ensures { λ r. ⌜ RunIn appRecord (now (buf .entry)) r ⌝ }
 {
     let Word32::Got(count, d) = scan::count_from(buf, c, 6) else {
         return RunAt::Bad(FrameError::Truncated);
@@ -187,6 +189,7 @@ pub fn app_records_from(buf: &[u8], c: Cursor) -> RunAt
 // A key whose first three texts are none of a key's: a fault of the fourth goes before the key's.
 fn no_session(suffix: SpanAt) -> SessionAt
     ensures { λ r. ⌜ ((b : List ℕ) → resSession b r ≡ noKey (resSpan b suffix)) ⌝ }
+    ensures { λ r. ⌜ ((b : List ℕ) → KeyIn b r) ⌝ }
 {
     match suffix {
         SpanAt::Bad(e) => SessionAt::Bad(e),
@@ -197,6 +200,7 @@ fn no_session(suffix: SpanAt) -> SessionAt
 // The four texts of a key, which is judged after all of them.
 pub fn session_from(buf: &[u8], c: Cursor) -> SessionAt
     ensures { λ r. ⌜ resSession (now (buf .entry)) r ≡ key (drop (c .at) (now (buf .entry))) ⌝ }
+    ensures { λ r. ⌜ KeyIn (now (buf .entry)) r ⌝ }
 {
     match scan::judged_from(buf, c, 1, 32) {
         JudgedAt::Bad(e) => SessionAt::Bad(e),
@@ -244,6 +248,7 @@ fn flight(n: u64) -> InFlight
 
 pub fn summary_from(p: Protocol, buf: &[u8], c: Cursor) -> SummaryAt
     ensures { λ r. ⌜ resSummary (now (buf .entry)) r ≡ summary (p .version) (drop (c .at) (now (buf .entry))) ⌝ }
+    ensures { λ r. ⌜ SummaryIn (now (buf .entry)) r ⌝ }
 {
     let Word64::Got(next_outgoing, d) = scan::u64_from(buf, c) else {
         return SummaryAt::Bad(FrameError::Truncated);

@@ -1,8 +1,8 @@
 -- What the code's answers stand for: a value and what is left of the buffer b, or a fault. Assumes nothing.
-use Prim.Native.Nat.{ℕ}
+use Prim.Native.Nat.{ℕ, _+_, _≤_}
 use mathlib.Core.Path.{_≡_}
 use mathlib.Core.List.{List}
-use lib.ListN.{take, drop}
+use lib.ListN.{length, take, drop}
 use Rattle.model_text.specs.Printable.{isPrintable}
 use Rattle.model_frame.specs.Frame as the-frame
 use Rattle.model_frame.specs.Frame.{Fault, tooLong, truncated, unknown, badText, badSession, badTimestamp, badMarks}
@@ -76,3 +76,22 @@ resJudged b (JudgedAt.Bad e) = bad (faultOf e)
 abbrev pub Judged : ℕ → ℕ → List ℕ → JudgedAt → Type 0
 Judged lo hi b (JudgedAt.Got p plain c) = plain ≡ isPrintable lo hi (spanOf b p)
 Judged lo hi b (JudgedAt.Bad e) = Unit {0}
+
+-- ---- where an answer lies
+
+-- the cursor behind a number lies in the buffer
+abbrev pub Within32 : List ℕ → Word32 → Type 0
+Within32 b (Word32.Got v c) = c .at ≤ length b
+Within32 b Word32.Short = Unit {0}
+
+-- a span lies in the buffer, so none of its bytes is cut off
+abbrev pub Lies : List ℕ → Span → Type 0
+Lies b p = p .at + p .len ≤ length b
+
+abbrev pub SpanIn : List ℕ → SpanAt → Type 0
+SpanIn b (SpanAt.Got p c) = Lies b p
+SpanIn b (SpanAt.Bad e) = Unit {0}
+
+abbrev pub JudgedIn : List ℕ → JudgedAt → Type 0
+JudgedIn b (JudgedAt.Got p plain c) = Lies b p
+JudgedIn b (JudgedAt.Bad e) = Unit {0}

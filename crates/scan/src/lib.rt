@@ -8,7 +8,7 @@ ghost use Rattle.model_text.specs.Stamp.{takesStamp};
 ghost use Rattle.model_frame.specs.Frame.{badText};
 ghost use Rattle.model_frame.specs.Parse.{ok, bad, isEmpty, num, blob, text, count};
 ghost use Rattle.model_frame.specs.Reading.{stamp, stampOrNone, marks};
-ghost use Rattle.scan.specs.Answers.{invalidOf, spanOf, res8, res16, res32, res64, resSpan, resJudged, Judged};
+ghost use Rattle.scan.specs.Answers.{invalidOf, spanOf, res8, res16, res32, res64, resSpan, resJudged, Judged, Within32, Lies, SpanIn, JudgedIn};
 use stamp::Protocol;
 
 #[repr(C)]
@@ -108,6 +108,7 @@ pub fn u16_from(buf: &[u8], c: Cursor) -> Word16
 
 pub fn u32_from(buf: &[u8], c: Cursor) -> Word32
     ensures { λ r. ⌜ res32 (now (buf .entry)) r ≡ num 4 (drop (c .at) (now (buf .entry))) ⌝ }
+    ensures { λ r. ⌜ Within32 (now (buf .entry)) r ⌝ }
 {
     if left(buf, c) < 4 {
         return Word32::Short;
@@ -129,6 +130,7 @@ pub fn u64_from(buf: &[u8], c: Cursor) -> Word64
 // A blob, as the part of the buffer where its bytes stand: they are not looked at.
 pub fn blob_from(buf: &[u8], c: Cursor) -> SpanAt
     ensures { λ r. ⌜ resSpan (now (buf .entry)) r ≡ blob (drop (c .at) (now (buf .entry))) ⌝ }
+    ensures { λ r. ⌜ SpanIn (now (buf .entry)) r ⌝ }
 {
     let Word32::Got(n, d) = u32_from(buf, c) else {
         return SpanAt::Bad(FrameError::Truncated);
@@ -164,6 +166,7 @@ pub fn slice(buf: &[u8], p: Span) -> &[u8]
 
 pub fn text_from(buf: &[u8], c: Cursor) -> SpanAt
     ensures { λ r. ⌜ resSpan (now (buf .entry)) r ≡ text (drop (c .at) (now (buf .entry))) ⌝ }
+    ensures { λ r. ⌜ SpanIn (now (buf .entry)) r ⌝ }
 {
     match blob_from(buf, c) {
         SpanAt::Bad(e) => SpanAt::Bad(e),
@@ -180,6 +183,7 @@ pub fn text_from(buf: &[u8], c: Cursor) -> SpanAt
 // A text that was judged by a rule which only UTF-8 meets: where it breaks the rule, whether it is UTF-8 decides the fault.
 fn kept(buf: &[u8], s: Span, d: Cursor, fine: bool, v: Value) -> SpanAt
     ensures { λ r. ⌜ resSpan (now (buf .entry)) r ≡ cond fine (ok (spanOf (now (buf .entry)) s) (drop (d .at) (now (buf .entry)))) (bad (cond (utf8 (spanOf (now (buf .entry)) s)) (invalidOf v) badText)) ⌝ }
+    ensures { λ r. ⌜ (Lies (now (buf .entry)) s → SpanIn (now (buf .entry)) r) ⌝ }
 {
     if fine {
         return SpanAt::Got(s, d);
@@ -193,6 +197,7 @@ fn kept(buf: &[u8], s: Span, d: Cursor, fine: bool, v: Value) -> SpanAt
 
 pub fn stamp_from(p: Protocol, buf: &[u8], c: Cursor) -> SpanAt
     ensures { λ r. ⌜ resSpan (now (buf .entry)) r ≡ stamp (p .version) (drop (c .at) (now (buf .entry))) ⌝ }
+    ensures { λ r. ⌜ SpanIn (now (buf .entry)) r ⌝ }
 {
     match blob_from(buf, c) {
         SpanAt::Bad(e) => SpanAt::Bad(e),
@@ -215,6 +220,7 @@ pub fn is_stamp_or_none(p: Protocol, s: &[u8]) -> bool
 
 pub fn stamp_or_none_from(p: Protocol, buf: &[u8], c: Cursor) -> SpanAt
     ensures { λ r. ⌜ resSpan (now (buf .entry)) r ≡ stampOrNone (p .version) (drop (c .at) (now (buf .entry))) ⌝ }
+    ensures { λ r. ⌜ SpanIn (now (buf .entry)) r ⌝ }
 {
     match blob_from(buf, c) {
         SpanAt::Bad(e) => SpanAt::Bad(e),
@@ -227,6 +233,7 @@ pub fn stamp_or_none_from(p: Protocol, buf: &[u8], c: Cursor) -> SpanAt
 
 pub fn marks_from(buf: &[u8], c: Cursor) -> SpanAt
     ensures { λ r. ⌜ resSpan (now (buf .entry)) r ≡ marks (drop (c .at) (now (buf .entry))) ⌝ }
+    ensures { λ r. ⌜ SpanIn (now (buf .entry)) r ⌝ }
 {
     match blob_from(buf, c) {
         SpanAt::Bad(e) => SpanAt::Bad(e),
@@ -241,6 +248,7 @@ pub fn marks_from(buf: &[u8], c: Cursor) -> SpanAt
 pub fn judged_from(buf: &[u8], c: Cursor, lo: usize, hi: usize) -> JudgedAt
     ensures { λ r. ⌜ resJudged (now (buf .entry)) r ≡ text (drop (c .at) (now (buf .entry))) ⌝ }
     ensures { λ r. ⌜ Judged lo hi (now (buf .entry)) r ⌝ }
+    ensures { λ r. ⌜ JudgedIn (now (buf .entry)) r ⌝ }
 {
     match blob_from(buf, c) {
         SpanAt::Bad(e) => JudgedAt::Bad(e),

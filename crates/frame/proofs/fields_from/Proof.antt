@@ -8,7 +8,7 @@ returns : tie.Need-returns
 unfolding fields
 returns c =
     let c1 = c .before .before in
-    rw (← (c1 .u8-from .ensures), c .enum-told .given .1)
+    (rw (← (c1 .u8-from .ensures), c .enum-told .given .1), tt)
 
 returns-2 : tie.Need-returns-2
 unfolding fields
@@ -16,7 +16,7 @@ returns-2 c =
     let c1 = c .before in
     let c2 = c1 .before .before in
     let c3 = c2 .before .before in
-    rw (← (c3 .u8-from .ensures), c2 .k .given .1, c1 .match2 .keys1) (c .hello-from .ensures _)
+    (rw (← (c3 .u8-from .ensures), c2 .k .given .1, c1 .match2 .keys1) (c .hello-from .ensures .0 _), c .hello-from .ensures .1 _)
 
 returns-3 : tie.Need-returns-3
 unfolding fields
@@ -24,7 +24,7 @@ returns-3 c =
     let c1 = c .before in
     let c2 = c1 .before .before in
     let c3 = c2 .before .before in
-    rw (← (c3 .u8-from .ensures), c2 .k .given .1, c1 .match2 .keys2) (c .welcome-from .ensures _)
+    (rw (← (c3 .u8-from .ensures), c2 .k .given .1, c1 .match2 .keys2) (c .welcome-from .ensures .0 _), c .welcome-from .ensures .1 _)
 
 returns-4 : tie.Need-returns-4
 unfolding fields
@@ -32,7 +32,7 @@ returns-4 c =
     let c1 = c .before in
     let c2 = c1 .before .before in
     let c3 = c2 .before .before in
-    rw (← (c3 .u8-from .ensures), c2 .k .given .1, c1 .match2 .keys3) (c .bind-from .ensures _)
+    (rw (← (c3 .u8-from .ensures), c2 .k .given .1, c1 .match2 .keys3) (c .bind-from .ensures .0 _), c .bind-from .ensures .1 _)
 
 returns-5 : tie.Need-returns-5
 unfolding fields
@@ -40,7 +40,7 @@ returns-5 c =
     let c1 = c .before in
     let c2 = c1 .before .before in
     let c3 = c2 .before .before in
-    rw (← (c3 .u8-from .ensures), c2 .k .given .1, c1 .match2 .keys4, ← (c .batch-from .ensures))
+    (rw (← (c3 .u8-from .ensures), c2 .k .given .1, c1 .match2 .keys4, ← (c .batch-from .ensures .0)), c .batch-from .ensures .1)
 
 returns-6 : tie.Need-returns-6
 unfolding fields
@@ -48,7 +48,7 @@ returns-6 c =
     let c1 = c .before in
     let c2 = c1 .before .before in
     let c3 = c2 .before .before in
-    rw (← (c3 .u8-from .ensures), c2 .k .given .1, c1 .match2 .keys5) (c .ack-from .ensures _)
+    (rw (← (c3 .u8-from .ensures), c2 .k .given .1, c1 .match2 .keys5) (c .ack-from .ensures .0 _), c .ack-from .ensures .1 _)
 
 returns-7 : tie.Need-returns-7
 unfolding fields
@@ -56,7 +56,7 @@ returns-7 c =
     let c1 = c .before in
     let c2 = c1 .before .before in
     let c3 = c2 .before .before in
-    rw (← (c3 .u8-from .ensures), c2 .k .given .1, c1 .match2 .keys6) (c .nack-from .ensures _)
+    (rw (← (c3 .u8-from .ensures), c2 .k .given .1, c1 .match2 .keys6) (c .nack-from .ensures .0 _), c .nack-from .ensures .1 _)
 
 returns-8 : tie.Need-returns-8
 unfolding fields
@@ -64,7 +64,7 @@ returns-8 c =
     let c1 = c .before in
     let c2 = c1 .before .before in
     let c3 = c2 .before .before in
-    rw (← (c3 .u8-from .ensures), c2 .k .given .1, c1 .match2 .keys7) (c .bound-from .ensures _)
+    (rw (← (c3 .u8-from .ensures), c2 .k .given .1, c1 .match2 .keys7) (c .bound-from .ensures .0 _), c .bound-from .ensures .1 _)
 
 returns-9 : tie.Need-returns-9
 unfolding fields
@@ -72,14 +72,14 @@ returns-9 c =
     let c1 = c .before in
     let c2 = c1 .before .before in
     let c3 = c2 .before .before in
-    rw (← (c3 .u8-from .ensures), c2 .k .given .1, c1 .match2 .keys8) (c .checked-from .ensures _)
+    (rw (← (c3 .u8-from .ensures), c2 .k .given .1, c1 .match2 .keys8) (c .checked-from .ensures .0 _), c .checked-from .ensures .1 _)
 
 returns-10 : tie.Need-returns-10
 unfolding fields
 returns-10 c =
     let c1 = c .before .before in
     let c2 = c1 .before .before in
-    rw (← (c2 .u8-from .ensures), c1 .k .given .1, ne-eqb _ _ (c .match2 .rest .0 .0 .0 .0 .0 .0 .0 .1), ne-eqb _ _ (c .match2 .rest .0 .0 .0 .0 .0 .0 .1), ne-eqb _ _ (c .match2 .rest .0 .0 .0 .0 .0 .1), ne-eqb _ _ (c .match2 .rest .0 .0 .0 .0 .1), ne-eqb _ _ (c .match2 .rest .0 .0 .0 .1), ne-eqb _ _ (c .match2 .rest .0 .0 .1), ne-eqb _ _ (c .match2 .rest .0 .1), ne-eqb _ _ (c .match2 .rest .1))
+    (rw (← (c2 .u8-from .ensures), c1 .k .given .1, ne-eqb _ _ (c .match2 .rest .0 .0 .0 .0 .0 .0 .0 .1), ne-eqb _ _ (c .match2 .rest .0 .0 .0 .0 .0 .0 .1), ne-eqb _ _ (c .match2 .rest .0 .0 .0 .0 .0 .1), ne-eqb _ _ (c .match2 .rest .0 .0 .0 .0 .1), ne-eqb _ _ (c .match2 .rest .0 .0 .0 .1), ne-eqb _ _ (c .match2 .rest .0 .0 .1), ne-eqb _ _ (c .match2 .rest .0 .1), ne-eqb _ _ (c .match2 .rest .1)), tt)
 
 pub fields-from-spec : {M : Type 1} → statement M
 fields-from-spec =

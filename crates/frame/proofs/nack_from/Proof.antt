@@ -1,4 +1,5 @@
 use borrow.Author.Needs.{needs}
+use mathlib.Core.Path.{refl}
 use Rattle.model_frame.specs.Reading.{nackFields}
 use Rattle.frame.proofs.nack_from.Statement.{statement}
 use Rattle.frame.proofs.nack_from.Tie as tie
@@ -7,7 +8,7 @@ returns : tie.Need-returns
 unfolding nackFields
 returns c =
     let c1 = c .before .before in
-    λ v. rw (← (c1 .u32-from .ensures), c .enum-told .given .1)
+    ((λ v. rw (← (c1 .u32-from .ensures .0), c .enum-told .given .1)), λ v. tt)
 
 returns-2 : tie.Need-returns-2
 unfolding nackFields
@@ -16,7 +17,7 @@ returns-2 c =
     let c2 = c1 .before .before in
     let c3 = c2 .before .before in
     let c4 = c3 .before .before in
-    λ v. rw (← (c4 .u32-from .ensures), c3 .handle .given .1, ← (c2 .reason-from .ensures), c1 .e .given .1)
+    ((λ v. rw (← (c4 .u32-from .ensures .0), c3 .handle .given .1, ← (c2 .reason-from .ensures), c1 .e .given .1)), λ v. tt)
 
 returns-3 : tie.Need-returns-3
 unfolding nackFields
@@ -25,7 +26,7 @@ returns-3 c =
     let c2 = c1 .before .before in
     let c3 = c2 .before .before in
     let c4 = c3 .before .before in
-    λ v. rw (← (c4 .u32-from .ensures), c3 .handle .given .1, ← (c2 .reason-from .ensures), c1 .reason .given .1)
+    ((λ v. rw (← (c4 .u32-from .ensures .0), c3 .handle .given .1, ← (c2 .reason-from .ensures), c1 .reason .given .1)), λ v. refl)
 
 pub nack-from-spec : {M : Type 1} → statement M
 nack-from-spec =

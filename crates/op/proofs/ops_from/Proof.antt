@@ -10,7 +10,7 @@ returns : tie.Need-returns
 unfolding changes
 returns c =
     let c1 = c .before .before in
-    rw (← (c1 .count-from .ensures), c .enum-told .given .1)
+    (rw (← (c1 .count-from .ensures), c .enum-told .given .1), tt)
 
 returns-2 : tie.Need-returns-2
 unfolding changes
@@ -19,8 +19,7 @@ returns-2 c =
     let c2 = c1 .before .before in
     let c3 = c2 .before .before in
     let c4 = c3 .before .before in
-    rw (← (c4 .count-from .ensures), c3 .count .given .1)
-    (run-fault _ (sym (ap (resEnd _) (c1 .e .given .1)) ∙ c2 .ops-end .ensures))
+    (rw (← (c4 .count-from .ensures), c3 .count .given .1) (run-fault _ (sym (ap (resEnd _) (c1 .e .given .1)) ∙ c2 .ops-end .ensures)), tt)
 
 returns-3 : tie.Need-returns-3
 unfolding changes
@@ -29,8 +28,8 @@ returns-3 c =
     let c2 = c1 .before .before in
     let c3 = c2 .before .before in
     let c4 = c3 .before .before in
-    rw (← (c4 .count-from .ensures), c3 .count .given .1)
-    (run-items _ _ _ (sym (ap (resEnd _) (c1 .end .given .1)) ∙ c2 .ops-end .ensures))
+    let run = run-items _ _ _ (sym (ap (resEnd _) (c1 .end .given .1)) ∙ c2 .ops-end .ensures) in
+    (rw (← (c4 .count-from .ensures), c3 .count .given .1) run, sym run)
 
 pub ops-from-spec : {M : Type 1} → statement M
 ops-from-spec =

@@ -16,7 +16,7 @@ returns-2 c =
     let c2 = c1 .before .before in
     let c3 = c2 .before .before in
     let c4 = c3 .before .before in
-    rw (← (c4 .u64-from .ensures), c3 .seq .given .1, ← (c2 .blob-from .ensures), c1 .e .given .1)
+    rw (← (c4 .u64-from .ensures), c3 .seq .given .1, ← (c2 .blob-from .ensures .0), c1 .e .given .1)
 
 returns-3 : tie.Need-returns-3
 unfolding recordMsgFields
@@ -25,7 +25,7 @@ returns-3 c =
     let c2 = c1 .before .before in
     let c3 = c2 .before .before in
     let c4 = c3 .before .before in
-    rw (← (c4 .u64-from .ensures), c3 .seq .given .1, ← (c2 .blob-from .ensures), c1 .msg .given .1)
+    rw (← (c4 .u64-from .ensures), c3 .seq .given .1, ← (c2 .blob-from .ensures .0), c1 .msg .given .1)
 
 pub record-spec : {M : Type 1} → statement M
 record-spec =

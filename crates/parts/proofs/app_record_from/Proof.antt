@@ -16,7 +16,7 @@ returns-2 c =
     let c2 = c1 .before .before in
     let c3 = c2 .before .before in
     let c4 = c3 .before .before in
-    rw (← (c4 .u16-from .ensures), c3 .kind .given .1, ← (c2 .blob-from .ensures), c1 .e .given .1)
+    rw (← (c4 .u16-from .ensures), c3 .kind .given .1, ← (c2 .blob-from .ensures .0), c1 .e .given .1)
 
 returns-3 : tie.Need-returns-3
 unfolding appRecord
@@ -25,7 +25,7 @@ returns-3 c =
     let c2 = c1 .before .before in
     let c3 = c2 .before .before in
     let c4 = c3 .before .before in
-    rw (← (c4 .u16-from .ensures), c3 .kind .given .1, ← (c2 .blob-from .ensures), c1 .bytes .given .1)
+    rw (← (c4 .u16-from .ensures), c3 .kind .given .1, ← (c2 .blob-from .ensures .0), c1 .bytes .given .1)
 
 pub app-record-from-spec : {M : Type 1} → statement M
 app-record-from-spec =

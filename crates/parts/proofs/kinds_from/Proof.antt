@@ -1,10 +1,10 @@
 use borrow.Author.Needs.{needs}
 use mathlib.Core.Path.{sym, ap, _∙_}
-use Prim.Native.Nat.{_*_, _≤_}
+use Prim.Native.Nat.{_+_, _*_, _≤_}
 use denote.Ref.{now}
 use lib.ListN.{length, drop, length-drop}
 use lib.Seq.{drop-drop}
-use Rattle.model_frame.specs.Parse.{count}
+use Rattle.model_frame.specs.Parse.{num, count}
 use Rattle.model_frame.specs.Reading.{kinds}
 use Rattle.scan.specs.Answers.{res32}
 use Rattle.laws.proofs.Runs.{numbers-end, count-room, run-items}
@@ -13,7 +13,7 @@ use Rattle.parts.proofs.kinds_from.Tie as tie
 
 returns : tie.Need-returns
 unfolding kinds
-returns c = rw (← (c .before .before .count-from .ensures), c .enum-told .given .1)
+returns c = (rw (← (c .before .before .count-from .ensures), c .enum-told .given .1), tt)
 
 -- what is left has room for the kinds
 room : (c : tie.After-known-told) → c .before .count .given .0 .0 * 2 ≤ length (drop (c .before .count .given .0 .1 .0 .at) (now (c .before .before .before .before .before .args .buf)))
@@ -32,8 +32,8 @@ returns-2 c =
     let at = g .count .given .0 .1 .0 .at in
     let n = g .count .given .0 .0 in
     let b = now (c .before .before .before .before .before .args .buf) in
-    rw (← (g .before .before .count-from .ensures), g .count .given .1)
-    (run-items _ _ _ (rw (← drop-drop (n * 2) at b) (sym (numbers-end 2 n (drop at b) (room c)))))
+    let run = run-items (num 2) n (drop at b) {t = drop (at + n * 2) b} (rw (← drop-drop (n * 2) at b) (sym (numbers-end 2 n (drop at b) (room c)))) in
+    (rw (← (g .before .before .count-from .ensures), g .count .given .1) run, sym run)
 
 pub kinds-from-spec : {M : Type 1} → statement M
 kinds-from-spec =

@@ -1,4 +1,5 @@
 use borrow.Author.Needs.{needs}
+use native.Mathlib.Omega.{arith}
 use Rattle.model_frame.specs.Parse.{blob}
 use Rattle.laws.proofs.Places.{bytes-short, bytes-got}
 use Rattle.scan.proofs.blob_from.Statement.{statement}
@@ -6,19 +7,20 @@ use Rattle.scan.proofs.blob_from.Tie as tie
 
 returns : tie.Need-returns
 unfolding blob
-returns c = rw (← (c .before .before .u32-from .ensures), c .enum-told .given .1)
+returns c = (rw (← (c .before .before .u32-from .ensures .0), c .enum-told .given .1), tt)
 
 returns-2 : tie.Need-returns-2
 unfolding blob
 returns-2 c =
     let r = c .before .before .before in
-    rw (← (r .before .before .u32-from .ensures), r .n .given .1, bytes-short _ _ _ (c .before .left .ensures) (c .if1 .taken))
+    (rw (← (r .before .before .u32-from .ensures .0), r .n .given .1, bytes-short _ _ _ (c .before .left .ensures) (c .if1 .taken)), tt)
 
 returns-3 : tie.Need-returns-3
 unfolding blob
 returns-3 c =
     let r = c .before .before .before in
-    rw (← (r .before .before .u32-from .ensures), r .n .given .1, bytes-got _ _ _ (c .before .left .ensures) (c .if1 .left))
+    let within = rw (r .n .given .1) at (r .before .before .u32-from .ensures .1) in
+    (rw (← (r .before .before .u32-from .ensures .0), r .n .given .1, bytes-got _ _ _ (c .before .left .ensures) (c .if1 .left)), omega (arith, within, c .before .left .ensures, c .if1 .left))
 
 pub blob-from-spec : {M : Type 1} → statement M
 blob-from-spec =

@@ -4,15 +4,15 @@ use Rattle.scan.proofs.kept.Tie as tie
 
 returns : tie.Need-returns
 returns c =
-    rw (c .if1 .taken)
+    (rw (c .if1 .taken), λ h. h)
 
 returns-2 : tie.Need-returns-2
 returns-2 c =
-    rw (c .before .before .before .if1 .left, ← (c .before .before .slice .ensures), ← (c .before .is-utf8 .ensures), c .if2 .taken)
+    (rw (c .before .before .before .if1 .left, ← (c .before .before .slice .ensures), ← (c .before .is-utf8 .ensures), c .if2 .taken), λ h. tt)
 
 returns-3 : tie.Need-returns-3
 returns-3 c =
-    rw (c .before .before .before .if1 .left, ← (c .before .before .slice .ensures), ← (c .before .is-utf8 .ensures), c .if2 .left)
+    (rw (c .before .before .before .if1 .left, ← (c .before .before .slice .ensures), ← (c .before .is-utf8 .ensures), c .if2 .left), λ h. tt)
 
 pub kept-spec : {M : Type 1} → statement M
 kept-spec = tie.close (tie.spec returns (λ c κs. search needs) (λ c κs. search needs) returns-2 returns-3)

@@ -63,7 +63,7 @@ leaves-requires-3 c κs = search needs
 
 -- src/lib.rt:85:17
 returns : tie.Need-returns
-returns c = damaged-left (c .before .before .before .before .before .before .before .before .before .before .before .args .s) (c .before .before .before .before .before .before .before .before .before .before .before .args .c) (c .before .before .before .before .before .before .before .before .before .before .before .args .seen) (now (c .before .before .before .before .before .before .before .before .before .before .before .args .frame)) (now (c .before .before .before .before .before .before .before .before .before .before .before .args .words)) (now (c .before .before .before .before .before .before .before .before .before .before .before .args .bytes)) (now (c .before .before .before .before .before .before .before .before .before .before .before .args .holds)) (c .before .before .before .before .before .before .before .before .before .before .before .pre .0) 26 (given-short (now (c .before .before .before .before .before .before .before .before .before .before .before .args .frame)) (c .before .before .before .before .before .before .decode .ensures) (c .before .before .before .before .f .given .1) (c .before .before .if1 .taken)) refl (c .leaves3 .ensures) (c .before .refused3 .ensures)
+returns c = damaged-left (c .before .before .before .before .before .before .before .before .before .before .before .args .s) (c .before .before .before .before .before .before .before .before .before .before .before .args .c) (c .before .before .before .before .before .before .before .before .before .before .before .args .seen) (now (c .before .before .before .before .before .before .before .before .before .before .before .args .frame)) (now (c .before .before .before .before .before .before .before .before .before .before .before .args .words)) (now (c .before .before .before .before .before .before .before .before .before .before .before .args .bytes)) (now (c .before .before .before .before .before .before .before .before .before .before .before .args .holds)) (c .before .before .before .before .before .before .before .before .before .before .before .pre .0) 26 (given-short (now (c .before .before .before .before .before .before .before .before .before .before .before .args .frame)) (c .before .before .before .before .before .before .decode .ensures .0) (c .before .before .before .before .f .given .1) (c .before .before .if1 .taken)) refl (c .leaves3 .ensures) (c .before .refused3 .ensures)
 
 -- src/lib.rt:88:49
 refused-requires-4 : tie.Need-refused-requires-4
@@ -75,19 +75,19 @@ leaves-requires-4 c κs = search needs
 
 -- src/lib.rt:88:17
 returns-2 : tie.Need-returns-2
-returns-2 c = promoted-left (c .before .before .before .before .before .before .before .before .before .before .before .before .args .s) (c .before .before .before .before .before .before .before .before .before .before .before .before .args .c) (c .before .before .before .before .before .before .before .before .before .before .before .before .args .seen) (now (c .before .before .before .before .before .before .before .before .before .before .before .before .args .frame)) (now (c .before .before .before .before .before .before .before .before .before .before .before .before .args .words)) (now (c .before .before .before .before .before .before .before .before .before .before .before .before .args .bytes)) (now (c .before .before .before .before .before .before .before .before .before .before .before .before .args .holds)) (c .before .before .before .before .before .before .before .before .before .before .before .before .pre .0) _ (given-whole (now (c .before .before .before .before .before .before .before .before .before .before .before .before .args .frame)) (c .before .before .before .before .before .before .before .decode .ensures) (c .before .before .before .before .before .f .given .1) (c .before .before .before .if1 .left)) (c .before .before .if2 .taken) (c .leaves4 .ensures) (c .before .refused4 .ensures)
+returns-2 c = promoted-left (c .before .before .before .before .before .before .before .before .before .before .before .before .args .s) (c .before .before .before .before .before .before .before .before .before .before .before .before .args .c) (c .before .before .before .before .before .before .before .before .before .before .before .before .args .seen) (now (c .before .before .before .before .before .before .before .before .before .before .before .before .args .frame)) (now (c .before .before .before .before .before .before .before .before .before .before .before .before .args .words)) (now (c .before .before .before .before .before .before .before .before .before .before .before .before .args .bytes)) (now (c .before .before .before .before .before .before .before .before .before .before .before .before .args .holds)) (c .before .before .before .before .before .before .before .before .before .before .before .before .pre .0) _ (given-whole (now (c .before .before .before .before .before .before .before .before .before .before .before .before .args .frame)) (c .before .before .before .before .before .before .before .decode .ensures .0) (c .before .before .before .before .before .f .given .1) (c .before .before .before .if1 .left)) (c .before .before .if2 .taken) (c .leaves4 .ensures) (c .before .refused4 .ensures)
 
 -- src/lib.rt:90:13
 intact-requires : tie.Need-intact-requires
-intact-requires c κs = (c .before .before .before .before .before .before .before .before .before .before .before .before .before .pre .0, (c .before .before .before .before .before .before .before .before .before .before .before .before .before .pre .1, read-writable (now (c .before .before .before .before .before .before .before .before .before .before .before .before .before .args .frame)) (c .before .before .before .before .before .before .before .before .decode .ensures) (c .before .before .before .before .before .before .f .given .1) (are-bytes (now (c .before .before .before .before .before .before .before .before .before .before .before .before .before .args .frame)) (λ i. c .before .before .before .before .before .before .before .before .before .shared-slice-known .given i .fits)) (c .before .before .before .before .if1 .left)))
+intact-requires c κs = (c .before .before .before .before .before .before .before .before .before .before .before .before .before .pre .0, (c .before .before .before .before .before .before .before .before .before .before .before .before .before .pre .1, read-writable (now (c .before .before .before .before .before .before .before .before .before .before .before .before .before .args .frame)) (c .before .before .before .before .before .before .before .before .decode .ensures .0) (c .before .before .before .before .before .before .f .given .1) (are-bytes (now (c .before .before .before .before .before .before .before .before .before .before .before .before .before .args .frame)) (λ i. c .before .before .before .before .before .before .before .before .before .shared-slice-known .given i .fits)) (c .before .before .before .before .if1 .left)))
 
 -- src/lib.rt:67:1
 returns-3 : tie.Need-returns-3
-returns-3 c = damaged-left (c .before .before .before .before .before .before .before .before .before .before .before .args .s) (c .before .before .before .before .before .before .before .before .before .before .before .args .c) (c .before .before .before .before .before .before .before .before .before .before .before .args .seen) (now (c .before .before .before .before .before .before .before .before .before .before .before .args .frame)) (now (c .before .before .before .before .before .before .before .before .before .before .before .args .words)) (now (c .before .before .before .before .before .before .before .before .before .before .before .args .bytes)) (now (c .before .before .before .before .before .before .before .before .before .before .before .args .holds)) (c .before .before .before .before .before .before .before .before .before .before .before .pre .0) _ (given-bad (now (c .before .before .before .before .before .before .before .before .before .before .before .args .frame)) (c .before .before .before .before .before .before .decode .ensures) (c .before .before .before .before .e .given .1)) (number-some (faultOf (c .before .before .before .before .e .given .0 .0))) (c .leaves .ensures) (c .before .refused .ensures ∙ ap isRefused (c .before .before .number .ensures))
+returns-3 c = damaged-left (c .before .before .before .before .before .before .before .before .before .before .before .args .s) (c .before .before .before .before .before .before .before .before .before .before .before .args .c) (c .before .before .before .before .before .before .before .before .before .before .before .args .seen) (now (c .before .before .before .before .before .before .before .before .before .before .before .args .frame)) (now (c .before .before .before .before .before .before .before .before .before .before .before .args .words)) (now (c .before .before .before .before .before .before .before .before .before .before .before .args .bytes)) (now (c .before .before .before .before .before .before .before .before .before .before .before .args .holds)) (c .before .before .before .before .before .before .before .before .before .before .before .pre .0) _ (given-bad (now (c .before .before .before .before .before .before .before .before .before .before .before .args .frame)) (c .before .before .before .before .before .before .decode .ensures .0) (c .before .before .before .before .e .given .1)) (number-some (faultOf (c .before .before .before .before .e .given .0 .0))) (c .leaves .ensures) (c .before .refused .ensures ∙ ap isRefused (c .before .before .number .ensures))
 
 -- src/lib.rt:67:1
 returns-4 : tie.Need-returns-4
-returns-4 c = damaged-left (c .before .before .before .before .before .before .before .before .before .args .s) (c .before .before .before .before .before .before .before .before .before .args .c) (c .before .before .before .before .before .before .before .before .before .args .seen) (now (c .before .before .before .before .before .before .before .before .before .args .frame)) (now (c .before .before .before .before .before .before .before .before .before .args .words)) (now (c .before .before .before .before .before .before .before .before .before .args .bytes)) (now (c .before .before .before .before .before .before .before .before .before .args .holds)) (c .before .before .before .before .before .before .before .before .before .pre .0) 26 (given-more (now (c .before .before .before .before .before .before .before .before .before .args .frame)) (c .before .before .before .before .decode .ensures) (c .before .before .enum-told .given .1)) refl (c .leaves2 .ensures) (c .before .refused2 .ensures)
+returns-4 c = damaged-left (c .before .before .before .before .before .before .before .before .before .args .s) (c .before .before .before .before .before .before .before .before .before .args .c) (c .before .before .before .before .before .before .before .before .before .args .seen) (now (c .before .before .before .before .before .before .before .before .before .args .frame)) (now (c .before .before .before .before .before .before .before .before .before .args .words)) (now (c .before .before .before .before .before .before .before .before .before .args .bytes)) (now (c .before .before .before .before .before .before .before .before .before .args .holds)) (c .before .before .before .before .before .before .before .before .before .pre .0) 26 (given-more (now (c .before .before .before .before .before .before .before .before .before .args .frame)) (c .before .before .before .before .decode .ensures .0) (c .before .before .enum-told .given .1)) refl (c .leaves2 .ensures) (c .before .refused2 .ensures)
 
 -- src/lib.rt:67:1
 same-length : tie.Need-same-length
@@ -103,7 +103,7 @@ same-length-3 c = search needs
 
 -- src/lib.rt:67:1
 returns-5 : tie.Need-returns-5
-returns-5 c = intact-taken (c .before .before .before .before .before .before .before .before .before .before .before .before .before .before .before .before .before .before .before .before .args .s) (c .before .before .before .before .before .before .before .before .before .before .before .before .before .before .before .before .before .before .before .before .args .c) (c .before .before .before .before .before .before .before .before .before .before .before .before .before .before .before .before .before .before .before .before .args .seen) (now (c .before .before .before .before .before .before .before .before .before .before .before .before .before .before .before .before .before .before .before .before .args .frame)) (now (c .before .before .before .before .before .before .before .before .before .before .before .before .before .before .before .before .before .before .before .before .args .words)) (now (c .before .before .before .before .before .before .before .before .before .before .before .before .before .before .before .before .before .before .before .before .args .bytes)) (now (c .before .before .before .before .before .before .before .before .before .before .before .before .before .before .before .before .before .before .before .before .args .holds)) (c .before .before .before .before .before .before .before .before .before .before .before .before .before .before .before .before .before .before .before .before .pre .0) _ (given-whole (now (c .before .before .before .before .before .before .before .before .before .before .before .before .before .before .before .before .before .before .before .before .args .frame)) (c .before .before .before .before .before .before .before .before .before .before .before .before .before .before .before .decode .ensures) (c .before .before .before .before .before .before .before .before .before .before .before .before .before .f .given .1) (c .before .before .before .before .before .before .before .before .before .before .before .if1 .left)) (c .before .before .before .before .before .before .before .before .before .before .if2 .left) (c .before .before .before .before .before .before .intact .ensures)
+returns-5 c = intact-taken (c .before .before .before .before .before .before .before .before .before .before .before .before .before .before .before .before .before .before .before .before .args .s) (c .before .before .before .before .before .before .before .before .before .before .before .before .before .before .before .before .before .before .before .before .args .c) (c .before .before .before .before .before .before .before .before .before .before .before .before .before .before .before .before .before .before .before .before .args .seen) (now (c .before .before .before .before .before .before .before .before .before .before .before .before .before .before .before .before .before .before .before .before .args .frame)) (now (c .before .before .before .before .before .before .before .before .before .before .before .before .before .before .before .before .before .before .before .before .args .words)) (now (c .before .before .before .before .before .before .before .before .before .before .before .before .before .before .before .before .before .before .before .before .args .bytes)) (now (c .before .before .before .before .before .before .before .before .before .before .before .before .before .before .before .before .before .before .before .before .args .holds)) (c .before .before .before .before .before .before .before .before .before .before .before .before .before .before .before .before .before .before .before .before .pre .0) _ (given-whole (now (c .before .before .before .before .before .before .before .before .before .before .before .before .before .before .before .before .before .before .before .before .args .frame)) (c .before .before .before .before .before .before .before .before .before .before .before .before .before .before .before .decode .ensures .0) (c .before .before .before .before .before .before .before .before .before .before .before .before .before .f .given .1) (c .before .before .before .before .before .before .before .before .before .before .before .if1 .left)) (c .before .before .before .before .before .before .before .before .before .before .if2 .left) (c .before .before .before .before .before .before .intact .ensures)
 
 pub taken-spec : {M : Type 1} → statement M
 taken-spec =
