@@ -1,20 +1,19 @@
 -- What the exported functions return, from what the functions that they call promise. Assumes nothing.
 use mathlib.Core.Path.{_≡_, refl, sym, ap, subst, _∙_}
-use mathlib.Core.Bool.{Bool, true, false}
+use mathlib.Core.Bool.{cond}
 use mathlib.Core.List.{List}
 use mathlib.Core.Option.{Option, some}
 use Prim.Native.Nat.{ℕ, _+_, _-_, _*_, _^_, _<_, _≤_}
-use native.Mathlib.Nat.{sub-zero}
 use borrow.Author.Tests.{lt-ltb, le-ltb, eq-eqb, ne-eqb}
-use lib.Dec.{T}
+use lib.Dec.{T, ltb}
 use lib.ListN.{length, take}
+use lib.Seq.{length-take-le}
 use Rattle.laws.proofs.Little.{write-none}
 use Rattle.model_frame.specs.Bytes.{isBytes}
 use Rattle.model_frame.specs.Frame.{Frame, number}
 use Rattle.model_frame.specs.Frame as the-frame
-use Rattle.model_frame.specs.Reading.{maxBody, decode}
-use Rattle.model_frame.specs.Writing.{bodyBytes, Writable}
-use Rattle.model_frame.proofs.Sound.{Accepted, decode-sound}
+use Rattle.model_frame.specs.Reading.{decode}
+use Rattle.model_frame.specs.Writing.{encode}
 use Rattle.model.specs.Answer as the-answer
 use Rattle.scan.specs.declared.FrameError.{FrameError}
 use Rattle.scan.specs.declared.Field.{Field}
@@ -22,11 +21,13 @@ use Rattle.scan.specs.declared.Value
 use Rattle.scan.specs.declared.Value.{Value}
 use Rattle.scan.specs.Answers.{fieldOf, invalidOf, faultOf}
 use Rattle.print.specs.declared.Written.{Written}
-use Rattle.print.specs.Encoding.{Outcome, given, outcome, answerOf, areaAfter, writtenOf, Encoded}
+use Rattle.print.specs.Encoding.{Outcome, wrote, refused, outcome, answerOf, areaAfter, writtenOf, Encoded}
 use Rattle.frame.specs.declared.Decoded
 use Rattle.frame.specs.declared.Decoded.{Decoded}
 use Rattle.frame.specs.declared.Frame as code-frame
-use Rattle.frame.specs.Answers.{frameOf, readingOf, readable, frameIn}
+use Rattle.frame.specs.Answers.{frameOf, readingOf, frameIn, StandsIn}
+use Rattle.frame.proofs.Again as twice
+use Rattle.frame.proofs.Again.{read-again}
 use Rattle.areas.specs.declared.Shape.{Shape}
 use Rattle.areas.specs.declared.Made.{Made}
 use Rattle.areas.specs.declared.Made.the-variants.{Ready, Unfit}
@@ -72,43 +73,33 @@ pub taken-as : (used : ℕ) {w x : Written} {r : ℕ} → w ≡ x → r ≡ take
 taken-as used p q = q ∙ ap (λ (y : Written). takenCode used (writtenOf y)) (sym p)
 
 pub again-is :
-    (used : ℕ) (s : List ℕ) (f : code-frame.Frame) {out out' : List ℕ} {x : Written} {r : ℕ} → Encoded 1 (frameIn 1 (take (used - 0) s) f) out out' x → r ≡ takenCode used (writtenOf x)
-    → Again used (outcome 1 (frameIn 1 (take used s) f) (length out)) out out' r
-again-is used s f {out} {out'} {x} w q =
-    let v : Encoded 1 (frameIn 1 (take used s) f) out out' x = subst (λ (k : ℕ). Encoded 1 (frameIn 1 (take k s) f) out out' x) (sub-zero used) w in
-    record { answer = q ∙ ap (takenCode used) (v .answer); area = v .area }
-
--- what can be written is refused for its room only
-room-only : (f : Frame) (room : ℕ) (t : Bool) → Writable 1 f → outcome 1 (given t f) room ≡ rewritten t f room
-unfolding outcome
-room-only f room true w = rw (w .texts, le-ltb maxBody (length (bodyBytes f)) (w .short)) refl
-room-only f room false w = refl
+    (used : ℕ) {g : Option Frame} {out out' : List ℕ} {x : Written} {r : ℕ} → Encoded 1 g out out' x → r ≡ takenCode used (writtenOf x) → Again used (outcome 1 g (length out)) out out' r
+again-is used v q = record { answer = q ∙ ap (takenCode used) (v .answer); area = v .area }
 
 module _ (w : List ℕ) {d : Decoded} (read : readingOf 1 w d ≡ decode 1 w) where
   by-reading : {x : Decoded} {out out' : List ℕ} {r : ℕ} → d ≡ x → Rewrites (readingOf 1 w x) out out' r → Rewrites (decode 1 w) out out' r
   by-reading {x} {out} {out'} {r} p h = subst (λ (y : the-frame.Decoded). Rewrites y out out' r) (ap (readingOf 1 w) (sym p) ∙ read) h
 
   pub again-more : {out : List ℕ} → d ≡ Decoded.More → Rewrites (decode 1 w) out out 0
-  again-more p = by-reading p (record { held = true; answer = refl; area = refl })
+  again-more p = by-reading p (record { answer = refl; area = refl })
 
   pub again-bad : {e : FrameError} {out : List ℕ} {r : ℕ} → d ≡ Decoded.Bad e → r ≡ faultCode (faultOf e) → Rewrites (decode 1 w) out out r
-  again-bad p q = by-reading p (record { held = true; answer = q; area = refl })
+  again-bad p q = by-reading p (record { answer = q; area = refl })
 
-  module _ {f : code-frame.Frame} {used : ℕ} (p : d ≡ Decoded.Whole f used) (bytes : T (isBytes w)) where
-    accepted : Accepted 1 w (frameOf 1 (take used w) f) used
-    accepted = decode-sound 1 w bytes (sym read ∙ ap (readingOf 1 w) p)
-
-    pub again-room : used ≤ length w
-    again-room = accepted .within
-
-    pub again-whole : {out out' : List ℕ} {r : ℕ} → Again used (outcome 1 (frameIn 1 (take used w) f) (length out)) out out' r → Rewrites (decode 1 w) out out' r
-    again-whole {out} h =
-        let only = room-only (frameOf 1 (take used w) f) (length out) (readable 1 (take used w) f) (accepted .writable) in
-        by-reading p (record {
-          held = readable 1 (take used w) f;
-          answer = h .answer ∙ ap (λ (o : Outcome). takenCode used (answerOf o)) only;
-          area = h .area ∙ ap (λ (o : Outcome). areaAfter o out) only;
-        })
+  -- what was read is written again, byte for byte
+  pub again-whole :
+      {f : code-frame.Frame} {used : ℕ} {out out' : List ℕ} {r : ℕ} → d ≡ Decoded.Whole f used → T (isBytes w) → StandsIn 1 w d → Again used (outcome 1 (frameIn 1 w f) (length out)) out out' r
+      → Rewrites (decode 1 w) out out' r
+  again-whole {f} {used} {out} p bytes stands h =
+      let g : Frame = frameOf 1 (take used w) f in
+      let whole : readingOf 1 w (Decoded.Whole f used) ≡ decode 1 w = subst (λ (y : Decoded). readingOf 1 w y ≡ decode 1 w) p read in
+      let a : twice.Again 1 w f g used = read-again 1 w bytes (sym whole) whole (subst (StandsIn 1 w) p stands) in
+      let size : length (encode g) ≡ used = ap length (a .bytes) ∙ length-take-le used w (a .within) in
+      let only : outcome 1 (frameIn 1 w f) (length out) ≡ rewritten g (length out) = a .result (length out) ∙ ap (λ (k : ℕ). cond (ltb (length out) k) (refused 9) (wrote (encode g))) (sym size) in
+      by-reading p (record {
+        answer = h .answer ∙ ap (λ (o : Outcome). takenCode used (answerOf o)) only;
+        area = h .area ∙ ap (λ (o : Outcome). areaAfter o out) only;
+      })
 
 -- ---- making
 

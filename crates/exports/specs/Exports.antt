@@ -22,27 +22,24 @@ pub record Again (used : ℕ) (o : Outcome) (out out' : List ℕ) (r : ℕ) : Ty
   pub answer : r ≡ takenCode used (answerOf o)
   pub area : out' ≡ areaAfter o out
 
--- 8 where the parts that reading gave aren't held by the bytes; 9 where the area is too short; else the frame's bytes
-abbrev pub rewritten : Bool → Frame → ℕ → Outcome
-rewritten held f room = cond held (cond (ltb room (length (encode f))) (refused 9) (wrote (encode f))) (refused 8)
+-- 9 where the area is too short; else the frame's bytes
+abbrev pub rewritten : Frame → ℕ → Outcome
+rewritten f room = cond (ltb room (length (encode f))) (refused 9) (wrote (encode f))
 
 -- 0 where more is needed, a fault, or the bytes taken and written again
-abbrev pub frameCode : Bool → Decoded → ℕ → ℕ
-frameCode held more room = 0
-frameCode held (faulty e) room = faultCode e
-frameCode held (got f used) room = takenCode used (answerOf (rewritten held f room))
+abbrev pub frameCode : Decoded → ℕ → ℕ
+frameCode more room = 0
+frameCode (faulty e) room = faultCode e
+frameCode (got f used) room = takenCode used (answerOf (rewritten f room))
 
--- the area: the frame at its start, or all of it as it was
-abbrev pub frameArea : Bool → Decoded → List ℕ → List ℕ
-frameArea held more out = out
-frameArea held (faulty e) out = out
-frameArea held (got f used) out = areaAfter (rewritten held f (length out)) out
+abbrev pub frameArea : Decoded → List ℕ → List ℕ
+frameArea more out = out
+frameArea (faulty e) out = out
+frameArea (got f used) out = areaAfter (rewritten f (length out)) out
 
--- what wz_frame promises; that the bytes hold the parts is not promised by reading, so 8 is not excluded. 1 is
 pub record Rewrites (d : Decoded) (out out' : List ℕ) (r : ℕ) : Type 0 where
-  pub held : Bool
-  pub answer : r ≡ frameCode held d (length out)
-  pub area : out' ≡ frameArea held d out
+  pub answer : r ≡ frameCode d (length out)
+  pub area : out' ≡ frameArea d out
 
 -- ---- making a store
 

@@ -126,10 +126,9 @@ fn taken(w: Written, used: usize) -> u64
 
 // A frame that was read from src, written again; `used` is how many bytes it took.
 fn again(f: Frame, used: usize, src: &[u8], out: &mut [u8]) -> u64
-    requires { ⌜ used ≤ length (now src) ⌝ }
-    ensures { λ r. ⌜ Again used (outcome 1 (frameIn 1 (take used (now (src .entry))) f) (length (now (out .entry)))) (now (out .entry)) (now (out .exit)) r ⌝ }
+    ensures { λ r. ⌜ Again used (outcome 1 (frameIn 1 (now (src .entry)) f) (length (now (out .entry)))) (now (out .entry)) (now (out .exit)) r ⌝ }
 {
-    taken(f.encode(Protocol { version: 1 }, &src[0..used], out), used)
+    taken(f.encode(Protocol { version: 1 }, src, out), used)
 }
 
 // Reads one frame and writes it again.

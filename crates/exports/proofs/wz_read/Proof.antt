@@ -6,13 +6,13 @@ use Rattle.exports.proofs.wz_read.Statement.{statement}
 use Rattle.exports.proofs.wz_read.Tie as tie
 
 returns : tie.Need-returns
-returns c = read-as (now (c .before .before .before .before .args .frame)) (c .before .before .decode .ensures) (c .enum-told .given .1) refl
+returns c = read-as (now (c .before .before .before .before .args .frame)) (c .before .before .decode .ensures .0) (c .enum-told .given .1) refl
 
 returns-2 : tie.Need-returns-2
-returns-2 c = read-as (now (c .before .before .before .before .before .before .args .frame)) (c .before .before .before .before .decode .ensures) (c .before .before .e .given .1) (c .fault .ensures)
+returns-2 c = read-as (now (c .before .before .before .before .before .before .args .frame)) (c .before .before .before .before .decode .ensures .0) (c .before .before .e .given .1) (c .fault .ensures)
 
 returns-3 : tie.Need-returns-3
-returns-3 c = read-as (now (c .before .before .before .before .before .before .args .frame)) (c .before .before .before .before .decode .ensures) (c .before .before .used .given .1) (c .done .ensures)
+returns-3 c = read-as (now (c .before .before .before .before .before .before .args .frame)) (c .before .before .before .before .decode .ensures .0) (c .before .before .used .given .1) (c .done .ensures)
 
 pub wz-read-spec : {M : Type 1} → statement M
 wz-read-spec =

@@ -12,7 +12,7 @@ returns-7 : tie.Need-returns-7
 returns-7 c = λ version.
     let b = now (c .before .before .before .before .before .before .before .before .before .before .before .before .before .before .before .before .before .args .buf) in
     record-there version _ (sym (c .before .before .before .before .before .before .before .before .before .before .before .before .before .before .before .u8-from .ensures) ∙ ap (res8 b) (c .before .before .before .before .before .before .before .before .before .before .before .before .before .k .given .1)) (c .before .before .before .if1 .left) (sym (c .before .before .before .before .before .before .before .before .before .before .before .u64-from .ensures) ∙ ap (res64 b) (c .before .before .before .before .before .before .before .before .before .d .given .1))
-    (sym (c .before .before .before .before .before .before .before .u32-from .ensures) ∙ ap (res32 b) (c .before .before .before .before .before .n .given .1)) (c .before .before .if2 .left) (bytes-got (c .before .before .before .before .before .before .before .before .before .before .before .before .before .before .before .before .before .args .len) b _ (c .before .left .ensures) (omega (arith, c .if3 .left)))
+    (sym (c .before .before .before .before .before .before .before .u32-from .ensures .0) ∙ ap (res32 b) (c .before .before .before .before .before .n .given .1)) (c .before .before .if2 .left) (bytes-got (c .before .before .before .before .before .before .before .before .before .before .before .before .before .before .before .before .before .args .len) b _ (c .before .left .ensures) (omega (arith, c .if3 .left)))
 
 pub past-record-spec : {M : Type 1} → statement M
 past-record-spec =
