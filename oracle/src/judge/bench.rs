@@ -193,21 +193,25 @@ fn binding() -> Row {
     timed("Bind with lag 64, messages of 200", 10_000, || by_us(&mut us, &bind), || by_rust(&mut rust, &bind, &mut out))
 }
 
-/// A full session of messages of this length, sent whole and taken by a standby: both, the sending, the taking; and how
-/// many bytes went.
-fn sending(length: usize) -> ([Row; 3], usize) {
+/// A full session of messages of these lengths in turn, sent whole and taken by a standby: both, the sending, the taking;
+/// and how many bytes went.
+fn sending(lengths: std::ops::RangeInclusive<usize>) -> ([Row; 3], usize) {
     const MESSAGES: u64 = 65_536;
     let setting = setting(1, 33_554_432, MESSAGES, 0);
     let mut pair = Pair::new(&setting);
-    let mut commit = Commit::new(length);
-    (1..=MESSAGES).for_each(|number| pair.both(commit.of(0, number)));
+    let mut commits: Vec<Commit> = lengths.clone().map(Commit::new).collect();
+    let turns = commits.len() as u64;
+    // By steps of 37, so that lengths that follow each other differ.
+    (1..=MESSAGES).for_each(|number| pair.both(commits[(number * 37 % turns) as usize].of(0, number)));
     let Pair { mut us, rust: mut theirs, .. } = pair;
+    let of =
+        if turns == 1 { format!("{}", lengths.start()) } else { format!("{} to {}", lengths.start(), lengths.end()) };
     let Pair { us: mut our_standby, rust: mut their_standby, mut out } = Pair::new(&setting);
     let [begin, sender, target, _] = key(0).map(|text| String::from_utf8(text).expect("ASCII"));
     let id = SessionId::from_key(begin, sender, target, "").expect("a key");
     let bind = wire::bind(0, 0, 0, &key(0));
     let (mut area, mut frame) = (vec![0; 2 << 20], Vec::new());
-    let row = |what| Row { name: format!("{MESSAGES} messages of {length}{what}"), ours: f64::MAX, rust: f64::MAX };
+    let row = |what| Row { name: format!("{MESSAGES} messages of {of}{what}"), ours: f64::MAX, rust: f64::MAX };
     let [mut both, mut sent, mut taken] =
         ["sent whole into a standby", "the sending alone", "the taking alone"].map(|what| row(format!(": {what}")));
     let mut bytes = 0;
@@ -309,8 +313,8 @@ fn calls() {
 }
 
 pub fn sendings() {
-    for length in [300, 512] {
-        let (rows, sent) = sending(length);
+    for lengths in [300..=300, 512..=512, 200..=399] {
+        let (rows, sent) = sending(lengths);
         rows.iter().for_each(print);
         let copy = copying(sent);
         let (ours, rust) = (rows[0].ours / copy, rows[0].rust / copy);
