@@ -1,4 +1,4 @@
-"""Writes `crates/row/proofs/Calls.antt`: a call rule for each function over a row. Run: python3 tools/calls.py, then rt fmt."""
+"""Writes `crates/standby_row/proofs/Calls.antt`: a call rule for each function over a row. Run: python3 tools/calls.py, then rt fmt."""
 from walk import ROOT, nest
 
 TYPES = {'w32': ('u32', '32'), 'w64': ('usize', '64')}
@@ -41,14 +41,14 @@ use denote.Steps.{owned, nothing}
 use denote.Triple.Spec.{tripleOf}
 use denote.Triple.Statement.{Contract, Triple}
 use denote.Triple.Clauses.{ensured, lasts}
-use Rattle.row.specs.declared.Handle.{Handle}
-use Rattle.row.specs.Row.{none, findOf, freeFor, brokenOf, clearedFrom, clearedAll, seenOf}
-use Rattle.row.proofs.Lent.{at, Shared, Unique, calls-shared, calls-unique, told-shared, told-unique}
-use Rattle.row.proofs.Rows.{R, vals, val, tells, makes}
-use Rattle.row.proofs.Records.{R-Seen, val-Seen, vals-Seen, tells-Seen}
+use Rattle.standby_row.specs.declared.Handle.{Handle}
+use Rattle.standby_row.specs.Row.{none, findOf, freeFor, brokenOf, clearedFrom, clearedAll, seenOf}
+use Rattle.standby_row.proofs.Lent.{at, Shared, Unique, calls-shared, calls-unique, told-shared, told-unique}
+use Rattle.standby_row.proofs.Rows.{R, vals, val, tells, makes}
+use Rattle.standby_row.proofs.Records.{R-Seen, val-Seen, vals-Seen, tells-Seen}
 '''
 for f in fns:
-    out += f'use Rattle.row.proofs.{f} as {name(f)}\nuse Rattle.row.proofs.{f}.Symbol.{{name as #row·{name(f)}}}\n'
+    out += f'use Rattle.standby_row.proofs.{f} as {name(f)}\nuse Rattle.standby_row.proofs.{f}.Symbol.{{name as #standby_row·{name(f)}}}\n'
 out += '\nmodule _ {M : Type 1} (𝓤 : URA M) (H : Heap 𝓤) (A : Atoms 𝓤) (memory : Memory → SProp 𝓤) (run : Routine → Fun 𝓤) where\n'
 out += '\n'.join(f'  abbrev pub {contract(f)} : Contract 𝓤\n  {contract(f)} = tripleOf 𝓤 H A {name(f)}.signature ({name(f)}.spec 𝓤 H A memory run)\n' for f in fns)
 out += '\nmodule _ {M : Type 1} {𝓤 : URA M} {H : Heap 𝓤} {A : Atoms 𝓤} {K : Type 0} {W : Given 𝓤 H A} {Γ : List (Item 𝓤)} {E : Env 𝓤 H} {C : Calls 𝓤 H} {Λ : Loops 𝓤 H} {q : Post 𝓤 H} {d : Place} {rest : Body} {xs : List Operand} where\n'
@@ -86,9 +86,9 @@ def rule(f, nums, record, gives, mutable):
         lead = f'calls-shared R b o t fm {c} known to {v} ({phi}) ys room'
     land = f'Seq K W (‵ (row R fullShare {after} b o) ∷ Γ) (lands C Λ E d {v} rest q)'
     return f'''
-  pub calls-{n} : K → FmC 𝓤 H (W .laws) C → (memory : Memory → SProp 𝓤) (run : Routine → Fun 𝓤) → Triple 𝓤 (C #row·{n}) {c} → (ys : List Handle) (b o{ks} : ℕ){' (h : Handle)' if record else ''} → Room R (length ys){facts}
+  pub calls-{n} : K → FmC 𝓤 H (W .laws) C → (memory : Memory → SProp 𝓤) (run : Routine → Fun 𝓤) → Triple 𝓤 (C #standby_row·{n}) {c} → (ys : List Handle) (b o{ks} : ℕ){' (h : Handle)' if record else ''} → Room R (length ys){facts}
       → ((j : Item 𝓤) → Opds K W (j ∷ Γ) E xs (sliceVal (b, o) (length ys){machine} ∷ [])) → {f'({then}{land})' if then else land}
-      → Seq K W (‵ (row R fullShare ys b o) ∷ Γ) (runs C Λ E (seq (call #row·{n} xs d) rest) q)
+      → Seq K W (‵ (row R fullShare ys b o) ∷ Γ) (runs C Λ E (seq (call #standby_row·{n} xs d) rest) q)
   calls-{n} t fm memory run known ys b o{ks}{' h' if record else ''} room{given} ops go = {lead} goes told (λ α γ j. ops j) {go}
     where
       to : ℕ → GName → {c[1:-1]} .Ghost
@@ -106,4 +106,4 @@ def rule(f, nums, record, gives, mutable):
 
 out += ''.join(rule(f, nums, False, gives, False) for f, nums, gives in READS)[1:]
 out += ''.join(rule(f, nums, rec, gives, True) for f, nums, rec, gives in WRITES)
-open(ROOT + '/crates/row/proofs/Calls.antt', 'w').write(out)
+open(ROOT + '/crates/standby_row/proofs/Calls.antt', 'w').write(out)

@@ -1,4 +1,4 @@
-"""Writes the walk of an entry point: straight-line code over a `&mut` record, the lent row of handles, plain slices and values, that calls `row`'s functions,
+"""Writes the walk of an entry point: straight-line code over a `&mut` record, the lent row of handles, plain slices and values, that calls `standby_row`'s functions,
 covered readers of one plain slice, and one covered core. It reads the statements of `rt mir`, and the contracts of the readers and of the core from the sources.
 It writes a by-value maker too: a function that lends a record and an array of handles of its own to an entry point (which is then its core), and gives them back in a struct.
 
@@ -207,7 +207,7 @@ for step, st in enumerate(statements(body), 1):
     elif st[0] == 'call':
         name, xs, d = st[1][1][1], items(st[2]), int(st[3][1])
         f = name.split('::')[-1]
-        if name.startswith('row::') and (f in READS or f in WRITES):
+        if name.startswith('standby_row::') and (f in READS or f in WRITES):
             vs = [value(x) for x in xs[1:]]
             known.append(name) if name not in known else None
             w.front('row')
@@ -492,29 +492,29 @@ SAYS = sys.argv[4] if len(sys.argv) > 4 else '(p .1)' if clents else f'(x .0, (p
 me = dash(fn)
 mine_ = 'this'                                       # the function's own modules: its core may have its name
 Y = f'(({nest([p.k for p in refs])}, {nest([p.q for p in refs])}, tt, x-all, at-all), tt)'
-own_structs = [s for s in structs if not s.startswith('row::') or crate == 'row']
+own_structs = [s for s in structs if not s.startswith('standby_row::') or crate == 'standby_row']
 facade = lambda c, kind: f'Rattle.{c}.{kind}' if c == crate else f'Rattle.{c}.{kind}'
 uses = []
 for s in structs:
     c, n = s.split('::')[0], s.split('::')[-1]
     uses += [f'use {facade(c, "specs")}.declared.{n}.{{{n}}}', f'use {facade(c, "proofs")}.{n} as {n}-type', f'use {facade(c, "proofs")}.{n}.Laws as {n}-laws']
-    if s == 'row::Handle':
-        uses.append(f'use {facade("row", "proofs")}.Rows.{{R as R-Handle, val as val-Handle, vals as vals-Handle, tells as tells-Handle, makes as makes-Handle}}')
+    if s == 'standby_row::Handle':
+        uses.append(f'use {facade("standby_row", "proofs")}.Rows.{{R as R-Handle, val as val-Handle, vals as vals-Handle, tells as tells-Handle, makes as makes-Handle}}')
     else:
-        uses.append(f'use {facade(c if c == "row" else crate, "proofs")}.Records.{{{", ".join(f"{k}-{n}" for k in ("R", "val", "vals", "tells", "makes"))}}}')
-rowfns = [f for f in known if f.startswith('row::')]
-uses.append('use Rattle.row.specs.Row.{none, findOf, freeFor, brokenOf, clearedFrom, clearedAll, seenOf}')
-uses.append('use Rattle.row.proofs.Lists.{cleared-length}')
-uses.append('use Rattle.row.proofs.Locals.{filled, empty, stack, frees-stack}')
-uses.append('use Rattle.row.proofs.Lent.{at, Shared, calls-with, calls-peek, calls-handed, told-shared}')
+        uses.append(f'use {facade(c if c == "standby_row" else crate, "proofs")}.Records.{{{", ".join(f"{k}-{n}" for k in ("R", "val", "vals", "tells", "makes"))}}}')
+rowfns = [f for f in known if f.startswith('standby_row::')]
+uses.append('use Rattle.standby_row.specs.Row.{none, findOf, freeFor, brokenOf, clearedFrom, clearedAll, seenOf}')
+uses.append('use Rattle.standby_row.proofs.Lists.{cleared-length}')
+uses.append('use Rattle.standby_row.proofs.Locals.{filled, empty, stack, frees-stack}')
+uses.append('use Rattle.standby_row.proofs.Lent.{at, Shared, calls-with, calls-peek, calls-handed, told-shared}')
 if clents:
     uses += ['use denote.Array.{Array, array-vals, array-tells, array-makes, array-lawful}', 'use denote.Signature.Array.{arrayOf}', 'use mir.Syntax.{tyArray}', 'use mir.Val.{vstruct, ofList}', 'use base.Fml.{fres}',
-             'use Rattle.row.proofs.Makers.{rowVal, row-field, LentRecord, LentRow, calls-lending}']
+             'use Rattle.standby_row.proofs.Makers.{rowVal, row-field, LentRecord, LentRow, calls-lending}']
 if rowfns:
-    uses.append('use Rattle.row.proofs.Calls.{' + ', '.join(x for f in rowfns for x in (camel(f), f'calls-{dash(f)}')) + '}')
+    uses.append('use Rattle.standby_row.proofs.Calls.{' + ', '.join(x for f in rowfns for x in (camel(f), f'calls-{dash(f)}')) + '}')
 ghosts = []                                          # of the names that the contracts' files bring, those that occur
 spoken = set(re.findall(r"[^\s(){},]+", csaid + ' '.join(defs)))
-for c in dict.fromkeys(f.split('::')[0] for f in known if not f.startswith('row::')):
+for c in dict.fromkeys(f.split('::')[0] for f in known if not f.startswith('standby_row::')):
     for m, xs in re.findall(r'ghost use (Rattle·[^{]*)\.\{([^}]*)\};', source(c)):
         xs = [x.strip() for x in xs.split(',') if x.strip().split(' as ')[-1] in spoken]
         m = m if c == crate else m.replace(f'Rattle.{c}.specs', f'Rattle.{c}.specs')
@@ -524,7 +524,7 @@ ghosts += [f'use {u}' for u in sys.argv[5:]]
 for name in known:
     c, n = name.split('::')[0], name.split('::')[-1]
     pre = facade(c, 'proofs')
-    if not name.startswith('row::'):
+    if not name.startswith('standby_row::'):
         uses.append(f'use {pre}.{n} as {dash(n)}')
     uses += [f'use {pre}.{n}.Symbol as {dash(n)}-def', f'use {pre}.{n}.Symbol.{{name as #{c}·{dash(n)}}}', f'use {pre}.{n}.Met as {dash(n)}-thm']
 mine = facade(crate, 'proofs')
@@ -532,7 +532,7 @@ uses += [f'use {mine}.{fn}.Key.{{name as #{crate}·{me}}}', f'use {mine}.{fn} as
 symbol = lambda f: f'#{f.split("::")[0]}·{dash(f)}'
 knowns = lambda C: ' '.join(f'(known-{dash(f)} : Triple 𝓤 ({C} {symbol(f)}) ({camel(f)} 𝓤 H A memory run))' for f in known)
 cited = '\n'.join(f'    (cited 𝓤 H ({camel(f)} 𝓤 H (𝓖 .A) (𝓜 .mem) (𝓡 .run)) 𝓜 𝓡 code.env {symbol(f)} {dash(f)}-def.routine code.calls-{f.split("::")[0].replace("_", "-")}·{dash(f)} ({dash(f)}-thm.met 𝓤 H 𝓜 𝓖 𝓡))' for f in known)
-contracts = '\n\n'.join(f'  abbrev {camel(f)} : Contract 𝓤\n  {camel(f)} = tripleOf 𝓤 H A {dash(f)}.signature ({dash(f)}.spec 𝓤 H A memory run)' for f in known if not f.startswith('row::'))
+contracts = '\n\n'.join(f'  abbrev {camel(f)} : Contract 𝓤\n  {camel(f)} = tripleOf 𝓤 H A {dash(f)}.signature ({dash(f)}.spec 𝓤 H A memory run)' for f in known if not f.startswith('standby_row::'))
 
 
 def slot(p):

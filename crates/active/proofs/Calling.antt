@@ -14,9 +14,9 @@ use Rattle.model_frame.specs.Writing.{encode}
 use Rattle.model_session.specs.Session.{Session, top}
 use Rattle.model_session.specs.Sender.{Sender, newSender, cutFrom, sendNext, cannotSend}
 use Rattle.model_session.specs.Whole.{wholeBatches}
-use Rattle.batch.specs.declared.Written.the-variants.{Batch, TooShort}
-use Rattle.batch.specs.Batch.{frameFrom, onward, WroteBatch}
-use Rattle.areas.specs.declared.Shape.{Shape}
+use Rattle.active_batch.specs.declared.Written.the-variants.{Batch, TooShort}
+use Rattle.active_batch.specs.Batch.{frameFrom, onward, WroteBatch}
+use Rattle.store_areas.specs.declared.Shape.{Shape}
 use Rattle.active.specs.declared.Sending.{Sending}
 use Rattle.active.specs.declared.Sent.{Sent}
 use Rattle.active.specs.declared.Sent

@@ -20,9 +20,9 @@ use Rattle.model_session.specs.Whole.{wholeBatches, wholeFrames, framesOf}
 use Rattle.model_session.proofs.Basics.{none≢some, some-inj, true≢false, each-right, each-map}
 use Rattle.model_session.proofs.Sender.{sends-whole}
 use Rattle.model_session.proofs.Sending.{batch-sizes}
-use Rattle.laws.proofs.Little.{write-is}
-use Rattle.log.proofs.Lawful.{Small}
-use Rattle.areas.specs.declared.Shape.{Shape}
+use Rattle.base_laws.proofs.Little.{write-is}
+use Rattle.store_log.proofs.Lawful.{Small}
+use Rattle.store_areas.specs.declared.Shape.{Shape}
 use Rattle.active.specs.declared.Sending.{Sending}
 use Rattle.active.specs.declared.Begun.{Begun}
 use Rattle.active.specs.declared.Begun

@@ -12,10 +12,10 @@ use Rattle.model_frame.specs.Writing.{encode}
 use Rattle.model_session.specs.Session.{Session, top}
 use Rattle.model_session.specs.Sender.{Sender, newSender, sendNext, cannotSend}
 use Rattle.model_session.specs.Whole.{wholeFrames}
-use Rattle.model.specs.Store.{sessionAt}
-use Rattle.areas.specs.declared.Shape.{Shape}
-use Rattle.areas.specs.Areas.{allowed, placesOf}
-use Rattle.batch.specs.Batch.{onward}
+use Rattle.model_standby.specs.Store.{sessionAt}
+use Rattle.store_areas.specs.declared.Shape.{Shape}
+use Rattle.store_areas.specs.Areas.{allowed, placesOf}
+use Rattle.active_batch.specs.Batch.{onward}
 use Rattle.active.specs.declared.Sending.{Sending}
 use Rattle.active.specs.declared.Begun.{Begun}
 use Rattle.active.specs.declared.Begun

@@ -3,13 +3,13 @@ ghost use mathlib.Core.Path.{_≡_};
 ghost use Prim.Native.Nat.{ℕ, _≤_, _<_};
 ghost use lib.ListN.{length, getD};
 ghost use Rattle.model_session.specs.Whole.{batchLimit, wholeBatches};
-ghost use Rattle.areas.specs.Areas.{Rules, placeAt};
-ghost use Rattle.batch.specs.Batch.{WroteBatch};
+ghost use Rattle.store_areas.specs.Areas.{Rules, placeAt};
+ghost use Rattle.active_batch.specs.Batch.{WroteBatch};
 ghost use Rattle.active.specs.Whole.{storedAt, startOf, startFrom, SendsWhole};
-use areas::Shape;
-use batch::Written;
+use active_batch::Written;
 use frame::CommitNumber;
 use frame::Epoch;
+use store_areas::Shape;
 
 // A sending: the session's place, the handle, the epoch, the last commit number, the number that it goes on from (0 at first),
 // and whether it is done.
@@ -45,13 +45,13 @@ fn batches_at(words: &[u64], bytes: &[u8], shape: Shape, i: usize, limit: u64) -
     ensures is { λ r. ⌜ r ≡ length (wholeBatches limit (placeAt shape (now (words .entry)) (now (bytes .entry)) i .stored .session)) ⌝ }
     ensures few { λ r. ⌜ r ≤ 33554433 ⌝ }
 {
-    let p = areas::spot_in(words, bytes, shape, i);
+    let p = store_areas::spot_in(words, bytes, shape, i);
     let wa = p.wa;
     let we = p.we;
     let ba = p.ba;
     let be = p.be;
     let max = shape.messages as usize;
-    batch::batches(&words[wa..we], &bytes[ba..be], max, limit)
+    active_batch::batches(&words[wa..we], &bytes[ba..be], max, limit)
 }
 
 // Writes the frame of the batch that begins at a number, of the session at place i.
@@ -71,7 +71,7 @@ fn send_at(
     requires { ⌜ i < getD (now words) 0 0 ⌝ }
     ensures { λ r. ⌜ WroteBatch limit (placeAt shape (now (words .entry)) (now (bytes .entry)) i .stored .session) handle (epoch .0) (number .0) from (now (out .entry)) (now (out .exit)) r ⌝ }
 {
-    let p = areas::spot_in(words, bytes, shape, i);
+    let p = store_areas::spot_in(words, bytes, shape, i);
     let wa = p.wa;
     let we = p.we;
     let ba = p.ba;
@@ -79,7 +79,7 @@ fn send_at(
     let max = shape.messages as usize;
     let w = &words[wa..we];
     let b = &bytes[ba..be];
-    batch::send(w, b, max, from, limit, handle, epoch, number, out)
+    active_batch::send(w, b, max, from, limit, handle, epoch, number, out)
 }
 
 impl Sending {
@@ -98,7 +98,7 @@ impl Sending {
     ) -> Begun
         ensures { λ r. ⌜ startOf r ≡ startFrom batchLimit (storedAt shape (now (words .entry)) (now (bytes .entry)) place) place handle (epoch .0) (last .0) ⌝ }
     {
-        if areas::in_use(words, bytes, shape, place) {
+        if store_areas::in_use(words, bytes, shape, place) {
             let count = batches_at(words, bytes, shape, place, Self::BATCH_BYTES);
             if u64::MAX - last.0 < count as u64 {
                 return Begun::NumbersPast;
@@ -123,7 +123,7 @@ impl Sending {
         let handle = self.handle;
         let epoch = self.epoch;
         let limit = Self::BATCH_BYTES;
-        if areas::in_use(words, bytes, shape, place) {
+        if store_areas::in_use(words, bytes, shape, place) {
             if self.done {
                 return Sent::Done;
             }

@@ -11,12 +11,12 @@ use Rattle.model_frame.specs.Writing.{changeBytes, sizes, partNumber, bodyBytes
 use Rattle.model_frame.proofs.Le.{length-bytes}
 use Rattle.model_frame.proofs.Runs.{run-append, sizes-append}
 use Rattle.model_frame.proofs.Sizes.{body-size, encode-size}
-use Rattle.laws.specs.Wrote.{Wrote}
-use Rattle.laws.proofs.Little.{write-on}
-use Rattle.laws.proofs.Writes.{wrote-on}
-use Rattle.whole.proofs.Putting.{byte-one}
-use Rattle.header.specs.Ends.{Spans}
-use Rattle.batch.specs.Batch.{headBytes}
+use Rattle.base_laws.specs.Wrote.{Wrote}
+use Rattle.base_laws.proofs.Little.{write-on}
+use Rattle.base_laws.proofs.Writes.{wrote-on}
+use Rattle.active_messages.proofs.Putting.{byte-one}
+use Rattle.active_header.specs.Ends.{Spans}
+use Rattle.active_batch.specs.Batch.{headBytes}
 
 pub wrote-head : (l : List ℕ) (size h e n part count : ℕ) {l₁ l₂ l₃ l₄ l₅ l₆ l₇ : List ℕ} → l₁ ≡ write l 0 (bytesOf 4 (30 + size)) → l₂ ≡ write l₁ 4 (bytesOf 1 4) → l₃ ≡ write l₂ 5 (bytesOf 4 h)
     → l₄ ≡ write l₃ 9 (bytesOf 8 e) → l₅ ≡ write l₄ 17 (bytesOf 8 n) → l₆ ≡ write l₅ 25 (bytesOf 1 part) → l₇ ≡ write l₆ 26 (bytesOf 4 count) → l₇ ≡ write l 0 (headBytes size h e n part count)

@@ -12,14 +12,14 @@ use Rattle.model_frame.proofs.Runs.{sizes-append}
 use Rattle.model_session.specs.Session.{Session, Msg, Rising}
 use Rattle.model_session.specs.Summary.{numberedFrom}
 use Rattle.model_session.specs.Sender.{opening, cutBatch, cutFrom, messagesFrom}
-use Rattle.log.specs.Log.{logOf, restOf, From}
-use Rattle.whole.specs.Cut.{taken, ends, goesFrom, Measured}
-use Rattle.whole.proofs.Counting.{rest-length}
-use Rattle.whole.proofs.Cutting.{cut-is, from-same}
-use Rattle.header.specs.declared.Header.{Header}
-use Rattle.batch.specs.declared.Plan.{Plan}
-use Rattle.header.specs.Ends.{Spans, openingOf, endingOf}
-use Rattle.batch.specs.Batch.{sessionWith, changesOf, Planned, onward}
+use Rattle.store_log.specs.Log.{logOf, restOf, From}
+use Rattle.active_messages.specs.Cut.{taken, ends, goesFrom, Measured}
+use Rattle.active_messages.proofs.Counting.{rest-length}
+use Rattle.active_messages.proofs.Cutting.{cut-is, from-same}
+use Rattle.active_header.specs.declared.Header.{Header}
+use Rattle.active_batch.specs.declared.Plan.{Plan}
+use Rattle.active_header.specs.Ends.{Spans, openingOf, endingOf}
+use Rattle.active_batch.specs.Batch.{sessionWith, changesOf, Planned, onward}
 
 empty-is : (n : ℕ) (ms : List Msg) → length ms ≡ n → eqb n 0 ≡ isEmpty ms
 empty-is n [] e = eq-eqb n 0 (sym e)

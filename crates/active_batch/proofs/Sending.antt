@@ -12,20 +12,20 @@ use Rattle.model_session.specs.Session.{Session, Msg, Rising}
 use Rattle.model_session.specs.Sender.{Cut, partOf, cutFrom}
 use Rattle.model_session.specs.Summary.{numberedFrom}
 use Rattle.model_session.specs.Whole.{stampPart, wholeBatches}
-use Rattle.log.specs.Log.{logOf}
-use Rattle.log.proofs.Lawful.{Small, small-take, small-drop, lawful}
-use Rattle.place.specs.Place.{nextOutOf, stampOf, sessionOf}
-use Rattle.place.proofs.Messages.{tail-is}
-use Rattle.whole.specs.Cut.{batchCount}
-use Rattle.whole.proofs.Counting.{count-is}
-use Rattle.whole.proofs.Cutting.{numbered-all}
-use Rattle.header.specs.declared.Header.{Header}
-use Rattle.batch.specs.declared.Plan.{Plan}
-use Rattle.batch.specs.declared.Written.the-variants.{Batch, TooShort}
-use Rattle.header.specs.Ends.{Heads}
-use Rattle.batch.specs.Batch.{sessionWith, changesOf, Planned, partIs, frameFrom, onward, WroteBatch}
-use Rattle.batch.proofs.Planning.{cut-planned}
-use Rattle.batch.proofs.Framing.{frame-length}
+use Rattle.store_log.specs.Log.{logOf}
+use Rattle.store_log.proofs.Lawful.{Small, small-take, small-drop, lawful}
+use Rattle.store_place.specs.Place.{nextOutOf, stampOf, sessionOf}
+use Rattle.store_place.proofs.Messages.{tail-is}
+use Rattle.active_messages.specs.Cut.{batchCount}
+use Rattle.active_messages.proofs.Counting.{count-is}
+use Rattle.active_messages.proofs.Cutting.{numbered-all}
+use Rattle.active_header.specs.declared.Header.{Header}
+use Rattle.active_batch.specs.declared.Plan.{Plan}
+use Rattle.active_batch.specs.declared.Written.the-variants.{Batch, TooShort}
+use Rattle.active_header.specs.Ends.{Heads}
+use Rattle.active_batch.specs.Batch.{sessionWith, changesOf, Planned, partIs, frameFrom, onward, WroteBatch}
+use Rattle.active_batch.proofs.Planning.{cut-planned}
+use Rattle.active_batch.proofs.Framing.{frame-length}
 
 part-is : (n : ℕ) (last : Bool) → partOf (onward n last) ≡ partIs last
 part-is n true = refl

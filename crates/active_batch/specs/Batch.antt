@@ -12,14 +12,14 @@ use Rattle.model_frame.specs.Writing.{encode}
 use Rattle.model_session.specs.Session.{Session, Msg}
 use Rattle.model_session.specs.Sender.{partOf, cutFrom}
 use Rattle.model_session.specs.Summary.{numberedFrom}
-use Rattle.log.specs.Log.{logOf, restOf, Stands}
-use Rattle.place.specs.Place.{flightIs}
-use Rattle.whole.specs.Cut.{taken, leftOver, nextAfter}
-use Rattle.header.specs.declared.Header.{Header}
-use Rattle.header.specs.Ends.{Spans, openingOf, endingOf}
-use Rattle.batch.specs.declared.Plan.{Plan}
-use Rattle.batch.specs.declared.Written.{Written}
-use Rattle.batch.specs.declared.Written.the-variants.{Batch, TooShort}
+use Rattle.store_log.specs.Log.{logOf, restOf, Stands}
+use Rattle.store_place.specs.Place.{flightIs}
+use Rattle.active_messages.specs.Cut.{taken, leftOver, nextAfter}
+use Rattle.active_header.specs.declared.Header.{Header}
+use Rattle.active_header.specs.Ends.{Spans, openingOf, endingOf}
+use Rattle.active_batch.specs.declared.Plan.{Plan}
+use Rattle.active_batch.specs.declared.Written.{Written}
+use Rattle.active_batch.specs.declared.Written.the-variants.{Batch, TooShort}
 
 -- the session with this header, these texts and these messages
 abbrev pub sessionWith : Header → List ℕ → List ℕ → List Msg → Session

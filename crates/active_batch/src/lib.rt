@@ -8,13 +8,13 @@ ghost use Rattle.model_frame.specs.Frame.{batch};
 ghost use Rattle.model_frame.specs.Parse.{runBytes};
 ghost use Rattle.model_frame.specs.Writing.{changeBytes, sizes, partNumber, encode};
 ghost use Rattle.model_session.specs.Whole.{wholeBatches};
-ghost use Rattle.laws.specs.Wrote.{Wrote};
-ghost use Rattle.log.specs.Log.{Stands};
-ghost use Rattle.place.specs.Place.{sessionOf};
-ghost use Rattle.batch.specs.Batch.{changesOf, Planned, headBytes, partIs, WroteBatch};
+ghost use Rattle.base_laws.specs.Wrote.{Wrote};
+ghost use Rattle.store_log.specs.Log.{Stands};
+ghost use Rattle.store_place.specs.Place.{sessionOf};
+ghost use Rattle.active_batch.specs.Batch.{changesOf, Planned, headBytes, partIs, WroteBatch};
+use active_header::Header;
 use frame::CommitNumber;
 use frame::Epoch;
-use header::Header;
 
 // A batch: the place in the log where its messages begin, its first number, the next number after it, whether it is the last,
 // how many changes it has, and their bytes.
@@ -56,8 +56,8 @@ fn plan_from(h: Header, words: &[u64], bytes: &[u8], max: usize, from: u64, limi
     ensures { λ r. ⌜ Planned limit (length (now (bytes .entry))) max h (now (words .entry)) (now (bytes .entry)) from r ⌝ }
 {
     let next = first_number(from);
-    let c = log::messages_from(words, bytes, max, h.next_outgoing, next);
-    let cut = whole::measure(
+    let c = store_log::messages_from(words, bytes, max, h.next_outgoing, next);
+    let cut = active_messages::measure(
         words,
         bytes,
         max,
@@ -67,8 +67,8 @@ fn plan_from(h: Header, words: &[u64], bytes: &[u8], max: usize, from: u64, limi
         next,
         limit,
     );
-    let opening = header::opening_extent(h.stamp, from);
-    let ending = header::ending_extent(h, cut.left, cut.next);
+    let opening = active_header::opening_extent(h.stamp, from);
+    let ending = active_header::ending_extent(h, cut.left, cut.next);
     Plan {
         left: c.left,
         dist: c.dist,
@@ -104,8 +104,8 @@ fn put_changes(
     requires { ⌜ at + sizes (changesOf limit (length (now bytes)) max h (now words) (now bytes) (now stamp) (now marks) from p) ≤ length (now out) ⌝ }
     ensures { λ r. ⌜ Wrote (now (out .entry)) at (runBytes changeBytes (changesOf limit (length (now (bytes .entry))) max h (now (words .entry)) (now (bytes .entry)) (now (stamp .entry)) (now (marks .entry)) from p)) (now (out .exit)) r ⌝ }
 {
-    let opened = header::put_opening(stamp, from, out, at);
-    let pos = whole::put_messages(
+    let opened = active_header::put_opening(stamp, from, out, at);
+    let pos = active_messages::put_messages(
         words,
         bytes,
         max,
@@ -117,7 +117,7 @@ fn put_changes(
         out,
         opened,
     );
-    header::put_ending(h, marks, p.last, p.goes, out, pos)
+    active_header::put_ending(h, marks, p.last, p.goes, out, pos)
 }
 
 fn part_byte(last: bool) -> u8
@@ -141,13 +141,13 @@ fn put_head(
     requires { ⌜ count ≤ 131077 ⌝ }
     ensures { λ _. ⌜ now (out .exit) ≡ write (now (out .entry)) 0 (headBytes size handle (epoch .0) (number .0) (partNumber (partIs last)) count) ⌝ }
 {
-    wire::put_u32(out, 0, (30 + size) as u32);
-    wire::put_u8(out, 4, 4);
-    wire::put_u32(out, 5, handle);
-    wire::put_u64(out, 9, epoch.0);
-    wire::put_u64(out, 17, number.0);
-    wire::put_u8(out, 25, part_byte(last));
-    wire::put_u32(out, 26, count as u32);
+    base_bytes::put_u32(out, 0, (30 + size) as u32);
+    base_bytes::put_u8(out, 4, 4);
+    base_bytes::put_u32(out, 5, handle);
+    base_bytes::put_u64(out, 9, epoch.0);
+    base_bytes::put_u64(out, 17, number.0);
+    base_bytes::put_u8(out, 25, part_byte(last));
+    base_bytes::put_u32(out, 26, count as u32);
 }
 
 // Writes the frame of a batch that goes by a plan at the start of the area.
@@ -178,7 +178,7 @@ fn put_frame(
 {
     put_head(p.size, handle, epoch, number, p.last, p.count, out);
     let pos = put_changes(h, stamp, marks, words, bytes, max, from, limit, p, out, 30);
-    wire::put_u32(out, pos, 0);
+    base_bytes::put_u32(out, pos, 0);
 }
 
 // Writes the frame of the batch that begins at a number, of the session at a place.
@@ -199,7 +199,7 @@ pub fn send(
     requires { ⌜ length (now bytes) ≤ 33554656 ⌝ }
     ensures { λ r. ⌜ ((C : ℕ) → length (now (bytes .entry)) ≡ 224 + C → WroteBatch limit (sessionOf C max (now (words .entry)) (now (bytes .entry))) handle (epoch .0) (number .0) from (now (out .entry)) (now (out .exit)) r) ⌝ }
 {
-    let h = header::header_of(words, bytes);
+    let h = active_header::header_of(words, bytes);
     let stamp_end = 128 + h.stamp;
     let marks_end = 160 + h.marks;
     let log = &words[14..];
@@ -238,6 +238,6 @@ pub fn batches(words: &[u64], bytes: &[u8], max: usize, limit: u64) -> usize
     ensures is { λ r. ⌜ ((C : ℕ) → length (now (bytes .entry)) ≡ 224 + C → r ≡ length (wholeBatches limit (sessionOf C max (now (words .entry)) (now (bytes .entry))))) ⌝ }
     ensures few { λ r. ⌜ r ≤ 33554433 ⌝ }
 {
-    let next = place::next_outgoing(words);
-    whole::batches(&words[14..], &bytes[224..], max, next, limit)
+    let next = store_place::next_outgoing(words);
+    active_messages::batches(&words[14..], &bytes[224..], max, next, limit)
 }

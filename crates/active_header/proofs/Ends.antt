@@ -13,10 +13,10 @@ use Rattle.model_frame.proofs.Le.{length-bytes}
 use Rattle.model_frame.proofs.Runs.{run-append, sizes-append}
 use Rattle.model_frame.proofs.Sizes.{change-size, changes-size}
 use Rattle.model_session.specs.Whole.{skipTo}
-use Rattle.laws.specs.Wrote.{Wrote}
-use Rattle.laws.proofs.Writes.{wrote-then, wrote-on, wrote-number}
-use Rattle.whole.proofs.Putting.{wrote-none}
-use Rattle.header.specs.Ends.{Spans, openingOf}
+use Rattle.base_laws.specs.Wrote.{Wrote}
+use Rattle.base_laws.proofs.Writes.{wrote-then, wrote-on, wrote-number}
+use Rattle.active_messages.proofs.Putting.{wrote-none}
+use Rattle.active_header.specs.Ends.{Spans, openingOf}
 
 no : 0 < 0 → ⊥
 no h = omega arith

@@ -7,8 +7,8 @@ use lib.ListN.{length, take, drop, getD}
 use Rattle.model_frame.specs.Frame.{Change, reset, setMarks}
 use Rattle.model_frame.specs.Writing.{sizes}
 use Rattle.model_session.specs.Whole.{stampPart, skipTo, incomingPart}
-use Rattle.place.specs.Place.{nextOutOf, flightOf, stampOf, marksOf, flightIs}
-use Rattle.header.specs.declared.Header.{Header}
+use Rattle.store_place.specs.Place.{nextOutOf, flightOf, stampOf, marksOf, flightIs}
+use Rattle.active_header.specs.declared.Header.{Header}
 
 -- a header is that of a place
 pub record Heads (w b : List ℕ) (h : Header) : Type 0 where

@@ -7,11 +7,11 @@ ghost use lib.Dec.{eqb};
 ghost use Rattle.model_frame.specs.Parse.{runBytes};
 ghost use Rattle.model_frame.specs.Writing.{changeBytes, sizeOf, sizes};
 ghost use Rattle.model_session.specs.Whole.{incomingPart};
-ghost use Rattle.laws.specs.Wrote.{Wrote};
-ghost use Rattle.place.specs.Place.{flightIs};
-ghost use Rattle.header.specs.Ends.{Heads, Spans, openingOf, closingOf, endingOf};
-use place::Flight;
-use whole::put;
+ghost use Rattle.base_laws.specs.Wrote.{Wrote};
+ghost use Rattle.store_place.specs.Place.{flightIs};
+ghost use Rattle.active_header.specs.Ends.{Heads, Spans, openingOf, closingOf, endingOf};
+use active_messages::put;
+use store_place::Flight;
 
 // What a session has beside its messages: stamp and marks by their lengths.
 #[repr(C)]
@@ -35,13 +35,13 @@ pub fn header_of(words: &[u64], bytes: &[u8]) -> Header
     requires { ⌜ 224 ≤ length (now bytes) ⌝ }
     ensures { λ r. ⌜ Heads (now (words .entry)) (now (bytes .entry)) r ⌝ }
 {
-    let in_flight = place::in_flight(words);
+    let in_flight = store_place::in_flight(words);
     Header {
-        next_outgoing: place::next_outgoing(words),
-        next_incoming: place::next_incoming(words),
+        next_outgoing: store_place::next_outgoing(words),
+        next_incoming: store_place::next_incoming(words),
         in_flight,
-        stamp: place::stamp_len(words, bytes),
-        marks: place::marks_len(words, bytes),
+        stamp: store_place::stamp_len(words, bytes),
+        marks: store_place::marks_len(words, bytes),
     }
 }
 
@@ -99,7 +99,7 @@ fn put_incoming(next: u64, in_flight: Flight, out: &mut [u8], at: usize) -> usiz
         Flight::Nothing => put::put_number(1, next, out, at),
         Flight::Number(f) => {
             put::put_number(2, next, out, at);
-            wire::put_u64(out, at + 9, f);
+            base_bytes::put_u64(out, at + 9, f);
             at + 17
         }
     }

@@ -9,9 +9,9 @@ use lib.ListN.{length, getD, set, take, drop, length-set, length-drop, drop-of-l
 use lib.Seq.{take-suc, take-suc-set, getD-drop, getD-take, drop-cons, length-take-le}
 use lib.Dec.{ltb}
 use borrow.Author.Tests.{ltb-false, lt-ltb, le-ltb}
-use Rattle.laws.proofs.Lists.{drop-take}
-use Rattle.lag.specs.declared.ReplicatedLog.{ReplicatedLog}
-use Rattle.lag.specs.Queue.{Drains, Answers}
+use Rattle.base_laws.proofs.Lists.{drop-take}
+use Rattle.active_lag.specs.declared.ReplicatedLog.{ReplicatedLog}
+use Rattle.active_lag.specs.Queue.{Drains, Answers}
 use Rattle.model_session.specs.Lag.{Pushed, over, drain, push}
 
 -- ---- moving the numbers from `gone` on to the front

@@ -6,8 +6,8 @@ use Prim.Native.Nat.{ℕ, _-_, _≤_}
 use lib.ListN.{take, drop}
 use lib.Dec.{ltb}
 use Rattle.model_session.specs.Lag.{Queue, drain, push}
-use Rattle.lag.specs.declared.ReplicatedLog.{ReplicatedLog}
-use Rattle.lag.specs.declared.Queued.{Queued}
+use Rattle.active_lag.specs.declared.ReplicatedLog.{ReplicatedLog}
+use Rattle.active_lag.specs.declared.Queued.{Queued}
 
 abbrev pub queueOf : ReplicatedLog → Queue
 queueOf q = record { drained = q .«drained_through»; waiting = take (q .count) (q .queued) }

@@ -5,7 +5,7 @@ ghost use mathlib.Core.List.{[], _∷_, _++_};
 ghost use Prim.Native.Nat.{_+_, _-_, _≤_};
 ghost use lib.ListN.{take, drop};
 ghost use lib.Dec.{ltb};
-ghost use Rattle.lag.specs.Queue.{queueOf, Drains, Answers};
+ghost use Rattle.active_lag.specs.Queue.{queueOf, Drains, Answers};
 ghost use Rattle.model_session.specs.Lag.{newQueue};
 
 // The batches sent that no commit has waited for yet, oldest first: the last outgoing number of each. The room is one more

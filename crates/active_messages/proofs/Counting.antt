@@ -13,8 +13,8 @@ use Rattle.model_frame.specs.Frame.{Change}
 use Rattle.model_session.specs.Session.{Session, Msg}
 use Rattle.model_session.specs.Whole.{sendMsg, stands, batchesFrom}
 use Rattle.model_session.specs.Summary.{numberedFrom}
-use Rattle.log.specs.Log.{newestFirst, logOf, restOf, Stands, From}
-use Rattle.whole.specs.Cut.{leftOver, batchCount, Measured}
+use Rattle.store_log.specs.Log.{newestFirst, logOf, restOf, Stands, From}
+use Rattle.active_messages.specs.Cut.{leftOver, batchCount, Measured}
 
 module _ (limit : ℕ) where
   -- the batches of the messages that are left

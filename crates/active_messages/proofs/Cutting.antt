@@ -13,7 +13,7 @@ use Rattle.model_session.specs.Session.{Session, Msg, Rising}
 use Rattle.model_session.specs.Whole.{sendMsg}
 use Rattle.model_session.specs.Sender.{Cut, cutBatch, messagesFrom}
 use Rattle.model_session.specs.Summary.{numberedFrom}
-use Rattle.whole.specs.Cut.{taken, leftOver, nextAfter, ends, goesFrom}
+use Rattle.active_messages.specs.Cut.{taken, leftOver, nextAfter, ends, goesFrom}
 
 regroup : (p q r s : List Change) → (p ++ q) ++ (r ++ s) ≡ p ++ ((q ++ r) ++ s)
 regroup p q r s = simp append-assoc

@@ -13,9 +13,9 @@ use Rattle.model_frame.specs.Writing.{sizes}
 use Rattle.model_frame.proofs.Runs.{sizes-append}
 use Rattle.model_session.specs.Session.{Msg}
 use Rattle.model_session.specs.Whole.{sendMsg}
-use Rattle.log.specs.Log.{msg, restOf, Stands, Read}
-use Rattle.whole.proofs.Putting.{piece-length}
-use Rattle.whole.specs.Cut.{taken, leftOver, nextAfter, Measured}
+use Rattle.store_log.specs.Log.{msg, restOf, Stands, Read}
+use Rattle.active_messages.proofs.Putting.{piece-length}
+use Rattle.active_messages.specs.Cut.{taken, leftOver, nextAfter, Measured}
 
 -- how many changes a message makes, and their bytes
 send-count : (next : ℕ) (m : Msg) → length (sendMsg next m) ≡ cond (ltb next (m .num)) 1 0 + 1

@@ -6,8 +6,8 @@ use native.Mathlib.Omega.{arith}
 use lib.ListN.{take}
 use Rattle.model_frame.specs.Parse.{Each}
 use Rattle.model_session.specs.Session.{Msg}
-use Rattle.log.specs.Log.{Entry, entry, unrolled, tailOf, newest, walk, newestFirst, restOf}
-use Rattle.log.proofs.Walk.{Look, hit, low, high, full, look, walk-hit, walk-low, walk-high, walk-full}
+use Rattle.store_log.specs.Log.{Entry, entry, unrolled, tailOf, newest, walk, newestFirst, restOf}
+use Rattle.store_log.proofs.Walk.{Look, hit, low, high, full, look, walk-hit, walk-low, walk-high, walk-full}
 
 abbrev Under : ℕ → Msg → Type 0
 Under bound m = m .num < bound

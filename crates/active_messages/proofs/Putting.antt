@@ -14,10 +14,10 @@ use Rattle.model_frame.proofs.Le.{length-bytes}
 use Rattle.model_frame.proofs.Runs.{run-append}
 use Rattle.model_frame.proofs.Sizes.{changes-size}
 use Rattle.model_session.specs.Whole.{skipTo, sendMsg}
-use Rattle.log.specs.Log.{msg}
-use Rattle.laws.specs.Wrote.{Wrote}
-use Rattle.laws.proofs.Little.{write-none}
-use Rattle.laws.proofs.Writes.{wrote-then, wrote-on, wrote-number}
+use Rattle.store_log.specs.Log.{msg}
+use Rattle.base_laws.specs.Wrote.{Wrote}
+use Rattle.base_laws.proofs.Little.{write-none}
+use Rattle.base_laws.proofs.Writes.{wrote-then, wrote-on, wrote-number}
 
 pub byte-one : (k : ℕ) → k < 256 → bytesOf 1 k ≡ k ∷ []
 unfolding bytesOf

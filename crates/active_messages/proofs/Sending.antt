@@ -12,11 +12,11 @@ use Rattle.model_frame.specs.Writing.{changeBytes, sizes}
 use Rattle.model_frame.proofs.Runs.{run-append, sizes-append}
 use Rattle.model_frame.proofs.Sizes.{changes-size}
 use Rattle.model_session.specs.Whole.{skipTo, sendMsg}
-use Rattle.laws.specs.Wrote.{Wrote}
-use Rattle.laws.proofs.Writes.{Left, left-start, left-room, left-step, left-done}
-use Rattle.log.specs.Log.{msg, restOf, Stands, Read}
-use Rattle.whole.proofs.Measuring.{taken-more, full-taken, piece-of}
-use Rattle.whole.specs.Cut.{taken}
+use Rattle.base_laws.specs.Wrote.{Wrote}
+use Rattle.base_laws.proofs.Writes.{Left, left-start, left-room, left-step, left-done}
+use Rattle.store_log.specs.Log.{msg, restOf, Stands, Read}
+use Rattle.active_messages.proofs.Measuring.{taken-more, full-taken, piece-of}
+use Rattle.active_messages.specs.Cut.{taken}
 
 module _ (limit C M end : ℕ) (w b : List ℕ) where
   -- the bytes of what a batch takes

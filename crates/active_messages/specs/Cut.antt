@@ -10,7 +10,7 @@ use Rattle.model_frame.specs.Frame.{Change}
 use Rattle.model_frame.specs.Writing.{sizes}
 use Rattle.model_session.specs.Session.{Session, Msg}
 use Rattle.model_session.specs.Whole.{sendMsg, closing}
-use Rattle.log.specs.Log.{restOf, Stands}
+use Rattle.store_log.specs.Log.{restOf, Stands}
 
 module _ (limit : ℕ) where
   -- with so many message bytes in the batch, and the next number: the changes of the messages that it takes

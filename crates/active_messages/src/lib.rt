@@ -8,10 +8,10 @@ ghost use lib.ListN.{length};
 ghost use lib.Dec.{ltb};
 ghost use Rattle.model_frame.specs.Parse.{runBytes};
 ghost use Rattle.model_frame.specs.Writing.{changeBytes, sizes};
-ghost use Rattle.laws.specs.Wrote.{Wrote};
+ghost use Rattle.base_laws.specs.Wrote.{Wrote};
 ghost use Rattle.model_session.specs.Summary.{numberedFrom};
-ghost use Rattle.log.specs.Log.{Stands, logOf, restOf};
-ghost use Rattle.whole.specs.Cut.{taken, batchCount, Measured};
+ghost use Rattle.store_log.specs.Log.{Stands, logOf, restOf};
+ghost use Rattle.active_messages.specs.Cut.{taken, batchCount, Measured};
 
 // A batch: the place in the log where it ends, the next outgoing number there, how many changes its messages make, and their bytes.
 #[repr(C)]
@@ -72,7 +72,7 @@ pub fn measure(
                 size,
             };
         }
-        let f = log::message_at(words, bytes, max, end, left, dist);
+        let f = store_log::message_at(words, bytes, max, end, left, dist);
         let skip = skips(next, f.number);
         let len = f.first + f.rest;
         count = count + skip + 1;
@@ -119,7 +119,7 @@ pub fn put_messages(
         if is_full(limit, sent) {
             return pos;
         }
-        let f = log::message_at(words, bytes, max, end, left, dist);
+        let f = store_log::message_at(words, bytes, max, end, left, dist);
         pos = put::put_sent(next, f.number, bytes, f.start, f.first, f.rest, out, pos);
         sent += (f.first + f.rest) as u64;
         next = f.number + 1;
@@ -138,7 +138,7 @@ pub fn batches(words: &[u64], bytes: &[u8], max: usize, end: u64, limit: u64) ->
     ensures is { λ r. ⌜ r ≡ batchCount limit 0 (numberedFrom 1 (logOf (length (now (bytes .entry))) max end (now (words .entry)) (now (bytes .entry)))) ⌝ }
     ensures few { λ r. ⌜ r ≤ 33554433 ⌝ }
 {
-    let c = log::messages_from(words, bytes, max, end, 1);
+    let c = store_log::messages_from(words, bytes, max, end, 1);
     let first = measure(words, bytes, max, end, c.left, c.dist, 1, limit);
     let mut left = first.left;
     let mut dist = first.dist;

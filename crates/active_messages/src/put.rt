@@ -7,15 +7,15 @@ ghost use Rattle.model_frame.specs.Frame.{recordMsg};
 ghost use Rattle.model_frame.specs.Parse.{runBytes};
 ghost use Rattle.model_frame.specs.Writing.{blobBytes, changeBytes, sizes};
 ghost use Rattle.model_session.specs.Whole.{skipTo, sendMsg};
-ghost use Rattle.laws.specs.Wrote.{Wrote};
-ghost use Rattle.log.specs.Log.{msg};
+ghost use Rattle.base_laws.specs.Wrote.{Wrote};
+ghost use Rattle.store_log.specs.Log.{msg};
 
 // A byte.
 pub fn put_byte(k: u8, out: &mut [u8], at: usize) -> usize
     requires { ⌜ at + 1 ≤ length (now out) ⌝ }
     ensures { λ r. ⌜ Wrote (now (out .entry)) at (k ∷ []) (now (out .exit)) r ⌝ }
 {
-    wire::put_u8(out, at, k);
+    base_bytes::put_u8(out, at, k);
     at + 1
 }
 
@@ -25,7 +25,7 @@ pub fn put_number(k: u8, n: u64, out: &mut [u8], at: usize) -> usize
     ensures { λ r. ⌜ Wrote (now (out .entry)) at (k ∷ bytesOf 8 n) (now (out .exit)) r ⌝ }
 {
     put_byte(k, out, at);
-    wire::put_u64(out, at + 1, n);
+    base_bytes::put_u64(out, at + 1, n);
     at + 9
 }
 
@@ -36,8 +36,8 @@ pub fn put_text(k: u8, s: &[u8], out: &mut [u8], at: usize) -> usize
     ensures { λ r. ⌜ Wrote (now (out .entry)) at (k ∷ blobBytes (now (s .entry))) (now (out .exit)) r ⌝ }
 {
     put_byte(k, out, at);
-    wire::put_u32(out, at + 1, s.len() as u32);
-    wire::copy(s, out, at + 5)
+    base_bytes::put_u32(out, at + 1, s.len() as u32);
+    base_bytes::copy(s, out, at + 5)
 }
 
 // A bare record of n - 1, if numbers from next on were skipped before n.
@@ -67,8 +67,8 @@ pub fn put_message(
     ensures { λ r. ⌜ Wrote (now (out .entry)) at (take first (drop start (now (bytes .entry))) ++ take rest (now (bytes .entry))) (now (out .exit)) r ⌝ }
 {
     let end = start + first;
-    let pos = wire::copy(&bytes[start..end], out, at);
-    wire::copy(&bytes[..rest], out, pos)
+    let pos = base_bytes::copy(&bytes[start..end], out, at);
+    base_bytes::copy(&bytes[..rest], out, pos)
 }
 
 // A record with its message.
@@ -88,7 +88,7 @@ pub fn put_record(
     ensures { λ r. ⌜ Wrote (now (out .entry)) at (changeBytes (recordMsg number (take first (drop start (now (bytes .entry))) ++ take rest (now (bytes .entry))))) (now (out .exit)) r ⌝ }
 {
     put_number(4, number, out, at);
-    wire::put_u32(out, at + 9, (first + rest) as u32);
+    base_bytes::put_u32(out, at + 9, (first + rest) as u32);
     put_message(bytes, start, first, rest, out, at + 13)
 }
 

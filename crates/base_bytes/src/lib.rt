@@ -3,7 +3,7 @@ ghost use mathlib.Core.Path.{_≡_};
 ghost use Prim.Native.Nat.{_+_, _≤_};
 ghost use lib.ListN.{length};
 ghost use Rattle.model_frame.specs.Bytes.{leAt, bytesOf};
-ghost use Rattle.laws.specs.Wrote.{Wrote};
+ghost use Rattle.base_laws.specs.Wrote.{Wrote};
 
 pub fn u8_at(buf: &[u8], at: usize) -> u8
     requires { ⌜ at + 1 ≤ length (now buf) ⌝ }

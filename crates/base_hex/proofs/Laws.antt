@@ -13,9 +13,9 @@ use borrow.Author.Tests.{ltb-true, lt-ltb, le-ltb}
 use Rattle.model_text.proofs.Formed.{and-l, and-r}
 use Rattle.model_text.proofs.HexBack.{length-hex}
 use Rattle.model_text.specs.Hex.{digitValue, onto, bytesFrom, longestLine, lineBytes, digitOf, hexOf, decimal, refusalText}
-use Rattle.hex.specs.declared.Line.{Line}
-use Rattle.hex.specs.declared.Line.the-variants.{Bytes, Bad}
-use Rattle.hex.specs.Lines.{Reads, Wrote, Puts}
+use Rattle.base_hex.specs.declared.Line.{Line}
+use Rattle.base_hex.specs.declared.Line.the-variants.{Bytes, Bad}
+use Rattle.base_hex.specs.Lines.{Reads, Wrote, Puts}
 
 -- ---- two digits of a list
 

@@ -4,8 +4,8 @@ use mathlib.Core.List.{List, _++_}
 use mathlib.Core.Option.{Option, none, some}
 use Prim.Native.Nat.{ℕ, _≤_}
 use lib.ListN.{length, take, drop}
-use Rattle.hex.specs.declared.Line.{Line}
-use Rattle.hex.specs.declared.Line.the-variants.{Bytes, Bad}
+use Rattle.base_hex.specs.declared.Line.{Line}
+use Rattle.base_hex.specs.declared.Line.the-variants.{Bytes, Bad}
 
 -- the bytes that stand at the start of the area
 abbrev pub lineRead : List ℕ → Line → Option (List ℕ)

@@ -3,7 +3,7 @@ ghost use mathlib.Core.Path.{_≡_};
 ghost use Prim.Native.Nat.{_+_, _*_, _/_, _%_, _≤_, _<_};
 ghost use lib.ListN.{length};
 ghost use Rattle.model_text.specs.Hex.{digitValue, bytesFrom, lineBytes, digitOf, hexOf, refusalText};
-ghost use Rattle.hex.specs.Lines.{Reads, Wrote, Puts};
+ghost use Rattle.base_hex.specs.Lines.{Reads, Wrote, Puts};
 
 // The bytes of a line, as the first so many of the area that was lent, or a bad line.
 pub enum Line {

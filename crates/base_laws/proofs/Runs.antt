@@ -12,7 +12,7 @@ use lib.Seq.{drop-drop}
 use Rattle.model_frame.specs.Bytes.{le}
 use Rattle.model_frame.specs.Frame.{Fault, truncated}
 use Rattle.model_frame.specs.Parse.{Res, ok, bad, Parser, andThen, num, count, many, forget, onto, collect, runBytes}
-use Rattle.laws.proofs.Places.{num-whole}
+use Rattle.base_laws.proofs.Places.{num-whole}
 
 module _ {A : Type 0} where
   forget-cons : (a : A) (m : Res (List A)) → forget (andThen m (λ xs s. ok (a ∷ xs) s)) ≡ forget m

@@ -10,8 +10,8 @@ use Rattle.model_frame.specs.Bytes.{isBytes}
 use Rattle.model_frame.specs.Parse.{Parser, ok, forget, many, collect, runBytes, Each}
 use Rattle.model_frame.proofs.Le.{bytes-each, each-drop}
 use Rattle.model_frame.proofs.Canon.{Was, Canon, run-canon, Run}
-use Rattle.laws.specs.Wrote.{StandsAt}
-use Rattle.laws.proofs.Runs.{run-items}
+use Rattle.base_laws.specs.Wrote.{StandsAt}
+use Rattle.base_laws.proofs.Runs.{run-items}
 
 module _ {A : Type 0} (p : Parser A) (f : A → List ℕ) (U : A → Type 0) (canon : Canon [] p f U) (n : ℕ) (b : List ℕ) (at d : ℕ) (known : T (isBytes b)) (e : ok tt (drop d b) ≡ forget (many n p (drop at b))) where
   run-reads : many n p (drop at b) ≡ ok (collect n p (drop at b)) (drop d b)

@@ -6,8 +6,8 @@ use native.Mathlib.Omega.{arith}
 use lib.ListN.{length, length-append}
 use Rattle.model_frame.specs.Bytes.{bytesOf, write}
 use Rattle.model_frame.proofs.Le.{length-bytes}
-use Rattle.laws.proofs.Little.{put-join, write-then, write-append, write-none, length-write}
-use Rattle.laws.specs.Wrote.{Wrote}
+use Rattle.base_laws.proofs.Little.{put-join, write-then, write-append, write-none, length-write}
+use Rattle.base_laws.specs.Wrote.{Wrote}
 
 pub wrote-then : {l xs l₁ ys l₂ : List ℕ} {at n k r : ℕ} → Wrote l at xs l₁ k → Wrote l₁ (at + n) ys l₂ r → length xs ≡ n → Wrote l at (xs ++ ys) l₂ r
 wrote-then {l} {xs} {l₁} {ys} {l₂} {at} w v e = record {

@@ -10,9 +10,9 @@ use lib.Seq.{paste, take-paste, take-take, take-all, take-append-add, drop-drop,
 use lib.Dec.{leb, eqb}
 use borrow.Author.Tests.{leb-true, leb-false, lt-ltb, le-ltb, eq-eqb, ne-eqb}
 use Rattle.model_frame.specs.Bytes.{write}
-use Rattle.laws.proofs.Little.{write-is}
+use Rattle.base_laws.proofs.Little.{write-is}
 use Rattle.model_text.specs.Lines.{feed, firstFeed, whole, part, cutAt}
-use Rattle.lines.specs.Feeding.{Feeds}
+use Rattle.base_lines.specs.Feeding.{Feeds}
 
 -- ---- the next line feed
 

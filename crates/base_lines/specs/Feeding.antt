@@ -5,7 +5,7 @@ use mathlib.Core.List.{List}
 use Prim.Native.Nat.{ℕ, _≤_, _<_}
 use lib.ListN.{length, take, drop}
 use Rattle.model_text.specs.Lines.{Cut, whole, part, cutAt}
-use Rattle.lines.specs.declared.Fed.{Fed}
+use Rattle.base_lines.specs.declared.Fed.{Fed}
 
 abbrev pub cutOf : List ℕ → List ℕ → Fed → Cut
 cutOf line piece f = cond (f .whole) (whole (take (f .len) line) (drop (f .next) piece)) (part (take (f .len) line))

@@ -4,7 +4,7 @@ ghost use Prim.Native.Nat.{_+_, _≤_, min};
 ghost use lib.ListN.{length, drop};
 ghost use lib.Seq.{paste};
 ghost use Rattle.model_text.specs.Lines.{firstFeed};
-ghost use Rattle.lines.specs.Feeding.{Feeds};
+ghost use Rattle.base_lines.specs.Feeding.{Feeds};
 
 // What a piece gave: a whole line or a part of one, how many of its bytes are kept, and where the piece goes on.
 #[repr(C)]
@@ -41,7 +41,7 @@ fn copy(dst: &mut [u8], at: usize, src: &[u8], from: usize, n: usize)
     ensures { λ _. ⌜ now (dst .exit) ≡ paste (now (dst .entry)) at (drop from (now (src .entry))) n ⌝ }
 {
     let end = from + n;
-    wire::copy(&src[from..end], dst, at);
+    base_bytes::copy(&src[from..end], dst, at);
 }
 
 // Takes the piece's bytes from `from` on up to its next line feed or its end behind the first len bytes of the line.

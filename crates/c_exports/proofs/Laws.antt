@@ -8,38 +8,38 @@ use borrow.Author.Tests.{lt-ltb, le-ltb, eq-eqb, ne-eqb}
 use lib.Dec.{T, ltb}
 use lib.ListN.{length, take}
 use lib.Seq.{length-take-le}
-use Rattle.laws.proofs.Little.{write-none}
+use Rattle.base_laws.proofs.Little.{write-none}
 use Rattle.model_frame.specs.Bytes.{isBytes}
 use Rattle.model_frame.specs.Frame.{Frame, number}
 use Rattle.model_frame.specs.Frame as the-frame
 use Rattle.model_frame.specs.Reading.{decode}
 use Rattle.model_frame.specs.Writing.{encode}
-use Rattle.model.specs.Answer as the-answer
-use Rattle.scan.specs.declared.FrameError.{FrameError}
-use Rattle.scan.specs.declared.Field.{Field}
-use Rattle.scan.specs.declared.Value
-use Rattle.scan.specs.declared.Value.{Value}
-use Rattle.scan.specs.Answers.{fieldOf, invalidOf, faultOf}
-use Rattle.print.specs.declared.Written.{Written}
-use Rattle.print.specs.Encoding.{Outcome, wrote, refused, outcome, answerOf, areaAfter, writtenOf, Encoded}
+use Rattle.model_standby.specs.Answer as the-answer
+use Rattle.frame_reader.specs.declared.FrameError.{FrameError}
+use Rattle.frame_reader.specs.declared.Field.{Field}
+use Rattle.frame_reader.specs.declared.Value
+use Rattle.frame_reader.specs.declared.Value.{Value}
+use Rattle.frame_reader.specs.Answers.{fieldOf, invalidOf, faultOf}
+use Rattle.frame_writer.specs.declared.Written.{Written}
+use Rattle.frame_writer.specs.Encoding.{Outcome, wrote, refused, outcome, answerOf, areaAfter, writtenOf, Encoded}
 use Rattle.frame.specs.declared.Decoded
 use Rattle.frame.specs.declared.Decoded.{Decoded}
 use Rattle.frame.specs.declared.Frame as code-frame
 use Rattle.frame.specs.Answers.{frameOf, readingOf, frameIn, StandsIn}
 use Rattle.frame.proofs.Again as twice
 use Rattle.frame.proofs.Again.{read-again}
-use Rattle.areas.specs.declared.Shape.{Shape}
-use Rattle.areas.specs.declared.Made.{Made}
-use Rattle.areas.specs.declared.Made.the-variants.{Ready, Unfit}
-use Rattle.areas.specs.Areas.{Making}
-use Rattle.outcome.specs.declared.Answer as code
-use Rattle.outcome.specs.Answers.{frameBy}
-use Rattle.outcome.specs.Answers as replies
-use Rattle.told.specs.Telling as telling
-use Rattle.told.specs.Telling.{toldOf}
-use Rattle.told.specs.declared.Told.{Told}
-use Rattle.exports.specs.Returned.{refusalCode, doneCode, fieldNumber, faultCode, readCode, writtenCode, takenCode}
-use Rattle.exports.specs.Exports.{Again, rewritten, Rewrites, Makes, TellsPlace, Tells}
+use Rattle.store_areas.specs.declared.Shape.{Shape}
+use Rattle.store_areas.specs.declared.Made.{Made}
+use Rattle.store_areas.specs.declared.Made.the-variants.{Ready, Unfit}
+use Rattle.store_areas.specs.Areas.{Making}
+use Rattle.standby_state.specs.declared.Answer as code
+use Rattle.standby_state.specs.Answers.{frameBy}
+use Rattle.standby_state.specs.Answers as replies
+use Rattle.c_session.specs.Telling as telling
+use Rattle.c_session.specs.Telling.{toldOf}
+use Rattle.c_session.specs.declared.Told.{Told}
+use Rattle.c_exports.specs.Returned.{refusalCode, doneCode, fieldNumber, faultCode, readCode, writtenCode, takenCode}
+use Rattle.c_exports.specs.Exports.{Again, rewritten, Rewrites, Makes, TellsPlace, Tells}
 
 -- ---- numbers
 

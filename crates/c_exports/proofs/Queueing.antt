@@ -9,13 +9,13 @@ use borrow.Author.Tests.{le-ltb, lt-ltb, ltb-false}
 use lib.Dec.{ltb}
 use lib.ListN.{length, getD, set, take, drop, length-set, length-drop}
 use lib.Seq.{take-suc, take-suc-set, take-take, take-at, drop-at, getD-drop, getD-take, getD-set-same, getD-set-other, drop-set-lt, length-take-le, paste, paste-suc, take-paste, drop-paste}
-use Rattle.laws.proofs.Lists.{drop-take}
+use Rattle.base_laws.proofs.Lists.{drop-take}
 use Rattle.model_session.specs.Lag.{Queue, push}
-use Rattle.lag.specs.declared.ReplicatedLog.{ReplicatedLog}
-use Rattle.lag.specs.declared.Queued.{Queued}
-use Rattle.lag.specs.Queue.{queueOf, Answers}
-use Rattle.exports.specs.Returned.{refusalCode, doneCode}
-use Rattle.exports.specs.Queues.{queueIn, noQueue, Pushes, Numbered, Filled}
+use Rattle.active_lag.specs.declared.ReplicatedLog.{ReplicatedLog}
+use Rattle.active_lag.specs.declared.Queued.{Queued}
+use Rattle.active_lag.specs.Queue.{queueOf, Answers}
+use Rattle.c_exports.specs.Returned.{refusalCode, doneCode}
+use Rattle.c_exports.specs.Queues.{queueIn, noQueue, Pushes, Numbered, Filled}
 
 -- ---- the numbers, read
 

@@ -12,8 +12,8 @@ use lib.Seq.{getD-set-same, getD-set-other, drop-set-lt}
 use Rattle.model_frame.specs.Writing.{encode}
 use Rattle.model_session.specs.Session.{Session}
 use Rattle.model_session.specs.Sender.{Sender, newSender, cannotSend, cutFrom, sent, sentFrom, sendNext}
-use Rattle.batch.specs.Batch.{onward}
-use Rattle.areas.specs.declared.Shape.{Shape}
+use Rattle.active_batch.specs.Batch.{onward}
+use Rattle.store_areas.specs.declared.Shape.{Shape}
 use Rattle.active.specs.declared.Sending.{Sending}
 use Rattle.active.specs.declared.Begun.{Begun}
 use Rattle.active.specs.declared.Begun
@@ -21,8 +21,8 @@ use Rattle.active.specs.declared.Sent.{Sent}
 use Rattle.active.specs.declared.Sent
 use Rattle.active.specs.Whole.{senderOf, storedAt, Start, ready, startOf, startFrom, Step, gives, finished, stepOf, spent, answerTo, stepFrom, SendsWhole}
 use Rattle.active.specs.Whole as whole
-use Rattle.exports.specs.Returned.{refusalCode, doneCode, lastCode}
-use Rattle.exports.specs.Sendings.{senderIn, startIn, sendCode, Handed, Resumes, Sends}
+use Rattle.c_exports.specs.Returned.{refusalCode, doneCode, lastCode}
+use Rattle.c_exports.specs.Sendings.{senderIn, startIn, sendCode, Handed, Resumes, Sends}
 
 -- ---- a call keeps the handle and the epoch
 

@@ -8,12 +8,12 @@ use lib.ListN.{length, set}
 use lib.Dec.{ltb}
 use Rattle.model_frame.specs.Frame.{Frame, Decoded, more, faulty, got}
 use Rattle.model_frame.specs.Writing.{encode}
-use Rattle.print.specs.Encoding.{Outcome, wrote, refused, outcome, areaAfter, answerOf}
-use Rattle.model.specs.Answer as the-answer
-use Rattle.told.specs.Telling as telling
-use Rattle.areas.specs.declared.Shape.{Shape}
-use Rattle.areas.specs.Areas.{roomy}
-use Rattle.exports.specs.Returned.{refusalCode, doneCode, faultCode, writtenCode, takenCode}
+use Rattle.frame_writer.specs.Encoding.{Outcome, wrote, refused, outcome, areaAfter, answerOf}
+use Rattle.model_standby.specs.Answer as the-answer
+use Rattle.c_session.specs.Telling as telling
+use Rattle.store_areas.specs.declared.Shape.{Shape}
+use Rattle.store_areas.specs.Areas.{roomy}
+use Rattle.c_exports.specs.Returned.{refusalCode, doneCode, faultCode, writtenCode, takenCode}
 
 -- ---- a frame that was read, written again
 

@@ -6,7 +6,7 @@ use mathlib.Core.List.{List}
 use lib.ListN.{length, getD, take, drop}
 use lib.Dec.{ltb}
 use Rattle.model_session.specs.Lag.{Queue, push}
-use Rattle.exports.specs.Returned.{refusalCode, doneCode}
+use Rattle.c_exports.specs.Returned.{refusalCode, doneCode}
 
 -- the queue that the words stand for
 abbrev pub queueIn : List ℕ → Queue

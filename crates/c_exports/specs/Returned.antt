@@ -2,8 +2,8 @@
 use Prim.Native.Nat.{ℕ, _+_, _-_, _*_, _^_}
 use mathlib.Core.Bool.{cond}
 use lib.Dec.{ltb}
-use Rattle.print.specs.Encoding.{Answer, took}
-use Rattle.print.specs.Encoding as writing
+use Rattle.frame_writer.specs.Encoding.{Answer, took}
+use Rattle.frame_writer.specs.Encoding as writing
 use Rattle.model_frame.specs.Frame.{Field, frameKind, part, refusal, change, Fault, tooLong, truncated, unknown, badText, badSession, badTimestamp, badMarks, number, Decoded, more, faulty, got}
 
 -- refusal n, with its detail

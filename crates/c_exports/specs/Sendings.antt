@@ -10,10 +10,10 @@ use lib.Dec.{ltb, eqb}
 use Rattle.model_session.specs.Session.{Session}
 use Rattle.model_session.specs.Sender.{Sender}
 use Rattle.model_session.specs.Whole.{batchLimit}
-use Rattle.batch.specs.Batch.{onward}
+use Rattle.active_batch.specs.Batch.{onward}
 use Rattle.active.specs.Whole.{Start, ready, startFrom, Step, gives, finished, stepFrom, areaFrom}
 use Rattle.active.specs.Whole as whole
-use Rattle.exports.specs.Returned.{refusalCode, doneCode, lastCode}
+use Rattle.c_exports.specs.Returned.{refusalCode, doneCode, lastCode}
 
 -- the model's sender that the words stand for, for a handle and an epoch
 abbrev pub senderIn : ℕ → ℕ → List ℕ → Sender

@@ -7,21 +7,21 @@ ghost use Rattle.model_frame.specs.Frame.{number};
 ghost use Rattle.model_frame.specs.Reading.{decode};
 ghost use Rattle.model_session.specs.Summary.{fnv};
 ghost use Rattle.model_session.specs.Whole.{batchLimit};
-ghost use Rattle.scan.specs.Answers.{fieldOf, invalidOf, faultOf};
-ghost use Rattle.print.specs.Encoding.{outcome, writtenOf};
+ghost use Rattle.frame_reader.specs.Answers.{fieldOf, invalidOf, faultOf};
+ghost use Rattle.frame_writer.specs.Encoding.{outcome, writtenOf};
 ghost use Rattle.frame.specs.Answers.{frameIn};
-ghost use Rattle.outcome.specs.Answers.{answerOf};
+ghost use Rattle.standby_state.specs.Answers.{answerOf};
 ghost use Rattle.active.specs.Whole.{ready, senderOf, storedAt};
-ghost use Rattle.told.specs.Telling.{toldAt, toldOf};
-ghost use Rattle.exports.specs.Returned.{refusalCode, doneCode, fieldNumber, faultCode, readCode, writtenCode, takenCode};
-ghost use Rattle.exports.specs.Exports.{Again, Rewrites, shapeOf, Makes, TellsPlace, Tells};
-ghost use Rattle.exports.specs.Queues.{Pushes, Numbered, Filled};
-ghost use Rattle.exports.specs.Sendings.{Sends, SendsNext};
+ghost use Rattle.c_session.specs.Telling.{toldAt, toldOf};
+ghost use Rattle.c_exports.specs.Returned.{refusalCode, doneCode, fieldNumber, faultCode, readCode, writtenCode, takenCode};
+ghost use Rattle.c_exports.specs.Exports.{Again, Rewrites, shapeOf, Makes, TellsPlace, Tells};
+ghost use Rattle.c_exports.specs.Queues.{Pushes, Numbered, Filled};
+ghost use Rattle.c_exports.specs.Sendings.{Sends, SendsNext};
 use active::Begun;
 use active::Sending;
 use active::Sent;
-use areas::Made;
-use areas::Shape;
+use active_lag::ReplicatedLog;
+use c_session::Told;
 use frame::CommitNumber;
 use frame::Decoded;
 use frame::Epoch;
@@ -30,10 +30,10 @@ use frame::Frame;
 use frame::FrameError;
 use frame::Value;
 use frame::Written;
-use lag::ReplicatedLog;
-use outcome::Answer;
-use stamp::Protocol;
-use told::Told;
+use frame_stamp::Protocol;
+use standby_state::Answer;
+use store_areas::Made;
+use store_areas::Shape;
 
 // ---- what is returned
 
@@ -167,7 +167,7 @@ pub extern "C" fn wz_make(words: &mut [u64], bytes: &[u8], sessions: u32, c: u32
         bytes: c,
         messages: m,
     };
-    match areas::make(shape, words, bytes) {
+    match store_areas::make(shape, words, bytes) {
         Made::Ready => done(0),
         Made::Unfit => refusal(25, 0),
     }
@@ -203,7 +203,7 @@ pub extern "C" fn wz_session(
         bytes: c,
         messages: m,
     };
-    told(told::session(words, bytes, shape, place, n, out))
+    told(c_session::session(words, bytes, shape, place, n, out))
 }
 
 // ---- whole sending: the last commit number, whether it has begun, where it goes on, whether it is done
@@ -367,7 +367,7 @@ pub extern "C" fn wz_answer(a: Answer, bytes: &[u8], out: &mut [u8]) -> u64
     if a.kind == 0 {
         return done(0);
     }
-    written(reply::write(a, bytes, out))
+    written(standby_reply::write(a, bytes, out))
 }
 
 // ---- for the bench
@@ -377,5 +377,5 @@ pub extern "C" fn wz_answer(a: Answer, bytes: &[u8], out: &mut [u8]) -> u64
 pub extern "C" fn wz_fnv(h: u64, bytes: &[u8]) -> u64
     ensures { λ r. ⌜ r ≡ fnv h (now (bytes .entry)) ⌝ }
 {
-    log::fnv::bytes(h, bytes)
+    store_log::fnv::bytes(h, bytes)
 }

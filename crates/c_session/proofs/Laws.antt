@@ -21,29 +21,29 @@ use Rattle.model_session.specs.Session.{Session, Holdable}
 use Rattle.model_session.specs.Summary.{summary}
 use Rattle.model_session.proofs.Basics.{T→true}
 use Rattle.model_session.proofs.Sending.{stamp-short}
-use Rattle.model.specs.Store.{Place}
-use Rattle.model.specs.Row.{isSome}
-use Rattle.laws.specs.Wrote.{Wrote}
-use Rattle.scan.specs.declared.Span.{Span}
-use Rattle.scan.specs.Answers.{spanOf}
-use Rattle.parts.specs.declared.InFlight.{InFlight}
-use Rattle.parts.specs.declared.SessionId.{SessionId}
-use Rattle.parts.specs.declared.Summary.{Summary}
-use Rattle.parts.specs.Answers.{flightOf, keyOf, summaryOf}
-use Rattle.print.specs.Encoding.{keySize, summarySize, took}
-use Rattle.log.proofs.Lawful.{Small}
-use Rattle.place.specs.Place as the-place
-use Rattle.place.specs.Place.{flightIs, field, placeIn}
-use Rattle.areas.specs.declared.Shape.{Shape}
-use Rattle.areas.specs.Areas.{allowed, Rules, SpotIn, placeAt, placesOf}
-use Rattle.areas.proofs.Holding.{holdable-at}
-use Rattle.areas.proofs.Lifting.{places-length, place-is}
-use Rattle.store.specs.declared.Summary as the-store
-use Rattle.store.proofs.Reading.{lent, part-of}
-use Rattle.sessions.specs.Answers.{summaryIs}
-use Rattle.told.specs.declared.Told
-use Rattle.told.specs.declared.Told.{Told}
-use Rattle.told.specs.Telling.{cutTo, flag, toldBytes, toldAt, outcome, Tells}
+use Rattle.model_standby.specs.Store.{Place}
+use Rattle.model_standby.specs.Row.{isSome}
+use Rattle.base_laws.specs.Wrote.{Wrote}
+use Rattle.frame_reader.specs.declared.Span.{Span}
+use Rattle.frame_reader.specs.Answers.{spanOf}
+use Rattle.frame_fields.specs.declared.InFlight.{InFlight}
+use Rattle.frame_fields.specs.declared.SessionId.{SessionId}
+use Rattle.frame_fields.specs.declared.Summary.{Summary}
+use Rattle.frame_fields.specs.Answers.{flightOf, keyOf, summaryOf}
+use Rattle.frame_writer.specs.Encoding.{keySize, summarySize, took}
+use Rattle.store_log.proofs.Lawful.{Small}
+use Rattle.store_place.specs.Place as the-place
+use Rattle.store_place.specs.Place.{flightIs, field, placeIn}
+use Rattle.store_areas.specs.declared.Shape.{Shape}
+use Rattle.store_areas.specs.Areas.{allowed, Rules, SpotIn, placeAt, placesOf}
+use Rattle.store_areas.proofs.Holding.{holdable-at}
+use Rattle.store_areas.proofs.Lifting.{places-length, place-is}
+use Rattle.store_state.specs.declared.Summary as the-store
+use Rattle.store_state.proofs.Reading.{lent, part-of}
+use Rattle.store_sessions.specs.Answers.{summaryIs}
+use Rattle.c_session.specs.declared.Told
+use Rattle.c_session.specs.declared.Told.{Told}
+use Rattle.c_session.specs.Telling.{cutTo, flag, toldBytes, toldAt, outcome, Tells}
 
 -- ---- parts of the byte area
 

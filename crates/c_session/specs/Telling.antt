@@ -8,14 +8,14 @@ use lib.Dec.{leb}
 use lib.ListN.{length, getElem?}
 use Rattle.model_frame.specs.Writing.{keyBytes, summaryBytes}
 use Rattle.model_session.specs.Summary.{summary}
-use Rattle.model.specs.Store.{Place}
-use Rattle.model.specs.Row.{isSome}
-use Rattle.scan.specs.declared.Span.{Span}
-use Rattle.print.specs.Encoding.{Outcome, wrote, refused, areaAfter, Answer, took, refusal, answerOf}
-use Rattle.areas.specs.declared.Shape.{Shape}
-use Rattle.areas.specs.Areas.{allowed, placesOf}
-use Rattle.told.specs.declared.Told.{Told}
-use Rattle.told.specs.declared.Told
+use Rattle.model_standby.specs.Store.{Place}
+use Rattle.model_standby.specs.Row.{isSome}
+use Rattle.frame_reader.specs.declared.Span.{Span}
+use Rattle.frame_writer.specs.Encoding.{Outcome, wrote, refused, areaAfter, Answer, took, refusal, answerOf}
+use Rattle.store_areas.specs.declared.Shape.{Shape}
+use Rattle.store_areas.specs.Areas.{allowed, placesOf}
+use Rattle.c_session.specs.declared.Told.{Told}
+use Rattle.c_session.specs.declared.Told
 
 -- n bytes at a position, or the first `most` of them
 abbrev pub cutTo : ℕ → ℕ → ℕ → Span

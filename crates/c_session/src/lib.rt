@@ -6,20 +6,20 @@ ghost use Prim.Native.Nat.{ℕ, _+_, _≤_, _<_};
 ghost use lib.ListN.{length, getD};
 ghost use Rattle.model_frame.specs.Writing.{keyBytes, summaryBytes};
 ghost use Rattle.model_session.specs.Summary.{summary};
-ghost use Rattle.model.specs.Row.{isSome};
-ghost use Rattle.laws.specs.Wrote.{Wrote};
-ghost use Rattle.scan.specs.Answers.{spanOf};
-ghost use Rattle.parts.specs.Answers.{flightOf, keyOf, summaryOf};
-ghost use Rattle.print.specs.Encoding.{keySize, summarySize};
-ghost use Rattle.place.specs.Place.{flightIs};
-ghost use Rattle.areas.specs.Areas.{Rules, placeAt};
-ghost use Rattle.told.specs.Telling.{cutTo, flag, toldBytes, toldAt, Tells};
-use areas::Shape;
-use parts::InFlight;
-use parts::SessionId;
-use parts::Summary;
-use place::Flight;
-use scan::Span;
+ghost use Rattle.model_standby.specs.Row.{isSome};
+ghost use Rattle.base_laws.specs.Wrote.{Wrote};
+ghost use Rattle.frame_reader.specs.Answers.{spanOf};
+ghost use Rattle.frame_fields.specs.Answers.{flightOf, keyOf, summaryOf};
+ghost use Rattle.frame_writer.specs.Encoding.{keySize, summarySize};
+ghost use Rattle.store_place.specs.Place.{flightIs};
+ghost use Rattle.store_areas.specs.Areas.{Rules, placeAt};
+ghost use Rattle.c_session.specs.Telling.{cutTo, flag, toldBytes, toldAt, Tells};
+use frame_fields::InFlight;
+use frame_fields::SessionId;
+use frame_fields::Summary;
+use frame_reader::Span;
+use store_areas::Shape;
+use store_place::Flight;
 
 // How many bytes were written, or why none was: an area too short, broken rules or a place that is not in use.
 pub enum Told {
@@ -46,7 +46,7 @@ fn key_of(words: &[u64], bytes: &[u8], shape: Shape, i: usize) -> SessionId
     requires { ⌜ i < getD (now words) 0 0 ⌝ }
     ensures { λ r. ⌜ keyOf (now (bytes .entry)) r ≡ placeAt shape (now (words .entry)) (now (bytes .entry)) i .key ⌝ }
 {
-    let p = areas::spot_in(words, bytes, shape, i);
+    let p = store_areas::spot_in(words, bytes, shape, i);
     let wa = p.wa;
     let ba = p.ba;
     let begin_string = span(ba, words[wa + 7], 32);
@@ -76,7 +76,7 @@ fn summary_of(words: &[u64], bytes: &[u8], shape: Shape, i: usize, n: u64) -> Su
     requires { ⌜ i < getD (now words) 0 0 ⌝ }
     ensures { λ r. ⌜ summaryOf (now (bytes .entry)) r ≡ summary (placeAt shape (now (words .entry)) (now (bytes .entry)) i .stored .session) n ⌝ }
 {
-    let m = sessions::summary_of(words, bytes, shape, i, n);
+    let m = store_sessions::summary_of(words, bytes, shape, i, n);
     let f = m.in_flight;
     let t = m.created_at;
     let u = m.marks;
@@ -100,7 +100,7 @@ fn len(bytes: &[u8], p: Span) -> usize
     ensures { λ r. ⌜ r ≡ length (spanOf (now (bytes .entry)) p) ⌝ }
     ensures { λ r. ⌜ r < 4294967296 ⌝ }
 {
-    scan::slice(bytes, p).len()
+    frame_reader::slice(bytes, p).len()
 }
 
 // How many bytes a session's key and summary take with the two flags before them.
@@ -141,10 +141,10 @@ fn put(bytes: &[u8], durable: bool, k: SessionId, m: Summary, out: &mut [u8]) ->
     ensures { λ r. ⌜ Wrote (now (out .entry)) 0 (flag durable ∷ flag (isSome (flightOf (m .«in_flight»))) ∷ (keyBytes (keyOf (now (bytes .entry)) k) ++ summaryBytes (summaryOf (now (bytes .entry)) m))) (now (out .exit)) r ⌝ }
 {
     let f = m.in_flight;
-    let at = op::tag(out, 0, durable_flag(durable));
-    let at = op::tag(out, at, flight_flag(f));
-    let at = print::put_session(bytes, k, out, at);
-    print::put_summary(bytes, m, out, at)
+    let at = frame_op::tag(out, 0, durable_flag(durable));
+    let at = frame_op::tag(out, at, flight_flag(f));
+    let at = frame_writer::put_session(bytes, k, out, at);
+    frame_writer::put_summary(bytes, m, out, at)
 }
 
 // The session at a place in use.
@@ -153,7 +153,7 @@ fn tell(words: &[u64], bytes: &[u8], shape: Shape, place: usize, n: u64, out: &m
     requires { ⌜ place < getD (now words) 0 0 ⌝ }
     ensures { λ r. ⌜ Tells (some (toldBytes (placeAt shape (now (words .entry)) (now (bytes .entry)) place) n)) (now (out .entry)) (now (out .exit)) r ⌝ }
 {
-    let durable = store::durable(words, bytes, shape, place);
+    let durable = store_state::durable(words, bytes, shape, place);
     let k = key_of(words, bytes, shape, place);
     let m = summary_of(words, bytes, shape, place, n);
     if out.len() < size(bytes, k, m) {
@@ -173,7 +173,7 @@ pub fn session(
 ) -> Told
     ensures { λ r. ⌜ Tells (toldAt shape (now (words .entry)) (now (bytes .entry)) place n) (now (out .entry)) (now (out .exit)) r ⌝ }
 {
-    if areas::allowed(shape, words, bytes) {
+    if store_areas::allowed(shape, words, bytes) {
         if place < words[0] as usize {
             return tell(words, bytes, shape, place, n, out);
         }

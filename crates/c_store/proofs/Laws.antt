@@ -12,15 +12,15 @@ use Rattle.model_text.specs.Printable.{isKey}
 use Rattle.model_frame.specs.Frame.{Key, recordMsg}
 use Rattle.model_session.specs.Session.{Session, top}
 use Rattle.model_session.specs.Summary.{numberedFrom}
-use Rattle.model.specs.Store.{Stored, placeOf, isStored, changed}
-use Rattle.log.specs.Log.{restOf}
-use Rattle.place.specs.Place.{restIn, StandsIn}
-use Rattle.areas.specs.declared.Shape.{Shape}
-use Rattle.areas.specs.Areas.{roomy, allowed, inUse, InUse, placesOf, Changed}
-use Rattle.areas.proofs.Lifting.{places-length}
-use Rattle.areas.proofs.Ruling.{in-use-of}
-use Rattle.sessions.specs.Answers.{Opened, restAt, StandsAt, FromAt}
-use Rattle.store_c.specs.Total.{sessionIn, Reads, MadeIs, ChangeIs, canOpen, isNew, OpenIs}
+use Rattle.model_standby.specs.Store.{Stored, placeOf, isStored, changed}
+use Rattle.store_log.specs.Log.{restOf}
+use Rattle.store_place.specs.Place.{restIn, StandsIn}
+use Rattle.store_areas.specs.declared.Shape.{Shape}
+use Rattle.store_areas.specs.Areas.{roomy, allowed, inUse, InUse, placesOf, Changed}
+use Rattle.store_areas.proofs.Lifting.{places-length}
+use Rattle.store_areas.proofs.Ruling.{in-use-of}
+use Rattle.store_sessions.specs.Answers.{Opened, restAt, StandsAt, FromAt}
+use Rattle.c_store.specs.Total.{sessionIn, Reads, MadeIs, ChangeIs, canOpen, isNew, OpenIs}
 
 no25 : _≡_ {A = ℕ} 25 0 → ⊥
 no25 e = omega arith

@@ -8,10 +8,10 @@ use lib.Dec.{eqb, ltb}
 use Rattle.model_text.specs.Printable.{isKey}
 use Rattle.model_frame.specs.Frame.{Key}
 use Rattle.model_session.specs.Session.{Session, top}
-use Rattle.model.specs.Store.{Stored, placeOf, isStored}
-use Rattle.areas.specs.declared.Shape.{Shape}
-use Rattle.areas.specs.Areas.{roomy, allowed, inUse, placeAt, placesOf, Changed}
-use Rattle.sessions.specs.Answers.{Opened}
+use Rattle.model_standby.specs.Store.{Stored, placeOf, isStored}
+use Rattle.store_areas.specs.declared.Shape.{Shape}
+use Rattle.store_areas.specs.Areas.{roomy, allowed, inUse, placeAt, placesOf, Changed}
+use Rattle.store_sessions.specs.Answers.{Opened}
 
 -- the session at place i
 abbrev pub sessionIn : Shape → List ℕ → List ℕ → ℕ → Session

@@ -9,18 +9,18 @@ ghost use Rattle.model_text.specs.Stamp.{isStamp};
 ghost use Rattle.model_frame.specs.Frame.{setIncoming, setIncomingInFlight, setInFlight, recordMsg, recordBare, reset, setCreatedAt, setMarks};
 ghost use Rattle.model_session.specs.Session.{Session, top};
 ghost use Rattle.model_session.specs.Summary.{fnv, numberedFrom, lastOut};
-ghost use Rattle.model.specs.Store.{changed, markDurable, takenOver};
-ghost use Rattle.place.specs.Place.{keyFrom};
-ghost use Rattle.store_c.specs.Total.{sessionIn, Reads, MadeIs, ChangeIs, OpenIs};
-use areas::Made;
-use areas::Shape;
+ghost use Rattle.model_standby.specs.Store.{changed, markDurable, takenOver};
+ghost use Rattle.store_place.specs.Place.{keyFrom};
+ghost use Rattle.c_store.specs.Total.{sessionIn, Reads, MadeIs, ChangeIs, OpenIs};
+use store_areas::Made;
+use store_areas::Shape;
 
 // Makes a store without sessions.
 #[no_mangle]
 pub extern "C" fn store_make(words: &mut [u64], bytes: &[u8], shape: Shape) -> u32
     ensures { λ r. ⌜ MadeIs shape (now (words .entry)) (now (words .exit)) (now (bytes .entry)) r ⌝ }
 {
-    match areas::make(shape, words, bytes) {
+    match store_areas::make(shape, words, bytes) {
         Made::Ready => 0,
         Made::Unfit => 25,
     }
@@ -39,20 +39,20 @@ pub extern "C" fn store_open(
 ) -> u64
     ensures { λ r. ⌜ OpenIs shape (keyFrom (now (begin .entry)) (now (sender .entry)) (now (target .entry)) (now (suffix .entry))) (now (words .entry)) (now (words .exit)) (now (bytes .entry)) (now (bytes .exit)) r ⌝ }
 {
-    if !areas::allowed(shape, words, bytes) {
+    if !store_areas::allowed(shape, words, bytes) {
         return u64::MAX;
     }
-    if !stamp::is_key(begin, sender, target, suffix) {
+    if !frame_stamp::is_key(begin, sender, target, suffix) {
         return u64::MAX;
     }
-    let i = sessions::place_of(words, bytes, shape, begin, sender, target, suffix);
+    let i = store_sessions::place_of(words, bytes, shape, begin, sender, target, suffix);
     if (i as u64) < words[0] {
         return i as u64;
     }
     if shape.places as u64 <= words[0] {
         return u64::MAX;
     }
-    sessions::open(words, bytes, shape, begin, sender, target, suffix);
+    store_sessions::open(words, bytes, shape, begin, sender, target, suffix);
     i as u64
 }
 
@@ -62,10 +62,10 @@ pub extern "C" fn store_open(
 pub extern "C" fn store_next_outgoing(words: &[u64], bytes: &[u8], shape: Shape, i: usize) -> u64
     ensures { λ r. ⌜ Reads shape (now (words .entry)) (now (bytes .entry)) i (λ x. x .nextOut) r ⌝ }
 {
-    if !areas::in_use(words, bytes, shape, i) {
+    if !store_areas::in_use(words, bytes, shape, i) {
         return 0;
     }
-    store::next_outgoing(words, bytes, shape, i)
+    store_state::next_outgoing(words, bytes, shape, i)
 }
 
 // The hash of the newest n numbers' messages.
@@ -79,10 +79,10 @@ pub extern "C" fn store_last_outgoing(
 ) -> u64
     ensures { λ r. ⌜ Reads shape (now (words .entry)) (now (bytes .entry)) i (λ x. lastOut x n) r ⌝ }
 {
-    if !areas::in_use(words, bytes, shape, i) {
+    if !store_areas::in_use(words, bytes, shape, i) {
         return 0;
     }
-    sessions::last_outgoing(words, bytes, shape, i, n)
+    store_sessions::last_outgoing(words, bytes, shape, i, n)
 }
 
 // How many messages are stored: every stored number is from 1.
@@ -90,10 +90,10 @@ pub extern "C" fn store_last_outgoing(
 pub extern "C" fn store_count(words: &[u64], bytes: &[u8], shape: Shape, i: usize) -> u64
     ensures { λ r. ⌜ Reads shape (now (words .entry)) (now (bytes .entry)) i (λ x. length (numberedFrom 1 (x .messages))) r ⌝ }
 {
-    if !areas::in_use(words, bytes, shape, i) {
+    if !store_areas::in_use(words, bytes, shape, i) {
         return 0;
     }
-    let c = sessions::messages_from(words, bytes, shape, i, 1);
+    let c = store_sessions::messages_from(words, bytes, shape, i, 1);
     c.left as u64
 }
 
@@ -109,10 +109,10 @@ pub extern "C" fn store_set_next_incoming(
 ) -> u32
     ensures { λ r. ⌜ ChangeIs shape i true (changed (shape .bytes) (shape .messages) (setIncoming seq ∷ [])) (now (words .entry)) (now (words .exit)) (now (bytes .entry)) (now (bytes .entry)) r ⌝ }
 {
-    if !areas::in_use(words, bytes, shape, i) {
+    if !store_areas::in_use(words, bytes, shape, i) {
         return 25;
     }
-    store::set_next_incoming(words, bytes, shape, i, seq);
+    store_state::set_next_incoming(words, bytes, shape, i, seq);
     0
 }
 
@@ -127,10 +127,10 @@ pub extern "C" fn store_set_next_incoming_in_flight(
 ) -> u32
     ensures { λ r. ⌜ ChangeIs shape i true (changed (shape .bytes) (shape .messages) (setIncomingInFlight seq «in_flight» ∷ [])) (now (words .entry)) (now (words .exit)) (now (bytes .entry)) (now (bytes .entry)) r ⌝ }
 {
-    if !areas::in_use(words, bytes, shape, i) {
+    if !store_areas::in_use(words, bytes, shape, i) {
         return 25;
     }
-    store::set_next_incoming_in_flight(words, bytes, shape, i, seq, in_flight);
+    store_state::set_next_incoming_in_flight(words, bytes, shape, i, seq, in_flight);
     0
 }
 
@@ -144,10 +144,10 @@ pub extern "C" fn store_set_in_flight(
 ) -> u32
     ensures { λ r. ⌜ ChangeIs shape i true (changed (shape .bytes) (shape .messages) (setInFlight seq ∷ [])) (now (words .entry)) (now (words .exit)) (now (bytes .entry)) (now (bytes .entry)) r ⌝ }
 {
-    if !areas::in_use(words, bytes, shape, i) {
+    if !store_areas::in_use(words, bytes, shape, i) {
         return 25;
     }
-    store::set_in_flight(words, bytes, shape, i, seq);
+    store_state::set_in_flight(words, bytes, shape, i, seq);
     0
 }
 
@@ -162,14 +162,14 @@ pub extern "C" fn store_record(
 ) -> u32
     ensures { λ r. ⌜ ChangeIs shape i (ltb (sessionIn shape (now (words .entry)) (now (bytes .entry)) i .nextOut) top) (changed (shape .bytes) (shape .messages) (recordMsg (sessionIn shape (now (words .entry)) (now (bytes .entry)) i .nextOut) (now (text .entry)) ∷ [])) (now (words .entry)) (now (words .exit)) (now (bytes .entry)) (now (bytes .exit)) r ⌝ }
 {
-    if !areas::in_use(words, bytes, shape, i) {
+    if !store_areas::in_use(words, bytes, shape, i) {
         return 25;
     }
-    let seq = store::next_outgoing(words, bytes, shape, i);
+    let seq = store_state::next_outgoing(words, bytes, shape, i);
     if seq == u64::MAX {
         return 2;
     }
-    store::record(words, bytes, shape, i, seq, text);
+    store_state::record(words, bytes, shape, i, seq, text);
     0
 }
 
@@ -184,16 +184,16 @@ pub extern "C" fn store_record_none(
 ) -> u32
     ensures { λ r. ⌜ ChangeIs shape i (leb (sessionIn shape (now (words .entry)) (now (bytes .entry)) i .nextOut) seq && ltb seq top) (changed (shape .bytes) (shape .messages) (recordBare seq ∷ [])) (now (words .entry)) (now (words .exit)) (now (bytes .entry)) (now (bytes .entry)) r ⌝ }
 {
-    if !areas::in_use(words, bytes, shape, i) {
+    if !store_areas::in_use(words, bytes, shape, i) {
         return 25;
     }
     if seq == u64::MAX {
         return 2;
     }
-    if seq < store::next_outgoing(words, bytes, shape, i) {
+    if seq < store_state::next_outgoing(words, bytes, shape, i) {
         return 2;
     }
-    store::record_none(words, bytes, shape, i, seq);
+    store_state::record_none(words, bytes, shape, i, seq);
     0
 }
 
@@ -201,10 +201,10 @@ pub extern "C" fn store_record_none(
 pub extern "C" fn store_reset(words: &mut [u64], bytes: &[u8], shape: Shape, i: usize) -> u32
     ensures { λ r. ⌜ ChangeIs shape i true (changed (shape .bytes) (shape .messages) (reset ∷ [])) (now (words .entry)) (now (words .exit)) (now (bytes .entry)) (now (bytes .entry)) r ⌝ }
 {
-    if !areas::in_use(words, bytes, shape, i) {
+    if !store_areas::in_use(words, bytes, shape, i) {
         return 25;
     }
-    store::reset(words, bytes, shape, i);
+    store_state::reset(words, bytes, shape, i);
     0
 }
 
@@ -218,13 +218,13 @@ pub extern "C" fn store_set_created_at(
 ) -> u32
     ensures { λ r. ⌜ ChangeIs shape i (isStamp (now (text .entry))) (changed (shape .bytes) (shape .messages) (setCreatedAt (now (text .entry)) ∷ [])) (now (words .entry)) (now (words .exit)) (now (bytes .entry)) (now (bytes .exit)) r ⌝ }
 {
-    if !areas::in_use(words, bytes, shape, i) {
+    if !store_areas::in_use(words, bytes, shape, i) {
         return 25;
     }
-    if !stamp::is_stamp(text) {
+    if !frame_stamp::is_stamp(text) {
         return 2;
     }
-    store::set_created_at(words, bytes, shape, i, text);
+    store_state::set_created_at(words, bytes, shape, i, text);
     0
 }
 
@@ -238,13 +238,13 @@ pub extern "C" fn store_set_marks(
 ) -> u32
     ensures { λ r. ⌜ ChangeIs shape i (isMarks (now (text .entry))) (changed (shape .bytes) (shape .messages) (setMarks (now (text .entry)) ∷ [])) (now (words .entry)) (now (words .exit)) (now (bytes .entry)) (now (bytes .exit)) r ⌝ }
 {
-    if !areas::in_use(words, bytes, shape, i) {
+    if !store_areas::in_use(words, bytes, shape, i) {
         return 25;
     }
-    if !stamp::is_marks(text) {
+    if !frame_stamp::is_marks(text) {
         return 2;
     }
-    store::set_marks(words, bytes, shape, i, text);
+    store_state::set_marks(words, bytes, shape, i, text);
     0
 }
 
@@ -252,10 +252,10 @@ pub extern "C" fn store_set_marks(
 pub extern "C" fn store_mark_durable(words: &mut [u64], bytes: &[u8], shape: Shape, i: usize) -> u32
     ensures { λ r. ⌜ ChangeIs shape i true markDurable (now (words .entry)) (now (words .exit)) (now (bytes .entry)) (now (bytes .entry)) r ⌝ }
 {
-    if !areas::in_use(words, bytes, shape, i) {
+    if !store_areas::in_use(words, bytes, shape, i) {
         return 25;
     }
-    store::mark_durable(words, bytes, shape, i);
+    store_state::mark_durable(words, bytes, shape, i);
     0
 }
 
@@ -269,10 +269,10 @@ pub extern "C" fn store_take_over(
 ) -> u32
     ensures { λ r. ⌜ ChangeIs shape i true (takenOver lag) (now (words .entry)) (now (words .exit)) (now (bytes .entry)) (now (bytes .exit)) r ⌝ }
 {
-    if !areas::in_use(words, bytes, shape, i) {
+    if !store_areas::in_use(words, bytes, shape, i) {
         return 25;
     }
-    store::take_over(words, bytes, shape, i, lag);
+    store_state::take_over(words, bytes, shape, i, lag);
     0
 }
 
@@ -281,5 +281,5 @@ pub extern "C" fn store_take_over(
 pub extern "C" fn store_fnv(h: u64, s: &[u8]) -> u64
     ensures { λ r. ⌜ r ≡ fnv h (now (s .entry)) ⌝ }
 {
-    log::fnv::bytes(h, s)
+    store_log::fnv::bytes(h, s)
 }

@@ -15,9 +15,9 @@ use Rattle.model_frame.specs.Frame.{got}
 use Rattle.model_frame.specs.Reading.{maxBody, decode}
 use Rattle.model_frame.specs.Writing.{bodyBytes, encode}
 use Rattle.model_frame.proofs.Sound.{decode-sound}
-use Rattle.print.specs.declared.Written
-use Rattle.print.specs.declared.Written.{Written}
-use Rattle.print.specs.Encoding.{Outcome, outcome, wrote, refused, areaAfter, Answer, took, refusal, answerOf, writtenOf, Encoded}
+use Rattle.frame_writer.specs.declared.Written
+use Rattle.frame_writer.specs.declared.Written.{Written}
+use Rattle.frame_writer.specs.Encoding.{Outcome, outcome, wrote, refused, areaAfter, Answer, took, refusal, answerOf, writtenOf, Encoded}
 use Rattle.frame.specs.declared.Frame.{Frame}
 use Rattle.frame.specs.declared.Decoded
 use Rattle.frame.specs.declared.Decoded.{Decoded}

@@ -7,18 +7,18 @@ use native.Mathlib.Omega.{arith}
 use borrow.Author.Tests.{leb-true, le-leb}
 use lib.ListN.{length, take, drop, length-append, length-drop, take-append-drop}
 use lib.Seq.{take-append-le}
-use Rattle.laws.proofs.Lists.{drop-take, both}
-use Rattle.laws.proofs.Runs.{run-items}
+use Rattle.base_laws.proofs.Lists.{drop-take, both}
+use Rattle.base_laws.proofs.Runs.{run-items}
 use Rattle.model_frame.specs.Frame.{hello, batch, bind, bound}
 use Rattle.model_frame.specs.Parse.{Res, ok, bad, Parser, num, many, forget, collect}
 use Rattle.model_frame.specs.Reading.{readChange, appRecord, body}
 use Rattle.model_frame.proofs.Grow.{Grows, grow-num, grow-many, change-grows, record-grows}
-use Rattle.scan.specs.declared.Span.{Span}
-use Rattle.scan.specs.Answers.{spanOf}
-use Rattle.op.specs.declared.Run.{Run}
-use Rattle.op.specs.Answers.{runOf}
-use Rattle.parts.specs.Answers.{partOf, summaryOf}
-use Rattle.print.specs.Encoding.{spanFits, isOk, runReads}
+use Rattle.frame_reader.specs.declared.Span.{Span}
+use Rattle.frame_reader.specs.Answers.{spanOf}
+use Rattle.frame_op.specs.declared.Run.{Run}
+use Rattle.frame_op.specs.Answers.{runOf}
+use Rattle.frame_fields.specs.Answers.{partOf, summaryOf}
+use Rattle.frame_writer.specs.Encoding.{spanFits, isOk, runReads}
 use Rattle.frame.specs.declared.Frame
 use Rattle.frame.specs.declared.Frame.{Frame}
 use Rattle.frame.specs.declared.FrameAt.{FrameAt}

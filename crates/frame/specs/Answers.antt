@@ -9,10 +9,10 @@ use Rattle.model_frame.specs.Frame as the-frame
 use Rattle.model_frame.specs.Frame.{hello, welcome, bind, batch, ack, nack, bound, checked, more, faulty, got}
 use Rattle.model_frame.specs.Parse.{Res, ok, bad, num}
 use Rattle.model_frame.specs.Reading.{readChange, appRecord}
-use Rattle.scan.specs.Answers.{faultOf, spanOf}
-use Rattle.op.specs.Answers.{runOf}
-use Rattle.parts.specs.Answers.{partOf, reasonOf, keyOf, summaryOf}
-use Rattle.print.specs.Encoding.{spanFits, runReads, keyFits, summaryFits, given}
+use Rattle.frame_reader.specs.Answers.{faultOf, spanOf}
+use Rattle.frame_op.specs.Answers.{runOf}
+use Rattle.frame_fields.specs.Answers.{partOf, reasonOf, keyOf, summaryOf}
+use Rattle.frame_writer.specs.Encoding.{spanFits, runReads, keyFits, summaryFits, given}
 use Rattle.frame.specs.declared.Batch.{Batch}
 use Rattle.frame.specs.declared.Frame
 use Rattle.frame.specs.declared.Frame.{Frame}

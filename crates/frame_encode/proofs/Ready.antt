@@ -20,19 +20,19 @@ use Rattle.model_frame.proofs.RoundTrip.{and-left, and-right}
 use Rattle.model_frame.proofs.Sizes.{body-size, changes-size, records-size}
 use Rattle.model_frame.proofs.Sound.{record-canon}
 use Rattle.model_frame.proofs.SoundChange.{TakenChange, change-canon, taken-fine}
-use Rattle.laws.specs.Wrote.{Wrote, StandsAt}
-use Rattle.laws.proofs.Runs.{numbers-end}
-use Rattle.laws.proofs.StandsAt.{run-stands, run-counted}
-use Rattle.scan.specs.declared.Span.{Span}
-use Rattle.scan.specs.Answers.{spanOf}
-use Rattle.op.specs.declared.Run as the-run
-use Rattle.op.specs.Answers.{runOf}
-use Rattle.parts.specs.declared.SessionId.{SessionId}
-use Rattle.parts.specs.declared.Summary as the-summary
-use Rattle.parts.specs.Answers.{keyOf, summaryOf}
-use Rattle.print.specs.Encoding.{spanFits, runReads, keyFits, summaryFits}
-use Rattle.print.proofs.Fits.{span-length, numbers-read}
-use Rattle.print.proofs.Encoded.{Ready, Unready}
+use Rattle.base_laws.specs.Wrote.{Wrote, StandsAt}
+use Rattle.base_laws.proofs.Runs.{numbers-end}
+use Rattle.base_laws.proofs.StandsAt.{run-stands, run-counted}
+use Rattle.frame_reader.specs.declared.Span.{Span}
+use Rattle.frame_reader.specs.Answers.{spanOf}
+use Rattle.frame_op.specs.declared.Run as the-run
+use Rattle.frame_op.specs.Answers.{runOf}
+use Rattle.frame_fields.specs.declared.SessionId.{SessionId}
+use Rattle.frame_fields.specs.declared.Summary as the-summary
+use Rattle.frame_fields.specs.Answers.{keyOf, summaryOf}
+use Rattle.frame_writer.specs.Encoding.{spanFits, runReads, keyFits, summaryFits}
+use Rattle.frame_writer.proofs.Fits.{span-length, numbers-read}
+use Rattle.frame_writer.proofs.Encoded.{Ready, Unready}
 
 -- ---- kinds of a fixed length
 

@@ -9,21 +9,21 @@ ghost use Rattle.model_frame.specs.Frame.{hello, welcome, bind, batch, ack, nac
 ghost use Rattle.model_frame.specs.Parse.{num, runBytes};
 ghost use Rattle.model_frame.specs.Reading.{readChange, appRecord, maxBody};
 ghost use Rattle.model_frame.specs.Writing.{blobBytes, changeBytes, appRecordBytes, partNumber, bodyBytes};
-ghost use Rattle.laws.specs.Wrote.{Wrote, StandsAt};
-ghost use Rattle.scan.specs.Answers.{spanOf};
-ghost use Rattle.op.specs.Answers.{runOf};
-ghost use Rattle.parts.specs.Answers.{partOf, reasonOf, keyOf, summaryOf};
-ghost use Rattle.print.specs.Encoding.{spanFits, runReads, keyFits, summaryFits, keySize, summarySize, given, Encoded};
-use op::Run;
-use op::RunLen;
-use parts::NackReason;
-use parts::Part;
-use parts::SessionId;
-use parts::Summary;
-use print::Start;
-use print::Written;
-use scan::Span;
-use stamp::Protocol;
+ghost use Rattle.base_laws.specs.Wrote.{Wrote, StandsAt};
+ghost use Rattle.frame_reader.specs.Answers.{spanOf};
+ghost use Rattle.frame_op.specs.Answers.{runOf};
+ghost use Rattle.frame_fields.specs.Answers.{partOf, reasonOf, keyOf, summaryOf};
+ghost use Rattle.frame_writer.specs.Encoding.{spanFits, runReads, keyFits, summaryFits, keySize, summarySize, given, Encoded};
+use frame_fields::NackReason;
+use frame_fields::Part;
+use frame_fields::SessionId;
+use frame_fields::Summary;
+use frame_op::Run;
+use frame_op::RunLen;
+use frame_reader::Span;
+use frame_stamp::Protocol;
+use frame_writer::Start;
+use frame_writer::Written;
 
 fn put_hello(
     src: &[u8],
@@ -39,12 +39,12 @@ fn put_hello(
 {
     let first = kinds.at;
     let len = (kinds.count as usize) * 2;
-    let at = op::tag(out, at, 1);
-    let at = wire::put_u16(out, at, version);
-    let at = wire::put_u64(out, at, epoch);
-    let at = print::put_span(src, node, out, at);
-    let at = wire::put_u32(out, at, kinds.count);
-    wire::copy(scan::bytes_at(src, first, len), out, at)
+    let at = frame_op::tag(out, at, 1);
+    let at = base_bytes::put_u16(out, at, version);
+    let at = base_bytes::put_u64(out, at, epoch);
+    let at = frame_writer::put_span(src, node, out, at);
+    let at = base_bytes::put_u32(out, at, kinds.count);
+    base_bytes::copy(frame_reader::bytes_at(src, first, len), out, at)
 }
 
 pub fn hello(
@@ -59,10 +59,10 @@ pub fn hello(
     requires { ⌜ limit ≡ maxBody ⌝ }
     ensures { λ r. ⌜ ((v : ℕ) → Encoded v (given (spanFits (now (src .entry)) node && runReads (num 2) (now (src .entry)) kinds) (hello version epoch (spanOf (now (src .entry)) node) (runOf (num 2) (now (src .entry)) kinds))) (now (out .entry)) (now (out .exit)) r) ⌝ }
 {
-    let fits = print::within(src, node) & print::kinds_fit(src, kinds);
-    if fits & text::is_utf8(scan::slice(src, node)) {
+    let fits = frame_writer::within(src, node) & frame_writer::kinds_fit(src, kinds);
+    if fits & frame_utf8::is_utf8(frame_reader::slice(src, node)) {
         let n = 19 + (node.len as usize) + (kinds.count as usize) * 2;
-        match print::begin(out, limit, n) {
+        match frame_writer::begin(out, limit, n) {
             Start::TooLong => Written::TooLong,
             Start::NoRoom => Written::NoRoom,
             Start::At(at) => Written::Took(put_hello(src, version, epoch, node, kinds, out, at)),
@@ -76,15 +76,15 @@ fn put_welcome(epoch: u64, incarnation: u64, out: &mut [u8], at: usize) -> usize
     requires { ⌜ at + 17 ≤ length (now out) ⌝ }
     ensures { λ r. ⌜ Wrote (now (out .entry)) at (bodyBytes (welcome epoch incarnation)) (now (out .exit)) r ⌝ }
 {
-    let at = op::tagged(out, at, 2, epoch);
-    wire::put_u64(out, at, incarnation)
+    let at = frame_op::tagged(out, at, 2, epoch);
+    base_bytes::put_u64(out, at, incarnation)
 }
 
 pub fn welcome(limit: u32, epoch: u64, incarnation: u64, out: &mut [u8]) -> Written
     requires { ⌜ limit ≡ maxBody ⌝ }
     ensures { λ r. ⌜ ((v : ℕ) → Encoded v (given true (welcome epoch incarnation)) (now (out .entry)) (now (out .exit)) r) ⌝ }
 {
-    match print::begin(out, limit, 17) {
+    match frame_writer::begin(out, limit, 17) {
         Start::TooLong => Written::TooLong,
         Start::NoRoom => Written::NoRoom,
         Start::At(at) => Written::Took(put_welcome(epoch, incarnation, out, at)),
@@ -103,10 +103,10 @@ fn put_bind(
     requires { ⌜ at + (21 + keySize (keyOf (now src) session)) ≤ length (now out) ⌝ }
     ensures { λ r. ⌜ Wrote (now (out .entry)) at (bodyBytes (bind handle epoch lag (keyOf (now (src .entry)) session))) (now (out .exit)) r ⌝ }
 {
-    let at = print::put_handle(out, at, 3, handle);
-    let at = wire::put_u64(out, at, epoch);
-    let at = wire::put_u64(out, at, lag);
-    print::put_session(src, session, out, at)
+    let at = frame_writer::put_handle(out, at, 3, handle);
+    let at = base_bytes::put_u64(out, at, epoch);
+    let at = base_bytes::put_u64(out, at, lag);
+    frame_writer::put_session(src, session, out, at)
 }
 
 pub fn bind(
@@ -121,7 +121,7 @@ pub fn bind(
     requires { ⌜ limit ≡ maxBody ⌝ }
     ensures { λ r. ⌜ ((v : ℕ) → Encoded v (given (keyFits (now (src .entry)) session) (bind handle epoch lag (keyOf (now (src .entry)) session))) (now (out .entry)) (now (out .exit)) r) ⌝ }
 {
-    if print::session_fits(src, session) {
+    if frame_writer::session_fits(src, session) {
         let begin = session.begin_string;
         let sender = session.sender_comp_id;
         let target = session.target_comp_id;
@@ -131,7 +131,7 @@ pub fn bind(
             + (sender.len as usize)
             + (target.len as usize)
             + (suffix.len as usize);
-        match print::begin(out, limit, n) {
+        match frame_writer::begin(out, limit, n) {
             Start::TooLong => Written::TooLong,
             Start::NoRoom => Written::NoRoom,
             Start::At(at) => Written::Took(put_bind(src, handle, epoch, lag, session, out, at)),
@@ -154,11 +154,11 @@ fn put_head(
     ensures { λ r. ⌜ Wrote (now (out .entry)) at (4 ∷ bytesOf 4 handle ++ bytesOf 8 epoch ++ bytesOf 8 commit ++ partNumber (partOf part) ∷ bytesOf 4 count) (now (out .exit)) r ⌝ }
     ensures { λ r. ⌜ r ≡ at + 26 ⌝ }
 {
-    let at = print::put_handle(out, at, 4, handle);
-    let at = wire::put_u64(out, at, epoch);
-    let at = wire::put_u64(out, at, commit);
-    let at = op::tag(out, at, print::part_byte(part));
-    wire::put_u32(out, at, count)
+    let at = frame_writer::put_handle(out, at, 4, handle);
+    let at = base_bytes::put_u64(out, at, epoch);
+    let at = base_bytes::put_u64(out, at, commit);
+    let at = frame_op::tag(out, at, frame_writer::part_byte(part));
+    base_bytes::put_u32(out, at, count)
 }
 
 // The changes and the records of a batch, k and m bytes, are copied as they stand in the source.
@@ -178,9 +178,9 @@ fn put_runs(
     ensures { λ r. ⌜ Wrote (now (out .entry)) at (runBytes changeBytes (runOf (readChange (p .version)) (now (src .entry)) ops) ++ bytesOf 4 (records .count) ++ runBytes appRecordBytes (runOf appRecord (now (src .entry)) records)) (now (out .exit)) r ⌝ }
 {
     let first = records.at;
-    let at = op::put_ops(p, src, ops, k, out, at);
-    let at = wire::put_u32(out, at, records.count);
-    wire::copy(scan::bytes_at(src, first, m), out, at)
+    let at = frame_op::put_ops(p, src, ops, k, out, at);
+    let at = base_bytes::put_u32(out, at, records.count);
+    base_bytes::copy(frame_reader::bytes_at(src, first, m), out, at)
 }
 
 pub fn batch(
@@ -198,10 +198,10 @@ pub fn batch(
     requires { ⌜ limit ≡ maxBody ⌝ }
     ensures { λ r. ⌜ Encoded (p .version) (given (runReads (readChange (p .version)) (now (src .entry)) ops && runReads appRecord (now (src .entry)) records) (batch handle epoch commit (partOf part) (runOf (readChange (p .version)) (now (src .entry)) ops) (runOf appRecord (now (src .entry)) records))) (now (out .entry)) (now (out .exit)) r ⌝ }
 {
-    let RunLen::Bytes(k) = op::ops_len(p, src, ops) else {
+    let RunLen::Bytes(k) = frame_op::ops_len(p, src, ops) else {
         return Written::Unreadable;
     };
-    let RunLen::Bytes(m) = print::records_len(src, records) else {
+    let RunLen::Bytes(m) = frame_writer::records_len(src, records) else {
         return Written::Unreadable;
     };
     if (limit as usize) < k {
@@ -210,7 +210,7 @@ pub fn batch(
     if (limit as usize) < m {
         return Written::TooLong;
     }
-    match print::begin(out, limit, 30 + k + m) {
+    match frame_writer::begin(out, limit, 30 + k + m) {
         Start::TooLong => Written::TooLong,
         Start::NoRoom => Written::NoRoom,
         Start::At(at) => {
@@ -224,15 +224,15 @@ fn put_ack(handle: u32, commit: u64, out: &mut [u8], at: usize) -> usize
     requires { ⌜ at + 13 ≤ length (now out) ⌝ }
     ensures { λ r. ⌜ Wrote (now (out .entry)) at (bodyBytes (ack handle commit)) (now (out .exit)) r ⌝ }
 {
-    let at = print::put_handle(out, at, 5, handle);
-    wire::put_u64(out, at, commit)
+    let at = frame_writer::put_handle(out, at, 5, handle);
+    base_bytes::put_u64(out, at, commit)
 }
 
 pub fn ack(limit: u32, handle: u32, commit: u64, out: &mut [u8]) -> Written
     requires { ⌜ limit ≡ maxBody ⌝ }
     ensures { λ r. ⌜ ((v : ℕ) → Encoded v (given true (ack handle commit)) (now (out .entry)) (now (out .exit)) r) ⌝ }
 {
-    match print::begin(out, limit, 13) {
+    match frame_writer::begin(out, limit, 13) {
         Start::TooLong => Written::TooLong,
         Start::NoRoom => Written::NoRoom,
         Start::At(at) => Written::Took(put_ack(handle, commit, out, at)),
@@ -243,15 +243,15 @@ fn put_nack(handle: u32, reason: NackReason, out: &mut [u8], at: usize) -> usize
     requires { ⌜ at + 6 ≤ length (now out) ⌝ }
     ensures { λ r. ⌜ Wrote (now (out .entry)) at (bodyBytes (nack handle (reasonOf reason))) (now (out .exit)) r ⌝ }
 {
-    let at = print::put_handle(out, at, 6, handle);
-    op::tag(out, at, print::reason_byte(reason))
+    let at = frame_writer::put_handle(out, at, 6, handle);
+    frame_op::tag(out, at, frame_writer::reason_byte(reason))
 }
 
 pub fn nack(limit: u32, handle: u32, reason: NackReason, out: &mut [u8]) -> Written
     requires { ⌜ limit ≡ maxBody ⌝ }
     ensures { λ r. ⌜ ((v : ℕ) → Encoded v (given true (nack handle (reasonOf reason))) (now (out .entry)) (now (out .exit)) r) ⌝ }
 {
-    match print::begin(out, limit, 6) {
+    match frame_writer::begin(out, limit, 6) {
         Start::TooLong => Written::TooLong,
         Start::NoRoom => Written::NoRoom,
         Start::At(at) => Written::Took(put_nack(handle, reason, out, at)),
@@ -262,8 +262,8 @@ fn put_bound(src: &[u8], handle: u32, summary: Summary, out: &mut [u8], at: usiz
     requires { ⌜ at + (5 + summarySize (summaryOf (now src) summary)) ≤ length (now out) ⌝ }
     ensures { λ r. ⌜ Wrote (now (out .entry)) at (bodyBytes (bound handle (summaryOf (now (src .entry)) summary))) (now (out .exit)) r ⌝ }
 {
-    let at = print::put_handle(out, at, 7, handle);
-    print::put_summary(src, summary, out, at)
+    let at = frame_writer::put_handle(out, at, 7, handle);
+    frame_writer::put_summary(src, summary, out, at)
 }
 
 pub fn bound(
@@ -277,11 +277,11 @@ pub fn bound(
     requires { ⌜ limit ≡ maxBody ⌝ }
     ensures { λ r. ⌜ Encoded (p .version) (given (summaryFits (now (src .entry)) summary) (bound handle (summaryOf (now (src .entry)) summary))) (now (out .entry)) (now (out .exit)) r ⌝ }
 {
-    if print::summary_fits(p, src, summary) {
+    if frame_writer::summary_fits(p, src, summary) {
         let created_at = summary.created_at;
         let marks = summary.marks;
         let n = 45 + (created_at.len as usize) + (marks.len as usize);
-        match print::begin(out, limit, n) {
+        match frame_writer::begin(out, limit, n) {
             Start::TooLong => Written::TooLong,
             Start::NoRoom => Written::NoRoom,
             Start::At(at) => Written::Took(put_bound(src, handle, summary, out, at)),
@@ -295,16 +295,16 @@ fn put_checked(handle: u32, epoch: u64, incarnation: u64, out: &mut [u8], at: us
     requires { ⌜ at + 21 ≤ length (now out) ⌝ }
     ensures { λ r. ⌜ Wrote (now (out .entry)) at (bodyBytes (checked handle epoch incarnation)) (now (out .exit)) r ⌝ }
 {
-    let at = print::put_handle(out, at, 8, handle);
-    let at = wire::put_u64(out, at, epoch);
-    wire::put_u64(out, at, incarnation)
+    let at = frame_writer::put_handle(out, at, 8, handle);
+    let at = base_bytes::put_u64(out, at, epoch);
+    base_bytes::put_u64(out, at, incarnation)
 }
 
 pub fn checked(limit: u32, handle: u32, epoch: u64, incarnation: u64, out: &mut [u8]) -> Written
     requires { ⌜ limit ≡ maxBody ⌝ }
     ensures { λ r. ⌜ ((v : ℕ) → Encoded v (given true (checked handle epoch incarnation)) (now (out .entry)) (now (out .exit)) r) ⌝ }
 {
-    match print::begin(out, limit, 21) {
+    match frame_writer::begin(out, limit, 21) {
         Start::TooLong => Written::TooLong,
         Start::NoRoom => Written::NoRoom,
         Start::At(at) => Written::Took(put_checked(handle, epoch, incarnation, out, at)),

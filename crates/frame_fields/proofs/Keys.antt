@@ -7,7 +7,7 @@ use borrow.Author.Tests.{not-true, not-false}
 use Rattle.model_text.specs.Printable.{isPrintable, isKey}
 use Rattle.model_frame.specs.Frame.{badSession}
 use Rattle.model_frame.specs.Parse.{Res, ok, bad, andThen, done, fail}
-use Rattle.parts.specs.Answers.{noKey}
+use Rattle.frame_fields.specs.Answers.{noKey}
 
 module _ (a b c : List ℕ) {v w x : Bool} (e : v ≡ isPrintable 1 32 a) (f : w ≡ isPrintable 1 32 b) (g : x ≡ isPrintable 1 32 c) where
   -- the first three are a key's: the fourth decides

@@ -6,26 +6,26 @@ use lib.ListN.{drop}
 use Rattle.model_frame.specs.Frame as the-frame
 use Rattle.model_frame.specs.Frame.{Key, Reason, staleEpoch, diverged, lagTooGreat, restarted, commit, whole, lastWhole, badSession}
 use Rattle.model_frame.specs.Parse.{Res, ok, bad, andThen, fail}
-use Rattle.scan.specs.Answers.{faultOf, spanOf, Lies}
-use Rattle.parts.specs.declared.Part
-use Rattle.parts.specs.declared.Part.{Part}
-use Rattle.parts.specs.declared.PartAt
-use Rattle.parts.specs.declared.PartAt.{PartAt}
-use Rattle.parts.specs.declared.NackReason
-use Rattle.parts.specs.declared.NackReason.{NackReason}
-use Rattle.parts.specs.declared.ReasonAt
-use Rattle.parts.specs.declared.ReasonAt.{ReasonAt}
-use Rattle.parts.specs.declared.AppRecord.{AppRecord}
-use Rattle.parts.specs.declared.AppRecordAt
-use Rattle.parts.specs.declared.AppRecordAt.{AppRecordAt}
-use Rattle.parts.specs.declared.SessionId.{SessionId}
-use Rattle.parts.specs.declared.SessionAt
-use Rattle.parts.specs.declared.SessionAt.{SessionAt}
-use Rattle.parts.specs.declared.InFlight
-use Rattle.parts.specs.declared.InFlight.{InFlight}
-use Rattle.parts.specs.declared.Summary.{Summary}
-use Rattle.parts.specs.declared.SummaryAt
-use Rattle.parts.specs.declared.SummaryAt.{SummaryAt}
+use Rattle.frame_reader.specs.Answers.{faultOf, spanOf, Lies}
+use Rattle.frame_fields.specs.declared.Part
+use Rattle.frame_fields.specs.declared.Part.{Part}
+use Rattle.frame_fields.specs.declared.PartAt
+use Rattle.frame_fields.specs.declared.PartAt.{PartAt}
+use Rattle.frame_fields.specs.declared.NackReason
+use Rattle.frame_fields.specs.declared.NackReason.{NackReason}
+use Rattle.frame_fields.specs.declared.ReasonAt
+use Rattle.frame_fields.specs.declared.ReasonAt.{ReasonAt}
+use Rattle.frame_fields.specs.declared.AppRecord.{AppRecord}
+use Rattle.frame_fields.specs.declared.AppRecordAt
+use Rattle.frame_fields.specs.declared.AppRecordAt.{AppRecordAt}
+use Rattle.frame_fields.specs.declared.SessionId.{SessionId}
+use Rattle.frame_fields.specs.declared.SessionAt
+use Rattle.frame_fields.specs.declared.SessionAt.{SessionAt}
+use Rattle.frame_fields.specs.declared.InFlight
+use Rattle.frame_fields.specs.declared.InFlight.{InFlight}
+use Rattle.frame_fields.specs.declared.Summary.{Summary}
+use Rattle.frame_fields.specs.declared.SummaryAt
+use Rattle.frame_fields.specs.declared.SummaryAt.{SummaryAt}
 
 abbrev pub partOf : Part → the-frame.Part
 partOf Part.Commit = commit

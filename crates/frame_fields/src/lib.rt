@@ -5,24 +5,24 @@ ghost use Prim.Native.Nat.{ℕ};
 ghost use lib.ListN.{drop};
 ghost use Rattle.model_frame.specs.Parse.{num, many, forget};
 ghost use Rattle.model_frame.specs.Reading.{kinds, appRecord, appRecords, partByte, reason, key, flight, summary};
-ghost use Rattle.scan.specs.Answers.{resSpan};
-ghost use Rattle.op.specs.Answers.{resEnd, resRun, RunIn};
-ghost use Rattle.parts.specs.Answers.{resPart, resReason, resRecord, resSession, KeyIn, noKey, flightOf, resSummary, SummaryIn};
-use op::End;
-use op::Run;
-use op::RunAt;
-use scan::Byte;
-use scan::Cursor;
-use scan::Field;
-use scan::FrameError;
-use scan::JudgedAt;
-use scan::Span;
-use scan::SpanAt;
-use scan::Value;
-use scan::Word16;
-use scan::Word32;
-use scan::Word64;
-use stamp::Protocol;
+ghost use Rattle.frame_reader.specs.Answers.{resSpan};
+ghost use Rattle.frame_op.specs.Answers.{resEnd, resRun, RunIn};
+ghost use Rattle.frame_fields.specs.Answers.{resPart, resReason, resRecord, resSession, KeyIn, noKey, flightOf, resSummary, SummaryIn};
+use frame_op::End;
+use frame_op::Run;
+use frame_op::RunAt;
+use frame_reader::Byte;
+use frame_reader::Cursor;
+use frame_reader::Field;
+use frame_reader::FrameError;
+use frame_reader::JudgedAt;
+use frame_reader::Span;
+use frame_reader::SpanAt;
+use frame_reader::Value;
+use frame_reader::Word16;
+use frame_reader::Word32;
+use frame_reader::Word64;
+use frame_stamp::Protocol;
 
 // Whether a batch is one commit, or a part of a session sent whole.
 pub enum Part {
@@ -99,7 +99,7 @@ pub enum SummaryAt {
 pub fn part_from(buf: &[u8], c: Cursor) -> PartAt
     ensures { λ r. ⌜ resPart (now (buf .entry)) r ≡ partByte (drop (c .at) (now (buf .entry))) ⌝ }
 {
-    let Byte::Got(k, d) = scan::u8_from(buf, c) else {
+    let Byte::Got(k, d) = frame_reader::u8_from(buf, c) else {
         return PartAt::Bad(FrameError::Truncated);
     };
     match k {
@@ -113,7 +113,7 @@ pub fn part_from(buf: &[u8], c: Cursor) -> PartAt
 pub fn reason_from(buf: &[u8], c: Cursor) -> ReasonAt
     ensures { λ r. ⌜ resReason (now (buf .entry)) r ≡ reason (drop (c .at) (now (buf .entry))) ⌝ }
 {
-    let Byte::Got(k, d) = scan::u8_from(buf, c) else {
+    let Byte::Got(k, d) = frame_reader::u8_from(buf, c) else {
         return ReasonAt::Bad(FrameError::Truncated);
     };
     match k {
@@ -130,7 +130,7 @@ pub fn kinds_from(buf: &[u8], c: Cursor) -> RunAt
     ensures { λ r. ⌜ resRun (num 2) (now (buf .entry)) r ≡ kinds (drop (c .at) (now (buf .entry))) ⌝ }
     ensures { λ r. ⌜ RunIn (num 2) (now (buf .entry)) r ⌝ }
 {
-    let Word32::Got(count, d) = scan::count_from(buf, c, 2) else {
+    let Word32::Got(count, d) = frame_reader::count_from(buf, c, 2) else {
         return RunAt::Bad(FrameError::Truncated);
     };
     let at = d.at;
@@ -145,10 +145,10 @@ pub fn kinds_from(buf: &[u8], c: Cursor) -> RunAt
 pub fn app_record_from(buf: &[u8], c: Cursor) -> AppRecordAt
     ensures { λ r. ⌜ resRecord (now (buf .entry)) r ≡ appRecord (drop (c .at) (now (buf .entry))) ⌝ }
 {
-    let Word16::Got(kind, d) = scan::u16_from(buf, c) else {
+    let Word16::Got(kind, d) = frame_reader::u16_from(buf, c) else {
         return AppRecordAt::Bad(FrameError::Truncated);
     };
-    match scan::blob_from(buf, d) {
+    match frame_reader::blob_from(buf, d) {
         SpanAt::Bad(e) => AppRecordAt::Bad(e),
         SpanAt::Got(bytes, d) => AppRecordAt::Got(AppRecord { kind, bytes }, d),
     }
@@ -174,7 +174,7 @@ pub fn app_records_from(buf: &[u8], c: Cursor) -> RunAt
     ensures { λ r. ⌜ resRun appRecord (now (buf .entry)) r ≡ appRecords (drop (c .at) (now (buf .entry))) ⌝ }
     ensures { λ r. ⌜ RunIn appRecord (now (buf .entry)) r ⌝ }
 {
-    let Word32::Got(count, d) = scan::count_from(buf, c, 6) else {
+    let Word32::Got(count, d) = frame_reader::count_from(buf, c, 6) else {
         return RunAt::Bad(FrameError::Truncated);
     };
     match app_records_end(buf, d, count) {
@@ -202,17 +202,17 @@ pub fn session_from(buf: &[u8], c: Cursor) -> SessionAt
     ensures { λ r. ⌜ resSession (now (buf .entry)) r ≡ key (drop (c .at) (now (buf .entry))) ⌝ }
     ensures { λ r. ⌜ KeyIn (now (buf .entry)) r ⌝ }
 {
-    match scan::judged_from(buf, c, 1, 32) {
+    match frame_reader::judged_from(buf, c, 1, 32) {
         JudgedAt::Bad(e) => SessionAt::Bad(e),
-        JudgedAt::Got(begin_string, v, d) => match scan::judged_from(buf, d, 1, 32) {
+        JudgedAt::Got(begin_string, v, d) => match frame_reader::judged_from(buf, d, 1, 32) {
             JudgedAt::Bad(e) => SessionAt::Bad(e),
-            JudgedAt::Got(sender_comp_id, w, d) => match scan::judged_from(buf, d, 1, 32) {
+            JudgedAt::Got(sender_comp_id, w, d) => match frame_reader::judged_from(buf, d, 1, 32) {
                 JudgedAt::Bad(e) => SessionAt::Bad(e),
                 JudgedAt::Got(target_comp_id, x, d) => {
                     if !(v & w & x) {
-                        return no_session(scan::text_from(buf, d));
+                        return no_session(frame_reader::text_from(buf, d));
                     }
-                    match scan::judged_from(buf, d, 0, 32) {
+                    match frame_reader::judged_from(buf, d, 0, 32) {
                         JudgedAt::Bad(e) => SessionAt::Bad(e),
                         JudgedAt::Got(key_suffix, y, d) => {
                             if y {
@@ -250,22 +250,22 @@ pub fn summary_from(p: Protocol, buf: &[u8], c: Cursor) -> SummaryAt
     ensures { λ r. ⌜ resSummary (now (buf .entry)) r ≡ summary (p .version) (drop (c .at) (now (buf .entry))) ⌝ }
     ensures { λ r. ⌜ SummaryIn (now (buf .entry)) r ⌝ }
 {
-    let Word64::Got(next_outgoing, d) = scan::u64_from(buf, c) else {
+    let Word64::Got(next_outgoing, d) = frame_reader::u64_from(buf, c) else {
         return SummaryAt::Bad(FrameError::Truncated);
     };
-    let Word64::Got(next_incoming, d) = scan::u64_from(buf, d) else {
+    let Word64::Got(next_incoming, d) = frame_reader::u64_from(buf, d) else {
         return SummaryAt::Bad(FrameError::Truncated);
     };
-    let Word64::Got(n, d) = scan::u64_from(buf, d) else {
+    let Word64::Got(n, d) = frame_reader::u64_from(buf, d) else {
         return SummaryAt::Bad(FrameError::Truncated);
     };
     let in_flight = flight(n);
-    match scan::stamp_or_none_from(p, buf, d) {
+    match frame_reader::stamp_or_none_from(p, buf, d) {
         SpanAt::Bad(e) => SummaryAt::Bad(e),
-        SpanAt::Got(created_at, d) => match scan::marks_from(buf, d) {
+        SpanAt::Got(created_at, d) => match frame_reader::marks_from(buf, d) {
             SpanAt::Bad(e) => SummaryAt::Bad(e),
             SpanAt::Got(marks, d) => {
-                let Word64::Got(last_outgoing, d) = scan::u64_from(buf, d) else {
+                let Word64::Got(last_outgoing, d) = frame_reader::u64_from(buf, d) else {
                     return SummaryAt::Bad(FrameError::Truncated);
                 };
                 SummaryAt::Got(

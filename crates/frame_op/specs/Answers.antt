@@ -7,19 +7,19 @@ use Rattle.model_frame.specs.Frame.{Change, setIncoming, setIncomingInFlight, s
 use Rattle.model_frame.specs.Parse.{Res, ok, bad, Parser, many, collect, runBytes}
 use Rattle.model_frame.specs.Reading.{readChange}
 use Rattle.model_frame.specs.Writing.{changeBytes}
-use Rattle.laws.specs.Wrote.{StandsAt}
-use Rattle.scan.specs.Answers.{faultOf, spanOf}
-use Rattle.op.specs.declared.Op
-use Rattle.op.specs.declared.Op.{Op}
-use Rattle.op.specs.declared.OpAt
-use Rattle.op.specs.declared.OpAt.{OpAt}
-use Rattle.op.specs.declared.End
-use Rattle.op.specs.declared.End.{End}
-use Rattle.op.specs.declared.Run.{Run}
-use Rattle.op.specs.declared.RunAt
-use Rattle.op.specs.declared.RunAt.{RunAt}
-use Rattle.op.specs.declared.RunLen
-use Rattle.op.specs.declared.RunLen.{RunLen}
+use Rattle.base_laws.specs.Wrote.{StandsAt}
+use Rattle.frame_reader.specs.Answers.{faultOf, spanOf}
+use Rattle.frame_op.specs.declared.Op
+use Rattle.frame_op.specs.declared.Op.{Op}
+use Rattle.frame_op.specs.declared.OpAt
+use Rattle.frame_op.specs.declared.OpAt.{OpAt}
+use Rattle.frame_op.specs.declared.End
+use Rattle.frame_op.specs.declared.End.{End}
+use Rattle.frame_op.specs.declared.Run.{Run}
+use Rattle.frame_op.specs.declared.RunAt
+use Rattle.frame_op.specs.declared.RunAt.{RunAt}
+use Rattle.frame_op.specs.declared.RunLen
+use Rattle.frame_op.specs.declared.RunLen.{RunLen}
 
 abbrev pub opOf : List ℕ → Op → Change
 opOf b (Op.SetNextIncoming n) = setIncoming n

@@ -6,18 +6,18 @@ ghost use lib.ListN.{length, drop};
 ghost use Rattle.model_frame.specs.Bytes.{bytesOf};
 ghost use Rattle.model_frame.specs.Parse.{many, forget, runBytes};
 ghost use Rattle.model_frame.specs.Writing.{blobBytes, changeBytes, sizeOf};
-ghost use Rattle.laws.specs.Wrote.{Wrote, StandsAt};
+ghost use Rattle.base_laws.specs.Wrote.{Wrote, StandsAt};
 ghost use Rattle.model_frame.specs.Reading.{setIncomingFields, setIncomingInFlightFields, setInFlightFields, recordMsgFields, recordBareFields, setCreatedAtFields, setMarksFields, readChange, changes};
-ghost use Rattle.op.specs.Answers.{runOf, opOf, resOp, resEnd, resRun, RunIn, OpsLen};
-use scan::Byte;
-use scan::Cursor;
-use scan::Field;
-use scan::FrameError;
-use scan::Span;
-use scan::SpanAt;
-use scan::Word32;
-use scan::Word64;
-use stamp::Protocol;
+ghost use Rattle.frame_op.specs.Answers.{runOf, opOf, resOp, resEnd, resRun, RunIn, OpsLen};
+use frame_reader::Byte;
+use frame_reader::Cursor;
+use frame_reader::Field;
+use frame_reader::FrameError;
+use frame_reader::Span;
+use frame_reader::SpanAt;
+use frame_reader::Word32;
+use frame_reader::Word64;
+use frame_stamp::Protocol;
 
 // A Record with its message is one variant, a Record without another.
 pub enum Op {
@@ -63,7 +63,7 @@ pub enum RunLen {
 fn set_next_incoming(buf: &[u8], c: Cursor) -> OpAt
     ensures { λ r. ⌜ resOp (now (buf .entry)) r ≡ setIncomingFields (drop (c .at) (now (buf .entry))) ⌝ }
 {
-    let Word64::Got(seq, d) = scan::u64_from(buf, c) else {
+    let Word64::Got(seq, d) = frame_reader::u64_from(buf, c) else {
         return OpAt::Bad(FrameError::Truncated);
     };
     OpAt::Got(Op::SetNextIncoming(seq), d)
@@ -72,10 +72,10 @@ fn set_next_incoming(buf: &[u8], c: Cursor) -> OpAt
 fn set_next_incoming_in_flight(buf: &[u8], c: Cursor) -> OpAt
     ensures { λ r. ⌜ resOp (now (buf .entry)) r ≡ setIncomingInFlightFields (drop (c .at) (now (buf .entry))) ⌝ }
 {
-    let Word64::Got(seq, d) = scan::u64_from(buf, c) else {
+    let Word64::Got(seq, d) = frame_reader::u64_from(buf, c) else {
         return OpAt::Bad(FrameError::Truncated);
     };
-    let Word64::Got(in_flight, d) = scan::u64_from(buf, d) else {
+    let Word64::Got(in_flight, d) = frame_reader::u64_from(buf, d) else {
         return OpAt::Bad(FrameError::Truncated);
     };
     OpAt::Got(Op::SetNextIncomingInFlight { seq, in_flight }, d)
@@ -84,7 +84,7 @@ fn set_next_incoming_in_flight(buf: &[u8], c: Cursor) -> OpAt
 fn set_in_flight(buf: &[u8], c: Cursor) -> OpAt
     ensures { λ r. ⌜ resOp (now (buf .entry)) r ≡ setInFlightFields (drop (c .at) (now (buf .entry))) ⌝ }
 {
-    let Word64::Got(seq, d) = scan::u64_from(buf, c) else {
+    let Word64::Got(seq, d) = frame_reader::u64_from(buf, c) else {
         return OpAt::Bad(FrameError::Truncated);
     };
     OpAt::Got(Op::SetInFlight(seq), d)
@@ -93,10 +93,10 @@ fn set_in_flight(buf: &[u8], c: Cursor) -> OpAt
 fn record(buf: &[u8], c: Cursor) -> OpAt
     ensures { λ r. ⌜ resOp (now (buf .entry)) r ≡ recordMsgFields (drop (c .at) (now (buf .entry))) ⌝ }
 {
-    let Word64::Got(seq, d) = scan::u64_from(buf, c) else {
+    let Word64::Got(seq, d) = frame_reader::u64_from(buf, c) else {
         return OpAt::Bad(FrameError::Truncated);
     };
-    match scan::blob_from(buf, d) {
+    match frame_reader::blob_from(buf, d) {
         SpanAt::Bad(e) => OpAt::Bad(e),
         SpanAt::Got(msg, d) => OpAt::Got(Op::Record(seq, msg), d),
     }
@@ -105,7 +105,7 @@ fn record(buf: &[u8], c: Cursor) -> OpAt
 fn record_none(buf: &[u8], c: Cursor) -> OpAt
     ensures { λ r. ⌜ resOp (now (buf .entry)) r ≡ recordBareFields (drop (c .at) (now (buf .entry))) ⌝ }
 {
-    let Word64::Got(seq, d) = scan::u64_from(buf, c) else {
+    let Word64::Got(seq, d) = frame_reader::u64_from(buf, c) else {
         return OpAt::Bad(FrameError::Truncated);
     };
     OpAt::Got(Op::RecordNone(seq), d)
@@ -114,7 +114,7 @@ fn record_none(buf: &[u8], c: Cursor) -> OpAt
 fn set_created_at(p: Protocol, buf: &[u8], c: Cursor) -> OpAt
     ensures { λ r. ⌜ resOp (now (buf .entry)) r ≡ setCreatedAtFields (p .version) (drop (c .at) (now (buf .entry))) ⌝ }
 {
-    match scan::stamp_from(p, buf, c) {
+    match frame_reader::stamp_from(p, buf, c) {
         SpanAt::Bad(e) => OpAt::Bad(e),
         SpanAt::Got(t, d) => OpAt::Got(Op::SetCreatedAt(t), d),
     }
@@ -123,7 +123,7 @@ fn set_created_at(p: Protocol, buf: &[u8], c: Cursor) -> OpAt
 fn set_marks(buf: &[u8], c: Cursor) -> OpAt
     ensures { λ r. ⌜ resOp (now (buf .entry)) r ≡ setMarksFields (drop (c .at) (now (buf .entry))) ⌝ }
 {
-    match scan::marks_from(buf, c) {
+    match frame_reader::marks_from(buf, c) {
         SpanAt::Bad(e) => OpAt::Bad(e),
         SpanAt::Got(t, d) => OpAt::Got(Op::SetMarks(t), d),
     }
@@ -133,7 +133,7 @@ fn set_marks(buf: &[u8], c: Cursor) -> OpAt
 pub fn op_from(p: Protocol, buf: &[u8], c: Cursor) -> OpAt
     ensures { λ r. ⌜ resOp (now (buf .entry)) r ≡ readChange (p .version) (drop (c .at) (now (buf .entry))) ⌝ }
 {
-    let Byte::Got(k, d) = scan::u8_from(buf, c) else {
+    let Byte::Got(k, d) = frame_reader::u8_from(buf, c) else {
         return OpAt::Bad(FrameError::Truncated);
     };
     match k {
@@ -170,7 +170,7 @@ pub fn ops_from(p: Protocol, buf: &[u8], c: Cursor) -> RunAt
     ensures { λ r. ⌜ resRun (readChange (p .version)) (now (buf .entry)) r ≡ changes (p .version) (drop (c .at) (now (buf .entry))) ⌝ }
     ensures { λ r. ⌜ RunIn (readChange (p .version)) (now (buf .entry)) r ⌝ }
 {
-    let Word32::Got(count, d) = scan::count_from(buf, c, 1) else {
+    let Word32::Got(count, d) = frame_reader::count_from(buf, c, 1) else {
         return RunAt::Bad(FrameError::Truncated);
     };
     match ops_end(p, buf, d, count) {
@@ -189,7 +189,9 @@ pub fn ops_len(p: Protocol, buf: &[u8], run: Run) -> RunLen
     let at = run.at;
     match ops_end(p, buf, Cursor { at }, run.count) {
         End::Bad(e) => RunLen::Bad(e),
-        End::At(d) => RunLen::Bytes(scan::left(buf, Cursor { at }) - scan::left(buf, d)),
+        End::At(d) => RunLen::Bytes(
+            frame_reader::left(buf, Cursor { at }) - frame_reader::left(buf, d),
+        ),
     }
 }
 
@@ -209,7 +211,7 @@ pub fn tagged(out: &mut [u8], at: usize, k: u8, n: u64) -> usize
     ensures { λ r. ⌜ r ≡ at + 9 ⌝ }
 {
     let next = tag(out, at, k);
-    wire::put_u64(out, next, n)
+    base_bytes::put_u64(out, next, n)
 }
 
 pub fn blob(s: &[u8], out: &mut [u8], at: usize) -> usize
@@ -218,8 +220,8 @@ pub fn blob(s: &[u8], out: &mut [u8], at: usize) -> usize
     ensures { λ r. ⌜ Wrote (now (out .entry)) at (blobBytes (now (s .entry))) (now (out .exit)) r ⌝ }
     ensures { λ r. ⌜ r ≡ at + (4 + length (now (s .entry))) ⌝ }
 {
-    let next = wire::put_u32(out, at, s.len() as u32);
-    wire::copy(s, out, next)
+    let next = base_bytes::put_u32(out, at, s.len() as u32);
+    base_bytes::copy(s, out, next)
 }
 
 // A change's length in a frame.
@@ -233,11 +235,11 @@ pub fn op_size(src: &[u8], o: Op) -> usize
             in_flight: _,
         } => 17,
         Op::SetInFlight(_) => 9,
-        Op::Record(_, msg) => 13 + scan::slice(src, msg).len(),
+        Op::Record(_, msg) => 13 + frame_reader::slice(src, msg).len(),
         Op::RecordNone(_) => 9,
         Op::Reset => 1,
-        Op::SetCreatedAt(t) => 5 + scan::slice(src, t).len(),
-        Op::SetMarks(t) => 5 + scan::slice(src, t).len(),
+        Op::SetCreatedAt(t) => 5 + frame_reader::slice(src, t).len(),
+        Op::SetMarks(t) => 5 + frame_reader::slice(src, t).len(),
     }
 }
 
@@ -249,22 +251,22 @@ pub fn put_op(src: &[u8], o: Op, out: &mut [u8], at: usize) -> usize
         Op::SetNextIncoming(n) => tagged(out, at, 1, n),
         Op::SetNextIncomingInFlight { seq, in_flight } => {
             let next = tagged(out, at, 2, seq);
-            wire::put_u64(out, next, in_flight)
+            base_bytes::put_u64(out, next, in_flight)
         }
         Op::SetInFlight(n) => tagged(out, at, 3, n),
         Op::Record(n, msg) => {
             let next = tagged(out, at, 4, n);
-            blob(scan::slice(src, msg), out, next)
+            blob(frame_reader::slice(src, msg), out, next)
         }
         Op::RecordNone(n) => tagged(out, at, 5, n),
         Op::Reset => tag(out, at, 6),
         Op::SetCreatedAt(t) => {
             let next = tag(out, at, 7);
-            blob(scan::slice(src, t), out, next)
+            blob(frame_reader::slice(src, t), out, next)
         }
         Op::SetMarks(t) => {
             let next = tag(out, at, 8);
-            blob(scan::slice(src, t), out, next)
+            blob(frame_reader::slice(src, t), out, next)
         }
     }
 }
@@ -276,5 +278,5 @@ pub fn put_ops(p: Protocol, src: &[u8], run: Run, n: usize, out: &mut [u8], at: 
     ensures { λ r. ⌜ Wrote (now (out .entry)) at (runBytes changeBytes (runOf (readChange (p .version)) (now (src .entry)) run)) (now (out .exit)) r ⌝ }
     ensures { λ r. ⌜ r ≡ at + n ⌝ }
 {
-    wire::copy(scan::bytes_at(src, run.at, n), out, at)
+    base_bytes::copy(frame_reader::bytes_at(src, run.at, n), out, at)
 }

@@ -7,25 +7,25 @@ use Rattle.model_text.specs.Printable.{isPrintable}
 use Rattle.model_frame.specs.Frame as the-frame
 use Rattle.model_frame.specs.Frame.{Fault, tooLong, truncated, unknown, badText, badSession, badTimestamp, badMarks}
 use Rattle.model_frame.specs.Parse.{Res, ok, bad}
-use Rattle.scan.specs.declared.FrameError
-use Rattle.scan.specs.declared.FrameError.{FrameError}
-use Rattle.scan.specs.declared.Field
-use Rattle.scan.specs.declared.Field.{Field}
-use Rattle.scan.specs.declared.Value
-use Rattle.scan.specs.declared.Value.{Value}
-use Rattle.scan.specs.declared.Span.{Span}
-use Rattle.scan.specs.declared.Byte
-use Rattle.scan.specs.declared.Byte.{Byte}
-use Rattle.scan.specs.declared.Word16
-use Rattle.scan.specs.declared.Word16.{Word16}
-use Rattle.scan.specs.declared.Word32
-use Rattle.scan.specs.declared.Word32.{Word32}
-use Rattle.scan.specs.declared.Word64
-use Rattle.scan.specs.declared.Word64.{Word64}
-use Rattle.scan.specs.declared.SpanAt
-use Rattle.scan.specs.declared.SpanAt.{SpanAt}
-use Rattle.scan.specs.declared.JudgedAt
-use Rattle.scan.specs.declared.JudgedAt.{JudgedAt}
+use Rattle.frame_reader.specs.declared.FrameError
+use Rattle.frame_reader.specs.declared.FrameError.{FrameError}
+use Rattle.frame_reader.specs.declared.Field
+use Rattle.frame_reader.specs.declared.Field.{Field}
+use Rattle.frame_reader.specs.declared.Value
+use Rattle.frame_reader.specs.declared.Value.{Value}
+use Rattle.frame_reader.specs.declared.Span.{Span}
+use Rattle.frame_reader.specs.declared.Byte
+use Rattle.frame_reader.specs.declared.Byte.{Byte}
+use Rattle.frame_reader.specs.declared.Word16
+use Rattle.frame_reader.specs.declared.Word16.{Word16}
+use Rattle.frame_reader.specs.declared.Word32
+use Rattle.frame_reader.specs.declared.Word32.{Word32}
+use Rattle.frame_reader.specs.declared.Word64
+use Rattle.frame_reader.specs.declared.Word64.{Word64}
+use Rattle.frame_reader.specs.declared.SpanAt
+use Rattle.frame_reader.specs.declared.SpanAt.{SpanAt}
+use Rattle.frame_reader.specs.declared.JudgedAt
+use Rattle.frame_reader.specs.declared.JudgedAt.{JudgedAt}
 
 abbrev pub fieldOf : Field → the-frame.Field
 fieldOf Field.FrameKind = the-frame.frameKind

@@ -8,8 +8,8 @@ ghost use Rattle.model_text.specs.Stamp.{takesStamp};
 ghost use Rattle.model_frame.specs.Frame.{badText};
 ghost use Rattle.model_frame.specs.Parse.{ok, bad, isEmpty, num, blob, text, count};
 ghost use Rattle.model_frame.specs.Reading.{stamp, stampOrNone, marks};
-ghost use Rattle.scan.specs.Answers.{invalidOf, spanOf, res8, res16, res32, res64, resSpan, resJudged, Judged, Within32, Lies, SpanIn, JudgedIn};
-use stamp::Protocol;
+ghost use Rattle.frame_reader.specs.Answers.{invalidOf, spanOf, res8, res16, res32, res64, resSpan, resJudged, Judged, Within32, Lies, SpanIn, JudgedIn};
+use frame_stamp::Protocol;
 
 #[repr(C)]
 pub struct Cursor {
@@ -93,7 +93,7 @@ pub fn u8_from(buf: &[u8], c: Cursor) -> Byte
         return Byte::Short;
     }
     let at = c.at;
-    Byte::Got(wire::u8_at(buf, at), Cursor { at: at + 1 })
+    Byte::Got(base_bytes::u8_at(buf, at), Cursor { at: at + 1 })
 }
 
 pub fn u16_from(buf: &[u8], c: Cursor) -> Word16
@@ -103,7 +103,7 @@ pub fn u16_from(buf: &[u8], c: Cursor) -> Word16
         return Word16::Short;
     }
     let at = c.at;
-    Word16::Got(wire::u16_at(buf, at), Cursor { at: at + 2 })
+    Word16::Got(base_bytes::u16_at(buf, at), Cursor { at: at + 2 })
 }
 
 pub fn u32_from(buf: &[u8], c: Cursor) -> Word32
@@ -114,7 +114,7 @@ pub fn u32_from(buf: &[u8], c: Cursor) -> Word32
         return Word32::Short;
     }
     let at = c.at;
-    Word32::Got(wire::u32_at(buf, at), Cursor { at: at + 4 })
+    Word32::Got(base_bytes::u32_at(buf, at), Cursor { at: at + 4 })
 }
 
 pub fn u64_from(buf: &[u8], c: Cursor) -> Word64
@@ -124,7 +124,7 @@ pub fn u64_from(buf: &[u8], c: Cursor) -> Word64
         return Word64::Short;
     }
     let at = c.at;
-    Word64::Got(wire::u64_at(buf, at), Cursor { at: at + 8 })
+    Word64::Got(base_bytes::u64_at(buf, at), Cursor { at: at + 8 })
 }
 
 // A blob, as the part of the buffer where its bytes stand: they are not looked at.
@@ -171,7 +171,7 @@ pub fn text_from(buf: &[u8], c: Cursor) -> SpanAt
     match blob_from(buf, c) {
         SpanAt::Bad(e) => SpanAt::Bad(e),
         SpanAt::Got(p, d) => {
-            if text::is_utf8(slice(buf, p)) {
+            if frame_utf8::is_utf8(slice(buf, p)) {
                 SpanAt::Got(p, d)
             } else {
                 SpanAt::Bad(FrameError::Invalid(Value::Text))
@@ -188,7 +188,7 @@ fn kept(buf: &[u8], s: Span, d: Cursor, fine: bool, v: Value) -> SpanAt
     if fine {
         return SpanAt::Got(s, d);
     }
-    if text::is_utf8(slice(buf, s)) {
+    if frame_utf8::is_utf8(slice(buf, s)) {
         SpanAt::Bad(FrameError::Invalid(v))
     } else {
         SpanAt::Bad(FrameError::Invalid(Value::Text))
@@ -202,7 +202,7 @@ pub fn stamp_from(p: Protocol, buf: &[u8], c: Cursor) -> SpanAt
     match blob_from(buf, c) {
         SpanAt::Bad(e) => SpanAt::Bad(e),
         SpanAt::Got(s, d) => {
-            let fine = stamp::takes_stamp(p, slice(buf, s));
+            let fine = frame_stamp::takes_stamp(p, slice(buf, s));
             kept(buf, s, d, fine, Value::Timestamp)
         }
     }
@@ -215,7 +215,7 @@ pub fn is_stamp_or_none(p: Protocol, s: &[u8]) -> bool
     if s.len() == 0 {
         return true;
     }
-    stamp::takes_stamp(p, s)
+    frame_stamp::takes_stamp(p, s)
 }
 
 pub fn stamp_or_none_from(p: Protocol, buf: &[u8], c: Cursor) -> SpanAt
@@ -238,7 +238,7 @@ pub fn marks_from(buf: &[u8], c: Cursor) -> SpanAt
     match blob_from(buf, c) {
         SpanAt::Bad(e) => SpanAt::Bad(e),
         SpanAt::Got(s, d) => {
-            let fine = stamp::is_marks(slice(buf, s));
+            let fine = frame_stamp::is_marks(slice(buf, s));
             kept(buf, s, d, fine, Value::Marks)
         }
     }
@@ -253,10 +253,10 @@ pub fn judged_from(buf: &[u8], c: Cursor, lo: usize, hi: usize) -> JudgedAt
     match blob_from(buf, c) {
         SpanAt::Bad(e) => JudgedAt::Bad(e),
         SpanAt::Got(s, d) => {
-            if stamp::is_printable(slice(buf, s), lo, hi) {
+            if frame_stamp::is_printable(slice(buf, s), lo, hi) {
                 return JudgedAt::Got(s, true, d);
             }
-            if text::is_utf8(slice(buf, s)) {
+            if frame_utf8::is_utf8(slice(buf, s)) {
                 JudgedAt::Got(s, false, d)
             } else {
                 JudgedAt::Bad(FrameError::Invalid(Value::Text))

@@ -11,7 +11,7 @@ use lib.Seq.{drop-cons}
 use Rattle.model_text.specs.Stamp.{isDigit, isPair, fits, date, clock, millis, isStamp}
 use Rattle.model_text.proofs.Formed.{and-l, and-r}
 use Rattle.model_text.proofs.Form.{digit-bounds, not-long}
-use Rattle.stamp.specs.Places.{bytesAt}
+use Rattle.frame_stamp.specs.Places.{bytesAt}
 
 -- what is_pair knows of its bytes behind its test, and what it answers
 module _ (a b : ℕ) {t u : Bool} (et : t ≡ isDigit a) (eu : u ≡ isDigit b) where

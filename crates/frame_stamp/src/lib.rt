@@ -4,7 +4,7 @@ ghost use Prim.Native.Nat.{_≤_};
 ghost use lib.ListN.{length};
 ghost use Rattle.model_text.specs.Printable.{isPlain, allPlain, isPrintable, isMarks, isKey};
 ghost use Rattle.model_text.specs.Stamp.{isDigit, isPair, fits, date, clock, millis, isStamp, takesStamp};
-ghost use Rattle.stamp.specs.Places.{bytesAt};
+ghost use Rattle.frame_stamp.specs.Places.{bytesAt};
 
 // What an instance speaks on a connection: the version decides which stamps are taken.
 #[repr(C)]

@@ -8,8 +8,8 @@ use lib.Bits.{bitAnd, bitOr, or-add-and, and-le-l, and-le-r}
 use lib.ListN.{length, drop, getD}
 use Rattle.model_text.specs.Utf8.{utf8From}
 use Rattle.model_text.proofs.Agree.{ascii-first}
-use Rattle.text.specs.Places.{AsciiRun}
-use Rattle.text.proofs.Scan.{Scanned, next-one}
+use Rattle.frame_utf8.specs.Places.{AsciiRun}
+use Rattle.frame_utf8.proofs.Scan.{Scanned, next-one}
 
 -- each of the j bytes is at most m
 pub record Gathered (s : List ℕ) (at m j : ℕ) : Type 0 where

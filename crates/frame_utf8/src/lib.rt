@@ -6,7 +6,7 @@ ghost use Prim.Native.Nat.{ℕ, _+_, _-_, _*_, _%_, _≤_, _<_};
 ghost use lib.ListN.{length, drop, getD};
 ghost use lib.Dec.{leb};
 ghost use Rattle.model_text.specs.Utf8.{leadLength, isTail, isScalar, wellFormed, utf8};
-ghost use Rattle.text.specs.Places.{AsciiRun};
+ghost use Rattle.frame_utf8.specs.Places.{AsciiRun};
 
 // How many bytes a sequence has that begins with a, or 0 where none does.
 fn lead_length(a: u8) -> usize

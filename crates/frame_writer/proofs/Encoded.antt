@@ -11,13 +11,13 @@ use Rattle.model_frame.specs.Frame.{Frame}
 use Rattle.model_frame.specs.Reading.{maxBody}
 use Rattle.model_frame.specs.Writing.{bodyBytes, encode, fine}
 use Rattle.model_frame.proofs.Le.{length-bytes}
-use Rattle.laws.specs.Wrote.{Wrote}
-use Rattle.laws.proofs.Writes.{wrote-on}
-use Rattle.print.specs.declared.Written.{Written}
-use Rattle.print.specs.declared.Written
-use Rattle.print.specs.declared.Start.{Start}
-use Rattle.print.specs.declared.Start
-use Rattle.print.specs.Encoding.{given, outcome, took, Encoded, Started}
+use Rattle.base_laws.specs.Wrote.{Wrote}
+use Rattle.base_laws.proofs.Writes.{wrote-on}
+use Rattle.frame_writer.specs.declared.Written.{Written}
+use Rattle.frame_writer.specs.declared.Written
+use Rattle.frame_writer.specs.declared.Start.{Start}
+use Rattle.frame_writer.specs.declared.Start
+use Rattle.frame_writer.specs.Encoding.{given, outcome, took, Encoded, Started}
 
 module _ (version : ℕ) (t : Bool) (f : Frame) where
   -- a field can't be written

@@ -17,15 +17,15 @@ use Rattle.model_frame.specs.Bytes.{le}
 use Rattle.model_frame.specs.Frame.{truncated}
 use Rattle.model_frame.specs.Parse.{isEmpty, Res, ok, bad, andThen, bytes, num, many, forget}
 use Rattle.model_frame.specs.Writing.{fineKey, fineSummary}
-use Rattle.laws.proofs.Places.{num-whole}
-use Rattle.laws.proofs.Runs.{numbers-end}
-use Rattle.scan.specs.declared.Span.{Span}
-use Rattle.scan.specs.Answers.{spanOf}
-use Rattle.scan.proofs.Rules.{none-or-coded}
-use Rattle.parts.specs.declared.SessionId.{SessionId}
-use Rattle.parts.specs.declared.Summary.{Summary}
-use Rattle.parts.specs.Answers.{keyOf, summaryOf}
-use Rattle.print.specs.Encoding.{spanFits, isOk, keyFits, summaryFits}
+use Rattle.base_laws.proofs.Places.{num-whole}
+use Rattle.base_laws.proofs.Runs.{numbers-end}
+use Rattle.frame_reader.specs.declared.Span.{Span}
+use Rattle.frame_reader.specs.Answers.{spanOf}
+use Rattle.frame_reader.proofs.Rules.{none-or-coded}
+use Rattle.frame_fields.specs.declared.SessionId.{SessionId}
+use Rattle.frame_fields.specs.declared.Summary.{Summary}
+use Rattle.frame_fields.specs.Answers.{keyOf, summaryOf}
+use Rattle.frame_writer.specs.Encoding.{spanFits, isOk, keyFits, summaryFits}
 
 -- ---- spans
 

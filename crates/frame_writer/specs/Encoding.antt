@@ -12,19 +12,19 @@ use Rattle.model_frame.specs.Frame.{Key, Frame}
 use Rattle.model_frame.specs.Parse.{Res, ok, bad, Parser, many, runBytes}
 use Rattle.model_frame.specs.Reading.{maxBody, appRecord}
 use Rattle.model_frame.specs.Writing.{appRecordBytes, bodyBytes, encode, fine}
-use Rattle.laws.specs.Wrote.{Wrote, StandsAt}
-use Rattle.scan.specs.declared.Span.{Span}
-use Rattle.scan.specs.Answers.{faultOf}
-use Rattle.op.specs.declared.Run.{Run}
-use Rattle.op.specs.declared.RunLen
-use Rattle.op.specs.declared.RunLen.{RunLen}
-use Rattle.op.specs.Answers.{runOf}
-use Rattle.parts.specs.declared.SessionId.{SessionId}
-use Rattle.parts.specs.declared.Summary.{Summary}
-use Rattle.print.specs.declared.Written
-use Rattle.print.specs.declared.Written.{Written}
-use Rattle.print.specs.declared.Start
-use Rattle.print.specs.declared.Start.{Start}
+use Rattle.base_laws.specs.Wrote.{Wrote, StandsAt}
+use Rattle.frame_reader.specs.declared.Span.{Span}
+use Rattle.frame_reader.specs.Answers.{faultOf}
+use Rattle.frame_op.specs.declared.Run.{Run}
+use Rattle.frame_op.specs.declared.RunLen
+use Rattle.frame_op.specs.declared.RunLen.{RunLen}
+use Rattle.frame_op.specs.Answers.{runOf}
+use Rattle.frame_fields.specs.declared.SessionId.{SessionId}
+use Rattle.frame_fields.specs.declared.Summary.{Summary}
+use Rattle.frame_writer.specs.declared.Written
+use Rattle.frame_writer.specs.declared.Written.{Written}
+use Rattle.frame_writer.specs.declared.Start
+use Rattle.frame_writer.specs.declared.Start.{Start}
 
 -- ---- what stands in the source: a span lies in it, a run can be read from it
 

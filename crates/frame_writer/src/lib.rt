@@ -9,22 +9,22 @@ ghost use Rattle.model_frame.specs.Frame.{hello, welcome, bind, batch, ack, nac
 ghost use Rattle.model_frame.specs.Parse.{num};
 ghost use Rattle.model_frame.specs.Reading.{readChange, appRecord, maxBody};
 ghost use Rattle.model_frame.specs.Writing.{blobBytes, keyBytes, summaryBytes, partNumber, reasonNumber, flightNumber, fineKey, fineSummary};
-ghost use Rattle.laws.specs.Wrote.{Wrote};
-ghost use Rattle.scan.specs.Answers.{spanOf};
-ghost use Rattle.op.specs.Answers.{runOf};
-ghost use Rattle.parts.specs.Answers.{partOf, reasonOf, flightOf, keyOf, summaryOf};
-ghost use Rattle.print.specs.Encoding.{spanFits, runReads, keyFits, summaryFits, RecordsLen, keySize, summarySize, given, Encoded, Started};
-use op::End;
-use op::Run;
-use op::RunLen;
-use parts::InFlight;
-use parts::NackReason;
-use parts::Part;
-use parts::SessionId;
-use parts::Summary;
-use scan::Cursor;
-use scan::Span;
-use stamp::Protocol;
+ghost use Rattle.base_laws.specs.Wrote.{Wrote};
+ghost use Rattle.frame_reader.specs.Answers.{spanOf};
+ghost use Rattle.frame_op.specs.Answers.{runOf};
+ghost use Rattle.frame_fields.specs.Answers.{partOf, reasonOf, flightOf, keyOf, summaryOf};
+ghost use Rattle.frame_writer.specs.Encoding.{spanFits, runReads, keyFits, summaryFits, RecordsLen, keySize, summarySize, given, Encoded, Started};
+use frame_fields::InFlight;
+use frame_fields::NackReason;
+use frame_fields::Part;
+use frame_fields::SessionId;
+use frame_fields::Summary;
+use frame_op::End;
+use frame_op::Run;
+use frame_op::RunLen;
+use frame_reader::Cursor;
+use frame_reader::Span;
+use frame_stamp::Protocol;
 
 // How many bytes were written, or why none was: a field that reading would refuse, a body too long, an area too short.
 pub enum Written {
@@ -56,7 +56,7 @@ pub fn kinds_fit(src: &[u8], run: Run) -> bool
     ensures { λ r. ⌜ r ≡ runReads (num 2) (now (src .entry)) run ⌝ }
 {
     let at = run.at;
-    (run.count as usize) * 2 <= scan::left(src, Cursor { at })
+    (run.count as usize) * 2 <= frame_reader::left(src, Cursor { at })
 }
 
 pub fn session_fits(src: &[u8], k: SessionId) -> bool
@@ -68,11 +68,11 @@ pub fn session_fits(src: &[u8], k: SessionId) -> bool
     let suffix = k.key_suffix;
     let fits = within(src, begin) & within(src, sender) & within(src, target) & within(src, suffix);
     fits
-        & stamp::is_key(
-            scan::slice(src, begin),
-            scan::slice(src, sender),
-            scan::slice(src, target),
-            scan::slice(src, suffix),
+        & frame_stamp::is_key(
+            frame_reader::slice(src, begin),
+            frame_reader::slice(src, sender),
+            frame_reader::slice(src, target),
+            frame_reader::slice(src, suffix),
         )
 }
 
@@ -82,8 +82,8 @@ pub fn summary_fits(p: Protocol, src: &[u8], m: Summary) -> bool
     let created_at = m.created_at;
     let marks = m.marks;
     let fits = within(src, created_at) & within(src, marks);
-    let dated = scan::is_stamp_or_none(p, scan::slice(src, created_at));
-    fits & (dated & stamp::is_marks(scan::slice(src, marks)))
+    let dated = frame_reader::is_stamp_or_none(p, frame_reader::slice(src, created_at));
+    fits & (dated & frame_stamp::is_marks(frame_reader::slice(src, marks)))
 }
 
 // How many bytes so many application records take.
@@ -91,9 +91,11 @@ pub fn records_len(src: &[u8], run: Run) -> RunLen
     ensures { λ r. ⌜ RecordsLen (now (src .entry)) run r ⌝ }
 {
     let at = run.at;
-    match parts::app_records_end(src, Cursor { at }, run.count) {
+    match frame_fields::app_records_end(src, Cursor { at }, run.count) {
         End::Bad(e) => RunLen::Bad(e),
-        End::At(d) => RunLen::Bytes(scan::left(src, Cursor { at }) - scan::left(src, d)),
+        End::At(d) => RunLen::Bytes(
+            frame_reader::left(src, Cursor { at }) - frame_reader::left(src, d),
+        ),
     }
 }
 
@@ -108,7 +110,7 @@ pub fn begin(out: &mut [u8], limit: u32, n: usize) -> Start
     if out.len() < 4 + n {
         return Start::NoRoom;
     }
-    Start::At(wire::put_u32(out, 0, n as u32))
+    Start::At(base_bytes::put_u32(out, 0, n as u32))
 }
 
 // A part of the source as a blob.
@@ -117,7 +119,7 @@ pub fn put_span(src: &[u8], p: Span, out: &mut [u8], at: usize) -> usize
     ensures { λ r. ⌜ Wrote (now (out .entry)) at (blobBytes (spanOf (now (src .entry)) p)) (now (out .exit)) r ⌝ }
     ensures { λ r. ⌜ r ≡ at + (4 + length (spanOf (now (src .entry)) p)) ⌝ }
 {
-    op::blob(scan::slice(src, p), out, at)
+    frame_op::blob(frame_reader::slice(src, p), out, at)
 }
 
 pub fn put_session(src: &[u8], k: SessionId, out: &mut [u8], at: usize) -> usize
@@ -150,12 +152,12 @@ pub fn put_summary(src: &[u8], m: Summary, out: &mut [u8], at: usize) -> usize
     let in_flight = m.in_flight;
     let created_at = m.created_at;
     let marks = m.marks;
-    let at = wire::put_u64(out, at, m.next_outgoing);
-    let at = wire::put_u64(out, at, m.next_incoming);
-    let at = wire::put_u64(out, at, flight_number(in_flight));
+    let at = base_bytes::put_u64(out, at, m.next_outgoing);
+    let at = base_bytes::put_u64(out, at, m.next_incoming);
+    let at = base_bytes::put_u64(out, at, flight_number(in_flight));
     let at = put_span(src, created_at, out, at);
     let at = put_span(src, marks, out, at);
-    wire::put_u64(out, at, m.last_outgoing)
+    base_bytes::put_u64(out, at, m.last_outgoing)
 }
 
 pub fn part_byte(p: Part) -> u8
@@ -185,6 +187,6 @@ pub fn put_handle(out: &mut [u8], at: usize, kind: u8, handle: u32) -> usize
     ensures { λ r. ⌜ Wrote (now (out .entry)) at (kind ∷ bytesOf 4 handle) (now (out .exit)) r ⌝ }
     ensures { λ r. ⌜ r ≡ at + 5 ⌝ }
 {
-    let at = op::tag(out, at, kind);
-    wire::put_u32(out, at, handle)
+    let at = frame_op::tag(out, at, kind);
+    base_bytes::put_u32(out, at, handle)
 }

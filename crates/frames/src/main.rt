@@ -3,11 +3,11 @@
 ghost use mathlib.Core.Path.{_≡_};
 ghost use Prim.Native.Nat.{_≤_};
 ghost use lib.ListN.{length};
-use areas::Made;
 use libc::STDIN_FILENO;
 use libc::STDOUT_FILENO;
-use outcome::Replica;
-use row::Handle;
+use standby_row::Handle;
+use standby_state::Replica;
+use store_areas::Made;
 
 // The counters, the row, how many bytes of the next line are read, and whether the input goes on.
 #[repr(C)]
@@ -26,7 +26,7 @@ fn tell(s: State, words: &mut [u64], bytes: &mut [u8], holds: &mut [u8], line: &
     let mut out = [0u8; 16384];
     let replica = s.replica;
     let row = s.row;
-    let t = frame_line::answer_line(replica, row, words, bytes, holds, line, &mut buf, &mut out);
+    let t = frames_line::answer_line(replica, row, words, bytes, holds, line, &mut buf, &mut out);
     let n = t.len;
     io::write_all(STDOUT_FILENO, &out[0..n]);
     io::write_all(STDOUT_FILENO, b"\n");
@@ -69,7 +69,7 @@ fn take_piece(
     let mut now = s;
     let mut at: usize = 0;
     while at < piece.len() {
-        let f = lines::feed(line, now.len, piece, at);
+        let f = base_lines::feed(line, now.len, piece, at);
         if !f.whole {
             return waiting(now, f.len);
         }
@@ -144,7 +144,7 @@ fn run(s: State, words: &mut [u64], bytes: &mut [u8], holds: &mut [u8], line: &m
 fn start() -> State
     ensures { λ r. ⌜ r .len ≡ 0 ⌝ }
 {
-    let row = [row::nobody(); 4];
+    let row = [standby_row::nobody(); 4];
     State {
         replica: replica::new(),
         row,
@@ -158,7 +158,7 @@ fn main() {
     let mut bytes = [0u8; 17280];
     let mut holds = [0u8; 22504];
     let mut line = [0u8; 16385];
-    match areas::make(frame_line::shape(), &mut words, &bytes) {
+    match store_areas::make(frames_line::shape(), &mut words, &bytes) {
         Made::Ready => run(start(), &mut words, &mut bytes, &mut holds, &mut line),
         Made::Unfit => (),
     }

@@ -16,26 +16,26 @@ use Rattle.model_frame.specs.Frame.{Frame}
 use Rattle.model_frame.specs.Reading.{maxBody}
 use Rattle.model_frame.specs.Writing.{bodyBytes, encode}
 use Rattle.model_frame.proofs.Le.{are-bytes, bytes-take}
-use Rattle.model.specs.Answer as the-answer
-use Rattle.model.specs.Answer.{reply, refused, done}
-use Rattle.model.specs.State as the-state
-use Rattle.model.specs.State.{Standby, onFrame}
-use Rattle.model.proofs.Answering.{answerBytes, Tellable, Told, Telling, frame-told}
-use Rattle.log.proofs.Lawful.{Small}
-use Rattle.areas.proofs.Holding.{all-holdable}
-use Rattle.print.specs.Encoding.{outcome}
-use Rattle.hex.specs.Lines.{Reads, Puts, lineRead, lineLength}
-use Rattle.hex.specs.declared.Line.{Line}
-use Rattle.hex.specs.declared.Line.the-variants.{Bytes, Bad}
-use Rattle.row.specs.declared.Handle.{Handle}
-use Rattle.outcome.specs.declared.Replica.{Replica}
-use Rattle.outcome.specs.declared.Settings.{Settings}
-use Rattle.outcome.specs.declared.Answer as the-code
-use Rattle.outcome.specs.Answers as the-answers
-use Rattle.outcome.specs.Outcomes.{settingsOf}
-use Rattle.reply_text.specs.Texts.{outcomeText, answerText}
-use Rattle.steps.specs.Calls.{roomAll, standbyOf, allowedAll, Called}
-use Rattle.frame_line.specs.Answering.{theSettings, lineText, spoken, onBytes, lineStep, Heard, unread, called, AnswersLine}
+use Rattle.model_standby.specs.Answer as the-answer
+use Rattle.model_standby.specs.Answer.{reply, refused, done}
+use Rattle.model_standby.specs.State as the-state
+use Rattle.model_standby.specs.State.{Standby, onFrame}
+use Rattle.model_standby.proofs.Answering.{answerBytes, Tellable, Told, Telling, frame-told}
+use Rattle.store_log.proofs.Lawful.{Small}
+use Rattle.store_areas.proofs.Holding.{all-holdable}
+use Rattle.frame_writer.specs.Encoding.{outcome}
+use Rattle.base_hex.specs.Lines.{Reads, Puts, lineRead, lineLength}
+use Rattle.base_hex.specs.declared.Line.{Line}
+use Rattle.base_hex.specs.declared.Line.the-variants.{Bytes, Bad}
+use Rattle.standby_row.specs.declared.Handle.{Handle}
+use Rattle.standby_state.specs.declared.Replica.{Replica}
+use Rattle.standby_state.specs.declared.Settings.{Settings}
+use Rattle.standby_state.specs.declared.Answer as the-code
+use Rattle.standby_state.specs.Answers as the-answers
+use Rattle.standby_state.specs.Outcomes.{settingsOf}
+use Rattle.frames_reply.specs.Texts.{outcomeText, answerText}
+use Rattle.standby_step.specs.Calls.{roomAll, standbyOf, allowedAll, Called}
+use Rattle.frames_line.specs.Answering.{theSettings, lineText, spoken, onBytes, lineStep, Heard, unread, called, AnswersLine}
 
 -- ---- a line
 

@@ -7,19 +7,19 @@ use mathlib.Core.Option.{Option, none, some}
 use lib.ListN.{take}
 use Rattle.model_text.specs.Hex.{hexOf, lineBytes, refusalText}
 use Rattle.model_frame.specs.Writing.{encode}
-use Rattle.model.specs.Answer as the-answer
-use Rattle.model.specs.Answer.{reply, refused, done}
-use Rattle.model.specs.State as the-state
-use Rattle.model.specs.State.{Standby, onFrame}
-use Rattle.model.specs.Standby.{step}
-use Rattle.hex.specs.Lines.{Puts}
-use Rattle.row.specs.declared.Handle.{Handle}
-use Rattle.outcome.specs.declared.Replica.{Replica}
-use Rattle.outcome.specs.declared.Settings.{Settings}
-use Rattle.outcome.specs.declared.Answer.{Answer}
-use Rattle.outcome.specs.Answers.{answerOf}
-use Rattle.outcome.specs.Outcomes.{settingsOf}
-use Rattle.steps.specs.Calls.{roomAll, standbyOf, allowedAll, Called}
+use Rattle.model_standby.specs.Answer as the-answer
+use Rattle.model_standby.specs.Answer.{reply, refused, done}
+use Rattle.model_standby.specs.State as the-state
+use Rattle.model_standby.specs.State.{Standby, onFrame}
+use Rattle.model_standby.specs.Standby.{step}
+use Rattle.base_hex.specs.Lines.{Puts}
+use Rattle.standby_row.specs.declared.Handle.{Handle}
+use Rattle.standby_state.specs.declared.Replica.{Replica}
+use Rattle.standby_state.specs.declared.Settings.{Settings}
+use Rattle.standby_state.specs.declared.Answer.{Answer}
+use Rattle.standby_state.specs.Answers.{answerOf}
+use Rattle.standby_state.specs.Outcomes.{settingsOf}
+use Rattle.standby_step.specs.Calls.{roomAll, standbyOf, allowedAll, Called}
 
 -- four sessions, C 4,096, M 64, incarnation 7, lag 0
 abbrev pub theSettings : Settings

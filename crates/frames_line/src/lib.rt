@@ -2,13 +2,13 @@
 ghost use mathlib.Core.Path.{_≡_};
 ghost use Prim.Native.Nat.{_*_, _≤_};
 ghost use lib.ListN.{length};
-ghost use Rattle.frame_line.specs.Answering.{theSettings, AnswersLine};
-use areas::Shape;
+ghost use Rattle.frames_line.specs.Answering.{theSettings, AnswersLine};
+use base_hex::Line;
 use frame::Incarnation;
-use hex::Line;
-use outcome::Replica;
-use outcome::Settings;
-use row::Handle;
+use standby_row::Handle;
+use standby_state::Replica;
+use standby_state::Settings;
+use store_areas::Shape;
 
 // What a line leaves of the counters and the row, and the length of its answer's text.
 #[repr(C)]
@@ -55,7 +55,7 @@ fn answer_in(
     requires { ⌜ 2 * length (now buf) ≤ length (now out) ⌝ }
     ensures { λ r. ⌜ AnswersLine (now (line .entry)) c (r .replica) row (r .row) (now (words .entry)) (now (words .exit)) (now (bytes .entry)) (now (bytes .exit)) (now (holds .entry)) (now (holds .exit)) (now (out .entry)) (now (out .exit)) (r .len) ⌝ }
 {
-    match hex::read_line(line, buf) {
+    match base_hex::read_line(line, buf) {
         Line::Bytes(n) => {
             let k = replica::on_frame4(c, row, words, bytes, holds, &buf[0..n], settings());
             let replica = k.replica;
@@ -63,13 +63,13 @@ fn answer_in(
             Told {
                 replica,
                 row,
-                len: reply_text::put_answer(k.answer, bytes, buf, out),
+                len: frames_reply::put_answer(k.answer, bytes, buf, out),
             }
         }
         Line::Bad => Told {
             replica: c,
             row,
-            len: hex::put_refusal(26, out),
+            len: base_hex::put_refusal(26, out),
         },
     }
 }

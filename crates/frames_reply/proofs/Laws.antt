@@ -14,16 +14,16 @@ use Rattle.model_text.proofs.HexBack.{length-hex}
 use Rattle.model_frame.specs.Frame.{Frame}
 use Rattle.model_frame.specs.Reading.{maxBody}
 use Rattle.model_frame.specs.Writing.{bodyBytes, encode, fine}
-use Rattle.model.specs.Answer as the-answer
-use Rattle.laws.proofs.Little.{write-is}
-use Rattle.hex.specs.Lines.{Wrote, Puts}
-use Rattle.print.specs.Encoding.{Outcome, wrote, refused, outcome, areaAfter, Answer, took, refusal, answerOf, writtenOf, Encoded}
-use Rattle.print.specs.declared.Written.{Written}
-use Rattle.print.specs.declared.Written
-use Rattle.outcome.specs.declared.Answer as the-code
-use Rattle.outcome.specs.Answers as the-answers
-use Rattle.outcome.specs.Answers.{frameBy}
-use Rattle.reply_text.specs.Texts.{outcomeText, answerText}
+use Rattle.model_standby.specs.Answer as the-answer
+use Rattle.base_laws.proofs.Little.{write-is}
+use Rattle.base_hex.specs.Lines.{Wrote, Puts}
+use Rattle.frame_writer.specs.Encoding.{Outcome, wrote, refused, outcome, areaAfter, Answer, took, refusal, answerOf, writtenOf, Encoded}
+use Rattle.frame_writer.specs.declared.Written.{Written}
+use Rattle.frame_writer.specs.declared.Written
+use Rattle.standby_state.specs.declared.Answer as the-code
+use Rattle.standby_state.specs.Answers as the-answers
+use Rattle.standby_state.specs.Answers.{frameBy}
+use Rattle.frames_reply.specs.Texts.{outcomeText, answerText}
 
 -- ---- what was written
 

@@ -3,10 +3,10 @@ use Prim.Native.Nat.{ℕ}
 use mathlib.Core.List.{List, []}
 use mathlib.Core.Option.{some}
 use Rattle.model_text.specs.Hex.{hexOf, refusalText}
-use Rattle.model.specs.Answer.{reply, refused, done, protocolVersion}
-use Rattle.model.specs.Answer as the-answer
-use Rattle.print.specs.Encoding as the-writing
-use Rattle.print.specs.Encoding.{outcome, wrote}
+use Rattle.model_standby.specs.Answer.{reply, refused, done, protocolVersion}
+use Rattle.model_standby.specs.Answer as the-answer
+use Rattle.frame_writer.specs.Encoding as the-writing
+use Rattle.frame_writer.specs.Encoding.{outcome, wrote}
 
 -- the digits of what was written, or R and the number
 abbrev pub outcomeText : the-writing.Outcome → List ℕ

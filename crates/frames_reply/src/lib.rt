@@ -2,12 +2,12 @@
 ghost use mathlib.Core.Option.{some};
 ghost use Prim.Native.Nat.{_*_, _≤_};
 ghost use lib.ListN.{length};
-ghost use Rattle.hex.specs.Lines.{Puts};
-ghost use Rattle.print.specs.Encoding.{outcome};
-ghost use Rattle.outcome.specs.Answers.{frameBy, answerOf};
-ghost use Rattle.reply_text.specs.Texts.{outcomeText, answerText};
+ghost use Rattle.base_hex.specs.Lines.{Puts};
+ghost use Rattle.frame_writer.specs.Encoding.{outcome};
+ghost use Rattle.standby_state.specs.Answers.{frameBy, answerOf};
+ghost use Rattle.frames_reply.specs.Texts.{outcomeText, answerText};
 use frame::Written;
-use outcome::Answer;
+use standby_state::Answer;
 
 // The digits of an answer's frame, or the refusal where it can't be written; buf is for its bytes.
 fn put_reply(a: Answer, bytes: &[u8], buf: &mut [u8], out: &mut [u8]) -> usize
@@ -15,14 +15,14 @@ fn put_reply(a: Answer, bytes: &[u8], buf: &mut [u8], out: &mut [u8]) -> usize
     requires { ⌜ 2 * length (now buf) ≤ length (now out) ⌝ }
     ensures { λ r. ⌜ Puts (outcomeText (outcome 1 (some (frameBy (now (bytes .entry)) a)) (length (now (buf .entry))))) (now (out .entry)) (now (out .exit)) r ⌝ }
 {
-    match reply::write(a, bytes, buf) {
+    match standby_reply::write(a, bytes, buf) {
         Written::Took(n) => {
-            hex::put_hex(&buf[0..n], out);
+            base_hex::put_hex(&buf[0..n], out);
             2 * n
         }
-        Written::Unreadable => hex::put_refusal(8, out),
-        Written::TooLong => hex::put_refusal(1, out),
-        Written::NoRoom => hex::put_refusal(9, out),
+        Written::Unreadable => base_hex::put_refusal(8, out),
+        Written::TooLong => base_hex::put_refusal(1, out),
+        Written::NoRoom => base_hex::put_refusal(9, out),
     }
 }
 
@@ -38,5 +38,5 @@ pub fn put_answer(a: Answer, bytes: &[u8], buf: &mut [u8], out: &mut [u8]) -> us
         }
         return put_reply(a, bytes, buf, out);
     }
-    hex::put_refusal(a.refusal, out)
+    base_hex::put_refusal(a.refusal, out)
 }

@@ -22,14 +22,14 @@ use Rattle.model_session.proofs.Basics.{T→true, cond-cases}
 use Rattle.model_session.proofs.Keeping.{new-holdable}
 use Rattle.model_session.proofs.Summing.{summary-ranged, summary-fine}
 use Rattle.model_session.proofs.Writing.{suits-first}
-use Rattle.model.specs.Answer.{protocolVersion, Given, damaged, intact, given, Answer, reply, refused, done}
-use Rattle.model.specs.Store.{Place, placeOf, sessionAt, orNew}
-use Rattle.model.specs.State.{Settings, incarnationOf, Standby, Result, Call, onFrameHeld, onFrame, flush, disconnectedFrom, promote, promoteUnchecked}
-use Rattle.model.specs.Standby.{runPending, due, onGiven, step}
-use Rattle.model.specs.Rules.{OkCall, Readable, Valid}
-use Rattle.model.proofs.Outcomes.{Nacked, staleBind, lagBind, staleBatch, staleChecked, otherChecked, Batches, refuses, clears, raises, holds, applies, diverges, Does, turns, tells, nacks, greets, binds, checks, batches, does}
-use Rattle.model.proofs.Places.{each-at, each-mark}
-use Rattle.model.proofs.Ruling.{Passed, passed}
+use Rattle.model_standby.specs.Answer.{protocolVersion, Given, damaged, intact, given, Answer, reply, refused, done}
+use Rattle.model_standby.specs.Store.{Place, placeOf, sessionAt, orNew}
+use Rattle.model_standby.specs.State.{Settings, incarnationOf, Standby, Result, Call, onFrameHeld, onFrame, flush, disconnectedFrom, promote, promoteUnchecked}
+use Rattle.model_standby.specs.Standby.{runPending, due, onGiven, step}
+use Rattle.model_standby.specs.Rules.{OkCall, Readable, Valid}
+use Rattle.model_standby.proofs.Outcomes.{Nacked, staleBind, lagBind, staleBatch, staleChecked, otherChecked, Batches, refuses, clears, raises, holds, applies, diverges, Does, turns, tells, nacks, greets, binds, checks, batches, does}
+use Rattle.model_standby.proofs.Places.{each-at, each-mark}
+use Rattle.model_standby.proofs.Ruling.{Passed, passed}
 
 -- ---- a frame can be written if its numbers and texts can, and it is short
 

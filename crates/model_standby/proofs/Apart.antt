@@ -10,14 +10,14 @@ use mathlib.Core.Bool.{Bool, true, false, cond, not, _||_}
 use lib.ListN.{length, length-append, getElem?}
 use lib.Dec.{ltb, eqb, ltb→lt, nltb→le}
 use Rattle.model_frame.specs.Frame.{Key, Change, Part, Frame, checked}
-use Rattle.model.specs.Answer.{Given, damaged, intact, given, isReply}
-use Rattle.model.specs.Store.{Stored, Place, sameKey, placeOf, isStored, onPlace, onPlaces, markDurable, newPlace, opened, changed, markAll, takenOver}
-use Rattle.model.specs.State.{Settings, Standby, Result, Call, onFrameHeld, onFrame, flush, disconnectedFrom, promote, promoteUnchecked}
-use Rattle.model.specs.Standby.{runPending, due, onGiven, step, run}
-use Rattle.model.specs.PlainCopy.{OwnKey, earlier, ownKey}
+use Rattle.model_standby.specs.Answer.{Given, damaged, intact, given, isReply}
+use Rattle.model_standby.specs.Store.{Stored, Place, sameKey, placeOf, isStored, onPlace, onPlaces, markDurable, newPlace, opened, changed, markAll, takenOver}
+use Rattle.model_standby.specs.State.{Settings, Standby, Result, Call, onFrameHeld, onFrame, flush, disconnectedFrom, promote, promoteUnchecked}
+use Rattle.model_standby.specs.Standby.{runPending, due, onGiven, step, run}
+use Rattle.model_standby.specs.PlainCopy.{OwnKey, earlier, ownKey}
 use Rattle.model_session.proofs.Basics.{eqb-sound, and-true, true→T, false→notT, cond-cases, none≢some, some-inj}
-use Rattle.model.proofs.Outcomes.{Batches, refuses, clears, raises, holds, applies, diverges, Does, turns, tells, nacks, greets, binds, checks, batches, does}
-use Rattle.model.proofs.Places.{keyAt, at-append, place-low, key-there, earlier-none, own-parts, own-made, earlier-append, bind-is, key-self}
+use Rattle.model_standby.proofs.Outcomes.{Batches, refuses, clears, raises, holds, applies, diverges, Does, turns, tells, nacks, greets, binds, checks, batches, does}
+use Rattle.model_standby.proofs.Places.{keyAt, at-append, place-low, key-there, earlier-none, own-parts, own-made, earlier-append, bind-is, key-self}
 
 -- no place has an earlier one with its key
 abbrev pub Apart : List Place → Type 0

@@ -9,17 +9,17 @@ use lib.ListN.{getElem?}
 use lib.Dec.{T, eqb}
 use Rattle.model_frame.specs.Frame.{Reason, Change, Part, AppRecord, Frame, hello, welcome, bind, batch, ack, nack, bound, checked}
 use Rattle.model_session.specs.Session.{Session, applyAll}
-use Rattle.model.specs.Answer.{reply, Given, damaged, intact, given, refused, isReply}
-use Rattle.model.specs.Row.{Row, freed, find, hasRoom, put}
-use Rattle.model.specs.Store.{Place, placeOf, onStored, onPlace, sessionAt, changed}
-use Rattle.model.specs.State.{Settings, Bound, Standby, Result, Call, onFrameHeld, onFrame, flush, disconnectedFrom, promote, promoteUnchecked, newBound, noneHeld, numbered}
-use Rattle.model.specs.Standby.{withHandle, runPending, due, summed, holding, applied, onGiven, step, run}
-use Rattle.model.specs.PlainCopy.{OwnKey, ownKey, keyIs, Copy, setAt, boundKey, boundHeld, copyAt, copySettle, copyBatch, copyFrame, copyGiven, copyStep, copyRun}
-use Rattle.model.specs.Demand.{isPlain, allPlain}
+use Rattle.model_standby.specs.Answer.{reply, Given, damaged, intact, given, refused, isReply}
+use Rattle.model_standby.specs.Row.{Row, freed, find, hasRoom, put}
+use Rattle.model_standby.specs.Store.{Place, placeOf, onStored, onPlace, sessionAt, changed}
+use Rattle.model_standby.specs.State.{Settings, Bound, Standby, Result, Call, onFrameHeld, onFrame, flush, disconnectedFrom, promote, promoteUnchecked, newBound, noneHeld, numbered}
+use Rattle.model_standby.specs.Standby.{withHandle, runPending, due, summed, holding, applied, onGiven, step, run}
+use Rattle.model_standby.specs.PlainCopy.{OwnKey, ownKey, keyIs, Copy, setAt, boundKey, boundHeld, copyAt, copySettle, copyBatch, copyFrame, copyGiven, copyStep, copyRun}
+use Rattle.model_standby.specs.Demand.{isPlain, allPlain}
 use Rattle.model_session.proofs.Basics.{and-l, and-r, cond-cases, cond-true, cond-false, eqb-true, eqb-sound, none≢some, some-inj}
-use Rattle.model.proofs.Outcomes.{Nacked, staleBind, lagBind, staleBatch, staleChecked, otherChecked, Gathers, ofCommit, ofLast, Batches, refuses, clears, raises, holds, applies, diverges, Does, turns, tells, nacks, greets, binds, checks, batches, does}
-use Rattle.model.proofs.Rows.{find-freed, find-put-self, find-put-same, find-put-other}
-use Rattle.model.proofs.Places.{session-there, own-is, bind-is, own-on, at-on-same, at-on-other, pending-session, pending-own, open-own, open-session}
+use Rattle.model_standby.proofs.Outcomes.{Nacked, staleBind, lagBind, staleBatch, staleChecked, otherChecked, Gathers, ofCommit, ofLast, Batches, refuses, clears, raises, holds, applies, diverges, Does, turns, tells, nacks, greets, binds, checks, batches, does}
+use Rattle.model_standby.proofs.Rows.{find-freed, find-put-self, find-put-same, find-put-other}
+use Rattle.model_standby.proofs.Places.{session-there, own-is, bind-is, own-on, at-on-same, at-on-other, pending-session, pending-own, open-own, open-session}
 
 -- for every bound handle: its key in the copy is k just if its place is `here`, and its held changes are the copy's
 abbrev Match : OwnKey → ℕ → Row Bound → (ℕ → Option OwnKey) → (ℕ → List Change) → Type 0

@@ -15,14 +15,14 @@ use Rattle.model_session.specs.Whole.{stands, sendMsg, stampPart, batchesFrom, 
 use Rattle.model_session.proofs.Basics.{T→true, some-inj}
 use Rattle.model_session.proofs.Sending.{joined-whole}
 use Rattle.model_session.proofs.Writing.{whole-writable, suits-first}
-use Rattle.model.specs.Answer.{protocolVersion, accepted}
-use Rattle.model.specs.Store.{sessionAt}
-use Rattle.model.specs.State.{Settings, Bound, Standby, Call, onFrameHeld}
-use Rattle.model.specs.Standby.{startsWithReset, step, run}
-use Rattle.model.specs.PlainCopy.{OwnKey, copyAt, copyRun}
-use Rattle.model.specs.Demand.{Start, isPlain, allPlain, byHeld, byFrame, FirstList, ends, ours, aside, flushes, drops, tookLast, AllTaken, Claim}
-use Rattle.model.proofs.Copying.{copy-run, copy-start}
-use Rattle.model.proofs.Taking.{starts-append, hold-run}
+use Rattle.model_standby.specs.Answer.{protocolVersion, accepted}
+use Rattle.model_standby.specs.Store.{sessionAt}
+use Rattle.model_standby.specs.State.{Settings, Bound, Standby, Call, onFrameHeld}
+use Rattle.model_standby.specs.Standby.{startsWithReset, step, run}
+use Rattle.model_standby.specs.PlainCopy.{OwnKey, copyAt, copyRun}
+use Rattle.model_standby.specs.Demand.{Start, isPlain, allPlain, byHeld, byFrame, FirstList, ends, ours, aside, flushes, drops, tookLast, AllTaken, Claim}
+use Rattle.model_standby.proofs.Copying.{copy-run, copy-start}
+use Rattle.model_standby.proofs.Taking.{starts-append, hold-run}
 
 -- ---- the first batch begins with a Reset
 

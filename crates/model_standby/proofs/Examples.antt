@@ -16,10 +16,10 @@ use Rattle.model_frame.specs.Reading.{stamp, marks, setIncomingFields, recordMs
 use Rattle.model_frame.specs.Writing.{blobBytes, changeBytes, appRecordBytes, keyBytes, bodyBytes, encode}
 use Rattle.model_session.specs.Session.{newSession, keep, apply, top}
 use Rattle.model_session.specs.Summary.{summary}
-use Rattle.model.specs.Answer.{given, Answer, reply, refused, done}
-use Rattle.model.specs.Row.{put}
-use Rattle.model.specs.State.{Settings, Standby, Call, onFrameHeld, onFrame, flush, disconnectedFrom, promote, newStandby}
-use Rattle.model.specs.Standby.{onHello, onBind, onChecked, settle, hold, onPart, onHandle, onBatch, onGiven, step, run}
+use Rattle.model_standby.specs.Answer.{given, Answer, reply, refused, done}
+use Rattle.model_standby.specs.Row.{put}
+use Rattle.model_standby.specs.State.{Settings, Standby, Call, onFrameHeld, onFrame, flush, disconnectedFrom, promote, newStandby}
+use Rattle.model_standby.specs.Standby.{onHello, onBind, onChecked, settle, hold, onPart, onHandle, onBatch, onGiven, step, run}
 
 abbrev held : Frame → Call
 held f = onFrameHeld (encode f)

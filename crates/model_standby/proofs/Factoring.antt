@@ -11,12 +11,12 @@ use Rattle.model_frame.specs.Frame.{Key, Change, Part, commit, whole, lastWhole
 use Rattle.model_frame.specs.Parse.{isEmpty}
 use Rattle.model_frame.specs.Writing.{sizes}
 use Rattle.model_session.specs.Session.{fits}
-use Rattle.model.specs.Answer.{protocolVersion, Given, damaged, intact, given, handleIn, done}
-use Rattle.model.specs.Row.{Row, find, hasFree, hasRoom}
-use Rattle.model.specs.Store.{isStored, sessionAt, orNew}
-use Rattle.model.specs.State.{Settings, incarnationOf, Bound, Standby, Result, Call, onFrameHeld, onFrame, flush, disconnectedFrom, promote, promoteUnchecked, atEpoch, noneHeld}
-use Rattle.model.specs.Standby.{withCounters, unbound, runPending, due, onHello, onBind, onChecked, follows, raised, maxWhole, startsWithReset, settle, hold, onPart, onHandle, onBatch, onIntact, onGiven, flushed, step}
-use Rattle.model.specs.Core.{CoreResult, leave, clear, coreDone, coreUnbound, coreOf, acted, coreHello, coreBind, coreChecked, coreSettle, coreHold, corePart, coreHandle, coreBatch, coreIntact, coreGiven, coreStep, handleOf}
+use Rattle.model_standby.specs.Answer.{protocolVersion, Given, damaged, intact, given, handleIn, done}
+use Rattle.model_standby.specs.Row.{Row, find, hasFree, hasRoom}
+use Rattle.model_standby.specs.Store.{isStored, sessionAt, orNew}
+use Rattle.model_standby.specs.State.{Settings, incarnationOf, Bound, Standby, Result, Call, onFrameHeld, onFrame, flush, disconnectedFrom, promote, promoteUnchecked, atEpoch, noneHeld}
+use Rattle.model_standby.specs.Standby.{withCounters, unbound, runPending, due, onHello, onBind, onChecked, follows, raised, maxWhole, startsWithReset, settle, hold, onPart, onHandle, onBatch, onIntact, onGiven, flushed, step}
+use Rattle.model_standby.specs.Core.{CoreResult, leave, clear, coreDone, coreUnbound, coreOf, acted, coreHello, coreBind, coreChecked, coreSettle, coreHold, corePart, coreHandle, coreBatch, coreIntact, coreGiven, coreStep, handleOf}
 
 -- what is left and answered is what the core's answer makes of the row
 record Acts (t : Row Bound) (x : Result) (u : CoreResult) : Type 0 where

@@ -14,12 +14,12 @@ use Rattle.model_frame.specs.Writing.{sizes}
 use Rattle.model_frame.proofs.Runs.{sizes-append}
 use Rattle.model_frame.proofs.Sizes.{changes-size}
 use Rattle.model_session.proofs.Basics.{and-r, cond-cases, none≢some, some-inj, true≢false}
-use Rattle.model.specs.Answer.{Given, damaged, intact, accepted}
-use Rattle.model.specs.Row.{isSome, find, put}
-use Rattle.model.specs.State.{Settings, Counters, Bound, Standby, Result, atEpoch, noneHeld}
-use Rattle.model.specs.Standby.{withCounters, withHandle, runPending, due, says, refuse, follows, raised, maxWhole, startsWithReset, summed, holding, settle, hold, onPart, onHandle, onBatch, onGiven}
-use Rattle.model.specs.Hold.{Written, heldBytes, heldPasses, writesAt, writesPart, writesFrame, writes}
-use Rattle.model.proofs.Rows.{find-put-found}
+use Rattle.model_standby.specs.Answer.{Given, damaged, intact, accepted}
+use Rattle.model_standby.specs.Row.{isSome, find, put}
+use Rattle.model_standby.specs.State.{Settings, Counters, Bound, Standby, Result, atEpoch, noneHeld}
+use Rattle.model_standby.specs.Standby.{withCounters, withHandle, runPending, due, says, refuse, follows, raised, maxWhole, startsWithReset, summed, holding, settle, hold, onPart, onHandle, onBatch, onGiven}
+use Rattle.model_standby.specs.Hold.{Written, heldBytes, heldPasses, writesAt, writesPart, writesFrame, writes}
+use Rattle.model_standby.proofs.Rows.{find-put-found}
 
 module _ (L : Settings) where
   -- ---- inside

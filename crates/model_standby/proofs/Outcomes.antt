@@ -14,12 +14,12 @@ use Rattle.model_frame.specs.Writing.{sizes}
 use Rattle.model_session.specs.Session.{fits}
 use Rattle.model_session.specs.Summary.{summary}
 use Rattle.model_session.proofs.Basics.{T→true, cond-cases}
-use Rattle.model.specs.Answer.{protocolVersion}
-use Rattle.model.specs.Row.{find, hasRoom}
-use Rattle.model.specs.Store.{placeOf, isStored, sessionAt, orNew}
-use Rattle.model.specs.State.{Settings, incarnationOf, Bound, Standby, Result, atEpoch, connected, checkedAt, noneHeld}
-use Rattle.model.specs.Standby.{withCounters, withHandle, unbound, bindTo, says, refuse, onHello, onBind, onChecked, follows, raised, maxWhole, startsWithReset, summed, holding, applied, settle, hold, onPart, onHandle, onBatch, onIntact}
-use Rattle.model.specs.Demand.{isOutside}
+use Rattle.model_standby.specs.Answer.{protocolVersion}
+use Rattle.model_standby.specs.Row.{find, hasRoom}
+use Rattle.model_standby.specs.Store.{placeOf, isStored, sessionAt, orNew}
+use Rattle.model_standby.specs.State.{Settings, incarnationOf, Bound, Standby, Result, atEpoch, connected, checkedAt, noneHeld}
+use Rattle.model_standby.specs.Standby.{withCounters, withHandle, unbound, bindTo, says, refuse, onHello, onBind, onChecked, follows, raised, maxWhole, startsWithReset, summed, holding, applied, settle, hold, onPart, onHandle, onBatch, onIntact}
+use Rattle.model_standby.specs.Demand.{isOutside}
 
 pub not-not : (b : Bool) → T (not (not b)) → b ≡ true
 not-not true u = refl

@@ -13,10 +13,10 @@ use lib.Dec.{T, eqb, eqb→eq, ltb, ltb→lt, nltb→le}
 use Rattle.model_frame.specs.Frame.{Key}
 use Rattle.model_frame.specs.Parse.{Each}
 use Rattle.model_session.specs.Session.{Session}
-use Rattle.model.specs.Store.{Stored, Place, sameBytes, sameKey, placeOf, isStored, onStored, onPlace, onPlaces, sessionAt, markDurable, newPlace, opened, markAll}
-use Rattle.model.specs.State.{Standby}
-use Rattle.model.specs.Standby.{runPending}
-use Rattle.model.specs.PlainCopy.{OwnKey, earlier, ownKey, keyIs}
+use Rattle.model_standby.specs.Store.{Stored, Place, sameBytes, sameKey, placeOf, isStored, onStored, onPlace, onPlaces, sessionAt, markDurable, newPlace, opened, markAll}
+use Rattle.model_standby.specs.State.{Standby}
+use Rattle.model_standby.specs.Standby.{runPending}
+use Rattle.model_standby.specs.PlainCopy.{OwnKey, earlier, ownKey, keyIs}
 use Rattle.model_session.proofs.Basics.{T→true, true→T, and-l, and-r, and-true, eqb-true, eqb-sound, cond-cases, none≢some, some-inj, true≢false, false→notT}
 
 -- ---- keys

@@ -8,7 +8,7 @@ use mathlib.Core.Bool.{Bool, true, false, cond, _||_}
 use lib.ListN.{replicate}
 use lib.Dec.{eqb}
 use Rattle.model_frame.specs.Parse.{Each}
-use Rattle.model.specs.Row.{Row, Used, isSome, freed, hasFree, fill, find, replace, hasRoom, put}
+use Rattle.model_standby.specs.Row.{Row, Used, isSome, freed, hasFree, fill, find, replace, hasRoom, put}
 use Rattle.model_session.proofs.Basics.{cond-cases, eqb-true, eqb-sound, none≢some, some-inj, true≢false}
 
 module _ {A : Type 0} where

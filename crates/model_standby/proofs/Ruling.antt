@@ -23,16 +23,16 @@ use Rattle.model_session.specs.Session.{fits, messageBytes, top, Holdable, Stor
 use Rattle.model_session.proofs.Basics.{T→true, true→T, and-l, and-r, and-true, leb-true, cond-cases, true≢false, each-append}
 use Rattle.model_session.proofs.Sending.{messageBytes-append}
 use Rattle.model_session.proofs.Keeping.{apply-all-keeps, rising-up, new-holdable}
-use Rattle.model.specs.Answer.{protocolVersion, Given, damaged, intact, judged, given, isReply}
-use Rattle.model.specs.Row.{Row, Used, find}
-use Rattle.model.specs.Store.{Stored, Place, placeOf, isStored, onPlace, sessionAt, orNew, newPlace, opened, changed, withB, takenOver}
-use Rattle.model.specs.State.{Settings, Bound, Standby, Result, Call, onFrameHeld, onFrame, flush, disconnectedFrom, promote, promoteUnchecked, newStandby, atEpoch, newBound, noneHeld, numbered}
-use Rattle.model.specs.Standby.{withCounters, withHandle, unbound, runPending, due, pendsOn, bindTo, heldSum, raised, maxWhole, startsWithReset, summed, holding, applied, onGiven, promotion, step, run}
-use Rattle.model.specs.Rules.{OkCall, changesOf, Readable, BoundValid, BoundUsual, Rules, Valid, Usual}
-use Rattle.model.proofs.Outcomes.{Gathers, ofCommit, ofLast, Batches, refuses, clears, raises, holds, applies, diverges, Does, turns, tells, nacks, greets, binds, checks, batches, does}
-use Rattle.model.proofs.Rows.{used-found, used-put, used-freed, used-none, used-map}
-use Rattle.model.proofs.Places.{place-low, length-on, pending-length, length-places, each-at, each-on, each-places, each-mark}
-use Rattle.model.proofs.Taking.{starts-append}
+use Rattle.model_standby.specs.Answer.{protocolVersion, Given, damaged, intact, judged, given, isReply}
+use Rattle.model_standby.specs.Row.{Row, Used, find}
+use Rattle.model_standby.specs.Store.{Stored, Place, placeOf, isStored, onPlace, sessionAt, orNew, newPlace, opened, changed, withB, takenOver}
+use Rattle.model_standby.specs.State.{Settings, Bound, Standby, Result, Call, onFrameHeld, onFrame, flush, disconnectedFrom, promote, promoteUnchecked, newStandby, atEpoch, newBound, noneHeld, numbered}
+use Rattle.model_standby.specs.Standby.{withCounters, withHandle, unbound, runPending, due, pendsOn, bindTo, heldSum, raised, maxWhole, startsWithReset, summed, holding, applied, onGiven, promotion, step, run}
+use Rattle.model_standby.specs.Rules.{OkCall, changesOf, Readable, BoundValid, BoundUsual, Rules, Valid, Usual}
+use Rattle.model_standby.proofs.Outcomes.{Gathers, ofCommit, ofLast, Batches, refuses, clears, raises, holds, applies, diverges, Does, turns, tells, nacks, greets, binds, checks, batches, does}
+use Rattle.model_standby.proofs.Rows.{used-found, used-put, used-freed, used-none, used-map}
+use Rattle.model_standby.proofs.Places.{place-low, length-on, pending-length, length-places, each-at, each-on, each-places, each-mark}
+use Rattle.model_standby.proofs.Taking.{starts-append}
 
 bytes-in-size : (cs : List Change) → messageBytes cs ≤ sizes cs
 bytes-in-size [] = omega arith

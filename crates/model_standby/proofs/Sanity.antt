@@ -11,12 +11,12 @@ use mathlib.Core.Bool.{Bool, true, false, not, _||_}
 use lib.Dec.{T, eqb, ltb→lt}
 use Rattle.model_frame.specs.Frame.{Change, Part, Frame, checked}
 use Rattle.model_session.proofs.Basics.{cond-cases, cond-true, cond-false, true≢false}
-use Rattle.model.specs.Answer.{Given, damaged, intact, given, lower, isReply}
-use Rattle.model.specs.Row.{find}
-use Rattle.model.specs.State.{Settings, Counters, Standby, Result, Call, onFrameHeld, onFrame, flush, disconnectedFrom, promote, promoteUnchecked}
-use Rattle.model.specs.Standby.{runPending, due, refuse, flushed, onGiven, step, run}
-use Rattle.model.proofs.Outcomes.{Batches, refuses, clears, raises, holds, applies, diverges, Does, turns, tells, nacks, greets, binds, checks, batches, does}
-use Rattle.model.proofs.Rows.{find-freed}
+use Rattle.model_standby.specs.Answer.{Given, damaged, intact, given, lower, isReply}
+use Rattle.model_standby.specs.Row.{find}
+use Rattle.model_standby.specs.State.{Settings, Counters, Standby, Result, Call, onFrameHeld, onFrame, flush, disconnectedFrom, promote, promoteUnchecked}
+use Rattle.model_standby.specs.Standby.{runPending, due, refuse, flushed, onGiven, step, run}
+use Rattle.model_standby.proofs.Outcomes.{Batches, refuses, clears, raises, holds, applies, diverges, Does, turns, tells, nacks, greets, binds, checks, batches, does}
+use Rattle.model_standby.proofs.Rows.{find-freed}
 
 -- ---- the epoch never falls
 

@@ -9,7 +9,7 @@ use Rattle.model_frame.specs.Parse.{bytes, num, blob, text, count, many}
 use Rattle.model_frame.specs.Reading.{stamp, setCreatedAtFields, readChange, changes, kinds, appRecords, partByte, reason, helloFields, batchFields, nackFields, fields, body, decode}
 use Rattle.model_session.specs.Summary.{lastOut}
 use Rattle.model_session.specs.Lag.{push}
-use Rattle.model.specs.Starred.{Question, Reply, answerTo, starred}
+use Rattle.model_standby.specs.Starred.{Question, Reply, answerTo, starred}
 
 pub starred-hold : map (λ (p : Question × Reply). answerTo (p .0)) starred ≡ map (λ (p : Question × Reply). p .1) starred
 unfolding decode le num bytes blob text count many body fields helloFields batchFields nackFields kinds changes readChange setCreatedAtFields appRecords partByte reason stamp utf8 wellFormed leadLength ownBits least fitting isScalar isSurrogate isTail isDigit isPair isStamp takesStamp lastOut push

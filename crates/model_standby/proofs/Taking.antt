@@ -19,15 +19,15 @@ use Rattle.model_session.specs.Session.{Session, applyAll, fits, messageBytes, 
 use Rattle.model_session.specs.Whole.{joined, framesOf, holdLength}
 use Rattle.model_session.proofs.Basics.{true→T, and-true, cond-cases, cond-true, cond-false, eqb-true, ltb-true, ltb-false, none≢some}
 use Rattle.model_session.proofs.Sending.{wholeChanges, apply-whole, fits-whole, sizes-whole, bytes-whole, messageBytes-append}
-use Rattle.model.specs.Answer.{protocolVersion, Given, damaged, intact, judged, given, Answer, reply, refused, done, accepted, lower, isReply}
-use Rattle.model.specs.Row.{Row, find, put}
-use Rattle.model.specs.Store.{Place, onStored, sessionAt, orNew, changed}
-use Rattle.model.specs.State.{Settings, Bound, Standby, Result, Call, flush, disconnectedFrom, atEpoch, noneHeld}
-use Rattle.model.specs.Standby.{withCounters, withHandle, unbound, runPending, due, says, refuse, heldSum, raised, maxWhole, startsWithReset, applied, settle, hold, onPart, onHandle, onBatch, onIntact, onGiven, step, run}
-use Rattle.model.specs.Demand.{isOutside, Hands, byHeld, byFrame, Aside, isLower, isRefused, FirstList, ends, ours, aside, flushes, drops, tookLast, AllTaken}
-use Rattle.model.proofs.Outcomes.{Batches, refuses, clears, raises, holds, applies, diverges, Does, turns, tells, nacks, greets, binds, checks, batches, does}
-use Rattle.model.proofs.Rows.{find-freed, find-put-found}
-use Rattle.model.proofs.Places.{at-on-same, pending-session}
+use Rattle.model_standby.specs.Answer.{protocolVersion, Given, damaged, intact, judged, given, Answer, reply, refused, done, accepted, lower, isReply}
+use Rattle.model_standby.specs.Row.{Row, find, put}
+use Rattle.model_standby.specs.Store.{Place, onStored, sessionAt, orNew, changed}
+use Rattle.model_standby.specs.State.{Settings, Bound, Standby, Result, Call, flush, disconnectedFrom, atEpoch, noneHeld}
+use Rattle.model_standby.specs.Standby.{withCounters, withHandle, unbound, runPending, due, says, refuse, heldSum, raised, maxWhole, startsWithReset, applied, settle, hold, onPart, onHandle, onBatch, onIntact, onGiven, step, run}
+use Rattle.model_standby.specs.Demand.{isOutside, Hands, byHeld, byFrame, Aside, isLower, isRefused, FirstList, ends, ours, aside, flushes, drops, tookLast, AllTaken}
+use Rattle.model_standby.proofs.Outcomes.{Batches, refuses, clears, raises, holds, applies, diverges, Does, turns, tells, nacks, greets, binds, checks, batches, does}
+use Rattle.model_standby.proofs.Rows.{find-freed, find-put-found}
+use Rattle.model_standby.proofs.Places.{at-on-same, pending-session}
 
 -- ---- what asides and commits leave as it was
 

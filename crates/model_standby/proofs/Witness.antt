@@ -16,15 +16,15 @@ use Rattle.model_frame.specs.Reading.{stamp, marks, setIncomingInFlightFields, 
 use Rattle.model_frame.specs.Writing.{blobBytes, changeBytes, bodyBytes, encode}
 use Rattle.model_session.specs.Session.{Session, newSession, apply, keep, Holdable}
 use Rattle.model_session.specs.Whole.{wholeBatches, wholeFrames}
-use Rattle.model.specs.Answer.{given}
-use Rattle.model.specs.Row.{put}
-use Rattle.model.specs.Store.{sessionAt}
-use Rattle.model.specs.State.{Bound, Standby, Call, onFrameHeld, onFrame, flush, disconnectedFrom}
-use Rattle.model.specs.Standby.{onBatch, onHandle, onPart, hold, settle, onGiven, step, run}
-use Rattle.model.specs.PlainCopy.{OwnKey, copyAt, copyRun}
-use Rattle.model.specs.Demand.{Start, byHeld, byFrame, isLower, isRefused, FirstList, ends, ours, aside, flushes, drops, tookLast}
-use Rattle.model.proofs.Demand3.{demand-3}
-use Rattle.model.proofs.Examples.{L₀, keyOf}
+use Rattle.model_standby.specs.Answer.{given}
+use Rattle.model_standby.specs.Row.{put}
+use Rattle.model_standby.specs.Store.{sessionAt}
+use Rattle.model_standby.specs.State.{Bound, Standby, Call, onFrameHeld, onFrame, flush, disconnectedFrom}
+use Rattle.model_standby.specs.Standby.{onBatch, onHandle, onPart, hold, settle, onGiven, step, run}
+use Rattle.model_standby.specs.PlainCopy.{OwnKey, copyAt, copyRun}
+use Rattle.model_standby.specs.Demand.{Start, byHeld, byFrame, isLower, isRefused, FirstList, ends, ours, aside, flushes, drops, tookLast}
+use Rattle.model_standby.proofs.Demand3.{demand-3}
+use Rattle.model_standby.proofs.Examples.{L₀, keyOf}
 
 -- ---- a session with messages 2, 3 and 6 and next outgoing 9
 

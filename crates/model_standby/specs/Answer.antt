@@ -8,7 +8,7 @@ use lib.ListN.{length}
 use lib.Dec.{ltb, eqb}
 use Rattle.model_frame.specs.Frame.{Reason, staleEpoch, diverged, lagTooGreat, restarted, Frame, hello, welcome, bind, batch, ack, nack, bound, checked, number, Decoded, more, faulty, got}
 use Rattle.model_frame.specs.Reading.{decode}
-use Rattle.model.specs.Row.{isSome}
+use Rattle.model_standby.specs.Row.{isSome}
 
 -- the version that frames are read in
 abbrev pub protocolVersion : ℕ

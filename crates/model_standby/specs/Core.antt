@@ -13,11 +13,11 @@ use Rattle.model_frame.specs.Parse.{isEmpty}
 use Rattle.model_frame.specs.Writing.{sizes}
 use Rattle.model_session.specs.Session.{fits}
 use Rattle.model_session.specs.Summary.{summary}
-use Rattle.model.specs.Answer.{protocolVersion, Given, damaged, intact, given, handleIn, Answer, reply, refused, done, isReply}
-use Rattle.model.specs.Row.{Row, isSome, put, freed}
-use Rattle.model.specs.Store.{Place, placeOf, isStored, onPlace, onPlaces, sessionAt, orNew, opened, changed, markAll, takenOver}
-use Rattle.model.specs.State.{Settings, incarnationOf, Counters, Bound, Standby, Call, onFrameHeld, onFrame, flush, disconnectedFrom, promote, promoteUnchecked, Result, atEpoch, connected, checkedAt, promotedTo, newBound, noneHeld, numbered}
-use Rattle.model.specs.Standby.{due, follows, raised, maxWhole, startsWithReset, summed, holding}
+use Rattle.model_standby.specs.Answer.{protocolVersion, Given, damaged, intact, given, handleIn, Answer, reply, refused, done, isReply}
+use Rattle.model_standby.specs.Row.{Row, isSome, put, freed}
+use Rattle.model_standby.specs.Store.{Place, placeOf, isStored, onPlace, onPlaces, sessionAt, orNew, opened, changed, markAll, takenOver}
+use Rattle.model_standby.specs.State.{Settings, incarnationOf, Counters, Bound, Standby, Call, onFrameHeld, onFrame, flush, disconnectedFrom, promote, promoteUnchecked, Result, atEpoch, connected, checkedAt, promotedTo, newBound, noneHeld, numbered}
+use Rattle.model_standby.specs.Standby.{due, follows, raised, maxWhole, startsWithReset, summed, holding}
 
 -- what is to be done to the row: nothing; the handle gets the value, at its own place or the first free one; all places free
 pub data Action : Type 0 where

@@ -12,12 +12,12 @@ use Rattle.model_frame.specs.Parse.{isEmpty}
 use Rattle.model_frame.specs.Writing.{encode}
 use Rattle.model_session.specs.Session.{Session, Holdable, top}
 use Rattle.model_session.specs.Whole.{wholeBatches, wholeFrames, holdLength}
-use Rattle.model.specs.Answer.{intact, given, Answer, refused, accepted, lower}
-use Rattle.model.specs.Row.{find}
-use Rattle.model.specs.Store.{sessionAt}
-use Rattle.model.specs.State.{Settings, Bound, Standby, Call, onFrameHeld, onFrame, flush, disconnectedFrom, promote, promoteUnchecked}
-use Rattle.model.specs.Standby.{step, run}
-use Rattle.model.specs.PlainCopy.{OwnKey, ownKey, copyAt, copyRun}
+use Rattle.model_standby.specs.Answer.{intact, given, Answer, refused, accepted, lower}
+use Rattle.model_standby.specs.Row.{find}
+use Rattle.model_standby.specs.Store.{sessionAt}
+use Rattle.model_standby.specs.State.{Settings, Bound, Standby, Call, onFrameHeld, onFrame, flush, disconnectedFrom, promote, promoteUnchecked}
+use Rattle.model_standby.specs.Standby.{step, run}
+use Rattle.model_standby.specs.PlainCopy.{OwnKey, ownKey, copyAt, copyRun}
 
 -- A is a session that the store can hold. The handle h is bound to the place of session B, whose key is k, with nothing
 -- held and document 01's hold area; the standby is unpromoted. Handle, epoch and the numbers of A's batches are of their

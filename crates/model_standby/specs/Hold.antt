@@ -9,9 +9,9 @@ use lib.Dec.{ltb}
 use Rattle.model_frame.specs.Frame.{Change, Part, commit, whole, lastWhole, Frame, hello, welcome, bind, batch, ack, nack, bound, checked}
 use Rattle.model_frame.specs.Parse.{isEmpty, runBytes}
 use Rattle.model_frame.specs.Writing.{changeBytes, sizes}
-use Rattle.model.specs.Answer.{Given, damaged, intact}
-use Rattle.model.specs.State.{Settings, Counters, Bound}
-use Rattle.model.specs.Standby.{follows, startsWithReset, raised, maxWhole}
+use Rattle.model_standby.specs.Answer.{Given, damaged, intact}
+use Rattle.model_standby.specs.State.{Settings, Counters, Bound}
+use Rattle.model_standby.specs.Standby.{follows, startsWithReset, raised, maxWhole}
 
 -- these bytes, at this offset of the handle's hold area
 pub record Written : Type 0 where

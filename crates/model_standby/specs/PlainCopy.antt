@@ -8,11 +8,11 @@ use lib.ListN.{getElem?}
 use lib.Dec.{eqb}
 use Rattle.model_frame.specs.Frame.{Key, Change, Part, commit, whole, lastWhole, Frame, hello, welcome, bind, batch, ack, nack, bound, checked}
 use Rattle.model_session.specs.Session.{Session, applyAll}
-use Rattle.model.specs.Answer.{Given, damaged, intact, given, Answer, accepted, saysDiverged}
-use Rattle.model.specs.Row.{find}
-use Rattle.model.specs.Store.{Place, sameKey}
-use Rattle.model.specs.State.{Settings, Bound, Standby, Call, onFrameHeld, onFrame, flush, disconnectedFrom, promote, promoteUnchecked}
-use Rattle.model.specs.Standby.{step}
+use Rattle.model_standby.specs.Answer.{Given, damaged, intact, given, Answer, accepted, saysDiverged}
+use Rattle.model_standby.specs.Row.{find}
+use Rattle.model_standby.specs.Store.{Place, sameKey}
+use Rattle.model_standby.specs.State.{Settings, Bound, Standby, Call, onFrameHeld, onFrame, flush, disconnectedFrom, promote, promoteUnchecked}
+use Rattle.model_standby.specs.Standby.{step}
 
 -- ---- the key of a session: its bytes, and how many earlier places have the same bytes (no operation makes two such places)
 

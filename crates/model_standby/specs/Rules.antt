@@ -10,11 +10,11 @@ use Rattle.model_frame.specs.Frame.{Change, Frame, hello, welcome, bind, batch,
 use Rattle.model_frame.specs.Parse.{isEmpty, Each}
 use Rattle.model_frame.specs.Writing.{sizes, Writable}
 use Rattle.model_session.specs.Session.{Holdable, Storable, isBytes, messageBytes, top}
-use Rattle.model.specs.Answer.{protocolVersion}
-use Rattle.model.specs.Row.{Used}
-use Rattle.model.specs.Store.{Place}
-use Rattle.model.specs.State.{Settings, Bound, Standby, Call, onFrameHeld, onFrame, flush, disconnectedFrom, promote, promoteUnchecked}
-use Rattle.model.specs.Standby.{startsWithReset, maxWhole}
+use Rattle.model_standby.specs.Answer.{protocolVersion}
+use Rattle.model_standby.specs.Row.{Used}
+use Rattle.model_standby.specs.Store.{Place}
+use Rattle.model_standby.specs.State.{Settings, Bound, Standby, Call, onFrameHeld, onFrame, flush, disconnectedFrom, promote, promoteUnchecked}
+use Rattle.model_standby.specs.Standby.{startsWithReset, maxWhole}
 
 -- ---- what is handed in are bytes
 

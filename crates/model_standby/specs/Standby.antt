@@ -11,10 +11,10 @@ use Rattle.model_frame.specs.Parse.{isEmpty}
 use Rattle.model_frame.specs.Writing.{sizes}
 use Rattle.model_session.specs.Session.{fits, messageBytes, top}
 use Rattle.model_session.specs.Summary.{summary}
-use Rattle.model.specs.Answer.{protocolVersion, Given, damaged, intact, given, reply, refused, done, isReply}
-use Rattle.model.specs.Row.{find, hasRoom, put, freed}
-use Rattle.model.specs.Store.{placeOf, isStored, onPlace, onPlaces, sessionAt, orNew, opened, changed, markAll, takenOver}
-use Rattle.model.specs.State.{Settings, incarnationOf, Counters, Bound, Standby, Call, onFrameHeld, onFrame, flush, disconnectedFrom, promote, promoteUnchecked, Result, atEpoch, connected, checkedAt, promotedTo, newBound, noneHeld, numbered}
+use Rattle.model_standby.specs.Answer.{protocolVersion, Given, damaged, intact, given, reply, refused, done, isReply}
+use Rattle.model_standby.specs.Row.{find, hasRoom, put, freed}
+use Rattle.model_standby.specs.Store.{placeOf, isStored, onPlace, onPlaces, sessionAt, orNew, opened, changed, markAll, takenOver}
+use Rattle.model_standby.specs.State.{Settings, incarnationOf, Counters, Bound, Standby, Call, onFrameHeld, onFrame, flush, disconnectedFrom, promote, promoteUnchecked, Result, atEpoch, connected, checkedAt, promotedTo, newBound, noneHeld, numbered}
 
 -- ---- parts of the state
 

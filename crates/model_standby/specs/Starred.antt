@@ -8,7 +8,7 @@ use Rattle.model_frame.specs.Frame.{setCreatedAt, commit, staleEpoch, Frame, he
 use Rattle.model_frame.specs.Reading.{decode}
 use Rattle.model_session.specs.Summary.{lastOut}
 use Rattle.model_session.specs.Lag.{Queue, newQueue, push}
-use Rattle.model.specs.Answer.{protocolVersion}
+use Rattle.model_standby.specs.Answer.{protocolVersion}
 
 pub data Question : Type 0 where
   -- the bytes of a frame

@@ -7,9 +7,9 @@ use mathlib.Core.Bool.{Bool, true, false}
 use lib.ListN.{replicate}
 use Rattle.model_frame.specs.Frame.{Change}
 use Rattle.model_session.specs.Session.{top}
-use Rattle.model.specs.Row.{Row}
-use Rattle.model.specs.Store.{Place}
-use Rattle.model.specs.Answer.{Answer}
+use Rattle.model_standby.specs.Row.{Row}
+use Rattle.model_standby.specs.Store.{Place}
+use Rattle.model_standby.specs.Answer.{Answer}
 
 -- what no call changes
 pub record Settings : Type 0 where

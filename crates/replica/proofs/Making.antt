@@ -8,28 +8,28 @@ use native.Mathlib.Omega.{arith}
 use lib.Dec.{leb}
 use lib.ListN.{length, getD, set, drop, replicate}
 use lib.Seq.{set-out}
-use Rattle.row.specs.declared.Handle.{Handle}
-use Rattle.row.specs.declared.Seen.{Seen}
-use Rattle.row.specs.Row.{brokenOf, clearedFrom, clearedAll, seenOf}
-use Rattle.row.proofs.Lists.{clears-end}
-use Rattle.bindings.specs.Rows.{rowOf}
-use Rattle.areas.specs.Areas.{allowed, Rules, placesOf}
-use Rattle.areas.proofs.Ruling.{rules-of, rules-true}
-use Rattle.pending.specs.Pending.{pendingOf}
-use Rattle.pending.proofs.Laws.{cleared as no-commits}
-use Rattle.commits.proofs.Head.{clear-only, clear-rules, places-kept}
-use Rattle.model.specs.Answer.{protocolVersion}
-use Rattle.model.specs.Row.{Row}
-use Rattle.on_batch.specs.State.{boundOf}
-use Rattle.model.specs.State.{Bound, newStandby}
-use Rattle.outcome.specs.declared.Replica.{Replica}
-use Rattle.outcome.specs.declared.Settings.{Settings}
-use Rattle.outcome.specs.declared.Answer.{Answer}
-use Rattle.outcome.specs.declared.Outcome.{Outcome}
-use Rattle.outcome.specs.Answers.{isRefused, isDone}
-use Rattle.outcome.specs.Outcomes.{countersOf, leaving, clearing}
-use Rattle.steps.specs.Calls.{roomAll, standbyOf, allowedAll}
-use Rattle.steps.proofs.Rows.{of-whole, whole-cleared}
+use Rattle.standby_row.specs.declared.Handle.{Handle}
+use Rattle.standby_row.specs.declared.Seen.{Seen}
+use Rattle.standby_row.specs.Row.{brokenOf, clearedFrom, clearedAll, seenOf}
+use Rattle.standby_row.proofs.Lists.{clears-end}
+use Rattle.standby_handles.specs.Rows.{rowOf}
+use Rattle.store_areas.specs.Areas.{allowed, Rules, placesOf}
+use Rattle.store_areas.proofs.Ruling.{rules-of, rules-true}
+use Rattle.standby_pending.specs.Pending.{pendingOf}
+use Rattle.standby_pending.proofs.Laws.{cleared as no-commits}
+use Rattle.standby_pending_run.proofs.Head.{clear-only, clear-rules, places-kept}
+use Rattle.model_standby.specs.Answer.{protocolVersion}
+use Rattle.model_standby.specs.Row.{Row}
+use Rattle.standby_part.specs.State.{boundOf}
+use Rattle.model_standby.specs.State.{Bound, newStandby}
+use Rattle.standby_state.specs.declared.Replica.{Replica}
+use Rattle.standby_state.specs.declared.Settings.{Settings}
+use Rattle.standby_state.specs.declared.Answer.{Answer}
+use Rattle.standby_state.specs.declared.Outcome.{Outcome}
+use Rattle.standby_state.specs.Answers.{isRefused, isDone}
+use Rattle.standby_state.specs.Outcomes.{countersOf, leaving, clearing}
+use Rattle.standby_step.specs.Calls.{roomAll, standbyOf, allowedAll}
+use Rattle.standby_step.proofs.Rows.{of-whole, whole-cleared}
 use Rattle.replica.specs.Making.{newReplica, MakeIs, MadeNew, MadeOver}
 
 -- ---- the core's two ways

@@ -9,18 +9,18 @@ use types.Kit.{Given}
 use denote.RattleType.{RattleType}
 use denote.Laws.{Is, Tells, Makes}
 use denote.Struct.Laws as LL
-use Rattle.outcome.specs.declared.Replica.{Replica}
-use Rattle.outcome.proofs.Replica as Replica-type
-use Rattle.outcome.proofs.Replica.Laws as Replica-laws
-use Rattle.outcome.specs.declared.Settings.{Settings}
-use Rattle.outcome.proofs.Settings as Settings-type
-use Rattle.outcome.proofs.Settings.Laws as Settings-laws
-use Rattle.outcome.specs.declared.Answer.{Answer}
-use Rattle.outcome.proofs.Answer as Answer-type
-use Rattle.outcome.proofs.Answer.Laws as Answer-laws
-use Rattle.outcome.specs.declared.Outcome.{Outcome}
-use Rattle.outcome.proofs.Outcome as Outcome-type
-use Rattle.outcome.proofs.Outcome.Laws as Outcome-laws
+use Rattle.standby_state.specs.declared.Replica.{Replica}
+use Rattle.standby_state.proofs.Replica as Replica-type
+use Rattle.standby_state.proofs.Replica.Laws as Replica-laws
+use Rattle.standby_state.specs.declared.Settings.{Settings}
+use Rattle.standby_state.proofs.Settings as Settings-type
+use Rattle.standby_state.proofs.Settings.Laws as Settings-laws
+use Rattle.standby_state.specs.declared.Answer.{Answer}
+use Rattle.standby_state.proofs.Answer as Answer-type
+use Rattle.standby_state.proofs.Answer.Laws as Answer-laws
+use Rattle.standby_state.specs.declared.Outcome.{Outcome}
+use Rattle.standby_state.proofs.Outcome as Outcome-type
+use Rattle.standby_state.proofs.Outcome.Laws as Outcome-laws
 use Rattle.replica.specs.declared.Kept.{Kept}
 use Rattle.replica.proofs.Kept as Kept-type
 use Rattle.replica.proofs.Kept.Laws as Kept-laws

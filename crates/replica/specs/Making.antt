@@ -4,18 +4,18 @@ use mathlib.Core.Path.{_≡_}
 use mathlib.Core.Bool.{Bool, true, false}
 use mathlib.Core.List.{List}
 use lib.ListN.{length, set}
-use Rattle.row.specs.declared.Handle.{Handle}
-use Rattle.row.specs.declared.Seen.{Seen}
-use Rattle.row.specs.Row.{clearedAll}
-use Rattle.areas.specs.Areas.{allowed, placesOf}
-use Rattle.model.specs.State.{newStandby}
-use Rattle.outcome.specs.declared.Replica.{Replica}
-use Rattle.outcome.specs.declared.Settings.{Settings}
-use Rattle.outcome.specs.declared.Answer.{Answer}
-use Rattle.outcome.specs.declared.Outcome.{Outcome}
-use Rattle.outcome.specs.Answers.{isRefused, isDone}
-use Rattle.outcome.specs.Outcomes.{leaving, clearing}
-use Rattle.steps.specs.Calls.{standbyOf, allowedAll}
+use Rattle.standby_row.specs.declared.Handle.{Handle}
+use Rattle.standby_row.specs.declared.Seen.{Seen}
+use Rattle.standby_row.specs.Row.{clearedAll}
+use Rattle.store_areas.specs.Areas.{allowed, placesOf}
+use Rattle.model_standby.specs.State.{newStandby}
+use Rattle.standby_state.specs.declared.Replica.{Replica}
+use Rattle.standby_state.specs.declared.Settings.{Settings}
+use Rattle.standby_state.specs.declared.Answer.{Answer}
+use Rattle.standby_state.specs.declared.Outcome.{Outcome}
+use Rattle.standby_state.specs.Answers.{isRefused, isDone}
+use Rattle.standby_state.specs.Outcomes.{leaving, clearing}
+use Rattle.standby_step.specs.Calls.{standbyOf, allowedAll}
 
 -- no epoch yet, no connection, neither promoted nor checked
 abbrev pub newReplica : Replica

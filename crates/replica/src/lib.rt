@@ -2,17 +2,17 @@
 ghost use mathlib.Core.Path.{_≡_};
 ghost use Prim.Native.Nat.{max};
 ghost use lib.ListN.{getD};
-ghost use Rattle.model.specs.State.{onFrameHeld, onFrame, flush, disconnectedFrom, promote, promoteUnchecked};
-ghost use Rattle.steps.specs.Calls.{handleAt, Called};
+ghost use Rattle.model_standby.specs.State.{onFrameHeld, onFrame, flush, disconnectedFrom, promote, promoteUnchecked};
+ghost use Rattle.standby_step.specs.Calls.{handleAt, Called};
 ghost use Rattle.replica.specs.Making.{newReplica, MakeIs, MadeOver};
 use frame::Epoch;
 use frame::Incarnation;
-use outcome::Answer;
-use outcome::Outcome;
-use outcome::Replica;
-use outcome::Settings;
-use row::Handle;
-use row::Seen;
+use standby_row::Handle;
+use standby_row::Seen;
+use standby_state::Answer;
+use standby_state::Outcome;
+use standby_state::Replica;
+use standby_state::Settings;
 
 // Where a Bind and a Batch have their handle.
 fn handle_at(frame: &[u8]) -> u32
@@ -21,7 +21,7 @@ fn handle_at(frame: &[u8]) -> u32
     if frame.len() < 9 {
         return 0;
     }
-    wire::u32_at(frame, 5)
+    base_bytes::u32_at(frame, 5)
 }
 
 // How many places of the store are in use.
@@ -50,10 +50,10 @@ pub extern "C" fn on_frame_held(
     let handle = handle_at(frame);
     let used = places_in_use(words);
     let len = row.len();
-    let room = due_batch::room_of(holds, len);
-    let seen = row::look(row, handle, used, room);
-    let o = standby::frame_held(*c, seen, words, bytes, holds, frame, s);
-    row::act(row, o.at, o.from, o.slot);
+    let room = standby_batch_due::room_of(holds, len);
+    let seen = standby_row::look(row, handle, used, room);
+    let o = standby_frame::frame_held(*c, seen, words, bytes, holds, frame, s);
+    standby_row::act(row, o.at, o.from, o.slot);
     *c = o.replica;
     o.answer
 }
@@ -74,10 +74,10 @@ pub extern "C" fn on_frame(
     let handle = handle_at(frame);
     let used = places_in_use(words);
     let len = row.len();
-    let room = due_batch::room_of(holds, len);
-    let seen = row::look(row, handle, used, room);
-    let o = standby::frame_now(*c, seen, words, bytes, holds, frame, s);
-    row::act(row, o.at, o.from, o.slot);
+    let room = standby_batch_due::room_of(holds, len);
+    let seen = standby_row::look(row, handle, used, room);
+    let o = standby_frame::frame_now(*c, seen, words, bytes, holds, frame, s);
+    standby_row::act(row, o.at, o.from, o.slot);
     *c = o.replica;
     o.answer
 }
@@ -97,10 +97,10 @@ pub extern "C" fn flush(
 {
     let used = places_in_use(words);
     let len = row.len();
-    let room = due_batch::room_of(holds, len);
-    let seen = row::look(row, 0, used, room);
-    let o = calls::flush(*c, seen, words, bytes, holds, connection, s);
-    row::act(row, o.at, o.from, o.slot);
+    let room = standby_batch_due::room_of(holds, len);
+    let seen = standby_row::look(row, 0, used, room);
+    let o = standby_lifecycle::flush(*c, seen, words, bytes, holds, connection, s);
+    standby_row::act(row, o.at, o.from, o.slot);
     *c = o.replica;
     o.answer
 }
@@ -120,10 +120,10 @@ pub extern "C" fn disconnected_from(
 {
     let used = places_in_use(words);
     let len = row.len();
-    let room = due_batch::room_of(holds, len);
-    let seen = row::look(row, 0, used, room);
-    let o = calls::disconnected_from(*c, seen, words, bytes, holds, connection, s);
-    row::act(row, o.at, o.from, o.slot);
+    let room = standby_batch_due::room_of(holds, len);
+    let seen = standby_row::look(row, 0, used, room);
+    let o = standby_lifecycle::disconnected_from(*c, seen, words, bytes, holds, connection, s);
+    standby_row::act(row, o.at, o.from, o.slot);
     *c = o.replica;
     o.answer
 }
@@ -142,10 +142,10 @@ pub extern "C" fn promote(
 {
     let used = places_in_use(words);
     let len = row.len();
-    let room = due_batch::room_of(holds, len);
-    let seen = row::look(row, 0, used, room);
-    let o = calls::promote(*c, seen, words, bytes, holds, s);
-    row::act(row, o.at, o.from, o.slot);
+    let room = standby_batch_due::room_of(holds, len);
+    let seen = standby_row::look(row, 0, used, room);
+    let o = standby_lifecycle::promote(*c, seen, words, bytes, holds, s);
+    standby_row::act(row, o.at, o.from, o.slot);
     *c = o.replica;
     o.answer
 }
@@ -164,10 +164,10 @@ pub extern "C" fn promote_unchecked(
 {
     let used = places_in_use(words);
     let len = row.len();
-    let room = due_batch::room_of(holds, len);
-    let seen = row::look(row, 0, used, room);
-    let o = calls::promote_unchecked(*c, seen, words, bytes, holds, s);
-    row::act(row, o.at, o.from, o.slot);
+    let room = standby_batch_due::room_of(holds, len);
+    let seen = standby_row::look(row, 0, used, room);
+    let o = standby_lifecycle::promote_unchecked(*c, seen, words, bytes, holds, s);
+    standby_row::act(row, o.at, o.from, o.slot);
     *c = o.replica;
     o.answer
 }
@@ -187,11 +187,11 @@ pub fn new() -> Replica
 fn made(c: Replica, seen: Seen, words: &mut [u64], bytes: &[u8], s: Settings) -> Outcome
     ensures { λ r. ⌜ MakeIs s c seen (now (words .entry)) (now (words .exit)) (now (bytes .entry)) r ⌝ }
 {
-    if areas::allowed(s.shape, words, bytes) {
+    if store_areas::allowed(s.shape, words, bytes) {
         words[1] = 0;
-        return outcome::clears(new(), seen, outcome::done());
+        return standby_state::clears(new(), seen, standby_state::done());
     }
-    outcome::leaves(c, seen, outcome::refused(25))
+    standby_state::leaves(c, seen, standby_state::refused(25))
 }
 
 // Makes a standby over a store: new counters, no pending commit, every record of the row freed.
@@ -205,9 +205,9 @@ pub extern "C" fn make(
 ) -> Answer
     ensures { λ r. ⌜ MadeOver s (now (c .entry)) (now (c .exit)) (now (row .entry)) (now (row .exit)) (now (words .entry)) (now (words .exit)) (now (bytes .entry)) r ⌝ }
 {
-    let seen = row::look(row, 0, 0, 0);
+    let seen = standby_row::look(row, 0, 0, 0);
     let o = made(*c, seen, words, bytes, s);
-    row::act(row, o.at, o.from, o.slot);
+    standby_row::act(row, o.at, o.from, o.slot);
     *c = o.replica;
     o.answer
 }
@@ -242,7 +242,7 @@ pub fn promoted(c: Replica) -> bool
 pub fn incarnation(s: Settings) -> Incarnation
     ensures { λ r. ⌜ r .0 ≡ max (s .incarnation .0) 1 ⌝ }
 {
-    greet::incarnation(s)
+    standby_hello::incarnation(s)
 }
 
 // What a call by value gives: the counters and the row after it, and its answer.

@@ -8,12 +8,12 @@ use lib.ListN.{length, getD}
 use borrow.Rule.Slice.PartMut.{midOf, putMid}
 use Rattle.model_frame.specs.Frame.{Change}
 use Rattle.model_session.specs.Session.{fits}
-use Rattle.model.specs.Store.{Place, onStored, changed}
-use Rattle.place.specs.Place.{nextOutOf, placeIn}
-use Rattle.areas.specs.declared.Shape.{Shape}
-use Rattle.areas.specs.Areas.{SpotIn, Rules, Changed, placeAt}
-use Rattle.areas.proofs.Lifting.{spot-place, spot-both}
-use Rattle.apply.proofs.Loop.{next-out}
+use Rattle.model_standby.specs.Store.{Place, onStored, changed}
+use Rattle.store_place.specs.Place.{nextOutOf, placeIn}
+use Rattle.store_areas.specs.declared.Shape.{Shape}
+use Rattle.store_areas.specs.Areas.{SpotIn, Rules, Changed, placeAt}
+use Rattle.store_areas.proofs.Lifting.{spot-place, spot-both}
+use Rattle.standby_apply.proofs.Loop.{next-out}
 
 module _ (s : Shape) (i wa we ba be : ℕ) (w b : List ℕ) (spot : SpotIn s i w b wa we ba be) (r : Rules s w b) (h : i < getD w 0 0) (cs : List Change) where
   abbrev mw : List ℕ

@@ -12,11 +12,11 @@ use Rattle.model_text.proofs.Formed.{and-l, and-r}
 use Rattle.model_text.proofs.Laws.{takes-keeps}
 use Rattle.model_frame.specs.Writing.{fineChange}
 use Rattle.model_session.specs.Session.{fits, top}
-use Rattle.scan.specs.declared.Span.{Span}
-use Rattle.scan.specs.Answers.{spanOf}
-use Rattle.op.specs.declared.Op
-use Rattle.op.specs.declared.Op.{Op}
-use Rattle.op.specs.Answers.{opOf}
+use Rattle.frame_reader.specs.declared.Span.{Span}
+use Rattle.frame_reader.specs.Answers.{spanOf}
+use Rattle.frame_op.specs.declared.Op
+use Rattle.frame_op.specs.declared.Op.{Op}
+use Rattle.frame_op.specs.Answers.{opOf}
 
 module _ (b : List ℕ) (o : Op) where
   -- a message stands at the next outgoing number

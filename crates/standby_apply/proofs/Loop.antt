@@ -15,10 +15,10 @@ use Rattle.model_frame.specs.Writing.{fineChange}
 use Rattle.model_frame.proofs.Le.{are-bytes}
 use Rattle.model_frame.proofs.SoundChange.{change-sound}
 use Rattle.model_session.specs.Session.{Session, fits, apply, applyAll, top}
-use Rattle.model.specs.Store.{Place, onStored, changed}
-use Rattle.op.specs.Answers.{heldRun}
-use Rattle.hold.proofs.Held.{held-none, held-bad, held-more}
-use Rattle.place.specs.Place.{nextOutOf, sessionOf, placeIn}
+use Rattle.model_standby.specs.Store.{Place, onStored, changed}
+use Rattle.frame_op.specs.Answers.{heldRun}
+use Rattle.standby_changes.proofs.Held.{held-none, held-bad, held-more}
+use Rattle.store_place.specs.Place.{nextOutOf, sessionOf, placeIn}
 
 -- changes that fit go on to fit after the first of them is made
 fits-on : (C M : ℕ) (s : Session) (c : Change) (cs : List Change) → fits (s .nextOut) (c ∷ cs) ≡ true → fits (apply C M c s .nextOut) cs ≡ true

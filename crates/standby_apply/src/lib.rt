@@ -6,15 +6,15 @@ ghost use Prim.Native.Nat.{ℕ, _+_, _*_, _≤_, _<_};
 ghost use lib.ListN.{length, getD};
 ghost use Rattle.model_frame.specs.Writing.{fineChange};
 ghost use Rattle.model_session.specs.Session.{fits};
-ghost use Rattle.model.specs.Store.{onStored, changed};
-ghost use Rattle.op.specs.Answers.{opOf, heldRun};
-ghost use Rattle.place.specs.Place.{nextOutOf, placeIn};
-ghost use Rattle.areas.specs.Areas.{Rules, Changed, placeAt};
-use areas::Shape;
-use op::Op;
-use op::OpAt;
-use scan::Cursor;
-use stamp::Protocol;
+ghost use Rattle.model_standby.specs.Store.{onStored, changed};
+ghost use Rattle.frame_op.specs.Answers.{opOf, heldRun};
+ghost use Rattle.store_place.specs.Place.{nextOutOf, placeIn};
+ghost use Rattle.store_areas.specs.Areas.{Rules, Changed, placeAt};
+use frame_op::Op;
+use frame_op::OpAt;
+use frame_reader::Cursor;
+use frame_stamp::Protocol;
+use store_areas::Shape;
 
 // Makes the change that `op`, which was read from `run`, names.
 pub fn apply(p: Protocol, run: &[u8], op: Op, words: &mut [u64], bytes: &mut [u8], max: usize)
@@ -25,16 +25,30 @@ pub fn apply(p: Protocol, run: &[u8], op: Op, words: &mut [u64], bytes: &mut [u8
     ensures { λ _. ⌜ ((C : ℕ) → length (now (bytes .entry)) ≡ 224 + C → placeIn C max (now (words .exit)) (now (bytes .exit)) ≡ onStored (changed C max (opOf (now (run .entry)) op ∷ [])) (placeIn C max (now (words .entry)) (now (bytes .entry)))) ⌝ }
 {
     match op {
-        Op::SetNextIncoming(seq) => place::set_next_incoming(words, seq),
+        Op::SetNextIncoming(seq) => store_place::set_next_incoming(words, seq),
         Op::SetNextIncomingInFlight { seq, in_flight } => {
-            place::set_next_incoming_in_flight(words, seq, in_flight)
+            store_place::set_next_incoming_in_flight(words, seq, in_flight)
         }
-        Op::SetInFlight(seq) => place::set_in_flight(words, seq),
-        Op::Record(seq, msg) => place::record(words, bytes, max, seq, scan::slice(run, msg)),
-        Op::RecordNone(seq) => place::record_none(words, max, seq),
-        Op::Reset => place::reset(words, max),
-        Op::SetCreatedAt(at) => place::set_created_at(words, bytes, scan::slice(run, at)),
-        Op::SetMarks(marks) => place::set_marks(words, bytes, scan::slice(run, marks)),
+        Op::SetInFlight(seq) => store_place::set_in_flight(words, seq),
+        Op::Record(seq, msg) => store_place::record(
+            words,
+            bytes,
+            max,
+            seq,
+            frame_reader::slice(run, msg),
+        ),
+        Op::RecordNone(seq) => store_place::record_none(words, max, seq),
+        Op::Reset => store_place::reset(words, max),
+        Op::SetCreatedAt(at) => store_place::set_created_at(
+            words,
+            bytes,
+            frame_reader::slice(run, at),
+        ),
+        Op::SetMarks(marks) => store_place::set_marks(
+            words,
+            bytes,
+            frame_reader::slice(run, marks),
+        ),
     }
 }
 
@@ -47,7 +61,7 @@ pub fn apply_all(p: Protocol, run: &[u8], words: &mut [u64], bytes: &mut [u8], m
 {
     let mut d = Cursor { at: 0 };
     while d.at < run.len() {
-        let OpAt::Got(op, next) = op::op_from(p, run, d) else {
+        let OpAt::Got(op, next) = frame_op::op_from(p, run, d) else {
             return;
         };
         apply(p, run, op, words, bytes, max);
@@ -69,7 +83,7 @@ pub fn apply_at(
     requires { ⌜ fits (placeAt shape (now words) (now bytes) i .stored .session .nextOut) (heldRun (p .version) (now run)) ≡ true ⌝ }
     ensures { λ _. ⌜ Changed shape i (changed (shape .bytes) (shape .messages) (heldRun (p .version) (now (run .entry)))) (now (words .entry)) (now (words .exit)) (now (bytes .entry)) (now (bytes .exit)) ⌝ }
 {
-    let s = areas::spot_in(words, bytes, shape, i);
+    let s = store_areas::spot_in(words, bytes, shape, i);
     let wa = s.wa;
     let we = s.we;
     let ba = s.ba;

@@ -7,7 +7,7 @@ use mathlib.Core.Option.{Option, none, some}
 use lib.ListN.{length, getD}
 use lib.Dec.{eqb, ltb}
 use borrow.Author.Tests.{eqb-true}
-use Rattle.laws.proofs.Lists.{both}
+use Rattle.base_laws.proofs.Lists.{both}
 use Rattle.model_frame.specs.Bytes.{write}
 use Rattle.model_frame.specs.Frame.{Change, AppRecord, commit, whole, lastWhole, batch, nack, ack, staleEpoch, diverged}
 use Rattle.model_frame.specs.Frame as the-frame
@@ -15,31 +15,31 @@ use Rattle.model_frame.specs.Parse.{isEmpty}
 use Rattle.model_frame.specs.Writing.{sizes}
 use Rattle.frame.specs.declared.CommitNumber.{CommitNumber}
 use Rattle.frame.specs.declared.Epoch.{Epoch}
-use Rattle.row.specs.declared.Seen.{Seen}
-use Rattle.areas.specs.Areas.{Rules}
-use Rattle.areas.proofs.Lifting.{places-length}
-use Rattle.settling.proofs.Laws.{touched-none}
-use Rattle.model.specs.Answer.{protocolVersion, reply, refused, isReply}
-use Rattle.model.specs.Answer as the-answer
-use Rattle.model.specs.State.{Bound, atEpoch}
-use Rattle.model.specs.State as state
-use Rattle.model.specs.Hold.{Written, heldBytes, writesPart, writesFrame}
-use Rattle.model.specs.Core.{Action, leave, store, Core, CoreResult, coreSays, coreRefuse, counting, coreHandle, coreBatch}
-use Rattle.on_batch.specs.declared.Done.{Done}
-use Rattle.on_batch.specs.State.{boundOf, coreAt}
-use Rattle.on_batch.specs.Part.{resultOf}
-use Rattle.on_handle.specs.Handling.{followsOf, foundOf, Sound, areaAfter, HandleIs}
-use Rattle.steps.specs.Steps.{isFound}
-use Rattle.outcome.specs.declared.Replica.{Replica}
-use Rattle.outcome.specs.declared.Settings.{Settings}
-use Rattle.outcome.specs.declared.Answer.{Answer}
-use Rattle.outcome.specs.declared.Outcome.{Outcome}
-use Rattle.outcome.specs.Answers.{answerOf, isRefused, isNack, isAck}
-use Rattle.outcome.specs.Outcomes.{countersOf, settingsOf, leaving, storing, Lands}
-use Rattle.greet.specs.Greeting.{isQuiet}
-use Rattle.greet.proofs.Laws.{leaving-lands}
-use Rattle.batches.specs.Batches.{epochTo, foundFor, answerBy, settledOf, Kept, areaBy, foundAt, BatchIs}
-use Rattle.batches.proofs.Passing.{as-many, isStore, store-none, Passes, whole-passes, last-passes}
+use Rattle.standby_row.specs.declared.Seen.{Seen}
+use Rattle.store_areas.specs.Areas.{Rules}
+use Rattle.store_areas.proofs.Lifting.{places-length}
+use Rattle.standby_commit.proofs.Laws.{touched-none}
+use Rattle.model_standby.specs.Answer.{protocolVersion, reply, refused, isReply}
+use Rattle.model_standby.specs.Answer as the-answer
+use Rattle.model_standby.specs.State.{Bound, atEpoch}
+use Rattle.model_standby.specs.State as state
+use Rattle.model_standby.specs.Hold.{Written, heldBytes, writesPart, writesFrame}
+use Rattle.model_standby.specs.Core.{Action, leave, store, Core, CoreResult, coreSays, coreRefuse, counting, coreHandle, coreBatch}
+use Rattle.standby_part.specs.declared.Done.{Done}
+use Rattle.standby_part.specs.State.{boundOf, coreAt}
+use Rattle.standby_part.specs.Part.{resultOf}
+use Rattle.standby_batch_handle.specs.Handling.{followsOf, foundOf, Sound, areaAfter, HandleIs}
+use Rattle.standby_step.specs.Steps.{isFound}
+use Rattle.standby_state.specs.declared.Replica.{Replica}
+use Rattle.standby_state.specs.declared.Settings.{Settings}
+use Rattle.standby_state.specs.declared.Answer.{Answer}
+use Rattle.standby_state.specs.declared.Outcome.{Outcome}
+use Rattle.standby_state.specs.Answers.{answerOf, isRefused, isNack, isAck}
+use Rattle.standby_state.specs.Outcomes.{countersOf, settingsOf, leaving, storing, Lands}
+use Rattle.standby_hello.specs.Greeting.{isQuiet}
+use Rattle.standby_hello.proofs.Laws.{leaving-lands}
+use Rattle.standby_batch.specs.Batches.{epochTo, foundFor, answerBy, settledOf, Kept, areaBy, foundAt, BatchIs}
+use Rattle.standby_batch.proofs.Passing.{as-many, isStore, store-none, Passes, whole-passes, last-passes}
 
 -- ---- what the answer of a handle stands for
 

@@ -10,12 +10,12 @@ use Rattle.model_frame.specs.Frame.{Change, Part, commit, whole, lastWhole, ack
 use Rattle.model_frame.specs.Parse.{isEmpty}
 use Rattle.model_frame.specs.Writing.{sizes}
 use Rattle.model_session.specs.Session.{fits}
-use Rattle.model.specs.Answer.{isReply}
-use Rattle.model.specs.Store.{changed, sessionAt, orNew}
-use Rattle.model.specs.State.{Settings, Bound, noneHeld}
-use Rattle.model.specs.Standby.{follows, raised, maxWhole, startsWithReset, holding}
-use Rattle.model.specs.Core.{Action, leave, store, clear, Core, CoreResult, coreSays, coreSettle, coreHold, corePart, coreHandle}
-use Rattle.model.proofs.Places.{length-on}
+use Rattle.model_standby.specs.Answer.{isReply}
+use Rattle.model_standby.specs.Store.{changed, sessionAt, orNew}
+use Rattle.model_standby.specs.State.{Settings, Bound, noneHeld}
+use Rattle.model_standby.specs.Standby.{follows, raised, maxWhole, startsWithReset, holding}
+use Rattle.model_standby.specs.Core.{Action, leave, store, clear, Core, CoreResult, coreSays, coreSettle, coreHold, corePart, coreHandle}
+use Rattle.model_standby.proofs.Places.{length-on}
 
 -- ---- as many places as before
 

@@ -6,8 +6,8 @@ use mathlib.Core.List.{List}
 use lib.ListN.{drop}
 use Rattle.model_frame.specs.Frame.{Fault}
 use Rattle.model_frame.specs.Parse.{Res, ok, bad, Parser, isEmpty, onto, collect}
-use Rattle.op.specs.Answers.{runOf}
-use Rattle.op.specs.declared.Run.{Run}
+use Rattle.frame_op.specs.Answers.{runOf}
+use Rattle.frame_op.specs.declared.Run.{Run}
 
 module _ {A : Type 0} (p : Parser A) (b : List ℕ) (run : Run) where
   pub run-none : run .count ≡ 0 → true ≡ isEmpty (runOf p b run)

@@ -11,23 +11,23 @@ use Rattle.model_frame.specs.Frame.{Change, AppRecord, batch}
 use Rattle.model_frame.specs.Frame as the-frame
 use Rattle.frame.specs.declared.CommitNumber.{CommitNumber}
 use Rattle.frame.specs.declared.Epoch.{Epoch}
-use Rattle.row.specs.declared.Seen.{Seen}
-use Rattle.areas.specs.Areas.{Rules}
-use Rattle.settling.specs.Settling.{Touched}
-use Rattle.model.specs.Answer.{protocolVersion}
-use Rattle.model.specs.State.{Bound}
-use Rattle.model.specs.Hold.{Written, writesFrame}
-use Rattle.model.specs.Core.{leave, store, coreBatch}
-use Rattle.on_batch.specs.declared.Done.{Done}
-use Rattle.on_batch.specs.State.{boundOf, coreAt}
-use Rattle.on_handle.specs.Handling.{foundOf}
-use Rattle.outcome.specs.declared.Replica.{Replica}
-use Rattle.outcome.specs.declared.Settings.{Settings}
-use Rattle.outcome.specs.declared.Answer.{Answer}
-use Rattle.outcome.specs.declared.Outcome.{Outcome}
-use Rattle.outcome.specs.Answers.{answerOf, isRefused, isNack, isAck}
-use Rattle.outcome.specs.Outcomes.{countersOf, settingsOf, leaving, storing, Lands}
-use Rattle.greet.specs.Greeting.{isQuiet}
+use Rattle.standby_row.specs.declared.Seen.{Seen}
+use Rattle.store_areas.specs.Areas.{Rules}
+use Rattle.standby_commit.specs.Settling.{Touched}
+use Rattle.model_standby.specs.Answer.{protocolVersion}
+use Rattle.model_standby.specs.State.{Bound}
+use Rattle.model_standby.specs.Hold.{Written, writesFrame}
+use Rattle.model_standby.specs.Core.{leave, store, coreBatch}
+use Rattle.standby_part.specs.declared.Done.{Done}
+use Rattle.standby_part.specs.State.{boundOf, coreAt}
+use Rattle.standby_batch_handle.specs.Handling.{foundOf}
+use Rattle.standby_state.specs.declared.Replica.{Replica}
+use Rattle.standby_state.specs.declared.Settings.{Settings}
+use Rattle.standby_state.specs.declared.Answer.{Answer}
+use Rattle.standby_state.specs.declared.Outcome.{Outcome}
+use Rattle.standby_state.specs.Answers.{answerOf, isRefused, isNack, isAck}
+use Rattle.standby_state.specs.Outcomes.{countersOf, settingsOf, leaving, storing, Lands}
+use Rattle.standby_hello.specs.Greeting.{isQuiet}
 
 abbrev pub epochTo : Replica → Epoch → Replica
 epochTo c e = record { epoch = e; connections = c .connections; promoted = c .promoted; checked = c .checked }

@@ -5,25 +5,25 @@ ghost use Prim.Native.Nat.{_<_};
 ghost use lib.Dec.{eqb, ltb};
 ghost use Rattle.model_frame.specs.Parse.{isEmpty};
 ghost use Rattle.model_frame.specs.Reading.{readChange, appRecord};
-ghost use Rattle.op.specs.Answers.{runOf};
-ghost use Rattle.parts.specs.Answers.{partOf};
-ghost use Rattle.areas.specs.Areas.{Rules};
-ghost use Rattle.pending.specs.Pending.{countOf};
-ghost use Rattle.steps.specs.Steps.{isFound};
-ghost use Rattle.batches.specs.Batches.{epochTo, foundFor, answerBy, settledOf, Kept, BatchIs};
+ghost use Rattle.frame_op.specs.Answers.{runOf};
+ghost use Rattle.frame_fields.specs.Answers.{partOf};
+ghost use Rattle.store_areas.specs.Areas.{Rules};
+ghost use Rattle.standby_pending.specs.Pending.{countOf};
+ghost use Rattle.standby_step.specs.Steps.{isFound};
+ghost use Rattle.standby_batch.specs.Batches.{epochTo, foundFor, answerBy, settledOf, Kept, BatchIs};
 use frame::Batch;
 use frame::CommitNumber;
 use frame::Epoch;
-use on_batch::Done;
-use op::Run;
-use outcome::Answer;
-use outcome::Outcome;
-use outcome::Replica;
-use outcome::Settings;
-use parts::AppRecordAt;
-use row::Seen;
-use scan::Cursor;
-use stamp::Protocol;
+use frame_fields::AppRecordAt;
+use frame_op::Run;
+use frame_reader::Cursor;
+use frame_stamp::Protocol;
+use standby_part::Done;
+use standby_row::Seen;
+use standby_state::Answer;
+use standby_state::Outcome;
+use standby_state::Replica;
+use standby_state::Settings;
 
 // Whether a run of application records is empty.
 fn no_records(frame: &[u8], run: Run) -> bool
@@ -32,7 +32,7 @@ fn no_records(frame: &[u8], run: Run) -> bool
     if run.count == 0 {
         return true;
     }
-    match parts::app_record_from(frame, Cursor { at: run.at }) {
+    match frame_fields::app_record_from(frame, Cursor { at: run.at }) {
         AppRecordAt::Got(_, _) => false,
         AppRecordAt::Bad(_) => true,
     }
@@ -65,12 +65,12 @@ fn answer_by(x: Done, handle: u32, n: CommitNumber) -> Answer
     ensures { λ r. ⌜ r ≡ answerBy x handle n ⌝ }
 {
     if x.refusal != 0 {
-        return outcome::refused(x.refusal);
+        return standby_state::refused(x.refusal);
     }
     if x.nack {
-        return outcome::nack(handle, 2);
+        return standby_state::nack(handle, 2);
     }
-    outcome::ack(handle, n)
+    standby_state::ack(handle, n)
 }
 
 // What the row's record becomes, and the answer.
@@ -80,9 +80,9 @@ fn settled(c: Replica, seen: Seen, x: Done, handle: u32, n: CommitNumber) -> Out
     let a = answer_by(x, handle, n);
     if x.stores {
         let slot = x.slot;
-        return outcome::stores(c, seen, a, handle, slot);
+        return standby_state::stores(c, seen, a, handle, slot);
     }
-    outcome::leaves(c, seen, a)
+    standby_state::leaves(c, seen, a)
 }
 
 pub fn on_batch(
@@ -102,11 +102,11 @@ pub fn on_batch(
 {
     let records = b.app_records;
     if !no_records(frame, records) {
-        return outcome::leaves(c, seen, outcome::refused(13));
+        return standby_state::leaves(c, seen, standby_state::refused(13));
     }
     let handle = b.handle;
     if is_stale(c, b) {
-        return outcome::leaves(c, seen, outcome::nack(handle, 1));
+        return standby_state::leaves(c, seen, standby_state::nack(handle, 1));
     }
     let shape = s.shape;
     let epoch = b.epoch;
@@ -116,7 +116,19 @@ pub fn on_batch(
     let h = seen.bound;
     let p = Protocol { version: 1 };
     let found = is_found(seen, handle);
-    let run = hold::run_of(p, frame, ops);
-    let x = on_handle::on_handle(p, run, words, bytes, area, shape, handle, found, h, n, part);
+    let run = standby_changes::run_of(p, frame, ops);
+    let x = standby_batch_handle::on_handle(
+        p,
+        run,
+        words,
+        bytes,
+        area,
+        shape,
+        handle,
+        found,
+        h,
+        n,
+        part,
+    );
     settled(at_epoch(c, epoch), seen, x, handle, n)
 }

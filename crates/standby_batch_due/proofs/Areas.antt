@@ -11,10 +11,10 @@ use lib.Dec.{eqb}
 use borrow.Author.Tests.{eqb-true, eqb-false, ltb-true, ltb-false}
 use borrow.Rule.Slice.PartMut.{midOf, postOf, putMid}
 use Rattle.model_frame.specs.Bytes.{write}
-use Rattle.row.specs.declared.Seen.{Seen}
-use Rattle.areas.proofs.Lists.{inside}
-use Rattle.steps.specs.Steps.{roomOf, roomIn, isFound}
-use Rattle.due_batch.specs.DueBatch.{spotIn}
+use Rattle.standby_row.specs.declared.Seen.{Seen}
+use Rattle.store_areas.proofs.Lists.{inside}
+use Rattle.standby_step.specs.Steps.{roomOf, roomIn, isFound}
+use Rattle.standby_batch_due.specs.DueBatch.{spotIn}
 
 -- ---- where they stand
 

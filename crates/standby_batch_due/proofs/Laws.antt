@@ -9,7 +9,7 @@ use lib.ListN.{length, getD}
 use lib.Dec.{eqb, ltb, leb}
 use borrow.Author.Tests.{eq-eqb, ltb-false, leb-false}
 use borrow.Rule.Slice.PartMut.{midOf, putMid, put-same, mid-len}
-use Rattle.laws.proofs.Lists.{both}
+use Rattle.base_laws.proofs.Lists.{both}
 use Rattle.model_frame.specs.Bytes.{write}
 use Rattle.model_frame.specs.Frame.{Change, AppRecord, commit, whole, lastWhole, batch}
 use Rattle.model_frame.specs.Frame as the-frame
@@ -17,30 +17,30 @@ use Rattle.model_frame.specs.Parse.{isEmpty}
 use Rattle.model_frame.specs.Writing.{sizes}
 use Rattle.model_frame.proofs.Sizes.{changes-size}
 use Rattle.model_frame.proofs.Runs.{sizes-append}
-use Rattle.row.specs.declared.Seen.{Seen}
-use Rattle.areas.specs.Areas.{Rules}
-use Rattle.areas.proofs.Lifting.{part-lent, part-length, part-own}
-use Rattle.pending.specs.Pending.{countOf, pendingOf}
-use Rattle.commits.specs.Commits.{ranWords, RanIf}
-use Rattle.commits.proofs.Due.{many-pending}
-use Rattle.settling.specs.Settling.{Touched}
-use Rattle.model.specs.Answer.{protocolVersion}
-use Rattle.model.specs.State.{Bound, Counters}
-use Rattle.model.specs.State as state
-use Rattle.model.specs.Standby.{follows, startsWithReset, raised, maxWhole, pendsOn}
-use Rattle.model.specs.Hold.{Written, heldBytes, heldPasses, writesAt, writesPart, writesFrame}
-use Rattle.model.specs.Core.{leave, store, clear, coreRun, coreBatch}
-use Rattle.on_batch.specs.State.{boundOf, coreAt}
-use Rattle.on_handle.specs.Handling.{foundOf}
-use Rattle.outcome.specs.declared.Replica.{Replica}
-use Rattle.outcome.specs.declared.Settings.{Settings}
-use Rattle.outcome.specs.declared.Outcome.{Outcome}
-use Rattle.outcome.specs.Answers.{answerOf}
-use Rattle.outcome.specs.Outcomes.{countersOf, settingsOf, areaAt, spotOf, Lands}
-use Rattle.steps.specs.Steps.{roomIn, isFound, foundIn, holdsAfter}
-use Rattle.batches.specs.Batches.{foundFor, Kept, areaBy, foundAt, BatchIs}
-use Rattle.due_batch.specs.DueBatch.{spotIn, Holds, dueBatch, BatchIn}
-use Rattle.due_batch.proofs.Areas.{within, write-part}
+use Rattle.standby_row.specs.declared.Seen.{Seen}
+use Rattle.store_areas.specs.Areas.{Rules}
+use Rattle.store_areas.proofs.Lifting.{part-lent, part-length, part-own}
+use Rattle.standby_pending.specs.Pending.{countOf, pendingOf}
+use Rattle.standby_pending_run.specs.Commits.{ranWords, RanIf}
+use Rattle.standby_pending_run.proofs.Due.{many-pending}
+use Rattle.standby_commit.specs.Settling.{Touched}
+use Rattle.model_standby.specs.Answer.{protocolVersion}
+use Rattle.model_standby.specs.State.{Bound, Counters}
+use Rattle.model_standby.specs.State as state
+use Rattle.model_standby.specs.Standby.{follows, startsWithReset, raised, maxWhole, pendsOn}
+use Rattle.model_standby.specs.Hold.{Written, heldBytes, heldPasses, writesAt, writesPart, writesFrame}
+use Rattle.model_standby.specs.Core.{leave, store, clear, coreRun, coreBatch}
+use Rattle.standby_part.specs.State.{boundOf, coreAt}
+use Rattle.standby_batch_handle.specs.Handling.{foundOf}
+use Rattle.standby_state.specs.declared.Replica.{Replica}
+use Rattle.standby_state.specs.declared.Settings.{Settings}
+use Rattle.standby_state.specs.declared.Outcome.{Outcome}
+use Rattle.standby_state.specs.Answers.{answerOf}
+use Rattle.standby_state.specs.Outcomes.{countersOf, settingsOf, areaAt, spotOf, Lands}
+use Rattle.standby_step.specs.Steps.{roomIn, isFound, foundIn, holdsAfter}
+use Rattle.standby_batch.specs.Batches.{foundFor, Kept, areaBy, foundAt, BatchIs}
+use Rattle.standby_batch_due.specs.DueBatch.{spotIn, Holds, dueBatch, BatchIn}
+use Rattle.standby_batch_due.proofs.Areas.{within, write-part}
 
 -- ---- what is written fits the area
 

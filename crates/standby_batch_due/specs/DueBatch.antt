@@ -7,20 +7,20 @@ use lib.ListN.{length, getD}
 use lib.Dec.{leb}
 use Rattle.model_frame.specs.Frame.{Change, AppRecord, batch}
 use Rattle.model_frame.specs.Frame as the-frame
-use Rattle.row.specs.declared.Seen.{Seen}
-use Rattle.areas.specs.Areas.{Rules}
-use Rattle.pending.specs.Pending.{pendingOf}
-use Rattle.model.specs.Answer.{protocolVersion}
-use Rattle.model.specs.Standby.{pendsOn}
-use Rattle.model.specs.Hold.{writesFrame}
-use Rattle.model.specs.Core.{coreRun, coreBatch}
-use Rattle.on_batch.specs.State.{coreAt}
-use Rattle.outcome.specs.declared.Replica.{Replica}
-use Rattle.outcome.specs.declared.Settings.{Settings}
-use Rattle.outcome.specs.declared.Outcome.{Outcome}
-use Rattle.outcome.specs.Outcomes.{countersOf, settingsOf, outcomeOf, Lands}
-use Rattle.greet.specs.Greeting.{isQuiet}
-use Rattle.steps.specs.Steps.{roomIn, isFound, foundIn, FrameLeaves, holdsAfter}
+use Rattle.standby_row.specs.declared.Seen.{Seen}
+use Rattle.store_areas.specs.Areas.{Rules}
+use Rattle.standby_pending.specs.Pending.{pendingOf}
+use Rattle.model_standby.specs.Answer.{protocolVersion}
+use Rattle.model_standby.specs.Standby.{pendsOn}
+use Rattle.model_standby.specs.Hold.{writesFrame}
+use Rattle.model_standby.specs.Core.{coreRun, coreBatch}
+use Rattle.standby_part.specs.State.{coreAt}
+use Rattle.standby_state.specs.declared.Replica.{Replica}
+use Rattle.standby_state.specs.declared.Settings.{Settings}
+use Rattle.standby_state.specs.declared.Outcome.{Outcome}
+use Rattle.standby_state.specs.Outcomes.{countersOf, settingsOf, outcomeOf, Lands}
+use Rattle.standby_hello.specs.Greeting.{isQuiet}
+use Rattle.standby_step.specs.Steps.{roomIn, isFound, foundIn, FrameLeaves, holdsAfter}
 
 -- the place of the record found, or 0
 abbrev pub spotIn : Seen → ℕ

@@ -4,16 +4,16 @@ ghost use mathlib.Core.Bool.{true, cond};
 ghost use Prim.Native.Nat.{_+_, _*_, _≤_};
 ghost use lib.ListN.{length};
 ghost use Rattle.model_frame.specs.Reading.{readChange, appRecord};
-ghost use Rattle.op.specs.Answers.{runOf};
-ghost use Rattle.parts.specs.Answers.{partOf};
-ghost use Rattle.areas.specs.Areas.{Rules};
-ghost use Rattle.steps.specs.Steps.{roomOf, roomIn, isFound};
-ghost use Rattle.due_batch.specs.DueBatch.{spotIn, Holds, BatchIn};
+ghost use Rattle.frame_op.specs.Answers.{runOf};
+ghost use Rattle.frame_fields.specs.Answers.{partOf};
+ghost use Rattle.store_areas.specs.Areas.{Rules};
+ghost use Rattle.standby_step.specs.Steps.{roomOf, roomIn, isFound};
+ghost use Rattle.standby_batch_due.specs.DueBatch.{spotIn, Holds, BatchIn};
 use frame::Batch;
-use outcome::Outcome;
-use outcome::Replica;
-use outcome::Settings;
-use row::Seen;
+use standby_row::Seen;
+use standby_state::Outcome;
+use standby_state::Replica;
+use standby_state::Settings;
 
 // The length of each hold area: the bytes are divided evenly among the row's places.
 pub fn room_of(holds: &[u8], places: usize) -> usize
@@ -51,10 +51,10 @@ pub fn batch_in(
     ensures { λ r. ⌜ BatchIn s c seen (b .handle) (b .epoch .0) (b .«commit_no» .0) (partOf (b .part)) (runOf (readChange 1) (now (frame .entry)) (b .ops)) (runOf appRecord (now (frame .entry)) (b .«app_records»)) (now (words .entry)) (now (words .exit)) (now (bytes .entry)) (now (bytes .exit)) (now (holds .entry)) (now (holds .exit)) r ⌝ }
 {
     let shape = s.shape;
-    let due = commits::is_due_batch(words, b.handle);
-    commits::run_if(words, bytes, shape, due);
+    let due = standby_pending_run::is_due_batch(words, b.handle);
+    standby_pending_run::run_if(words, bytes, shape, due);
     let room = room_of(holds, seen.len);
     let lo = area_start(seen, room, holds.len());
     let hi = lo + room;
-    batches::on_batch(words, bytes, &mut holds[lo..hi], frame, c, s, seen, b)
+    standby_batch::on_batch(words, bytes, &mut holds[lo..hi], frame, c, s, seen, b)
 }

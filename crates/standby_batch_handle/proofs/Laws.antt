@@ -13,19 +13,19 @@ use Rattle.model_frame.specs.Frame.{Change, commit, whole, lastWhole, nack, div
 use Rattle.model_frame.specs.Frame as the-frame
 use Rattle.model_frame.specs.Writing.{sizes}
 use Rattle.model_session.specs.Session.{top}
-use Rattle.op.specs.Answers.{heldRun}
-use Rattle.hold.proofs.Held.{held-none}
-use Rattle.row.specs.declared.Handle.{Handle}
-use Rattle.areas.specs.declared.Shape.{Shape}
-use Rattle.areas.specs.Areas.{Rules}
-use Rattle.settling.proofs.Laws.{touched-none}
-use Rattle.model.specs.Answer.{reply}
-use Rattle.model.specs.State.{Counters, noneHeld}
-use Rattle.model.specs.Core.{store, coreSays, corePart, coreHandle}
-use Rattle.on_batch.specs.declared.Done.{Done}
-use Rattle.on_batch.specs.State.{boundOf, coreAt, settingsFor, holdingTo}
-use Rattle.on_batch.specs.Part.{resultOf, PartIs, AreaIs}
-use Rattle.on_handle.specs.Handling.{followsOf, foundOf, isHeld, areaAfter, HandleIs}
+use Rattle.frame_op.specs.Answers.{heldRun}
+use Rattle.standby_changes.proofs.Held.{held-none}
+use Rattle.standby_row.specs.declared.Handle.{Handle}
+use Rattle.store_areas.specs.declared.Shape.{Shape}
+use Rattle.store_areas.specs.Areas.{Rules}
+use Rattle.standby_commit.proofs.Laws.{touched-none}
+use Rattle.model_standby.specs.Answer.{reply}
+use Rattle.model_standby.specs.State.{Counters, noneHeld}
+use Rattle.model_standby.specs.Core.{store, coreSays, corePart, coreHandle}
+use Rattle.standby_part.specs.declared.Done.{Done}
+use Rattle.standby_part.specs.State.{boundOf, coreAt, settingsFor, holdingTo}
+use Rattle.standby_part.specs.Part.{resultOf, PartIs, AreaIs}
+use Rattle.standby_batch_handle.specs.Handling.{followsOf, foundOf, isHeld, areaAfter, HandleIs}
 
 -- the commit number, as the code tests it
 pub next-is : (h : Handle) (n : ℕ) → h .«commit_no» .0 < top → {b : Bool} → b ≡ eqb n (h .«commit_no» .0 + 1) → b ≡ followsOf h n

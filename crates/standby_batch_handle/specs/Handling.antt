@@ -9,18 +9,18 @@ use lib.Dec.{eqb, ltb}
 use Rattle.model_frame.specs.Frame.{Change, commit, whole, lastWhole}
 use Rattle.model_frame.specs.Bytes.{write}
 use Rattle.model_frame.specs.Writing.{sizes}
-use Rattle.op.specs.Answers.{heldRun}
+use Rattle.frame_op.specs.Answers.{heldRun}
 use Rattle.model_frame.specs.Frame as the-frame
 use Rattle.model_session.specs.Session.{top}
-use Rattle.row.specs.declared.Handle.{Handle}
-use Rattle.areas.specs.declared.Shape.{Shape}
-use Rattle.areas.specs.Areas.{Rules}
-use Rattle.settling.specs.Settling.{Touched}
-use Rattle.model.specs.State.{Counters, Bound}
-use Rattle.model.specs.Core.{coreHandle}
-use Rattle.on_batch.specs.declared.Done.{Done}
-use Rattle.on_batch.specs.State.{boundOf, coreAt, settingsFor}
-use Rattle.on_batch.specs.Part.{resultOf}
+use Rattle.standby_row.specs.declared.Handle.{Handle}
+use Rattle.store_areas.specs.declared.Shape.{Shape}
+use Rattle.store_areas.specs.Areas.{Rules}
+use Rattle.standby_commit.specs.Settling.{Touched}
+use Rattle.model_standby.specs.State.{Counters, Bound}
+use Rattle.model_standby.specs.Core.{coreHandle}
+use Rattle.standby_part.specs.declared.Done.{Done}
+use Rattle.standby_part.specs.State.{boundOf, coreAt, settingsFor}
+use Rattle.standby_part.specs.Part.{resultOf}
 
 -- the commit number n follows the handle's; none follows 2^64 - 1
 abbrev pub followsOf : Handle → ℕ → Bool

@@ -3,19 +3,19 @@ ghost use mathlib.Core.Path.{_≡_};
 ghost use mathlib.Core.Bool.{true};
 ghost use Prim.Native.Nat.{_<_};
 ghost use lib.ListN.{length};
-ghost use Rattle.op.specs.Answers.{heldRun};
-ghost use Rattle.parts.specs.Answers.{partOf};
-ghost use Rattle.hold.specs.Held.{TakesAll};
-ghost use Rattle.areas.specs.Areas.{Rules};
-ghost use Rattle.pending.specs.Pending.{countOf};
-ghost use Rattle.on_handle.specs.Handling.{followsOf, Sound, areaAfter, HandleIs};
-ghost use Rattle.on_batch.specs.State.{holdingTo};
-use areas::Shape;
+ghost use Rattle.frame_op.specs.Answers.{heldRun};
+ghost use Rattle.frame_fields.specs.Answers.{partOf};
+ghost use Rattle.standby_changes.specs.Held.{TakesAll};
+ghost use Rattle.store_areas.specs.Areas.{Rules};
+ghost use Rattle.standby_pending.specs.Pending.{countOf};
+ghost use Rattle.standby_batch_handle.specs.Handling.{followsOf, Sound, areaAfter, HandleIs};
+ghost use Rattle.standby_part.specs.State.{holdingTo};
 use frame::CommitNumber;
-use on_batch::Done;
-use parts::Part;
-use row::Handle;
-use stamp::Protocol;
+use frame_fields::Part;
+use frame_stamp::Protocol;
+use standby_part::Done;
+use standby_row::Handle;
+use store_areas::Shape;
 
 // Whether n follows the handle's commit number.
 fn is_next(h: Handle, n: CommitNumber) -> bool
@@ -75,8 +75,8 @@ pub fn on_handle(
         };
     }
     match part {
-        Part::Commit => on_batch::on_commit(p, run, words, bytes, area, shape, h, n),
-        Part::Whole => on_batch::on_whole(p, run, area, h, n),
-        Part::LastWhole => on_batch::on_last_whole(p, run, words, bytes, area, shape, h, n),
+        Part::Commit => standby_part::on_commit(p, run, words, bytes, area, shape, h, n),
+        Part::Whole => standby_part::on_whole(p, run, area, h, n),
+        Part::LastWhole => standby_part::on_last_whole(p, run, words, bytes, area, shape, h, n),
     }
 }

@@ -17,46 +17,46 @@ use Rattle.model_session.specs.Session.{Session, Holdable}
 use Rattle.model_session.specs.Summary.{summary}
 use Rattle.model_session.proofs.Basics.{T→true, some-inj}
 use Rattle.model_session.proofs.Sending.{stamp-short}
-use Rattle.model.specs.Row.{isSome}
-use Rattle.model.specs.Store.{Place, placeOf, isStored, sessionAt, orNew, newPlace, opened}
-use Rattle.model.specs.Answer.{reply}
-use Rattle.model.specs.State.{newBound}
-use Rattle.model.specs.Core.{Core, CoreResult, leave, store, coreSays, coreRefuse, coreBind}
-use Rattle.model.proofs.Places.{place-low}
-use Rattle.scan.specs.declared.Span.{Span}
-use Rattle.scan.specs.Answers.{spanOf}
-use Rattle.parts.specs.declared.SessionId.{SessionId}
-use Rattle.parts.specs.Answers.{keyOf}
-use Rattle.op.specs.Answers.{heldRun}
-use Rattle.log.proofs.Lawful.{Small}
-use Rattle.place.specs.Only.{Only}
-use Rattle.place.specs.Place.{flightIs, keyFrom}
-use Rattle.areas.specs.declared.Shape.{Shape}
-use Rattle.areas.specs.Areas.{placeWords, wordsAt, Rules, placeAt, placesOf}
-use Rattle.areas.proofs.Lists.{word-kept}
-use Rattle.areas.proofs.Lifting.{places-length, place-is, session-is}
-use Rattle.areas.proofs.Holding.{holdable-at}
-use Rattle.store.specs.declared.Text.{Text}
-use Rattle.store.specs.declared.Summary.{Summary}
-use Rattle.sessions.specs.Answers.{Opened, summaryIs}
-use Rattle.sessions.proofs.Opening.{opened-rules}
-use Rattle.hold.proofs.Held.{held-none}
-use Rattle.pending.specs.Pending.{countOf, commitOf, pendingOf}
-use Rattle.settling.specs.Settling.{Touched}
-use Rattle.settling.proofs.Header.{past-66, pending-kept}
-use Rattle.settling.proofs.Laws.{touched-none}
-use Rattle.row.specs.declared.Handle.{Handle}
-use Rattle.row.specs.declared.Seen.{Seen}
-use Rattle.on_batch.specs.State.{coreAt}
-use Rattle.outcome.specs.declared.Replica.{Replica}
-use Rattle.outcome.specs.declared.Settings.{Settings}
-use Rattle.outcome.specs.declared.Brief.{Brief}
-use Rattle.outcome.specs.declared.Answer.{Answer}
-use Rattle.outcome.specs.declared.Outcome.{Outcome}
-use Rattle.outcome.specs.Answers.{answerOf, briefOf, isRefused, isNack, isBound}
-use Rattle.outcome.specs.Outcomes.{countersOf, settingsOf, areaAt, leaving, storing}
-use Rattle.greet.proofs.Laws.{leaving-lands}
-use Rattle.on_bind.specs.Binding.{cutTo, numberIn, newHandle, roomFor, OpenIs, BindIs}
+use Rattle.model_standby.specs.Row.{isSome}
+use Rattle.model_standby.specs.Store.{Place, placeOf, isStored, sessionAt, orNew, newPlace, opened}
+use Rattle.model_standby.specs.Answer.{reply}
+use Rattle.model_standby.specs.State.{newBound}
+use Rattle.model_standby.specs.Core.{Core, CoreResult, leave, store, coreSays, coreRefuse, coreBind}
+use Rattle.model_standby.proofs.Places.{place-low}
+use Rattle.frame_reader.specs.declared.Span.{Span}
+use Rattle.frame_reader.specs.Answers.{spanOf}
+use Rattle.frame_fields.specs.declared.SessionId.{SessionId}
+use Rattle.frame_fields.specs.Answers.{keyOf}
+use Rattle.frame_op.specs.Answers.{heldRun}
+use Rattle.store_log.proofs.Lawful.{Small}
+use Rattle.store_place.specs.Only.{Only}
+use Rattle.store_place.specs.Place.{flightIs, keyFrom}
+use Rattle.store_areas.specs.declared.Shape.{Shape}
+use Rattle.store_areas.specs.Areas.{placeWords, wordsAt, Rules, placeAt, placesOf}
+use Rattle.store_areas.proofs.Lists.{word-kept}
+use Rattle.store_areas.proofs.Lifting.{places-length, place-is, session-is}
+use Rattle.store_areas.proofs.Holding.{holdable-at}
+use Rattle.store_state.specs.declared.Text.{Text}
+use Rattle.store_state.specs.declared.Summary.{Summary}
+use Rattle.store_sessions.specs.Answers.{Opened, summaryIs}
+use Rattle.store_sessions.proofs.Opening.{opened-rules}
+use Rattle.standby_changes.proofs.Held.{held-none}
+use Rattle.standby_pending.specs.Pending.{countOf, commitOf, pendingOf}
+use Rattle.standby_commit.specs.Settling.{Touched}
+use Rattle.standby_commit.proofs.Header.{past-66, pending-kept}
+use Rattle.standby_commit.proofs.Laws.{touched-none}
+use Rattle.standby_row.specs.declared.Handle.{Handle}
+use Rattle.standby_row.specs.declared.Seen.{Seen}
+use Rattle.standby_part.specs.State.{coreAt}
+use Rattle.standby_state.specs.declared.Replica.{Replica}
+use Rattle.standby_state.specs.declared.Settings.{Settings}
+use Rattle.standby_state.specs.declared.Brief.{Brief}
+use Rattle.standby_state.specs.declared.Answer.{Answer}
+use Rattle.standby_state.specs.declared.Outcome.{Outcome}
+use Rattle.standby_state.specs.Answers.{answerOf, briefOf, isRefused, isNack, isBound}
+use Rattle.standby_state.specs.Outcomes.{countersOf, settingsOf, areaAt, leaving, storing}
+use Rattle.standby_hello.proofs.Laws.{leaving-lands}
+use Rattle.standby_bind.specs.Binding.{cutTo, numberIn, newHandle, roomFor, OpenIs, BindIs}
 
 -- ---- texts
 

@@ -7,22 +7,22 @@ use mathlib.Core.Option.{Option, none, some}
 use lib.ListN.{length, getD}
 use lib.Dec.{ltb}
 use Rattle.model_frame.specs.Frame.{Key}
-use Rattle.scan.specs.declared.Span.{Span}
-use Rattle.row.specs.declared.Handle.{Handle}
-use Rattle.row.specs.declared.Seen.{Seen}
-use Rattle.areas.specs.declared.Shape.{Shape}
-use Rattle.areas.specs.Areas.{Rules, placeAt, placesOf}
-use Rattle.pending.specs.Pending.{pendingOf}
-use Rattle.settling.specs.Settling.{Touched}
-use Rattle.store.specs.declared.Text.{Text}
-use Rattle.model.specs.Store.{placeOf, sessionAt, orNew, opened}
-use Rattle.model.specs.Core.{coreBind}
-use Rattle.on_batch.specs.State.{coreAt}
-use Rattle.outcome.specs.declared.Replica.{Replica}
-use Rattle.outcome.specs.declared.Settings.{Settings}
-use Rattle.outcome.specs.declared.Outcome.{Outcome}
-use Rattle.outcome.specs.Outcomes.{countersOf, settingsOf, outcomeOf, Lands}
-use Rattle.greet.specs.Greeting.{isQuiet}
+use Rattle.frame_reader.specs.declared.Span.{Span}
+use Rattle.standby_row.specs.declared.Handle.{Handle}
+use Rattle.standby_row.specs.declared.Seen.{Seen}
+use Rattle.store_areas.specs.declared.Shape.{Shape}
+use Rattle.store_areas.specs.Areas.{Rules, placeAt, placesOf}
+use Rattle.standby_pending.specs.Pending.{pendingOf}
+use Rattle.standby_commit.specs.Settling.{Touched}
+use Rattle.store_state.specs.declared.Text.{Text}
+use Rattle.model_standby.specs.Store.{placeOf, sessionAt, orNew, opened}
+use Rattle.model_standby.specs.Core.{coreBind}
+use Rattle.standby_part.specs.State.{coreAt}
+use Rattle.standby_state.specs.declared.Replica.{Replica}
+use Rattle.standby_state.specs.declared.Settings.{Settings}
+use Rattle.standby_state.specs.declared.Outcome.{Outcome}
+use Rattle.standby_state.specs.Outcomes.{countersOf, settingsOf, outcomeOf, Lands}
+use Rattle.standby_hello.specs.Greeting.{isQuiet}
 
 -- texts of at most 32 bytes
 pub record Short (k : Key) : Type 0 where

@@ -5,26 +5,26 @@ ghost use Prim.Native.Nat.{_<_, _≤_};
 ghost use lib.ListN.{getD};
 ghost use lib.Dec.{ltb};
 ghost use Rattle.model_session.specs.Summary.{summary};
-ghost use Rattle.model.specs.Store.{placeOf};
-ghost use Rattle.parts.specs.Answers.{keyOf};
-ghost use Rattle.areas.specs.Areas.{Rules, placeAt, placesOf};
-ghost use Rattle.outcome.specs.Answers.{briefOf};
-ghost use Rattle.place.specs.Place.{flightIs};
-ghost use Rattle.model.specs.Row.{isSome};
-ghost use Rattle.on_bind.specs.Binding.{Short, cutTo, numberIn, newHandle, roomFor, OpenIs, BindIs};
-use areas::Shape;
+ghost use Rattle.model_standby.specs.Store.{placeOf};
+ghost use Rattle.frame_fields.specs.Answers.{keyOf};
+ghost use Rattle.store_areas.specs.Areas.{Rules, placeAt, placesOf};
+ghost use Rattle.standby_state.specs.Answers.{briefOf};
+ghost use Rattle.store_place.specs.Place.{flightIs};
+ghost use Rattle.model_standby.specs.Row.{isSome};
+ghost use Rattle.standby_bind.specs.Binding.{Short, cutTo, numberIn, newHandle, roomFor, OpenIs, BindIs};
 use frame::CommitNumber;
 use frame::Epoch;
 use frame::SessionId;
-use outcome::Brief;
-use outcome::Outcome;
-use outcome::Replica;
-use outcome::Settings;
-use place::Flight;
-use row::Handle;
-use row::Seen;
-use scan::Span;
-use store::Text;
+use frame_reader::Span;
+use standby_row::Handle;
+use standby_row::Seen;
+use standby_state::Brief;
+use standby_state::Outcome;
+use standby_state::Replica;
+use standby_state::Settings;
+use store_areas::Shape;
+use store_place::Flight;
+use store_state::Text;
 
 // A text of the store as a frame's: no stamp and no marks are longer than 64 bytes.
 fn span(t: Text) -> Span
@@ -64,7 +64,7 @@ fn brief_at(words: &[u64], bytes: &[u8], shape: Shape, place: usize, n: u64) -> 
     requires { ⌜ place < getD (now words) 0 0 ⌝ }
     ensures { λ r. ⌜ briefOf (now (bytes .entry)) r ≡ summary (placeAt shape (now (words .entry)) (now (bytes .entry)) place .stored .session) n ⌝ }
 {
-    let m = sessions::summary_of(words, bytes, shape, place, n);
+    let m = store_sessions::summary_of(words, bytes, shape, place, n);
     let f = m.in_flight;
     let created_at = m.created_at;
     let marks = m.marks;
@@ -88,14 +88,14 @@ fn place_of(words: &[u64], bytes: &[u8], frame: &[u8], shape: Shape, k: SessionI
     let sender = k.sender_comp_id;
     let target = k.target_comp_id;
     let suffix = k.key_suffix;
-    sessions::place_of(
+    store_sessions::place_of(
         words,
         bytes,
         shape,
-        scan::slice(frame, begin),
-        scan::slice(frame, sender),
-        scan::slice(frame, target),
-        scan::slice(frame, suffix),
+        frame_reader::slice(frame, begin),
+        frame_reader::slice(frame, sender),
+        frame_reader::slice(frame, target),
+        frame_reader::slice(frame, suffix),
     )
 }
 
@@ -114,14 +114,14 @@ fn open(words: &mut [u64], bytes: &mut [u8], frame: &[u8], shape: Shape, k: Sess
     let sender = k.sender_comp_id;
     let target = k.target_comp_id;
     let suffix = k.key_suffix;
-    sessions::open(
+    store_sessions::open(
         words,
         bytes,
         shape,
-        scan::slice(frame, begin),
-        scan::slice(frame, sender),
-        scan::slice(frame, target),
-        scan::slice(frame, suffix),
+        frame_reader::slice(frame, begin),
+        frame_reader::slice(frame, sender),
+        frame_reader::slice(frame, target),
+        frame_reader::slice(frame, suffix),
     );
 }
 
@@ -172,25 +172,25 @@ pub fn on_bind(
 {
     let own = c.epoch;
     if epoch.0 < own.0 {
-        return outcome::leaves(c, seen, outcome::nack(handle, 1));
+        return standby_state::leaves(c, seen, standby_state::nack(handle, 1));
     }
     if s.lag < max_lag {
-        return outcome::leaves(c, seen, outcome::nack(handle, 3));
+        return standby_state::leaves(c, seen, standby_state::nack(handle, 3));
     }
     let shape = s.shape;
     let place = place_of(words, bytes, frame, shape, k);
     if !has_place(words[0], place, shape.places) {
-        return outcome::leaves(c, seen, outcome::refused(20));
+        return standby_state::leaves(c, seen, standby_state::refused(20));
     }
     if !has_room(seen) {
-        return outcome::leaves(c, seen, outcome::refused(21));
+        return standby_state::leaves(c, seen, standby_state::refused(21));
     }
     open(words, bytes, frame, shape, k, place);
     let brief = brief_at(words, bytes, shape, place, max_lag);
-    outcome::stores(
+    standby_state::stores(
         c,
         seen,
-        outcome::bound(handle, brief),
+        standby_state::bound(handle, brief),
         handle,
         new_handle(handle, place),
     )

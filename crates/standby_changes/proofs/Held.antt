@@ -16,11 +16,11 @@ use Rattle.model_frame.proofs.Runs.{Stands, count-sizes, sizes-append, change-s
 use Rattle.model_frame.proofs.SoundChange.{change-sound, changes-sound, taken-sendable}
 use Rattle.model_frame.proofs.Sizes.{changes-size}
 use Rattle.model_session.specs.Session.{messageLength, messageBytes}
-use Rattle.laws.proofs.Little.{write-is}
-use Rattle.laws.proofs.Runs.{collect-none, collect-more, collect-bad, run-items}
-use Rattle.op.specs.Answers.{runOf, heldRun}
-use Rattle.op.specs.declared.Run.{Run}
-use Rattle.hold.specs.Held.{TakesAll, RunPart}
+use Rattle.base_laws.proofs.Little.{write-is}
+use Rattle.base_laws.proofs.Runs.{collect-none, collect-more, collect-bad, run-items}
+use Rattle.frame_op.specs.Answers.{runOf, heldRun}
+use Rattle.frame_op.specs.declared.Run.{Run}
+use Rattle.standby_changes.specs.Held.{TakesAll, RunPart}
 
 -- ---- message bytes are at most all bytes
 

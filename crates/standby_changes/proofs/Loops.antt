@@ -15,12 +15,12 @@ use Rattle.model_frame.proofs.Le.{are-bytes, bytes-drop}
 use Rattle.model_frame.proofs.Runs.{change-shorter}
 use Rattle.model_frame.proofs.SoundChange.{change-sound}
 use Rattle.model_session.specs.Session.{fits, messageLength, messageBytes}
-use Rattle.laws.proofs.Runs.{collect-none, collect-more, collect-bad}
-use Rattle.op.specs.Answers.{heldRun}
-use Rattle.hold.specs.Held.{onward}
-use Rattle.hold.specs.declared.Outgoing
-use Rattle.hold.specs.declared.Outgoing.{Outgoing}
-use Rattle.hold.proofs.Held.{held-none, held-bad, held-more, held-messages}
+use Rattle.base_laws.proofs.Runs.{collect-none, collect-more, collect-bad}
+use Rattle.frame_op.specs.Answers.{heldRun}
+use Rattle.standby_changes.specs.Held.{onward}
+use Rattle.standby_changes.specs.declared.Outgoing
+use Rattle.standby_changes.specs.declared.Outgoing.{Outgoing}
+use Rattle.standby_changes.proofs.Held.{held-none, held-bad, held-more, held-messages}
 
 -- whether something was read, and what is left then
 abbrev reads : {A : Type 0} → Res A → Bool

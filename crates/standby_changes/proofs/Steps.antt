@@ -12,15 +12,15 @@ use Rattle.model_frame.specs.Parse.{ok}
 use Rattle.model_frame.specs.Reading.{readChange}
 use Rattle.model_frame.proofs.Le.{are-bytes}
 use Rattle.model_session.specs.Session.{fits, top, messageLength}
-use Rattle.model.specs.Standby.{startsWithReset}
-use Rattle.op.specs.Answers.{opOf, heldRun}
-use Rattle.op.specs.declared.Op
-use Rattle.op.specs.declared.Op.{Op}
-use Rattle.op.proofs.Op as op-type
-use Rattle.hold.specs.Held.{past, onward}
-use Rattle.hold.proofs.Held.{held-more}
-use Rattle.hold.specs.declared.Outgoing
-use Rattle.hold.specs.declared.Outgoing.{Outgoing}
+use Rattle.model_standby.specs.Standby.{startsWithReset}
+use Rattle.frame_op.specs.Answers.{opOf, heldRun}
+use Rattle.frame_op.specs.declared.Op
+use Rattle.frame_op.specs.declared.Op.{Op}
+use Rattle.frame_op.proofs.Op as op-type
+use Rattle.standby_changes.specs.Held.{past, onward}
+use Rattle.standby_changes.proofs.Held.{held-more}
+use Rattle.standby_changes.specs.declared.Outgoing
+use Rattle.standby_changes.specs.declared.Outgoing.{Outgoing}
 
 no-reset : (b : List ℕ) (cs : List Change) (op : Op) → OneOf (0 ∷ 1 ∷ 2 ∷ 3 ∷ 4 ∷ 6 ∷ 7 ∷ []) (tagOf op-type.the-type op) → startsWithReset (opOf b op ∷ cs) ≡ false
 no-reset b cs (Op.SetNextIncoming n) h = refl

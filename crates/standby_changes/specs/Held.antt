@@ -10,14 +10,14 @@ use Rattle.model_frame.specs.Parse.{Res, ok, bad, forget, runBytes}
 use Rattle.model_frame.specs.Reading.{readChange}
 use Rattle.model_frame.specs.Writing.{changeBytes, sizes}
 use Rattle.model_session.specs.Session.{fits, top}
-use Rattle.op.specs.Answers.{opOf, runOf, heldRun}
-use Rattle.op.specs.declared.Op.{Op}
-use Rattle.op.specs.declared.Run.{Run}
-use Rattle.scan.specs.Answers.{faultOf}
-use Rattle.hold.specs.declared.Past
-use Rattle.hold.specs.declared.Past.{Past}
-use Rattle.hold.specs.declared.Outgoing
-use Rattle.hold.specs.declared.Outgoing.{Outgoing}
+use Rattle.frame_op.specs.Answers.{opOf, runOf, heldRun}
+use Rattle.frame_op.specs.declared.Op.{Op}
+use Rattle.frame_op.specs.declared.Run.{Run}
+use Rattle.frame_reader.specs.Answers.{faultOf}
+use Rattle.standby_changes.specs.declared.Past
+use Rattle.standby_changes.specs.declared.Past.{Past}
+use Rattle.standby_changes.specs.declared.Outgoing
+use Rattle.standby_changes.specs.declared.Outgoing.{Outgoing}
 
 -- all of these bytes are changes
 abbrev pub TakesAll : ℕ → List ℕ → Type 0

@@ -8,18 +8,18 @@ ghost use Rattle.model_frame.specs.Parse.{collect, forget};
 ghost use Rattle.model_frame.specs.Reading.{readChange};
 ghost use Rattle.model_frame.specs.Writing.{sizes};
 ghost use Rattle.model_session.specs.Session.{fits, messageLength, messageBytes};
-ghost use Rattle.model.specs.Standby.{startsWithReset};
-ghost use Rattle.op.specs.Answers.{opOf, heldRun};
-ghost use Rattle.hold.specs.Held.{past, Follows, resPast, PastRecord, RunPart};
-use op::Op;
-use op::OpAt;
-use op::Run;
-use scan::Byte;
-use scan::Cursor;
-use scan::FrameError;
-use scan::Word32;
-use scan::Word64;
-use stamp::Protocol;
+ghost use Rattle.model_standby.specs.Standby.{startsWithReset};
+ghost use Rattle.frame_op.specs.Answers.{opOf, heldRun};
+ghost use Rattle.standby_changes.specs.Held.{past, Follows, resPast, PastRecord, RunPart};
+use frame_op::Op;
+use frame_op::OpAt;
+use frame_op::Run;
+use frame_reader::Byte;
+use frame_reader::Cursor;
+use frame_reader::FrameError;
+use frame_reader::Word32;
+use frame_reader::Word64;
+use frame_stamp::Protocol;
 
 // The greatest u64: no outgoing number follows it.
 const TOP: u64 = 18446744073709551615;
@@ -40,7 +40,7 @@ pub enum Past {
 pub fn starts_with_reset(p: Protocol, run: &[u8]) -> bool
     ensures { λ r. ⌜ r ≡ startsWithReset (heldRun (p .version) (now (run .entry))) ⌝ }
 {
-    let OpAt::Got(op, _) = op::op_from(p, run, Cursor { at: 0 }) else {
+    let OpAt::Got(op, _) = frame_op::op_from(p, run, Cursor { at: 0 }) else {
         return false;
     };
     if let Op::Reset = op { true } else { false }
@@ -51,7 +51,7 @@ fn message_length(run: &[u8], op: Op) -> u64
     ensures { λ r. ⌜ r ≡ messageLength (opOf (now (run .entry)) op) ⌝ }
 {
     match op {
-        Op::Record(_, msg) => scan::slice(run, msg).len() as u64,
+        Op::Record(_, msg) => frame_reader::slice(run, msg).len() as u64,
         _ => 0,
     }
 }
@@ -63,7 +63,7 @@ pub fn message_bytes(p: Protocol, run: &[u8]) -> u64
     let mut sum: u64 = 0;
     let mut d = Cursor { at: 0 };
     while d.at < run.len() {
-        let OpAt::Got(op, next) = op::op_from(p, run, d) else {
+        let OpAt::Got(op, next) = frame_op::op_from(p, run, d) else {
             return sum;
         };
         sum += message_length(run, op);
@@ -110,7 +110,7 @@ pub fn fits(p: Protocol, run: &[u8], next_outgoing: u64) -> bool
     let mut next = next_outgoing;
     let mut d = Cursor { at: 0 };
     while d.at < run.len() {
-        let OpAt::Got(op, e) = op::op_from(p, run, d) else {
+        let OpAt::Got(op, e) = frame_op::op_from(p, run, d) else {
             return true;
         };
         let Outgoing::Next(n) = follow(op, next) else {
@@ -135,13 +135,13 @@ fn record_length(op: Op, len: u32) -> u32 {
 fn past_record(buf: &[u8], c: Cursor, len: u32) -> Past
     ensures { λ r. ⌜ PastRecord (now (buf .entry)) (c .at) r ⌝ }
 {
-    let Byte::Got(k, d) = scan::u8_from(buf, c) else {
+    let Byte::Got(k, d) = frame_reader::u8_from(buf, c) else {
         return Past::Bad(FrameError::Truncated);
     };
-    let Word64::Got(_, d) = scan::u64_from(buf, d) else {
+    let Word64::Got(_, d) = frame_reader::u64_from(buf, d) else {
         return Past::Bad(FrameError::Truncated);
     };
-    let Word32::Got(n, d) = scan::u32_from(buf, d) else {
+    let Word32::Got(n, d) = frame_reader::u32_from(buf, d) else {
         return Past::Bad(FrameError::Truncated);
     };
     if k != 4 {
@@ -151,7 +151,7 @@ fn past_record(buf: &[u8], c: Cursor, len: u32) -> Past
         return Past::Bad(FrameError::Truncated);
     }
     let size = len as usize;
-    if scan::left(buf, d) < size {
+    if frame_reader::left(buf, d) < size {
         return Past::Bad(FrameError::Truncated);
     }
     let at = d.at;
@@ -162,7 +162,7 @@ fn past_record(buf: &[u8], c: Cursor, len: u32) -> Past
 fn past_any(p: Protocol, buf: &[u8], c: Cursor, len: u32) -> Past
     ensures { λ r. ⌜ resPast (now (buf .entry)) r ≡ forget (readChange (p .version) (drop (c .at) (now (buf .entry)))) ⌝ }
 {
-    match op::op_from(p, buf, c) {
+    match frame_op::op_from(p, buf, c) {
         OpAt::Bad(e) => Past::Bad(e),
         OpAt::Got(op, d) => Past::At(d, record_length(op, len)),
     }
@@ -201,7 +201,7 @@ pub fn run_length(p: Protocol, s: &[u8]) -> usize
     ensures { λ r. ⌜ r ≡ sizes (heldRun (p .version) (now (s .entry))) ⌝ }
 {
     let d = run_end(p, s, Cursor { at: 0 }, s.len());
-    s.len() - scan::left(s, d)
+    s.len() - frame_reader::left(s, d)
 }
 
 // The part of the buffer where the changes of a run stand, as far as they can be read.
@@ -210,8 +210,8 @@ pub fn run_of(p: Protocol, buf: &[u8], run: Run) -> &[u8]
 {
     let at = run.at;
     let d = run_end(p, buf, Cursor { at }, run.count as usize);
-    let n = scan::left(buf, Cursor { at }) - scan::left(buf, d);
-    scan::bytes_at(buf, at, n)
+    let n = frame_reader::left(buf, Cursor { at }) - frame_reader::left(buf, d);
+    frame_reader::bytes_at(buf, at, n)
 }
 
 // Puts a run behind the first `used` bytes of a hold area.
@@ -219,5 +219,5 @@ pub fn hold_run(area: &mut [u8], used: usize, run: &[u8])
     requires { ⌜ used + length (now run) ≤ length (now area) ⌝ }
     ensures { λ _. ⌜ now (area .exit) ≡ write (now (area .entry)) used (now (run .entry)) ⌝ }
 {
-    wire::copy(run, area, used);
+    base_bytes::copy(run, area, used);
 }

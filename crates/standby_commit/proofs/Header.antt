@@ -6,13 +6,13 @@ use native.Mathlib.Omega.{arith}
 use mathlib.Core.Logic.{inr}
 use lib.ListN.{length, getD, set, take, drop, length-set, length-drop}
 use lib.Seq.{take-set-le, drop-set-lt, take-take, getD-take, drop-drop, getD-set-other}
-use Rattle.laws.proofs.Lists.{drop-take}
-use Rattle.place.specs.Only.{Only}
-use Rattle.place.specs.Place.{placeIn}
-use Rattle.areas.specs.declared.Shape.{Shape}
-use Rattle.areas.specs.Areas.{placeWords, wordsAt, bytesAt, placeBytes, part, placeAt, countUp, placesOf}
-use Rattle.areas.proofs.Lists.{count-same, part-kept}
-use Rattle.pending.specs.Pending.{countOf, commitOf, pendingOf}
+use Rattle.base_laws.proofs.Lists.{drop-take}
+use Rattle.store_place.specs.Only.{Only}
+use Rattle.store_place.specs.Place.{placeIn}
+use Rattle.store_areas.specs.declared.Shape.{Shape}
+use Rattle.store_areas.specs.Areas.{placeWords, wordsAt, bytesAt, placeBytes, part, placeAt, countUp, placesOf}
+use Rattle.store_areas.proofs.Lists.{count-same, part-kept}
+use Rattle.standby_pending.specs.Pending.{countOf, commitOf, pendingOf}
 
 only-set : (w : List ℕ) (j v : ℕ) → Only j (j + 1) w (set w j v)
 only-set w j v = record { same-length = length-set w j v; front = take-set-le j w j v (omega arith); back = drop-set-lt (j + 1) w j v (omega arith) }

@@ -8,15 +8,15 @@ use lib.ListN.{length, getD, set, take, drop, length-set}
 use lib.Seq.{take-take, getD-take, getD-set-same}
 use Rattle.model_frame.specs.Frame.{Change}
 use Rattle.model_session.specs.Session.{fits}
-use Rattle.model.specs.Store.{changed}
-use Rattle.place.specs.Only.{Only}
-use Rattle.place.proofs.Fields.{only-none}
-use Rattle.areas.specs.declared.Shape.{Shape}
-use Rattle.areas.specs.Areas.{placeWords, placeBytes, wordsAt, bytesAt, Rules, Changed, placeAt, placesOf}
-use Rattle.areas.proofs.Lifting.{rules-kept}
-use Rattle.pending.specs.Pending.{countOf, pendingOf}
-use Rattle.settling.specs.Settling.{Touched, Settles}
-use Rattle.settling.proofs.Header.{count-kept, places-kept, rest-kept, pending-kept, past-66}
+use Rattle.model_standby.specs.Store.{changed}
+use Rattle.store_place.specs.Only.{Only}
+use Rattle.store_place.proofs.Fields.{only-none}
+use Rattle.store_areas.specs.declared.Shape.{Shape}
+use Rattle.store_areas.specs.Areas.{placeWords, placeBytes, wordsAt, bytesAt, Rules, Changed, placeAt, placesOf}
+use Rattle.store_areas.proofs.Lifting.{rules-kept}
+use Rattle.standby_pending.specs.Pending.{countOf, pendingOf}
+use Rattle.standby_commit.specs.Settling.{Touched, Settles}
+use Rattle.standby_commit.proofs.Header.{count-kept, places-kept, rest-kept, pending-kept, past-66}
 
 pub touched-none : (s : Shape) (i : ℕ) (w b : List ℕ) → Touched s i w w b b
 touched-none s i w b = record { words = only-none (i * placeWords s) (i * placeWords s + placeWords s) (drop 66 w); bytes = only-none (bytesAt s i) (bytesAt s i + placeBytes s) b }

@@ -6,11 +6,11 @@ use Prim.Native.Nat.{ℕ, _+_, _*_}
 use lib.ListN.{drop}
 use Rattle.model_frame.specs.Frame.{Change}
 use Rattle.model_session.specs.Session.{fits}
-use Rattle.model.specs.Store.{onPlace, changed}
-use Rattle.place.specs.Only.{Only}
-use Rattle.areas.specs.declared.Shape.{Shape}
-use Rattle.areas.specs.Areas.{placeWords, placeBytes, bytesAt, Rules, placeAt, placesOf}
-use Rattle.pending.specs.Pending.{pendingOf}
+use Rattle.model_standby.specs.Store.{onPlace, changed}
+use Rattle.store_place.specs.Only.{Only}
+use Rattle.store_areas.specs.declared.Shape.{Shape}
+use Rattle.store_areas.specs.Areas.{placeWords, placeBytes, bytesAt, Rules, placeAt, placesOf}
+use Rattle.standby_pending.specs.Pending.{pendingOf}
 
 -- of the words past the counts, and of the bytes, only those of place i may have changed
 pub record Touched (s : Shape) (i : ℕ) (w w' b b' : List ℕ) : Type 0 where

@@ -1,12 +1,12 @@
 // The end of a Commit or LastWhole (standby.rs, on_batch): outgoing numbers are checked before anything is applied.
 ghost use Prim.Native.Nat.{_<_};
 ghost use lib.ListN.{getD};
-ghost use Rattle.op.specs.Answers.{heldRun};
-ghost use Rattle.areas.specs.Areas.{Rules};
-ghost use Rattle.pending.specs.Pending.{countOf};
-ghost use Rattle.settling.specs.Settling.{Settles};
-use areas::Shape;
-use stamp::Protocol;
+ghost use Rattle.frame_op.specs.Answers.{heldRun};
+ghost use Rattle.store_areas.specs.Areas.{Rules};
+ghost use Rattle.standby_pending.specs.Pending.{countOf};
+ghost use Rattle.standby_commit.specs.Settling.{Settles};
+use frame_stamp::Protocol;
+use store_areas::Shape;
 
 // Applies a run of changes to the session at place i, and leaves a commit pending, if its outgoing numbers follow on.
 pub fn settle(
@@ -23,11 +23,11 @@ pub fn settle(
     requires { ⌜ countOf (now words) < 64 ⌝ }
     ensures { λ r. ⌜ Settles shape i handle (heldRun (p .version) (now (run .entry))) (now (words .entry)) (now (words .exit)) (now (bytes .entry)) (now (bytes .exit)) r ⌝ }
 {
-    let next = store::next_outgoing(words, bytes, shape, i);
-    if !hold::fits(p, run, next) {
+    let next = store_state::next_outgoing(words, bytes, shape, i);
+    if !standby_changes::fits(p, run, next) {
         return false;
     }
-    apply::apply_at(p, run, words, bytes, shape, i);
-    pending::push(words, i, handle);
+    standby_apply::apply_at(p, run, words, bytes, shape, i);
+    standby_pending::push(words, i, handle);
     true
 }

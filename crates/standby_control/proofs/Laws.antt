@@ -17,35 +17,35 @@ use Rattle.frame.specs.declared.Frame
 use Rattle.frame.specs.declared.Frame.{Frame}
 use Rattle.frame.proofs.Frame as frame-type
 use Rattle.frame.specs.Answers.{frameOf}
-use Rattle.row.specs.declared.Seen.{Seen}
-use Rattle.place.specs.Only.{Only}
-use Rattle.areas.specs.declared.Shape.{Shape}
-use Rattle.areas.specs.Areas.{placeWords, Rules, placesOf}
-use Rattle.areas.proofs.Lifting.{heads-places}
-use Rattle.areas.proofs.Lists.{word-kept}
-use Rattle.pending.specs.Pending.{pendingOf}
-use Rattle.pending.proofs.Laws.{cleared}
-use Rattle.commits.specs.Commits.{ranWords, RanIf}
-use Rattle.commits.proofs.Head.{clear-only, clear-rules}
-use Rattle.settling.specs.Settling.{Touched}
-use Rattle.settling.proofs.Laws.{touched-none}
-use Rattle.model.specs.Answer.{intact}
-use Rattle.model.specs.Store.{Stored, Place, sameKey, placeOf, onPlace, markDurable, markAll}
-use Rattle.model.specs.State.{Bound}
-use Rattle.model.specs.State as state
-use Rattle.model.specs.Core.{Core, coreBind, coreIntact, coreRun}
-use Rattle.on_batch.specs.State.{coreAt}
-use Rattle.outcome.specs.declared.Replica.{Replica}
-use Rattle.outcome.specs.declared.Settings.{Settings}
-use Rattle.outcome.specs.declared.Answer.{Answer}
-use Rattle.outcome.specs.declared.Outcome.{Outcome}
-use Rattle.outcome.specs.Answers.{answerOf, isRefused}
-use Rattle.outcome.specs.Outcomes.{countersOf, settingsOf, actionOf, leaving}
-use Rattle.greet.specs.Greeting.{Replies}
-use Rattle.greet.proofs.Laws.{as-left}
-use Rattle.on_bind.specs.Binding.{BindIs}
-use Rattle.steps.specs.Steps.{placeBy}
-use Rattle.others.specs.Others.{Plain, Fit, clearedIf, OtherIs, OtherIn}
+use Rattle.standby_row.specs.declared.Seen.{Seen}
+use Rattle.store_place.specs.Only.{Only}
+use Rattle.store_areas.specs.declared.Shape.{Shape}
+use Rattle.store_areas.specs.Areas.{placeWords, Rules, placesOf}
+use Rattle.store_areas.proofs.Lifting.{heads-places}
+use Rattle.store_areas.proofs.Lists.{word-kept}
+use Rattle.standby_pending.specs.Pending.{pendingOf}
+use Rattle.standby_pending.proofs.Laws.{cleared}
+use Rattle.standby_pending_run.specs.Commits.{ranWords, RanIf}
+use Rattle.standby_pending_run.proofs.Head.{clear-only, clear-rules}
+use Rattle.standby_commit.specs.Settling.{Touched}
+use Rattle.standby_commit.proofs.Laws.{touched-none}
+use Rattle.model_standby.specs.Answer.{intact}
+use Rattle.model_standby.specs.Store.{Stored, Place, sameKey, placeOf, onPlace, markDurable, markAll}
+use Rattle.model_standby.specs.State.{Bound}
+use Rattle.model_standby.specs.State as state
+use Rattle.model_standby.specs.Core.{Core, coreBind, coreIntact, coreRun}
+use Rattle.standby_part.specs.State.{coreAt}
+use Rattle.standby_state.specs.declared.Replica.{Replica}
+use Rattle.standby_state.specs.declared.Settings.{Settings}
+use Rattle.standby_state.specs.declared.Answer.{Answer}
+use Rattle.standby_state.specs.declared.Outcome.{Outcome}
+use Rattle.standby_state.specs.Answers.{answerOf, isRefused}
+use Rattle.standby_state.specs.Outcomes.{countersOf, settingsOf, actionOf, leaving}
+use Rattle.standby_hello.specs.Greeting.{Replies}
+use Rattle.standby_hello.proofs.Laws.{as-left}
+use Rattle.standby_bind.specs.Binding.{BindIs}
+use Rattle.standby_step.specs.Steps.{placeBy}
+use Rattle.standby_control.specs.Others.{Plain, Fit, clearedIf, OtherIs, OtherIn}
 
 -- ---- frames
 

@@ -8,22 +8,22 @@ use lib.ListN.{getD, set}
 use lib.Dec.{ltb}
 use Rattle.model_frame.specs.Frame.{Frame, hello, welcome, bind, batch, ack, nack, bound, checked}
 use Rattle.model_frame.specs.Parse.{isEmpty}
-use Rattle.row.specs.declared.Seen.{Seen}
-use Rattle.areas.specs.Areas.{Rules, placesOf}
-use Rattle.pending.specs.Pending.{pendingOf}
-use Rattle.settling.specs.Settling.{Touched}
-use Rattle.model.specs.Answer.{intact}
-use Rattle.model.specs.Row.{isSome}
-use Rattle.model.specs.State.{Bound}
-use Rattle.model.specs.Core.{coreRun, coreIntact}
-use Rattle.on_batch.specs.State.{coreAt}
-use Rattle.outcome.specs.declared.Replica.{Replica}
-use Rattle.outcome.specs.declared.Settings.{Settings}
-use Rattle.outcome.specs.declared.Outcome.{Outcome}
-use Rattle.outcome.specs.Outcomes.{countersOf, settingsOf, outcomeOf, Lands}
-use Rattle.greet.specs.Greeting.{isQuiet}
-use Rattle.on_bind.specs.Binding.{Short}
-use Rattle.steps.specs.Steps.{isFound, placeBy, FrameLeaves}
+use Rattle.standby_row.specs.declared.Seen.{Seen}
+use Rattle.store_areas.specs.Areas.{Rules, placesOf}
+use Rattle.standby_pending.specs.Pending.{pendingOf}
+use Rattle.standby_commit.specs.Settling.{Touched}
+use Rattle.model_standby.specs.Answer.{intact}
+use Rattle.model_standby.specs.Row.{isSome}
+use Rattle.model_standby.specs.State.{Bound}
+use Rattle.model_standby.specs.Core.{coreRun, coreIntact}
+use Rattle.standby_part.specs.State.{coreAt}
+use Rattle.standby_state.specs.declared.Replica.{Replica}
+use Rattle.standby_state.specs.declared.Settings.{Settings}
+use Rattle.standby_state.specs.declared.Outcome.{Outcome}
+use Rattle.standby_state.specs.Outcomes.{countersOf, settingsOf, outcomeOf, Lands}
+use Rattle.standby_hello.specs.Greeting.{isQuiet}
+use Rattle.standby_bind.specs.Binding.{Short}
+use Rattle.standby_step.specs.Steps.{isFound, placeBy, FrameLeaves}
 
 -- neither Bind nor Batch
 abbrev pub Plain : Frame → Type 0

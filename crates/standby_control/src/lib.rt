@@ -5,20 +5,20 @@ ghost use mathlib.Core.Option.{none};
 ghost use Prim.Native.Nat.{_≤_};
 ghost use lib.ListN.{length};
 ghost use Rattle.model_frame.specs.Parse.{isEmpty, num};
-ghost use Rattle.op.specs.Answers.{runOf};
+ghost use Rattle.frame_op.specs.Answers.{runOf};
 ghost use Rattle.frame.specs.Answers.{frameOf};
-ghost use Rattle.areas.specs.Areas.{Rules};
-ghost use Rattle.greet.specs.Greeting.{Replies};
-ghost use Rattle.model.specs.Core.{coreIntact};
-ghost use Rattle.others.specs.Others.{Plain, Fit, clearedIf, OtherIs, OtherIn};
+ghost use Rattle.store_areas.specs.Areas.{Rules};
+ghost use Rattle.standby_hello.specs.Greeting.{Replies};
+ghost use Rattle.model_standby.specs.Core.{coreIntact};
+ghost use Rattle.standby_control.specs.Others.{Plain, Fit, clearedIf, OtherIs, OtherIn};
 use frame::Frame;
-use op::Run;
-use outcome::Outcome;
-use outcome::Replica;
-use outcome::Settings;
-use row::Seen;
-use scan::Cursor;
-use scan::Word16;
+use frame_op::Run;
+use frame_reader::Cursor;
+use frame_reader::Word16;
+use standby_row::Seen;
+use standby_state::Outcome;
+use standby_state::Replica;
+use standby_state::Settings;
 
 // Whether a run of kinds is empty.
 fn no_kinds(frame: &[u8], run: Run) -> bool
@@ -27,7 +27,7 @@ fn no_kinds(frame: &[u8], run: Run) -> bool
     if run.count == 0 {
         return true;
     }
-    match scan::u16_from(frame, Cursor { at: run.at }) {
+    match frame_reader::u16_from(frame, Cursor { at: run.at }) {
         Word16::Got(_, _) => false,
         Word16::Short => true,
     }
@@ -39,7 +39,7 @@ fn clear_if(words: &mut [u64], clears: bool)
     ensures { λ _. ⌜ now (words .exit) ≡ clearedIf clears (now (words .entry)) ⌝ }
 {
     if clears {
-        pending::clear(words);
+        standby_pending::clear(words);
     }
 }
 
@@ -56,14 +56,14 @@ fn reply(frame: &[u8], c: Replica, s: Settings, seen: Seen, f: Frame) -> Outcome
             app_record_kinds,
         } => {
             let none = no_kinds(frame, app_record_kinds);
-            greet::hello(c, s, seen, version, epoch, none)
+            standby_hello::hello(c, s, seen, version, epoch, none)
         }
         Frame::Checked {
             handle,
             epoch,
             incarnation,
-        } => greet::checked(c, s, seen, handle, epoch, incarnation),
-        _ => outcome::leaves(c, seen, outcome::refused(19)),
+        } => standby_hello::checked(c, s, seen, handle, epoch, incarnation),
+        _ => standby_state::leaves(c, seen, standby_state::refused(19)),
     }
 }
 
@@ -87,7 +87,7 @@ fn answer(
             epoch,
             max_lag,
             session,
-        } => on_bind::on_bind(
+        } => standby_bind::on_bind(
             words,
             bytes,
             frame,
@@ -122,7 +122,7 @@ pub fn other_in(
     ensures { λ r. ⌜ OtherIn s c seen (frameOf 1 (now (frame .entry)) f) (now (words .entry)) (now (words .exit)) (now (bytes .entry)) (now (bytes .exit)) r ⌝ }
 {
     let shape = s.shape;
-    let due = commits::is_pending(words);
-    commits::run_if(words, bytes, shape, due);
+    let due = standby_pending_run::is_pending(words);
+    standby_pending_run::run_if(words, bytes, shape, due);
     answer(words, bytes, frame, c, s, seen, f)
 }

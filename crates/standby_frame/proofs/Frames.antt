@@ -10,7 +10,7 @@ use lib.Dec.{eqb, leb, T}
 use borrow.Author.Tests.{ne-eqb, eq-eqb, leb-true}
 use types.Run.{OneOf, miss}
 use denote.Enum.Declared.{tagOf}
-use Rattle.laws.proofs.Lists.{both}
+use Rattle.base_laws.proofs.Lists.{both}
 use Rattle.model_text.specs.Printable.{isPrintable, isKey}
 use Rattle.model_frame.specs.Bytes.{isBytes}
 use Rattle.model_frame.specs.Frame.{Key, Fault, tooLong, truncated, unknown, badText, badSession, badTimestamp, badMarks, number, hello, welcome, bind, batch, ack, nack, bound, checked}
@@ -20,21 +20,21 @@ use Rattle.model_frame.specs.Reading.{decode}
 use Rattle.model_frame.specs.Writing.{fine, fineKey, Writable}
 use Rattle.model_text.specs.Utf8.{utf8}
 use Rattle.model_frame.proofs.Sound.{decode-sound}
-use Rattle.scan.specs.declared.FrameError.{FrameError}
-use Rattle.scan.specs.Answers.{faultOf}
+use Rattle.frame_reader.specs.declared.FrameError.{FrameError}
+use Rattle.frame_reader.specs.Answers.{faultOf}
 use Rattle.frame.specs.declared.Frame
 use Rattle.frame.specs.declared.Frame.{Frame}
 use Rattle.frame.specs.declared.Decoded
 use Rattle.frame.specs.declared.Decoded.{Decoded}
 use Rattle.frame.proofs.Frame as frame-type
 use Rattle.frame.specs.Answers.{frameOf, readingOf}
-use Rattle.model.specs.Answer.{damaged, intact, judged, given}
-use Rattle.model.specs.State.{Bound, Counters}
-use Rattle.model.specs.State as state
-use Rattle.model.specs.Standby.{due}
-use Rattle.model.specs.Hold.{writesFrame}
-use Rattle.on_bind.specs.Binding.{Short}
-use Rattle.others.specs.Others.{Fit}
+use Rattle.model_standby.specs.Answer.{damaged, intact, judged, given}
+use Rattle.model_standby.specs.State.{Bound, Counters}
+use Rattle.model_standby.specs.State as state
+use Rattle.model_standby.specs.Standby.{due}
+use Rattle.model_standby.specs.Hold.{writesFrame}
+use Rattle.standby_bind.specs.Binding.{Short}
+use Rattle.standby_control.specs.Others.{Fit}
 
 -- ---- a reader's number is none but its own
 

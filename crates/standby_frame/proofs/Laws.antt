@@ -8,38 +8,38 @@ use native.Mathlib.Nat.{le-refl, le-of-eq}
 use lib.ListN.{getD}
 use lib.Dec.{eqb, ltb, leb}
 use borrow.Author.Tests.{ltb-true, leb-true}
-use Rattle.laws.proofs.Lists.{both}
+use Rattle.base_laws.proofs.Lists.{both}
 use Rattle.model_frame.specs.Frame.{Change, AppRecord, batch}
 use Rattle.model_frame.specs.Frame as the-frame
-use Rattle.row.specs.declared.Seen.{Seen}
-use Rattle.areas.specs.Areas.{allowed, Rules, placesOf}
-use Rattle.areas.proofs.Ruling.{rules-of}
-use Rattle.pending.specs.Pending.{pendingOf}
-use Rattle.commits.specs.Commits.{ranWords, RanIf}
-use Rattle.settling.specs.Settling.{Touched}
-use Rattle.settling.proofs.Laws.{touched-none}
-use Rattle.model.specs.Answer.{protocolVersion, Given, damaged, intact, given, handleIn, reply, refused, done, isReply}
-use Rattle.model.specs.Row.{isSome}
-use Rattle.model.specs.State.{Bound, Call, onFrameHeld, onFrame}
-use Rattle.model.specs.State as state
-use Rattle.model.specs.Standby.{due}
-use Rattle.model.specs.Hold.{Written, writes, writesFrame}
-use Rattle.model.specs.Core.{leave, Core, CoreResult, coreRefuse, coreRun, coreIntact, coreGiven, coreFlushed, coreStep}
-use Rattle.on_batch.specs.State.{coreAt}
-use Rattle.on_handle.specs.Handling.{foundOf}
-use Rattle.outcome.specs.declared.Replica.{Replica}
-use Rattle.outcome.specs.declared.Settings.{Settings}
-use Rattle.outcome.specs.declared.Answer.{Answer}
-use Rattle.outcome.specs.declared.Outcome.{Outcome}
-use Rattle.outcome.specs.Answers.{answerOf, frameBy, isRefused}
-use Rattle.outcome.specs.Outcomes.{countersOf, settingsOf, leaving, areaAt, actionOf, outcomeOf, Lands}
-use Rattle.greet.specs.Greeting.{isQuiet}
-use Rattle.greet.proofs.Laws.{leaving-lands}
-use Rattle.due_batch.specs.DueBatch.{Holds, BatchIn}
-use Rattle.others.specs.Others.{Fit, OtherIn}
-use Rattle.steps.specs.Steps.{roomIn, isFound, foundIn, seenAllowed, dueNow, placeBy, FrameLeaves, holdsAfter, hasHandle, StepIs}
-use Rattle.standby.specs.Taking.{isAnswered, Own, IntactIs, Takes}
-use Rattle.standby.proofs.Frames.{due-other, writes-other}
+use Rattle.standby_row.specs.declared.Seen.{Seen}
+use Rattle.store_areas.specs.Areas.{allowed, Rules, placesOf}
+use Rattle.store_areas.proofs.Ruling.{rules-of}
+use Rattle.standby_pending.specs.Pending.{pendingOf}
+use Rattle.standby_pending_run.specs.Commits.{ranWords, RanIf}
+use Rattle.standby_commit.specs.Settling.{Touched}
+use Rattle.standby_commit.proofs.Laws.{touched-none}
+use Rattle.model_standby.specs.Answer.{protocolVersion, Given, damaged, intact, given, handleIn, reply, refused, done, isReply}
+use Rattle.model_standby.specs.Row.{isSome}
+use Rattle.model_standby.specs.State.{Bound, Call, onFrameHeld, onFrame}
+use Rattle.model_standby.specs.State as state
+use Rattle.model_standby.specs.Standby.{due}
+use Rattle.model_standby.specs.Hold.{Written, writes, writesFrame}
+use Rattle.model_standby.specs.Core.{leave, Core, CoreResult, coreRefuse, coreRun, coreIntact, coreGiven, coreFlushed, coreStep}
+use Rattle.standby_part.specs.State.{coreAt}
+use Rattle.standby_batch_handle.specs.Handling.{foundOf}
+use Rattle.standby_state.specs.declared.Replica.{Replica}
+use Rattle.standby_state.specs.declared.Settings.{Settings}
+use Rattle.standby_state.specs.declared.Answer.{Answer}
+use Rattle.standby_state.specs.declared.Outcome.{Outcome}
+use Rattle.standby_state.specs.Answers.{answerOf, frameBy, isRefused}
+use Rattle.standby_state.specs.Outcomes.{countersOf, settingsOf, leaving, areaAt, actionOf, outcomeOf, Lands}
+use Rattle.standby_hello.specs.Greeting.{isQuiet}
+use Rattle.standby_hello.proofs.Laws.{leaving-lands}
+use Rattle.standby_batch_due.specs.DueBatch.{Holds, BatchIn}
+use Rattle.standby_control.specs.Others.{Fit, OtherIn}
+use Rattle.standby_step.specs.Steps.{roomIn, isFound, foundIn, seenAllowed, dueNow, placeBy, FrameLeaves, holdsAfter, hasHandle, StepIs}
+use Rattle.standby_frame.specs.Taking.{isAnswered, Own, IntactIs, Takes}
+use Rattle.standby_frame.proofs.Frames.{due-other, writes-other}
 
 -- ---- a frame that was read
 

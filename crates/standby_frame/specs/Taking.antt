@@ -6,22 +6,22 @@ use mathlib.Core.List.{List}
 use lib.ListN.{getD}
 use lib.Dec.{eqb, ltb}
 use Rattle.model_frame.specs.Frame.{Frame}
-use Rattle.row.specs.declared.Seen.{Seen}
-use Rattle.areas.specs.Areas.{Rules, placesOf}
-use Rattle.pending.specs.Pending.{pendingOf}
-use Rattle.model.specs.Answer.{protocolVersion, intact, given, handleIn}
-use Rattle.model.specs.State.{onFrameHeld}
-use Rattle.model.specs.Standby.{due}
-use Rattle.model.specs.Hold.{writesFrame}
-use Rattle.model.specs.Core.{coreRun, coreIntact}
-use Rattle.on_batch.specs.State.{coreAt}
-use Rattle.outcome.specs.declared.Replica.{Replica}
-use Rattle.outcome.specs.declared.Settings.{Settings}
-use Rattle.outcome.specs.declared.Answer.{Answer}
-use Rattle.outcome.specs.declared.Outcome.{Outcome}
-use Rattle.outcome.specs.Outcomes.{countersOf, settingsOf, outcomeOf, Lands}
-use Rattle.greet.specs.Greeting.{isQuiet}
-use Rattle.steps.specs.Steps.{roomIn, isFound, foundIn, placeBy, FrameLeaves, holdsAfter, hasHandle, Stepped}
+use Rattle.standby_row.specs.declared.Seen.{Seen}
+use Rattle.store_areas.specs.Areas.{Rules, placesOf}
+use Rattle.standby_pending.specs.Pending.{pendingOf}
+use Rattle.model_standby.specs.Answer.{protocolVersion, intact, given, handleIn}
+use Rattle.model_standby.specs.State.{onFrameHeld}
+use Rattle.model_standby.specs.Standby.{due}
+use Rattle.model_standby.specs.Hold.{writesFrame}
+use Rattle.model_standby.specs.Core.{coreRun, coreIntact}
+use Rattle.standby_part.specs.State.{coreAt}
+use Rattle.standby_state.specs.declared.Replica.{Replica}
+use Rattle.standby_state.specs.declared.Settings.{Settings}
+use Rattle.standby_state.specs.declared.Answer.{Answer}
+use Rattle.standby_state.specs.declared.Outcome.{Outcome}
+use Rattle.standby_state.specs.Outcomes.{countersOf, settingsOf, outcomeOf, Lands}
+use Rattle.standby_hello.specs.Greeting.{isQuiet}
+use Rattle.standby_step.specs.Steps.{roomIn, isFound, foundIn, placeBy, FrameLeaves, holdsAfter, hasHandle, Stepped}
 
 -- a frame is answered, a Nack too
 abbrev pub isAnswered : Answer → Bool

@@ -4,25 +4,25 @@ ghost use mathlib.Core.Path.{_≡_};
 ghost use mathlib.Core.Bool.{true};
 ghost use Rattle.model_frame.specs.Frame.{number};
 ghost use Rattle.model_frame.specs.Writing.{Writable};
-ghost use Rattle.scan.specs.Answers.{faultOf};
+ghost use Rattle.frame_reader.specs.Answers.{faultOf};
 ghost use Rattle.frame.specs.Answers.{frameOf};
-ghost use Rattle.areas.specs.Areas.{Rules};
-ghost use Rattle.model.specs.Answer.{isReply};
-ghost use Rattle.model.specs.State.{onFrameHeld, onFrame};
-ghost use Rattle.outcome.specs.Answers.{answerOf};
-ghost use Rattle.due_batch.specs.DueBatch.{Holds};
-ghost use Rattle.steps.specs.Steps.{isFound, StepIs};
-ghost use Rattle.standby.specs.Taking.{isAnswered, IntactIs, Takes};
+ghost use Rattle.store_areas.specs.Areas.{Rules};
+ghost use Rattle.model_standby.specs.Answer.{isReply};
+ghost use Rattle.model_standby.specs.State.{onFrameHeld, onFrame};
+ghost use Rattle.standby_state.specs.Answers.{answerOf};
+ghost use Rattle.standby_batch_due.specs.DueBatch.{Holds};
+ghost use Rattle.standby_step.specs.Steps.{isFound, StepIs};
+ghost use Rattle.standby_frame.specs.Taking.{isAnswered, IntactIs, Takes};
 use frame::Decoded;
 use frame::Frame;
-use outcome::Answer;
-use outcome::Outcome;
-use outcome::Replica;
-use outcome::Settings;
-use row::Seen;
-use scan::FrameError;
-use scan::Value;
-use stamp::Protocol;
+use frame_reader::FrameError;
+use frame_reader::Value;
+use frame_stamp::Protocol;
+use standby_row::Seen;
+use standby_state::Answer;
+use standby_state::Outcome;
+use standby_state::Replica;
+use standby_state::Settings;
 
 // The number of a reader's refusal.
 fn number(e: FrameError) -> u8
@@ -58,8 +58,8 @@ fn intact(
     ensures { λ r. ⌜ IntactIs s c seen (frameOf 1 (now (frame .entry)) f) (now (words .entry)) (now (words .exit)) (now (bytes .entry)) (now (bytes .exit)) (now (holds .entry)) (now (holds .exit)) r ⌝ }
 {
     match f {
-        Frame::Batch(b) => due_batch::batch_in(words, bytes, holds, frame, c, s, seen, b),
-        _ => others::other_in(words, bytes, frame, c, s, seen, f),
+        Frame::Batch(b) => standby_batch_due::batch_in(words, bytes, holds, frame, c, s, seen, b),
+        _ => standby_control::other_in(words, bytes, frame, c, s, seen, f),
     }
 }
 
@@ -78,14 +78,14 @@ fn taken(
     ensures { λ r. ⌜ Takes s c seen (now (frame .entry)) (now (words .entry)) (now (words .exit)) (now (bytes .entry)) (now (bytes .exit)) (now (holds .entry)) (now (holds .exit)) r ⌝ }
 {
     match Frame::decode(Protocol { version: 1 }, frame) {
-        Decoded::Bad(e) => outcome::leaves(c, seen, outcome::refused(number(e))),
-        Decoded::More => outcome::leaves(c, seen, outcome::refused(26)),
+        Decoded::Bad(e) => standby_state::leaves(c, seen, standby_state::refused(number(e))),
+        Decoded::More => standby_state::leaves(c, seen, standby_state::refused(26)),
         Decoded::Whole(f, n) => {
             if n != frame.len() {
-                return outcome::leaves(c, seen, outcome::refused(26));
+                return standby_state::leaves(c, seen, standby_state::refused(26));
             }
             if c.promoted {
-                return outcome::leaves(c, seen, outcome::refused(10));
+                return standby_state::leaves(c, seen, standby_state::refused(10));
             }
             intact(words, bytes, holds, frame, c, s, seen, f)
         }
@@ -105,8 +105,8 @@ pub fn frame_held(
     ensures { λ r. ⌜ StepIs s c seen (onFrameHeld (now (frame .entry))) (now (words .entry)) (now (words .exit)) (now (bytes .entry)) (now (bytes .exit)) (now (holds .entry)) (now (holds .exit)) r ⌝ }
 {
     let shape = s.shape;
-    if !sound::sound(words, bytes, holds, shape, seen) {
-        return outcome::leaves(c, seen, outcome::refused(25));
+    if !standby_rules::sound(words, bytes, holds, shape, seen) {
+        return standby_state::leaves(c, seen, standby_state::refused(25));
     }
     taken(words, bytes, holds, frame, c, s, seen)
 }
@@ -131,12 +131,12 @@ pub fn frame_now(
     ensures { λ r. ⌜ StepIs s c seen (onFrame (now (frame .entry))) (now (words .entry)) (now (words .exit)) (now (bytes .entry)) (now (bytes .exit)) (now (holds .entry)) (now (holds .exit)) r ⌝ }
 {
     let shape = s.shape;
-    if !sound::sound(words, bytes, holds, shape, seen) {
-        return outcome::leaves(c, seen, outcome::refused(25));
+    if !standby_rules::sound(words, bytes, holds, shape, seen) {
+        return standby_state::leaves(c, seen, standby_state::refused(25));
     }
     let o = taken(words, bytes, holds, frame, c, s, seen);
     let a = o.answer;
     let answered = is_answered(a);
-    commits::run_if(words, bytes, shape, answered);
+    standby_pending_run::run_if(words, bytes, shape, answered);
     o
 }

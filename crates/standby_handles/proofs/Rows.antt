@@ -10,13 +10,13 @@ use lib.ListN.{length, getD, set, take, drop}
 use lib.Seq.{drop-drop, take-take}
 use lib.Dec.{eqb}
 use borrow.Author.Tests.{eqb-true, eqb-false, eq-eqb, ne-eqb}
-use Rattle.laws.proofs.Lists.{drop-take}
-use Rattle.row.specs.declared.Handle.{Handle}
-use Rattle.row.specs.Row.{isOf, isFree, next, findOf, freeOf, clearedAll}
-use Rattle.row.specs.Row as handles
-use Rattle.model.specs.Row.{Row, isSome, freed, hasFree, find, replace, fill, put}
-use Rattle.model.specs.State.{Bound}
-use Rattle.bindings.specs.Rows.{entryOf, rowOf, partAt}
+use Rattle.base_laws.proofs.Lists.{drop-take}
+use Rattle.standby_row.specs.declared.Handle.{Handle}
+use Rattle.standby_row.specs.Row.{isOf, isFree, next, findOf, freeOf, clearedAll}
+use Rattle.standby_row.specs.Row as handles
+use Rattle.model_standby.specs.Row.{Row, isSome, freed, hasFree, find, replace, fill, put}
+use Rattle.model_standby.specs.State.{Bound}
+use Rattle.standby_handles.specs.Rows.{entryOf, rowOf, partAt}
 
 eqb-comm : (a b : ℕ) → eqb a b ≡ eqb b a
 eqb-comm a b = go (eqb a b) refl

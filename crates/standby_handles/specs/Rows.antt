@@ -4,9 +4,9 @@ use mathlib.Core.Bool.{cond}
 use mathlib.Core.List.{List, [], _∷_}
 use mathlib.Core.Option.{Option, none, some}
 use lib.ListN.{take, drop}
-use Rattle.row.specs.declared.Handle.{Handle}
-use Rattle.model.specs.Row.{Row}
-use Rattle.model.specs.State.{Bound}
+use Rattle.standby_row.specs.declared.Handle.{Handle}
+use Rattle.model_standby.specs.Row.{Row}
+use Rattle.model_standby.specs.State.{Bound}
 
 module _ (boundOf : Handle → List ℕ → Bound) (room : ℕ) where
   -- a record, with its hold area

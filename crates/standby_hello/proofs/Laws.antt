@@ -9,19 +9,19 @@ use Rattle.model_frame.specs.Frame.{welcome, nack, ack, staleEpoch, restarted}
 use Rattle.model_frame.specs.Parse.{isEmpty}
 use Rattle.frame.specs.declared.Epoch.{Epoch}
 use Rattle.frame.specs.declared.Incarnation.{Incarnation}
-use Rattle.row.specs.declared.Seen.{Seen}
-use Rattle.model.specs.Answer.{reply}
-use Rattle.model.specs.Store.{Place}
-use Rattle.model.specs.State.{connected, checkedAt}
-use Rattle.model.specs.State as state
-use Rattle.model.specs.Core.{Core, CoreResult, leave, clear, coreSays, coreRefuse, counting, coreUnbound, coreHello, coreChecked}
-use Rattle.outcome.specs.declared.Replica.{Replica}
-use Rattle.outcome.specs.declared.Settings.{Settings}
-use Rattle.outcome.specs.declared.Answer.{Answer}
-use Rattle.outcome.specs.declared.Outcome.{Outcome}
-use Rattle.outcome.specs.Answers.{answerOf, isRefused, isWelcome, isNack, isAck}
-use Rattle.outcome.specs.Outcomes.{countersOf, settingsOf, leaving, clearing, Lands}
-use Rattle.greet.specs.Greeting.{connectedTo, checkedTo, isQuiet, Replies}
+use Rattle.standby_row.specs.declared.Seen.{Seen}
+use Rattle.model_standby.specs.Answer.{reply}
+use Rattle.model_standby.specs.Store.{Place}
+use Rattle.model_standby.specs.State.{connected, checkedAt}
+use Rattle.model_standby.specs.State as state
+use Rattle.model_standby.specs.Core.{Core, CoreResult, leave, clear, coreSays, coreRefuse, counting, coreUnbound, coreHello, coreChecked}
+use Rattle.standby_state.specs.declared.Replica.{Replica}
+use Rattle.standby_state.specs.declared.Settings.{Settings}
+use Rattle.standby_state.specs.declared.Answer.{Answer}
+use Rattle.standby_state.specs.declared.Outcome.{Outcome}
+use Rattle.standby_state.specs.Answers.{answerOf, isRefused, isWelcome, isNack, isAck}
+use Rattle.standby_state.specs.Outcomes.{countersOf, settingsOf, leaving, clearing, Lands}
+use Rattle.standby_hello.specs.Greeting.{connectedTo, checkedTo, isQuiet, Replies}
 
 no : {A : Type 0} → false ≡ true → A
 no e = absurd (true≢false (sym e))

@@ -7,16 +7,16 @@ use lib.Dec.{eqb}
 use Rattle.model_frame.specs.Parse.{isEmpty}
 use Rattle.model_session.specs.Session.{top}
 use Rattle.frame.specs.declared.Epoch.{Epoch}
-use Rattle.row.specs.declared.Seen.{Seen}
-use Rattle.model.specs.Store.{Place}
-use Rattle.model.specs.State as state
-use Rattle.model.specs.Core.{Core, CoreResult, coreHello, coreChecked}
-use Rattle.outcome.specs.declared.Replica.{Replica}
-use Rattle.outcome.specs.declared.Settings.{Settings}
-use Rattle.outcome.specs.declared.Answer.{Answer}
-use Rattle.outcome.specs.declared.Outcome.{Outcome}
-use Rattle.outcome.specs.Answers.{answerOf}
-use Rattle.outcome.specs.Outcomes.{countersOf, settingsOf, actionOf, Lands}
+use Rattle.standby_row.specs.declared.Seen.{Seen}
+use Rattle.model_standby.specs.Store.{Place}
+use Rattle.model_standby.specs.State as state
+use Rattle.model_standby.specs.Core.{Core, CoreResult, coreHello, coreChecked}
+use Rattle.standby_state.specs.declared.Replica.{Replica}
+use Rattle.standby_state.specs.declared.Settings.{Settings}
+use Rattle.standby_state.specs.declared.Answer.{Answer}
+use Rattle.standby_state.specs.declared.Outcome.{Outcome}
+use Rattle.standby_state.specs.Answers.{answerOf}
+use Rattle.standby_state.specs.Outcomes.{countersOf, settingsOf, actionOf, Lands}
 
 abbrev pub connectedTo : Replica → Epoch → Replica
 connectedTo c e = record { epoch = e; connections = min (suc (c .connections)) top; promoted = c .promoted; checked = c .checked }

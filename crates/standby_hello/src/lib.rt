@@ -1,15 +1,15 @@
 // Hello and Checked, which need no more than the counters (standby.rs, on_hello and on_checked).
 ghost use mathlib.Core.Path.{_≡_};
 ghost use Prim.Native.Nat.{ℕ, max};
-ghost use Rattle.greet.specs.Greeting.{HelloIs, CheckedIs, connectedTo, checkedTo};
+ghost use Rattle.standby_hello.specs.Greeting.{HelloIs, CheckedIs, connectedTo, checkedTo};
 use frame::CommitNumber;
 use frame::Epoch;
 use frame::Frame;
 use frame::Incarnation;
-use outcome::Outcome;
-use outcome::Replica;
-use outcome::Settings;
-use row::Seen;
+use standby_row::Seen;
+use standby_state::Outcome;
+use standby_state::Replica;
+use standby_state::Settings;
 
 // This run of the standby: 0 is taken as 1.
 pub fn incarnation(s: Settings) -> Incarnation
@@ -55,19 +55,19 @@ pub fn hello(
     ensures { λ r. ⌜ HelloIs c s seen version (epoch .0) «no_kinds» r ⌝ }
 {
     if version != Frame::VERSION {
-        return outcome::leaves(c, seen, outcome::refused(11));
+        return standby_state::leaves(c, seen, standby_state::refused(11));
     }
     if !no_kinds {
-        return outcome::leaves(c, seen, outcome::refused(12));
+        return standby_state::leaves(c, seen, standby_state::refused(12));
     }
     let own = c.epoch;
     if epoch.0 < own.0 {
-        return outcome::leaves(c, seen, outcome::welcome(own, incarnation(s)));
+        return standby_state::leaves(c, seen, standby_state::welcome(own, incarnation(s)));
     }
-    outcome::clears(
+    standby_state::clears(
         connected(c, epoch),
         seen,
-        outcome::welcome(epoch, incarnation(s)),
+        standby_state::welcome(epoch, incarnation(s)),
     )
 }
 
@@ -84,14 +84,14 @@ pub fn checked(
 {
     let own = c.epoch;
     if epoch.0 < own.0 {
-        return outcome::leaves(c, seen, outcome::nack(handle, 1));
+        return standby_state::leaves(c, seen, standby_state::nack(handle, 1));
     }
     if run.0 != incarnation(s).0 {
-        return outcome::leaves(c, seen, outcome::nack(handle, 4));
+        return standby_state::leaves(c, seen, standby_state::nack(handle, 4));
     }
-    outcome::leaves(
+    standby_state::leaves(
         checked_at(c, epoch),
         seen,
-        outcome::ack(handle, CommitNumber(0)),
+        standby_state::ack(handle, CommitNumber(0)),
     )
 }

@@ -13,12 +13,12 @@ use Rattle.model_frame.specs.Frame.{Change, setIncoming, setIncomingInFlight, s
 use Rattle.model_frame.specs.Parse.{isEmpty}
 use Rattle.model_frame.specs.Writing.{sizeOf, sizes}
 use Rattle.model_session.specs.Session.{messageBytes, top}
-use Rattle.model.specs.Standby.{maxWhole, startsWithReset}
-use Rattle.op.specs.Answers.{heldRun}
+use Rattle.model_standby.specs.Standby.{maxWhole, startsWithReset}
+use Rattle.frame_op.specs.Answers.{heldRun}
 use Rattle.model_frame.proofs.Le.{are-bytes, bytes-take}
-use Rattle.hold.specs.Held.{TakesAll}
-use Rattle.hold.proofs.Held.{held-sizes}
-use Rattle.holding.specs.Holding.{sumOf, refusalOf, Holds}
+use Rattle.standby_changes.specs.Held.{TakesAll}
+use Rattle.standby_changes.proofs.Held.{held-sizes}
+use Rattle.standby_hold.specs.Holding.{sumOf, refusalOf, Holds}
 
 positive : (c : Change) → 0 < sizeOf c
 positive (setIncoming n) = omega arith

@@ -10,9 +10,9 @@ use Rattle.model_frame.specs.Frame.{Change}
 use Rattle.model_frame.specs.Parse.{isEmpty}
 use Rattle.model_frame.specs.Writing.{sizes}
 use Rattle.model_session.specs.Session.{messageBytes, top}
-use Rattle.model.specs.Standby.{maxWhole, startsWithReset}
-use Rattle.op.specs.Answers.{heldRun}
-use Rattle.holding.specs.declared.Held.{Held}
+use Rattle.model_standby.specs.Standby.{maxWhole, startsWithReset}
+use Rattle.frame_op.specs.Answers.{heldRun}
+use Rattle.standby_hold.specs.declared.Held.{Held}
 
 -- the byte sum with these changes: with nothing held it counts from 0, and it stops at 2^64 - 1
 abbrev pub sumOf : List Change → ℕ → List Change → ℕ

@@ -4,11 +4,11 @@ ghost use mathlib.Core.Bool.{cond, not, _&&_};
 ghost use Prim.Native.Nat.{_+_, _≤_, min};
 ghost use lib.ListN.{length};
 ghost use lib.Dec.{eqb};
-ghost use Rattle.model.specs.Standby.{startsWithReset};
-ghost use Rattle.op.specs.Answers.{heldRun};
-ghost use Rattle.hold.specs.Held.{TakesAll};
-ghost use Rattle.holding.specs.Holding.{Holds};
-use stamp::Protocol;
+ghost use Rattle.model_standby.specs.Standby.{startsWithReset};
+ghost use Rattle.frame_op.specs.Answers.{heldRun};
+ghost use Rattle.standby_changes.specs.Held.{TakesAll};
+ghost use Rattle.standby_hold.specs.Holding.{Holds};
+use frame_stamp::Protocol;
 
 // The most message bytes that are held of a session.
 pub const MAX_WHOLE_SESSION_BYTES: u64 = 4_294_967_296;
@@ -43,7 +43,7 @@ fn raised(sum: u64, more: u64) -> u64
 fn lacks_reset(p: Protocol, run: &[u8], used: usize) -> bool
     ensures { λ r. ⌜ r ≡ (eqb used 0 && not (startsWithReset (heldRun (p .version) (now (run .entry))))) ⌝ }
 {
-    (used == 0) & !hold::starts_with_reset(p, run)
+    (used == 0) & !standby_changes::starts_with_reset(p, run)
 }
 
 // Writes a run of changes after those held in the first `len` bytes of the area, whose messages' byte sum is given.
@@ -52,8 +52,8 @@ pub fn hold(p: Protocol, run: &[u8], area: &mut [u8], len: usize, sum: u64) -> H
     requires { ⌜ TakesAll (p .version) (now run) ⌝ }
     ensures { λ r. ⌜ Holds (p .version) (now (run .entry)) (now (area .entry)) len sum (now (area .exit)) r ⌝ }
 {
-    let used = hold::run_length(p, &area[0..len]);
-    let sum = raised(counted(used, sum), hold::message_bytes(p, run));
+    let used = standby_changes::run_length(p, &area[0..len]);
+    let sum = raised(counted(used, sum), standby_changes::message_bytes(p, run));
     let end = used + run.len();
     if lacks_reset(p, run, used) {
         return Held {
@@ -76,7 +76,7 @@ pub fn hold(p: Protocol, run: &[u8], area: &mut [u8], len: usize, sum: u64) -> H
             sum,
         };
     }
-    hold::hold_run(area, used, run);
+    standby_changes::hold_run(area, used, run);
     Held {
         refusal: 0,
         used: end,

@@ -7,30 +7,30 @@ use native.Mathlib.Omega.{arith}
 use lib.ListN.{length, getD, set, length-set}
 use lib.Dec.{eqb, ltb}
 use borrow.Author.Tests.{eq-eqb, ne-eqb}
-use Rattle.row.specs.declared.Seen.{Seen}
-use Rattle.areas.specs.declared.Shape.{Shape}
-use Rattle.areas.specs.Areas.{wordsAt, bytesAt, allowed, Rules}
-use Rattle.areas.proofs.Ruling.{rules-of}
-use Rattle.place.specs.Only.{Only}
-use Rattle.pending.proofs.Laws.{cleared}
-use Rattle.settling.proofs.Header.{pending-kept}
-use Rattle.commits.specs.Commits.{Ran}
-use Rattle.commits.proofs.Head.{word-same, used-kept, places-kept, rules-front, clear-only, clear-rules}
-use Rattle.sessions.specs.Answers.{TakenOver}
-use Rattle.model.specs.Answer.{done}
-use Rattle.model.specs.Store.{onPlaces, takenOver}
-use Rattle.model.specs.State.{Call, flush, disconnectedFrom, promote, promoteUnchecked}
-use Rattle.model.specs.Core.{Core, CoreResult, leave, clear, coreRefuse, coreDone, coreRun, coreUnbound, corePromotion, coreStep}
-use Rattle.on_batch.specs.State.{coreAt}
-use Rattle.outcome.specs.declared.Replica.{Replica}
-use Rattle.outcome.specs.declared.Settings.{Settings}
-use Rattle.outcome.specs.declared.Answer.{Answer}
-use Rattle.outcome.specs.declared.Outcome.{Outcome}
-use Rattle.outcome.specs.Answers.{isRefused, isDone}
-use Rattle.outcome.specs.Outcomes.{countersOf, settingsOf, leaving, clearing}
-use Rattle.greet.proofs.Laws.{leaving-lands, clearing-lands}
-use Rattle.steps.specs.Steps.{roomIn, foundIn, seenAllowed, Stepped, StepIs}
-use Rattle.calls.specs.Calls.{promotedFrom, Promoted}
+use Rattle.standby_row.specs.declared.Seen.{Seen}
+use Rattle.store_areas.specs.declared.Shape.{Shape}
+use Rattle.store_areas.specs.Areas.{wordsAt, bytesAt, allowed, Rules}
+use Rattle.store_areas.proofs.Ruling.{rules-of}
+use Rattle.store_place.specs.Only.{Only}
+use Rattle.standby_pending.proofs.Laws.{cleared}
+use Rattle.standby_commit.proofs.Header.{pending-kept}
+use Rattle.standby_pending_run.specs.Commits.{Ran}
+use Rattle.standby_pending_run.proofs.Head.{word-same, used-kept, places-kept, rules-front, clear-only, clear-rules}
+use Rattle.store_sessions.specs.Answers.{TakenOver}
+use Rattle.model_standby.specs.Answer.{done}
+use Rattle.model_standby.specs.Store.{onPlaces, takenOver}
+use Rattle.model_standby.specs.State.{Call, flush, disconnectedFrom, promote, promoteUnchecked}
+use Rattle.model_standby.specs.Core.{Core, CoreResult, leave, clear, coreRefuse, coreDone, coreRun, coreUnbound, corePromotion, coreStep}
+use Rattle.standby_part.specs.State.{coreAt}
+use Rattle.standby_state.specs.declared.Replica.{Replica}
+use Rattle.standby_state.specs.declared.Settings.{Settings}
+use Rattle.standby_state.specs.declared.Answer.{Answer}
+use Rattle.standby_state.specs.declared.Outcome.{Outcome}
+use Rattle.standby_state.specs.Answers.{isRefused, isDone}
+use Rattle.standby_state.specs.Outcomes.{countersOf, settingsOf, leaving, clearing}
+use Rattle.standby_hello.proofs.Laws.{leaving-lands, clearing-lands}
+use Rattle.standby_step.specs.Steps.{roomIn, foundIn, seenAllowed, Stepped, StepIs}
+use Rattle.standby_lifecycle.specs.Calls.{promotedFrom, Promoted}
 
 -- ---- forgetting the pending commits, if asked
 

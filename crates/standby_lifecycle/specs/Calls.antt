@@ -4,16 +4,16 @@ use mathlib.Core.Path.{_≡_}
 use mathlib.Core.Bool.{true}
 use mathlib.Core.List.{List, []}
 use lib.ListN.{getD, set}
-use Rattle.row.specs.declared.Seen.{Seen}
-use Rattle.place.specs.Only.{Only}
-use Rattle.areas.specs.Areas.{wordsAt, bytesAt, Rules, placesOf}
-use Rattle.pending.specs.Pending.{pendingOf}
-use Rattle.model.specs.Store.{onPlaces, takenOver}
-use Rattle.outcome.specs.declared.Replica.{Replica}
-use Rattle.outcome.specs.declared.Settings.{Settings}
-use Rattle.outcome.specs.declared.Outcome.{Outcome}
-use Rattle.outcome.specs.Answers.{isDone}
-use Rattle.outcome.specs.Outcomes.{clearing}
+use Rattle.standby_row.specs.declared.Seen.{Seen}
+use Rattle.store_place.specs.Only.{Only}
+use Rattle.store_areas.specs.Areas.{wordsAt, bytesAt, Rules, placesOf}
+use Rattle.standby_pending.specs.Pending.{pendingOf}
+use Rattle.model_standby.specs.Store.{onPlaces, takenOver}
+use Rattle.standby_state.specs.declared.Replica.{Replica}
+use Rattle.standby_state.specs.declared.Settings.{Settings}
+use Rattle.standby_state.specs.declared.Outcome.{Outcome}
+use Rattle.standby_state.specs.Answers.{isDone}
+use Rattle.standby_state.specs.Outcomes.{clearing}
 
 abbrev pub promotedFrom : Replica → Replica
 promotedFrom c = record { epoch = c .epoch; connections = c .connections; promoted = true; checked = c .checked }

@@ -4,15 +4,15 @@ ghost use mathlib.Core.Bool.{cond};
 ghost use mathlib.Core.List.{[]};
 ghost use Prim.Native.Nat.{_≤_};
 ghost use lib.ListN.{length, set};
-ghost use Rattle.areas.specs.Areas.{Rules};
-ghost use Rattle.pending.specs.Pending.{pendingOf};
-ghost use Rattle.model.specs.State.{flush, disconnectedFrom, promote, promoteUnchecked};
-ghost use Rattle.steps.specs.Steps.{StepIs};
-ghost use Rattle.calls.specs.Calls.{promotedFrom, Promoted};
-use outcome::Outcome;
-use outcome::Replica;
-use outcome::Settings;
-use row::Seen;
+ghost use Rattle.store_areas.specs.Areas.{Rules};
+ghost use Rattle.standby_pending.specs.Pending.{pendingOf};
+ghost use Rattle.model_standby.specs.State.{flush, disconnectedFrom, promote, promoteUnchecked};
+ghost use Rattle.standby_step.specs.Steps.{StepIs};
+ghost use Rattle.standby_lifecycle.specs.Calls.{promotedFrom, Promoted};
+use standby_row::Seen;
+use standby_state::Outcome;
+use standby_state::Replica;
+use standby_state::Settings;
 
 // Forgets the pending commits, if asked.
 fn forget(words: &mut [u64], asked: bool)
@@ -20,7 +20,7 @@ fn forget(words: &mut [u64], asked: bool)
     ensures { λ _. ⌜ now (words .exit) ≡ cond asked (set (now (words .entry)) 1 0) (now (words .entry)) ⌝ }
 {
     if asked {
-        pending::clear(words);
+        standby_pending::clear(words);
     }
 }
 
@@ -39,8 +39,8 @@ fn promotion(c: Replica, seen: Seen, words: &mut [u64], bytes: &mut [u8], s: Set
     ensures { λ r. ⌜ Promoted s c seen (now (words .entry)) (now (words .exit)) (now (bytes .entry)) (now (bytes .exit)) r ⌝ }
 {
     forget(words, true);
-    sessions::take_over_all(words, bytes, s.shape, s.lag);
-    outcome::clears(promoted_from(c), seen, outcome::done())
+    store_sessions::take_over_all(words, bytes, s.shape, s.lag);
+    standby_state::clears(promoted_from(c), seen, standby_state::done())
 }
 
 // Runs the pending commits of the connection: 22 if it is not the newest one, or after promotion.
@@ -55,17 +55,17 @@ pub fn flush(
 ) -> Outcome
     ensures { λ r. ⌜ StepIs s c seen (flush connection) (now (words .entry)) (now (words .exit)) (now (bytes .entry)) (now (bytes .exit)) (now (holds .entry)) (now (holds .exit)) r ⌝ }
 {
-    if !sound::sound(words, bytes, holds, s.shape, seen) {
-        return outcome::leaves(c, seen, outcome::refused(25));
+    if !standby_rules::sound(words, bytes, holds, s.shape, seen) {
+        return standby_state::leaves(c, seen, standby_state::refused(25));
     }
     if connection != c.connections {
-        return outcome::leaves(c, seen, outcome::refused(22));
+        return standby_state::leaves(c, seen, standby_state::refused(22));
     }
     if c.promoted {
-        return outcome::leaves(c, seen, outcome::refused(22));
+        return standby_state::leaves(c, seen, standby_state::refused(22));
     }
-    commits::run(words, bytes, s.shape);
-    outcome::leaves(c, seen, outcome::done())
+    standby_pending_run::run(words, bytes, s.shape);
+    standby_state::leaves(c, seen, standby_state::done())
 }
 
 // The newest connection is lost: its handles are freed and its pending commits forgotten. Another one changes nothing.
@@ -80,15 +80,15 @@ pub fn disconnected_from(
 ) -> Outcome
     ensures { λ r. ⌜ StepIs s c seen (disconnectedFrom connection) (now (words .entry)) (now (words .exit)) (now (bytes .entry)) (now (bytes .exit)) (now (holds .entry)) (now (holds .exit)) r ⌝ }
 {
-    if !sound::sound(words, bytes, holds, s.shape, seen) {
-        return outcome::leaves(c, seen, outcome::refused(25));
+    if !standby_rules::sound(words, bytes, holds, s.shape, seen) {
+        return standby_state::leaves(c, seen, standby_state::refused(25));
     }
     let own = connection == c.connections;
     forget(words, own);
     if own {
-        return outcome::clears(c, seen, outcome::done());
+        return standby_state::clears(c, seen, standby_state::done());
     }
-    outcome::leaves(c, seen, outcome::done())
+    standby_state::leaves(c, seen, standby_state::done())
 }
 
 // Promotes the standby: 23 if no Checked came for it.
@@ -102,13 +102,13 @@ pub fn promote(
 ) -> Outcome
     ensures { λ r. ⌜ StepIs s c seen promote (now (words .entry)) (now (words .exit)) (now (bytes .entry)) (now (bytes .exit)) (now (holds .entry)) (now (holds .exit)) r ⌝ }
 {
-    if !sound::sound(words, bytes, holds, s.shape, seen) {
-        return outcome::leaves(c, seen, outcome::refused(25));
+    if !standby_rules::sound(words, bytes, holds, s.shape, seen) {
+        return standby_state::leaves(c, seen, standby_state::refused(25));
     }
     if c.checked {
         return promotion(c, seen, words, bytes, s);
     }
-    outcome::leaves(c, seen, outcome::refused(23))
+    standby_state::leaves(c, seen, standby_state::refused(23))
 }
 
 // Promotes the standby without that.
@@ -122,8 +122,8 @@ pub fn promote_unchecked(
 ) -> Outcome
     ensures { λ r. ⌜ StepIs s c seen promoteUnchecked (now (words .entry)) (now (words .exit)) (now (bytes .entry)) (now (bytes .exit)) (now (holds .entry)) (now (holds .exit)) r ⌝ }
 {
-    if !sound::sound(words, bytes, holds, s.shape, seen) {
-        return outcome::leaves(c, seen, outcome::refused(25));
+    if !standby_rules::sound(words, bytes, holds, s.shape, seen) {
+        return standby_state::leaves(c, seen, standby_state::refused(25));
     }
     promotion(c, seen, words, bytes, s)
 }

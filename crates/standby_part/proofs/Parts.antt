@@ -10,22 +10,22 @@ use Rattle.model_frame.specs.Frame.{Change, commit, diverged, ack, nack}
 use Rattle.model_frame.specs.Parse.{isEmpty}
 use Rattle.model_frame.specs.Writing.{sizes}
 use Rattle.model_session.specs.Session.{fits}
-use Rattle.op.specs.Answers.{heldRun}
+use Rattle.frame_op.specs.Answers.{heldRun}
 use Rattle.frame.specs.declared.CommitNumber.{CommitNumber}
-use Rattle.row.specs.declared.Handle.{Handle}
-use Rattle.areas.specs.declared.Shape.{Shape}
-use Rattle.areas.specs.Areas.{Rules, placeAt, placesOf}
-use Rattle.areas.proofs.Lifting.{session-is}
-use Rattle.pending.specs.Pending.{pendingOf}
-use Rattle.settling.specs.Settling.{Settles}
-use Rattle.settling.proofs.Laws.{touched-none}
-use Rattle.holding.proofs.Laws.{empty-size}
-use Rattle.model.specs.Store.{onPlace, changed, sessionAt, orNew}
-use Rattle.model.specs.Answer.{reply}
-use Rattle.model.specs.State.{Settings, Counters, Bound, numbered}
-use Rattle.model.specs.Core.{leave, store, CoreResult, coreSays, coreRefuse, coreSettle, corePart}
-use Rattle.on_batch.specs.State.{boundOf, coreAt, settingsFor, numberedTo}
-use Rattle.on_batch.specs.Part.{PartIs}
+use Rattle.standby_row.specs.declared.Handle.{Handle}
+use Rattle.store_areas.specs.declared.Shape.{Shape}
+use Rattle.store_areas.specs.Areas.{Rules, placeAt, placesOf}
+use Rattle.store_areas.proofs.Lifting.{session-is}
+use Rattle.standby_pending.specs.Pending.{pendingOf}
+use Rattle.standby_commit.specs.Settling.{Settles}
+use Rattle.standby_commit.proofs.Laws.{touched-none}
+use Rattle.standby_hold.proofs.Laws.{empty-size}
+use Rattle.model_standby.specs.Store.{onPlace, changed, sessionAt, orNew}
+use Rattle.model_standby.specs.Answer.{reply}
+use Rattle.model_standby.specs.State.{Settings, Counters, Bound, numbered}
+use Rattle.model_standby.specs.Core.{leave, store, CoreResult, coreSays, coreRefuse, coreSettle, corePart}
+use Rattle.standby_part.specs.State.{boundOf, coreAt, settingsFor, numberedTo}
+use Rattle.standby_part.specs.Part.{PartIs}
 
 -- what is left of a Commit or LastWhole once it is settled, as the definition has it
 module _ (s : Shape) (h : ℕ) (cs : List Change) (w w' b b' : List ℕ) (yes : Bool) (x : Bound) (n : ℕ) (used : x .place < getD w 0 0) (g : Settles s (x .place) h cs w w' b b' yes)

@@ -14,24 +14,24 @@ use Rattle.model_frame.specs.Parse.{isEmpty}
 use Rattle.model_frame.specs.Writing.{sizes}
 use Rattle.model_frame.proofs.Runs.{sizes-append}
 use Rattle.model_frame.proofs.Le.{are-bytes}
-use Rattle.op.specs.Answers.{heldRun}
-use Rattle.hold.specs.Held.{TakesAll}
-use Rattle.hold.proofs.Held.{held-written, held-in, held-none}
+use Rattle.frame_op.specs.Answers.{heldRun}
+use Rattle.standby_changes.specs.Held.{TakesAll}
+use Rattle.standby_changes.proofs.Held.{held-written, held-in, held-none}
 use Rattle.frame.specs.declared.CommitNumber.{CommitNumber}
-use Rattle.row.specs.declared.Handle.{Handle}
-use Rattle.areas.specs.declared.Shape.{Shape}
-use Rattle.areas.specs.Areas.{Rules}
-use Rattle.settling.specs.Settling.{Settles}
-use Rattle.settling.proofs.Laws.{touched-none}
-use Rattle.holding.specs.declared.Held.{Held}
-use Rattle.holding.specs.Holding.{sumOf, Holds}
-use Rattle.model.specs.Answer.{reply, refused}
-use Rattle.model.specs.State.{Settings, Counters, noneHeld, numbered}
-use Rattle.model.specs.Standby.{maxWhole, startsWithReset, summed, holding}
-use Rattle.model.specs.Core.{leave, store, Core, CoreResult, coreSays, coreRefuse, coreSettle, coreHold, corePart}
-use Rattle.on_batch.specs.State.{boundOf, coreAt, settingsFor, summedTo, holdingTo}
-use Rattle.on_batch.specs.Part.{PartIs}
-use Rattle.on_batch.proofs.Parts.{settle-is}
+use Rattle.standby_row.specs.declared.Handle.{Handle}
+use Rattle.store_areas.specs.declared.Shape.{Shape}
+use Rattle.store_areas.specs.Areas.{Rules}
+use Rattle.standby_commit.specs.Settling.{Settles}
+use Rattle.standby_commit.proofs.Laws.{touched-none}
+use Rattle.standby_hold.specs.declared.Held.{Held}
+use Rattle.standby_hold.specs.Holding.{sumOf, Holds}
+use Rattle.model_standby.specs.Answer.{reply, refused}
+use Rattle.model_standby.specs.State.{Settings, Counters, noneHeld, numbered}
+use Rattle.model_standby.specs.Standby.{maxWhole, startsWithReset, summed, holding}
+use Rattle.model_standby.specs.Core.{leave, store, Core, CoreResult, coreSays, coreRefuse, coreSettle, coreHold, corePart}
+use Rattle.standby_part.specs.State.{boundOf, coreAt, settingsFor, summedTo, holdingTo}
+use Rattle.standby_part.specs.Part.{PartIs}
+use Rattle.standby_part.proofs.Parts.{settle-is}
 
 -- three tests and the number that they give
 module _ {A : Type 0} (x y z go : A) where

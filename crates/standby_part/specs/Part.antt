@@ -9,16 +9,16 @@ use Rattle.model_frame.specs.Bytes.{write}
 use Rattle.model_frame.specs.Frame.{Change, whole, diverged, ack, nack}
 use Rattle.model_frame.specs.Frame as the-frame
 use Rattle.model_frame.specs.Writing.{sizes}
-use Rattle.op.specs.Answers.{heldRun}
-use Rattle.row.specs.declared.Handle.{Handle}
-use Rattle.areas.specs.declared.Shape.{Shape}
-use Rattle.areas.specs.Areas.{Rules}
-use Rattle.settling.specs.Settling.{Touched}
-use Rattle.model.specs.Answer.{reply, refused}
-use Rattle.model.specs.State.{Counters}
-use Rattle.model.specs.Core.{leave, store, Core, CoreResult, corePart}
-use Rattle.on_batch.specs.declared.Done.{Done}
-use Rattle.on_batch.specs.State.{boundOf, coreAt, settingsFor}
+use Rattle.frame_op.specs.Answers.{heldRun}
+use Rattle.standby_row.specs.declared.Handle.{Handle}
+use Rattle.store_areas.specs.declared.Shape.{Shape}
+use Rattle.store_areas.specs.Areas.{Rules}
+use Rattle.standby_commit.specs.Settling.{Touched}
+use Rattle.model_standby.specs.Answer.{reply, refused}
+use Rattle.model_standby.specs.State.{Counters}
+use Rattle.model_standby.specs.Core.{leave, store, Core, CoreResult, corePart}
+use Rattle.standby_part.specs.declared.Done.{Done}
+use Rattle.standby_part.specs.State.{boundOf, coreAt, settingsFor}
 
 -- the answer and what is to be done to the row, of a Batch with this commit number on a handle, over its hold area
 abbrev pub resultOf : ℕ → ℕ → ℕ → List ℕ → Done → Core → CoreResult

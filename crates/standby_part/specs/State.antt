@@ -3,13 +3,13 @@ use Prim.Native.Nat.{ℕ}
 use mathlib.Core.List.{List}
 use lib.ListN.{take}
 use Rattle.frame.specs.declared.CommitNumber.{CommitNumber}
-use Rattle.row.specs.declared.Handle.{Handle}
-use Rattle.op.specs.Answers.{heldRun}
-use Rattle.areas.specs.declared.Shape.{Shape}
-use Rattle.areas.specs.Areas.{placesOf}
-use Rattle.pending.specs.Pending.{pendingOf}
-use Rattle.model.specs.State.{Settings, Counters, Bound}
-use Rattle.model.specs.Core.{Core}
+use Rattle.standby_row.specs.declared.Handle.{Handle}
+use Rattle.frame_op.specs.Answers.{heldRun}
+use Rattle.store_areas.specs.declared.Shape.{Shape}
+use Rattle.store_areas.specs.Areas.{placesOf}
+use Rattle.standby_pending.specs.Pending.{pendingOf}
+use Rattle.model_standby.specs.State.{Settings, Counters, Bound}
+use Rattle.model_standby.specs.Core.{Core}
 
 -- the changes held are the longest run of valid ones in the first bytes of the hold area
 abbrev pub boundOf : ℕ → Handle → List ℕ → Bound

@@ -3,16 +3,16 @@ ghost use mathlib.Core.Path.{_≡_};
 ghost use Prim.Native.Nat.{_≤_, _<_};
 ghost use lib.ListN.{length, getD};
 ghost use Rattle.model_frame.specs.Frame.{commit, whole, lastWhole};
-ghost use Rattle.op.specs.Answers.{heldRun};
-ghost use Rattle.hold.specs.Held.{TakesAll};
-ghost use Rattle.areas.specs.Areas.{Rules};
-ghost use Rattle.pending.specs.Pending.{countOf};
-ghost use Rattle.on_batch.specs.Part.{PartIs, WholeIs, AreaIs};
-ghost use Rattle.on_batch.specs.State.{numberedTo, summedTo, holdingTo};
-use areas::Shape;
+ghost use Rattle.frame_op.specs.Answers.{heldRun};
+ghost use Rattle.standby_changes.specs.Held.{TakesAll};
+ghost use Rattle.store_areas.specs.Areas.{Rules};
+ghost use Rattle.standby_pending.specs.Pending.{countOf};
+ghost use Rattle.standby_part.specs.Part.{PartIs, WholeIs, AreaIs};
+ghost use Rattle.standby_part.specs.State.{numberedTo, summedTo, holdingTo};
 use frame::CommitNumber;
-use row::Handle;
-use stamp::Protocol;
+use frame_stamp::Protocol;
+use standby_row::Handle;
+use store_areas::Shape;
 
 // 0 or the refusal; whether the handle's record is to be stored, and what it becomes; whether the answer is a Nack.
 #[repr(C)]
@@ -50,7 +50,7 @@ pub fn on_commit(
     ensures { λ r. ⌜ PartIs (p .version) shape h (n .0) commit (heldRun (p .version) (now (run .entry))) (now (words .entry)) (now (words .exit)) (now (bytes .entry)) (now (bytes .exit)) (now (area .entry)) (now (area .entry)) r ⌝ }
 {
     let len = h.held_len;
-    if hold::run_length(p, &area[0..len]) != 0 {
+    if standby_changes::run_length(p, &area[0..len]) != 0 {
         return Done {
             refusal: 15,
             stores: false,
@@ -58,7 +58,7 @@ pub fn on_commit(
             nack: false,
         };
     }
-    if settling::settle(p, run, words, bytes, shape, h.place, h.handle) {
+    if standby_commit::settle(p, run, words, bytes, shape, h.place, h.handle) {
         return Done {
             refusal: 0,
             stores: true,
@@ -101,7 +101,7 @@ pub fn on_whole(p: Protocol, run: &[u8], area: &mut [u8], h: Handle, n: CommitNu
     ensures is { λ r. ⌜ WholeIs (p .version) h (n .0) (heldRun (p .version) (now (run .entry))) (now (area .entry)) (now (area .exit)) r ⌝ }
     ensures area { λ r. ⌜ AreaIs (p .version) h (now (run .entry)) (now (area .entry)) (now (area .exit)) (r .refusal) ⌝ }
 {
-    let g = holding::hold(p, run, area, h.held_len, h.held_bytes);
+    let g = standby_hold::hold(p, run, area, h.held_len, h.held_bytes);
     let refusal = g.refusal;
     if refusal == 17 {
         return Done {
@@ -146,7 +146,7 @@ pub fn on_last_whole(
     ensures is { λ r. ⌜ PartIs (p .version) shape h (n .0) lastWhole (heldRun (p .version) (now (run .entry))) (now (words .entry)) (now (words .exit)) (now (bytes .entry)) (now (bytes .exit)) (now (area .entry)) (now (area .exit)) r ⌝ }
     ensures area { λ r. ⌜ AreaIs (p .version) h (now (run .entry)) (now (area .entry)) (now (area .exit)) (r .refusal) ⌝ }
 {
-    let all = holding::hold(p, run, area, h.held_len, h.held_bytes);
+    let all = standby_hold::hold(p, run, area, h.held_len, h.held_bytes);
     let refusal = all.refusal;
     if refusal == 17 {
         return Done {
@@ -165,7 +165,7 @@ pub fn on_last_whole(
         };
     }
     let used = all.used;
-    if settling::settle(p, &area[0..used], words, bytes, shape, h.place, h.handle) {
+    if standby_commit::settle(p, &area[0..used], words, bytes, shape, h.place, h.handle) {
         return Done {
             refusal,
             stores: true,

@@ -9,8 +9,8 @@ use lib.ListN.{length, getD, set, take, drop, length-drop, length-set, drop-of-l
 use lib.Seq.{drop-cons, getD-drop, getD-take, length-take-le, drop-set-lt, drop-set-add, take-suc-set, getD-set-same}
 use lib.Dec.{eqb}
 use borrow.Author.Tests.{eq-eqb, ne-eqb}
-use Rattle.model.specs.Standby.{pendsOn}
-use Rattle.pending.specs.Pending.{countOf, commitOf, pendingOf}
+use Rattle.model_standby.specs.Standby.{pendsOn}
+use Rattle.standby_pending.specs.Pending.{countOf, commitOf, pendingOf}
 
 -- the words of the pending commits
 abbrev commits : List ℕ → ℕ → List ℕ

@@ -3,8 +3,8 @@ ghost use mathlib.Core.Path.{_≡_};
 ghost use mathlib.Core.List.{[], _∷_, _++_};
 ghost use Prim.Native.Nat.{_+_, _*_, _-_, _≤_, _<_};
 ghost use lib.ListN.{length, getD, set};
-ghost use Rattle.model.specs.Standby.{pendsOn};
-ghost use Rattle.pending.specs.Pending.{countOf, pendingOf};
+ghost use Rattle.model_standby.specs.Standby.{pendsOn};
+ghost use Rattle.standby_pending.specs.Pending.{countOf, pendingOf};
 
 // Whether one of the pending commits is of a handle.
 pub fn pends_on(words: &[u64], handle: u32) -> bool

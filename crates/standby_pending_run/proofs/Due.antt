@@ -9,8 +9,8 @@ use lib.Dec.{leb, eqb}
 use lib.ListN.{length, take, drop, length-drop, length-map}
 use lib.Seq.{length-take-le}
 use Rattle.model_frame.specs.Parse.{isEmpty}
-use Rattle.model.specs.Standby.{pendsOn}
-use Rattle.pending.specs.Pending.{countOf, commitOf, pendingOf}
+use Rattle.model_standby.specs.Standby.{pendsOn}
+use Rattle.standby_pending.specs.Pending.{countOf, commitOf, pendingOf}
 
 -- how many are pending
 pub many-pending : (w : List ℕ) → 66 ≤ length w → countOf w ≤ 64 → length (pendingOf w) ≡ countOf w

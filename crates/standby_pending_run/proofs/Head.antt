@@ -5,12 +5,12 @@ use Prim.Native.Nat.{ℕ, _+_, _≤_, _<_}
 use native.Mathlib.Omega.{arith}
 use lib.ListN.{length, take, getD, set, length-set}
 use lib.Seq.{getD-take, getD-set-same}
-use Rattle.place.specs.Only.{Only}
-use Rattle.place.specs.Place.{placeIn}
-use Rattle.place.proofs.Fields.{only-after, only-set, only-then, only-wider}
-use Rattle.areas.specs.declared.Shape.{Shape}
-use Rattle.areas.specs.Areas.{placeWords, placeBytes, wordsAt, bytesAt, Rules, part, placeAt, countUp, placesOf}
-use Rattle.areas.proofs.Lists.{count-same, word-kept}
+use Rattle.store_place.specs.Only.{Only}
+use Rattle.store_place.specs.Place.{placeIn}
+use Rattle.store_place.proofs.Fields.{only-after, only-set, only-then, only-wider}
+use Rattle.store_areas.specs.declared.Shape.{Shape}
+use Rattle.store_areas.specs.Areas.{placeWords, placeBytes, wordsAt, bytesAt, Rules, part, placeAt, countUp, placesOf}
+use Rattle.store_areas.proofs.Lists.{count-same, word-kept}
 
 -- a word before the first place, where these are the same
 pub word-same : (k : ℕ) (w w' : List ℕ) → take 66 w' ≡ take 66 w → k < 66 → getD w' k 0 ≡ getD w k 0
@@ -54,7 +54,7 @@ module _ (s : Shape) (w w' b : List ℕ) (o : Only 1 66 w w') where
     pending = h;
   }
 
--- ---- one commit more, and none (`pending::push`, `pending::clear`)
+-- ---- one commit more, and none (`standby_pending::push`, `standby_pending::clear`)
 
 -- the words that `push` leaves
 abbrev pub pushedWords : ℕ → ℕ → List ℕ → List ℕ

@@ -9,20 +9,20 @@ use borrow.Author.Tests.{lt-ltb, le-ltb}
 use lib.Dec.{ltb}
 use lib.ListN.{length, take, drop, getD, set, length-set, length-drop}
 use lib.Seq.{length-take-le, take-set-le, take-set-lt, drop-set-add}
-use Rattle.model.specs.Store.{Stored, Place, onPlace, onStored, markDurable, markAll}
-use Rattle.log.proofs.Walk.{cmp}
-use Rattle.place.specs.Only.{Only}
-use Rattle.place.specs.Place.{placeIn}
-use Rattle.place.proofs.Fields.{only-none, only-wider, only-set}
-use Rattle.place.proofs.Changes as changes
-use Rattle.areas.specs.declared.Shape.{Shape}
-use Rattle.areas.specs.Areas.{placeWords, placeBytes, wordsAt, bytesAt, Rules, part, placeAt, placesOf, Changed}
-use Rattle.areas.proofs.Lists.{inside}
-use Rattle.areas.proofs.Lifting.{within, changed-at, places-length}
-use Rattle.pending.specs.Pending.{pendingOf}
-use Rattle.pending.proofs.Laws.{cleared}
-use Rattle.commits.specs.Commits.{durableAt, markedAt, markedWords, ranWords, Ran, RanIf}
-use Rattle.commits.proofs.Head.{word-same, rules-front, used-kept, places-kept, clear-only, clear-rules}
+use Rattle.model_standby.specs.Store.{Stored, Place, onPlace, onStored, markDurable, markAll}
+use Rattle.store_log.proofs.Walk.{cmp}
+use Rattle.store_place.specs.Only.{Only}
+use Rattle.store_place.specs.Place.{placeIn}
+use Rattle.store_place.proofs.Fields.{only-none, only-wider, only-set}
+use Rattle.store_place.proofs.Changes as changes
+use Rattle.store_areas.specs.declared.Shape.{Shape}
+use Rattle.store_areas.specs.Areas.{placeWords, placeBytes, wordsAt, bytesAt, Rules, part, placeAt, placesOf, Changed}
+use Rattle.store_areas.proofs.Lists.{inside}
+use Rattle.store_areas.proofs.Lifting.{within, changed-at, places-length}
+use Rattle.standby_pending.specs.Pending.{pendingOf}
+use Rattle.standby_pending.proofs.Laws.{cleared}
+use Rattle.standby_pending_run.specs.Commits.{durableAt, markedAt, markedWords, ranWords, Ran, RanIf}
+use Rattle.standby_pending_run.proofs.Head.{word-same, rules-front, used-kept, places-kept, clear-only, clear-rules}
 
 -- ---- one session
 

@@ -6,12 +6,12 @@ use native.Mathlib.Omega.{arith}
 use native.Mathlib.Numerals.{add-one}
 use lib.ListN.{length, take, drop, getD, set, length-drop, drop-of-length-le}
 use lib.Seq.{drop-cons, getD-drop, getD-take, length-take-le}
-use Rattle.areas.specs.declared.Shape.{Shape}
-use Rattle.areas.specs.Areas.{placeWords, Rules}
-use Rattle.pending.specs.Pending.{countOf, commitOf, pendingOf}
-use Rattle.commits.specs.Commits.{markedAt, markedWords, ranWords, Ran}
-use Rattle.commits.proofs.Head.{word-same}
-use Rattle.commits.proofs.Marking.{marked-front, marked-length, ran}
+use Rattle.store_areas.specs.declared.Shape.{Shape}
+use Rattle.store_areas.specs.Areas.{placeWords, Rules}
+use Rattle.standby_pending.specs.Pending.{countOf, commitOf, pendingOf}
+use Rattle.standby_pending_run.specs.Commits.{markedAt, markedWords, ranWords, Ran}
+use Rattle.standby_pending_run.proofs.Head.{word-same}
+use Rattle.standby_pending_run.proofs.Marking.{marked-front, marked-length, ran}
 
 module _ (s : Shape) (b w₀ : List ℕ) where
   -- the words of the pending commits, and the commits from the i-th on

@@ -5,10 +5,10 @@ use mathlib.Core.List.{List, [], _∷_}
 use Prim.Native.Nat.{ℕ, _+_}
 use lib.Dec.{ltb}
 use lib.ListN.{length, getD, set}
-use Rattle.model.specs.Store.{markAll}
-use Rattle.areas.specs.declared.Shape.{Shape}
-use Rattle.areas.specs.Areas.{wordsAt, Rules, placesOf}
-use Rattle.pending.specs.Pending.{pendingOf}
+use Rattle.model_standby.specs.Store.{markAll}
+use Rattle.store_areas.specs.declared.Shape.{Shape}
+use Rattle.store_areas.specs.Areas.{wordsAt, Rules, placesOf}
+use Rattle.standby_pending.specs.Pending.{pendingOf}
 
 -- where the word stands that says whether the session at place i is durable
 abbrev pub durableAt : Shape → ℕ → ℕ

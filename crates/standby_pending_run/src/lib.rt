@@ -5,11 +5,11 @@ ghost use Prim.Native.Nat.{_+_, _*_, _≤_, _<_};
 ghost use lib.Dec.{leb};
 ghost use lib.ListN.{length, getD, set};
 ghost use Rattle.model_frame.specs.Parse.{isEmpty};
-ghost use Rattle.model.specs.Standby.{pendsOn};
-ghost use Rattle.areas.specs.Areas.{placeWords, Rules};
-ghost use Rattle.pending.specs.Pending.{countOf, pendingOf};
-ghost use Rattle.commits.specs.Commits.{durableAt, markedAt, Ran, RanIf};
-use areas::Shape;
+ghost use Rattle.model_standby.specs.Standby.{pendsOn};
+ghost use Rattle.store_areas.specs.Areas.{placeWords, Rules};
+ghost use Rattle.standby_pending.specs.Pending.{countOf, pendingOf};
+ghost use Rattle.standby_pending_run.specs.Commits.{durableAt, markedAt, Ran, RanIf};
+use store_areas::Shape;
 
 // The word of a place that says whether its session is durable.
 const DURABLE: usize = 4;
@@ -22,7 +22,7 @@ pub fn mark(words: &mut [u64], shape: Shape, i: usize)
     requires { ⌜ i < getD (now words) 0 0 ⌝ }
     ensures { λ _. ⌜ now (words .exit) ≡ set (now (words .entry)) (durableAt shape i) 1 ⌝ }
 {
-    let at = areas::COUNT_WORDS + i * areas::place_words(shape) + DURABLE;
+    let at = store_areas::COUNT_WORDS + i * store_areas::place_words(shape) + DURABLE;
     words[at] = 1;
 }
 
@@ -77,8 +77,8 @@ pub fn is_due_batch(words: &[u64], handle: u32) -> bool
     requires { ⌜ countOf (now words) ≤ 64 ⌝ }
     ensures { λ r. ⌜ r ≡ (leb 64 (length (pendingOf (now (words .entry)))) || pendsOn handle (pendingOf (now (words .entry)))) ⌝ }
 {
-    if areas::MAX_PENDING <= words[1] {
+    if store_areas::MAX_PENDING <= words[1] {
         return true;
     }
-    pending::pends_on(words, handle)
+    standby_pending::pends_on(words, handle)
 }

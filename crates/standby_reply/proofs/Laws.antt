@@ -10,16 +10,16 @@ use lib.ListN.{length, take, drop, length-drop, drop-of-length-le}
 use lib.Seq.{take-all, take-nil}
 use Rattle.model_frame.specs.Frame.{Reason, staleEpoch, diverged, lagTooGreat, restarted, Frame, welcome, ack, nack, bound}
 use Rattle.model_frame.specs.Frame as the-frame
-use Rattle.scan.specs.declared.Span.{Span}
-use Rattle.parts.specs.declared.InFlight.{InFlight}
-use Rattle.parts.specs.declared.Summary.{Summary}
-use Rattle.parts.specs.Answers.{summaryOf, flightOf}
-use Rattle.print.specs.Encoding.{summaryFits, given, Encoded}
-use Rattle.print.specs.declared.Written.{Written}
-use Rattle.outcome.specs.declared.Brief.{Brief}
-use Rattle.outcome.specs.declared.Answer.{Answer}
-use Rattle.outcome.specs.Answers.{reasonBy, frameBy}
-use Rattle.reply.specs.Replies.{flightBy, CutTo, Shows}
+use Rattle.frame_reader.specs.declared.Span.{Span}
+use Rattle.frame_fields.specs.declared.InFlight.{InFlight}
+use Rattle.frame_fields.specs.declared.Summary.{Summary}
+use Rattle.frame_fields.specs.Answers.{summaryOf, flightOf}
+use Rattle.frame_writer.specs.Encoding.{summaryFits, given, Encoded}
+use Rattle.frame_writer.specs.declared.Written.{Written}
+use Rattle.standby_state.specs.declared.Brief.{Brief}
+use Rattle.standby_state.specs.declared.Answer.{Answer}
+use Rattle.standby_state.specs.Answers.{reasonBy, frameBy}
+use Rattle.standby_reply.specs.Replies.{flightBy, CutTo, Shows}
 
 -- ---- spans
 

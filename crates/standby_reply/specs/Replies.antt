@@ -4,13 +4,13 @@ use mathlib.Core.Path.{_≡_}
 use mathlib.Core.Bool.{Bool, true, cond}
 use mathlib.Core.List.{List}
 use mathlib.Core.Option.{Option, none, some}
-use Rattle.scan.specs.declared.Span.{Span}
-use Rattle.scan.specs.Answers.{spanOf}
-use Rattle.parts.specs.declared.Summary.{Summary}
-use Rattle.parts.specs.Answers.{summaryOf}
-use Rattle.print.specs.Encoding.{spanFits, summaryFits}
-use Rattle.outcome.specs.declared.Brief.{Brief}
-use Rattle.outcome.specs.Answers.{briefOf}
+use Rattle.frame_reader.specs.declared.Span.{Span}
+use Rattle.frame_reader.specs.Answers.{spanOf}
+use Rattle.frame_fields.specs.declared.Summary.{Summary}
+use Rattle.frame_fields.specs.Answers.{summaryOf}
+use Rattle.frame_writer.specs.Encoding.{spanFits, summaryFits}
+use Rattle.standby_state.specs.declared.Brief.{Brief}
+use Rattle.standby_state.specs.Answers.{briefOf}
 
 abbrev pub flightBy : Bool → ℕ → Option ℕ
 flightBy has n = cond has (some n) none

@@ -4,21 +4,21 @@ ghost use mathlib.Core.Bool.{true};
 ghost use mathlib.Core.Option.{some};
 ghost use Prim.Native.Nat.{_+_, _≤_};
 ghost use lib.ListN.{length};
-ghost use Rattle.scan.specs.Answers.{spanOf};
-ghost use Rattle.parts.specs.Answers.{reasonOf, flightOf};
-ghost use Rattle.print.specs.Encoding.{Encoded};
+ghost use Rattle.frame_reader.specs.Answers.{spanOf};
+ghost use Rattle.frame_fields.specs.Answers.{reasonOf, flightOf};
+ghost use Rattle.frame_writer.specs.Encoding.{Encoded};
 ghost use Rattle.frame.specs.Answers.{frameIn};
-ghost use Rattle.outcome.specs.Answers.{reasonBy, frameBy};
-ghost use Rattle.reply.specs.Replies.{flightBy, CutTo, Shows};
+ghost use Rattle.standby_state.specs.Answers.{reasonBy, frameBy};
+ghost use Rattle.standby_reply.specs.Replies.{flightBy, CutTo, Shows};
 use frame::Frame;
 use frame::InFlight;
 use frame::NackReason;
 use frame::Summary;
 use frame::Written;
-use outcome::Answer;
-use outcome::Brief;
-use scan::Span;
-use stamp::Protocol;
+use frame_reader::Span;
+use frame_stamp::Protocol;
+use standby_state::Answer;
+use standby_state::Brief;
 
 // By the reason's number in an answer.
 fn reason(n: u8) -> NackReason

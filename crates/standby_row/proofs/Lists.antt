@@ -9,8 +9,8 @@ use native.Mathlib.Nat.{not-suc-le-zero, le-of-suc-le-suc, add-zero, zero-add, a
 use native.Mathlib.Numerals.{add-one}
 use mathlib.Core.List.{List, [], _∷_}
 use lib.ListN.{length, getD, set, drop, drop-of-length-le, length-map}
-use Rattle.row.specs.declared.Handle.{Handle}
-use Rattle.row.specs.Row.{none, next, firstOf, cleared, clearedFrom}
+use Rattle.standby_row.specs.declared.Handle.{Handle}
+use Rattle.standby_row.specs.Row.{none, next, firstOf, cleared, clearedFrom}
 
 abbrev pub Sought : (Handle → Bool) → List Handle → ℕ → Type 0
 Sought p ys i = firstOf p ys ≡ i + firstOf p (drop i ys)

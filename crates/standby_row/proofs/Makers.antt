@@ -35,11 +35,11 @@ use denote.Lend.{Held, lends-ref, ref-back, lends-slice, slice-back}
 use denote.Index.{row, whole-in, whole-out}
 use denote.Steps.{only}
 use denote.Triple.Statement.{Contract, Triple}
-use Rattle.row.specs.declared.Handle.{Handle}
-use Rattle.row.proofs.Handle as T
-use Rattle.row.proofs.Rows.{R as R-Handle, vals as vals-Handle}
-use Rattle.row.proofs.Lent.{calls-with}
-use Rattle.row.proofs.Locals.{lies-in, lies-out}
+use Rattle.standby_row.specs.declared.Handle.{Handle}
+use Rattle.standby_row.proofs.Handle as T
+use Rattle.standby_row.proofs.Rows.{R as R-Handle, vals as vals-Handle}
+use Rattle.standby_row.proofs.Lent.{calls-with}
+use Rattle.standby_row.proofs.Locals.{lies-in, lies-out}
 
 abbrev pub rowVal : {X : Type 0} → (X → List Val) → List X → Val
 rowVal vals ys = only (array-vals vals ys)

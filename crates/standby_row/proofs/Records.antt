@@ -9,9 +9,9 @@ use types.Kit.{Given}
 use denote.RattleType.{RattleType}
 use denote.Laws.{Is, Tells, Makes}
 use denote.Struct.Laws as LL
-use Rattle.row.specs.declared.Seen.{Seen}
-use Rattle.row.proofs.Seen as Seen-type
-use Rattle.row.proofs.Seen.Laws as Seen-laws
+use Rattle.standby_row.specs.declared.Seen.{Seen}
+use Rattle.standby_row.proofs.Seen as Seen-type
+use Rattle.standby_row.proofs.Seen.Laws as Seen-laws
 
 abbrev pub R-Seen : RattleType
 R-Seen = Seen-type.the-row

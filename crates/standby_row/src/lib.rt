@@ -2,7 +2,7 @@
 use frame::CommitNumber;
 ghost use mathlib.Core.Path.{_≡_};
 ghost use lib.ListN.{length, set, getD};
-ghost use Rattle.row.specs.Row.{none, isOf, isFreeFor, breaksOf, findOf, freeOf, freeFor, brokenOf, clearedFrom, clearedAll, seenOf};
+ghost use Rattle.standby_row.specs.Row.{none, isOf, isFreeFor, breaksOf, findOf, freeOf, freeFor, brokenOf, clearedFrom, clearedAll, seenOf};
 
 // A handle that is bound to a session's place, with what it holds back; a record that is not used is free.
 #[repr(C)]

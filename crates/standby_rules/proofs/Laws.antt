@@ -6,10 +6,10 @@ use mathlib.Core.List.{List}
 use lib.ListN.{getD}
 use lib.Dec.{ltb, leb}
 use borrow.Author.Tests.{lt-ltb, le-ltb, le-leb, lt-leb}
-use Rattle.row.specs.declared.Seen.{Seen}
-use Rattle.areas.specs.declared.Shape.{Shape}
-use Rattle.areas.specs.Areas.{allowed}
-use Rattle.steps.specs.Steps.{roomIn, isFound, seenAllowed}
+use Rattle.standby_row.specs.declared.Seen.{Seen}
+use Rattle.store_areas.specs.declared.Shape.{Shape}
+use Rattle.store_areas.specs.Areas.{allowed}
+use Rattle.standby_step.specs.Steps.{roomIn, isFound, seenAllowed}
 
 module _ (s : Shape) (seen : Seen) (w b h : List ℕ) where
   -- what is asked of the record found

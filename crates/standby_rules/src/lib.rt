@@ -1,21 +1,21 @@
 // Whether what a call finds keeps the rules: the store's, and those of the row's records. A call answers 25 where it does not.
 ghost use mathlib.Core.Path.{_≡_};
-ghost use Rattle.steps.specs.Steps.{seenAllowed};
-use areas::Shape;
-use row::Seen;
+ghost use Rattle.standby_step.specs.Steps.{seenAllowed};
+use standby_row::Seen;
+use store_areas::Shape;
 
 // The record found, if one was, names a place in use and holds no more than its area has; no record of the row is broken.
 pub fn sound(words: &[u64], bytes: &[u8], holds: &[u8], shape: Shape, seen: Seen) -> bool
     ensures { λ r. ⌜ r ≡ seenAllowed shape seen (now (words .entry)) (now (bytes .entry)) (now (holds .entry)) ⌝ }
 {
-    if areas::allowed(shape, words, bytes) {
+    if store_areas::allowed(shape, words, bytes) {
         if seen.broken < seen.len {
             return false;
         }
         if seen.len <= seen.at {
             return true;
         }
-        let room = due_batch::room_of(holds, seen.len);
+        let room = standby_batch_due::room_of(holds, seen.len);
         let h = seen.bound;
         return ((h.place as u64) < words[0]) & (h.held_len <= room);
     }

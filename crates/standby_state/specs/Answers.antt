@@ -6,14 +6,14 @@ use mathlib.Core.Option.{none, some}
 use lib.Dec.{eqb}
 use Rattle.model_frame.specs.Frame.{Reason, staleEpoch, diverged, lagTooGreat, restarted, Frame, welcome, ack, nack, bound}
 use Rattle.model_frame.specs.Frame as the-frame
-use Rattle.scan.specs.Answers.{spanOf}
+use Rattle.frame_reader.specs.Answers.{spanOf}
 use Rattle.frame.specs.declared.CommitNumber.{CommitNumber}
 use Rattle.frame.specs.declared.Epoch.{Epoch}
 use Rattle.frame.specs.declared.Incarnation.{Incarnation}
-use Rattle.model.specs.Answer.{reply, refused, done}
-use Rattle.model.specs.Answer as the-answer
-use Rattle.outcome.specs.declared.Brief.{Brief}
-use Rattle.outcome.specs.declared.Answer.{Answer}
+use Rattle.model_standby.specs.Answer.{reply, refused, done}
+use Rattle.model_standby.specs.Answer as the-answer
+use Rattle.standby_state.specs.declared.Brief.{Brief}
+use Rattle.standby_state.specs.declared.Answer.{Answer}
 
 abbrev pub briefOf : List ℕ → Brief → the-frame.Summary
 briefOf b m =

@@ -5,18 +5,18 @@ use mathlib.Core.Bool.{true, false, cond}
 use mathlib.Core.List.{List}
 use lib.ListN.{take, drop}
 use lib.Dec.{ltb}
-use Rattle.row.specs.declared.Handle.{Handle}
-use Rattle.row.specs.declared.Seen.{Seen}
-use Rattle.areas.specs.declared.Shape.{Shape}
-use Rattle.model.specs.State.{Counters}
-use Rattle.model.specs.State as state
-use Rattle.model.specs.Core.{Action, leave, store, clear, CoreResult}
-use Rattle.on_batch.specs.State.{boundOf, coreAt, settingsFor}
-use Rattle.outcome.specs.declared.Replica.{Replica}
-use Rattle.outcome.specs.declared.Settings.{Settings}
-use Rattle.outcome.specs.declared.Answer.{Answer}
-use Rattle.outcome.specs.declared.Outcome.{Outcome}
-use Rattle.outcome.specs.Answers.{answerOf}
+use Rattle.standby_row.specs.declared.Handle.{Handle}
+use Rattle.standby_row.specs.declared.Seen.{Seen}
+use Rattle.store_areas.specs.declared.Shape.{Shape}
+use Rattle.model_standby.specs.State.{Counters}
+use Rattle.model_standby.specs.State as state
+use Rattle.model_standby.specs.Core.{Action, leave, store, clear, CoreResult}
+use Rattle.standby_part.specs.State.{boundOf, coreAt, settingsFor}
+use Rattle.standby_state.specs.declared.Replica.{Replica}
+use Rattle.standby_state.specs.declared.Settings.{Settings}
+use Rattle.standby_state.specs.declared.Answer.{Answer}
+use Rattle.standby_state.specs.declared.Outcome.{Outcome}
+use Rattle.standby_state.specs.Answers.{answerOf}
 
 abbrev pub countersOf : Replica → Counters
 countersOf c = record { epoch = c .epoch .0; connections = c .connections; promoted = c .promoted; checked = c .checked }

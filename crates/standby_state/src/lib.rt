@@ -1,14 +1,14 @@
 // The standby's counters and settings, what a call answers, and what it does to the row of handles (standby.rs, `Replica`).
 ghost use mathlib.Core.Path.{_≡_};
-ghost use Rattle.outcome.specs.Answers.{noBrief, blankOf, isRefused, isDone, isWelcome, isAck, isNack, isBound};
-ghost use Rattle.outcome.specs.Outcomes.{spotOf, leaving, clearing, storing};
-use areas::Shape;
+ghost use Rattle.standby_state.specs.Answers.{noBrief, blankOf, isRefused, isDone, isWelcome, isAck, isNack, isBound};
+ghost use Rattle.standby_state.specs.Outcomes.{spotOf, leaving, clearing, storing};
 use frame::CommitNumber;
 use frame::Epoch;
 use frame::Incarnation;
-use row::Handle;
-use row::Seen;
-use scan::Span;
+use frame_reader::Span;
+use standby_row::Handle;
+use standby_row::Seen;
+use store_areas::Shape;
 
 // The standby's counters: a small record lent for each call.
 #[repr(C)]
@@ -21,9 +21,9 @@ pub struct Replica {
 
 impl Replica {
     // The most commits that may be pending.
-    pub const MAX_PENDING: u64 = areas::MAX_PENDING;
+    pub const MAX_PENDING: u64 = store_areas::MAX_PENDING;
     // The most message bytes that a session sent whole may hold back.
-    pub const MAX_WHOLE_SESSION_BYTES: u64 = holding::MAX_WHOLE_SESSION_BYTES;
+    pub const MAX_WHOLE_SESSION_BYTES: u64 = standby_hold::MAX_WHOLE_SESSION_BYTES;
 }
 
 // What no call changes: the store's shape, this run of the standby (0 is taken as 1), and the accepted lag.

@@ -10,36 +10,36 @@ use lib.ListN.{length, getD, set, length-set}
 use lib.Seq.{set-out}
 use borrow.Author.Tests.{ltb-true, ltb-false}
 use Rattle.model_frame.specs.Bytes.{write}
-use Rattle.laws.proofs.Little.{length-write}
-use Rattle.row.specs.declared.Handle.{Handle}
-use Rattle.row.specs.declared.Seen.{Seen}
-use Rattle.row.specs.Row.{isFree, firstOf, findOf, freeOf, brokenOf, clearedFrom, clearedAll, seenOf}
-use Rattle.row.specs.Row as handles
-use Rattle.row.proofs.Lists.{clears-end, cleared-length}
-use Rattle.bindings.specs.Rows.{rowOf}
-use Rattle.bindings.proofs.Rows.{Apart, find-hit, find-miss, free-hit, free-miss, all-freed, apart-same, apart-of, put-own, put-new}
-use Rattle.areas.specs.Areas.{allowed, placesOf}
-use Rattle.areas.proofs.Ruling.{rules-true}
-use Rattle.pending.specs.Pending.{pendingOf}
-use Rattle.model.specs.Answer.{protocolVersion, refused}
-use Rattle.model.specs.Row.{Row, isSome, hasFree, find, put}
-use Rattle.model.specs.State.{Bound, Call}
-use Rattle.model.specs.State as state
-use Rattle.model.specs.Hold.{Written}
-use Rattle.model.specs.Core.{Core, Action, leave, store, clear, CoreResult, act, acted, coreStep, handleOf}
-use Rattle.model.proofs.Factoring.{factored}
-use Rattle.on_batch.specs.State.{boundOf, coreAt}
-use Rattle.outcome.specs.declared.Replica.{Replica}
-use Rattle.outcome.specs.declared.Settings.{Settings}
-use Rattle.outcome.specs.declared.Outcome.{Outcome}
-use Rattle.outcome.specs.Answers.{answerOf, isRefused}
-use Rattle.outcome.specs.Outcomes.{countersOf, settingsOf, leaving, spotOf, areaAt, actionOf, Lands}
-use Rattle.steps.specs.Steps.{roomOf, foundIn, asks, Leaves, holdsAfter, writesBy, Stepped, StepIs}
-use Rattle.steps.specs.Calls.{roomAll, standbyOf, allowedAll, soughtBy, spotFor, RowLeaves, actionBy, CalledSteps, Called}
-use Rattle.steps.proofs.Naming.{sought-own}
-use Rattle.steps.proofs.Fitting.{Fit, step-fit, step-any, step-own, writes-none, written-inside, leaves-any}
-use Rattle.steps.proofs.Still.{refused-still}
-use Rattle.steps.proofs.Rows.{Whole, whole-of, of-whole, whole-more, record-whole, whole-cleared, none-set, found-own, seen-allowed, take-write, drop-write}
+use Rattle.base_laws.proofs.Little.{length-write}
+use Rattle.standby_row.specs.declared.Handle.{Handle}
+use Rattle.standby_row.specs.declared.Seen.{Seen}
+use Rattle.standby_row.specs.Row.{isFree, firstOf, findOf, freeOf, brokenOf, clearedFrom, clearedAll, seenOf}
+use Rattle.standby_row.specs.Row as handles
+use Rattle.standby_row.proofs.Lists.{clears-end, cleared-length}
+use Rattle.standby_handles.specs.Rows.{rowOf}
+use Rattle.standby_handles.proofs.Rows.{Apart, find-hit, find-miss, free-hit, free-miss, all-freed, apart-same, apart-of, put-own, put-new}
+use Rattle.store_areas.specs.Areas.{allowed, placesOf}
+use Rattle.store_areas.proofs.Ruling.{rules-true}
+use Rattle.standby_pending.specs.Pending.{pendingOf}
+use Rattle.model_standby.specs.Answer.{protocolVersion, refused}
+use Rattle.model_standby.specs.Row.{Row, isSome, hasFree, find, put}
+use Rattle.model_standby.specs.State.{Bound, Call}
+use Rattle.model_standby.specs.State as state
+use Rattle.model_standby.specs.Hold.{Written}
+use Rattle.model_standby.specs.Core.{Core, Action, leave, store, clear, CoreResult, act, acted, coreStep, handleOf}
+use Rattle.model_standby.proofs.Factoring.{factored}
+use Rattle.standby_part.specs.State.{boundOf, coreAt}
+use Rattle.standby_state.specs.declared.Replica.{Replica}
+use Rattle.standby_state.specs.declared.Settings.{Settings}
+use Rattle.standby_state.specs.declared.Outcome.{Outcome}
+use Rattle.standby_state.specs.Answers.{answerOf, isRefused}
+use Rattle.standby_state.specs.Outcomes.{countersOf, settingsOf, leaving, spotOf, areaAt, actionOf, Lands}
+use Rattle.standby_step.specs.Steps.{roomOf, foundIn, asks, Leaves, holdsAfter, writesBy, Stepped, StepIs}
+use Rattle.standby_step.specs.Calls.{roomAll, standbyOf, allowedAll, soughtBy, spotFor, RowLeaves, actionBy, CalledSteps, Called}
+use Rattle.standby_step.proofs.Naming.{sought-own}
+use Rattle.standby_step.proofs.Fitting.{Fit, step-fit, step-any, step-own, writes-none, written-inside, leaves-any}
+use Rattle.standby_step.proofs.Still.{refused-still}
+use Rattle.standby_step.proofs.Rows.{Whole, whole-of, of-whole, whole-more, record-whole, whole-cleared, none-set, found-own, seen-allowed, take-write, drop-write}
 use Rattle.model_text.proofs.Formed.{and-r}
 
 no : {A : Type 0} → true ≡ false → A

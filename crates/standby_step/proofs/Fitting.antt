@@ -12,22 +12,22 @@ use Rattle.model_frame.specs.Parse.{isEmpty}
 use Rattle.model_frame.specs.Writing.{sizes}
 use Rattle.model_session.specs.Session.{fits}
 use Rattle.model_session.proofs.Basics.{none≢some}
-use Rattle.areas.specs.declared.Shape.{Shape}
-use Rattle.areas.specs.Areas.{placesOf}
-use Rattle.pending.specs.Pending.{pendingOf}
-use Rattle.model.proofs.Holding.{writes-inside}
-use Rattle.outcome.specs.Answers.{answerOf}
-use Rattle.greet.specs.Greeting.{isQuiet}
-use Rattle.model.specs.Answer.{protocolVersion, Given, damaged, intact, given, handleIn, isReply}
-use Rattle.model.specs.Row.{isSome}
-use Rattle.model.specs.Store.{Place, isStored, sessionAt, orNew}
-use Rattle.model.specs.State.{Settings, incarnationOf, Counters, Bound, Call, onFrameHeld, onFrame, flush, disconnectedFrom, promote, promoteUnchecked, atEpoch, noneHeld}
-use Rattle.model.specs.Standby.{due, follows, raised, maxWhole, startsWithReset, summed}
-use Rattle.model.specs.Hold.{Written, writesPart, writesFrame, writes}
-use Rattle.model.specs.Core.{Action, leave, store, clear, Core, CoreResult, coreSays, coreRefuse, counting, coreRun, coreFlushed, coreHello, coreBind, coreChecked, coreSettle, coreHold, corePart, coreHandle, coreBatch, coreIntact, coreGiven, coreStep, handleOf}
-use Rattle.outcome.specs.declared.Replica.{Replica}
-use Rattle.outcome.specs.declared.Answer.{Answer}
-use Rattle.steps.specs.Steps.{hasHandle, asks, writesBy, Leaves, FrameLeaves, dueNow, placeBy}
+use Rattle.store_areas.specs.declared.Shape.{Shape}
+use Rattle.store_areas.specs.Areas.{placesOf}
+use Rattle.standby_pending.specs.Pending.{pendingOf}
+use Rattle.model_standby.proofs.Holding.{writes-inside}
+use Rattle.standby_state.specs.Answers.{answerOf}
+use Rattle.standby_hello.specs.Greeting.{isQuiet}
+use Rattle.model_standby.specs.Answer.{protocolVersion, Given, damaged, intact, given, handleIn, isReply}
+use Rattle.model_standby.specs.Row.{isSome}
+use Rattle.model_standby.specs.Store.{Place, isStored, sessionAt, orNew}
+use Rattle.model_standby.specs.State.{Settings, incarnationOf, Counters, Bound, Call, onFrameHeld, onFrame, flush, disconnectedFrom, promote, promoteUnchecked, atEpoch, noneHeld}
+use Rattle.model_standby.specs.Standby.{due, follows, raised, maxWhole, startsWithReset, summed}
+use Rattle.model_standby.specs.Hold.{Written, writesPart, writesFrame, writes}
+use Rattle.model_standby.specs.Core.{Action, leave, store, clear, Core, CoreResult, coreSays, coreRefuse, counting, coreRun, coreFlushed, coreHello, coreBind, coreChecked, coreSettle, coreHold, corePart, coreHandle, coreBatch, coreIntact, coreGiven, coreStep, handleOf}
+use Rattle.standby_state.specs.declared.Replica.{Replica}
+use Rattle.standby_state.specs.declared.Answer.{Answer}
+use Rattle.standby_step.specs.Steps.{hasHandle, asks, writesBy, Leaves, FrameLeaves, dueNow, placeBy}
 
 -- ---- what a call does, by what was found
 

@@ -13,11 +13,11 @@ use Rattle.model_frame.specs.Frame.{Frame, hello, welcome, bind, batch, ack, na
 use Rattle.model_frame.specs.Parse.{Res, ok, bad, Parser, andThen, _>>=_, done, bytes, num, text}
 use Rattle.model_frame.specs.Reading.{kinds, key, partByte, changes, appRecords, reason, summary, helloFields, welcomeFields, bindFields, batchFields, ackFields, nackFields, boundFields, checkedFields, fields, atEnd, body, decode}
 use Rattle.model_frame.proofs.Sound.{Taking, decode-taking}
-use Rattle.model.specs.Answer.{protocolVersion, Given, damaged, intact, judged, given, handleIn}
-use Rattle.model.specs.State.{Call, onFrameHeld, onFrame, flush, disconnectedFrom, promote, promoteUnchecked}
-use Rattle.model.specs.Core.{handleOf}
-use Rattle.steps.specs.Steps.{hasHandle, asks}
-use Rattle.steps.specs.Calls.{handleAt, soughtBy}
+use Rattle.model_standby.specs.Answer.{protocolVersion, Given, damaged, intact, judged, given, handleIn}
+use Rattle.model_standby.specs.State.{Call, onFrameHeld, onFrame, flush, disconnectedFrom, promote, promoteUnchecked}
+use Rattle.model_standby.specs.Core.{handleOf}
+use Rattle.standby_step.specs.Steps.{hasHandle, asks}
+use Rattle.standby_step.specs.Calls.{handleAt, soughtBy}
 
 -- a Bind's and a Batch's handle stands in front of the fields t
 abbrev First : List ℕ → ℕ → Type 0

@@ -9,12 +9,12 @@ use lib.ListN.{length, getD, set, take, drop}
 use lib.Seq.{sets, take-set-le, drop-set-lt}
 use borrow.Author.Tests.{leb-true, leb-false, ltb-true, ltb-false, eqb-true, le-leb, lt-leb, lt-ltb, le-ltb}
 use Rattle.model_frame.specs.Bytes.{write}
-use Rattle.row.specs.declared.Handle.{Handle}
-use Rattle.row.specs.Row.{none, isOf, breaksOf, next, firstOf, findOf, brokenOf, clearedAll, seenOf}
-use Rattle.areas.specs.Areas.{allowed}
-use Rattle.outcome.specs.declared.Settings.{Settings}
-use Rattle.steps.specs.Steps.{seenAllowed}
-use Rattle.steps.specs.Calls.{roomAll, allowedAll}
+use Rattle.standby_row.specs.declared.Handle.{Handle}
+use Rattle.standby_row.specs.Row.{none, isOf, breaksOf, next, firstOf, findOf, brokenOf, clearedAll, seenOf}
+use Rattle.store_areas.specs.Areas.{allowed}
+use Rattle.standby_state.specs.declared.Settings.{Settings}
+use Rattle.standby_step.specs.Steps.{seenAllowed}
+use Rattle.standby_step.specs.Calls.{roomAll, allowedAll}
 
 zero-less : {n : ℕ} → n < 0 → ⊥
 zero-less h = omega arith

@@ -10,12 +10,12 @@ use Rattle.model_frame.specs.Frame.{Key, Change, Part, commit, whole, lastWhole
 use Rattle.model_frame.specs.Parse.{isEmpty}
 use Rattle.model_frame.specs.Writing.{sizes}
 use Rattle.model_session.specs.Session.{fits}
-use Rattle.model.specs.Answer.{protocolVersion, Given, damaged, intact, given, Answer, reply, refused, done}
-use Rattle.model.specs.Row.{isSome}
-use Rattle.model.specs.Store.{isStored, sessionAt, orNew}
-use Rattle.model.specs.State.{Settings, incarnationOf, Bound, Call, onFrameHeld, onFrame, flush, disconnectedFrom, promote, promoteUnchecked, atEpoch, noneHeld}
-use Rattle.model.specs.Standby.{due, follows, raised, maxWhole, startsWithReset, summed}
-use Rattle.model.specs.Core.{Action, leave, store, Core, CoreResult, coreSays, coreRefuse, coreDone, counting, coreRun, coreFlushed, coreHello, coreBind, coreChecked, coreSettle, coreHold, corePart, coreHandle, coreBatch, coreIntact, coreGiven, coreStep}
+use Rattle.model_standby.specs.Answer.{protocolVersion, Given, damaged, intact, given, Answer, reply, refused, done}
+use Rattle.model_standby.specs.Row.{isSome}
+use Rattle.model_standby.specs.Store.{isStored, sessionAt, orNew}
+use Rattle.model_standby.specs.State.{Settings, incarnationOf, Bound, Call, onFrameHeld, onFrame, flush, disconnectedFrom, promote, promoteUnchecked, atEpoch, noneHeld}
+use Rattle.model_standby.specs.Standby.{due, follows, raised, maxWhole, startsWithReset, summed}
+use Rattle.model_standby.specs.Core.{Action, leave, store, Core, CoreResult, coreSays, coreRefuse, coreDone, counting, coreRun, coreFlushed, coreHello, coreBind, coreChecked, coreSettle, coreHold, corePart, coreHandle, coreBatch, coreIntact, coreGiven, coreStep}
 
 record Still (r : CoreResult) : Type 0 where
   still : (n : ℕ) → r .answer ≡ refused n → eqb n 17 ≡ false → r .action ≡ leave

@@ -6,24 +6,24 @@ use mathlib.Core.List.{List}
 use lib.ListN.{length, getD, set}
 use lib.Dec.{eqb, leb, ltb}
 use Rattle.model_frame.specs.Bytes.{leAt}
-use Rattle.row.specs.declared.Handle.{Handle}
-use Rattle.row.specs.Row.{none, findOf, freeOf, brokenOf, clearedAll}
-use Rattle.bindings.specs.Rows.{rowOf}
-use Rattle.areas.specs.Areas.{allowed, placesOf}
-use Rattle.pending.specs.Pending.{pendingOf}
-use Rattle.model.specs.Answer.{protocolVersion, refused}
-use Rattle.model.specs.Row.{find, hasFree}
-use Rattle.model.specs.State.{Standby, Call, onFrameHeld, onFrame, flush, disconnectedFrom, promote, promoteUnchecked}
-use Rattle.model.specs.State as state
-use Rattle.model.specs.Standby.{step}
-use Rattle.model.specs.Core.{Action, leave, store, clear, coreOf, coreStep, handleOf}
-use Rattle.on_batch.specs.State.{boundOf}
-use Rattle.outcome.specs.declared.Replica.{Replica}
-use Rattle.outcome.specs.declared.Settings.{Settings}
-use Rattle.outcome.specs.declared.Answer.{Answer}
-use Rattle.outcome.specs.Answers.{answerOf, isRefused}
-use Rattle.outcome.specs.Outcomes.{countersOf, settingsOf}
-use Rattle.steps.specs.Steps.{roomOf, Leaves, holdsAfter, writesBy}
+use Rattle.standby_row.specs.declared.Handle.{Handle}
+use Rattle.standby_row.specs.Row.{none, findOf, freeOf, brokenOf, clearedAll}
+use Rattle.standby_handles.specs.Rows.{rowOf}
+use Rattle.store_areas.specs.Areas.{allowed, placesOf}
+use Rattle.standby_pending.specs.Pending.{pendingOf}
+use Rattle.model_standby.specs.Answer.{protocolVersion, refused}
+use Rattle.model_standby.specs.Row.{find, hasFree}
+use Rattle.model_standby.specs.State.{Standby, Call, onFrameHeld, onFrame, flush, disconnectedFrom, promote, promoteUnchecked}
+use Rattle.model_standby.specs.State as state
+use Rattle.model_standby.specs.Standby.{step}
+use Rattle.model_standby.specs.Core.{Action, leave, store, clear, coreOf, coreStep, handleOf}
+use Rattle.standby_part.specs.State.{boundOf}
+use Rattle.standby_state.specs.declared.Replica.{Replica}
+use Rattle.standby_state.specs.declared.Settings.{Settings}
+use Rattle.standby_state.specs.declared.Answer.{Answer}
+use Rattle.standby_state.specs.Answers.{answerOf, isRefused}
+use Rattle.standby_state.specs.Outcomes.{countersOf, settingsOf}
+use Rattle.standby_step.specs.Steps.{roomOf, Leaves, holdsAfter, writesBy}
 
 -- the length of each hold area
 abbrev pub roomAll : List Handle → List ℕ → ℕ

@@ -8,29 +8,29 @@ use lib.ListN.{length, getD, set}
 use lib.Dec.{eqb, ltb, leb}
 use Rattle.model_frame.specs.Bytes.{write}
 use Rattle.model_frame.specs.Frame.{hello, welcome, bind, batch, ack, nack, bound, checked}
-use Rattle.row.specs.declared.Seen.{Seen}
-use Rattle.place.specs.Only.{Only}
-use Rattle.areas.specs.declared.Shape.{Shape}
-use Rattle.areas.specs.Areas.{wordsAt, bytesAt, allowed, Rules, placesOf}
-use Rattle.pending.specs.Pending.{pendingOf}
-use Rattle.commits.specs.Commits.{ranWords}
-use Rattle.settling.specs.Settling.{Touched}
-use Rattle.model.specs.Answer.{protocolVersion, Given, damaged, intact, given, isReply}
-use Rattle.model.specs.Store.{Place, placeOf}
-use Rattle.model.specs.State.{Bound, Counters, Call, onFrameHeld, onFrame, flush, disconnectedFrom, promote, promoteUnchecked}
-use Rattle.model.specs.State as state
-use Rattle.model.specs.Standby.{due}
-use Rattle.model.specs.Hold.{Written, writes}
-use Rattle.model.specs.Core.{coreStep, handleOf}
-use Rattle.on_batch.specs.State.{coreAt}
-use Rattle.on_handle.specs.Handling.{foundOf}
-use Rattle.outcome.specs.declared.Replica.{Replica}
-use Rattle.outcome.specs.declared.Settings.{Settings}
-use Rattle.outcome.specs.declared.Answer.{Answer}
-use Rattle.outcome.specs.declared.Outcome.{Outcome}
-use Rattle.outcome.specs.Answers.{answerOf, isRefused}
-use Rattle.outcome.specs.Outcomes.{countersOf, settingsOf, leaving, areaAt, outcomeOf, Lands}
-use Rattle.greet.specs.Greeting.{isQuiet}
+use Rattle.standby_row.specs.declared.Seen.{Seen}
+use Rattle.store_place.specs.Only.{Only}
+use Rattle.store_areas.specs.declared.Shape.{Shape}
+use Rattle.store_areas.specs.Areas.{wordsAt, bytesAt, allowed, Rules, placesOf}
+use Rattle.standby_pending.specs.Pending.{pendingOf}
+use Rattle.standby_pending_run.specs.Commits.{ranWords}
+use Rattle.standby_commit.specs.Settling.{Touched}
+use Rattle.model_standby.specs.Answer.{protocolVersion, Given, damaged, intact, given, isReply}
+use Rattle.model_standby.specs.Store.{Place, placeOf}
+use Rattle.model_standby.specs.State.{Bound, Counters, Call, onFrameHeld, onFrame, flush, disconnectedFrom, promote, promoteUnchecked}
+use Rattle.model_standby.specs.State as state
+use Rattle.model_standby.specs.Standby.{due}
+use Rattle.model_standby.specs.Hold.{Written, writes}
+use Rattle.model_standby.specs.Core.{coreStep, handleOf}
+use Rattle.standby_part.specs.State.{coreAt}
+use Rattle.standby_batch_handle.specs.Handling.{foundOf}
+use Rattle.standby_state.specs.declared.Replica.{Replica}
+use Rattle.standby_state.specs.declared.Settings.{Settings}
+use Rattle.standby_state.specs.declared.Answer.{Answer}
+use Rattle.standby_state.specs.declared.Outcome.{Outcome}
+use Rattle.standby_state.specs.Answers.{answerOf, isRefused}
+use Rattle.standby_state.specs.Outcomes.{countersOf, settingsOf, leaving, areaAt, outcomeOf, Lands}
+use Rattle.standby_hello.specs.Greeting.{isQuiet}
 
 -- ---- hold areas: the bytes are divided evenly among the row's places
 

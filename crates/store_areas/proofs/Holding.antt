@@ -8,13 +8,13 @@ use lib.ListN.{length, take, drop, getD, length-take}
 use borrow.Rule.Slice.PartMut.{midOf, postOf, putMid}
 use Rattle.model_frame.specs.Parse.{Each}
 use Rattle.model_session.specs.Session.{Holdable}
-use Rattle.model.specs.Store.{Stored, Place}
-use Rattle.log.proofs.Lawful.{Small, small-take, small-drop, small-append}
-use Rattle.place.specs.Place.{field, keyOf, placeIn}
-use Rattle.place.proofs.Holding.{holdable, Kept, Short, ShortKey, kept}
-use Rattle.areas.specs.declared.Shape.{Shape}
-use Rattle.areas.specs.Areas.{placeWords, placeBytes, wordsAt, bytesAt, Rules, part, placeAt, countUp, placesOf, Changed}
-use Rattle.areas.proofs.Lifting.{Within, within, part-length, lift-both, rules-kept}
+use Rattle.model_standby.specs.Store.{Stored, Place}
+use Rattle.store_log.proofs.Lawful.{Small, small-take, small-drop, small-append}
+use Rattle.store_place.specs.Place.{field, keyOf, placeIn}
+use Rattle.store_place.proofs.Holding.{holdable, Kept, Short, ShortKey, kept}
+use Rattle.store_areas.specs.declared.Shape.{Shape}
+use Rattle.store_areas.specs.Areas.{placeWords, placeBytes, wordsAt, bytesAt, Rules, part, placeAt, countUp, placesOf, Changed}
+use Rattle.store_areas.proofs.Lifting.{Within, within, part-length, lift-both, rules-kept}
 
 -- ---- total
 

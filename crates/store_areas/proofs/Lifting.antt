@@ -8,13 +8,13 @@ use native.Mathlib.Omega.{arith}
 use lib.ListN.{length, take, drop, getD, getElem?}
 use lib.Seq.{length-take-le, take-at, drop-at}
 use borrow.Rule.Slice.PartMut.{midOf, postOf, putMid, mid-len}
-use Rattle.model.specs.Store.{Stored, Place, onStored, sessionAt}
-use Rattle.place.specs.Only.{Only}
-use Rattle.place.specs.Place.{placeIn}
-use Rattle.place.proofs.Fields.{only-none, only-put}
-use Rattle.areas.specs.declared.Shape.{Shape}
-use Rattle.areas.specs.Areas.{placeWords, placeBytes, wordsAt, bytesAt, SpotIs, SpotIn, Room, Rules, part, placeAt, countUp, placesOf, Changed}
-use Rattle.areas.proofs.Lists.{count-length, count-same, count-at, count-one, inside, apart, part-kept, word-kept}
+use Rattle.model_standby.specs.Store.{Stored, Place, onStored, sessionAt}
+use Rattle.store_place.specs.Only.{Only}
+use Rattle.store_place.specs.Place.{placeIn}
+use Rattle.store_place.proofs.Fields.{only-none, only-put}
+use Rattle.store_areas.specs.declared.Shape.{Shape}
+use Rattle.store_areas.specs.Areas.{placeWords, placeBytes, wordsAt, bytesAt, SpotIs, SpotIn, Room, Rules, part, placeAt, countUp, placesOf, Changed}
+use Rattle.store_areas.proofs.Lists.{count-length, count-same, count-at, count-one, inside, apart, part-kept, word-kept}
 
 -- ---- a place in use lies within the areas
 

@@ -8,11 +8,11 @@ use native.Mathlib.Omega.{arith}
 use native.Mathlib.Nat.{mul-le-mul-right, suc-mul}
 use lib.ListN.{length, take, getD, getElem?}
 use lib.Seq.{getD-take}
-use Rattle.model.specs.Store.{Stored, Place, onStored, onPlace}
-use Rattle.log.proofs.Walk.{cmp}
-use Rattle.place.specs.Only.{Only}
-use Rattle.place.proofs.Fields.{only-before, only-after}
-use Rattle.areas.specs.Areas.{countUp, part}
+use Rattle.model_standby.specs.Store.{Stored, Place, onStored, onPlace}
+use Rattle.store_log.proofs.Walk.{cmp}
+use Rattle.store_place.specs.Only.{Only}
+use Rattle.store_place.proofs.Fields.{only-before, only-after}
+use Rattle.store_areas.specs.Areas.{countUp, part}
 
 -- ---- counting up
 

@@ -10,8 +10,8 @@ use lib.Dec.{leb, ltb}
 use lib.ListN.{length, getD, set, length-set}
 use lib.Seq.{getD-set-same, getD-set-other}
 use Rattle.model_text.proofs.Formed.{and-l, and-r}
-use Rattle.areas.specs.declared.Shape.{Shape}
-use Rattle.areas.specs.Areas.{placeWords, placeBytes, roomy, allowed, Room, Rules, inUse, InUse, placeAt, countUp, placesOf}
+use Rattle.store_areas.specs.declared.Shape.{Shape}
+use Rattle.store_areas.specs.Areas.{placeWords, placeBytes, roomy, allowed, Room, Rules, inUse, InUse, placeAt, countUp, placesOf}
 
 module _ (s : Shape) (w b : List ℕ) where
   t1 : Bool

@@ -7,12 +7,12 @@ use mathlib.Core.Bool.{Bool, true, false, _&&_}
 use mathlib.Core.List.{List, [], _∷_}
 use lib.ListN.{length, take, drop, getD, set}
 use lib.Dec.{leb, ltb}
-use Rattle.model.specs.Store.{Stored, Place, onPlace}
-use Rattle.place.specs.Only.{Only}
-use Rattle.place.specs.Place.{placeIn}
-use Rattle.areas.specs.declared.Shape.{Shape}
-use Rattle.areas.specs.declared.Made.{Made}
-use Rattle.areas.specs.declared.Made.the-variants.{Ready, Unfit}
+use Rattle.model_standby.specs.Store.{Stored, Place, onPlace}
+use Rattle.store_place.specs.Only.{Only}
+use Rattle.store_place.specs.Place.{placeIn}
+use Rattle.store_areas.specs.declared.Shape.{Shape}
+use Rattle.store_areas.specs.declared.Made.{Made}
+use Rattle.store_areas.specs.declared.Made.the-variants.{Ready, Unfit}
 
 -- the words and the bytes of a place
 abbrev pub placeWords : Shape → ℕ

@@ -4,7 +4,7 @@ ghost use Prim.Native.Nat.{ℕ, _+_, _*_, _≤_, _<_};
 ghost use mathlib.Core.Bool.{Bool, true, false};
 ghost use mathlib.Core.List.{List};
 ghost use lib.ListN.{length, getD, set};
-ghost use Rattle.areas.specs.Areas.{placeWords, placeBytes, wordsAt, bytesAt, roomy, allowed, Rules, SpotIs, SpotIn, inUse, Making};
+ghost use Rattle.store_areas.specs.Areas.{placeWords, placeBytes, wordsAt, bytesAt, roomy, allowed, Rules, SpotIs, SpotIn, inUse, Making};
 
 // How many session places, and for each the message bytes (C) and the messages (M).
 #[repr(C)]

@@ -2,7 +2,7 @@
 use mathlib.Core.Path.{_≡_, refl}
 use mathlib.Core.List.{[], _∷_}
 use Rattle.model_session.specs.Session.{keep}
-use Rattle.log.specs.Log.{msg, logOf}
+use Rattle.store_log.specs.Log.{msg, logOf}
 
 -- no room for the bytes: the oldest two go
 bytes-out : keep 5 9 (msg 4 (40 ∷ 41 ∷ 42 ∷ 43 ∷ [])) (msg 1 (10 ∷ []) ∷ msg 2 (20 ∷ []) ∷ msg 3 (30 ∷ []) ∷ []) ≡ msg 3 (30 ∷ []) ∷ msg 4 (40 ∷ 41 ∷ 42 ∷ 43 ∷ []) ∷ []

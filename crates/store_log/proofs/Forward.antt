@@ -10,8 +10,8 @@ use lib.ListN.{length, take, drop, getD, length-drop}
 use lib.Seq.{length-take-le}
 use Rattle.model_session.specs.Session.{Msg, storedBytes}
 use Rattle.model_session.specs.Summary.{numberedFrom}
-use Rattle.log.specs.Log.{msg, Entry, entry, numOf, lenOf, walk, since}
-use Rattle.log.proofs.Walk.{cmp, Look, hit, low, high, full, look, walk-hit, walk-low, walk-high, walk-full}
+use Rattle.store_log.specs.Log.{msg, Entry, entry, numOf, lenOf, walk, since}
+use Rattle.store_log.proofs.Walk.{cmp, Look, hit, low, high, full, look, walk-hit, walk-low, walk-high, walk-full}
 
 since-hit : (lo n : ℕ) (b : List ℕ) (l : List Msg) → lo ≤ n → since lo (msg n b ∷ l) ≡ msg n b ∷ since lo l
 since-hit lo n b l h = simp (le-leb lo n h)

@@ -11,7 +11,7 @@ use lib.Pow.{pow-pos, split}
 use lib.Bits.{bitAnd, bitXor, and-mask, xor-zero-r}
 use Rattle.model_frame.specs.Bytes.{bytesOf}
 use Rattle.model_session.specs.Summary.{fnvStep, fnv, fnvMessage}
-use Rattle.log.specs.Log.{msg}
+use Rattle.store_log.specs.Log.{msg}
 
 -- ---- the product
 

@@ -7,8 +7,8 @@ use borrow.Author.Tests.{lt-ltb}
 use lib.Dec.{T}
 use lib.ListN.{length, take, drop, getD, length-take, length-reverse}
 use Rattle.model_session.specs.Session.{Msg, storedBytes, isBytes, Rising}
-use Rattle.log.specs.Log.{msg, Entry, entry, walk, entries, before, newest, newestFirst, headOf, tailOf, unrolled, logOf, Lawful}
-use Rattle.log.proofs.Walk.{Look, hit, low, high, full, look, walk-hit, walk-low, walk-high, walk-full, stored-reverse}
+use Rattle.store_log.specs.Log.{msg, Entry, entry, walk, entries, before, newest, newestFirst, headOf, tailOf, unrolled, logOf, Lawful}
+use Rattle.store_log.proofs.Walk.{Look, hit, low, high, full, look, walk-hit, walk-low, walk-high, walk-full, stored-reverse}
 
 -- ---- every element is below n
 

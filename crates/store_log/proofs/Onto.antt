@@ -7,12 +7,12 @@ use native.Mathlib.Omega.{arith}
 use lib.Dec.{T, ltb, ltb→lt}
 use lib.ListN.{length, take, drop, getD, set, replicate, length-append, length-drop, length-replicate, length-set}
 use Rattle.model_session.specs.Session.{Msg, storedBytes, isBytes, Rising, keep}
-use Rattle.log.specs.Log.{before, entries, headOf, tailOf, unrolled, logOf, Lawful}
-use Rattle.log.proofs.Walk.{walk-low, stored-append}
-use Rattle.log.proofs.Ring.{length-unrolled}
-use Rattle.log.proofs.Slots.{head-lt, tail-le, stored, stored-newest, stored-tail}
-use Rattle.log.proofs.Recording.{room-all, stored-law}
-use Rattle.log.proofs.Lawful.{Small, small-take, small-drop, small-append}
+use Rattle.store_log.specs.Log.{before, entries, headOf, tailOf, unrolled, logOf, Lawful}
+use Rattle.store_log.proofs.Walk.{walk-low, stored-append}
+use Rattle.store_log.proofs.Ring.{length-unrolled}
+use Rattle.store_log.proofs.Slots.{head-lt, tail-le, stored, stored-newest, stored-tail}
+use Rattle.store_log.proofs.Recording.{room-all, stored-law}
+use Rattle.store_log.proofs.Lawful.{Small, small-take, small-drop, small-append}
 
 -- ---- lists of small numbers
 

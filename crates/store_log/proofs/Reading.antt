@@ -7,9 +7,9 @@ use borrow.Author.Tests.{le-leb, lt-leb}
 use lib.ListN.{length, take, drop, getD, length-drop}
 use lib.Seq.{length-take-le}
 use Rattle.model_session.specs.Session.{Msg, storedBytes}
-use Rattle.log.specs.Log.{msg, before, entries, newest, newestFirst, headOf, tailOf, unrolled, walk, since, logOf, restOf, From}
-use Rattle.log.proofs.Walk.{Look, hit, low, high, full, look, walk-hit, walk-low, walk-high, walk-full}
-use Rattle.log.proofs.Forward.{since-taken, from-since}
+use Rattle.store_log.specs.Log.{msg, before, entries, newest, newestFirst, headOf, tailOf, unrolled, walk, since, logOf, restOf, From}
+use Rattle.store_log.proofs.Walk.{Look, hit, low, high, full, look, walk-hit, walk-low, walk-high, walk-full}
+use Rattle.store_log.proofs.Forward.{since-taken, from-since}
 
 module _ (C M lo : ℕ) (w u : List ℕ) where
   -- what is still to be counted: f entries before slot s

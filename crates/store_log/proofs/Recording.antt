@@ -10,9 +10,9 @@ use lib.Dec.{ltb}
 use lib.ListN.{length, take, drop, getD, set, length-append}
 use lib.Seq.{getD-set-same, getD-set-other}
 use Rattle.model_session.specs.Session.{Msg, storedBytes, keep}
-use Rattle.log.specs.Log.{msg, Entry, entry, before, entries, newest, headOf, tailOf, unrolled, walk, logOf, replayed, Lawful}
-use Rattle.log.proofs.Walk.{walk-low, walk-high, walk-record, stored-append}
-use Rattle.log.proofs.Ring.{length-unrolled}
+use Rattle.store_log.specs.Log.{msg, Entry, entry, before, entries, newest, headOf, tailOf, unrolled, walk, logOf, replayed, Lawful}
+use Rattle.store_log.proofs.Walk.{walk-low, walk-high, walk-record, stored-append}
+use Rattle.store_log.proofs.Ring.{length-unrolled}
 
 pub before-pos : (M h : ℕ) → (h ≡ 0 → ⊥) → before M h ≡ h - 1
 before-pos M zero n = absurd (n refl)

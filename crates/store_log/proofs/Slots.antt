@@ -8,8 +8,8 @@ use native.Mathlib.Numerals.{add-one}
 use borrow.Author.Tests.{lt-ltb, le-ltb, le-leb, lt-leb}
 use lib.ListN.{length, take, getD, set, length-set}
 use lib.Seq.{getD-set-same, getD-set-other}
-use Rattle.log.specs.Log.{Entry, entry, entryAt, before, entries, newest, headOf, tailOf, slotAt}
-use Rattle.log.proofs.Walk.{cmp}
+use Rattle.store_log.specs.Log.{Entry, entry, entryAt, before, entries, newest, headOf, tailOf, slotAt}
+use Rattle.store_log.proofs.Walk.{cmp}
 
 take-entries : (w : List ℕ) (M f s : ℕ) → take f (entries w M (suc f) s) ≡ entries w M f s
 take-entries w M zero s = refl

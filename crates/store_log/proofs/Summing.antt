@@ -9,10 +9,10 @@ use lib.ListN.{length, take, drop, getD}
 use lib.Seq.{take-suc}
 use Rattle.model_session.specs.Session.{Msg, storedBytes}
 use Rattle.model_session.specs.Summary.{fnvMessage, fnvMessages, fnvStart, numberedFrom}
-use Rattle.log.specs.Log.{msg, Entry, entry, numOf, lenOf, entryAt, slotAt, newest, newestFirst, headOf, tailOf, unrolled, logOf, restOf, Stands, From, Read, Spanned, lastOf}
-use Rattle.log.proofs.Ring.{length-unrolled}
-use Rattle.log.proofs.Slots.{head-lt, tail-le, entry-at}
-use Rattle.log.proofs.Forward.{Nth, nth}
+use Rattle.store_log.specs.Log.{msg, Entry, entry, numOf, lenOf, entryAt, slotAt, newest, newestFirst, headOf, tailOf, unrolled, logOf, restOf, Stands, From, Read, Spanned, lastOf}
+use Rattle.store_log.proofs.Ring.{length-unrolled}
+use Rattle.store_log.proofs.Slots.{head-lt, tail-le, entry-at}
+use Rattle.store_log.proofs.Forward.{Nth, nth}
 
 module _ (M next : ℕ) (w b : List ℕ) where
   abbrev pub All : List Msg

@@ -12,7 +12,7 @@ use lib.Dec.{leb}
 use lib.ListN.{length, take, drop, length-append, length-drop, length-reverse}
 use lib.Seq.{drop-append-le, take-append-le, drop-drop, length-take-le, drop-at, take-length}
 use Rattle.model_session.specs.Session.{Msg, storedBytes, evict, keep}
-use Rattle.log.specs.Log.{msg, Entry, entry, walk}
+use Rattle.store_log.specs.Log.{msg, Entry, entry, walk}
 
 -- ---- cases
 

@@ -8,14 +8,14 @@ ghost use lib.ListN.{length, take, drop, getD};
 ghost use lib.Seq.{paste};
 ghost use Rattle.model_session.specs.Session.{keep};
 ghost use Rattle.model_session.specs.Summary.{fnvMessage, fnvMessages, fnvStart, numberedFrom};
-ghost use Rattle.log.specs.Log.{before, slotAt, Spanned, Stands, From, Read, msg, unrolled, headOf, tailOf, newest, entry, logOf, lastOf};
+ghost use Rattle.store_log.specs.Log.{before, slotAt, Spanned, Stands, From, Read, msg, unrolled, headOf, tailOf, newest, entry, logOf, lastOf};
 
 // Copies all of src into dst from index at.
 pub fn copy_into(dst: &mut [u8], at: usize, src: &[u8])
     requires { ⌜ at + length (now src) ≤ length (now dst) ⌝ }
     ensures { λ _. ⌜ now (dst .exit) ≡ paste (now (dst .entry)) at (now (src .entry)) (length (now (src .entry))) ⌝ }
 {
-    wire::copy(src, dst, at);
+    base_bytes::copy(src, dst, at);
 }
 
 // Writes msg into the ring from its tail at, and returns the new tail.

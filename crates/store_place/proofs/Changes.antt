@@ -6,9 +6,9 @@ use Prim.Native.Nat.{ℕ, _-_, _≤_}
 use lib.ListN.{length, set}
 use Rattle.model_frame.specs.Frame.{Change, setIncoming, setIncomingInFlight, setInFlight}
 use Rattle.model_session.specs.Session.{Session, apply}
-use Rattle.model.specs.Store.{Place, onStored, changed, markDurable}
-use Rattle.place.specs.Place.{nextOutOf, flightOf, durableOf, stampOf, marksOf, keyOf, sessionOf, placeIn}
-use Rattle.place.proofs.Header.{Header, header, header-of}
+use Rattle.model_standby.specs.Store.{Place, onStored, changed, markDurable}
+use Rattle.store_place.specs.Place.{nextOutOf, flightOf, durableOf, stampOf, marksOf, keyOf, sessionOf, placeIn}
+use Rattle.store_place.proofs.Header.{Header, header, header-of}
 
 -- a place with another session, which isn't marked
 abbrev pub withSession : Session → Place → Place

@@ -7,9 +7,9 @@ use native.Mathlib.Omega.{arith}
 use lib.ListN.{length, take, drop, set, length-set}
 use lib.Seq.{paste, length-paste, drop-paste, length-take-le, take-take, drop-drop, take-set-le, drop-set-lt, take-at, drop-at, take-length}
 use borrow.Rule.Slice.PartMut.{midOf, putMid, same-len-mid, mid-len, take-put, drop-put}
-use Rattle.log.proofs.Spans.{within}
-use Rattle.place.specs.Only.{Only}
-use Rattle.place.specs.Place.{field, PutText}
+use Rattle.store_log.proofs.Spans.{within}
+use Rattle.store_place.specs.Only.{Only}
+use Rattle.store_place.specs.Place.{field, PutText}
 
 -- ---- what is left alone
 

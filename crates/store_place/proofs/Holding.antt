@@ -15,13 +15,13 @@ use Rattle.model_text.proofs.Formed.{and-l, and-r}
 use Rattle.model_text.proofs.Laws.{plain-bounds, stamp-is, marks-is, key-is}
 use Rattle.model_frame.specs.Frame.{Key}
 use Rattle.model_session.specs.Session.{Session, Holdable, isStampOrNone, smallFlight}
-use Rattle.model.specs.Store.{Place}
-use Rattle.log.specs.Log.{logOf, Lawful}
-use Rattle.log.proofs.Lawful.{Small, small-drop, small-append, lawful}
-use Rattle.log.proofs.Onto.{zeros, small-zeros, Held, held}
-use Rattle.place.specs.Place.{nextOutOf, flightOf, durableOf, field, stampOf, marksOf, keyOf, sessionOf, placeIn}
-use Rattle.place.proofs.Texts.{orNone}
-use Rattle.place.proofs.Promotion.{marks-marks}
+use Rattle.model_standby.specs.Store.{Place}
+use Rattle.store_log.specs.Log.{logOf, Lawful}
+use Rattle.store_log.proofs.Lawful.{Small, small-drop, small-append, lawful}
+use Rattle.store_log.proofs.Onto.{zeros, small-zeros, Held, held}
+use Rattle.store_place.specs.Place.{nextOutOf, flightOf, durableOf, field, stampOf, marksOf, keyOf, sessionOf, placeIn}
+use Rattle.store_place.proofs.Texts.{orNone}
+use Rattle.store_place.proofs.Promotion.{marks-marks}
 
 truth : {t : Bool} → t ≡ true → T t
 truth e = rw e tt

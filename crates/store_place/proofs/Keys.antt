@@ -12,10 +12,10 @@ use lib.ListN.{length, take, drop, getD, set, drop-of-length-le}
 use lib.Seq.{drop-cons}
 use Rattle.model_frame.specs.Frame.{Key, reset}
 use Rattle.model_session.specs.Session.{newSession, apply}
-use Rattle.model.specs.Store.{sameBytes, onStored, changed, newPlace}
-use Rattle.place.specs.Place.{field, keyOf, keyFrom, durableOf, placeIn, PutText}
-use Rattle.place.proofs.Header.{Header, header, header-of}
-use Rattle.place.proofs.Fields.{field-kept}
+use Rattle.model_standby.specs.Store.{sameBytes, onStored, changed, newPlace}
+use Rattle.store_place.specs.Place.{field, keyOf, keyFrom, durableOf, placeIn, PutText}
+use Rattle.store_place.proofs.Header.{Header, header, header-of}
+use Rattle.store_place.proofs.Fields.{field-kept}
 
 -- ---- two texts
 

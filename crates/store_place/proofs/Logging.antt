@@ -13,14 +13,14 @@ use Rattle.model_text.specs.Printable.{isMarks, isPrintable}
 use Rattle.model_text.specs.Stamp.{isStamp}
 use Rattle.model_frame.specs.Frame.{recordMsg, recordBare, reset, setCreatedAt, setMarks}
 use Rattle.model_session.specs.Session.{apply, keep}
-use Rattle.model.specs.Store.{onStored, changed}
-use Rattle.log.specs.Log.{logOf, msg}
-use Rattle.place.specs.Only.{Only}
-use Rattle.place.specs.Place.{nextOutOf, flightOf, durableOf, field, stampOf, marksOf, keyOf, sessionOf, placeIn, PutText}
-use Rattle.place.proofs.Header.{Header, header, header-of}
-use Rattle.place.proofs.Fields.{only-put, only-after, field-kept}
-use Rattle.place.proofs.Texts.{orNone}
-use Rattle.place.proofs.Changes.{withSession, unmarked}
+use Rattle.model_standby.specs.Store.{onStored, changed}
+use Rattle.store_log.specs.Log.{logOf, msg}
+use Rattle.store_place.specs.Only.{Only}
+use Rattle.store_place.specs.Place.{nextOutOf, flightOf, durableOf, field, stampOf, marksOf, keyOf, sessionOf, placeIn, PutText}
+use Rattle.store_place.proofs.Header.{Header, header, header-of}
+use Rattle.store_place.proofs.Fields.{only-put, only-after, field-kept}
+use Rattle.store_place.proofs.Texts.{orNone}
+use Rattle.store_place.proofs.Changes.{withSession, unmarked}
 
 -- ---- the bytes: what changes from a to e leaves the texts elsewhere
 

@@ -6,8 +6,8 @@ use native.Mathlib.Omega.{arith}
 use lib.ListN.{length, take, drop, length-drop}
 use lib.Seq.{take-all, drop-drop}
 use Rattle.model_session.specs.Summary.{lastOut}
-use Rattle.log.specs.Log.{msg, logOf, restOf, lastOf, Stands, From, Read}
-use Rattle.place.specs.Place.{nextOutOf, sessionOf, restIn, StandsIn, FromIn, ReadIn}
+use Rattle.store_log.specs.Log.{msg, logOf, restOf, lastOf, Stands, From, Read}
+use Rattle.store_place.specs.Place.{nextOutOf, sessionOf, restIn, StandsIn, FromIn, ReadIn}
 
 -- a slice from a on, as it is lent
 pub tail-is : (a : ℕ) (l : List ℕ) → take (length l - a) (drop a l) ≡ drop a l

@@ -15,15 +15,15 @@ use Rattle.model_text.specs.Printable.{isPlain, allPlain, isMarks, isPrintable}
 use Rattle.model_text.proofs.Formed.{and-l, and-r}
 use Rattle.model_text.proofs.Laws.{marks-is}
 use Rattle.model_session.specs.Session.{top}
-use Rattle.model.specs.Store.{onStored, withB, takenOver}
-use Rattle.log.specs.Log.{logOf}
-use Rattle.log.proofs.Walk.{cmp}
-use Rattle.place.specs.Only.{Only}
-use Rattle.place.specs.Place.{nextOutOf, flightOf, durableOf, field, stampOf, marksOf, keyOf, sessionOf, placeIn, endsInB}
-use Rattle.place.proofs.Header.{Header, header, header-of}
-use Rattle.place.proofs.Fields.{only-set, only-wider, only-after}
-use Rattle.place.proofs.Texts.{orNone}
-use Rattle.place.proofs.Logging.{key-kept, stamp-kept, put-tail}
+use Rattle.model_standby.specs.Store.{onStored, withB, takenOver}
+use Rattle.store_log.specs.Log.{logOf}
+use Rattle.store_log.proofs.Walk.{cmp}
+use Rattle.store_place.specs.Only.{Only}
+use Rattle.store_place.specs.Place.{nextOutOf, flightOf, durableOf, field, stampOf, marksOf, keyOf, sessionOf, placeIn, endsInB}
+use Rattle.store_place.proofs.Header.{Header, header, header-of}
+use Rattle.store_place.proofs.Fields.{only-set, only-wider, only-after}
+use Rattle.store_place.proofs.Texts.{orNone}
+use Rattle.store_place.proofs.Logging.{key-kept, stamp-kept, put-tail}
 
 -- ---- the B
 

@@ -5,7 +5,7 @@ use mathlib.Core.List.{List, []}
 use Prim.Native.Nat.{ℕ, _+_, _-_, min}
 use native.Mathlib.Omega.{arith}
 use lib.ListN.{take, drop}
-use Rattle.place.specs.Place.{field}
+use Rattle.store_place.specs.Place.{field}
 
 abbrev pub orNone : Bool → List ℕ → List ℕ
 orNone t l = cond t l []

@@ -14,11 +14,11 @@ use Rattle.model_text.specs.Stamp.{isStamp}
 use Rattle.model_frame.specs.Frame.{Key}
 use Rattle.model_session.specs.Session.{Session, Msg}
 use Rattle.model_session.specs.Summary.{numberedFrom}
-use Rattle.model.specs.Store.{Place}
-use Rattle.log.specs.Log.{msg, logOf, restOf, Stands}
-use Rattle.place.specs.declared.Flight.{Flight}
-use Rattle.place.specs.declared.Flight.the-variants.{Nothing, Number}
-use Rattle.place.specs.Only.{Only}
+use Rattle.model_standby.specs.Store.{Place}
+use Rattle.store_log.specs.Log.{msg, logOf, restOf, Stands}
+use Rattle.store_place.specs.declared.Flight.{Flight}
+use Rattle.store_place.specs.declared.Flight.the-variants.{Nothing, Number}
+use Rattle.store_place.specs.Only.{Only}
 
 -- a next outgoing number 0 counts as 1
 unfoldable pub nextOutOf : List ℕ → ℕ

@@ -8,11 +8,11 @@ ghost use Rattle.model_text.specs.Printable.{isMarks};
 ghost use Rattle.model_text.specs.Stamp.{isStamp};
 ghost use Rattle.model_frame.specs.Frame.{Key, Change, setIncoming, setIncomingInFlight, setInFlight, recordMsg, recordBare, reset, setCreatedAt, setMarks};
 ghost use Rattle.model_session.specs.Summary.{lastOut};
-ghost use Rattle.model.specs.Store.{Place, onStored, changed, markDurable, takenOver, newPlace, sameBytes, sameKey, withB};
-ghost use Rattle.place.specs.Only.{Only};
-ghost use Rattle.place.specs.Place.{nextOutOf, flightOf, durableOf, field, stampOf, marksOf, keyOf, sessionOf, placeIn, flightIs, PutText, endsInB, keyFrom, StandsIn, FromIn, ReadIn};
-use log::Cursor;
-use log::Found;
+ghost use Rattle.model_standby.specs.Store.{Place, onStored, changed, markDurable, takenOver, newPlace, sameBytes, sameKey, withB};
+ghost use Rattle.store_place.specs.Only.{Only};
+ghost use Rattle.store_place.specs.Place.{nextOutOf, flightOf, durableOf, field, stampOf, marksOf, keyOf, sessionOf, placeIn, flightIs, PutText, endsInB, keyFrom, StandsIn, FromIn, ReadIn};
+use store_log::Cursor;
+use store_log::Found;
 
 // A number that is in flight.
 pub enum Flight {
@@ -69,7 +69,7 @@ pub fn stamp_len(words: &[u64], bytes: &[u8]) -> usize
 {
     let n = cut(words[5], 32);
     let end = 128 + n;
-    if stamp::is_stamp(&bytes[128..end]) {
+    if frame_stamp::is_stamp(&bytes[128..end]) {
         n
     } else {
         0
@@ -85,7 +85,7 @@ pub fn marks_len(words: &[u64], bytes: &[u8]) -> usize
 {
     let n = cut(words[6], 64);
     let end = 160 + n;
-    if stamp::is_marks(&bytes[160..end]) {
+    if frame_stamp::is_marks(&bytes[160..end]) {
         n
     } else {
         0
@@ -130,7 +130,7 @@ pub fn record(words: &mut [u64], bytes: &mut [u8], max: usize, seq: u64, text: &
     requires { ⌜ seq < 18446744073709551615 ⌝ }
     ensures { λ _. ⌜ ((C : ℕ) → length (now (bytes .entry)) ≡ 224 + C → placeIn C max (now (words .exit)) (now (bytes .exit)) ≡ onStored (changed C max (recordMsg seq (now (text .entry)) ∷ [])) (placeIn C max (now (words .entry)) (now (bytes .entry)))) ⌝ }
 {
-    log::record(&mut words[14..], &mut bytes[224..], max, seq, text);
+    store_log::record(&mut words[14..], &mut bytes[224..], max, seq, text);
     words[0] = seq + 1;
     words[4] = 0;
 }
@@ -143,7 +143,7 @@ pub fn record_none(words: &mut [u64], max: usize, seq: u64)
     ensures { λ _. ⌜ ((C : ℕ) (b : List ℕ) → placeIn C max (now (words .exit)) b ≡ onStored (changed C max (recordBare seq ∷ [])) (placeIn C max (now (words .entry)) b)) ⌝ }
 {
     let next = next_outgoing(words);
-    log::settle(&mut words[14..], max, next);
+    store_log::settle(&mut words[14..], max, next);
     words[0] = seq + 1;
     words[4] = 0;
 }
@@ -152,7 +152,7 @@ pub fn reset(words: &mut [u64], max: usize)
     requires { ⌜ 16 + 2 * max ≤ length (now words) ⌝ }
     ensures { λ _. ⌜ ((C : ℕ) (b : List ℕ) → placeIn C max (now (words .exit)) b ≡ onStored (changed C max (reset ∷ [])) (placeIn C max (now (words .entry)) b)) ⌝ }
 {
-    log::clear(&mut words[14..], max);
+    store_log::clear(&mut words[14..], max);
     words[0] = 1;
     words[1] = 1;
     words[2] = 0;
@@ -167,7 +167,7 @@ fn put_text(bytes: &mut [u8], at: usize, size: usize, text: &[u8])
     requires { ⌜ length (now text) ≤ size ⌝ }
     ensures { λ _. ⌜ PutText at size (now (text .entry)) (now (bytes .entry)) (now (bytes .exit)) ⌝ }
 {
-    log::copy_into(bytes, at, text);
+    store_log::copy_into(bytes, at, text);
 }
 
 pub fn set_created_at(words: &mut [u64], bytes: &mut [u8], text: &[u8])
@@ -253,7 +253,7 @@ pub fn take_over(words: &mut [u64], bytes: &mut [u8], max: usize, lag: u64)
     let next = next_outgoing(words);
     let n = marks_len(words, bytes);
     let end = put_b(bytes, n);
-    log::settle(&mut words[14..], max, next);
+    store_log::settle(&mut words[14..], max, next);
     words[0] = skipped(next, lag);
     words[6] = end as u64;
     words[4] = 1;
@@ -343,7 +343,7 @@ pub fn last_outgoing(words: &[u64], bytes: &[u8], max: usize, n: u64) -> u64
     ensures { λ r. ⌜ ((C : ℕ) → length (now (bytes .entry)) ≡ 224 + C → r ≡ lastOut (sessionOf C max (now (words .entry)) (now (bytes .entry))) n) ⌝ }
 {
     let next = next_outgoing(words);
-    log::last_outgoing(&words[14..], &bytes[224..], max, next, n)
+    store_log::last_outgoing(&words[14..], &bytes[224..], max, next, n)
 }
 
 // The place in the log where the messages with numbers from low begin.
@@ -354,7 +354,7 @@ pub fn messages_from(words: &[u64], bytes: &[u8], max: usize, low: u64) -> Curso
     ensures { λ r. ⌜ ((C : ℕ) → length (now (bytes .entry)) ≡ 224 + C → FromIn C max low (now (words .entry)) (now (bytes .entry)) (r .left) (r .dist)) ⌝ }
 {
     let next = next_outgoing(words);
-    log::messages_from(&words[14..], &bytes[224..], max, next, low)
+    store_log::messages_from(&words[14..], &bytes[224..], max, next, low)
 }
 
 // The next message at a place in the log.
@@ -366,7 +366,7 @@ pub fn message_at(words: &[u64], bytes: &[u8], max: usize, left: usize, dist: us
     ensures { λ r. ⌜ ((C : ℕ) → length (now (bytes .entry)) ≡ 224 + C → ReadIn C max (now (words .entry)) (now (bytes .entry)) left dist (r .number) (r .start) (r .first) (r .rest) (r .left) (r .dist)) ⌝ }
 {
     let next = next_outgoing(words);
-    let f = log::message_at(&words[14..], &bytes[224..], max, next, left, dist);
+    let f = store_log::message_at(&words[14..], &bytes[224..], max, next, left, dist);
     Found {
         number: f.number,
         start: 224 + f.start,

@@ -9,14 +9,14 @@ use lib.ListN.{length, getD, set, length-set}
 use lib.Seq.{getD-set-same, getD-set-other}
 use borrow.Rule.Slice.PartMut.{midOf, putMid}
 use Rattle.model_frame.specs.Frame.{Key}
-use Rattle.model.specs.Store.{newPlace}
-use Rattle.place.specs.Place.{placeIn}
-use Rattle.place.proofs.Fields.{only-set}
-use Rattle.areas.specs.declared.Shape.{Shape}
-use Rattle.areas.specs.Areas.{placeWords, placeBytes, wordsAt, bytesAt, SpotIn, Rules, part, placeAt, countUp, placesOf}
-use Rattle.areas.proofs.Lists.{count-same, count-snoc, part-kept}
-use Rattle.areas.proofs.Lifting.{Put, spot-put, count-kept, other-place, rules-kept-by}
-use Rattle.sessions.specs.Answers.{Opened}
+use Rattle.model_standby.specs.Store.{newPlace}
+use Rattle.store_place.specs.Place.{placeIn}
+use Rattle.store_place.proofs.Fields.{only-set}
+use Rattle.store_areas.specs.declared.Shape.{Shape}
+use Rattle.store_areas.specs.Areas.{placeWords, placeBytes, wordsAt, bytesAt, SpotIn, Rules, part, placeAt, countUp, placesOf}
+use Rattle.store_areas.proofs.Lists.{count-same, count-snoc, part-kept}
+use Rattle.store_areas.proofs.Lifting.{Put, spot-put, count-kept, other-place, rules-kept-by}
+use Rattle.store_sessions.specs.Answers.{Opened}
 
 module _ (s : Shape) (w b : List ℕ) (r : Rules s w b) (h : getD w 0 0 < s .places) where
   abbrev n : ℕ

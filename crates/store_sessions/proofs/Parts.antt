@@ -11,16 +11,16 @@ use Rattle.model_frame.specs.Frame.{Key}
 use Rattle.model_frame.specs.Frame as model-frame
 use Rattle.model_session.specs.Session.{Session}
 use Rattle.model_session.specs.Summary.{lastOut, summary}
-use Rattle.model.specs.Store.{Place, sameKey, sessionAt}
-use Rattle.log.specs.Log.{msg}
-use Rattle.place.specs.Place.{flightIs, keyOf, sessionOf, placeIn, restIn, StandsIn, FromIn, ReadIn}
-use Rattle.areas.specs.declared.Shape.{Shape}
-use Rattle.areas.specs.Areas.{placeWords, placeBytes, wordsAt, bytesAt, allowed, Rules, SpotIn, part, placeAt, placesOf}
-use Rattle.areas.proofs.Lifting.{spot-place, spot-words-part, spot-bytes-part, session-is, places-length}
-use Rattle.store.specs.Answers.{TextAt}
-use Rattle.store.specs.declared.Summary.{Summary}
-use Rattle.store.proofs.Reading.{part-of}
-use Rattle.sessions.specs.Answers.{summaryIs, summarisedIn, restAt, StandsAt, FromAt, ReadAt}
+use Rattle.model_standby.specs.Store.{Place, sameKey, sessionAt}
+use Rattle.store_log.specs.Log.{msg}
+use Rattle.store_place.specs.Place.{flightIs, keyOf, sessionOf, placeIn, restIn, StandsIn, FromIn, ReadIn}
+use Rattle.store_areas.specs.declared.Shape.{Shape}
+use Rattle.store_areas.specs.Areas.{placeWords, placeBytes, wordsAt, bytesAt, allowed, Rules, SpotIn, part, placeAt, placesOf}
+use Rattle.store_areas.proofs.Lifting.{spot-place, spot-words-part, spot-bytes-part, session-is, places-length}
+use Rattle.store_state.specs.Answers.{TextAt}
+use Rattle.store_state.specs.declared.Summary.{Summary}
+use Rattle.store_state.proofs.Reading.{part-of}
+use Rattle.store_sessions.specs.Answers.{summaryIs, summarisedIn, restAt, StandsAt, FromAt, ReadAt}
 
 module _ (s : Shape) (i wa we ba be : ℕ) (w b : List ℕ) (at : SpotIn s i w b wa we ba be) (r : Rules s w b) (h : i < getD w 0 0) where
   abbrev mw : List ℕ

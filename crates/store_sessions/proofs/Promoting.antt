@@ -5,14 +5,14 @@ use Prim.Native.Nat.{ℕ, zero, suc, _+_, _≤_, _<_}
 use native.Mathlib.Omega.{arith}
 use native.Mathlib.Numerals.{add-one}
 use lib.ListN.{length, getD}
-use Rattle.model.specs.Store.{Stored, Place, onStored, onPlace, onPlaces, takenOver}
-use Rattle.place.specs.Only.{Only}
-use Rattle.place.proofs.Fields.{only-none, only-then, only-wider}
-use Rattle.areas.specs.declared.Shape.{Shape}
-use Rattle.areas.specs.Areas.{placeWords, placeBytes, wordsAt, bytesAt, Rules, placesOf, Changed}
-use Rattle.areas.proofs.Lists.{inside}
-use Rattle.areas.proofs.Lifting.{count-kept, rules-kept, places-length}
-use Rattle.sessions.specs.Answers.{TakenOver}
+use Rattle.model_standby.specs.Store.{Stored, Place, onStored, onPlace, onPlaces, takenOver}
+use Rattle.store_place.specs.Only.{Only}
+use Rattle.store_place.proofs.Fields.{only-none, only-then, only-wider}
+use Rattle.store_areas.specs.declared.Shape.{Shape}
+use Rattle.store_areas.specs.Areas.{placeWords, placeBytes, wordsAt, bytesAt, Rules, placesOf, Changed}
+use Rattle.store_areas.proofs.Lists.{inside}
+use Rattle.store_areas.proofs.Lifting.{count-kept, rules-kept, places-length}
+use Rattle.store_sessions.specs.Answers.{TakenOver}
 
 -- f on the first i places
 abbrev pub onFirst : ℕ → (Stored → Stored) → List Place → List Place

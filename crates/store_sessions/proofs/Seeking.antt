@@ -7,10 +7,10 @@ use Prim.Native.Nat.{ℕ, suc, _+_, _-_, _≤_, _<_}
 use native.Mathlib.Omega.{arith}
 use native.Mathlib.Numerals.{add-one}
 use Rattle.model_frame.specs.Frame.{Key}
-use Rattle.model.specs.Store.{Place, sameKey, placeOf}
-use Rattle.areas.specs.declared.Shape.{Shape}
-use Rattle.areas.specs.Areas.{countUp, allowed, placesOf}
-use Rattle.sessions.specs.Answers.{soughtIn}
+use Rattle.model_standby.specs.Store.{Place, sameKey, placeOf}
+use Rattle.store_areas.specs.declared.Shape.{Shape}
+use Rattle.store_areas.specs.Areas.{countUp, allowed, placesOf}
+use Rattle.store_sessions.specs.Answers.{soughtIn}
 
 module _ (k : Key) (f : ℕ → Place) (n : ℕ) where
   pub record Seeking (i : ℕ) : Type 0 where

@@ -9,17 +9,17 @@ use Rattle.model_frame.specs.Frame.{Key}
 use Rattle.model_frame.specs.Frame as model-frame
 use Rattle.model_session.specs.Session.{Session, Msg}
 use Rattle.model_session.specs.Summary.{numberedFrom, summary}
-use Rattle.model.specs.Store.{Place, placeOf, sessionAt, newPlace, onPlaces, takenOver}
-use Rattle.log.specs.Log.{msg}
-use Rattle.place.specs.Only.{Only}
-use Rattle.place.specs.Place.{flightIs, restIn, StandsIn}
-use Rattle.areas.specs.declared.Shape.{Shape}
-use Rattle.areas.specs.Areas.{placeWords, placeBytes, wordsAt, bytesAt, allowed, part, placeAt, placesOf}
-use Rattle.store.specs.declared.Summary.{Summary}
-use Rattle.sessions.specs.declared.Sought.{Sought}
-use Rattle.sessions.specs.declared.Sought
-use Rattle.sessions.specs.declared.Summarised.{Summarised}
-use Rattle.sessions.specs.declared.Summarised
+use Rattle.model_standby.specs.Store.{Place, placeOf, sessionAt, newPlace, onPlaces, takenOver}
+use Rattle.store_log.specs.Log.{msg}
+use Rattle.store_place.specs.Only.{Only}
+use Rattle.store_place.specs.Place.{flightIs, restIn, StandsIn}
+use Rattle.store_areas.specs.declared.Shape.{Shape}
+use Rattle.store_areas.specs.Areas.{placeWords, placeBytes, wordsAt, bytesAt, allowed, part, placeAt, placesOf}
+use Rattle.store_state.specs.declared.Summary.{Summary}
+use Rattle.store_sessions.specs.declared.Sought.{Sought}
+use Rattle.store_sessions.specs.declared.Sought
+use Rattle.store_sessions.specs.declared.Summarised.{Summarised}
+use Rattle.store_sessions.specs.declared.Summarised
 
 -- ---- searching: none is 25
 

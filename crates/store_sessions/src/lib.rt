@@ -5,13 +5,13 @@ ghost use mathlib.Core.List.{List, [], _∷_, _++_};
 ghost use Prim.Native.Nat.{ℕ, _+_, _-_, _*_, _≤_, _<_};
 ghost use lib.ListN.{length, take, drop, getD, set};
 ghost use Rattle.model_session.specs.Summary.{lastOut, summary};
-ghost use Rattle.model.specs.Store.{sameKey, placeOf};
-ghost use Rattle.place.specs.Place.{keyFrom};
-ghost use Rattle.areas.specs.Areas.{Rules, placeAt, placesOf};
-ghost use Rattle.sessions.specs.Answers.{soughtIs, soughtIn, Opened, TakenOver, summaryIs, summarisedIs, summarisedIn, StandsAt, FromAt, ReadAt};
-use areas::Shape;
-use log::Cursor;
-use store::Summary;
+ghost use Rattle.model_standby.specs.Store.{sameKey, placeOf};
+ghost use Rattle.store_place.specs.Place.{keyFrom};
+ghost use Rattle.store_areas.specs.Areas.{Rules, placeAt, placesOf};
+ghost use Rattle.store_sessions.specs.Answers.{soughtIs, soughtIn, Opened, TakenOver, summaryIs, summarisedIs, summarisedIn, StandsAt, FromAt, ReadAt};
+use store_areas::Shape;
+use store_log::Cursor;
+use store_state::Summary;
 
 // The answer to a search: the place of the key, or, where it has none, the number of places in use.
 pub enum Sought {
@@ -54,12 +54,12 @@ fn has_key(
     requires { ⌜ i < getD (now words) 0 0 ⌝ }
     ensures { λ r. ⌜ r ≡ sameKey (keyFrom (now (begin .entry)) (now (sender .entry)) (now (target .entry)) (now (suffix .entry))) (placeAt shape (now (words .entry)) (now (bytes .entry)) i .key) ⌝ }
 {
-    let p = areas::spot_in(words, bytes, shape, i);
+    let p = store_areas::spot_in(words, bytes, shape, i);
     let wa = p.wa;
     let we = p.we;
     let ba = p.ba;
     let be = p.be;
-    place::has_key(
+    store_place::has_key(
         &words[wa..we],
         &bytes[ba..be],
         begin,
@@ -105,7 +105,7 @@ pub fn find(
 ) -> Sought
     ensures { λ r. ⌜ soughtIs r ≡ soughtIn shape (now (words .entry)) (now (bytes .entry)) (keyFrom (now (begin .entry)) (now (sender .entry)) (now (target .entry)) (now (suffix .entry))) ⌝ }
 {
-    if areas::allowed(shape, words, bytes) {
+    if store_areas::allowed(shape, words, bytes) {
         return Sought::Place(place_of(words, bytes, shape, begin, sender, target, suffix));
     }
     Sought::Unfit
@@ -131,13 +131,13 @@ pub fn open(
 {
     let used = words[0] as usize;
     words[0] = (used + 1) as u64;
-    let p = areas::spot_in(words, bytes, shape, used);
+    let p = store_areas::spot_in(words, bytes, shape, used);
     let wa = p.wa;
     let we = p.we;
     let ba = p.ba;
     let be = p.be;
     let max = shape.messages as usize;
-    place::new_session(
+    store_place::new_session(
         &mut words[wa..we],
         &mut bytes[ba..be],
         max,
@@ -158,7 +158,7 @@ pub fn take_over_all(words: &mut [u64], bytes: &mut [u8], shape: Shape, lag: u64
     let used = words[0] as usize;
     let mut i = 0;
     while i < used {
-        store::take_over(words, bytes, shape, i, lag);
+        store_state::take_over(words, bytes, shape, i, lag);
         i += 1;
     }
 }
@@ -171,13 +171,13 @@ pub fn last_outgoing(words: &[u64], bytes: &[u8], shape: Shape, i: usize, n: u64
     requires { ⌜ i < getD (now words) 0 0 ⌝ }
     ensures { λ r. ⌜ r ≡ lastOut (placeAt shape (now (words .entry)) (now (bytes .entry)) i .stored .session) n ⌝ }
 {
-    let p = areas::spot_in(words, bytes, shape, i);
+    let p = store_areas::spot_in(words, bytes, shape, i);
     let wa = p.wa;
     let we = p.we;
     let ba = p.ba;
     let be = p.be;
     let max = shape.messages as usize;
-    place::last_outgoing(&words[wa..we], &bytes[ba..be], max, n)
+    store_place::last_outgoing(&words[wa..we], &bytes[ba..be], max, n)
 }
 
 // The summary of a session in use, with last_outgoing over n.
@@ -186,11 +186,11 @@ pub fn summary_of(words: &[u64], bytes: &[u8], shape: Shape, i: usize, n: u64) -
     requires { ⌜ i < getD (now words) 0 0 ⌝ }
     ensures { λ r. ⌜ summaryIs (now (bytes .entry)) r ≡ summary (placeAt shape (now (words .entry)) (now (bytes .entry)) i .stored .session) n ⌝ }
 {
-    let next_outgoing = store::next_outgoing(words, bytes, shape, i);
-    let next_incoming = store::next_incoming(words, bytes, shape, i);
-    let in_flight = store::in_flight(words, bytes, shape, i);
-    let created_at = store::created_at(words, bytes, shape, i);
-    let marks = store::marks(words, bytes, shape, i);
+    let next_outgoing = store_state::next_outgoing(words, bytes, shape, i);
+    let next_incoming = store_state::next_incoming(words, bytes, shape, i);
+    let in_flight = store_state::in_flight(words, bytes, shape, i);
+    let created_at = store_state::created_at(words, bytes, shape, i);
+    let marks = store_state::marks(words, bytes, shape, i);
     let last_outgoing = last_outgoing(words, bytes, shape, i, n);
     Summary {
         next_outgoing,
@@ -206,7 +206,7 @@ pub fn summary_of(words: &[u64], bytes: &[u8], shape: Shape, i: usize, n: u64) -
 pub fn summary(words: &[u64], bytes: &[u8], shape: Shape, i: usize, n: u64) -> Summarised
     ensures { λ r. ⌜ summarisedIs (now (bytes .entry)) r ≡ summarisedIn shape (now (words .entry)) (now (bytes .entry)) i n ⌝ }
 {
-    if areas::allowed(shape, words, bytes) {
+    if store_areas::allowed(shape, words, bytes) {
         if i < words[0] as usize {
             return Summarised::Session(summary_of(words, bytes, shape, i, n));
         }
@@ -223,13 +223,13 @@ pub fn messages_from(words: &[u64], bytes: &[u8], shape: Shape, i: usize, low: u
     requires { ⌜ 1 ≤ low ⌝ }
     ensures { λ r. ⌜ FromAt shape (now (words .entry)) (now (bytes .entry)) i low (r .left) (r .dist) ⌝ }
 {
-    let p = areas::spot_in(words, bytes, shape, i);
+    let p = store_areas::spot_in(words, bytes, shape, i);
     let wa = p.wa;
     let we = p.we;
     let ba = p.ba;
     let be = p.be;
     let max = shape.messages as usize;
-    place::messages_from(&words[wa..we], &bytes[ba..be], max, low)
+    store_place::messages_from(&words[wa..we], &bytes[ba..be], max, low)
 }
 
 // The next message at a place in the log of a session.
@@ -247,13 +247,13 @@ pub fn message_at(
     requires { ⌜ 1 ≤ left ⌝ }
     ensures { λ r. ⌜ ReadAt shape (now (words .entry)) (now (bytes .entry)) i left dist (r .number) (r .at) (r .first) (r .again) (r .rest) (r .left) (r .dist) ⌝ }
 {
-    let p = areas::spot_in(words, bytes, shape, i);
+    let p = store_areas::spot_in(words, bytes, shape, i);
     let wa = p.wa;
     let we = p.we;
     let ba = p.ba;
     let be = p.be;
     let max = shape.messages as usize;
-    let f = place::message_at(&words[wa..we], &bytes[ba..be], max, left, dist);
+    let f = store_place::message_at(&words[wa..we], &bytes[ba..be], max, left, dist);
     Message {
         number: f.number,
         at: ba + f.start,

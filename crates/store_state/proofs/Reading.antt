@@ -6,13 +6,13 @@ use native.Mathlib.Omega.{arith}
 use lib.ListN.{length, take, drop, getD, set, length-take}
 use lib.Seq.{drop-drop}
 use borrow.Rule.Slice.PartMut.{midOf, putMid, set-mid-at}
-use Rattle.model.specs.Store.{Place}
-use Rattle.log.proofs.Spans.{within}
-use Rattle.place.specs.Place.{nextOutOf, flightOf, durableOf, stampOf, marksOf, sessionOf, placeIn}
-use Rattle.areas.specs.declared.Shape.{Shape}
-use Rattle.areas.specs.Areas.{wordsAt, Rules, SpotIn, placeAt}
-use Rattle.areas.proofs.Lifting.{spot-place}
-use Rattle.store.specs.Answers.{TextAt}
+use Rattle.model_standby.specs.Store.{Place}
+use Rattle.store_log.proofs.Spans.{within}
+use Rattle.store_place.specs.Place.{nextOutOf, flightOf, durableOf, stampOf, marksOf, sessionOf, placeIn}
+use Rattle.store_areas.specs.declared.Shape.{Shape}
+use Rattle.store_areas.specs.Areas.{wordsAt, Rules, SpotIn, placeAt}
+use Rattle.store_areas.proofs.Lifting.{spot-place}
+use Rattle.store_state.specs.Answers.{TextAt}
 
 module _ (s : Shape) (i wa we ba be : ℕ) (w b : List ℕ) (at : SpotIn s i w b wa we ba be) (r : Rules s w b) (h : i < getD w 0 0) where
   abbrev mw : List ℕ

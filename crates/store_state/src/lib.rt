@@ -7,12 +7,12 @@ ghost use lib.ListN.{length, take, drop, getD, set};
 ghost use Rattle.model_text.specs.Printable.{isMarks};
 ghost use Rattle.model_text.specs.Stamp.{isStamp};
 ghost use Rattle.model_frame.specs.Frame.{setIncoming, setIncomingInFlight, setInFlight, recordMsg, recordBare, reset, setCreatedAt, setMarks};
-ghost use Rattle.model.specs.Store.{changed, markDurable, takenOver, placeOf};
-ghost use Rattle.place.specs.Place.{keyFrom, flightIs};
-ghost use Rattle.areas.specs.Areas.{wordsAt, Rules, Changed, placeAt, placesOf};
-ghost use Rattle.store.specs.Answers.{TextAt};
-use areas::Shape;
-use place::Flight;
+ghost use Rattle.model_standby.specs.Store.{changed, markDurable, takenOver, placeOf};
+ghost use Rattle.store_place.specs.Place.{keyFrom, flightIs};
+ghost use Rattle.store_areas.specs.Areas.{wordsAt, Rules, Changed, placeAt, placesOf};
+ghost use Rattle.store_state.specs.Answers.{TextAt};
+use store_areas::Shape;
+use store_place::Flight;
 
 // A text in the byte area.
 #[repr(C)]
@@ -39,10 +39,10 @@ pub fn next_outgoing(words: &[u64], bytes: &[u8], shape: Shape, i: usize) -> u64
     requires { ⌜ i < getD (now words) 0 0 ⌝ }
     ensures { λ r. ⌜ r ≡ placeAt shape (now (words .entry)) (now (bytes .entry)) i .stored .session .nextOut ⌝ }
 {
-    let p = areas::spot_in(words, bytes, shape, i);
+    let p = store_areas::spot_in(words, bytes, shape, i);
     let wa = p.wa;
     let we = p.we;
-    place::next_outgoing(&words[wa..we])
+    store_place::next_outgoing(&words[wa..we])
 }
 
 pub fn next_incoming(words: &[u64], bytes: &[u8], shape: Shape, i: usize) -> u64
@@ -50,10 +50,10 @@ pub fn next_incoming(words: &[u64], bytes: &[u8], shape: Shape, i: usize) -> u64
     requires { ⌜ i < getD (now words) 0 0 ⌝ }
     ensures { λ r. ⌜ r ≡ placeAt shape (now (words .entry)) (now (bytes .entry)) i .stored .session .nextIn ⌝ }
 {
-    let p = areas::spot_in(words, bytes, shape, i);
+    let p = store_areas::spot_in(words, bytes, shape, i);
     let wa = p.wa;
     let we = p.we;
-    place::next_incoming(&words[wa..we])
+    store_place::next_incoming(&words[wa..we])
 }
 
 pub fn in_flight(words: &[u64], bytes: &[u8], shape: Shape, i: usize) -> Flight
@@ -61,10 +61,10 @@ pub fn in_flight(words: &[u64], bytes: &[u8], shape: Shape, i: usize) -> Flight
     requires { ⌜ i < getD (now words) 0 0 ⌝ }
     ensures { λ r. ⌜ flightIs r ≡ placeAt shape (now (words .entry)) (now (bytes .entry)) i .stored .session .inFlight ⌝ }
 {
-    let p = areas::spot_in(words, bytes, shape, i);
+    let p = store_areas::spot_in(words, bytes, shape, i);
     let wa = p.wa;
     let we = p.we;
-    place::in_flight(&words[wa..we])
+    store_place::in_flight(&words[wa..we])
 }
 
 pub fn durable(words: &[u64], bytes: &[u8], shape: Shape, i: usize) -> bool
@@ -72,10 +72,10 @@ pub fn durable(words: &[u64], bytes: &[u8], shape: Shape, i: usize) -> bool
     requires { ⌜ i < getD (now words) 0 0 ⌝ }
     ensures { λ r. ⌜ r ≡ placeAt shape (now (words .entry)) (now (bytes .entry)) i .stored .durable ⌝ }
 {
-    let p = areas::spot_in(words, bytes, shape, i);
+    let p = store_areas::spot_in(words, bytes, shape, i);
     let wa = p.wa;
     let we = p.we;
-    place::durable(&words[wa..we])
+    store_place::durable(&words[wa..we])
 }
 
 // The stamp, empty for none.
@@ -84,12 +84,12 @@ pub fn created_at(words: &[u64], bytes: &[u8], shape: Shape, i: usize) -> Text
     requires { ⌜ i < getD (now words) 0 0 ⌝ }
     ensures { λ r. ⌜ TextAt (now (bytes .entry)) (placeAt shape (now (words .entry)) (now (bytes .entry)) i .stored .session .stamp) (r .at) (r .len) ⌝ }
 {
-    let p = areas::spot_in(words, bytes, shape, i);
+    let p = store_areas::spot_in(words, bytes, shape, i);
     let wa = p.wa;
     let we = p.we;
     let ba = p.ba;
     let be = p.be;
-    let len = place::stamp_len(&words[wa..we], &bytes[ba..be]);
+    let len = store_place::stamp_len(&words[wa..we], &bytes[ba..be]);
     Text { at: ba + 128, len }
 }
 
@@ -99,12 +99,12 @@ pub fn marks(words: &[u64], bytes: &[u8], shape: Shape, i: usize) -> Text
     requires { ⌜ i < getD (now words) 0 0 ⌝ }
     ensures { λ r. ⌜ TextAt (now (bytes .entry)) (placeAt shape (now (words .entry)) (now (bytes .entry)) i .stored .session .marks) (r .at) (r .len) ⌝ }
 {
-    let p = areas::spot_in(words, bytes, shape, i);
+    let p = store_areas::spot_in(words, bytes, shape, i);
     let wa = p.wa;
     let we = p.we;
     let ba = p.ba;
     let be = p.be;
-    let len = place::marks_len(&words[wa..we], &bytes[ba..be]);
+    let len = store_place::marks_len(&words[wa..we], &bytes[ba..be]);
     Text { at: ba + 160, len }
 }
 
@@ -115,10 +115,10 @@ pub fn set_next_incoming(words: &mut [u64], bytes: &[u8], shape: Shape, i: usize
     requires { ⌜ i < getD (now words) 0 0 ⌝ }
     ensures { λ _. ⌜ Changed shape i (changed (shape .bytes) (shape .messages) (setIncoming seq ∷ [])) (now (words .entry)) (now (words .exit)) (now (bytes .entry)) (now (bytes .entry)) ⌝ }
 {
-    let p = areas::spot_in(words, bytes, shape, i);
+    let p = store_areas::spot_in(words, bytes, shape, i);
     let wa = p.wa;
     let we = p.we;
-    place::set_next_incoming(&mut words[wa..we], seq);
+    store_place::set_next_incoming(&mut words[wa..we], seq);
 }
 
 pub fn set_next_incoming_in_flight(
@@ -133,10 +133,10 @@ pub fn set_next_incoming_in_flight(
     requires { ⌜ i < getD (now words) 0 0 ⌝ }
     ensures { λ _. ⌜ Changed shape i (changed (shape .bytes) (shape .messages) (setIncomingInFlight seq «in_flight» ∷ [])) (now (words .entry)) (now (words .exit)) (now (bytes .entry)) (now (bytes .entry)) ⌝ }
 {
-    let p = areas::spot_in(words, bytes, shape, i);
+    let p = store_areas::spot_in(words, bytes, shape, i);
     let wa = p.wa;
     let we = p.we;
-    place::set_next_incoming_in_flight(&mut words[wa..we], seq, in_flight);
+    store_place::set_next_incoming_in_flight(&mut words[wa..we], seq, in_flight);
 }
 
 pub fn set_in_flight(words: &mut [u64], bytes: &[u8], shape: Shape, i: usize, seq: u64)
@@ -144,10 +144,10 @@ pub fn set_in_flight(words: &mut [u64], bytes: &[u8], shape: Shape, i: usize, se
     requires { ⌜ i < getD (now words) 0 0 ⌝ }
     ensures { λ _. ⌜ Changed shape i (changed (shape .bytes) (shape .messages) (setInFlight seq ∷ [])) (now (words .entry)) (now (words .exit)) (now (bytes .entry)) (now (bytes .entry)) ⌝ }
 {
-    let p = areas::spot_in(words, bytes, shape, i);
+    let p = store_areas::spot_in(words, bytes, shape, i);
     let wa = p.wa;
     let we = p.we;
-    place::set_in_flight(&mut words[wa..we], seq);
+    store_place::set_in_flight(&mut words[wa..we], seq);
 }
 
 // A Record with its message, a part of the frame, whose number is the next outgoing one.
@@ -158,13 +158,13 @@ pub fn record(words: &mut [u64], bytes: &mut [u8], shape: Shape, i: usize, seq: 
     requires { ⌜ seq < 18446744073709551615 ⌝ }
     ensures { λ _. ⌜ Changed shape i (changed (shape .bytes) (shape .messages) (recordMsg seq (now (text .entry)) ∷ [])) (now (words .entry)) (now (words .exit)) (now (bytes .entry)) (now (bytes .exit)) ⌝ }
 {
-    let p = areas::spot_in(words, bytes, shape, i);
+    let p = store_areas::spot_in(words, bytes, shape, i);
     let wa = p.wa;
     let we = p.we;
     let ba = p.ba;
     let be = p.be;
     let max = shape.messages as usize;
-    place::record(&mut words[wa..we], &mut bytes[ba..be], max, seq, text);
+    store_place::record(&mut words[wa..we], &mut bytes[ba..be], max, seq, text);
 }
 
 // A Record without message, of a number from the next outgoing one on.
@@ -175,11 +175,11 @@ pub fn record_none(words: &mut [u64], bytes: &[u8], shape: Shape, i: usize, seq:
     requires { ⌜ seq < 18446744073709551615 ⌝ }
     ensures { λ _. ⌜ Changed shape i (changed (shape .bytes) (shape .messages) (recordBare seq ∷ [])) (now (words .entry)) (now (words .exit)) (now (bytes .entry)) (now (bytes .entry)) ⌝ }
 {
-    let p = areas::spot_in(words, bytes, shape, i);
+    let p = store_areas::spot_in(words, bytes, shape, i);
     let wa = p.wa;
     let we = p.we;
     let max = shape.messages as usize;
-    place::record_none(&mut words[wa..we], max, seq);
+    store_place::record_none(&mut words[wa..we], max, seq);
 }
 
 pub fn reset(words: &mut [u64], bytes: &[u8], shape: Shape, i: usize)
@@ -187,11 +187,11 @@ pub fn reset(words: &mut [u64], bytes: &[u8], shape: Shape, i: usize)
     requires { ⌜ i < getD (now words) 0 0 ⌝ }
     ensures { λ _. ⌜ Changed shape i (changed (shape .bytes) (shape .messages) (reset ∷ [])) (now (words .entry)) (now (words .exit)) (now (bytes .entry)) (now (bytes .entry)) ⌝ }
 {
-    let p = areas::spot_in(words, bytes, shape, i);
+    let p = store_areas::spot_in(words, bytes, shape, i);
     let wa = p.wa;
     let we = p.we;
     let max = shape.messages as usize;
-    place::reset(&mut words[wa..we], max);
+    store_place::reset(&mut words[wa..we], max);
 }
 
 pub fn set_created_at(words: &mut [u64], bytes: &mut [u8], shape: Shape, i: usize, text: &[u8])
@@ -200,12 +200,12 @@ pub fn set_created_at(words: &mut [u64], bytes: &mut [u8], shape: Shape, i: usiz
     requires { ⌜ isStamp (now text) ≡ true ⌝ }
     ensures { λ _. ⌜ Changed shape i (changed (shape .bytes) (shape .messages) (setCreatedAt (now (text .entry)) ∷ [])) (now (words .entry)) (now (words .exit)) (now (bytes .entry)) (now (bytes .exit)) ⌝ }
 {
-    let p = areas::spot_in(words, bytes, shape, i);
+    let p = store_areas::spot_in(words, bytes, shape, i);
     let wa = p.wa;
     let we = p.we;
     let ba = p.ba;
     let be = p.be;
-    place::set_created_at(&mut words[wa..we], &mut bytes[ba..be], text);
+    store_place::set_created_at(&mut words[wa..we], &mut bytes[ba..be], text);
 }
 
 pub fn set_marks(words: &mut [u64], bytes: &mut [u8], shape: Shape, i: usize, text: &[u8])
@@ -214,12 +214,12 @@ pub fn set_marks(words: &mut [u64], bytes: &mut [u8], shape: Shape, i: usize, te
     requires { ⌜ isMarks (now text) ≡ true ⌝ }
     ensures { λ _. ⌜ Changed shape i (changed (shape .bytes) (shape .messages) (setMarks (now (text .entry)) ∷ [])) (now (words .entry)) (now (words .exit)) (now (bytes .entry)) (now (bytes .exit)) ⌝ }
 {
-    let p = areas::spot_in(words, bytes, shape, i);
+    let p = store_areas::spot_in(words, bytes, shape, i);
     let wa = p.wa;
     let we = p.we;
     let ba = p.ba;
     let be = p.be;
-    place::set_marks(&mut words[wa..we], &mut bytes[ba..be], text);
+    store_place::set_marks(&mut words[wa..we], &mut bytes[ba..be], text);
 }
 
 // ---- commits and promotion
@@ -230,10 +230,10 @@ pub fn mark_durable(words: &mut [u64], bytes: &[u8], shape: Shape, i: usize)
     ensures marked { λ _. ⌜ Changed shape i (markDurable) (now (words .entry)) (now (words .exit)) (now (bytes .entry)) (now (bytes .entry)) ⌝ }
     ensures word { λ _. ⌜ now (words .exit) ≡ set (now (words .entry)) (wordsAt shape i + 4) 1 ⌝ }
 {
-    let p = areas::spot_in(words, bytes, shape, i);
+    let p = store_areas::spot_in(words, bytes, shape, i);
     let wa = p.wa;
     let we = p.we;
-    place::mark_durable(&mut words[wa..we]);
+    store_place::mark_durable(&mut words[wa..we]);
 }
 
 // Promotion's work on one session.
@@ -242,11 +242,11 @@ pub fn take_over(words: &mut [u64], bytes: &mut [u8], shape: Shape, i: usize, la
     requires { ⌜ i < getD (now words) 0 0 ⌝ }
     ensures { λ _. ⌜ Changed shape i (takenOver lag) (now (words .entry)) (now (words .exit)) (now (bytes .entry)) (now (bytes .exit)) ⌝ }
 {
-    let p = areas::spot_in(words, bytes, shape, i);
+    let p = store_areas::spot_in(words, bytes, shape, i);
     let wa = p.wa;
     let we = p.we;
     let ba = p.ba;
     let be = p.be;
     let max = shape.messages as usize;
-    place::take_over(&mut words[wa..we], &mut bytes[ba..be], max, lag);
+    store_place::take_over(&mut words[wa..we], &mut bytes[ba..be], max, lag);
 }

@@ -4,28 +4,28 @@ use mathlib.Core.Path.{_≡_, refl, sym, ap, _∙_}
 use mathlib.Core.Bool.{Bool, cond}
 use mathlib.Core.List.{List, [], _∷_, _++_, map}
 use mathlib.Core.Option.{some}
-use Rattle.laws.proofs.Lists.{both}
+use Rattle.base_laws.proofs.Lists.{both}
 use Rattle.model_frame.specs.Frame.{Frame}
 use Rattle.model_frame.specs.Writing.{encode}
 use Rattle.model_session.specs.Session.{Session}
-use Rattle.areas.specs.declared.Shape.{Shape}
-use Rattle.areas.specs.Areas.{allowed, Rules, placesOf}
-use Rattle.areas.proofs.Ruling.{rules-of}
-use Rattle.model.specs.Store.{sessionAt}
-use Rattle.model.specs.State.{Bound, Standby, Call, onFrameHeld}
-use Rattle.model.specs.State as state
-use Rattle.model.specs.Standby.{step, run}
-use Rattle.model.specs.PlainCopy.{OwnKey}
-use Rattle.model.specs.Demand as model
-use Rattle.model.proofs.Demand3 as theorem
+use Rattle.store_areas.specs.declared.Shape.{Shape}
+use Rattle.store_areas.specs.Areas.{allowed, Rules, placesOf}
+use Rattle.store_areas.proofs.Ruling.{rules-of}
+use Rattle.model_standby.specs.Store.{sessionAt}
+use Rattle.model_standby.specs.State.{Bound, Standby, Call, onFrameHeld}
+use Rattle.model_standby.specs.State as state
+use Rattle.model_standby.specs.Standby.{step, run}
+use Rattle.model_standby.specs.PlainCopy.{OwnKey}
+use Rattle.model_standby.specs.Demand as model
+use Rattle.model_standby.proofs.Demand3 as theorem
 use Rattle.active.specs.declared.Sending.{Sending}
 use Rattle.active.specs.declared.Sent
 use Rattle.active.specs.declared.Sent.{Sent}
 use Rattle.active.specs.Whole.{SendsWhole, Sofar, SentWhole}
-use Rattle.outcome.specs.declared.Settings.{Settings}
-use Rattle.steps.specs.Calls.{roomAll}
-use Rattle.demand.specs.Demand.{Lent, stands, settings, Runs, First, Start, framesOfA, Claim}
-use Rattle.demand.proofs.Model.{runs, modelled}
+use Rattle.standby_state.specs.declared.Settings.{Settings}
+use Rattle.standby_step.specs.Calls.{roomAll}
+use Rattle.theorem_whole_copy.specs.Demand.{Lent, stands, settings, Runs, First, Start, framesOfA, Claim}
+use Rattle.theorem_whole_copy.proofs.Model.{runs, modelled}
 
 run-append : (L : state.Settings) (st : Standby) (cs more : List Call) → run L (run L st cs) more ≡ run L st (cs ++ more)
 run-append L st [] more = refl

@@ -8,18 +8,18 @@ use lib.ListN.{replicate}
 use Rattle.model_text.specs.Printable.{isPlain, isPrintable, isMarks}
 use Rattle.model_session.specs.Session.{newSession, Holdable}
 use Rattle.model_session.specs.Whole.{wholeBatches}
-use Rattle.row.specs.declared.Handle.{Handle}
-use Rattle.areas.specs.Areas.{allowed, placeAt, placesOf, Rules}
-use Rattle.areas.proofs.Ruling.{rules-true}
-use Rattle.areas.proofs.Lifting.{place-is, session-is}
-use Rattle.hold.proofs.Held.{held-none}
-use Rattle.model.specs.Answer.{protocolVersion}
-use Rattle.model.specs.Store.{Place}
-use Rattle.model.specs.State.{Bound}
-use Rattle.model.proofs.Places.{own-made}
-use Rattle.on_batch.specs.State.{boundOf}
-use Rattle.outcome.specs.declared.Settings.{Settings}
-use Rattle.demand.specs.Demand.{Lent, Start}
+use Rattle.standby_row.specs.declared.Handle.{Handle}
+use Rattle.store_areas.specs.Areas.{allowed, placeAt, placesOf, Rules}
+use Rattle.store_areas.proofs.Ruling.{rules-true}
+use Rattle.store_areas.proofs.Lifting.{place-is, session-is}
+use Rattle.standby_changes.proofs.Held.{held-none}
+use Rattle.model_standby.specs.Answer.{protocolVersion}
+use Rattle.model_standby.specs.Store.{Place}
+use Rattle.model_standby.specs.State.{Bound}
+use Rattle.model_standby.proofs.Places.{own-made}
+use Rattle.standby_part.specs.State.{boundOf}
+use Rattle.standby_state.specs.declared.Settings.{Settings}
+use Rattle.theorem_whole_copy.specs.Demand.{Lent, Start}
 
 abbrev s₀ : Settings
 s₀ = record { shape = record { places = 1; bytes = 0; messages = 0 }; incarnation = record { 0 = 7 }; lag = 0 }

@@ -6,20 +6,20 @@ use mathlib.Core.List.{List}
 use lib.Dec.{T, eqb}
 use Rattle.model_frame.specs.Frame.{Frame}
 use Rattle.model_frame.specs.Parse.{isEmpty}
-use Rattle.model.specs.Answer.{accepted}
-use Rattle.model.specs.Answer as answer
-use Rattle.model.specs.State.{Standby, Call, Result}
-use Rattle.model.specs.State as state
-use Rattle.model.specs.Standby.{step, run}
-use Rattle.model.specs.Demand.{Aside, FirstList}
-use Rattle.model.specs.Demand as model
-use Rattle.outcome.specs.declared.Settings.{Settings}
-use Rattle.outcome.specs.declared.Answer.{Answer}
-use Rattle.outcome.specs.Answers.{answerOf}
-use Rattle.outcome.specs.Outcomes.{settingsOf}
-use Rattle.steps.specs.Steps.{roomOf}
-use Rattle.steps.specs.Calls.{roomAll}
-use Rattle.demand.specs.Demand.{Lent, stands, Allowed, Calls, Runs, over, call, First, ends, ours, aside, flushes, drops, tookLast, AllTaken}
+use Rattle.model_standby.specs.Answer.{accepted}
+use Rattle.model_standby.specs.Answer as answer
+use Rattle.model_standby.specs.State.{Standby, Call, Result}
+use Rattle.model_standby.specs.State as state
+use Rattle.model_standby.specs.Standby.{step, run}
+use Rattle.model_standby.specs.Demand.{Aside, FirstList}
+use Rattle.model_standby.specs.Demand as model
+use Rattle.standby_state.specs.declared.Settings.{Settings}
+use Rattle.standby_state.specs.declared.Answer.{Answer}
+use Rattle.standby_state.specs.Answers.{answerOf}
+use Rattle.standby_state.specs.Outcomes.{settingsOf}
+use Rattle.standby_step.specs.Steps.{roomOf}
+use Rattle.standby_step.specs.Calls.{roomAll}
+use Rattle.theorem_whole_copy.specs.Demand.{Lent, stands, Allowed, Calls, Runs, over, call, First, ends, ours, aside, flushes, drops, tookLast, AllTaken}
 
 module _ (s : Settings) (room : ℕ) where
   abbrev L : state.Settings

@@ -1,5 +1,5 @@
 -- DEMAND 3 ON THE CODE. A session sent whole into the standby ends in exactly A or exactly B. Each step of the lists below is what
--- the contract of the entry point that was called promises (`Called`, crates/steps/specs/Calls.antt), so this speaks of the code.
+-- the contract of the entry point that was called promises (`Called`, crates/standby_step/specs/Calls.antt), so this speaks of the code.
 -- Assumes nothing.
 use Prim.Native.Nat.{ℕ, _+_, _^_, _≤_, _<_}
 use mathlib.Core.Path.{_≡_}
@@ -13,21 +13,21 @@ use Rattle.model_frame.specs.Parse.{isEmpty}
 use Rattle.model_frame.specs.Writing.{encode}
 use Rattle.model_session.specs.Session.{Session, Holdable, top}
 use Rattle.model_session.specs.Whole.{wholeBatches, wholeFrames, holdLength}
-use Rattle.row.specs.declared.Handle.{Handle}
-use Rattle.areas.specs.Areas.{placesOf}
-use Rattle.model.specs.Answer.{accepted}
-use Rattle.model.specs.Row.{find}
-use Rattle.model.specs.Store.{sessionAt}
-use Rattle.model.specs.State.{Bound, Standby, Call, flush, disconnectedFrom}
-use Rattle.model.specs.State as state
-use Rattle.model.specs.PlainCopy.{OwnKey, ownKey, copyAt, copyRun}
-use Rattle.model.specs.Demand.{Hands, Aside, allPlain}
-use Rattle.outcome.specs.declared.Replica.{Replica}
-use Rattle.outcome.specs.declared.Settings.{Settings}
-use Rattle.outcome.specs.declared.Answer.{Answer}
-use Rattle.outcome.specs.Answers.{answerOf}
-use Rattle.outcome.specs.Outcomes.{settingsOf}
-use Rattle.steps.specs.Calls.{roomAll, standbyOf, allowedAll, Called}
+use Rattle.standby_row.specs.declared.Handle.{Handle}
+use Rattle.store_areas.specs.Areas.{placesOf}
+use Rattle.model_standby.specs.Answer.{accepted}
+use Rattle.model_standby.specs.Row.{find}
+use Rattle.model_standby.specs.Store.{sessionAt}
+use Rattle.model_standby.specs.State.{Bound, Standby, Call, flush, disconnectedFrom}
+use Rattle.model_standby.specs.State as state
+use Rattle.model_standby.specs.PlainCopy.{OwnKey, ownKey, copyAt, copyRun}
+use Rattle.model_standby.specs.Demand.{Hands, Aside, allPlain}
+use Rattle.standby_state.specs.declared.Replica.{Replica}
+use Rattle.standby_state.specs.declared.Settings.{Settings}
+use Rattle.standby_state.specs.declared.Answer.{Answer}
+use Rattle.standby_state.specs.Answers.{answerOf}
+use Rattle.standby_state.specs.Outcomes.{settingsOf}
+use Rattle.standby_step.specs.Calls.{roomAll, standbyOf, allowedAll, Called}
 
 -- what is lent for each call: the counters, the row of handles, the store's two areas, the hold areas
 pub record Lent : Type 0 where

@@ -9,20 +9,20 @@
 use active::Begun;
 use active::Sending;
 use active::Sent;
-use areas::Shape;
+use base_hex::Line;
 use frame::CommitNumber;
 use frame::Epoch;
 use frame::Incarnation;
-use hex::Line;
 use libc::STDIN_FILENO;
 use libc::STDOUT_FILENO;
-use outcome::Answer;
-use outcome::Replica;
-use outcome::Settings;
-use place::Flight;
-use row::Handle;
-use sessions::Summarised;
-use store::Summary;
+use standby_row::Handle;
+use standby_state::Answer;
+use standby_state::Replica;
+use standby_state::Settings;
+use store_areas::Shape;
+use store_place::Flight;
+use store_sessions::Summarised;
+use store_state::Summary;
 
 // The stores' shape, what the standby keeps, the sending, the length of the frame that it gave last, and B's hash.
 #[repr(C)]
@@ -53,11 +53,11 @@ fn put_answer(a: Answer) {
 
 // The hash h carried over a text's length and bytes.
 fn text_hash(h: u64, bytes: &[u8], at: usize, len: usize) -> u64 {
-    let h = log::fnv::word(h, len as u64);
+    let h = store_log::fnv::word(h, len as u64);
     if at <= bytes.len() {
         if len <= bytes.len() - at {
             let end = at + len;
-            return log::fnv::bytes(h, &bytes[at..end]);
+            return store_log::fnv::bytes(h, &bytes[at..end]);
         }
     }
     h
@@ -65,8 +65,8 @@ fn text_hash(h: u64, bytes: &[u8], at: usize, len: usize) -> u64 {
 
 fn flight_hash(h: u64, f: Flight) -> u64 {
     match f {
-        Flight::Nothing => log::fnv::word(h, 0),
-        Flight::Number(n) => log::fnv::word(log::fnv::word(h, 1), n),
+        Flight::Nothing => store_log::fnv::word(h, 0),
+        Flight::Number(n) => store_log::fnv::word(store_log::fnv::word(h, 1), n),
     }
 }
 
@@ -75,17 +75,17 @@ fn summary_hash(bytes: &[u8], s: Summary) -> u64 {
     let stamp = s.created_at;
     let marks = s.marks;
     let flight = s.in_flight;
-    let h = log::fnv::word(0xcbf2_9ce4_8422_2325, s.next_outgoing);
-    let h = log::fnv::word(h, s.next_incoming);
+    let h = store_log::fnv::word(0xcbf2_9ce4_8422_2325, s.next_outgoing);
+    let h = store_log::fnv::word(h, s.next_incoming);
     let h = flight_hash(h, flight);
     let h = text_hash(h, bytes, stamp.at, stamp.len);
     let h = text_hash(h, bytes, marks.at, marks.len);
-    log::fnv::word(h, s.last_outgoing)
+    store_log::fnv::word(h, s.last_outgoing)
 }
 
 // The hash of a store's first session, 0 where it has none.
 fn hash(words: &[u64], bytes: &[u8], shape: Shape) -> u64 {
-    match sessions::summary(words, bytes, shape, 0, u64::MAX) {
+    match store_sessions::summary(words, bytes, shape, 0, u64::MAX) {
         Summarised::Session(s) => summary_hash(bytes, s),
         Summarised::Unfit => 0,
     }
@@ -106,16 +106,16 @@ fn put_which(now: u64, a: u64, b: u64) {
 
 // Two new stores and a new standby.
 fn make(line: &[u8], wa: &mut [u64], ba: &[u8], wb: &mut [u64], bb: &[u8]) -> Way {
-    let places = script::low(script::field(line, 0));
-    let cap = script::low(script::field(line, 1));
-    let max = script::low(script::field(line, 2));
+    let places = vectors_script::low(vectors_script::field(line, 0));
+    let cap = vectors_script::low(vectors_script::field(line, 1));
+    let max = vectors_script::low(vectors_script::field(line, 2));
     let shape = Shape {
         places,
         bytes: cap,
         messages: max,
     };
-    store_c::store_make(wa, ba, shape);
-    store_c::store_make(wb, bb, shape);
+    c_store::store_make(wa, ba, shape);
+    c_store::store_make(wb, bb, shape);
     start(shape)
 }
 
@@ -124,7 +124,7 @@ fn start(shape: Shape) -> Way {
     Way {
         shape,
         replica: replica::new(),
-        row: [row::nobody(); 4],
+        row: [standby_row::nobody(); 4],
         sending: Sending {
             place: 0,
             handle: 0,
@@ -140,7 +140,7 @@ fn start(shape: Shape) -> Way {
 
 // Opens A, with this target.
 fn open(words: &mut [u64], bytes: &mut [u8], shape: Shape, target: &[u8]) {
-    store_c::store_open(words, bytes, shape, b"FIX.4.4", b"A", target, b"");
+    c_store::store_open(words, bytes, shape, b"FIX.4.4", b"A", target, b"");
 }
 
 // A change of A.
@@ -152,18 +152,18 @@ fn change(
     shape: Shape,
     room: &mut [u8],
 ) {
-    let n = script::field(line, 0);
+    let n = vectors_script::field(line, 0);
     if line.len() < 2 {
         return;
     }
     match letter {
         b'o' => open(words, bytes, shape, &line[2..]),
-        b'm' => fill::record(words, bytes, shape, 0, &line[2..]),
-        b'l' => fill::record_made(words, bytes, shape, 0, n as usize, room),
-        b'g' => fill::skip(words, bytes, shape, 0, n),
-        b'b' => fill::set_both(words, bytes, shape, 0, n, script::field(line, 1)),
-        b't' => fill::set_stamp(words, bytes, shape, 0, &line[2..]),
-        b'k' => fill::set_marks(words, bytes, shape, 0, &line[2..]),
+        b'm' => vectors_fill::record(words, bytes, shape, 0, &line[2..]),
+        b'l' => vectors_fill::record_made(words, bytes, shape, 0, n as usize, room),
+        b'g' => vectors_fill::skip(words, bytes, shape, 0, n),
+        b'b' => vectors_fill::set_both(words, bytes, shape, 0, n, vectors_script::field(line, 1)),
+        b't' => vectors_fill::set_stamp(words, bytes, shape, 0, &line[2..]),
+        b'k' => vectors_fill::set_marks(words, bytes, shape, 0, &line[2..]),
         _ => {}
     }
 }
@@ -207,7 +207,7 @@ fn hand_line(
     a: u64,
 ) -> Way {
     let mut frame = [0u8; 8192];
-    match hex::read_line(digits, &mut frame) {
+    match base_hex::read_line(digits, &mut frame) {
         Line::Bytes(n) => {
             if n <= 8192 {
                 return hand(&frame[0..n], words, bytes, holds, w, a);
@@ -248,9 +248,9 @@ fn hand_with(
 
 // Begins the sending; b is B's hash.
 fn begin(line: &[u8], words: &[u64], bytes: &[u8], w: Way, b: u64) -> Way {
-    let handle = script::low(script::field(line, 0));
-    let epoch = Epoch(script::field(line, 1));
-    let last = CommitNumber(script::field(line, 2));
+    let handle = vectors_script::low(vectors_script::field(line, 0));
+    let epoch = Epoch(vectors_script::field(line, 1));
+    let last = CommitNumber(vectors_script::field(line, 2));
     let mut next = w;
     next.before = b;
     match Sending::begin(w.shape, words, bytes, 0, handle, epoch, last) {
@@ -314,8 +314,17 @@ fn command(
         }
         b'=' => hand_with(0, 0, out, wb, bb, holds, w, a),
         b'x' => {
-            let n = (script::field(line, 1) % 256) as u8;
-            hand_with(script::field(line, 0) as usize, n, out, wb, bb, holds, w, a)
+            let n = (vectors_script::field(line, 1) % 256) as u8;
+            hand_with(
+                vectors_script::field(line, 0) as usize,
+                n,
+                out,
+                wb,
+                bb,
+                holds,
+                w,
+                a,
+            )
         }
         _ => {
             change(letter, line, wa, ba, shape, out);
@@ -342,7 +351,7 @@ fn run(
     let mut at: usize = 0;
     while at < script.len() {
         let from = at;
-        let end = script::line_end(script, from);
+        let end = vectors_script::line_end(script, from);
         at = end + 1;
         now = command(&script[from..end], wa, ba, wb, bb, holds, out, now);
     }

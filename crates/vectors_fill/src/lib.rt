@@ -1,39 +1,39 @@
 // The changes of a session that the programs make: one that can't be made is left out.
-use areas::Shape;
 use std::num::wrapping_add_u64;
+use store_areas::Shape;
 
 pub fn set_incoming(words: &mut [u64], bytes: &[u8], shape: Shape, i: usize, seq: u64) {
-    store_c::store_set_next_incoming(words, bytes, shape, i, seq);
+    c_store::store_set_next_incoming(words, bytes, shape, i, seq);
 }
 
 pub fn set_both(words: &mut [u64], bytes: &[u8], shape: Shape, i: usize, seq: u64, flight: u64) {
-    store_c::store_set_next_incoming_in_flight(words, bytes, shape, i, seq, flight);
+    c_store::store_set_next_incoming_in_flight(words, bytes, shape, i, seq, flight);
 }
 
 pub fn set_flight(words: &mut [u64], bytes: &[u8], shape: Shape, i: usize, seq: u64) {
-    store_c::store_set_in_flight(words, bytes, shape, i, seq);
+    c_store::store_set_in_flight(words, bytes, shape, i, seq);
 }
 
 // A Record without message.
 pub fn skip(words: &mut [u64], bytes: &[u8], shape: Shape, i: usize, seq: u64) {
-    store_c::store_record_none(words, bytes, shape, i, seq);
+    c_store::store_record_none(words, bytes, shape, i, seq);
 }
 
 pub fn reset(words: &mut [u64], bytes: &[u8], shape: Shape, i: usize) {
-    store_c::store_reset(words, bytes, shape, i);
+    c_store::store_reset(words, bytes, shape, i);
 }
 
 pub fn set_stamp(words: &mut [u64], bytes: &mut [u8], shape: Shape, i: usize, text: &[u8]) {
-    store_c::store_set_created_at(words, bytes, shape, i, text);
+    c_store::store_set_created_at(words, bytes, shape, i, text);
 }
 
 pub fn set_marks(words: &mut [u64], bytes: &mut [u8], shape: Shape, i: usize, text: &[u8]) {
-    store_c::store_set_marks(words, bytes, shape, i, text);
+    c_store::store_set_marks(words, bytes, shape, i, text);
 }
 
 // A Record of the next outgoing number with this message.
 pub fn record(words: &mut [u64], bytes: &mut [u8], shape: Shape, i: usize, text: &[u8]) {
-    store_c::store_record(words, bytes, shape, i, text);
+    c_store::store_record(words, bytes, shape, i, text);
 }
 
 // Bytes that count on from a number, modulo 251.
@@ -55,7 +55,7 @@ pub fn record_made(
     room: &mut [u8],
 ) {
     if len <= room.len() {
-        let seq = store_c::store_next_outgoing(words, bytes, shape, i);
+        let seq = c_store::store_next_outgoing(words, bytes, shape, i);
         count_on(&mut room[0..len], seq);
         record(words, bytes, shape, i, &room[0..len]);
     }

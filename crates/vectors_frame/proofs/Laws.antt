@@ -11,9 +11,9 @@ use lib.ListN.{length}
 use Rattle.model_frame.specs.Frame.{Frame}
 use Rattle.model_frame.specs.Reading.{maxBody}
 use Rattle.model_frame.specs.Writing.{bodyBytes, encode, fine}
-use Rattle.print.specs.Encoding.{wrote, refused, outcome, Answer, took, refusal, answerOf, Encoded}
-use Rattle.print.specs.declared.Written.{Written}
-use Rattle.print.specs.declared.Written
+use Rattle.frame_writer.specs.Encoding.{wrote, refused, outcome, Answer, took, refusal, answerOf, Encoded}
+use Rattle.frame_writer.specs.declared.Written.{Written}
+use Rattle.frame_writer.specs.declared.Written
 
 -- how many bytes an answer tells of
 abbrev told : Answer → ℕ

@@ -3,16 +3,16 @@
 ghost use mathlib.Core.Path.{_≡_};
 ghost use Prim.Native.Nat.{_≤_};
 ghost use lib.ListN.{length};
+use base_hex::Line;
 use frame::Decoded;
 use frame::Field;
 use frame::Frame;
 use frame::FrameError;
 use frame::Value;
 use frame::Written;
-use hex::Line;
+use frame_stamp::Protocol;
 use libc::STDIN_FILENO;
 use libc::STDOUT_FILENO;
-use stamp::Protocol;
 
 fn put(text: &[u8]) {
     io::write_all(STDOUT_FILENO, text);
@@ -62,7 +62,7 @@ fn put_digits(src: &[u8])
     requires { ⌜ length (now src) ≤ 8192 ⌝ }
 {
     let mut text = [0u8; 16384];
-    hex::put_hex(src, &mut text);
+    base_hex::put_hex(src, &mut text);
     let n = 2 * src.len();
     put(&text[0..n]);
 }
@@ -101,7 +101,7 @@ fn answer(line: &[u8]) {
         put_reading(b"");
         return;
     }
-    match hex::read_line(line, &mut bytes) {
+    match base_hex::read_line(line, &mut bytes) {
         Line::Bytes(n) => put_reading(&bytes[0..n]),
         Line::Bad => {
             put(b"? ");
@@ -115,7 +115,7 @@ fn line_end(script: &[u8], at: usize) -> usize
     requires { ⌜ at ≤ length (now script) ⌝ }
     ensures { λ r. ⌜ (at ≤ r) × (r ≤ length (now (script .entry))) ⌝ }
 {
-    lines::next_feed(script, at)
+    base_lines::next_feed(script, at)
 }
 
 fn run(script: &[u8]) {

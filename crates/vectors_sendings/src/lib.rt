@@ -2,10 +2,10 @@
 use active::Begun;
 use active::Sending;
 use active::Sent;
-use areas::Shape;
 use frame::CommitNumber;
 use frame::Epoch;
 use libc::STDOUT_FILENO;
+use store_areas::Shape;
 
 // What a call answered (0 for a frame, 1 for done, or the refusal), and what to hand to the next call.
 #[repr(C)]
@@ -24,7 +24,7 @@ fn put_sum(frame: &[u8]) {
     put(b":");
     io::print_hex(
         STDOUT_FILENO,
-        log::fnv::bytes(0xcbf2_9ce4_8422_2325, frame),
+        store_log::fnv::bytes(0xcbf2_9ce4_8422_2325, frame),
         16,
     );
     put(b"\n");
@@ -38,7 +38,7 @@ fn put_frame(frame: &[u8]) {
         return;
     }
     let mut digits = [0u8; 1024];
-    hex::put_hex(frame, &mut digits);
+    base_hex::put_hex(frame, &mut digits);
     let end = 2 * n;
     put(&digits[0..end]);
     put(b"\n");

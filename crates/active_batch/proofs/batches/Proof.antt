@@ -2,12 +2,12 @@ use native.Mathlib.Omega.{arith}
 use mathlib.Core.Path.{ap}
 use lib.ListN.{length, length-drop}
 use denote.Ref.{now}
-use Rattle.place.proofs.Header.{next-pos}
-use Rattle.place.proofs.Messages.{tail-is}
-use Rattle.batch.proofs.Sending.{counted}
+use Rattle.store_place.proofs.Header.{next-pos}
+use Rattle.store_place.proofs.Messages.{tail-is}
+use Rattle.active_batch.proofs.Sending.{counted}
 use borrow.Author.Needs.{needs}
-use Rattle.batch.proofs.batches.Statement.{statement}
-use Rattle.batch.proofs.batches.Tie as tie
+use Rattle.active_batch.proofs.batches.Statement.{statement}
+use Rattle.active_batch.proofs.batches.Tie as tie
 
 batches-requires : tie.Need-batches-requires
 batches-requires c κs =

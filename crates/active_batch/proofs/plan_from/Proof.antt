@@ -1,8 +1,8 @@
 use native.Mathlib.Omega.{arith}
-use Rattle.batch.proofs.Planning.{planned}
+use Rattle.active_batch.proofs.Planning.{planned}
 use borrow.Author.Needs.{needs}
-use Rattle.batch.proofs.plan_from.Statement.{statement}
-use Rattle.batch.proofs.plan_from.Tie as tie
+use Rattle.active_batch.proofs.plan_from.Statement.{statement}
+use Rattle.active_batch.proofs.plan_from.Tie as tie
 
 add-t13 : tie.Need-add-t13
 add-t13 c = let m = c .before .before .before .before .before .measure .ensures in omega (arith, m .few, c .before .before .before .before .before .before .messages-from .ensures .stands .few, c .before .before .before .before .before .before .before .before .before .before .pre, c .before .before .before .before .opening-extent .ensures .1)

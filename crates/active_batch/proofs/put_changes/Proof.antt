@@ -1,14 +1,14 @@
 use native.Mathlib.Omega.{arith}
 use lib.ListN.{length}
 use denote.Ref.{now}
-use Rattle.log.specs.Log.{restOf}
-use Rattle.whole.specs.Cut.{taken}
-use Rattle.header.specs.Ends.{openingOf, endingOf}
-use Rattle.header.proofs.Ends.{run-past}
-use Rattle.batch.proofs.Framing.{wrote-three, three-sizes}
+use Rattle.store_log.specs.Log.{restOf}
+use Rattle.active_messages.specs.Cut.{taken}
+use Rattle.active_header.specs.Ends.{openingOf, endingOf}
+use Rattle.active_header.proofs.Ends.{run-past}
+use Rattle.active_batch.proofs.Framing.{wrote-three, three-sizes}
 use borrow.Author.Needs.{needs}
-use Rattle.batch.proofs.put_changes.Statement.{statement}
-use Rattle.batch.proofs.put_changes.Tie as tie
+use Rattle.active_batch.proofs.put_changes.Statement.{statement}
+use Rattle.active_batch.proofs.put_changes.Tie as tie
 
 put-opening-requires : tie.Need-put-opening-requires
 put-opening-requires c κs =

@@ -1,12 +1,12 @@
 use native.Mathlib.Omega.{arith}
 use lib.ListN.{length}
 use denote.Ref.{now}
-use Rattle.batch.specs.Batch.{partIs, changesOf}
-use Rattle.header.proofs.Ends.{run-past}
-use Rattle.batch.proofs.Framing.{wrote-frame}
+use Rattle.active_batch.specs.Batch.{partIs, changesOf}
+use Rattle.active_header.proofs.Ends.{run-past}
+use Rattle.active_batch.proofs.Framing.{wrote-frame}
 use borrow.Author.Needs.{needs}
-use Rattle.batch.proofs.put_frame.Statement.{statement}
-use Rattle.batch.proofs.put_frame.Tie as tie
+use Rattle.active_batch.proofs.put_frame.Statement.{statement}
+use Rattle.active_batch.proofs.put_frame.Tie as tie
 
 put-changes-requires : tie.Need-put-changes-requires
 put-changes-requires c κs =

@@ -1,7 +1,7 @@
-use Rattle.batch.proofs.Framing.{wrote-head}
+use Rattle.active_batch.proofs.Framing.{wrote-head}
 use borrow.Author.Needs.{needs}
-use Rattle.batch.proofs.put_head.Statement.{statement}
-use Rattle.batch.proofs.put_head.Tie as tie
+use Rattle.active_batch.proofs.put_head.Statement.{statement}
+use Rattle.active_batch.proofs.put_head.Tie as tie
 
 returns : tie.Need-returns
 returns c = rw (← (c .before .before .before .before .before .before .before .part-byte .ensures)) (wrote-head _ _ _ _ _ _ _ (c .before .before .before .before .before .before .before .before .before .before .before .before .before .before .before .before .before .before .before .before .before .before .before .before .before .before .before .put-u32 .ensures .0 .bytes) (c .before .before .before .before .before .before .before .before .before .before .before .before .before .before .before .before .before .before .before .before .before .before .before .put-u8 .ensures .0 .bytes) (c .before .before .before .before .before .before .before .before .before .before .before .before .before .before .before .before .before .before .before .put-u322 .ensures .0 .bytes) (c .before .before .before .before .before .before .before .before .before .before .before .before .before .before .before .put-u64 .ensures .0 .bytes) (c .before .before .before .before .before .before .before .before .before .before .before .put-u642 .ensures .0 .bytes) (c .before .before .before .before .before .before .put-u82 .ensures .0 .bytes) (c .before .before .put-u323 .ensures .0 .bytes))

@@ -3,12 +3,12 @@ use mathlib.Core.Path.{ap}
 use Prim.Native.Nat.{_-_}
 use lib.ListN.{length, length-drop}
 use denote.Ref.{now}
-use Rattle.place.proofs.Header.{next-pos}
-use Rattle.place.proofs.Messages.{tail-is}
-use Rattle.batch.proofs.Sending.{stamp-length, marks-length, sent, too-short}
+use Rattle.store_place.proofs.Header.{next-pos}
+use Rattle.store_place.proofs.Messages.{tail-is}
+use Rattle.active_batch.proofs.Sending.{stamp-length, marks-length, sent, too-short}
 use borrow.Author.Needs.{needs}
-use Rattle.batch.proofs.send.Statement.{statement}
-use Rattle.batch.proofs.send.Tie as tie
+use Rattle.active_batch.proofs.send.Statement.{statement}
+use Rattle.active_batch.proofs.send.Tie as tie
 
 plan-from-requires : tie.Need-plan-from-requires
 plan-from-requires c κs =

@@ -1,9 +1,9 @@
 use native.Mathlib.Omega.{arith}
 use mathlib.Core.Path.{refl}
-use Rattle.header.proofs.Ends.{spans-are, close-skips, close-plain}
+use Rattle.active_header.proofs.Ends.{spans-are, close-skips, close-plain}
 use borrow.Author.Needs.{needs}
-use Rattle.header.proofs.closing_extent.Statement.{statement}
-use Rattle.header.proofs.closing_extent.Tie as tie
+use Rattle.active_header.proofs.closing_extent.Statement.{statement}
+use Rattle.active_header.proofs.closing_extent.Tie as tie
 
 returns : tie.Need-returns
 returns c = ((λ text e. spans-are (close-skips _ _ _ text (c .if1 .taken)) refl (omega (arith, e, c .before .before .before .incoming-size .ensures .0 (c .before .before .before .before .args .h .«next_incoming»)))), (omega arith, omega (arith, c .before .before .before .incoming-size .ensures .1)))

@@ -2,8 +2,8 @@ use native.Mathlib.Omega.{arith}
 use mathlib.Core.Path.{refl}
 use borrow.Author.Tests.{eq-eqb, ne-eqb}
 use borrow.Author.Needs.{needs}
-use Rattle.header.proofs.ending_extent.Statement.{statement}
-use Rattle.header.proofs.ending_extent.Tie as tie
+use Rattle.active_header.proofs.ending_extent.Statement.{statement}
+use Rattle.active_header.proofs.ending_extent.Tie as tie
 
 returns : tie.Need-returns
 returns c = ((λ text e. rw (eq-eqb _ 0 (c .before .if1 .taken)) (c .closing-extent .ensures .0 text e)), c .closing-extent .ensures .1)

@@ -1,8 +1,8 @@
 use native.Mathlib.Omega.{arith}
 use mathlib.Core.Path.{refl}
 use borrow.Author.Needs.{needs}
-use Rattle.header.proofs.incoming_size.Statement.{statement}
-use Rattle.header.proofs.incoming_size.Tie as tie
+use Rattle.active_header.proofs.incoming_size.Statement.{statement}
+use Rattle.active_header.proofs.incoming_size.Tie as tie
 
 returns : tie.Need-returns
 returns c = ((λ n. rw (c .enum-told .given .1) refl), omega arith)

@@ -1,9 +1,9 @@
 use native.Mathlib.Omega.{arith}
 use mathlib.Core.Path.{refl}
-use Rattle.header.proofs.Ends.{spans-are, open-none, open-bare, open-stamped}
+use Rattle.active_header.proofs.Ends.{spans-are, open-none, open-bare, open-stamped}
 use borrow.Author.Needs.{needs}
-use Rattle.header.proofs.opening_extent.Statement.{statement}
-use Rattle.header.proofs.opening_extent.Tie as tie
+use Rattle.active_header.proofs.opening_extent.Statement.{statement}
+use Rattle.active_header.proofs.opening_extent.Tie as tie
 
 returns : tie.Need-returns
 returns c = ((λ text e. spans-are (open-none text _ (c .if1 .taken)) refl refl), (omega arith, omega arith))

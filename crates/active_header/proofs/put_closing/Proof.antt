@@ -1,11 +1,11 @@
 use native.Mathlib.Omega.{arith}
 use denote.Ref.{now}
 use Rattle.model_session.specs.Whole.{skipTo, incomingPart}
-use Rattle.place.specs.Place.{flightIs}
-use Rattle.header.proofs.Ends.{close-size, run-past, change-past, wrote-closing}
+use Rattle.store_place.specs.Place.{flightIs}
+use Rattle.active_header.proofs.Ends.{close-size, run-past, change-past, wrote-closing}
 use borrow.Author.Needs.{needs}
-use Rattle.header.proofs.put_closing.Statement.{statement}
-use Rattle.header.proofs.put_closing.Tie as tie
+use Rattle.active_header.proofs.put_closing.Statement.{statement}
+use Rattle.active_header.proofs.put_closing.Tie as tie
 
 put-skip-requires : tie.Need-put-skip-requires
 put-skip-requires c κs =

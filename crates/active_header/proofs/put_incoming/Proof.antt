@@ -1,9 +1,9 @@
 use native.Mathlib.Omega.{arith}
 use Rattle.model_frame.specs.Writing.{changeBytes}
-use Rattle.header.proofs.Ends.{wrote-flight}
+use Rattle.active_header.proofs.Ends.{wrote-flight}
 use borrow.Author.Needs.{needs}
-use Rattle.header.proofs.put_incoming.Statement.{statement}
-use Rattle.header.proofs.put_incoming.Tie as tie
+use Rattle.active_header.proofs.put_incoming.Statement.{statement}
+use Rattle.active_header.proofs.put_incoming.Tie as tie
 
 put-number-requires : tie.Need-put-number-requires
 put-number-requires c κs = omega (arith, rw (c .before .enum-told .given .1) at (c .before .before .before .before .pre))

@@ -1,9 +1,9 @@
 use native.Mathlib.Omega.{arith}
 use denote.Ref.{now}
-use Rattle.header.proofs.Ends.{open-first, open-room, wrote-open-none, wrote-open-bare, wrote-open-stamped}
+use Rattle.active_header.proofs.Ends.{open-first, open-room, wrote-open-none, wrote-open-bare, wrote-open-stamped}
 use borrow.Author.Needs.{needs}
-use Rattle.header.proofs.put_opening.Statement.{statement}
-use Rattle.header.proofs.put_opening.Tie as tie
+use Rattle.active_header.proofs.put_opening.Statement.{statement}
+use Rattle.active_header.proofs.put_opening.Tie as tie
 
 returns : tie.Need-returns
 returns c = wrote-open-none _ _ _ _ (c .if1 .taken)

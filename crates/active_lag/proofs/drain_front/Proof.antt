@@ -1,11 +1,11 @@
-use Rattle.lag.proofs.drain_front.Statement.{statement}
-use Rattle.lag.proofs.drain_front.Tie as tie
+use Rattle.active_lag.proofs.drain_front.Statement.{statement}
+use Rattle.active_lag.proofs.drain_front.Tie as tie
 use mathlib.Core.Path.{refl}
 use Prim.Native.Nat.{_-_}
 use native.Mathlib.Omega.{arith}
 use borrow.Author.Tests.{not-true, not-false}
 use lib.ListN.{take}
-use Rattle.lag.proofs.Laws.{Draining, turned, stopped, ended}
+use Rattle.active_lag.proofs.Laws.{Draining, turned, stopped, ended}
 
 abbrev Inv-loop : tie.InvT-loop
 Inv-loop n last through max-lag queued i₀ d₀ i d = Draining max-lag last through (take n queued) i d

@@ -3,8 +3,8 @@ use mathlib.Core.Path.{ap}
 use mathlib.Core.Bool.{_||_}
 use Prim.Native.Nat.{ℕ}
 use lib.Dec.{ltb}
-use Rattle.lag.proofs.is_over.Statement.{statement}
-use Rattle.lag.proofs.is_over.Tie as tie
+use Rattle.active_lag.proofs.is_over.Statement.{statement}
+use Rattle.active_lag.proofs.is_over.Tie as tie
 
 returns : tie.Need-returns
 returns c = ap (λ (k : ℕ). ltb (c .before .args .max-lag) k || ltb 64 (c .before .args .waiting)) (c .lag-of .ensures)

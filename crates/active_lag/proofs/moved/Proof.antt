@@ -1,9 +1,9 @@
-use Rattle.lag.proofs.moved.Statement.{statement}
-use Rattle.lag.proofs.moved.Tie as tie
+use Rattle.active_lag.proofs.moved.Statement.{statement}
+use Rattle.active_lag.proofs.moved.Tie as tie
 use mathlib.Core.Path.{refl}
 use Prim.Native.Nat.{_-_}
 use native.Mathlib.Omega.{arith}
-use Rattle.lag.proofs.Laws.{Moving, moves, moved-all}
+use Rattle.active_lag.proofs.Laws.{Moving, moves, moved-all}
 
 abbrev Inv-loop : tie.InvT-loop
 Inv-loop gone n queued out₀ j₀ out j = Moving gone n queued out j

@@ -1,8 +1,8 @@
 use native.Mathlib.Omega.{arith}
 use borrow.Author.Needs.{needs}
-use Rattle.lag.proofs.Laws.{joined}
-use Rattle.lag.proofs.pushed.Statement.{statement}
-use Rattle.lag.proofs.pushed.Tie as tie
+use Rattle.active_lag.proofs.Laws.{joined}
+use Rattle.active_lag.proofs.pushed.Statement.{statement}
+use Rattle.active_lag.proofs.pushed.Tie as tie
 
 returns : tie.Need-returns
 returns c = joined (c .args .queued) (c .args .count) (c .args .last) (omega arith) (omega arith)

@@ -1,9 +1,9 @@
 use native.Mathlib.Omega.{arith}
 use Prim.Native.Nat.{_+_}
 use lib.ListN.{length}
-use Rattle.whole.proofs.Counting.{Counting, begins, goes-on, nearer, ends-count}
-use Rattle.whole.proofs.batches.Statement.{statement}
-use Rattle.whole.proofs.batches.Tie as tie
+use Rattle.active_messages.proofs.Counting.{Counting, begins, goes-on, nearer, ends-count}
+use Rattle.active_messages.proofs.batches.Statement.{statement}
+use Rattle.active_messages.proofs.batches.Tie as tie
 
 abbrev Inv-loop : tie.InvT-loop
 Inv-loop words bytes max end limit left₀ dist₀ count₀ left dist count = Counting limit (length bytes) max end words bytes left dist count

@@ -1,10 +1,10 @@
 use native.Mathlib.Omega.{arith}
 use mathlib.Core.Path.{refl, sym, _∙_}
 use lib.ListN.{length}
-use Rattle.whole.proofs.Numbers.{below}
-use Rattle.whole.proofs.Measuring.{Measuring, begins, full-stop, last-stop, turns}
-use Rattle.whole.proofs.measure.Statement.{statement}
-use Rattle.whole.proofs.measure.Tie as tie
+use Rattle.active_messages.proofs.Numbers.{below}
+use Rattle.active_messages.proofs.Measuring.{Measuring, begins, full-stop, last-stop, turns}
+use Rattle.active_messages.proofs.measure.Statement.{statement}
+use Rattle.active_messages.proofs.measure.Tie as tie
 
 abbrev Inv-loop : tie.InvT-loop
 Inv-loop words bytes max end left dist next limit left₀ dist₀ next₀ count₀ size₀ sent₀ left' dist' next' count size sent =

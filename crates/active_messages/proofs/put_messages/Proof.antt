@@ -1,10 +1,10 @@
 use native.Mathlib.Omega.{arith}
 use mathlib.Core.Path.{refl, sym, _∙_}
 use lib.ListN.{length}
-use Rattle.whole.proofs.Numbers.{below}
-use Rattle.whole.proofs.Sending.{Sending, begins, full-stop, last-stop, has-room, goes-on}
-use Rattle.whole.proofs.put_messages.Statement.{statement}
-use Rattle.whole.proofs.put_messages.Tie as tie
+use Rattle.active_messages.proofs.Numbers.{below}
+use Rattle.active_messages.proofs.Sending.{Sending, begins, full-stop, last-stop, has-room, goes-on}
+use Rattle.active_messages.proofs.put_messages.Statement.{statement}
+use Rattle.active_messages.proofs.put_messages.Tie as tie
 
 abbrev Inv-loop : tie.InvT-loop
 Inv-loop words bytes max end left dist next limit out₀ at left₀ dist₀ next₀ sent₀ pos₀ out left' dist' next' sent pos =

@@ -1,10 +1,10 @@
 use mathlib.Core.Path.{refl}
 use native.Mathlib.Omega.{arith}
 use borrow.Author.Tests.{lt-ltb, le-ltb}
-use Rattle.whole.proofs.skips.Statement.{statement}
-use Rattle.whole.proofs.skips.Tie as tie
-use Rattle.whole.proofs.skips.Reads as reads
-use Rattle.whole.proofs.skips.Lts as lts
+use Rattle.active_messages.proofs.skips.Statement.{statement}
+use Rattle.active_messages.proofs.skips.Tie as tie
+use Rattle.active_messages.proofs.skips.Reads as reads
+use Rattle.active_messages.proofs.skips.Lts as lts
 
 -- src/lib.rt:21:1
 returns : tie.Need-returns

@@ -5,9 +5,9 @@ use Prim.Native.Nat.{_≤_, _+_, _-_}
 use native.Mathlib.Nat.{add-zero}
 use lib.ListN.{length, drop, length-set}
 use Rattle.model_frame.specs.Bytes.{write}
-use Rattle.laws.proofs.Little.{write-more, write-done}
-use Rattle.wire.proofs.copy.Statement.{statement}
-use Rattle.wire.proofs.copy.Tie as tie
+use Rattle.base_laws.proofs.Little.{write-more, write-done}
+use Rattle.base_bytes.proofs.copy.Statement.{statement}
+use Rattle.base_bytes.proofs.copy.Tie as tie
 
 abbrev Inv-loop : tie.InvT-loop
 Inv-loop s out₀ at i₀ out i = (i ≤ length s) × (length out ≡ length out₀) × (write out (at + i) (drop i s) ≡ write out₀ at s)

@@ -1,10 +1,10 @@
 use borrow.Author.Needs.{needs}
 use mathlib.Core.Path.{refl, sym}
 use denote.Ref.{now}
-use Rattle.laws.proofs.Little.{put-one}
+use Rattle.base_laws.proofs.Little.{put-one}
 use Rattle.model_frame.proofs.Le.{length-bytes}
-use Rattle.wire.proofs.put_u8.Statement.{statement}
-use Rattle.wire.proofs.put_u8.Tie as tie
+use Rattle.base_bytes.proofs.put_u8.Statement.{statement}
+use Rattle.base_bytes.proofs.put_u8.Tie as tie
 
 returns : tie.Need-returns
 returns c =

@@ -1,9 +1,9 @@
 use borrow.Author.Needs.{needs}
 use native.Mathlib.Omega.{arith}
 use denote.Ref.{now}
-use Rattle.laws.proofs.Little.{le-join}
-use Rattle.wire.proofs.u16_at.Statement.{statement}
-use Rattle.wire.proofs.u16_at.Tie as tie
+use Rattle.base_laws.proofs.Little.{le-join}
+use Rattle.base_bytes.proofs.u16_at.Statement.{statement}
+use Rattle.base_bytes.proofs.u16_at.Tie as tie
 
 returns : tie.Need-returns
 returns c = omega (arith, le-join 1 1 (now (c .before .before .before .args .buf)) (c .before .before .before .args .at))

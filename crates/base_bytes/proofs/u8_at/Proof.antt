@@ -1,8 +1,8 @@
 use borrow.Author.Needs.{needs}
 use denote.Ref.{now}
-use Rattle.laws.proofs.Little.{le-one}
-use Rattle.wire.proofs.u8_at.Statement.{statement}
-use Rattle.wire.proofs.u8_at.Tie as tie
+use Rattle.base_laws.proofs.Little.{le-one}
+use Rattle.base_bytes.proofs.u8_at.Statement.{statement}
+use Rattle.base_bytes.proofs.u8_at.Tie as tie
 
 returns : tie.Need-returns
 returns c = cc (le-one (now (c .before .args .buf)) (c .before .args .at))

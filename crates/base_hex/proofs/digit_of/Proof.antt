@@ -2,8 +2,8 @@ use mathlib.Core.Path.{refl}
 use borrow.Author.Tests.{lt-ltb, le-ltb}
 use Rattle.model_text.specs.Hex.{digitOf}
 use borrow.Author.Needs.{needs}
-use Rattle.hex.proofs.digit_of.Statement.{statement}
-use Rattle.hex.proofs.digit_of.Tie as tie
+use Rattle.base_hex.proofs.digit_of.Statement.{statement}
+use Rattle.base_hex.proofs.digit_of.Tie as tie
 
 returns : tie.Need-returns
 unfolding digitOf

@@ -3,8 +3,8 @@ use native.Mathlib.Omega.{arith}
 use borrow.Author.Tests.{leb-true}
 use Rattle.model_text.proofs.Formed.{and-l}
 use Rattle.model_text.specs.Hex.{digitValue}
-use Rattle.hex.proofs.digit_value.Statement.{statement}
-use Rattle.hex.proofs.digit_value.Tie as tie
+use Rattle.base_hex.proofs.digit_value.Statement.{statement}
+use Rattle.base_hex.proofs.digit_value.Tie as tie
 
 sub-result : tie.Need-sub-result
 sub-result c = leb-true _ _ (and-l _ _ (c .if1 .taken))

@@ -1,9 +1,9 @@
 use Prim.Native.Nat.{_-_}
 use native.Mathlib.Omega.{arith}
 use lib.ListN.{length, length-set}
-use Rattle.hex.proofs.Laws.{Writing, writing, writes-on, writes-all}
-use Rattle.hex.proofs.put_hex.Statement.{statement}
-use Rattle.hex.proofs.put_hex.Tie as tie
+use Rattle.base_hex.proofs.Laws.{Writing, writing, writes-on, writes-all}
+use Rattle.base_hex.proofs.put_hex.Statement.{statement}
+use Rattle.base_hex.proofs.put_hex.Tie as tie
 
 abbrev Inv-loop : tie.InvT-loop
 Inv-loop src out₀ i₀ out i = Writing src out₀ out i

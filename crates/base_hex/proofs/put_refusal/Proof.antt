@@ -1,9 +1,9 @@
 use native.Mathlib.Omega.{arith}
 use lib.ListN.{length-set}
-use Rattle.hex.proofs.Laws.{one-digit, two-digits}
+use Rattle.base_hex.proofs.Laws.{one-digit, two-digits}
 use borrow.Author.Needs.{needs}
-use Rattle.hex.proofs.put_refusal.Statement.{statement}
-use Rattle.hex.proofs.put_refusal.Tie as tie
+use Rattle.base_hex.proofs.put_refusal.Statement.{statement}
+use Rattle.base_hex.proofs.put_refusal.Tie as tie
 
 slice-write-out-2 : tie.Need-slice-write-out-2
 slice-write-out-2 c = simp length-set (omega arith)

@@ -2,9 +2,9 @@ use Prim.Native.Nat.{_-_}
 use native.Mathlib.Omega.{arith}
 use borrow.Author.Tests.{not-true, not-false}
 use lib.ListN.{length}
-use Rattle.hex.proofs.Laws.{Reading, reading, both, reads-bad, reads-on, reads-odd, reads-all}
-use Rattle.hex.proofs.read_digits.Statement.{statement}
-use Rattle.hex.proofs.read_digits.Tie as tie
+use Rattle.base_hex.proofs.Laws.{Reading, reading, both, reads-bad, reads-on, reads-odd, reads-all}
+use Rattle.base_hex.proofs.read_digits.Statement.{statement}
+use Rattle.base_hex.proofs.read_digits.Tie as tie
 
 abbrev Inv-loop : tie.InvT-loop
 Inv-loop line out₀ n i₀ out i = Reading (length out₀) line out i

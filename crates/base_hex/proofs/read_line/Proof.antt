@@ -1,8 +1,8 @@
 use native.Mathlib.Omega.{arith}
-use Rattle.hex.proofs.Laws.{blank-line, long-line, some-line}
+use Rattle.base_hex.proofs.Laws.{blank-line, long-line, some-line}
 use borrow.Author.Needs.{needs}
-use Rattle.hex.proofs.read_line.Statement.{statement}
-use Rattle.hex.proofs.read_line.Tie as tie
+use Rattle.base_hex.proofs.read_line.Statement.{statement}
+use Rattle.base_hex.proofs.read_line.Tie as tie
 
 returns : tie.Need-returns
 returns c = blank-line (c .before .before .before .args .line .now) (c .before .before .before .args .out .now) (c .if1 .taken)

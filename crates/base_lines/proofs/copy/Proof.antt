@@ -1,9 +1,9 @@
 use mathlib.Core.Path.{_∙_}
 use native.Mathlib.Omega.{arith}
 use borrow.Author.Needs.{needs}
-use Rattle.lines.proofs.Laws.{copied}
-use Rattle.lines.proofs.copy.Statement.{statement}
-use Rattle.lines.proofs.copy.Tie as tie
+use Rattle.base_lines.proofs.Laws.{copied}
+use Rattle.base_lines.proofs.copy.Statement.{statement}
+use Rattle.base_lines.proofs.copy.Tie as tie
 
 returns : tie.Need-returns
 returns c =

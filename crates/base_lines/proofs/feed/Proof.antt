@@ -1,8 +1,8 @@
 use native.Mathlib.Omega.{arith}
-use Rattle.lines.proofs.Laws.{bounds, feeds-line, feeds-part}
+use Rattle.base_lines.proofs.Laws.{bounds, feeds-line, feeds-part}
 use borrow.Author.Needs.{needs}
-use Rattle.lines.proofs.feed.Statement.{statement}
-use Rattle.lines.proofs.feed.Tie as tie
+use Rattle.base_lines.proofs.feed.Statement.{statement}
+use Rattle.base_lines.proofs.feed.Tie as tie
 
 copy-requires : tie.Need-copy-requires
 copy-requires c κs =

@@ -2,9 +2,9 @@ use mathlib.Core.Path.{refl}
 use Prim.Native.Nat.{_-_}
 use native.Mathlib.Omega.{arith}
 use lib.ListN.{length}
-use Rattle.lines.proofs.Laws.{Seeking, seeks-here, seeks-on, seeks-none}
-use Rattle.lines.proofs.next_feed.Statement.{statement}
-use Rattle.lines.proofs.next_feed.Tie as tie
+use Rattle.base_lines.proofs.Laws.{Seeking, seeks-here, seeks-on, seeks-none}
+use Rattle.base_lines.proofs.next_feed.Statement.{statement}
+use Rattle.base_lines.proofs.next_feed.Tie as tie
 
 abbrev Inv-loop : tie.InvT-loop
 Inv-loop piece from i₀ i = Seeking piece from i

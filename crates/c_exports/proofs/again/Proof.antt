@@ -1,7 +1,7 @@
 use borrow.Author.Needs.{needs}
-use Rattle.exports.proofs.Laws.{again-is}
-use Rattle.exports.proofs.again.Statement.{statement}
-use Rattle.exports.proofs.again.Tie as tie
+use Rattle.c_exports.proofs.Laws.{again-is}
+use Rattle.c_exports.proofs.again.Statement.{statement}
+use Rattle.c_exports.proofs.again.Tie as tie
 
 returns : tie.Need-returns
 returns c = again-is _ (c .before .before .before .encode .ensures) (c .taken .ensures)

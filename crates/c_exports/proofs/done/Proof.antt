@@ -1,7 +1,7 @@
 use borrow.Author.Needs.{needs}
-use Rattle.exports.proofs.Laws.{few-done, many-done}
-use Rattle.exports.proofs.done.Statement.{statement}
-use Rattle.exports.proofs.done.Tie as tie
+use Rattle.c_exports.proofs.Laws.{few-done, many-done}
+use Rattle.c_exports.proofs.done.Statement.{statement}
+use Rattle.c_exports.proofs.done.Tie as tie
 
 returns : tie.Need-returns
 returns c = few-done (c .before .args .count) (c .if1 .taken)

@@ -1,7 +1,7 @@
 use borrow.Author.Needs.{needs}
-use Rattle.exports.proofs.Laws.{fault-as, unknown-is, invalid-is}
-use Rattle.exports.proofs.fault.Statement.{statement}
-use Rattle.exports.proofs.fault.Tie as tie
+use Rattle.c_exports.proofs.Laws.{fault-as, unknown-is, invalid-is}
+use Rattle.c_exports.proofs.fault.Statement.{statement}
+use Rattle.c_exports.proofs.fault.Tie as tie
 
 returns : tie.Need-returns
 returns c = fault-as (c .before .before .e .given .1) (c .refusal .ensures)

@@ -1,10 +1,10 @@
-use Rattle.exports.proofs.Queueing.{Copied, copies, copied}
+use Rattle.c_exports.proofs.Queueing.{Copied, copies, copied}
 use denote.Ref.{now}
 use mathlib.Core.Path.{refl}
 use Prim.Native.Nat.{_-_}
 use native.Mathlib.Omega.{arith}
-use Rattle.exports.proofs.numbers.Statement.{statement}
-use Rattle.exports.proofs.numbers.Tie as tie
+use Rattle.c_exports.proofs.numbers.Statement.{statement}
+use Rattle.c_exports.proofs.numbers.Tie as tie
 
 abbrev Inv-loop : tie.InvT-loop
 Inv-loop queue out₀ i₀ out i = Copied queue out i

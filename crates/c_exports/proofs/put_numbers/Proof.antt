@@ -1,11 +1,11 @@
-use Rattle.exports.proofs.Queueing.{Pasted, pastes, pasted}
+use Rattle.c_exports.proofs.Queueing.{Pasted, pastes, pasted}
 use lib.Seq.{paste-zero}
 use denote.Ref.{now}
 use mathlib.Core.Path.{refl}
 use Prim.Native.Nat.{_-_}
 use native.Mathlib.Omega.{arith}
-use Rattle.exports.proofs.put_numbers.Statement.{statement}
-use Rattle.exports.proofs.put_numbers.Tie as tie
+use Rattle.c_exports.proofs.put_numbers.Statement.{statement}
+use Rattle.c_exports.proofs.put_numbers.Tie as tie
 
 abbrev Inv-loop : tie.InvT-loop
 Inv-loop queue₀ from i₀ queue i = Pasted from queue₀ queue i

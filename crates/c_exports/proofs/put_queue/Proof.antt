@@ -1,10 +1,10 @@
 use borrow.Author.Needs.{needs}
-use Rattle.exports.proofs.Queueing.{filled}
+use Rattle.c_exports.proofs.Queueing.{filled}
 use lib.Seq.{lt-length-set}
 use denote.Ref.{now}
 use native.Mathlib.Omega.{arith}
-use Rattle.exports.proofs.put_queue.Statement.{statement}
-use Rattle.exports.proofs.put_queue.Tie as tie
+use Rattle.c_exports.proofs.put_queue.Statement.{statement}
+use Rattle.c_exports.proofs.put_queue.Tie as tie
 
 slice-write-queue-2 : tie.Need-slice-write-queue-2
 slice-write-queue-2 c = lt-length-set (now (c .before .before .args .queue)) 0 (c .before .before .args .log .«drained_through») (omega arith)

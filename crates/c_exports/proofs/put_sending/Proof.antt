@@ -2,8 +2,8 @@ use lib.ListN.{set}
 use lib.Seq.{lt-length-set}
 use native.Mathlib.Omega.{arith}
 use borrow.Author.Needs.{needs}
-use Rattle.exports.proofs.put_sending.Statement.{statement}
-use Rattle.exports.proofs.put_sending.Tie as tie
+use Rattle.c_exports.proofs.put_sending.Statement.{statement}
+use Rattle.c_exports.proofs.put_sending.Tie as tie
 
 slice-write-sending-2 : tie.Need-slice-write-sending-2
 slice-write-sending-2 c = lt-length-set (c .args .sending .now) 0 (c .args .last .0) (omega arith)

@@ -1,11 +1,11 @@
 use borrow.Author.Needs.{needs}
-use Rattle.exports.proofs.Sending.{sends-frame, sends-done, sends-short, sends-unfit}
+use Rattle.c_exports.proofs.Sending.{sends-frame, sends-done, sends-short, sends-unfit}
 use Rattle.model_session.specs.Whole.{batchLimit}
 use mathlib.Core.Path.{refl}
 use denote.Ref.{now}
 use native.Mathlib.Omega.{arith}
-use Rattle.exports.proofs.sent.Statement.{statement}
-use Rattle.exports.proofs.sent.Tie as tie
+use Rattle.c_exports.proofs.sent.Statement.{statement}
+use Rattle.c_exports.proofs.sent.Tie as tie
 
 returns : tie.Need-returns
 returns c = sends-frame batchLimit (c .before .before .before .before .before .before .before .before .before .before .before .before .before .before .before .before .before .before .args .shape) (now (c .before .before .before .before .before .before .before .before .before .before .before .before .before .before .before .before .before .before .args .words)) (now (c .before .before .before .before .before .before .before .before .before .before .before .before .before .before .before .before .before .before .args .bytes)) (c .before .before .before .before .before .before .before .before .before .before .before .before .before .before .before .before .before .before .args .s) (now (c .before .before .before .before .before .before .before .before .before .before .before .before .before .before .before .before .before .before .args .sending)) (c .before .before .before .before .before .before .before .before .before .before .before .before .send-whole .ensures) (omega arith) (c .before .before .before .before .before .before .before .before .len .given .1) (c .before .before .before .before .flag .ensures) (c .before .before .before .put-sending .ensures) (c .done .ensures)

@@ -1,7 +1,7 @@
 use borrow.Author.Needs.{needs}
-use Rattle.exports.proofs.Laws.{taken-as}
-use Rattle.exports.proofs.taken.Statement.{statement}
-use Rattle.exports.proofs.taken.Tie as tie
+use Rattle.c_exports.proofs.Laws.{taken-as}
+use Rattle.c_exports.proofs.taken.Statement.{statement}
+use Rattle.c_exports.proofs.taken.Tie as tie
 
 returns : tie.Need-returns
 returns c = taken-as (c .before .before .before .args .used) (c .before .enum-told .given .1) (c .done .ensures)

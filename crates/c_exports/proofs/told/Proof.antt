@@ -1,7 +1,7 @@
 use borrow.Author.Needs.{needs}
-use Rattle.exports.proofs.Laws.{told-as}
-use Rattle.exports.proofs.told.Statement.{statement}
-use Rattle.exports.proofs.told.Tie as tie
+use Rattle.c_exports.proofs.Laws.{told-as}
+use Rattle.c_exports.proofs.told.Statement.{statement}
+use Rattle.c_exports.proofs.told.Tie as tie
 
 returns : tie.Need-returns
 returns c = told-as (c .before .before .t .given .1) (c .done .ensures)

@@ -1,7 +1,7 @@
 use borrow.Author.Needs.{needs}
-use Rattle.exports.proofs.Laws.{written-as}
-use Rattle.exports.proofs.written.Statement.{statement}
-use Rattle.exports.proofs.written.Tie as tie
+use Rattle.c_exports.proofs.Laws.{written-as}
+use Rattle.c_exports.proofs.written.Statement.{statement}
+use Rattle.c_exports.proofs.written.Tie as tie
 
 returns : tie.Need-returns
 returns c = written-as (c .before .before .w .given .1) (c .done .ensures)

@@ -1,8 +1,8 @@
 use borrow.Author.Needs.{needs}
-use Rattle.exports.proofs.Laws.{tells-refusal, tells-nothing, tells-frame}
+use Rattle.c_exports.proofs.Laws.{tells-refusal, tells-nothing, tells-frame}
 use denote.Ref.{now}
-use Rattle.exports.proofs.wz_answer.Statement.{statement}
-use Rattle.exports.proofs.wz_answer.Tie as tie
+use Rattle.c_exports.proofs.wz_answer.Statement.{statement}
+use Rattle.c_exports.proofs.wz_answer.Tie as tie
 
 returns : tie.Need-returns
 returns c = tells-refusal (now (c .before .before .before .before .before .args .bytes)) (c .before .before .before .before .before .args .a) (now (c .before .before .before .before .before .args .out)) (c .before .if1 .taken) (c .refusal .ensures)

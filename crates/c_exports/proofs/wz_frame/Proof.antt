@@ -1,9 +1,9 @@
 use borrow.Author.Needs.{needs}
-use Rattle.exports.proofs.Laws.{again-more, again-bad, again-whole}
+use Rattle.c_exports.proofs.Laws.{again-more, again-bad, again-whole}
 use Rattle.model_frame.proofs.Le.{are-bytes}
 use denote.Ref.{now}
-use Rattle.exports.proofs.wz_frame.Statement.{statement}
-use Rattle.exports.proofs.wz_frame.Tie as tie
+use Rattle.c_exports.proofs.wz_frame.Statement.{statement}
+use Rattle.c_exports.proofs.wz_frame.Tie as tie
 
 returns : tie.Need-returns
 returns c = again-more (now (c .before .before .before .before .before .args .frame)) (c .before .before .decode .ensures .0) (c .enum-told .given .1)

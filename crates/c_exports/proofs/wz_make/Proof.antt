@@ -1,7 +1,7 @@
 use borrow.Author.Needs.{needs}
-use Rattle.exports.proofs.Laws.{made, unfit}
-use Rattle.exports.proofs.wz_make.Statement.{statement}
-use Rattle.exports.proofs.wz_make.Tie as tie
+use Rattle.c_exports.proofs.Laws.{made, unfit}
+use Rattle.c_exports.proofs.wz_make.Statement.{statement}
+use Rattle.c_exports.proofs.wz_make.Tie as tie
 
 returns : tie.Need-returns
 returns c = made (c .before .before .before .before .before .make .ensures) (c .before .enum-told .given .1) (c .done .ensures)

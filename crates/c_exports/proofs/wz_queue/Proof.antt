@@ -1,9 +1,9 @@
 use borrow.Author.Needs.{needs}
-use Rattle.exports.proofs.Queueing.{too-few, too-many, pushes}
+use Rattle.c_exports.proofs.Queueing.{too-few, too-many, pushes}
 use denote.Ref.{now}
 use native.Mathlib.Omega.{arith}
-use Rattle.exports.proofs.wz_queue.Statement.{statement}
-use Rattle.exports.proofs.wz_queue.Tie as tie
+use Rattle.c_exports.proofs.wz_queue.Statement.{statement}
+use Rattle.c_exports.proofs.wz_queue.Tie as tie
 
 returns : tie.Need-returns
 returns c = too-few (c .before .before .before .args .max-lag) (c .before .before .before .args .last) (now (c .before .before .before .args .queue)) (c .before .if1 .taken) (c .refusal .ensures)

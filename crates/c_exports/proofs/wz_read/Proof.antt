@@ -1,9 +1,9 @@
 use borrow.Author.Needs.{needs}
-use Rattle.exports.proofs.Laws.{read-as}
+use Rattle.c_exports.proofs.Laws.{read-as}
 use denote.Ref.{now}
 use mathlib.Core.Path.{refl}
-use Rattle.exports.proofs.wz_read.Statement.{statement}
-use Rattle.exports.proofs.wz_read.Tie as tie
+use Rattle.c_exports.proofs.wz_read.Statement.{statement}
+use Rattle.c_exports.proofs.wz_read.Tie as tie
 
 returns : tie.Need-returns
 returns c = read-as (now (c .before .before .before .before .args .frame)) (c .before .before .decode .ensures .0) (c .enum-told .given .1) refl

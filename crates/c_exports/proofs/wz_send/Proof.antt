@@ -1,11 +1,11 @@
 use borrow.Author.Needs.{needs}
-use Rattle.exports.proofs.Sending.{too-few-words, goes-on, first-call, numbers-past, unfit-start}
-use Rattle.exports.specs.Exports.{shapeOf}
+use Rattle.c_exports.proofs.Sending.{too-few-words, goes-on, first-call, numbers-past, unfit-start}
+use Rattle.c_exports.specs.Exports.{shapeOf}
 use Rattle.model_session.specs.Whole.{batchLimit}
 use denote.Ref.{now}
 use native.Mathlib.Omega.{arith}
-use Rattle.exports.proofs.wz_send.Statement.{statement}
-use Rattle.exports.proofs.wz_send.Tie as tie
+use Rattle.c_exports.proofs.wz_send.Statement.{statement}
+use Rattle.c_exports.proofs.wz_send.Tie as tie
 
 returns : tie.Need-returns
 returns c = too-few-words batchLimit _ (c .before .before .before .before .before .before .args .place) (c .before .before .before .before .before .before .args .handle) (c .before .before .before .before .before .before .args .epoch) (now (c .before .before .before .before .before .before .args .sending)) (now (c .before .before .before .before .before .before .args .out)) (c .before .if1 .taken) (c .refusal .ensures)

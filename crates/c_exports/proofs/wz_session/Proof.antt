@@ -1,7 +1,7 @@
 use borrow.Author.Needs.{needs}
-use Rattle.exports.proofs.Laws.{tells-place}
-use Rattle.exports.proofs.wz_session.Statement.{statement}
-use Rattle.exports.proofs.wz_session.Tie as tie
+use Rattle.c_exports.proofs.Laws.{tells-place}
+use Rattle.c_exports.proofs.wz_session.Statement.{statement}
+use Rattle.c_exports.proofs.wz_session.Tie as tie
 
 returns : tie.Need-returns
 returns c = tells-place (c .before .before .before .session .ensures) (c .told .ensures)

@@ -1,8 +1,8 @@
 use borrow.Author.Needs.{needs}
-use Rattle.place.specs.Place.{flightIs}
+use Rattle.store_place.specs.Place.{flightIs}
 use mathlib.Core.Path.{sym, ap}
-use Rattle.told.proofs.in_flight.Statement.{statement}
-use Rattle.told.proofs.in_flight.Tie as tie
+use Rattle.c_session.proofs.in_flight.Statement.{statement}
+use Rattle.c_session.proofs.in_flight.Tie as tie
 
 returns-2 : tie.Need-returns-2
 returns-2 c = sym (ap flightIs (c .before .f .given .1))

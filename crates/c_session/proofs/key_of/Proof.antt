@@ -1,8 +1,8 @@
 use borrow.Author.Needs.{needs}
-use Rattle.told.proofs.Laws.{key-is}
+use Rattle.c_session.proofs.Laws.{key-is}
 use denote.Ref.{now}
-use Rattle.told.proofs.key_of.Statement.{statement}
-use Rattle.told.proofs.key_of.Tie as tie
+use Rattle.c_session.proofs.key_of.Statement.{statement}
+use Rattle.c_session.proofs.key_of.Tie as tie
 
 returns : tie.Need-returns
 returns c =

@@ -1,10 +1,10 @@
 use borrow.Author.Needs.{needs}
-use Rattle.told.proofs.Laws.{part-short}
+use Rattle.c_session.proofs.Laws.{part-short}
 use lib.ListN.{length}
 use mathlib.Core.Path.{ap}
 use denote.Ref.{now}
-use Rattle.told.proofs.len.Statement.{statement}
-use Rattle.told.proofs.len.Tie as tie
+use Rattle.c_session.proofs.len.Statement.{statement}
+use Rattle.c_session.proofs.len.Tie as tie
 
 returns : tie.Need-returns
 returns c =

@@ -1,11 +1,11 @@
 use borrow.Author.Needs.{needs}
-use Rattle.told.proofs.Laws.{key-size, flagged}
-use Rattle.parts.specs.Answers.{keyOf}
-use Rattle.laws.proofs.Writes.{wrote-on}
+use Rattle.c_session.proofs.Laws.{key-size, flagged}
+use Rattle.frame_fields.specs.Answers.{keyOf}
+use Rattle.base_laws.proofs.Writes.{wrote-on}
 use denote.Ref.{now}
 use native.Mathlib.Omega.{arith}
-use Rattle.told.proofs.put.Statement.{statement}
-use Rattle.told.proofs.put.Tie as tie
+use Rattle.c_session.proofs.put.Statement.{statement}
+use Rattle.c_session.proofs.put.Tie as tie
 
 put-summary-requires : tie.Need-put-summary-requires
 put-summary-requires c κs =

@@ -1,11 +1,11 @@
 use borrow.Author.Needs.{needs}
-use Rattle.told.proofs.Laws.{in-use, unused, broken, told-in, unfit}
-use Rattle.areas.proofs.Ruling.{rules-of}
+use Rattle.c_session.proofs.Laws.{in-use, unused, broken, told-in, unfit}
+use Rattle.store_areas.proofs.Ruling.{rules-of}
 use mathlib.Core.Path.{sym, _∙_}
 use native.Mathlib.Omega.{arith}
 use denote.Ref.{now}
-use Rattle.told.proofs.session.Statement.{statement}
-use Rattle.told.proofs.session.Tie as tie
+use Rattle.c_session.proofs.session.Statement.{statement}
+use Rattle.c_session.proofs.session.Tie as tie
 
 shared-slice-read-if2 : tie.Need-shared-slice-read-if2
 shared-slice-read-if2 c = omega (arith, rules-of _ _ _ (sym (c .before .before .allowed .ensures) ∙ c .before .if1 .taken) .room .words-long)

@@ -1,7 +1,7 @@
 use borrow.Author.Needs.{needs}
 use native.Mathlib.Omega.{arith}
-use Rattle.told.proofs.size.Statement.{statement}
-use Rattle.told.proofs.size.Tie as tie
+use Rattle.c_session.proofs.size.Statement.{statement}
+use Rattle.c_session.proofs.size.Tie as tie
 
 returns : tie.Need-returns
 returns c = omega (arith, c .before .before .before .before .before .len .ensures .0, c .before .before .before .before .len2 .ensures .0, c .before .before .before .len3 .ensures .0, c .before .before .len4 .ensures .0, c .before .len5 .ensures .0, c .len6 .ensures .0)

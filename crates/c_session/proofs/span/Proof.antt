@@ -1,7 +1,7 @@
 use borrow.Author.Needs.{needs}
-use Rattle.told.proofs.Laws.{cut-short, cut-long}
-use Rattle.told.proofs.span.Statement.{statement}
-use Rattle.told.proofs.span.Tie as tie
+use Rattle.c_session.proofs.Laws.{cut-short, cut-long}
+use Rattle.c_session.proofs.span.Statement.{statement}
+use Rattle.c_session.proofs.span.Tie as tie
 
 returns : tie.Need-returns
 returns c =

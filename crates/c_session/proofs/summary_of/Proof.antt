@@ -1,8 +1,8 @@
 use borrow.Author.Needs.{needs}
-use Rattle.told.proofs.Laws.{summed}
+use Rattle.c_session.proofs.Laws.{summed}
 use denote.Ref.{now}
-use Rattle.told.proofs.summary_of.Statement.{statement}
-use Rattle.told.proofs.summary_of.Tie as tie
+use Rattle.c_session.proofs.summary_of.Statement.{statement}
+use Rattle.c_session.proofs.summary_of.Tie as tie
 
 returns : tie.Need-returns
 returns c =

@@ -1,9 +1,9 @@
 use borrow.Author.Needs.{needs}
-use Rattle.told.proofs.Laws.{no-room, told}
-use Rattle.areas.specs.Areas.{placeAt}
+use Rattle.c_session.proofs.Laws.{no-room, told}
+use Rattle.store_areas.specs.Areas.{placeAt}
 use denote.Ref.{now}
-use Rattle.told.proofs.tell.Statement.{statement}
-use Rattle.told.proofs.tell.Tie as tie
+use Rattle.c_session.proofs.tell.Statement.{statement}
+use Rattle.c_session.proofs.tell.Tie as tie
 
 returns : tie.Need-returns
 returns c =

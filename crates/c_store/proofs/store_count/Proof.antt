@@ -1,9 +1,9 @@
 use borrow.Author.Needs.{needs}
 use native.Mathlib.Omega.{arith}
 use borrow.Author.Tests.{not-true, not-false}
-use Rattle.store_c.proofs.Laws.{used, reads-none, reads, counted}
-use Rattle.store_c.proofs.store_count.Statement.{statement}
-use Rattle.store_c.proofs.store_count.Tie as tie
+use Rattle.c_store.proofs.Laws.{used, reads-none, reads, counted}
+use Rattle.c_store.proofs.store_count.Statement.{statement}
+use Rattle.c_store.proofs.store_count.Tie as tie
 
 returns : tie.Need-returns
 returns c = reads-none (c .before .in-use .ensures) (not-true _ (c .if1 .taken))

@@ -1,7 +1,7 @@
 use borrow.Author.Needs.{needs}
-use Rattle.store_c.proofs.Laws.{made-ready, made-unfit}
-use Rattle.store_c.proofs.store_make.Statement.{statement}
-use Rattle.store_c.proofs.store_make.Tie as tie
+use Rattle.c_store.proofs.Laws.{made-ready, made-unfit}
+use Rattle.c_store.proofs.store_make.Statement.{statement}
+use Rattle.c_store.proofs.store_make.Tie as tie
 
 returns : tie.Need-returns
 returns c = made-ready (rw (c .enum-told .given .1) at (c .before .before .before .before .make .ensures))

@@ -1,12 +1,12 @@
 use borrow.Author.Needs.{needs}
-use Rattle.areas.proofs.Ruling.{rules-of}
+use Rattle.store_areas.proofs.Ruling.{rules-of}
 use Rattle.model_text.proofs.Laws.{key-is}
 use mathlib.Core.Path.{sym, _∙_}
 use native.Mathlib.Omega.{arith}
 use borrow.Author.Tests.{not-true, not-false}
-use Rattle.store_c.proofs.Laws.{rules-broken, no-key, stored, no-place, opened}
-use Rattle.store_c.proofs.store_open.Statement.{statement}
-use Rattle.store_c.proofs.store_open.Tie as tie
+use Rattle.c_store.proofs.Laws.{rules-broken, no-key, stored, no-place, opened}
+use Rattle.c_store.proofs.store_open.Statement.{statement}
+use Rattle.c_store.proofs.store_open.Tie as tie
 
 returns : tie.Need-returns
 returns c = rules-broken _ _ _ _ (c .before .allowed .ensures) (not-true _ (c .if1 .taken))

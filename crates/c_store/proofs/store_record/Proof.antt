@@ -3,9 +3,9 @@ use denote.Ref.{now}
 use mathlib.Core.Path.{sym, _∙_}
 use native.Mathlib.Omega.{arith}
 use borrow.Author.Tests.{not-true, not-false}
-use Rattle.store_c.proofs.Laws.{used, unfit, cannot, made, none-left, some-left, recorded}
-use Rattle.store_c.proofs.store_record.Statement.{statement}
-use Rattle.store_c.proofs.store_record.Tie as tie
+use Rattle.c_store.proofs.Laws.{used, unfit, cannot, made, none-left, some-left, recorded}
+use Rattle.c_store.proofs.store_record.Statement.{statement}
+use Rattle.c_store.proofs.store_record.Tie as tie
 
 returns : tie.Need-returns
 returns c = unfit (c .before .in-use .ensures) (not-true _ (c .if1 .taken))

@@ -2,9 +2,9 @@ use borrow.Author.Needs.{needs}
 use mathlib.Core.Path.{sym, _∙_}
 use native.Mathlib.Omega.{arith}
 use borrow.Author.Tests.{not-true, not-false}
-use Rattle.store_c.proofs.Laws.{used, unfit, cannot, made, below-next, no-number, a-number}
-use Rattle.store_c.proofs.store_record_none.Statement.{statement}
-use Rattle.store_c.proofs.store_record_none.Tie as tie
+use Rattle.c_store.proofs.Laws.{used, unfit, cannot, made, below-next, no-number, a-number}
+use Rattle.c_store.proofs.store_record_none.Statement.{statement}
+use Rattle.c_store.proofs.store_record_none.Tie as tie
 
 returns : tie.Need-returns
 returns c = unfit (c .before .in-use .ensures) (not-true _ (c .if1 .taken))

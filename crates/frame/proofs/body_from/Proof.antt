@@ -1,6 +1,6 @@
 use borrow.Author.Needs.{needs}
 use Rattle.model_frame.specs.Reading.{body}
-use Rattle.laws.proofs.Places.{left-none, left-some}
+use Rattle.base_laws.proofs.Places.{left-none, left-some}
 use Rattle.frame.proofs.body_from.Statement.{statement}
 use Rattle.frame.proofs.body_from.Tie as tie
 

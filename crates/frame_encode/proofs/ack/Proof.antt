@@ -1,9 +1,9 @@
 use borrow.Author.Needs.{needs}
 use native.Mathlib.Omega.{arith}
-use Rattle.encode.proofs.Ready.{ack-ready}
-use Rattle.print.proofs.Encoded.{encoded-long, encoded-full, encoded-took}
-use Rattle.encode.proofs.ack.Statement.{statement}
-use Rattle.encode.proofs.ack.Tie as tie
+use Rattle.frame_encode.proofs.Ready.{ack-ready}
+use Rattle.frame_writer.proofs.Encoded.{encoded-long, encoded-full, encoded-took}
+use Rattle.frame_encode.proofs.ack.Statement.{statement}
+use Rattle.frame_encode.proofs.ack.Tie as tie
 
 put-ack-requires : tie.Need-put-ack-requires
 put-ack-requires c κs =

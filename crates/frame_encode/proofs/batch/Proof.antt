@@ -9,16 +9,16 @@ use Rattle.model_frame.specs.Bytes.{isBytes}
 use Rattle.model_frame.specs.Frame.{batch}
 use Rattle.model_frame.specs.Reading.{readChange, appRecord}
 use Rattle.model_frame.proofs.Le.{are-bytes}
-use Rattle.laws.proofs.Writes.{wrote-on}
-use Rattle.op.specs.declared.RunLen
-use Rattle.op.specs.declared.RunLen.{RunLen}
-use Rattle.op.specs.Answers.{runOf, OpsLen}
-use Rattle.parts.specs.Answers.{partOf}
-use Rattle.print.specs.Encoding.{RecordsLen}
-use Rattle.print.proofs.Encoded.{Ready, encoded-unreadable, encoded-long, encoded-full, encoded-took}
-use Rattle.encode.proofs.Ready.{read, ops-unread, records-unread, batch-ready, batch-wrote}
-use Rattle.encode.proofs.batch.Statement.{statement}
-use Rattle.encode.proofs.batch.Tie as tie
+use Rattle.base_laws.proofs.Writes.{wrote-on}
+use Rattle.frame_op.specs.declared.RunLen
+use Rattle.frame_op.specs.declared.RunLen.{RunLen}
+use Rattle.frame_op.specs.Answers.{runOf, OpsLen}
+use Rattle.frame_fields.specs.Answers.{partOf}
+use Rattle.frame_writer.specs.Encoding.{RecordsLen}
+use Rattle.frame_writer.proofs.Encoded.{Ready, encoded-unreadable, encoded-long, encoded-full, encoded-took}
+use Rattle.frame_encode.proofs.Ready.{read, ops-unread, records-unread, batch-ready, batch-wrote}
+use Rattle.frame_encode.proofs.batch.Statement.{statement}
+use Rattle.frame_encode.proofs.batch.Tie as tie
 
 -- what is known once both runs have been measured
 abbrev srcOf : tie.After-m → List ℕ

@@ -2,10 +2,10 @@ use borrow.Author.Needs.{needs}
 use native.Mathlib.Omega.{arith}
 use mathlib.Core.Path.{refl, sym, _∙_}
 use denote.Ref.{now}
-use Rattle.encode.proofs.Ready.{bind-ready, bind-unfit, key-lengths}
-use Rattle.print.proofs.Encoded.{encoded-unreadable, encoded-long, encoded-full, encoded-took}
-use Rattle.encode.proofs.bind.Statement.{statement}
-use Rattle.encode.proofs.bind.Tie as tie
+use Rattle.frame_encode.proofs.Ready.{bind-ready, bind-unfit, key-lengths}
+use Rattle.frame_writer.proofs.Encoded.{encoded-unreadable, encoded-long, encoded-full, encoded-took}
+use Rattle.frame_encode.proofs.bind.Statement.{statement}
+use Rattle.frame_encode.proofs.bind.Tie as tie
 
 put-bind-requires : tie.Need-put-bind-requires
 put-bind-requires c κs =

@@ -2,10 +2,10 @@ use borrow.Author.Needs.{needs}
 use native.Mathlib.Omega.{arith}
 use mathlib.Core.Path.{refl, sym, _∙_}
 use denote.Ref.{now}
-use Rattle.encode.proofs.Ready.{bound-ready, bound-unfit, summary-lengths}
-use Rattle.print.proofs.Encoded.{encoded-unreadable, encoded-long, encoded-full, encoded-took}
-use Rattle.encode.proofs.bound.Statement.{statement}
-use Rattle.encode.proofs.bound.Tie as tie
+use Rattle.frame_encode.proofs.Ready.{bound-ready, bound-unfit, summary-lengths}
+use Rattle.frame_writer.proofs.Encoded.{encoded-unreadable, encoded-long, encoded-full, encoded-took}
+use Rattle.frame_encode.proofs.bound.Statement.{statement}
+use Rattle.frame_encode.proofs.bound.Tie as tie
 
 put-bound-requires : tie.Need-put-bound-requires
 put-bound-requires c κs =

@@ -1,9 +1,9 @@
 use borrow.Author.Needs.{needs}
 use native.Mathlib.Omega.{arith}
-use Rattle.encode.proofs.Ready.{checked-ready}
-use Rattle.print.proofs.Encoded.{encoded-long, encoded-full, encoded-took}
-use Rattle.encode.proofs.checked.Statement.{statement}
-use Rattle.encode.proofs.checked.Tie as tie
+use Rattle.frame_encode.proofs.Ready.{checked-ready}
+use Rattle.frame_writer.proofs.Encoded.{encoded-long, encoded-full, encoded-took}
+use Rattle.frame_encode.proofs.checked.Statement.{statement}
+use Rattle.frame_encode.proofs.checked.Tie as tie
 
 put-checked-requires : tie.Need-put-checked-requires
 put-checked-requires c κs =

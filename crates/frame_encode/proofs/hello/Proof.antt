@@ -3,10 +3,10 @@ use native.Mathlib.Omega.{arith}
 use mathlib.Core.Path.{refl}
 use denote.Ref.{now}
 use Rattle.model_frame.proofs.Le.{are-bytes}
-use Rattle.encode.proofs.Ready.{hello-judged, hello-unfit, hello-ready, hello-wrote, node-length}
-use Rattle.print.proofs.Encoded.{encoded-unreadable, encoded-long, encoded-full, encoded-took}
-use Rattle.encode.proofs.hello.Statement.{statement}
-use Rattle.encode.proofs.hello.Tie as tie
+use Rattle.frame_encode.proofs.Ready.{hello-judged, hello-unfit, hello-ready, hello-wrote, node-length}
+use Rattle.frame_writer.proofs.Encoded.{encoded-unreadable, encoded-long, encoded-full, encoded-took}
+use Rattle.frame_encode.proofs.hello.Statement.{statement}
+use Rattle.frame_encode.proofs.hello.Tie as tie
 
 put-hello-requires : tie.Need-put-hello-requires
 put-hello-requires c κs =

@@ -1,10 +1,10 @@
 use borrow.Author.Needs.{needs}
 use native.Mathlib.Omega.{arith}
-use Rattle.parts.specs.Answers.{reasonOf}
-use Rattle.encode.proofs.Ready.{nack-ready}
-use Rattle.print.proofs.Encoded.{encoded-long, encoded-full, encoded-took}
-use Rattle.encode.proofs.nack.Statement.{statement}
-use Rattle.encode.proofs.nack.Tie as tie
+use Rattle.frame_fields.specs.Answers.{reasonOf}
+use Rattle.frame_encode.proofs.Ready.{nack-ready}
+use Rattle.frame_writer.proofs.Encoded.{encoded-long, encoded-full, encoded-took}
+use Rattle.frame_encode.proofs.nack.Statement.{statement}
+use Rattle.frame_encode.proofs.nack.Tie as tie
 
 put-nack-requires : tie.Need-put-nack-requires
 put-nack-requires c κs =

@@ -1,8 +1,8 @@
 use borrow.Author.Needs.{needs}
 use native.Mathlib.Omega.{arith}
-use Rattle.laws.proofs.Writes.{wrote-on}
-use Rattle.encode.proofs.put_head.Statement.{statement}
-use Rattle.encode.proofs.put_head.Tie as tie
+use Rattle.base_laws.proofs.Writes.{wrote-on}
+use Rattle.frame_encode.proofs.put_head.Statement.{statement}
+use Rattle.frame_encode.proofs.put_head.Tie as tie
 
 returns : tie.Need-returns
 returns c =

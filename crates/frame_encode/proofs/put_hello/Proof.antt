@@ -4,9 +4,9 @@ use mathlib.Core.Path.{ap}
 use Prim.Native.Nat.{_*_}
 use denote.Ref.{now}
 use lib.ListN.{length, drop, length-take}
-use Rattle.laws.proofs.Writes.{wrote-on}
-use Rattle.encode.proofs.put_hello.Statement.{statement}
-use Rattle.encode.proofs.put_hello.Tie as tie
+use Rattle.base_laws.proofs.Writes.{wrote-on}
+use Rattle.frame_encode.proofs.put_hello.Statement.{statement}
+use Rattle.frame_encode.proofs.put_hello.Tie as tie
 
 copy-requires : tie.Need-copy-requires
 copy-requires c κs =

@@ -2,9 +2,9 @@ use borrow.Author.Needs.{needs}
 use native.Mathlib.Omega.{arith}
 use mathlib.Core.Path.{ap, _∙_}
 use lib.ListN.{length}
-use Rattle.laws.proofs.Writes.{wrote-on}
-use Rattle.encode.proofs.put_runs.Statement.{statement}
-use Rattle.encode.proofs.put_runs.Tie as tie
+use Rattle.base_laws.proofs.Writes.{wrote-on}
+use Rattle.frame_encode.proofs.put_runs.Statement.{statement}
+use Rattle.frame_encode.proofs.put_runs.Tie as tie
 
 copy-requires : tie.Need-copy-requires
 copy-requires c κs =

@@ -1,8 +1,8 @@
 use borrow.Author.Needs.{needs}
-use Rattle.laws.proofs.Writes.{wrote-on}
+use Rattle.base_laws.proofs.Writes.{wrote-on}
 use Rattle.model_frame.specs.Writing.{bodyBytes}
-use Rattle.encode.proofs.put_welcome.Statement.{statement}
-use Rattle.encode.proofs.put_welcome.Tie as tie
+use Rattle.frame_encode.proofs.put_welcome.Statement.{statement}
+use Rattle.frame_encode.proofs.put_welcome.Tie as tie
 
 returns : tie.Need-returns
 unfolding bodyBytes

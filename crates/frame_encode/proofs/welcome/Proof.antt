@@ -1,9 +1,9 @@
 use borrow.Author.Needs.{needs}
 use native.Mathlib.Omega.{arith}
-use Rattle.encode.proofs.Ready.{welcome-ready}
-use Rattle.print.proofs.Encoded.{encoded-long, encoded-full, encoded-took}
-use Rattle.encode.proofs.welcome.Statement.{statement}
-use Rattle.encode.proofs.welcome.Tie as tie
+use Rattle.frame_encode.proofs.Ready.{welcome-ready}
+use Rattle.frame_writer.proofs.Encoded.{encoded-long, encoded-full, encoded-took}
+use Rattle.frame_encode.proofs.welcome.Statement.{statement}
+use Rattle.frame_encode.proofs.welcome.Tie as tie
 
 put-welcome-requires : tie.Need-put-welcome-requires
 put-welcome-requires c κs =

@@ -1,7 +1,7 @@
 use borrow.Author.Needs.{needs}
 use Rattle.model_frame.specs.Reading.{appRecord}
-use Rattle.parts.proofs.app_record_from.Statement.{statement}
-use Rattle.parts.proofs.app_record_from.Tie as tie
+use Rattle.frame_fields.proofs.app_record_from.Statement.{statement}
+use Rattle.frame_fields.proofs.app_record_from.Tie as tie
 
 returns : tie.Need-returns
 unfolding appRecord

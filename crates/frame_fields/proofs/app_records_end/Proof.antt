@@ -3,10 +3,10 @@ use mathlib.Core.Path.{_≡_, refl, sym, ap, _∙_}
 use lib.ListN.{drop}
 use Rattle.model_frame.specs.Parse.{many, forget}
 use Rattle.model_frame.specs.Reading.{appRecord}
-use Rattle.laws.proofs.Runs.{run-none, run-more, run-bad}
-use Rattle.parts.specs.Answers.{resRecord}
-use Rattle.parts.proofs.app_records_end.Statement.{statement}
-use Rattle.parts.proofs.app_records_end.Tie as tie
+use Rattle.base_laws.proofs.Runs.{run-none, run-more, run-bad}
+use Rattle.frame_fields.specs.Answers.{resRecord}
+use Rattle.frame_fields.proofs.app_records_end.Statement.{statement}
+use Rattle.frame_fields.proofs.app_records_end.Tie as tie
 
 abbrev Inv-loop : tie.InvT-loop
 Inv-loop buf count d₀ n₀ d n =

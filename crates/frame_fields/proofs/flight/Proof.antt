@@ -1,6 +1,6 @@
 use borrow.Author.Tests.{eq-eqb, ne-eqb}
-use Rattle.parts.proofs.flight.Statement.{statement}
-use Rattle.parts.proofs.flight.Tie as tie
+use Rattle.frame_fields.proofs.flight.Statement.{statement}
+use Rattle.frame_fields.proofs.flight.Tie as tie
 
 returns : tie.Need-returns
 returns c = rw (eq-eqb _ _ (c .if1 .taken))

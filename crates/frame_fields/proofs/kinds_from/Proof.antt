@@ -6,10 +6,10 @@ use lib.ListN.{length, drop, length-drop}
 use lib.Seq.{drop-drop}
 use Rattle.model_frame.specs.Parse.{num, count}
 use Rattle.model_frame.specs.Reading.{kinds}
-use Rattle.scan.specs.Answers.{res32}
-use Rattle.laws.proofs.Runs.{numbers-end, count-room, run-items}
-use Rattle.parts.proofs.kinds_from.Statement.{statement}
-use Rattle.parts.proofs.kinds_from.Tie as tie
+use Rattle.frame_reader.specs.Answers.{res32}
+use Rattle.base_laws.proofs.Runs.{numbers-end, count-room, run-items}
+use Rattle.frame_fields.proofs.kinds_from.Statement.{statement}
+use Rattle.frame_fields.proofs.kinds_from.Tie as tie
 
 returns : tie.Need-returns
 unfolding kinds

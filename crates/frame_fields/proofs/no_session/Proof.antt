@@ -1,7 +1,7 @@
 use mathlib.Core.Path.{refl}
 use borrow.Author.Needs.{needs}
-use Rattle.parts.proofs.no_session.Statement.{statement}
-use Rattle.parts.proofs.no_session.Tie as tie
+use Rattle.frame_fields.proofs.no_session.Statement.{statement}
+use Rattle.frame_fields.proofs.no_session.Tie as tie
 
 returns : tie.Need-returns
 returns c =

@@ -1,8 +1,8 @@
 use borrow.Author.Needs.{needs}
 use Rattle.model_frame.specs.Reading.{reason}
 use borrow.Author.Tests.{ne-eqb}
-use Rattle.parts.proofs.reason_from.Statement.{statement}
-use Rattle.parts.proofs.reason_from.Tie as tie
+use Rattle.frame_fields.proofs.reason_from.Statement.{statement}
+use Rattle.frame_fields.proofs.reason_from.Tie as tie
 
 returns : tie.Need-returns
 unfolding reason

@@ -1,9 +1,9 @@
 use mathlib.Core.Path.{_∙_}
-use Rattle.parts.proofs.Keys.{key-told, key-none}
+use Rattle.frame_fields.proofs.Keys.{key-told, key-none}
 use borrow.Author.Needs.{needs}
 use Rattle.model_frame.specs.Reading.{key}
-use Rattle.parts.proofs.session_from.Statement.{statement}
-use Rattle.parts.proofs.session_from.Tie as tie
+use Rattle.frame_fields.proofs.session_from.Statement.{statement}
+use Rattle.frame_fields.proofs.session_from.Tie as tie
 
 returns : tie.Need-returns
 unfolding key

@@ -1,7 +1,7 @@
 use borrow.Author.Needs.{needs}
 use Rattle.model_frame.specs.Reading.{summary}
-use Rattle.parts.proofs.summary_from.Statement.{statement}
-use Rattle.parts.proofs.summary_from.Tie as tie
+use Rattle.frame_fields.proofs.summary_from.Statement.{statement}
+use Rattle.frame_fields.proofs.summary_from.Tie as tie
 
 returns : tie.Need-returns
 unfolding summary

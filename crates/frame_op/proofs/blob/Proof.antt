@@ -1,9 +1,9 @@
 use borrow.Author.Needs.{needs}
 use native.Mathlib.Omega.{arith}
 use Rattle.model_frame.specs.Writing.{blobBytes}
-use Rattle.laws.proofs.Writes.{wrote-on}
-use Rattle.op.proofs.blob.Statement.{statement}
-use Rattle.op.proofs.blob.Tie as tie
+use Rattle.base_laws.proofs.Writes.{wrote-on}
+use Rattle.frame_op.proofs.blob.Statement.{statement}
+use Rattle.frame_op.proofs.blob.Tie as tie
 
 returns : tie.Need-returns
 unfolding blobBytes

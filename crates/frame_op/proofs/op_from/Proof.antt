@@ -1,8 +1,8 @@
 use borrow.Author.Needs.{needs}
 use Rattle.model_frame.specs.Reading.{readChange}
 use borrow.Author.Tests.{ne-eqb}
-use Rattle.op.proofs.op_from.Statement.{statement}
-use Rattle.op.proofs.op_from.Tie as tie
+use Rattle.frame_op.proofs.op_from.Statement.{statement}
+use Rattle.frame_op.proofs.op_from.Tie as tie
 
 returns : tie.Need-returns
 unfolding readChange

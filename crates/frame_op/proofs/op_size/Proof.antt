@@ -1,6 +1,6 @@
 use borrow.Author.Needs.{needs}
-use Rattle.op.proofs.op_size.Statement.{statement}
-use Rattle.op.proofs.op_size.Tie as tie
+use Rattle.frame_op.proofs.op_size.Statement.{statement}
+use Rattle.frame_op.proofs.op_size.Tie as tie
 
 returns-4 : tie.Need-returns-4
 returns-4 c = rw (c .before .before .o .given .1, ← (c .slice .ensures))

@@ -3,10 +3,10 @@ use mathlib.Core.Path.{_≡_, refl, sym, ap, _∙_}
 use lib.ListN.{drop}
 use Rattle.model_frame.specs.Parse.{many, forget}
 use Rattle.model_frame.specs.Reading.{readChange}
-use Rattle.laws.proofs.Runs.{run-none, run-more, run-bad}
-use Rattle.op.specs.Answers.{resOp}
-use Rattle.op.proofs.ops_end.Statement.{statement}
-use Rattle.op.proofs.ops_end.Tie as tie
+use Rattle.base_laws.proofs.Runs.{run-none, run-more, run-bad}
+use Rattle.frame_op.specs.Answers.{resOp}
+use Rattle.frame_op.proofs.ops_end.Statement.{statement}
+use Rattle.frame_op.proofs.ops_end.Tie as tie
 
 abbrev Inv-loop : tie.InvT-loop
 Inv-loop p buf count d₀ n₀ d n =

@@ -1,10 +1,10 @@
 use borrow.Author.Needs.{needs}
 use mathlib.Core.Path.{sym, ap, _∙_}
-use Rattle.laws.proofs.Runs.{run-fault, run-items}
-use Rattle.op.specs.Answers.{resEnd}
+use Rattle.base_laws.proofs.Runs.{run-fault, run-items}
+use Rattle.frame_op.specs.Answers.{resEnd}
 use Rattle.model_frame.specs.Reading.{changes}
-use Rattle.op.proofs.ops_from.Statement.{statement}
-use Rattle.op.proofs.ops_from.Tie as tie
+use Rattle.frame_op.proofs.ops_from.Statement.{statement}
+use Rattle.frame_op.proofs.ops_from.Tie as tie
 
 returns : tie.Need-returns
 unfolding changes

@@ -11,11 +11,11 @@ use Rattle.model_frame.specs.Reading.{readChange}
 use Rattle.model_frame.specs.Writing.{changeBytes}
 use Rattle.model_frame.proofs.Le.{are-bytes}
 use Rattle.model_frame.proofs.SoundChange.{TakenChange, change-canon}
-use Rattle.laws.proofs.Runs.{run-fault}
-use Rattle.laws.proofs.StandsAt.{run-stands, run-past, run-forward}
-use Rattle.op.specs.Answers.{resEnd}
-use Rattle.op.proofs.ops_len.Statement.{statement}
-use Rattle.op.proofs.ops_len.Tie as tie
+use Rattle.base_laws.proofs.Runs.{run-fault}
+use Rattle.base_laws.proofs.StandsAt.{run-stands, run-past, run-forward}
+use Rattle.frame_op.specs.Answers.{resEnd}
+use Rattle.frame_op.proofs.ops_len.Statement.{statement}
+use Rattle.frame_op.proofs.ops_len.Tie as tie
 
 -- what is known once the run has been skipped
 abbrev bufOf : tie.After-d → List ℕ

@@ -5,9 +5,9 @@ use mathlib.Core.List.{List}
 use Prim.Native.Nat.{ℕ, _^_, _<_}
 use lib.ListN.{length, take, length-take}
 use Rattle.model_frame.specs.Writing.{changeBytes}
-use Rattle.laws.proofs.Writes.{wrote-on}
-use Rattle.op.proofs.put_op.Statement.{statement}
-use Rattle.op.proofs.put_op.Tie as tie
+use Rattle.base_laws.proofs.Writes.{wrote-on}
+use Rattle.frame_op.proofs.put_op.Statement.{statement}
+use Rattle.frame_op.proofs.put_op.Tie as tie
 
 -- a part is no longer than its span says
 small : (n : ℕ) (s t : List ℕ) → t ≡ take n s → n < 2 ^ 32 → length t < 2 ^ 32

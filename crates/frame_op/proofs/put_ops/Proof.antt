@@ -2,8 +2,8 @@ use borrow.Author.Needs.{needs}
 use native.Mathlib.Omega.{arith}
 use mathlib.Core.Path.{ap, _∙_}
 use lib.ListN.{length}
-use Rattle.op.proofs.put_ops.Statement.{statement}
-use Rattle.op.proofs.put_ops.Tie as tie
+use Rattle.frame_op.proofs.put_ops.Statement.{statement}
+use Rattle.frame_op.proofs.put_ops.Tie as tie
 
 copy-requires : tie.Need-copy-requires
 copy-requires c κs =

@@ -1,7 +1,7 @@
 use borrow.Author.Needs.{needs}
 use Rattle.model_frame.specs.Reading.{recordMsgFields}
-use Rattle.op.proofs.record.Statement.{statement}
-use Rattle.op.proofs.record.Tie as tie
+use Rattle.frame_op.proofs.record.Statement.{statement}
+use Rattle.frame_op.proofs.record.Tie as tie
 
 returns : tie.Need-returns
 unfolding recordMsgFields

@@ -1,7 +1,7 @@
 use borrow.Author.Needs.{needs}
 use Rattle.model_frame.specs.Reading.{recordBareFields}
-use Rattle.op.proofs.record_none.Statement.{statement}
-use Rattle.op.proofs.record_none.Tie as tie
+use Rattle.frame_op.proofs.record_none.Statement.{statement}
+use Rattle.frame_op.proofs.record_none.Tie as tie
 
 returns : tie.Need-returns
 unfolding recordBareFields

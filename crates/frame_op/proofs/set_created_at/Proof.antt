@@ -1,7 +1,7 @@
 use borrow.Author.Needs.{needs}
 use Rattle.model_frame.specs.Reading.{setCreatedAtFields}
-use Rattle.op.proofs.set_created_at.Statement.{statement}
-use Rattle.op.proofs.set_created_at.Tie as tie
+use Rattle.frame_op.proofs.set_created_at.Statement.{statement}
+use Rattle.frame_op.proofs.set_created_at.Tie as tie
 
 returns : tie.Need-returns
 unfolding setCreatedAtFields

@@ -1,7 +1,7 @@
 use borrow.Author.Needs.{needs}
 use Rattle.model_frame.specs.Reading.{setMarksFields}
-use Rattle.op.proofs.set_marks.Statement.{statement}
-use Rattle.op.proofs.set_marks.Tie as tie
+use Rattle.frame_op.proofs.set_marks.Statement.{statement}
+use Rattle.frame_op.proofs.set_marks.Tie as tie
 
 returns : tie.Need-returns
 unfolding setMarksFields

@@ -1,8 +1,8 @@
 use borrow.Author.Needs.{needs}
 use mathlib.Core.Path.{refl}
 use Rattle.model_frame.specs.Bytes.{write}
-use Rattle.op.proofs.tag.Statement.{statement}
-use Rattle.op.proofs.tag.Tie as tie
+use Rattle.frame_op.proofs.tag.Statement.{statement}
+use Rattle.frame_op.proofs.tag.Tie as tie
 
 returns : tie.Need-returns
 unfolding write

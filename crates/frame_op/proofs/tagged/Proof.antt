@@ -1,8 +1,8 @@
 use borrow.Author.Needs.{needs}
 use native.Mathlib.Omega.{arith}
-use Rattle.laws.proofs.Writes.{wrote-on}
-use Rattle.op.proofs.tagged.Statement.{statement}
-use Rattle.op.proofs.tagged.Tie as tie
+use Rattle.base_laws.proofs.Writes.{wrote-on}
+use Rattle.frame_op.proofs.tagged.Statement.{statement}
+use Rattle.frame_op.proofs.tagged.Tie as tie
 
 returns : tie.Need-returns
 returns c =

@@ -1,9 +1,9 @@
 use borrow.Author.Needs.{needs}
 use native.Mathlib.Omega.{arith}
 use Rattle.model_frame.specs.Parse.{blob}
-use Rattle.laws.proofs.Places.{bytes-short, bytes-got}
-use Rattle.scan.proofs.blob_from.Statement.{statement}
-use Rattle.scan.proofs.blob_from.Tie as tie
+use Rattle.base_laws.proofs.Places.{bytes-short, bytes-got}
+use Rattle.frame_reader.proofs.blob_from.Statement.{statement}
+use Rattle.frame_reader.proofs.blob_from.Tie as tie
 
 returns : tie.Need-returns
 unfolding blob

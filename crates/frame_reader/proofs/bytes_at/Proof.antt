@@ -1,9 +1,9 @@
 use borrow.Author.Needs.{needs}
 use denote.Ref.{now}
 use native.Mathlib.Nat.{add-sub-cancel-left}
-use Rattle.laws.proofs.Places.{slice-past, slice-over}
-use Rattle.scan.proofs.bytes_at.Statement.{statement}
-use Rattle.scan.proofs.bytes_at.Tie as tie
+use Rattle.base_laws.proofs.Places.{slice-past, slice-over}
+use Rattle.frame_reader.proofs.bytes_at.Statement.{statement}
+use Rattle.frame_reader.proofs.bytes_at.Tie as tie
 
 returns : tie.Need-returns
 returns c = cc (slice-past _ _ _ (c .before .if1 .taken))

@@ -1,8 +1,8 @@
 use borrow.Author.Needs.{needs}
 use Rattle.model_frame.specs.Parse.{count}
-use Rattle.laws.proofs.Places.{enough, lacking, product-below}
-use Rattle.scan.proofs.count_from.Statement.{statement}
-use Rattle.scan.proofs.count_from.Tie as tie
+use Rattle.base_laws.proofs.Places.{enough, lacking, product-below}
+use Rattle.frame_reader.proofs.count_from.Statement.{statement}
+use Rattle.frame_reader.proofs.count_from.Tie as tie
 
 mul-if1 : tie.Need-mul-if1
 mul-if1 c = record { fits = product-below _ _ (search needs) (search needs) }

@@ -1,8 +1,8 @@
 use borrow.Author.Needs.{needs}
 use denote.Ref.{now}
-use Rattle.scan.proofs.Rules.{none-taken, some-taken}
-use Rattle.scan.proofs.is_stamp_or_none.Statement.{statement}
-use Rattle.scan.proofs.is_stamp_or_none.Tie as tie
+use Rattle.frame_reader.proofs.Rules.{none-taken, some-taken}
+use Rattle.frame_reader.proofs.is_stamp_or_none.Statement.{statement}
+use Rattle.frame_reader.proofs.is_stamp_or_none.Tie as tie
 
 returns : tie.Need-returns
 returns c =

@@ -2,8 +2,8 @@ use borrow.Author.Needs.{needs}
 use mathlib.Core.Path.{sym, _∙_}
 use Rattle.model_frame.specs.Parse.{text}
 use Rattle.model_text.proofs.Laws.{printable-is}
-use Rattle.scan.proofs.judged_from.Statement.{statement}
-use Rattle.scan.proofs.judged_from.Tie as tie
+use Rattle.frame_reader.proofs.judged_from.Statement.{statement}
+use Rattle.frame_reader.proofs.judged_from.Tie as tie
 
 returns : tie.Need-returns
 unfolding text

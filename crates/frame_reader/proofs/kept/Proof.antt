@@ -1,6 +1,6 @@
 use borrow.Author.Needs.{needs}
-use Rattle.scan.proofs.kept.Statement.{statement}
-use Rattle.scan.proofs.kept.Tie as tie
+use Rattle.frame_reader.proofs.kept.Statement.{statement}
+use Rattle.frame_reader.proofs.kept.Tie as tie
 
 returns : tie.Need-returns
 returns c =

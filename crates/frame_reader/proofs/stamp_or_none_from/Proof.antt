@@ -1,9 +1,9 @@
 use borrow.Author.Needs.{needs}
 use mathlib.Core.Path.{sym, ap, _∙_}
-use Rattle.scan.specs.Answers.{resSpan}
-use Rattle.scan.proofs.Rules.{none-judged, none-fault}
-use Rattle.scan.proofs.stamp_or_none_from.Statement.{statement}
-use Rattle.scan.proofs.stamp_or_none_from.Tie as tie
+use Rattle.frame_reader.specs.Answers.{resSpan}
+use Rattle.frame_reader.proofs.Rules.{none-judged, none-fault}
+use Rattle.frame_reader.proofs.stamp_or_none_from.Statement.{statement}
+use Rattle.frame_reader.proofs.stamp_or_none_from.Tie as tie
 
 returns : tie.Need-returns
 returns c =

@@ -1,7 +1,7 @@
 use borrow.Author.Needs.{needs}
 use Rattle.model_frame.specs.Parse.{text}
-use Rattle.scan.proofs.text_from.Statement.{statement}
-use Rattle.scan.proofs.text_from.Tie as tie
+use Rattle.frame_reader.proofs.text_from.Statement.{statement}
+use Rattle.frame_reader.proofs.text_from.Tie as tie
 
 returns : tie.Need-returns
 unfolding text

@@ -1,7 +1,7 @@
 use borrow.Author.Needs.{needs}
-use Rattle.laws.proofs.Places.{num-short, num-got}
-use Rattle.scan.proofs.u64_from.Statement.{statement}
-use Rattle.scan.proofs.u64_from.Tie as tie
+use Rattle.base_laws.proofs.Places.{num-short, num-got}
+use Rattle.frame_reader.proofs.u64_from.Statement.{statement}
+use Rattle.frame_reader.proofs.u64_from.Tie as tie
 
 returns : tie.Need-returns
 returns c = cc (num-short _ _ _ (c .before .left .ensures) (c .if1 .taken))

@@ -1,8 +1,8 @@
--- `stamp::is_date` meets its contract. Assumes nothing.
-use Rattle.stamp.proofs.Places.{says-date}
+-- `frame_stamp::is_date` meets its contract. Assumes nothing.
+use Rattle.frame_stamp.proofs.Places.{says-date}
 use borrow.Author.Needs.{needs}
-use Rattle.stamp.proofs.is_date.Statement.{statement}
-use Rattle.stamp.proofs.is_date.Tie as tie
+use Rattle.frame_stamp.proofs.is_date.Statement.{statement}
+use Rattle.frame_stamp.proofs.is_date.Tie as tie
 
 returns : tie.Need-returns
 returns c =

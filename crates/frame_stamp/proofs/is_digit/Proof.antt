@@ -1,8 +1,8 @@
--- `stamp::is_digit` meets its contract. Assumes nothing.
+-- `frame_stamp::is_digit` meets its contract. Assumes nothing.
 use mathlib.Core.Path.{refl}
 use Rattle.model_text.specs.Stamp.{isDigit}
-use Rattle.stamp.proofs.is_digit.Statement.{statement}
-use Rattle.stamp.proofs.is_digit.Tie as tie
+use Rattle.frame_stamp.proofs.is_digit.Statement.{statement}
+use Rattle.frame_stamp.proofs.is_digit.Tie as tie
 
 returns : tie.Need-returns
 unfolding isDigit

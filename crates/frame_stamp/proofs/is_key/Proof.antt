@@ -1,9 +1,9 @@
--- `stamp::is_key` meets its contract. Assumes nothing.
+-- `frame_stamp::is_key` meets its contract. Assumes nothing.
 use mathlib.Core.Bool.{_&&_}
 use Rattle.model_text.specs.Printable.{isKey}
 use borrow.Author.Needs.{needs}
-use Rattle.stamp.proofs.is_key.Statement.{statement}
-use Rattle.stamp.proofs.is_key.Tie as tie
+use Rattle.frame_stamp.proofs.is_key.Statement.{statement}
+use Rattle.frame_stamp.proofs.is_key.Tie as tie
 
 returns : tie.Need-returns
 unfolding isKey

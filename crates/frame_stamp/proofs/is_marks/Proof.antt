@@ -1,8 +1,8 @@
--- `stamp::is_marks` meets its contract. Assumes nothing.
+-- `frame_stamp::is_marks` meets its contract. Assumes nothing.
 use Rattle.model_text.specs.Printable.{isMarks}
 use borrow.Author.Needs.{needs}
-use Rattle.stamp.proofs.is_marks.Statement.{statement}
-use Rattle.stamp.proofs.is_marks.Tie as tie
+use Rattle.frame_stamp.proofs.is_marks.Statement.{statement}
+use Rattle.frame_stamp.proofs.is_marks.Tie as tie
 
 returns : tie.Need-returns
 unfolding isMarks

@@ -1,10 +1,10 @@
--- `stamp::is_pair` meets its contract. Assumes nothing.
+-- `frame_stamp::is_pair` meets its contract. Assumes nothing.
 use native.Mathlib.Omega.{arith}
 use mathlib.Core.Bool.{true, false}
-use Rattle.stamp.proofs.Places.{two-digits, pair-by}
+use Rattle.frame_stamp.proofs.Places.{two-digits, pair-by}
 use borrow.Author.Needs.{needs}
-use Rattle.stamp.proofs.is_pair.Statement.{statement}
-use Rattle.stamp.proofs.is_pair.Tie as tie
+use Rattle.frame_stamp.proofs.is_pair.Statement.{statement}
+use Rattle.frame_stamp.proofs.is_pair.Tie as tie
 
 sub-n : tie.Need-sub-n
 sub-n c = let h = two-digits _ _ (c .before .before .is-digit .ensures) (c .before .is-digit2 .ensures) (c .if1 .taken) in omega arith

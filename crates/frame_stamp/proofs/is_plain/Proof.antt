@@ -1,8 +1,8 @@
--- `stamp::is_plain` meets its contract. Assumes nothing.
+-- `frame_stamp::is_plain` meets its contract. Assumes nothing.
 use mathlib.Core.Path.{refl}
 use Rattle.model_text.specs.Printable.{isPlain}
-use Rattle.stamp.proofs.is_plain.Statement.{statement}
-use Rattle.stamp.proofs.is_plain.Tie as tie
+use Rattle.frame_stamp.proofs.is_plain.Statement.{statement}
+use Rattle.frame_stamp.proofs.is_plain.Tie as tie
 
 returns : tie.Need-returns
 unfolding isPlain

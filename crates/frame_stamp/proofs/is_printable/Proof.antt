@@ -1,8 +1,8 @@
--- `stamp::is_printable` meets its contract. Assumes nothing.
-use Rattle.stamp.proofs.Plain.{too-short, too-long, in-between}
+-- `frame_stamp::is_printable` meets its contract. Assumes nothing.
+use Rattle.frame_stamp.proofs.Plain.{too-short, too-long, in-between}
 use borrow.Author.Needs.{needs}
-use Rattle.stamp.proofs.is_printable.Statement.{statement}
-use Rattle.stamp.proofs.is_printable.Tie as tie
+use Rattle.frame_stamp.proofs.is_printable.Statement.{statement}
+use Rattle.frame_stamp.proofs.is_printable.Tie as tie
 
 returns : tie.Need-returns
 returns c = too-short _ _ _ (c .if1 .taken)

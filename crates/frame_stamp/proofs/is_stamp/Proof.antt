@@ -1,8 +1,8 @@
--- `stamp::is_stamp` meets its contract. Assumes nothing.
-use Rattle.stamp.proofs.Places.{says-seconds, says-millis, says-neither}
+-- `frame_stamp::is_stamp` meets its contract. Assumes nothing.
+use Rattle.frame_stamp.proofs.Places.{says-seconds, says-millis, says-neither}
 use borrow.Author.Needs.{needs}
-use Rattle.stamp.proofs.is_stamp.Statement.{statement}
-use Rattle.stamp.proofs.is_stamp.Tie as tie
+use Rattle.frame_stamp.proofs.is_stamp.Statement.{statement}
+use Rattle.frame_stamp.proofs.is_stamp.Tie as tie
 
 returns : tie.Need-returns
 returns c = says-seconds (c .before .before .before .before .args .s .now) (c .before .before .if1 .taken) (c .before .is-date .ensures) (c .is-clock .ensures)

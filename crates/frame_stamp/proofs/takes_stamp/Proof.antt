@@ -1,8 +1,8 @@
--- `stamp::takes_stamp` meets its contract: in version 1 reading takes what the store keeps. Assumes nothing.
+-- `frame_stamp::takes_stamp` meets its contract: in version 1 reading takes what the store keeps. Assumes nothing.
 use Rattle.model_text.specs.Stamp.{takesStamp}
 use borrow.Author.Needs.{needs}
-use Rattle.stamp.proofs.takes_stamp.Statement.{statement}
-use Rattle.stamp.proofs.takes_stamp.Tie as tie
+use Rattle.frame_stamp.proofs.takes_stamp.Statement.{statement}
+use Rattle.frame_stamp.proofs.takes_stamp.Tie as tie
 
 returns : tie.Need-returns
 unfolding takesStamp

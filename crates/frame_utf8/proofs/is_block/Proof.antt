@@ -1,10 +1,10 @@
--- `text::is_block` meets its contract. Assumes nothing.
+-- `frame_utf8::is_block` meets its contract. Assumes nothing.
 use native.Mathlib.Omega.{arith}
 use Prim.Native.Nat.{_-_}
 use borrow.Author.Tests.{ltb-true}
-use Rattle.text.proofs.Ascii.{Gathered, starts, gathers, gathered}
-use Rattle.text.proofs.is_block.Statement.{statement}
-use Rattle.text.proofs.is_block.Tie as tie
+use Rattle.frame_utf8.proofs.Ascii.{Gathered, starts, gathers, gathered}
+use Rattle.frame_utf8.proofs.is_block.Statement.{statement}
+use Rattle.frame_utf8.proofs.is_block.Tie as tie
 
 abbrev Inv-loop : tie.InvT-loop
 Inv-loop s at m₀ j₀ m j = Gathered s at m j

@@ -1,11 +1,11 @@
--- `text::is_utf8` meets its contract: the loop goes from sequence to sequence (`Scanned`), or past 32 ASCII bytes. Assumes nothing.
+-- `frame_utf8::is_utf8` meets its contract: the loop goes from sequence to sequence (`Scanned`), or past 32 ASCII bytes. Assumes nothing.
 use Prim.Native.Nat.{_+_, _-_, _≤_}
 use native.Mathlib.Omega.{arith}
 use lib.ListN.{length}
-use Rattle.text.proofs.Ascii.{passes}
-use Rattle.text.proofs.Scan.{Scanned, starts, ends, stops, goes-on}
-use Rattle.text.proofs.is_utf8.Statement.{statement}
-use Rattle.text.proofs.is_utf8.Tie as tie
+use Rattle.frame_utf8.proofs.Ascii.{passes}
+use Rattle.frame_utf8.proofs.Scan.{Scanned, starts, ends, stops, goes-on}
+use Rattle.frame_utf8.proofs.is_utf8.Statement.{statement}
+use Rattle.frame_utf8.proofs.is_utf8.Tie as tie
 
 abbrev Inv-loop : tie.InvT-loop
 Inv-loop s i₀ i = Scanned s i

@@ -1,9 +1,9 @@
--- `text::lead_length` meets its contract. Assumes nothing.
+-- `frame_utf8::lead_length` meets its contract. Assumes nothing.
 use mathlib.Core.Path.{sym}
 use lib.Dec.{lit≤}
 use Rattle.model_text.proofs.Tables.{lead-one, lead-none, lead-two, lead-three, lead-four, lead-high}
-use Rattle.text.proofs.lead_length.Statement.{statement}
-use Rattle.text.proofs.lead_length.Tie as tie
+use Rattle.frame_utf8.proofs.lead_length.Statement.{statement}
+use Rattle.frame_utf8.proofs.lead_length.Tie as tie
 
 returns : tie.Need-returns
 returns c = (sym (lead-one _ (c .if1 .taken)), lit≤ tt)

@@ -2,9 +2,9 @@ use borrow.Author.Needs.{needs}
 use denote.Ref.{now}
 use mathlib.Core.Path.{sym, _∙_}
 use lib.ListN.{length-drop}
-use Rattle.print.proofs.Fits.{numbers-read}
-use Rattle.print.proofs.kinds_fit.Statement.{statement}
-use Rattle.print.proofs.kinds_fit.Tie as tie
+use Rattle.frame_writer.proofs.Fits.{numbers-read}
+use Rattle.frame_writer.proofs.kinds_fit.Statement.{statement}
+use Rattle.frame_writer.proofs.kinds_fit.Tie as tie
 
 returns : tie.Need-returns
 returns c =

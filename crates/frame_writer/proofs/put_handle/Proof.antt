@@ -1,8 +1,8 @@
 use borrow.Author.Needs.{needs}
 use native.Mathlib.Omega.{arith}
-use Rattle.laws.proofs.Writes.{wrote-on}
-use Rattle.print.proofs.put_handle.Statement.{statement}
-use Rattle.print.proofs.put_handle.Tie as tie
+use Rattle.base_laws.proofs.Writes.{wrote-on}
+use Rattle.frame_writer.proofs.put_handle.Statement.{statement}
+use Rattle.frame_writer.proofs.put_handle.Tie as tie
 
 returns : tie.Need-returns
 returns c =

@@ -4,8 +4,8 @@ use mathlib.Core.Path.{_≡_, ap}
 use mathlib.Core.List.{List}
 use Prim.Native.Nat.{ℕ, _^_, _<_}
 use lib.ListN.{length, take, length-take}
-use Rattle.print.proofs.put_span.Statement.{statement}
-use Rattle.print.proofs.put_span.Tie as tie
+use Rattle.frame_writer.proofs.put_span.Statement.{statement}
+use Rattle.frame_writer.proofs.put_span.Tie as tie
 
 -- a part is no longer than its span says
 small : (n : ℕ) (s t : List ℕ) → t ≡ take n s → n < 2 ^ 32 → length t < 2 ^ 32

@@ -1,8 +1,8 @@
 use borrow.Author.Needs.{needs}
 use denote.Ref.{now}
-use Rattle.print.proofs.Fits.{session-says}
-use Rattle.print.proofs.session_fits.Statement.{statement}
-use Rattle.print.proofs.session_fits.Tie as tie
+use Rattle.frame_writer.proofs.Fits.{session-says}
+use Rattle.frame_writer.proofs.session_fits.Statement.{statement}
+use Rattle.frame_writer.proofs.session_fits.Tie as tie
 
 returns : tie.Need-returns
 returns c =

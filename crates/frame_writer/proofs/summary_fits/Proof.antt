@@ -1,8 +1,8 @@
 use borrow.Author.Needs.{needs}
 use denote.Ref.{now}
-use Rattle.print.proofs.Fits.{summary-says}
-use Rattle.print.proofs.summary_fits.Statement.{statement}
-use Rattle.print.proofs.summary_fits.Tie as tie
+use Rattle.frame_writer.proofs.Fits.{summary-says}
+use Rattle.frame_writer.proofs.summary_fits.Statement.{statement}
+use Rattle.frame_writer.proofs.summary_fits.Tie as tie
 
 returns : tie.Need-returns
 returns c =

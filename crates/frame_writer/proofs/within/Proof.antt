@@ -1,7 +1,7 @@
 use borrow.Author.Needs.{needs}
-use Rattle.print.proofs.Fits.{leb-within, leb-outside}
-use Rattle.print.proofs.within.Statement.{statement}
-use Rattle.print.proofs.within.Tie as tie
+use Rattle.frame_writer.proofs.Fits.{leb-within, leb-outside}
+use Rattle.frame_writer.proofs.within.Statement.{statement}
+use Rattle.frame_writer.proofs.within.Tie as tie
 
 returns : tie.Need-returns
 returns c = leb-outside _ _ _ (c .if1 .taken)

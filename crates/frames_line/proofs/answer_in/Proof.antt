@@ -1,19 +1,19 @@
 use mir.Syntax.{w64}
 use mir.Val.{Fits}
 use borrow.Author.Needs.{needs}
-use Rattle.frame_line.proofs.Laws.{bad-line, some-line, takes-any, reads-within, roomy}
+use Rattle.frames_line.proofs.Laws.{bad-line, some-line, takes-any, reads-within, roomy}
 use denote.Ref.{now}
 use native.Mathlib.Omega.{arith}
 use mathlib.Core.Path.{_∙_}
-use Rattle.frame_line.proofs.answer_in.Statement.{statement}
-use Rattle.frame_line.proofs.answer_in.Tie as tie
-use Rattle.frame_line.proofs.answer_in.Reads as reads
-use Rattle.frame_line.proofs.answer_in.Lts as lts
-use Rattle.frame_line.proofs.settings.Reads as settings-reads
-use Rattle.hex.proofs.put_refusal.Reads as put-refusal-reads
-use Rattle.hex.proofs.read_line.Reads as read-line-reads
+use Rattle.frames_line.proofs.answer_in.Statement.{statement}
+use Rattle.frames_line.proofs.answer_in.Tie as tie
+use Rattle.frames_line.proofs.answer_in.Reads as reads
+use Rattle.frames_line.proofs.answer_in.Lts as lts
+use Rattle.frames_line.proofs.settings.Reads as settings-reads
+use Rattle.base_hex.proofs.put_refusal.Reads as put-refusal-reads
+use Rattle.base_hex.proofs.read_line.Reads as read-line-reads
 use Rattle.replica.proofs.on_frame4.Reads as on-frame4-reads
-use Rattle.reply_text.proofs.put_answer.Reads as put-answer-reads
+use Rattle.frames_reply.proofs.put_answer.Reads as put-answer-reads
 
 -- src/lib.rt:58:11
 read-line-requires : tie.Need-read-line-requires

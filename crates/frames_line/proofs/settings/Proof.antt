@@ -1,11 +1,11 @@
 use borrow.Author.Needs.{needs}
-use Rattle.areas.specs.declared.Shape.{Shape}
+use Rattle.store_areas.specs.declared.Shape.{Shape}
 use mathlib.Core.Path.{ap}
-use Rattle.frame_line.proofs.settings.Statement.{statement}
-use Rattle.frame_line.proofs.settings.Tie as tie
-use Rattle.frame_line.proofs.settings.Reads as reads
-use Rattle.frame_line.proofs.settings.Lts as lts
-use Rattle.frame_line.proofs.shape.Reads as shape-reads
+use Rattle.frames_line.proofs.settings.Statement.{statement}
+use Rattle.frames_line.proofs.settings.Tie as tie
+use Rattle.frames_line.proofs.settings.Reads as reads
+use Rattle.frames_line.proofs.settings.Lts as lts
+use Rattle.frames_line.proofs.shape.Reads as shape-reads
 
 -- src/lib.rt:37:16
 shape-requires : tie.Need-shape-requires

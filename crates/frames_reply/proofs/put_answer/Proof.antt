@@ -1,13 +1,13 @@
 use borrow.Author.Needs.{needs}
-use Rattle.reply_text.proofs.Laws.{text-done, text-reply, text-refused}
+use Rattle.frames_reply.proofs.Laws.{text-done, text-reply, text-refused}
 use lib.ListN.{length}
 use denote.Ref.{now}
-use Rattle.reply_text.proofs.put_answer.Statement.{statement}
-use Rattle.reply_text.proofs.put_answer.Tie as tie
-use Rattle.reply_text.proofs.put_answer.Reads as reads
-use Rattle.reply_text.proofs.put_answer.Lts as lts
-use Rattle.hex.proofs.put_refusal.Reads as put-refusal-reads
-use Rattle.reply_text.proofs.put_reply.Reads as put-reply-reads
+use Rattle.frames_reply.proofs.put_answer.Statement.{statement}
+use Rattle.frames_reply.proofs.put_answer.Tie as tie
+use Rattle.frames_reply.proofs.put_answer.Reads as reads
+use Rattle.frames_reply.proofs.put_answer.Lts as lts
+use Rattle.base_hex.proofs.put_refusal.Reads as put-refusal-reads
+use Rattle.frames_reply.proofs.put_reply.Reads as put-reply-reads
 
 -- src/lib.rt:37:13
 returns : tie.Need-returns

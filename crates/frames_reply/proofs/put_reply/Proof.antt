@@ -1,16 +1,16 @@
 use borrow.Author.Needs.{needs}
-use Rattle.reply_text.proofs.Laws.{took-fits, put-digits, put-no}
-use Rattle.print.specs.Encoding.{writtenOf}
+use Rattle.frames_reply.proofs.Laws.{took-fits, put-digits, put-no}
+use Rattle.frame_writer.specs.Encoding.{writtenOf}
 use mathlib.Core.Path.{ap}
 use denote.Ref.{now}
 use native.Mathlib.Omega.{arith}
-use Rattle.reply_text.proofs.put_reply.Statement.{statement}
-use Rattle.reply_text.proofs.put_reply.Tie as tie
-use Rattle.reply_text.proofs.put_reply.Reads as reads
-use Rattle.reply_text.proofs.put_reply.Lts as lts
-use Rattle.hex.proofs.put_hex.Reads as put-hex-reads
-use Rattle.hex.proofs.put_refusal.Reads as put-refusal-reads
-use Rattle.reply.proofs.write.Reads as write-reads
+use Rattle.frames_reply.proofs.put_reply.Statement.{statement}
+use Rattle.frames_reply.proofs.put_reply.Tie as tie
+use Rattle.frames_reply.proofs.put_reply.Reads as reads
+use Rattle.frames_reply.proofs.put_reply.Lts as lts
+use Rattle.base_hex.proofs.put_hex.Reads as put-hex-reads
+use Rattle.base_hex.proofs.put_refusal.Reads as put-refusal-reads
+use Rattle.standby_reply.proofs.write.Reads as write-reads
 
 -- src/lib.rt:18:11
 write-requires : tie.Need-write-requires

@@ -46,58 +46,58 @@ use denote.Triple.Clauses.{ensured, lasts}
 use denote.Triple.Table.{entered, cited}
 use denote.Triple.Walked.{says, Stays, stay-ref, stay-slice, gave-slice, stay-dropped, walkOf, Walks, ends-at, walked, goes-ref, goes-slice, goes-gave-slice, goes-dropped, walk-meets}
 use denote.Exit.{yes}
-use Rattle.model.specs.State.{disconnectedFrom}
-use Rattle.steps.specs.Steps.{roomOf}
-use Rattle.model.specs.State.{disconnectedFrom}
-use Rattle.steps.specs.Steps.{StepIs}
-use Rattle.steps.proofs.Called.{called}
-use Rattle.outcome.specs.declared.Replica.{Replica}
-use Rattle.outcome.proofs.Replica as Replica-type
-use Rattle.outcome.proofs.Replica.Laws as Replica-laws
+use Rattle.model_standby.specs.State.{disconnectedFrom}
+use Rattle.standby_step.specs.Steps.{roomOf}
+use Rattle.model_standby.specs.State.{disconnectedFrom}
+use Rattle.standby_step.specs.Steps.{StepIs}
+use Rattle.standby_step.proofs.Called.{called}
+use Rattle.standby_state.specs.declared.Replica.{Replica}
+use Rattle.standby_state.proofs.Replica as Replica-type
+use Rattle.standby_state.proofs.Replica.Laws as Replica-laws
 use Rattle.replica.proofs.Records.{R-Replica, val-Replica, vals-Replica, tells-Replica, makes-Replica}
-use Rattle.row.specs.declared.Handle.{Handle}
-use Rattle.row.proofs.Handle as Handle-type
-use Rattle.row.proofs.Handle.Laws as Handle-laws
-use Rattle.row.proofs.Rows.{R as R-Handle, val as val-Handle, vals as vals-Handle, tells as tells-Handle, makes as makes-Handle}
-use Rattle.outcome.specs.declared.Settings.{Settings}
-use Rattle.outcome.proofs.Settings as Settings-type
-use Rattle.outcome.proofs.Settings.Laws as Settings-laws
+use Rattle.standby_row.specs.declared.Handle.{Handle}
+use Rattle.standby_row.proofs.Handle as Handle-type
+use Rattle.standby_row.proofs.Handle.Laws as Handle-laws
+use Rattle.standby_row.proofs.Rows.{R as R-Handle, val as val-Handle, vals as vals-Handle, tells as tells-Handle, makes as makes-Handle}
+use Rattle.standby_state.specs.declared.Settings.{Settings}
+use Rattle.standby_state.proofs.Settings as Settings-type
+use Rattle.standby_state.proofs.Settings.Laws as Settings-laws
 use Rattle.replica.proofs.Records.{R-Settings, val-Settings, vals-Settings, tells-Settings, makes-Settings}
-use Rattle.outcome.specs.declared.Answer.{Answer}
-use Rattle.outcome.proofs.Answer as Answer-type
-use Rattle.outcome.proofs.Answer.Laws as Answer-laws
+use Rattle.standby_state.specs.declared.Answer.{Answer}
+use Rattle.standby_state.proofs.Answer as Answer-type
+use Rattle.standby_state.proofs.Answer.Laws as Answer-laws
 use Rattle.replica.proofs.Records.{R-Answer, val-Answer, vals-Answer, tells-Answer, makes-Answer}
-use Rattle.row.specs.declared.Seen.{Seen}
-use Rattle.row.proofs.Seen as Seen-type
-use Rattle.row.proofs.Seen.Laws as Seen-laws
-use Rattle.row.proofs.Records.{R-Seen, val-Seen, vals-Seen, tells-Seen, makes-Seen}
-use Rattle.outcome.specs.declared.Outcome.{Outcome}
-use Rattle.outcome.proofs.Outcome as Outcome-type
-use Rattle.outcome.proofs.Outcome.Laws as Outcome-laws
+use Rattle.standby_row.specs.declared.Seen.{Seen}
+use Rattle.standby_row.proofs.Seen as Seen-type
+use Rattle.standby_row.proofs.Seen.Laws as Seen-laws
+use Rattle.standby_row.proofs.Records.{R-Seen, val-Seen, vals-Seen, tells-Seen, makes-Seen}
+use Rattle.standby_state.specs.declared.Outcome.{Outcome}
+use Rattle.standby_state.proofs.Outcome as Outcome-type
+use Rattle.standby_state.proofs.Outcome.Laws as Outcome-laws
 use Rattle.replica.proofs.Records.{R-Outcome, val-Outcome, vals-Outcome, tells-Outcome, makes-Outcome}
-use Rattle.row.specs.Row.{none, findOf, freeOf, brokenOf, clearedFrom, clearedAll, seenOf}
-use Rattle.row.proofs.Lists.{cleared-length}
-use Rattle.row.proofs.Locals.{filled, empty, stack, frees-stack}
-use Rattle.row.proofs.Lent.{at, Shared, calls-with, calls-peek, calls-handed, told-shared}
-use Rattle.row.proofs.Calls.{Look, calls-look, Act, calls-act}
+use Rattle.standby_row.specs.Row.{none, findOf, freeOf, brokenOf, clearedFrom, clearedAll, seenOf}
+use Rattle.standby_row.proofs.Lists.{cleared-length}
+use Rattle.standby_row.proofs.Locals.{filled, empty, stack, frees-stack}
+use Rattle.standby_row.proofs.Lent.{at, Shared, calls-with, calls-peek, calls-handed, told-shared}
+use Rattle.standby_row.proofs.Calls.{Look, calls-look, Act, calls-act}
 use Rattle.replica.proofs.places_in_use as places-in-use
 use Rattle.replica.proofs.places_in_use.Symbol as places-in-use-def
 use Rattle.replica.proofs.places_in_use.Symbol.{name as #replica·places-in-use}
 use Rattle.replica.proofs.places_in_use.Met as places-in-use-thm
-use Rattle.due_batch.proofs.room_of as room-of
-use Rattle.due_batch.proofs.room_of.Symbol as room-of-def
-use Rattle.due_batch.proofs.room_of.Symbol.{name as #due_batch·room-of}
-use Rattle.due_batch.proofs.room_of.Met as room-of-thm
-use Rattle.row.proofs.look.Symbol as look-def
-use Rattle.row.proofs.look.Symbol.{name as #row·look}
-use Rattle.row.proofs.look.Met as look-thm
-use Rattle.calls.proofs.disconnected_from as disconnected-from
-use Rattle.calls.proofs.disconnected_from.Symbol as disconnected-from-def
-use Rattle.calls.proofs.disconnected_from.Symbol.{name as #calls·disconnected-from}
-use Rattle.calls.proofs.disconnected_from.Met as disconnected-from-thm
-use Rattle.row.proofs.act.Symbol as act-def
-use Rattle.row.proofs.act.Symbol.{name as #row·act}
-use Rattle.row.proofs.act.Met as act-thm
+use Rattle.standby_batch_due.proofs.room_of as room-of
+use Rattle.standby_batch_due.proofs.room_of.Symbol as room-of-def
+use Rattle.standby_batch_due.proofs.room_of.Symbol.{name as #standby_batch_due·room-of}
+use Rattle.standby_batch_due.proofs.room_of.Met as room-of-thm
+use Rattle.standby_row.proofs.look.Symbol as look-def
+use Rattle.standby_row.proofs.look.Symbol.{name as #standby_row·look}
+use Rattle.standby_row.proofs.look.Met as look-thm
+use Rattle.standby_lifecycle.proofs.disconnected_from as disconnected-from
+use Rattle.standby_lifecycle.proofs.disconnected_from.Symbol as disconnected-from-def
+use Rattle.standby_lifecycle.proofs.disconnected_from.Symbol.{name as #standby_lifecycle·disconnected-from}
+use Rattle.standby_lifecycle.proofs.disconnected_from.Met as disconnected-from-thm
+use Rattle.standby_row.proofs.act.Symbol as act-def
+use Rattle.standby_row.proofs.act.Symbol.{name as #standby_row·act}
+use Rattle.standby_row.proofs.act.Met as act-thm
 use Rattle.replica.proofs.disconnected_from.Key.{name as #replica·disconnected-from}
 use Rattle.replica.proofs.disconnected_from as this
 use Rattle.replica.proofs.disconnected_from.Statement as stated
@@ -257,7 +257,7 @@ module _ {M : Type 1} (𝓤 : URA M) (H : Heap 𝓤) (A : Atoms 𝓤) (W : Given
       suffices ! _ (ends-at 𝓤 H A this.ended stayed (this.clauses 𝓤 H A memory run) W (((κ₀, (κ₁, (κ₂, (κ₃, (κ₄, tt))))), (q₀, (q₁, (q₂, (q₃, (q₄, tt))))), tt, x-all, at-all), tt) (val-Answer ((x .0) .answer)) ((x .0) .answer) (((x .0) .replica), ((row₁ x), (x .1 .1 .1 .0, (x .1 .1 .1 .1 .0, (x .1 .1 .1 .1 .1 .0, (tt, (tt, tt))))))) (tt, (same₁ x, (p .2, (p .3, (p .4, (tt, (tt, tt)))))))) $ says ! (called the-s the-c the-row (disconnectedFrom the-connection) the-words (x .1 .1 .1 .0) the-bytes (x .1 .1 .1 .1 .0) the-holds (x .1 .1 .1 .1 .1 .0) (x .0) (p .1)) $
       move ! (6 ∷ []) $ split ! $ move ! (4 ∷ 0 ∷ []) $ join ! $ move ! (6 ∷ 0 ∷ []) $ join ! $ frame ! $ split ! $ move ! (1 ∷ []) $ split ! $ nothing ! $ nothing ! $ fjoin ! $ nothing ! $ fjoin ! $ move ! (2 ∷ 0 ∷ []) $ fjoin ! $ move ! (1 ∷ 0 ∷ []) $ fjoin ! $ move ! (1 ∷ 0 ∷ []) $ fjoin ! $ move ! (1 ∷ 2 ∷ []) $ fjoin ! $ pureI ! (at-slice R-Handle (record { ptr = row-at .ptr; name = row-at .name; now = (row₁ x) }) (s-row ∷ [])) (tt, (tt, tt)) (ap (λ (m : ℕ). sliceVal (row-at .ptr) m ∷ []) (sym (same₁ x)), (subst (Room R-Handle) (sym (same₁ x)) room-row)) $ fjoin ! $ fjoin ! $ move ! (1 ∷ 2 ∷ []) $ feqI ! (List Val) (s-c ∷ []) (s-c ∷ []) refl $ fjoin3 ! $ fjoin ! $ frame ! $ owned ! R-Answer (Is R-Answer) (makes-Answer 𝓤 H A W) ((x .0) .answer) (vals-Answer ((x .0) .answer)) (LL.owed Outcome-type.the-type Outcome-laws.the-laws (x .0) _ (p .0) .1 .0) $ done !
 
-  module _ (Ct : Calls 𝓤 H) (Λ : Loops 𝓤 H) (fm : FmC 𝓤 H (W .laws) Ct) (known-places-in-use : Triple 𝓤 (Ct #replica·places-in-use) (PlacesInUse 𝓤 H A memory run)) (known-room-of : Triple 𝓤 (Ct #due_batch·room-of) (RoomOf 𝓤 H A memory run)) (known-look : Triple 𝓤 (Ct #row·look) (Look 𝓤 H A memory run)) (known-disconnected-from : Triple 𝓤 (Ct #calls·disconnected-from) (DisconnectedFrom 𝓤 H A memory run)) (known-act : Triple 𝓤 (Ct #row·act) (Act 𝓤 H A memory run)) (l₀ l₁ l₂ l₃ l₄ l₅ l₆ l₇ l₈ l₉ l₁₀ l₁₁ l₁₂ l₁₃ l₁₄ l₁₅ l₁₆ l₁₇ l₁₈ l₁₉ l₂₀ l₂₁ l₂₂ l₂₃ l₂₄ l₂₅ l₂₆ l₂₇ l₂₈ : ℕ) where
+  module _ (Ct : Calls 𝓤 H) (Λ : Loops 𝓤 H) (fm : FmC 𝓤 H (W .laws) Ct) (known-places-in-use : Triple 𝓤 (Ct #replica·places-in-use) (PlacesInUse 𝓤 H A memory run)) (known-room-of : Triple 𝓤 (Ct #standby_batch_due·room-of) (RoomOf 𝓤 H A memory run)) (known-look : Triple 𝓤 (Ct #standby_row·look) (Look 𝓤 H A memory run)) (known-disconnected-from : Triple 𝓤 (Ct #standby_lifecycle·disconnected-from) (DisconnectedFrom 𝓤 H A memory run)) (known-act : Triple 𝓤 (Ct #standby_row·act) (Act 𝓤 H A memory run)) (l₀ l₁ l₂ l₃ l₄ l₅ l₆ l₇ l₈ l₉ l₁₀ l₁₁ l₁₂ l₁₃ l₁₄ l₁₅ l₁₆ l₁₇ l₁₈ l₁₉ l₂₀ l₂₁ l₂₂ l₂₃ l₂₄ l₂₅ l₂₆ l₂₇ l₂₈ : ℕ) where
     abbrev En : Env 𝓤 H
     En = (Answer-laws.mir, l₀) ∷ (tyRef (named 0) mut (pointee (R-Replica .written)), l₁) ∷ (sliceTy (tyRef (named 1) mut (pointee (R-Handle .written))), l₂) ∷ (sliceTy (tyRef (named 2) mut word), l₃) ∷ (sliceTy (tyRef (named 3) mut (tyInt w8)), l₄) ∷ (sliceTy (tyRef (named 4) mut (tyInt w8)), l₅) ∷ (word, l₆) ∷ (Settings-laws.mir, l₇) ∷ (word, l₈) ∷ (word, l₉) ∷ (word, l₁₀) ∷ (Seen-laws.mir, l₁₁) ∷ (Outcome-laws.mir, l₁₂) ∷ (tyRef erased imm word, l₁₃) ∷ (sliceTy (tyRef erased imm word), l₁₄) ∷ (tyRef erased imm (tyInt w8), l₁₅) ∷ (sliceTy (tyRef erased imm (tyInt w8)), l₁₆) ∷ (tyRef erased imm (pointee (R-Handle .written)), l₁₇) ∷ (sliceTy (tyRef erased imm (pointee (R-Handle .written))), l₁₈) ∷ (Replica-laws.mir, l₁₉) ∷ (tyRef erased mut word, l₂₀) ∷ (sliceTy (tyRef erased mut word), l₂₁) ∷ (tyRef erased mut (tyInt w8), l₂₂) ∷ (sliceTy (tyRef erased mut (tyInt w8)), l₂₃) ∷ (tyRef erased mut (tyInt w8), l₂₄) ∷ (sliceTy (tyRef erased mut (tyInt w8)), l₂₅) ∷ (tyUnit, l₂₆) ∷ (tyRef erased mut (pointee (R-Handle .written)), l₂₇) ∷ (sliceTy (tyRef erased mut (pointee (R-Handle .written))), l₂₈) ∷ []
 
@@ -295,7 +295,7 @@ module _ {M : Type 1} (𝓤 : URA M) (H : Heap 𝓤) (A : Atoms 𝓤) (W : Given
         nothing ! $ move ! (12 ∷ 2 ∷ []) $ join ! $ move ! (3 ∷ 0 ∷ []) $ join ! $ join ! $ calls-with ! fm (DisconnectedFrom 𝓤 H A memory run) known-disconnected-from to-disconnected-from (λ x. val-Outcome (x .0)) CoreTold Before (‵ ftrue) After (goes-disconnected-from is-c f₁₁ is-connection is-s) told-disconnected-from (and-then ! (load ! (from ! (stop !)) (look ! 28 refl)) (and-then ! (load ! (from ! (stop !)) (look ! 44 refl)) (and-then ! (load ! (from ! (stop !)) (look ! 24 refl)) (and-then ! (load ! (from ! (stop !)) (look ! 20 refl)) (and-then ! (load ! (from ! (stop !)) (look ! 16 refl)) (and-then ! (load ! (from ! (stop !)) (look ! 54 refl)) (and-then ! (load ! (from ! (stop !)) (look ! 52 refl)) (no-more !)))))))) (λ x p. move ! (1 ∷ []) $ drop ! $ land ! (from ! (stop !)) (init ! 42 refl (LL.lawful Outcome-type.the-type Outcome-laws.the-laws 𝓤 H A W .typed (x .0) (vals-Outcome (x .0)) (p .0) .0)) $
         part₁₉ is-c f₈ f₁₀ f₁₁ x p))))
 
-  module _ (Ct : Calls 𝓤 H) (Λ : Loops 𝓤 H) (fm : FmC 𝓤 H (W .laws) Ct) (known-places-in-use : Triple 𝓤 (Ct #replica·places-in-use) (PlacesInUse 𝓤 H A memory run)) (known-room-of : Triple 𝓤 (Ct #due_batch·room-of) (RoomOf 𝓤 H A memory run)) (known-look : Triple 𝓤 (Ct #row·look) (Look 𝓤 H A memory run)) (known-disconnected-from : Triple 𝓤 (Ct #calls·disconnected-from) (DisconnectedFrom 𝓤 H A memory run)) (known-act : Triple 𝓤 (Ct #row·act) (Act 𝓤 H A memory run)) where
+  module _ (Ct : Calls 𝓤 H) (Λ : Loops 𝓤 H) (fm : FmC 𝓤 H (W .laws) Ct) (known-places-in-use : Triple 𝓤 (Ct #replica·places-in-use) (PlacesInUse 𝓤 H A memory run)) (known-room-of : Triple 𝓤 (Ct #standby_batch_due·room-of) (RoomOf 𝓤 H A memory run)) (known-look : Triple 𝓤 (Ct #standby_row·look) (Look 𝓤 H A memory run)) (known-disconnected-from : Triple 𝓤 (Ct #standby_lifecycle·disconnected-from) (DisconnectedFrom 𝓤 H A memory run)) (known-act : Triple 𝓤 (Ct #standby_row·act) (Act 𝓤 H A memory run)) where
     walk : ent 𝓤 (onEntry 𝓤 H A this.signature (κ₀, (κ₁, (κ₂, (κ₃, (κ₄, tt))))) (q₀, (q₁, (q₂, (q₃, (q₄, tt))))) x-all at-all) (WpFn 𝓤 H Ct Λ code.function (s-c ∷ s-row ∷ s-words ∷ s-bytes ∷ s-holds ∷ vint w64 the-connection ∷ val-Settings the-s ∷ []) Post)
     walk =
         qed W ((‵ (flft κ₀ q₀) ⊛ (‵ (flft κ₁ q₁) ⊛ (‵ (flft κ₂ q₂) ⊛ (‵ (flft κ₃ q₃) ⊛ (‵ (flft κ₄ q₄) ⊛ (‵ ftrue)))))) ∷ ‵ (owns (MutRef (named 0) κ₀ R-Replica ∷ MutSlice (named 1) κ₁ R-Handle ∷ MutSlice (named 2) κ₂ u64 ∷ MutSlice (named 3) κ₃ u8 ∷ MutSlice (named 4) κ₄ u8 ∷ u64 ∷ R-Settings ∷ []) x-all at-all) ∷ []) ∵ enter ! Ct Λ code.function (s-c ∷ s-row ∷ s-words ∷ s-bytes ∷ s-holds ∷ vint w64 the-connection ∷ val-Settings the-s ∷ []) _ $
@@ -305,7 +305,7 @@ module _ {M : Type 1} (𝓤 : URA M) (H : Heap 𝓤) (A : Atoms 𝓤) (W : Given
         move ! (7 ∷ 8 ∷ 4 ∷ []) $ opens ! tt R-Replica {h = the-c} (c-at .ptr .0) (c-at .ptr .1) (λ vs. spelt ! R-Replica (Is R-Replica) (shows 𝓤 H A R-Replica) vals-Replica tells-Replica fullShare the-c vs (c-at .ptr .0) (c-at .ptr .1) $ move ! (1 ∷ []) $ peeks ! R-Replica (Is R-Replica) (shows 𝓤 H A R-Replica) the-c (vals-Replica the-c) (λ is-c. move ! (9 ∷ 10 ∷ 8 ∷ []) $ opens-slice ! tt R-Handle the-row (row-at .ptr .0) (row-at .ptr .1) $ keep ! (0 ∷ 5 ∷ 4 ∷ 6 ∷ 7 ∷ 8 ∷ 1 ∷ 2 ∷ 3 ∷ 11 ∷ 10 ∷ 9 ∷ 12 ∷ 13 ∷ 14 ∷ 15 ∷ 16 ∷ 17 ∷ 18 ∷ 19 ∷ 20 ∷ 21 ∷ 22 ∷ 23 ∷ 24 ∷ 25 ∷ 26 ∷ 27 ∷ 28 ∷ 29 ∷ 30 ∷ 31 ∷ 32 ∷ 33 ∷ 34 ∷ 35 ∷ 36 ∷ 37 ∷ 38 ∷ 39 ∷ 40 ∷ 41 ∷ 42 ∷ 43 ∷ 44 ∷ 45 ∷ 46 ∷ 47 ∷ 48 ∷ 49 ∷ 50 ∷ 51 ∷ 52 ∷ 53 ∷ 54 ∷ 55 ∷ 56 ∷ 57 ∷ 58 ∷ 59 ∷ 60 ∷ 61 ∷ 62 ∷ 63 ∷ 64 ∷ 65 ∷ 66 ∷ 67 ∷ 68 ∷ 69 ∷ []) $
         part₁ Ct Λ fm known-places-in-use known-room-of known-look known-disconnected-from known-act l₀ l₁ l₂ l₃ l₄ l₅ l₆ l₇ l₈ l₉ l₁₀ l₁₁ l₁₂ l₁₃ l₁₄ l₁₅ l₁₆ l₁₇ l₁₈ l₁₉ l₂₀ l₂₁ l₂₂ l₂₃ l₂₄ l₂₅ l₂₆ l₂₇ l₂₈ is-c)))))))))))))))))))))))))))))))
 
-module _ {M : Type 1} (𝓤 : URA M) (H : Heap 𝓤) (A : Atoms 𝓤) (W : Given 𝓤 H A) (memory : Memory → SProp 𝓤) (run : Routine → Fun 𝓤) (𝓣 : Tables 𝓤 H) (known-places-in-use : Triple 𝓤 (𝓣 .C #replica·places-in-use) (PlacesInUse 𝓤 H A memory run)) (known-room-of : Triple 𝓤 (𝓣 .C #due_batch·room-of) (RoomOf 𝓤 H A memory run)) (known-look : Triple 𝓤 (𝓣 .C #row·look) (Look 𝓤 H A memory run)) (known-disconnected-from : Triple 𝓤 (𝓣 .C #calls·disconnected-from) (DisconnectedFrom 𝓤 H A memory run)) (known-act : Triple 𝓤 (𝓣 .C #row·act) (Act 𝓤 H A memory run)) where
+module _ {M : Type 1} (𝓤 : URA M) (H : Heap 𝓤) (A : Atoms 𝓤) (W : Given 𝓤 H A) (memory : Memory → SProp 𝓤) (run : Routine → Fun 𝓤) (𝓣 : Tables 𝓤 H) (known-places-in-use : Triple 𝓤 (𝓣 .C #replica·places-in-use) (PlacesInUse 𝓤 H A memory run)) (known-room-of : Triple 𝓤 (𝓣 .C #standby_batch_due·room-of) (RoomOf 𝓤 H A memory run)) (known-look : Triple 𝓤 (𝓣 .C #standby_row·look) (Look 𝓤 H A memory run)) (known-disconnected-from : Triple 𝓤 (𝓣 .C #standby_lifecycle·disconnected-from) (DisconnectedFrom 𝓤 H A memory run)) (known-act : Triple 𝓤 (𝓣 .C #standby_row·act) (Act 𝓤 H A memory run)) where
   disconnected-from-walks : Walks 𝓤 H A this.ended stayed (WpFn 𝓤 H (𝓣 .C) (𝓣 .Λ) code.function) (this.clauses 𝓤 H A memory run)
   disconnected-from-walks = walked 𝓤 H A this.ended stayed (this.clauses 𝓤 H A memory run) (WpFn 𝓤 H (𝓣 .C) (𝓣 .Λ) code.function) (λ κs. (ptr-vals, (slice-vals, (slice-vals, (slice-vals, (slice-vals, ((uint-vals w64), (vals-Settings, tt))))))))
       (λ κs. (mut-tells (named 0) (κs .0) R-Replica, (mut-slice-tells (named 1) (κs .1 .0) R-Handle, (mut-slice-tells (named 2) (κs .1 .1 .0) u64, (mut-slice-tells (named 3) (κs .1 .1 .1 .0) u8, (mut-slice-tells (named 4) (κs .1 .1 .1 .1 .0) u8, ((uint-tells w64), (tells-Settings, tt))))))))
@@ -321,7 +321,7 @@ disconnected-from-spec 𝓤 H 𝓜 𝓖 𝓡 =
     (tables 𝓤 H 𝓜 𝓡 code.env .C) (tables 𝓤 H 𝓜 𝓡 code.env .Λ) #replica·disconnected-from code.function (code.unfolded 𝓤 H 𝓜 𝓡)
     (disconnected-from-meets 𝓤 H (𝓖 .A) (givenOf 𝓤 H 𝓜 𝓖) (𝓜 .mem) (𝓡 .run) (tablesOf 𝓤 H 𝓜 (tables 𝓤 H 𝓜 𝓡 code.env))
     (cited 𝓤 H (PlacesInUse 𝓤 H (𝓖 .A) (𝓜 .mem) (𝓡 .run)) 𝓜 𝓡 code.env #replica·places-in-use places-in-use-def.routine code.calls-replica·places-in-use (places-in-use-thm.met 𝓤 H 𝓜 𝓖 𝓡))
-    (cited 𝓤 H (RoomOf 𝓤 H (𝓖 .A) (𝓜 .mem) (𝓡 .run)) 𝓜 𝓡 code.env #due_batch·room-of room-of-def.routine code.calls-due-batch·room-of (room-of-thm.met 𝓤 H 𝓜 𝓖 𝓡))
-    (cited 𝓤 H (Look 𝓤 H (𝓖 .A) (𝓜 .mem) (𝓡 .run)) 𝓜 𝓡 code.env #row·look look-def.routine code.calls-row·look (look-thm.met 𝓤 H 𝓜 𝓖 𝓡))
-    (cited 𝓤 H (DisconnectedFrom 𝓤 H (𝓖 .A) (𝓜 .mem) (𝓡 .run)) 𝓜 𝓡 code.env #calls·disconnected-from disconnected-from-def.routine code.calls-calls·disconnected-from (disconnected-from-thm.met 𝓤 H 𝓜 𝓖 𝓡))
-    (cited 𝓤 H (Act 𝓤 H (𝓖 .A) (𝓜 .mem) (𝓡 .run)) 𝓜 𝓡 code.env #row·act act-def.routine code.calls-row·act (act-thm.met 𝓤 H 𝓜 𝓖 𝓡)))
+    (cited 𝓤 H (RoomOf 𝓤 H (𝓖 .A) (𝓜 .mem) (𝓡 .run)) 𝓜 𝓡 code.env #standby_batch_due·room-of room-of-def.routine code.calls-standby-batch-due·room-of (room-of-thm.met 𝓤 H 𝓜 𝓖 𝓡))
+    (cited 𝓤 H (Look 𝓤 H (𝓖 .A) (𝓜 .mem) (𝓡 .run)) 𝓜 𝓡 code.env #standby_row·look look-def.routine code.calls-standby-row·look (look-thm.met 𝓤 H 𝓜 𝓖 𝓡))
+    (cited 𝓤 H (DisconnectedFrom 𝓤 H (𝓖 .A) (𝓜 .mem) (𝓡 .run)) 𝓜 𝓡 code.env #standby_lifecycle·disconnected-from disconnected-from-def.routine code.calls-standby-lifecycle·disconnected-from (disconnected-from-thm.met 𝓤 H 𝓜 𝓖 𝓡))
+    (cited 𝓤 H (Act 𝓤 H (𝓖 .A) (𝓜 .mem) (𝓡 .run)) 𝓜 𝓡 code.env #standby_row·act act-def.routine code.calls-standby-row·act (act-thm.met 𝓤 H 𝓜 𝓖 𝓡)))

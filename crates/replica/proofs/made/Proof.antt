@@ -4,11 +4,11 @@ use Rattle.replica.proofs.made.Statement.{statement}
 use Rattle.replica.proofs.made.Tie as tie
 use Rattle.replica.proofs.made.Reads as reads
 use Rattle.replica.proofs.made.Lts as lts
-use Rattle.areas.proofs.allowed.Reads as allowed-reads
-use Rattle.outcome.proofs.clears.Reads as clears-reads
-use Rattle.outcome.proofs.done.Reads as done-reads
-use Rattle.outcome.proofs.leaves.Reads as leaves-reads
-use Rattle.outcome.proofs.refused.Reads as refused-reads
+use Rattle.store_areas.proofs.allowed.Reads as allowed-reads
+use Rattle.standby_state.proofs.clears.Reads as clears-reads
+use Rattle.standby_state.proofs.done.Reads as done-reads
+use Rattle.standby_state.proofs.leaves.Reads as leaves-reads
+use Rattle.standby_state.proofs.refused.Reads as refused-reads
 use Rattle.replica.proofs.new.Reads as new-reads
 
 -- src/lib.rt:283:8

@@ -46,38 +46,38 @@ use denote.Triple.Clauses.{ensured, lasts}
 use denote.Triple.Table.{entered, cited}
 use denote.Triple.Walked.{says, Stays, stay-ref, stay-slice, gave-slice, stay-dropped, walkOf, Walks, ends-at, walked, goes-ref, goes-slice, goes-gave-slice, goes-dropped, walk-meets}
 use denote.Exit.{yes}
-use Rattle.model.specs.State.{onFrame}
-use Rattle.steps.specs.Calls.{Called}
-use Rattle.outcome.specs.declared.Replica.{Replica}
-use Rattle.outcome.proofs.Replica as Replica-type
-use Rattle.outcome.proofs.Replica.Laws as Replica-laws
+use Rattle.model_standby.specs.State.{onFrame}
+use Rattle.standby_step.specs.Calls.{Called}
+use Rattle.standby_state.specs.declared.Replica.{Replica}
+use Rattle.standby_state.proofs.Replica as Replica-type
+use Rattle.standby_state.proofs.Replica.Laws as Replica-laws
 use Rattle.replica.proofs.Records.{R-Replica, val-Replica, vals-Replica, tells-Replica, makes-Replica}
-use Rattle.outcome.specs.declared.Settings.{Settings}
-use Rattle.outcome.proofs.Settings as Settings-type
-use Rattle.outcome.proofs.Settings.Laws as Settings-laws
+use Rattle.standby_state.specs.declared.Settings.{Settings}
+use Rattle.standby_state.proofs.Settings as Settings-type
+use Rattle.standby_state.proofs.Settings.Laws as Settings-laws
 use Rattle.replica.proofs.Records.{R-Settings, val-Settings, vals-Settings, tells-Settings, makes-Settings}
 use Rattle.replica.specs.declared.Kept.{Kept}
 use Rattle.replica.proofs.Kept as Kept-type
 use Rattle.replica.proofs.Kept.Laws as Kept-laws
 use Rattle.replica.proofs.Records.{R-Kept, val-Kept, vals-Kept, tells-Kept, makes-Kept}
-use Rattle.row.specs.declared.Handle.{Handle}
-use Rattle.row.proofs.Handle as Handle-type
-use Rattle.row.proofs.Handle.Laws as Handle-laws
-use Rattle.row.proofs.Rows.{R as R-Handle, val as val-Handle, vals as vals-Handle, tells as tells-Handle, makes as makes-Handle}
-use Rattle.outcome.specs.declared.Answer.{Answer}
-use Rattle.outcome.proofs.Answer as Answer-type
-use Rattle.outcome.proofs.Answer.Laws as Answer-laws
+use Rattle.standby_row.specs.declared.Handle.{Handle}
+use Rattle.standby_row.proofs.Handle as Handle-type
+use Rattle.standby_row.proofs.Handle.Laws as Handle-laws
+use Rattle.standby_row.proofs.Rows.{R as R-Handle, val as val-Handle, vals as vals-Handle, tells as tells-Handle, makes as makes-Handle}
+use Rattle.standby_state.specs.declared.Answer.{Answer}
+use Rattle.standby_state.proofs.Answer as Answer-type
+use Rattle.standby_state.proofs.Answer.Laws as Answer-laws
 use Rattle.replica.proofs.Records.{R-Answer, val-Answer, vals-Answer, tells-Answer, makes-Answer}
-use Rattle.row.specs.Row.{none, findOf, freeOf, brokenOf, clearedFrom, clearedAll, seenOf}
-use Rattle.row.proofs.Lists.{cleared-length}
-use Rattle.row.proofs.Locals.{filled, empty, stack, frees-stack}
-use Rattle.row.proofs.Lent.{at, Shared, calls-with, calls-peek, calls-handed, told-shared}
+use Rattle.standby_row.specs.Row.{none, findOf, freeOf, brokenOf, clearedFrom, clearedAll, seenOf}
+use Rattle.standby_row.proofs.Lists.{cleared-length}
+use Rattle.standby_row.proofs.Locals.{filled, empty, stack, frees-stack}
+use Rattle.standby_row.proofs.Lent.{at, Shared, calls-with, calls-peek, calls-handed, told-shared}
 use denote.Array.{Array, array-vals, array-tells, array-makes, array-lawful}
 use denote.Signature.Array.{arrayOf}
 use mir.Syntax.{tyArray}
 use mir.Val.{vstruct, ofList}
 use base.Fml.{fres}
-use Rattle.row.proofs.Makers.{rowVal, row-field, LentRecord, LentRow, calls-lending}
+use Rattle.standby_row.proofs.Makers.{rowVal, row-field, LentRecord, LentRow, calls-lending}
 use Rattle.replica.proofs.on_frame as on-frame
 use Rattle.replica.proofs.on_frame.Symbol as on-frame-def
 use Rattle.replica.proofs.on_frame.Symbol.{name as #replica·on-frame}

@@ -2,10 +2,10 @@ use Prim.Native.Nat.{_≤_}
 use lib.ListN.{length}
 use native.Mathlib.Omega.{arith}
 use borrow.Author.Needs.{needs}
-use Rattle.place.specs.Place.{nextOutOf}
-use Rattle.apply.proofs.Laws.{message-next, bare-next, stamp-kept, marks-kept}
-use Rattle.apply.proofs.apply.Statement.{statement}
-use Rattle.apply.proofs.apply.Tie as tie
+use Rattle.store_place.specs.Place.{nextOutOf}
+use Rattle.standby_apply.proofs.Laws.{message-next, bare-next, stamp-kept, marks-kept}
+use Rattle.standby_apply.proofs.apply.Statement.{statement}
+use Rattle.standby_apply.proofs.apply.Tie as tie
 
 record-requires : tie.Need-record-requires
 record-requires c κs =

@@ -4,10 +4,10 @@ use mathlib.Core.Path.{sym, ap, _∙_}
 use denote.Ref.{now}
 use lib.ListN.{length, drop, drop-of-length-le}
 use Rattle.model_frame.proofs.Runs.{change-shorter}
-use Rattle.op.specs.Answers.{resOp}
-use Rattle.apply.proofs.Loop.{Applying, starts, first-fine, first-fits, goes-on, made-bad, made-all}
-use Rattle.apply.proofs.apply_all.Statement.{statement}
-use Rattle.apply.proofs.apply_all.Tie as tie
+use Rattle.frame_op.specs.Answers.{resOp}
+use Rattle.standby_apply.proofs.Loop.{Applying, starts, first-fine, first-fits, goes-on, made-bad, made-all}
+use Rattle.standby_apply.proofs.apply_all.Statement.{statement}
+use Rattle.standby_apply.proofs.apply_all.Tie as tie
 
 abbrev Inv-loop : tie.InvT-loop
 Inv-loop p run words₀ bytes₀ max d₀ words bytes d = Applying (p .version) max run words₀ bytes₀ words bytes (drop (d .at) run)

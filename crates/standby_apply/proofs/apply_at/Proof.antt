@@ -1,9 +1,9 @@
 use borrow.Author.Needs.{needs}
 use denote.Ref.{now}
-use Rattle.op.specs.Answers.{heldRun}
-use Rattle.apply.proofs.At.{asks, made}
-use Rattle.apply.proofs.apply_at.Statement.{statement}
-use Rattle.apply.proofs.apply_at.Tie as tie
+use Rattle.frame_op.specs.Answers.{heldRun}
+use Rattle.standby_apply.proofs.At.{asks, made}
+use Rattle.standby_apply.proofs.apply_at.Statement.{statement}
+use Rattle.standby_apply.proofs.apply_at.Tie as tie
 
 apply-all-requires : tie.Need-apply-all-requires
 apply-all-requires c κs = asks _ _ _ _ _ _ _ _ (c .before .before .before .spot-in .ensures) (c .before .before .before .before .before .before .before .before .before .pre .0) (c .before .before .before .before .before .before .before .before .before .pre .1 .0) (heldRun (c .before .before .before .before .before .before .before .before .before .args .p .version) (now (c .before .before .before .before .before .before .before .before .before .args .run))) (c .before .before .before .before .before .before .before .before .before .pre .1 .1)

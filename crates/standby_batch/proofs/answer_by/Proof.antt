@@ -1,15 +1,15 @@
 use borrow.Author.Needs.{needs}
-use Rattle.outcome.specs.Answers.{isRefused, isNack, isAck}
+use Rattle.standby_state.specs.Answers.{isRefused, isNack, isAck}
 use borrow.Author.Tests.{ne-eqb, eq-eqb}
 use mathlib.Core.Bool.{Bool, cond}
 use mathlib.Core.Path.{_∙_, sym, ap}
-use Rattle.batches.proofs.answer_by.Statement.{statement}
-use Rattle.batches.proofs.answer_by.Tie as tie
-use Rattle.batches.proofs.answer_by.Reads as reads
-use Rattle.batches.proofs.answer_by.Lts as lts
-use Rattle.outcome.proofs.ack.Reads as ack-reads
-use Rattle.outcome.proofs.nack.Reads as nack-reads
-use Rattle.outcome.proofs.refused.Reads as refused-reads
+use Rattle.standby_batch.proofs.answer_by.Statement.{statement}
+use Rattle.standby_batch.proofs.answer_by.Tie as tie
+use Rattle.standby_batch.proofs.answer_by.Reads as reads
+use Rattle.standby_batch.proofs.answer_by.Lts as lts
+use Rattle.standby_state.proofs.ack.Reads as ack-reads
+use Rattle.standby_state.proofs.nack.Reads as nack-reads
+use Rattle.standby_state.proofs.refused.Reads as refused-reads
 
 -- src/lib.rt:61:9
 refused-requires : tie.Need-refused-requires

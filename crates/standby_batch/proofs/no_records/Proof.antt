@@ -1,14 +1,14 @@
 use borrow.Author.Needs.{needs}
 use denote.Ref.{now}
-use Rattle.batches.proofs.Runs.{run-none, run-some, run-bad}
-use Rattle.parts.specs.Answers.{resRecord}
+use Rattle.standby_batch.proofs.Runs.{run-none, run-some, run-bad}
+use Rattle.frame_fields.specs.Answers.{resRecord}
 use Rattle.model_frame.specs.Reading.{appRecord}
 use mathlib.Core.Path.{_∙_, sym, ap}
-use Rattle.batches.proofs.no_records.Statement.{statement}
-use Rattle.batches.proofs.no_records.Tie as tie
-use Rattle.batches.proofs.no_records.Reads as reads
-use Rattle.batches.proofs.no_records.Lts as lts
-use Rattle.parts.proofs.app_record_from.Reads as app-record-from-reads
+use Rattle.standby_batch.proofs.no_records.Statement.{statement}
+use Rattle.standby_batch.proofs.no_records.Tie as tie
+use Rattle.standby_batch.proofs.no_records.Reads as reads
+use Rattle.standby_batch.proofs.no_records.Lts as lts
+use Rattle.frame_fields.proofs.app_record_from.Reads as app-record-from-reads
 
 -- src/lib.rt:33:9
 returns : tie.Need-returns

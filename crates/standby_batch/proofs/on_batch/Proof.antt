@@ -1,24 +1,24 @@
 use borrow.Author.Needs.{needs}
-use Rattle.batches.proofs.Laws.{with-records, stale, handled-is, kept-of, sound-of}
-use Rattle.parts.specs.Answers.{partOf}
-use Rattle.op.specs.Answers.{runOf}
+use Rattle.standby_batch.proofs.Laws.{with-records, stale, handled-is, kept-of, sound-of}
+use Rattle.frame_fields.specs.Answers.{partOf}
+use Rattle.frame_op.specs.Answers.{runOf}
 use Rattle.model_frame.specs.Reading.{readChange, appRecord}
 use denote.Ref.{now}
 use borrow.Author.Tests.{not-true, not-false}
 use mathlib.Core.Path.{_∙_, sym}
-use Rattle.batches.proofs.on_batch.Statement.{statement}
-use Rattle.batches.proofs.on_batch.Tie as tie
-use Rattle.batches.proofs.on_batch.Reads as reads
-use Rattle.batches.proofs.on_batch.Lts as lts
-use Rattle.batches.proofs.at_epoch.Reads as at-epoch-reads
-use Rattle.batches.proofs.is_found.Reads as is-found-reads
-use Rattle.batches.proofs.no_records.Reads as no-records-reads
-use Rattle.batches.proofs.settled.Reads as settled-reads
-use Rattle.hold.proofs.run_of.Reads as run-of-reads
-use Rattle.on_handle.proofs.on_handle.Reads as on-handle-reads
-use Rattle.outcome.proofs.leaves.Reads as leaves-reads
-use Rattle.outcome.proofs.nack.Reads as nack-reads
-use Rattle.outcome.proofs.refused.Reads as refused-reads
+use Rattle.standby_batch.proofs.on_batch.Statement.{statement}
+use Rattle.standby_batch.proofs.on_batch.Tie as tie
+use Rattle.standby_batch.proofs.on_batch.Reads as reads
+use Rattle.standby_batch.proofs.on_batch.Lts as lts
+use Rattle.standby_batch.proofs.at_epoch.Reads as at-epoch-reads
+use Rattle.standby_batch.proofs.is_found.Reads as is-found-reads
+use Rattle.standby_batch.proofs.no_records.Reads as no-records-reads
+use Rattle.standby_batch.proofs.settled.Reads as settled-reads
+use Rattle.standby_changes.proofs.run_of.Reads as run-of-reads
+use Rattle.standby_batch_handle.proofs.on_handle.Reads as on-handle-reads
+use Rattle.standby_state.proofs.leaves.Reads as leaves-reads
+use Rattle.standby_state.proofs.nack.Reads as nack-reads
+use Rattle.standby_state.proofs.refused.Reads as refused-reads
 
 -- src/lib.rt:97:9
 no-records-requires : tie.Need-no-records-requires

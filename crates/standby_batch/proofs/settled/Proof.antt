@@ -1,16 +1,16 @@
 use borrow.Author.Needs.{needs}
-use Rattle.batches.specs.Batches.{answerBy}
-use Rattle.outcome.specs.Outcomes.{storing, leaving}
-use Rattle.outcome.specs.declared.Answer.{Answer}
+use Rattle.standby_batch.specs.Batches.{answerBy}
+use Rattle.standby_state.specs.Outcomes.{storing, leaving}
+use Rattle.standby_state.specs.declared.Answer.{Answer}
 use mathlib.Core.Bool.{Bool, cond}
 use mathlib.Core.Path.{_∙_, sym, ap}
-use Rattle.batches.proofs.settled.Statement.{statement}
-use Rattle.batches.proofs.settled.Tie as tie
-use Rattle.batches.proofs.settled.Reads as reads
-use Rattle.batches.proofs.settled.Lts as lts
-use Rattle.batches.proofs.answer_by.Reads as answer-by-reads
-use Rattle.outcome.proofs.leaves.Reads as leaves-reads
-use Rattle.outcome.proofs.stores.Reads as stores-reads
+use Rattle.standby_batch.proofs.settled.Statement.{statement}
+use Rattle.standby_batch.proofs.settled.Tie as tie
+use Rattle.standby_batch.proofs.settled.Reads as reads
+use Rattle.standby_batch.proofs.settled.Lts as lts
+use Rattle.standby_batch.proofs.answer_by.Reads as answer-by-reads
+use Rattle.standby_state.proofs.leaves.Reads as leaves-reads
+use Rattle.standby_state.proofs.stores.Reads as stores-reads
 
 -- src/lib.rt:73:9
 answer-by-requires : tie.Need-answer-by-requires

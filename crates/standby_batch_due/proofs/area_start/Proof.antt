@@ -1,9 +1,9 @@
-use Rattle.due_batch.proofs.area_start.Statement.{statement}
-use Rattle.due_batch.proofs.Areas.{start-found, start-none}
+use Rattle.standby_batch_due.proofs.area_start.Statement.{statement}
+use Rattle.standby_batch_due.proofs.Areas.{start-found, start-none}
 use native.Mathlib.Omega.{arith}
-use Rattle.due_batch.proofs.area_start.Tie as tie
-use Rattle.due_batch.proofs.area_start.Reads as reads
-use Rattle.due_batch.proofs.area_start.Lts as lts
+use Rattle.standby_batch_due.proofs.area_start.Tie as tie
+use Rattle.standby_batch_due.proofs.area_start.Reads as reads
+use Rattle.standby_batch_due.proofs.area_start.Lts as lts
 
 -- src/lib.rt:34:16
 mul-result : tie.Need-mul-result

@@ -1,24 +1,24 @@
 use borrow.Author.Needs.{needs}
-use Rattle.due_batch.proofs.Laws.{batch-at, few-left, kept-in}
-use Rattle.due_batch.proofs.Areas.{within}
-use Rattle.due_batch.specs.DueBatch.{spotIn}
-use Rattle.parts.specs.Answers.{partOf}
-use Rattle.op.specs.Answers.{runOf}
+use Rattle.standby_batch_due.proofs.Laws.{batch-at, few-left, kept-in}
+use Rattle.standby_batch_due.proofs.Areas.{within}
+use Rattle.standby_batch_due.specs.DueBatch.{spotIn}
+use Rattle.frame_fields.specs.Answers.{partOf}
+use Rattle.frame_op.specs.Answers.{runOf}
 use Rattle.model_frame.specs.Reading.{readChange, appRecord}
 use Prim.Native.Nat.{ℕ, _+_, _*_, _≤_}
 use lib.ListN.{length}
 use denote.Ref.{now}
 use native.Mathlib.Omega.{arith}
 use mathlib.Core.Path.{sym, subst}
-use Rattle.due_batch.proofs.batch_in.Statement.{statement}
-use Rattle.due_batch.proofs.batch_in.Tie as tie
-use Rattle.due_batch.proofs.batch_in.Reads as reads
-use Rattle.due_batch.proofs.batch_in.Lts as lts
-use Rattle.batches.proofs.on_batch.Reads as on-batch-reads
-use Rattle.commits.proofs.is_due_batch.Reads as is-due-batch-reads
-use Rattle.commits.proofs.run_if.Reads as run-if-reads
-use Rattle.due_batch.proofs.area_start.Reads as area-start-reads
-use Rattle.due_batch.proofs.room_of.Reads as room-of-reads
+use Rattle.standby_batch_due.proofs.batch_in.Statement.{statement}
+use Rattle.standby_batch_due.proofs.batch_in.Tie as tie
+use Rattle.standby_batch_due.proofs.batch_in.Reads as reads
+use Rattle.standby_batch_due.proofs.batch_in.Lts as lts
+use Rattle.standby_batch.proofs.on_batch.Reads as on-batch-reads
+use Rattle.standby_pending_run.proofs.is_due_batch.Reads as is-due-batch-reads
+use Rattle.standby_pending_run.proofs.run_if.Reads as run-if-reads
+use Rattle.standby_batch_due.proofs.area_start.Reads as area-start-reads
+use Rattle.standby_batch_due.proofs.room_of.Reads as room-of-reads
 
 -- src/lib.rt:54:9
 is-due-batch-requires : tie.Need-is-due-batch-requires

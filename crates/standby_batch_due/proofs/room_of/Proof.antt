@@ -1,11 +1,11 @@
 use borrow.Author.Needs.{needs}
-use Rattle.due_batch.proofs.Areas.{room-none, room-some}
+use Rattle.standby_batch_due.proofs.Areas.{room-none, room-some}
 use lib.ListN.{length}
 use denote.Ref.{now}
-use Rattle.due_batch.proofs.room_of.Statement.{statement}
-use Rattle.due_batch.proofs.room_of.Tie as tie
-use Rattle.due_batch.proofs.room_of.Reads as reads
-use Rattle.due_batch.proofs.room_of.Lts as lts
+use Rattle.standby_batch_due.proofs.room_of.Statement.{statement}
+use Rattle.standby_batch_due.proofs.room_of.Tie as tie
+use Rattle.standby_batch_due.proofs.room_of.Reads as reads
+use Rattle.standby_batch_due.proofs.room_of.Lts as lts
 
 -- src/lib.rt:23:9
 returns : tie.Need-returns

@@ -1,8 +1,8 @@
 use mathlib.Core.Path.{refl}
-use Rattle.on_handle.proofs.Laws.{next-is, none-next}
+use Rattle.standby_batch_handle.proofs.Laws.{next-is, none-next}
 use borrow.Author.Needs.{needs}
-use Rattle.on_handle.proofs.is_next.Statement.{statement}
-use Rattle.on_handle.proofs.is_next.Tie as tie
+use Rattle.standby_batch_handle.proofs.is_next.Statement.{statement}
+use Rattle.standby_batch_handle.proofs.is_next.Tie as tie
 
 returns : tie.Need-returns
 returns c = next-is (c .before .before .args .h) (c .before .before .args .n .0) (c .before .if1 .taken) refl

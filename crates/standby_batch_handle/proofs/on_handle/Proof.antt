@@ -2,11 +2,11 @@ use borrow.Author.Needs.{needs}
 use borrow.Author.Tests.{not-true, not-false}
 use denote.Ref.{now}
 use Rattle.model_frame.specs.Frame.{commit, whole, lastWhole}
-use Rattle.op.specs.Answers.{heldRun}
-use Rattle.parts.specs.Answers.{partOf}
-use Rattle.on_handle.proofs.Laws.{unbound, off-number, by-part, area-unbound, area-off, area-commit, area-whole, area-last}
-use Rattle.on_handle.proofs.on_handle.Statement.{statement}
-use Rattle.on_handle.proofs.on_handle.Tie as tie
+use Rattle.frame_op.specs.Answers.{heldRun}
+use Rattle.frame_fields.specs.Answers.{partOf}
+use Rattle.standby_batch_handle.proofs.Laws.{unbound, off-number, by-part, area-unbound, area-off, area-commit, area-whole, area-last}
+use Rattle.standby_batch_handle.proofs.on_handle.Statement.{statement}
+use Rattle.standby_batch_handle.proofs.on_handle.Tie as tie
 
 returns : tie.Need-returns
 returns c = (unbound (c .before .before .before .before .before .args .p .version) (c .before .before .before .before .before .args .shape) (c .before .before .before .before .before .args .handle) (c .before .before .before .before .before .args .h) (c .before .before .before .before .before .args .n .0) (partOf (c .before .before .before .before .before .args .part)) (heldRun (c .before .before .before .before .before .args .p .version) (now (c .before .before .before .before .before .args .run))) (now (c .before .before .before .before .before .args .words)) (now (c .before .before .before .before .before .args .bytes)) (now (c .before .before .before .before .before .args .area)) (c .before .before .before .before .before .pre .0) (not-true (c .before .before .before .before .before .args .found) (c .if1 .taken)), area-unbound (c .before .before .before .before .before .args .p .version) (c .before .before .before .before .before .args .h) (c .before .before .before .before .before .args .n .0) (now (c .before .before .before .before .before .args .run)) (now (c .before .before .before .before .before .args .area)) 14 (partOf (c .before .before .before .before .before .args .part)) (not-true (c .before .before .before .before .before .args .found) (c .if1 .taken)))

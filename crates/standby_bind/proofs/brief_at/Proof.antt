@@ -1,8 +1,8 @@
 use borrow.Author.Needs.{needs}
-use Rattle.on_bind.proofs.Laws.{brief-is}
+use Rattle.standby_bind.proofs.Laws.{brief-is}
 use denote.Ref.{now}
-use Rattle.on_bind.proofs.brief_at.Statement.{statement}
-use Rattle.on_bind.proofs.brief_at.Tie as tie
+use Rattle.standby_bind.proofs.brief_at.Statement.{statement}
+use Rattle.standby_bind.proofs.brief_at.Tie as tie
 
 returns : tie.Need-returns
 returns c = brief-is (c .before .before .before .before .before .before .before .before .before .args .shape) (now (c .before .before .before .before .before .before .before .before .before .args .words)) (now (c .before .before .before .before .before .before .before .before .before .args .bytes)) (c .before .before .before .before .before .before .before .before .before .args .place) (c .before .before .before .before .before .before .before .before .before .args .n) (λ i. c .before .before .before .before .before .before .before .before .shared-slice-known .given i .fits) (λ i. c .before .before .before .before .before .before .before .shared-slice-known2 .given i .fits) (c .before .before .before .before .before .before .summary-of .result) (c .before .before .before .before .before .before .summary-of .ensures) (c .before .before .before .flying .ensures) (c .before .before .in-flight .ensures) (c .before .span .ensures) (c .span2 .ensures)

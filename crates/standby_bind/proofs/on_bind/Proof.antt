@@ -1,12 +1,12 @@
 use borrow.Author.Needs.{needs}
 use native.Mathlib.Omega.{arith}
-use Rattle.on_bind.proofs.Laws.{free-there, stale, lagging, all-places, all-handles, binds}
-use Rattle.parts.specs.Answers.{keyOf}
+use Rattle.standby_bind.proofs.Laws.{free-there, stale, lagging, all-places, all-handles, binds}
+use Rattle.frame_fields.specs.Answers.{keyOf}
 use borrow.Author.Tests.{not-false}
 use lib.ListN.{getD}
 use denote.Ref.{now}
-use Rattle.on_bind.proofs.on_bind.Statement.{statement}
-use Rattle.on_bind.proofs.on_bind.Tie as tie
+use Rattle.standby_bind.proofs.on_bind.Statement.{statement}
+use Rattle.standby_bind.proofs.on_bind.Tie as tie
 
 returns : tie.Need-returns
 returns c = stale (c .before .before .before .before .before .before .before .before .before .args .s) (c .before .before .before .before .before .before .before .before .before .args .c) (c .before .before .before .before .before .before .before .before .before .args .seen) (c .before .before .before .before .before .before .before .before .before .args .handle) (c .before .before .before .before .before .before .before .before .before .args .epoch .0) (c .before .before .before .before .before .before .before .before .before .args .max-lag) (keyOf (now (c .before .before .before .before .before .before .before .before .before .args .frame)) (c .before .before .before .before .before .before .before .before .before .args .k)) (now (c .before .before .before .before .before .before .before .before .before .args .words)) (now (c .before .before .before .before .before .before .before .before .before .args .bytes)) (c .before .before .before .before .before .before .before .before .before .pre .0) (omega (arith, c .before .before .if1 .taken)) (c .leaves .ensures) (c .before .nack .ensures)

@@ -1,9 +1,9 @@
 use borrow.Author.Needs.{needs}
-use Rattle.on_bind.proofs.Laws.{short-as, key-is, was-there, newly-there}
-use Rattle.parts.specs.Answers.{keyOf}
+use Rattle.standby_bind.proofs.Laws.{short-as, key-is, was-there, newly-there}
+use Rattle.frame_fields.specs.Answers.{keyOf}
 use denote.Ref.{now}
-use Rattle.on_bind.proofs.open.Statement.{statement}
-use Rattle.on_bind.proofs.open.Tie as tie
+use Rattle.standby_bind.proofs.open.Statement.{statement}
+use Rattle.standby_bind.proofs.open.Tie as tie
 
 returns : tie.Need-returns
 returns c = was-there (c .before .before .before .before .before .args .shape) (keyOf (now (c .before .before .before .before .before .args .frame)) (c .before .before .before .before .before .args .k)) (now (c .before .before .before .before .before .args .words)) (now (c .before .before .before .before .before .args .bytes)) (c .before .before .before .before .before .pre .0) (c .before .before .before .before .before .args .place) (c .before .before .before .before .before .pre .1 .0) (c .if1 .taken)

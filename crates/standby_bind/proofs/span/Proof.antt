@@ -1,7 +1,7 @@
 use borrow.Author.Needs.{needs}
-use Rattle.on_bind.proofs.Laws.{cut-short, cut-long}
-use Rattle.on_bind.proofs.span.Statement.{statement}
-use Rattle.on_bind.proofs.span.Tie as tie
+use Rattle.standby_bind.proofs.Laws.{cut-short, cut-long}
+use Rattle.standby_bind.proofs.span.Statement.{statement}
+use Rattle.standby_bind.proofs.span.Tie as tie
 
 returns : tie.Need-returns
 returns c = cut-short (c .before .before .before .args .t) (c .before .if1 .taken)

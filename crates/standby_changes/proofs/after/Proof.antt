@@ -4,8 +4,8 @@ use native.Mathlib.Omega.{arith}
 use native.Mathlib.Numerals.{add-one}
 use Prim.Native.Nat.{_<_}
 use Rattle.model_session.specs.Session.{top}
-use Rattle.hold.proofs.after.Statement.{statement}
-use Rattle.hold.proofs.after.Tie as tie
+use Rattle.standby_changes.proofs.after.Statement.{statement}
+use Rattle.standby_changes.proofs.after.Tie as tie
 
 returns : tie.Need-returns
 returns c =

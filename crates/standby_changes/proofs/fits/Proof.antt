@@ -3,10 +3,10 @@ use mathlib.Core.Path.{sym, ap, _∙_}
 use denote.Ref.{now}
 use lib.ListN.{length, drop, drop-of-length-le}
 use Rattle.model_frame.proofs.Runs.{change-shorter}
-use Rattle.op.specs.Answers.{resOp}
-use Rattle.hold.proofs.Loops.{Fitting, fitting, fit-next, fit-off, fit-bad, fit-none}
-use Rattle.hold.proofs.fits.Statement.{statement}
-use Rattle.hold.proofs.fits.Tie as tie
+use Rattle.frame_op.specs.Answers.{resOp}
+use Rattle.standby_changes.proofs.Loops.{Fitting, fitting, fit-next, fit-off, fit-bad, fit-none}
+use Rattle.standby_changes.proofs.fits.Statement.{statement}
+use Rattle.standby_changes.proofs.fits.Tie as tie
 
 abbrev Inv-loop : tie.InvT-loop
 Inv-loop p run first next₀ d₀ next d = Fitting (p .version) run first next (drop (d .at) run)

@@ -3,9 +3,9 @@ use borrow.Author.Tests.{eq-eqb, ne-eqb, le-leb, lt-leb}
 use native.Mathlib.Omega.{arith}
 use mathlib.Core.Path.{_≡_, sym}
 use Prim.Native.Nat.{_≤_}
-use Rattle.hold.proofs.Steps.{no-outgoing, onward-past}
-use Rattle.hold.proofs.follow.Statement.{statement}
-use Rattle.hold.proofs.follow.Tie as tie
+use Rattle.standby_changes.proofs.Steps.{no-outgoing, onward-past}
+use Rattle.standby_changes.proofs.follow.Statement.{statement}
+use Rattle.standby_changes.proofs.follow.Tie as tie
 
 returns : tie.Need-returns
 returns c = λ b cs.

@@ -4,10 +4,10 @@ use mathlib.Core.Path.{sym, ap, _∙_}
 use denote.Ref.{now}
 use lib.ListN.{length, drop, drop-of-length-le}
 use Rattle.model_frame.proofs.Runs.{change-shorter}
-use Rattle.op.specs.Answers.{resOp}
-use Rattle.hold.proofs.Loops.{Summing, summing, summed, sum-fits, sum-bad, sum-none}
-use Rattle.hold.proofs.message_bytes.Statement.{statement}
-use Rattle.hold.proofs.message_bytes.Tie as tie
+use Rattle.frame_op.specs.Answers.{resOp}
+use Rattle.standby_changes.proofs.Loops.{Summing, summing, summed, sum-fits, sum-bad, sum-none}
+use Rattle.standby_changes.proofs.message_bytes.Statement.{statement}
+use Rattle.standby_changes.proofs.message_bytes.Tie as tie
 
 abbrev Inv-loop : tie.InvT-loop
 Inv-loop p run sum₀ d₀ sum d = Summing (p .version) run sum (drop (d .at) run)

@@ -2,9 +2,9 @@ use borrow.Author.Needs.{needs}
 use mathlib.Core.Path.{sym, ap}
 use denote.Ref.{now}
 use lib.ListN.{length}
-use Rattle.hold.proofs.Steps.{no-message}
-use Rattle.hold.proofs.message_length.Statement.{statement}
-use Rattle.hold.proofs.message_length.Tie as tie
+use Rattle.standby_changes.proofs.Steps.{no-message}
+use Rattle.standby_changes.proofs.message_length.Statement.{statement}
+use Rattle.standby_changes.proofs.message_length.Tie as tie
 
 returns : tie.Need-returns
 returns c = rw (c .before .before .op .given .1) (ap length (c .slice .ensures))

@@ -1,11 +1,11 @@
 use borrow.Author.Needs.{needs}
 use denote.Ref.{now}
-use Rattle.op.specs.Answers.{resOp}
-use Rattle.op.specs.declared.OpAt.{OpAt}
+use Rattle.frame_op.specs.Answers.{resOp}
+use Rattle.frame_op.specs.declared.OpAt.{OpAt}
 use Rattle.model_frame.specs.Parse.{forget}
 use mathlib.Core.Path.{sym, ap, _∙_}
-use Rattle.hold.proofs.past_any.Statement.{statement}
-use Rattle.hold.proofs.past_any.Tie as tie
+use Rattle.standby_changes.proofs.past_any.Statement.{statement}
+use Rattle.standby_changes.proofs.past_any.Tie as tie
 
 returns : tie.Need-returns
 returns c = sym (ap (λ (x : OpAt). forget (resOp (now (c .before .before .before .before .before .args .buf)) x)) (c .before .e .given .1)) ∙ ap forget (c .before .before .before .op-from .ensures)

@@ -1,7 +1,7 @@
 use borrow.Author.Needs.{needs}
 use mathlib.Core.Path.{sym}
-use Rattle.hold.proofs.past_one.Statement.{statement}
-use Rattle.hold.proofs.past_one.Tie as tie
+use Rattle.standby_changes.proofs.past_one.Statement.{statement}
+use Rattle.standby_changes.proofs.past_one.Tie as tie
 
 returns : tie.Need-returns
 returns c = sym ((rw (c .before .d .given .1) at (c .before .before .before .past-record .ensures)) _)

@@ -2,11 +2,11 @@ use borrow.Author.Needs.{needs}
 use native.Mathlib.Omega.{arith}
 use mathlib.Core.Path.{sym, ap, _∙_}
 use denote.Ref.{now}
-use Rattle.scan.specs.Answers.{res8, res32, res64}
-use Rattle.laws.proofs.Places.{bytes-got}
-use Rattle.hold.proofs.Loops.{record-there}
-use Rattle.hold.proofs.past_record.Statement.{statement}
-use Rattle.hold.proofs.past_record.Tie as tie
+use Rattle.frame_reader.specs.Answers.{res8, res32, res64}
+use Rattle.base_laws.proofs.Places.{bytes-got}
+use Rattle.standby_changes.proofs.Loops.{record-there}
+use Rattle.standby_changes.proofs.past_record.Statement.{statement}
+use Rattle.standby_changes.proofs.past_record.Tie as tie
 
 returns-7 : tie.Need-returns-7
 returns-7 c = λ version.

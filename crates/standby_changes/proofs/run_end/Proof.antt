@@ -1,12 +1,12 @@
-use Rattle.hold.proofs.run_end.Statement.{statement}
-use Rattle.hold.proofs.Loops.{Ending, ending, end-past, end-bad, end-none}
-use Rattle.hold.specs.Held.{resPast}
+use Rattle.standby_changes.proofs.run_end.Statement.{statement}
+use Rattle.standby_changes.proofs.Loops.{Ending, ending, end-past, end-bad, end-none}
+use Rattle.standby_changes.specs.Held.{resPast}
 use denote.Ref.{now}
 use Prim.Native.Nat.{_<_, _≤_}
 use mathlib.Core.Path.{sym, ap, _∙_}
 use native.Mathlib.Omega.{arith}
 use borrow.Author.Needs.{needs}
-use Rattle.hold.proofs.run_end.Tie as tie
+use Rattle.standby_changes.proofs.run_end.Tie as tie
 
 abbrev Inv-loop : tie.InvT-loop
 Inv-loop p buf count d₀ n₀ len₀ d n len = Ending (p .version) buf (d₀ .at) n₀ (d .at) n

@@ -1,8 +1,8 @@
 use borrow.Author.Needs.{needs}
 use native.Mathlib.Omega.{arith}
-use Rattle.op.specs.Answers.{heldRun}
-use Rattle.hold.proofs.run_length.Statement.{statement}
-use Rattle.hold.proofs.run_length.Tie as tie
+use Rattle.frame_op.specs.Answers.{heldRun}
+use Rattle.standby_changes.proofs.run_length.Statement.{statement}
+use Rattle.standby_changes.proofs.run_length.Tie as tie
 
 returns : tie.Need-returns
 unfolding heldRun

@@ -6,10 +6,10 @@ use denote.Ref.{now}
 use Rattle.model_frame.specs.Reading.{readChange}
 use Rattle.model_frame.specs.Writing.{sizes}
 use Rattle.model_frame.proofs.Le.{are-bytes}
-use Rattle.op.specs.Answers.{runOf}
-use Rattle.hold.proofs.Held.{run-part}
-use Rattle.hold.proofs.run_of.Statement.{statement}
-use Rattle.hold.proofs.run_of.Tie as tie
+use Rattle.frame_op.specs.Answers.{runOf}
+use Rattle.standby_changes.proofs.Held.{run-part}
+use Rattle.standby_changes.proofs.run_of.Statement.{statement}
+use Rattle.standby_changes.proofs.run_of.Tie as tie
 
 returns : tie.Need-returns
 returns c =

@@ -1,12 +1,12 @@
 use borrow.Author.Needs.{needs}
 use mathlib.Core.Path.{sym, ap, _∙_}
 use denote.Ref.{now}
-use Rattle.model.specs.Standby.{startsWithReset}
-use Rattle.op.specs.Answers.{resOp}
-use Rattle.hold.proofs.Held.{held-bad}
-use Rattle.hold.proofs.Steps.{starts, starts-not}
-use Rattle.hold.proofs.starts_with_reset.Statement.{statement}
-use Rattle.hold.proofs.starts_with_reset.Tie as tie
+use Rattle.model_standby.specs.Standby.{startsWithReset}
+use Rattle.frame_op.specs.Answers.{resOp}
+use Rattle.standby_changes.proofs.Held.{held-bad}
+use Rattle.standby_changes.proofs.Steps.{starts, starts-not}
+use Rattle.standby_changes.proofs.starts_with_reset.Statement.{statement}
+use Rattle.standby_changes.proofs.starts_with_reset.Tie as tie
 
 returns : tie.Need-returns
 returns c = sym (ap startsWithReset (held-bad _ _ (sym (c .before .before .op-from .ensures) ∙ ap (resOp _) (c .enum-told .given .1))))

@@ -2,10 +2,10 @@ use native.Mathlib.Omega.{arith}
 use borrow.Author.Needs.{needs}
 use borrow.Author.Tests.{not-true, not-false}
 use denote.Ref.{now}
-use Rattle.op.specs.Answers.{heldRun}
-use Rattle.settling.proofs.Laws.{refused, fits-there, push-asks, settled}
-use Rattle.settling.proofs.settle.Statement.{statement}
-use Rattle.settling.proofs.settle.Tie as tie
+use Rattle.frame_op.specs.Answers.{heldRun}
+use Rattle.standby_commit.proofs.Laws.{refused, fits-there, push-asks, settled}
+use Rattle.standby_commit.proofs.settle.Statement.{statement}
+use Rattle.standby_commit.proofs.settle.Tie as tie
 
 returns : tie.Need-returns
 returns c = refused _ _ (c .before .before .before .before .before .before .before .before .args .handle) (heldRun (c .before .before .before .before .before .before .before .before .args .p .version) (now (c .before .before .before .before .before .before .before .before .args .run))) _ _ (c .before .before .before .before .before .before .before .before .pre .0) _ (c .before .before .next-outgoing .ensures) (c .before .fits2 .ensures) (not-true _ (c .if1 .taken))

@@ -1,17 +1,17 @@
 use borrow.Author.Needs.{needs}
-use Rattle.others.proofs.Laws.{replied, bound-to, plain-of}
-use Rattle.others.specs.Others.{Fit}
+use Rattle.standby_control.proofs.Laws.{replied, bound-to, plain-of}
+use Rattle.standby_control.specs.Others.{Fit}
 use Rattle.frame.specs.declared.Frame.{Frame}
 use Rattle.frame.specs.Answers.{frameOf}
 use mathlib.Core.Path.{subst}
 use denote.Ref.{now}
-use Rattle.others.proofs.answer.Statement.{statement}
-use Rattle.others.proofs.answer.Tie as tie
-use Rattle.others.proofs.answer.Reads as reads
-use Rattle.others.proofs.answer.Lts as lts
-use Rattle.on_bind.proofs.on_bind.Reads as on-bind-reads
-use Rattle.others.proofs.clear_if.Reads as clear-if-reads
-use Rattle.others.proofs.reply.Reads as reply-reads
+use Rattle.standby_control.proofs.answer.Statement.{statement}
+use Rattle.standby_control.proofs.answer.Tie as tie
+use Rattle.standby_control.proofs.answer.Reads as reads
+use Rattle.standby_control.proofs.answer.Lts as lts
+use Rattle.standby_bind.proofs.on_bind.Reads as on-bind-reads
+use Rattle.standby_control.proofs.clear_if.Reads as clear-if-reads
+use Rattle.standby_control.proofs.reply.Reads as reply-reads
 
 -- src/lib.rt:86:13
 enum-known-f : tie.Need-enum-known-f

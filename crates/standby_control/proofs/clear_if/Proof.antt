@@ -1,11 +1,11 @@
 use borrow.Author.Needs.{needs}
-use Rattle.others.proofs.Laws.{cleared-words}
+use Rattle.standby_control.proofs.Laws.{cleared-words}
 use denote.Ref.{now}
-use Rattle.others.proofs.clear_if.Statement.{statement}
-use Rattle.others.proofs.clear_if.Tie as tie
-use Rattle.others.proofs.clear_if.Reads as reads
-use Rattle.others.proofs.clear_if.Lts as lts
-use Rattle.pending.proofs.clear.Reads as clear-reads
+use Rattle.standby_control.proofs.clear_if.Statement.{statement}
+use Rattle.standby_control.proofs.clear_if.Tie as tie
+use Rattle.standby_control.proofs.clear_if.Reads as reads
+use Rattle.standby_control.proofs.clear_if.Lts as lts
+use Rattle.standby_pending.proofs.clear.Reads as clear-reads
 
 -- src/lib.rt:42:9
 clear-requires : tie.Need-clear-requires

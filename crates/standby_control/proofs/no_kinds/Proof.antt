@@ -1,14 +1,14 @@
 use borrow.Author.Needs.{needs}
 use denote.Ref.{now}
-use Rattle.batches.proofs.Runs.{run-none, run-some, run-bad}
-use Rattle.scan.specs.Answers.{res16}
+use Rattle.standby_batch.proofs.Runs.{run-none, run-some, run-bad}
+use Rattle.frame_reader.specs.Answers.{res16}
 use Rattle.model_frame.specs.Parse.{num}
 use mathlib.Core.Path.{_∙_, sym, ap}
-use Rattle.others.proofs.no_kinds.Statement.{statement}
-use Rattle.others.proofs.no_kinds.Tie as tie
-use Rattle.others.proofs.no_kinds.Reads as reads
-use Rattle.others.proofs.no_kinds.Lts as lts
-use Rattle.scan.proofs.u16_from.Reads as u16-from-reads
+use Rattle.standby_control.proofs.no_kinds.Statement.{statement}
+use Rattle.standby_control.proofs.no_kinds.Tie as tie
+use Rattle.standby_control.proofs.no_kinds.Reads as reads
+use Rattle.standby_control.proofs.no_kinds.Lts as lts
+use Rattle.frame_reader.proofs.u16_from.Reads as u16-from-reads
 
 -- src/lib.rt:28:9
 returns : tie.Need-returns

@@ -1,14 +1,14 @@
 use borrow.Author.Needs.{needs}
-use Rattle.others.proofs.Laws.{other-in}
+use Rattle.standby_control.proofs.Laws.{other-in}
 use Rattle.frame.specs.Answers.{frameOf}
 use denote.Ref.{now}
-use Rattle.others.proofs.other_in.Statement.{statement}
-use Rattle.others.proofs.other_in.Tie as tie
-use Rattle.others.proofs.other_in.Reads as reads
-use Rattle.others.proofs.other_in.Lts as lts
-use Rattle.commits.proofs.is_pending.Reads as is-pending-reads
-use Rattle.commits.proofs.run_if.Reads as run-if-reads
-use Rattle.others.proofs.answer.Reads as answer-reads
+use Rattle.standby_control.proofs.other_in.Statement.{statement}
+use Rattle.standby_control.proofs.other_in.Tie as tie
+use Rattle.standby_control.proofs.other_in.Reads as reads
+use Rattle.standby_control.proofs.other_in.Lts as lts
+use Rattle.standby_pending_run.proofs.is_pending.Reads as is-pending-reads
+use Rattle.standby_pending_run.proofs.run_if.Reads as run-if-reads
+use Rattle.standby_control.proofs.answer.Reads as answer-reads
 
 -- src/lib.rt:116:9
 is-pending-requires : tie.Need-is-pending-requires

@@ -1,16 +1,16 @@
 use borrow.Author.Needs.{needs}
-use Rattle.others.proofs.Laws.{nineteen}
+use Rattle.standby_control.proofs.Laws.{nineteen}
 use mathlib.Core.Path.{sym}
 use denote.Ref.{now}
-use Rattle.others.proofs.reply.Statement.{statement}
-use Rattle.others.proofs.reply.Tie as tie
-use Rattle.others.proofs.reply.Reads as reads
-use Rattle.others.proofs.reply.Lts as lts
-use Rattle.greet.proofs.checked.Reads as checked-reads
-use Rattle.greet.proofs.hello.Reads as hello-reads
-use Rattle.others.proofs.no_kinds.Reads as no-kinds-reads
-use Rattle.outcome.proofs.leaves.Reads as leaves-reads
-use Rattle.outcome.proofs.refused.Reads as refused-reads
+use Rattle.standby_control.proofs.reply.Statement.{statement}
+use Rattle.standby_control.proofs.reply.Tie as tie
+use Rattle.standby_control.proofs.reply.Reads as reads
+use Rattle.standby_control.proofs.reply.Lts as lts
+use Rattle.standby_hello.proofs.checked.Reads as checked-reads
+use Rattle.standby_hello.proofs.hello.Reads as hello-reads
+use Rattle.standby_control.proofs.no_kinds.Reads as no-kinds-reads
+use Rattle.standby_state.proofs.leaves.Reads as leaves-reads
+use Rattle.standby_state.proofs.refused.Reads as refused-reads
 
 -- src/lib.rt:53:13
 enum-known-f : tie.Need-enum-known-f

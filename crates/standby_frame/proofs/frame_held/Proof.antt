@@ -1,17 +1,17 @@
 use borrow.Author.Needs.{needs}
-use Rattle.standby.proofs.Laws.{rules-seen, holds-seen, refuses-25, held-steps}
-use Rattle.model.specs.State.{onFrameHeld}
+use Rattle.standby_frame.proofs.Laws.{rules-seen, holds-seen, refuses-25, held-steps}
+use Rattle.model_standby.specs.State.{onFrameHeld}
 use denote.Ref.{now}
 use borrow.Author.Tests.{not-true, not-false}
 use mathlib.Core.Path.{_∙_, sym}
-use Rattle.standby.proofs.frame_held.Statement.{statement}
-use Rattle.standby.proofs.frame_held.Tie as tie
-use Rattle.standby.proofs.frame_held.Reads as reads
-use Rattle.standby.proofs.frame_held.Lts as lts
-use Rattle.outcome.proofs.leaves.Reads as leaves-reads
-use Rattle.outcome.proofs.refused.Reads as refused-reads
-use Rattle.sound.proofs.sound.Reads as sound-reads
-use Rattle.standby.proofs.taken.Reads as taken-reads
+use Rattle.standby_frame.proofs.frame_held.Statement.{statement}
+use Rattle.standby_frame.proofs.frame_held.Tie as tie
+use Rattle.standby_frame.proofs.frame_held.Reads as reads
+use Rattle.standby_frame.proofs.frame_held.Lts as lts
+use Rattle.standby_state.proofs.leaves.Reads as leaves-reads
+use Rattle.standby_state.proofs.refused.Reads as refused-reads
+use Rattle.standby_rules.proofs.sound.Reads as sound-reads
+use Rattle.standby_frame.proofs.taken.Reads as taken-reads
 
 -- src/lib.rt:108:9
 sound-requires : tie.Need-sound-requires

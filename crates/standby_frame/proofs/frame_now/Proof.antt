@@ -1,19 +1,19 @@
 use borrow.Author.Needs.{needs}
-use Rattle.standby.proofs.Laws.{rules-seen, holds-seen, refuses-25, now-steps}
-use Rattle.model.specs.State.{onFrame}
+use Rattle.standby_frame.proofs.Laws.{rules-seen, holds-seen, refuses-25, now-steps}
+use Rattle.model_standby.specs.State.{onFrame}
 use denote.Ref.{now}
 use borrow.Author.Tests.{not-true, not-false}
 use mathlib.Core.Path.{_∙_, sym}
-use Rattle.standby.proofs.frame_now.Statement.{statement}
-use Rattle.standby.proofs.frame_now.Tie as tie
-use Rattle.standby.proofs.frame_now.Reads as reads
-use Rattle.standby.proofs.frame_now.Lts as lts
-use Rattle.commits.proofs.run_if.Reads as run-if-reads
-use Rattle.outcome.proofs.leaves.Reads as leaves-reads
-use Rattle.outcome.proofs.refused.Reads as refused-reads
-use Rattle.sound.proofs.sound.Reads as sound-reads
-use Rattle.standby.proofs.is_answered.Reads as is-answered-reads
-use Rattle.standby.proofs.taken.Reads as taken-reads
+use Rattle.standby_frame.proofs.frame_now.Statement.{statement}
+use Rattle.standby_frame.proofs.frame_now.Tie as tie
+use Rattle.standby_frame.proofs.frame_now.Reads as reads
+use Rattle.standby_frame.proofs.frame_now.Lts as lts
+use Rattle.standby_pending_run.proofs.run_if.Reads as run-if-reads
+use Rattle.standby_state.proofs.leaves.Reads as leaves-reads
+use Rattle.standby_state.proofs.refused.Reads as refused-reads
+use Rattle.standby_rules.proofs.sound.Reads as sound-reads
+use Rattle.standby_frame.proofs.is_answered.Reads as is-answered-reads
+use Rattle.standby_frame.proofs.taken.Reads as taken-reads
 
 -- src/lib.rt:134:9
 sound-requires : tie.Need-sound-requires

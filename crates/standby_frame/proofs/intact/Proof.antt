@@ -1,14 +1,14 @@
 use borrow.Author.Needs.{needs}
-use Rattle.standby.proofs.Laws.{batch-intact, other-intact}
-use Rattle.standby.proofs.Frames.{fit-of}
+use Rattle.standby_frame.proofs.Laws.{batch-intact, other-intact}
+use Rattle.standby_frame.proofs.Frames.{fit-of}
 use Rattle.frame.specs.Answers.{frameOf}
 use denote.Ref.{now}
-use Rattle.standby.proofs.intact.Statement.{statement}
-use Rattle.standby.proofs.intact.Tie as tie
-use Rattle.standby.proofs.intact.Reads as reads
-use Rattle.standby.proofs.intact.Lts as lts
-use Rattle.due_batch.proofs.batch_in.Reads as batch-in-reads
-use Rattle.others.proofs.other_in.Reads as other-in-reads
+use Rattle.standby_frame.proofs.intact.Statement.{statement}
+use Rattle.standby_frame.proofs.intact.Tie as tie
+use Rattle.standby_frame.proofs.intact.Reads as reads
+use Rattle.standby_frame.proofs.intact.Lts as lts
+use Rattle.standby_batch_due.proofs.batch_in.Reads as batch-in-reads
+use Rattle.standby_control.proofs.other_in.Reads as other-in-reads
 
 -- src/lib.rt:61:22
 enum-known-f : tie.Need-enum-known-f

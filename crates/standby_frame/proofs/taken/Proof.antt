@@ -1,21 +1,21 @@
 use borrow.Author.Needs.{needs}
-use Rattle.standby.proofs.Laws.{damaged-left, promoted-left, intact-taken}
-use Rattle.standby.proofs.Frames.{number-some, given-bad, given-more, given-short, given-whole, read-writable}
+use Rattle.standby_frame.proofs.Laws.{damaged-left, promoted-left, intact-taken}
+use Rattle.standby_frame.proofs.Frames.{number-some, given-bad, given-more, given-short, given-whole, read-writable}
 use Rattle.model_frame.proofs.Le.{are-bytes}
 use Rattle.model_frame.specs.Frame.{number}
-use Rattle.outcome.specs.Answers.{isRefused}
-use Rattle.scan.specs.Answers.{faultOf}
+use Rattle.standby_state.specs.Answers.{isRefused}
+use Rattle.frame_reader.specs.Answers.{faultOf}
 use denote.Ref.{now}
 use mathlib.Core.Path.{_∙_, refl, ap}
-use Rattle.standby.proofs.taken.Statement.{statement}
-use Rattle.standby.proofs.taken.Tie as tie
-use Rattle.standby.proofs.taken.Reads as reads
-use Rattle.standby.proofs.taken.Lts as lts
+use Rattle.standby_frame.proofs.taken.Statement.{statement}
+use Rattle.standby_frame.proofs.taken.Tie as tie
+use Rattle.standby_frame.proofs.taken.Reads as reads
+use Rattle.standby_frame.proofs.taken.Lts as lts
 use Rattle.frame.proofs.Frame.decode.Reads as decode-reads
-use Rattle.outcome.proofs.leaves.Reads as leaves-reads
-use Rattle.outcome.proofs.refused.Reads as refused-reads
-use Rattle.standby.proofs.intact.Reads as intact-reads
-use Rattle.standby.proofs.number.Reads as number-reads
+use Rattle.standby_state.proofs.leaves.Reads as leaves-reads
+use Rattle.standby_state.proofs.refused.Reads as refused-reads
+use Rattle.standby_frame.proofs.intact.Reads as intact-reads
+use Rattle.standby_frame.proofs.number.Reads as number-reads
 
 -- src/lib.rt:80:11
 decode-requires : tie.Need-decode-requires

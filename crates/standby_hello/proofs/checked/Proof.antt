@@ -1,15 +1,15 @@
 use borrow.Author.Needs.{needs}
-use Rattle.greet.proofs.Laws.{stale, other-run, said}
+use Rattle.standby_hello.proofs.Laws.{stale, other-run, said}
 use mathlib.Core.Path.{refl}
-use Rattle.greet.proofs.checked.Statement.{statement}
-use Rattle.greet.proofs.checked.Tie as tie
-use Rattle.greet.proofs.checked.Reads as reads
-use Rattle.greet.proofs.checked.Lts as lts
-use Rattle.greet.proofs.checked_at.Reads as checked-at-reads
-use Rattle.greet.proofs.incarnation.Reads as incarnation-reads
-use Rattle.outcome.proofs.ack.Reads as ack-reads
-use Rattle.outcome.proofs.leaves.Reads as leaves-reads
-use Rattle.outcome.proofs.nack.Reads as nack-reads
+use Rattle.standby_hello.proofs.checked.Statement.{statement}
+use Rattle.standby_hello.proofs.checked.Tie as tie
+use Rattle.standby_hello.proofs.checked.Reads as reads
+use Rattle.standby_hello.proofs.checked.Lts as lts
+use Rattle.standby_hello.proofs.checked_at.Reads as checked-at-reads
+use Rattle.standby_hello.proofs.incarnation.Reads as incarnation-reads
+use Rattle.standby_state.proofs.ack.Reads as ack-reads
+use Rattle.standby_state.proofs.leaves.Reads as leaves-reads
+use Rattle.standby_state.proofs.nack.Reads as nack-reads
 
 -- src/lib.rt:87:41
 nack-requires : tie.Need-nack-requires

@@ -3,10 +3,10 @@ use Rattle.model_session.specs.Session.{top}
 use Prim.Native.Nat.{ℕ, suc, _+_, min}
 use native.Mathlib.Omega.{arith}
 use mathlib.Core.Path.{_≡_, ap}
-use Rattle.greet.proofs.connected.Statement.{statement}
-use Rattle.greet.proofs.connected.Tie as tie
-use Rattle.greet.proofs.connected.Reads as reads
-use Rattle.greet.proofs.connected.Lts as lts
+use Rattle.standby_hello.proofs.connected.Statement.{statement}
+use Rattle.standby_hello.proofs.connected.Tie as tie
+use Rattle.standby_hello.proofs.connected.Reads as reads
+use Rattle.standby_hello.proofs.connected.Lts as lts
 
 -- src/lib.rt:32:9
 add-d : tie.Need-add-d

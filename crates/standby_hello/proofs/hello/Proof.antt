@@ -1,17 +1,17 @@
 use borrow.Author.Needs.{needs}
-use Rattle.greet.proofs.Laws.{other-version, some-kinds, lower-told, taken}
+use Rattle.standby_hello.proofs.Laws.{other-version, some-kinds, lower-told, taken}
 use borrow.Author.Tests.{not-true, not-false}
 use mathlib.Core.Path.{refl, _∙_}
-use Rattle.greet.proofs.hello.Statement.{statement}
-use Rattle.greet.proofs.hello.Tie as tie
-use Rattle.greet.proofs.hello.Reads as reads
-use Rattle.greet.proofs.hello.Lts as lts
-use Rattle.greet.proofs.connected.Reads as connected-reads
-use Rattle.greet.proofs.incarnation.Reads as incarnation-reads
-use Rattle.outcome.proofs.clears.Reads as clears-reads
-use Rattle.outcome.proofs.leaves.Reads as leaves-reads
-use Rattle.outcome.proofs.refused.Reads as refused-reads
-use Rattle.outcome.proofs.welcome.Reads as welcome-reads
+use Rattle.standby_hello.proofs.hello.Statement.{statement}
+use Rattle.standby_hello.proofs.hello.Tie as tie
+use Rattle.standby_hello.proofs.hello.Reads as reads
+use Rattle.standby_hello.proofs.hello.Lts as lts
+use Rattle.standby_hello.proofs.connected.Reads as connected-reads
+use Rattle.standby_hello.proofs.incarnation.Reads as incarnation-reads
+use Rattle.standby_state.proofs.clears.Reads as clears-reads
+use Rattle.standby_state.proofs.leaves.Reads as leaves-reads
+use Rattle.standby_state.proofs.refused.Reads as refused-reads
+use Rattle.standby_state.proofs.welcome.Reads as welcome-reads
 
 -- src/lib.rt:58:41
 refused-requires : tie.Need-refused-requires

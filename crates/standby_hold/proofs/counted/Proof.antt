@@ -1,7 +1,7 @@
 use mathlib.Core.Path.{refl}
 use borrow.Author.Tests.{eq-eqb, ne-eqb}
-use Rattle.holding.proofs.counted.Statement.{statement}
-use Rattle.holding.proofs.counted.Tie as tie
+use Rattle.standby_hold.proofs.counted.Statement.{statement}
+use Rattle.standby_hold.proofs.counted.Tie as tie
 
 returns : tie.Need-returns
 returns c = rw (eq-eqb _ _ (c .if1 .taken)) refl

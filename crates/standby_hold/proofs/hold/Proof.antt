@@ -1,8 +1,8 @@
 use native.Mathlib.Omega.{arith}
 use borrow.Author.Needs.{needs}
-use Rattle.holding.proofs.Laws.{front, within, no-reset, too-much, no-room, held}
-use Rattle.holding.proofs.hold.Statement.{statement}
-use Rattle.holding.proofs.hold.Tie as tie
+use Rattle.standby_hold.proofs.Laws.{front, within, no-reset, too-much, no-room, held}
+use Rattle.standby_hold.proofs.hold.Statement.{statement}
+use Rattle.standby_hold.proofs.hold.Tie as tie
 
 add-end : tie.Need-add-end
 add-end c =

@@ -1,20 +1,20 @@
 use borrow.Author.Needs.{needs}
-use Rattle.model.specs.State.{disconnectedFrom}
-use Rattle.calls.proofs.Laws.{unsound, keeps, other-lost, own-lost}
+use Rattle.model_standby.specs.State.{disconnectedFrom}
+use Rattle.standby_lifecycle.proofs.Laws.{unsound, keeps, other-lost, own-lost}
 use denote.Ref.{now}
 use borrow.Author.Tests.{not-true, not-false}
 use mathlib.Core.Path.{_∙_, sym}
 use native.Mathlib.Omega.{arith}
-use Rattle.calls.proofs.disconnected_from.Statement.{statement}
-use Rattle.calls.proofs.disconnected_from.Tie as tie
-use Rattle.calls.proofs.disconnected_from.Reads as reads
-use Rattle.calls.proofs.disconnected_from.Lts as lts
-use Rattle.calls.proofs.forget.Reads as forget-reads
-use Rattle.outcome.proofs.clears.Reads as clears-reads
-use Rattle.outcome.proofs.done.Reads as done-reads
-use Rattle.outcome.proofs.leaves.Reads as leaves-reads
-use Rattle.outcome.proofs.refused.Reads as refused-reads
-use Rattle.sound.proofs.sound.Reads as sound-reads
+use Rattle.standby_lifecycle.proofs.disconnected_from.Statement.{statement}
+use Rattle.standby_lifecycle.proofs.disconnected_from.Tie as tie
+use Rattle.standby_lifecycle.proofs.disconnected_from.Reads as reads
+use Rattle.standby_lifecycle.proofs.disconnected_from.Lts as lts
+use Rattle.standby_lifecycle.proofs.forget.Reads as forget-reads
+use Rattle.standby_state.proofs.clears.Reads as clears-reads
+use Rattle.standby_state.proofs.done.Reads as done-reads
+use Rattle.standby_state.proofs.leaves.Reads as leaves-reads
+use Rattle.standby_state.proofs.refused.Reads as refused-reads
+use Rattle.standby_rules.proofs.sound.Reads as sound-reads
 
 -- src/lib.rt:83:9
 sound-requires : tie.Need-sound-requires

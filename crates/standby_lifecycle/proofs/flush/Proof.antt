@@ -1,19 +1,19 @@
 use borrow.Author.Needs.{needs}
-use Rattle.model.specs.State.{flush}
-use Rattle.calls.proofs.Laws.{unsound, keeps, other-connection, after-promotion, flushed}
+use Rattle.model_standby.specs.State.{flush}
+use Rattle.standby_lifecycle.proofs.Laws.{unsound, keeps, other-connection, after-promotion, flushed}
 use denote.Ref.{now}
 use borrow.Author.Tests.{not-true, not-false}
 use mathlib.Core.Path.{_∙_, sym}
 use native.Mathlib.Omega.{arith}
-use Rattle.calls.proofs.flush.Statement.{statement}
-use Rattle.calls.proofs.flush.Tie as tie
-use Rattle.calls.proofs.flush.Reads as reads
-use Rattle.calls.proofs.flush.Lts as lts
-use Rattle.commits.proofs.run.Reads as run-reads
-use Rattle.outcome.proofs.done.Reads as done-reads
-use Rattle.outcome.proofs.leaves.Reads as leaves-reads
-use Rattle.outcome.proofs.refused.Reads as refused-reads
-use Rattle.sound.proofs.sound.Reads as sound-reads
+use Rattle.standby_lifecycle.proofs.flush.Statement.{statement}
+use Rattle.standby_lifecycle.proofs.flush.Tie as tie
+use Rattle.standby_lifecycle.proofs.flush.Reads as reads
+use Rattle.standby_lifecycle.proofs.flush.Lts as lts
+use Rattle.standby_pending_run.proofs.run.Reads as run-reads
+use Rattle.standby_state.proofs.done.Reads as done-reads
+use Rattle.standby_state.proofs.leaves.Reads as leaves-reads
+use Rattle.standby_state.proofs.refused.Reads as refused-reads
+use Rattle.standby_rules.proofs.sound.Reads as sound-reads
 
 -- src/lib.rt:58:9
 sound-requires : tie.Need-sound-requires

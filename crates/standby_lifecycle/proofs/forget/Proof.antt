@@ -1,11 +1,11 @@
 use borrow.Author.Needs.{needs}
-use Rattle.calls.proofs.Laws.{forgets, keeps-all}
+use Rattle.standby_lifecycle.proofs.Laws.{forgets, keeps-all}
 use denote.Ref.{now}
-use Rattle.calls.proofs.forget.Statement.{statement}
-use Rattle.calls.proofs.forget.Tie as tie
-use Rattle.calls.proofs.forget.Reads as reads
-use Rattle.calls.proofs.forget.Lts as lts
-use Rattle.pending.proofs.clear.Reads as clear-reads
+use Rattle.standby_lifecycle.proofs.forget.Statement.{statement}
+use Rattle.standby_lifecycle.proofs.forget.Tie as tie
+use Rattle.standby_lifecycle.proofs.forget.Reads as reads
+use Rattle.standby_lifecycle.proofs.forget.Lts as lts
+use Rattle.standby_pending.proofs.clear.Reads as clear-reads
 
 -- src/lib.rt:23:9
 clear-requires : tie.Need-clear-requires

@@ -1,17 +1,17 @@
 use borrow.Author.Needs.{needs}
-use Rattle.model.specs.State.{promoteUnchecked}
-use Rattle.calls.proofs.Laws.{unsound, keeps, promoted-unchecked}
+use Rattle.model_standby.specs.State.{promoteUnchecked}
+use Rattle.standby_lifecycle.proofs.Laws.{unsound, keeps, promoted-unchecked}
 use denote.Ref.{now}
 use borrow.Author.Tests.{not-true, not-false}
 use mathlib.Core.Path.{_∙_, sym}
-use Rattle.calls.proofs.promote_unchecked.Statement.{statement}
-use Rattle.calls.proofs.promote_unchecked.Tie as tie
-use Rattle.calls.proofs.promote_unchecked.Reads as reads
-use Rattle.calls.proofs.promote_unchecked.Lts as lts
-use Rattle.calls.proofs.promotion.Reads as promotion-reads
-use Rattle.outcome.proofs.leaves.Reads as leaves-reads
-use Rattle.outcome.proofs.refused.Reads as refused-reads
-use Rattle.sound.proofs.sound.Reads as sound-reads
+use Rattle.standby_lifecycle.proofs.promote_unchecked.Statement.{statement}
+use Rattle.standby_lifecycle.proofs.promote_unchecked.Tie as tie
+use Rattle.standby_lifecycle.proofs.promote_unchecked.Reads as reads
+use Rattle.standby_lifecycle.proofs.promote_unchecked.Lts as lts
+use Rattle.standby_lifecycle.proofs.promotion.Reads as promotion-reads
+use Rattle.standby_state.proofs.leaves.Reads as leaves-reads
+use Rattle.standby_state.proofs.refused.Reads as refused-reads
+use Rattle.standby_rules.proofs.sound.Reads as sound-reads
 
 -- src/lib.rt:124:9
 sound-requires : tie.Need-sound-requires

@@ -1,16 +1,16 @@
 use borrow.Author.Needs.{needs}
-use Rattle.calls.proofs.Laws.{still-kept, promoted-is}
+use Rattle.standby_lifecycle.proofs.Laws.{still-kept, promoted-is}
 use denote.Ref.{now}
 use mathlib.Core.Path.{_∙_}
-use Rattle.calls.proofs.promotion.Statement.{statement}
-use Rattle.calls.proofs.promotion.Tie as tie
-use Rattle.calls.proofs.promotion.Reads as reads
-use Rattle.calls.proofs.promotion.Lts as lts
-use Rattle.calls.proofs.forget.Reads as forget-reads
-use Rattle.calls.proofs.promoted_from.Reads as promoted-from-reads
-use Rattle.outcome.proofs.clears.Reads as clears-reads
-use Rattle.outcome.proofs.done.Reads as done-reads
-use Rattle.sessions.proofs.take_over_all.Reads as take-over-all-reads
+use Rattle.standby_lifecycle.proofs.promotion.Statement.{statement}
+use Rattle.standby_lifecycle.proofs.promotion.Tie as tie
+use Rattle.standby_lifecycle.proofs.promotion.Reads as reads
+use Rattle.standby_lifecycle.proofs.promotion.Lts as lts
+use Rattle.standby_lifecycle.proofs.forget.Reads as forget-reads
+use Rattle.standby_lifecycle.proofs.promoted_from.Reads as promoted-from-reads
+use Rattle.standby_state.proofs.clears.Reads as clears-reads
+use Rattle.standby_state.proofs.done.Reads as done-reads
+use Rattle.store_sessions.proofs.take_over_all.Reads as take-over-all-reads
 
 -- src/lib.rt:41:5
 forget-requires : tie.Need-forget-requires

@@ -1,10 +1,10 @@
 use borrow.Author.Needs.{needs}
 use denote.Ref.{now}
-use Rattle.op.specs.Answers.{heldRun}
-use Rattle.holding.proofs.Laws.{front}
-use Rattle.on_batch.proofs.Parts.{commit-held, commit-made, commit-off}
-use Rattle.on_batch.proofs.on_commit.Statement.{statement}
-use Rattle.on_batch.proofs.on_commit.Tie as tie
+use Rattle.frame_op.specs.Answers.{heldRun}
+use Rattle.standby_hold.proofs.Laws.{front}
+use Rattle.standby_part.proofs.Parts.{commit-held, commit-made, commit-off}
+use Rattle.standby_part.proofs.on_commit.Statement.{statement}
+use Rattle.standby_part.proofs.on_commit.Tie as tie
 
 returns : tie.Need-returns
 returns c = commit-held (c .before .before .before .before .before .before .before .args .p .version) (c .before .before .before .before .before .before .before .args .shape) (c .before .before .before .before .before .before .before .args .h) (c .before .before .before .before .before .before .before .args .n) (heldRun (c .before .before .before .before .before .before .before .args .p .version) (now (c .before .before .before .before .before .before .before .args .run))) _ _ (now (c .before .before .before .before .before .before .before .args .area)) (front (c .before .before .before .before .before .before .before .args .p .version) (c .before .before .before .before .before .before .before .args .h .«held_len») (now (c .before .before .before .before .before .before .before .args .area)) (c .before .run-length .ensures)) (c .if1 .taken) (c .before .before .before .before .before .before .before .pre .0)

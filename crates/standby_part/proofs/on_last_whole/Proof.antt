@@ -1,9 +1,9 @@
 use native.Mathlib.Omega.{arith}
 use borrow.Author.Needs.{needs}
 use denote.Ref.{now}
-use Rattle.on_batch.proofs.Wholes.{sum-kept, all-refused, within-area, last-on, last-made, last-diverged}
-use Rattle.on_batch.proofs.on_last_whole.Statement.{statement}
-use Rattle.on_batch.proofs.on_last_whole.Tie as tie
+use Rattle.standby_part.proofs.Wholes.{sum-kept, all-refused, within-area, last-on, last-made, last-diverged}
+use Rattle.standby_part.proofs.on_last_whole.Statement.{statement}
+use Rattle.standby_part.proofs.on_last_whole.Tie as tie
 
 returns : tie.Need-returns
 returns c = (sum-kept (c .before .before .before .before .before .before .before .before .before .before .args .p .version) (c .before .before .before .before .before .before .before .before .before .before .args .h) (c .before .before .before .before .before .before .before .before .before .before .args .n) (now (c .before .before .before .before .before .before .before .before .before .before .args .run)) (now (c .before .before .before .before .before .before .before .before .before .before .args .area)) (c .before .before .before .before .before .before .before .before .before .before .args .shape) _ _ (c .before .before .before .before .before .before .before .before .before .before .pre .0) _ _ (last-on (c .before .before .before .before .before .before .before .before .before .before .args .p .version) (c .before .before .before .before .before .before .before .before .before .before .args .h) (c .before .before .before .before .before .before .before .before .before .before .args .n) (now (c .before .before .before .before .before .before .before .before .before .before .args .run)) (now (c .before .before .before .before .before .before .before .before .before .before .args .area)) (λ i. c .before .before .before .before .before .before .slice-known3 .given i .fits) (λ i. c .before .before .before .before .before .before .before .before .before .shared-slice-known .given i .fits) (c .before .before .before .before .before .before .before .before .before .before .pre .1 .1 .1 .0) (c .before .before .before .before .before .before .before .before .before .before .pre .1 .1 .1 .1) (c .before .before .before .before .hold .ensures) (c .before .before .before .before .before .before .before .before .before .before .args .shape) (now (c .before .before .before .before .before .before .before .before .before .before .args .words)) (now (c .before .before .before .before .before .before .before .before .before .before .args .bytes))) (c .before .before .before .before .hold .ensures) (c .before .if1 .taken) (c .summed .ensures), c .before .before .before .before .hold .ensures .written)

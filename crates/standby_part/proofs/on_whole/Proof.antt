@@ -1,8 +1,8 @@
 use borrow.Author.Needs.{needs}
 use denote.Ref.{now}
-use Rattle.on_batch.proofs.Wholes.{sum-kept, all-refused, whole-on, whole-held}
-use Rattle.on_batch.proofs.on_whole.Statement.{statement}
-use Rattle.on_batch.proofs.on_whole.Tie as tie
+use Rattle.standby_part.proofs.Wholes.{sum-kept, all-refused, whole-on, whole-held}
+use Rattle.standby_part.proofs.on_whole.Statement.{statement}
+use Rattle.standby_part.proofs.on_whole.Tie as tie
 
 returns : tie.Need-returns
 returns c = ((λ s w b rules. sum-kept (c .before .before .before .before .before .before .before .before .args .p .version) (c .before .before .before .before .before .before .before .before .args .h) (c .before .before .before .before .before .before .before .before .args .n) (now (c .before .before .before .before .before .before .before .before .args .run)) (now (c .before .before .before .before .before .before .before .before .args .area)) s w b rules _ _ (whole-on (c .before .before .before .before .before .before .before .before .args .p .version) (c .before .before .before .before .before .before .before .before .args .h) (c .before .before .before .before .before .before .before .before .args .n) (now (c .before .before .before .before .before .before .before .before .args .run)) (now (c .before .before .before .before .before .before .before .before .args .area)) (λ i. c .before .before .before .before .before .before .slice-known .given i .fits) (λ i. c .before .before .before .before .before .before .before .shared-slice-known .given i .fits) (c .before .before .before .before .before .before .before .before .pre .0) (c .before .before .before .before .before .before .before .before .pre .1) (c .before .before .before .before .hold .ensures) s w b) (c .before .before .before .before .hold .ensures) (c .before .if1 .taken) (c .summed .ensures)), c .before .before .before .before .hold .ensures .written)

@@ -1,9 +1,9 @@
 use mathlib.Core.Path.{refl}
 use native.Mathlib.Omega.{arith}
-use Rattle.pending.proofs.Laws.{cleared}
+use Rattle.standby_pending.proofs.Laws.{cleared}
 use borrow.Author.Needs.{needs}
-use Rattle.pending.proofs.clear.Statement.{statement}
-use Rattle.pending.proofs.clear.Tie as tie
+use Rattle.standby_pending.proofs.clear.Statement.{statement}
+use Rattle.standby_pending.proofs.clear.Tie as tie
 
 returns : tie.Need-returns
 returns c = (cleared (c .args .words .now) (omega arith), refl)

@@ -1,10 +1,10 @@
-use Rattle.pending.proofs.pends_on.Statement.{statement}
-use Rattle.pending.proofs.pends_on.Tie as tie
+use Rattle.standby_pending.proofs.pends_on.Statement.{statement}
+use Rattle.standby_pending.proofs.pends_on.Tie as tie
 use mathlib.Core.Path.{refl}
 use Prim.Native.Nat.{_-_}
 use native.Mathlib.Omega.{arith}
-use Rattle.pending.specs.Pending.{pendingOf}
-use Rattle.pending.proofs.Laws.{Searching, found, goes-on, none-left}
+use Rattle.standby_pending.specs.Pending.{pendingOf}
+use Rattle.standby_pending.proofs.Laws.{Searching, found, goes-on, none-left}
 
 abbrev Inv-loop : tie.InvT-loop
 Inv-loop words handle n i₀ i = Searching words handle n i

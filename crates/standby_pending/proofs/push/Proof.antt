@@ -1,10 +1,10 @@
 use mathlib.Core.Path.{refl}
 use native.Mathlib.Omega.{arith}
 use lib.ListN.{length-set}
-use Rattle.pending.proofs.Laws.{pushed}
+use Rattle.standby_pending.proofs.Laws.{pushed}
 use borrow.Author.Needs.{needs}
-use Rattle.pending.proofs.push.Statement.{statement}
-use Rattle.pending.proofs.push.Tie as tie
+use Rattle.standby_pending.proofs.push.Statement.{statement}
+use Rattle.standby_pending.proofs.push.Tie as tie
 
 slice-write-words-2 : tie.Need-slice-write-words-2
 slice-write-words-2 c = simp length-set (omega arith)

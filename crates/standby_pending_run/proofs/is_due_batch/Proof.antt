@@ -1,9 +1,9 @@
 use mathlib.Core.Path.{_∙_}
 use native.Mathlib.Omega.{arith}
-use Rattle.commits.proofs.Due.{full, not-full}
+use Rattle.standby_pending_run.proofs.Due.{full, not-full}
 use borrow.Author.Needs.{needs}
-use Rattle.commits.proofs.is_due_batch.Statement.{statement}
-use Rattle.commits.proofs.is_due_batch.Tie as tie
+use Rattle.standby_pending_run.proofs.is_due_batch.Statement.{statement}
+use Rattle.standby_pending_run.proofs.is_due_batch.Tie as tie
 
 returns : tie.Need-returns
 returns c = full (c .before .before .before .args .words .now) (c .before .before .before .args .handle) (omega arith) (omega arith) (omega arith)

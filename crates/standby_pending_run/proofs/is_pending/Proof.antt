@@ -1,8 +1,8 @@
 use native.Mathlib.Omega.{arith}
-use Rattle.commits.proofs.Due.{some-pending}
+use Rattle.standby_pending_run.proofs.Due.{some-pending}
 use borrow.Author.Needs.{needs}
-use Rattle.commits.proofs.is_pending.Statement.{statement}
-use Rattle.commits.proofs.is_pending.Tie as tie
+use Rattle.standby_pending_run.proofs.is_pending.Statement.{statement}
+use Rattle.standby_pending_run.proofs.is_pending.Tie as tie
 
 returns : tie.Need-returns
 returns c = some-pending (c .before .args .words .now) (omega arith)

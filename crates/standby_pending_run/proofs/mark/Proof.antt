@@ -2,10 +2,10 @@ use mathlib.Core.Path.{ap}
 use Prim.Native.Nat.{ℕ, _+_, _*_}
 use native.Mathlib.Omega.{arith}
 use lib.ListN.{set}
-use Rattle.commits.proofs.Marking.{mark-within}
+use Rattle.standby_pending_run.proofs.Marking.{mark-within}
 use borrow.Author.Needs.{needs}
-use Rattle.commits.proofs.mark.Statement.{statement}
-use Rattle.commits.proofs.mark.Tie as tie
+use Rattle.standby_pending_run.proofs.mark.Statement.{statement}
+use Rattle.standby_pending_run.proofs.mark.Tie as tie
 
 mul-at : tie.Need-mul-at
 mul-at c = omega (arith, mark-within (c .before .before .args .shape) _ _ _ (c .before .before .args .words .now) (c .place-words .ensures) (c .before .before .pre .1 .0) (c .before .before .pre .1 .1 .0) (c .before .before .pre .1 .1 .1))

@@ -1,10 +1,10 @@
 use mathlib.Core.Path.{_∙_}
 use native.Mathlib.Omega.{arith}
 use lib.ListN.{getD}
-use Rattle.commits.proofs.Marking.{marked-there, marked-past}
+use Rattle.standby_pending_run.proofs.Marking.{marked-there, marked-past}
 use borrow.Author.Needs.{needs}
-use Rattle.commits.proofs.mark_used.Statement.{statement}
-use Rattle.commits.proofs.mark_used.Tie as tie
+use Rattle.standby_pending_run.proofs.mark_used.Statement.{statement}
+use Rattle.standby_pending_run.proofs.mark_used.Tie as tie
 
 returns : tie.Need-returns
 returns c =

@@ -1,9 +1,9 @@
 use Prim.Native.Nat.{_-_}
 use native.Mathlib.Omega.{arith}
 use lib.ListN.{length-set}
-use Rattle.commits.proofs.Turns.{Running, starts, asks, goes-on, ends}
-use Rattle.commits.proofs.run.Statement.{statement}
-use Rattle.commits.proofs.run.Tie as tie
+use Rattle.standby_pending_run.proofs.Turns.{Running, starts, asks, goes-on, ends}
+use Rattle.standby_pending_run.proofs.run.Statement.{statement}
+use Rattle.standby_pending_run.proofs.run.Tie as tie
 
 abbrev Inv-loop : tie.InvT-loop
 Inv-loop words₀ bytes shape n i₀ words i = Running shape bytes words₀ words i

@@ -1,7 +1,7 @@
-use Rattle.commits.proofs.Marking.{ran-due, ran-not}
+use Rattle.standby_pending_run.proofs.Marking.{ran-due, ran-not}
 use borrow.Author.Needs.{needs}
-use Rattle.commits.proofs.run_if.Statement.{statement}
-use Rattle.commits.proofs.run_if.Tie as tie
+use Rattle.standby_pending_run.proofs.run_if.Statement.{statement}
+use Rattle.standby_pending_run.proofs.run_if.Tie as tie
 
 returns : tie.Need-returns
 returns c = ran-due _ _ _ _ _ (c .before .before .before .before .if1 .taken) (c .before .before .run .ensures)

@@ -1,11 +1,11 @@
 use mathlib.Core.Path.{refl}
 use borrow.Author.Needs.{needs}
-use Rattle.reply.proofs.Laws.{past-end, cut-short, whole}
+use Rattle.standby_reply.proofs.Laws.{past-end, cut-short, whole}
 use denote.Ref.{now}
-use Rattle.reply.proofs.cut.Statement.{statement}
-use Rattle.reply.proofs.cut.Tie as tie
-use Rattle.reply.proofs.cut.Reads as reads
-use Rattle.reply.proofs.cut.Lts as lts
+use Rattle.standby_reply.proofs.cut.Statement.{statement}
+use Rattle.standby_reply.proofs.cut.Tie as tie
+use Rattle.standby_reply.proofs.cut.Reads as reads
+use Rattle.standby_reply.proofs.cut.Lts as lts
 
 -- src/lib.rt:53:9
 returns : tie.Need-returns

@@ -1,12 +1,12 @@
 use borrow.Author.Needs.{needs}
-use Rattle.reply.proofs.Laws.{by-welcome, by-ack, by-nack, by-bound}
+use Rattle.standby_reply.proofs.Laws.{by-welcome, by-ack, by-nack, by-bound}
 use denote.Ref.{now}
-use Rattle.reply.proofs.frame.Statement.{statement}
-use Rattle.reply.proofs.frame.Tie as tie
-use Rattle.reply.proofs.frame.Reads as reads
-use Rattle.reply.proofs.frame.Lts as lts
-use Rattle.reply.proofs.reason.Reads as reason-reads
-use Rattle.reply.proofs.summary.Reads as summary-reads
+use Rattle.standby_reply.proofs.frame.Statement.{statement}
+use Rattle.standby_reply.proofs.frame.Tie as tie
+use Rattle.standby_reply.proofs.frame.Reads as reads
+use Rattle.standby_reply.proofs.frame.Lts as lts
+use Rattle.standby_reply.proofs.reason.Reads as reason-reads
+use Rattle.standby_reply.proofs.summary.Reads as summary-reads
 
 -- src/lib.rt:89:9
 returns : tie.Need-returns

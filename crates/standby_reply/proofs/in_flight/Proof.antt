@@ -1,11 +1,11 @@
 use borrow.Author.Needs.{needs}
-use Rattle.reply.specs.Replies.{flightBy}
+use Rattle.standby_reply.specs.Replies.{flightBy}
 use mathlib.Core.Bool.{Bool}
 use mathlib.Core.Path.{sym, ap}
-use Rattle.reply.proofs.in_flight.Statement.{statement}
-use Rattle.reply.proofs.in_flight.Tie as tie
-use Rattle.reply.proofs.in_flight.Reads as reads
-use Rattle.reply.proofs.in_flight.Lts as lts
+use Rattle.standby_reply.proofs.in_flight.Statement.{statement}
+use Rattle.standby_reply.proofs.in_flight.Tie as tie
+use Rattle.standby_reply.proofs.in_flight.Reads as reads
+use Rattle.standby_reply.proofs.in_flight.Lts as lts
 
 -- src/lib.rt:43:9
 returns : tie.Need-returns

@@ -1,8 +1,8 @@
-use Rattle.reply.proofs.reason.Statement.{statement}
-use Rattle.reply.proofs.Laws.{stale, is-diverged, is-lag, is-restarted}
-use Rattle.reply.proofs.reason.Tie as tie
-use Rattle.reply.proofs.reason.Reads as reads
-use Rattle.reply.proofs.reason.Lts as lts
+use Rattle.standby_reply.proofs.reason.Statement.{statement}
+use Rattle.standby_reply.proofs.Laws.{stale, is-diverged, is-lag, is-restarted}
+use Rattle.standby_reply.proofs.reason.Tie as tie
+use Rattle.standby_reply.proofs.reason.Reads as reads
+use Rattle.standby_reply.proofs.reason.Lts as lts
 
 -- src/lib.rt:28:9
 returns : tie.Need-returns

@@ -1,12 +1,12 @@
 use borrow.Author.Needs.{needs}
-use Rattle.reply.proofs.Laws.{shows}
+use Rattle.standby_reply.proofs.Laws.{shows}
 use denote.Ref.{now}
-use Rattle.reply.proofs.summary.Statement.{statement}
-use Rattle.reply.proofs.summary.Tie as tie
-use Rattle.reply.proofs.summary.Reads as reads
-use Rattle.reply.proofs.summary.Lts as lts
-use Rattle.reply.proofs.cut.Reads as cut-reads
-use Rattle.reply.proofs.in_flight.Reads as in-flight-reads
+use Rattle.standby_reply.proofs.summary.Statement.{statement}
+use Rattle.standby_reply.proofs.summary.Tie as tie
+use Rattle.standby_reply.proofs.summary.Reads as reads
+use Rattle.standby_reply.proofs.summary.Lts as lts
+use Rattle.standby_reply.proofs.cut.Reads as cut-reads
+use Rattle.standby_reply.proofs.in_flight.Reads as in-flight-reads
 
 -- src/lib.rt:68:9
 in-flight-requires : tie.Need-in-flight-requires

@@ -1,11 +1,11 @@
 use borrow.Author.Needs.{needs}
-use Rattle.reply.proofs.Laws.{written}
-use Rattle.reply.proofs.write.Statement.{statement}
-use Rattle.reply.proofs.write.Tie as tie
-use Rattle.reply.proofs.write.Reads as reads
-use Rattle.reply.proofs.write.Lts as lts
+use Rattle.standby_reply.proofs.Laws.{written}
+use Rattle.standby_reply.proofs.write.Statement.{statement}
+use Rattle.standby_reply.proofs.write.Tie as tie
+use Rattle.standby_reply.proofs.write.Reads as reads
+use Rattle.standby_reply.proofs.write.Lts as lts
 use Rattle.frame.proofs.Frame.encode.Reads as encode-reads
-use Rattle.reply.proofs.frame.Reads as frame-reads
+use Rattle.standby_reply.proofs.frame.Reads as frame-reads
 
 -- src/lib.rt:112:9
 frame-requires : tie.Need-frame-requires

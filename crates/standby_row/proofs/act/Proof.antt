@@ -1,4 +1,4 @@
--- `row::act` meets its contract: a walk of its MIR, by hand: two calls over an open row. After the first one the row is another list, of the same length.
+-- `standby_row::act` meets its contract: a walk of its MIR, by hand: two calls over an open row. After the first one the row is another list, of the same length.
 -- The context of the walk: [the row; its open borrow, obs and auth; _9; …; _0; …]. So local j stands at 4 + 2 · (9 − j).
 -- Assumes nothing.
 use mathlib.Core.Path.{_≡_, refl, sym, _∙_, ap, subst}
@@ -40,24 +40,24 @@ use denote.Triple.Statement.{Triple}
 use denote.Triple.Table.{entered, cited}
 use denote.Triple.Walked.{says, Stays, stay-slice, stay-dropped, walkOf, Walks, ends-at, walked, goes-slice, goes-dropped, walk-meets}
 use denote.Exit.{yes}
-use Rattle.row.specs.declared.Handle.{Handle}
-use Rattle.row.specs.Row.{clearedFrom}
-use Rattle.row.proofs.Handle as T
-use Rattle.row.proofs.Handle.Laws as T′
-use Rattle.row.proofs.Lists.{cleared-length}
-use Rattle.row.proofs.Locals.{filled, frees-stack}
-use Rattle.row.proofs.Rows.{R, vals, tells}
-use Rattle.row.proofs.Calls.{PutIf, ClearFrom, calls-put-if, calls-clear-from}
-use Rattle.row.proofs.put_if.Symbol as put-if-def
-use Rattle.row.proofs.put_if.Symbol.{name as #row·put-if}
-use Rattle.row.proofs.put_if.Met as put-if-thm
-use Rattle.row.proofs.clear_from.Symbol as clear-from-def
-use Rattle.row.proofs.clear_from.Symbol.{name as #row·clear-from}
-use Rattle.row.proofs.clear_from.Met as clear-from-thm
-use Rattle.row.proofs.act.Key.{name as #row·act}
-use Rattle.row.proofs.act as act
-use Rattle.row.proofs.act.Statement as stated
-use Rattle.row.proofs.act.Code as code
+use Rattle.standby_row.specs.declared.Handle.{Handle}
+use Rattle.standby_row.specs.Row.{clearedFrom}
+use Rattle.standby_row.proofs.Handle as T
+use Rattle.standby_row.proofs.Handle.Laws as T′
+use Rattle.standby_row.proofs.Lists.{cleared-length}
+use Rattle.standby_row.proofs.Locals.{filled, frees-stack}
+use Rattle.standby_row.proofs.Rows.{R, vals, tells}
+use Rattle.standby_row.proofs.Calls.{PutIf, ClearFrom, calls-put-if, calls-clear-from}
+use Rattle.standby_row.proofs.put_if.Symbol as put-if-def
+use Rattle.standby_row.proofs.put_if.Symbol.{name as #standby_row·put-if}
+use Rattle.standby_row.proofs.put_if.Met as put-if-thm
+use Rattle.standby_row.proofs.clear_from.Symbol as clear-from-def
+use Rattle.standby_row.proofs.clear_from.Symbol.{name as #standby_row·clear-from}
+use Rattle.standby_row.proofs.clear_from.Met as clear-from-thm
+use Rattle.standby_row.proofs.act.Key.{name as #standby_row·act}
+use Rattle.standby_row.proofs.act as act
+use Rattle.standby_row.proofs.act.Statement as stated
+use Rattle.standby_row.proofs.act.Code as code
 
 abbrev stayed : Stays (act.ended .signature .params) (act.ended .kept)
 stayed = (stay-slice (0 ∷ []) tt (plain (λ _. R)), (stay-dropped (plain (λ _. usize)) yes, (stay-dropped (plain (λ _. usize)) yes, (stay-dropped (plain (λ _. R)) yes, tt))))
@@ -106,7 +106,7 @@ module _ {M : Type 1} (𝓤 : URA M) (H : Heap 𝓤) (A : Atoms 𝓤) (W : Given
       fjoin ! $ pureI ! (at-slice R (record { ptr = (b, o); name = γ; now = us }) (s ∷ [])) (tt, (tt, tt)) (ap (λ (m : ℕ). sliceVal (b, o) m ∷ []) (sym same), subst (Room R) (sym same) room) $ fjoin ! $
       nothing ! $ nothing ! $ fjoin ! $ nothing ! $ fjoin ! $ nothing ! $ fjoin ! $ move ! (1 ∷ 0 ∷ []) $ fjoin ! $ frame ! $ feqI ! (List Val) (vunit ∷ []) (vunit ∷ []) refl $ done !
 
-  module _ (Ct : Calls 𝓤 H) (Λ : Loops 𝓤 H) (fm : FmC 𝓤 H (W .laws) Ct) (known-put : Triple 𝓤 (Ct #row·put-if) (PutIf 𝓤 H A memory run)) (known-clear : Triple 𝓤 (Ct #row·clear-from) (ClearFrom 𝓤 H A memory run)) where
+  module _ (Ct : Calls 𝓤 H) (Λ : Loops 𝓤 H) (fm : FmC 𝓤 H (W .laws) Ct) (known-put : Triple 𝓤 (Ct #standby_row·put-if) (PutIf 𝓤 H A memory run)) (known-clear : Triple 𝓤 (Ct #standby_row·clear-from) (ClearFrom 𝓤 H A memory run)) where
     walk : ent 𝓤 (onEntry 𝓤 H A act.signature (κ, tt) (q, tt) x at-all) (WpFn 𝓤 H Ct Λ code.function (s ∷ vint w64 i ∷ vint w64 k ∷ vals h) Post)
     walk =
         qed W ((‵ (flft κ q) ⊛ ‵ ftrue) ∷ ‵ (owns (MutSlice (named 0) κ R ∷ usize ∷ usize ∷ R ∷ []) x at-all) ∷ []) ∵ enter ! Ct Λ code.function (s ∷ vint w64 i ∷ vint w64 k ∷ vals h) _ $
@@ -122,7 +122,7 @@ module _ {M : Type 1} (𝓤 : URA M) (H : Heap 𝓤) (A : Atoms 𝓤) (W : Given
         assigns ! (of-opd ! (unit-lit !)) (from ! (stop !)) (init ! 22 refl (tt, tt)) $ closes-slice ! tt R ys us same b o $
         returns ! (look ! 21 refl) $ by ! (frees-stack 𝓤 H A W (filled tyUnit l₀ _ ∷ filled slice l₁ _ ∷ filled word l₂ _ ∷ filled word l₃ _ ∷ filled T′.mir l₄ _ ∷ filled tyUnit l₅ _ ∷ filled lent l₆ _ ∷ filled (sliceTy lent) l₇ _ ∷ filled lent l₈ _ ∷ filled (sliceTy lent) l₉ _ ∷ []) (‵ (fobs γ (codedHoleys R .code (heres R us))) ∷ ‵ (fbor κ (Held R (length us) b o γ)) ∷ ‵ (flft κ q) ∷ []) (Post vunit) exits)))))))))))))
 
-module _ {M : Type 1} (𝓤 : URA M) (H : Heap 𝓤) (A : Atoms 𝓤) (W : Given 𝓤 H A) (memory : Memory → SProp 𝓤) (run : Routine → Fun 𝓤) (𝓣 : Tables 𝓤 H) (known-put : Triple 𝓤 (𝓣 .C #row·put-if) (PutIf 𝓤 H A memory run)) (known-clear : Triple 𝓤 (𝓣 .C #row·clear-from) (ClearFrom 𝓤 H A memory run)) where
+module _ {M : Type 1} (𝓤 : URA M) (H : Heap 𝓤) (A : Atoms 𝓤) (W : Given 𝓤 H A) (memory : Memory → SProp 𝓤) (run : Routine → Fun 𝓤) (𝓣 : Tables 𝓤 H) (known-put : Triple 𝓤 (𝓣 .C #standby_row·put-if) (PutIf 𝓤 H A memory run)) (known-clear : Triple 𝓤 (𝓣 .C #standby_row·clear-from) (ClearFrom 𝓤 H A memory run)) where
   act-walks : Walks 𝓤 H A act.ended stayed (WpFn 𝓤 H (𝓣 .C) (𝓣 .Λ) code.function) (act.clauses 𝓤 H A memory run)
   act-walks = walked 𝓤 H A act.ended stayed (act.clauses 𝓤 H A memory run) (WpFn 𝓤 H (𝓣 .C) (𝓣 .Λ) code.function) (λ κs. (slice-vals, (uint-vals w64, (uint-vals w64, (vals, tt))))) (λ κs. (mut-slice-tells (named 0) (κs .0) R, (uint-tells w64, (uint-tells w64, (tells, tt)))))
       (λ κs qs bounds a g are. via 𝓤 _ (fst∗ 𝓤 _ (emp 𝓤)) (walk 𝓤 H A W memory run (κs .0) (qs .0) (a .0 .ptr .0) (a .0 .ptr .1) (a .0 .name) (a .0 .now) (a .1 .0) (a .1 .1 .0) (a .1 .1 .1 .0) (are .0 .0 .1) (are .1 .0 .1) (are .1 .1 .0 .1) (are .1 .1 .1 .0) (𝓣 .C) (𝓣 .Λ) (fmOf 𝓤 H (W .laws) 𝓣) known-put known-clear))
@@ -135,7 +135,7 @@ pub act-spec : {M : Type 1} → stated.statement M
 unfolding code.routine tablesOf
 act-spec 𝓤 H 𝓜 𝓖 𝓡 =
     entered 𝓤 H (tripleOf 𝓤 H (𝓖 .A) act.signature (act.spec 𝓤 H (𝓖 .A) (𝓜 .mem) (𝓡 .run)))
-    (tables 𝓤 H 𝓜 𝓡 code.env .C) (tables 𝓤 H 𝓜 𝓡 code.env .Λ) #row·act code.function (code.unfolded 𝓤 H 𝓜 𝓡)
+    (tables 𝓤 H 𝓜 𝓡 code.env .C) (tables 𝓤 H 𝓜 𝓡 code.env .Λ) #standby_row·act code.function (code.unfolded 𝓤 H 𝓜 𝓡)
     (act-meets 𝓤 H (𝓖 .A) (givenOf 𝓤 H 𝓜 𝓖) (𝓜 .mem) (𝓡 .run) (tablesOf 𝓤 H 𝓜 (tables 𝓤 H 𝓜 𝓡 code.env))
-    (cited 𝓤 H (PutIf 𝓤 H (𝓖 .A) (𝓜 .mem) (𝓡 .run)) 𝓜 𝓡 code.env #row·put-if put-if-def.routine code.calls-row·put-if (put-if-thm.met 𝓤 H 𝓜 𝓖 𝓡))
-    (cited 𝓤 H (ClearFrom 𝓤 H (𝓖 .A) (𝓜 .mem) (𝓡 .run)) 𝓜 𝓡 code.env #row·clear-from clear-from-def.routine code.calls-row·clear-from (clear-from-thm.met 𝓤 H 𝓜 𝓖 𝓡)))
+    (cited 𝓤 H (PutIf 𝓤 H (𝓖 .A) (𝓜 .mem) (𝓡 .run)) 𝓜 𝓡 code.env #standby_row·put-if put-if-def.routine code.calls-standby-row·put-if (put-if-thm.met 𝓤 H 𝓜 𝓖 𝓡))
+    (cited 𝓤 H (ClearFrom 𝓤 H (𝓖 .A) (𝓜 .mem) (𝓡 .run)) 𝓜 𝓡 code.env #standby_row·clear-from clear-from-def.routine code.calls-standby-row·clear-from (clear-from-thm.met 𝓤 H 𝓜 𝓖 𝓡)))

@@ -1,9 +1,9 @@
--- `row::breaks` meets its contract: the tests that were made are written out.
+-- `standby_row::breaks` meets its contract: the tests that were made are written out.
 -- Assumes nothing.
 use borrow.Author.Needs.{needs}
 use borrow.Author.Tests.{le-leb, lt-leb}
-use Rattle.row.proofs.breaks.Statement.{statement}
-use Rattle.row.proofs.breaks.Tie as tie
+use Rattle.standby_row.proofs.breaks.Statement.{statement}
+use Rattle.standby_row.proofs.breaks.Tie as tie
 
 returns : tie.Need-returns
 returns c = rw (c .before .before .if1 .taken, le-leb _ _ (c .if2 .taken))

@@ -1,4 +1,4 @@
--- `row::clear` meets its contract: a walk of its MIR, by hand: one call, of `clear_from` at 0.
+-- `standby_row::clear` meets its contract: a walk of its MIR, by hand: one call, of `clear_from` at 0.
 -- The context of the walk: [the row; its open borrow, obs and auth; _4; …; _0; …]. So local j stands at 4 + 2 · (4 − j).
 -- Assumes nothing.
 use mathlib.Core.Path.{_≡_, refl, sym, ap, subst}
@@ -34,18 +34,18 @@ use denote.Triple.Spec.{Meets, tripleOf}
 use denote.Triple.Statement.{Triple}
 use denote.Triple.Table.{entered, cited}
 use denote.Triple.Walked.{says, Stays, stay-slice, walkOf, Walks, ends-at, walked, goes-slice, walk-meets}
-use Rattle.row.specs.declared.Handle.{Handle}
-use Rattle.row.specs.Row.{clearedAll}
-use Rattle.row.proofs.Lists.{cleared-length}
-use Rattle.row.proofs.Rows.{R}
-use Rattle.row.proofs.Calls.{ClearFrom, calls-clear-from}
-use Rattle.row.proofs.clear_from.Symbol as clear-from-def
-use Rattle.row.proofs.clear_from.Symbol.{name as #row·clear-from}
-use Rattle.row.proofs.clear_from.Met as clear-from-thm
-use Rattle.row.proofs.clear.Key.{name as #row·clear}
-use Rattle.row.proofs.clear as clear
-use Rattle.row.proofs.clear.Statement as stated
-use Rattle.row.proofs.clear.Code as code
+use Rattle.standby_row.specs.declared.Handle.{Handle}
+use Rattle.standby_row.specs.Row.{clearedAll}
+use Rattle.standby_row.proofs.Lists.{cleared-length}
+use Rattle.standby_row.proofs.Rows.{R}
+use Rattle.standby_row.proofs.Calls.{ClearFrom, calls-clear-from}
+use Rattle.standby_row.proofs.clear_from.Symbol as clear-from-def
+use Rattle.standby_row.proofs.clear_from.Symbol.{name as #standby_row·clear-from}
+use Rattle.standby_row.proofs.clear_from.Met as clear-from-thm
+use Rattle.standby_row.proofs.clear.Key.{name as #standby_row·clear}
+use Rattle.standby_row.proofs.clear as clear
+use Rattle.standby_row.proofs.clear.Statement as stated
+use Rattle.standby_row.proofs.clear.Code as code
 
 abbrev stayed : Stays (clear.ended .signature .params) (clear.ended .kept)
 stayed = (stay-slice (0 ∷ []) tt (plain (λ _. R)), tt)
@@ -77,7 +77,7 @@ module _ {M : Type 1} (𝓤 : URA M) (H : Heap 𝓤) (A : Atoms 𝓤) (W : Given
       fjoin ! $ pureI ! (at-slice R (record { ptr = (b, o); name = γ; now = zs }) (s ∷ [])) (tt, (tt, tt)) (ap (λ (m : ℕ). sliceVal (b, o) m ∷ []) (sym same), subst (Room R) (sym same) room) $ fjoin ! $
       nothing ! $ move ! (1 ∷ 0 ∷ []) $ fjoin ! $ frame ! $ feqI ! (List Val) (vunit ∷ []) (vunit ∷ []) refl $ done !
 
-  module _ (Ct : Calls 𝓤 H) (Λ : Loops 𝓤 H) (fm : FmC 𝓤 H (W .laws) Ct) (known : Triple 𝓤 (Ct #row·clear-from) (ClearFrom 𝓤 H A memory run)) where
+  module _ (Ct : Calls 𝓤 H) (Λ : Loops 𝓤 H) (fm : FmC 𝓤 H (W .laws) Ct) (known : Triple 𝓤 (Ct #standby_row·clear-from) (ClearFrom 𝓤 H A memory run)) where
     walk : ent 𝓤 (onEntry 𝓤 H A clear.signature (κ, tt) (q, tt) x at) (WpFn 𝓤 H Ct Λ code.function (s ∷ []) Post)
     walk =
         qed W ((‵ (flft κ q) ⊛ ‵ ftrue) ∷ ‵ (owns (MutSlice (named 0) κ R ∷ []) x at) ∷ []) ∵ enter ! Ct Λ code.function (s ∷ []) _ $
@@ -90,7 +90,7 @@ module _ {M : Type 1} (𝓤 : URA M) (H : Heap 𝓤) (A : Atoms 𝓤) (W : Given
         assigns ! (of-opd ! (unit-lit !)) (from ! (stop !)) (init ! 12 refl (tt, tt)) $ closes-slice ! tt R ys zs same b o $
         returns ! (look ! 11 refl) $ forget ! 3 refl $ forget ! 5 refl $ forget ! 7 refl $ forget ! 9 refl $ forget ! 11 refl $ move ! (11 ∷ 12 ∷ []) $ free1 ! $ move ! (9 ∷ 10 ∷ []) $ free1 ! $ move ! (7 ∷ 8 ∷ []) $ free1 ! $ move ! (5 ∷ 6 ∷ []) $ free1 ! $ move ! (3 ∷ 4 ∷ []) $ free1 ! $ free0 ! $ by ! exits))))))
 
-module _ {M : Type 1} (𝓤 : URA M) (H : Heap 𝓤) (A : Atoms 𝓤) (W : Given 𝓤 H A) (memory : Memory → SProp 𝓤) (run : Routine → Fun 𝓤) (𝓣 : Tables 𝓤 H) (known : Triple 𝓤 (𝓣 .C #row·clear-from) (ClearFrom 𝓤 H A memory run)) where
+module _ {M : Type 1} (𝓤 : URA M) (H : Heap 𝓤) (A : Atoms 𝓤) (W : Given 𝓤 H A) (memory : Memory → SProp 𝓤) (run : Routine → Fun 𝓤) (𝓣 : Tables 𝓤 H) (known : Triple 𝓤 (𝓣 .C #standby_row·clear-from) (ClearFrom 𝓤 H A memory run)) where
   clear-walks : Walks 𝓤 H A clear.ended stayed (WpFn 𝓤 H (𝓣 .C) (𝓣 .Λ) code.function) (clear.clauses 𝓤 H A memory run)
   clear-walks = walked 𝓤 H A clear.ended stayed (clear.clauses 𝓤 H A memory run) (WpFn 𝓤 H (𝓣 .C) (𝓣 .Λ) code.function) (λ κs. (slice-vals, tt)) (λ κs. (mut-slice-tells (named 0) (κs .0) R, tt))
       (λ κs qs bounds a g are. via 𝓤 _ (fst∗ 𝓤 _ (emp 𝓤)) (walk 𝓤 H A W memory run (κs .0) (qs .0) (a .0 .ptr .0) (a .0 .ptr .1) (a .0 .name) (a .0 .now) (are .0 .0 .1) (𝓣 .C) (𝓣 .Λ) (fmOf 𝓤 H (W .laws) 𝓣) known))
@@ -103,6 +103,6 @@ pub clear-spec : {M : Type 1} → stated.statement M
 unfolding code.routine tablesOf
 clear-spec 𝓤 H 𝓜 𝓖 𝓡 =
     entered 𝓤 H (tripleOf 𝓤 H (𝓖 .A) clear.signature (clear.spec 𝓤 H (𝓖 .A) (𝓜 .mem) (𝓡 .run)))
-    (tables 𝓤 H 𝓜 𝓡 code.env .C) (tables 𝓤 H 𝓜 𝓡 code.env .Λ) #row·clear code.function (code.unfolded 𝓤 H 𝓜 𝓡)
+    (tables 𝓤 H 𝓜 𝓡 code.env .C) (tables 𝓤 H 𝓜 𝓡 code.env .Λ) #standby_row·clear code.function (code.unfolded 𝓤 H 𝓜 𝓡)
     (clear-meets 𝓤 H (𝓖 .A) (givenOf 𝓤 H 𝓜 𝓖) (𝓜 .mem) (𝓡 .run) (tablesOf 𝓤 H 𝓜 (tables 𝓤 H 𝓜 𝓡 code.env))
-    (cited 𝓤 H (ClearFrom 𝓤 H (𝓖 .A) (𝓜 .mem) (𝓡 .run)) 𝓜 𝓡 code.env #row·clear-from clear-from-def.routine code.calls-row·clear-from (clear-from-thm.met 𝓤 H 𝓜 𝓖 𝓡)))
+    (cited 𝓤 H (ClearFrom 𝓤 H (𝓖 .A) (𝓜 .mem) (𝓡 .run)) 𝓜 𝓡 code.env #standby_row·clear-from clear-from-def.routine code.calls-standby-row·clear-from (clear-from-thm.met 𝓤 H 𝓜 𝓖 𝓡)))

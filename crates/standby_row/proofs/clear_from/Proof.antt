@@ -1,4 +1,4 @@
--- `row::clear_from` meets its contract: a walk of its MIR, by hand. The borrow is opened once, before the loop, and closed once, after it. In a turn one record is taken out of the row, its first field is stored to, and it is put back.
+-- `standby_row::clear_from` meets its contract: a walk of its MIR, by hand. The borrow is opened once, before the loop, and closed once, after it. In a turn one record is taken out of the row, its first field is stored to, and it is put back.
 --     Upto, Nearer     the loop's index and row, of which it is known that freeing it from the index on gives what is to be given, and the order in which the index goes up
 --     At u             the loop's context: [the row; its open borrow, obs and auth; the locals, the last first]. So local j stands at 4 + 2 · (6 − j)
 --     ends, more       the turn that leaves the loop, and the turn that stores to a record
@@ -48,17 +48,17 @@ use denote.Triple.Table.{entered}
 use denote.Triple.Walked.{says, Stays, stay-slice, stay-dropped, walkOf, Walks, ends-at, walked, goes-slice, goes-dropped, walk-meets}
 use denote.Exit.{yes}
 use borrow.Author.Tests.{ltb-true, ltb-false}
-use Rattle.row.specs.declared.Handle.{Handle}
-use Rattle.row.specs.Row.{none, cleared, clearedFrom}
-use Rattle.row.proofs.Handle as T
-use Rattle.row.proofs.Handle.Laws as T′
-use Rattle.row.proofs.Lists.{clears-next, clears-end}
-use Rattle.row.proofs.Rows.{R, vals, tells, makes, product-fits, place-at, by-bool}
-use Rattle.row.proofs.clear_from.Key.{name as #row·clear-from}
-use Rattle.row.proofs.clear_from as clear-from
-use Rattle.row.proofs.clear_from.Statement as stated
-use Rattle.row.proofs.clear_from.Code as code
-use Rattle.row.proofs.clear_from.Code.Mir as mir
+use Rattle.standby_row.specs.declared.Handle.{Handle}
+use Rattle.standby_row.specs.Row.{none, cleared, clearedFrom}
+use Rattle.standby_row.proofs.Handle as T
+use Rattle.standby_row.proofs.Handle.Laws as T′
+use Rattle.standby_row.proofs.Lists.{clears-next, clears-end}
+use Rattle.standby_row.proofs.Rows.{R, vals, tells, makes, product-fits, place-at, by-bool}
+use Rattle.standby_row.proofs.clear_from.Key.{name as #standby_row·clear-from}
+use Rattle.standby_row.proofs.clear_from as clear-from
+use Rattle.standby_row.proofs.clear_from.Statement as stated
+use Rattle.standby_row.proofs.clear_from.Code as code
+use Rattle.standby_row.proofs.clear_from.Code.Mir as mir
 
 abbrev stayed : Stays (clear-from.ended .signature .params) (clear-from.ended .kept)
 stayed = (stay-slice (0 ∷ []) tt (plain (λ _. R)), (stay-dropped (plain (λ _. usize)) yes, tt))
@@ -208,5 +208,5 @@ pub clear-from-spec : {M : Type 1} → stated.statement M
 unfolding code.routine tablesOf
 clear-from-spec 𝓤 H 𝓜 𝓖 𝓡 =
     entered 𝓤 H (tripleOf 𝓤 H (𝓖 .A) clear-from.signature (clear-from.spec 𝓤 H (𝓖 .A) (𝓜 .mem) (𝓡 .run)))
-    (tables 𝓤 H 𝓜 𝓡 code.env .C) (tables 𝓤 H 𝓜 𝓡 code.env .Λ) #row·clear-from code.function (code.unfolded 𝓤 H 𝓜 𝓡)
+    (tables 𝓤 H 𝓜 𝓡 code.env .C) (tables 𝓤 H 𝓜 𝓡 code.env .Λ) #standby_row·clear-from code.function (code.unfolded 𝓤 H 𝓜 𝓡)
     (clear-from-meets 𝓤 H (𝓖 .A) (givenOf 𝓤 H 𝓜 𝓖) (𝓜 .mem) (𝓡 .run) (tablesOf 𝓤 H 𝓜 (tables 𝓤 H 𝓜 𝓡 code.env)))

@@ -1,4 +1,4 @@
--- `row::find` meets its contract: a walk of its MIR, by hand. The slice is looked into once, before the loop, and shut where the function returns: in the middle of a turn, or after the loop.
+-- `standby_row::find` meets its contract: a walk of its MIR, by hand. The slice is looked into once, before the loop, and shut where the function returns: in the middle of a turn, or after the loop.
 -- In a turn one record is taken out of the row, copied, and put back, and `is_of` is called with the copy; of it the proof knows only that it meets its contract. Nothing is had of the parameters at exit (`stay-dropped`).
 --     Upto, Nearer     the loop's index, with what is known of it (`Lists.antt`'s `Sought`), and the order in which it goes up
 --     At i             the loop's context: [a share of the row; its open borrow; the fractured borrow; res; the locals, the last first]. So local j stands at 4 + 2 · (9 − j)
@@ -51,21 +51,21 @@ use denote.Triple.Table.{entered, cited}
 use denote.Triple.Walked.{says, Stays, stay-dropped, walkOf, Walks, ends-at, walked, goes-dropped, walk-meets}
 use denote.Exit.{yes}
 use borrow.Author.Tests.{ltb-true, ltb-false}
-use Rattle.row.specs.declared.Handle.{Handle}
-use Rattle.row.specs.Row.{none, isOf, firstOf}
-use Rattle.row.proofs.Handle as T
-use Rattle.row.proofs.Handle.Laws as T′
-use Rattle.row.proofs.Lists.{Sought, starts, goes-on, found, over}
-use Rattle.row.proofs.Rows.{R, val, vals, tells, copies, makes, product-fits, place-at, by-bool, passes-by, goes-in}
-use Rattle.row.proofs.is_of as is-of
-use Rattle.row.proofs.is_of.Symbol as is-of-def
-use Rattle.row.proofs.is_of.Symbol.{name as #row·is-of}
-use Rattle.row.proofs.is_of.Met as is-of-thm
-use Rattle.row.proofs.find.Key.{name as #row·find}
-use Rattle.row.proofs.find as find
-use Rattle.row.proofs.find.Statement as stated
-use Rattle.row.proofs.find.Code as code
-use Rattle.row.proofs.find.Code.Mir as mir
+use Rattle.standby_row.specs.declared.Handle.{Handle}
+use Rattle.standby_row.specs.Row.{none, isOf, firstOf}
+use Rattle.standby_row.proofs.Handle as T
+use Rattle.standby_row.proofs.Handle.Laws as T′
+use Rattle.standby_row.proofs.Lists.{Sought, starts, goes-on, found, over}
+use Rattle.standby_row.proofs.Rows.{R, val, vals, tells, copies, makes, product-fits, place-at, by-bool, passes-by, goes-in}
+use Rattle.standby_row.proofs.is_of as is-of
+use Rattle.standby_row.proofs.is_of.Symbol as is-of-def
+use Rattle.standby_row.proofs.is_of.Symbol.{name as #standby_row·is-of}
+use Rattle.standby_row.proofs.is_of.Met as is-of-thm
+use Rattle.standby_row.proofs.find.Key.{name as #standby_row·find}
+use Rattle.standby_row.proofs.find as find
+use Rattle.standby_row.proofs.find.Statement as stated
+use Rattle.standby_row.proofs.find.Code as code
+use Rattle.standby_row.proofs.find.Code.Mir as mir
 
 abbrev stayed : Stays (find.ended .signature .params) (find.ended .kept)
 stayed = (stay-dropped (shrSliceOf (0 ∷ []) tt (plain (λ _. R))) yes, (stay-dropped (plain (λ _. u32)) yes, tt))
@@ -137,7 +137,7 @@ module _ {M : Type 1} (𝓤 : URA M) (H : Heap 𝓤) (A : Atoms 𝓤) (W : Given
   abbrev Res : Item 𝓤
   Res = ‵ (fres γ (codedHoleys R .code (heres R ys)))
 
-  module _ (𝓣 : Tables 𝓤 H) (fm : FmC 𝓤 H (W .laws) (𝓣 .C)) (known : Triple 𝓤 (𝓣 .C #row·is-of) (Test 𝓤 H A memory run)) (q′ : Share) (l₀ l₁ l₂ l₃ l₄ l₅ l₆ l₇ l₈ l₉ : ℕ) where
+  module _ (𝓣 : Tables 𝓤 H) (fm : FmC 𝓤 H (W .laws) (𝓣 .C)) (known : Triple 𝓤 (𝓣 .C #standby_row·is-of) (Test 𝓤 H A memory run)) (q′ : Share) (l₀ l₁ l₂ l₃ l₄ l₅ l₆ l₇ l₈ l₉ : ℕ) where
     abbrev C : Calls 𝓤 H
     C = 𝓣 .C
 
@@ -218,7 +218,7 @@ module _ {M : Type 1} (𝓤 : URA M) (H : Heap 𝓤) (A : Atoms 𝓤) (W : Given
     turns : (i : Upto) → Sq W (At i) (runs C Λ En mir.turn-1 (anyQ (Turned i)))
     turns i = by-bool (ltb (i .0) n) (more i) (ends i)
 
-  walk : (𝓣 : Tables 𝓤 H) → FmC 𝓤 H (W .laws) (𝓣 .C) → Triple 𝓤 (𝓣 .C #row·is-of) (Test 𝓤 H A memory run) → ent 𝓤 (onEntry 𝓤 H A find.signature (κ, tt) (q, tt) x at) (WpFn 𝓤 H (𝓣 .C) (𝓣 .Λ) code.function (s ∷ vint w32 k ∷ []) Post)
+  walk : (𝓣 : Tables 𝓤 H) → FmC 𝓤 H (W .laws) (𝓣 .C) → Triple 𝓤 (𝓣 .C #standby_row·is-of) (Test 𝓤 H A memory run) → ent 𝓤 (onEntry 𝓤 H A find.signature (κ, tt) (q, tt) x at) (WpFn 𝓤 H (𝓣 .C) (𝓣 .Λ) code.function (s ∷ vint w32 k ∷ []) Post)
   walk 𝓣 fm known =
       qed W ((‵ (flft κ q) ⊛ ‵ ftrue) ∷ ‵ (owns (ShrSlice (named 0) κ R ∷ u32 ∷ []) x at) ∷ []) ∵ enter ! (𝓣 .C) (𝓣 .Λ) code.function (s ∷ vint w32 k ∷ []) _ $
       alloc1 ! (λ l₀. alloc1 ! (λ l₁. alloc1 ! (λ l₂. alloc1 ! (λ l₃. alloc1 ! (λ l₄. alloc1 ! (λ l₅. alloc1 ! (λ l₆. alloc1 ! (λ l₇. alloc1 ! (λ l₈. alloc1 ! (λ l₉. alloc0 ! $ params1 ! $
@@ -231,7 +231,7 @@ module _ {M : Type 1} (𝓤 : URA M) (H : Heap 𝓤) (A : Atoms 𝓤) (W : Given
       keep ! (0 ∷ 1 ∷ 2 ∷ 4 ∷ 6 ∷ 7 ∷ 8 ∷ 9 ∷ 10 ∷ 11 ∷ 12 ∷ 13 ∷ 14 ∷ 15 ∷ 16 ∷ 17 ∷ 18 ∷ 19 ∷ 20 ∷ 21 ∷ 22 ∷ 23 ∷ 24 ∷ 25 ∷ []) $
       first ! $ blocks ! $ loops ! 𝓣 Nearer Nearer-wf (At 𝓣 fm known q′ l₀ l₁ l₂ l₃ l₄ l₅ l₆ l₇ l₈ l₉) (turns 𝓣 fm known q′ l₀ l₁ l₂ l₃ l₄ l₅ l₆ l₇ l₈ l₉) (0, (zero-le, starts (is k) ys)))))))))))))
 
-module _ {M : Type 1} (𝓤 : URA M) (H : Heap 𝓤) (A : Atoms 𝓤) (W : Given 𝓤 H A) (memory : Memory → SProp 𝓤) (run : Routine → Fun 𝓤) (𝓣 : Tables 𝓤 H) (known : Triple 𝓤 (𝓣 .C #row·is-of) (Test 𝓤 H A memory run)) where
+module _ {M : Type 1} (𝓤 : URA M) (H : Heap 𝓤) (A : Atoms 𝓤) (W : Given 𝓤 H A) (memory : Memory → SProp 𝓤) (run : Routine → Fun 𝓤) (𝓣 : Tables 𝓤 H) (known : Triple 𝓤 (𝓣 .C #standby_row·is-of) (Test 𝓤 H A memory run)) where
   find-walks : Walks 𝓤 H A find.ended stayed (WpFn 𝓤 H (𝓣 .C) (𝓣 .Λ) code.function) (find.clauses 𝓤 H A memory run)
   find-walks = walked 𝓤 H A find.ended stayed (find.clauses 𝓤 H A memory run) (WpFn 𝓤 H (𝓣 .C) (𝓣 .Λ) code.function) (λ κs. (slice-vals, (uint-vals w32, tt))) (λ κs. (shr-slice-tells (named 0) (κs .0) R, (uint-tells w32, tt)))
       (λ κs qs bounds a g are. via 𝓤 _ (fst∗ 𝓤 _ (emp 𝓤)) (walk 𝓤 H A W memory run (κs .0) (qs .0) (a .0 .ptr .0) (a .0 .ptr .1) (a .0 .name) (a .0 .now) (a .1 .0) (are .0 .0 .1) (are .1 .0 .1) 𝓣 (fmOf 𝓤 H (W .laws) 𝓣) known))
@@ -244,6 +244,6 @@ pub find-spec : {M : Type 1} → stated.statement M
 unfolding code.routine tablesOf
 find-spec 𝓤 H 𝓜 𝓖 𝓡 =
     entered 𝓤 H (tripleOf 𝓤 H (𝓖 .A) find.signature (find.spec 𝓤 H (𝓖 .A) (𝓜 .mem) (𝓡 .run)))
-    (tables 𝓤 H 𝓜 𝓡 code.env .C) (tables 𝓤 H 𝓜 𝓡 code.env .Λ) #row·find code.function (code.unfolded 𝓤 H 𝓜 𝓡)
+    (tables 𝓤 H 𝓜 𝓡 code.env .C) (tables 𝓤 H 𝓜 𝓡 code.env .Λ) #standby_row·find code.function (code.unfolded 𝓤 H 𝓜 𝓡)
     (find-meets 𝓤 H (𝓖 .A) (givenOf 𝓤 H 𝓜 𝓖) (𝓜 .mem) (𝓡 .run) (tablesOf 𝓤 H 𝓜 (tables 𝓤 H 𝓜 𝓡 code.env))
-    (cited 𝓤 H (Test 𝓤 H (𝓖 .A) (𝓜 .mem) (𝓡 .run)) 𝓜 𝓡 code.env #row·is-of is-of-def.routine code.calls-row·is-of (is-of-thm.met 𝓤 H 𝓜 𝓖 𝓡)))
+    (cited 𝓤 H (Test 𝓤 H (𝓖 .A) (𝓜 .mem) (𝓡 .run)) 𝓜 𝓡 code.env #standby_row·is-of is-of-def.routine code.calls-standby-row·is-of (is-of-thm.met 𝓤 H 𝓜 𝓖 𝓡)))

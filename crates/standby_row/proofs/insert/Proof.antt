@@ -1,4 +1,4 @@
--- `row::insert` meets its contract: a walk of its MIR, by hand: the smallest straight-line function over an open row, with two calls by the rules of `Calls.antt`.
+-- `standby_row::insert` meets its contract: a walk of its MIR, by hand: the smallest straight-line function over an open row, with two calls by the rules of `Calls.antt`.
 -- The context of the walk: [the row; its open borrow, obs and auth; _8; …; _0; …]. So local j stands at 4 + 2 · (8 − j).
 -- Assumes nothing.
 use mathlib.Core.Path.{_≡_, refl, sym, ap, subst}
@@ -39,22 +39,22 @@ use denote.Triple.Statement.{Triple}
 use denote.Triple.Table.{entered, cited}
 use denote.Triple.Walked.{says, Stays, stay-slice, stay-dropped, walkOf, Walks, ends-at, walked, goes-slice, goes-dropped, walk-meets}
 use denote.Exit.{yes}
-use Rattle.row.specs.declared.Handle.{Handle}
-use Rattle.row.specs.Row.{freeOf}
-use Rattle.row.proofs.Handle as T
-use Rattle.row.proofs.Handle.Laws as T′
-use Rattle.row.proofs.Rows.{R, vals, tells}
-use Rattle.row.proofs.Calls.{FindFree, PutIf, calls-find-free, calls-put-if}
-use Rattle.row.proofs.find_free.Symbol as find-free-def
-use Rattle.row.proofs.find_free.Symbol.{name as #row·find-free}
-use Rattle.row.proofs.find_free.Met as find-free-thm
-use Rattle.row.proofs.put_if.Symbol as put-if-def
-use Rattle.row.proofs.put_if.Symbol.{name as #row·put-if}
-use Rattle.row.proofs.put_if.Met as put-if-thm
-use Rattle.row.proofs.insert.Key.{name as #row·insert}
-use Rattle.row.proofs.insert as insert
-use Rattle.row.proofs.insert.Statement as stated
-use Rattle.row.proofs.insert.Code as code
+use Rattle.standby_row.specs.declared.Handle.{Handle}
+use Rattle.standby_row.specs.Row.{freeOf}
+use Rattle.standby_row.proofs.Handle as T
+use Rattle.standby_row.proofs.Handle.Laws as T′
+use Rattle.standby_row.proofs.Rows.{R, vals, tells}
+use Rattle.standby_row.proofs.Calls.{FindFree, PutIf, calls-find-free, calls-put-if}
+use Rattle.standby_row.proofs.find_free.Symbol as find-free-def
+use Rattle.standby_row.proofs.find_free.Symbol.{name as #standby_row·find-free}
+use Rattle.standby_row.proofs.find_free.Met as find-free-thm
+use Rattle.standby_row.proofs.put_if.Symbol as put-if-def
+use Rattle.standby_row.proofs.put_if.Symbol.{name as #standby_row·put-if}
+use Rattle.standby_row.proofs.put_if.Met as put-if-thm
+use Rattle.standby_row.proofs.insert.Key.{name as #standby_row·insert}
+use Rattle.standby_row.proofs.insert as insert
+use Rattle.standby_row.proofs.insert.Statement as stated
+use Rattle.standby_row.proofs.insert.Code as code
 
 abbrev stayed : Stays (insert.ended .signature .params) (insert.ended .kept)
 stayed = (stay-slice (0 ∷ []) tt (plain (λ _. R)), (stay-dropped (plain (λ _. R)) yes, tt))
@@ -86,7 +86,7 @@ module _ {M : Type 1} (𝓤 : URA M) (H : Heap 𝓤) (A : Atoms 𝓤) (W : Given
       fjoin ! $ pureI ! (at-slice R (record { ptr = (b, o); name = γ; now = zs }) (s ∷ [])) (tt, (tt, tt)) (ap (λ (m : ℕ). sliceVal (b, o) m ∷ []) (sym same), subst (Room R) (sym same) room) $ fjoin ! $
       nothing ! $ nothing ! $ fjoin ! $ move ! (1 ∷ 0 ∷ []) $ fjoin ! $ frame ! $ owned ! usize (Is usize) (uint-makes 𝓤 H A W w64) (freeOf ys) _ (refl, fits) $ done !
 
-  module _ (Ct : Calls 𝓤 H) (Λ : Loops 𝓤 H) (fm : FmC 𝓤 H (W .laws) Ct) (known-find : Triple 𝓤 (Ct #row·find-free) (FindFree 𝓤 H A memory run)) (known-put : Triple 𝓤 (Ct #row·put-if) (PutIf 𝓤 H A memory run)) where
+  module _ (Ct : Calls 𝓤 H) (Λ : Loops 𝓤 H) (fm : FmC 𝓤 H (W .laws) Ct) (known-find : Triple 𝓤 (Ct #standby_row·find-free) (FindFree 𝓤 H A memory run)) (known-put : Triple 𝓤 (Ct #standby_row·put-if) (PutIf 𝓤 H A memory run)) where
     walk : ent 𝓤 (onEntry 𝓤 H A insert.signature (κ, tt) (q, tt) x at) (WpFn 𝓤 H Ct Λ code.function (s ∷ vals h) Post)
     walk =
         qed W ((‵ (flft κ q) ⊛ ‵ ftrue) ∷ ‵ (owns (MutSlice (named 0) κ R ∷ R ∷ []) x at) ∷ []) ∵ enter ! Ct Λ code.function (s ∷ vals h) _ $
@@ -102,7 +102,7 @@ module _ {M : Type 1} (𝓤 : URA M) (H : Heap 𝓤) (A : Atoms 𝓤) (W : Given
         assigns ! (of-opd ! (load ! (from ! (stop !)) (look ! 14 refl))) (from ! (stop !)) (init ! 20 refl (tt, record { fits = found .1 })) $ closes-slice ! tt R ys zs same b o $
         returns ! (look ! 19 refl) $ forget ! 3 refl $ forget ! 5 refl $ forget ! 7 refl $ forget ! 9 refl $ forget ! 11 refl $ forget ! 13 refl $ forget ! 15 refl $ forget ! 17 refl $ forget ! 19 refl $ move ! (19 ∷ 20 ∷ []) $ free1 ! $ move ! (17 ∷ 18 ∷ []) $ free1 ! $ move ! (15 ∷ 16 ∷ []) $ free1 ! $ move ! (13 ∷ 14 ∷ []) $ free1 ! $ move ! (11 ∷ 12 ∷ []) $ free1 ! $ move ! (9 ∷ 10 ∷ []) $ free1 ! $ move ! (7 ∷ 8 ∷ []) $ free1 ! $ move ! (5 ∷ 6 ∷ []) $ free1 ! $ move ! (3 ∷ 4 ∷ []) $ free1 ! $ free0 ! $ by ! (exits (found .1)))))))))))))
 
-module _ {M : Type 1} (𝓤 : URA M) (H : Heap 𝓤) (A : Atoms 𝓤) (W : Given 𝓤 H A) (memory : Memory → SProp 𝓤) (run : Routine → Fun 𝓤) (𝓣 : Tables 𝓤 H) (known-find : Triple 𝓤 (𝓣 .C #row·find-free) (FindFree 𝓤 H A memory run)) (known-put : Triple 𝓤 (𝓣 .C #row·put-if) (PutIf 𝓤 H A memory run)) where
+module _ {M : Type 1} (𝓤 : URA M) (H : Heap 𝓤) (A : Atoms 𝓤) (W : Given 𝓤 H A) (memory : Memory → SProp 𝓤) (run : Routine → Fun 𝓤) (𝓣 : Tables 𝓤 H) (known-find : Triple 𝓤 (𝓣 .C #standby_row·find-free) (FindFree 𝓤 H A memory run)) (known-put : Triple 𝓤 (𝓣 .C #standby_row·put-if) (PutIf 𝓤 H A memory run)) where
   insert-walks : Walks 𝓤 H A insert.ended stayed (WpFn 𝓤 H (𝓣 .C) (𝓣 .Λ) code.function) (insert.clauses 𝓤 H A memory run)
   insert-walks = walked 𝓤 H A insert.ended stayed (insert.clauses 𝓤 H A memory run) (WpFn 𝓤 H (𝓣 .C) (𝓣 .Λ) code.function) (λ κs. (slice-vals, (vals, tt))) (λ κs. (mut-slice-tells (named 0) (κs .0) R, (tells, tt)))
       (λ κs qs bounds a g are. via 𝓤 _ (fst∗ 𝓤 _ (emp 𝓤)) (walk 𝓤 H A W memory run (κs .0) (qs .0) (a .0 .ptr .0) (a .0 .ptr .1) (a .0 .name) (a .0 .now) (a .1 .0) (are .0 .0 .1) (are .1 .0) (𝓣 .C) (𝓣 .Λ) (fmOf 𝓤 H (W .laws) 𝓣) known-find known-put))
@@ -115,7 +115,7 @@ pub insert-spec : {M : Type 1} → stated.statement M
 unfolding code.routine tablesOf
 insert-spec 𝓤 H 𝓜 𝓖 𝓡 =
     entered 𝓤 H (tripleOf 𝓤 H (𝓖 .A) insert.signature (insert.spec 𝓤 H (𝓖 .A) (𝓜 .mem) (𝓡 .run)))
-    (tables 𝓤 H 𝓜 𝓡 code.env .C) (tables 𝓤 H 𝓜 𝓡 code.env .Λ) #row·insert code.function (code.unfolded 𝓤 H 𝓜 𝓡)
+    (tables 𝓤 H 𝓜 𝓡 code.env .C) (tables 𝓤 H 𝓜 𝓡 code.env .Λ) #standby_row·insert code.function (code.unfolded 𝓤 H 𝓜 𝓡)
     (insert-meets 𝓤 H (𝓖 .A) (givenOf 𝓤 H 𝓜 𝓖) (𝓜 .mem) (𝓡 .run) (tablesOf 𝓤 H 𝓜 (tables 𝓤 H 𝓜 𝓡 code.env))
-    (cited 𝓤 H (FindFree 𝓤 H (𝓖 .A) (𝓜 .mem) (𝓡 .run)) 𝓜 𝓡 code.env #row·find-free find-free-def.routine code.calls-row·find-free (find-free-thm.met 𝓤 H 𝓜 𝓖 𝓡))
-    (cited 𝓤 H (PutIf 𝓤 H (𝓖 .A) (𝓜 .mem) (𝓡 .run)) 𝓜 𝓡 code.env #row·put-if put-if-def.routine code.calls-row·put-if (put-if-thm.met 𝓤 H 𝓜 𝓖 𝓡)))
+    (cited 𝓤 H (FindFree 𝓤 H (𝓖 .A) (𝓜 .mem) (𝓡 .run)) 𝓜 𝓡 code.env #standby_row·find-free find-free-def.routine code.calls-standby-row·find-free (find-free-thm.met 𝓤 H 𝓜 𝓖 𝓡))
+    (cited 𝓤 H (PutIf 𝓤 H (𝓖 .A) (𝓜 .mem) (𝓡 .run)) 𝓜 𝓡 code.env #standby_row·put-if put-if-def.routine code.calls-standby-row·put-if (put-if-thm.met 𝓤 H 𝓜 𝓖 𝓡)))

@@ -1,8 +1,8 @@
--- `row::is_of` meets its contract: in a used record the answer is the second test.
+-- `standby_row::is_of` meets its contract: in a used record the answer is the second test.
 -- Assumes nothing.
 use borrow.Author.Needs.{needs}
-use Rattle.row.proofs.is_of.Statement.{statement}
-use Rattle.row.proofs.is_of.Tie as tie
+use Rattle.standby_row.proofs.is_of.Statement.{statement}
+use Rattle.standby_row.proofs.is_of.Tie as tie
 
 returns : tie.Need-returns
 returns c = rw (c .before .if1 .taken)

@@ -1,4 +1,4 @@
--- `row::look` meets its contract: a walk of its MIR, by hand. The `&[Handle]` is handed on to four callees at its own lifetime (`Lent.antt`'s `calls-handed`). Nothing is had of the parameters at exit (`stay-dropped`).
+-- `standby_row::look` meets its contract: a walk of its MIR, by hand. The `&[Handle]` is handed on to four callees at its own lifetime (`Lent.antt`'s `calls-handed`). Nothing is had of the parameters at exit (`stay-dropped`).
 --     to, goes, told   of each callee what the rule asks.        seen-is      what is found is a `Seen`
 -- The context of the walk: [the token and what the slice owns; _9; …; _0; …]. So local j stands at 1 + 2 · (9 − j).
 -- Assumes nothing.
@@ -38,38 +38,38 @@ use denote.Triple.Clauses.{ensured, lasts}
 use denote.Triple.Table.{entered, cited}
 use denote.Triple.Walked.{says, Stays, stay-dropped, walkOf, Walks, ends-at, walked, goes-dropped, walk-meets}
 use denote.Exit.{yes}
-use Rattle.row.specs.declared.Handle.{Handle}
-use Rattle.row.specs.declared.Seen.{Seen}
-use Rattle.row.specs.Row.{none, findOf, freeFor, brokenOf, seenOf}
-use Rattle.row.proofs.Handle as T
-use Rattle.row.proofs.Handle.Laws as T′
-use Rattle.row.proofs.Seen as Seen-type
-use Rattle.row.proofs.Seen.Laws as Seen-laws
-use Rattle.row.proofs.Rows.{R, val, vals, tells}
-use Rattle.row.proofs.Records.{R-Seen, val-Seen, vals-Seen, makes-Seen}
-use Rattle.row.proofs.Lent.{calls-handed, told-shared}
-use Rattle.row.proofs.Locals.{filled, frees-stack}
-use Rattle.row.proofs.Calls.{Find, FindFree, FindBroken, GetOr}
-use Rattle.row.proofs.find as find
-use Rattle.row.proofs.find.Symbol as find-def
-use Rattle.row.proofs.find.Symbol.{name as #row·find}
-use Rattle.row.proofs.find.Met as find-thm
-use Rattle.row.proofs.find_free as find-free
-use Rattle.row.proofs.find_free.Symbol as find-free-def
-use Rattle.row.proofs.find_free.Symbol.{name as #row·find-free}
-use Rattle.row.proofs.find_free.Met as find-free-thm
-use Rattle.row.proofs.find_broken as find-broken
-use Rattle.row.proofs.find_broken.Symbol as find-broken-def
-use Rattle.row.proofs.find_broken.Symbol.{name as #row·find-broken}
-use Rattle.row.proofs.find_broken.Met as find-broken-thm
-use Rattle.row.proofs.get_or as get-or
-use Rattle.row.proofs.get_or.Symbol as get-or-def
-use Rattle.row.proofs.get_or.Symbol.{name as #row·get-or}
-use Rattle.row.proofs.get_or.Met as get-or-thm
-use Rattle.row.proofs.look.Key.{name as #row·look}
-use Rattle.row.proofs.look as looks
-use Rattle.row.proofs.look.Statement as stated
-use Rattle.row.proofs.look.Code as code
+use Rattle.standby_row.specs.declared.Handle.{Handle}
+use Rattle.standby_row.specs.declared.Seen.{Seen}
+use Rattle.standby_row.specs.Row.{none, findOf, freeFor, brokenOf, seenOf}
+use Rattle.standby_row.proofs.Handle as T
+use Rattle.standby_row.proofs.Handle.Laws as T′
+use Rattle.standby_row.proofs.Seen as Seen-type
+use Rattle.standby_row.proofs.Seen.Laws as Seen-laws
+use Rattle.standby_row.proofs.Rows.{R, val, vals, tells}
+use Rattle.standby_row.proofs.Records.{R-Seen, val-Seen, vals-Seen, makes-Seen}
+use Rattle.standby_row.proofs.Lent.{calls-handed, told-shared}
+use Rattle.standby_row.proofs.Locals.{filled, frees-stack}
+use Rattle.standby_row.proofs.Calls.{Find, FindFree, FindBroken, GetOr}
+use Rattle.standby_row.proofs.find as find
+use Rattle.standby_row.proofs.find.Symbol as find-def
+use Rattle.standby_row.proofs.find.Symbol.{name as #standby_row·find}
+use Rattle.standby_row.proofs.find.Met as find-thm
+use Rattle.standby_row.proofs.find_free as find-free
+use Rattle.standby_row.proofs.find_free.Symbol as find-free-def
+use Rattle.standby_row.proofs.find_free.Symbol.{name as #standby_row·find-free}
+use Rattle.standby_row.proofs.find_free.Met as find-free-thm
+use Rattle.standby_row.proofs.find_broken as find-broken
+use Rattle.standby_row.proofs.find_broken.Symbol as find-broken-def
+use Rattle.standby_row.proofs.find_broken.Symbol.{name as #standby_row·find-broken}
+use Rattle.standby_row.proofs.find_broken.Met as find-broken-thm
+use Rattle.standby_row.proofs.get_or as get-or
+use Rattle.standby_row.proofs.get_or.Symbol as get-or-def
+use Rattle.standby_row.proofs.get_or.Symbol.{name as #standby_row·get-or}
+use Rattle.standby_row.proofs.get_or.Met as get-or-thm
+use Rattle.standby_row.proofs.look.Key.{name as #standby_row·look}
+use Rattle.standby_row.proofs.look as looks
+use Rattle.standby_row.proofs.look.Statement as stated
+use Rattle.standby_row.proofs.look.Code as code
 
 abbrev stayed : Stays (looks.ended .signature .params) (looks.ended .kept)
 stayed = (stay-dropped (shrSliceOf (0 ∷ []) tt (plain (λ _. R))) yes, (stay-dropped (plain (λ _. u32)) yes, (stay-dropped (plain (λ _. usize)) yes, (stay-dropped (plain (λ _. usize)) yes, tt))))
@@ -153,7 +153,7 @@ module _ {M : Type 1} (𝓤 : URA M) (H : Heap 𝓤) (A : Atoms 𝓤) (W : Given
   told-get-or : (u : Val) → ent 𝓤 (GetOr 𝓤 H A memory run .post to-get-or u) (H .⇛ (sep 𝓤 (A .lft κ q) (fact 𝓤 ((u ≡ val (getD ys (findOf ys k) none)) × Is R (getD ys (findOf ys k) none) (vals (getD ys (findOf ys k) none))))))
   told-get-or u = told-shared W κ q u R vals tells (getD ys (findOf ys k) none) (ensured 𝓤 H A get-or.ended (get-or.clauses 𝓤 H A memory run) (κ, tt) (x .0, ((findOf ys k), tt)) tt) (λ r. exE 𝓤 _ (λ ws. snd∗ 𝓤 (sem 𝓤 H A (lasts get-or.ended (κ, tt) (x .0, ((findOf ys k), tt)) ws)) (fact 𝓤 (r ≡ getD ys (findOf ys k) none))))
 
-  module _ (Ct : Calls 𝓤 H) (Λ : Loops 𝓤 H) (fm : FmC 𝓤 H (W .laws) Ct) (known-find : Triple 𝓤 (Ct #row·find) (Find 𝓤 H A memory run)) (known-find-free : Triple 𝓤 (Ct #row·find-free) (FindFree 𝓤 H A memory run)) (known-find-broken : Triple 𝓤 (Ct #row·find-broken) (FindBroken 𝓤 H A memory run)) (known-get-or : Triple 𝓤 (Ct #row·get-or) (GetOr 𝓤 H A memory run)) where
+  module _ (Ct : Calls 𝓤 H) (Λ : Loops 𝓤 H) (fm : FmC 𝓤 H (W .laws) Ct) (known-find : Triple 𝓤 (Ct #standby_row·find) (Find 𝓤 H A memory run)) (known-find-free : Triple 𝓤 (Ct #standby_row·find-free) (FindFree 𝓤 H A memory run)) (known-find-broken : Triple 𝓤 (Ct #standby_row·find-broken) (FindBroken 𝓤 H A memory run)) (known-get-or : Triple 𝓤 (Ct #standby_row·get-or) (GetOr 𝓤 H A memory run)) where
     walk : ent 𝓤 (onEntry 𝓤 H A looks.signature (κ, tt) (q, tt) x at-all) (WpFn 𝓤 H Ct Λ code.function (s ∷ vint w32 k ∷ vint w64 places ∷ vint w64 most ∷ []) Post)
     walk =
         qed W ((‵ (flft κ q) ⊛ ‵ ftrue) ∷ ‵ (owns (ShrSlice (named 0) κ R ∷ u32 ∷ usize ∷ usize ∷ []) x at-all) ∷ []) ∵ enter ! Ct Λ code.function (s ∷ vint w32 k ∷ vint w64 places ∷ vint w64 most ∷ []) _ $
@@ -169,7 +169,7 @@ module _ {M : Type 1} (𝓤 : URA M) (H : Heap 𝓤) (A : Atoms 𝓤) (W : Given
         assigns ! (agg ! (and-then ! (load ! (from ! (stop !)) (look ! 9 refl)) (and-then ! (load ! (from ! (stop !)) (look ! 5 refl)) (and-then ! (load ! (from ! (stop !)) (look ! 7 refl)) (and-then ! (load ! (from ! (stop !)) (look ! 3 refl)) (and-then ! (load ! (from ! (stop !)) (look ! 1 refl)) (no-more !))))))) (from ! (stop !)) (init ! 19 refl (LL.lawful Seen-type.the-type Seen-laws.the-laws 𝓤 H A W .typed seen (vals-Seen seen) (seen-is (f₅ .1) (f₆ .1) (f₈ .1) f₉) .0)) $
         returns ! (look ! 19 refl) $ split ! $ move ! (1 ∷ []) $ drop ! $ by ! (frees-stack 𝓤 H A W (filled Seen-laws.mir l₀ _ ∷ filled slice l₁ _ ∷ filled (tyInt w32) l₂ _ ∷ filled word l₃ _ ∷ filled word l₄ _ ∷ filled word l₅ _ ∷ filled word l₆ _ ∷ filled word l₇ _ ∷ filled word l₈ _ ∷ filled T′.mir l₉ _ ∷ []) (‵ (flft κ q) ∷ []) (Post (val-Seen seen)) (exits (seen-is (f₅ .1) (f₆ .1) (f₈ .1) f₉)))))))))))))))))
 
-module _ {M : Type 1} (𝓤 : URA M) (H : Heap 𝓤) (A : Atoms 𝓤) (W : Given 𝓤 H A) (memory : Memory → SProp 𝓤) (run : Routine → Fun 𝓤) (𝓣 : Tables 𝓤 H) (known-find : Triple 𝓤 (𝓣 .C #row·find) (Find 𝓤 H A memory run)) (known-find-free : Triple 𝓤 (𝓣 .C #row·find-free) (FindFree 𝓤 H A memory run)) (known-find-broken : Triple 𝓤 (𝓣 .C #row·find-broken) (FindBroken 𝓤 H A memory run)) (known-get-or : Triple 𝓤 (𝓣 .C #row·get-or) (GetOr 𝓤 H A memory run)) where
+module _ {M : Type 1} (𝓤 : URA M) (H : Heap 𝓤) (A : Atoms 𝓤) (W : Given 𝓤 H A) (memory : Memory → SProp 𝓤) (run : Routine → Fun 𝓤) (𝓣 : Tables 𝓤 H) (known-find : Triple 𝓤 (𝓣 .C #standby_row·find) (Find 𝓤 H A memory run)) (known-find-free : Triple 𝓤 (𝓣 .C #standby_row·find-free) (FindFree 𝓤 H A memory run)) (known-find-broken : Triple 𝓤 (𝓣 .C #standby_row·find-broken) (FindBroken 𝓤 H A memory run)) (known-get-or : Triple 𝓤 (𝓣 .C #standby_row·get-or) (GetOr 𝓤 H A memory run)) where
   look-walks : Walks 𝓤 H A looks.ended stayed (WpFn 𝓤 H (𝓣 .C) (𝓣 .Λ) code.function) (looks.clauses 𝓤 H A memory run)
   look-walks = walked 𝓤 H A looks.ended stayed (looks.clauses 𝓤 H A memory run) (WpFn 𝓤 H (𝓣 .C) (𝓣 .Λ) code.function) (λ κs. (slice-vals, (uint-vals w32, (uint-vals w64, (uint-vals w64, tt))))) (λ κs. (shr-slice-tells (named 0) (κs .0) R, (uint-tells w32, (uint-tells w64, (uint-tells w64, tt)))))
       (λ κs qs bounds a g are. via 𝓤 _ (fst∗ 𝓤 _ (emp 𝓤)) (walk 𝓤 H A W memory run (κs .0) (qs .0) (a .0 .ptr .0) (a .0 .ptr .1) (a .0 .name) (a .0 .now) (a .1 .0) (a .1 .1 .0) (a .1 .1 .1 .0) (are .0 .0 .1) (are .1 .0 .1) (are .1 .1 .0 .1) (are .1 .1 .1 .0 .1) (𝓣 .C) (𝓣 .Λ) (fmOf 𝓤 H (W .laws) 𝓣) known-find known-find-free known-find-broken known-get-or))
@@ -182,9 +182,9 @@ pub look-spec : {M : Type 1} → stated.statement M
 unfolding code.routine tablesOf
 look-spec 𝓤 H 𝓜 𝓖 𝓡 =
     entered 𝓤 H (tripleOf 𝓤 H (𝓖 .A) looks.signature (looks.spec 𝓤 H (𝓖 .A) (𝓜 .mem) (𝓡 .run)))
-    (tables 𝓤 H 𝓜 𝓡 code.env .C) (tables 𝓤 H 𝓜 𝓡 code.env .Λ) #row·look code.function (code.unfolded 𝓤 H 𝓜 𝓡)
+    (tables 𝓤 H 𝓜 𝓡 code.env .C) (tables 𝓤 H 𝓜 𝓡 code.env .Λ) #standby_row·look code.function (code.unfolded 𝓤 H 𝓜 𝓡)
     (look-meets 𝓤 H (𝓖 .A) (givenOf 𝓤 H 𝓜 𝓖) (𝓜 .mem) (𝓡 .run) (tablesOf 𝓤 H 𝓜 (tables 𝓤 H 𝓜 𝓡 code.env))
-    (cited 𝓤 H (Find 𝓤 H (𝓖 .A) (𝓜 .mem) (𝓡 .run)) 𝓜 𝓡 code.env #row·find find-def.routine code.calls-row·find (find-thm.met 𝓤 H 𝓜 𝓖 𝓡))
-    (cited 𝓤 H (FindFree 𝓤 H (𝓖 .A) (𝓜 .mem) (𝓡 .run)) 𝓜 𝓡 code.env #row·find-free find-free-def.routine code.calls-row·find-free (find-free-thm.met 𝓤 H 𝓜 𝓖 𝓡))
-    (cited 𝓤 H (FindBroken 𝓤 H (𝓖 .A) (𝓜 .mem) (𝓡 .run)) 𝓜 𝓡 code.env #row·find-broken find-broken-def.routine code.calls-row·find-broken (find-broken-thm.met 𝓤 H 𝓜 𝓖 𝓡))
-    (cited 𝓤 H (GetOr 𝓤 H (𝓖 .A) (𝓜 .mem) (𝓡 .run)) 𝓜 𝓡 code.env #row·get-or get-or-def.routine code.calls-row·get-or (get-or-thm.met 𝓤 H 𝓜 𝓖 𝓡)))
+    (cited 𝓤 H (Find 𝓤 H (𝓖 .A) (𝓜 .mem) (𝓡 .run)) 𝓜 𝓡 code.env #standby_row·find find-def.routine code.calls-standby-row·find (find-thm.met 𝓤 H 𝓜 𝓖 𝓡))
+    (cited 𝓤 H (FindFree 𝓤 H (𝓖 .A) (𝓜 .mem) (𝓡 .run)) 𝓜 𝓡 code.env #standby_row·find-free find-free-def.routine code.calls-standby-row·find-free (find-free-thm.met 𝓤 H 𝓜 𝓖 𝓡))
+    (cited 𝓤 H (FindBroken 𝓤 H (𝓖 .A) (𝓜 .mem) (𝓡 .run)) 𝓜 𝓡 code.env #standby_row·find-broken find-broken-def.routine code.calls-standby-row·find-broken (find-broken-thm.met 𝓤 H 𝓜 𝓖 𝓡))
+    (cited 𝓤 H (GetOr 𝓤 H (𝓖 .A) (𝓜 .mem) (𝓡 .run)) 𝓜 𝓡 code.env #standby_row·get-or get-or-def.routine code.calls-standby-row·get-or (get-or-thm.met 𝓤 H 𝓜 𝓖 𝓡)))

@@ -1,4 +1,4 @@
--- `row::put_if` meets its contract: a walk of its MIR, by hand, with a branch whose ways meet again. The borrow is opened before the branch, and closed after it (`leaves`, which both ways use).
+-- `standby_row::put_if` meets its contract: a walk of its MIR, by hand, with a branch whose ways meet again. The borrow is opened before the branch, and closed after it (`leaves`, which both ways use).
 -- The context of the walk: [the row; its open borrow, obs and auth; _7; …; _0; …]. So local j stands at 4 + 2 · (7 − j).
 -- Assumes nothing.
 use mathlib.Core.Path.{_≡_, refl, sym, ap, subst}
@@ -43,16 +43,16 @@ use denote.Triple.Table.{entered}
 use denote.Triple.Walked.{says, Stays, stay-slice, stay-dropped, walkOf, Walks, ends-at, walked, goes-slice, goes-dropped, walk-meets}
 use denote.Exit.{yes}
 use borrow.Author.Tests.{ltb-true, ltb-false}
-use Rattle.row.specs.declared.Handle.{Handle}
-use Rattle.row.specs.Row.{none}
-use Rattle.row.proofs.Handle as T
-use Rattle.row.proofs.Handle.Laws as T′
-use Rattle.row.proofs.Rows.{R, val, vals, tells, makes, product-fits, place-at, by-bool, passes-by, goes-in}
-use Rattle.row.proofs.put_if.Key.{name as #row·put-if}
-use Rattle.row.proofs.put_if as put-if
-use Rattle.row.proofs.put_if.Statement as stated
-use Rattle.row.proofs.put_if.Code as code
-use Rattle.row.proofs.put_if.Code.Mir as mir
+use Rattle.standby_row.specs.declared.Handle.{Handle}
+use Rattle.standby_row.specs.Row.{none}
+use Rattle.standby_row.proofs.Handle as T
+use Rattle.standby_row.proofs.Handle.Laws as T′
+use Rattle.standby_row.proofs.Rows.{R, val, vals, tells, makes, product-fits, place-at, by-bool, passes-by, goes-in}
+use Rattle.standby_row.proofs.put_if.Key.{name as #standby_row·put-if}
+use Rattle.standby_row.proofs.put_if as put-if
+use Rattle.standby_row.proofs.put_if.Statement as stated
+use Rattle.standby_row.proofs.put_if.Code as code
+use Rattle.standby_row.proofs.put_if.Code.Mir as mir
 
 abbrev stayed : Stays (put-if.ended .signature .params) (put-if.ended .kept)
 stayed = (stay-slice (0 ∷ []) tt (plain (λ _. R)), (stay-dropped (plain (λ _. usize)) yes, (stay-dropped (plain (λ _. R)) yes, tt)))
@@ -140,5 +140,5 @@ pub put-if-spec : {M : Type 1} → stated.statement M
 unfolding code.routine tablesOf
 put-if-spec 𝓤 H 𝓜 𝓖 𝓡 =
     entered 𝓤 H (tripleOf 𝓤 H (𝓖 .A) put-if.signature (put-if.spec 𝓤 H (𝓖 .A) (𝓜 .mem) (𝓡 .run)))
-    (tables 𝓤 H 𝓜 𝓡 code.env .C) (tables 𝓤 H 𝓜 𝓡 code.env .Λ) #row·put-if code.function (code.unfolded 𝓤 H 𝓜 𝓡)
+    (tables 𝓤 H 𝓜 𝓡 code.env .C) (tables 𝓤 H 𝓜 𝓡 code.env .Λ) #standby_row·put-if code.function (code.unfolded 𝓤 H 𝓜 𝓡)
     (put-if-meets 𝓤 H (𝓖 .A) (givenOf 𝓤 H 𝓜 𝓖) (𝓜 .mem) (𝓡 .run) (tablesOf 𝓤 H 𝓜 (tables 𝓤 H 𝓜 𝓡 code.env)))

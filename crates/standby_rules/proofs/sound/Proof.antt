@@ -1,15 +1,15 @@
 use borrow.Author.Needs.{needs}
-use Rattle.sound.proofs.Laws.{store-breaks, row-breaks, none-found, one-found}
-use Rattle.areas.proofs.Ruling.{rules-of}
+use Rattle.standby_rules.proofs.Laws.{store-breaks, row-breaks, none-found, one-found}
+use Rattle.store_areas.proofs.Ruling.{rules-of}
 use denote.Ref.{now}
 use mathlib.Core.Path.{_∙_, sym}
 use native.Mathlib.Omega.{arith}
-use Rattle.sound.proofs.sound.Statement.{statement}
-use Rattle.sound.proofs.sound.Tie as tie
-use Rattle.sound.proofs.sound.Reads as reads
-use Rattle.sound.proofs.sound.Lts as lts
-use Rattle.areas.proofs.allowed.Reads as allowed-reads
-use Rattle.due_batch.proofs.room_of.Reads as room-of-reads
+use Rattle.standby_rules.proofs.sound.Statement.{statement}
+use Rattle.standby_rules.proofs.sound.Tie as tie
+use Rattle.standby_rules.proofs.sound.Reads as reads
+use Rattle.standby_rules.proofs.sound.Lts as lts
+use Rattle.store_areas.proofs.allowed.Reads as allowed-reads
+use Rattle.standby_batch_due.proofs.room_of.Reads as room-of-reads
 
 -- src/lib.rt:11:8
 allowed-requires : tie.Need-allowed-requires

@@ -1,11 +1,11 @@
 use mathlib.Core.Path.{ap}
-use Rattle.outcome.specs.declared.Answer.{Answer}
+use Rattle.standby_state.specs.declared.Answer.{Answer}
 use borrow.Author.Needs.{needs}
-use Rattle.outcome.proofs.ack.Statement.{statement}
-use Rattle.outcome.proofs.ack.Tie as tie
-use Rattle.outcome.proofs.ack.Reads as reads
-use Rattle.outcome.proofs.ack.Lts as lts
-use Rattle.outcome.proofs.blank.Reads as blank-reads
+use Rattle.standby_state.proofs.ack.Statement.{statement}
+use Rattle.standby_state.proofs.ack.Tie as tie
+use Rattle.standby_state.proofs.ack.Reads as reads
+use Rattle.standby_state.proofs.ack.Lts as lts
+use Rattle.standby_state.proofs.blank.Reads as blank-reads
 
 -- src/lib.rt:129:9
 blank-requires : tie.Need-blank-requires

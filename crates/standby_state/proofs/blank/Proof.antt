@@ -1,9 +1,9 @@
 use borrow.Author.Needs.{needs}
-use Rattle.outcome.proofs.blank.Statement.{statement}
-use Rattle.outcome.proofs.blank.Tie as tie
-use Rattle.outcome.proofs.blank.Reads as reads
-use Rattle.outcome.proofs.blank.Lts as lts
-use Rattle.outcome.proofs.no_brief.Reads as no-brief-reads
+use Rattle.standby_state.proofs.blank.Statement.{statement}
+use Rattle.standby_state.proofs.blank.Tie as tie
+use Rattle.standby_state.proofs.blank.Reads as reads
+use Rattle.standby_state.proofs.blank.Lts as lts
+use Rattle.standby_state.proofs.no_brief.Reads as no-brief-reads
 
 -- src/lib.rt:99:16
 no-brief-requires : tie.Need-no-brief-requires

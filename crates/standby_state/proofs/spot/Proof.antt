@@ -1,7 +1,7 @@
-use Rattle.outcome.proofs.spot.Statement.{statement}
-use Rattle.outcome.proofs.spot.Tie as tie
-use Rattle.outcome.proofs.spot.Reads as reads
-use Rattle.outcome.proofs.spot.Lts as lts
+use Rattle.standby_state.proofs.spot.Statement.{statement}
+use Rattle.standby_state.proofs.spot.Tie as tie
+use Rattle.standby_state.proofs.spot.Reads as reads
+use Rattle.standby_state.proofs.spot.Lts as lts
 use borrow.Author.Tests.{lt-ltb, le-ltb}
 use mathlib.Core.Path.{ap, sym}
 use mathlib.Core.Bool.{Bool, cond}

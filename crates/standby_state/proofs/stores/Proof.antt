@@ -1,13 +1,13 @@
 use borrow.Author.Needs.{needs}
-use Rattle.outcome.proofs.stores.Statement.{statement}
-use Rattle.outcome.proofs.stores.Tie as tie
-use Rattle.outcome.proofs.stores.Reads as reads
-use Rattle.outcome.proofs.stores.Lts as lts
-use Rattle.outcome.proofs.spot.Reads as spot-reads
+use Rattle.standby_state.proofs.stores.Statement.{statement}
+use Rattle.standby_state.proofs.stores.Tie as tie
+use Rattle.standby_state.proofs.stores.Reads as reads
+use Rattle.standby_state.proofs.stores.Lts as lts
+use Rattle.standby_state.proofs.spot.Reads as spot-reads
 use mathlib.Core.Path.{ap}
 use Prim.Native.Nat.{ℕ}
 use mathlib.Core.Bool.{true, false}
-use Rattle.outcome.specs.Outcomes.{usedFor}
+use Rattle.standby_state.specs.Outcomes.{usedFor}
 
 -- src/lib.rt:203:13
 spot-requires : tie.Need-spot-requires

@@ -1,9 +1,9 @@
 use native.Mathlib.Omega.{arith}
 use mathlib.Core.Path.{sym, _∙_}
-use Rattle.areas.proofs.Ruling.{room-of, counts-judged, no-room}
+use Rattle.store_areas.proofs.Ruling.{room-of, counts-judged, no-room}
 use borrow.Author.Needs.{needs}
-use Rattle.areas.proofs.allowed.Statement.{statement}
-use Rattle.areas.proofs.allowed.Tie as tie
+use Rattle.store_areas.proofs.allowed.Statement.{statement}
+use Rattle.store_areas.proofs.allowed.Tie as tie
 
 shared-slice-read-result : tie.Need-shared-slice-read-result
 shared-slice-read-result c = omega (arith, room-of _ _ _ (sym (c .before .before .roomy .ensures) ∙ c .before .if1 .taken) .words-long)

@@ -1,9 +1,9 @@
 use native.Mathlib.Omega.{arith}
 use mathlib.Core.Path.{sym, _∙_}
-use Rattle.areas.proofs.Ruling.{rules-of}
+use Rattle.store_areas.proofs.Ruling.{rules-of}
 use borrow.Author.Needs.{needs}
-use Rattle.areas.proofs.in_use.Statement.{statement}
-use Rattle.areas.proofs.in_use.Tie as tie
+use Rattle.store_areas.proofs.in_use.Statement.{statement}
+use Rattle.store_areas.proofs.in_use.Tie as tie
 
 shared-slice-read-result : tie.Need-shared-slice-read-result
 shared-slice-read-result c = omega (arith, rules-of _ _ _ (sym (c .before .before .allowed .ensures) ∙ c .before .if1 .taken) .room .words-long)

@@ -1,10 +1,10 @@
 use native.Mathlib.Omega.{arith}
 use mathlib.Core.Path.{refl, sym, _∙_}
 use lib.ListN.{length-set}
-use Rattle.areas.proofs.Ruling.{room-of}
+use Rattle.store_areas.proofs.Ruling.{room-of}
 use borrow.Author.Needs.{needs}
-use Rattle.areas.proofs.make.Statement.{statement}
-use Rattle.areas.proofs.make.Tie as tie
+use Rattle.store_areas.proofs.make.Statement.{statement}
+use Rattle.store_areas.proofs.make.Tie as tie
 
 slice-write-words : tie.Need-slice-write-words
 slice-write-words c = omega (arith, room-of _ _ _ (sym (c .before .roomy .ensures) ∙ c .if1 .taken) .words-long)

@@ -1,8 +1,8 @@
 use native.Mathlib.Omega.{arith}
-use Rattle.areas.proofs.Ruling.{bytes-beyond, messages-beyond, lengths-judged, product}
+use Rattle.store_areas.proofs.Ruling.{bytes-beyond, messages-beyond, lengths-judged, product}
 use borrow.Author.Needs.{needs}
-use Rattle.areas.proofs.roomy.Statement.{statement}
-use Rattle.areas.proofs.roomy.Tie as tie
+use Rattle.store_areas.proofs.roomy.Statement.{statement}
+use Rattle.store_areas.proofs.roomy.Tie as tie
 
 returns : tie.Need-returns
 returns c = bytes-beyond (c .before .before .before .before .args .shape) (c .before .before .before .before .args .words .now) (c .before .before .before .before .args .bytes .now) (omega arith)

@@ -1,7 +1,7 @@
-use Rattle.areas.proofs.Lifting.{spot-in}
+use Rattle.store_areas.proofs.Lifting.{spot-in}
 use borrow.Author.Needs.{needs}
-use Rattle.areas.proofs.spot_in.Statement.{statement}
-use Rattle.areas.proofs.spot_in.Tie as tie
+use Rattle.store_areas.proofs.spot_in.Statement.{statement}
+use Rattle.store_areas.proofs.spot_in.Tie as tie
 
 returns : tie.Need-returns
 returns c =

@@ -1,10 +1,10 @@
 use native.Mathlib.Omega.{arith}
 use mathlib.Core.Path.{ap}
 use Prim.Native.Nat.{ℕ, _+_, _*_}
-use Rattle.areas.proofs.Ruling.{product}
+use Rattle.store_areas.proofs.Ruling.{product}
 use borrow.Author.Needs.{needs}
-use Rattle.areas.proofs.spot_of.Statement.{statement}
-use Rattle.areas.proofs.spot_of.Tie as tie
+use Rattle.store_areas.proofs.spot_of.Statement.{statement}
+use Rattle.store_areas.proofs.spot_of.Tie as tie
 
 mul-wa : tie.Need-mul-wa
 mul-wa c = omega (arith, product (c .before .before .args .i) (c .before .place-words .result) 4294967296 131088 (omega arith) (omega (arith, c .before .place-words .ensures)))

@@ -1,8 +1,8 @@
 use native.Mathlib.Omega.{arith}
-use Rattle.log.proofs.Recording.{cleared, clear-none}
+use Rattle.store_log.proofs.Recording.{cleared, clear-none}
 use borrow.Author.Needs.{needs}
-use Rattle.log.proofs.clear.Statement.{statement}
-use Rattle.log.proofs.clear.Tie as tie
+use Rattle.store_log.proofs.clear.Statement.{statement}
+use Rattle.store_log.proofs.clear.Tie as tie
 
 returns : tie.Need-returns
 returns c =

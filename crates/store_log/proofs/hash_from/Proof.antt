@@ -1,7 +1,7 @@
 use native.Mathlib.Omega.{arith}
-use Rattle.log.proofs.Summing.{Hashing, hashing-starts, hashing-goes, hashing-ends}
-use Rattle.log.proofs.hash_from.Statement.{statement}
-use Rattle.log.proofs.hash_from.Tie as tie
+use Rattle.store_log.proofs.Summing.{Hashing, hashing-starts, hashing-goes, hashing-ends}
+use Rattle.store_log.proofs.hash_from.Statement.{statement}
+use Rattle.store_log.proofs.hash_from.Tie as tie
 
 abbrev Inv-loop : tie.InvT-loop
 Inv-loop words bytes max next low hash₀ left₀ dist₀ hash left dist = Hashing max next words bytes low hash left dist

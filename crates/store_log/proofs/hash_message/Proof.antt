@@ -1,9 +1,9 @@
 use native.Mathlib.Omega.{arith}
 use lib.ListN.{length-take}
-use Rattle.log.proofs.Hash.{hash-parts}
+use Rattle.store_log.proofs.Hash.{hash-parts}
 use borrow.Author.Needs.{needs}
-use Rattle.log.proofs.hash_message.Statement.{statement}
-use Rattle.log.proofs.hash_message.Tie as tie
+use Rattle.store_log.proofs.hash_message.Statement.{statement}
+use Rattle.store_log.proofs.hash_message.Tie as tie
 
 slice-aggregate-bytes : tie.Need-slice-aggregate-bytes
 slice-aggregate-bytes c = simp length-take (omega arith)

@@ -1,8 +1,8 @@
 use native.Mathlib.Omega.{arith}
 use borrow.Author.Tests.{lt-ltb, le-ltb}
 use borrow.Author.Needs.{needs}
-use Rattle.log.proofs.head.Statement.{statement}
-use Rattle.log.proofs.head.Tie as tie
+use Rattle.store_log.proofs.head.Statement.{statement}
+use Rattle.store_log.proofs.head.Tie as tie
 
 returns : tie.Need-returns
 returns c = (omega arith, simp (lt-ltb _ _ (c .if1 .taken)))

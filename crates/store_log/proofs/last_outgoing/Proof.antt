@@ -1,8 +1,8 @@
 use native.Mathlib.Omega.{arith}
 use Prim.Native.Nat.{_-_}
-use Rattle.log.proofs.Summing.{last-zero, last-one, last-some}
-use Rattle.log.proofs.last_outgoing.Statement.{statement}
-use Rattle.log.proofs.last_outgoing.Tie as tie
+use Rattle.store_log.proofs.Summing.{last-zero, last-one, last-some}
+use Rattle.store_log.proofs.last_outgoing.Statement.{statement}
+use Rattle.store_log.proofs.last_outgoing.Tie as tie
 
 returns : tie.Need-returns
 returns c = last-zero _ _ _ (c .if1 .taken)

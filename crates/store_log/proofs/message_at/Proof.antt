@@ -2,11 +2,11 @@ use native.Mathlib.Omega.{arith}
 use mathlib.Core.Path.{refl, subst}
 use lib.ListN.{length, getD}
 use Prim.Native.Nat.{_+_, _*_}
-use Rattle.log.specs.Log.{Spanned}
-use Rattle.log.proofs.Summing.{Seen, seen, read}
+use Rattle.store_log.specs.Log.{Spanned}
+use Rattle.store_log.proofs.Summing.{Seen, seen, read}
 use borrow.Author.Needs.{needs}
-use Rattle.log.proofs.message_at.Statement.{statement}
-use Rattle.log.proofs.message_at.Tie as tie
+use Rattle.store_log.proofs.message_at.Statement.{statement}
+use Rattle.store_log.proofs.message_at.Tie as tie
 
 -- what the message is, once its slot is known
 turned : (c : tie.After-slot-at)

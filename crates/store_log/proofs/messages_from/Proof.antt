@@ -1,12 +1,12 @@
 use native.Mathlib.Omega.{arith}
 use Prim.Native.Nat.{_-_}
 use lib.ListN.{length}
-use Rattle.log.specs.Log.{before, unrolled, tailOf, since, newestFirst}
-use Rattle.log.proofs.Slots.{tail-le}
-use Rattle.log.proofs.Ring.{length-unrolled}
-use Rattle.log.proofs.Reading.{Counting, done-low, done-high, done-full, counts, done-all, counted, counted-none, counting-starts}
-use Rattle.log.proofs.messages_from.Statement.{statement}
-use Rattle.log.proofs.messages_from.Tie as tie
+use Rattle.store_log.specs.Log.{before, unrolled, tailOf, since, newestFirst}
+use Rattle.store_log.proofs.Slots.{tail-le}
+use Rattle.store_log.proofs.Ring.{length-unrolled}
+use Rattle.store_log.proofs.Reading.{Counting, done-low, done-high, done-full, counts, done-all, counted, counted-none, counting-starts}
+use Rattle.store_log.proofs.messages_from.Statement.{statement}
+use Rattle.store_log.proofs.messages_from.Tie as tie
 
 abbrev Inv-loop : tie.InvT-loop
 Inv-loop words bytes max next low cap left₀ dist₀ slot₀ bound₀ left dist slot bound = Counting (length bytes) max low words (unrolled (tailOf (length bytes) words) bytes) (since low (newestFirst (length bytes) max next words bytes)) left dist slot bound

@@ -1,9 +1,9 @@
 use native.Mathlib.Omega.{arith}
 use mathlib.Core.Path.{ap, _∙_}
-use Rattle.log.specs.Log.{before}
+use Rattle.store_log.specs.Log.{before}
 use borrow.Author.Needs.{needs}
-use Rattle.log.proofs.newest_slot.Statement.{statement}
-use Rattle.log.proofs.newest_slot.Tie as tie
+use Rattle.store_log.proofs.newest_slot.Statement.{statement}
+use Rattle.store_log.proofs.newest_slot.Tie as tie
 
 returns : tie.Need-returns
 returns c =

@@ -1,9 +1,9 @@
 use native.Mathlib.Omega.{arith}
 use lib.ListN.{length-set}
-use Rattle.log.proofs.Slots.{stored-newest, stored-tail}
+use Rattle.store_log.proofs.Slots.{stored-newest, stored-tail}
 use borrow.Author.Needs.{needs}
-use Rattle.log.proofs.put_entry.Statement.{statement}
-use Rattle.log.proofs.put_entry.Tie as tie
+use Rattle.store_log.proofs.put_entry.Statement.{statement}
+use Rattle.store_log.proofs.put_entry.Tie as tie
 
 slice-write-words-2 : tie.Need-slice-write-words-2
 slice-write-words-2 c = simp length-set (omega arith)

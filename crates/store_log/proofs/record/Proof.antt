@@ -3,11 +3,11 @@ use mathlib.Core.Logic.{inl, inr}
 use native.Mathlib.Omega.{arith}
 use Prim.Native.Nat.{_+_}
 use lib.ListN.{length}
-use Rattle.log.specs.Log.{logOf}
-use Rattle.log.proofs.Recording.{settle-none, not-stored, stored-law}
+use Rattle.store_log.specs.Log.{logOf}
+use Rattle.store_log.proofs.Recording.{settle-none, not-stored, stored-law}
 use borrow.Author.Needs.{needs}
-use Rattle.log.proofs.record.Statement.{statement}
-use Rattle.log.proofs.record.Tie as tie
+use Rattle.store_log.proofs.record.Statement.{statement}
+use Rattle.store_log.proofs.record.Tie as tie
 
 returns : tie.Need-returns
 returns c =

@@ -1,13 +1,13 @@
--- `log::ring_write` meets its contract, by `Ring`'s two laws. Assumes nothing.
+-- `store_log::ring_write` meets its contract, by `Ring`'s two laws. Assumes nothing.
 use mathlib.Core.Path.{ap, _∙_}
 use Prim.Native.Nat.{_+_, _-_, _≤_}
 use native.Mathlib.Omega.{arith}
 use lib.ListN.{length, length-take}
 use borrow.Author.Needs.{needs}
-use Rattle.log.specs.Log.{unrolled}
-use Rattle.log.proofs.Ring.{write-one, write-wraps}
-use Rattle.log.proofs.ring_write.Statement.{statement}
-use Rattle.log.proofs.ring_write.Tie as tie
+use Rattle.store_log.specs.Log.{unrolled}
+use Rattle.store_log.proofs.Ring.{write-one, write-wraps}
+use Rattle.store_log.proofs.ring_write.Statement.{statement}
+use Rattle.store_log.proofs.ring_write.Tie as tie
 
 slice-aggregate-copy-into : tie.Need-slice-aggregate-copy-into
 slice-aggregate-copy-into c = simp length-take (omega arith)

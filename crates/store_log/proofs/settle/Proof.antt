@@ -1,8 +1,8 @@
 use native.Mathlib.Omega.{arith}
-use Rattle.log.proofs.Recording.{settle-none, settle-kept, settle-cleared}
+use Rattle.store_log.proofs.Recording.{settle-none, settle-kept, settle-cleared}
 use borrow.Author.Needs.{needs}
-use Rattle.log.proofs.settle.Statement.{statement}
-use Rattle.log.proofs.settle.Tie as tie
+use Rattle.store_log.proofs.settle.Statement.{statement}
+use Rattle.store_log.proofs.settle.Tie as tie
 
 returns : tie.Need-returns
 returns c =

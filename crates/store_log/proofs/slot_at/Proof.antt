@@ -1,9 +1,9 @@
 use native.Mathlib.Omega.{arith}
 use mathlib.Core.Path.{sym, _∙_}
-use Rattle.log.proofs.Slots.{slot-low, slot-high}
+use Rattle.store_log.proofs.Slots.{slot-low, slot-high}
 use borrow.Author.Needs.{needs}
-use Rattle.log.proofs.slot_at.Statement.{statement}
-use Rattle.log.proofs.slot_at.Tie as tie
+use Rattle.store_log.proofs.slot_at.Statement.{statement}
+use Rattle.store_log.proofs.slot_at.Tie as tie
 
 returns : tie.Need-returns
 returns c =

@@ -1,10 +1,10 @@
 use native.Mathlib.Omega.{arith}
 use mathlib.Core.Path.{sym, ap}
-use Rattle.log.specs.Log.{before}
-use Rattle.log.proofs.Recording.{before-pos}
+use Rattle.store_log.specs.Log.{before}
+use Rattle.store_log.proofs.Recording.{before-pos}
 use borrow.Author.Needs.{needs}
-use Rattle.log.proofs.slot_before.Statement.{statement}
-use Rattle.log.proofs.slot_before.Tie as tie
+use Rattle.store_log.proofs.slot_before.Statement.{statement}
+use Rattle.store_log.proofs.slot_before.Tie as tie
 
 returns : tie.Need-returns
 returns c =

@@ -1,8 +1,8 @@
 use native.Mathlib.Omega.{arith}
-use Rattle.log.proofs.Spans.{span-low, span-high, span-both}
+use Rattle.store_log.proofs.Spans.{span-low, span-high, span-both}
 use borrow.Author.Needs.{needs}
-use Rattle.log.proofs.span_of.Statement.{statement}
-use Rattle.log.proofs.span_of.Tie as tie
+use Rattle.store_log.proofs.span_of.Statement.{statement}
+use Rattle.store_log.proofs.span_of.Tie as tie
 
 returns : tie.Need-returns
 returns c =

@@ -1,8 +1,8 @@
 use native.Mathlib.Omega.{arith}
 use borrow.Author.Tests.{le-leb, lt-leb}
 use borrow.Author.Needs.{needs}
-use Rattle.log.proofs.tail.Statement.{statement}
-use Rattle.log.proofs.tail.Tie as tie
+use Rattle.store_log.proofs.tail.Statement.{statement}
+use Rattle.store_log.proofs.tail.Tie as tie
 
 returns : tie.Need-returns
 returns c = (omega arith, simp (le-leb _ _ (c .if1 .taken)))

@@ -1,8 +1,8 @@
 use mathlib.Core.Path.{refl}
-use Rattle.place.specs.Place.{durableOf}
+use Rattle.store_place.specs.Place.{durableOf}
 use borrow.Author.Needs.{needs}
-use Rattle.place.proofs.durable.Statement.{statement}
-use Rattle.place.proofs.durable.Tie as tie
+use Rattle.store_place.proofs.durable.Statement.{statement}
+use Rattle.store_place.proofs.durable.Tie as tie
 
 returns : tie.Need-returns
 unfolding durableOf

@@ -1,7 +1,7 @@
-use Rattle.place.proofs.Promotion.{no-b, last-b}
+use Rattle.store_place.proofs.Promotion.{no-b, last-b}
 use borrow.Author.Needs.{needs}
-use Rattle.place.proofs.ends_in_b.Statement.{statement}
-use Rattle.place.proofs.ends_in_b.Tie as tie
+use Rattle.store_place.proofs.ends_in_b.Statement.{statement}
+use Rattle.store_place.proofs.ends_in_b.Tie as tie
 
 returns : tie.Need-returns
 returns c = no-b (c .before .args .bytes .now) (c .before .args .n) (c .before .pre .0) (c .before .pre .1) (c .if1 .taken)

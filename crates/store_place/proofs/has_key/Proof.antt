@@ -1,8 +1,8 @@
 use mathlib.Core.Bool.{_&&_}
-use Rattle.place.specs.Place.{keyOf}
+use Rattle.store_place.specs.Place.{keyOf}
 use borrow.Author.Needs.{needs}
-use Rattle.place.proofs.has_key.Statement.{statement}
-use Rattle.place.proofs.has_key.Tie as tie
+use Rattle.store_place.proofs.has_key.Statement.{statement}
+use Rattle.store_place.proofs.has_key.Tie as tie
 
 returns : tie.Need-returns
 unfolding keyOf

@@ -1,8 +1,8 @@
 use borrow.Author.Tests.{eq-eqb, ne-eqb}
-use Rattle.place.specs.Place.{flightOf}
+use Rattle.store_place.specs.Place.{flightOf}
 use borrow.Author.Needs.{needs}
-use Rattle.place.proofs.in_flight.Statement.{statement}
-use Rattle.place.proofs.in_flight.Tie as tie
+use Rattle.store_place.proofs.in_flight.Statement.{statement}
+use Rattle.store_place.proofs.in_flight.Tie as tie
 
 returns : tie.Need-returns
 unfolding flightOf

@@ -1,7 +1,7 @@
-use Rattle.place.proofs.Messages.{last-in}
+use Rattle.store_place.proofs.Messages.{last-in}
 use borrow.Author.Needs.{needs}
-use Rattle.place.proofs.last_outgoing.Statement.{statement}
-use Rattle.place.proofs.last_outgoing.Tie as tie
+use Rattle.store_place.proofs.last_outgoing.Statement.{statement}
+use Rattle.store_place.proofs.last_outgoing.Tie as tie
 
 returns : tie.Need-returns
 returns c =

@@ -1,9 +1,9 @@
 use native.Mathlib.Omega.{arith}
 use mathlib.Core.Path.{refl}
-use Rattle.place.proofs.Changes.{marked}
+use Rattle.store_place.proofs.Changes.{marked}
 use borrow.Author.Needs.{needs}
-use Rattle.place.proofs.mark_durable.Statement.{statement}
-use Rattle.place.proofs.mark_durable.Tie as tie
+use Rattle.store_place.proofs.mark_durable.Statement.{statement}
+use Rattle.store_place.proofs.mark_durable.Tie as tie
 
 returns : tie.Need-returns
 returns c = (λ C M b. marked C M b (c .args .words .now) (omega arith), refl)

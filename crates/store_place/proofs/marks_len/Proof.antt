@@ -1,11 +1,11 @@
 use native.Mathlib.Omega.{arith}
 use lib.ListN.{getD}
 use Rattle.model_text.specs.Printable.{isMarks}
-use Rattle.place.specs.Place.{marksOf}
-use Rattle.place.proofs.Texts.{valid-text, no-text}
+use Rattle.store_place.specs.Place.{marksOf}
+use Rattle.store_place.proofs.Texts.{valid-text, no-text}
 use borrow.Author.Needs.{needs}
-use Rattle.place.proofs.marks_len.Statement.{statement}
-use Rattle.place.proofs.marks_len.Tie as tie
+use Rattle.store_place.proofs.marks_len.Statement.{statement}
+use Rattle.store_place.proofs.marks_len.Tie as tie
 
 returns : tie.Need-returns
 unfolding marksOf

@@ -1,10 +1,10 @@
 use native.Mathlib.Omega.{arith}
 use Prim.Native.Nat.{_-_}
 use lib.ListN.{length}
-use Rattle.place.proofs.Messages.{stands-out, read-in}
+use Rattle.store_place.proofs.Messages.{stands-out, read-in}
 use borrow.Author.Needs.{needs}
-use Rattle.place.proofs.message_at.Statement.{statement}
-use Rattle.place.proofs.message_at.Tie as tie
+use Rattle.store_place.proofs.message_at.Statement.{statement}
+use Rattle.store_place.proofs.message_at.Tie as tie
 
 message-at-requires : tie.Need-message-at-requires
 message-at-requires c κs =

@@ -1,7 +1,7 @@
-use Rattle.place.proofs.Messages.{from-in}
+use Rattle.store_place.proofs.Messages.{from-in}
 use borrow.Author.Needs.{needs}
-use Rattle.place.proofs.messages_from.Statement.{statement}
-use Rattle.place.proofs.messages_from.Tie as tie
+use Rattle.store_place.proofs.messages_from.Statement.{statement}
+use Rattle.store_place.proofs.messages_from.Tie as tie
 
 returns : tie.Need-returns
 returns c =

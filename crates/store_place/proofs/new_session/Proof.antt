@@ -1,10 +1,10 @@
 use native.Mathlib.Omega.{arith}
 use mathlib.Core.Path.{_∙_}
 use lib.ListN.{length-set}
-use Rattle.place.proofs.Keys.{new-place}
+use Rattle.store_place.proofs.Keys.{new-place}
 use borrow.Author.Needs.{needs}
-use Rattle.place.proofs.new_session.Statement.{statement}
-use Rattle.place.proofs.new_session.Tie as tie
+use Rattle.store_place.proofs.new_session.Statement.{statement}
+use Rattle.store_place.proofs.new_session.Tie as tie
 
 slice-write-words-2 : tie.Need-slice-write-words-2
 slice-write-words-2 c = simp length-set (omega arith)

@@ -1,8 +1,8 @@
 use native.Mathlib.Omega.{arith}
-use Rattle.place.specs.Place.{nextOutOf}
+use Rattle.store_place.specs.Place.{nextOutOf}
 use borrow.Author.Needs.{needs}
-use Rattle.place.proofs.next_outgoing.Statement.{statement}
-use Rattle.place.proofs.next_outgoing.Tie as tie
+use Rattle.store_place.proofs.next_outgoing.Statement.{statement}
+use Rattle.store_place.proofs.next_outgoing.Tie as tie
 
 returns : tie.Need-returns
 unfolding nextOutOf

@@ -1,9 +1,9 @@
 use native.Mathlib.Omega.{arith}
-use Rattle.place.proofs.Fields.{only-none}
-use Rattle.place.proofs.Promotion.{kept-b, full-b, more-b, only-b}
+use Rattle.store_place.proofs.Fields.{only-none}
+use Rattle.store_place.proofs.Promotion.{kept-b, full-b, more-b, only-b}
 use borrow.Author.Needs.{needs}
-use Rattle.place.proofs.put_b.Statement.{statement}
-use Rattle.place.proofs.put_b.Tie as tie
+use Rattle.store_place.proofs.put_b.Statement.{statement}
+use Rattle.store_place.proofs.put_b.Tie as tie
 
 returns : tie.Need-returns
 returns c =

@@ -1,7 +1,7 @@
-use Rattle.place.proofs.Fields.{put-text}
+use Rattle.store_place.proofs.Fields.{put-text}
 use borrow.Author.Needs.{needs}
-use Rattle.place.proofs.put_text.Statement.{statement}
-use Rattle.place.proofs.put_text.Tie as tie
+use Rattle.store_place.proofs.put_text.Statement.{statement}
+use Rattle.store_place.proofs.put_text.Tie as tie
 
 returns : tie.Need-returns
 returns c = put-text _ _ _ _ _ (c .before .before .before .before .before .before .pre .0) (c .before .before .before .before .before .before .pre .1) (c .before .before .copy-into .ensures)

@@ -1,10 +1,10 @@
 use native.Mathlib.Omega.{arith}
 use lib.ListN.{length-set}
-use Rattle.place.proofs.Header.{next-pos}
-use Rattle.place.proofs.Logging.{recorded}
+use Rattle.store_place.proofs.Header.{next-pos}
+use Rattle.store_place.proofs.Logging.{recorded}
 use borrow.Author.Needs.{needs}
-use Rattle.place.proofs.record.Statement.{statement}
-use Rattle.place.proofs.record.Tie as tie
+use Rattle.store_place.proofs.record.Statement.{statement}
+use Rattle.store_place.proofs.record.Tie as tie
 
 record-requires : tie.Need-record-requires
 record-requires c κs = omega (arith, next-pos (c .before .before .before .before .before .args .words .now))

@@ -3,11 +3,11 @@ use mathlib.Core.Path.{ap, _∙_}
 use Prim.Native.Nat.{ℕ, _+_, _-_}
 use lib.ListN.{length, length-set, drop}
 use borrow.Rule.Slice.PartMut.{midOf}
-use Rattle.log.specs.Log.{logOf}
-use Rattle.place.proofs.Logging.{bare}
+use Rattle.store_log.specs.Log.{logOf}
+use Rattle.store_place.proofs.Logging.{bare}
 use borrow.Author.Needs.{needs}
-use Rattle.place.proofs.record_none.Statement.{statement}
-use Rattle.place.proofs.record_none.Tie as tie
+use Rattle.store_place.proofs.record_none.Statement.{statement}
+use Rattle.store_place.proofs.record_none.Tie as tie
 
 slice-write-words-2 : tie.Need-slice-write-words-2
 slice-write-words-2 c = simp length-set (omega arith)

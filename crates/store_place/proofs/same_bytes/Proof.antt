@@ -2,9 +2,9 @@ use native.Mathlib.Omega.{arith}
 use mathlib.Core.Path.{refl}
 use Prim.Native.Nat.{_-_}
 use lib.ListN.{length}
-use Rattle.place.proofs.Keys.{differ, Comparing, other, equal, all-equal}
-use Rattle.place.proofs.same_bytes.Statement.{statement}
-use Rattle.place.proofs.same_bytes.Tie as tie
+use Rattle.store_place.proofs.Keys.{differ, Comparing, other, equal, all-equal}
+use Rattle.store_place.proofs.same_bytes.Statement.{statement}
+use Rattle.store_place.proofs.same_bytes.Tie as tie
 
 abbrev Inv-loop : tie.InvT-loop
 Inv-loop a b i₀ i = Comparing a b i

@@ -1,7 +1,7 @@
-use Rattle.place.proofs.Keys.{field-same}
+use Rattle.store_place.proofs.Keys.{field-same}
 use borrow.Author.Needs.{needs}
-use Rattle.place.proofs.same_field.Statement.{statement}
-use Rattle.place.proofs.same_field.Tie as tie
+use Rattle.store_place.proofs.same_field.Statement.{statement}
+use Rattle.store_place.proofs.same_field.Tie as tie
 
 returns : tie.Need-returns
 returns c =

@@ -1,10 +1,10 @@
 use native.Mathlib.Omega.{arith}
 use lib.ListN.{length-set}
 use Rattle.model_text.proofs.Laws.{stamp-is}
-use Rattle.place.proofs.Logging.{stamped}
+use Rattle.store_place.proofs.Logging.{stamped}
 use borrow.Author.Needs.{needs}
-use Rattle.place.proofs.set_created_at.Statement.{statement}
-use Rattle.place.proofs.set_created_at.Tie as tie
+use Rattle.store_place.proofs.set_created_at.Statement.{statement}
+use Rattle.store_place.proofs.set_created_at.Tie as tie
 
 put-text-requires : tie.Need-put-text-requires
 put-text-requires c κs = omega (arith, stamp-is _ (c .before .before .before .before .pre .1 .1))

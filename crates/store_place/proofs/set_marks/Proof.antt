@@ -1,10 +1,10 @@
 use native.Mathlib.Omega.{arith}
 use lib.ListN.{length-set}
 use Rattle.model_text.proofs.Laws.{marks-is}
-use Rattle.place.proofs.Logging.{marks-set}
+use Rattle.store_place.proofs.Logging.{marks-set}
 use borrow.Author.Needs.{needs}
-use Rattle.place.proofs.set_marks.Statement.{statement}
-use Rattle.place.proofs.set_marks.Tie as tie
+use Rattle.store_place.proofs.set_marks.Statement.{statement}
+use Rattle.store_place.proofs.set_marks.Tie as tie
 
 put-text-requires : tie.Need-put-text-requires
 put-text-requires c κs = omega (arith, marks-is _ (c .before .before .before .before .pre .1 .1))

@@ -1,9 +1,9 @@
 use native.Mathlib.Omega.{arith}
 use lib.ListN.{length-set}
-use Rattle.place.proofs.Promotion.{taken}
+use Rattle.store_place.proofs.Promotion.{taken}
 use borrow.Author.Needs.{needs}
-use Rattle.place.proofs.take_over.Statement.{statement}
-use Rattle.place.proofs.take_over.Tie as tie
+use Rattle.store_place.proofs.take_over.Statement.{statement}
+use Rattle.store_place.proofs.take_over.Tie as tie
 
 slice-write-words-2 : tie.Need-slice-write-words-2
 slice-write-words-2 c = simp length-set (omega arith)

@@ -1,9 +1,9 @@
 use mathlib.Core.Path.{sym, _∙_}
-use Rattle.areas.proofs.Ruling.{rules-of}
-use Rattle.sessions.proofs.Seeking.{sought, not-sought}
+use Rattle.store_areas.proofs.Ruling.{rules-of}
+use Rattle.store_sessions.proofs.Seeking.{sought, not-sought}
 use borrow.Author.Needs.{needs}
-use Rattle.sessions.proofs.find.Statement.{statement}
-use Rattle.sessions.proofs.find.Tie as tie
+use Rattle.store_sessions.proofs.find.Statement.{statement}
+use Rattle.store_sessions.proofs.find.Tie as tie
 
 place-of-requires : tie.Need-place-of-requires
 place-of-requires c κs = rules-of _ _ _ (sym (c .before .allowed .ensures) ∙ c .if1 .taken)

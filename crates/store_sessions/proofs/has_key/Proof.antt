@@ -1,8 +1,8 @@
-use Rattle.place.specs.Place.{keyFrom}
-use Rattle.sessions.proofs.Parts.{key-same}
+use Rattle.store_place.specs.Place.{keyFrom}
+use Rattle.store_sessions.proofs.Parts.{key-same}
 use borrow.Author.Needs.{needs}
-use Rattle.sessions.proofs.has_key.Statement.{statement}
-use Rattle.sessions.proofs.has_key.Tie as tie
+use Rattle.store_sessions.proofs.has_key.Statement.{statement}
+use Rattle.store_sessions.proofs.has_key.Tie as tie
 
 returns : tie.Need-returns
 returns c =

@@ -1,7 +1,7 @@
-use Rattle.sessions.proofs.Parts.{last-is}
+use Rattle.store_sessions.proofs.Parts.{last-is}
 use borrow.Author.Needs.{needs}
-use Rattle.sessions.proofs.last_outgoing.Statement.{statement}
-use Rattle.sessions.proofs.last_outgoing.Tie as tie
+use Rattle.store_sessions.proofs.last_outgoing.Statement.{statement}
+use Rattle.store_sessions.proofs.last_outgoing.Tie as tie
 
 returns : tie.Need-returns
 returns c =

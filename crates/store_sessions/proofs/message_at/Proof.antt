@@ -1,8 +1,8 @@
 use native.Mathlib.Omega.{arith}
-use Rattle.sessions.proofs.Parts.{stands-in, read-at}
+use Rattle.store_sessions.proofs.Parts.{stands-in, read-at}
 use borrow.Author.Needs.{needs}
-use Rattle.sessions.proofs.message_at.Statement.{statement}
-use Rattle.sessions.proofs.message_at.Tie as tie
+use Rattle.store_sessions.proofs.message_at.Statement.{statement}
+use Rattle.store_sessions.proofs.message_at.Tie as tie
 
 message-at-requires : tie.Need-message-at-requires
 message-at-requires c κs =

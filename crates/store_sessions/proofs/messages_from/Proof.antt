@@ -1,7 +1,7 @@
-use Rattle.sessions.proofs.Parts.{from-at}
+use Rattle.store_sessions.proofs.Parts.{from-at}
 use borrow.Author.Needs.{needs}
-use Rattle.sessions.proofs.messages_from.Statement.{statement}
-use Rattle.sessions.proofs.messages_from.Tie as tie
+use Rattle.store_sessions.proofs.messages_from.Statement.{statement}
+use Rattle.store_sessions.proofs.messages_from.Tie as tie
 
 returns : tie.Need-returns
 returns c =

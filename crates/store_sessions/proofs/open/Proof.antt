@@ -2,11 +2,11 @@ use native.Mathlib.Omega.{arith}
 use mathlib.Core.Path.{_∙_}
 use Prim.Native.Nat.{_+_}
 use lib.ListN.{getD, length-set}
-use Rattle.place.specs.Place.{keyFrom}
-use Rattle.sessions.proofs.Opening.{raised, in-use, opened}
+use Rattle.store_place.specs.Place.{keyFrom}
+use Rattle.store_sessions.proofs.Opening.{raised, in-use, opened}
 use borrow.Author.Needs.{needs}
-use Rattle.sessions.proofs.open.Statement.{statement}
-use Rattle.sessions.proofs.open.Tie as tie
+use Rattle.store_sessions.proofs.open.Statement.{statement}
+use Rattle.store_sessions.proofs.open.Tie as tie
 
 spot-in-requires : tie.Need-spot-in-requires
 spot-in-requires c κs =

@@ -1,11 +1,11 @@
 use native.Mathlib.Omega.{arith}
 use Prim.Native.Nat.{_-_}
 use lib.ListN.{getD}
-use Rattle.place.specs.Place.{keyFrom}
-use Rattle.areas.specs.Areas.{placeAt, placesOf}
-use Rattle.sessions.proofs.Seeking.{Seeking, seeking-starts, found, goes-on, nowhere}
-use Rattle.sessions.proofs.place_of.Statement.{statement}
-use Rattle.sessions.proofs.place_of.Tie as tie
+use Rattle.store_place.specs.Place.{keyFrom}
+use Rattle.store_areas.specs.Areas.{placeAt, placesOf}
+use Rattle.store_sessions.proofs.Seeking.{Seeking, seeking-starts, found, goes-on, nowhere}
+use Rattle.store_sessions.proofs.place_of.Statement.{statement}
+use Rattle.store_sessions.proofs.place_of.Tie as tie
 
 abbrev Inv-loop : tie.InvT-loop
 Inv-loop words bytes shape begin sender target suffix used i₀ i = Seeking (keyFrom begin sender target suffix) (placeAt shape words bytes) (getD words 0 0) i

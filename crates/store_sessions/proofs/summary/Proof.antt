@@ -1,10 +1,10 @@
 use native.Mathlib.Omega.{arith}
 use mathlib.Core.Path.{sym, _∙_}
-use Rattle.areas.proofs.Ruling.{rules-of}
-use Rattle.sessions.proofs.Parts.{summary-known, summary-refused, summary-none}
+use Rattle.store_areas.proofs.Ruling.{rules-of}
+use Rattle.store_sessions.proofs.Parts.{summary-known, summary-refused, summary-none}
 use borrow.Author.Needs.{needs}
-use Rattle.sessions.proofs.summary.Statement.{statement}
-use Rattle.sessions.proofs.summary.Tie as tie
+use Rattle.store_sessions.proofs.summary.Statement.{statement}
+use Rattle.store_sessions.proofs.summary.Tie as tie
 
 shared-slice-read-if2 : tie.Need-shared-slice-read-if2
 shared-slice-read-if2 c = omega (arith, rules-of _ _ _ (sym (c .before .before .allowed .ensures) ∙ c .before .if1 .taken) .room .words-long)

@@ -1,7 +1,7 @@
-use Rattle.sessions.proofs.Parts.{summed-up}
+use Rattle.store_sessions.proofs.Parts.{summed-up}
 use borrow.Author.Needs.{needs}
-use Rattle.sessions.proofs.summary_of.Statement.{statement}
-use Rattle.sessions.proofs.summary_of.Tie as tie
+use Rattle.store_sessions.proofs.summary_of.Statement.{statement}
+use Rattle.store_sessions.proofs.summary_of.Tie as tie
 
 returns : tie.Need-returns
 returns c = summed-up _ _ _ _ (c .before .before .before .before .before .next-outgoing .ensures) (c .before .before .before .before .next-incoming .ensures) (c .before .before .before .in-flight .ensures) (c .before .before .created-at .ensures) (c .before .marks .ensures) (c .last-outgoing .ensures)

@@ -1,9 +1,9 @@
 use native.Mathlib.Omega.{arith}
 use Prim.Native.Nat.{_-_}
 use lib.ListN.{getD}
-use Rattle.sessions.proofs.Promoting.{Promoting, promoting-starts, promoting-goes, promoting-ends}
-use Rattle.sessions.proofs.take_over_all.Statement.{statement}
-use Rattle.sessions.proofs.take_over_all.Tie as tie
+use Rattle.store_sessions.proofs.Promoting.{Promoting, promoting-starts, promoting-goes, promoting-ends}
+use Rattle.store_sessions.proofs.take_over_all.Statement.{statement}
+use Rattle.store_sessions.proofs.take_over_all.Tie as tie
 
 abbrev Inv-loop : tie.InvT-loop
 Inv-loop words₀ bytes₀ shape lag used i₀ words bytes i = Promoting shape lag words₀ bytes₀ words bytes i

@@ -1,7 +1,7 @@
-use Rattle.store.proofs.Reading.{stamp-at}
+use Rattle.store_state.proofs.Reading.{stamp-at}
 use borrow.Author.Needs.{needs}
-use Rattle.store.proofs.created_at.Statement.{statement}
-use Rattle.store.proofs.created_at.Tie as tie
+use Rattle.store_state.proofs.created_at.Statement.{statement}
+use Rattle.store_state.proofs.created_at.Tie as tie
 
 returns : tie.Need-returns
 returns c =

@@ -1,8 +1,8 @@
 use mathlib.Core.Path.{_∙_}
-use Rattle.store.proofs.Reading.{durable-is}
+use Rattle.store_state.proofs.Reading.{durable-is}
 use borrow.Author.Needs.{needs}
-use Rattle.store.proofs.durable.Statement.{statement}
-use Rattle.store.proofs.durable.Tie as tie
+use Rattle.store_state.proofs.durable.Statement.{statement}
+use Rattle.store_state.proofs.durable.Tie as tie
 
 returns : tie.Need-returns
 returns c =

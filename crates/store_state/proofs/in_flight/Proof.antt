@@ -1,8 +1,8 @@
 use mathlib.Core.Path.{_∙_}
-use Rattle.store.proofs.Reading.{flight-is}
+use Rattle.store_state.proofs.Reading.{flight-is}
 use borrow.Author.Needs.{needs}
-use Rattle.store.proofs.in_flight.Statement.{statement}
-use Rattle.store.proofs.in_flight.Tie as tie
+use Rattle.store_state.proofs.in_flight.Statement.{statement}
+use Rattle.store_state.proofs.in_flight.Tie as tie
 
 returns : tie.Need-returns
 returns c =

@@ -1,10 +1,10 @@
 use native.Mathlib.Omega.{arith}
-use Rattle.model.specs.Store.{markDurable}
-use Rattle.areas.proofs.Lifting.{spot-words}
-use Rattle.store.proofs.Reading.{word-set}
+use Rattle.model_standby.specs.Store.{markDurable}
+use Rattle.store_areas.proofs.Lifting.{spot-words}
+use Rattle.store_state.proofs.Reading.{word-set}
 use borrow.Author.Needs.{needs}
-use Rattle.store.proofs.mark_durable.Statement.{statement}
-use Rattle.store.proofs.mark_durable.Tie as tie
+use Rattle.store_state.proofs.mark_durable.Statement.{statement}
+use Rattle.store_state.proofs.mark_durable.Tie as tie
 
 returns : tie.Need-returns
 returns c =

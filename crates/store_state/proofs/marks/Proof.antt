@@ -1,7 +1,7 @@
-use Rattle.store.proofs.Reading.{marks-at}
+use Rattle.store_state.proofs.Reading.{marks-at}
 use borrow.Author.Needs.{needs}
-use Rattle.store.proofs.marks.Statement.{statement}
-use Rattle.store.proofs.marks.Tie as tie
+use Rattle.store_state.proofs.marks.Statement.{statement}
+use Rattle.store_state.proofs.marks.Tie as tie
 
 returns : tie.Need-returns
 returns c =

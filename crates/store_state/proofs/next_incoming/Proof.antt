@@ -1,8 +1,8 @@
 use mathlib.Core.Path.{_∙_}
-use Rattle.store.proofs.Reading.{in-is}
+use Rattle.store_state.proofs.Reading.{in-is}
 use borrow.Author.Needs.{needs}
-use Rattle.store.proofs.next_incoming.Statement.{statement}
-use Rattle.store.proofs.next_incoming.Tie as tie
+use Rattle.store_state.proofs.next_incoming.Statement.{statement}
+use Rattle.store_state.proofs.next_incoming.Tie as tie
 
 returns : tie.Need-returns
 returns c =

@@ -1,8 +1,8 @@
 use mathlib.Core.Path.{_∙_}
-use Rattle.store.proofs.Reading.{out-is}
+use Rattle.store_state.proofs.Reading.{out-is}
 use borrow.Author.Needs.{needs}
-use Rattle.store.proofs.next_outgoing.Statement.{statement}
-use Rattle.store.proofs.next_outgoing.Tie as tie
+use Rattle.store_state.proofs.next_outgoing.Statement.{statement}
+use Rattle.store_state.proofs.next_outgoing.Tie as tie
 
 returns : tie.Need-returns
 returns c =

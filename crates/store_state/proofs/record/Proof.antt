@@ -1,13 +1,13 @@
 use native.Mathlib.Omega.{arith}
 use mathlib.Core.Path.{sym, _∙_}
-use Rattle.store.proofs.Reading.{out-is}
+use Rattle.store_state.proofs.Reading.{out-is}
 use mathlib.Core.List.{[], _∷_}
 use Rattle.model_frame.specs.Frame.{recordMsg}
-use Rattle.model.specs.Store.{changed}
-use Rattle.areas.proofs.Lifting.{spot-both}
+use Rattle.model_standby.specs.Store.{changed}
+use Rattle.store_areas.proofs.Lifting.{spot-both}
 use borrow.Author.Needs.{needs}
-use Rattle.store.proofs.record.Statement.{statement}
-use Rattle.store.proofs.record.Tie as tie
+use Rattle.store_state.proofs.record.Statement.{statement}
+use Rattle.store_state.proofs.record.Tie as tie
 
 record-requires : tie.Need-record-requires
 record-requires c κs =

@@ -1,12 +1,12 @@
 use native.Mathlib.Omega.{arith}
-use Rattle.store.proofs.Reading.{out-is}
+use Rattle.store_state.proofs.Reading.{out-is}
 use mathlib.Core.List.{[], _∷_}
 use Rattle.model_frame.specs.Frame.{recordBare}
-use Rattle.model.specs.Store.{changed}
-use Rattle.areas.proofs.Lifting.{spot-words}
+use Rattle.model_standby.specs.Store.{changed}
+use Rattle.store_areas.proofs.Lifting.{spot-words}
 use borrow.Author.Needs.{needs}
-use Rattle.store.proofs.record_none.Statement.{statement}
-use Rattle.store.proofs.record_none.Tie as tie
+use Rattle.store_state.proofs.record_none.Statement.{statement}
+use Rattle.store_state.proofs.record_none.Tie as tie
 
 record-none-requires : tie.Need-record-none-requires
 record-none-requires c κs =

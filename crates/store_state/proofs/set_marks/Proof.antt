@@ -1,11 +1,11 @@
 use native.Mathlib.Omega.{arith}
 use mathlib.Core.List.{[], _∷_}
 use Rattle.model_frame.specs.Frame.{setMarks}
-use Rattle.model.specs.Store.{changed}
-use Rattle.areas.proofs.Lifting.{spot-both}
+use Rattle.model_standby.specs.Store.{changed}
+use Rattle.store_areas.proofs.Lifting.{spot-both}
 use borrow.Author.Needs.{needs}
-use Rattle.store.proofs.set_marks.Statement.{statement}
-use Rattle.store.proofs.set_marks.Tie as tie
+use Rattle.store_state.proofs.set_marks.Statement.{statement}
+use Rattle.store_state.proofs.set_marks.Tie as tie
 
 set-marks-requires : tie.Need-set-marks-requires
 set-marks-requires c κs =

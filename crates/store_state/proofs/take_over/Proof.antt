@@ -1,8 +1,8 @@
-use Rattle.model.specs.Store.{takenOver}
-use Rattle.areas.proofs.Lifting.{spot-both}
+use Rattle.model_standby.specs.Store.{takenOver}
+use Rattle.store_areas.proofs.Lifting.{spot-both}
 use borrow.Author.Needs.{needs}
-use Rattle.store.proofs.take_over.Statement.{statement}
-use Rattle.store.proofs.take_over.Tie as tie
+use Rattle.store_state.proofs.take_over.Statement.{statement}
+use Rattle.store_state.proofs.take_over.Tie as tie
 
 returns : tie.Need-returns
 returns c =

@@ -2,8 +2,8 @@ use borrow.Author.Needs.{needs}
 use mathlib.Core.Path.{_≡_}
 use Prim.Native.Nat.{_-_}
 use lib.ListN.{length}
-use Rattle.fill.proofs.count_on.Statement.{statement}
-use Rattle.fill.proofs.count_on.Tie as tie
+use Rattle.vectors_fill.proofs.count_on.Statement.{statement}
+use Rattle.vectors_fill.proofs.count_on.Tie as tie
 
 abbrev Inv-loop : tie.InvT-loop
 Inv-loop text₀ from j₀ text j = length text ≡ length text₀

@@ -1,7 +1,7 @@
 use borrow.Author.Needs.{needs}
 use Prim.Native.Nat.{_≤_}
-use Rattle.script.proofs.start.Statement.{statement}
-use Rattle.script.proofs.start.Tie as tie
+use Rattle.vectors_script.proofs.start.Statement.{statement}
+use Rattle.vectors_script.proofs.start.Tie as tie
 
 abbrev Inv-loop : tie.InvT-loop
 Inv-loop s k at₀ left₀ at left = 0 ≤ left

@@ -1,8 +1,8 @@
 use borrow.Author.Needs.{needs}
 use mathlib.Core.Path.{_≡_}
 use lib.ListN.{length}
-use Rattle.sendings.proofs.turns.Statement.{statement}
-use Rattle.sendings.proofs.turns.Tie as tie
+use Rattle.vectors_sendings.proofs.turns.Statement.{statement}
+use Rattle.vectors_sendings.proofs.turns.Tie as tie
 
 abbrev Inv-loop : tie.InvT-loop
 Inv-loop shape words bytes out₀ short s₀ left₀ out s left = length out ≡ length out₀

@@ -1,8 +1,8 @@
 use borrow.Author.Needs.{needs}
 use native.Mathlib.Omega.{arith}
 use mathlib.Core.Path.{sym, _∙_}
-use Rattle.areas.proofs.Ruling.{in-use-of}
-use Rattle.sessions.specs.Answers.{StandsAt}
+use Rattle.store_areas.proofs.Ruling.{in-use-of}
+use Rattle.store_sessions.specs.Answers.{StandsAt}
 use Rattle.vectors_store.proofs.list.Statement.{statement}
 use Rattle.vectors_store.proofs.list.Tie as tie
 

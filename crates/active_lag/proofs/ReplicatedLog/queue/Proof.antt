@@ -1,8 +1,8 @@
 use native.Mathlib.Omega.{arith}
 use borrow.Author.Needs.{needs}
-use Rattle.lag.proofs.Laws.{refuses, pushes}
-use Rattle.lag.proofs.ReplicatedLog.queue.Statement.{statement}
-use Rattle.lag.proofs.ReplicatedLog.queue.Tie as tie
+use Rattle.active_lag.proofs.Laws.{refuses, pushes}
+use Rattle.active_lag.proofs.ReplicatedLog.queue.Statement.{statement}
+use Rattle.active_lag.proofs.ReplicatedLog.queue.Tie as tie
 
 returns : tie.Need-returns
 returns c = refuses (c .before .args .max-lag) (c .before .args .self) (c .before .args .last) (c .if1 .taken)

@@ -1,7 +1,7 @@
-use Rattle.whole.proofs.Putting.{wrote-byte}
+use Rattle.active_messages.proofs.Putting.{wrote-byte}
 use borrow.Author.Needs.{needs}
-use Rattle.whole.proofs.put.put_byte.Statement.{statement}
-use Rattle.whole.proofs.put.put_byte.Tie as tie
+use Rattle.active_messages.proofs.put.put_byte.Statement.{statement}
+use Rattle.active_messages.proofs.put.put_byte.Tie as tie
 
 returns : tie.Need-returns
 returns c = wrote-byte _ _ (search needs) (c .before .before .put-u8 .ensures .0 .bytes)

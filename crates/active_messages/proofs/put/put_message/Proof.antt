@@ -2,10 +2,10 @@ use native.Mathlib.Omega.{arith}
 use lib.ListN.{length-take, length-drop, drop}
 use Prim.Native.Nat.{_+_, _-_}
 use denote.Ref.{now}
-use Rattle.whole.proofs.Putting.{wrote-pieces}
+use Rattle.active_messages.proofs.Putting.{wrote-pieces}
 use borrow.Author.Needs.{needs}
-use Rattle.whole.proofs.put.put_message.Statement.{statement}
-use Rattle.whole.proofs.put.put_message.Tie as tie
+use Rattle.active_messages.proofs.put.put_message.Statement.{statement}
+use Rattle.active_messages.proofs.put.put_message.Tie as tie
 
 slice-aggregate-copy : tie.Need-slice-aggregate-copy
 slice-aggregate-copy c = simp length-take (omega arith)

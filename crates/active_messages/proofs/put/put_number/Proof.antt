@@ -1,7 +1,7 @@
-use Rattle.whole.proofs.Putting.{wrote-tagged}
+use Rattle.active_messages.proofs.Putting.{wrote-tagged}
 use borrow.Author.Needs.{needs}
-use Rattle.whole.proofs.put.put_number.Statement.{statement}
-use Rattle.whole.proofs.put.put_number.Tie as tie
+use Rattle.active_messages.proofs.put.put_number.Statement.{statement}
+use Rattle.active_messages.proofs.put.put_number.Tie as tie
 
 returns : tie.Need-returns
 returns c = wrote-tagged _ _ _ (c .before .before .before .before .before .before .put-byte .ensures) (c .before .before .put-u64 .ensures .0 .bytes)

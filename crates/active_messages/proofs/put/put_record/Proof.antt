@@ -1,7 +1,7 @@
-use Rattle.whole.proofs.Putting.{wrote-record, piece-length}
+use Rattle.active_messages.proofs.Putting.{wrote-record, piece-length}
 use borrow.Author.Needs.{needs}
-use Rattle.whole.proofs.put.put_record.Statement.{statement}
-use Rattle.whole.proofs.put.put_record.Tie as tie
+use Rattle.active_messages.proofs.put.put_record.Statement.{statement}
+use Rattle.active_messages.proofs.put.put_record.Tie as tie
 
 returns : tie.Need-returns
 returns c = let p = c .before .before .before .before .before .before .before .before .before .before .before .before .before .before .pre in wrote-record _ _ _ (c .before .before .before .before .before .before .before .before .before .before .put-number .ensures) (c .before .before .before .before .before .before .put-u32 .ensures .0 .bytes) (piece-length _ _ _ _ (p .0) (p .1 .0)) (c .before .before .put-message .ensures)

@@ -1,7 +1,7 @@
-use Rattle.whole.proofs.Putting.{wrote-skip, skip-nothing, skip-room}
+use Rattle.active_messages.proofs.Putting.{wrote-skip, skip-nothing, skip-room}
 use borrow.Author.Needs.{needs}
-use Rattle.whole.proofs.put.put_skip.Statement.{statement}
-use Rattle.whole.proofs.put.put_skip.Tie as tie
+use Rattle.active_messages.proofs.put.put_skip.Statement.{statement}
+use Rattle.active_messages.proofs.put.put_skip.Tie as tie
 
 put-number-requires : tie.Need-put-number-requires
 put-number-requires c κs = skip-room _ _ _ _ (c .before .if1 .taken) (c .before .before .before .pre)

@@ -1,7 +1,7 @@
-use Rattle.whole.proofs.Putting.{wrote-text}
+use Rattle.active_messages.proofs.Putting.{wrote-text}
 use borrow.Author.Needs.{needs}
-use Rattle.whole.proofs.put.put_text.Statement.{statement}
-use Rattle.whole.proofs.put.put_text.Tie as tie
+use Rattle.active_messages.proofs.put.put_text.Statement.{statement}
+use Rattle.active_messages.proofs.put.put_text.Tie as tie
 
 returns : tie.Need-returns
 returns c = wrote-text _ _ _ (c .before .before .before .before .before .before .before .before .before .before .put-byte .ensures) (c .before .before .before .before .before .before .put-u32 .ensures .0 .bytes) (c .before .before .copy .ensures)

@@ -4,9 +4,9 @@ use mathlib.Core.Path.{_≡_, refl}
 use Prim.Native.Nat.{_-_, _≤_}
 use lib.ListN.{length, drop}
 use Rattle.model_session.specs.Summary.{fnv}
-use Rattle.log.proofs.Hash.{fnv-next, fnv-done}
-use Rattle.log.proofs.fnv.bytes.Statement.{statement}
-use Rattle.log.proofs.fnv.bytes.Tie as tie
+use Rattle.store_log.proofs.Hash.{fnv-next, fnv-done}
+use Rattle.store_log.proofs.fnv.bytes.Statement.{statement}
+use Rattle.store_log.proofs.fnv.bytes.Tie as tie
 
 abbrev Inv-loop : tie.InvT-loop
 Inv-loop h s r₀ i₀ r i = (i ≤ length s) × (fnv h s ≡ fnv r (drop i s))

@@ -1,7 +1,7 @@
 use Rattle.model_session.specs.Summary.{fnvStep}
 use borrow.Author.Needs.{needs}
-use Rattle.log.proofs.fnv.step.Statement.{statement}
-use Rattle.log.proofs.fnv.step.Tie as tie
+use Rattle.store_log.proofs.fnv.step.Statement.{statement}
+use Rattle.store_log.proofs.fnv.step.Tie as tie
 
 returns : tie.Need-returns
 unfolding fnvStep

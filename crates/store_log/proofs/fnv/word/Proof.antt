@@ -1,9 +1,9 @@
 use native.Mathlib.Omega.{arith}
 use Rattle.model_frame.specs.Bytes.{bytesOf}
 use Rattle.model_session.specs.Summary.{fnv}
-use Rattle.log.proofs.Hash.{Word, word-starts, word-some, word-next, word-ends}
-use Rattle.log.proofs.fnv.word.Statement.{statement}
-use Rattle.log.proofs.fnv.word.Tie as tie
+use Rattle.store_log.proofs.Hash.{Word, word-starts, word-some, word-next, word-ends}
+use Rattle.store_log.proofs.fnv.word.Statement.{statement}
+use Rattle.store_log.proofs.fnv.word.Tie as tie
 
 abbrev Inv-loop : tie.InvT-loop
 Inv-loop h x r₀ y₀ left₀ r y left = Word (fnv h (bytesOf 8 x)) r left y

@@ -1,9 +1,9 @@
 use lib.Pow.{shr-lt}
 use lib.Bits.{mask-lt}
-use Rattle.log.proofs.Hash.{half-product, times}
+use Rattle.store_log.proofs.Hash.{half-product, times}
 use borrow.Author.Needs.{needs}
-use Rattle.log.proofs.fnv.wrapping_mul.Statement.{statement}
-use Rattle.log.proofs.fnv.wrapping_mul.Tie as tie
+use Rattle.store_log.proofs.fnv.wrapping_mul.Statement.{statement}
+use Rattle.store_log.proofs.fnv.wrapping_mul.Tie as tie
 
 mul-wrapping-add-u64 : tie.Need-mul-wrapping-add-u64
 mul-wrapping-add-u64 c = record { fits = half-product (shr-lt 32 32 (c .fits .a .fits)) (mask-lt (c .args .b) 32) }
