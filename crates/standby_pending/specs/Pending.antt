@@ -2,10 +2,11 @@
 use mathlib.Core.List.{List, map}
 use Prim.Native.Nat.{ℕ, _/_, _%_}
 use lib.ListN.{getD, take, drop}
+use Rattle.store_areas.specs.StoreWord
 
 -- how many are pending
 abbrev pub countOf : List ℕ → ℕ
-countOf w = getD w 1 0
+countOf w = getD w StoreWord.pending 0
 
 -- a handle, and the number of its session's place
 abbrev pub commitOf : ℕ → ℕ × ℕ
@@ -13,4 +14,4 @@ commitOf x = (x % 4294967296, x / 4294967296)
 
 -- the pending commits, oldest first
 unfoldable pub pendingOf : List ℕ → List (ℕ × ℕ)
-pendingOf w = map commitOf (take (countOf w) (drop 2 w))
+pendingOf w = map commitOf (take (countOf w) (drop StoreWord.commits w))
