@@ -32,10 +32,11 @@ pub enum Told {
 
 // ---- what stands in the byte area
 
-// The most bytes of a key's text, and of a stamp or marks.
-const KEY_TEXT_MOST: u32 = store_place::byte::KEY_TEXT_SIZE as u32;
+// The most bytes of one of a key's texts.
+const KEY_TEXT_MOST: u32 = byte::KEY_TEXT_SIZE as u32;
 
-const TEXT_MOST: u32 = store_place::byte::MARKS_SIZE as u32;
+// The most bytes of a stamp or of marks.
+const TEXT_MOST: u32 = byte::MARKS_SIZE as u32;
 
 // The n bytes at a position, or the first `most` of them.
 fn span(at: usize, n: u64, most: u32) -> Span

@@ -28,10 +28,14 @@ pub record MadeIs (s : Shape) (w w' b : List ℕ) (r : ℕ) : Type 0 where
   pub answer : r ≡ cond (roomy s w b) 0 Refusal.rulesBroken
   pub words : w' ≡ cond (roomy s w b) (set (set w StoreWord.used 0) StoreWord.pending 0) w
 
+-- the answer to a change that can't be made
+abbrev pub notMade : ℕ
+notMade = 2
+
 -- a change of what is stored at place i: 25 where the place isn't in use or the rules are broken, 2 where the change can't be made,
 -- and all is as it was; else it is made, and nothing outside the place changes
 pub record ChangeIs (s : Shape) (i : ℕ) (can : Bool) (f : Stored → Stored) (w w' b b' : List ℕ) (r : ℕ) : Type 0 where
-  pub answer : r ≡ cond (inUse s w b i) (cond can 0 2) Refusal.rulesBroken
+  pub answer : r ≡ cond (inUse s w b i) (cond can 0 notMade) Refusal.rulesBroken
   pub made : r ≡ 0 → Changed s i f w w' b b'
   pub still : eqb r 0 ≡ false → (w' ≡ w) × (b' ≡ b)
 

@@ -30,7 +30,7 @@ use store_areas::word;
 use store_place::Flight;
 use store_state::Text;
 
-// The most bytes of a stamp or marks.
+// The most bytes of a stamp or of marks.
 const TEXT_MOST: u32 = store_place::byte::MARKS_SIZE as u32;
 
 // A text of the store as a frame's: no stamp and no marks are longer than 64 bytes.

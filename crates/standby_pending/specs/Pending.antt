@@ -8,9 +8,13 @@ use Rattle.store_areas.specs.StoreWord
 abbrev pub countOf : List ℕ → ℕ
 countOf w = getD w StoreWord.pending 0
 
+-- how many handles there are
+abbrev pub handleCount : ℕ
+handleCount = 4294967296
+
 -- a handle, and the number of its session's place
 abbrev pub commitOf : ℕ → ℕ × ℕ
-commitOf x = (x % 4294967296, x / 4294967296)
+commitOf x = (x % handleCount, x / handleCount)
 
 -- the pending commits, oldest first
 unfoldable pub pendingOf : List ℕ → List (ℕ × ℕ)

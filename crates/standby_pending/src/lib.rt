@@ -7,8 +7,8 @@ ghost use Rattle.model_standby.specs.Standby.{pendsOn};
 ghost use Rattle.standby_pending.specs.Pending.{countOf, pendingOf};
 use store_areas::word;
 
-// A pending commit is one word: its place times this, and its handle.
-pub const PLACE: u64 = 4_294_967_296;
+// How many handles there are: a pending commit is one word, its place times this and its handle.
+pub const HANDLE_COUNT: u64 = 4_294_967_296;
 
 // Whether one of the pending commits is of a handle.
 pub fn pends_on(words: &[u64], handle: u32) -> bool
@@ -19,7 +19,7 @@ pub fn pends_on(words: &[u64], handle: u32) -> bool
     let n = words[word::PENDING] as usize;
     let mut i: usize = 0;
     while i < n {
-        if words[word::COMMITS + i] % PLACE == (handle as u64) {
+        if words[word::COMMITS + i] % HANDLE_COUNT == (handle as u64) {
             return true;
         }
         i += 1;
@@ -36,7 +36,7 @@ pub fn push(words: &mut [u64], place: usize, handle: u32)
     ensures writes { λ _. ⌜ now (words .exit) ≡ set (set (now (words .entry)) (2 + countOf (now (words .entry))) (place * 4294967296 + handle)) 1 (countOf (now (words .entry)) + 1) ⌝ }
 {
     let n = words[word::PENDING] as usize;
-    words[word::COMMITS + n] = (place as u64) * PLACE + (handle as u64);
+    words[word::COMMITS + n] = (place as u64) * HANDLE_COUNT + (handle as u64);
     words[word::PENDING] = (n + 1) as u64;
 }
 

@@ -46,7 +46,7 @@ pub fn run(words: &mut [u64], bytes: &[u8], shape: Shape)
     let n = words[word::PENDING] as usize;
     let mut i: usize = 0;
     while i < n {
-        let place = words[word::COMMITS + i] / standby_pending::PLACE;
+        let place = words[word::COMMITS + i] / standby_pending::HANDLE_COUNT;
         mark_used(words, shape, place);
         i += 1;
     }
