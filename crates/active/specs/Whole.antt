@@ -6,6 +6,7 @@ use mathlib.Core.List.{List, [], _∷_, _++_, map}
 use mathlib.Core.Option.{Option, none, some}
 use lib.ListN.{length, take}
 use lib.Dec.{ltb, leb}
+use Rattle.model_frame.specs.Refusal
 use Rattle.model_frame.specs.Bytes.{write}
 use Rattle.model_frame.specs.Frame.{Frame}
 use Rattle.model_frame.specs.Writing.{encode}
@@ -39,12 +40,12 @@ pub data Start : Type 0 where
 
 abbrev pub startOf : Begun → Start
 startOf (Begun.Ready s) = ready (s .place) (senderOf s)
-startOf Begun.NumbersPast = refused 24
-startOf Begun.Unfit = refused 25
+startOf Begun.NumbersPast = refused Refusal.numbersPast
+startOf Begun.Unfit = refused Refusal.rulesBroken
 
 unfoldable pub startFrom : ℕ → Option Session → ℕ → ℕ → ℕ → ℕ → Start
-startFrom limit none i h e last = refused 25
-startFrom limit (some a) i h e last = cond (cannotSend limit a (newSender h e last)) (refused 24) (ready i (newSender h e last))
+startFrom limit none i h e last = refused Refusal.rulesBroken
+startFrom limit (some a) i h e last = cond (cannotSend limit a (newSender h e last)) (refused Refusal.numbersPast) (ready i (newSender h e last))
 
 -- ---- one call
 
@@ -57,8 +58,8 @@ pub data Step : Type 0 where
 abbrev pub stepOf : Sent → Step
 stepOf (Sent.Frame len s) = gives len (s .place) (senderOf s)
 stepOf Sent.Done = finished
-stepOf Sent.TooShort = refused 9
-stepOf Sent.Unfit = refused 25
+stepOf Sent.TooShort = refused Refusal.noRoom
+stepOf Sent.Unfit = refused Refusal.rulesBroken
 
 -- a frame is still to be sent, and its commit number would pass 2^64 - 1: no operation leaves such a state
 abbrev pub spent : ℕ → Option ℕ → Bool
@@ -68,11 +69,11 @@ spent last (some n) = leb top last
 -- 9 where the frame is longer than the area
 abbrev pub answerTo : ℕ → ℕ → Option (Frame × Sender) → Step
 answerTo room i none = finished
-answerTo room i (some (f, t)) = cond (ltb room (length (encode f))) (refused 9) (gives (length (encode f)) i t)
+answerTo room i (some (f, t)) = cond (ltb room (length (encode f))) (refused Refusal.noRoom) (gives (length (encode f)) i t)
 
 unfoldable pub stepFrom : ℕ → Option Session → ℕ → Sender → ℕ → Step
-stepFrom limit none i s room = refused 25
-stepFrom limit (some a) i s room = cond (spent (s .last) (s .from)) (refused 25) (answerTo room i (sendNext limit a s))
+stepFrom limit none i s room = refused Refusal.rulesBroken
+stepFrom limit (some a) i s room = cond (spent (s .last) (s .from)) (refused Refusal.rulesBroken) (answerTo room i (sendNext limit a s))
 
 -- what the area holds then: the frame at its start, and the rest as it was; without a frame all is as it was
 abbrev pub filledBy : Option (Frame × Sender) → List ℕ → List ℕ

@@ -5,6 +5,7 @@ use mathlib.Core.List.{List, [], _++_}
 use mathlib.Core.Option.{Option, none, some}
 use Prim.Native.Nat.{ℕ, suc, _+_, _≤_, max}
 use lib.ListN.{length}
+use Rattle.model_frame.specs.FrameKind
 use Rattle.model_frame.specs.Bytes.{bytesOf, write}
 use Rattle.model_frame.specs.Frame.{Change, Part, whole, lastWhole, Frame, batch}
 use Rattle.model_frame.specs.Parse.{isEmpty}
@@ -50,7 +51,7 @@ module _ (limit C M : ℕ) (h : Header) (log ring : List ℕ) where
 
 -- the first 30 bytes of the frame: the body's length, kind, handle, epoch, commit number, part and count
 unfoldable pub headBytes : ℕ → ℕ → ℕ → ℕ → ℕ → ℕ → List ℕ
-headBytes size h e n part count = bytesOf 4 (30 + size) ++ bytesOf 1 4 ++ bytesOf 4 h ++ bytesOf 8 e ++ bytesOf 8 n ++ bytesOf 1 part ++ bytesOf 4 count
+headBytes size h e n part count = bytesOf 4 (30 + size) ++ bytesOf 1 FrameKind.batch ++ bytesOf 4 h ++ bytesOf 8 e ++ bytesOf 8 n ++ bytesOf 1 part ++ bytesOf 4 count
 
 abbrev pub partIs : Bool → Part
 partIs true = lastWhole

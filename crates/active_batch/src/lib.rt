@@ -15,6 +15,10 @@ ghost use Rattle.active_batch.specs.Batch.{changesOf, Planned, headBytes
 use active_header::Header;
 use frame::CommitNumber;
 use frame::Epoch;
+use frame_fields::kind;
+use frame_fields::part_byte;
+use store_place::byte;
+use store_place::word;
 
 // A batch: the place in the log where its messages begin, its first number, the next number after it, whether it is the last,
 // how many changes it has, and their bytes.
@@ -123,7 +127,11 @@ fn put_changes(
 fn part_byte(last: bool) -> u8
     ensures { λ r. ⌜ r ≡ partNumber (partIs last) ⌝ }
 {
-    if last { 2 } else { 1 }
+    if last {
+        part_byte::LAST_WHOLE
+    } else {
+        part_byte::WHOLE
+    }
 }
 
 // Writes what stands before the changes.
@@ -142,7 +150,7 @@ fn put_head(
     ensures { λ _. ⌜ now (out .exit) ≡ write (now (out .entry)) 0 (headBytes size handle (epoch .0) (number .0) (partNumber (partIs last)) count) ⌝ }
 {
     base_bytes::put_u32(out, 0, (30 + size) as u32);
-    base_bytes::put_u8(out, 4, 4);
+    base_bytes::put_u8(out, 4, kind::BATCH);
     base_bytes::put_u32(out, 5, handle);
     base_bytes::put_u64(out, 9, epoch.0);
     base_bytes::put_u64(out, 17, number.0);
@@ -200,17 +208,17 @@ pub fn send(
     ensures { λ r. ⌜ ((C : ℕ) → length (now (bytes .entry)) ≡ 224 + C → WroteBatch limit (sessionOf C max (now (words .entry)) (now (bytes .entry))) handle (epoch .0) (number .0) from (now (out .entry)) (now (out .exit)) r) ⌝ }
 {
     let h = active_header::header_of(words, bytes);
-    let stamp_end = 128 + h.stamp;
-    let marks_end = 160 + h.marks;
-    let log = &words[14..];
-    let ring = &bytes[224..];
+    let stamp_end = byte::STAMP + h.stamp;
+    let marks_end = byte::MARKS + h.marks;
+    let log = &words[word::LOG..];
+    let ring = &bytes[byte::RING..];
     let p = plan_from(h, log, ring, max, from, limit);
     let len = 34 + p.size;
     if out.len() < len {
         return Written::TooShort;
     }
-    let stamp = &bytes[128..stamp_end];
-    let marks = &bytes[160..marks_end];
+    let stamp = &bytes[byte::STAMP..stamp_end];
+    let marks = &bytes[byte::MARKS..marks_end];
     put_frame(
         h,
         stamp,
@@ -239,5 +247,5 @@ pub fn batches(words: &[u64], bytes: &[u8], max: usize, limit: u64) -> usize
     ensures few { λ r. ⌜ r ≤ 33554433 ⌝ }
 {
     let next = store_place::next_outgoing(words);
-    active_messages::batches(&words[14..], &bytes[224..], max, next, limit)
+    active_messages::batches(&words[word::LOG..], &bytes[byte::RING..], max, next, limit)
 }

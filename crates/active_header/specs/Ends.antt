@@ -7,18 +7,20 @@ use lib.ListN.{length, take, drop, getD}
 use Rattle.model_frame.specs.Frame.{Change, reset, setMarks}
 use Rattle.model_frame.specs.Writing.{sizes}
 use Rattle.model_session.specs.Whole.{stampPart, skipTo, incomingPart}
+use Rattle.store_place.specs.PlaceByte
+use Rattle.store_place.specs.PlaceWord
 use Rattle.store_place.specs.Place.{nextOutOf, flightOf, stampOf, marksOf, flightIs}
 use Rattle.active_header.specs.declared.Header.{Header}
 
 -- a header is that of a place
 pub record Heads (w b : List ℕ) (h : Header) : Type 0 where
   pub outgoing : h .«next_outgoing» ≡ nextOutOf w
-  pub incoming : h .«next_incoming» ≡ getD w 1 0
+  pub incoming : h .«next_incoming» ≡ getD w PlaceWord.nextIn 0
   pub flight : flightIs (h .«in_flight») ≡ flightOf w
-  pub stamp-is : take (h .stamp) (drop 128 b) ≡ stampOf w b
-  pub stamp-most : h .stamp ≤ 32
-  pub marks-is : take (h .marks) (drop 160 b) ≡ marksOf w b
-  pub marks-most : h .marks ≤ 64
+  pub stamp-is : take (h .stamp) (drop PlaceByte.stamp b) ≡ stampOf w b
+  pub stamp-most : h .stamp ≤ PlaceByte.stampSize
+  pub marks-is : take (h .marks) (drop PlaceByte.marks b) ≡ marksOf w b
+  pub marks-most : h .marks ≤ PlaceByte.marksSize
 
 -- changes: how many, and their bytes
 pub record Spans (cs : List Change) (count size : ℕ) : Type 0 where

@@ -11,6 +11,7 @@ ghost use Rattle.base_laws.specs.Wrote.{Wrote};
 ghost use Rattle.store_place.specs.Place.{flightIs};
 ghost use Rattle.active_header.specs.Ends.{Heads, Spans, openingOf, closingOf, endingOf};
 use active_messages::put;
+use frame_op::kind;
 use store_place::Flight;
 
 // What a session has beside its messages: stamp and marks by their lengths.
@@ -72,11 +73,11 @@ pub fn put_opening(stamp: &[u8], from: u64, out: &mut [u8], at: usize) -> usize
     if 0 < from {
         return at;
     }
-    let pos = put::put_byte(6, out, at);
+    let pos = put::put_byte(kind::RESET, out, at);
     if stamp.len() == 0 {
         return pos;
     }
-    put::put_text(7, stamp, out, pos)
+    put::put_text(kind::SET_CREATED_AT, stamp, out, pos)
 }
 
 // ---- what stands after them
@@ -96,9 +97,9 @@ fn put_incoming(next: u64, in_flight: Flight, out: &mut [u8], at: usize) -> usiz
     ensures { λ r. ⌜ Wrote (now (out .entry)) at (changeBytes (incomingPart next (flightIs «in_flight»))) (now (out .exit)) r ⌝ }
 {
     match in_flight {
-        Flight::Nothing => put::put_number(1, next, out, at),
+        Flight::Nothing => put::put_number(kind::SET_NEXT_INCOMING, next, out, at),
         Flight::Number(f) => {
-            put::put_number(2, next, out, at);
+            put::put_number(kind::SET_NEXT_INCOMING_IN_FLIGHT, next, out, at);
             base_bytes::put_u64(out, at + 9, f);
             at + 17
         }
@@ -129,7 +130,7 @@ fn put_closing(h: Header, marks: &[u8], next: u64, out: &mut [u8], at: usize) ->
     let in_flight = h.in_flight;
     let skipped = put::put_skip(next, h.next_outgoing, out, at);
     let pos = put_incoming(h.next_incoming, in_flight, out, skipped);
-    put::put_text(8, marks, out, pos)
+    put::put_text(kind::SET_MARKS, marks, out, pos)
 }
 
 // ---- and only in the last batch

@@ -7,6 +7,7 @@ ghost use lib.ListN.{take, drop};
 ghost use lib.Dec.{ltb};
 ghost use Rattle.active_lag.specs.Queue.{queueOf, Drains, Answers};
 ghost use Rattle.model_session.specs.Lag.{newQueue};
+use base_refusals::RULES_BROKEN;
 
 // The batches sent that no commit has waited for yet, oldest first: the last outgoing number of each. The room is one more
 // than may wait, for the batch that was just pushed.
@@ -116,7 +117,7 @@ impl ReplicatedLog {
         let count = self.count;
         if ReplicatedLog::MAX_QUEUED < count {
             return Queued {
-                refusal: 25,
+                refusal: RULES_BROKEN,
                 drained: 0,
                 log: self,
             };

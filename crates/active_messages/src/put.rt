@@ -9,6 +9,7 @@ ghost use Rattle.model_frame.specs.Writing.{blobBytes, changeBytes, sizes};
 ghost use Rattle.model_session.specs.Whole.{skipTo, sendMsg};
 ghost use Rattle.base_laws.specs.Wrote.{Wrote};
 ghost use Rattle.store_log.specs.Log.{msg};
+use frame_op::kind;
 
 // A byte.
 pub fn put_byte(k: u8, out: &mut [u8], at: usize) -> usize
@@ -46,7 +47,7 @@ pub fn put_skip(next: u64, n: u64, out: &mut [u8], at: usize) -> usize
     ensures { λ r. ⌜ Wrote (now (out .entry)) at (runBytes changeBytes (skipTo next n)) (now (out .exit)) r ⌝ }
 {
     if next < n {
-        put_number(5, n - 1, out, at)
+        put_number(kind::RECORD_NONE, n - 1, out, at)
     } else {
         at
     }
@@ -87,7 +88,7 @@ pub fn put_record(
     requires { ⌜ at + 13 + first + rest ≤ length (now out) ⌝ }
     ensures { λ r. ⌜ Wrote (now (out .entry)) at (changeBytes (recordMsg number (take first (drop start (now (bytes .entry))) ++ take rest (now (bytes .entry))))) (now (out .exit)) r ⌝ }
 {
-    put_number(4, number, out, at);
+    put_number(kind::RECORD, number, out, at);
     base_bytes::put_u32(out, at + 9, (first + rest) as u32);
     put_message(bytes, start, first, rest, out, at + 13)
 }

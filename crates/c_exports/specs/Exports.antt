@@ -6,11 +6,13 @@ use mathlib.Core.List.{List, []}
 use mathlib.Core.Option.{Option, some}
 use lib.ListN.{length, set}
 use lib.Dec.{ltb}
+use Rattle.model_frame.specs.Refusal
 use Rattle.model_frame.specs.Frame.{Frame, Decoded, more, faulty, got}
 use Rattle.model_frame.specs.Writing.{encode}
 use Rattle.frame_writer.specs.Encoding.{Outcome, wrote, refused, outcome, areaAfter, answerOf}
 use Rattle.model_standby.specs.Answer as the-answer
 use Rattle.c_session.specs.Telling as telling
+use Rattle.store_areas.specs.StoreWord
 use Rattle.store_areas.specs.declared.Shape.{Shape}
 use Rattle.store_areas.specs.Areas.{roomy}
 use Rattle.c_exports.specs.Returned.{refusalCode, doneCode, faultCode, writtenCode, takenCode}
@@ -24,7 +26,7 @@ pub record Again (used : ℕ) (o : Outcome) (out out' : List ℕ) (r : ℕ) : Ty
 
 -- 9 where the area is too short; else the frame's bytes
 abbrev pub rewritten : Frame → ℕ → Outcome
-rewritten f room = cond (ltb room (length (encode f))) (refused 9) (wrote (encode f))
+rewritten f room = cond (ltb room (length (encode f))) (refused Refusal.noRoom) (wrote (encode f))
 
 -- 0 where more is needed, a fault, or the bytes taken and written again
 abbrev pub frameCode : Decoded → ℕ → ℕ
@@ -49,8 +51,8 @@ shapeOf sessions c m = record { places = sessions; bytes = c; messages = m }
 
 -- 25 and nothing is written where the areas have no room for the shape; else no place is in use and no commit is pending
 pub record Makes (s : Shape) (w w' b : List ℕ) (r : ℕ) : Type 0 where
-  pub answer : r ≡ cond (roomy s w b) (doneCode 0) (refusalCode 25 0)
-  pub words : w' ≡ cond (roomy s w b) (set (set w 0 0) 1 0) w
+  pub answer : r ≡ cond (roomy s w b) (doneCode 0) (refusalCode Refusal.rulesBroken 0)
+  pub words : w' ≡ cond (roomy s w b) (set (set w StoreWord.used 0) StoreWord.pending 0) w
 
 -- ---- sessions
 

@@ -5,6 +5,7 @@ use mathlib.Core.Bool.{Bool, true, false, cond, _||_}
 use mathlib.Core.List.{List}
 use lib.ListN.{length, getD, take, drop}
 use lib.Dec.{ltb}
+use Rattle.model_frame.specs.Refusal
 use Rattle.model_session.specs.Lag.{Queue, push}
 use Rattle.c_exports.specs.Returned.{refusalCode, doneCode}
 
@@ -25,7 +26,7 @@ pub record Holds (u : Queue) (q q' : List ℕ) : Type 0 where
 
 -- 25 and all as it was where the words are no queue; else the queue after the push, and how many went
 pub record Pushes (maxLag last : ℕ) (q q' : List ℕ) (r : ℕ) : Type 0 where
-  pub answer : r ≡ cond (noQueue q) (refusalCode 25 0) (doneCode (push maxLag (queueIn q) last .went))
+  pub answer : r ≡ cond (noQueue q) (refusalCode Refusal.rulesBroken 0) (doneCode (push maxLag (queueIn q) last .went))
   pub unchanged : noQueue q ≡ true → q' ≡ q
   pub pushed : noQueue q ≡ false → Holds (push maxLag (queueIn q) last .queue) q q'
 

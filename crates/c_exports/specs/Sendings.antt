@@ -7,6 +7,7 @@ use mathlib.Core.List.{List}
 use mathlib.Core.Option.{Option}
 use lib.ListN.{length, getD, drop}
 use lib.Dec.{ltb, eqb}
+use Rattle.model_frame.specs.Refusal
 use Rattle.model_session.specs.Session.{Session}
 use Rattle.model_session.specs.Sender.{Sender}
 use Rattle.model_session.specs.Whole.{batchLimit}
@@ -22,7 +23,7 @@ senderIn h e q = record { handle = h; epoch = e; last = getD q 0 0; from = onwar
 -- fewer than four words are 25; a sending that has not begun begins
 abbrev pub startIn : ℕ → Option Session → ℕ → ℕ → ℕ → List ℕ → Start
 startIn limit a i h e q =
-    cond (ltb (length q) 4) (whole.Start.refused 25)
+    cond (ltb (length q) 4) (whole.Start.refused Refusal.rulesBroken)
     (cond (eqb (getD q 1 0) 0) (startFrom limit a i h e (getD q 0 0)) (ready i (senderIn h e q)))
 
 -- the call from there

@@ -21,6 +21,17 @@ use active::Begun;
 use active::Sending;
 use active::Sent;
 use active_lag::ReplicatedLog;
+use base_refusals::BAD_MARKS;
+use base_refusals::BAD_SESSION;
+use base_refusals::BAD_TEXT;
+use base_refusals::BAD_TIMESTAMP;
+use base_refusals::NO_ROOM;
+use base_refusals::NUMBERS_PAST;
+use base_refusals::RULES_BROKEN;
+use base_refusals::TOO_LONG;
+use base_refusals::TRUNCATED;
+use base_refusals::UNKNOWN_BYTE;
+use base_refusals::UNREADABLE;
 use c_session::Told;
 use frame::CommitNumber;
 use frame::Decoded;
@@ -73,10 +84,10 @@ fn value_number(v: Value) -> u8
     ensures { λ r. ⌜ r ≡ number (invalidOf v) ⌝ }
 {
     match v {
-        Value::Text => 4,
-        Value::Session => 5,
-        Value::Timestamp => 6,
-        Value::Marks => 7,
+        Value::Text => BAD_TEXT,
+        Value::Session => BAD_SESSION,
+        Value::Timestamp => BAD_TIMESTAMP,
+        Value::Marks => BAD_MARKS,
     }
 }
 
@@ -84,15 +95,15 @@ fn unknown(f: u32, v: u8) -> u64
     requires { ⌜ f < 4 ⌝ }
     ensures { λ r. ⌜ r ≡ refusalCode 3 (f * 256 + v) ⌝ }
 {
-    refusal(3, f * 256 + (v as u32))
+    refusal(UNKNOWN_BYTE, f * 256 + (v as u32))
 }
 
 fn fault(e: FrameError) -> u64
     ensures { λ r. ⌜ r ≡ faultCode (faultOf e) ⌝ }
 {
     match e {
-        FrameError::TooLong(n) => refusal(1, n),
-        FrameError::Truncated => refusal(2, 0),
+        FrameError::TooLong(n) => refusal(TOO_LONG, n),
+        FrameError::Truncated => refusal(TRUNCATED, 0),
         FrameError::Unknown(f, v) => unknown(field_number(f), v),
         FrameError::Invalid(v) => refusal(value_number(v), 0),
     }
@@ -104,9 +115,9 @@ fn written(w: Written) -> u64
 {
     match w {
         Written::Took(n) => done(n),
-        Written::Unreadable => refusal(8, 0),
-        Written::TooLong => refusal(1, 0),
-        Written::NoRoom => refusal(9, 0),
+        Written::Unreadable => refusal(UNREADABLE, 0),
+        Written::TooLong => refusal(TOO_LONG, 0),
+        Written::NoRoom => refusal(NO_ROOM, 0),
     }
 }
 
@@ -118,9 +129,9 @@ fn taken(w: Written, used: usize) -> u64
 {
     match w {
         Written::Took(_) => done(used),
-        Written::Unreadable => refusal(8, 0),
-        Written::TooLong => refusal(1, 0),
-        Written::NoRoom => refusal(9, 0),
+        Written::Unreadable => refusal(UNREADABLE, 0),
+        Written::TooLong => refusal(TOO_LONG, 0),
+        Written::NoRoom => refusal(NO_ROOM, 0),
     }
 }
 
@@ -169,7 +180,7 @@ pub extern "C" fn wz_make(words: &mut [u64], bytes: &[u8], sessions: u32, c: u32
     };
     match store_areas::make(shape, words, bytes) {
         Made::Ready => done(0),
-        Made::Unfit => refusal(25, 0),
+        Made::Unfit => refusal(RULES_BROKEN, 0),
     }
 }
 
@@ -179,8 +190,8 @@ fn told(t: Told) -> u64
 {
     match t {
         Told::Took(n) => done(n),
-        Told::NoRoom => refusal(9, 0),
-        Told::Unfit => refusal(25, 0),
+        Told::NoRoom => refusal(NO_ROOM, 0),
+        Told::Unfit => refusal(RULES_BROKEN, 0),
     }
 }
 
@@ -244,8 +255,8 @@ fn sent(
             done(len)
         }
         Sent::Done => LAST,
-        Sent::TooShort => refusal(9, 0),
-        Sent::Unfit => refusal(25, 0),
+        Sent::TooShort => refusal(NO_ROOM, 0),
+        Sent::Unfit => refusal(RULES_BROKEN, 0),
     }
 }
 
@@ -271,7 +282,7 @@ pub extern "C" fn wz_send(
         messages: m,
     };
     if sending.len() < 4 {
-        return refusal(25, 0);
+        return refusal(RULES_BROKEN, 0);
     }
     let last = CommitNumber(sending[0]);
     if sending[1] != 0 {
@@ -287,8 +298,8 @@ pub extern "C" fn wz_send(
     }
     match Sending::begin(shape, words, bytes, place, handle, Epoch(epoch), last) {
         Begun::Ready(s) => sent(s, shape, words, bytes, sending, out),
-        Begun::NumbersPast => refusal(24, 0),
-        Begun::Unfit => refusal(25, 0),
+        Begun::NumbersPast => refusal(NUMBERS_PAST, 0),
+        Begun::Unfit => refusal(RULES_BROKEN, 0),
     }
 }
 
@@ -337,7 +348,7 @@ pub extern "C" fn wz_queue(queue: &mut [u64], max_lag: u64, last: u64) -> u64
     ensures { λ r. ⌜ Pushes «max_lag» last (now (queue .entry)) (now (queue .exit)) r ⌝ }
 {
     if queue.len() < 66 {
-        return refusal(25, 0);
+        return refusal(RULES_BROKEN, 0);
     }
     let queued = numbers(queue);
     let log = ReplicatedLog {

@@ -6,6 +6,7 @@ use mathlib.Core.List.{List, _∷_, _++_}
 use mathlib.Core.Option.{Option, none, some, Option·map}
 use lib.Dec.{leb}
 use lib.ListN.{length, getElem?}
+use Rattle.model_frame.specs.Refusal
 use Rattle.model_frame.specs.Writing.{keyBytes, summaryBytes}
 use Rattle.model_session.specs.Summary.{summary}
 use Rattle.model_standby.specs.Store.{Place}
@@ -37,14 +38,14 @@ toldAt s w b i n = cond (allowed s w b) (Option·map (λ (x : Place). toldBytes 
 
 -- 25 for none, 9 where the area has less room than the bytes take
 unfoldable pub outcome : Option (List ℕ) → ℕ → Outcome
-outcome none room = refused 25
-outcome (some bs) room = cond (leb (length bs) room) (wrote bs) (refused 9)
+outcome none room = refused Refusal.rulesBroken
+outcome (some bs) room = cond (leb (length bs) room) (wrote bs) (refused Refusal.noRoom)
 
 -- an answer's number
 abbrev pub toldOf : Told → Answer
 toldOf (Told.Took n) = took n
-toldOf Told.NoRoom = refusal 9
-toldOf Told.Unfit = refusal 25
+toldOf Told.NoRoom = refusal Refusal.noRoom
+toldOf Told.Unfit = refusal Refusal.rulesBroken
 
 -- the answer is the outcome's; the area has the bytes at its start and the rest as it was, and a refusal leaves all of it
 pub record Tells (bytes : Option (List ℕ)) (before after : List ℕ) (r : Told) : Type 0 where

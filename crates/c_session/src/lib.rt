@@ -20,6 +20,8 @@ use frame_fields::Summary;
 use frame_reader::Span;
 use store_areas::Shape;
 use store_place::Flight;
+use store_place::byte;
+use store_place::word;
 
 // How many bytes were written, or why none was: an area too short, broken rules or a place that is not in use.
 pub enum Told {
@@ -29,6 +31,12 @@ pub enum Told {
 }
 
 // ---- what stands in the byte area
+
+// The most bytes of one of a key's texts.
+const KEY_TEXT_MOST: u32 = byte::KEY_TEXT_SIZE as u32;
+
+// The most bytes of a stamp or of marks.
+const TEXT_MOST: u32 = byte::MARKS_SIZE as u32;
 
 // The n bytes at a position, or the first `most` of them.
 fn span(at: usize, n: u64, most: u32) -> Span
@@ -49,10 +57,22 @@ fn key_of(words: &[u64], bytes: &[u8], shape: Shape, i: usize) -> SessionId
     let p = store_areas::spot_in(words, bytes, shape, i);
     let wa = p.wa;
     let ba = p.ba;
-    let begin_string = span(ba, words[wa + 7], 32);
-    let sender_comp_id = span(ba + 32, words[wa + 8], 32);
-    let target_comp_id = span(ba + 64, words[wa + 9], 32);
-    let key_suffix = span(ba + 96, words[wa + 10], 32);
+    let begin_string = span(ba, words[wa + word::BEGIN_LEN], KEY_TEXT_MOST);
+    let sender_comp_id = span(
+        ba + byte::SENDER,
+        words[wa + word::SENDER_LEN],
+        KEY_TEXT_MOST,
+    );
+    let target_comp_id = span(
+        ba + byte::TARGET,
+        words[wa + word::TARGET_LEN],
+        KEY_TEXT_MOST,
+    );
+    let key_suffix = span(
+        ba + byte::SUFFIX,
+        words[wa + word::SUFFIX_LEN],
+        KEY_TEXT_MOST,
+    );
     SessionId {
         begin_string,
         sender_comp_id,
@@ -81,8 +101,8 @@ fn summary_of(words: &[u64], bytes: &[u8], shape: Shape, i: usize, n: u64) -> Su
     let t = m.created_at;
     let u = m.marks;
     let in_flight = in_flight(f);
-    let created_at = span(t.at, t.len as u64, 64);
-    let marks = span(u.at, u.len as u64, 64);
+    let created_at = span(t.at, t.len as u64, TEXT_MOST);
+    let marks = span(u.at, u.len as u64, TEXT_MOST);
     Summary {
         next_outgoing: m.next_outgoing,
         next_incoming: m.next_incoming,
@@ -174,7 +194,7 @@ pub fn session(
     ensures { λ r. ⌜ Tells (toldAt shape (now (words .entry)) (now (bytes .entry)) place n) (now (out .entry)) (now (out .exit)) r ⌝ }
 {
     if store_areas::allowed(shape, words, bytes) {
-        if place < words[0] as usize {
+        if place < words[store_areas::word::USED] as usize {
             return tell(words, bytes, shape, place, n, out);
         }
     }

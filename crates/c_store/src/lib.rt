@@ -14,6 +14,13 @@ ghost use Rattle.store_place.specs.Place.{keyFrom};
 ghost use Rattle.c_store.specs.Total.{sessionIn, Reads, MadeIs, ChangeIs, OpenIs};
 use store_areas::Made;
 use store_areas::Shape;
+use store_areas::word;
+
+// 25 as these functions answer it.
+const RULES_BROKEN: u32 = base_refusals::RULES_BROKEN as u32;
+
+// A change that can't be made.
+const NOT_MADE: u32 = 2;
 
 // Makes a store without sessions.
 #[no_mangle]
@@ -22,7 +29,7 @@ pub extern "C" fn store_make(words: &mut [u64], bytes: &[u8], shape: Shape) -> u
 {
     match store_areas::make(shape, words, bytes) {
         Made::Ready => 0,
-        Made::Unfit => 25,
+        Made::Unfit => RULES_BROKEN,
     }
 }
 
@@ -46,10 +53,10 @@ pub extern "C" fn store_open(
         return u64::MAX;
     }
     let i = store_sessions::place_of(words, bytes, shape, begin, sender, target, suffix);
-    if (i as u64) < words[0] {
+    if (i as u64) < words[word::USED] {
         return i as u64;
     }
-    if shape.places as u64 <= words[0] {
+    if shape.places as u64 <= words[word::USED] {
         return u64::MAX;
     }
     store_sessions::open(words, bytes, shape, begin, sender, target, suffix);
@@ -110,7 +117,7 @@ pub extern "C" fn store_set_next_incoming(
     ensures { λ r. ⌜ ChangeIs shape i true (changed (shape .bytes) (shape .messages) (setIncoming seq ∷ [])) (now (words .entry)) (now (words .exit)) (now (bytes .entry)) (now (bytes .entry)) r ⌝ }
 {
     if !store_areas::in_use(words, bytes, shape, i) {
-        return 25;
+        return RULES_BROKEN;
     }
     store_state::set_next_incoming(words, bytes, shape, i, seq);
     0
@@ -128,7 +135,7 @@ pub extern "C" fn store_set_next_incoming_in_flight(
     ensures { λ r. ⌜ ChangeIs shape i true (changed (shape .bytes) (shape .messages) (setIncomingInFlight seq «in_flight» ∷ [])) (now (words .entry)) (now (words .exit)) (now (bytes .entry)) (now (bytes .entry)) r ⌝ }
 {
     if !store_areas::in_use(words, bytes, shape, i) {
-        return 25;
+        return RULES_BROKEN;
     }
     store_state::set_next_incoming_in_flight(words, bytes, shape, i, seq, in_flight);
     0
@@ -145,7 +152,7 @@ pub extern "C" fn store_set_in_flight(
     ensures { λ r. ⌜ ChangeIs shape i true (changed (shape .bytes) (shape .messages) (setInFlight seq ∷ [])) (now (words .entry)) (now (words .exit)) (now (bytes .entry)) (now (bytes .entry)) r ⌝ }
 {
     if !store_areas::in_use(words, bytes, shape, i) {
-        return 25;
+        return RULES_BROKEN;
     }
     store_state::set_in_flight(words, bytes, shape, i, seq);
     0
@@ -163,11 +170,11 @@ pub extern "C" fn store_record(
     ensures { λ r. ⌜ ChangeIs shape i (ltb (sessionIn shape (now (words .entry)) (now (bytes .entry)) i .nextOut) top) (changed (shape .bytes) (shape .messages) (recordMsg (sessionIn shape (now (words .entry)) (now (bytes .entry)) i .nextOut) (now (text .entry)) ∷ [])) (now (words .entry)) (now (words .exit)) (now (bytes .entry)) (now (bytes .exit)) r ⌝ }
 {
     if !store_areas::in_use(words, bytes, shape, i) {
-        return 25;
+        return RULES_BROKEN;
     }
     let seq = store_state::next_outgoing(words, bytes, shape, i);
     if seq == u64::MAX {
-        return 2;
+        return NOT_MADE;
     }
     store_state::record(words, bytes, shape, i, seq, text);
     0
@@ -185,13 +192,13 @@ pub extern "C" fn store_record_none(
     ensures { λ r. ⌜ ChangeIs shape i (leb (sessionIn shape (now (words .entry)) (now (bytes .entry)) i .nextOut) seq && ltb seq top) (changed (shape .bytes) (shape .messages) (recordBare seq ∷ [])) (now (words .entry)) (now (words .exit)) (now (bytes .entry)) (now (bytes .entry)) r ⌝ }
 {
     if !store_areas::in_use(words, bytes, shape, i) {
-        return 25;
+        return RULES_BROKEN;
     }
     if seq == u64::MAX {
-        return 2;
+        return NOT_MADE;
     }
     if seq < store_state::next_outgoing(words, bytes, shape, i) {
-        return 2;
+        return NOT_MADE;
     }
     store_state::record_none(words, bytes, shape, i, seq);
     0
@@ -202,7 +209,7 @@ pub extern "C" fn store_reset(words: &mut [u64], bytes: &[u8], shape: Shape, i: 
     ensures { λ r. ⌜ ChangeIs shape i true (changed (shape .bytes) (shape .messages) (reset ∷ [])) (now (words .entry)) (now (words .exit)) (now (bytes .entry)) (now (bytes .entry)) r ⌝ }
 {
     if !store_areas::in_use(words, bytes, shape, i) {
-        return 25;
+        return RULES_BROKEN;
     }
     store_state::reset(words, bytes, shape, i);
     0
@@ -219,10 +226,10 @@ pub extern "C" fn store_set_created_at(
     ensures { λ r. ⌜ ChangeIs shape i (isStamp (now (text .entry))) (changed (shape .bytes) (shape .messages) (setCreatedAt (now (text .entry)) ∷ [])) (now (words .entry)) (now (words .exit)) (now (bytes .entry)) (now (bytes .exit)) r ⌝ }
 {
     if !store_areas::in_use(words, bytes, shape, i) {
-        return 25;
+        return RULES_BROKEN;
     }
     if !frame_stamp::is_stamp(text) {
-        return 2;
+        return NOT_MADE;
     }
     store_state::set_created_at(words, bytes, shape, i, text);
     0
@@ -239,10 +246,10 @@ pub extern "C" fn store_set_marks(
     ensures { λ r. ⌜ ChangeIs shape i (isMarks (now (text .entry))) (changed (shape .bytes) (shape .messages) (setMarks (now (text .entry)) ∷ [])) (now (words .entry)) (now (words .exit)) (now (bytes .entry)) (now (bytes .exit)) r ⌝ }
 {
     if !store_areas::in_use(words, bytes, shape, i) {
-        return 25;
+        return RULES_BROKEN;
     }
     if !frame_stamp::is_marks(text) {
-        return 2;
+        return NOT_MADE;
     }
     store_state::set_marks(words, bytes, shape, i, text);
     0
@@ -253,7 +260,7 @@ pub extern "C" fn store_mark_durable(words: &mut [u64], bytes: &[u8], shape: Sha
     ensures { λ r. ⌜ ChangeIs shape i true markDurable (now (words .entry)) (now (words .exit)) (now (bytes .entry)) (now (bytes .entry)) r ⌝ }
 {
     if !store_areas::in_use(words, bytes, shape, i) {
-        return 25;
+        return RULES_BROKEN;
     }
     store_state::mark_durable(words, bytes, shape, i);
     0
@@ -270,7 +277,7 @@ pub extern "C" fn store_take_over(
     ensures { λ r. ⌜ ChangeIs shape i true (takenOver lag) (now (words .entry)) (now (words .exit)) (now (bytes .entry)) (now (bytes .exit)) r ⌝ }
 {
     if !store_areas::in_use(words, bytes, shape, i) {
-        return 25;
+        return RULES_BROKEN;
     }
     store_state::take_over(words, bytes, shape, i, lag);
     0

@@ -15,6 +15,7 @@ use frame_fields::SessionAt;
 pub use frame_fields::SessionId;
 pub use frame_fields::Summary;
 use frame_fields::SummaryAt;
+use frame_fields::kind;
 pub use frame_op::Op;
 pub use frame_op::Run;
 use frame_op::RunAt;
@@ -289,14 +290,14 @@ fn fields_from(p: Protocol, buf: &[u8], c: Cursor) -> FrameAt
         return FrameAt::Bad(FrameError::Truncated);
     };
     match k {
-        1 => hello_from(buf, d),
-        2 => welcome_from(buf, d),
-        3 => bind_from(buf, d),
-        4 => batch_from(p, buf, d),
-        5 => ack_from(buf, d),
-        6 => nack_from(buf, d),
-        7 => bound_from(p, buf, d),
-        8 => checked_from(buf, d),
+        kind::HELLO => hello_from(buf, d),
+        kind::WELCOME => welcome_from(buf, d),
+        kind::BIND => bind_from(buf, d),
+        kind::BATCH => batch_from(p, buf, d),
+        kind::ACK => ack_from(buf, d),
+        kind::NACK => nack_from(buf, d),
+        kind::BOUND => bound_from(p, buf, d),
+        kind::CHECKED => checked_from(buf, d),
         _ => FrameAt::Bad(FrameError::Unknown(Field::FrameKind, k)),
     }
 }

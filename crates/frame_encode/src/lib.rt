@@ -18,6 +18,7 @@ use frame_fields::NackReason;
 use frame_fields::Part;
 use frame_fields::SessionId;
 use frame_fields::Summary;
+use frame_fields::kind;
 use frame_op::Run;
 use frame_op::RunLen;
 use frame_reader::Span;
@@ -39,7 +40,7 @@ fn put_hello(
 {
     let first = kinds.at;
     let len = (kinds.count as usize) * 2;
-    let at = frame_op::tag(out, at, 1);
+    let at = frame_op::tag(out, at, kind::HELLO);
     let at = base_bytes::put_u16(out, at, version);
     let at = base_bytes::put_u64(out, at, epoch);
     let at = frame_writer::put_span(src, node, out, at);
@@ -76,7 +77,7 @@ fn put_welcome(epoch: u64, incarnation: u64, out: &mut [u8], at: usize) -> usize
     requires { ⌜ at + 17 ≤ length (now out) ⌝ }
     ensures { λ r. ⌜ Wrote (now (out .entry)) at (bodyBytes (welcome epoch incarnation)) (now (out .exit)) r ⌝ }
 {
-    let at = frame_op::tagged(out, at, 2, epoch);
+    let at = frame_op::tagged(out, at, kind::WELCOME, epoch);
     base_bytes::put_u64(out, at, incarnation)
 }
 
@@ -103,7 +104,7 @@ fn put_bind(
     requires { ⌜ at + (21 + keySize (keyOf (now src) session)) ≤ length (now out) ⌝ }
     ensures { λ r. ⌜ Wrote (now (out .entry)) at (bodyBytes (bind handle epoch lag (keyOf (now (src .entry)) session))) (now (out .exit)) r ⌝ }
 {
-    let at = frame_writer::put_handle(out, at, 3, handle);
+    let at = frame_writer::put_handle(out, at, kind::BIND, handle);
     let at = base_bytes::put_u64(out, at, epoch);
     let at = base_bytes::put_u64(out, at, lag);
     frame_writer::put_session(src, session, out, at)
@@ -154,7 +155,7 @@ fn put_head(
     ensures { λ r. ⌜ Wrote (now (out .entry)) at (4 ∷ bytesOf 4 handle ++ bytesOf 8 epoch ++ bytesOf 8 commit ++ partNumber (partOf part) ∷ bytesOf 4 count) (now (out .exit)) r ⌝ }
     ensures { λ r. ⌜ r ≡ at + 26 ⌝ }
 {
-    let at = frame_writer::put_handle(out, at, 4, handle);
+    let at = frame_writer::put_handle(out, at, kind::BATCH, handle);
     let at = base_bytes::put_u64(out, at, epoch);
     let at = base_bytes::put_u64(out, at, commit);
     let at = frame_op::tag(out, at, frame_writer::part_byte(part));
@@ -224,7 +225,7 @@ fn put_ack(handle: u32, commit: u64, out: &mut [u8], at: usize) -> usize
     requires { ⌜ at + 13 ≤ length (now out) ⌝ }
     ensures { λ r. ⌜ Wrote (now (out .entry)) at (bodyBytes (ack handle commit)) (now (out .exit)) r ⌝ }
 {
-    let at = frame_writer::put_handle(out, at, 5, handle);
+    let at = frame_writer::put_handle(out, at, kind::ACK, handle);
     base_bytes::put_u64(out, at, commit)
 }
 
@@ -243,7 +244,7 @@ fn put_nack(handle: u32, reason: NackReason, out: &mut [u8], at: usize) -> usize
     requires { ⌜ at + 6 ≤ length (now out) ⌝ }
     ensures { λ r. ⌜ Wrote (now (out .entry)) at (bodyBytes (nack handle (reasonOf reason))) (now (out .exit)) r ⌝ }
 {
-    let at = frame_writer::put_handle(out, at, 6, handle);
+    let at = frame_writer::put_handle(out, at, kind::NACK, handle);
     frame_op::tag(out, at, frame_writer::reason_byte(reason))
 }
 
@@ -262,7 +263,7 @@ fn put_bound(src: &[u8], handle: u32, summary: Summary, out: &mut [u8], at: usiz
     requires { ⌜ at + (5 + summarySize (summaryOf (now src) summary)) ≤ length (now out) ⌝ }
     ensures { λ r. ⌜ Wrote (now (out .entry)) at (bodyBytes (bound handle (summaryOf (now (src .entry)) summary))) (now (out .exit)) r ⌝ }
 {
-    let at = frame_writer::put_handle(out, at, 7, handle);
+    let at = frame_writer::put_handle(out, at, kind::BOUND, handle);
     frame_writer::put_summary(src, summary, out, at)
 }
 
@@ -295,7 +296,7 @@ fn put_checked(handle: u32, epoch: u64, incarnation: u64, out: &mut [u8], at: us
     requires { ⌜ at + 21 ≤ length (now out) ⌝ }
     ensures { λ r. ⌜ Wrote (now (out .entry)) at (bodyBytes (checked handle epoch incarnation)) (now (out .exit)) r ⌝ }
 {
-    let at = frame_writer::put_handle(out, at, 8, handle);
+    let at = frame_writer::put_handle(out, at, kind::CHECKED, handle);
     let at = base_bytes::put_u64(out, at, epoch);
     base_bytes::put_u64(out, at, incarnation)
 }

@@ -24,6 +24,45 @@ use frame_reader::Word32;
 use frame_reader::Word64;
 use frame_stamp::Protocol;
 
+// The byte that a frame's body begins with.
+pub mod kind {
+    pub const HELLO: u8 = 1;
+
+    pub const WELCOME: u8 = 2;
+
+    pub const BIND: u8 = 3;
+
+    pub const BATCH: u8 = 4;
+
+    pub const ACK: u8 = 5;
+
+    pub const NACK: u8 = 6;
+
+    pub const BOUND: u8 = 7;
+
+    pub const CHECKED: u8 = 8;
+}
+
+// The byte of a batch's part.
+pub mod part_byte {
+    pub const COMMIT: u8 = 0;
+
+    pub const WHOLE: u8 = 1;
+
+    pub const LAST_WHOLE: u8 = 2;
+}
+
+// The byte of a Nack's reason.
+pub mod reason {
+    pub const STALE_EPOCH: u8 = 1;
+
+    pub const DIVERGED: u8 = 2;
+
+    pub const LAG: u8 = 3;
+
+    pub const RESTARTED: u8 = 4;
+}
+
 // Whether a batch is one commit, or a part of a session sent whole.
 pub enum Part {
     Commit,
@@ -103,9 +142,9 @@ pub fn part_from(buf: &[u8], c: Cursor) -> PartAt
         return PartAt::Bad(FrameError::Truncated);
     };
     match k {
-        0 => PartAt::Got(Part::Commit, d),
-        1 => PartAt::Got(Part::Whole, d),
-        2 => PartAt::Got(Part::LastWhole, d),
+        part_byte::COMMIT => PartAt::Got(Part::Commit, d),
+        part_byte::WHOLE => PartAt::Got(Part::Whole, d),
+        part_byte::LAST_WHOLE => PartAt::Got(Part::LastWhole, d),
         _ => PartAt::Bad(FrameError::Unknown(Field::Part, k)),
     }
 }
@@ -117,10 +156,10 @@ pub fn reason_from(buf: &[u8], c: Cursor) -> ReasonAt
         return ReasonAt::Bad(FrameError::Truncated);
     };
     match k {
-        1 => ReasonAt::Got(NackReason::StaleEpoch, d),
-        2 => ReasonAt::Got(NackReason::Diverged, d),
-        3 => ReasonAt::Got(NackReason::Lag, d),
-        4 => ReasonAt::Got(NackReason::Restarted, d),
+        reason::STALE_EPOCH => ReasonAt::Got(NackReason::StaleEpoch, d),
+        reason::DIVERGED => ReasonAt::Got(NackReason::Diverged, d),
+        reason::LAG => ReasonAt::Got(NackReason::Lag, d),
+        reason::RESTARTED => ReasonAt::Got(NackReason::Restarted, d),
         _ => ReasonAt::Bad(FrameError::Unknown(Field::Refusal, k)),
     }
 }

@@ -19,6 +19,25 @@ use frame_reader::Word32;
 use frame_reader::Word64;
 use frame_stamp::Protocol;
 
+// The byte that a change begins with.
+pub mod kind {
+    pub const SET_NEXT_INCOMING: u8 = 1;
+
+    pub const SET_NEXT_INCOMING_IN_FLIGHT: u8 = 2;
+
+    pub const SET_IN_FLIGHT: u8 = 3;
+
+    pub const RECORD: u8 = 4;
+
+    pub const RECORD_NONE: u8 = 5;
+
+    pub const RESET: u8 = 6;
+
+    pub const SET_CREATED_AT: u8 = 7;
+
+    pub const SET_MARKS: u8 = 8;
+}
+
 // A Record with its message is one variant, a Record without another.
 pub enum Op {
     SetNextIncoming(u64),
@@ -137,14 +156,14 @@ pub fn op_from(p: Protocol, buf: &[u8], c: Cursor) -> OpAt
         return OpAt::Bad(FrameError::Truncated);
     };
     match k {
-        1 => set_next_incoming(buf, d),
-        2 => set_next_incoming_in_flight(buf, d),
-        3 => set_in_flight(buf, d),
-        4 => record(buf, d),
-        5 => record_none(buf, d),
-        6 => OpAt::Got(Op::Reset, d),
-        7 => set_created_at(p, buf, d),
-        8 => set_marks(buf, d),
+        kind::SET_NEXT_INCOMING => set_next_incoming(buf, d),
+        kind::SET_NEXT_INCOMING_IN_FLIGHT => set_next_incoming_in_flight(buf, d),
+        kind::SET_IN_FLIGHT => set_in_flight(buf, d),
+        kind::RECORD => record(buf, d),
+        kind::RECORD_NONE => record_none(buf, d),
+        kind::RESET => OpAt::Got(Op::Reset, d),
+        kind::SET_CREATED_AT => set_created_at(p, buf, d),
+        kind::SET_MARKS => set_marks(buf, d),
         _ => OpAt::Bad(FrameError::Unknown(Field::Change, k)),
     }
 }
@@ -248,24 +267,24 @@ pub fn put_op(src: &[u8], o: Op, out: &mut [u8], at: usize) -> usize
     ensures { λ r. ⌜ Wrote (now (out .entry)) at (changeBytes (opOf (now (src .entry)) o)) (now (out .exit)) r ⌝ }
 {
     match o {
-        Op::SetNextIncoming(n) => tagged(out, at, 1, n),
+        Op::SetNextIncoming(n) => tagged(out, at, kind::SET_NEXT_INCOMING, n),
         Op::SetNextIncomingInFlight { seq, in_flight } => {
-            let next = tagged(out, at, 2, seq);
+            let next = tagged(out, at, kind::SET_NEXT_INCOMING_IN_FLIGHT, seq);
             base_bytes::put_u64(out, next, in_flight)
         }
-        Op::SetInFlight(n) => tagged(out, at, 3, n),
+        Op::SetInFlight(n) => tagged(out, at, kind::SET_IN_FLIGHT, n),
         Op::Record(n, msg) => {
-            let next = tagged(out, at, 4, n);
+            let next = tagged(out, at, kind::RECORD, n);
             blob(frame_reader::slice(src, msg), out, next)
         }
-        Op::RecordNone(n) => tagged(out, at, 5, n),
-        Op::Reset => tag(out, at, 6),
+        Op::RecordNone(n) => tagged(out, at, kind::RECORD_NONE, n),
+        Op::Reset => tag(out, at, kind::RESET),
         Op::SetCreatedAt(t) => {
-            let next = tag(out, at, 7);
+            let next = tag(out, at, kind::SET_CREATED_AT);
             blob(frame_reader::slice(src, t), out, next)
         }
         Op::SetMarks(t) => {
-            let next = tag(out, at, 8);
+            let next = tag(out, at, kind::SET_MARKS);
             blob(frame_reader::slice(src, t), out, next)
         }
     }

@@ -6,6 +6,7 @@ use mathlib.Core.List.{List}
 use mathlib.Core.Option.{Option, none, some}
 use lib.Dec.{leb, ltb}
 use lib.ListN.{length, drop}
+use Rattle.model_frame.specs.Refusal
 use Rattle.model_frame.specs.Bytes.{bytesOf, write}
 use Rattle.model_frame.specs.Frame as the-frame
 use Rattle.model_frame.specs.Frame.{Key, Frame}
@@ -69,12 +70,12 @@ pub data Outcome : Type 0 where
 
 -- 8 a field that reading would refuse, or that the source doesn't have; 1 a body too long; 9 an area too short; in that order
 unfoldable pub outcome : ℕ → Option Frame → ℕ → Outcome
-outcome version none room = refused 8
+outcome version none room = refused Refusal.unreadable
 outcome version (some f) room =
     cond (fine version f)
-    (cond (ltb maxBody (length (bodyBytes f))) (refused 1)
-    (cond (ltb room (length (encode f))) (refused 9) (wrote (encode f))))
-    (refused 8)
+    (cond (ltb maxBody (length (bodyBytes f))) (refused Refusal.tooLong)
+    (cond (ltb room (length (encode f))) (refused Refusal.noRoom) (wrote (encode f))))
+    (refused Refusal.unreadable)
 
 -- the area: the bytes at its start and the rest as it was; a refusal leaves all of it
 abbrev pub areaAfter : Outcome → List ℕ → List ℕ
@@ -92,9 +93,9 @@ answerOf (refused n) = refusal n
 
 abbrev pub writtenOf : Written → Answer
 writtenOf (Written.Took n) = took n
-writtenOf Written.Unreadable = refusal 8
-writtenOf Written.TooLong = refusal 1
-writtenOf Written.NoRoom = refusal 9
+writtenOf Written.Unreadable = refusal Refusal.unreadable
+writtenOf Written.TooLong = refusal Refusal.tooLong
+writtenOf Written.NoRoom = refusal Refusal.noRoom
 
 pub record Encoded (version : ℕ) (f : Option Frame) (before after : List ℕ) (r : Written) : Type 0 where
   pub answer : writtenOf r ≡ answerOf (outcome version f (length before))

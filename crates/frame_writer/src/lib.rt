@@ -19,6 +19,8 @@ use frame_fields::NackReason;
 use frame_fields::Part;
 use frame_fields::SessionId;
 use frame_fields::Summary;
+use frame_fields::part_byte;
+use frame_fields::reason;
 use frame_op::End;
 use frame_op::Run;
 use frame_op::RunLen;
@@ -164,9 +166,9 @@ pub fn part_byte(p: Part) -> u8
     ensures { λ r. ⌜ r ≡ partNumber (partOf p) ⌝ }
 {
     match p {
-        Part::Commit => 0,
-        Part::Whole => 1,
-        Part::LastWhole => 2,
+        Part::Commit => part_byte::COMMIT,
+        Part::Whole => part_byte::WHOLE,
+        Part::LastWhole => part_byte::LAST_WHOLE,
     }
 }
 
@@ -174,10 +176,10 @@ pub fn reason_byte(r: NackReason) -> u8
     ensures { λ n. ⌜ n ≡ reasonNumber (reasonOf r) ⌝ }
 {
     match r {
-        NackReason::StaleEpoch => 1,
-        NackReason::Diverged => 2,
-        NackReason::Lag => 3,
-        NackReason::Restarted => 4,
+        NackReason::StaleEpoch => reason::STALE_EPOCH,
+        NackReason::Diverged => reason::DIVERGED,
+        NackReason::Lag => reason::LAG,
+        NackReason::Restarted => reason::RESTARTED,
     }
 }
 

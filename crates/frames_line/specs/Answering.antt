@@ -6,6 +6,7 @@ use mathlib.Core.List.{List, []}
 use mathlib.Core.Option.{Option, none, some}
 use lib.ListN.{take}
 use Rattle.model_text.specs.Hex.{hexOf, lineBytes, refusalText}
+use Rattle.model_frame.specs.Refusal
 use Rattle.model_frame.specs.Writing.{encode}
 use Rattle.model_standby.specs.Answer as the-answer
 use Rattle.model_standby.specs.Answer.{reply, refused, done}
@@ -43,7 +44,7 @@ spoken r = record { state = r .state; text = lineText (r .answer) }
 
 -- 26 for a line that has no bytes, and nothing changes; else the call
 abbrev pub onBytes : the-state.Settings → Standby → Option (List ℕ) → Spoken
-onBytes L st none = record { state = st; text = refusalText 26 }
+onBytes L st none = record { state = st; text = refusalText Refusal.notOneFrame }
 onBytes L st (some f) = spoken (step L st (onFrame f))
 
 abbrev pub lineStep : the-state.Settings → Standby → List ℕ → Spoken
@@ -52,7 +53,7 @@ lineStep L st l = onBytes L st (lineBytes l)
 -- ---- a line on the lent areas, and its text
 
 pub data Heard (l : List ℕ) (c c' : Replica) (row row' : List Handle) (w w' b b' h h' : List ℕ) : List ℕ → Type 0 where
-  unread : lineBytes l ≡ none → c' ≡ c → row' ≡ row → w' ≡ w → b' ≡ b → h' ≡ h → Heard l c c' row row' w w' b b' h h' (refusalText 26)
+  unread : lineBytes l ≡ none → c' ≡ c → row' ≡ row → w' ≡ w → b' ≡ b → h' ≡ h → Heard l c c' row row' w w' b b' h h' (refusalText Refusal.notOneFrame)
   called : (f : List ℕ) (a : Answer) → lineBytes l ≡ some f → Called theSettings (onFrame f) c c' row row' w w' b b' h h' a → Heard l c c' row row' w w' b b' h h' (lineText (answerOf b' a))
 
 -- the text stands at the start of the output area, the rest of which is as it was; and state and text are the definition's

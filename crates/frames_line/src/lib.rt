@@ -4,6 +4,7 @@ ghost use Prim.Native.Nat.{_*_, _≤_};
 ghost use lib.ListN.{length};
 ghost use Rattle.frames_line.specs.Answering.{theSettings, AnswersLine};
 use base_hex::Line;
+use base_refusals::NOT_ONE_FRAME;
 use frame::Incarnation;
 use standby_row::Handle;
 use standby_state::Replica;
@@ -69,7 +70,7 @@ fn answer_in(
         Line::Bad => Told {
             replica: c,
             row,
-            len: base_hex::put_refusal(26, out),
+            len: base_hex::put_refusal(NOT_ONE_FRAME, out),
         },
     }
 }

@@ -6,6 +6,9 @@ ghost use Rattle.base_hex.specs.Lines.{Puts};
 ghost use Rattle.frame_writer.specs.Encoding.{outcome};
 ghost use Rattle.standby_state.specs.Answers.{frameBy, answerOf};
 ghost use Rattle.frames_reply.specs.Texts.{outcomeText, answerText};
+use base_refusals::NO_ROOM;
+use base_refusals::TOO_LONG;
+use base_refusals::UNREADABLE;
 use frame::Written;
 use standby_state::Answer;
 
@@ -20,9 +23,9 @@ fn put_reply(a: Answer, bytes: &[u8], buf: &mut [u8], out: &mut [u8]) -> usize
             base_hex::put_hex(&buf[0..n], out);
             2 * n
         }
-        Written::Unreadable => base_hex::put_refusal(8, out),
-        Written::TooLong => base_hex::put_refusal(1, out),
-        Written::NoRoom => base_hex::put_refusal(9, out),
+        Written::Unreadable => base_hex::put_refusal(UNREADABLE, out),
+        Written::TooLong => base_hex::put_refusal(TOO_LONG, out),
+        Written::NoRoom => base_hex::put_refusal(NO_ROOM, out),
     }
 }
 

@@ -9,6 +9,10 @@ use Rattle.model_text.specs.Printable.{isMarks, isKey}
 use Rattle.model_text.specs.Stamp.{takesStamp}
 use Rattle.model_frame.specs.Bytes.{le}
 use Rattle.model_frame.specs.Frame.{Key, Change, setIncoming, setIncomingInFlight, setInFlight, recordMsg, recordBare, reset, setCreatedAt, setMarks, Part, commit, whole, lastWhole, Reason, staleEpoch, diverged, lagTooGreat, restarted, AppRecord, Summary, Frame, hello, welcome, bind, batch, ack, nack, bound, checked, Field, frameKind, part, refusal, change, tooLong, truncated, unknown, badSession, badTimestamp, badMarks, Decoded, more, faulty, got}
+use Rattle.model_frame.specs.FrameKind
+use Rattle.model_frame.specs.ChangeKind
+use Rattle.model_frame.specs.PartByte
+use Rattle.model_frame.specs.ReasonByte
 use Rattle.model_frame.specs.Parse.{isEmpty, Res, ok, bad, Parser, choose, andThen, _>>=_, done, fail, num, blob, text, count, many}
 
 -- the longest body
@@ -79,14 +83,14 @@ setMarksFields = do
 unfoldable pub readChange : ℕ → Parser Change
 readChange version =
     named change
-    ((1, setIncomingFields)
-    ∷ (2, setIncomingInFlightFields)
-    ∷ (3, setInFlightFields)
-    ∷ (4, recordMsgFields)
-    ∷ (5, recordBareFields)
-    ∷ (6, done reset)
-    ∷ (7, setCreatedAtFields version)
-    ∷ (8, setMarksFields)
+    ((ChangeKind.setIncoming, setIncomingFields)
+    ∷ (ChangeKind.setIncomingInFlight, setIncomingInFlightFields)
+    ∷ (ChangeKind.setInFlight, setInFlightFields)
+    ∷ (ChangeKind.recordMsg, recordMsgFields)
+    ∷ (ChangeKind.recordBare, recordBareFields)
+    ∷ (ChangeKind.reset, done reset)
+    ∷ (ChangeKind.setCreatedAt, setCreatedAtFields version)
+    ∷ (ChangeKind.setMarks, setMarksFields)
     ∷ [])
 
 unfoldable pub changes : ℕ → Parser (List Change)
@@ -113,10 +117,10 @@ appRecords = do
   many n appRecord
 
 unfoldable pub partByte : Parser Part
-partByte = named part ((0, done commit) ∷ (1, done whole) ∷ (2, done lastWhole) ∷ [])
+partByte = named part ((PartByte.commit, done commit) ∷ (PartByte.whole, done whole) ∷ (PartByte.lastWhole, done lastWhole) ∷ [])
 
 unfoldable pub reason : Parser Reason
-reason = named refusal ((1, done staleEpoch) ∷ (2, done diverged) ∷ (3, done lagTooGreat) ∷ (4, done restarted) ∷ [])
+reason = named refusal ((ReasonByte.staleEpoch, done staleEpoch) ∷ (ReasonByte.diverged, done diverged) ∷ (ReasonByte.lagTooGreat, done lagTooGreat) ∷ (ReasonByte.restarted, done restarted) ∷ [])
 
 -- the four texts, then the key is judged
 unfoldable pub key : Parser Key
@@ -203,14 +207,14 @@ checkedFields = do
 unfoldable pub fields : ℕ → Parser Frame
 fields version =
     named frameKind
-    ((1, helloFields)
-    ∷ (2, welcomeFields)
-    ∷ (3, bindFields)
-    ∷ (4, batchFields version)
-    ∷ (5, ackFields)
-    ∷ (6, nackFields)
-    ∷ (7, boundFields version)
-    ∷ (8, checkedFields)
+    ((FrameKind.hello, helloFields)
+    ∷ (FrameKind.welcome, welcomeFields)
+    ∷ (FrameKind.bind, bindFields)
+    ∷ (FrameKind.batch, batchFields version)
+    ∷ (FrameKind.ack, ackFields)
+    ∷ (FrameKind.nack, nackFields)
+    ∷ (FrameKind.bound, boundFields version)
+    ∷ (FrameKind.checked, checkedFields)
     ∷ [])
 
 -- nothing is left over

@@ -7,6 +7,7 @@ use mathlib.Core.Bool.{Bool, true, false, cond, not}
 use lib.ListN.{length}
 use lib.Dec.{ltb, eqb}
 use Rattle.model_frame.specs.Frame.{Reason, staleEpoch, diverged, lagTooGreat, restarted, Frame, hello, welcome, bind, batch, ack, nack, bound, checked, number, Decoded, more, faulty, got}
+use Rattle.model_frame.specs.Refusal
 use Rattle.model_frame.specs.Reading.{decode}
 use Rattle.model_standby.specs.Row.{isSome}
 
@@ -22,9 +23,9 @@ pub data Given : Type 0 where
 
 -- of so many bytes
 abbrev pub judged : ℕ → Decoded → Given
-judged size more = damaged 26
+judged size more = damaged Refusal.notOneFrame
 judged size (faulty e) = damaged (number e)
-judged size (got f used) = cond (eqb used size) (intact f) (damaged 26)
+judged size (got f used) = cond (eqb used size) (intact f) (damaged Refusal.notOneFrame)
 
 -- the reader's number, or 26 if the bytes aren't just one whole frame
 unfoldable pub given : List ℕ → Given

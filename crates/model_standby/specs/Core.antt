@@ -9,6 +9,7 @@ use mathlib.Core.Bool.{Bool, true, cond, not, _&&_, _||_}
 use lib.ListN.{length}
 use lib.Dec.{ltb, eqb}
 use Rattle.model_frame.specs.Frame.{Key, Change, Part, commit, whole, lastWhole, staleEpoch, diverged, lagTooGreat, restarted, AppRecord, Frame, hello, welcome, bind, batch, ack, nack, bound, checked}
+use Rattle.model_frame.specs.Refusal
 use Rattle.model_frame.specs.Parse.{isEmpty}
 use Rattle.model_frame.specs.Writing.{sizes}
 use Rattle.model_session.specs.Session.{fits}
@@ -71,8 +72,8 @@ coreRun now k = record { counters = k .counters; places = cond now (markAll (k .
 module _ (L : Settings) where
   unfoldable pub coreHello : Core → ℕ → ℕ → List ℕ → CoreResult
   coreHello k v e kinds =
-      cond (not (eqb v protocolVersion)) (coreRefuse k leave 11)
-      (cond (not (isEmpty kinds)) (coreRefuse k leave 12)
+      cond (not (eqb v protocolVersion)) (coreRefuse k leave Refusal.badVersion)
+      (cond (not (isEmpty kinds)) (coreRefuse k leave Refusal.kindsListed)
       (cond (ltb e (k .counters .epoch)) (coreSays k leave (welcome (k .counters .epoch) (incarnationOf L)))
       (coreSays (counting (coreUnbound k) (connected e (k .counters))) clear (welcome e (incarnationOf L)))))
 
@@ -81,8 +82,8 @@ module _ (L : Settings) where
   coreBind k room h e lag j =
       cond (ltb e (k .counters .epoch)) (coreSays k leave (nack h staleEpoch))
       (cond (ltb (L .lag) lag) (coreSays k leave (nack h lagTooGreat))
-      (cond (not (isStored j (k .places) || ltb (length (k .places)) (L .S))) (coreRefuse k leave 20)
-      (cond (not room) (coreRefuse k leave 21)
+      (cond (not (isStored j (k .places) || ltb (length (k .places)) (L .S))) (coreRefuse k leave Refusal.noSessionPlace)
+      (cond (not room) (coreRefuse k leave Refusal.noHandlePlace)
       (coreSays (record { counters = k .counters; places = opened j (k .places); pending = k .pending }) (store h (newBound (placeOf j (k .places))))
       (bound h (summary (orNew (sessionAt (k .places) (placeOf j (k .places)))) lag))))))
 
@@ -100,22 +101,22 @@ module _ (L : Settings) where
 
   unfoldable pub coreHold : Core → ℕ → Bound → List Change → CoreResult → CoreResult
   coreHold k h b cs go =
-      cond (isEmpty (b .held) && not (startsWithReset cs)) (coreRefuse k leave 16)
-      (cond (ltb maxWhole (raised b cs)) (coreRefuse k (store h (summed b cs)) 17)
-      (cond (ltb (L .room) (sizes (b .held ++ cs))) (coreRefuse k leave 18) go))
+      cond (isEmpty (b .held) && not (startsWithReset cs)) (coreRefuse k leave Refusal.noReset)
+      (cond (ltb maxWhole (raised b cs)) (coreRefuse k (store h (summed b cs)) Refusal.tooManyBytes)
+      (cond (ltb (L .room) (sizes (b .held ++ cs))) (coreRefuse k leave Refusal.holdAreaFull) go))
 
   unfoldable pub corePart : Core → ℕ → Bound → ℕ → Part → List Change → CoreResult
-  corePart k h b n commit cs = cond (not (isEmpty (b .held))) (coreRefuse k leave 15) (coreSettle k h b n cs)
+  corePart k h b n commit cs = cond (not (isEmpty (b .held))) (coreRefuse k leave Refusal.changesHeld) (coreSettle k h b n cs)
   corePart k h b n whole cs = coreHold k h b cs (coreSays k (store h (holding b n cs)) (ack h n))
   corePart k h b n lastWhole cs = coreHold k h b cs (coreSettle k h (noneHeld b) n (b .held ++ cs))
 
   unfoldable pub coreHandle : Core → ℕ → Option Bound → ℕ → Part → List Change → CoreResult
-  coreHandle k h none n p cs = coreRefuse k leave 14
+  coreHandle k h none n p cs = coreRefuse k leave Refusal.unbound
   coreHandle k h (some b) n p cs = cond (follows b n) (corePart k h b n p cs) (coreSays k (store h (noneHeld b)) (nack h diverged))
 
   unfoldable pub coreBatch : Core → Option Bound → ℕ → ℕ → ℕ → Part → List Change → List AppRecord → CoreResult
   coreBatch k found h e n p cs apps =
-      cond (not (isEmpty apps)) (coreRefuse k leave 13)
+      cond (not (isEmpty apps)) (coreRefuse k leave Refusal.appRecords)
       (cond (ltb e (k .counters .epoch)) (coreSays k leave (nack h staleEpoch))
       (coreHandle (counting k (atEpoch e (k .counters))) h found n p cs))
 
@@ -123,17 +124,17 @@ module _ (L : Settings) where
 
   abbrev pub coreIntact : Core → Option Bound → Bool → Frame → CoreResult
   coreIntact k found free (hello v e node kinds) = coreHello k v e kinds
-  coreIntact k found free (welcome e i) = coreRefuse k leave 19
+  coreIntact k found free (welcome e i) = coreRefuse k leave Refusal.otherFrame
   coreIntact k found free (bind h e lag j) = coreBind k (isSome found || free) h e lag j
   coreIntact k found free (batch h e n p cs apps) = coreBatch k found h e n p cs apps
-  coreIntact k found free (ack h n) = coreRefuse k leave 19
-  coreIntact k found free (nack h r) = coreRefuse k leave 19
-  coreIntact k found free (bound h m) = coreRefuse k leave 19
+  coreIntact k found free (ack h n) = coreRefuse k leave Refusal.otherFrame
+  coreIntact k found free (nack h r) = coreRefuse k leave Refusal.otherFrame
+  coreIntact k found free (bound h m) = coreRefuse k leave Refusal.otherFrame
   coreIntact k found free (checked h e i) = coreChecked k h e i
 
   unfoldable pub coreGiven : Core → Option Bound → Bool → Given → CoreResult
   coreGiven k found free (damaged n) = coreRefuse k leave n
-  coreGiven k found free (intact f) = cond (k .counters .promoted) (coreRefuse k leave 10) (coreIntact (coreRun (due (k .pending) f) k) found free f)
+  coreGiven k found free (intact f) = cond (k .counters .promoted) (coreRefuse k leave Refusal.promoted) (coreIntact (coreRun (due (k .pending) f) k) found free f)
 
   abbrev pub coreFlushed : CoreResult → CoreResult
   coreFlushed r = record { core = coreRun (isReply (r .answer)) (r .core); action = r .action; answer = r .answer }
@@ -144,9 +145,9 @@ module _ (L : Settings) where
   unfoldable pub coreStep : Core → Option Bound → Bool → Call → CoreResult
   coreStep k found free (onFrameHeld w) = coreGiven k found free (given w)
   coreStep k found free (onFrame w) = coreFlushed (coreGiven k found free (given w))
-  coreStep k found free (flush n) = cond (not (eqb n (k .counters .connections)) || k .counters .promoted) (coreRefuse k leave 22) (coreDone (coreRun true k) leave)
+  coreStep k found free (flush n) = cond (not (eqb n (k .counters .connections)) || k .counters .promoted) (coreRefuse k leave Refusal.otherConnection) (coreDone (coreRun true k) leave)
   coreStep k found free (disconnectedFrom n) = cond (eqb n (k .counters .connections)) (coreDone (coreUnbound k) clear) (coreDone k leave)
-  coreStep k found free promote = cond (k .counters .checked) (coreDone (corePromotion k) clear) (coreRefuse k leave 23)
+  coreStep k found free promote = cond (k .counters .checked) (coreDone (corePromotion k) clear) (coreRefuse k leave Refusal.unchecked)
   coreStep k found free promoteUnchecked = coreDone (corePromotion k) clear
 
 -- the handle to look up

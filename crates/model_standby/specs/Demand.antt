@@ -8,6 +8,7 @@ use mathlib.Core.Bool.{Bool, true, false, cond, not, _&&_, _||_}
 use lib.ListN.{length}
 use lib.Dec.{T, eqb, leb}
 use Rattle.model_frame.specs.Frame.{Frame}
+use Rattle.model_frame.specs.Refusal
 use Rattle.model_frame.specs.Parse.{isEmpty}
 use Rattle.model_frame.specs.Writing.{encode}
 use Rattle.model_session.specs.Session.{Session, Holdable, top}
@@ -56,7 +57,7 @@ pub data Hands : Call → List ℕ → Type 0 where
 
 -- a number outside 14 to 18
 abbrev pub isOutside : ℕ → Bool
-isOutside n = not (leb 14 n && leb n 18)
+isOutside n = not (leb Refusal.unbound n && leb n Refusal.holdAreaFull)
 
 -- bytes besides A's, answered so: a frame of an epoch below e, or refused with a number outside 14 to 18
 pub data Aside (e : ℕ) : List ℕ → Answer → Type 0 where

@@ -7,6 +7,7 @@ use mathlib.Core.Bool.{Bool, true, false, cond, not, _&&_, _||_}
 use lib.ListN.{length}
 use lib.Dec.{ltb, leb, eqb}
 use Rattle.model_frame.specs.Frame.{Key, Change, setIncoming, setIncomingInFlight, setInFlight, recordMsg, recordBare, reset, setCreatedAt, setMarks, Part, commit, whole, lastWhole, staleEpoch, diverged, lagTooGreat, restarted, AppRecord, Frame, hello, welcome, bind, batch, ack, nack, bound, checked}
+use Rattle.model_frame.specs.Refusal
 use Rattle.model_frame.specs.Parse.{isEmpty}
 use Rattle.model_frame.specs.Writing.{sizes}
 use Rattle.model_session.specs.Session.{fits, messageBytes, top}
@@ -70,8 +71,8 @@ module _ (L : Settings) where
   -- Hello: 11 version not 1, 12 kinds listed; a lower epoch is told the standby's
   unfoldable pub onHello : Standby → ℕ → ℕ → List ℕ → Result
   onHello s v e kinds =
-      cond (not (eqb v protocolVersion)) (refuse s 11)
-      (cond (not (isEmpty kinds)) (refuse s 12)
+      cond (not (eqb v protocolVersion)) (refuse s Refusal.badVersion)
+      (cond (not (isEmpty kinds)) (refuse s Refusal.kindsListed)
       (cond (ltb e (s .counters .epoch)) (says s (welcome (s .counters .epoch) (incarnationOf L)))
       (says (withCounters (unbound s) (connected e (s .counters))) (welcome e (incarnationOf L)))))
 
@@ -80,8 +81,8 @@ module _ (L : Settings) where
   onBind s h e lag k =
       cond (ltb e (s .counters .epoch)) (says s (nack h staleEpoch))
       (cond (ltb (L .lag) lag) (says s (nack h lagTooGreat))
-      (cond (not (isStored k (s .places) || ltb (length (s .places)) (L .S))) (refuse s 20)
-      (cond (not (hasRoom h (s .handles))) (refuse s 21)
+      (cond (not (isStored k (s .places) || ltb (length (s .places)) (L .S))) (refuse s Refusal.noSessionPlace)
+      (cond (not (hasRoom h (s .handles))) (refuse s Refusal.noHandlePlace)
       (says (bindTo s h k) (bound h (summary (orNew (sessionAt (s .places) (placeOf k (s .places)))) lag))))))
 
   -- Checked: Nack StaleEpoch, Nack Restarted
@@ -147,25 +148,25 @@ module _ (L : Settings) where
   -- Whole, LastWhole: 16 nothing held and no Reset in front, 17 the byte sum, 18 the hold area
   unfoldable pub hold : Standby → ℕ → Bound → List Change → Result → Result
   hold s h b cs go =
-      cond (isEmpty (b .held) && not (startsWithReset cs)) (refuse s 16)
-      (cond (ltb maxWhole (raised b cs)) (refuse (withHandle s h (summed b cs)) 17)
-      (cond (ltb (L .room) (sizes (b .held ++ cs))) (refuse s 18) go))
+      cond (isEmpty (b .held) && not (startsWithReset cs)) (refuse s Refusal.noReset)
+      (cond (ltb maxWhole (raised b cs)) (refuse (withHandle s h (summed b cs)) Refusal.tooManyBytes)
+      (cond (ltb (L .room) (sizes (b .held ++ cs))) (refuse s Refusal.holdAreaFull) go))
 
   -- Commit: 15 while changes are held
   unfoldable pub onPart : Standby → ℕ → Bound → ℕ → Part → List Change → Result
-  onPart s h b n commit cs = cond (not (isEmpty (b .held))) (refuse s 15) (settle s h b n cs)
+  onPart s h b n commit cs = cond (not (isEmpty (b .held))) (refuse s Refusal.changesHeld) (settle s h b n cs)
   onPart s h b n whole cs = hold s h b cs (says (withHandle s h (holding b n cs)) (ack h n))
   onPart s h b n lastWhole cs = hold s h b cs (settle s h (noneHeld b) n (b .held ++ cs))
 
   -- 14 unbound; Nack Diverged for the number, which clears what is held
   unfoldable pub onHandle : Standby → ℕ → Option Bound → ℕ → Part → List Change → Result
-  onHandle s h none n p cs = refuse s 14
+  onHandle s h none n p cs = refuse s Refusal.unbound
   onHandle s h (some b) n p cs = cond (follows b n) (onPart s h b n p cs) (says (withHandle s h (noneHeld b)) (nack h diverged))
 
   -- Batch: 13 application records; Nack StaleEpoch; the epoch is raised, even if the Batch is then refused
   unfoldable pub onBatch : Standby → ℕ → ℕ → ℕ → Part → List Change → List AppRecord → Result
   onBatch s h e n p cs apps =
-      cond (not (isEmpty apps)) (refuse s 13)
+      cond (not (isEmpty apps)) (refuse s Refusal.appRecords)
       (cond (ltb e (s .counters .epoch)) (says s (nack h staleEpoch))
       (onHandle (withCounters s (atEpoch e (s .counters))) h (find h (s .handles)) n p cs))
 
@@ -174,18 +175,18 @@ module _ (L : Settings) where
   -- others: 19
   abbrev pub onIntact : Standby → Frame → Result
   onIntact s (hello v e node kinds) = onHello L s v e kinds
-  onIntact s (welcome e i) = refuse s 19
+  onIntact s (welcome e i) = refuse s Refusal.otherFrame
   onIntact s (bind h e lag k) = onBind L s h e lag k
   onIntact s (batch h e n p cs apps) = onBatch s h e n p cs apps
-  onIntact s (ack h n) = refuse s 19
-  onIntact s (nack h r) = refuse s 19
-  onIntact s (bound h m) = refuse s 19
+  onIntact s (ack h n) = refuse s Refusal.otherFrame
+  onIntact s (nack h r) = refuse s Refusal.otherFrame
+  onIntact s (bound h m) = refuse s Refusal.otherFrame
   onIntact s (checked h e i) = onChecked L s h e i
 
   -- on_frame_held: the reader's number or 26 (no commit runs for these), 10 promoted, due commits, then the frame
   unfoldable pub onGiven : Standby → Given → Result
   onGiven s (damaged n) = refuse s n
-  onGiven s (intact f) = cond (s .counters .promoted) (refuse s 10) (onIntact (runPending (due (s .pending) f) s) f)
+  onGiven s (intact f) = cond (s .counters .promoted) (refuse s Refusal.promoted) (onIntact (runPending (due (s .pending) f) s) f)
 
   -- promoted; bindings and pending commits go; each session is taken over
   abbrev pub promotion : Standby → Standby
@@ -195,9 +196,9 @@ module _ (L : Settings) where
   unfoldable pub step : Standby → Call → Result
   step s (onFrameHeld w) = onGiven s (given w)
   step s (onFrame w) = flushed (onGiven s (given w))
-  step s (flush n) = cond (not (eqb n (s .counters .connections)) || s .counters .promoted) (refuse s 22) (record { state = runPending true s; answer = done })
+  step s (flush n) = cond (not (eqb n (s .counters .connections)) || s .counters .promoted) (refuse s Refusal.otherConnection) (record { state = runPending true s; answer = done })
   step s (disconnectedFrom n) = record { state = cond (eqb n (s .counters .connections)) (unbound s) s; answer = done }
-  step s promote = cond (s .counters .checked) (record { state = promotion s; answer = done }) (refuse s 23)
+  step s promote = cond (s .counters .checked) (record { state = promotion s; answer = done }) (refuse s Refusal.unchecked)
   step s promoteUnchecked = record { state = promotion s; answer = done }
 
   -- the state after a list of calls

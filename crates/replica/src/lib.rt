@@ -5,6 +5,7 @@ ghost use lib.ListN.{getD};
 ghost use Rattle.model_standby.specs.State.{onFrameHeld, onFrame, flush, disconnectedFrom, promote, promoteUnchecked};
 ghost use Rattle.standby_step.specs.Calls.{handleAt, Called};
 ghost use Rattle.replica.specs.Making.{newReplica, MakeIs, MadeOver};
+use base_refusals::RULES_BROKEN;
 use frame::Epoch;
 use frame::Incarnation;
 use standby_row::Handle;
@@ -13,6 +14,7 @@ use standby_state::Answer;
 use standby_state::Outcome;
 use standby_state::Replica;
 use standby_state::Settings;
+use store_areas::word;
 
 // Where a Bind and a Batch have their handle.
 fn handle_at(frame: &[u8]) -> u32
@@ -31,7 +33,7 @@ fn places_in_use(words: &[u64]) -> usize
     if words.len() == 0 {
         return 0;
     }
-    words[0] as usize
+    words[word::USED] as usize
 }
 
 // A frame that may be held back: its answer is sent once the pending commits have run.
@@ -188,10 +190,10 @@ fn made(c: Replica, seen: Seen, words: &mut [u64], bytes: &[u8], s: Settings) ->
     ensures { λ r. ⌜ MakeIs s c seen (now (words .entry)) (now (words .exit)) (now (bytes .entry)) r ⌝ }
 {
     if store_areas::allowed(s.shape, words, bytes) {
-        words[1] = 0;
+        words[word::PENDING] = 0;
         return standby_state::clears(new(), seen, standby_state::done());
     }
-    standby_state::leaves(c, seen, standby_state::refused(25))
+    standby_state::leaves(c, seen, standby_state::refused(RULES_BROKEN))
 }
 
 // Makes a standby over a store: new counters, no pending commit, every record of the row freed.

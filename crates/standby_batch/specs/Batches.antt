@@ -6,12 +6,14 @@ use mathlib.Core.List.{List}
 use mathlib.Core.Option.{Option, none, some}
 use lib.ListN.{length, getD}
 use lib.Dec.{eqb, ltb}
+use Rattle.model_frame.specs.ReasonByte
 use Rattle.model_frame.specs.Bytes.{write}
 use Rattle.model_frame.specs.Frame.{Change, AppRecord, batch}
 use Rattle.model_frame.specs.Frame as the-frame
 use Rattle.frame.specs.declared.CommitNumber.{CommitNumber}
 use Rattle.frame.specs.declared.Epoch.{Epoch}
 use Rattle.standby_row.specs.declared.Seen.{Seen}
+use Rattle.store_areas.specs.StoreWord
 use Rattle.store_areas.specs.Areas.{Rules}
 use Rattle.standby_commit.specs.Settling.{Touched}
 use Rattle.model_standby.specs.Answer.{protocolVersion}
@@ -37,14 +39,14 @@ abbrev pub foundFor : Seen → ℕ → Bool
 foundFor seen h = ltb (seen .at) (seen .len) && eqb (seen .bound .handle) h
 
 abbrev pub answerBy : Done → ℕ → CommitNumber → Answer
-answerBy x h n = cond (eqb (x .refusal) 0) (cond (x .nack) (isNack h 2) (isAck h n)) (isRefused (x .refusal))
+answerBy x h n = cond (eqb (x .refusal) 0) (cond (x .nack) (isNack h ReasonByte.diverged) (isAck h n)) (isRefused (x .refusal))
 
 abbrev pub settledOf : Replica → Seen → Done → ℕ → CommitNumber → Outcome
 settledOf c seen x h n = cond (x .stores) (storing c seen (answerBy x h n) h (x .slot)) (leaving c seen (answerBy x h n))
 
 -- the record found names a place in use, and holds no more than its area has
 pub record Kept (seen : Seen) (w area : List ℕ) : Type 0 where
-  pub place-used : seen .bound .place < getD w 0 0
+  pub place-used : seen .bound .place < getD w StoreWord.used 0
   pub held-within : seen .bound .«held_len» ≤ length area
 
 -- the hold area with what is written there
@@ -63,11 +65,11 @@ pub record BatchIs (s : Settings) (c : Replica) (seen : Seen) (h e n : ℕ) (par
     answer = answerOf b' (r .answer);
   }
       ≡ coreBatch (settingsOf s (length area)) (coreAt (countersOf c) (s .shape) w b) (foundAt seen h area) h e n part cs apps
-  pub lands : Lands seen (getD w' 0 0) (length area) r
+  pub lands : Lands seen (getD w' StoreWord.used 0) (length area) r
   pub stays : r .clears ≡ false
   pub stored : r .stores ≡ true → foundFor seen h ≡ true
   pub rules : Rules (s .shape) w' b'
-  pub used : getD w' 0 0 ≡ getD w 0 0
+  pub used : getD w' StoreWord.used 0 ≡ getD w StoreWord.used 0
   pub touched : Touched (s .shape) (seen .bound .place) w w' b b'
   pub quiet : isQuiet (r .answer) ≡ true → (w' ≡ w) × (b' ≡ b)
   pub area-is : area' ≡ areaBy (writesFrame (settingsOf s (length area)) (countersOf c) (foundAt seen h area) (batch h e n part cs apps)) area

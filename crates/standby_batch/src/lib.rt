@@ -11,10 +11,12 @@ ghost use Rattle.store_areas.specs.Areas.{Rules};
 ghost use Rattle.standby_pending.specs.Pending.{countOf};
 ghost use Rattle.standby_step.specs.Steps.{isFound};
 ghost use Rattle.standby_batch.specs.Batches.{epochTo, foundFor, answerBy, settledOf, Kept, BatchIs};
+use base_refusals::APP_RECORDS;
 use frame::Batch;
 use frame::CommitNumber;
 use frame::Epoch;
 use frame_fields::AppRecordAt;
+use frame_fields::reason;
 use frame_op::Run;
 use frame_reader::Cursor;
 use frame_stamp::Protocol;
@@ -68,7 +70,7 @@ fn answer_by(x: Done, handle: u32, n: CommitNumber) -> Answer
         return standby_state::refused(x.refusal);
     }
     if x.nack {
-        return standby_state::nack(handle, 2);
+        return standby_state::nack(handle, reason::DIVERGED);
     }
     standby_state::ack(handle, n)
 }
@@ -102,11 +104,11 @@ pub fn on_batch(
 {
     let records = b.app_records;
     if !no_records(frame, records) {
-        return standby_state::leaves(c, seen, standby_state::refused(13));
+        return standby_state::leaves(c, seen, standby_state::refused(APP_RECORDS));
     }
     let handle = b.handle;
     if is_stale(c, b) {
-        return standby_state::leaves(c, seen, standby_state::nack(handle, 1));
+        return standby_state::leaves(c, seen, standby_state::nack(handle, reason::STALE_EPOCH));
     }
     let shape = s.shape;
     let epoch = b.epoch;

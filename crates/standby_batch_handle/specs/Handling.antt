@@ -6,6 +6,7 @@ use mathlib.Core.Option.{Option, none, some}
 use Prim.Native.Nat.{ℕ, suc, _<_, _≤_}
 use lib.ListN.{length, getD, take}
 use lib.Dec.{eqb, ltb}
+use Rattle.model_frame.specs.Refusal
 use Rattle.model_frame.specs.Frame.{Change, commit, whole, lastWhole}
 use Rattle.model_frame.specs.Bytes.{write}
 use Rattle.model_frame.specs.Writing.{sizes}
@@ -13,6 +14,7 @@ use Rattle.frame_op.specs.Answers.{heldRun}
 use Rattle.model_frame.specs.Frame as the-frame
 use Rattle.model_session.specs.Session.{top}
 use Rattle.standby_row.specs.declared.Handle.{Handle}
+use Rattle.store_areas.specs.StoreWord
 use Rattle.store_areas.specs.declared.Shape.{Shape}
 use Rattle.store_areas.specs.Areas.{Rules}
 use Rattle.standby_commit.specs.Settling.{Touched}
@@ -29,7 +31,7 @@ followsOf h n = eqb n (suc (h .«commit_no» .0)) && ltb (h .«commit_no» .0) t
 -- a record that was found: it is the handle's, names a place in use, and holds no more than its area has
 pub record Sound (handle : ℕ) (h : Handle) (w area : List ℕ) : Type 0 where
   pub own : h .handle ≡ handle
-  pub place-used : h .place < getD w 0 0
+  pub place-used : h .place < getD w StoreWord.used 0
   pub held-within : h .«held_len» ≤ length area
 
 abbrev pub foundOf : ℕ → Bool → Handle → List ℕ → Option Bound
@@ -43,7 +45,7 @@ isHeld lastWhole = true
 -- the hold area: the run after the changes held, for a Whole or LastWhole that isn't refused
 abbrev pub areaAfter : ℕ → Bool → Handle → ℕ → the-frame.Part → List ℕ → List ℕ → ℕ → List ℕ
 areaAfter version found h n part run area refusal =
-    cond (found && (followsOf h n && isHeld part)) (cond (eqb refusal 0) (write area (sizes (heldRun version (take (h .«held_len») area))) run) area) area
+    cond (found && (followsOf h n && isHeld part)) (cond (eqb refusal Refusal.notOneFrame) (write area (sizes (heldRun version (take (h .«held_len») area))) run) area) area
 
 -- equal to the definition, whatever the counters and the settings; a refusal and a Nack leave the store as it was
 pub record HandleIs (version : ℕ) (s : Shape) (handle : ℕ) (found : Bool) (h : Handle) (n : ℕ) (part : the-frame.Part) (cs : List Change) (w w' b b' area area' : List ℕ) (d : Done) : Type 0 where

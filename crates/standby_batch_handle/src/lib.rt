@@ -10,6 +10,7 @@ ghost use Rattle.store_areas.specs.Areas.{Rules};
 ghost use Rattle.standby_pending.specs.Pending.{countOf};
 ghost use Rattle.standby_batch_handle.specs.Handling.{followsOf, Sound, areaAfter, HandleIs};
 ghost use Rattle.standby_part.specs.State.{holdingTo};
+use base_refusals::UNBOUND;
 use frame::CommitNumber;
 use frame_fields::Part;
 use frame_stamp::Protocol;
@@ -60,7 +61,7 @@ pub fn on_handle(
 {
     if !found {
         return Done {
-            refusal: 14,
+            refusal: UNBOUND,
             stores: false,
             slot: h,
             nack: false,

@@ -10,6 +10,7 @@ use Rattle.model_frame.specs.Frame.{Key}
 use Rattle.frame_reader.specs.declared.Span.{Span}
 use Rattle.standby_row.specs.declared.Handle.{Handle}
 use Rattle.standby_row.specs.declared.Seen.{Seen}
+use Rattle.store_areas.specs.StoreWord
 use Rattle.store_areas.specs.declared.Shape.{Shape}
 use Rattle.store_areas.specs.Areas.{Rules, placeAt, placesOf}
 use Rattle.standby_pending.specs.Pending.{pendingOf}
@@ -17,6 +18,7 @@ use Rattle.standby_commit.specs.Settling.{Touched}
 use Rattle.store_state.specs.declared.Text.{Text}
 use Rattle.model_standby.specs.Store.{placeOf, sessionAt, orNew, opened}
 use Rattle.model_standby.specs.Core.{coreBind}
+use Rattle.store_place.specs.PlaceByte
 use Rattle.standby_part.specs.State.{coreAt}
 use Rattle.standby_state.specs.declared.Replica.{Replica}
 use Rattle.standby_state.specs.declared.Settings.{Settings}
@@ -26,13 +28,13 @@ use Rattle.standby_hello.specs.Greeting.{isQuiet}
 
 -- texts of at most 32 bytes
 pub record Short (k : Key) : Type 0 where
-  pub begin : length (k .begin) ≤ 32
-  pub sender : length (k .sender) ≤ 32
-  pub target : length (k .target) ≤ 32
-  pub suffix : length (k .suffix) ≤ 32
+  pub begin : length (k .begin) ≤ PlaceByte.keyTextSize
+  pub sender : length (k .sender) ≤ PlaceByte.keyTextSize
+  pub target : length (k .target) ≤ PlaceByte.keyTextSize
+  pub suffix : length (k .suffix) ≤ PlaceByte.keyTextSize
 
 abbrev pub cutTo : Text → Span
-cutTo t = record { at = t .at; len = min (t .len) 64 }
+cutTo t = record { at = t .at; len = min (t .len) PlaceByte.marksSize }
 
 abbrev pub numberIn : Option ℕ → ℕ
 numberIn none = 0
@@ -50,16 +52,16 @@ pub record OpenIs (s : Shape) (k : Key) (w w' b b' : List ℕ) : Type 0 where
   pub places : placesOf s w' b' ≡ opened k (placesOf s w b)
   pub pending : pendingOf w' ≡ pendingOf w
   pub rules : Rules s w' b'
-  pub more : getD w 0 0 ≤ getD w' 0 0
-  pub there : placeOf k (placesOf s w b) < getD w' 0 0
+  pub more : getD w StoreWord.used 0 ≤ getD w' StoreWord.used 0
+  pub there : placeOf k (placesOf s w b) < getD w' StoreWord.used 0
   pub session : placeAt s w' b' (placeOf k (placesOf s w b)) .stored .session ≡ orNew (sessionAt (placesOf s w b) (placeOf k (placesOf s w b)))
   pub touched : Touched s (placeOf k (placesOf s w b)) w w' b b'
 
 -- equal to the definition, whatever the hold areas; a refusal and a Nack leave the store as it was
 pub record BindIs (s : Settings) (c : Replica) (seen : Seen) (h e lag : ℕ) (k : Key) (w w' b b' : List ℕ) (r : Outcome) : Type 0 where
   pub is : (version room : ℕ) (holds : List ℕ) → outcomeOf version room (s .shape) w' b' holds r ≡ coreBind (settingsOf s room) (coreAt (countersOf c) (s .shape) w b) (roomFor seen) h e lag k
-  pub lands : (room : ℕ) → Lands seen (getD w' 0 0) room r
+  pub lands : (room : ℕ) → Lands seen (getD w' StoreWord.used 0) room r
   pub rules : Rules (s .shape) w' b'
-  pub more : getD w 0 0 ≤ getD w' 0 0
+  pub more : getD w StoreWord.used 0 ≤ getD w' StoreWord.used 0
   pub touched : Touched (s .shape) (placeOf k (placesOf (s .shape) w b)) w w' b b'
   pub quiet : isQuiet (r .answer) ≡ true → (w' ≡ w) × (b' ≡ b)

@@ -12,9 +12,12 @@ ghost use Rattle.standby_state.specs.Answers.{briefOf};
 ghost use Rattle.store_place.specs.Place.{flightIs};
 ghost use Rattle.model_standby.specs.Row.{isSome};
 ghost use Rattle.standby_bind.specs.Binding.{Short, cutTo, numberIn, newHandle, roomFor, OpenIs, BindIs};
+use base_refusals::NO_HANDLE_PLACE;
+use base_refusals::NO_SESSION_PLACE;
 use frame::CommitNumber;
 use frame::Epoch;
 use frame::SessionId;
+use frame_fields::reason;
 use frame_reader::Span;
 use standby_row::Handle;
 use standby_row::Seen;
@@ -23,21 +26,25 @@ use standby_state::Outcome;
 use standby_state::Replica;
 use standby_state::Settings;
 use store_areas::Shape;
+use store_areas::word;
 use store_place::Flight;
 use store_state::Text;
+
+// The most bytes of a stamp or of marks.
+const TEXT_MOST: u32 = store_place::byte::MARKS_SIZE as u32;
 
 // A text of the store as a frame's: no stamp and no marks are longer than 64 bytes.
 fn span(t: Text) -> Span
     ensures { λ r. ⌜ r ≡ cutTo t ⌝ }
 {
     let at = t.at;
-    if t.len < 64 {
+    if t.len < store_place::byte::MARKS_SIZE {
         return Span {
             at,
             len: t.len as u32,
         };
     }
-    Span { at, len: 64 }
+    Span { at, len: TEXT_MOST }
 }
 
 fn flying(f: Flight) -> bool
@@ -107,7 +114,7 @@ fn open(words: &mut [u64], bytes: &mut [u8], frame: &[u8], shape: Shape, k: Sess
     requires { ⌜ Short (keyOf (now frame) k) ⌝ }
     ensures { λ _. ⌜ OpenIs shape (keyOf (now (frame .entry)) k) (now (words .entry)) (now (words .exit)) (now (bytes .entry)) (now (bytes .exit)) ⌝ }
 {
-    if (place as u64) < words[0] {
+    if (place as u64) < words[word::USED] {
         return;
     }
     let begin = k.begin_string;
@@ -172,18 +179,18 @@ pub fn on_bind(
 {
     let own = c.epoch;
     if epoch.0 < own.0 {
-        return standby_state::leaves(c, seen, standby_state::nack(handle, 1));
+        return standby_state::leaves(c, seen, standby_state::nack(handle, reason::STALE_EPOCH));
     }
     if s.lag < max_lag {
-        return standby_state::leaves(c, seen, standby_state::nack(handle, 3));
+        return standby_state::leaves(c, seen, standby_state::nack(handle, reason::LAG));
     }
     let shape = s.shape;
     let place = place_of(words, bytes, frame, shape, k);
-    if !has_place(words[0], place, shape.places) {
-        return standby_state::leaves(c, seen, standby_state::refused(20));
+    if !has_place(words[word::USED], place, shape.places) {
+        return standby_state::leaves(c, seen, standby_state::refused(NO_SESSION_PLACE));
     }
     if !has_room(seen) {
-        return standby_state::leaves(c, seen, standby_state::refused(21));
+        return standby_state::leaves(c, seen, standby_state::refused(NO_HANDLE_PLACE));
     }
     open(words, bytes, frame, shape, k, place);
     let brief = brief_at(words, bytes, shape, place, max_lag);

@@ -144,7 +144,7 @@ fn past_record(buf: &[u8], c: Cursor, len: u32) -> Past
     let Word32::Got(n, d) = frame_reader::u32_from(buf, d) else {
         return Past::Bad(FrameError::Truncated);
     };
-    if k != 4 {
+    if k != frame_op::kind::RECORD {
         return Past::Bad(FrameError::Truncated);
     }
     if n != len {

@@ -8,13 +8,14 @@ use Rattle.model_frame.specs.Frame.{Change}
 use Rattle.model_session.specs.Session.{fits}
 use Rattle.model_standby.specs.Store.{onPlace, changed}
 use Rattle.store_place.specs.Only.{Only}
+use Rattle.store_areas.specs.StoreWord
 use Rattle.store_areas.specs.declared.Shape.{Shape}
 use Rattle.store_areas.specs.Areas.{placeWords, placeBytes, bytesAt, Rules, placeAt, placesOf}
 use Rattle.standby_pending.specs.Pending.{pendingOf}
 
 -- of the words past the counts, and of the bytes, only those of place i may have changed
 pub record Touched (s : Shape) (i : ℕ) (w w' b b' : List ℕ) : Type 0 where
-  pub words : Only (i * placeWords s) (i * placeWords s + placeWords s) (drop 66 w) (drop 66 w')
+  pub words : Only (i * placeWords s) (i * placeWords s + placeWords s) (drop StoreWord.places w) (drop StoreWord.places w')
   pub bytes : Only (bytesAt s i) (bytesAt s i + placeBytes s) b b'
 
 -- the changes fit, are made at place i, and one commit is pending on the handle h; or they don't, and nothing is changed

@@ -9,6 +9,7 @@ use lib.Dec.{ltb}
 use Rattle.model_frame.specs.Frame.{Frame, hello, welcome, bind, batch, ack, nack, bound, checked}
 use Rattle.model_frame.specs.Parse.{isEmpty}
 use Rattle.standby_row.specs.declared.Seen.{Seen}
+use Rattle.store_areas.specs.StoreWord
 use Rattle.store_areas.specs.Areas.{Rules, placesOf}
 use Rattle.standby_pending.specs.Pending.{pendingOf}
 use Rattle.standby_commit.specs.Settling.{Touched}
@@ -48,15 +49,15 @@ Fit (bound h m) = Unit {0}
 Fit (checked h e i) = Unit {0}
 
 abbrev pub clearedIf : Bool → List ℕ → List ℕ
-clearedIf t w = cond t (set w 1 0) w
+clearedIf t w = cond t (set w StoreWord.pending 0) w
 
 -- equal to the definition, whatever the hold areas and the record found; a refusal and a Nack leave the store as it was
 pub record OtherIs (s : Settings) (c : Replica) (seen : Seen) (f : Frame) (w w' b b' : List ℕ) (r : Outcome) : Type 0 where
   pub is : (version room : ℕ) (holds : List ℕ) (o : Option Bound) → isSome o ≡ isFound seen
       → outcomeOf version room (s .shape) w' b' holds r ≡ coreIntact (settingsOf s room) (coreAt (countersOf c) (s .shape) w b) o (ltb (seen .free) (seen .len)) f
-  pub lands : (room : ℕ) → Lands seen (getD w' 0 0) room r
+  pub lands : (room : ℕ) → Lands seen (getD w' StoreWord.used 0) room r
   pub rules : Rules (s .shape) w' b'
-  pub more : getD w 0 0 ≤ getD w' 0 0
+  pub more : getD w StoreWord.used 0 ≤ getD w' StoreWord.used 0
   pub touched : Touched (s .shape) (placeBy (placesOf (s .shape) w b) (seen .bound .place) (intact f)) w w' b b'
   pub quiet : isQuiet (r .answer) ≡ true → (w' ≡ w) × (b' ≡ b)
 
@@ -65,7 +66,7 @@ pub record OtherIn (s : Settings) (c : Replica) (seen : Seen) (f : Frame) (w w' 
   pub is : (version room : ℕ) (holds : List ℕ) (o : Option Bound) → isSome o ≡ isFound seen
       → outcomeOf version room (s .shape) w' b' holds r
       ≡ coreIntact (settingsOf s room) (coreRun (not (isEmpty (pendingOf w))) (coreAt (countersOf c) (s .shape) w b)) o (ltb (seen .free) (seen .len)) f
-  pub lands : (room : ℕ) → Lands seen (getD w' 0 0) room r
+  pub lands : (room : ℕ) → Lands seen (getD w' StoreWord.used 0) room r
   pub rules : Rules (s .shape) w' b'
-  pub more : getD w 0 0 ≤ getD w' 0 0
+  pub more : getD w StoreWord.used 0 ≤ getD w' StoreWord.used 0
   pub leaves : FrameLeaves (s .shape) (placeBy (placesOf (s .shape) w b) (seen .bound .place) (intact f)) (not (isEmpty (pendingOf w))) false (isQuiet (r .answer)) w w' b b'

@@ -11,6 +11,7 @@ ghost use Rattle.store_areas.specs.Areas.{Rules};
 ghost use Rattle.standby_hello.specs.Greeting.{Replies};
 ghost use Rattle.model_standby.specs.Core.{coreIntact};
 ghost use Rattle.standby_control.specs.Others.{Plain, Fit, clearedIf, OtherIs, OtherIn};
+use base_refusals::OTHER_FRAME;
 use frame::Frame;
 use frame_op::Run;
 use frame_reader::Cursor;
@@ -63,7 +64,7 @@ fn reply(frame: &[u8], c: Replica, s: Settings, seen: Seen, f: Frame) -> Outcome
             epoch,
             incarnation,
         } => standby_hello::checked(c, s, seen, handle, epoch, incarnation),
-        _ => standby_state::leaves(c, seen, standby_state::refused(19)),
+        _ => standby_state::leaves(c, seen, standby_state::refused(OTHER_FRAME)),
     }
 }
 

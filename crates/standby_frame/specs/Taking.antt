@@ -7,6 +7,7 @@ use lib.ListN.{getD}
 use lib.Dec.{eqb, ltb}
 use Rattle.model_frame.specs.Frame.{Frame}
 use Rattle.standby_row.specs.declared.Seen.{Seen}
+use Rattle.store_areas.specs.StoreWord
 use Rattle.store_areas.specs.Areas.{Rules, placesOf}
 use Rattle.standby_pending.specs.Pending.{pendingOf}
 use Rattle.model_standby.specs.Answer.{protocolVersion, intact, given, handleIn}
@@ -35,9 +36,9 @@ pub record IntactIs (s : Settings) (c : Replica) (seen : Seen) (f : Frame) (w w'
   pub is : Own seen f
       → outcomeOf protocolVersion (roomIn seen h) (s .shape) w' b' h' r
       ≡ coreIntact (settingsOf s (roomIn seen h)) (coreRun (due (pendingOf w) f) (coreAt (countersOf c) (s .shape) w b)) (foundIn seen h) (ltb (seen .free) (seen .len)) f
-  pub lands : Lands seen (getD w' 0 0) (roomIn seen h) r
+  pub lands : Lands seen (getD w' StoreWord.used 0) (roomIn seen h) r
   pub rules : Rules (s .shape) w' b'
-  pub more : getD w 0 0 ≤ getD w' 0 0
+  pub more : getD w StoreWord.used 0 ≤ getD w' StoreWord.used 0
   pub leaves : FrameLeaves (s .shape) (placeBy (placesOf (s .shape) w b) (seen .bound .place) (intact f)) (due (pendingOf w) f) false (isQuiet (r .answer)) w w' b b'
   pub holds : Own seen f → h' ≡ holdsAfter (roomIn seen h) (seen .at) (writesFrame (settingsOf s (roomIn seen h)) (countersOf c) (foundIn seen h) f) h
 

@@ -13,6 +13,16 @@ ghost use Rattle.standby_state.specs.Answers.{answerOf};
 ghost use Rattle.standby_batch_due.specs.DueBatch.{Holds};
 ghost use Rattle.standby_step.specs.Steps.{isFound, StepIs};
 ghost use Rattle.standby_frame.specs.Taking.{isAnswered, IntactIs, Takes};
+use base_refusals::BAD_MARKS;
+use base_refusals::BAD_SESSION;
+use base_refusals::BAD_TEXT;
+use base_refusals::BAD_TIMESTAMP;
+use base_refusals::NOT_ONE_FRAME;
+use base_refusals::PROMOTED;
+use base_refusals::RULES_BROKEN;
+use base_refusals::TOO_LONG;
+use base_refusals::TRUNCATED;
+use base_refusals::UNKNOWN_BYTE;
 use frame::Decoded;
 use frame::Frame;
 use frame_reader::FrameError;
@@ -29,14 +39,14 @@ fn number(e: FrameError) -> u8
     ensures { λ r. ⌜ r ≡ number (faultOf e) ⌝ }
 {
     match e {
-        FrameError::TooLong(_) => 1,
-        FrameError::Truncated => 2,
-        FrameError::Unknown(_, _) => 3,
+        FrameError::TooLong(_) => TOO_LONG,
+        FrameError::Truncated => TRUNCATED,
+        FrameError::Unknown(_, _) => UNKNOWN_BYTE,
         FrameError::Invalid(v) => match v {
-            Value::Text => 4,
-            Value::Session => 5,
-            Value::Timestamp => 6,
-            Value::Marks => 7,
+            Value::Text => BAD_TEXT,
+            Value::Session => BAD_SESSION,
+            Value::Timestamp => BAD_TIMESTAMP,
+            Value::Marks => BAD_MARKS,
         },
     }
 }
@@ -79,13 +89,13 @@ fn taken(
 {
     match Frame::decode(Protocol { version: 1 }, frame) {
         Decoded::Bad(e) => standby_state::leaves(c, seen, standby_state::refused(number(e))),
-        Decoded::More => standby_state::leaves(c, seen, standby_state::refused(26)),
+        Decoded::More => standby_state::leaves(c, seen, standby_state::refused(NOT_ONE_FRAME)),
         Decoded::Whole(f, n) => {
             if n != frame.len() {
-                return standby_state::leaves(c, seen, standby_state::refused(26));
+                return standby_state::leaves(c, seen, standby_state::refused(NOT_ONE_FRAME));
             }
             if c.promoted {
-                return standby_state::leaves(c, seen, standby_state::refused(10));
+                return standby_state::leaves(c, seen, standby_state::refused(PROMOTED));
             }
             intact(words, bytes, holds, frame, c, s, seen, f)
         }
@@ -106,7 +116,7 @@ pub fn frame_held(
 {
     let shape = s.shape;
     if !standby_rules::sound(words, bytes, holds, shape, seen) {
-        return standby_state::leaves(c, seen, standby_state::refused(25));
+        return standby_state::leaves(c, seen, standby_state::refused(RULES_BROKEN));
     }
     taken(words, bytes, holds, frame, c, s, seen)
 }
@@ -132,7 +142,7 @@ pub fn frame_now(
 {
     let shape = s.shape;
     if !standby_rules::sound(words, bytes, holds, shape, seen) {
-        return standby_state::leaves(c, seen, standby_state::refused(25));
+        return standby_state::leaves(c, seen, standby_state::refused(RULES_BROKEN));
     }
     let o = taken(words, bytes, holds, frame, c, s, seen);
     let a = o.answer;

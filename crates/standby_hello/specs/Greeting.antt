@@ -4,6 +4,7 @@ use mathlib.Core.Path.{_≡_}
 use mathlib.Core.Bool.{Bool, true, false, cond, not, _||_}
 use mathlib.Core.List.{List, []}
 use lib.Dec.{eqb}
+use Rattle.model_frame.specs.FrameKind
 use Rattle.model_frame.specs.Parse.{isEmpty}
 use Rattle.model_session.specs.Session.{top}
 use Rattle.frame.specs.declared.Epoch.{Epoch}
@@ -26,7 +27,7 @@ checkedTo c e = record { epoch = e; connections = c .connections; promoted = c .
 
 -- a refusal or a Nack
 abbrev pub isQuiet : Answer → Bool
-isQuiet a = not (eqb (a .refusal) 0) || eqb (a .kind) 6
+isQuiet a = not (eqb (a .refusal) 0) || eqb (a .kind) FrameKind.nack
 
 -- equal to the definition m, whatever the places, the pending commits and the hold areas
 pub record Replies (c : Replica) (s : Settings) (seen : Seen) (m : state.Settings → Core → CoreResult) (r : Outcome) : Type 0 where

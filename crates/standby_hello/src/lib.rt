@@ -2,10 +2,13 @@
 ghost use mathlib.Core.Path.{_≡_};
 ghost use Prim.Native.Nat.{ℕ, max};
 ghost use Rattle.standby_hello.specs.Greeting.{HelloIs, CheckedIs, connectedTo, checkedTo};
+use base_refusals::BAD_VERSION;
+use base_refusals::KINDS_LISTED;
 use frame::CommitNumber;
 use frame::Epoch;
 use frame::Frame;
 use frame::Incarnation;
+use frame_fields::reason;
 use standby_row::Seen;
 use standby_state::Outcome;
 use standby_state::Replica;
@@ -55,10 +58,10 @@ pub fn hello(
     ensures { λ r. ⌜ HelloIs c s seen version (epoch .0) «no_kinds» r ⌝ }
 {
     if version != Frame::VERSION {
-        return standby_state::leaves(c, seen, standby_state::refused(11));
+        return standby_state::leaves(c, seen, standby_state::refused(BAD_VERSION));
     }
     if !no_kinds {
-        return standby_state::leaves(c, seen, standby_state::refused(12));
+        return standby_state::leaves(c, seen, standby_state::refused(KINDS_LISTED));
     }
     let own = c.epoch;
     if epoch.0 < own.0 {
@@ -84,10 +87,10 @@ pub fn checked(
 {
     let own = c.epoch;
     if epoch.0 < own.0 {
-        return standby_state::leaves(c, seen, standby_state::nack(handle, 1));
+        return standby_state::leaves(c, seen, standby_state::nack(handle, reason::STALE_EPOCH));
     }
     if run.0 != incarnation(s).0 {
-        return standby_state::leaves(c, seen, standby_state::nack(handle, 4));
+        return standby_state::leaves(c, seen, standby_state::nack(handle, reason::RESTARTED));
     }
     standby_state::leaves(
         checked_at(c, epoch),

@@ -5,6 +5,7 @@ use mathlib.Core.List.{List}
 use Prim.Native.Nat.{ℕ, _+_, min}
 use lib.ListN.{length, take}
 use lib.Dec.{ltb, eqb}
+use Rattle.model_frame.specs.Refusal
 use Rattle.model_frame.specs.Bytes.{write}
 use Rattle.model_frame.specs.Frame.{Change}
 use Rattle.model_frame.specs.Parse.{isEmpty}
@@ -21,9 +22,9 @@ sumOf held sum cs = min (cond (isEmpty held) 0 sum + messageBytes cs) top
 -- 0, or the refusal
 abbrev pub refusalOf : List Change → ℕ → List Change → ℕ → ℕ
 refusalOf held sum cs room =
-    cond (isEmpty held && not (startsWithReset cs)) 16
-    (cond (ltb maxWhole (sumOf held sum cs)) 17
-    (cond (ltb room (sizes held + sizes cs)) 18 0))
+    cond (isEmpty held && not (startsWithReset cs)) Refusal.noReset
+    (cond (ltb maxWhole (sumOf held sum cs)) Refusal.tooManyBytes
+    (cond (ltb room (sizes held + sizes cs)) Refusal.holdAreaFull 0))
 
 -- over the area as it was and is, with so many bytes of it held, and their byte sum
 pub record Holds (version : ℕ) (run area : List ℕ) (len sum : ℕ) (area' : List ℕ) (r : Held) : Type 0 where

@@ -8,6 +8,9 @@ ghost use Rattle.model_standby.specs.Standby.{startsWithReset};
 ghost use Rattle.frame_op.specs.Answers.{heldRun};
 ghost use Rattle.standby_changes.specs.Held.{TakesAll};
 ghost use Rattle.standby_hold.specs.Holding.{Holds};
+use base_refusals::HOLD_AREA_FULL;
+use base_refusals::NO_RESET;
+use base_refusals::TOO_MANY_BYTES;
 use frame_stamp::Protocol;
 
 // The most message bytes that are held of a session.
@@ -57,21 +60,21 @@ pub fn hold(p: Protocol, run: &[u8], area: &mut [u8], len: usize, sum: u64) -> H
     let end = used + run.len();
     if lacks_reset(p, run, used) {
         return Held {
-            refusal: 16,
+            refusal: NO_RESET,
             used: end,
             sum,
         };
     }
     if MAX_WHOLE_SESSION_BYTES < sum {
         return Held {
-            refusal: 17,
+            refusal: TOO_MANY_BYTES,
             used: end,
             sum,
         };
     }
     if area.len() < end {
         return Held {
-            refusal: 18,
+            refusal: HOLD_AREA_FULL,
             used: end,
             sum,
         };

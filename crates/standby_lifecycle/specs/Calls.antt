@@ -6,6 +6,7 @@ use mathlib.Core.List.{List, []}
 use lib.ListN.{getD, set}
 use Rattle.standby_row.specs.declared.Seen.{Seen}
 use Rattle.store_place.specs.Only.{Only}
+use Rattle.store_areas.specs.StoreWord
 use Rattle.store_areas.specs.Areas.{wordsAt, bytesAt, Rules, placesOf}
 use Rattle.standby_pending.specs.Pending.{pendingOf}
 use Rattle.model_standby.specs.Store.{onPlaces, takenOver}
@@ -23,6 +24,6 @@ pub record Promoted (s : Settings) (c : Replica) (seen : Seen) (w w' b b' : List
   pub places : placesOf (s .shape) w' b' ≡ onPlaces (takenOver (s .lag)) (placesOf (s .shape) w b)
   pub pending : pendingOf w' ≡ []
   pub rules : Rules (s .shape) w' b'
-  pub used : getD w' 0 0 ≡ getD w 0 0
-  pub words : Only 66 (wordsAt (s .shape) (getD w 0 0)) (set w 1 0) w'
-  pub bytes : Only 0 (bytesAt (s .shape) (getD w 0 0)) b b'
+  pub used : getD w' StoreWord.used 0 ≡ getD w StoreWord.used 0
+  pub words : Only StoreWord.places (wordsAt (s .shape) (getD w StoreWord.used 0)) (set w StoreWord.pending 0) w'
+  pub bytes : Only 0 (bytesAt (s .shape) (getD w StoreWord.used 0)) b b'

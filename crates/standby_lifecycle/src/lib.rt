@@ -9,6 +9,9 @@ ghost use Rattle.standby_pending.specs.Pending.{pendingOf};
 ghost use Rattle.model_standby.specs.State.{flush, disconnectedFrom, promote, promoteUnchecked};
 ghost use Rattle.standby_step.specs.Steps.{StepIs};
 ghost use Rattle.standby_lifecycle.specs.Calls.{promotedFrom, Promoted};
+use base_refusals::OTHER_CONNECTION;
+use base_refusals::RULES_BROKEN;
+use base_refusals::UNCHECKED;
 use standby_row::Seen;
 use standby_state::Outcome;
 use standby_state::Replica;
@@ -56,13 +59,13 @@ pub fn flush(
     ensures { λ r. ⌜ StepIs s c seen (flush connection) (now (words .entry)) (now (words .exit)) (now (bytes .entry)) (now (bytes .exit)) (now (holds .entry)) (now (holds .exit)) r ⌝ }
 {
     if !standby_rules::sound(words, bytes, holds, s.shape, seen) {
-        return standby_state::leaves(c, seen, standby_state::refused(25));
+        return standby_state::leaves(c, seen, standby_state::refused(RULES_BROKEN));
     }
     if connection != c.connections {
-        return standby_state::leaves(c, seen, standby_state::refused(22));
+        return standby_state::leaves(c, seen, standby_state::refused(OTHER_CONNECTION));
     }
     if c.promoted {
-        return standby_state::leaves(c, seen, standby_state::refused(22));
+        return standby_state::leaves(c, seen, standby_state::refused(OTHER_CONNECTION));
     }
     standby_pending_run::run(words, bytes, s.shape);
     standby_state::leaves(c, seen, standby_state::done())
@@ -81,7 +84,7 @@ pub fn disconnected_from(
     ensures { λ r. ⌜ StepIs s c seen (disconnectedFrom connection) (now (words .entry)) (now (words .exit)) (now (bytes .entry)) (now (bytes .exit)) (now (holds .entry)) (now (holds .exit)) r ⌝ }
 {
     if !standby_rules::sound(words, bytes, holds, s.shape, seen) {
-        return standby_state::leaves(c, seen, standby_state::refused(25));
+        return standby_state::leaves(c, seen, standby_state::refused(RULES_BROKEN));
     }
     let own = connection == c.connections;
     forget(words, own);
@@ -103,12 +106,12 @@ pub fn promote(
     ensures { λ r. ⌜ StepIs s c seen promote (now (words .entry)) (now (words .exit)) (now (bytes .entry)) (now (bytes .exit)) (now (holds .entry)) (now (holds .exit)) r ⌝ }
 {
     if !standby_rules::sound(words, bytes, holds, s.shape, seen) {
-        return standby_state::leaves(c, seen, standby_state::refused(25));
+        return standby_state::leaves(c, seen, standby_state::refused(RULES_BROKEN));
     }
     if c.checked {
         return promotion(c, seen, words, bytes, s);
     }
-    standby_state::leaves(c, seen, standby_state::refused(23))
+    standby_state::leaves(c, seen, standby_state::refused(UNCHECKED))
 }
 
 // Promotes the standby without that.
@@ -123,7 +126,7 @@ pub fn promote_unchecked(
     ensures { λ r. ⌜ StepIs s c seen promoteUnchecked (now (words .entry)) (now (words .exit)) (now (bytes .entry)) (now (bytes .exit)) (now (holds .entry)) (now (holds .exit)) r ⌝ }
 {
     if !standby_rules::sound(words, bytes, holds, s.shape, seen) {
-        return standby_state::leaves(c, seen, standby_state::refused(25));
+        return standby_state::leaves(c, seen, standby_state::refused(RULES_BROKEN));
     }
     promotion(c, seen, words, bytes, s)
 }

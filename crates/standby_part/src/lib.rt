@@ -9,6 +9,8 @@ ghost use Rattle.store_areas.specs.Areas.{Rules};
 ghost use Rattle.standby_pending.specs.Pending.{countOf};
 ghost use Rattle.standby_part.specs.Part.{PartIs, WholeIs, AreaIs};
 ghost use Rattle.standby_part.specs.State.{numberedTo, summedTo, holdingTo};
+use base_refusals::CHANGES_HELD;
+use base_refusals::TOO_MANY_BYTES;
 use frame::CommitNumber;
 use frame_stamp::Protocol;
 use standby_row::Handle;
@@ -52,7 +54,7 @@ pub fn on_commit(
     let len = h.held_len;
     if standby_changes::run_length(p, &area[0..len]) != 0 {
         return Done {
-            refusal: 15,
+            refusal: CHANGES_HELD,
             stores: false,
             slot: h,
             nack: false,
@@ -103,7 +105,7 @@ pub fn on_whole(p: Protocol, run: &[u8], area: &mut [u8], h: Handle, n: CommitNu
 {
     let g = standby_hold::hold(p, run, area, h.held_len, h.held_bytes);
     let refusal = g.refusal;
-    if refusal == 17 {
+    if refusal == TOO_MANY_BYTES {
         return Done {
             refusal,
             stores: true,
@@ -148,7 +150,7 @@ pub fn on_last_whole(
 {
     let all = standby_hold::hold(p, run, area, h.held_len, h.held_bytes);
     let refusal = all.refusal;
-    if refusal == 17 {
+    if refusal == TOO_MANY_BYTES {
         return Done {
             refusal,
             stores: true,

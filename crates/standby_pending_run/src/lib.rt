@@ -10,9 +10,7 @@ ghost use Rattle.store_areas.specs.Areas.{placeWords, Rules};
 ghost use Rattle.standby_pending.specs.Pending.{countOf, pendingOf};
 ghost use Rattle.standby_pending_run.specs.Commits.{durableAt, markedAt, Ran, RanIf};
 use store_areas::Shape;
-
-// The word of a place that says whether its session is durable.
-const DURABLE: usize = 4;
+use store_areas::word;
 
 // Marks the session at place i, which is in use.
 pub fn mark(words: &mut [u64], shape: Shape, i: usize)
@@ -22,7 +20,9 @@ pub fn mark(words: &mut [u64], shape: Shape, i: usize)
     requires { ⌜ i < getD (now words) 0 0 ⌝ }
     ensures { λ _. ⌜ now (words .exit) ≡ set (now (words .entry)) (durableAt shape i) 1 ⌝ }
 {
-    let at = store_areas::COUNT_WORDS + i * store_areas::place_words(shape) + DURABLE;
+    let at = store_areas::COUNT_WORDS
+        + i * store_areas::place_words(shape)
+        + store_place::word::DURABLE;
     words[at] = 1;
 }
 
@@ -33,7 +33,7 @@ fn mark_used(words: &mut [u64], shape: Shape, i: u64)
     requires { ⌜ getD (now words) 0 0 ≤ shape .places ⌝ }
     ensures { λ _. ⌜ now (words .exit) ≡ markedAt shape (getD (now (words .entry)) 0 0) i (now (words .entry)) ⌝ }
 {
-    if i < words[0] {
+    if i < words[word::USED] {
         mark(words, shape, i as usize);
     }
 }
@@ -43,14 +43,14 @@ pub fn run(words: &mut [u64], bytes: &[u8], shape: Shape)
     requires { ⌜ Rules shape (now words) (now bytes) ⌝ }
     ensures { λ _. ⌜ Ran shape (now (bytes .entry)) (now (words .entry)) (now (words .exit)) ⌝ }
 {
-    let n = words[1] as usize;
+    let n = words[word::PENDING] as usize;
     let mut i: usize = 0;
     while i < n {
-        let place = words[2 + i] / 4294967296;
+        let place = words[word::COMMITS + i] / standby_pending::HANDLE_COUNT;
         mark_used(words, shape, place);
         i += 1;
     }
-    words[1] = 0;
+    words[word::PENDING] = 0;
 }
 
 // Runs all pending commits if they are due.
@@ -68,7 +68,7 @@ pub fn is_pending(words: &[u64]) -> bool
     requires { ⌜ 66 ≤ length (now words) ⌝ }
     ensures { λ r. ⌜ r ≡ not (isEmpty (pendingOf (now (words .entry)))) ⌝ }
 {
-    words[1] != 0
+    words[word::PENDING] != 0
 }
 
 // Whether pending commits are due before a Batch of a handle.
@@ -77,7 +77,7 @@ pub fn is_due_batch(words: &[u64], handle: u32) -> bool
     requires { ⌜ countOf (now words) ≤ 64 ⌝ }
     ensures { λ r. ⌜ r ≡ (leb 64 (length (pendingOf (now (words .entry)))) || pendsOn handle (pendingOf (now (words .entry)))) ⌝ }
 {
-    if store_areas::MAX_PENDING <= words[1] {
+    if store_areas::MAX_PENDING <= words[word::PENDING] {
         return true;
     }
     standby_pending::pends_on(words, handle)

@@ -15,6 +15,7 @@ use frame::InFlight;
 use frame::NackReason;
 use frame::Summary;
 use frame::Written;
+use frame_fields::kind;
 use frame_reader::Span;
 use frame_stamp::Protocol;
 use standby_state::Answer;
@@ -24,13 +25,13 @@ use standby_state::Brief;
 fn reason(n: u8) -> NackReason
     ensures { λ r. ⌜ reasonOf r ≡ reasonBy n ⌝ }
 {
-    if n == 1 {
+    if n == frame_fields::reason::STALE_EPOCH {
         return NackReason::StaleEpoch;
     }
-    if n == 2 {
+    if n == frame_fields::reason::DIVERGED {
         return NackReason::Diverged;
     }
-    if n == 3 {
+    if n == frame_fields::reason::LAG {
         return NackReason::Lag;
     }
     NackReason::Restarted
@@ -83,16 +84,16 @@ fn frame(a: Answer, bytes: &[u8]) -> Frame
     ensures { λ r. ⌜ frameIn 1 (now (bytes .entry)) r ≡ some (frameBy (now (bytes .entry)) a) ⌝ }
 {
     let handle = a.handle;
-    if a.kind == 2 {
+    if a.kind == kind::WELCOME {
         let epoch = a.epoch;
         let incarnation = a.incarnation;
         return Frame::Welcome { epoch, incarnation };
     }
-    if a.kind == 5 {
+    if a.kind == kind::ACK {
         let commit_no = a.commit_no;
         return Frame::Ack { handle, commit_no };
     }
-    if a.kind == 6 {
+    if a.kind == kind::NACK {
         return Frame::Nack {
             handle,
             reason: reason(a.reason),

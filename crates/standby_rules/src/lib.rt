@@ -3,6 +3,7 @@ ghost use mathlib.Core.Path.{_≡_};
 ghost use Rattle.standby_step.specs.Steps.{seenAllowed};
 use standby_row::Seen;
 use store_areas::Shape;
+use store_areas::word;
 
 // The record found, if one was, names a place in use and holds no more than its area has; no record of the row is broken.
 pub fn sound(words: &[u64], bytes: &[u8], holds: &[u8], shape: Shape, seen: Seen) -> bool
@@ -17,7 +18,7 @@ pub fn sound(words: &[u64], bytes: &[u8], holds: &[u8], shape: Shape, seen: Seen
         }
         let room = standby_batch_due::room_of(holds, seen.len);
         let h = seen.bound;
-        return ((h.place as u64) < words[0]) & (h.held_len <= room);
+        return ((h.place as u64) < words[word::USED]) & (h.held_len <= room);
     }
     false
 }

@@ -4,6 +4,8 @@ use mathlib.Core.Bool.{false, cond}
 use mathlib.Core.List.{List}
 use mathlib.Core.Option.{none, some}
 use lib.Dec.{eqb}
+use Rattle.model_frame.specs.ReasonByte
+use Rattle.model_frame.specs.FrameKind
 use Rattle.model_frame.specs.Frame.{Reason, staleEpoch, diverged, lagTooGreat, restarted, Frame, welcome, ack, nack, bound}
 use Rattle.model_frame.specs.Frame as the-frame
 use Rattle.frame_reader.specs.Answers.{spanOf}
@@ -28,14 +30,14 @@ briefOf b m =
 
 -- a Nack's reason by its byte
 abbrev pub reasonBy : ℕ → Reason
-reasonBy r = cond (eqb r 1) staleEpoch (cond (eqb r 2) diverged (cond (eqb r 3) lagTooGreat restarted))
+reasonBy r = cond (eqb r ReasonByte.staleEpoch) staleEpoch (cond (eqb r ReasonByte.diverged) diverged (cond (eqb r ReasonByte.lagTooGreat) lagTooGreat restarted))
 
 -- the frame by its kind
 abbrev pub frameBy : List ℕ → Answer → Frame
 frameBy b a =
-    cond (eqb (a .kind) 2) (welcome (a .epoch .0) (a .incarnation .0))
-    (cond (eqb (a .kind) 5) (ack (a .handle) (a .«commit_no» .0))
-    (cond (eqb (a .kind) 6) (nack (a .handle) (reasonBy (a .reason))) (bound (a .handle) (briefOf b (a .brief)))))
+    cond (eqb (a .kind) FrameKind.welcome) (welcome (a .epoch .0) (a .incarnation .0))
+    (cond (eqb (a .kind) FrameKind.ack) (ack (a .handle) (a .«commit_no» .0))
+    (cond (eqb (a .kind) FrameKind.nack) (nack (a .handle) (reasonBy (a .reason))) (bound (a .handle) (briefOf b (a .brief)))))
 
 abbrev pub answerOf : List ℕ → Answer → the-answer.Answer
 answerOf b a = cond (eqb (a .refusal) 0) (cond (eqb (a .kind) 0) done (reply (frameBy b a))) (refused (a .refusal))
@@ -65,13 +67,13 @@ abbrev pub isDone : Answer
 isDone = blankOf 0 0 0
 
 abbrev pub isWelcome : Epoch → Incarnation → Answer
-isWelcome e i = record { refusal = 0; kind = 2; handle = 0; epoch = e; incarnation = i; «commit_no» = record { 0 = 0 }; reason = 0; brief = noBrief }
+isWelcome e i = record { refusal = 0; kind = FrameKind.welcome; handle = 0; epoch = e; incarnation = i; «commit_no» = record { 0 = 0 }; reason = 0; brief = noBrief }
 
 abbrev pub isAck : ℕ → CommitNumber → Answer
-isAck h n = record { refusal = 0; kind = 5; handle = h; epoch = record { 0 = 0 }; incarnation = record { 0 = 0 }; «commit_no» = n; reason = 0; brief = noBrief }
+isAck h n = record { refusal = 0; kind = FrameKind.ack; handle = h; epoch = record { 0 = 0 }; incarnation = record { 0 = 0 }; «commit_no» = n; reason = 0; brief = noBrief }
 
 abbrev pub isNack : ℕ → ℕ → Answer
-isNack h r = record { refusal = 0; kind = 6; handle = h; epoch = record { 0 = 0 }; incarnation = record { 0 = 0 }; «commit_no» = record { 0 = 0 }; reason = r; brief = noBrief }
+isNack h r = record { refusal = 0; kind = FrameKind.nack; handle = h; epoch = record { 0 = 0 }; incarnation = record { 0 = 0 }; «commit_no» = record { 0 = 0 }; reason = r; brief = noBrief }
 
 abbrev pub isBound : ℕ → Brief → Answer
-isBound h m = record { refusal = 0; kind = 7; handle = h; epoch = record { 0 = 0 }; incarnation = record { 0 = 0 }; «commit_no» = record { 0 = 0 }; reason = 0; brief = m }
+isBound h m = record { refusal = 0; kind = FrameKind.bound; handle = h; epoch = record { 0 = 0 }; incarnation = record { 0 = 0 }; «commit_no» = record { 0 = 0 }; reason = 0; brief = m }

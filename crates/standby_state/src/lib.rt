@@ -5,6 +5,7 @@ ghost use Rattle.standby_state.specs.Outcomes.{spotOf, leaving, clearing
 use frame::CommitNumber;
 use frame::Epoch;
 use frame::Incarnation;
+use frame_fields::kind;
 use frame_reader::Span;
 use standby_row::Handle;
 use standby_row::Seen;
@@ -117,7 +118,7 @@ pub fn done() -> Answer
 pub fn welcome(epoch: Epoch, incarnation: Incarnation) -> Answer
     ensures { λ r. ⌜ r ≡ isWelcome epoch incarnation ⌝ }
 {
-    let mut a = blank(0, 2, 0);
+    let mut a = blank(0, kind::WELCOME, 0);
     a.epoch = epoch;
     a.incarnation = incarnation;
     a
@@ -126,7 +127,7 @@ pub fn welcome(epoch: Epoch, incarnation: Incarnation) -> Answer
 pub fn ack(handle: u32, commit_no: CommitNumber) -> Answer
     ensures { λ r. ⌜ r ≡ isAck handle «commit_no» ⌝ }
 {
-    let mut a = blank(0, 5, handle);
+    let mut a = blank(0, kind::ACK, handle);
     a.commit_no = commit_no;
     a
 }
@@ -135,7 +136,7 @@ pub fn ack(handle: u32, commit_no: CommitNumber) -> Answer
 pub fn nack(handle: u32, reason: u8) -> Answer
     ensures { λ r. ⌜ r ≡ isNack handle reason ⌝ }
 {
-    let mut a = blank(0, 6, handle);
+    let mut a = blank(0, kind::NACK, handle);
     a.reason = reason;
     a
 }
@@ -143,7 +144,7 @@ pub fn nack(handle: u32, reason: u8) -> Answer
 pub fn bound(handle: u32, brief: Brief) -> Answer
     ensures { λ r. ⌜ r ≡ isBound handle brief ⌝ }
 {
-    let mut a = blank(0, 7, handle);
+    let mut a = blank(0, kind::BOUND, handle);
     a.brief = brief;
     a
 }

@@ -5,10 +5,12 @@ use mathlib.Core.Bool.{Bool, true, false, cond, _&&_}
 use mathlib.Core.List.{List}
 use lib.ListN.{length, getD, set}
 use lib.Dec.{eqb, leb, ltb}
+use Rattle.model_frame.specs.Refusal
 use Rattle.model_frame.specs.Bytes.{leAt}
 use Rattle.standby_row.specs.declared.Handle.{Handle}
 use Rattle.standby_row.specs.Row.{none, findOf, freeOf, brokenOf, clearedAll}
 use Rattle.standby_handles.specs.Rows.{rowOf}
+use Rattle.store_areas.specs.StoreWord
 use Rattle.store_areas.specs.Areas.{allowed, placesOf}
 use Rattle.standby_pending.specs.Pending.{pendingOf}
 use Rattle.model_standby.specs.Answer.{protocolVersion, refused}
@@ -36,7 +38,7 @@ standbyOf s c row w b h =
 
 -- the rules: the store's, and no used record names a place that isn't in use or holds more than its area has
 abbrev pub allowedAll : Settings → List Handle → List ℕ → List ℕ → List ℕ → Bool
-allowedAll s row w b h = allowed (s .shape) w b && leb (length row) (brokenOf row (getD w 0 0) (roomAll row h))
+allowedAll s row w b h = allowed (s .shape) w b && leb (length row) (brokenOf row (getD w StoreWord.used 0) (roomAll row h))
 
 -- the four bytes where a Bind and a Batch have their handle
 abbrev pub handleAt : List ℕ → ℕ
@@ -81,11 +83,11 @@ pub record CalledSteps (s : Settings) (call : Call) (c c' : Replica) (row row' :
       (writesBy (settingsOf s (roomAll row h)) (countersOf c) (find (handleOf call) (standbyOf s c row w b h .handles)) call) h
   pub row-leaves : RowLeaves (spotFor row (handleOf call)) (actionBy (settingsOf s (roomAll row h)) (standbyOf s c row w b h) call) row row'
   -- a refusal leaves the row as it was; 17 raises the byte sum of its handle's record
-  pub row-still : (n : ℕ) → answerOf b' a ≡ refused n → eqb n 17 ≡ false → row' ≡ row
+  pub row-still : (n : ℕ) → answerOf b' a ≡ refused n → eqb n Refusal.tooManyBytes ≡ false → row' ≡ row
   pub row-length : length row' ≡ length row
   pub holds-length : length h' ≡ length h
 
 -- 25 where the rules are broken, and all is as it was; else the step
 pub record Called (s : Settings) (call : Call) (c c' : Replica) (row row' : List Handle) (w w' b b' h h' : List ℕ) (a : Answer) : Type 0 where
-  pub refuses : allowedAll s row w b h ≡ false → (a ≡ isRefused 25) × ((c' ≡ c) × ((row' ≡ row) × ((w' ≡ w) × ((b' ≡ b) × (h' ≡ h)))))
+  pub refuses : allowedAll s row w b h ≡ false → (a ≡ isRefused Refusal.rulesBroken) × ((c' ≡ c) × ((row' ≡ row) × ((w' ≡ w) × ((b' ≡ b) × (h' ≡ h)))))
   pub steps : allowedAll s row w b h ≡ true → CalledSteps s call c c' row row' w w' b b' h h' a

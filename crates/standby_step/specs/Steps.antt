@@ -6,10 +6,12 @@ use mathlib.Core.List.{List}
 use mathlib.Core.Option.{Option, none, some}
 use lib.ListN.{length, getD, set}
 use lib.Dec.{eqb, ltb, leb}
+use Rattle.model_frame.specs.Refusal
 use Rattle.model_frame.specs.Bytes.{write}
 use Rattle.model_frame.specs.Frame.{hello, welcome, bind, batch, ack, nack, bound, checked}
 use Rattle.standby_row.specs.declared.Seen.{Seen}
 use Rattle.store_place.specs.Only.{Only}
+use Rattle.store_areas.specs.StoreWord
 use Rattle.store_areas.specs.declared.Shape.{Shape}
 use Rattle.store_areas.specs.Areas.{wordsAt, bytesAt, allowed, Rules, placesOf}
 use Rattle.standby_pending.specs.Pending.{pendingOf}
@@ -54,7 +56,7 @@ abbrev pub seenAllowed : Shape → Seen → List ℕ → List ℕ → List ℕ �
 seenAllowed s seen w b h =
     allowed s w b
     && (leb (seen .len) (seen .broken)
-    && (not (isFound seen) || (ltb (seen .bound .place) (getD w 0 0) && leb (seen .bound .«held_len») (roomIn seen h))))
+    && (not (isFound seen) || (ltb (seen .bound .place) (getD w StoreWord.used 0) && leb (seen .bound .«held_len») (roomIn seen h))))
 
 -- ---- what stays as it was
 
@@ -85,15 +87,15 @@ pub record FrameLeaves (s : Shape) (i : ℕ) (before after quiet : Bool) (w w' b
 -- promotion: nothing but the places in use and the count of pending commits
 pub record PromotionLeaves (s : Shape) (refused : Bool) (w w' b b' : List ℕ) : Type 0 where
   pub still : refused ≡ true → (w' ≡ w) × (b' ≡ b)
-  pub words : refused ≡ false → Only 66 (wordsAt s (getD w 0 0)) (set w 1 0) w'
-  pub bytes : refused ≡ false → Only 0 (bytesAt s (getD w 0 0)) b b'
+  pub words : refused ≡ false → Only StoreWord.places (wordsAt s (getD w StoreWord.used 0)) (set w StoreWord.pending 0) w'
+  pub bytes : refused ≡ false → Only 0 (bytesAt s (getD w StoreWord.used 0)) b b'
 
 -- by the handle's place and the answer
 abbrev pub Leaves : Shape → Replica → ℕ → Call → List ℕ → List ℕ → List ℕ → List ℕ → Answer → Type 0
 Leaves s c p (onFrameHeld f) w w' b b' a = FrameLeaves s (placeBy (placesOf s w b) p (given f)) (dueNow (c .promoted) (pendingOf w) (given f)) false (isQuiet a) w w' b b'
 Leaves s c p (onFrame f) w w' b b' a = FrameLeaves s (placeBy (placesOf s w b) p (given f)) (dueNow (c .promoted) (pendingOf w) (given f)) (isReply (answerOf b' a)) (isQuiet a) w w' b b'
 Leaves s c p (flush n) w w' b b' a = (w' ≡ cond (eqb (a .refusal) 0) (ranWords s w) w) × (b' ≡ b)
-Leaves s c p (disconnectedFrom n) w w' b b' a = (w' ≡ cond (eqb n (c .connections)) (set w 1 0) w) × (b' ≡ b)
+Leaves s c p (disconnectedFrom n) w w' b b' a = (w' ≡ cond (eqb n (c .connections)) (set w StoreWord.pending 0) w) × (b' ≡ b)
 Leaves s c p promote w w' b b' a = PromotionLeaves s (not (eqb (a .refusal) 0)) w w' b b'
 Leaves s c p promoteUnchecked w w' b b' a = PromotionLeaves s (not (eqb (a .refusal) 0)) w w' b b'
 
@@ -135,13 +137,13 @@ asks promoteUnchecked = false
 
 pub record Stepped (s : Settings) (c : Replica) (seen : Seen) (call : Call) (w w' b b' h h' : List ℕ) (r : Outcome) : Type 0 where
   pub is : outcomeOf protocolVersion (roomIn seen h) (s .shape) w' b' h' r ≡ coreStep (settingsOf s (roomIn seen h)) (coreAt (countersOf c) (s .shape) w b) (foundIn seen h) (ltb (seen .free) (seen .len)) call
-  pub lands : Lands seen (getD w' 0 0) (roomIn seen h) r
+  pub lands : Lands seen (getD w' StoreWord.used 0) (roomIn seen h) r
   pub rules : Rules (s .shape) w' b'
-  pub more : getD w 0 0 ≤ getD w' 0 0
+  pub more : getD w StoreWord.used 0 ≤ getD w' StoreWord.used 0
   pub leaves : Leaves (s .shape) c (seen .bound .place) call w w' b b' (r .answer)
   pub holds : h' ≡ holdsAfter (roomIn seen h) (seen .at) (writesBy (settingsOf s (roomIn seen h)) (countersOf c) (foundIn seen h) call) h
 
 -- 25 where the rules are broken; else the step, where the record found is of the call's handle, if the call has one
 pub record StepIs (s : Settings) (c : Replica) (seen : Seen) (call : Call) (w w' b b' h h' : List ℕ) (r : Outcome) : Type 0 where
-  pub refuses : seenAllowed (s .shape) seen w b h ≡ false → (r ≡ leaving c seen (isRefused 25)) × ((w' ≡ w) × ((b' ≡ b) × (h' ≡ h)))
+  pub refuses : seenAllowed (s .shape) seen w b h ≡ false → (r ≡ leaving c seen (isRefused Refusal.rulesBroken)) × ((w' ≡ w) × ((b' ≡ b) × (h' ≡ h)))
   pub steps : seenAllowed (s .shape) seen w b h ≡ true → (isFound seen ≡ true → asks call ≡ true → seen .bound .handle ≡ handleOf call) → Stepped s c seen call w w' b b' h h' r

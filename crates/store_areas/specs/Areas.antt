@@ -7,23 +7,27 @@ use mathlib.Core.Bool.{Bool, true, false, _&&_}
 use mathlib.Core.List.{List, [], _∷_}
 use lib.ListN.{length, take, drop, getD, set}
 use lib.Dec.{leb, ltb}
+use Rattle.model_frame.specs.Refusal
 use Rattle.model_standby.specs.Store.{Stored, Place, onPlace}
+use Rattle.store_place.specs.PlaceByte
+use Rattle.store_place.specs.PlaceWord
 use Rattle.store_place.specs.Only.{Only}
 use Rattle.store_place.specs.Place.{placeIn}
+use Rattle.store_areas.specs.StoreWord
 use Rattle.store_areas.specs.declared.Shape.{Shape}
 use Rattle.store_areas.specs.declared.Made.{Made}
 use Rattle.store_areas.specs.declared.Made.the-variants.{Ready, Unfit}
 
 -- the words and the bytes of a place
 abbrev pub placeWords : Shape → ℕ
-placeWords s = 16 + 2 * s .messages
+placeWords s = PlaceWord.entries + 2 * s .messages
 
 abbrev pub placeBytes : Shape → ℕ
-placeBytes s = 224 + s .bytes
+placeBytes s = PlaceByte.ring + s .bytes
 
 -- where those of place i begin
 abbrev pub wordsAt : Shape → ℕ → ℕ
-wordsAt s i = 66 + i * placeWords s
+wordsAt s i = StoreWord.places + i * placeWords s
 
 abbrev pub bytesAt : Shape → ℕ → ℕ
 bytesAt s i = i * placeBytes s
@@ -41,32 +45,32 @@ pub record SpotIs (s : Shape) (i wa we ba be : ℕ) : Type 0 where
 unfoldable pub roomy : Shape → List ℕ → List ℕ → Bool
 roomy s w b =
     leb (s .bytes) 33554432 && (leb (s .messages) 65536
-    && (leb (66 + s .places * placeWords s) (length w) && leb (s .places * placeBytes s) (length b)))
+    && (leb (StoreWord.places + s .places * placeWords s) (length w) && leb (s .places * placeBytes s) (length b)))
 
 -- and no more places in use than there are, no more than 64 commits pending
 unfoldable pub allowed : Shape → List ℕ → List ℕ → Bool
-allowed s w b = roomy s w b && (leb (getD w 0 0) (s .places) && leb (getD w 1 0) 64)
+allowed s w b = roomy s w b && (leb (getD w StoreWord.used 0) (s .places) && leb (getD w StoreWord.pending 0) 64)
 
 -- the same as facts
 pub record Room (s : Shape) (w b : List ℕ) : Type 0 where
   pub bytes-limit : s .bytes ≤ 33554432
   pub messages-limit : s .messages ≤ 65536
-  pub words-long : 66 + s .places * placeWords s ≤ length w
+  pub words-long : StoreWord.places + s .places * placeWords s ≤ length w
   pub bytes-long : s .places * placeBytes s ≤ length b
 
 pub record Rules (s : Shape) (w b : List ℕ) : Type 0 where
   pub room : Room s w b
-  pub used : getD w 0 0 ≤ s .places
-  pub pending : getD w 1 0 ≤ 64
+  pub used : getD w StoreWord.used 0 ≤ s .places
+  pub pending : getD w StoreWord.pending 0 ≤ 64
 
 -- place i is in use in areas that keep the rules
 abbrev pub inUse : Shape → List ℕ → List ℕ → ℕ → Bool
-inUse s w b i = allowed s w b && ltb i (getD w 0 0)
+inUse s w b i = allowed s w b && ltb i (getD w StoreWord.used 0)
 
 -- the same as facts
 pub record InUse (s : Shape) (w b : List ℕ) (i : ℕ) : Type 0 where
   pub rules : Rules s w b
-  pub at : i < getD w 0 0
+  pub at : i < getD w StoreWord.used 0
 
 -- where a place in use stands
 pub record SpotIn (s : Shape) (i : ℕ) (w b : List ℕ) (wa we ba be : ℕ) : Type 0 where
@@ -94,7 +98,7 @@ countUp f k zero = []
 countUp f k (suc n) = f k ∷ countUp f (suc k) n
 
 unfoldable pub placesOf : Shape → List ℕ → List ℕ → List Place
-placesOf s w b = countUp (placeAt s w b) 0 (getD w 0 0)
+placesOf s w b = countUp (placeAt s w b) 0 (getD w StoreWord.used 0)
 
 -- ---- what an operation leaves
 
@@ -107,9 +111,9 @@ pub record Changed (s : Shape) (i : ℕ) (f : Stored → Stored) (w w' b b' : Li
 -- document 01's number of an answer to making
 abbrev pub madeNumber : Made → ℕ
 madeNumber Ready = 0
-madeNumber Unfit = 25
+madeNumber Unfit = Refusal.rulesBroken
 
 -- making: 25 leaves all as it was; else no place is in use, no commit is pending, and the other words are as they were
 abbrev pub Making : Shape → List ℕ → List ℕ → List ℕ → Made → Type 0
-Making s w w' b Ready = (roomy s w b ≡ true) × (w' ≡ set (set w 0 0) 1 0)
+Making s w w' b Ready = (roomy s w b ≡ true) × (w' ≡ set (set w StoreWord.used 0) StoreWord.pending 0)
 Making s w w' b Unfit = (roomy s w b ≡ false) × (w' ≡ w)

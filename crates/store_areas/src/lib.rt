@@ -23,6 +23,16 @@ impl Shape {
 // The words that stand before the first place's.
 pub const COUNT_WORDS: usize = 66;
 
+// The words before those of the places.
+pub mod word {
+    // How many places are in use.
+    pub const USED: usize = 0;
+    // How many commits are pending, and from where on they stand.
+    pub const PENDING: usize = 1;
+
+    pub const COMMITS: usize = 2;
+}
+
 // The most commits that can be pending.
 pub const MAX_PENDING: u64 = 64;
 
@@ -37,14 +47,14 @@ pub fn place_words(shape: Shape) -> usize
     requires { ⌜ shape .messages ≤ 65536 ⌝ }
     ensures { λ r. ⌜ r ≡ placeWords shape ⌝ }
 {
-    16 + 2 * (shape.messages as usize)
+    store_place::word::ENTRIES + store_log::ENTRY_WORDS * (shape.messages as usize)
 }
 
 // The bytes of a place.
 pub fn place_bytes(shape: Shape) -> usize
     ensures { λ r. ⌜ r ≡ placeBytes shape ⌝ }
 {
-    224 + (shape.bytes as usize)
+    store_place::byte::RING + (shape.bytes as usize)
 }
 
 // Where the words and the bytes of a place begin and end.
@@ -104,7 +114,7 @@ pub fn allowed(shape: Shape, words: &[u64], bytes: &[u8]) -> bool
     ensures { λ r. ⌜ r ≡ allowed shape (now (words .entry)) (now (bytes .entry)) ⌝ }
 {
     if roomy(shape, words, bytes) {
-        return (words[0] <= shape.places as u64) & (words[1] <= MAX_PENDING);
+        return (words[word::USED] <= shape.places as u64) & (words[word::PENDING] <= MAX_PENDING);
     }
     false
 }
@@ -114,7 +124,7 @@ pub fn in_use(words: &[u64], bytes: &[u8], shape: Shape, i: usize) -> bool
     ensures { λ r. ⌜ r ≡ inUse shape (now (words .entry)) (now (bytes .entry)) i ⌝ }
 {
     if allowed(shape, words, bytes) {
-        return (i as u64) < words[0];
+        return (i as u64) < words[word::USED];
     }
     false
 }
@@ -124,8 +134,8 @@ pub fn make(shape: Shape, words: &mut [u64], bytes: &[u8]) -> Made
     ensures { λ r. ⌜ Making shape (now (words .entry)) (now (words .exit)) (now (bytes .entry)) r ⌝ }
 {
     if roomy(shape, words, bytes) {
-        words[0] = 0;
-        words[1] = 0;
+        words[word::USED] = 0;
+        words[word::PENDING] = 0;
         return Made::Ready;
     }
     Made::Unfit

@@ -7,6 +7,7 @@ use lib.ListN.{length, take, drop, getD}
 use lib.Dec.{leb, ltb, eqb}
 use Rattle.model_session.specs.Session.{Msg, storedBytes, keep, Rising}
 use Rattle.model_session.specs.Summary.{fnvMessages, fnvStart, numberedFrom}
+use Rattle.store_log.specs.LogWord
 
 -- a message by its number and its bytes
 abbrev pub msg : ℕ → List ℕ → Msg
@@ -29,13 +30,13 @@ abbrev pub unrolled : ℕ → List ℕ → List ℕ
 unrolled t b = drop t b ++ take t b
 
 abbrev pub headOf : ℕ → List ℕ → ℕ
-headOf M w = cond (ltb (getD w 0 0) M) (getD w 0 0) 0
+headOf M w = cond (ltb (getD w LogWord.head 0) M) (getD w LogWord.head 0) 0
 
 abbrev pub tailOf : ℕ → List ℕ → ℕ
-tailOf C w = cond (leb (getD w 1 0) C) (getD w 1 0) 0
+tailOf C w = cond (leb (getD w LogWord.tail 0) C) (getD w LogWord.tail 0) 0
 
 abbrev pub entryAt : List ℕ → ℕ → Entry
-entryAt w p = entry (getD w (2 + 2 * p) 0) (getD w (3 + 2 * p) 0)
+entryAt w p = entry (getD w (LogWord.number p) 0) (getD w (LogWord.length p) 0)
 
 -- the slot before s in a ring of M
 abbrev pub before : ℕ → ℕ → ℕ

@@ -10,6 +10,18 @@ ghost use Rattle.model_session.specs.Session.{keep};
 ghost use Rattle.model_session.specs.Summary.{fnvMessage, fnvMessages, fnvStart, numberedFrom};
 ghost use Rattle.store_log.specs.Log.{before, slotAt, Spanned, Stands, From, Read, msg, unrolled, headOf, tailOf, newest, entry, logOf, lastOf};
 
+// The words of a log: the slot that the next entry goes to, the byte ring's tail, then each slot's entry.
+pub const HEAD: usize = 0;
+
+pub const TAIL: usize = 1;
+
+// The number and the length of slot 0's entry; those of each slot after it are two words on.
+pub const NUMBER: usize = 2;
+
+pub const LENGTH: usize = 3;
+
+pub const ENTRY_WORDS: usize = 2;
+
 // Copies all of src into dst from index at.
 pub fn copy_into(dst: &mut [u8], at: usize, src: &[u8])
     requires { ⌜ at + length (now src) ≤ length (now dst) ⌝ }
@@ -44,7 +56,7 @@ pub fn head(words: &[u64], max: usize) -> usize
     ensures within { λ r. ⌜ r < max ⌝ }
     ensures is { λ r. ⌜ r ≡ headOf max (now (words .entry)) ⌝ }
 {
-    let h = words[0] as usize;
+    let h = words[HEAD] as usize;
     if h < max { h } else { 0 }
 }
 
@@ -54,7 +66,7 @@ pub fn tail(words: &[u64], cap: usize) -> usize
     ensures within { λ r. ⌜ r ≤ cap ⌝ }
     ensures is { λ r. ⌜ r ≡ tailOf cap (now (words .entry)) ⌝ }
 {
-    let t = words[1] as usize;
+    let t = words[TAIL] as usize;
     if t <= cap { t } else { 0 }
 }
 
@@ -66,10 +78,10 @@ fn put_entry(words: &mut [u64], max: usize, seq: u64, len: usize, end: usize)
     ensures end { λ _. ⌜ getD (now (words .exit)) 1 0 ≡ end ⌝ }
 {
     let slot = head(words, max);
-    words[0] = (slot + 1) as u64;
-    words[1] = end as u64;
-    words[2 + 2 * slot] = seq;
-    words[3 + 2 * slot] = len as u64;
+    words[HEAD] = (slot + 1) as u64;
+    words[TAIL] = end as u64;
+    words[NUMBER + ENTRY_WORDS * slot] = seq;
+    words[LENGTH + ENTRY_WORDS * slot] = len as u64;
 }
 
 // The slot before `slot` in the ring of entries.
@@ -101,8 +113,8 @@ pub fn settle(words: &mut [u64], max: usize, next: u64)
         return;
     }
     let slot = newest_slot(words, max);
-    if next <= words[2 + 2 * slot] {
-        words[2 + 2 * slot] = 0;
+    if next <= words[NUMBER + ENTRY_WORDS * slot] {
+        words[NUMBER + ENTRY_WORDS * slot] = 0;
     }
 }
 
@@ -134,7 +146,7 @@ pub fn clear(words: &mut [u64], max: usize)
         return;
     }
     let slot = newest_slot(words, max);
-    words[2 + 2 * slot] = 0;
+    words[NUMBER + ENTRY_WORDS * slot] = 0;
 }
 
 // A place in the log: the newest messages that are still to be read, and their bytes.
@@ -160,8 +172,8 @@ pub fn messages_from(words: &[u64], bytes: &[u8], max: usize, next: u64, low: u6
     let mut bound = next;
     while left < max {
         slot = slot_before(slot, max);
-        let n = words[2 + 2 * slot];
-        let l = words[3 + 2 * slot] as usize;
+        let n = words[NUMBER + ENTRY_WORDS * slot];
+        let l = words[LENGTH + ENTRY_WORDS * slot] as usize;
         if n < low {
             return Cursor { left, dist };
         }
@@ -258,8 +270,8 @@ pub fn message_at(
 {
     let cap = bytes.len();
     let slot = slot_at(head(words, max), max, left);
-    let number = words[2 + 2 * slot];
-    let len = words[3 + 2 * slot] as usize;
+    let number = words[NUMBER + ENTRY_WORDS * slot];
+    let len = words[LENGTH + ENTRY_WORDS * slot] as usize;
     let s = span_of(tail(words, cap), cap, dist, len);
     Found {
         number,

@@ -16,19 +16,21 @@ use Rattle.model_session.specs.Session.{Session, Msg}
 use Rattle.model_session.specs.Summary.{numberedFrom}
 use Rattle.model_standby.specs.Store.{Place}
 use Rattle.store_log.specs.Log.{msg, logOf, restOf, Stands}
+use Rattle.store_place.specs.PlaceByte
+use Rattle.store_place.specs.PlaceWord
 use Rattle.store_place.specs.declared.Flight.{Flight}
 use Rattle.store_place.specs.declared.Flight.the-variants.{Nothing, Number}
 use Rattle.store_place.specs.Only.{Only}
 
 -- a next outgoing number 0 counts as 1
 unfoldable pub nextOutOf : List ℕ → ℕ
-nextOutOf w = max (getD w 0 0) 1
+nextOutOf w = max (getD w PlaceWord.nextOut 0) 1
 
 unfoldable pub flightOf : List ℕ → Option ℕ
-flightOf w = cond (eqb (getD w 2 0) 0) none (some (getD w 3 0))
+flightOf w = cond (eqb (getD w PlaceWord.hasInFlight 0) 0) none (some (getD w PlaceWord.inFlight 0))
 
 unfoldable pub durableOf : List ℕ → Bool
-durableOf w = not (eqb (getD w 4 0) 0)
+durableOf w = not (eqb (getD w PlaceWord.durable 0) 0)
 
 -- the first n bytes of the field of `size` bytes at `at`; a length beyond the field is cut
 unfoldable pub field : List ℕ → ℕ → ℕ → ℕ → List ℕ
@@ -36,18 +38,18 @@ field b at size n = take (min n size) (drop at b)
 
 -- a stamp or marks that aren't valid count as none and as empty
 unfoldable pub stampOf : List ℕ → List ℕ → List ℕ
-stampOf w b = cond (isStamp (field b 128 32 (getD w 5 0))) (field b 128 32 (getD w 5 0)) []
+stampOf w b = cond (isStamp (field b PlaceByte.stamp PlaceByte.stampSize (getD w PlaceWord.stampLength 0))) (field b PlaceByte.stamp PlaceByte.stampSize (getD w PlaceWord.stampLength 0)) []
 
 unfoldable pub marksOf : List ℕ → List ℕ → List ℕ
-marksOf w b = cond (isMarks (field b 160 64 (getD w 6 0))) (field b 160 64 (getD w 6 0)) []
+marksOf w b = cond (isMarks (field b PlaceByte.marks PlaceByte.marksSize (getD w PlaceWord.marksLength 0))) (field b PlaceByte.marks PlaceByte.marksSize (getD w PlaceWord.marksLength 0)) []
 
 unfoldable pub keyOf : List ℕ → List ℕ → Key
 keyOf w b =
     record {
-      begin = field b 0 32 (getD w 7 0);
-      sender = field b 32 32 (getD w 8 0);
-      target = field b 64 32 (getD w 9 0);
-      suffix = field b 96 32 (getD w 10 0);
+      begin = field b PlaceByte.begin PlaceByte.keyTextSize (getD w PlaceWord.beginLength 0);
+      sender = field b PlaceByte.sender PlaceByte.keyTextSize (getD w PlaceWord.senderLength 0);
+      target = field b PlaceByte.target PlaceByte.keyTextSize (getD w PlaceWord.targetLength 0);
+      suffix = field b PlaceByte.suffix PlaceByte.keyTextSize (getD w PlaceWord.suffixLength 0);
     }
 
 -- with limits C and M
@@ -56,10 +58,10 @@ sessionOf C M w b =
     record {
       stamp = stampOf w b;
       nextOut = nextOutOf w;
-      nextIn = getD w 1 0;
+      nextIn = getD w PlaceWord.nextIn 0;
       inFlight = flightOf w;
       marks = marksOf w b;
-      messages = logOf C M (nextOutOf w) (drop 14 w) (drop 224 b);
+      messages = logOf C M (nextOutOf w) (drop PlaceWord.log w) (drop PlaceByte.ring b);
     }
 
 unfoldable pub placeIn : ℕ → ℕ → List ℕ → List ℕ → Place
@@ -72,10 +74,10 @@ keyFrom begin sender target suffix = record { begin = begin; sender = sender; ta
 -- ---- reading the messages: from a place in the log, `left` are still to be read, `dist` bytes together
 
 unfoldable pub restIn : ℕ → ℕ → List ℕ → List ℕ → ℕ → List Msg
-restIn C M w b left = restOf C M (nextOutOf w) (drop 14 w) (drop 224 b) left
+restIn C M w b left = restOf C M (nextOutOf w) (drop PlaceWord.log w) (drop PlaceByte.ring b) left
 
 unfoldable pub StandsIn : ℕ → ℕ → List ℕ → List ℕ → ℕ → ℕ → Type 0
-StandsIn C M w b left dist = Stands C M (nextOutOf w) (drop 14 w) (drop 224 b) left dist
+StandsIn C M w b left dist = Stands C M (nextOutOf w) (drop PlaceWord.log w) (drop PlaceByte.ring b) left dist
 
 -- the place where the messages with numbers from low begin
 pub record FromIn (C M low : ℕ) (w b : List ℕ) (left dist : ℕ) : Type 0 where
@@ -84,9 +86,9 @@ pub record FromIn (C M low : ℕ) (w b : List ℕ) (left dist : ℕ) : Type 0 wh
 
 -- the next message: its number, its bytes in two parts of the place's bytes, and the place after it
 pub record ReadIn (C M : ℕ) (w b : List ℕ) (left dist number start first rest left' dist' : ℕ) : Type 0 where
-  pub is : restIn C M w b left ≡ msg number (take first (drop start b) ++ take rest (drop 224 b)) ∷ restIn C M w b left'
+  pub is : restIn C M w b left ≡ msg number (take first (drop start b) ++ take rest (drop PlaceByte.ring b)) ∷ restIn C M w b left'
   pub stands : StandsIn C M w b left' dist'
-  pub inside : start + first ≤ 224 + C
+  pub inside : start + first ≤ PlaceByte.ring + C
   pub front : rest ≤ C
   pub fewer : left' + 1 ≡ left
   pub nearer : dist' + (first + rest) ≡ dist

@@ -14,6 +14,64 @@ ghost use Rattle.store_place.specs.Place.{nextOutOf, flightOf, durableOf
 use store_log::Cursor;
 use store_log::Found;
 
+// The words of a place; 11 to 13 are spare.
+pub mod word {
+    pub const NEXT_OUTGOING: usize = 0;
+
+    pub const NEXT_INCOMING: usize = 1;
+    // Whether a number is in flight, and that number.
+    pub const HAS_IN_FLIGHT: usize = 2;
+
+    pub const IN_FLIGHT: usize = 3;
+
+    pub const DURABLE: usize = 4;
+    // The lengths of the texts.
+    pub const STAMP_LEN: usize = 5;
+
+    pub const MARKS_LEN: usize = 6;
+
+    pub const BEGIN_LEN: usize = 7;
+
+    pub const SENDER_LEN: usize = 8;
+
+    pub const TARGET_LEN: usize = 9;
+
+    pub const SUFFIX_LEN: usize = 10;
+    // The log's, from here on.
+    pub const LOG: usize = 14;
+    // Where the log's entries begin.
+    pub const ENTRIES: usize = 16;
+}
+
+// The bytes of a place.
+pub mod byte {
+    // The key's texts.
+    pub const BEGIN: usize = 0;
+
+    pub const SENDER: usize = 32;
+
+    pub const TARGET: usize = 64;
+
+    pub const SUFFIX: usize = 96;
+
+    pub const STAMP: usize = 128;
+
+    pub const MARKS: usize = 160;
+    // The ring of messages, from here on.
+    pub const RING: usize = 224;
+    // The bytes that each of the key's texts has, the stamp, and the marks.
+    pub const KEY_TEXT_SIZE: usize = 32;
+
+    pub const STAMP_SIZE: usize = 32;
+
+    pub const MARKS_SIZE: usize = 64;
+}
+
+// The byte before the marks, and their last.
+const BEFORE_MARKS: usize = byte::MARKS - 1;
+
+const LAST_MARK: usize = byte::RING - 1;
+
 // A number that is in flight.
 pub enum Flight {
     Nothing,
@@ -26,31 +84,35 @@ pub fn next_outgoing(words: &[u64]) -> u64
     requires { ⌜ 16 ≤ length (now words) ⌝ }
     ensures { λ r. ⌜ r ≡ nextOutOf (now (words .entry)) ⌝ }
 {
-    if words[0] < 1 { 1 } else { words[0] }
+    if words[word::NEXT_OUTGOING] < 1 {
+        1
+    } else {
+        words[word::NEXT_OUTGOING]
+    }
 }
 
 pub fn next_incoming(words: &[u64]) -> u64
     requires { ⌜ 16 ≤ length (now words) ⌝ }
     ensures { λ r. ⌜ r ≡ getD (now (words .entry)) 1 0 ⌝ }
 {
-    words[1]
+    words[word::NEXT_INCOMING]
 }
 
 pub fn in_flight(words: &[u64]) -> Flight
     requires { ⌜ 16 ≤ length (now words) ⌝ }
     ensures { λ r. ⌜ flightIs r ≡ flightOf (now (words .entry)) ⌝ }
 {
-    if words[2] == 0 {
+    if words[word::HAS_IN_FLIGHT] == 0 {
         return Flight::Nothing;
     }
-    Flight::Number(words[3])
+    Flight::Number(words[word::IN_FLIGHT])
 }
 
 pub fn durable(words: &[u64]) -> bool
     requires { ⌜ 16 ≤ length (now words) ⌝ }
     ensures { λ r. ⌜ r ≡ durableOf (now (words .entry)) ⌝ }
 {
-    words[4] != 0
+    words[word::DURABLE] != 0
 }
 
 // A length, cut to its field.
@@ -67,9 +129,9 @@ pub fn stamp_len(words: &[u64], bytes: &[u8]) -> usize
     ensures within { λ r. ⌜ r ≤ 32 ⌝ }
     ensures is { λ r. ⌜ take r (drop 128 (now (bytes .entry))) ≡ stampOf (now (words .entry)) (now (bytes .entry)) ⌝ }
 {
-    let n = cut(words[5], 32);
-    let end = 128 + n;
-    if frame_stamp::is_stamp(&bytes[128..end]) {
+    let n = cut(words[word::STAMP_LEN], byte::STAMP_SIZE);
+    let end = byte::STAMP + n;
+    if frame_stamp::is_stamp(&bytes[byte::STAMP..end]) {
         n
     } else {
         0
@@ -83,9 +145,9 @@ pub fn marks_len(words: &[u64], bytes: &[u8]) -> usize
     ensures within { λ r. ⌜ r ≤ 64 ⌝ }
     ensures is { λ r. ⌜ take r (drop 160 (now (bytes .entry))) ≡ marksOf (now (words .entry)) (now (bytes .entry)) ⌝ }
 {
-    let n = cut(words[6], 64);
-    let end = 160 + n;
-    if frame_stamp::is_marks(&bytes[160..end]) {
+    let n = cut(words[word::MARKS_LEN], byte::MARKS_SIZE);
+    let end = byte::MARKS + n;
+    if frame_stamp::is_marks(&bytes[byte::MARKS..end]) {
         n
     } else {
         0
@@ -98,28 +160,28 @@ pub fn set_next_incoming(words: &mut [u64], seq: u64)
     requires { ⌜ 16 ≤ length (now words) ⌝ }
     ensures { λ _. ⌜ ((C M : ℕ) (b : List ℕ) → placeIn C M (now (words .exit)) b ≡ onStored (changed C M (setIncoming seq ∷ [])) (placeIn C M (now (words .entry)) b)) ⌝ }
 {
-    words[1] = seq;
-    words[2] = 0;
-    words[4] = 0;
+    words[word::NEXT_INCOMING] = seq;
+    words[word::HAS_IN_FLIGHT] = 0;
+    words[word::DURABLE] = 0;
 }
 
 pub fn set_next_incoming_in_flight(words: &mut [u64], seq: u64, in_flight: u64)
     requires { ⌜ 16 ≤ length (now words) ⌝ }
     ensures { λ _. ⌜ ((C M : ℕ) (b : List ℕ) → placeIn C M (now (words .exit)) b ≡ onStored (changed C M (setIncomingInFlight seq «in_flight» ∷ [])) (placeIn C M (now (words .entry)) b)) ⌝ }
 {
-    words[1] = seq;
-    words[2] = 1;
-    words[3] = in_flight;
-    words[4] = 0;
+    words[word::NEXT_INCOMING] = seq;
+    words[word::HAS_IN_FLIGHT] = 1;
+    words[word::IN_FLIGHT] = in_flight;
+    words[word::DURABLE] = 0;
 }
 
 pub fn set_in_flight(words: &mut [u64], seq: u64)
     requires { ⌜ 16 ≤ length (now words) ⌝ }
     ensures { λ _. ⌜ ((C M : ℕ) (b : List ℕ) → placeIn C M (now (words .exit)) b ≡ onStored (changed C M (setInFlight seq ∷ [])) (placeIn C M (now (words .entry)) b)) ⌝ }
 {
-    words[2] = 1;
-    words[3] = seq;
-    words[4] = 0;
+    words[word::HAS_IN_FLIGHT] = 1;
+    words[word::IN_FLIGHT] = seq;
+    words[word::DURABLE] = 0;
 }
 
 // A Record with its message, whose number is the next outgoing one.
@@ -130,9 +192,15 @@ pub fn record(words: &mut [u64], bytes: &mut [u8], max: usize, seq: u64, text: &
     requires { ⌜ seq < 18446744073709551615 ⌝ }
     ensures { λ _. ⌜ ((C : ℕ) → length (now (bytes .entry)) ≡ 224 + C → placeIn C max (now (words .exit)) (now (bytes .exit)) ≡ onStored (changed C max (recordMsg seq (now (text .entry)) ∷ [])) (placeIn C max (now (words .entry)) (now (bytes .entry)))) ⌝ }
 {
-    store_log::record(&mut words[14..], &mut bytes[224..], max, seq, text);
-    words[0] = seq + 1;
-    words[4] = 0;
+    store_log::record(
+        &mut words[word::LOG..],
+        &mut bytes[byte::RING..],
+        max,
+        seq,
+        text,
+    );
+    words[word::NEXT_OUTGOING] = seq + 1;
+    words[word::DURABLE] = 0;
 }
 
 // A Record without message, of a number from the next outgoing one on.
@@ -143,22 +211,22 @@ pub fn record_none(words: &mut [u64], max: usize, seq: u64)
     ensures { λ _. ⌜ ((C : ℕ) (b : List ℕ) → placeIn C max (now (words .exit)) b ≡ onStored (changed C max (recordBare seq ∷ [])) (placeIn C max (now (words .entry)) b)) ⌝ }
 {
     let next = next_outgoing(words);
-    store_log::settle(&mut words[14..], max, next);
-    words[0] = seq + 1;
-    words[4] = 0;
+    store_log::settle(&mut words[word::LOG..], max, next);
+    words[word::NEXT_OUTGOING] = seq + 1;
+    words[word::DURABLE] = 0;
 }
 
 pub fn reset(words: &mut [u64], max: usize)
     requires { ⌜ 16 + 2 * max ≤ length (now words) ⌝ }
     ensures { λ _. ⌜ ((C : ℕ) (b : List ℕ) → placeIn C max (now (words .exit)) b ≡ onStored (changed C max (reset ∷ [])) (placeIn C max (now (words .entry)) b)) ⌝ }
 {
-    store_log::clear(&mut words[14..], max);
-    words[0] = 1;
-    words[1] = 1;
-    words[2] = 0;
-    words[4] = 0;
-    words[5] = 0;
-    words[6] = 0;
+    store_log::clear(&mut words[word::LOG..], max);
+    words[word::NEXT_OUTGOING] = 1;
+    words[word::NEXT_INCOMING] = 1;
+    words[word::HAS_IN_FLIGHT] = 0;
+    words[word::DURABLE] = 0;
+    words[word::STAMP_LEN] = 0;
+    words[word::MARKS_LEN] = 0;
 }
 
 // Puts a text into the field of size bytes at `at`.
@@ -176,9 +244,9 @@ pub fn set_created_at(words: &mut [u64], bytes: &mut [u8], text: &[u8])
     requires { ⌜ isStamp (now text) ≡ true ⌝ }
     ensures { λ _. ⌜ ((C M : ℕ) → placeIn C M (now (words .exit)) (now (bytes .exit)) ≡ onStored (changed C M (setCreatedAt (now (text .entry)) ∷ [])) (placeIn C M (now (words .entry)) (now (bytes .entry)))) ⌝ }
 {
-    put_text(bytes, 128, 32, text);
-    words[5] = text.len() as u64;
-    words[4] = 0;
+    put_text(bytes, byte::STAMP, byte::STAMP_SIZE, text);
+    words[word::STAMP_LEN] = text.len() as u64;
+    words[word::DURABLE] = 0;
 }
 
 pub fn set_marks(words: &mut [u64], bytes: &mut [u8], text: &[u8])
@@ -187,9 +255,9 @@ pub fn set_marks(words: &mut [u64], bytes: &mut [u8], text: &[u8])
     requires { ⌜ isMarks (now text) ≡ true ⌝ }
     ensures { λ _. ⌜ ((C M : ℕ) → placeIn C M (now (words .exit)) (now (bytes .exit)) ≡ onStored (changed C M (setMarks (now (text .entry)) ∷ [])) (placeIn C M (now (words .entry)) (now (bytes .entry)))) ⌝ }
 {
-    put_text(bytes, 160, 64, text);
-    words[6] = text.len() as u64;
-    words[4] = 0;
+    put_text(bytes, byte::MARKS, byte::MARKS_SIZE, text);
+    words[word::MARKS_LEN] = text.len() as u64;
+    words[word::DURABLE] = 0;
 }
 
 // ---- commits and promotion
@@ -199,7 +267,7 @@ pub fn mark_durable(words: &mut [u64])
     ensures marked { λ _. ⌜ ((C M : ℕ) (b : List ℕ) → placeIn C M (now (words .exit)) b ≡ onStored markDurable (placeIn C M (now (words .entry)) b)) ⌝ }
     ensures word { λ _. ⌜ now (words .exit) ≡ set (now (words .entry)) 4 1 ⌝ }
 {
-    words[4] = 1;
+    words[word::DURABLE] = 1;
 }
 
 // next + lag, but at most 2^64 - 1.
@@ -222,7 +290,7 @@ fn ends_in_b(bytes: &[u8], n: usize) -> bool
     if n == 0 {
         return false;
     }
-    bytes[159 + n] == b'B'
+    bytes[BEFORE_MARKS + n] == b'B'
 }
 
 // Gives the n bytes of marks at 160 a final B, and answers how many there are then.
@@ -236,11 +304,11 @@ fn put_b(bytes: &mut [u8], n: usize) -> usize
     if ends_in_b(bytes, n) {
         return n;
     }
-    if 64 <= n {
-        bytes[223] = b'B';
+    if byte::MARKS_SIZE <= n {
+        bytes[LAST_MARK] = b'B';
         return n;
     }
-    bytes[160 + n] = b'B';
+    bytes[byte::MARKS + n] = b'B';
     n + 1
 }
 
@@ -253,10 +321,10 @@ pub fn take_over(words: &mut [u64], bytes: &mut [u8], max: usize, lag: u64)
     let next = next_outgoing(words);
     let n = marks_len(words, bytes);
     let end = put_b(bytes, n);
-    store_log::settle(&mut words[14..], max, next);
-    words[0] = skipped(next, lag);
-    words[6] = end as u64;
-    words[4] = 1;
+    store_log::settle(&mut words[word::LOG..], max, next);
+    words[word::NEXT_OUTGOING] = skipped(next, lag);
+    words[word::MARKS_LEN] = end as u64;
+    words[word::DURABLE] = 1;
 }
 
 // ---- keys and new sessions
@@ -279,14 +347,14 @@ pub fn new_session(
     requires { ⌜ length (now suffix) ≤ 32 ⌝ }
     ensures { λ _. ⌜ ((C : ℕ) → placeIn C max (now (words .exit)) (now (bytes .exit)) ≡ newPlace (keyFrom (now (begin .entry)) (now (sender .entry)) (now (target .entry)) (now (suffix .entry)))) ⌝ }
 {
-    put_text(bytes, 0, 32, begin);
-    put_text(bytes, 32, 32, sender);
-    put_text(bytes, 64, 32, target);
-    put_text(bytes, 96, 32, suffix);
-    words[7] = begin.len() as u64;
-    words[8] = sender.len() as u64;
-    words[9] = target.len() as u64;
-    words[10] = suffix.len() as u64;
+    put_text(bytes, byte::BEGIN, byte::KEY_TEXT_SIZE, begin);
+    put_text(bytes, byte::SENDER, byte::KEY_TEXT_SIZE, sender);
+    put_text(bytes, byte::TARGET, byte::KEY_TEXT_SIZE, target);
+    put_text(bytes, byte::SUFFIX, byte::KEY_TEXT_SIZE, suffix);
+    words[word::BEGIN_LEN] = begin.len() as u64;
+    words[word::SENDER_LEN] = sender.len() as u64;
+    words[word::TARGET_LEN] = target.len() as u64;
+    words[word::SUFFIX_LEN] = suffix.len() as u64;
     reset(words, max);
 }
 
@@ -312,7 +380,7 @@ fn same_field(bytes: &[u8], at: usize, n: u64, text: &[u8]) -> bool
     requires { ⌜ at + 32 ≤ length (now bytes) ⌝ }
     ensures { λ r. ⌜ r ≡ sameBytes (now (text .entry)) (field (now (bytes .entry)) at 32 n) ⌝ }
 {
-    let end = at + cut(n, 32);
+    let end = at + cut(n, byte::KEY_TEXT_SIZE);
     same_bytes(text, &bytes[at..end])
 }
 
@@ -329,9 +397,10 @@ pub fn has_key(
     requires { ⌜ 224 ≤ length (now bytes) ⌝ }
     ensures { λ r. ⌜ r ≡ sameKey (keyFrom (now (begin .entry)) (now (sender .entry)) (now (target .entry)) (now (suffix .entry))) (keyOf (now (words .entry)) (now (bytes .entry))) ⌝ }
 {
-    same_field(bytes, 0, words[7], begin)
-        & (same_field(bytes, 32, words[8], sender)
-            & (same_field(bytes, 64, words[9], target) & same_field(bytes, 96, words[10], suffix)))
+    same_field(bytes, byte::BEGIN, words[word::BEGIN_LEN], begin)
+        & (same_field(bytes, byte::SENDER, words[word::SENDER_LEN], sender)
+            & (same_field(bytes, byte::TARGET, words[word::TARGET_LEN], target)
+                & same_field(bytes, byte::SUFFIX, words[word::SUFFIX_LEN], suffix)))
 }
 
 // ---- messages
@@ -343,7 +412,7 @@ pub fn last_outgoing(words: &[u64], bytes: &[u8], max: usize, n: u64) -> u64
     ensures { λ r. ⌜ ((C : ℕ) → length (now (bytes .entry)) ≡ 224 + C → r ≡ lastOut (sessionOf C max (now (words .entry)) (now (bytes .entry))) n) ⌝ }
 {
     let next = next_outgoing(words);
-    store_log::last_outgoing(&words[14..], &bytes[224..], max, next, n)
+    store_log::last_outgoing(&words[word::LOG..], &bytes[byte::RING..], max, next, n)
 }
 
 // The place in the log where the messages with numbers from low begin.
@@ -354,7 +423,7 @@ pub fn messages_from(words: &[u64], bytes: &[u8], max: usize, low: u64) -> Curso
     ensures { λ r. ⌜ ((C : ℕ) → length (now (bytes .entry)) ≡ 224 + C → FromIn C max low (now (words .entry)) (now (bytes .entry)) (r .left) (r .dist)) ⌝ }
 {
     let next = next_outgoing(words);
-    store_log::messages_from(&words[14..], &bytes[224..], max, next, low)
+    store_log::messages_from(&words[word::LOG..], &bytes[byte::RING..], max, next, low)
 }
 
 // The next message at a place in the log.
@@ -366,10 +435,17 @@ pub fn message_at(words: &[u64], bytes: &[u8], max: usize, left: usize, dist: us
     ensures { λ r. ⌜ ((C : ℕ) → length (now (bytes .entry)) ≡ 224 + C → ReadIn C max (now (words .entry)) (now (bytes .entry)) left dist (r .number) (r .start) (r .first) (r .rest) (r .left) (r .dist)) ⌝ }
 {
     let next = next_outgoing(words);
-    let f = store_log::message_at(&words[14..], &bytes[224..], max, next, left, dist);
+    let f = store_log::message_at(
+        &words[word::LOG..],
+        &bytes[byte::RING..],
+        max,
+        next,
+        left,
+        dist,
+    );
     Found {
         number: f.number,
-        start: 224 + f.start,
+        start: byte::RING + f.start,
         first: f.first,
         rest: f.rest,
         left: f.left,

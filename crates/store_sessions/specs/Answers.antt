@@ -13,6 +13,7 @@ use Rattle.model_standby.specs.Store.{Place, placeOf, sessionAt, newPlace, onPl
 use Rattle.store_log.specs.Log.{msg}
 use Rattle.store_place.specs.Only.{Only}
 use Rattle.store_place.specs.Place.{flightIs, restIn, StandsIn}
+use Rattle.store_areas.specs.StoreWord
 use Rattle.store_areas.specs.declared.Shape.{Shape}
 use Rattle.store_areas.specs.Areas.{placeWords, placeBytes, wordsAt, bytesAt, allowed, part, placeAt, placesOf}
 use Rattle.store_state.specs.declared.Summary.{Summary}
@@ -33,14 +34,14 @@ soughtIn s w b k = cond (allowed s w b) (some (placeOf k (placesOf s w b))) none
 -- ---- opening: the new session stands at the place that was the first free one; nothing else changes but the count
 pub record Opened (s : Shape) (k : Key) (w w' b b' : List ℕ) : Type 0 where
   pub places : placesOf s w' b' ≡ placesOf s w b ++ (newPlace k ∷ [])
-  pub words : Only (wordsAt s (getD w 0 0)) (wordsAt s (getD w 0 0) + placeWords s) (set w 0 (getD w 0 0 + 1)) w'
-  pub bytes : Only (bytesAt s (getD w 0 0)) (bytesAt s (getD w 0 0) + placeBytes s) b b'
+  pub words : Only (wordsAt s (getD w StoreWord.used 0)) (wordsAt s (getD w StoreWord.used 0) + placeWords s) (set w StoreWord.used (getD w StoreWord.used 0 + 1)) w'
+  pub bytes : Only (bytesAt s (getD w StoreWord.used 0)) (bytesAt s (getD w StoreWord.used 0) + placeBytes s) b b'
 
 -- ---- promotion: only the places in use change
 pub record TakenOver (s : Shape) (lag : ℕ) (w w' b b' : List ℕ) : Type 0 where
   pub places : placesOf s w' b' ≡ onPlaces (takenOver lag) (placesOf s w b)
-  pub words : Only 66 (wordsAt s (getD w 0 0)) w w'
-  pub bytes : Only 0 (bytesAt s (getD w 0 0)) b b'
+  pub words : Only StoreWord.places (wordsAt s (getD w StoreWord.used 0)) w w'
+  pub bytes : Only 0 (bytesAt s (getD w StoreWord.used 0)) b b'
 
 -- ---- summaries: none is 25
 

@@ -10,6 +10,7 @@ ghost use Rattle.store_place.specs.Place.{keyFrom};
 ghost use Rattle.store_areas.specs.Areas.{Rules, placeAt, placesOf};
 ghost use Rattle.store_sessions.specs.Answers.{soughtIs, soughtIn, Opened, TakenOver, summaryIs, summarisedIs, summarisedIn, StandsAt, FromAt, ReadAt};
 use store_areas::Shape;
+use store_areas::word;
 use store_log::Cursor;
 use store_state::Summary;
 
@@ -82,7 +83,7 @@ pub fn place_of(
     requires { ⌜ Rules shape (now words) (now bytes) ⌝ }
     ensures { λ r. ⌜ r ≡ placeOf (keyFrom (now (begin .entry)) (now (sender .entry)) (now (target .entry)) (now (suffix .entry))) (placesOf shape (now (words .entry)) (now (bytes .entry))) ⌝ }
 {
-    let used = words[0] as usize;
+    let used = words[word::USED] as usize;
     let mut i = 0;
     while i < used {
         if has_key(words, bytes, shape, i, begin, sender, target, suffix) {
@@ -129,8 +130,8 @@ pub fn open(
     requires { ⌜ length (now suffix) ≤ 32 ⌝ }
     ensures { λ _. ⌜ Opened shape (keyFrom (now (begin .entry)) (now (sender .entry)) (now (target .entry)) (now (suffix .entry))) (now (words .entry)) (now (words .exit)) (now (bytes .entry)) (now (bytes .exit)) ⌝ }
 {
-    let used = words[0] as usize;
-    words[0] = (used + 1) as u64;
+    let used = words[word::USED] as usize;
+    words[word::USED] = (used + 1) as u64;
     let p = store_areas::spot_in(words, bytes, shape, used);
     let wa = p.wa;
     let we = p.we;
@@ -155,7 +156,7 @@ pub fn take_over_all(words: &mut [u64], bytes: &mut [u8], shape: Shape, lag: u64
     requires { ⌜ Rules shape (now words) (now bytes) ⌝ }
     ensures { λ _. ⌜ TakenOver shape lag (now (words .entry)) (now (words .exit)) (now (bytes .entry)) (now (bytes .exit)) ⌝ }
 {
-    let used = words[0] as usize;
+    let used = words[word::USED] as usize;
     let mut i = 0;
     while i < used {
         store_state::take_over(words, bytes, shape, i, lag);
@@ -207,7 +208,7 @@ pub fn summary(words: &[u64], bytes: &[u8], shape: Shape, i: usize, n: u64) -> S
     ensures { λ r. ⌜ summarisedIs (now (bytes .entry)) r ≡ summarisedIn shape (now (words .entry)) (now (bytes .entry)) i n ⌝ }
 {
     if store_areas::allowed(shape, words, bytes) {
-        if i < words[0] as usize {
+        if i < words[word::USED] as usize {
             return Summarised::Session(summary_of(words, bytes, shape, i, n));
         }
     }
@@ -258,7 +259,7 @@ pub fn message_at(
         number: f.number,
         at: ba + f.start,
         first: f.first,
-        again: ba + 224,
+        again: ba + store_place::byte::RING,
         rest: f.rest,
         left: f.left,
         dist: f.dist,

@@ -90,7 +90,10 @@ pub fn created_at(words: &[u64], bytes: &[u8], shape: Shape, i: usize) -> Text
     let ba = p.ba;
     let be = p.be;
     let len = store_place::stamp_len(&words[wa..we], &bytes[ba..be]);
-    Text { at: ba + 128, len }
+    Text {
+        at: ba + store_place::byte::STAMP,
+        len,
+    }
 }
 
 // The marks.
@@ -105,7 +108,10 @@ pub fn marks(words: &[u64], bytes: &[u8], shape: Shape, i: usize) -> Text
     let ba = p.ba;
     let be = p.be;
     let len = store_place::marks_len(&words[wa..we], &bytes[ba..be]);
-    Text { at: ba + 160, len }
+    Text {
+        at: ba + store_place::byte::MARKS,
+        len,
+    }
 }
 
 // ---- the eight changes: each unmarks the session, and changes nothing outside its place
