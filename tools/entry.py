@@ -10,23 +10,60 @@ Without SAYS the clause is `(s : Result) × (the core's clause × (r ≡ ..) × 
 
 What must be so: one lifetime to a reference; at most one `&mut` record, read and stored whole, and one row, written after the core is called; no branch and no loop; the core takes all
 plain slices, in their order; a reader's other arguments are parameters; nobody asks anything (`requires`). proofs/Lib.antt names Records, where the structs' short names stand."""
-import os, re, sys
-from mir import *
+import os
+import re
+import sys
+from typing import Any
 
+from mir import (
+    Ctx, Lent, Made, N, Param, Term, Value, arg, body, camel, chain, count, crate, dash, fields, filled, fn, function, items, lifetimes, params,
+    path, plains, rat, rec, record_of, refs, row, source, statements, struct, structs, sub, ty, types,
+)
+from walk import ROOT, nest
+
+if len(sys.argv) < 4:
+    sys.exit(__doc__)
 core = sys.argv[3]
-L, D = (lambda j: ('L', j)), (lambda j: ('D', j))
+
+
+def L(j: int) -> tuple[str, int]:                    # in the context: local j
+    return ('L', j)
+
+
+def D(j: int) -> tuple[str, int]:                    # what frees local j
+    return ('D', j)
+
+
 LITERAL = '(refl, lit< tt)'                          # what is known of a literal
-lname = lambda j: f'l{sub(j)}'
+
+
+def lname(j: int) -> str:                            # local j's address
+    return f'l{sub(j)}'
+
+
 w = Ctx([y for j in reversed(range(N)) for y in (L(j), D(j))] + ['tokens', 'owns'])
-parens, known, defs, readers = N, [], [], []
-holds, machine = {}, {}                              # what a local holds, and its machine value
-state = {'row': row and row.val, 'n': 0, 'same': None}
-load = lambda j, c=None: f'(load ! (from ! (stop !)) (look ! {(c or w).at(L(j))} refl))'
-part = lambda j, k: f'(load ! (from ! (fld ! refl (stop !))) (look-in ! {w.at(L(j))} (sub ! {k} refl (whole !))))'
-init = lambda j, typed: f'(from ! (stop !)) ({"store" if j in holds else "init"} ! {w.at(L(j))} refl {typed})'
+parens = N                                           # the brackets that are open
+known: list[str] = []                                # the functions called, with their crates
+defs: list[str] = []                                 # definitions that the walk names
+readers: list[tuple[str, int, Param, list[Any], Value]] = []
+holds: dict[int, Any] = {}                           # what a local holds: a Value, a Param, a Lent, or nothing that counts
+machine: dict[int, str] = {}                         # its machine value
+state: dict[str, Any] = {'row': row and row.val, 'n': 0, 'same': None}   # the row now, how many writes it had, that its length is the same; and what is stored in the record
 
 
-def fresh_row(expr, same):                           # the row after a write, under a name
+def load(j: int, c: Ctx | None = None) -> str:       # copy _j
+    return f'(load ! (from ! (stop !)) (look ! {(c or w).at(L(j))} refl))'
+
+
+def part(j: int, k: int) -> str:                     # copy _j.k
+    return f'(load ! (from ! (fld ! refl (stop !))) (look-in ! {w.at(L(j))} (sub ! {k} refl (whole !))))'
+
+
+def init(j: int, typed: str) -> str:                 # .. is stored in _j
+    return f'(from ! (stop !)) ({"store" if j in holds else "init"} ! {w.at(L(j))} refl {typed})'
+
+
+def fresh_row(expr: str, same: str) -> None:         # the row after a write, under a name
     state['n'] += 1
     n = state['n']
     defs.append(f'abbrev row{sub(n)} : CoreGives → List Handle\n  row{sub(n)} x = {expr}')
@@ -34,42 +71,42 @@ def fresh_row(expr, same):                           # the row after a write, un
     state['row'], state['same'] = f'(row{sub(n)} x)', f'same{sub(n)} x'
 
 
-def room_now():
+def room_now() -> str:                               # that the row's length has room
     return f'(subst (Room R-Handle) (sym ({state["same"]})) {row.room})' if state['same'] else row.room
 
 
-def operand(o):
+def operand(o: Term) -> str:                         # how an operand is read
     if o[0] == 'int':
         return '(lit ! tt)'
     j, projs = int(o[1][1]), items(o[1][2])
     return load(j) if not projs else part(j, int(projs[0][1]))
 
 
-def value(o):
+def value(o: Term) -> Any:                           # what it is
     if o[0] == 'int':
         return Value(['tyInt', o[1]], o[2], LITERAL)
     j, projs = int(o[1][1]), items(o[1][2])
     return holds[j] if not projs else holds[j].field(int(projs[0][1]))
 
 
-def operands(xs):
+def operands(xs: list[Term]) -> str:
     return '(' + ''.join(f'and-then ! {operand(x)} (' for x in xs) + 'no-more !' + ')' * (len(xs) + 1)
 
 
-def lands(j, v):
+def lands(j: int, v: Value | None) -> None:          # a call's result is stored in _j
     w.say(f'land ! {init(j, v.typed if v else "(tt, tt)")} $')
     holds[j], machine[j] = v, v.machine if v else 'vunit'
 
 
-parts = []                                           # the walk in parts, each a lemma of its own: [name, facts in hand, ghosts, cells, the statement it starts at, text]
-facts_now = []                                       # what is known by now: a name, and its type
+parts: list[list[Any]] = []                          # the walk in parts, each a lemma of its own: [name, facts in hand, ghosts, cells, the statement it starts at, text]
+facts_now: list[tuple[str, str]] = []                # what is known by now: a name, and its type
 
 
-def facts_of():
+def facts_of() -> list[tuple[str, str]]:
     return ([(f'is-{rec.name}', f'Is {rec.R} {rec.val} (vals-{struct(rec.s)} {rec.val})')] if rec else []) + facts_now
 
 
-def cut(step):                                       # the walk goes on in another lemma
+def cut(step: int) -> None:                          # the walk goes on in another lemma
     global w, parens
     assert w.xs[-2 * N:] == [y for j in reversed(range(N)) for y in (L(j), D(j))]
     cells = chain(f'filled {arg(ty(types[j]))} {lname(j)} ({machine[j]})' if j in holds else f'empty {arg(ty(types[j]))} {lname(j)}' for j in range(N))
@@ -79,7 +116,7 @@ def cut(step):                                       # the walk goes on in anoth
     w, parens = Ctx(w.xs), 0
 
 
-def ghost(g):                                        # an item by its name
+def ghost(g: str) -> str:                            # an item by its name
     if g == 'done':
         return 'After x'
     if g.startswith('Plain-'):
@@ -100,7 +137,7 @@ nl = '\n'
 parts.append(['walk', [], [], '', 0])
 
 
-def lend(f, xs, d, lents, vs):                       # the core is called with two locals lent, a record and an array
+def lend(f: str, xs: list[Term], d: int, lents: list[Lent], vs: list[Value]) -> None:   # the core is called with two locals lent, a record and an array
     global parens
     r, a = lents
     s, n = struct(r.v.t[1][1]), a.v.t[2][1]
@@ -310,7 +347,7 @@ w.say(f'by ! (frees-stack 𝓤 H A W ({all_cells}) (FINAL) (Post (RESULT)) (exit
 # ---- the readers' rules
 
 
-def reader(name, k, src, vs, v):
+def reader(name: str, k: int, src: Param, vs: list[Any], v: Value) -> str:
     n, c = dash(name), f'{camel(name)} 𝓤 H A memory run'
     at = f'at {src.R} {src.b} {src.o} γ {src.val}' if src.kind == 'gave' else src.at
     args = nest([at if u is src else u.x for u in vs])
@@ -352,8 +389,16 @@ holds_end, holds = holds, core_holds
 cvs = [value(x) for x in cxs]
 holds = holds_end
 clents = [v for v in cvs if isinstance(v, Lent)]
-ref_at = lambda v: f'record {{ ptr = ({"l" if v.kind == "rec" else "m"}, 0); name = {"γ" if v.kind == "rec" else "δ"}; now = {v.v.x} }}'
-ref_val = lambda v: 'vptr l 0' if v.kind == 'rec' else f'sliceVal (m, 0) (length {v.v.x})'
+
+
+def ref_at(v: Lent) -> str:                          # the reference to a local that is lent
+    return f'record {{ ptr = ({"l" if v.kind == "rec" else "m"}, 0); name = {"γ" if v.kind == "rec" else "δ"}; now = {v.v.x} }}'
+
+
+def ref_val(v: Lent) -> str:
+    return 'vptr l 0' if v.kind == 'rec' else f'sliceVal (m, 0) (length {v.v.x})'
+
+
 S = struct(types[cd][1][1])
 cargs = nest([v.at if isinstance(v, Param) else ref_at(v) if isinstance(v, Lent) else v.x for v in cvs])
 cats = nest([f'{v.s_} ∷ []' if isinstance(v, Param) else f'{ref_val(v)} ∷ []' if isinstance(v, Lent) else v.vals for v in cvs])
@@ -413,7 +458,12 @@ for i, v in enumerate(cvs):
         c4.becomes(1, by='drop !')
 c4.apart('out', 'toks', 'result')
 c4.front('result')
-given_back = lambda x: f'(‵ (flft (α ∷ []) fullShare) ⊛ (‵ (flft (β ∷ []) fullShare) ⊛ (‵ (fres γ ({rat(clents[0].v.t)[0]} .coded .code ({x} .1 .0))) ⊛ (‵ (finally R-Handle δ ({x} .1 .1 .0)) ⊛ After {x}))))' if clents else f'After {x}'
+
+
+def given_back(x: str) -> str:                       # what is had after the core
+    return f'(‵ (flft (α ∷ []) fullShare) ⊛ (‵ (flft (β ∷ []) fullShare) ⊛ (‵ (fres γ ({rat(clents[0].v.t)[0]} .coded .code ({x} .1 .0))) ⊛ (‵ (finally R-Handle δ ({x} .1 .1 .0)) ⊛ After {x}))))' if clents else f'After {x}'
+
+
 c4.say(f'facts ! R-{S} (Is R-{S}) (shows 𝓤 H A R-{S}) r (u ∷ []) (λ is. at-once ! $ show ! (λ (x : CoreGives). mean 𝓤 H A ({given_back("x")} ⊛ raw (fact 𝓤 ((u ≡ val-{S} (x .0)) × CoreTold x)))) (r, ws) $ '
        f'says ! (ap only (tells-{S} r (u ∷ []) is), ({", ".join([f"subst (Is R-{S} r) (tells-{S} r (u ∷ []) is) is", "e"] + [f"len{sub(i)}" for i, _ in lens])})) $')
 c4.becomes(1)
@@ -426,7 +476,7 @@ all_tokens = '(‵ (flft (α ∷ []) fullShare) ⊛ (‵ (flft (β ∷ []) fullS
 asked = f'‵ (flft (α ∷ []) fullShare) ⊛ (‵ (flft (β ∷ []) fullShare) ⊛ (‵ (LentRecord {rat(clents[0].v.t)[0]} R-Handle l m α γ {clents[0].v.x}) ⊛ (‵ (LentRow {rat(clents[0].v.t)[0]} R-Handle l m β δ {clents[1].v.x}) ⊛ Before)))' if clents else 'Before'
 
 
-def star(xs):
+def star(xs: list[str]) -> str:                      # items, joined
     return '‵ ftrue' if not xs else xs[0] if len(xs) == 1 else f'{xs[0]} ⊛ ({star(xs[1:])})'
 
 
@@ -468,7 +518,7 @@ LS = ' '.join(lname(j) for j in range(N))
 HERE = 'Ct Λ fm ' + ' '.join(f'known-{dash(f)}' for f in known) + ' ' + LS
 
 
-def lemma(name, facts, ghosts, cells, step, text):
+def lemma(name: str, facts: list[tuple[str, str]], ghosts: list[str], cells: str, step: int, text: str) -> str:
     return f'''
     {name} : {''.join(f'({n} : {t}) → ' for n, t in facts)}Sq W ({' ∷ '.join(ghosts)} ∷ stack 𝓤 H A ({cells}) []) (runs Ct Λ En text.t-{step} (atRet En Post))
     {name} {' '.join(n for n, _ in facts)} =
@@ -493,7 +543,12 @@ me = dash(fn)
 mine_ = 'this'                                       # the function's own modules: its core may have its name
 Y = f'(({nest([p.k for p in refs])}, {nest([p.q for p in refs])}, tt, x-all, at-all), tt)'
 own_structs = [s for s in structs if not s.startswith('standby_row::') or crate == 'standby_row']
-facade = lambda c, kind: f'Rattle.{c}.{kind}' if c == crate else f'Rattle.{c}.{kind}'
+
+
+def facade(c: str, kind: str) -> str:                # a crate's modules, from here
+    return f'Rattle.{c}.{kind}' if c == crate else f'Rattle.{c}.{kind}'
+
+
 uses = []
 for s in structs:
     c, n = s.split('::')[0], s.split('::')[-1]
@@ -503,7 +558,8 @@ for s in structs:
     else:
         uses.append(f'use {facade(c if c == "standby_row" else crate, "proofs")}.Records.{{{", ".join(f"{k}-{n}" for k in ("R", "val", "vals", "tells", "makes"))}}}')
 rowfns = [f for f in known if f.startswith('standby_row::')]
-uses.append('use Rattle.standby_row.specs.Row.{none, findOf, freeFor, brokenOf, clearedFrom, clearedAll, seenOf}')
+searched = 'freeFor' if 'standby_row::find_free' in known else 'freeOf'
+uses.append(f'use Rattle.standby_row.specs.Row.{{none, findOf, {searched}, brokenOf, clearedFrom, clearedAll, seenOf}}')
 uses.append('use Rattle.standby_row.proofs.Lists.{cleared-length}')
 uses.append('use Rattle.standby_row.proofs.Locals.{filled, empty, stack, frees-stack}')
 uses.append('use Rattle.standby_row.proofs.Lent.{at, Shared, calls-with, calls-peek, calls-handed, told-shared}')
@@ -529,13 +585,21 @@ for name in known:
     uses += [f'use {pre}.{n}.Symbol as {dash(n)}-def', f'use {pre}.{n}.Symbol.{{name as #{c}·{dash(n)}}}', f'use {pre}.{n}.Met as {dash(n)}-thm']
 mine = facade(crate, 'proofs')
 uses += [f'use {mine}.{fn}.Key.{{name as #{crate}·{me}}}', f'use {mine}.{fn} as {mine_}', f'use {mine}.{fn}.Statement as stated', f'use {mine}.{fn}.Code as code', f'use {mine}.{fn}.Code.Mir as text']
-symbol = lambda f: f'#{f.split("::")[0]}·{dash(f)}'
-knowns = lambda C: ' '.join(f'(known-{dash(f)} : Triple 𝓤 ({C} {symbol(f)}) ({camel(f)} 𝓤 H A memory run))' for f in known)
+
+
+def symbol(f: str) -> str:
+    return f'#{f.split("::")[0]}·{dash(f)}'
+
+
+def knowns(C: str) -> str:                           # that each callee meets its contract
+    return ' '.join(f'(known-{dash(f)} : Triple 𝓤 ({C} {symbol(f)}) ({camel(f)} 𝓤 H A memory run))' for f in known)
+
+
 cited = '\n'.join(f'    (cited 𝓤 H ({camel(f)} 𝓤 H (𝓖 .A) (𝓜 .mem) (𝓡 .run)) 𝓜 𝓡 code.env {symbol(f)} {dash(f)}-def.routine code.calls-{f.split("::")[0].replace("_", "-")}·{dash(f)} ({dash(f)}-thm.met 𝓤 H 𝓜 𝓖 𝓡))' for f in known)
 contracts = '\n\n'.join(f'  abbrev {camel(f)} : Contract 𝓤\n  {camel(f)} = tripleOf 𝓤 H A {dash(f)}.signature ({dash(f)}.spec 𝓤 H A memory run)' for f in known if not f.startswith('standby_row::'))
 
 
-def slot(p):
+def slot(p: Param) -> str:                           # what the signature has at a parameter
     return f'arrayOf (plain (λ _. R-Handle)) {p.t[2][1]}' if not p.ref and p.t[0] == 'tyArray' else f'plain (λ _. {p.R})'
 
 
