@@ -68,7 +68,7 @@ text = next(l for l in text.split('\n') if l.startswith('program'))
 mir = {f[1]: f[2] for f in items(sexp(text)[1])}
 _, lifetimes, _, count, locs, body = mir[f'{crate}::{fn}']
 types = [l[1] for l in items(locs)]
-lifetimes, count, N = int(lifetimes), int(count), len(types)
+lifetimes, count, local_count = int(lifetimes), int(count), len(types)
 
 
 # ---- the sources: contracts, names of parameters, fields of structs
