@@ -1,14 +1,33 @@
 """Writes `crates/standby_row/proofs/Calls.antt`: a call rule for each function over a row. Run: python3 tools/calls.py, then rt fmt."""
 from walk import ROOT, nest
 
+Numbers = list[tuple[str, str]]                      # a number beside the row: its name, and its width
 TYPES = {'w32': ('u32', '32'), 'w64': ('usize', '64')}
 # function; its numbers beside the row, and a record or none; what it gives (a number, a record, or the row)
-READS = [('find', [('k', 'w32')], 'findOf ys k'), ('find_free', [('spot', 'w64'), ('most', 'w64')], 'freeFor ys spot most'), ('find_broken', [('places', 'w64'), ('most', 'w64')], 'brokenOf ys places most'), ('get_or', [('i', 'w64')], None), ('look', [('k', 'w32'), ('places', 'w64'), ('most', 'w64')], 'seenOf ys k places most')]
-WRITES = [('put_if', [('i', 'w64')], True, 'set ys i h'), ('clear_from', [('i', 'w64')], False, 'clearedFrom i ys'), ('clear', [], False, 'clearedAll ys'),
-          ('act', [('i', 'w64'), ('k', 'w64')], True, 'clearedFrom k (set ys i h)')]
-name = lambda f: f.replace('_', '-')
-contract = lambda f: ''.join(p.capitalize() for p in f.split('_'))
-fns = [f for f, *_ in READS + WRITES]
+READS: list[tuple[str, Numbers, str | None]] = [
+    ('find', [('k', 'w32')], 'findOf ys k'),
+    ('find_free', [('spot', 'w64'), ('most', 'w64')], 'freeFor ys spot most'),
+    ('find_broken', [('places', 'w64'), ('most', 'w64')], 'brokenOf ys places most'),
+    ('get_or', [('i', 'w64')], None),
+    ('look', [('k', 'w32'), ('places', 'w64'), ('most', 'w64')], 'seenOf ys k places most'),
+]
+WRITES: list[tuple[str, Numbers, bool, str]] = [
+    ('put_if', [('i', 'w64')], True, 'set ys i h'),
+    ('clear_from', [('i', 'w64')], False, 'clearedFrom i ys'),
+    ('clear', [], False, 'clearedAll ys'),
+    ('act', [('i', 'w64'), ('k', 'w64')], True, 'clearedFrom k (set ys i h)'),
+]
+
+
+def name(f: str) -> str:                             # a function's name as antt has it
+    return f.replace('_', '-')
+
+
+def contract(f: str) -> str:                         # the name of its contract
+    return ''.join(p.capitalize() for p in f.split('_'))
+
+
+fns = [read[0] for read in READS] + [write[0] for write in WRITES]
 out = '''-- The call rules of the crate's functions, for whoever walks code that has a row of `Handle`s open: at the head of the context stands the whole share of the row, and `Lent.antt` lends it for the call. One line of the caller's walk is one call.
 --     calls-find, calls-find-free, calls-find-broken, calls-get-or, calls-look     the row is lent as `&[Handle]`.        calls-put-if, calls-clear-from, calls-clear, calls-act      as `&mut [Handle]`
 --     Find, FindFree, ..       the contracts, which the caller has of its table of calls (`cited`)
@@ -54,7 +73,7 @@ out += '\n'.join(f'  abbrev pub {contract(f)} : Contract 𝓤\n  {contract(f)} =
 out += '\nmodule _ {M : Type 1} {𝓤 : URA M} {H : Heap 𝓤} {A : Atoms 𝓤} {K : Type 0} {W : Given 𝓤 H A} {Γ : List (Item 𝓤)} {E : Env 𝓤 H} {C : Calls 𝓤 H} {Λ : Loops 𝓤 H} {q : Post 𝓤 H} {d : Place} {rest : Body} {xs : List Operand} where\n'
 
 
-def rule(f, nums, record, gives, mutable):
+def rule(f: str, nums: Numbers, record: bool, gives: str | None, mutable: bool) -> str:
     n, c = name(f), f'({contract(f)} 𝓤 H A memory run)'
     ks = ''.join(f' {k}' for k, _ in nums)
     facts = ''.join(f' → {k} < 2 ^ {TYPES[t][1]}' for k, t in nums) + (' → Is R h (vals h)' if record else '')

@@ -1,14 +1,15 @@
 """Writes the walks of `standby_row::find`, `standby_row::find_free` and `standby_row::find_broken`: one text, a loop over a `&[Handle]` for the first record of which a covered test holds.
 Run from anywhere: python3 tools/find.py, then rt fmt. `gen(function, test, what it says of h, its numbers beside the record: a name and a width each)`."""
 import os
+
 from walk import ROOT, Walk, nest
 
 TYPES = {'w32': ('u32', 'tyInt w32', '32'), 'w64': ('usize', 'word', '64')}
 
 
-def gen(path, pred_path, said, extras):
+def gen(path: str, pred_path: str, said: str, extras: list[tuple[str, str]]) -> None:
     n, pred = path.replace('_', '-'), pred_path.replace('_', '-')
-    X = len(extras)                                  # the locals after the parameters stand X later
+    X = len(extras)                                  # the locals after the parameters stand X later: I the index, Hh the handle, M the length and product, L the test, P the pointer, E the copy, B the answer
     w = Walk(['word', 'slice'] + [TYPES[t][1] for _, t in extras] + ['word', 'T′.mir', 'word', 'tyBool', 'tyPtr', 'T′.mir', 'tyBool'], g=4)
     I, Hh, M, L, P, E, B = (j + X for j in range(2, 9))
     names = [k for k, _ in extras]
@@ -213,7 +214,7 @@ module _ {{M : Type 1}} (𝓤 : URA M) (H : Heap 𝓤) (A : Atoms 𝓤) (W : Giv
         {w.count(M, 1, 'room .0')}
         {w.less(L, I, M)} {w.test(L, 'e')}
         stays ! {w.load(L)} $
-        {w.place(M, P, I, 1, 'n', '(i .0)', 'product-fits n (i .0) room less', again=True)}
+        {w.place(M, P, I, 1, '(i .0)', 'product-fits n (i .0) room less', again=True)}
         elem-out ! R (Is R) (shows 𝓤 H A R) vals tells q′ ys (i .0) none b o less (λ is-h.
         -- [row[i]; what it owns; the others; the open borrow; the fractured borrow; res; the locals]: all else is two further
         assigns ! (of-opd ! (load ! (from ! (hop ! (look ! {w.at(P, 6)} refl) (stop !))) (look-raw ! 0 refl))) {w.init(E, '(LL.lawful T.the-type T′.the-laws 𝓤 H A W .typed h (vals h) is-h .0)', 6)}
@@ -281,6 +282,7 @@ unfolding code.routine tablesOf
 '''
     os.makedirs(ROOT + f'/crates/standby_row/proofs/{path}', exist_ok=True)
     open(ROOT + f'/crates/standby_row/proofs/{path}/Proof.antt', 'w').write(txt)
+
 
 gen('find', 'is_of', 'isOf h k', [('k', 'w32')])
 gen('find_free', 'is_free', 'isFreeFor h spot most', [('spot', 'w64'), ('most', 'w64')])

@@ -1,5 +1,5 @@
 // Runs a script: fills sessions of small stores and sends them whole. What it must write was recorded from the Rust by
-// tests/active_vectors, which also wrote the script. A line is a letter, a character, and what it takes:
+// tests/make/active_vectors.py, which also wrote the script. A line is a letter, a character, and what it takes:
 // `n S C M` a new store of S places, `o:TEXT` opens the session with this target, `p I` place I; what follows is about that place:
 // `i N` SetNextIncoming, `b N F` SetNextIncomingInFlight, `f N` SetInFlight, `t:TEXT` the stamp, `k:TEXT` the marks, `m:TEXT` a
 // Record with this message, `l LENGTH` one with a made message, `g N` one without message, `z` Reset;

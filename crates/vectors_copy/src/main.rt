@@ -1,6 +1,6 @@
 // Sends a session A whole from one store to a standby over another, whose session is B, and damages, repeats and drops frames on the
 // way. After each frame that the standby is given it writes the answer (kind, refusal, reason) and which session the standby then has: A,
-// B or neither, by a hash over all six parts. What it must write was recorded from the Rust by tests/copy_vectors, which also wrote
+// B or neither, by a hash over all six parts. What it must write was recorded from the Rust by tests/make/copy_vectors.py, which also wrote
 // the script. A line is a letter, a character, and what it takes:
 // `n S C M` two new stores of S places and a new standby, `o:TEXT` opens A with this target; changes of A: `m:TEXT` a Record with this message, `l LENGTH` one with a made
 // message, `g N` one without message, `b N F` SetNextIncomingInFlight, `t:TEXT` the stamp, `k:TEXT` the marks;

@@ -1,4 +1,4 @@
-// Runs a script of pushes onto lag queues. What it must write was recorded from the Rust by tests/active_vectors, which also wrote
+// Runs a script of pushes onto lag queues. What it must write was recorded from the Rust by tests/make/active_vectors.py, which also wrote
 // the script. `Q MAX_LAG DRAINED LAST..` is a new queue with a push for each LAST, as in call scripts; `q MAX_LAG DRAINED COUNT LAST..`
 // one in which COUNT zeros wait.
 use active_lag::ReplicatedLog;

@@ -1,7 +1,7 @@
 // Runs a script of recordings on small stores, and writes what is stored: lines of numbers, lengths and hashes, and public vectors of
 // FNV-1a. Commands: `n C M` a new store, `r LENGTH COUNT` Records with messages, `g K` a Record without one that skips K numbers,
 // `z` Reset, `p LAG` promotion, `l` a listing, `h N` last_outgoing, `f TEXT` the hash of a text. What it must write was made by
-// tests/store_vectors, which has the rules in Python.
+// tests/make/store_vectors.py, which has the rules in Python.
 ghost use Prim.Native.Nat.{_+_, _≤_, _<_};
 ghost use lib.ListN.{length};
 ghost use Rattle.store_areas.specs.Areas.{Rules};

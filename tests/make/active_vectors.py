@@ -5,49 +5,25 @@ Each store is filled in the Rust by frames of a call script (oracle/rust-calls, 
 series is asked of it. By rule, without the Rust: R 9 before a frame that is longer than the area lent first (a sending's first is held to
 the driver's answer), the second `done`, R 25 for areas, states and queues that break their rules.
 """
-import os, random, struct, subprocess, sys
+import random
 
-ROOT = os.path.join(os.path.dirname(os.path.abspath(__file__)), "..")
-TOP, LIMIT, SCRIPT = 2**64 - 1, 1048576, 65536
+import wire
+from wire import (
+    BATCH_LIMIT, RESET, TOP, fnv, joined, message, record, record_none, run, rust_calls, set_created_at, set_in_flight, set_marks, set_next_incoming,
+    set_next_incoming_in_flight, write,
+)
+
+SCRIPT_LIMIT = 65536
 WORDS, BYTES, OUT = 162, 2100224, 1100000
 EPOCH = 5
 
 
-def rust(lines):
-    run = subprocess.run([os.path.join(ROOT, "oracle", "rust-calls")], input="\n".join(lines) + "\n", capture_output=True, text=True)
-    if run.returncode:
-        sys.exit(run.stderr or f"oracle/rust-calls ended with {run.returncode}")
-    return run.stdout.split("\n")[:-1]
+def key_digits(name: bytes) -> str:
+    """A session's key as call scripts have it."""
+    return ",".join(text.hex() for text in (b"FIX.4.4", b"A", name, b""))
 
 
-def fnv(data):
-    h = 0xCBF29CE484222325
-    for b in data:
-        h = (h ^ b) * 0x100000001B3 % 2**64
-    return h
-
-
-def u32(n):
-    return struct.pack("<I", n)
-
-
-def u64(n):
-    return struct.pack("<Q", n)
-
-
-def blob(text):
-    return u32(len(text)) + text
-
-
-def frame(body):
-    return "F " + (u32(len(body)) + body).hex()
-
-
-def key(name):
-    return ",".join(t.hex() for t in (b"FIX.4.4", b"A", name, b""))
-
-
-def shown(line):
+def shown(line: str) -> str:
     """A line of the Rust's as the program writes it."""
     if len(line) <= 1024:
         return line
@@ -55,28 +31,35 @@ def shown(line):
     return f"{len(data)}:{fnv(data):016x}"
 
 
+# an answer of the Rust: `kind`, a frame of this kind; `send` and `short`, a sending and one into a short area; `first`, a sending's first frame; `rule`, none
+Read = tuple[str, str | int | None]
+
+
 class Store:
     """One store: the calls that fill it in the Rust, and how the Rust's answers become wanted lines."""
 
-    def __init__(self, places, cap, most):
+    def __init__(self, places: int, cap: int, most: int) -> None:
         self.fits = 66 + places * (16 + 2 * most) <= WORDS and places * (224 + cap) <= BYTES
-        self.calls, self.reads = [f"7 0 {cap} {most} {places} 64"], []
-        self.names, self.place, self.handle, self.commit, self.next, self.changes = [], 0, 0, 0, {}, []
-        self.ask(frame(b"\x01" + struct.pack("<H", 1) + u64(EPOCH) + blob(b"a") + u32(0)), "02")
+        self.calls = [f"7 0 {cap} {most} {places} 64"]
+        self.reads: list[Read] = []
+        self.names: list[bytes] = []
+        self.next: dict[bytes, int] = {}
+        self.changes: list[bytes] = []
+        self.place = self.handle = self.commit_no = 0
+        self.ask(wire.hello(epoch=EPOCH), "02")
 
-    def ask(self, call, kind):
-        self.calls.append(call)
+    def ask(self, frame: bytes, kind: str) -> None:
+        self.calls.append("F " + frame.hex())
         self.reads.append(("kind", kind))
 
-    def name(self):
+    def name(self) -> bytes:
         return self.names[self.place] if self.place < len(self.names) else b"nobody"
 
-    def bind(self):
-        self.handle, self.commit = self.handle + 1, 0
-        key_form = b"".join(blob(t) for t in (b"FIX.4.4", b"A", self.name(), b""))
-        self.ask(frame(b"\x03" + u32(self.handle) + u64(EPOCH) + u64(0) + key_form), "07")
+    def bind(self) -> None:
+        self.handle, self.commit_no = self.handle + 1, 0
+        self.ask(wire.bind(wire.key(target=self.name()), self.handle, EPOCH, 0), "07")
 
-    def open(self, name):
+    def open(self, name: bytes) -> None:
         self.settle()
         if name not in self.names:
             self.names.append(name)
@@ -84,52 +67,61 @@ class Store:
         self.place = self.names.index(name)
         self.bind()
 
-    def at(self, place):
+    def at(self, place: int) -> None:
         self.settle()
         self.place = place
         if place < len(self.names):
             self.bind()
 
-    def change(self, form):
+    def change(self, form: bytes) -> None:
         self.changes.append(form)
 
-    def record(self, text):
-        seq = self.next[self.name()]
-        self.change(b"\x04" + u64(seq) + blob(text))
+    def next_here(self) -> int:
+        """The next outgoing number of the session in hand."""
+        return self.next[self.name()]
+
+    def record(self, text: bytes) -> None:
+        seq = self.next_here()
+        self.change(record(seq, text))
         self.next[self.name()] = seq + 1
 
-    def settle(self):
+    def settle(self) -> None:
+        """The changes so far, as one Commit."""
         if self.changes:
-            self.commit += 1
-            body = b"\x04" + u32(self.handle) + u64(EPOCH) + u64(self.commit) + b"\x00" + u32(len(self.changes))
-            self.ask(frame(body + b"".join(self.changes) + u32(0)), "05")
+            self.commit_no += 1
+            self.ask(wire.batch(run(self.changes), handle=self.handle, epoch=EPOCH, commit_no=self.commit_no), "05")
             self.changes = []
 
-    def send(self, handle, epoch, last, short):
+    def send(self, handle: int, epoch: int, last: int, short: int | None = None) -> None:
+        """A whole sending; with `short` into an area of that length first, wherever a frame is longer."""
         self.settle()
         assert short is None or short < OUT
-        call = f"W {handle} {epoch} {last} {key(self.name())}"
+        call = f"W {handle} {epoch} {last} {key_digits(self.name())}"
         self.calls.append(call)
         self.reads.append(("send", short))
         if short is not None:
             self.calls.append(f"{call} {short}")
             self.reads.append(("short", short))
 
-    def odd(self, last, from_):
+    def odd(self, last: int, start: int) -> None:
+        """A sending's state that no beginning gave."""
         self.settle()
         if last == TOP or self.place >= len(self.names):
             self.reads.append(("rule", "R 25"))
             return
-        assert from_ == 0
-        self.calls.append(f"W 1 0 {last} {key(self.name())}")
+        assert start == 0
+        self.calls.append(f"W 1 0 {last} {key_digits(self.name())}")
         self.reads.append(("first", None))
 
-    def wanted(self):
+    def wanted(self) -> list[str]:
+        """What the program must write, by the Rust's answers to the calls."""
         if not self.fits:
             return ["R 25" for what, _ in self.reads if what in ("send", "first", "rule")]
-        answers, out, sent = rust(self.calls)[::-1], [], []
+        answers = rust_calls(self.calls)[::-1]
+        out: list[str] = []
+        sent: list[str] = []
 
-        def frames():
+        def frames() -> list[str]:
             got = [answers.pop()]
             while got[-1] != "done" and got[-1][0] != "R":
                 got.append(answers.pop())
@@ -140,13 +132,13 @@ class Store:
                 line = answers.pop()
                 assert line[8:10] == value, (self.calls[0], value, line)
             elif what == "rule":
-                out.append(value)
+                out.append(str(value))
             elif what == "first":
                 out.append(shown(frames()[0]))
             elif what == "send":
                 sent = frames()
                 for line in sent:
-                    if value is not None and line[0] != "R" and line != "done" and value < len(line) // 2:
+                    if isinstance(value, int) and line[0] != "R" and line != "done" and value < len(line) // 2:
                         out.append("R 9")
                     out.append(shown(line))
                 if sent[-1] == "done":
@@ -159,62 +151,66 @@ class Store:
         return out
 
 
-script, wanted, store = [], [], None
+script: list[str] = []
+wanted: list[str] = []
+store: Store | None = None
 
 
-def finish():
+def finish() -> None:
     if store:
         wanted.extend(store.wanted())
 
 
-def say(line):
+def say(line: str) -> None:
+    """A line of the script, done to the store in the Rust."""
     global store
     letter, text = line[0], line[2:].encode()
     script.append(f"{letter}:{line[2:]}" if letter in "otkm" else line.strip())
-    n = [int(w) for w in line[2:].split(" ")] if letter in "npibflgwvx" else []
+    numbers = [int(word) for word in line[2:].split(" ")] if letter in "npibflgwvx" else []
     if letter == "n":
         finish()
-        store = Store(*n)
-    elif letter == "o":
+        store = Store(*numbers)
+        return
+    assert store
+    if letter == "o":
         store.open(text)
     elif letter == "p":
-        store.at(n[0])
+        store.at(numbers[0])
     elif letter == "i":
-        store.change(b"\x01" + u64(n[0]))
+        store.change(set_next_incoming(numbers[0]))
     elif letter == "b":
-        store.change(b"\x02" + u64(n[0]) + u64(n[1]))
+        store.change(set_next_incoming_in_flight(*numbers))
     elif letter == "f":
-        store.change(b"\x03" + u64(n[0]))
+        store.change(set_in_flight(numbers[0]))
     elif letter == "m":
         store.record(text)
     elif letter == "l":
-        store.record(bytes((store.next[store.name()] + j) % 2**64 % 251 for j in range(n[0])))
+        store.record(message(store.next_here(), numbers[0]))
     elif letter == "g":
-        store.change(b"\x05" + u64(n[0]))
-        store.next[store.name()] = n[0] + 1
+        store.change(record_none(numbers[0]))
+        store.next[store.name()] = numbers[0] + 1
     elif letter == "z":
-        store.change(b"\x06")
+        store.change(RESET)
         store.next[store.name()] = 1
     elif letter == "t":
-        store.change(b"\x07" + blob(text))
+        store.change(set_created_at(text))
     elif letter == "k":
-        store.change(b"\x08" + blob(text))
-    elif letter == "w":
-        store.send(*n, None)
-    elif letter == "v":
-        store.send(*n)
+        store.change(set_marks(text))
+    elif letter == "w" or letter == "v":
+        store.send(*numbers)
     elif letter == "x":
-        store.odd(*n)
+        store.odd(*numbers)
 
 
-def small(*lines):
+def small(*lines: str) -> None:
     """A session at the second place of a store, whose first has another."""
     for line in ("n 2 200 16", "o other", "m other", "i 7", "k other", "o B", *lines):
         say(line)
     say("w 3 5 0")
 
 
-def large(*lines):
+def large(*lines: str) -> None:
+    """A session in a store for messages about the batch limit."""
     for line in ("n 1 2100000 16", "o B", *lines):
         say(line)
     say("w 1 0 0")
@@ -282,78 +278,79 @@ for line in ("n 3 0 8", "o A", "o B", "o C", "p 0", "w 3 5 0", "p 1", "g 4", "w 
     say(line)
 
 # at the batch limit, and one past it; by one message, by two, by sixteen; an empty one behind; the next batch's first gap
-large(f"l {LIMIT}")
-large(f"l {LIMIT}", "l 0", "l 1")
-large(f"l {LIMIT + 1}")
-large(f"l {LIMIT + 1}", "l 0", "l 1")
-large(f"l {LIMIT + 1}", "l 0")
-large(f"l {LIMIT - 1}", "l 1", "l 1", "l 1")
-large(f"l {LIMIT - 1}", "l 2", "l 1")
-large("l 0", f"l {LIMIT}", "l 0", "l 0", "l 1", "l 2")
-large(f"l {LIMIT // 2}", f"l {LIMIT // 2}", "l 7", "l 7")
-large(f"l {LIMIT // 2}", f"l {LIMIT // 2 + 1}", "l 7", "l 7")
+large(f"l {BATCH_LIMIT}")
+large(f"l {BATCH_LIMIT}", "l 0", "l 1")
+large(f"l {BATCH_LIMIT + 1}")
+large(f"l {BATCH_LIMIT + 1}", "l 0", "l 1")
+large(f"l {BATCH_LIMIT + 1}", "l 0")
+large(f"l {BATCH_LIMIT - 1}", "l 1", "l 1", "l 1")
+large(f"l {BATCH_LIMIT - 1}", "l 2", "l 1")
+large("l 0", f"l {BATCH_LIMIT}", "l 0", "l 0", "l 1", "l 2")
+large(f"l {BATCH_LIMIT // 2}", f"l {BATCH_LIMIT // 2}", "l 7", "l 7")
+large(f"l {BATCH_LIMIT // 2}", f"l {BATCH_LIMIT // 2 + 1}", "l 7", "l 7")
 large(*["l 65536"] * 16)
 large(*["l 65536"] * 15, "l 65537")
 large(*["l 65536"] * 14, "l 131073", "l 65536")
-large("t 20261115-12:00:00", "k marks", "b 9 0", "g 4", f"l {LIMIT + 1}", "g 10", "l 3", "g 20")
-large(f"l {LIMIT + 1}", "g 7")
+large("t 20261115-12:00:00", "k marks", "b 9 0", "g 4", f"l {BATCH_LIMIT + 1}", "g 10", "l 3", "g 20")
+large(f"l {BATCH_LIMIT + 1}", "g 7")
 # three batches, the middle one neither first nor last; one large message at the end of a full batch
-large(f"l {LIMIT + 1}", "g 3", f"l {LIMIT + 1}", "g 5", "l 1")
-large(f"l {LIMIT + 1}", f"l {LIMIT}", "l 0", "l 9")
+large(f"l {BATCH_LIMIT + 1}", "g 3", f"l {BATCH_LIMIT + 1}", "g 5", "l 1")
+large(f"l {BATCH_LIMIT + 1}", f"l {BATCH_LIMIT}", "l 0", "l 9")
 # two batches: commit numbers just enough, and one too few (24 before any frame); 9 for either frame
-for line in ("n 1 2100000 16", "o B", f"l {LIMIT + 1}", "l 3"):
+for line in ("n 1 2100000 16", "o B", f"l {BATCH_LIMIT + 1}", "l 3"):
     say(line)
-for line in (f"w 1 0 {TOP - 2}", f"w 1 0 {TOP - 1}", f"w 1 0 {TOP}", f"v 1 0 0 {LIMIT}", "v 1 0 0 0", "v 1 0 0 64", "v 1 0 0 63", f"v 1 0 0 {LIMIT + 44}", f"v 1 0 0 {LIMIT + 45}"):
+for line in (f"w 1 0 {TOP - 2}", f"w 1 0 {TOP - 1}", f"w 1 0 {TOP}", f"v 1 0 0 {BATCH_LIMIT}", "v 1 0 0 0", "v 1 0 0 64", "v 1 0 0 63", f"v 1 0 0 {BATCH_LIMIT + 44}", f"v 1 0 0 {BATCH_LIMIT + 45}"):
     say(line)
 
 # anything, in small stores
-r = random.Random(7)
+chance = random.Random(7)
 for _ in range(40):
-    cap, most = r.choice([0, 1, 5, 20, 200]), r.choice([0, 1, 2, 5, 16])
+    cap, most = chance.choice([0, 1, 5, 20, 200]), chance.choice([0, 1, 2, 5, 16])
     say(f"n 2 {cap} {most}")
     for name in "AB":
         say("o " + name)
-        for _ in range(r.randrange(12)):
-            kind = r.random()
+        for _ in range(chance.randrange(12)):
+            kind = chance.random()
             if kind < 0.5:
-                say(f"l {r.choice([0, 1, 2, cap, cap + 1, r.randrange(40)])}")
+                say(f"l {chance.choice([0, 1, 2, cap, cap + 1, chance.randrange(40)])}")
             elif kind < 0.7:
-                say(f"g {store.next[store.name()] + r.choice([0, 0, 1, 5, 1000])}")
+                assert store
+                say(f"g {store.next_here() + chance.choice([0, 0, 1, 5, 1000])}")
             elif kind < 0.75:
                 say("z ")
             elif kind < 0.8:
-                say("t " + r.choice(["20261115-12:00:00", "20261115-12:00:00.125"]))
+                say("t " + chance.choice(["20261115-12:00:00", "20261115-12:00:00.125"]))
             elif kind < 0.85:
-                say("k " + "k" * r.choice([0, 1, 63, 64]))
+                say("k " + "k" * chance.choice([0, 1, 63, 64]))
             elif kind < 0.9:
-                say(f"i {r.randrange(9)}")
+                say(f"i {chance.randrange(9)}")
             else:
-                say(r.choice([f"f {r.randrange(3)}", f"b {r.randrange(9)} {r.randrange(3)}"]))
+                say(chance.choice([f"f {chance.randrange(3)}", f"b {chance.randrange(9)} {chance.randrange(3)}"]))
     for place in (0, 1):
         say(f"p {place}")
-        say(r.choice([f"w {r.randrange(2**32)} {r.randrange(2**64)} {r.randrange(TOP)}", f"v 3 5 0 {r.randrange(200)}"]))
+        say(chance.choice([f"w {chance.randrange(2**32)} {chance.randrange(2**64)} {chance.randrange(TOP)}", f"v 3 5 0 {chance.randrange(200)}"]))
 finish()
 
 # ---- lag queues
 
-series, answers = [], []
+series: list[str] = []
+answers: list[str] = []
 
 
-def queue(line):
+def queue(line: str) -> None:
+    """A line of pushes: `Q` onto an empty queue, `q` onto one in which `waiting` zeros wait."""
     series.append(line)
-    letter, n = line[0], [int(w) for w in line[2:].split(" ")]
-    if letter == "Q":
-        answers.extend(rust(["7 0 0 0 0 0", line]))
+    if line[0] == "Q":
+        answers.extend(rust_calls(["7 0 0 0 0 0", line]))
         return
-    max_lag, drained, count, lasts = n[0], n[1], n[2], n[3:]
-    if count > 64:
+    max_lag, drained, waiting, *lasts = map(int, line[2:].split(" "))
+    if waiting > 64:
         answers.extend(["R 25"] * len(lasts))
         return
-    words = [max_lag, drained, *[0] * count, *lasts]
-    answers.extend(rust(["7 0 0 0 0 0", "Q " + " ".join(map(str, words))])[count:])
+    answers.extend(rust_calls(["7 0 0 0 0 0", "Q " + spaced(max_lag, drained, *[0] * waiting, *lasts)])[waiting:])
 
 
-def row(*numbers):
+def spaced(*numbers: int) -> str:
     return " ".join(map(str, numbers))
 
 
@@ -365,9 +362,9 @@ for line in ("3 5 5 5 5 4 9 1 8", "2 100 1 2 3 50 101 102 103", "5 9 3 2 1 0 14 
     queue("Q " + line)
 # 64 wait, the 65th sends the oldest; also with a lag within max_lag, and where both hold
 for max_lag, first, last in ((1000, 0, 69), (TOP, 1, 66), (64, 1, 70), (63, 1, 66), (65, 1, 70), (5, 0, 69)):
-    queue(f"Q {max_lag} 0 {row(*range(first, last + 1))}")
-queue("Q 1000 0 " + row(*[0] * 67))
-queue("Q 0 7 " + row(*[7] * 66))
+    queue(f"Q {max_lag} 0 {spaced(*range(first, last + 1))}")
+queue("Q 1000 0 " + spaced(*[0] * 67))
+queue("Q 0 7 " + spaced(*[7] * 66))
 # the ends of the numbers
 for line in (
     f"{TOP} 0 {TOP} 0 {TOP}",
@@ -383,16 +380,16 @@ for line in ("2 0 0 1 2 3", "9 0 1 4 10", "9 0 63 4 5 6", "9 0 64 4 5 6", "2 5 6
     queue("q " + line)
 # anything
 for _ in range(60):
-    max_lag, drained = r.choice([0, 1, 2, 3, 5, 10, 30, TOP]), r.randrange(12)
-    lasts, at = [], drained
-    for _ in range(r.randrange(1, 12)):
-        at = max(0, at + r.choice([-3, 0, 1, 1, 1, 2, 3, 7]))
+    max_lag, drained = chance.choice([0, 1, 2, 3, 5, 10, 30, TOP]), chance.randrange(12)
+    lasts: list[int] = []
+    at = drained
+    for _ in range(chance.randrange(1, 12)):
+        at = max(0, at + chance.choice([-3, 0, 1, 1, 1, 2, 3, 7]))
         lasts.append(at)
-    queue(f"Q {max_lag} {drained} {row(*lasts)}")
+    queue(f"Q {max_lag} {drained} {spaced(*lasts)}")
 
-for crate, lines, out in (("vectors_active", script, wanted), ("vectors_lag", series, answers)):
-    for name, text in (("stdin", lines), ("stdout", out)):
-        data = "\n".join(text) + "\n"
-        assert name == "stdout" or len(data) < SCRIPT, crate
-        with open(os.path.join(ROOT, "crates", crate, name), "w") as f:
-            f.write(data)
+assert all(len(joined(lines)) < SCRIPT_LIMIT for lines in (script, series))
+write("crates/vectors_active/stdin", joined(script))
+write("crates/vectors_active/stdout", joined(wanted))
+write("crates/vectors_lag/stdin", joined(series))
+write("crates/vectors_lag/stdout", joined(answers))

@@ -1,7 +1,7 @@
 #!/usr/bin/env bash
-# Runs bin/frames on every recorded list of lines, each with a new program, and compares with what the Rust answered; tests/frames_answers made those in tests/frames.
+# Runs bin/frames on every recorded list of lines, each with a new program, and compares with what the Rust answered; tests/make/frames_answers.py made those in tests/frames.
 set -eu
-root=$(cd "$(dirname "$0")/.." && pwd)
+root=$(dirname "$(dirname "$(readlink -f "$0")")")
 lists=0
 failed=0
 for list in "$root"/oracle/recorded/frames/*.in "$root"/tests/frames/*.in; do

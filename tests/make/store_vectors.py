@@ -3,75 +3,75 @@
 
 The store here is a list, and eviction is written as the paper has it; FNV-1a's vectors are those of draft-eastlake-fnv.
 """
-import os, random
+import random
 
-PRIME, START, TOP = 0x100000001B3, 0xCBF29CE484222325, 2**64 - 1
-
-
-def fnv(data, h=START):
-    for b in data:
-        h = (h ^ b) * PRIME % 2**64
-    return h
+from wire import FNV_START, TOP, fnv, joined, message, u64, write
 
 
 class Session:
-    def __init__(self, cap, most):
+    """A stored session that keeps `cap` bytes and `most` messages."""
+
+    def __init__(self, cap: int, most: int) -> None:
         self.cap, self.most = cap, most
         self.reset()
 
-    def reset(self):
-        self.next, self.messages = 1, []
+    def reset(self) -> None:
+        self.next: int = 1
+        self.messages: list[tuple[int, bytes]] = []
 
-    def record(self, text):
+    def record(self, text: bytes) -> None:
         number, self.next = self.next, self.next + 1
         if len(text) > self.cap or self.most == 0:
             return
-        while sum(len(t) for _, t in self.messages) + len(text) > self.cap or len(self.messages) + 1 > self.most:
+        while sum(len(kept) for _, kept in self.messages) + len(text) > self.cap or len(self.messages) + 1 > self.most:
             self.messages.pop(0)
         self.messages.append((number, text))
 
-    def last_outgoing(self, n):
-        if n == 0 or self.next == 1:
+    def last_outgoing(self, count: int) -> int:
+        if count == 0 or self.next == 1:
             return 0
-        low, h = max(self.next - n, 1), START
+        low, value = max(self.next - count, 1), FNV_START
         for number, text in self.messages:
             if number >= low:
-                h = fnv(number.to_bytes(8, "little") + len(text).to_bytes(8, "little") + text, h)
-        return h
+                value = fnv(u64(number) + u64(len(text)) + text, value)
+        return value
 
-    def listing(self):
-        return f"{self.next}:" + "".join(f" {n}/{len(t)}/{fnv(t):016x}" for n, t in self.messages)
-
-
-script, wanted, session = [], [], None
+    def listing(self) -> str:
+        return f"{self.next}:" + "".join(f" {number}/{len(text)}/{fnv(text):016x}" for number, text in self.messages)
 
 
-def say(line):
+script: list[str] = []
+wanted: list[str] = []
+session = Session(0, 0)
+
+
+def say(line: str) -> None:
+    """A line of the script, done to the session here as the program does it."""
     global session
     script.append(line)
-    word = line.split(" ")
-    a = int(word[1]) if len(word) > 1 and line[0] != "f" else 0
-    b = int(word[2]) if len(word) > 2 and line[0] != "f" else 0
-    if line[0] == "n":
-        session = Session(a, b)
-    elif line[0] == "r":
-        for _ in range(b):
-            session.record(bytes((session.next + j) % 2**64 % 251 for j in range(a)))
-    elif line[0] == "g":
-        session.next += a + 1
-    elif line[0] == "z":
+    letter = line[0]
+    first, second = ([int(word) for word in line.split(" ")[1:]] + [0, 0])[:2] if letter != "f" else (0, 0)
+    if letter == "n":
+        session = Session(first, second)
+    elif letter == "r":
+        for _ in range(second):
+            session.record(message(session.next, first))
+    elif letter == "g":
+        session.next += first + 1
+    elif letter == "z":
         session.reset()
-    elif line[0] == "p":
-        session.next = min(session.next + a, TOP)
-    elif line[0] == "l":
+    elif letter == "p":
+        session.next = min(session.next + first, TOP)
+    elif letter == "l":
         wanted.append(session.listing())
-    elif line[0] == "h":
-        wanted.append(f"{session.last_outgoing(a):016x}")
-    elif line[0] == "f":
+    elif letter == "h":
+        wanted.append(f"{session.last_outgoing(first):016x}")
+    elif letter == "f":
         wanted.append(f"{fnv(line[2:].encode()):016x}")
 
 
-def shown(*lines):
+def shown(*lines: str) -> None:
+    """Each line, and the listing after it."""
     for line in lines:
         say(line)
         say("l")
@@ -131,32 +131,29 @@ for shape in ("9 3", "64 16", "4 1"):
 # promotion and skipped numbers between messages
 say("n 20 4")
 shown("r 5 2", "p 10", "r 5 1", "g 3", "r 5 1", "p 1", "r 5 1", "r 20 1", "p 7", "r 0 3")
-for n in (0, 1, 2, 3, 10, 11, 50):
-    say(f"h {n}")
+for count in (0, 1, 2, 3, 10, 11, 50):
+    say(f"h {count}")
 say("z")
 say("h 9")
 
 # anything, in small stores
-r = random.Random(5)
+chance = random.Random(5)
 for _ in range(24):
-    cap, most = r.choice([0, 1, 2, 3, 5, 8, 13, 33, 64]), r.choice([0, 1, 2, 3, 4, 7, 16])
+    cap, most = chance.choice([0, 1, 2, 3, 5, 8, 13, 33, 64]), chance.choice([0, 1, 2, 3, 4, 7, 16])
     say(f"n {cap} {most}")
     for _ in range(14):
-        kind = r.random()
+        kind = chance.random()
         if kind < 0.72:
-            length = r.choice([0, 1, 2, 3, cap, cap + 1, max(cap - 1, 0), r.randrange(0, 70)])
-            say(f"r {min(length, 80)} {r.choice([1, 1, 1, 2, 5])}")
+            length = chance.choice([0, 1, 2, 3, cap, cap + 1, max(cap - 1, 0), chance.randrange(0, 70)])
+            say(f"r {min(length, 80)} {chance.choice([1, 1, 1, 2, 5])}")
         elif kind < 0.86:
-            say(f"g {r.randrange(4)}")
+            say(f"g {chance.randrange(4)}")
         elif kind < 0.93:
-            say(f"p {r.randrange(5)}")
+            say(f"p {chance.randrange(5)}")
         else:
             say("z")
         say("l")
-    say(f"h {r.randrange(12)}")
+    say(f"h {chance.randrange(12)}")
 
-here = os.path.join(os.path.dirname(os.path.abspath(__file__)), "..", "crates", "vectors_store")
-with open(os.path.join(here, "stdin"), "w") as f:
-    f.write("\n".join(script) + "\n")
-with open(os.path.join(here, "stdout"), "w") as f:
-    f.write("\n".join(wanted) + "\n")
+write("crates/vectors_store/stdin", joined(script))
+write("crates/vectors_store/stdout", joined(wanted))
