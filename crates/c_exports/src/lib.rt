@@ -1,4 +1,4 @@
-// The boundary for programs in C or Rust (oracle/README.md has the signatures and what is returned). Nothing is asked of a caller.
+// The boundary for programs in C or Rust (docs/ENTRY_POINTS.md has the signatures and what is returned). Nothing is asked of a caller.
 ghost use mathlib.Core.Path.{_≡_};
 ghost use mathlib.Core.Bool.{cond};
 ghost use Prim.Native.Nat.{_+_, _*_, _<_, _≤_};
