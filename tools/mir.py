@@ -63,8 +63,10 @@ def statements(b: Term) -> list[Term]:
     return [b] if b[0] != 'seq' else statements(b[1]) + statements(b[2])
 
 
-text = subprocess.run(['rt', 'mir', crate], capture_output=True, text=True, cwd=ROOT).stdout
-text = next(l for l in text.split('\n') if l.startswith('program'))
+printed = subprocess.run(['rt', 'mir', crate], capture_output=True, text=True, cwd=ROOT)
+text = next((line for line in printed.stdout.split('\n') if line.startswith('program')), '')
+if not text:
+    sys.exit(f'rt mir {crate} printed no program:\n{printed.stderr}')
 mir = {f[1]: f[2] for f in items(sexp(text)[1])}
 _, lifetimes, _, count, locs, body = mir[f'{crate}::{fn}']
 types = [l[1] for l in items(locs)]
