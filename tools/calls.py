@@ -61,7 +61,7 @@ use denote.Triple.Spec.{tripleOf}
 use denote.Triple.Statement.{Contract, Triple}
 use denote.Triple.Clauses.{ensured, lasts}
 use Rattle.standby_row.specs.declared.Handle.{Handle}
-use Rattle.standby_row.specs.Row.{none, findOf, freeFor, brokenOf, clearedFrom, clearedAll, seenOf}
+use Rattle.standby_row.specs.Row.{freeRecord, findOf, freeFor, brokenOf, clearedFrom, clearedAll, seenOf}
 use Rattle.standby_row.proofs.Lent.{at, Shared, Unique, calls-shared, calls-unique, told-shared, told-unique}
 use Rattle.standby_row.proofs.Rows.{R, vals, val, tells, makes}
 use Rattle.standby_row.proofs.Records.{R-Seen, val-Seen, vals-Seen, tells-Seen}
@@ -96,7 +96,7 @@ def rule(f: str, nums: Numbers, record: bool, gives: str | None, mutable: bool) 
         elif gives:
             q, vs, tl, g, v = 'usize', '(uint-vals w64)', '(uint-tells w64)', f'({gives})', f'(vint w64 ({gives}))'
         else:
-            q, vs, tl, g, v = 'R', 'vals', 'tells', '(getD ys i none)', '(val (getD ys i none))'
+            q, vs, tl, g, v = 'R', 'vals', 'tells', '(getD ys i freeRecord)', '(val (getD ys i freeRecord))'
         after, phi, then, go = 'ys', f'Is {q} {g} ({vs.strip("()")} {g})', '', 'go'
         then = f'{phi} → '
         post = f'sep 𝓤 (A .lft (α ∷ []) fullShare) (fact 𝓤 ((w ≡ {v[1:-1]}) × {phi}))'

@@ -201,7 +201,7 @@ if row:
 context.keeps(opened + [p.item for p in plains] + [y for j in reversed(range(local_count)) for y in (local(j), freed(j))])
 
 # ---- the statements
-READS = {'find': 'findOf {r} {0}', 'find_free': 'freeFor {r} {0} {1}', 'find_broken': 'brokenOf {r} {0} {1}', 'get_or': 'getD {r} {0} none', 'look': 'seenOf {r} {0} {1} {2}'}
+READS = {'find': 'findOf {r} {0}', 'find_free': 'freeFor {r} {0} {1}', 'find_broken': 'brokenOf {r} {0} {1}', 'get_or': 'getD {r} {0} freeRecord', 'look': 'seenOf {r} {0} {1} {2}'}
 WRITES = {'put_if': ('set {r} {0} {1}', 'length-set {r} {0} {1}'), 'clear_from': ('clearedFrom {0} {r}', 'cleared-length {0} {r}'), 'clear': ('clearedAll {r}', 'cleared-length 0 {r}'),
           'act': ('clearedFrom {1} (set {r} {0} {2})', 'cleared-length {1} (set {r} {0} {2}) ∙ length-set {r} {0} {2}')}
 the_core, was_core, made_facts = None, False, []

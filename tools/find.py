@@ -90,7 +90,7 @@ use denote.Triple.Walked.{{says, Stays, stay-dropped, walkOf, Walks, ends-at, wa
 use denote.Exit.{{yes}}
 use borrow.Author.Tests.{{ltb-true, ltb-false}}
 use Rattle.standby_row.specs.declared.Handle.{{Handle}}
-use Rattle.standby_row.specs.Row.{{none, {said.split()[0]}, firstOf}}
+use Rattle.standby_row.specs.Row.{{freeRecord, {said.split()[0]}, firstOf}}
 use Rattle.standby_row.proofs.Handle as T
 use Rattle.standby_row.proofs.Handle.Laws as T′
 use Rattle.standby_row.proofs.Lists.{{Sought, starts, goes-on, found, over}}
@@ -215,11 +215,11 @@ module _ {{M : Type 1}} (𝓤 : URA M) (H : Heap 𝓤) (A : Atoms 𝓤) (W : Giv
         {w.less(L, I, M)} {w.test(L, 'e')}
         stays ! {w.load(L)} $
         {w.place(M, P, I, 1, '(i .0)', 'product-fits n (i .0) room less', again=True)}
-        elem-out ! R (Is R) (shows 𝓤 H A R) vals tells q′ ys (i .0) none b o less (λ is-h.
+        elem-out ! R (Is R) (shows 𝓤 H A R) vals tells q′ ys (i .0) freeRecord b o less (λ is-h.
         -- [row[i]; what it owns; the others; the open borrow; the fractured borrow; res; the locals]: all else is two further
         assigns ! (of-opd ! (load ! (from ! (hop ! (look ! {w.at(P, 6)} refl) (stop !))) (look-raw ! 0 refl))) {w.init(E, '(LL.lawful T.the-type T′.the-laws 𝓤 H A W .typed h (vals h) is-h .0)', 6)}
         assigns ! (of-opd ! {w.load(E, 6)}) {w.init(Hh, '(LL.lawful T.the-type T′.the-laws 𝓤 H A W .typed h (vals h) is-h .0)', 6)}
-        elem-back ! R q′ ys (i .0) none (vals h) b o less $
+        elem-back ! R q′ ys (i .0) freeRecord (vals h) b o less $
         -- the test
         use0 W (raw (Test 𝓤 H A memory run .pre (to h))) (goes h is-h) $
         calls-at ! fm (Test 𝓤 H A memory run) known (to h) {w.opds(*([w.load(Hh, 5)] + [w.load(2 + j, 5) for j in range(X)]))} (λ v.
@@ -242,7 +242,7 @@ module _ {{M : Type 1}} (𝓤 : URA M) (H : Heap 𝓤) (A : Atoms 𝓤) (W : Giv
         less = ltb-true (i .0) n e
 
         h : Handle
-        h = getD ys (i .0) none
+        h = getD ys (i .0) freeRecord
 
         next : {p} h ≡ false → Upto
         next no′ = (i .0 + 1, (add-one-le less, goes-on {pa} ys (i .0) less (i .1 .1) no′))

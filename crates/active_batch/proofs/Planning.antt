@@ -13,13 +13,13 @@ use Rattle.model_session.specs.Session.{Session, Msg, Rising}
 use Rattle.model_session.specs.Summary.{numberedFrom}
 use Rattle.model_session.specs.Sender.{opening, cutBatch, cutFrom, messagesFrom}
 use Rattle.store_log.specs.Log.{logOf, restOf, From}
-use Rattle.active_messages.specs.Cut.{taken, ends, goesFrom, Measured}
+use Rattle.active_messages.specs.Cut.{taken, closingAfter, goesFrom, Measured}
 use Rattle.active_messages.proofs.Counting.{rest-length}
 use Rattle.active_messages.proofs.Cutting.{cut-is, from-same}
 use Rattle.active_header.specs.declared.Header.{Header}
 use Rattle.active_batch.specs.declared.Plan.{Plan}
 use Rattle.active_header.specs.Ends.{Spans, openingOf, endingOf}
-use Rattle.active_batch.specs.Batch.{sessionWith, changesOf, Planned, onward}
+use Rattle.active_batch.specs.Batch.{sessionWith, plannedChanges, Planned, resumeFrom}
 
 empty-is : (n : ℕ) (ms : List Msg) → length ms ≡ n → eqb n 0 ≡ isEmpty ms
 empty-is n [] e = eq-eqb n 0 (sym e)
@@ -61,16 +61,16 @@ module _ (limit C M : ℕ) (h : Header) (log ring : List ℕ) (from : ℕ) where
     open-is zero = refl
     open-is (suc n) = refl
 
-    end-is : (next : ℕ) (ms : List Msg) → ends a next ms ≡ endingOf h marks (isEmpty ms) next
+    end-is : (next : ℕ) (ms : List Msg) → closingAfter a next ms ≡ endingOf h marks (isEmpty ms) next
     end-is next [] = refl
     end-is next (m ∷ ms) = refl
 
-    goes-is : (next : ℕ) (ms : List Msg) → goesFrom next ms ≡ onward next (isEmpty ms)
+    goes-is : (next : ℕ) (ms : List Msg) → goesFrom next ms ≡ resumeFrom next (isEmpty ms)
     goes-is next [] = refl
     goes-is next (m ∷ ms) = refl
 
     pub cut-planned : (p : Plan) → Rising 1 (h .«next_outgoing») (logOf C M (h .«next_outgoing») log ring) → Planned limit C M h log ring from p
-        → cutFrom limit a from ≡ record { changes = changesOf limit C M h log ring stamp marks from p; goesOn = onward (p .goes) (p .last) }
+        → cutFrom limit a from ≡ record { changes = plannedChanges limit C M h log ring stamp marks from p; goesOn = resumeFrom (p .goes) (p .last) }
     cut-planned p r q =
         let ms : List Msg = restOf C M (h .«next_outgoing») log ring (p .left) in
         let e : messagesFrom (max from 1) (a .messages) ≡ ms = from-same (max from 1) 1 (h .«next_outgoing») (a .messages) r ∙ sym (q .starts) in

@@ -9,7 +9,7 @@ use Rattle.model_frame.specs.Bytes.{write}
 use Rattle.model_frame.specs.Frame.{Change, reset, Part, Frame, batch}
 use Rattle.model_frame.specs.Writing.{encode}
 use Rattle.model_session.specs.Session.{Session, Msg, Rising}
-use Rattle.model_session.specs.Sender.{Cut, partOf, cutFrom}
+use Rattle.model_session.specs.Sender.{Cut, sentPart, cutFrom}
 use Rattle.model_session.specs.Summary.{numberedFrom}
 use Rattle.model_session.specs.Whole.{stampPart, wholeBatches}
 use Rattle.store_log.specs.Log.{logOf}
@@ -23,11 +23,11 @@ use Rattle.active_header.specs.declared.Header.{Header}
 use Rattle.active_batch.specs.declared.Plan.{Plan}
 use Rattle.active_batch.specs.declared.Written.the-variants.{Batch, TooShort}
 use Rattle.active_header.specs.Ends.{Heads}
-use Rattle.active_batch.specs.Batch.{sessionWith, changesOf, Planned, partIs, frameFrom, onward, WroteBatch}
+use Rattle.active_batch.specs.Batch.{sessionWith, plannedChanges, Planned, partIs, frameFrom, resumeFrom, WroteBatch}
 use Rattle.active_batch.proofs.Planning.{cut-planned}
 use Rattle.active_batch.proofs.Framing.{frame-length}
 
-part-is : (n : ℕ) (last : Bool) → partOf (onward n last) ≡ partIs last
+part-is : (n : ℕ) (last : Bool) → sentPart (resumeFrom n last) ≡ partIs last
 part-is n true = refl
 part-is n false = refl
 
@@ -80,17 +80,17 @@ module _ (limit C M : ℕ) (w b : List ℕ) (lb : length b ≡ 224 + C) (hd : He
 
   module _ (small : Small 256 b) (h e n from : ℕ) (p : Plan) (q : Planned limit (length ring) M hd logs ring from p) where
     abbrev changes : List Change
-    changes = changesOf limit (length ring) M hd logs ring stamp marks from p
+    changes = plannedChanges limit (length ring) M hd logs ring stamp marks from p
 
     rises : Rising 1 (hd .«next_outgoing») messages
     rises = lawful (length ring) M (hd .«next_outgoing») logs ring (small-take (length b - 224) (drop 224 b) (omega arith) (small-drop 224 b small)) .rising
 
-    cut-at : cutFrom limit (sessionOf C M w b) from ≡ record { changes = changes; goesOn = onward (p .goes) (p .last) }
+    cut-at : cutFrom limit (sessionOf C M w b) from ≡ record { changes = changes; goesOn = resumeFrom (p .goes) (p .last) }
     cut-at = ap (λ (a : Session). cutFrom limit a from) session-is ∙ cut-planned limit (length ring) M hd logs ring from stamp marks p rises q
 
     pub frame-is : frameFrom limit (sessionOf C M w b) h e n from ≡ batch h e n (partIs (p .last)) changes []
     unfolding frameFrom
-    frame-is = ap (λ (k : Cut). batch h e n (partOf (k .goesOn)) (k .changes) []) cut-at ∙ ap (λ (x : Part). batch h e n x changes []) (part-is (p .goes) (p .last))
+    frame-is = ap (λ (k : Cut). batch h e n (sentPart (k .goesOn)) (k .changes) []) cut-at ∙ ap (λ (x : Part). batch h e n x changes []) (part-is (p .goes) (p .last))
 
     long : length (encode (frameFrom limit (sessionOf C M w b) h e n from)) ≡ 34 + p .size
     long = ap (λ (f : Frame). length (encode f)) frame-is ∙ frame-length h e n (partIs (p .last)) changes (q .spans stamp marks stamp-length marks-length)

@@ -11,9 +11,9 @@ use Rattle.model_frame.specs.Frame.{Change, Part, whole, lastWhole, Frame, batc
 use Rattle.model_frame.specs.Parse.{isEmpty}
 use Rattle.model_frame.specs.Writing.{encode}
 use Rattle.model_session.specs.Session.{Session, Msg}
-use Rattle.model_session.specs.Sender.{partOf, cutFrom}
+use Rattle.model_session.specs.Sender.{sentPart, cutFrom}
 use Rattle.model_session.specs.Summary.{numberedFrom}
-use Rattle.store_log.specs.Log.{logOf, restOf, Stands}
+use Rattle.store_log.specs.Log.{logOf, restOf, Position}
 use Rattle.store_place.specs.Place.{flightIs}
 use Rattle.active_messages.specs.Cut.{taken, leftOver, nextAfter}
 use Rattle.active_header.specs.declared.Header.{Header}
@@ -36,16 +36,16 @@ sessionWith h stamp marks ms =
 
 module _ (limit C M : ℕ) (h : Header) (log ring : List ℕ) where
   -- the changes of a batch that goes by a plan
-  abbrev pub changesOf : List ℕ → List ℕ → ℕ → Plan → List Change
-  changesOf stamp marks from p = openingOf stamp from ++ (taken limit 0 (p .next) (restOf C M (h .«next_outgoing») log ring (p .left)) ++ endingOf h marks (p .last) (p .goes))
+  abbrev pub plannedChanges : List ℕ → List ℕ → ℕ → Plan → List Change
+  plannedChanges stamp marks from p = openingOf stamp from ++ (taken limit 0 (p .next) (restOf C M (h .«next_outgoing») log ring (p .left)) ++ endingOf h marks (p .last) (p .goes))
 
   pub record Planned (from : ℕ) (p : Plan) : Type 0 where
-    pub stands : Stands C M (h .«next_outgoing») log ring (p .left) (p .dist)
+    pub stands : Position C M (h .«next_outgoing») log ring (p .left) (p .dist)
     pub starts : restOf C M (h .«next_outgoing») log ring (p .left) ≡ numberedFrom (max from 1) (logOf C M (h .«next_outgoing») log ring)
     pub begins : p .next ≡ max from 1
     pub goes-on : p .goes ≡ nextAfter limit 0 (p .next) (restOf C M (h .«next_outgoing») log ring (p .left))
     pub is-last : p .last ≡ isEmpty (leftOver limit 0 (restOf C M (h .«next_outgoing») log ring (p .left)))
-    pub spans : (stamp marks : List ℕ) → length stamp ≡ h .stamp → length marks ≡ h .marks → Spans (changesOf stamp marks from p) (p .count) (p .size)
+    pub spans : (stamp marks : List ℕ) → length stamp ≡ h .stamp → length marks ≡ h .marks → Spans (plannedChanges stamp marks from p) (p .count) (p .size)
     pub few : p .count ≤ 131077
     pub small : p .size ≤ 34996357
 
@@ -59,14 +59,14 @@ partIs false = whole
 
 -- the frame that carries the batch from a number on
 unfoldable pub frameFrom : ℕ → Session → ℕ → ℕ → ℕ → ℕ → Frame
-frameFrom limit a h e n from = batch h e n (partOf (cutFrom limit a from .goesOn)) (cutFrom limit a from .changes) []
+frameFrom limit a h e n from = batch h e n (sentPart (cutFrom limit a from .goesOn)) (cutFrom limit a from .changes) []
 
 -- where sending goes on, in the code's terms
-abbrev pub onward : ℕ → Bool → Option ℕ
-onward from done = cond done none (some from)
+abbrev pub resumeFrom : ℕ → Bool → Option ℕ
+resumeFrom from done = cond done none (some from)
 
 -- what is answered, and what stands in the lent area: the frame at its start and the rest as it was, or 9 and all as it was
 abbrev pub WroteBatch : ℕ → Session → ℕ → ℕ → ℕ → ℕ → List ℕ → List ℕ → Written → Type 0
 WroteBatch limit a h e n from out out' (Batch len next done) =
-    (len ≡ length (encode (frameFrom limit a h e n from))) × (len ≤ length out) × (out' ≡ write out 0 (encode (frameFrom limit a h e n from))) × (cutFrom limit a from .goesOn ≡ onward next done)
+    (len ≡ length (encode (frameFrom limit a h e n from))) × (len ≤ length out) × (out' ≡ write out 0 (encode (frameFrom limit a h e n from))) × (cutFrom limit a from .goesOn ≡ resumeFrom next done)
 WroteBatch limit a h e n from out out' TooShort = (suc (length out) ≤ length (encode (frameFrom limit a h e n from))) × (out' ≡ out)

@@ -9,9 +9,9 @@ ghost use Rattle.model_frame.specs.Parse.{runBytes};
 ghost use Rattle.model_frame.specs.Writing.{changeBytes, sizes, partNumber, encode};
 ghost use Rattle.model_session.specs.Whole.{wholeBatches};
 ghost use Rattle.base_laws.specs.Wrote.{Wrote};
-ghost use Rattle.store_log.specs.Log.{Stands};
+ghost use Rattle.store_log.specs.Log.{Position};
 ghost use Rattle.store_place.specs.Place.{sessionOf};
-ghost use Rattle.active_batch.specs.Batch.{changesOf, Planned, headBytes, partIs, WroteBatch};
+ghost use Rattle.active_batch.specs.Batch.{plannedChanges, Planned, headBytes, partIs, WroteBatch};
 use active_header::Header;
 use frame::CommitNumber;
 use frame::Epoch;
@@ -104,9 +104,9 @@ fn put_changes(
     requires { ⌜ length (now bytes) ≤ 33554432 ⌝ }
     requires { ⌜ length (now stamp) ≤ 32 ⌝ }
     requires { ⌜ length (now marks) ≤ 64 ⌝ }
-    requires { ⌜ Stands (length (now bytes)) max (h .«next_outgoing») (now words) (now bytes) (p .left) (p .dist) ⌝ }
-    requires { ⌜ at + sizes (changesOf limit (length (now bytes)) max h (now words) (now bytes) (now stamp) (now marks) from p) ≤ length (now out) ⌝ }
-    ensures { λ r. ⌜ Wrote (now (out .entry)) at (runBytes changeBytes (changesOf limit (length (now (bytes .entry))) max h (now (words .entry)) (now (bytes .entry)) (now (stamp .entry)) (now (marks .entry)) from p)) (now (out .exit)) r ⌝ }
+    requires { ⌜ Position (length (now bytes)) max (h .«next_outgoing») (now words) (now bytes) (p .left) (p .dist) ⌝ }
+    requires { ⌜ at + sizes (plannedChanges limit (length (now bytes)) max h (now words) (now bytes) (now stamp) (now marks) from p) ≤ length (now out) ⌝ }
+    ensures { λ r. ⌜ Wrote (now (out .entry)) at (runBytes changeBytes (plannedChanges limit (length (now (bytes .entry))) max h (now (words .entry)) (now (bytes .entry)) (now (stamp .entry)) (now (marks .entry)) from p)) (now (out .exit)) r ⌝ }
 {
     let opened = active_header::put_opening(stamp, from, out, at);
     let pos = active_messages::put_messages(
@@ -182,7 +182,7 @@ fn put_frame(
     requires { ⌜ h .marks ≤ 64 ⌝ }
     requires { ⌜ Planned limit (length (now bytes)) max h (now words) (now bytes) from p ⌝ }
     requires { ⌜ 34 + p .size ≤ length (now out) ⌝ }
-    ensures { λ _. ⌜ now (out .exit) ≡ write (now (out .entry)) 0 (encode (batch handle (epoch .0) (number .0) (partIs (p .last)) (changesOf limit (length (now (bytes .entry))) max h (now (words .entry)) (now (bytes .entry)) (now (stamp .entry)) (now (marks .entry)) from p) [])) ⌝ }
+    ensures { λ _. ⌜ now (out .exit) ≡ write (now (out .entry)) 0 (encode (batch handle (epoch .0) (number .0) (partIs (p .last)) (plannedChanges limit (length (now (bytes .entry))) max h (now (words .entry)) (now (bytes .entry)) (now (stamp .entry)) (now (marks .entry)) from p) [])) ⌝ }
 {
     put_head(p.size, handle, epoch, number, p.last, p.count, out);
     let pos = put_changes(h, stamp, marks, words, bytes, max, from, limit, p, out, 30);

@@ -9,14 +9,14 @@ use Rattle.model_frame.specs.Writing.{sizes}
 use Rattle.model_session.specs.Whole.{stampPart, skipTo, incomingPart}
 use Rattle.store_place.specs.PlaceByte
 use Rattle.store_place.specs.PlaceWord
-use Rattle.store_place.specs.Place.{nextOutOf, flightOf, stampOf, marksOf, flightIs}
+use Rattle.store_place.specs.Place.{nextOutOf, storedFlight, stampOf, marksOf, flightIs}
 use Rattle.active_header.specs.declared.Header.{Header}
 
 -- a header is that of a place
 pub record Heads (w b : List ℕ) (h : Header) : Type 0 where
   pub outgoing : h .«next_outgoing» ≡ nextOutOf w
   pub incoming : h .«next_incoming» ≡ getD w PlaceWord.nextIn 0
-  pub flight : flightIs (h .«in_flight») ≡ flightOf w
+  pub flight : flightIs (h .«in_flight») ≡ storedFlight w
   pub stamp-is : take (h .stamp) (drop PlaceByte.stamp b) ≡ stampOf w b
   pub stamp-most : h .stamp ≤ PlaceByte.stampSize
   pub marks-is : take (h .marks) (drop PlaceByte.marks b) ≡ marksOf w b

@@ -11,9 +11,9 @@ use lib.Dec.{ltb}
 use borrow.Author.Tests.{le-ltb}
 use Rattle.model_frame.specs.Frame.{Change}
 use Rattle.model_session.specs.Session.{Session, Msg}
-use Rattle.model_session.specs.Whole.{sendMsg, stands, batchesFrom}
+use Rattle.model_session.specs.Whole.{sendMsg, batchIf, batchesFrom}
 use Rattle.model_session.specs.Summary.{numberedFrom}
-use Rattle.store_log.specs.Log.{newestFirst, logOf, restOf, Stands, From}
+use Rattle.store_log.specs.Log.{newestFirst, logOf, restOf, Position, From}
 use Rattle.active_messages.specs.Cut.{leftOver, batchCount, Measured}
 
 module _ (limit : ℕ) where
@@ -40,7 +40,7 @@ module _ (limit : ℕ) where
     where
       go : (t : Bool) → length (batchesFrom limit a ([] ++ sendMsg next m) (0 + length (m .text)) (suc (m .num)) ms) ≡ batchCount limit (0 + length (m .text)) ms
           → length (batchesFrom limit a (before ++ sendMsg next m) (sent + length (m .text)) (suc (m .num)) ms) ≡ batchCount limit (sent + length (m .text)) ms
-          → length (stands t before (batchesFrom limit a (cond t [] before ++ sendMsg next m) (cond t 0 sent + length (m .text)) (suc (m .num)) ms))
+          → length (batchIf t before (batchesFrom limit a (cond t [] before ++ sendMsg next m) (cond t 0 sent + length (m .text)) (suc (m .num)) ms))
           ≡ cond t (suc (batchCount limit (length (m .text)) ms)) (batchCount limit (sent + length (m .text)) ms)
       go true i j = ap suc (i ∙ rw (zero-add (length (m .text))))
       go false i j = j
@@ -53,11 +53,11 @@ module _ (limit : ℕ) where
   some-left (m ∷ ms) h = refl
 
 -- as many messages are left as the place says
-pub rest-length : (C M end : ℕ) (w b : List ℕ) (left dist : ℕ) → Stands C M end w b left dist → length (restOf C M end w b left) ≡ left
+pub rest-length : (C M end : ℕ) (w b : List ℕ) (left dist : ℕ) → Position C M end w b left dist → length (restOf C M end w b left) ≡ left
 unfolding restOf
 rest-length C M end w b left dist s = length-reverse (take left (newestFirst C M end w b)) ∙ length-take-le left (newestFirst C M end w b) (s .many)
 
-pub rest-some : (C M end : ℕ) (w b : List ℕ) (left dist : ℕ) → Stands C M end w b left dist → 0 < left → 0 < length (restOf C M end w b left)
+pub rest-some : (C M end : ℕ) (w b : List ℕ) (left dist : ℕ) → Position C M end w b left dist → 0 < left → 0 < length (restOf C M end w b left)
 rest-some C M end w b left dist s h = omega (arith, rest-length C M end w b left dist s)
 
 pub rest-none : (C M end : ℕ) (w b : List ℕ) (left : ℕ) → left ≤ 0 → restOf C M end w b left ≡ []
@@ -73,7 +73,7 @@ module _ (limit C M end : ℕ) (w b : List ℕ) where
   all = numberedFrom 1 (logOf C M end w b)
 
   pub record Counting (left dist count : ℕ) : Type 0 where
-    pub stands : Stands C M end w b left dist
+    pub stands : Position C M end w b left dist
     pub total : count + afterwards limit (restOf C M end w b left) ≡ batchCount limit 0 all
     pub few : 0 < left → count + dist ≤ C
     pub most : count ≤ C + 1

@@ -13,7 +13,7 @@ use Rattle.model_session.specs.Session.{Session, Msg, Rising}
 use Rattle.model_session.specs.Whole.{sendMsg}
 use Rattle.model_session.specs.Sender.{Cut, cutBatch, messagesFrom}
 use Rattle.model_session.specs.Summary.{numberedFrom}
-use Rattle.active_messages.specs.Cut.{taken, leftOver, nextAfter, ends, goesFrom}
+use Rattle.active_messages.specs.Cut.{taken, leftOver, nextAfter, closingAfter, goesFrom}
 
 regroup : (p q r s : List Change) → (p ++ q) ++ (r ++ s) ≡ p ++ ((q ++ r) ++ s)
 regroup p q r s = simp append-assoc
@@ -22,7 +22,7 @@ module _ (limit : ℕ) (a : Session) where
   abbrev pub byParts : List Change → ℕ → ℕ → List Msg → Cut
   byParts before sent next ms =
       record {
-        changes = before ++ (taken limit sent next ms ++ ends a (nextAfter limit sent next ms) (leftOver limit sent ms));
+        changes = before ++ (taken limit sent next ms ++ closingAfter a (nextAfter limit sent next ms) (leftOver limit sent ms));
         goesOn = goesFrom (nextAfter limit sent next ms) (leftOver limit sent ms);
       }
 
@@ -35,14 +35,14 @@ module _ (limit : ℕ) (a : Session) where
           ≡ record {
             changes =
                 before ++ (cond t [] (sendMsg next m ++ taken limit (sent + length (m .text)) (suc (m .num)) ms)
-                ++ ends a (cond t next (nextAfter limit (sent + length (m .text)) (suc (m .num)) ms)) (cond t (m ∷ ms) (leftOver limit (sent + length (m .text)) ms)));
+                ++ closingAfter a (cond t next (nextAfter limit (sent + length (m .text)) (suc (m .num)) ms)) (cond t (m ∷ ms) (leftOver limit (sent + length (m .text)) ms)));
             goesOn = goesFrom (cond t next (nextAfter limit (sent + length (m .text)) (suc (m .num)) ms)) (cond t (m ∷ ms) (leftOver limit (sent + length (m .text)) ms));
           }
       go true ih = rw (append-nil before)
       go false ih =
           ih
           ∙ ap (λ (cs : List Change). record { changes = cs; goesOn = goesFrom (nextAfter limit (sent + length (m .text)) (suc (m .num)) ms) (leftOver limit (sent + length (m .text)) ms) })
-          (regroup before (sendMsg next m) (taken limit (sent + length (m .text)) (suc (m .num)) ms) (ends a (nextAfter limit (sent + length (m .text)) (suc (m .num)) ms) (leftOver limit (sent + length (m .text)) ms)))
+          (regroup before (sendMsg next m) (taken limit (sent + length (m .text)) (suc (m .num)) ms) (closingAfter a (nextAfter limit (sent + length (m .text)) (suc (m .num)) ms) (leftOver limit (sent + length (m .text)) ms)))
 
 -- the messages from a number on, where numbers rise
 pub numbered-all : (n low N : ℕ) (ms : List Msg) → n ≤ low → Rising low N ms → numberedFrom n ms ≡ ms

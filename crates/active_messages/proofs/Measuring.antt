@@ -13,7 +13,7 @@ use Rattle.model_frame.specs.Writing.{sizes}
 use Rattle.model_frame.proofs.Runs.{sizes-append}
 use Rattle.model_session.specs.Session.{Msg}
 use Rattle.model_session.specs.Whole.{sendMsg}
-use Rattle.store_log.specs.Log.{msg, restOf, Stands, Read}
+use Rattle.store_log.specs.Log.{msg, restOf, Position, NextMessage}
 use Rattle.active_messages.proofs.Putting.{piece-length}
 use Rattle.active_messages.specs.Cut.{taken, leftOver, nextAfter, Measured}
 
@@ -46,7 +46,7 @@ module _ (limit sent next : ℕ) (full : ltb limit sent ≡ true) where
   full-next [] = refl
   full-next (m ∷ ms) = ap (λ (b : Bool). cond b next (nextAfter limit (sent + length (m .text)) (suc (m .num)) ms)) full
 
-pub piece-of : (C M end : ℕ) (w b : List ℕ) (left dist number start first rest left' dist' : ℕ) → length b ≡ C → Read C M end w b left dist number start first rest left' dist'
+pub piece-of : (C M end : ℕ) (w b : List ℕ) (left dist number start first rest left' dist' : ℕ) → length b ≡ C → NextMessage C M end w b left dist number start first rest left' dist'
     → length (take first (drop start b) ++ take rest b) ≡ first + rest
 piece-of C M end w b left dist number start first rest left' dist' long r = piece-length b start first rest (omega (arith, r .inside)) (omega (arith, r .front))
 
@@ -55,7 +55,7 @@ module _ (limit C M end : ℕ) (w b : List ℕ) where
   abbrev pub Rest : ℕ → List Msg
   Rest left = restOf C M end w b left
 
-  pub taken-more : (left dist next sent number start first rest left' dist' : ℕ) → ltb limit sent ≡ false → length b ≡ C → Read C M end w b left dist number start first rest left' dist'
+  pub taken-more : (left dist next sent number start first rest left' dist' : ℕ) → ltb limit sent ≡ false → length b ≡ C → NextMessage C M end w b left dist number start first rest left' dist'
       → taken limit sent next (Rest left) ≡ sendMsg next (msg number (take first (drop start b) ++ take rest b)) ++ taken limit (sent + (first + rest)) (number + 1) (Rest left')
   taken-more left dist next sent number start first rest left' dist' h long r =
       let m : Msg = msg number (take first (drop start b) ++ take rest b) in
@@ -65,7 +65,7 @@ module _ (limit C M end : ℕ) (w b : List ℕ) where
       ∙ ap (λ (t : Bool). cond t [] (sendMsg next m ++ taken limit (sent + length (m .text)) (suc number) (Rest left'))) h
       ∙ rw (len, later) refl
 
-  left-more : (left dist sent number start first rest left' dist' : ℕ) → ltb limit sent ≡ false → length b ≡ C → Read C M end w b left dist number start first rest left' dist'
+  left-more : (left dist sent number start first rest left' dist' : ℕ) → ltb limit sent ≡ false → length b ≡ C → NextMessage C M end w b left dist number start first rest left' dist'
       → leftOver limit sent (Rest left) ≡ leftOver limit (sent + (first + rest)) (Rest left')
   left-more left dist sent number start first rest left' dist' h long r =
       let m : Msg = msg number (take first (drop start b) ++ take rest b) in
@@ -74,7 +74,7 @@ module _ (limit C M end : ℕ) (w b : List ℕ) where
       ∙ ap (λ (t : Bool). cond t (m ∷ Rest left') (leftOver limit (sent + length (m .text)) (Rest left'))) h
       ∙ ap (λ (k : ℕ). leftOver limit (sent + k) (Rest left')) len
 
-  next-more : (left dist next sent number start first rest left' dist' : ℕ) → ltb limit sent ≡ false → length b ≡ C → Read C M end w b left dist number start first rest left' dist'
+  next-more : (left dist next sent number start first rest left' dist' : ℕ) → ltb limit sent ≡ false → length b ≡ C → NextMessage C M end w b left dist number start first rest left' dist'
       → nextAfter limit sent next (Rest left) ≡ nextAfter limit (sent + (first + rest)) (number + 1) (Rest left')
   next-more left dist next sent number start first rest left' dist' h long r =
       let m : Msg = msg number (take first (drop start b) ++ take rest b) in
@@ -89,7 +89,7 @@ module _ (limit C M end : ℕ) (w b : List ℕ) (left₀ dist₀ next₀ : ℕ) 
   Rest₀ left = restOf C M end w b left
 
   pub record Measuring (left dist next count size sent : ℕ) : Type 0 where
-    pub stands : Stands C M end w b left dist
+    pub stands : Position C M end w b left dist
     pub rest : leftOver limit sent (Rest₀ left) ≡ leftOver limit 0 (Rest₀ left₀)
     pub after : nextAfter limit sent next (Rest₀ left) ≡ nextAfter limit 0 next₀ (Rest₀ left₀)
     pub counts : count + length (taken limit sent next (Rest₀ left)) ≡ length (taken limit 0 next₀ (Rest₀ left₀))
@@ -98,7 +98,7 @@ module _ (limit C M end : ℕ) (w b : List ℕ) (left₀ dist₀ next₀ : ℕ) 
     pub small : size + 22 * left + dist ≤ 22 * left₀ + dist₀
     pub sums : sent + dist ≤ dist₀
 
-  pub begins : Stands C M end w b left₀ dist₀ → Measuring left₀ dist₀ next₀ 0 0 0
+  pub begins : Position C M end w b left₀ dist₀ → Measuring left₀ dist₀ next₀ 0 0 0
   begins s = record { stands = s; rest = refl; after = refl; counts = omega arith; spans = omega arith; few = omega arith; small = omega arith; sums = omega arith }
 
   pub full-stop : (left dist next count size sent : ℕ) → Measuring left dist next count size sent → ltb limit sent ≡ true → Measured limit C M end w b left₀ dist₀ next₀ left dist next count size
@@ -143,7 +143,7 @@ module _ (limit C M end : ℕ) (w b : List ℕ) (left₀ dist₀ next₀ : ℕ) 
 
   -- a turn: one message more
   pub turns : (left dist next count size sent number start first rest left' dist' skip : ℕ) → Measuring left dist next count size sent → ltb limit sent ≡ false → length b ≡ C
-      → Read C M end w b left dist number start first rest left' dist' → skip ≡ cond (ltb next number) 1 0
+      → NextMessage C M end w b left dist number start first rest left' dist' → skip ≡ cond (ltb next number) 1 0
       → Measuring left' dist' (number + 1) (count + skip + 1) (size + 9 * skip + 13 + (first + rest)) (sent + (first + rest))
   turns left dist next count size sent number start first rest left' dist' skip g h long r s =
       let m : Msg = msg number (take first (drop start b) ++ take rest b) in

@@ -14,7 +14,7 @@ use Rattle.model_frame.proofs.Sizes.{changes-size}
 use Rattle.model_session.specs.Whole.{skipTo, sendMsg}
 use Rattle.base_laws.specs.Wrote.{Wrote}
 use Rattle.base_laws.proofs.Writes.{Left, left-start, left-room, left-step, left-done}
-use Rattle.store_log.specs.Log.{msg, restOf, Stands, Read}
+use Rattle.store_log.specs.Log.{msg, restOf, Position, NextMessage}
 use Rattle.active_messages.proofs.Measuring.{taken-more, full-taken, piece-of}
 use Rattle.active_messages.specs.Cut.{taken}
 
@@ -25,11 +25,11 @@ module _ (limit C M end : ℕ) (w b : List ℕ) where
 
   module _ (first : List ℕ) (at left₀ dist₀ next₀ : ℕ) where
     pub record Sending (out : List ℕ) (left dist next sent pos : ℕ) : Type 0 where
-      pub stands : Stands C M end w b left dist
+      pub stands : Position C M end w b left dist
       pub sums : sent + dist ≤ dist₀
       pub writes : Left first at (toWrite 0 next₀ left₀) out pos (toWrite sent next left)
 
-    pub begins : Stands C M end w b left₀ dist₀ → Sending first left₀ dist₀ next₀ 0 at
+    pub begins : Position C M end w b left₀ dist₀ → Sending first left₀ dist₀ next₀ 0 at
     begins s = record { stands = s; sums = omega arith; writes = left-start first at (toWrite 0 next₀ left₀) }
 
     pub full-stop : (out : List ℕ) (left dist next sent pos : ℕ) → Sending out left dist next sent pos → ltb limit sent ≡ true → Wrote first at (toWrite 0 next₀ left₀) out pos
@@ -45,7 +45,7 @@ module _ (limit C M end : ℕ) (w b : List ℕ) where
         no h = omega arith
 
     module _ (out : List ℕ) (left dist next sent pos number start part rest left' dist' : ℕ) (g : Sending out left dist next sent pos) (h : ltb limit sent ≡ false) (long : length b ≡ C)
-        (r : Read C M end w b left dist number start part rest left' dist') where
+        (r : NextMessage C M end w b left dist number start part rest left' dist') where
       abbrev this : List Change
       this = sendMsg next (msg number (take part (drop start b) ++ take rest b))
 

@@ -10,7 +10,7 @@ use Rattle.model_frame.specs.Frame.{Change}
 use Rattle.model_frame.specs.Writing.{sizes}
 use Rattle.model_session.specs.Session.{Session, Msg}
 use Rattle.model_session.specs.Whole.{sendMsg, closing}
-use Rattle.store_log.specs.Log.{restOf, Stands}
+use Rattle.store_log.specs.Log.{restOf, Position}
 
 module _ (limit : ℕ) where
   -- with so many message bytes in the batch, and the next number: the changes of the messages that it takes
@@ -34,9 +34,9 @@ module _ (limit : ℕ) where
   batchCount sent (m ∷ ms) = cond (ltb limit sent) (suc (batchCount (length (m .text)) ms)) (batchCount (sent + length (m .text)) ms)
 
 -- what stands after the messages: the closing if none is left
-abbrev pub ends : Session → ℕ → List Msg → List Change
-ends a next [] = closing a next
-ends a next (m ∷ ms) = []
+abbrev pub closingAfter : Session → ℕ → List Msg → List Change
+closingAfter a next [] = closing a next
+closingAfter a next (m ∷ ms) = []
 
 -- the number that the next batch goes on from, if any message is left
 abbrev pub goesFrom : ℕ → List Msg → Option ℕ
@@ -45,7 +45,7 @@ goesFrom next (m ∷ ms) = some next
 
 -- from a place in the log: the place where the batch ends, the next number there, how many changes there are, and their bytes
 pub record Measured (limit C M end : ℕ) (w b : List ℕ) (left dist next left' dist' next' count size : ℕ) : Type 0 where
-  pub stands : Stands C M end w b left' dist'
+  pub stands : Position C M end w b left' dist'
   pub rest : restOf C M end w b left' ≡ leftOver limit 0 (restOf C M end w b left)
   pub after : next' ≡ nextAfter limit 0 next (restOf C M end w b left)
   pub counts : count ≡ length (taken limit 0 next (restOf C M end w b left))

@@ -10,7 +10,7 @@ ghost use Rattle.model_frame.specs.Parse.{runBytes};
 ghost use Rattle.model_frame.specs.Writing.{changeBytes, sizes};
 ghost use Rattle.base_laws.specs.Wrote.{Wrote};
 ghost use Rattle.model_session.specs.Summary.{numberedFrom};
-ghost use Rattle.store_log.specs.Log.{Stands, logOf, restOf};
+ghost use Rattle.store_log.specs.Log.{Position, logOf, restOf};
 ghost use Rattle.active_messages.specs.Cut.{taken, batchCount, Measured};
 
 // A batch: the place in the log where it ends, the next outgoing number there, how many changes its messages make, and their bytes.
@@ -53,7 +53,7 @@ pub fn measure(
     requires { ⌜ max ≤ 65536 ⌝ }
     requires { ⌜ length (now bytes) ≤ 33554432 ⌝ }
     requires { ⌜ 1 ≤ end ⌝ }
-    requires { ⌜ Stands (length (now bytes)) max end (now words) (now bytes) left dist ⌝ }
+    requires { ⌜ Position (length (now bytes)) max end (now words) (now bytes) left dist ⌝ }
     ensures { λ r. ⌜ Measured limit (length (now (bytes .entry))) max end (now (words .entry)) (now (bytes .entry)) left dist next (r .left) (r .dist) (r .next) (r .count) (r .size) ⌝ }
 {
     let mut left = left;
@@ -106,7 +106,7 @@ pub fn put_messages(
 ) -> usize
     requires { ⌜ 2 + 2 * max ≤ length (now words) ⌝ }
     requires { ⌜ length (now bytes) ≤ 33554432 ⌝ }
-    requires { ⌜ Stands (length (now bytes)) max end (now words) (now bytes) left dist ⌝ }
+    requires { ⌜ Position (length (now bytes)) max end (now words) (now bytes) left dist ⌝ }
     requires { ⌜ at + sizes (taken limit 0 next (restOf (length (now bytes)) max end (now words) (now bytes) left)) ≤ length (now out) ⌝ }
     ensures { λ r. ⌜ Wrote (now (out .entry)) at (runBytes changeBytes (taken limit 0 next (restOf (length (now (bytes .entry))) max end (now (words .entry)) (now (bytes .entry)) left))) (now (out .exit)) r ⌝ }
 {

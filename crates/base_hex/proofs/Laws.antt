@@ -12,10 +12,10 @@ use lib.Dec.{ltb}
 use borrow.Author.Tests.{ltb-true, lt-ltb, le-ltb}
 use Rattle.model_text.proofs.Formed.{and-l, and-r}
 use Rattle.model_text.proofs.HexBack.{length-hex}
-use Rattle.model_text.specs.Hex.{digitValue, onto, bytesFrom, longestLine, lineBytes, digitOf, hexOf, decimal, refusalText}
+use Rattle.model_text.specs.Hex.{digitValue, byteThen, bytesFrom, longestLine, lineBytes, digitOf, hexOf, decimal, refusalText}
 use Rattle.base_hex.specs.declared.Line.{Line}
 use Rattle.base_hex.specs.declared.Line.the-variants.{Bytes, Bad}
-use Rattle.base_hex.specs.Lines.{Reads, Wrote, Puts}
+use Rattle.base_hex.specs.Lines.{ReadsLine, WroteFront, Puts}
 
 -- ---- two digits of a list
 
@@ -33,7 +33,7 @@ abbrev pub behind : List ℕ → Option (List ℕ) → Option (List ℕ)
 behind xs none = none
 behind xs (some ys) = some (xs ++ ys)
 
-behind-onto : (xs : List ℕ) (x : ℕ) (r : Option (List ℕ)) → behind xs (onto x r) ≡ behind (xs ++ (x ∷ [])) r
+behind-onto : (xs : List ℕ) (x : ℕ) (r : Option (List ℕ)) → behind xs (byteThen x r) ≡ behind (xs ++ (x ∷ [])) r
 behind-onto xs x none = refl
 behind-onto xs x (some ys) = ap some (sym (append-snoc xs x ys))
 
@@ -66,13 +66,13 @@ reading line out = record { same = refl; upto = omega arith; left = sym (behind-
 module _ (size : ℕ) (line out : List ℕ) (i : ℕ) (g : Reading size line out i) (room : length line ≤ 2 * size) where
   -- the two digits at i, with the test's answer
   module _ (less : i < length line / 2) {a b : ℕ} (ea : a ≡ digitValue (getD line (2 * i) 0)) (eb : b ≡ digitValue (getD line (2 * i + 1) 0)) where
-    tested : {v : Bool} → (ltb a 16 && ltb b 16) ≡ v → bytesFrom (drop (2 * i) line) ≡ cond v (onto (a * 16 + b) (bytesFrom (drop (2 * (i + 1)) line))) none
+    tested : {v : Bool} → (ltb a 16 && ltb b 16) ≡ v → bytesFrom (drop (2 * i) line) ≡ cond v (byteThen (a * 16 + b) (bytesFrom (drop (2 * (i + 1)) line))) none
     tested e =
         ap bytesFrom (two-at line i less)
-        ∙ (λ j. cond (ltb (sym ea j) 16 && ltb (sym eb j) 16) (onto (sym ea j * 16 + sym eb j) (bytesFrom (drop (2 * (i + 1)) line))) none)
-        ∙ ap (λ (t : Bool). cond t (onto (a * 16 + b) (bytesFrom (drop (2 * (i + 1)) line))) none) e
+        ∙ (λ j. cond (ltb (sym ea j) 16 && ltb (sym eb j) 16) (byteThen (sym ea j * 16 + sym eb j) (bytesFrom (drop (2 * (i + 1)) line))) none)
+        ∙ ap (λ (t : Bool). cond t (byteThen (a * 16 + b) (bytesFrom (drop (2 * (i + 1)) line))) none) e
 
-    pub reads-bad : (ltb a 16 && ltb b 16) ≡ false → Reads (bytesFrom line) out Bad
+    pub reads-bad : (ltb a 16 && ltb b 16) ≡ false → ReadsLine (bytesFrom line) out Bad
     reads-bad e = record { bytes = sym (g .left ∙ ap (behind (take i out)) (tested e)); within = omega arith }
 
     pub reads-on : (ltb a 16 && ltb b 16) ≡ true → Reading size line (set out i (a * 16 + b)) (i + 1)
@@ -88,12 +88,12 @@ module _ (size : ℕ) (line out : List ℕ) (i : ℕ) (g : Reading size line out
 
   -- nothing is left, or one digit
   module _ (end : length line / 2 ≤ i) where
-    pub reads-odd : 2 * (length line / 2) < length line → Reads (bytesFrom line) out Bad
+    pub reads-odd : 2 * (length line / 2) < length line → ReadsLine (bytesFrom line) out Bad
     reads-odd odd =
         let one : length (drop (2 * i) line) ≡ 1 = omega (arith, length-drop (2 * i) line, g .upto) in
         record { bytes = sym (g .left ∙ ap (behind (take i out)) (alone (drop (2 * i) line) one)); within = omega arith }
 
-    pub reads-all : length line ≤ 2 * (length line / 2) → Reads (bytesFrom line) out (Bytes (length line / 2))
+    pub reads-all : length line ≤ 2 * (length line / 2) → ReadsLine (bytesFrom line) out (Bytes (length line / 2))
     reads-all even =
         let none-left : length (drop (2 * i) line) ≡ 0 = omega (arith, length-drop (2 * i) line, g .upto) in
         let at : i ≡ length line / 2 = omega (arith, g .upto) in
@@ -104,16 +104,16 @@ module _ (size : ℕ) (line out : List ℕ) (i : ℕ) (g : Reading size line out
 
 -- ---- a line
 
-pub blank-line : (l out : List ℕ) → length l ≡ 0 → Reads (lineBytes l) out Bad
+pub blank-line : (l out : List ℕ) → length l ≡ 0 → ReadsLine (lineBytes l) out Bad
 unfolding lineBytes
 blank-line [] out e = record { bytes = refl; within = omega arith }
 blank-line (b ∷ l) out e = absurd (omega arith)
 
-pub long-line : (l out : List ℕ) → longestLine < length l → Reads (lineBytes l) out Bad
+pub long-line : (l out : List ℕ) → longestLine < length l → ReadsLine (lineBytes l) out Bad
 unfolding lineBytes
 long-line l out h = record { bytes = simp (lt-ltb longestLine (length l) h, or-true); within = omega arith }
 
-pub some-line : (l out : List ℕ) (r : Line) → (length l ≡ 0 → ⊥) → length l ≤ longestLine → Reads (bytesFrom l) out r → Reads (lineBytes l) out r
+pub some-line : (l out : List ℕ) (r : Line) → (length l ≡ 0 → ⊥) → length l ≤ longestLine → ReadsLine (bytesFrom l) out r → ReadsLine (lineBytes l) out r
 unfolding lineBytes
 some-line [] out r e h g = absurd (e refl)
 some-line (b ∷ l) out r e h g = rw (le-ltb longestLine (length (b ∷ l)) h) g
@@ -152,7 +152,7 @@ module _ (src before out : List ℕ) (i : ℕ) (g : Writing src before out i) (r
             refl;
       }
 
-  pub writes-all : length src ≤ i → Wrote (hexOf src) before out
+  pub writes-all : length src ≤ i → WroteFront (hexOf src) before out
   writes-all end =
       let at : i ≡ length src = omega (arith, g .upto) in
       let digits : length (hexOf src) ≡ 2 * i = length-hex src ∙ ap (λ (k : ℕ). 2 * k) (sym at) in

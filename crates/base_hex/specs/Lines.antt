@@ -17,15 +17,15 @@ lineLength (Bytes n) = n
 lineLength Bad = 0
 
 -- the answer gives these bytes, and they stand within the area
-pub record Reads (bs : Option (List ℕ)) (out : List ℕ) (r : Line) : Type 0 where
+pub record ReadsLine (bs : Option (List ℕ)) (out : List ℕ) (r : Line) : Type 0 where
   pub bytes : lineRead out r ≡ bs
   pub within : lineLength r ≤ length out
 
 -- these bytes at the start, and the rest as it was
-abbrev pub Wrote : List ℕ → List ℕ → List ℕ → Type 0
-Wrote bs before after = after ≡ bs ++ drop (length bs) before
+abbrev pub WroteFront : List ℕ → List ℕ → List ℕ → Type 0
+WroteFront bs before after = after ≡ bs ++ drop (length bs) before
 
 -- the same, and how many they are
 pub record Puts (bs before after : List ℕ) (n : ℕ) : Type 0 where
   pub count : n ≡ length bs
-  pub wrote : Wrote bs before after
+  pub wrote : WroteFront bs before after

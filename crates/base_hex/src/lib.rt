@@ -3,7 +3,7 @@ ghost use mathlib.Core.Path.{_≡_};
 ghost use Prim.Native.Nat.{_+_, _*_, _/_, _%_, _≤_, _<_};
 ghost use lib.ListN.{length};
 ghost use Rattle.model_text.specs.Hex.{digitValue, bytesFrom, lineBytes, digitOf, hexOf, refusalText};
-ghost use Rattle.base_hex.specs.Lines.{Reads, Wrote, Puts};
+ghost use Rattle.base_hex.specs.Lines.{ReadsLine, WroteFront, Puts};
 
 // The bytes of a line, as the first so many of the area that was lent, or a bad line.
 pub enum Line {
@@ -27,7 +27,7 @@ fn digit_value(b: u8) -> u8
 // The bytes of an even number of digits.
 fn read_digits(line: &[u8], out: &mut [u8]) -> Line
     requires { ⌜ length (now line) ≤ 2 * length (now out) ⌝ }
-    ensures { λ r. ⌜ Reads (bytesFrom (now (line .entry))) (now (out .exit)) r ⌝ }
+    ensures { λ r. ⌜ ReadsLine (bytesFrom (now (line .entry))) (now (out .exit)) r ⌝ }
 {
     let n = line.len() / 2;
     let mut i: usize = 0;
@@ -49,7 +49,7 @@ fn read_digits(line: &[u8], out: &mut [u8]) -> Line
 // The bytes of a line of at most 16,384 digits.
 pub fn read_line(line: &[u8], out: &mut [u8]) -> Line
     requires { ⌜ 8192 ≤ length (now out) ⌝ }
-    ensures { λ r. ⌜ Reads (lineBytes (now (line .entry))) (now (out .exit)) r ⌝ }
+    ensures { λ r. ⌜ ReadsLine (lineBytes (now (line .entry))) (now (out .exit)) r ⌝ }
 {
     if line.len() == 0 {
         return Line::Bad;
@@ -71,7 +71,7 @@ fn digit_of(v: u8) -> u8
 // Writes the digits of all bytes of src at the start of out.
 pub fn put_hex(src: &[u8], out: &mut [u8])
     requires { ⌜ 2 * length (now src) ≤ length (now out) ⌝ }
-    ensures { λ _. ⌜ Wrote (hexOf (now (src .entry))) (now (out .entry)) (now (out .exit)) ⌝ }
+    ensures { λ _. ⌜ WroteFront (hexOf (now (src .entry))) (now (out .entry)) (now (out .exit)) ⌝ }
 {
     let mut i: usize = 0;
     while i < src.len() {

@@ -11,26 +11,26 @@ use lib.ListN.{length, take, drop, getD, length-drop, drop-of-length-le}
 use lib.Seq.{drop-drop, drop-cons, take-all, take-nil}
 use Rattle.model_frame.specs.Bytes.{le, leAt}
 use Rattle.model_frame.specs.Frame.{truncated}
-use Rattle.model_frame.specs.Parse.{ok, bad, bytes, num}
+use Rattle.model_frame.specs.Parse.{ok, bad, readBytes, readNum}
 
-pub bytes-short : (n : ℕ) (b : List ℕ) (at : ℕ) {k : ℕ} → k ≡ length b - at → k < n → bytes n (drop at b) ≡ bad truncated
-unfolding bytes
+pub bytes-short : (n : ℕ) (b : List ℕ) (at : ℕ) {k : ℕ} → k ≡ length b - at → k < n → readBytes n (drop at b) ≡ bad truncated
+unfolding readBytes
 bytes-short n b at e h = rw (length-drop at b, lt-leb n (length b - at) (omega arith))
 
-pub bytes-got : (n : ℕ) (b : List ℕ) (at : ℕ) {k : ℕ} → k ≡ length b - at → n ≤ k → bytes n (drop at b) ≡ ok (take n (drop at b)) (drop (at + n) b)
-unfolding bytes
+pub bytes-got : (n : ℕ) (b : List ℕ) (at : ℕ) {k : ℕ} → k ≡ length b - at → n ≤ k → readBytes n (drop at b) ≡ ok (take n (drop at b)) (drop (at + n) b)
+unfolding readBytes
 bytes-got n b at e h = rw (length-drop at b, le-leb n (length b - at) (omega arith), drop-drop n at b)
 
-pub num-short : (n : ℕ) (b : List ℕ) (at : ℕ) {k : ℕ} → k ≡ length b - at → k < n → num n (drop at b) ≡ bad truncated
-unfolding num
+pub num-short : (n : ℕ) (b : List ℕ) (at : ℕ) {k : ℕ} → k ≡ length b - at → k < n → readNum n (drop at b) ≡ bad truncated
+unfolding readNum
 num-short n b at e h = rw (bytes-short n b at e h)
 
-pub num-got : (n : ℕ) (b : List ℕ) (at : ℕ) {k : ℕ} → k ≡ length b - at → n ≤ k → num n (drop at b) ≡ ok (leAt n b at) (drop (at + n) b)
-unfolding num
+pub num-got : (n : ℕ) (b : List ℕ) (at : ℕ) {k : ℕ} → k ≡ length b - at → n ≤ k → readNum n (drop at b) ≡ ok (leAt n b at) (drop (at + n) b)
+unfolding readNum
 num-got n b at e h = rw (bytes-got n b at e h)
 
-pub num-whole : (n : ℕ) (s : List ℕ) → n ≤ length s → num n s ≡ ok (le (take n s)) (drop n s)
-unfolding num bytes
+pub num-whole : (n : ℕ) (s : List ℕ) → n ≤ length s → readNum n s ≡ ok (le (take n s)) (drop n s)
+unfolding readNum readBytes
 num-whole n s h = rw (le-leb n (length s) h)
 
 -- a part of the buffer that starts, or ends, past its end

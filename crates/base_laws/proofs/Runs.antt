@@ -11,7 +11,7 @@ use lib.ListN.{length, take, drop, length-drop}
 use lib.Seq.{drop-drop}
 use Rattle.model_frame.specs.Bytes.{le}
 use Rattle.model_frame.specs.Frame.{Fault, truncated}
-use Rattle.model_frame.specs.Parse.{Res, ok, bad, Parser, andThen, num, count, many, forget, onto, collect, runBytes}
+use Rattle.model_frame.specs.Parse.{Res, ok, bad, Parser, andThen, readNum, readCount, many, forget, itemThen, collect, runBytes}
 use Rattle.base_laws.proofs.Places.{num-whole}
 
 module _ {A : Type 0} where
@@ -49,7 +49,7 @@ module _ {A : Type 0} where
           (r : Res A) →
           ((s′ : List ℕ) → ok tt t ≡ forget (many n p s′) → ok (collect n p s′) t ≡ many n p s′) →
           ok tt t ≡ forget (andThen r (λ x s′. andThen (many n p s′) (λ xs s″. ok (x ∷ xs) s″))) →
-          ok (onto r (collect n p)) t ≡ andThen r (λ x s′. andThen (many n p s′) (λ xs s″. ok (x ∷ xs) s″))
+          ok (itemThen r (collect n p)) t ≡ andThen r (λ x s′. andThen (many n p s′) (λ xs s″. ok (x ∷ xs) s″))
       go (ok a s′) ih e = rw (← (ih s′ (e ∙ forget-cons a (many n p s′))))
       go (bad f) ih e = cc
 
@@ -85,20 +85,20 @@ module _ {A : Type 0} where
   bytes-bad f p n e = rw (collect-bad p n e)
 
 -- numbers of w bytes each: where a run of them ends
-pub numbers-end : (w n : ℕ) (s : List ℕ) → n * w ≤ length s → forget (many n (num w) s) ≡ ok tt (drop (n * w) s)
+pub numbers-end : (w n : ℕ) (s : List ℕ) → n * w ≤ length s → forget (many n (readNum w) s) ≡ ok tt (drop (n * w) s)
 unfolding many
 numbers-end w zero s h = rw zero-mul
 numbers-end w (suc n) s h =
     let room : w ≤ length s = omega (arith, suc-mul n w) in
     let rest : n * w ≤ length (drop w s) = omega (arith, suc-mul n w, length-drop w s) in
-    let one : num w s ≡ ok (le (take w s)) (drop w s) = num-whole w s room in
+    let one : readNum w s ≡ ok (le (take w s)) (drop w s) = num-whole w s room in
     let sum : suc n * w ≡ w + n * w = omega (arith, suc-mul n w) in
-    rw (one, forget-cons (le (take w s)) (many n (num w) (drop w s)), sum, ← drop-drop (n * w) w s) (numbers-end w n (drop w s) rest)
+    rw (one, forget-cons (le (take w s)) (many n (readNum w) (drop w s)), sum, ← drop-drop (n * w) w s) (numbers-end w n (drop w s) rest)
 
 -- a count was followed by room for its items
-pub count-room : (min : ℕ) (s : List ℕ) {n : ℕ} {t : List ℕ} → count min s ≡ ok n t → n * min ≤ length t
-unfolding count
-count-room min s {n} {t} e = go (num 4 s) e
+pub count-room : (min : ℕ) (s : List ℕ) {n : ℕ} {t : List ℕ} → readCount min s ≡ ok n t → n * min ≤ length t
+unfolding readCount
+count-room min s {n} {t} e = go (readNum 4 s) e
   where
     kept : (m : ℕ) (u : List ℕ) (k : Bool) → leb (m * min) (length u) ≡ k → cond k (ok m u) (bad truncated) ≡ ok n t → n * min ≤ length t
     kept m u true h e =

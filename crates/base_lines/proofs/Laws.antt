@@ -11,7 +11,7 @@ use lib.Dec.{leb, eqb}
 use borrow.Author.Tests.{leb-true, leb-false, lt-ltb, le-ltb, eq-eqb, ne-eqb}
 use Rattle.model_frame.specs.Bytes.{write}
 use Rattle.base_laws.proofs.Little.{write-is}
-use Rattle.model_text.specs.Lines.{feed, firstFeed, whole, part, cutAt}
+use Rattle.model_text.specs.Lines.{feed, firstFeed, wholeLine, partLine, cutAt}
 use Rattle.base_lines.specs.Feeding.{Feeds}
 
 -- ---- the next line feed
@@ -96,7 +96,7 @@ module _ (before : List ℕ) (len : ℕ) (piece : List ℕ) (from to n : ℕ) (f
     cut =
         let found : firstFeed (drop from piece) < length (drop from piece) = omega (arith, length-drop from piece) in
         let next : from + (firstFeed (drop from piece) + 1) ≡ to + 1 = omega arith in
-        rw (lt-ltb (firstFeed (drop from piece)) (length (drop from piece)) found, drop-drop (firstFeed (drop from piece) + 1) from piece, next) (ap (λ (l : List ℕ). whole l (drop (to + 1) piece)) kept);
+        rw (lt-ltb (firstFeed (drop from piece)) (length (drop from piece)) found, drop-drop (firstFeed (drop from piece) + 1) from piece, next) (ap (λ (l : List ℕ). wholeLine l (drop (to + 1) piece)) kept);
     room = omega arith;
     within = omega arith;
     further = λ t. omega arith;
@@ -108,7 +108,7 @@ module _ (before : List ℕ) (len : ℕ) (piece : List ℕ) (from to n : ℕ) (f
     cut =
         let none : length (drop from piece) ≤ firstFeed (drop from piece) = omega (arith, length-drop from piece) in
         let all : take (firstFeed (drop from piece)) (drop from piece) ≡ drop from piece = take-all (firstFeed (drop from piece)) (drop from piece) none in
-        rw (le-ltb (firstFeed (drop from piece)) (length (drop from piece)) none) (ap part (kept ∙ ap (λ (l : List ℕ). take (length before) (take len before ++ l)) all));
+        rw (le-ltb (firstFeed (drop from piece)) (length (drop from piece)) none) (ap partLine (kept ∙ ap (λ (l : List ℕ). take (length before) (take len before ++ l)) all));
     room = omega arith;
     within = omega (arith, bounds piece from to inside at);
     further = λ t. absurd (true≢false (sym t));

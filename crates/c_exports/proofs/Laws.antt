@@ -10,7 +10,7 @@ use lib.ListN.{length, take}
 use lib.Seq.{length-take-le}
 use Rattle.base_laws.proofs.Little.{write-none}
 use Rattle.model_frame.specs.Bytes.{isBytes}
-use Rattle.model_frame.specs.Frame.{Frame, number}
+use Rattle.model_frame.specs.Frame.{Frame, faultNumber}
 use Rattle.model_frame.specs.Frame as the-frame
 use Rattle.model_frame.specs.Reading.{decode}
 use Rattle.model_frame.specs.Writing.{encode}
@@ -21,7 +21,7 @@ use Rattle.frame_reader.specs.declared.Value
 use Rattle.frame_reader.specs.declared.Value.{Value}
 use Rattle.frame_reader.specs.Answers.{fieldOf, invalidOf, faultOf}
 use Rattle.frame_writer.specs.declared.Written.{Written}
-use Rattle.frame_writer.specs.Encoding.{Outcome, wrote, refused, outcome, answerOf, areaAfter, writtenOf, Encoded}
+use Rattle.frame_writer.specs.Encoding.{WriteOutcome, wrote, refused, writeOutcome, writeAnswer, areaAfter, writtenOf, Encoded}
 use Rattle.frame.specs.declared.Decoded
 use Rattle.frame.specs.declared.Decoded.{Decoded}
 use Rattle.frame.specs.declared.Frame as code-frame
@@ -39,7 +39,7 @@ use Rattle.c_session.specs.Telling as telling
 use Rattle.c_session.specs.Telling.{toldOf}
 use Rattle.c_session.specs.declared.Told.{Told}
 use Rattle.c_exports.specs.Returned.{refusalCode, doneCode, fieldNumber, faultCode, readCode, writtenCode, takenCode}
-use Rattle.c_exports.specs.Exports.{Again, rewritten, Rewrites, Makes, TellsPlace, Tells}
+use Rattle.c_exports.specs.Exports.{Again, rewritten, Rewrites, Makes, TellsPlace, TellsAnswer}
 
 -- ---- numbers
 
@@ -58,7 +58,7 @@ module _ {e : FrameError} {r : ℕ} where
 pub unknown-is : (f : Field) (v : ℕ) {k r : ℕ} → k ≡ fieldNumber (fieldOf f) → r ≡ refusalCode 3 (k * 256 + v) → r ≡ refusalCode 3 (fieldNumber (fieldOf f) * 256 + v)
 unknown-is f v p q = q ∙ ap (λ (x : ℕ). refusalCode 3 (x * 256 + v)) p
 
-pub invalid-is : (v : Value) {k r : ℕ} → k ≡ number (invalidOf v) → r ≡ refusalCode k 0 → r ≡ faultCode (invalidOf v)
+pub invalid-is : (v : Value) {k r : ℕ} → k ≡ faultNumber (invalidOf v) → r ≡ refusalCode k 0 → r ≡ faultCode (invalidOf v)
 invalid-is Value.Text p q = q ∙ ap (λ (x : ℕ). refusalCode x 0) p
 invalid-is Value.Session p q = q ∙ ap (λ (x : ℕ). refusalCode x 0) p
 invalid-is Value.Timestamp p q = q ∙ ap (λ (x : ℕ). refusalCode x 0) p
@@ -73,7 +73,7 @@ pub taken-as : (used : ℕ) {w x : Written} {r : ℕ} → w ≡ x → r ≡ take
 taken-as used p q = q ∙ ap (λ (y : Written). takenCode used (writtenOf y)) (sym p)
 
 pub again-is :
-    (used : ℕ) {g : Option Frame} {out out' : List ℕ} {x : Written} {r : ℕ} → Encoded 1 g out out' x → r ≡ takenCode used (writtenOf x) → Again used (outcome 1 g (length out)) out out' r
+    (used : ℕ) {g : Option Frame} {out out' : List ℕ} {x : Written} {r : ℕ} → Encoded 1 g out out' x → r ≡ takenCode used (writtenOf x) → Again used (writeOutcome 1 g (length out)) out out' r
 again-is used v q = record { answer = q ∙ ap (takenCode used) (v .answer); area = v .area }
 
 module _ (w : List ℕ) {d : Decoded} (read : readingOf 1 w d ≡ decode 1 w) where
@@ -88,17 +88,17 @@ module _ (w : List ℕ) {d : Decoded} (read : readingOf 1 w d ≡ decode 1 w) wh
 
   -- what was read is written again, byte for byte
   pub again-whole :
-      {f : code-frame.Frame} {used : ℕ} {out out' : List ℕ} {r : ℕ} → d ≡ Decoded.Whole f used → T (isBytes w) → StandsIn 1 w d → Again used (outcome 1 (frameIn 1 w f) (length out)) out out' r
+      {f : code-frame.Frame} {used : ℕ} {out out' : List ℕ} {r : ℕ} → d ≡ Decoded.Whole f used → T (isBytes w) → StandsIn 1 w d → Again used (writeOutcome 1 (frameIn 1 w f) (length out)) out out' r
       → Rewrites (decode 1 w) out out' r
   again-whole {f} {used} {out} p bytes stands h =
       let g : Frame = frameOf 1 (take used w) f in
       let whole : readingOf 1 w (Decoded.Whole f used) ≡ decode 1 w = subst (λ (y : Decoded). readingOf 1 w y ≡ decode 1 w) p read in
       let a : twice.Again 1 w f g used = read-again 1 w bytes (sym whole) whole (subst (StandsIn 1 w) p stands) in
       let size : length (encode g) ≡ used = ap length (a .bytes) ∙ length-take-le used w (a .within) in
-      let only : outcome 1 (frameIn 1 w f) (length out) ≡ rewritten g (length out) = a .result (length out) ∙ ap (λ (k : ℕ). cond (ltb (length out) k) (refused 9) (wrote (encode g))) (sym size) in
+      let only : writeOutcome 1 (frameIn 1 w f) (length out) ≡ rewritten g (length out) = a .result (length out) ∙ ap (λ (k : ℕ). cond (ltb (length out) k) (refused 9) (wrote (encode g))) (sym size) in
       by-reading p (record {
-        answer = h .answer ∙ ap (λ (o : Outcome). takenCode used (answerOf o)) only;
-        area = h .area ∙ ap (λ (o : Outcome). areaAfter o out) only;
+        answer = h .answer ∙ ap (λ (o : WriteOutcome). takenCode used (writeAnswer o)) only;
+        area = h .area ∙ ap (λ (o : WriteOutcome). areaAfter o out) only;
       })
 
 -- ---- making
@@ -117,19 +117,19 @@ module _ {s : Shape} {w w' b : List ℕ} {d : Made} {r : ℕ} where
 -- ---- answers
 
 module _ (b : List ℕ) (a : code.Answer) (out : List ℕ) {r : ℕ} where
-  pub tells-refusal : (a .refusal ≡ 0 → ⊥) → r ≡ refusalCode (a .refusal) 0 → Tells (replies.answerOf b a) out out r
+  pub tells-refusal : (a .refusal ≡ 0 → ⊥) → r ≡ refusalCode (a .refusal) 0 → TellsAnswer (replies.answerOf b a) out out r
   tells-refusal n q =
       let e : replies.answerOf b a ≡ the-answer.refused (a .refusal) = rw (ne-eqb (a .refusal) 0 n) refl in
       rw e (record { answer = q; area = refl })
 
-  pub tells-nothing : a .refusal ≡ 0 → a .kind ≡ 0 → r ≡ doneCode 0 → Tells (replies.answerOf b a) out out r
+  pub tells-nothing : a .refusal ≡ 0 → a .kind ≡ 0 → r ≡ doneCode 0 → TellsAnswer (replies.answerOf b a) out out r
   tells-nothing z k q =
       let e : replies.answerOf b a ≡ the-answer.done = rw (eq-eqb (a .refusal) 0 z, eq-eqb (a .kind) 0 k) refl in
       rw e (record { answer = q; area = sym (write-none out 0) })
 
   pub tells-frame :
       {out' : List ℕ} {x : Written} → a .refusal ≡ 0 → (a .kind ≡ 0 → ⊥) → Encoded 1 (some (frameBy b a)) out out' x → r ≡ writtenCode (writtenOf x)
-      → Tells (replies.answerOf b a) out out' r
+      → TellsAnswer (replies.answerOf b a) out out' r
   tells-frame z k w q =
       let e : replies.answerOf b a ≡ the-answer.reply (frameBy b a) = rw (eq-eqb (a .refusal) 0 z, ne-eqb (a .kind) 0 k) refl in
       rw e (record { answer = q ∙ ap writtenCode (w .answer); area = w .area })
@@ -142,5 +142,5 @@ written-as p q = q ∙ ap (λ (y : Written). writtenCode (writtenOf y)) (sym p)
 pub told-as : {w x : Told} {r : ℕ} → w ≡ x → r ≡ writtenCode (toldOf x) → r ≡ writtenCode (toldOf w)
 told-as p q = q ∙ ap (λ (y : Told). writtenCode (toldOf y)) (sym p)
 
-pub tells-place : {bytes : Option (List ℕ)} {out out' : List ℕ} {x : Told} {r : ℕ} → telling.Tells bytes out out' x → r ≡ writtenCode (toldOf x) → TellsPlace bytes out out' r
+pub tells-place : {bytes : Option (List ℕ)} {out out' : List ℕ} {x : Told} {r : ℕ} → telling.TellsSession bytes out out' x → r ≡ writtenCode (toldOf x) → TellsPlace bytes out out' r
 tells-place t q = record { answer = q ∙ ap writtenCode (t .answer); area = t .area }

@@ -18,7 +18,7 @@ abbrev pub noQueue : List ℕ → Bool
 noQueue q = ltb (length q) 66 || ltb 64 (getD q 1 0)
 
 -- the words hold this queue; those past the 66 are as they were
-pub record Holds (u : Queue) (q q' : List ℕ) : Type 0 where
+pub record QueueWords (u : Queue) (q q' : List ℕ) : Type 0 where
   pub queue : queueIn q' ≡ u
   pub few : getD q' 1 0 ≤ 64
   pub same : length q' ≡ length q
@@ -28,7 +28,7 @@ pub record Holds (u : Queue) (q q' : List ℕ) : Type 0 where
 pub record Pushes (maxLag last : ℕ) (q q' : List ℕ) (r : ℕ) : Type 0 where
   pub answer : r ≡ cond (noQueue q) (refusalCode Refusal.rulesBroken 0) (doneCode (push maxLag (queueIn q) last .went))
   pub unchanged : noQueue q ≡ true → q' ≡ q
-  pub pushed : noQueue q ≡ false → Holds (push maxLag (queueIn q) last .queue) q q'
+  pub pushed : noQueue q ≡ false → QueueWords (push maxLag (queueIn q) last .queue) q q'
 
 -- ---- of the functions within
 

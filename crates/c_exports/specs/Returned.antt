@@ -2,9 +2,9 @@
 use Prim.Native.Nat.{ℕ, _+_, _-_, _*_, _^_}
 use mathlib.Core.Bool.{cond}
 use lib.Dec.{ltb}
-use Rattle.frame_writer.specs.Encoding.{Answer, took}
+use Rattle.frame_writer.specs.Encoding.{WriteAnswer, took}
 use Rattle.frame_writer.specs.Encoding as writing
-use Rattle.model_frame.specs.Frame.{Field, frameKind, part, refusal, change, Fault, tooLong, truncated, unknown, badText, badSession, badTimestamp, badMarks, number, Decoded, more, faulty, got}
+use Rattle.model_frame.specs.Frame.{Field, frameKind, part, refusal, change, Fault, tooLong, truncated, unknown, badText, badSession, badTimestamp, badMarks, faultNumber, Decoded, more, faulty, got}
 
 -- refusal n, with its detail
 abbrev pub refusalCode : ℕ → ℕ → ℕ
@@ -39,7 +39,7 @@ faultDetail badMarks = 0
 
 -- a fault of reading, by its number
 abbrev pub faultCode : Fault → ℕ
-faultCode e = refusalCode (number e) (faultDetail e)
+faultCode e = refusalCode (faultNumber e) (faultDetail e)
 
 -- what reading comes to: 0 where more is needed, a fault, or the bytes taken
 abbrev pub readCode : Decoded → ℕ
@@ -48,11 +48,11 @@ readCode (faulty e) = faultCode e
 readCode (got f used) = doneCode used
 
 -- what writing comes to: a refusal, or the bytes written
-abbrev pub writtenCode : Answer → ℕ
+abbrev pub writtenCode : WriteAnswer → ℕ
 writtenCode (took n) = doneCode n
-writtenCode (writing.refusal n) = refusalCode n 0
+writtenCode (writing.writeRefusal n) = refusalCode n 0
 
 -- the same for a frame that was read: the bytes taken
-abbrev pub takenCode : ℕ → Answer → ℕ
+abbrev pub takenCode : ℕ → WriteAnswer → ℕ
 takenCode used (took n) = doneCode used
-takenCode used (writing.refusal n) = refusalCode n 0
+takenCode used (writing.writeRefusal n) = refusalCode n 0

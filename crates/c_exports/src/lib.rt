@@ -3,20 +3,20 @@ ghost use mathlib.Core.Path.{_≡_};
 ghost use mathlib.Core.Bool.{cond};
 ghost use Prim.Native.Nat.{_+_, _*_, _<_, _≤_};
 ghost use lib.ListN.{length, take, drop, set};
-ghost use Rattle.model_frame.specs.Frame.{number};
+ghost use Rattle.model_frame.specs.Frame.{faultNumber};
 ghost use Rattle.model_frame.specs.Reading.{decode};
 ghost use Rattle.model_session.specs.Summary.{fnv};
 ghost use Rattle.model_session.specs.Whole.{batchLimit};
 ghost use Rattle.frame_reader.specs.Answers.{fieldOf, invalidOf, faultOf};
-ghost use Rattle.frame_writer.specs.Encoding.{outcome, writtenOf};
+ghost use Rattle.frame_writer.specs.Encoding.{writeOutcome, writtenOf};
 ghost use Rattle.frame.specs.Answers.{frameIn};
 ghost use Rattle.standby_state.specs.Answers.{answerOf};
 ghost use Rattle.active.specs.Whole.{ready, senderOf, storedAt};
 ghost use Rattle.c_session.specs.Telling.{toldAt, toldOf};
 ghost use Rattle.c_exports.specs.Returned.{refusalCode, doneCode, fieldNumber, faultCode, readCode, writtenCode, takenCode};
-ghost use Rattle.c_exports.specs.Exports.{Again, Rewrites, shapeOf, Makes, TellsPlace, Tells};
+ghost use Rattle.c_exports.specs.Exports.{Again, Rewrites, shapeOf, Makes, TellsPlace, TellsAnswer};
 ghost use Rattle.c_exports.specs.Queues.{Pushes, Numbered, Filled};
-ghost use Rattle.c_exports.specs.Sendings.{Sends, SendsNext};
+ghost use Rattle.c_exports.specs.Sendings.{SendIs, SendsNext};
 use active::Begun;
 use active::Sending;
 use active::Sent;
@@ -81,7 +81,7 @@ fn field_number(f: Field) -> u32
 }
 
 fn value_number(v: Value) -> u8
-    ensures { λ r. ⌜ r ≡ number (invalidOf v) ⌝ }
+    ensures { λ r. ⌜ r ≡ faultNumber (invalidOf v) ⌝ }
 {
     match v {
         Value::Text => BAD_TEXT,
@@ -137,7 +137,7 @@ fn taken(w: Written, used: usize) -> u64
 
 // A frame that was read from src, written again; `used` is how many bytes it took.
 fn again(f: Frame, used: usize, src: &[u8], out: &mut [u8]) -> u64
-    ensures { λ r. ⌜ Again used (outcome 1 (frameIn 1 (now (src .entry)) f) (length (now (out .entry)))) (now (out .entry)) (now (out .exit)) r ⌝ }
+    ensures { λ r. ⌜ Again used (writeOutcome 1 (frameIn 1 (now (src .entry)) f) (length (now (out .entry)))) (now (out .entry)) (now (out .exit)) r ⌝ }
 {
     taken(f.encode(Protocol { version: 1 }, src, out), used)
 }
@@ -246,7 +246,7 @@ fn sent(
     out: &mut [u8],
 ) -> u64
     requires { ⌜ 4 ≤ length (now sending) ⌝ }
-    ensures { λ r. ⌜ Sends batchLimit (storedAt shape (now (words .entry)) (now (bytes .entry)) (s .place)) (s .handle) (s .epoch .0) (ready (s .place) (senderOf s)) (now (sending .entry)) (now (sending .exit)) (now (out .entry)) (now (out .exit)) r ⌝ }
+    ensures { λ r. ⌜ SendIs batchLimit (storedAt shape (now (words .entry)) (now (bytes .entry)) (s .place)) (s .handle) (s .epoch .0) (ready (s .place) (senderOf s)) (now (sending .entry)) (now (sending .exit)) (now (out .entry)) (now (out .exit)) r ⌝ }
 {
     match s.send_whole(shape, words, bytes, out) {
         Sent::Frame(len, next) => {
@@ -370,7 +370,7 @@ pub extern "C" fn wz_queue(queue: &mut [u64], max_lag: u64, last: u64) -> u64
 // An answer's frame; 0 bytes where it has none. The byte area is the store's.
 #[no_mangle]
 pub extern "C" fn wz_answer(a: Answer, bytes: &[u8], out: &mut [u8]) -> u64
-    ensures { λ r. ⌜ Tells (answerOf (now (bytes .entry)) a) (now (out .entry)) (now (out .exit)) r ⌝ }
+    ensures { λ r. ⌜ TellsAnswer (answerOf (now (bytes .entry)) a) (now (out .entry)) (now (out .exit)) r ⌝ }
 {
     if a.refusal != 0 {
         return refusal(a.refusal, 0);

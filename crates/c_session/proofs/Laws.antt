@@ -43,17 +43,17 @@ use Rattle.store_state.proofs.Reading.{lent, part-of}
 use Rattle.store_sessions.specs.Answers.{summaryIs}
 use Rattle.c_session.specs.declared.Told
 use Rattle.c_session.specs.declared.Told.{Told}
-use Rattle.c_session.specs.Telling.{cutTo, flag, toldBytes, toldAt, outcome, Tells}
+use Rattle.c_session.specs.Telling.{spanUpTo, flag, toldBytes, toldAt, sessionOutcome, TellsSession}
 
 -- ---- parts of the byte area
 
 module _ (at n most : ℕ) where
-  pub cut-short : n < most → record { at = at; len = n } ≡ cutTo at n most
+  pub cut-short : n < most → record { at = at; len = n } ≡ spanUpTo at n most
   cut-short h =
       let e : n ≡ min n most = omega arith in
       ap (λ (k : ℕ). record { at = at; len = k }) e
 
-  pub cut-long : most ≤ n → record { at = at; len = most } ≡ cutTo at n most
+  pub cut-long : most ≤ n → record { at = at; len = most } ≡ spanUpTo at n most
   cut-long h =
       let e : most ≡ min n most = omega arith in
       ap (λ (k : ℕ). record { at = at; len = k }) e
@@ -81,16 +81,16 @@ module _ (s : Shape) (i wa we ba be : ℕ) (w b : List ℕ) (at : SpotIn s i w b
   word k g = sym (getD-take (we - wa) (drop wa w) k 0 (omega (arith, at .at .words-from, at .at .words-to)) ∙ getD-drop wa w k 0)
 
   -- the text of 32 bytes at most at j, whose length is word k
-  text : (j k a : ℕ) {p : Span} → j + 32 ≤ 224 → k < 16 → a ≡ ba + j → p ≡ cutTo a (getD w (wa + k) 0) 32 → spanOf b p ≡ field mb j 32 (getD mw k 0)
+  text : (j k a : ℕ) {p : Span} → j + 32 ≤ 224 → k < 16 → a ≡ ba + j → p ≡ spanUpTo a (getD w (wa + k) 0) 32 → spanOf b p ≡ field mb j 32 (getD mw k 0)
   unfolding field
   text j k a gj gk ea ep =
       let n = min (getD w (wa + k) 0) 32 in
       let room : j + n ≤ length mb = omega (arith, at .bytes-part) in
       ap (spanOf b) ep ∙ ap (λ (x : ℕ). take n (drop x b)) ea ∙ sym (part-of s i wa we ba be w b at r h j n room) ∙ ap (λ (x : ℕ). take (min x 32) (drop j mb)) (word k gk)
 
-  pub key-is : {p q u v : Span} → p ≡ cutTo ba (getD w (wa + 7) 0) 32 → q ≡ cutTo (ba + 32) (getD w (wa + 8) 0) 32 → u ≡ cutTo (ba + 64) (getD w (wa + 9) 0) 32 → v ≡ cutTo (ba + 96) (getD w (wa + 10) 0) 32
+  pub key-is : {p q u v : Span} → p ≡ spanUpTo ba (getD w (wa + 7) 0) 32 → q ≡ spanUpTo (ba + 32) (getD w (wa + 8) 0) 32 → u ≡ spanUpTo (ba + 64) (getD w (wa + 9) 0) 32 → v ≡ spanUpTo (ba + 96) (getD w (wa + 10) 0) 32
       → keyOf b (record { «begin_string» = p; «sender_comp_id» = q; «target_comp_id» = u; «key_suffix» = v }) ≡ placeAt s w b i .key
-  unfolding the-place.keyOf placeIn
+  unfolding the-place.storedKey placeIn
   key-is ep eq eu ev =
       let start : ba ≡ ba + 0 = omega arith in
       (λ j. record {
@@ -108,7 +108,7 @@ module _ (s : Shape) (w b : List ℕ) (i n : ℕ) (sw : Small (2 ^ 64) w) (sb : 
   there = placeAt s w b i .stored .session
 
   pub summed : (m : the-store.Summary) (f : InFlight) {t u : Span} → summaryIs b m ≡ summary there n → flightOf f ≡ flightIs (m .«in_flight»)
-      → t ≡ cutTo (m .«created_at» .at) (m .«created_at» .len) 64 → u ≡ cutTo (m .marks .at) (m .marks .len) 64
+      → t ≡ spanUpTo (m .«created_at» .at) (m .«created_at» .len) 64 → u ≡ spanUpTo (m .marks .at) (m .marks .len) 64
       → summaryOf b (record { «next_outgoing» = m .«next_outgoing»; «next_incoming» = m .«next_incoming»; «in_flight» = f; «created_at» = t; marks = u; «last_outgoing» = m .«last_outgoing» })
       ≡ summary there n
   unfolding summaryIs summary
@@ -152,15 +152,15 @@ module _ (x : Place) (n : ℕ) (b : List ℕ) (k : SessionId) (m : Summary) {z :
   size-is : z ≡ length (toldBytes x n)
   size-is = ez ∙ (λ j. 2 + keySize (ek j) + summarySize (em j)) ∙ sym (told-size x n)
 
-  pub no-room : {out : List ℕ} → length out < z → Tells (some (toldBytes x n)) out out Told.NoRoom
-  unfolding outcome
+  pub no-room : {out : List ℕ} → length out < z → TellsSession (some (toldBytes x n)) out out Told.NoRoom
+  unfolding sessionOutcome
   no-room {out} h =
       let less : length out < length (toldBytes x n) = omega (arith, size-is) in
       record { answer = rw (lt-leb _ _ less); area = rw (lt-leb _ _ less) }
 
   pub told : {d : Bool} {out out' : List ℕ} {next : ℕ} → d ≡ x .stored .durable → z ≤ length out
-      → Wrote out 0 (flag d ∷ flag (isSome (flightOf (m .«in_flight»))) ∷ (keyBytes (keyOf b k) ++ summaryBytes (summaryOf b m))) out' next → Tells (some (toldBytes x n)) out out' (Told.Took next)
-  unfolding outcome toldBytes summary
+      → Wrote out 0 (flag d ∷ flag (isSome (flightOf (m .«in_flight»))) ∷ (keyBytes (keyOf b k) ++ summaryBytes (summaryOf b m))) out' next → TellsSession (some (toldBytes x n)) out out' (Told.Took next)
+  unfolding sessionOutcome toldBytes summary
   told {d} {out} {out'} {next} ed h wr =
       let fits : length (toldBytes x n) ≤ length out = omega (arith, size-is) in
       let same : flag d ∷ flag (isSome (flightOf (m .«in_flight»))) ∷ (keyBytes (keyOf b k) ++ summaryBytes (summaryOf b m)) ≡ toldBytes x n =
@@ -196,9 +196,9 @@ module _ (s : Shape) (w b : List ℕ) (i n : ℕ) where
   unfolding toldAt
   broken e = sym (ap (λ (t : Bool). cond t (seen (getElem? (placesOf s w b) i)) none) e)
 
-pub unfit : {bytes : Option (List ℕ)} (out : List ℕ) → none ≡ bytes → Tells bytes out out Told.Unfit
-unfolding outcome
-unfit out e = subst (λ (x : Option (List ℕ)). Tells x out out Told.Unfit) e (record { answer = refl; area = refl })
+pub unfit : {bytes : Option (List ℕ)} (out : List ℕ) → none ≡ bytes → TellsSession bytes out out Told.Unfit
+unfolding sessionOutcome
+unfit out e = subst (λ (x : Option (List ℕ)). TellsSession x out out Told.Unfit) e (record { answer = refl; area = refl })
 
-pub told-in : {bytes bytes' : Option (List ℕ)} {out out' : List ℕ} {r : Told} → bytes ≡ bytes' → Tells bytes out out' r → Tells bytes' out out' r
-told-in {out = out} {out' = out'} {r = r} e t = subst (λ (x : Option (List ℕ)). Tells x out out' r) e t
+pub told-in : {bytes bytes' : Option (List ℕ)} {out out' : List ℕ} {r : Told} → bytes ≡ bytes' → TellsSession bytes out out' r → TellsSession bytes' out out' r
+told-in {out = out} {out' = out'} {r = r} e t = subst (λ (x : Option (List ℕ)). TellsSession x out out' r) e t

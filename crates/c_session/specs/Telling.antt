@@ -12,15 +12,15 @@ use Rattle.model_session.specs.Summary.{summary}
 use Rattle.model_standby.specs.Store.{Place}
 use Rattle.model_standby.specs.Row.{isSome}
 use Rattle.frame_reader.specs.declared.Span.{Span}
-use Rattle.frame_writer.specs.Encoding.{Outcome, wrote, refused, areaAfter, Answer, took, refusal, answerOf}
+use Rattle.frame_writer.specs.Encoding.{WriteOutcome, wrote, refused, areaAfter, WriteAnswer, took, writeRefusal, writeAnswer}
 use Rattle.store_areas.specs.declared.Shape.{Shape}
 use Rattle.store_areas.specs.Areas.{allowed, placesOf}
 use Rattle.c_session.specs.declared.Told.{Told}
 use Rattle.c_session.specs.declared.Told
 
 -- n bytes at a position, or the first `most` of them
-abbrev pub cutTo : ℕ → ℕ → ℕ → Span
-cutTo at n most = record { at = at; len = min n most }
+abbrev pub spanUpTo : ℕ → ℕ → ℕ → Span
+spanUpTo at n most = record { at = at; len = min n most }
 
 -- a byte that is 1 or 0
 abbrev pub flag : Bool → ℕ
@@ -37,17 +37,17 @@ unfoldable pub toldAt : Shape → List ℕ → List ℕ → ℕ → ℕ → Opti
 toldAt s w b i n = cond (allowed s w b) (Option·map (λ (x : Place). toldBytes x n) (getElem? (placesOf s w b) i)) none
 
 -- 25 for none, 9 where the area has less room than the bytes take
-unfoldable pub outcome : Option (List ℕ) → ℕ → Outcome
-outcome none room = refused Refusal.rulesBroken
-outcome (some bs) room = cond (leb (length bs) room) (wrote bs) (refused Refusal.noRoom)
+unfoldable pub sessionOutcome : Option (List ℕ) → ℕ → WriteOutcome
+sessionOutcome none room = refused Refusal.rulesBroken
+sessionOutcome (some bs) room = cond (leb (length bs) room) (wrote bs) (refused Refusal.noRoom)
 
 -- an answer's number
-abbrev pub toldOf : Told → Answer
+abbrev pub toldOf : Told → WriteAnswer
 toldOf (Told.Took n) = took n
-toldOf Told.NoRoom = refusal Refusal.noRoom
-toldOf Told.Unfit = refusal Refusal.rulesBroken
+toldOf Told.NoRoom = writeRefusal Refusal.noRoom
+toldOf Told.Unfit = writeRefusal Refusal.rulesBroken
 
 -- the answer is the outcome's; the area has the bytes at its start and the rest as it was, and a refusal leaves all of it
-pub record Tells (bytes : Option (List ℕ)) (before after : List ℕ) (r : Told) : Type 0 where
-  pub answer : toldOf r ≡ answerOf (outcome bytes (length before))
-  pub area : after ≡ areaAfter (outcome bytes (length before)) before
+pub record TellsSession (bytes : Option (List ℕ)) (before after : List ℕ) (r : Told) : Type 0 where
+  pub answer : toldOf r ≡ writeAnswer (sessionOutcome bytes (length before))
+  pub area : after ≡ areaAfter (sessionOutcome bytes (length before)) before

@@ -13,7 +13,7 @@ ghost use Rattle.frame_fields.specs.Answers.{flightOf, keyOf, summaryOf};
 ghost use Rattle.frame_writer.specs.Encoding.{keySize, summarySize};
 ghost use Rattle.store_place.specs.Place.{flightIs};
 ghost use Rattle.store_areas.specs.Areas.{Rules, placeAt};
-ghost use Rattle.c_session.specs.Telling.{cutTo, flag, toldBytes, toldAt, Tells};
+ghost use Rattle.c_session.specs.Telling.{spanUpTo, flag, toldBytes, toldAt, TellsSession};
 use frame_fields::InFlight;
 use frame_fields::SessionId;
 use frame_fields::Summary;
@@ -40,7 +40,7 @@ const TEXT_MOST: u32 = byte::MARKS_SIZE as u32;
 
 // The n bytes at a position, or the first `most` of them.
 fn span(at: usize, n: u64, most: u32) -> Span
-    ensures { λ r. ⌜ r ≡ cutTo at n most ⌝ }
+    ensures { λ r. ⌜ r ≡ spanUpTo at n most ⌝ }
 {
     if n < most as u64 {
         return Span { at, len: n as u32 };
@@ -171,7 +171,7 @@ fn put(bytes: &[u8], durable: bool, k: SessionId, m: Summary, out: &mut [u8]) ->
 fn tell(words: &[u64], bytes: &[u8], shape: Shape, place: usize, n: u64, out: &mut [u8]) -> Told
     requires { ⌜ Rules shape (now words) (now bytes) ⌝ }
     requires { ⌜ place < getD (now words) 0 0 ⌝ }
-    ensures { λ r. ⌜ Tells (some (toldBytes (placeAt shape (now (words .entry)) (now (bytes .entry)) place) n)) (now (out .entry)) (now (out .exit)) r ⌝ }
+    ensures { λ r. ⌜ TellsSession (some (toldBytes (placeAt shape (now (words .entry)) (now (bytes .entry)) place) n)) (now (out .entry)) (now (out .exit)) r ⌝ }
 {
     let durable = store_state::durable(words, bytes, shape, place);
     let k = key_of(words, bytes, shape, place);
@@ -191,7 +191,7 @@ pub fn session(
     n: u64,
     out: &mut [u8],
 ) -> Told
-    ensures { λ r. ⌜ Tells (toldAt shape (now (words .entry)) (now (bytes .entry)) place n) (now (out .entry)) (now (out .exit)) r ⌝ }
+    ensures { λ r. ⌜ TellsSession (toldAt shape (now (words .entry)) (now (bytes .entry)) place n) (now (out .entry)) (now (out .exit)) r ⌝ }
 {
     if store_areas::allowed(shape, words, bytes) {
         if place < words[store_areas::word::USED] as usize {

@@ -14,12 +14,12 @@ use Rattle.model_session.specs.Session.{Session, top}
 use Rattle.model_session.specs.Summary.{numberedFrom}
 use Rattle.model_standby.specs.Store.{Stored, placeOf, isStored, changed}
 use Rattle.store_log.specs.Log.{restOf}
-use Rattle.store_place.specs.Place.{restIn, StandsIn}
+use Rattle.store_place.specs.Place.{restIn, PositionIn}
 use Rattle.store_areas.specs.declared.Shape.{Shape}
 use Rattle.store_areas.specs.Areas.{roomy, allowed, inUse, InUse, placesOf, Changed}
 use Rattle.store_areas.proofs.Lifting.{places-length}
 use Rattle.store_areas.proofs.Ruling.{in-use-of}
-use Rattle.store_sessions.specs.Answers.{Opened, restAt, StandsAt, FromAt}
+use Rattle.store_sessions.specs.Answers.{Opened, restAt, PositionAt, FromAt}
 use Rattle.c_store.specs.Total.{sessionIn, Reads, MadeIs, ChangeIs, canOpen, isNew, OpenIs}
 
 no25 : _≡_ {A = ℕ} 25 0 → ⊥
@@ -78,8 +78,8 @@ recorded {s} {i} {w} {w'} {b} {b'} text e p = subst (λ (x : ℕ). Changed s i (
 
 -- ---- how many messages are stored
 
-rest-length : (s : Shape) (w b : List ℕ) (i left dist : ℕ) → StandsAt s w b i left dist → length (restAt s w b i left) ≡ left
-unfolding StandsAt StandsIn restAt restIn restOf
+rest-length : (s : Shape) (w b : List ℕ) (i left dist : ℕ) → PositionAt s w b i left dist → length (restAt s w b i left) ≡ left
+unfolding PositionAt PositionIn restAt restIn restOf
 rest-length s w b i left dist p = length-reverse (take left _) ∙ length-take-le left _ (p .many)
 
 pub counted : (s : Shape) (w b : List ℕ) (i left dist : ℕ) → FromAt s w b i 1 left dist → left ≡ length (numberedFrom 1 (sessionIn s w b i .messages))

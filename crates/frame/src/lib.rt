@@ -2,7 +2,7 @@
 ghost use mathlib.Core.Path.{_≡_};
 ghost use Prim.Native.Nat.{ℕ, _+_, _≤_};
 ghost use lib.ListN.{length, take, drop};
-ghost use Rattle.model_frame.specs.Reading.{helloFields, welcomeFields, bindFields, batchFields, ackFields, nackFields, boundFields, checkedFields, maxBody, fields, body, decode};
+ghost use Rattle.model_frame.specs.Reading.{helloFields, welcomeFields, bindFields, batchFields, ackFields, nackFields, boundFields, checkedFields, maxBody, readFields, readBody, decode};
 ghost use Rattle.frame.specs.Answers.{resFrame, ReadIn, readingOf, StandsIn, frameIn};
 ghost use Rattle.frame_writer.specs.Encoding.{Encoded};
 pub use frame_fields::AppRecord;
@@ -283,7 +283,7 @@ fn checked_from(buf: &[u8], c: Cursor) -> FrameAt
 
 // The fields of a frame, by its kind.
 fn fields_from(p: Protocol, buf: &[u8], c: Cursor) -> FrameAt
-    ensures { λ r. ⌜ resFrame (p .version) (now (buf .entry)) r ≡ fields (p .version) (drop (c .at) (now (buf .entry))) ⌝ }
+    ensures { λ r. ⌜ resFrame (p .version) (now (buf .entry)) r ≡ readFields (p .version) (drop (c .at) (now (buf .entry))) ⌝ }
     ensures { λ r. ⌜ ReadIn (p .version) (now (buf .entry)) r ⌝ }
 {
     let Byte::Got(k, d) = frame_reader::u8_from(buf, c) else {
@@ -304,7 +304,7 @@ fn fields_from(p: Protocol, buf: &[u8], c: Cursor) -> FrameAt
 
 // A body from a cursor to the buffer's end: nothing is left over.
 fn body_from(p: Protocol, buf: &[u8], c: Cursor) -> FrameAt
-    ensures { λ r. ⌜ resFrame (p .version) (now (buf .entry)) r ≡ body (p .version) (drop (c .at) (now (buf .entry))) ⌝ }
+    ensures { λ r. ⌜ resFrame (p .version) (now (buf .entry)) r ≡ readBody (p .version) (drop (c .at) (now (buf .entry))) ⌝ }
     ensures { λ r. ⌜ ReadIn (p .version) (now (buf .entry)) r ⌝ }
 {
     match fields_from(p, buf, c) {

@@ -11,8 +11,8 @@ use lib.Seq.{drop-drop}
 use Rattle.model_text.specs.Utf8.{utf8}
 use Rattle.model_frame.specs.Bytes.{isBytes, bytesOf}
 use Rattle.model_frame.specs.Frame.{Part, Reason, AppRecord, Frame, hello, welcome, bind, batch, ack, nack, bound, checked, Fault}
-use Rattle.model_frame.specs.Parse.{Parser, ok, bad, num, many, forget, runBytes, Each}
-use Rattle.model_frame.specs.Reading.{readChange, appRecord}
+use Rattle.model_frame.specs.Parse.{Parser, ok, bad, readNum, many, forget, runBytes, Each}
+use Rattle.model_frame.specs.Reading.{readChange, readAppRecord}
 use Rattle.model_frame.specs.Writing.{blobBytes, changeBytes, appRecordBytes, partNumber, bodyBytes, fine, fineKey, fineSummary, RangedRecord, ByteRecord}
 use Rattle.model_frame.proofs.Le.{bytes-each, bytes-drop}
 use Rattle.model_frame.proofs.Canon.{Was, Canon, run-canon, num-canon, Run}
@@ -54,42 +54,42 @@ checked-ready v h e i = record { read = refl; texts = refl; size = sym (body-siz
 
 -- ---- Hello
 
-pub kinds-ready : (src : List ℕ) (r : the-run.Run) → T (isBytes src) → runReads (num 2) src r ≡ true → StandsAt src (r .at) (r .count * 2) (runBytes (bytesOf 2) (runOf (num 2) src r)) × (length (runOf (num 2) src r) ≡ r .count)
+pub kinds-ready : (src : List ℕ) (r : the-run.Run) → T (isBytes src) → runReads (readNum 2) src r ≡ true → StandsAt src (r .at) (r .count * 2) (runBytes (bytesOf 2) (runOf (readNum 2) src r)) × (length (runOf (readNum 2) src r) ≡ r .count)
 kinds-ready src r known e =
     let n : ℕ = r .count in
     let at : ℕ = r .at in
     let room : n * 2 ≤ length (drop at src) = leb-true (n * 2) (length (drop at src)) (numbers-read 2 n (drop at src) refl ∙ e) in
-    let ends : ok tt (drop (at + n * 2) src) ≡ forget (many n (num 2) (drop at src)) = rw (← drop-drop (n * 2) at src) (sym (numbers-end 2 n (drop at src) room)) in
+    let ends : ok tt (drop (at + n * 2) src) ≡ forget (many n (readNum 2) (drop at src)) = rw (← drop-drop (n * 2) at src) (sym (numbers-end 2 n (drop at src) room)) in
     let k : (length src - at) - (length src - (at + n * 2)) ≡ n * 2 = omega (arith, length-drop at src) in
-    (rw k at (run-stands (num 2) (bytesOf 2) (λ v. v < 256 ^ 2) (num-canon 2) n src at (at + n * 2) known ends refl refl), run-counted (num 2) (bytesOf 2) (λ v. v < 256 ^ 2) (num-canon 2) n src at (at + n * 2) known ends)
+    (rw k at (run-stands (readNum 2) (bytesOf 2) (λ v. v < 256 ^ 2) (num-canon 2) n src at (at + n * 2) known ends refl refl), run-counted (readNum 2) (bytesOf 2) (λ v. v < 256 ^ 2) (num-canon 2) n src at (at + n * 2) known ends)
 
 module _ (src : List ℕ) (node : Span) (ks : the-run.Run) where
-  pub hello-judged : {w k u t : Bool} → w ≡ spanFits src node → k ≡ runReads (num 2) src ks → u ≡ utf8 (spanOf src node) → ((w && k) && u) ≡ t → ((spanFits src node && runReads (num 2) src ks) && utf8 (spanOf src node)) ≡ t
+  pub hello-judged : {w k u t : Bool} → w ≡ spanFits src node → k ≡ runReads (readNum 2) src ks → u ≡ utf8 (spanOf src node) → ((w && k) && u) ≡ t → ((spanFits src node && runReads (readNum 2) src ks) && utf8 (spanOf src node)) ≡ t
   hello-judged ew ek eu e = rw (← ew, ← ek, ← eu) e
 
-  pub hello-unfit : (v version epoch : ℕ) → ((spanFits src node && runReads (num 2) src ks) && utf8 (spanOf src node)) ≡ false → Unready v (spanFits src node && runReads (num 2) src ks) (hello version epoch (spanOf src node) (runOf (num 2) src ks))
+  pub hello-unfit : (v version epoch : ℕ) → ((spanFits src node && runReads (readNum 2) src ks) && utf8 (spanOf src node)) ≡ false → Unready v (spanFits src node && runReads (readNum 2) src ks) (hello version epoch (spanOf src node) (runOf (readNum 2) src ks))
   unfolding fine
   hello-unfit v version epoch e = record { unfit = e }
 
-  module _ (known : T (isBytes src)) (e : ((spanFits src node && runReads (num 2) src ks) && utf8 (spanOf src node)) ≡ true) where
-    fit : (spanFits src node && runReads (num 2) src ks) ≡ true
-    fit = and-left (spanFits src node && runReads (num 2) src ks) (utf8 (spanOf src node)) e
+  module _ (known : T (isBytes src)) (e : ((spanFits src node && runReads (readNum 2) src ks) && utf8 (spanOf src node)) ≡ true) where
+    fit : (spanFits src node && runReads (readNum 2) src ks) ≡ true
+    fit = and-left (spanFits src node && runReads (readNum 2) src ks) (utf8 (spanOf src node)) e
 
-    kinds-fit : StandsAt src (ks .at) (ks .count * 2) (runBytes (bytesOf 2) (runOf (num 2) src ks)) × (length (runOf (num 2) src ks) ≡ ks .count)
-    kinds-fit = kinds-ready src ks known (and-right (spanFits src node) (runReads (num 2) src ks) fit)
+    kinds-fit : StandsAt src (ks .at) (ks .count * 2) (runBytes (bytesOf 2) (runOf (readNum 2) src ks)) × (length (runOf (readNum 2) src ks) ≡ ks .count)
+    kinds-fit = kinds-ready src ks known (and-right (spanFits src node) (runReads (readNum 2) src ks) fit)
 
     pub node-length : length (spanOf src node) ≡ node .len
-    node-length = span-length src node (and-left (spanFits src node) (runReads (num 2) src ks) fit)
+    node-length = span-length src node (and-left (spanFits src node) (runReads (readNum 2) src ks) fit)
 
-    pub hello-ready : (v version epoch : ℕ) {n : ℕ} → n ≡ 19 + node .len + ks .count * 2 → Ready v (spanFits src node && runReads (num 2) src ks) (hello version epoch (spanOf src node) (runOf (num 2) src ks)) n
+    pub hello-ready : (v version epoch : ℕ) {n : ℕ} → n ≡ 19 + node .len + ks .count * 2 → Ready v (spanFits src node && runReads (readNum 2) src ks) (hello version epoch (spanOf src node) (runOf (readNum 2) src ks)) n
     unfolding fine
     hello-ready v version epoch q = record {
       read = fit;
-      texts = and-right (spanFits src node && runReads (num 2) src ks) (utf8 (spanOf src node)) e;
-      size = omega (arith, q, body-size (hello version epoch (spanOf src node) (runOf (num 2) src ks)), node-length, kinds-fit .1);
+      texts = and-right (spanFits src node && runReads (readNum 2) src ks) (utf8 (spanOf src node)) e;
+      size = omega (arith, q, body-size (hello version epoch (spanOf src node) (runOf (readNum 2) src ks)), node-length, kinds-fit .1);
     }
 
-    pub hello-wrote : (version epoch : ℕ) {l m : List ℕ} {at r : ℕ} → Wrote l at (1 ∷ bytesOf 2 version ++ bytesOf 8 epoch ++ blobBytes (spanOf src node) ++ bytesOf 4 (ks .count) ++ take (ks .count * 2) (drop (ks .at) src)) m r → Wrote l at (bodyBytes (hello version epoch (spanOf src node) (runOf (num 2) src ks))) m r
+    pub hello-wrote : (version epoch : ℕ) {l m : List ℕ} {at r : ℕ} → Wrote l at (1 ∷ bytesOf 2 version ++ bytesOf 8 epoch ++ blobBytes (spanOf src node) ++ bytesOf 4 (ks .count) ++ take (ks .count * 2) (drop (ks .at) src)) m r → Wrote l at (bodyBytes (hello version epoch (spanOf src node) (runOf (readNum 2) src ks))) m r
     unfolding bodyBytes
     hello-wrote version epoch w = rw (kinds-fit .1, ← (kinds-fit .0 .same)) w
 
@@ -171,15 +171,15 @@ run-items-are {A} {p} {f} {U} c n s {xs} {t} h e =
 
 module _ (v : ℕ) (src : List ℕ) (os rs : the-run.Run) where
   abbrev pub read : Bool
-  read = runReads (readChange v) src os && runReads appRecord src rs
+  read = runReads (readChange v) src os && runReads readAppRecord src rs
 
   abbrev pub both : ℕ → ℕ → ℕ → Part → Frame
-  both h e n p = batch h e n p (runOf (readChange v) src os) (runOf appRecord src rs)
+  both h e n p = batch h e n p (runOf (readChange v) src os) (runOf readAppRecord src rs)
 
   pub ops-unread : (h e n : ℕ) (p : Part) {x : Fault} → many (os .count) (readChange v) (drop (os .at) src) ≡ bad x → Unready v read (both h e n p)
   ops-unread h e n p q = record { unfit = rw q }
 
-  pub records-unread : (h e n : ℕ) (p : Part) {x : Fault} → many (rs .count) appRecord (drop (rs .at) src) ≡ bad x → Unready v read (both h e n p)
+  pub records-unread : (h e n : ℕ) (p : Part) {x : Fault} → many (rs .count) readAppRecord (drop (rs .at) src) ≡ bad x → Unready v read (both h e n p)
   records-unread h e n p q = record { unfit = rw q (no (runReads (readChange v) src os) (fine v (both h e n p))) }
     where
       no : (a b : Bool) → ((a && false) && b) ≡ false
@@ -189,27 +189,27 @@ module _ (v : ℕ) (src : List ℕ) (os rs : the-run.Run) where
   module _
       {s t : List ℕ} {k m : ℕ} (known : T (isBytes src))
       (eo : many (os .count) (readChange v) (drop (os .at) src) ≡ ok (runOf (readChange v) src os) s) (so : StandsAt src (os .at) k (runBytes changeBytes (runOf (readChange v) src os)))
-      (er : many (rs .count) appRecord (drop (rs .at) src) ≡ ok (runOf appRecord src rs) t) (sr : StandsAt src (rs .at) m (runBytes appRecordBytes (runOf appRecord src rs)))
+      (er : many (rs .count) readAppRecord (drop (rs .at) src) ≡ ok (runOf readAppRecord src rs) t) (sr : StandsAt src (rs .at) m (runBytes appRecordBytes (runOf readAppRecord src rs)))
     where
       ops-are : (length (runOf (readChange v) src os) ≡ os .count) × Each (TakenChange v) (runOf (readChange v) src os)
       ops-are = run-items-are (change-canon v) (os .count) (drop (os .at) src) (bytes-drop (os .at) src known) eo
 
-      records-are : (length (runOf appRecord src rs) ≡ rs .count) × Each (λ (r : AppRecord). RangedRecord r × ByteRecord r) (runOf appRecord src rs)
+      records-are : (length (runOf readAppRecord src rs) ≡ rs .count) × Each (λ (r : AppRecord). RangedRecord r × ByteRecord r) (runOf readAppRecord src rs)
       records-are = run-items-are record-canon (rs .count) (drop (rs .at) src) (bytes-drop (rs .at) src known) er
 
-      pub batch-ready : (h e n : ℕ) (p : Part) → Ready v read (batch h e n p (runOf (readChange v) src os) (runOf appRecord src rs)) (30 + k + m)
+      pub batch-ready : (h e n : ℕ) (p : Part) → Ready v read (batch h e n p (runOf (readChange v) src os) (runOf readAppRecord src rs)) (30 + k + m)
       unfolding fine
       batch-ready h e n p = record {
         read = rw (eo, er);
         texts = taken-fine v (runOf (readChange v) src os) (ops-are .1);
-        size = omega (arith, body-size (batch h e n p (runOf (readChange v) src os) (runOf appRecord src rs)), so .size, sr .size, changes-size (runOf (readChange v) src os), records-size (runOf appRecord src rs));
+        size = omega (arith, body-size (batch h e n p (runOf (readChange v) src os) (runOf readAppRecord src rs)), so .size, sr .size, changes-size (runOf (readChange v) src os), records-size (runOf readAppRecord src rs));
       }
 
       pub batch-wrote :
           (h e n : ℕ) (p : Part) {l o : List ℕ} {at r : ℕ} →
-          Wrote l at ((4 ∷ bytesOf 4 h ++ bytesOf 8 e ++ bytesOf 8 n ++ partNumber p ∷ bytesOf 4 (os .count)) ++ (runBytes changeBytes (runOf (readChange v) src os) ++ bytesOf 4 (rs .count) ++ runBytes appRecordBytes (runOf appRecord src rs))) o r →
-          Wrote l at (bodyBytes (batch h e n p (runOf (readChange v) src os) (runOf appRecord src rs))) o r
+          Wrote l at ((4 ∷ bytesOf 4 h ++ bytesOf 8 e ++ bytesOf 8 n ++ partNumber p ∷ bytesOf 4 (os .count)) ++ (runBytes changeBytes (runOf (readChange v) src os) ++ bytesOf 4 (rs .count) ++ runBytes appRecordBytes (runOf readAppRecord src rs))) o r →
+          Wrote l at (bodyBytes (batch h e n p (runOf (readChange v) src os) (runOf readAppRecord src rs))) o r
       unfolding bodyBytes
       batch-wrote h e n p w =
           rw (ops-are .0, records-are .0)
-          (wrote-as w (regroup (4 ∷ bytesOf 4 h ++ bytesOf 8 e ++ bytesOf 8 n ++ partNumber p ∷ bytesOf 4 (os .count)) (runBytes changeBytes (runOf (readChange v) src os)) (bytesOf 4 (rs .count)) (runBytes appRecordBytes (runOf appRecord src rs))))
+          (wrote-as w (regroup (4 ∷ bytesOf 4 h ++ bytesOf 8 e ++ bytesOf 8 n ++ partNumber p ∷ bytesOf 4 (os .count)) (runBytes changeBytes (runOf (readChange v) src os)) (bytesOf 4 (rs .count)) (runBytes appRecordBytes (runOf readAppRecord src rs))))

@@ -6,14 +6,14 @@ ghost use Prim.Native.Nat.{ℕ, _+_, _*_, _≤_};
 ghost use lib.ListN.{length, take, drop};
 ghost use Rattle.model_frame.specs.Bytes.{bytesOf};
 ghost use Rattle.model_frame.specs.Frame.{hello, welcome, bind, batch, ack, nack, bound, checked};
-ghost use Rattle.model_frame.specs.Parse.{num, runBytes};
-ghost use Rattle.model_frame.specs.Reading.{readChange, appRecord, maxBody};
+ghost use Rattle.model_frame.specs.Parse.{readNum, runBytes};
+ghost use Rattle.model_frame.specs.Reading.{readChange, readAppRecord, maxBody};
 ghost use Rattle.model_frame.specs.Writing.{blobBytes, changeBytes, appRecordBytes, partNumber, bodyBytes};
 ghost use Rattle.base_laws.specs.Wrote.{Wrote, StandsAt};
 ghost use Rattle.frame_reader.specs.Answers.{spanOf};
 ghost use Rattle.frame_op.specs.Answers.{runOf};
 ghost use Rattle.frame_fields.specs.Answers.{partOf, reasonOf, keyOf, summaryOf};
-ghost use Rattle.frame_writer.specs.Encoding.{spanFits, runReads, keyFits, summaryFits, keySize, summarySize, given, Encoded};
+ghost use Rattle.frame_writer.specs.Encoding.{spanFits, runReads, keyFits, summaryFits, keySize, summarySize, frameIf, Encoded};
 use frame_fields::NackReason;
 use frame_fields::Part;
 use frame_fields::SessionId;
@@ -58,7 +58,7 @@ pub fn hello(
     out: &mut [u8],
 ) -> Written
     requires { ⌜ limit ≡ maxBody ⌝ }
-    ensures { λ r. ⌜ ((v : ℕ) → Encoded v (given (spanFits (now (src .entry)) node && runReads (num 2) (now (src .entry)) kinds) (hello version epoch (spanOf (now (src .entry)) node) (runOf (num 2) (now (src .entry)) kinds))) (now (out .entry)) (now (out .exit)) r) ⌝ }
+    ensures { λ r. ⌜ ((v : ℕ) → Encoded v (frameIf (spanFits (now (src .entry)) node && runReads (readNum 2) (now (src .entry)) kinds) (hello version epoch (spanOf (now (src .entry)) node) (runOf (readNum 2) (now (src .entry)) kinds))) (now (out .entry)) (now (out .exit)) r) ⌝ }
 {
     let fits = frame_writer::within(src, node) & frame_writer::kinds_fit(src, kinds);
     if fits & frame_utf8::is_utf8(frame_reader::slice(src, node)) {
@@ -83,7 +83,7 @@ fn put_welcome(epoch: u64, incarnation: u64, out: &mut [u8], at: usize) -> usize
 
 pub fn welcome(limit: u32, epoch: u64, incarnation: u64, out: &mut [u8]) -> Written
     requires { ⌜ limit ≡ maxBody ⌝ }
-    ensures { λ r. ⌜ ((v : ℕ) → Encoded v (given true (welcome epoch incarnation)) (now (out .entry)) (now (out .exit)) r) ⌝ }
+    ensures { λ r. ⌜ ((v : ℕ) → Encoded v (frameIf true (welcome epoch incarnation)) (now (out .entry)) (now (out .exit)) r) ⌝ }
 {
     match frame_writer::begin(out, limit, 17) {
         Start::TooLong => Written::TooLong,
@@ -120,7 +120,7 @@ pub fn bind(
     out: &mut [u8],
 ) -> Written
     requires { ⌜ limit ≡ maxBody ⌝ }
-    ensures { λ r. ⌜ ((v : ℕ) → Encoded v (given (keyFits (now (src .entry)) session) (bind handle epoch lag (keyOf (now (src .entry)) session))) (now (out .entry)) (now (out .exit)) r) ⌝ }
+    ensures { λ r. ⌜ ((v : ℕ) → Encoded v (frameIf (keyFits (now (src .entry)) session) (bind handle epoch lag (keyOf (now (src .entry)) session))) (now (out .entry)) (now (out .exit)) r) ⌝ }
 {
     if frame_writer::session_fits(src, session) {
         let begin = session.begin_string;
@@ -174,9 +174,9 @@ fn put_runs(
     at: usize,
 ) -> usize
     requires { ⌜ StandsAt (now src) (ops .at) k (runBytes changeBytes (runOf (readChange (p .version)) (now src) ops)) ⌝ }
-    requires { ⌜ StandsAt (now src) (records .at) m (runBytes appRecordBytes (runOf appRecord (now src) records)) ⌝ }
+    requires { ⌜ StandsAt (now src) (records .at) m (runBytes appRecordBytes (runOf readAppRecord (now src) records)) ⌝ }
     requires { ⌜ at + (4 + k + m) ≤ length (now out) ⌝ }
-    ensures { λ r. ⌜ Wrote (now (out .entry)) at (runBytes changeBytes (runOf (readChange (p .version)) (now (src .entry)) ops) ++ bytesOf 4 (records .count) ++ runBytes appRecordBytes (runOf appRecord (now (src .entry)) records)) (now (out .exit)) r ⌝ }
+    ensures { λ r. ⌜ Wrote (now (out .entry)) at (runBytes changeBytes (runOf (readChange (p .version)) (now (src .entry)) ops) ++ bytesOf 4 (records .count) ++ runBytes appRecordBytes (runOf readAppRecord (now (src .entry)) records)) (now (out .exit)) r ⌝ }
 {
     let first = records.at;
     let at = frame_op::put_ops(p, src, ops, k, out, at);
@@ -197,7 +197,7 @@ pub fn batch(
     out: &mut [u8],
 ) -> Written
     requires { ⌜ limit ≡ maxBody ⌝ }
-    ensures { λ r. ⌜ Encoded (p .version) (given (runReads (readChange (p .version)) (now (src .entry)) ops && runReads appRecord (now (src .entry)) records) (batch handle epoch commit (partOf part) (runOf (readChange (p .version)) (now (src .entry)) ops) (runOf appRecord (now (src .entry)) records))) (now (out .entry)) (now (out .exit)) r ⌝ }
+    ensures { λ r. ⌜ Encoded (p .version) (frameIf (runReads (readChange (p .version)) (now (src .entry)) ops && runReads readAppRecord (now (src .entry)) records) (batch handle epoch commit (partOf part) (runOf (readChange (p .version)) (now (src .entry)) ops) (runOf readAppRecord (now (src .entry)) records))) (now (out .entry)) (now (out .exit)) r ⌝ }
 {
     let RunLen::Bytes(k) = frame_op::ops_len(p, src, ops) else {
         return Written::Unreadable;
@@ -231,7 +231,7 @@ fn put_ack(handle: u32, commit: u64, out: &mut [u8], at: usize) -> usize
 
 pub fn ack(limit: u32, handle: u32, commit: u64, out: &mut [u8]) -> Written
     requires { ⌜ limit ≡ maxBody ⌝ }
-    ensures { λ r. ⌜ ((v : ℕ) → Encoded v (given true (ack handle commit)) (now (out .entry)) (now (out .exit)) r) ⌝ }
+    ensures { λ r. ⌜ ((v : ℕ) → Encoded v (frameIf true (ack handle commit)) (now (out .entry)) (now (out .exit)) r) ⌝ }
 {
     match frame_writer::begin(out, limit, 13) {
         Start::TooLong => Written::TooLong,
@@ -250,7 +250,7 @@ fn put_nack(handle: u32, reason: NackReason, out: &mut [u8], at: usize) -> usize
 
 pub fn nack(limit: u32, handle: u32, reason: NackReason, out: &mut [u8]) -> Written
     requires { ⌜ limit ≡ maxBody ⌝ }
-    ensures { λ r. ⌜ ((v : ℕ) → Encoded v (given true (nack handle (reasonOf reason))) (now (out .entry)) (now (out .exit)) r) ⌝ }
+    ensures { λ r. ⌜ ((v : ℕ) → Encoded v (frameIf true (nack handle (reasonOf reason))) (now (out .entry)) (now (out .exit)) r) ⌝ }
 {
     match frame_writer::begin(out, limit, 6) {
         Start::TooLong => Written::TooLong,
@@ -276,7 +276,7 @@ pub fn bound(
     out: &mut [u8],
 ) -> Written
     requires { ⌜ limit ≡ maxBody ⌝ }
-    ensures { λ r. ⌜ Encoded (p .version) (given (summaryFits (now (src .entry)) summary) (bound handle (summaryOf (now (src .entry)) summary))) (now (out .entry)) (now (out .exit)) r ⌝ }
+    ensures { λ r. ⌜ Encoded (p .version) (frameIf (summaryFits (now (src .entry)) summary) (bound handle (summaryOf (now (src .entry)) summary))) (now (out .entry)) (now (out .exit)) r ⌝ }
 {
     if frame_writer::summary_fits(p, src, summary) {
         let created_at = summary.created_at;
@@ -303,7 +303,7 @@ fn put_checked(handle: u32, epoch: u64, incarnation: u64, out: &mut [u8], at: us
 
 pub fn checked(limit: u32, handle: u32, epoch: u64, incarnation: u64, out: &mut [u8]) -> Written
     requires { ⌜ limit ≡ maxBody ⌝ }
-    ensures { λ r. ⌜ ((v : ℕ) → Encoded v (given true (checked handle epoch incarnation)) (now (out .entry)) (now (out .exit)) r) ⌝ }
+    ensures { λ r. ⌜ ((v : ℕ) → Encoded v (frameIf true (checked handle epoch incarnation)) (now (out .entry)) (now (out .exit)) r) ⌝ }
 {
     match frame_writer::begin(out, limit, 21) {
         Start::TooLong => Written::TooLong,

@@ -6,7 +6,7 @@ use mathlib.Core.List.{List}
 use borrow.Author.Tests.{not-true, not-false}
 use Rattle.model_text.specs.Printable.{isPrintable, isKey}
 use Rattle.model_frame.specs.Frame.{badSession}
-use Rattle.model_frame.specs.Parse.{Res, ok, bad, andThen, done, fail}
+use Rattle.model_frame.specs.Parse.{Res, ok, bad, andThen, pure, fail}
 use Rattle.frame_fields.specs.Answers.{noKey}
 
 module _ (a b c : List ℕ) {v w x : Bool} (e : v ≡ isPrintable 1 32 a) (f : w ≡ isPrintable 1 32 b) (g : x ≡ isPrintable 1 32 c) where
@@ -18,10 +18,10 @@ module _ (a b c : List ℕ) {v w x : Bool} (e : v ≡ isPrintable 1 32 a) (f : w
   -- they aren't: the fourth is read, and then there is no key
   pub key-none :
       not ((v && w) && x) ≡ true → {read suffix : Res (List ℕ)} → read ≡ suffix →
-      noKey read ≡ andThen suffix (λ d. cond (isKey a b c d) (done (record { begin = a; sender = b; target = c; suffix = d })) (fail badSession))
+      noKey read ≡ andThen suffix (λ d. cond (isKey a b c d) (pure (record { begin = a; sender = b; target = c; suffix = d })) (fail badSession))
   unfolding isKey
   key-none t {read} {suffix} h = ap noKey h ∙ go suffix
     where
-      go : (r : Res (List ℕ)) → noKey r ≡ andThen r (λ d. cond (isKey a b c d) (done (record { begin = a; sender = b; target = c; suffix = d })) (fail badSession))
+      go : (r : Res (List ℕ)) → noKey r ≡ andThen r (λ d. cond (isKey a b c d) (pure (record { begin = a; sender = b; target = c; suffix = d })) (fail badSession))
       go (ok d s) = rw (← e, ← f, ← g, not-true ((v && w) && x) t)
       go (bad k) = refl

@@ -3,8 +3,8 @@ ghost use mathlib.Core.Path.{_≡_};
 ghost use mathlib.Core.List.{List};
 ghost use Prim.Native.Nat.{ℕ};
 ghost use lib.ListN.{drop};
-ghost use Rattle.model_frame.specs.Parse.{num, many, forget};
-ghost use Rattle.model_frame.specs.Reading.{kinds, appRecord, appRecords, partByte, reason, key, flight, summary};
+ghost use Rattle.model_frame.specs.Parse.{readNum, many, forget};
+ghost use Rattle.model_frame.specs.Reading.{readKinds, readAppRecord, readAppRecords, readPart, readReason, readKey, flight, readSummary};
 ghost use Rattle.frame_reader.specs.Answers.{resSpan};
 ghost use Rattle.frame_op.specs.Answers.{resEnd, resRun, RunIn};
 ghost use Rattle.frame_fields.specs.Answers.{resPart, resReason, resRecord, resSession, KeyIn, noKey, flightOf, resSummary, SummaryIn};
@@ -136,7 +136,7 @@ pub enum SummaryAt {
 }
 
 pub fn part_from(buf: &[u8], c: Cursor) -> PartAt
-    ensures { λ r. ⌜ resPart (now (buf .entry)) r ≡ partByte (drop (c .at) (now (buf .entry))) ⌝ }
+    ensures { λ r. ⌜ resPart (now (buf .entry)) r ≡ readPart (drop (c .at) (now (buf .entry))) ⌝ }
 {
     let Byte::Got(k, d) = frame_reader::u8_from(buf, c) else {
         return PartAt::Bad(FrameError::Truncated);
@@ -150,7 +150,7 @@ pub fn part_from(buf: &[u8], c: Cursor) -> PartAt
 }
 
 pub fn reason_from(buf: &[u8], c: Cursor) -> ReasonAt
-    ensures { λ r. ⌜ resReason (now (buf .entry)) r ≡ reason (drop (c .at) (now (buf .entry))) ⌝ }
+    ensures { λ r. ⌜ resReason (now (buf .entry)) r ≡ readReason (drop (c .at) (now (buf .entry))) ⌝ }
 {
     let Byte::Got(k, d) = frame_reader::u8_from(buf, c) else {
         return ReasonAt::Bad(FrameError::Truncated);
@@ -166,8 +166,8 @@ pub fn reason_from(buf: &[u8], c: Cursor) -> ReasonAt
 
 // The kinds of application records: a kind is two bytes, so the count says where they end.
 pub fn kinds_from(buf: &[u8], c: Cursor) -> RunAt
-    ensures { λ r. ⌜ resRun (num 2) (now (buf .entry)) r ≡ kinds (drop (c .at) (now (buf .entry))) ⌝ }
-    ensures { λ r. ⌜ RunIn (num 2) (now (buf .entry)) r ⌝ }
+    ensures { λ r. ⌜ resRun (readNum 2) (now (buf .entry)) r ≡ readKinds (drop (c .at) (now (buf .entry))) ⌝ }
+    ensures { λ r. ⌜ RunIn (readNum 2) (now (buf .entry)) r ⌝ }
 {
     let Word32::Got(count, d) = frame_reader::count_from(buf, c, 2) else {
         return RunAt::Bad(FrameError::Truncated);
@@ -182,7 +182,7 @@ pub fn kinds_from(buf: &[u8], c: Cursor) -> RunAt
 }
 
 pub fn app_record_from(buf: &[u8], c: Cursor) -> AppRecordAt
-    ensures { λ r. ⌜ resRecord (now (buf .entry)) r ≡ appRecord (drop (c .at) (now (buf .entry))) ⌝ }
+    ensures { λ r. ⌜ resRecord (now (buf .entry)) r ≡ readAppRecord (drop (c .at) (now (buf .entry))) ⌝ }
 {
     let Word16::Got(kind, d) = frame_reader::u16_from(buf, c) else {
         return AppRecordAt::Bad(FrameError::Truncated);
@@ -195,7 +195,7 @@ pub fn app_record_from(buf: &[u8], c: Cursor) -> AppRecordAt
 
 // Where so many records end.
 pub fn app_records_end(buf: &[u8], c: Cursor, count: u32) -> End
-    ensures { λ r. ⌜ resEnd (now (buf .entry)) r ≡ forget (many count appRecord (drop (c .at) (now (buf .entry)))) ⌝ }
+    ensures { λ r. ⌜ resEnd (now (buf .entry)) r ≡ forget (many count readAppRecord (drop (c .at) (now (buf .entry)))) ⌝ }
 {
     let mut d = c;
     let mut n = count;
@@ -210,8 +210,8 @@ pub fn app_records_end(buf: &[u8], c: Cursor, count: u32) -> End
 }
 
 pub fn app_records_from(buf: &[u8], c: Cursor) -> RunAt
-    ensures { λ r. ⌜ resRun appRecord (now (buf .entry)) r ≡ appRecords (drop (c .at) (now (buf .entry))) ⌝ }
-    ensures { λ r. ⌜ RunIn appRecord (now (buf .entry)) r ⌝ }
+    ensures { λ r. ⌜ resRun readAppRecord (now (buf .entry)) r ≡ readAppRecords (drop (c .at) (now (buf .entry))) ⌝ }
+    ensures { λ r. ⌜ RunIn readAppRecord (now (buf .entry)) r ⌝ }
 {
     let Word32::Got(count, d) = frame_reader::count_from(buf, c, 6) else {
         return RunAt::Bad(FrameError::Truncated);
@@ -238,7 +238,7 @@ fn no_session(suffix: SpanAt) -> SessionAt
 
 // The four texts of a key, which is judged after all of them.
 pub fn session_from(buf: &[u8], c: Cursor) -> SessionAt
-    ensures { λ r. ⌜ resSession (now (buf .entry)) r ≡ key (drop (c .at) (now (buf .entry))) ⌝ }
+    ensures { λ r. ⌜ resSession (now (buf .entry)) r ≡ readKey (drop (c .at) (now (buf .entry))) ⌝ }
     ensures { λ r. ⌜ KeyIn (now (buf .entry)) r ⌝ }
 {
     match frame_reader::judged_from(buf, c, 1, 32) {
@@ -286,7 +286,7 @@ fn flight(n: u64) -> InFlight
 }
 
 pub fn summary_from(p: Protocol, buf: &[u8], c: Cursor) -> SummaryAt
-    ensures { λ r. ⌜ resSummary (now (buf .entry)) r ≡ summary (p .version) (drop (c .at) (now (buf .entry))) ⌝ }
+    ensures { λ r. ⌜ resSummary (now (buf .entry)) r ≡ readSummary (p .version) (drop (c .at) (now (buf .entry))) ⌝ }
     ensures { λ r. ⌜ SummaryIn (now (buf .entry)) r ⌝ }
 {
     let Word64::Got(next_outgoing, d) = frame_reader::u64_from(buf, c) else {

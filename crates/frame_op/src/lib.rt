@@ -7,7 +7,7 @@ ghost use Rattle.model_frame.specs.Bytes.{bytesOf};
 ghost use Rattle.model_frame.specs.Parse.{many, forget, runBytes};
 ghost use Rattle.model_frame.specs.Writing.{blobBytes, changeBytes, sizeOf};
 ghost use Rattle.base_laws.specs.Wrote.{Wrote, StandsAt};
-ghost use Rattle.model_frame.specs.Reading.{setIncomingFields, setIncomingInFlightFields, setInFlightFields, recordMsgFields, recordBareFields, setCreatedAtFields, setMarksFields, readChange, changes};
+ghost use Rattle.model_frame.specs.Reading.{setIncomingFields, setIncomingInFlightFields, setInFlightFields, recordMsgFields, recordBareFields, setCreatedAtFields, setMarksFields, readChange, readChanges};
 ghost use Rattle.frame_op.specs.Answers.{runOf, opOf, resOp, resEnd, resRun, RunIn, OpsLen};
 use frame_reader::Byte;
 use frame_reader::Cursor;
@@ -186,7 +186,7 @@ pub fn ops_end(p: Protocol, buf: &[u8], c: Cursor, count: u32) -> End
 
 // A count of changes and the changes, as a run.
 pub fn ops_from(p: Protocol, buf: &[u8], c: Cursor) -> RunAt
-    ensures { λ r. ⌜ resRun (readChange (p .version)) (now (buf .entry)) r ≡ changes (p .version) (drop (c .at) (now (buf .entry))) ⌝ }
+    ensures { λ r. ⌜ resRun (readChange (p .version)) (now (buf .entry)) r ≡ readChanges (p .version) (drop (c .at) (now (buf .entry))) ⌝ }
     ensures { λ r. ⌜ RunIn (readChange (p .version)) (now (buf .entry)) r ⌝ }
 {
     let Word32::Got(count, d) = frame_reader::count_from(buf, c, 1) else {

@@ -6,8 +6,8 @@ ghost use lib.ListN.{length, take, drop};
 ghost use Rattle.model_text.specs.Utf8.{utf8};
 ghost use Rattle.model_text.specs.Stamp.{takesStamp};
 ghost use Rattle.model_frame.specs.Frame.{badText};
-ghost use Rattle.model_frame.specs.Parse.{ok, bad, isEmpty, num, blob, text, count};
-ghost use Rattle.model_frame.specs.Reading.{stamp, stampOrNone, marks};
+ghost use Rattle.model_frame.specs.Parse.{ok, bad, isEmpty, readNum, readBlob, readText, readCount};
+ghost use Rattle.model_frame.specs.Reading.{readStamp, readStampOrNone, readMarks};
 ghost use Rattle.frame_reader.specs.Answers.{invalidOf, spanOf, res8, res16, res32, res64, resSpan, resJudged, Judged, Within32, Lies, SpanIn, JudgedIn};
 use frame_stamp::Protocol;
 
@@ -87,7 +87,7 @@ pub fn left(buf: &[u8], c: Cursor) -> usize
 }
 
 pub fn u8_from(buf: &[u8], c: Cursor) -> Byte
-    ensures { λ r. ⌜ res8 (now (buf .entry)) r ≡ num 1 (drop (c .at) (now (buf .entry))) ⌝ }
+    ensures { λ r. ⌜ res8 (now (buf .entry)) r ≡ readNum 1 (drop (c .at) (now (buf .entry))) ⌝ }
 {
     if left(buf, c) < 1 {
         return Byte::Short;
@@ -97,7 +97,7 @@ pub fn u8_from(buf: &[u8], c: Cursor) -> Byte
 }
 
 pub fn u16_from(buf: &[u8], c: Cursor) -> Word16
-    ensures { λ r. ⌜ res16 (now (buf .entry)) r ≡ num 2 (drop (c .at) (now (buf .entry))) ⌝ }
+    ensures { λ r. ⌜ res16 (now (buf .entry)) r ≡ readNum 2 (drop (c .at) (now (buf .entry))) ⌝ }
 {
     if left(buf, c) < 2 {
         return Word16::Short;
@@ -107,7 +107,7 @@ pub fn u16_from(buf: &[u8], c: Cursor) -> Word16
 }
 
 pub fn u32_from(buf: &[u8], c: Cursor) -> Word32
-    ensures { λ r. ⌜ res32 (now (buf .entry)) r ≡ num 4 (drop (c .at) (now (buf .entry))) ⌝ }
+    ensures { λ r. ⌜ res32 (now (buf .entry)) r ≡ readNum 4 (drop (c .at) (now (buf .entry))) ⌝ }
     ensures { λ r. ⌜ Within32 (now (buf .entry)) r ⌝ }
 {
     if left(buf, c) < 4 {
@@ -118,7 +118,7 @@ pub fn u32_from(buf: &[u8], c: Cursor) -> Word32
 }
 
 pub fn u64_from(buf: &[u8], c: Cursor) -> Word64
-    ensures { λ r. ⌜ res64 (now (buf .entry)) r ≡ num 8 (drop (c .at) (now (buf .entry))) ⌝ }
+    ensures { λ r. ⌜ res64 (now (buf .entry)) r ≡ readNum 8 (drop (c .at) (now (buf .entry))) ⌝ }
 {
     if left(buf, c) < 8 {
         return Word64::Short;
@@ -129,7 +129,7 @@ pub fn u64_from(buf: &[u8], c: Cursor) -> Word64
 
 // A blob, as the part of the buffer where its bytes stand: they are not looked at.
 pub fn blob_from(buf: &[u8], c: Cursor) -> SpanAt
-    ensures { λ r. ⌜ resSpan (now (buf .entry)) r ≡ blob (drop (c .at) (now (buf .entry))) ⌝ }
+    ensures { λ r. ⌜ resSpan (now (buf .entry)) r ≡ readBlob (drop (c .at) (now (buf .entry))) ⌝ }
     ensures { λ r. ⌜ SpanIn (now (buf .entry)) r ⌝ }
 {
     let Word32::Got(n, d) = u32_from(buf, c) else {
@@ -165,7 +165,7 @@ pub fn slice(buf: &[u8], p: Span) -> &[u8]
 }
 
 pub fn text_from(buf: &[u8], c: Cursor) -> SpanAt
-    ensures { λ r. ⌜ resSpan (now (buf .entry)) r ≡ text (drop (c .at) (now (buf .entry))) ⌝ }
+    ensures { λ r. ⌜ resSpan (now (buf .entry)) r ≡ readText (drop (c .at) (now (buf .entry))) ⌝ }
     ensures { λ r. ⌜ SpanIn (now (buf .entry)) r ⌝ }
 {
     match blob_from(buf, c) {
@@ -196,7 +196,7 @@ fn kept(buf: &[u8], s: Span, d: Cursor, fine: bool, v: Value) -> SpanAt
 }
 
 pub fn stamp_from(p: Protocol, buf: &[u8], c: Cursor) -> SpanAt
-    ensures { λ r. ⌜ resSpan (now (buf .entry)) r ≡ stamp (p .version) (drop (c .at) (now (buf .entry))) ⌝ }
+    ensures { λ r. ⌜ resSpan (now (buf .entry)) r ≡ readStamp (p .version) (drop (c .at) (now (buf .entry))) ⌝ }
     ensures { λ r. ⌜ SpanIn (now (buf .entry)) r ⌝ }
 {
     match blob_from(buf, c) {
@@ -219,7 +219,7 @@ pub fn is_stamp_or_none(p: Protocol, s: &[u8]) -> bool
 }
 
 pub fn stamp_or_none_from(p: Protocol, buf: &[u8], c: Cursor) -> SpanAt
-    ensures { λ r. ⌜ resSpan (now (buf .entry)) r ≡ stampOrNone (p .version) (drop (c .at) (now (buf .entry))) ⌝ }
+    ensures { λ r. ⌜ resSpan (now (buf .entry)) r ≡ readStampOrNone (p .version) (drop (c .at) (now (buf .entry))) ⌝ }
     ensures { λ r. ⌜ SpanIn (now (buf .entry)) r ⌝ }
 {
     match blob_from(buf, c) {
@@ -232,7 +232,7 @@ pub fn stamp_or_none_from(p: Protocol, buf: &[u8], c: Cursor) -> SpanAt
 }
 
 pub fn marks_from(buf: &[u8], c: Cursor) -> SpanAt
-    ensures { λ r. ⌜ resSpan (now (buf .entry)) r ≡ marks (drop (c .at) (now (buf .entry))) ⌝ }
+    ensures { λ r. ⌜ resSpan (now (buf .entry)) r ≡ readMarks (drop (c .at) (now (buf .entry))) ⌝ }
     ensures { λ r. ⌜ SpanIn (now (buf .entry)) r ⌝ }
 {
     match blob_from(buf, c) {
@@ -246,7 +246,7 @@ pub fn marks_from(buf: &[u8], c: Cursor) -> SpanAt
 
 // A text, and whether it has lo to hi printable bytes: the key's rule for one of its texts.
 pub fn judged_from(buf: &[u8], c: Cursor, lo: usize, hi: usize) -> JudgedAt
-    ensures { λ r. ⌜ resJudged (now (buf .entry)) r ≡ text (drop (c .at) (now (buf .entry))) ⌝ }
+    ensures { λ r. ⌜ resJudged (now (buf .entry)) r ≡ readText (drop (c .at) (now (buf .entry))) ⌝ }
     ensures { λ r. ⌜ Judged lo hi (now (buf .entry)) r ⌝ }
     ensures { λ r. ⌜ JudgedIn (now (buf .entry)) r ⌝ }
 {
@@ -268,7 +268,7 @@ pub fn judged_from(buf: &[u8], c: Cursor, lo: usize, hi: usize) -> JudgedAt
 // A count of items that need at least `min` bytes each in what is left.
 pub fn count_from(buf: &[u8], c: Cursor, min: u64) -> Word32
     requires { ⌜ min ≤ 6 ⌝ }
-    ensures { λ r. ⌜ res32 (now (buf .entry)) r ≡ count min (drop (c .at) (now (buf .entry))) ⌝ }
+    ensures { λ r. ⌜ res32 (now (buf .entry)) r ≡ readCount min (drop (c .at) (now (buf .entry))) ⌝ }
 {
     match u32_from(buf, c) {
         Word32::Short => Word32::Short,

@@ -8,10 +8,10 @@ use native.Mathlib.Numerals.{add-one}
 use lib.Dec.{leb}
 use lib.ListN.{length, drop, getD, drop-of-length-le}
 use lib.Seq.{drop-cons}
-use Rattle.model_text.specs.Stamp.{isDigit, isPair, fits, date, clock, millis, isStamp}
+use Rattle.model_text.specs.Stamp.{isDigit, isPair, matches, date, clock, millis, isStamp}
 use Rattle.model_text.proofs.Formed.{and-l, and-r}
 use Rattle.model_text.proofs.Form.{digit-bounds, not-long}
-use Rattle.frame_stamp.specs.Places.{bytesAt}
+use Rattle.frame_stamp.specs.Places.{sliceAt}
 
 -- what is_pair knows of its bytes behind its test, and what it answers
 module _ (a b : ℕ) {t u : Bool} (et : t ≡ isDigit a) (eu : u ≡ isDigit b) where
@@ -27,7 +27,7 @@ module _ (a b : ℕ) {t u : Bool} (et : t ≡ isDigit a) (eu : u ≡ isDigit b) 
 
 -- ---- the bytes, one by one
 
-pub bytes-all : (k i : ℕ) (s : List ℕ) → i + k ≡ length s → bytesAt s i k ≡ drop i s
+pub bytes-all : (k i : ℕ) (s : List ℕ) → i + k ≡ length s → sliceAt s i k ≡ drop i s
 bytes-all zero i s e = let h : length s ≤ i = omega arith in sym (drop-of-length-le s h)
 bytes-all (suc k) i s e =
     ap (λ (l : List ℕ). getD s i 0 ∷ l) (bytes-all k (i + 1) s (omega arith) ∙ ap (λ (n : ℕ). drop n s) (add-one i))
@@ -35,25 +35,25 @@ bytes-all (suc k) i s e =
 
 module _ (s : List ℕ) where
   pub says-date : {a b c d p q : Bool} → a ≡ isDigit (getD s 0 0) → b ≡ isDigit (getD s 1 0) → c ≡ isDigit (getD s 2 0) → d ≡ isDigit (getD s 3 0)
-      → p ≡ isPair 1 12 (getD s 4 0) (getD s 5 0) → q ≡ isPair 1 31 (getD s 6 0) (getD s 7 0) → (a && b && c && d && p && q) ≡ fits date (bytesAt s 0 8)
+      → p ≡ isPair 1 12 (getD s 4 0) (getD s 5 0) → q ≡ isPair 1 31 (getD s 6 0) (getD s 7 0) → (a && b && c && d && p && q) ≡ matches date (sliceAt s 0 8)
   says-date ea eb ec ed ep eq = (λ i. ea i && eb i && ec i && ed i && ep i && eq i) ∙ simp (and-assoc, and-true)
 
-  pub says-seconds : length s ≡ 17 → {d c : Bool} → d ≡ fits date (bytesAt s 0 8) → c ≡ fits clock (bytesAt s 8 9) → (d && c) ≡ isStamp s
+  pub says-seconds : length s ≡ 17 → {d c : Bool} → d ≡ matches date (sliceAt s 0 8) → c ≡ matches clock (sliceAt s 8 9) → (d && c) ≡ isStamp s
   unfolding isStamp
   says-seconds h ed ec =
       (λ i. ed i && ec i)
-      ∙ (let e : (fits date (bytesAt s 0 8) && fits clock (bytesAt s 8 9)) ≡ fits (date ++ clock) (bytesAt s 0 17) = simp (and-assoc, and-true) in e)
-      ∙ ap (fits (date ++ clock)) (bytes-all 17 0 s (sym h))
-      ∙ sym (ap (λ (t : Bool). fits (date ++ clock) s || t) (not-long (date ++ clock ++ millis) s (λ q. omega arith)) ∙ or-false (fits (date ++ clock) s))
+      ∙ (let e : (matches date (sliceAt s 0 8) && matches clock (sliceAt s 8 9)) ≡ matches (date ++ clock) (sliceAt s 0 17) = simp (and-assoc, and-true) in e)
+      ∙ ap (matches (date ++ clock)) (bytes-all 17 0 s (sym h))
+      ∙ sym (ap (λ (t : Bool). matches (date ++ clock) s || t) (not-long (date ++ clock ++ millis) s (λ q. omega arith)) ∙ or-false (matches (date ++ clock) s))
 
-  pub says-millis : length s ≡ 21 → {d c m : Bool} → d ≡ fits date (bytesAt s 0 8) → c ≡ fits clock (bytesAt s 8 9) → m ≡ fits millis (bytesAt s 17 4)
+  pub says-millis : length s ≡ 21 → {d c m : Bool} → d ≡ matches date (sliceAt s 0 8) → c ≡ matches clock (sliceAt s 8 9) → m ≡ matches millis (sliceAt s 17 4)
       → (d && c && m) ≡ isStamp s
   unfolding isStamp
   says-millis h ed ec em =
       (λ i. ed i && ec i && em i)
-      ∙ (let e : (fits date (bytesAt s 0 8) && fits clock (bytesAt s 8 9) && fits millis (bytesAt s 17 4)) ≡ fits (date ++ clock ++ millis) (bytesAt s 0 21) = simp (and-assoc, and-true) in e)
-      ∙ ap (fits (date ++ clock ++ millis)) (bytes-all 21 0 s (sym h))
-      ∙ sym (ap (λ (t : Bool). t || fits (date ++ clock ++ millis) s) (not-long (date ++ clock) s (λ q. omega arith)))
+      ∙ (let e : (matches date (sliceAt s 0 8) && matches clock (sliceAt s 8 9) && matches millis (sliceAt s 17 4)) ≡ matches (date ++ clock ++ millis) (sliceAt s 0 21) = simp (and-assoc, and-true) in e)
+      ∙ ap (matches (date ++ clock ++ millis)) (bytes-all 21 0 s (sym h))
+      ∙ sym (ap (λ (t : Bool). t || matches (date ++ clock ++ millis) s) (not-long (date ++ clock) s (λ q. omega arith)))
 
   pub says-neither : (length s ≡ 17 → ⊥) → (length s ≡ 21 → ⊥) → false ≡ isStamp s
   unfolding isStamp

@@ -4,6 +4,6 @@ use Prim.Native.Nat.{ℕ, zero, suc, _+_}
 use lib.ListN.{getD}
 
 -- the k bytes of s from i on
-abbrev pub bytesAt : List ℕ → ℕ → ℕ → List ℕ
-bytesAt s i zero = []
-bytesAt s i (suc k) = getD s i 0 ∷ bytesAt s (i + 1) k
+abbrev pub sliceAt : List ℕ → ℕ → ℕ → List ℕ
+sliceAt s i zero = []
+sliceAt s i (suc k) = getD s i 0 ∷ sliceAt s (i + 1) k

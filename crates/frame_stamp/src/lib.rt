@@ -2,9 +2,9 @@
 ghost use mathlib.Core.Path.{_≡_};
 ghost use Prim.Native.Nat.{_≤_};
 ghost use lib.ListN.{length};
-ghost use Rattle.model_text.specs.Printable.{isPlain, allPlain, isPrintable, isMarks, isKey};
-ghost use Rattle.model_text.specs.Stamp.{isDigit, isPair, fits, date, clock, millis, isStamp, takesStamp};
-ghost use Rattle.frame_stamp.specs.Places.{bytesAt};
+ghost use Rattle.model_text.specs.Printable.{isPrintableByte, allPrintable, isPrintable, isMarks, isKey};
+ghost use Rattle.model_text.specs.Stamp.{isDigit, isPair, matches, date, clock, millis, isStamp, takesStamp};
+ghost use Rattle.frame_stamp.specs.Places.{sliceAt};
 
 // What an instance speaks on a connection: the version decides which stamps are taken.
 #[repr(C)]
@@ -14,14 +14,14 @@ pub struct Protocol {
 
 // 20 to 7E, hexadecimal.
 fn is_plain(b: u8) -> bool
-    ensures { λ r. ⌜ r ≡ isPlain b ⌝ }
+    ensures { λ r. ⌜ r ≡ isPrintableByte b ⌝ }
 {
     (0x20 <= b) & (b <= 0x7E)
 }
 
 // All of s is printable ASCII.
 fn all_plain(s: &[u8]) -> bool
-    ensures { λ r. ⌜ r ≡ allPlain (now (s .entry)) ⌝ }
+    ensures { λ r. ⌜ r ≡ allPrintable (now (s .entry)) ⌝ }
 {
     let mut ok = true;
     let mut i: usize = 0;
@@ -84,7 +84,7 @@ fn is_pair(lo: u8, hi: u8, a: u8, b: u8) -> bool
 // YYYYMMDD at 0.
 fn is_date(s: &[u8]) -> bool
     requires { ⌜ 17 ≤ length (now s) ⌝ }
-    ensures { λ r. ⌜ r ≡ fits date (bytesAt (now (s .entry)) 0 8) ⌝ }
+    ensures { λ r. ⌜ r ≡ matches date (sliceAt (now (s .entry)) 0 8) ⌝ }
 {
     is_digit(s[0])
         & is_digit(s[1])
@@ -97,7 +97,7 @@ fn is_date(s: &[u8]) -> bool
 // -HH:MM:SS at 8.
 fn is_clock(s: &[u8]) -> bool
     requires { ⌜ 17 ≤ length (now s) ⌝ }
-    ensures { λ r. ⌜ r ≡ fits clock (bytesAt (now (s .entry)) 8 9) ⌝ }
+    ensures { λ r. ⌜ r ≡ matches clock (sliceAt (now (s .entry)) 8 9) ⌝ }
 {
     (s[8] == b'-')
         & is_pair(0, 23, s[9], s[10])
@@ -110,7 +110,7 @@ fn is_clock(s: &[u8]) -> bool
 // .sss at 17.
 fn is_millis(s: &[u8]) -> bool
     requires { ⌜ 21 ≤ length (now s) ⌝ }
-    ensures { λ r. ⌜ r ≡ fits millis (bytesAt (now (s .entry)) 17 4) ⌝ }
+    ensures { λ r. ⌜ r ≡ matches millis (sliceAt (now (s .entry)) 17 4) ⌝ }
 {
     (s[17] == b'.') & is_digit(s[18]) & is_digit(s[19]) & is_digit(s[20])
 }

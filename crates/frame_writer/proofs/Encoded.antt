@@ -17,18 +17,18 @@ use Rattle.frame_writer.specs.declared.Written.{Written}
 use Rattle.frame_writer.specs.declared.Written
 use Rattle.frame_writer.specs.declared.Start.{Start}
 use Rattle.frame_writer.specs.declared.Start
-use Rattle.frame_writer.specs.Encoding.{given, outcome, took, Encoded, Started}
+use Rattle.frame_writer.specs.Encoding.{frameIf, writeOutcome, took, Encoded, Started}
 
 module _ (version : ℕ) (t : Bool) (f : Frame) where
   -- a field can't be written
   pub record Unready : Type 0 where
     pub unfit : (t && fine version f) ≡ false
 
-  pub encoded-unreadable : (out : List ℕ) → Unready → Encoded version (given t f) out out Written.Unreadable
-  unfolding outcome
+  pub encoded-unreadable : (out : List ℕ) → Unready → Encoded version (frameIf t f) out out Written.Unreadable
+  unfolding writeOutcome
   encoded-unreadable out u = go t (u .unfit)
     where
-      go : (t : Bool) → (t && fine version f) ≡ false → Encoded version (given t f) out out Written.Unreadable
+      go : (t : Bool) → (t && fine version f) ≡ false → Encoded version (frameIf t f) out out Written.Unreadable
       go true e = record { answer = rw e; area = rw e }
       go false e = record { answer = refl; area = refl }
 
@@ -43,8 +43,8 @@ module _ (version : ℕ) (t : Bool) (f : Frame) where
   encode-length r = length-append (bytesOf 4 (length (bodyBytes f))) (bodyBytes f) ∙ omega (arith, length-bytes 4 (length (bodyBytes f)), r .size)
 
   module _ {n : ℕ} {before after : List ℕ} (r : Ready n) where
-    pub encoded-long : Started n before after Start.TooLong → Encoded version (given t f) before after Written.TooLong
-    unfolding outcome
+    pub encoded-long : Started n before after Start.TooLong → Encoded version (frameIf t f) before after Written.TooLong
+    unfolding writeOutcome
     encoded-long s =
         let long : maxBody < length (bodyBytes f) = omega (arith, r .size, s .0) in
         record {
@@ -52,8 +52,8 @@ module _ (version : ℕ) (t : Bool) (f : Frame) where
           area = rw (r .read, r .texts, lt-ltb _ _ long) (s .1);
         }
 
-    pub encoded-full : Started n before after Start.NoRoom → Encoded version (given t f) before after Written.NoRoom
-    unfolding outcome
+    pub encoded-full : Started n before after Start.NoRoom → Encoded version (frameIf t f) before after Written.NoRoom
+    unfolding writeOutcome
     encoded-full s =
         let short : length (bodyBytes f) ≤ maxBody = omega (arith, r .size, s .0) in
         let full : length before < length (encode f) = omega (arith, encode-length r, s .1) in
@@ -62,8 +62,8 @@ module _ (version : ℕ) (t : Bool) (f : Frame) where
           area = rw (r .read, r .texts, le-ltb _ _ short, lt-ltb _ _ full) (s .2);
         }
 
-    pub encoded-took : {last : List ℕ} {k end : ℕ} → Started n before after (Start.At k) → Wrote after k (bodyBytes f) last end → Encoded version (given t f) before last (Written.Took end)
-    unfolding outcome encode
+    pub encoded-took : {last : List ℕ} {k end : ℕ} → Started n before after (Start.At k) → Wrote after k (bodyBytes f) last end → Encoded version (frameIf t f) before last (Written.Took end)
+    unfolding writeOutcome encode
     encoded-took {last} {k} {end} s w =
         let short : length (bodyBytes f) ≤ maxBody = omega (arith, r .size, s .0) in
         let fits : length (encode f) ≤ length before = omega (arith, encode-length r, s .1) in

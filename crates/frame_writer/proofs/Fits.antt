@@ -15,7 +15,7 @@ use Rattle.model_text.specs.Stamp.{takesStamp}
 use Rattle.model_text.proofs.Laws.{marks-is, key-is}
 use Rattle.model_frame.specs.Bytes.{le}
 use Rattle.model_frame.specs.Frame.{truncated}
-use Rattle.model_frame.specs.Parse.{isEmpty, Res, ok, bad, andThen, bytes, num, many, forget}
+use Rattle.model_frame.specs.Parse.{isEmpty, Res, ok, bad, andThen, readBytes, readNum, many, forget}
 use Rattle.model_frame.specs.Writing.{fineKey, fineSummary}
 use Rattle.base_laws.proofs.Places.{num-whole}
 use Rattle.base_laws.proofs.Runs.{numbers-end}
@@ -54,26 +54,26 @@ isOk-cons : {A : Type 0} (a : A) (m : Res (List A)) → isOk (andThen m (λ xs s
 isOk-cons a (ok xs s) = refl
 isOk-cons a (bad e) = refl
 
-num-lacks : (w : ℕ) (s : List ℕ) → leb w (length s) ≡ false → num w s ≡ bad truncated
-unfolding num bytes
+num-lacks : (w : ℕ) (s : List ℕ) → leb w (length s) ≡ false → readNum w s ≡ bad truncated
+unfolding readNum readBytes
 num-lacks w s e = rw e
 
-numbers-short : (w n : ℕ) (s : List ℕ) → length s < n * w → isOk (many n (num w) s) ≡ false
+numbers-short : (w n : ℕ) (s : List ℕ) → length s < n * w → isOk (many n (readNum w) s) ≡ false
 unfolding many
 numbers-short w zero s h = absurd (omega arith)
 numbers-short w (suc n) s h = go (leb w (length s)) refl (numbers-short w n (drop w s))
   where
-    go : (t : Bool) → leb w (length s) ≡ t → (length (drop w s) < n * w → isOk (many n (num w) (drop w s)) ≡ false) → isOk (many (suc n) (num w) s) ≡ false
+    go : (t : Bool) → leb w (length s) ≡ t → (length (drop w s) < n * w → isOk (many n (readNum w) (drop w s)) ≡ false) → isOk (many (suc n) (readNum w) s) ≡ false
     go true e ih =
         let room = leb-true w (length s) e in
-        rw (num-whole w s room, isOk-cons (le (take w s)) (many n (num w) (drop w s))) (ih (omega (arith, suc-mul n w, length-drop w s)))
+        rw (num-whole w s room, isOk-cons (le (take w s)) (many n (readNum w) (drop w s))) (ih (omega (arith, suc-mul n w, length-drop w s)))
     go false e ih = rw (num-lacks w s e)
 
-pub numbers-read : (w n : ℕ) (s : List ℕ) {k : ℕ} → k ≡ length s → leb (n * w) k ≡ isOk (many n (num w) s)
+pub numbers-read : (w n : ℕ) (s : List ℕ) {k : ℕ} → k ≡ length s → leb (n * w) k ≡ isOk (many n (readNum w) s)
 numbers-read w n s {k} q = go (leb (n * w) k) refl
   where
-    go : (t : Bool) → leb (n * w) k ≡ t → t ≡ isOk (many n (num w) s)
-    go true e = let h = leb-true (n * w) k e in sym (isOk-forget (many n (num w) s) ∙ ap isOk (numbers-end w n s (omega arith)))
+    go : (t : Bool) → leb (n * w) k ≡ t → t ≡ isOk (many n (readNum w) s)
+    go true e = let h = leb-true (n * w) k e in sym (isOk-forget (many n (readNum w) s) ∙ ap isOk (numbers-end w n s (omega arith)))
     go false e = let h = leb-false (n * w) k e in sym (numbers-short w n s (omega arith))
 
 -- ---- keys and summaries: a rule that only UTF-8 meets makes the test of UTF-8 superfluous

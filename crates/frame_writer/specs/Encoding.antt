@@ -11,7 +11,7 @@ use Rattle.model_frame.specs.Bytes.{bytesOf, write}
 use Rattle.model_frame.specs.Frame as the-frame
 use Rattle.model_frame.specs.Frame.{Key, Frame}
 use Rattle.model_frame.specs.Parse.{Res, ok, bad, Parser, many, runBytes}
-use Rattle.model_frame.specs.Reading.{maxBody, appRecord}
+use Rattle.model_frame.specs.Reading.{maxBody, readAppRecord}
 use Rattle.model_frame.specs.Writing.{appRecordBytes, bodyBytes, encode, fine}
 use Rattle.base_laws.specs.Wrote.{Wrote, StandsAt}
 use Rattle.frame_reader.specs.declared.Span.{Span}
@@ -47,9 +47,9 @@ summaryFits src m = spanFits src (m .«created_at») && spanFits src (m .marks)
 
 abbrev pub RecordsLen : List ℕ → Run → RunLen → Type 0
 RecordsLen b r (RunLen.Bytes n) =
-    (many (r .count) appRecord (drop (r .at) b) ≡ ok (runOf appRecord b r) (drop (r .at + n) b))
-    × StandsAt b (r .at) n (runBytes appRecordBytes (runOf appRecord b r))
-RecordsLen b r (RunLen.Bad e) = many (r .count) appRecord (drop (r .at) b) ≡ bad (faultOf e)
+    (many (r .count) readAppRecord (drop (r .at) b) ≡ ok (runOf readAppRecord b r) (drop (r .at + n) b))
+    × StandsAt b (r .at) n (runBytes appRecordBytes (runOf readAppRecord b r))
+RecordsLen b r (RunLen.Bad e) = many (r .count) readAppRecord (drop (r .at) b) ≡ bad (faultOf e)
 
 -- how many bytes a key and a summary take
 abbrev pub keySize : Key → ℕ
@@ -59,47 +59,47 @@ abbrev pub summarySize : the-frame.Summary → ℕ
 summarySize m = 40 + length (m .stampText) + length (m .marksText)
 
 -- a frame, if all of it stands in the source
-abbrev pub given : Bool → Frame → Option Frame
-given t f = cond t (some f) none
+abbrev pub frameIf : Bool → Frame → Option Frame
+frameIf t f = cond t (some f) none
 
 -- ---- the outcome
 
-pub data Outcome : Type 0 where
-  wrote : List ℕ → Outcome
-  refused : ℕ → Outcome
+pub data WriteOutcome : Type 0 where
+  wrote : List ℕ → WriteOutcome
+  refused : ℕ → WriteOutcome
 
 -- 8 a field that reading would refuse, or that the source doesn't have; 1 a body too long; 9 an area too short; in that order
-unfoldable pub outcome : ℕ → Option Frame → ℕ → Outcome
-outcome version none room = refused Refusal.unreadable
-outcome version (some f) room =
+unfoldable pub writeOutcome : ℕ → Option Frame → ℕ → WriteOutcome
+writeOutcome version none room = refused Refusal.unreadable
+writeOutcome version (some f) room =
     cond (fine version f)
     (cond (ltb maxBody (length (bodyBytes f))) (refused Refusal.tooLong)
     (cond (ltb room (length (encode f))) (refused Refusal.noRoom) (wrote (encode f))))
     (refused Refusal.unreadable)
 
 -- the area: the bytes at its start and the rest as it was; a refusal leaves all of it
-abbrev pub areaAfter : Outcome → List ℕ → List ℕ
+abbrev pub areaAfter : WriteOutcome → List ℕ → List ℕ
 areaAfter (wrote bs) out = write out 0 bs
 areaAfter (refused n) out = out
 
 -- the answer's number: how many bytes were written, or the refusal
-pub data Answer : Type 0 where
-  took : ℕ → Answer
-  refusal : ℕ → Answer
+pub data WriteAnswer : Type 0 where
+  took : ℕ → WriteAnswer
+  writeRefusal : ℕ → WriteAnswer
 
-abbrev pub answerOf : Outcome → Answer
-answerOf (wrote bs) = took (length bs)
-answerOf (refused n) = refusal n
+abbrev pub writeAnswer : WriteOutcome → WriteAnswer
+writeAnswer (wrote bs) = took (length bs)
+writeAnswer (refused n) = writeRefusal n
 
-abbrev pub writtenOf : Written → Answer
+abbrev pub writtenOf : Written → WriteAnswer
 writtenOf (Written.Took n) = took n
-writtenOf Written.Unreadable = refusal Refusal.unreadable
-writtenOf Written.TooLong = refusal Refusal.tooLong
-writtenOf Written.NoRoom = refusal Refusal.noRoom
+writtenOf Written.Unreadable = writeRefusal Refusal.unreadable
+writtenOf Written.TooLong = writeRefusal Refusal.tooLong
+writtenOf Written.NoRoom = writeRefusal Refusal.noRoom
 
 pub record Encoded (version : ℕ) (f : Option Frame) (before after : List ℕ) (r : Written) : Type 0 where
-  pub answer : writtenOf r ≡ answerOf (outcome version f (length before))
-  pub area : after ≡ areaAfter (outcome version f (length before)) before
+  pub answer : writtenOf r ≡ writeAnswer (writeOutcome version f (length before))
+  pub area : after ≡ areaAfter (writeOutcome version f (length before)) before
 
 -- the length in front of a body of n bytes, where there is room for both
 abbrev pub Started : ℕ → List ℕ → List ℕ → Start → Type 0

@@ -6,14 +6,14 @@ ghost use Prim.Native.Nat.{ℕ, _+_, _*_, _^_, _≤_, _<_};
 ghost use lib.ListN.{length};
 ghost use Rattle.model_frame.specs.Bytes.{bytesOf};
 ghost use Rattle.model_frame.specs.Frame.{hello, welcome, bind, batch, ack, nack, bound, checked};
-ghost use Rattle.model_frame.specs.Parse.{num};
-ghost use Rattle.model_frame.specs.Reading.{readChange, appRecord, maxBody};
+ghost use Rattle.model_frame.specs.Parse.{readNum};
+ghost use Rattle.model_frame.specs.Reading.{readChange, readAppRecord, maxBody};
 ghost use Rattle.model_frame.specs.Writing.{blobBytes, keyBytes, summaryBytes, partNumber, reasonNumber, flightNumber, fineKey, fineSummary};
 ghost use Rattle.base_laws.specs.Wrote.{Wrote};
 ghost use Rattle.frame_reader.specs.Answers.{spanOf};
 ghost use Rattle.frame_op.specs.Answers.{runOf};
 ghost use Rattle.frame_fields.specs.Answers.{partOf, reasonOf, flightOf, keyOf, summaryOf};
-ghost use Rattle.frame_writer.specs.Encoding.{spanFits, runReads, keyFits, summaryFits, RecordsLen, keySize, summarySize, given, Encoded, Started};
+ghost use Rattle.frame_writer.specs.Encoding.{spanFits, runReads, keyFits, summaryFits, RecordsLen, keySize, summarySize, frameIf, Encoded, Started};
 use frame_fields::InFlight;
 use frame_fields::NackReason;
 use frame_fields::Part;
@@ -55,7 +55,7 @@ pub fn within(src: &[u8], p: Span) -> bool
 
 // Whether so many kinds can be read.
 pub fn kinds_fit(src: &[u8], run: Run) -> bool
-    ensures { λ r. ⌜ r ≡ runReads (num 2) (now (src .entry)) run ⌝ }
+    ensures { λ r. ⌜ r ≡ runReads (readNum 2) (now (src .entry)) run ⌝ }
 {
     let at = run.at;
     (run.count as usize) * 2 <= frame_reader::left(src, Cursor { at })

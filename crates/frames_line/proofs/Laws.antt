@@ -23,8 +23,8 @@ use Rattle.model_standby.specs.State.{Standby, onFrame}
 use Rattle.model_standby.proofs.Answering.{answerBytes, Tellable, Told, Telling, frame-told}
 use Rattle.store_log.proofs.Lawful.{Small}
 use Rattle.store_areas.proofs.Holding.{all-holdable}
-use Rattle.frame_writer.specs.Encoding.{outcome}
-use Rattle.base_hex.specs.Lines.{Reads, Puts, lineRead, lineLength}
+use Rattle.frame_writer.specs.Encoding.{writeOutcome}
+use Rattle.base_hex.specs.Lines.{ReadsLine, Puts, lineRead, lineLength}
 use Rattle.base_hex.specs.declared.Line.{Line}
 use Rattle.base_hex.specs.declared.Line.the-variants.{Bytes, Bad}
 use Rattle.standby_row.specs.declared.Handle.{Handle}
@@ -48,7 +48,7 @@ pub takes-any : {p q : ℕ} → q ≡ p → 8192 ≤ p → answerBytes ≤ q
 takes-any e h = omega arith
 
 -- the bytes lie in the area
-pub reads-within : {bs : Option (List ℕ)} {buf : List ℕ} {r : Line} {m : ℕ} → Reads bs buf r → r ≡ Bytes m → m ≤ length buf
+pub reads-within : {bs : Option (List ℕ)} {buf : List ℕ} {r : Line} {m : ℕ} → ReadsLine bs buf r → r ≡ Bytes m → m ≤ length buf
 reads-within {buf = buf} g e = subst (λ (x : Line). lineLength x ≤ length buf) e (g .within)
 
 put-text : {t out out' : List ℕ} {n : ℕ} → Puts t out out' n → take n out' ≡ t
@@ -56,8 +56,8 @@ put-text {t} {out} {out'} {n} p = ap (take n) (p .wrote) ∙ take-at t (drop (le
 
 -- ---- the answer's text: what is told can be written, and fits
 
-said : (f : Frame) {room : ℕ} → Tellable f → answerBytes ≤ room → outcomeText (outcome 1 (some f) room) ≡ hexOf (encode f)
-unfolding outcome
+said : (f : Frame) {room : ℕ} → Tellable f → answerBytes ≤ room → outcomeText (writeOutcome 1 (some f) room) ≡ hexOf (encode f)
+unfolding writeOutcome
 said f {room} t big = rw (t .writable .texts, le-ltb maxBody (length (bodyBytes f)) (t .writable .short), le-ltb room (length (encode f)) (le-trans (t .small) big)) refl
 
 text-is : (a : the-answer.Answer) {room : ℕ} → Told a → answerBytes ≤ room → answerText room a ≡ lineText a
@@ -96,10 +96,10 @@ module _ (l : List ℕ) (c : Replica) (row : List Handle) (w b h out : List ℕ)
   answers : {c' : Replica} {row' : List Handle} {w' b' h' out' t : List ℕ} {n : ℕ} → Heard l c c' row row' w w' b b' h h' t → Puts t out out' n → AnswersLine l c c' row row' w w' b b' h h' out out' n
   answers {t = t} {n = n} k p = record { text = t; heard = k; puts = p; is = heard-is _ (put-text p) k }
 
-  pub bad-line : {buf out' : List ℕ} {r : Line} {n : ℕ} → Reads (lineBytes l) buf r → r ≡ Bad → Puts (refusalText 26) out out' n → AnswersLine l c c row row w w b b h h out out' n
+  pub bad-line : {buf out' : List ℕ} {r : Line} {n : ℕ} → ReadsLine (lineBytes l) buf r → r ≡ Bad → Puts (refusalText 26) out out' n → AnswersLine l c c row row w w b b h h out out' n
   bad-line {buf} g e p = answers (unread (sym (g .bytes) ∙ ap (lineRead buf) e) refl refl refl refl refl) p
 
-  pub some-line : {buf : List ℕ} {r : Line} (m : ℕ) → Numbers c w b → Reads (lineBytes l) buf r → ((i : ℕ) → getD buf i 0 < 256) → r ≡ Bytes m → {c' : Replica} {row' : List Handle} {w' b' h' out' : List ℕ} {s : Settings} {a : the-code.Answer} {n k : ℕ} → answerBytes ≤ k → s ≡ theSettings → Called s (onFrame (take (m - 0) (drop 0 buf))) c c' row row' w w' b b' h h' a → Puts (answerText k (the-answers.answerOf b' a)) out out' n → AnswersLine l c c' row row' w w' b b' h h' out out' n
+  pub some-line : {buf : List ℕ} {r : Line} (m : ℕ) → Numbers c w b → ReadsLine (lineBytes l) buf r → ((i : ℕ) → getD buf i 0 < 256) → r ≡ Bytes m → {c' : Replica} {row' : List Handle} {w' b' h' out' : List ℕ} {s : Settings} {a : the-code.Answer} {n k : ℕ} → answerBytes ≤ k → s ≡ theSettings → Called s (onFrame (take (m - 0) (drop 0 buf))) c c' row row' w w' b b' h h' a → Puts (answerText k (the-answers.answerOf b' a)) out out' n → AnswersLine l c c' row row' w w' b b' h h' out out' n
   some-line {buf} m num g ok e {c'} {row'} {w'} {b'} {h'} {out' = out'} {a = a} {n = n} {k = room} big es k p =
       let cut : m - 0 ≡ m = omega arith in
       let call : Called theSettings (onFrame (take m buf)) c c' row row' w w' b b' h h' a =

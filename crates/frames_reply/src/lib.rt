@@ -3,7 +3,7 @@ ghost use mathlib.Core.Option.{some};
 ghost use Prim.Native.Nat.{_*_, _≤_};
 ghost use lib.ListN.{length};
 ghost use Rattle.base_hex.specs.Lines.{Puts};
-ghost use Rattle.frame_writer.specs.Encoding.{outcome};
+ghost use Rattle.frame_writer.specs.Encoding.{writeOutcome};
 ghost use Rattle.standby_state.specs.Answers.{frameBy, answerOf};
 ghost use Rattle.frames_reply.specs.Texts.{outcomeText, answerText};
 use base_refusals::NO_ROOM;
@@ -16,7 +16,7 @@ use standby_state::Answer;
 fn put_reply(a: Answer, bytes: &[u8], buf: &mut [u8], out: &mut [u8]) -> usize
     requires { ⌜ 4 ≤ length (now buf) ⌝ }
     requires { ⌜ 2 * length (now buf) ≤ length (now out) ⌝ }
-    ensures { λ r. ⌜ Puts (outcomeText (outcome 1 (some (frameBy (now (bytes .entry)) a)) (length (now (buf .entry))))) (now (out .entry)) (now (out .exit)) r ⌝ }
+    ensures { λ r. ⌜ Puts (outcomeText (writeOutcome 1 (some (frameBy (now (bytes .entry)) a)) (length (now (buf .entry))))) (now (out .entry)) (now (out .exit)) r ⌝ }
 {
     match standby_reply::write(a, bytes, buf) {
         Written::Took(n) => {

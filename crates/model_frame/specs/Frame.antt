@@ -71,14 +71,14 @@ pub data Fault : Type 0 where
   badText badSession badTimestamp badMarks : Fault
 
 -- document 01's number of a fault
-abbrev pub number : Fault → ℕ
-number (tooLong n) = Refusal.tooLong
-number truncated = Refusal.truncated
-number (unknown f n) = Refusal.unknownByte
-number badText = Refusal.badText
-number badSession = Refusal.badSession
-number badTimestamp = Refusal.badTimestamp
-number badMarks = Refusal.badMarks
+abbrev pub faultNumber : Fault → ℕ
+faultNumber (tooLong n) = Refusal.tooLong
+faultNumber truncated = Refusal.truncated
+faultNumber (unknown f n) = Refusal.unknownByte
+faultNumber badText = Refusal.badText
+faultNumber badSession = Refusal.badSession
+faultNumber badTimestamp = Refusal.badTimestamp
+faultNumber badMarks = Refusal.badMarks
 
 -- what the reader says of bytes: more needed, the first fault, or a frame and how many bytes it took
 pub data Decoded : Type 0 where

@@ -14,7 +14,7 @@ use Rattle.model_standby.specs.Answer.{Given, damaged, intact, given, is
 use Rattle.model_standby.specs.Store.{Stored, Place, sameKey, placeOf, isStored, onPlace, onPlaces, markDurable, newPlace, opened, changed, markAll, takenOver}
 use Rattle.model_standby.specs.State.{Settings, Standby, Result, Call, onFrameHeld, onFrame, flush, disconnectedFrom, promote, promoteUnchecked}
 use Rattle.model_standby.specs.Standby.{runPending, due, onGiven, step, run}
-use Rattle.model_standby.specs.PlainCopy.{OwnKey, earlier, ownKey}
+use Rattle.model_standby.specs.PlainCopy.{OwnKey, keyCount, ownKey}
 use Rattle.model_session.proofs.Basics.{eqb-sound, and-true, true→T, false→notT, cond-cases, none≢some, some-inj}
 use Rattle.model_standby.proofs.Outcomes.{Batches, refuses, clears, raises, holds, applies, diverges, Does, turns, tells, nacks, greets, binds, checks, batches, does}
 use Rattle.model_standby.proofs.Places.{keyAt, at-append, place-low, key-there, earlier-none, own-parts, own-made, earlier-append, bind-is, key-self}
@@ -38,7 +38,7 @@ key-is [] n = refl
 key-is (x ∷ ps) zero = refl
 key-is (x ∷ ps) (suc n) = key-is ps n
 
-earlier-is : (k : Key) (n : ℕ) (ps : List Place) → earlier k n ps ≡ earlierIn k n (keysOf ps)
+earlier-is : (k : Key) (n : ℕ) (ps : List Place) → keyCount k n ps ≡ earlierIn k n (keysOf ps)
 earlier-is k zero ps = refl
 earlier-is k (suc n) [] = refl
 earlier-is k (suc n) (x ∷ ps) = ap (λ (c : ℕ). cond (sameKey k (x .key)) 1 0 + c) (earlier-is k n ps)
@@ -70,7 +70,7 @@ at-end (y ∷ l) x = at-end l x
 apart-new : (j : Key) (ps : List Place) → length ps ≤ placeOf j ps → Apart ps → Apart (ps ++ (newPlace j ∷ []))
 apart-new j ps h a n k p = go (ltb n (length ps)) refl
   where
-    o : (keyAt (ps ++ (newPlace j ∷ [])) n ≡ some (k .key)) × (k .earlier ≡ earlier (k .key) n (ps ++ (newPlace j ∷ [])))
+    o : (keyAt (ps ++ (newPlace j ∷ [])) n ≡ some (k .key)) × (k .earlier ≡ keyCount (k .key) n (ps ++ (newPlace j ∷ [])))
     o = own-parts (ps ++ (newPlace j ∷ [])) n k p
 
     go : (b : Bool) → ltb n (length ps) ≡ b → k .earlier ≡ 0
@@ -83,9 +83,9 @@ apart-new j ps h a n k p = go (ltb n (length ps)) refl
         let here : placeOf j ps ≡ length ps = omega (arith, place-low j ps) in
         let kj : j ≡ k .key = some-inj (sym (ap (Option·map (λ (x : Place). x .key)) (at-end ps (newPlace j))) ∙ ap (keyAt (ps ++ (newPlace j ∷ []))) (sym last) ∙ o .0) in
         o .1
-        ∙ ap (λ (x : Key). earlier x n (ps ++ (newPlace j ∷ []))) (sym kj)
+        ∙ ap (λ (x : Key). keyCount x n (ps ++ (newPlace j ∷ []))) (sym kj)
         ∙ earlier-append j n ps (newPlace j ∷ []) (omega arith)
-        ∙ ap (λ (x : ℕ). earlier j x ps) (last ∙ sym here)
+        ∙ ap (λ (x : ℕ). keyCount j x ps) (last ∙ sym here)
         ∙ earlier-none j ps
 
 apart-open : (j : Key) (ps : List Place) → Apart ps → Apart (opened j ps)

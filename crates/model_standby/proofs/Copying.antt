@@ -15,7 +15,7 @@ use Rattle.model_standby.specs.Store.{Place, placeOf, onStored, onPlace,
 use Rattle.model_standby.specs.State.{Settings, Bound, Standby, Result, Call, onFrameHeld, onFrame, flush, disconnectedFrom, promote, promoteUnchecked, newBound, noneHeld, numbered}
 use Rattle.model_standby.specs.Standby.{withHandle, runPending, due, summed, holding, applied, onGiven, step, run}
 use Rattle.model_standby.specs.PlainCopy.{OwnKey, ownKey, keyIs, Copy, setAt, boundKey, boundHeld, copyAt, copySettle, copyBatch, copyFrame, copyGiven, copyStep, copyRun}
-use Rattle.model_standby.specs.Demand.{isPlain, allPlain}
+use Rattle.model_standby.specs.Demand.{notPromotion, noPromotions}
 use Rattle.model_session.proofs.Basics.{and-l, and-r, cond-cases, cond-true, cond-false, eqb-true, eqb-sound, none≢some, some-inj}
 use Rattle.model_standby.proofs.Outcomes.{Nacked, staleBind, lagBind, staleBatch, staleChecked, otherChecked, Gathers, ofCommit, ofLast, Batches, refuses, clears, raises, holds, applies, diverges, Does, turns, tells, nacks, greets, binds, checks, batches, does}
 use Rattle.model_standby.proofs.Rows.{find-freed, find-put-self, find-put-same, find-put-other}
@@ -198,7 +198,7 @@ module _ (L : Settings) (k : OwnKey) (here : ℕ) where
       (λ _. after c (does L (runPending (due (s .pending) f) s) f) (tracks-pending k here (due (s .pending) f) s c t))
 
   -- (e), one call
-  pub copy-step : (s : Standby) (c : Copy) (x : Call) → T (isPlain x) → Tracks k here s c → Tracks k here (step L s x .state) (copyStep L k c x (step L s x .answer))
+  pub copy-step : (s : Standby) (c : Copy) (x : Call) → T (notPromotion x) → Tracks k here s c → Tracks k here (step L s x .state) (copyStep L k c x (step L s x .answer))
   unfolding step
   copy-step s c (onFrameHeld w) u t = after-given s c (given w) t
   copy-step s c (onFrame w) u t =
@@ -212,10 +212,10 @@ module _ (L : Settings) (k : OwnKey) (here : ℕ) where
   copy-step s c promoteUnchecked u t = absurd u
 
   -- (e), a list
-  pub copy-run : (s : Standby) (c : Copy) (xs : List Call) → T (allPlain xs) → Tracks k here s c → Tracks k here (run L s xs) (copyRun L k c s xs)
+  pub copy-run : (s : Standby) (c : Copy) (xs : List Call) → T (noPromotions xs) → Tracks k here s c → Tracks k here (run L s xs) (copyRun L k c s xs)
   copy-run s c [] u t = t
   copy-run s c (x ∷ xs) u t =
-      copy-run (step L s x .state) (copyStep L k c x (step L s x .answer)) xs (and-r (isPlain x) (allPlain xs) u) (copy-step s c x (and-l (isPlain x) (allPlain xs) u) t)
+      copy-run (step L s x .state) (copyStep L k c x (step L s x .answer)) xs (and-r (notPromotion x) (noPromotions xs) u) (copy-step s c x (and-l (notPromotion x) (noPromotions xs) u) t)
 
 -- at first
 pub copy-start : (k : OwnKey) (here : ℕ) (s : Standby) (B : Session) → ownKey (s .places) here ≡ some k → sessionAt (s .places) here ≡ some B → Tracks k here s (copyAt B s)

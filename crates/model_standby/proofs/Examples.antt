@@ -8,11 +8,11 @@ use mathlib.Core.Option.{none, some}
 use mathlib.Core.Bool.{Bool, true, false}
 use lib.ListN.{replicate}
 use Rattle.model_text.specs.Utf8.{utf8, wellFormed, leadLength, ownBits, least, fitting, isScalar, isSurrogate, isTail}
-use Rattle.model_text.specs.Printable.{isPlain, isPrintable, isMarks, isKey}
+use Rattle.model_text.specs.Printable.{isPrintableByte, isPrintable, isMarks, isKey}
 use Rattle.model_frame.specs.Bytes.{le, bytesOf}
 use Rattle.model_frame.specs.Frame.{Key, Change, setIncoming, recordMsg, recordBare, reset, setMarks, commit, whole, lastWhole, staleEpoch, diverged, lagTooGreat, restarted, Frame, hello, welcome, bind, batch, ack, nack, bound, checked}
-use Rattle.model_frame.specs.Parse.{bytes, num, blob, text, count, many, runBytes}
-use Rattle.model_frame.specs.Reading.{stamp, marks, setIncomingFields, recordMsgFields, recordBareFields, setMarksFields, readChange, changes, kinds, appRecord, appRecords, partByte, key, helloFields, bindFields, batchFields, ackFields, checkedFields, fields, body, decode}
+use Rattle.model_frame.specs.Parse.{readBytes, readNum, readBlob, readText, readCount, many, runBytes}
+use Rattle.model_frame.specs.Reading.{readStamp, readMarks, setIncomingFields, recordMsgFields, recordBareFields, setMarksFields, readChange, readChanges, readKinds, readAppRecord, readAppRecords, readPart, readKey, helloFields, bindFields, batchFields, ackFields, checkedFields, readFields, readBody, decode}
 use Rattle.model_frame.specs.Writing.{blobBytes, changeBytes, appRecordBytes, keyBytes, bodyBytes, encode}
 use Rattle.model_session.specs.Session.{newSession, keep, apply, top}
 use Rattle.model_session.specs.Summary.{summary}
@@ -46,7 +46,7 @@ lines =
     ∷ []
 
 lines-so : answers L₀ (newStandby [] 4) lines ≡ reply (welcome 5 7) ∷ refused 14 ∷ refused 26 ∷ refused 26 ∷ refused 3 ∷ []
-unfolding step onGiven onHello onBatch onHandle given decode le num bytes blob text count many body fields helloFields batchFields ackFields kinds changes appRecords partByte utf8 wellFormed leadLength ownBits least fitting isScalar isSurrogate
+unfolding step onGiven onHello onBatch onHandle given decode le readNum readBytes readBlob readText readCount many readBody readFields helloFields batchFields ackFields readKinds readChanges readAppRecords readPart utf8 wellFormed leadLength ownBits least fitting isScalar isSurrogate
 lines-so = refl
 
 -- the answer to the first line
@@ -113,7 +113,7 @@ script =
     ∷ []
 
 script-so : answers L₁ (newStandby [] 2) (map (λ (p : Call × Answer). p .0) script) ≡ map (λ (p : Call × Answer). p .1) script
-unfolding step onGiven onHello onBind onChecked onBatch onHandle onPart hold settle apply keep put given encode bodyBytes blobBytes changeBytes appRecordBytes keyBytes runBytes bytesOf decode le num bytes blob text count many body fields helloFields bindFields batchFields ackFields checkedFields kinds changes readChange recordMsgFields recordBareFields setMarksFields appRecords appRecord partByte key marks utf8 wellFormed leadLength ownBits least fitting isScalar isSurrogate isTail isPlain isPrintable isMarks isKey
+unfolding step onGiven onHello onBind onChecked onBatch onHandle onPart hold settle apply keep put given encode bodyBytes blobBytes changeBytes appRecordBytes keyBytes runBytes bytesOf decode le readNum readBytes readBlob readText readCount many readBody readFields helloFields bindFields batchFields ackFields checkedFields readKinds readChanges readChange recordMsgFields recordBareFields setMarksFields readAppRecords readAppRecord readPart readKey readMarks utf8 wellFormed leadLength ownBits least fitting isScalar isSurrogate isTail isPrintableByte isPrintable isMarks isKey
 script-so = refl
 
 -- Of the three messages the second is left (the first made place for it, the third is longer than C); promotion skipped one
@@ -122,7 +122,7 @@ script-places : run L₁ (newStandby [] 2) (map (λ (p : Call × Answer). p .0) 
     ≡ record { key = keyOf 65; stored = record { session = record { stamp = []; nextOut = 6; nextIn = 1; inFlight = none; marks = 66 ∷ []; messages = record { num = 3; text = 1 ∷ 2 ∷ [] } ∷ [] }; durable = true } }
     ∷ record { key = keyOf 66; stored = record { session = record { stamp = []; nextOut = 2; nextIn = 1; inFlight = none; marks = 66 ∷ []; messages = [] }; durable = true } }
     ∷ []
-unfolding step onGiven onHello onBind onChecked onBatch onHandle onPart hold settle apply keep put given encode bodyBytes blobBytes changeBytes appRecordBytes keyBytes runBytes bytesOf decode le num bytes blob text count many body fields helloFields bindFields batchFields ackFields checkedFields kinds changes readChange recordMsgFields recordBareFields setMarksFields appRecords appRecord partByte key marks utf8 wellFormed leadLength ownBits least fitting isScalar isSurrogate isTail isPlain isPrintable isMarks isKey
+unfolding step onGiven onHello onBind onChecked onBatch onHandle onPart hold settle apply keep put given encode bodyBytes blobBytes changeBytes appRecordBytes keyBytes runBytes bytesOf decode le readNum readBytes readBlob readText readCount many readBody readFields helloFields bindFields batchFields ackFields checkedFields readKinds readChanges readChange recordMsgFields recordBareFields setMarksFields readAppRecords readAppRecord readPart readKey readMarks utf8 wellFormed leadLength ownBits least fitting isScalar isSurrogate isTail isPrintableByte isPrintable isMarks isKey
 script-places = refl
 
 -- ---- commits: pending until due
@@ -155,7 +155,7 @@ commits =
     ∷ []
 
 commits-so : map (λ (p : Standby × List Call × Standby). run L₁ (p .0) (p .1)) commits ≡ map (λ (p : Standby × List Call × Standby). p .2) commits
-unfolding step onGiven onBatch onHandle onPart settle apply put given encode bodyBytes changeBytes runBytes bytesOf decode le num bytes count many body fields batchFields ackFields changes readChange setIncomingFields appRecords partByte
+unfolding step onGiven onBatch onHandle onPart settle apply put given encode bodyBytes changeBytes runBytes bytesOf decode le readNum readBytes readCount many readBody readFields batchFields ackFields readChanges readChange setIncomingFields readAppRecords readPart
 commits-so = refl
 
 -- ---- states that no operation makes
@@ -172,23 +172,23 @@ odd durable n cs sum pending =
 
 -- 17: the byte sum stays raised, what is held stays held; the commit due has run, that of place 5 marked nothing
 too-many : run L₁ (odd false 0 (reset ∷ []) 4294967296 ((1, 0) ∷ (2, 5) ∷ [])) (held (batch 1 0 2 whole (recordMsg 1 (5 ∷ []) ∷ []) []) ∷ []) ≡ odd true 0 (reset ∷ []) 4294967297 []
-unfolding step onGiven onBatch onHandle onPart hold settle apply put given encode bodyBytes blobBytes changeBytes runBytes bytesOf decode le num bytes blob count many body fields batchFields changes readChange recordMsgFields appRecords partByte
+unfolding step onGiven onBatch onHandle onPart hold settle apply put given encode bodyBytes blobBytes changeBytes runBytes bytesOf decode le readNum readBytes readBlob readCount many readBody readFields batchFields readChanges readChange recordMsgFields readAppRecords readPart
 too-many = refl
 
 -- one byte less passes; with nothing held the byte sum counts as 0
 just-enough : answers L₁ (odd true 0 (reset ∷ []) 4294967295 []) (held (batch 1 0 2 whole (recordMsg 1 (5 ∷ []) ∷ []) []) ∷ [])
     ++ answers L₁ (odd true 0 [] top []) (held (batch 1 0 2 whole (reset ∷ recordMsg 1 (5 ∷ []) ∷ []) []) ∷ [])
     ≡ reply (ack 1 2) ∷ reply (ack 1 2) ∷ []
-unfolding step onGiven onBatch onHandle onPart hold settle apply put given encode bodyBytes blobBytes changeBytes runBytes bytesOf decode le num bytes blob count many body fields batchFields changes readChange recordMsgFields appRecords partByte
+unfolding step onGiven onBatch onHandle onPart hold settle apply put given encode bodyBytes blobBytes changeBytes runBytes bytesOf decode le readNum readBytes readBlob readCount many readBody readFields batchFields readChanges readChange recordMsgFields readAppRecords readPart
 just-enough = refl
 
 -- of two places with one key a Bind takes the first
 abbrev twice : List ℕ → Standby
-twice marks =
+twice readMarks =
     record {
       counters = newStandby [] 0 .counters;
       places =
-          record { key = keyOf 65; stored = record { session = record { stamp = []; nextOut = 1; nextIn = 1; inFlight = none; marks = marks; messages = [] }; durable = true } }
+          record { key = keyOf 65; stored = record { session = record { stamp = []; nextOut = 1; nextIn = 1; inFlight = none; marks = readMarks; messages = [] }; durable = true } }
           ∷ record { key = keyOf 65; stored = record { session = newSession; durable = true } }
           ∷ [];
       handles = none ∷ [];
@@ -196,7 +196,7 @@ twice marks =
     }
 
 first-counts : run L₁ (twice []) (taken (bind 1 0 0 (keyOf 65)) ∷ taken (batch 1 0 1 commit (setMarks (65 ∷ []) ∷ []) []) ∷ disconnectedFrom 0 ∷ []) ≡ twice (65 ∷ [])
-unfolding step onGiven onBind onBatch onHandle onPart hold settle apply put given encode bodyBytes blobBytes changeBytes keyBytes runBytes bytesOf decode le num bytes blob text count many body fields bindFields batchFields changes readChange setMarksFields appRecords partByte key marks utf8 wellFormed leadLength ownBits least fitting isScalar isSurrogate isPlain isPrintable isMarks isKey
+unfolding step onGiven onBind onBatch onHandle onPart hold settle apply put given encode bodyBytes blobBytes changeBytes keyBytes runBytes bytesOf decode le readNum readBytes readBlob readText readCount many readBody readFields bindFields batchFields readChanges readChange setMarksFields readAppRecords readPart readKey readMarks utf8 wellFormed leadLength ownBits least fitting isScalar isSurrogate isPrintableByte isPrintable isMarks isKey
 first-counts = refl
 
 -- a Bind doesn't raise the epoch, nor does a Batch with application records; one that is then refused does
@@ -204,5 +204,5 @@ abbrev epochAfter : Frame → ℕ
 epochAfter f = step L₁ (two true true [] 0 0) (held f) .state .counters .epoch
 
 epochs-so : epochAfter (bind 1 8 0 (keyOf 65)) ∷ epochAfter (batch 3 8 1 commit [] (record { kind = 1; blob = [] } ∷ [])) ∷ epochAfter (batch 3 8 1 commit [] []) ∷ epochAfter (checked 1 8 7) ∷ [] ≡ 0 ∷ 0 ∷ 8 ∷ 8 ∷ []
-unfolding step onGiven onBind onBatch onHandle onChecked given encode bodyBytes blobBytes appRecordBytes keyBytes runBytes bytesOf decode le num bytes blob text count many body fields bindFields batchFields checkedFields changes appRecords appRecord partByte key utf8 wellFormed leadLength ownBits least fitting isScalar isSurrogate isPlain isPrintable isKey
+unfolding step onGiven onBind onBatch onHandle onChecked given encode bodyBytes blobBytes appRecordBytes keyBytes runBytes bytesOf decode le readNum readBytes readBlob readText readCount many readBody readFields bindFields batchFields checkedFields readChanges readAppRecords readAppRecord readPart readKey utf8 wellFormed leadLength ownBits least fitting isScalar isSurrogate isPrintableByte isPrintable isKey
 epochs-so = refl

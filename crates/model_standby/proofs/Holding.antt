@@ -18,14 +18,14 @@ use Rattle.model_standby.specs.Answer.{Given, damaged, intact, accepted}
 use Rattle.model_standby.specs.Row.{isSome, find, put}
 use Rattle.model_standby.specs.State.{Settings, Counters, Bound, Standby, Result, atEpoch, noneHeld}
 use Rattle.model_standby.specs.Standby.{withCounters, withHandle, runPending, due, says, refuse, follows, raised, maxWhole, startsWithReset, summed, holding, settle, hold, onPart, onHandle, onBatch, onGiven}
-use Rattle.model_standby.specs.Hold.{Written, heldBytes, heldPasses, writesAt, writesPart, writesFrame, writes}
+use Rattle.model_standby.specs.Hold.{HoldWrite, heldBytes, heldPasses, writesAt, writesPart, writesFrame, writes}
 use Rattle.model_standby.proofs.Rows.{find-put-found}
 
 module _ (L : Settings) where
   -- ---- inside
 
-  abbrev Inside : Option Written → Type 0
-  Inside o = (w : Written) → o ≡ some w → w .offset + length (w .bytes) ≤ L .room
+  abbrev Inside : Option HoldWrite → Type 0
+  Inside o = (w : HoldWrite) → o ≡ some w → w .offset + length (w .bytes) ≤ L .room
 
   none-inside : Inside none
   none-inside w p = absurd (none≢some p)
@@ -34,7 +34,7 @@ module _ (L : Settings) where
   inside-at h none n cs = none-inside
   inside-at h (some b) n cs =
       cond-cases Inside (heldPasses L b n cs)
-      (λ t w p. subst (λ (x : Written). x .offset + length (x .bytes) ≤ L .room) (some-inj p) (fit t))
+      (λ t w p. subst (λ (x : HoldWrite). x .offset + length (x .bytes) ≤ L .room) (some-inj p) (fit t))
       (λ _. none-inside)
     where
       fit : T (heldPasses L b n cs) → sizes (b .held) + length (heldBytes cs) ≤ L .room
@@ -60,7 +60,7 @@ module _ (L : Settings) where
   inside-frame c o (checked h e i) = none-inside
 
   -- nothing is written outside the handle's area
-  pub writes-inside : (c : Counters) (o : Option Bound) (g : Given) (w : Written) → writes L c o g ≡ some w → w .offset + length (w .bytes) ≤ L .room
+  pub writes-inside : (c : Counters) (o : Option Bound) (g : Given) (w : HoldWrite) → writes L c o g ≡ some w → w .offset + length (w .bytes) ≤ L .room
   unfolding writes
   writes-inside c o (damaged n) = none-inside
   writes-inside c o (intact f) = cond-cases Inside (c .promoted) (λ _. none-inside) (λ _. inside-frame c o f)
@@ -68,11 +68,11 @@ module _ (L : Settings) where
   -- ---- what is then held
 
   -- it is accepted just if it writes, and then what is written follows what was held
-  abbrev pub Agrees : ℕ → List Change → Option Bound → Option Written → Result → Type 0
+  abbrev pub Agrees : ℕ → List Change → Option Bound → Option HoldWrite → Result → Type 0
   Agrees h cs o w r = (accepted (r .answer) ≡ isSome w) × ((b : Bound) → o ≡ some b → isSome w ≡ true → Option·map (λ (x : Bound). x .held) (find h (r .state .handles)) ≡ some (b .held ++ cs))
 
   -- it is accepted only if it writes
-  abbrev pub Needs : Option Written → Result → Type 0
+  abbrev pub Needs : Option HoldWrite → Result → Type 0
   Needs w r = accepted (r .answer) ≡ true → isSome w ≡ true
 
   at-agrees : (s : Standby) (h n : ℕ) (b : Bound) (cs : List Change) → find h (s .handles) ≡ some b → Agrees h cs (some b) (writesAt L h (some b) n cs) (onHandle L s h (some b) n whole cs)

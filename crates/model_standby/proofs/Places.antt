@@ -16,7 +16,7 @@ use Rattle.model_session.specs.Session.{Session}
 use Rattle.model_standby.specs.Store.{Stored, Place, sameBytes, sameKey, placeOf, isStored, onStored, onPlace, onPlaces, sessionAt, markDurable, newPlace, opened, markAll}
 use Rattle.model_standby.specs.State.{Standby}
 use Rattle.model_standby.specs.Standby.{runPending}
-use Rattle.model_standby.specs.PlainCopy.{OwnKey, earlier, ownKey, keyIs}
+use Rattle.model_standby.specs.PlainCopy.{OwnKey, keyCount, ownKey, keyIs}
 use Rattle.model_session.proofs.Basics.{T→true, true→T, and-l, and-r, and-true, eqb-true, eqb-sound, cond-cases, none≢some, some-inj, true≢false, false→notT}
 
 -- ---- keys
@@ -103,11 +103,11 @@ place-first k (x ∷ ps) zero p = go (sameKey k (x .key)) refl
     go false e = absurd (true≢false (sym (key-self k) ∙ ap (sameKey k) (sym (some-inj p)) ∙ e))
 place-first k (x ∷ ps) (suc n) p = cond-cases (λ (m : ℕ). m ≤ suc n) (sameKey k (x .key)) (λ _. omega arith) (λ _. omega (arith, place-first k ps n p))
 
-pub earlier-none : (k : Key) (ps : List Place) → earlier k (placeOf k ps) ps ≡ 0
+pub earlier-none : (k : Key) (ps : List Place) → keyCount k (placeOf k ps) ps ≡ 0
 earlier-none k [] = refl
 earlier-none k (x ∷ ps) = go (sameKey k (x .key)) refl (earlier-none k ps)
   where
-    go : (b : Bool) → sameKey k (x .key) ≡ b → earlier k (placeOf k ps) ps ≡ 0 → earlier k (cond b 0 (suc (placeOf k ps))) (x ∷ ps) ≡ 0
+    go : (b : Bool) → sameKey k (x .key) ≡ b → keyCount k (placeOf k ps) ps ≡ 0 → keyCount k (cond b 0 (suc (placeOf k ps))) (x ∷ ps) ≡ 0
     go true e ih = refl
     go false e ih = omega (arith, ih, ap (λ (c : Bool). cond {A = ℕ} c 1 0) e)
 
@@ -119,7 +119,7 @@ key-there ps n k p =
 -- ---- own keys
 
 -- of two places with the same key the later has more before it
-earlier-less : (k : Key) (m n : ℕ) (ps : List Place) → m < n → keyAt ps m ≡ some k → earlier k m ps < earlier k n ps
+earlier-less : (k : Key) (m n : ℕ) (ps : List Place) → m < n → keyAt ps m ≡ some k → keyCount k m ps < keyCount k n ps
 earlier-less k m n [] h p = absurd (none≢some p)
 earlier-less k m zero (x ∷ ps) h p = absurd (omega arith)
 earlier-less k zero (suc n) (x ∷ ps) h p =
@@ -128,14 +128,14 @@ earlier-less k zero (suc n) (x ∷ ps) h p =
 earlier-less k (suc m) (suc n) (x ∷ ps) h p = omega (arith, earlier-less k m n ps (omega arith) p)
 
 -- a place's own key, taken apart
-pub own-parts : (ps : List Place) (n : ℕ) (k : OwnKey) → ownKey ps n ≡ some k → (keyAt ps n ≡ some (k .key)) × (k .earlier ≡ earlier (k .key) n ps)
+pub own-parts : (ps : List Place) (n : ℕ) (k : OwnKey) → ownKey ps n ≡ some k → (keyAt ps n ≡ some (k .key)) × (k .earlier ≡ keyCount (k .key) n ps)
 own-parts ps n k p = go (getElem? ps n) p
   where
-    go : (o : Option Place) → Option·map (λ (x : Place). record { key = x .key; earlier = earlier (x .key) n ps }) o ≡ some k → (Option·map (λ (x : Place). x .key) o ≡ some (k .key)) × (k .earlier ≡ earlier (k .key) n ps)
+    go : (o : Option Place) → Option·map (λ (x : Place). record { key = x .key; earlier = keyCount (x .key) n ps }) o ≡ some k → (Option·map (λ (x : Place). x .key) o ≡ some (k .key)) × (k .earlier ≡ keyCount (k .key) n ps)
     go none q = absurd (none≢some q)
     go (some x) q =
         let kx : x .key ≡ k .key = ap (λ (j : OwnKey). j .key) (some-inj q) in
-        (ap {B = Option Key} some kx, sym (ap (λ (j : OwnKey). j .earlier) (some-inj q)) ∙ ap (λ (j : Key). earlier j n ps) kx)
+        (ap {B = Option Key} some kx, sym (ap (λ (j : OwnKey). j .earlier) (some-inj q)) ∙ ap (λ (j : Key). keyCount j n ps) kx)
 
 own-sound : (k j : OwnKey) → keyIs k (some j) ≡ true → (k .key ≡ j .key) × (k .earlier ≡ j .earlier)
 own-sound k j e =
@@ -152,8 +152,8 @@ own-later : (ps : List Place) (m n : ℕ) (k j : OwnKey) → m < n → ownKey ps
 own-later ps m n k j h p q e f =
     let pk = own-parts ps m k p in
     let pj = own-parts ps n j q in
-    let less : earlier (k .key) m ps < earlier (k .key) n ps = earlier-less (k .key) m n ps h (pk .0) in
-    omega (arith, less, pk .1, pj .1, ap (λ (x : Key). earlier x n ps) e)
+    let less : keyCount (k .key) m ps < keyCount (k .key) n ps = earlier-less (k .key) m n ps h (pk .0) in
+    omega (arith, less, pk .1, pj .1, ap (λ (x : Key). keyCount x n ps) e)
 
 -- two places with the same own key are the same place
 pub own-apart : (ps : List Place) (m n : ℕ) (k j : OwnKey) → ownKey ps m ≡ some k → ownKey ps n ≡ some j → keyIs k (some j) ≡ eqb n m
@@ -197,14 +197,14 @@ own-is ps here n k p = go (ownKey ps n) refl
 pub bind-is : (ps : List Place) (here : ℕ) (k : OwnKey) (j : Key) → ownKey ps here ≡ some k → keyIs k (some (record { key = j; earlier = 0 })) ≡ eqb (placeOf j ps) here
 bind-is ps here k j p = go (eqb (placeOf j ps) here) refl
   where
-    parts : (keyAt ps here ≡ some (k .key)) × (k .earlier ≡ earlier (k .key) here ps)
+    parts : (keyAt ps here ≡ some (k .key)) × (k .earlier ≡ keyCount (k .key) here ps)
     parts = own-parts ps here k p
 
     yes : placeOf j ps ≡ here → keyIs k (some (record { key = j; earlier = 0 })) ≡ true
     yes e =
         let there : placeOf j ps < length ps = subst (λ (n : ℕ). n < length ps) (sym e) (key-there ps here (k .key) (parts .0)) in
         let kj : k .key ≡ j = some-inj (sym (parts .0) ∙ ap (keyAt ps) (sym e) ∙ place-key j ps there) in
-        let none-before : k .earlier ≡ 0 = parts .1 ∙ ap (λ (x : Key). earlier x here ps) kj ∙ ap (λ (n : ℕ). earlier j n ps) (sym e) ∙ earlier-none j ps in
+        let none-before : k .earlier ≡ 0 = parts .1 ∙ ap (λ (x : Key). keyCount x here ps) kj ∙ ap (λ (n : ℕ). keyCount j n ps) (sym e) ∙ earlier-none j ps in
         and-true (ap (λ (x : Key). sameKey x j) kj ∙ key-self j) (ap (λ (n : ℕ). eqb n 0) none-before)
 
     no : (b : Bool) → keyIs k (some (record { key = j; earlier = 0 })) ≡ b → eqb (placeOf j ps) here ≡ false → keyIs k (some (record { key = j; earlier = 0 })) ≡ false
@@ -221,7 +221,7 @@ bind-is ps here k j p = go (eqb (placeOf j ps) here) refl
         two (inl x) = true≢false (sym (eqb-true here) ∙ ap (λ (z : ℕ). eqb z here) (sym x) ∙ e)
         two (inr x) =
             let there : placeOf j ps < length ps = lt-trans x (key-there ps here j at-here) in
-            omega (arith, earlier-less j (placeOf j ps) here ps x (place-key j ps there), parts .1, same .1, ap (λ (y : Key). earlier y here ps) (same .0))
+            omega (arith, earlier-less j (placeOf j ps) here ps x (place-key j ps there), parts .1, same .1, ap (λ (y : Key). keyCount y here ps) (same .0))
 
     go : (b : Bool) → eqb (placeOf j ps) here ≡ b → keyIs k (some (record { key = j; earlier = 0 })) ≡ eqb (placeOf j ps) here
     go true e = yes (eqb-sound (placeOf j ps) here e) ∙ sym e
@@ -261,19 +261,19 @@ key-on (suc n) zero f (x ∷ ps) = refl
 key-on zero (suc m) f (x ∷ ps) = refl
 key-on (suc n) (suc m) f (x ∷ ps) = key-on n m f ps
 
-earlier-on : (k : Key) (n m : ℕ) (f : Stored → Stored) (ps : List Place) → earlier k n (onPlace m f ps) ≡ earlier k n ps
+earlier-on : (k : Key) (n m : ℕ) (f : Stored → Stored) (ps : List Place) → keyCount k n (onPlace m f ps) ≡ keyCount k n ps
 earlier-on k n m f [] = refl
 earlier-on k zero m f (x ∷ ps) = refl
 earlier-on k (suc n) zero f (x ∷ ps) = refl
 earlier-on k (suc n) (suc m) f (x ∷ ps) = ap (λ (c : ℕ). cond (sameKey k (x .key)) 1 0 + c) (earlier-on k n m f ps)
 
 -- an own key from its parts
-pub own-made : (ps : List Place) (n : ℕ) (k : OwnKey) → keyAt ps n ≡ some (k .key) → k .earlier ≡ earlier (k .key) n ps → ownKey ps n ≡ some k
+pub own-made : (ps : List Place) (n : ℕ) (k : OwnKey) → keyAt ps n ≡ some (k .key) → k .earlier ≡ keyCount (k .key) n ps → ownKey ps n ≡ some k
 own-made ps n k p q = go (getElem? ps n) p
   where
-    go : (o : Option Place) → Option·map (λ (x : Place). x .key) o ≡ some (k .key) → Option·map (λ (x : Place). record { key = x .key; earlier = earlier (x .key) n ps }) o ≡ some k
+    go : (o : Option Place) → Option·map (λ (x : Place). x .key) o ≡ some (k .key) → Option·map (λ (x : Place). record { key = x .key; earlier = keyCount (x .key) n ps }) o ≡ some k
     go none r = absurd (none≢some r)
-    go (some x) r = λ i. some (record { key = some-inj r i; earlier = (ap (λ (j : Key). earlier j n ps) (some-inj r) ∙ sym q) i })
+    go (some x) r = λ i. some (record { key = some-inj r i; earlier = (ap (λ (j : Key). keyCount j n ps) (some-inj r) ∙ sym q) i })
 
 pub own-on : (n m : ℕ) (f : Stored → Stored) (ps : List Place) (k : OwnKey) → ownKey ps n ≡ some k → ownKey (onPlace m f ps) n ≡ some k
 own-on n m f ps k p =
@@ -314,7 +314,7 @@ pending-length false s = refl
 
 -- ---- a place for a key
 
-pub earlier-append : (k : Key) (n : ℕ) (ps qs : List Place) → n ≤ length ps → earlier k n (ps ++ qs) ≡ earlier k n ps
+pub earlier-append : (k : Key) (n : ℕ) (ps qs : List Place) → n ≤ length ps → keyCount k n (ps ++ qs) ≡ keyCount k n ps
 earlier-append k zero ps qs h = refl
 earlier-append k (suc n) [] qs h = absurd (omega arith)
 earlier-append k (suc n) (x ∷ ps) qs h = ap (λ (c : ℕ). cond (sameKey k (x .key)) 1 0 + c) (earlier-append k n ps qs (omega arith))

@@ -9,7 +9,7 @@ use mathlib.Core.Option.{Option, some, Option·map}
 use mathlib.Core.Bool.{Bool, true, false, cond, not, _&&_, _||_}
 use lib.ListN.{length, length-append, getD, take, length-take, getElem?}
 use lib.Dec.{T, ltb, leb, eqb, nleb→lt, ltb→lt}
-use Rattle.model_text.specs.Printable.{isPlain, allPlain, isPrintable, isMarks}
+use Rattle.model_text.specs.Printable.{isPrintableByte, allPrintable, isPrintable, isMarks}
 use Rattle.model_text.specs.Stamp.{isStamp, takesStamp}
 use Rattle.model_text.specs.Utf8.{utf8}
 use Rattle.model_text.proofs.Laws.{marks-is, takes-keeps}
@@ -28,7 +28,7 @@ use Rattle.model_standby.specs.Row.{Row, Used, find}
 use Rattle.model_standby.specs.Store.{Stored, Place, placeOf, isStored, onPlace, sessionAt, orNew, newPlace, opened, changed, withB, takenOver}
 use Rattle.model_standby.specs.State.{Settings, Bound, Standby, Result, Call, onFrameHeld, onFrame, flush, disconnectedFrom, promote, promoteUnchecked, newStandby, atEpoch, newBound, noneHeld, numbered}
 use Rattle.model_standby.specs.Standby.{withCounters, withHandle, unbound, runPending, due, pendsOn, bindTo, heldSum, raised, maxWhole, startsWithReset, summed, holding, applied, onGiven, promotion, step, run}
-use Rattle.model_standby.specs.Rules.{OkCall, changesOf, Readable, BoundValid, BoundUsual, Rules, Valid, Usual}
+use Rattle.model_standby.specs.Rules.{OkCall, changesOf, Readable, BoundValid, BoundUsual, StateRules, Valid, Usual}
 use Rattle.model_standby.proofs.Outcomes.{Gathers, ofCommit, ofLast, Batches, refuses, clears, raises, holds, applies, diverges, Does, turns, tells, nacks, greets, binds, checks, batches, does}
 use Rattle.model_standby.proofs.Rows.{used-found, used-put, used-freed, used-none, used-map}
 use Rattle.model_standby.proofs.Places.{place-low, length-on, pending-length, length-places, each-at, each-on, each-places, each-mark}
@@ -75,7 +75,7 @@ module _ (L : Settings) (Also : Bound → Type 0) (closed : Closed Also) where
   all-grown : (m n : ℕ) (t : Row Bound) → m ≤ n → Each (Used (BoundValid L m)) t → Each (Used (BoundValid L n)) t
   all-grown m n t h u = used-map (BoundValid L m) (BoundValid L n) (λ b o. grown m n b h o) t u
 
-  rules-pending : (w : Bool) (s : Standby) → Rules L Also s → Rules L Also (runPending w s)
+  rules-pending : (w : Bool) (s : Standby) → StateRules L Also s → StateRules L Also (runPending w s)
   rules-pending w s r =
       record {
         epoch-u64 = r .epoch-u64;
@@ -87,7 +87,7 @@ module _ (L : Settings) (Also : Bound → Type 0) (closed : Closed Also) where
         pending-few = cond-cases (λ (l : List (ℕ × ℕ)). length l ≤ 64) w (λ _. omega arith) (λ _. r .pending-few);
       }
 
-  rules-unbound : (s : Standby) → Rules L Also s → Rules L Also (unbound s)
+  rules-unbound : (s : Standby) → StateRules L Also s → StateRules L Also (unbound s)
   rules-unbound s r =
       record {
         epoch-u64 = r .epoch-u64;
@@ -99,15 +99,15 @@ module _ (L : Settings) (Also : Bound → Type 0) (closed : Closed Also) where
         pending-few = omega arith;
       }
 
-  rules-epoch : (s : Standby) (e : ℕ) → e ≤ top → Rules L Also s → Rules L Also (withCounters s (atEpoch e (s .counters)))
+  rules-epoch : (s : Standby) (e : ℕ) → e ≤ top → StateRules L Also s → StateRules L Also (withCounters s (atEpoch e (s .counters)))
   rules-epoch s e h r =
       record { epoch-u64 = h; connections-u64 = r .connections-u64; places-few = r .places-few; sessions-ok = r .sessions-ok; handles-ok = r .handles-ok; handles-also = r .handles-also; pending-few = r .pending-few }
 
-  all-fine : (s : Standby) → Rules L Also s → (x : ℕ) (y : Bound) → find x (s .handles) ≡ some y → Fine (length (s .places)) y
+  all-fine : (s : Standby) → StateRules L Also s → (x : ℕ) (y : Bound) → find x (s .handles) ≡ some y → Fine (length (s .places)) y
   all-fine s r x y p = (used-found (BoundValid L (length (s .places))) x y (s .handles) (r .handles-ok) p, used-found Also x y (s .handles) (r .handles-also) p)
 
   -- a handle gets another value
-  rules-set : (s : Standby) (h : ℕ) (b : Bound) → Fine (length (s .places)) b → Rules L Also s → Rules L Also (withHandle s h b)
+  rules-set : (s : Standby) (h : ℕ) (b : Bound) → Fine (length (s .places)) b → StateRules L Also s → StateRules L Also (withHandle s h b)
   rules-set s h b fine r =
       record {
         epoch-u64 = r .epoch-u64;
@@ -130,7 +130,7 @@ module _ (L : Settings) (Also : Bound → Type 0) (closed : Closed Also) where
       (λ x p h. apply-all-keeps (L .C) (L .M) cs (x .stored .session) h o (sym (ap (λ (y : Option Place). fits (orNew (Option·map (λ (z : Place). z .stored .session) y) .nextOut) cs) p) ∙ f)) r
 
   rules-applied : (s : Standby) (h : ℕ) (b : Bound) (n : ℕ) (cs : List Change) → suc (length (s .pending)) ≤ 64 → n ≤ top → Each Storable cs
-      → Fine (length (s .places)) b → fits (orNew (sessionAt (s .places) (b .place)) .nextOut) cs ≡ true → Rules L Also s → Rules L Also (applied L s h b n cs)
+      → Fine (length (s .places)) b → fits (orNew (sessionAt (s .places) (b .place)) .nextOut) cs ≡ true → StateRules L Also s → StateRules L Also (applied L s h b n cs)
   rules-applied s h b n cs few hn o fine ft r =
       record {
         epoch-u64 = r .epoch-u64;
@@ -149,7 +149,7 @@ module _ (L : Settings) (Also : Bound → Type 0) (closed : Closed Also) where
       fine₁ = (record { place-there = fine .0 .place-there; number-u64 = hn; bytes-u64 = fine .0 .bytes-u64; held-small = fine .0 .held-small; held-ok = fine .0 .held-ok }, closed .counts b n (fine .1))
 
   abbrev Keeps : Result → Type 0
-  Keeps x = Rules L Also (x .state)
+  Keeps x = StateRules L Also (x .state)
 
   -- ---- a Batch
 
@@ -158,7 +158,7 @@ module _ (L : Settings) (Also : Bound → Type 0) (closed : Closed Also) where
   gather-fine n (ofLast {b} {cs} q) o oc = (none-fine n b o, each-append Storable (b .held) cs (o .0 .held-ok) oc)
 
   keeps-batch : {s : Standby} {h n : ℕ} {p : Part} {cs : List Change} {r : Result} → Batches L s h n p cs r → suc (length (s .pending)) ≤ 64 → n ≤ top → Each Storable cs → messageBytes cs ≤ maxBody
-      → Rules L Also s → Keeps r
+      → StateRules L Also s → Keeps r
   keeps-batch (refuses t) few hn oc small r = r
   keeps-batch {s} {h} (clears {b} f) few hn oc small r = rules-set s h (noneHeld b) (none-fine (length (s .places)) b (all-fine s r h b f)) r
   keeps-batch {s} {h} {cs} (raises {b} f t) few hn oc small r =
@@ -198,7 +198,7 @@ module _ (L : Settings) (Also : Bound → Type 0) (closed : Closed Also) where
   open-held : (j : Key) (ps : List Place) → Each Held ps → Each Held (opened j ps)
   open-held j ps h = cond-cases (Each Held) (isStored j ps) (λ _. h) (λ _. each-append Held ps (newPlace j ∷ []) h (new-holdable (L .C) (L .M), tt))
 
-  rules-bind : (s : Standby) (h : ℕ) (j : Key) → (isStored j (s .places) || ltb (length (s .places)) (L .S)) ≡ true → Rules L Also s → Rules L Also (bindTo s h j)
+  rules-bind : (s : Standby) (h : ℕ) (j : Key) → (isStored j (s .places) || ltb (length (s .places)) (L .S)) ≡ true → StateRules L Also s → StateRules L Also (bindTo s h j)
   rules-bind s h j room r =
       record {
         epoch-u64 = r .epoch-u64;
@@ -226,7 +226,7 @@ module _ (L : Settings) (Also : Bound → Type 0) (closed : Closed Also) where
   Room s (bound h m) = Unit {0}
   Room s (checked h e i) = Unit {0}
 
-  keeps : {s : Standby} {f : Frame} {r : Result} → Does L s f r → Room s f → Readable f → Rules L Also s → Keeps r
+  keeps : {s : Standby} {f : Frame} {r : Result} → Does L s f r → Room s f → Readable f → StateRules L Also s → Keeps r
   keeps (turns t) room o r = r
   keeps tells room o r = r
   keeps (nacks q) room o r = r
@@ -259,36 +259,36 @@ module _ (L : Settings) (Also : Bound → Type 0) (closed : Closed Also) where
   room-due s (bound h m) = tt
   room-due s (checked h e i) = tt
 
-  keeps-given : (s : Standby) (g : Given) → Passed g → Rules L Also s → Keeps (onGiven L s g)
+  keeps-given : (s : Standby) (g : Given) → Passed g → StateRules L Also s → Keeps (onGiven L s g)
   unfolding onGiven
   keeps-given s (damaged n) o r = r
   keeps-given s (intact f) o r = cond-cases Keeps (s .counters .promoted) (λ _. r) (λ _. keeps (does L (runPending (due (s .pending) f) s) f) (room-due s f) o (rules-pending (due (s .pending) f) s r))
 
   -- ---- promotion
 
-  plain-append : (x y : List ℕ) → allPlain x ≡ true → allPlain y ≡ true → allPlain (x ++ y) ≡ true
+  plain-append : (x y : List ℕ) → allPrintable x ≡ true → allPrintable y ≡ true → allPrintable (x ++ y) ≡ true
   plain-append [] y p q = q
-  plain-append (a ∷ x) y p q = go (isPlain a) p (λ t. plain-append x y t q)
+  plain-append (a ∷ x) y p q = go (isPrintableByte a) p (λ t. plain-append x y t q)
     where
-      go : (b : Bool) → (b && allPlain x) ≡ true → (allPlain x ≡ true → allPlain (x ++ y) ≡ true) → (b && allPlain (x ++ y)) ≡ true
+      go : (b : Bool) → (b && allPrintable x) ≡ true → (allPrintable x ≡ true → allPrintable (x ++ y) ≡ true) → (b && allPrintable (x ++ y)) ≡ true
       go true t ih = ih t
       go false t ih = t
 
-  plain-take : (n : ℕ) (x : List ℕ) → allPlain x ≡ true → allPlain (take n x) ≡ true
+  plain-take : (n : ℕ) (x : List ℕ) → allPrintable x ≡ true → allPrintable (take n x) ≡ true
   plain-take zero x p = refl
   plain-take (suc n) [] p = refl
-  plain-take (suc n) (a ∷ x) p = go (isPlain a) p (plain-take n x)
+  plain-take (suc n) (a ∷ x) p = go (isPrintableByte a) p (plain-take n x)
     where
-      go : (b : Bool) → (b && allPlain x) ≡ true → (allPlain x ≡ true → allPlain (take n x) ≡ true) → (b && allPlain (take n x)) ≡ true
+      go : (b : Bool) → (b && allPrintable x) ≡ true → (allPrintable x ≡ true → allPrintable (take n x) ≡ true) → (b && allPrintable (take n x)) ≡ true
       go true t ih = ih t
       go false t ih = t
 
-  marks-made : (m : List ℕ) → length m ≤ 64 → allPlain m ≡ true → T (isMarks m)
+  marks-made : (m : List ℕ) → length m ≤ 64 → allPrintable m ≡ true → T (isMarks m)
   unfolding isMarks isPrintable
-  marks-made m h p = true→T (leb 0 (length m) && (leb (length m) 64 && allPlain m)) (and-true (leb-true {m = 0} {n = length m} (omega arith)) (and-true (leb-true h) p))
+  marks-made m h p = true→T (leb 0 (length m) && (leb (length m) 64 && allPrintable m)) (and-true (leb-true {m = 0} {n = length m} (omega arith)) (and-true (leb-true h) p))
 
   with-B : (m : List ℕ) → T (isMarks m) → T (isMarks (withB m))
-  unfolding isPlain
+  unfolding isPrintableByte
   with-B m t =
       let i = marks-is m (T→true (isMarks m) t) in
       cond-cases (λ (l : List ℕ). T (isMarks l)) (ltb 0 (length m) && eqb (getD m (length m - 1) 0) 66) (λ _. t)
@@ -312,7 +312,7 @@ module _ (L : Settings) (Also : Bound → Type 0) (closed : Closed Also) where
         msgs-count = h .msgs-count;
       }
 
-  rules-promoted : (s : Standby) → Rules L Also s → Rules L Also (promotion L s)
+  rules-promoted : (s : Standby) → StateRules L Also s → StateRules L Also (promotion L s)
   rules-promoted s r =
       record {
         epoch-u64 = r .epoch-u64;
@@ -368,18 +368,18 @@ passed w t = go (decode protocolVersion w) refl
         cond-cases Passed (eqb used (length w)) (λ _. record { writable = a .writable; storable = frame-storable f (a .writable .ranged) (a .writable .texts) (a .blobs) }) (λ _. tt)
 
 module _ (L : Settings) (Also : Bound → Type 0) (closed : Closed Also) where
-  pub rules-step : (s : Standby) (c : Call) → OkCall c → Rules L Also s → Rules L Also (step L s c .state)
+  pub rules-step : (s : Standby) (c : Call) → OkCall c → StateRules L Also s → StateRules L Also (step L s c .state)
   unfolding step
   rules-step s (onFrameHeld w) o r = keeps-given L Also closed s (given w) (passed w o) r
   rules-step s (onFrame w) o r =
       rules-pending L Also closed (isReply (onGiven L s (given w) .answer)) (onGiven L s (given w) .state) (keeps-given L Also closed s (given w) (passed w o) r)
   rules-step s (flush n) o r =
       cond-cases (Keeps L Also closed) (not (eqb n (s .counters .connections)) || s .counters .promoted) (λ _. r) (λ _. rules-pending L Also closed true s r)
-  rules-step s (disconnectedFrom n) o r = cond-cases (Rules L Also) (eqb n (s .counters .connections)) (λ _. rules-unbound L Also closed s r) (λ _. r)
+  rules-step s (disconnectedFrom n) o r = cond-cases (StateRules L Also) (eqb n (s .counters .connections)) (λ _. rules-unbound L Also closed s r) (λ _. r)
   rules-step s promote o r = cond-cases (Keeps L Also closed) (s .counters .checked) (λ _. rules-promoted L Also closed s r) (λ _. r)
   rules-step s promoteUnchecked o r = rules-promoted L Also closed s r
 
-  pub rules-run : (s : Standby) (cs : List Call) → Each OkCall cs → Rules L Also s → Rules L Also (run L s cs)
+  pub rules-run : (s : Standby) (cs : List Call) → Each OkCall cs → StateRules L Also s → StateRules L Also (run L s cs)
   rules-run s [] o r = r
   rules-run s (c ∷ cs) o r = rules-run (step L s c .state) cs (o .1) (rules-step s c (o .0) r)
 

@@ -16,7 +16,7 @@ use Rattle.model_frame.specs.Writing.{sizes, encode, Writable}
 use Rattle.model_frame.proofs.RoundTrip.{decode-alone}
 use Rattle.model_frame.proofs.Runs.{sizes-append}
 use Rattle.model_session.specs.Session.{Session, applyAll, fits, messageBytes, top, Holdable}
-use Rattle.model_session.specs.Whole.{joined, framesOf, holdLength}
+use Rattle.model_session.specs.Whole.{allChanges, framesOf, holdLength}
 use Rattle.model_session.proofs.Basics.{true→T, and-true, cond-cases, cond-true, cond-false, eqb-true, ltb-true, ltb-false, none≢some}
 use Rattle.model_session.proofs.Sending.{wholeChanges, apply-whole, fits-whole, sizes-whole, bytes-whole, messageBytes-append}
 use Rattle.model_standby.specs.Answer.{protocolVersion, Given, damaged, intact, judged, given, Answer, reply, refused, done, accepted, lower, isReply}
@@ -24,7 +24,7 @@ use Rattle.model_standby.specs.Row.{Row, find, put}
 use Rattle.model_standby.specs.Store.{Place, onStored, sessionAt, orNew, changed}
 use Rattle.model_standby.specs.State.{Settings, Bound, Standby, Result, Call, flush, disconnectedFrom, atEpoch, noneHeld}
 use Rattle.model_standby.specs.Standby.{withCounters, withHandle, unbound, runPending, due, says, refuse, heldSum, raised, maxWhole, startsWithReset, applied, settle, hold, onPart, onHandle, onBatch, onIntact, onGiven, step, run}
-use Rattle.model_standby.specs.Demand.{isOutside, Hands, byHeld, byFrame, Aside, isLower, isRefused, FirstList, ends, ours, aside, flushes, drops, tookLast, AllTaken}
+use Rattle.model_standby.specs.Demand.{isOutside, Hands, byHeld, byFrame, Aside, isLower, refusedOutside, FirstList, listEnds, oursNext, asideNext, flushNext, dropNext, modelTookLast, ModelAllTaken}
 use Rattle.model_standby.proofs.Outcomes.{Batches, refuses, clears, raises, holds, applies, diverges, Does, turns, tells, nacks, greets, binds, checks, batches, does}
 use Rattle.model_standby.proofs.Rows.{find-freed, find-put-found}
 use Rattle.model_standby.proofs.Places.{at-on-same, pending-session}
@@ -71,7 +71,7 @@ aside-refused e (intact f) n t = inr t
 
 aside-of : {e : ℕ} {w : List ℕ} {a : Answer} → Aside e w a → AsideOf e (given w) a
 aside-of {e} {a} (isLower p t) = subst (λ (g : Given). AsideOf e g a) (sym p) (inl t)
-aside-of {e} {w} (isRefused {n} t) = aside-refused e (given w) n t
+aside-of {e} {w} (refusedOutside {n} t) = aside-refused e (given w) n t
 
 -- a Batch that passed 13 and the epoch is answered, or refused with 14 to 18
 batch-inside : {L : Settings} {s : Standby} {h n : ℕ} {p : Part} {cs : List Change} {r : Result} → Batches L s h n p cs r → T (outside (r .answer)) → ⊥
@@ -375,72 +375,72 @@ module _ (L : Settings) (A B : Session) (here h e : ℕ) (okA : Holdable (L .C) 
 
   -- no frame of A's is left
   quiet-run : {fs : List Frame} {s : Standby} {cs : List Call} (d : FirstList L e fs s cs) (X : Session) → fs ≡ [] → Resting s X
-      → AllTaken d × (tookLast d ≡ false) × (Finally s cs X)
-  quiet-run ends X p r = (tt, refl, r .session)
-  quiet-run (ours hands rest) X p r = absurd (nil≢cons (sym p))
-  quiet-run (aside {s} {c} {w} hands a rest) X p r = quiet-run rest X p (same-resting s _ X (aside-same L e s c w (r .epoch) hands a) r)
-  quiet-run (flushes {s} n rest) X p r = quiet-run rest X p (same-resting s _ X (flush-same L s n) r)
-  quiet-run (drops {s} n rest) X p r =
+      → ModelAllTaken d × (modelTookLast d ≡ false) × (Finally s cs X)
+  quiet-run listEnds X p r = (tt, refl, r .session)
+  quiet-run (oursNext hands rest) X p r = absurd (nil≢cons (sym p))
+  quiet-run (asideNext {s} {c} {w} hands a rest) X p r = quiet-run rest X p (same-resting s _ X (aside-same L e s c w (r .epoch) hands a) r)
+  quiet-run (flushNext {s} n rest) X p r = quiet-run rest X p (same-resting s _ X (flush-same L s n) r)
+  quiet-run (dropNext {s} n rest) X p r =
       let q = quiet-run rest X p (drop-resting s n X r) in
       (cond-cases (λ (t : Type 0). t) (eqb n (s .counters .connections)) (λ _. tt) (λ _. q .0), q .1, q .2)
 
   -- the handle is unbound
   cut-run : {fs : List Frame} {s : Standby} {cs : List Call} (d : FirstList L e fs s cs) (m : ℕ) (bs : List (List Change)) (X : Session) → fs ≡ framesOf h e m bs → Each (Writable protocolVersion) fs → find h (s .handles) ≡ none → Resting s X
-      → (tookLast d ≡ false) × (Finally s cs X)
-  cut-run ends m bs X p fine u r = (refl, r .session)
-  cut-run (ours {f} {left} {s} {c} hands rest) m bs X p fine u r =
+      → (modelTookLast d ≡ false) × (Finally s cs X)
+  cut-run listEnds m bs X p fine u r = (refl, r .session)
+  cut-run (oursNext {f} {left} {s} {c} hands rest) m bs X p fine u r =
       let v = frame-is f left m bs p in
       let q = call-unbound s c (suc m) (v .part) (v .own) X u r (subst (Writable protocolVersion) (v .frame-is) (fine .0)) (subst (λ (x : Frame). Hands c (encode x)) (v .frame-is) hands) in
       let z = cut-run rest (suc m) (v .more) X (v .left-is) (fine .1) (q .1) (q .2) in
-      (ap (λ (x : Bool). x || tookLast rest) (and-false (isEmpty left) (accepted (step L s c .answer)) (q .0)) ∙ z .0, z .1)
-  cut-run (aside {s} {c} {w} hands a rest) m bs X p fine u r =
+      (ap (λ (x : Bool). x || modelTookLast rest) (and-false (isEmpty left) (accepted (step L s c .answer)) (q .0)) ∙ z .0, z .1)
+  cut-run (asideNext {s} {c} {w} hands a rest) m bs X p fine u r =
       let same = aside-same L e s c w (r .epoch) hands a in
       cut-run rest m bs X p fine (ap (find h) (same .handles) ∙ u) (same-resting s _ X same r)
-  cut-run (flushes {s} n rest) m bs X p fine u r =
+  cut-run (flushNext {s} n rest) m bs X p fine u r =
       let same = flush-same L s n in
       cut-run rest m bs X p fine (ap (find h) (same .handles) ∙ u) (same-resting s _ X same r)
-  cut-run (drops {s} n rest) m bs X p fine u r = cut-run rest m bs X p fine (drop-unbound s n u) (drop-resting s n X r)
+  cut-run (dropNext {s} n rest) m bs X p fine u r = cut-run rest m bs X p fine (drop-unbound s n u) (drop-resting s n X r)
 
   abbrev pub Ends : {fs : List Frame} {s : Standby} {cs : List Call} → FirstList L e fs s cs → Type 0
-  Ends {s} {cs} d = AllTaken d × (Finally s cs (cond (tookLast d) A B))
+  Ends {s} {cs} d = ModelAllTaken d × (Finally s cs (cond (modelTookLast d) A B))
 
   -- A's parts up to H are held, b and bs are to come
   pub record Coming (m : ℕ) (H b : List Change) (bs : List (List Change)) : Type 0 where
-    pub all : H ++ (b ++ joined bs) ≡ wholeChanges A
+    pub all : H ++ (b ++ allChanges bs) ≡ wholeChanges A
     pub begins : startsWithReset (H ++ b) ≡ true
     pub numbers : m + suc (length bs) ≤ top
 
   pub hold-run : {fs : List Frame} {s : Standby} {cs : List Call} (d : FirstList L e fs s cs) (m : ℕ) (H b : List Change) (bs : List (List Change))
       → fs ≡ framesOf h e m (b ∷ bs) → Each (Writable protocolVersion) fs → Coming m H b bs → Holding s m H → Ends d
-  hold-run ends m H b bs p fine w q = (tt, q .rests .session)
-  hold-run (ours {f} {left} {s} {c} {cs} hands rest) m H b bs p fine w q = go bs p w (hold-run rest)
+  hold-run listEnds m H b bs p fine w q = (tt, q .rests .session)
+  hold-run (oursNext {f} {left} {s} {c} {cs} hands rest) m H b bs p fine w q = go bs p w (hold-run rest)
     where
       go : (bs : List (List Change)) → f ∷ left ≡ framesOf h e m (b ∷ bs) → Coming m H b bs
           → ((m₁ : ℕ) (H₁ b₁ : List Change) (bs₁ : List (List Change)) → left ≡ framesOf h e m₁ (b₁ ∷ bs₁) → Each (Writable protocolVersion) left → Coming m₁ H₁ b₁ bs₁ → Holding (step L s c .state) m₁ H₁ → Ends rest)
-          → Ends (ours {f = f} {left = left} {s = s} {c = c} {cs = cs} hands rest)
+          → Ends (oursNext {f = f} {left = left} {s = s} {c = c} {cs = cs} hands rest)
       go [] p w ih =
           let x = call-last s c m H b (w .all) (w .begins) (omega (arith, w .numbers)) q (subst (Writable protocolVersion) (head-eq-of-cons-eq p) (fine .0)) (subst (λ (y : Frame). Hands c (encode y)) (head-eq-of-cons-eq p) hands) in
           let z = quiet-run rest A (tail-eq-of-cons-eq p) (x .1) in
-          let t : (isEmpty left && accepted (step L s c .answer) || tookLast rest) ≡ true = ap (λ (y : Bool). y || tookLast rest) (and-true (ap isEmpty (tail-eq-of-cons-eq p)) (x .0)) in
+          let t : (isEmpty left && accepted (step L s c .answer) || modelTookLast rest) ≡ true = ap (λ (y : Bool). y || modelTookLast rest) (and-true (ap isEmpty (tail-eq-of-cons-eq p)) (x .0)) in
           ((true→T _ (x .0), z .0), subst (Finally s (c ∷ cs)) (sym (cond-true A B t)) (z .2))
       go (b₁ ∷ bs) p w ih =
-          let x = call-whole s c m H b (b₁ ++ joined bs) (w .all) (w .begins) (omega (arith, w .numbers)) q (subst (Writable protocolVersion) (head-eq-of-cons-eq p) (fine .0)) (subst (λ (y : Frame). Hands c (encode y)) (head-eq-of-cons-eq p) hands) in
+          let x = call-whole s c m H b (b₁ ++ allChanges bs) (w .all) (w .begins) (omega (arith, w .numbers)) q (subst (Writable protocolVersion) (head-eq-of-cons-eq p) (fine .0)) (subst (λ (y : Frame). Hands c (encode y)) (head-eq-of-cons-eq p) hands) in
           let w₁ : Coming (suc m) (H ++ b) b₁ bs =
-          record { all = append-assoc H b (b₁ ++ joined bs) ∙ w .all; begins = starts-append (H ++ b) b₁ (w .begins); numbers = omega (arith, w .numbers) } in
+          record { all = append-assoc H b (b₁ ++ allChanges bs) ∙ w .all; begins = starts-append (H ++ b) b₁ (w .begins); numbers = omega (arith, w .numbers) } in
           let z = ih (suc m) (H ++ b) b₁ bs (tail-eq-of-cons-eq p) (fine .1) w₁ (x .1) in
-          let t : (isEmpty left && accepted (step L s c .answer) || tookLast rest) ≡ tookLast rest =
-          ap (λ (y : Bool). y && accepted (step L s c .answer) || tookLast rest) (ap isEmpty (tail-eq-of-cons-eq p) ∙ frames-more (suc m) b₁ bs) in
+          let t : (isEmpty left && accepted (step L s c .answer) || modelTookLast rest) ≡ modelTookLast rest =
+          ap (λ (y : Bool). y && accepted (step L s c .answer) || modelTookLast rest) (ap isEmpty (tail-eq-of-cons-eq p) ∙ frames-more (suc m) b₁ bs) in
           ((true→T _ (x .0), z .0), subst (λ (y : Bool). Finally s (c ∷ cs) (cond y A B)) (sym t) (z .1))
-  hold-run (aside {s} {c} {w = w₁} hands a rest) m H b bs p fine w q = hold-run rest m H b bs p fine w (same-holding s _ m H (aside-same L e s c w₁ (q .rests .epoch) hands a) q)
-  hold-run (flushes {s} n rest) m H b bs p fine w q = hold-run rest m H b bs p fine w (same-holding s _ m H (flush-same L s n) q)
-  hold-run (drops {s} {cs} n rest) m H b bs p fine w q = go (eqb n (s .counters .connections)) refl (hold-run rest m H b bs p fine w)
+  hold-run (asideNext {s} {c} {w = w₁} hands a rest) m H b bs p fine w q = hold-run rest m H b bs p fine w (same-holding s _ m H (aside-same L e s c w₁ (q .rests .epoch) hands a) q)
+  hold-run (flushNext {s} n rest) m H b bs p fine w q = hold-run rest m H b bs p fine w (same-holding s _ m H (flush-same L s n) q)
+  hold-run (dropNext {s} {cs} n rest) m H b bs p fine w q = go (eqb n (s .counters .connections)) refl (hold-run rest m H b bs p fine w)
     where
-      go : (x : Bool) → eqb n (s .counters .connections) ≡ x → (Holding (step L s (disconnectedFrom n) .state) m H → Ends rest) → Ends (drops {s = s} {cs = cs} n rest)
+      go : (x : Bool) → eqb n (s .counters .connections) ≡ x → (Holding (step L s (disconnectedFrom n) .state) m H → Ends rest) → Ends (dropNext {s = s} {cs = cs} n rest)
       go true y ih =
           let is = drop-is s n true y in
           let z = cut-run rest m (b ∷ bs) B p fine (ap (λ (v : Standby). find h (v .handles)) is ∙ find-freed h (s .handles))
           (subst (λ (v : Standby). Resting v B) (sym is) (record { epoch = q .rests .epoch; promoted = q .rests .promoted; session = q .rests .session })) in
-          (subst (λ (v : Bool). cond v (Unit {0}) (AllTaken rest)) (sym y) tt, subst (λ (v : Bool). Finally s (disconnectedFrom n ∷ cs) (cond v A B)) (sym (z .0)) (z .1))
+          (subst (λ (v : Bool). cond v (Unit {0}) (ModelAllTaken rest)) (sym y) tt, subst (λ (v : Bool). Finally s (disconnectedFrom n ∷ cs) (cond v A B)) (sym (z .0)) (z .1))
       go false y ih =
           let z = ih (subst (λ (v : Standby). Holding v m H) (sym (drop-is s n false y)) q) in
-          (subst (λ (v : Bool). cond v (Unit {0}) (AllTaken rest)) (sym y) (z .0), z .1)
+          (subst (λ (v : Bool). cond v (Unit {0}) (ModelAllTaken rest)) (sym y) (z .0), z .1)

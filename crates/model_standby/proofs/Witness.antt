@@ -7,12 +7,12 @@ use mathlib.Core.List.{List, [], _∷_}
 use mathlib.Core.Option.{none, some}
 use mathlib.Core.Bool.{Bool, true, false, cond}
 use Rattle.model_text.specs.Utf8.{utf8, wellFormed, leadLength, ownBits, least, fitting, isScalar, isSurrogate}
-use Rattle.model_text.specs.Printable.{isPlain, isPrintable, isMarks}
+use Rattle.model_text.specs.Printable.{isPrintableByte, isPrintable, isMarks}
 use Rattle.model_text.specs.Stamp.{isDigit, isPair, isStamp, takesStamp}
 use Rattle.model_frame.specs.Bytes.{le, bytesOf}
 use Rattle.model_frame.specs.Frame.{setIncomingInFlight, setInFlight, recordMsg, recordBare, reset, setCreatedAt, setMarks, commit, whole, lastWhole, Frame, batch, ack}
-use Rattle.model_frame.specs.Parse.{bytes, num, blob, text, count, many, runBytes}
-use Rattle.model_frame.specs.Reading.{stamp, marks, setIncomingInFlightFields, recordMsgFields, recordBareFields, setCreatedAtFields, setMarksFields, readChange, changes, appRecords, partByte, batchFields, ackFields, fields, body, decode}
+use Rattle.model_frame.specs.Parse.{readBytes, readNum, readBlob, readText, readCount, many, runBytes}
+use Rattle.model_frame.specs.Reading.{readStamp, readMarks, setIncomingInFlightFields, recordMsgFields, recordBareFields, setCreatedAtFields, setMarksFields, readChange, readChanges, readAppRecords, readPart, batchFields, ackFields, readFields, readBody, decode}
 use Rattle.model_frame.specs.Writing.{blobBytes, changeBytes, bodyBytes, encode}
 use Rattle.model_session.specs.Session.{Session, newSession, apply, keep, Holdable}
 use Rattle.model_session.specs.Whole.{wholeBatches, wholeFrames}
@@ -22,7 +22,7 @@ use Rattle.model_standby.specs.Store.{sessionAt}
 use Rattle.model_standby.specs.State.{Bound, Standby, Call, onFrameHeld, onFrame, flush, disconnectedFrom}
 use Rattle.model_standby.specs.Standby.{onBatch, onHandle, onPart, hold, settle, onGiven, step, run}
 use Rattle.model_standby.specs.PlainCopy.{OwnKey, copyAt, copyRun}
-use Rattle.model_standby.specs.Demand.{Start, byHeld, byFrame, isLower, isRefused, FirstList, ends, ours, aside, flushes, drops, tookLast}
+use Rattle.model_standby.specs.Demand.{ModelStart, byHeld, byFrame, isLower, refusedOutside, FirstList, listEnds, oursNext, asideNext, flushNext, dropNext, modelTookLast}
 use Rattle.model_standby.proofs.Demand3.{demand-3}
 use Rattle.model_standby.proofs.Examples.{L₀, keyOf}
 
@@ -40,7 +40,7 @@ A₀ =
     }
 
 A₀-held : Holdable 4096 64 A₀
-unfolding isStamp isPair isDigit isMarks isPrintable isPlain
+unfolding isStamp isPair isDigit isMarks isPrintable isPrintableByte
 A₀-held =
     record {
       stamp-ok = tt;
@@ -76,7 +76,7 @@ s₀ =
       pending = (9, 8) ∷ (3, 1) ∷ [];
     }
 
-a-start : Start L₀ 3 A₀ newSession k₀ 9 b₀ s₀
+a-start : ModelStart L₀ 3 A₀ newSession k₀ 9 b₀ s₀
 unfolding wholeBatches
 a-start =
     record {
@@ -109,18 +109,18 @@ abbrev calls₁ : List Call
 calls₁ = onFrame (1 ∷ 0 ∷ 0 ∷ []) ∷ onFrameHeld (encode f₁) ∷ onFrame (encode (batch 9 4 2 commit [] [])) ∷ flush 1 ∷ disconnectedFrom 0 ∷ onFrame (encode f₂) ∷ onFrameHeld (encode (ack 9 9)) ∷ []
 
 unfoldable list₁ : FirstList L₀ 5 (wholeFrames 3 9 5 7 A₀) s₀ calls₁
-unfolding wholeFrames wholeBatches step onGiven onBatch onHandle onPart hold settle apply keep put given encode bodyBytes blobBytes changeBytes runBytes bytesOf decode le num bytes blob text count many body fields batchFields ackFields changes readChange setIncomingInFlightFields recordMsgFields recordBareFields setCreatedAtFields setMarksFields appRecords partByte stamp marks utf8 wellFormed leadLength ownBits least fitting isScalar isSurrogate isPlain isPrintable isMarks isDigit isPair isStamp takesStamp
+unfolding wholeFrames wholeBatches step onGiven onBatch onHandle onPart hold settle apply keep put given encode bodyBytes blobBytes changeBytes runBytes bytesOf decode le readNum readBytes readBlob readText readCount many readBody readFields batchFields ackFields readChanges readChange setIncomingInFlightFields recordMsgFields recordBareFields setCreatedAtFields setMarksFields readAppRecords readPart readStamp readMarks utf8 wellFormed leadLength ownBits least fitting isScalar isSurrogate isPrintableByte isPrintable isMarks isDigit isPair isStamp takesStamp
 list₁ =
-    aside byFrame (isRefused {n = 26} tt)
-    (ours byHeld
-    (aside byFrame (isLower {f = batch 9 4 2 commit [] []} refl tt)
-    (flushes 1
-    (drops 0
-    (ours byFrame
-    (aside byHeld (isRefused {n = 19} tt) ends))))))
+    asideNext byFrame (refusedOutside {n = 26} tt)
+    (oursNext byHeld
+    (asideNext byFrame (isLower {f = batch 9 4 2 commit [] []} refl tt)
+    (flushNext 1
+    (dropNext 0
+    (oursNext byFrame
+    (asideNext byHeld (refusedOutside {n = 19} tt) listEnds))))))
 
-took₁ : tookLast list₁ ≡ true
-unfolding list₁ wholeFrames wholeBatches step onGiven onBatch onHandle onPart hold settle apply keep put given encode bodyBytes blobBytes changeBytes runBytes bytesOf decode le num bytes blob text count many body fields batchFields ackFields changes readChange setIncomingInFlightFields recordMsgFields recordBareFields setCreatedAtFields setMarksFields appRecords partByte stamp marks utf8 wellFormed leadLength ownBits least fitting isScalar isSurrogate isPlain isPrintable isMarks isDigit isPair isStamp takesStamp
+took₁ : modelTookLast list₁ ≡ true
+unfolding list₁ wholeFrames wholeBatches step onGiven onBatch onHandle onPart hold settle apply keep put given encode bodyBytes blobBytes changeBytes runBytes bytesOf decode le readNum readBytes readBlob readText readCount many readBody readFields batchFields ackFields readChanges readChange setIncomingInFlightFields recordMsgFields recordBareFields setCreatedAtFields setMarksFields readAppRecords readPart readStamp readMarks utf8 wellFormed leadLength ownBits least fitting isScalar isSurrogate isPrintableByte isPrintable isMarks isDigit isPair isStamp takesStamp
 took₁ = refl
 
 -- by the theorem
@@ -132,11 +132,11 @@ abbrev calls₂ : List Call
 calls₂ = onFrameHeld (encode f₁) ∷ disconnectedFrom 1 ∷ onFrame (encode f₂) ∷ []
 
 unfoldable list₂ : FirstList L₀ 5 (wholeFrames 3 9 5 7 A₀) s₀ calls₂
-unfolding wholeFrames wholeBatches step onGiven onBatch onHandle onPart hold settle apply keep put given encode bodyBytes blobBytes changeBytes runBytes bytesOf decode le num bytes blob text count many body fields batchFields ackFields changes readChange setIncomingInFlightFields recordMsgFields recordBareFields setCreatedAtFields setMarksFields appRecords partByte stamp marks utf8 wellFormed leadLength ownBits least fitting isScalar isSurrogate isPlain isPrintable isMarks isDigit isPair isStamp takesStamp
-list₂ = ours byHeld (drops 1 (ours byFrame ends))
+unfolding wholeFrames wholeBatches step onGiven onBatch onHandle onPart hold settle apply keep put given encode bodyBytes blobBytes changeBytes runBytes bytesOf decode le readNum readBytes readBlob readText readCount many readBody readFields batchFields ackFields readChanges readChange setIncomingInFlightFields recordMsgFields recordBareFields setCreatedAtFields setMarksFields readAppRecords readPart readStamp readMarks utf8 wellFormed leadLength ownBits least fitting isScalar isSurrogate isPrintableByte isPrintable isMarks isDigit isPair isStamp takesStamp
+list₂ = oursNext byHeld (dropNext 1 (oursNext byFrame listEnds))
 
-took₂ : tookLast list₂ ≡ false
-unfolding list₂ wholeFrames wholeBatches step onGiven onBatch onHandle onPart hold settle apply keep put given encode bodyBytes blobBytes changeBytes runBytes bytesOf decode le num bytes blob text count many body fields batchFields ackFields changes readChange setIncomingInFlightFields recordMsgFields recordBareFields setCreatedAtFields setMarksFields appRecords partByte stamp marks utf8 wellFormed leadLength ownBits least fitting isScalar isSurrogate isPlain isPrintable isMarks isDigit isPair isStamp takesStamp
+took₂ : modelTookLast list₂ ≡ false
+unfolding list₂ wholeFrames wholeBatches step onGiven onBatch onHandle onPart hold settle apply keep put given encode bodyBytes blobBytes changeBytes runBytes bytesOf decode le readNum readBytes readBlob readText readCount many readBody readFields batchFields ackFields readChanges readChange setIncomingInFlightFields recordMsgFields recordBareFields setCreatedAtFields setMarksFields readAppRecords readPart readStamp readMarks utf8 wellFormed leadLength ownBits least fitting isScalar isSurrogate isPrintableByte isPrintable isMarks isDigit isPair isStamp takesStamp
 took₂ = refl
 
 left-B : sessionAt (run L₀ s₀ calls₂ .places) 1 ≡ some newSession
@@ -144,9 +144,9 @@ left-B = demand-3 L₀ 3 A₀ newSession k₀ 9 b₀ s₀ a-start calls₂ list�
 
 -- and by computing: the standby's session, and the plain copy's
 computed-so : sessionAt (run L₀ s₀ calls₁ .places) 1 ∷ sessionAt (run L₀ s₀ calls₂ .places) 1 ∷ [] ≡ some A₀ ∷ some newSession ∷ []
-unfolding step onGiven onBatch onHandle onPart hold settle apply keep put given encode bodyBytes blobBytes changeBytes runBytes bytesOf decode le num bytes blob text count many body fields batchFields ackFields changes readChange setIncomingInFlightFields recordMsgFields recordBareFields setCreatedAtFields setMarksFields appRecords partByte stamp marks utf8 wellFormed leadLength ownBits least fitting isScalar isSurrogate isPlain isPrintable isMarks isDigit isPair isStamp takesStamp
+unfolding step onGiven onBatch onHandle onPart hold settle apply keep put given encode bodyBytes blobBytes changeBytes runBytes bytesOf decode le readNum readBytes readBlob readText readCount many readBody readFields batchFields ackFields readChanges readChange setIncomingInFlightFields recordMsgFields recordBareFields setCreatedAtFields setMarksFields readAppRecords readPart readStamp readMarks utf8 wellFormed leadLength ownBits least fitting isScalar isSurrogate isPrintableByte isPrintable isMarks isDigit isPair isStamp takesStamp
 computed-so = refl
 
 copies-so : copyRun L₀ k₀ (copyAt newSession s₀) s₀ calls₁ .session ∷ copyRun L₀ k₀ (copyAt newSession s₀) s₀ calls₂ .session ∷ [] ≡ A₀ ∷ newSession ∷ []
-unfolding step onGiven onBatch onHandle onPart hold settle apply keep put given encode bodyBytes blobBytes changeBytes runBytes bytesOf decode le num bytes blob text count many body fields batchFields ackFields changes readChange setIncomingInFlightFields recordMsgFields recordBareFields setCreatedAtFields setMarksFields appRecords partByte stamp marks utf8 wellFormed leadLength ownBits least fitting isScalar isSurrogate isPlain isPrintable isMarks isDigit isPair isStamp takesStamp
+unfolding step onGiven onBatch onHandle onPart hold settle apply keep put given encode bodyBytes blobBytes changeBytes runBytes bytesOf decode le readNum readBytes readBlob readText readCount many readBody readFields batchFields ackFields readChanges readChange setIncomingInFlightFields recordMsgFields recordBareFields setCreatedAtFields setMarksFields readAppRecords readPart readStamp readMarks utf8 wellFormed leadLength ownBits least fitting isScalar isSurrogate isPrintableByte isPrintable isMarks isDigit isPair isStamp takesStamp
 copies-so = refl

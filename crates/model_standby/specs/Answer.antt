@@ -6,7 +6,7 @@ use mathlib.Core.Option.{Option, none, some}
 use mathlib.Core.Bool.{Bool, true, false, cond, not}
 use lib.ListN.{length}
 use lib.Dec.{ltb, eqb}
-use Rattle.model_frame.specs.Frame.{Reason, staleEpoch, diverged, lagTooGreat, restarted, Frame, hello, welcome, bind, batch, ack, nack, bound, checked, number, Decoded, more, faulty, got}
+use Rattle.model_frame.specs.Frame.{Reason, staleEpoch, diverged, lagTooGreat, restarted, Frame, hello, welcome, bind, batch, ack, nack, bound, checked, faultNumber, Decoded, more, faulty, got}
 use Rattle.model_frame.specs.Refusal
 use Rattle.model_frame.specs.Reading.{decode}
 use Rattle.model_standby.specs.Row.{isSome}
@@ -24,7 +24,7 @@ pub data Given : Type 0 where
 -- of so many bytes
 abbrev pub judged : ℕ → Decoded → Given
 judged size more = damaged Refusal.notOneFrame
-judged size (faulty e) = damaged (number e)
+judged size (faulty e) = damaged (faultNumber e)
 judged size (got f used) = cond (eqb used size) (intact f) (damaged Refusal.notOneFrame)
 
 -- the reader's number, or 26 if the bytes aren't just one whole frame
@@ -62,15 +62,15 @@ pub data Answer : Type 0 where
   done : Answer
 
 -- the reason of a Nack
-abbrev pub reasonOf : Frame → Option Reason
-reasonOf (hello v e node kinds) = none
-reasonOf (welcome e i) = none
-reasonOf (bind h e lag k) = none
-reasonOf (batch h e n p cs apps) = none
-reasonOf (ack h n) = none
-reasonOf (nack h r) = some r
-reasonOf (bound h s) = none
-reasonOf (checked h e i) = none
+abbrev pub reasonIn : Frame → Option Reason
+reasonIn (hello v e node kinds) = none
+reasonIn (welcome e i) = none
+reasonIn (bind h e lag k) = none
+reasonIn (batch h e n p cs apps) = none
+reasonIn (ack h n) = none
+reasonIn (nack h r) = some r
+reasonIn (bound h s) = none
+reasonIn (checked h e i) = none
 
 abbrev pub isDiverged : Option Reason → Bool
 isDiverged none = false
@@ -81,13 +81,13 @@ isDiverged (some restarted) = false
 
 -- no refusal, no Nack
 abbrev pub accepted : Answer → Bool
-accepted (reply f) = not (isSome (reasonOf f))
+accepted (reply f) = not (isSome (reasonIn f))
 accepted (refused n) = false
 accepted done = true
 
 -- Nack Diverged
 abbrev pub saysDiverged : Answer → Bool
-saysDiverged (reply f) = isDiverged (reasonOf f)
+saysDiverged (reply f) = isDiverged (reasonIn f)
 saysDiverged (refused n) = false
 saysDiverged done = false
 

@@ -14,7 +14,7 @@ use Rattle.model_standby.specs.State.{Settings, Counters, Bound}
 use Rattle.model_standby.specs.Standby.{follows, startsWithReset, raised, maxWhole}
 
 -- these bytes, at this offset of the handle's hold area
-pub record Written : Type 0 where
+pub record HoldWrite : Type 0 where
   pub handle : ℕ
   pub offset : ℕ
   pub bytes : List ℕ
@@ -33,17 +33,17 @@ module _ (L : Settings) where
       && not (ltb (L .room) (sizes (b .held ++ cs)))))
 
   -- past 14
-  abbrev pub writesAt : ℕ → Option Bound → ℕ → List Change → Option Written
+  abbrev pub writesAt : ℕ → Option Bound → ℕ → List Change → Option HoldWrite
   writesAt h none n cs = none
   writesAt h (some b) n cs = cond (heldPasses b n cs) (some (record { handle = h; offset = sizes (b .held); bytes = heldBytes cs })) none
 
-  abbrev pub writesPart : ℕ → Option Bound → ℕ → Part → List Change → Option Written
+  abbrev pub writesPart : ℕ → Option Bound → ℕ → Part → List Change → Option HoldWrite
   writesPart h o n commit cs = none
   writesPart h o n whole cs = writesAt h o n cs
   writesPart h o n lastWhole cs = writesAt h o n cs
 
   -- past 13 and the epoch
-  abbrev pub writesFrame : Counters → Option Bound → Frame → Option Written
+  abbrev pub writesFrame : Counters → Option Bound → Frame → Option HoldWrite
   writesFrame c found (hello v e node kinds) = none
   writesFrame c found (welcome e i) = none
   writesFrame c found (bind h e lag k) = none
@@ -54,6 +54,6 @@ module _ (L : Settings) where
   writesFrame c found (checked h e i) = none
 
   -- with what is found for the frame's handle; by on_frame_held or on_frame, other calls write nothing there
-  unfoldable pub writes : Counters → Option Bound → Given → Option Written
+  unfoldable pub writes : Counters → Option Bound → Given → Option HoldWrite
   writes c found (damaged n) = none
   writes c found (intact f) = cond (c .promoted) none (writesFrame c found f)

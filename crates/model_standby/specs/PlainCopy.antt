@@ -21,14 +21,14 @@ pub record OwnKey : Type 0 where
   pub earlier : ℕ
 
 -- how many of the first n places have the key k
-abbrev pub earlier : Key → ℕ → List Place → ℕ
-earlier k zero ps = 0
-earlier k (suc n) [] = 0
-earlier k (suc n) (x ∷ ps) = cond (sameKey k (x .key)) 1 0 + earlier k n ps
+abbrev pub keyCount : Key → ℕ → List Place → ℕ
+keyCount k zero ps = 0
+keyCount k (suc n) [] = 0
+keyCount k (suc n) (x ∷ ps) = cond (sameKey k (x .key)) 1 0 + keyCount k n ps
 
 -- the key of place n, if there is such a place
 abbrev pub ownKey : List Place → ℕ → Option OwnKey
-ownKey ps n = Option·map (λ (x : Place). record { key = x .key; earlier = earlier (x .key) n ps }) (getElem? ps n)
+ownKey ps n = Option·map (λ (x : Place). record { key = x .key; earlier = keyCount (x .key) n ps }) (getElem? ps n)
 
 abbrev pub keyIs : OwnKey → Option OwnKey → Bool
 keyIs k none = false

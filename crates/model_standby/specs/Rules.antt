@@ -52,7 +52,7 @@ pub record BoundValid (L : Settings) (n : ℕ) (b : Bound) : Type 0 where
   pub held-ok : Each Storable (b .held)
 
 -- of a state, with `Also` asked of its handles
-pub record Rules (L : Settings) (Also : Bound → Type 0) (s : Standby) : Type 0 where
+pub record StateRules (L : Settings) (Also : Bound → Type 0) (s : Standby) : Type 0 where
   pub epoch-u64 : s .counters .epoch ≤ top
   pub connections-u64 : s .counters .connections ≤ top
   pub places-few : length (s .places) ≤ L .S
@@ -63,7 +63,7 @@ pub record Rules (L : Settings) (Also : Bound → Type 0) (s : Standby) : Type 0
 
 -- what every content of the areas is that docs/AREAS.md allows
 abbrev pub Valid : Settings → Standby → Type 0
-Valid L s = Rules L (λ _. Unit {0}) s
+Valid L s = StateRules L (λ _. Unit {0}) s
 
 -- of a handle that the operations made
 pub record BoundUsual (b : Bound) : Type 0 where
@@ -76,4 +76,4 @@ pub record BoundUsual (b : Bound) : Type 0 where
 
 -- what every state is that a new standby reaches
 abbrev pub Usual : Settings → Standby → Type 0
-Usual L s = Rules L BoundUsual s
+Usual L s = StateRules L BoundUsual s

@@ -4,7 +4,7 @@ use Prim.Native.Nat.{ℕ, _+_}
 use mathlib.Core.List.{List, [], _∷_, _++_}
 use mathlib.Core.Option.{none}
 use lib.ListN.{length}
-use Rattle.model_frame.specs.Frame.{setCreatedAt, commit, staleEpoch, Frame, hello, batch, nack, refusal, Fault, tooLong, truncated, unknown, badText, badTimestamp, number, Decoded, more, faulty, got}
+use Rattle.model_frame.specs.Frame.{setCreatedAt, commit, staleEpoch, Frame, hello, batch, nack, refusal, Fault, tooLong, truncated, unknown, badText, badTimestamp, faultNumber, Decoded, more, faulty, got}
 use Rattle.model_frame.specs.Reading.{decode}
 use Rattle.model_session.specs.Summary.{lastOut}
 use Rattle.model_session.specs.Lag.{Queue, newQueue, push}
@@ -32,7 +32,7 @@ pub data Reply : Type 0 where
 
 abbrev pub said : Decoded → Reply
 said more = moreNeeded
-said (faulty e) = refuses e (number e)
+said (faulty e) = refuses e (faultNumber e)
 said (got f n) = takes f n
 
 abbrev pub drainedBy : ℕ → Queue → List ℕ → List ℕ

@@ -23,12 +23,12 @@ use Rattle.model_standby.specs.Answer.{protocolVersion, reply, refused, isReply
 use Rattle.model_standby.specs.Answer as the-answer
 use Rattle.model_standby.specs.State.{Bound, atEpoch}
 use Rattle.model_standby.specs.State as state
-use Rattle.model_standby.specs.Hold.{Written, heldBytes, writesPart, writesFrame}
+use Rattle.model_standby.specs.Hold.{HoldWrite, heldBytes, writesPart, writesFrame}
 use Rattle.model_standby.specs.Core.{Action, leave, store, Core, CoreResult, coreSays, coreRefuse, counting, coreHandle, coreBatch}
 use Rattle.standby_part.specs.declared.Done.{Done}
 use Rattle.standby_part.specs.State.{boundOf, coreAt}
 use Rattle.standby_part.specs.Part.{resultOf}
-use Rattle.standby_batch_handle.specs.Handling.{followsOf, foundOf, Sound, areaAfter, HandleIs}
+use Rattle.standby_batch_handle.specs.Handling.{followsOf, foundOf, Sound, holdAreaAfter, HandleIs}
 use Rattle.standby_step.specs.Steps.{isFound}
 use Rattle.standby_state.specs.declared.Replica.{Replica}
 use Rattle.standby_state.specs.declared.Settings.{Settings}
@@ -38,7 +38,7 @@ use Rattle.standby_state.specs.Answers.{answerOf, isRefused, isNack, isAck}
 use Rattle.standby_state.specs.Outcomes.{countersOf, settingsOf, leaving, storing, Lands}
 use Rattle.standby_hello.specs.Greeting.{isQuiet}
 use Rattle.standby_hello.proofs.Laws.{leaving-lands}
-use Rattle.standby_batch.specs.Batches.{epochTo, foundFor, answerBy, settledOf, Kept, areaBy, foundAt, BatchIs}
+use Rattle.standby_batch.specs.Batches.{epochTo, foundFor, answerBy, settledOf, RecordRules, holdAreaWith, foundAt, BatchIs}
 use Rattle.standby_batch.proofs.Passing.{as-many, isStore, store-none, Passes, whole-passes, last-passes}
 
 -- ---- what the answer of a handle stands for
@@ -91,7 +91,7 @@ module _ (s : Settings) (c : Replica) (seen : Seen) (h : ℕ) (e : Epoch) (n : C
   abbrev Goes : Bool → Bool → CoreResult
   Goes t u = cond (not t) (coreRefuse K leave 13) (cond u (coreSays K leave (nack h staleEpoch)) (coreHandle L (counting K (atEpoch (e .0) (K .counters))) h F (n .0) part cs))
 
-  abbrev Writes : Bool → Bool → Option Written
+  abbrev Writes : Bool → Bool → Option HoldWrite
   Writes t u = cond (not t || u) none (writesPart L h F (n .0) part cs)
 
   abbrev Is : List ℕ → List ℕ → List ℕ → Outcome → Type 0
@@ -114,7 +114,7 @@ module _ (s : Settings) (c : Replica) (seen : Seen) (h : ℕ) (e : Epoch) (n : C
         used = refl;
         touched = touched-none (s .shape) (seen .bound .place) w b;
         quiet = λ _. (refl, refl);
-        area-is = ap (λ (o : Option Written). areaBy o area) (sym ((λ j. Writes (p j) (q j)) ∙ none-written));
+        area-is = ap (λ (o : Option HoldWrite). holdAreaWith o area) (sym ((λ j. Writes (p j) (q j)) ∙ none-written));
       })
 
   pub with-records : {r : Outcome} {a : Answer} → isEmpty apps ≡ false → r ≡ leaving c seen a → a ≡ isRefused 13 → Is w b area r
@@ -127,8 +127,8 @@ module _ (s : Settings) (c : Replica) (seen : Seen) (h : ℕ) (e : Epoch) (n : C
 
   module _ (p : isEmpty apps ≡ true) (high : ltb (e .0) (c .epoch .0) ≡ false) {found : Bool} (found-is : found ≡ foundFor seen h) {w' b' area' run : List ℕ} {d : Done}
       (g : HandleIs protocolVersion (s .shape) h found (seen .bound) (n .0) part cs w w' b b' area area' d)
-      (written : area' ≡ areaAfter protocolVersion found (seen .bound) (n .0) part run area (d .refusal)) (bytes : run ≡ heldBytes cs)
-      (kept : found ≡ true → Kept seen w area) where
+      (written : area' ≡ holdAreaAfter protocolVersion found (seen .bound) (n .0) part run area (d .refusal)) (bytes : run ≡ heldBytes cs)
+      (kept : found ≡ true → RecordRules seen w area) where
     abbrev B : Bound
     B = boundOf protocolVersion (seen .bound) area
 
@@ -191,7 +191,7 @@ module _ (s : Settings) (c : Replica) (seen : Seen) (h : ℕ) (e : Epoch) (n : C
     lands-in : (t : Bool) → d .stores ≡ t → Lands seen (getD w' 0 0) (length area) (X t)
     lands-in false q = leaving-lands (epochTo c e) seen A (getD w' 0 0) (length area)
     lands-in true q =
-        let k : Kept seen w area = kept (stored-found q) in
+        let k : RecordRules seen w area = kept (stored-found q) in
         record {
           at-is = refl;
           from-is = refl;
@@ -206,10 +206,10 @@ module _ (s : Settings) (c : Replica) (seen : Seen) (h : ℕ) (e : Epoch) (n : C
     abbrev New : Bool → List ℕ
     New t = cond t (write area (sizes (B .held)) run) area
 
-    abbrev Put : Written
+    abbrev Put : HoldWrite
     Put = record { handle = h; offset = sizes (B .held); bytes = heldBytes cs }
 
-    put-is : (t : Bool) → New t ≡ areaBy (cond t (some Put) none) area
+    put-is : (t : Bool) → New t ≡ holdAreaWith (cond t (some Put) none) area
     put-is true = ap (write area (sizes (B .held))) bytes
     put-is false = refl
 
@@ -220,10 +220,10 @@ module _ (s : Settings) (c : Replica) (seen : Seen) (h : ℕ) (e : Epoch) (n : C
 
     -- of a Whole or LastWhole that is found
     held-area : found ≡ true → (followsOf (seen .bound) (n .0) ≡ true → eqb (d .refusal) 0 ≡ Passes L K' h B (n .0) cs)
-        → cond (followsOf (seen .bound) (n .0) && true) (New (eqb (d .refusal) 0)) area ≡ areaBy (cond (followsOf (seen .bound) (n .0) && Passes L K' h B (n .0) cs) (some Put) none) area
+        → cond (followsOf (seen .bound) (n .0) && true) (New (eqb (d .refusal) 0)) area ≡ holdAreaWith (cond (followsOf (seen .bound) (n .0) && Passes L K' h B (n .0) cs) (some Put) none) area
     held-area f passes = go (followsOf (seen .bound) (n .0)) refl
       where
-        go : (t : Bool) → followsOf (seen .bound) (n .0) ≡ t → cond (t && true) (New (eqb (d .refusal) 0)) area ≡ areaBy (cond (t && Passes L K' h B (n .0) cs) (some Put) none) area
+        go : (t : Bool) → followsOf (seen .bound) (n .0) ≡ t → cond (t && true) (New (eqb (d .refusal) 0)) area ≡ holdAreaWith (cond (t && Passes L K' h B (n .0) cs) (some Put) none) area
         go true q = ap New (passes q) ∙ put-is (Passes L K' h B (n .0) cs)
         go false q = refl
 
@@ -231,29 +231,29 @@ module _ (s : Settings) (c : Replica) (seen : Seen) (h : ℕ) (e : Epoch) (n : C
     off-held true = refl
     off-held false = refl
 
-    area-found : (q : the-frame.Part) → part ≡ q → found ≡ true → areaAfter protocolVersion true (seen .bound) (n .0) q run area (d .refusal) ≡ areaBy (writesPart L h (some B) (n .0) q cs) area
+    area-found : (q : the-frame.Part) → part ≡ q → found ≡ true → holdAreaAfter protocolVersion true (seen .bound) (n .0) q run area (d .refusal) ≡ holdAreaWith (writesPart L h (some B) (n .0) q cs) area
     area-found commit q f = off-held (followsOf (seen .bound) (n .0))
     area-found whole q f =
         held-area f (λ t. sym (answered f) ∙ ap (λ (x : the-frame.Part). isReply (coreHandle L K' h (some B) (n .0) x cs .answer)) q ∙ whole-passes L K' h B (n .0) cs t)
     area-found lastWhole q f =
         held-area f (λ t. sym (answered f) ∙ ap (λ (x : the-frame.Part). isReply (coreHandle L K' h (some B) (n .0) x cs .answer)) q ∙ last-passes L K' h B (n .0) cs t)
 
-    none-found : (q : the-frame.Part) → area ≡ areaBy (writesPart L h none (n .0) q cs) area
+    none-found : (q : the-frame.Part) → area ≡ holdAreaWith (writesPart L h none (n .0) q cs) area
     none-found commit = refl
     none-found whole = refl
     none-found lastWhole = refl
 
-    area-part : area' ≡ areaBy (writesPart L h (foundOf protocolVersion found (seen .bound) area) (n .0) part cs) area
+    area-part : area' ≡ holdAreaWith (writesPart L h (foundOf protocolVersion found (seen .bound) area) (n .0) part cs) area
     area-part = written ∙ go found refl
       where
-        go : (t : Bool) → found ≡ t → areaAfter protocolVersion t (seen .bound) (n .0) part run area (d .refusal) ≡ areaBy (writesPart L h (foundOf protocolVersion t (seen .bound) area) (n .0) part cs) area
+        go : (t : Bool) → found ≡ t → holdAreaAfter protocolVersion t (seen .bound) (n .0) part run area (d .refusal) ≡ holdAreaWith (writesPart L h (foundOf protocolVersion t (seen .bound) area) (n .0) part cs) area
         go true f = area-found part refl f
         go false f = none-found part
 
-    area-whole : area' ≡ areaBy (writesFrame L (countersOf c) F (batch h (e .0) (n .0) part cs apps)) area
+    area-whole : area' ≡ holdAreaWith (writesFrame L (countersOf c) F (batch h (e .0) (n .0) part cs apps)) area
     area-whole =
-        area-part ∙ ap (λ (t : Bool). areaBy (writesPart L h (foundOf protocolVersion t (seen .bound) area) (n .0) part cs) area) found-is
-        ∙ ap (λ (o : Option Written). areaBy o area) (sym (λ j. Writes (p j) (high j)))
+        area-part ∙ ap (λ (t : Bool). holdAreaWith (writesPart L h (foundOf protocolVersion t (seen .bound) area) (n .0) part cs) area) found-is
+        ∙ ap (λ (o : Option HoldWrite). holdAreaWith o area) (sym (λ j. Writes (p j) (high j)))
 
     pub handled-is : {r : Outcome} {c' : Replica} → c' ≡ epochTo c e → r ≡ settledOf c' seen d h n → Is w' b' area' r
     handled-is e₁ e₂ =
@@ -272,8 +272,8 @@ module _ (s : Settings) (c : Replica) (seen : Seen) (h : ℕ) (e : Epoch) (n : C
 
 -- ---- what the handle asks
 
-module _ (seen : Seen) (h : ℕ) (w area : List ℕ) (kept : isFound seen ≡ true → Kept seen w area) {found : Bool} (is : found ≡ foundFor seen h) where
-  pub kept-of : found ≡ true → Kept seen w area
+module _ (seen : Seen) (h : ℕ) (w area : List ℕ) (kept : isFound seen ≡ true → RecordRules seen w area) {found : Bool} (is : found ≡ foundFor seen h) where
+  pub kept-of : found ≡ true → RecordRules seen w area
   kept-of t = kept (both (isFound seen) (eqb (seen .bound .handle) h) (sym is ∙ t) .0)
 
   pub sound-of : found ≡ true → Sound h (seen .bound) w area

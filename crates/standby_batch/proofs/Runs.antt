@@ -5,7 +5,7 @@ use mathlib.Core.Bool.{true, false}
 use mathlib.Core.List.{List}
 use lib.ListN.{drop}
 use Rattle.model_frame.specs.Frame.{Fault}
-use Rattle.model_frame.specs.Parse.{Res, ok, bad, Parser, isEmpty, onto, collect}
+use Rattle.model_frame.specs.Parse.{Res, ok, bad, Parser, isEmpty, itemThen, collect}
 use Rattle.frame_op.specs.Answers.{runOf}
 use Rattle.frame_op.specs.declared.Run.{Run}
 
@@ -20,7 +20,7 @@ module _ {A : Type 0} (p : Parser A) (b : List ℕ) (run : Run) where
     where
       go : (n : ℕ) → (n ≡ 0 → ⊥) → false ≡ isEmpty (collect n p (drop (run .at) b))
       go zero off = absurd (off refl)
-      go (suc n) off = ap (λ (r : Res A). isEmpty (onto r (collect n p))) e
+      go (suc n) off = ap (λ (r : Res A). isEmpty (itemThen r (collect n p))) e
 
   pub run-bad : {x : Fault} → bad x ≡ p (drop (run .at) b) → true ≡ isEmpty (runOf p b run)
   unfolding collect
@@ -28,4 +28,4 @@ module _ {A : Type 0} (p : Parser A) (b : List ℕ) (run : Run) where
     where
       go : (n : ℕ) → true ≡ isEmpty (collect n p (drop (run .at) b))
       go zero = refl
-      go (suc n) = ap (λ (r : Res A). isEmpty (onto r (collect n p))) e
+      go (suc n) = ap (λ (r : Res A). isEmpty (itemThen r (collect n p))) e

@@ -18,7 +18,7 @@ use Rattle.store_areas.specs.Areas.{Rules}
 use Rattle.standby_commit.specs.Settling.{Touched}
 use Rattle.model_standby.specs.Answer.{protocolVersion}
 use Rattle.model_standby.specs.State.{Bound}
-use Rattle.model_standby.specs.Hold.{Written, writesFrame}
+use Rattle.model_standby.specs.Hold.{HoldWrite, writesFrame}
 use Rattle.model_standby.specs.Core.{leave, store, coreBatch}
 use Rattle.standby_part.specs.declared.Done.{Done}
 use Rattle.standby_part.specs.State.{boundOf, coreAt}
@@ -45,14 +45,14 @@ abbrev pub settledOf : Replica → Seen → Done → ℕ → CommitNumber → Ou
 settledOf c seen x h n = cond (x .stores) (storing c seen (answerBy x h n) h (x .slot)) (leaving c seen (answerBy x h n))
 
 -- the record found names a place in use, and holds no more than its area has
-pub record Kept (seen : Seen) (w area : List ℕ) : Type 0 where
+pub record RecordRules (seen : Seen) (w area : List ℕ) : Type 0 where
   pub place-used : seen .bound .place < getD w StoreWord.used 0
   pub held-within : seen .bound .«held_len» ≤ length area
 
 -- the hold area with what is written there
-abbrev pub areaBy : Option Written → List ℕ → List ℕ
-areaBy none area = area
-areaBy (some x) area = write area (x .offset) (x .bytes)
+abbrev pub holdAreaWith : Option HoldWrite → List ℕ → List ℕ
+holdAreaWith none area = area
+holdAreaWith (some x) area = write area (x .offset) (x .bytes)
 
 abbrev pub foundAt : Seen → ℕ → List ℕ → Option Bound
 foundAt seen h area = foundOf protocolVersion (foundFor seen h) (seen .bound) area
@@ -72,4 +72,4 @@ pub record BatchIs (s : Settings) (c : Replica) (seen : Seen) (h e n : ℕ) (par
   pub used : getD w' StoreWord.used 0 ≡ getD w StoreWord.used 0
   pub touched : Touched (s .shape) (seen .bound .place) w w' b b'
   pub quiet : isQuiet (r .answer) ≡ true → (w' ≡ w) × (b' ≡ b)
-  pub area-is : area' ≡ areaBy (writesFrame (settingsOf s (length area)) (countersOf c) (foundAt seen h area) (batch h e n part cs apps)) area
+  pub area-is : area' ≡ holdAreaWith (writesFrame (settingsOf s (length area)) (countersOf c) (foundAt seen h area) (batch h e n part cs apps)) area

@@ -4,13 +4,13 @@ ghost use mathlib.Core.Bool.{true, _&&_};
 ghost use Prim.Native.Nat.{_<_};
 ghost use lib.Dec.{eqb, ltb};
 ghost use Rattle.model_frame.specs.Parse.{isEmpty};
-ghost use Rattle.model_frame.specs.Reading.{readChange, appRecord};
+ghost use Rattle.model_frame.specs.Reading.{readChange, readAppRecord};
 ghost use Rattle.frame_op.specs.Answers.{runOf};
 ghost use Rattle.frame_fields.specs.Answers.{partOf};
 ghost use Rattle.store_areas.specs.Areas.{Rules};
 ghost use Rattle.standby_pending.specs.Pending.{countOf};
 ghost use Rattle.standby_step.specs.Steps.{isFound};
-ghost use Rattle.standby_batch.specs.Batches.{epochTo, foundFor, answerBy, settledOf, Kept, BatchIs};
+ghost use Rattle.standby_batch.specs.Batches.{epochTo, foundFor, answerBy, settledOf, RecordRules, BatchIs};
 use base_refusals::APP_RECORDS;
 use frame::Batch;
 use frame::CommitNumber;
@@ -29,7 +29,7 @@ use standby_state::Settings;
 
 // Whether a run of application records is empty.
 fn no_records(frame: &[u8], run: Run) -> bool
-    ensures { λ r. ⌜ r ≡ isEmpty (runOf appRecord (now (frame .entry)) run) ⌝ }
+    ensures { λ r. ⌜ r ≡ isEmpty (runOf readAppRecord (now (frame .entry)) run) ⌝ }
 {
     if run.count == 0 {
         return true;
@@ -99,8 +99,8 @@ pub fn on_batch(
 ) -> Outcome
     requires { ⌜ Rules (s .shape) (now words) (now bytes) ⌝ }
     requires { ⌜ countOf (now words) < 64 ⌝ }
-    requires { ⌜ (isFound seen ≡ true → Kept seen (now words) (now area)) ⌝ }
-    ensures { λ r. ⌜ BatchIs s c seen (b .handle) (b .epoch .0) (b .«commit_no» .0) (partOf (b .part)) (runOf (readChange 1) (now (frame .entry)) (b .ops)) (runOf appRecord (now (frame .entry)) (b .«app_records»)) (now (words .entry)) (now (words .exit)) (now (bytes .entry)) (now (bytes .exit)) (now (area .entry)) (now (area .exit)) r ⌝ }
+    requires { ⌜ (isFound seen ≡ true → RecordRules seen (now words) (now area)) ⌝ }
+    ensures { λ r. ⌜ BatchIs s c seen (b .handle) (b .epoch .0) (b .«commit_no» .0) (partOf (b .part)) (runOf (readChange 1) (now (frame .entry)) (b .ops)) (runOf readAppRecord (now (frame .entry)) (b .«app_records»)) (now (words .entry)) (now (words .exit)) (now (bytes .entry)) (now (bytes .exit)) (now (area .entry)) (now (area .exit)) r ⌝ }
 {
     let records = b.app_records;
     if !no_records(frame, records) {

@@ -28,7 +28,7 @@ use Rattle.model_standby.specs.Answer.{protocolVersion}
 use Rattle.model_standby.specs.State.{Bound, Counters}
 use Rattle.model_standby.specs.State as state
 use Rattle.model_standby.specs.Standby.{follows, startsWithReset, raised, maxWhole, pendsOn}
-use Rattle.model_standby.specs.Hold.{Written, heldBytes, heldPasses, writesAt, writesPart, writesFrame}
+use Rattle.model_standby.specs.Hold.{HoldWrite, heldBytes, heldPasses, writesAt, writesPart, writesFrame}
 use Rattle.model_standby.specs.Core.{leave, store, clear, coreRun, coreBatch}
 use Rattle.standby_part.specs.State.{boundOf, coreAt}
 use Rattle.standby_batch_handle.specs.Handling.{foundOf}
@@ -38,17 +38,17 @@ use Rattle.standby_state.specs.declared.Outcome.{Outcome}
 use Rattle.standby_state.specs.Answers.{answerOf}
 use Rattle.standby_state.specs.Outcomes.{countersOf, settingsOf, areaAt, spotOf, Lands}
 use Rattle.standby_step.specs.Steps.{roomIn, isFound, foundIn, holdsAfter}
-use Rattle.standby_batch.specs.Batches.{foundFor, Kept, areaBy, foundAt, BatchIs}
-use Rattle.standby_batch_due.specs.DueBatch.{spotIn, Holds, dueBatch, BatchIn}
+use Rattle.standby_batch.specs.Batches.{foundFor, RecordRules, holdAreaWith, foundAt, BatchIs}
+use Rattle.standby_batch_due.specs.DueBatch.{spotIn, RecordRulesIn, dueBatch, BatchIn}
 use Rattle.standby_batch_due.proofs.Areas.{within, write-part}
 
 -- ---- what is written fits the area
 
-abbrev Inside : ℕ → Option Written → Type 0
+abbrev Inside : ℕ → Option HoldWrite → Type 0
 Inside room none = Unit {0}
 Inside room (some x) = x .offset + length (x .bytes) ≤ room
 
-inside-cond : (room : ℕ) (t : Bool) (x : Written) → (t ≡ true → x .offset + length (x .bytes) ≤ room) → Inside room (cond t (some x) none)
+inside-cond : (room : ℕ) (t : Bool) (x : HoldWrite) → (t ≡ true → x .offset + length (x .bytes) ≤ room) → Inside room (cond t (some x) none)
 inside-cond room true x f = f refl
 inside-cond room false x f = tt
 
@@ -153,10 +153,10 @@ module _ (s : Settings) (c : Replica) (seen : Seen) (h e n : ℕ) (part : the-fr
             ap (λ (x : List ℕ). store (r .slot .handle) (boundOf protocolVersion (r .slot) x)) (ap (λ (k : ℕ). areaAt R k l') at ∙ part-own A R l area' (within seen l) size)
         go false y = ap (λ (t : Bool). cond t clear leave) (g .stays)
 
-    abbrev O : ℕ → Option Bound → Option Written
+    abbrev O : ℕ → Option Bound → Option HoldWrite
     O room o = writesFrame (settingsOf s room) (countersOf c) o (batch h e n part cs apps)
 
-    wrote : (o : Option Written) → Inside R o → area' ≡ areaBy o P → l' ≡ holdsAfter R (spotIn seen) o l
+    wrote : (o : Option HoldWrite) → Inside R o → area' ≡ holdAreaWith o P → l' ≡ holdsAfter R (spotIn seen) o l
     wrote none q is =
         ap (putMid A (A + R - A) l) (is ∙ sym (part-lent A R l area' (within seen l) size)) ∙ put-same A (A + R - A) l
     wrote (some x) q is =
@@ -172,8 +172,8 @@ module _ (s : Settings) (c : Replica) (seen : Seen) (h e n : ℕ) (part : the-fr
             → l' ≡ holdsAfter R (seen .at) (O R (foundOf protocolVersion t (seen .bound) (areaAt R (seen .at) l))) l
         go true p = p
         go false p =
-            p ∙ ap (λ (o : Option Written). holdsAfter R 0 o l) (none-frame (settingsOf s R) h n cs (countersOf c) e part apps)
-            ∙ sym (ap (λ (o : Option Written). holdsAfter R (seen .at) o l) (none-frame (settingsOf s R) h n cs (countersOf c) e part apps))
+            p ∙ ap (λ (o : Option HoldWrite). holdsAfter R 0 o l) (none-frame (settingsOf s R) h n cs (countersOf c) e part apps)
+            ∙ sym (ap (λ (o : Option HoldWrite). holdsAfter R (seen .at) o l) (none-frame (settingsOf s R) h n cs (countersOf c) e part apps))
 
     pub batch-in : BatchIn s c seen h e n part cs apps w w' b b' l l' r
     batch-in = record {
@@ -191,7 +191,7 @@ module _ (s : Settings) (c : Replica) (seen : Seen) (h e n : ℕ) (part : the-fr
       };
       holds = λ own.
           at-own (wrote (O R (foundIn seen l)) (frame-inside (settingsOf s R) h n cs (countersOf c) (foundIn seen l) e part apps)
-          (g .area-is ∙ (λ j. areaBy (O (long j) (found-is seen h l own j)) P)));
+          (g .area-is ∙ (λ j. holdAreaWith (O (long j) (found-is seen h l own j)) P)));
     }
 
   -- over the part as it was lent
@@ -225,8 +225,8 @@ few-left s h w b {w1} {due} r due-is ran =
         let few : length (pendingOf w) < 64 = leb-false 64 (length (pendingOf w)) (less (leb 64 (length (pendingOf w))) (pendsOn h (pendingOf w)) (sym is ∙ d)) in
         subst (λ (k : ℕ). k < 64) (sym (ap length (ran .pending ∙ ap (λ (t : Bool). cond t [] (pendingOf w)) d))) few
 
-pub kept-in : (s : _) (seen : Seen) (w b l : List ℕ) {w1 : List ℕ} {due : Bool} {room lo : ℕ} → RanIf due s b w w1 → room ≡ roomIn seen l → lo ≡ spotIn seen * room → lo + room ≤ length l → (isFound seen ≡ true → Holds seen w l) → isFound seen ≡ true
-    → Kept seen w1 (midOf lo (lo + room - lo) l)
+pub kept-in : (s : _) (seen : Seen) (w b l : List ℕ) {w1 : List ℕ} {due : Bool} {room lo : ℕ} → RanIf due s b w w1 → room ≡ roomIn seen l → lo ≡ spotIn seen * room → lo + room ≤ length l → (isFound seen ≡ true → RecordRulesIn seen w l) → isFound seen ≡ true
+    → RecordRules seen w1 (midOf lo (lo + room - lo) l)
 kept-in s seen w b l {room = room} {lo = lo} ran p q fits holds f = record {
   place-used = subst (λ (k : ℕ). seen .bound .place < k) (sym (ran .used)) (holds f .place-used);
   held-within = subst (λ (k : ℕ). seen .bound .«held_len» ≤ k) (sym (mid-len lo (lo + room) l fits ∙ back lo room ∙ p)) (holds f .held-within);

@@ -27,7 +27,7 @@ abbrev pub spotIn : Seen → ℕ
 spotIn seen = cond (isFound seen) (seen .at) 0
 
 -- the record found names a place in use, and holds no more than its area has
-pub record Holds (seen : Seen) (w h : List ℕ) : Type 0 where
+pub record RecordRulesIn (seen : Seen) (w h : List ℕ) : Type 0 where
   pub place-used : seen .bound .place < getD w 0 0
   pub held-within : seen .bound .«held_len» ≤ roomIn seen h
 

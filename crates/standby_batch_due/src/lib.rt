@@ -3,12 +3,12 @@ ghost use mathlib.Core.Path.{_≡_};
 ghost use mathlib.Core.Bool.{true, cond};
 ghost use Prim.Native.Nat.{_+_, _*_, _≤_};
 ghost use lib.ListN.{length};
-ghost use Rattle.model_frame.specs.Reading.{readChange, appRecord};
+ghost use Rattle.model_frame.specs.Reading.{readChange, readAppRecord};
 ghost use Rattle.frame_op.specs.Answers.{runOf};
 ghost use Rattle.frame_fields.specs.Answers.{partOf};
 ghost use Rattle.store_areas.specs.Areas.{Rules};
 ghost use Rattle.standby_step.specs.Steps.{roomOf, roomIn, isFound};
-ghost use Rattle.standby_batch_due.specs.DueBatch.{spotIn, Holds, BatchIn};
+ghost use Rattle.standby_batch_due.specs.DueBatch.{spotIn, RecordRulesIn, BatchIn};
 use frame::Batch;
 use standby_row::Seen;
 use standby_state::Outcome;
@@ -47,8 +47,8 @@ pub fn batch_in(
     b: Batch,
 ) -> Outcome
     requires { ⌜ Rules (s .shape) (now words) (now bytes) ⌝ }
-    requires { ⌜ (isFound seen ≡ true → Holds seen (now words) (now holds)) ⌝ }
-    ensures { λ r. ⌜ BatchIn s c seen (b .handle) (b .epoch .0) (b .«commit_no» .0) (partOf (b .part)) (runOf (readChange 1) (now (frame .entry)) (b .ops)) (runOf appRecord (now (frame .entry)) (b .«app_records»)) (now (words .entry)) (now (words .exit)) (now (bytes .entry)) (now (bytes .exit)) (now (holds .entry)) (now (holds .exit)) r ⌝ }
+    requires { ⌜ (isFound seen ≡ true → RecordRulesIn seen (now words) (now holds)) ⌝ }
+    ensures { λ r. ⌜ BatchIn s c seen (b .handle) (b .epoch .0) (b .«commit_no» .0) (partOf (b .part)) (runOf (readChange 1) (now (frame .entry)) (b .ops)) (runOf readAppRecord (now (frame .entry)) (b .«app_records»)) (now (words .entry)) (now (words .exit)) (now (bytes .entry)) (now (bytes .exit)) (now (holds .entry)) (now (holds .exit)) r ⌝ }
 {
     let shape = s.shape;
     let due = standby_pending_run::is_due_batch(words, b.handle);

@@ -25,7 +25,7 @@ use Rattle.model_standby.specs.Core.{store, coreSays, corePart, coreHandle}
 use Rattle.standby_part.specs.declared.Done.{Done}
 use Rattle.standby_part.specs.State.{boundOf, coreAt, settingsFor, holdingTo}
 use Rattle.standby_part.specs.Part.{resultOf, PartIs, AreaIs}
-use Rattle.standby_batch_handle.specs.Handling.{followsOf, foundOf, isHeld, areaAfter, HandleIs}
+use Rattle.standby_batch_handle.specs.Handling.{followsOf, foundOf, isHeld, holdAreaAfter, HandleIs}
 
 -- the commit number, as the code tests it
 pub next-is : (h : Handle) (n : ℕ) → h .«commit_no» .0 < top → {b : Bool} → b ≡ eqb n (h .«commit_no» .0 + 1) → b ≡ followsOf h n
@@ -103,20 +103,20 @@ module _ (version : ℕ) (h : Handle) (n : ℕ) (run area : List ℕ) (refusal :
   abbrev New : List ℕ
   New = cond (eqb refusal 0) (write area (sizes (heldRun version (take (h .«held_len») area))) run) area
 
-  pub area-unbound : (part : the-frame.Part) {found : Bool} → found ≡ false → area ≡ areaAfter version found h n part run area refusal
+  pub area-unbound : (part : the-frame.Part) {found : Bool} → found ≡ false → area ≡ holdAreaAfter version found h n part run area refusal
   area-unbound part e = sym (ap (λ (f : Bool). cond (f && (followsOf h n && isHeld part)) New area) e)
 
-  pub area-off : (part : the-frame.Part) {found next : Bool} → found ≡ true → next ≡ followsOf h n → next ≡ false → area ≡ areaAfter version found h n part run area refusal
+  pub area-off : (part : the-frame.Part) {found next : Bool} → found ≡ true → next ≡ followsOf h n → next ≡ false → area ≡ holdAreaAfter version found h n part run area refusal
   area-off part e f off = sym (ap (λ (x : Bool). cond (x && (followsOf h n && isHeld part)) New area) e ∙ ap (λ (x : Bool). cond (x && isHeld part) New area) (sym f ∙ off))
 
-  area-on : (part : the-frame.Part) {found next : Bool} → found ≡ true → next ≡ followsOf h n → next ≡ true → cond (isHeld part) New area ≡ areaAfter version found h n part run area refusal
+  area-on : (part : the-frame.Part) {found next : Bool} → found ≡ true → next ≡ followsOf h n → next ≡ true → cond (isHeld part) New area ≡ holdAreaAfter version found h n part run area refusal
   area-on part e f on = sym (ap (λ (x : Bool). cond (x && (followsOf h n && isHeld part)) New area) e ∙ ap (λ (x : Bool). cond (x && isHeld part) New area) (sym f ∙ on))
 
-  pub area-commit : {found next : Bool} → found ≡ true → next ≡ followsOf h n → next ≡ true → area ≡ areaAfter version found h n commit run area refusal
+  pub area-commit : {found next : Bool} → found ≡ true → next ≡ followsOf h n → next ≡ true → area ≡ holdAreaAfter version found h n commit run area refusal
   area-commit = area-on commit
 
-  pub area-whole : {found next : Bool} {area' : List ℕ} → found ≡ true → next ≡ followsOf h n → next ≡ true → AreaIs version h run area area' refusal → area' ≡ areaAfter version found h n whole run area refusal
+  pub area-whole : {found next : Bool} {area' : List ℕ} → found ≡ true → next ≡ followsOf h n → next ≡ true → AreaIs version h run area area' refusal → area' ≡ holdAreaAfter version found h n whole run area refusal
   area-whole e f on a = a ∙ area-on whole e f on
 
-  pub area-last : {found next : Bool} {area' : List ℕ} → found ≡ true → next ≡ followsOf h n → next ≡ true → AreaIs version h run area area' refusal → area' ≡ areaAfter version found h n lastWhole run area refusal
+  pub area-last : {found next : Bool} {area' : List ℕ} → found ≡ true → next ≡ followsOf h n → next ≡ true → AreaIs version h run area area' refusal → area' ≡ holdAreaAfter version found h n lastWhole run area refusal
   area-last e f on a = a ∙ area-on lastWhole e f on

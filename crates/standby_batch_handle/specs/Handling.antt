@@ -43,8 +43,8 @@ isHeld whole = true
 isHeld lastWhole = true
 
 -- the hold area: the run after the changes held, for a Whole or LastWhole that isn't refused
-abbrev pub areaAfter : ℕ → Bool → Handle → ℕ → the-frame.Part → List ℕ → List ℕ → ℕ → List ℕ
-areaAfter version found h n part run area refusal =
+abbrev pub holdAreaAfter : ℕ → Bool → Handle → ℕ → the-frame.Part → List ℕ → List ℕ → ℕ → List ℕ
+holdAreaAfter version found h n part run area refusal =
     cond (found && (followsOf h n && isHeld part)) (cond (eqb refusal Refusal.notOneFrame) (write area (sizes (heldRun version (take (h .«held_len») area))) run) area) area
 
 -- equal to the definition, whatever the counters and the settings; a refusal and a Nack leave the store as it was

@@ -8,7 +8,7 @@ ghost use Rattle.frame_fields.specs.Answers.{partOf};
 ghost use Rattle.standby_changes.specs.Held.{TakesAll};
 ghost use Rattle.store_areas.specs.Areas.{Rules};
 ghost use Rattle.standby_pending.specs.Pending.{countOf};
-ghost use Rattle.standby_batch_handle.specs.Handling.{followsOf, Sound, areaAfter, HandleIs};
+ghost use Rattle.standby_batch_handle.specs.Handling.{followsOf, Sound, holdAreaAfter, HandleIs};
 ghost use Rattle.standby_part.specs.State.{holdingTo};
 use base_refusals::UNBOUND;
 use frame::CommitNumber;

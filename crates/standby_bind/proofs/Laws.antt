@@ -56,16 +56,16 @@ use Rattle.standby_state.specs.declared.Outcome.{Outcome}
 use Rattle.standby_state.specs.Answers.{answerOf, briefOf, isRefused, isNack, isBound}
 use Rattle.standby_state.specs.Outcomes.{countersOf, settingsOf, areaAt, leaving, storing}
 use Rattle.standby_hello.proofs.Laws.{leaving-lands}
-use Rattle.standby_bind.specs.Binding.{cutTo, numberIn, newHandle, roomFor, OpenIs, BindIs}
+use Rattle.standby_bind.specs.Binding.{textSpan, numberIn, newHandle, roomFor, BindOpens, BindIs}
 
 -- ---- texts
 
-pub cut-short : (t : Text) → t .len < 64 → record { at = t .at; len = t .len } ≡ cutTo t
+pub cut-short : (t : Text) → t .len < 64 → record { at = t .at; len = t .len } ≡ textSpan t
 cut-short t h =
     let e : t .len ≡ min (t .len) 64 = omega arith in
     ap (λ (n : ℕ). record { at = t .at; len = n }) e
 
-pub cut-long : (t : Text) → 64 ≤ t .len → record { at = t .at; len = 64 } ≡ cutTo t
+pub cut-long : (t : Text) → 64 ≤ t .len → record { at = t .at; len = 64 } ≡ textSpan t
 cut-long t h =
     let e : _≡_ {A = ℕ} 64 (min (t .len) 64) = omega arith in
     ap (λ (n : ℕ). record { at = t .at; len = n }) e
@@ -88,7 +88,7 @@ module _ (s : Shape) (w b : List ℕ) (i n : ℕ) (sw : Small (2 ^ 64) w) (sb : 
   there = placeAt s w b i .stored .session
 
   pub brief-is : (m : Summary) {flies : Bool} {f : ℕ} {at marks : Span} → summaryIs b m ≡ summary there n → flies ≡ isSome (flightIs (m .«in_flight»)) → f ≡ numberIn (flightIs (m .«in_flight»))
-      → at ≡ cutTo (m .«created_at») → marks ≡ cutTo (m .marks)
+      → at ≡ textSpan (m .«created_at») → marks ≡ textSpan (m .marks)
       → briefOf b (record {
         «next_outgoing» = m .«next_outgoing»;
         «next_incoming» = m .«next_incoming»;
@@ -162,7 +162,7 @@ module _ (s : Shape) (k : Key) (w b : List ℕ) (r : Rules s w b) (place : ℕ) 
   low : placeOf k ps ≤ length ps
   low = place-low k ps
 
-  pub was-there : place < n → OpenIs s k w w b b
+  pub was-there : place < n → BindOpens s k w w b b
   was-there h =
       let less : placeOf k ps < n = subst (λ (i : ℕ). i < n) is h in
       let stored : isStored k ps ≡ true = lt-ltb (placeOf k ps) (length ps) (omega (arith, count)) in
@@ -176,7 +176,7 @@ module _ (s : Shape) (k : Key) (w b : List ℕ) (r : Rules s w b) (place : ℕ) 
         touched = touched-none s (placeOf k ps) w b;
       }
 
-  pub newly-there : {w' b' : List ℕ} {x : Key} → x ≡ k → n ≤ place → n < s .places → Opened s x w w' b b' → OpenIs s k w w' b b'
+  pub newly-there : {w' b' : List ℕ} {x : Key} → x ≡ k → n ≤ place → n < s .places → Opened s x w w' b b' → BindOpens s k w w' b b'
   unfolding pendingOf
   newly-there {w'} {b'} same h few op =
       let o : Opened s k w w' b b' = subst (λ (y : Key). Opened s y w w' b b') same op in
@@ -284,7 +284,7 @@ module _ (s : Settings) (c : Replica) (seen : Seen) (h e lag : ℕ) (k : Key) (w
         pub all-handles : {o : Outcome} {a : Answer} → not free ≡ true → o ≡ leaving c seen a → a ≡ isRefused 21 → BindIs s c seen h e lag k w w b b o
         all-handles full e₁ e₂ = as-left e₁ e₂ (λ room. sym (third room ∙ ap (Tests false false true) (not-true free full)))
 
-        pub binds : {w' b' : List ℕ} {o : Outcome} {a : Answer} {m : Brief} {g : Handle} → not free ≡ false → OpenIs (s .shape) k w w' b b'
+        pub binds : {w' b' : List ℕ} {o : Outcome} {a : Answer} {m : Brief} {g : Handle} → not free ≡ false → BindOpens (s .shape) k w w' b b'
             → briefOf b' m ≡ summary (placeAt (s .shape) w' b' place .stored .session) lag → a ≡ isBound h m → g ≡ newHandle h place → o ≡ storing c seen a h g → BindIs s c seen h e lag k w w' b b' o
         binds {w'} {b'} {m = m} has-room op brief e₁ e₂ e₃ =
             subst (BindIs s c seen h e lag k w w' b b') (sym (e₃ ∙ (λ j. storing c seen (e₁ j) h (e₂ j)))) (record {

@@ -33,8 +33,8 @@ pub record Short (k : Key) : Type 0 where
   pub target : length (k .target) ≤ PlaceByte.keyTextSize
   pub suffix : length (k .suffix) ≤ PlaceByte.keyTextSize
 
-abbrev pub cutTo : Text → Span
-cutTo t = record { at = t .at; len = min (t .len) PlaceByte.marksSize }
+abbrev pub textSpan : Text → Span
+textSpan t = record { at = t .at; len = min (t .len) PlaceByte.marksSize }
 
 abbrev pub numberIn : Option ℕ → ℕ
 numberIn none = 0
@@ -48,7 +48,7 @@ abbrev pub roomFor : Seen → Bool
 roomFor seen = ltb (seen .at) (seen .len) || ltb (seen .free) (seen .len)
 
 -- the session of a key is there, new if it wasn't
-pub record OpenIs (s : Shape) (k : Key) (w w' b b' : List ℕ) : Type 0 where
+pub record BindOpens (s : Shape) (k : Key) (w w' b b' : List ℕ) : Type 0 where
   pub places : placesOf s w' b' ≡ opened k (placesOf s w b)
   pub pending : pendingOf w' ≡ pendingOf w
   pub rules : Rules s w' b'

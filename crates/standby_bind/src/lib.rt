@@ -11,7 +11,7 @@ ghost use Rattle.store_areas.specs.Areas.{Rules, placeAt, placesOf};
 ghost use Rattle.standby_state.specs.Answers.{briefOf};
 ghost use Rattle.store_place.specs.Place.{flightIs};
 ghost use Rattle.model_standby.specs.Row.{isSome};
-ghost use Rattle.standby_bind.specs.Binding.{Short, cutTo, numberIn, newHandle, roomFor, OpenIs, BindIs};
+ghost use Rattle.standby_bind.specs.Binding.{Short, textSpan, numberIn, newHandle, roomFor, BindOpens, BindIs};
 use base_refusals::NO_HANDLE_PLACE;
 use base_refusals::NO_SESSION_PLACE;
 use frame::CommitNumber;
@@ -35,7 +35,7 @@ const TEXT_MOST: u32 = store_place::byte::MARKS_SIZE as u32;
 
 // A text of the store as a frame's: no stamp and no marks are longer than 64 bytes.
 fn span(t: Text) -> Span
-    ensures { λ r. ⌜ r ≡ cutTo t ⌝ }
+    ensures { λ r. ⌜ r ≡ textSpan t ⌝ }
 {
     let at = t.at;
     if t.len < store_place::byte::MARKS_SIZE {
@@ -112,7 +112,7 @@ fn open(words: &mut [u64], bytes: &mut [u8], frame: &[u8], shape: Shape, k: Sess
     requires { ⌜ place ≡ placeOf (keyOf (now frame) k) (placesOf shape (now words) (now bytes)) ⌝ }
     requires { ⌜ (getD (now words) 0 0 ≤ place → getD (now words) 0 0 < shape .places) ⌝ }
     requires { ⌜ Short (keyOf (now frame) k) ⌝ }
-    ensures { λ _. ⌜ OpenIs shape (keyOf (now (frame .entry)) k) (now (words .entry)) (now (words .exit)) (now (bytes .entry)) (now (bytes .exit)) ⌝ }
+    ensures { λ _. ⌜ BindOpens shape (keyOf (now (frame .entry)) k) (now (words .entry)) (now (words .exit)) (now (bytes .entry)) (now (bytes .exit)) ⌝ }
 {
     if (place as u64) < words[word::USED] {
         return;

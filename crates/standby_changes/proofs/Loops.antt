@@ -8,7 +8,7 @@ use lib.Dec.{T}
 use lib.ListN.{length, getD, drop, length-drop}
 use Rattle.model_frame.specs.Bytes.{isBytes}
 use Rattle.model_frame.specs.Frame.{Change, Fault}
-use Rattle.model_frame.specs.Parse.{Res, ok, bad, bytes, num, blob, forget, collect}
+use Rattle.model_frame.specs.Parse.{Res, ok, bad, readBytes, readNum, readBlob, forget, collect}
 use Rattle.model_frame.specs.Reading.{recordMsgFields, readChange}
 use Rattle.model_frame.specs.Writing.{sizes}
 use Rattle.model_frame.proofs.Le.{are-bytes, bytes-drop}
@@ -17,7 +17,7 @@ use Rattle.model_frame.proofs.SoundChange.{change-sound}
 use Rattle.model_session.specs.Session.{fits, messageLength, messageBytes}
 use Rattle.base_laws.proofs.Runs.{collect-none, collect-more, collect-bad}
 use Rattle.frame_op.specs.Answers.{heldRun}
-use Rattle.standby_changes.specs.Held.{onward}
+use Rattle.standby_changes.specs.Held.{fitsFrom}
 use Rattle.standby_changes.specs.declared.Outgoing
 use Rattle.standby_changes.specs.declared.Outgoing.{Outgoing}
 use Rattle.standby_changes.proofs.Held.{held-none, held-bad, held-more, held-messages}
@@ -74,15 +74,15 @@ module _ (version : ℕ) where
   fitting run first known = record { octets = are-bytes run known; same = refl }
 
   module _ {run rest t : List ℕ} {first next : ℕ} {c : Change} (o : Outgoing) (w : Fitting run first next rest) (e : readChange version rest ≡ ok c t)
-      (follows : (cs : List Change) → onward o cs ≡ fits next (c ∷ cs)) where
-    turn : fits first (heldRun version run) ≡ onward o (heldRun version t)
+      (follows : (cs : List Change) → fitsFrom o cs ≡ fits next (c ∷ cs)) where
+    turn : fits first (heldRun version run) ≡ fitsFrom o (heldRun version t)
     turn = w .same ∙ ap (fits next) (held-more version rest (w .octets) e) ∙ sym (follows (heldRun version t))
 
     pub fit-next : {n : ℕ} → o ≡ Outgoing.Next n → Fitting run first n t
-    fit-next is = record { octets = change-sound version rest (w .octets) e .2; same = turn ∙ ap (λ (o : Outgoing). onward o (heldRun version t)) is }
+    fit-next is = record { octets = change-sound version rest (w .octets) e .2; same = turn ∙ ap (λ (o : Outgoing). fitsFrom o (heldRun version t)) is }
 
     pub fit-off : o ≡ Outgoing.Off → false ≡ fits first (heldRun version run)
-    fit-off is = sym (turn ∙ ap (λ (o : Outgoing). onward o (heldRun version t)) is)
+    fit-off is = sym (turn ∙ ap (λ (o : Outgoing). fitsFrom o (heldRun version t)) is)
 
   fits-all : {run rest : List ℕ} {first next : ℕ} → Fitting run first next rest → heldRun version rest ≡ [] → true ≡ fits first (heldRun version run)
   fits-all {next = next} w e = sym (w .same ∙ ap (fits next) e)
@@ -132,7 +132,7 @@ module _ (version : ℕ) where
     end-none none = omega (arith, w .same, ap sizes (collect-none (readChange version) n (drop d b) none))
 
 -- a Record with a message of len bytes is read: its tag, its number, its message's length and as many bytes
-pub record-there : (version : ℕ) (s : List ℕ) {s₁ s₂ s₃ s₄ w : List ℕ} {k q n len : ℕ} → num 1 s ≡ ok k s₁ → k ≡ 4 → num 8 s₁ ≡ ok q s₂ → num 4 s₂ ≡ ok n s₃ → n ≡ len → bytes len s₃ ≡ ok w s₄
+pub record-there : (version : ℕ) (s : List ℕ) {s₁ s₂ s₃ s₄ w : List ℕ} {k q n len : ℕ} → readNum 1 s ≡ ok k s₁ → k ≡ 4 → readNum 8 s₁ ≡ ok q s₂ → readNum 4 s₂ ≡ ok n s₃ → n ≡ len → readBytes len s₃ ≡ ok w s₄
     → forget (readChange version s) ≡ ok tt s₄
-unfolding readChange recordMsgFields blob
+unfolding readChange recordMsgFields readBlob
 record-there version s tag is-4 number size is-len message = rw (tag, is-4, number, size, is-len, message)

@@ -17,7 +17,7 @@ use Rattle.frame_op.specs.Answers.{opOf, heldRun}
 use Rattle.frame_op.specs.declared.Op
 use Rattle.frame_op.specs.declared.Op.{Op}
 use Rattle.frame_op.proofs.Op as op-type
-use Rattle.standby_changes.specs.Held.{past, onward}
+use Rattle.standby_changes.specs.Held.{outgoingAfter, fitsFrom}
 use Rattle.standby_changes.proofs.Held.{held-more}
 use Rattle.standby_changes.specs.declared.Outgoing
 use Rattle.standby_changes.specs.declared.Outgoing.{Outgoing}
@@ -53,10 +53,10 @@ no-outgoing b cs next (Op.SetCreatedAt t) h = refl
 no-outgoing b cs next (Op.SetMarks m) h = refl
 
 -- a Record's number is followed by the next, if there is one
-pub onward-past : (q : ℕ) (cs : List Change) → onward (past q) cs ≡ (ltb q top && fits (suc q) cs)
+pub onward-past : (q : ℕ) (cs : List Change) → fitsFrom (outgoingAfter q) cs ≡ (ltb q top && fits (suc q) cs)
 onward-past q cs = go (ltb q top)
   where
-    go : (t : Bool) → onward (cond t (Outgoing.Next (suc q)) Outgoing.Off) cs ≡ (t && fits (suc q) cs)
+    go : (t : Bool) → fitsFrom (cond t (Outgoing.Next (suc q)) Outgoing.Off) cs ≡ (t && fits (suc q) cs)
     go true = refl
     go false = refl
 

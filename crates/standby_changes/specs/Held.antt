@@ -24,17 +24,17 @@ abbrev pub TakesAll : ℕ → List ℕ → Type 0
 TakesAll version s = sizes (heldRun version s) ≡ length s
 
 -- the outgoing number after a Record
-abbrev pub past : ℕ → Outgoing
-past seq = cond (ltb seq top) (Outgoing.Next (suc seq)) Outgoing.Off
+abbrev pub outgoingAfter : ℕ → Outgoing
+outgoingAfter seq = cond (ltb seq top) (Outgoing.Next (suc seq)) Outgoing.Off
 
 -- whether more changes follow on from there
-abbrev pub onward : Outgoing → List Change → Bool
-onward (Outgoing.Next n) cs = fits n cs
-onward Outgoing.Off cs = false
+abbrev pub fitsFrom : Outgoing → List Change → Bool
+fitsFrom (Outgoing.Next n) cs = fits n cs
+fitsFrom Outgoing.Off cs = false
 
 -- what an operation makes of the next number, whatever its parts of a buffer are
 abbrev pub Follows : Op → ℕ → Outgoing → Type 0
-Follows op next r = (b : List ℕ) (cs : List Change) → onward r cs ≡ fits next (opOf b op ∷ cs)
+Follows op next r = (b : List ℕ) (cs : List Change) → fitsFrom r cs ≡ fits next (opOf b op ∷ cs)
 
 -- where a change ends, or the fault that reading it meets
 abbrev pub resPast : List ℕ → Past → Res (Unit {0})

@@ -10,7 +10,7 @@ ghost use Rattle.model_frame.specs.Writing.{sizes};
 ghost use Rattle.model_session.specs.Session.{fits, messageLength, messageBytes};
 ghost use Rattle.model_standby.specs.Standby.{startsWithReset};
 ghost use Rattle.frame_op.specs.Answers.{opOf, heldRun};
-ghost use Rattle.standby_changes.specs.Held.{past, Follows, resPast, PastRecord, RunPart};
+ghost use Rattle.standby_changes.specs.Held.{outgoingAfter, Follows, resPast, PastRecord, RunPart};
 use frame_op::Op;
 use frame_op::OpAt;
 use frame_op::Run;
@@ -74,7 +74,7 @@ pub fn message_bytes(p: Protocol, run: &[u8]) -> u64
 
 // The outgoing number after a Record.
 fn after(seq: u64) -> Outgoing
-    ensures { λ r. ⌜ r ≡ past seq ⌝ }
+    ensures { λ r. ⌜ r ≡ outgoingAfter seq ⌝ }
 {
     if seq < TOP {
         Outgoing::Next(seq + 1)

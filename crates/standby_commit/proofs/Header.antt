@@ -10,7 +10,7 @@ use Rattle.base_laws.proofs.Lists.{drop-take}
 use Rattle.store_place.specs.Only.{Only}
 use Rattle.store_place.specs.Place.{placeIn}
 use Rattle.store_areas.specs.declared.Shape.{Shape}
-use Rattle.store_areas.specs.Areas.{placeWords, wordsAt, bytesAt, placeBytes, part, placeAt, countUp, placesOf}
+use Rattle.store_areas.specs.Areas.{placeWords, wordsAt, bytesAt, placeBytes, slice, placeAt, countUp, placesOf}
 use Rattle.store_areas.proofs.Lists.{count-same, part-kept}
 use Rattle.standby_pending.specs.Pending.{countOf, commitOf, pendingOf}
 
@@ -31,7 +31,7 @@ past-66 a n w w' o = record {
 module _ (s : Shape) (w b : List ℕ) (j v : ℕ) (low : 1 ≤ j) (high : j < 66) where
   place-kept : (i : ℕ) → placeAt s (set w j v) b i ≡ placeAt s w b i
   unfolding placeAt
-  place-kept i = ap (λ (l : List ℕ). placeIn (s .bytes) (s .messages) l (part (bytesAt s i) (placeBytes s) b)) (part-kept j (j + 1) (wordsAt s i) (placeWords s) w (set w j v) (only-set w j v) (inr (omega arith)))
+  place-kept i = ap (λ (l : List ℕ). placeIn (s .bytes) (s .messages) l (slice (bytesAt s i) (placeBytes s) b)) (part-kept j (j + 1) (wordsAt s i) (placeWords s) w (set w j v) (only-set w j v) (inr (omega arith)))
 
   pub count-kept : getD (set w j v) 0 0 ≡ getD w 0 0
   count-kept = getD-set-other w j 0 v 0 (λ e. no e)

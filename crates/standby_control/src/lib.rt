@@ -4,7 +4,7 @@ ghost use mathlib.Core.Bool.{false};
 ghost use mathlib.Core.Option.{none};
 ghost use Prim.Native.Nat.{_≤_};
 ghost use lib.ListN.{length};
-ghost use Rattle.model_frame.specs.Parse.{isEmpty, num};
+ghost use Rattle.model_frame.specs.Parse.{isEmpty, readNum};
 ghost use Rattle.frame_op.specs.Answers.{runOf};
 ghost use Rattle.frame.specs.Answers.{frameOf};
 ghost use Rattle.store_areas.specs.Areas.{Rules};
@@ -23,7 +23,7 @@ use standby_state::Settings;
 
 // Whether a run of kinds is empty.
 fn no_kinds(frame: &[u8], run: Run) -> bool
-    ensures { λ r. ⌜ r ≡ isEmpty (runOf (num 2) (now (frame .entry)) run) ⌝ }
+    ensures { λ r. ⌜ r ≡ isEmpty (runOf (readNum 2) (now (frame .entry)) run) ⌝ }
 {
     if run.count == 0 {
         return true;

@@ -13,7 +13,7 @@ use denote.Enum.Declared.{tagOf}
 use Rattle.base_laws.proofs.Lists.{both}
 use Rattle.model_text.specs.Printable.{isPrintable, isKey}
 use Rattle.model_frame.specs.Bytes.{isBytes}
-use Rattle.model_frame.specs.Frame.{Key, Fault, tooLong, truncated, unknown, badText, badSession, badTimestamp, badMarks, number, hello, welcome, bind, batch, ack, nack, bound, checked}
+use Rattle.model_frame.specs.Frame.{Key, Fault, tooLong, truncated, unknown, badText, badSession, badTimestamp, badMarks, faultNumber, hello, welcome, bind, batch, ack, nack, bound, checked}
 use Rattle.model_frame.specs.Frame as the-frame
 use Rattle.model_frame.specs.Parse.{isEmpty}
 use Rattle.model_frame.specs.Reading.{decode}
@@ -38,7 +38,7 @@ use Rattle.standby_control.specs.Others.{Fit}
 
 -- ---- a reader's number is none but its own
 
-pub number-some : (e : Fault) → eqb (number e) 0 ≡ false
+pub number-some : (e : Fault) → eqb (faultNumber e) 0 ≡ false
 number-some (tooLong n) = refl
 number-some truncated = refl
 number-some (unknown f n) = refl
@@ -54,7 +54,7 @@ module _ (w : List ℕ) {d : Decoded} (read : readingOf 1 w d ≡ decode 1 w) wh
   unfolding given
   given-as {x} e = sym (ap (λ (y : Decoded). judged (length w) (readingOf 1 w y)) (sym e) ∙ ap (judged (length w)) read)
 
-  pub given-bad : {e : FrameError} → d ≡ Decoded.Bad e → given w ≡ damaged (number (faultOf e))
+  pub given-bad : {e : FrameError} → d ≡ Decoded.Bad e → given w ≡ damaged (faultNumber (faultOf e))
   given-bad e = given-as e
 
   pub given-more : d ≡ Decoded.More → given w ≡ damaged 26

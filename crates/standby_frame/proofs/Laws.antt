@@ -23,7 +23,7 @@ use Rattle.model_standby.specs.Row.{isSome}
 use Rattle.model_standby.specs.State.{Bound, Call, onFrameHeld, onFrame}
 use Rattle.model_standby.specs.State as state
 use Rattle.model_standby.specs.Standby.{due}
-use Rattle.model_standby.specs.Hold.{Written, writes, writesFrame}
+use Rattle.model_standby.specs.Hold.{HoldWrite, writes, writesFrame}
 use Rattle.model_standby.specs.Core.{leave, Core, CoreResult, coreRefuse, coreRun, coreIntact, coreGiven, coreFlushed, coreStep}
 use Rattle.standby_part.specs.State.{coreAt}
 use Rattle.standby_batch_handle.specs.Handling.{foundOf}
@@ -35,7 +35,7 @@ use Rattle.standby_state.specs.Answers.{answerOf, frameBy, isRefused}
 use Rattle.standby_state.specs.Outcomes.{countersOf, settingsOf, leaving, areaAt, actionOf, outcomeOf, Lands}
 use Rattle.standby_hello.specs.Greeting.{isQuiet}
 use Rattle.standby_hello.proofs.Laws.{leaving-lands}
-use Rattle.standby_batch_due.specs.DueBatch.{Holds, BatchIn}
+use Rattle.standby_batch_due.specs.DueBatch.{RecordRulesIn, BatchIn}
 use Rattle.standby_control.specs.Others.{Fit, OtherIn}
 use Rattle.standby_step.specs.Steps.{roomIn, isFound, foundIn, seenAllowed, dueNow, placeBy, FrameLeaves, holdsAfter, hasHandle, StepIs}
 use Rattle.standby_frame.specs.Taking.{isAnswered, Own, IntactIs, Takes}
@@ -70,7 +70,7 @@ other-intact s c seen f fit w w' b b' l r g = record {
   rules = g .rules;
   more = g .more;
   leaves = subst (λ (t : Bool). FrameLeaves (s .shape) (placeBy (placesOf (s .shape) w b) (seen .bound .place) (intact f)) t false (isQuiet (r .answer)) w w' b b') (due-other (pendingOf w) f fit) (g .leaves);
-  holds = λ own. sym (ap (λ (o : Option Written). holdsAfter (roomIn seen l) (seen .at) o l) (writes-other (settingsOf s (roomIn seen l)) (countersOf c) (foundIn seen l) f fit));
+  holds = λ own. sym (ap (λ (o : Option HoldWrite). holdsAfter (roomIn seen l) (seen .at) o l) (writes-other (settingsOf s (roomIn seen l)) (countersOf c) (foundIn seen l) f fit));
 }
 
 -- ---- taking
@@ -114,7 +114,7 @@ module _ (s : Settings) (c : Replica) (seen : Seen) (frame w b h : List ℕ) (ru
             still = λ _. (sym (ap (λ (t : Bool). cond t (ranWords (s .shape) w) w) (ap (dueNow (c .promoted) (pendingOf w)) is ∙ due-none)), refl);
             last = refl;
           };
-          holds = sym (ap (λ (o : Option Written). holdsAfter (roomIn seen h) (seen .at) o h) (ap (writes L (countersOf c) F) is ∙ none-written));
+          holds = sym (ap (λ (o : Option HoldWrite). holdsAfter (roomIn seen h) (seen .at) o h) (ap (writes L (countersOf c) F) is ∙ none-written));
         };
       })
     where
@@ -152,7 +152,7 @@ module _ (s : Settings) (c : Replica) (seen : Seen) (frame w b h : List ℕ) (ru
               (subst (λ (t : Bool). FrameLeaves (s .shape) (placeBy (placesOf (s .shape) w b) (seen .bound .place) (intact f)) (not t && due (pendingOf w) f) false (isQuiet (r .answer)) w w' b b') (sym off) (g .leaves));
           holds =
               g .holds mine
-              ∙ ap (λ (o : Option Written). holdsAfter (roomIn seen h) (seen .at) o h)
+              ∙ ap (λ (o : Option HoldWrite). holdsAfter (roomIn seen h) (seen .at) o h)
               (sym (ap (writes L (countersOf c) F) is ∙ ap (λ (t : Bool). cond t none (writesFrame L (countersOf c) F f)) off));
         };
   }
@@ -163,7 +163,7 @@ module _ (s : Settings) (c : Replica) (seen : Seen) (w b h : List ℕ) where
   pub rules-seen : seenAllowed (s .shape) seen w b h ≡ true → Rules (s .shape) w b
   rules-seen e = rules-of (s .shape) w b (both (allowed (s .shape) w b) _ e .0)
 
-  pub holds-seen : seenAllowed (s .shape) seen w b h ≡ true → isFound seen ≡ true → Holds seen w h
+  pub holds-seen : seenAllowed (s .shape) seen w b h ≡ true → isFound seen ≡ true → RecordRulesIn seen w h
   holds-seen e f =
       let p = both (leb (seen .len) (seen .broken)) _ (both (allowed (s .shape) w b) _ e .1) .1 in
       let q = both (ltb (seen .bound .place) (getD w 0 0)) _ (go (isFound seen) _ f p) in

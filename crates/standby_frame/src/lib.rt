@@ -2,7 +2,7 @@
 // then due commits and the frame's own answer.
 ghost use mathlib.Core.Path.{_≡_};
 ghost use mathlib.Core.Bool.{true};
-ghost use Rattle.model_frame.specs.Frame.{number};
+ghost use Rattle.model_frame.specs.Frame.{faultNumber};
 ghost use Rattle.model_frame.specs.Writing.{Writable};
 ghost use Rattle.frame_reader.specs.Answers.{faultOf};
 ghost use Rattle.frame.specs.Answers.{frameOf};
@@ -10,7 +10,7 @@ ghost use Rattle.store_areas.specs.Areas.{Rules};
 ghost use Rattle.model_standby.specs.Answer.{isReply};
 ghost use Rattle.model_standby.specs.State.{onFrameHeld, onFrame};
 ghost use Rattle.standby_state.specs.Answers.{answerOf};
-ghost use Rattle.standby_batch_due.specs.DueBatch.{Holds};
+ghost use Rattle.standby_batch_due.specs.DueBatch.{RecordRulesIn};
 ghost use Rattle.standby_step.specs.Steps.{isFound, StepIs};
 ghost use Rattle.standby_frame.specs.Taking.{isAnswered, IntactIs, Takes};
 use base_refusals::BAD_MARKS;
@@ -36,7 +36,7 @@ use standby_state::Settings;
 
 // The number of a reader's refusal.
 fn number(e: FrameError) -> u8
-    ensures { λ r. ⌜ r ≡ number (faultOf e) ⌝ }
+    ensures { λ r. ⌜ r ≡ faultNumber (faultOf e) ⌝ }
 {
     match e {
         FrameError::TooLong(_) => TOO_LONG,
@@ -63,7 +63,7 @@ fn intact(
     f: Frame,
 ) -> Outcome
     requires { ⌜ Rules (s .shape) (now words) (now bytes) ⌝ }
-    requires { ⌜ (isFound seen ≡ true → Holds seen (now words) (now holds)) ⌝ }
+    requires { ⌜ (isFound seen ≡ true → RecordRulesIn seen (now words) (now holds)) ⌝ }
     requires { ⌜ Writable 1 (frameOf 1 (now frame) f) ⌝ }
     ensures { λ r. ⌜ IntactIs s c seen (frameOf 1 (now (frame .entry)) f) (now (words .entry)) (now (words .exit)) (now (bytes .entry)) (now (bytes .exit)) (now (holds .entry)) (now (holds .exit)) r ⌝ }
 {
@@ -84,7 +84,7 @@ fn taken(
     seen: Seen,
 ) -> Outcome
     requires { ⌜ Rules (s .shape) (now words) (now bytes) ⌝ }
-    requires { ⌜ (isFound seen ≡ true → Holds seen (now words) (now holds)) ⌝ }
+    requires { ⌜ (isFound seen ≡ true → RecordRulesIn seen (now words) (now holds)) ⌝ }
     ensures { λ r. ⌜ Takes s c seen (now (frame .entry)) (now (words .entry)) (now (words .exit)) (now (bytes .entry)) (now (bytes .exit)) (now (holds .entry)) (now (holds .exit)) r ⌝ }
 {
     match Frame::decode(Protocol { version: 1 }, frame) {

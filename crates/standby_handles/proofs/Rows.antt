@@ -12,7 +12,7 @@ use lib.Dec.{eqb}
 use borrow.Author.Tests.{eqb-true, eqb-false, eq-eqb, ne-eqb}
 use Rattle.base_laws.proofs.Lists.{drop-take}
 use Rattle.standby_row.specs.declared.Handle.{Handle}
-use Rattle.standby_row.specs.Row.{isOf, isFree, next, findOf, freeOf, clearedAll}
+use Rattle.standby_row.specs.Row.{isOf, isFree, zeroOrNext, findOf, freeOf, clearedAll}
 use Rattle.standby_row.specs.Row as handles
 use Rattle.model_standby.specs.Row.{Row, isSome, freed, hasFree, find, replace, fill, put}
 use Rattle.model_standby.specs.State.{Bound}
@@ -85,28 +85,28 @@ module _ (boundOf : Handle → List ℕ → Bound) (room : ℕ) where
   -- ---- a handle's record
 
   pub find-hit : (k : ℕ) (row : List Handle) (holds : List ℕ) → findOf row k < length row
-      → find k (Entries row holds) ≡ some (boundOf (getD row (findOf row k) handles.none) (Part (findOf row k) holds))
+      → find k (Entries row holds) ≡ some (boundOf (getD row (findOf row k) handles.freeRecord) (Part (findOf row k) holds))
   find-hit k [] holds less = absurd (no less)
     where
       no : 0 < 0 → ⊥
       no h = omega arith
   find-hit k (h ∷ hs) holds less = go (isOf h k) refl (find-hit k hs (drop room holds)) less
     where
-      go : (p : Bool) → isOf h k ≡ p → (findOf hs k < length hs → find k (Entries hs (drop room holds)) ≡ some (boundOf (getD hs (findOf hs k) handles.none) (Part (findOf hs k) (drop room holds))))
-          → next p (findOf hs k) < suc (length hs)
-          → find k (Entries (h ∷ hs) holds) ≡ some (boundOf (getD (h ∷ hs) (next p (findOf hs k)) handles.none) (Part (next p (findOf hs k)) holds))
+      go : (p : Bool) → isOf h k ≡ p → (findOf hs k < length hs → find k (Entries hs (drop room holds)) ≡ some (boundOf (getD hs (findOf hs k) handles.freeRecord) (Part (findOf hs k) (drop room holds))))
+          → zeroOrNext p (findOf hs k) < suc (length hs)
+          → find k (Entries (h ∷ hs) holds) ≡ some (boundOf (getD (h ∷ hs) (zeroOrNext p (findOf hs k)) handles.freeRecord) (Part (zeroOrNext p (findOf hs k)) holds))
       go true e ih l =
           find-at (h .handle) k (boundOf h (take room holds)) (Entries hs (drop room holds)) (h .used) e
           ∙ ap (λ (x : List ℕ). some (boundOf h x)) (sym (part-first holds))
       go false e ih l =
           find-past (h .handle) k (boundOf h (take room holds)) (Entries hs (drop room holds)) (h .used) e ∙ ih (omega arith)
-          ∙ ap (λ (x : List ℕ). some (boundOf (getD hs (findOf hs k) handles.none) x)) (part-next (findOf hs k) holds)
+          ∙ ap (λ (x : List ℕ). some (boundOf (getD hs (findOf hs k) handles.freeRecord) x)) (part-next (findOf hs k) holds)
 
   pub find-miss : (k : ℕ) (row : List Handle) (holds : List ℕ) → length row ≤ findOf row k → find k (Entries row holds) ≡ none
   find-miss k [] holds out = refl
   find-miss k (h ∷ hs) holds out = go (isOf h k) refl (find-miss k hs (drop room holds)) out
     where
-      go : (p : Bool) → isOf h k ≡ p → (length hs ≤ findOf hs k → find k (Entries hs (drop room holds)) ≡ none) → suc (length hs) ≤ next p (findOf hs k) → find k (Entries (h ∷ hs) holds) ≡ none
+      go : (p : Bool) → isOf h k ≡ p → (length hs ≤ findOf hs k → find k (Entries hs (drop room holds)) ≡ none) → suc (length hs) ≤ zeroOrNext p (findOf hs k) → find k (Entries (h ∷ hs) holds) ≡ none
       go true e ih l = absurd (no l)
         where
           no : suc (length hs) ≤ 0 → ⊥
@@ -122,7 +122,7 @@ module _ (boundOf : Handle → List ℕ → Bound) (room : ℕ) where
       no h = omega arith
   free-hit (h ∷ hs) holds less = go (isFree h) refl (free-hit hs (drop room holds)) less
     where
-      go : (p : Bool) → isFree h ≡ p → (freeOf hs < length hs → hasFree (Entries hs (drop room holds)) ≡ true) → next p (freeOf hs) < suc (length hs) → hasFree (Entries (h ∷ hs) holds) ≡ true
+      go : (p : Bool) → isFree h ≡ p → (freeOf hs < length hs → hasFree (Entries hs (drop room holds)) ≡ true) → zeroOrNext p (freeOf hs) < suc (length hs) → hasFree (Entries (h ∷ hs) holds) ≡ true
       go true e ih l = free-at (h .handle) 0 (boundOf h (take room holds)) (Entries hs (drop room holds)) (h .used) e
       go false e ih l = free-past (h .handle) 0 (boundOf h (take room holds)) (Entries hs (drop room holds)) (h .used) e ∙ ih (omega arith)
 
@@ -130,7 +130,7 @@ module _ (boundOf : Handle → List ℕ → Bound) (room : ℕ) where
   free-miss [] holds out = refl
   free-miss (h ∷ hs) holds out = go (isFree h) refl (free-miss hs (drop room holds)) out
     where
-      go : (p : Bool) → isFree h ≡ p → (length hs ≤ freeOf hs → hasFree (Entries hs (drop room holds)) ≡ false) → suc (length hs) ≤ next p (freeOf hs) → hasFree (Entries (h ∷ hs) holds) ≡ false
+      go : (p : Bool) → isFree h ≡ p → (length hs ≤ freeOf hs → hasFree (Entries hs (drop room holds)) ≡ false) → suc (length hs) ≤ zeroOrNext p (freeOf hs) → hasFree (Entries (h ∷ hs) holds) ≡ false
       go true e ih l = absurd (no l)
         where
           no : suc (length hs) ≤ 0 → ⊥
@@ -183,8 +183,8 @@ module _ (boundOf : Handle → List ℕ → Bound) (room : ℕ) where
         go : (p : Bool) → isOf h k ≡ p
             → (findOf hs k < length hs → Apart (findOf hs k) (drop room a) (drop room b)
             → Entries (set hs (findOf hs k) g) (drop room b) ≡ replace k (boundOf g (Part (findOf hs k) (drop room b))) (Entries hs (drop room a)))
-            → next p (findOf hs k) < suc (length hs) → Apart (next p (findOf hs k)) a b
-            → Entries (set (h ∷ hs) (next p (findOf hs k)) g) b ≡ replace k (boundOf g (Part (next p (findOf hs k)) b)) (Entries (h ∷ hs) a)
+            → zeroOrNext p (findOf hs k) < suc (length hs) → Apart (zeroOrNext p (findOf hs k)) a b
+            → Entries (set (h ∷ hs) (zeroOrNext p (findOf hs k)) g) b ≡ replace k (boundOf g (Part (zeroOrNext p (findOf hs k)) b)) (Entries (h ∷ hs) a)
         go true e ih l apart =
             ap (λ (x : Option (ℕ × Bound)). x ∷ Entries hs (drop room b)) (put-entry (take room b))
             ∙ ap (λ (x : List ℕ). some (k, boundOf g (take room b)) ∷ Entries hs x) apart
@@ -202,7 +202,7 @@ module _ (boundOf : Handle → List ℕ → Bound) (room : ℕ) where
       where
         go : (p : Bool) → isFree h ≡ p
             → (freeOf hs < length hs → Entries (set hs (freeOf hs) g) (drop room a) ≡ fill k (boundOf g (Part (freeOf hs) (drop room a))) (Entries hs (drop room a)))
-            → next p (freeOf hs) < suc (length hs) → Entries (set (h ∷ hs) (next p (freeOf hs)) g) a ≡ fill k (boundOf g (Part (next p (freeOf hs)) a)) (Entries (h ∷ hs) a)
+            → zeroOrNext p (freeOf hs) < suc (length hs) → Entries (set (h ∷ hs) (zeroOrNext p (freeOf hs)) g) a ≡ fill k (boundOf g (Part (zeroOrNext p (freeOf hs)) a)) (Entries (h ∷ hs) a)
         go true e ih l =
             ap (λ (x : Option (ℕ × Bound)). x ∷ Entries hs (drop room a)) (put-entry (take room a))
             ∙ ap (λ (x : List ℕ). some (k, boundOf g x) ∷ Entries hs (drop room a)) (sym (part-first a))

@@ -27,7 +27,7 @@ refusalOf held sum cs room =
     (cond (ltb room (sizes held + sizes cs)) Refusal.holdAreaFull 0))
 
 -- over the area as it was and is, with so many bytes of it held, and their byte sum
-pub record Holds (version : ℕ) (run area : List ℕ) (len sum : ℕ) (area' : List ℕ) (r : Held) : Type 0 where
+pub record HoldIs (version : ℕ) (run area : List ℕ) (len sum : ℕ) (area' : List ℕ) (r : Held) : Type 0 where
   pub refusal : r .refusal ≡ refusalOf (heldRun version (take len area)) sum (heldRun version run) (length area)
   pub summed : r .sum ≡ sumOf (heldRun version (take len area)) sum (heldRun version run)
   pub ends : r .used ≡ sizes (heldRun version (take len area)) + length run

@@ -7,7 +7,7 @@ ghost use lib.Dec.{eqb};
 ghost use Rattle.model_standby.specs.Standby.{startsWithReset};
 ghost use Rattle.frame_op.specs.Answers.{heldRun};
 ghost use Rattle.standby_changes.specs.Held.{TakesAll};
-ghost use Rattle.standby_hold.specs.Holding.{Holds};
+ghost use Rattle.standby_hold.specs.Holding.{HoldIs};
 use base_refusals::HOLD_AREA_FULL;
 use base_refusals::NO_RESET;
 use base_refusals::TOO_MANY_BYTES;
@@ -53,7 +53,7 @@ fn lacks_reset(p: Protocol, run: &[u8], used: usize) -> bool
 pub fn hold(p: Protocol, run: &[u8], area: &mut [u8], len: usize, sum: u64) -> Held
     requires { ⌜ len ≤ length (now area) ⌝ }
     requires { ⌜ TakesAll (p .version) (now run) ⌝ }
-    ensures { λ r. ⌜ Holds (p .version) (now (run .entry)) (now (area .entry)) len sum (now (area .exit)) r ⌝ }
+    ensures { λ r. ⌜ HoldIs (p .version) (now (run .entry)) (now (area .entry)) len sum (now (area .exit)) r ⌝ }
 {
     let used = standby_changes::run_length(p, &area[0..len]);
     let sum = raised(counted(used, sum), standby_changes::message_bytes(p, run));

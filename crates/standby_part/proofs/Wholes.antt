@@ -24,7 +24,7 @@ use Rattle.store_areas.specs.Areas.{Rules}
 use Rattle.standby_commit.specs.Settling.{Settles}
 use Rattle.standby_commit.proofs.Laws.{touched-none}
 use Rattle.standby_hold.specs.declared.Held.{Held}
-use Rattle.standby_hold.specs.Holding.{sumOf, Holds}
+use Rattle.standby_hold.specs.Holding.{sumOf, HoldIs}
 use Rattle.model_standby.specs.Answer.{reply, refused}
 use Rattle.model_standby.specs.State.{Settings, Counters, noneHeld, numbered}
 use Rattle.model_standby.specs.Standby.{maxWhole, startsWithReset, summed, holding}
@@ -69,7 +69,7 @@ other k y go false false true n m = refl
 other k y go false false false n m = absurd (n refl)
 
 module _ (version : ℕ) (h : Handle) (n : CommitNumber) (run area : List ℕ) (s : Shape) (w b : List ℕ) (c : Counters) (incarnation lag : ℕ) (go : CoreResult)
-    {area' : List ℕ} {r : Held} (g : Holds version run area (h .«held_len») (h .«held_bytes») area' r) where
+    {area' : List ℕ} {r : Held} (g : HoldIs version run area (h .«held_len») (h .«held_bytes») area' r) where
   abbrev L : Settings
   L = settingsFor s (length area) incarnation lag
 
@@ -117,7 +117,7 @@ GoesOn version h n part run area s w b go = (c : Counters) (incarnation lag : �
     ≡ coreHold (settingsFor s (length area) incarnation lag) (coreAt c s w b) (h .handle) (boundOf version h area) (heldRun version run) (go c incarnation lag)
 
 module _ (version : ℕ) (h : Handle) (n : CommitNumber) (run area : List ℕ) (s : Shape) (w b : List ℕ) (rules : Rules s w b) (part : Part) (go : Counters → ℕ → ℕ → CoreResult) (on : GoesOn version h (n .0) part run area s w b go)
-    {area' : List ℕ} {r : Held} (g : Holds version run area (h .«held_len») (h .«held_bytes») area' r) where
+    {area' : List ℕ} {r : Held} (g : HoldIs version run area (h .«held_len») (h .«held_bytes») area' r) where
   abbrev J : List Change
   J = heldRun version (take (h .«held_len») area)
 
@@ -162,7 +162,7 @@ module _ (version : ℕ) (h : Handle) (n : CommitNumber) (run area : List ℕ) (
 -- ---- Whole
 
 module _ (version : ℕ) (h : Handle) (n : CommitNumber) (run area : List ℕ) (known : (i : ℕ) → getD area i 0 < 256) (known' : (i : ℕ) → getD run i 0 < 256) (len : h .«held_len» ≤ length area) (all : TakesAll version run)
-    {area' : List ℕ} {r : Held} (g : Holds version run area (h .«held_len») (h .«held_bytes») area' r) where
+    {area' : List ℕ} {r : Held} (g : HoldIs version run area (h .«held_len») (h .«held_bytes») area' r) where
   abbrev K : List Change
   K = heldRun version (take (h .«held_len») area)
 

@@ -9,7 +9,7 @@ use Rattle.store_place.specs.Only.{Only}
 use Rattle.store_place.specs.Place.{placeIn}
 use Rattle.store_place.proofs.Fields.{only-after, only-set, only-then, only-wider}
 use Rattle.store_areas.specs.declared.Shape.{Shape}
-use Rattle.store_areas.specs.Areas.{placeWords, placeBytes, wordsAt, bytesAt, Rules, part, placeAt, countUp, placesOf}
+use Rattle.store_areas.specs.Areas.{placeWords, placeBytes, wordsAt, bytesAt, Rules, slice, placeAt, countUp, placesOf}
 use Rattle.store_areas.proofs.Lists.{count-same, word-kept}
 
 -- a word before the first place, where these are the same
@@ -36,7 +36,7 @@ module _ (s : Shape) (w w' b : List ℕ) (o : Only 1 66 w w') where
 
   place-kept : (j : ℕ) → placeAt s w' b j ≡ placeAt s w b j
   unfolding placeAt
-  place-kept j = ap (λ (l : List ℕ). placeIn (s .bytes) (s .messages) (take (placeWords s) l) (part (bytesAt s j) (placeBytes s) b)) (only-after 1 66 (wordsAt s j) w w' o (omega arith))
+  place-kept j = ap (λ (l : List ℕ). placeIn (s .bytes) (s .messages) (take (placeWords s) l) (slice (bytesAt s j) (placeBytes s) b)) (only-after 1 66 (wordsAt s j) w w' o (omega arith))
 
   pub places-kept : placesOf s w' b ≡ placesOf s w b
   unfolding placesOf

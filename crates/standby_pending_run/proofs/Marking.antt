@@ -16,7 +16,7 @@ use Rattle.store_place.specs.Place.{placeIn}
 use Rattle.store_place.proofs.Fields.{only-none, only-wider, only-set}
 use Rattle.store_place.proofs.Changes as changes
 use Rattle.store_areas.specs.declared.Shape.{Shape}
-use Rattle.store_areas.specs.Areas.{placeWords, placeBytes, wordsAt, bytesAt, Rules, part, placeAt, placesOf, Changed}
+use Rattle.store_areas.specs.Areas.{placeWords, placeBytes, wordsAt, bytesAt, Rules, slice, placeAt, placesOf, Changed}
 use Rattle.store_areas.proofs.Lists.{inside}
 use Rattle.store_areas.proofs.Lifting.{within, changed-at, places-length}
 use Rattle.standby_pending.specs.Pending.{pendingOf}
@@ -33,10 +33,10 @@ mark-within s i width used w e h k l =
     omega (arith, inside (placeWords s) i (s .places) (omega arith), same)
 
 module _ (s : Shape) (i : ℕ) (w b : List ℕ) (r : Rules s w b) (h : i < getD w 0 0) where
-  own-part : part (wordsAt s i) (placeWords s) (set w (durableAt s i) 1) ≡ set (part (wordsAt s i) (placeWords s) w) 4 1
+  own-part : slice (wordsAt s i) (placeWords s) (set w (durableAt s i) 1) ≡ set (slice (wordsAt s i) (placeWords s) w) 4 1
   own-part = ap (take (placeWords s)) (drop-set-add (wordsAt s i) w 4 1) ∙ take-set-lt (placeWords s) (drop (wordsAt s i) w) 4 1 (omega arith)
 
-  own-long : 14 ≤ length (part (wordsAt s i) (placeWords s) w)
+  own-long : 14 ≤ length (slice (wordsAt s i) (placeWords s) w)
   own-long =
       let room : placeWords s ≤ length (drop (wordsAt s i) w) = omega (arith, within s i w b r h .words-in, length-drop (wordsAt s i) w) in
       omega (arith, length-take-le (placeWords s) (drop (wordsAt s i) w) room)
@@ -44,8 +44,8 @@ module _ (s : Shape) (i : ℕ) (w b : List ℕ) (r : Rules s w b) (h : i < getD 
   own-place : placeAt s (set w (durableAt s i) 1) b i ≡ onStored markDurable (placeAt s w b i)
   unfolding placeAt
   own-place =
-      ap (λ (l : List ℕ). placeIn (s .bytes) (s .messages) l (part (bytesAt s i) (placeBytes s) b)) own-part
-      ∙ changes.marked (s .bytes) (s .messages) (part (bytesAt s i) (placeBytes s) b) (part (wordsAt s i) (placeWords s) w) own-long
+      ap (λ (l : List ℕ). placeIn (s .bytes) (s .messages) l (slice (bytesAt s i) (placeBytes s) b)) own-part
+      ∙ changes.marked (s .bytes) (s .messages) (slice (bytesAt s i) (placeBytes s) b) (slice (wordsAt s i) (placeWords s) w) own-long
 
   pub marked : Changed s i markDurable w (set w (durableAt s i) 1) b b
   marked =

@@ -14,7 +14,7 @@ use Rattle.frame_reader.specs.declared.Span.{Span}
 use Rattle.frame_fields.specs.declared.InFlight.{InFlight}
 use Rattle.frame_fields.specs.declared.Summary.{Summary}
 use Rattle.frame_fields.specs.Answers.{summaryOf, flightOf}
-use Rattle.frame_writer.specs.Encoding.{summaryFits, given, Encoded}
+use Rattle.frame_writer.specs.Encoding.{summaryFits, frameIf, Encoded}
 use Rattle.frame_writer.specs.declared.Written.{Written}
 use Rattle.standby_state.specs.declared.Brief.{Brief}
 use Rattle.standby_state.specs.declared.Answer.{Answer}
@@ -78,9 +78,9 @@ module _ (b : List ℕ) (a : Answer) where
   pub by-nack : (a .kind ≡ 2 → ⊥) → (a .kind ≡ 5 → ⊥) → a .kind ≡ 6 → {r : Reason} → r ≡ reasonBy (a .reason) → some (nack (a .handle) r) ≡ some (frameBy b a)
   by-nack n n₁ e er = ap (λ (x : Reason). some (nack (a .handle) x)) er ∙ rw (ne-eqb (a .kind) 2 n, ne-eqb (a .kind) 5 n₁, eq-eqb (a .kind) 6 e) refl
 
-  pub by-bound : (a .kind ≡ 2 → ⊥) → (a .kind ≡ 5 → ⊥) → (a .kind ≡ 6 → ⊥) → {m : Summary} → Shows b (a .brief) m → given (summaryFits b m) (bound (a .handle) (summaryOf b m)) ≡ some (frameBy b a)
+  pub by-bound : (a .kind ≡ 2 → ⊥) → (a .kind ≡ 5 → ⊥) → (a .kind ≡ 6 → ⊥) → {m : Summary} → Shows b (a .brief) m → frameIf (summaryFits b m) (bound (a .handle) (summaryOf b m)) ≡ some (frameBy b a)
   by-bound n n₁ n₂ s =
-      (λ j. given (s .fits j) (bound (a .handle) (s .same j)))
+      (λ j. frameIf (s .fits j) (bound (a .handle) (s .same j)))
       ∙ rw (ne-eqb (a .kind) 2 n, ne-eqb (a .kind) 5 n₁, ne-eqb (a .kind) 6 n₂) refl
 
 -- ---- a reason

@@ -31,7 +31,7 @@ use denote.Triple.Spec.{tripleOf}
 use denote.Triple.Statement.{Contract, Triple}
 use denote.Triple.Clauses.{ensured, lasts}
 use Rattle.standby_row.specs.declared.Handle.{Handle}
-use Rattle.standby_row.specs.Row.{none, findOf, freeFor, brokenOf, clearedFrom, clearedAll, seenOf}
+use Rattle.standby_row.specs.Row.{freeRecord, findOf, freeFor, brokenOf, clearedFrom, clearedAll, seenOf}
 use Rattle.standby_row.proofs.Lent.{at, Shared, Unique, calls-shared, calls-unique, told-shared, told-unique}
 use Rattle.standby_row.proofs.Rows.{R, vals, val, tells, makes}
 use Rattle.standby_row.proofs.Records.{R-Seen, val-Seen, vals-Seen, tells-Seen}
@@ -132,9 +132,9 @@ module _ {M : Type 1} {𝓤 : URA M} {H : Heap 𝓤} {A : Atoms 𝓤} {K : Type 
       told α γ w = told-shared W (α ∷ []) fullShare w usize (uint-vals w64) (uint-tells w64) (brokenOf ys places most) (ensured 𝓤 H A find-broken.ended (find-broken.clauses 𝓤 H A memory run) (α ∷ [], tt) (at R b o γ ys, (places, (most, tt))) tt) (λ r. exE 𝓤 _ (λ ws. snd∗ 𝓤 (sem 𝓤 H A (lasts find-broken.ended (α ∷ [], tt) (at R b o γ ys, (places, (most, tt))) ws)) (fact 𝓤 (r ≡ brokenOf ys places most))))
 
   pub calls-get-or : K → FmC 𝓤 H (W .laws) C → (memory : Memory → SProp 𝓤) (run : Routine → Fun 𝓤) → Triple 𝓤 (C #standby_row·get-or) (GetOr 𝓤 H A memory run) → (ys : List Handle) (b o i : ℕ) → Room R (length ys) → i < 2 ^ 64
-      → ((j : Item 𝓤) → Opds K W (j ∷ Γ) E xs (sliceVal (b, o) (length ys) ∷ vint w64 i ∷ [])) → (Is R (getD ys i none) (vals (getD ys i none)) → Seq K W (‵ (row R fullShare ys b o) ∷ Γ) (lands C Λ E d (val (getD ys i none)) rest q))
+      → ((j : Item 𝓤) → Opds K W (j ∷ Γ) E xs (sliceVal (b, o) (length ys) ∷ vint w64 i ∷ [])) → (Is R (getD ys i freeRecord) (vals (getD ys i freeRecord)) → Seq K W (‵ (row R fullShare ys b o) ∷ Γ) (lands C Λ E d (val (getD ys i freeRecord)) rest q))
       → Seq K W (‵ (row R fullShare ys b o) ∷ Γ) (runs C Λ E (seq (call #standby_row·get-or xs d) rest) q)
-  calls-get-or t fm memory run known ys b o i room i-fits ops go = calls-shared R b o t fm (GetOr 𝓤 H A memory run) known to (val (getD ys i none)) (Is R (getD ys i none) (vals (getD ys i none))) ys room goes told (λ α γ j. ops j) go
+  calls-get-or t fm memory run known ys b o i room i-fits ops go = calls-shared R b o t fm (GetOr 𝓤 H A memory run) known to (val (getD ys i freeRecord)) (Is R (getD ys i freeRecord) (vals (getD ys i freeRecord))) ys room goes told (λ α γ j. ops j) go
     where
       to : ℕ → GName → GetOr 𝓤 H A memory run .Ghost
       to α γ = (((α ∷ [], tt), (fullShare, tt), tt, (at R b o γ ys, (i, tt)), (sliceVal (b, o) (length ys) ∷ [], (vint w64 i ∷ [], tt))), tt)
@@ -144,8 +144,8 @@ module _ {M : Type 1} {𝓤 : URA M} {H : Heap 𝓤} {A : Atoms 𝓤} {K : Type 
           qed W (‵ (flft (α ∷ []) fullShare) ∷ ‵ (Shared R b o α γ ys) ∷ []) ∵ nothing ! $ move ! (1 ∷ 0 ∷ []) $ join ! $
           nothing ! $ owned ! usize (Is usize) (uint-makes 𝓤 H A W w64) i _ (refl, i-fits) $ fjoin ! $ move ! (2 ∷ 0 ∷ []) $ fjoin ! $ move ! (1 ∷ 0 ∷ []) $ join ! $ nothing ! $ move ! (1 ∷ 0 ∷ []) $ done !
 
-      told : (α : ℕ) (γ : GName) (w : Val) → ent 𝓤 (GetOr 𝓤 H A memory run .post (to α γ) w) (H .⇛ (sep 𝓤 (A .lft (α ∷ []) fullShare) (fact 𝓤 ((w ≡ val (getD ys i none)) × Is R (getD ys i none) (vals (getD ys i none))))))
-      told α γ w = told-shared W (α ∷ []) fullShare w R vals tells (getD ys i none) (ensured 𝓤 H A get-or.ended (get-or.clauses 𝓤 H A memory run) (α ∷ [], tt) (at R b o γ ys, (i, tt)) tt) (λ r. exE 𝓤 _ (λ ws. snd∗ 𝓤 (sem 𝓤 H A (lasts get-or.ended (α ∷ [], tt) (at R b o γ ys, (i, tt)) ws)) (fact 𝓤 (r ≡ getD ys i none))))
+      told : (α : ℕ) (γ : GName) (w : Val) → ent 𝓤 (GetOr 𝓤 H A memory run .post (to α γ) w) (H .⇛ (sep 𝓤 (A .lft (α ∷ []) fullShare) (fact 𝓤 ((w ≡ val (getD ys i freeRecord)) × Is R (getD ys i freeRecord) (vals (getD ys i freeRecord))))))
+      told α γ w = told-shared W (α ∷ []) fullShare w R vals tells (getD ys i freeRecord) (ensured 𝓤 H A get-or.ended (get-or.clauses 𝓤 H A memory run) (α ∷ [], tt) (at R b o γ ys, (i, tt)) tt) (λ r. exE 𝓤 _ (λ ws. snd∗ 𝓤 (sem 𝓤 H A (lasts get-or.ended (α ∷ [], tt) (at R b o γ ys, (i, tt)) ws)) (fact 𝓤 (r ≡ getD ys i freeRecord))))
 
   pub calls-look : K → FmC 𝓤 H (W .laws) C → (memory : Memory → SProp 𝓤) (run : Routine → Fun 𝓤) → Triple 𝓤 (C #standby_row·look) (Look 𝓤 H A memory run) → (ys : List Handle) (b o k places most : ℕ) → Room R (length ys) → k < 2 ^ 32 → places < 2 ^ 64 → most < 2 ^ 64
       → ((j : Item 𝓤) → Opds K W (j ∷ Γ) E xs (sliceVal (b, o) (length ys) ∷ vint w32 k ∷ vint w64 places ∷ vint w64 most ∷ [])) → (Is R-Seen (seenOf ys k places most) (vals-Seen (seenOf ys k places most)) → Seq K W (‵ (row R fullShare ys b o) ∷ Γ) (lands C Λ E d (val-Seen (seenOf ys k places most)) rest q))

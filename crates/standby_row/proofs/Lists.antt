@@ -10,7 +10,7 @@ use native.Mathlib.Numerals.{add-one}
 use mathlib.Core.List.{List, [], _∷_}
 use lib.ListN.{length, getD, set, drop, drop-of-length-le, length-map}
 use Rattle.standby_row.specs.declared.Handle.{Handle}
-use Rattle.standby_row.specs.Row.{none, next, firstOf, cleared, clearedFrom}
+use Rattle.standby_row.specs.Row.{freeRecord, zeroOrNext, firstOf, cleared, clearedFrom}
 
 abbrev pub Sought : (Handle → Bool) → List Handle → ℕ → Type 0
 Sought p ys i = firstOf p ys ≡ i + firstOf p (drop i ys)
@@ -19,18 +19,18 @@ pub starts : (p : Handle → Bool) (ys : List Handle) → Sought p ys 0
 starts p ys = sym (zero-add (firstOf p ys))
 
 -- the first record of what is left is the one at i
-at-head : (p : Handle → Bool) (ys : List Handle) (i : ℕ) → i < length ys → firstOf p (drop i ys) ≡ next (p (getD ys i none)) (firstOf p (drop (suc i) ys))
+at-head : (p : Handle → Bool) (ys : List Handle) (i : ℕ) → i < length ys → firstOf p (drop i ys) ≡ zeroOrNext (p (getD ys i freeRecord)) (firstOf p (drop (suc i) ys))
 at-head p [] i l = absurd (not-suc-le-zero l)
 at-head p (y ∷ ys) zero l = refl
 at-head p (y ∷ ys) (suc i) l = at-head p ys i (le-of-suc-le-suc l)
 
-pub found : (p : Handle → Bool) (ys : List Handle) (i : ℕ) → i < length ys → Sought p ys i → p (getD ys i none) ≡ true → i ≡ firstOf p ys
-found p ys i l s e = sym (s ∙ ap (λ (n : ℕ). i + n) (at-head p ys i l ∙ ap (λ (t : Bool). next t (firstOf p (drop (suc i) ys))) e) ∙ add-zero i)
+pub found : (p : Handle → Bool) (ys : List Handle) (i : ℕ) → i < length ys → Sought p ys i → p (getD ys i freeRecord) ≡ true → i ≡ firstOf p ys
+found p ys i l s e = sym (s ∙ ap (λ (n : ℕ). i + n) (at-head p ys i l ∙ ap (λ (t : Bool). zeroOrNext t (firstOf p (drop (suc i) ys))) e) ∙ add-zero i)
 
-pub goes-on : (p : Handle → Bool) (ys : List Handle) (i : ℕ) → i < length ys → Sought p ys i → p (getD ys i none) ≡ false → Sought p ys (i + 1)
+pub goes-on : (p : Handle → Bool) (ys : List Handle) (i : ℕ) → i < length ys → Sought p ys i → p (getD ys i freeRecord) ≡ false → Sought p ys (i + 1)
 goes-on p ys i l s e =
     subst (Sought p ys) (sym (add-one i))
-    (s ∙ ap (λ (n : ℕ). i + n) (at-head p ys i l ∙ ap (λ (t : Bool). next t (firstOf p (drop (suc i) ys))) e) ∙ add-suc i (firstOf p (drop (suc i) ys)) ∙ sym (suc-add i (firstOf p (drop (suc i) ys))))
+    (s ∙ ap (λ (n : ℕ). i + n) (at-head p ys i l ∙ ap (λ (t : Bool). zeroOrNext t (firstOf p (drop (suc i) ys))) e) ∙ add-suc i (firstOf p (drop (suc i) ys)) ∙ sym (suc-add i (firstOf p (drop (suc i) ys))))
 
 pub over : (p : Handle → Bool) (ys : List Handle) (i : ℕ) → length ys ≤ i → Sought p ys i → i ≡ firstOf p ys
 over p ys i l s = sym (s ∙ ap (λ (hs : List Handle). i + firstOf p hs) (drop-of-length-le ys l) ∙ add-zero i)
@@ -38,13 +38,13 @@ over p ys i l s = sym (s ∙ ap (λ (hs : List Handle). i + firstOf p hs) (drop-
 -- ---- a row whose records are freed from i on
 --     clears-next      the record at i is freed, and then those after it.        clears-end      from the length on there is none
 --     cleared-length   as many records as before
-clears-suc : (i : ℕ) (ys : List Handle) → i < length ys → clearedFrom (suc i) (set ys i (cleared (getD ys i none))) ≡ clearedFrom i ys
+clears-suc : (i : ℕ) (ys : List Handle) → i < length ys → clearedFrom (suc i) (set ys i (cleared (getD ys i freeRecord))) ≡ clearedFrom i ys
 clears-suc i [] l = absurd (not-suc-le-zero l)
 clears-suc zero (y ∷ ys) l = refl
 clears-suc (suc i) (y ∷ ys) l = ap (λ (hs : List Handle). y ∷ hs) (clears-suc i ys (le-of-suc-le-suc l))
 
-pub clears-next : (i : ℕ) (ys : List Handle) → i < length ys → clearedFrom (i + 1) (set ys i (cleared (getD ys i none))) ≡ clearedFrom i ys
-clears-next i ys l = ap (λ (j : ℕ). clearedFrom j (set ys i (cleared (getD ys i none)))) (add-one i) ∙ clears-suc i ys l
+pub clears-next : (i : ℕ) (ys : List Handle) → i < length ys → clearedFrom (i + 1) (set ys i (cleared (getD ys i freeRecord))) ≡ clearedFrom i ys
+clears-next i ys l = ap (λ (j : ℕ). clearedFrom j (set ys i (cleared (getD ys i freeRecord)))) (add-one i) ∙ clears-suc i ys l
 
 pub clears-end : (i : ℕ) (ys : List Handle) → length ys ≤ i → clearedFrom i ys ≡ ys
 clears-end zero [] l = refl

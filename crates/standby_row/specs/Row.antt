@@ -9,8 +9,8 @@ use Rattle.standby_row.specs.declared.Handle.{Handle}
 use Rattle.standby_row.specs.declared.Seen.{Seen}
 
 -- what is read past the end of a row
-abbrev pub none : Handle
-none = record { used = false; handle = 0; place = 0; «commit_no» = record { 0 = 0 }; «held_len» = 0; «held_bytes» = 0 }
+abbrev pub freeRecord : Handle
+freeRecord = record { used = false; handle = 0; place = 0; «commit_no» = record { 0 = 0 }; «held_len» = 0; «held_bytes» = 0 }
 
 -- a record is used for the handle k; it is free; it is used, and breaks the rules for places and held lengths
 abbrev pub isOf : Handle → ℕ → Bool
@@ -27,14 +27,14 @@ abbrev pub breaksOf : Handle → ℕ → ℕ → Bool
 breaksOf h places room = h .used && (leb places (h .place) || ltb room (h .«held_len»))
 
 -- one more where the head is not the one
-abbrev pub next : Bool → ℕ → ℕ
-next true n = 0
-next false n = suc n
+abbrev pub zeroOrNext : Bool → ℕ → ℕ
+zeroOrNext true n = 0
+zeroOrNext false n = suc n
 
 -- the place of the first record of which p holds, or the length
 abbrev pub firstOf : (Handle → Bool) → List Handle → ℕ
 firstOf p [] = 0
-firstOf p (h ∷ hs) = next (p h) (firstOf p hs)
+firstOf p (h ∷ hs) = zeroOrNext (p h) (firstOf p hs)
 
 abbrev pub findOf : List Handle → ℕ → ℕ
 findOf hs k = firstOf (λ h. isOf h k) hs
@@ -63,4 +63,4 @@ clearedFrom (suc i) (h ∷ hs) = h ∷ clearedFrom i hs
 
 -- all that is found for a handle
 abbrev pub seenOf : List Handle → ℕ → ℕ → ℕ → Seen
-seenOf hs k places room = record { at = findOf hs k; free = freeFor hs (findOf hs k) (length hs); len = length hs; broken = brokenOf hs places room; bound = getD hs (findOf hs k) none }
+seenOf hs k places room = record { at = findOf hs k; free = freeFor hs (findOf hs k) (length hs); len = length hs; broken = brokenOf hs places room; bound = getD hs (findOf hs k) freeRecord }

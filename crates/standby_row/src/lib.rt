@@ -2,7 +2,7 @@
 use frame::CommitNumber;
 ghost use mathlib.Core.Path.{_≡_};
 ghost use lib.ListN.{length, set, getD};
-ghost use Rattle.standby_row.specs.Row.{none, isOf, isFreeFor, breaksOf, findOf, freeOf, freeFor, brokenOf, clearedFrom, clearedAll, seenOf};
+ghost use Rattle.standby_row.specs.Row.{freeRecord, isOf, isFreeFor, breaksOf, findOf, freeOf, freeFor, brokenOf, clearedFrom, clearedAll, seenOf};
 
 // A handle that is bound to a session's place, with what it holds back; a record that is not used is free.
 #[repr(C)]
@@ -17,7 +17,7 @@ pub struct Handle {
 
 // What is read past the end of a row.
 pub fn nobody() -> Handle
-    ensures { λ r. ⌜ r ≡ none ⌝ }
+    ensures { λ r. ⌜ r ≡ freeRecord ⌝ }
 {
     Handle {
         used: false,
@@ -97,7 +97,7 @@ pub fn find_free(row: &[Handle], at: usize, len: usize) -> usize
 
 // The record at a place, and past the end `nobody`.
 pub fn get_or(row: &[Handle], i: usize) -> Handle
-    ensures { λ r. ⌜ r ≡ getD (now (row .entry)) i none ⌝ }
+    ensures { λ r. ⌜ r ≡ getD (now (row .entry)) i freeRecord ⌝ }
 {
     if i < row.len() {
         return row[i];

@@ -25,7 +25,7 @@ use Rattle.model_standby.specs.Answer.{protocolVersion, refused}
 use Rattle.model_standby.specs.Row.{Row, isSome, hasFree, find, put}
 use Rattle.model_standby.specs.State.{Bound, Call}
 use Rattle.model_standby.specs.State as state
-use Rattle.model_standby.specs.Hold.{Written}
+use Rattle.model_standby.specs.Hold.{HoldWrite}
 use Rattle.model_standby.specs.Core.{Core, Action, leave, store, clear, CoreResult, act, acted, coreStep, handleOf}
 use Rattle.model_standby.proofs.Factoring.{factored}
 use Rattle.standby_part.specs.State.{boundOf, coreAt}
@@ -46,11 +46,11 @@ no : {A : Type 0} → true ≡ false → A
 no e = absurd (true≢false e)
 
 -- the hold areas keep their length, and differ at one place
-holds-length : (room i : ℕ) (wr : Option Written) (h : List ℕ) → length (holdsAfter room i wr h) ≡ length h
+holds-length : (room i : ℕ) (wr : Option HoldWrite) (h : List ℕ) → length (holdsAfter room i wr h) ≡ length h
 holds-length room i none h = refl
 holds-length room i (some x) h = length-write h (i * room + x .offset) (x .bytes)
 
-holds-apart : (room i : ℕ) (wr : Option Written) (h : List ℕ) → ((x : Written) → wr ≡ some x → x .offset + length (x .bytes) ≤ room) → Apart (boundOf protocolVersion) room i h (holdsAfter room i wr h)
+holds-apart : (room i : ℕ) (wr : Option HoldWrite) (h : List ℕ) → ((x : HoldWrite) → wr ≡ some x → x .offset + length (x .bytes) ≤ room) → Apart (boundOf protocolVersion) room i h (holdsAfter room i wr h)
 holds-apart room i none h inside = apart-same (boundOf protocolVersion) room i h
 holds-apart room i (some x) h inside =
     let fits : x .offset + length (x .bytes) ≤ room = inside x refl in
@@ -74,7 +74,7 @@ module _ (row : List Handle) (k : ℕ) (w h : List ℕ) where
   found-in = go (ltb (findOf row k) (length row)) refl
     where
       go : (t : Bool) → ltb (findOf row k) (length row) ≡ t
-          → cond t (some (boundOf protocolVersion (getD row (findOf row k) handles.none) (areaAt Room (findOf row k) h))) none ≡ find k Handles
+          → cond t (some (boundOf protocolVersion (getD row (findOf row k) handles.freeRecord) (areaAt Room (findOf row k) h))) none ≡ find k Handles
       go true e = sym (find-hit (boundOf protocolVersion) Room k row h (ltb-true (findOf row k) (length row) e))
       go false e = sym (find-miss (boundOf protocolVersion) Room k row h (ltb-false (findOf row k) (length row) e))
 
@@ -93,7 +93,7 @@ module _ (row : List Handle) (k : ℕ) (w h : List ℕ) where
       go false e = sym (free-miss (boundOf protocolVersion) Room row h (ltb-false (freeOf row) (length row) e))
 
   abbrev Own : Bound
-  Own = boundOf protocolVersion (getD row (findOf row k) handles.none) (areaAt Room (findOf row k) h)
+  Own = boundOf protocolVersion (getD row (findOf row k) handles.freeRecord) (areaAt Room (findOf row k) h)
 
   found-core : (L : state.Settings) (x : Core) (call : Call) → coreStep L x (foundIn Looked h) (ltb Free (length row)) call ≡ coreStep L x (find k Handles) (hasFree Handles) call
   found-core L x call = go (ltb (findOf row k) (length row)) refl
@@ -146,14 +146,14 @@ module _ (row : List Handle) (k : ℕ) (w h : List ℕ) where
         go false true e f = subst (Whole used Room) (sym (freed-row e f)) (whole-cleared used Room row)
         go false false e f = subst (Whole used Room) (sym (same-row e f)) grown
 
-    module _ (own : ℕ) (asked : Bool) (wr : Option Written) (h' : List ℕ) (mine : asked ≡ true → k ≡ own)
+    module _ (own : ℕ) (asked : Bool) (wr : Option HoldWrite) (h' : List ℕ) (mine : asked ≡ true → k ≡ own)
         (fit : Fit asked own (foundIn Looked h) (ltb Free (length row)) wr (actionOf protocolVersion Room h' o))
-        (holds : h' ≡ holdsAfter Room (findOf row k) wr h) (inside : (x : Written) → wr ≡ some x → x .offset + length (x .bytes) ≤ Room) where
+        (holds : h' ≡ holdsAfter Room (findOf row k) wr h) (inside : (x : HoldWrite) → wr ≡ some x → x .offset + length (x .bytes) ≤ Room) where
       abbrev After : List Handle → List ℕ → Row Bound
       After r x = rowOf (boundOf protocolVersion) Room r x
 
       still : wr ≡ none → h' ≡ h
-      still e = holds ∙ ap (λ (x : Option Written). holdsAfter Room (findOf row k) x h) e
+      still e = holds ∙ ap (λ (x : Option HoldWrite). holdsAfter Room (findOf row k) x h) e
 
       next-handles : After Next h' ≡ act (actionOf protocolVersion Room h' o) Handles
       next-handles = go (o .stores) (o .clears) refl refl
@@ -194,7 +194,7 @@ module _ (row : List Handle) (k : ℕ) (w h : List ℕ) where
                   (put-new (boundOf protocolVersion) Room k (o .slot) (lands .slot-used e) is-k row h (ltb-false (findOf row k) (length row) p) free))
                 where
                   not-found : isSome (foundIn Looked h) ≡ false
-                  not-found = ap (λ (t : Bool). isSome (cond t (some (boundOf protocolVersion (getD row (findOf row k) handles.none) (areaAt Room (findOf row k) h))) none)) p
+                  not-found = ap (λ (t : Bool). isSome (cond t (some (boundOf protocolVersion (getD row (findOf row k) handles.freeRecord) (areaAt Room (findOf row k) h))) none)) p
 
                   free : freeOf row < length row
                   free = subst (λ (n : ℕ). n < length row) (free-of p) (ltb-true Free (length row) (sym (ap (λ (t : Bool). t || ltb Free (length row)) not-found) ∙ f .1 .1 .0))
@@ -233,7 +233,7 @@ module _ (s : Settings) (c : Replica) (row : List Handle) (call : Call) (w w' b 
   Row' = clearedFrom (o .from) (set row (o .at) (o .slot))
 
   module _ (clean : allowedAll s row w b h ≡ true) (st : Stepped s c See call w w' b b' h h' o) where
-    abbrev Wr : Option Written
+    abbrev Wr : Option HoldWrite
     Wr = writesBy L (countersOf c) (foundIn See h) call
 
     row-same : length Row' ≡ length row
@@ -271,15 +271,15 @@ module _ (s : Settings) (c : Replica) (row : List Handle) (call : Call) (w w' b 
         go : (t : Bool) → asks call ≡ t → holdsAfter R (findOf row K) (writesBy L (countersOf c) (find K T) call) h ≡ holdsAfter R (findOf row (handleOf call)) (writesBy L (countersOf c) (find (handleOf call) T) call) h
         go true e = ap (λ (k : ℕ). holdsAfter R (findOf row k) (writesBy L (countersOf c) (find k T) call) h) (sought-own call e)
         go false e =
-            ap (λ (x : Option Written). holdsAfter R (findOf row K) x h) (writes-none L (countersOf c) (find K T) call e)
-            ∙ sym (ap (λ (x : Option Written). holdsAfter R (findOf row (handleOf call)) x h) (writes-none L (countersOf c) (find (handleOf call) T) call e))
+            ap (λ (x : Option HoldWrite). holdsAfter R (findOf row K) x h) (writes-none L (countersOf c) (find K T) call e)
+            ∙ sym (ap (λ (x : Option HoldWrite). holdsAfter R (findOf row (handleOf call)) x h) (writes-none L (countersOf c) (find (handleOf call) T) call e))
 
-    leaves-own : Leaves (s .shape) c (getD row (findOf row (handleOf call)) handles.none .place) call w w' b b' (o .answer)
+    leaves-own : Leaves (s .shape) c (getD row (findOf row (handleOf call)) handles.freeRecord .place) call w w' b b' (o .answer)
     leaves-own = go (asks call) refl
       where
-        go : (t : Bool) → asks call ≡ t → Leaves (s .shape) c (getD row (findOf row (handleOf call)) handles.none .place) call w w' b b' (o .answer)
-        go true e = subst (λ (k : ℕ). Leaves (s .shape) c (getD row (findOf row k) handles.none .place) call w w' b b' (o .answer)) (sought-own call e) (st .leaves)
-        go false e = leaves-any (s .shape) c (getD row (findOf row K) handles.none .place) (getD row (findOf row (handleOf call)) handles.none .place) call w w' b b' (o .answer) e (st .leaves)
+        go : (t : Bool) → asks call ≡ t → Leaves (s .shape) c (getD row (findOf row (handleOf call)) handles.freeRecord .place) call w w' b b' (o .answer)
+        go true e = subst (λ (k : ℕ). Leaves (s .shape) c (getD row (findOf row k) handles.freeRecord .place) call w w' b b' (o .answer)) (sought-own call e) (st .leaves)
+        go false e = leaves-any (s .shape) c (getD row (findOf row K) handles.freeRecord .place) (getD row (findOf row (handleOf call)) handles.freeRecord .place) call w w' b b' (o .answer) e (st .leaves)
 
     -- ---- the row, record for record
 

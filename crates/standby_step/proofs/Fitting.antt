@@ -23,7 +23,7 @@ use Rattle.model_standby.specs.Row.{isSome}
 use Rattle.model_standby.specs.Store.{Place, isStored, sessionAt, orNew}
 use Rattle.model_standby.specs.State.{Settings, incarnationOf, Counters, Bound, Call, onFrameHeld, onFrame, flush, disconnectedFrom, promote, promoteUnchecked, atEpoch, noneHeld}
 use Rattle.model_standby.specs.Standby.{due, follows, raised, maxWhole, startsWithReset, summed}
-use Rattle.model_standby.specs.Hold.{Written, writesPart, writesFrame, writes}
+use Rattle.model_standby.specs.Hold.{HoldWrite, writesPart, writesFrame, writes}
 use Rattle.model_standby.specs.Core.{Action, leave, store, clear, Core, CoreResult, coreSays, coreRefuse, counting, coreRun, coreFlushed, coreHello, coreBind, coreChecked, coreSettle, coreHold, corePart, coreHandle, coreBatch, coreIntact, coreGiven, coreStep, handleOf}
 use Rattle.standby_state.specs.declared.Replica.{Replica}
 use Rattle.standby_state.specs.declared.Answer.{Answer}
@@ -31,7 +31,7 @@ use Rattle.standby_step.specs.Steps.{hasHandle, asks, writesBy, Leaves, 
 
 -- ---- what a call does, by what was found
 
-abbrev pub Fit : Bool → ℕ → Option Bound → Bool → Option Written → Action → Type 0
+abbrev pub Fit : Bool → ℕ → Option Bound → Bool → Option HoldWrite → Action → Type 0
 Fit asked own found free wr leave = wr ≡ none
 Fit asked own found free wr (store h b) = (asked ≡ true) × ((h ≡ own) × (((isSome found || free) ≡ true) × (isSome found ≡ false → wr ≡ none)))
 Fit asked own found free wr clear = wr ≡ none
@@ -55,7 +55,7 @@ room-or h found free x y p q = go (isSome found || free) refl
 
 -- fit, whatever is written
 record Stores (h : ℕ) (b : Bound) (free : Bool) (r : CoreResult) : Type 0 where
-  any : (wr : Option Written) → Fit true h (some b) free wr (r .action)
+  any : (wr : Option HoldWrite) → Fit true h (some b) free wr (r .action)
 
 stores-or : {h : ℕ} {b : Bound} {free : Bool} (t : Bool) {x y : CoreResult} → Stores h b free x → Stores h b free y → Stores h b free (cond t x y)
 stores-or true p q = p
@@ -67,7 +67,7 @@ module _ (L : Settings) where
   settle-fit k h b d free n cs = stores-or (fits (orNew (sessionAt (k .places) (d .place)) .nextOut) cs) (record { any = λ wr. (refl, (refl, (refl, λ e. no (sym e)))) }) (record { any = λ wr. (refl, (refl, (refl, λ e. no (sym e)))) })
 
   -- past the number, by 16, 17, 18
-  hold-fit : (k : Core) (h : ℕ) (b : Bound) (free : Bool) (cs : List Change) (go : CoreResult) (x : Written) → Stores h b free go
+  hold-fit : (k : Core) (h : ℕ) (b : Bound) (free : Bool) (cs : List Change) (go : CoreResult) (x : HoldWrite) → Stores h b free go
       → Fit true h (some b) free (cond (not (isEmpty (b .held) && not (startsWithReset cs)) && (not (ltb maxWhole (raised b cs)) && not (ltb (L .room) (sizes (b .held ++ cs))))) (some x) none) (coreHold L k h b cs go .action)
   unfolding coreHold
   hold-fit k h b free cs go x s = ways (isEmpty (b .held) && not (startsWithReset cs)) (ltb maxWhole (raised b cs)) (ltb (L .room) (sizes (b .held ++ cs)))
@@ -80,7 +80,7 @@ module _ (L : Settings) where
       ways false false false = s .any (some x)
 
   -- what follows the number, or not
-  number-fit : (h : ℕ) (b : Bound) (free : Bool) (f t : Bool) (x : Written) (y z : CoreResult) → Fit true h (some b) free (cond t (some x) none) (y .action) → Stores h b free z
+  number-fit : (h : ℕ) (b : Bound) (free : Bool) (f t : Bool) (x : HoldWrite) (y z : CoreResult) → Fit true h (some b) free (cond t (some x) none) (y .action) → Stores h b free z
       → Fit true h (some b) free (cond (f && t) (some x) none) (cond f y z .action)
   number-fit h b free true t x y z p q = p
   number-fit h b free false t x y z p q = q .any none
@@ -207,14 +207,14 @@ module _ (L : Settings) where
   given-none : (c : Counters) (x : Option Bound) (g : Given) → hasHandle g ≡ false → writes L c x g ≡ none
   unfolding writes
   given-none c x (damaged n) e = refl
-  given-none c x (intact (hello v e₁ node kinds)) e = either (λ (o : Option Written). o ≡ none) (c .promoted) refl refl
-  given-none c x (intact (welcome e₁ i)) e = either (λ (o : Option Written). o ≡ none) (c .promoted) refl refl
+  given-none c x (intact (hello v e₁ node kinds)) e = either (λ (o : Option HoldWrite). o ≡ none) (c .promoted) refl refl
+  given-none c x (intact (welcome e₁ i)) e = either (λ (o : Option HoldWrite). o ≡ none) (c .promoted) refl refl
   given-none c x (intact (bind h e₁ lag j)) e = absurd (true≢false e)
   given-none c x (intact (batch h e₁ n p cs apps)) e = absurd (true≢false e)
-  given-none c x (intact (ack h n)) e = either (λ (o : Option Written). o ≡ none) (c .promoted) refl refl
-  given-none c x (intact (nack h r)) e = either (λ (o : Option Written). o ≡ none) (c .promoted) refl refl
-  given-none c x (intact (bound h m)) e = either (λ (o : Option Written). o ≡ none) (c .promoted) refl refl
-  given-none c x (intact (checked h e₁ i)) e = either (λ (o : Option Written). o ≡ none) (c .promoted) refl refl
+  given-none c x (intact (ack h n)) e = either (λ (o : Option HoldWrite). o ≡ none) (c .promoted) refl refl
+  given-none c x (intact (nack h r)) e = either (λ (o : Option HoldWrite). o ≡ none) (c .promoted) refl refl
+  given-none c x (intact (bound h m)) e = either (λ (o : Option HoldWrite). o ≡ none) (c .promoted) refl refl
+  given-none c x (intact (checked h e₁ i)) e = either (λ (o : Option HoldWrite). o ≡ none) (c .promoted) refl refl
 
   pub writes-none : (c : Counters) (x : Option Bound) (call : Call) → asks call ≡ false → writesBy L c x call ≡ none
   writes-none c x (onFrameHeld w) e = given-none c x (given w) e
@@ -225,7 +225,7 @@ module _ (L : Settings) where
   writes-none c x promoteUnchecked e = refl
 
   -- nothing is written outside the handle's area
-  pub written-inside : (c : Counters) (x : Option Bound) (call : Call) (r : Written) → writesBy L c x call ≡ some r → r .offset + length (r .bytes) ≤ L .room
+  pub written-inside : (c : Counters) (x : Option Bound) (call : Call) (r : HoldWrite) → writesBy L c x call ≡ some r → r .offset + length (r .bytes) ≤ L .room
   written-inside c x (onFrameHeld w) r e = writes-inside L c x (given w) r e
   written-inside c x (onFrame w) r e = writes-inside L c x (given w) r e
   written-inside c x (flush n) r e = absurd (none≢some e)

@@ -10,8 +10,8 @@ use lib.Seq.{length-take-le, take-nil, take-take, drop-drop}
 use borrow.Author.Tests.{leb-true, le-ltb}
 use Rattle.model_frame.specs.Bytes.{le}
 use Rattle.model_frame.specs.Frame.{Frame, hello, welcome, bind, batch, ack, nack, bound, checked, Fault, truncated, Decoded, more, faulty, got}
-use Rattle.model_frame.specs.Parse.{Res, ok, bad, Parser, andThen, _>>=_, done, bytes, num, text}
-use Rattle.model_frame.specs.Reading.{kinds, key, partByte, changes, appRecords, reason, summary, helloFields, welcomeFields, bindFields, batchFields, ackFields, nackFields, boundFields, checkedFields, fields, atEnd, body, decode}
+use Rattle.model_frame.specs.Parse.{Res, ok, bad, Parser, andThen, _>>=_, pure, readBytes, readNum, readText}
+use Rattle.model_frame.specs.Reading.{readKinds, readKey, readPart, readChanges, readAppRecords, readReason, readSummary, helloFields, welcomeFields, bindFields, batchFields, ackFields, nackFields, boundFields, checkedFields, readFields, atEnd, readBody, decode}
 use Rattle.model_frame.proofs.Sound.{Taking, decode-taking}
 use Rattle.model_standby.specs.Answer.{protocolVersion, Given, damaged, intact, judged, given, handleIn}
 use Rattle.model_standby.specs.State.{Call, onFrameHeld, onFrame, flush, disconnectedFrom, promote, promoteUnchecked}
@@ -24,7 +24,7 @@ abbrev First : List ℕ → ℕ → Type 0
 First t h = (4 ≤ length t) × (h ≡ le (take 4 t))
 
 abbrev Names : List ℕ → Frame → Type 0
-Names t (hello v e node kinds) = Unit {0}
+Names t (hello v e node readKinds) = Unit {0}
 Names t (welcome e i) = Unit {0}
 Names t (bind h e lag k) = First t h
 Names t (batch h e n part cs apps) = First t h
@@ -47,7 +47,7 @@ record Starts (t : List ℕ) (p : Parser Frame) : Type 0 where
 starts : {t : List ℕ} {p : Parser Frame} → Reads t p → Starts t p
 starts {t = t} r = record { says = r .reads t }
 
-reads-done : {t : List ℕ} {f : Frame} → Names t f → Reads t (done f)
+reads-done : {t : List ℕ} {f : Frame} → Names t f → Reads t (pure f)
 reads-done n = record { reads = λ u. n }
 
 then-names : {A : Type 0} (t : List ℕ) (f : A → Parser Frame) (r : Res A) → ((a : A) → Reads t (f a)) → NamesIn t (andThen r f)
@@ -58,19 +58,19 @@ reads-then : {A : Type 0} {t : List ℕ} (p : Parser A) {f : A → Parser Frame}
 reads-then {t = t} p {f = f} k = record { reads = λ u. then-names t f (p u) k }
 
 -- the four bytes in front are the handle
-num-first : (t : List ℕ) (f : ℕ → Parser Frame) → (4 ≤ length t → Reads t (f (le (take 4 t)))) → Starts t (num 4 >>= f)
-unfolding num bytes
+num-first : (t : List ℕ) (f : ℕ → Parser Frame) → (4 ≤ length t → Reads t (f (le (take 4 t)))) → Starts t (readNum 4 >>= f)
+unfolding readNum readBytes
 num-first t f k = record { says = go (leb 4 (length t)) refl }
   where
-    go : (x : Bool) → leb 4 (length t) ≡ x → NamesIn t (andThen (andThen (cond x (ok (take 4 t) (drop 4 t)) (bad truncated)) (λ bs. done (le bs))) f)
+    go : (x : Bool) → leb 4 (length t) ≡ x → NamesIn t (andThen (andThen (cond x (ok (take 4 t) (drop 4 t)) (bad truncated)) (λ bs. pure (le bs))) f)
     go true e = k (leb-true 4 (length t) e) .reads (drop 4 t)
     go false e = tt
 
-kind-first : (s : List ℕ) (f : ℕ → Parser Frame) → ((k : ℕ) → Starts (drop 1 s) (f k)) → NamesIn (drop 1 s) (andThen (num 1 s) f)
-unfolding num bytes
+kind-first : (s : List ℕ) (f : ℕ → Parser Frame) → ((k : ℕ) → Starts (drop 1 s) (f k)) → NamesIn (drop 1 s) (andThen (readNum 1 s) f)
+unfolding readNum readBytes
 kind-first s f k = go (leb 1 (length s))
   where
-    go : (x : Bool) → NamesIn (drop 1 s) (andThen (andThen (cond x (ok (take 1 s) (drop 1 s)) (bad truncated)) (λ bs. done (le bs))) f)
+    go : (x : Bool) → NamesIn (drop 1 s) (andThen (andThen (cond x (ok (take 1 s) (drop 1 s)) (bad truncated)) (λ bs. pure (le bs))) f)
     go true = k (le (take 1 s)) .says
     go false = tt
 
@@ -80,39 +80,39 @@ row-or false a b = b
 
 hello-names : (t : List ℕ) → Reads t helloFields
 unfolding helloFields
-hello-names t = reads-then (num 2) (λ v. reads-then (num 8) (λ e. reads-then text (λ n. reads-then kinds (λ k. reads-done tt))))
+hello-names t = reads-then (readNum 2) (λ v. reads-then (readNum 8) (λ e. reads-then readText (λ n. reads-then readKinds (λ k. reads-done tt))))
 
 welcome-names : (t : List ℕ) → Reads t welcomeFields
 unfolding welcomeFields
-welcome-names t = reads-then (num 8) (λ e. reads-then (num 8) (λ i. reads-done tt))
+welcome-names t = reads-then (readNum 8) (λ e. reads-then (readNum 8) (λ i. reads-done tt))
 
 bind-names : (t : List ℕ) → Starts t bindFields
 unfolding bindFields
-bind-names t = num-first t _ (λ l. reads-then (num 8) (λ e. reads-then (num 8) (λ lag. reads-then key (λ k. reads-done (l, refl)))))
+bind-names t = num-first t _ (λ l. reads-then (readNum 8) (λ e. reads-then (readNum 8) (λ lag. reads-then readKey (λ k. reads-done (l, refl)))))
 
 batch-names : (version : ℕ) (t : List ℕ) → Starts t (batchFields version)
 unfolding batchFields
 batch-names version t =
-    num-first t _ (λ l. reads-then (num 8) (λ e. reads-then (num 8) (λ n. reads-then partByte (λ p. reads-then (changes version) (λ cs. reads-then appRecords (λ rs. reads-done (l, refl)))))))
+    num-first t _ (λ l. reads-then (readNum 8) (λ e. reads-then (readNum 8) (λ n. reads-then readPart (λ p. reads-then (readChanges version) (λ cs. reads-then readAppRecords (λ rs. reads-done (l, refl)))))))
 
 ack-names : (t : List ℕ) → Reads t ackFields
 unfolding ackFields
-ack-names t = reads-then (num 4) (λ h. reads-then (num 8) (λ n. reads-done tt))
+ack-names t = reads-then (readNum 4) (λ h. reads-then (readNum 8) (λ n. reads-done tt))
 
 nack-names : (t : List ℕ) → Reads t nackFields
 unfolding nackFields
-nack-names t = reads-then (num 4) (λ h. reads-then reason (λ r. reads-done tt))
+nack-names t = reads-then (readNum 4) (λ h. reads-then readReason (λ r. reads-done tt))
 
 bound-names : (version : ℕ) (t : List ℕ) → Reads t (boundFields version)
 unfolding boundFields
-bound-names version t = reads-then (num 4) (λ h. reads-then (summary version) (λ m. reads-done tt))
+bound-names version t = reads-then (readNum 4) (λ h. reads-then (readSummary version) (λ m. reads-done tt))
 
 checked-names : (t : List ℕ) → Reads t checkedFields
 unfolding checkedFields
-checked-names t = reads-then (num 4) (λ h. reads-then (num 8) (λ e. reads-then (num 8) (λ i. reads-done tt)))
+checked-names t = reads-then (readNum 4) (λ h. reads-then (readNum 8) (λ e. reads-then (readNum 8) (λ i. reads-done tt)))
 
-fields-names : (version : ℕ) (s : List ℕ) → NamesIn (drop 1 s) (fields version s)
-unfolding fields
+fields-names : (version : ℕ) (s : List ℕ) → NamesIn (drop 1 s) (readFields version s)
+unfolding readFields
 fields-names version s =
     let t : List ℕ = drop 1 s in
     kind-first s _ (λ k.
@@ -125,9 +125,9 @@ fields-names version s =
     (row-or (eqb k 7) (starts (bound-names version t))
     (row-or (eqb k 8) (starts (checked-names t)) (record { says = tt })))))))))
 
-body-names : (version : ℕ) (s : List ℕ) {f : Frame} → body version s ≡ ok f [] → Names (drop 1 s) f
-unfolding body
-body-names version s {f} = go (fields version s) (fields-names version s)
+body-names : (version : ℕ) (s : List ℕ) {f : Frame} → readBody version s ≡ ok f [] → Names (drop 1 s) f
+unfolding readBody
+body-names version s {f} = go (readFields version s) (fields-names version s)
   where
     clash : {x : Fault} → _≡_ {A = Res Frame} (bad x) (ok f []) → ⊥
     clash e = let z : _≡_ {A = ℕ} 0 1 = cc in omega arith
@@ -180,7 +180,7 @@ read-names w f e =
 
 frame-sought : (w : List ℕ) (g : Given) → given w ≡ g → hasHandle g ≡ true → handleAt w ≡ handleIn g
 frame-sought w (damaged n) e t = absurd (true≢false (sym t))
-frame-sought w (intact (hello v e₁ node kinds)) e t = absurd (true≢false (sym t))
+frame-sought w (intact (hello v e₁ node readKinds)) e t = absurd (true≢false (sym t))
 frame-sought w (intact (welcome e₁ i)) e t = absurd (true≢false (sym t))
 frame-sought w (intact (bind h e₁ lag k)) e t = let r = read-names w (bind h e₁ lag k) e in at-five w (le (take 4 w)) h (r .0) (r .1) (r .2)
 frame-sought w (intact (batch h e₁ n part cs apps)) e t = let r = read-names w (batch h e₁ n part cs apps) e in at-five w (le (take 4 w)) h (r .0) (r .1) (r .2)

@@ -10,7 +10,7 @@ use lib.Seq.{sets, take-set-le, drop-set-lt}
 use borrow.Author.Tests.{leb-true, leb-false, ltb-true, ltb-false, eqb-true, le-leb, lt-leb, lt-ltb, le-ltb}
 use Rattle.model_frame.specs.Bytes.{write}
 use Rattle.standby_row.specs.declared.Handle.{Handle}
-use Rattle.standby_row.specs.Row.{none, isOf, breaksOf, next, firstOf, findOf, brokenOf, clearedAll, seenOf}
+use Rattle.standby_row.specs.Row.{freeRecord, isOf, breaksOf, zeroOrNext, firstOf, findOf, brokenOf, clearedAll, seenOf}
 use Rattle.store_areas.specs.Areas.{allowed}
 use Rattle.standby_state.specs.declared.Settings.{Settings}
 use Rattle.standby_step.specs.Steps.{seenAllowed}
@@ -21,11 +21,11 @@ zero-less h = omega arith
 
 -- ---- a search
 
-pub first-is : (p : Handle → Bool) (row : List Handle) → firstOf p row < length row → p (getD row (firstOf p row) none) ≡ true
+pub first-is : (p : Handle → Bool) (row : List Handle) → firstOf p row < length row → p (getD row (firstOf p row) freeRecord) ≡ true
 first-is p [] less = absurd (zero-less less)
 first-is p (h ∷ hs) less = go (p h) refl (first-is p hs) less
   where
-    go : (t : Bool) → p h ≡ t → (firstOf p hs < length hs → p (getD hs (firstOf p hs) none) ≡ true) → next t (firstOf p hs) < suc (length hs) → p (getD (h ∷ hs) (next t (firstOf p hs)) none) ≡ true
+    go : (t : Bool) → p h ≡ t → (firstOf p hs < length hs → p (getD hs (firstOf p hs) freeRecord) ≡ true) → zeroOrNext t (firstOf p hs) < suc (length hs) → p (getD (h ∷ hs) (zeroOrNext t (firstOf p hs)) freeRecord) ≡ true
     go true e ih l = e
     go false e ih l = ih (omega arith)
 
@@ -38,7 +38,7 @@ none-of : (p : Handle → Bool) (row : List Handle) → length row ≤ firstOf p
 none-of p [] out = tt
 none-of p (h ∷ hs) out = go (p h) refl (none-of p hs) out
   where
-    go : (t : Bool) → p h ≡ t → (length hs ≤ firstOf p hs → None p hs) → suc (length hs) ≤ next t (firstOf p hs) → (p h ≡ false) × None p hs
+    go : (t : Bool) → p h ≡ t → (length hs ≤ firstOf p hs → None p hs) → suc (length hs) ≤ zeroOrNext t (firstOf p hs) → (p h ≡ false) × None p hs
     go true e ih l = absurd (zero-less l)
     go false e ih l = (e, ih (omega arith))
 
@@ -47,9 +47,9 @@ of-none p [] n = omega arith
 of-none p (h ∷ hs) n =
     let rest : length hs ≤ firstOf p hs = of-none p hs (n .1) in
     let more : suc (length hs) ≤ suc (firstOf p hs) = omega arith in
-    subst (λ (t : Bool). suc (length hs) ≤ next t (firstOf p hs)) (sym (n .0)) more
+    subst (λ (t : Bool). suc (length hs) ≤ zeroOrNext t (firstOf p hs)) (sym (n .0)) more
 
-none-at : (p : Handle → Bool) (row : List Handle) (i : ℕ) → i < length row → None p row → p (getD row i none) ≡ false
+none-at : (p : Handle → Bool) (row : List Handle) (i : ℕ) → i < length row → None p row → p (getD row i freeRecord) ≡ false
 none-at p [] i l n = absurd (zero-less l)
 none-at p (h ∷ hs) zero l n = n .0
 none-at p (h ∷ hs) (suc i) l n = none-at p hs i (omega arith) (n .1)
@@ -119,39 +119,39 @@ and-r true b e = e
 and-r false b e = absurd (true≢false (sym e))
 
 -- the record found is used for the handle
-pub found-used : (row : List Handle) (k : ℕ) → findOf row k < length row → getD row (findOf row k) none .used ≡ true
-found-used row k l = and-l (getD row (findOf row k) none .used) (eqb (getD row (findOf row k) none .handle) k) (first-is (λ h. isOf h k) row l)
+pub found-used : (row : List Handle) (k : ℕ) → findOf row k < length row → getD row (findOf row k) freeRecord .used ≡ true
+found-used row k l = and-l (getD row (findOf row k) freeRecord .used) (eqb (getD row (findOf row k) freeRecord .handle) k) (first-is (λ h. isOf h k) row l)
 
-pub found-own : (row : List Handle) (k : ℕ) → findOf row k < length row → getD row (findOf row k) none .handle ≡ k
-found-own row k l = eqb-true (getD row (findOf row k) none .handle) k (and-r (getD row (findOf row k) none .used) (eqb (getD row (findOf row k) none .handle) k) (first-is (λ h. isOf h k) row l))
+pub found-own : (row : List Handle) (k : ℕ) → findOf row k < length row → getD row (findOf row k) freeRecord .handle ≡ k
+found-own row k l = eqb-true (getD row (findOf row k) freeRecord .handle) k (and-r (getD row (findOf row k) freeRecord .used) (eqb (getD row (findOf row k) freeRecord .handle) k) (first-is (λ h. isOf h k) row l))
 
 -- it breaks no rule, if none does
 sound-found : (used room : ℕ) (row : List Handle) (k : ℕ) → findOf row k < length row → Whole used room row
-    → (ltb (getD row (findOf row k) none .place) used && leb (getD row (findOf row k) none .«held_len») room) ≡ true
+    → (ltb (getD row (findOf row k) freeRecord .place) used && leb (getD row (findOf row k) freeRecord .«held_len») room) ≡ true
 sound-found used room row k l n =
-    let g : Handle = getD row (findOf row k) none in
+    let g : Handle = getD row (findOf row k) freeRecord in
     let off : breaksOf g used room ≡ false = none-at (λ h. breaksOf h used room) row (findOf row k) l n in
     go (leb used (g .place)) (ltb room (g .«held_len»)) refl refl (ap (λ (x : Bool). x && (leb used (g .place) || ltb room (g .«held_len»))) (sym (found-used row k l)) ∙ off)
   where
-    go : (x y : Bool) → leb used (getD row (findOf row k) none .place) ≡ x → ltb room (getD row (findOf row k) none .«held_len») ≡ y → (x || y) ≡ false
-        → (ltb (getD row (findOf row k) none .place) used && leb (getD row (findOf row k) none .«held_len») room) ≡ true
+    go : (x y : Bool) → leb used (getD row (findOf row k) freeRecord .place) ≡ x → ltb room (getD row (findOf row k) freeRecord .«held_len») ≡ y → (x || y) ≡ false
+        → (ltb (getD row (findOf row k) freeRecord .place) used && leb (getD row (findOf row k) freeRecord .«held_len») room) ≡ true
     go true y p q e = absurd (true≢false e)
     go false true p q e = absurd (true≢false e)
     go false false p q e =
-        (λ i. lt-ltb (getD row (findOf row k) none .place) used (leb-false used (getD row (findOf row k) none .place) p) i
-        && le-leb (getD row (findOf row k) none .«held_len») room (ltb-false room (getD row (findOf row k) none .«held_len») q) i)
+        (λ i. lt-ltb (getD row (findOf row k) freeRecord .place) used (leb-false used (getD row (findOf row k) freeRecord .place) p) i
+        && le-leb (getD row (findOf row k) freeRecord .«held_len») room (ltb-false room (getD row (findOf row k) freeRecord .«held_len») q) i)
 
 -- the rules by what was found are the rules
 pub seen-allowed : (s : Settings) (row : List Handle) (k : ℕ) (w b h : List ℕ) → seenAllowed (s .shape) (seenOf row k (getD w 0 0) (roomAll row h)) w b h ≡ allowedAll s row w b h
 seen-allowed s row k w b h = ap (λ (x : Bool). allowed (s .shape) w b && x) (go (leb (length row) (brokenOf row (getD w 0 0) (roomAll row h))) refl)
   where
     one : (x : Bool) → ltb (findOf row k) (length row) ≡ x → Whole (getD w 0 0) (roomAll row h) row
-        → (not x || (ltb (getD row (findOf row k) none .place) (getD w 0 0) && leb (getD row (findOf row k) none .«held_len») (roomAll row h))) ≡ true
+        → (not x || (ltb (getD row (findOf row k) freeRecord .place) (getD w 0 0) && leb (getD row (findOf row k) freeRecord .«held_len») (roomAll row h))) ≡ true
     one true e n = sound-found (getD w 0 0) (roomAll row h) row k (ltb-true (findOf row k) (length row) e) n
     one false e n = refl
 
     go : (x : Bool) → leb (length row) (brokenOf row (getD w 0 0) (roomAll row h)) ≡ x
-        → (x && (not (ltb (findOf row k) (length row)) || (ltb (getD row (findOf row k) none .place) (getD w 0 0) && leb (getD row (findOf row k) none .«held_len») (roomAll row h)))) ≡ x
+        → (x && (not (ltb (findOf row k) (length row)) || (ltb (getD row (findOf row k) freeRecord .place) (getD w 0 0) && leb (getD row (findOf row k) freeRecord .«held_len») (roomAll row h)))) ≡ x
     go true e = one (ltb (findOf row k) (length row)) refl (whole-of (getD w 0 0) (roomAll row h) row e)
     go false e = refl
 

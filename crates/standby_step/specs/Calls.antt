@@ -8,7 +8,7 @@ use lib.Dec.{eqb, leb, ltb}
 use Rattle.model_frame.specs.Refusal
 use Rattle.model_frame.specs.Bytes.{leAt}
 use Rattle.standby_row.specs.declared.Handle.{Handle}
-use Rattle.standby_row.specs.Row.{none, findOf, freeOf, brokenOf, clearedAll}
+use Rattle.standby_row.specs.Row.{freeRecord, findOf, freeOf, brokenOf, clearedAll}
 use Rattle.standby_handles.specs.Rows.{rowOf}
 use Rattle.store_areas.specs.StoreWord
 use Rattle.store_areas.specs.Areas.{allowed, placesOf}
@@ -78,7 +78,7 @@ actionBy L x call = coreStep L (coreOf x) (find (handleOf call) (x .handles)) (h
 pub record CalledSteps (s : Settings) (call : Call) (c c' : Replica) (row row' : List Handle) (w w' b b' h h' : List ℕ) (a : Answer) : Type 0 where
   pub is : record { state = standbyOf s c' row' w' b' h'; answer = answerOf b' a } ≡ step (settingsOf s (roomAll row h)) (standbyOf s c row w b h) call
   pub allowed : allowedAll s row' w' b' h' ≡ true
-  pub leaves : Leaves (s .shape) c (getD row (findOf row (handleOf call)) none .place) call w w' b b' a
+  pub leaves : Leaves (s .shape) c (getD row (findOf row (handleOf call)) freeRecord .place) call w w' b b' a
   pub holds : h' ≡ holdsAfter (roomAll row h) (findOf row (handleOf call))
       (writesBy (settingsOf s (roomAll row h)) (countersOf c) (find (handleOf call) (standbyOf s c row w b h .handles)) call) h
   pub row-leaves : RowLeaves (spotFor row (handleOf call)) (actionBy (settingsOf s (roomAll row h)) (standbyOf s c row w b h) call) row row'

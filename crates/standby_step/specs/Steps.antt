@@ -22,7 +22,7 @@ use Rattle.model_standby.specs.Store.{Place, placeOf}
 use Rattle.model_standby.specs.State.{Bound, Counters, Call, onFrameHeld, onFrame, flush, disconnectedFrom, promote, promoteUnchecked}
 use Rattle.model_standby.specs.State as state
 use Rattle.model_standby.specs.Standby.{due}
-use Rattle.model_standby.specs.Hold.{Written, writes}
+use Rattle.model_standby.specs.Hold.{HoldWrite, writes}
 use Rattle.model_standby.specs.Core.{coreStep, handleOf}
 use Rattle.standby_part.specs.State.{coreAt}
 use Rattle.standby_batch_handle.specs.Handling.{foundOf}
@@ -101,11 +101,11 @@ Leaves s c p promoteUnchecked w w' b b' a = PromotionLeaves s (not (eqb (a .refu
 
 -- ---- the hold areas: the frame's changes at their place, or nothing
 
-abbrev pub holdsAfter : ℕ → ℕ → Option Written → List ℕ → List ℕ
+abbrev pub holdsAfter : ℕ → ℕ → Option HoldWrite → List ℕ → List ℕ
 holdsAfter room i none h = h
 holdsAfter room i (some x) h = write h (i * room + x .offset) (x .bytes)
 
-abbrev pub writesBy : state.Settings → Counters → Option Bound → Call → Option Written
+abbrev pub writesBy : state.Settings → Counters → Option Bound → Call → Option HoldWrite
 writesBy L c found (onFrameHeld f) = writes L c found (given f)
 writesBy L c found (onFrame f) = writes L c found (given f)
 writesBy L c found (flush n) = none

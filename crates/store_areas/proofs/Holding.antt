@@ -10,10 +10,10 @@ use Rattle.model_frame.specs.Parse.{Each}
 use Rattle.model_session.specs.Session.{Holdable}
 use Rattle.model_standby.specs.Store.{Stored, Place}
 use Rattle.store_log.proofs.Lawful.{Small, small-take, small-drop, small-append}
-use Rattle.store_place.specs.Place.{field, keyOf, placeIn}
+use Rattle.store_place.specs.Place.{field, storedKey, placeIn}
 use Rattle.store_place.proofs.Holding.{holdable, Kept, Short, ShortKey, kept}
 use Rattle.store_areas.specs.declared.Shape.{Shape}
-use Rattle.store_areas.specs.Areas.{placeWords, placeBytes, wordsAt, bytesAt, Rules, part, placeAt, countUp, placesOf, Changed}
+use Rattle.store_areas.specs.Areas.{placeWords, placeBytes, wordsAt, bytesAt, Rules, slice, placeAt, countUp, placesOf, Changed}
 use Rattle.store_areas.proofs.Lifting.{Within, within, part-length, lift-both, rules-kept}
 
 -- ---- total
@@ -21,7 +21,7 @@ use Rattle.store_areas.proofs.Lifting.{Within, within, part-length, lif
 pub holdable-at : (s : Shape) (w b : List ℕ) (i : ℕ) → Small (2 ^ 64) w → Small 256 b → Holdable (s .bytes) (s .messages) (placeAt s w b i .stored .session)
 unfolding placeAt placeIn
 holdable-at s w b i sw sb =
-    holdable (s .bytes) (s .messages) (part (wordsAt s i) (placeWords s) w) (part (bytesAt s i) (placeBytes s) b)
+    holdable (s .bytes) (s .messages) (slice (wordsAt s i) (placeWords s) w) (slice (bytesAt s i) (placeBytes s) b)
     (small-take (placeWords s) (drop (wordsAt s i) w) (omega arith) (small-drop (wordsAt s i) w sw))
     (small-take (placeBytes s) (drop (bytesAt s i) b) (omega arith) (small-drop (bytesAt s i) b sb))
 
@@ -39,8 +39,8 @@ short-field : (b : List ℕ) (at n : ℕ) → Small 256 b → Short 32 (field b 
 unfolding field
 short-field b at n h = record { most = omega (arith, length-take (min n 32) (drop at b)); small = small-take (min n 32) (drop at b) (omega arith) (small-drop at b h) }
 
-short-key : (w b : List ℕ) → Small 256 b → ShortKey (keyOf w b)
-unfolding keyOf
+short-key : (w b : List ℕ) → Small 256 b → ShortKey (storedKey w b)
+unfolding storedKey
 short-key w b h = record {
   begin-short = short-field b 0 (getD w 7 0) h;
   sender-short = short-field b 32 (getD w 8 0) h;
@@ -69,7 +69,7 @@ held-at s i x w b r h sw sb hold =
     let mw : List ℕ = midOf wa (wa + placeWords s - wa) w in
     let mb : List ℕ = midOf ba (ba + placeBytes s - ba) b in
     let small : Small 256 mb = small-take (ba + placeBytes s - ba) (drop ba b) (omega arith) (small-drop ba b sb) in
-    let k : Kept (s .bytes) (s .messages) (record { key = keyOf mw mb; stored = x }) = kept (s .bytes) (s .messages) (omega (arith, v .bytes-few)) (omega (arith, v .messages-few)) (keyOf mw mb) (x .session) (x .durable) (short-key mw mb small) hold in
+    let k : Kept (s .bytes) (s .messages) (record { key = storedKey mw mb; stored = x }) = kept (s .bytes) (s .messages) (omega (arith, v .bytes-few)) (omega (arith, v .messages-few)) (storedKey mw mb) (x .session) (x .durable) (short-key mw mb small) hold in
     let lw : length (k .words) ≡ length mw = k .words-long ∙ sym (part-length wa (placeWords s) w mw (v .words-in) refl) in
     let lb : length (k .bytes) ≡ length mb = k .bytes-long ∙ sym (part-length ba (placeBytes s) b mb (v .bytes-in) refl) in
     let c : Changed s i (λ _. x) w (putMid wa (wa + placeWords s - wa) w (k .words)) b (putMid ba (ba + placeBytes s - ba) b (k .bytes)) = lift-both s i w b (k .words) (k .bytes) r h (λ _. x) lw lb (k .is) in

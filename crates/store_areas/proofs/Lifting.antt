@@ -13,7 +13,7 @@ use Rattle.store_place.specs.Only.{Only}
 use Rattle.store_place.specs.Place.{placeIn}
 use Rattle.store_place.proofs.Fields.{only-none, only-put}
 use Rattle.store_areas.specs.declared.Shape.{Shape}
-use Rattle.store_areas.specs.Areas.{placeWords, placeBytes, wordsAt, bytesAt, SpotIs, SpotIn, Room, Rules, part, placeAt, countUp, placesOf, Changed}
+use Rattle.store_areas.specs.Areas.{placeWords, placeBytes, wordsAt, bytesAt, SpotIs, SpotIn, Room, Rules, slice, placeAt, countUp, placesOf, Changed}
 use Rattle.store_areas.proofs.Lists.{count-length, count-same, count-at, count-one, inside, apart, part-kept, word-kept}
 
 -- ---- a place in use lies within the areas
@@ -41,13 +41,13 @@ module _ (a n : ℕ) (l ys : List ℕ) (fits : a + n ≤ length l) (same : lengt
   size : a + n - a ≡ n
   size = omega arith
 
-  pub part-lent : midOf a (a + n - a) l ≡ part a n l
+  pub part-lent : midOf a (a + n - a) l ≡ slice a n l
   part-lent = ap (λ (k : ℕ). take k (drop a l)) size
 
   pub part-length : length (midOf a (a + n - a) l) ≡ n
   part-length = mid-len a (a + n) l fits ∙ size
 
-  pub part-own : part a n (putMid a (a + n - a) l ys) ≡ ys
+  pub part-own : slice a n (putMid a (a + n - a) l ys) ≡ ys
   part-own =
       ap (take n) (drop-at (take a l) (ys ++ postOf a (a + n - a) l) a (length-take-le a l (omega arith)))
       ∙ take-at ys (postOf a (a + n - a) l) n (same ∙ part-length)
@@ -64,8 +64,8 @@ module _ (s : Shape) (i : ℕ) (w w' b b' : List ℕ) (ow : Only (wordsAt s i) (
   pub other-place : (j : ℕ) → (j ≡ i → ⊥) → placeAt s w' b' j ≡ placeAt s w b j
   unfolding placeAt
   other-place j ne =
-      let pw : part (wordsAt s j) (placeWords s) w' ≡ part (wordsAt s j) (placeWords s) w = part-kept (wordsAt s i) (wordsAt s i + placeWords s) (wordsAt s j) (placeWords s) w w' ow (up (apart (placeWords s) i j ne)) in
-      let pb : part (bytesAt s j) (placeBytes s) b' ≡ part (bytesAt s j) (placeBytes s) b = part-kept (bytesAt s i) (bytesAt s i + placeBytes s) (bytesAt s j) (placeBytes s) b b' ob (apart (placeBytes s) i j ne) in
+      let pw : slice (wordsAt s j) (placeWords s) w' ≡ slice (wordsAt s j) (placeWords s) w = part-kept (wordsAt s i) (wordsAt s i + placeWords s) (wordsAt s j) (placeWords s) w w' ow (up (apart (placeWords s) i j ne)) in
+      let pb : slice (bytesAt s j) (placeBytes s) b' ≡ slice (bytesAt s j) (placeBytes s) b = part-kept (bytesAt s i) (bytesAt s i + placeBytes s) (bytesAt s j) (placeBytes s) b b' ob (apart (placeBytes s) i j ne) in
       λ k. placeIn (s .bytes) (s .messages) (pw k) (pb k)
     where
       up : (j * placeWords s + placeWords s ≤ i * placeWords s) ⊎ (i * placeWords s + placeWords s ≤ j * placeWords s)
@@ -184,13 +184,13 @@ module _ (s : Shape) (i wa we ba be : ℕ) (at : SpotIs s i wa we ba be) (w b : 
       (λ k e. lift-words s i w b x b r h f k (e (midOf (bytesAt s i) (bytesAt s i + placeBytes s - bytesAt s i) b)))
 
   -- the parts as the definitions have them
-  pub spot-words-part : midOf wa (we - wa) w ≡ part (wordsAt s i) (placeWords s) w
+  pub spot-words-part : midOf wa (we - wa) w ≡ slice (wordsAt s i) (placeWords s) w
   spot-words-part =
-      moved (λ c d e g. midOf c (d - c) w ≡ part (wordsAt s i) (placeWords s) w) (part-lent (wordsAt s i) (placeWords s) w (midOf (wordsAt s i) (wordsAt s i + placeWords s - wordsAt s i) w) (within s i w b r h .words-in) refl)
+      moved (λ c d e g. midOf c (d - c) w ≡ slice (wordsAt s i) (placeWords s) w) (part-lent (wordsAt s i) (placeWords s) w (midOf (wordsAt s i) (wordsAt s i + placeWords s - wordsAt s i) w) (within s i w b r h .words-in) refl)
 
-  pub spot-bytes-part : midOf ba (be - ba) b ≡ part (bytesAt s i) (placeBytes s) b
+  pub spot-bytes-part : midOf ba (be - ba) b ≡ slice (bytesAt s i) (placeBytes s) b
   spot-bytes-part =
-      moved (λ c d e g. midOf e (g - e) b ≡ part (bytesAt s i) (placeBytes s) b) (part-lent (bytesAt s i) (placeBytes s) b (midOf (bytesAt s i) (bytesAt s i + placeBytes s - bytesAt s i) b) (within s i w b r h .bytes-in) refl)
+      moved (λ c d e g. midOf e (g - e) b ≡ slice (bytesAt s i) (placeBytes s) b) (part-lent (bytesAt s i) (placeBytes s) b (midOf (bytesAt s i) (bytesAt s i + placeBytes s - bytesAt s i) b) (within s i w b r h .bytes-in) refl)
 
   -- parts that are put back whole, with another key too
   pub spot-put : (x y : List ℕ) → length x ≡ length (midOf wa (we - wa) w) → length y ≡ length (midOf ba (be - ba) b)
@@ -236,7 +236,7 @@ pub heads-places : (s : Shape) (w w' b : List ℕ) → Only 1 66 w w' → places
 unfolding placesOf placeAt
 heads-places s w w' b o =
     ap (countUp (placeAt s w' b) 0) (word-kept 1 66 0 w w' o (omega arith))
-    ∙ count-same (placeAt s w b) (placeAt s w' b) 0 (getD w 0 0) (λ j _ l. ap (λ (x : List ℕ). placeIn (s .bytes) (s .messages) x (part (bytesAt s j) (placeBytes s) b)) (part-kept 1 66 (wordsAt s j) (placeWords s) w w' o (inr (omega arith))))
+    ∙ count-same (placeAt s w b) (placeAt s w' b) 0 (getD w 0 0) (λ j _ l. ap (λ (x : List ℕ). placeIn (s .bytes) (s .messages) x (slice (bytesAt s j) (placeBytes s) b)) (part-kept 1 66 (wordsAt s j) (placeWords s) w w' o (inr (omega arith))))
 
 pub heads-rules : (s : Shape) (w w' b : List ℕ) → Only 1 66 w w' → getD w' 1 0 ≤ 64 → Rules s w b → Rules s w' b
 heads-rules s w w' b o h r = record {

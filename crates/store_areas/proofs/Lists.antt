@@ -12,7 +12,7 @@ use Rattle.model_standby.specs.Store.{Stored, Place, onStored, onPlace}
 use Rattle.store_log.proofs.Walk.{cmp}
 use Rattle.store_place.specs.Only.{Only}
 use Rattle.store_place.proofs.Fields.{only-before, only-after}
-use Rattle.store_areas.specs.Areas.{countUp, part}
+use Rattle.store_areas.specs.Areas.{countUp, slice}
 
 -- ---- counting up
 
@@ -60,7 +60,7 @@ apart W i j ne = go (cmp i j)
     go (inl h) = inr (inside W i j (omega (arith, ne)))
 
 -- a part that does not meet what changes
-pub part-kept : (a e at n : ℕ) (l l' : List ℕ) → Only a e l l' → (at + n ≤ a) ⊎ (e ≤ at) → part at n l' ≡ part at n l
+pub part-kept : (a e at n : ℕ) (l l' : List ℕ) → Only a e l l' → (at + n ≤ a) ⊎ (e ≤ at) → slice at n l' ≡ slice at n l
 part-kept a e at n l l' o (inl h) = only-before a e at n l l' o h
 part-kept a e at n l l' o (inr h) = ap (take n) (only-after a e at l l' o h)
 

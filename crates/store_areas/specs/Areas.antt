@@ -86,11 +86,11 @@ pub record SpotIn (s : Shape) (i : ℕ) (w b : List ℕ) (wa we ba be : ℕ) : T
 -- ---- what the areas hold
 
 -- n elements from index a on
-abbrev pub part : ℕ → ℕ → List ℕ → List ℕ
-part a n l = take n (drop a l)
+abbrev pub slice : ℕ → ℕ → List ℕ → List ℕ
+slice a n l = take n (drop a l)
 
 unfoldable pub placeAt : Shape → List ℕ → List ℕ → ℕ → Place
-placeAt s w b i = placeIn (s .bytes) (s .messages) (part (wordsAt s i) (placeWords s) w) (part (bytesAt s i) (placeBytes s) b)
+placeAt s w b i = placeIn (s .bytes) (s .messages) (slice (wordsAt s i) (placeWords s) w) (slice (bytesAt s i) (placeBytes s) b)
 
 -- f k, f (k + 1) and so on, n of them
 abbrev pub countUp : {A : Type 0} → (ℕ → A) → ℕ → ℕ → List A

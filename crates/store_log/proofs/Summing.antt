@@ -9,7 +9,7 @@ use lib.ListN.{length, take, drop, getD}
 use lib.Seq.{take-suc}
 use Rattle.model_session.specs.Session.{Msg, storedBytes}
 use Rattle.model_session.specs.Summary.{fnvMessage, fnvMessages, fnvStart, numberedFrom}
-use Rattle.store_log.specs.Log.{msg, Entry, entry, numOf, lenOf, entryAt, slotAt, newest, newestFirst, headOf, tailOf, unrolled, logOf, restOf, Stands, From, Read, Spanned, lastOf}
+use Rattle.store_log.specs.Log.{msg, Entry, entry, numOf, lenOf, entryAt, slotAt, newest, newestFirst, headOf, tailOf, unrolled, logOf, restOf, Position, From, NextMessage, Spanned, lastOf}
 use Rattle.store_log.proofs.Ring.{length-unrolled}
 use Rattle.store_log.proofs.Slots.{head-lt, tail-le, entry-at}
 use Rattle.store_log.proofs.Forward.{Nth, nth}
@@ -43,14 +43,14 @@ module _ (M next : ℕ) (w b : List ℕ) where
         later = rw one (omega (arith, sum, dT));
       }
 
-  pub seen : (s top i dist : ℕ) → 1 ≤ i → Stands (length b) M next w b i dist → top ≡ headOf M w → s ≡ slotAt M top i → Seen s i dist
+  pub seen : (s top i dist : ℕ) → 1 ≤ i → Position (length b) M next w b i dist → top ≡ headOf M w → s ≡ slotAt M top i → Seen s i dist
   seen s top zero dist a p et es = absurd (omega arith)
   seen s top (suc k) dist a p et es = rw (es, et) (seen-suc k dist (p .many) (p .few) (p .sum))
 
   -- the message as two parts of the ring, and the place after it
-  pub read : (s left dist number start first rest : ℕ) → Stands (length b) M next w b left dist → 1 ≤ left → Seen s left dist → number ≡ getD w (2 + 2 * s) 0
+  pub read : (s left dist number start first rest : ℕ) → Position (length b) M next w b left dist → 1 ≤ left → Seen s left dist → number ≡ getD w (2 + 2 * s) 0
       → Spanned (tailOf (length b) w) (length b) dist (getD w (3 + 2 * s) 0) start first rest
-      → Read (length b) M next w b left dist number start first rest (left - 1) (dist - getD w (3 + 2 * s) 0)
+      → NextMessage (length b) M next w b left dist number start first rest (left - 1) (dist - getD w (3 + 2 * s) 0)
   unfolding restOf
   read s left dist number start first rest i h v en p =
       let k : ℕ = left - 1 in
@@ -68,14 +68,14 @@ module _ (M next : ℕ) (w b : List ℕ) where
   -- ---- the hash
 
   pub record Hashing (low hash left dist : ℕ) : Type 0 where
-    pub stands : Stands (length b) M next w b left dist
+    pub stands : Position (length b) M next w b left dist
     pub done : fnvMessages fnvStart (numberedFrom low (logOf (length b) M next w b)) ≡ fnvMessages hash (restOf (length b) M next w b left)
 
   pub hashing-starts : (low left dist : ℕ) → From (length b) M next low w b left dist → Hashing low 0xcbf29ce484222325 left dist
   hashing-starts low left dist c = record { stands = c .stands; done = ap (fnvMessages fnvStart) (sym (c .is)) }
 
   pub hashing-goes : (low hash left dist number start first rest left' dist' r : ℕ) → Hashing low hash left dist
-      → Read (length b) M next w b left dist number start first rest left' dist'
+      → NextMessage (length b) M next w b left dist number start first rest left' dist'
       → r ≡ fnvMessage hash (msg number (take first (drop start b) ++ take rest b)) → Hashing low r left' dist'
   hashing-goes low hash left dist number start first rest left' dist' r i p e = record {
     stands = p .stands;

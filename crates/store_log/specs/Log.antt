@@ -52,13 +52,13 @@ abbrev pub newest : ℕ → List ℕ → List Entry
 newest M w = entries w M M (headOf M w)
 
 -- an entry counts while its number is from 1 and below the one before, and the bytes up to it stay within C
-abbrev pub takes : ℕ → ℕ → ℕ → ℕ → ℕ → Bool
-takes C d bound n l = leb 1 n && ltb n bound && leb (d + l) C
+abbrev pub entryCounts : ℕ → ℕ → ℕ → ℕ → ℕ → Bool
+entryCounts C d bound n l = leb 1 n && ltb n bound && leb (d + l) C
 
 -- the messages of the entries, newest first: d bytes are taken already, and u is the unrolled ring
 abbrev pub walk : ℕ → List ℕ → List Entry → ℕ → ℕ → List Msg
 walk C u [] d bound = []
-walk C u (entry n l ∷ es) d bound = cond (takes C d bound n l) (msg n (take l (drop (C - (d + l)) u)) ∷ walk C u es (d + l) n) []
+walk C u (entry n l ∷ es) d bound = cond (entryCounts C d bound n l) (msg n (take l (drop (C - (d + l)) u)) ∷ walk C u es (d + l) n) []
 
 abbrev pub newestFirst : ℕ → ℕ → ℕ → List ℕ → List ℕ → List Msg
 newestFirst C M next w b = walk C (unrolled (tailOf C w) b) (newest M w) 0 next
@@ -73,7 +73,7 @@ logOf C M next w b = reverse (newestFirst C M next w b)
 unfoldable pub restOf : ℕ → ℕ → ℕ → List ℕ → List ℕ → ℕ → List Msg
 restOf C M next w b left = reverse (take left (newestFirst C M next w b))
 
-pub record Stands (C M next : ℕ) (w b : List ℕ) (left dist : ℕ) : Type 0 where
+pub record Position (C M next : ℕ) (w b : List ℕ) (left dist : ℕ) : Type 0 where
   pub many : left ≤ length (newestFirst C M next w b)
   pub few : left ≤ M
   pub sum : dist ≡ storedBytes (take left (newestFirst C M next w b))
@@ -81,13 +81,13 @@ pub record Stands (C M next : ℕ) (w b : List ℕ) (left dist : ℕ) : Type 0 w
 
 -- the place where the messages with numbers from low begin
 pub record From (C M next low : ℕ) (w b : List ℕ) (left dist : ℕ) : Type 0 where
-  pub stands : Stands C M next w b left dist
+  pub stands : Position C M next w b left dist
   pub is : restOf C M next w b left ≡ numberedFrom low (logOf C M next w b)
 
 -- the next message: its number, its bytes in two parts of the ring, and the place after it
-pub record Read (C M next : ℕ) (w b : List ℕ) (left dist number start first rest left' dist' : ℕ) : Type 0 where
+pub record NextMessage (C M next : ℕ) (w b : List ℕ) (left dist number start first rest left' dist' : ℕ) : Type 0 where
   pub is : restOf C M next w b left ≡ msg number (take first (drop start b) ++ take rest b) ∷ restOf C M next w b left'
-  pub stands : Stands C M next w b left' dist'
+  pub stands : Position C M next w b left' dist'
   pub inside : start + first ≤ C
   pub front : rest ≤ C
   pub fewer : left' + 1 ≡ left

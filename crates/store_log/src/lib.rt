@@ -8,7 +8,7 @@ ghost use lib.ListN.{length, take, drop, getD};
 ghost use lib.Seq.{paste};
 ghost use Rattle.model_session.specs.Session.{keep};
 ghost use Rattle.model_session.specs.Summary.{fnvMessage, fnvMessages, fnvStart, numberedFrom};
-ghost use Rattle.store_log.specs.Log.{before, slotAt, Spanned, Stands, From, Read, msg, unrolled, headOf, tailOf, newest, entry, logOf, lastOf};
+ghost use Rattle.store_log.specs.Log.{before, slotAt, Spanned, Position, From, NextMessage, msg, unrolled, headOf, tailOf, newest, entry, logOf, lastOf};
 
 // The words of a log: the slot that the next entry goes to, the byte ring's tail, then each slot's entry.
 pub const HEAD: usize = 0;
@@ -264,9 +264,9 @@ pub fn message_at(
     dist: usize,
 ) -> Found
     requires { ⌜ 2 + 2 * max ≤ length (now words) ⌝ }
-    requires { ⌜ Stands (length (now bytes)) max next (now words) (now bytes) left dist ⌝ }
+    requires { ⌜ Position (length (now bytes)) max next (now words) (now bytes) left dist ⌝ }
     requires { ⌜ 1 ≤ left ⌝ }
-    ensures { λ r. ⌜ Read (length (now (bytes .entry))) max next (now (words .entry)) (now (bytes .entry)) left dist (r .number) (r .start) (r .first) (r .rest) (r .left) (r .dist) ⌝ }
+    ensures { λ r. ⌜ NextMessage (length (now (bytes .entry))) max next (now (words .entry)) (now (bytes .entry)) left dist (r .number) (r .start) (r .first) (r .rest) (r .left) (r .dist) ⌝ }
 {
     let cap = bytes.len();
     let slot = slot_at(head(words, max), max, left);

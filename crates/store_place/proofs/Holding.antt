@@ -9,7 +9,7 @@ use borrow.Author.Tests.{le-leb}
 use lib.Dec.{T, eqb, leb→le}
 use lib.ListN.{length, take, drop, getD, length-append, length-replicate}
 use lib.Seq.{take-at, drop-at, drop-drop}
-use Rattle.model_text.specs.Printable.{isPlain, allPlain, isMarks, isKey}
+use Rattle.model_text.specs.Printable.{isPrintableByte, allPrintable, isMarks, isKey}
 use Rattle.model_text.specs.Stamp.{isStamp}
 use Rattle.model_text.proofs.Formed.{and-l, and-r}
 use Rattle.model_text.proofs.Laws.{plain-bounds, stamp-is, marks-is, key-is}
@@ -19,7 +19,7 @@ use Rattle.model_standby.specs.Store.{Place}
 use Rattle.store_log.specs.Log.{logOf, Lawful}
 use Rattle.store_log.proofs.Lawful.{Small, small-drop, small-append, lawful}
 use Rattle.store_log.proofs.Onto.{zeros, small-zeros, Held, held}
-use Rattle.store_place.specs.Place.{nextOutOf, flightOf, durableOf, field, stampOf, marksOf, keyOf, sessionOf, placeIn}
+use Rattle.store_place.specs.Place.{nextOutOf, storedFlight, durableOf, field, stampOf, marksOf, storedKey, sessionOf, placeIn}
 use Rattle.store_place.proofs.Texts.{orNone}
 use Rattle.store_place.proofs.Promotion.{marks-marks}
 
@@ -38,7 +38,7 @@ flight-small true n h = tt
 flight-small false n h = truth (le-leb n 18446744073709551615 (omega arith))
 
 pub holdable : (C M : ℕ) (w b : List ℕ) → Small (2 ^ 64) w → Small 256 b → Holdable C M (sessionOf C M w b)
-unfolding sessionOf nextOutOf flightOf stampOf
+unfolding sessionOf nextOutOf storedFlight stampOf
 holdable C M w b sw sb =
     let l : Lawful C M (max (getD w 0 0) 1) (logOf C M (max (getD w 0 0) 1) (drop 14 w) (drop 224 b)) = lawful C M (max (getD w 0 0) 1) (drop 14 w) (drop 224 b) (small-drop 224 b sb) in
     record {
@@ -151,10 +151,10 @@ stamp-short : (s : List ℕ) → T (isStampOrNone s) → length s ≤ 32
 stamp-short [] h = omega arith
 stamp-short (x ∷ s) h = omega (arith, stamp-is (x ∷ s) (true-of (isStamp (x ∷ s)) h) .most)
 
-plain-small : (s : List ℕ) → allPlain s ≡ true → Small 256 s
+plain-small : (s : List ℕ) → allPrintable s ≡ true → Small 256 s
 plain-small [] e i = omega arith
-plain-small (x ∷ s) e zero = omega (arith, plain-bounds x (and-l (isPlain x) (allPlain s) e) .1)
-plain-small (x ∷ s) e (suc i) = plain-small s (and-r (isPlain x) (allPlain s) e) i
+plain-small (x ∷ s) e zero = omega (arith, plain-bounds x (and-l (isPrintableByte x) (allPrintable s) e) .1)
+plain-small (x ∷ s) e (suc i) = plain-small s (and-r (isPrintableByte x) (allPrintable s) e) i
 
 stamp-small : (s : List ℕ) → T (isStampOrNone s) → Small 256 s
 stamp-small [] h i = omega arith
@@ -274,7 +274,7 @@ module _ (C M : ℕ) (hC : C < 2 ^ 64) (hM : M < 2 ^ 64) (k : Key) (s : Session)
   d6 = pad-past bytes b6 (s .marks) 160 64 d5 marks-most
 
   is-place : placeIn C M words bytes ≡ record { key = k; stored = record { session = s; durable = d } }
-  unfolding placeIn sessionOf keyOf stampOf marksOf nextOutOf flightOf durableOf
+  unfolding placeIn sessionOf storedKey stampOf marksOf nextOutOf storedFlight durableOf
   is-place =
       let out : max (s .nextOut) 1 ≡ s .nextOut = omega (arith, h .out-low) in
       let f : field bytes 128 32 (length (s .stamp)) ≡ s .stamp = pad-field bytes b5 (s .stamp) 128 32 d4 stamp-most in

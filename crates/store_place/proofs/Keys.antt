@@ -13,7 +13,7 @@ use lib.Seq.{drop-cons}
 use Rattle.model_frame.specs.Frame.{Key, reset}
 use Rattle.model_session.specs.Session.{newSession, apply}
 use Rattle.model_standby.specs.Store.{sameBytes, onStored, changed, newPlace}
-use Rattle.store_place.specs.Place.{field, keyOf, keyFrom, durableOf, placeIn, PutText}
+use Rattle.store_place.specs.Place.{field, storedKey, keyFrom, durableOf, placeIn, PutText}
 use Rattle.store_place.proofs.Header.{Header, header, header-of}
 use Rattle.store_place.proofs.Fields.{field-kept}
 
@@ -61,11 +61,11 @@ field-same x b at n k r ek e =
 
 key-at : (x0 x1 x2 x3 b w : List ℕ) → Header w
     → field b 0 32 (length x0) ≡ x0 → field b 32 32 (length x1) ≡ x1 → field b 64 32 (length x2) ≡ x2 → field b 96 32 (length x3) ≡ x3
-    → keyOf (set (set (set (set w 7 (length x0)) 8 (length x1)) 9 (length x2)) 10 (length x3)) b ≡ keyFrom x0 x1 x2 x3
-unfolding keyOf
+    → storedKey (set (set (set (set w 7 (length x0)) 8 (length x1)) 9 (length x2)) 10 (length x3)) b ≡ keyFrom x0 x1 x2 x3
+unfolding storedKey
 key-at x0 x1 x2 x3 b w (header a0 a1 a2 a3 a4 a5 a6 a7 a8 a9 a10 a11 a12 a13 ws) e0 e1 e2 e3 = λ i. keyFrom (e0 i) (e1 i) (e2 i) (e3 i)
 
-fresh : (C M : ℕ) (w b : List ℕ) (k : Key) → keyOf w b ≡ k → onStored (changed C M (reset ∷ [])) (placeIn C M w b) ≡ newPlace k
+fresh : (C M : ℕ) (w b : List ℕ) (k : Key) → storedKey w b ≡ k → onStored (changed C M (reset ∷ [])) (placeIn C M w b) ≡ newPlace k
 unfolding placeIn apply
 fresh C M w b k e = λ i. record { key = e i; stored = record { session = newSession; durable = and-false (durableOf w) i } }
 

@@ -16,7 +16,7 @@ use Rattle.model_session.specs.Session.{apply, keep}
 use Rattle.model_standby.specs.Store.{onStored, changed}
 use Rattle.store_log.specs.Log.{logOf, msg}
 use Rattle.store_place.specs.Only.{Only}
-use Rattle.store_place.specs.Place.{nextOutOf, flightOf, durableOf, field, stampOf, marksOf, keyOf, sessionOf, placeIn, PutText}
+use Rattle.store_place.specs.Place.{nextOutOf, storedFlight, durableOf, field, stampOf, marksOf, storedKey, sessionOf, placeIn, PutText}
 use Rattle.store_place.proofs.Header.{Header, header, header-of}
 use Rattle.store_place.proofs.Fields.{only-put, only-after, field-kept}
 use Rattle.store_place.proofs.Texts.{orNone}
@@ -25,8 +25,8 @@ use Rattle.store_place.proofs.Changes.{withSession, unmarked}
 -- ---- the bytes: what changes from a to e leaves the texts elsewhere
 
 module _ (a e : ℕ) (w b b' : List ℕ) (o : Only a e b b') where
-  pub key-kept : 128 ≤ a → keyOf w b' ≡ keyOf w b
-  unfolding keyOf
+  pub key-kept : 128 ≤ a → storedKey w b' ≡ storedKey w b
+  unfolding storedKey
   key-kept h = λ i. record {
     begin = field-kept a e 0 32 (getD w 7 0) b b' o (inl (omega arith)) i;
     sender = field-kept a e 32 32 (getD w 8 0) b b' o (inl (omega arith)) i;
@@ -59,7 +59,7 @@ drop-tail a l ys h = drop-at (take a l) ys a (length-take-le a l h)
 recorded-at : (C M q : ℕ) (x b b' zs ys w : List ℕ) → Header w → Only 224 (length b) b b' → drop 224 b' ≡ zs → q ≡ nextOutOf w
     → logOf C M (q + 1) ys zs ≡ keep C M (msg q x) (logOf C M q (drop 14 w) (drop 224 b))
     → placeIn C M (set (set (take 14 w ++ ys) 0 (q + 1)) 4 0) b' ≡ withSession (apply C M (recordMsg q x) (sessionOf C M w b)) (placeIn C M w b)
-unfolding placeIn sessionOf nextOutOf flightOf durableOf stampOf marksOf keyOf apply
+unfolding placeIn sessionOf nextOutOf storedFlight durableOf stampOf marksOf storedKey apply
 recorded-at C M q x b b' zs ys w (header a0 a1 a2 a3 a4 a5 a6 a7 a8 a9 a10 a11 a12 a13 ws) o ez eq el =
     let v : List ℕ = a0 ∷ a1 ∷ a2 ∷ a3 ∷ a4 ∷ a5 ∷ a6 ∷ a7 ∷ a8 ∷ a9 ∷ a10 ∷ a11 ∷ a12 ∷ a13 ∷ ws in
     let one : max (q + 1) 1 ≡ q + 1 = omega arith in
@@ -73,7 +73,7 @@ recorded-at C M q x b b' zs ys w (header a0 a1 a2 a3 a4 a5 a6 a7 a8 a9 a10 a11 a
           stamp = stamp-kept 224 (length b) v b b' o (inl (omega arith)) i;
           nextOut = more i;
           nextIn = a1;
-          inFlight = flightOf v;
+          inFlight = storedFlight v;
           marks = marks-kept 224 (length b) v b b' o (inl (omega arith)) i;
           messages = ms i;
         };
@@ -101,16 +101,16 @@ recorded C M q x b zs ys w h lb sw sb eq el =
 bare-at : (C M q : ℕ) (b ys w : List ℕ) → Header w
     → logOf C M (q + 1) ys (drop 224 b) ≡ logOf C M (nextOutOf w) (drop 14 w) (drop 224 b)
     → placeIn C M (set (set (take 14 w ++ ys) 0 (q + 1)) 4 0) b ≡ withSession (apply C M (recordBare q) (sessionOf C M w b)) (placeIn C M w b)
-unfolding placeIn sessionOf nextOutOf flightOf durableOf stampOf marksOf keyOf apply
+unfolding placeIn sessionOf nextOutOf storedFlight durableOf stampOf marksOf storedKey apply
 bare-at C M q b ys w (header a0 a1 a2 a3 a4 a5 a6 a7 a8 a9 a10 a11 a12 a13 ws) el =
     let v : List ℕ = a0 ∷ a1 ∷ a2 ∷ a3 ∷ a4 ∷ a5 ∷ a6 ∷ a7 ∷ a8 ∷ a9 ∷ a10 ∷ a11 ∷ a12 ∷ a13 ∷ ws in
     let one : max (q + 1) 1 ≡ q + 1 = omega arith in
     let more : max (q + 1) 1 ≡ suc q = omega arith in
     let ms : logOf C M (max (q + 1) 1) ys (drop 224 b) ≡ logOf C M (max a0 1) ws (drop 224 b) = (λ i. logOf C M (one i) ys (drop 224 b)) ∙ el in
     λ i. record {
-      key = keyOf v b;
+      key = storedKey v b;
       stored = record {
-        session = record { stamp = stampOf v b; nextOut = more i; nextIn = a1; inFlight = flightOf v; marks = marksOf v b; messages = ms i };
+        session = record { stamp = stampOf v b; nextOut = more i; nextIn = a1; inFlight = storedFlight v; marks = marksOf v b; messages = ms i };
         durable = false;
       };
     }
@@ -128,11 +128,11 @@ bare C M q b ys w h sw el =
 
 cleared-at : (C M : ℕ) (b ys w : List ℕ) → Header w → ((next : ℕ) (r : List ℕ) → logOf C M next ys r ≡ [])
     → placeIn C M (set (set (set (set (set (set (take 14 w ++ ys) 0 1) 1 1) 2 0) 4 0) 5 0) 6 0) b ≡ withSession (apply C M reset (sessionOf C M w b)) (placeIn C M w b)
-unfolding placeIn sessionOf nextOutOf flightOf durableOf field stampOf marksOf keyOf apply isStamp isMarks isPrintable
+unfolding placeIn sessionOf nextOutOf storedFlight durableOf field stampOf marksOf storedKey apply isStamp isMarks isPrintable
 cleared-at C M b ys w (header a0 a1 a2 a3 a4 a5 a6 a7 a8 a9 a10 a11 a12 a13 ws) el =
     let v : List ℕ = a0 ∷ a1 ∷ a2 ∷ a3 ∷ a4 ∷ a5 ∷ a6 ∷ a7 ∷ a8 ∷ a9 ∷ a10 ∷ a11 ∷ a12 ∷ a13 ∷ ws in
     λ i. record {
-      key = keyOf v b;
+      key = storedKey v b;
       stored = record {
         session = record { stamp = []; nextOut = 1; nextIn = 1; inFlight = none; marks = []; messages = el 1 (drop 224 b) i };
         durable = false;
@@ -150,7 +150,7 @@ cleared C M b ys w h sw el =
 
 stamped-at : (C M : ℕ) (x b b' w : List ℕ) → Header w → PutText 128 32 x b b' → isStamp x ≡ true
     → placeIn C M (set (set w 5 (length x)) 4 0) b' ≡ withSession (apply C M (setCreatedAt x) (sessionOf C M w b)) (placeIn C M w b)
-unfolding placeIn sessionOf nextOutOf flightOf durableOf stampOf marksOf keyOf apply
+unfolding placeIn sessionOf nextOutOf storedFlight durableOf stampOf marksOf storedKey apply
 stamped-at C M x b b' w (header a0 a1 a2 a3 a4 a5 a6 a7 a8 a9 a10 a11 a12 a13 ws) p t =
     let v : List ℕ = a0 ∷ a1 ∷ a2 ∷ a3 ∷ a4 ∷ a5 ∷ a6 ∷ a7 ∷ a8 ∷ a9 ∷ a10 ∷ a11 ∷ a12 ∷ a13 ∷ ws in
     let s : orNone (isStamp (field b' 128 32 (length x))) (field b' 128 32 (length x)) ≡ x =
@@ -162,7 +162,7 @@ stamped-at C M x b b' w (header a0 a1 a2 a3 a4 a5 a6 a7 a8 a9 a10 a11 a12 a13 ws
           stamp = s i;
           nextOut = max a0 1;
           nextIn = a1;
-          inFlight = flightOf v;
+          inFlight = storedFlight v;
           marks = marks-kept 128 160 v b b' (p .only) (inr (omega arith)) i;
           messages = logOf C M (max a0 1) ws (only-after 128 160 224 b b' (p .only) (omega arith) i);
         };
@@ -177,7 +177,7 @@ stamped C M x b b' w h p t = stamped-at C M x b b' w (header-of w h) p t ∙ unm
 
 marks-set-at : (C M : ℕ) (x b b' w : List ℕ) → Header w → PutText 160 64 x b b' → isMarks x ≡ true
     → placeIn C M (set (set w 6 (length x)) 4 0) b' ≡ withSession (apply C M (setMarks x) (sessionOf C M w b)) (placeIn C M w b)
-unfolding placeIn sessionOf nextOutOf flightOf durableOf stampOf marksOf keyOf apply
+unfolding placeIn sessionOf nextOutOf storedFlight durableOf stampOf marksOf storedKey apply
 marks-set-at C M x b b' w (header a0 a1 a2 a3 a4 a5 a6 a7 a8 a9 a10 a11 a12 a13 ws) p t =
     let v : List ℕ = a0 ∷ a1 ∷ a2 ∷ a3 ∷ a4 ∷ a5 ∷ a6 ∷ a7 ∷ a8 ∷ a9 ∷ a10 ∷ a11 ∷ a12 ∷ a13 ∷ ws in
     let s : orNone (isMarks (field b' 160 64 (length x))) (field b' 160 64 (length x)) ≡ x =
@@ -189,7 +189,7 @@ marks-set-at C M x b b' w (header a0 a1 a2 a3 a4 a5 a6 a7 a8 a9 a10 a11 a12 a13 
           stamp = stamp-kept 160 224 v b b' (p .only) (inl (omega arith)) i;
           nextOut = max a0 1;
           nextIn = a1;
-          inFlight = flightOf v;
+          inFlight = storedFlight v;
           marks = s i;
           messages = logOf C M (max a0 1) ws (only-after 160 224 224 b b' (p .only) (omega arith) i);
         };

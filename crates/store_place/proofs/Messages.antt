@@ -6,8 +6,8 @@ use native.Mathlib.Omega.{arith}
 use lib.ListN.{length, take, drop, length-drop}
 use lib.Seq.{take-all, drop-drop}
 use Rattle.model_session.specs.Summary.{lastOut}
-use Rattle.store_log.specs.Log.{msg, logOf, restOf, lastOf, Stands, From, Read}
-use Rattle.store_place.specs.Place.{nextOutOf, sessionOf, restIn, StandsIn, FromIn, ReadIn}
+use Rattle.store_log.specs.Log.{msg, logOf, restOf, lastOf, Position, From, NextMessage}
+use Rattle.store_place.specs.Place.{nextOutOf, sessionOf, restIn, PositionIn, FromIn, NextMessageIn}
 
 -- a slice from a on, as it is lent
 pub tail-is : (a : ℕ) (l : List ℕ) → take (length l - a) (drop a l) ≡ drop a l
@@ -38,22 +38,22 @@ module _ (C M : ℕ) (w b : List ℕ) (lb : length b ≡ 224 + C) (next : ℕ) (
   last-in n r e = e ∙ (λ i. lastOf (en i) n (logOf (ring-length i) M (en i) (ew i) (eb i)))
 
   pub from-in : (low left dist : ℕ) → From (length mb) M next low mw mb left dist → FromIn C M low w b left dist
-  unfolding StandsIn restIn sessionOf
+  unfolding PositionIn restIn sessionOf
   from-in low left dist f =
       let g : From C M (nextOutOf w) low (drop 14 w) (drop 224 b) left dist =
       moved (λ c n v r. From c M n low v r left dist) ring-length en ew eb f in
       record { stands = g .stands; is = g .is }
 
-  pub stands-out : (left dist : ℕ) → StandsIn C M w b left dist → Stands (length mb) M next mw mb left dist
-  unfolding StandsIn
-  stands-out left dist s = moved (λ c n v r. Stands c M n v r left dist) (sym ring-length) (sym en) (sym ew) (sym eb) s
+  pub stands-out : (left dist : ℕ) → PositionIn C M w b left dist → Position (length mb) M next mw mb left dist
+  unfolding PositionIn
+  stands-out left dist s = moved (λ c n v r. Position c M n v r left dist) (sym ring-length) (sym en) (sym ew) (sym eb) s
 
-  pub read-in : (left dist number start first rest left' dist' : ℕ) → Read (length mb) M next mw mb left dist number start first rest left' dist'
-      → ReadIn C M w b left dist number (224 + start) first rest left' dist'
-  unfolding StandsIn restIn
+  pub read-in : (left dist number start first rest left' dist' : ℕ) → NextMessage (length mb) M next mw mb left dist number start first rest left' dist'
+      → NextMessageIn C M w b left dist number (224 + start) first rest left' dist'
+  unfolding PositionIn restIn
   read-in left dist number start first rest left' dist' f =
-      let g : Read C M (nextOutOf w) (drop 14 w) (drop 224 b) left dist number start first rest left' dist' =
-      moved (λ c n v r. Read c M n v r left dist number start first rest left' dist') ring-length en ew eb f in
+      let g : NextMessage C M (nextOutOf w) (drop 14 w) (drop 224 b) left dist number start first rest left' dist' =
+      moved (λ c n v r. NextMessage c M n v r left dist number start first rest left' dist') ring-length en ew eb f in
       record {
         is = g .is ∙ ap (λ (l : List ℕ). msg number (take first l ++ take rest (drop 224 b)) ∷ restOf C M (nextOutOf w) (drop 14 w) (drop 224 b) left') (drop-drop start 224 b);
         stands = g .stands;

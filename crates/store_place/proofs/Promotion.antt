@@ -11,7 +11,7 @@ use lib.Dec.{leb, ltb, eqb}
 use lib.ListN.{length, take, drop, getD, set, length-append, length-take, length-drop}
 use lib.Seq.{length-take-le, take-take, drop-set-add, take-suc-set, getD-take, getD-drop, take-all}
 use borrow.Rule.Slice.PartMut.{midOf, putMid}
-use Rattle.model_text.specs.Printable.{isPlain, allPlain, isMarks, isPrintable}
+use Rattle.model_text.specs.Printable.{isPrintableByte, allPrintable, isMarks, isPrintable}
 use Rattle.model_text.proofs.Formed.{and-l, and-r}
 use Rattle.model_text.proofs.Laws.{marks-is}
 use Rattle.model_session.specs.Session.{top}
@@ -19,7 +19,7 @@ use Rattle.model_standby.specs.Store.{onStored, withB, takenOver}
 use Rattle.store_log.specs.Log.{logOf}
 use Rattle.store_log.proofs.Walk.{cmp}
 use Rattle.store_place.specs.Only.{Only}
-use Rattle.store_place.specs.Place.{nextOutOf, flightOf, durableOf, field, stampOf, marksOf, keyOf, sessionOf, placeIn, endsInB}
+use Rattle.store_place.specs.Place.{nextOutOf, storedFlight, durableOf, field, stampOf, marksOf, storedKey, sessionOf, placeIn, endsInB}
 use Rattle.store_place.proofs.Header.{Header, header, header-of}
 use Rattle.store_place.proofs.Fields.{only-set, only-wider, only-after}
 use Rattle.store_place.proofs.Texts.{orNone}
@@ -78,17 +78,17 @@ module _ (b : List ℕ) (n : ℕ) (h : 224 ≤ length b) (k : n ≤ 64) where
 
 -- ---- marks stay marks
 
-plain-take : (n : ℕ) (m : List ℕ) → allPlain m ≡ true → allPlain (take n m) ≡ true
+plain-take : (n : ℕ) (m : List ℕ) → allPrintable m ≡ true → allPrintable (take n m) ≡ true
 plain-take zero m e = refl
 plain-take (suc n) [] e = refl
-plain-take (suc n) (x ∷ m) e = λ i. and-l (isPlain x) (allPlain m) e i && plain-take n m (and-r (isPlain x) (allPlain m) e) i
+plain-take (suc n) (x ∷ m) e = λ i. and-l (isPrintableByte x) (allPrintable m) e i && plain-take n m (and-r (isPrintableByte x) (allPrintable m) e) i
 
-plain-snoc : (m : List ℕ) → allPlain m ≡ true → allPlain (m ++ (66 ∷ [])) ≡ true
-unfolding isPlain
+plain-snoc : (m : List ℕ) → allPrintable m ≡ true → allPrintable (m ++ (66 ∷ [])) ≡ true
+unfolding isPrintableByte
 plain-snoc [] e = refl
-plain-snoc (x ∷ m) e = λ i. and-l (isPlain x) (allPlain m) e i && plain-snoc m (and-r (isPlain x) (allPlain m) e) i
+plain-snoc (x ∷ m) e = λ i. and-l (isPrintableByte x) (allPrintable m) e i && plain-snoc m (and-r (isPrintableByte x) (allPrintable m) e) i
 
-marks-by : (m : List ℕ) → length m ≤ 64 → allPlain m ≡ true → isMarks m ≡ true
+marks-by : (m : List ℕ) → length m ≤ 64 → allPrintable m ≡ true → isMarks m ≡ true
 unfolding isMarks isPrintable
 marks-by m h p = simp (le-leb 0 (length m) (omega arith), le-leb (length m) 64 h) p
 
@@ -129,7 +129,7 @@ taken-at : (C M lag end out : ℕ) (b b' ys w : List ℕ) → Header w → Only 
     → end ≤ 64 → take end (drop 160 b') ≡ withB (marksOf w b) → nextOutOf w ≤ top → out ≡ min (nextOutOf w + lag) top
     → ((later : ℕ) (r : List ℕ) → nextOutOf w ≤ later → logOf C M later ys r ≡ logOf C M (nextOutOf w) (drop 14 w) r)
     → placeIn C M (set (set (set (take 14 w ++ ys) 0 out) 6 end) 4 1) b' ≡ onStored (takenOver lag) (placeIn C M w b)
-unfolding placeIn sessionOf nextOutOf flightOf durableOf stampOf marksOf keyOf
+unfolding placeIn sessionOf nextOutOf storedFlight durableOf stampOf marksOf storedKey
 taken-at C M lag end out b b' ys w (header a0 a1 a2 a3 a4 a5 a6 a7 a8 a9 a10 a11 a12 a13 ws) o le em ht eo el =
     let v : List ℕ = a0 ∷ a1 ∷ a2 ∷ a3 ∷ a4 ∷ a5 ∷ a6 ∷ a7 ∷ a8 ∷ a9 ∷ a10 ∷ a11 ∷ a12 ∷ a13 ∷ ws in
     let next : ℕ = max a0 1 in
@@ -149,7 +149,7 @@ taken-at C M lag end out b b' ys w (header a0 a1 a2 a3 a4 a5 a6 a7 a8 a9 a10 a11
           stamp = stamp-kept 160 224 v b b' o (inl (omega arith)) i;
           nextOut = go i;
           nextIn = a1;
-          inFlight = flightOf v;
+          inFlight = storedFlight v;
           marks = s i;
           messages = ms i;
         };

@@ -15,7 +15,7 @@ use Rattle.model_frame.specs.Frame.{Key}
 use Rattle.model_session.specs.Session.{Session, Msg}
 use Rattle.model_session.specs.Summary.{numberedFrom}
 use Rattle.model_standby.specs.Store.{Place}
-use Rattle.store_log.specs.Log.{msg, logOf, restOf, Stands}
+use Rattle.store_log.specs.Log.{msg, logOf, restOf, Position}
 use Rattle.store_place.specs.PlaceByte
 use Rattle.store_place.specs.PlaceWord
 use Rattle.store_place.specs.declared.Flight.{Flight}
@@ -26,8 +26,8 @@ use Rattle.store_place.specs.Only.{Only}
 unfoldable pub nextOutOf : List ℕ → ℕ
 nextOutOf w = max (getD w PlaceWord.nextOut 0) 1
 
-unfoldable pub flightOf : List ℕ → Option ℕ
-flightOf w = cond (eqb (getD w PlaceWord.hasInFlight 0) 0) none (some (getD w PlaceWord.inFlight 0))
+unfoldable pub storedFlight : List ℕ → Option ℕ
+storedFlight w = cond (eqb (getD w PlaceWord.hasInFlight 0) 0) none (some (getD w PlaceWord.inFlight 0))
 
 unfoldable pub durableOf : List ℕ → Bool
 durableOf w = not (eqb (getD w PlaceWord.durable 0) 0)
@@ -43,8 +43,8 @@ stampOf w b = cond (isStamp (field b PlaceByte.stamp PlaceByte.stampSize (getD w
 unfoldable pub marksOf : List ℕ → List ℕ → List ℕ
 marksOf w b = cond (isMarks (field b PlaceByte.marks PlaceByte.marksSize (getD w PlaceWord.marksLength 0))) (field b PlaceByte.marks PlaceByte.marksSize (getD w PlaceWord.marksLength 0)) []
 
-unfoldable pub keyOf : List ℕ → List ℕ → Key
-keyOf w b =
+unfoldable pub storedKey : List ℕ → List ℕ → Key
+storedKey w b =
     record {
       begin = field b PlaceByte.begin PlaceByte.keyTextSize (getD w PlaceWord.beginLength 0);
       sender = field b PlaceByte.sender PlaceByte.keyTextSize (getD w PlaceWord.senderLength 0);
@@ -59,13 +59,13 @@ sessionOf C M w b =
       stamp = stampOf w b;
       nextOut = nextOutOf w;
       nextIn = getD w PlaceWord.nextIn 0;
-      inFlight = flightOf w;
+      inFlight = storedFlight w;
       marks = marksOf w b;
       messages = logOf C M (nextOutOf w) (drop PlaceWord.log w) (drop PlaceByte.ring b);
     }
 
 unfoldable pub placeIn : ℕ → ℕ → List ℕ → List ℕ → Place
-placeIn C M w b = record { key = keyOf w b; stored = record { session = sessionOf C M w b; durable = durableOf w } }
+placeIn C M w b = record { key = storedKey w b; stored = record { session = sessionOf C M w b; durable = durableOf w } }
 
 -- a key by its four texts
 abbrev pub keyFrom : List ℕ → List ℕ → List ℕ → List ℕ → Key
@@ -76,18 +76,18 @@ keyFrom begin sender target suffix = record { begin = begin; sender = sender; ta
 unfoldable pub restIn : ℕ → ℕ → List ℕ → List ℕ → ℕ → List Msg
 restIn C M w b left = restOf C M (nextOutOf w) (drop PlaceWord.log w) (drop PlaceByte.ring b) left
 
-unfoldable pub StandsIn : ℕ → ℕ → List ℕ → List ℕ → ℕ → ℕ → Type 0
-StandsIn C M w b left dist = Stands C M (nextOutOf w) (drop PlaceWord.log w) (drop PlaceByte.ring b) left dist
+unfoldable pub PositionIn : ℕ → ℕ → List ℕ → List ℕ → ℕ → ℕ → Type 0
+PositionIn C M w b left dist = Position C M (nextOutOf w) (drop PlaceWord.log w) (drop PlaceByte.ring b) left dist
 
 -- the place where the messages with numbers from low begin
 pub record FromIn (C M low : ℕ) (w b : List ℕ) (left dist : ℕ) : Type 0 where
-  pub stands : StandsIn C M w b left dist
+  pub stands : PositionIn C M w b left dist
   pub is : restIn C M w b left ≡ numberedFrom low (sessionOf C M w b .messages)
 
 -- the next message: its number, its bytes in two parts of the place's bytes, and the place after it
-pub record ReadIn (C M : ℕ) (w b : List ℕ) (left dist number start first rest left' dist' : ℕ) : Type 0 where
+pub record NextMessageIn (C M : ℕ) (w b : List ℕ) (left dist number start first rest left' dist' : ℕ) : Type 0 where
   pub is : restIn C M w b left ≡ msg number (take first (drop start b) ++ take rest (drop PlaceByte.ring b)) ∷ restIn C M w b left'
-  pub stands : StandsIn C M w b left' dist'
+  pub stands : PositionIn C M w b left' dist'
   pub inside : start + first ≤ PlaceByte.ring + C
   pub front : rest ≤ C
   pub fewer : left' + 1 ≡ left

@@ -10,7 +10,7 @@ ghost use Rattle.model_frame.specs.Frame.{Key, Change, setIncoming, setIncoming
 ghost use Rattle.model_session.specs.Summary.{lastOut};
 ghost use Rattle.model_standby.specs.Store.{Place, onStored, changed, markDurable, takenOver, newPlace, sameBytes, sameKey, withB};
 ghost use Rattle.store_place.specs.Only.{Only};
-ghost use Rattle.store_place.specs.Place.{nextOutOf, flightOf, durableOf, field, stampOf, marksOf, keyOf, sessionOf, placeIn, flightIs, PutText, endsInB, keyFrom, StandsIn, FromIn, ReadIn};
+ghost use Rattle.store_place.specs.Place.{nextOutOf, storedFlight, durableOf, field, stampOf, marksOf, storedKey, sessionOf, placeIn, flightIs, PutText, endsInB, keyFrom, PositionIn, FromIn, NextMessageIn};
 use store_log::Cursor;
 use store_log::Found;
 
@@ -100,7 +100,7 @@ pub fn next_incoming(words: &[u64]) -> u64
 
 pub fn in_flight(words: &[u64]) -> Flight
     requires { ⌜ 16 ≤ length (now words) ⌝ }
-    ensures { λ r. ⌜ flightIs r ≡ flightOf (now (words .entry)) ⌝ }
+    ensures { λ r. ⌜ flightIs r ≡ storedFlight (now (words .entry)) ⌝ }
 {
     if words[word::HAS_IN_FLIGHT] == 0 {
         return Flight::Nothing;
@@ -395,7 +395,7 @@ pub fn has_key(
 ) -> bool
     requires { ⌜ 16 ≤ length (now words) ⌝ }
     requires { ⌜ 224 ≤ length (now bytes) ⌝ }
-    ensures { λ r. ⌜ r ≡ sameKey (keyFrom (now (begin .entry)) (now (sender .entry)) (now (target .entry)) (now (suffix .entry))) (keyOf (now (words .entry)) (now (bytes .entry))) ⌝ }
+    ensures { λ r. ⌜ r ≡ sameKey (keyFrom (now (begin .entry)) (now (sender .entry)) (now (target .entry)) (now (suffix .entry))) (storedKey (now (words .entry)) (now (bytes .entry))) ⌝ }
 {
     same_field(bytes, byte::BEGIN, words[word::BEGIN_LEN], begin)
         & (same_field(bytes, byte::SENDER, words[word::SENDER_LEN], sender)
@@ -430,9 +430,9 @@ pub fn messages_from(words: &[u64], bytes: &[u8], max: usize, low: u64) -> Curso
 pub fn message_at(words: &[u64], bytes: &[u8], max: usize, left: usize, dist: usize) -> Found
     requires { ⌜ 16 + 2 * max ≤ length (now words) ⌝ }
     requires { ⌜ 224 ≤ length (now bytes) ⌝ }
-    requires { ⌜ StandsIn (length (now bytes) - 224) max (now words) (now bytes) left dist ⌝ }
+    requires { ⌜ PositionIn (length (now bytes) - 224) max (now words) (now bytes) left dist ⌝ }
     requires { ⌜ 1 ≤ left ⌝ }
-    ensures { λ r. ⌜ ((C : ℕ) → length (now (bytes .entry)) ≡ 224 + C → ReadIn C max (now (words .entry)) (now (bytes .entry)) left dist (r .number) (r .start) (r .first) (r .rest) (r .left) (r .dist)) ⌝ }
+    ensures { λ r. ⌜ ((C : ℕ) → length (now (bytes .entry)) ≡ 224 + C → NextMessageIn C max (now (words .entry)) (now (bytes .entry)) left dist (r .number) (r .start) (r .first) (r .rest) (r .left) (r .dist)) ⌝ }
 {
     let next = next_outgoing(words);
     let f = store_log::message_at(

@@ -13,7 +13,7 @@ use Rattle.model_standby.specs.Store.{newPlace}
 use Rattle.store_place.specs.Place.{placeIn}
 use Rattle.store_place.proofs.Fields.{only-set}
 use Rattle.store_areas.specs.declared.Shape.{Shape}
-use Rattle.store_areas.specs.Areas.{placeWords, placeBytes, wordsAt, bytesAt, SpotIn, Rules, part, placeAt, countUp, placesOf}
+use Rattle.store_areas.specs.Areas.{placeWords, placeBytes, wordsAt, bytesAt, SpotIn, Rules, slice, placeAt, countUp, placesOf}
 use Rattle.store_areas.proofs.Lists.{count-same, count-snoc, part-kept}
 use Rattle.store_areas.proofs.Lifting.{Put, spot-put, count-kept, other-place, rules-kept-by}
 use Rattle.store_sessions.specs.Answers.{Opened}
@@ -45,7 +45,7 @@ module _ (s : Shape) (w b : List ℕ) (r : Rules s w b) (h : getD w 0 0 < s .pla
 
   same-place : (j : ℕ) → placeAt s w1 b j ≡ placeAt s w b j
   unfolding placeAt
-  same-place j = ap (λ (x : List ℕ). placeIn (s .bytes) (s .messages) x (part (bytesAt s j) (placeBytes s) b)) (part-kept 0 1 (wordsAt s j) (placeWords s) w w1 (only-set 0 (n + 1) w) (inr (omega arith)))
+  same-place j = ap (λ (x : List ℕ). placeIn (s .bytes) (s .messages) x (slice (bytesAt s j) (placeBytes s) b)) (part-kept 0 1 (wordsAt s j) (placeWords s) w w1 (only-set 0 (n + 1) w) (inr (omega arith)))
 
   pub opened : (k : Key) (wa we ba be : ℕ) (x y : List ℕ) → SpotIn s n w1 b wa we ba be → length x ≡ length (midOf wa (we - wa) w1) → length y ≡ length (midOf ba (be - ba) b)
       → placeIn (s .bytes) (s .messages) x y ≡ newPlace k → Opened s k w (putMid wa (we - wa) w1 x) b (putMid ba (be - ba) b y)

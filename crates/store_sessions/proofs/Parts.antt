@@ -13,14 +13,14 @@ use Rattle.model_session.specs.Session.{Session}
 use Rattle.model_session.specs.Summary.{lastOut, summary}
 use Rattle.model_standby.specs.Store.{Place, sameKey, sessionAt}
 use Rattle.store_log.specs.Log.{msg}
-use Rattle.store_place.specs.Place.{flightIs, keyOf, sessionOf, placeIn, restIn, StandsIn, FromIn, ReadIn}
+use Rattle.store_place.specs.Place.{flightIs, storedKey, sessionOf, placeIn, restIn, PositionIn, FromIn, NextMessageIn}
 use Rattle.store_areas.specs.declared.Shape.{Shape}
-use Rattle.store_areas.specs.Areas.{placeWords, placeBytes, wordsAt, bytesAt, allowed, Rules, SpotIn, part, placeAt, placesOf}
+use Rattle.store_areas.specs.Areas.{placeWords, placeBytes, wordsAt, bytesAt, allowed, Rules, SpotIn, slice, placeAt, placesOf}
 use Rattle.store_areas.proofs.Lifting.{spot-place, spot-words-part, spot-bytes-part, session-is, places-length}
 use Rattle.store_state.specs.Answers.{TextAt}
 use Rattle.store_state.specs.declared.Summary.{Summary}
 use Rattle.store_state.proofs.Reading.{part-of}
-use Rattle.store_sessions.specs.Answers.{summaryIs, summarisedIn, restAt, StandsAt, FromAt, ReadAt}
+use Rattle.store_sessions.specs.Answers.{summaryIs, summarisedIn, restAt, PositionAt, FromAt, NextMessageAt}
 
 module _ (s : Shape) (i wa we ba be : ℕ) (w b : List ℕ) (at : SpotIn s i w b wa we ba be) (r : Rules s w b) (h : i < getD w 0 0) where
   abbrev mw : List ℕ
@@ -30,10 +30,10 @@ module _ (s : Shape) (i wa we ba be : ℕ) (w b : List ℕ) (at : SpotIn s i w b
   mb = midOf ba (be - ba) b
 
   abbrev pw : List ℕ
-  pw = part (wordsAt s i) (placeWords s) w
+  pw = slice (wordsAt s i) (placeWords s) w
 
   abbrev pb : List ℕ
-  pb = part (bytesAt s i) (placeBytes s) b
+  pb = slice (bytesAt s i) (placeBytes s) b
 
   ew : mw ≡ pw
   ew = spot-words-part s i wa we ba be (at .at) w b r h
@@ -41,7 +41,7 @@ module _ (s : Shape) (i wa we ba be : ℕ) (w b : List ℕ) (at : SpotIn s i w b
   eb : mb ≡ pb
   eb = spot-bytes-part s i wa we ba be (at .at) w b r h
 
-  pub key-same : (t : Bool) (k : Key) → t ≡ sameKey k (keyOf mw mb) → t ≡ sameKey k (placeAt s w b i .key)
+  pub key-same : (t : Bool) (k : Key) → t ≡ sameKey k (storedKey mw mb) → t ≡ sameKey k (placeAt s w b i .key)
   unfolding placeIn
   key-same t k e = e ∙ ap (λ (p : Place). sameKey k (p .key)) (spot-place s i wa we ba be (at .at) w b r h)
 
@@ -50,20 +50,20 @@ module _ (s : Shape) (i wa we ba be : ℕ) (w b : List ℕ) (at : SpotIn s i w b
   last-is n x e = e ∙ ap (λ (p : Place). lastOut (p .stored .session) n) (spot-place s i wa we ba be (at .at) w b r h)
 
   pub from-at : (low left dist : ℕ) → FromIn (s .bytes) (s .messages) low mw mb left dist → FromAt s w b i low left dist
-  unfolding StandsAt restAt placeAt placeIn
+  unfolding PositionAt restAt placeAt placeIn
   from-at low left dist f =
       let g : FromIn (s .bytes) (s .messages) low pw pb left dist = subst₂ (λ x y. FromIn (s .bytes) (s .messages) low x y left dist) ew eb f in
       record { stands = g .stands; is = g .is }
 
-  pub stands-in : (left dist : ℕ) → StandsAt s w b i left dist → StandsIn (length mb - 224) (s .messages) mw mb left dist
-  unfolding StandsAt
+  pub stands-in : (left dist : ℕ) → PositionAt s w b i left dist → PositionIn (length mb - 224) (s .messages) mw mb left dist
+  unfolding PositionAt
   stands-in left dist g =
       let c : s .bytes ≡ length mb - 224 = omega (arith, at .bytes-part) in
-      subst (λ (x : ℕ). StandsIn x (s .messages) mw mb left dist) c (subst₂ (λ x y. StandsIn (s .bytes) (s .messages) x y left dist) (sym ew) (sym eb) g)
+      subst (λ (x : ℕ). PositionIn x (s .messages) mw mb left dist) c (subst₂ (λ x y. PositionIn (s .bytes) (s .messages) x y left dist) (sym ew) (sym eb) g)
 
-  pub read-at : (left dist number start first rest left' dist' : ℕ) → ReadIn (s .bytes) (s .messages) mw mb left dist number start first rest left' dist'
-      → ReadAt s w b i left dist number (ba + start) first (ba + 224) rest left' dist'
-  unfolding StandsAt restAt
+  pub read-at : (left dist number start first rest left' dist' : ℕ) → NextMessageIn (s .bytes) (s .messages) mw mb left dist number start first rest left' dist'
+      → NextMessageAt s w b i left dist number (ba + start) first (ba + 224) rest left' dist'
+  unfolding PositionAt restAt
   read-at left dist number start first rest left' dist' f =
       let long : length mb ≡ 224 + s .bytes = at .bytes-part in
       let front : take first (drop start mb) ≡ take first (drop (ba + start) b) = part-of s i wa we ba be w b at r h start first (omega (arith, f .inside, long)) in
@@ -72,7 +72,7 @@ module _ (s : Shape) (i wa we ba be : ℕ) (w b : List ℕ) (at : SpotIn s i w b
       record {
         is = subst₂ (λ x y. restIn (s .bytes) (s .messages) x y left ≡ msg number (take first (drop (ba + start) b) ++ take rest (drop (ba + 224) b)) ∷ restIn (s .bytes) (s .messages) x y left') ew eb
             (f .is ∙ (λ j. msg number (front j ++ again j) ∷ restIn (s .bytes) (s .messages) mw mb left'));
-        stands = subst₂ (λ x y. StandsIn (s .bytes) (s .messages) x y left' dist') ew eb (f .stands);
+        stands = subst₂ (λ x y. PositionIn (s .bytes) (s .messages) x y left' dist') ew eb (f .stands);
         inside = omega (arith, f .inside, ends, at .bytes-end);
         inside-again = omega (arith, f .front, ends, at .bytes-end);
         fewer = f .fewer;

@@ -12,10 +12,10 @@ use Rattle.model_session.specs.Summary.{numberedFrom, summary}
 use Rattle.model_standby.specs.Store.{Place, placeOf, sessionAt, newPlace, onPlaces, takenOver}
 use Rattle.store_log.specs.Log.{msg}
 use Rattle.store_place.specs.Only.{Only}
-use Rattle.store_place.specs.Place.{flightIs, restIn, StandsIn}
+use Rattle.store_place.specs.Place.{flightIs, restIn, PositionIn}
 use Rattle.store_areas.specs.StoreWord
 use Rattle.store_areas.specs.declared.Shape.{Shape}
-use Rattle.store_areas.specs.Areas.{placeWords, placeBytes, wordsAt, bytesAt, allowed, part, placeAt, placesOf}
+use Rattle.store_areas.specs.Areas.{placeWords, placeBytes, wordsAt, bytesAt, allowed, slice, placeAt, placesOf}
 use Rattle.store_state.specs.declared.Summary.{Summary}
 use Rattle.store_sessions.specs.declared.Sought.{Sought}
 use Rattle.store_sessions.specs.declared.Sought
@@ -66,20 +66,20 @@ summarisedIn s w b i n = cond (allowed s w b) (Option·map (λ (x : Session). su
 -- ---- reading messages: from a place in the log, `left` are still to be read, `dist` bytes together
 
 unfoldable pub restAt : Shape → List ℕ → List ℕ → ℕ → ℕ → List Msg
-restAt s w b i left = restIn (s .bytes) (s .messages) (part (wordsAt s i) (placeWords s) w) (part (bytesAt s i) (placeBytes s) b) left
+restAt s w b i left = restIn (s .bytes) (s .messages) (slice (wordsAt s i) (placeWords s) w) (slice (bytesAt s i) (placeBytes s) b) left
 
-unfoldable pub StandsAt : Shape → List ℕ → List ℕ → ℕ → ℕ → ℕ → Type 0
-StandsAt s w b i left dist = StandsIn (s .bytes) (s .messages) (part (wordsAt s i) (placeWords s) w) (part (bytesAt s i) (placeBytes s) b) left dist
+unfoldable pub PositionAt : Shape → List ℕ → List ℕ → ℕ → ℕ → ℕ → Type 0
+PositionAt s w b i left dist = PositionIn (s .bytes) (s .messages) (slice (wordsAt s i) (placeWords s) w) (slice (bytesAt s i) (placeBytes s) b) left dist
 
 -- the place where the messages with numbers from low begin
 pub record FromAt (s : Shape) (w b : List ℕ) (i low left dist : ℕ) : Type 0 where
-  pub stands : StandsAt s w b i left dist
+  pub stands : PositionAt s w b i left dist
   pub is : restAt s w b i left ≡ numberedFrom low (placeAt s w b i .stored .session .messages)
 
 -- the next message: its number, its bytes in two parts of the byte area, and the place after it
-pub record ReadAt (s : Shape) (w b : List ℕ) (i left dist number at first again rest left' dist' : ℕ) : Type 0 where
+pub record NextMessageAt (s : Shape) (w b : List ℕ) (i left dist number at first again rest left' dist' : ℕ) : Type 0 where
   pub is : restAt s w b i left ≡ msg number (take first (drop at b) ++ take rest (drop again b)) ∷ restAt s w b i left'
-  pub stands : StandsAt s w b i left' dist'
+  pub stands : PositionAt s w b i left' dist'
   pub inside : at + first ≤ length b
   pub inside-again : again + rest ≤ length b
   pub fewer : left' + 1 ≡ left

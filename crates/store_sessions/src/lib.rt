@@ -8,7 +8,7 @@ ghost use Rattle.model_session.specs.Summary.{lastOut, summary};
 ghost use Rattle.model_standby.specs.Store.{sameKey, placeOf};
 ghost use Rattle.store_place.specs.Place.{keyFrom};
 ghost use Rattle.store_areas.specs.Areas.{Rules, placeAt, placesOf};
-ghost use Rattle.store_sessions.specs.Answers.{soughtIs, soughtIn, Opened, TakenOver, summaryIs, summarisedIs, summarisedIn, StandsAt, FromAt, ReadAt};
+ghost use Rattle.store_sessions.specs.Answers.{soughtIs, soughtIn, Opened, TakenOver, summaryIs, summarisedIs, summarisedIn, PositionAt, FromAt, NextMessageAt};
 use store_areas::Shape;
 use store_areas::word;
 use store_log::Cursor;
@@ -244,9 +244,9 @@ pub fn message_at(
 ) -> Message
     requires { ⌜ Rules shape (now words) (now bytes) ⌝ }
     requires { ⌜ i < getD (now words) 0 0 ⌝ }
-    requires { ⌜ StandsAt shape (now words) (now bytes) i left dist ⌝ }
+    requires { ⌜ PositionAt shape (now words) (now bytes) i left dist ⌝ }
     requires { ⌜ 1 ≤ left ⌝ }
-    ensures { λ r. ⌜ ReadAt shape (now (words .entry)) (now (bytes .entry)) i left dist (r .number) (r .at) (r .first) (r .again) (r .rest) (r .left) (r .dist) ⌝ }
+    ensures { λ r. ⌜ NextMessageAt shape (now (words .entry)) (now (bytes .entry)) i left dist (r .number) (r .at) (r .first) (r .again) (r .rest) (r .left) (r .dist) ⌝ }
 {
     let p = store_areas::spot_in(words, bytes, shape, i);
     let wa = p.wa;

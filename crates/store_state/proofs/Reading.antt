@@ -8,7 +8,7 @@ use lib.Seq.{drop-drop}
 use borrow.Rule.Slice.PartMut.{midOf, putMid, set-mid-at}
 use Rattle.model_standby.specs.Store.{Place}
 use Rattle.store_log.proofs.Spans.{within}
-use Rattle.store_place.specs.Place.{nextOutOf, flightOf, durableOf, stampOf, marksOf, sessionOf, placeIn}
+use Rattle.store_place.specs.Place.{nextOutOf, storedFlight, durableOf, stampOf, marksOf, sessionOf, placeIn}
 use Rattle.store_areas.specs.declared.Shape.{Shape}
 use Rattle.store_areas.specs.Areas.{wordsAt, Rules, SpotIn, placeAt}
 use Rattle.store_areas.proofs.Lifting.{spot-place}
@@ -32,7 +32,7 @@ module _ (s : Shape) (i wa we ba be : ℕ) (w b : List ℕ) (at : SpotIn s i w b
   unfolding placeIn sessionOf
   in-is = ap (λ (p : Place). p .stored .session .nextIn) lent
 
-  pub flight-is : flightOf mw ≡ placeAt s w b i .stored .session .inFlight
+  pub flight-is : storedFlight mw ≡ placeAt s w b i .stored .session .inFlight
   unfolding placeIn sessionOf
   flight-is = ap (λ (p : Place). p .stored .session .inFlight) lent
 

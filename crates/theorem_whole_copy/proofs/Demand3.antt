@@ -24,7 +24,7 @@ use Rattle.active.specs.declared.Sent.{Sent}
 use Rattle.active.specs.Whole.{SendsWhole, Sofar, SentWhole}
 use Rattle.standby_state.specs.declared.Settings.{Settings}
 use Rattle.standby_step.specs.Calls.{roomAll}
-use Rattle.theorem_whole_copy.specs.Demand.{Lent, stands, settings, Runs, First, Start, framesOfA, Claim}
+use Rattle.theorem_whole_copy.specs.Demand.{Lent, standsFor, settings, Runs, First, Start, framesOfA, Claim}
 use Rattle.theorem_whole_copy.proofs.Model.{runs, modelled}
 
 run-append : (L : state.Settings) (st : Standby) (cs more : List Call) → run L (run L st cs) more ≡ run L st (cs ++ more)
@@ -36,12 +36,12 @@ module _ (s : Settings) (limit : ℕ) (A B : Session) (k : OwnKey) (h : ℕ) (b 
   L = settings s x
 
   abbrev st : Standby
-  st = stands s x
+  st = standsFor s x
 
   rules : Rules (s .shape) (x .words) (x .bytes)
   rules = rules-of (s .shape) (x .words) (x .bytes) (both (allowed (s .shape) (x .words) (x .bytes)) _ (start .allowed) .0)
 
-  model-start : model.Start L limit A B k h b st
+  model-start : model.ModelStart L limit A B k h b st
   model-start = record {
     C-limit = rules .room .bytes-limit;
     M-limit = rules .room .messages-limit;
@@ -81,7 +81,7 @@ module _ (s : Settings) (limit : ℕ) (A B : Session) (k : OwnKey) (h : ℕ) (b 
     map-map [] = refl
     map-map (g ∷ gs) = ap (λ (cs : List Call). onFrameHeld (encode g) ∷ cs) (map-map gs)
 
-    reaches : {z : Lent} → Runs s x (map onFrameHeld fs) z → (gs : List Frame) → fs ≡ map encode gs → run L st (theorem.handed L (x .counters .epoch .0) gs) ≡ stands s z
+    reaches : {z : Lent} → Runs s x (map onFrameHeld fs) z → (gs : List Frame) → fs ≡ map encode gs → run L st (theorem.handed L (x .counters .epoch .0) gs) ≡ standsFor s z
     reaches r gs e =
         ap (run L st) (sym (ap (map onFrameHeld) e ∙ map-map gs)) ∙ runs s (roomAll (x .row) (x .holds)) r (start .allowed) refl st refl
 

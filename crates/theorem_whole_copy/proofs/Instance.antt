@@ -5,7 +5,7 @@ use mathlib.Core.List.{[], _∷_}
 use mathlib.Core.Option.{Option, Option·map}
 use native.Mathlib.Omega.{arith}
 use lib.ListN.{replicate}
-use Rattle.model_text.specs.Printable.{isPlain, isPrintable, isMarks}
+use Rattle.model_text.specs.Printable.{isPrintableByte, isPrintable, isMarks}
 use Rattle.model_session.specs.Session.{newSession, Holdable}
 use Rattle.model_session.specs.Whole.{wholeBatches}
 use Rattle.standby_row.specs.declared.Handle.{Handle}
@@ -47,7 +47,7 @@ rules₀ : Rules (s₀ .shape) (x₀ .words) (x₀ .bytes)
 rules₀ = record { room = record { bytes-limit = omega arith; messages-limit = omega arith; words-long = omega arith; bytes-long = omega arith }; used = omega arith; pending = omega arith }
 
 new-held : Holdable 0 0 newSession
-unfolding isMarks isPrintable isPlain
+unfolding isMarks isPrintable isPrintableByte
 new-held = record {
   stamp-ok = tt;
   out-low = omega arith;

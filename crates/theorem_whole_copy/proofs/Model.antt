@@ -19,7 +19,7 @@ use Rattle.standby_state.specs.Answers.{answerOf}
 use Rattle.standby_state.specs.Outcomes.{settingsOf}
 use Rattle.standby_step.specs.Steps.{roomOf}
 use Rattle.standby_step.specs.Calls.{roomAll}
-use Rattle.theorem_whole_copy.specs.Demand.{Lent, stands, Allowed, Calls, Runs, over, call, First, ends, ours, aside, flushes, drops, tookLast, AllTaken}
+use Rattle.theorem_whole_copy.specs.Demand.{Lent, standsFor, Allowed, Calls, Runs, noCalls, call, First, ends, ours, aside, flushes, drops, tookLast, AllTaken}
 
 module _ (s : Settings) (room : ℕ) where
   abbrev L : state.Settings
@@ -27,15 +27,15 @@ module _ (s : Settings) (room : ℕ) where
 
   -- a call from what x stands for
   record After (st : Standby) (c : Call) (y : Lent) (a : Answer) : Type 0 where
-    state : stands s y ≡ step L st c .state
+    state : standsFor s y ≡ step L st c .state
     answer : answerOf (y .bytes) a ≡ step L st c .answer
     allowed : Allowed s y
     same : roomAll (y .row) (y .holds) ≡ room
 
-  one : {x y : Lent} {c : Call} {a : Answer} → Allowed s x → roomAll (x .row) (x .holds) ≡ room → Calls s c x y a → (st : Standby) → stands s x ≡ st → After st c y a
+  one : {x y : Lent} {c : Call} {a : Answer} → Allowed s x → roomAll (x .row) (x .holds) ≡ room → Calls s c x y a → (st : Standby) → standsFor s x ≡ st → After st c y a
   one {x} {y} {c} {a} ok r p st e =
       let q = p .steps ok in
-      let is : _≡_ {A = Result} (record { state = stands s y; answer = answerOf (y .bytes) a }) (step L st c) = q .is ∙ (λ j. step (settingsOf s (r j)) (e j) c) in
+      let is : _≡_ {A = Result} (record { state = standsFor s y; answer = answerOf (y .bytes) a }) (step L st c) = q .is ∙ (λ j. step (settingsOf s (r j)) (e j) c) in
       record {
         state = ap (λ (t : Result). t .state) is;
         answer = ap (λ (t : Result). t .answer) is;
@@ -43,8 +43,8 @@ module _ (s : Settings) (room : ℕ) where
         same = (λ j. roomOf (q .holds-length j) (q .row-length j)) ∙ r;
       }
 
-  pub runs : {x z : Lent} {cs : List Call} → Runs s x cs z → Allowed s x → roomAll (x .row) (x .holds) ≡ room → (st : Standby) → stands s x ≡ st → run L st cs ≡ stands s z
-  runs over ok r st e = sym e
+  pub runs : {x z : Lent} {cs : List Call} → Runs s x cs z → Allowed s x → roomAll (x .row) (x .holds) ≡ room → (st : Standby) → standsFor s x ≡ st → run L st cs ≡ standsFor s z
+  runs noCalls ok r st e = sym e
   runs (call {c} p rest) ok r st e =
       let o = one ok r p st e in
       runs rest (o .allowed) (o .same) (step L st c .state) (o .state)
@@ -52,19 +52,19 @@ module _ (s : Settings) (room : ℕ) where
   module _ {e : ℕ} where
     pub record Modelled {left : List Frame} {x z : Lent} {cs : List Call} (d : First s e left x cs z) (st : Standby) : Type 0 where
       pub list : FirstList L e left st cs
-      pub took : model.tookLast list ≡ tookLast s d
-      pub taken : model.AllTaken list → AllTaken s d
-      pub ran : run L st cs ≡ stands s z
+      pub took : model.modelTookLast list ≡ tookLast s d
+      pub taken : model.ModelAllTaken list → AllTaken s d
+      pub ran : run L st cs ≡ standsFor s z
       pub allowed : Allowed s z
       pub same : roomAll (z .row) (z .holds) ≡ room
 
-    pub modelled : {left : List Frame} {x z : Lent} {cs : List Call} (d : First s e left x cs z) → Allowed s x → roomAll (x .row) (x .holds) ≡ room → (st : Standby) → stands s x ≡ st → Modelled d st
-    modelled ends ok r st i = record { list = model.ends; took = refl; taken = λ t. t; ran = sym i; allowed = ok; same = r }
+    pub modelled : {left : List Frame} {x z : Lent} {cs : List Call} (d : First s e left x cs z) → Allowed s x → roomAll (x .row) (x .holds) ≡ room → (st : Standby) → standsFor s x ≡ st → Modelled d st
+    modelled ends ok r st i = record { list = model.listEnds; took = refl; taken = λ t. t; ran = sym i; allowed = ok; same = r }
     modelled (ours {left} {c} hands p rest) ok r st i =
         let o = one ok r p st i in
         let m = modelled rest (o .allowed) (o .same) (step L st c .state) (o .state) in
         record {
-          list = model.ours hands (m .list);
+          list = model.oursNext hands (m .list);
           took = λ j. isEmpty left && accepted (sym (o .answer) j) || m .took j;
           taken = λ t. (subst (λ (a : answer.Answer). T (accepted a)) (sym (o .answer)) (t .0), m .taken (t .1));
           ran = m .ran;
@@ -74,20 +74,20 @@ module _ (s : Settings) (room : ℕ) where
     modelled (aside {c} {w} hands p q rest) ok r st i =
         let o = one ok r p st i in
         let m = modelled rest (o .allowed) (o .same) (step L st c .state) (o .state) in
-        record { list = model.aside hands (subst (Aside e w) (o .answer) q) (m .list); took = m .took; taken = m .taken; ran = m .ran; allowed = m .allowed; same = m .same }
+        record { list = model.asideNext hands (subst (Aside e w) (o .answer) q) (m .list); took = m .took; taken = m .taken; ran = m .ran; allowed = m .allowed; same = m .same }
     modelled (flushes n p rest) ok r st i =
         let o = one ok r p st i in
         let m = modelled rest (o .allowed) (o .same) (step L st (state.flush n) .state) (o .state) in
-        record { list = model.flushes n (m .list); took = m .took; taken = m .taken; ran = m .ran; allowed = m .allowed; same = m .same }
+        record { list = model.flushNext n (m .list); took = m .took; taken = m .taken; ran = m .ran; allowed = m .allowed; same = m .same }
     modelled (drops {x} n p rest) ok r st i =
         let o = one ok r p st i in
         let m = modelled rest (o .allowed) (o .same) (step L st (state.disconnectedFrom n) .state) (o .state) in
         record {
-          list = model.drops n (m .list);
+          list = model.dropNext n (m .list);
           took = m .took;
           taken = λ t.
-              go (eqb n (x .counters .connections)) (model.AllTaken (m .list)) (AllTaken s rest) (m .taken)
-              (subst (λ (u : Standby). cond (eqb n (u .counters .connections)) (Unit {0}) (model.AllTaken (m .list))) (sym i) t);
+              go (eqb n (x .counters .connections)) (model.ModelAllTaken (m .list)) (AllTaken s rest) (m .taken)
+              (subst (λ (u : Standby). cond (eqb n (u .counters .connections)) (Unit {0}) (model.ModelAllTaken (m .list))) (sym i) t);
           ran = m .ran;
           allowed = m .allowed;
           same = m .same;

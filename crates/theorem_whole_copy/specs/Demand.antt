@@ -21,7 +21,7 @@ use Rattle.model_standby.specs.Store.{sessionAt}
 use Rattle.model_standby.specs.State.{Bound, Standby, Call, flush, disconnectedFrom}
 use Rattle.model_standby.specs.State as state
 use Rattle.model_standby.specs.PlainCopy.{OwnKey, ownKey, copyAt, copyRun}
-use Rattle.model_standby.specs.Demand.{Hands, Aside, allPlain}
+use Rattle.model_standby.specs.Demand.{Hands, Aside, noPromotions}
 use Rattle.standby_state.specs.declared.Replica.{Replica}
 use Rattle.standby_state.specs.declared.Settings.{Settings}
 use Rattle.standby_state.specs.declared.Answer.{Answer}
@@ -39,8 +39,8 @@ pub record Lent : Type 0 where
 
 module _ (s : Settings) where
   -- what it stands for, and with which settings
-  abbrev pub stands : Lent → Standby
-  stands x = standbyOf s (x .counters) (x .row) (x .words) (x .bytes) (x .holds)
+  abbrev pub standsFor : Lent → Standby
+  standsFor x = standbyOf s (x .counters) (x .row) (x .words) (x .bytes) (x .holds)
 
   abbrev pub settings : Lent → state.Settings
   settings x = settingsOf s (roomAll (x .row) (x .holds))
@@ -55,7 +55,7 @@ module _ (s : Settings) where
 
   -- calls one after the other
   pub data Runs : Lent → List Call → Lent → Type 0 where
-    over : {x : Lent} → Runs x [] x
+    noCalls : {x : Lent} → Runs x [] x
     call : {x y z : Lent} {c : Call} {cs : List Call} {a : Answer} → Calls c x y a → Runs y cs z → Runs x (c ∷ cs) z
 
   -- the first list, of A's frames `left` being still to come: a prefix of these, "once each in order" as bytes; besides only frames of
@@ -90,9 +90,9 @@ module _ (s : Settings) where
     pub allowed : Allowed x
     pub A-held : Holdable (s .shape .bytes) (s .shape .messages) A
     pub unpromoted : x .counters .promoted ≡ false
-    pub bound-so : find h (stands x .handles) ≡ some b
-    pub is-B : sessionAt (stands x .places) (b .place) ≡ some B
-    pub its-key : ownKey (stands x .places) (b .place) ≡ some k
+    pub bound-so : find h (standsFor x .handles) ≡ some b
+    pub is-B : sessionAt (standsFor x .places) (b .place) ≡ some B
+    pub its-key : ownKey (standsFor x .places) (b .place) ≡ some k
     pub nothing-held : b .held ≡ []
     pub area : holdLength (s .shape .bytes) (s .shape .messages) ≤ roomAll (x .row) (x .holds)
     pub handle-u32 : h < 2 ^ 32
@@ -112,7 +112,7 @@ module _ (s : Settings) where
     -- the rules still hold
     pub still-allowed : Allowed z
     -- "after every further list the session is exactly that of the plain copy, fed both lists"
-    pub is-the-copy : (more : List Call) (y : Lent) → T (allPlain more) → Runs z more y
-        → sessionAt (placesOf (s .shape) (y .words) (y .bytes)) (b .place) ≡ some (copyRun (settings x) k (copyAt B (stands x)) (stands x) (cs ++ more) .session)
+    pub is-the-copy : (more : List Call) (y : Lent) → T (noPromotions more) → Runs z more y
+        → sessionAt (placesOf (s .shape) (y .words) (y .bytes)) (b .place) ≡ some (copyRun (settings x) k (copyAt B (standsFor x)) (standsFor x) (cs ++ more) .session)
     -- which after the first list was A or B likewise
-    pub copy-is-A-or-B : copyRun (settings x) k (copyAt B (stands x)) (stands x) cs .session ≡ cond (tookLast d) A B
+    pub copy-is-A-or-B : copyRun (settings x) k (copyAt B (standsFor x)) (standsFor x) cs .session ≡ cond (tookLast d) A B

@@ -5,7 +5,7 @@
 ghost use Prim.Native.Nat.{_+_, _≤_, _<_};
 ghost use lib.ListN.{length};
 ghost use Rattle.store_areas.specs.Areas.{Rules};
-ghost use Rattle.store_sessions.specs.Answers.{StandsAt};
+ghost use Rattle.store_sessions.specs.Answers.{PositionAt};
 use libc::STDIN_FILENO;
 use libc::STDOUT_FILENO;
 use std::num::wrapping_add_u64;

@@ -1,18 +1,18 @@
 use borrow.Author.Needs.{needs}
-use Rattle.model_frame.specs.Reading.{body}
+use Rattle.model_frame.specs.Reading.{readBody}
 use Rattle.base_laws.proofs.Places.{left-none, left-some}
 use Rattle.frame.proofs.body_from.Statement.{statement}
 use Rattle.frame.proofs.body_from.Tie as tie
 
 returns : tie.Need-returns
-unfolding body
+unfolding readBody
 returns c =
     let c1 = c .before in
     let c2 = c1 .before .before in
     (rw (← (c2 .fields-from .ensures .0), c1 .e .given .1), tt)
 
 returns-2 : tie.Need-returns-2
-unfolding body
+unfolding readBody
 returns-2 c =
     let c1 = c .before in
     let c2 = c1 .before .before in
@@ -20,7 +20,7 @@ returns-2 c =
     (rw (← (c3 .fields-from .ensures .0), c2 .f .given .1, left-none _ _ (c1 .left .ensures) (c .if1 .taken)), rw (c2 .f .given .1) at (c3 .fields-from .ensures .1))
 
 returns-3 : tie.Need-returns-3
-unfolding body
+unfolding readBody
 returns-3 c =
     let c1 = c .before in
     let c2 = c1 .before .before in

@@ -7,7 +7,7 @@ use denote.Ref.{now}
 use lib.Dec.{T}
 use Rattle.model_frame.specs.Bytes.{isBytes}
 use Rattle.model_frame.specs.Frame.{batch}
-use Rattle.model_frame.specs.Reading.{readChange, appRecord}
+use Rattle.model_frame.specs.Reading.{readChange, readAppRecord}
 use Rattle.model_frame.proofs.Le.{are-bytes}
 use Rattle.base_laws.proofs.Writes.{wrote-on}
 use Rattle.frame_op.specs.declared.RunLen
@@ -39,7 +39,7 @@ known x = are-bytes (srcOf x) (λ i. x .before .before .before .before .before .
 readyAt :
     (x : tie.After-m) →
     Ready (versionOf x) (read (versionOf x) (srcOf x) (x .before .before .before .before .before .before .before .before .before .args .ops) (x .before .before .before .before .before .before .before .before .before .args .records))
-    (batch (x .before .before .before .before .before .before .before .before .before .args .handle) (x .before .before .before .before .before .before .before .before .before .args .epoch) (x .before .before .before .before .before .before .before .before .before .args .commit) (partOf (x .before .before .before .before .before .before .before .before .before .args .part)) (runOf (readChange (versionOf x)) (srcOf x) (x .before .before .before .before .before .before .before .before .before .args .ops)) (runOf appRecord (srcOf x) (x .before .before .before .before .before .before .before .before .before .args .records)))
+    (batch (x .before .before .before .before .before .before .before .before .before .args .handle) (x .before .before .before .before .before .before .before .before .before .args .epoch) (x .before .before .before .before .before .before .before .before .before .args .commit) (partOf (x .before .before .before .before .before .before .before .before .before .args .part)) (runOf (readChange (versionOf x)) (srcOf x) (x .before .before .before .before .before .before .before .before .before .args .ops)) (runOf readAppRecord (srcOf x) (x .before .before .before .before .before .before .before .before .before .args .records)))
     (30 + x .before .before .before .before .k .given .0 .0 + x .m .given .0 .0)
 readyAt x =
     let a = x .before .before .before .before .before .before .before .before .before .args in

@@ -1,16 +1,16 @@
 use borrow.Author.Needs.{needs}
-use Rattle.model_frame.specs.Reading.{appRecord}
+use Rattle.model_frame.specs.Reading.{readAppRecord}
 use Rattle.frame_fields.proofs.app_record_from.Statement.{statement}
 use Rattle.frame_fields.proofs.app_record_from.Tie as tie
 
 returns : tie.Need-returns
-unfolding appRecord
+unfolding readAppRecord
 returns c =
     let c1 = c .before .before in
     rw (← (c1 .u16-from .ensures), c .enum-told .given .1)
 
 returns-2 : tie.Need-returns-2
-unfolding appRecord
+unfolding readAppRecord
 returns-2 c =
     let c1 = c .before in
     let c2 = c1 .before .before in
@@ -19,7 +19,7 @@ returns-2 c =
     rw (← (c4 .u16-from .ensures), c3 .kind .given .1, ← (c2 .blob-from .ensures .0), c1 .e .given .1)
 
 returns-3 : tie.Need-returns-3
-unfolding appRecord
+unfolding readAppRecord
 returns-3 c =
     let c1 = c .before in
     let c2 = c1 .before .before in

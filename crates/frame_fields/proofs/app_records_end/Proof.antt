@@ -2,7 +2,7 @@ use borrow.Author.Needs.{needs}
 use mathlib.Core.Path.{_≡_, refl, sym, ap, _∙_}
 use lib.ListN.{drop}
 use Rattle.model_frame.specs.Parse.{many, forget}
-use Rattle.model_frame.specs.Reading.{appRecord}
+use Rattle.model_frame.specs.Reading.{readAppRecord}
 use Rattle.base_laws.proofs.Runs.{run-none, run-more, run-bad}
 use Rattle.frame_fields.specs.Answers.{resRecord}
 use Rattle.frame_fields.proofs.app_records_end.Statement.{statement}
@@ -10,7 +10,7 @@ use Rattle.frame_fields.proofs.app_records_end.Tie as tie
 
 abbrev Inv-loop : tie.InvT-loop
 Inv-loop buf count d₀ n₀ d n =
-    forget (many n₀ appRecord (drop (d₀ .at) buf)) ≡ forget (many n appRecord (drop (d .at) buf))
+    forget (many n₀ readAppRecord (drop (d₀ .at) buf)) ≡ forget (many n readAppRecord (drop (d .at) buf))
 
 abbrev μ-loop : tie.MeasureT-loop
 μ-loop buf count d₀ n₀ d n = n

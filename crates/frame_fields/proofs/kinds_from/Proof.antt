@@ -4,15 +4,15 @@ use Prim.Native.Nat.{_+_, _*_, _≤_}
 use denote.Ref.{now}
 use lib.ListN.{length, drop, length-drop}
 use lib.Seq.{drop-drop}
-use Rattle.model_frame.specs.Parse.{num, count}
-use Rattle.model_frame.specs.Reading.{kinds}
+use Rattle.model_frame.specs.Parse.{readNum, readCount}
+use Rattle.model_frame.specs.Reading.{readKinds}
 use Rattle.frame_reader.specs.Answers.{res32}
 use Rattle.base_laws.proofs.Runs.{numbers-end, count-room, run-items}
 use Rattle.frame_fields.proofs.kinds_from.Statement.{statement}
 use Rattle.frame_fields.proofs.kinds_from.Tie as tie
 
 returns : tie.Need-returns
-unfolding kinds
+unfolding readKinds
 returns c = (rw (← (c .before .before .count-from .ensures), c .enum-told .given .1), tt)
 
 -- what is left has room for the kinds
@@ -26,13 +26,13 @@ add-t11 c =
     search needs
 
 returns-2 : tie.Need-returns-2
-unfolding kinds
+unfolding readKinds
 returns-2 c =
     let g = c .before in
     let at = g .count .given .0 .1 .0 .at in
     let n = g .count .given .0 .0 in
     let b = now (c .before .before .before .before .before .args .buf) in
-    let run = run-items (num 2) n (drop at b) {t = drop (at + n * 2) b} (rw (← drop-drop (n * 2) at b) (sym (numbers-end 2 n (drop at b) (room c)))) in
+    let run = run-items (readNum 2) n (drop at b) {t = drop (at + n * 2) b} (rw (← drop-drop (n * 2) at b) (sym (numbers-end 2 n (drop at b) (room c)))) in
     (rw (← (g .before .before .count-from .ensures), g .count .given .1) run, sym run)
 
 pub kinds-from-spec : {M : Type 1} → statement M

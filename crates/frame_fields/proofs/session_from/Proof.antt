@@ -1,12 +1,12 @@
 use mathlib.Core.Path.{_∙_}
 use Rattle.frame_fields.proofs.Keys.{key-told, key-none}
 use borrow.Author.Needs.{needs}
-use Rattle.model_frame.specs.Reading.{key}
+use Rattle.model_frame.specs.Reading.{readKey}
 use Rattle.frame_fields.proofs.session_from.Statement.{statement}
 use Rattle.frame_fields.proofs.session_from.Tie as tie
 
 returns : tie.Need-returns
-unfolding key
+unfolding readKey
 returns c =
     let c1 = c .before in
     let c2 = c1 .before in
@@ -22,14 +22,14 @@ returns c =
     (rw (← (c8 .judged-from .ensures .0), c7 .begin-string .given .1, ← (c6 .judged-from2 .ensures .0), c5 .sender-comp-id .given .1, ← (c4 .judged-from3 .ensures .0), c3 .target-comp-id .given .1) (c .no-session .ensures .0 _ ∙ key-none _ _ _ v w x (c2 .if1 .taken) (c1 .text-from .ensures .0)), c .no-session .ensures .1 _)
 
 returns-2 : tie.Need-returns-2
-unfolding key
+unfolding readKey
 returns-2 c =
     let c1 = c .before in
     let c2 = c1 .before .before in
     (rw (← (c2 .judged-from .ensures .0), c1 .e .given .1), tt)
 
 returns-3 : tie.Need-returns-3
-unfolding key
+unfolding readKey
 returns-3 c =
     let c1 = c .before in
     let c2 = c1 .before .before in
@@ -38,7 +38,7 @@ returns-3 c =
     (rw (← (c4 .judged-from .ensures .0), c3 .begin-string .given .1, ← (c2 .judged-from2 .ensures .0), c1 .e2 .given .1), tt)
 
 returns-4 : tie.Need-returns-4
-unfolding key
+unfolding readKey
 returns-4 c =
     let c1 = c .before in
     let c2 = c1 .before .before in
@@ -49,7 +49,7 @@ returns-4 c =
     (rw (← (c6 .judged-from .ensures .0), c5 .begin-string .given .1, ← (c4 .judged-from2 .ensures .0), c3 .sender-comp-id .given .1, ← (c2 .judged-from3 .ensures .0), c1 .e3 .given .1), tt)
 
 returns-5 : tie.Need-returns-5
-unfolding key
+unfolding readKey
 returns-5 c =
     let c1 = c .before in
     let c2 = c1 .before .before in
@@ -63,7 +63,7 @@ returns-5 c =
     (rw (← (c9 .judged-from .ensures .0), c8 .begin-string .given .1, ← (c7 .judged-from2 .ensures .0), c6 .sender-comp-id .given .1, ← (c5 .judged-from3 .ensures .0), c4 .target-comp-id .given .1, ← (c2 .judged-from4 .ensures .0), c1 .e4 .given .1), tt)
 
 returns-6 : tie.Need-returns-6
-unfolding key
+unfolding readKey
 returns-6 c =
     let c1 = c .before .before in
     let c2 = c1 .before .before in
@@ -81,7 +81,7 @@ returns-6 c =
     (rw (← (c9 .judged-from .ensures .0), c8 .begin-string .given .1, ← (c7 .judged-from2 .ensures .0), c6 .sender-comp-id .given .1, ← (c5 .judged-from3 .ensures .0), c4 .target-comp-id .given .1, ← (c2 .judged-from4 .ensures .0), c1 .key-suffix .given .1, key-told _ _ _ v w x _ (c3 .if1 .left) y (c .if2 .taken)), (rw (c8 .begin-string .given .1) at (c9 .judged-from .ensures .1 .1), rw (c6 .sender-comp-id .given .1) at (c7 .judged-from2 .ensures .1 .1), rw (c4 .target-comp-id .given .1) at (c5 .judged-from3 .ensures .1 .1), rw (c1 .key-suffix .given .1) at (c2 .judged-from4 .ensures .1 .1)))
 
 returns-7 : tie.Need-returns-7
-unfolding key
+unfolding readKey
 returns-7 c =
     let c1 = c .before .before in
     let c2 = c1 .before .before in

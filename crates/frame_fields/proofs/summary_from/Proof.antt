@@ -1,16 +1,16 @@
 use borrow.Author.Needs.{needs}
-use Rattle.model_frame.specs.Reading.{summary}
+use Rattle.model_frame.specs.Reading.{readSummary}
 use Rattle.frame_fields.proofs.summary_from.Statement.{statement}
 use Rattle.frame_fields.proofs.summary_from.Tie as tie
 
 returns : tie.Need-returns
-unfolding summary
+unfolding readSummary
 returns c =
     let c1 = c .before .before in
     (rw (← (c1 .u64-from .ensures), c .enum-told .given .1), tt)
 
 returns-2 : tie.Need-returns-2
-unfolding summary
+unfolding readSummary
 returns-2 c =
     let c1 = c .before .before in
     let c2 = c1 .before .before in
@@ -18,7 +18,7 @@ returns-2 c =
     (rw (← (c3 .u64-from .ensures), c2 .next-outgoing .given .1, ← (c1 .u64-from2 .ensures), c .enum-told2 .given .1), tt)
 
 returns-3 : tie.Need-returns-3
-unfolding summary
+unfolding readSummary
 returns-3 c =
     let c1 = c .before .before in
     let c2 = c1 .before .before in
@@ -28,7 +28,7 @@ returns-3 c =
     (rw (← (c5 .u64-from .ensures), c4 .next-outgoing .given .1, ← (c3 .u64-from2 .ensures), c2 .next-incoming .given .1, ← (c1 .u64-from3 .ensures), c .enum-told3 .given .1), tt)
 
 returns-4 : tie.Need-returns-4
-unfolding summary
+unfolding readSummary
 returns-4 c =
     let c1 = c .before .before in
     let c2 = c1 .before .before in
@@ -45,7 +45,7 @@ returns-4 c =
     (rw (← (c12 .u64-from .ensures), c11 .next-outgoing .given .1, ← (c10 .u64-from2 .ensures), c9 .next-incoming .given .1, ← (c8 .u64-from3 .ensures), c7 .n .given .1, ← (c6 .flight .ensures), ← (c5 .stamp-or-none-from .ensures .0), c4 .created-at .given .1, ← (c3 .marks-from .ensures .0), c2 .marks .given .1, ← (c1 .u64-from4 .ensures), c .enum-told4 .given .1), tt)
 
 returns-5 : tie.Need-returns-5
-unfolding summary
+unfolding readSummary
 returns-5 c =
     let c1 = c .before in
     let c2 = c1 .before .before in
@@ -59,7 +59,7 @@ returns-5 c =
     (rw (← (c9 .u64-from .ensures), c8 .next-outgoing .given .1, ← (c7 .u64-from2 .ensures), c6 .next-incoming .given .1, ← (c5 .u64-from3 .ensures), c4 .n .given .1, ← (c3 .flight .ensures), ← (c2 .stamp-or-none-from .ensures .0), c1 .e .given .1), tt)
 
 returns-6 : tie.Need-returns-6
-unfolding summary
+unfolding readSummary
 returns-6 c =
     let c1 = c .before in
     let c2 = c1 .before .before in
@@ -75,7 +75,7 @@ returns-6 c =
     (rw (← (c11 .u64-from .ensures), c10 .next-outgoing .given .1, ← (c9 .u64-from2 .ensures), c8 .next-incoming .given .1, ← (c7 .u64-from3 .ensures), c6 .n .given .1, ← (c5 .flight .ensures), ← (c4 .stamp-or-none-from .ensures .0), c3 .created-at .given .1, ← (c2 .marks-from .ensures .0), c1 .e2 .given .1), tt)
 
 returns-7 : tie.Need-returns-7
-unfolding summary
+unfolding readSummary
 returns-7 c =
     let c1 = c .before in
     let c2 = c1 .before .before in

@@ -1,22 +1,22 @@
 use borrow.Author.Needs.{needs}
 use native.Mathlib.Omega.{arith}
-use Rattle.model_frame.specs.Parse.{blob}
+use Rattle.model_frame.specs.Parse.{readBlob}
 use Rattle.base_laws.proofs.Places.{bytes-short, bytes-got}
 use Rattle.frame_reader.proofs.blob_from.Statement.{statement}
 use Rattle.frame_reader.proofs.blob_from.Tie as tie
 
 returns : tie.Need-returns
-unfolding blob
+unfolding readBlob
 returns c = (rw (← (c .before .before .u32-from .ensures .0), c .enum-told .given .1), tt)
 
 returns-2 : tie.Need-returns-2
-unfolding blob
+unfolding readBlob
 returns-2 c =
     let r = c .before .before .before in
     (rw (← (r .before .before .u32-from .ensures .0), r .n .given .1, bytes-short _ _ _ (c .before .left .ensures) (c .if1 .taken)), tt)
 
 returns-3 : tie.Need-returns-3
-unfolding blob
+unfolding readBlob
 returns-3 c =
     let r = c .before .before .before in
     let within = rw (r .n .given .1) at (r .before .before .u32-from .ensures .1) in

@@ -7,7 +7,7 @@ use lib.Dec.{T}
 use lib.ListN.{drop}
 use Rattle.model_frame.specs.Bytes.{isBytes}
 use Rattle.model_frame.specs.Parse.{ok, forget, many}
-use Rattle.model_frame.specs.Reading.{appRecord}
+use Rattle.model_frame.specs.Reading.{readAppRecord}
 use Rattle.model_frame.specs.Writing.{appRecordBytes, RangedRecord, ByteRecord}
 use Rattle.model_frame.proofs.Le.{are-bytes}
 use Rattle.model_frame.proofs.Sound.{record-canon}
@@ -33,13 +33,13 @@ endOf k = k .d .given .0 .0 .at
 known : (k : tie.After-d) → T (isBytes (bufOf k))
 known k = are-bytes (bufOf k) (λ i. k .before .before .before .shared-slice-known .given i .fits)
 
-ended : (k : tie.After-d) → ok tt (drop (endOf k) (bufOf k)) ≡ forget (many (countOf k) appRecord (drop (atOf k) (bufOf k)))
+ended : (k : tie.After-d) → ok tt (drop (endOf k) (bufOf k)) ≡ forget (many (countOf k) readAppRecord (drop (atOf k) (bufOf k)))
 ended k = sym (ap (resEnd _) (k .d .given .1)) ∙ k .before .before .app-records-end .ensures
 
 sub-t12 : tie.Need-sub-t12
 sub-t12 c =
     let k = c .before .before .before in
-    let f = run-forward appRecord appRecordBytes (λ r. RangedRecord r × ByteRecord r) record-canon (countOf k) (bufOf k) (atOf k) (endOf k) (known k) (ended k) (c .before .left .ensures) (c .left2 .ensures) in
+    let f = run-forward readAppRecord appRecordBytes (λ r. RangedRecord r × ByteRecord r) record-canon (countOf k) (bufOf k) (atOf k) (endOf k) (known k) (ended k) (c .before .left .ensures) (c .left2 .ensures) in
     search needs
 
 returns : tie.Need-returns
@@ -48,7 +48,7 @@ returns c = sym (run-fault _ (sym (ap (resEnd _) (c .before .e .given .1)) ∙ c
 returns-2 : tie.Need-returns-2
 returns-2 c =
     let k = c .before .before .before in
-    (run-past appRecord appRecordBytes (λ r. RangedRecord r × ByteRecord r) record-canon (countOf k) (bufOf k) (atOf k) (endOf k) (known k) (ended k) (c .before .left .ensures) (c .left2 .ensures), run-stands appRecord appRecordBytes (λ r. RangedRecord r × ByteRecord r) record-canon (countOf k) (bufOf k) (atOf k) (endOf k) (known k) (ended k) (c .before .left .ensures) (c .left2 .ensures))
+    (run-past readAppRecord appRecordBytes (λ r. RangedRecord r × ByteRecord r) record-canon (countOf k) (bufOf k) (atOf k) (endOf k) (known k) (ended k) (c .before .left .ensures) (c .left2 .ensures), run-stands readAppRecord appRecordBytes (λ r. RangedRecord r × ByteRecord r) record-canon (countOf k) (bufOf k) (atOf k) (endOf k) (known k) (ended k) (c .before .left .ensures) (c .left2 .ensures))
 
 pub records-len-spec : {M : Type 1} → statement M
 records-len-spec =

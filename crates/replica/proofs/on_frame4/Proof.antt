@@ -68,7 +68,7 @@ use Rattle.standby_state.specs.declared.Answer.{Answer}
 use Rattle.standby_state.proofs.Answer as Answer-type
 use Rattle.standby_state.proofs.Answer.Laws as Answer-laws
 use Rattle.replica.proofs.Records.{R-Answer, val-Answer, vals-Answer, tells-Answer, makes-Answer}
-use Rattle.standby_row.specs.Row.{none, findOf, freeOf, brokenOf, clearedFrom, clearedAll, seenOf}
+use Rattle.standby_row.specs.Row.{freeRecord, findOf, freeOf, brokenOf, clearedFrom, clearedAll, seenOf}
 use Rattle.standby_row.proofs.Lists.{cleared-length}
 use Rattle.standby_row.proofs.Locals.{filled, empty, stack, frees-stack}
 use Rattle.standby_row.proofs.Lent.{at, Shared, calls-with, calls-peek, calls-handed, told-shared}

@@ -4,7 +4,7 @@ use Rattle.standby_batch_due.proofs.Areas.{within}
 use Rattle.standby_batch_due.specs.DueBatch.{spotIn}
 use Rattle.frame_fields.specs.Answers.{partOf}
 use Rattle.frame_op.specs.Answers.{runOf}
-use Rattle.model_frame.specs.Reading.{readChange, appRecord}
+use Rattle.model_frame.specs.Reading.{readChange, readAppRecord}
 use Prim.Native.Nat.{ℕ, _+_, _*_, _≤_}
 use lib.ListN.{length}
 use denote.Ref.{now}
@@ -72,7 +72,7 @@ same-length-3 c = search needs
 
 -- src/lib.rt:39:1
 returns : tie.Need-returns
-returns c = batch-at (c .before .before .before .before .before .before .before .before .before .before .before .before .before .before .before .before .before .before .before .before .before .before .before .before .before .args .s) (c .before .before .before .before .before .before .before .before .before .before .before .before .before .before .before .before .before .before .before .before .before .before .before .before .before .args .c) (c .before .before .before .before .before .before .before .before .before .before .before .before .before .before .before .before .before .before .before .before .before .before .before .before .before .args .seen) (c .before .before .before .before .before .before .before .before .before .before .before .before .before .before .before .before .before .before .before .before .before .before .before .before .before .args .b .handle) (c .before .before .before .before .before .before .before .before .before .before .before .before .before .before .before .before .before .before .before .before .before .before .before .before .before .args .b .epoch .0) (c .before .before .before .before .before .before .before .before .before .before .before .before .before .before .before .before .before .before .before .before .before .before .before .before .before .args .b .«commit_no» .0) (partOf (c .before .before .before .before .before .before .before .before .before .before .before .before .before .before .before .before .before .before .before .before .before .before .before .before .before .args .b .part)) (runOf (readChange 1) (now (c .before .before .before .before .before .before .before .before .before .before .before .before .before .before .before .before .before .before .before .before .before .before .before .before .before .args .frame)) (c .before .before .before .before .before .before .before .before .before .before .before .before .before .before .before .before .before .before .before .before .before .before .before .before .before .args .b .ops)) (runOf appRecord (now (c .before .before .before .before .before .before .before .before .before .before .before .before .before .before .before .before .before .before .before .before .before .before .before .before .before .args .frame)) (c .before .before .before .before .before .before .before .before .before .before .before .before .before .before .before .before .before .before .before .before .before .before .before .before .before .args .b .«app_records»)) (now (c .before .before .before .before .before .before .before .before .before .before .before .before .before .before .before .before .before .before .before .before .before .before .before .before .before .args .words)) (now (c .before .before .before .before .before .before .before .before .before .before .before .before .before .before .before .before .before .before .before .before .before .before .before .before .before .args .bytes)) (now (c .before .before .before .before .before .before .before .before .before .before .before .before .before .before .before .before .before .before .before .before .before .before .before .before .before .args .holds)) (c .before .before .before .before .before .before .before .before .before .before .before .before .before .before .before .before .before .before .is-due-batch .ensures) (c .before .before .before .before .before .before .before .before .before .before .before .before .before .before .before .run-if .ensures) _ _ _ _ (c .before .before .before .before .before .before .before .before .before .before .before .room-of .ensures) (c .before .before .before .before .before .before .before .before .before .before .area-start .ensures) (c .before .before .before .before .before .before .on-batch .kept .1 .1 .0) (c .before .before .before .before .before .before .on-batch .ensures)
+returns c = batch-at (c .before .before .before .before .before .before .before .before .before .before .before .before .before .before .before .before .before .before .before .before .before .before .before .before .before .args .s) (c .before .before .before .before .before .before .before .before .before .before .before .before .before .before .before .before .before .before .before .before .before .before .before .before .before .args .c) (c .before .before .before .before .before .before .before .before .before .before .before .before .before .before .before .before .before .before .before .before .before .before .before .before .before .args .seen) (c .before .before .before .before .before .before .before .before .before .before .before .before .before .before .before .before .before .before .before .before .before .before .before .before .before .args .b .handle) (c .before .before .before .before .before .before .before .before .before .before .before .before .before .before .before .before .before .before .before .before .before .before .before .before .before .args .b .epoch .0) (c .before .before .before .before .before .before .before .before .before .before .before .before .before .before .before .before .before .before .before .before .before .before .before .before .before .args .b .«commit_no» .0) (partOf (c .before .before .before .before .before .before .before .before .before .before .before .before .before .before .before .before .before .before .before .before .before .before .before .before .before .args .b .part)) (runOf (readChange 1) (now (c .before .before .before .before .before .before .before .before .before .before .before .before .before .before .before .before .before .before .before .before .before .before .before .before .before .args .frame)) (c .before .before .before .before .before .before .before .before .before .before .before .before .before .before .before .before .before .before .before .before .before .before .before .before .before .args .b .ops)) (runOf readAppRecord (now (c .before .before .before .before .before .before .before .before .before .before .before .before .before .before .before .before .before .before .before .before .before .before .before .before .before .args .frame)) (c .before .before .before .before .before .before .before .before .before .before .before .before .before .before .before .before .before .before .before .before .before .before .before .before .before .args .b .«app_records»)) (now (c .before .before .before .before .before .before .before .before .before .before .before .before .before .before .before .before .before .before .before .before .before .before .before .before .before .args .words)) (now (c .before .before .before .before .before .before .before .before .before .before .before .before .before .before .before .before .before .before .before .before .before .before .before .before .before .args .bytes)) (now (c .before .before .before .before .before .before .before .before .before .before .before .before .before .before .before .before .before .before .before .before .before .before .before .before .before .args .holds)) (c .before .before .before .before .before .before .before .before .before .before .before .before .before .before .before .before .before .before .is-due-batch .ensures) (c .before .before .before .before .before .before .before .before .before .before .before .before .before .before .before .run-if .ensures) _ _ _ _ (c .before .before .before .before .before .before .before .before .before .before .before .room-of .ensures) (c .before .before .before .before .before .before .before .before .before .before .area-start .ensures) (c .before .before .before .before .before .before .on-batch .kept .1 .1 .0) (c .before .before .before .before .before .before .on-batch .ensures)
 
 pub batch-in-spec : {M : Type 1} → statement M
 batch-in-spec =

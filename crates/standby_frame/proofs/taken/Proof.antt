@@ -2,7 +2,7 @@ use borrow.Author.Needs.{needs}
 use Rattle.standby_frame.proofs.Laws.{damaged-left, promoted-left, intact-taken}
 use Rattle.standby_frame.proofs.Frames.{number-some, given-bad, given-more, given-short, given-whole, read-writable}
 use Rattle.model_frame.proofs.Le.{are-bytes}
-use Rattle.model_frame.specs.Frame.{number}
+use Rattle.model_frame.specs.Frame.{faultNumber}
 use Rattle.standby_state.specs.Answers.{isRefused}
 use Rattle.frame_reader.specs.Answers.{faultOf}
 use denote.Ref.{now}

@@ -49,7 +49,7 @@ use denote.Triple.Walked.{says, Stays, stay-slice, stay-dropped, walkOf, Walks, 
 use denote.Exit.{yes}
 use borrow.Author.Tests.{ltb-true, ltb-false}
 use Rattle.standby_row.specs.declared.Handle.{Handle}
-use Rattle.standby_row.specs.Row.{none, cleared, clearedFrom}
+use Rattle.standby_row.specs.Row.{freeRecord, cleared, clearedFrom}
 use Rattle.standby_row.proofs.Handle as T
 use Rattle.standby_row.proofs.Handle.Laws as T′
 use Rattle.standby_row.proofs.Lists.{clears-next, clears-end}
@@ -158,7 +158,7 @@ module _ {M : Type 1} (𝓤 : URA M) (H : Heap 𝓤) (A : Atoms 𝓤) (W : Given
         assigns ! (bin ! (load ! (from ! (stop !)) (look ! 10 refl)) (lit ! tt) (record { fits = product-fits n (u .0) room less })) (from ! (stop !)) (store ! 8 refl (tt, record { fits = product-fits n (u .0) room less })) $
         assigns ! (bin ! (load ! (from ! (fld ! refl (stop !))) (look-in ! 14 (sub ! 0 refl (whole !)))) (load ! (from ! (stop !)) (look ! 8 refl)) tt) (from ! (stop !)) (init ! 4 refl (tt, tt)) $
         rewrite ! 4 (λ (p : ℕ). ‵ (fat fullShare tyPtr l₆ 0 (vptr b p))) (place-at o (u .0)) refl $
-        elem-out ! R (Is R) (shows 𝓤 H A R) vals tells fullShare zs (u .0) none b o within (λ is.
+        elem-out ! R (Is R) (shows 𝓤 H A R) vals tells fullShare zs (u .0) freeRecord b o within (λ is.
         -- [row[i]; what it owns; the others; the open borrow; obs; auth; the locals]: all else is two further
         assigns ! (of-opd ! (false-lit !)) (from ! (hop ! (look ! 6 refl) (fld ! refl (stop !)))) (store-in ! 0 (sub ! 0 refl (whole !)) (tt, tt)) $
         move ! (1 ∷ []) $ drop ! $ owned ! R (Is R) (makes 𝓤 H A W) (cleared h) (vals (cleared h)) (made h is) $ move ! (1 ∷ 0 ∷ []) $
@@ -176,7 +176,7 @@ module _ {M : Type 1} (𝓤 : URA M) (H : Heap 𝓤) (A : Atoms 𝓤) (W : Given
         within = subst (λ (m : ℕ). u .0 < m) (sym (u .1 .1 .1)) less
 
         h : Handle
-        h = getD zs (u .0) none
+        h = getD zs (u .0) freeRecord
 
         next : Upto
         next = (u .0 + 1, (set zs (u .0) (cleared h), (lt-of-le-of-lt (add-one-le less) (room .0), length-set zs (u .0) (cleared h) ∙ u .1 .1 .1, clears-next (u .0) zs within ∙ u .1 .1 .2)))

@@ -40,7 +40,7 @@ use denote.Triple.Walked.{says, Stays, stay-dropped, walkOf, Walks, ends-at, wal
 use denote.Exit.{yes}
 use Rattle.standby_row.specs.declared.Handle.{Handle}
 use Rattle.standby_row.specs.declared.Seen.{Seen}
-use Rattle.standby_row.specs.Row.{none, findOf, freeFor, brokenOf, seenOf}
+use Rattle.standby_row.specs.Row.{freeRecord, findOf, freeFor, brokenOf, seenOf}
 use Rattle.standby_row.proofs.Handle as T
 use Rattle.standby_row.proofs.Handle.Laws as T′
 use Rattle.standby_row.proofs.Seen as Seen-type
@@ -100,7 +100,7 @@ module _ {M : Type 1} (𝓤 : URA M) (H : Heap 𝓤) (A : Atoms 𝓤) (W : Given
   abbrev Post : Val → SProp 𝓤
   Post = walkOf 𝓤 H A looks.ended stayed (looks.clauses 𝓤 H A memory run) .post (((κ, tt), (q, tt), tt, x, at-all), tt)
 
-  seen-is : findOf ys k < 2 ^ 64 → (freeFor ys (findOf ys k) (length ys)) < 2 ^ 64 → brokenOf ys places most < 2 ^ 64 → Is R (getD ys (findOf ys k) none) (vals (getD ys (findOf ys k) none)) → Is R-Seen seen (vals-Seen seen)
+  seen-is : findOf ys k < 2 ^ 64 → (freeFor ys (findOf ys k) (length ys)) < 2 ^ 64 → brokenOf ys places most < 2 ^ 64 → Is R (getD ys (findOf ys k) freeRecord) (vals (getD ys (findOf ys k) freeRecord)) → Is R-Seen seen (vals-Seen seen)
   seen-is f₅ f₆ f₈ f₉ = LL.owes Seen-type.the-type Seen-laws.the-laws seen ((refl, f₅), ((refl, f₆), ((refl, room .0), ((refl, f₈), (f₉, tt)))))
 
   exits : Is R-Seen seen (vals-Seen seen) → ent 𝓤 (⋆ 𝓤 H A (‵ (flft κ q) ∷ [])) (Post (val-Seen seen))
@@ -150,8 +150,8 @@ module _ {M : Type 1} (𝓤 : URA M) (H : Heap 𝓤) (A : Atoms 𝓤) (W : Given
       qed W (‵ (flft κ q) ∷ ‵ Own ∷ []) ∵ nothing ! $ move ! (1 ∷ 0 ∷ []) $ join ! $
       nothing ! $ owned ! usize (Is usize) (uint-makes 𝓤 H A W w64) (findOf ys k) _ (refl, i-fits) $ fjoin ! $ move ! (2 ∷ 0 ∷ []) $ fjoin ! $ move ! (1 ∷ 0 ∷ []) $ join ! $ nothing ! $ move ! (1 ∷ 0 ∷ []) $ done !
 
-  told-get-or : (u : Val) → ent 𝓤 (GetOr 𝓤 H A memory run .post to-get-or u) (H .⇛ (sep 𝓤 (A .lft κ q) (fact 𝓤 ((u ≡ val (getD ys (findOf ys k) none)) × Is R (getD ys (findOf ys k) none) (vals (getD ys (findOf ys k) none))))))
-  told-get-or u = told-shared W κ q u R vals tells (getD ys (findOf ys k) none) (ensured 𝓤 H A get-or.ended (get-or.clauses 𝓤 H A memory run) (κ, tt) (x .0, ((findOf ys k), tt)) tt) (λ r. exE 𝓤 _ (λ ws. snd∗ 𝓤 (sem 𝓤 H A (lasts get-or.ended (κ, tt) (x .0, ((findOf ys k), tt)) ws)) (fact 𝓤 (r ≡ getD ys (findOf ys k) none))))
+  told-get-or : (u : Val) → ent 𝓤 (GetOr 𝓤 H A memory run .post to-get-or u) (H .⇛ (sep 𝓤 (A .lft κ q) (fact 𝓤 ((u ≡ val (getD ys (findOf ys k) freeRecord)) × Is R (getD ys (findOf ys k) freeRecord) (vals (getD ys (findOf ys k) freeRecord))))))
+  told-get-or u = told-shared W κ q u R vals tells (getD ys (findOf ys k) freeRecord) (ensured 𝓤 H A get-or.ended (get-or.clauses 𝓤 H A memory run) (κ, tt) (x .0, ((findOf ys k), tt)) tt) (λ r. exE 𝓤 _ (λ ws. snd∗ 𝓤 (sem 𝓤 H A (lasts get-or.ended (κ, tt) (x .0, ((findOf ys k), tt)) ws)) (fact 𝓤 (r ≡ getD ys (findOf ys k) freeRecord))))
 
   module _ (Ct : Calls 𝓤 H) (Λ : Loops 𝓤 H) (fm : FmC 𝓤 H (W .laws) Ct) (known-find : Triple 𝓤 (Ct #standby_row·find) (Find 𝓤 H A memory run)) (known-find-free : Triple 𝓤 (Ct #standby_row·find-free) (FindFree 𝓤 H A memory run)) (known-find-broken : Triple 𝓤 (Ct #standby_row·find-broken) (FindBroken 𝓤 H A memory run)) (known-get-or : Triple 𝓤 (Ct #standby_row·get-or) (GetOr 𝓤 H A memory run)) where
     walk : ent 𝓤 (onEntry 𝓤 H A looks.signature (κ, tt) (q, tt) x at-all) (WpFn 𝓤 H Ct Λ code.function (s ∷ vint w32 k ∷ vint w64 places ∷ vint w64 most ∷ []) Post)
@@ -165,7 +165,7 @@ module _ {M : Type 1} (𝓤 : URA M) (H : Heap 𝓤) (A : Atoms 𝓤) (W : Given
         assigns ! (of-opd ! (load ! (from ! (fld ! refl (stop !))) (look-in ! 17 (sub ! 1 refl (whole !))))) (from ! (stop !)) (init ! 7 refl (tt, record { fits = room .0 })) $
         calls-handed R b o ! fm (FindFree 𝓤 H A memory run) known-find-free to-find-free (vint w64 (freeFor ys (findOf ys k) (length ys))) (Is usize (freeFor ys (findOf ys k) (length ys)) (uint-vals w64 (freeFor ys (findOf ys k) (length ys)))) ys (named 0) κ q γ (goes-find-free (f₅ .1)) told-find-free (λ j. (and-then ! (load ! (from ! (stop !)) (look ! 17 refl)) (and-then ! (load ! (from ! (stop !)) (look ! 9 refl)) (and-then ! (load ! (from ! (stop !)) (look ! 7 refl)) (no-more !))))) (λ f₆. land ! (from ! (stop !)) (init ! 5 refl (tt, record { fits = f₆ .1 })) $
         calls-handed R b o ! fm (FindBroken 𝓤 H A memory run) known-find-broken to-find-broken (vint w64 (brokenOf ys places most)) (Is usize (brokenOf ys places most) (uint-vals w64 (brokenOf ys places most))) ys (named 0) κ q γ goes-find-broken told-find-broken (λ j. (and-then ! (load ! (from ! (stop !)) (look ! 17 refl)) (and-then ! (load ! (from ! (stop !)) (look ! 13 refl)) (and-then ! (load ! (from ! (stop !)) (look ! 11 refl)) (no-more !))))) (λ f₈. land ! (from ! (stop !)) (init ! 3 refl (tt, record { fits = f₈ .1 })) $
-        calls-handed R b o ! fm (GetOr 𝓤 H A memory run) known-get-or to-get-or (val (getD ys (findOf ys k) none)) (Is R (getD ys (findOf ys k) none) (vals (getD ys (findOf ys k) none))) ys (named 0) κ q γ (goes-get-or (f₅ .1)) told-get-or (λ j. (and-then ! (load ! (from ! (stop !)) (look ! 17 refl)) (and-then ! (load ! (from ! (stop !)) (look ! 9 refl)) (no-more !)))) (λ f₉. land ! (from ! (stop !)) (init ! 1 refl (LL.lawful T.the-type T′.the-laws 𝓤 H A W .typed (getD ys (findOf ys k) none) (vals (getD ys (findOf ys k) none)) f₉ .0)) $
+        calls-handed R b o ! fm (GetOr 𝓤 H A memory run) known-get-or to-get-or (val (getD ys (findOf ys k) freeRecord)) (Is R (getD ys (findOf ys k) freeRecord) (vals (getD ys (findOf ys k) freeRecord))) ys (named 0) κ q γ (goes-get-or (f₅ .1)) told-get-or (λ j. (and-then ! (load ! (from ! (stop !)) (look ! 17 refl)) (and-then ! (load ! (from ! (stop !)) (look ! 9 refl)) (no-more !)))) (λ f₉. land ! (from ! (stop !)) (init ! 1 refl (LL.lawful T.the-type T′.the-laws 𝓤 H A W .typed (getD ys (findOf ys k) freeRecord) (vals (getD ys (findOf ys k) freeRecord)) f₉ .0)) $
         assigns ! (agg ! (and-then ! (load ! (from ! (stop !)) (look ! 9 refl)) (and-then ! (load ! (from ! (stop !)) (look ! 5 refl)) (and-then ! (load ! (from ! (stop !)) (look ! 7 refl)) (and-then ! (load ! (from ! (stop !)) (look ! 3 refl)) (and-then ! (load ! (from ! (stop !)) (look ! 1 refl)) (no-more !))))))) (from ! (stop !)) (init ! 19 refl (LL.lawful Seen-type.the-type Seen-laws.the-laws 𝓤 H A W .typed seen (vals-Seen seen) (seen-is (f₅ .1) (f₆ .1) (f₈ .1) f₉) .0)) $
         returns ! (look ! 19 refl) $ split ! $ move ! (1 ∷ []) $ drop ! $ by ! (frees-stack 𝓤 H A W (filled Seen-laws.mir l₀ _ ∷ filled slice l₁ _ ∷ filled (tyInt w32) l₂ _ ∷ filled word l₃ _ ∷ filled word l₄ _ ∷ filled word l₅ _ ∷ filled word l₆ _ ∷ filled word l₇ _ ∷ filled word l₈ _ ∷ filled T′.mir l₉ _ ∷ []) (‵ (flft κ q) ∷ []) (Post (val-Seen seen)) (exits (seen-is (f₅ .1) (f₆ .1) (f₈ .1) f₉)))))))))))))))))
 

@@ -44,7 +44,7 @@ use denote.Triple.Walked.{says, Stays, stay-slice, stay-dropped, walkOf, Walks, 
 use denote.Exit.{yes}
 use borrow.Author.Tests.{ltb-true, ltb-false}
 use Rattle.standby_row.specs.declared.Handle.{Handle}
-use Rattle.standby_row.specs.Row.{none}
+use Rattle.standby_row.specs.Row.{freeRecord}
 use Rattle.standby_row.proofs.Handle as T
 use Rattle.standby_row.proofs.Handle.Laws as T′
 use Rattle.standby_row.proofs.Rows.{R, val, vals, tells, makes, product-fits, place-at, by-bool, passes-by, goes-in}
@@ -119,7 +119,7 @@ module _ {M : Type 1} (𝓤 : URA M) (H : Heap 𝓤) (A : Atoms 𝓤) (W : Given
         assigns ! (bin ! (load ! (from ! (stop !)) (look ! 14 refl)) (lit ! tt) (record { fits = product-fits n i room (ltb-true i n e) })) (from ! (stop !)) (init ! 6 refl (tt, record { fits = product-fits n i room (ltb-true i n e) })) $
         assigns ! (bin ! (load ! (from ! (fld ! refl (stop !))) (look-in ! 16 (sub ! 0 refl (whole !)))) (load ! (from ! (stop !)) (look ! 6 refl)) tt) (from ! (stop !)) (init ! 4 refl (tt, tt)) $
         rewrite ! 4 (λ (p : ℕ). ‵ (fat fullShare tyPtr l₇ 0 (vptr b p))) (place-at o i) refl $
-        elem-out ! R (Is R) (shows 𝓤 H A R) vals tells fullShare ys i none b o (ltb-true i n e) (λ _.
+        elem-out ! R (Is R) (shows 𝓤 H A R) vals tells fullShare ys i freeRecord b o (ltb-true i n e) (λ _.
         -- [row[i]; what it owns; the others; the open borrow; obs; auth; _7; …]
         assigns-last ! (of-opd ! (load ! (from ! (stop !)) (look ! 14 refl))) (from ! (hop ! (look ! 6 refl) (stop !))) (store-raw ! 0 refl (LL.lawful T.the-type T′.the-laws 𝓤 H A W .typed h (vals h) is .0)) $
         exec ! C Λ (En C Λ l₀ l₁ l₂ l₃ l₄ l₅ l₆ l₇) mir.t-4 (atRet (En C Λ l₀ l₁ l₂ l₃ l₄ l₅ l₆ l₇) Post) $
