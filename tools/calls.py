@@ -9,13 +9,13 @@ READS: list[tuple[str, Numbers, str | None]] = [
     ('find_free', [('spot', 'w64'), ('most', 'w64')], 'freeFor ys spot most'),
     ('find_broken', [('places', 'w64'), ('most', 'w64')], 'brokenOf ys places most'),
     ('get_or', [('i', 'w64')], None),
-    ('look', [('k', 'w32'), ('places', 'w64'), ('most', 'w64')], 'seenOf ys k places most'),
+    ('look_up', [('k', 'w32'), ('places', 'w64'), ('most', 'w64')], 'seenOf ys k places most'),
 ]
 WRITES: list[tuple[str, Numbers, bool, str]] = [
     ('put_if', [('i', 'w64')], True, 'set ys i h'),
     ('clear_from', [('i', 'w64')], False, 'clearedFrom i ys'),
     ('clear', [], False, 'clearedAll ys'),
-    ('act', [('i', 'w64'), ('k', 'w64')], True, 'clearedFrom k (set ys i h)'),
+    ('update', [('i', 'w64'), ('k', 'w64')], True, 'clearedFrom k (set ys i h)'),
 ]
 
 
@@ -28,8 +28,8 @@ def contract(f: str) -> str:                         # the name of its contract
 
 
 fns = [read[0] for read in READS] + [write[0] for write in WRITES]
-out = '''-- The call rules of the crate's functions, for whoever walks code that has a row of `Handle`s open: at the head of the context stands the whole share of the row, and `Lent.antt` lends it for the call. One line of the caller's walk is one call.
---     calls-find, calls-find-free, calls-find-broken, calls-get-or, calls-look     the row is lent as `&[Handle]`.        calls-put-if, calls-clear-from, calls-clear, calls-act      as `&mut [Handle]`
+out = '''-- The call rules of the crate's functions, for whoever walks code that has a row of `Bound`s open: at the head of the context stands the whole share of the row, and `Lent.antt` lends it for the call. One line of the caller's walk is one call.
+--     calls-find, calls-find-free, calls-find-broken, calls-get-or, calls-look-up     the row is lent as `&[Bound]`.        calls-put-if, calls-clear-from, calls-clear, calls-update      as `&mut [Bound]`
 --     Find, FindFree, ..       the contracts, which the caller has of its table of calls (`cited`)
 -- Each rule is its callee's `to`, `goes` and `told` (`Lent.antt`). The operands are read in the context whose head is any item, and whose rest is the caller's.
 -- Assumes `Given`, and that the table of calls is monotone under a frame.
@@ -60,11 +60,11 @@ use denote.Steps.{owned, nothing}
 use denote.Triple.Spec.{tripleOf}
 use denote.Triple.Statement.{Contract, Triple}
 use denote.Triple.Clauses.{ensured, lasts}
-use Rattle.standby_row.specs.declared.Handle.{Handle}
+use Rattle.standby_row.specs.declared.Bound.{Bound}
 use Rattle.standby_row.specs.Row.{freeRecord, findOf, freeFor, brokenOf, clearedFrom, clearedAll, seenOf}
 use Rattle.standby_row.proofs.Lent.{at, Shared, Unique, calls-shared, calls-unique, told-shared, told-unique}
 use Rattle.standby_row.proofs.Rows.{R, vals, val, tells, makes}
-use Rattle.standby_row.proofs.Records.{R-Seen, val-Seen, vals-Seen, tells-Seen}
+use Rattle.standby_row.proofs.Records.{R-Lookup, val-Lookup, vals-Lookup, tells-Lookup}
 '''
 for f in fns:
     out += f'use Rattle.standby_row.proofs.{f} as {name(f)}\nuse Rattle.standby_row.proofs.{f}.Symbol.{{name as #standby_row·{name(f)}}}\n'
@@ -87,12 +87,12 @@ def rule(f: str, nums: Numbers, record: bool, gives: str | None, mutable: bool) 
     if mutable:
         after, v, phi, then, go = f'({gives})', 'vunit', 'Unit {0}', '', '(λ _. go)'
         post = f'sep 𝓤 (sep 𝓤 (A .lft (α ∷ []) fullShare) (sem 𝓤 H A (finally R γ ({gives})))) (fact 𝓤 ((w ≡ vunit) × Unit {{0}}))'
-        last = nest(['List Handle'] + ['Unit {0}'] * (len(nums) + record), 'Unit {0}', ' × ')
+        last = nest(['List Bound'] + ['Unit {0}'] * (len(nums) + record), 'Unit {0}', ' × ')
         told = f'told-unique W (α ∷ []) fullShare w R γ ({gives}) {last} (λ ws. ws .0) (λ ws. lasts {n}.ended (α ∷ [], tt) {args} ws) (λ ws. qed W (‵ (lasts {n}.ended (α ∷ [], tt) {args} ws) ∷ []) ∵ fsplit ! $ fsplit ! $ keep ! (0 ∷ []) $ done !)'
         lead = f'calls-unique R b o t fm {c} known to vunit (Unit {{0}}) ys ({gives}) room'
     else:
-        if f == 'look':
-            q, vs, tl, g, v = 'R-Seen', 'vals-Seen', 'tells-Seen', f'({gives})', f'(val-Seen ({gives}))'
+        if f == 'look_up':
+            q, vs, tl, g, v = 'R-Lookup', 'vals-Lookup', 'tells-Lookup', f'({gives})', f'(val-Lookup ({gives}))'
         elif gives:
             q, vs, tl, g, v = 'usize', '(uint-vals w64)', '(uint-tells w64)', f'({gives})', f'(vint w64 ({gives}))'
         else:
@@ -105,7 +105,7 @@ def rule(f: str, nums: Numbers, record: bool, gives: str | None, mutable: bool) 
         lead = f'calls-shared R b o t fm {c} known to {v} ({phi}) ys room'
     land = f'Seq K W (‵ (row R fullShare {after} b o) ∷ Γ) (lands C Λ E d {v} rest q)'
     return f'''
-  pub calls-{n} : K → FmC 𝓤 H (W .laws) C → (memory : Memory → SProp 𝓤) (run : Routine → Fun 𝓤) → Triple 𝓤 (C #standby_row·{n}) {c} → (ys : List Handle) (b o{ks} : ℕ){' (h : Handle)' if record else ''} → Room R (length ys){facts}
+  pub calls-{n} : K → FmC 𝓤 H (W .laws) C → (memory : Memory → SProp 𝓤) (run : Routine → Fun 𝓤) → Triple 𝓤 (C #standby_row·{n}) {c} → (ys : List Bound) (b o{ks} : ℕ){' (h : Bound)' if record else ''} → Room R (length ys){facts}
       → ((j : Item 𝓤) → Opds K W (j ∷ Γ) E xs (sliceVal (b, o) (length ys){machine} ∷ [])) → {f'({then}{land})' if then else land}
       → Seq K W (‵ (row R fullShare ys b o) ∷ Γ) (runs C Λ E (seq (call #standby_row·{n} xs d) rest) q)
   calls-{n} t fm memory run known ys b o{ks}{' h' if record else ''} room{given} ops go = {lead} goes told (λ α γ j. ops j) {go}

@@ -66,13 +66,13 @@ def init(j: int, typed: str) -> str:                 # .. is stored in _j
 def fresh_row(expr: str, same: str) -> None:         # the row after a write, under a name
     state['n'] += 1
     n = state['n']
-    defs.append(f'abbrev row{sub(n)} : CoreGives → List Handle\n  row{sub(n)} x = {expr}')
+    defs.append(f'abbrev row{sub(n)} : CoreGives → List Bound\n  row{sub(n)} x = {expr}')
     defs.append(f'same{sub(n)} : (x : CoreGives) → length (row{sub(n)} x) ≡ length {row.val}\n  same{sub(n)} x = {same}' + (f' ∙ {state["same"]}' if state['same'] else ''))
     state['row'], state['same'] = f'(row{sub(n)} x)', f'same{sub(n)} x'
 
 
 def room_now() -> str:                               # that the row's length has room
-    return f'(subst (Room R-Handle) (sym ({state["same"]})) {row.room})' if state['same'] else row.room
+    return f'(subst (Room R-Bound) (sym ({state["same"]})) {row.room})' if state['same'] else row.room
 
 
 def operand(o: Term) -> str:                         # how an operand is read
@@ -124,12 +124,12 @@ def ghost(g: str) -> str:                            # an item by its name
     p = row if g.startswith('row') else rec
     b = f'{p.b} {p.o}'
     if g == 'row':
-        return f'‵ (row R-Handle fullShare {state["row"]} {b})'
+        return f'‵ (row R-Bound fullShare {state["row"]} {b})'
     if g in ('cell', 'cell own'):
         v = state['stored'] if g == 'cell' and 'stored' in state else Value(p.t, p.val, '')
         return f'‵ (cellAt fullShare ({p.R} .mir) ({v.vals}) {b})' if g == 'cell' else f'‵ ({p.R} .own {p.val} (vals-{struct(p.s)} {p.val}))'
-    code = f'({p.R} .coded .code {p.val})' if p is rec else f'(codedHoleys R-Handle .code (heres R-Handle {p.val}))'
-    inside = f'(Inside (mem {p.R}) {b} ({p.at} .name))' if p is rec else f'(Held R-Handle (length {p.val}) {b} ({p.at} .name))'
+    code = f'({p.R} .coded .code {p.val})' if p is rec else f'(codedHoleys R-Bound .code (heres R-Bound {p.val}))'
+    inside = f'(Inside (mem {p.R}) {b} ({p.at} .name))' if p is rec else f'(Held R-Bound (length {p.val}) {b} ({p.at} .name))'
     return f'‵ (fobor {p.k} {p.q} {inside})' if g.endswith('open') else f'‵ (f{g.split()[1]} ({p.at} .name) {code})'
 
 
@@ -144,7 +144,7 @@ def lend(f: str, xs: list[Term], d: int, lents: list[Lent], vs: list[Value]) -> 
     context.front(local(r.j), local(a.j), 'plain')
     here = Ctx(['any'] + context.xs[3:])
     ops = '(' + ''.join(f'and-then ! {load(int(x[1][1]), here)} (' for x in xs) + 'no-more !' + ')' * (len(xs) + 1)
-    context.say(f'calls-lending R-{s} R-Handle {s}-laws.mir (tyArray Handle-laws.mir {n}) refl {n} refl tt (lit< tt, lit< tt) val-{s} tells-{s} (makes-{s} 𝓤 H A W) vals-Handle tells-Handle (makes-Handle 𝓤 H A W) {r.l} {a.l} ! fm ({camel(f)} 𝓤 H A memory run) known-{dash(f)} '
+    context.say(f'calls-lending R-{s} R-Bound {s}-laws.mir (tyArray Bound-laws.mir {n}) refl {n} refl tt (lit< tt, lit< tt) val-{s} tells-{s} (makes-{s} 𝓤 H A W) vals-Bound tells-Bound (makes-Bound 𝓤 H A W) {r.l} {a.l} ! fm ({camel(f)} 𝓤 H A memory run) known-{dash(f)} '
           f'(to-{dash(f)} {r.l} {a.l}) (λ x. {Value(types[d], "(x .0)", "").machine}) CoreTold {r.v.x} {a.v.x} (λ x. x .1 .0) (λ x. x .1 .1 .0) Before After {r.v.is_} {a.v.is_} (λ α β γ δ. goes-{dash(f)} {r.l} {a.l} α β γ δ {" ".join(v.is_ for v in vs)}) (told-{dash(f)} {r.l} {a.l}) (λ α β γ δ j. {ops}) (λ x p is-rec is-row.')
     parens += 1
     context.becomes(3, local(r.j), local(a.j), 'done')
@@ -196,14 +196,14 @@ if rec:
     opened += ['cell', 'cell own', 'rec open', 'rec obs', 'rec auth']
 if row:
     context.front(f'obs {row.name}', f'bor {row.name}', f'tok {row.name}')
-    context.becomes(3, 'row', 'row open', 'row obs', 'row auth', by=f'opens-slice ! tt R-Handle {row.val} {row.b} {row.o}')
+    context.becomes(3, 'row', 'row open', 'row obs', 'row auth', by=f'opens-slice ! tt R-Bound {row.val} {row.b} {row.o}')
     opened = ['row'] + opened + ['row open', 'row obs', 'row auth']
 context.keeps(opened + [p.item for p in plains] + [y for j in reversed(range(local_count)) for y in (local(j), freed(j))])
 
 # ---- the statements
-READS = {'find': 'findOf {r} {0}', 'find_free': 'freeFor {r} {0} {1}', 'find_broken': 'brokenOf {r} {0} {1}', 'get_or': 'getD {r} {0} freeRecord', 'look': 'seenOf {r} {0} {1} {2}'}
+READS = {'find': 'findOf {r} {0}', 'find_free': 'freeFor {r} {0} {1}', 'find_broken': 'brokenOf {r} {0} {1}', 'get_or': 'getD {r} {0} freeRecord', 'look_up': 'seenOf {r} {0} {1} {2}'}
 WRITES = {'put_if': ('set {r} {0} {1}', 'length-set {r} {0} {1}'), 'clear_from': ('clearedFrom {0} {r}', 'cleared-length {0} {r}'), 'clear': ('clearedAll {r}', 'cleared-length 0 {r}'),
-          'act': ('clearedFrom {1} (set {r} {0} {2})', 'cleared-length {1} (set {r} {0} {2}) ∙ length-set {r} {0} {2}')}
+          'update': ('clearedFrom {1} (set {r} {0} {2})', 'cleared-length {1} (set {r} {0} {2}) ∙ length-set {r} {0} {2}')}
 the_core, was_core, made_facts = None, False, []
 for step, st in enumerate(statements(body), 1):
     if step == 1 or was_core:                        # in parts the check is three times as quick
@@ -336,7 +336,7 @@ if rec:
     context.becomes(5, f'obs {rec.name}', f'bor {rec.name}', f'tok {rec.name}', by=f'closes ! tt R-{s} {last_rec.x} ({last_rec.vals}) {rec.b} {rec.o}')
 if row:
     context.front('row', 'row open', 'row obs', 'row auth')
-    context.becomes(4, f'obs {row.name}', f'bor {row.name}', f'tok {row.name}', by=f'closes-slice ! tt R-Handle {row.val} {state["row"]} ({state["same"] or "refl"}) {row.b} {row.o}')
+    context.becomes(4, f'obs {row.name}', f'bor {row.name}', f'tok {row.name}', by=f'closes-slice ! tt R-Bound {row.val} {state["row"]} ({state["same"] or "refl"}) {row.b} {row.o}')
 context.say(f'returns ! (look ! {context.at(local(0))} refl) $\n')
 final = [f'{y} {p.name}' for p in (row, rec) if p for y in ('obs', 'bor', 'tok')] + ['done']
 context.front(*final)
@@ -461,7 +461,7 @@ told_steps.front('result')
 
 
 def given_back(x: str) -> str:                       # what is had after the core
-    return f'(‵ (flft (α ∷ []) fullShare) ⊛ (‵ (flft (β ∷ []) fullShare) ⊛ (‵ (fres γ ({rat(core_lents[0].v.t)[0]} .coded .code ({x} .1 .0))) ⊛ (‵ (finally R-Handle δ ({x} .1 .1 .0)) ⊛ After {x}))))' if core_lents else f'After {x}'
+    return f'(‵ (flft (α ∷ []) fullShare) ⊛ (‵ (flft (β ∷ []) fullShare) ⊛ (‵ (fres γ ({rat(core_lents[0].v.t)[0]} .coded .code ({x} .1 .0))) ⊛ (‵ (finally R-Bound δ ({x} .1 .1 .0)) ⊛ After {x}))))' if core_lents else f'After {x}'
 
 
 told_steps.say(f'facts ! R-{core_struct} (Is R-{core_struct}) (shows 𝓤 H A R-{core_struct}) r (u ∷ []) (λ is. at-once ! $ show ! (λ (x : CoreGives). mean 𝓤 H A ({given_back("x")} ⊛ raw (fact 𝓤 ((u ≡ val-{core_struct} (x .0)) × CoreTold x)))) (r, ws) $ '
@@ -473,7 +473,7 @@ told_steps.keeps((['tok α', 'tok β', 'last rec', 'last row'] if core_lents els
 told_steps.say('done !)' + ')' * told_parens)
 Tokens = ''.join(f'{p.tok} ⊛ (' for p in plains) + '‵ ftrue' + ')' * len(plains)
 all_tokens = '(‵ (flft (α ∷ []) fullShare) ⊛ (‵ (flft (β ∷ []) fullShare) ⊛ Tokens))' if core_lents else 'Tokens'
-asked = f'‵ (flft (α ∷ []) fullShare) ⊛ (‵ (flft (β ∷ []) fullShare) ⊛ (‵ (LentRecord {rat(core_lents[0].v.t)[0]} R-Handle l m α γ {core_lents[0].v.x}) ⊛ (‵ (LentRow {rat(core_lents[0].v.t)[0]} R-Handle l m β δ {core_lents[1].v.x}) ⊛ Before)))' if core_lents else 'Before'
+asked = f'‵ (flft (α ∷ []) fullShare) ⊛ (‵ (flft (β ∷ []) fullShare) ⊛ (‵ (LentRecord {rat(core_lents[0].v.t)[0]} R-Bound l m α γ {core_lents[0].v.x}) ⊛ (‵ (LentRow {rat(core_lents[0].v.t)[0]} R-Bound l m β δ {core_lents[1].v.x}) ⊛ Before)))' if core_lents else 'Before'
 
 
 def star(xs: list[str]) -> str:                      # items, joined
@@ -503,7 +503,7 @@ for p in reversed(params):
             exit_steps.say(f'feqI ! (List Val) ({p.s_} ∷ []) ({p.s_} ∷ []) refl $ fjoin3 ! $')
         else:
             same, now = state['same'] or 'refl', state['row']
-            exit_steps.say(f'fjoin ! $ pureI ! (at-slice R-Handle (record {{ ptr = {p.at} .ptr; name = {p.at} .name; now = {now} }}) ({p.s_} ∷ [])) (tt, (tt, tt)) (ap (λ (m : ℕ). sliceVal ({p.at} .ptr) m ∷ []) (sym ({same})), {room_now()}) $ fjoin ! $')
+            exit_steps.say(f'fjoin ! $ pureI ! (at-slice R-Bound (record {{ ptr = {p.at} .ptr; name = {p.at} .name; now = {now} }}) ({p.s_} ∷ [])) (tt, (tt, tt)) (ap (λ (m : ℕ). sliceVal ({p.at} .ptr) m ∷ []) (sym ({same})), {room_now()}) $ fjoin ! $')
         exit_steps.becomes(2, 'one')
         exit_steps.front('one', 'had')
     exit_steps.becomes(2, 'had', by='fjoin !')
@@ -511,7 +511,7 @@ exit_steps.becomes(1, by='frame !')
 exit_steps.say(result.owned() + ' done !')
 final_items = chain(
     [y for p in (row, rec) if p for y in (
-        (f'‵ (fobs ({p.at} .name) (codedHoleys R-Handle .code (heres R-Handle {state["row"]})))', f'‵ (fbor {p.k} (Held R-Handle (length {state["row"]}) {p.b} {p.o} ({p.at} .name)))', p.tok) if p.kind == 'row' else
+        (f'‵ (fobs ({p.at} .name) (codedHoleys R-Bound .code (heres R-Bound {state["row"]})))', f'‵ (fbor {p.k} (Held R-Bound (length {state["row"]}) {p.b} {p.o} ({p.at} .name)))', p.tok) if p.kind == 'row' else
         (f'‵ (fobs ({p.at} .name) ({p.R} .coded .code {last_rec.x}))', f'‵ (fbor {p.k} (Inside (mem {p.R}) {p.b} {p.o} ({p.at} .name)))', p.tok))] + ['After x'])
 parts[-1].append(' '.join(context.out).replace('FINAL', final_items).replace('RESULT', result.machine).replace('(exits x p)', f'(exits x p{"".join(" " + g for _, _, g in made_facts)})'))
 addresses = ' '.join(lname(j) for j in range(local_count))
@@ -553,8 +553,8 @@ uses = []
 for s in structs:
     c, n = s.split('::')[0], s.split('::')[-1]
     uses += [f'use {facade(c, "specs")}.declared.{n}.{{{n}}}', f'use {facade(c, "proofs")}.{n} as {n}-type', f'use {facade(c, "proofs")}.{n}.Laws as {n}-laws']
-    if s == 'standby_row::Handle':
-        uses.append(f'use {facade("standby_row", "proofs")}.Rows.{{R as R-Handle, val as val-Handle, vals as vals-Handle, tells as tells-Handle, makes as makes-Handle}}')
+    if s == 'standby_row::Bound':
+        uses.append(f'use {facade("standby_row", "proofs")}.Rows.{{R as R-Bound, val as val-Bound, vals as vals-Bound, tells as tells-Bound, makes as makes-Bound}}')
     else:
         uses.append(f'use {facade(c if c == "standby_row" else crate, "proofs")}.Records.{{{", ".join(f"{k}-{n}" for k in ("R", "val", "vals", "tells", "makes"))}}}')
 rowfns = [f for f in known if f.startswith('standby_row::')]
@@ -600,7 +600,7 @@ contracts = '\n\n'.join(f'  abbrev {camel(f)} : Contract 𝓤\n  {camel(f)} = tr
 
 
 def slot(p: Param) -> str:                           # what the signature has at a parameter
-    return f'arrayOf (plain (λ _. R-Handle)) {p.t[2][1]}' if not p.ref and p.t[0] == 'tyArray' else f'plain (λ _. {p.R})'
+    return f'arrayOf (plain (λ _. R-Bound)) {p.t[2][1]}' if not p.ref and p.t[0] == 'tyArray' else f'plain (λ _. {p.R})'
 
 
 stay = nest([{'rec': f'stay-ref ({getattr(p, "l", 0)} ∷ []) tt ({slot(p)})', 'row': f'stay-slice ({getattr(p, "l", 0)} ∷ []) tt ({slot(p)})', 'gave': f'gave-slice ({getattr(p, "l", 0)} ∷ []) tt ({slot(p)})',

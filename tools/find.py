@@ -1,4 +1,4 @@
-"""Writes the walks of `standby_row::find`, `standby_row::find_free` and `standby_row::find_broken`: one text, a loop over a `&[Handle]` for the first record of which a covered test holds.
+"""Writes the walks of `standby_row::find`, `standby_row::find_free` and `standby_row::find_broken`: one text, a loop over a `&[Bound]` for the first record of which a covered test holds.
 Run from anywhere: python3 tools/find.py, then rt fmt. `gen(function, test, what it says of h, its numbers beside the record: a name and a width each)`."""
 import os
 
@@ -21,7 +21,7 @@ def gen(path: str, pred_path: str, said: str, extras: list[tuple[str, str]]) -> 
     at = nest(['s ∷ []'] + [f'{v} ∷ []' for v in kvals])
     atT = nest(['List Val'] * (1 + X), 'Unit {0}', ' × ')[1:-1]
     x = nest(['record { ptr = (b, o); name = γ; now = ys }'] + names)
-    xT = nest(['RefT (List Handle)'] + ['ℕ'] * X, 'Unit {0}', ' × ')[1:-1]
+    xT = nest(['RefT (List Bound)'] + ['ℕ'] * X, 'Unit {0}', ' × ')[1:-1]
     fits = nest(['tt'] * (1 + X))
     vs = ' ∷ '.join(['s'] + kvals + ['[]'])
     p = f'is{sp}'
@@ -89,10 +89,10 @@ use denote.Triple.Table.{{entered, cited}}
 use denote.Triple.Walked.{{says, Stays, stay-dropped, walkOf, Walks, ends-at, walked, goes-dropped, walk-meets}}
 use denote.Exit.{{yes}}
 use borrow.Author.Tests.{{ltb-true, ltb-false}}
-use Rattle.standby_row.specs.declared.Handle.{{Handle}}
+use Rattle.standby_row.specs.declared.Bound.{{Bound}}
 use Rattle.standby_row.specs.Row.{{freeRecord, {said.split()[0]}, firstOf}}
-use Rattle.standby_row.proofs.Handle as T
-use Rattle.standby_row.proofs.Handle.Laws as T′
+use Rattle.standby_row.proofs.Bound as T
+use Rattle.standby_row.proofs.Bound.Laws as T′
 use Rattle.standby_row.proofs.Lists.{{Sought, starts, goes-on, found, over}}
 use Rattle.standby_row.proofs.Rows.{{R, val, vals, tells, copies, makes, product-fits, place-at, by-bool, passes-by, goes-in}}
 use Rattle.standby_row.proofs.{pred_path} as {pred}
@@ -115,7 +115,7 @@ abbrev slice : Ty
 slice = sliceTy (tyRef (named 0) imm (pointee (R .written)))
 
 -- what is sought
-abbrev is : {'ℕ → ' * X}Handle → Bool
+abbrev is : {'ℕ → ' * X}Bound → Bool
 is{sp} h = {said}
 
 -- the contract that the proof cites, and of its `ensured` the clause alone
@@ -123,10 +123,10 @@ module _ {{M : Type 1}} (𝓤 : URA M) (H : Heap 𝓤) (A : Atoms 𝓤) (memory 
   abbrev Test : Contract 𝓤
   Test = tripleOf 𝓤 H A {pred}.signature ({pred}.spec 𝓤 H A memory run)
 
-  told : (h : Handle){kargs} (r : Bool) → ent 𝓤 (ensured 𝓤 H A {pred}.ended ({pred}.clauses 𝓤 H A memory run) tt {pargs} tt r) (fact 𝓤 (r ≡ {p} h))
+  told : (h : Bound){kargs} (r : Bool) → ent 𝓤 (ensured 𝓤 H A {pred}.ended ({pred}.clauses 𝓤 H A memory run) tt {pargs} tt r) (fact 𝓤 (r ≡ {p} h))
   told h{sp} r = exE 𝓤 _ (λ ws. snd∗ 𝓤 (sem 𝓤 H A (lasts {pred}.ended tt {pargs} ws)) (fact 𝓤 (r ≡ {p} h)))
 
-module _ {{M : Type 1}} (𝓤 : URA M) (H : Heap 𝓤) (A : Atoms 𝓤) (W : Given 𝓤 H A) (memory : Memory → SProp 𝓤) (run : Routine → Fun 𝓤) (κ : Lft) (q : Share) (b o : ℕ) (γ : GName) (ys : List Handle){kargs} (room : Room R (length ys)){kfit} where
+module _ {{M : Type 1}} (𝓤 : URA M) (H : Heap 𝓤) (A : Atoms 𝓤) (W : Given 𝓤 H A) (memory : Memory → SProp 𝓤) (run : Routine → Fun 𝓤) (κ : Lft) (q : Share) (b o : ℕ) (γ : GName) (ys : List Bound){kargs} (room : Room R (length ys)){kfit} where
   abbrev n : ℕ
   n = length ys
 
@@ -149,10 +149,10 @@ module _ {{M : Type 1}} (𝓤 : URA M) (H : Heap 𝓤) (A : Atoms 𝓤) (W : Giv
       nothing ! $ move ! (1 ∷ 0 ∷ []) $ join ! $ owned ! usize (Is usize) (uint-makes 𝓤 H A W w64) i _ (refl, i-fits) $ {drops} move ! (2 ∷ 0 ∷ []) $ done !
 
   -- what the test's triple binds outside at a record h, and that what it asks is had for nothing
-  abbrev to : Handle → Test 𝓤 H A memory run .Ghost
+  abbrev to : Bound → Test 𝓤 H A memory run .Ghost
   to h = ((tt, tt, tt, {pargs}, {nest(['vals h'] + [f'{v} ∷ []' for v in kvals])}), tt)
 
-  goes : (h : Handle) → Is R h (vals h) → ent 𝓤 (emp 𝓤) (Test 𝓤 H A memory run .pre (to h))
+  goes : (h : Bound) → Is R h (vals h) → ent 𝓤 (emp 𝓤) (Test 𝓤 H A memory run .pre (to h))
   goes h is-h =
       qed W [] ∵ nothing ! $ nothing ! $ {kown}owned ! R (Is R) (makes 𝓤 H A W) h (vals h) is-h $ fjoin ! $ nothing ! $ join ! $ done !
 
@@ -241,7 +241,7 @@ module _ {{M : Type 1}} (𝓤 : URA M) (H : Heap 𝓤) (A : Atoms 𝓤) (W : Giv
         less : i .0 < n
         less = ltb-true (i .0) n e
 
-        h : Handle
+        h : Bound
         h = getD ys (i .0) freeRecord
 
         next : {p} h ≡ false → Upto

@@ -3,7 +3,7 @@
 set -eu
 cd "$(dirname "$(readlink -f "$0")")/.."
 call() { # FUNCTION CORE MODEL_CALL
-    python3 tools/entry.py replica "$1" "$2" "(called the-s the-c the-row $3 the-words (x .1 .1 .1 .0) the-bytes (x .1 .1 .1 .1 .0) the-holds (x .1 .1 .1 .1 .1 .0) (x .0) (p .1))" 'Rattle.standby_step.proofs.Called.{called}'
+    python3 tools/entry.py replica "$1" "$2" "(called the-settings the-counters the-row $3 the-words (x .1 .1 .1 .0) the-bytes (x .1 .1 .1 .1 .0) the-holds (x .1 .1 .1 .1 .1 .0) (x .0) (p .1))" 'Rattle.standby_step.proofs.Called.{called}'
 }
 call on_frame_held frame_held '(onFrameHeld the-frame)'
 call on_frame frame_now '(onFrame the-frame)'
@@ -11,6 +11,6 @@ call flush flush '(flush the-connection)'
 call disconnected_from disconnected_from '(disconnectedFrom the-connection)'
 call promote promote promote
 call promote_unchecked promote_unchecked promoteUnchecked
-python3 tools/entry.py replica make made "(made-over the-s the-c the-row the-words (x .1 .1 .1 .0) the-bytes (x .0) (p .1))" 'Rattle.replica.proofs.Making.{made-over}'
+python3 tools/entry.py replica make made "(made-over the-settings the-counters the-row the-words (x .1 .1 .1 .0) the-bytes (x .0) (p .1))" 'Rattle.replica.proofs.Making.{made-over}'
 python3 tools/entry.py replica on_frame4 on_frame
 rt fmt

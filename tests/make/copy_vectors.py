@@ -1,5 +1,5 @@
 #!/usr/bin/env python3
-"""Writes stdin and stdout of crates/vectors_copy: whole sendings over a way that damages, repeats and drops frames, and the Rust's answers.
+"""Writes stdin and stdout of crates/vectors_copy: whole sendings over a link that damages, repeats and drops frames, and the Rust's answers.
 
 A's frames are those of a sending in the Rust (oracle/rust-calls, which needs rustc and the Rust's text), filled by the script's changes; each
 frame goes, as the way leaves it, to the Rust's standby, whose answer and session are taken as they come. That the session is A or B after

@@ -14,7 +14,7 @@ use Rattle.model_frame.specs.Writing.{encode}
 use Rattle.model_session.specs.Session.{Session, top}
 use Rattle.model_session.specs.Sender.{Sender, newSender, cutFrom, sendNext, cannotSend}
 use Rattle.model_session.specs.Whole.{wholeBatches}
-use Rattle.active_batch.specs.declared.Written.the-variants.{Batch, TooShort}
+use Rattle.active_batch.specs.declared.BatchWritten.the-variants.{Batch, TooShort}
 use Rattle.active_batch.specs.Batch.{frameFrom, resumeFrom, WroteBatch}
 use Rattle.store_areas.specs.declared.Shape.{Shape}
 use Rattle.active.specs.declared.Sending.{Sending}
@@ -90,7 +90,7 @@ module _ (limit : ℕ) (a : Session) (i h e last : ℕ) (out : List ℕ) where
 -- ---- the promise
 
 module _ (limit : ℕ) (shape : Shape) (w b : List ℕ) (s : Sending) (out : List ℕ) where
-  pub not-stored : storedAt shape w b (s .place) ≡ none → SendsWhole limit shape w b s out out Sent.Unfit
+  pub not-stored : storedAt shape w b (s .place) ≡ none → SendsWhole limit shape w b s out out Sent.InvalidAreas
   unfolding stepFrom areaFrom
   not-stored k = record { answer = rw k; area = rw k }
 
@@ -99,7 +99,7 @@ module _ (limit : ℕ) (shape : Shape) (w b : List ℕ) (s : Sending) (out : Lis
     is-done d = record { answer = rw (k, d) (done-step limit a (s .place) (s .handle) (s .epoch .0) (s .last .0) out); area = rw (k, d) (done-area limit a (s .place) (s .handle) (s .epoch .0) (s .last .0) out) }
 
     module _ (d : s .done ≡ false) where
-      pub is-spent : top ≤ s .last .0 → SendsWhole limit shape w b s out out Sent.Unfit
+      pub is-spent : top ≤ s .last .0 → SendsWhole limit shape w b s out out Sent.InvalidAreas
       is-spent g = record {
         answer = rw (k, d) (spent-step limit a (s .place) (s .handle) (s .epoch .0) (s .last .0) out (s .from) g);
         area = rw (k, d) (spent-area limit a (s .place) (s .handle) (s .epoch .0) (s .last .0) out (s .from) g);

@@ -200,7 +200,7 @@ is-finished : (r : Sent) → stepOf r ≡ finished → r ≡ Sent.Done
 is-finished (Sent.Frame len s) e = absurd (let z : _≡_ {A = ℕ} 0 1 = cc in omega arith)
 is-finished Sent.Done e = refl
 is-finished Sent.TooShort e = absurd (let z : _≡_ {A = ℕ} 0 1 = cc in omega arith)
-is-finished Sent.Unfit e = absurd (let z : _≡_ {A = ℕ} 0 1 = cc in omega arith)
+is-finished Sent.InvalidAreas e = absurd (let z : _≡_ {A = ℕ} 0 1 = cc in omega arith)
 
 -- ---- the theorem
 
@@ -244,7 +244,7 @@ module _ (limit : ℕ) (shape : Shape) (w b : List ℕ) (a : Session) (h e last 
         so = q .so;
         at-end = λ out out' r z p. ended out out' r p (none-next limit a (senderOf t) (subst (Sends limit a (senderOf t)) z (q .goes)));
         then-all = λ out out' p. all-given (next-none limit a (senderOf t) (q .so .left) (q .goes) (done-only (spent (t .last .0) (senderOf t .from)) (sendNext limit a (senderOf t)) (length out) (t .place) (answer-at t k out out' Sent.Done p)));
-        never-unfit = λ out out' p. never-spent limit a (senderOf t) (q .so .left) (q .goes) n (unfit-only (spent (t .last .0) (senderOf t .from)) (sendNext limit a (senderOf t)) (length out) (t .place) (answer-at t k out out' Sent.Unfit p));
+        never-unfit = λ out out' p. never-spent limit a (senderOf t) (q .so .left) (q .goes) n (unfit-only (spent (t .last .0) (senderOf t .from)) (sendNext limit a (senderOf t)) (length out) (t .place) (answer-at t k out out' Sent.InvalidAreas p));
         never-short = λ out out' room p. too-long out room (short-only (spent (t .last .0) (senderOf t .from)) (sendNext limit a (senderOf t)) (length out) (t .place) (answer-at t k out out' Sent.TooShort p));
       }
     where

@@ -40,8 +40,8 @@ pub data SendStart : Type 0 where
 
 abbrev pub startOf : Begun → SendStart
 startOf (Begun.Ready s) = ready (s .place) (senderOf s)
-startOf Begun.NumbersPast = refused Refusal.numbersPast
-startOf Begun.Unfit = refused Refusal.rulesBroken
+startOf Begun.CommitNumbersExhausted = refused Refusal.numbersPast
+startOf Begun.InvalidAreas = refused Refusal.rulesBroken
 
 unfoldable pub startFrom : ℕ → Option Session → ℕ → ℕ → ℕ → ℕ → SendStart
 startFrom limit none i h e last = refused Refusal.rulesBroken
@@ -59,7 +59,7 @@ abbrev pub stepOf : Sent → SendStep
 stepOf (Sent.Frame len s) = gives len (s .place) (senderOf s)
 stepOf Sent.Done = finished
 stepOf Sent.TooShort = refused Refusal.noRoom
-stepOf Sent.Unfit = refused Refusal.rulesBroken
+stepOf Sent.InvalidAreas = refused Refusal.rulesBroken
 
 -- a frame is still to be sent, and its commit number would pass 2^64 - 1: no operation leaves such a state
 abbrev pub spent : ℕ → Option ℕ → Bool
@@ -110,5 +110,5 @@ pub record SentWhole (limit : ℕ) (shape : Shape) (w b : List ℕ) (a : Session
   pub so : Sofar (wholeFrames limit h e last a) fs
   pub at-end : (out out' : List ℕ) (r : Sent) → so .left ≡ [] → SendsWhole limit shape w b t out out' r → (r ≡ Sent.Done) × (out' ≡ out)
   pub then-all : (out out' : List ℕ) → SendsWhole limit shape w b t out out' Sent.Done → fs ≡ map encode (wholeFrames limit h e last a)
-  pub never-unfit : (out out' : List ℕ) → SendsWhole limit shape w b t out out' Sent.Unfit → ⊥
+  pub never-unfit : (out out' : List ℕ) → SendsWhole limit shape w b t out out' Sent.InvalidAreas → ⊥
   pub never-short : (out out' : List ℕ) → shape .bytes + 22 * shape .messages + 156 ≤ length out → SendsWhole limit shape w b t out out' Sent.TooShort → ⊥

@@ -39,7 +39,7 @@ module _ (limit C M : ℕ) (h : Header) (log ring : List ℕ) (from : ℕ) where
       → From C M (h .«next_outgoing») next log ring left dist → Measured limit C M (h .«next_outgoing») log ring left dist next left' dist' next' count size
       → ((text : List ℕ) → length text ≡ h .stamp → Spans (openingOf text from) oc os) → (oc ≤ 2) × (os ≤ 38)
       → ((text : List ℕ) → length text ≡ h .marks → Spans (endingOf h text (eqb left' 0) next') ec es) → (ec ≤ 3) × (es ≤ 95)
-      → Planned limit C M h log ring from (record { left = left; dist = dist; next = next; goes = next'; last = eqb left' 0; count = oc + count + ec; size = os + size + es })
+      → Planned limit C M h log ring from (record { left = left; dist = dist; next = next; «resume_from» = next'; last = eqb left' 0; count = oc + count + ec; size = os + size + es })
   planned left dist next left' dist' next' count size oc os ec es hc hm en f m o ob e eb =
       record {
         stands = f .stands;
@@ -70,7 +70,7 @@ module _ (limit C M : ℕ) (h : Header) (log ring : List ℕ) (from : ℕ) where
     goes-is next (m ∷ ms) = refl
 
     pub cut-planned : (p : Plan) → Rising 1 (h .«next_outgoing») (logOf C M (h .«next_outgoing») log ring) → Planned limit C M h log ring from p
-        → cutFrom limit a from ≡ record { changes = plannedChanges limit C M h log ring stamp marks from p; goesOn = resumeFrom (p .goes) (p .last) }
+        → cutFrom limit a from ≡ record { changes = plannedChanges limit C M h log ring stamp marks from p; goesOn = resumeFrom (p .«resume_from») (p .last) }
     cut-planned p r q =
         let ms : List Msg = restOf C M (h .«next_outgoing») log ring (p .left) in
         let e : messagesFrom (max from 1) (a .messages) ≡ ms = from-same (max from 1) 1 (h .«next_outgoing») (a .messages) r ∙ sym (q .starts) in

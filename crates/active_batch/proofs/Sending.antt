@@ -21,7 +21,7 @@ use Rattle.active_messages.proofs.Counting.{count-is}
 use Rattle.active_messages.proofs.Cutting.{numbered-all}
 use Rattle.active_header.specs.declared.Header.{Header}
 use Rattle.active_batch.specs.declared.Plan.{Plan}
-use Rattle.active_batch.specs.declared.Written.the-variants.{Batch, TooShort}
+use Rattle.active_batch.specs.declared.BatchWritten.the-variants.{Batch, TooShort}
 use Rattle.active_header.specs.Ends.{Heads}
 use Rattle.active_batch.specs.Batch.{sessionWith, plannedChanges, Planned, partIs, frameFrom, resumeFrom, WroteBatch}
 use Rattle.active_batch.proofs.Planning.{cut-planned}
@@ -85,18 +85,18 @@ module _ (limit C M : ℕ) (w b : List ℕ) (lb : length b ≡ 224 + C) (hd : He
     rises : Rising 1 (hd .«next_outgoing») messages
     rises = lawful (length ring) M (hd .«next_outgoing») logs ring (small-take (length b - 224) (drop 224 b) (omega arith) (small-drop 224 b small)) .rising
 
-    cut-at : cutFrom limit (sessionOf C M w b) from ≡ record { changes = changes; goesOn = resumeFrom (p .goes) (p .last) }
+    cut-at : cutFrom limit (sessionOf C M w b) from ≡ record { changes = changes; goesOn = resumeFrom (p .«resume_from») (p .last) }
     cut-at = ap (λ (a : Session). cutFrom limit a from) session-is ∙ cut-planned limit (length ring) M hd logs ring from stamp marks p rises q
 
     pub frame-is : frameFrom limit (sessionOf C M w b) h e n from ≡ batch h e n (partIs (p .last)) changes []
     unfolding frameFrom
-    frame-is = ap (λ (k : Cut). batch h e n (sentPart (k .goesOn)) (k .changes) []) cut-at ∙ ap (λ (x : Part). batch h e n x changes []) (part-is (p .goes) (p .last))
+    frame-is = ap (λ (k : Cut). batch h e n (sentPart (k .goesOn)) (k .changes) []) cut-at ∙ ap (λ (x : Part). batch h e n x changes []) (part-is (p .«resume_from») (p .last))
 
     long : length (encode (frameFrom limit (sessionOf C M w b) h e n from)) ≡ 34 + p .size
     long = ap (λ (f : Frame). length (encode f)) frame-is ∙ frame-length h e n (partIs (p .last)) changes (q .spans stamp marks stamp-length marks-length)
 
     pub sent : (out out' : List ℕ) → 34 + p .size ≤ length out → out' ≡ write out 0 (encode (batch h e n (partIs (p .last)) changes []))
-        → WroteBatch limit (sessionOf C M w b) h e n from out out' (Batch (34 + p .size) (p .goes) (p .last))
+        → WroteBatch limit (sessionOf C M w b) h e n from out out' (Batch (34 + p .size) (p .«resume_from») (p .last))
     sent out out' k v = (sym long, k, v ∙ ap (λ (f : Frame). write out 0 (encode f)) (sym frame-is), ap (λ (c : Cut). c .goesOn) cut-at)
 
     pub too-short : (out : List ℕ) → length out < 34 + p .size → WroteBatch limit (sessionOf C M w b) h e n from out out TooShort

@@ -19,8 +19,8 @@ use Rattle.active_messages.specs.Cut.{taken, leftOver, nextAfter}
 use Rattle.active_header.specs.declared.Header.{Header}
 use Rattle.active_header.specs.Ends.{Spans, openingOf, endingOf}
 use Rattle.active_batch.specs.declared.Plan.{Plan}
-use Rattle.active_batch.specs.declared.Written.{Written}
-use Rattle.active_batch.specs.declared.Written.the-variants.{Batch, TooShort}
+use Rattle.active_batch.specs.declared.BatchWritten.{BatchWritten}
+use Rattle.active_batch.specs.declared.BatchWritten.the-variants.{Batch, TooShort}
 
 -- the session with this header, these texts and these messages
 abbrev pub sessionWith : Header → List ℕ → List ℕ → List Msg → Session
@@ -37,13 +37,13 @@ sessionWith h stamp marks ms =
 module _ (limit C M : ℕ) (h : Header) (log ring : List ℕ) where
   -- the changes of a batch that goes by a plan
   abbrev pub plannedChanges : List ℕ → List ℕ → ℕ → Plan → List Change
-  plannedChanges stamp marks from p = openingOf stamp from ++ (taken limit 0 (p .next) (restOf C M (h .«next_outgoing») log ring (p .left)) ++ endingOf h marks (p .last) (p .goes))
+  plannedChanges stamp marks from p = openingOf stamp from ++ (taken limit 0 (p .next) (restOf C M (h .«next_outgoing») log ring (p .left)) ++ endingOf h marks (p .last) (p .«resume_from»))
 
   pub record Planned (from : ℕ) (p : Plan) : Type 0 where
     pub stands : Position C M (h .«next_outgoing») log ring (p .left) (p .dist)
     pub starts : restOf C M (h .«next_outgoing») log ring (p .left) ≡ numberedFrom (max from 1) (logOf C M (h .«next_outgoing») log ring)
     pub begins : p .next ≡ max from 1
-    pub goes-on : p .goes ≡ nextAfter limit 0 (p .next) (restOf C M (h .«next_outgoing») log ring (p .left))
+    pub goes-on : p .«resume_from» ≡ nextAfter limit 0 (p .next) (restOf C M (h .«next_outgoing») log ring (p .left))
     pub is-last : p .last ≡ isEmpty (leftOver limit 0 (restOf C M (h .«next_outgoing») log ring (p .left)))
     pub spans : (stamp marks : List ℕ) → length stamp ≡ h .stamp → length marks ≡ h .marks → Spans (plannedChanges stamp marks from p) (p .count) (p .size)
     pub few : p .count ≤ 131077
@@ -66,7 +66,7 @@ abbrev pub resumeFrom : ℕ → Bool → Option ℕ
 resumeFrom from done = cond done none (some from)
 
 -- what is answered, and what stands in the lent area: the frame at its start and the rest as it was, or 9 and all as it was
-abbrev pub WroteBatch : ℕ → Session → ℕ → ℕ → ℕ → ℕ → List ℕ → List ℕ → Written → Type 0
+abbrev pub WroteBatch : ℕ → Session → ℕ → ℕ → ℕ → ℕ → List ℕ → List ℕ → BatchWritten → Type 0
 WroteBatch limit a h e n from out out' (Batch len next done) =
     (len ≡ length (encode (frameFrom limit a h e n from))) × (len ≤ length out) × (out' ≡ write out 0 (encode (frameFrom limit a h e n from))) × (cutFrom limit a from .goesOn ≡ resumeFrom next done)
 WroteBatch limit a h e n from out out' TooShort = (suc (length out) ≤ length (encode (frameFrom limit a h e n from))) × (out' ≡ out)

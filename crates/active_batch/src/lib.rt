@@ -20,21 +20,24 @@ use frame_fields::part_byte;
 use store_place::byte;
 use store_place::word;
 
-// A batch: the place in the log where its messages begin, its first number, the next number after it, whether it is the last,
-// how many changes it has, and their bytes.
+// A batch before it is written.
 #[repr(C)]
 pub struct Plan {
+    // The position in the log where its messages begin.
     pub left: usize,
     pub dist: usize,
+    // The next outgoing number before it, and after it.
     pub next: u64,
-    pub goes: u64,
+    pub resume_from: u64,
+    // Whether it is the last.
     pub last: bool,
+    // Its changes, and their bytes.
     pub count: usize,
     pub size: usize,
 }
 
 // A frame's length, the number that sending goes on from, and whether this was the last; or an area that is too short.
-pub enum Written {
+pub enum BatchWritten {
     Batch(usize, u64, bool),
     TooShort,
 }
@@ -50,34 +53,34 @@ fn first_number(from: u64) -> u64
 }
 
 // Plans the batch that begins at a number, in the log of a session with this header.
-fn plan_from(h: Header, words: &[u64], bytes: &[u8], max: usize, from: u64, limit: u64) -> Plan
+fn plan_from(header: Header, words: &[u64], bytes: &[u8], max: usize, from: u64, limit: u64) -> Plan
     requires { ⌜ 2 + 2 * max ≤ length (now words) ⌝ }
     requires { ⌜ max ≤ 65536 ⌝ }
     requires { ⌜ length (now bytes) ≤ 33554432 ⌝ }
-    requires { ⌜ 1 ≤ h .«next_outgoing» ⌝ }
-    requires { ⌜ h .stamp ≤ 32 ⌝ }
-    requires { ⌜ h .marks ≤ 64 ⌝ }
-    ensures { λ r. ⌜ Planned limit (length (now (bytes .entry))) max h (now (words .entry)) (now (bytes .entry)) from r ⌝ }
+    requires { ⌜ 1 ≤ header .«next_outgoing» ⌝ }
+    requires { ⌜ header .stamp ≤ 32 ⌝ }
+    requires { ⌜ header .marks ≤ 64 ⌝ }
+    ensures { λ r. ⌜ Planned limit (length (now (bytes .entry))) max header (now (words .entry)) (now (bytes .entry)) from r ⌝ }
 {
     let next = first_number(from);
-    let c = store_log::messages_from(words, bytes, max, h.next_outgoing, next);
+    let c = store_log::messages_from(words, bytes, max, header.next_outgoing, next);
     let cut = active_messages::measure(
         words,
         bytes,
         max,
-        h.next_outgoing,
+        header.next_outgoing,
         c.left,
         c.dist,
         next,
         limit,
     );
-    let opening = active_header::opening_extent(h.stamp, from);
-    let ending = active_header::ending_extent(h, cut.left, cut.next);
+    let opening = active_header::opening_extent(header.stamp, from);
+    let ending = active_header::ending_extent(header, cut.left, cut.next);
     Plan {
         left: c.left,
         dist: c.dist,
         next,
-        goes: cut.next,
+        resume_from: cut.next,
         last: cut.left == 0,
         count: opening.count + cut.count + ending.count,
         size: opening.size + cut.size + ending.size,
@@ -88,7 +91,7 @@ fn plan_from(h: Header, words: &[u64], bytes: &[u8], max: usize, from: u64, limi
 
 // Writes the changes of a batch that goes by a plan.
 fn put_changes(
-    h: Header,
+    header: Header,
     stamp: &[u8],
     marks: &[u8],
     words: &[u64],
@@ -96,7 +99,7 @@ fn put_changes(
     max: usize,
     from: u64,
     limit: u64,
-    p: Plan,
+    plan: Plan,
     out: &mut [u8],
     at: usize,
 ) -> usize
@@ -104,24 +107,24 @@ fn put_changes(
     requires { ⌜ length (now bytes) ≤ 33554432 ⌝ }
     requires { ⌜ length (now stamp) ≤ 32 ⌝ }
     requires { ⌜ length (now marks) ≤ 64 ⌝ }
-    requires { ⌜ Position (length (now bytes)) max (h .«next_outgoing») (now words) (now bytes) (p .left) (p .dist) ⌝ }
-    requires { ⌜ at + sizes (plannedChanges limit (length (now bytes)) max h (now words) (now bytes) (now stamp) (now marks) from p) ≤ length (now out) ⌝ }
-    ensures { λ r. ⌜ Wrote (now (out .entry)) at (runBytes changeBytes (plannedChanges limit (length (now (bytes .entry))) max h (now (words .entry)) (now (bytes .entry)) (now (stamp .entry)) (now (marks .entry)) from p)) (now (out .exit)) r ⌝ }
+    requires { ⌜ Position (length (now bytes)) max (header .«next_outgoing») (now words) (now bytes) (plan .left) (plan .dist) ⌝ }
+    requires { ⌜ at + sizes (plannedChanges limit (length (now bytes)) max header (now words) (now bytes) (now stamp) (now marks) from plan) ≤ length (now out) ⌝ }
+    ensures { λ r. ⌜ Wrote (now (out .entry)) at (runBytes changeBytes (plannedChanges limit (length (now (bytes .entry))) max header (now (words .entry)) (now (bytes .entry)) (now (stamp .entry)) (now (marks .entry)) from plan)) (now (out .exit)) r ⌝ }
 {
     let opened = active_header::put_opening(stamp, from, out, at);
     let pos = active_messages::put_messages(
         words,
         bytes,
         max,
-        h.next_outgoing,
-        p.left,
-        p.dist,
-        p.next,
+        header.next_outgoing,
+        plan.left,
+        plan.dist,
+        plan.next,
         limit,
         out,
         opened,
     );
-    active_header::put_ending(h, marks, p.last, p.goes, out, pos)
+    active_header::put_ending(header, marks, plan.last, plan.resume_from, out, pos)
 }
 
 fn part_byte(last: bool) -> u8
@@ -160,7 +163,7 @@ fn put_head(
 
 // Writes the frame of a batch that goes by a plan at the start of the area.
 fn put_frame(
-    h: Header,
+    header: Header,
     stamp: &[u8],
     marks: &[u8],
     words: &[u64],
@@ -168,7 +171,7 @@ fn put_frame(
     max: usize,
     from: u64,
     limit: u64,
-    p: Plan,
+    plan: Plan,
     handle: u32,
     epoch: Epoch,
     number: CommitNumber,
@@ -176,16 +179,28 @@ fn put_frame(
 )
     requires { ⌜ 2 + 2 * max ≤ length (now words) ⌝ }
     requires { ⌜ length (now bytes) ≤ 33554432 ⌝ }
-    requires { ⌜ length (now stamp) ≡ h .stamp ⌝ }
-    requires { ⌜ h .stamp ≤ 32 ⌝ }
-    requires { ⌜ length (now marks) ≡ h .marks ⌝ }
-    requires { ⌜ h .marks ≤ 64 ⌝ }
-    requires { ⌜ Planned limit (length (now bytes)) max h (now words) (now bytes) from p ⌝ }
-    requires { ⌜ 34 + p .size ≤ length (now out) ⌝ }
-    ensures { λ _. ⌜ now (out .exit) ≡ write (now (out .entry)) 0 (encode (batch handle (epoch .0) (number .0) (partIs (p .last)) (plannedChanges limit (length (now (bytes .entry))) max h (now (words .entry)) (now (bytes .entry)) (now (stamp .entry)) (now (marks .entry)) from p) [])) ⌝ }
+    requires { ⌜ length (now stamp) ≡ header .stamp ⌝ }
+    requires { ⌜ header .stamp ≤ 32 ⌝ }
+    requires { ⌜ length (now marks) ≡ header .marks ⌝ }
+    requires { ⌜ header .marks ≤ 64 ⌝ }
+    requires { ⌜ Planned limit (length (now bytes)) max header (now words) (now bytes) from plan ⌝ }
+    requires { ⌜ 34 + plan .size ≤ length (now out) ⌝ }
+    ensures { λ _. ⌜ now (out .exit) ≡ write (now (out .entry)) 0 (encode (batch handle (epoch .0) (number .0) (partIs (plan .last)) (plannedChanges limit (length (now (bytes .entry))) max header (now (words .entry)) (now (bytes .entry)) (now (stamp .entry)) (now (marks .entry)) from plan) [])) ⌝ }
 {
-    put_head(p.size, handle, epoch, number, p.last, p.count, out);
-    let pos = put_changes(h, stamp, marks, words, bytes, max, from, limit, p, out, 30);
+    put_head(plan.size, handle, epoch, number, plan.last, plan.count, out);
+    let pos = put_changes(
+        header,
+        stamp,
+        marks,
+        words,
+        bytes,
+        max,
+        from,
+        limit,
+        plan,
+        out,
+        30,
+    );
     base_bytes::put_u32(out, pos, 0);
 }
 
@@ -200,7 +215,7 @@ pub fn send(
     epoch: Epoch,
     number: CommitNumber,
     out: &mut [u8],
-) -> Written
+) -> BatchWritten
     requires { ⌜ 16 + 2 * max ≤ length (now words) ⌝ }
     requires { ⌜ max ≤ 65536 ⌝ }
     requires { ⌜ 224 ≤ length (now bytes) ⌝ }
@@ -215,7 +230,7 @@ pub fn send(
     let p = plan_from(h, log, ring, max, from, limit);
     let len = 34 + p.size;
     if out.len() < len {
-        return Written::TooShort;
+        return BatchWritten::TooShort;
     }
     let stamp = &bytes[byte::STAMP..stamp_end];
     let marks = &bytes[byte::MARKS..marks_end];
@@ -234,7 +249,7 @@ pub fn send(
         number,
         out,
     );
-    Written::Batch(len, p.goes, p.last)
+    BatchWritten::Batch(len, p.resume_from, p.last)
 }
 
 // How many batches send the session at a place.

@@ -106,14 +106,14 @@ fn put_incoming(next: u64, in_flight: Flight, out: &mut [u8], at: usize) -> usiz
     }
 }
 
-fn closing_extent(h: Header, next: u64) -> Extent
-    requires { ⌜ h .marks ≤ 64 ⌝ }
-    ensures spans { λ r. ⌜ ((text : List ℕ) → length text ≡ h .marks → Spans (closingOf h text next) (r .count) (r .size)) ⌝ }
+fn closing_extent(header: Header, next: u64) -> Extent
+    requires { ⌜ header .marks ≤ 64 ⌝ }
+    ensures spans { λ r. ⌜ ((text : List ℕ) → length text ≡ header .marks → Spans (closingOf header text next) (r .count) (r .size)) ⌝ }
     ensures small { λ r. ⌜ (r .count ≤ 3) × (r .size ≤ 95) ⌝ }
 {
-    let in_flight = h.in_flight;
-    let size = incoming_size(in_flight) + 5 + h.marks;
-    if next < h.next_outgoing {
+    let in_flight = header.in_flight;
+    let size = incoming_size(in_flight) + 5 + header.marks;
+    if next < header.next_outgoing {
         return Extent {
             count: 3,
             size: size + 9,
@@ -122,34 +122,34 @@ fn closing_extent(h: Header, next: u64) -> Extent
     Extent { count: 2, size }
 }
 
-fn put_closing(h: Header, marks: &[u8], next: u64, out: &mut [u8], at: usize) -> usize
+fn put_closing(header: Header, marks: &[u8], next: u64, out: &mut [u8], at: usize) -> usize
     requires { ⌜ length (now marks) ≤ 64 ⌝ }
-    requires { ⌜ at + sizes (closingOf h (now marks) next) ≤ length (now out) ⌝ }
-    ensures { λ r. ⌜ Wrote (now (out .entry)) at (runBytes changeBytes (closingOf h (now (marks .entry)) next)) (now (out .exit)) r ⌝ }
+    requires { ⌜ at + sizes (closingOf header (now marks) next) ≤ length (now out) ⌝ }
+    ensures { λ r. ⌜ Wrote (now (out .entry)) at (runBytes changeBytes (closingOf header (now (marks .entry)) next)) (now (out .exit)) r ⌝ }
 {
-    let in_flight = h.in_flight;
-    let skipped = put::put_skip(next, h.next_outgoing, out, at);
-    let pos = put_incoming(h.next_incoming, in_flight, out, skipped);
+    let in_flight = header.in_flight;
+    let skipped = put::put_skip(next, header.next_outgoing, out, at);
+    let pos = put_incoming(header.next_incoming, in_flight, out, skipped);
     put::put_text(kind::SET_MARKS, marks, out, pos)
 }
 
 // ---- and only in the last batch
 
 // What stands after the messages, where so many are left.
-pub fn ending_extent(h: Header, left: usize, next: u64) -> Extent
-    requires { ⌜ h .marks ≤ 64 ⌝ }
-    ensures spans { λ r. ⌜ ((text : List ℕ) → length text ≡ h .marks → Spans (endingOf h text (eqb left 0) next) (r .count) (r .size)) ⌝ }
+pub fn ending_extent(header: Header, left: usize, next: u64) -> Extent
+    requires { ⌜ header .marks ≤ 64 ⌝ }
+    ensures spans { λ r. ⌜ ((text : List ℕ) → length text ≡ header .marks → Spans (endingOf header text (eqb left 0) next) (r .count) (r .size)) ⌝ }
     ensures small { λ r. ⌜ (r .count ≤ 3) × (r .size ≤ 95) ⌝ }
 {
     if left == 0 {
-        closing_extent(h, next)
+        closing_extent(header, next)
     } else {
         Extent { count: 0, size: 0 }
     }
 }
 
 pub fn put_ending(
-    h: Header,
+    header: Header,
     marks: &[u8],
     last: bool,
     next: u64,
@@ -157,11 +157,11 @@ pub fn put_ending(
     at: usize,
 ) -> usize
     requires { ⌜ length (now marks) ≤ 64 ⌝ }
-    requires { ⌜ at + sizes (endingOf h (now marks) last next) ≤ length (now out) ⌝ }
-    ensures { λ r. ⌜ Wrote (now (out .entry)) at (runBytes changeBytes (endingOf h (now (marks .entry)) last next)) (now (out .exit)) r ⌝ }
+    requires { ⌜ at + sizes (endingOf header (now marks) last next) ≤ length (now out) ⌝ }
+    ensures { λ r. ⌜ Wrote (now (out .entry)) at (runBytes changeBytes (endingOf header (now (marks .entry)) last next)) (now (out .exit)) r ⌝ }
 {
     if last {
-        put_closing(h, marks, next, out, at)
+        put_closing(header, marks, next, out, at)
     } else {
         at
     }

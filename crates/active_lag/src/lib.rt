@@ -29,7 +29,7 @@ pub struct Queued {
 // How many batches of the front go, and the last of their numbers.
 #[repr(C)]
 pub struct Drained {
-    pub gone: usize,
+    pub drained: usize,
     pub through: u64,
 }
 
@@ -50,14 +50,14 @@ fn is_over(last: u64, drained: u64, max_lag: u64, waiting: usize) -> bool
 // The front goes while the lag is above max_lag or more than 64 of the n numbers wait.
 fn drain_front(queued: [u64; 65], n: usize, last: u64, through: u64, max_lag: u64) -> Drained
     requires { ⌜ n ≤ 65 ⌝ }
-    ensures { λ r. ⌜ Drains «max_lag» last through n (take n queued) (r .gone) (r .through) ⌝ }
+    ensures { λ r. ⌜ Drains «max_lag» last through n (take n queued) (r .drained) (r .through) ⌝ }
 {
     let mut i: usize = 0;
     let mut d = through;
     while i < n {
         if !is_over(last, d, max_lag, n - i) {
             return Drained {
-                gone: i,
+                drained: i,
                 through: d,
             };
         }
@@ -65,7 +65,7 @@ fn drain_front(queued: [u64; 65], n: usize, last: u64, through: u64, max_lag: u6
         i += 1;
     }
     Drained {
-        gone: i,
+        drained: i,
         through: d,
     }
 }
@@ -80,16 +80,16 @@ fn pushed(queued: [u64; 65], count: usize, last: u64) -> [u64; 65]
     out
 }
 
-// The numbers from `gone` up to n, moved to the front.
-fn moved(queued: [u64; 65], gone: usize, n: usize) -> [u64; 65]
-    requires { ⌜ gone ≤ n ⌝ }
+// The numbers from `drained` up to n, moved to the front.
+fn shifted(queued: [u64; 65], drained: usize, n: usize) -> [u64; 65]
+    requires { ⌜ drained ≤ n ⌝ }
     requires { ⌜ n ≤ 65 ⌝ }
-    ensures { λ r. ⌜ take (n - gone) r ≡ drop gone (take n queued) ⌝ }
+    ensures { λ r. ⌜ take (n - drained) r ≡ drop drained (take n queued) ⌝ }
 {
     let mut out = queued;
     let mut j: usize = 0;
-    while j < n - gone {
-        out[j] = queued[gone + j];
+    while j < n - drained {
+        out[j] = queued[drained + j];
         j += 1;
     }
     out
@@ -126,14 +126,14 @@ impl ReplicatedLog {
         let queued = pushed(old, count, last);
         let n = count + 1;
         let d = drain_front(queued, n, last, self.drained_through, max_lag);
-        let gone = d.gone;
-        let out = moved(queued, gone, n);
+        let drained = d.drained;
+        let out = shifted(queued, drained, n);
         Queued {
             refusal: 0,
-            drained: gone,
+            drained: drained,
             log: ReplicatedLog {
                 drained_through: d.through,
-                count: n - gone,
+                count: n - drained,
                 queued: out,
             },
         }

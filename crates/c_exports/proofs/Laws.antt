@@ -30,14 +30,14 @@ use Rattle.frame.proofs.Again as twice
 use Rattle.frame.proofs.Again.{read-again}
 use Rattle.store_areas.specs.declared.Shape.{Shape}
 use Rattle.store_areas.specs.declared.Made.{Made}
-use Rattle.store_areas.specs.declared.Made.the-variants.{Ready, Unfit}
+use Rattle.store_areas.specs.declared.Made.the-variants.{Ready, InvalidAreas}
 use Rattle.store_areas.specs.Areas.{Making}
 use Rattle.standby_state.specs.declared.Answer as code
 use Rattle.standby_state.specs.Answers.{frameBy}
 use Rattle.standby_state.specs.Answers as replies
 use Rattle.c_session.specs.Telling as telling
 use Rattle.c_session.specs.Telling.{toldOf}
-use Rattle.c_session.specs.declared.Told.{Told}
+use Rattle.c_session.specs.declared.SessionWritten.{SessionWritten}
 use Rattle.c_exports.specs.Returned.{refusalCode, doneCode, fieldNumber, faultCode, readCode, writtenCode, takenCode}
 use Rattle.c_exports.specs.Exports.{Again, rewritten, Rewrites, Makes, TellsPlace, TellsAnswer}
 
@@ -109,9 +109,9 @@ module _ {s : Shape} {w w' b : List ℕ} {d : Made} {r : ℕ} where
       let h : Making s w w' b Ready = rw p at m in
       record { answer = q ∙ rw (h .0) refl; words = h .1 ∙ rw (h .0) refl }
 
-  pub unfit : Making s w w' b d → d ≡ Unfit → r ≡ refusalCode 25 0 → Makes s w w' b r
+  pub unfit : Making s w w' b d → d ≡ InvalidAreas → r ≡ refusalCode 25 0 → Makes s w w' b r
   unfit m p q =
-      let h : Making s w w' b Unfit = rw p at m in
+      let h : Making s w w' b InvalidAreas = rw p at m in
       record { answer = q ∙ rw (h .0) refl; words = h .1 ∙ rw (h .0) refl }
 
 -- ---- answers
@@ -139,8 +139,8 @@ written-as p q = q ∙ ap (λ (y : Written). writtenCode (writtenOf y)) (sym p)
 
 -- ---- a session told of
 
-pub told-as : {w x : Told} {r : ℕ} → w ≡ x → r ≡ writtenCode (toldOf x) → r ≡ writtenCode (toldOf w)
-told-as p q = q ∙ ap (λ (y : Told). writtenCode (toldOf y)) (sym p)
+pub told-as : {w x : SessionWritten} {r : ℕ} → w ≡ x → r ≡ writtenCode (toldOf x) → r ≡ writtenCode (toldOf w)
+told-as p q = q ∙ ap (λ (y : SessionWritten). writtenCode (toldOf y)) (sym p)
 
-pub tells-place : {bytes : Option (List ℕ)} {out out' : List ℕ} {x : Told} {r : ℕ} → telling.TellsSession bytes out out' x → r ≡ writtenCode (toldOf x) → TellsPlace bytes out out' r
+pub tells-place : {bytes : Option (List ℕ)} {out out' : List ℕ} {x : SessionWritten} {r : ℕ} → telling.TellsSession bytes out out' x → r ≡ writtenCode (toldOf x) → TellsPlace bytes out out' r
 tells-place t q = record { answer = q ∙ ap writtenCode (t .answer); area = t .area }

@@ -112,8 +112,8 @@ module _ (limit : ℕ) (shape : Shape) (w b : List ℕ) (s : Sending) (q : List 
   pub sends-short : {r : ℕ} → x ≡ Sent.TooShort → r ≡ refusalCode 9 0 → SendIs limit (storedAt shape w b (s .place)) (s .handle) (s .epoch .0) (ready (s .place) (senderOf s)) q q out out' r
   sends-short p a = goes Sent.TooShort q p a refl
 
-  pub sends-unfit : {r : ℕ} → x ≡ Sent.Unfit → r ≡ refusalCode 25 0 → SendIs limit (storedAt shape w b (s .place)) (s .handle) (s .epoch .0) (ready (s .place) (senderOf s)) q q out out' r
-  sends-unfit p a = goes Sent.Unfit q p a refl
+  pub sends-unfit : {r : ℕ} → x ≡ Sent.InvalidAreas → r ≡ refusalCode 25 0 → SendIs limit (storedAt shape w b (s .place)) (s .handle) (s .epoch .0) (ready (s .place) (senderOf s)) q q out out' r
+  sends-unfit p a = goes Sent.InvalidAreas q p a refl
 
 -- ---- by the words: too few, begun, not begun
 
@@ -134,10 +134,10 @@ module _ (limit : ℕ) (a : Option Session) (i h e : ℕ) (q out : List ℕ) {r 
         rw p s
 
     module _ (z : getD q 1 0 ≡ 0) {x : Begun} (begun : startOf x ≡ startFrom limit a i h e (getD q 0 0)) where
-      pub numbers-past : x ≡ Begun.NumbersPast → r ≡ refusalCode 24 0 → SendIs limit a h e (startIn limit a i h e q) q q out out r
+      pub numbers-past : x ≡ Begun.CommitNumbersExhausted → r ≡ refusalCode 24 0 → SendIs limit a h e (startIn limit a i h e q) q q out out r
       numbers-past p c = stays 24 (begins limit a i h e q long z begun p) c
 
-      pub unfit-start : x ≡ Begun.Unfit → r ≡ refusalCode 25 0 → SendIs limit a h e (startIn limit a i h e q) q q out out r
+      pub unfit-start : x ≡ Begun.InvalidAreas → r ≡ refusalCode 25 0 → SendIs limit a h e (startIn limit a i h e q) q q out out r
       unfit-start p c = stays 25 (begins limit a i h e q long z begun p) c
 
 -- what was begun is for the place, the handle and the epoch that were given

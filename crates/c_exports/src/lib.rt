@@ -32,7 +32,7 @@ use base_refusals::TOO_LONG;
 use base_refusals::TRUNCATED;
 use base_refusals::UNKNOWN_BYTE;
 use base_refusals::UNREADABLE;
-use c_session::Told;
+use c_session::SessionWritten;
 use frame::CommitNumber;
 use frame::Decoded;
 use frame::Epoch;
@@ -68,11 +68,11 @@ fn done(count: usize) -> u64
 // Done, and nothing is left.
 const LAST: u64 = 13_835_058_055_282_163_712;
 
-fn field_number(f: Field) -> u32
-    ensures is { λ r. ⌜ r ≡ fieldNumber (fieldOf f) ⌝ }
+fn field_number(field: Field) -> u32
+    ensures is { λ r. ⌜ r ≡ fieldNumber (fieldOf field) ⌝ }
     ensures small { λ r. ⌜ r < 4 ⌝ }
 {
-    match f {
+    match field {
         Field::FrameKind => 0,
         Field::Part => 1,
         Field::Refusal => 2,
@@ -80,10 +80,10 @@ fn field_number(f: Field) -> u32
     }
 }
 
-fn value_number(v: Value) -> u8
-    ensures { λ r. ⌜ r ≡ faultNumber (invalidOf v) ⌝ }
+fn value_number(value: Value) -> u8
+    ensures { λ r. ⌜ r ≡ faultNumber (invalidOf value) ⌝ }
 {
-    match v {
+    match value {
         Value::Text => BAD_TEXT,
         Value::Session => BAD_SESSION,
         Value::Timestamp => BAD_TIMESTAMP,
@@ -98,10 +98,10 @@ fn unknown(f: u32, v: u8) -> u64
     refusal(UNKNOWN_BYTE, f * 256 + (v as u32))
 }
 
-fn fault(e: FrameError) -> u64
-    ensures { λ r. ⌜ r ≡ faultCode (faultOf e) ⌝ }
+fn fault(error: FrameError) -> u64
+    ensures { λ r. ⌜ r ≡ faultCode (faultOf error) ⌝ }
 {
-    match e {
+    match error {
         FrameError::TooLong(n) => refusal(TOO_LONG, n),
         FrameError::Truncated => refusal(TRUNCATED, 0),
         FrameError::Unknown(f, v) => unknown(field_number(f), v),
@@ -114,7 +114,7 @@ fn written(w: Written) -> u64
     ensures { λ r. ⌜ r ≡ writtenCode (writtenOf w) ⌝ }
 {
     match w {
-        Written::Took(n) => done(n),
+        Written::Bytes(n) => done(n),
         Written::Unreadable => refusal(UNREADABLE, 0),
         Written::TooLong => refusal(TOO_LONG, 0),
         Written::NoRoom => refusal(NO_ROOM, 0),
@@ -124,11 +124,11 @@ fn written(w: Written) -> u64
 // ---- frames
 
 // The same for a frame that was read: the bytes that it took.
-fn taken(w: Written, used: usize) -> u64
-    ensures { λ r. ⌜ r ≡ takenCode used (writtenOf w) ⌝ }
+fn read_code(written: Written, used: usize) -> u64
+    ensures { λ r. ⌜ r ≡ takenCode used (writtenOf written) ⌝ }
 {
-    match w {
-        Written::Took(_) => done(used),
+    match written {
+        Written::Bytes(_) => done(used),
         Written::Unreadable => refusal(UNREADABLE, 0),
         Written::TooLong => refusal(TOO_LONG, 0),
         Written::NoRoom => refusal(NO_ROOM, 0),
@@ -136,10 +136,10 @@ fn taken(w: Written, used: usize) -> u64
 }
 
 // A frame that was read from src, written again; `used` is how many bytes it took.
-fn again(f: Frame, used: usize, src: &[u8], out: &mut [u8]) -> u64
-    ensures { λ r. ⌜ Again used (writeOutcome 1 (frameIn 1 (now (src .entry)) f) (length (now (out .entry)))) (now (out .entry)) (now (out .exit)) r ⌝ }
+fn rewritten(decoded: Frame, used: usize, src: &[u8], out: &mut [u8]) -> u64
+    ensures { λ r. ⌜ Again used (writeOutcome 1 (frameIn 1 (now (src .entry)) decoded) (length (now (out .entry)))) (now (out .entry)) (now (out .exit)) r ⌝ }
 {
-    taken(f.encode(Protocol { version: 1 }, src, out), used)
+    read_code(decoded.encode(Protocol { version: 1 }, src, out), used)
 }
 
 // Reads one frame and writes it again.
@@ -150,7 +150,7 @@ pub extern "C" fn wz_frame(frame: &[u8], out: &mut [u8]) -> u64
     match Frame::decode(Protocol { version: 1 }, frame) {
         Decoded::More => 0,
         Decoded::Bad(e) => fault(e),
-        Decoded::Whole(f, used) => again(f, used, frame, out),
+        Decoded::Whole(f, used) => rewritten(f, used, frame, out),
     }
 }
 
@@ -180,18 +180,18 @@ pub extern "C" fn wz_make(words: &mut [u64], bytes: &[u8], sessions: u32, c: u32
     };
     match store_areas::make(shape, words, bytes) {
         Made::Ready => done(0),
-        Made::Unfit => refusal(RULES_BROKEN, 0),
+        Made::InvalidAreas => refusal(RULES_BROKEN, 0),
     }
 }
 
 // What telling came to: the bytes told, or a refusal.
-fn told(t: Told) -> u64
-    ensures { λ r. ⌜ r ≡ writtenCode (toldOf t) ⌝ }
+fn session_code(written: SessionWritten) -> u64
+    ensures { λ r. ⌜ r ≡ writtenCode (toldOf written) ⌝ }
 {
-    match t {
-        Told::Took(n) => done(n),
-        Told::NoRoom => refusal(NO_ROOM, 0),
-        Told::Unfit => refusal(RULES_BROKEN, 0),
+    match written {
+        SessionWritten::Bytes(n) => done(n),
+        SessionWritten::NoRoom => refusal(NO_ROOM, 0),
+        SessionWritten::InvalidAreas => refusal(RULES_BROKEN, 0),
     }
 }
 
@@ -214,7 +214,7 @@ pub extern "C" fn wz_session(
         bytes: c,
         messages: m,
     };
-    told(c_session::session(words, bytes, shape, place, n, out))
+    session_code(c_session::session(words, bytes, shape, place, n, out))
 }
 
 // ---- whole sending: the last commit number, whether it has begun, where it goes on, whether it is done
@@ -237,8 +237,8 @@ fn put_sending(sending: &mut [u64], last: CommitNumber, from: u64, done: u64)
 }
 
 // What a call of a sending gave, and the sending's words after it.
-fn sent(
-    s: Sending,
+fn send_code(
+    state: Sending,
     shape: Shape,
     words: &[u64],
     bytes: &[u8],
@@ -246,9 +246,9 @@ fn sent(
     out: &mut [u8],
 ) -> u64
     requires { ⌜ 4 ≤ length (now sending) ⌝ }
-    ensures { λ r. ⌜ SendIs batchLimit (storedAt shape (now (words .entry)) (now (bytes .entry)) (s .place)) (s .handle) (s .epoch .0) (ready (s .place) (senderOf s)) (now (sending .entry)) (now (sending .exit)) (now (out .entry)) (now (out .exit)) r ⌝ }
+    ensures { λ r. ⌜ SendIs batchLimit (storedAt shape (now (words .entry)) (now (bytes .entry)) (state .place)) (state .handle) (state .epoch .0) (ready (state .place) (senderOf state)) (now (sending .entry)) (now (sending .exit)) (now (out .entry)) (now (out .exit)) r ⌝ }
 {
-    match s.send_whole(shape, words, bytes, out) {
+    match state.send_whole(shape, words, bytes, out) {
         Sent::Frame(len, next) => {
             let last = next.last;
             put_sending(sending, last, next.from, flag(next.done));
@@ -256,7 +256,7 @@ fn sent(
         }
         Sent::Done => LAST,
         Sent::TooShort => refusal(NO_ROOM, 0),
-        Sent::Unfit => refusal(RULES_BROKEN, 0),
+        Sent::InvalidAreas => refusal(RULES_BROKEN, 0),
     }
 }
 
@@ -294,12 +294,12 @@ pub extern "C" fn wz_send(
             from: sending[2],
             done: sending[3] != 0,
         };
-        return sent(s, shape, words, bytes, sending, out);
+        return send_code(s, shape, words, bytes, sending, out);
     }
     match Sending::begin(shape, words, bytes, place, handle, Epoch(epoch), last) {
-        Begun::Ready(s) => sent(s, shape, words, bytes, sending, out),
-        Begun::NumbersPast => refusal(NUMBERS_PAST, 0),
-        Begun::Unfit => refusal(RULES_BROKEN, 0),
+        Begun::Ready(s) => send_code(s, shape, words, bytes, sending, out),
+        Begun::CommitNumbersExhausted => refusal(NUMBERS_PAST, 0),
+        Begun::InvalidAreas => refusal(RULES_BROKEN, 0),
     }
 }
 
@@ -369,24 +369,24 @@ pub extern "C" fn wz_queue(queue: &mut [u64], max_lag: u64, last: u64) -> u64
 
 // An answer's frame; 0 bytes where it has none. The byte area is the store's.
 #[no_mangle]
-pub extern "C" fn wz_answer(a: Answer, bytes: &[u8], out: &mut [u8]) -> u64
-    ensures { λ r. ⌜ TellsAnswer (answerOf (now (bytes .entry)) a) (now (out .entry)) (now (out .exit)) r ⌝ }
+pub extern "C" fn wz_answer(answer: Answer, bytes: &[u8], out: &mut [u8]) -> u64
+    ensures { λ r. ⌜ TellsAnswer (answerOf (now (bytes .entry)) answer) (now (out .entry)) (now (out .exit)) r ⌝ }
 {
-    if a.refusal != 0 {
-        return refusal(a.refusal, 0);
+    if answer.refusal != 0 {
+        return refusal(answer.refusal, 0);
     }
-    if a.kind == 0 {
+    if answer.kind == 0 {
         return done(0);
     }
-    written(standby_reply::write(a, bytes, out))
+    written(standby_reply::write(answer, bytes, out))
 }
 
 // ---- for the bench
 
 // FNV-1a over bytes, on from h.
 #[no_mangle]
-pub extern "C" fn wz_fnv(h: u64, bytes: &[u8]) -> u64
-    ensures { λ r. ⌜ r ≡ fnv h (now (bytes .entry)) ⌝ }
+pub extern "C" fn wz_fnv(hash: u64, bytes: &[u8]) -> u64
+    ensures { λ r. ⌜ r ≡ fnv hash (now (bytes .entry)) ⌝ }
 {
-    store_log::fnv::bytes(h, bytes)
+    store_log::fnv::bytes(hash, bytes)
 }

@@ -38,11 +38,11 @@ use Rattle.store_areas.specs.declared.Shape.{Shape}
 use Rattle.store_areas.specs.Areas.{allowed, Rules, SpotIn, placeAt, placesOf}
 use Rattle.store_areas.proofs.Holding.{holdable-at}
 use Rattle.store_areas.proofs.Lifting.{places-length, place-is}
-use Rattle.store_state.specs.declared.Summary as the-store
+use Rattle.store_state.specs.declared.StoredSummary as the-store
 use Rattle.store_state.proofs.Reading.{lent, part-of}
 use Rattle.store_sessions.specs.Answers.{summaryIs}
-use Rattle.c_session.specs.declared.Told
-use Rattle.c_session.specs.declared.Told.{Told}
+use Rattle.c_session.specs.declared.SessionWritten
+use Rattle.c_session.specs.declared.SessionWritten.{SessionWritten}
 use Rattle.c_session.specs.Telling.{spanUpTo, flag, toldBytes, toldAt, sessionOutcome, TellsSession}
 
 -- ---- parts of the byte area
@@ -107,7 +107,7 @@ module _ (s : Shape) (w b : List ℕ) (i n : ℕ) (sw : Small (2 ^ 64) w) (sb : 
   abbrev there : Session
   there = placeAt s w b i .stored .session
 
-  pub summed : (m : the-store.Summary) (f : InFlight) {t u : Span} → summaryIs b m ≡ summary there n → flightOf f ≡ flightIs (m .«in_flight»)
+  pub summed : (m : the-store.StoredSummary) (f : InFlight) {t u : Span} → summaryIs b m ≡ summary there n → flightOf f ≡ flightIs (m .«in_flight»)
       → t ≡ spanUpTo (m .«created_at» .at) (m .«created_at» .len) 64 → u ≡ spanUpTo (m .marks .at) (m .marks .len) 64
       → summaryOf b (record { «next_outgoing» = m .«next_outgoing»; «next_incoming» = m .«next_incoming»; «in_flight» = f; «created_at» = t; marks = u; «last_outgoing» = m .«last_outgoing» })
       ≡ summary there n
@@ -152,14 +152,14 @@ module _ (x : Place) (n : ℕ) (b : List ℕ) (k : SessionId) (m : Summary) {z :
   size-is : z ≡ length (toldBytes x n)
   size-is = ez ∙ (λ j. 2 + keySize (ek j) + summarySize (em j)) ∙ sym (told-size x n)
 
-  pub no-room : {out : List ℕ} → length out < z → TellsSession (some (toldBytes x n)) out out Told.NoRoom
+  pub no-room : {out : List ℕ} → length out < z → TellsSession (some (toldBytes x n)) out out SessionWritten.NoRoom
   unfolding sessionOutcome
   no-room {out} h =
       let less : length out < length (toldBytes x n) = omega (arith, size-is) in
       record { answer = rw (lt-leb _ _ less); area = rw (lt-leb _ _ less) }
 
   pub told : {d : Bool} {out out' : List ℕ} {next : ℕ} → d ≡ x .stored .durable → z ≤ length out
-      → Wrote out 0 (flag d ∷ flag (isSome (flightOf (m .«in_flight»))) ∷ (keyBytes (keyOf b k) ++ summaryBytes (summaryOf b m))) out' next → TellsSession (some (toldBytes x n)) out out' (Told.Took next)
+      → Wrote out 0 (flag d ∷ flag (isSome (flightOf (m .«in_flight»))) ∷ (keyBytes (keyOf b k) ++ summaryBytes (summaryOf b m))) out' next → TellsSession (some (toldBytes x n)) out out' (SessionWritten.Bytes next)
   unfolding sessionOutcome toldBytes summary
   told {d} {out} {out'} {next} ed h wr =
       let fits : length (toldBytes x n) ≤ length out = omega (arith, size-is) in
@@ -196,9 +196,9 @@ module _ (s : Shape) (w b : List ℕ) (i n : ℕ) where
   unfolding toldAt
   broken e = sym (ap (λ (t : Bool). cond t (seen (getElem? (placesOf s w b) i)) none) e)
 
-pub unfit : {bytes : Option (List ℕ)} (out : List ℕ) → none ≡ bytes → TellsSession bytes out out Told.Unfit
+pub unfit : {bytes : Option (List ℕ)} (out : List ℕ) → none ≡ bytes → TellsSession bytes out out SessionWritten.InvalidAreas
 unfolding sessionOutcome
-unfit out e = subst (λ (x : Option (List ℕ)). TellsSession x out out Told.Unfit) e (record { answer = refl; area = refl })
+unfit out e = subst (λ (x : Option (List ℕ)). TellsSession x out out SessionWritten.InvalidAreas) e (record { answer = refl; area = refl })
 
-pub told-in : {bytes bytes' : Option (List ℕ)} {out out' : List ℕ} {r : Told} → bytes ≡ bytes' → TellsSession bytes out out' r → TellsSession bytes' out out' r
+pub told-in : {bytes bytes' : Option (List ℕ)} {out out' : List ℕ} {r : SessionWritten} → bytes ≡ bytes' → TellsSession bytes out out' r → TellsSession bytes' out out' r
 told-in {out = out} {out' = out'} {r = r} e t = subst (λ (x : Option (List ℕ)). TellsSession x out out' r) e t

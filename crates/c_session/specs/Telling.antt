@@ -15,8 +15,8 @@ use Rattle.frame_reader.specs.declared.Span.{Span}
 use Rattle.frame_writer.specs.Encoding.{WriteOutcome, wrote, refused, areaAfter, WriteAnswer, took, writeRefusal, writeAnswer}
 use Rattle.store_areas.specs.declared.Shape.{Shape}
 use Rattle.store_areas.specs.Areas.{allowed, placesOf}
-use Rattle.c_session.specs.declared.Told.{Told}
-use Rattle.c_session.specs.declared.Told
+use Rattle.c_session.specs.declared.SessionWritten.{SessionWritten}
+use Rattle.c_session.specs.declared.SessionWritten
 
 -- n bytes at a position, or the first `most` of them
 abbrev pub spanUpTo : ℕ → ℕ → ℕ → Span
@@ -42,12 +42,12 @@ sessionOutcome none room = refused Refusal.rulesBroken
 sessionOutcome (some bs) room = cond (leb (length bs) room) (wrote bs) (refused Refusal.noRoom)
 
 -- an answer's number
-abbrev pub toldOf : Told → WriteAnswer
-toldOf (Told.Took n) = took n
-toldOf Told.NoRoom = writeRefusal Refusal.noRoom
-toldOf Told.Unfit = writeRefusal Refusal.rulesBroken
+abbrev pub toldOf : SessionWritten → WriteAnswer
+toldOf (SessionWritten.Bytes n) = took n
+toldOf SessionWritten.NoRoom = writeRefusal Refusal.noRoom
+toldOf SessionWritten.InvalidAreas = writeRefusal Refusal.rulesBroken
 
 -- the answer is the outcome's; the area has the bytes at its start and the rest as it was, and a refusal leaves all of it
-pub record TellsSession (bytes : Option (List ℕ)) (before after : List ℕ) (r : Told) : Type 0 where
+pub record TellsSession (bytes : Option (List ℕ)) (before after : List ℕ) (r : SessionWritten) : Type 0 where
   pub answer : toldOf r ≡ writeAnswer (sessionOutcome bytes (length before))
   pub area : after ≡ areaAfter (sessionOutcome bytes (length before)) before

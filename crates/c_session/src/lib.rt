@@ -24,10 +24,10 @@ use store_place::byte;
 use store_place::word;
 
 // How many bytes were written, or why none was: an area too short, broken rules or a place that is not in use.
-pub enum Told {
-    Took(usize),
+pub enum SessionWritten {
+    Bytes(usize),
     NoRoom,
-    Unfit,
+    InvalidAreas,
 }
 
 // ---- what stands in the byte area
@@ -49,28 +49,32 @@ fn span(at: usize, n: u64, most: u32) -> Span
 }
 
 // The key of a place in use.
-fn key_of(words: &[u64], bytes: &[u8], shape: Shape, i: usize) -> SessionId
+fn key_of(words: &[u64], bytes: &[u8], shape: Shape, place: usize) -> SessionId
     requires { ⌜ Rules shape (now words) (now bytes) ⌝ }
-    requires { ⌜ i < getD (now words) 0 0 ⌝ }
-    ensures { λ r. ⌜ keyOf (now (bytes .entry)) r ≡ placeAt shape (now (words .entry)) (now (bytes .entry)) i .key ⌝ }
+    requires { ⌜ place < getD (now words) 0 0 ⌝ }
+    ensures { λ r. ⌜ keyOf (now (bytes .entry)) r ≡ placeAt shape (now (words .entry)) (now (bytes .entry)) place .key ⌝ }
 {
-    let p = store_areas::spot_in(words, bytes, shape, i);
-    let wa = p.wa;
-    let ba = p.ba;
-    let begin_string = span(ba, words[wa + word::BEGIN_LEN], KEY_TEXT_MOST);
+    let p = store_areas::spot_in(words, bytes, shape, place);
+    let words_start = p.words_start;
+    let bytes_start = p.bytes_start;
+    let begin_string = span(
+        bytes_start,
+        words[words_start + word::BEGIN_LEN],
+        KEY_TEXT_MOST,
+    );
     let sender_comp_id = span(
-        ba + byte::SENDER,
-        words[wa + word::SENDER_LEN],
+        bytes_start + byte::SENDER,
+        words[words_start + word::SENDER_LEN],
         KEY_TEXT_MOST,
     );
     let target_comp_id = span(
-        ba + byte::TARGET,
-        words[wa + word::TARGET_LEN],
+        bytes_start + byte::TARGET,
+        words[words_start + word::TARGET_LEN],
         KEY_TEXT_MOST,
     );
     let key_suffix = span(
-        ba + byte::SUFFIX,
-        words[wa + word::SUFFIX_LEN],
+        bytes_start + byte::SUFFIX,
+        words[words_start + word::SUFFIX_LEN],
         KEY_TEXT_MOST,
     );
     SessionId {
@@ -81,22 +85,22 @@ fn key_of(words: &[u64], bytes: &[u8], shape: Shape, i: usize) -> SessionId
     }
 }
 
-fn in_flight(f: Flight) -> InFlight
-    ensures { λ r. ⌜ flightOf r ≡ flightIs f ⌝ }
+fn in_flight(flight: Flight) -> InFlight
+    ensures { λ r. ⌜ flightOf r ≡ flightIs flight ⌝ }
 {
-    match f {
+    match flight {
         Flight::Nothing => InFlight::Nothing,
         Flight::Number(n) => InFlight::Seq(n),
     }
 }
 
 // The summary of a session in use; no stamp and no marks are longer than 64 bytes.
-fn summary_of(words: &[u64], bytes: &[u8], shape: Shape, i: usize, n: u64) -> Summary
+fn summary_of(words: &[u64], bytes: &[u8], shape: Shape, place: usize, n: u64) -> Summary
     requires { ⌜ Rules shape (now words) (now bytes) ⌝ }
-    requires { ⌜ i < getD (now words) 0 0 ⌝ }
-    ensures { λ r. ⌜ summaryOf (now (bytes .entry)) r ≡ summary (placeAt shape (now (words .entry)) (now (bytes .entry)) i .stored .session) n ⌝ }
+    requires { ⌜ place < getD (now words) 0 0 ⌝ }
+    ensures { λ r. ⌜ summaryOf (now (bytes .entry)) r ≡ summary (placeAt shape (now (words .entry)) (now (bytes .entry)) place .stored .session) n ⌝ }
 {
-    let m = store_sessions::summary_of(words, bytes, shape, i, n);
+    let m = store_sessions::summary_of(words, bytes, shape, place, n);
     let f = m.in_flight;
     let t = m.created_at;
     let u = m.marks;
@@ -116,23 +120,23 @@ fn summary_of(words: &[u64], bytes: &[u8], shape: Shape, i: usize, n: u64) -> Su
 // ---- lengths
 
 // How many bytes a part has.
-fn len(bytes: &[u8], p: Span) -> usize
-    ensures { λ r. ⌜ r ≡ length (spanOf (now (bytes .entry)) p) ⌝ }
+fn len(bytes: &[u8], span: Span) -> usize
+    ensures { λ r. ⌜ r ≡ length (spanOf (now (bytes .entry)) span) ⌝ }
     ensures { λ r. ⌜ r < 4294967296 ⌝ }
 {
-    frame_reader::slice(bytes, p).len()
+    frame_reader::slice(bytes, span).len()
 }
 
 // How many bytes a session's key and summary take with the two flags before them.
-fn size(bytes: &[u8], k: SessionId, m: Summary) -> usize
-    ensures { λ r. ⌜ r ≡ 2 + keySize (keyOf (now (bytes .entry)) k) + summarySize (summaryOf (now (bytes .entry)) m) ⌝ }
+fn size(bytes: &[u8], session: SessionId, fields: Summary) -> usize
+    ensures { λ r. ⌜ r ≡ 2 + keySize (keyOf (now (bytes .entry)) session) + summarySize (summaryOf (now (bytes .entry)) fields) ⌝ }
 {
-    let begin = k.begin_string;
-    let sender = k.sender_comp_id;
-    let target = k.target_comp_id;
-    let suffix = k.key_suffix;
-    let created_at = m.created_at;
-    let marks = m.marks;
+    let begin = session.begin_string;
+    let sender = session.sender_comp_id;
+    let target = session.target_comp_id;
+    let suffix = session.key_suffix;
+    let created_at = fields.created_at;
+    let marks = fields.marks;
     let key = 16 + len(bytes, begin) + len(bytes, sender) + len(bytes, target) + len(bytes, suffix);
     let summary = 40 + len(bytes, created_at) + len(bytes, marks);
     2 + key + summary
@@ -146,29 +150,36 @@ fn durable_flag(durable: bool) -> u8
     if durable { 1 } else { 0 }
 }
 
-fn flight_flag(f: InFlight) -> u8
-    ensures { λ r. ⌜ r ≡ flag (isSome (flightOf f)) ⌝ }
+fn flight_flag(flight: InFlight) -> u8
+    ensures { λ r. ⌜ r ≡ flag (isSome (flightOf flight)) ⌝ }
 {
-    match f {
+    match flight {
         InFlight::Seq(_) => 1,
         InFlight::Nothing => 0,
     }
 }
 
 // A session from the start of an area that has the room.
-fn put(bytes: &[u8], durable: bool, k: SessionId, m: Summary, out: &mut [u8]) -> usize
-    requires { ⌜ 2 + keySize (keyOf (now bytes) k) + summarySize (summaryOf (now bytes) m) ≤ length (now out) ⌝ }
-    ensures { λ r. ⌜ Wrote (now (out .entry)) 0 (flag durable ∷ flag (isSome (flightOf (m .«in_flight»))) ∷ (keyBytes (keyOf (now (bytes .entry)) k) ++ summaryBytes (summaryOf (now (bytes .entry)) m))) (now (out .exit)) r ⌝ }
+fn put(bytes: &[u8], durable: bool, session: SessionId, summary: Summary, out: &mut [u8]) -> usize
+    requires { ⌜ 2 + keySize (keyOf (now bytes) session) + summarySize (summaryOf (now bytes) summary) ≤ length (now out) ⌝ }
+    ensures { λ r. ⌜ Wrote (now (out .entry)) 0 (flag durable ∷ flag (isSome (flightOf (summary .«in_flight»))) ∷ (keyBytes (keyOf (now (bytes .entry)) session) ++ summaryBytes (summaryOf (now (bytes .entry)) summary))) (now (out .exit)) r ⌝ }
 {
-    let f = m.in_flight;
+    let f = summary.in_flight;
     let at = frame_op::tag(out, 0, durable_flag(durable));
     let at = frame_op::tag(out, at, flight_flag(f));
-    let at = frame_writer::put_session(bytes, k, out, at);
-    frame_writer::put_summary(bytes, m, out, at)
+    let at = frame_writer::put_session(bytes, session, out, at);
+    frame_writer::put_summary(bytes, summary, out, at)
 }
 
 // The session at a place in use.
-fn tell(words: &[u64], bytes: &[u8], shape: Shape, place: usize, n: u64, out: &mut [u8]) -> Told
+fn write_session(
+    words: &[u64],
+    bytes: &[u8],
+    shape: Shape,
+    place: usize,
+    n: u64,
+    out: &mut [u8],
+) -> SessionWritten
     requires { ⌜ Rules shape (now words) (now bytes) ⌝ }
     requires { ⌜ place < getD (now words) 0 0 ⌝ }
     ensures { λ r. ⌜ TellsSession (some (toldBytes (placeAt shape (now (words .entry)) (now (bytes .entry)) place) n)) (now (out .entry)) (now (out .exit)) r ⌝ }
@@ -177,9 +188,9 @@ fn tell(words: &[u64], bytes: &[u8], shape: Shape, place: usize, n: u64, out: &m
     let k = key_of(words, bytes, shape, place);
     let m = summary_of(words, bytes, shape, place, n);
     if out.len() < size(bytes, k, m) {
-        return Told::NoRoom;
+        return SessionWritten::NoRoom;
     }
-    Told::Took(put(bytes, durable, k, m, out))
+    SessionWritten::Bytes(put(bytes, durable, k, m, out))
 }
 
 // The session at a place: 25 broken rules or a place that is not in use, 9 an area too short; both leave the area as it was.
@@ -190,13 +201,13 @@ pub fn session(
     place: usize,
     n: u64,
     out: &mut [u8],
-) -> Told
+) -> SessionWritten
     ensures { λ r. ⌜ TellsSession (toldAt shape (now (words .entry)) (now (bytes .entry)) place n) (now (out .entry)) (now (out .exit)) r ⌝ }
 {
     if store_areas::allowed(shape, words, bytes) {
         if place < words[store_areas::word::USED] as usize {
-            return tell(words, bytes, shape, place, n, out);
+            return write_session(words, bytes, shape, place, n, out);
         }
     }
-    Told::Unfit
+    SessionWritten::InvalidAreas
 }

@@ -29,7 +29,7 @@ pub extern "C" fn store_make(words: &mut [u64], bytes: &[u8], shape: Shape) -> u
 {
     match store_areas::make(shape, words, bytes) {
         Made::Ready => 0,
-        Made::Unfit => RULES_BROKEN,
+        Made::InvalidAreas => RULES_BROKEN,
     }
 }
 
@@ -66,13 +66,18 @@ pub extern "C" fn store_open(
 // ---- reading: 0 for a session that isn't stored
 
 #[no_mangle]
-pub extern "C" fn store_next_outgoing(words: &[u64], bytes: &[u8], shape: Shape, i: usize) -> u64
-    ensures { λ r. ⌜ Reads shape (now (words .entry)) (now (bytes .entry)) i (λ x. x .nextOut) r ⌝ }
+pub extern "C" fn store_next_outgoing(
+    words: &[u64],
+    bytes: &[u8],
+    shape: Shape,
+    place: usize,
+) -> u64
+    ensures { λ r. ⌜ Reads shape (now (words .entry)) (now (bytes .entry)) place (λ x. x .nextOut) r ⌝ }
 {
-    if !store_areas::in_use(words, bytes, shape, i) {
+    if !store_areas::in_use(words, bytes, shape, place) {
         return 0;
     }
-    store_state::next_outgoing(words, bytes, shape, i)
+    store_state::next_outgoing(words, bytes, shape, place)
 }
 
 // The hash of the newest n numbers' messages.
@@ -81,26 +86,26 @@ pub extern "C" fn store_last_outgoing(
     words: &[u64],
     bytes: &[u8],
     shape: Shape,
-    i: usize,
+    place: usize,
     n: u64,
 ) -> u64
-    ensures { λ r. ⌜ Reads shape (now (words .entry)) (now (bytes .entry)) i (λ x. lastOut x n) r ⌝ }
+    ensures { λ r. ⌜ Reads shape (now (words .entry)) (now (bytes .entry)) place (λ x. lastOut x n) r ⌝ }
 {
-    if !store_areas::in_use(words, bytes, shape, i) {
+    if !store_areas::in_use(words, bytes, shape, place) {
         return 0;
     }
-    store_sessions::last_outgoing(words, bytes, shape, i, n)
+    store_sessions::last_outgoing(words, bytes, shape, place, n)
 }
 
 // How many messages are stored: every stored number is from 1.
 #[no_mangle]
-pub extern "C" fn store_count(words: &[u64], bytes: &[u8], shape: Shape, i: usize) -> u64
-    ensures { λ r. ⌜ Reads shape (now (words .entry)) (now (bytes .entry)) i (λ x. length (numberedFrom 1 (x .messages))) r ⌝ }
+pub extern "C" fn store_count(words: &[u64], bytes: &[u8], shape: Shape, place: usize) -> u64
+    ensures { λ r. ⌜ Reads shape (now (words .entry)) (now (bytes .entry)) place (λ x. length (numberedFrom 1 (x .messages))) r ⌝ }
 {
-    if !store_areas::in_use(words, bytes, shape, i) {
+    if !store_areas::in_use(words, bytes, shape, place) {
         return 0;
     }
-    let c = store_sessions::messages_from(words, bytes, shape, i, 1);
+    let c = store_sessions::messages_from(words, bytes, shape, place, 1);
     c.left as u64
 }
 
@@ -111,15 +116,15 @@ pub extern "C" fn store_set_next_incoming(
     words: &mut [u64],
     bytes: &[u8],
     shape: Shape,
-    i: usize,
+    place: usize,
     seq: u64,
 ) -> u32
-    ensures { λ r. ⌜ ChangeIs shape i true (changed (shape .bytes) (shape .messages) (setIncoming seq ∷ [])) (now (words .entry)) (now (words .exit)) (now (bytes .entry)) (now (bytes .entry)) r ⌝ }
+    ensures { λ r. ⌜ ChangeIs shape place true (changed (shape .bytes) (shape .messages) (setIncoming seq ∷ [])) (now (words .entry)) (now (words .exit)) (now (bytes .entry)) (now (bytes .entry)) r ⌝ }
 {
-    if !store_areas::in_use(words, bytes, shape, i) {
+    if !store_areas::in_use(words, bytes, shape, place) {
         return RULES_BROKEN;
     }
-    store_state::set_next_incoming(words, bytes, shape, i, seq);
+    store_state::set_next_incoming(words, bytes, shape, place, seq);
     0
 }
 
@@ -128,16 +133,16 @@ pub extern "C" fn store_set_next_incoming_in_flight(
     words: &mut [u64],
     bytes: &[u8],
     shape: Shape,
-    i: usize,
+    place: usize,
     seq: u64,
     in_flight: u64,
 ) -> u32
-    ensures { λ r. ⌜ ChangeIs shape i true (changed (shape .bytes) (shape .messages) (setIncomingInFlight seq «in_flight» ∷ [])) (now (words .entry)) (now (words .exit)) (now (bytes .entry)) (now (bytes .entry)) r ⌝ }
+    ensures { λ r. ⌜ ChangeIs shape place true (changed (shape .bytes) (shape .messages) (setIncomingInFlight seq «in_flight» ∷ [])) (now (words .entry)) (now (words .exit)) (now (bytes .entry)) (now (bytes .entry)) r ⌝ }
 {
-    if !store_areas::in_use(words, bytes, shape, i) {
+    if !store_areas::in_use(words, bytes, shape, place) {
         return RULES_BROKEN;
     }
-    store_state::set_next_incoming_in_flight(words, bytes, shape, i, seq, in_flight);
+    store_state::set_next_incoming_in_flight(words, bytes, shape, place, seq, in_flight);
     0
 }
 
@@ -146,15 +151,15 @@ pub extern "C" fn store_set_in_flight(
     words: &mut [u64],
     bytes: &[u8],
     shape: Shape,
-    i: usize,
+    place: usize,
     seq: u64,
 ) -> u32
-    ensures { λ r. ⌜ ChangeIs shape i true (changed (shape .bytes) (shape .messages) (setInFlight seq ∷ [])) (now (words .entry)) (now (words .exit)) (now (bytes .entry)) (now (bytes .entry)) r ⌝ }
+    ensures { λ r. ⌜ ChangeIs shape place true (changed (shape .bytes) (shape .messages) (setInFlight seq ∷ [])) (now (words .entry)) (now (words .exit)) (now (bytes .entry)) (now (bytes .entry)) r ⌝ }
 {
-    if !store_areas::in_use(words, bytes, shape, i) {
+    if !store_areas::in_use(words, bytes, shape, place) {
         return RULES_BROKEN;
     }
-    store_state::set_in_flight(words, bytes, shape, i, seq);
+    store_state::set_in_flight(words, bytes, shape, place, seq);
     0
 }
 
@@ -164,19 +169,19 @@ pub extern "C" fn store_record(
     words: &mut [u64],
     bytes: &mut [u8],
     shape: Shape,
-    i: usize,
+    place: usize,
     text: &[u8],
 ) -> u32
-    ensures { λ r. ⌜ ChangeIs shape i (ltb (sessionIn shape (now (words .entry)) (now (bytes .entry)) i .nextOut) top) (changed (shape .bytes) (shape .messages) (recordMsg (sessionIn shape (now (words .entry)) (now (bytes .entry)) i .nextOut) (now (text .entry)) ∷ [])) (now (words .entry)) (now (words .exit)) (now (bytes .entry)) (now (bytes .exit)) r ⌝ }
+    ensures { λ r. ⌜ ChangeIs shape place (ltb (sessionIn shape (now (words .entry)) (now (bytes .entry)) place .nextOut) top) (changed (shape .bytes) (shape .messages) (recordMsg (sessionIn shape (now (words .entry)) (now (bytes .entry)) place .nextOut) (now (text .entry)) ∷ [])) (now (words .entry)) (now (words .exit)) (now (bytes .entry)) (now (bytes .exit)) r ⌝ }
 {
-    if !store_areas::in_use(words, bytes, shape, i) {
+    if !store_areas::in_use(words, bytes, shape, place) {
         return RULES_BROKEN;
     }
-    let seq = store_state::next_outgoing(words, bytes, shape, i);
+    let seq = store_state::next_outgoing(words, bytes, shape, place);
     if seq == u64::MAX {
         return NOT_MADE;
     }
-    store_state::record(words, bytes, shape, i, seq, text);
+    store_state::record(words, bytes, shape, place, seq, text);
     0
 }
 
@@ -186,32 +191,32 @@ pub extern "C" fn store_record_none(
     words: &mut [u64],
     bytes: &[u8],
     shape: Shape,
-    i: usize,
+    place: usize,
     seq: u64,
 ) -> u32
-    ensures { λ r. ⌜ ChangeIs shape i (leb (sessionIn shape (now (words .entry)) (now (bytes .entry)) i .nextOut) seq && ltb seq top) (changed (shape .bytes) (shape .messages) (recordBare seq ∷ [])) (now (words .entry)) (now (words .exit)) (now (bytes .entry)) (now (bytes .entry)) r ⌝ }
+    ensures { λ r. ⌜ ChangeIs shape place (leb (sessionIn shape (now (words .entry)) (now (bytes .entry)) place .nextOut) seq && ltb seq top) (changed (shape .bytes) (shape .messages) (recordBare seq ∷ [])) (now (words .entry)) (now (words .exit)) (now (bytes .entry)) (now (bytes .entry)) r ⌝ }
 {
-    if !store_areas::in_use(words, bytes, shape, i) {
+    if !store_areas::in_use(words, bytes, shape, place) {
         return RULES_BROKEN;
     }
     if seq == u64::MAX {
         return NOT_MADE;
     }
-    if seq < store_state::next_outgoing(words, bytes, shape, i) {
+    if seq < store_state::next_outgoing(words, bytes, shape, place) {
         return NOT_MADE;
     }
-    store_state::record_none(words, bytes, shape, i, seq);
+    store_state::record_none(words, bytes, shape, place, seq);
     0
 }
 
 #[no_mangle]
-pub extern "C" fn store_reset(words: &mut [u64], bytes: &[u8], shape: Shape, i: usize) -> u32
-    ensures { λ r. ⌜ ChangeIs shape i true (changed (shape .bytes) (shape .messages) (reset ∷ [])) (now (words .entry)) (now (words .exit)) (now (bytes .entry)) (now (bytes .entry)) r ⌝ }
+pub extern "C" fn store_reset(words: &mut [u64], bytes: &[u8], shape: Shape, place: usize) -> u32
+    ensures { λ r. ⌜ ChangeIs shape place true (changed (shape .bytes) (shape .messages) (reset ∷ [])) (now (words .entry)) (now (words .exit)) (now (bytes .entry)) (now (bytes .entry)) r ⌝ }
 {
-    if !store_areas::in_use(words, bytes, shape, i) {
+    if !store_areas::in_use(words, bytes, shape, place) {
         return RULES_BROKEN;
     }
-    store_state::reset(words, bytes, shape, i);
+    store_state::reset(words, bytes, shape, place);
     0
 }
 
@@ -220,18 +225,18 @@ pub extern "C" fn store_set_created_at(
     words: &mut [u64],
     bytes: &mut [u8],
     shape: Shape,
-    i: usize,
+    place: usize,
     text: &[u8],
 ) -> u32
-    ensures { λ r. ⌜ ChangeIs shape i (isStamp (now (text .entry))) (changed (shape .bytes) (shape .messages) (setCreatedAt (now (text .entry)) ∷ [])) (now (words .entry)) (now (words .exit)) (now (bytes .entry)) (now (bytes .exit)) r ⌝ }
+    ensures { λ r. ⌜ ChangeIs shape place (isStamp (now (text .entry))) (changed (shape .bytes) (shape .messages) (setCreatedAt (now (text .entry)) ∷ [])) (now (words .entry)) (now (words .exit)) (now (bytes .entry)) (now (bytes .exit)) r ⌝ }
 {
-    if !store_areas::in_use(words, bytes, shape, i) {
+    if !store_areas::in_use(words, bytes, shape, place) {
         return RULES_BROKEN;
     }
     if !frame_stamp::is_stamp(text) {
         return NOT_MADE;
     }
-    store_state::set_created_at(words, bytes, shape, i, text);
+    store_state::set_created_at(words, bytes, shape, place, text);
     0
 }
 
@@ -240,29 +245,34 @@ pub extern "C" fn store_set_marks(
     words: &mut [u64],
     bytes: &mut [u8],
     shape: Shape,
-    i: usize,
+    place: usize,
     text: &[u8],
 ) -> u32
-    ensures { λ r. ⌜ ChangeIs shape i (isMarks (now (text .entry))) (changed (shape .bytes) (shape .messages) (setMarks (now (text .entry)) ∷ [])) (now (words .entry)) (now (words .exit)) (now (bytes .entry)) (now (bytes .exit)) r ⌝ }
+    ensures { λ r. ⌜ ChangeIs shape place (isMarks (now (text .entry))) (changed (shape .bytes) (shape .messages) (setMarks (now (text .entry)) ∷ [])) (now (words .entry)) (now (words .exit)) (now (bytes .entry)) (now (bytes .exit)) r ⌝ }
 {
-    if !store_areas::in_use(words, bytes, shape, i) {
+    if !store_areas::in_use(words, bytes, shape, place) {
         return RULES_BROKEN;
     }
     if !frame_stamp::is_marks(text) {
         return NOT_MADE;
     }
-    store_state::set_marks(words, bytes, shape, i, text);
+    store_state::set_marks(words, bytes, shape, place, text);
     0
 }
 
 #[no_mangle]
-pub extern "C" fn store_mark_durable(words: &mut [u64], bytes: &[u8], shape: Shape, i: usize) -> u32
-    ensures { λ r. ⌜ ChangeIs shape i true markDurable (now (words .entry)) (now (words .exit)) (now (bytes .entry)) (now (bytes .entry)) r ⌝ }
+pub extern "C" fn store_mark_durable(
+    words: &mut [u64],
+    bytes: &[u8],
+    shape: Shape,
+    place: usize,
+) -> u32
+    ensures { λ r. ⌜ ChangeIs shape place true markDurable (now (words .entry)) (now (words .exit)) (now (bytes .entry)) (now (bytes .entry)) r ⌝ }
 {
-    if !store_areas::in_use(words, bytes, shape, i) {
+    if !store_areas::in_use(words, bytes, shape, place) {
         return RULES_BROKEN;
     }
-    store_state::mark_durable(words, bytes, shape, i);
+    store_state::mark_durable(words, bytes, shape, place);
     0
 }
 
@@ -271,22 +281,22 @@ pub extern "C" fn store_take_over(
     words: &mut [u64],
     bytes: &mut [u8],
     shape: Shape,
-    i: usize,
+    place: usize,
     lag: u64,
 ) -> u32
-    ensures { λ r. ⌜ ChangeIs shape i true (takenOver lag) (now (words .entry)) (now (words .exit)) (now (bytes .entry)) (now (bytes .exit)) r ⌝ }
+    ensures { λ r. ⌜ ChangeIs shape place true (takenOver lag) (now (words .entry)) (now (words .exit)) (now (bytes .entry)) (now (bytes .exit)) r ⌝ }
 {
-    if !store_areas::in_use(words, bytes, shape, i) {
+    if !store_areas::in_use(words, bytes, shape, place) {
         return RULES_BROKEN;
     }
-    store_state::take_over(words, bytes, shape, i, lag);
+    store_state::take_over(words, bytes, shape, place, lag);
     0
 }
 
 // FNV-1a over bytes, on from h.
 #[no_mangle]
-pub extern "C" fn store_fnv(h: u64, s: &[u8]) -> u64
-    ensures { λ r. ⌜ r ≡ fnv h (now (s .entry)) ⌝ }
+pub extern "C" fn store_fnv(hash: u64, s: &[u8]) -> u64
+    ensures { λ r. ⌜ r ≡ fnv hash (now (s .entry)) ⌝ }
 {
-    store_log::fnv::bytes(h, s)
+    store_log::fnv::bytes(hash, s)
 }

@@ -50,17 +50,17 @@ read-again version b {f} {n} {g} t e read s =
 -- ---- decode, then encode: the answer and the area
 
 pub record WrittenAgain (b : List ℕ) (n : ℕ) (before after : List ℕ) (w : Written) : Type 0 where
-  pub room : n ≤ length before → (w ≡ Written.Took n) × (after ≡ write before 0 (take n b))
+  pub room : n ≤ length before → (w ≡ Written.Bytes n) × (after ≡ write before 0 (take n b))
   pub no-room : length before < n → (w ≡ Written.NoRoom) × (after ≡ before)
 
-is-took : (w : Written) (k : ℕ) → writtenOf w ≡ took k → w ≡ Written.Took k
-is-took (Written.Took m) k e = cc
+is-took : (w : Written) (k : ℕ) → writtenOf w ≡ took k → w ≡ Written.Bytes k
+is-took (Written.Bytes m) k e = cc
 is-took Written.Unreadable k e = cc
 is-took Written.TooLong k e = cc
 is-took Written.NoRoom k e = cc
 
 is-no-room : (w : Written) → writtenOf w ≡ writeRefusal 9 → w ≡ Written.NoRoom
-is-no-room (Written.Took m) e = cc
+is-no-room (Written.Bytes m) e = cc
 is-no-room Written.Unreadable e = let z : _≡_ {A = ℕ} 8 9 = cc in absurd (omega arith)
 is-no-room Written.TooLong e = let z : _≡_ {A = ℕ} 1 9 = cc in absurd (omega arith)
 is-no-room Written.NoRoom e = refl

@@ -105,11 +105,11 @@ pub enum Decoded {
     Bad(FrameError),
 }
 
-fn hello_from(buf: &[u8], c: Cursor) -> FrameAt
-    ensures { λ r. ⌜ ((v : ℕ) → resFrame v (now (buf .entry)) r ≡ helloFields (drop (c .at) (now (buf .entry)))) ⌝ }
+fn hello_from(buf: &[u8], cursor: Cursor) -> FrameAt
+    ensures { λ r. ⌜ ((v : ℕ) → resFrame v (now (buf .entry)) r ≡ helloFields (drop (cursor .at) (now (buf .entry)))) ⌝ }
     ensures { λ r. ⌜ ((v : ℕ) → ReadIn v (now (buf .entry)) r) ⌝ }
 {
-    let Word16::Got(version, d) = frame_reader::u16_from(buf, c) else {
+    let Word16::Got(version, d) = frame_reader::u16_from(buf, cursor) else {
         return FrameAt::Bad(FrameError::Truncated);
     };
     let Word64::Got(epoch, d) = frame_reader::u64_from(buf, d) else {
@@ -132,11 +132,11 @@ fn hello_from(buf: &[u8], c: Cursor) -> FrameAt
     }
 }
 
-fn welcome_from(buf: &[u8], c: Cursor) -> FrameAt
-    ensures { λ r. ⌜ ((v : ℕ) → resFrame v (now (buf .entry)) r ≡ welcomeFields (drop (c .at) (now (buf .entry)))) ⌝ }
+fn welcome_from(buf: &[u8], cursor: Cursor) -> FrameAt
+    ensures { λ r. ⌜ ((v : ℕ) → resFrame v (now (buf .entry)) r ≡ welcomeFields (drop (cursor .at) (now (buf .entry)))) ⌝ }
     ensures { λ r. ⌜ ((v : ℕ) → ReadIn v (now (buf .entry)) r) ⌝ }
 {
-    let Word64::Got(epoch, d) = frame_reader::u64_from(buf, c) else {
+    let Word64::Got(epoch, d) = frame_reader::u64_from(buf, cursor) else {
         return FrameAt::Bad(FrameError::Truncated);
     };
     let Word64::Got(incarnation, d) = frame_reader::u64_from(buf, d) else {
@@ -151,11 +151,11 @@ fn welcome_from(buf: &[u8], c: Cursor) -> FrameAt
     )
 }
 
-fn bind_from(buf: &[u8], c: Cursor) -> FrameAt
-    ensures { λ r. ⌜ ((v : ℕ) → resFrame v (now (buf .entry)) r ≡ bindFields (drop (c .at) (now (buf .entry)))) ⌝ }
+fn bind_from(buf: &[u8], cursor: Cursor) -> FrameAt
+    ensures { λ r. ⌜ ((v : ℕ) → resFrame v (now (buf .entry)) r ≡ bindFields (drop (cursor .at) (now (buf .entry)))) ⌝ }
     ensures { λ r. ⌜ ((v : ℕ) → ReadIn v (now (buf .entry)) r) ⌝ }
 {
-    let Word32::Got(handle, d) = frame_reader::u32_from(buf, c) else {
+    let Word32::Got(handle, d) = frame_reader::u32_from(buf, cursor) else {
         return FrameAt::Bad(FrameError::Truncated);
     };
     let Word64::Got(epoch, d) = frame_reader::u64_from(buf, d) else {
@@ -178,11 +178,11 @@ fn bind_from(buf: &[u8], c: Cursor) -> FrameAt
     }
 }
 
-fn batch_from(p: Protocol, buf: &[u8], c: Cursor) -> FrameAt
-    ensures { λ r. ⌜ resFrame (p .version) (now (buf .entry)) r ≡ batchFields (p .version) (drop (c .at) (now (buf .entry))) ⌝ }
-    ensures { λ r. ⌜ ReadIn (p .version) (now (buf .entry)) r ⌝ }
+fn batch_from(protocol: Protocol, buf: &[u8], cursor: Cursor) -> FrameAt
+    ensures { λ r. ⌜ resFrame (protocol .version) (now (buf .entry)) r ≡ batchFields (protocol .version) (drop (cursor .at) (now (buf .entry))) ⌝ }
+    ensures { λ r. ⌜ ReadIn (protocol .version) (now (buf .entry)) r ⌝ }
 {
-    let Word32::Got(handle, d) = frame_reader::u32_from(buf, c) else {
+    let Word32::Got(handle, d) = frame_reader::u32_from(buf, cursor) else {
         return FrameAt::Bad(FrameError::Truncated);
     };
     let Word64::Got(epoch, d) = frame_reader::u64_from(buf, d) else {
@@ -193,7 +193,7 @@ fn batch_from(p: Protocol, buf: &[u8], c: Cursor) -> FrameAt
     };
     match frame_fields::part_from(buf, d) {
         PartAt::Bad(e) => FrameAt::Bad(e),
-        PartAt::Got(part, d) => match frame_op::ops_from(p, buf, d) {
+        PartAt::Got(part, d) => match frame_op::ops_from(protocol, buf, d) {
             RunAt::Bad(e) => FrameAt::Bad(e),
             RunAt::Got(ops, d) => match frame_fields::app_records_from(buf, d) {
                 RunAt::Bad(e) => FrameAt::Bad(e),
@@ -213,11 +213,11 @@ fn batch_from(p: Protocol, buf: &[u8], c: Cursor) -> FrameAt
     }
 }
 
-fn ack_from(buf: &[u8], c: Cursor) -> FrameAt
-    ensures { λ r. ⌜ ((v : ℕ) → resFrame v (now (buf .entry)) r ≡ ackFields (drop (c .at) (now (buf .entry)))) ⌝ }
+fn ack_from(buf: &[u8], cursor: Cursor) -> FrameAt
+    ensures { λ r. ⌜ ((v : ℕ) → resFrame v (now (buf .entry)) r ≡ ackFields (drop (cursor .at) (now (buf .entry)))) ⌝ }
     ensures { λ r. ⌜ ((v : ℕ) → ReadIn v (now (buf .entry)) r) ⌝ }
 {
-    let Word32::Got(handle, d) = frame_reader::u32_from(buf, c) else {
+    let Word32::Got(handle, d) = frame_reader::u32_from(buf, cursor) else {
         return FrameAt::Bad(FrameError::Truncated);
     };
     let Word64::Got(commit_no, d) = frame_reader::u64_from(buf, d) else {
@@ -232,11 +232,11 @@ fn ack_from(buf: &[u8], c: Cursor) -> FrameAt
     )
 }
 
-fn nack_from(buf: &[u8], c: Cursor) -> FrameAt
-    ensures { λ r. ⌜ ((v : ℕ) → resFrame v (now (buf .entry)) r ≡ nackFields (drop (c .at) (now (buf .entry)))) ⌝ }
+fn nack_from(buf: &[u8], cursor: Cursor) -> FrameAt
+    ensures { λ r. ⌜ ((v : ℕ) → resFrame v (now (buf .entry)) r ≡ nackFields (drop (cursor .at) (now (buf .entry)))) ⌝ }
     ensures { λ r. ⌜ ((v : ℕ) → ReadIn v (now (buf .entry)) r) ⌝ }
 {
-    let Word32::Got(handle, d) = frame_reader::u32_from(buf, c) else {
+    let Word32::Got(handle, d) = frame_reader::u32_from(buf, cursor) else {
         return FrameAt::Bad(FrameError::Truncated);
     };
     match frame_fields::reason_from(buf, d) {
@@ -245,24 +245,24 @@ fn nack_from(buf: &[u8], c: Cursor) -> FrameAt
     }
 }
 
-fn bound_from(p: Protocol, buf: &[u8], c: Cursor) -> FrameAt
-    ensures { λ r. ⌜ ((v : ℕ) → resFrame v (now (buf .entry)) r ≡ boundFields (p .version) (drop (c .at) (now (buf .entry)))) ⌝ }
+fn bound_from(protocol: Protocol, buf: &[u8], cursor: Cursor) -> FrameAt
+    ensures { λ r. ⌜ ((v : ℕ) → resFrame v (now (buf .entry)) r ≡ boundFields (protocol .version) (drop (cursor .at) (now (buf .entry)))) ⌝ }
     ensures { λ r. ⌜ ((v : ℕ) → ReadIn v (now (buf .entry)) r) ⌝ }
 {
-    let Word32::Got(handle, d) = frame_reader::u32_from(buf, c) else {
+    let Word32::Got(handle, d) = frame_reader::u32_from(buf, cursor) else {
         return FrameAt::Bad(FrameError::Truncated);
     };
-    match frame_fields::summary_from(p, buf, d) {
+    match frame_fields::summary_from(protocol, buf, d) {
         SummaryAt::Bad(e) => FrameAt::Bad(e),
         SummaryAt::Got(summary, d) => FrameAt::Got(Frame::Bound { handle, summary }, d),
     }
 }
 
-fn checked_from(buf: &[u8], c: Cursor) -> FrameAt
-    ensures { λ r. ⌜ ((v : ℕ) → resFrame v (now (buf .entry)) r ≡ checkedFields (drop (c .at) (now (buf .entry)))) ⌝ }
+fn checked_from(buf: &[u8], cursor: Cursor) -> FrameAt
+    ensures { λ r. ⌜ ((v : ℕ) → resFrame v (now (buf .entry)) r ≡ checkedFields (drop (cursor .at) (now (buf .entry)))) ⌝ }
     ensures { λ r. ⌜ ((v : ℕ) → ReadIn v (now (buf .entry)) r) ⌝ }
 {
-    let Word32::Got(handle, d) = frame_reader::u32_from(buf, c) else {
+    let Word32::Got(handle, d) = frame_reader::u32_from(buf, cursor) else {
         return FrameAt::Bad(FrameError::Truncated);
     };
     let Word64::Got(epoch, d) = frame_reader::u64_from(buf, d) else {
@@ -282,35 +282,35 @@ fn checked_from(buf: &[u8], c: Cursor) -> FrameAt
 }
 
 // The fields of a frame, by its kind.
-fn fields_from(p: Protocol, buf: &[u8], c: Cursor) -> FrameAt
-    ensures { λ r. ⌜ resFrame (p .version) (now (buf .entry)) r ≡ readFields (p .version) (drop (c .at) (now (buf .entry))) ⌝ }
-    ensures { λ r. ⌜ ReadIn (p .version) (now (buf .entry)) r ⌝ }
+fn fields_from(protocol: Protocol, buf: &[u8], cursor: Cursor) -> FrameAt
+    ensures { λ r. ⌜ resFrame (protocol .version) (now (buf .entry)) r ≡ readFields (protocol .version) (drop (cursor .at) (now (buf .entry))) ⌝ }
+    ensures { λ r. ⌜ ReadIn (protocol .version) (now (buf .entry)) r ⌝ }
 {
-    let Byte::Got(k, d) = frame_reader::u8_from(buf, c) else {
+    let Byte::Got(k, d) = frame_reader::u8_from(buf, cursor) else {
         return FrameAt::Bad(FrameError::Truncated);
     };
     match k {
         kind::HELLO => hello_from(buf, d),
         kind::WELCOME => welcome_from(buf, d),
         kind::BIND => bind_from(buf, d),
-        kind::BATCH => batch_from(p, buf, d),
+        kind::BATCH => batch_from(protocol, buf, d),
         kind::ACK => ack_from(buf, d),
         kind::NACK => nack_from(buf, d),
-        kind::BOUND => bound_from(p, buf, d),
+        kind::BOUND => bound_from(protocol, buf, d),
         kind::CHECKED => checked_from(buf, d),
         _ => FrameAt::Bad(FrameError::Unknown(Field::FrameKind, k)),
     }
 }
 
 // A body from a cursor to the buffer's end: nothing is left over.
-fn body_from(p: Protocol, buf: &[u8], c: Cursor) -> FrameAt
-    ensures { λ r. ⌜ resFrame (p .version) (now (buf .entry)) r ≡ readBody (p .version) (drop (c .at) (now (buf .entry))) ⌝ }
-    ensures { λ r. ⌜ ReadIn (p .version) (now (buf .entry)) r ⌝ }
+fn body_from(protocol: Protocol, buf: &[u8], cursor: Cursor) -> FrameAt
+    ensures { λ r. ⌜ resFrame (protocol .version) (now (buf .entry)) r ≡ readBody (protocol .version) (drop (cursor .at) (now (buf .entry))) ⌝ }
+    ensures { λ r. ⌜ ReadIn (protocol .version) (now (buf .entry)) r ⌝ }
 {
-    match fields_from(p, buf, c) {
+    match fields_from(protocol, buf, cursor) {
         FrameAt::Bad(e) => FrameAt::Bad(e),
         FrameAt::Got(f, d) => {
-            if frame_reader::left(buf, d) == 0 {
+            if frame_reader::bytes_left(buf, d) == 0 {
                 FrameAt::Got(f, d)
             } else {
                 FrameAt::Bad(FrameError::Truncated)
@@ -326,9 +326,9 @@ impl Frame {
     pub const LIMIT: u32 = 67108864;
 
     // The frame at the start of the bytes; its texts, changes and records are parts of them.
-    pub fn decode(p: Protocol, buf: &[u8]) -> Decoded
-        ensures { λ r. ⌜ readingOf (p .version) (now (buf .entry)) r ≡ decode (p .version) (now (buf .entry)) ⌝ }
-        ensures { λ r. ⌜ StandsIn (p .version) (now (buf .entry)) r ⌝ }
+    pub fn decode(protocol: Protocol, buf: &[u8]) -> Decoded
+        ensures { λ r. ⌜ readingOf (protocol .version) (now (buf .entry)) r ≡ decode (protocol .version) (now (buf .entry)) ⌝ }
+        ensures { λ r. ⌜ StandsIn (protocol .version) (now (buf .entry)) r ⌝ }
     {
         if buf.len() < 4 {
             return Decoded::More;
@@ -341,15 +341,19 @@ impl Frame {
         if buf.len() - 4 < len {
             return Decoded::More;
         }
-        match body_from(p, frame_reader::bytes_at(buf, 0, 4 + len), Cursor { at: 4 }) {
+        match body_from(
+            protocol,
+            frame_reader::bytes_at(buf, 0, 4 + len),
+            Cursor { at: 4 },
+        ) {
             FrameAt::Bad(e) => Decoded::Bad(e),
             FrameAt::Got(f, _) => Decoded::Whole(f, 4 + len),
         }
     }
 
     // The frame's bytes at the area's start: its texts, changes and records are taken from the source.
-    pub fn encode(self, p: Protocol, src: &[u8], out: &mut [u8]) -> Written
-        ensures { λ r. ⌜ Encoded (p .version) (frameIn (p .version) (now (src .entry)) self) (now (out .entry)) (now (out .exit)) r ⌝ }
+    pub fn encode(self, protocol: Protocol, src: &[u8], out: &mut [u8]) -> Written
+        ensures { λ r. ⌜ Encoded (protocol .version) (frameIn (protocol .version) (now (src .entry)) self) (now (out .entry)) (now (out .exit)) r ⌝ }
     {
         match self {
             Frame::Hello {
@@ -378,9 +382,9 @@ impl Frame {
                 session,
             } => { frame_encode::bind(Self::LIMIT, src, handle, epoch.0, max_lag, session, out) }
             Frame::Bound { handle, summary } => {
-                frame_encode::bound(Self::LIMIT, p, src, handle, summary, out)
+                frame_encode::bound(Self::LIMIT, protocol, src, handle, summary, out)
             }
-            Frame::Batch(b) => encode_batch(Self::LIMIT, p, src, b, out),
+            Frame::Batch(b) => encode_batch(Self::LIMIT, protocol, src, b, out),
             Frame::Ack { handle, commit_no } => frame_encode::ack(
                 Self::LIMIT,
                 handle,
@@ -397,20 +401,20 @@ impl Frame {
     }
 }
 
-fn encode_batch(limit: u32, p: Protocol, src: &[u8], b: Batch, out: &mut [u8]) -> Written
+fn encode_batch(limit: u32, protocol: Protocol, src: &[u8], batch: Batch, out: &mut [u8]) -> Written
     requires { ⌜ limit ≡ maxBody ⌝ }
-    ensures { λ r. ⌜ Encoded (p .version) (frameIn (p .version) (now (src .entry)) (Frame.Batch b)) (now (out .entry)) (now (out .exit)) r ⌝ }
+    ensures { λ r. ⌜ Encoded (protocol .version) (frameIn (protocol .version) (now (src .entry)) (Frame.Batch batch)) (now (out .entry)) (now (out .exit)) r ⌝ }
 {
-    let epoch = b.epoch;
-    let commit_no = b.commit_no;
-    let part = b.part;
-    let ops = b.ops;
-    let app_records = b.app_records;
+    let epoch = batch.epoch;
+    let commit_no = batch.commit_no;
+    let part = batch.part;
+    let ops = batch.ops;
+    let app_records = batch.app_records;
     frame_encode::batch(
         limit,
-        p,
+        protocol,
         src,
-        b.handle,
+        batch.handle,
         epoch.0,
         commit_no.0,
         part,

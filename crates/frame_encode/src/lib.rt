@@ -66,7 +66,7 @@ pub fn hello(
         match frame_writer::begin(out, limit, n) {
             Start::TooLong => Written::TooLong,
             Start::NoRoom => Written::NoRoom,
-            Start::At(at) => Written::Took(put_hello(src, version, epoch, node, kinds, out, at)),
+            Start::At(at) => Written::Bytes(put_hello(src, version, epoch, node, kinds, out, at)),
         }
     } else {
         Written::Unreadable
@@ -88,7 +88,7 @@ pub fn welcome(limit: u32, epoch: u64, incarnation: u64, out: &mut [u8]) -> Writ
     match frame_writer::begin(out, limit, 17) {
         Start::TooLong => Written::TooLong,
         Start::NoRoom => Written::NoRoom,
-        Start::At(at) => Written::Took(put_welcome(epoch, incarnation, out, at)),
+        Start::At(at) => Written::Bytes(put_welcome(epoch, incarnation, out, at)),
     }
 }
 
@@ -135,7 +135,7 @@ pub fn bind(
         match frame_writer::begin(out, limit, n) {
             Start::TooLong => Written::TooLong,
             Start::NoRoom => Written::NoRoom,
-            Start::At(at) => Written::Took(put_bind(src, handle, epoch, lag, session, out, at)),
+            Start::At(at) => Written::Bytes(put_bind(src, handle, epoch, lag, session, out, at)),
         }
     } else {
         Written::Unreadable
@@ -164,7 +164,7 @@ fn put_head(
 
 // The changes and the records of a batch, k and m bytes, are copied as they stand in the source.
 fn put_runs(
-    p: Protocol,
+    protocol: Protocol,
     src: &[u8],
     ops: Run,
     k: usize,
@@ -173,20 +173,20 @@ fn put_runs(
     out: &mut [u8],
     at: usize,
 ) -> usize
-    requires { ⌜ StandsAt (now src) (ops .at) k (runBytes changeBytes (runOf (readChange (p .version)) (now src) ops)) ⌝ }
+    requires { ⌜ StandsAt (now src) (ops .at) k (runBytes changeBytes (runOf (readChange (protocol .version)) (now src) ops)) ⌝ }
     requires { ⌜ StandsAt (now src) (records .at) m (runBytes appRecordBytes (runOf readAppRecord (now src) records)) ⌝ }
     requires { ⌜ at + (4 + k + m) ≤ length (now out) ⌝ }
-    ensures { λ r. ⌜ Wrote (now (out .entry)) at (runBytes changeBytes (runOf (readChange (p .version)) (now (src .entry)) ops) ++ bytesOf 4 (records .count) ++ runBytes appRecordBytes (runOf readAppRecord (now (src .entry)) records)) (now (out .exit)) r ⌝ }
+    ensures { λ r. ⌜ Wrote (now (out .entry)) at (runBytes changeBytes (runOf (readChange (protocol .version)) (now (src .entry)) ops) ++ bytesOf 4 (records .count) ++ runBytes appRecordBytes (runOf readAppRecord (now (src .entry)) records)) (now (out .exit)) r ⌝ }
 {
     let first = records.at;
-    let at = frame_op::put_ops(p, src, ops, k, out, at);
+    let at = frame_op::put_ops(protocol, src, ops, k, out, at);
     let at = base_bytes::put_u32(out, at, records.count);
     base_bytes::copy(frame_reader::bytes_at(src, first, m), out, at)
 }
 
 pub fn batch(
     limit: u32,
-    p: Protocol,
+    protocol: Protocol,
     src: &[u8],
     handle: u32,
     epoch: u64,
@@ -197,9 +197,9 @@ pub fn batch(
     out: &mut [u8],
 ) -> Written
     requires { ⌜ limit ≡ maxBody ⌝ }
-    ensures { λ r. ⌜ Encoded (p .version) (frameIf (runReads (readChange (p .version)) (now (src .entry)) ops && runReads readAppRecord (now (src .entry)) records) (batch handle epoch commit (partOf part) (runOf (readChange (p .version)) (now (src .entry)) ops) (runOf readAppRecord (now (src .entry)) records))) (now (out .entry)) (now (out .exit)) r ⌝ }
+    ensures { λ r. ⌜ Encoded (protocol .version) (frameIf (runReads (readChange (protocol .version)) (now (src .entry)) ops && runReads readAppRecord (now (src .entry)) records) (batch handle epoch commit (partOf part) (runOf (readChange (protocol .version)) (now (src .entry)) ops) (runOf readAppRecord (now (src .entry)) records))) (now (out .entry)) (now (out .exit)) r ⌝ }
 {
-    let RunLen::Bytes(k) = frame_op::ops_len(p, src, ops) else {
+    let RunLen::Bytes(k) = frame_op::ops_len(protocol, src, ops) else {
         return Written::Unreadable;
     };
     let RunLen::Bytes(m) = frame_writer::records_len(src, records) else {
@@ -216,7 +216,7 @@ pub fn batch(
         Start::NoRoom => Written::NoRoom,
         Start::At(at) => {
             let at = put_head(out, at, handle, epoch, commit, part, ops.count);
-            Written::Took(put_runs(p, src, ops, k, records, m, out, at))
+            Written::Bytes(put_runs(protocol, src, ops, k, records, m, out, at))
         }
     }
 }
@@ -236,7 +236,7 @@ pub fn ack(limit: u32, handle: u32, commit: u64, out: &mut [u8]) -> Written
     match frame_writer::begin(out, limit, 13) {
         Start::TooLong => Written::TooLong,
         Start::NoRoom => Written::NoRoom,
-        Start::At(at) => Written::Took(put_ack(handle, commit, out, at)),
+        Start::At(at) => Written::Bytes(put_ack(handle, commit, out, at)),
     }
 }
 
@@ -255,7 +255,7 @@ pub fn nack(limit: u32, handle: u32, reason: NackReason, out: &mut [u8]) -> Writ
     match frame_writer::begin(out, limit, 6) {
         Start::TooLong => Written::TooLong,
         Start::NoRoom => Written::NoRoom,
-        Start::At(at) => Written::Took(put_nack(handle, reason, out, at)),
+        Start::At(at) => Written::Bytes(put_nack(handle, reason, out, at)),
     }
 }
 
@@ -269,23 +269,23 @@ fn put_bound(src: &[u8], handle: u32, summary: Summary, out: &mut [u8], at: usiz
 
 pub fn bound(
     limit: u32,
-    p: Protocol,
+    protocol: Protocol,
     src: &[u8],
     handle: u32,
     summary: Summary,
     out: &mut [u8],
 ) -> Written
     requires { ⌜ limit ≡ maxBody ⌝ }
-    ensures { λ r. ⌜ Encoded (p .version) (frameIf (summaryFits (now (src .entry)) summary) (bound handle (summaryOf (now (src .entry)) summary))) (now (out .entry)) (now (out .exit)) r ⌝ }
+    ensures { λ r. ⌜ Encoded (protocol .version) (frameIf (summaryFits (now (src .entry)) summary) (bound handle (summaryOf (now (src .entry)) summary))) (now (out .entry)) (now (out .exit)) r ⌝ }
 {
-    if frame_writer::summary_fits(p, src, summary) {
+    if frame_writer::summary_fits(protocol, src, summary) {
         let created_at = summary.created_at;
         let marks = summary.marks;
         let n = 45 + (created_at.len as usize) + (marks.len as usize);
         match frame_writer::begin(out, limit, n) {
             Start::TooLong => Written::TooLong,
             Start::NoRoom => Written::NoRoom,
-            Start::At(at) => Written::Took(put_bound(src, handle, summary, out, at)),
+            Start::At(at) => Written::Bytes(put_bound(src, handle, summary, out, at)),
         }
     } else {
         Written::Unreadable
@@ -308,6 +308,6 @@ pub fn checked(limit: u32, handle: u32, epoch: u64, incarnation: u64, out: &mut 
     match frame_writer::begin(out, limit, 21) {
         Start::TooLong => Written::TooLong,
         Start::NoRoom => Written::NoRoom,
-        Start::At(at) => Written::Took(put_checked(handle, epoch, incarnation, out, at)),
+        Start::At(at) => Written::Bytes(put_checked(handle, epoch, incarnation, out, at)),
     }
 }

@@ -12,10 +12,10 @@ use frame_op::End;
 use frame_op::Run;
 use frame_op::RunAt;
 use frame_reader::Byte;
+use frame_reader::CheckedTextAt;
 use frame_reader::Cursor;
 use frame_reader::Field;
 use frame_reader::FrameError;
-use frame_reader::JudgedAt;
 use frame_reader::Span;
 use frame_reader::SpanAt;
 use frame_reader::Value;
@@ -135,10 +135,10 @@ pub enum SummaryAt {
     Bad(FrameError),
 }
 
-pub fn part_from(buf: &[u8], c: Cursor) -> PartAt
-    ensures { λ r. ⌜ resPart (now (buf .entry)) r ≡ readPart (drop (c .at) (now (buf .entry))) ⌝ }
+pub fn part_from(buf: &[u8], cursor: Cursor) -> PartAt
+    ensures { λ r. ⌜ resPart (now (buf .entry)) r ≡ readPart (drop (cursor .at) (now (buf .entry))) ⌝ }
 {
-    let Byte::Got(k, d) = frame_reader::u8_from(buf, c) else {
+    let Byte::Got(k, d) = frame_reader::u8_from(buf, cursor) else {
         return PartAt::Bad(FrameError::Truncated);
     };
     match k {
@@ -149,10 +149,10 @@ pub fn part_from(buf: &[u8], c: Cursor) -> PartAt
     }
 }
 
-pub fn reason_from(buf: &[u8], c: Cursor) -> ReasonAt
-    ensures { λ r. ⌜ resReason (now (buf .entry)) r ≡ readReason (drop (c .at) (now (buf .entry))) ⌝ }
+pub fn reason_from(buf: &[u8], cursor: Cursor) -> ReasonAt
+    ensures { λ r. ⌜ resReason (now (buf .entry)) r ≡ readReason (drop (cursor .at) (now (buf .entry))) ⌝ }
 {
-    let Byte::Got(k, d) = frame_reader::u8_from(buf, c) else {
+    let Byte::Got(k, d) = frame_reader::u8_from(buf, cursor) else {
         return ReasonAt::Bad(FrameError::Truncated);
     };
     match k {
@@ -165,11 +165,11 @@ pub fn reason_from(buf: &[u8], c: Cursor) -> ReasonAt
 }
 
 // The kinds of application records: a kind is two bytes, so the count says where they end.
-pub fn kinds_from(buf: &[u8], c: Cursor) -> RunAt
-    ensures { λ r. ⌜ resRun (readNum 2) (now (buf .entry)) r ≡ readKinds (drop (c .at) (now (buf .entry))) ⌝ }
+pub fn kinds_from(buf: &[u8], cursor: Cursor) -> RunAt
+    ensures { λ r. ⌜ resRun (readNum 2) (now (buf .entry)) r ≡ readKinds (drop (cursor .at) (now (buf .entry))) ⌝ }
     ensures { λ r. ⌜ RunIn (readNum 2) (now (buf .entry)) r ⌝ }
 {
-    let Word32::Got(count, d) = frame_reader::count_from(buf, c, 2) else {
+    let Word32::Got(count, d) = frame_reader::count_from(buf, cursor, 2) else {
         return RunAt::Bad(FrameError::Truncated);
     };
     let at = d.at;
@@ -181,10 +181,10 @@ pub fn kinds_from(buf: &[u8], c: Cursor) -> RunAt
     )
 }
 
-pub fn app_record_from(buf: &[u8], c: Cursor) -> AppRecordAt
-    ensures { λ r. ⌜ resRecord (now (buf .entry)) r ≡ readAppRecord (drop (c .at) (now (buf .entry))) ⌝ }
+pub fn app_record_from(buf: &[u8], cursor: Cursor) -> AppRecordAt
+    ensures { λ r. ⌜ resRecord (now (buf .entry)) r ≡ readAppRecord (drop (cursor .at) (now (buf .entry))) ⌝ }
 {
-    let Word16::Got(kind, d) = frame_reader::u16_from(buf, c) else {
+    let Word16::Got(kind, d) = frame_reader::u16_from(buf, cursor) else {
         return AppRecordAt::Bad(FrameError::Truncated);
     };
     match frame_reader::blob_from(buf, d) {
@@ -194,10 +194,10 @@ pub fn app_record_from(buf: &[u8], c: Cursor) -> AppRecordAt
 }
 
 // Where so many records end.
-pub fn app_records_end(buf: &[u8], c: Cursor, count: u32) -> End
-    ensures { λ r. ⌜ resEnd (now (buf .entry)) r ≡ forget (many count readAppRecord (drop (c .at) (now (buf .entry)))) ⌝ }
+pub fn app_records_end(buf: &[u8], cursor: Cursor, count: u32) -> End
+    ensures { λ r. ⌜ resEnd (now (buf .entry)) r ≡ forget (many count readAppRecord (drop (cursor .at) (now (buf .entry)))) ⌝ }
 {
-    let mut d = c;
+    let mut d = cursor;
     let mut n = count;
     while 0 < n {
         match app_record_from(buf, d) {
@@ -209,11 +209,11 @@ pub fn app_records_end(buf: &[u8], c: Cursor, count: u32) -> End
     End::At(d)
 }
 
-pub fn app_records_from(buf: &[u8], c: Cursor) -> RunAt
-    ensures { λ r. ⌜ resRun readAppRecord (now (buf .entry)) r ≡ readAppRecords (drop (c .at) (now (buf .entry))) ⌝ }
+pub fn app_records_from(buf: &[u8], cursor: Cursor) -> RunAt
+    ensures { λ r. ⌜ resRun readAppRecord (now (buf .entry)) r ≡ readAppRecords (drop (cursor .at) (now (buf .entry))) ⌝ }
     ensures { λ r. ⌜ RunIn readAppRecord (now (buf .entry)) r ⌝ }
 {
-    let Word32::Got(count, d) = frame_reader::count_from(buf, c, 6) else {
+    let Word32::Got(count, d) = frame_reader::count_from(buf, cursor, 6) else {
         return RunAt::Bad(FrameError::Truncated);
     };
     match app_records_end(buf, d, count) {
@@ -237,23 +237,33 @@ fn no_session(suffix: SpanAt) -> SessionAt
 }
 
 // The four texts of a key, which is judged after all of them.
-pub fn session_from(buf: &[u8], c: Cursor) -> SessionAt
-    ensures { λ r. ⌜ resSession (now (buf .entry)) r ≡ readKey (drop (c .at) (now (buf .entry))) ⌝ }
+pub fn session_from(buf: &[u8], cursor: Cursor) -> SessionAt
+    ensures { λ r. ⌜ resSession (now (buf .entry)) r ≡ readKey (drop (cursor .at) (now (buf .entry))) ⌝ }
     ensures { λ r. ⌜ KeyIn (now (buf .entry)) r ⌝ }
 {
-    match frame_reader::judged_from(buf, c, 1, 32) {
-        JudgedAt::Bad(e) => SessionAt::Bad(e),
-        JudgedAt::Got(begin_string, v, d) => match frame_reader::judged_from(buf, d, 1, 32) {
-            JudgedAt::Bad(e) => SessionAt::Bad(e),
-            JudgedAt::Got(sender_comp_id, w, d) => match frame_reader::judged_from(buf, d, 1, 32) {
-                JudgedAt::Bad(e) => SessionAt::Bad(e),
-                JudgedAt::Got(target_comp_id, x, d) => {
+    match frame_reader::checked_text_from(buf, cursor, 1, 32) {
+        CheckedTextAt::Bad(e) => SessionAt::Bad(e),
+        CheckedTextAt::Got(begin_string, v, d) => match frame_reader::checked_text_from(
+            buf,
+            d,
+            1,
+            32,
+        ) {
+            CheckedTextAt::Bad(e) => SessionAt::Bad(e),
+            CheckedTextAt::Got(sender_comp_id, w, d) => match frame_reader::checked_text_from(
+                buf,
+                d,
+                1,
+                32,
+            ) {
+                CheckedTextAt::Bad(e) => SessionAt::Bad(e),
+                CheckedTextAt::Got(target_comp_id, x, d) => {
                     if !(v & w & x) {
                         return no_session(frame_reader::text_from(buf, d));
                     }
-                    match frame_reader::judged_from(buf, d, 0, 32) {
-                        JudgedAt::Bad(e) => SessionAt::Bad(e),
-                        JudgedAt::Got(key_suffix, y, d) => {
+                    match frame_reader::checked_text_from(buf, d, 0, 32) {
+                        CheckedTextAt::Bad(e) => SessionAt::Bad(e),
+                        CheckedTextAt::Got(key_suffix, y, d) => {
                             if y {
                                 SessionAt::Got(
                                     SessionId {
@@ -285,11 +295,11 @@ fn flight(n: u64) -> InFlight
     }
 }
 
-pub fn summary_from(p: Protocol, buf: &[u8], c: Cursor) -> SummaryAt
-    ensures { λ r. ⌜ resSummary (now (buf .entry)) r ≡ readSummary (p .version) (drop (c .at) (now (buf .entry))) ⌝ }
+pub fn summary_from(protocol: Protocol, buf: &[u8], cursor: Cursor) -> SummaryAt
+    ensures { λ r. ⌜ resSummary (now (buf .entry)) r ≡ readSummary (protocol .version) (drop (cursor .at) (now (buf .entry))) ⌝ }
     ensures { λ r. ⌜ SummaryIn (now (buf .entry)) r ⌝ }
 {
-    let Word64::Got(next_outgoing, d) = frame_reader::u64_from(buf, c) else {
+    let Word64::Got(next_outgoing, d) = frame_reader::u64_from(buf, cursor) else {
         return SummaryAt::Bad(FrameError::Truncated);
     };
     let Word64::Got(next_incoming, d) = frame_reader::u64_from(buf, d) else {
@@ -299,7 +309,7 @@ pub fn summary_from(p: Protocol, buf: &[u8], c: Cursor) -> SummaryAt
         return SummaryAt::Bad(FrameError::Truncated);
     };
     let in_flight = flight(n);
-    match frame_reader::stamp_or_none_from(p, buf, d) {
+    match frame_reader::stamp_or_none_from(protocol, buf, d) {
         SpanAt::Bad(e) => SummaryAt::Bad(e),
         SpanAt::Got(created_at, d) => match frame_reader::marks_from(buf, d) {
             SpanAt::Bad(e) => SummaryAt::Bad(e),

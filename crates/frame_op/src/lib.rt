@@ -79,19 +79,19 @@ pub enum RunLen {
     Bad(FrameError),
 }
 
-fn set_next_incoming(buf: &[u8], c: Cursor) -> OpAt
-    ensures { λ r. ⌜ resOp (now (buf .entry)) r ≡ setIncomingFields (drop (c .at) (now (buf .entry))) ⌝ }
+fn set_next_incoming(buf: &[u8], cursor: Cursor) -> OpAt
+    ensures { λ r. ⌜ resOp (now (buf .entry)) r ≡ setIncomingFields (drop (cursor .at) (now (buf .entry))) ⌝ }
 {
-    let Word64::Got(seq, d) = frame_reader::u64_from(buf, c) else {
+    let Word64::Got(seq, d) = frame_reader::u64_from(buf, cursor) else {
         return OpAt::Bad(FrameError::Truncated);
     };
     OpAt::Got(Op::SetNextIncoming(seq), d)
 }
 
-fn set_next_incoming_in_flight(buf: &[u8], c: Cursor) -> OpAt
-    ensures { λ r. ⌜ resOp (now (buf .entry)) r ≡ setIncomingInFlightFields (drop (c .at) (now (buf .entry))) ⌝ }
+fn set_next_incoming_in_flight(buf: &[u8], cursor: Cursor) -> OpAt
+    ensures { λ r. ⌜ resOp (now (buf .entry)) r ≡ setIncomingInFlightFields (drop (cursor .at) (now (buf .entry))) ⌝ }
 {
-    let Word64::Got(seq, d) = frame_reader::u64_from(buf, c) else {
+    let Word64::Got(seq, d) = frame_reader::u64_from(buf, cursor) else {
         return OpAt::Bad(FrameError::Truncated);
     };
     let Word64::Got(in_flight, d) = frame_reader::u64_from(buf, d) else {
@@ -100,19 +100,19 @@ fn set_next_incoming_in_flight(buf: &[u8], c: Cursor) -> OpAt
     OpAt::Got(Op::SetNextIncomingInFlight { seq, in_flight }, d)
 }
 
-fn set_in_flight(buf: &[u8], c: Cursor) -> OpAt
-    ensures { λ r. ⌜ resOp (now (buf .entry)) r ≡ setInFlightFields (drop (c .at) (now (buf .entry))) ⌝ }
+fn set_in_flight(buf: &[u8], cursor: Cursor) -> OpAt
+    ensures { λ r. ⌜ resOp (now (buf .entry)) r ≡ setInFlightFields (drop (cursor .at) (now (buf .entry))) ⌝ }
 {
-    let Word64::Got(seq, d) = frame_reader::u64_from(buf, c) else {
+    let Word64::Got(seq, d) = frame_reader::u64_from(buf, cursor) else {
         return OpAt::Bad(FrameError::Truncated);
     };
     OpAt::Got(Op::SetInFlight(seq), d)
 }
 
-fn record(buf: &[u8], c: Cursor) -> OpAt
-    ensures { λ r. ⌜ resOp (now (buf .entry)) r ≡ recordMsgFields (drop (c .at) (now (buf .entry))) ⌝ }
+fn record(buf: &[u8], cursor: Cursor) -> OpAt
+    ensures { λ r. ⌜ resOp (now (buf .entry)) r ≡ recordMsgFields (drop (cursor .at) (now (buf .entry))) ⌝ }
 {
-    let Word64::Got(seq, d) = frame_reader::u64_from(buf, c) else {
+    let Word64::Got(seq, d) = frame_reader::u64_from(buf, cursor) else {
         return OpAt::Bad(FrameError::Truncated);
     };
     match frame_reader::blob_from(buf, d) {
@@ -121,38 +121,38 @@ fn record(buf: &[u8], c: Cursor) -> OpAt
     }
 }
 
-fn record_none(buf: &[u8], c: Cursor) -> OpAt
-    ensures { λ r. ⌜ resOp (now (buf .entry)) r ≡ recordBareFields (drop (c .at) (now (buf .entry))) ⌝ }
+fn record_none(buf: &[u8], cursor: Cursor) -> OpAt
+    ensures { λ r. ⌜ resOp (now (buf .entry)) r ≡ recordBareFields (drop (cursor .at) (now (buf .entry))) ⌝ }
 {
-    let Word64::Got(seq, d) = frame_reader::u64_from(buf, c) else {
+    let Word64::Got(seq, d) = frame_reader::u64_from(buf, cursor) else {
         return OpAt::Bad(FrameError::Truncated);
     };
     OpAt::Got(Op::RecordNone(seq), d)
 }
 
-fn set_created_at(p: Protocol, buf: &[u8], c: Cursor) -> OpAt
-    ensures { λ r. ⌜ resOp (now (buf .entry)) r ≡ setCreatedAtFields (p .version) (drop (c .at) (now (buf .entry))) ⌝ }
+fn set_created_at(protocol: Protocol, buf: &[u8], cursor: Cursor) -> OpAt
+    ensures { λ r. ⌜ resOp (now (buf .entry)) r ≡ setCreatedAtFields (protocol .version) (drop (cursor .at) (now (buf .entry))) ⌝ }
 {
-    match frame_reader::stamp_from(p, buf, c) {
+    match frame_reader::stamp_from(protocol, buf, cursor) {
         SpanAt::Bad(e) => OpAt::Bad(e),
         SpanAt::Got(t, d) => OpAt::Got(Op::SetCreatedAt(t), d),
     }
 }
 
-fn set_marks(buf: &[u8], c: Cursor) -> OpAt
-    ensures { λ r. ⌜ resOp (now (buf .entry)) r ≡ setMarksFields (drop (c .at) (now (buf .entry))) ⌝ }
+fn set_marks(buf: &[u8], cursor: Cursor) -> OpAt
+    ensures { λ r. ⌜ resOp (now (buf .entry)) r ≡ setMarksFields (drop (cursor .at) (now (buf .entry))) ⌝ }
 {
-    match frame_reader::marks_from(buf, c) {
+    match frame_reader::marks_from(buf, cursor) {
         SpanAt::Bad(e) => OpAt::Bad(e),
         SpanAt::Got(t, d) => OpAt::Got(Op::SetMarks(t), d),
     }
 }
 
 // One change at a position.
-pub fn op_from(p: Protocol, buf: &[u8], c: Cursor) -> OpAt
-    ensures { λ r. ⌜ resOp (now (buf .entry)) r ≡ readChange (p .version) (drop (c .at) (now (buf .entry))) ⌝ }
+pub fn op_from(protocol: Protocol, buf: &[u8], cursor: Cursor) -> OpAt
+    ensures { λ r. ⌜ resOp (now (buf .entry)) r ≡ readChange (protocol .version) (drop (cursor .at) (now (buf .entry))) ⌝ }
 {
-    let Byte::Got(k, d) = frame_reader::u8_from(buf, c) else {
+    let Byte::Got(k, d) = frame_reader::u8_from(buf, cursor) else {
         return OpAt::Bad(FrameError::Truncated);
     };
     match k {
@@ -162,20 +162,20 @@ pub fn op_from(p: Protocol, buf: &[u8], c: Cursor) -> OpAt
         kind::RECORD => record(buf, d),
         kind::RECORD_NONE => record_none(buf, d),
         kind::RESET => OpAt::Got(Op::Reset, d),
-        kind::SET_CREATED_AT => set_created_at(p, buf, d),
+        kind::SET_CREATED_AT => set_created_at(protocol, buf, d),
         kind::SET_MARKS => set_marks(buf, d),
         _ => OpAt::Bad(FrameError::Unknown(Field::Change, k)),
     }
 }
 
 // Where so many changes end.
-pub fn ops_end(p: Protocol, buf: &[u8], c: Cursor, count: u32) -> End
-    ensures { λ r. ⌜ resEnd (now (buf .entry)) r ≡ forget (many count (readChange (p .version)) (drop (c .at) (now (buf .entry)))) ⌝ }
+pub fn ops_end(protocol: Protocol, buf: &[u8], cursor: Cursor, count: u32) -> End
+    ensures { λ r. ⌜ resEnd (now (buf .entry)) r ≡ forget (many count (readChange (protocol .version)) (drop (cursor .at) (now (buf .entry)))) ⌝ }
 {
-    let mut d = c;
+    let mut d = cursor;
     let mut n = count;
     while 0 < n {
-        match op_from(p, buf, d) {
+        match op_from(protocol, buf, d) {
             OpAt::Bad(e) => return End::Bad(e),
             OpAt::Got(_, next) => d = next,
         }
@@ -185,14 +185,14 @@ pub fn ops_end(p: Protocol, buf: &[u8], c: Cursor, count: u32) -> End
 }
 
 // A count of changes and the changes, as a run.
-pub fn ops_from(p: Protocol, buf: &[u8], c: Cursor) -> RunAt
-    ensures { λ r. ⌜ resRun (readChange (p .version)) (now (buf .entry)) r ≡ readChanges (p .version) (drop (c .at) (now (buf .entry))) ⌝ }
-    ensures { λ r. ⌜ RunIn (readChange (p .version)) (now (buf .entry)) r ⌝ }
+pub fn ops_from(protocol: Protocol, buf: &[u8], cursor: Cursor) -> RunAt
+    ensures { λ r. ⌜ resRun (readChange (protocol .version)) (now (buf .entry)) r ≡ readChanges (protocol .version) (drop (cursor .at) (now (buf .entry))) ⌝ }
+    ensures { λ r. ⌜ RunIn (readChange (protocol .version)) (now (buf .entry)) r ⌝ }
 {
-    let Word32::Got(count, d) = frame_reader::count_from(buf, c, 1) else {
+    let Word32::Got(count, d) = frame_reader::count_from(buf, cursor, 1) else {
         return RunAt::Bad(FrameError::Truncated);
     };
-    match ops_end(p, buf, d, count) {
+    match ops_end(protocol, buf, d, count) {
         End::Bad(e) => RunAt::Bad(e),
         End::At(end) => {
             let at = d.at;
@@ -202,14 +202,14 @@ pub fn ops_from(p: Protocol, buf: &[u8], c: Cursor) -> RunAt
 }
 
 // How many bytes so many changes take.
-pub fn ops_len(p: Protocol, buf: &[u8], run: Run) -> RunLen
-    ensures { λ r. ⌜ OpsLen (p .version) (now (buf .entry)) run r ⌝ }
+pub fn ops_len(protocol: Protocol, buf: &[u8], run: Run) -> RunLen
+    ensures { λ r. ⌜ OpsLen (protocol .version) (now (buf .entry)) run r ⌝ }
 {
     let at = run.at;
-    match ops_end(p, buf, Cursor { at }, run.count) {
+    match ops_end(protocol, buf, Cursor { at }, run.count) {
         End::Bad(e) => RunLen::Bad(e),
         End::At(d) => RunLen::Bytes(
-            frame_reader::left(buf, Cursor { at }) - frame_reader::left(buf, d),
+            frame_reader::bytes_left(buf, Cursor { at }) - frame_reader::bytes_left(buf, d),
         ),
     }
 }
@@ -244,10 +244,10 @@ pub fn blob(s: &[u8], out: &mut [u8], at: usize) -> usize
 }
 
 // A change's length in a frame.
-pub fn op_size(src: &[u8], o: Op) -> usize
-    ensures { λ r. ⌜ r ≡ sizeOf (opOf (now (src .entry)) o) ⌝ }
+pub fn op_size(src: &[u8], op: Op) -> usize
+    ensures { λ r. ⌜ r ≡ sizeOf (opOf (now (src .entry)) op) ⌝ }
 {
-    match o {
+    match op {
         Op::SetNextIncoming(_) => 9,
         Op::SetNextIncomingInFlight {
             seq: _,
@@ -262,11 +262,11 @@ pub fn op_size(src: &[u8], o: Op) -> usize
     }
 }
 
-pub fn put_op(src: &[u8], o: Op, out: &mut [u8], at: usize) -> usize
-    requires { ⌜ at + sizeOf (opOf (now src) o) ≤ length (now out) ⌝ }
-    ensures { λ r. ⌜ Wrote (now (out .entry)) at (changeBytes (opOf (now (src .entry)) o)) (now (out .exit)) r ⌝ }
+pub fn put_op(src: &[u8], op: Op, out: &mut [u8], at: usize) -> usize
+    requires { ⌜ at + sizeOf (opOf (now src) op) ≤ length (now out) ⌝ }
+    ensures { λ r. ⌜ Wrote (now (out .entry)) at (changeBytes (opOf (now (src .entry)) op)) (now (out .exit)) r ⌝ }
 {
-    match o {
+    match op {
         Op::SetNextIncoming(n) => tagged(out, at, kind::SET_NEXT_INCOMING, n),
         Op::SetNextIncomingInFlight { seq, in_flight } => {
             let next = tagged(out, at, kind::SET_NEXT_INCOMING_IN_FLIGHT, seq);
@@ -291,10 +291,17 @@ pub fn put_op(src: &[u8], o: Op, out: &mut [u8], at: usize) -> usize
 }
 
 // The changes of a run of n bytes, which are copied as they stand.
-pub fn put_ops(p: Protocol, src: &[u8], run: Run, n: usize, out: &mut [u8], at: usize) -> usize
-    requires { ⌜ StandsAt (now src) (run .at) n (runBytes changeBytes (runOf (readChange (p .version)) (now src) run)) ⌝ }
+pub fn put_ops(
+    protocol: Protocol,
+    src: &[u8],
+    run: Run,
+    n: usize,
+    out: &mut [u8],
+    at: usize,
+) -> usize
+    requires { ⌜ StandsAt (now src) (run .at) n (runBytes changeBytes (runOf (readChange (protocol .version)) (now src) run)) ⌝ }
     requires { ⌜ at + n ≤ length (now out) ⌝ }
-    ensures { λ r. ⌜ Wrote (now (out .entry)) at (runBytes changeBytes (runOf (readChange (p .version)) (now (src .entry)) run)) (now (out .exit)) r ⌝ }
+    ensures { λ r. ⌜ Wrote (now (out .entry)) at (runBytes changeBytes (runOf (readChange (protocol .version)) (now (src .entry)) run)) (now (out .exit)) r ⌝ }
     ensures { λ r. ⌜ r ≡ at + n ⌝ }
 {
     base_bytes::copy(frame_reader::bytes_at(src, run.at, n), out, at)

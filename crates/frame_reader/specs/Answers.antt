@@ -24,8 +24,8 @@ use Rattle.frame_reader.specs.declared.Word64
 use Rattle.frame_reader.specs.declared.Word64.{Word64}
 use Rattle.frame_reader.specs.declared.SpanAt
 use Rattle.frame_reader.specs.declared.SpanAt.{SpanAt}
-use Rattle.frame_reader.specs.declared.JudgedAt
-use Rattle.frame_reader.specs.declared.JudgedAt.{JudgedAt}
+use Rattle.frame_reader.specs.declared.CheckedTextAt
+use Rattle.frame_reader.specs.declared.CheckedTextAt.{CheckedTextAt}
 
 abbrev pub fieldOf : Field → the-frame.Field
 fieldOf Field.FrameKind = the-frame.frameKind
@@ -69,13 +69,13 @@ resSpan b (SpanAt.Got p c) = ok (spanOf b p) (drop (c .at) b)
 resSpan b (SpanAt.Bad e) = bad (faultOf e)
 
 -- a text and whether it has lo to hi printable bytes
-abbrev pub resJudged : List ℕ → JudgedAt → Res (List ℕ)
-resJudged b (JudgedAt.Got p plain c) = ok (spanOf b p) (drop (c .at) b)
-resJudged b (JudgedAt.Bad e) = bad (faultOf e)
+abbrev pub resJudged : List ℕ → CheckedTextAt → Res (List ℕ)
+resJudged b (CheckedTextAt.Got p plain c) = ok (spanOf b p) (drop (c .at) b)
+resJudged b (CheckedTextAt.Bad e) = bad (faultOf e)
 
-abbrev pub Judged : ℕ → ℕ → List ℕ → JudgedAt → Type 0
-Judged lo hi b (JudgedAt.Got p plain c) = plain ≡ isPrintable lo hi (spanOf b p)
-Judged lo hi b (JudgedAt.Bad e) = Unit {0}
+abbrev pub Judged : ℕ → ℕ → List ℕ → CheckedTextAt → Type 0
+Judged lo hi b (CheckedTextAt.Got p plain c) = plain ≡ isPrintable lo hi (spanOf b p)
+Judged lo hi b (CheckedTextAt.Bad e) = Unit {0}
 
 -- ---- where an answer lies
 
@@ -92,6 +92,6 @@ abbrev pub SpanIn : List ℕ → SpanAt → Type 0
 SpanIn b (SpanAt.Got p c) = Lies b p
 SpanIn b (SpanAt.Bad e) = Unit {0}
 
-abbrev pub JudgedIn : List ℕ → JudgedAt → Type 0
-JudgedIn b (JudgedAt.Got p plain c) = Lies b p
-JudgedIn b (JudgedAt.Bad e) = Unit {0}
+abbrev pub JudgedIn : List ℕ → CheckedTextAt → Type 0
+JudgedIn b (CheckedTextAt.Got p plain c) = Lies b p
+JudgedIn b (CheckedTextAt.Bad e) = Unit {0}

@@ -73,70 +73,70 @@ pub enum SpanAt {
 }
 
 // A text, and whether it is as long and printable as was asked.
-pub enum JudgedAt {
+pub enum CheckedTextAt {
     Got(Span, bool, Cursor),
     Bad(FrameError),
 }
 
 // How many bytes are left.
-pub fn left(buf: &[u8], c: Cursor) -> usize
-    ensures { λ r. ⌜ r ≡ length (now (buf .entry)) - (c .at) ⌝ }
+pub fn bytes_left(buf: &[u8], cursor: Cursor) -> usize
+    ensures { λ r. ⌜ r ≡ length (now (buf .entry)) - (cursor .at) ⌝ }
 {
-    let at = c.at;
+    let at = cursor.at;
     if at <= buf.len() { buf.len() - at } else { 0 }
 }
 
-pub fn u8_from(buf: &[u8], c: Cursor) -> Byte
-    ensures { λ r. ⌜ res8 (now (buf .entry)) r ≡ readNum 1 (drop (c .at) (now (buf .entry))) ⌝ }
+pub fn u8_from(buf: &[u8], cursor: Cursor) -> Byte
+    ensures { λ r. ⌜ res8 (now (buf .entry)) r ≡ readNum 1 (drop (cursor .at) (now (buf .entry))) ⌝ }
 {
-    if left(buf, c) < 1 {
+    if bytes_left(buf, cursor) < 1 {
         return Byte::Short;
     }
-    let at = c.at;
+    let at = cursor.at;
     Byte::Got(base_bytes::u8_at(buf, at), Cursor { at: at + 1 })
 }
 
-pub fn u16_from(buf: &[u8], c: Cursor) -> Word16
-    ensures { λ r. ⌜ res16 (now (buf .entry)) r ≡ readNum 2 (drop (c .at) (now (buf .entry))) ⌝ }
+pub fn u16_from(buf: &[u8], cursor: Cursor) -> Word16
+    ensures { λ r. ⌜ res16 (now (buf .entry)) r ≡ readNum 2 (drop (cursor .at) (now (buf .entry))) ⌝ }
 {
-    if left(buf, c) < 2 {
+    if bytes_left(buf, cursor) < 2 {
         return Word16::Short;
     }
-    let at = c.at;
+    let at = cursor.at;
     Word16::Got(base_bytes::u16_at(buf, at), Cursor { at: at + 2 })
 }
 
-pub fn u32_from(buf: &[u8], c: Cursor) -> Word32
-    ensures { λ r. ⌜ res32 (now (buf .entry)) r ≡ readNum 4 (drop (c .at) (now (buf .entry))) ⌝ }
+pub fn u32_from(buf: &[u8], cursor: Cursor) -> Word32
+    ensures { λ r. ⌜ res32 (now (buf .entry)) r ≡ readNum 4 (drop (cursor .at) (now (buf .entry))) ⌝ }
     ensures { λ r. ⌜ Within32 (now (buf .entry)) r ⌝ }
 {
-    if left(buf, c) < 4 {
+    if bytes_left(buf, cursor) < 4 {
         return Word32::Short;
     }
-    let at = c.at;
+    let at = cursor.at;
     Word32::Got(base_bytes::u32_at(buf, at), Cursor { at: at + 4 })
 }
 
-pub fn u64_from(buf: &[u8], c: Cursor) -> Word64
-    ensures { λ r. ⌜ res64 (now (buf .entry)) r ≡ readNum 8 (drop (c .at) (now (buf .entry))) ⌝ }
+pub fn u64_from(buf: &[u8], cursor: Cursor) -> Word64
+    ensures { λ r. ⌜ res64 (now (buf .entry)) r ≡ readNum 8 (drop (cursor .at) (now (buf .entry))) ⌝ }
 {
-    if left(buf, c) < 8 {
+    if bytes_left(buf, cursor) < 8 {
         return Word64::Short;
     }
-    let at = c.at;
+    let at = cursor.at;
     Word64::Got(base_bytes::u64_at(buf, at), Cursor { at: at + 8 })
 }
 
 // A blob, as the part of the buffer where its bytes stand: they are not looked at.
-pub fn blob_from(buf: &[u8], c: Cursor) -> SpanAt
-    ensures { λ r. ⌜ resSpan (now (buf .entry)) r ≡ readBlob (drop (c .at) (now (buf .entry))) ⌝ }
+pub fn blob_from(buf: &[u8], cursor: Cursor) -> SpanAt
+    ensures { λ r. ⌜ resSpan (now (buf .entry)) r ≡ readBlob (drop (cursor .at) (now (buf .entry))) ⌝ }
     ensures { λ r. ⌜ SpanIn (now (buf .entry)) r ⌝ }
 {
-    let Word32::Got(n, d) = u32_from(buf, c) else {
+    let Word32::Got(n, d) = u32_from(buf, cursor) else {
         return SpanAt::Bad(FrameError::Truncated);
     };
     let len = n as usize;
-    if left(buf, d) < len {
+    if bytes_left(buf, d) < len {
         return SpanAt::Bad(FrameError::Truncated);
     }
     let at = d.at;
@@ -158,17 +158,17 @@ pub fn bytes_at(buf: &[u8], at: usize, len: usize) -> &[u8]
 }
 
 // The bytes of a part.
-pub fn slice(buf: &[u8], p: Span) -> &[u8]
-    ensures { λ r. ⌜ now r ≡ spanOf (now (buf .entry)) p ⌝ }
+pub fn slice(buf: &[u8], span: Span) -> &[u8]
+    ensures { λ r. ⌜ now r ≡ spanOf (now (buf .entry)) span ⌝ }
 {
-    bytes_at(buf, p.at, p.len as usize)
+    bytes_at(buf, span.at, span.len as usize)
 }
 
-pub fn text_from(buf: &[u8], c: Cursor) -> SpanAt
-    ensures { λ r. ⌜ resSpan (now (buf .entry)) r ≡ readText (drop (c .at) (now (buf .entry))) ⌝ }
+pub fn text_from(buf: &[u8], cursor: Cursor) -> SpanAt
+    ensures { λ r. ⌜ resSpan (now (buf .entry)) r ≡ readText (drop (cursor .at) (now (buf .entry))) ⌝ }
     ensures { λ r. ⌜ SpanIn (now (buf .entry)) r ⌝ }
 {
-    match blob_from(buf, c) {
+    match blob_from(buf, cursor) {
         SpanAt::Bad(e) => SpanAt::Bad(e),
         SpanAt::Got(p, d) => {
             if frame_utf8::is_utf8(slice(buf, p)) {
@@ -181,99 +181,99 @@ pub fn text_from(buf: &[u8], c: Cursor) -> SpanAt
 }
 
 // A text that was judged by a rule which only UTF-8 meets: where it breaks the rule, whether it is UTF-8 decides the fault.
-fn kept(buf: &[u8], s: Span, d: Cursor, fine: bool, v: Value) -> SpanAt
-    ensures { λ r. ⌜ resSpan (now (buf .entry)) r ≡ cond fine (ok (spanOf (now (buf .entry)) s) (drop (d .at) (now (buf .entry)))) (bad (cond (utf8 (spanOf (now (buf .entry)) s)) (invalidOf v) badText)) ⌝ }
-    ensures { λ r. ⌜ (Lies (now (buf .entry)) s → SpanIn (now (buf .entry)) r) ⌝ }
+fn text_or_fault(buf: &[u8], span: Span, cursor: Cursor, valid: bool, value: Value) -> SpanAt
+    ensures { λ r. ⌜ resSpan (now (buf .entry)) r ≡ cond valid (ok (spanOf (now (buf .entry)) span) (drop (cursor .at) (now (buf .entry)))) (bad (cond (utf8 (spanOf (now (buf .entry)) span)) (invalidOf value) badText)) ⌝ }
+    ensures { λ r. ⌜ (Lies (now (buf .entry)) span → SpanIn (now (buf .entry)) r) ⌝ }
 {
-    if fine {
-        return SpanAt::Got(s, d);
+    if valid {
+        return SpanAt::Got(span, cursor);
     }
-    if frame_utf8::is_utf8(slice(buf, s)) {
-        SpanAt::Bad(FrameError::Invalid(v))
+    if frame_utf8::is_utf8(slice(buf, span)) {
+        SpanAt::Bad(FrameError::Invalid(value))
     } else {
         SpanAt::Bad(FrameError::Invalid(Value::Text))
     }
 }
 
-pub fn stamp_from(p: Protocol, buf: &[u8], c: Cursor) -> SpanAt
-    ensures { λ r. ⌜ resSpan (now (buf .entry)) r ≡ readStamp (p .version) (drop (c .at) (now (buf .entry))) ⌝ }
+pub fn stamp_from(protocol: Protocol, buf: &[u8], cursor: Cursor) -> SpanAt
+    ensures { λ r. ⌜ resSpan (now (buf .entry)) r ≡ readStamp (protocol .version) (drop (cursor .at) (now (buf .entry))) ⌝ }
     ensures { λ r. ⌜ SpanIn (now (buf .entry)) r ⌝ }
 {
-    match blob_from(buf, c) {
+    match blob_from(buf, cursor) {
         SpanAt::Bad(e) => SpanAt::Bad(e),
         SpanAt::Got(s, d) => {
-            let fine = frame_stamp::takes_stamp(p, slice(buf, s));
-            kept(buf, s, d, fine, Value::Timestamp)
+            let valid = frame_stamp::takes_stamp(protocol, slice(buf, s));
+            text_or_fault(buf, s, d, valid, Value::Timestamp)
         }
     }
 }
 
 // A stamp, or the empty text, which stands for none.
-pub fn is_stamp_or_none(p: Protocol, s: &[u8]) -> bool
-    ensures { λ r. ⌜ r ≡ (isEmpty (now (s .entry)) || takesStamp (p .version) (now (s .entry))) ⌝ }
+pub fn is_stamp_or_none(protocol: Protocol, s: &[u8]) -> bool
+    ensures { λ r. ⌜ r ≡ (isEmpty (now (s .entry)) || takesStamp (protocol .version) (now (s .entry))) ⌝ }
 {
     if s.len() == 0 {
         return true;
     }
-    frame_stamp::takes_stamp(p, s)
+    frame_stamp::takes_stamp(protocol, s)
 }
 
-pub fn stamp_or_none_from(p: Protocol, buf: &[u8], c: Cursor) -> SpanAt
-    ensures { λ r. ⌜ resSpan (now (buf .entry)) r ≡ readStampOrNone (p .version) (drop (c .at) (now (buf .entry))) ⌝ }
+pub fn stamp_or_none_from(protocol: Protocol, buf: &[u8], cursor: Cursor) -> SpanAt
+    ensures { λ r. ⌜ resSpan (now (buf .entry)) r ≡ readStampOrNone (protocol .version) (drop (cursor .at) (now (buf .entry))) ⌝ }
     ensures { λ r. ⌜ SpanIn (now (buf .entry)) r ⌝ }
 {
-    match blob_from(buf, c) {
+    match blob_from(buf, cursor) {
         SpanAt::Bad(e) => SpanAt::Bad(e),
         SpanAt::Got(s, d) => {
-            let fine = is_stamp_or_none(p, slice(buf, s));
-            kept(buf, s, d, fine, Value::Timestamp)
+            let valid = is_stamp_or_none(protocol, slice(buf, s));
+            text_or_fault(buf, s, d, valid, Value::Timestamp)
         }
     }
 }
 
-pub fn marks_from(buf: &[u8], c: Cursor) -> SpanAt
-    ensures { λ r. ⌜ resSpan (now (buf .entry)) r ≡ readMarks (drop (c .at) (now (buf .entry))) ⌝ }
+pub fn marks_from(buf: &[u8], cursor: Cursor) -> SpanAt
+    ensures { λ r. ⌜ resSpan (now (buf .entry)) r ≡ readMarks (drop (cursor .at) (now (buf .entry))) ⌝ }
     ensures { λ r. ⌜ SpanIn (now (buf .entry)) r ⌝ }
 {
-    match blob_from(buf, c) {
+    match blob_from(buf, cursor) {
         SpanAt::Bad(e) => SpanAt::Bad(e),
         SpanAt::Got(s, d) => {
-            let fine = frame_stamp::is_marks(slice(buf, s));
-            kept(buf, s, d, fine, Value::Marks)
+            let valid = frame_stamp::is_marks(slice(buf, s));
+            text_or_fault(buf, s, d, valid, Value::Marks)
         }
     }
 }
 
 // A text, and whether it has lo to hi printable bytes: the key's rule for one of its texts.
-pub fn judged_from(buf: &[u8], c: Cursor, lo: usize, hi: usize) -> JudgedAt
-    ensures { λ r. ⌜ resJudged (now (buf .entry)) r ≡ readText (drop (c .at) (now (buf .entry))) ⌝ }
+pub fn checked_text_from(buf: &[u8], cursor: Cursor, lo: usize, hi: usize) -> CheckedTextAt
+    ensures { λ r. ⌜ resJudged (now (buf .entry)) r ≡ readText (drop (cursor .at) (now (buf .entry))) ⌝ }
     ensures { λ r. ⌜ Judged lo hi (now (buf .entry)) r ⌝ }
     ensures { λ r. ⌜ JudgedIn (now (buf .entry)) r ⌝ }
 {
-    match blob_from(buf, c) {
-        SpanAt::Bad(e) => JudgedAt::Bad(e),
+    match blob_from(buf, cursor) {
+        SpanAt::Bad(e) => CheckedTextAt::Bad(e),
         SpanAt::Got(s, d) => {
             if frame_stamp::is_printable(slice(buf, s), lo, hi) {
-                return JudgedAt::Got(s, true, d);
+                return CheckedTextAt::Got(s, true, d);
             }
             if frame_utf8::is_utf8(slice(buf, s)) {
-                JudgedAt::Got(s, false, d)
+                CheckedTextAt::Got(s, false, d)
             } else {
-                JudgedAt::Bad(FrameError::Invalid(Value::Text))
+                CheckedTextAt::Bad(FrameError::Invalid(Value::Text))
             }
         }
     }
 }
 
 // A count of items that need at least `min` bytes each in what is left.
-pub fn count_from(buf: &[u8], c: Cursor, min: u64) -> Word32
+pub fn count_from(buf: &[u8], cursor: Cursor, min: u64) -> Word32
     requires { ⌜ min ≤ 6 ⌝ }
-    ensures { λ r. ⌜ res32 (now (buf .entry)) r ≡ readCount min (drop (c .at) (now (buf .entry))) ⌝ }
+    ensures { λ r. ⌜ res32 (now (buf .entry)) r ≡ readCount min (drop (cursor .at) (now (buf .entry))) ⌝ }
 {
-    match u32_from(buf, c) {
+    match u32_from(buf, cursor) {
         Word32::Short => Word32::Short,
         Word32::Got(n, d) => {
-            if (n as u64) * min <= (left(buf, d) as u64) {
+            if (n as u64) * min <= (bytes_left(buf, d) as u64) {
                 Word32::Got(n, d)
             } else {
                 Word32::Short

@@ -129,8 +129,8 @@ pub fn is_stamp(s: &[u8]) -> bool
 }
 
 // s is a stamp that reading takes in this version.
-pub fn takes_stamp(p: Protocol, s: &[u8]) -> bool
-    ensures { λ r. ⌜ r ≡ takesStamp (p .version) (now (s .entry)) ⌝ }
+pub fn takes_stamp(protocol: Protocol, s: &[u8]) -> bool
+    ensures { λ r. ⌜ r ≡ takesStamp (protocol .version) (now (s .entry)) ⌝ }
 {
     is_stamp(s)
 }

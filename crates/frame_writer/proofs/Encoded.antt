@@ -62,7 +62,7 @@ module _ (version : ℕ) (t : Bool) (f : Frame) where
           area = rw (r .read, r .texts, le-ltb _ _ short, lt-ltb _ _ full) (s .2);
         }
 
-    pub encoded-took : {last : List ℕ} {k end : ℕ} → Started n before after (Start.At k) → Wrote after k (bodyBytes f) last end → Encoded version (frameIf t f) before last (Written.Took end)
+    pub encoded-took : {last : List ℕ} {k end : ℕ} → Started n before after (Start.At k) → Wrote after k (bodyBytes f) last end → Encoded version (frameIf t f) before last (Written.Bytes end)
     unfolding writeOutcome encode
     encoded-took {last} {k} {end} s w =
         let short : length (bodyBytes f) ≤ maxBody = omega (arith, r .size, s .0) in

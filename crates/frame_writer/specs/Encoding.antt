@@ -92,7 +92,7 @@ writeAnswer (wrote bs) = took (length bs)
 writeAnswer (refused n) = writeRefusal n
 
 abbrev pub writtenOf : Written → WriteAnswer
-writtenOf (Written.Took n) = took n
+writtenOf (Written.Bytes n) = took n
 writtenOf Written.Unreadable = writeRefusal Refusal.unreadable
 writtenOf Written.TooLong = writeRefusal Refusal.tooLong
 writtenOf Written.NoRoom = writeRefusal Refusal.noRoom

@@ -30,7 +30,7 @@ use frame_stamp::Protocol;
 
 // How many bytes were written, or why none was: a field that reading would refuse, a body too long, an area too short.
 pub enum Written {
-    Took(usize),
+    Bytes(usize),
     Unreadable,
     TooLong,
     NoRoom,
@@ -43,14 +43,14 @@ pub enum Start {
 }
 
 // Whether a part lies in the source.
-pub fn within(src: &[u8], p: Span) -> bool
-    ensures { λ r. ⌜ r ≡ spanFits (now (src .entry)) p ⌝ }
+pub fn within(src: &[u8], span: Span) -> bool
+    ensures { λ r. ⌜ r ≡ spanFits (now (src .entry)) span ⌝ }
 {
-    let at = p.at;
+    let at = span.at;
     if src.len() < at {
         return false;
     }
-    (p.len as usize) <= src.len() - at
+    (span.len as usize) <= src.len() - at
 }
 
 // Whether so many kinds can be read.
@@ -58,16 +58,16 @@ pub fn kinds_fit(src: &[u8], run: Run) -> bool
     ensures { λ r. ⌜ r ≡ runReads (readNum 2) (now (src .entry)) run ⌝ }
 {
     let at = run.at;
-    (run.count as usize) * 2 <= frame_reader::left(src, Cursor { at })
+    (run.count as usize) * 2 <= frame_reader::bytes_left(src, Cursor { at })
 }
 
-pub fn session_fits(src: &[u8], k: SessionId) -> bool
-    ensures { λ r. ⌜ r ≡ (keyFits (now (src .entry)) k && fineKey (keyOf (now (src .entry)) k)) ⌝ }
+pub fn session_fits(src: &[u8], session: SessionId) -> bool
+    ensures { λ r. ⌜ r ≡ (keyFits (now (src .entry)) session && fineKey (keyOf (now (src .entry)) session)) ⌝ }
 {
-    let begin = k.begin_string;
-    let sender = k.sender_comp_id;
-    let target = k.target_comp_id;
-    let suffix = k.key_suffix;
+    let begin = session.begin_string;
+    let sender = session.sender_comp_id;
+    let target = session.target_comp_id;
+    let suffix = session.key_suffix;
     let fits = within(src, begin) & within(src, sender) & within(src, target) & within(src, suffix);
     fits
         & frame_stamp::is_key(
@@ -78,13 +78,13 @@ pub fn session_fits(src: &[u8], k: SessionId) -> bool
         )
 }
 
-pub fn summary_fits(p: Protocol, src: &[u8], m: Summary) -> bool
-    ensures { λ r. ⌜ r ≡ (summaryFits (now (src .entry)) m && fineSummary (p .version) (summaryOf (now (src .entry)) m)) ⌝ }
+pub fn summary_fits(protocol: Protocol, src: &[u8], summary: Summary) -> bool
+    ensures { λ r. ⌜ r ≡ (summaryFits (now (src .entry)) summary && fineSummary (protocol .version) (summaryOf (now (src .entry)) summary)) ⌝ }
 {
-    let created_at = m.created_at;
-    let marks = m.marks;
+    let created_at = summary.created_at;
+    let marks = summary.marks;
     let fits = within(src, created_at) & within(src, marks);
-    let dated = frame_reader::is_stamp_or_none(p, frame_reader::slice(src, created_at));
+    let dated = frame_reader::is_stamp_or_none(protocol, frame_reader::slice(src, created_at));
     fits & (dated & frame_stamp::is_marks(frame_reader::slice(src, marks)))
 }
 
@@ -96,7 +96,7 @@ pub fn records_len(src: &[u8], run: Run) -> RunLen
     match frame_fields::app_records_end(src, Cursor { at }, run.count) {
         End::Bad(e) => RunLen::Bad(e),
         End::At(d) => RunLen::Bytes(
-            frame_reader::left(src, Cursor { at }) - frame_reader::left(src, d),
+            frame_reader::bytes_left(src, Cursor { at }) - frame_reader::bytes_left(src, d),
         ),
     }
 }
@@ -116,66 +116,66 @@ pub fn begin(out: &mut [u8], limit: u32, n: usize) -> Start
 }
 
 // A part of the source as a blob.
-pub fn put_span(src: &[u8], p: Span, out: &mut [u8], at: usize) -> usize
-    requires { ⌜ at + (4 + length (spanOf (now src) p)) ≤ length (now out) ⌝ }
-    ensures { λ r. ⌜ Wrote (now (out .entry)) at (blobBytes (spanOf (now (src .entry)) p)) (now (out .exit)) r ⌝ }
-    ensures { λ r. ⌜ r ≡ at + (4 + length (spanOf (now (src .entry)) p)) ⌝ }
+pub fn put_span(src: &[u8], span: Span, out: &mut [u8], at: usize) -> usize
+    requires { ⌜ at + (4 + length (spanOf (now src) span)) ≤ length (now out) ⌝ }
+    ensures { λ r. ⌜ Wrote (now (out .entry)) at (blobBytes (spanOf (now (src .entry)) span)) (now (out .exit)) r ⌝ }
+    ensures { λ r. ⌜ r ≡ at + (4 + length (spanOf (now (src .entry)) span)) ⌝ }
 {
-    frame_op::blob(frame_reader::slice(src, p), out, at)
+    frame_op::blob(frame_reader::slice(src, span), out, at)
 }
 
-pub fn put_session(src: &[u8], k: SessionId, out: &mut [u8], at: usize) -> usize
-    requires { ⌜ at + keySize (keyOf (now src) k) ≤ length (now out) ⌝ }
-    ensures { λ r. ⌜ Wrote (now (out .entry)) at (keyBytes (keyOf (now (src .entry)) k)) (now (out .exit)) r ⌝ }
+pub fn put_session(src: &[u8], session: SessionId, out: &mut [u8], at: usize) -> usize
+    requires { ⌜ at + keySize (keyOf (now src) session) ≤ length (now out) ⌝ }
+    ensures { λ r. ⌜ Wrote (now (out .entry)) at (keyBytes (keyOf (now (src .entry)) session)) (now (out .exit)) r ⌝ }
 {
-    let begin = k.begin_string;
-    let sender = k.sender_comp_id;
-    let target = k.target_comp_id;
-    let suffix = k.key_suffix;
+    let begin = session.begin_string;
+    let sender = session.sender_comp_id;
+    let target = session.target_comp_id;
+    let suffix = session.key_suffix;
     let at = put_span(src, begin, out, at);
     let at = put_span(src, sender, out, at);
     let at = put_span(src, target, out, at);
     put_span(src, suffix, out, at)
 }
 
-fn flight_number(f: InFlight) -> u64
-    ensures { λ r. ⌜ r ≡ flightNumber (flightOf f) ⌝ }
+fn flight_number(flight: InFlight) -> u64
+    ensures { λ r. ⌜ r ≡ flightNumber (flightOf flight) ⌝ }
 {
-    match f {
+    match flight {
         InFlight::Seq(n) => n,
         InFlight::Nothing => 0,
     }
 }
 
-pub fn put_summary(src: &[u8], m: Summary, out: &mut [u8], at: usize) -> usize
-    requires { ⌜ at + summarySize (summaryOf (now src) m) ≤ length (now out) ⌝ }
-    ensures { λ r. ⌜ Wrote (now (out .entry)) at (summaryBytes (summaryOf (now (src .entry)) m)) (now (out .exit)) r ⌝ }
+pub fn put_summary(src: &[u8], summary: Summary, out: &mut [u8], at: usize) -> usize
+    requires { ⌜ at + summarySize (summaryOf (now src) summary) ≤ length (now out) ⌝ }
+    ensures { λ r. ⌜ Wrote (now (out .entry)) at (summaryBytes (summaryOf (now (src .entry)) summary)) (now (out .exit)) r ⌝ }
 {
-    let in_flight = m.in_flight;
-    let created_at = m.created_at;
-    let marks = m.marks;
-    let at = base_bytes::put_u64(out, at, m.next_outgoing);
-    let at = base_bytes::put_u64(out, at, m.next_incoming);
+    let in_flight = summary.in_flight;
+    let created_at = summary.created_at;
+    let marks = summary.marks;
+    let at = base_bytes::put_u64(out, at, summary.next_outgoing);
+    let at = base_bytes::put_u64(out, at, summary.next_incoming);
     let at = base_bytes::put_u64(out, at, flight_number(in_flight));
     let at = put_span(src, created_at, out, at);
     let at = put_span(src, marks, out, at);
-    base_bytes::put_u64(out, at, m.last_outgoing)
+    base_bytes::put_u64(out, at, summary.last_outgoing)
 }
 
-pub fn part_byte(p: Part) -> u8
-    ensures { λ r. ⌜ r ≡ partNumber (partOf p) ⌝ }
+pub fn part_byte(part: Part) -> u8
+    ensures { λ r. ⌜ r ≡ partNumber (partOf part) ⌝ }
 {
-    match p {
+    match part {
         Part::Commit => part_byte::COMMIT,
         Part::Whole => part_byte::WHOLE,
         Part::LastWhole => part_byte::LAST_WHOLE,
     }
 }
 
-pub fn reason_byte(r: NackReason) -> u8
-    ensures { λ n. ⌜ n ≡ reasonNumber (reasonOf r) ⌝ }
+pub fn reason_byte(reason: NackReason) -> u8
+    ensures { λ n. ⌜ n ≡ reasonNumber (reasonOf reason) ⌝ }
 {
-    match r {
+    match reason {
         NackReason::StaleEpoch => reason::STALE_EPOCH,
         NackReason::Diverged => reason::DIVERGED,
         NackReason::Lag => reason::LAG,

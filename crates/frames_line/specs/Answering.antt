@@ -14,7 +14,7 @@ use Rattle.model_standby.specs.State as the-state
 use Rattle.model_standby.specs.State.{Standby, onFrame}
 use Rattle.model_standby.specs.Standby.{step}
 use Rattle.base_hex.specs.Lines.{Puts}
-use Rattle.standby_row.specs.declared.Handle.{Handle}
+use Rattle.standby_row.specs.declared.Bound.{Bound}
 use Rattle.standby_state.specs.declared.Replica.{Replica}
 use Rattle.standby_state.specs.declared.Settings.{Settings}
 use Rattle.standby_state.specs.declared.Answer.{Answer}
@@ -24,7 +24,7 @@ use Rattle.standby_step.specs.Calls.{roomAll, standbyOf, allowedAll, Called}
 
 -- four sessions, C 4,096, M 64, incarnation 7, lag 0
 abbrev pub theSettings : Settings
-theSettings = record { shape = record { places = 4; bytes = 4096; messages = 64 }; incarnation = record { 0 = 7 }; lag = 0 }
+theSettings = record { shape = record { places = 4; bytes = 4096; messages = 64 }; incarnation = record { 0 = 7 }; «max_lag» = 0 }
 
 -- ---- a line on the definition's standby
 
@@ -52,12 +52,12 @@ lineStep L st l = onBytes L st (lineBytes l)
 
 -- ---- a line on the lent areas, and its text
 
-pub data Heard (l : List ℕ) (c c' : Replica) (row row' : List Handle) (w w' b b' h h' : List ℕ) : List ℕ → Type 0 where
+pub data Heard (l : List ℕ) (c c' : Replica) (row row' : List Bound) (w w' b b' h h' : List ℕ) : List ℕ → Type 0 where
   unread : lineBytes l ≡ none → c' ≡ c → row' ≡ row → w' ≡ w → b' ≡ b → h' ≡ h → Heard l c c' row row' w w' b b' h h' (refusalText Refusal.notOneFrame)
   called : (f : List ℕ) (a : Answer) → lineBytes l ≡ some f → Called theSettings (onFrame f) c c' row row' w w' b b' h h' a → Heard l c c' row row' w w' b b' h h' (lineText (answerOf b' a))
 
 -- the text stands at the start of the output area, the rest of which is as it was; and state and text are the definition's
-pub record AnswersLine (l : List ℕ) (c c' : Replica) (row row' : List Handle) (w w' b b' h h' out out' : List ℕ) (len : ℕ) : Type 0 where
+pub record AnswersLine (l : List ℕ) (c c' : Replica) (row row' : List Bound) (w w' b b' h h' out out' : List ℕ) (len : ℕ) : Type 0 where
   pub text : List ℕ
   pub heard : Heard l c c' row row' w w' b b' h h' text
   pub puts : Puts text out out' len

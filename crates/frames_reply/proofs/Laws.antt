@@ -63,17 +63,17 @@ told-no (wrote bs) m e = absurd (omega (arith, ap tag e))
 told-no (refused k) m e = ap (λ (x : ℕ). refusalText x) (ap told e)
 
 module _ (f : Option Frame) {before after : List ℕ} where
-  pub took-front : (n : ℕ) → Encoded 1 f before after (Written.Took n) → writeOutcome 1 f (length before) ≡ wrote (take n after)
+  pub took-front : (n : ℕ) → Encoded 1 f before after (Written.Bytes n) → writeOutcome 1 f (length before) ≡ wrote (take n after)
   took-front n e = front (writeOutcome 1 f (length before)) n before after (room f (length before)) (e .answer) (e .area)
 
-  pub took-fits : (n : ℕ) → Encoded 1 f before after (Written.Took n) → n ≤ length before
+  pub took-fits : (n : ℕ) → Encoded 1 f before after (Written.Bytes n) → n ≤ length before
   took-fits n e = go (writeOutcome 1 f (length before)) (room f (length before)) (e .answer)
     where
       go : (o : WriteOutcome) → size o ≤ length before → took n ≡ writeAnswer o → n ≤ length before
       go (wrote bs) h q = omega (arith, ap told q)
       go (refused m) h q = absurd (omega (arith, ap tag q))
 
-  pub put-digits : (n : ℕ) (out : List ℕ) {out' : List ℕ} → length after ≡ length before → Encoded 1 f before after (Written.Took n) → WroteFront (hexOf (take (n - 0) (drop 0 after))) out out' → Puts (outcomeText (writeOutcome 1 f (length before))) out out' (2 * n)
+  pub put-digits : (n : ℕ) (out : List ℕ) {out' : List ℕ} → length after ≡ length before → Encoded 1 f before after (Written.Bytes n) → WroteFront (hexOf (take (n - 0) (drop 0 after))) out out' → Puts (outcomeText (writeOutcome 1 f (length before))) out out' (2 * n)
   put-digits n out {out'} same e h =
       let fit : n ≤ length after = omega (arith, took-fits n e) in
       let cut : n - 0 ≡ n = omega arith in

@@ -13,13 +13,13 @@ use frame::Written;
 use standby_state::Answer;
 
 // The digits of an answer's frame, or the refusal where it can't be written; buf is for its bytes.
-fn put_reply(a: Answer, bytes: &[u8], buf: &mut [u8], out: &mut [u8]) -> usize
+fn put_reply(answer: Answer, bytes: &[u8], buf: &mut [u8], out: &mut [u8]) -> usize
     requires { ⌜ 4 ≤ length (now buf) ⌝ }
     requires { ⌜ 2 * length (now buf) ≤ length (now out) ⌝ }
-    ensures { λ r. ⌜ Puts (outcomeText (writeOutcome 1 (some (frameBy (now (bytes .entry)) a)) (length (now (buf .entry))))) (now (out .entry)) (now (out .exit)) r ⌝ }
+    ensures { λ r. ⌜ Puts (outcomeText (writeOutcome 1 (some (frameBy (now (bytes .entry)) answer)) (length (now (buf .entry))))) (now (out .entry)) (now (out .exit)) r ⌝ }
 {
-    match standby_reply::write(a, bytes, buf) {
-        Written::Took(n) => {
+    match standby_reply::write(answer, bytes, buf) {
+        Written::Bytes(n) => {
             base_hex::put_hex(&buf[0..n], out);
             2 * n
         }
@@ -30,16 +30,16 @@ fn put_reply(a: Answer, bytes: &[u8], buf: &mut [u8], out: &mut [u8]) -> usize
 }
 
 // The text of an answer: `R n`, or the digits of its frame.
-pub fn put_answer(a: Answer, bytes: &[u8], buf: &mut [u8], out: &mut [u8]) -> usize
+pub fn put_answer(answer: Answer, bytes: &[u8], buf: &mut [u8], out: &mut [u8]) -> usize
     requires { ⌜ 4 ≤ length (now buf) ⌝ }
     requires { ⌜ 2 * length (now buf) ≤ length (now out) ⌝ }
-    ensures { λ r. ⌜ Puts (answerText (length (now (buf .entry))) (answerOf (now (bytes .entry)) a)) (now (out .entry)) (now (out .exit)) r ⌝ }
+    ensures { λ r. ⌜ Puts (answerText (length (now (buf .entry))) (answerOf (now (bytes .entry)) answer)) (now (out .entry)) (now (out .exit)) r ⌝ }
 {
-    if a.refusal == 0 {
-        if a.kind == 0 {
+    if answer.refusal == 0 {
+        if answer.kind == 0 {
             return 0;
         }
-        return put_reply(a, bytes, buf, out);
+        return put_reply(answer, bytes, buf, out);
     }
-    base_hex::put_refusal(a.refusal, out)
+    base_hex::put_refusal(answer.refusal, out)
 }

@@ -17,10 +17,17 @@ use frame_stamp::Protocol;
 use store_areas::Shape;
 
 // Makes the change that `op`, which was read from `run`, names.
-pub fn apply(p: Protocol, run: &[u8], op: Op, words: &mut [u64], bytes: &mut [u8], max: usize)
+pub fn apply(
+    protocol: Protocol,
+    run: &[u8],
+    op: Op,
+    words: &mut [u64],
+    bytes: &mut [u8],
+    max: usize,
+)
     requires { ⌜ 16 + 2 * max ≤ length (now words) ⌝ }
     requires { ⌜ 224 ≤ length (now bytes) ⌝ }
-    requires { ⌜ fineChange (p .version) (opOf (now run) op) ≡ true ⌝ }
+    requires { ⌜ fineChange (protocol .version) (opOf (now run) op) ≡ true ⌝ }
     requires { ⌜ fits (nextOutOf (now words)) (opOf (now run) op ∷ []) ≡ true ⌝ }
     ensures { λ _. ⌜ ((C : ℕ) → length (now (bytes .entry)) ≡ 224 + C → placeIn C max (now (words .exit)) (now (bytes .exit)) ≡ onStored (changed C max (opOf (now (run .entry)) op ∷ [])) (placeIn C max (now (words .entry)) (now (bytes .entry)))) ⌝ }
 {
@@ -53,46 +60,46 @@ pub fn apply(p: Protocol, run: &[u8], op: Op, words: &mut [u64], bytes: &mut [u8
 }
 
 // Makes all changes of a run, whose outgoing numbers follow on from the session's.
-pub fn apply_all(p: Protocol, run: &[u8], words: &mut [u64], bytes: &mut [u8], max: usize)
+pub fn apply_all(protocol: Protocol, run: &[u8], words: &mut [u64], bytes: &mut [u8], max: usize)
     requires { ⌜ 16 + 2 * max ≤ length (now words) ⌝ }
     requires { ⌜ 224 ≤ length (now bytes) ⌝ }
-    requires { ⌜ fits (nextOutOf (now words)) (heldRun (p .version) (now run)) ≡ true ⌝ }
-    ensures { λ _. ⌜ ((C : ℕ) → length (now (bytes .entry)) ≡ 224 + C → placeIn C max (now (words .exit)) (now (bytes .exit)) ≡ onStored (changed C max (heldRun (p .version) (now (run .entry)))) (placeIn C max (now (words .entry)) (now (bytes .entry)))) ⌝ }
+    requires { ⌜ fits (nextOutOf (now words)) (heldRun (protocol .version) (now run)) ≡ true ⌝ }
+    ensures { λ _. ⌜ ((C : ℕ) → length (now (bytes .entry)) ≡ 224 + C → placeIn C max (now (words .exit)) (now (bytes .exit)) ≡ onStored (changed C max (heldRun (protocol .version) (now (run .entry)))) (placeIn C max (now (words .entry)) (now (bytes .entry)))) ⌝ }
 {
     let mut d = Cursor { at: 0 };
     while d.at < run.len() {
-        let OpAt::Got(op, next) = frame_op::op_from(p, run, d) else {
+        let OpAt::Got(op, next) = frame_op::op_from(protocol, run, d) else {
             return;
         };
-        apply(p, run, op, words, bytes, max);
+        apply(protocol, run, op, words, bytes, max);
         d = next;
     }
 }
 
 // Makes all changes of a run at place i of a store, which is in use.
 pub fn apply_at(
-    p: Protocol,
+    protocol: Protocol,
     run: &[u8],
     words: &mut [u64],
     bytes: &mut [u8],
     shape: Shape,
-    i: usize,
+    place: usize,
 )
     requires { ⌜ Rules shape (now words) (now bytes) ⌝ }
-    requires { ⌜ i < getD (now words) 0 0 ⌝ }
-    requires { ⌜ fits (placeAt shape (now words) (now bytes) i .stored .session .nextOut) (heldRun (p .version) (now run)) ≡ true ⌝ }
-    ensures { λ _. ⌜ Changed shape i (changed (shape .bytes) (shape .messages) (heldRun (p .version) (now (run .entry)))) (now (words .entry)) (now (words .exit)) (now (bytes .entry)) (now (bytes .exit)) ⌝ }
+    requires { ⌜ place < getD (now words) 0 0 ⌝ }
+    requires { ⌜ fits (placeAt shape (now words) (now bytes) place .stored .session .nextOut) (heldRun (protocol .version) (now run)) ≡ true ⌝ }
+    ensures { λ _. ⌜ Changed shape place (changed (shape .bytes) (shape .messages) (heldRun (protocol .version) (now (run .entry)))) (now (words .entry)) (now (words .exit)) (now (bytes .entry)) (now (bytes .exit)) ⌝ }
 {
-    let s = store_areas::spot_in(words, bytes, shape, i);
-    let wa = s.wa;
-    let we = s.we;
-    let ba = s.ba;
-    let be = s.be;
+    let s = store_areas::spot_in(words, bytes, shape, place);
+    let words_start = s.words_start;
+    let words_end = s.words_end;
+    let bytes_start = s.bytes_start;
+    let bytes_end = s.bytes_end;
     apply_all(
-        p,
+        protocol,
         run,
-        &mut words[wa..we],
-        &mut bytes[ba..be],
+        &mut words[words_start..words_end],
+        &mut bytes[bytes_start..bytes_end],
         shape.messages as usize,
     );
 }

@@ -15,7 +15,7 @@ use Rattle.model_frame.specs.Parse.{isEmpty}
 use Rattle.model_frame.specs.Writing.{sizes}
 use Rattle.frame.specs.declared.CommitNumber.{CommitNumber}
 use Rattle.frame.specs.declared.Epoch.{Epoch}
-use Rattle.standby_row.specs.declared.Seen.{Seen}
+use Rattle.standby_row.specs.declared.Lookup.{Lookup}
 use Rattle.store_areas.specs.Areas.{Rules}
 use Rattle.store_areas.proofs.Lifting.{places-length}
 use Rattle.standby_commit.proofs.Laws.{touched-none}
@@ -25,7 +25,7 @@ use Rattle.model_standby.specs.State.{Bound, atEpoch}
 use Rattle.model_standby.specs.State as state
 use Rattle.model_standby.specs.Hold.{HoldWrite, heldBytes, writesPart, writesFrame}
 use Rattle.model_standby.specs.Core.{Action, leave, store, Core, CoreResult, coreSays, coreRefuse, counting, coreHandle, coreBatch}
-use Rattle.standby_part.specs.declared.Done.{Done}
+use Rattle.standby_part.specs.declared.PartResult.{PartResult}
 use Rattle.standby_part.specs.State.{boundOf, coreAt}
 use Rattle.standby_part.specs.Part.{resultOf}
 use Rattle.standby_batch_handle.specs.Handling.{followsOf, foundOf, Sound, holdAreaAfter, HandleIs}
@@ -43,7 +43,7 @@ use Rattle.standby_batch.proofs.Passing.{as-many, isStore, store-none, 
 
 -- ---- what the answer of a handle stands for
 
-module _ (d : Done) (h : ℕ) (n : CommitNumber) where
+module _ (d : PartResult) (h : ℕ) (n : CommitNumber) where
   abbrev Said : the-answer.Answer
   Said = cond (eqb (d .refusal) 0) (reply (cond (d .nack) (nack h diverged) (ack h (n .0)))) (refused (d .refusal))
 
@@ -78,7 +78,7 @@ module _ (d : Done) (h : ℕ) (n : CommitNumber) where
 
 -- ---- the ways that leave all as it was
 
-module _ (s : Settings) (c : Replica) (seen : Seen) (h : ℕ) (e : Epoch) (n : CommitNumber) (part : the-frame.Part) (cs : List Change) (apps : List AppRecord) (w b area : List ℕ) (rules : Rules (s .shape) w b) where
+module _ (s : Settings) (c : Replica) (seen : Lookup) (h : ℕ) (e : Epoch) (n : CommitNumber) (part : the-frame.Part) (cs : List Change) (apps : List AppRecord) (w b area : List ℕ) (rules : Rules (s .shape) w b) where
   abbrev L : state.Settings
   L = settingsOf s (length area)
 
@@ -125,7 +125,7 @@ module _ (s : Settings) (c : Replica) (seen : Seen) (h : ℕ) (e : Epoch) (n : C
 
   -- ---- past them
 
-  module _ (p : isEmpty apps ≡ true) (high : ltb (e .0) (c .epoch .0) ≡ false) {found : Bool} (found-is : found ≡ foundFor seen h) {w' b' area' run : List ℕ} {d : Done}
+  module _ (p : isEmpty apps ≡ true) (high : ltb (e .0) (c .epoch .0) ≡ false) {found : Bool} (found-is : found ≡ foundFor seen h) {w' b' area' run : List ℕ} {d : PartResult}
       (g : HandleIs protocolVersion (s .shape) h found (seen .bound) (n .0) part cs w w' b b' area area' d)
       (written : area' ≡ holdAreaAfter protocolVersion found (seen .bound) (n .0) part run area (d .refusal)) (bytes : run ≡ heldBytes cs)
       (kept : found ≡ true → RecordRules seen w area) where
@@ -139,21 +139,21 @@ module _ (s : Settings) (c : Replica) (seen : Seen) (h : ℕ) (e : Epoch) (n : C
     went = tests ∙ (λ j. Goes (p j) (high j)) ∙ ap (λ (t : Bool). coreHandle L K' h (foundOf protocolVersion t (seen .bound) area) (n .0) part cs) (sym found-is)
 
     handled : resultOf protocolVersion h (n .0) area' d (coreAt (countersOf (epochTo c e)) (s .shape) w' b') ≡ coreHandle L K' h (foundOf protocolVersion found (seen .bound) area) (n .0) part cs
-    handled = g .is (countersOf (epochTo c e)) (s .incarnation .0) (s .lag)
+    handled = g .is (countersOf (epochTo c e)) (s .incarnation .0) (s .«max_lag»)
 
     abbrev A : Answer
     A = answerBy d h n
 
     abbrev X : Bool → Outcome
-    X t = cond t (storing (epochTo c e) seen A h (d .slot)) (leaving (epochTo c e) seen A)
+    X t = cond t (storing (epochTo c e) seen A h (d .bound)) (leaving (epochTo c e) seen A)
 
     reads : (t : Bool) → _≡_ {A = CoreResult}
         (record {
           core = coreAt (countersOf (X t .replica)) (s .shape) w' b';
-          action = cond (X t .stores) (store (X t .slot .handle) (boundOf protocolVersion (X t .slot) area')) leave;
+          action = cond (X t .stores) (store (X t .bound .handle) (boundOf protocolVersion (X t .bound) area')) leave;
           answer = answerOf b' (X t .answer);
         })
-        (record { core = coreAt (countersOf (epochTo c e)) (s .shape) w' b'; action = cond t (store h (boundOf protocolVersion (d .slot) area')) leave; answer = answerOf b' A })
+        (record { core = coreAt (countersOf (epochTo c e)) (s .shape) w' b'; action = cond t (store h (boundOf protocolVersion (d .bound) area')) leave; answer = answerOf b' A })
     reads true = refl
     reads false = refl
 
@@ -178,7 +178,7 @@ module _ (s : Settings) (c : Replica) (seen : Seen) (h : ℕ) (e : Epoch) (n : C
     stored-found : d .stores ≡ true → found ≡ true
     stored-found y = go found refl
       where
-        shown : (t : Bool) (x : Action) → isStore (cond t (store h (boundOf protocolVersion (d .slot) area')) leave) ≡ t
+        shown : (t : Bool) (x : Action) → isStore (cond t (store h (boundOf protocolVersion (d .bound) area')) leave) ≡ t
         shown true x = refl
         shown false x = refl
 
@@ -259,7 +259,7 @@ module _ (s : Settings) (c : Replica) (seen : Seen) (h : ℕ) (e : Epoch) (n : C
     handled-is e₁ e₂ =
         subst (Is w' b' area') (sym (e₂ ∙ ap (λ (x : Replica). settledOf x seen d h n) e₁))
         (record {
-          is = reads (d .stores) ∙ (λ j. record { core = coreAt (countersOf (epochTo c e)) (s .shape) w' b'; action = cond (d .stores) (store h (boundOf protocolVersion (d .slot) area')) leave; answer = answer-is d h n b' j }) ∙ handled ∙ sym went;
+          is = reads (d .stores) ∙ (λ j. record { core = coreAt (countersOf (epochTo c e)) (s .shape) w' b'; action = cond (d .stores) (store h (boundOf protocolVersion (d .bound) area')) leave; answer = answer-is d h n b' j }) ∙ handled ∙ sym went;
           lands = lands-in (d .stores) refl;
           stays = clears-none (d .stores);
           stored = λ y. sym found-is ∙ stored-found (sym (stores-so (d .stores)) ∙ y);
@@ -272,7 +272,7 @@ module _ (s : Settings) (c : Replica) (seen : Seen) (h : ℕ) (e : Epoch) (n : C
 
 -- ---- what the handle asks
 
-module _ (seen : Seen) (h : ℕ) (w area : List ℕ) (kept : isFound seen ≡ true → RecordRules seen w area) {found : Bool} (is : found ≡ foundFor seen h) where
+module _ (seen : Lookup) (h : ℕ) (w area : List ℕ) (kept : isFound seen ≡ true → RecordRules seen w area) {found : Bool} (is : found ≡ foundFor seen h) where
   pub kept-of : found ≡ true → RecordRules seen w area
   kept-of t = kept (both (isFound seen) (eqb (seen .bound .handle) h) (sym is ∙ t) .0)
 

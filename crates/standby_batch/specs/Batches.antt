@@ -12,7 +12,7 @@ use Rattle.model_frame.specs.Frame.{Change, AppRecord, batch}
 use Rattle.model_frame.specs.Frame as the-frame
 use Rattle.frame.specs.declared.CommitNumber.{CommitNumber}
 use Rattle.frame.specs.declared.Epoch.{Epoch}
-use Rattle.standby_row.specs.declared.Seen.{Seen}
+use Rattle.standby_row.specs.declared.Lookup.{Lookup}
 use Rattle.store_areas.specs.StoreWord
 use Rattle.store_areas.specs.Areas.{Rules}
 use Rattle.standby_commit.specs.Settling.{Touched}
@@ -20,7 +20,7 @@ use Rattle.model_standby.specs.Answer.{protocolVersion}
 use Rattle.model_standby.specs.State.{Bound}
 use Rattle.model_standby.specs.Hold.{HoldWrite, writesFrame}
 use Rattle.model_standby.specs.Core.{leave, store, coreBatch}
-use Rattle.standby_part.specs.declared.Done.{Done}
+use Rattle.standby_part.specs.declared.PartResult.{PartResult}
 use Rattle.standby_part.specs.State.{boundOf, coreAt}
 use Rattle.standby_batch_handle.specs.Handling.{foundOf}
 use Rattle.standby_state.specs.declared.Replica.{Replica}
@@ -35,17 +35,17 @@ abbrev pub epochTo : Replica → Epoch → Replica
 epochTo c e = record { epoch = e; connections = c .connections; promoted = c .promoted; checked = c .checked }
 
 -- the record that was found is the handle's
-abbrev pub foundFor : Seen → ℕ → Bool
+abbrev pub foundFor : Lookup → ℕ → Bool
 foundFor seen h = ltb (seen .at) (seen .len) && eqb (seen .bound .handle) h
 
-abbrev pub answerBy : Done → ℕ → CommitNumber → Answer
+abbrev pub answerBy : PartResult → ℕ → CommitNumber → Answer
 answerBy x h n = cond (eqb (x .refusal) 0) (cond (x .nack) (isNack h ReasonByte.diverged) (isAck h n)) (isRefused (x .refusal))
 
-abbrev pub settledOf : Replica → Seen → Done → ℕ → CommitNumber → Outcome
-settledOf c seen x h n = cond (x .stores) (storing c seen (answerBy x h n) h (x .slot)) (leaving c seen (answerBy x h n))
+abbrev pub settledOf : Replica → Lookup → PartResult → ℕ → CommitNumber → Outcome
+settledOf c seen x h n = cond (x .stores) (storing c seen (answerBy x h n) h (x .bound)) (leaving c seen (answerBy x h n))
 
 -- the record found names a place in use, and holds no more than its area has
-pub record RecordRules (seen : Seen) (w area : List ℕ) : Type 0 where
+pub record RecordRules (seen : Lookup) (w area : List ℕ) : Type 0 where
   pub place-used : seen .bound .place < getD w StoreWord.used 0
   pub held-within : seen .bound .«held_len» ≤ length area
 
@@ -54,14 +54,14 @@ abbrev pub holdAreaWith : Option HoldWrite → List ℕ → List ℕ
 holdAreaWith none area = area
 holdAreaWith (some x) area = write area (x .offset) (x .bytes)
 
-abbrev pub foundAt : Seen → ℕ → List ℕ → Option Bound
+abbrev pub foundAt : Lookup → ℕ → List ℕ → Option Bound
 foundAt seen h area = foundOf protocolVersion (foundFor seen h) (seen .bound) area
 
 -- equal to the definition; a refusal and a Nack leave the store as it was
-pub record BatchIs (s : Settings) (c : Replica) (seen : Seen) (h e n : ℕ) (part : the-frame.Part) (cs : List Change) (apps : List AppRecord) (w w' b b' area area' : List ℕ) (r : Outcome) : Type 0 where
+pub record BatchIs (s : Settings) (c : Replica) (seen : Lookup) (h e n : ℕ) (part : the-frame.Part) (cs : List Change) (apps : List AppRecord) (w w' b b' area area' : List ℕ) (r : Outcome) : Type 0 where
   pub is : record {
     core = coreAt (countersOf (r .replica)) (s .shape) w' b';
-    action = cond (r .stores) (store (r .slot .handle) (boundOf protocolVersion (r .slot) area')) leave;
+    action = cond (r .stores) (store (r .bound .handle) (boundOf protocolVersion (r .bound) area')) leave;
     answer = answerOf b' (r .answer);
   }
       ≡ coreBatch (settingsOf s (length area)) (coreAt (countersOf c) (s .shape) w b) (foundAt seen h area) h e n part cs apps

@@ -20,8 +20,8 @@ use frame_fields::reason;
 use frame_op::Run;
 use frame_reader::Cursor;
 use frame_stamp::Protocol;
-use standby_part::Done;
-use standby_row::Seen;
+use standby_part::PartResult;
+use standby_row::Lookup;
 use standby_state::Answer;
 use standby_state::Outcome;
 use standby_state::Replica;
@@ -41,50 +41,56 @@ fn no_records(frame: &[u8], run: Run) -> bool
 }
 
 // Whether a Batch is of an epoch below the standby's.
-fn is_stale(c: Replica, b: Batch) -> bool
-    ensures { λ r. ⌜ r ≡ ltb (b .epoch .0) (c .epoch .0) ⌝ }
+fn is_stale(counters: Replica, batch: Batch) -> bool
+    ensures { λ r. ⌜ r ≡ ltb (batch .epoch .0) (counters .epoch .0) ⌝ }
 {
-    b.epoch.0 < c.epoch.0
+    batch.epoch.0 < counters.epoch.0
 }
 
-fn at_epoch(c: Replica, epoch: Epoch) -> Replica
-    ensures { λ r. ⌜ r ≡ epochTo c epoch ⌝ }
+fn with_epoch(counters: Replica, epoch: Epoch) -> Replica
+    ensures { λ r. ⌜ r ≡ epochTo counters epoch ⌝ }
 {
-    let mut d = c;
+    let mut d = counters;
     d.epoch = epoch;
     d
 }
 
 // Whether the record that was found is the handle's.
-fn is_found(seen: Seen, handle: u32) -> bool
-    ensures { λ r. ⌜ r ≡ foundFor seen handle ⌝ }
+fn is_found(lookup: Lookup, handle: u32) -> bool
+    ensures { λ r. ⌜ r ≡ foundFor lookup handle ⌝ }
 {
-    let h = seen.bound;
-    (seen.at < seen.len) & (h.handle == handle)
+    let h = lookup.bound;
+    (lookup.at < lookup.len) & (h.handle == handle)
 }
 
-fn answer_by(x: Done, handle: u32, n: CommitNumber) -> Answer
-    ensures { λ r. ⌜ r ≡ answerBy x handle n ⌝ }
+fn part_answer(part_result: PartResult, handle: u32, number: CommitNumber) -> Answer
+    ensures { λ r. ⌜ r ≡ answerBy «part_result» handle number ⌝ }
 {
-    if x.refusal != 0 {
-        return standby_state::refused(x.refusal);
+    if part_result.refusal != 0 {
+        return standby_state::refused(part_result.refusal);
     }
-    if x.nack {
+    if part_result.nack {
         return standby_state::nack(handle, reason::DIVERGED);
     }
-    standby_state::ack(handle, n)
+    standby_state::ack(handle, number)
 }
 
 // What the row's record becomes, and the answer.
-fn settled(c: Replica, seen: Seen, x: Done, handle: u32, n: CommitNumber) -> Outcome
-    ensures { λ r. ⌜ r ≡ settledOf c seen x handle n ⌝ }
+fn part_outcome(
+    counters: Replica,
+    lookup: Lookup,
+    part_result: PartResult,
+    handle: u32,
+    number: CommitNumber,
+) -> Outcome
+    ensures { λ r. ⌜ r ≡ settledOf counters lookup «part_result» handle number ⌝ }
 {
-    let a = answer_by(x, handle, n);
-    if x.stores {
-        let slot = x.slot;
-        return standby_state::stores(c, seen, a, handle, slot);
+    let a = part_answer(part_result, handle, number);
+    if part_result.stores {
+        let bound = part_result.bound;
+        return standby_state::stored(counters, lookup, a, handle, bound);
     }
-    standby_state::leaves(c, seen, a)
+    standby_state::unchanged(counters, lookup, a)
 }
 
 pub fn on_batch(
@@ -92,32 +98,36 @@ pub fn on_batch(
     bytes: &mut [u8],
     area: &mut [u8],
     frame: &[u8],
-    c: Replica,
-    s: Settings,
-    seen: Seen,
-    b: Batch,
+    counters: Replica,
+    settings: Settings,
+    lookup: Lookup,
+    batch: Batch,
 ) -> Outcome
-    requires { ⌜ Rules (s .shape) (now words) (now bytes) ⌝ }
+    requires { ⌜ Rules (settings .shape) (now words) (now bytes) ⌝ }
     requires { ⌜ countOf (now words) < 64 ⌝ }
-    requires { ⌜ (isFound seen ≡ true → RecordRules seen (now words) (now area)) ⌝ }
-    ensures { λ r. ⌜ BatchIs s c seen (b .handle) (b .epoch .0) (b .«commit_no» .0) (partOf (b .part)) (runOf (readChange 1) (now (frame .entry)) (b .ops)) (runOf readAppRecord (now (frame .entry)) (b .«app_records»)) (now (words .entry)) (now (words .exit)) (now (bytes .entry)) (now (bytes .exit)) (now (area .entry)) (now (area .exit)) r ⌝ }
+    requires { ⌜ (isFound lookup ≡ true → RecordRules lookup (now words) (now area)) ⌝ }
+    ensures { λ r. ⌜ BatchIs settings counters lookup (batch .handle) (batch .epoch .0) (batch .«commit_no» .0) (partOf (batch .part)) (runOf (readChange 1) (now (frame .entry)) (batch .ops)) (runOf readAppRecord (now (frame .entry)) (batch .«app_records»)) (now (words .entry)) (now (words .exit)) (now (bytes .entry)) (now (bytes .exit)) (now (area .entry)) (now (area .exit)) r ⌝ }
 {
-    let records = b.app_records;
+    let records = batch.app_records;
     if !no_records(frame, records) {
-        return standby_state::leaves(c, seen, standby_state::refused(APP_RECORDS));
+        return standby_state::unchanged(counters, lookup, standby_state::refused(APP_RECORDS));
     }
-    let handle = b.handle;
-    if is_stale(c, b) {
-        return standby_state::leaves(c, seen, standby_state::nack(handle, reason::STALE_EPOCH));
+    let handle = batch.handle;
+    if is_stale(counters, batch) {
+        return standby_state::unchanged(
+            counters,
+            lookup,
+            standby_state::nack(handle, reason::STALE_EPOCH),
+        );
     }
-    let shape = s.shape;
-    let epoch = b.epoch;
-    let n = b.commit_no;
-    let ops = b.ops;
-    let part = b.part;
-    let h = seen.bound;
+    let shape = settings.shape;
+    let epoch = batch.epoch;
+    let n = batch.commit_no;
+    let ops = batch.ops;
+    let part = batch.part;
+    let h = lookup.bound;
     let p = Protocol { version: 1 };
-    let found = is_found(seen, handle);
+    let found = is_found(lookup, handle);
     let run = standby_changes::run_of(p, frame, ops);
     let x = standby_batch_handle::on_handle(
         p,
@@ -132,5 +142,5 @@ pub fn on_batch(
         n,
         part,
     );
-    settled(at_epoch(c, epoch), seen, x, handle, n)
+    part_outcome(with_epoch(counters, epoch), lookup, x, handle, n)
 }

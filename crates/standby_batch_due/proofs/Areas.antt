@@ -11,14 +11,14 @@ use lib.Dec.{eqb}
 use borrow.Author.Tests.{eqb-true, eqb-false, ltb-true, ltb-false}
 use borrow.Rule.Slice.PartMut.{midOf, postOf, putMid}
 use Rattle.model_frame.specs.Bytes.{write}
-use Rattle.standby_row.specs.declared.Seen.{Seen}
+use Rattle.standby_row.specs.declared.Lookup.{Lookup}
 use Rattle.store_areas.proofs.Lists.{inside}
 use Rattle.standby_step.specs.Steps.{roomOf, roomIn, isFound}
 use Rattle.standby_batch_due.specs.DueBatch.{spotIn}
 
 -- ---- where they stand
 
-spot-low : (seen : Seen) → 0 < seen .len → spotIn seen < seen .len
+spot-low : (seen : Lookup) → 0 < seen .len → spotIn seen < seen .len
 spot-low seen any = go (isFound seen) refl
   where
     go : (t : Bool) → isFound seen ≡ t → cond t (seen .at) 0 < seen .len
@@ -26,7 +26,7 @@ spot-low seen any = go (isFound seen) refl
     go false f = any
 
 -- the area of the record found lies within the bytes; so does the first one
-pub within : (seen : Seen) (l : List ℕ) → spotIn seen * roomIn seen l + roomIn seen l ≤ length l
+pub within : (seen : Lookup) (l : List ℕ) → spotIn seen * roomIn seen l + roomIn seen l ≤ length l
 within seen l = go (eqb (seen .len) 0) refl
   where
     go : (t : Bool) → eqb (seen .len) 0 ≡ t → spotIn seen * cond t 0 (length l / seen .len) + cond t 0 (length l / seen .len) ≤ length l
@@ -55,7 +55,7 @@ room-some bytes places off = go (eqb places 0) refl
     go true f = absurd (off (eqb-true places 0 f))
     go false f = refl
 
-pub start-found : (seen : Seen) (room : ℕ) → seen .at < seen .len → seen .at * room ≡ spotIn seen * room
+pub start-found : (seen : Lookup) (room : ℕ) → seen .at < seen .len → seen .at * room ≡ spotIn seen * room
 start-found seen room less = go (isFound seen) refl
   where
     go : (t : Bool) → isFound seen ≡ t → seen .at * room ≡ cond t (seen .at) 0 * room
@@ -65,7 +65,7 @@ start-found seen room less = go (isFound seen) refl
         no : seen .at < seen .len → seen .len ≤ seen .at → ⊥
         no a b = omega arith
 
-pub start-none : (seen : Seen) (room : ℕ) → seen .len ≤ seen .at → 0 ≡ spotIn seen * room
+pub start-none : (seen : Lookup) (room : ℕ) → seen .len ≤ seen .at → 0 ≡ spotIn seen * room
 start-none seen room high = go (isFound seen) refl
   where
     go : (t : Bool) → isFound seen ≡ t → 0 ≡ cond t (seen .at) 0 * room

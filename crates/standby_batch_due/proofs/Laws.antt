@@ -17,7 +17,7 @@ use Rattle.model_frame.specs.Parse.{isEmpty}
 use Rattle.model_frame.specs.Writing.{sizes}
 use Rattle.model_frame.proofs.Sizes.{changes-size}
 use Rattle.model_frame.proofs.Runs.{sizes-append}
-use Rattle.standby_row.specs.declared.Seen.{Seen}
+use Rattle.standby_row.specs.declared.Lookup.{Lookup}
 use Rattle.store_areas.specs.Areas.{Rules}
 use Rattle.store_areas.proofs.Lifting.{part-lent, part-length, part-own}
 use Rattle.standby_pending.specs.Pending.{countOf, pendingOf}
@@ -95,7 +95,7 @@ module _ (L : state.Settings) (h n : ℕ) (cs : List Change) where
 
 -- ---- the record found
 
-module _ (seen : Seen) (h : ℕ) (l : List ℕ) where
+module _ (seen : Lookup) (h : ℕ) (l : List ℕ) where
   same-found : (isFound seen ≡ true → seen .bound .handle ≡ h) → foundFor seen h ≡ isFound seen
   same-found own = go (isFound seen) refl own
     where
@@ -111,7 +111,7 @@ module _ (seen : Seen) (h : ℕ) (l : List ℕ) where
       go true = refl
       go false = refl
 
-module _ (s : Settings) (c : Replica) (seen : Seen) (h e n : ℕ) (part : the-frame.Part) (cs : List Change) (apps : List AppRecord) (w b l : List ℕ) {due : Bool} (due-is : due ≡ dueBatch h w) {w1 : List ℕ} (ran : RanIf due (s .shape) b w w1) where
+module _ (s : Settings) (c : Replica) (seen : Lookup) (h e n : ℕ) (part : the-frame.Part) (cs : List Change) (apps : List AppRecord) (w b l : List ℕ) {due : Bool} (due-is : due ≡ dueBatch h w) {w1 : List ℕ} (ran : RanIf due (s .shape) b w w1) where
   abbrev R : ℕ
   R = roomIn seen l
 
@@ -141,16 +141,16 @@ module _ (s : Settings) (c : Replica) (seen : Seen) (h e n : ℕ) (part : the-fr
         go true q = refl
         go false q = absurd (true≢false (sym (both (isFound seen) _ f .0) ∙ q))
 
-    action-is : cond (r .stores) (store (r .slot .handle) (boundOf protocolVersion (r .slot) (areaAt R (r .at) l'))) (cond (r .clears) clear leave)
-        ≡ cond (r .stores) (store (r .slot .handle) (boundOf protocolVersion (r .slot) area')) leave
+    action-is : cond (r .stores) (store (r .bound .handle) (boundOf protocolVersion (r .bound) (areaAt R (r .at) l'))) (cond (r .clears) clear leave)
+        ≡ cond (r .stores) (store (r .bound .handle) (boundOf protocolVersion (r .bound) area')) leave
     action-is = go (r .stores) refl
       where
         go : (t : Bool) → r .stores ≡ t
-            → cond t (store (r .slot .handle) (boundOf protocolVersion (r .slot) (areaAt R (r .at) l'))) (cond (r .clears) clear leave)
-            ≡ cond t (store (r .slot .handle) (boundOf protocolVersion (r .slot) area')) leave
+            → cond t (store (r .bound .handle) (boundOf protocolVersion (r .bound) (areaAt R (r .at) l'))) (cond (r .clears) clear leave)
+            ≡ cond t (store (r .bound .handle) (boundOf protocolVersion (r .bound) area')) leave
         go true y =
             let at : r .at ≡ spotIn seen = g .lands .at-is ∙ ap (λ (t : Bool). cond t (spotOf seen) (seen .len)) y ∙ at-found (g .stored y) in
-            ap (λ (x : List ℕ). store (r .slot .handle) (boundOf protocolVersion (r .slot) x)) (ap (λ (k : ℕ). areaAt R k l') at ∙ part-own A R l area' (within seen l) size)
+            ap (λ (x : List ℕ). store (r .bound .handle) (boundOf protocolVersion (r .bound) x)) (ap (λ (k : ℕ). areaAt R k l') at ∙ part-own A R l area' (within seen l) size)
         go false y = ap (λ (t : Bool). cond t clear leave) (g .stays)
 
     abbrev O : ℕ → Option Bound → Option HoldWrite
@@ -225,7 +225,7 @@ few-left s h w b {w1} {due} r due-is ran =
         let few : length (pendingOf w) < 64 = leb-false 64 (length (pendingOf w)) (less (leb 64 (length (pendingOf w))) (pendsOn h (pendingOf w)) (sym is ∙ d)) in
         subst (λ (k : ℕ). k < 64) (sym (ap length (ran .pending ∙ ap (λ (t : Bool). cond t [] (pendingOf w)) d))) few
 
-pub kept-in : (s : _) (seen : Seen) (w b l : List ℕ) {w1 : List ℕ} {due : Bool} {room lo : ℕ} → RanIf due s b w w1 → room ≡ roomIn seen l → lo ≡ spotIn seen * room → lo + room ≤ length l → (isFound seen ≡ true → RecordRulesIn seen w l) → isFound seen ≡ true
+pub kept-in : (s : _) (seen : Lookup) (w b l : List ℕ) {w1 : List ℕ} {due : Bool} {room lo : ℕ} → RanIf due s b w w1 → room ≡ roomIn seen l → lo ≡ spotIn seen * room → lo + room ≤ length l → (isFound seen ≡ true → RecordRulesIn seen w l) → isFound seen ≡ true
     → RecordRules seen w1 (midOf lo (lo + room - lo) l)
 kept-in s seen w b l {room = room} {lo = lo} ran p q fits holds f = record {
   place-used = subst (λ (k : ℕ). seen .bound .place < k) (sym (ran .used)) (holds f .place-used);

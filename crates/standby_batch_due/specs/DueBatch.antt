@@ -7,7 +7,7 @@ use lib.ListN.{length, getD}
 use lib.Dec.{leb}
 use Rattle.model_frame.specs.Frame.{Change, AppRecord, batch}
 use Rattle.model_frame.specs.Frame as the-frame
-use Rattle.standby_row.specs.declared.Seen.{Seen}
+use Rattle.standby_row.specs.declared.Lookup.{Lookup}
 use Rattle.store_areas.specs.Areas.{Rules}
 use Rattle.standby_pending.specs.Pending.{pendingOf}
 use Rattle.model_standby.specs.Answer.{protocolVersion}
@@ -23,11 +23,11 @@ use Rattle.standby_hello.specs.Greeting.{isQuiet}
 use Rattle.standby_step.specs.Steps.{roomIn, isFound, foundIn, FrameLeaves, holdsAfter}
 
 -- the place of the record found, or 0
-abbrev pub spotIn : Seen → ℕ
+abbrev pub spotIn : Lookup → ℕ
 spotIn seen = cond (isFound seen) (seen .at) 0
 
 -- the record found names a place in use, and holds no more than its area has
-pub record RecordRulesIn (seen : Seen) (w h : List ℕ) : Type 0 where
+pub record RecordRulesIn (seen : Lookup) (w h : List ℕ) : Type 0 where
   pub place-used : seen .bound .place < getD w 0 0
   pub held-within : seen .bound .«held_len» ≤ roomIn seen h
 
@@ -35,7 +35,7 @@ abbrev pub dueBatch : ℕ → List ℕ → Bool
 dueBatch h w = leb 64 (length (pendingOf w)) || pendsOn h (pendingOf w)
 
 -- equal to the definition, where the record found is the handle's
-pub record BatchIn (s : Settings) (c : Replica) (seen : Seen) (h e n : ℕ) (part : the-frame.Part) (cs : List Change) (apps : List AppRecord) (w w' b b' l l' : List ℕ) (r : Outcome) : Type 0 where
+pub record BatchIn (s : Settings) (c : Replica) (seen : Lookup) (h e n : ℕ) (part : the-frame.Part) (cs : List Change) (apps : List AppRecord) (w w' b b' l l' : List ℕ) (r : Outcome) : Type 0 where
   pub is : (isFound seen ≡ true → seen .bound .handle ≡ h)
       → outcomeOf protocolVersion (roomIn seen l) (s .shape) w' b' l' r
       ≡ coreBatch (settingsOf s (roomIn seen l)) (coreRun (dueBatch h w) (coreAt (countersOf c) (s .shape) w b)) (foundIn seen l) h e n part cs apps

@@ -10,7 +10,7 @@ ghost use Rattle.store_areas.specs.Areas.{Rules};
 ghost use Rattle.standby_step.specs.Steps.{roomOf, roomIn, isFound};
 ghost use Rattle.standby_batch_due.specs.DueBatch.{spotIn, RecordRulesIn, BatchIn};
 use frame::Batch;
-use standby_row::Seen;
+use standby_row::Lookup;
 use standby_state::Outcome;
 use standby_state::Replica;
 use standby_state::Settings;
@@ -26,35 +26,44 @@ pub fn room_of(holds: &[u8], places: usize) -> usize
 }
 
 // Where the hold area of the record found begins; that of none begins at 0.
-fn area_start(seen: Seen, room: usize, len: usize) -> usize
-    requires { ⌜ spotIn seen * room + room ≤ len ⌝ }
-    ensures { λ r. ⌜ r ≡ spotIn seen * room ⌝ }
+fn area_start(lookup: Lookup, room: usize, len: usize) -> usize
+    requires { ⌜ spotIn lookup * room + room ≤ len ⌝ }
+    ensures { λ r. ⌜ r ≡ spotIn lookup * room ⌝ }
 {
-    if seen.at < seen.len {
-        return seen.at * room;
+    if lookup.at < lookup.len {
+        return lookup.at * room;
     }
     0
 }
 
-pub fn batch_in(
+pub fn run_due_then_batch(
     words: &mut [u64],
     bytes: &mut [u8],
     holds: &mut [u8],
     frame: &[u8],
-    c: Replica,
-    s: Settings,
-    seen: Seen,
-    b: Batch,
+    counters: Replica,
+    settings: Settings,
+    lookup: Lookup,
+    batch: Batch,
 ) -> Outcome
-    requires { ⌜ Rules (s .shape) (now words) (now bytes) ⌝ }
-    requires { ⌜ (isFound seen ≡ true → RecordRulesIn seen (now words) (now holds)) ⌝ }
-    ensures { λ r. ⌜ BatchIn s c seen (b .handle) (b .epoch .0) (b .«commit_no» .0) (partOf (b .part)) (runOf (readChange 1) (now (frame .entry)) (b .ops)) (runOf readAppRecord (now (frame .entry)) (b .«app_records»)) (now (words .entry)) (now (words .exit)) (now (bytes .entry)) (now (bytes .exit)) (now (holds .entry)) (now (holds .exit)) r ⌝ }
+    requires { ⌜ Rules (settings .shape) (now words) (now bytes) ⌝ }
+    requires { ⌜ (isFound lookup ≡ true → RecordRulesIn lookup (now words) (now holds)) ⌝ }
+    ensures { λ r. ⌜ BatchIn settings counters lookup (batch .handle) (batch .epoch .0) (batch .«commit_no» .0) (partOf (batch .part)) (runOf (readChange 1) (now (frame .entry)) (batch .ops)) (runOf readAppRecord (now (frame .entry)) (batch .«app_records»)) (now (words .entry)) (now (words .exit)) (now (bytes .entry)) (now (bytes .exit)) (now (holds .entry)) (now (holds .exit)) r ⌝ }
 {
-    let shape = s.shape;
-    let due = standby_pending_run::is_due_batch(words, b.handle);
+    let shape = settings.shape;
+    let due = standby_pending_run::is_due_batch(words, batch.handle);
     standby_pending_run::run_if(words, bytes, shape, due);
-    let room = room_of(holds, seen.len);
-    let lo = area_start(seen, room, holds.len());
+    let room = room_of(holds, lookup.len);
+    let lo = area_start(lookup, room, holds.len());
     let hi = lo + room;
-    standby_batch::on_batch(words, bytes, &mut holds[lo..hi], frame, c, s, seen, b)
+    standby_batch::on_batch(
+        words,
+        bytes,
+        &mut holds[lo..hi],
+        frame,
+        counters,
+        settings,
+        lookup,
+        batch,
+    )
 }

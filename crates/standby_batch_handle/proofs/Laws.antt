@@ -15,20 +15,20 @@ use Rattle.model_frame.specs.Writing.{sizes}
 use Rattle.model_session.specs.Session.{top}
 use Rattle.frame_op.specs.Answers.{heldRun}
 use Rattle.standby_changes.proofs.Held.{held-none}
-use Rattle.standby_row.specs.declared.Handle.{Handle}
+use Rattle.standby_row.specs.declared.Bound.{Bound}
 use Rattle.store_areas.specs.declared.Shape.{Shape}
 use Rattle.store_areas.specs.Areas.{Rules}
 use Rattle.standby_commit.proofs.Laws.{touched-none}
 use Rattle.model_standby.specs.Answer.{reply}
 use Rattle.model_standby.specs.State.{Counters, noneHeld}
 use Rattle.model_standby.specs.Core.{store, coreSays, corePart, coreHandle}
-use Rattle.standby_part.specs.declared.Done.{Done}
+use Rattle.standby_part.specs.declared.PartResult.{PartResult}
 use Rattle.standby_part.specs.State.{boundOf, coreAt, settingsFor, holdingTo}
 use Rattle.standby_part.specs.Part.{resultOf, PartIs, AreaIs}
 use Rattle.standby_batch_handle.specs.Handling.{followsOf, foundOf, isHeld, holdAreaAfter, HandleIs}
 
 -- the commit number, as the code tests it
-pub next-is : (h : Handle) (n : ℕ) → h .«commit_no» .0 < top → {b : Bool} → b ≡ eqb n (h .«commit_no» .0 + 1) → b ≡ followsOf h n
+pub next-is : (h : Bound) (n : ℕ) → h .«commit_no» .0 < top → {b : Bool} → b ≡ eqb n (h .«commit_no» .0 + 1) → b ≡ followsOf h n
 next-is h n less e = e ∙ ap (eqb n) later ∙ sym (both (eqb n (suc (h .«commit_no» .0))))
   where
     later : h .«commit_no» .0 + 1 ≡ suc (h .«commit_no» .0)
@@ -38,15 +38,15 @@ next-is h n less e = e ∙ ap (eqb n) later ∙ sym (both (eqb n (suc (h .«comm
     both true = lt-ltb (h .«commit_no» .0) top less
     both false = refl
 
-pub none-next : (h : Handle) (n : ℕ) → top ≤ h .«commit_no» .0 → false ≡ followsOf h n
+pub none-next : (h : Bound) (n : ℕ) → top ≤ h .«commit_no» .0 → false ≡ followsOf h n
 none-next h n high = sym (off (eqb n (suc (h .«commit_no» .0))))
   where
     off : (x : Bool) → (x && ltb (h .«commit_no» .0) top) ≡ false
     off true = le-ltb (h .«commit_no» .0) top high
     off false = refl
 
-module _ (version : ℕ) (s : Shape) (handle : ℕ) (h : Handle) (n : ℕ) (part : the-frame.Part) (cs : List Change) (w b area : List ℕ) (r : Rules s w b) where
-  pub unbound : {found : Bool} → found ≡ false → HandleIs version s handle found h n part cs w w b b area area (record { refusal = 14; stores = false; slot = h; nack = false })
+module _ (version : ℕ) (s : Shape) (handle : ℕ) (h : Bound) (n : ℕ) (part : the-frame.Part) (cs : List Change) (w b area : List ℕ) (r : Rules s w b) where
+  pub unbound : {found : Bool} → found ≡ false → HandleIs version s handle found h n part cs w w b b area area (record { refusal = 14; stores = false; bound = h; nack = false })
   unfolding coreHandle
   unbound {found} e = record {
     is = λ c incarnation lag.
@@ -68,8 +68,8 @@ module _ (version : ℕ) (s : Shape) (handle : ℕ) (h : Handle) (n : ℕ) (part
   nothing : heldRun version (take 0 area) ≡ []
   nothing = held-none version [] (omega arith)
 
-  pub off-number : {found next : Bool} {slot : Handle} → found ≡ true → next ≡ followsOf h n → next ≡ false → slot ≡ holdingTo h (h .«commit_no») 0 0
-      → HandleIs version s handle found h n part cs w w b b area area (record { refusal = 0; stores = true; slot = slot; nack = true })
+  pub off-number : {found next : Bool} {slot : Bound} → found ≡ true → next ≡ followsOf h n → next ≡ false → slot ≡ holdingTo h (h .«commit_no») 0 0
+      → HandleIs version s handle found h n part cs w w b b area area (record { refusal = 0; stores = true; bound = slot; nack = true })
   off-number e f off is = record {
     is = λ c incarnation lag.
         (λ j. record { core = coreAt c s w b; action = store handle (boundOf version (is j) area); answer = reply (nack handle diverged) })
@@ -79,11 +79,11 @@ module _ (version : ℕ) (s : Shape) (handle : ℕ) (h : Handle) (n : ℕ) (part
     rules = r;
     touched = touched-none s (h .place) w b;
     quiet = λ _. (refl, refl);
-    slot-place = ap (λ (x : Handle). x .place) is;
-    slot-len = λ _. subst (λ (x : Handle). x .«held_len» ≤ length area) (sym is) (omega arith);
+    slot-place = ap (λ (x : Bound). x .place) is;
+    slot-len = λ _. subst (λ (x : Bound). x .«held_len» ≤ length area) (sym is) (omega arith);
   }
 
-  pub by-part : {found next : Bool} {w' b' area' : List ℕ} {d : Done} → found ≡ true → next ≡ followsOf h n → next ≡ true → h .handle ≡ handle
+  pub by-part : {found next : Bool} {w' b' area' : List ℕ} {d : PartResult} → found ≡ true → next ≡ followsOf h n → next ≡ true → h .handle ≡ handle
       → PartIs version s h n part cs w w' b b' area area' d → HandleIs version s handle found h n part cs w w' b b' area area' d
   by-part {w' = w'} {b' = b'} {area' = area'} {d = d} e f on own p = record {
     is = λ c incarnation lag.
@@ -99,7 +99,7 @@ module _ (version : ℕ) (s : Shape) (handle : ℕ) (h : Handle) (n : ℕ) (part
 
 -- ---- the hold area
 
-module _ (version : ℕ) (h : Handle) (n : ℕ) (run area : List ℕ) (refusal : ℕ) where
+module _ (version : ℕ) (h : Bound) (n : ℕ) (run area : List ℕ) (refusal : ℕ) where
   abbrev New : List ℕ
   New = cond (eqb refusal 0) (write area (sizes (heldRun version (take (h .«held_len») area))) run) area
 

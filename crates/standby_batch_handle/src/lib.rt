@@ -14,33 +14,33 @@ use base_refusals::UNBOUND;
 use frame::CommitNumber;
 use frame_fields::Part;
 use frame_stamp::Protocol;
-use standby_part::Done;
-use standby_row::Handle;
+use standby_part::PartResult;
+use standby_row::Bound;
 use store_areas::Shape;
 
 // Whether n follows the handle's commit number.
-fn is_next(h: Handle, n: CommitNumber) -> bool
-    ensures { λ r. ⌜ r ≡ followsOf h (n .0) ⌝ }
+fn is_next(bound: Bound, number: CommitNumber) -> bool
+    ensures { λ r. ⌜ r ≡ followsOf bound (number .0) ⌝ }
 {
-    let last = h.commit_no.0;
+    let last = bound.commit_no.0;
     if last < u64::MAX {
-        return n.0 == last + 1;
+        return number.0 == last + 1;
     }
     false
 }
 
 // The record with nothing held.
-fn none_held(h: Handle) -> Handle
-    ensures { λ r. ⌜ r ≡ holdingTo h (h .«commit_no») 0 0 ⌝ }
+fn with_none_held(bound: Bound) -> Bound
+    ensures { λ r. ⌜ r ≡ holdingTo bound (bound .«commit_no») 0 0 ⌝ }
 {
-    let mut g = h;
+    let mut g = bound;
     g.held_len = 0;
     g.held_bytes = 0;
     g
 }
 
 pub fn on_handle(
-    p: Protocol,
+    protocol: Protocol,
     run: &[u8],
     words: &mut [u64],
     bytes: &mut [u8],
@@ -48,36 +48,54 @@ pub fn on_handle(
     shape: Shape,
     handle: u32,
     found: bool,
-    h: Handle,
-    n: CommitNumber,
+    bound: Bound,
+    number: CommitNumber,
     part: Part,
-) -> Done
+) -> PartResult
     requires { ⌜ Rules shape (now words) (now bytes) ⌝ }
     requires { ⌜ countOf (now words) < 64 ⌝ }
-    requires { ⌜ TakesAll (p .version) (now run) ⌝ }
-    requires { ⌜ (found ≡ true → Sound handle h (now words) (now area)) ⌝ }
-    ensures is { λ r. ⌜ HandleIs (p .version) shape handle found h (n .0) (partOf part) (heldRun (p .version) (now (run .entry))) (now (words .entry)) (now (words .exit)) (now (bytes .entry)) (now (bytes .exit)) (now (area .entry)) (now (area .exit)) r ⌝ }
-    ensures area { λ r. ⌜ now (area .exit) ≡ areaAfter (p .version) found h (n .0) (partOf part) (now (run .entry)) (now (area .entry)) (r .refusal) ⌝ }
+    requires { ⌜ TakesAll (protocol .version) (now run) ⌝ }
+    requires { ⌜ (found ≡ true → Sound handle bound (now words) (now area)) ⌝ }
+    ensures is { λ r. ⌜ HandleIs (protocol .version) shape handle found bound (number .0) (partOf part) (heldRun (protocol .version) (now (run .entry))) (now (words .entry)) (now (words .exit)) (now (bytes .entry)) (now (bytes .exit)) (now (area .entry)) (now (area .exit)) r ⌝ }
+    ensures area { λ r. ⌜ now (area .exit) ≡ holdAreaAfter (protocol .version) found bound (number .0) (partOf part) (now (run .entry)) (now (area .entry)) (r .refusal) ⌝ }
 {
     if !found {
-        return Done {
+        return PartResult {
             refusal: UNBOUND,
             stores: false,
-            slot: h,
+            bound: bound,
             nack: false,
         };
     }
-    if !is_next(h, n) {
-        return Done {
+    if !is_next(bound, number) {
+        return PartResult {
             refusal: 0,
             stores: true,
-            slot: none_held(h),
+            bound: with_none_held(bound),
             nack: true,
         };
     }
     match part {
-        Part::Commit => standby_part::on_commit(p, run, words, bytes, area, shape, h, n),
-        Part::Whole => standby_part::on_whole(p, run, area, h, n),
-        Part::LastWhole => standby_part::on_last_whole(p, run, words, bytes, area, shape, h, n),
+        Part::Commit => standby_part::on_commit(
+            protocol,
+            run,
+            words,
+            bytes,
+            area,
+            shape,
+            bound,
+            number,
+        ),
+        Part::Whole => standby_part::on_whole(protocol, run, area, bound, number),
+        Part::LastWhole => standby_part::on_last_whole(
+            protocol,
+            run,
+            words,
+            bytes,
+            area,
+            shape,
+            bound,
+            number,
+        ),
     }
 }

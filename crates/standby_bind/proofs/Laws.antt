@@ -37,7 +37,7 @@ use Rattle.store_areas.proofs.Lists.{word-kept}
 use Rattle.store_areas.proofs.Lifting.{places-length, place-is, session-is}
 use Rattle.store_areas.proofs.Holding.{holdable-at}
 use Rattle.store_state.specs.declared.Text.{Text}
-use Rattle.store_state.specs.declared.Summary.{Summary}
+use Rattle.store_state.specs.declared.StoredSummary.{StoredSummary}
 use Rattle.store_sessions.specs.Answers.{Opened, summaryIs}
 use Rattle.store_sessions.proofs.Opening.{opened-rules}
 use Rattle.standby_changes.proofs.Held.{held-none}
@@ -45,12 +45,12 @@ use Rattle.standby_pending.specs.Pending.{countOf, commitOf, pendingOf}
 use Rattle.standby_commit.specs.Settling.{Touched}
 use Rattle.standby_commit.proofs.Header.{past-66, pending-kept}
 use Rattle.standby_commit.proofs.Laws.{touched-none}
-use Rattle.standby_row.specs.declared.Handle.{Handle}
-use Rattle.standby_row.specs.declared.Seen.{Seen}
+use Rattle.standby_row.specs.declared.Bound.{Bound}
+use Rattle.standby_row.specs.declared.Lookup.{Lookup}
 use Rattle.standby_part.specs.State.{coreAt}
 use Rattle.standby_state.specs.declared.Replica.{Replica}
 use Rattle.standby_state.specs.declared.Settings.{Settings}
-use Rattle.standby_state.specs.declared.Brief.{Brief}
+use Rattle.standby_state.specs.declared.BoundSummary.{BoundSummary}
 use Rattle.standby_state.specs.declared.Answer.{Answer}
 use Rattle.standby_state.specs.declared.Outcome.{Outcome}
 use Rattle.standby_state.specs.Answers.{answerOf, briefOf, isRefused, isNack, isBound}
@@ -87,7 +87,7 @@ module _ (s : Shape) (w b : List ℕ) (i n : ℕ) (sw : Small (2 ^ 64) w) (sb : 
   abbrev there : Session
   there = placeAt s w b i .stored .session
 
-  pub brief-is : (m : Summary) {flies : Bool} {f : ℕ} {at marks : Span} → summaryIs b m ≡ summary there n → flies ≡ isSome (flightIs (m .«in_flight»)) → f ≡ numberIn (flightIs (m .«in_flight»))
+  pub brief-is : (m : StoredSummary) {flies : Bool} {f : ℕ} {at marks : Span} → summaryIs b m ≡ summary there n → flies ≡ isSome (flightIs (m .«in_flight»)) → f ≡ numberIn (flightIs (m .«in_flight»))
       → at ≡ textSpan (m .«created_at») → marks ≡ textSpan (m .marks)
       → briefOf b (record {
         «next_outgoing» = m .«next_outgoing»;
@@ -217,7 +217,7 @@ free-there place used places e h high = ltb-true used places (ap (λ (x : Bool).
 no : {A : Type 0} → false ≡ true → A
 no e = absurd (true≢false (sym e))
 
-module _ (s : Settings) (c : Replica) (seen : Seen) (h e lag : ℕ) (k : Key) (w b : List ℕ) (r : Rules (s .shape) w b) where
+module _ (s : Settings) (c : Replica) (seen : Lookup) (h e lag : ℕ) (k : Key) (w b : List ℕ) (r : Rules (s .shape) w b) where
   abbrev places : List Place
   places = placesOf (s .shape) w b
 
@@ -234,7 +234,7 @@ module _ (s : Settings) (c : Replica) (seen : Seen) (h e lag : ℕ) (k : Key) (w
   abbrev Tests : Bool → Bool → Bool → Bool → CoreResult
   Tests t u v x = cond t (coreSays At leave (nack h staleEpoch)) (cond u (coreSays At leave (nack h lagTooGreat)) (cond (not v) (coreRefuse At leave 20) (cond (not x) (coreRefuse At leave 21) Stored)))
 
-  tests : (room : ℕ) → Bind room ≡ Tests (ltb e (c .epoch .0)) (ltb (s .lag) lag) (isStored k places || ltb (length places) (s .shape .places)) (roomFor seen)
+  tests : (room : ℕ) → Bind room ≡ Tests (ltb e (c .epoch .0)) (ltb (s .«max_lag») lag) (isStored k places || ltb (length places) (s .shape .places)) (roomFor seen)
   unfolding coreBind
   tests room = refl
 
@@ -250,19 +250,19 @@ module _ (s : Settings) (c : Replica) (seen : Seen) (h e lag : ℕ) (k : Key) (w
 
   pub stale : {o : Outcome} {a : Answer} → e < c .epoch .0 → o ≡ leaving c seen a → a ≡ isNack h 1 → BindIs s c seen h e lag k w w b b o
   stale less e₁ e₂ =
-      as-left e₁ e₂ (λ room. sym (tests room ∙ ap (λ (t : Bool). Tests t (ltb (s .lag) lag) (isStored k places || ltb (length places) (s .shape .places)) (roomFor seen)) (lt-ltb e (c .epoch .0) less)))
+      as-left e₁ e₂ (λ room. sym (tests room ∙ ap (λ (t : Bool). Tests t (ltb (s .«max_lag») lag) (isStored k places || ltb (length places) (s .shape .places)) (roomFor seen)) (lt-ltb e (c .epoch .0) less)))
 
   -- of an epoch that is not lower
   module _ (high : c .epoch .0 ≤ e) where
-    first : (room : ℕ) → Bind room ≡ Tests false (ltb (s .lag) lag) (isStored k places || ltb (length places) (s .shape .places)) (roomFor seen)
-    first room = tests room ∙ ap (λ (t : Bool). Tests t (ltb (s .lag) lag) (isStored k places || ltb (length places) (s .shape .places)) (roomFor seen)) (le-ltb e (c .epoch .0) high)
+    first : (room : ℕ) → Bind room ≡ Tests false (ltb (s .«max_lag») lag) (isStored k places || ltb (length places) (s .shape .places)) (roomFor seen)
+    first room = tests room ∙ ap (λ (t : Bool). Tests t (ltb (s .«max_lag») lag) (isStored k places || ltb (length places) (s .shape .places)) (roomFor seen)) (le-ltb e (c .epoch .0) high)
 
-    pub lagging : {o : Outcome} {a : Answer} → s .lag < lag → o ≡ leaving c seen a → a ≡ isNack h 3 → BindIs s c seen h e lag k w w b b o
+    pub lagging : {o : Outcome} {a : Answer} → s .«max_lag» < lag → o ≡ leaving c seen a → a ≡ isNack h 3 → BindIs s c seen h e lag k w w b b o
     lagging great e₁ e₂ =
-        as-left e₁ e₂ (λ room. sym (first room ∙ ap (λ (t : Bool). Tests false t (isStored k places || ltb (length places) (s .shape .places)) (roomFor seen)) (lt-ltb (s .lag) lag great)))
+        as-left e₁ e₂ (λ room. sym (first room ∙ ap (λ (t : Bool). Tests false t (isStored k places || ltb (length places) (s .shape .places)) (roomFor seen)) (lt-ltb (s .«max_lag») lag great)))
 
     -- and of a lag that is not too great, with what was found of the places
-    module _ (small : lag ≤ s .lag) {place : ℕ} {has : Bool} (at : place ≡ placeOf k places) (found : has ≡ (ltb place (getD w 0 0) || ltb (getD w 0 0) (s .shape .places))) where
+    module _ (small : lag ≤ s .«max_lag») {place : ℕ} {has : Bool} (at : place ≡ placeOf k places) (found : has ≡ (ltb place (getD w 0 0) || ltb (getD w 0 0) (s .shape .places))) where
       same : has ≡ (isStored k places || ltb (length places) (s .shape .places))
       same =
           let count : getD w 0 0 ≡ length places = sym (places-length (s .shape) w b) in
@@ -271,7 +271,7 @@ module _ (s : Settings) (c : Replica) (seen : Seen) (h e lag : ℕ) (k : Key) (w
       second : (room : ℕ) → Bind room ≡ Tests false false has (roomFor seen)
       second room =
           first room
-          ∙ (λ j. Tests false (le-ltb (s .lag) lag small j) (sym same j) (roomFor seen))
+          ∙ (λ j. Tests false (le-ltb (s .«max_lag») lag small j) (sym same j) (roomFor seen))
 
       pub all-places : {o : Outcome} {a : Answer} → not has ≡ true → o ≡ leaving c seen a → a ≡ isRefused 20 → BindIs s c seen h e lag k w w b b o
       all-places full e₁ e₂ = as-left e₁ e₂ (λ room. sym (second room ∙ ap (λ (t : Bool). Tests false false t (roomFor seen)) (not-true has full)))
@@ -284,7 +284,7 @@ module _ (s : Settings) (c : Replica) (seen : Seen) (h e lag : ℕ) (k : Key) (w
         pub all-handles : {o : Outcome} {a : Answer} → not free ≡ true → o ≡ leaving c seen a → a ≡ isRefused 21 → BindIs s c seen h e lag k w w b b o
         all-handles full e₁ e₂ = as-left e₁ e₂ (λ room. sym (third room ∙ ap (Tests false false true) (not-true free full)))
 
-        pub binds : {w' b' : List ℕ} {o : Outcome} {a : Answer} {m : Brief} {g : Handle} → not free ≡ false → BindOpens (s .shape) k w w' b b'
+        pub binds : {w' b' : List ℕ} {o : Outcome} {a : Answer} {m : BoundSummary} {g : Bound} → not free ≡ false → BindOpens (s .shape) k w w' b b'
             → briefOf b' m ≡ summary (placeAt (s .shape) w' b' place .stored .session) lag → a ≡ isBound h m → g ≡ newHandle h place → o ≡ storing c seen a h g → BindIs s c seen h e lag k w w' b b' o
         binds {w'} {b'} {m = m} has-room op brief e₁ e₂ e₃ =
             subst (BindIs s c seen h e lag k w w' b b') (sym (e₃ ∙ (λ j. storing c seen (e₁ j) h (e₂ j)))) (record {

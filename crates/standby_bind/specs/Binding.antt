@@ -8,8 +8,8 @@ use lib.ListN.{length, getD}
 use lib.Dec.{ltb}
 use Rattle.model_frame.specs.Frame.{Key}
 use Rattle.frame_reader.specs.declared.Span.{Span}
-use Rattle.standby_row.specs.declared.Handle.{Handle}
-use Rattle.standby_row.specs.declared.Seen.{Seen}
+use Rattle.standby_row.specs.declared.Bound.{Bound}
+use Rattle.standby_row.specs.declared.Lookup.{Lookup}
 use Rattle.store_areas.specs.StoreWord
 use Rattle.store_areas.specs.declared.Shape.{Shape}
 use Rattle.store_areas.specs.Areas.{Rules, placeAt, placesOf}
@@ -40,11 +40,11 @@ abbrev pub numberIn : Option ℕ → ℕ
 numberIn none = 0
 numberIn (some n) = n
 
-abbrev pub newHandle : ℕ → ℕ → Handle
+abbrev pub newHandle : ℕ → ℕ → Bound
 newHandle h place = record { used = true; handle = h; place = place; «commit_no» = record { 0 = 0 }; «held_len» = 0; «held_bytes» = 0 }
 
 -- the row has a place for the handle: its own, or a free one
-abbrev pub roomFor : Seen → Bool
+abbrev pub roomFor : Lookup → Bool
 roomFor seen = ltb (seen .at) (seen .len) || ltb (seen .free) (seen .len)
 
 -- the session of a key is there, new if it wasn't
@@ -58,7 +58,7 @@ pub record BindOpens (s : Shape) (k : Key) (w w' b b' : List ℕ) : Type 0 where
   pub touched : Touched s (placeOf k (placesOf s w b)) w w' b b'
 
 -- equal to the definition, whatever the hold areas; a refusal and a Nack leave the store as it was
-pub record BindIs (s : Settings) (c : Replica) (seen : Seen) (h e lag : ℕ) (k : Key) (w w' b b' : List ℕ) (r : Outcome) : Type 0 where
+pub record BindIs (s : Settings) (c : Replica) (seen : Lookup) (h e lag : ℕ) (k : Key) (w w' b b' : List ℕ) (r : Outcome) : Type 0 where
   pub is : (version room : ℕ) (holds : List ℕ) → outcomeOf version room (s .shape) w' b' holds r ≡ coreBind (settingsOf s room) (coreAt (countersOf c) (s .shape) w b) (roomFor seen) h e lag k
   pub lands : (room : ℕ) → Lands seen (getD w' StoreWord.used 0) room r
   pub rules : Rules (s .shape) w' b'

@@ -1,4 +1,4 @@
-// Bind (standby.rs, on_bind): a handle is bound to the session of a key, which is opened if it is new, and its summary is answered.
+// Bind (standby.rs, an arm of `answer`): a handle is bound to the session of a key, which is opened if it is new, and its summary is answered.
 ghost use mathlib.Core.Path.{_≡_};
 ghost use mathlib.Core.Bool.{_||_};
 ghost use Prim.Native.Nat.{_<_, _≤_};
@@ -19,9 +19,9 @@ use frame::Epoch;
 use frame::SessionId;
 use frame_fields::reason;
 use frame_reader::Span;
-use standby_row::Handle;
-use standby_row::Seen;
-use standby_state::Brief;
+use standby_row::Bound;
+use standby_row::Lookup;
+use standby_state::BoundSummary;
 use standby_state::Outcome;
 use standby_state::Replica;
 use standby_state::Settings;
@@ -34,39 +34,39 @@ use store_state::Text;
 const TEXT_MOST: u32 = store_place::byte::MARKS_SIZE as u32;
 
 // A text of the store as a frame's: no stamp and no marks are longer than 64 bytes.
-fn span(t: Text) -> Span
-    ensures { λ r. ⌜ r ≡ textSpan t ⌝ }
+fn span_of(text: Text) -> Span
+    ensures { λ r. ⌜ r ≡ textSpan text ⌝ }
 {
-    let at = t.at;
-    if t.len < store_place::byte::MARKS_SIZE {
+    let at = text.at;
+    if text.len < store_place::byte::MARKS_SIZE {
         return Span {
             at,
-            len: t.len as u32,
+            len: text.len as u32,
         };
     }
     Span { at, len: TEXT_MOST }
 }
 
-fn flying(f: Flight) -> bool
-    ensures { λ r. ⌜ r ≡ isSome (flightIs f) ⌝ }
+fn has_in_flight(flight: Flight) -> bool
+    ensures { λ r. ⌜ r ≡ isSome (flightIs flight) ⌝ }
 {
-    match f {
+    match flight {
         Flight::Nothing => false,
         Flight::Number(_) => true,
     }
 }
 
-fn in_flight(f: Flight) -> u64
-    ensures { λ r. ⌜ r ≡ numberIn (flightIs f) ⌝ }
+fn in_flight(flight: Flight) -> u64
+    ensures { λ r. ⌜ r ≡ numberIn (flightIs flight) ⌝ }
 {
-    match f {
+    match flight {
         Flight::Nothing => 0,
         Flight::Number(n) => n,
     }
 }
 
 // What a Bound says of the session at a place in use.
-fn brief_at(words: &[u64], bytes: &[u8], shape: Shape, place: usize, n: u64) -> Brief
+fn summary_at(words: &[u64], bytes: &[u8], shape: Shape, place: usize, n: u64) -> BoundSummary
     requires { ⌜ Rules shape (now words) (now bytes) ⌝ }
     requires { ⌜ place < getD (now words) 0 0 ⌝ }
     ensures { λ r. ⌜ briefOf (now (bytes .entry)) r ≡ summary (placeAt shape (now (words .entry)) (now (bytes .entry)) place .stored .session) n ⌝ }
@@ -75,26 +75,26 @@ fn brief_at(words: &[u64], bytes: &[u8], shape: Shape, place: usize, n: u64) -> 
     let f = m.in_flight;
     let created_at = m.created_at;
     let marks = m.marks;
-    Brief {
+    BoundSummary {
         next_outgoing: m.next_outgoing,
         next_incoming: m.next_incoming,
-        has_in_flight: flying(f),
+        has_in_flight: has_in_flight(f),
         in_flight: in_flight(f),
-        created_at: span(created_at),
-        marks: span(marks),
+        created_at: span_of(created_at),
+        marks: span_of(marks),
         last_outgoing: m.last_outgoing,
     }
 }
 
 // The place of a key, or the number of places in use.
-fn place_of(words: &[u64], bytes: &[u8], frame: &[u8], shape: Shape, k: SessionId) -> usize
+fn place_of(words: &[u64], bytes: &[u8], frame: &[u8], shape: Shape, session: SessionId) -> usize
     requires { ⌜ Rules shape (now words) (now bytes) ⌝ }
-    ensures { λ r. ⌜ r ≡ placeOf (keyOf (now (frame .entry)) k) (placesOf shape (now (words .entry)) (now (bytes .entry))) ⌝ }
+    ensures { λ r. ⌜ r ≡ placeOf (keyOf (now (frame .entry)) session) (placesOf shape (now (words .entry)) (now (bytes .entry))) ⌝ }
 {
-    let begin = k.begin_string;
-    let sender = k.sender_comp_id;
-    let target = k.target_comp_id;
-    let suffix = k.key_suffix;
+    let begin = session.begin_string;
+    let sender = session.sender_comp_id;
+    let target = session.target_comp_id;
+    let suffix = session.key_suffix;
     store_sessions::place_of(
         words,
         bytes,
@@ -107,20 +107,27 @@ fn place_of(words: &[u64], bytes: &[u8], frame: &[u8], shape: Shape, k: SessionI
 }
 
 // Opens the session of a key where it is new.
-fn open(words: &mut [u64], bytes: &mut [u8], frame: &[u8], shape: Shape, k: SessionId, place: usize)
+fn open(
+    words: &mut [u64],
+    bytes: &mut [u8],
+    frame: &[u8],
+    shape: Shape,
+    session: SessionId,
+    place: usize,
+)
     requires { ⌜ Rules shape (now words) (now bytes) ⌝ }
-    requires { ⌜ place ≡ placeOf (keyOf (now frame) k) (placesOf shape (now words) (now bytes)) ⌝ }
+    requires { ⌜ place ≡ placeOf (keyOf (now frame) session) (placesOf shape (now words) (now bytes)) ⌝ }
     requires { ⌜ (getD (now words) 0 0 ≤ place → getD (now words) 0 0 < shape .places) ⌝ }
-    requires { ⌜ Short (keyOf (now frame) k) ⌝ }
-    ensures { λ _. ⌜ BindOpens shape (keyOf (now (frame .entry)) k) (now (words .entry)) (now (words .exit)) (now (bytes .entry)) (now (bytes .exit)) ⌝ }
+    requires { ⌜ Short (keyOf (now frame) session) ⌝ }
+    ensures { λ _. ⌜ BindOpens shape (keyOf (now (frame .entry)) session) (now (words .entry)) (now (words .exit)) (now (bytes .entry)) (now (bytes .exit)) ⌝ }
 {
     if (place as u64) < words[word::USED] {
         return;
     }
-    let begin = k.begin_string;
-    let sender = k.sender_comp_id;
-    let target = k.target_comp_id;
-    let suffix = k.key_suffix;
+    let begin = session.begin_string;
+    let sender = session.sender_comp_id;
+    let target = session.target_comp_id;
+    let suffix = session.key_suffix;
     store_sessions::open(
         words,
         bytes,
@@ -140,17 +147,17 @@ fn has_place(used: u64, place: usize, places: u32) -> bool
 }
 
 // Whether the row has a place for the handle: its own, or a free one.
-fn has_room(seen: Seen) -> bool
-    ensures { λ r. ⌜ r ≡ roomFor seen ⌝ }
+fn has_room(lookup: Lookup) -> bool
+    ensures { λ r. ⌜ r ≡ roomFor lookup ⌝ }
 {
-    (seen.at < seen.len) | (seen.free < seen.len)
+    (lookup.at < lookup.len) | (lookup.free < lookup.len)
 }
 
 // A handle newly bound to a place.
-fn new_handle(handle: u32, place: usize) -> Handle
+fn new_bound(handle: u32, place: usize) -> Bound
     ensures { λ r. ⌜ r ≡ newHandle handle place ⌝ }
 {
-    Handle {
+    Bound {
         used: true,
         handle,
         place,
@@ -165,40 +172,44 @@ pub fn on_bind(
     words: &mut [u64],
     bytes: &mut [u8],
     frame: &[u8],
-    c: Replica,
-    s: Settings,
-    seen: Seen,
+    counters: Replica,
+    settings: Settings,
+    lookup: Lookup,
     handle: u32,
     epoch: Epoch,
     max_lag: u64,
-    k: SessionId,
+    session: SessionId,
 ) -> Outcome
-    requires { ⌜ Rules (s .shape) (now words) (now bytes) ⌝ }
-    requires { ⌜ Short (keyOf (now frame) k) ⌝ }
-    ensures { λ r. ⌜ BindIs s c seen handle (epoch .0) «max_lag» (keyOf (now (frame .entry)) k) (now (words .entry)) (now (words .exit)) (now (bytes .entry)) (now (bytes .exit)) r ⌝ }
+    requires { ⌜ Rules (settings .shape) (now words) (now bytes) ⌝ }
+    requires { ⌜ Short (keyOf (now frame) session) ⌝ }
+    ensures { λ r. ⌜ BindIs settings counters lookup handle (epoch .0) «max_lag» (keyOf (now (frame .entry)) session) (now (words .entry)) (now (words .exit)) (now (bytes .entry)) (now (bytes .exit)) r ⌝ }
 {
-    let own = c.epoch;
+    let own = counters.epoch;
     if epoch.0 < own.0 {
-        return standby_state::leaves(c, seen, standby_state::nack(handle, reason::STALE_EPOCH));
+        return standby_state::unchanged(
+            counters,
+            lookup,
+            standby_state::nack(handle, reason::STALE_EPOCH),
+        );
     }
-    if s.lag < max_lag {
-        return standby_state::leaves(c, seen, standby_state::nack(handle, reason::LAG));
+    if settings.max_lag < max_lag {
+        return standby_state::unchanged(counters, lookup, standby_state::nack(handle, reason::LAG));
     }
-    let shape = s.shape;
-    let place = place_of(words, bytes, frame, shape, k);
+    let shape = settings.shape;
+    let place = place_of(words, bytes, frame, shape, session);
     if !has_place(words[word::USED], place, shape.places) {
-        return standby_state::leaves(c, seen, standby_state::refused(NO_SESSION_PLACE));
+        return standby_state::unchanged(counters, lookup, standby_state::refused(NO_SESSION_PLACE));
     }
-    if !has_room(seen) {
-        return standby_state::leaves(c, seen, standby_state::refused(NO_HANDLE_PLACE));
+    if !has_room(lookup) {
+        return standby_state::unchanged(counters, lookup, standby_state::refused(NO_HANDLE_PLACE));
     }
-    open(words, bytes, frame, shape, k, place);
-    let brief = brief_at(words, bytes, shape, place, max_lag);
-    standby_state::stores(
-        c,
-        seen,
-        standby_state::bound(handle, brief),
+    open(words, bytes, frame, shape, session, place);
+    let summary = summary_at(words, bytes, shape, place, max_lag);
+    standby_state::stored(
+        counters,
+        lookup,
+        standby_state::bound(handle, summary),
         handle,
-        new_handle(handle, place),
+        new_bound(handle, place),
     )
 }

@@ -81,7 +81,7 @@ module _ (version : ℕ) where
     pub fit-next : {n : ℕ} → o ≡ Outgoing.Next n → Fitting run first n t
     fit-next is = record { octets = change-sound version rest (w .octets) e .2; same = turn ∙ ap (λ (o : Outgoing). fitsFrom o (heldRun version t)) is }
 
-    pub fit-off : o ≡ Outgoing.Off → false ≡ fits first (heldRun version run)
+    pub fit-off : o ≡ Outgoing.Diverges → false ≡ fits first (heldRun version run)
     fit-off is = sym (turn ∙ ap (λ (o : Outgoing). fitsFrom o (heldRun version t)) is)
 
   fits-all : {run rest : List ℕ} {first next : ℕ} → Fitting run first next rest → heldRun version rest ≡ [] → true ≡ fits first (heldRun version run)

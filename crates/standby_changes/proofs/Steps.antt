@@ -56,7 +56,7 @@ no-outgoing b cs next (Op.SetMarks m) h = refl
 pub onward-past : (q : ℕ) (cs : List Change) → fitsFrom (outgoingAfter q) cs ≡ (ltb q top && fits (suc q) cs)
 onward-past q cs = go (ltb q top)
   where
-    go : (t : Bool) → fitsFrom (cond t (Outgoing.Next (suc q)) Outgoing.Off) cs ≡ (t && fits (suc q) cs)
+    go : (t : Bool) → fitsFrom (cond t (Outgoing.Next (suc q)) Outgoing.Diverges) cs ≡ (t && fits (suc q) cs)
     go true = refl
     go false = refl
 

@@ -24,23 +24,23 @@ use frame_stamp::Protocol;
 // The greatest u64: no outgoing number follows it.
 const TOP: u64 = 18446744073709551615;
 
-// The outgoing number after a change, or that the change is off it.
+// The next outgoing number after a change, or that the change diverges from it.
 pub enum Outgoing {
     Next(u64),
-    Off,
+    Diverges,
 }
 
-// Past a change, with the message length of the last Record; or why it can't be read.
-pub enum Past {
+// Where the next change begins, and the message length of the last Record; or why the change can't be read.
+pub enum Skipped {
     At(Cursor, u32),
     Bad(FrameError),
 }
 
 // The first change is a Reset.
-pub fn starts_with_reset(p: Protocol, run: &[u8]) -> bool
-    ensures { λ r. ⌜ r ≡ startsWithReset (heldRun (p .version) (now (run .entry))) ⌝ }
+pub fn starts_with_reset(protocol: Protocol, run: &[u8]) -> bool
+    ensures { λ r. ⌜ r ≡ startsWithReset (heldRun (protocol .version) (now (run .entry))) ⌝ }
 {
-    let OpAt::Got(op, _) = frame_op::op_from(p, run, Cursor { at: 0 }) else {
+    let OpAt::Got(op, _) = frame_op::op_from(protocol, run, Cursor { at: 0 }) else {
         return false;
     };
     if let Op::Reset = op { true } else { false }
@@ -57,13 +57,13 @@ fn message_length(run: &[u8], op: Op) -> u64
 }
 
 // The message bytes of a run.
-pub fn message_bytes(p: Protocol, run: &[u8]) -> u64
-    ensures { λ r. ⌜ r ≡ messageBytes (heldRun (p .version) (now (run .entry))) ⌝ }
+pub fn message_bytes(protocol: Protocol, run: &[u8]) -> u64
+    ensures { λ r. ⌜ r ≡ messageBytes (heldRun (protocol .version) (now (run .entry))) ⌝ }
 {
     let mut sum: u64 = 0;
     let mut d = Cursor { at: 0 };
     while d.at < run.len() {
-        let OpAt::Got(op, next) = frame_op::op_from(p, run, d) else {
+        let OpAt::Got(op, next) = frame_op::op_from(protocol, run, d) else {
             return sum;
         };
         sum += message_length(run, op);
@@ -73,30 +73,30 @@ pub fn message_bytes(p: Protocol, run: &[u8]) -> u64
 }
 
 // The outgoing number after a Record.
-fn after(seq: u64) -> Outgoing
+fn outgoing_after(seq: u64) -> Outgoing
     ensures { λ r. ⌜ r ≡ outgoingAfter seq ⌝ }
 {
     if seq < TOP {
         Outgoing::Next(seq + 1)
     } else {
-        Outgoing::Off
+        Outgoing::Diverges
     }
 }
 
-// A number below next is off it, and so is a message that isn't next, and a Record of the greatest number.
-fn follow(op: Op, next: u64) -> Outgoing
+// A message that isn't next diverges, and so do a number below next and a Record of the greatest number.
+fn outgoing_by(op: Op, next: u64) -> Outgoing
     ensures { λ r. ⌜ Follows op next r ⌝ }
 {
     match op {
         Op::Record(seq, _) => if seq == next {
-            after(seq)
+            outgoing_after(seq)
         } else {
-            Outgoing::Off
+            Outgoing::Diverges
         },
         Op::RecordNone(seq) => if next <= seq {
-            after(seq)
+            outgoing_after(seq)
         } else {
-            Outgoing::Off
+            Outgoing::Diverges
         },
         Op::Reset => Outgoing::Next(1),
         _ => Outgoing::Next(next),
@@ -104,16 +104,16 @@ fn follow(op: Op, next: u64) -> Outgoing
 }
 
 // The outgoing numbers of a run follow on from next_outgoing.
-pub fn fits(p: Protocol, run: &[u8], next_outgoing: u64) -> bool
-    ensures { λ r. ⌜ r ≡ fits «next_outgoing» (heldRun (p .version) (now (run .entry))) ⌝ }
+pub fn fits(protocol: Protocol, run: &[u8], next_outgoing: u64) -> bool
+    ensures { λ r. ⌜ r ≡ fits «next_outgoing» (heldRun (protocol .version) (now (run .entry))) ⌝ }
 {
     let mut next = next_outgoing;
     let mut d = Cursor { at: 0 };
     while d.at < run.len() {
-        let OpAt::Got(op, e) = frame_op::op_from(p, run, d) else {
+        let OpAt::Got(op, e) = frame_op::op_from(protocol, run, d) else {
             return true;
         };
-        let Outgoing::Next(n) = follow(op, next) else {
+        let Outgoing::Next(n) = outgoing_by(op, next) else {
             return false;
         };
         next = n;
@@ -130,63 +130,63 @@ fn record_length(op: Op, len: u32) -> u32 {
     }
 }
 
-// Past a Record with a message of `len` bytes, if one stands here. Where the next begins doesn't wait for the length that is read, so that
-// Records of one length are passed over while their bytes are on the way.
-fn past_record(buf: &[u8], c: Cursor, len: u32) -> Past
-    ensures { λ r. ⌜ PastRecord (now (buf .entry)) (c .at) r ⌝ }
+// Skips a Record with a message of `len` bytes, if one stands here. Where the next change begins is known from `len`, before
+// the length in the buffer is read: Records of one length are skipped faster so.
+fn skip_record(buf: &[u8], cursor: Cursor, len: u32) -> Skipped
+    ensures { λ r. ⌜ PastRecord (now (buf .entry)) (cursor .at) r ⌝ }
 {
-    let Byte::Got(k, d) = frame_reader::u8_from(buf, c) else {
-        return Past::Bad(FrameError::Truncated);
+    let Byte::Got(k, d) = frame_reader::u8_from(buf, cursor) else {
+        return Skipped::Bad(FrameError::Truncated);
     };
     let Word64::Got(_, d) = frame_reader::u64_from(buf, d) else {
-        return Past::Bad(FrameError::Truncated);
+        return Skipped::Bad(FrameError::Truncated);
     };
     let Word32::Got(n, d) = frame_reader::u32_from(buf, d) else {
-        return Past::Bad(FrameError::Truncated);
+        return Skipped::Bad(FrameError::Truncated);
     };
     if k != frame_op::kind::RECORD {
-        return Past::Bad(FrameError::Truncated);
+        return Skipped::Bad(FrameError::Truncated);
     }
     if n != len {
-        return Past::Bad(FrameError::Truncated);
+        return Skipped::Bad(FrameError::Truncated);
     }
     let size = len as usize;
-    if frame_reader::left(buf, d) < size {
-        return Past::Bad(FrameError::Truncated);
+    if frame_reader::bytes_left(buf, d) < size {
+        return Skipped::Bad(FrameError::Truncated);
     }
     let at = d.at;
-    Past::At(Cursor { at: at + size }, len)
+    Skipped::At(Cursor { at: at + size }, len)
 }
 
-// Past one change of any kind.
-fn past_any(p: Protocol, buf: &[u8], c: Cursor, len: u32) -> Past
-    ensures { λ r. ⌜ resPast (now (buf .entry)) r ≡ forget (readChange (p .version) (drop (c .at) (now (buf .entry)))) ⌝ }
+// Skips a change of any kind.
+fn skip_any(protocol: Protocol, buf: &[u8], cursor: Cursor, len: u32) -> Skipped
+    ensures { λ r. ⌜ resPast (now (buf .entry)) r ≡ forget (readChange (protocol .version) (drop (cursor .at) (now (buf .entry)))) ⌝ }
 {
-    match frame_op::op_from(p, buf, c) {
-        OpAt::Bad(e) => Past::Bad(e),
-        OpAt::Got(op, d) => Past::At(d, record_length(op, len)),
+    match frame_op::op_from(protocol, buf, cursor) {
+        OpAt::Bad(e) => Skipped::Bad(e),
+        OpAt::Got(op, d) => Skipped::At(d, record_length(op, len)),
     }
 }
 
-// Past one change; it is likely a Record as long as the last one.
-fn past_one(p: Protocol, buf: &[u8], c: Cursor, len: u32) -> Past
-    ensures { λ r. ⌜ resPast (now (buf .entry)) r ≡ forget (readChange (p .version) (drop (c .at) (now (buf .entry)))) ⌝ }
+// Skips a change; it is likely a Record as long as the last one.
+fn skip_change(protocol: Protocol, buf: &[u8], cursor: Cursor, len: u32) -> Skipped
+    ensures { λ r. ⌜ resPast (now (buf .entry)) r ≡ forget (readChange (protocol .version) (drop (cursor .at) (now (buf .entry)))) ⌝ }
 {
-    match past_record(buf, c, len) {
-        Past::At(d, n) => Past::At(d, n),
-        Past::Bad(_) => past_any(p, buf, c, len),
+    match skip_record(buf, cursor, len) {
+        Skipped::At(d, n) => Skipped::At(d, n),
+        Skipped::Bad(_) => skip_any(protocol, buf, cursor, len),
     }
 }
 
-// Past the first `count` changes from c on, or as many of them as can be read.
-fn run_end(p: Protocol, buf: &[u8], c: Cursor, count: usize) -> Cursor
-    ensures { λ r. ⌜ length (now (buf .entry)) - (c .at) ≡ sizes (collect count (readChange (p .version)) (drop (c .at) (now (buf .entry)))) + (length (now (buf .entry)) - (r .at)) ⌝ }
+// Skipped the first `count` changes from c on, or as many of them as can be read.
+fn run_end(protocol: Protocol, buf: &[u8], cursor: Cursor, count: usize) -> Cursor
+    ensures { λ r. ⌜ length (now (buf .entry)) - (cursor .at) ≡ sizes (collect count (readChange (protocol .version)) (drop (cursor .at) (now (buf .entry)))) + (length (now (buf .entry)) - (r .at)) ⌝ }
 {
-    let mut d = c;
+    let mut d = cursor;
     let mut n = count;
     let mut len: u32 = 0;
     while 0 < n {
-        let Past::At(next, last) = past_one(p, buf, d, len) else {
+        let Skipped::At(next, last) = skip_change(protocol, buf, d, len) else {
             return d;
         };
         d = next;
@@ -197,20 +197,20 @@ fn run_end(p: Protocol, buf: &[u8], c: Cursor, count: usize) -> Cursor
 }
 
 // How many bytes the longest run of changes at the start takes: each takes one at least.
-pub fn run_length(p: Protocol, s: &[u8]) -> usize
-    ensures { λ r. ⌜ r ≡ sizes (heldRun (p .version) (now (s .entry))) ⌝ }
+pub fn run_length(protocol: Protocol, s: &[u8]) -> usize
+    ensures { λ r. ⌜ r ≡ sizes (heldRun (protocol .version) (now (s .entry))) ⌝ }
 {
-    let d = run_end(p, s, Cursor { at: 0 }, s.len());
-    s.len() - frame_reader::left(s, d)
+    let d = run_end(protocol, s, Cursor { at: 0 }, s.len());
+    s.len() - frame_reader::bytes_left(s, d)
 }
 
 // The part of the buffer where the changes of a run stand, as far as they can be read.
-pub fn run_of(p: Protocol, buf: &[u8], run: Run) -> &[u8]
-    ensures { λ r. ⌜ RunPart (p .version) (now (buf .entry)) run (now r) ⌝ }
+pub fn run_of(protocol: Protocol, buf: &[u8], run: Run) -> &[u8]
+    ensures { λ r. ⌜ RunPart (protocol .version) (now (buf .entry)) run (now r) ⌝ }
 {
     let at = run.at;
-    let d = run_end(p, buf, Cursor { at }, run.count as usize);
-    let n = frame_reader::left(buf, Cursor { at }) - frame_reader::left(buf, d);
+    let d = run_end(protocol, buf, Cursor { at }, run.count as usize);
+    let n = frame_reader::bytes_left(buf, Cursor { at }) - frame_reader::bytes_left(buf, d);
     frame_reader::bytes_at(buf, at, n)
 }
 

@@ -9,25 +9,25 @@ use frame_stamp::Protocol;
 use store_areas::Shape;
 
 // Applies a run of changes to the session at place i, and leaves a commit pending, if its outgoing numbers follow on.
-pub fn settle(
-    p: Protocol,
+pub fn commit_changes(
+    protocol: Protocol,
     run: &[u8],
     words: &mut [u64],
     bytes: &mut [u8],
     shape: Shape,
-    i: usize,
+    place: usize,
     handle: u32,
 ) -> bool
     requires { ⌜ Rules shape (now words) (now bytes) ⌝ }
-    requires { ⌜ i < getD (now words) 0 0 ⌝ }
+    requires { ⌜ place < getD (now words) 0 0 ⌝ }
     requires { ⌜ countOf (now words) < 64 ⌝ }
-    ensures { λ r. ⌜ Settles shape i handle (heldRun (p .version) (now (run .entry))) (now (words .entry)) (now (words .exit)) (now (bytes .entry)) (now (bytes .exit)) r ⌝ }
+    ensures { λ r. ⌜ Settles shape place handle (heldRun (protocol .version) (now (run .entry))) (now (words .entry)) (now (words .exit)) (now (bytes .entry)) (now (bytes .exit)) r ⌝ }
 {
-    let next = store_state::next_outgoing(words, bytes, shape, i);
-    if !standby_changes::fits(p, run, next) {
+    let next = store_state::next_outgoing(words, bytes, shape, place);
+    if !standby_changes::fits(protocol, run, next) {
         return false;
     }
-    standby_apply::apply_at(p, run, words, bytes, shape, i);
-    standby_pending::push(words, i, handle);
+    standby_apply::apply_at(protocol, run, words, bytes, shape, place);
+    standby_pending::push(words, place, handle);
     true
 }

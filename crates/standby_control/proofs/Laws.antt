@@ -17,7 +17,7 @@ use Rattle.frame.specs.declared.Frame
 use Rattle.frame.specs.declared.Frame.{Frame}
 use Rattle.frame.proofs.Frame as frame-type
 use Rattle.frame.specs.Answers.{frameOf}
-use Rattle.standby_row.specs.declared.Seen.{Seen}
+use Rattle.standby_row.specs.declared.Lookup.{Lookup}
 use Rattle.store_place.specs.Only.{Only}
 use Rattle.store_areas.specs.declared.Shape.{Shape}
 use Rattle.store_areas.specs.Areas.{placeWords, Rules, placesOf}
@@ -61,7 +61,7 @@ plain-same L k o free (bound h m) p = refl
 plain-same L k o free (checked h e i) p = refl
 
 -- the last way of `reply`: 19
-pub nineteen : (c : Replica) (s : Settings) (seen : Seen) (b : List ℕ) (f : Frame) → OneOf (1 ∷ 2 ∷ 3 ∷ 4 ∷ 5 ∷ 6 ∷ []) (tagOf frame-type.the-type f) → Plain (frameOf 1 b f)
+pub nineteen : (c : Replica) (s : Settings) (seen : Lookup) (b : List ℕ) (f : Frame) → OneOf (1 ∷ 2 ∷ 3 ∷ 4 ∷ 5 ∷ 6 ∷ []) (tagOf frame-type.the-type f) → Plain (frameOf 1 b f)
     → {r : Outcome} {a : Answer} → r ≡ leaving c seen a → a ≡ isRefused 19 → Replies c s seen (λ L k. coreIntact L k none false (frameOf 1 b f)) r
 nineteen c s seen b (Frame.Hello v e node ks) h p e₁ e₂ = absurd (miss (1 ∷ 2 ∷ 3 ∷ 4 ∷ 5 ∷ 6 ∷ []) 0 tt h)
 nineteen c s seen b (Frame.Welcome e i) h p e₁ e₂ = as-left c s seen (λ L k. coreIntact L k none false (welcome (e .0) (i .0))) e₁ e₂ (λ room x ps pending. refl)
@@ -120,7 +120,7 @@ module _ (s : Shape) (w b : List ℕ) (r : Rules s w b) where
 
 -- ---- the ways of `answer`
 
-module _ (s : Settings) (c : Replica) (seen : Seen) (w b : List ℕ) (rules : Rules (s .shape) w b) where
+module _ (s : Settings) (c : Replica) (seen : Lookup) (w b : List ℕ) (rules : Rules (s .shape) w b) where
   pub replied : (f : the-frame.Frame) → Plain f → {r : Outcome} {w' : List ℕ} → Replies c s seen (λ L k. coreIntact L k none false f) r → w' ≡ clearedIf (r .clears) w → OtherIs s c seen f w w' b b r
   replied f p {r} {w'} g e = subst (λ (x : List ℕ). OtherIs s c seen f w x b b r) (sym e) (record {
     is = λ version room holds o q.
@@ -167,7 +167,7 @@ place-run (nack h r) p t cs ps = refl
 place-run (bound h m) p t cs ps = refl
 place-run (checked h e i) p t cs ps = refl
 
-module _ (s : Settings) (c : Replica) (seen : Seen) (f : the-frame.Frame) (w b : List ℕ) {due : Bool} (due-is : due ≡ not (isEmpty (pendingOf w))) {w1 : List ℕ} (ran : RanIf due (s .shape) b w w1) where
+module _ (s : Settings) (c : Replica) (seen : Lookup) (f : the-frame.Frame) (w b : List ℕ) {due : Bool} (due-is : due ≡ not (isEmpty (pendingOf w))) {w1 : List ℕ} (ran : RanIf due (s .shape) b w w1) where
   ran-is : coreAt (countersOf c) (s .shape) w1 b ≡ coreRun (not (isEmpty (pendingOf w))) (coreAt (countersOf c) (s .shape) w b)
   ran-is = (λ j. record { counters = countersOf c; places = ran .places j; pending = ran .pending j }) ∙ ap (λ (t : Bool). coreRun t (coreAt (countersOf c) (s .shape) w b)) due-is
 

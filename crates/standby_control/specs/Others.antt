@@ -8,7 +8,7 @@ use lib.ListN.{getD, set}
 use lib.Dec.{ltb}
 use Rattle.model_frame.specs.Frame.{Frame, hello, welcome, bind, batch, ack, nack, bound, checked}
 use Rattle.model_frame.specs.Parse.{isEmpty}
-use Rattle.standby_row.specs.declared.Seen.{Seen}
+use Rattle.standby_row.specs.declared.Lookup.{Lookup}
 use Rattle.store_areas.specs.StoreWord
 use Rattle.store_areas.specs.Areas.{Rules, placesOf}
 use Rattle.standby_pending.specs.Pending.{pendingOf}
@@ -52,7 +52,7 @@ abbrev pub clearedIf : Bool → List ℕ → List ℕ
 clearedIf t w = cond t (set w StoreWord.pending 0) w
 
 -- equal to the definition, whatever the hold areas and the record found; a refusal and a Nack leave the store as it was
-pub record OtherIs (s : Settings) (c : Replica) (seen : Seen) (f : Frame) (w w' b b' : List ℕ) (r : Outcome) : Type 0 where
+pub record OtherIs (s : Settings) (c : Replica) (seen : Lookup) (f : Frame) (w w' b b' : List ℕ) (r : Outcome) : Type 0 where
   pub is : (version room : ℕ) (holds : List ℕ) (o : Option Bound) → isSome o ≡ isFound seen
       → outcomeOf version room (s .shape) w' b' holds r ≡ coreIntact (settingsOf s room) (coreAt (countersOf c) (s .shape) w b) o (ltb (seen .free) (seen .len)) f
   pub lands : (room : ℕ) → Lands seen (getD w' StoreWord.used 0) room r
@@ -62,7 +62,7 @@ pub record OtherIs (s : Settings) (c : Replica) (seen : Seen) (f : Frame) (w w' 
   pub quiet : isQuiet (r .answer) ≡ true → (w' ≡ w) × (b' ≡ b)
 
 -- the same, after the pending commits
-pub record OtherIn (s : Settings) (c : Replica) (seen : Seen) (f : Frame) (w w' b b' : List ℕ) (r : Outcome) : Type 0 where
+pub record OtherIn (s : Settings) (c : Replica) (seen : Lookup) (f : Frame) (w w' b b' : List ℕ) (r : Outcome) : Type 0 where
   pub is : (version room : ℕ) (holds : List ℕ) (o : Option Bound) → isSome o ≡ isFound seen
       → outcomeOf version room (s .shape) w' b' holds r
       ≡ coreIntact (settingsOf s room) (coreRun (not (isEmpty (pendingOf w))) (coreAt (countersOf c) (s .shape) w b)) o (ltb (seen .free) (seen .len)) f

@@ -16,7 +16,7 @@ use frame::Frame;
 use frame_op::Run;
 use frame_reader::Cursor;
 use frame_reader::Word16;
-use standby_row::Seen;
+use standby_row::Lookup;
 use standby_state::Outcome;
 use standby_state::Replica;
 use standby_state::Settings;
@@ -45,11 +45,17 @@ fn clear_if(words: &mut [u64], clears: bool)
 }
 
 // What a frame answers that needs no more than the counters.
-fn reply(frame: &[u8], c: Replica, s: Settings, seen: Seen, f: Frame) -> Outcome
-    requires { ⌜ Plain (frameOf 1 (now frame) f) ⌝ }
-    ensures { λ r. ⌜ Replies c s seen (λ L k. coreIntact L k none false (frameOf 1 (now (frame .entry)) f)) r ⌝ }
+fn answer_by_counters(
+    frame: &[u8],
+    counters: Replica,
+    settings: Settings,
+    lookup: Lookup,
+    decoded: Frame,
+) -> Outcome
+    requires { ⌜ Plain (frameOf 1 (now frame) decoded) ⌝ }
+    ensures { λ r. ⌜ Replies counters settings lookup (λ L k. coreIntact L k none false (frameOf 1 (now (frame .entry)) decoded)) r ⌝ }
 {
-    match f {
+    match decoded {
         Frame::Hello {
             version,
             epoch,
@@ -57,14 +63,14 @@ fn reply(frame: &[u8], c: Replica, s: Settings, seen: Seen, f: Frame) -> Outcome
             app_record_kinds,
         } => {
             let none = no_kinds(frame, app_record_kinds);
-            standby_hello::hello(c, s, seen, version, epoch, none)
+            standby_hello::on_hello(counters, settings, lookup, version, epoch, none)
         }
         Frame::Checked {
             handle,
             epoch,
             incarnation,
-        } => standby_hello::checked(c, s, seen, handle, epoch, incarnation),
-        _ => standby_state::leaves(c, seen, standby_state::refused(OTHER_FRAME)),
+        } => standby_hello::on_checked(counters, settings, lookup, handle, epoch, incarnation),
+        _ => standby_state::unchanged(counters, lookup, standby_state::refused(OTHER_FRAME)),
     }
 }
 
@@ -73,16 +79,16 @@ fn answer(
     words: &mut [u64],
     bytes: &mut [u8],
     frame: &[u8],
-    c: Replica,
-    s: Settings,
-    seen: Seen,
-    f: Frame,
+    counters: Replica,
+    settings: Settings,
+    lookup: Lookup,
+    decoded: Frame,
 ) -> Outcome
-    requires { ⌜ Rules (s .shape) (now words) (now bytes) ⌝ }
-    requires { ⌜ Fit (frameOf 1 (now frame) f) ⌝ }
-    ensures { λ r. ⌜ OtherIs s c seen (frameOf 1 (now (frame .entry)) f) (now (words .entry)) (now (words .exit)) (now (bytes .entry)) (now (bytes .exit)) r ⌝ }
+    requires { ⌜ Rules (settings .shape) (now words) (now bytes) ⌝ }
+    requires { ⌜ Fit (frameOf 1 (now frame) decoded) ⌝ }
+    ensures { λ r. ⌜ OtherIs settings counters lookup (frameOf 1 (now (frame .entry)) decoded) (now (words .entry)) (now (words .exit)) (now (bytes .entry)) (now (bytes .exit)) r ⌝ }
 {
-    match f {
+    match decoded {
         Frame::Bind {
             handle,
             epoch,
@@ -92,16 +98,16 @@ fn answer(
             words,
             bytes,
             frame,
-            c,
-            s,
-            seen,
+            counters,
+            settings,
+            lookup,
             handle,
             epoch,
             max_lag,
             session,
         ),
         _ => {
-            let o = reply(frame, c, s, seen, f);
+            let o = answer_by_counters(frame, counters, settings, lookup, decoded);
             clear_if(words, o.clears);
             o
         }
@@ -109,21 +115,21 @@ fn answer(
 }
 
 // Pending commits run, and then the frame is answered.
-pub fn other_in(
+pub fn run_due_then_answer(
     words: &mut [u64],
     bytes: &mut [u8],
     frame: &[u8],
-    c: Replica,
-    s: Settings,
-    seen: Seen,
-    f: Frame,
+    counters: Replica,
+    settings: Settings,
+    lookup: Lookup,
+    decoded: Frame,
 ) -> Outcome
-    requires { ⌜ Rules (s .shape) (now words) (now bytes) ⌝ }
-    requires { ⌜ Fit (frameOf 1 (now frame) f) ⌝ }
-    ensures { λ r. ⌜ OtherIn s c seen (frameOf 1 (now (frame .entry)) f) (now (words .entry)) (now (words .exit)) (now (bytes .entry)) (now (bytes .exit)) r ⌝ }
+    requires { ⌜ Rules (settings .shape) (now words) (now bytes) ⌝ }
+    requires { ⌜ Fit (frameOf 1 (now frame) decoded) ⌝ }
+    ensures { λ r. ⌜ OtherIn settings counters lookup (frameOf 1 (now (frame .entry)) decoded) (now (words .entry)) (now (words .exit)) (now (bytes .entry)) (now (bytes .exit)) r ⌝ }
 {
-    let shape = s.shape;
+    let shape = settings.shape;
     let due = standby_pending_run::is_pending(words);
     standby_pending_run::run_if(words, bytes, shape, due);
-    answer(words, bytes, frame, c, s, seen, f)
+    answer(words, bytes, frame, counters, settings, lookup, decoded)
 }

@@ -11,7 +11,7 @@ use borrow.Author.Tests.{ltb-true, leb-true}
 use Rattle.base_laws.proofs.Lists.{both}
 use Rattle.model_frame.specs.Frame.{Change, AppRecord, batch}
 use Rattle.model_frame.specs.Frame as the-frame
-use Rattle.standby_row.specs.declared.Seen.{Seen}
+use Rattle.standby_row.specs.declared.Lookup.{Lookup}
 use Rattle.store_areas.specs.Areas.{allowed, Rules, placesOf}
 use Rattle.store_areas.proofs.Ruling.{rules-of}
 use Rattle.standby_pending.specs.Pending.{pendingOf}
@@ -43,7 +43,7 @@ use Rattle.standby_frame.proofs.Frames.{due-other, writes-other}
 
 -- ---- a frame that was read
 
-pub batch-intact : (s : Settings) (c : Replica) (seen : Seen) (h e n : ℕ) (part : the-frame.Part) (cs : List Change) (apps : List AppRecord) (w w' b b' l l' : List ℕ) (r : Outcome)
+pub batch-intact : (s : Settings) (c : Replica) (seen : Lookup) (h e n : ℕ) (part : the-frame.Part) (cs : List Change) (apps : List AppRecord) (w w' b b' l l' : List ℕ) (r : Outcome)
     → BatchIn s c seen h e n part cs apps w w' b b' l l' r → IntactIs s c seen (batch h e n part cs apps) w w' b b' l l' r
 batch-intact s c seen h e n part cs apps w w' b b' l l' r g = record {
   is = λ own. g .is (λ f. own f refl);
@@ -54,14 +54,14 @@ batch-intact s c seen h e n part cs apps w w' b b' l l' r g = record {
   holds = λ own. g .holds (λ f. own f refl);
 }
 
-found-some : (seen : Seen) (l : List ℕ) → isSome (foundIn seen l) ≡ isFound seen
+found-some : (seen : Lookup) (l : List ℕ) → isSome (foundIn seen l) ≡ isFound seen
 found-some seen l = go (isFound seen)
   where
     go : (t : Bool) → isSome (foundOf protocolVersion t (seen .bound) (areaAt (roomIn seen l) (seen .at) l)) ≡ t
     go true = refl
     go false = refl
 
-pub other-intact : (s : Settings) (c : Replica) (seen : Seen) (f : the-frame.Frame) → Fit f → (w w' b b' l : List ℕ) (r : Outcome) → OtherIn s c seen f w w' b b' r → IntactIs s c seen f w w' b b' l l r
+pub other-intact : (s : Settings) (c : Replica) (seen : Lookup) (f : the-frame.Frame) → Fit f → (w w' b b' l : List ℕ) (r : Outcome) → OtherIn s c seen f w w' b b' r → IntactIs s c seen f w w' b b' l l r
 other-intact s c seen f fit w w' b b' l r g = record {
   is = λ own.
       g .is protocolVersion (roomIn seen l) l (foundIn seen l) (found-some seen l)
@@ -75,7 +75,7 @@ other-intact s c seen f fit w w' b b' l r g = record {
 
 -- ---- taking
 
-module _ (s : Settings) (c : Replica) (seen : Seen) (frame w b h : List ℕ) (rules : Rules (s .shape) w b) where
+module _ (s : Settings) (c : Replica) (seen : Lookup) (frame w b h : List ℕ) (rules : Rules (s .shape) w b) where
   abbrev L : state.Settings
   L = settingsOf s (roomIn seen h)
 
@@ -159,7 +159,7 @@ module _ (s : Settings) (c : Replica) (seen : Seen) (frame w b h : List ℕ) (ru
 
 -- ---- the call: 25, or the frame
 
-module _ (s : Settings) (c : Replica) (seen : Seen) (w b h : List ℕ) where
+module _ (s : Settings) (c : Replica) (seen : Lookup) (w b h : List ℕ) where
   pub rules-seen : seenAllowed (s .shape) seen w b h ≡ true → Rules (s .shape) w b
   rules-seen e = rules-of (s .shape) w b (both (allowed (s .shape) w b) _ e .0)
 

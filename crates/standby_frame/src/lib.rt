@@ -28,17 +28,17 @@ use frame::Frame;
 use frame_reader::FrameError;
 use frame_reader::Value;
 use frame_stamp::Protocol;
-use standby_row::Seen;
+use standby_row::Lookup;
 use standby_state::Answer;
 use standby_state::Outcome;
 use standby_state::Replica;
 use standby_state::Settings;
 
 // The number of a reader's refusal.
-fn number(e: FrameError) -> u8
-    ensures { λ r. ⌜ r ≡ faultNumber (faultOf e) ⌝ }
+fn refusal_of(error: FrameError) -> u8
+    ensures { λ r. ⌜ r ≡ faultNumber (faultOf error) ⌝ }
 {
-    match e {
+    match error {
         FrameError::TooLong(_) => TOO_LONG,
         FrameError::Truncated => TRUNCATED,
         FrameError::Unknown(_, _) => UNKNOWN_BYTE,
@@ -52,99 +52,128 @@ fn number(e: FrameError) -> u8
 }
 
 // A frame that was read, once the standby isn't promoted.
-fn intact(
+fn on_decoded(
     words: &mut [u64],
     bytes: &mut [u8],
     holds: &mut [u8],
     frame: &[u8],
-    c: Replica,
-    s: Settings,
-    seen: Seen,
-    f: Frame,
+    counters: Replica,
+    settings: Settings,
+    lookup: Lookup,
+    decoded: Frame,
 ) -> Outcome
-    requires { ⌜ Rules (s .shape) (now words) (now bytes) ⌝ }
-    requires { ⌜ (isFound seen ≡ true → RecordRulesIn seen (now words) (now holds)) ⌝ }
-    requires { ⌜ Writable 1 (frameOf 1 (now frame) f) ⌝ }
-    ensures { λ r. ⌜ IntactIs s c seen (frameOf 1 (now (frame .entry)) f) (now (words .entry)) (now (words .exit)) (now (bytes .entry)) (now (bytes .exit)) (now (holds .entry)) (now (holds .exit)) r ⌝ }
+    requires { ⌜ Rules (settings .shape) (now words) (now bytes) ⌝ }
+    requires { ⌜ (isFound lookup ≡ true → RecordRulesIn lookup (now words) (now holds)) ⌝ }
+    requires { ⌜ Writable 1 (frameOf 1 (now frame) decoded) ⌝ }
+    ensures { λ r. ⌜ IntactIs settings counters lookup (frameOf 1 (now (frame .entry)) decoded) (now (words .entry)) (now (words .exit)) (now (bytes .entry)) (now (bytes .exit)) (now (holds .entry)) (now (holds .exit)) r ⌝ }
 {
-    match f {
-        Frame::Batch(b) => standby_batch_due::batch_in(words, bytes, holds, frame, c, s, seen, b),
-        _ => standby_control::other_in(words, bytes, frame, c, s, seen, f),
+    match decoded {
+        Frame::Batch(b) => standby_batch_due::run_due_then_batch(
+            words,
+            bytes,
+            holds,
+            frame,
+            counters,
+            settings,
+            lookup,
+            b,
+        ),
+        _ => standby_control::run_due_then_answer(
+            words,
+            bytes,
+            frame,
+            counters,
+            settings,
+            lookup,
+            decoded,
+        ),
     }
 }
 
-// Past 25.
-fn taken(
+// The areas keep the rules (25): the bytes are read as a frame.
+fn on_bytes(
     words: &mut [u64],
     bytes: &mut [u8],
     holds: &mut [u8],
     frame: &[u8],
-    c: Replica,
-    s: Settings,
-    seen: Seen,
+    counters: Replica,
+    settings: Settings,
+    lookup: Lookup,
 ) -> Outcome
-    requires { ⌜ Rules (s .shape) (now words) (now bytes) ⌝ }
-    requires { ⌜ (isFound seen ≡ true → RecordRulesIn seen (now words) (now holds)) ⌝ }
-    ensures { λ r. ⌜ Takes s c seen (now (frame .entry)) (now (words .entry)) (now (words .exit)) (now (bytes .entry)) (now (bytes .exit)) (now (holds .entry)) (now (holds .exit)) r ⌝ }
+    requires { ⌜ Rules (settings .shape) (now words) (now bytes) ⌝ }
+    requires { ⌜ (isFound lookup ≡ true → RecordRulesIn lookup (now words) (now holds)) ⌝ }
+    ensures { λ r. ⌜ Takes settings counters lookup (now (frame .entry)) (now (words .entry)) (now (words .exit)) (now (bytes .entry)) (now (bytes .exit)) (now (holds .entry)) (now (holds .exit)) r ⌝ }
 {
     match Frame::decode(Protocol { version: 1 }, frame) {
-        Decoded::Bad(e) => standby_state::leaves(c, seen, standby_state::refused(number(e))),
-        Decoded::More => standby_state::leaves(c, seen, standby_state::refused(NOT_ONE_FRAME)),
+        Decoded::Bad(e) => standby_state::unchanged(
+            counters,
+            lookup,
+            standby_state::refused(refusal_of(e)),
+        ),
+        Decoded::More => standby_state::unchanged(
+            counters,
+            lookup,
+            standby_state::refused(NOT_ONE_FRAME),
+        ),
         Decoded::Whole(f, n) => {
             if n != frame.len() {
-                return standby_state::leaves(c, seen, standby_state::refused(NOT_ONE_FRAME));
+                return standby_state::unchanged(
+                    counters,
+                    lookup,
+                    standby_state::refused(NOT_ONE_FRAME),
+                );
             }
-            if c.promoted {
-                return standby_state::leaves(c, seen, standby_state::refused(PROMOTED));
+            if counters.promoted {
+                return standby_state::unchanged(counters, lookup, standby_state::refused(PROMOTED));
             }
-            intact(words, bytes, holds, frame, c, s, seen, f)
+            on_decoded(words, bytes, holds, frame, counters, settings, lookup, f)
         }
     }
 }
 
 // on_frame_held: commits that the frame leaves pending stay so.
-pub fn frame_held(
-    c: Replica,
-    seen: Seen,
+pub fn on_frame_held(
+    counters: Replica,
+    lookup: Lookup,
     words: &mut [u64],
     bytes: &mut [u8],
     holds: &mut [u8],
     frame: &[u8],
-    s: Settings,
+    settings: Settings,
 ) -> Outcome
-    ensures { λ r. ⌜ StepIs s c seen (onFrameHeld (now (frame .entry))) (now (words .entry)) (now (words .exit)) (now (bytes .entry)) (now (bytes .exit)) (now (holds .entry)) (now (holds .exit)) r ⌝ }
+    ensures { λ r. ⌜ StepIs settings counters lookup (onFrameHeld (now (frame .entry))) (now (words .entry)) (now (words .exit)) (now (bytes .entry)) (now (bytes .exit)) (now (holds .entry)) (now (holds .exit)) r ⌝ }
 {
-    let shape = s.shape;
-    if !standby_rules::sound(words, bytes, holds, shape, seen) {
-        return standby_state::leaves(c, seen, standby_state::refused(RULES_BROKEN));
+    let shape = settings.shape;
+    if !standby_rules::keeps_rules(words, bytes, holds, shape, lookup) {
+        return standby_state::unchanged(counters, lookup, standby_state::refused(RULES_BROKEN));
     }
-    taken(words, bytes, holds, frame, c, s, seen)
+    on_bytes(words, bytes, holds, frame, counters, settings, lookup)
 }
 
 // Whether a frame is answered, a Nack too.
-fn is_answered(a: Answer) -> bool
-    ensures { λ r. ⌜ r ≡ isAnswered a ⌝ }
+fn is_answered(answer: Answer) -> bool
+    ensures { λ r. ⌜ r ≡ isAnswered answer ⌝ }
 {
-    (a.refusal == 0) & (a.kind != 0)
+    (answer.refusal == 0) & (answer.kind != 0)
 }
 
 // on_frame: pending commits run after every answered frame.
-pub fn frame_now(
-    c: Replica,
-    seen: Seen,
+pub fn on_frame(
+    counters: Replica,
+    lookup: Lookup,
     words: &mut [u64],
     bytes: &mut [u8],
     holds: &mut [u8],
     frame: &[u8],
-    s: Settings,
+    settings: Settings,
 ) -> Outcome
-    ensures { λ r. ⌜ StepIs s c seen (onFrame (now (frame .entry))) (now (words .entry)) (now (words .exit)) (now (bytes .entry)) (now (bytes .exit)) (now (holds .entry)) (now (holds .exit)) r ⌝ }
+    ensures { λ r. ⌜ StepIs settings counters lookup (onFrame (now (frame .entry))) (now (words .entry)) (now (words .exit)) (now (bytes .entry)) (now (bytes .exit)) (now (holds .entry)) (now (holds .exit)) r ⌝ }
 {
-    let shape = s.shape;
-    if !standby_rules::sound(words, bytes, holds, shape, seen) {
-        return standby_state::leaves(c, seen, standby_state::refused(RULES_BROKEN));
+    let shape = settings.shape;
+    if !standby_rules::keeps_rules(words, bytes, holds, shape, lookup) {
+        return standby_state::unchanged(counters, lookup, standby_state::refused(RULES_BROKEN));
     }
-    let o = taken(words, bytes, holds, frame, c, s, seen);
+    let o = on_bytes(words, bytes, holds, frame, counters, settings, lookup);
     let a = o.answer;
     let answered = is_answered(a);
     standby_pending_run::run_if(words, bytes, shape, answered);

@@ -11,7 +11,7 @@ use lib.Seq.{drop-drop, take-take}
 use lib.Dec.{eqb}
 use borrow.Author.Tests.{eqb-true, eqb-false, eq-eqb, ne-eqb}
 use Rattle.base_laws.proofs.Lists.{drop-take}
-use Rattle.standby_row.specs.declared.Handle.{Handle}
+use Rattle.standby_row.specs.declared.Bound.{Bound as BoundRecord}
 use Rattle.standby_row.specs.Row.{isOf, isFree, zeroOrNext, findOf, freeOf, clearedAll}
 use Rattle.standby_row.specs.Row as handles
 use Rattle.model_standby.specs.Row.{Row, isSome, freed, hasFree, find, replace, fill, put}
@@ -65,8 +65,8 @@ module _ (n k : ℕ) (b : Bound) (t : Row Bound) where
 
 -- ---- rows
 
-module _ (boundOf : Handle → List ℕ → Bound) (room : ℕ) where
-  abbrev Entries : List Handle → List ℕ → Row Bound
+module _ (boundOf : BoundRecord → List ℕ → Bound) (room : ℕ) where
+  abbrev Entries : List BoundRecord → List ℕ → Row Bound
   Entries row holds = rowOf boundOf room row holds
 
   abbrev Part : ℕ → List ℕ → List ℕ
@@ -84,7 +84,7 @@ module _ (boundOf : Handle → List ℕ → Bound) (room : ℕ) where
 
   -- ---- a handle's record
 
-  pub find-hit : (k : ℕ) (row : List Handle) (holds : List ℕ) → findOf row k < length row
+  pub find-hit : (k : ℕ) (row : List BoundRecord) (holds : List ℕ) → findOf row k < length row
       → find k (Entries row holds) ≡ some (boundOf (getD row (findOf row k) handles.freeRecord) (Part (findOf row k) holds))
   find-hit k [] holds less = absurd (no less)
     where
@@ -102,7 +102,7 @@ module _ (boundOf : Handle → List ℕ → Bound) (room : ℕ) where
           find-past (h .handle) k (boundOf h (take room holds)) (Entries hs (drop room holds)) (h .used) e ∙ ih (omega arith)
           ∙ ap (λ (x : List ℕ). some (boundOf (getD hs (findOf hs k) handles.freeRecord) x)) (part-next (findOf hs k) holds)
 
-  pub find-miss : (k : ℕ) (row : List Handle) (holds : List ℕ) → length row ≤ findOf row k → find k (Entries row holds) ≡ none
+  pub find-miss : (k : ℕ) (row : List BoundRecord) (holds : List ℕ) → length row ≤ findOf row k → find k (Entries row holds) ≡ none
   find-miss k [] holds out = refl
   find-miss k (h ∷ hs) holds out = go (isOf h k) refl (find-miss k hs (drop room holds)) out
     where
@@ -115,7 +115,7 @@ module _ (boundOf : Handle → List ℕ → Bound) (room : ℕ) where
 
   -- ---- free places
 
-  pub free-hit : (row : List Handle) (holds : List ℕ) → freeOf row < length row → hasFree (Entries row holds) ≡ true
+  pub free-hit : (row : List BoundRecord) (holds : List ℕ) → freeOf row < length row → hasFree (Entries row holds) ≡ true
   free-hit [] holds less = absurd (no less)
     where
       no : 0 < 0 → ⊥
@@ -126,7 +126,7 @@ module _ (boundOf : Handle → List ℕ → Bound) (room : ℕ) where
       go true e ih l = free-at (h .handle) 0 (boundOf h (take room holds)) (Entries hs (drop room holds)) (h .used) e
       go false e ih l = free-past (h .handle) 0 (boundOf h (take room holds)) (Entries hs (drop room holds)) (h .used) e ∙ ih (omega arith)
 
-  pub free-miss : (row : List Handle) (holds : List ℕ) → length row ≤ freeOf row → hasFree (Entries row holds) ≡ false
+  pub free-miss : (row : List BoundRecord) (holds : List ℕ) → length row ≤ freeOf row → hasFree (Entries row holds) ≡ false
   free-miss [] holds out = refl
   free-miss (h ∷ hs) holds out = go (isFree h) refl (free-miss hs (drop room holds)) out
     where
@@ -137,7 +137,7 @@ module _ (boundOf : Handle → List ℕ → Bound) (room : ℕ) where
           no l = omega arith
       go false e ih l = free-past (h .handle) 0 (boundOf h (take room holds)) (Entries hs (drop room holds)) (h .used) e ∙ ih (omega arith)
 
-  pub all-freed : (row : List Handle) (holds : List ℕ) → Entries (clearedAll row) holds ≡ freed (Entries row holds)
+  pub all-freed : (row : List BoundRecord) (holds : List ℕ) → Entries (clearedAll row) holds ≡ freed (Entries row holds)
   all-freed [] holds = refl
   all-freed (h ∷ hs) holds = ap (λ (t : Row Bound). none ∷ t) (all-freed hs (drop room holds))
 
@@ -168,14 +168,14 @@ module _ (boundOf : Handle → List ℕ → Bound) (room : ℕ) where
       )
 
   -- the record at place i is used for k
-  module _ (k : ℕ) (g : Handle) (used : g .used ≡ true) (is : g .handle ≡ k) where
+  module _ (k : ℕ) (g : BoundRecord) (used : g .used ≡ true) (is : g .handle ≡ k) where
     abbrev At : ℕ → List ℕ → Option (ℕ × Bound)
     At i holds = some (k, boundOf g (Part i holds))
 
     put-entry : (part : List ℕ) → entryOf boundOf room g part ≡ some (k, boundOf g part)
     put-entry part = ap (λ (u : Bool). cond u (some (g .handle, boundOf g part)) none) used ∙ ap (λ (m : ℕ). some (m, boundOf g part)) is
 
-    replaced : (row : List Handle) (a b : List ℕ) → findOf row k < length row → Apart (findOf row k) a b
+    replaced : (row : List BoundRecord) (a b : List ℕ) → findOf row k < length row → Apart (findOf row k) a b
         → Entries (set row (findOf row k) g) b ≡ replace k (boundOf g (Part (findOf row k) b)) (Entries row a)
     replaced [] a b less apart = refl
     replaced (h ∷ hs) a b less apart = go (isOf h k) refl (replaced hs (drop room a) (drop room b)) less apart
@@ -196,7 +196,7 @@ module _ (boundOf : Handle → List ℕ → Bound) (room : ℕ) where
             ∙ ap (λ (x : List ℕ). entryOf boundOf room h (take room a) ∷ replace k (boundOf g x) (Entries hs (drop room a))) (part-next (findOf hs k) b)
             ∙ sym (replace-past (h .handle) k (boundOf h (take room a)) (Entries hs (drop room a)) (boundOf g (Part (suc (findOf hs k)) b)) (h .used) e)
 
-    filled : (row : List Handle) (a : List ℕ) → freeOf row < length row → Entries (set row (freeOf row) g) a ≡ fill k (boundOf g (Part (freeOf row) a)) (Entries row a)
+    filled : (row : List BoundRecord) (a : List ℕ) → freeOf row < length row → Entries (set row (freeOf row) g) a ≡ fill k (boundOf g (Part (freeOf row) a)) (Entries row a)
     filled [] a less = refl
     filled (h ∷ hs) a less = go (isFree h) refl (filled hs (drop room a)) less
       where
@@ -213,14 +213,14 @@ module _ (boundOf : Handle → List ℕ → Bound) (room : ℕ) where
             ∙ sym (fill-past (h .handle) k (boundOf h (take room a)) (Entries hs (drop room a)) (boundOf g (Part (suc (freeOf hs)) a)) (h .used) e)
 
     -- at its own place; at the first free one
-    pub put-own : (row : List Handle) (a b : List ℕ) → findOf row k < length row → Apart (findOf row k) a b
+    pub put-own : (row : List BoundRecord) (a b : List ℕ) → findOf row k < length row → Apart (findOf row k) a b
         → Entries (set row (findOf row k) g) b ≡ put k (boundOf g (Part (findOf row k) b)) (Entries row a)
     unfolding put
     put-own row a b less apart =
         replaced row a b less apart
         ∙ ap (λ (x : Bool). cond x (replace k (boundOf g (Part (findOf row k) b)) (Entries row a)) (fill k (boundOf g (Part (findOf row k) b)) (Entries row a))) (sym (ap isSome (find-hit k row a less)))
 
-    pub put-new : (row : List Handle) (a : List ℕ) → length row ≤ findOf row k → freeOf row < length row
+    pub put-new : (row : List BoundRecord) (a : List ℕ) → length row ≤ findOf row k → freeOf row < length row
         → Entries (set row (freeOf row) g) a ≡ put k (boundOf g (Part (freeOf row) a)) (Entries row a)
     unfolding put
     put-new row a out less =

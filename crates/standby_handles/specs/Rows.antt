@@ -4,17 +4,17 @@ use mathlib.Core.Bool.{cond}
 use mathlib.Core.List.{List, [], _∷_}
 use mathlib.Core.Option.{Option, none, some}
 use lib.ListN.{take, drop}
-use Rattle.standby_row.specs.declared.Handle.{Handle}
+use Rattle.standby_row.specs.declared.Bound.{Bound as BoundRecord}
 use Rattle.model_standby.specs.Row.{Row}
 use Rattle.model_standby.specs.State.{Bound}
 
-module _ (boundOf : Handle → List ℕ → Bound) (room : ℕ) where
+module _ (boundOf : BoundRecord → List ℕ → Bound) (room : ℕ) where
   -- a record, with its hold area
-  abbrev pub entryOf : Handle → List ℕ → Option (ℕ × Bound)
+  abbrev pub entryOf : BoundRecord → List ℕ → Option (ℕ × Bound)
   entryOf h part = cond (h .used) (some (h .handle, boundOf h part)) none
 
   -- the hold areas stand one after the other
-  abbrev pub rowOf : List Handle → List ℕ → Row Bound
+  abbrev pub rowOf : List BoundRecord → List ℕ → Row Bound
   rowOf [] holds = []
   rowOf (h ∷ hs) holds = entryOf h (take room holds) ∷ rowOf hs (drop room holds)
 

@@ -9,7 +9,7 @@ use Rattle.model_frame.specs.Frame.{welcome, nack, ack, staleEpoch, restarted}
 use Rattle.model_frame.specs.Parse.{isEmpty}
 use Rattle.frame.specs.declared.Epoch.{Epoch}
 use Rattle.frame.specs.declared.Incarnation.{Incarnation}
-use Rattle.standby_row.specs.declared.Seen.{Seen}
+use Rattle.standby_row.specs.declared.Lookup.{Lookup}
 use Rattle.model_standby.specs.Answer.{reply}
 use Rattle.model_standby.specs.Store.{Place}
 use Rattle.model_standby.specs.State.{connected, checkedAt}
@@ -26,10 +26,10 @@ use Rattle.standby_hello.specs.Greeting.{connectedTo, checkedTo, isQuiet
 no : {A : Type 0} → false ≡ true → A
 no e = absurd (true≢false (sym e))
 
-pub leaving-lands : (c : Replica) (seen : Seen) (a : Answer) (used room : ℕ) → Lands seen used room (leaving c seen a)
+pub leaving-lands : (c : Replica) (seen : Lookup) (a : Answer) (used room : ℕ) → Lands seen used room (leaving c seen a)
 leaving-lands c seen a used room = record { at-is = refl; from-is = refl; one = no; slot-used = no; slot-place = no; slot-len = no }
 
-pub clearing-lands : (c : Replica) (seen : Seen) (a : Answer) (used room : ℕ) → Lands seen used room (clearing c seen a)
+pub clearing-lands : (c : Replica) (seen : Lookup) (a : Answer) (used room : ℕ) → Lands seen used room (clearing c seen a)
 clearing-lands c seen a used room = record { at-is = refl; from-is = refl; one = no; slot-used = no; slot-place = no; slot-len = no }
 
 -- the state but for the row, with these counters
@@ -37,17 +37,17 @@ abbrev At : Replica → List Place → List (ℕ × ℕ) → Core
 At c ps pending = record { counters = countersOf c; places = ps; pending = pending }
 
 -- the row is left, or freed
-pub leaves-is : (c : Replica) (s : Settings) (seen : Seen) (m : state.Settings → Core → CoreResult) (d : Replica) (a : Answer)
+pub leaves-is : (c : Replica) (s : Settings) (seen : Lookup) (m : state.Settings → Core → CoreResult) (d : Replica) (a : Answer)
     → ((room : ℕ) (b : List ℕ) (ps : List Place) (pending : List (ℕ × ℕ)) → record { core = At d ps pending; action = leave; answer = answerOf b a } ≡ m (settingsOf s room) (At c ps pending))
     → Replies c s seen m (leaving d seen a)
 leaves-is c s seen m d a f = record { is = λ version room holds b ps pending. f room b ps pending; lands = leaving-lands d seen a; quiet = λ _. refl; stays = refl }
 
-clears-is : (c : Replica) (s : Settings) (seen : Seen) (m : state.Settings → Core → CoreResult) (d : Replica) (a : Answer) → isQuiet a ≡ false
+clears-is : (c : Replica) (s : Settings) (seen : Lookup) (m : state.Settings → Core → CoreResult) (d : Replica) (a : Answer) → isQuiet a ≡ false
     → ((room : ℕ) (b : List ℕ) (ps : List Place) (pending : List (ℕ × ℕ)) → record { core = At d ps []; action = clear; answer = answerOf b a } ≡ m (settingsOf s room) (At c ps pending))
     → Replies c s seen m (clearing d seen a)
 clears-is c s seen m d a q f = record { is = λ version room holds b ps pending. f room b ps pending; lands = clearing-lands d seen a; quiet = λ e. absurd (true≢false (sym e ∙ q)); stays = refl }
 
-module _ (c : Replica) (s : Settings) (seen : Seen) where
+module _ (c : Replica) (s : Settings) (seen : Lookup) where
   -- a refusal or a Nack that leaves all as it was
   pub as-left : (m : state.Settings → Core → CoreResult) {r : Outcome} {a : Answer} {d : Replica} {x : Answer} → r ≡ leaving d seen a → a ≡ x
       → ((room : ℕ) (b : List ℕ) (ps : List Place) (pending : List (ℕ × ℕ)) → record { core = At d ps pending; action = leave; answer = answerOf b x } ≡ m (settingsOf s room) (At c ps pending))

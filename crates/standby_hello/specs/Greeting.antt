@@ -8,7 +8,7 @@ use Rattle.model_frame.specs.FrameKind
 use Rattle.model_frame.specs.Parse.{isEmpty}
 use Rattle.model_session.specs.Session.{top}
 use Rattle.frame.specs.declared.Epoch.{Epoch}
-use Rattle.standby_row.specs.declared.Seen.{Seen}
+use Rattle.standby_row.specs.declared.Lookup.{Lookup}
 use Rattle.model_standby.specs.Store.{Place}
 use Rattle.model_standby.specs.State as state
 use Rattle.model_standby.specs.Core.{Core, CoreResult, coreHello, coreChecked}
@@ -30,7 +30,7 @@ abbrev pub isQuiet : Answer → Bool
 isQuiet a = not (eqb (a .refusal) 0) || eqb (a .kind) FrameKind.nack
 
 -- equal to the definition m, whatever the places, the pending commits and the hold areas
-pub record Replies (c : Replica) (s : Settings) (seen : Seen) (m : state.Settings → Core → CoreResult) (r : Outcome) : Type 0 where
+pub record Replies (c : Replica) (s : Settings) (seen : Lookup) (m : state.Settings → Core → CoreResult) (r : Outcome) : Type 0 where
   pub is : (version room : ℕ) (holds b : List ℕ) (ps : List Place) (pending : List (ℕ × ℕ))
       → record {
         core = record { counters = countersOf (r .replica); places = ps; pending = cond (r .clears) [] pending };
@@ -42,8 +42,8 @@ pub record Replies (c : Replica) (s : Settings) (seen : Seen) (m : state.Setting
   pub quiet : isQuiet (r .answer) ≡ true → r .clears ≡ false
   pub stays : r .stores ≡ false
 
-abbrev pub HelloIs : Replica → Settings → Seen → ℕ → ℕ → Bool → Outcome → Type 0
+abbrev pub HelloIs : Replica → Settings → Lookup → ℕ → ℕ → Bool → Outcome → Type 0
 HelloIs c s seen v e none r = (kinds : List ℕ) → isEmpty kinds ≡ none → Replies c s seen (λ L k. coreHello L k v e kinds) r
 
-abbrev pub CheckedIs : Replica → Settings → Seen → ℕ → ℕ → ℕ → Outcome → Type 0
+abbrev pub CheckedIs : Replica → Settings → Lookup → ℕ → ℕ → ℕ → Outcome → Type 0
 CheckedIs c s seen h e i r = Replies c s seen (λ L k. coreChecked L k h e i) r

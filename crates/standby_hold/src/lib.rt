@@ -43,22 +43,25 @@ fn raised(sum: u64, more: u64) -> u64
 }
 
 // Whether nothing is held and no Reset stands in front.
-fn lacks_reset(p: Protocol, run: &[u8], used: usize) -> bool
-    ensures { λ r. ⌜ r ≡ (eqb used 0 && not (startsWithReset (heldRun (p .version) (now (run .entry))))) ⌝ }
+fn lacks_reset(protocol: Protocol, run: &[u8], used: usize) -> bool
+    ensures { λ r. ⌜ r ≡ (eqb used 0 && not (startsWithReset (heldRun (protocol .version) (now (run .entry))))) ⌝ }
 {
-    (used == 0) & !standby_changes::starts_with_reset(p, run)
+    (used == 0) & !standby_changes::starts_with_reset(protocol, run)
 }
 
 // Writes a run of changes after those held in the first `len` bytes of the area, whose messages' byte sum is given.
-pub fn hold(p: Protocol, run: &[u8], area: &mut [u8], len: usize, sum: u64) -> Held
+pub fn hold(protocol: Protocol, run: &[u8], area: &mut [u8], len: usize, sum: u64) -> Held
     requires { ⌜ len ≤ length (now area) ⌝ }
-    requires { ⌜ TakesAll (p .version) (now run) ⌝ }
-    ensures { λ r. ⌜ HoldIs (p .version) (now (run .entry)) (now (area .entry)) len sum (now (area .exit)) r ⌝ }
+    requires { ⌜ TakesAll (protocol .version) (now run) ⌝ }
+    ensures { λ r. ⌜ HoldIs (protocol .version) (now (run .entry)) (now (area .entry)) len sum (now (area .exit)) r ⌝ }
 {
-    let used = standby_changes::run_length(p, &area[0..len]);
-    let sum = raised(counted(used, sum), standby_changes::message_bytes(p, run));
+    let used = standby_changes::run_length(protocol, &area[0..len]);
+    let sum = raised(
+        counted(used, sum),
+        standby_changes::message_bytes(protocol, run),
+    );
     let end = used + run.len();
-    if lacks_reset(p, run, used) {
+    if lacks_reset(protocol, run, used) {
         return Held {
             refusal: NO_RESET,
             used: end,

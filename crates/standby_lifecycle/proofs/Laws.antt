@@ -7,7 +7,7 @@ use native.Mathlib.Omega.{arith}
 use lib.ListN.{length, getD, set, length-set}
 use lib.Dec.{eqb, ltb}
 use borrow.Author.Tests.{eq-eqb, ne-eqb}
-use Rattle.standby_row.specs.declared.Seen.{Seen}
+use Rattle.standby_row.specs.declared.Lookup.{Lookup}
 use Rattle.store_areas.specs.declared.Shape.{Shape}
 use Rattle.store_areas.specs.Areas.{wordsAt, bytesAt, allowed, Rules}
 use Rattle.store_areas.proofs.Ruling.{rules-of}
@@ -46,10 +46,10 @@ keeps-all t w e = sym (ap (λ (x : Bool). cond x (set w 1 0) w) e)
 pub still-kept : (s : Shape) (w b : List ℕ) {w1 : List ℕ} → Rules s w b → w1 ≡ set w 1 0 → Rules s w1 b
 still-kept s w b r first = subst (λ (x : List ℕ). Rules s x b) (sym first) (clear-rules s w b r)
 
-pub promoted-is : (s : Settings) (c : Replica) (seen : Seen) (w b : List ℕ) → Rules (s .shape) w b → {w1 w' b' : List ℕ} {r : Outcome} {d : Replica} {a : Answer} → w1 ≡ set w 1 0 → TakenOver (s .shape) (s .lag) w1 w' b b'
+pub promoted-is : (s : Settings) (c : Replica) (seen : Lookup) (w b : List ℕ) → Rules (s .shape) w b → {w1 w' b' : List ℕ} {r : Outcome} {d : Replica} {a : Answer} → w1 ≡ set w 1 0 → TakenOver (s .shape) (s .«max_lag») w1 w' b b'
     → d ≡ promotedFrom c → a ≡ isDone → r ≡ clearing d seen a → Promoted s c seen w w' b b' r
 promoted-is s c seen w b r {w1} {w'} {b'} first t₁ e₀ e₁ e₂ =
-    let t : TakenOver (s .shape) (s .lag) (set w 1 0) w' b b' = subst (λ (x : List ℕ). TakenOver (s .shape) (s .lag) x w' b b') first t₁ in
+    let t : TakenOver (s .shape) (s .«max_lag») (set w 1 0) w' b b' = subst (λ (x : List ℕ). TakenOver (s .shape) (s .«max_lag») x w' b b') first t₁ in
     let kept : getD (set w 1 0) 0 0 ≡ getD w 0 0 = used-kept (s .shape) w (set w 1 0) b (clear-only w) in
     let still : Rules (s .shape) (set w 1 0) b = clear-rules (s .shape) w b r in
     let long : 66 ≤ length w = omega (arith, r .room .words-long) in
@@ -57,7 +57,7 @@ promoted-is s c seen w b r {w1} {w'} {b'} first t₁ e₀ e₁ e₂ =
     let rules : Rules (s .shape) w' b' = rules-front (s .shape) (set w 1 0) w' b b' (t .words .front) (t .words .same-length) (t .bytes .same-length) still in
     record {
       is = e₂ ∙ (λ j. clearing (e₀ j) seen (e₁ j));
-      places = t .places ∙ ap (onPlaces (takenOver (s .lag))) (places-kept (s .shape) w (set w 1 0) b (clear-only w));
+      places = t .places ∙ ap (onPlaces (takenOver (s .«max_lag»))) (places-kept (s .shape) w (set w 1 0) b (clear-only w));
       pending = pending-kept (set w 1 0) w' long' (still .pending) (t .words .front) ∙ cleared w long;
       rules = rules;
       used = word-same 0 (set w 1 0) w' (t .words .front) (omega arith) ∙ kept;
@@ -67,7 +67,7 @@ promoted-is s c seen w b r {w1} {w'} {b'} first t₁ e₀ e₁ e₂ =
 
 -- ---- each call
 
-module _ (s : Settings) (c : Replica) (seen : Seen) (w b h : List ℕ) where
+module _ (s : Settings) (c : Replica) (seen : Lookup) (w b h : List ℕ) where
   abbrev Sound : Bool
   Sound = seenAllowed (s .shape) seen w b h
 

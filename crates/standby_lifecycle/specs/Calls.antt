@@ -4,7 +4,7 @@ use mathlib.Core.Path.{_≡_}
 use mathlib.Core.Bool.{true}
 use mathlib.Core.List.{List, []}
 use lib.ListN.{getD, set}
-use Rattle.standby_row.specs.declared.Seen.{Seen}
+use Rattle.standby_row.specs.declared.Lookup.{Lookup}
 use Rattle.store_place.specs.Only.{Only}
 use Rattle.store_areas.specs.StoreWord
 use Rattle.store_areas.specs.Areas.{wordsAt, bytesAt, Rules, placesOf}
@@ -19,9 +19,9 @@ use Rattle.standby_state.specs.Outcomes.{clearing}
 abbrev pub promotedFrom : Replica → Replica
 promotedFrom c = record { epoch = c .epoch; connections = c .connections; promoted = true; checked = c .checked }
 
-pub record Promoted (s : Settings) (c : Replica) (seen : Seen) (w w' b b' : List ℕ) (r : Outcome) : Type 0 where
+pub record Promoted (s : Settings) (c : Replica) (seen : Lookup) (w w' b b' : List ℕ) (r : Outcome) : Type 0 where
   pub is : r ≡ clearing (promotedFrom c) seen isDone
-  pub places : placesOf (s .shape) w' b' ≡ onPlaces (takenOver (s .lag)) (placesOf (s .shape) w b)
+  pub places : placesOf (s .shape) w' b' ≡ onPlaces (takenOver (s .«max_lag»)) (placesOf (s .shape) w b)
   pub pending : pendingOf w' ≡ []
   pub rules : Rules (s .shape) w' b'
   pub used : getD w' StoreWord.used 0 ≡ getD w StoreWord.used 0

@@ -12,7 +12,7 @@ use Rattle.model_frame.specs.Writing.{sizes}
 use Rattle.model_session.specs.Session.{fits}
 use Rattle.frame_op.specs.Answers.{heldRun}
 use Rattle.frame.specs.declared.CommitNumber.{CommitNumber}
-use Rattle.standby_row.specs.declared.Handle.{Handle}
+use Rattle.standby_row.specs.declared.Bound.{Bound as BoundRecord}
 use Rattle.store_areas.specs.declared.Shape.{Shape}
 use Rattle.store_areas.specs.Areas.{Rules, placeAt, placesOf}
 use Rattle.store_areas.proofs.Lifting.{session-is}
@@ -56,14 +56,14 @@ module _ (s : Shape) (h : ℕ) (cs : List Change) (w w' b b' : List ℕ) (yes : 
 
 -- ---- Commit
 
-module _ (version : ℕ) (s : Shape) (h : Handle) (n : CommitNumber) (cs : List Change) (w b area : List ℕ) {len : ℕ} (l : len ≡ sizes (heldRun version (take (h .«held_len») area))) where
+module _ (version : ℕ) (s : Shape) (h : BoundRecord) (n : CommitNumber) (cs : List Change) (w b area : List ℕ) {len : ℕ} (l : len ≡ sizes (heldRun version (take (h .«held_len») area))) where
   abbrev H : List Change
   H = heldRun version (take (h .«held_len») area)
 
   none : isEmpty H ≡ eqb len 0
   none = empty-size H ∙ ap (λ (k : ℕ). eqb k 0) (sym l)
 
-  pub commit-held : (len ≡ 0 → ⊥) → Rules s w b → PartIs version s h (n .0) commit cs w w b b area area (record { refusal = 15; stores = false; slot = h; nack = false })
+  pub commit-held : (len ≡ 0 → ⊥) → Rules s w b → PartIs version s h (n .0) commit cs w w b b area area (record { refusal = 15; stores = false; bound = h; nack = false })
   unfolding corePart
   commit-held some r = record {
     is = λ c incarnation lag.
@@ -84,13 +84,13 @@ module _ (version : ℕ) (s : Shape) (h : Handle) (n : CommitNumber) (cs : List 
     past c incarnation lag =
         ap (λ (t : Bool). cond (not t) (coreRefuse (coreAt c s w b) leave 15) (coreSettle (settingsFor s (length area) incarnation lag) (coreAt c s w b) (h .handle) (boundOf version h area) (n .0) cs)) (none ∙ eq-eqb len 0 empty)
 
-    pub commit-made : {w' b' : List ℕ} {yes : Bool} {slot : Handle} → Settles s (h .place) (h .handle) cs w w' b b' yes → yes ≡ true → slot ≡ numberedTo h n
-        → PartIs version s h (n .0) commit cs w w' b b' area area (record { refusal = 0; stores = true; slot = slot; nack = false })
+    pub commit-made : {w' b' : List ℕ} {yes : Bool} {slot : BoundRecord} → Settles s (h .place) (h .handle) cs w w' b b' yes → yes ≡ true → slot ≡ numberedTo h n
+        → PartIs version s h (n .0) commit cs w w' b b' area area (record { refusal = 0; stores = true; bound = slot; nack = false })
     commit-made {w'} {b'} settles y e =
-        subst (λ (k : Handle). PartIs version s h (n .0) commit cs w w' b b' area area (record { refusal = 0; stores = true; slot = k; nack = false })) (sym e)
+        subst (λ (k : BoundRecord). PartIs version s h (n .0) commit cs w w' b b' area area (record { refusal = 0; stores = true; bound = k; nack = false })) (sym e)
         (made (subst (Settles s (h .place) (h .handle) cs w w' b b') y settles))
       where
-        made : Settles s (h .place) (h .handle) cs w w' b b' true → PartIs version s h (n .0) commit cs w w' b b' area area (record { refusal = 0; stores = true; slot = numberedTo h n; nack = false })
+        made : Settles s (h .place) (h .handle) cs w w' b b' true → PartIs version s h (n .0) commit cs w w' b b' area area (record { refusal = 0; stores = true; bound = numberedTo h n; nack = false })
         made g = record {
           is = λ c incarnation lag. sym (past c incarnation lag ∙ settle-is s (h .handle) cs w w' b b' true (boundOf version h area) (n .0) used g c (length area) incarnation lag);
           rules = g .rules;
@@ -101,10 +101,10 @@ module _ (version : ℕ) (s : Shape) (h : Handle) (n : CommitNumber) (cs : List 
         }
 
     pub commit-off : {w' b' : List ℕ} {yes : Bool} → Settles s (h .place) (h .handle) cs w w' b b' yes → yes ≡ false
-        → PartIs version s h (n .0) commit cs w w' b b' area area (record { refusal = 0; stores = true; slot = h; nack = true })
+        → PartIs version s h (n .0) commit cs w w' b b' area area (record { refusal = 0; stores = true; bound = h; nack = true })
     commit-off {w'} {b'} settles y = off (subst (Settles s (h .place) (h .handle) cs w w' b b') y settles)
       where
-        off : Settles s (h .place) (h .handle) cs w w' b b' false → PartIs version s h (n .0) commit cs w w' b b' area area (record { refusal = 0; stores = true; slot = h; nack = true })
+        off : Settles s (h .place) (h .handle) cs w w' b b' false → PartIs version s h (n .0) commit cs w w' b b' area area (record { refusal = 0; stores = true; bound = h; nack = true })
         off g = record {
           is = λ c incarnation lag. sym (past c incarnation lag ∙ settle-is s (h .handle) cs w w' b b' false (boundOf version h area) (n .0) used g c (length area) incarnation lag);
           rules = g .rules;

@@ -18,7 +18,7 @@ use Rattle.frame_op.specs.Answers.{heldRun}
 use Rattle.standby_changes.specs.Held.{TakesAll}
 use Rattle.standby_changes.proofs.Held.{held-written, held-in, held-none}
 use Rattle.frame.specs.declared.CommitNumber.{CommitNumber}
-use Rattle.standby_row.specs.declared.Handle.{Handle}
+use Rattle.standby_row.specs.declared.Bound.{Bound}
 use Rattle.store_areas.specs.declared.Shape.{Shape}
 use Rattle.store_areas.specs.Areas.{Rules}
 use Rattle.standby_commit.specs.Settling.{Settles}
@@ -68,7 +68,7 @@ other k y go false true c n m = absurd (m refl)
 other k y go false false true n m = refl
 other k y go false false false n m = absurd (n refl)
 
-module _ (version : ℕ) (h : Handle) (n : CommitNumber) (run area : List ℕ) (s : Shape) (w b : List ℕ) (c : Counters) (incarnation lag : ℕ) (go : CoreResult)
+module _ (version : ℕ) (h : Bound) (n : CommitNumber) (run area : List ℕ) (s : Shape) (w b : List ℕ) (c : Counters) (incarnation lag : ℕ) (go : CoreResult)
     {area' : List ℕ} {r : Held} (g : HoldIs version run area (h .«held_len») (h .«held_bytes») area' r) where
   abbrev L : Settings
   L = settingsFor s (length area) incarnation lag
@@ -111,18 +111,18 @@ module _ (version : ℕ) (h : Handle) (n : CommitNumber) (run area : List ℕ) (
 -- ---- the refusals, of a Whole and of a LastWhole
 
 -- the part's definition goes on with `go` where nothing is refused
-abbrev pub GoesOn : ℕ → Handle → ℕ → Part → List ℕ → List ℕ → Shape → List ℕ → List ℕ → (Counters → ℕ → ℕ → CoreResult) → Type 0
+abbrev pub GoesOn : ℕ → Bound → ℕ → Part → List ℕ → List ℕ → Shape → List ℕ → List ℕ → (Counters → ℕ → ℕ → CoreResult) → Type 0
 GoesOn version h n part run area s w b go = (c : Counters) (incarnation lag : ℕ)
     → corePart (settingsFor s (length area) incarnation lag) (coreAt c s w b) (h .handle) (boundOf version h area) n part (heldRun version run)
     ≡ coreHold (settingsFor s (length area) incarnation lag) (coreAt c s w b) (h .handle) (boundOf version h area) (heldRun version run) (go c incarnation lag)
 
-module _ (version : ℕ) (h : Handle) (n : CommitNumber) (run area : List ℕ) (s : Shape) (w b : List ℕ) (rules : Rules s w b) (part : Part) (go : Counters → ℕ → ℕ → CoreResult) (on : GoesOn version h (n .0) part run area s w b go)
+module _ (version : ℕ) (h : Bound) (n : CommitNumber) (run area : List ℕ) (s : Shape) (w b : List ℕ) (rules : Rules s w b) (part : Part) (go : Counters → ℕ → ℕ → CoreResult) (on : GoesOn version h (n .0) part run area s w b go)
     {area' : List ℕ} {r : Held} (g : HoldIs version run area (h .«held_len») (h .«held_bytes») area' r) where
   abbrev J : List Change
   J = heldRun version (take (h .«held_len») area)
 
-  pub sum-kept : {slot : Handle} → r .refusal ≡ 17 → slot ≡ summedTo h (r .sum)
-      → PartIs version s h (n .0) part (heldRun version run) w w b b area area' (record { refusal = r .refusal; stores = true; slot = slot; nack = false })
+  pub sum-kept : {slot : Bound} → r .refusal ≡ 17 → slot ≡ summedTo h (r .sum)
+      → PartIs version s h (n .0) part (heldRun version run) w w b b area area' (record { refusal = r .refusal; stores = true; bound = slot; nack = false })
   sum-kept {slot} e is = record {
     is = λ c incarnation lag.
         (λ j. record {
@@ -139,15 +139,15 @@ module _ (version : ℕ) (h : Handle) (n : CommitNumber) (run area : List ℕ) (
     rules = rules;
     touched = touched-none s (h .place) w b;
     quiet = λ _. (refl, refl);
-    slot-place = ap (λ (x : Handle). x .place) is;
-    slot-len = λ l. subst (λ (x : Handle). x .«held_len» ≤ length area) (sym is) l;
+    slot-place = ap (λ (x : Bound). x .place) is;
+    slot-len = λ l. subst (λ (x : Bound). x .«held_len» ≤ length area) (sym is) l;
   }
     where
       kept : area' ≡ area
       kept = g .written ∙ ap (λ (t : Bool). cond t (write area (sizes J) run) area) (ne-eqb (r .refusal) 0 (λ z. eqb-false 17 0 refl (sym e ∙ z)))
 
   pub all-refused : (r .refusal ≡ 17 → ⊥) → (r .refusal ≡ 0 → ⊥)
-      → PartIs version s h (n .0) part (heldRun version run) w w b b area area' (record { refusal = r .refusal; stores = false; slot = h; nack = false })
+      → PartIs version s h (n .0) part (heldRun version run) w w b b area area' (record { refusal = r .refusal; stores = false; bound = h; nack = false })
   all-refused m z = record {
     is = λ c incarnation lag.
         ap (λ (t : Bool). record { core = coreAt c s w b; action = leave; answer = cond t (reply (ack (h .handle) (n .0))) (refused (r .refusal)) }) (ne-eqb (r .refusal) 0 z)
@@ -161,7 +161,7 @@ module _ (version : ℕ) (h : Handle) (n : CommitNumber) (run area : List ℕ) (
 
 -- ---- Whole
 
-module _ (version : ℕ) (h : Handle) (n : CommitNumber) (run area : List ℕ) (known : (i : ℕ) → getD area i 0 < 256) (known' : (i : ℕ) → getD run i 0 < 256) (len : h .«held_len» ≤ length area) (all : TakesAll version run)
+module _ (version : ℕ) (h : Bound) (n : CommitNumber) (run area : List ℕ) (known : (i : ℕ) → getD area i 0 < 256) (known' : (i : ℕ) → getD run i 0 < 256) (len : h .«held_len» ≤ length area) (all : TakesAll version run)
     {area' : List ℕ} {r : Held} (g : HoldIs version run area (h .«held_len») (h .«held_bytes») area' r) where
   abbrev K : List Change
   K = heldRun version (take (h .«held_len») area)
@@ -183,8 +183,8 @@ module _ (version : ℕ) (h : Handle) (n : CommitNumber) (run area : List ℕ) (
       ap (λ (m : ℕ). heldRun version (take m area')) (g .ends) ∙ ap (λ (l : List ℕ). heldRun version (take (sizes K + length run) l)) wrote
       ∙ held-written version area (sizes K) run ha hr room (ap sizes front) ∙ ap (λ (l : List Change). l ++ heldRun version run) front
 
-  pub whole-held : {slot : Handle} → r .refusal ≡ 0 → slot ≡ holdingTo h n (r .used) (r .sum) → (s : Shape) (w b : List ℕ) → Rules s w b
-      → PartIs version s h (n .0) whole (heldRun version run) w w b b area area' (record { refusal = r .refusal; stores = true; slot = slot; nack = false })
+  pub whole-held : {slot : Bound} → r .refusal ≡ 0 → slot ≡ holdingTo h n (r .used) (r .sum) → (s : Shape) (w b : List ℕ) → Rules s w b
+      → PartIs version s h (n .0) whole (heldRun version run) w w b b area area' (record { refusal = r .refusal; stores = true; bound = slot; nack = false })
   unfolding corePart
   whole-held {slot} e is s w b rules = record {
     is = λ c incarnation lag.
@@ -202,8 +202,8 @@ module _ (version : ℕ) (h : Handle) (n : CommitNumber) (run area : List ℕ) (
     rules = rules;
     touched = touched-none s (h .place) w b;
     quiet = λ t. absurd (true≢false (sym t ∙ ap (λ (m : ℕ). not (eqb m 0) || false) e));
-    slot-place = ap (λ (x : Handle). x .place) is;
-    slot-len = λ _. subst (λ (x : Handle). x .«held_len» ≤ length area) (sym is) (subst (λ (k : ℕ). k ≤ length area) (sym (g .ends)) (within-area e));
+    slot-place = ap (λ (x : Bound). x .place) is;
+    slot-len = λ _. subst (λ (x : Bound). x .«held_len» ≤ length area) (sym is) (subst (λ (k : ℕ). k ≤ length area) (sym (g .ends)) (within-area e));
   }
 
   pub whole-on : (s : Shape) (w b : List ℕ) → GoesOn version h (n .0) whole run area s w b (λ c _ _. coreSays (coreAt c s w b) (store (h .handle) (holding (boundOf version h area) (n .0) (heldRun version run))) (ack (h .handle) (n .0)))
@@ -238,8 +238,8 @@ module _ (version : ℕ) (h : Handle) (n : CommitNumber) (run area : List ℕ) (
         last-on s w b c incarnation lag ∙ hold-goes version h n run area s w b c incarnation lag (Settle s w b c incarnation lag) g e
         ∙ settle-is s (h .handle) (K ++ heldRun version run) w w' b b' yes (noneHeld (boundOf version h area)) (n .0) used settles c (length area) incarnation lag
 
-    pub last-made : {slot : Handle} → yes ≡ true → slot ≡ holdingTo h n 0 0
-        → PartIs version s h (n .0) lastWhole (heldRun version run) w w' b b' area area' (record { refusal = r .refusal; stores = true; slot = slot; nack = false })
+    pub last-made : {slot : Bound} → yes ≡ true → slot ≡ holdingTo h n 0 0
+        → PartIs version s h (n .0) lastWhole (heldRun version run) w w' b b' area area' (record { refusal = r .refusal; stores = true; bound = slot; nack = false })
     last-made y is = record {
       is = λ c incarnation lag.
           (λ j. record {
@@ -261,12 +261,12 @@ module _ (version : ℕ) (h : Handle) (n : CommitNumber) (run area : List ℕ) (
       rules = t .rules;
       touched = t .touched;
       quiet = λ q. absurd (true≢false (sym q ∙ ap (λ (m : ℕ). not (eqb m 0) || false) e));
-      slot-place = ap (λ (x : Handle). x .place) is;
-      slot-len = λ _. subst (λ (x : Handle). x .«held_len» ≤ length area) (sym is) (omega arith);
+      slot-place = ap (λ (x : Bound). x .place) is;
+      slot-len = λ _. subst (λ (x : Bound). x .«held_len» ≤ length area) (sym is) (omega arith);
     }
 
-    pub last-diverged : {slot : Handle} → yes ≡ false → slot ≡ holdingTo h (h .«commit_no») 0 0
-        → PartIs version s h (n .0) lastWhole (heldRun version run) w w' b b' area area' (record { refusal = r .refusal; stores = true; slot = slot; nack = true })
+    pub last-diverged : {slot : Bound} → yes ≡ false → slot ≡ holdingTo h (h .«commit_no») 0 0
+        → PartIs version s h (n .0) lastWhole (heldRun version run) w w' b b' area area' (record { refusal = r .refusal; stores = true; bound = slot; nack = true })
     last-diverged y is = record {
       is = λ c incarnation lag.
           (λ j. record {
@@ -288,6 +288,6 @@ module _ (version : ℕ) (h : Handle) (n : CommitNumber) (run area : List ℕ) (
       rules = t .rules;
       touched = t .touched;
       quiet = λ _. t .unless y;
-      slot-place = ap (λ (x : Handle). x .place) is;
-      slot-len = λ _. subst (λ (x : Handle). x .«held_len» ≤ length area) (sym is) (omega arith);
+      slot-place = ap (λ (x : Bound). x .place) is;
+      slot-len = λ _. subst (λ (x : Bound). x .«held_len» ≤ length area) (sym is) (omega arith);
     }

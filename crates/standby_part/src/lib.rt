@@ -13,172 +13,195 @@ use base_refusals::CHANGES_HELD;
 use base_refusals::TOO_MANY_BYTES;
 use frame::CommitNumber;
 use frame_stamp::Protocol;
-use standby_row::Handle;
+use standby_row::Bound;
 use store_areas::Shape;
 
-// 0 or the refusal; whether the handle's record is to be stored, and what it becomes; whether the answer is a Nack.
+// What a Commit, Whole or LastWhole gives: 0 or the refusal, whether the handle's record changes and to what, and whether
+// the answer is Nack Diverged.
 #[repr(C)]
-pub struct Done {
+pub struct PartResult {
     pub refusal: u8,
     pub stores: bool,
-    pub slot: Handle,
+    pub bound: Bound,
     pub nack: bool,
 }
 
 // The record with another commit number.
-fn numbered(h: Handle, n: CommitNumber) -> Handle
-    ensures { λ r. ⌜ r ≡ numberedTo h n ⌝ }
+fn with_commit_no(bound: Bound, number: CommitNumber) -> Bound
+    ensures { λ r. ⌜ r ≡ numberedTo bound number ⌝ }
 {
-    let mut g = h;
-    g.commit_no = n;
+    let mut g = bound;
+    g.commit_no = number;
     g
 }
 
 // A Commit: 15 while changes are held.
 pub fn on_commit(
-    p: Protocol,
+    protocol: Protocol,
     run: &[u8],
     words: &mut [u64],
     bytes: &mut [u8],
     area: &[u8],
     shape: Shape,
-    h: Handle,
-    n: CommitNumber,
-) -> Done
+    bound: Bound,
+    number: CommitNumber,
+) -> PartResult
     requires { ⌜ Rules shape (now words) (now bytes) ⌝ }
-    requires { ⌜ h .place < getD (now words) 0 0 ⌝ }
+    requires { ⌜ bound .place < getD (now words) 0 0 ⌝ }
     requires { ⌜ countOf (now words) < 64 ⌝ }
-    requires { ⌜ h .«held_len» ≤ length (now area) ⌝ }
-    ensures { λ r. ⌜ PartIs (p .version) shape h (n .0) commit (heldRun (p .version) (now (run .entry))) (now (words .entry)) (now (words .exit)) (now (bytes .entry)) (now (bytes .exit)) (now (area .entry)) (now (area .entry)) r ⌝ }
+    requires { ⌜ bound .«held_len» ≤ length (now area) ⌝ }
+    ensures { λ r. ⌜ PartIs (protocol .version) shape bound (number .0) commit (heldRun (protocol .version) (now (run .entry))) (now (words .entry)) (now (words .exit)) (now (bytes .entry)) (now (bytes .exit)) (now (area .entry)) (now (area .entry)) r ⌝ }
 {
-    let len = h.held_len;
-    if standby_changes::run_length(p, &area[0..len]) != 0 {
-        return Done {
+    let len = bound.held_len;
+    if standby_changes::run_length(protocol, &area[0..len]) != 0 {
+        return PartResult {
             refusal: CHANGES_HELD,
             stores: false,
-            slot: h,
+            bound: bound,
             nack: false,
         };
     }
-    if standby_commit::settle(p, run, words, bytes, shape, h.place, h.handle) {
-        return Done {
+    if standby_commit::commit_changes(
+        protocol,
+        run,
+        words,
+        bytes,
+        shape,
+        bound.place,
+        bound.handle,
+    ) {
+        return PartResult {
             refusal: 0,
             stores: true,
-            slot: numbered(h, n),
+            bound: with_commit_no(bound, number),
             nack: false,
         };
     }
-    Done {
+    PartResult {
         refusal: 0,
         stores: true,
-        slot: h,
+        bound: bound,
         nack: true,
     }
 }
 
 // The record with another byte sum.
-fn summed(h: Handle, sum: u64) -> Handle
-    ensures { λ r. ⌜ r ≡ summedTo h sum ⌝ }
+fn with_held_bytes(bound: Bound, sum: u64) -> Bound
+    ensures { λ r. ⌜ r ≡ summedTo bound sum ⌝ }
 {
-    let mut g = h;
+    let mut g = bound;
     g.held_bytes = sum;
     g
 }
 
 // The record with another commit number and other held changes.
-fn holding_to(h: Handle, n: CommitNumber, len: usize, sum: u64) -> Handle
-    ensures { λ r. ⌜ r ≡ holdingTo h n len sum ⌝ }
+fn with_held(bound: Bound, number: CommitNumber, len: usize, sum: u64) -> Bound
+    ensures { λ r. ⌜ r ≡ holdingTo bound number len sum ⌝ }
 {
-    let mut g = h;
-    g.commit_no = n;
+    let mut g = bound;
+    g.commit_no = number;
     g.held_len = len;
     g.held_bytes = sum;
     g
 }
 
 // A Whole: its changes are held after those before them.
-pub fn on_whole(p: Protocol, run: &[u8], area: &mut [u8], h: Handle, n: CommitNumber) -> Done
-    requires { ⌜ h .«held_len» ≤ length (now area) ⌝ }
-    requires { ⌜ TakesAll (p .version) (now run) ⌝ }
-    ensures is { λ r. ⌜ WholeIs (p .version) h (n .0) (heldRun (p .version) (now (run .entry))) (now (area .entry)) (now (area .exit)) r ⌝ }
-    ensures area { λ r. ⌜ AreaIs (p .version) h (now (run .entry)) (now (area .entry)) (now (area .exit)) (r .refusal) ⌝ }
+pub fn on_whole(
+    protocol: Protocol,
+    run: &[u8],
+    area: &mut [u8],
+    bound: Bound,
+    number: CommitNumber,
+) -> PartResult
+    requires { ⌜ bound .«held_len» ≤ length (now area) ⌝ }
+    requires { ⌜ TakesAll (protocol .version) (now run) ⌝ }
+    ensures is { λ r. ⌜ WholeIs (protocol .version) bound (number .0) (heldRun (protocol .version) (now (run .entry))) (now (area .entry)) (now (area .exit)) r ⌝ }
+    ensures area { λ r. ⌜ AreaIs (protocol .version) bound (now (run .entry)) (now (area .entry)) (now (area .exit)) (r .refusal) ⌝ }
 {
-    let g = standby_hold::hold(p, run, area, h.held_len, h.held_bytes);
+    let g = standby_hold::hold(protocol, run, area, bound.held_len, bound.held_bytes);
     let refusal = g.refusal;
     if refusal == TOO_MANY_BYTES {
-        return Done {
+        return PartResult {
             refusal,
             stores: true,
-            slot: summed(h, g.sum),
+            bound: with_held_bytes(bound, g.sum),
             nack: false,
         };
     }
     if refusal != 0 {
-        return Done {
+        return PartResult {
             refusal,
             stores: false,
-            slot: h,
+            bound: bound,
             nack: false,
         };
     }
-    Done {
+    PartResult {
         refusal,
         stores: true,
-        slot: holding_to(h, n, g.used, g.sum),
+        bound: with_held(bound, number, g.used, g.sum),
         nack: false,
     }
 }
 
 // A LastWhole: its changes are held too, and all of them are settled at once.
 pub fn on_last_whole(
-    p: Protocol,
+    protocol: Protocol,
     run: &[u8],
     words: &mut [u64],
     bytes: &mut [u8],
     area: &mut [u8],
     shape: Shape,
-    h: Handle,
-    n: CommitNumber,
-) -> Done
+    bound: Bound,
+    number: CommitNumber,
+) -> PartResult
     requires { ⌜ Rules shape (now words) (now bytes) ⌝ }
-    requires { ⌜ h .place < getD (now words) 0 0 ⌝ }
+    requires { ⌜ bound .place < getD (now words) 0 0 ⌝ }
     requires { ⌜ countOf (now words) < 64 ⌝ }
-    requires { ⌜ h .«held_len» ≤ length (now area) ⌝ }
-    requires { ⌜ TakesAll (p .version) (now run) ⌝ }
-    ensures is { λ r. ⌜ PartIs (p .version) shape h (n .0) lastWhole (heldRun (p .version) (now (run .entry))) (now (words .entry)) (now (words .exit)) (now (bytes .entry)) (now (bytes .exit)) (now (area .entry)) (now (area .exit)) r ⌝ }
-    ensures area { λ r. ⌜ AreaIs (p .version) h (now (run .entry)) (now (area .entry)) (now (area .exit)) (r .refusal) ⌝ }
+    requires { ⌜ bound .«held_len» ≤ length (now area) ⌝ }
+    requires { ⌜ TakesAll (protocol .version) (now run) ⌝ }
+    ensures is { λ r. ⌜ PartIs (protocol .version) shape bound (number .0) lastWhole (heldRun (protocol .version) (now (run .entry))) (now (words .entry)) (now (words .exit)) (now (bytes .entry)) (now (bytes .exit)) (now (area .entry)) (now (area .exit)) r ⌝ }
+    ensures area { λ r. ⌜ AreaIs (protocol .version) bound (now (run .entry)) (now (area .entry)) (now (area .exit)) (r .refusal) ⌝ }
 {
-    let all = standby_hold::hold(p, run, area, h.held_len, h.held_bytes);
+    let all = standby_hold::hold(protocol, run, area, bound.held_len, bound.held_bytes);
     let refusal = all.refusal;
     if refusal == TOO_MANY_BYTES {
-        return Done {
+        return PartResult {
             refusal,
             stores: true,
-            slot: summed(h, all.sum),
+            bound: with_held_bytes(bound, all.sum),
             nack: false,
         };
     }
     if refusal != 0 {
-        return Done {
+        return PartResult {
             refusal,
             stores: false,
-            slot: h,
+            bound: bound,
             nack: false,
         };
     }
     let used = all.used;
-    if standby_commit::settle(p, &area[0..used], words, bytes, shape, h.place, h.handle) {
-        return Done {
+    if standby_commit::commit_changes(
+        protocol,
+        &area[0..used],
+        words,
+        bytes,
+        shape,
+        bound.place,
+        bound.handle,
+    ) {
+        return PartResult {
             refusal,
             stores: true,
-            slot: holding_to(h, n, 0, 0),
+            bound: with_held(bound, number, 0, 0),
             nack: false,
         };
     }
-    Done {
+    PartResult {
         refusal,
         stores: true,
-        slot: holding_to(h, h.commit_no, 0, 0),
+        bound: with_held(bound, bound.commit_no, 0, 0),
         nack: true,
     }
 }

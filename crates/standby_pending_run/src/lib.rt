@@ -13,28 +13,28 @@ use store_areas::Shape;
 use store_areas::word;
 
 // Marks the session at place i, which is in use.
-pub fn mark(words: &mut [u64], shape: Shape, i: usize)
+pub fn mark(words: &mut [u64], shape: Shape, place: usize)
     requires { ⌜ shape .messages ≤ 65536 ⌝ }
     requires { ⌜ 66 + shape .places * placeWords shape ≤ length (now words) ⌝ }
     requires { ⌜ getD (now words) 0 0 ≤ shape .places ⌝ }
-    requires { ⌜ i < getD (now words) 0 0 ⌝ }
-    ensures { λ _. ⌜ now (words .exit) ≡ set (now (words .entry)) (durableAt shape i) 1 ⌝ }
+    requires { ⌜ place < getD (now words) 0 0 ⌝ }
+    ensures { λ _. ⌜ now (words .exit) ≡ set (now (words .entry)) (durableAt shape place) 1 ⌝ }
 {
     let at = store_areas::COUNT_WORDS
-        + i * store_areas::place_words(shape)
+        + place * store_areas::place_words(shape)
         + store_place::word::DURABLE;
     words[at] = 1;
 }
 
 // Marks the session at place i, if that is in use.
-fn mark_used(words: &mut [u64], shape: Shape, i: u64)
+fn mark_used(words: &mut [u64], shape: Shape, place: u64)
     requires { ⌜ shape .messages ≤ 65536 ⌝ }
     requires { ⌜ 66 + shape .places * placeWords shape ≤ length (now words) ⌝ }
     requires { ⌜ getD (now words) 0 0 ≤ shape .places ⌝ }
-    ensures { λ _. ⌜ now (words .exit) ≡ markedAt shape (getD (now (words .entry)) 0 0) i (now (words .entry)) ⌝ }
+    ensures { λ _. ⌜ now (words .exit) ≡ markedAt shape (getD (now (words .entry)) 0 0) place (now (words .entry)) ⌝ }
 {
-    if i < words[word::USED] {
-        mark(words, shape, i as usize);
+    if place < words[word::USED] {
+        mark(words, shape, place as usize);
     }
 }
 

@@ -16,7 +16,7 @@ use Rattle.frame_fields.specs.declared.Summary.{Summary}
 use Rattle.frame_fields.specs.Answers.{summaryOf, flightOf}
 use Rattle.frame_writer.specs.Encoding.{summaryFits, frameIf, Encoded}
 use Rattle.frame_writer.specs.declared.Written.{Written}
-use Rattle.standby_state.specs.declared.Brief.{Brief}
+use Rattle.standby_state.specs.declared.BoundSummary.{BoundSummary}
 use Rattle.standby_state.specs.declared.Answer.{Answer}
 use Rattle.standby_state.specs.Answers.{reasonBy, frameBy}
 use Rattle.standby_reply.specs.Replies.{flightBy, CutTo, Shows}
@@ -48,7 +48,7 @@ module _ (b : List ℕ) (s : Span) where
 both : {x y : Bool} → x ≡ true → y ≡ true → (x && y) ≡ true
 both ex ey = rw (ex, ey) refl
 
-pub shows : (b : List ℕ) (m : Brief) {f : InFlight} {t u : Span} → flightOf f ≡ flightBy (m .«has_in_flight») (m .«in_flight») → CutTo b (m .«created_at») t → CutTo b (m .marks) u
+pub shows : (b : List ℕ) (m : BoundSummary) {f : InFlight} {t u : Span} → flightOf f ≡ flightBy (m .«has_in_flight») (m .«in_flight») → CutTo b (m .«created_at») t → CutTo b (m .marks) u
     → Shows b m
     (record { «next_outgoing» = m .«next_outgoing»; «next_incoming» = m .«next_incoming»; «in_flight» = f; «created_at» = t; marks = u; «last_outgoing» = m .«last_outgoing» })
 shows b m ef et eu =
@@ -78,7 +78,7 @@ module _ (b : List ℕ) (a : Answer) where
   pub by-nack : (a .kind ≡ 2 → ⊥) → (a .kind ≡ 5 → ⊥) → a .kind ≡ 6 → {r : Reason} → r ≡ reasonBy (a .reason) → some (nack (a .handle) r) ≡ some (frameBy b a)
   by-nack n n₁ e er = ap (λ (x : Reason). some (nack (a .handle) x)) er ∙ rw (ne-eqb (a .kind) 2 n, ne-eqb (a .kind) 5 n₁, eq-eqb (a .kind) 6 e) refl
 
-  pub by-bound : (a .kind ≡ 2 → ⊥) → (a .kind ≡ 5 → ⊥) → (a .kind ≡ 6 → ⊥) → {m : Summary} → Shows b (a .brief) m → frameIf (summaryFits b m) (bound (a .handle) (summaryOf b m)) ≡ some (frameBy b a)
+  pub by-bound : (a .kind ≡ 2 → ⊥) → (a .kind ≡ 5 → ⊥) → (a .kind ≡ 6 → ⊥) → {m : Summary} → Shows b (a .summary) m → frameIf (summaryFits b m) (bound (a .handle) (summaryOf b m)) ≡ some (frameBy b a)
   by-bound n n₁ n₂ s =
       (λ j. frameIf (s .fits j) (bound (a .handle) (s .same j)))
       ∙ rw (ne-eqb (a .kind) 2 n, ne-eqb (a .kind) 5 n₁, ne-eqb (a .kind) 6 n₂) refl

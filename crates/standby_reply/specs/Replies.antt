@@ -9,7 +9,7 @@ use Rattle.frame_reader.specs.Answers.{spanOf}
 use Rattle.frame_fields.specs.declared.Summary.{Summary}
 use Rattle.frame_fields.specs.Answers.{summaryOf}
 use Rattle.frame_writer.specs.Encoding.{spanFits, summaryFits}
-use Rattle.standby_state.specs.declared.Brief.{Brief}
+use Rattle.standby_state.specs.declared.BoundSummary.{BoundSummary}
 use Rattle.standby_state.specs.Answers.{briefOf}
 
 abbrev pub flightBy : Bool → ℕ → Option ℕ
@@ -21,6 +21,6 @@ pub record CutTo (b : List ℕ) (s r : Span) : Type 0 where
   pub fits : spanFits b r ≡ true
 
 -- the same summary, and its texts lie in the area
-pub record Shows (b : List ℕ) (m : Brief) (r : Summary) : Type 0 where
+pub record Shows (b : List ℕ) (m : BoundSummary) (r : Summary) : Type 0 where
   pub same : summaryOf b r ≡ briefOf b m
   pub fits : summaryFits b r ≡ true

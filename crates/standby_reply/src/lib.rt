@@ -19,7 +19,7 @@ use frame_fields::kind;
 use frame_reader::Span;
 use frame_stamp::Protocol;
 use standby_state::Answer;
-use standby_state::Brief;
+use standby_state::BoundSummary;
 
 // By the reason's number in an answer.
 fn reason(n: u8) -> NackReason
@@ -47,69 +47,69 @@ fn in_flight(has: bool, n: u64) -> InFlight
 }
 
 // The same bytes as a part that lies in the area.
-fn cut(bytes: &[u8], s: Span) -> Span
-    ensures { λ r. ⌜ CutTo (now (bytes .entry)) s r ⌝ }
+fn cut(bytes: &[u8], span: Span) -> Span
+    ensures { λ r. ⌜ CutTo (now (bytes .entry)) span r ⌝ }
 {
-    if bytes.len() < s.at {
+    if bytes.len() < span.at {
         return Span { at: 0, len: 0 };
     }
-    let left = bytes.len() - s.at;
-    if left < s.len as usize {
+    let left = bytes.len() - span.at;
+    if left < span.len as usize {
         return Span {
-            at: s.at,
+            at: span.at,
             len: left as u32,
         };
     }
-    s
+    span
 }
 
-fn summary(b: Brief, bytes: &[u8]) -> Summary
-    ensures { λ r. ⌜ Shows (now (bytes .entry)) b r ⌝ }
+fn summary(flat: BoundSummary, bytes: &[u8]) -> Summary
+    ensures { λ r. ⌜ Shows (now (bytes .entry)) flat r ⌝ }
 {
-    let in_flight = in_flight(b.has_in_flight, b.in_flight);
-    let created_at = cut(bytes, b.created_at);
-    let marks = cut(bytes, b.marks);
+    let in_flight = in_flight(flat.has_in_flight, flat.in_flight);
+    let created_at = cut(bytes, flat.created_at);
+    let marks = cut(bytes, flat.marks);
     Summary {
-        next_outgoing: b.next_outgoing,
-        next_incoming: b.next_incoming,
+        next_outgoing: flat.next_outgoing,
+        next_incoming: flat.next_incoming,
         in_flight,
         created_at,
         marks,
-        last_outgoing: b.last_outgoing,
+        last_outgoing: flat.last_outgoing,
     }
 }
 
 // The frame of an answer that has one.
-fn frame(a: Answer, bytes: &[u8]) -> Frame
-    ensures { λ r. ⌜ frameIn 1 (now (bytes .entry)) r ≡ some (frameBy (now (bytes .entry)) a) ⌝ }
+fn frame(answer: Answer, bytes: &[u8]) -> Frame
+    ensures { λ r. ⌜ frameIn 1 (now (bytes .entry)) r ≡ some (frameBy (now (bytes .entry)) answer) ⌝ }
 {
-    let handle = a.handle;
-    if a.kind == kind::WELCOME {
-        let epoch = a.epoch;
-        let incarnation = a.incarnation;
+    let handle = answer.handle;
+    if answer.kind == kind::WELCOME {
+        let epoch = answer.epoch;
+        let incarnation = answer.incarnation;
         return Frame::Welcome { epoch, incarnation };
     }
-    if a.kind == kind::ACK {
-        let commit_no = a.commit_no;
+    if answer.kind == kind::ACK {
+        let commit_no = answer.commit_no;
         return Frame::Ack { handle, commit_no };
     }
-    if a.kind == kind::NACK {
+    if answer.kind == kind::NACK {
         return Frame::Nack {
             handle,
-            reason: reason(a.reason),
+            reason: reason(answer.reason),
         };
     }
-    let brief = a.brief;
+    let flat = answer.summary;
     Frame::Bound {
         handle,
-        summary: summary(brief, bytes),
+        summary: summary(flat, bytes),
     }
 }
 
 // The bytes of an answer that has a frame; `bytes` is the store's byte area, where a Bound has its texts.
-pub fn write(a: Answer, bytes: &[u8], out: &mut [u8]) -> Written
-    ensures { λ r. ⌜ Encoded 1 (some (frameBy (now (bytes .entry)) a)) (now (out .entry)) (now (out .exit)) r ⌝ }
+pub fn write(answer: Answer, bytes: &[u8], out: &mut [u8]) -> Written
+    ensures { λ r. ⌜ Encoded 1 (some (frameBy (now (bytes .entry)) answer)) (now (out .entry)) (now (out .exit)) r ⌝ }
 {
-    let f = frame(a, bytes);
+    let f = frame(answer, bytes);
     f.encode(Protocol { version: 1 }, bytes, out)
 }

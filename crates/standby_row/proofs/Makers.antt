@@ -35,22 +35,22 @@ use denote.Lend.{Held, lends-ref, ref-back, lends-slice, slice-back}
 use denote.Index.{row, whole-in, whole-out}
 use denote.Steps.{only}
 use denote.Triple.Statement.{Contract, Triple}
-use Rattle.standby_row.specs.declared.Handle.{Handle}
-use Rattle.standby_row.proofs.Handle as T
-use Rattle.standby_row.proofs.Rows.{R as R-Handle, vals as vals-Handle}
+use Rattle.standby_row.specs.declared.Bound.{Bound}
+use Rattle.standby_row.proofs.Bound as T
+use Rattle.standby_row.proofs.Rows.{R as R-Bound, vals as vals-Bound}
 use Rattle.standby_row.proofs.Lent.{calls-with}
 use Rattle.standby_row.proofs.Locals.{lies-in, lies-out}
 
 abbrev pub rowVal : {X : Type 0} → (X → List Val) → List X → Val
 rowVal vals ys = only (array-vals vals ys)
 
-each-into : (zs : List Handle) (us : List Val) → shadow (each Handle (R-Handle .own) zs us) → shadow (each (T.the-field .row .Denot) (T.the-field .row .own) (map (T.the-field .into) zs) us)
+each-into : (zs : List Bound) (us : List Val) → shadow (each Bound (R-Bound .own) zs us) → shadow (each (T.the-field .row .Denot) (T.the-field .row .own) (map (T.the-field .into) zs) us)
 each-into [] [] g = g
 each-into [] (u ∷ us) g = g
 each-into (z ∷ zs) [] g = g
 each-into (z ∷ zs) (u ∷ us) g = (g .0, each-into zs us (g .1))
 
-pub row-field : (n : ℕ) (ys : List Handle) → Is (Array R-Handle n) ys (rowVal vals-Handle ys ∷ []) → Is (Array (T.the-field .row) n) (map (T.the-field .into) ys) (rowVal vals-Handle ys ∷ [])
+pub row-field : (n : ℕ) (ys : List Bound) → Is (Array R-Bound n) ys (rowVal vals-Bound ys ∷ []) → Is (Array (T.the-field .row) n) (map (T.the-field .into) ys) (rowVal vals-Bound ys ∷ [])
 row-field n ys is = (is .0, ((is .1 .0 .0, length-map ys (T.the-field .into) ∙ is .1 .0 .1), each-into ys (is .0) (is .1 .1)))
 
 -- what a reference to a local owns

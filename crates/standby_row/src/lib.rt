@@ -6,7 +6,7 @@ ghost use Rattle.standby_row.specs.Row.{freeRecord, isOf, isFreeFor, bre
 
 // A handle that is bound to a session's place, with what it holds back; a record that is not used is free.
 #[repr(C)]
-pub struct Handle {
+pub struct Bound {
     pub used: bool,
     pub handle: u32,
     pub place: usize,
@@ -16,10 +16,10 @@ pub struct Handle {
 }
 
 // What is read past the end of a row.
-pub fn nobody() -> Handle
+pub fn free_record() -> Bound
     ensures { λ r. ⌜ r ≡ freeRecord ⌝ }
 {
-    Handle {
+    Bound {
         used: false,
         handle: 0,
         place: 0,
@@ -30,28 +30,28 @@ pub fn nobody() -> Handle
 }
 
 // Whether a record is used for a handle.
-pub fn is_of(h: Handle, handle: u32) -> bool
-    ensures { λ r. ⌜ r ≡ isOf h handle ⌝ }
+pub fn is_of(bound: Bound, handle: u32) -> bool
+    ensures { λ r. ⌜ r ≡ isOf bound handle ⌝ }
 {
-    h.used && h.handle == handle
+    bound.used && bound.handle == handle
 }
 
 // Whether a record ends the search for a free one: it is free, or none is sought, since the handle stands at `at` of `len`.
-pub fn is_free(h: Handle, at: usize, len: usize) -> bool
-    ensures { λ r. ⌜ r ≡ isFreeFor h at len ⌝ }
+pub fn is_free(bound: Bound, at: usize, len: usize) -> bool
+    ensures { λ r. ⌜ r ≡ isFreeFor bound at len ⌝ }
 {
-    (at < len) | !h.used
+    (at < len) | !bound.used
 }
 
 // Whether a used record breaks the rules: its place is not below `places`, or it holds more than `room` bytes.
-pub fn breaks(h: Handle, places: usize, room: usize) -> bool
-    ensures { λ r. ⌜ r ≡ breaksOf h places room ⌝ }
+pub fn breaks_rules(bound: Bound, places: usize, room: usize) -> bool
+    ensures { λ r. ⌜ r ≡ breaksOf bound places room ⌝ }
 {
-    h.used && (h.place >= places || h.held_len > room)
+    bound.used && (bound.place >= places || bound.held_len > room)
 }
 
 // The place of the first record that is used for a handle, or the length.
-pub fn find(row: &[Handle], handle: u32) -> usize
+pub fn find(row: &[Bound], handle: u32) -> usize
     ensures { λ r. ⌜ r ≡ findOf (now (row .entry)) handle ⌝ }
 {
     let mut i = 0;
@@ -66,13 +66,13 @@ pub fn find(row: &[Handle], handle: u32) -> usize
 }
 
 // The place of the first record that breaks the rules, or the length.
-pub fn find_broken(row: &[Handle], places: usize, room: usize) -> usize
+pub fn find_broken(row: &[Bound], places: usize, room: usize) -> usize
     ensures { λ r. ⌜ r ≡ brokenOf (now (row .entry)) places room ⌝ }
 {
     let mut i = 0;
     while i < row.len() {
         let h = row[i];
-        if breaks(h, places, room) {
+        if breaks_rules(h, places, room) {
             return i;
         }
         i += 1;
@@ -81,7 +81,7 @@ pub fn find_broken(row: &[Handle], places: usize, room: usize) -> usize
 }
 
 // The place of the first free record, or the length; for a handle that stands at `at` of `len` none is sought, and it is the first place.
-pub fn find_free(row: &[Handle], at: usize, len: usize) -> usize
+pub fn find_free(row: &[Bound], at: usize, len: usize) -> usize
     ensures { λ r. ⌜ r ≡ freeFor (now (row .entry)) at len ⌝ }
 {
     let mut i = 0;
@@ -95,36 +95,36 @@ pub fn find_free(row: &[Handle], at: usize, len: usize) -> usize
     i
 }
 
-// The record at a place, and past the end `nobody`.
-pub fn get_or(row: &[Handle], i: usize) -> Handle
+// The record at a place, and past the end `free_record`.
+pub fn get_or(row: &[Bound], i: usize) -> Bound
     ensures { λ r. ⌜ r ≡ getD (now (row .entry)) i freeRecord ⌝ }
 {
     if i < row.len() {
         return row[i];
     }
-    nobody()
+    free_record()
 }
 
 // Sets the record at a place; past the end it sets none.
-pub fn put_if(row: &mut [Handle], i: usize, h: Handle)
-    ensures { λ _. ⌜ now (row .exit) ≡ set (now (row .entry)) i h ⌝ }
+pub fn put_if(row: &mut [Bound], i: usize, bound: Bound)
+    ensures { λ _. ⌜ now (row .exit) ≡ set (now (row .entry)) i bound ⌝ }
 {
     if i < row.len() {
-        row[i] = h;
+        row[i] = bound;
     }
 }
 
 // Puts a record in the first free place, and says which; in a full row it puts none, and says the length.
-pub fn insert(row: &mut [Handle], h: Handle) -> usize
-    ensures { λ r. ⌜ (r ≡ freeOf (now (row .entry))) × (now (row .exit) ≡ set (now (row .entry)) (freeOf (now (row .entry))) h) ⌝ }
+pub fn insert(row: &mut [Bound], bound: Bound) -> usize
+    ensures { λ r. ⌜ (r ≡ freeOf (now (row .entry))) × (now (row .exit) ≡ set (now (row .entry)) (freeOf (now (row .entry))) bound) ⌝ }
 {
     let i = find_free(row, 0, 0);
-    put_if(row, i, h);
+    put_if(row, i, bound);
     i
 }
 
 // Frees every record from a place on; from the length on that is none.
-pub fn clear_from(row: &mut [Handle], from: usize)
+pub fn clear_from(row: &mut [Bound], from: usize)
     ensures { λ _. ⌜ now (row .exit) ≡ clearedFrom from (now (row .entry)) ⌝ }
 {
     let mut i = from;
@@ -135,24 +135,29 @@ pub fn clear_from(row: &mut [Handle], from: usize)
 }
 
 // Frees every record.
-pub fn clear(row: &mut [Handle])
+pub fn clear(row: &mut [Bound])
     ensures { λ _. ⌜ now (row .exit) ≡ clearedAll (now (row .entry)) ⌝ }
 {
     clear_from(row, 0);
 }
 
-// What is found in a row for a handle: its place, the first free one where it has none, the length, the first that breaks the rules, and the record at its place.
+// What is found in a row for a handle. A place that there is none of is the length.
 #[repr(C)]
-pub struct Seen {
+pub struct Lookup {
+    // The handle's place.
     pub at: usize,
+    // The first free place, where the handle has none.
     pub free: usize,
+    // The row's length.
     pub len: usize,
+    // The first place whose record breaks the rules.
     pub broken: usize,
-    pub bound: Handle,
+    // The handle's record.
+    pub bound: Bound,
 }
 
-// All that a core asks of a row.
-pub fn look(row: &[Handle], handle: u32, places: usize, room: usize) -> Seen
+// What a call must know of the row, found before it runs.
+pub fn look_up(row: &[Bound], handle: u32, places: usize, room: usize) -> Lookup
     ensures { λ r. ⌜ r ≡ seenOf (now (row .entry)) handle places room ⌝ }
 {
     let at = find(row, handle);
@@ -160,7 +165,7 @@ pub fn look(row: &[Handle], handle: u32, places: usize, room: usize) -> Seen
     let free = find_free(row, at, len);
     let broken = find_broken(row, places, room);
     let bound = get_or(row, at);
-    Seen {
+    Lookup {
         at: at,
         free: free,
         len: len,
@@ -169,10 +174,11 @@ pub fn look(row: &[Handle], handle: u32, places: usize, room: usize) -> Seen
     }
 }
 
-// All that a core does to a row: a record is put at a place, and every record from another place on is freed; past the end is nowhere.
-pub fn act(row: &mut [Handle], at: usize, from: usize, h: Handle)
-    ensures { λ _. ⌜ now (row .exit) ≡ clearedFrom from (set (now (row .entry)) at h) ⌝ }
+// What a call does to the row: a record is put at a place, and every record from another place on is freed. At the length
+// and past it there is no place: nothing is put, nothing is freed.
+pub fn update(row: &mut [Bound], at: usize, from: usize, bound: Bound)
+    ensures { λ _. ⌜ now (row .exit) ≡ clearedFrom from (set (now (row .entry)) at bound) ⌝ }
 {
-    put_if(row, at, h);
+    put_if(row, at, bound);
     clear_from(row, from);
 }

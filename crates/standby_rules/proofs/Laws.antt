@@ -6,12 +6,12 @@ use mathlib.Core.List.{List}
 use lib.ListN.{getD}
 use lib.Dec.{ltb, leb}
 use borrow.Author.Tests.{lt-ltb, le-ltb, le-leb, lt-leb}
-use Rattle.standby_row.specs.declared.Seen.{Seen}
+use Rattle.standby_row.specs.declared.Lookup.{Lookup}
 use Rattle.store_areas.specs.declared.Shape.{Shape}
 use Rattle.store_areas.specs.Areas.{allowed}
 use Rattle.standby_step.specs.Steps.{roomIn, isFound, seenAllowed}
 
-module _ (s : Shape) (seen : Seen) (w b h : List ℕ) where
+module _ (s : Shape) (seen : Lookup) (w b h : List ℕ) where
   -- what is asked of the record found
   abbrev own : ℕ → Bool
   own room = ltb (seen .bound .place) (getD w 0 0) && leb (seen .bound .«held_len») room

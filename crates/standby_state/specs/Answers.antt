@@ -14,10 +14,10 @@ use Rattle.frame.specs.declared.Epoch.{Epoch}
 use Rattle.frame.specs.declared.Incarnation.{Incarnation}
 use Rattle.model_standby.specs.Answer.{reply, refused, done}
 use Rattle.model_standby.specs.Answer as the-answer
-use Rattle.standby_state.specs.declared.Brief.{Brief}
+use Rattle.standby_state.specs.declared.BoundSummary.{BoundSummary}
 use Rattle.standby_state.specs.declared.Answer.{Answer}
 
-abbrev pub briefOf : List ℕ → Brief → the-frame.Summary
+abbrev pub briefOf : List ℕ → BoundSummary → the-frame.Summary
 briefOf b m =
     record {
       nextOut = m .«next_outgoing»;
@@ -37,14 +37,14 @@ abbrev pub frameBy : List ℕ → Answer → Frame
 frameBy b a =
     cond (eqb (a .kind) FrameKind.welcome) (welcome (a .epoch .0) (a .incarnation .0))
     (cond (eqb (a .kind) FrameKind.ack) (ack (a .handle) (a .«commit_no» .0))
-    (cond (eqb (a .kind) FrameKind.nack) (nack (a .handle) (reasonBy (a .reason))) (bound (a .handle) (briefOf b (a .brief)))))
+    (cond (eqb (a .kind) FrameKind.nack) (nack (a .handle) (reasonBy (a .reason))) (bound (a .handle) (briefOf b (a .summary)))))
 
 abbrev pub answerOf : List ℕ → Answer → the-answer.Answer
 answerOf b a = cond (eqb (a .refusal) 0) (cond (eqb (a .kind) 0) done (reply (frameBy b a))) (refused (a .refusal))
 
 -- ---- each answer as it is made
 
-abbrev pub noBrief : Brief
+abbrev pub noBrief : BoundSummary
 noBrief =
     record {
       «next_outgoing» = 0;
@@ -58,7 +58,7 @@ noBrief =
 
 abbrev pub blankOf : ℕ → ℕ → ℕ → Answer
 blankOf refusal kind handle =
-    record { refusal = refusal; kind = kind; handle = handle; epoch = record { 0 = 0 }; incarnation = record { 0 = 0 }; «commit_no» = record { 0 = 0 }; reason = 0; brief = noBrief }
+    record { refusal = refusal; kind = kind; handle = handle; epoch = record { 0 = 0 }; incarnation = record { 0 = 0 }; «commit_no» = record { 0 = 0 }; reason = 0; summary = noBrief }
 
 abbrev pub isRefused : ℕ → Answer
 isRefused n = blankOf n 0 0
@@ -67,13 +67,13 @@ abbrev pub isDone : Answer
 isDone = blankOf 0 0 0
 
 abbrev pub isWelcome : Epoch → Incarnation → Answer
-isWelcome e i = record { refusal = 0; kind = FrameKind.welcome; handle = 0; epoch = e; incarnation = i; «commit_no» = record { 0 = 0 }; reason = 0; brief = noBrief }
+isWelcome e i = record { refusal = 0; kind = FrameKind.welcome; handle = 0; epoch = e; incarnation = i; «commit_no» = record { 0 = 0 }; reason = 0; summary = noBrief }
 
 abbrev pub isAck : ℕ → CommitNumber → Answer
-isAck h n = record { refusal = 0; kind = FrameKind.ack; handle = h; epoch = record { 0 = 0 }; incarnation = record { 0 = 0 }; «commit_no» = n; reason = 0; brief = noBrief }
+isAck h n = record { refusal = 0; kind = FrameKind.ack; handle = h; epoch = record { 0 = 0 }; incarnation = record { 0 = 0 }; «commit_no» = n; reason = 0; summary = noBrief }
 
 abbrev pub isNack : ℕ → ℕ → Answer
-isNack h r = record { refusal = 0; kind = FrameKind.nack; handle = h; epoch = record { 0 = 0 }; incarnation = record { 0 = 0 }; «commit_no» = record { 0 = 0 }; reason = r; brief = noBrief }
+isNack h r = record { refusal = 0; kind = FrameKind.nack; handle = h; epoch = record { 0 = 0 }; incarnation = record { 0 = 0 }; «commit_no» = record { 0 = 0 }; reason = r; summary = noBrief }
 
-abbrev pub isBound : ℕ → Brief → Answer
-isBound h m = record { refusal = 0; kind = FrameKind.bound; handle = h; epoch = record { 0 = 0 }; incarnation = record { 0 = 0 }; «commit_no» = record { 0 = 0 }; reason = 0; brief = m }
+abbrev pub isBound : ℕ → BoundSummary → Answer
+isBound h m = record { refusal = 0; kind = FrameKind.bound; handle = h; epoch = record { 0 = 0 }; incarnation = record { 0 = 0 }; «commit_no» = record { 0 = 0 }; reason = 0; summary = m }

@@ -7,8 +7,8 @@ use frame::Epoch;
 use frame::Incarnation;
 use frame_fields::kind;
 use frame_reader::Span;
-use standby_row::Handle;
-use standby_row::Seen;
+use standby_row::Bound;
+use standby_row::Lookup;
 use store_areas::Shape;
 
 // The standby's counters: a small record lent for each call.
@@ -32,12 +32,12 @@ impl Replica {
 pub struct Settings {
     pub shape: Shape,
     pub incarnation: Incarnation,
-    pub lag: u64,
+    pub max_lag: u64,
 }
 
 // What a Bound says of a session; its texts are parts of the store's byte area.
 #[repr(C)]
-pub struct Brief {
+pub struct BoundSummary {
     pub next_outgoing: u64,
     pub next_incoming: u64,
     pub has_in_flight: bool,
@@ -57,25 +57,28 @@ pub struct Answer {
     pub incarnation: Incarnation,
     pub commit_no: CommitNumber,
     pub reason: u8,
-    pub brief: Brief,
+    pub summary: BoundSummary,
 }
 
-// What a call makes of the counters, what it answers, and what is done to the row: a record is put at a place, every record from another place on is freed.
+// What a call by value gives: the counters after it, its answer, and what is to be done to the row.
 #[repr(C)]
 pub struct Outcome {
     pub replica: Replica,
     pub answer: Answer,
+    // Whether a record is put, and whether all are freed.
     pub stores: bool,
     pub clears: bool,
+    // Where the record is put, and from where on records are freed; the length is nowhere.
     pub at: usize,
     pub from: usize,
-    pub slot: Handle,
+    // The record that is put.
+    pub bound: Bound,
 }
 
-fn no_brief() -> Brief
+fn no_summary() -> BoundSummary
     ensures { λ r. ⌜ r ≡ noBrief ⌝ }
 {
-    Brief {
+    BoundSummary {
         next_outgoing: 0,
         next_incoming: 0,
         has_in_flight: false,
@@ -97,7 +100,7 @@ fn blank(refusal: u8, kind: u8, handle: u32) -> Answer
         incarnation: Incarnation(0),
         commit_no: CommitNumber(0),
         reason: 0,
-        brief: no_brief(),
+        summary: no_summary(),
     }
 }
 
@@ -141,70 +144,76 @@ pub fn nack(handle: u32, reason: u8) -> Answer
     a
 }
 
-pub fn bound(handle: u32, brief: Brief) -> Answer
-    ensures { λ r. ⌜ r ≡ isBound handle brief ⌝ }
+pub fn bound(handle: u32, summary: BoundSummary) -> Answer
+    ensures { λ r. ⌜ r ≡ isBound handle summary ⌝ }
 {
     let mut a = blank(0, kind::BOUND, handle);
-    a.brief = brief;
+    a.summary = summary;
     a
 }
 
 // The row stays as it is.
-pub fn leaves(c: Replica, seen: Seen, a: Answer) -> Outcome
-    ensures { λ r. ⌜ r ≡ leaving c seen a ⌝ }
+pub fn unchanged(counters: Replica, lookup: Lookup, answer: Answer) -> Outcome
+    ensures { λ r. ⌜ r ≡ leaving counters lookup answer ⌝ }
 {
-    let slot = seen.bound;
+    let bound = lookup.bound;
     Outcome {
-        replica: c,
-        answer: a,
+        replica: counters,
+        answer: answer,
         stores: false,
         clears: false,
-        at: seen.len,
-        from: seen.len,
-        slot,
+        at: lookup.len,
+        from: lookup.len,
+        bound,
     }
 }
 
 // Every record of the row is freed.
-pub fn clears(c: Replica, seen: Seen, a: Answer) -> Outcome
-    ensures { λ r. ⌜ r ≡ clearing c seen a ⌝ }
+pub fn cleared(counters: Replica, lookup: Lookup, answer: Answer) -> Outcome
+    ensures { λ r. ⌜ r ≡ clearing counters lookup answer ⌝ }
 {
-    let slot = seen.bound;
+    let bound = lookup.bound;
     Outcome {
-        replica: c,
-        answer: a,
+        replica: counters,
+        answer: answer,
         stores: false,
         clears: true,
-        at: seen.len,
+        at: lookup.len,
         from: 0,
-        slot,
+        bound,
     }
 }
 
 // The handle's own place, or the first free one.
-fn spot(seen: Seen) -> usize
-    ensures { λ r. ⌜ r ≡ spotOf seen ⌝ }
+fn row_place(lookup: Lookup) -> usize
+    ensures { λ r. ⌜ r ≡ spotOf lookup ⌝ }
 {
-    if seen.at < seen.len {
-        return seen.at;
+    if lookup.at < lookup.len {
+        return lookup.at;
     }
-    seen.free
+    lookup.free
 }
 
 // The handle gets a record, at its own place or the first free one.
-pub fn stores(c: Replica, seen: Seen, a: Answer, handle: u32, h: Handle) -> Outcome
-    ensures { λ r. ⌜ r ≡ storing c seen a handle h ⌝ }
+pub fn stored(
+    counters: Replica,
+    lookup: Lookup,
+    answer: Answer,
+    handle: u32,
+    bound: Bound,
+) -> Outcome
+    ensures { λ r. ⌜ r ≡ storing counters lookup answer handle bound ⌝ }
 {
-    let mut slot = h;
-    slot.used = true;
-    slot.handle = handle;
+    let mut bound = bound;
+    bound.used = true;
+    bound.handle = handle;
     Outcome {
-        replica: c,
-        answer: a,
+        replica: counters,
+        answer: answer,
         stores: true,
         clears: false,
-        at: spot(seen),
-        from: seen.len,
-        slot,
+        at: row_place(lookup),
+        from: lookup.len,
+        bound,
     }
 }

@@ -11,8 +11,8 @@ use lib.Seq.{set-out}
 use borrow.Author.Tests.{ltb-true, ltb-false}
 use Rattle.model_frame.specs.Bytes.{write}
 use Rattle.base_laws.proofs.Little.{length-write}
-use Rattle.standby_row.specs.declared.Handle.{Handle}
-use Rattle.standby_row.specs.declared.Seen.{Seen}
+use Rattle.standby_row.specs.declared.Bound.{Bound as BoundRecord}
+use Rattle.standby_row.specs.declared.Lookup.{Lookup}
 use Rattle.standby_row.specs.Row.{isFree, firstOf, findOf, freeOf, brokenOf, clearedFrom, clearedAll, seenOf}
 use Rattle.standby_row.specs.Row as handles
 use Rattle.standby_row.proofs.Lists.{clears-end, cleared-length}
@@ -58,11 +58,11 @@ holds-apart room i (some x) h inside =
     let after : i * room + x .offset + length (x .bytes) ≤ i * room + room = omega arith in
     apart-of (boundOf protocolVersion) room i h (write h (i * room + x .offset) (x .bytes)) (take-write h (i * room + x .offset) (i * room) (x .bytes) before) (drop-write h (i * room + x .offset) (i * room + room) (x .bytes) after)
 
-module _ (row : List Handle) (k : ℕ) (w h : List ℕ) where
+module _ (row : List BoundRecord) (k : ℕ) (w h : List ℕ) where
   abbrev Room : ℕ
   Room = roomAll row h
 
-  abbrev Looked : Seen
+  abbrev Looked : Lookup
   Looked = seenOf row k (getD w 0 0) Room
 
   abbrev Handles : Row Bound
@@ -108,32 +108,32 @@ module _ (row : List Handle) (k : ℕ) (w h : List ℕ) where
   -- ---- what is done to the row
 
   module _ (o : Outcome) (used : ℕ) (lands : Lands Looked used Room o) where
-    abbrev Next : List Handle
-    Next = clearedFrom (o .from) (set row (o .at) (o .slot))
+    abbrev Next : List BoundRecord
+    Next = clearedFrom (o .from) (set row (o .at) (o .bound))
 
     next-length : length Next ≡ length row
-    next-length = cleared-length (o .from) (set row (o .at) (o .slot)) ∙ length-set row (o .at) (o .slot)
+    next-length = cleared-length (o .from) (set row (o .at) (o .bound)) ∙ length-set row (o .at) (o .bound)
 
     -- nothing
     same-row : o .stores ≡ false → o .clears ≡ false → Next ≡ row
     same-row e f =
         let at : o .at ≡ length row = lands .at-is ∙ ap (λ (t : Bool). cond t (spotOf Looked) (length row)) e in
         let from : o .from ≡ length row = lands .from-is ∙ ap (λ (t : Bool). cond t 0 (length row)) f in
-        let out : set row (o .at) (o .slot) ≡ row = set-out row (o .at) (o .slot) (omega (arith, at)) in
+        let out : set row (o .at) (o .bound) ≡ row = set-out row (o .at) (o .bound) (omega (arith, at)) in
         ap (clearedFrom (o .from)) out ∙ clears-end (o .from) row (omega (arith, from))
 
     -- every record is freed
     freed-row : o .stores ≡ false → o .clears ≡ true → Next ≡ clearedAll row
     freed-row e f =
         let at : o .at ≡ length row = lands .at-is ∙ ap (λ (t : Bool). cond t (spotOf Looked) (length row)) e in
-        let out : set row (o .at) (o .slot) ≡ row = set-out row (o .at) (o .slot) (omega (arith, at)) in
+        let out : set row (o .at) (o .bound) ≡ row = set-out row (o .at) (o .bound) (omega (arith, at)) in
         ap (clearedFrom (o .from)) out ∙ ap (λ (n : ℕ). clearedFrom n row) (lands .from-is ∙ ap (λ (t : Bool). cond t 0 (length row)) f)
 
     -- one is put
-    put-row : o .stores ≡ true → Next ≡ set row (o .at) (o .slot)
+    put-row : o .stores ≡ true → Next ≡ set row (o .at) (o .bound)
     put-row e =
         let from : o .from ≡ length row = lands .from-is ∙ ap (λ (t : Bool). cond t 0 (length row)) (lands .one e) in
-        clears-end (o .from) (set row (o .at) (o .slot)) (omega (arith, from, length-set row (o .at) (o .slot)))
+        clears-end (o .from) (set row (o .at) (o .bound)) (omega (arith, from, length-set row (o .at) (o .bound)))
 
     next-whole : getD w 0 0 ≤ used → Whole (getD w 0 0) Room row → Whole used Room Next
     next-whole le n = go (o .stores) (o .clears) refl refl
@@ -142,14 +142,14 @@ module _ (row : List Handle) (k : ℕ) (w h : List ℕ) where
         grown = whole-more (getD w 0 0) used Room row le n
 
         go : (s c : Bool) → o .stores ≡ s → o .clears ≡ c → Whole used Room Next
-        go true c e f = subst (Whole used Room) (sym (put-row e)) (none-set (λ g. handles.breaksOf g used Room) row (o .at) (o .slot) (record-whole (o .slot) used Room (lands .slot-place e) (lands .slot-len e)) grown)
+        go true c e f = subst (Whole used Room) (sym (put-row e)) (none-set (λ g. handles.breaksOf g used Room) row (o .at) (o .bound) (record-whole (o .bound) used Room (lands .slot-place e) (lands .slot-len e)) grown)
         go false true e f = subst (Whole used Room) (sym (freed-row e f)) (whole-cleared used Room row)
         go false false e f = subst (Whole used Room) (sym (same-row e f)) grown
 
     module _ (own : ℕ) (asked : Bool) (wr : Option HoldWrite) (h' : List ℕ) (mine : asked ≡ true → k ≡ own)
         (fit : Fit asked own (foundIn Looked h) (ltb Free (length row)) wr (actionOf protocolVersion Room h' o))
         (holds : h' ≡ holdsAfter Room (findOf row k) wr h) (inside : (x : HoldWrite) → wr ≡ some x → x .offset + length (x .bytes) ≤ Room) where
-      abbrev After : List Handle → List ℕ → Row Bound
+      abbrev After : List BoundRecord → List ℕ → Row Bound
       After r x = rowOf (boundOf protocolVersion) Room r x
 
       still : wr ≡ none → h' ≡ h
@@ -158,40 +158,40 @@ module _ (row : List Handle) (k : ℕ) (w h : List ℕ) where
       next-handles : After Next h' ≡ act (actionOf protocolVersion Room h' o) Handles
       next-handles = go (o .stores) (o .clears) refl refl
         where
-          put-action : o .stores ≡ true → actionOf protocolVersion Room h' o ≡ store (o .slot .handle) (boundOf protocolVersion (o .slot) (areaAt Room (o .at) h'))
-          put-action e = ap (λ (t : Bool). cond t (store (o .slot .handle) (boundOf protocolVersion (o .slot) (areaAt Room (o .at) h'))) (cond (o .clears) clear leave)) e
+          put-action : o .stores ≡ true → actionOf protocolVersion Room h' o ≡ store (o .bound .handle) (boundOf protocolVersion (o .bound) (areaAt Room (o .at) h'))
+          put-action e = ap (λ (t : Bool). cond t (store (o .bound .handle) (boundOf protocolVersion (o .bound) (areaAt Room (o .at) h'))) (cond (o .clears) clear leave)) e
 
           other-action : (c : Bool) → o .stores ≡ false → o .clears ≡ c → actionOf protocolVersion Room h' o ≡ cond c clear leave
           other-action c e f =
-              (λ i. cond (e i) (store (o .slot .handle) (boundOf protocolVersion (o .slot) (areaAt Room (o .at) h'))) (cond (f i) clear leave))
+              (λ i. cond (e i) (store (o .bound .handle) (boundOf protocolVersion (o .bound) (areaAt Room (o .at) h'))) (cond (f i) clear leave))
 
-          puts : o .stores ≡ true → Fit asked own (foundIn Looked h) (ltb Free (length row)) wr (store (o .slot .handle) (boundOf protocolVersion (o .slot) (areaAt Room (o .at) h')))
-              → After (set row (o .at) (o .slot)) h' ≡ put (o .slot .handle) (boundOf protocolVersion (o .slot) (areaAt Room (o .at) h')) Handles
+          puts : o .stores ≡ true → Fit asked own (foundIn Looked h) (ltb Free (length row)) wr (store (o .bound .handle) (boundOf protocolVersion (o .bound) (areaAt Room (o .at) h')))
+              → After (set row (o .at) (o .bound)) h' ≡ put (o .bound .handle) (boundOf protocolVersion (o .bound) (areaAt Room (o .at) h')) Handles
           puts e f = by-place (ltb (findOf row k) (length row)) refl
             where
-              is-k : o .slot .handle ≡ k
+              is-k : o .bound .handle ≡ k
               is-k = f .1 .0 ∙ sym (mine (f .0))
 
               -- at this place
-              at-place : (i : ℕ) → o .at ≡ i → After (set row i (o .slot)) h' ≡ put k (boundOf protocolVersion (o .slot) (areaAt Room i h')) Handles
-                  → After (set row (o .at) (o .slot)) h' ≡ put (o .slot .handle) (boundOf protocolVersion (o .slot) (areaAt Room (o .at) h')) Handles
+              at-place : (i : ℕ) → o .at ≡ i → After (set row i (o .bound)) h' ≡ put k (boundOf protocolVersion (o .bound) (areaAt Room i h')) Handles
+                  → After (set row (o .at) (o .bound)) h' ≡ put (o .bound .handle) (boundOf protocolVersion (o .bound) (areaAt Room (o .at) h')) Handles
               at-place i at p =
-                  ap (λ (j : ℕ). After (set row j (o .slot)) h') at ∙ p
-                  ∙ sym (λ j. put (is-k j) (boundOf protocolVersion (o .slot) (areaAt Room (at j) h')) Handles)
+                  ap (λ (j : ℕ). After (set row j (o .bound)) h') at ∙ p
+                  ∙ sym (λ j. put (is-k j) (boundOf protocolVersion (o .bound) (areaAt Room (at j) h')) Handles)
 
               spot : (t : Bool) → ltb (findOf row k) (length row) ≡ t → o .at ≡ cond t (findOf row k) Free
               spot t p = lands .at-is ∙ (λ i. cond (e i) (cond (p i) (findOf row k) Free) (length row))
 
               by-place : (t : Bool) → ltb (findOf row k) (length row) ≡ t
-                  → After (set row (o .at) (o .slot)) h' ≡ put (o .slot .handle) (boundOf protocolVersion (o .slot) (areaAt Room (o .at) h')) Handles
+                  → After (set row (o .at) (o .bound)) h' ≡ put (o .bound .handle) (boundOf protocolVersion (o .bound) (areaAt Room (o .at) h')) Handles
               by-place true p =
                   at-place (findOf row k) (spot true p)
-                  (put-own (boundOf protocolVersion) Room k (o .slot) (lands .slot-used e) is-k row h h' (ltb-true (findOf row k) (length row) p)
+                  (put-own (boundOf protocolVersion) Room k (o .bound) (lands .slot-used e) is-k row h h' (ltb-true (findOf row k) (length row) p)
                   (subst (Apart (boundOf protocolVersion) Room (findOf row k) h) (sym holds) (holds-apart Room (findOf row k) wr h inside)))
               by-place false p =
                   at-place (freeOf row) (spot false p ∙ free-of p)
-                  (subst (λ (x : List ℕ). After (set row (freeOf row) (o .slot)) x ≡ put k (boundOf protocolVersion (o .slot) (areaAt Room (freeOf row) x)) Handles) (sym (still (f .1 .1 .1 not-found)))
-                  (put-new (boundOf protocolVersion) Room k (o .slot) (lands .slot-used e) is-k row h (ltb-false (findOf row k) (length row) p) free))
+                  (subst (λ (x : List ℕ). After (set row (freeOf row) (o .bound)) x ≡ put k (boundOf protocolVersion (o .bound) (areaAt Room (freeOf row) x)) Handles) (sym (still (f .1 .1 .1 not-found)))
+                  (put-new (boundOf protocolVersion) Room k (o .bound) (lands .slot-used e) is-k row h (ltb-false (findOf row k) (length row) p) free))
                 where
                   not-found : isSome (foundIn Looked h) ≡ false
                   not-found = ap (λ (t : Bool). isSome (cond t (some (boundOf protocolVersion (getD row (findOf row k) handles.freeRecord) (areaAt Room (findOf row k) h))) none)) p
@@ -201,7 +201,7 @@ module _ (row : List Handle) (k : ℕ) (w h : List ℕ) where
 
           go : (s c : Bool) → o .stores ≡ s → o .clears ≡ c → After Next h' ≡ act (actionOf protocolVersion Room h' o) Handles
           go true c e f =
-              ap (λ (r : List Handle). After r h') (put-row e)
+              ap (λ (r : List BoundRecord). After r h') (put-row e)
               ∙ puts e (subst (Fit asked own (foundIn Looked h) (ltb Free (length row)) wr) (put-action e) fit)
               ∙ sym (ap (λ (a : Action). act a Handles) (put-action e))
           go false true e f =
@@ -213,7 +213,7 @@ module _ (row : List Handle) (k : ℕ) (w h : List ℕ) where
 
 -- ---- a call
 
-module _ (s : Settings) (c : Replica) (row : List Handle) (call : Call) (w w' b b' h h' : List ℕ) (o : Outcome) where
+module _ (s : Settings) (c : Replica) (row : List BoundRecord) (call : Call) (w w' b b' h h' : List ℕ) (o : Outcome) where
   abbrev K : ℕ
   K = soughtBy call
 
@@ -223,14 +223,14 @@ module _ (s : Settings) (c : Replica) (row : List Handle) (call : Call) (w w' b 
   abbrev L : state.Settings
   L = settingsOf s R
 
-  abbrev See : Seen
+  abbrev See : Lookup
   See = seenOf row K (getD w 0 0) R
 
   abbrev T : Row Bound
   T = rowOf (boundOf protocolVersion) R row h
 
-  abbrev Row' : List Handle
-  Row' = clearedFrom (o .from) (set row (o .at) (o .slot))
+  abbrev Row' : List BoundRecord
+  Row' = clearedFrom (o .from) (set row (o .at) (o .bound))
 
   module _ (clean : allowedAll s row w b h ≡ true) (st : Stepped s c See call w w' b b' h h' o) where
     abbrev Wr : Option HoldWrite
@@ -287,7 +287,7 @@ module _ (s : Settings) (c : Replica) (row : List Handle) (call : Call) (w w' b 
     Spot = spotFor row (handleOf call)
 
     abbrev Puts : Action
-    Puts = store (o .slot .handle) (boundOf protocolVersion (o .slot) (areaAt R (o .at) h'))
+    Puts = store (o .bound .handle) (boundOf protocolVersion (o .bound) (areaAt R (o .at) h'))
 
     at-spot : o .stores ≡ true → o .at ≡ Spot
     at-spot e = st .lands .at-is ∙ ap (λ (t : Bool). cond t (spotOf See) (length row)) e ∙ own (ltb (findOf row K) (length row)) refl ∙ ap (spotFor row) (sought-own call asked)
@@ -305,7 +305,7 @@ module _ (s : Settings) (c : Replica) (row : List Handle) (call : Call) (w w' b 
         go : (t u : Bool) → o .stores ≡ t → o .clears ≡ u → RowLeaves Spot (actionOf protocolVersion R h' o) row Row'
         go true u e f =
             subst (λ (x : Action). RowLeaves Spot x row Row') (sym (ap (λ (t : Bool). cond t Puts (cond (o .clears) clear leave)) e))
-            (record { slot = o .slot; is = put-row row K w h o (getD w' 0 0) (st .lands) e ∙ ap (λ (n : ℕ). set row n (o .slot)) (at-spot e) })
+            (record { bound = o .bound; is = put-row row K w h o (getD w' 0 0) (st .lands) e ∙ ap (λ (n : ℕ). set row n (o .bound)) (at-spot e) })
         go false true e f = subst (λ (x : Action). RowLeaves Spot x row Row') (sym (λ i. cond (e i) Puts (cond (f i) clear leave))) (freed-row row K w h o (getD w' 0 0) (st .lands) e f)
         go false false e f = subst (λ (x : Action). RowLeaves Spot x row Row') (sym (λ i. cond (e i) Puts (cond (f i) clear leave))) (same-row row K w h o (getD w' 0 0) (st .lands) e f)
 
@@ -356,7 +356,7 @@ module _ (s : Settings) (c : Replica) (row : List Handle) (call : Call) (w w' b 
         (
           ap (λ (x : Outcome). x .replica) (q .0),
           (
-            ap (λ (x : Outcome). clearedFrom (x .from) (set row (x .at) (x .slot))) (q .0)
+            ap (λ (x : Outcome). clearedFrom (x .from) (set row (x .at) (x .bound))) (q .0)
                 ∙ ap (clearedFrom (length row)) (set-out row (length row) (See .bound) (omega arith)) ∙ clears-end (length row) row (omega arith),
             q .1,
           ),

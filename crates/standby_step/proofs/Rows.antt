@@ -9,7 +9,7 @@ use lib.ListN.{length, getD, set, take, drop}
 use lib.Seq.{sets, take-set-le, drop-set-lt}
 use borrow.Author.Tests.{leb-true, leb-false, ltb-true, ltb-false, eqb-true, le-leb, lt-leb, lt-ltb, le-ltb}
 use Rattle.model_frame.specs.Bytes.{write}
-use Rattle.standby_row.specs.declared.Handle.{Handle}
+use Rattle.standby_row.specs.declared.Bound.{Bound}
 use Rattle.standby_row.specs.Row.{freeRecord, isOf, breaksOf, zeroOrNext, firstOf, findOf, brokenOf, clearedAll, seenOf}
 use Rattle.store_areas.specs.Areas.{allowed}
 use Rattle.standby_state.specs.declared.Settings.{Settings}
@@ -21,7 +21,7 @@ zero-less h = omega arith
 
 -- ---- a search
 
-pub first-is : (p : Handle → Bool) (row : List Handle) → firstOf p row < length row → p (getD row (firstOf p row) freeRecord) ≡ true
+pub first-is : (p : Bound → Bool) (row : List Bound) → firstOf p row < length row → p (getD row (firstOf p row) freeRecord) ≡ true
 first-is p [] less = absurd (zero-less less)
 first-is p (h ∷ hs) less = go (p h) refl (first-is p hs) less
   where
@@ -30,11 +30,11 @@ first-is p (h ∷ hs) less = go (p h) refl (first-is p hs) less
     go false e ih l = ih (omega arith)
 
 -- p holds of no record
-abbrev pub None : (Handle → Bool) → List Handle → Type 0
+abbrev pub None : (Bound → Bool) → List Bound → Type 0
 None p [] = Unit {0}
 None p (h ∷ hs) = (p h ≡ false) × None p hs
 
-none-of : (p : Handle → Bool) (row : List Handle) → length row ≤ firstOf p row → None p row
+none-of : (p : Bound → Bool) (row : List Bound) → length row ≤ firstOf p row → None p row
 none-of p [] out = tt
 none-of p (h ∷ hs) out = go (p h) refl (none-of p hs) out
   where
@@ -42,24 +42,24 @@ none-of p (h ∷ hs) out = go (p h) refl (none-of p hs) out
     go true e ih l = absurd (zero-less l)
     go false e ih l = (e, ih (omega arith))
 
-of-none : (p : Handle → Bool) (row : List Handle) → None p row → length row ≤ firstOf p row
+of-none : (p : Bound → Bool) (row : List Bound) → None p row → length row ≤ firstOf p row
 of-none p [] n = omega arith
 of-none p (h ∷ hs) n =
     let rest : length hs ≤ firstOf p hs = of-none p hs (n .1) in
     let more : suc (length hs) ≤ suc (firstOf p hs) = omega arith in
     subst (λ (t : Bool). suc (length hs) ≤ zeroOrNext t (firstOf p hs)) (sym (n .0)) more
 
-none-at : (p : Handle → Bool) (row : List Handle) (i : ℕ) → i < length row → None p row → p (getD row i freeRecord) ≡ false
+none-at : (p : Bound → Bool) (row : List Bound) (i : ℕ) → i < length row → None p row → p (getD row i freeRecord) ≡ false
 none-at p [] i l n = absurd (zero-less l)
 none-at p (h ∷ hs) zero l n = n .0
 none-at p (h ∷ hs) (suc i) l n = none-at p hs i (omega arith) (n .1)
 
-pub none-set : (p : Handle → Bool) (row : List Handle) (i : ℕ) (g : Handle) → p g ≡ false → None p row → None p (set row i g)
+pub none-set : (p : Bound → Bool) (row : List Bound) (i : ℕ) (g : Bound) → p g ≡ false → None p row → None p (set row i g)
 none-set p [] i g e n = tt
 none-set p (h ∷ hs) zero g e n = (e, n .1)
 none-set p (h ∷ hs) (suc i) g e n = (n .0, none-set p hs i g e (n .1))
 
-none-also : (p q : Handle → Bool) (row : List Handle) → ((h : Handle) → p h ≡ false → q h ≡ false) → None p row → None q row
+none-also : (p q : Bound → Bool) (row : List Bound) → ((h : Bound) → p h ≡ false → q h ≡ false) → None p row → None q row
 none-also p q [] f n = tt
 none-also p q (h ∷ hs) f n = (f h (n .0), none-also p q hs f (n .1))
 
@@ -73,20 +73,20 @@ or-r : (a b : Bool) → (a || b) ≡ false → b ≡ false
 or-r true b e = absurd (true≢false e)
 or-r false b e = e
 
-abbrev pub Whole : ℕ → ℕ → List Handle → Type 0
+abbrev pub Whole : ℕ → ℕ → List Bound → Type 0
 Whole used room row = None (λ h. breaksOf h used room) row
 
-pub whole-of : (used room : ℕ) (row : List Handle) → leb (length row) (brokenOf row used room) ≡ true → Whole used room row
+pub whole-of : (used room : ℕ) (row : List Bound) → leb (length row) (brokenOf row used room) ≡ true → Whole used room row
 whole-of used room row e = none-of (λ h. breaksOf h used room) row (leb-true (length row) (brokenOf row used room) e)
 
-pub of-whole : (used room : ℕ) (row : List Handle) → Whole used room row → leb (length row) (brokenOf row used room) ≡ true
+pub of-whole : (used room : ℕ) (row : List Bound) → Whole used room row → leb (length row) (brokenOf row used room) ≡ true
 of-whole used room row n = le-leb (length row) (brokenOf row used room) (of-none (λ h. breaksOf h used room) row n)
 
 -- with more places in use
-pub whole-more : (used more room : ℕ) (row : List Handle) → used ≤ more → Whole used room row → Whole more room row
+pub whole-more : (used more room : ℕ) (row : List Bound) → used ≤ more → Whole used room row → Whole more room row
 whole-more used more room row le n = none-also (λ h. breaksOf h used room) (λ h. breaksOf h more room) row one n
   where
-    one : (h : Handle) → breaksOf h used room ≡ false → breaksOf h more room ≡ false
+    one : (h : Bound) → breaksOf h used room ≡ false → breaksOf h more room ≡ false
     one h = go (h .used)
       where
         go : (x : Bool) → (x && (leb used (h .place) || ltb room (h .«held_len»))) ≡ false → (x && (leb more (h .place) || ltb room (h .«held_len»))) ≡ false
@@ -97,14 +97,14 @@ whole-more used more room row le n = none-also (λ h. breaksOf h used room) (λ 
             ap (λ (x : Bool). x || ltb room (h .«held_len»)) (lt-leb more (h .place) low) ∙ or-r (leb used (h .place)) (ltb room (h .«held_len»)) e
 
 -- a record at a place in use, that holds no more than its area has
-pub record-whole : (h : Handle) (used room : ℕ) → h .place < used → h .«held_len» ≤ room → breaksOf h used room ≡ false
+pub record-whole : (h : Bound) (used room : ℕ) → h .place < used → h .«held_len» ≤ room → breaksOf h used room ≡ false
 record-whole h used room p l = go (h .used)
   where
     go : (x : Bool) → (x && (leb used (h .place) || ltb room (h .«held_len»))) ≡ false
     go false = refl
     go true = (λ i. lt-leb used (h .place) p i || le-ltb room (h .«held_len») l i)
 
-pub whole-cleared : (used room : ℕ) (row : List Handle) → Whole used room (clearedAll row)
+pub whole-cleared : (used room : ℕ) (row : List Bound) → Whole used room (clearedAll row)
 whole-cleared used room [] = tt
 whole-cleared used room (h ∷ hs) = (refl, whole-cleared used room hs)
 
@@ -119,17 +119,17 @@ and-r true b e = e
 and-r false b e = absurd (true≢false (sym e))
 
 -- the record found is used for the handle
-pub found-used : (row : List Handle) (k : ℕ) → findOf row k < length row → getD row (findOf row k) freeRecord .used ≡ true
+pub found-used : (row : List Bound) (k : ℕ) → findOf row k < length row → getD row (findOf row k) freeRecord .used ≡ true
 found-used row k l = and-l (getD row (findOf row k) freeRecord .used) (eqb (getD row (findOf row k) freeRecord .handle) k) (first-is (λ h. isOf h k) row l)
 
-pub found-own : (row : List Handle) (k : ℕ) → findOf row k < length row → getD row (findOf row k) freeRecord .handle ≡ k
+pub found-own : (row : List Bound) (k : ℕ) → findOf row k < length row → getD row (findOf row k) freeRecord .handle ≡ k
 found-own row k l = eqb-true (getD row (findOf row k) freeRecord .handle) k (and-r (getD row (findOf row k) freeRecord .used) (eqb (getD row (findOf row k) freeRecord .handle) k) (first-is (λ h. isOf h k) row l))
 
 -- it breaks no rule, if none does
-sound-found : (used room : ℕ) (row : List Handle) (k : ℕ) → findOf row k < length row → Whole used room row
+sound-found : (used room : ℕ) (row : List Bound) (k : ℕ) → findOf row k < length row → Whole used room row
     → (ltb (getD row (findOf row k) freeRecord .place) used && leb (getD row (findOf row k) freeRecord .«held_len») room) ≡ true
 sound-found used room row k l n =
-    let g : Handle = getD row (findOf row k) freeRecord in
+    let g : Bound = getD row (findOf row k) freeRecord in
     let off : breaksOf g used room ≡ false = none-at (λ h. breaksOf h used room) row (findOf row k) l n in
     go (leb used (g .place)) (ltb room (g .«held_len»)) refl refl (ap (λ (x : Bool). x && (leb used (g .place) || ltb room (g .«held_len»))) (sym (found-used row k l)) ∙ off)
   where
@@ -142,7 +142,7 @@ sound-found used room row k l n =
         && le-leb (getD row (findOf row k) freeRecord .«held_len») room (ltb-false room (getD row (findOf row k) freeRecord .«held_len») q) i)
 
 -- the rules by what was found are the rules
-pub seen-allowed : (s : Settings) (row : List Handle) (k : ℕ) (w b h : List ℕ) → seenAllowed (s .shape) (seenOf row k (getD w 0 0) (roomAll row h)) w b h ≡ allowedAll s row w b h
+pub seen-allowed : (s : Settings) (row : List Bound) (k : ℕ) (w b h : List ℕ) → seenAllowed (s .shape) (seenOf row k (getD w 0 0) (roomAll row h)) w b h ≡ allowedAll s row w b h
 seen-allowed s row k w b h = ap (λ (x : Bool). allowed (s .shape) w b && x) (go (leb (length row) (brokenOf row (getD w 0 0) (roomAll row h))) refl)
   where
     one : (x : Bool) → ltb (findOf row k) (length row) ≡ x → Whole (getD w 0 0) (roomAll row h) row

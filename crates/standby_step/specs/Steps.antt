@@ -9,7 +9,7 @@ use lib.Dec.{eqb, ltb, leb}
 use Rattle.model_frame.specs.Refusal
 use Rattle.model_frame.specs.Bytes.{write}
 use Rattle.model_frame.specs.Frame.{hello, welcome, bind, batch, ack, nack, bound, checked}
-use Rattle.standby_row.specs.declared.Seen.{Seen}
+use Rattle.standby_row.specs.declared.Lookup.{Lookup}
 use Rattle.store_place.specs.Only.{Only}
 use Rattle.store_areas.specs.StoreWord
 use Rattle.store_areas.specs.declared.Shape.{Shape}
@@ -40,19 +40,19 @@ abbrev pub roomOf : ℕ → ℕ → ℕ
 roomOf bytes places = cond (eqb places 0) 0 (bytes / places)
 
 -- the length of each, where the row was seen with so many places
-abbrev pub roomIn : Seen → List ℕ → ℕ
+abbrev pub roomIn : Lookup → List ℕ → ℕ
 roomIn seen h = roomOf (length h) (seen .len)
 
 -- ---- what was found
 
-abbrev pub isFound : Seen → Bool
+abbrev pub isFound : Lookup → Bool
 isFound seen = ltb (seen .at) (seen .len)
 
-abbrev pub foundIn : Seen → List ℕ → Option Bound
+abbrev pub foundIn : Lookup → List ℕ → Option Bound
 foundIn seen h = foundOf protocolVersion (isFound seen) (seen .bound) (areaAt (roomIn seen h) (seen .at) h)
 
 -- the rules: the store's, no broken record in the row, and the record found is none
-abbrev pub seenAllowed : Shape → Seen → List ℕ → List ℕ → List ℕ → Bool
+abbrev pub seenAllowed : Shape → Lookup → List ℕ → List ℕ → List ℕ → Bool
 seenAllowed s seen w b h =
     allowed s w b
     && (leb (seen .len) (seen .broken)
@@ -135,7 +135,7 @@ asks (disconnectedFrom n) = false
 asks promote = false
 asks promoteUnchecked = false
 
-pub record Stepped (s : Settings) (c : Replica) (seen : Seen) (call : Call) (w w' b b' h h' : List ℕ) (r : Outcome) : Type 0 where
+pub record Stepped (s : Settings) (c : Replica) (seen : Lookup) (call : Call) (w w' b b' h h' : List ℕ) (r : Outcome) : Type 0 where
   pub is : outcomeOf protocolVersion (roomIn seen h) (s .shape) w' b' h' r ≡ coreStep (settingsOf s (roomIn seen h)) (coreAt (countersOf c) (s .shape) w b) (foundIn seen h) (ltb (seen .free) (seen .len)) call
   pub lands : Lands seen (getD w' StoreWord.used 0) (roomIn seen h) r
   pub rules : Rules (s .shape) w' b'
@@ -144,6 +144,6 @@ pub record Stepped (s : Settings) (c : Replica) (seen : Seen) (call : Call) (w w
   pub holds : h' ≡ holdsAfter (roomIn seen h) (seen .at) (writesBy (settingsOf s (roomIn seen h)) (countersOf c) (foundIn seen h) call) h
 
 -- 25 where the rules are broken; else the step, where the record found is of the call's handle, if the call has one
-pub record StepIs (s : Settings) (c : Replica) (seen : Seen) (call : Call) (w w' b b' h h' : List ℕ) (r : Outcome) : Type 0 where
+pub record StepIs (s : Settings) (c : Replica) (seen : Lookup) (call : Call) (w w' b b' h h' : List ℕ) (r : Outcome) : Type 0 where
   pub refuses : seenAllowed (s .shape) seen w b h ≡ false → (r ≡ leaving c seen (isRefused Refusal.rulesBroken)) × ((w' ≡ w) × ((b' ≡ b) × (h' ≡ h)))
   pub steps : seenAllowed (s .shape) seen w b h ≡ true → (isFound seen ≡ true → asks call ≡ true → seen .bound .handle ≡ handleOf call) → Stepped s c seen call w w' b b' h h' r

@@ -16,7 +16,7 @@ use Rattle.store_place.specs.Place.{placeIn}
 use Rattle.store_areas.specs.StoreWord
 use Rattle.store_areas.specs.declared.Shape.{Shape}
 use Rattle.store_areas.specs.declared.Made.{Made}
-use Rattle.store_areas.specs.declared.Made.the-variants.{Ready, Unfit}
+use Rattle.store_areas.specs.declared.Made.the-variants.{Ready, InvalidAreas}
 
 -- the words and the bytes of a place
 abbrev pub placeWords : Shape → ℕ
@@ -111,9 +111,9 @@ pub record Changed (s : Shape) (i : ℕ) (f : Stored → Stored) (w w' b b' : Li
 -- document 01's number of an answer to making
 abbrev pub madeNumber : Made → ℕ
 madeNumber Ready = 0
-madeNumber Unfit = Refusal.rulesBroken
+madeNumber InvalidAreas = Refusal.rulesBroken
 
 -- making: 25 leaves all as it was; else no place is in use, no commit is pending, and the other words are as they were
 abbrev pub Making : Shape → List ℕ → List ℕ → List ℕ → Made → Type 0
 Making s w w' b Ready = (roomy s w b ≡ true) × (w' ≡ set (set w StoreWord.used 0) StoreWord.pending 0)
-Making s w w' b Unfit = (roomy s w b ≡ false) × (w' ≡ w)
+Making s w w' b InvalidAreas = (roomy s w b ≡ false) × (w' ≡ w)

@@ -39,7 +39,7 @@ pub const MAX_PENDING: u64 = 64;
 // The answer to making a store.
 pub enum Made {
     Ready,
-    Unfit,
+    InvalidAreas,
 }
 
 // The words of a place.
@@ -60,42 +60,42 @@ pub fn place_bytes(shape: Shape) -> usize
 // Where the words and the bytes of a place begin and end.
 #[repr(C)]
 pub struct Spot {
-    pub wa: usize,
-    pub we: usize,
-    pub ba: usize,
-    pub be: usize,
+    pub words_start: usize,
+    pub words_end: usize,
+    pub bytes_start: usize,
+    pub bytes_end: usize,
 }
 
 // Where place i stands.
-fn spot_of(shape: Shape, i: usize) -> Spot
+fn spot_of(shape: Shape, place: usize) -> Spot
     requires { ⌜ shape .messages ≤ 65536 ⌝ }
     requires { ⌜ shape .bytes ≤ 33554432 ⌝ }
-    requires { ⌜ i < 4294967296 ⌝ }
-    ensures { λ r. ⌜ SpotIs shape i (r .wa) (r .we) (r .ba) (r .be) ⌝ }
+    requires { ⌜ place < 4294967296 ⌝ }
+    ensures { λ r. ⌜ SpotIs shape place (r .«words_start») (r .«words_end») (r .«bytes_start») (r .«bytes_end») ⌝ }
 {
     let width = place_words(shape);
     let size = place_bytes(shape);
-    let wa = COUNT_WORDS + i * width;
-    let ba = i * size;
+    let words_start = COUNT_WORDS + place * width;
+    let bytes_start = place * size;
     Spot {
-        wa,
-        we: wa + width,
-        ba,
-        be: ba + size,
+        words_start,
+        words_end: words_start + width,
+        bytes_start,
+        bytes_end: bytes_start + size,
     }
 }
 
 // Where place i stands in areas that keep the rules: the place is in use.
-pub fn spot_in(words: &[u64], bytes: &[u8], shape: Shape, i: usize) -> Spot
+pub fn spot_in(words: &[u64], bytes: &[u8], shape: Shape, place: usize) -> Spot
     requires { ⌜ Rules shape (now words) (now bytes) ⌝ }
-    requires { ⌜ i < getD (now words) 0 0 ⌝ }
-    ensures { λ r. ⌜ SpotIn shape i (now (words .entry)) (now (bytes .entry)) (r .wa) (r .we) (r .ba) (r .be) ⌝ }
+    requires { ⌜ place < getD (now words) 0 0 ⌝ }
+    ensures { λ r. ⌜ SpotIn shape place (now (words .entry)) (now (bytes .entry)) (r .«words_start») (r .«words_end») (r .«bytes_start») (r .«bytes_end») ⌝ }
 {
-    spot_of(shape, i)
+    spot_of(shape, place)
 }
 
 // Whether C and M are within their limits and the areas are as long as they ask.
-pub fn roomy(shape: Shape, words: &[u64], bytes: &[u8]) -> bool
+pub fn long_enough(shape: Shape, words: &[u64], bytes: &[u8]) -> bool
     ensures { λ r. ⌜ r ≡ roomy shape (now (words .entry)) (now (bytes .entry)) ⌝ }
 {
     if Shape::MAX_BYTES < shape.bytes {
@@ -113,18 +113,18 @@ pub fn roomy(shape: Shape, words: &[u64], bytes: &[u8]) -> bool
 pub fn allowed(shape: Shape, words: &[u64], bytes: &[u8]) -> bool
     ensures { λ r. ⌜ r ≡ allowed shape (now (words .entry)) (now (bytes .entry)) ⌝ }
 {
-    if roomy(shape, words, bytes) {
+    if long_enough(shape, words, bytes) {
         return (words[word::USED] <= shape.places as u64) & (words[word::PENDING] <= MAX_PENDING);
     }
     false
 }
 
 // Whether the areas keep the rules and place i is in use.
-pub fn in_use(words: &[u64], bytes: &[u8], shape: Shape, i: usize) -> bool
-    ensures { λ r. ⌜ r ≡ inUse shape (now (words .entry)) (now (bytes .entry)) i ⌝ }
+pub fn in_use(words: &[u64], bytes: &[u8], shape: Shape, place: usize) -> bool
+    ensures { λ r. ⌜ r ≡ inUse shape (now (words .entry)) (now (bytes .entry)) place ⌝ }
 {
     if allowed(shape, words, bytes) {
-        return (i as u64) < words[word::USED];
+        return (place as u64) < words[word::USED];
     }
     false
 }
@@ -133,10 +133,10 @@ pub fn in_use(words: &[u64], bytes: &[u8], shape: Shape, i: usize) -> bool
 pub fn make(shape: Shape, words: &mut [u64], bytes: &[u8]) -> Made
     ensures { λ r. ⌜ Making shape (now (words .entry)) (now (words .exit)) (now (bytes .entry)) r ⌝ }
 {
-    if roomy(shape, words, bytes) {
+    if long_enough(shape, words, bytes) {
         words[word::USED] = 0;
         words[word::PENDING] = 0;
         return Made::Ready;
     }
-    Made::Unfit
+    Made::InvalidAreas
 }

@@ -30,17 +30,17 @@ pub fn wrapping_mul(a: u64, b: u64) -> u64
 }
 
 // The hash h carried over one byte.
-pub fn step(h: u64, x: u64) -> u64
-    ensures { λ r. ⌜ r ≡ fnvStep h x ⌝ }
+pub fn step(hash: u64, x: u64) -> u64
+    ensures { λ r. ⌜ r ≡ fnvStep hash x ⌝ }
 {
-    wrapping_mul(h ^ x, 0x100_0000_01b3)
+    wrapping_mul(hash ^ x, 0x100_0000_01b3)
 }
 
 // The hash h carried over the bytes of s.
-pub fn bytes(h: u64, s: &[u8]) -> u64
-    ensures { λ r. ⌜ r ≡ fnv h (now (s .entry)) ⌝ }
+pub fn bytes(hash: u64, s: &[u8]) -> u64
+    ensures { λ r. ⌜ r ≡ fnv hash (now (s .entry)) ⌝ }
 {
-    let mut r = h;
+    let mut r = hash;
     let mut i = 0;
     while i < s.len() {
         r = step(r, s[i] as u64);
@@ -50,10 +50,10 @@ pub fn bytes(h: u64, s: &[u8]) -> u64
 }
 
 // The hash h carried over the eight bytes of x, the lowest first; those that are 0 at the end are one product.
-pub fn word(h: u64, x: u64) -> u64
-    ensures { λ r. ⌜ r ≡ fnv h (bytesOf 8 x) ⌝ }
+pub fn word(hash: u64, x: u64) -> u64
+    ensures { λ r. ⌜ r ≡ fnv hash (bytesOf 8 x) ⌝ }
 {
-    let mut r = h;
+    let mut r = hash;
     let mut y = x;
     let mut left: usize = 8;
     while 0 < y {

@@ -103,9 +103,9 @@ pub fn newest_slot(words: &[u64], max: usize) -> usize
     slot_before(head(words, max), max)
 }
 
-// Makes the log stand by itself: after this the next number may rise, and the log is as it was. In an area that the
-// operations left, it writes nothing.
-pub fn settle(words: &mut [u64], max: usize, next: u64)
+// Discards a newest entry whose number is not below `next`, so that it cannot count again once next outgoing rises. In an
+// area that the operations left there is none, and it writes nothing.
+pub fn discard_stale(words: &mut [u64], max: usize, next: u64)
     requires { ⌜ 2 + 2 * max ≤ length (now words) ⌝ }
     ensures { λ _. ⌜ ((C later : ℕ) (b : List ℕ) → next ≤ later → logOf C max later (now (words .exit)) b ≡ logOf C max next (now (words .entry)) b) ⌝ }
 {
@@ -129,7 +129,7 @@ pub fn record(words: &mut [u64], bytes: &mut [u8], max: usize, seq: u64, text: &
         return;
     }
     if cap < text.len() {
-        settle(words, max, seq);
+        discard_stale(words, max, seq);
         return;
     }
     let at = tail(words, cap);
@@ -151,13 +151,13 @@ pub fn clear(words: &mut [u64], max: usize)
 
 // A place in the log: the newest messages that are still to be read, and their bytes.
 #[repr(C)]
-pub struct Cursor {
+pub struct LogPosition {
     pub left: usize,
     pub dist: usize,
 }
 
 // The place where the messages with numbers from low begin, found from the newest back.
-pub fn messages_from(words: &[u64], bytes: &[u8], max: usize, next: u64, low: u64) -> Cursor
+pub fn messages_from(words: &[u64], bytes: &[u8], max: usize, next: u64, low: u64) -> LogPosition
     requires { ⌜ 2 + 2 * max ≤ length (now words) ⌝ }
     requires { ⌜ 1 ≤ low ⌝ }
     ensures { λ r. ⌜ From (length (now (bytes .entry))) max next low (now (words .entry)) (now (bytes .entry)) (r .left) (r .dist) ⌝ }
@@ -166,7 +166,7 @@ pub fn messages_from(words: &[u64], bytes: &[u8], max: usize, next: u64, low: u6
     let mut left = 0;
     let mut dist = 0;
     if max == 0 {
-        return Cursor { left, dist };
+        return LogPosition { left, dist };
     }
     let mut slot = head(words, max);
     let mut bound = next;
@@ -175,19 +175,19 @@ pub fn messages_from(words: &[u64], bytes: &[u8], max: usize, next: u64, low: u6
         let n = words[NUMBER + ENTRY_WORDS * slot];
         let l = words[LENGTH + ENTRY_WORDS * slot] as usize;
         if n < low {
-            return Cursor { left, dist };
+            return LogPosition { left, dist };
         }
         if bound <= n {
-            return Cursor { left, dist };
+            return LogPosition { left, dist };
         }
         if cap - dist < l {
-            return Cursor { left, dist };
+            return LogPosition { left, dist };
         }
         dist += l;
         bound = n;
         left += 1;
     }
-    Cursor { left, dist }
+    LogPosition { left, dist }
 }
 
 // The slot of the i-th newest entry.
@@ -207,21 +207,21 @@ pub fn slot_at(head: usize, max: usize, i: usize) -> usize
 
 // Where bytes of the ring stand: `first` from `start`, then `rest` from the ring's start.
 #[repr(C)]
-pub struct Span {
+pub struct RingSpan {
     pub start: usize,
     pub first: usize,
     pub rest: usize,
 }
 
 // The len bytes that begin dist bytes before the tail.
-pub fn span_of(tail: usize, cap: usize, dist: usize, len: usize) -> Span
+pub fn span_of(tail: usize, cap: usize, dist: usize, len: usize) -> RingSpan
     requires { ⌜ tail ≤ cap ⌝ }
     requires { ⌜ dist ≤ cap ⌝ }
     requires { ⌜ len ≤ dist ⌝ }
     ensures { λ r. ⌜ Spanned tail cap dist len (r .start) (r .first) (r .rest) ⌝ }
 {
     if dist <= tail {
-        return Span {
+        return RingSpan {
             start: tail - dist,
             first: len,
             rest: 0,
@@ -230,13 +230,13 @@ pub fn span_of(tail: usize, cap: usize, dist: usize, len: usize) -> Span
     let room = dist - tail;
     let start = cap - room;
     if len <= room {
-        return Span {
+        return RingSpan {
             start,
             first: len,
             rest: 0,
         };
     }
-    Span {
+    RingSpan {
         start,
         first: room,
         rest: len - room,
@@ -284,14 +284,21 @@ pub fn message_at(
 }
 
 // The hash h carried over a message's number, length and bytes.
-fn hash_message(h: u64, bytes: &[u8], number: u64, start: usize, first: usize, rest: usize) -> u64
+fn hash_message(
+    hash: u64,
+    bytes: &[u8],
+    number: u64,
+    start: usize,
+    first: usize,
+    rest: usize,
+) -> u64
     requires { ⌜ start + first ≤ length (now bytes) ⌝ }
     requires { ⌜ rest ≤ length (now bytes) ⌝ }
     requires { ⌜ first + rest ≤ length (now bytes) ⌝ }
-    ensures { λ r. ⌜ r ≡ fnvMessage h (msg number (take first (drop start (now (bytes .entry))) ++ take rest (now (bytes .entry)))) ⌝ }
+    ensures { λ r. ⌜ r ≡ fnvMessage hash (msg number (take first (drop start (now (bytes .entry))) ++ take rest (now (bytes .entry)))) ⌝ }
 {
     let end = start + first;
-    let a = fnv::word(h, number);
+    let a = fnv::word(hash, number);
     let b = fnv::word(a, (first + rest) as u64);
     let c = fnv::bytes(b, &bytes[start..end]);
     fnv::bytes(c, &bytes[..rest])

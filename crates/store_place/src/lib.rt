@@ -11,8 +11,8 @@ ghost use Rattle.model_session.specs.Summary.{lastOut};
 ghost use Rattle.model_standby.specs.Store.{Place, onStored, changed, markDurable, takenOver, newPlace, sameBytes, sameKey, withB};
 ghost use Rattle.store_place.specs.Only.{Only};
 ghost use Rattle.store_place.specs.Place.{nextOutOf, storedFlight, durableOf, field, stampOf, marksOf, storedKey, sessionOf, placeIn, flightIs, PutText, endsInB, keyFrom, PositionIn, FromIn, NextMessageIn};
-use store_log::Cursor;
 use store_log::Found;
+use store_log::LogPosition;
 
 // The words of a place; 11 to 13 are spare.
 pub mod word {
@@ -211,7 +211,7 @@ pub fn record_none(words: &mut [u64], max: usize, seq: u64)
     ensures { λ _. ⌜ ((C : ℕ) (b : List ℕ) → placeIn C max (now (words .exit)) b ≡ onStored (changed C max (recordBare seq ∷ [])) (placeIn C max (now (words .entry)) b)) ⌝ }
 {
     let next = next_outgoing(words);
-    store_log::settle(&mut words[word::LOG..], max, next);
+    store_log::discard_stale(&mut words[word::LOG..], max, next);
     words[word::NEXT_OUTGOING] = seq + 1;
     words[word::DURABLE] = 0;
 }
@@ -321,7 +321,7 @@ pub fn take_over(words: &mut [u64], bytes: &mut [u8], max: usize, lag: u64)
     let next = next_outgoing(words);
     let n = marks_len(words, bytes);
     let end = put_b(bytes, n);
-    store_log::settle(&mut words[word::LOG..], max, next);
+    store_log::discard_stale(&mut words[word::LOG..], max, next);
     words[word::NEXT_OUTGOING] = skipped(next, lag);
     words[word::MARKS_LEN] = end as u64;
     words[word::DURABLE] = 1;
@@ -416,7 +416,7 @@ pub fn last_outgoing(words: &[u64], bytes: &[u8], max: usize, n: u64) -> u64
 }
 
 // The place in the log where the messages with numbers from low begin.
-pub fn messages_from(words: &[u64], bytes: &[u8], max: usize, low: u64) -> Cursor
+pub fn messages_from(words: &[u64], bytes: &[u8], max: usize, low: u64) -> LogPosition
     requires { ⌜ 16 + 2 * max ≤ length (now words) ⌝ }
     requires { ⌜ 224 ≤ length (now bytes) ⌝ }
     requires { ⌜ 1 ≤ low ⌝ }

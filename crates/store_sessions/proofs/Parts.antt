@@ -18,7 +18,7 @@ use Rattle.store_areas.specs.declared.Shape.{Shape}
 use Rattle.store_areas.specs.Areas.{placeWords, placeBytes, wordsAt, bytesAt, allowed, Rules, SpotIn, slice, placeAt, placesOf}
 use Rattle.store_areas.proofs.Lifting.{spot-place, spot-words-part, spot-bytes-part, session-is, places-length}
 use Rattle.store_state.specs.Answers.{TextAt}
-use Rattle.store_state.specs.declared.Summary.{Summary}
+use Rattle.store_state.specs.declared.StoredSummary.{StoredSummary}
 use Rattle.store_state.proofs.Reading.{part-of}
 use Rattle.store_sessions.specs.Answers.{summaryIs, summarisedIn, restAt, PositionAt, FromAt, NextMessageAt}
 
@@ -81,7 +81,7 @@ module _ (s : Shape) (i wa we ba be : ℕ) (w b : List ℕ) (at : SpotIn s i w b
 
 -- ---- summaries
 
-pub summed-up : (b : List ℕ) (m : Summary) (x : Session) (n : ℕ) → m .«next_outgoing» ≡ x .nextOut → m .«next_incoming» ≡ x .nextIn → flightIs (m .«in_flight») ≡ x .inFlight
+pub summed-up : (b : List ℕ) (m : StoredSummary) (x : Session) (n : ℕ) → m .«next_outgoing» ≡ x .nextOut → m .«next_incoming» ≡ x .nextIn → flightIs (m .«in_flight») ≡ x .inFlight
     → TextAt b (x .stamp) (m .«created_at» .at) (m .«created_at» .len) → TextAt b (x .marks) (m .marks .at) (m .marks .len) → m .«last_outgoing» ≡ lastOut x n → summaryIs b m ≡ summary x n
 unfolding summaryIs summary
 summed-up b m x n eo ei ef es em el = λ j. record { nextOut = eo j; nextIn = ei j; inFlight = ef j; stampText = es .is j; marksText = em .is j; lastOutgoing = el j }

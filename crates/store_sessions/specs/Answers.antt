@@ -16,7 +16,7 @@ use Rattle.store_place.specs.Place.{flightIs, restIn, PositionIn}
 use Rattle.store_areas.specs.StoreWord
 use Rattle.store_areas.specs.declared.Shape.{Shape}
 use Rattle.store_areas.specs.Areas.{placeWords, placeBytes, wordsAt, bytesAt, allowed, slice, placeAt, placesOf}
-use Rattle.store_state.specs.declared.Summary.{Summary}
+use Rattle.store_state.specs.declared.StoredSummary.{StoredSummary}
 use Rattle.store_sessions.specs.declared.Sought.{Sought}
 use Rattle.store_sessions.specs.declared.Sought
 use Rattle.store_sessions.specs.declared.Summarised.{Summarised}
@@ -26,7 +26,7 @@ use Rattle.store_sessions.specs.declared.Summarised
 
 abbrev pub soughtIs : Sought → Option ℕ
 soughtIs (Sought.Place i) = some i
-soughtIs Sought.Unfit = none
+soughtIs Sought.InvalidAreas = none
 
 unfoldable pub soughtIn : Shape → List ℕ → List ℕ → Key → Option ℕ
 soughtIn s w b k = cond (allowed s w b) (some (placeOf k (placesOf s w b))) none
@@ -45,7 +45,7 @@ pub record TakenOver (s : Shape) (lag : ℕ) (w w' b b' : List ℕ) : Type 0 whe
 
 -- ---- summaries: none is 25
 
-unfoldable pub summaryIs : List ℕ → Summary → model-frame.Summary
+unfoldable pub summaryIs : List ℕ → StoredSummary → model-frame.Summary
 summaryIs b m =
     record {
       nextOut = m .«next_outgoing»;
@@ -58,7 +58,7 @@ summaryIs b m =
 
 abbrev pub summarisedIs : List ℕ → Summarised → Option model-frame.Summary
 summarisedIs b (Summarised.Session m) = some (summaryIs b m)
-summarisedIs b Summarised.Unfit = none
+summarisedIs b Summarised.InvalidAreas = none
 
 unfoldable pub summarisedIn : Shape → List ℕ → List ℕ → ℕ → ℕ → Option model-frame.Summary
 summarisedIn s w b i n = cond (allowed s w b) (Option·map (λ (x : Session). summary x n) (sessionAt (placesOf s w b) i)) none

@@ -11,29 +11,30 @@ ghost use Rattle.store_areas.specs.Areas.{Rules, placeAt, placesOf};
 ghost use Rattle.store_sessions.specs.Answers.{soughtIs, soughtIn, Opened, TakenOver, summaryIs, summarisedIs, summarisedIn, PositionAt, FromAt, NextMessageAt};
 use store_areas::Shape;
 use store_areas::word;
-use store_log::Cursor;
-use store_state::Summary;
+use store_log::LogPosition;
+use store_state::StoredSummary;
 
 // The answer to a search: the place of the key, or, where it has none, the number of places in use.
 pub enum Sought {
     Place(usize),
-    Unfit,
+    InvalidAreas,
 }
 
 // The answer to a request for a summary.
 pub enum Summarised {
-    Session(Summary),
-    Unfit,
+    Session(StoredSummary),
+    InvalidAreas,
 }
 
-// A stored message: its number, its bytes in two parts of the byte area, and the place in the log after it.
+// A stored message: its number, where its bytes stand in the byte area (the second part is empty unless they wrap around
+// the ring's end), and the position of the message before it in the log.
 #[repr(C)]
 pub struct Message {
     pub number: u64,
-    pub at: usize,
-    pub first: usize,
-    pub again: usize,
-    pub rest: usize,
+    pub first_at: usize,
+    pub first_len: usize,
+    pub second_at: usize,
+    pub second_len: usize,
     pub left: usize,
     pub dist: usize,
 }
@@ -45,24 +46,24 @@ fn has_key(
     words: &[u64],
     bytes: &[u8],
     shape: Shape,
-    i: usize,
+    place: usize,
     begin: &[u8],
     sender: &[u8],
     target: &[u8],
     suffix: &[u8],
 ) -> bool
     requires { ⌜ Rules shape (now words) (now bytes) ⌝ }
-    requires { ⌜ i < getD (now words) 0 0 ⌝ }
-    ensures { λ r. ⌜ r ≡ sameKey (keyFrom (now (begin .entry)) (now (sender .entry)) (now (target .entry)) (now (suffix .entry))) (placeAt shape (now (words .entry)) (now (bytes .entry)) i .key) ⌝ }
+    requires { ⌜ place < getD (now words) 0 0 ⌝ }
+    ensures { λ r. ⌜ r ≡ sameKey (keyFrom (now (begin .entry)) (now (sender .entry)) (now (target .entry)) (now (suffix .entry))) (placeAt shape (now (words .entry)) (now (bytes .entry)) place .key) ⌝ }
 {
-    let p = store_areas::spot_in(words, bytes, shape, i);
-    let wa = p.wa;
-    let we = p.we;
-    let ba = p.ba;
-    let be = p.be;
+    let p = store_areas::spot_in(words, bytes, shape, place);
+    let words_start = p.words_start;
+    let words_end = p.words_end;
+    let bytes_start = p.bytes_start;
+    let bytes_end = p.bytes_end;
     store_place::has_key(
-        &words[wa..we],
-        &bytes[ba..be],
+        &words[words_start..words_end],
+        &bytes[bytes_start..bytes_end],
         begin,
         sender,
         target,
@@ -109,7 +110,7 @@ pub fn find(
     if store_areas::allowed(shape, words, bytes) {
         return Sought::Place(place_of(words, bytes, shape, begin, sender, target, suffix));
     }
-    Sought::Unfit
+    Sought::InvalidAreas
 }
 
 // Opens the new session of a key at the next free place.
@@ -133,14 +134,14 @@ pub fn open(
     let used = words[word::USED] as usize;
     words[word::USED] = (used + 1) as u64;
     let p = store_areas::spot_in(words, bytes, shape, used);
-    let wa = p.wa;
-    let we = p.we;
-    let ba = p.ba;
-    let be = p.be;
+    let words_start = p.words_start;
+    let words_end = p.words_end;
+    let bytes_start = p.bytes_start;
+    let bytes_end = p.bytes_end;
     let max = shape.messages as usize;
     store_place::new_session(
-        &mut words[wa..we],
-        &mut bytes[ba..be],
+        &mut words[words_start..words_end],
+        &mut bytes[bytes_start..bytes_end],
         max,
         begin,
         sender,
@@ -167,33 +168,38 @@ pub fn take_over_all(words: &mut [u64], bytes: &mut [u8], shape: Shape, lag: u64
 // ---- summaries
 
 // last_outgoing over n, of a session in use.
-pub fn last_outgoing(words: &[u64], bytes: &[u8], shape: Shape, i: usize, n: u64) -> u64
+pub fn last_outgoing(words: &[u64], bytes: &[u8], shape: Shape, place: usize, n: u64) -> u64
     requires { ⌜ Rules shape (now words) (now bytes) ⌝ }
-    requires { ⌜ i < getD (now words) 0 0 ⌝ }
-    ensures { λ r. ⌜ r ≡ lastOut (placeAt shape (now (words .entry)) (now (bytes .entry)) i .stored .session) n ⌝ }
+    requires { ⌜ place < getD (now words) 0 0 ⌝ }
+    ensures { λ r. ⌜ r ≡ lastOut (placeAt shape (now (words .entry)) (now (bytes .entry)) place .stored .session) n ⌝ }
 {
-    let p = store_areas::spot_in(words, bytes, shape, i);
-    let wa = p.wa;
-    let we = p.we;
-    let ba = p.ba;
-    let be = p.be;
+    let p = store_areas::spot_in(words, bytes, shape, place);
+    let words_start = p.words_start;
+    let words_end = p.words_end;
+    let bytes_start = p.bytes_start;
+    let bytes_end = p.bytes_end;
     let max = shape.messages as usize;
-    store_place::last_outgoing(&words[wa..we], &bytes[ba..be], max, n)
+    store_place::last_outgoing(
+        &words[words_start..words_end],
+        &bytes[bytes_start..bytes_end],
+        max,
+        n,
+    )
 }
 
 // The summary of a session in use, with last_outgoing over n.
-pub fn summary_of(words: &[u64], bytes: &[u8], shape: Shape, i: usize, n: u64) -> Summary
+pub fn summary_of(words: &[u64], bytes: &[u8], shape: Shape, place: usize, n: u64) -> StoredSummary
     requires { ⌜ Rules shape (now words) (now bytes) ⌝ }
-    requires { ⌜ i < getD (now words) 0 0 ⌝ }
-    ensures { λ r. ⌜ summaryIs (now (bytes .entry)) r ≡ summary (placeAt shape (now (words .entry)) (now (bytes .entry)) i .stored .session) n ⌝ }
+    requires { ⌜ place < getD (now words) 0 0 ⌝ }
+    ensures { λ r. ⌜ summaryIs (now (bytes .entry)) r ≡ summary (placeAt shape (now (words .entry)) (now (bytes .entry)) place .stored .session) n ⌝ }
 {
-    let next_outgoing = store_state::next_outgoing(words, bytes, shape, i);
-    let next_incoming = store_state::next_incoming(words, bytes, shape, i);
-    let in_flight = store_state::in_flight(words, bytes, shape, i);
-    let created_at = store_state::created_at(words, bytes, shape, i);
-    let marks = store_state::marks(words, bytes, shape, i);
-    let last_outgoing = last_outgoing(words, bytes, shape, i, n);
-    Summary {
+    let next_outgoing = store_state::next_outgoing(words, bytes, shape, place);
+    let next_incoming = store_state::next_incoming(words, bytes, shape, place);
+    let in_flight = store_state::in_flight(words, bytes, shape, place);
+    let created_at = store_state::created_at(words, bytes, shape, place);
+    let marks = store_state::marks(words, bytes, shape, place);
+    let last_outgoing = last_outgoing(words, bytes, shape, place, n);
+    StoredSummary {
         next_outgoing,
         next_incoming,
         in_flight,
@@ -204,33 +210,44 @@ pub fn summary_of(words: &[u64], bytes: &[u8], shape: Shape, i: usize, n: u64) -
 }
 
 // The same on any areas and of any place.
-pub fn summary(words: &[u64], bytes: &[u8], shape: Shape, i: usize, n: u64) -> Summarised
-    ensures { λ r. ⌜ summarisedIs (now (bytes .entry)) r ≡ summarisedIn shape (now (words .entry)) (now (bytes .entry)) i n ⌝ }
+pub fn summary(words: &[u64], bytes: &[u8], shape: Shape, place: usize, n: u64) -> Summarised
+    ensures { λ r. ⌜ summarisedIs (now (bytes .entry)) r ≡ summarisedIn shape (now (words .entry)) (now (bytes .entry)) place n ⌝ }
 {
     if store_areas::allowed(shape, words, bytes) {
-        if i < words[word::USED] as usize {
-            return Summarised::Session(summary_of(words, bytes, shape, i, n));
+        if place < words[word::USED] as usize {
+            return Summarised::Session(summary_of(words, bytes, shape, place, n));
         }
     }
-    Summarised::Unfit
+    Summarised::InvalidAreas
 }
 
 // ---- messages
 
 // The place in the log of a session where the messages with numbers from low begin.
-pub fn messages_from(words: &[u64], bytes: &[u8], shape: Shape, i: usize, low: u64) -> Cursor
+pub fn messages_from(
+    words: &[u64],
+    bytes: &[u8],
+    shape: Shape,
+    place: usize,
+    low: u64,
+) -> LogPosition
     requires { ⌜ Rules shape (now words) (now bytes) ⌝ }
-    requires { ⌜ i < getD (now words) 0 0 ⌝ }
+    requires { ⌜ place < getD (now words) 0 0 ⌝ }
     requires { ⌜ 1 ≤ low ⌝ }
-    ensures { λ r. ⌜ FromAt shape (now (words .entry)) (now (bytes .entry)) i low (r .left) (r .dist) ⌝ }
+    ensures { λ r. ⌜ FromAt shape (now (words .entry)) (now (bytes .entry)) place low (r .left) (r .dist) ⌝ }
 {
-    let p = store_areas::spot_in(words, bytes, shape, i);
-    let wa = p.wa;
-    let we = p.we;
-    let ba = p.ba;
-    let be = p.be;
+    let p = store_areas::spot_in(words, bytes, shape, place);
+    let words_start = p.words_start;
+    let words_end = p.words_end;
+    let bytes_start = p.bytes_start;
+    let bytes_end = p.bytes_end;
     let max = shape.messages as usize;
-    store_place::messages_from(&words[wa..we], &bytes[ba..be], max, low)
+    store_place::messages_from(
+        &words[words_start..words_end],
+        &bytes[bytes_start..bytes_end],
+        max,
+        low,
+    )
 }
 
 // The next message at a place in the log of a session.
@@ -238,29 +255,35 @@ pub fn message_at(
     words: &[u64],
     bytes: &[u8],
     shape: Shape,
-    i: usize,
+    place: usize,
     left: usize,
     dist: usize,
 ) -> Message
     requires { ⌜ Rules shape (now words) (now bytes) ⌝ }
-    requires { ⌜ i < getD (now words) 0 0 ⌝ }
-    requires { ⌜ PositionAt shape (now words) (now bytes) i left dist ⌝ }
+    requires { ⌜ place < getD (now words) 0 0 ⌝ }
+    requires { ⌜ PositionAt shape (now words) (now bytes) place left dist ⌝ }
     requires { ⌜ 1 ≤ left ⌝ }
-    ensures { λ r. ⌜ NextMessageAt shape (now (words .entry)) (now (bytes .entry)) i left dist (r .number) (r .at) (r .first) (r .again) (r .rest) (r .left) (r .dist) ⌝ }
+    ensures { λ r. ⌜ NextMessageAt shape (now (words .entry)) (now (bytes .entry)) place left dist (r .number) (r .«first_at») (r .«first_len») (r .«second_at») (r .«second_len») (r .left) (r .dist) ⌝ }
 {
-    let p = store_areas::spot_in(words, bytes, shape, i);
-    let wa = p.wa;
-    let we = p.we;
-    let ba = p.ba;
-    let be = p.be;
+    let p = store_areas::spot_in(words, bytes, shape, place);
+    let words_start = p.words_start;
+    let words_end = p.words_end;
+    let bytes_start = p.bytes_start;
+    let bytes_end = p.bytes_end;
     let max = shape.messages as usize;
-    let f = store_place::message_at(&words[wa..we], &bytes[ba..be], max, left, dist);
+    let f = store_place::message_at(
+        &words[words_start..words_end],
+        &bytes[bytes_start..bytes_end],
+        max,
+        left,
+        dist,
+    );
     Message {
         number: f.number,
-        at: ba + f.start,
-        first: f.first,
-        again: ba + store_place::byte::RING,
-        rest: f.rest,
+        first_at: bytes_start + f.start,
+        first_len: f.first,
+        second_at: bytes_start + store_place::byte::RING,
+        second_len: f.rest,
         left: f.left,
         dist: f.dist,
     }

@@ -8,7 +8,7 @@ use lib.ListN.{replicate}
 use Rattle.model_text.specs.Printable.{isPrintableByte, isPrintable, isMarks}
 use Rattle.model_session.specs.Session.{newSession, Holdable}
 use Rattle.model_session.specs.Whole.{wholeBatches}
-use Rattle.standby_row.specs.declared.Handle.{Handle}
+use Rattle.standby_row.specs.declared.Bound.{Bound as BoundRecord}
 use Rattle.store_areas.specs.Areas.{allowed, placeAt, placesOf, Rules}
 use Rattle.store_areas.proofs.Ruling.{rules-true}
 use Rattle.store_areas.proofs.Lifting.{place-is, session-is}
@@ -22,9 +22,9 @@ use Rattle.standby_state.specs.declared.Settings.{Settings}
 use Rattle.theorem_whole_copy.specs.Demand.{Lent, Start}
 
 abbrev s₀ : Settings
-s₀ = record { shape = record { places = 1; bytes = 0; messages = 0 }; incarnation = record { 0 = 7 }; lag = 0 }
+s₀ = record { shape = record { places = 1; bytes = 0; messages = 0 }; incarnation = record { 0 = 7 }; «max_lag» = 0 }
 
-abbrev h₀ : Handle
+abbrev h₀ : BoundRecord
 h₀ = record { used = true; handle = 9; place = 0; «commit_no» = record { 0 = 7 }; «held_len» = 0; «held_bytes» = 3 }
 
 abbrev x₀ : Lent

@@ -13,7 +13,7 @@ use Rattle.model_frame.specs.Parse.{isEmpty}
 use Rattle.model_frame.specs.Writing.{encode}
 use Rattle.model_session.specs.Session.{Session, Holdable, top}
 use Rattle.model_session.specs.Whole.{wholeBatches, wholeFrames, holdLength}
-use Rattle.standby_row.specs.declared.Handle.{Handle}
+use Rattle.standby_row.specs.declared.Bound.{Bound as BoundRecord}
 use Rattle.store_areas.specs.Areas.{placesOf}
 use Rattle.model_standby.specs.Answer.{accepted}
 use Rattle.model_standby.specs.Row.{find}
@@ -32,7 +32,7 @@ use Rattle.standby_step.specs.Calls.{roomAll, standbyOf, allowedAll, Called}
 -- what is lent for each call: the counters, the row of handles, the store's two areas, the hold areas
 pub record Lent : Type 0 where
   pub counters : Replica
-  pub row : List Handle
+  pub row : List BoundRecord
   pub words : List ℕ
   pub bytes : List ℕ
   pub holds : List ℕ

@@ -43,27 +43,34 @@ fn open(line: &[u8], words: &mut [u64], bytes: &mut [u8], at: At) -> At {
 }
 
 // A change of numbers.
-fn number(letter: u8, line: &[u8], words: &mut [u64], bytes: &[u8], shape: Shape, i: usize) {
+fn number(letter: u8, line: &[u8], words: &mut [u64], bytes: &[u8], shape: Shape, place: usize) {
     let n = vectors_script::field(line, 0);
     match letter {
-        b'i' => vectors_fill::set_incoming(words, bytes, shape, i, n),
-        b'b' => vectors_fill::set_both(words, bytes, shape, i, n, vectors_script::field(line, 1)),
-        b'f' => vectors_fill::set_flight(words, bytes, shape, i, n),
-        b'g' => vectors_fill::skip(words, bytes, shape, i, n),
-        b'z' => vectors_fill::reset(words, bytes, shape, i),
+        b'i' => vectors_fill::set_incoming(words, bytes, shape, place, n),
+        b'b' => vectors_fill::set_both(
+            words,
+            bytes,
+            shape,
+            place,
+            n,
+            vectors_script::field(line, 1),
+        ),
+        b'f' => vectors_fill::set_flight(words, bytes, shape, place, n),
+        b'g' => vectors_fill::skip(words, bytes, shape, place, n),
+        b'z' => vectors_fill::reset(words, bytes, shape, place),
         _ => {}
     }
 }
 
 // A change with a text.
-fn text(letter: u8, line: &[u8], words: &mut [u64], bytes: &mut [u8], shape: Shape, i: usize) {
+fn text(letter: u8, line: &[u8], words: &mut [u64], bytes: &mut [u8], shape: Shape, place: usize) {
     if line.len() < 2 {
         return;
     }
     match letter {
-        b't' => vectors_fill::set_stamp(words, bytes, shape, i, &line[2..]),
-        b'k' => vectors_fill::set_marks(words, bytes, shape, i, &line[2..]),
-        b'm' => vectors_fill::record(words, bytes, shape, i, &line[2..]),
+        b't' => vectors_fill::set_stamp(words, bytes, shape, place, &line[2..]),
+        b'k' => vectors_fill::set_marks(words, bytes, shape, place, &line[2..]),
+        b'm' => vectors_fill::record(words, bytes, shape, place, &line[2..]),
         _ => {}
     }
 }
@@ -75,7 +82,7 @@ fn sending(
     words: &[u64],
     bytes: &[u8],
     shape: Shape,
-    i: usize,
+    place: usize,
     out: &mut [u8],
 ) {
     let a = vectors_script::field(line, 0);
@@ -87,7 +94,7 @@ fn sending(
             words,
             bytes,
             shape,
-            i,
+            place,
             vectors_script::low(a),
             b,
             c,
@@ -100,7 +107,7 @@ fn sending(
                 words,
                 bytes,
                 shape,
-                i,
+                place,
                 vectors_script::low(a),
                 b,
                 c,
@@ -108,7 +115,7 @@ fn sending(
                 short,
             )
         }
-        b'x' => vectors_sendings::odd(words, bytes, shape, i, a, b, out),
+        b'x' => vectors_sendings::odd(words, bytes, shape, place, a, b, out),
         _ => {}
     }
 }

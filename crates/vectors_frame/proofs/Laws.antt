@@ -33,7 +33,7 @@ room version (some f) k = go (fine version f) (ltb maxBody (length (bodyBytes f)
     go true false true e = omega arith
     go true false false e = ltb-false k (length (encode f)) e
 
-pub took-fits : {version n : ℕ} {f : Option Frame} {before after : List ℕ} → Encoded version f before after (Written.Took n) → n ≤ length before
+pub took-fits : {version n : ℕ} {f : Option Frame} {before after : List ℕ} → Encoded version f before after (Written.Bytes n) → n ≤ length before
 took-fits {version} {n} {f} {before} e =
     let same : n ≡ told (writeAnswer (writeOutcome version f (length before))) = ap told (e .answer) in
     omega (arith, same, room version f (length before))

@@ -22,8 +22,8 @@ fn put_number(n: u64) {
     io::print_decimal(STDOUT_FILENO, n);
 }
 
-fn put_field(f: Field) {
-    match f {
+fn put_field(field: Field) {
+    match field {
         Field::FrameKind => put(b"kind "),
         Field::Part => put(b"part "),
         Field::Refusal => put(b"refusal "),
@@ -31,8 +31,8 @@ fn put_field(f: Field) {
     }
 }
 
-fn put_value(v: Value) {
-    match v {
+fn put_value(value: Value) {
+    match value {
         Value::Text => put(b"4"),
         Value::Session => put(b"5"),
         Value::Timestamp => put(b"6"),
@@ -41,8 +41,8 @@ fn put_value(v: Value) {
 }
 
 // A refusal's number and values.
-fn put_fault(e: FrameError) {
-    match e {
+fn put_fault(error: FrameError) {
+    match error {
         FrameError::TooLong(n) => {
             put(b"1 ");
             put_number(n as u64);
@@ -68,10 +68,10 @@ fn put_digits(src: &[u8])
 }
 
 // A frame that was read from src, written again.
-fn put_frame(f: Frame, src: &[u8]) {
+fn put_frame(decoded: Frame, src: &[u8]) {
     let mut out = [0u8; 8192];
-    match f.encode(Protocol { version: 1 }, src, &mut out) {
-        Written::Took(n) => put_digits(&out[0..n]),
+    match decoded.encode(Protocol { version: 1 }, src, &mut out) {
+        Written::Bytes(n) => put_digits(&out[0..n]),
         Written::Unreadable => put(b"not written: 8"),
         Written::TooLong => put(b"not written: 1"),
         Written::NoRoom => put(b"not written: 9"),

@@ -52,25 +52,31 @@ fn put_front(out: &[u8], len: usize) {
 }
 
 // One call, with what it gave in text.
-fn turn(s: Sending, shape: Shape, words: &[u64], bytes: &[u8], out: &mut [u8]) -> Called {
-    match s.send_whole(shape, words, bytes, out) {
+fn turn(state: Sending, shape: Shape, words: &[u64], bytes: &[u8], out: &mut [u8]) -> Called {
+    match state.send_whole(shape, words, bytes, out) {
         Sent::Frame(len, next) => {
             put_front(out, len);
             Called { answer: 0, next }
         }
         Sent::Done => {
             put(b"done\n");
-            Called { answer: 1, next: s }
+            Called {
+                answer: 1,
+                next: state,
+            }
         }
         Sent::TooShort => {
             put(b"R 9\n");
-            Called { answer: 9, next: s }
+            Called {
+                answer: 9,
+                next: state,
+            }
         }
-        Sent::Unfit => {
+        Sent::InvalidAreas => {
             put(b"R 25\n");
             Called {
                 answer: 25,
-                next: s,
+                next: state,
             }
         }
     }
@@ -78,7 +84,7 @@ fn turn(s: Sending, shape: Shape, words: &[u64], bytes: &[u8], out: &mut [u8]) -
 
 // One call that lends `short` bytes, and after a 9 the same call again with the whole area.
 fn turn_again(
-    s: Sending,
+    state: Sending,
     shape: Shape,
     words: &[u64],
     bytes: &[u8],
@@ -86,35 +92,35 @@ fn turn_again(
     short: usize,
 ) -> Called {
     if short < out.len() {
-        let t = turn(s, shape, words, bytes, &mut out[0..short]);
+        let t = turn(state, shape, words, bytes, &mut out[0..short]);
         if t.answer != 9 {
             return t;
         }
-        return turn(s, shape, words, bytes, out);
+        return turn(state, shape, words, bytes, out);
     }
-    turn(s, shape, words, bytes, out)
+    turn(state, shape, words, bytes, out)
 }
 
 // Calls until one gives no frame, at most a hundred.
 fn turns(
-    s: Sending,
+    state: Sending,
     shape: Shape,
     words: &[u64],
     bytes: &[u8],
     out: &mut [u8],
     short: usize,
 ) -> Sending {
-    let mut s = s;
+    let mut state = state;
     let mut left: u32 = 100;
     while 0 < left {
-        let t = turn_again(s, shape, words, bytes, out, short);
-        s = t.next;
+        let t = turn_again(state, shape, words, bytes, out, short);
+        state = t.next;
         if t.answer != 0 {
-            return s;
+            return state;
         }
         left -= 1;
     }
-    s
+    state
 }
 
 // A sending to its end, and one call after it.
@@ -142,8 +148,8 @@ pub fn whole(
             let end = turns(s, shape, words, bytes, out, short);
             turn(end, shape, words, bytes, out);
         }
-        Begun::NumbersPast => put(b"R 24\n"),
-        Begun::Unfit => put(b"R 25\n"),
+        Begun::CommitNumbersExhausted => put(b"R 24\n"),
+        Begun::InvalidAreas => put(b"R 25\n"),
     }
 }
 

@@ -56,8 +56,8 @@ fn put_number(n: u64) {
     io::print_decimal(STDOUT_FILENO, n);
 }
 
-fn put_hash(h: u64) {
-    io::print_hex(STDOUT_FILENO, h, 16);
+fn put_hash(hash: u64) {
+    io::print_hex(STDOUT_FILENO, hash, 16);
 }
 
 // Records the first len bytes of a text.
@@ -113,7 +113,14 @@ fn list(words: &[u64], bytes: &[u8], shape: Shape) {
         let mut dist = c.dist;
         while 0 < left {
             let m = store_sessions::message_at(words, bytes, shape, 0, left, dist);
-            put_message(bytes, m.number, m.at, m.first, m.again, m.rest);
+            put_message(
+                bytes,
+                m.number,
+                m.first_at,
+                m.first_len,
+                m.second_at,
+                m.second_len,
+            );
             left = m.left;
             dist = m.dist;
         }

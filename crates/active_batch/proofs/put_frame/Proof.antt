@@ -23,7 +23,7 @@ put-u32-requires c κs =
     let p = s .pre in
     let q = p .1 .1 .1 .1 .1 .1 in
     let b = now (a .bytes) in
-    omega (arith, q .1, q .0 .spans (now (a .stamp)) (now (a .marks)) (p .1 .1 .0) (p .1 .1 .1 .1 .0) .sums, run-past (plannedChanges (a .limit) (length b) (a .max) (a .h) (now (a .words)) b (now (a .stamp)) (now (a .marks)) (a .from) (a .p)) (c .before .before .before .put-changes .ensures))
+    omega (arith, q .1, q .0 .spans (now (a .stamp)) (now (a .marks)) (p .1 .1 .0) (p .1 .1 .1 .1 .0) .sums, run-past (plannedChanges (a .limit) (length b) (a .max) (a .header) (now (a .words)) b (now (a .stamp)) (now (a .marks)) (a .from) (a .plan)) (c .before .before .before .put-changes .ensures))
 
 returns : tie.Need-returns
 returns c =
@@ -32,7 +32,7 @@ returns c =
     let p = s .pre in
     let q = p .1 .1 .1 .1 .1 .1 in
     let b = now (a .bytes) in
-    wrote-frame _ _ _ _ (partIs (a .p .last)) (plannedChanges (a .limit) (length b) (a .max) (a .h) (now (a .words)) b (now (a .stamp)) (now (a .marks)) (a .from) (a .p)) (q .0 .spans _ _ (p .1 .1 .0) (p .1 .1 .1 .1 .0)) (c .before .before .before .before .before .before .before .before .before .before .put-head .ensures) (c .before .before .before .before .before .before .put-changes .ensures) (c .before .before .put-u32 .ensures .0 .bytes)
+    wrote-frame _ _ _ _ (partIs (a .plan .last)) (plannedChanges (a .limit) (length b) (a .max) (a .header) (now (a .words)) b (now (a .stamp)) (now (a .marks)) (a .from) (a .plan)) (q .0 .spans _ _ (p .1 .1 .0) (p .1 .1 .1 .1 .0)) (c .before .before .before .before .before .before .before .before .before .before .put-head .ensures) (c .before .before .before .before .before .before .put-changes .ensures) (c .before .before .put-u32 .ensures .0 .bytes)
 
 pub put-frame-spec : {M : Type 1} → statement M
 put-frame-spec =

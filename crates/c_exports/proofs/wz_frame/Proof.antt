@@ -15,7 +15,7 @@ returns-3 : tie.Need-returns-3
 returns-3 c =
     let b = now (c .before .before .before .before .before .before .before .before .before .before .args .frame) in
     let d = c .before .before .before .before .before .before .before .decode in
-    again-whole b (d .ensures .0) (c .before .before .before .before .before .f .given .1) (are-bytes b (λ i. c .before .before .before .before .before .before .before .before .before .shared-slice-known .given i .fits)) (d .ensures .1) (c .before .before .again .ensures)
+    again-whole b (d .ensures .0) (c .before .before .before .before .before .f .given .1) (are-bytes b (λ i. c .before .before .before .before .before .before .before .before .before .shared-slice-known .given i .fits)) (d .ensures .1) (c .before .before .rewritten .ensures)
 
 pub wz-frame-spec : {M : Type 1} → statement M
 wz-frame-spec =

@@ -5,7 +5,7 @@ use Rattle.c_session.proofs.in_flight.Statement.{statement}
 use Rattle.c_session.proofs.in_flight.Tie as tie
 
 returns-2 : tie.Need-returns-2
-returns-2 c = sym (ap flightIs (c .before .f .given .1))
+returns-2 c = sym (ap flightIs (c .before .flight .given .1))
 
 pub in-flight-spec : {M : Type 1} → statement M
 in-flight-spec = tie.close (tie.spec (λ c. search needs) (λ c. search needs) (λ c. search needs) returns-2)

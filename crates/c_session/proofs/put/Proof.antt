@@ -10,7 +10,7 @@ use Rattle.c_session.proofs.put.Tie as tie
 put-summary-requires : tie.Need-put-summary-requires
 put-summary-requires c κs =
     let a = c .before .before .before .before .before .before .before .before .before .before .before .before .before .before .before .before .before .args in
-    omega (arith, c .before .before .before .before .before .before .before .before .before .before .before .before .before .before .before .before .before .pre, c .before .before .before .before .before .before .before .before .before .before .before .before .tag .ensures .1, c .before .before .before .before .before .before .before .tag2 .ensures .1, c .before .before .before .before .before .before .before .before .before .before .before .before .tag .kept .0, c .before .before .before .before .before .before .before .tag2 .kept .0, c .before .before .before .put-session .kept .1 .1 .0, c .before .before .before .put-session .ensures .past, key-size (keyOf (now (a .bytes)) (a .k)))
+    omega (arith, c .before .before .before .before .before .before .before .before .before .before .before .before .before .before .before .before .before .pre, c .before .before .before .before .before .before .before .before .before .before .before .before .tag .ensures .1, c .before .before .before .before .before .before .before .tag2 .ensures .1, c .before .before .before .before .before .before .before .before .before .before .before .before .tag .kept .0, c .before .before .before .before .before .before .before .tag2 .kept .0, c .before .before .before .put-session .kept .1 .1 .0, c .before .before .before .put-session .ensures .past, key-size (keyOf (now (a .bytes)) (a .session)))
 
 returns : tie.Need-returns
 returns c = flagged (c .before .before .before .before .before .before .before .before .before .before .before .before .before .before .before .before .durable-flag .ensures) (c .before .before .before .before .before .before .before .before .before .before .before .flight-flag .ensures) (wrote-on (wrote-on (wrote-on (c .before .before .before .before .before .before .before .before .before .before .before .before .before .before .before .tag .ensures .0) (c .before .before .before .before .before .before .before .before .before .before .tag2 .ensures .0)) (c .before .before .before .before .before .before .put-session .ensures)) (c .before .before .put-summary .ensures))

@@ -10,13 +10,13 @@ use Rattle.c_session.proofs.session.Tie as tie
 shared-slice-read-if2 : tie.Need-shared-slice-read-if2
 shared-slice-read-if2 c = omega (arith, rules-of _ _ _ (sym (c .before .before .allowed .ensures) ∙ c .before .if1 .taken) .room .words-long)
 
-tell-requires : tie.Need-tell-requires
-tell-requires c κs = (rules-of _ _ _ (sym (c .before .before .before .before .allowed .ensures) ∙ c .before .before .before .if1 .taken), c .before .if2 .taken)
+write-session-requires : tie.Need-write-session-requires
+write-session-requires c κs = (rules-of _ _ _ (sym (c .before .before .before .before .allowed .ensures) ∙ c .before .before .before .if1 .taken), c .before .if2 .taken)
 
 returns : tie.Need-returns
 returns c =
     let a = c .before .before .before .before .before .before .before .before .before .before .before .args in
-    told-in (in-use (a .shape) (now (a .words)) (now (a .bytes)) (a .place) (a .n) (sym (c .before .before .before .before .before .before .before .allowed .ensures) ∙ c .before .before .before .before .before .before .if1 .taken) (c .before .before .before .before .if2 .taken)) (c .before .before .tell .ensures)
+    told-in (in-use (a .shape) (now (a .words)) (now (a .bytes)) (a .place) (a .n) (sym (c .before .before .before .before .before .before .before .allowed .ensures) ∙ c .before .before .before .before .before .before .if1 .taken) (c .before .before .before .before .if2 .taken)) (c .before .before .write-session .ensures)
 
 returns-2 : tie.Need-returns-2
 returns-2 c =
@@ -34,7 +34,7 @@ session-spec =
     (tie.spec
     (λ c κs. search needs)
     shared-slice-read-if2
-    tell-requires
+    write-session-requires
     (λ c. search needs)
     returns
     returns-2

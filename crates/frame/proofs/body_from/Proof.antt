@@ -17,7 +17,7 @@ returns-2 c =
     let c1 = c .before in
     let c2 = c1 .before .before in
     let c3 = c2 .before .before in
-    (rw (← (c3 .fields-from .ensures .0), c2 .f .given .1, left-none _ _ (c1 .left .ensures) (c .if1 .taken)), rw (c2 .f .given .1) at (c3 .fields-from .ensures .1))
+    (rw (← (c3 .fields-from .ensures .0), c2 .f .given .1, left-none _ _ (c1 .bytes-left .ensures) (c .if1 .taken)), rw (c2 .f .given .1) at (c3 .fields-from .ensures .1))
 
 returns-3 : tie.Need-returns-3
 unfolding readBody
@@ -25,7 +25,7 @@ returns-3 c =
     let c1 = c .before in
     let c2 = c1 .before .before in
     let c3 = c2 .before .before in
-    (rw (← (c3 .fields-from .ensures .0), c2 .f .given .1, left-some _ _ (c1 .left .ensures) (c .if1 .left)), tt)
+    (rw (← (c3 .fields-from .ensures .0), c2 .f .given .1, left-some _ _ (c1 .bytes-left .ensures) (c .if1 .left)), tt)
 
 pub body-from-spec : {M : Type 1} → statement M
 body-from-spec =

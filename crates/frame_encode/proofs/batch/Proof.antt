@@ -25,7 +25,7 @@ abbrev srcOf : tie.After-m → List ℕ
 srcOf x = now (x .before .before .before .before .before .before .before .before .before .args .src)
 
 abbrev versionOf : tie.After-m → ℕ
-versionOf x = x .before .before .before .before .before .before .before .before .before .args .p .version
+versionOf x = x .before .before .before .before .before .before .before .before .before .args .protocol .version
 
 opsAt : (x : tie.After-m) → OpsLen (versionOf x) (srcOf x) (x .before .before .before .before .before .before .before .before .before .args .ops) (RunLen.Bytes (x .before .before .before .before .k .given .0 .0))
 opsAt x = rw (x .before .before .before .before .k .given .1) at (x .before .before .before .before .before .before .ops-len .ensures)
@@ -48,12 +48,12 @@ readyAt x =
 returns : tie.Need-returns
 returns c =
     let a = c .before .before .before .before .before .args in
-    encoded-unreadable _ _ _ _ (ops-unread (a .p .version) (now (a .src)) (a .ops) (a .records) (a .handle) (a .epoch) (a .commit) (partOf (a .part)) (rw (c .enum-told .given .1) at (c .before .before .ops-len .ensures)))
+    encoded-unreadable _ _ _ _ (ops-unread (a .protocol .version) (now (a .src)) (a .ops) (a .records) (a .handle) (a .epoch) (a .commit) (partOf (a .part)) (rw (c .enum-told .given .1) at (c .before .before .ops-len .ensures)))
 
 returns-2 : tie.Need-returns-2
 returns-2 c =
     let a = c .before .before .before .before .before .before .before .before .before .args in
-    encoded-unreadable _ _ _ _ (records-unread (a .p .version) (now (a .src)) (a .ops) (a .records) (a .handle) (a .epoch) (a .commit) (partOf (a .part)) (rw (c .enum-told2 .given .1) at (c .before .before .records-len .ensures)))
+    encoded-unreadable _ _ _ _ (records-unread (a .protocol .version) (now (a .src)) (a .ops) (a .records) (a .handle) (a .epoch) (a .commit) (partOf (a .part)) (rw (c .enum-told2 .given .1) at (c .before .before .records-len .ensures)))
 
 returns-3 : tie.Need-returns-3
 returns-3 c =

@@ -11,28 +11,28 @@ put-bound-requires : tie.Need-put-bound-requires
 put-bound-requires c κs =
     let s = rw (c .before .before .at .given .1) at (c .before .before .before .before .before .before .begin .ensures) in
     let a = c .before .before .before .before .before .before .before .before .before .before .before .before .before .before .before .before .args in
-    let l = summary-lengths (a .p .version) (now (a .src)) (a .summary) (sym (c .before .before .before .before .before .before .before .before .before .before .before .before .before .summary-fits .ensures) ∙ c .before .before .before .before .before .before .before .before .before .before .before .before .if1 .taken) in
+    let l = summary-lengths (a .protocol .version) (now (a .src)) (a .summary) (sym (c .before .before .before .before .before .before .before .before .before .before .before .before .before .summary-fits .ensures) ∙ c .before .before .before .before .before .before .before .before .before .before .before .before .if1 .taken) in
     omega (arith, s .1, s .3, c .before .before .before .before .before .before .begin .kept .0, l .stamp-is, l .marks-is)
 
 returns : tie.Need-returns
 returns c =
     let a = c .before .before .before .before .before .before .before .before .before .before .before .before .before .before .args in
-    encoded-long _ _ _ (bound-ready (a .p .version) (now (a .src)) (a .summary) (a .handle) (sym (c .before .before .before .before .before .before .before .before .before .before .before .summary-fits .ensures) ∙ c .before .before .before .before .before .before .before .before .before .before .if1 .taken) refl) (rw (c .enum-told .given .1) at (c .before .before .before .before .begin .ensures))
+    encoded-long _ _ _ (bound-ready (a .protocol .version) (now (a .src)) (a .summary) (a .handle) (sym (c .before .before .before .before .before .before .before .before .before .before .before .summary-fits .ensures) ∙ c .before .before .before .before .before .before .before .before .before .before .if1 .taken) refl) (rw (c .enum-told .given .1) at (c .before .before .before .before .begin .ensures))
 
 returns-2 : tie.Need-returns-2
 returns-2 c =
     let a = c .before .before .before .before .before .before .before .before .before .before .before .before .before .before .args in
-    encoded-full _ _ _ (bound-ready (a .p .version) (now (a .src)) (a .summary) (a .handle) (sym (c .before .before .before .before .before .before .before .before .before .before .before .summary-fits .ensures) ∙ c .before .before .before .before .before .before .before .before .before .before .if1 .taken) refl) (rw (c .enum-told2 .given .1) at (c .before .before .before .before .begin .ensures))
+    encoded-full _ _ _ (bound-ready (a .protocol .version) (now (a .src)) (a .summary) (a .handle) (sym (c .before .before .before .before .before .before .before .before .before .before .before .summary-fits .ensures) ∙ c .before .before .before .before .before .before .before .before .before .before .if1 .taken) refl) (rw (c .enum-told2 .given .1) at (c .before .before .before .before .begin .ensures))
 
 returns-3 : tie.Need-returns-3
 returns-3 c =
     let a = c .before .before .before .before .before .before .before .before .before .before .before .before .before .before .before .before .before .before .before .args in
-    encoded-took _ _ _ (bound-ready (a .p .version) (now (a .src)) (a .summary) (a .handle) (sym (c .before .before .before .before .before .before .before .before .before .before .before .before .before .before .before .before .summary-fits .ensures) ∙ c .before .before .before .before .before .before .before .before .before .before .before .before .before .before .before .if1 .taken) refl) (rw (c .before .before .before .before .before .at .given .1) at (c .before .before .before .before .before .before .before .before .before .begin .ensures)) (c .before .before .put-bound .ensures)
+    encoded-took _ _ _ (bound-ready (a .protocol .version) (now (a .src)) (a .summary) (a .handle) (sym (c .before .before .before .before .before .before .before .before .before .before .before .before .before .before .before .before .summary-fits .ensures) ∙ c .before .before .before .before .before .before .before .before .before .before .before .before .before .before .before .if1 .taken) refl) (rw (c .before .before .before .before .before .at .given .1) at (c .before .before .before .before .before .before .before .before .before .begin .ensures)) (c .before .before .put-bound .ensures)
 
 returns-4 : tie.Need-returns-4
 returns-4 c =
     let a = c .before .before .before .before .args in
-    encoded-unreadable _ _ _ _ (bound-unfit (a .p .version) (now (a .src)) (a .summary) (a .handle) (sym (c .before .summary-fits .ensures) ∙ c .if1 .left))
+    encoded-unreadable _ _ _ _ (bound-unfit (a .protocol .version) (now (a .src)) (a .summary) (a .handle) (sym (c .before .summary-fits .ensures) ∙ c .if1 .left))
 
 pub bound-spec : {M : Type 1} → statement M
 bound-spec =

@@ -22,7 +22,7 @@ abbrev bufOf : tie.After-d → List ℕ
 bufOf k = now (k .before .before .before .before .args .buf)
 
 abbrev versionOf : tie.After-d → ℕ
-versionOf k = k .before .before .before .before .args .p .version
+versionOf k = k .before .before .before .before .args .protocol .version
 
 abbrev atOf : tie.After-d → ℕ
 atOf k = k .before .before .before .before .args .run .at
@@ -42,7 +42,7 @@ ended k = sym (ap (resEnd _) (k .d .given .1)) ∙ k .before .before .ops-end .e
 sub-t13 : tie.Need-sub-t13
 sub-t13 c =
     let k = c .before .before .before in
-    let f = run-forward (readChange (versionOf k)) changeBytes (TakenChange (versionOf k)) (change-canon (versionOf k)) (countOf k) (bufOf k) (atOf k) (endOf k) (known k) (ended k) (c .before .left .ensures) (c .left2 .ensures) in
+    let f = run-forward (readChange (versionOf k)) changeBytes (TakenChange (versionOf k)) (change-canon (versionOf k)) (countOf k) (bufOf k) (atOf k) (endOf k) (known k) (ended k) (c .before .bytes-left .ensures) (c .bytes-left2 .ensures) in
     search needs
 
 returns : tie.Need-returns
@@ -51,7 +51,7 @@ returns c = sym (run-fault _ (sym (ap (resEnd _) (c .before .e .given .1)) ∙ c
 returns-2 : tie.Need-returns-2
 returns-2 c =
     let k = c .before .before .before in
-    (run-past (readChange (versionOf k)) changeBytes (TakenChange (versionOf k)) (change-canon (versionOf k)) (countOf k) (bufOf k) (atOf k) (endOf k) (known k) (ended k) (c .before .left .ensures) (c .left2 .ensures), run-stands (readChange (versionOf k)) changeBytes (TakenChange (versionOf k)) (change-canon (versionOf k)) (countOf k) (bufOf k) (atOf k) (endOf k) (known k) (ended k) (c .before .left .ensures) (c .left2 .ensures))
+    (run-past (readChange (versionOf k)) changeBytes (TakenChange (versionOf k)) (change-canon (versionOf k)) (countOf k) (bufOf k) (atOf k) (endOf k) (known k) (ended k) (c .before .bytes-left .ensures) (c .bytes-left2 .ensures), run-stands (readChange (versionOf k)) changeBytes (TakenChange (versionOf k)) (change-canon (versionOf k)) (countOf k) (bufOf k) (atOf k) (endOf k) (known k) (ended k) (c .before .bytes-left .ensures) (c .bytes-left2 .ensures))
 
 pub ops-len-spec : {M : Type 1} → statement M
 ops-len-spec =

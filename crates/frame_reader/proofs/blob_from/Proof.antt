@@ -13,14 +13,14 @@ returns-2 : tie.Need-returns-2
 unfolding readBlob
 returns-2 c =
     let r = c .before .before .before in
-    (rw (← (r .before .before .u32-from .ensures .0), r .n .given .1, bytes-short _ _ _ (c .before .left .ensures) (c .if1 .taken)), tt)
+    (rw (← (r .before .before .u32-from .ensures .0), r .n .given .1, bytes-short _ _ _ (c .before .bytes-left .ensures) (c .if1 .taken)), tt)
 
 returns-3 : tie.Need-returns-3
 unfolding readBlob
 returns-3 c =
     let r = c .before .before .before in
     let within = rw (r .n .given .1) at (r .before .before .u32-from .ensures .1) in
-    (rw (← (r .before .before .u32-from .ensures .0), r .n .given .1, bytes-got _ _ _ (c .before .left .ensures) (c .if1 .left)), omega (arith, within, c .before .left .ensures, c .if1 .left))
+    (rw (← (r .before .before .u32-from .ensures .0), r .n .given .1, bytes-got _ _ _ (c .before .bytes-left .ensures) (c .if1 .left)), omega (arith, within, c .before .bytes-left .ensures, c .if1 .left))
 
 pub blob-from-spec : {M : Type 1} → statement M
 blob-from-spec =

@@ -15,13 +15,13 @@ returns-2 : tie.Need-returns-2
 unfolding readCount
 returns-2 c =
     let r = c .before .before .before in
-    rw (← (r .before .before .u32-from .ensures .0), r .n .given .1, enough _ _ _ (c .before .left .ensures) (c .if1 .taken))
+    rw (← (r .before .before .u32-from .ensures .0), r .n .given .1, enough _ _ _ (c .before .bytes-left .ensures) (c .if1 .taken))
 
 returns-3 : tie.Need-returns-3
 unfolding readCount
 returns-3 c =
     let r = c .before .before .before in
-    rw (← (r .before .before .u32-from .ensures .0), r .n .given .1, lacking _ _ _ (c .before .left .ensures) (c .if1 .left))
+    rw (← (r .before .before .u32-from .ensures .0), r .n .given .1, lacking _ _ _ (c .before .bytes-left .ensures) (c .if1 .left))
 
 pub count-from-spec : {M : Type 1} → statement M
 count-from-spec =

@@ -12,7 +12,7 @@ returns c =
 returns-2 : tie.Need-returns-2
 returns-2 c =
     let g = c .before .before .before .before in
-    (rw (c .kept .ensures .0, c .before .is-stamp-or-none .ensures, c .before .before .slice .ensures) (sym (none-judged _ _ (sym (g .before .before .blob-from .ensures .0) ∙ ap (resSpan _) (g .s .given .1)))), c .kept .ensures .1 (rw (g .s .given .1) at (g .before .before .blob-from .ensures .1)))
+    (rw (c .text-or-fault .ensures .0, c .before .is-stamp-or-none .ensures, c .before .before .slice .ensures) (sym (none-judged _ _ (sym (g .before .before .blob-from .ensures .0) ∙ ap (resSpan _) (g .s .given .1)))), c .text-or-fault .ensures .1 (rw (g .s .given .1) at (g .before .before .blob-from .ensures .1)))
 
 pub stamp-or-none-from-spec : {M : Type 1} → statement M
 stamp-or-none-from-spec =

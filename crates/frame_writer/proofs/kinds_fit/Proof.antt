@@ -9,7 +9,7 @@ use Rattle.frame_writer.proofs.kinds_fit.Tie as tie
 returns : tie.Need-returns
 returns c =
     let a = c .before .before .before .args in
-    numbers-read 2 _ _ (c .left .ensures ∙ sym (length-drop (a .run .at) (now (a .src))))
+    numbers-read 2 _ _ (c .bytes-left .ensures ∙ sym (length-drop (a .run .at) (now (a .src))))
 
 pub kinds-fit-spec : {M : Type 1} → statement M
 kinds-fit-spec = tie.close (tie.spec (λ c. search needs) (λ c. search needs) (λ c κs. search needs) returns)

@@ -14,7 +14,7 @@ small n s t e h = omega (arith, ap length e, length-take n s)
 blob-requires : tie.Need-blob-requires
 blob-requires c κs =
     let e = c .before .slice .ensures in
-    (omega (arith, ap length e), small (c .before .before .before .before .args .p .len) _ _ e (search needs))
+    (omega (arith, ap length e), small (c .before .before .before .before .args .span .len) _ _ e (search needs))
 
 returns : tie.Need-returns
 returns c =

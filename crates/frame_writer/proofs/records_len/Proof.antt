@@ -39,7 +39,7 @@ ended k = sym (ap (resEnd _) (k .d .given .1)) ∙ k .before .before .app-record
 sub-t12 : tie.Need-sub-t12
 sub-t12 c =
     let k = c .before .before .before in
-    let f = run-forward readAppRecord appRecordBytes (λ r. RangedRecord r × ByteRecord r) record-canon (countOf k) (bufOf k) (atOf k) (endOf k) (known k) (ended k) (c .before .left .ensures) (c .left2 .ensures) in
+    let f = run-forward readAppRecord appRecordBytes (λ r. RangedRecord r × ByteRecord r) record-canon (countOf k) (bufOf k) (atOf k) (endOf k) (known k) (ended k) (c .before .bytes-left .ensures) (c .bytes-left2 .ensures) in
     search needs
 
 returns : tie.Need-returns
@@ -48,7 +48,7 @@ returns c = sym (run-fault _ (sym (ap (resEnd _) (c .before .e .given .1)) ∙ c
 returns-2 : tie.Need-returns-2
 returns-2 c =
     let k = c .before .before .before in
-    (run-past readAppRecord appRecordBytes (λ r. RangedRecord r × ByteRecord r) record-canon (countOf k) (bufOf k) (atOf k) (endOf k) (known k) (ended k) (c .before .left .ensures) (c .left2 .ensures), run-stands readAppRecord appRecordBytes (λ r. RangedRecord r × ByteRecord r) record-canon (countOf k) (bufOf k) (atOf k) (endOf k) (known k) (ended k) (c .before .left .ensures) (c .left2 .ensures))
+    (run-past readAppRecord appRecordBytes (λ r. RangedRecord r × ByteRecord r) record-canon (countOf k) (bufOf k) (atOf k) (endOf k) (known k) (ended k) (c .before .bytes-left .ensures) (c .bytes-left2 .ensures), run-stands readAppRecord appRecordBytes (λ r. RangedRecord r × ByteRecord r) record-canon (countOf k) (bufOf k) (atOf k) (endOf k) (known k) (ended k) (c .before .bytes-left .ensures) (c .bytes-left2 .ensures))
 
 pub records-len-spec : {M : Type 1} → statement M
 records-len-spec =

@@ -7,7 +7,7 @@ use Rattle.frame_writer.proofs.summary_fits.Tie as tie
 returns : tie.Need-returns
 returns c =
     let w = c .before .before .before .before in
-    summary-says (c .before .before .before .before .before .before .before .before .before .args .p .version) (now (c .before .before .before .before .before .before .before .before .before .args .src)) (c .before .before .before .before .before .before .before .before .before .args .m) (w .before .within .ensures) (w .within2 .ensures) (rw (c .before .before .before .slice .ensures) at (c .before .before .is-stamp-or-none .ensures)) (rw (c .before .slice2 .ensures) at (c .is-marks .ensures))
+    summary-says (c .before .before .before .before .before .before .before .before .before .args .protocol .version) (now (c .before .before .before .before .before .before .before .before .before .args .src)) (c .before .before .before .before .before .before .before .before .before .args .summary) (w .before .within .ensures) (w .within2 .ensures) (rw (c .before .before .before .slice .ensures) at (c .before .before .is-stamp-or-none .ensures)) (rw (c .before .slice2 .ensures) at (c .is-marks .ensures))
 
 pub summary-fits-spec : {M : Type 1} → statement M
 summary-fits-spec =

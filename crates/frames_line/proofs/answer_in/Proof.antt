@@ -79,8 +79,8 @@ same-length-5 c = search needs
 returns : tie.Need-returns
 returns c =
     let s = c .before .before .before .before .before .before .before .before .before .before .before .before .before .before .before .before .before .before .before .before .before .before .before .before .before .before .before .before .before .before .before .before .before .before .before .before in
-    some-line (now (s .args .line)) (s .args .c) (s .args .row) (now (s .args .words)) (now (s .args .bytes)) (now (s .args .holds)) (now (s .args .out)) _
-    (record { epoch = (let e : Fits w64 (s .args .c .epoch .0) = search needs in e .fits); words = λ i. c .before .before .before .before .before .before .before .before .before .before .before .before .before .before .before .before .before .before .before .before .before .before .before .before .before .before .before .before .before .before .before .before .before .before .before .slice-known .given i .fits; bytes = λ i. c .before .before .before .before .before .before .before .before .before .before .before .before .before .before .before .before .before .before .before .before .before .before .before .before .before .before .before .before .before .before .before .before .before .before .slice-known2 .given i .fits })
+    some-line (now (s .args .line)) (s .args .counters) (s .args .row) (now (s .args .words)) (now (s .args .bytes)) (now (s .args .holds)) (now (s .args .out)) _
+    (record { epoch = (let e : Fits w64 (s .args .counters .epoch .0) = search needs in e .fits); words = λ i. c .before .before .before .before .before .before .before .before .before .before .before .before .before .before .before .before .before .before .before .before .before .before .before .before .before .before .before .before .before .before .before .before .before .before .before .slice-known .given i .fits; bytes = λ i. c .before .before .before .before .before .before .before .before .before .before .before .before .before .before .before .before .before .before .before .before .before .before .before .before .before .before .before .before .before .before .before .before .before .before .slice-known2 .given i .fits })
     (c .before .before .before .before .before .before .before .before .before .before .before .before .before .before .before .before .before .before .before .before .before .before .before .before .before .before .before .before .read-line .ensures) (λ i. c .before .before .before .before .before .before .before .before .before .before .before .before .before .before .before .before .before .before .before .before .before .before .before .before .before .before .slice-known6 .given i .fits) (c .before .before .before .before .before .before .before .before .before .before .before .before .before .before .before .before .before .before .before .before .before .before .before .before .n .given .1) (takes-any (c .before .before .before .before .before .before .before .before .before .before .before .before .before .before .before .before .before .before .before .before .before .before .before .before .before .before .before .before .read-line .kept .1 .0) (s .pre .0)) (c .before .before .before .before .before .before .before .before .before .before .before .before .before .before .before .before .before .settings .ensures) (c .before .before .before .before .before .before .before .before .before .before .before .before .before .before .before .before .on-frame4 .ensures) (c .before .before .before .before .put-answer .ensures)
 
 -- src/lib.rt:44:1
@@ -93,7 +93,7 @@ same-length-7 c = search needs
 
 -- src/lib.rt:44:1
 returns-2 : tie.Need-returns-2
-returns-2 c = bad-line (now (c .before .before .before .before .before .before .before .before .before .before .before .before .before .before .before .before .args .line)) (c .before .before .before .before .before .before .before .before .before .before .before .before .before .before .before .before .args .c) (c .before .before .before .before .before .before .before .before .before .before .before .before .before .before .before .before .args .row) (now (c .before .before .before .before .before .before .before .before .before .before .before .before .before .before .before .before .args .words)) (now (c .before .before .before .before .before .before .before .before .before .before .before .before .before .before .before .before .args .bytes)) (now (c .before .before .before .before .before .before .before .before .before .before .before .before .before .before .before .before .args .holds)) (now (c .before .before .before .before .before .before .before .before .before .before .before .before .before .before .before .before .args .out)) (c .before .before .before .before .before .before .before .before .read-line .ensures) (c .before .before .before .before .enum-told .given .1) (c .before .before .put-refusal .ensures)
+returns-2 c = bad-line (now (c .before .before .before .before .before .before .before .before .before .before .before .before .before .before .before .before .args .line)) (c .before .before .before .before .before .before .before .before .before .before .before .before .before .before .before .before .args .counters) (c .before .before .before .before .before .before .before .before .before .before .before .before .before .before .before .before .args .row) (now (c .before .before .before .before .before .before .before .before .before .before .before .before .before .before .before .before .args .words)) (now (c .before .before .before .before .before .before .before .before .before .before .before .before .before .before .before .before .args .bytes)) (now (c .before .before .before .before .before .before .before .before .before .before .before .before .before .before .before .before .args .holds)) (now (c .before .before .before .before .before .before .before .before .before .before .before .before .before .before .before .before .args .out)) (c .before .before .before .before .before .before .before .before .read-line .ensures) (c .before .before .before .before .enum-told .given .1) (c .before .before .put-refusal .ensures)
 
 pub answer-in-spec : {M : Type 1} → statement M
 answer-in-spec =

@@ -13,7 +13,7 @@ shape-requires c κs = search needs
 
 -- src/lib.rt:33:1
 returns : tie.Need-returns
-returns c = ap (λ (x : Shape). record { shape = x; incarnation = record { 0 = 7 }; lag = 0 }) (c .shape .ensures)
+returns c = ap (λ (x : Shape). record { shape = x; incarnation = record { 0 = 7 }; «max_lag» = 0 }) (c .shape .ensures)
 
 pub settings-spec : {M : Type 1} → statement M
 settings-spec = tie.close (tie.spec shape-requires returns)

@@ -11,7 +11,7 @@ use Rattle.frames_reply.proofs.put_reply.Reads as put-reply-reads
 
 -- src/lib.rt:37:13
 returns : tie.Need-returns
-returns c = text-done (length (now (c .before .before .before .before .before .before .before .args .buf))) (now (c .before .before .before .before .before .before .before .args .bytes)) (c .before .before .before .before .before .before .before .args .a) (now (c .before .before .before .before .before .before .before .args .out)) (c .before .before .if1 .taken) (c .if2 .taken)
+returns c = text-done (length (now (c .before .before .before .before .before .before .before .args .buf))) (now (c .before .before .before .before .before .before .before .args .bytes)) (c .before .before .before .before .before .before .before .args .answer) (now (c .before .before .before .before .before .before .before .args .out)) (c .before .before .if1 .taken) (c .if2 .taken)
 
 -- src/lib.rt:39:9
 put-reply-requires : tie.Need-put-reply-requires
@@ -27,7 +27,7 @@ same-length-2 c = search needs
 
 -- src/lib.rt:39:9
 returns-2 : tie.Need-returns-2
-returns-2 c = text-reply (length (now (c .before .before .before .before .before .before .before .before .before .before .before .before .before .before .args .buf))) (now (c .before .before .before .before .before .before .before .before .before .before .before .before .before .before .args .bytes)) (c .before .before .before .before .before .before .before .before .before .before .before .before .before .before .args .a) (now (c .before .before .before .before .before .before .before .before .before .before .before .before .before .before .args .out)) (c .before .before .before .before .before .before .before .before .before .if1 .taken) (c .before .before .before .before .before .before .before .if2 .left) (c .before .before .before .before .put-reply .ensures)
+returns-2 c = text-reply (length (now (c .before .before .before .before .before .before .before .before .before .before .before .before .before .before .args .buf))) (now (c .before .before .before .before .before .before .before .before .before .before .before .before .before .before .args .bytes)) (c .before .before .before .before .before .before .before .before .before .before .before .before .before .before .args .answer) (now (c .before .before .before .before .before .before .before .before .before .before .before .before .before .before .args .out)) (c .before .before .before .before .before .before .before .before .before .if1 .taken) (c .before .before .before .before .before .before .before .if2 .left) (c .before .before .before .before .put-reply .ensures)
 
 -- src/lib.rt:41:5
 put-refusal-requires : tie.Need-put-refusal-requires
@@ -39,7 +39,7 @@ same-length-3 c = search needs
 
 -- src/lib.rt:30:1
 returns-3 : tie.Need-returns-3
-returns-3 c = text-refused (length (now (c .before .before .before .before .before .before .before .before .before .args .buf))) (now (c .before .before .before .before .before .before .before .before .before .args .bytes)) (c .before .before .before .before .before .before .before .before .before .args .a) (now (c .before .before .before .before .before .before .before .before .before .args .out)) (c .before .before .before .before .if1 .left) (c .before .before .put-refusal .ensures)
+returns-3 c = text-refused (length (now (c .before .before .before .before .before .before .before .before .before .args .buf))) (now (c .before .before .before .before .before .before .before .before .before .args .bytes)) (c .before .before .before .before .before .before .before .before .before .args .answer) (now (c .before .before .before .before .before .before .before .before .before .args .out)) (c .before .before .before .before .if1 .left) (c .before .before .put-refusal .ensures)
 
 pub put-answer-spec : {M : Type 1} → statement M
 put-answer-spec =

@@ -23,13 +23,13 @@ set-created-at-requires : tie.Need-set-created-at-requires
 set-created-at-requires c κs =
     let a = c .before .before .before .before .before .before .before .before .before in
     let long : 16 ≤ length (a .args .words .now) = omega arith in
-    (long, (a .pre .1 .0, rw (c .slice2 .ensures) (stamp-kept (a .args .run .now) (a .args .op) (a .args .p .version) (c .before .before .before .before .op6 .given .1) (a .pre .1 .1 .0))))
+    (long, (a .pre .1 .0, rw (c .slice2 .ensures) (stamp-kept (a .args .run .now) (a .args .op) (a .args .protocol .version) (c .before .before .before .before .op6 .given .1) (a .pre .1 .1 .0))))
 
 set-marks-requires : tie.Need-set-marks-requires
 set-marks-requires c κs =
     let a = c .before .before .before .before .before .before .before .before .before in
     let long : 16 ≤ length (a .args .words .now) = omega arith in
-    (long, (a .pre .1 .0, rw (c .slice3 .ensures) (marks-kept (a .args .run .now) (a .args .op) (a .args .p .version) (c .before .before .before .before .op7 .given .1) (a .pre .1 .1 .0))))
+    (long, (a .pre .1 .0, rw (c .slice3 .ensures) (marks-kept (a .args .run .now) (a .args .op) (a .args .protocol .version) (c .before .before .before .before .op7 .given .1) (a .pre .1 .1 .0))))
 
 returns : tie.Need-returns
 returns c = rw (c .before .before .before .before .before .op .given .1) (λ C e. c .before .before .set-next-incoming .ensures C _ _)

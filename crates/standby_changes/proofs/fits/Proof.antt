@@ -26,7 +26,7 @@ returns-2 : tie.Need-returns-2 Inv-loop μ-loop
 returns-2 c =
     let op = c .before .before .before .before in
     let k = op .before .before in
-    fit-off _ _ (k .before .before .before .loop .inv) (sym (k .op-from .ensures) ∙ ap (resOp _) (op .op .given .1)) (c .before .before .follow .ensures _) (c .enum-told2 .given .1)
+    fit-off _ _ (k .before .before .before .loop .inv) (sym (k .op-from .ensures) ∙ ap (resOp _) (op .op .given .1)) (c .before .before .outgoing-by .ensures _) (c .enum-told2 .given .1)
 
 loop-less : tie.Need-loop-less Inv-loop μ-loop
 loop-less c =
@@ -38,7 +38,7 @@ loop-again : tie.Need-loop-again Inv-loop μ-loop
 loop-again c =
     let op = c .before .before .before .before .before in
     let k = op .before .before in
-    fit-next _ _ (k .before .before .before .loop .inv) (sym (k .op-from .ensures) ∙ ap (resOp _) (op .op .given .1)) (c .before .before .before .follow .ensures _) (c .before .n .given .1)
+    fit-next _ _ (k .before .before .before .loop .inv) (sym (k .op-from .ensures) ∙ ap (resOp _) (op .op .given .1)) (c .before .before .before .outgoing-by .ensures _) (c .before .n .given .1)
 
 returns-3 : tie.Need-returns-3 Inv-loop μ-loop
 returns-3 c = fit-none _ (c .before .before .loop .inv) (drop-of-length-le _ (c .if1 .left))

@@ -18,11 +18,11 @@ loop-holds : tie.Need-loop-holds Inv-loop μ-loop
 loop-holds c = ending _ (now (c .before .args .buf)) _ _ (λ i. c .shared-slice-known .given i .fits)
 
 returns : tie.Need-returns Inv-loop μ-loop
-returns c = end-bad _ (c .before .before .before .before .loop .inv) (sym (c .before .before .past-one .ensures) ∙ ap (resPast _) (c .enum-told .given .1))
+returns c = end-bad _ (c .before .before .before .before .loop .inv) (sym (c .before .before .skip-change .ensures) ∙ ap (resPast _) (c .enum-told .given .1))
 
 loop-again : tie.Need-loop-again Inv-loop μ-loop
 loop-again c = let some : 0 < c .before .before .before .before .before .loop .n = omega arith in
-    end-past _ (c .before .before .before .before .before .loop .inv) some (sym (c .before .before .before .past-one .ensures) ∙ ap (resPast _) (c .before .next .given .1))
+    end-past _ (c .before .before .before .before .before .loop .inv) some (sym (c .before .before .before .skip-change .ensures) ∙ ap (resPast _) (c .before .next .given .1))
 
 returns-2 : tie.Need-returns-2 Inv-loop μ-loop
 returns-2 c = let none : c .before .loop .n ≤ 0 = omega arith in

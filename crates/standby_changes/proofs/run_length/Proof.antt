@@ -6,7 +6,7 @@ use Rattle.standby_changes.proofs.run_length.Tie as tie
 
 returns : tie.Need-returns
 unfolding heldRun
-returns c = omega (arith, c .before .run-end .ensures, c .left .ensures)
+returns c = omega (arith, c .before .run-end .ensures, c .bytes-left .ensures)
 
 pub run-length-spec : {M : Type 1} → statement M
 run-length-spec = tie.close (tie.spec (λ c κs. search needs) (λ c κs. search needs) (λ c. search needs) returns)

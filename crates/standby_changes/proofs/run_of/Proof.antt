@@ -16,7 +16,7 @@ returns c =
     let k = c .before .before .before .before .before in
     let b = now (k .before .args .buf) in
     let run = k .before .args .run in
-    let size : c .before .before .left .result - c .before .left2 .result ≡ sizes (runOf (readChange (k .before .args .p .version)) b run) = omega (arith, c .before .before .before .run-end .ensures, c .before .before .left .ensures, c .before .left2 .ensures) in
+    let size : c .before .before .bytes-left .result - c .before .bytes-left2 .result ≡ sizes (runOf (readChange (k .before .args .protocol .version)) b run) = omega (arith, c .before .before .before .run-end .ensures, c .before .before .bytes-left .ensures, c .before .bytes-left2 .ensures) in
     run-part _ b run (are-bytes b (λ i. k .shared-slice-known .given i .fits)) size (c .bytes-at .ensures)
 
 pub run-of-spec : {M : Type 1} → statement M

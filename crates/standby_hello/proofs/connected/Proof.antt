@@ -16,15 +16,15 @@ add-d c = search needs
 returns : tie.Need-returns
 returns c =
     let a = c .before .before .before .args in
-    let e : a .c .connections + 1 ≡ min (suc (a .c .connections)) top = omega (arith, c .before .if1 .taken) in
-    ap (λ (x : ℕ). record { epoch = a .epoch; connections = x; promoted = a .c .promoted; checked = a .c .checked }) e
+    let e : a .counters .connections + 1 ≡ min (suc (a .counters .connections)) top = omega (arith, c .before .if1 .taken) in
+    ap (λ (x : ℕ). record { epoch = a .epoch; connections = x; promoted = a .counters .promoted; checked = a .counters .checked }) e
 
 -- src/lib.rt:26:1
 returns-2 : tie.Need-returns-2
 returns-2 c =
     let a = c .before .before .args in
-    let e : a .c .connections ≡ min (suc (a .c .connections)) top = omega (arith, c .if1 .left) in
-    ap (λ (x : ℕ). record { epoch = a .epoch; connections = x; promoted = a .c .promoted; checked = a .c .checked }) e
+    let e : a .counters .connections ≡ min (suc (a .counters .connections)) top = omega (arith, c .if1 .left) in
+    ap (λ (x : ℕ). record { epoch = a .epoch; connections = x; promoted = a .counters .promoted; checked = a .counters .checked }) e
 
 pub connected-spec : {M : Type 1} → statement M
 connected-spec = tie.close (tie.spec add-d returns returns-2)

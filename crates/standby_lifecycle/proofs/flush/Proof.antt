@@ -11,21 +11,21 @@ use Rattle.standby_lifecycle.proofs.flush.Reads as reads
 use Rattle.standby_lifecycle.proofs.flush.Lts as lts
 use Rattle.standby_pending_run.proofs.run.Reads as run-reads
 use Rattle.standby_state.proofs.done.Reads as done-reads
-use Rattle.standby_state.proofs.leaves.Reads as leaves-reads
+use Rattle.standby_state.proofs.unchanged.Reads as unchanged-reads
 use Rattle.standby_state.proofs.refused.Reads as refused-reads
-use Rattle.standby_rules.proofs.sound.Reads as sound-reads
+use Rattle.standby_rules.proofs.keeps_rules.Reads as keeps-rules-reads
 
 -- src/lib.rt:58:9
-sound-requires : tie.Need-sound-requires
-sound-requires c κs = search needs
+keeps-rules-requires : tie.Need-keeps-rules-requires
+keeps-rules-requires c κs = search needs
 
 -- src/lib.rt:59:41
 refused-requires : tie.Need-refused-requires
 refused-requires c κs = search needs
 
 -- src/lib.rt:59:9
-leaves-requires : tie.Need-leaves-requires
-leaves-requires c κs = search needs
+unchanged-requires : tie.Need-unchanged-requires
+unchanged-requires c κs = search needs
 
 -- src/lib.rt:59:9
 same-length : tie.Need-same-length
@@ -41,15 +41,15 @@ same-length-3 c = search needs
 
 -- src/lib.rt:59:9
 returns : tie.Need-returns
-returns c = unsound (c .before .before .before .before .before .before .before .before .before .before .args .s) (c .before .before .before .before .before .before .before .before .before .before .args .c) (c .before .before .before .before .before .before .before .before .before .before .args .seen) (now (c .before .before .before .before .before .before .before .before .before .before .args .words)) (now (c .before .before .before .before .before .before .before .before .before .before .args .bytes)) (now (c .before .before .before .before .before .before .before .before .before .before .args .holds)) (flush (c .before .before .before .before .before .before .before .before .before .before .args .connection)) (sym (c .before .before .before .sound .ensures) ∙ not-true _ (c .before .before .if1 .taken)) (c .before .refused .ensures) (c .leaves .ensures)
+returns c = unsound (c .before .before .before .before .before .before .before .before .before .before .args .settings) (c .before .before .before .before .before .before .before .before .before .before .args .counters) (c .before .before .before .before .before .before .before .before .before .before .args .lookup) (now (c .before .before .before .before .before .before .before .before .before .before .args .words)) (now (c .before .before .before .before .before .before .before .before .before .before .args .bytes)) (now (c .before .before .before .before .before .before .before .before .before .before .args .holds)) (flush (c .before .before .before .before .before .before .before .before .before .before .args .connection)) (sym (c .before .before .before .keeps-rules .ensures) ∙ not-true _ (c .before .before .if1 .taken)) (c .before .refused .ensures) (c .unchanged .ensures)
 
 -- src/lib.rt:62:41
 refused-requires-2 : tie.Need-refused-requires-2
 refused-requires-2 c κs = search needs
 
 -- src/lib.rt:62:9
-leaves-requires-2 : tie.Need-leaves-requires-2
-leaves-requires-2 c κs = search needs
+unchanged-requires-2 : tie.Need-unchanged-requires-2
+unchanged-requires-2 c κs = search needs
 
 -- src/lib.rt:62:9
 same-length-4 : tie.Need-same-length-4
@@ -65,15 +65,15 @@ same-length-6 c = search needs
 
 -- src/lib.rt:62:9
 returns-2 : tie.Need-returns-2
-returns-2 c = other-connection (c .before .before .before .before .before .before .before .before .before .before .before .before .args .s) (c .before .before .before .before .before .before .before .before .before .before .before .before .args .c) (c .before .before .before .before .before .before .before .before .before .before .before .before .args .seen) (now (c .before .before .before .before .before .before .before .before .before .before .before .before .args .words)) (now (c .before .before .before .before .before .before .before .before .before .before .before .before .args .bytes)) (now (c .before .before .before .before .before .before .before .before .before .before .before .before .args .holds)) (sym (c .before .before .before .before .before .sound .ensures) ∙ not-false _ (c .before .before .before .before .if1 .left)) (c .before .before .before .before .before .before .before .before .before .before .before .before .args .connection) (λ e. omega (arith, e, c .before .before .if2 .taken)) (c .before .refused2 .ensures) (c .leaves2 .ensures)
+returns-2 c = other-connection (c .before .before .before .before .before .before .before .before .before .before .before .before .args .settings) (c .before .before .before .before .before .before .before .before .before .before .before .before .args .counters) (c .before .before .before .before .before .before .before .before .before .before .before .before .args .lookup) (now (c .before .before .before .before .before .before .before .before .before .before .before .before .args .words)) (now (c .before .before .before .before .before .before .before .before .before .before .before .before .args .bytes)) (now (c .before .before .before .before .before .before .before .before .before .before .before .before .args .holds)) (sym (c .before .before .before .before .before .keeps-rules .ensures) ∙ not-false _ (c .before .before .before .before .if1 .left)) (c .before .before .before .before .before .before .before .before .before .before .before .before .args .connection) (λ e. omega (arith, e, c .before .before .if2 .taken)) (c .before .refused2 .ensures) (c .unchanged2 .ensures)
 
 -- src/lib.rt:65:41
 refused-requires-3 : tie.Need-refused-requires-3
 refused-requires-3 c κs = search needs
 
 -- src/lib.rt:65:9
-leaves-requires-3 : tie.Need-leaves-requires-3
-leaves-requires-3 c κs = search needs
+unchanged-requires-3 : tie.Need-unchanged-requires-3
+unchanged-requires-3 c κs = search needs
 
 -- src/lib.rt:65:9
 same-length-7 : tie.Need-same-length-7
@@ -89,19 +89,19 @@ same-length-9 c = search needs
 
 -- src/lib.rt:65:9
 returns-3 : tie.Need-returns-3
-returns-3 c = after-promotion (c .before .before .before .before .before .before .before .before .before .before .before .before .before .args .s) (c .before .before .before .before .before .before .before .before .before .before .before .before .before .args .c) (c .before .before .before .before .before .before .before .before .before .before .before .before .before .args .seen) (now (c .before .before .before .before .before .before .before .before .before .before .before .before .before .args .words)) (now (c .before .before .before .before .before .before .before .before .before .before .before .before .before .args .bytes)) (now (c .before .before .before .before .before .before .before .before .before .before .before .before .before .args .holds)) (sym (c .before .before .before .before .before .before .sound .ensures) ∙ not-false _ (c .before .before .before .before .before .if1 .left)) (c .before .before .before .before .before .before .before .before .before .before .before .before .before .args .connection) (omega (arith, c .before .before .before .if2 .left)) (c .before .before .if3 .taken) (c .before .refused3 .ensures) (c .leaves3 .ensures)
+returns-3 c = after-promotion (c .before .before .before .before .before .before .before .before .before .before .before .before .before .args .settings) (c .before .before .before .before .before .before .before .before .before .before .before .before .before .args .counters) (c .before .before .before .before .before .before .before .before .before .before .before .before .before .args .lookup) (now (c .before .before .before .before .before .before .before .before .before .before .before .before .before .args .words)) (now (c .before .before .before .before .before .before .before .before .before .before .before .before .before .args .bytes)) (now (c .before .before .before .before .before .before .before .before .before .before .before .before .before .args .holds)) (sym (c .before .before .before .before .before .before .keeps-rules .ensures) ∙ not-false _ (c .before .before .before .before .before .if1 .left)) (c .before .before .before .before .before .before .before .before .before .before .before .before .before .args .connection) (omega (arith, c .before .before .before .if2 .left)) (c .before .before .if3 .taken) (c .before .refused3 .ensures) (c .unchanged3 .ensures)
 
 -- src/lib.rt:67:5
 run-requires : tie.Need-run-requires
-run-requires c κs = keeps (c .before .before .before .before .before .before .before .before .before .before .before .before .before .args .s) (c .before .before .before .before .before .before .before .before .before .before .before .before .before .args .c) (c .before .before .before .before .before .before .before .before .before .before .before .before .before .args .seen) (now (c .before .before .before .before .before .before .before .before .before .before .before .before .before .args .words)) (now (c .before .before .before .before .before .before .before .before .before .before .before .before .before .args .bytes)) (now (c .before .before .before .before .before .before .before .before .before .before .before .before .before .args .holds)) (sym (c .before .before .before .before .before .before .sound .ensures) ∙ not-false _ (c .before .before .before .before .before .if1 .left))
+run-requires c κs = keeps (c .before .before .before .before .before .before .before .before .before .before .before .before .before .args .settings) (c .before .before .before .before .before .before .before .before .before .before .before .before .before .args .counters) (c .before .before .before .before .before .before .before .before .before .before .before .before .before .args .lookup) (now (c .before .before .before .before .before .before .before .before .before .before .before .before .before .args .words)) (now (c .before .before .before .before .before .before .before .before .before .before .before .before .before .args .bytes)) (now (c .before .before .before .before .before .before .before .before .before .before .before .before .before .args .holds)) (sym (c .before .before .before .before .before .before .keeps-rules .ensures) ∙ not-false _ (c .before .before .before .before .before .if1 .left))
 
 -- src/lib.rt:68:30
 done-requires : tie.Need-done-requires
 done-requires c κs = search needs
 
 -- src/lib.rt:68:5
-leaves-requires-4 : tie.Need-leaves-requires-4
-leaves-requires-4 c κs = search needs
+unchanged-requires-4 : tie.Need-unchanged-requires-4
+unchanged-requires-4 c κs = search needs
 
 -- src/lib.rt:47:1
 same-length-10 : tie.Need-same-length-10
@@ -117,34 +117,34 @@ same-length-12 c = search needs
 
 -- src/lib.rt:47:1
 returns-4 : tie.Need-returns-4
-returns-4 c = flushed (c .before .before .before .before .before .before .before .before .before .before .before .before .before .before .before .before .before .before .args .s) (c .before .before .before .before .before .before .before .before .before .before .before .before .before .before .before .before .before .before .args .c) (c .before .before .before .before .before .before .before .before .before .before .before .before .before .before .before .before .before .before .args .seen) (now (c .before .before .before .before .before .before .before .before .before .before .before .before .before .before .before .before .before .before .args .words)) (now (c .before .before .before .before .before .before .before .before .before .before .before .before .before .before .before .before .before .before .args .bytes)) (now (c .before .before .before .before .before .before .before .before .before .before .before .before .before .before .before .before .before .before .args .holds)) (sym (c .before .before .before .before .before .before .before .before .before .before .before .sound .ensures) ∙ not-false _ (c .before .before .before .before .before .before .before .before .before .before .if1 .left)) (c .before .before .before .before .before .before .before .before .before .before .before .before .before .before .before .before .before .before .args .connection) (omega (arith, c .before .before .before .before .before .before .before .before .if2 .left)) (c .before .before .before .before .before .before .before .if3 .left) (c .before .before .before .before .run .ensures) (c .before .done .ensures) (c .leaves4 .ensures)
+returns-4 c = flushed (c .before .before .before .before .before .before .before .before .before .before .before .before .before .before .before .before .before .before .args .settings) (c .before .before .before .before .before .before .before .before .before .before .before .before .before .before .before .before .before .before .args .counters) (c .before .before .before .before .before .before .before .before .before .before .before .before .before .before .before .before .before .before .args .lookup) (now (c .before .before .before .before .before .before .before .before .before .before .before .before .before .before .before .before .before .before .args .words)) (now (c .before .before .before .before .before .before .before .before .before .before .before .before .before .before .before .before .before .before .args .bytes)) (now (c .before .before .before .before .before .before .before .before .before .before .before .before .before .before .before .before .before .before .args .holds)) (sym (c .before .before .before .before .before .before .before .before .before .before .before .keeps-rules .ensures) ∙ not-false _ (c .before .before .before .before .before .before .before .before .before .before .if1 .left)) (c .before .before .before .before .before .before .before .before .before .before .before .before .before .before .before .before .before .before .args .connection) (omega (arith, c .before .before .before .before .before .before .before .before .if2 .left)) (c .before .before .before .before .before .before .before .if3 .left) (c .before .before .before .before .run .ensures) (c .before .done .ensures) (c .unchanged4 .ensures)
 
 pub flush-spec : {M : Type 1} → statement M
 flush-spec =
     tie.close
     (tie.spec
-    sound-requires
+    keeps-rules-requires
     refused-requires
-    leaves-requires
+    unchanged-requires
     same-length
     same-length-2
     same-length-3
     returns
     refused-requires-2
-    leaves-requires-2
+    unchanged-requires-2
     same-length-4
     same-length-5
     same-length-6
     returns-2
     refused-requires-3
-    leaves-requires-3
+    unchanged-requires-3
     same-length-7
     same-length-8
     same-length-9
     returns-3
     run-requires
     done-requires
-    leaves-requires-4
+    unchanged-requires-4
     same-length-10
     same-length-11
     same-length-12

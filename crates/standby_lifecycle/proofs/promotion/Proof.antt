@@ -6,19 +6,19 @@ use Rattle.standby_lifecycle.proofs.promotion.Statement.{statement}
 use Rattle.standby_lifecycle.proofs.promotion.Tie as tie
 use Rattle.standby_lifecycle.proofs.promotion.Reads as reads
 use Rattle.standby_lifecycle.proofs.promotion.Lts as lts
-use Rattle.standby_lifecycle.proofs.forget.Reads as forget-reads
+use Rattle.standby_lifecycle.proofs.clear_pending_if.Reads as clear-pending-if-reads
 use Rattle.standby_lifecycle.proofs.promoted_from.Reads as promoted-from-reads
-use Rattle.standby_state.proofs.clears.Reads as clears-reads
+use Rattle.standby_state.proofs.cleared.Reads as cleared-reads
 use Rattle.standby_state.proofs.done.Reads as done-reads
 use Rattle.store_sessions.proofs.take_over_all.Reads as take-over-all-reads
 
 -- src/lib.rt:41:5
-forget-requires : tie.Need-forget-requires
-forget-requires c κs = search needs
+clear-pending-if-requires : tie.Need-clear-pending-if-requires
+clear-pending-if-requires c κs = search needs
 
 -- src/lib.rt:42:5
 take-over-all-requires : tie.Need-take-over-all-requires
-take-over-all-requires c κs = still-kept (c .before .before .before .before .before .before .before .before .args .s .shape) (now (c .before .before .before .before .before .before .before .before .args .words)) (now (c .before .before .before .before .before .before .before .before .args .bytes)) (c .before .before .before .before .before .before .before .before .pre) (c .before .before .before .before .forget .ensures)
+take-over-all-requires c κs = still-kept (c .before .before .before .before .before .before .before .before .args .settings .shape) (now (c .before .before .before .before .before .before .before .before .args .words)) (now (c .before .before .before .before .before .before .before .before .args .bytes)) (c .before .before .before .before .before .before .before .before .pre) (c .before .before .before .before .clear-pending-if .ensures)
 
 -- src/lib.rt:43:21
 promoted-from-requires : tie.Need-promoted-from-requires
@@ -29,12 +29,12 @@ done-requires : tie.Need-done-requires
 done-requires c κs = search needs
 
 -- src/lib.rt:43:5
-clears-requires : tie.Need-clears-requires
-clears-requires c κs = search needs
+cleared-requires : tie.Need-cleared-requires
+cleared-requires c κs = search needs
 
 -- src/lib.rt:37:1
 same-length : tie.Need-same-length
-same-length c = c .before .before .before .before .before .before .before .take-over-all .kept .0 ∙ c .before .before .before .before .before .before .before .before .before .before .before .before .forget .kept .0
+same-length c = c .before .before .before .before .before .before .before .take-over-all .kept .0 ∙ c .before .before .before .before .before .before .before .before .before .before .before .before .clear-pending-if .kept .0
 
 -- src/lib.rt:37:1
 same-length-2 : tie.Need-same-length-2
@@ -42,17 +42,17 @@ same-length-2 c = search needs
 
 -- src/lib.rt:37:1
 returns : tie.Need-returns
-returns c = promoted-is (c .before .before .before .before .before .before .before .before .before .before .before .before .before .before .before .before .args .s) (c .before .before .before .before .before .before .before .before .before .before .before .before .before .before .before .before .args .c) (c .before .before .before .before .before .before .before .before .before .before .before .before .before .before .before .before .args .seen) (now (c .before .before .before .before .before .before .before .before .before .before .before .before .before .before .before .before .args .words)) (now (c .before .before .before .before .before .before .before .before .before .before .before .before .before .before .before .before .args .bytes)) (c .before .before .before .before .before .before .before .before .before .before .before .before .before .before .before .before .pre) (c .before .before .before .before .before .before .before .before .before .before .before .before .forget .ensures) (c .before .before .before .before .before .before .before .take-over-all .ensures) (c .before .before .promoted-from .ensures) (c .before .done .ensures) (c .clears .ensures)
+returns c = promoted-is (c .before .before .before .before .before .before .before .before .before .before .before .before .before .before .before .before .args .settings) (c .before .before .before .before .before .before .before .before .before .before .before .before .before .before .before .before .args .counters) (c .before .before .before .before .before .before .before .before .before .before .before .before .before .before .before .before .args .lookup) (now (c .before .before .before .before .before .before .before .before .before .before .before .before .before .before .before .before .args .words)) (now (c .before .before .before .before .before .before .before .before .before .before .before .before .before .before .before .before .args .bytes)) (c .before .before .before .before .before .before .before .before .before .before .before .before .before .before .before .before .pre) (c .before .before .before .before .before .before .before .before .before .before .before .before .clear-pending-if .ensures) (c .before .before .before .before .before .before .before .take-over-all .ensures) (c .before .before .promoted-from .ensures) (c .before .done .ensures) (c .cleared .ensures)
 
 pub promotion-spec : {M : Type 1} → statement M
 promotion-spec =
     tie.close
     (tie.spec
-    forget-requires
+    clear-pending-if-requires
     take-over-all-requires
     promoted-from-requires
     done-requires
-    clears-requires
+    cleared-requires
     same-length
     same-length-2
     returns)

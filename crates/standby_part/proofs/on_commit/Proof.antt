@@ -7,13 +7,13 @@ use Rattle.standby_part.proofs.on_commit.Statement.{statement}
 use Rattle.standby_part.proofs.on_commit.Tie as tie
 
 returns : tie.Need-returns
-returns c = commit-held (c .before .before .before .before .before .before .before .args .p .version) (c .before .before .before .before .before .before .before .args .shape) (c .before .before .before .before .before .before .before .args .h) (c .before .before .before .before .before .before .before .args .n) (heldRun (c .before .before .before .before .before .before .before .args .p .version) (now (c .before .before .before .before .before .before .before .args .run))) _ _ (now (c .before .before .before .before .before .before .before .args .area)) (front (c .before .before .before .before .before .before .before .args .p .version) (c .before .before .before .before .before .before .before .args .h .«held_len») (now (c .before .before .before .before .before .before .before .args .area)) (c .before .run-length .ensures)) (c .if1 .taken) (c .before .before .before .before .before .before .before .pre .0)
+returns c = commit-held (c .before .before .before .before .before .before .before .args .protocol .version) (c .before .before .before .before .before .before .before .args .shape) (c .before .before .before .before .before .before .before .args .bound) (c .before .before .before .before .before .before .before .args .number) (heldRun (c .before .before .before .before .before .before .before .args .protocol .version) (now (c .before .before .before .before .before .before .before .args .run))) _ _ (now (c .before .before .before .before .before .before .before .args .area)) (front (c .before .before .before .before .before .before .before .args .protocol .version) (c .before .before .before .before .before .before .before .args .bound .«held_len») (now (c .before .before .before .before .before .before .before .args .area)) (c .before .run-length .ensures)) (c .if1 .taken) (c .before .before .before .before .before .before .before .pre .0)
 
 returns-2 : tie.Need-returns-2
-returns-2 c = commit-made (c .before .before .before .before .before .before .before .before .before .before .before .before .before .before .before .before .args .p .version) (c .before .before .before .before .before .before .before .before .before .before .before .before .before .before .before .before .args .shape) (c .before .before .before .before .before .before .before .before .before .before .before .before .before .before .before .before .args .h) (c .before .before .before .before .before .before .before .before .before .before .before .before .before .before .before .before .args .n) (heldRun (c .before .before .before .before .before .before .before .before .before .before .before .before .before .before .before .before .args .p .version) (now (c .before .before .before .before .before .before .before .before .before .before .before .before .before .before .before .before .args .run))) _ _ (now (c .before .before .before .before .before .before .before .before .before .before .before .before .before .before .before .before .args .area)) (front (c .before .before .before .before .before .before .before .before .before .before .before .before .before .before .before .before .args .p .version) (c .before .before .before .before .before .before .before .before .before .before .before .before .before .before .before .before .args .h .«held_len») (now (c .before .before .before .before .before .before .before .before .before .before .before .before .before .before .before .before .args .area)) (c .before .before .before .before .before .before .before .before .before .before .run-length .ensures)) (c .before .before .before .before .before .before .before .before .before .if1 .left) (c .before .before .before .before .before .before .before .before .before .before .before .before .before .before .before .before .pre .1 .0) (c .before .before .before .before .before .before .settle .ensures) (c .before .if2 .taken) (c .numbered .ensures)
+returns-2 c = commit-made (c .before .before .before .before .before .before .before .before .before .before .before .before .before .before .before .before .args .protocol .version) (c .before .before .before .before .before .before .before .before .before .before .before .before .before .before .before .before .args .shape) (c .before .before .before .before .before .before .before .before .before .before .before .before .before .before .before .before .args .bound) (c .before .before .before .before .before .before .before .before .before .before .before .before .before .before .before .before .args .number) (heldRun (c .before .before .before .before .before .before .before .before .before .before .before .before .before .before .before .before .args .protocol .version) (now (c .before .before .before .before .before .before .before .before .before .before .before .before .before .before .before .before .args .run))) _ _ (now (c .before .before .before .before .before .before .before .before .before .before .before .before .before .before .before .before .args .area)) (front (c .before .before .before .before .before .before .before .before .before .before .before .before .before .before .before .before .args .protocol .version) (c .before .before .before .before .before .before .before .before .before .before .before .before .before .before .before .before .args .bound .«held_len») (now (c .before .before .before .before .before .before .before .before .before .before .before .before .before .before .before .before .args .area)) (c .before .before .before .before .before .before .before .before .before .before .run-length .ensures)) (c .before .before .before .before .before .before .before .before .before .if1 .left) (c .before .before .before .before .before .before .before .before .before .before .before .before .before .before .before .before .pre .1 .0) (c .before .before .before .before .before .before .commit-changes .ensures) (c .before .if2 .taken) (c .with-commit-no .ensures)
 
 returns-3 : tie.Need-returns-3
-returns-3 c = commit-off (c .before .before .before .before .before .before .before .before .before .before .before .before .before .before .before .args .p .version) (c .before .before .before .before .before .before .before .before .before .before .before .before .before .before .before .args .shape) (c .before .before .before .before .before .before .before .before .before .before .before .before .before .before .before .args .h) (c .before .before .before .before .before .before .before .before .before .before .before .before .before .before .before .args .n) (heldRun (c .before .before .before .before .before .before .before .before .before .before .before .before .before .before .before .args .p .version) (now (c .before .before .before .before .before .before .before .before .before .before .before .before .before .before .before .args .run))) _ _ (now (c .before .before .before .before .before .before .before .before .before .before .before .before .before .before .before .args .area)) (front (c .before .before .before .before .before .before .before .before .before .before .before .before .before .before .before .args .p .version) (c .before .before .before .before .before .before .before .before .before .before .before .before .before .before .before .args .h .«held_len») (now (c .before .before .before .before .before .before .before .before .before .before .before .before .before .before .before .args .area)) (c .before .before .before .before .before .before .before .before .before .run-length .ensures)) (c .before .before .before .before .before .before .before .before .if1 .left) (c .before .before .before .before .before .before .before .before .before .before .before .before .before .before .before .pre .1 .0) (c .before .before .before .before .before .settle .ensures) (c .if2 .left)
+returns-3 c = commit-off (c .before .before .before .before .before .before .before .before .before .before .before .before .before .before .before .args .protocol .version) (c .before .before .before .before .before .before .before .before .before .before .before .before .before .before .before .args .shape) (c .before .before .before .before .before .before .before .before .before .before .before .before .before .before .before .args .bound) (c .before .before .before .before .before .before .before .before .before .before .before .before .before .before .before .args .number) (heldRun (c .before .before .before .before .before .before .before .before .before .before .before .before .before .before .before .args .protocol .version) (now (c .before .before .before .before .before .before .before .before .before .before .before .before .before .before .before .args .run))) _ _ (now (c .before .before .before .before .before .before .before .before .before .before .before .before .before .before .before .args .area)) (front (c .before .before .before .before .before .before .before .before .before .before .before .before .before .before .before .args .protocol .version) (c .before .before .before .before .before .before .before .before .before .before .before .before .before .before .before .args .bound .«held_len») (now (c .before .before .before .before .before .before .before .before .before .before .before .before .before .before .before .args .area)) (c .before .before .before .before .before .before .before .before .before .run-length .ensures)) (c .before .before .before .before .before .before .before .before .if1 .left) (c .before .before .before .before .before .before .before .before .before .before .before .before .before .before .before .pre .1 .0) (c .before .before .before .before .before .commit-changes .ensures) (c .if2 .left)
 
 pub on-commit-spec : {M : Type 1} → statement M
 on-commit-spec =

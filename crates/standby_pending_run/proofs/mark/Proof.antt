@@ -23,7 +23,7 @@ slice-write-words : tie.Need-slice-write-words
 slice-write-words c = omega (arith, mark-within (c .before .before .args .shape) _ _ _ (c .before .before .args .words .now) (c .place-words .ensures) (c .before .before .pre .1 .0) (c .before .before .pre .1 .1 .0) (c .before .before .pre .1 .1 .1))
 
 returns : tie.Need-returns
-returns c = ap (λ (n : ℕ). set (c .before .before .args .words .now) (66 + c .before .before .args .i * n + 4) 1) (c .place-words .ensures)
+returns c = ap (λ (n : ℕ). set (c .before .before .args .words .now) (66 + c .before .before .args .place * n + 4) 1) (c .place-words .ensures)
 
 pub mark-spec : {M : Type 1} → statement M
 mark-spec =

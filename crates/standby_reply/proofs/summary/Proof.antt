@@ -22,7 +22,7 @@ cut-requires-2 c κs = search needs
 
 -- src/lib.rt:65:1
 returns : tie.Need-returns
-returns c = shows (now (c .before .before .before .before .args .bytes)) (c .before .before .before .before .args .b) (c .before .before .in-flight .ensures) (c .before .cut .ensures) (c .cut2 .ensures)
+returns c = shows (now (c .before .before .before .before .args .bytes)) (c .before .before .before .before .args .flat) (c .before .before .in-flight .ensures) (c .before .cut .ensures) (c .cut2 .ensures)
 
 pub summary-spec : {M : Type 1} → statement M
 summary-spec = tie.close (tie.spec in-flight-requires cut-requires cut-requires-2 returns)

@@ -34,7 +34,7 @@ use denote.Triple.Spec.{Meets, tripleOf}
 use denote.Triple.Statement.{Triple}
 use denote.Triple.Table.{entered, cited}
 use denote.Triple.Walked.{says, Stays, stay-slice, walkOf, Walks, ends-at, walked, goes-slice, walk-meets}
-use Rattle.standby_row.specs.declared.Handle.{Handle}
+use Rattle.standby_row.specs.declared.Bound.{Bound}
 use Rattle.standby_row.specs.Row.{clearedAll}
 use Rattle.standby_row.proofs.Lists.{cleared-length}
 use Rattle.standby_row.proofs.Rows.{R}
@@ -50,8 +50,8 @@ use Rattle.standby_row.proofs.clear.Code as code
 abbrev stayed : Stays (clear.ended .signature .params) (clear.ended .kept)
 stayed = (stay-slice (0 ∷ []) tt (plain (λ _. R)), tt)
 
-module _ {M : Type 1} (𝓤 : URA M) (H : Heap 𝓤) (A : Atoms 𝓤) (W : Given 𝓤 H A) (memory : Memory → SProp 𝓤) (run : Routine → Fun 𝓤) (κ : Lft) (q : Share) (b o : ℕ) (γ : GName) (ys : List Handle) (room : Room R (length ys)) where
-  abbrev x : RefT (List Handle) × Unit {0}
+module _ {M : Type 1} (𝓤 : URA M) (H : Heap 𝓤) (A : Atoms 𝓤) (W : Given 𝓤 H A) (memory : Memory → SProp 𝓤) (run : Routine → Fun 𝓤) (κ : Lft) (q : Share) (b o : ℕ) (γ : GName) (ys : List Bound) (room : Room R (length ys)) where
+  abbrev x : RefT (List Bound) × Unit {0}
   x = (record { ptr = (b, o); name = γ; now = ys }, tt)
 
   abbrev s : Val
@@ -60,7 +60,7 @@ module _ {M : Type 1} (𝓤 : URA M) (H : Heap 𝓤) (A : Atoms 𝓤) (W : Given
   abbrev at : List Val × Unit {0}
   at = (s ∷ [], tt)
 
-  abbrev zs : List Handle
+  abbrev zs : List Bound
   zs = clearedAll ys
 
   same : length zs ≡ length ys

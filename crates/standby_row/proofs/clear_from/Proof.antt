@@ -48,10 +48,10 @@ use denote.Triple.Table.{entered}
 use denote.Triple.Walked.{says, Stays, stay-slice, stay-dropped, walkOf, Walks, ends-at, walked, goes-slice, goes-dropped, walk-meets}
 use denote.Exit.{yes}
 use borrow.Author.Tests.{ltb-true, ltb-false}
-use Rattle.standby_row.specs.declared.Handle.{Handle}
+use Rattle.standby_row.specs.declared.Bound.{Bound}
 use Rattle.standby_row.specs.Row.{freeRecord, cleared, clearedFrom}
-use Rattle.standby_row.proofs.Handle as T
-use Rattle.standby_row.proofs.Handle.Laws as T′
+use Rattle.standby_row.proofs.Bound as T
+use Rattle.standby_row.proofs.Bound.Laws as T′
 use Rattle.standby_row.proofs.Lists.{clears-next, clears-end}
 use Rattle.standby_row.proofs.Rows.{R, vals, tells, makes, product-fits, place-at, by-bool}
 use Rattle.standby_row.proofs.clear_from.Key.{name as #standby_row·clear-from}
@@ -70,14 +70,14 @@ abbrev slice : Ty
 slice = sliceTy (tyRef (named 0) mut (pointee (R .written)))
 
 -- a record that is freed is a record: its other fields' facts are the old one's
-made : (h : Handle) → Is R h (vals h) → Is R (cleared h) (vals (cleared h))
+made : (h : Bound) → Is R h (vals h) → Is R (cleared h) (vals (cleared h))
 made h is = LL.owes T.the-type T′.the-laws (cleared h) (refl, LL.owed T.the-type T′.the-laws h _ is .1)
 
-module _ {M : Type 1} (𝓤 : URA M) (H : Heap 𝓤) (A : Atoms 𝓤) (W : Given 𝓤 H A) (memory : Memory → SProp 𝓤) (run : Routine → Fun 𝓤) (κ : Lft) (q : Share) (b o : ℕ) (γ : GName) (ys : List Handle) (k : ℕ) (room : Room R (length ys)) (k-fits : k < 2 ^ 64) where
+module _ {M : Type 1} (𝓤 : URA M) (H : Heap 𝓤) (A : Atoms 𝓤) (W : Given 𝓤 H A) (memory : Memory → SProp 𝓤) (run : Routine → Fun 𝓤) (κ : Lft) (q : Share) (b o : ℕ) (γ : GName) (ys : List Bound) (k : ℕ) (room : Room R (length ys)) (k-fits : k < 2 ^ 64) where
   abbrev n : ℕ
   n = length ys
 
-  abbrev x : RefT (List Handle) × (ℕ × Unit {0})
+  abbrev x : RefT (List Bound) × (ℕ × Unit {0})
   x = (record { ptr = (b, o); name = γ; now = ys }, (k, tt))
 
   abbrev s : Val
@@ -89,7 +89,7 @@ module _ {M : Type 1} (𝓤 : URA M) (H : Heap 𝓤) (A : Atoms 𝓤) (W : Given
   abbrev Post : Val → SProp 𝓤
   Post = walkOf 𝓤 H A clear-from.ended stayed (clear-from.clauses 𝓤 H A memory run) .post (((κ, tt), (q, tt), tt, x, at), tt)
 
-  exits : (zs : List Handle) → zs ≡ clearedFrom k ys → length zs ≡ n → ent 𝓤 (⋆ 𝓤 H A (‵ (fobs γ (codedHoleys R .code (heres R zs))) ∷ ‵ (fbor κ (Held R (length zs) b o γ)) ∷ ‵ (flft κ q) ∷ [])) (Post vunit)
+  exits : (zs : List Bound) → zs ≡ clearedFrom k ys → length zs ≡ n → ent 𝓤 (⋆ 𝓤 H A (‵ (fobs γ (codedHoleys R .code (heres R zs))) ∷ ‵ (fbor κ (Held R (length zs) b o γ)) ∷ ‵ (flft κ q) ∷ [])) (Post vunit)
   exits zs e l =
       qed W (‵ (fobs γ (codedHoleys R .code (heres R zs))) ∷ ‵ (fbor κ (Held R (length zs) b o γ)) ∷ ‵ (flft κ q) ∷ []) ∵
       suffices ! _ (ends-at 𝓤 H A clear-from.ended stayed (clear-from.clauses 𝓤 H A memory run) W (((κ, tt), (q, tt), tt, x, at), tt) vunit tt (zs, (tt, tt)) (l, (tt, tt))) $ says ! e $
@@ -99,7 +99,7 @@ module _ {M : Type 1} (𝓤 : URA M) (H : Heap 𝓤) (A : Atoms 𝓤) (W : Given
 
   -- ---- the loop's index and row
   abbrev Upto : Type 0
-  Upto = (i : ℕ) × ((zs : List Handle) × ((i < 2 ^ 64) × (length zs ≡ n) × (clearedFrom i zs ≡ clearedFrom k ys)))
+  Upto = (i : ℕ) × ((zs : List Bound) × ((i < 2 ^ 64) × (length zs ≡ n) × (clearedFrom i zs ≡ clearedFrom k ys)))
 
   abbrev Nearer : Upto → Upto → Type 0
   Nearer u v = n - u .0 < n - v .0
@@ -139,7 +139,7 @@ module _ {M : Type 1} (𝓤 : URA M) (H : Heap 𝓤) (A : Atoms 𝓤) (W : Given
         returns ! (look ! 15 refl) $ forget ! 5 refl $ forget ! 7 refl $ forget ! 9 refl $ forget ! 11 refl $ forget ! 13 refl $ forget ! 15 refl $
         move ! (15 ∷ 16 ∷ []) $ free1 ! $ move ! (13 ∷ 14 ∷ []) $ free1 ! $ move ! (11 ∷ 12 ∷ []) $ free1 ! $ move ! (9 ∷ 10 ∷ []) $ free1 ! $ move ! (7 ∷ 8 ∷ []) $ free1 ! $ move ! (5 ∷ 6 ∷ []) $ free1 ! $ move ! (3 ∷ 4 ∷ []) $ free1 ! $ free0 ! $ by ! (exits zs (sym (clears-end (u .0) zs past) ∙ u .1 .1 .2) same)
       where
-        zs : List Handle
+        zs : List Bound
         zs = u .1 .0
 
         same : length zs ≡ n
@@ -166,7 +166,7 @@ module _ {M : Type 1} (𝓤 : URA M) (H : Heap 𝓤) (A : Atoms 𝓤) (W : Given
         assigns-last ! (bin ! (load ! (from ! (stop !)) (look ! 10 refl)) (lit ! tt) (record { fits = next .1 .1 .0 })) (from ! (stop !)) (store ! 10 refl (tt, record { fits = next .1 .1 .0 })) $
         forget ! 4 refl $ forget ! 6 refl $ forget ! 8 refl $ again ! Nearer At u next (add-one-dec n (u .0) less))
       where
-        zs : List Handle
+        zs : List Bound
         zs = u .1 .0
 
         less : u .0 < n
@@ -175,7 +175,7 @@ module _ {M : Type 1} (𝓤 : URA M) (H : Heap 𝓤) (A : Atoms 𝓤) (W : Given
         within : u .0 < length zs
         within = subst (λ (m : ℕ). u .0 < m) (sym (u .1 .1 .1)) less
 
-        h : Handle
+        h : Bound
         h = getD zs (u .0) freeRecord
 
         next : Upto

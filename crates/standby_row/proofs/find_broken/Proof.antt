@@ -51,16 +51,16 @@ use denote.Triple.Table.{entered, cited}
 use denote.Triple.Walked.{says, Stays, stay-dropped, walkOf, Walks, ends-at, walked, goes-dropped, walk-meets}
 use denote.Exit.{yes}
 use borrow.Author.Tests.{ltb-true, ltb-false}
-use Rattle.standby_row.specs.declared.Handle.{Handle}
+use Rattle.standby_row.specs.declared.Bound.{Bound}
 use Rattle.standby_row.specs.Row.{freeRecord, breaksOf, firstOf}
-use Rattle.standby_row.proofs.Handle as T
-use Rattle.standby_row.proofs.Handle.Laws as T′
+use Rattle.standby_row.proofs.Bound as T
+use Rattle.standby_row.proofs.Bound.Laws as T′
 use Rattle.standby_row.proofs.Lists.{Sought, starts, goes-on, found, over}
 use Rattle.standby_row.proofs.Rows.{R, val, vals, tells, copies, makes, product-fits, place-at, by-bool, passes-by, goes-in}
-use Rattle.standby_row.proofs.breaks as breaks
-use Rattle.standby_row.proofs.breaks.Symbol as breaks-def
-use Rattle.standby_row.proofs.breaks.Symbol.{name as #standby_row·breaks}
-use Rattle.standby_row.proofs.breaks.Met as breaks-thm
+use Rattle.standby_row.proofs.breaks_rules as breaks-rules
+use Rattle.standby_row.proofs.breaks_rules.Symbol as breaks-rules-def
+use Rattle.standby_row.proofs.breaks_rules.Symbol.{name as #standby_row·breaks-rules}
+use Rattle.standby_row.proofs.breaks_rules.Met as breaks-rules-thm
 use Rattle.standby_row.proofs.find_broken.Key.{name as #standby_row·find-broken}
 use Rattle.standby_row.proofs.find_broken as find-broken
 use Rattle.standby_row.proofs.find_broken.Statement as stated
@@ -77,22 +77,22 @@ abbrev slice : Ty
 slice = sliceTy (tyRef (named 0) imm (pointee (R .written)))
 
 -- what is sought
-abbrev is : ℕ → ℕ → Handle → Bool
+abbrev is : ℕ → ℕ → Bound → Bool
 is places most h = breaksOf h places most
 
 -- the contract that the proof cites, and of its `ensured` the clause alone
 module _ {M : Type 1} (𝓤 : URA M) (H : Heap 𝓤) (A : Atoms 𝓤) (memory : Memory → SProp 𝓤) (run : Routine → Fun 𝓤) where
   abbrev Test : Contract 𝓤
-  Test = tripleOf 𝓤 H A breaks.signature (breaks.spec 𝓤 H A memory run)
+  Test = tripleOf 𝓤 H A breaks-rules.signature (breaks-rules.spec 𝓤 H A memory run)
 
-  told : (h : Handle) (places most : ℕ) (r : Bool) → ent 𝓤 (ensured 𝓤 H A breaks.ended (breaks.clauses 𝓤 H A memory run) tt (h, (places, (most, tt))) tt r) (fact 𝓤 (r ≡ is places most h))
-  told h places most r = exE 𝓤 _ (λ ws. snd∗ 𝓤 (sem 𝓤 H A (lasts breaks.ended tt (h, (places, (most, tt))) ws)) (fact 𝓤 (r ≡ is places most h)))
+  told : (h : Bound) (places most : ℕ) (r : Bool) → ent 𝓤 (ensured 𝓤 H A breaks-rules.ended (breaks-rules.clauses 𝓤 H A memory run) tt (h, (places, (most, tt))) tt r) (fact 𝓤 (r ≡ is places most h))
+  told h places most r = exE 𝓤 _ (λ ws. snd∗ 𝓤 (sem 𝓤 H A (lasts breaks-rules.ended tt (h, (places, (most, tt))) ws)) (fact 𝓤 (r ≡ is places most h)))
 
-module _ {M : Type 1} (𝓤 : URA M) (H : Heap 𝓤) (A : Atoms 𝓤) (W : Given 𝓤 H A) (memory : Memory → SProp 𝓤) (run : Routine → Fun 𝓤) (κ : Lft) (q : Share) (b o : ℕ) (γ : GName) (ys : List Handle) (places most : ℕ) (room : Room R (length ys)) (places-fits : places < 2 ^ 64) (most-fits : most < 2 ^ 64) where
+module _ {M : Type 1} (𝓤 : URA M) (H : Heap 𝓤) (A : Atoms 𝓤) (W : Given 𝓤 H A) (memory : Memory → SProp 𝓤) (run : Routine → Fun 𝓤) (κ : Lft) (q : Share) (b o : ℕ) (γ : GName) (ys : List Bound) (places most : ℕ) (room : Room R (length ys)) (places-fits : places < 2 ^ 64) (most-fits : most < 2 ^ 64) where
   abbrev n : ℕ
   n = length ys
 
-  abbrev x : RefT (List Handle) × (ℕ × (ℕ × Unit {0}))
+  abbrev x : RefT (List Bound) × (ℕ × (ℕ × Unit {0}))
   x = (record { ptr = (b, o); name = γ; now = ys }, (places, (most, tt)))
 
   abbrev s : Val
@@ -111,10 +111,10 @@ module _ {M : Type 1} (𝓤 : URA M) (H : Heap 𝓤) (A : Atoms 𝓤) (W : Given
       nothing ! $ move ! (1 ∷ 0 ∷ []) $ join ! $ owned ! usize (Is usize) (uint-makes 𝓤 H A W w64) i _ (refl, i-fits) $ nothing ! $ nothing ! $ fjoin ! $ nothing ! $ fjoin ! $ nothing ! $ fjoin ! $ move ! (2 ∷ 0 ∷ []) $ done !
 
   -- what the test's triple binds outside at a record h, and that what it asks is had for nothing
-  abbrev to : Handle → Test 𝓤 H A memory run .Ghost
+  abbrev to : Bound → Test 𝓤 H A memory run .Ghost
   to h = ((tt, tt, tt, (h, (places, (most, tt))), (vals h, (vint w64 places ∷ [], (vint w64 most ∷ [], tt)))), tt)
 
-  goes : (h : Handle) → Is R h (vals h) → ent 𝓤 (emp 𝓤) (Test 𝓤 H A memory run .pre (to h))
+  goes : (h : Bound) → Is R h (vals h) → ent 𝓤 (emp 𝓤) (Test 𝓤 H A memory run .pre (to h))
   goes h is-h =
       qed W [] ∵ nothing ! $ nothing ! $ owned ! usize (Is usize) (uint-makes 𝓤 H A W w64) most _ (refl, most-fits) $ fjoin ! $ owned ! usize (Is usize) (uint-makes 𝓤 H A W w64) places _ (refl, places-fits) $ fjoin ! $ owned ! R (Is R) (makes 𝓤 H A W) h (vals h) is-h $ fjoin ! $ nothing ! $ join ! $ done !
 
@@ -137,7 +137,7 @@ module _ {M : Type 1} (𝓤 : URA M) (H : Heap 𝓤) (A : Atoms 𝓤) (W : Given
   abbrev Res : Item 𝓤
   Res = ‵ (fres γ (codedHoleys R .code (heres R ys)))
 
-  module _ (𝓣 : Tables 𝓤 H) (fm : FmC 𝓤 H (W .laws) (𝓣 .C)) (known : Triple 𝓤 (𝓣 .C #standby_row·breaks) (Test 𝓤 H A memory run)) (q′ : Share) (l₀ l₁ l₂ l₃ l₄ l₅ l₆ l₇ l₈ l₉ l₁₀ : ℕ) where
+  module _ (𝓣 : Tables 𝓤 H) (fm : FmC 𝓤 H (W .laws) (𝓣 .C)) (known : Triple 𝓤 (𝓣 .C #standby_row·breaks-rules) (Test 𝓤 H A memory run)) (q′ : Share) (l₀ l₁ l₂ l₃ l₄ l₅ l₆ l₇ l₈ l₉ l₁₀ : ℕ) where
     abbrev C : Calls 𝓤 H
     C = 𝓣 .C
 
@@ -191,7 +191,7 @@ module _ {M : Type 1} (𝓤 : URA M) (H : Heap 𝓤) (A : Atoms 𝓤) (W : Given
         -- the test
         use0 W (raw (Test 𝓤 H A memory run .pre (to h))) (goes h is-h) $
         calls-at ! fm (Test 𝓤 H A memory run) known (to h) (and-then ! (load ! (from ! (stop !)) (look ! 15 refl)) (and-then ! (load ! (from ! (stop !)) (look ! 21 refl)) (and-then ! (load ! (from ! (stop !)) (look ! 19 refl)) (no-more !)))) (λ v.
-        use1 W (later (some (λ (r : Bool). (‵ ftrue ⊛ ‵ (bool .own r (v ∷ []))) ⊛ raw (ensured 𝓤 H A breaks.ended (breaks.clauses 𝓤 H A memory run) tt (h, (places, (most, tt))) tt r)))) (id⊢ 𝓤 _) $ await ! tt $ pick ! (λ r.
+        use1 W (later (some (λ (r : Bool). (‵ ftrue ⊛ ‵ (bool .own r (v ∷ []))) ⊛ raw (ensured 𝓤 H A breaks-rules.ended (breaks-rules.clauses 𝓤 H A memory run) tt (h, (places, (most, tt))) tt r)))) (id⊢ 𝓤 _) $ await ! tt $ pick ! (λ r.
         split ! $ move ! (1 ∷ []) $ use1 W (raw (fact 𝓤 (r ≡ is places most h))) (told 𝓤 H A memory run h places most r) $ heard ! (r ≡ is places most h) (λ e′. split ! $ drop ! $
         facts ! bool (Is bool) (shows 𝓤 H A bool) r (v ∷ []) (λ is-r.
         land ! (from ! (stop !)) (init ! 4 refl (bool-lawful 𝓤 H A W .typed r _ is-r .0)) $
@@ -209,7 +209,7 @@ module _ {M : Type 1} (𝓤 : URA M) (H : Heap 𝓤) (A : Atoms 𝓤) (W : Given
         less : i .0 < n
         less = ltb-true (i .0) n e
 
-        h : Handle
+        h : Bound
         h = getD ys (i .0) freeRecord
 
         next : is places most h ≡ false → Upto
@@ -218,7 +218,7 @@ module _ {M : Type 1} (𝓤 : URA M) (H : Heap 𝓤) (A : Atoms 𝓤) (W : Given
     turns : (i : Upto) → Sq W (At i) (runs C Λ En mir.turn-1 (anyQ (Turned i)))
     turns i = by-bool (ltb (i .0) n) (more i) (ends i)
 
-  walk : (𝓣 : Tables 𝓤 H) → FmC 𝓤 H (W .laws) (𝓣 .C) → Triple 𝓤 (𝓣 .C #standby_row·breaks) (Test 𝓤 H A memory run) → ent 𝓤 (onEntry 𝓤 H A find-broken.signature (κ, tt) (q, tt) x at) (WpFn 𝓤 H (𝓣 .C) (𝓣 .Λ) code.function (s ∷ vint w64 places ∷ vint w64 most ∷ []) Post)
+  walk : (𝓣 : Tables 𝓤 H) → FmC 𝓤 H (W .laws) (𝓣 .C) → Triple 𝓤 (𝓣 .C #standby_row·breaks-rules) (Test 𝓤 H A memory run) → ent 𝓤 (onEntry 𝓤 H A find-broken.signature (κ, tt) (q, tt) x at) (WpFn 𝓤 H (𝓣 .C) (𝓣 .Λ) code.function (s ∷ vint w64 places ∷ vint w64 most ∷ []) Post)
   walk 𝓣 fm known =
       qed W ((‵ (flft κ q) ⊛ ‵ ftrue) ∷ ‵ (owns (ShrSlice (named 0) κ R ∷ usize ∷ usize ∷ []) x at) ∷ []) ∵ enter ! (𝓣 .C) (𝓣 .Λ) code.function (s ∷ vint w64 places ∷ vint w64 most ∷ []) _ $
       alloc1 ! (λ l₀. alloc1 ! (λ l₁. alloc1 ! (λ l₂. alloc1 ! (λ l₃. alloc1 ! (λ l₄. alloc1 ! (λ l₅. alloc1 ! (λ l₆. alloc1 ! (λ l₇. alloc1 ! (λ l₈. alloc1 ! (λ l₉. alloc1 ! (λ l₁₀. alloc0 ! $ params1 ! $
@@ -231,7 +231,7 @@ module _ {M : Type 1} (𝓤 : URA M) (H : Heap 𝓤) (A : Atoms 𝓤) (W : Given
       keep ! (0 ∷ 1 ∷ 2 ∷ 4 ∷ 6 ∷ 7 ∷ 8 ∷ 9 ∷ 10 ∷ 11 ∷ 12 ∷ 13 ∷ 14 ∷ 15 ∷ 16 ∷ 17 ∷ 18 ∷ 19 ∷ 20 ∷ 21 ∷ 22 ∷ 23 ∷ 24 ∷ 25 ∷ 26 ∷ 27 ∷ []) $
       first ! $ blocks ! $ loops ! 𝓣 Nearer Nearer-wf (At 𝓣 fm known q′ l₀ l₁ l₂ l₃ l₄ l₅ l₆ l₇ l₈ l₉ l₁₀) (turns 𝓣 fm known q′ l₀ l₁ l₂ l₃ l₄ l₅ l₆ l₇ l₈ l₉ l₁₀) (0, (zero-le, starts (is places most) ys))))))))))))))
 
-module _ {M : Type 1} (𝓤 : URA M) (H : Heap 𝓤) (A : Atoms 𝓤) (W : Given 𝓤 H A) (memory : Memory → SProp 𝓤) (run : Routine → Fun 𝓤) (𝓣 : Tables 𝓤 H) (known : Triple 𝓤 (𝓣 .C #standby_row·breaks) (Test 𝓤 H A memory run)) where
+module _ {M : Type 1} (𝓤 : URA M) (H : Heap 𝓤) (A : Atoms 𝓤) (W : Given 𝓤 H A) (memory : Memory → SProp 𝓤) (run : Routine → Fun 𝓤) (𝓣 : Tables 𝓤 H) (known : Triple 𝓤 (𝓣 .C #standby_row·breaks-rules) (Test 𝓤 H A memory run)) where
   find-broken-walks : Walks 𝓤 H A find-broken.ended stayed (WpFn 𝓤 H (𝓣 .C) (𝓣 .Λ) code.function) (find-broken.clauses 𝓤 H A memory run)
   find-broken-walks = walked 𝓤 H A find-broken.ended stayed (find-broken.clauses 𝓤 H A memory run) (WpFn 𝓤 H (𝓣 .C) (𝓣 .Λ) code.function) (λ κs. (slice-vals, (uint-vals w64, (uint-vals w64, tt)))) (λ κs. (shr-slice-tells (named 0) (κs .0) R, (uint-tells w64, (uint-tells w64, tt))))
       (λ κs qs bounds a g are. via 𝓤 _ (fst∗ 𝓤 _ (emp 𝓤)) (walk 𝓤 H A W memory run (κs .0) (qs .0) (a .0 .ptr .0) (a .0 .ptr .1) (a .0 .name) (a .0 .now) (a .1 .0) (a .1 .1 .0) (are .0 .0 .1) (are .1 .0 .1) (are .1 .1 .0 .1) 𝓣 (fmOf 𝓤 H (W .laws) 𝓣) known))
@@ -246,4 +246,4 @@ find-broken-spec 𝓤 H 𝓜 𝓖 𝓡 =
     entered 𝓤 H (tripleOf 𝓤 H (𝓖 .A) find-broken.signature (find-broken.spec 𝓤 H (𝓖 .A) (𝓜 .mem) (𝓡 .run)))
     (tables 𝓤 H 𝓜 𝓡 code.env .C) (tables 𝓤 H 𝓜 𝓡 code.env .Λ) #standby_row·find-broken code.function (code.unfolded 𝓤 H 𝓜 𝓡)
     (find-broken-meets 𝓤 H (𝓖 .A) (givenOf 𝓤 H 𝓜 𝓖) (𝓜 .mem) (𝓡 .run) (tablesOf 𝓤 H 𝓜 (tables 𝓤 H 𝓜 𝓡 code.env))
-    (cited 𝓤 H (Test 𝓤 H (𝓖 .A) (𝓜 .mem) (𝓡 .run)) 𝓜 𝓡 code.env #standby_row·breaks breaks-def.routine code.calls-standby-row·breaks (breaks-thm.met 𝓤 H 𝓜 𝓖 𝓡)))
+    (cited 𝓤 H (Test 𝓤 H (𝓖 .A) (𝓜 .mem) (𝓡 .run)) 𝓜 𝓡 code.env #standby_row·breaks-rules breaks-rules-def.routine code.calls-standby-row·breaks-rules (breaks-rules-thm.met 𝓤 H 𝓜 𝓖 𝓡)))

@@ -39,10 +39,10 @@ use denote.Triple.Statement.{Triple}
 use denote.Triple.Table.{entered, cited}
 use denote.Triple.Walked.{says, Stays, stay-slice, stay-dropped, walkOf, Walks, ends-at, walked, goes-slice, goes-dropped, walk-meets}
 use denote.Exit.{yes}
-use Rattle.standby_row.specs.declared.Handle.{Handle}
+use Rattle.standby_row.specs.declared.Bound.{Bound}
 use Rattle.standby_row.specs.Row.{freeOf}
-use Rattle.standby_row.proofs.Handle as T
-use Rattle.standby_row.proofs.Handle.Laws as T′
+use Rattle.standby_row.proofs.Bound as T
+use Rattle.standby_row.proofs.Bound.Laws as T′
 use Rattle.standby_row.proofs.Rows.{R, vals, tells}
 use Rattle.standby_row.proofs.Calls.{FindFree, PutIf, calls-find-free, calls-put-if}
 use Rattle.standby_row.proofs.find_free.Symbol as find-free-def
@@ -59,8 +59,8 @@ use Rattle.standby_row.proofs.insert.Code as code
 abbrev stayed : Stays (insert.ended .signature .params) (insert.ended .kept)
 stayed = (stay-slice (0 ∷ []) tt (plain (λ _. R)), (stay-dropped (plain (λ _. R)) yes, tt))
 
-module _ {M : Type 1} (𝓤 : URA M) (H : Heap 𝓤) (A : Atoms 𝓤) (W : Given 𝓤 H A) (memory : Memory → SProp 𝓤) (run : Routine → Fun 𝓤) (κ : Lft) (q : Share) (b o : ℕ) (γ : GName) (ys : List Handle) (h : Handle) (room : Room R (length ys)) (is-h : Is R h (vals h)) where
-  abbrev x : RefT (List Handle) × (Handle × Unit {0})
+module _ {M : Type 1} (𝓤 : URA M) (H : Heap 𝓤) (A : Atoms 𝓤) (W : Given 𝓤 H A) (memory : Memory → SProp 𝓤) (run : Routine → Fun 𝓤) (κ : Lft) (q : Share) (b o : ℕ) (γ : GName) (ys : List Bound) (h : Bound) (room : Room R (length ys)) (is-h : Is R h (vals h)) where
+  abbrev x : RefT (List Bound) × (Bound × Unit {0})
   x = (record { ptr = (b, o); name = γ; now = ys }, (h, tt))
 
   abbrev s : Val
@@ -69,7 +69,7 @@ module _ {M : Type 1} (𝓤 : URA M) (H : Heap 𝓤) (A : Atoms 𝓤) (W : Given
   abbrev at : List Val × (List Val × Unit {0})
   at = (s ∷ [], (vals h, tt))
 
-  abbrev zs : List Handle
+  abbrev zs : List Bound
   zs = set ys (freeOf ys) h
 
   same : length zs ≡ length ys

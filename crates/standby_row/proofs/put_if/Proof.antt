@@ -43,10 +43,10 @@ use denote.Triple.Table.{entered}
 use denote.Triple.Walked.{says, Stays, stay-slice, stay-dropped, walkOf, Walks, ends-at, walked, goes-slice, goes-dropped, walk-meets}
 use denote.Exit.{yes}
 use borrow.Author.Tests.{ltb-true, ltb-false}
-use Rattle.standby_row.specs.declared.Handle.{Handle}
+use Rattle.standby_row.specs.declared.Bound.{Bound}
 use Rattle.standby_row.specs.Row.{freeRecord}
-use Rattle.standby_row.proofs.Handle as T
-use Rattle.standby_row.proofs.Handle.Laws as T′
+use Rattle.standby_row.proofs.Bound as T
+use Rattle.standby_row.proofs.Bound.Laws as T′
 use Rattle.standby_row.proofs.Rows.{R, val, vals, tells, makes, product-fits, place-at, by-bool, passes-by, goes-in}
 use Rattle.standby_row.proofs.put_if.Key.{name as #standby_row·put-if}
 use Rattle.standby_row.proofs.put_if as put-if
@@ -63,11 +63,11 @@ word = tyInt w64
 abbrev slice : Ty
 slice = sliceTy (tyRef (named 0) mut (pointee (R .written)))
 
-module _ {M : Type 1} (𝓤 : URA M) (H : Heap 𝓤) (A : Atoms 𝓤) (W : Given 𝓤 H A) (memory : Memory → SProp 𝓤) (run : Routine → Fun 𝓤) (κ : Lft) (q : Share) (b o : ℕ) (γ : GName) (ys : List Handle) (i : ℕ) (h : Handle) (room : Room R (length ys)) (i-fits : i < 2 ^ 64) (is : Is R h (vals h)) where
+module _ {M : Type 1} (𝓤 : URA M) (H : Heap 𝓤) (A : Atoms 𝓤) (W : Given 𝓤 H A) (memory : Memory → SProp 𝓤) (run : Routine → Fun 𝓤) (κ : Lft) (q : Share) (b o : ℕ) (γ : GName) (ys : List Bound) (i : ℕ) (h : Bound) (room : Room R (length ys)) (i-fits : i < 2 ^ 64) (is : Is R h (vals h)) where
   abbrev n : ℕ
   n = length ys
 
-  abbrev x : RefT (List Handle) × (ℕ × (Handle × Unit {0}))
+  abbrev x : RefT (List Bound) × (ℕ × (Bound × Unit {0}))
   x = (record { ptr = (b, o); name = γ; now = ys }, (i, (h, tt)))
 
   abbrev s : Val
@@ -79,7 +79,7 @@ module _ {M : Type 1} (𝓤 : URA M) (H : Heap 𝓤) (A : Atoms 𝓤) (W : Given
   abbrev Post : Val → SProp 𝓤
   Post = walkOf 𝓤 H A put-if.ended stayed (put-if.clauses 𝓤 H A memory run) .post (((κ, tt), (q, tt), tt, x, at), tt)
 
-  exits : (zs : List Handle) → zs ≡ set ys i h → length zs ≡ n → ent 𝓤 (⋆ 𝓤 H A (‵ (fobs γ (codedHoleys R .code (heres R zs))) ∷ ‵ (fbor κ (Held R (length zs) b o γ)) ∷ ‵ (flft κ q) ∷ [])) (Post vunit)
+  exits : (zs : List Bound) → zs ≡ set ys i h → length zs ≡ n → ent 𝓤 (⋆ 𝓤 H A (‵ (fobs γ (codedHoleys R .code (heres R zs))) ∷ ‵ (fbor κ (Held R (length zs) b o γ)) ∷ ‵ (flft κ q) ∷ [])) (Post vunit)
   exits zs e l =
       qed W (‵ (fobs γ (codedHoleys R .code (heres R zs))) ∷ ‵ (fbor κ (Held R (length zs) b o γ)) ∷ ‵ (flft κ q) ∷ []) ∵
       suffices ! _ (ends-at 𝓤 H A put-if.ended stayed (put-if.clauses 𝓤 H A memory run) W (((κ, tt), (q, tt), tt, x, at), tt) vunit tt (zs, (tt, (tt, tt))) (l, (tt, (tt, tt)))) $ says ! e $
@@ -93,12 +93,12 @@ module _ {M : Type 1} (𝓤 : URA M) (H : Heap 𝓤) (A : Atoms 𝓤) (W : Given
     En = (tyUnit, l₀) ∷ (slice, l₁) ∷ (word, l₂) ∷ (T′.mir, l₃) ∷ (word, l₄) ∷ (tyBool, l₅) ∷ (word, l₆) ∷ (tyPtr, l₇) ∷ []
 
     -- where the ways meet: the row is zs, and the parameters are in their locals
-    abbrev After : List Handle → List (Item 𝓤)
+    abbrev After : List Bound → List (Item 𝓤)
     After zs = ‵ (row R fullShare zs b o) ∷ ‵ (fobor κ q (Held R n b o γ)) ∷ ‵ (fobs γ (codedHoleys R .code (heres R ys))) ∷ ‵ (fauth γ (codedHoleys R .code (heres R ys))) ∷
         ‵ (froom tyPtr l₇ 0) ∷ ‵ (fdies tyPtr l₇) ∷ ‵ (froom word l₆ 0) ∷ ‵ (fdies word l₆) ∷ ‵ (froom tyBool l₅ 0) ∷ ‵ (fdies tyBool l₅) ∷ ‵ (froom word l₄ 0) ∷ ‵ (fdies word l₄) ∷
         ‵ (fat fullShare T′.mir l₃ 0 (val h)) ∷ ‵ (fdies T′.mir l₃) ∷ ‵ (fat fullShare word l₂ 0 (vint w64 i)) ∷ ‵ (fdies word l₂) ∷ ‵ (fat fullShare slice l₁ 0 s) ∷ ‵ (fdies slice l₁) ∷ ‵ (froom tyUnit l₀ 0) ∷ ‵ (fdies tyUnit l₀) ∷ []
 
-    leaves : (zs : List Handle) → zs ≡ set ys i h → length zs ≡ n → Sq W (After zs) (runs C Λ En mir.t-4 (atRet En Post))
+    leaves : (zs : List Bound) → zs ≡ set ys i h → length zs ≡ n → Sq W (After zs) (runs C Λ En mir.t-4 (atRet En Post))
     leaves zs e l =
         assigns ! (of-opd ! (unit-lit !)) (from ! (stop !)) (init ! 18 refl (tt, tt)) $ closes-slice ! tt R ys zs l b o $
         -- [obs; the borrow; the token; _7; …]

@@ -14,7 +14,7 @@ blank-requires c κs = search needs
 -- src/lib.rt:126:1
 
 returns : tie.Need-returns
-returns c = ap (λ (x : Answer). record { refusal = x .refusal; kind = x .kind; handle = x .handle; epoch = x .epoch; incarnation = x .incarnation; «commit_no» = c .before .args .commit-no; reason = x .reason; brief = x .brief }) (c .blank .ensures)
+returns c = ap (λ (x : Answer). record { refusal = x .refusal; kind = x .kind; handle = x .handle; epoch = x .epoch; incarnation = x .incarnation; «commit_no» = c .before .args .commit-no; reason = x .reason; summary = x .summary }) (c .blank .ensures)
 
 pub ack-spec : {M : Type 1} → statement M
 ack-spec = tie.close (tie.spec blank-requires returns)

@@ -13,7 +13,7 @@ blank-requires c κs = search needs
 
 -- src/lib.rt:143:1
 returns : tie.Need-returns
-returns c = ap (λ (x : Answer). record { refusal = x .refusal; kind = x .kind; handle = x .handle; epoch = x .epoch; incarnation = x .incarnation; «commit_no» = x .«commit_no»; reason = x .reason; brief = c .before .args .brief }) (c .blank .ensures)
+returns c = ap (λ (x : Answer). record { refusal = x .refusal; kind = x .kind; handle = x .handle; epoch = x .epoch; incarnation = x .incarnation; «commit_no» = x .«commit_no»; reason = x .reason; summary = c .before .args .summary }) (c .blank .ensures)
 
 pub bound-spec : {M : Type 1} → statement M
 bound-spec = tie.close (tie.spec blank-requires returns)

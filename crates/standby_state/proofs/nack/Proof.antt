@@ -13,7 +13,7 @@ blank-requires c κs = search needs
 
 -- src/lib.rt:135:1
 returns : tie.Need-returns
-returns c = ap (λ (x : Answer). record { refusal = x .refusal; kind = x .kind; handle = x .handle; epoch = x .epoch; incarnation = x .incarnation; «commit_no» = x .«commit_no»; reason = c .before .args .reason; brief = x .brief }) (c .blank .ensures)
+returns c = ap (λ (x : Answer). record { refusal = x .refusal; kind = x .kind; handle = x .handle; epoch = x .epoch; incarnation = x .incarnation; «commit_no» = x .«commit_no»; reason = c .before .args .reason; summary = x .summary }) (c .blank .ensures)
 
 pub nack-spec : {M : Type 1} → statement M
 nack-spec = tie.close (tie.spec blank-requires returns)

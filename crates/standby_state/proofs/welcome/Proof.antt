@@ -13,7 +13,7 @@ blank-requires c κs = search needs
 
 -- src/lib.rt:117:1
 returns : tie.Need-returns
-returns c = ap (λ (x : Answer). record { refusal = x .refusal; kind = x .kind; handle = x .handle; epoch = c .before .args .epoch; incarnation = c .before .args .incarnation; «commit_no» = x .«commit_no»; reason = x .reason; brief = x .brief }) (c .blank .ensures)
+returns c = ap (λ (x : Answer). record { refusal = x .refusal; kind = x .kind; handle = x .handle; epoch = c .before .args .epoch; incarnation = c .before .args .incarnation; «commit_no» = x .«commit_no»; reason = x .reason; summary = x .summary }) (c .blank .ensures)
 
 pub welcome-spec : {M : Type 1} → statement M
 welcome-spec = tie.close (tie.spec blank-requires returns)

@@ -11,7 +11,7 @@ slice-aggregate-bytes c = simp length-take (omega arith)
 returns : tie.Need-returns
 returns c =
     let a = c .before .before .before .before .before .before .before .args in
-    hash-parts (a .h) (a .number) (a .start) (a .first) (a .rest) (c .before .before .before .before .before .word .result) (c .before .before .before .before .word2 .result) (c .before .before .bytes .result) (c .bytes2 .result) (a .bytes .now) (omega arith) (omega arith)
+    hash-parts (a .hash) (a .number) (a .start) (a .first) (a .rest) (c .before .before .before .before .before .word .result) (c .before .before .before .before .word2 .result) (c .before .before .bytes .result) (c .bytes2 .result) (a .bytes .now) (omega arith) (omega arith)
     (c .before .before .before .before .before .word .ensures) (c .before .before .before .before .word2 .ensures) (c .before .before .bytes .ensures) (c .bytes2 .ensures)
 
 pub hash-message-spec : {M : Type 1} → statement M

@@ -21,7 +21,7 @@ returns-2 : tie.Need-returns-2
 returns-2 c =
     let a = c .before .before .before .before .before .before .before .before .before .args in
     let C = length (a .bytes .now) in
-    c .before .before .settle .ensures C (a .seq + 1) (a .bytes .now) (omega arith)
+    c .before .before .discard-stale .ensures C (a .seq + 1) (a .bytes .now) (omega arith)
     ∙ sym (not-stored C (a .max) (a .seq) (a .text .now) (logOf C (a .max) (a .seq) (a .words .now) (a .bytes .now)) (inr (omega arith)))
 
 returns-3 : tie.Need-returns-3

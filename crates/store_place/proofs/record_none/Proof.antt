@@ -16,7 +16,7 @@ returns : tie.Need-returns
 returns c =
     let a = c .before .before .before .before .before .before .before .args in
     let n = c .before .before .before .before .next-outgoing in
-    let s = c .before .before .settle in
+    let s = c .before .before .discard-stale in
     λ C b. bare C (a .max) (a .seq) b (s .last .0) (a .words .now) (omega arith) (s .kept .0)
     (s .ensures C (a .seq + 1) (drop 224 b) (omega (arith, n .ensures)) ∙ ap (λ (k : ℕ). logOf C (a .max) k (midOf 14 (length (a .words .now) - 14) (a .words .now)) (drop 224 b)) (n .ensures))
 

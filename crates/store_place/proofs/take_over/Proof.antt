@@ -20,7 +20,7 @@ returns c =
     let next = c .before .before .before .before .before .before .before .before .before .before .before .before .next-outgoing in
     let marks = c .before .before .before .before .before .before .before .before .before .marks-len in
     let b = c .before .before .before .before .before .before .before .put-b in
-    let s = c .before .before .before .settle in
+    let s = c .before .before .before .discard-stale in
     λ C. taken C (a .max) (a .lag) (b .result) (c .skipped .result) (next .result) (marks .result) (a .bytes .now) (b .last .0) (s .last .0) (a .words .now) (omega arith) (s .kept .0) (b .ensures .1 .0)
     (b .ensures .0) (marks .ensures .1) (b .ensures .1 .1) (omega arith) (next .ensures) (c .skipped .ensures) (s .ensures)
 

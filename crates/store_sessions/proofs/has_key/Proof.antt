@@ -7,7 +7,7 @@ use Rattle.store_sessions.proofs.has_key.Tie as tie
 returns : tie.Need-returns
 returns c =
     let a = c .before .before .before .before .before .before .before .before .before .before .args in
-    key-same (a .shape) (a .i) _ _ _ _ (a .words .now) (a .bytes .now) (c .before .before .before .spot-in .ensures) (c .before .before .before .before .before .before .before .before .before .before .pre .0) (c .before .before .before .before .before .before .before .before .before .before .pre .1) (c .has-key .result) (keyFrom (a .begin .now) (a .sender .now) (a .target .now) (a .suffix .now)) (c .has-key .ensures)
+    key-same (a .shape) (a .place) _ _ _ _ (a .words .now) (a .bytes .now) (c .before .before .before .spot-in .ensures) (c .before .before .before .before .before .before .before .before .before .before .pre .0) (c .before .before .before .before .before .before .before .before .before .before .pre .1) (c .has-key .result) (keyFrom (a .begin .now) (a .sender .now) (a .target .now) (a .suffix .now)) (c .has-key .ensures)
 
 pub has-key-spec : {M : Type 1} → statement M
 has-key-spec =

@@ -9,7 +9,7 @@ message-at-requires c κs =
     let a = c .before .before .before .before .before .before .args in
     let p = c .before .before .before .before .before .before .pre in
     let at = c .before .before .before .spot-in .ensures in
-    (omega (arith, at), (omega (arith, at), (stands-in (a .shape) (a .i) _ _ _ _ (a .words .now) (a .bytes .now) at (p .0) (p .1 .0) (a .left) (a .dist) (p .1 .1 .0), p .1 .1 .1)))
+    (omega (arith, at), (omega (arith, at), (stands-in (a .shape) (a .place) _ _ _ _ (a .words .now) (a .bytes .now) at (p .0) (p .1 .0) (a .left) (a .dist) (p .1 .1 .0), p .1 .1 .1)))
 
 add-t14 : tie.Need-add-t14
 add-t14 c =
@@ -23,7 +23,7 @@ returns c =
     let p = c .before .before .before .before .before .before .before .before .pre in
     let at = c .before .before .before .before .before .spot-in .ensures in
     let r = c .before .message-at in
-    read-at (a .shape) (a .i) _ _ _ _ (a .words .now) (a .bytes .now) at (p .0) (p .1 .0) (a .left) (a .dist) (r .result .number) (r .result .start) (r .result .first) (r .result .rest) (r .result .left) (r .result .dist) (r .ensures (a .shape .bytes) (at .bytes-part))
+    read-at (a .shape) (a .place) _ _ _ _ (a .words .now) (a .bytes .now) at (p .0) (p .1 .0) (a .left) (a .dist) (r .result .number) (r .result .start) (r .result .first) (r .result .rest) (r .result .left) (r .result .dist) (r .ensures (a .shape .bytes) (at .bytes-part))
 
 pub message-at-spec : {M : Type 1} → statement M
 message-at-spec =

@@ -8,7 +8,7 @@ returns c =
     let a = c .before .before .before .before .before .before .before .args in
     let at = c .before .before .before .before .spot-in .ensures in
     let r = c .messages-from in
-    from-at (a .shape) (a .i) _ _ _ _ (a .words .now) (a .bytes .now) at (c .before .before .before .before .before .before .before .pre .0) (c .before .before .before .before .before .before .before .pre .1 .0) (a .low) (r .result .left) (r .result .dist) (r .ensures (a .shape .bytes) (at .bytes-part))
+    from-at (a .shape) (a .place) _ _ _ _ (a .words .now) (a .bytes .now) at (c .before .before .before .before .before .before .before .pre .0) (c .before .before .before .before .before .before .before .pre .1 .0) (a .low) (r .result .left) (r .result .dist) (r .ensures (a .shape .bytes) (at .bytes-part))
 
 pub messages-from-spec : {M : Type 1} → statement M
 messages-from-spec =

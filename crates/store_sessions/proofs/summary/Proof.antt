@@ -15,17 +15,17 @@ summary-of-requires c κs = (rules-of _ _ _ (sym (c .before .before .before .all
 returns : tie.Need-returns
 returns c =
     let a = c .before .before .before .before .before .before .before .args in
-    summary-known (a .shape) (a .words .now) (a .bytes .now) (a .i) (a .n) _ (sym (c .before .before .before .before .allowed .ensures) ∙ c .before .before .before .if1 .taken) (c .before .if2 .taken) (c .summary-of .ensures)
+    summary-known (a .shape) (a .words .now) (a .bytes .now) (a .place) (a .n) _ (sym (c .before .before .before .before .allowed .ensures) ∙ c .before .before .before .if1 .taken) (c .before .if2 .taken) (c .summary-of .ensures)
 
 returns-2 : tie.Need-returns-2
 returns-2 c =
     let a = c .before .before .before .before .before .before .args in
-    summary-none (a .shape) (a .words .now) (a .bytes .now) (a .i) (a .n) (sym (c .before .before .before .allowed .ensures) ∙ c .before .before .if1 .taken) (c .if2 .left)
+    summary-none (a .shape) (a .words .now) (a .bytes .now) (a .place) (a .n) (sym (c .before .before .before .allowed .ensures) ∙ c .before .before .if1 .taken) (c .if2 .left)
 
 returns-3 : tie.Need-returns-3
 returns-3 c =
     let a = c .before .before .before .before .args in
-    summary-refused (a .shape) (a .words .now) (a .bytes .now) (a .i) (a .n) (sym (c .before .allowed .ensures) ∙ c .if1 .left)
+    summary-refused (a .shape) (a .words .now) (a .bytes .now) (a .place) (a .n) (sym (c .before .allowed .ensures) ∙ c .if1 .left)
 
 pub summary-spec : {M : Type 1} → statement M
 summary-spec =

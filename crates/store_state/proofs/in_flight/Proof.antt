@@ -7,7 +7,7 @@ use Rattle.store_state.proofs.in_flight.Tie as tie
 returns : tie.Need-returns
 returns c =
     let a = (c .before .before .before .before .before .args) in
-    (c .in-flight) .ensures ∙ flight-is (a .shape) (a .i) _ _ _ _ (a .words .now) (a .bytes .now) ((c .before .before .spot-in) .ensures) ((c .before .before .before .before .before .pre) .0) ((c .before .before .before .before .before .pre) .1)
+    (c .in-flight) .ensures ∙ flight-is (a .shape) (a .place) _ _ _ _ (a .words .now) (a .bytes .now) ((c .before .before .spot-in) .ensures) ((c .before .before .before .before .before .pre) .0) ((c .before .before .before .before .before .pre) .1)
 
 pub in-flight-spec : {M : Type 1} → statement M
 in-flight-spec =

@@ -12,7 +12,7 @@ returns c =
     let r = (c .before .before .mark-durable) in
     let p = (c .before .before .before .before .before .before .before .before .pre) in
     let at = c .before .before .before .before .spot-in .ensures in
-    (spot-words (a .shape) (a .i) _ _ _ _ (at .at) (a .words .now) (a .bytes .now) (p .0) (p .1) markDurable (r .last .0) (r .kept .0) (r .ensures .0 (a .shape .bytes) (a .shape .messages)), word-set (a .shape) (a .i) _ _ _ _ (a .words .now) (a .bytes .now) at (p .0) (p .1) 4 1 (r .last .0) (omega arith) (r .ensures .1))
+    (spot-words (a .shape) (a .place) _ _ _ _ (at .at) (a .words .now) (a .bytes .now) (p .0) (p .1) markDurable (r .last .0) (r .kept .0) (r .ensures .0 (a .shape .bytes) (a .shape .messages)), word-set (a .shape) (a .place) _ _ _ _ (a .words .now) (a .bytes .now) at (p .0) (p .1) 4 1 (r .last .0) (omega arith) (r .ensures .1))
 
 pub mark-durable-spec : {M : Type 1} → statement M
 mark-durable-spec =

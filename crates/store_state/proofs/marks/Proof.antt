@@ -6,7 +6,7 @@ use Rattle.store_state.proofs.marks.Tie as tie
 returns : tie.Need-returns
 returns c =
     let a = (c .before .before .before .before .before .before .args) in
-    marks-at (a .shape) (a .i) _ _ _ _ (a .words .now) (a .bytes .now) ((c .before .before .before .spot-in) .ensures) ((c .before .before .before .before .before .before .pre) .0) ((c .before .before .before .before .before .before .pre) .1) ((c .marks-len) .result) ((c .marks-len) .ensures .0) ((c .marks-len) .ensures .1)
+    marks-at (a .shape) (a .place) _ _ _ _ (a .words .now) (a .bytes .now) ((c .before .before .before .spot-in) .ensures) ((c .before .before .before .before .before .before .pre) .0) ((c .before .before .before .before .before .before .pre) .1) ((c .marks-len) .result) ((c .marks-len) .ensures .0) ((c .marks-len) .ensures .1)
 
 pub marks-spec : {M : Type 1} → statement M
 marks-spec =

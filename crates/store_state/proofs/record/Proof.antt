@@ -13,14 +13,14 @@ record-requires : tie.Need-record-requires
 record-requires c κs =
     let a = (c .before .before .before .before .before .before .before .before .before .args) in
     let p = (c .before .before .before .before .before .before .before .before .before .pre) in
-    (omega (arith, (c .before .before .before .spot-in) .ensures), (omega (arith, (c .before .before .before .spot-in) .ensures), (p .1 .1 .0 ∙ sym (out-is (a .shape) (a .i) _ _ _ _ (a .words .now) (a .bytes .now) ((c .before .before .before .spot-in) .ensures) (p .0) (p .1 .0)), p .1 .1 .1)))
+    (omega (arith, (c .before .before .before .spot-in) .ensures), (omega (arith, (c .before .before .before .spot-in) .ensures), (p .1 .1 .0 ∙ sym (out-is (a .shape) (a .place) _ _ _ _ (a .words .now) (a .bytes .now) ((c .before .before .before .spot-in) .ensures) (p .0) (p .1 .0)), p .1 .1 .1)))
 
 returns : tie.Need-returns
 returns c =
     let a = (c .before .before .before .before .before .before .before .before .before .before .before .before .before .before .args) in
     let r = (c .before .before .before .before .«record») in
     let p = (c .before .before .before .before .before .before .before .before .before .before .before .before .before .before .pre) in
-    spot-both (a .shape) (a .i) _ _ _ _ ((c .before .before .before .before .before .before .before .before .spot-in) .ensures .at) (a .words .now) (a .bytes .now) (p .0) (p .1 .0) (changed (a .shape .bytes) (a .shape .messages) (recordMsg (a .seq) (a .text .now) ∷ [])) (r .last .0) (r .last .1 .0) (r .kept .0) (r .kept .1 .0) (r .ensures (a .shape .bytes) ((c .before .before .before .before .before .before .before .before .spot-in) .ensures .bytes-part))
+    spot-both (a .shape) (a .place) _ _ _ _ ((c .before .before .before .before .before .before .before .before .spot-in) .ensures .at) (a .words .now) (a .bytes .now) (p .0) (p .1 .0) (changed (a .shape .bytes) (a .shape .messages) (recordMsg (a .seq) (a .text .now) ∷ [])) (r .last .0) (r .last .1 .0) (r .kept .0) (r .kept .1 .0) (r .ensures (a .shape .bytes) ((c .before .before .before .before .before .before .before .before .spot-in) .ensures .bytes-part))
 
 pub record-spec : {M : Type 1} → statement M
 record-spec =

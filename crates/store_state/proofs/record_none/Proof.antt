@@ -12,14 +12,14 @@ record-none-requires : tie.Need-record-none-requires
 record-none-requires c κs =
     let a = (c .before .before .before .before .before .before .args) in
     let p = (c .before .before .before .before .before .before .pre) in
-    omega (arith, out-is (a .shape) (a .i) _ _ _ _ (a .words .now) (a .bytes .now) ((c .before .before .spot-in) .ensures) (p .0) (p .1 .0), (c .before .before .spot-in) .ensures, p .1 .1 .0, p .1 .1 .1)
+    omega (arith, out-is (a .shape) (a .place) _ _ _ _ (a .words .now) (a .bytes .now) ((c .before .before .spot-in) .ensures) (p .0) (p .1 .0), (c .before .before .spot-in) .ensures, p .1 .1 .0, p .1 .1 .1)
 
 returns : tie.Need-returns
 returns c =
     let a = (c .before .before .before .before .before .before .before .before .before .args) in
     let r = (c .before .before .record-none) in
     let p = (c .before .before .before .before .before .before .before .before .before .pre) in
-    spot-words (a .shape) (a .i) _ _ _ _ ((c .before .before .before .before .before .spot-in) .ensures .at) (a .words .now) (a .bytes .now) (p .0) (p .1 .0) (changed (a .shape .bytes) (a .shape .messages) (recordBare (a .seq) ∷ [])) (r .last .0) (r .kept .0) (r .ensures (a .shape .bytes))
+    spot-words (a .shape) (a .place) _ _ _ _ ((c .before .before .before .before .before .spot-in) .ensures .at) (a .words .now) (a .bytes .now) (p .0) (p .1 .0) (changed (a .shape .bytes) (a .shape .messages) (recordBare (a .seq) ∷ [])) (r .last .0) (r .kept .0) (r .ensures (a .shape .bytes))
 
 pub record-none-spec : {M : Type 1} → statement M
 record-none-spec =

@@ -11,7 +11,7 @@ returns c =
     let a = (c .before .before .before .before .before .before .before .before .before .args) in
     let r = (c .before .before .reset) in
     let p = (c .before .before .before .before .before .before .before .before .before .pre) in
-    spot-words (a .shape) (a .i) _ _ _ _ ((c .before .before .before .before .before .spot-in) .ensures .at) (a .words .now) (a .bytes .now) (p .0) (p .1) (changed (a .shape .bytes) (a .shape .messages) (reset ∷ [])) (r .last .0) (r .kept .0) (r .ensures (a .shape .bytes))
+    spot-words (a .shape) (a .place) _ _ _ _ ((c .before .before .before .before .before .spot-in) .ensures .at) (a .words .now) (a .bytes .now) (p .0) (p .1) (changed (a .shape .bytes) (a .shape .messages) (reset ∷ [])) (r .last .0) (r .kept .0) (r .ensures (a .shape .bytes))
 
 pub reset-spec : {M : Type 1} → statement M
 reset-spec =

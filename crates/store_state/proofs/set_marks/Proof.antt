@@ -16,7 +16,7 @@ returns c =
     let a = (c .before .before .before .before .before .before .before .before .before .before .before .before .before .args) in
     let r = (c .before .before .before .before .set-marks) in
     let p = (c .before .before .before .before .before .before .before .before .before .before .before .before .before .pre) in
-    spot-both (a .shape) (a .i) _ _ _ _ ((c .before .before .before .before .before .before .before .spot-in) .ensures .at) (a .words .now) (a .bytes .now) (p .0) (p .1 .0) (changed (a .shape .bytes) (a .shape .messages) (setMarks (a .text .now) ∷ [])) (r .last .0) (r .last .1 .0) (r .kept .0) (r .kept .1 .0) (r .ensures (a .shape .bytes) (a .shape .messages))
+    spot-both (a .shape) (a .place) _ _ _ _ ((c .before .before .before .before .before .before .before .spot-in) .ensures .at) (a .words .now) (a .bytes .now) (p .0) (p .1 .0) (changed (a .shape .bytes) (a .shape .messages) (setMarks (a .text .now) ∷ [])) (r .last .0) (r .last .1 .0) (r .kept .0) (r .kept .1 .0) (r .ensures (a .shape .bytes) (a .shape .messages))
 
 pub set-marks-spec : {M : Type 1} → statement M
 set-marks-spec =

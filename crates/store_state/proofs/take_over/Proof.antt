@@ -9,7 +9,7 @@ returns c =
     let a = (c .before .before .before .before .before .before .before .before .before .before .before .before .before .args) in
     let r = (c .before .before .before .before .take-over) in
     let p = (c .before .before .before .before .before .before .before .before .before .before .before .before .before .pre) in
-    spot-both (a .shape) (a .i) _ _ _ _ ((c .before .before .before .before .before .before .before .before .spot-in) .ensures .at) (a .words .now) (a .bytes .now) (p .0) (p .1) (takenOver (a .lag)) (r .last .0) (r .last .1 .0) (r .kept .0) (r .kept .1 .0) (r .ensures (a .shape .bytes))
+    spot-both (a .shape) (a .place) _ _ _ _ ((c .before .before .before .before .before .before .before .before .spot-in) .ensures .at) (a .words .now) (a .bytes .now) (p .0) (p .1) (takenOver (a .lag)) (r .last .0) (r .last .1 .0) (r .kept .0) (r .kept .1 .0) (r .ensures (a .shape .bytes))
 
 pub take-over-spec : {M : Type 1} → statement M
 take-over-spec =

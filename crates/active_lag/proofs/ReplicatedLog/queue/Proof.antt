@@ -10,7 +10,7 @@ returns c = refuses (c .before .args .max-lag) (c .before .args .self) (c .befor
 returns-2 : tie.Need-returns-2
 returns-2 c =
     let a = c .before .before .before .before .before .args in
-    pushes (a .max-lag) (a .self) (a .last) (c .before .drain-front .result .gone) (c .before .drain-front .result .through) (c .before .before .pushed .result) (c .moved .result) (omega arith) (c .before .before .pushed .ensures) (c .before .drain-front .ensures) (c .moved .ensures)
+    pushes (a .max-lag) (a .self) (a .last) (c .before .drain-front .result .drained) (c .before .drain-front .result .through) (c .before .before .pushed .result) (c .shifted .result) (omega arith) (c .before .before .pushed .ensures) (c .before .drain-front .ensures) (c .shifted .ensures)
 
 pub queue-spec : {M : Type 1} → statement M
 queue-spec =

@@ -33,13 +33,13 @@ loop-again : tie.Need-loop-again Inv-loop μ-loop
 loop-again c =
     let a = c .before .before .before .before .before .args in
     let at = c .before .before .before .loop in
-    (omega arith, fnv-next (a .h) (at .r) (c .step .result) (a .s .now) (at .i) (at .inv .1) (omega arith) (c .step .ensures))
+    (omega arith, fnv-next (a .hash) (at .r) (c .step .result) (a .s .now) (at .i) (at .inv .1) (omega arith) (c .step .ensures))
 
 returns : tie.Need-returns Inv-loop μ-loop
 returns c =
     let a = c .before .before .before .args in
     let at = c .before .loop in
-    fnv-done (a .h) (at .r) (a .s .now) (at .i) (at .inv .1) (omega arith)
+    fnv-done (a .hash) (at .r) (a .s .now) (at .i) (at .inv .1) (omega arith)
 
 pub bytes-spec : {M : Type 1} → statement M
 bytes-spec =

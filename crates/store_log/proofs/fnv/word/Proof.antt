@@ -12,7 +12,7 @@ abbrev μ-loop : tie.MeasureT-loop
 μ-loop h x r₀ y₀ left₀ r y left = left
 
 loop-holds : tie.Need-loop-holds Inv-loop μ-loop
-loop-holds c = word-starts (c .args .h) (c .args .x) (c .fits .h .fits) (c .fits .x .fits)
+loop-holds c = word-starts (c .args .hash) (c .args .x) (c .fits .hash .fits) (c .fits .x .fits)
 
 step-requires : tie.Need-step-requires Inv-loop μ-loop
 step-requires c κs = tt
