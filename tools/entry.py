@@ -559,7 +559,7 @@ for s in structs:
         uses.append(f'use {facade(c if c == "standby_row" else crate, "proofs")}.Records.{{{", ".join(f"{k}-{n}" for k in ("R", "val", "vals", "tells", "makes"))}}}')
 rowfns = [f for f in known if f.startswith('standby_row::')]
 searched = 'freeFor' if 'standby_row::find_free' in known else 'freeOf'
-uses.append(f'use Rattle.standby_row.specs.Row.{{none, findOf, {searched}, brokenOf, clearedFrom, clearedAll, seenOf}}')
+uses.append(f'use Rattle.standby_row.specs.Row.{{freeRecord, findOf, {searched}, brokenOf, clearedFrom, clearedAll, seenOf}}')
 uses.append('use Rattle.standby_row.proofs.Lists.{cleared-length}')
 uses.append('use Rattle.standby_row.proofs.Locals.{filled, empty, stack, frees-stack}')
 uses.append('use Rattle.standby_row.proofs.Lent.{at, Shared, calls-with, calls-peek, calls-handed, told-shared}')

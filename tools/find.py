@@ -286,4 +286,4 @@ unfolding code.routine tablesOf
 
 gen('find', 'is_of', 'isOf h k', [('k', 'w32')])
 gen('find_free', 'is_free', 'isFreeFor h spot most', [('spot', 'w64'), ('most', 'w64')])
-gen('find_broken', 'breaks', 'breaksOf h places most', [('places', 'w64'), ('most', 'w64')])
+gen('find_broken', 'breaks_rules', 'breaksOf h places most', [('places', 'w64'), ('most', 'w64')])

@@ -140,7 +140,7 @@ def rat(t: Term) -> tuple[str, str, str, str, str]:  # the type's row, its machi
         return ({'64': 'u64'}.get(w, f'u{w}'), f'(uint-vals w{w})', f'(uint-tells w{w})', f'(uint-makes 𝓤 H A W w{w})', 'ℕ')
     if t[0] == 'tyArray':                            # of handles
         n = t[2][1]
-        return (f'(Array R-Handle {n})', '(array-vals vals-Handle)', f'(array-tells R-Handle vals-Handle tells-Handle {n})', f'(array-makes 𝓤 H A W R-Handle (makes-Handle 𝓤 H A W) {n})', 'List Handle')
+        return (f'(Array R-Bound {n})', '(array-vals vals-Bound)', f'(array-tells R-Bound vals-Bound tells-Bound {n})', f'(array-makes 𝓤 H A W R-Bound (makes-Bound 𝓤 H A W) {n})', 'List Bound')
     s = struct(t[1][1])
     return (f'R-{s}', f'vals-{s}', f'tells-{s}', f'(makes-{s} 𝓤 H A W)', s)
 
@@ -163,7 +163,7 @@ class Value:                                         # what a local holds: its t
     @property
     def machine(self) -> str:                        # the machine value
         if self.t[0] == 'tyArray':
-            return f'rowVal vals-Handle {self.x}'
+            return f'rowVal vals-Bound {self.x}'
         return f'vint w{self.t[1]} {self.x}' if self.t[0] == 'tyInt' else f'vbool {self.x}' if self.t == 'tyBool' else f'val-{struct(self.t[1][1])} {self.x}'
 
     @property
@@ -175,7 +175,7 @@ class Value:                                         # what a local holds: its t
         if self.t[0] == 'tyInt':
             return f'(tt, record {{ fits = {self.is_} .1 }})'
         if self.t[0] == 'tyArray':
-            return f'(array-lawful 𝓤 H A W R-Handle (LL.lawful Handle-type.the-type Handle-laws.the-laws 𝓤 H A W) {self.t[2][1]} .typed {self.x} (rowVal vals-Handle {self.x} ∷ []) {self.is_} .0)'
+            return f'(array-lawful 𝓤 H A W R-Bound (LL.lawful Bound-type.the-type Bound-laws.the-laws 𝓤 H A W) {self.t[2][1]} .typed {self.x} (rowVal vals-Bound {self.x} ∷ []) {self.is_} .0)'
         if self.t == 'tyBool':
             return '(tt, tt)'
         s = struct(self.t[1][1])

@@ -5,8 +5,8 @@ cd "$(dirname "$(readlink -f "$0")")/.."
 call() { # FUNCTION CORE MODEL_CALL
     python3 tools/entry.py replica "$1" "$2" "(called the-settings the-counters the-row $3 the-words (x .1 .1 .1 .0) the-bytes (x .1 .1 .1 .1 .0) the-holds (x .1 .1 .1 .1 .1 .0) (x .0) (p .1))" 'Rattle.standby_step.proofs.Called.{called}'
 }
-call on_frame_held frame_held '(onFrameHeld the-frame)'
-call on_frame frame_now '(onFrame the-frame)'
+call on_frame_held on_frame_held '(onFrameHeld the-frame)'
+call on_frame on_frame '(onFrame the-frame)'
 call flush flush '(flush the-connection)'
 call disconnected_from disconnected_from '(disconnectedFrom the-connection)'
 call promote promote promote

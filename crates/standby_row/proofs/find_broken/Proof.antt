@@ -1,5 +1,5 @@
 -- `standby_row::find_broken` meets its contract: a walk of its MIR, by hand. The slice is looked into once, before the loop, and shut where the function returns: in the middle of a turn, or after the loop.
--- In a turn one record is taken out of the row, copied, and put back, and `breaks` is called with the copy; of it the proof knows only that it meets its contract. Nothing is had of the parameters at exit (`stay-dropped`).
+-- In a turn one record is taken out of the row, copied, and put back, and `breaks_rules` is called with the copy; of it the proof knows only that it meets its contract. Nothing is had of the parameters at exit (`stay-dropped`).
 --     Upto, Nearer     the loop's index, with what is known of it (`Lists.antt`'s `Sought`), and the order in which it goes up
 --     At i             the loop's context: [a share of the row; its open borrow; the fractured borrow; res; the locals, the last first]. So local j stands at 4 + 2 · (10 − j)
 --     frees-all        from what is had at a return, with the borrow shut, to the `post` of `walkOf`.        ends, more       the turn that leaves the loop, and the turn that looks at a record
