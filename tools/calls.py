@@ -1,16 +1,35 @@
-"""Writes `crates/row/proofs/Calls.antt`: a call rule for each function over a row. Run: python3 tools/calls.py, then rt fmt."""
+"""Writes `crates/standby_row/proofs/Calls.antt`: a call rule for each function over a row. Run: python3 tools/calls.py, then rt fmt."""
 from walk import ROOT, nest
 
+Numbers = list[tuple[str, str]]                      # a number beside the row: its name, and its width
 TYPES = {'w32': ('u32', '32'), 'w64': ('usize', '64')}
 # function; its numbers beside the row, and a record or none; what it gives (a number, a record, or the row)
-READS = [('find', [('k', 'w32')], 'findOf ys k'), ('find_free', [('spot', 'w64'), ('most', 'w64')], 'freeFor ys spot most'), ('find_broken', [('places', 'w64'), ('most', 'w64')], 'brokenOf ys places most'), ('get_or', [('i', 'w64')], None), ('look', [('k', 'w32'), ('places', 'w64'), ('most', 'w64')], 'seenOf ys k places most')]
-WRITES = [('put_if', [('i', 'w64')], True, 'set ys i h'), ('clear_from', [('i', 'w64')], False, 'clearedFrom i ys'), ('clear', [], False, 'clearedAll ys'),
-          ('act', [('i', 'w64'), ('k', 'w64')], True, 'clearedFrom k (set ys i h)')]
-name = lambda f: f.replace('_', '-')
-contract = lambda f: ''.join(p.capitalize() for p in f.split('_'))
-fns = [f for f, *_ in READS + WRITES]
-out = '''-- The call rules of the crate's functions, for whoever walks code that has a row of `Handle`s open: at the head of the context stands the whole share of the row, and `Lent.antt` lends it for the call. One line of the caller's walk is one call.
---     calls-find, calls-find-free, calls-find-broken, calls-get-or, calls-look     the row is lent as `&[Handle]`.        calls-put-if, calls-clear-from, calls-clear, calls-act      as `&mut [Handle]`
+READS: list[tuple[str, Numbers, str | None]] = [
+    ('find', [('k', 'w32')], 'findOf ys k'),
+    ('find_free', [('spot', 'w64'), ('most', 'w64')], 'freeFor ys spot most'),
+    ('find_broken', [('places', 'w64'), ('most', 'w64')], 'brokenOf ys places most'),
+    ('get_or', [('i', 'w64')], None),
+    ('look_up', [('k', 'w32'), ('places', 'w64'), ('most', 'w64')], 'seenOf ys k places most'),
+]
+WRITES: list[tuple[str, Numbers, bool, str]] = [
+    ('put_if', [('i', 'w64')], True, 'set ys i h'),
+    ('clear_from', [('i', 'w64')], False, 'clearedFrom i ys'),
+    ('clear', [], False, 'clearedAll ys'),
+    ('update', [('i', 'w64'), ('k', 'w64')], True, 'clearedFrom k (set ys i h)'),
+]
+
+
+def name(f: str) -> str:                             # a function's name as antt has it
+    return f.replace('_', '-')
+
+
+def contract(f: str) -> str:                         # the name of its contract
+    return ''.join(p.capitalize() for p in f.split('_'))
+
+
+fns = [read[0] for read in READS] + [write[0] for write in WRITES]
+out = '''-- The call rules of the crate's functions, for whoever walks code that has a row of `Bound`s open: at the head of the context stands the whole share of the row, and `Lent.antt` lends it for the call. One line of the caller's walk is one call.
+--     calls-find, calls-find-free, calls-find-broken, calls-get-or, calls-look-up     the row is lent as `&[Bound]`.        calls-put-if, calls-clear-from, calls-clear, calls-update      as `&mut [Bound]`
 --     Find, FindFree, ..       the contracts, which the caller has of its table of calls (`cited`)
 -- Each rule is its callee's `to`, `goes` and `told` (`Lent.antt`). The operands are read in the context whose head is any item, and whose rest is the caller's.
 -- Assumes `Given`, and that the table of calls is monotone under a frame.
@@ -41,20 +60,20 @@ use denote.Steps.{owned, nothing}
 use denote.Triple.Spec.{tripleOf}
 use denote.Triple.Statement.{Contract, Triple}
 use denote.Triple.Clauses.{ensured, lasts}
-use Rattle.row.specs.declared.Handle.{Handle}
-use Rattle.row.specs.Row.{none, findOf, freeFor, brokenOf, clearedFrom, clearedAll, seenOf}
-use Rattle.row.proofs.Lent.{at, Shared, Unique, calls-shared, calls-unique, told-shared, told-unique}
-use Rattle.row.proofs.Rows.{R, vals, val, tells, makes}
-use Rattle.row.proofs.Records.{R-Seen, val-Seen, vals-Seen, tells-Seen}
+use Rattle.standby_row.specs.declared.Bound.{Bound}
+use Rattle.standby_row.specs.Row.{freeRecord, findOf, freeFor, brokenOf, clearedFrom, clearedAll, seenOf}
+use Rattle.standby_row.proofs.Lent.{at, Shared, Unique, calls-shared, calls-unique, told-shared, told-unique}
+use Rattle.standby_row.proofs.Rows.{R, vals, val, tells, makes}
+use Rattle.standby_row.proofs.Records.{R-Lookup, val-Lookup, vals-Lookup, tells-Lookup}
 '''
 for f in fns:
-    out += f'use Rattle.row.proofs.{f} as {name(f)}\nuse Rattle.row.proofs.{f}.Symbol.{{name as #row·{name(f)}}}\n'
+    out += f'use Rattle.standby_row.proofs.{f} as {name(f)}\nuse Rattle.standby_row.proofs.{f}.Symbol.{{name as #standby_row·{name(f)}}}\n'
 out += '\nmodule _ {M : Type 1} (𝓤 : URA M) (H : Heap 𝓤) (A : Atoms 𝓤) (memory : Memory → SProp 𝓤) (run : Routine → Fun 𝓤) where\n'
 out += '\n'.join(f'  abbrev pub {contract(f)} : Contract 𝓤\n  {contract(f)} = tripleOf 𝓤 H A {name(f)}.signature ({name(f)}.spec 𝓤 H A memory run)\n' for f in fns)
 out += '\nmodule _ {M : Type 1} {𝓤 : URA M} {H : Heap 𝓤} {A : Atoms 𝓤} {K : Type 0} {W : Given 𝓤 H A} {Γ : List (Item 𝓤)} {E : Env 𝓤 H} {C : Calls 𝓤 H} {Λ : Loops 𝓤 H} {q : Post 𝓤 H} {d : Place} {rest : Body} {xs : List Operand} where\n'
 
 
-def rule(f, nums, record, gives, mutable):
+def rule(f: str, nums: Numbers, record: bool, gives: str | None, mutable: bool) -> str:
     n, c = name(f), f'({contract(f)} 𝓤 H A memory run)'
     ks = ''.join(f' {k}' for k, _ in nums)
     facts = ''.join(f' → {k} < 2 ^ {TYPES[t][1]}' for k, t in nums) + (' → Is R h (vals h)' if record else '')
@@ -68,16 +87,16 @@ def rule(f, nums, record, gives, mutable):
     if mutable:
         after, v, phi, then, go = f'({gives})', 'vunit', 'Unit {0}', '', '(λ _. go)'
         post = f'sep 𝓤 (sep 𝓤 (A .lft (α ∷ []) fullShare) (sem 𝓤 H A (finally R γ ({gives})))) (fact 𝓤 ((w ≡ vunit) × Unit {{0}}))'
-        last = nest(['List Handle'] + ['Unit {0}'] * (len(nums) + record), 'Unit {0}', ' × ')
+        last = nest(['List Bound'] + ['Unit {0}'] * (len(nums) + record), 'Unit {0}', ' × ')
         told = f'told-unique W (α ∷ []) fullShare w R γ ({gives}) {last} (λ ws. ws .0) (λ ws. lasts {n}.ended (α ∷ [], tt) {args} ws) (λ ws. qed W (‵ (lasts {n}.ended (α ∷ [], tt) {args} ws) ∷ []) ∵ fsplit ! $ fsplit ! $ keep ! (0 ∷ []) $ done !)'
         lead = f'calls-unique R b o t fm {c} known to vunit (Unit {{0}}) ys ({gives}) room'
     else:
-        if f == 'look':
-            q, vs, tl, g, v = 'R-Seen', 'vals-Seen', 'tells-Seen', f'({gives})', f'(val-Seen ({gives}))'
+        if f == 'look_up':
+            q, vs, tl, g, v = 'R-Lookup', 'vals-Lookup', 'tells-Lookup', f'({gives})', f'(val-Lookup ({gives}))'
         elif gives:
             q, vs, tl, g, v = 'usize', '(uint-vals w64)', '(uint-tells w64)', f'({gives})', f'(vint w64 ({gives}))'
         else:
-            q, vs, tl, g, v = 'R', 'vals', 'tells', '(getD ys i none)', '(val (getD ys i none))'
+            q, vs, tl, g, v = 'R', 'vals', 'tells', '(getD ys i freeRecord)', '(val (getD ys i freeRecord))'
         after, phi, then, go = 'ys', f'Is {q} {g} ({vs.strip("()")} {g})', '', 'go'
         then = f'{phi} → '
         post = f'sep 𝓤 (A .lft (α ∷ []) fullShare) (fact 𝓤 ((w ≡ {v[1:-1]}) × {phi}))'
@@ -86,9 +105,9 @@ def rule(f, nums, record, gives, mutable):
         lead = f'calls-shared R b o t fm {c} known to {v} ({phi}) ys room'
     land = f'Seq K W (‵ (row R fullShare {after} b o) ∷ Γ) (lands C Λ E d {v} rest q)'
     return f'''
-  pub calls-{n} : K → FmC 𝓤 H (W .laws) C → (memory : Memory → SProp 𝓤) (run : Routine → Fun 𝓤) → Triple 𝓤 (C #row·{n}) {c} → (ys : List Handle) (b o{ks} : ℕ){' (h : Handle)' if record else ''} → Room R (length ys){facts}
+  pub calls-{n} : K → FmC 𝓤 H (W .laws) C → (memory : Memory → SProp 𝓤) (run : Routine → Fun 𝓤) → Triple 𝓤 (C #standby_row·{n}) {c} → (ys : List Bound) (b o{ks} : ℕ){' (h : Bound)' if record else ''} → Room R (length ys){facts}
       → ((j : Item 𝓤) → Opds K W (j ∷ Γ) E xs (sliceVal (b, o) (length ys){machine} ∷ [])) → {f'({then}{land})' if then else land}
-      → Seq K W (‵ (row R fullShare ys b o) ∷ Γ) (runs C Λ E (seq (call #row·{n} xs d) rest) q)
+      → Seq K W (‵ (row R fullShare ys b o) ∷ Γ) (runs C Λ E (seq (call #standby_row·{n} xs d) rest) q)
   calls-{n} t fm memory run known ys b o{ks}{' h' if record else ''} room{given} ops go = {lead} goes told (λ α γ j. ops j) {go}
     where
       to : ℕ → GName → {c[1:-1]} .Ghost
@@ -106,4 +125,4 @@ def rule(f, nums, record, gives, mutable):
 
 out += ''.join(rule(f, nums, False, gives, False) for f, nums, gives in READS)[1:]
 out += ''.join(rule(f, nums, rec, gives, True) for f, nums, rec, gives in WRITES)
-open(ROOT + '/crates/row/proofs/Calls.antt', 'w').write(out)
+open(ROOT + '/crates/standby_row/proofs/Calls.antt', 'w').write(out)

@@ -1,28 +1,50 @@
 #!/usr/bin/env python3
-"""fill.py CRATE FN FILE: FILE has blocks 'use ..' lines and 'NEED = template' (continued by indented lines); @x becomes the path of x in that need's state."""
-import os,re,subprocess,sys
-crate,fn,file=sys.argv[1:4]
-out=subprocess.run(['python3',os.path.join(os.path.dirname(os.path.abspath(__file__)), 'paths.py'),crate,fn],capture_output=True,text=True).stdout
-paths={}
-for l in out.split('\n'):
-    p=l.split()
-    if len(p)<2: continue
-    paths[p[0][5:]]={x.split('@')[0]:int(x.split('@')[1]) for x in reversed(p[2:])}
-t=open(file).read()
-uses=[l for l in t.split('\n') if l.startswith('use ')]
-blocks=re.findall(r'^(\S+) = (.*(?:\n[ ]+.*)*)',t,re.M)
-pf=f'{os.getcwd()}/crates/{crate}/proofs/{fn}/Proof.antt'
-s=open(pf).read()
-for name,b in blocks:
-    def rep(m):
-        k=m.group(1)
-        if k not in paths[name]: raise SystemExit(f'{name}: no {k} in {paths[name]}')
-        return 'c'+' .before'*paths[name][k]+' .'+k
-    b=re.sub(r'@([\w«»-]+)',rep,b)
-    pat=re.compile(rf'^{re.escape(name)} c( κs)? =.*(?:\n[ ]+.*)*',re.M)
-    assert pat.search(s),name
-    s=pat.sub(lambda m:f'{name} c{m.group(1) or ""} = {b}'.rstrip(),s,1)
-lines=s.split('\n')
-for u in uses:
-    if u not in lines: lines.insert(1,u)
-open(pf,'w').write('\n'.join(lines))
+"""Fills a function's Proof.antt from a file of answers: `use ..` lines, and `NEED = term` (continued by indented lines), in which @x is written
+for the path of the fact x at that need.
+
+    rt goals CRATE && tools/fill.py CRATE FUNCTION ANSWERS
+"""
+import re
+import sys
+from pathlib import Path
+
+from paths import ROOT, needs, path_to
+
+
+def answer(need: str, depths: dict[str, int], term: str) -> str:
+    """A term with its paths written out."""
+
+    def put(found: re.Match[str]) -> str:
+        fact = found.group(1)
+        if fact not in depths:
+            sys.exit(f"{need}: no {fact} in {depths}")
+        return path_to(fact, depths[fact])
+
+    return re.sub(r"@([\w«»-]+)", put, term)
+
+
+def filled(proof: str, answers: str, depths: dict[str, dict[str, int]]) -> str:
+    """A proof file's text with the answers in place of what stands there."""
+    for need, term in re.findall(r"^(\S+) = (.*(?:\n[ ]+.*)*)", answers, re.M):
+        term = answer(need, depths[need], term)
+        place = re.compile(rf"^{re.escape(need)} c( κs)? =.*(?:\n[ ]+.*)*", re.M)
+        assert place.search(proof), need
+        proof = place.sub(lambda found: f"{need} c{found.group(1) or ''} = {term}".rstrip(), proof, count=1)
+    lines = proof.split("\n")
+    for line in answers.split("\n"):
+        if line.startswith("use ") and line not in lines:
+            lines.insert(1, line)
+    return "\n".join(lines)
+
+
+def main() -> None:
+    if len(sys.argv) != 4:
+        sys.exit(__doc__)
+    crate, function, file = sys.argv[1:]
+    depths = {need.name.removeprefix("Need-"): need.depths() for need in needs(crate, function)}
+    path = ROOT / "crates" / crate / "proofs" / function / "Proof.antt"
+    path.write_text(filled(path.read_text(), Path(file).read_text(), depths))
+
+
+if __name__ == "__main__":
+    main()

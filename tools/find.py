@@ -1,14 +1,15 @@
-"""Writes the walks of `row::find`, `row::find_free` and `row::find_broken`: one text, a loop over a `&[Handle]` for the first record of which a covered test holds.
+"""Writes the walks of `standby_row::find`, `standby_row::find_free` and `standby_row::find_broken`: one text, a loop over a `&[Bound]` for the first record of which a covered test holds.
 Run from anywhere: python3 tools/find.py, then rt fmt. `gen(function, test, what it says of h, its numbers beside the record: a name and a width each)`."""
 import os
+
 from walk import ROOT, Walk, nest
 
 TYPES = {'w32': ('u32', 'tyInt w32', '32'), 'w64': ('usize', 'word', '64')}
 
 
-def gen(path, pred_path, said, extras):
+def gen(path: str, pred_path: str, said: str, extras: list[tuple[str, str]]) -> None:
     n, pred = path.replace('_', '-'), pred_path.replace('_', '-')
-    X = len(extras)                                  # the locals after the parameters stand X later
+    X = len(extras)                                  # the locals after the parameters stand X later: I the index, Hh the handle, M the length and product, L the test, P the pointer, E the copy, B the answer
     w = Walk(['word', 'slice'] + [TYPES[t][1] for _, t in extras] + ['word', 'T′.mir', 'word', 'tyBool', 'tyPtr', 'T′.mir', 'tyBool'], g=4)
     I, Hh, M, L, P, E, B = (j + X for j in range(2, 9))
     names = [k for k, _ in extras]
@@ -20,7 +21,7 @@ def gen(path, pred_path, said, extras):
     at = nest(['s ∷ []'] + [f'{v} ∷ []' for v in kvals])
     atT = nest(['List Val'] * (1 + X), 'Unit {0}', ' × ')[1:-1]
     x = nest(['record { ptr = (b, o); name = γ; now = ys }'] + names)
-    xT = nest(['RefT (List Handle)'] + ['ℕ'] * X, 'Unit {0}', ' × ')[1:-1]
+    xT = nest(['RefT (List Bound)'] + ['ℕ'] * X, 'Unit {0}', ' × ')[1:-1]
     fits = nest(['tt'] * (1 + X))
     vs = ' ∷ '.join(['s'] + kvals + ['[]'])
     p = f'is{sp}'
@@ -35,7 +36,7 @@ def gen(path, pred_path, said, extras):
     passes = ''.join(f'pass1 ! (init ! {w.at(2 + j, 0)} refl (tt, record {{ fits = {k}-fits }})) $ ' for j, k in enumerate(names))
     nums = ''.join(f'(a{" .1" * (1 + j)} .0) ' for j in range(X))
     facts = ''.join(f'(are{" .1" * (1 + j)} .0 .1) ' for j in range(X))
-    txt = f'''-- `row::{path}` meets its contract: a walk of its MIR, by hand. The slice is looked into once, before the loop, and shut where the function returns: in the middle of a turn, or after the loop.
+    txt = f'''-- `standby_row::{path}` meets its contract: a walk of its MIR, by hand. The slice is looked into once, before the loop, and shut where the function returns: in the middle of a turn, or after the loop.
 -- In a turn one record is taken out of the row, copied, and put back, and `{pred_path}` is called with the copy; of it the proof knows only that it meets its contract. Nothing is had of the parameters at exit (`stay-dropped`).
 --     Upto, Nearer     the loop's index, with what is known of it (`Lists.antt`'s `Sought`), and the order in which it goes up
 --     At i             the loop's context: [a share of the row; its open borrow; the fractured borrow; res; the locals, the last first]. So local j stands at 4 + 2 · ({w.n - 1} − j)
@@ -88,21 +89,21 @@ use denote.Triple.Table.{{entered, cited}}
 use denote.Triple.Walked.{{says, Stays, stay-dropped, walkOf, Walks, ends-at, walked, goes-dropped, walk-meets}}
 use denote.Exit.{{yes}}
 use borrow.Author.Tests.{{ltb-true, ltb-false}}
-use Rattle.row.specs.declared.Handle.{{Handle}}
-use Rattle.row.specs.Row.{{none, {said.split()[0]}, firstOf}}
-use Rattle.row.proofs.Handle as T
-use Rattle.row.proofs.Handle.Laws as T′
-use Rattle.row.proofs.Lists.{{Sought, starts, goes-on, found, over}}
-use Rattle.row.proofs.Rows.{{R, val, vals, tells, copies, makes, product-fits, place-at, by-bool, passes-by, goes-in}}
-use Rattle.row.proofs.{pred_path} as {pred}
-use Rattle.row.proofs.{pred_path}.Symbol as {pred}-def
-use Rattle.row.proofs.{pred_path}.Symbol.{{name as #row·{pred}}}
-use Rattle.row.proofs.{pred_path}.Met as {pred}-thm
-use Rattle.row.proofs.{path}.Key.{{name as #row·{n}}}
-use Rattle.row.proofs.{path} as {n}
-use Rattle.row.proofs.{path}.Statement as stated
-use Rattle.row.proofs.{path}.Code as code
-use Rattle.row.proofs.{path}.Code.Mir as mir
+use Rattle.standby_row.specs.declared.Bound.{{Bound}}
+use Rattle.standby_row.specs.Row.{{freeRecord, {said.split()[0]}, firstOf}}
+use Rattle.standby_row.proofs.Bound as T
+use Rattle.standby_row.proofs.Bound.Laws as T′
+use Rattle.standby_row.proofs.Lists.{{Sought, starts, goes-on, found, over}}
+use Rattle.standby_row.proofs.Rows.{{R, val, vals, tells, copies, makes, product-fits, place-at, by-bool, passes-by, goes-in}}
+use Rattle.standby_row.proofs.{pred_path} as {pred}
+use Rattle.standby_row.proofs.{pred_path}.Symbol as {pred}-def
+use Rattle.standby_row.proofs.{pred_path}.Symbol.{{name as #standby_row·{pred}}}
+use Rattle.standby_row.proofs.{pred_path}.Met as {pred}-thm
+use Rattle.standby_row.proofs.{path}.Key.{{name as #standby_row·{n}}}
+use Rattle.standby_row.proofs.{path} as {n}
+use Rattle.standby_row.proofs.{path}.Statement as stated
+use Rattle.standby_row.proofs.{path}.Code as code
+use Rattle.standby_row.proofs.{path}.Code.Mir as mir
 
 abbrev stayed : Stays ({n}.ended .signature .params) ({n}.ended .kept)
 stayed = {stays}
@@ -114,7 +115,7 @@ abbrev slice : Ty
 slice = sliceTy (tyRef (named 0) imm (pointee (R .written)))
 
 -- what is sought
-abbrev is : {'ℕ → ' * X}Handle → Bool
+abbrev is : {'ℕ → ' * X}Bound → Bool
 is{sp} h = {said}
 
 -- the contract that the proof cites, and of its `ensured` the clause alone
@@ -122,10 +123,10 @@ module _ {{M : Type 1}} (𝓤 : URA M) (H : Heap 𝓤) (A : Atoms 𝓤) (memory 
   abbrev Test : Contract 𝓤
   Test = tripleOf 𝓤 H A {pred}.signature ({pred}.spec 𝓤 H A memory run)
 
-  told : (h : Handle){kargs} (r : Bool) → ent 𝓤 (ensured 𝓤 H A {pred}.ended ({pred}.clauses 𝓤 H A memory run) tt {pargs} tt r) (fact 𝓤 (r ≡ {p} h))
+  told : (h : Bound){kargs} (r : Bool) → ent 𝓤 (ensured 𝓤 H A {pred}.ended ({pred}.clauses 𝓤 H A memory run) tt {pargs} tt r) (fact 𝓤 (r ≡ {p} h))
   told h{sp} r = exE 𝓤 _ (λ ws. snd∗ 𝓤 (sem 𝓤 H A (lasts {pred}.ended tt {pargs} ws)) (fact 𝓤 (r ≡ {p} h)))
 
-module _ {{M : Type 1}} (𝓤 : URA M) (H : Heap 𝓤) (A : Atoms 𝓤) (W : Given 𝓤 H A) (memory : Memory → SProp 𝓤) (run : Routine → Fun 𝓤) (κ : Lft) (q : Share) (b o : ℕ) (γ : GName) (ys : List Handle){kargs} (room : Room R (length ys)){kfit} where
+module _ {{M : Type 1}} (𝓤 : URA M) (H : Heap 𝓤) (A : Atoms 𝓤) (W : Given 𝓤 H A) (memory : Memory → SProp 𝓤) (run : Routine → Fun 𝓤) (κ : Lft) (q : Share) (b o : ℕ) (γ : GName) (ys : List Bound){kargs} (room : Room R (length ys)){kfit} where
   abbrev n : ℕ
   n = length ys
 
@@ -148,10 +149,10 @@ module _ {{M : Type 1}} (𝓤 : URA M) (H : Heap 𝓤) (A : Atoms 𝓤) (W : Giv
       nothing ! $ move ! (1 ∷ 0 ∷ []) $ join ! $ owned ! usize (Is usize) (uint-makes 𝓤 H A W w64) i _ (refl, i-fits) $ {drops} move ! (2 ∷ 0 ∷ []) $ done !
 
   -- what the test's triple binds outside at a record h, and that what it asks is had for nothing
-  abbrev to : Handle → Test 𝓤 H A memory run .Ghost
+  abbrev to : Bound → Test 𝓤 H A memory run .Ghost
   to h = ((tt, tt, tt, {pargs}, {nest(['vals h'] + [f'{v} ∷ []' for v in kvals])}), tt)
 
-  goes : (h : Handle) → Is R h (vals h) → ent 𝓤 (emp 𝓤) (Test 𝓤 H A memory run .pre (to h))
+  goes : (h : Bound) → Is R h (vals h) → ent 𝓤 (emp 𝓤) (Test 𝓤 H A memory run .pre (to h))
   goes h is-h =
       qed W [] ∵ nothing ! $ nothing ! $ {kown}owned ! R (Is R) (makes 𝓤 H A W) h (vals h) is-h $ fjoin ! $ nothing ! $ join ! $ done !
 
@@ -174,7 +175,7 @@ module _ {{M : Type 1}} (𝓤 : URA M) (H : Heap 𝓤) (A : Atoms 𝓤) (W : Giv
   abbrev Res : Item 𝓤
   Res = ‵ (fres γ (codedHoleys R .code (heres R ys)))
 
-  module _ (𝓣 : Tables 𝓤 H) (fm : FmC 𝓤 H (W .laws) (𝓣 .C)) (known : Triple 𝓤 (𝓣 .C #row·{pred}) (Test 𝓤 H A memory run)) (q′ : Share) ({w.names()} : ℕ) where
+  module _ (𝓣 : Tables 𝓤 H) (fm : FmC 𝓤 H (W .laws) (𝓣 .C)) (known : Triple 𝓤 (𝓣 .C #standby_row·{pred}) (Test 𝓤 H A memory run)) (q′ : Share) ({w.names()} : ℕ) where
     abbrev C : Calls 𝓤 H
     C = 𝓣 .C
 
@@ -213,12 +214,12 @@ module _ {{M : Type 1}} (𝓤 : URA M) (H : Heap 𝓤) (A : Atoms 𝓤) (W : Giv
         {w.count(M, 1, 'room .0')}
         {w.less(L, I, M)} {w.test(L, 'e')}
         stays ! {w.load(L)} $
-        {w.place(M, P, I, 1, 'n', '(i .0)', 'product-fits n (i .0) room less', again=True)}
-        elem-out ! R (Is R) (shows 𝓤 H A R) vals tells q′ ys (i .0) none b o less (λ is-h.
+        {w.place(M, P, I, 1, '(i .0)', 'product-fits n (i .0) room less', again=True)}
+        elem-out ! R (Is R) (shows 𝓤 H A R) vals tells q′ ys (i .0) freeRecord b o less (λ is-h.
         -- [row[i]; what it owns; the others; the open borrow; the fractured borrow; res; the locals]: all else is two further
         assigns ! (of-opd ! (load ! (from ! (hop ! (look ! {w.at(P, 6)} refl) (stop !))) (look-raw ! 0 refl))) {w.init(E, '(LL.lawful T.the-type T′.the-laws 𝓤 H A W .typed h (vals h) is-h .0)', 6)}
         assigns ! (of-opd ! {w.load(E, 6)}) {w.init(Hh, '(LL.lawful T.the-type T′.the-laws 𝓤 H A W .typed h (vals h) is-h .0)', 6)}
-        elem-back ! R q′ ys (i .0) none (vals h) b o less $
+        elem-back ! R q′ ys (i .0) freeRecord (vals h) b o less $
         -- the test
         use0 W (raw (Test 𝓤 H A memory run .pre (to h))) (goes h is-h) $
         calls-at ! fm (Test 𝓤 H A memory run) known (to h) {w.opds(*([w.load(Hh, 5)] + [w.load(2 + j, 5) for j in range(X)]))} (λ v.
@@ -240,8 +241,8 @@ module _ {{M : Type 1}} (𝓤 : URA M) (H : Heap 𝓤) (A : Atoms 𝓤) (W : Giv
         less : i .0 < n
         less = ltb-true (i .0) n e
 
-        h : Handle
-        h = getD ys (i .0) none
+        h : Bound
+        h = getD ys (i .0) freeRecord
 
         next : {p} h ≡ false → Upto
         next no′ = (i .0 + 1, (add-one-le less, goes-on {pa} ys (i .0) less (i .1 .1) no′))
@@ -249,7 +250,7 @@ module _ {{M : Type 1}} (𝓤 : URA M) (H : Heap 𝓤) (A : Atoms 𝓤) (W : Giv
     turns : (i : Upto) → Sq W (At i) (runs C Λ En mir.turn-1 (anyQ (Turned i)))
     turns i = by-bool (ltb (i .0) n) (more i) (ends i)
 
-  walk : (𝓣 : Tables 𝓤 H) → FmC 𝓤 H (W .laws) (𝓣 .C) → Triple 𝓤 (𝓣 .C #row·{pred}) (Test 𝓤 H A memory run) → ent 𝓤 (onEntry 𝓤 H A {n}.signature (κ, tt) (q, tt) x at) (WpFn 𝓤 H (𝓣 .C) (𝓣 .Λ) code.function ({vs}) Post)
+  walk : (𝓣 : Tables 𝓤 H) → FmC 𝓤 H (W .laws) (𝓣 .C) → Triple 𝓤 (𝓣 .C #standby_row·{pred}) (Test 𝓤 H A memory run) → ent 𝓤 (onEntry 𝓤 H A {n}.signature (κ, tt) (q, tt) x at) (WpFn 𝓤 H (𝓣 .C) (𝓣 .Λ) code.function ({vs}) Post)
   walk 𝓣 fm known =
       qed W ((‵ (flft κ q) ⊛ ‵ ftrue) ∷ ‵ (owns ({types}) x at) ∷ []) ∵ enter ! (𝓣 .C) (𝓣 .Λ) code.function ({vs}) _ $
       {w.allocs()}
@@ -262,7 +263,7 @@ module _ {{M : Type 1}} (𝓤 : URA M) (H : Heap 𝓤) (A : Atoms 𝓤) (W : Giv
       {w.keep([0, 1, 2, 4], 6)}
       first ! $ blocks ! $ loops ! 𝓣 Nearer Nearer-wf (At 𝓣 fm known q′ {w.names()}) (turns 𝓣 fm known q′ {w.names()}) (0, (zero-le, starts {pa} ys))){w.closes()}
 
-module _ {{M : Type 1}} (𝓤 : URA M) (H : Heap 𝓤) (A : Atoms 𝓤) (W : Given 𝓤 H A) (memory : Memory → SProp 𝓤) (run : Routine → Fun 𝓤) (𝓣 : Tables 𝓤 H) (known : Triple 𝓤 (𝓣 .C #row·{pred}) (Test 𝓤 H A memory run)) where
+module _ {{M : Type 1}} (𝓤 : URA M) (H : Heap 𝓤) (A : Atoms 𝓤) (W : Given 𝓤 H A) (memory : Memory → SProp 𝓤) (run : Routine → Fun 𝓤) (𝓣 : Tables 𝓤 H) (known : Triple 𝓤 (𝓣 .C #standby_row·{pred}) (Test 𝓤 H A memory run)) where
   {n}-walks : Walks 𝓤 H A {n}.ended stayed (WpFn 𝓤 H (𝓣 .C) (𝓣 .Λ) code.function) ({n}.clauses 𝓤 H A memory run)
   {n}-walks = walked 𝓤 H A {n}.ended stayed ({n}.clauses 𝓤 H A memory run) (WpFn 𝓤 H (𝓣 .C) (𝓣 .Λ) code.function) (λ κs. {nest(['slice-vals'] + [f'uint-vals {t}' for _, t in extras])}) (λ κs. {nest(['shr-slice-tells (named 0) (κs .0) R'] + [f'uint-tells {t}' for _, t in extras])})
       (λ κs qs bounds a g are. via 𝓤 _ (fst∗ 𝓤 _ (emp 𝓤)) (walk 𝓤 H A W memory run (κs .0) (qs .0) (a .0 .ptr .0) (a .0 .ptr .1) (a .0 .name) (a .0 .now) {nums}(are .0 .0 .1) {facts}𝓣 (fmOf 𝓤 H (W .laws) 𝓣) known))
@@ -275,13 +276,14 @@ pub {n}-spec : {{M : Type 1}} → stated.statement M
 unfolding code.routine tablesOf
 {n}-spec 𝓤 H 𝓜 𝓖 𝓡 =
     entered 𝓤 H (tripleOf 𝓤 H (𝓖 .A) {n}.signature ({n}.spec 𝓤 H (𝓖 .A) (𝓜 .mem) (𝓡 .run)))
-    (tables 𝓤 H 𝓜 𝓡 code.env .C) (tables 𝓤 H 𝓜 𝓡 code.env .Λ) #row·{n} code.function (code.unfolded 𝓤 H 𝓜 𝓡)
+    (tables 𝓤 H 𝓜 𝓡 code.env .C) (tables 𝓤 H 𝓜 𝓡 code.env .Λ) #standby_row·{n} code.function (code.unfolded 𝓤 H 𝓜 𝓡)
     ({n}-meets 𝓤 H (𝓖 .A) (givenOf 𝓤 H 𝓜 𝓖) (𝓜 .mem) (𝓡 .run) (tablesOf 𝓤 H 𝓜 (tables 𝓤 H 𝓜 𝓡 code.env))
-    (cited 𝓤 H (Test 𝓤 H (𝓖 .A) (𝓜 .mem) (𝓡 .run)) 𝓜 𝓡 code.env #row·{pred} {pred}-def.routine code.calls-row·{pred} ({pred}-thm.met 𝓤 H 𝓜 𝓖 𝓡)))
+    (cited 𝓤 H (Test 𝓤 H (𝓖 .A) (𝓜 .mem) (𝓡 .run)) 𝓜 𝓡 code.env #standby_row·{pred} {pred}-def.routine code.calls-standby-row·{pred} ({pred}-thm.met 𝓤 H 𝓜 𝓖 𝓡)))
 '''
-    os.makedirs(ROOT + f'/crates/row/proofs/{path}', exist_ok=True)
-    open(ROOT + f'/crates/row/proofs/{path}/Proof.antt', 'w').write(txt)
+    os.makedirs(ROOT + f'/crates/standby_row/proofs/{path}', exist_ok=True)
+    open(ROOT + f'/crates/standby_row/proofs/{path}/Proof.antt', 'w').write(txt)
+
 
 gen('find', 'is_of', 'isOf h k', [('k', 'w32')])
 gen('find_free', 'is_free', 'isFreeFor h spot most', [('spot', 'w64'), ('most', 'w64')])
-gen('find_broken', 'breaks', 'breaksOf h places most', [('places', 'w64'), ('most', 'w64')])
+gen('find_broken', 'breaks_rules', 'breaksOf h places most', [('places', 'w64'), ('most', 'w64')])

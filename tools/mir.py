@@ -1,21 +1,49 @@
 """A function's MIR (`rt mir`), the contracts and structs of the sources, types and values as a walk writes them, and a context by names. For entry.py."""
-import glob, re, subprocess, sys
+import glob
+import re
+import subprocess
+import sys
+from collections.abc import Iterable, Sequence
+from typing import Any
+
 from walk import ROOT, nest
 
-crate, fn = sys.argv[1:3]
+Term = Any                                           # a term of the MIR: a word, or a list of terms
+if len(sys.argv) < 3:
+    sys.exit('usage: entry.py CRATE FUNCTION CORE [SAYS [USE ..]]')
+crate, fn = sys.argv[1:3]                            # the function that is walked: entry.py's first two arguments
 SUB = str.maketrans('0123456789', '₀₁₂₃₄₅₆₇₈₉')
-sub = lambda s: str(s).translate(SUB)
-dash = lambda f: f.split('::')[-1].replace('_', '-')
-camel = lambda f: ''.join(w.capitalize() for w in f.split('::')[-1].split('_'))
-chain = lambda xs: ' ∷ '.join(list(xs) + ['[]'])
-arg = lambda t: f'({t})' if ' ' in t else t
-path = lambda i: ' .1' * i + ' .0'
+
+
+def sub(number: int | str) -> str:                   # digits as subscripts
+    return str(number).translate(SUB)
+
+
+def dash(f: str) -> str:                             # a function's name as antt has it
+    return f.split('::')[-1].replace('_', '-')
+
+
+def camel(f: str) -> str:                            # the name of its contract
+    return ''.join(word.capitalize() for word in f.split('::')[-1].split('_'))
+
+
+def chain(xs: Iterable[str]) -> str:                 # a list
+    return ' ∷ '.join(list(xs) + ['[]'])
+
+
+def arg(t: str) -> str:                              # a type as an argument
+    return f'({t})' if ' ' in t else t
+
+
+def path(i: int) -> str:                             # the way to a nested pair's part i
+    return ' .1' * i + ' .0'
 
 
 # ---- the MIR
-def sexp(t):
-    out, stack = [], []
-    for a in re.findall(r'"[^"]*"|[()]|[^\s()]+', t):
+def sexp(text: str) -> list[Term]:
+    out: list[Term] = []
+    stack: list[list[Term]] = []
+    for a in re.findall(r'"[^"]*"|[()]|[^\s()]+', text):
         if a == '(':
             stack.append(out)
             out = []
@@ -27,70 +55,72 @@ def sexp(t):
     return out
 
 
-def items(x):
+def items(x: Term) -> list[Term]:                    # a list's parts: each is a term of a head, a part and the rest
     return [] if isinstance(x, str) else [x[1]] + items(x[2])
 
 
-def statements(b):
+def statements(b: Term) -> list[Term]:
     return [b] if b[0] != 'seq' else statements(b[1]) + statements(b[2])
 
 
-text = subprocess.run(['rt', 'mir', crate], capture_output=True, text=True, cwd=ROOT).stdout
-text = next(l for l in text.split('\n') if l.startswith('program'))
+printed = subprocess.run(['rt', 'mir', crate], capture_output=True, text=True, cwd=ROOT)
+text = next((line for line in printed.stdout.split('\n') if line.startswith('program')), '')
+if not text:
+    sys.exit(f'rt mir {crate} printed no program:\n{printed.stderr}')
 mir = {f[1]: f[2] for f in items(sexp(text)[1])}
 _, lifetimes, _, count, locs, body = mir[f'{crate}::{fn}']
 types = [l[1] for l in items(locs)]
-lifetimes, count, N = int(lifetimes), int(count), len(types)
+lifetimes, count, local_count = int(lifetimes), int(count), len(types)
 
 
 # ---- the sources: contracts, names of parameters, fields of structs
-def source(c):
+def source(c: str) -> str:                           # the text of a crate
     return '\n'.join(open(f).read() for f in sorted(glob.glob(f'{ROOT}/crates/{c}/src/**/*.rt', recursive=True)))
 
 
-def function(name):
+def function(name: str) -> tuple[list[str], str, str]:   # its parameters' names, its result's name, and its clause
     c, f = name.split('::')[0], name.split('::')[-1]
     m = re.search(rf'fn {f}\((.*?)\)(?: -> [^\n{{]*)?\s*\n(.*?)\n\{{', source(c), re.S)
     said = re.search(r'ensures \{ λ (\S+)\. ⌜ (.*) ⌝ \}', m.group(2), re.S)
     return [p.strip().split(':')[0].strip() for p in m.group(1).split(',') if p.strip()], said.group(1), re.sub(r'\s+', ' ', said.group(2))
 
 
-def fields(s):
+def fields(s: str) -> list[str]:                     # a struct's fields, as antt has them
     m = re.search(rf'pub struct {s.split("::")[-1]} \{{(.*?)\n\}}', source(s.split('::')[0]), re.S)
     return [f if '_' not in f else f'«{f}»' for f in re.findall(r'pub (\w+):', m.group(1))]
 
 
-def filled(said, values):                            # a contract's text at these values: parameters, lists at entry and at exit, the result
+def filled(said: str, values: Iterable[tuple[str, str]]) -> str:   # a contract's text at these values: parameters, lists at entry and at exit, the result
     for pat, v in values:
         said = re.sub(pat, lambda m: v, said)
     return said
 
 
 # ---- types
-structs = []
+structs: list[str] = []                              # those that occur, in the order in which they are met
 
 
-def struct(s):
+def struct(s: str) -> str:                           # a struct's short name
     if s not in structs:
         structs.append(s)
     return s.split('::')[-1]
 
 
-def slice_of(t):                                     # (lifetime, mutability, element), or none
+def slice_of(t: Term) -> list[Term] | None:          # (lifetime, mutability, element), or none
     return t[2][1][1:] if isinstance(t, list) and t[0] == 'tyStruct' and t[1] == '&[]' else None
 
 
-def elem(t):                                         # what stands behind a pointer
+def elem(t: Term) -> str:                            # what stands behind a pointer
     if t[0] == 'tyArray':
         return f'(tyArray {elem(t[1])} {t[2][1]})'
     return f'(pointee (R-{struct(t[1][1])} .written))' if t[0] == 'tyNamed' else {'64': 'word', '8': '(tyInt w8)', '32': '(tyInt w32)', '16': '(tyInt w16)'}[t[1]]
 
 
-def ref_ty(l, m, t):
+def ref_ty(l: Term, m: str, t: Term) -> str:         # a reference of a lifetime, a mutability, a type
     return f'tyRef {l if isinstance(l, str) else "(named " + l[1] + ")"} {m} {elem(t)}'
 
 
-def ty(t):
+def ty(t: Term) -> str:                              # a type as antt has it
     if isinstance(t, str):
         return t
     if slice_of(t):
@@ -102,7 +132,7 @@ def ty(t):
     return f'{struct(t[1][1])}-laws.mir' if t[0] == 'tyNamed' else 'word' if t[1] == '64' else f'tyInt w{t[1]}'
 
 
-def rat(t):                                          # the type's row, its machine values, that they tell, that it is made
+def rat(t: Term) -> tuple[str, str, str, str, str]:  # the type's row, its machine values, that they tell, that it is made
     if t == 'tyBool':
         return ('bool', 'bool-vals', 'bool-tells', '(bool-makes 𝓤 H A W)', 'Bool')
     if t[0] == 'tyInt':
@@ -110,12 +140,12 @@ def rat(t):                                          # the type's row, its machi
         return ({'64': 'u64'}.get(w, f'u{w}'), f'(uint-vals w{w})', f'(uint-tells w{w})', f'(uint-makes 𝓤 H A W w{w})', 'ℕ')
     if t[0] == 'tyArray':                            # of handles
         n = t[2][1]
-        return (f'(Array R-Handle {n})', '(array-vals vals-Handle)', f'(array-tells R-Handle vals-Handle tells-Handle {n})', f'(array-makes 𝓤 H A W R-Handle (makes-Handle 𝓤 H A W) {n})', 'List Handle')
+        return (f'(Array R-Bound {n})', '(array-vals vals-Bound)', f'(array-tells R-Bound vals-Bound tells-Bound {n})', f'(array-makes 𝓤 H A W R-Bound (makes-Bound 𝓤 H A W) {n})', 'List Bound')
     s = struct(t[1][1])
     return (f'R-{s}', f'vals-{s}', f'tells-{s}', f'(makes-{s} 𝓤 H A W)', s)
 
 
-def record_of(sn, vs):                           # that a struct with an array of handles is one, from its fields
+def record_of(sn: str, vs: 'Sequence[Value]') -> str:   # that a struct with an array of handles is one, from its fields
     hyps = ''.join(f'Is {rat(v.t)[0]} {v.x} ({v.vals}) → ' for v in vs)
     ns = [f'i{sub(i)}' for i in range(len(vs))]
     facts = nest([f'row-field {v.t[2][1]} {v.x} {n}' if v.t[0] == 'tyArray' else n for v, n in zip(vs, ns)])
@@ -126,38 +156,38 @@ def record_of(sn, vs):                           # that a struct with an array o
   made-is x {' '.join(ns)} = ({nest([v.vals for v in vs])}, (refl, {facts}))"""
 
 
-class Value:                                         # what a local holds: its type, the value, and its `Is`
-    def __init__(self, t, x, is_):
+class Value:                                         # what a local holds: its type t, the value x, and its `Is`, is_
+    def __init__(self, t: Term, x: str, is_: str) -> None:
         self.t, self.x, self.is_ = t, x, is_
 
     @property
-    def machine(self):
+    def machine(self) -> str:                        # the machine value
         if self.t[0] == 'tyArray':
-            return f'rowVal vals-Handle {self.x}'
+            return f'rowVal vals-Bound {self.x}'
         return f'vint w{self.t[1]} {self.x}' if self.t[0] == 'tyInt' else f'vbool {self.x}' if self.t == 'tyBool' else f'val-{struct(self.t[1][1])} {self.x}'
 
     @property
-    def vals(self):
+    def vals(self) -> str:                           # the machine values, as a list
         return f'vals-{struct(self.t[1][1])} {self.x}' if self.t[0] == 'tyNamed' else f'{self.machine} ∷ []'
 
     @property
-    def typed(self):
+    def typed(self) -> str:                          # that the machine value has the type
         if self.t[0] == 'tyInt':
             return f'(tt, record {{ fits = {self.is_} .1 }})'
         if self.t[0] == 'tyArray':
-            return f'(array-lawful 𝓤 H A W R-Handle (LL.lawful Handle-type.the-type Handle-laws.the-laws 𝓤 H A W) {self.t[2][1]} .typed {self.x} (rowVal vals-Handle {self.x} ∷ []) {self.is_} .0)'
+            return f'(array-lawful 𝓤 H A W R-Bound (LL.lawful Bound-type.the-type Bound-laws.the-laws 𝓤 H A W) {self.t[2][1]} .typed {self.x} (rowVal vals-Bound {self.x} ∷ []) {self.is_} .0)'
         if self.t == 'tyBool':
             return '(tt, tt)'
         s = struct(self.t[1][1])
         return f'(LL.lawful {s}-type.the-type {s}-laws.the-laws 𝓤 H A W .typed {self.x} (vals-{s} {self.x}) {self.is_} .0)'
 
-    def field(self, k):
+    def field(self, k: int) -> 'Value':
         s = self.t[1][1]
         decl = dict((d[1], d[2]) for d in decls)[s]
         t = unt(decl[1])[k]
         return Value(t, f'({self.x} .{fields(s)[k]})', f'(LL.owed {struct(s)}-type.the-type {struct(s)}-laws.the-laws {self.x} _ {self.is_}{path(k)})')
 
-    def owned(self):
+    def owned(self) -> str:
         r = rat(self.t)
         return f'owned ! {r[0]} (Is {r[0]}) {r[3]} {self.x} ({self.vals}) {self.is_} $'
 
@@ -165,12 +195,12 @@ class Value:                                         # what a local holds: its t
 class Made(Value):
     machine, vals = 'machine x', 'machine x ∷ []'
 
-    def owned(self):
+    def owned(self) -> str:
         s = struct(self.t[1][1])
         return f'owned ! {s}-type.the-row (Is {s}-type.the-row) (LL.makes {s}-type.the-type {s}-laws.the-plain 𝓤 H A) (made x) _ {self.is_} $'
 
 
-def unt(x):
+def unt(x: Term) -> list[Term]:                      # a declaration's types
     return [] if isinstance(x, str) else [x[1]] + unt(x[2])
 
 
@@ -181,7 +211,9 @@ names, _, _ = function(f'{crate}::{fn}')
 
 
 class Param:
-    def __init__(self, j):
+    # j the local, kind what is passed: rec a &mut record, row the row of handles, gave a &mut slice, look a & slice, plain a value. val its value at entry; R its row, X its type in antt.
+    # Of a reference: l its lifetime's number, k the lifetime, q the share, at the reference, (b, o) the pointer, s_ the machine value; own, tok and item what is had of it
+    def __init__(self, j: int) -> None:
         t, self.j, self.name = types[j], j, names[j - 1]
         self.val = f'the-{self.name}'
         if slice_of(t):
@@ -204,7 +236,7 @@ class Param:
             self.item = f'Plain-{self.name}'
 
     @property
-    def ref(self):
+    def ref(self) -> bool:
         return self.kind != 'plain'
 
 
@@ -217,49 +249,52 @@ assert [p.l for p in refs] == list(range(lifetimes))
 
 
 class Lent:                                          # a local that is lent to the core: a record, or an array of handles
-    def __init__(self, j, v):
+    def __init__(self, j: int, v: Value) -> None:
         self.j, self.v, self.l = j, v, f'l{sub(j)}'
         self.kind = 'row' if v.t[0] == 'tyArray' else 'rec'
 
 
 class Ctx:                                           # the context by names, and the steps that change it
-    def __init__(self, xs):
-        self.xs, self.out = list(xs), []
+    def __init__(self, xs: Iterable[Any]) -> None:
+        self.xs: list[Any] = list(xs)
+        self.out: list[str] = []
 
-    def say(self, s):
+    def say(self, s: str) -> None:
         self.out.append(s)
 
-    def at(self, x):
+    def at(self, x: Any) -> int:
         return self.xs.index(x)
 
-    def front(self, *xs):
+    def front(self, *xs: Any) -> None:               # xs are moved to the front
         if list(xs) != self.xs[:len(xs)]:
             self.say(f'move ! ({chain(str(self.at(x)) for x in xs)}) $')
             self.xs = list(xs) + [x for x in self.xs if x not in xs]
 
-    def becomes(self, n, *new, by=None):
+    def becomes(self, n: int, *new: Any, by: str | None = None) -> None:   # the first n become new
         if by:
             self.say(f'{by} $')
         self.xs[:n] = list(new)
 
-    def joins(self, *xs, new):                       # xs, wherever they stand, joined to the right
+    def joins(self, *xs: Any, new: Any) -> None:     # xs, wherever they stand, joined to the right
         if not xs:
-            return self.new(new)
+            self.new(new)
+            return
         self.xs[self.at(xs[-1])] = new
         for x in reversed(xs[:-1]):
             self.front(x, new)
             self.becomes(2, new, by='join !')
 
-    def new(self, x, by='nothing !'):                # one more, in front
+    def new(self, x: Any, by: str = 'nothing !') -> None:   # one more, in front
         self.say(f'{by} $')
         self.xs.insert(0, x)
 
-    def apart(self, x, *ys):                         # what was joined to the right, taken apart
+    def apart(self, x: Any, *ys: Any) -> None:       # what was joined to the right, taken apart
         for y in ys[:-1]:
             self.front(x)
             self.becomes(1, y, x, by='split !')
         self.xs[self.at(x)] = ys[-1]
 
-    def keeps(self, xs):
+    def keeps(self, xs: Iterable[Any]) -> None:
+        xs = list(xs)
         self.say(f'keep ! ({chain(str(self.at(x)) for x in xs)}) $')
         self.xs = list(xs)

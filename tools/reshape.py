@@ -1,21 +1,34 @@
 #!/usr/bin/env python3
-"""reshape.py CRATE FN: after a step was added to or taken from a function, and `rt goals CRATE`, sets the path of each fact in its Proof.antt anew, by the fact's name."""
-import os,re,subprocess,sys
-crate,fn=sys.argv[1:3]
-here=os.path.dirname(os.path.abspath(__file__))
-out=subprocess.run([sys.executable,here+'/paths.py',crate,fn],capture_output=True,text=True,check=True).stdout
-depths={}
-for line in out.splitlines():
-    words=line.split()
-    depths[words[0]]={w.rsplit('@',1)[0]:int(w.rsplit('@',1)[1]) for w in words[2:] if '@' in w}
-path=f'crates/{crate}/proofs/{fn}/Proof.antt'
-text=open(path).read()
-def reshape(block):
-    need=re.search(r'tie\.(Need-\S+)',block)
-    known=depths.get(need.group(1)) if need else None
-    if not known: return block
-    def put(m):
-        name=m.group(2)
-        return 'c'+' .before'*known[name]+' .'+name if name in known else m.group(0)
-    return re.sub(r'(?<![\w·\-])c((?: \.before)*) \.([^\s()]+)',put,block)
-open(path,'w').write('\n\n'.join(reshape(b) for b in text.split('\n\n')))
+"""Sets the path of each fact in a function's Proof.antt anew, by the fact's name, after a step was added to the function or taken from it.
+
+    rt goals CRATE && tools/reshape.py CRATE FUNCTION
+"""
+import re
+import sys
+
+from paths import ROOT, needs, path_to
+
+
+def reshaped(block: str, depths: dict[str, dict[str, int]]) -> str:
+    """One answer of a proof file: the need that it names says where each fact stands."""
+    need = re.search(r"tie\.(Need-\S+)", block)
+    known = depths.get(need.group(1), {}) if need else {}
+
+    def put(found: re.Match[str]) -> str:
+        fact = found.group(2)
+        return path_to(fact, known[fact]) if fact in known else found.group(0)
+
+    return re.sub(r"(?<![\w·\-])c((?: \.before)*) \.([^\s()]+)", put, block)
+
+
+def main() -> None:
+    if len(sys.argv) != 3:
+        sys.exit(__doc__)
+    crate, function = sys.argv[1:]
+    depths = {need.name: dict(need.facts) for need in needs(crate, function)}
+    path = ROOT / "crates" / crate / "proofs" / function / "Proof.antt"
+    path.write_text("\n\n".join(reshaped(block, depths) for block in path.read_text().split("\n\n")))
+
+
+if __name__ == "__main__":
+    main()

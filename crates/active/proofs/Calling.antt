@@ -14,23 +14,23 @@ use Rattle.model_frame.specs.Writing.{encode}
 use Rattle.model_session.specs.Session.{Session, top}
 use Rattle.model_session.specs.Sender.{Sender, newSender, cutFrom, sendNext, cannotSend}
 use Rattle.model_session.specs.Whole.{wholeBatches}
-use Rattle.batch.specs.declared.Written.the-variants.{Batch, TooShort}
-use Rattle.batch.specs.Batch.{frameFrom, onward, WroteBatch}
-use Rattle.areas.specs.declared.Shape.{Shape}
+use Rattle.active_batch.specs.declared.BatchWritten.the-variants.{Batch, TooShort}
+use Rattle.active_batch.specs.Batch.{frameFrom, resumeFrom, WroteBatch}
+use Rattle.store_areas.specs.declared.Shape.{Shape}
 use Rattle.active.specs.declared.Sending.{Sending}
 use Rattle.active.specs.declared.Sent.{Sent}
 use Rattle.active.specs.declared.Sent
-use Rattle.active.specs.Whole.{Start, startFrom, Step, answerTo, filledBy, stepFrom, areaFrom, storedAt, SendsWhole}
+use Rattle.active.specs.Whole.{SendStart, startFrom, SendStep, sendAnswer, filledBy, stepFrom, areaFrom, storedAt, SendsWhole}
 use Rattle.active.specs.Whole as whole
 
 -- ---- beginning
 
 module _ (limit : ℕ) (a : Session) (i h e last n : ℕ) (count : n ≡ length (wholeBatches limit a)) (small : last ≤ top) where
-  pub numbers-past : top - last < n → whole.Start.refused 24 ≡ startFrom limit (some a) i h e last
+  pub numbers-past : top - last < n → whole.SendStart.refused 24 ≡ startFrom limit (some a) i h e last
   unfolding startFrom cannotSend
   numbers-past g = sym (rw (lt-ltb top (last + length (wholeBatches limit a)) (omega (arith, count))))
 
-  pub numbers-fit : n ≤ top - last → whole.Start.ready i (newSender h e last) ≡ startFrom limit (some a) i h e last
+  pub numbers-fit : n ≤ top - last → whole.SendStart.ready i (newSender h e last) ≡ startFrom limit (some a) i h e last
   unfolding startFrom cannotSend
   numbers-fit g = sym (rw (le-ltb top (last + length (wholeBatches limit a)) (omega (arith, count))))
 
@@ -40,7 +40,7 @@ abbrev sender : ℕ → ℕ → ℕ → Option ℕ → Sender
 sender h e last o = record { handle = h; epoch = e; last = last; from = o }
 
 module _ (limit : ℕ) (a : Session) (i h e last : ℕ) (out : List ℕ) where
-  pub done-step : whole.Step.finished ≡ stepFrom limit (some a) i (sender h e last none) (length out)
+  pub done-step : whole.SendStep.finished ≡ stepFrom limit (some a) i (sender h e last none) (length out)
   unfolding stepFrom sendNext
   done-step = refl
 
@@ -49,7 +49,7 @@ module _ (limit : ℕ) (a : Session) (i h e last : ℕ) (out : List ℕ) where
   done-area = refl
 
   module _ (from : ℕ) where
-    pub spent-step : top ≤ last → whole.Step.refused 25 ≡ stepFrom limit (some a) i (sender h e last (some from)) (length out)
+    pub spent-step : top ≤ last → whole.SendStep.refused 25 ≡ stepFrom limit (some a) i (sender h e last (some from)) (length out)
     unfolding stepFrom
     spent-step g = sym (rw (le-leb top last g))
 
@@ -62,16 +62,16 @@ module _ (limit : ℕ) (a : Session) (i h e last : ℕ) (out : List ℕ) where
     next-is = rw (add-one last)
 
     module _ (fresh : last < top) where
-      going-step : stepFrom limit (some a) i (sender h e last (some from)) (length out) ≡ answerTo (length out) i (some (frameFrom limit a h e (last + 1) from, sender h e (last + 1) (cutFrom limit a from .goesOn)))
+      going-step : stepFrom limit (some a) i (sender h e last (some from)) (length out) ≡ sendAnswer (length out) i (some (frameFrom limit a h e (last + 1) from, sender h e (last + 1) (cutFrom limit a from .goesOn)))
       unfolding stepFrom
-      going-step = rw (lt-leb top last fresh) (ap (answerTo (length out) i) next-is)
+      going-step = rw (lt-leb top last fresh) (ap (sendAnswer (length out) i) next-is)
 
       going-area : areaFrom limit (some a) (sender h e last (some from)) out ≡ filledBy (some (frameFrom limit a h e (last + 1) from, sender h e (last + 1) (cutFrom limit a from .goesOn))) out
       unfolding areaFrom
       going-area = rw (lt-leb top last fresh) (ap (λ (o : Option (Frame × Sender)). filledBy o out) next-is)
 
       module _ (out' : List ℕ) where
-        pub short-step : WroteBatch limit a h e (last + 1) from out out' TooShort → whole.Step.refused 9 ≡ stepFrom limit (some a) i (sender h e last (some from)) (length out)
+        pub short-step : WroteBatch limit a h e (last + 1) from out out' TooShort → whole.SendStep.refused 9 ≡ stepFrom limit (some a) i (sender h e last (some from)) (length out)
         short-step w = sym (going-step ∙ rw (lt-ltb (length out) (length (encode (frameFrom limit a h e (last + 1) from))) (omega (arith, w .0))))
 
         pub short-area : WroteBatch limit a h e (last + 1) from out out' TooShort → out' ≡ areaFrom limit (some a) (sender h e last (some from)) out
@@ -81,7 +81,7 @@ module _ (limit : ℕ) (a : Session) (i h e last : ℕ) (out : List ℕ) where
           fits : ltb (length out) (length (encode (frameFrom limit a h e (last + 1) from))) ≡ false
           fits = le-ltb (length out) (length (encode (frameFrom limit a h e (last + 1) from))) (omega (arith, w .0, w .1))
 
-          pub frame-step : whole.Step.gives len i (sender h e (last + 1) (onward next done)) ≡ stepFrom limit (some a) i (sender h e last (some from)) (length out)
+          pub frame-step : whole.SendStep.gives len i (sender h e (last + 1) (resumeFrom next done)) ≡ stepFrom limit (some a) i (sender h e last (some from)) (length out)
           frame-step = sym (going-step ∙ rw (fits, ← (w .0), w .3))
 
           pub frame-area : out' ≡ areaFrom limit (some a) (sender h e last (some from)) out
@@ -90,7 +90,7 @@ module _ (limit : ℕ) (a : Session) (i h e last : ℕ) (out : List ℕ) where
 -- ---- the promise
 
 module _ (limit : ℕ) (shape : Shape) (w b : List ℕ) (s : Sending) (out : List ℕ) where
-  pub not-stored : storedAt shape w b (s .place) ≡ none → SendsWhole limit shape w b s out out Sent.Unfit
+  pub not-stored : storedAt shape w b (s .place) ≡ none → SendsWhole limit shape w b s out out Sent.InvalidAreas
   unfolding stepFrom areaFrom
   not-stored k = record { answer = rw k; area = rw k }
 
@@ -99,7 +99,7 @@ module _ (limit : ℕ) (shape : Shape) (w b : List ℕ) (s : Sending) (out : Lis
     is-done d = record { answer = rw (k, d) (done-step limit a (s .place) (s .handle) (s .epoch .0) (s .last .0) out); area = rw (k, d) (done-area limit a (s .place) (s .handle) (s .epoch .0) (s .last .0) out) }
 
     module _ (d : s .done ≡ false) where
-      pub is-spent : top ≤ s .last .0 → SendsWhole limit shape w b s out out Sent.Unfit
+      pub is-spent : top ≤ s .last .0 → SendsWhole limit shape w b s out out Sent.InvalidAreas
       is-spent g = record {
         answer = rw (k, d) (spent-step limit a (s .place) (s .handle) (s .epoch .0) (s .last .0) out (s .from) g);
         area = rw (k, d) (spent-area limit a (s .place) (s .handle) (s .epoch .0) (s .last .0) out (s .from) g);

@@ -15,20 +15,20 @@ use Rattle.model_frame.specs.Parse.{Each}
 use Rattle.model_frame.specs.Writing.{encode, sizes}
 use Rattle.model_frame.proofs.Sizes.{encode-size}
 use Rattle.model_session.specs.Session.{Session, top, Holdable}
-use Rattle.model_session.specs.Sender.{Sender, newSender, sentFrom, sendNext, Sends, isDone, isNext, cannotSend}
+use Rattle.model_session.specs.Sender.{Sender, newSender, sentFrom, sendNext, Sends, allSent, isNext, cannotSend}
 use Rattle.model_session.specs.Whole.{wholeBatches, wholeFrames, framesOf}
 use Rattle.model_session.proofs.Basics.{none≢some, some-inj, true≢false, each-right, each-map}
 use Rattle.model_session.proofs.Sender.{sends-whole}
 use Rattle.model_session.proofs.Sending.{batch-sizes}
-use Rattle.laws.proofs.Little.{write-is}
-use Rattle.log.proofs.Lawful.{Small}
-use Rattle.areas.specs.declared.Shape.{Shape}
+use Rattle.base_laws.proofs.Little.{write-is}
+use Rattle.store_log.proofs.Lawful.{Small}
+use Rattle.store_areas.specs.declared.Shape.{Shape}
 use Rattle.active.specs.declared.Sending.{Sending}
 use Rattle.active.specs.declared.Begun.{Begun}
 use Rattle.active.specs.declared.Begun
 use Rattle.active.specs.declared.Sent.{Sent}
 use Rattle.active.specs.declared.Sent
-use Rattle.active.specs.Whole.{startOf, stepOf, SentWhole, senderOf, storedAt, Start, ready, startFrom, Step, gives, finished, spent, answerTo, filledBy, stepFrom, areaFrom, SendsWhole, Given, nothing, tooShort, frame, Sofar}
+use Rattle.active.specs.Whole.{startOf, stepOf, SentWhole, senderOf, storedAt, SendStart, ready, startFrom, SendStep, gives, finished, spent, sendAnswer, filledBy, stepFrom, areaFrom, SendsWhole, SendCalls, nothing, tooShort, frame, Sofar}
 use Rattle.active.specs.Whole as call
 use Rattle.active.proofs.Storing.{stored-holdable}
 
@@ -45,13 +45,13 @@ front out bs h =
     let k : 0 + length bs ≤ length out = omega arith in
     rw (write-is out 0 bs k) (take-at bs (drop (0 + length bs) out) (length bs) refl)
 
-gave : (t : Bool) (x : Option (Frame × Sender)) (out out' : List ℕ) (i len j : ℕ) (u : Sender) → gives len j u ≡ cond t (call.Step.refused 25) (answerTo (length out) i x) → out' ≡ cond t out (filledBy x out)
+gave : (t : Bool) (x : Option (Frame × Sender)) (out out' : List ℕ) (i len j : ℕ) (u : Sender) → gives len j u ≡ cond t (call.SendStep.refused 25) (sendAnswer (length out) i x) → out' ≡ cond t out (filledBy x out)
     → Gave x out' i len j u
 gave true x out out' i len j u e a = absurd (let z : _≡_ {A = ℕ} 0 1 = cc in omega arith)
 gave false none out out' i len j u e a = absurd (let z : _≡_ {A = ℕ} 0 1 = cc in omega arith)
 gave false (some (f, v)) out out' i len j u e a = go (ltb (length out) (length (encode f))) refl e a
   where
-    go : (b : Bool) → ltb (length out) (length (encode f)) ≡ b → gives len j u ≡ cond b (call.Step.refused 9) (gives (length (encode f)) i v) → out' ≡ cond b out (write out 0 (encode f))
+    go : (b : Bool) → ltb (length out) (length (encode f)) ≡ b → gives len j u ≡ cond b (call.SendStep.refused 9) (gives (length (encode f)) i v) → out' ≡ cond b out (write out 0 (encode f))
         → Gave (some (f, v)) out' i len j u
     go true k e a = absurd (let z : _≡_ {A = ℕ} 0 1 = cc in omega arith)
     go false k e a =
@@ -89,7 +89,7 @@ module _ (limit : ℕ) (shape : Shape) (w b : List ℕ) (a : Session) where
     pub place : t .place ≡ i
     pub number : t .last .0 + length (so .left) ≡ n
 
-  pub reach : {s t : Sending} {fs : List (List ℕ)} (frames : List Frame) → storedAt shape w b (s .place) ≡ some a → Sends limit a (senderOf s) frames → Given limit shape w b s fs t
+  pub reach : {s t : Sending} {fs : List (List ℕ)} (frames : List Frame) → storedAt shape w b (s .place) ≡ some a → Sends limit a (senderOf s) frames → SendCalls limit shape w b s fs t
       → Reached frames fs (s .place) (s .last .0 + length frames) t
   reach frames k g nothing = record { so = record { sent = []; left = frames; all = refl; bytes = refl }; goes = g; place = refl; number = refl }
   reach frames k g (tooShort p q) = reach frames k g q
@@ -98,7 +98,7 @@ module _ (limit : ℕ) (shape : Shape) (w b : List ℕ) (a : Session) where
       go : (l : List Frame) → Sends limit a (senderOf s) l → (v : Gave (sendNext limit a (senderOf s)) out' (s .place) len (s' .place) (senderOf s'))
           → ((rest : List Frame) → s' .place ≡ s .place → Sends limit a (senderOf s') rest → Reached rest fs (s' .place) (s' .last .0 + length rest) t)
           → Reached l (take len out' ∷ fs) (s .place) (s .last .0 + length l) t
-      go [] (isDone e) v ih = absurd (none≢some (sym e ∙ v .is))
+      go [] (allSent e) v ih = absurd (none≢some (sym e ∙ v .is))
       go (f ∷ l) (isNext {s = z} {t = u} e r) v ih =
           let p : _≡_ {A = Frame × Sender} (f, u) (v .which, senderOf s') = some-inj (sym e ∙ v .is) in
           let h : Reached l fs (s' .place) (s' .last .0 + length l) t = ih l (v .same) (subst (λ (y : Sender). Sends limit a y l) (ap (λ (x : Frame × Sender). x .1) p) r) in
@@ -132,18 +132,18 @@ frames-short n h e last (b ∷ c ∷ bs) k = (omega (arith, k .0, encode-size (b
 module _ (limit : ℕ) (a : Session) where
   some-left : (s : Sender) (l : List Frame) (n : ℕ) → Sends limit a s l → s .from ≡ some n → 1 ≤ length l
   unfolding sendNext
-  some-left s [] n (isDone e) k = absurd (none≢some (sym e ∙ ap (sentFrom limit a s) k))
+  some-left s [] n (allSent e) k = absurd (none≢some (sym e ∙ ap (sentFrom limit a s) k))
   some-left s (f ∷ l) n (isNext e r) k = omega arith
 
   next-none : (s : Sender) (l : List Frame) → Sends limit a s l → sendNext limit a s ≡ none → l ≡ []
-  next-none s [] (isDone e) k = refl
+  next-none s [] (allSent e) k = refl
   next-none s (f ∷ l) (isNext e r) k = absurd (none≢some (sym k ∙ e))
 
   none-next : (s : Sender) → Sends limit a s [] → sendNext limit a s ≡ none
-  none-next s (isDone e) = e
+  none-next s (allSent e) = e
 
   next-head : (s : Sender) (l : List Frame) (f : Frame) (u : Sender) (P : Frame → Type 0) → Sends limit a s l → sendNext limit a s ≡ some (f, u) → Each P l → P f
-  next-head s [] f u P (isDone e) k h = absurd (none≢some (sym e ∙ k))
+  next-head s [] f u P (allSent e) k h = absurd (none≢some (sym e ∙ k))
   next-head s (g ∷ l) f u P (isNext e r) k h = subst P (ap (λ (x : Frame × Sender). x .0) (some-inj (sym e ∙ k))) (h .0)
 
   never-spent : (s : Sender) (l : List Frame) → Sends limit a s l → s .last + length l ≤ top → spent (s .last) (s .from) ≡ true → ⊥
@@ -169,30 +169,30 @@ record Longer (x : Option (Frame × Sender)) (room : ℕ) : Type 0 where
   is : x ≡ some (which, after)
   long : room < length (encode which)
 
-unfit-only : (t : Bool) (x : Option (Frame × Sender)) (room i : ℕ) → call.Step.refused 25 ≡ cond t (call.Step.refused 25) (answerTo room i x) → t ≡ true
+unfit-only : (t : Bool) (x : Option (Frame × Sender)) (room i : ℕ) → call.SendStep.refused 25 ≡ cond t (call.SendStep.refused 25) (sendAnswer room i x) → t ≡ true
 unfit-only true x room i e = refl
 unfit-only false none room i e = absurd (let z : _≡_ {A = ℕ} 0 1 = cc in omega arith)
 unfit-only false (some (f, u)) room i e = absurd (go (ltb room (length (encode f))) e)
   where
-    go : (b : Bool) → call.Step.refused 25 ≡ cond b (call.Step.refused 9) (gives (length (encode f)) i u) → ⊥
+    go : (b : Bool) → call.SendStep.refused 25 ≡ cond b (call.SendStep.refused 9) (gives (length (encode f)) i u) → ⊥
     go true e = let z : _≡_ {A = ℕ} 25 9 = cc in omega arith
     go false e = let z : _≡_ {A = ℕ} 0 1 = cc in omega arith
 
-short-only : (t : Bool) (x : Option (Frame × Sender)) (room i : ℕ) → call.Step.refused 9 ≡ cond t (call.Step.refused 25) (answerTo room i x) → Longer x room
+short-only : (t : Bool) (x : Option (Frame × Sender)) (room i : ℕ) → call.SendStep.refused 9 ≡ cond t (call.SendStep.refused 25) (sendAnswer room i x) → Longer x room
 short-only true x room i e = absurd (let z : _≡_ {A = ℕ} 9 25 = cc in omega arith)
 short-only false none room i e = absurd (let z : _≡_ {A = ℕ} 0 1 = cc in omega arith)
 short-only false (some (f, u)) room i e = go (ltb room (length (encode f))) refl e
   where
-    go : (b : Bool) → ltb room (length (encode f)) ≡ b → call.Step.refused 9 ≡ cond b (call.Step.refused 9) (gives (length (encode f)) i u) → Longer (some (f, u)) room
+    go : (b : Bool) → ltb room (length (encode f)) ≡ b → call.SendStep.refused 9 ≡ cond b (call.SendStep.refused 9) (gives (length (encode f)) i u) → Longer (some (f, u)) room
     go true k e = record { which = f; after = u; is = refl; long = ltb-true room (length (encode f)) k }
     go false k e = absurd (let z : _≡_ {A = ℕ} 0 1 = cc in omega arith)
 
-done-only : (t : Bool) (x : Option (Frame × Sender)) (room i : ℕ) → finished ≡ cond t (call.Step.refused 25) (answerTo room i x) → x ≡ none
+done-only : (t : Bool) (x : Option (Frame × Sender)) (room i : ℕ) → finished ≡ cond t (call.SendStep.refused 25) (sendAnswer room i x) → x ≡ none
 done-only true x room i e = absurd (let z : _≡_ {A = ℕ} 0 1 = cc in omega arith)
 done-only false none room i e = refl
 done-only false (some (f, u)) room i e = absurd (go (ltb room (length (encode f))) e)
   where
-    go : (b : Bool) → finished ≡ cond b (call.Step.refused 9) (gives (length (encode f)) i u) → ⊥
+    go : (b : Bool) → finished ≡ cond b (call.SendStep.refused 9) (gives (length (encode f)) i u) → ⊥
     go true e = let z : _≡_ {A = ℕ} 0 1 = cc in omega arith
     go false e = let z : _≡_ {A = ℕ} 0 1 = cc in omega arith
 
@@ -200,7 +200,7 @@ is-finished : (r : Sent) → stepOf r ≡ finished → r ≡ Sent.Done
 is-finished (Sent.Frame len s) e = absurd (let z : _≡_ {A = ℕ} 0 1 = cc in omega arith)
 is-finished Sent.Done e = refl
 is-finished Sent.TooShort e = absurd (let z : _≡_ {A = ℕ} 0 1 = cc in omega arith)
-is-finished Sent.Unfit e = absurd (let z : _≡_ {A = ℕ} 0 1 = cc in omega arith)
+is-finished Sent.InvalidAreas e = absurd (let z : _≡_ {A = ℕ} 0 1 = cc in omega arith)
 
 -- ---- the theorem
 
@@ -218,12 +218,12 @@ module _ (limit : ℕ) (shape : Shape) (w b : List ℕ) (a : Session) (h e last 
   unfolding startFrom cannotSend wholeFrames
   begun i s r = go (ltb top (last + length (wholeBatches limit a))) refl r
     where
-      go : (t : Bool) → ltb top (last + length (wholeBatches limit a)) ≡ t → ready (s .place) (senderOf s) ≡ cond t (call.Start.refused 24) (ready i (newSender h e last)) → Beginning i s
+      go : (t : Bool) → ltb top (last + length (wholeBatches limit a)) ≡ t → ready (s .place) (senderOf s) ≡ cond t (call.SendStart.refused 24) (ready i (newSender h e last)) → Beginning i s
       go true k r = absurd (let z : _≡_ {A = ℕ} 0 1 = cc in omega arith)
       go false k r = record { place = cc; sender = cc; fits = omega (arith, ltb-false top (last + length (wholeBatches limit a)) k, frames-count h e last (wholeBatches limit a)) }
 
   module _ (t : Sending) (k : storedAt shape w b (t .place) ≡ some a) (out out' : List ℕ) (r : Sent) (p : SendsWhole limit shape w b t out out' r) where
-    answer-at : stepOf r ≡ cond (spent (t .last .0) (senderOf t .from)) (call.Step.refused 25) (answerTo (length out) (t .place) (sendNext limit a (senderOf t)))
+    answer-at : stepOf r ≡ cond (spent (t .last .0) (senderOf t .from)) (call.SendStep.refused 25) (sendAnswer (length out) (t .place) (sendNext limit a (senderOf t)))
     unfolding stepFrom
     answer-at = rw k at (p .answer)
 
@@ -244,7 +244,7 @@ module _ (limit : ℕ) (shape : Shape) (w b : List ℕ) (a : Session) (h e last 
         so = q .so;
         at-end = λ out out' r z p. ended out out' r p (none-next limit a (senderOf t) (subst (Sends limit a (senderOf t)) z (q .goes)));
         then-all = λ out out' p. all-given (next-none limit a (senderOf t) (q .so .left) (q .goes) (done-only (spent (t .last .0) (senderOf t .from)) (sendNext limit a (senderOf t)) (length out) (t .place) (answer-at t k out out' Sent.Done p)));
-        never-unfit = λ out out' p. never-spent limit a (senderOf t) (q .so .left) (q .goes) n (unfit-only (spent (t .last .0) (senderOf t .from)) (sendNext limit a (senderOf t)) (length out) (t .place) (answer-at t k out out' Sent.Unfit p));
+        never-unfit = λ out out' p. never-spent limit a (senderOf t) (q .so .left) (q .goes) n (unfit-only (spent (t .last .0) (senderOf t .from)) (sendNext limit a (senderOf t)) (length out) (t .place) (answer-at t k out out' Sent.InvalidAreas p));
         never-short = λ out out' room p. too-long out room (short-only (spent (t .last .0) (senderOf t .from)) (sendNext limit a (senderOf t)) (length out) (t .place) (answer-at t k out out' Sent.TooShort p));
       }
     where
@@ -265,7 +265,7 @@ module _ (limit : ℕ) (shape : Shape) (w b : List ℕ) (a : Session) (h e last 
 
   -- from what `begin` answers, over areas of u64 and u8 that keep the rules and hold the session a at place i
   pub whole-given : (i : ℕ) (s t : Sending) (fs : List (List ℕ)) → Small (2 ^ 64) w → Small 256 b → storedAt shape w b i ≡ some a
-      → startOf (Begun.Ready s) ≡ startFrom limit (storedAt shape w b i) i h e last → Given limit shape w b s fs t → SentWhole limit shape w b a h e last fs t
+      → startOf (Begun.Ready s) ≡ startFrom limit (storedAt shape w b i) i h e last → SendCalls limit shape w b s fs t → SentWhole limit shape w b a h e last fs t
   whole-given i s t fs hw hb k r g =
       let ok : Holdable (shape .bytes) (shape .messages) a = stored-holdable shape w b i a hw hb k in
       let st : Beginning i s = begun i s (r ∙ ap (λ (o : Option Session). startFrom limit o i h e last) k) in

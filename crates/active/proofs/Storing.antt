@@ -13,14 +13,14 @@ use Rattle.model_text.proofs.Formed.{and-l, and-r}
 use Rattle.model_frame.specs.Parse.{Each}
 use Rattle.model_session.specs.Session.{Session, Holdable}
 use Rattle.model_session.proofs.Basics.{none≢some, some-inj}
-use Rattle.model.specs.Store.{Place, sessionAt}
-use Rattle.place.specs.Place.{sessionOf, placeIn}
-use Rattle.areas.specs.declared.Shape.{Shape}
-use Rattle.areas.specs.Areas.{allowed, Rules, SpotIn, placeAt, placesOf}
-use Rattle.log.proofs.Lawful.{Small}
-use Rattle.areas.proofs.Holding.{all-holdable}
-use Rattle.areas.proofs.Lifting.{spot-place, places-length, session-is}
-use Rattle.areas.proofs.Ruling.{rules-of}
+use Rattle.model_standby.specs.Store.{Place, sessionAt}
+use Rattle.store_place.specs.Place.{sessionOf, placeIn}
+use Rattle.store_areas.specs.declared.Shape.{Shape}
+use Rattle.store_areas.specs.Areas.{allowed, Rules, SpotIn, placeAt, placesOf}
+use Rattle.store_log.proofs.Lawful.{Small}
+use Rattle.store_areas.proofs.Holding.{all-holdable}
+use Rattle.store_areas.proofs.Lifting.{spot-place, places-length, session-is}
+use Rattle.store_areas.proofs.Ruling.{rules-of}
 use Rattle.active.specs.Whole.{storedAt}
 
 beyond : (ps : List Place) (i : ℕ) → length ps ≤ i → getElem? ps i ≡ none

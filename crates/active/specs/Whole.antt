@@ -6,16 +6,17 @@ use mathlib.Core.List.{List, [], _∷_, _++_, map}
 use mathlib.Core.Option.{Option, none, some}
 use lib.ListN.{length, take}
 use lib.Dec.{ltb, leb}
+use Rattle.model_frame.specs.Refusal
 use Rattle.model_frame.specs.Bytes.{write}
 use Rattle.model_frame.specs.Frame.{Frame}
 use Rattle.model_frame.specs.Writing.{encode}
 use Rattle.model_session.specs.Session.{Session, top}
 use Rattle.model_session.specs.Sender.{Sender, newSender, sendNext, cannotSend}
 use Rattle.model_session.specs.Whole.{wholeFrames}
-use Rattle.model.specs.Store.{sessionAt}
-use Rattle.areas.specs.declared.Shape.{Shape}
-use Rattle.areas.specs.Areas.{allowed, placesOf}
-use Rattle.batch.specs.Batch.{onward}
+use Rattle.model_standby.specs.Store.{sessionAt}
+use Rattle.store_areas.specs.declared.Shape.{Shape}
+use Rattle.store_areas.specs.Areas.{allowed, placesOf}
+use Rattle.active_batch.specs.Batch.{resumeFrom}
 use Rattle.active.specs.declared.Sending.{Sending}
 use Rattle.active.specs.declared.Begun.{Begun}
 use Rattle.active.specs.declared.Begun
@@ -24,7 +25,7 @@ use Rattle.active.specs.declared.Sent
 
 -- the model's sender: none is left to send where the state is done, whatever number it goes on from
 abbrev pub senderOf : Sending → Sender
-senderOf s = record { handle = s .handle; epoch = s .epoch .0; last = s .last .0; from = onward (s .from) (s .done) }
+senderOf s = record { handle = s .handle; epoch = s .epoch .0; last = s .last .0; from = resumeFrom (s .from) (s .done) }
 
 -- the session at a place; none, which is 25, where the areas break the rules or the place holds no session
 unfoldable pub storedAt : Shape → List ℕ → List ℕ → ℕ → Option Session
@@ -33,32 +34,32 @@ storedAt s w b i = cond (allowed s w b) (sessionAt (placesOf s w b) i) none
 -- ---- beginning
 
 -- a refusal's number, or what to hand to the first call: a place and a sender
-pub data Start : Type 0 where
-  refused : ℕ → Start
-  ready : ℕ → Sender → Start
+pub data SendStart : Type 0 where
+  refused : ℕ → SendStart
+  ready : ℕ → Sender → SendStart
 
-abbrev pub startOf : Begun → Start
+abbrev pub startOf : Begun → SendStart
 startOf (Begun.Ready s) = ready (s .place) (senderOf s)
-startOf Begun.NumbersPast = refused 24
-startOf Begun.Unfit = refused 25
+startOf Begun.CommitNumbersExhausted = refused Refusal.numbersPast
+startOf Begun.InvalidAreas = refused Refusal.rulesBroken
 
-unfoldable pub startFrom : ℕ → Option Session → ℕ → ℕ → ℕ → ℕ → Start
-startFrom limit none i h e last = refused 25
-startFrom limit (some a) i h e last = cond (cannotSend limit a (newSender h e last)) (refused 24) (ready i (newSender h e last))
+unfoldable pub startFrom : ℕ → Option Session → ℕ → ℕ → ℕ → ℕ → SendStart
+startFrom limit none i h e last = refused Refusal.rulesBroken
+startFrom limit (some a) i h e last = cond (cannotSend limit a (newSender h e last)) (refused Refusal.numbersPast) (ready i (newSender h e last))
 
 -- ---- one call
 
 -- a refusal's number; a frame's length and what to hand to the next call; done
-pub data Step : Type 0 where
-  refused : ℕ → Step
-  gives : ℕ → ℕ → Sender → Step
-  finished : Step
+pub data SendStep : Type 0 where
+  refused : ℕ → SendStep
+  gives : ℕ → ℕ → Sender → SendStep
+  finished : SendStep
 
-abbrev pub stepOf : Sent → Step
+abbrev pub stepOf : Sent → SendStep
 stepOf (Sent.Frame len s) = gives len (s .place) (senderOf s)
 stepOf Sent.Done = finished
-stepOf Sent.TooShort = refused 9
-stepOf Sent.Unfit = refused 25
+stepOf Sent.TooShort = refused Refusal.noRoom
+stepOf Sent.InvalidAreas = refused Refusal.rulesBroken
 
 -- a frame is still to be sent, and its commit number would pass 2^64 - 1: no operation leaves such a state
 abbrev pub spent : ℕ → Option ℕ → Bool
@@ -66,13 +67,13 @@ spent last none = false
 spent last (some n) = leb top last
 
 -- 9 where the frame is longer than the area
-abbrev pub answerTo : ℕ → ℕ → Option (Frame × Sender) → Step
-answerTo room i none = finished
-answerTo room i (some (f, t)) = cond (ltb room (length (encode f))) (refused 9) (gives (length (encode f)) i t)
+abbrev pub sendAnswer : ℕ → ℕ → Option (Frame × Sender) → SendStep
+sendAnswer room i none = finished
+sendAnswer room i (some (f, t)) = cond (ltb room (length (encode f))) (refused Refusal.noRoom) (gives (length (encode f)) i t)
 
-unfoldable pub stepFrom : ℕ → Option Session → ℕ → Sender → ℕ → Step
-stepFrom limit none i s room = refused 25
-stepFrom limit (some a) i s room = cond (spent (s .last) (s .from)) (refused 25) (answerTo room i (sendNext limit a s))
+unfoldable pub stepFrom : ℕ → Option Session → ℕ → Sender → ℕ → SendStep
+stepFrom limit none i s room = refused Refusal.rulesBroken
+stepFrom limit (some a) i s room = cond (spent (s .last) (s .from)) (refused Refusal.rulesBroken) (sendAnswer room i (sendNext limit a s))
 
 -- what the area holds then: the frame at its start, and the rest as it was; without a frame all is as it was
 abbrev pub filledBy : Option (Frame × Sender) → List ℕ → List ℕ
@@ -89,11 +90,11 @@ pub record SendsWhole (limit : ℕ) (shape : Shape) (w b : List ℕ) (s : Sendin
   pub area : out' ≡ areaFrom limit (storedAt shape w b (s .place)) (senderOf s) out
 
 -- calls, one after the other, over one store: the frames that they gave, as bytes, and the state that the last one left
-pub data Given (limit : ℕ) (shape : Shape) (w b : List ℕ) : Sending → List (List ℕ) → Sending → Type 0 where
-  nothing : {s : Sending} → Given limit shape w b s [] s
-  tooShort : {s t : Sending} {fs : List (List ℕ)} {out out' : List ℕ} → SendsWhole limit shape w b s out out' Sent.TooShort → Given limit shape w b s fs t → Given limit shape w b s fs t
-  frame : {s s' t : Sending} {fs : List (List ℕ)} {out out' : List ℕ} {len : ℕ} → SendsWhole limit shape w b s out out' (Sent.Frame len s') → Given limit shape w b s' fs t
-      → Given limit shape w b s (take len out' ∷ fs) t
+pub data SendCalls (limit : ℕ) (shape : Shape) (w b : List ℕ) : Sending → List (List ℕ) → Sending → Type 0 where
+  nothing : {s : Sending} → SendCalls limit shape w b s [] s
+  tooShort : {s t : Sending} {fs : List (List ℕ)} {out out' : List ℕ} → SendsWhole limit shape w b s out out' Sent.TooShort → SendCalls limit shape w b s fs t → SendCalls limit shape w b s fs t
+  frame : {s s' t : Sending} {fs : List (List ℕ)} {out out' : List ℕ} {len : ℕ} → SendsWhole limit shape w b s out out' (Sent.Frame len s') → SendCalls limit shape w b s' fs t
+      → SendCalls limit shape w b s (take len out' ∷ fs) t
 
 -- the frames given so far are these, as bytes, and those still to come are `left`
 pub record Sofar (frames : List Frame) (fs : List (List ℕ)) : Type 0 where
@@ -109,5 +110,5 @@ pub record SentWhole (limit : ℕ) (shape : Shape) (w b : List ℕ) (a : Session
   pub so : Sofar (wholeFrames limit h e last a) fs
   pub at-end : (out out' : List ℕ) (r : Sent) → so .left ≡ [] → SendsWhole limit shape w b t out out' r → (r ≡ Sent.Done) × (out' ≡ out)
   pub then-all : (out out' : List ℕ) → SendsWhole limit shape w b t out out' Sent.Done → fs ≡ map encode (wholeFrames limit h e last a)
-  pub never-unfit : (out out' : List ℕ) → SendsWhole limit shape w b t out out' Sent.Unfit → ⊥
+  pub never-unfit : (out out' : List ℕ) → SendsWhole limit shape w b t out out' Sent.InvalidAreas → ⊥
   pub never-short : (out out' : List ℕ) → shape .bytes + 22 * shape .messages + 156 ≤ length out → SendsWhole limit shape w b t out out' Sent.TooShort → ⊥

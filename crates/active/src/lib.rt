@@ -3,13 +3,13 @@ ghost use mathlib.Core.Path.{_≡_};
 ghost use Prim.Native.Nat.{ℕ, _≤_, _<_};
 ghost use lib.ListN.{length, getD};
 ghost use Rattle.model_session.specs.Whole.{batchLimit, wholeBatches};
-ghost use Rattle.areas.specs.Areas.{Rules, placeAt};
-ghost use Rattle.batch.specs.Batch.{WroteBatch};
+ghost use Rattle.store_areas.specs.Areas.{Rules, placeAt};
+ghost use Rattle.active_batch.specs.Batch.{WroteBatch};
 ghost use Rattle.active.specs.Whole.{storedAt, startOf, startFrom, SendsWhole};
-use areas::Shape;
-use batch::Written;
+use active_batch::BatchWritten;
 use frame::CommitNumber;
 use frame::Epoch;
+use store_areas::Shape;
 
 // A sending: the session's place, the handle, the epoch, the last commit number, the number that it goes on from (0 at first),
 // and whether it is done.
@@ -26,8 +26,8 @@ pub struct Sending {
 // The answer to beginning: what to hand to the first call; 24; 25.
 pub enum Begun {
     Ready(Sending),
-    NumbersPast,
-    Unfit,
+    CommitNumbersExhausted,
+    InvalidAreas,
 }
 
 // The answer to a call: a frame's length and what to hand to the next call; done; 9; 25.
@@ -35,23 +35,28 @@ pub enum Sent {
     Frame(usize, Sending),
     Done,
     TooShort,
-    Unfit,
+    InvalidAreas,
 }
 
 // How many batches send the session at place i.
-fn batches_at(words: &[u64], bytes: &[u8], shape: Shape, i: usize, limit: u64) -> usize
+fn batches_at(words: &[u64], bytes: &[u8], shape: Shape, place: usize, limit: u64) -> usize
     requires { ⌜ Rules shape (now words) (now bytes) ⌝ }
-    requires { ⌜ i < getD (now words) 0 0 ⌝ }
-    ensures is { λ r. ⌜ r ≡ length (wholeBatches limit (placeAt shape (now (words .entry)) (now (bytes .entry)) i .stored .session)) ⌝ }
+    requires { ⌜ place < getD (now words) 0 0 ⌝ }
+    ensures is { λ r. ⌜ r ≡ length (wholeBatches limit (placeAt shape (now (words .entry)) (now (bytes .entry)) place .stored .session)) ⌝ }
     ensures few { λ r. ⌜ r ≤ 33554433 ⌝ }
 {
-    let p = areas::spot_in(words, bytes, shape, i);
-    let wa = p.wa;
-    let we = p.we;
-    let ba = p.ba;
-    let be = p.be;
+    let p = store_areas::spot_in(words, bytes, shape, place);
+    let words_start = p.words_start;
+    let words_end = p.words_end;
+    let bytes_start = p.bytes_start;
+    let bytes_end = p.bytes_end;
     let max = shape.messages as usize;
-    batch::batches(&words[wa..we], &bytes[ba..be], max, limit)
+    active_batch::batches(
+        &words[words_start..words_end],
+        &bytes[bytes_start..bytes_end],
+        max,
+        limit,
+    )
 }
 
 // Writes the frame of the batch that begins at a number, of the session at place i.
@@ -59,27 +64,27 @@ fn send_at(
     words: &[u64],
     bytes: &[u8],
     shape: Shape,
-    i: usize,
+    place: usize,
     from: u64,
     limit: u64,
     handle: u32,
     epoch: Epoch,
     number: CommitNumber,
     out: &mut [u8],
-) -> Written
+) -> BatchWritten
     requires { ⌜ Rules shape (now words) (now bytes) ⌝ }
-    requires { ⌜ i < getD (now words) 0 0 ⌝ }
-    ensures { λ r. ⌜ WroteBatch limit (placeAt shape (now (words .entry)) (now (bytes .entry)) i .stored .session) handle (epoch .0) (number .0) from (now (out .entry)) (now (out .exit)) r ⌝ }
+    requires { ⌜ place < getD (now words) 0 0 ⌝ }
+    ensures { λ r. ⌜ WroteBatch limit (placeAt shape (now (words .entry)) (now (bytes .entry)) place .stored .session) handle (epoch .0) (number .0) from (now (out .entry)) (now (out .exit)) r ⌝ }
 {
-    let p = areas::spot_in(words, bytes, shape, i);
-    let wa = p.wa;
-    let we = p.we;
-    let ba = p.ba;
-    let be = p.be;
+    let p = store_areas::spot_in(words, bytes, shape, place);
+    let words_start = p.words_start;
+    let words_end = p.words_end;
+    let bytes_start = p.bytes_start;
+    let bytes_end = p.bytes_end;
     let max = shape.messages as usize;
-    let w = &words[wa..we];
-    let b = &bytes[ba..be];
-    batch::send(w, b, max, from, limit, handle, epoch, number, out)
+    let w = &words[words_start..words_end];
+    let b = &bytes[bytes_start..bytes_end];
+    active_batch::send(w, b, max, from, limit, handle, epoch, number, out)
 }
 
 impl Sending {
@@ -98,10 +103,10 @@ impl Sending {
     ) -> Begun
         ensures { λ r. ⌜ startOf r ≡ startFrom batchLimit (storedAt shape (now (words .entry)) (now (bytes .entry)) place) place handle (epoch .0) (last .0) ⌝ }
     {
-        if areas::in_use(words, bytes, shape, place) {
+        if store_areas::in_use(words, bytes, shape, place) {
             let count = batches_at(words, bytes, shape, place, Self::BATCH_BYTES);
             if u64::MAX - last.0 < count as u64 {
-                return Begun::NumbersPast;
+                return Begun::CommitNumbersExhausted;
             }
             return Begun::Ready(Sending {
                 place,
@@ -112,7 +117,7 @@ impl Sending {
                 done: false,
             });
         }
-        Begun::Unfit
+        Begun::InvalidAreas
     }
 
     // Gives the next frame at the start of the lent area.
@@ -123,12 +128,12 @@ impl Sending {
         let handle = self.handle;
         let epoch = self.epoch;
         let limit = Self::BATCH_BYTES;
-        if areas::in_use(words, bytes, shape, place) {
+        if store_areas::in_use(words, bytes, shape, place) {
             if self.done {
                 return Sent::Done;
             }
             if self.last.0 == u64::MAX {
-                return Sent::Unfit;
+                return Sent::InvalidAreas;
             }
             let last = CommitNumber(self.last.0 + 1);
             return match send_at(
@@ -143,8 +148,8 @@ impl Sending {
                 last,
                 out,
             ) {
-                Written::TooShort => Sent::TooShort,
-                Written::Batch(len, from, done) => Sent::Frame(
+                BatchWritten::TooShort => Sent::TooShort,
+                BatchWritten::Batch(len, from, done) => Sent::Frame(
                     len,
                     Sending {
                         place,
@@ -157,6 +162,6 @@ impl Sending {
                 ),
             };
         }
-        Sent::Unfit
+        Sent::InvalidAreas
     }
 }

@@ -15,9 +15,9 @@ use Rattle.model_frame.specs.Frame.{got}
 use Rattle.model_frame.specs.Reading.{maxBody, decode}
 use Rattle.model_frame.specs.Writing.{bodyBytes, encode}
 use Rattle.model_frame.proofs.Sound.{decode-sound}
-use Rattle.print.specs.declared.Written
-use Rattle.print.specs.declared.Written.{Written}
-use Rattle.print.specs.Encoding.{Outcome, outcome, wrote, refused, areaAfter, Answer, took, refusal, answerOf, writtenOf, Encoded}
+use Rattle.frame_writer.specs.declared.Written
+use Rattle.frame_writer.specs.declared.Written.{Written}
+use Rattle.frame_writer.specs.Encoding.{WriteOutcome, writeOutcome, wrote, refused, areaAfter, WriteAnswer, took, writeRefusal, writeAnswer, writtenOf, Encoded}
 use Rattle.frame.specs.declared.Frame.{Frame}
 use Rattle.frame.specs.declared.Decoded
 use Rattle.frame.specs.declared.Decoded.{Decoded}
@@ -28,13 +28,13 @@ pub record Again (version : ℕ) (b : List ℕ) (f : Frame) (g : the-frame.Frame
   pub is : frameIn version b f ≡ some g
   pub within : n ≤ length b
   pub bytes : encode g ≡ take n b
-  pub result : (room : ℕ) → outcome version (frameIn version b f) room ≡ cond (ltb room n) (refused 9) (wrote (encode g))
+  pub result : (room : ℕ) → writeOutcome version (frameIn version b f) room ≡ cond (ltb room n) (refused 9) (wrote (encode g))
 
 -- by the two promises of decode
 pub read-again :
     (version : ℕ) (b : List ℕ) {f : Frame} {n : ℕ} {g : the-frame.Frame} → T (isBytes b) → decode version b ≡ got g n →
     readingOf version b (Decoded.Whole f n) ≡ decode version b → Stands version b f n → Again version b f g n
-unfolding outcome
+unfolding writeOutcome
 read-again version b {f} {n} {g} t e read s =
     let a = decode-sound version b t e in
     let twice : got (frameOf version (take n b) f) n ≡ got g n = read ∙ e in
@@ -50,17 +50,17 @@ read-again version b {f} {n} {g} t e read s =
 -- ---- decode, then encode: the answer and the area
 
 pub record WrittenAgain (b : List ℕ) (n : ℕ) (before after : List ℕ) (w : Written) : Type 0 where
-  pub room : n ≤ length before → (w ≡ Written.Took n) × (after ≡ write before 0 (take n b))
+  pub room : n ≤ length before → (w ≡ Written.Bytes n) × (after ≡ write before 0 (take n b))
   pub no-room : length before < n → (w ≡ Written.NoRoom) × (after ≡ before)
 
-is-took : (w : Written) (k : ℕ) → writtenOf w ≡ took k → w ≡ Written.Took k
-is-took (Written.Took m) k e = cc
+is-took : (w : Written) (k : ℕ) → writtenOf w ≡ took k → w ≡ Written.Bytes k
+is-took (Written.Bytes m) k e = cc
 is-took Written.Unreadable k e = cc
 is-took Written.TooLong k e = cc
 is-took Written.NoRoom k e = cc
 
-is-no-room : (w : Written) → writtenOf w ≡ refusal 9 → w ≡ Written.NoRoom
-is-no-room (Written.Took m) e = cc
+is-no-room : (w : Written) → writtenOf w ≡ writeRefusal 9 → w ≡ Written.NoRoom
+is-no-room (Written.Bytes m) e = cc
 is-no-room Written.Unreadable e = let z : _≡_ {A = ℕ} 8 9 = cc in absurd (omega arith)
 is-no-room Written.TooLong e = let z : _≡_ {A = ℕ} 1 9 = cc in absurd (omega arith)
 is-no-room Written.NoRoom e = refl
@@ -72,15 +72,15 @@ pub written-again :
     WrittenAgain b n before after w
 written-again version b before after {f} {n} {w} t read s d =
     let a = read-again version b t (sym read) read s in
-    let o = outcome version (frameIn version b f) (length before) in
+    let o = writeOutcome version (frameIn version b f) (length before) in
     record {
       room =
           λ h.
           let is : o ≡ wrote (take n b) = a .result (length before) ∙ rw (le-ltb (length before) n h) (ap wrote (a .bytes)) in
-          let count : answerOf o ≡ took n = ap answerOf is ∙ ap took (length-take-le n b (a .within)) in
-          (is-took w n (d .answer ∙ count), d .area ∙ ap (λ (x : Outcome). areaAfter x before) is);
+          let count : writeAnswer o ≡ took n = ap writeAnswer is ∙ ap took (length-take-le n b (a .within)) in
+          (is-took w n (d .answer ∙ count), d .area ∙ ap (λ (x : WriteOutcome). areaAfter x before) is);
       no-room =
           λ h.
           let is : o ≡ refused 9 = a .result (length before) ∙ rw (lt-ltb (length before) n h) in
-          (is-no-room w (d .answer ∙ ap answerOf is), d .area ∙ ap (λ (x : Outcome). areaAfter x before) is);
+          (is-no-room w (d .answer ∙ ap writeAnswer is), d .area ∙ ap (λ (x : WriteOutcome). areaAfter x before) is);
     }

@@ -7,24 +7,24 @@ use native.Mathlib.Omega.{arith}
 use borrow.Author.Tests.{leb-true, le-leb}
 use lib.ListN.{length, take, drop, length-append, length-drop, take-append-drop}
 use lib.Seq.{take-append-le}
-use Rattle.laws.proofs.Lists.{drop-take, both}
-use Rattle.laws.proofs.Runs.{run-items}
+use Rattle.base_laws.proofs.Lists.{drop-take, both}
+use Rattle.base_laws.proofs.Runs.{run-items}
 use Rattle.model_frame.specs.Frame.{hello, batch, bind, bound}
-use Rattle.model_frame.specs.Parse.{Res, ok, bad, Parser, num, many, forget, collect}
-use Rattle.model_frame.specs.Reading.{readChange, appRecord, body}
+use Rattle.model_frame.specs.Parse.{Res, ok, bad, Parser, readNum, many, forget, collect}
+use Rattle.model_frame.specs.Reading.{readChange, readAppRecord, readBody}
 use Rattle.model_frame.proofs.Grow.{Grows, grow-num, grow-many, change-grows, record-grows}
-use Rattle.scan.specs.declared.Span.{Span}
-use Rattle.scan.specs.Answers.{spanOf}
-use Rattle.op.specs.declared.Run.{Run}
-use Rattle.op.specs.Answers.{runOf}
-use Rattle.parts.specs.Answers.{partOf, summaryOf}
-use Rattle.print.specs.Encoding.{spanFits, isOk, runReads}
+use Rattle.frame_reader.specs.declared.Span.{Span}
+use Rattle.frame_reader.specs.Answers.{spanOf}
+use Rattle.frame_op.specs.declared.Run.{Run}
+use Rattle.frame_op.specs.Answers.{runOf}
+use Rattle.frame_fields.specs.Answers.{partOf, summaryOf}
+use Rattle.frame_writer.specs.Encoding.{spanFits, isOk, runReads}
 use Rattle.frame.specs.declared.Frame
 use Rattle.frame.specs.declared.Frame.{Frame}
 use Rattle.frame.specs.declared.FrameAt.{FrameAt}
 use Rattle.frame.specs.Answers.{resFrame, readable, Stands}
 
-pub body-within : (version : ℕ) (b : List ℕ) (n : ℕ) (r : FrameAt) {w : List ℕ} → w ≡ take (4 + n) b → resFrame version w r ≡ body version (drop 4 w) → resFrame version (take (4 + n) b) r ≡ body version (take n (drop 4 b))
+pub body-within : (version : ℕ) (b : List ℕ) (n : ℕ) (r : FrameAt) {w : List ℕ} → w ≡ take (4 + n) b → resFrame version w r ≡ readBody version (drop 4 w) → resFrame version (take (4 + n) b) r ≡ readBody version (take n (drop 4 b))
 body-within version b n r e h = rw (← (drop-take 4 n b)) (rw e at h)
 
 -- ---- what stands in the first n bytes stands in all of them, and is the same
@@ -79,7 +79,7 @@ run-again {A = A} {p = p} g n b r = go (many (r .count) p (drop (r .at) (take n 
 -- a frame
 pub stands : (version n : ℕ) (b : List ℕ) (f : Frame) → readable version (take n b) f ≡ true → Stands version b f n
 stands version n b (Frame.Hello v e node ks) h =
-    let x = both (spanFits (take n b) node) (runReads (num 2) (take n b) ks) h in
+    let x = both (spanFits (take n b) node) (runReads (readNum 2) (take n b) ks) h in
     let p = span-again n b node (x .0) in
     let q = run-again (grow-num 2) n b ks (x .1) in
     record { own = h; all = rw (p .fits, q .reads); same = ap₂ (λ (s t : List ℕ). hello v (e .0) s t) (p .same) (q .same) }
@@ -100,7 +100,7 @@ stands version n b (Frame.Bound hd m) h =
     let s = summaryOf b m in
     record { own = h; all = rw (p .fits, q .fits); same = λ j. bound hd (record { nextOut = s .nextOut; nextIn = s .nextIn; inFlight = s .inFlight; stampText = p .same j; marksText = q .same j; lastOutgoing = s .lastOutgoing }) }
 stands version n b (Frame.Batch x) h =
-    let y = both (runReads (readChange version) (take n b) (x .ops)) (runReads appRecord (take n b) (x .«app_records»)) h in
+    let y = both (runReads (readChange version) (take n b) (x .ops)) (runReads readAppRecord (take n b) (x .«app_records»)) h in
     let p = run-again (change-grows version) n b (x .ops) (y .0) in
     let q = run-again record-grows n b (x .«app_records») (y .1) in
     record { own = h; all = rw (p .reads, q .reads); same = λ j. batch (x .handle) (x .epoch .0) (x .«commit_no» .0) (partOf (x .part)) (p .same j) (q .same j) }

@@ -7,12 +7,12 @@ use mathlib.Core.Option.{Option}
 use lib.ListN.{take, drop}
 use Rattle.model_frame.specs.Frame as the-frame
 use Rattle.model_frame.specs.Frame.{hello, welcome, bind, batch, ack, nack, bound, checked, more, faulty, got}
-use Rattle.model_frame.specs.Parse.{Res, ok, bad, num}
-use Rattle.model_frame.specs.Reading.{readChange, appRecord}
-use Rattle.scan.specs.Answers.{faultOf, spanOf}
-use Rattle.op.specs.Answers.{runOf}
-use Rattle.parts.specs.Answers.{partOf, reasonOf, keyOf, summaryOf}
-use Rattle.print.specs.Encoding.{spanFits, runReads, keyFits, summaryFits, given}
+use Rattle.model_frame.specs.Parse.{Res, ok, bad, readNum}
+use Rattle.model_frame.specs.Reading.{readChange, readAppRecord}
+use Rattle.frame_reader.specs.Answers.{faultOf, spanOf}
+use Rattle.frame_op.specs.Answers.{runOf}
+use Rattle.frame_fields.specs.Answers.{partOf, reasonOf, keyOf, summaryOf}
+use Rattle.frame_writer.specs.Encoding.{spanFits, runReads, keyFits, summaryFits, frameIf}
 use Rattle.frame.specs.declared.Batch.{Batch}
 use Rattle.frame.specs.declared.Frame
 use Rattle.frame.specs.declared.Frame.{Frame}
@@ -23,10 +23,10 @@ use Rattle.frame.specs.declared.Decoded.{Decoded}
 
 abbrev pub batchOf : ℕ → List ℕ → Batch → the-frame.Frame
 batchOf version b x =
-    batch (x .handle) (x .epoch .0) (x .«commit_no» .0) (partOf (x .part)) (runOf (readChange version) b (x .ops)) (runOf appRecord b (x .«app_records»))
+    batch (x .handle) (x .epoch .0) (x .«commit_no» .0) (partOf (x .part)) (runOf (readChange version) b (x .ops)) (runOf readAppRecord b (x .«app_records»))
 
 abbrev pub frameOf : ℕ → List ℕ → Frame → the-frame.Frame
-frameOf version b (Frame.Hello v e node ks) = hello v (e .0) (spanOf b node) (runOf (num 2) b ks)
+frameOf version b (Frame.Hello v e node ks) = hello v (e .0) (spanOf b node) (runOf (readNum 2) b ks)
 frameOf version b (Frame.Welcome e i) = welcome (e .0) (i .0)
 frameOf version b (Frame.Bind h e lag k) = bind h (e .0) lag (keyOf b k)
 frameOf version b (Frame.Bound h m) = bound h (summaryOf b m)
@@ -48,17 +48,17 @@ readingOf version b (Decoded.Bad e) = faulty (faultOf e)
 -- ---- writing: what a frame's spans and runs stand for in a source slice, where they lie in it and can be read
 
 abbrev pub readable : ℕ → List ℕ → Frame → Bool
-readable version src (Frame.Hello v e node ks) = spanFits src node && runReads (num 2) src ks
+readable version src (Frame.Hello v e node ks) = spanFits src node && runReads (readNum 2) src ks
 readable version src (Frame.Welcome e i) = true
 readable version src (Frame.Bind h e lag k) = keyFits src k
 readable version src (Frame.Bound h m) = summaryFits src m
-readable version src (Frame.Batch x) = runReads (readChange version) src (x .ops) && runReads appRecord src (x .«app_records»)
+readable version src (Frame.Batch x) = runReads (readChange version) src (x .ops) && runReads readAppRecord src (x .«app_records»)
 readable version src (Frame.Ack h n) = true
 readable version src (Frame.Nack h r) = true
 readable version src (Frame.Checked h e i) = true
 
 abbrev pub frameIn : ℕ → List ℕ → Frame → Option the-frame.Frame
-frameIn version src f = given (readable version src f) (frameOf version src f)
+frameIn version src f = frameIf (readable version src f) (frameOf version src f)
 
 -- ---- reading, then writing: what was read stands in the bytes
 

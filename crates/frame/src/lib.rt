@@ -2,34 +2,35 @@
 ghost use mathlib.Core.Path.{_≡_};
 ghost use Prim.Native.Nat.{ℕ, _+_, _≤_};
 ghost use lib.ListN.{length, take, drop};
-ghost use Rattle.model_frame.specs.Reading.{helloFields, welcomeFields, bindFields, batchFields, ackFields, nackFields, boundFields, checkedFields, maxBody, fields, body, decode};
+ghost use Rattle.model_frame.specs.Reading.{helloFields, welcomeFields, bindFields, batchFields, ackFields, nackFields, boundFields, checkedFields, maxBody, readFields, readBody, decode};
 ghost use Rattle.frame.specs.Answers.{resFrame, ReadIn, readingOf, StandsIn, frameIn};
-ghost use Rattle.print.specs.Encoding.{Encoded};
-pub use op::Op;
-pub use op::Run;
-use op::RunAt;
-pub use parts::AppRecord;
-pub use parts::InFlight;
-pub use parts::NackReason;
-pub use parts::Part;
-use parts::PartAt;
-use parts::ReasonAt;
-use parts::SessionAt;
-pub use parts::SessionId;
-pub use parts::Summary;
-use parts::SummaryAt;
-pub use print::Written;
-use scan::Byte;
-use scan::Cursor;
-pub use scan::Field;
-pub use scan::FrameError;
-pub use scan::Span;
-use scan::SpanAt;
-pub use scan::Value;
-use scan::Word16;
-use scan::Word32;
-use scan::Word64;
-use stamp::Protocol;
+ghost use Rattle.frame_writer.specs.Encoding.{Encoded};
+pub use frame_fields::AppRecord;
+pub use frame_fields::InFlight;
+pub use frame_fields::NackReason;
+pub use frame_fields::Part;
+use frame_fields::PartAt;
+use frame_fields::ReasonAt;
+use frame_fields::SessionAt;
+pub use frame_fields::SessionId;
+pub use frame_fields::Summary;
+use frame_fields::SummaryAt;
+use frame_fields::kind;
+pub use frame_op::Op;
+pub use frame_op::Run;
+use frame_op::RunAt;
+use frame_reader::Byte;
+use frame_reader::Cursor;
+pub use frame_reader::Field;
+pub use frame_reader::FrameError;
+pub use frame_reader::Span;
+use frame_reader::SpanAt;
+pub use frame_reader::Value;
+use frame_reader::Word16;
+use frame_reader::Word32;
+use frame_reader::Word64;
+use frame_stamp::Protocol;
+pub use frame_writer::Written;
 
 // The epoch of the lease that an active holds.
 #[repr(C)]
@@ -104,19 +105,19 @@ pub enum Decoded {
     Bad(FrameError),
 }
 
-fn hello_from(buf: &[u8], c: Cursor) -> FrameAt
-    ensures { λ r. ⌜ ((v : ℕ) → resFrame v (now (buf .entry)) r ≡ helloFields (drop (c .at) (now (buf .entry)))) ⌝ }
+fn hello_from(buf: &[u8], cursor: Cursor) -> FrameAt
+    ensures { λ r. ⌜ ((v : ℕ) → resFrame v (now (buf .entry)) r ≡ helloFields (drop (cursor .at) (now (buf .entry)))) ⌝ }
     ensures { λ r. ⌜ ((v : ℕ) → ReadIn v (now (buf .entry)) r) ⌝ }
 {
-    let Word16::Got(version, d) = scan::u16_from(buf, c) else {
+    let Word16::Got(version, d) = frame_reader::u16_from(buf, cursor) else {
         return FrameAt::Bad(FrameError::Truncated);
     };
-    let Word64::Got(epoch, d) = scan::u64_from(buf, d) else {
+    let Word64::Got(epoch, d) = frame_reader::u64_from(buf, d) else {
         return FrameAt::Bad(FrameError::Truncated);
     };
-    match scan::text_from(buf, d) {
+    match frame_reader::text_from(buf, d) {
         SpanAt::Bad(e) => FrameAt::Bad(e),
-        SpanAt::Got(node, d) => match parts::kinds_from(buf, d) {
+        SpanAt::Got(node, d) => match frame_fields::kinds_from(buf, d) {
             RunAt::Bad(e) => FrameAt::Bad(e),
             RunAt::Got(app_record_kinds, d) => FrameAt::Got(
                 Frame::Hello {
@@ -131,14 +132,14 @@ fn hello_from(buf: &[u8], c: Cursor) -> FrameAt
     }
 }
 
-fn welcome_from(buf: &[u8], c: Cursor) -> FrameAt
-    ensures { λ r. ⌜ ((v : ℕ) → resFrame v (now (buf .entry)) r ≡ welcomeFields (drop (c .at) (now (buf .entry)))) ⌝ }
+fn welcome_from(buf: &[u8], cursor: Cursor) -> FrameAt
+    ensures { λ r. ⌜ ((v : ℕ) → resFrame v (now (buf .entry)) r ≡ welcomeFields (drop (cursor .at) (now (buf .entry)))) ⌝ }
     ensures { λ r. ⌜ ((v : ℕ) → ReadIn v (now (buf .entry)) r) ⌝ }
 {
-    let Word64::Got(epoch, d) = scan::u64_from(buf, c) else {
+    let Word64::Got(epoch, d) = frame_reader::u64_from(buf, cursor) else {
         return FrameAt::Bad(FrameError::Truncated);
     };
-    let Word64::Got(incarnation, d) = scan::u64_from(buf, d) else {
+    let Word64::Got(incarnation, d) = frame_reader::u64_from(buf, d) else {
         return FrameAt::Bad(FrameError::Truncated);
     };
     FrameAt::Got(
@@ -150,20 +151,20 @@ fn welcome_from(buf: &[u8], c: Cursor) -> FrameAt
     )
 }
 
-fn bind_from(buf: &[u8], c: Cursor) -> FrameAt
-    ensures { λ r. ⌜ ((v : ℕ) → resFrame v (now (buf .entry)) r ≡ bindFields (drop (c .at) (now (buf .entry)))) ⌝ }
+fn bind_from(buf: &[u8], cursor: Cursor) -> FrameAt
+    ensures { λ r. ⌜ ((v : ℕ) → resFrame v (now (buf .entry)) r ≡ bindFields (drop (cursor .at) (now (buf .entry)))) ⌝ }
     ensures { λ r. ⌜ ((v : ℕ) → ReadIn v (now (buf .entry)) r) ⌝ }
 {
-    let Word32::Got(handle, d) = scan::u32_from(buf, c) else {
+    let Word32::Got(handle, d) = frame_reader::u32_from(buf, cursor) else {
         return FrameAt::Bad(FrameError::Truncated);
     };
-    let Word64::Got(epoch, d) = scan::u64_from(buf, d) else {
+    let Word64::Got(epoch, d) = frame_reader::u64_from(buf, d) else {
         return FrameAt::Bad(FrameError::Truncated);
     };
-    let Word64::Got(max_lag, d) = scan::u64_from(buf, d) else {
+    let Word64::Got(max_lag, d) = frame_reader::u64_from(buf, d) else {
         return FrameAt::Bad(FrameError::Truncated);
     };
-    match parts::session_from(buf, d) {
+    match frame_fields::session_from(buf, d) {
         SessionAt::Bad(e) => FrameAt::Bad(e),
         SessionAt::Got(session, d) => FrameAt::Got(
             Frame::Bind {
@@ -177,24 +178,24 @@ fn bind_from(buf: &[u8], c: Cursor) -> FrameAt
     }
 }
 
-fn batch_from(p: Protocol, buf: &[u8], c: Cursor) -> FrameAt
-    ensures { λ r. ⌜ resFrame (p .version) (now (buf .entry)) r ≡ batchFields (p .version) (drop (c .at) (now (buf .entry))) ⌝ }
-    ensures { λ r. ⌜ ReadIn (p .version) (now (buf .entry)) r ⌝ }
+fn batch_from(protocol: Protocol, buf: &[u8], cursor: Cursor) -> FrameAt
+    ensures { λ r. ⌜ resFrame (protocol .version) (now (buf .entry)) r ≡ batchFields (protocol .version) (drop (cursor .at) (now (buf .entry))) ⌝ }
+    ensures { λ r. ⌜ ReadIn (protocol .version) (now (buf .entry)) r ⌝ }
 {
-    let Word32::Got(handle, d) = scan::u32_from(buf, c) else {
+    let Word32::Got(handle, d) = frame_reader::u32_from(buf, cursor) else {
         return FrameAt::Bad(FrameError::Truncated);
     };
-    let Word64::Got(epoch, d) = scan::u64_from(buf, d) else {
+    let Word64::Got(epoch, d) = frame_reader::u64_from(buf, d) else {
         return FrameAt::Bad(FrameError::Truncated);
     };
-    let Word64::Got(commit_no, d) = scan::u64_from(buf, d) else {
+    let Word64::Got(commit_no, d) = frame_reader::u64_from(buf, d) else {
         return FrameAt::Bad(FrameError::Truncated);
     };
-    match parts::part_from(buf, d) {
+    match frame_fields::part_from(buf, d) {
         PartAt::Bad(e) => FrameAt::Bad(e),
-        PartAt::Got(part, d) => match op::ops_from(p, buf, d) {
+        PartAt::Got(part, d) => match frame_op::ops_from(protocol, buf, d) {
             RunAt::Bad(e) => FrameAt::Bad(e),
-            RunAt::Got(ops, d) => match parts::app_records_from(buf, d) {
+            RunAt::Got(ops, d) => match frame_fields::app_records_from(buf, d) {
                 RunAt::Bad(e) => FrameAt::Bad(e),
                 RunAt::Got(app_records, d) => FrameAt::Got(
                     Frame::Batch(Batch {
@@ -212,14 +213,14 @@ fn batch_from(p: Protocol, buf: &[u8], c: Cursor) -> FrameAt
     }
 }
 
-fn ack_from(buf: &[u8], c: Cursor) -> FrameAt
-    ensures { λ r. ⌜ ((v : ℕ) → resFrame v (now (buf .entry)) r ≡ ackFields (drop (c .at) (now (buf .entry)))) ⌝ }
+fn ack_from(buf: &[u8], cursor: Cursor) -> FrameAt
+    ensures { λ r. ⌜ ((v : ℕ) → resFrame v (now (buf .entry)) r ≡ ackFields (drop (cursor .at) (now (buf .entry)))) ⌝ }
     ensures { λ r. ⌜ ((v : ℕ) → ReadIn v (now (buf .entry)) r) ⌝ }
 {
-    let Word32::Got(handle, d) = scan::u32_from(buf, c) else {
+    let Word32::Got(handle, d) = frame_reader::u32_from(buf, cursor) else {
         return FrameAt::Bad(FrameError::Truncated);
     };
-    let Word64::Got(commit_no, d) = scan::u64_from(buf, d) else {
+    let Word64::Got(commit_no, d) = frame_reader::u64_from(buf, d) else {
         return FrameAt::Bad(FrameError::Truncated);
     };
     FrameAt::Got(
@@ -231,43 +232,43 @@ fn ack_from(buf: &[u8], c: Cursor) -> FrameAt
     )
 }
 
-fn nack_from(buf: &[u8], c: Cursor) -> FrameAt
-    ensures { λ r. ⌜ ((v : ℕ) → resFrame v (now (buf .entry)) r ≡ nackFields (drop (c .at) (now (buf .entry)))) ⌝ }
+fn nack_from(buf: &[u8], cursor: Cursor) -> FrameAt
+    ensures { λ r. ⌜ ((v : ℕ) → resFrame v (now (buf .entry)) r ≡ nackFields (drop (cursor .at) (now (buf .entry)))) ⌝ }
     ensures { λ r. ⌜ ((v : ℕ) → ReadIn v (now (buf .entry)) r) ⌝ }
 {
-    let Word32::Got(handle, d) = scan::u32_from(buf, c) else {
+    let Word32::Got(handle, d) = frame_reader::u32_from(buf, cursor) else {
         return FrameAt::Bad(FrameError::Truncated);
     };
-    match parts::reason_from(buf, d) {
+    match frame_fields::reason_from(buf, d) {
         ReasonAt::Bad(e) => FrameAt::Bad(e),
         ReasonAt::Got(reason, d) => FrameAt::Got(Frame::Nack { handle, reason }, d),
     }
 }
 
-fn bound_from(p: Protocol, buf: &[u8], c: Cursor) -> FrameAt
-    ensures { λ r. ⌜ ((v : ℕ) → resFrame v (now (buf .entry)) r ≡ boundFields (p .version) (drop (c .at) (now (buf .entry)))) ⌝ }
+fn bound_from(protocol: Protocol, buf: &[u8], cursor: Cursor) -> FrameAt
+    ensures { λ r. ⌜ ((v : ℕ) → resFrame v (now (buf .entry)) r ≡ boundFields (protocol .version) (drop (cursor .at) (now (buf .entry)))) ⌝ }
     ensures { λ r. ⌜ ((v : ℕ) → ReadIn v (now (buf .entry)) r) ⌝ }
 {
-    let Word32::Got(handle, d) = scan::u32_from(buf, c) else {
+    let Word32::Got(handle, d) = frame_reader::u32_from(buf, cursor) else {
         return FrameAt::Bad(FrameError::Truncated);
     };
-    match parts::summary_from(p, buf, d) {
+    match frame_fields::summary_from(protocol, buf, d) {
         SummaryAt::Bad(e) => FrameAt::Bad(e),
         SummaryAt::Got(summary, d) => FrameAt::Got(Frame::Bound { handle, summary }, d),
     }
 }
 
-fn checked_from(buf: &[u8], c: Cursor) -> FrameAt
-    ensures { λ r. ⌜ ((v : ℕ) → resFrame v (now (buf .entry)) r ≡ checkedFields (drop (c .at) (now (buf .entry)))) ⌝ }
+fn checked_from(buf: &[u8], cursor: Cursor) -> FrameAt
+    ensures { λ r. ⌜ ((v : ℕ) → resFrame v (now (buf .entry)) r ≡ checkedFields (drop (cursor .at) (now (buf .entry)))) ⌝ }
     ensures { λ r. ⌜ ((v : ℕ) → ReadIn v (now (buf .entry)) r) ⌝ }
 {
-    let Word32::Got(handle, d) = scan::u32_from(buf, c) else {
+    let Word32::Got(handle, d) = frame_reader::u32_from(buf, cursor) else {
         return FrameAt::Bad(FrameError::Truncated);
     };
-    let Word64::Got(epoch, d) = scan::u64_from(buf, d) else {
+    let Word64::Got(epoch, d) = frame_reader::u64_from(buf, d) else {
         return FrameAt::Bad(FrameError::Truncated);
     };
-    let Word64::Got(incarnation, d) = scan::u64_from(buf, d) else {
+    let Word64::Got(incarnation, d) = frame_reader::u64_from(buf, d) else {
         return FrameAt::Bad(FrameError::Truncated);
     };
     FrameAt::Got(
@@ -281,35 +282,35 @@ fn checked_from(buf: &[u8], c: Cursor) -> FrameAt
 }
 
 // The fields of a frame, by its kind.
-fn fields_from(p: Protocol, buf: &[u8], c: Cursor) -> FrameAt
-    ensures { λ r. ⌜ resFrame (p .version) (now (buf .entry)) r ≡ fields (p .version) (drop (c .at) (now (buf .entry))) ⌝ }
-    ensures { λ r. ⌜ ReadIn (p .version) (now (buf .entry)) r ⌝ }
+fn fields_from(protocol: Protocol, buf: &[u8], cursor: Cursor) -> FrameAt
+    ensures { λ r. ⌜ resFrame (protocol .version) (now (buf .entry)) r ≡ readFields (protocol .version) (drop (cursor .at) (now (buf .entry))) ⌝ }
+    ensures { λ r. ⌜ ReadIn (protocol .version) (now (buf .entry)) r ⌝ }
 {
-    let Byte::Got(k, d) = scan::u8_from(buf, c) else {
+    let Byte::Got(k, d) = frame_reader::u8_from(buf, cursor) else {
         return FrameAt::Bad(FrameError::Truncated);
     };
     match k {
-        1 => hello_from(buf, d),
-        2 => welcome_from(buf, d),
-        3 => bind_from(buf, d),
-        4 => batch_from(p, buf, d),
-        5 => ack_from(buf, d),
-        6 => nack_from(buf, d),
-        7 => bound_from(p, buf, d),
-        8 => checked_from(buf, d),
+        kind::HELLO => hello_from(buf, d),
+        kind::WELCOME => welcome_from(buf, d),
+        kind::BIND => bind_from(buf, d),
+        kind::BATCH => batch_from(protocol, buf, d),
+        kind::ACK => ack_from(buf, d),
+        kind::NACK => nack_from(buf, d),
+        kind::BOUND => bound_from(protocol, buf, d),
+        kind::CHECKED => checked_from(buf, d),
         _ => FrameAt::Bad(FrameError::Unknown(Field::FrameKind, k)),
     }
 }
 
 // A body from a cursor to the buffer's end: nothing is left over.
-fn body_from(p: Protocol, buf: &[u8], c: Cursor) -> FrameAt
-    ensures { λ r. ⌜ resFrame (p .version) (now (buf .entry)) r ≡ body (p .version) (drop (c .at) (now (buf .entry))) ⌝ }
-    ensures { λ r. ⌜ ReadIn (p .version) (now (buf .entry)) r ⌝ }
+fn body_from(protocol: Protocol, buf: &[u8], cursor: Cursor) -> FrameAt
+    ensures { λ r. ⌜ resFrame (protocol .version) (now (buf .entry)) r ≡ readBody (protocol .version) (drop (cursor .at) (now (buf .entry))) ⌝ }
+    ensures { λ r. ⌜ ReadIn (protocol .version) (now (buf .entry)) r ⌝ }
 {
-    match fields_from(p, buf, c) {
+    match fields_from(protocol, buf, cursor) {
         FrameAt::Bad(e) => FrameAt::Bad(e),
         FrameAt::Got(f, d) => {
-            if scan::left(buf, d) == 0 {
+            if frame_reader::bytes_left(buf, d) == 0 {
                 FrameAt::Got(f, d)
             } else {
                 FrameAt::Bad(FrameError::Truncated)
@@ -325,14 +326,14 @@ impl Frame {
     pub const LIMIT: u32 = 67108864;
 
     // The frame at the start of the bytes; its texts, changes and records are parts of them.
-    pub fn decode(p: Protocol, buf: &[u8]) -> Decoded
-        ensures { λ r. ⌜ readingOf (p .version) (now (buf .entry)) r ≡ decode (p .version) (now (buf .entry)) ⌝ }
-        ensures { λ r. ⌜ StandsIn (p .version) (now (buf .entry)) r ⌝ }
+    pub fn decode(protocol: Protocol, buf: &[u8]) -> Decoded
+        ensures { λ r. ⌜ readingOf (protocol .version) (now (buf .entry)) r ≡ decode (protocol .version) (now (buf .entry)) ⌝ }
+        ensures { λ r. ⌜ StandsIn (protocol .version) (now (buf .entry)) r ⌝ }
     {
         if buf.len() < 4 {
             return Decoded::More;
         }
-        let n = wire::u32_at(buf, 0);
+        let n = base_bytes::u32_at(buf, 0);
         if Self::LIMIT < n {
             return Decoded::Bad(FrameError::TooLong(n));
         }
@@ -340,15 +341,19 @@ impl Frame {
         if buf.len() - 4 < len {
             return Decoded::More;
         }
-        match body_from(p, scan::bytes_at(buf, 0, 4 + len), Cursor { at: 4 }) {
+        match body_from(
+            protocol,
+            frame_reader::bytes_at(buf, 0, 4 + len),
+            Cursor { at: 4 },
+        ) {
             FrameAt::Bad(e) => Decoded::Bad(e),
             FrameAt::Got(f, _) => Decoded::Whole(f, 4 + len),
         }
     }
 
     // The frame's bytes at the area's start: its texts, changes and records are taken from the source.
-    pub fn encode(self, p: Protocol, src: &[u8], out: &mut [u8]) -> Written
-        ensures { λ r. ⌜ Encoded (p .version) (frameIn (p .version) (now (src .entry)) self) (now (out .entry)) (now (out .exit)) r ⌝ }
+    pub fn encode(self, protocol: Protocol, src: &[u8], out: &mut [u8]) -> Written
+        ensures { λ r. ⌜ Encoded (protocol .version) (frameIn (protocol .version) (now (src .entry)) self) (now (out .entry)) (now (out .exit)) r ⌝ }
     {
         match self {
             Frame::Hello {
@@ -357,7 +362,7 @@ impl Frame {
                 node,
                 app_record_kinds,
             } => {
-                encode::hello(
+                frame_encode::hello(
                     Self::LIMIT,
                     src,
                     version,
@@ -368,43 +373,48 @@ impl Frame {
                 )
             }
             Frame::Welcome { epoch, incarnation } => {
-                encode::welcome(Self::LIMIT, epoch.0, incarnation.0, out)
+                frame_encode::welcome(Self::LIMIT, epoch.0, incarnation.0, out)
             }
             Frame::Bind {
                 handle,
                 epoch,
                 max_lag,
                 session,
-            } => { encode::bind(Self::LIMIT, src, handle, epoch.0, max_lag, session, out) }
+            } => { frame_encode::bind(Self::LIMIT, src, handle, epoch.0, max_lag, session, out) }
             Frame::Bound { handle, summary } => {
-                encode::bound(Self::LIMIT, p, src, handle, summary, out)
+                frame_encode::bound(Self::LIMIT, protocol, src, handle, summary, out)
             }
-            Frame::Batch(b) => encode_batch(Self::LIMIT, p, src, b, out),
-            Frame::Ack { handle, commit_no } => encode::ack(Self::LIMIT, handle, commit_no.0, out),
-            Frame::Nack { handle, reason } => encode::nack(Self::LIMIT, handle, reason, out),
+            Frame::Batch(b) => encode_batch(Self::LIMIT, protocol, src, b, out),
+            Frame::Ack { handle, commit_no } => frame_encode::ack(
+                Self::LIMIT,
+                handle,
+                commit_no.0,
+                out,
+            ),
+            Frame::Nack { handle, reason } => frame_encode::nack(Self::LIMIT, handle, reason, out),
             Frame::Checked {
                 handle,
                 epoch,
                 incarnation,
-            } => { encode::checked(Self::LIMIT, handle, epoch.0, incarnation.0, out) }
+            } => { frame_encode::checked(Self::LIMIT, handle, epoch.0, incarnation.0, out) }
         }
     }
 }
 
-fn encode_batch(limit: u32, p: Protocol, src: &[u8], b: Batch, out: &mut [u8]) -> Written
+fn encode_batch(limit: u32, protocol: Protocol, src: &[u8], batch: Batch, out: &mut [u8]) -> Written
     requires { ⌜ limit ≡ maxBody ⌝ }
-    ensures { λ r. ⌜ Encoded (p .version) (frameIn (p .version) (now (src .entry)) (Frame.Batch b)) (now (out .entry)) (now (out .exit)) r ⌝ }
+    ensures { λ r. ⌜ Encoded (protocol .version) (frameIn (protocol .version) (now (src .entry)) (Frame.Batch batch)) (now (out .entry)) (now (out .exit)) r ⌝ }
 {
-    let epoch = b.epoch;
-    let commit_no = b.commit_no;
-    let part = b.part;
-    let ops = b.ops;
-    let app_records = b.app_records;
-    encode::batch(
+    let epoch = batch.epoch;
+    let commit_no = batch.commit_no;
+    let part = batch.part;
+    let ops = batch.ops;
+    let app_records = batch.app_records;
+    frame_encode::batch(
         limit,
-        p,
+        protocol,
         src,
-        b.handle,
+        batch.handle,
         epoch.0,
         commit_no.0,
         part,

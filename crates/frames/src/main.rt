@@ -3,30 +3,30 @@
 ghost use mathlib.Core.Path.{_≡_};
 ghost use Prim.Native.Nat.{_≤_};
 ghost use lib.ListN.{length};
-use areas::Made;
 use libc::STDIN_FILENO;
 use libc::STDOUT_FILENO;
-use outcome::Replica;
-use row::Handle;
+use standby_row::Bound;
+use standby_state::Replica;
+use store_areas::Made;
 
 // The counters, the row, how many bytes of the next line are read, and whether the input goes on.
 #[repr(C)]
 struct State {
     replica: Replica,
-    row: [Handle; 4],
+    row: [Bound; 4],
     len: usize,
     more: bool,
 }
 
 // Answers one line.
-fn tell(s: State, words: &mut [u64], bytes: &mut [u8], holds: &mut [u8], line: &[u8]) -> State
+fn tell(state: State, words: &mut [u64], bytes: &mut [u8], holds: &mut [u8], line: &[u8]) -> State
     ensures { λ r. ⌜ r .len ≡ 0 ⌝ }
 {
     let mut buf = [0u8; 8192];
     let mut out = [0u8; 16384];
-    let replica = s.replica;
-    let row = s.row;
-    let t = frame_line::answer_line(replica, row, words, bytes, holds, line, &mut buf, &mut out);
+    let replica = state.replica;
+    let row = state.row;
+    let t = frames_line::answer_line(replica, row, words, bytes, holds, line, &mut buf, &mut out);
     let n = t.len;
     io::write_all(STDOUT_FILENO, &out[0..n]);
     io::write_all(STDOUT_FILENO, b"\n");
@@ -41,11 +41,11 @@ fn tell(s: State, words: &mut [u64], bytes: &mut [u8], holds: &mut [u8], line: &
 }
 
 // The same state, with so many bytes of the next line.
-fn waiting(s: State, len: usize) -> State
+fn waiting(state: State, len: usize) -> State
     ensures { λ r. ⌜ r .len ≡ len ⌝ }
 {
-    let replica = s.replica;
-    let row = s.row;
+    let replica = state.replica;
+    let row = state.row;
     State {
         replica,
         row,
@@ -56,20 +56,20 @@ fn waiting(s: State, len: usize) -> State
 
 // Answers the lines that end in a piece of the input. Of a line no more than the area is kept, which is more than a line may have.
 fn take_piece(
-    s: State,
+    state: State,
     words: &mut [u64],
     bytes: &mut [u8],
     holds: &mut [u8],
     line: &mut [u8],
     piece: &[u8],
 ) -> State
-    requires { ⌜ s .len ≤ length (now line) ⌝ }
+    requires { ⌜ state .len ≤ length (now line) ⌝ }
     ensures { λ r. ⌜ r .len ≤ length (now (line .entry)) ⌝ }
 {
-    let mut now = s;
+    let mut now = state;
     let mut at: usize = 0;
     while at < piece.len() {
-        let f = lines::feed(line, now.len, piece, at);
+        let f = base_lines::feed(line, now.len, piece, at);
         if !f.whole {
             return waiting(now, f.len);
         }
@@ -81,46 +81,46 @@ fn take_piece(
 }
 
 // The input has ended.
-fn ended(s: State) -> State
-    ensures { λ r. ⌜ r .len ≡ s .len ⌝ }
+fn ended(state: State) -> State
+    ensures { λ r. ⌜ r .len ≡ state .len ⌝ }
 {
-    let mut t = s;
+    let mut t = state;
     t.more = false;
     t
 }
 
 // Reads once.
 fn read_on(
-    s: State,
+    state: State,
     words: &mut [u64],
     bytes: &mut [u8],
     holds: &mut [u8],
     line: &mut [u8],
 ) -> State
-    requires { ⌜ s .len ≤ length (now line) ⌝ }
+    requires { ⌜ state .len ≤ length (now line) ⌝ }
     ensures { λ r. ⌜ r .len ≤ length (now (line .entry)) ⌝ }
 {
     let mut piece = io::large_buffer();
     let got = libc::read(STDIN_FILENO, &mut piece);
     if got <= 0 {
-        return ended(s);
+        return ended(state);
     }
     let n = io::count(got, &piece);
-    take_piece(s, words, bytes, holds, line, &piece[..n])
+    take_piece(state, words, bytes, holds, line, &piece[..n])
 }
 
 // A proved loop has to end: it counts down from a number that no run uses up.
 fn read_all(
-    s: State,
+    state: State,
     words: &mut [u64],
     bytes: &mut [u8],
     holds: &mut [u8],
     line: &mut [u8],
 ) -> State
-    requires { ⌜ s .len ≤ length (now line) ⌝ }
+    requires { ⌜ state .len ≤ length (now line) ⌝ }
     ensures { λ r. ⌜ r .len ≤ length (now (line .entry)) ⌝ }
 {
-    let mut now = s;
+    let mut now = state;
     let mut turns = u64::MAX;
     while turns > 0 && now.more {
         now = read_on(now, words, bytes, holds, line);
@@ -130,10 +130,10 @@ fn read_all(
 }
 
 // Answers all lines; the last may lack its line feed.
-fn run(s: State, words: &mut [u64], bytes: &mut [u8], holds: &mut [u8], line: &mut [u8])
-    requires { ⌜ s .len ≤ length (now line) ⌝ }
+fn run(state: State, words: &mut [u64], bytes: &mut [u8], holds: &mut [u8], line: &mut [u8])
+    requires { ⌜ state .len ≤ length (now line) ⌝ }
 {
-    let t = read_all(s, words, bytes, holds, line);
+    let t = read_all(state, words, bytes, holds, line);
     let n = t.len;
     if 0 < n {
         tell(t, words, bytes, holds, &line[0..n]);
@@ -144,7 +144,7 @@ fn run(s: State, words: &mut [u64], bytes: &mut [u8], holds: &mut [u8], line: &m
 fn start() -> State
     ensures { λ r. ⌜ r .len ≡ 0 ⌝ }
 {
-    let row = [row::nobody(); 4];
+    let row = [standby_row::free_record(); 4];
     State {
         replica: replica::new(),
         row,
@@ -158,8 +158,8 @@ fn main() {
     let mut bytes = [0u8; 17280];
     let mut holds = [0u8; 22504];
     let mut line = [0u8; 16385];
-    match areas::make(frame_line::shape(), &mut words, &bytes) {
+    match store_areas::make(frames_line::shape(), &mut words, &bytes) {
         Made::Ready => run(start(), &mut words, &mut bytes, &mut holds, &mut line),
-        Made::Unfit => (),
+        Made::InvalidAreas => (),
     }
 }

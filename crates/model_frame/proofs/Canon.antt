@@ -12,7 +12,7 @@ use lib.Seq.{length-take-le}
 use Rattle.model_text.specs.Utf8.{utf8}
 use Rattle.model_frame.specs.Bytes.{isBytes, bytesOf}
 use Rattle.model_frame.specs.Frame.{Fault, truncated, badText}
-use Rattle.model_frame.specs.Parse.{Res, ok, bad, Parser, andThen, _>>=_, done, fail, bytes, num, blob, text, count, many, runBytes, Each}
+use Rattle.model_frame.specs.Parse.{Res, ok, bad, Parser, andThen, _>>=_, pure, fail, readBytes, readNum, readBlob, readText, readCount, many, runBytes, Each}
 use Rattle.model_frame.specs.Writing.{blobBytes}
 use Rattle.model_frame.proofs.Le.{Byte, each-bytes, each-take, each-drop, bytes-le, le-below}
 
@@ -25,7 +25,7 @@ pub record Canon {B : Type 0} (pre : List ℕ) (p : Parser B) (g : B → List �
 
 -- ---- each way to make a parser
 
-pub canon-done : {B : Type 0} {pre : List ℕ} {b : B} {g : B → List ℕ} {W : B → Type 0} → pre ≡ g b → W b → Canon pre (done b) g W
+pub canon-done : {B : Type 0} {pre : List ℕ} {b : B} {g : B → List ℕ} {W : B → Type 0} → pre ≡ g b → W b → Canon pre (pure b) g W
 canon-done e w = record { reads = λ s h. (ap (λ (l : List ℕ). l ++ s) e, w, h) }
 
 pub canon-fail : {B : Type 0} {pre : List ℕ} {e : Fault} {g : B → List ℕ} {W : B → Type 0} → Canon pre (fail e) g W
@@ -36,7 +36,7 @@ canon-cond true y n = y refl
 canon-cond false y n = n refl
 
 -- a value that is taken where a test of it holds
-pub canon-test : {B : Type 0} {pre : List ℕ} (t : Bool) (b : B) (e : Fault) {g : B → List ℕ} {W : B → Type 0} → pre ≡ g b → (t ≡ true → W b) → Canon pre (cond t (done b) (fail e)) g W
+pub canon-test : {B : Type 0} {pre : List ℕ} (t : Bool) (b : B) (e : Fault) {g : B → List ℕ} {W : B → Type 0} → pre ≡ g b → (t ≡ true → W b) → Canon pre (cond t (pure b) (fail e)) g W
 canon-test t b e q w = canon-cond t (λ y. canon-done q (w y)) (λ n. canon-fail)
 
 -- a row of a table of tags: where the tag is the row's, the row's fields
@@ -73,22 +73,22 @@ canon-last {pre = pre} {p = p} {e = e} {U = U} {g = g} {W = W} c k = record { re
 abbrev pub Bytes : ℕ → List ℕ → Type 0
 Bytes n bs = (length bs ≡ n) × Each Byte bs
 
-pub bytes-canon : (n : ℕ) → Canon [] (bytes n) (λ bs. bs) (Bytes n)
-unfolding bytes
+pub bytes-canon : (n : ℕ) → Canon [] (readBytes n) (λ bs. bs) (Bytes n)
+unfolding readBytes
 bytes-canon n = record { reads = λ s h. go s h (leb n (length s)) refl }
   where
     go : (s : List ℕ) → Each Byte s → (t : Bool) → leb n (length s) ≡ t → Was (λ bs. bs) (Bytes n) s (cond t (ok (take n s) (drop n s)) (bad truncated))
     go s h true e = (sym (take-append-drop n s), (length-take-le n s (leb-true n (length s) e), each-take n s h), each-drop n s h)
     go s h false e = tt
 
-pub num-canon : (n : ℕ) → Canon [] (num n) (bytesOf n) (λ v. v < 256 ^ n)
-unfolding num
+pub num-canon : (n : ℕ) → Canon [] (readNum n) (bytesOf n) (λ v. v < 256 ^ n)
+unfolding readNum
 num-canon n = canon-then (bytes-canon n) (λ bs h. canon-done (rw (← (h .0)) (sym (bytes-le bs (h .1)))) (rw (← (h .0)) (le-below bs (h .1))))
 
 abbrev pub one : ℕ → List ℕ
 one k = k ∷ []
 
-pub byte-canon : Canon [] (num 1) one Byte
+pub byte-canon : Canon [] (readNum 1) one Byte
 unfolding bytesOf
 byte-canon = canon-last (num-canon 1) (λ v h. (rw (mod-eq-of-lt h), h))
 
@@ -99,18 +99,18 @@ Blob bs = (length bs < 2 ^ 32) × T (isBytes bs)
 abbrev pub Text : List ℕ → Type 0
 Text bs = Blob bs × (utf8 bs ≡ true)
 
-pub blob-canon : Canon [] blob blobBytes Blob
-unfolding blob blobBytes
+pub blob-canon : Canon [] readBlob blobBytes Blob
+unfolding readBlob blobBytes
 blob-canon = canon-then (num-canon 4) (λ n h. canon-last (bytes-canon n) (λ bs w. (rw (w .0) refl, (rw (w .0) h, each-bytes bs (w .1)))))
 
-pub text-canon : Canon [] text blobBytes Text
-unfolding text
+pub text-canon : Canon [] readText blobBytes Text
+unfolding readText
 text-canon = canon-then blob-canon (λ bs h. canon-test (utf8 bs) bs badText refl (λ t. (h, t)))
 
 -- ---- counts and runs
 
-pub count-canon : (min : ℕ) → Canon [] (count min) (bytesOf 4) (λ n. n < 256 ^ 4)
-unfolding count
+pub count-canon : (min : ℕ) → Canon [] (readCount min) (bytesOf 4) (λ n. n < 256 ^ 4)
+unfolding readCount
 count-canon min = canon-then (num-canon 4) (λ n h. record { reads = λ s each. go n h s each (leb (n * min) (length s)) })
   where
     go : (n : ℕ) → n < 256 ^ 4 → (s : List ℕ) → Each Byte s → (t : Bool) → Was (bytesOf 4) (λ n. n < 256 ^ 4) (bytesOf 4 n ++ s) (cond t (ok n s) (bad truncated))
@@ -126,5 +126,5 @@ run-canon c zero = canon-done refl (refl, tt)
 run-canon c (suc n) = canon-then c (λ x h. canon-then (run-canon c n) (λ xs k. canon-done refl (ap suc (k .0), (h, k .1))))
 
 -- a count and as many items
-pub counted-canon : {A : Type 0} {p : Parser A} {f : A → List ℕ} {U : A → Type 0} (min : ℕ) → Canon [] p f U → Canon [] (count min >>= (λ n. many n p)) (λ xs. bytesOf 4 (length xs) ++ runBytes f xs) (λ xs. (length xs < 2 ^ 32) × Each U xs)
+pub counted-canon : {A : Type 0} {p : Parser A} {f : A → List ℕ} {U : A → Type 0} (min : ℕ) → Canon [] p f U → Canon [] (readCount min >>= (λ n. many n p)) (λ xs. bytesOf 4 (length xs) ++ runBytes f xs) (λ xs. (length xs < 2 ^ 32) × Each U xs)
 counted-canon min c = canon-then (count-canon min) (λ n h. canon-last (run-canon c n) (λ xs w. (rw (w .0) refl, (rw (w .0) h, w .1))))

@@ -13,8 +13,8 @@ use Rattle.model_text.specs.Printable.{isMarks}
 use Rattle.model_text.specs.Stamp.{takesStamp}
 use Rattle.model_frame.specs.Bytes.{le}
 use Rattle.model_frame.specs.Frame.{Fault, truncated, tooLong, Frame, Decoded, more, faulty, got}
-use Rattle.model_frame.specs.Parse.{Res, ok, bad, Parser, andThen, _>>=_, done, fail, bytes, num, blob, text, many}
-use Rattle.model_frame.specs.Reading.{maxBody, stamp, marks, setIncomingFields, setIncomingInFlightFields, setInFlightFields, recordMsgFields, recordBareFields, setCreatedAtFields, setMarksFields, readChange, appRecord, body, taken, decode}
+use Rattle.model_frame.specs.Parse.{Res, ok, bad, Parser, andThen, _>>=_, pure, fail, readBytes, readNum, readBlob, readText, many}
+use Rattle.model_frame.specs.Reading.{maxBody, readStamp, readMarks, setIncomingFields, setIncomingInFlightFields, setInFlightFields, recordMsgFields, recordBareFields, setCreatedAtFields, setMarksFields, readChange, readAppRecord, readBody, decodedAs, decode}
 use Rattle.model_frame.proofs.Sound.{more-got}
 
 pub record Grows {A : Type 0} (p : Parser A) : Type 0 where
@@ -22,7 +22,7 @@ pub record Grows {A : Type 0} (p : Parser A) : Type 0 where
 
 -- ---- each way to make a parser
 
-pub grow-done : {A : Type 0} {b : A} → Grows (done b)
+pub grow-done : {A : Type 0} {b : A} → Grows (pure b)
 grow-done = record { grows = λ s t e. cc }
 
 pub grow-fail : {A : Type 0} {e : Fault} → Grows {A = A} (fail e)
@@ -41,8 +41,8 @@ grow-then {A = A} {B = B} {p = p} {f = f} g k = record { grows = λ s t e. go s 
 
 -- ---- the parsers
 
-grow-bytes : (n : ℕ) → Grows (bytes n)
-unfolding bytes
+grow-bytes : (n : ℕ) → Grows (readBytes n)
+unfolding readBytes
 grow-bytes n = record { grows = λ s t e. go s t (leb n (length s)) refl e }
   where
     go :
@@ -54,16 +54,16 @@ grow-bytes n = record { grows = λ s t e. go s t (leb n (length s)) refl e }
         rw (le-leb n (length (s ++ t)) longer, take-append-le n s t fits, drop-append-le n s t fits) (cc)
     go s t false q e = cc
 
-pub grow-num : (n : ℕ) → Grows (num n)
-unfolding num
+pub grow-num : (n : ℕ) → Grows (readNum n)
+unfolding readNum
 grow-num n = grow-then (grow-bytes n) (λ bs. grow-done)
 
-grow-blob : Grows blob
-unfolding blob
+grow-blob : Grows readBlob
+unfolding readBlob
 grow-blob = grow-then (grow-num 4) grow-bytes
 
-grow-text : Grows text
-unfolding text
+grow-text : Grows readText
+unfolding readText
 grow-text = grow-then grow-blob (λ bs. grow-cond (utf8 bs) grow-done grow-fail)
 
 pub grow-many : {A : Type 0} {p : Parser A} → Grows p → (n : ℕ) → Grows (many n p)
@@ -71,12 +71,12 @@ unfolding many
 grow-many g zero = grow-done
 grow-many g (suc n) = grow-then g (λ x. grow-then (grow-many g n) (λ xs. grow-done))
 
-grow-stamp : (version : ℕ) → Grows (stamp version)
-unfolding stamp
+grow-stamp : (version : ℕ) → Grows (readStamp version)
+unfolding readStamp
 grow-stamp version = grow-then grow-text (λ t. grow-cond (takesStamp version t) grow-done grow-fail)
 
-grow-marks : Grows marks
-unfolding marks
+grow-marks : Grows readMarks
+unfolding readMarks
 grow-marks = grow-then grow-text (λ t. grow-cond (isMarks t) grow-done grow-fail)
 
 pub change-grows : (version : ℕ) → Grows (readChange version)
@@ -93,8 +93,8 @@ change-grows version =
     (grow-cond (eqb k 7) (grow-then (grow-stamp version) (λ t. grow-done))
     (grow-cond (eqb k 8) (grow-then grow-marks (λ t. grow-done)) grow-fail))))))))
 
-pub record-grows : Grows appRecord
-unfolding appRecord
+pub record-grows : Grows readAppRecord
+unfolding readAppRecord
 record-grows = grow-then (grow-num 2) (λ k. grow-then grow-blob (λ bs. grow-done))
 
 -- ---- the frame at the start of the bytes
@@ -108,7 +108,7 @@ decode-grows version w t = first (ltb (length w) 4) refl
     n = le (take 4 w)
 
     read : List ℕ → Decoded
-    read s = taken (4 + n) (body version (take n s))
+    read s = decodedAs (4 + n) (readBody version (take n s))
 
     after : (k : ℕ) (s : List ℕ) → Decoded
     after k s = cond (ltb maxBody n) (faulty (tooLong n)) (cond (ltb k n) more (read s))

@@ -5,12 +5,12 @@ use mathlib.Core.Path.{_≡_, refl}
 use mathlib.Core.List.{List, [], _∷_, _++_}
 use mathlib.Core.Option.{none, some}
 use Rattle.model_text.specs.Utf8.{utf8, wellFormed, leadLength, ownBits, least, fitting, isScalar, isSurrogate, isTail}
-use Rattle.model_text.specs.Printable.{isPlain, isPrintable, isMarks, isKey}
+use Rattle.model_text.specs.Printable.{isPrintableByte, isPrintable, isMarks, isKey}
 use Rattle.model_text.specs.Stamp.{isDigit, isPair, isStamp, takesStamp}
 use Rattle.model_frame.specs.Bytes.{le}
-use Rattle.model_frame.specs.Frame.{recordMsg, recordBare, reset, setCreatedAt, commit, whole, lastWhole, staleEpoch, hello, bind, batch, nack, bound, frameKind, part, refusal, change, tooLong, truncated, unknown, badText, badSession, badTimestamp, badMarks, number, Decoded, more, faulty, got}
-use Rattle.model_frame.specs.Parse.{bytes, num, blob, text, count, many}
-use Rattle.model_frame.specs.Reading.{stamp, stampOrNone, marks, setIncomingFields, setIncomingInFlightFields, setInFlightFields, recordMsgFields, recordBareFields, setCreatedAtFields, setMarksFields, readChange, changes, kinds, appRecord, appRecords, partByte, reason, key, summary, helloFields, welcomeFields, bindFields, batchFields, ackFields, nackFields, boundFields, checkedFields, fields, body, decode}
+use Rattle.model_frame.specs.Frame.{recordMsg, recordBare, reset, setCreatedAt, commit, whole, lastWhole, staleEpoch, hello, bind, batch, nack, bound, frameKind, part, refusal, change, tooLong, truncated, unknown, badText, badSession, badTimestamp, badMarks, faultNumber, Decoded, more, faulty, got}
+use Rattle.model_frame.specs.Parse.{readBytes, readNum, readBlob, readText, readCount, many}
+use Rattle.model_frame.specs.Reading.{readStamp, readStampOrNone, readMarks, setIncomingFields, setIncomingInFlightFields, setInFlightFields, recordMsgFields, recordBareFields, setCreatedAtFields, setMarksFields, readChange, readChanges, readKinds, readAppRecord, readAppRecords, readPart, readReason, readKey, readSummary, helloFields, welcomeFields, bindFields, batchFields, ackFields, nackFields, boundFields, checkedFields, readFields, readBody, decode}
 
 pub record Point : Type 0 where
   pub input : List ℕ
@@ -23,7 +23,7 @@ point s d n = record { input = s; says = d; refused = n }
 -- what reading answers, with the number of a refusal
 abbrev pub answer : Decoded → Decoded × ℕ
 answer more = (more, 0)
-answer (faulty e) = (faulty e, number e)
+answer (faulty e) = (faulty e, faultNumber e)
 answer (got f n) = (got f n, 0)
 
 abbrev pub answered : List Point → List (Decoded × ℕ)
@@ -107,5 +107,5 @@ nearby =
     ∷ []
 
 pub points : answered (starred ++ nearby) ≡ expected (starred ++ nearby)
-unfolding decode le num bytes blob text count many body fields helloFields welcomeFields bindFields batchFields ackFields nackFields boundFields checkedFields kinds changes readChange setIncomingFields setIncomingInFlightFields setInFlightFields recordMsgFields recordBareFields setCreatedAtFields setMarksFields appRecords appRecord partByte reason key summary stamp stampOrNone marks utf8 wellFormed leadLength ownBits least fitting isScalar isSurrogate isTail isPlain isPrintable isMarks isKey isDigit isPair isStamp takesStamp
+unfolding decode le readNum readBytes readBlob readText readCount many readBody readFields helloFields welcomeFields bindFields batchFields ackFields nackFields boundFields checkedFields readKinds readChanges readChange setIncomingFields setIncomingInFlightFields setInFlightFields recordMsgFields recordBareFields setCreatedAtFields setMarksFields readAppRecords readAppRecord readPart readReason readKey readSummary readStamp readStampOrNone readMarks utf8 wellFormed leadLength ownBits least fitting isScalar isSurrogate isTail isPrintableByte isPrintable isMarks isKey isDigit isPair isStamp takesStamp
 points = refl

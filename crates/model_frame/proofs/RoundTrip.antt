@@ -14,8 +14,8 @@ use Rattle.model_text.specs.Printable.{isMarks, isKey}
 use Rattle.model_text.specs.Stamp.{takesStamp}
 use Rattle.model_frame.specs.Bytes.{le, bytesOf}
 use Rattle.model_frame.specs.Frame.{Key, Change, setIncoming, setIncomingInFlight, setInFlight, recordMsg, recordBare, reset, setCreatedAt, setMarks, Part, commit, whole, lastWhole, Reason, staleEpoch, diverged, lagTooGreat, restarted, AppRecord, Summary, Frame, hello, welcome, bind, batch, ack, nack, bound, checked, got}
-use Rattle.model_frame.specs.Parse.{isEmpty, ok, num, many, runBytes, Each}
-use Rattle.model_frame.specs.Reading.{maxBody, stamp, stampOrNone, marks, setIncomingFields, setIncomingInFlightFields, setInFlightFields, recordMsgFields, recordBareFields, setCreatedAtFields, setMarksFields, readChange, changes, kinds, appRecord, appRecords, partByte, reason, key, flight, summary, helloFields, welcomeFields, bindFields, batchFields, ackFields, nackFields, boundFields, checkedFields, fields, body, decode}
+use Rattle.model_frame.specs.Parse.{isEmpty, ok, readNum, many, runBytes, Each}
+use Rattle.model_frame.specs.Reading.{maxBody, readStamp, readStampOrNone, readMarks, setIncomingFields, setIncomingInFlightFields, setInFlightFields, recordMsgFields, recordBareFields, setCreatedAtFields, setMarksFields, readChange, readChanges, readKinds, readAppRecord, readAppRecords, readPart, readReason, readKey, flight, readSummary, helloFields, welcomeFields, bindFields, batchFields, ackFields, nackFields, boundFields, checkedFields, readFields, readBody, decode}
 use Rattle.model_frame.specs.Writing.{blobBytes, changeBytes, appRecordBytes, partNumber, reasonNumber, flightNumber, keyBytes, summaryBytes, bodyBytes, encode, fineChange, allFine, fineKey, fineSummary, fine, RangedChange, RangedRecord, RangedKey, RangedSummary, Ranged, Writable, noZero, shown, NoZeroFlight, Sendable}
 use Rattle.model_frame.proofs.Le.{length-bytes, le-bytes}
 use Rattle.model_frame.proofs.Back.{num-back, byte-back, blob-back, text-back, count-back, run-back, run-long}
@@ -32,12 +32,12 @@ and-right false false e = e
 
 -- ---- the changes
 
-stamp-back : (version : ℕ) (t rest : List ℕ) → length t < 2 ^ 32 → (utf8 t && takesStamp version t) ≡ true → stamp version (blobBytes t ++ rest) ≡ ok t rest
-unfolding stamp
+stamp-back : (version : ℕ) (t rest : List ℕ) → length t < 2 ^ 32 → (utf8 t && takesStamp version t) ≡ true → readStamp version (blobBytes t ++ rest) ≡ ok t rest
+unfolding readStamp
 stamp-back version t rest h e = rw (text-back t rest h (and-left (utf8 t) (takesStamp version t) e), and-right (utf8 t) (takesStamp version t) e)
 
-marks-back : (t rest : List ℕ) → length t < 2 ^ 32 → (utf8 t && isMarks t) ≡ true → marks (blobBytes t ++ rest) ≡ ok t rest
-unfolding marks
+marks-back : (t rest : List ℕ) → length t < 2 ^ 32 → (utf8 t && isMarks t) ≡ true → readMarks (blobBytes t ++ rest) ≡ ok t rest
+unfolding readMarks
 marks-back t rest h e = rw (text-back t rest h (and-left (utf8 t) (isMarks t) e), and-right (utf8 t) (isMarks t) e)
 
 pub change-back : (version : ℕ) (c : Change) (rest : List ℕ) → Sendable version c → readChange version (changeBytes c ++ rest) ≡ ok c rest
@@ -73,8 +73,8 @@ changes-back version cs rest h = run-back (readChange version) changeBytes (Send
 
 counted-changes-back :
     (version : ℕ) (cs : List Change) (rest : List ℕ) → length cs < 2 ^ 32 → Each (Sendable version) cs →
-    changes version (bytesOf 4 (length cs) ++ (runBytes changeBytes cs ++ rest)) ≡ ok cs rest
-unfolding changes
+    readChanges version (bytesOf 4 (length cs) ++ (runBytes changeBytes cs ++ rest)) ≡ ok cs rest
+unfolding readChanges
 counted-changes-back version cs rest h each =
     let fits : length cs * 1 ≤ length (runBytes changeBytes cs ++ rest) =
     omega (arith, run-long changeBytes 1 change-long cs, length-append (runBytes changeBytes cs) rest) in
@@ -82,44 +82,44 @@ counted-changes-back version cs rest h each =
 
 -- ---- parts of frames
 
-kinds-back : (ks rest : List ℕ) → length ks < 2 ^ 32 → Each (λ (n : ℕ). n < 2 ^ 16) ks → kinds (bytesOf 4 (length ks) ++ (runBytes (bytesOf 2) ks ++ rest)) ≡ ok ks rest
-unfolding kinds
+kinds-back : (ks rest : List ℕ) → length ks < 2 ^ 32 → Each (λ (n : ℕ). n < 2 ^ 16) ks → readKinds (bytesOf 4 (length ks) ++ (runBytes (bytesOf 2) ks ++ rest)) ≡ ok ks rest
+unfolding readKinds
 kinds-back ks rest h each =
     let two : (n : ℕ) → 2 ≤ length (bytesOf 2 n) = λ n. omega (arith, length-bytes 2 n) in
     let fits : length ks * 2 ≤ length (runBytes (bytesOf 2) ks ++ rest) =
     omega (arith, run-long (bytesOf 2) 2 two ks, length-append (runBytes (bytesOf 2) ks) rest) in
-    rw (count-back 2 (length ks) (runBytes (bytesOf 2) ks ++ rest) h fits, run-back (num 2) (bytesOf 2) (λ (n : ℕ). n < 2 ^ 16) (λ n rest h. num-back 2 n rest h) ks rest each)
+    rw (count-back 2 (length ks) (runBytes (bytesOf 2) ks ++ rest) h fits, run-back (readNum 2) (bytesOf 2) (λ (n : ℕ). n < 2 ^ 16) (λ n rest h. num-back 2 n rest h) ks rest each)
 
-record-back : (r : AppRecord) (rest : List ℕ) → RangedRecord r → appRecord (appRecordBytes r ++ rest) ≡ ok r rest
-unfolding appRecord appRecordBytes
+record-back : (r : AppRecord) (rest : List ℕ) → RangedRecord r → readAppRecord (appRecordBytes r ++ rest) ≡ ok r rest
+unfolding readAppRecord appRecordBytes
 record-back r rest h = rw (append-assoc, num-back 2 (r .kind) _ (h .0), blob-back (r .blob) rest (h .1))
 
 record-long : (r : AppRecord) → 6 ≤ length (appRecordBytes r)
 unfolding appRecordBytes blobBytes
 record-long r = simp (length-append, length-bytes) (omega arith)
 
-records-back : (rs : List AppRecord) (rest : List ℕ) → length rs < 2 ^ 32 → Each RangedRecord rs → appRecords (bytesOf 4 (length rs) ++ (runBytes appRecordBytes rs ++ rest)) ≡ ok rs rest
-unfolding appRecords
+records-back : (rs : List AppRecord) (rest : List ℕ) → length rs < 2 ^ 32 → Each RangedRecord rs → readAppRecords (bytesOf 4 (length rs) ++ (runBytes appRecordBytes rs ++ rest)) ≡ ok rs rest
+unfolding readAppRecords
 records-back rs rest h each =
     let fits : length rs * 6 ≤ length (runBytes appRecordBytes rs ++ rest) =
     omega (arith, run-long appRecordBytes 6 record-long rs, length-append (runBytes appRecordBytes rs) rest) in
-    rw (count-back 6 (length rs) (runBytes appRecordBytes rs ++ rest) h fits, run-back appRecord appRecordBytes RangedRecord record-back rs rest each)
+    rw (count-back 6 (length rs) (runBytes appRecordBytes rs ++ rest) h fits, run-back readAppRecord appRecordBytes RangedRecord record-back rs rest each)
 
-part-back : (p : Part) (rest : List ℕ) → partByte (partNumber p ∷ rest) ≡ ok p rest
-unfolding partByte
+part-back : (p : Part) (rest : List ℕ) → readPart (partNumber p ∷ rest) ≡ ok p rest
+unfolding readPart
 part-back commit rest = rw byte-back
 part-back whole rest = rw byte-back
 part-back lastWhole rest = rw byte-back
 
-reason-back : (r : Reason) (rest : List ℕ) → reason (reasonNumber r ∷ rest) ≡ ok r rest
-unfolding reason
+reason-back : (r : Reason) (rest : List ℕ) → readReason (reasonNumber r ∷ rest) ≡ ok r rest
+unfolding readReason
 reason-back staleEpoch rest = rw byte-back
 reason-back diverged rest = rw byte-back
 reason-back lagTooGreat rest = rw byte-back
 reason-back restarted rest = rw byte-back
 
-key-back : (k : Key) (rest : List ℕ) → RangedKey k → fineKey k ≡ true → key (keyBytes k ++ rest) ≡ ok k rest
-unfolding key keyBytes fineKey
+key-back : (k : Key) (rest : List ℕ) → RangedKey k → fineKey k ≡ true → readKey (keyBytes k ++ rest) ≡ ok k rest
+unfolding readKey keyBytes fineKey
 key-back k rest r e =
     let judged = isKey (k .begin) (k .sender) (k .target) (k .suffix) in
     let e₁ = and-right (utf8 (k .begin)) (utf8 (k .sender) && (utf8 (k .target) && (utf8 (k .suffix) && judged))) e in
@@ -128,8 +128,8 @@ key-back k rest r e =
     simp append-assoc
     (rw (text-back (k .begin) _ (r .begin-u32) (and-left (utf8 (k .begin)) _ e), text-back (k .sender) _ (r .sender-u32) (and-left (utf8 (k .sender)) _ e₁), text-back (k .target) _ (r .target-u32) (and-left (utf8 (k .target)) _ e₂), text-back (k .suffix) rest (r .suffix-u32) (and-left (utf8 (k .suffix)) judged e₃), and-right (utf8 (k .suffix)) judged e₃))
 
-stamp-or-none-back : (version : ℕ) (t rest : List ℕ) → length t < 2 ^ 32 → (utf8 t && (isEmpty t || takesStamp version t)) ≡ true → stampOrNone version (blobBytes t ++ rest) ≡ ok t rest
-unfolding stampOrNone
+stamp-or-none-back : (version : ℕ) (t rest : List ℕ) → length t < 2 ^ 32 → (utf8 t && (isEmpty t || takesStamp version t)) ≡ true → readStampOrNone version (blobBytes t ++ rest) ≡ ok t rest
+unfolding readStampOrNone
 stamp-or-none-back version t rest h e =
     rw (text-back t rest h (and-left (utf8 t) (isEmpty t || takesStamp version t) e), and-right (utf8 t) (isEmpty t || takesStamp version t) e)
 
@@ -150,8 +150,8 @@ shownSummary m =
       lastOutgoing = m .lastOutgoing;
     }
 
-summary-back : (version : ℕ) (m : Summary) (rest : List ℕ) → RangedSummary m → fineSummary version m ≡ true → summary version (summaryBytes m ++ rest) ≡ ok (shownSummary m) rest
-unfolding summary summaryBytes fineSummary
+summary-back : (version : ℕ) (m : Summary) (rest : List ℕ) → RangedSummary m → fineSummary version m ≡ true → readSummary version (summaryBytes m ++ rest) ≡ ok (shownSummary m) rest
+unfolding readSummary summaryBytes fineSummary
 summary-back version m rest r e =
     let stamped = utf8 (m .stampText) && (isEmpty (m .stampText) || takesStamp version (m .stampText)) in
     let marked = utf8 (m .marksText) && isMarks (m .marksText) in
@@ -160,8 +160,8 @@ summary-back version m rest r e =
 
 -- ---- the frames
 
-fields-back : (version : ℕ) (f : Frame) (rest : List ℕ) → Ranged f → fine version f ≡ true → fields version (bodyBytes f ++ rest) ≡ ok (shown f) rest
-unfolding fields bodyBytes fine helloFields welcomeFields bindFields batchFields ackFields nackFields boundFields checkedFields
+fields-back : (version : ℕ) (f : Frame) (rest : List ℕ) → Ranged f → fine version f ≡ true → readFields version (bodyBytes f ++ rest) ≡ ok (shown f) rest
+unfolding readFields bodyBytes fine helloFields welcomeFields bindFields batchFields ackFields nackFields boundFields checkedFields
 fields-back version (hello v e node ks) rest r t =
     simp append-assoc (rw (byte-back, num-back 2 v _ (r .0), num-back 8 e _ (r .1), text-back node _ (r .2) t, kinds-back ks rest (r .3) (r .4)))
 fields-back version (welcome e i) rest r t = rw (append-assoc, byte-back, num-back 8 e _ (r .0), num-back 8 i rest (r .1))
@@ -176,10 +176,10 @@ fields-back version (bound h m) rest r t = rw (append-assoc, byte-back, num-back
 fields-back version (checked h e i) rest r t =
     simp append-assoc (rw (byte-back, num-back 4 h _ (r .0), num-back 8 e _ (r .1), num-back 8 i rest (r .2)))
 
-body-back : (version : ℕ) (f : Frame) → Ranged f → fine version f ≡ true → body version (bodyBytes f) ≡ ok (shown f) []
-unfolding body
+body-back : (version : ℕ) (f : Frame) → Ranged f → fine version f ≡ true → readBody version (bodyBytes f) ≡ ok (shown f) []
+unfolding readBody
 body-back version f r t =
-    let e : fields version (bodyBytes f) ≡ ok (shown f) [] = rw append-nil at (fields-back version f [] r t) in
+    let e : readFields version (bodyBytes f) ≡ ok (shown f) [] = rw append-nil at (fields-back version f [] r t) in
     rw e
 
 -- the length that stands in front of a body

@@ -10,7 +10,7 @@ use lib.ListN.{length, drop, length-append}
 use lib.Seq.{drop-at, drop-drop}
 use Rattle.model_frame.specs.Bytes.{isBytes}
 use Rattle.model_frame.specs.Frame.{Change, setIncoming, setIncomingInFlight, setInFlight, recordMsg, recordBare, reset, setCreatedAt, setMarks}
-use Rattle.model_frame.specs.Parse.{Res, ok, bad, bytes, num, many, onto, collect, runBytes, Each}
+use Rattle.model_frame.specs.Parse.{Res, ok, bad, readBytes, readNum, many, itemThen, collect, runBytes, Each}
 use Rattle.model_frame.specs.Reading.{readChange}
 use Rattle.model_frame.specs.Writing.{changeBytes, sizeOf, sizes, allFine, RangedChange, Sendable}
 use Rattle.model_frame.proofs.RoundTrip.{change-back, changes-back, each-sendable}
@@ -77,7 +77,7 @@ module _ (version : ℕ) where
   collect-run (c ∷ cs) rest n h = rw (suc-add, append-assoc, change-back version c (runBytes changeBytes cs ++ rest) (h .0), collect-run cs rest n (h .1))
 
   pub collect-empty : (n : ℕ) → collect n (readChange version) [] ≡ []
-  unfolding collect readChange num bytes
+  unfolding collect readChange readNum readBytes
   collect-empty zero = refl
   collect-empty (suc n) = refl
 
@@ -112,7 +112,7 @@ module _ (version : ℕ) where
     where
       go :
           ((t : List ℕ) → T (isBytes t) → Stands version t (collect n (readChange version) t)) → (r : Res Change) → readChange version s ≡ r →
-          Stands version s (onto r (collect n (readChange version)))
+          Stands version s (itemThen r (collect n (readChange version)))
       go next (bad x) e = record { taken = tt; front = refl }
       go next (ok c t) e =
           let q = change-sound version s h e in
@@ -131,7 +131,7 @@ module _ (version : ℕ) where
     where
       go :
           ((t : List ℕ) → T (isBytes t) → length t ≤ n → length t ≤ m → collect n (readChange version) t ≡ collect m (readChange version) t) → (r : Res Change) →
-          readChange version s ≡ r → onto r (collect n (readChange version)) ≡ onto r (collect m (readChange version))
+          readChange version s ≡ r → itemThen r (collect n (readChange version)) ≡ itemThen r (collect m (readChange version))
       go next (bad e) k = refl
       go next (ok c t) k =
           let l = change-shorter s h k in

@@ -15,7 +15,7 @@ use Rattle.model_text.specs.Stamp.{takesStamp}
 use Rattle.model_frame.specs.Bytes.{isBytes, le, bytesOf}
 use Rattle.model_frame.specs.Frame.{Key, AppRecord, Summary, Frame, Fault, tooLong, truncated, badSession, badTimestamp, more, faulty, got}
 use Rattle.model_frame.specs.Parse.{isEmpty, Res, ok, bad, andThen, runBytes, Each}
-use Rattle.model_frame.specs.Reading.{maxBody, stampOrNone, changes, kinds, appRecord, appRecords, partByte, reason, key, flight, summary, helloFields, welcomeFields, bindFields, batchFields, ackFields, nackFields, boundFields, checkedFields, fields, atEnd, body, taken, decode}
+use Rattle.model_frame.specs.Reading.{maxBody, readStampOrNone, readChanges, readKinds, readAppRecord, readAppRecords, readPart, readReason, readKey, flight, readSummary, helloFields, welcomeFields, bindFields, batchFields, ackFields, nackFields, boundFields, checkedFields, readFields, atEnd, readBody, decodedAs, decode}
 use Rattle.model_frame.specs.Writing.{blobBytes, changeBytes, appRecordBytes, partNumber, reasonNumber, flightNumber, keyBytes, summaryBytes, bodyBytes, encode, fineKey, fineSummary, fine, RangedRecord, RangedKey, RangedSummary, Ranged, Writable, NoZeroFlight, ByteRecord, ByteKey, ByteSummary, ByteFrame}
 use Rattle.model_frame.proofs.Le.{Byte, bytes-each, each-take, each-drop, bytes-le}
 use Rattle.model_frame.proofs.Canon.{Was, Canon, canon-done, canon-fail, canon-test, canon-row, canon-then, num-canon, byte-canon, blob-canon, text-canon, counted-canon, Blob}
@@ -23,28 +23,28 @@ use Rattle.model_frame.proofs.SoundChange.{both, TakenChange, marks-can
 
 -- ---- parts of frames
 
-kinds-canon : Canon [] kinds (λ ks. bytesOf 4 (length ks) ++ runBytes (bytesOf 2) ks) (λ ks. (length ks < 2 ^ 32) × Each (λ (n : ℕ). n < 2 ^ 16) ks)
-unfolding kinds
+kinds-canon : Canon [] readKinds (λ ks. bytesOf 4 (length ks) ++ runBytes (bytesOf 2) ks) (λ ks. (length ks < 2 ^ 32) × Each (λ (n : ℕ). n < 2 ^ 16) ks)
+unfolding readKinds
 kinds-canon = counted-canon 2 (num-canon 2)
 
-changes-canon : (version : ℕ) → Canon [] (changes version) (λ cs. bytesOf 4 (length cs) ++ runBytes changeBytes cs) (λ cs. (length cs < 2 ^ 32) × Each (TakenChange version) cs)
-unfolding changes
+changes-canon : (version : ℕ) → Canon [] (readChanges version) (λ cs. bytesOf 4 (length cs) ++ runBytes changeBytes cs) (λ cs. (length cs < 2 ^ 32) × Each (TakenChange version) cs)
+unfolding readChanges
 changes-canon version = counted-canon 1 (change-canon version)
 
-pub record-canon : Canon [] appRecord appRecordBytes (λ r. RangedRecord r × ByteRecord r)
-unfolding appRecord appRecordBytes
+pub record-canon : Canon [] readAppRecord appRecordBytes (λ r. RangedRecord r × ByteRecord r)
+unfolding readAppRecord appRecordBytes
 record-canon = canon-then (num-canon 2) (λ k h. canon-then blob-canon (λ bs w. canon-done refl ((h, w .0), w .1)))
 
-records-canon : Canon [] appRecords (λ rs. bytesOf 4 (length rs) ++ runBytes appRecordBytes rs) (λ rs. (length rs < 2 ^ 32) × Each (λ (r : AppRecord). RangedRecord r × ByteRecord r) rs)
-unfolding appRecords
+records-canon : Canon [] readAppRecords (λ rs. bytesOf 4 (length rs) ++ runBytes appRecordBytes rs) (λ rs. (length rs < 2 ^ 32) × Each (λ (r : AppRecord). RangedRecord r × ByteRecord r) rs)
+unfolding readAppRecords
 records-canon = counted-canon 6 record-canon
 
-part-canon : Canon [] partByte (λ p. partNumber p ∷ []) (λ p. Unit {0})
-unfolding partByte
+part-canon : Canon [] readPart (λ p. partNumber p ∷ []) (λ p. Unit {0})
+unfolding readPart
 part-canon = canon-then byte-canon (λ k h. canon-row 0 (canon-done refl tt) (canon-row 1 (canon-done refl tt) (canon-row 2 (canon-done refl tt) canon-fail)))
 
-reason-canon : Canon [] reason (λ r. reasonNumber r ∷ []) (λ r. Unit {0})
-unfolding reason
+reason-canon : Canon [] readReason (λ r. reasonNumber r ∷ []) (λ r. Unit {0})
+unfolding readReason
 reason-canon =
     canon-then byte-canon
     (λ k h. canon-row 1 (canon-done refl tt) (canon-row 2 (canon-done refl tt) (canon-row 3 (canon-done refl tt) (canon-row 4 (canon-done refl tt) canon-fail))))
@@ -52,8 +52,8 @@ reason-canon =
 abbrev TakenKey : Key → Type 0
 TakenKey k = RangedKey k × (fineKey k ≡ true) × ByteKey k
 
-key-canon : Canon [] key keyBytes TakenKey
-unfolding key keyBytes fineKey
+key-canon : Canon [] readKey keyBytes TakenKey
+unfolding readKey keyBytes fineKey
 key-canon =
     canon-then text-canon
     (λ b hb. canon-then text-canon
@@ -66,8 +66,8 @@ key-canon =
       (hb .0 .1, hs .0 .1, ht .0 .1, hx .0 .1),
     ))))))
 
-stamp-or-none-canon : (version : ℕ) → Canon [] (stampOrNone version) blobBytes (λ t. Blob t × ((utf8 t && (isEmpty t || takesStamp version t)) ≡ true))
-unfolding stampOrNone
+stamp-or-none-canon : (version : ℕ) → Canon [] (readStampOrNone version) blobBytes (λ t. Blob t × ((utf8 t && (isEmpty t || takesStamp version t)) ≡ true))
+unfolding readStampOrNone
 stamp-or-none-canon version = canon-then text-canon (λ t h. canon-test (isEmpty t || takesStamp version t) t badTimestamp refl (λ e. (h .0, both (h .1) e)))
 
 -- an in-flight number is written as it was read, and is not 0
@@ -90,8 +90,8 @@ flight-some n = go (eqb n 0) refl
 abbrev TakenSummary : ℕ → Summary → Type 0
 TakenSummary version m = RangedSummary m × (fineSummary version m ≡ true) × ByteSummary m × (m .inFlight ≡ some 0 → ⊥)
 
-summary-canon : (version : ℕ) → Canon [] (summary version) summaryBytes (TakenSummary version)
-unfolding summary summaryBytes fineSummary
+summary-canon : (version : ℕ) → Canon [] (readSummary version) summaryBytes (TakenSummary version)
+unfolding readSummary summaryBytes fineSummary
 summary-canon version =
     canon-then (num-canon 8)
     (λ o ho. canon-then (num-canon 8)
@@ -187,8 +187,8 @@ module _ (version : ℕ) where
       canon-then (num-canon 4)
       (λ h hh. canon-then (num-canon 8) (λ e he. canon-then (num-canon 8) (λ i hi. canon-done refl (record { ranged = (hh, he, hi); texts = refl; blobs = tt; flight = tt }))))
 
-  fields-canon : Canon [] (fields version) bodyBytes (TakenFrame version)
-  unfolding fields
+  fields-canon : Canon [] (readFields version) bodyBytes (TakenFrame version)
+  unfolding readFields
   fields-canon =
       canon-then byte-canon
       (λ k h.
@@ -201,18 +201,18 @@ module _ (version : ℕ) where
       (canon-row 7 bound-canon
       (canon-row 8 checked-canon canon-fail))))))))
 
-  pub body-end : (s : List ℕ) {f : Frame} {t : List ℕ} → body version s ≡ ok f t → t ≡ []
-  unfolding body
-  body-end s {f} {t} = go (fields version s)
+  pub body-end : (s : List ℕ) {f : Frame} {t : List ℕ} → readBody version s ≡ ok f t → t ≡ []
+  unfolding readBody
+  body-end s {f} {t} = go (readFields version s)
     where
       go : (r : Res Frame) → andThen r atEnd ≡ ok f t → t ≡ []
       go (ok a []) e = cc
       go (ok a (x ∷ xs)) e = cc
       go (bad x) e = cc
 
-  pub body-sound : (s : List ℕ) {f : Frame} {t : List ℕ} → Each Byte s → body version s ≡ ok f t → (s ≡ bodyBytes f) × TakenFrame version f
-  unfolding body
-  body-sound s {f} {t} h = go (fields version s) (fields-canon .reads s h)
+  pub body-sound : (s : List ℕ) {f : Frame} {t : List ℕ} → Each Byte s → readBody version s ≡ ok f t → (s ≡ bodyBytes f) × TakenFrame version f
+  unfolding readBody
+  body-sound s {f} {t} h = go (readFields version s) (fields-canon .reads s h)
     where
       go : (r : Res Frame) → Was bodyBytes (TakenFrame version) s r → andThen r atEnd ≡ ok f t → (s ≡ bodyBytes f) × TakenFrame version f
       go (ok a []) w e =
@@ -235,7 +235,7 @@ pub record Taking (version : ℕ) (w : List ℕ) (f : Frame) (used : ℕ) : Type
   pub small : le (take 4 w) ≤ maxBody
   pub fits : le (take 4 w) ≤ length w - 4
   pub counted : used ≡ 4 + le (take 4 w)
-  pub whole : body version (take (le (take 4 w)) (drop 4 w)) ≡ ok f []
+  pub whole : readBody version (take (le (take 4 w)) (drop 4 w)) ≡ ok f []
 
 pub more-got : {f : Frame} {n : ℕ} → more ≡ got f n → ⊥
 more-got e =
@@ -249,7 +249,7 @@ faulty-got e =
 
 pub decode-taking : (version : ℕ) (w : List ℕ) {f : Frame} {used : ℕ} → decode version w ≡ got f used → Taking version w f used
 unfolding decode
-decode-taking version w {f} {used} = go (ltb (length w) 4) (ltb maxBody n) (ltb (length w - 4) n) (body version s) refl refl refl refl
+decode-taking version w {f} {used} = go (ltb (length w) 4) (ltb maxBody n) (ltb (length w - 4) n) (readBody version s) refl refl refl refl
   where
     n : ℕ
     n = le (take 4 w)
@@ -258,8 +258,8 @@ decode-taking version w {f} {used} = go (ltb (length w) 4) (ltb maxBody n) (ltb 
     s = take n (drop 4 w)
 
     go :
-        (a b c : Bool) (r : Res Frame) → ltb (length w) 4 ≡ a → ltb maxBody n ≡ b → ltb (length w - 4) n ≡ c → body version s ≡ r →
-        cond a more (cond b (faulty (tooLong n)) (cond c more (taken (4 + n) r))) ≡ got f used → Taking version w f used
+        (a b c : Bool) (r : Res Frame) → ltb (length w) 4 ≡ a → ltb maxBody n ≡ b → ltb (length w - 4) n ≡ c → readBody version s ≡ r →
+        cond a more (cond b (faulty (tooLong n)) (cond c more (decodedAs (4 + n) r))) ≡ got f used → Taking version w f used
     go true b c r p q x y e = absurd (more-got e)
     go false true c r p q x y e = absurd (faulty-got e)
     go false false true r p q x y e = absurd (more-got e)

@@ -9,8 +9,8 @@ use Rattle.model_text.specs.Printable.{isMarks}
 use Rattle.model_text.specs.Stamp.{takesStamp}
 use Rattle.model_frame.specs.Bytes.{isBytes}
 use Rattle.model_frame.specs.Frame.{Change, reset, badTimestamp, badMarks}
-use Rattle.model_frame.specs.Parse.{ok, done, many, runBytes, Each}
-use Rattle.model_frame.specs.Reading.{stamp, marks, setIncomingFields, setIncomingInFlightFields, setInFlightFields, recordMsgFields, recordBareFields, setCreatedAtFields, setMarksFields, readChange}
+use Rattle.model_frame.specs.Parse.{ok, pure, many, runBytes, Each}
+use Rattle.model_frame.specs.Reading.{readStamp, readMarks, setIncomingFields, setIncomingInFlightFields, setInFlightFields, recordMsgFields, recordBareFields, setCreatedAtFields, setMarksFields, readChange}
 use Rattle.model_frame.specs.Writing.{blobBytes, changeBytes, allFine, RangedChange, ByteChange, Sendable}
 use Rattle.model_frame.proofs.Le.{bytes-each, each-bytes}
 use Rattle.model_frame.proofs.Canon.{Was, Canon, canon-done, canon-fail, canon-test, canon-row, canon-then, num-canon, byte-canon, blob-canon, text-canon, run-canon, Blob, Run}
@@ -22,12 +22,12 @@ both p q = rw (p, q)
 abbrev pub TakenChange : ℕ → Change → Type 0
 TakenChange version c = Sendable version c × ByteChange c
 
-stamp-canon : (version : ℕ) → Canon [] (stamp version) blobBytes (λ t. Blob t × ((utf8 t && takesStamp version t) ≡ true))
-unfolding stamp
+stamp-canon : (version : ℕ) → Canon [] (readStamp version) blobBytes (λ t. Blob t × ((utf8 t && takesStamp version t) ≡ true))
+unfolding readStamp
 stamp-canon version = canon-then text-canon (λ t h. canon-test (takesStamp version t) t badTimestamp refl (λ e. (h .0, both (h .1) e)))
 
-pub marks-canon : Canon [] marks blobBytes (λ t. Blob t × ((utf8 t && isMarks t) ≡ true))
-unfolding marks
+pub marks-canon : Canon [] readMarks blobBytes (λ t. Blob t × ((utf8 t && isMarks t) ≡ true))
+unfolding readMarks
 marks-canon = canon-then text-canon (λ t h. canon-test (isMarks t) t badMarks refl (λ e. (h .0, both (h .1) e)))
 
 module _ (version : ℕ) where
@@ -51,7 +51,7 @@ module _ (version : ℕ) where
   unfolding recordBareFields changeBytes
   record-bare-canon = canon-then (num-canon 8) (λ n h. canon-done refl ((h, refl), tt))
 
-  reset-canon : Canon (6 ∷ []) (done reset) changeBytes (TakenChange version)
+  reset-canon : Canon (6 ∷ []) (pure reset) changeBytes (TakenChange version)
   unfolding changeBytes
   reset-canon = canon-done refl ((tt, refl), tt)
 

@@ -2,6 +2,7 @@
 use Prim.Native.Nat.{ℕ}
 use mathlib.Core.List.{List}
 use mathlib.Core.Option.{Option}
+use Rattle.model_frame.specs.Refusal
 
 -- the four texts of a session's key
 pub record Key : Type 0 where
@@ -70,14 +71,14 @@ pub data Fault : Type 0 where
   badText badSession badTimestamp badMarks : Fault
 
 -- document 01's number of a fault
-abbrev pub number : Fault → ℕ
-number (tooLong n) = 1
-number truncated = 2
-number (unknown f n) = 3
-number badText = 4
-number badSession = 5
-number badTimestamp = 6
-number badMarks = 7
+abbrev pub faultNumber : Fault → ℕ
+faultNumber (tooLong n) = Refusal.tooLong
+faultNumber truncated = Refusal.truncated
+faultNumber (unknown f n) = Refusal.unknownByte
+faultNumber badText = Refusal.badText
+faultNumber badSession = Refusal.badSession
+faultNumber badTimestamp = Refusal.badTimestamp
+faultNumber badMarks = Refusal.badMarks
 
 -- what the reader says of bytes: more needed, the first fault, or a frame and how many bytes it took
 pub data Decoded : Type 0 where

@@ -33,44 +33,44 @@ andThen (bad e) f = bad e
 abbrev pub _>>=_ : {A B : Type 0} → Parser A → (A → Parser B) → Parser B
 _>>=_ p f s = andThen (p s) f
 
-abbrev pub done : {A : Type 0} → A → Parser A
-done a s = ok a s
+abbrev pub pure : {A : Type 0} → A → Parser A
+pure a s = ok a s
 
 abbrev pub fail : {A : Type 0} → Fault → Parser A
 fail e s = bad e
 
 -- n bytes; a number of n bytes; a blob; a text
-unfoldable pub bytes : ℕ → Parser (List ℕ)
-bytes n s = cond (leb n (length s)) (ok (take n s) (drop n s)) (bad truncated)
+unfoldable pub readBytes : ℕ → Parser (List ℕ)
+readBytes n s = cond (leb n (length s)) (ok (take n s) (drop n s)) (bad truncated)
 
-unfoldable pub num : ℕ → Parser ℕ
-num n = do
-  bs ← bytes n
-  done (le bs)
+unfoldable pub readNum : ℕ → Parser ℕ
+readNum n = do
+  bs ← readBytes n
+  pure (le bs)
 
-unfoldable pub blob : Parser (List ℕ)
-blob = do
-  n ← num 4
-  bytes n
+unfoldable pub readBlob : Parser (List ℕ)
+readBlob = do
+  n ← readNum 4
+  readBytes n
 
-unfoldable pub text : Parser (List ℕ)
-text = do
-  bs ← blob
-  cond (utf8 bs) (done bs) (fail badText)
+unfoldable pub readText : Parser (List ℕ)
+readText = do
+  bs ← readBlob
+  cond (utf8 bs) (pure bs) (fail badText)
 
 -- a count whose items need at least min bytes each in what is left
-unfoldable pub count : ℕ → Parser ℕ
-count min = do
-  n ← num 4
+unfoldable pub readCount : ℕ → Parser ℕ
+readCount min = do
+  n ← readNum 4
   (λ s. cond (leb (n * min) (length s)) (ok n s) (bad truncated))
 
 -- n items, one after the other
 unfoldable pub many : {A : Type 0} → ℕ → Parser A → Parser (List A)
-many zero p = done []
+many zero p = pure []
 many (suc n) p = do
   x ← p
   xs ← many n p
-  done (x ∷ xs)
+  pure (x ∷ xs)
 
 -- where a run of items ends
 abbrev pub forget : {A : Type 0} → Res A → Res (Unit {0})
@@ -78,13 +78,13 @@ forget (ok a s) = ok tt s
 forget (bad e) = bad e
 
 -- the items of a run, as far as they can be read
-abbrev pub onto : {A : Type 0} → Res A → (List ℕ → List A) → List A
-onto (ok a s) f = a ∷ f s
-onto (bad e) f = []
+abbrev pub itemThen : {A : Type 0} → Res A → (List ℕ → List A) → List A
+itemThen (ok a s) f = a ∷ f s
+itemThen (bad e) f = []
 
 unfoldable pub collect : {A : Type 0} → ℕ → Parser A → List ℕ → List A
 collect zero p s = []
-collect (suc n) p s = onto (p s) (collect n p)
+collect (suc n) p s = itemThen (p s) (collect n p)
 
 -- a run of items, written; and a fact of each of its items
 unfoldable pub runBytes : {A : Type 0} → (A → List ℕ) → List A → List ℕ

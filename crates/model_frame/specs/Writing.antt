@@ -11,6 +11,10 @@ use Rattle.model_text.specs.Printable.{isMarks, isKey}
 use Rattle.model_text.specs.Stamp.{takesStamp}
 use Rattle.model_frame.specs.Bytes.{isBytes, bytesOf}
 use Rattle.model_frame.specs.Frame.{Key, Change, setIncoming, setIncomingInFlight, setInFlight, recordMsg, recordBare, reset, setCreatedAt, setMarks, Part, commit, whole, lastWhole, Reason, staleEpoch, diverged, lagTooGreat, restarted, AppRecord, Summary, Frame, hello, welcome, bind, batch, ack, nack, bound, checked}
+use Rattle.model_frame.specs.FrameKind
+use Rattle.model_frame.specs.ChangeKind
+use Rattle.model_frame.specs.PartByte
+use Rattle.model_frame.specs.ReasonByte
 use Rattle.model_frame.specs.Parse.{isEmpty, runBytes, Each}
 use Rattle.model_frame.specs.Reading.{maxBody, flight}
 
@@ -18,14 +22,14 @@ unfoldable pub blobBytes : List ℕ → List ℕ
 blobBytes bs = bytesOf 4 (length bs) ++ bs
 
 unfoldable pub changeBytes : Change → List ℕ
-changeBytes (setIncoming n) = 1 ∷ bytesOf 8 n
-changeBytes (setIncomingInFlight n f) = 2 ∷ bytesOf 8 n ++ bytesOf 8 f
-changeBytes (setInFlight f) = 3 ∷ bytesOf 8 f
-changeBytes (recordMsg n m) = 4 ∷ bytesOf 8 n ++ blobBytes m
-changeBytes (recordBare n) = 5 ∷ bytesOf 8 n
-changeBytes reset = 6 ∷ []
-changeBytes (setCreatedAt t) = 7 ∷ blobBytes t
-changeBytes (setMarks m) = 8 ∷ blobBytes m
+changeBytes (setIncoming n) = ChangeKind.setIncoming ∷ bytesOf 8 n
+changeBytes (setIncomingInFlight n f) = ChangeKind.setIncomingInFlight ∷ bytesOf 8 n ++ bytesOf 8 f
+changeBytes (setInFlight f) = ChangeKind.setInFlight ∷ bytesOf 8 f
+changeBytes (recordMsg n m) = ChangeKind.recordMsg ∷ bytesOf 8 n ++ blobBytes m
+changeBytes (recordBare n) = ChangeKind.recordBare ∷ bytesOf 8 n
+changeBytes reset = ChangeKind.reset ∷ []
+changeBytes (setCreatedAt t) = ChangeKind.setCreatedAt ∷ blobBytes t
+changeBytes (setMarks m) = ChangeKind.setMarks ∷ blobBytes m
 
 -- a change's length in a frame
 abbrev pub sizeOf : Change → ℕ
@@ -46,15 +50,15 @@ unfoldable pub appRecordBytes : AppRecord → List ℕ
 appRecordBytes r = bytesOf 2 (r .kind) ++ blobBytes (r .blob)
 
 abbrev pub partNumber : Part → ℕ
-partNumber commit = 0
-partNumber whole = 1
-partNumber lastWhole = 2
+partNumber commit = PartByte.commit
+partNumber whole = PartByte.whole
+partNumber lastWhole = PartByte.lastWhole
 
 abbrev pub reasonNumber : Reason → ℕ
-reasonNumber staleEpoch = 1
-reasonNumber diverged = 2
-reasonNumber lagTooGreat = 3
-reasonNumber restarted = 4
+reasonNumber staleEpoch = ReasonByte.staleEpoch
+reasonNumber diverged = ReasonByte.diverged
+reasonNumber lagTooGreat = ReasonByte.lagTooGreat
+reasonNumber restarted = ReasonByte.restarted
 
 abbrev pub flightNumber : Option ℕ → ℕ
 flightNumber none = 0
@@ -69,15 +73,15 @@ summaryBytes m =
     ++ blobBytes (m .stampText) ++ blobBytes (m .marksText) ++ bytesOf 8 (m .lastOutgoing)
 
 unfoldable pub bodyBytes : Frame → List ℕ
-bodyBytes (hello v e node ks) = 1 ∷ bytesOf 2 v ++ bytesOf 8 e ++ blobBytes node ++ bytesOf 4 (length ks) ++ runBytes (bytesOf 2) ks
-bodyBytes (welcome e i) = 2 ∷ bytesOf 8 e ++ bytesOf 8 i
-bodyBytes (bind h e lag k) = 3 ∷ bytesOf 4 h ++ bytesOf 8 e ++ bytesOf 8 lag ++ keyBytes k
+bodyBytes (hello v e node ks) = FrameKind.hello ∷ bytesOf 2 v ++ bytesOf 8 e ++ blobBytes node ++ bytesOf 4 (length ks) ++ runBytes (bytesOf 2) ks
+bodyBytes (welcome e i) = FrameKind.welcome ∷ bytesOf 8 e ++ bytesOf 8 i
+bodyBytes (bind h e lag k) = FrameKind.bind ∷ bytesOf 4 h ++ bytesOf 8 e ++ bytesOf 8 lag ++ keyBytes k
 bodyBytes (batch h e n p cs rs) =
-    4 ∷ bytesOf 4 h ++ bytesOf 8 e ++ bytesOf 8 n ++ partNumber p ∷ bytesOf 4 (length cs) ++ runBytes changeBytes cs ++ bytesOf 4 (length rs) ++ runBytes appRecordBytes rs
-bodyBytes (ack h n) = 5 ∷ bytesOf 4 h ++ bytesOf 8 n
-bodyBytes (nack h r) = 6 ∷ bytesOf 4 h ++ reasonNumber r ∷ []
-bodyBytes (bound h m) = 7 ∷ bytesOf 4 h ++ summaryBytes m
-bodyBytes (checked h e i) = 8 ∷ bytesOf 4 h ++ bytesOf 8 e ++ bytesOf 8 i
+    FrameKind.batch ∷ bytesOf 4 h ++ bytesOf 8 e ++ bytesOf 8 n ++ partNumber p ∷ bytesOf 4 (length cs) ++ runBytes changeBytes cs ++ bytesOf 4 (length rs) ++ runBytes appRecordBytes rs
+bodyBytes (ack h n) = FrameKind.ack ∷ bytesOf 4 h ++ bytesOf 8 n
+bodyBytes (nack h r) = FrameKind.nack ∷ bytesOf 4 h ++ reasonNumber r ∷ []
+bodyBytes (bound h m) = FrameKind.bound ∷ bytesOf 4 h ++ summaryBytes m
+bodyBytes (checked h e i) = FrameKind.checked ∷ bytesOf 4 h ++ bytesOf 8 e ++ bytesOf 8 i
 
 unfoldable pub encode : Frame → List ℕ
 encode f = bytesOf 4 (length (bodyBytes f)) ++ bodyBytes f

@@ -10,8 +10,8 @@ use lib.ListN.{length}
 use lib.Dec.{ltb, leb, nltb→le}
 use Rattle.model_frame.specs.Frame.{Change, reset, batch}
 use Rattle.model_session.specs.Session.{Session, Msg, Rising, Holdable, top}
-use Rattle.model_session.specs.Whole.{stampPart, sendMsg, stands, batchesFrom, wholeBatches, framesOf, wholeFrames}
-use Rattle.model_session.specs.Sender.{cannotSend, Sender, newSender, messagesFrom, partOf, cutBatch, opening, cutFrom, sendNext, Sends, isDone, isNext}
+use Rattle.model_session.specs.Whole.{stampPart, sendMsg, batchIf, batchesFrom, wholeBatches, framesOf, wholeFrames}
+use Rattle.model_session.specs.Sender.{cannotSend, Sender, newSender, messagesFrom, sentPart, cutBatch, opening, cutFrom, sendNext, Sends, allSent, isNext}
 use Rattle.model_session.proofs.Basics.{false→notT, cond-true, cond-false, leb-true, leb-false, ltb-false, none≢some, some-inj}
 
 -- ---- the messages from a number on
@@ -58,12 +58,12 @@ module _ (limit : ℕ) (a : Session) where
     where
       fresh : batchesFrom limit a [] 0 next (m ∷ ms) ≡ batchesFrom limit a ([] ++ sendMsg next m) (0 + length (m .text)) (suc (m .num)) ms
       fresh =
-          ap (λ (b : Bool). stands b [] (batchesFrom limit a (cond b [] [] ++ sendMsg next m) (cond b 0 0 + length (m .text)) (suc (m .num)) ms)) (ltb-false {m = limit} {n = 0} (omega arith))
+          ap (λ (b : Bool). batchIf b [] (batchesFrom limit a (cond b [] [] ++ sendMsg next m) (cond b 0 0 + length (m .text)) (suc (m .num)) ms)) (ltb-false {m = limit} {n = 0} (omega arith))
 
       go : (b : Bool)
           → batchesFrom limit a (now ++ sendMsg next m) (bytes + length (m .text)) (suc (m .num)) ms
           ≡ cutBatch limit a (now ++ sendMsg next m) (bytes + length (m .text)) (suc (m .num)) ms .changes ∷ after (cutBatch limit a (now ++ sendMsg next m) (bytes + length (m .text)) (suc (m .num)) ms .goesOn)
-          → stands b now (batchesFrom limit a (cond b [] now ++ sendMsg next m) (cond b 0 bytes + length (m .text)) (suc (m .num)) ms)
+          → batchIf b now (batchesFrom limit a (cond b [] now ++ sendMsg next m) (cond b 0 bytes + length (m .text)) (suc (m .num)) ms)
           ≡ cond b (record { changes = now; goesOn = some next }) (cutBatch limit a (now ++ sendMsg next m) (bytes + length (m .text)) (suc (m .num)) ms) .changes
           ∷ after (cond b (record { changes = now; goesOn = some next }) (cutBatch limit a (now ++ sendMsg next m) (bytes + length (m .text)) (suc (m .num)) ms) .goesOn)
       go true ih = ap {B = List (List Change)} (λ l. now ∷ l) (sym fresh ∙ ap (batchesFrom limit a [] 0 next) (sym p))
@@ -100,17 +100,17 @@ module _ (limit : ℕ) (a : Session) where
       is : b ∷ bs ≡ cutFrom limit a n .changes ∷ after (cutFrom limit a n .goesOn)
       is = p ∙ cut-is (messagesFrom (max n 1) (a .messages)) (opening limit a n) 0 (max n 1) r refl
 
-      next : (o : Option ℕ) → cutFrom limit a n .goesOn ≡ o → sendNext limit a (sender h e last (some n)) ≡ some (batch h e (suc last) (partOf o) b [], sender h e (suc last) o)
+      next : (o : Option ℕ) → cutFrom limit a n .goesOn ≡ o → sendNext limit a (sender h e last (some n)) ≡ some (batch h e (suc last) (sentPart o) b [], sender h e (suc last) o)
       next o q =
-          ap (λ (x : List Change). some (batch h e (suc last) (partOf (cutFrom limit a n .goesOn)) x [], sender h e (suc last) (cutFrom limit a n .goesOn))) (sym (head-eq-of-cons-eq is))
-          ∙ ap (λ (x : Option ℕ). some (batch h e (suc last) (partOf x) b [], sender h e (suc last) x)) q
+          ap (λ (x : List Change). some (batch h e (suc last) (sentPart (cutFrom limit a n .goesOn)) x [], sender h e (suc last) (cutFrom limit a n .goesOn))) (sym (head-eq-of-cons-eq is))
+          ∙ ap (λ (x : Option ℕ). some (batch h e (suc last) (sentPart x) b [], sender h e (suc last) x)) q
 
       ended : sendNext limit a (sender h e (suc last) none) ≡ none
       ended = refl
 
       go : (o : Option ℕ) → cutFrom limit a n .goesOn ≡ o → (bs : List (List Change)) → bs ≡ after (cutFrom limit a n .goesOn)
           → ((m : ℕ) → bs ≡ batchesAt m → Sends limit a (sender h e (suc last) (some m)) (framesOf h e (suc last) bs)) → Sends limit a (sender h e last (some n)) (framesOf h e last (b ∷ bs))
-      go none q [] w ih = isNext (next none q) (isDone ended)
+      go none q [] w ih = isNext (next none q) (allSent ended)
       go none q (c ∷ cs) w ih = absurd (nil≢cons (sym (w ∙ ap after q)))
       go (some m) q [] w ih = absurd (nil≢cons (w ∙ ap after q ∙ cut-is (messagesFrom m (a .messages)) [] 0 m r refl))
       go (some m) q (c ∷ cs) w ih =

@@ -17,7 +17,7 @@ use Rattle.model_text.specs.Stamp.{isStamp, longestStamp}
 use Rattle.model_text.specs.Printable.{isMarks}
 use Rattle.model_text.proofs.Laws.{stamp-is, marks-is}
 use Rattle.model_session.specs.Session.{Session, Msg, storedBytes, hasSpace, evict, keep, apply, applyAll, fits, messageBytes, top, Rising, Holdable, isStampOrNone}
-use Rattle.model_session.specs.Whole.{holdLength, joined, stampPart, skipTo, sendMsg, incomingPart, closing, stands, batchesFrom, wholeBatches}
+use Rattle.model_session.specs.Whole.{holdLength, allChanges, stampPart, skipTo, sendMsg, incomingPart, closing, batchIf, batchesFrom, wholeBatches}
 use Rattle.model_session.proofs.Basics.{T→true, and-true, leb-true, ltb-true, eqb-true, cond-true, cond-cases, snoc-append}
 
 -- ---- the changes in one list
@@ -33,7 +33,7 @@ nextAfter next (m ∷ ms) = nextAfter (suc (m .num)) ms
 abbrev pub wholeChanges : Session → List Change
 wholeChanges a = (reset ∷ stampPart (a .stamp)) ++ (sends 1 (a .messages) ++ closing a (nextAfter 1 (a .messages)))
 
-joined-stands : (f : Bool) (now : List Change) (rest : List (List Change)) → joined (stands f now rest) ≡ cond f now [] ++ joined rest
+joined-stands : (f : Bool) (now : List Change) (rest : List (List Change)) → allChanges (batchIf f now rest) ≡ cond f now [] ++ allChanges rest
 joined-stands true now rest = refl
 joined-stands false now rest = refl
 
@@ -42,14 +42,14 @@ regroup true now S R Q = simp append-assoc
 regroup false now S R Q = simp append-assoc
 
 module _ (limit : ℕ) (a : Session) where
-  joined-from : (now : List Change) (bytes next : ℕ) (ms : List Msg) → joined (batchesFrom limit a now bytes next ms) ≡ now ++ (sends next ms ++ closing a (nextAfter next ms))
+  joined-from : (now : List Change) (bytes next : ℕ) (ms : List Msg) → allChanges (batchesFrom limit a now bytes next ms) ≡ now ++ (sends next ms ++ closing a (nextAfter next ms))
   joined-from now bytes next [] = append-nil (now ++ closing a next)
   joined-from now bytes next (m ∷ ms) =
       joined-stands (ltb limit bytes) now _
       ∙ ap (λ (l : List Change). cond (ltb limit bytes) now [] ++ l) (joined-from (cond (ltb limit bytes) [] now ++ sendMsg next m) (cond (ltb limit bytes) 0 bytes + length (m .text)) (suc (m .num)) ms)
       ∙ regroup (ltb limit bytes) now (sendMsg next m) (sends (suc (m .num)) ms) (closing a (nextAfter (suc (m .num)) ms))
 
-  pub joined-whole : joined (wholeBatches limit a) ≡ wholeChanges a
+  pub joined-whole : allChanges (wholeBatches limit a) ≡ wholeChanges a
   unfolding wholeBatches
   joined-whole = joined-from (reset ∷ stampPart (a .stamp)) 0 1 (a .messages)
 
@@ -148,7 +148,7 @@ apply-whole C M a b h =
     ∙ apply-closing C M a (nextAfter 1 (a .messages)) (a .messages) (next-low 1 (a .nextOut) (a .messages) (h .out-low) (h .msgs-rise))
 
 -- (a) the joined batches, applied to any session
-pub whole-is-exact : (limit C M : ℕ) (a b : Session) → Holdable C M a → applyAll C M (joined (wholeBatches limit a)) b ≡ a
+pub whole-is-exact : (limit C M : ℕ) (a b : Session) → Holdable C M a → applyAll C M (allChanges (wholeBatches limit a)) b ≡ a
 whole-is-exact limit C M a b h = ap (λ (l : List Change). applyAll C M l b) (joined-whole limit a) ∙ apply-whole C M a b h
 
 -- ---- (b) they fit from any next outgoing
@@ -186,7 +186,7 @@ fits-whole C M a next h =
     (fits-skip (nextAfter 1 (a .messages)) (a .nextOut) _ (next-low 1 (a .nextOut) (a .messages) (h .out-low) (h .msgs-rise)) (h .out-high) (fits-end (a .nextOut) (a .nextIn) (a .inFlight) (a .marks))))
 
 -- (b) the joined batches
-pub whole-fits : (limit C M : ℕ) (a : Session) (next : ℕ) → Holdable C M a → fits next (joined (wholeBatches limit a)) ≡ true
+pub whole-fits : (limit C M : ℕ) (a : Session) (next : ℕ) → Holdable C M a → fits next (allChanges (wholeBatches limit a)) ≡ true
 whole-fits limit C M a next h = ap (fits next) (joined-whole limit a) ∙ fits-whole C M a next h
 
 -- ---- (c) sizes
@@ -274,20 +274,20 @@ bytes-whole a =
     )
 
 -- (c) the encoded size of all changes
-pub whole-size : (limit C M : ℕ) (a : Session) → Holdable C M a → sizes (joined (wholeBatches limit a)) ≤ holdLength C M
+pub whole-size : (limit C M : ℕ) (a : Session) → Holdable C M a → sizes (allChanges (wholeBatches limit a)) ≤ holdLength C M
 whole-size limit C M a h = subst (λ (l : List Change). sizes l ≤ holdLength C M) (sym (joined-whole limit a)) (sizes-whole C M a h)
 
-each-bytes : (n : ℕ) (bs : List (List Change)) → messageBytes (joined bs) ≤ n → Each (λ b. messageBytes b ≤ n) bs
+each-bytes : (n : ℕ) (bs : List (List Change)) → messageBytes (allChanges bs) ≤ n → Each (λ b. messageBytes b ≤ n) bs
 each-bytes n [] h = tt
-each-bytes n (b ∷ bs) h = (omega (arith, messageBytes-append b (joined bs)), each-bytes n bs (omega (arith, messageBytes-append b (joined bs))))
+each-bytes n (b ∷ bs) h = (omega (arith, messageBytes-append b (allChanges bs)), each-bytes n bs (omega (arith, messageBytes-append b (allChanges bs))))
 
 -- (c) each batch's message bytes
 pub batch-bytes : (limit C M : ℕ) (a : Session) → Holdable C M a → Each (λ b. messageBytes b ≤ limit + C) (wholeBatches limit a)
 batch-bytes limit C M a h = each-bytes (limit + C) (wholeBatches limit a) (omega (arith, ap messageBytes (joined-whole limit a), bytes-whole a, h .msgs-bytes))
 
-each-sizes : (n : ℕ) (bs : List (List Change)) → sizes (joined bs) ≤ n → Each (λ b. sizes b ≤ n) bs
+each-sizes : (n : ℕ) (bs : List (List Change)) → sizes (allChanges bs) ≤ n → Each (λ b. sizes b ≤ n) bs
 each-sizes n [] h = tt
-each-sizes n (b ∷ bs) h = (omega (arith, sizes-append b (joined bs)), each-sizes n bs (omega (arith, sizes-append b (joined bs))))
+each-sizes n (b ∷ bs) h = (omega (arith, sizes-append b (allChanges bs)), each-sizes n bs (omega (arith, sizes-append b (allChanges bs))))
 
 -- (c) each batch's encoded changes
 pub batch-sizes : (limit C M : ℕ) (a : Session) → Holdable C M a → Each (λ b. sizes b ≤ holdLength C M) (wholeBatches limit a)
@@ -299,7 +299,7 @@ batches-few limit a now bytes next [] = omega arith
 batches-few limit a now bytes next (m ∷ ms) = go (ltb limit bytes) (λ x y. batches-few limit a x y (suc (m .num)) ms)
   where
     go : (f : Bool) → ((x : List Change) (y : ℕ) → length (batchesFrom limit a x y (suc (m .num)) ms) ≤ suc (length ms))
-        → length (stands f now (batchesFrom limit a (cond f [] now ++ sendMsg next m) (cond f 0 bytes + length (m .text)) (suc (m .num)) ms)) ≤ suc (suc (length ms))
+        → length (batchIf f now (batchesFrom limit a (cond f [] now ++ sendMsg next m) (cond f 0 bytes + length (m .text)) (suc (m .num)) ms)) ≤ suc (suc (length ms))
     go true ih = omega (arith, ih ([] ++ sendMsg next m) (0 + length (m .text)))
     go false ih = omega (arith, ih (now ++ sendMsg next m) (bytes + length (m .text)))
 

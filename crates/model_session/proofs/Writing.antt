@@ -18,7 +18,7 @@ use Rattle.model_frame.proofs.Sizes.{body-size}
 use Rattle.model_frame.proofs.Runs.{sizes-append, count-sizes}
 use Rattle.model_frame.specs.Writing.{Sendable, sizes, allFine, fine, RangedChange, Writable}
 use Rattle.model_session.specs.Session.{Session, Msg, Holdable, Rising, isStampOrNone, smallFlight, storedBytes, top}
-use Rattle.model_session.specs.Whole.{joined, stampPart, skipTo, sendMsg, incomingPart, wholeBatches, framesOf, wholeFrames}
+use Rattle.model_session.specs.Whole.{allChanges, stampPart, skipTo, sendMsg, incomingPart, wholeBatches, framesOf, wholeFrames}
 use Rattle.model_session.proofs.Basics.{T→true, and-true, cond-cases, each-append, each-left, each-right, each-map}
 use Rattle.model_session.proofs.Sending.{sends, nextAfter, wholeChanges, joined-whole, whole-size}
 
@@ -80,14 +80,14 @@ module _ (version : ℕ) where
         short = omega (arith, body-size (batch h e n p cs []));
       }
 
-  frames-writable : (h e last : ℕ) (bs : List (List Change)) → h < 2 ^ 32 → e ≤ top → last + length bs ≤ top → Each (Sendable version) (joined bs) → 30 + sizes (joined bs) ≤ maxBody
+  frames-writable : (h e last : ℕ) (bs : List (List Change)) → h < 2 ^ 32 → e ≤ top → last + length bs ≤ top → Each (Sendable version) (allChanges bs) → 30 + sizes (allChanges bs) ≤ maxBody
       → Each (Writable version) (framesOf h e last bs)
   frames-writable h e last [] hh he hn o m = tt
   frames-writable h e last (b ∷ []) hh he hn o m =
       (one-writable h e (suc last) lastWhole b hh he (omega arith) (each-left (Sendable version) b [] o) (omega (arith, sizes-append b [])), tt)
   frames-writable h e last (b ∷ c ∷ bs) hh he hn o m = (
-    one-writable h e (suc last) whole b hh he (omega arith) (each-left (Sendable version) b (joined (c ∷ bs)) o) (omega (arith, sizes-append b (joined (c ∷ bs)))),
-    frames-writable h e (suc last) (c ∷ bs) hh he (omega arith) (each-right (Sendable version) b (joined (c ∷ bs)) o) (omega (arith, sizes-append b (joined (c ∷ bs)))),
+    one-writable h e (suc last) whole b hh he (omega arith) (each-left (Sendable version) b (allChanges (c ∷ bs)) o) (omega (arith, sizes-append b (allChanges (c ∷ bs)))),
+    frames-writable h e (suc last) (c ∷ bs) hh he (omega arith) (each-right (Sendable version) b (allChanges (c ∷ bs)) o) (omega (arith, sizes-append b (allChanges (c ∷ bs)))),
   )
 
   -- sending never meets 8 or 1: every frame can be written, its body is at most 67,108,864 bytes long

@@ -33,9 +33,9 @@ pub record Cut : Type 0 where
   pub changes : List Change
   pub goesOn : Option ℕ
 
-abbrev pub partOf : Option ℕ → Part
-partOf none = lastWhole
-partOf (some n) = whole
+abbrev pub sentPart : Option ℕ → Part
+sentPart none = lastWhole
+sentPart (some n) = whole
 
 module _ (limit : ℕ) (a : Session) where
   -- the batch so far with its message bytes, the next number, the messages left
@@ -55,7 +55,7 @@ module _ (limit : ℕ) (a : Session) where
 
   abbrev pub sent : Sender → Cut → Frame × Sender
   sent s c = (
-    batch (s .handle) (s .epoch) (suc (s .last)) (partOf (c .goesOn)) (c .changes) [],
+    batch (s .handle) (s .epoch) (suc (s .last)) (sentPart (c .goesOn)) (c .changes) [],
     record { handle = s .handle; epoch = s .epoch; last = suc (s .last); from = c .goesOn },
   )
 
@@ -69,7 +69,7 @@ module _ (limit : ℕ) (a : Session) where
 
   -- call after call gives these frames, and then "done"
   pub data Sends : Sender → List Frame → Type 0 where
-    isDone : {s : Sender} → sendNext s ≡ none → Sends s []
+    allSent : {s : Sender} → sendNext s ≡ none → Sends s []
     isNext : {s t : Sender} {f : Frame} {fs : List Frame} → sendNext s ≡ some (f, t) → Sends t fs → Sends s (f ∷ fs)
 
   -- 24: at the start the commit numbers would pass 2^64 - 1

@@ -37,25 +37,25 @@ abbrev pub closing : Session → ℕ → List Change
 closing a next = skipTo next (a .nextOut) ++ (incomingPart (a .nextIn) (a .inFlight) ∷ setMarks (a .marks) ∷ [])
 
 -- the batch is full: it stands, and the rest follows
-abbrev pub stands : Bool → List Change → List (List Change) → List (List Change)
-stands true now rest = now ∷ rest
-stands false now rest = rest
+abbrev pub batchIf : Bool → List Change → List (List Change) → List (List Change)
+batchIf true now rest = now ∷ rest
+batchIf false now rest = rest
 
 module _ (limit : ℕ) (a : Session) where
   -- the batch so far with its message bytes, the next number, the messages left
   abbrev pub batchesFrom : List Change → ℕ → ℕ → List Msg → List (List Change)
   batchesFrom now bytes next [] = (now ++ closing a next) ∷ []
   batchesFrom now bytes next (m ∷ ms) =
-      stands (ltb limit bytes) now
+      batchIf (ltb limit bytes) now
       (batchesFrom (cond (ltb limit bytes) [] now ++ sendMsg next m) (cond (ltb limit bytes) 0 bytes + length (m .text)) (suc (m .num)) ms)
 
   unfoldable pub wholeBatches : List (List Change)
   wholeBatches = batchesFrom (reset ∷ stampPart (a .stamp)) 0 1 (a .messages)
 
 -- the changes of a list of batches
-abbrev pub joined : List (List Change) → List Change
-joined [] = []
-joined (b ∷ bs) = b ++ joined bs
+abbrev pub allChanges : List (List Change) → List Change
+allChanges [] = []
+allChanges (b ∷ bs) = b ++ allChanges bs
 
 -- the batches numbered on from `last`: Whole, and LastWhole for the last
 abbrev pub framesOf : ℕ → ℕ → ℕ → List (List Change) → List Frame

@@ -12,7 +12,7 @@ use lib.Arith.{digits-div, digits-mod}
 use lib.Dec.{leb, lit<}
 use lib.ListN.{drop}
 use lib.Seq.{drop-nil}
-use Rattle.model_text.specs.Utf8.{isSurrogate, isScalar, encode, encodeAll, AllScalar, IsUtf8, leadLength, ownBits, isTail, fitting, least, wellFormed, utf8From, utf8}
+use Rattle.model_text.specs.Utf8.{isSurrogate, isScalar, encodeScalar, encodeAll, AllScalar, IsUtf8, leadLength, ownBits, isTail, fitting, least, wellFormed, utf8From, utf8}
 use Rattle.model_text.proofs.Tables.{lead-one, lead-none, lead-two, lead-three, lead-four, lead-high, formed-two, formed-three, formed-four}
 use Rattle.model_text.proofs.Formed.{and-l, and-r, Formed, formed, formed-one}
 
@@ -37,20 +37,20 @@ scalar-max c e = leb-true c 0x10FFFF (and-l (leb c 0x10FFFF) (not (isSurrogate c
 -- ---- the encoding's four rows
 
 module _ (c : ℕ) where
-  encode-one : c ≤ 0x7F → encode c ≡ c ∷ []
-  unfolding encode
+  encode-one : c ≤ 0x7F → encodeScalar c ≡ c ∷ []
+  unfolding encodeScalar
   encode-one h = simp (le-leb c 0x7F h)
 
-  encode-two : 0x7F < c → c ≤ 0x7FF → encode c ≡ (0xC0 + c / 64) ∷ (0x80 + c % 64) ∷ []
-  unfolding encode
+  encode-two : 0x7F < c → c ≤ 0x7FF → encodeScalar c ≡ (0xC0 + c / 64) ∷ (0x80 + c % 64) ∷ []
+  unfolding encodeScalar
   encode-two l h = simp (lt-leb c 0x7F l, le-leb c 0x7FF h)
 
-  encode-three : 0x7FF < c → c ≤ 0xFFFF → encode c ≡ (0xE0 + c / 64 / 64) ∷ (0x80 + c / 64 % 64) ∷ (0x80 + c % 64) ∷ []
-  unfolding encode
+  encode-three : 0x7FF < c → c ≤ 0xFFFF → encodeScalar c ≡ (0xE0 + c / 64 / 64) ∷ (0x80 + c / 64 % 64) ∷ (0x80 + c % 64) ∷ []
+  unfolding encodeScalar
   encode-three l h = simp (lt-leb c 0x7F (omega arith), lt-leb c 0x7FF l, le-leb c 0xFFFF h)
 
-  encode-four : 0xFFFF < c → encode c ≡ (0xF0 + c / 64 / 64 / 64) ∷ (0x80 + c / 64 / 64 % 64) ∷ (0x80 + c / 64 % 64) ∷ (0x80 + c % 64) ∷ []
-  unfolding encode
+  encode-four : 0xFFFF < c → encodeScalar c ≡ (0xF0 + c / 64 / 64 / 64) ∷ (0x80 + c / 64 / 64 % 64) ∷ (0x80 + c / 64 % 64) ∷ (0x80 + c % 64) ∷ []
+  unfolding encodeScalar
   encode-four l = simp (lt-leb c 0x7F (omega arith), lt-leb c 0x7FF (omega arith), lt-leb c 0xFFFF l)
 
 -- ---- what is encoded is read
@@ -115,7 +115,7 @@ module _ (c : ℕ) (s : isScalar c ≡ true) (l : List ℕ) where
       taken 4 a (b ∷ d ∷ f ∷ l) (lead-four a (omega arith) (omega arith))
       (formed-four a b (tail-is (c / 64 / 64)) d (tail-is (c / 64)) f (tail-is c) {n = c} (rejoined c h) (fits-from 4 c (omega arith) s) l)
 
-read : (c : ℕ) → isScalar c ≡ true → (l : List ℕ) → utf8From 0 (encode c ++ l) ≡ utf8From 0 l
+read : (c : ℕ) → isScalar c ≡ true → (l : List ℕ) → utf8From 0 (encodeScalar c ++ l) ≡ utf8From 0 l
 read c s l =
     elim (decLe c 0x7F) [
       | yes h ↦ rw (encode-one c h) (ascii-first c l h)
@@ -148,7 +148,7 @@ under p d e =
 record Front (n a : ℕ) (l : List ℕ) : Type 0 where
   value : ℕ
   scalar : isScalar value ≡ true
-  spelt : encode value ++ drop (n - 1) l ≡ a ∷ l
+  spelt : encodeScalar value ++ drop (n - 1) l ≡ a ∷ l
 
 front-one : (a : ℕ) (l : List ℕ) → a ≤ 0x7F → Front 1 a l
 front-one a l h = record { value = a; scalar = scalar-low a h; spelt = rw (encode-one a h) }
@@ -250,7 +250,7 @@ encoded zero (a ∷ l) e =
     let n : ℕ = leadLength a in
     let f = front a l (and-l (wellFormed n a l) (utf8From (n - 1) l) e) in
     let r = encoded (n - 1) l (and-r (wellFormed n a l) (utf8From (n - 1) l) e) in
-    record { values = f .value ∷ r .values; scalar = (f .scalar, r .scalar); joined = ap (λ (m : List ℕ). encode (f .value) ++ m) (r .joined) ∙ f .spelt }
+    record { values = f .value ∷ r .values; scalar = (f .scalar, r .scalar); joined = ap (λ (m : List ℕ). encodeScalar (f .value) ++ m) (r .joined) ∙ f .spelt }
 encoded (suc k) (a ∷ l) e = encoded k l e
 
 -- ---- both ways

@@ -8,7 +8,7 @@ use native.Mathlib.Omega.{arith}
 use borrow.Author.Tests.{ltb-true, ltb-false, leb-true, lt-ltb, le-ltb, le-leb, lt-leb}
 use lib.Dec.{leb, ltb}
 use lib.ListN.{length}
-use Rattle.model_text.specs.Hex.{digitValue, onto, bytesFrom, longestLine, lineBytes, digitOf, hexOf}
+use Rattle.model_text.specs.Hex.{digitValue, byteThen, bytesFrom, longestLine, lineBytes, digitOf, hexOf}
 use Rattle.model_text.proofs.Formed.{and-l, and-r}
 
 -- ---- one digit
@@ -55,7 +55,7 @@ hex-back (b ∷ l) h =
 
 -- what the digits a and b give, in front of what the rest gives
 read-two : (a b : ℕ) (l bs : List ℕ) → (t : Bool) → (ltb (digitValue a) 16 && ltb (digitValue b) 16) ≡ t → (r : Option (List ℕ))
-    → ((xs : List ℕ) → r ≡ some xs → (hexOf xs ≡ l) × Bytes xs) → cond t (onto (digitValue a * 16 + digitValue b) r) none ≡ some bs → (hexOf bs ≡ a ∷ b ∷ l) × Bytes bs
+    → ((xs : List ℕ) → r ≡ some xs → (hexOf xs ≡ l) × Bytes xs) → cond t (byteThen (digitValue a * 16 + digitValue b) r) none ≡ some bs → (hexOf bs ≡ a ∷ b ∷ l) × Bytes bs
 read-two a b l bs false q r rest e = absurd (let z : _≡_ {A = ℕ} 0 1 = cc in omega arith)
 read-two a b l bs true q none rest e = absurd (let z : _≡_ {A = ℕ} 0 1 = cc in omega arith)
 read-two a b l [] true q (some xs) rest e = absurd (let z : _≡_ {A = ℕ} 0 1 = cc in omega arith)

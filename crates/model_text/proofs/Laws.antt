@@ -8,44 +8,44 @@ use borrow.Author.Tests.{le-leb, leb-true, eqb-true}
 use lib.Dec.{leb, eqb}
 use lib.ListN.{length}
 use Rattle.model_text.specs.Utf8.{utf8}
-use Rattle.model_text.specs.Printable.{isPlain, allPlain, isPrintable, isMarks, isKey}
-use Rattle.model_text.specs.Stamp.{Part, digit, pair, mark, isDigit, isPair, fits, date, clock, millis, isStamp, takesStamp, longestStamp}
+use Rattle.model_text.specs.Printable.{isPrintableByte, allPrintable, isPrintable, isMarks, isKey}
+use Rattle.model_text.specs.Stamp.{Pattern, digit, pair, mark, isDigit, isPair, matches, date, clock, millis, isStamp, takesStamp, longestStamp}
 use Rattle.model_text.proofs.Formed.{and-l, and-r}
 use Rattle.model_text.proofs.Agree.{ascii-first}
 use Rattle.model_text.proofs.Form.{digit-bounds, pair-digits, fits-length}
 
 -- ---- printable texts
 
-pub plain-bounds : (b : ℕ) → isPlain b ≡ true → (0x20 ≤ b) × (b ≤ 0x7E)
-unfolding isPlain
+pub plain-bounds : (b : ℕ) → isPrintableByte b ≡ true → (0x20 ≤ b) × (b ≤ 0x7E)
+unfolding isPrintableByte
 plain-bounds b e = (leb-true 0x20 b (and-l (leb 0x20 b) (leb b 0x7E) e), leb-true b 0x7E (and-r (leb 0x20 b) (leb b 0x7E) e))
 
-pub plain-by : (b : ℕ) → 0x20 ≤ b → b ≤ 0x7E → isPlain b ≡ true
-unfolding isPlain
+pub plain-by : (b : ℕ) → 0x20 ≤ b → b ≤ 0x7E → isPrintableByte b ≡ true
+unfolding isPrintableByte
 plain-by b g h = simp (le-leb 0x20 b g, le-leb b 0x7E h)
 
 -- printable ASCII is UTF-8
-pub plain-utf8 : (s : List ℕ) → allPlain s ≡ true → utf8 s ≡ true
+pub plain-utf8 : (s : List ℕ) → allPrintable s ≡ true → utf8 s ≡ true
 unfolding utf8
 plain-utf8 [] e = refl
 plain-utf8 (b ∷ l) e =
-    let h = plain-bounds b (and-l (isPlain b) (allPlain l) e) in
-    ascii-first b l (omega arith) ∙ plain-utf8 l (and-r (isPlain b) (allPlain l) e)
+    let h = plain-bounds b (and-l (isPrintableByte b) (allPrintable l) e) in
+    ascii-first b l (omega arith) ∙ plain-utf8 l (and-r (isPrintableByte b) (allPrintable l) e)
 
 pub record PrintableIs (lo hi : ℕ) (s : List ℕ) : Type 0 where
   pub least : lo ≤ length s
   pub most : length s ≤ hi
-  pub plain : allPlain s ≡ true
+  pub plain : allPrintable s ≡ true
   pub coded : utf8 s ≡ true
 
 pub printable-is : (lo hi : ℕ) (s : List ℕ) → isPrintable lo hi s ≡ true → PrintableIs lo hi s
 unfolding isPrintable
 printable-is lo hi s e =
-    let r : (leb (length s) hi && allPlain s) ≡ true = and-r (leb lo (length s)) (leb (length s) hi && allPlain s) e in
-    let p : allPlain s ≡ true = and-r (leb (length s) hi) (allPlain s) r in
+    let r : (leb (length s) hi && allPrintable s) ≡ true = and-r (leb lo (length s)) (leb (length s) hi && allPrintable s) e in
+    let p : allPrintable s ≡ true = and-r (leb (length s) hi) (allPrintable s) r in
     record {
-      least = leb-true lo (length s) (and-l (leb lo (length s)) (leb (length s) hi && allPlain s) e);
-      most = leb-true (length s) hi (and-l (leb (length s) hi) (allPlain s) r);
+      least = leb-true lo (length s) (and-l (leb lo (length s)) (leb (length s) hi && allPrintable s) e);
+      most = leb-true (length s) hi (and-l (leb (length s) hi) (allPrintable s) r);
       plain = p;
       coded = plain-utf8 s p;
     }
@@ -67,46 +67,46 @@ key-is a b c d e =
 -- ---- stamps
 
 -- the bytes that a form asks for are printable
-abbrev plainMarks : List Part → Type 0
+abbrev plainMarks : List Pattern → Type 0
 plainMarks [] = Unit {0}
 plainMarks (digit ∷ ps) = plainMarks ps
 plainMarks (pair lo hi ∷ ps) = plainMarks ps
-plainMarks (mark m ∷ ps) = (isPlain m ≡ true) × plainMarks ps
+plainMarks (mark m ∷ ps) = (isPrintableByte m ≡ true) × plainMarks ps
 
-digit-plain : (b : ℕ) → isDigit b ≡ true → isPlain b ≡ true
+digit-plain : (b : ℕ) → isDigit b ≡ true → isPrintableByte b ≡ true
 digit-plain b e = let h = digit-bounds b e in plain-by b (omega arith) (omega arith)
 
-more : (b : ℕ) (l : List ℕ) → isPlain b ≡ true → allPlain l ≡ true → allPlain (b ∷ l) ≡ true
-more b l e r = ap (λ (t : Bool). t && allPlain l) e ∙ r
+more : (b : ℕ) (l : List ℕ) → isPrintableByte b ≡ true → allPrintable l ≡ true → allPrintable (b ∷ l) ≡ true
+more b l e r = ap (λ (t : Bool). t && allPrintable l) e ∙ r
 
-fits-plain : (ps : List Part) (s : List ℕ) → plainMarks ps → fits ps s ≡ true → allPlain s ≡ true
+fits-plain : (ps : List Pattern) (s : List ℕ) → plainMarks ps → matches ps s ≡ true → allPrintable s ≡ true
 fits-plain [] [] m e = refl
 fits-plain [] (b ∷ l) m e = absurd (false≢true e)
 fits-plain (digit ∷ ps) [] m e = absurd (false≢true e)
-fits-plain (digit ∷ ps) (b ∷ l) m e = more b l (digit-plain b (and-l (isDigit b) (fits ps l) e)) (fits-plain ps l m (and-r (isDigit b) (fits ps l) e))
+fits-plain (digit ∷ ps) (b ∷ l) m e = more b l (digit-plain b (and-l (isDigit b) (matches ps l) e)) (fits-plain ps l m (and-r (isDigit b) (matches ps l) e))
 fits-plain (pair lo hi ∷ ps) [] m e = absurd (false≢true e)
 fits-plain (pair lo hi ∷ ps) (a ∷ []) m e = absurd (false≢true e)
 fits-plain (pair lo hi ∷ ps) (a ∷ b ∷ l) m e =
-    let d = pair-digits lo hi a b (and-l (isPair lo hi a b) (fits ps l) e) in
-    more a (b ∷ l) (digit-plain a (d .0)) (more b l (digit-plain b (d .1)) (fits-plain ps l m (and-r (isPair lo hi a b) (fits ps l) e)))
+    let d = pair-digits lo hi a b (and-l (isPair lo hi a b) (matches ps l) e) in
+    more a (b ∷ l) (digit-plain a (d .0)) (more b l (digit-plain b (d .1)) (fits-plain ps l m (and-r (isPair lo hi a b) (matches ps l) e)))
 fits-plain (mark k ∷ ps) [] m e = absurd (false≢true e)
 fits-plain (mark k ∷ ps) (b ∷ l) m e =
-    more b l (ap isPlain (eqb-true b k (and-l (eqb b k) (fits ps l) e)) ∙ m .0) (fits-plain ps l (m .1) (and-r (eqb b k) (fits ps l) e))
+    more b l (ap isPrintableByte (eqb-true b k (and-l (eqb b k) (matches ps l) e)) ∙ m .0) (fits-plain ps l (m .1) (and-r (eqb b k) (matches ps l) e))
 
 pub record StampIs (s : List ℕ) : Type 0 where
   pub least : 17 ≤ length s
   pub most : length s ≤ longestStamp
-  pub plain : allPlain s ≡ true
+  pub plain : allPrintable s ≡ true
   pub coded : utf8 s ≡ true
 
-stamp-by : (ps : List Part) (s : List ℕ) → 17 ≤ length s → length s ≤ longestStamp → plainMarks ps → fits ps s ≡ true → StampIs s
-stamp-by ps s g h m e = let p : allPlain s ≡ true = fits-plain ps s m e in record { least = g; most = h; plain = p; coded = plain-utf8 s p }
+stamp-by : (ps : List Pattern) (s : List ℕ) → 17 ≤ length s → length s ≤ longestStamp → plainMarks ps → matches ps s ≡ true → StampIs s
+stamp-by ps s g h m e = let p : allPrintable s ≡ true = fits-plain ps s m e in record { least = g; most = h; plain = p; coded = plain-utf8 s p }
 
 pub stamp-is : (s : List ℕ) → isStamp s ≡ true → StampIs s
-unfolding isStamp isPlain
-stamp-is s e = go (fits (date ++ clock) s) refl e
+unfolding isStamp isPrintableByte
+stamp-is s e = go (matches (date ++ clock) s) refl e
   where
-    go : (t : Bool) → fits (date ++ clock) s ≡ t → (t || fits (date ++ clock ++ millis) s) ≡ true → StampIs s
+    go : (t : Bool) → matches (date ++ clock) s ≡ t → (t || matches (date ++ clock ++ millis) s) ≡ true → StampIs s
     go true q r = let n = fits-length (date ++ clock) s q in stamp-by (date ++ clock) s (omega arith) (omega arith) (refl, (refl, (refl, tt))) q
     go false q r = let n = fits-length (date ++ clock ++ millis) s r in stamp-by (date ++ clock ++ millis) s (omega arith) (omega arith) (refl, (refl, (refl, (refl, tt)))) r
 

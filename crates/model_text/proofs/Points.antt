@@ -5,8 +5,8 @@ use mathlib.Core.List.{List, [], _∷_, map, _++_}
 use mathlib.Core.Option.{Option, none, some}
 use Prim.Native.Nat.{ℕ, _/_, _%_, _+_}
 use lib.ListN.{replicate}
-use Rattle.model_text.specs.Utf8.{isSurrogate, isScalar, encode, leadLength, ownBits, least, fitting, isTail, wellFormed, utf8}
-use Rattle.model_text.specs.Printable.{isPlain, isPrintable, isMarks, isKey}
+use Rattle.model_text.specs.Utf8.{isSurrogate, isScalar, encodeScalar, leadLength, ownBits, least, fitting, isTail, wellFormed, utf8}
+use Rattle.model_text.specs.Printable.{isPrintableByte, isPrintable, isMarks, isKey}
 use Rattle.model_text.specs.Stamp.{isDigit, isPair, isStamp, takesStamp}
 use Rattle.model_text.specs.Hex.{digitValue, lineBytes, digitOf, hexOf, decimal, refusalText}
 use Rattle.model_text.specs.Lines.{linesOf}
@@ -50,8 +50,8 @@ rows =
     ∷ (0x10FFFF, 0xF4 ∷ 0x8F ∷ 0xBF ∷ 0xBF ∷ [])
     ∷ []
 
-rows-hold : map (λ p. encode (p .0)) rows ≡ map (λ p. p .1) rows
-unfolding rows encode
+rows-hold : map (λ p. encodeScalar (p .0)) rows ≡ map (λ p. p .1) rows
+unfolding rows encodeScalar
 rows-hold = refl
 
 -- ---- stamps
@@ -98,7 +98,7 @@ marks =
     ∷ []
 
 marks-hold : map (λ p. isMarks (p .0)) marks ≡ map (λ p. p .1) marks
-unfolding marks isMarks isPrintable isPlain
+unfolding marks isMarks isPrintable isPrintableByte
 marks-hold = refl
 
 -- a key whose three first texts have n bytes, and whose last has m
@@ -109,7 +109,7 @@ keyOf : ℕ → ℕ → Bool
 keyOf n m = isKey (replicate n 0x41) (replicate n 0x41) (replicate n 0x41) (replicate m 0x41)
 
 keys-hold : map (λ p. keyOf (p .0 .0) (p .0 .1)) keys ≡ map (λ p. p .1) keys
-unfolding keys keyOf isKey isPrintable isPlain
+unfolding keys keyOf isKey isPrintable isPrintableByte
 keys-hold = refl
 
 -- ---- the program's lines: 09af, 0, nothing, 0g, 0A, AF, the bytes beside each range of digits

@@ -11,8 +11,8 @@ use lib.Dec.{eqb, ltb}
 use lib.ListN.{length, take, drop}
 use lib.Seq.{take-all, take-nil, length-take-le}
 use Rattle.model_text.specs.Hex.{longestLine, lineBytes}
-use Rattle.model_text.specs.Lines.{feed, linesOf, firstFeed, whole, part, cutAt, Handed, joined}
-use Rattle.model_text.specs.Lines.Handed.{ended, last, line, more}
+use Rattle.model_text.specs.Lines.{feed, linesOf, firstFeed, wholeLine, partLine, cutAt, Handed, joined}
+use Rattle.model_text.specs.Lines.Handed.{ended, lastLine, line, noFeed}
 
 -- ---- texts without a line feed
 
@@ -79,11 +79,11 @@ record Line (room : ℕ) (p s l rest : List ℕ) : Type 0 where
   pub line : l ≡ take room (p ++ take (firstFeed s) s)
   pub behind : rest ≡ drop (suc (firstFeed s)) s
 
-cut-line : (room : ℕ) (p s l rest : List ℕ) → cutAt room p s ≡ whole l rest → Line room p s l rest
+cut-line : (room : ℕ) (p s l rest : List ℕ) → cutAt room p s ≡ wholeLine l rest → Line room p s l rest
 unfolding cutAt
 cut-line room p s l rest e = go (ltb (firstFeed s) (length s)) refl e
   where
-    go : (t : Bool) → ltb (firstFeed s) (length s) ≡ t → cond t (whole (take room (p ++ take (firstFeed s) s)) (drop (firstFeed s + 1) s)) (part (take room (p ++ s))) ≡ whole l rest → Line room p s l rest
+    go : (t : Bool) → ltb (firstFeed s) (length s) ≡ t → cond t (wholeLine (take room (p ++ take (firstFeed s) s)) (drop (firstFeed s + 1) s)) (partLine (take room (p ++ s))) ≡ wholeLine l rest → Line room p s l rest
     go true q f = record { found = ltb-true (firstFeed s) (length s) q; line = cc; behind = cc (ap (λ (k : ℕ). drop k s) (add-one (firstFeed s))) }
     go false q f = absurd (let z : _≡_ {A = ℕ} 0 1 = cc in omega arith)
 
@@ -91,11 +91,11 @@ record Part (room : ℕ) (p s q : List ℕ) : Type 0 where
   pub none : length s ≤ firstFeed s
   pub kept : q ≡ take room (p ++ s)
 
-cut-part : (room : ℕ) (p s q : List ℕ) → cutAt room p s ≡ part q → Part room p s q
+cut-part : (room : ℕ) (p s q : List ℕ) → cutAt room p s ≡ partLine q → Part room p s q
 unfolding cutAt
 cut-part room p s q e = go (ltb (firstFeed s) (length s)) refl e
   where
-    go : (t : Bool) → ltb (firstFeed s) (length s) ≡ t → cond t (whole (take room (p ++ take (firstFeed s) s)) (drop (firstFeed s + 1) s)) (part (take room (p ++ s))) ≡ part q → Part room p s q
+    go : (t : Bool) → ltb (firstFeed s) (length s) ≡ t → cond t (wholeLine (take room (p ++ take (firstFeed s) s)) (drop (firstFeed s + 1) s)) (partLine (take room (p ++ s))) ≡ partLine q → Part room p s q
     go true h f = absurd (let z : _≡_ {A = ℕ} 0 1 = cc in omega arith)
     go false h f = record { none = ltb-false (firstFeed s) (length s) h; kept = cc }
 
@@ -111,15 +111,15 @@ lines-cut t s r c g =
 module _ (room : ℕ) (some : 1 ≤ room) where
   handed : {p : List ℕ} {pieces lines : List (List ℕ)} → Handed room p pieces lines → (t : List ℕ) → p ≡ take room t → NoFeed t → lines ≡ map (take room) (linesOf (t ++ joined pieces))
   handed ended t e c = rw (kept-none room t some e) refl
-  handed last [] e c = absurd (nil≢cons (sym (take-nil room) ∙ sym e))
-  handed last (a ∷ t) e c =
+  handed lastLine [] e c = absurd (nil≢cons (sym (take-nil room) ∙ sym e))
+  handed lastLine (a ∷ t) e c =
       ap (λ (l : List ℕ). l ∷ []) e ∙ sym (ap (λ (x : List ℕ). map (take room) (linesOf x)) (append-nil (a ∷ t)) ∙ ap (map (take room)) (lines-last a t c))
   handed {p} (line {s = s} {l = l} {rest = rest} {pieces = pieces} k h) t e c =
       let g = cut-line room p s l rest k in
       let front : l ≡ take room (t ++ take (firstFeed s) s) = g .line ∙ ap (λ (x : List ℕ). take room (x ++ take (firstFeed s) s)) e ∙ take-kept room t (take (firstFeed s) s) in
       let behind = handed h [] (sym (take-nil room)) tt ∙ ap (λ (x : List ℕ). map (take room) (linesOf (x ++ joined pieces))) (g .behind) in
       (λ i. front i ∷ behind i) ∙ sym (ap (map (take room)) (lines-cut t s (joined pieces) c (split s (g .found))))
-  handed {p} (more {s = s} {q = q} {pieces = pieces} k h) t e c =
+  handed {p} (noFeed {s = s} {q = q} {pieces = pieces} k h) t e c =
       let g = cut-part room p s q k in
       let kept : q ≡ take room (t ++ s) = g .kept ∙ ap (λ (x : List ℕ). take room (x ++ s)) e ∙ take-kept room t s in
       handed h (t ++ s) kept (both t s c (clear s (g .none))) ∙ ap (λ (x : List ℕ). map (take room) (linesOf x)) (append-assoc t s (joined pieces))

@@ -10,15 +10,15 @@ use lib.ListN.{length}
 unfoldable pub digitValue : ℕ → ℕ
 digitValue b = cond (leb 48 b && leb b 57) (b - 48) (cond (leb 97 b && leb b 102) (b - 87) 16)
 
-abbrev pub onto : ℕ → Option (List ℕ) → Option (List ℕ)
-onto x none = none
-onto x (some xs) = some (x ∷ xs)
+abbrev pub byteThen : ℕ → Option (List ℕ) → Option (List ℕ)
+byteThen x none = none
+byteThen x (some xs) = some (x ∷ xs)
 
 -- the bytes that the digits stand for: none for a bad digit or an odd number of them
 abbrev pub bytesFrom : List ℕ → Option (List ℕ)
 bytesFrom [] = some []
 bytesFrom (a ∷ []) = none
-bytesFrom (a ∷ b ∷ l) = cond (ltb (digitValue a) 16 && ltb (digitValue b) 16) (onto (digitValue a * 16 + digitValue b) (bytesFrom l)) none
+bytesFrom (a ∷ b ∷ l) = cond (ltb (digitValue a) 16 && ltb (digitValue b) 16) (byteThen (digitValue a * 16 + digitValue b) (bytesFrom l)) none
 
 -- the greatest number of digits in a line
 abbrev pub longestLine : ℕ

@@ -26,23 +26,23 @@ firstFeed [] = zero
 firstFeed (b ∷ s) = cond (eqb b feed) zero (suc (firstFeed s))
 
 -- a whole line and what stands behind its line feed, or a part of a line
-pub data Cut : Type 0 where
-  whole : List ℕ → List ℕ → Cut
-  part : List ℕ → Cut
+pub data LineCut : Type 0 where
+  wholeLine : List ℕ → List ℕ → LineCut
+  partLine : List ℕ → LineCut
 
 -- what the piece s gives behind p, where no more than `room` bytes of a line are kept
-unfoldable pub cutAt : ℕ → List ℕ → List ℕ → Cut
+unfoldable pub cutAt : ℕ → List ℕ → List ℕ → LineCut
 cutAt room p s =
     cond (ltb (firstFeed s) (length s))
-    (whole (take room (p ++ take (firstFeed s) s)) (drop (firstFeed s + 1) s))
-    (part (take room (p ++ s)))
+    (wholeLine (take room (p ++ take (firstFeed s) s)) (drop (firstFeed s + 1) s))
+    (partLine (take room (p ++ s)))
 
 -- the lines handed on, of the pieces that are read one after the other with p kept: each whole line, and at the end what is kept, if anything is
 pub data Handed (room : ℕ) : List ℕ → List (List ℕ) → List (List ℕ) → Type 0 where
   ended : Handed room [] [] []
-  last : {b : ℕ} {p : List ℕ} → Handed room (b ∷ p) [] ((b ∷ p) ∷ [])
-  line : {p s l rest : List ℕ} {pieces lines : List (List ℕ)} → cutAt room p s ≡ whole l rest → Handed room [] (rest ∷ pieces) lines → Handed room p (s ∷ pieces) (l ∷ lines)
-  more : {p s q : List ℕ} {pieces lines : List (List ℕ)} → cutAt room p s ≡ part q → Handed room q pieces lines → Handed room p (s ∷ pieces) lines
+  lastLine : {b : ℕ} {p : List ℕ} → Handed room (b ∷ p) [] ((b ∷ p) ∷ [])
+  line : {p s l rest : List ℕ} {pieces lines : List (List ℕ)} → cutAt room p s ≡ wholeLine l rest → Handed room [] (rest ∷ pieces) lines → Handed room p (s ∷ pieces) (l ∷ lines)
+  noFeed : {p s q : List ℕ} {pieces lines : List (List ℕ)} → cutAt room p s ≡ partLine q → Handed room q pieces lines → Handed room p (s ∷ pieces) lines
 
 -- all pieces as one text
 abbrev pub joined : List (List ℕ) → List ℕ

@@ -5,16 +5,16 @@ use Prim.Native.Nat.{ℕ}
 use lib.Dec.{leb}
 use lib.ListN.{length}
 
-unfoldable pub isPlain : ℕ → Bool
-isPlain b = leb 0x20 b && leb b 0x7E
+unfoldable pub isPrintableByte : ℕ → Bool
+isPrintableByte b = leb 0x20 b && leb b 0x7E
 
-abbrev pub allPlain : List ℕ → Bool
-allPlain [] = true
-allPlain (b ∷ l) = isPlain b && allPlain l
+abbrev pub allPrintable : List ℕ → Bool
+allPrintable [] = true
+allPrintable (b ∷ l) = isPrintableByte b && allPrintable l
 
 -- lo to hi printable bytes
 unfoldable pub isPrintable : ℕ → ℕ → List ℕ → Bool
-isPrintable lo hi s = leb lo (length s) && (leb (length s) hi && allPlain s)
+isPrintable lo hi s = leb lo (length s) && (leb (length s) hi && allPrintable s)
 
 -- marks: 0 to 64 bytes
 unfoldable pub isMarks : List ℕ → Bool

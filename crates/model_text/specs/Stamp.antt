@@ -5,10 +5,10 @@ use Prim.Native.Nat.{ℕ, _+_, _-_, _*_}
 use lib.Dec.{leb, eqb}
 
 -- a digit, two digits of a number from lo to hi, or one byte
-pub data Part : Type 0 where
-  digit : Part
-  pair : ℕ → ℕ → Part
-  mark : ℕ → Part
+pub data Pattern : Type 0 where
+  digit : Pattern
+  pair : ℕ → ℕ → Pattern
+  mark : ℕ → Pattern
 
 unfoldable pub isDigit : ℕ → Bool
 isDigit b = leb 48 b && leb b 57
@@ -17,32 +17,32 @@ unfoldable pub isPair : ℕ → ℕ → ℕ → ℕ → Bool
 isPair lo hi a b = isDigit a && isDigit b && (leb lo ((a - 48) * 10 + (b - 48)) && leb ((a - 48) * 10 + (b - 48)) hi)
 
 -- the bytes are these parts, one after the other, and nothing more
-abbrev pub fits : List Part → List ℕ → Bool
-fits [] [] = true
-fits [] (b ∷ l) = false
-fits (digit ∷ ps) [] = false
-fits (digit ∷ ps) (b ∷ l) = isDigit b && fits ps l
-fits (pair lo hi ∷ ps) [] = false
-fits (pair lo hi ∷ ps) (a ∷ []) = false
-fits (pair lo hi ∷ ps) (a ∷ b ∷ l) = isPair lo hi a b && fits ps l
-fits (mark m ∷ ps) [] = false
-fits (mark m ∷ ps) (b ∷ l) = eqb b m && fits ps l
+abbrev pub matches : List Pattern → List ℕ → Bool
+matches [] [] = true
+matches [] (b ∷ l) = false
+matches (digit ∷ ps) [] = false
+matches (digit ∷ ps) (b ∷ l) = isDigit b && matches ps l
+matches (pair lo hi ∷ ps) [] = false
+matches (pair lo hi ∷ ps) (a ∷ []) = false
+matches (pair lo hi ∷ ps) (a ∷ b ∷ l) = isPair lo hi a b && matches ps l
+matches (mark m ∷ ps) [] = false
+matches (mark m ∷ ps) (b ∷ l) = eqb b m && matches ps l
 
 -- YYYYMMDD
-abbrev pub date : List Part
+abbrev pub date : List Pattern
 date = digit ∷ digit ∷ digit ∷ digit ∷ pair 1 12 ∷ pair 1 31 ∷ []
 
 -- -HH:MM:SS
-abbrev pub clock : List Part
+abbrev pub clock : List Pattern
 clock = mark 45 ∷ pair 0 23 ∷ mark 58 ∷ pair 0 59 ∷ mark 58 ∷ pair 0 60 ∷ []
 
 -- .sss
-abbrev pub millis : List Part
+abbrev pub millis : List Pattern
 millis = mark 46 ∷ digit ∷ digit ∷ digit ∷ []
 
 -- a stamp that the store keeps
 unfoldable pub isStamp : List ℕ → Bool
-isStamp s = fits (date ++ clock) s || fits (date ++ clock ++ millis) s
+isStamp s = matches (date ++ clock) s || matches (date ++ clock ++ millis) s
 
 -- a stamp that reading takes in a version of the protocol
 unfoldable pub takesStamp : ℕ → List ℕ → Bool

@@ -19,8 +19,8 @@ isSurrogate c = leb 0xD800 c && leb c 0xDFFF
 unfoldable pub isScalar : ℕ → Bool
 isScalar c = leb c 0x10FFFF && not (isSurrogate c)
 
-unfoldable pub encode : ℕ → List ℕ
-encode c =
+unfoldable pub encodeScalar : ℕ → List ℕ
+encodeScalar c =
     cond (leb c 0x7F) (c ∷ [])
     (cond (leb c 0x7FF) ((0xC0 + c / 64) ∷ (0x80 + c % 64) ∷ [])
     (cond (leb c 0xFFFF) ((0xE0 + c / 64 / 64) ∷ (0x80 + c / 64 % 64) ∷ (0x80 + c % 64) ∷ [])
@@ -28,7 +28,7 @@ encode c =
 
 abbrev pub encodeAll : List ℕ → List ℕ
 encodeAll [] = []
-encodeAll (c ∷ cs) = encode c ++ encodeAll cs
+encodeAll (c ∷ cs) = encodeScalar c ++ encodeAll cs
 
 abbrev pub AllScalar : List ℕ → Type 0
 AllScalar [] = Unit {0}

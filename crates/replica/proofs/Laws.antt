@@ -7,8 +7,8 @@ use native.Mathlib.Omega.{arith}
 use lib.ListN.{length, getD}
 use borrow.Author.Tests.{lt-ltb, le-ltb, eq-eqb, ne-eqb}
 use Rattle.model_frame.specs.Bytes.{leAt}
-use Rattle.steps.specs.Steps.{roomOf}
-use Rattle.steps.specs.Calls.{handleAt}
+use Rattle.standby_step.specs.Steps.{roomOf}
+use Rattle.standby_step.specs.Calls.{handleAt}
 
 pub short : (f : List ℕ) → length f < 9 → 0 ≡ handleAt f
 short f l = sym (ap (λ (t : Bool). cond t 0 (leAt 4 f 5)) (lt-ltb (length f) 9 l))

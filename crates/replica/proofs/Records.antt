@@ -9,21 +9,21 @@ use types.Kit.{Given}
 use denote.RattleType.{RattleType}
 use denote.Laws.{Is, Tells, Makes}
 use denote.Struct.Laws as LL
-use Rattle.outcome.specs.declared.Replica.{Replica}
-use Rattle.outcome.proofs.Replica as Replica-type
-use Rattle.outcome.proofs.Replica.Laws as Replica-laws
-use Rattle.outcome.specs.declared.Settings.{Settings}
-use Rattle.outcome.proofs.Settings as Settings-type
-use Rattle.outcome.proofs.Settings.Laws as Settings-laws
-use Rattle.outcome.specs.declared.Answer.{Answer}
-use Rattle.outcome.proofs.Answer as Answer-type
-use Rattle.outcome.proofs.Answer.Laws as Answer-laws
-use Rattle.outcome.specs.declared.Outcome.{Outcome}
-use Rattle.outcome.proofs.Outcome as Outcome-type
-use Rattle.outcome.proofs.Outcome.Laws as Outcome-laws
-use Rattle.replica.specs.declared.Kept.{Kept}
-use Rattle.replica.proofs.Kept as Kept-type
-use Rattle.replica.proofs.Kept.Laws as Kept-laws
+use Rattle.standby_state.specs.declared.Replica.{Replica}
+use Rattle.standby_state.proofs.Replica as Replica-type
+use Rattle.standby_state.proofs.Replica.Laws as Replica-laws
+use Rattle.standby_state.specs.declared.Settings.{Settings}
+use Rattle.standby_state.proofs.Settings as Settings-type
+use Rattle.standby_state.proofs.Settings.Laws as Settings-laws
+use Rattle.standby_state.specs.declared.Answer.{Answer}
+use Rattle.standby_state.proofs.Answer as Answer-type
+use Rattle.standby_state.proofs.Answer.Laws as Answer-laws
+use Rattle.standby_state.specs.declared.Outcome.{Outcome}
+use Rattle.standby_state.proofs.Outcome as Outcome-type
+use Rattle.standby_state.proofs.Outcome.Laws as Outcome-laws
+use Rattle.replica.specs.declared.CallResult.{CallResult}
+use Rattle.replica.proofs.CallResult as CallResult-type
+use Rattle.replica.proofs.CallResult.Laws as CallResult-laws
 
 abbrev pub R-Replica : RattleType
 R-Replica = Replica-type.the-row
@@ -89,18 +89,18 @@ module _ {M : Type 1} (𝓤 : URA M) (H : Heap 𝓤) (A : Atoms 𝓤) (W : Given
   pub makes-Outcome : Makes 𝓤 H A R-Outcome (Is R-Outcome)
   makes-Outcome = LL.makes Outcome-type.the-type Outcome-laws.the-plain 𝓤 H A
 
-abbrev pub R-Kept : RattleType
-R-Kept = Kept-type.the-row
+abbrev pub R-CallResult : RattleType
+R-CallResult = CallResult-type.the-row
 
-abbrev pub val-Kept : Kept → Val
-val-Kept = LL.val Kept-type.the-type Kept-laws.the-laws
+abbrev pub val-CallResult : CallResult → Val
+val-CallResult = LL.val CallResult-type.the-type CallResult-laws.the-laws
 
-abbrev pub vals-Kept : Kept → List Val
-vals-Kept = LL.vals Kept-type.the-type Kept-laws.the-laws
+abbrev pub vals-CallResult : CallResult → List Val
+vals-CallResult = LL.vals CallResult-type.the-type CallResult-laws.the-laws
 
-pub tells-Kept : Tells R-Kept (Is R-Kept) vals-Kept
-tells-Kept = LL.tells Kept-type.the-type Kept-laws.the-laws
+pub tells-CallResult : Tells R-CallResult (Is R-CallResult) vals-CallResult
+tells-CallResult = LL.tells CallResult-type.the-type CallResult-laws.the-laws
 
 module _ {M : Type 1} (𝓤 : URA M) (H : Heap 𝓤) (A : Atoms 𝓤) (W : Given 𝓤 H A) where
-  pub makes-Kept : Makes 𝓤 H A R-Kept (Is R-Kept)
-  makes-Kept = LL.makes Kept-type.the-type Kept-laws.the-plain 𝓤 H A
+  pub makes-CallResult : Makes 𝓤 H A R-CallResult (Is R-CallResult)
+  makes-CallResult = LL.makes CallResult-type.the-type CallResult-laws.the-plain 𝓤 H A

@@ -2,17 +2,19 @@
 ghost use mathlib.Core.Path.{_≡_};
 ghost use Prim.Native.Nat.{max};
 ghost use lib.ListN.{getD};
-ghost use Rattle.model.specs.State.{onFrameHeld, onFrame, flush, disconnectedFrom, promote, promoteUnchecked};
-ghost use Rattle.steps.specs.Calls.{handleAt, Called};
+ghost use Rattle.model_standby.specs.State.{onFrameHeld, onFrame, flush, disconnectedFrom, promote, promoteUnchecked};
+ghost use Rattle.standby_step.specs.Calls.{handleAt, Called};
 ghost use Rattle.replica.specs.Making.{newReplica, MakeIs, MadeOver};
+use base_refusals::RULES_BROKEN;
 use frame::Epoch;
 use frame::Incarnation;
-use outcome::Answer;
-use outcome::Outcome;
-use outcome::Replica;
-use outcome::Settings;
-use row::Handle;
-use row::Seen;
+use standby_row::Bound;
+use standby_row::Lookup;
+use standby_state::Answer;
+use standby_state::Outcome;
+use standby_state::Replica;
+use standby_state::Settings;
+use store_areas::word;
 
 // Where a Bind and a Batch have their handle.
 fn handle_at(frame: &[u8]) -> u32
@@ -21,7 +23,7 @@ fn handle_at(frame: &[u8]) -> u32
     if frame.len() < 9 {
         return 0;
     }
-    wire::u32_at(frame, 5)
+    base_bytes::u32_at(frame, 5)
 }
 
 // How many places of the store are in use.
@@ -31,144 +33,152 @@ fn places_in_use(words: &[u64]) -> usize
     if words.len() == 0 {
         return 0;
     }
-    words[0] as usize
+    words[word::USED] as usize
 }
 
 // A frame that may be held back: its answer is sent once the pending commits have run.
 #[no_mangle]
 pub extern "C" fn on_frame_held(
-    c: &mut Replica,
-    row: &mut [Handle],
+    counters: &mut Replica,
+    row: &mut [Bound],
     words: &mut [u64],
     bytes: &mut [u8],
     holds: &mut [u8],
     frame: &[u8],
-    s: Settings,
+    settings: Settings,
 ) -> Answer
-    ensures { λ r. ⌜ Called s (onFrameHeld (now (frame .entry))) (now (c .entry)) (now (c .exit)) (now (row .entry)) (now (row .exit)) (now (words .entry)) (now (words .exit)) (now (bytes .entry)) (now (bytes .exit)) (now (holds .entry)) (now (holds .exit)) r ⌝ }
+    ensures { λ r. ⌜ Called settings (onFrameHeld (now (frame .entry))) (now (counters .entry)) (now (counters .exit)) (now (row .entry)) (now (row .exit)) (now (words .entry)) (now (words .exit)) (now (bytes .entry)) (now (bytes .exit)) (now (holds .entry)) (now (holds .exit)) r ⌝ }
 {
     let handle = handle_at(frame);
     let used = places_in_use(words);
     let len = row.len();
-    let room = due_batch::room_of(holds, len);
-    let seen = row::look(row, handle, used, room);
-    let o = standby::frame_held(*c, seen, words, bytes, holds, frame, s);
-    row::act(row, o.at, o.from, o.slot);
-    *c = o.replica;
+    let room = standby_batch_due::room_of(holds, len);
+    let seen = standby_row::look_up(row, handle, used, room);
+    let o = standby_frame::on_frame_held(*counters, seen, words, bytes, holds, frame, settings);
+    standby_row::update(row, o.at, o.from, o.bound);
+    *counters = o.replica;
     o.answer
 }
 
 // A frame, and then the pending commits.
 #[no_mangle]
 pub extern "C" fn on_frame(
-    c: &mut Replica,
-    row: &mut [Handle],
+    counters: &mut Replica,
+    row: &mut [Bound],
     words: &mut [u64],
     bytes: &mut [u8],
     holds: &mut [u8],
     frame: &[u8],
-    s: Settings,
+    settings: Settings,
 ) -> Answer
-    ensures { λ r. ⌜ Called s (onFrame (now (frame .entry))) (now (c .entry)) (now (c .exit)) (now (row .entry)) (now (row .exit)) (now (words .entry)) (now (words .exit)) (now (bytes .entry)) (now (bytes .exit)) (now (holds .entry)) (now (holds .exit)) r ⌝ }
+    ensures { λ r. ⌜ Called settings (onFrame (now (frame .entry))) (now (counters .entry)) (now (counters .exit)) (now (row .entry)) (now (row .exit)) (now (words .entry)) (now (words .exit)) (now (bytes .entry)) (now (bytes .exit)) (now (holds .entry)) (now (holds .exit)) r ⌝ }
 {
     let handle = handle_at(frame);
     let used = places_in_use(words);
     let len = row.len();
-    let room = due_batch::room_of(holds, len);
-    let seen = row::look(row, handle, used, room);
-    let o = standby::frame_now(*c, seen, words, bytes, holds, frame, s);
-    row::act(row, o.at, o.from, o.slot);
-    *c = o.replica;
+    let room = standby_batch_due::room_of(holds, len);
+    let seen = standby_row::look_up(row, handle, used, room);
+    let o = standby_frame::on_frame(*counters, seen, words, bytes, holds, frame, settings);
+    standby_row::update(row, o.at, o.from, o.bound);
+    *counters = o.replica;
     o.answer
 }
 
 // Runs the pending commits of a connection.
 #[no_mangle]
 pub extern "C" fn flush(
-    c: &mut Replica,
-    row: &mut [Handle],
+    counters: &mut Replica,
+    row: &mut [Bound],
     words: &mut [u64],
     bytes: &mut [u8],
     holds: &mut [u8],
     connection: u64,
-    s: Settings,
+    settings: Settings,
 ) -> Answer
-    ensures { λ r. ⌜ Called s (flush connection) (now (c .entry)) (now (c .exit)) (now (row .entry)) (now (row .exit)) (now (words .entry)) (now (words .exit)) (now (bytes .entry)) (now (bytes .exit)) (now (holds .entry)) (now (holds .exit)) r ⌝ }
+    ensures { λ r. ⌜ Called settings (flush connection) (now (counters .entry)) (now (counters .exit)) (now (row .entry)) (now (row .exit)) (now (words .entry)) (now (words .exit)) (now (bytes .entry)) (now (bytes .exit)) (now (holds .entry)) (now (holds .exit)) r ⌝ }
 {
     let used = places_in_use(words);
     let len = row.len();
-    let room = due_batch::room_of(holds, len);
-    let seen = row::look(row, 0, used, room);
-    let o = calls::flush(*c, seen, words, bytes, holds, connection, s);
-    row::act(row, o.at, o.from, o.slot);
-    *c = o.replica;
+    let room = standby_batch_due::room_of(holds, len);
+    let seen = standby_row::look_up(row, 0, used, room);
+    let o = standby_lifecycle::flush(*counters, seen, words, bytes, holds, connection, settings);
+    standby_row::update(row, o.at, o.from, o.bound);
+    *counters = o.replica;
     o.answer
 }
 
 // The connection is gone: with it go the bindings and the pending commits.
 #[no_mangle]
 pub extern "C" fn disconnected_from(
-    c: &mut Replica,
-    row: &mut [Handle],
+    counters: &mut Replica,
+    row: &mut [Bound],
     words: &mut [u64],
     bytes: &mut [u8],
     holds: &mut [u8],
     connection: u64,
-    s: Settings,
+    settings: Settings,
 ) -> Answer
-    ensures { λ r. ⌜ Called s (disconnectedFrom connection) (now (c .entry)) (now (c .exit)) (now (row .entry)) (now (row .exit)) (now (words .entry)) (now (words .exit)) (now (bytes .entry)) (now (bytes .exit)) (now (holds .entry)) (now (holds .exit)) r ⌝ }
+    ensures { λ r. ⌜ Called settings (disconnectedFrom connection) (now (counters .entry)) (now (counters .exit)) (now (row .entry)) (now (row .exit)) (now (words .entry)) (now (words .exit)) (now (bytes .entry)) (now (bytes .exit)) (now (holds .entry)) (now (holds .exit)) r ⌝ }
 {
     let used = places_in_use(words);
     let len = row.len();
-    let room = due_batch::room_of(holds, len);
-    let seen = row::look(row, 0, used, room);
-    let o = calls::disconnected_from(*c, seen, words, bytes, holds, connection, s);
-    row::act(row, o.at, o.from, o.slot);
-    *c = o.replica;
+    let room = standby_batch_due::room_of(holds, len);
+    let seen = standby_row::look_up(row, 0, used, room);
+    let o = standby_lifecycle::disconnected_from(
+        *counters,
+        seen,
+        words,
+        bytes,
+        holds,
+        connection,
+        settings,
+    );
+    standby_row::update(row, o.at, o.from, o.bound);
+    *counters = o.replica;
     o.answer
 }
 
 // Promotes a standby that was checked.
 #[no_mangle]
 pub extern "C" fn promote(
-    c: &mut Replica,
-    row: &mut [Handle],
+    counters: &mut Replica,
+    row: &mut [Bound],
     words: &mut [u64],
     bytes: &mut [u8],
     holds: &mut [u8],
-    s: Settings,
+    settings: Settings,
 ) -> Answer
-    ensures { λ r. ⌜ Called s promote (now (c .entry)) (now (c .exit)) (now (row .entry)) (now (row .exit)) (now (words .entry)) (now (words .exit)) (now (bytes .entry)) (now (bytes .exit)) (now (holds .entry)) (now (holds .exit)) r ⌝ }
+    ensures { λ r. ⌜ Called settings promote (now (counters .entry)) (now (counters .exit)) (now (row .entry)) (now (row .exit)) (now (words .entry)) (now (words .exit)) (now (bytes .entry)) (now (bytes .exit)) (now (holds .entry)) (now (holds .exit)) r ⌝ }
 {
     let used = places_in_use(words);
     let len = row.len();
-    let room = due_batch::room_of(holds, len);
-    let seen = row::look(row, 0, used, room);
-    let o = calls::promote(*c, seen, words, bytes, holds, s);
-    row::act(row, o.at, o.from, o.slot);
-    *c = o.replica;
+    let room = standby_batch_due::room_of(holds, len);
+    let seen = standby_row::look_up(row, 0, used, room);
+    let o = standby_lifecycle::promote(*counters, seen, words, bytes, holds, settings);
+    standby_row::update(row, o.at, o.from, o.bound);
+    *counters = o.replica;
     o.answer
 }
 
 // Promotes a standby, checked or not.
 #[no_mangle]
 pub extern "C" fn promote_unchecked(
-    c: &mut Replica,
-    row: &mut [Handle],
+    counters: &mut Replica,
+    row: &mut [Bound],
     words: &mut [u64],
     bytes: &mut [u8],
     holds: &mut [u8],
-    s: Settings,
+    settings: Settings,
 ) -> Answer
-    ensures { λ r. ⌜ Called s promoteUnchecked (now (c .entry)) (now (c .exit)) (now (row .entry)) (now (row .exit)) (now (words .entry)) (now (words .exit)) (now (bytes .entry)) (now (bytes .exit)) (now (holds .entry)) (now (holds .exit)) r ⌝ }
+    ensures { λ r. ⌜ Called settings promoteUnchecked (now (counters .entry)) (now (counters .exit)) (now (row .entry)) (now (row .exit)) (now (words .entry)) (now (words .exit)) (now (bytes .entry)) (now (bytes .exit)) (now (holds .entry)) (now (holds .exit)) r ⌝ }
 {
     let used = places_in_use(words);
     let len = row.len();
-    let room = due_batch::room_of(holds, len);
-    let seen = row::look(row, 0, used, room);
-    let o = calls::promote_unchecked(*c, seen, words, bytes, holds, s);
-    row::act(row, o.at, o.from, o.slot);
-    *c = o.replica;
+    let room = standby_batch_due::room_of(holds, len);
+    let seen = standby_row::look_up(row, 0, used, room);
+    let o = standby_lifecycle::promote_unchecked(*counters, seen, words, bytes, holds, settings);
+    standby_row::update(row, o.at, o.from, o.bound);
+    *counters = o.replica;
     o.answer
 }
 
@@ -184,91 +194,97 @@ pub fn new() -> Replica
     }
 }
 
-fn made(c: Replica, seen: Seen, words: &mut [u64], bytes: &[u8], s: Settings) -> Outcome
-    ensures { λ r. ⌜ MakeIs s c seen (now (words .entry)) (now (words .exit)) (now (bytes .entry)) r ⌝ }
+fn made(
+    counters: Replica,
+    lookup: Lookup,
+    words: &mut [u64],
+    bytes: &[u8],
+    settings: Settings,
+) -> Outcome
+    ensures { λ r. ⌜ MakeIs settings counters lookup (now (words .entry)) (now (words .exit)) (now (bytes .entry)) r ⌝ }
 {
-    if areas::allowed(s.shape, words, bytes) {
-        words[1] = 0;
-        return outcome::clears(new(), seen, outcome::done());
+    if store_areas::allowed(settings.shape, words, bytes) {
+        words[word::PENDING] = 0;
+        return standby_state::cleared(new(), lookup, standby_state::done());
     }
-    outcome::leaves(c, seen, outcome::refused(25))
+    standby_state::unchanged(counters, lookup, standby_state::refused(RULES_BROKEN))
 }
 
 // Makes a standby over a store: new counters, no pending commit, every record of the row freed.
 #[no_mangle]
 pub extern "C" fn make(
-    c: &mut Replica,
-    row: &mut [Handle],
+    counters: &mut Replica,
+    row: &mut [Bound],
     words: &mut [u64],
     bytes: &[u8],
-    s: Settings,
+    settings: Settings,
 ) -> Answer
-    ensures { λ r. ⌜ MadeOver s (now (c .entry)) (now (c .exit)) (now (row .entry)) (now (row .exit)) (now (words .entry)) (now (words .exit)) (now (bytes .entry)) r ⌝ }
+    ensures { λ r. ⌜ MadeOver settings (now (counters .entry)) (now (counters .exit)) (now (row .entry)) (now (row .exit)) (now (words .entry)) (now (words .exit)) (now (bytes .entry)) r ⌝ }
 {
-    let seen = row::look(row, 0, 0, 0);
-    let o = made(*c, seen, words, bytes, s);
-    row::act(row, o.at, o.from, o.slot);
-    *c = o.replica;
+    let seen = standby_row::look_up(row, 0, 0, 0);
+    let o = made(*counters, seen, words, bytes, settings);
+    standby_row::update(row, o.at, o.from, o.bound);
+    *counters = o.replica;
     o.answer
 }
 
 // The standby's epoch.
-pub fn epoch(c: Replica) -> Epoch
-    ensures { λ r. ⌜ r ≡ c .epoch ⌝ }
+pub fn epoch(counters: Replica) -> Epoch
+    ensures { λ r. ⌜ r ≡ counters .epoch ⌝ }
 {
-    c.epoch
+    counters.epoch
 }
 
 // The connections so far: the number of the last one.
-pub fn connection(c: Replica) -> u64
-    ensures { λ r. ⌜ r ≡ c .connections ⌝ }
+pub fn connection(counters: Replica) -> u64
+    ensures { λ r. ⌜ r ≡ counters .connections ⌝ }
 {
-    c.connections
+    counters.connections
 }
 
-pub fn checked(c: Replica) -> bool
-    ensures { λ r. ⌜ r ≡ c .checked ⌝ }
+pub fn checked(counters: Replica) -> bool
+    ensures { λ r. ⌜ r ≡ counters .checked ⌝ }
 {
-    c.checked
+    counters.checked
 }
 
-pub fn promoted(c: Replica) -> bool
-    ensures { λ r. ⌜ r ≡ c .promoted ⌝ }
+pub fn promoted(counters: Replica) -> bool
+    ensures { λ r. ⌜ r ≡ counters .promoted ⌝ }
 {
-    c.promoted
+    counters.promoted
 }
 
 // This run of the standby: 0 is taken as 1.
-pub fn incarnation(s: Settings) -> Incarnation
-    ensures { λ r. ⌜ r .0 ≡ max (s .incarnation .0) 1 ⌝ }
+pub fn incarnation(settings: Settings) -> Incarnation
+    ensures { λ r. ⌜ r .0 ≡ max (settings .incarnation .0) 1 ⌝ }
 {
-    greet::incarnation(s)
+    standby_hello::incarnation(settings)
 }
 
 // What a call by value gives: the counters and the row after it, and its answer.
 #[repr(C)]
-pub struct Kept {
+pub struct CallResult {
     pub replica: Replica,
-    pub row: [Handle; 4],
+    pub row: [Bound; 4],
     pub answer: Answer,
 }
 
 // A frame by value, over four handles: it lends the counters and the row itself, so whoever calls it needs no walk.
 pub fn on_frame4(
-    c: Replica,
-    row: [Handle; 4],
+    counters: Replica,
+    row: [Bound; 4],
     words: &mut [u64],
     bytes: &mut [u8],
     holds: &mut [u8],
     frame: &[u8],
-    s: Settings,
-) -> Kept
-    ensures { λ r. ⌜ Called s (onFrame (now (frame .entry))) c (r .replica) row (r .row) (now (words .entry)) (now (words .exit)) (now (bytes .entry)) (now (bytes .exit)) (now (holds .entry)) (now (holds .exit)) (r .answer) ⌝ }
+    settings: Settings,
+) -> CallResult
+    ensures { λ r. ⌜ Called settings (onFrame (now (frame .entry))) counters (r .replica) row (r .row) (now (words .entry)) (now (words .exit)) (now (bytes .entry)) (now (bytes .exit)) (now (holds .entry)) (now (holds .exit)) (r .answer) ⌝ }
 {
-    let mut d = c;
+    let mut d = counters;
     let mut t = row;
-    let answer = on_frame(&mut d, &mut t, words, bytes, holds, frame, s);
-    Kept {
+    let answer = on_frame(&mut d, &mut t, words, bytes, holds, frame, settings);
+    CallResult {
         replica: d,
         row: t,
         answer: answer,

@@ -1,12 +1,12 @@
 // Runs a script: fills sessions of small stores and sends them whole. What it must write was recorded from the Rust by
-// tests/active_vectors, which also wrote the script. A line is a letter, a character, and what it takes:
+// tests/make/active_vectors.py, which also wrote the script. A line is a letter, a character, and what it takes:
 // `n S C M` a new store of S places, `o:TEXT` opens the session with this target, `p I` place I; what follows is about that place:
 // `i N` SetNextIncoming, `b N F` SetNextIncomingInFlight, `f N` SetInFlight, `t:TEXT` the stamp, `k:TEXT` the marks, `m:TEXT` a
 // Record with this message, `l LENGTH` one with a made message, `g N` one without message, `z` Reset;
 // `w HANDLE EPOCH LAST` a sending, `v HANDLE EPOCH LAST LENGTH` one that lends so many bytes first and more after a 9,
 // `x LAST FROM` a call with a state that no beginning gave.
-use areas::Shape;
 use libc::STDIN_FILENO;
+use store_areas::Shape;
 
 // The store's shape and the place that commands are about.
 #[repr(C)]
@@ -17,15 +17,15 @@ struct At {
 
 // A new store.
 fn make(line: &[u8], words: &mut [u64], bytes: &[u8]) -> At {
-    let places = script::low(script::field(line, 0));
-    let cap = script::low(script::field(line, 1));
-    let max = script::low(script::field(line, 2));
+    let places = vectors_script::low(vectors_script::field(line, 0));
+    let cap = vectors_script::low(vectors_script::field(line, 1));
+    let max = vectors_script::low(vectors_script::field(line, 2));
     let shape = Shape {
         places,
         bytes: cap,
         messages: max,
     };
-    store_c::store_make(words, bytes, shape);
+    c_store::store_make(words, bytes, shape);
     At { shape, place: 0 }
 }
 
@@ -35,7 +35,7 @@ fn open(line: &[u8], words: &mut [u64], bytes: &mut [u8], at: At) -> At {
     if line.len() < 2 {
         return at;
     }
-    let place = store_c::store_open(words, bytes, shape, b"FIX.4.4", b"A", &line[2..], b"");
+    let place = c_store::store_open(words, bytes, shape, b"FIX.4.4", b"A", &line[2..], b"");
     At {
         shape,
         place: place as usize,
@@ -43,27 +43,34 @@ fn open(line: &[u8], words: &mut [u64], bytes: &mut [u8], at: At) -> At {
 }
 
 // A change of numbers.
-fn number(letter: u8, line: &[u8], words: &mut [u64], bytes: &[u8], shape: Shape, i: usize) {
-    let n = script::field(line, 0);
+fn number(letter: u8, line: &[u8], words: &mut [u64], bytes: &[u8], shape: Shape, place: usize) {
+    let n = vectors_script::field(line, 0);
     match letter {
-        b'i' => fill::set_incoming(words, bytes, shape, i, n),
-        b'b' => fill::set_both(words, bytes, shape, i, n, script::field(line, 1)),
-        b'f' => fill::set_flight(words, bytes, shape, i, n),
-        b'g' => fill::skip(words, bytes, shape, i, n),
-        b'z' => fill::reset(words, bytes, shape, i),
+        b'i' => vectors_fill::set_incoming(words, bytes, shape, place, n),
+        b'b' => vectors_fill::set_both(
+            words,
+            bytes,
+            shape,
+            place,
+            n,
+            vectors_script::field(line, 1),
+        ),
+        b'f' => vectors_fill::set_flight(words, bytes, shape, place, n),
+        b'g' => vectors_fill::skip(words, bytes, shape, place, n),
+        b'z' => vectors_fill::reset(words, bytes, shape, place),
         _ => {}
     }
 }
 
 // A change with a text.
-fn text(letter: u8, line: &[u8], words: &mut [u64], bytes: &mut [u8], shape: Shape, i: usize) {
+fn text(letter: u8, line: &[u8], words: &mut [u64], bytes: &mut [u8], shape: Shape, place: usize) {
     if line.len() < 2 {
         return;
     }
     match letter {
-        b't' => fill::set_stamp(words, bytes, shape, i, &line[2..]),
-        b'k' => fill::set_marks(words, bytes, shape, i, &line[2..]),
-        b'm' => fill::record(words, bytes, shape, i, &line[2..]),
+        b't' => vectors_fill::set_stamp(words, bytes, shape, place, &line[2..]),
+        b'k' => vectors_fill::set_marks(words, bytes, shape, place, &line[2..]),
+        b'm' => vectors_fill::record(words, bytes, shape, place, &line[2..]),
         _ => {}
     }
 }
@@ -75,20 +82,40 @@ fn sending(
     words: &[u64],
     bytes: &[u8],
     shape: Shape,
-    i: usize,
+    place: usize,
     out: &mut [u8],
 ) {
-    let a = script::field(line, 0);
-    let b = script::field(line, 1);
-    let c = script::field(line, 2);
+    let a = vectors_script::field(line, 0);
+    let b = vectors_script::field(line, 1);
+    let c = vectors_script::field(line, 2);
     let long = out.len();
     match letter {
-        b'w' => sendings::whole(words, bytes, shape, i, script::low(a), b, c, out, long),
+        b'w' => vectors_sendings::whole(
+            words,
+            bytes,
+            shape,
+            place,
+            vectors_script::low(a),
+            b,
+            c,
+            out,
+            long,
+        ),
         b'v' => {
-            let short = script::field(line, 3) as usize;
-            sendings::whole(words, bytes, shape, i, script::low(a), b, c, out, short)
+            let short = vectors_script::field(line, 3) as usize;
+            vectors_sendings::whole(
+                words,
+                bytes,
+                shape,
+                place,
+                vectors_script::low(a),
+                b,
+                c,
+                out,
+                short,
+            )
         }
-        b'x' => sendings::odd(words, bytes, shape, i, a, b, out),
+        b'x' => vectors_sendings::odd(words, bytes, shape, place, a, b, out),
         _ => {}
     }
 }
@@ -103,10 +130,17 @@ fn command(line: &[u8], words: &mut [u64], bytes: &mut [u8], out: &mut [u8], at:
         b'o' => open(line, words, bytes, at),
         b'p' => At {
             shape,
-            place: script::field(line, 0) as usize,
+            place: vectors_script::field(line, 0) as usize,
         },
         b'l' => {
-            fill::record_made(words, bytes, shape, i, script::field(line, 0) as usize, out);
+            vectors_fill::record_made(
+                words,
+                bytes,
+                shape,
+                i,
+                vectors_script::field(line, 0) as usize,
+                out,
+            );
             at
         }
         b't' | b'k' | b'm' => {
@@ -136,7 +170,7 @@ fn run(script: &[u8], words: &mut [u64], bytes: &mut [u8], out: &mut [u8]) {
     };
     let mut at: usize = 0;
     while at < script.len() {
-        let end = script::line_end(script, at);
+        let end = vectors_script::line_end(script, at);
         now = command(&script[at..end], words, bytes, out, now);
         at = end + 1;
     }

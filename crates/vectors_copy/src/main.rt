@@ -1,6 +1,6 @@
 // Sends a session A whole from one store to a standby over another, whose session is B, and damages, repeats and drops frames on the
 // way. After each frame that the standby is given it writes the answer (kind, refusal, reason) and which session the standby then has: A,
-// B or neither, by a hash over all six parts. What it must write was recorded from the Rust by tests/copy_vectors, which also wrote
+// B or neither, by a hash over all six parts. What it must write was recorded from the Rust by tests/make/copy_vectors.py, which also wrote
 // the script. A line is a letter, a character, and what it takes:
 // `n S C M` two new stores of S places and a new standby, `o:TEXT` opens A with this target; changes of A: `m:TEXT` a Record with this message, `l LENGTH` one with a made
 // message, `g N` one without message, `b N F` SetNextIncomingInFlight, `t:TEXT` the stamp, `k:TEXT` the marks;
@@ -9,27 +9,27 @@
 use active::Begun;
 use active::Sending;
 use active::Sent;
-use areas::Shape;
+use base_hex::Line;
 use frame::CommitNumber;
 use frame::Epoch;
 use frame::Incarnation;
-use hex::Line;
 use libc::STDIN_FILENO;
 use libc::STDOUT_FILENO;
-use outcome::Answer;
-use outcome::Replica;
-use outcome::Settings;
-use place::Flight;
-use row::Handle;
-use sessions::Summarised;
-use store::Summary;
+use standby_row::Bound;
+use standby_state::Answer;
+use standby_state::Replica;
+use standby_state::Settings;
+use store_areas::Shape;
+use store_place::Flight;
+use store_sessions::Summarised;
+use store_state::StoredSummary;
 
 // The stores' shape, what the standby keeps, the sending, the length of the frame that it gave last, and B's hash.
 #[repr(C)]
 struct Way {
     shape: Shape,
     replica: Replica,
-    row: [Handle; 4],
+    row: [Bound; 4],
     sending: Sending,
     len: usize,
     before: u64,
@@ -43,51 +43,51 @@ fn put_number(b: u8) {
     io::print_decimal(STDOUT_FILENO, b as u64);
 }
 
-fn put_answer(a: Answer) {
-    put_number(a.kind);
+fn put_answer(answer: Answer) {
+    put_number(answer.kind);
     put(b"/");
-    put_number(a.refusal);
+    put_number(answer.refusal);
     put(b"/");
-    put_number(a.reason);
+    put_number(answer.reason);
 }
 
 // The hash h carried over a text's length and bytes.
-fn text_hash(h: u64, bytes: &[u8], at: usize, len: usize) -> u64 {
-    let h = log::fnv::word(h, len as u64);
+fn text_hash(hash: u64, bytes: &[u8], at: usize, len: usize) -> u64 {
+    let hash = store_log::fnv::word(hash, len as u64);
     if at <= bytes.len() {
         if len <= bytes.len() - at {
             let end = at + len;
-            return log::fnv::bytes(h, &bytes[at..end]);
+            return store_log::fnv::bytes(hash, &bytes[at..end]);
         }
     }
-    h
+    hash
 }
 
-fn flight_hash(h: u64, f: Flight) -> u64 {
-    match f {
-        Flight::Nothing => log::fnv::word(h, 0),
-        Flight::Number(n) => log::fnv::word(log::fnv::word(h, 1), n),
+fn flight_hash(hash: u64, flight: Flight) -> u64 {
+    match flight {
+        Flight::Nothing => store_log::fnv::word(hash, 0),
+        Flight::Number(n) => store_log::fnv::word(store_log::fnv::word(hash, 1), n),
     }
 }
 
 // A hash over a session's six parts; the messages and their numbers are in last_outgoing.
-fn summary_hash(bytes: &[u8], s: Summary) -> u64 {
+fn summary_hash(bytes: &[u8], s: StoredSummary) -> u64 {
     let stamp = s.created_at;
     let marks = s.marks;
     let flight = s.in_flight;
-    let h = log::fnv::word(0xcbf2_9ce4_8422_2325, s.next_outgoing);
-    let h = log::fnv::word(h, s.next_incoming);
+    let h = store_log::fnv::word(0xcbf2_9ce4_8422_2325, s.next_outgoing);
+    let h = store_log::fnv::word(h, s.next_incoming);
     let h = flight_hash(h, flight);
     let h = text_hash(h, bytes, stamp.at, stamp.len);
     let h = text_hash(h, bytes, marks.at, marks.len);
-    log::fnv::word(h, s.last_outgoing)
+    store_log::fnv::word(h, s.last_outgoing)
 }
 
 // The hash of a store's first session, 0 where it has none.
 fn hash(words: &[u64], bytes: &[u8], shape: Shape) -> u64 {
-    match sessions::summary(words, bytes, shape, 0, u64::MAX) {
+    match store_sessions::summary(words, bytes, shape, 0, u64::MAX) {
         Summarised::Session(s) => summary_hash(bytes, s),
-        Summarised::Unfit => 0,
+        Summarised::InvalidAreas => 0,
     }
 }
 
@@ -105,17 +105,23 @@ fn put_which(now: u64, a: u64, b: u64) {
 }
 
 // Two new stores and a new standby.
-fn make(line: &[u8], wa: &mut [u64], ba: &[u8], wb: &mut [u64], bb: &[u8]) -> Way {
-    let places = script::low(script::field(line, 0));
-    let cap = script::low(script::field(line, 1));
-    let max = script::low(script::field(line, 2));
+fn make(
+    line: &[u8],
+    words_start: &mut [u64],
+    bytes_start: &[u8],
+    wb: &mut [u64],
+    bb: &[u8],
+) -> Way {
+    let places = vectors_script::low(vectors_script::field(line, 0));
+    let cap = vectors_script::low(vectors_script::field(line, 1));
+    let max = vectors_script::low(vectors_script::field(line, 2));
     let shape = Shape {
         places,
         bytes: cap,
         messages: max,
     };
-    store_c::store_make(wa, ba, shape);
-    store_c::store_make(wb, bb, shape);
+    c_store::store_make(words_start, bytes_start, shape);
+    c_store::store_make(wb, bb, shape);
     start(shape)
 }
 
@@ -124,7 +130,7 @@ fn start(shape: Shape) -> Way {
     Way {
         shape,
         replica: replica::new(),
-        row: [row::nobody(); 4],
+        row: [standby_row::free_record(); 4],
         sending: Sending {
             place: 0,
             handle: 0,
@@ -140,7 +146,7 @@ fn start(shape: Shape) -> Way {
 
 // Opens A, with this target.
 fn open(words: &mut [u64], bytes: &mut [u8], shape: Shape, target: &[u8]) {
-    store_c::store_open(words, bytes, shape, b"FIX.4.4", b"A", target, b"");
+    c_store::store_open(words, bytes, shape, b"FIX.4.4", b"A", target, b"");
 }
 
 // A change of A.
@@ -152,18 +158,18 @@ fn change(
     shape: Shape,
     room: &mut [u8],
 ) {
-    let n = script::field(line, 0);
+    let n = vectors_script::field(line, 0);
     if line.len() < 2 {
         return;
     }
     match letter {
         b'o' => open(words, bytes, shape, &line[2..]),
-        b'm' => fill::record(words, bytes, shape, 0, &line[2..]),
-        b'l' => fill::record_made(words, bytes, shape, 0, n as usize, room),
-        b'g' => fill::skip(words, bytes, shape, 0, n),
-        b'b' => fill::set_both(words, bytes, shape, 0, n, script::field(line, 1)),
-        b't' => fill::set_stamp(words, bytes, shape, 0, &line[2..]),
-        b'k' => fill::set_marks(words, bytes, shape, 0, &line[2..]),
+        b'm' => vectors_fill::record(words, bytes, shape, 0, &line[2..]),
+        b'l' => vectors_fill::record_made(words, bytes, shape, 0, n as usize, room),
+        b'g' => vectors_fill::skip(words, bytes, shape, 0, n),
+        b'b' => vectors_fill::set_both(words, bytes, shape, 0, n, vectors_script::field(line, 1)),
+        b't' => vectors_fill::set_stamp(words, bytes, shape, 0, &line[2..]),
+        b'k' => vectors_fill::set_marks(words, bytes, shape, 0, &line[2..]),
         _ => {}
     }
 }
@@ -183,7 +189,7 @@ fn hand(
     let s = Settings {
         shape,
         incarnation: Incarnation(7),
-        lag: 0,
+        max_lag: 0,
     };
     let k = replica::on_frame4(before, row, words, bytes, holds, frame, s);
     let replica = k.replica;
@@ -207,7 +213,7 @@ fn hand_line(
     a: u64,
 ) -> Way {
     let mut frame = [0u8; 8192];
-    match hex::read_line(digits, &mut frame) {
+    match base_hex::read_line(digits, &mut frame) {
         Line::Bytes(n) => {
             if n <= 8192 {
                 return hand(&frame[0..n], words, bytes, holds, w, a);
@@ -248,9 +254,9 @@ fn hand_with(
 
 // Begins the sending; b is B's hash.
 fn begin(line: &[u8], words: &[u64], bytes: &[u8], w: Way, b: u64) -> Way {
-    let handle = script::low(script::field(line, 0));
-    let epoch = Epoch(script::field(line, 1));
-    let last = CommitNumber(script::field(line, 2));
+    let handle = vectors_script::low(vectors_script::field(line, 0));
+    let epoch = Epoch(vectors_script::field(line, 1));
+    let last = CommitNumber(vectors_script::field(line, 2));
     let mut next = w;
     next.before = b;
     match Sending::begin(w.shape, words, bytes, 0, handle, epoch, last) {
@@ -258,8 +264,8 @@ fn begin(line: &[u8], words: &[u64], bytes: &[u8], w: Way, b: u64) -> Way {
             next.sending = s;
             next
         }
-        Begun::NumbersPast => next,
-        Begun::Unfit => next,
+        Begun::CommitNumbersExhausted => next,
+        Begun::InvalidAreas => next,
     }
 }
 
@@ -281,7 +287,7 @@ fn take(words: &[u64], bytes: &[u8], out: &mut [u8], w: Way) -> Way {
             put(b"R 9\n");
             next
         }
-        Sent::Unfit => {
+        Sent::InvalidAreas => {
             put(b"R 25\n");
             next
         }
@@ -291,8 +297,8 @@ fn take(words: &[u64], bytes: &[u8], out: &mut [u8], w: Way) -> Way {
 // One command.
 fn command(
     line: &[u8],
-    wa: &mut [u64],
-    ba: &mut [u8],
+    words_start: &mut [u64],
+    bytes_start: &mut [u8],
     wb: &mut [u64],
     bb: &mut [u8],
     holds: &mut [u8],
@@ -301,11 +307,11 @@ fn command(
 ) -> Way {
     let letter = if line.len() == 0 { 0 } else { line[0] };
     let shape = w.shape;
-    let a = hash(wa, ba, shape);
+    let a = hash(words_start, bytes_start, shape);
     match letter {
-        b'n' => make(line, wa, ba, wb, bb),
-        b'w' => begin(line, wa, ba, w, hash(wb, bb, shape)),
-        b'f' => take(wa, ba, out, w),
+        b'n' => make(line, words_start, bytes_start, wb, bb),
+        b'w' => begin(line, words_start, bytes_start, w, hash(wb, bb, shape)),
+        b'f' => take(words_start, bytes_start, out, w),
         b'h' => {
             if line.len() < 2 {
                 return w;
@@ -314,11 +320,20 @@ fn command(
         }
         b'=' => hand_with(0, 0, out, wb, bb, holds, w, a),
         b'x' => {
-            let n = (script::field(line, 1) % 256) as u8;
-            hand_with(script::field(line, 0) as usize, n, out, wb, bb, holds, w, a)
+            let n = (vectors_script::field(line, 1) % 256) as u8;
+            hand_with(
+                vectors_script::field(line, 0) as usize,
+                n,
+                out,
+                wb,
+                bb,
+                holds,
+                w,
+                a,
+            )
         }
         _ => {
-            change(letter, line, wa, ba, shape, out);
+            change(letter, line, words_start, bytes_start, shape, out);
             w
         }
     }
@@ -327,8 +342,8 @@ fn command(
 // The lines of a script, one after the other.
 fn run(
     script: &[u8],
-    wa: &mut [u64],
-    ba: &mut [u8],
+    words_start: &mut [u64],
+    bytes_start: &mut [u8],
     wb: &mut [u64],
     bb: &mut [u8],
     holds: &mut [u8],
@@ -342,38 +357,47 @@ fn run(
     let mut at: usize = 0;
     while at < script.len() {
         let from = at;
-        let end = script::line_end(script, from);
+        let end = vectors_script::line_end(script, from);
         at = end + 1;
-        now = command(&script[from..end], wa, ba, wb, bb, holds, out, now);
+        now = command(
+            &script[from..end],
+            words_start,
+            bytes_start,
+            wb,
+            bb,
+            holds,
+            out,
+            now,
+        );
     }
 }
 
 // The script in areas for stores with one message more than a full batch has, and for the frames of that.
 fn run_in(
     script: &[u8],
-    wa: &mut [u64; 162],
-    ba: &mut [u8; 1_050_000],
+    words_start: &mut [u64; 162],
+    bytes_start: &mut [u8; 1_050_000],
     wb: &mut [u64; 162],
     bb: &mut [u8; 1_050_000],
     holds: &mut [u8; 4_200_000],
     out: &mut [u8; 1_050_000],
 ) {
-    run(script, wa, ba, wb, bb, holds, out);
+    run(script, words_start, bytes_start, wb, bb, holds, out);
 }
 
 fn main() {
     let mut script = io::large_buffer();
     let n = io::read_full(STDIN_FILENO, &mut script);
-    let mut wa = [0u64; 162];
-    let mut ba = [0u8; 1_050_000];
+    let mut words_start = [0u64; 162];
+    let mut bytes_start = [0u8; 1_050_000];
     let mut wb = [0u64; 162];
     let mut bb = [0u8; 1_050_000];
     let mut holds = [0u8; 4_200_000];
     let mut out = [0u8; 1_050_000];
     run_in(
         &script[..n],
-        &mut wa,
-        &mut ba,
+        &mut words_start,
+        &mut bytes_start,
         &mut wb,
         &mut bb,
         &mut holds,

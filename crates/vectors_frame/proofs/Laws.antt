@@ -11,29 +11,29 @@ use lib.ListN.{length}
 use Rattle.model_frame.specs.Frame.{Frame}
 use Rattle.model_frame.specs.Reading.{maxBody}
 use Rattle.model_frame.specs.Writing.{bodyBytes, encode, fine}
-use Rattle.print.specs.Encoding.{wrote, refused, outcome, Answer, took, refusal, answerOf, Encoded}
-use Rattle.print.specs.declared.Written.{Written}
-use Rattle.print.specs.declared.Written
+use Rattle.frame_writer.specs.Encoding.{wrote, refused, writeOutcome, WriteAnswer, took, writeRefusal, writeAnswer, Encoded}
+use Rattle.frame_writer.specs.declared.Written.{Written}
+use Rattle.frame_writer.specs.declared.Written
 
 -- how many bytes an answer tells of
-abbrev told : Answer → ℕ
+abbrev told : WriteAnswer → ℕ
 told (took n) = n
-told (refusal n) = 0
+told (writeRefusal n) = 0
 
-room : (version : ℕ) (f : Option Frame) (k : ℕ) → told (answerOf (outcome version f k)) ≤ k
-unfolding outcome
+room : (version : ℕ) (f : Option Frame) (k : ℕ) → told (writeAnswer (writeOutcome version f k)) ≤ k
+unfolding writeOutcome
 room version none k = omega arith
 room version (some f) k = go (fine version f) (ltb maxBody (length (bodyBytes f))) (ltb k (length (encode f))) refl
   where
     go :
         (a b t : Bool) → ltb k (length (encode f)) ≡ t →
-        told (answerOf (cond a (cond b (refused 1) (cond t (refused 9) (wrote (encode f)))) (refused 8))) ≤ k
+        told (writeAnswer (cond a (cond b (refused 1) (cond t (refused 9) (wrote (encode f)))) (refused 8))) ≤ k
     go false b t e = omega arith
     go true true t e = omega arith
     go true false true e = omega arith
     go true false false e = ltb-false k (length (encode f)) e
 
-pub took-fits : {version n : ℕ} {f : Option Frame} {before after : List ℕ} → Encoded version f before after (Written.Took n) → n ≤ length before
+pub took-fits : {version n : ℕ} {f : Option Frame} {before after : List ℕ} → Encoded version f before after (Written.Bytes n) → n ≤ length before
 took-fits {version} {n} {f} {before} e =
-    let same : n ≡ told (answerOf (outcome version f (length before))) = ap told (e .answer) in
+    let same : n ≡ told (writeAnswer (writeOutcome version f (length before))) = ap told (e .answer) in
     omega (arith, same, room version f (length before))

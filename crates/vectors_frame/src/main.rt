@@ -1,18 +1,18 @@
 // Reads frames, one line of digits each, and writes for each what reading it gives: `more`, `R` with the refusal's number and values, or the
-// bytes taken and the frame written again. What it must write is what oracle/rust-frames writes; the lines come from tests/frame_vectors.
+// bytes taken and the frame written again. What it must write is what oracle/rust-frames writes; the lines come from tests/make/frame_vectors.py.
 ghost use mathlib.Core.Path.{_≡_};
 ghost use Prim.Native.Nat.{_≤_};
 ghost use lib.ListN.{length};
+use base_hex::Line;
 use frame::Decoded;
 use frame::Field;
 use frame::Frame;
 use frame::FrameError;
 use frame::Value;
 use frame::Written;
-use hex::Line;
+use frame_stamp::Protocol;
 use libc::STDIN_FILENO;
 use libc::STDOUT_FILENO;
-use stamp::Protocol;
 
 fn put(text: &[u8]) {
     io::write_all(STDOUT_FILENO, text);
@@ -22,8 +22,8 @@ fn put_number(n: u64) {
     io::print_decimal(STDOUT_FILENO, n);
 }
 
-fn put_field(f: Field) {
-    match f {
+fn put_field(field: Field) {
+    match field {
         Field::FrameKind => put(b"kind "),
         Field::Part => put(b"part "),
         Field::Refusal => put(b"refusal "),
@@ -31,8 +31,8 @@ fn put_field(f: Field) {
     }
 }
 
-fn put_value(v: Value) {
-    match v {
+fn put_value(value: Value) {
+    match value {
         Value::Text => put(b"4"),
         Value::Session => put(b"5"),
         Value::Timestamp => put(b"6"),
@@ -41,8 +41,8 @@ fn put_value(v: Value) {
 }
 
 // A refusal's number and values.
-fn put_fault(e: FrameError) {
-    match e {
+fn put_fault(error: FrameError) {
+    match error {
         FrameError::TooLong(n) => {
             put(b"1 ");
             put_number(n as u64);
@@ -62,16 +62,16 @@ fn put_digits(src: &[u8])
     requires { ⌜ length (now src) ≤ 8192 ⌝ }
 {
     let mut text = [0u8; 16384];
-    hex::put_hex(src, &mut text);
+    base_hex::put_hex(src, &mut text);
     let n = 2 * src.len();
     put(&text[0..n]);
 }
 
 // A frame that was read from src, written again.
-fn put_frame(f: Frame, src: &[u8]) {
+fn put_frame(decoded: Frame, src: &[u8]) {
     let mut out = [0u8; 8192];
-    match f.encode(Protocol { version: 1 }, src, &mut out) {
-        Written::Took(n) => put_digits(&out[0..n]),
+    match decoded.encode(Protocol { version: 1 }, src, &mut out) {
+        Written::Bytes(n) => put_digits(&out[0..n]),
         Written::Unreadable => put(b"not written: 8"),
         Written::TooLong => put(b"not written: 1"),
         Written::NoRoom => put(b"not written: 9"),
@@ -101,7 +101,7 @@ fn answer(line: &[u8]) {
         put_reading(b"");
         return;
     }
-    match hex::read_line(line, &mut bytes) {
+    match base_hex::read_line(line, &mut bytes) {
         Line::Bytes(n) => put_reading(&bytes[0..n]),
         Line::Bad => {
             put(b"? ");
@@ -115,7 +115,7 @@ fn line_end(script: &[u8], at: usize) -> usize
     requires { ⌜ at ≤ length (now script) ⌝ }
     ensures { λ r. ⌜ (at ≤ r) × (r ≤ length (now (script .entry))) ⌝ }
 {
-    lines::next_feed(script, at)
+    base_lines::next_feed(script, at)
 }
 
 fn run(script: &[u8]) {

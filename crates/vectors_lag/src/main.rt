@@ -1,7 +1,7 @@
-// Runs a script of pushes onto lag queues. What it must write was recorded from the Rust by tests/active_vectors, which also wrote
+// Runs a script of pushes onto lag queues. What it must write was recorded from the Rust by tests/make/active_vectors.py, which also wrote
 // the script. `Q MAX_LAG DRAINED LAST..` is a new queue with a push for each LAST, as in call scripts; `q MAX_LAG DRAINED COUNT LAST..`
 // one in which COUNT zeros wait.
-use lag::ReplicatedLog;
+use active_lag::ReplicatedLog;
 use libc::STDIN_FILENO;
 use libc::STDOUT_FILENO;
 
@@ -55,20 +55,20 @@ fn series(line: &[u8], at: usize, q: ReplicatedLog, max_lag: u64) {
     let mut q = q;
     let mut at = at;
     while at < line.len() {
-        q = push(q, script::number_at(line, at), max_lag);
-        at = script::after(line, at);
+        q = push(q, vectors_script::number_at(line, at), max_lag);
+        at = vectors_script::after(line, at);
     }
 }
 
 // A new queue, or one in which so many zeros wait, and a push for each further number of the line.
 fn queue(line: &[u8]) {
-    let max_lag = script::field(line, 0);
-    let drained = script::field(line, 1);
+    let max_lag = vectors_script::field(line, 0);
+    let drained = vectors_script::field(line, 1);
     let letter = if line.len() == 0 { 0 } else { line[0] };
     if letter == b'Q' {
         series(
             line,
-            script::start(line, 2),
+            vectors_script::start(line, 2),
             ReplicatedLog::new(drained),
             max_lag,
         );
@@ -76,17 +76,17 @@ fn queue(line: &[u8]) {
     }
     let q = ReplicatedLog {
         drained_through: drained,
-        count: script::field(line, 2) as usize,
+        count: vectors_script::field(line, 2) as usize,
         queued: [0; 65],
     };
-    series(line, script::start(line, 3), q, max_lag);
+    series(line, vectors_script::start(line, 3), q, max_lag);
 }
 
 // The lines of a script, one after the other.
 fn run(script: &[u8]) {
     let mut at: usize = 0;
     while at < script.len() {
-        let end = script::line_end(script, at);
+        let end = vectors_script::line_end(script, at);
         queue(&script[at..end]);
         at = end + 1;
     }

@@ -1,15 +1,15 @@
 // Runs a script of recordings on small stores, and writes what is stored: lines of numbers, lengths and hashes, and public vectors of
 // FNV-1a. Commands: `n C M` a new store, `r LENGTH COUNT` Records with messages, `g K` a Record without one that skips K numbers,
 // `z` Reset, `p LAG` promotion, `l` a listing, `h N` last_outgoing, `f TEXT` the hash of a text. What it must write was made by
-// tests/store_vectors, which has the rules in Python.
+// tests/make/store_vectors.py, which has the rules in Python.
 ghost use Prim.Native.Nat.{_+_, _≤_, _<_};
 ghost use lib.ListN.{length};
-ghost use Rattle.areas.specs.Areas.{Rules};
-ghost use Rattle.sessions.specs.Answers.{StandsAt};
-use areas::Shape;
+ghost use Rattle.store_areas.specs.Areas.{Rules};
+ghost use Rattle.store_sessions.specs.Answers.{PositionAt};
 use libc::STDIN_FILENO;
 use libc::STDOUT_FILENO;
 use std::num::wrapping_add_u64;
+use store_areas::Shape;
 
 // A number in a line, and where it ends.
 #[repr(C)]
@@ -56,20 +56,20 @@ fn put_number(n: u64) {
     io::print_decimal(STDOUT_FILENO, n);
 }
 
-fn put_hash(h: u64) {
-    io::print_hex(STDOUT_FILENO, h, 16);
+fn put_hash(hash: u64) {
+    io::print_hex(STDOUT_FILENO, hash, 16);
 }
 
 // Records the first len bytes of a text.
 fn record_front(words: &mut [u64], bytes: &mut [u8], shape: Shape, text: &[u8], len: usize) {
     if len <= text.len() {
-        store_c::store_record(words, bytes, shape, 0, &text[0..len]);
+        c_store::store_record(words, bytes, shape, 0, &text[0..len]);
     }
 }
 
 // Records a message of len bytes under the next number, from which its bytes come.
 fn record(words: &mut [u64], bytes: &mut [u8], shape: Shape, len: usize) {
-    let next = store_c::store_next_outgoing(words, bytes, shape, 0);
+    let next = c_store::store_next_outgoing(words, bytes, shape, 0);
     let mut text = [0u8; 80];
     let mut j: usize = 0;
     while j < 80 {
@@ -99,21 +99,28 @@ fn put_message(bytes: &[u8], number: u64, at: usize, first: usize, again: usize,
     put_text(b"/");
     put_number(wrapping_add_u64(first as u64, rest as u64));
     put_text(b"/");
-    let h = log::fnv::bytes(0xcbf2_9ce4_8422_2325, &bytes[at..end]);
-    put_hash(log::fnv::bytes(h, &bytes[again..done]));
+    let h = store_log::fnv::bytes(0xcbf2_9ce4_8422_2325, &bytes[at..end]);
+    put_hash(store_log::fnv::bytes(h, &bytes[again..done]));
 }
 
 // The next number and each message's number, length and hash.
 fn list(words: &[u64], bytes: &[u8], shape: Shape) {
-    put_number(store_c::store_next_outgoing(words, bytes, shape, 0));
+    put_number(c_store::store_next_outgoing(words, bytes, shape, 0));
     put_text(b":");
-    if areas::in_use(words, bytes, shape, 0) {
-        let c = sessions::messages_from(words, bytes, shape, 0, 1);
+    if store_areas::in_use(words, bytes, shape, 0) {
+        let c = store_sessions::messages_from(words, bytes, shape, 0, 1);
         let mut left = c.left;
         let mut dist = c.dist;
         while 0 < left {
-            let m = sessions::message_at(words, bytes, shape, 0, left, dist);
-            put_message(bytes, m.number, m.at, m.first, m.again, m.rest);
+            let m = store_sessions::message_at(words, bytes, shape, 0, left, dist);
+            put_message(
+                bytes,
+                m.number,
+                m.first_at,
+                m.first_len,
+                m.second_at,
+                m.second_len,
+            );
             left = m.left;
             dist = m.dist;
         }
@@ -128,28 +135,28 @@ fn make(words: &mut [u64], bytes: &mut [u8], cap: u32, max: u32) -> Shape {
         bytes: cap,
         messages: max,
     };
-    store_c::store_make(words, bytes, shape);
-    store_c::store_open(words, bytes, shape, b"FIX.4.4", b"A", b"B", b"");
-    store_c::store_open(words, bytes, shape, b"FIX.4.4", b"A", b"C", b"");
+    c_store::store_make(words, bytes, shape);
+    c_store::store_open(words, bytes, shape, b"FIX.4.4", b"A", b"B", b"");
+    c_store::store_open(words, bytes, shape, b"FIX.4.4", b"A", b"C", b"");
     shape
 }
 
 // A Record without message that skips some numbers.
 fn record_none(words: &mut [u64], bytes: &mut [u8], shape: Shape, skip: u32) {
-    let next = store_c::store_next_outgoing(words, bytes, shape, 0);
+    let next = c_store::store_next_outgoing(words, bytes, shape, 0);
     let seq = wrapping_add_u64(next, skip as u64);
-    store_c::store_record_none(words, bytes, shape, 0, seq);
+    c_store::store_record_none(words, bytes, shape, 0, seq);
 }
 
 fn put_last_outgoing(words: &[u64], bytes: &[u8], shape: Shape, n: u32) {
-    put_hash(store_c::store_last_outgoing(words, bytes, shape, 0, n as u64));
+    put_hash(c_store::store_last_outgoing(words, bytes, shape, 0, n as u64));
     put_text(b"\n");
 }
 
 // The hash of a command's text.
 fn put_text_hash(line: &[u8]) {
     if 2 <= line.len() {
-        put_hash(log::fnv::bytes(0xcbf2_9ce4_8422_2325, &line[2..]));
+        put_hash(store_log::fnv::bytes(0xcbf2_9ce4_8422_2325, &line[2..]));
         put_text(b"\n");
     }
 }
@@ -168,10 +175,10 @@ fn command(line: &[u8], words: &mut [u64], bytes: &mut [u8], shape: Shape) -> Sh
         b'r' => record_many(words, bytes, shape, a.value as usize, b.value),
         b'g' => record_none(words, bytes, shape, a.value),
         b'z' => {
-            store_c::store_reset(words, bytes, shape, 0);
+            c_store::store_reset(words, bytes, shape, 0);
         }
         b'p' => {
-            store_c::store_take_over(words, bytes, shape, 0, a.value as u64);
+            c_store::store_take_over(words, bytes, shape, 0, a.value as u64);
         }
         b'l' => list(words, bytes, shape),
         b'h' => put_last_outgoing(words, bytes, shape, a.value),

@@ -1,14 +1,14 @@
 // Runs the examples of RFC 3629, the edges of each length, all inputs of one, two and three bytes, all first bytes with good and bad
 // following bytes, and stamps, marks and keys, and writes how many were taken. What it must write was counted with Python's decoder.
-use stamp::Protocol;
+use frame_stamp::Protocol;
 ghost use Prim.Native.Nat.{_≤_};
 ghost use lib.ListN.{length};
-use stamp::is_key;
-use stamp::is_marks;
-use stamp::is_stamp;
-use stamp::takes_stamp;
+use frame_stamp::is_key;
+use frame_stamp::is_marks;
+use frame_stamp::is_stamp;
+use frame_stamp::takes_stamp;
+use frame_utf8::is_utf8;
 use std::num::wrapping_add_u64;
-use text::is_utf8;
 
 // How many inputs there were, how many of them were taken, and the sum of the numbers of those taken, which tells them apart.
 #[repr(C)]

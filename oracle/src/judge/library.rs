@@ -61,7 +61,7 @@ impl Size {
 pub struct Settings {
     pub size: Size,
     pub incarnation: u64,
-    pub lag: u64,
+    pub max_lag: u64,
 }
 
 /// The areas that a standby is lent.
@@ -221,7 +221,7 @@ mod entry {
     /// What a Bound says of a session.
     #[repr(C)]
     #[derive(Debug, Clone, Copy)]
-    struct Brief {
+    struct BoundSummary {
         next_outgoing: u64,
         next_incoming: u64,
         has_in_flight: bool,
@@ -242,7 +242,7 @@ mod entry {
         incarnation: u64,
         commit_no: u64,
         reason: u8,
-        brief: Brief,
+        summary: BoundSummary,
     }
 
     /// Entry points: with a frame; with a number, which is a connection; with neither.

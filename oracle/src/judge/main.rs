@@ -57,7 +57,7 @@ fn main() -> ExitCode {
             print(&side::run::<Rust>(&String::from_utf8_lossy(&input())))
         }
         ["rust-frames"] => print(&frames::read_lines(&input(), frames::read_by_rust)),
-        ["frames-rust"] => print(&frames::program(&input())),
+        ["rust-frames-program"] => print(&frames::program(&input())),
         #[cfg(ours)]
         ["our-calls"] => print(&side::run::<ours::Ours>(&String::from_utf8_lossy(&input()))),
         #[cfg(ours)]

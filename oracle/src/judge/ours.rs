@@ -332,7 +332,7 @@ impl Side for Ours {
         let mut ours = Self {
             counters: Counters::default(),
             areas: Areas::new(lent, setting.handles as usize, setting.hold as usize),
-            settings: Settings { size, incarnation: setting.incarnation, lag: setting.lag },
+            settings: Settings { size, incarnation: setting.incarnation, max_lag: setting.lag },
             hold: setting.hold,
             #[cfg(calls)]
             answered: Out::default(),
@@ -373,7 +373,7 @@ impl Side for Ours {
         State {
             epoch: self.counters.epoch,
             incarnation: self.settings.incarnation.max(1),
-            lag: self.settings.lag,
+            lag: self.settings.max_lag,
             promoted: self.counters.promoted,
             checked: self.counters.checked,
             connections: self.counters.connections,

@@ -69,7 +69,7 @@ R 23
 fn examples(checks: &mut Checks) {
     checks.same("document 01's lines", &program(LINES_IN.as_bytes()), LINES_OUT);
     checks.same("lines without the last line feed", &program(LINES_IN.trim_end().as_bytes()), LINES_OUT);
-    checks.same("the example of call-scripts.md", &run::<Rust>(SCRIPT_IN), SCRIPT_OUT);
+    checks.same("the example of docs/SCRIPTS.md", &run::<Rust>(SCRIPT_IN), SCRIPT_OUT);
 }
 
 fn stamped(stamp: &str) -> String {

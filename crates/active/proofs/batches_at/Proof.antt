@@ -13,7 +13,7 @@ returns c =
     let s = c .before .before .before .before .before .before .before in
     let a = s .args in
     let p = c .before .before .before .before .spot-in in
-    (c .batches .ensures .0 (a .shape .bytes) (p .ensures .bytes-part) ∙ ap (λ (x : Session). length (wholeBatches (a .limit) x)) (lent-session (a .shape) (now (a .words)) (now (a .bytes)) (a .i) (p .result .wa) (p .result .we) (p .result .ba) (p .result .be) (p .ensures) (s .pre .0) (s .pre .1)), c .batches .ensures .1)
+    (c .batches .ensures .0 (a .shape .bytes) (p .ensures .bytes-part) ∙ ap (λ (x : Session). length (wholeBatches (a .limit) x)) (lent-session (a .shape) (now (a .words)) (now (a .bytes)) (a .place) (p .result .«words_start») (p .result .«words_end») (p .result .«bytes_start») (p .result .«bytes_end») (p .ensures) (s .pre .0) (s .pre .1)), c .batches .ensures .1)
 
 pub batches-at-spec : {M : Type 1} → statement M
 batches-at-spec =

@@ -11,7 +11,7 @@ use Rattle.frames.proofs.take_piece.Reads as reads
 use Rattle.frames.proofs.take_piece.Lts as lts
 use Rattle.frames.proofs.tell.Reads as tell-reads
 use Rattle.frames.proofs.waiting.Reads as waiting-reads
-use Rattle.lines.proofs.feed.Reads as feed-reads
+use Rattle.base_lines.proofs.feed.Reads as feed-reads
 
 abbrev Inv-loop : tie.InvT-loop
 Inv-loop words₀ bytes₀ holds₀ line₀ piece now₀ at₀ words bytes holds line now at = Going words₀ words bytes₀ bytes holds₀ holds line₀ line piece (now .len) at

@@ -1,11 +1,11 @@
 use borrow.Author.Needs.{needs}
 use native.Mathlib.Omega.{arith}
-use Rattle.frame_line.proofs.Laws.{told-fits}
+use Rattle.frames_line.proofs.Laws.{told-fits}
 use Rattle.frames.proofs.tell.Statement.{statement}
 use Rattle.frames.proofs.tell.Tie as tie
 use Rattle.frames.proofs.tell.Reads as reads
 use Rattle.frames.proofs.tell.Lts as lts
-use Rattle.frame_line.proofs.answer_line.Reads as answer-line-reads
+use Rattle.frames_line.proofs.answer_line.Reads as answer-line-reads
 use Rattle.io.proofs.write_all.Reads as write-all-reads
 
 -- src/main.rt:29:9

@@ -4,7 +4,7 @@ use Rattle.replica.proofs.handle_at.Statement.{statement}
 use Rattle.replica.proofs.handle_at.Tie as tie
 use Rattle.replica.proofs.handle_at.Reads as reads
 use Rattle.replica.proofs.handle_at.Lts as lts
-use Rattle.wire.proofs.u32_at.Reads as u32-at-reads
+use Rattle.base_bytes.proofs.u32_at.Reads as u32-at-reads
 
 -- src/lib.rt:19:9
 returns : tie.Need-returns

@@ -46,41 +46,41 @@ use denote.Triple.Clauses.{ensured, lasts}
 use denote.Triple.Table.{entered, cited}
 use denote.Triple.Walked.{says, Stays, stay-ref, stay-slice, gave-slice, stay-dropped, walkOf, Walks, ends-at, walked, goes-ref, goes-slice, goes-gave-slice, goes-dropped, walk-meets}
 use denote.Exit.{yes}
-use Rattle.model.specs.State.{onFrame}
-use Rattle.steps.specs.Calls.{handleAt}
-use Rattle.steps.specs.Steps.{roomOf}
-use Rattle.model.specs.State.{onFrame}
-use Rattle.steps.specs.Steps.{StepIs}
-use Rattle.steps.proofs.Called.{called}
-use Rattle.outcome.specs.declared.Replica.{Replica}
-use Rattle.outcome.proofs.Replica as Replica-type
-use Rattle.outcome.proofs.Replica.Laws as Replica-laws
+use Rattle.model_standby.specs.State.{onFrame}
+use Rattle.standby_step.specs.Calls.{handleAt}
+use Rattle.standby_step.specs.Steps.{roomOf}
+use Rattle.model_standby.specs.State.{onFrame}
+use Rattle.standby_step.specs.Steps.{StepIs}
+use Rattle.standby_step.proofs.Called.{called}
+use Rattle.standby_state.specs.declared.Replica.{Replica}
+use Rattle.standby_state.proofs.Replica as Replica-type
+use Rattle.standby_state.proofs.Replica.Laws as Replica-laws
 use Rattle.replica.proofs.Records.{R-Replica, val-Replica, vals-Replica, tells-Replica, makes-Replica}
-use Rattle.row.specs.declared.Handle.{Handle}
-use Rattle.row.proofs.Handle as Handle-type
-use Rattle.row.proofs.Handle.Laws as Handle-laws
-use Rattle.row.proofs.Rows.{R as R-Handle, val as val-Handle, vals as vals-Handle, tells as tells-Handle, makes as makes-Handle}
-use Rattle.outcome.specs.declared.Settings.{Settings}
-use Rattle.outcome.proofs.Settings as Settings-type
-use Rattle.outcome.proofs.Settings.Laws as Settings-laws
+use Rattle.standby_row.specs.declared.Bound.{Bound}
+use Rattle.standby_row.proofs.Bound as Bound-type
+use Rattle.standby_row.proofs.Bound.Laws as Bound-laws
+use Rattle.standby_row.proofs.Rows.{R as R-Bound, val as val-Bound, vals as vals-Bound, tells as tells-Bound, makes as makes-Bound}
+use Rattle.standby_state.specs.declared.Settings.{Settings}
+use Rattle.standby_state.proofs.Settings as Settings-type
+use Rattle.standby_state.proofs.Settings.Laws as Settings-laws
 use Rattle.replica.proofs.Records.{R-Settings, val-Settings, vals-Settings, tells-Settings, makes-Settings}
-use Rattle.outcome.specs.declared.Answer.{Answer}
-use Rattle.outcome.proofs.Answer as Answer-type
-use Rattle.outcome.proofs.Answer.Laws as Answer-laws
+use Rattle.standby_state.specs.declared.Answer.{Answer}
+use Rattle.standby_state.proofs.Answer as Answer-type
+use Rattle.standby_state.proofs.Answer.Laws as Answer-laws
 use Rattle.replica.proofs.Records.{R-Answer, val-Answer, vals-Answer, tells-Answer, makes-Answer}
-use Rattle.row.specs.declared.Seen.{Seen}
-use Rattle.row.proofs.Seen as Seen-type
-use Rattle.row.proofs.Seen.Laws as Seen-laws
-use Rattle.row.proofs.Records.{R-Seen, val-Seen, vals-Seen, tells-Seen, makes-Seen}
-use Rattle.outcome.specs.declared.Outcome.{Outcome}
-use Rattle.outcome.proofs.Outcome as Outcome-type
-use Rattle.outcome.proofs.Outcome.Laws as Outcome-laws
+use Rattle.standby_row.specs.declared.Lookup.{Lookup}
+use Rattle.standby_row.proofs.Lookup as Lookup-type
+use Rattle.standby_row.proofs.Lookup.Laws as Lookup-laws
+use Rattle.standby_row.proofs.Records.{R-Lookup, val-Lookup, vals-Lookup, tells-Lookup, makes-Lookup}
+use Rattle.standby_state.specs.declared.Outcome.{Outcome}
+use Rattle.standby_state.proofs.Outcome as Outcome-type
+use Rattle.standby_state.proofs.Outcome.Laws as Outcome-laws
 use Rattle.replica.proofs.Records.{R-Outcome, val-Outcome, vals-Outcome, tells-Outcome, makes-Outcome}
-use Rattle.row.specs.Row.{none, findOf, freeOf, brokenOf, clearedFrom, clearedAll, seenOf}
-use Rattle.row.proofs.Lists.{cleared-length}
-use Rattle.row.proofs.Locals.{filled, empty, stack, frees-stack}
-use Rattle.row.proofs.Lent.{at, Shared, calls-with, calls-peek, calls-handed, told-shared}
-use Rattle.row.proofs.Calls.{Look, calls-look, Act, calls-act}
+use Rattle.standby_row.specs.Row.{freeRecord, findOf, freeOf, brokenOf, clearedFrom, clearedAll, seenOf}
+use Rattle.standby_row.proofs.Lists.{cleared-length}
+use Rattle.standby_row.proofs.Locals.{filled, empty, stack, frees-stack}
+use Rattle.standby_row.proofs.Lent.{at, Shared, calls-with, calls-peek, calls-handed, told-shared}
+use Rattle.standby_row.proofs.Calls.{LookUp, calls-look-up, Update, calls-update}
 use Rattle.replica.proofs.handle_at as handle-at
 use Rattle.replica.proofs.handle_at.Symbol as handle-at-def
 use Rattle.replica.proofs.handle_at.Symbol.{name as #replica·handle-at}
@@ -89,20 +89,20 @@ use Rattle.replica.proofs.places_in_use as places-in-use
 use Rattle.replica.proofs.places_in_use.Symbol as places-in-use-def
 use Rattle.replica.proofs.places_in_use.Symbol.{name as #replica·places-in-use}
 use Rattle.replica.proofs.places_in_use.Met as places-in-use-thm
-use Rattle.due_batch.proofs.room_of as room-of
-use Rattle.due_batch.proofs.room_of.Symbol as room-of-def
-use Rattle.due_batch.proofs.room_of.Symbol.{name as #due_batch·room-of}
-use Rattle.due_batch.proofs.room_of.Met as room-of-thm
-use Rattle.row.proofs.look.Symbol as look-def
-use Rattle.row.proofs.look.Symbol.{name as #row·look}
-use Rattle.row.proofs.look.Met as look-thm
-use Rattle.standby.proofs.frame_now as frame-now
-use Rattle.standby.proofs.frame_now.Symbol as frame-now-def
-use Rattle.standby.proofs.frame_now.Symbol.{name as #standby·frame-now}
-use Rattle.standby.proofs.frame_now.Met as frame-now-thm
-use Rattle.row.proofs.act.Symbol as act-def
-use Rattle.row.proofs.act.Symbol.{name as #row·act}
-use Rattle.row.proofs.act.Met as act-thm
+use Rattle.standby_batch_due.proofs.room_of as room-of
+use Rattle.standby_batch_due.proofs.room_of.Symbol as room-of-def
+use Rattle.standby_batch_due.proofs.room_of.Symbol.{name as #standby_batch_due·room-of}
+use Rattle.standby_batch_due.proofs.room_of.Met as room-of-thm
+use Rattle.standby_row.proofs.look_up.Symbol as look-up-def
+use Rattle.standby_row.proofs.look_up.Symbol.{name as #standby_row·look-up}
+use Rattle.standby_row.proofs.look_up.Met as look-up-thm
+use Rattle.standby_frame.proofs.on_frame as on-frame
+use Rattle.standby_frame.proofs.on_frame.Symbol as on-frame-def
+use Rattle.standby_frame.proofs.on_frame.Symbol.{name as #standby_frame·on-frame}
+use Rattle.standby_frame.proofs.on_frame.Met as on-frame-thm
+use Rattle.standby_row.proofs.update.Symbol as update-def
+use Rattle.standby_row.proofs.update.Symbol.{name as #standby_row·update}
+use Rattle.standby_row.proofs.update.Met as update-thm
 use Rattle.replica.proofs.on_frame.Key.{name as #replica·on-frame}
 use Rattle.replica.proofs.on_frame as this
 use Rattle.replica.proofs.on_frame.Statement as stated
@@ -110,7 +110,7 @@ use Rattle.replica.proofs.on_frame.Code as code
 use Rattle.replica.proofs.on_frame.Code.Mir as text
 
 abbrev stayed : Stays (this.ended .signature .params) (this.ended .kept)
-stayed = (stay-ref (0 ∷ []) tt (plain (λ _. R-Replica)), (stay-slice (1 ∷ []) tt (plain (λ _. R-Handle)), (gave-slice (2 ∷ []) tt (plain (λ _. u64)), (gave-slice (3 ∷ []) tt (plain (λ _. u8)), (gave-slice (4 ∷ []) tt (plain (λ _. u8)), (stay-dropped (shrSliceOf (5 ∷ []) tt (plain (λ _. u8))) yes, (stay-dropped (plain (λ _. R-Settings)) yes, tt)))))))
+stayed = (stay-ref (0 ∷ []) tt (plain (λ _. R-Replica)), (stay-slice (1 ∷ []) tt (plain (λ _. R-Bound)), (gave-slice (2 ∷ []) tt (plain (λ _. u64)), (gave-slice (3 ∷ []) tt (plain (λ _. u8)), (gave-slice (4 ∷ []) tt (plain (λ _. u8)), (stay-dropped (shrSliceOf (5 ∷ []) tt (plain (λ _. u8))) yes, (stay-dropped (plain (λ _. R-Settings)) yes, tt)))))))
 
 abbrev word : Ty
 word = tyInt w64
@@ -126,20 +126,20 @@ module _ {M : Type 1} (𝓤 : URA M) (H : Heap 𝓤) (A : Atoms 𝓤) (memory : 
   abbrev RoomOf : Contract 𝓤
   RoomOf = tripleOf 𝓤 H A room-of.signature (room-of.spec 𝓤 H A memory run)
 
-  abbrev FrameNow : Contract 𝓤
-  FrameNow = tripleOf 𝓤 H A frame-now.signature (frame-now.spec 𝓤 H A memory run)
+  abbrev OnFrame : Contract 𝓤
+  OnFrame = tripleOf 𝓤 H A on-frame.signature (on-frame.spec 𝓤 H A memory run)
 
 module _ {M : Type 1} (𝓤 : URA M) (H : Heap 𝓤) (A : Atoms 𝓤) (W : Given 𝓤 H A) (memory : Memory → SProp 𝓤) (run : Routine → Fun 𝓤) (κ₀ κ₁ κ₂ κ₃ κ₄ κ₅ : Lft) (q₀ q₁ q₂ q₃ q₄ q₅ : Share)
-    (c-at : RefT (Replica)) (row-at : RefT (List Handle)) (words-at : RefT (List ℕ)) (bytes-at : RefT (List ℕ)) (holds-at : RefT (List ℕ)) (frame-at : RefT (List ℕ)) (the-s : Settings)
-    (room-row : Room R-Handle (length (row-at .now))) (room-words : Room u64 (length (words-at .now))) (room-bytes : Room u8 (length (bytes-at .now))) (room-holds : Room u8 (length (holds-at .now))) (room-frame : Room u8 (length (frame-at .now))) (is-s : Is R-Settings the-s (vals-Settings the-s)) where
+    (counters-at : RefT (Replica)) (row-at : RefT (List Bound)) (words-at : RefT (List ℕ)) (bytes-at : RefT (List ℕ)) (holds-at : RefT (List ℕ)) (frame-at : RefT (List ℕ)) (the-settings : Settings)
+    (room-row : Room R-Bound (length (row-at .now))) (room-words : Room u64 (length (words-at .now))) (room-bytes : Room u8 (length (bytes-at .now))) (room-holds : Room u8 (length (holds-at .now))) (room-frame : Room u8 (length (frame-at .now))) (is-settings : Is R-Settings the-settings (vals-Settings the-settings)) where
   -- the values passed, and their machine values
-  abbrev the-c : Replica
-  the-c = c-at .now
+  abbrev the-counters : Replica
+  the-counters = counters-at .now
 
-  abbrev s-c : Val
-  s-c = vptr (c-at .ptr .0) (c-at .ptr .1)
+  abbrev s-counters : Val
+  s-counters = vptr (counters-at .ptr .0) (counters-at .ptr .1)
 
-  abbrev the-row : List Handle
+  abbrev the-row : List Bound
   the-row = row-at .now
 
   abbrev s-row : Val
@@ -169,11 +169,11 @@ module _ {M : Type 1} (𝓤 : URA M) (H : Heap 𝓤) (A : Atoms 𝓤) (W : Given
   abbrev s-frame : Val
   s-frame = sliceVal (frame-at .ptr) (length the-frame)
 
-  abbrev x-all : RefT (Replica) × (RefT (List Handle) × (RefT (List ℕ) × (RefT (List ℕ) × (RefT (List ℕ) × (RefT (List ℕ) × (Settings × Unit {0}))))))
-  x-all = (c-at, (row-at, (words-at, (bytes-at, (holds-at, (frame-at, (the-s, tt)))))))
+  abbrev x-all : RefT (Replica) × (RefT (List Bound) × (RefT (List ℕ) × (RefT (List ℕ) × (RefT (List ℕ) × (RefT (List ℕ) × (Settings × Unit {0}))))))
+  x-all = (counters-at, (row-at, (words-at, (bytes-at, (holds-at, (frame-at, (the-settings, tt)))))))
 
   abbrev at-all : List Val × (List Val × (List Val × (List Val × (List Val × (List Val × (List Val × Unit {0}))))))
-  at-all = (s-c ∷ [], (s-row ∷ [], (s-words ∷ [], (s-bytes ∷ [], (s-holds ∷ [], (s-frame ∷ [], (vals-Settings the-s, tt)))))))
+  at-all = (s-counters ∷ [], (s-row ∷ [], (s-words ∷ [], (s-bytes ∷ [], (s-holds ∷ [], (s-frame ∷ [], (vals-Settings the-settings, tt)))))))
 
   abbrev Post : Val → SProp 𝓤
   Post = walkOf 𝓤 H A this.ended stayed (this.clauses 𝓤 H A memory run) .post (((κ₀, (κ₁, (κ₂, (κ₃, (κ₄, (κ₅, tt)))))), (q₀, (q₁, (q₂, (q₃, (q₄, (q₅, tt)))))), tt, x-all, at-all), tt)
@@ -191,7 +191,7 @@ module _ {M : Type 1} (𝓤 : URA M) (H : Heap 𝓤) (A : Atoms 𝓤) (W : Given
   abbrev x₁₁ : ℕ
   x₁₁ = roomOf (length (the-holds)) x₁₀
 
-  abbrev x₁₂ : Seen
+  abbrev x₁₂ : Lookup
   x₁₂ = seenOf the-row x₈ x₉ x₁₁
 
   len-row : Is u64 (length the-row) (vint w64 (length the-row) ∷ [])
@@ -251,7 +251,7 @@ module _ {M : Type 1} (𝓤 : URA M) (H : Heap 𝓤) (A : Atoms 𝓤) (W : Given
   LastValues = Unit {0} × (Unit {0} × (List ℕ × (List ℕ × (List ℕ × (Unit {0} × (Unit {0} × Unit {0}))))))
 
   abbrev CoreSays : Outcome → LastValues → Type 0
-  CoreSays r ws = StepIs the-s the-c x₁₂ (onFrame (the-frame)) (the-words) (ws .1 .1 .0) (the-bytes) (ws .1 .1 .1 .0) (the-holds) (ws .1 .1 .1 .1 .0) r
+  CoreSays r ws = StepIs the-settings the-counters x₁₂ (onFrame (the-frame)) (the-words) (ws .1 .1 .0) (the-bytes) (ws .1 .1 .1 .0) (the-holds) (ws .1 .1 .1 .1 .0) r
 
   abbrev CoreGives : Type 0
   CoreGives = Outcome × LastValues
@@ -262,49 +262,49 @@ module _ {M : Type 1} (𝓤 : URA M) (H : Heap 𝓤) (A : Atoms 𝓤) (W : Given
   abbrev After : CoreGives → Item 𝓤
   After x = Tokens ⊛ (‵ (finally u64 (words-at .name) (x .1 .1 .1 .0)) ⊛ (‵ (finally u8 (bytes-at .name) (x .1 .1 .1 .1 .0)) ⊛ (‵ (finally u8 (holds-at .name) (x .1 .1 .1 .1 .1 .0)))))
 
-  abbrev to-frame-now : FrameNow 𝓤 H A memory run .Ghost
-  to-frame-now = (((κ₂, (κ₃, (κ₄, (κ₅, tt)))), (q₂, (q₃, (q₄, (q₅, tt)))), tt, (the-c, (x₁₂, (words-at, (bytes-at, (holds-at, (frame-at, (the-s, tt))))))), (vals-Replica the-c, (vals-Seen x₁₂, (s-words ∷ [], (s-bytes ∷ [], (s-holds ∷ [], (s-frame ∷ [], (vals-Settings the-s, tt)))))))), tt)
+  abbrev to-on-frame : OnFrame 𝓤 H A memory run .Ghost
+  to-on-frame = (((κ₂, (κ₃, (κ₄, (κ₅, tt)))), (q₂, (q₃, (q₄, (q₅, tt)))), tt, (the-counters, (x₁₂, (words-at, (bytes-at, (holds-at, (frame-at, (the-settings, tt))))))), (vals-Replica the-counters, (vals-Lookup x₁₂, (s-words ∷ [], (s-bytes ∷ [], (s-holds ∷ [], (s-frame ∷ [], (vals-Settings the-settings, tt)))))))), tt)
 
-  goes-frame-now : Is R-Replica the-c (vals-Replica the-c) → Is R-Seen x₁₂ (vals-Seen x₁₂) → Is R-Settings the-s (vals-Settings the-s) → ent 𝓤 (mean 𝓤 H A (Before)) (FrameNow 𝓤 H A memory run .pre (to-frame-now))
-  goes-frame-now a₀ a₁ a₆ = qed W ((Before) ∷ []) ∵ split ! $ move ! (1 ∷ []) $ split ! $ move ! (1 ∷ []) $ split ! $ move ! (3 ∷ []) $ split ! $ move ! (4 ∷ []) $ split ! $ move ! (4 ∷ []) $ split ! $ move ! (6 ∷ []) $ split ! $ nothing ! $ move ! (1 ∷ 0 ∷ []) $ join ! $ move ! (2 ∷ 0 ∷ []) $ join ! $ move ! (3 ∷ 0 ∷ []) $ join ! $ move ! (4 ∷ 0 ∷ []) $ join ! $ nothing ! $ owned ! R-Settings (Is R-Settings) (makes-Settings 𝓤 H A W) the-s (vals-Settings the-s) a₆ $ fjoin ! $ move ! (2 ∷ 0 ∷ []) $ fjoin ! $ move ! (2 ∷ 0 ∷ []) $ fjoin ! $ move ! (2 ∷ 0 ∷ []) $ fjoin ! $ move ! (2 ∷ 0 ∷ []) $ fjoin ! $ owned ! R-Seen (Is R-Seen) (makes-Seen 𝓤 H A W) x₁₂ (vals-Seen x₁₂) a₁ $ fjoin ! $ owned ! R-Replica (Is R-Replica) (makes-Replica 𝓤 H A W) the-c (vals-Replica the-c) a₀ $ fjoin ! $ move ! (1 ∷ 0 ∷ []) $ join ! $ nothing ! $ move ! (1 ∷ 0 ∷ []) $ done !
+  goes-on-frame : Is R-Replica the-counters (vals-Replica the-counters) → Is R-Lookup x₁₂ (vals-Lookup x₁₂) → Is R-Settings the-settings (vals-Settings the-settings) → ent 𝓤 (mean 𝓤 H A (Before)) (OnFrame 𝓤 H A memory run .pre (to-on-frame))
+  goes-on-frame a₀ a₁ a₆ = qed W ((Before) ∷ []) ∵ split ! $ move ! (1 ∷ []) $ split ! $ move ! (1 ∷ []) $ split ! $ move ! (3 ∷ []) $ split ! $ move ! (4 ∷ []) $ split ! $ move ! (4 ∷ []) $ split ! $ move ! (6 ∷ []) $ split ! $ nothing ! $ move ! (1 ∷ 0 ∷ []) $ join ! $ move ! (2 ∷ 0 ∷ []) $ join ! $ move ! (3 ∷ 0 ∷ []) $ join ! $ move ! (4 ∷ 0 ∷ []) $ join ! $ nothing ! $ owned ! R-Settings (Is R-Settings) (makes-Settings 𝓤 H A W) the-settings (vals-Settings the-settings) a₆ $ fjoin ! $ move ! (2 ∷ 0 ∷ []) $ fjoin ! $ move ! (2 ∷ 0 ∷ []) $ fjoin ! $ move ! (2 ∷ 0 ∷ []) $ fjoin ! $ move ! (2 ∷ 0 ∷ []) $ fjoin ! $ owned ! R-Lookup (Is R-Lookup) (makes-Lookup 𝓤 H A W) x₁₂ (vals-Lookup x₁₂) a₁ $ fjoin ! $ owned ! R-Replica (Is R-Replica) (makes-Replica 𝓤 H A W) the-counters (vals-Replica the-counters) a₀ $ fjoin ! $ move ! (1 ∷ 0 ∷ []) $ join ! $ nothing ! $ move ! (1 ∷ 0 ∷ []) $ done !
 
-  told-frame-now : (u : Val) → ent 𝓤 (FrameNow 𝓤 H A memory run .post (to-frame-now) u) (H .⇛ (mean 𝓤 H A (some (λ (x : CoreGives). After x ⊛ raw (fact 𝓤 ((u ≡ val-Outcome (x .0)) × CoreTold x))))))
-  told-frame-now u =
-      qed W (raw (FrameNow 𝓤 H A memory run .post (to-frame-now) u) ∷ []) ∵ updating ! $
-      use1 W (later (some (λ (r : Outcome). (Tokens ⊛ ‵ (R-Outcome .own r (u ∷ []))) ⊛ some (λ (ws : LastValues). ‵ (lasts frame-now.ended (κ₂, (κ₃, (κ₄, (κ₅, tt)))) (the-c, (x₁₂, (words-at, (bytes-at, (holds-at, (frame-at, (the-s, tt))))))) ws) ⊛ raw (fact 𝓤 (CoreSays r ws)))))) (id⊢ 𝓤 _) $ await ! tt $ pick ! (λ r.
+  told-on-frame : (u : Val) → ent 𝓤 (OnFrame 𝓤 H A memory run .post (to-on-frame) u) (H .⇛ (mean 𝓤 H A (some (λ (x : CoreGives). After x ⊛ raw (fact 𝓤 ((u ≡ val-Outcome (x .0)) × CoreTold x))))))
+  told-on-frame u =
+      qed W (raw (OnFrame 𝓤 H A memory run .post (to-on-frame) u) ∷ []) ∵ updating ! $
+      use1 W (later (some (λ (r : Outcome). (Tokens ⊛ ‵ (R-Outcome .own r (u ∷ []))) ⊛ some (λ (ws : LastValues). ‵ (lasts on-frame.ended (κ₂, (κ₃, (κ₄, (κ₅, tt)))) (the-counters, (x₁₂, (words-at, (bytes-at, (holds-at, (frame-at, (the-settings, tt))))))) ws) ⊛ raw (fact 𝓤 (CoreSays r ws)))))) (id⊢ 𝓤 _) $ await ! tt $ pick ! (λ r.
       split ! $ move ! (1 ∷ []) $ pick ! (λ ws. split ! $ move ! (1 ∷ []) $ heard ! (CoreSays r ws) (λ e. fsplit ! $ drop ! $ fsplit ! $ drop ! $ fsplit ! $ fsplit ! $ move ! (1 ∷ []) $ feqL ! (λ len₂. move ! (1 ∷ []) $ fsplit ! $ fsplit ! $ move ! (1 ∷ []) $ feqL ! (λ len₃. move ! (1 ∷ []) $ fsplit ! $ fsplit ! $ move ! (1 ∷ []) $ feqL ! (λ len₄. move ! (1 ∷ []) $ fsplit ! $ drop ! $ fsplit ! $ drop ! $ move ! (4 ∷ []) $ split ! $ move ! (1 ∷ []) $ facts ! R-Outcome (Is R-Outcome) (shows 𝓤 H A R-Outcome) r (u ∷ []) (λ is. at-once ! $ show ! (λ (x : CoreGives). mean 𝓤 H A (After x ⊛ raw (fact 𝓤 ((u ≡ val-Outcome (x .0)) × CoreTold x)))) (r, ws) $ says ! (ap only (tells-Outcome r (u ∷ []) is), (subst (Is R-Outcome r) (tells-Outcome r (u ∷ []) is) is, e, len₂, len₃, len₄)) $ keep ! (0 ∷ 4 ∷ 3 ∷ 2 ∷ []) $ done !)))))))
 
   -- the row after each write
-  abbrev row₁ : CoreGives → List Handle
-  row₁ x = clearedFrom ((x .0) .from) (set the-row ((x .0) .at) ((x .0) .slot))
+  abbrev row₁ : CoreGives → List Bound
+  row₁ x = clearedFrom ((x .0) .from) (set the-row ((x .0) .at) ((x .0) .bound))
 
   same₁ : (x : CoreGives) → length (row₁ x) ≡ length the-row
-  same₁ x = cleared-length ((x .0) .from) (set the-row ((x .0) .at) ((x .0) .slot)) ∙ length-set the-row ((x .0) .at) ((x .0) .slot)
+  same₁ x = cleared-length ((x .0) .from) (set the-row ((x .0) .at) ((x .0) .bound)) ∙ length-set the-row ((x .0) .at) ((x .0) .bound)
 
-  exits : (x : CoreGives) → CoreTold x → ent 𝓤 (⋆ 𝓤 H A (‵ (fobs (row-at .name) (codedHoleys R-Handle .code (heres R-Handle (row₁ x)))) ∷ ‵ (fbor κ₁ (Held R-Handle (length (row₁ x)) (row-at .ptr .0) (row-at .ptr .1) (row-at .name))) ∷ ‵ (flft κ₁ q₁) ∷ ‵ (fobs (c-at .name) (R-Replica .coded .code ((x .0) .replica))) ∷ ‵ (fbor κ₀ (Inside (mem R-Replica) (c-at .ptr .0) (c-at .ptr .1) (c-at .name))) ∷ ‵ (flft κ₀ q₀) ∷ After x ∷ [])) (Post (val-Answer ((x .0) .answer)))
+  exits : (x : CoreGives) → CoreTold x → ent 𝓤 (⋆ 𝓤 H A (‵ (fobs (row-at .name) (codedHoleys R-Bound .code (heres R-Bound (row₁ x)))) ∷ ‵ (fbor κ₁ (Held R-Bound (length (row₁ x)) (row-at .ptr .0) (row-at .ptr .1) (row-at .name))) ∷ ‵ (flft κ₁ q₁) ∷ ‵ (fobs (counters-at .name) (R-Replica .coded .code ((x .0) .replica))) ∷ ‵ (fbor κ₀ (Inside (mem R-Replica) (counters-at .ptr .0) (counters-at .ptr .1) (counters-at .name))) ∷ ‵ (flft κ₀ q₀) ∷ After x ∷ [])) (Post (val-Answer ((x .0) .answer)))
   exits x p =
-      qed W (‵ (fobs (row-at .name) (codedHoleys R-Handle .code (heres R-Handle (row₁ x)))) ∷ ‵ (fbor κ₁ (Held R-Handle (length (row₁ x)) (row-at .ptr .0) (row-at .ptr .1) (row-at .name))) ∷ ‵ (flft κ₁ q₁) ∷ ‵ (fobs (c-at .name) (R-Replica .coded .code ((x .0) .replica))) ∷ ‵ (fbor κ₀ (Inside (mem R-Replica) (c-at .ptr .0) (c-at .ptr .1) (c-at .name))) ∷ ‵ (flft κ₀ q₀) ∷ After x ∷ []) ∵
-      suffices ! _ (ends-at 𝓤 H A this.ended stayed (this.clauses 𝓤 H A memory run) W (((κ₀, (κ₁, (κ₂, (κ₃, (κ₄, (κ₅, tt)))))), (q₀, (q₁, (q₂, (q₃, (q₄, (q₅, tt)))))), tt, x-all, at-all), tt) (val-Answer ((x .0) .answer)) ((x .0) .answer) (((x .0) .replica), ((row₁ x), (x .1 .1 .1 .0, (x .1 .1 .1 .1 .0, (x .1 .1 .1 .1 .1 .0, (tt, (tt, tt))))))) (tt, (same₁ x, (p .2, (p .3, (p .4, (tt, (tt, tt)))))))) $ says ! (called the-s the-c the-row (onFrame the-frame) the-words (x .1 .1 .1 .0) the-bytes (x .1 .1 .1 .1 .0) the-holds (x .1 .1 .1 .1 .1 .0) (x .0) (p .1)) $
-      move ! (6 ∷ []) $ split ! $ move ! (4 ∷ 0 ∷ []) $ join ! $ move ! (6 ∷ 0 ∷ []) $ join ! $ frame ! $ split ! $ move ! (1 ∷ []) $ split ! $ nothing ! $ nothing ! $ fjoin ! $ nothing ! $ fjoin ! $ move ! (2 ∷ 0 ∷ []) $ fjoin ! $ move ! (1 ∷ 0 ∷ []) $ fjoin ! $ move ! (1 ∷ 0 ∷ []) $ fjoin ! $ move ! (1 ∷ 2 ∷ []) $ fjoin ! $ pureI ! (at-slice R-Handle (record { ptr = row-at .ptr; name = row-at .name; now = (row₁ x) }) (s-row ∷ [])) (tt, (tt, tt)) (ap (λ (m : ℕ). sliceVal (row-at .ptr) m ∷ []) (sym (same₁ x)), (subst (Room R-Handle) (sym (same₁ x)) room-row)) $ fjoin ! $ fjoin ! $ move ! (1 ∷ 2 ∷ []) $ feqI ! (List Val) (s-c ∷ []) (s-c ∷ []) refl $ fjoin3 ! $ fjoin ! $ frame ! $ owned ! R-Answer (Is R-Answer) (makes-Answer 𝓤 H A W) ((x .0) .answer) (vals-Answer ((x .0) .answer)) (LL.owed Outcome-type.the-type Outcome-laws.the-laws (x .0) _ (p .0) .1 .0) $ done !
+      qed W (‵ (fobs (row-at .name) (codedHoleys R-Bound .code (heres R-Bound (row₁ x)))) ∷ ‵ (fbor κ₁ (Held R-Bound (length (row₁ x)) (row-at .ptr .0) (row-at .ptr .1) (row-at .name))) ∷ ‵ (flft κ₁ q₁) ∷ ‵ (fobs (counters-at .name) (R-Replica .coded .code ((x .0) .replica))) ∷ ‵ (fbor κ₀ (Inside (mem R-Replica) (counters-at .ptr .0) (counters-at .ptr .1) (counters-at .name))) ∷ ‵ (flft κ₀ q₀) ∷ After x ∷ []) ∵
+      suffices ! _ (ends-at 𝓤 H A this.ended stayed (this.clauses 𝓤 H A memory run) W (((κ₀, (κ₁, (κ₂, (κ₃, (κ₄, (κ₅, tt)))))), (q₀, (q₁, (q₂, (q₃, (q₄, (q₅, tt)))))), tt, x-all, at-all), tt) (val-Answer ((x .0) .answer)) ((x .0) .answer) (((x .0) .replica), ((row₁ x), (x .1 .1 .1 .0, (x .1 .1 .1 .1 .0, (x .1 .1 .1 .1 .1 .0, (tt, (tt, tt))))))) (tt, (same₁ x, (p .2, (p .3, (p .4, (tt, (tt, tt)))))))) $ says ! (called the-settings the-counters the-row (onFrame the-frame) the-words (x .1 .1 .1 .0) the-bytes (x .1 .1 .1 .1 .0) the-holds (x .1 .1 .1 .1 .1 .0) (x .0) (p .1)) $
+      move ! (6 ∷ []) $ split ! $ move ! (4 ∷ 0 ∷ []) $ join ! $ move ! (6 ∷ 0 ∷ []) $ join ! $ frame ! $ split ! $ move ! (1 ∷ []) $ split ! $ nothing ! $ nothing ! $ fjoin ! $ nothing ! $ fjoin ! $ move ! (2 ∷ 0 ∷ []) $ fjoin ! $ move ! (1 ∷ 0 ∷ []) $ fjoin ! $ move ! (1 ∷ 0 ∷ []) $ fjoin ! $ move ! (1 ∷ 2 ∷ []) $ fjoin ! $ pureI ! (at-slice R-Bound (record { ptr = row-at .ptr; name = row-at .name; now = (row₁ x) }) (s-row ∷ [])) (tt, (tt, tt)) (ap (λ (m : ℕ). sliceVal (row-at .ptr) m ∷ []) (sym (same₁ x)), (subst (Room R-Bound) (sym (same₁ x)) room-row)) $ fjoin ! $ fjoin ! $ move ! (1 ∷ 2 ∷ []) $ feqI ! (List Val) (s-counters ∷ []) (s-counters ∷ []) refl $ fjoin3 ! $ fjoin ! $ frame ! $ owned ! R-Answer (Is R-Answer) (makes-Answer 𝓤 H A W) ((x .0) .answer) (vals-Answer ((x .0) .answer)) (LL.owed Outcome-type.the-type Outcome-laws.the-laws (x .0) _ (p .0) .1 .0) $ done !
 
-  module _ (Ct : Calls 𝓤 H) (Λ : Loops 𝓤 H) (fm : FmC 𝓤 H (W .laws) Ct) (known-handle-at : Triple 𝓤 (Ct #replica·handle-at) (HandleAt 𝓤 H A memory run)) (known-places-in-use : Triple 𝓤 (Ct #replica·places-in-use) (PlacesInUse 𝓤 H A memory run)) (known-room-of : Triple 𝓤 (Ct #due_batch·room-of) (RoomOf 𝓤 H A memory run)) (known-look : Triple 𝓤 (Ct #row·look) (Look 𝓤 H A memory run)) (known-frame-now : Triple 𝓤 (Ct #standby·frame-now) (FrameNow 𝓤 H A memory run)) (known-act : Triple 𝓤 (Ct #row·act) (Act 𝓤 H A memory run)) (l₀ l₁ l₂ l₃ l₄ l₅ l₆ l₇ l₈ l₉ l₁₀ l₁₁ l₁₂ l₁₃ l₁₄ l₁₅ l₁₆ l₁₇ l₁₈ l₁₉ l₂₀ l₂₁ l₂₂ l₂₃ l₂₄ l₂₅ l₂₆ l₂₇ l₂₈ l₂₉ : ℕ) where
+  module _ (Ct : Calls 𝓤 H) (Λ : Loops 𝓤 H) (fm : FmC 𝓤 H (W .laws) Ct) (known-handle-at : Triple 𝓤 (Ct #replica·handle-at) (HandleAt 𝓤 H A memory run)) (known-places-in-use : Triple 𝓤 (Ct #replica·places-in-use) (PlacesInUse 𝓤 H A memory run)) (known-room-of : Triple 𝓤 (Ct #standby_batch_due·room-of) (RoomOf 𝓤 H A memory run)) (known-look-up : Triple 𝓤 (Ct #standby_row·look-up) (LookUp 𝓤 H A memory run)) (known-on-frame : Triple 𝓤 (Ct #standby_frame·on-frame) (OnFrame 𝓤 H A memory run)) (known-update : Triple 𝓤 (Ct #standby_row·update) (Update 𝓤 H A memory run)) (l₀ l₁ l₂ l₃ l₄ l₅ l₆ l₇ l₈ l₉ l₁₀ l₁₁ l₁₂ l₁₃ l₁₄ l₁₅ l₁₆ l₁₇ l₁₈ l₁₉ l₂₀ l₂₁ l₂₂ l₂₃ l₂₄ l₂₅ l₂₆ l₂₇ l₂₈ l₂₉ : ℕ) where
     abbrev En : Env 𝓤 H
-    En = (Answer-laws.mir, l₀) ∷ (tyRef (named 0) mut (pointee (R-Replica .written)), l₁) ∷ (sliceTy (tyRef (named 1) mut (pointee (R-Handle .written))), l₂) ∷ (sliceTy (tyRef (named 2) mut word), l₃) ∷ (sliceTy (tyRef (named 3) mut (tyInt w8)), l₄) ∷ (sliceTy (tyRef (named 4) mut (tyInt w8)), l₅) ∷ (sliceTy (tyRef (named 5) imm (tyInt w8)), l₆) ∷ (Settings-laws.mir, l₇) ∷ (tyInt w32, l₈) ∷ (word, l₉) ∷ (word, l₁₀) ∷ (word, l₁₁) ∷ (Seen-laws.mir, l₁₂) ∷ (Outcome-laws.mir, l₁₃) ∷ (tyRef erased imm word, l₁₄) ∷ (sliceTy (tyRef erased imm word), l₁₅) ∷ (tyRef erased imm (tyInt w8), l₁₆) ∷ (sliceTy (tyRef erased imm (tyInt w8)), l₁₇) ∷ (tyRef erased imm (pointee (R-Handle .written)), l₁₈) ∷ (sliceTy (tyRef erased imm (pointee (R-Handle .written))), l₁₉) ∷ (Replica-laws.mir, l₂₀) ∷ (tyRef erased mut word, l₂₁) ∷ (sliceTy (tyRef erased mut word), l₂₂) ∷ (tyRef erased mut (tyInt w8), l₂₃) ∷ (sliceTy (tyRef erased mut (tyInt w8)), l₂₄) ∷ (tyRef erased mut (tyInt w8), l₂₅) ∷ (sliceTy (tyRef erased mut (tyInt w8)), l₂₆) ∷ (tyUnit, l₂₇) ∷ (tyRef erased mut (pointee (R-Handle .written)), l₂₈) ∷ (sliceTy (tyRef erased mut (pointee (R-Handle .written))), l₂₉) ∷ []
+    En = (Answer-laws.mir, l₀) ∷ (tyRef (named 0) mut (pointee (R-Replica .written)), l₁) ∷ (sliceTy (tyRef (named 1) mut (pointee (R-Bound .written))), l₂) ∷ (sliceTy (tyRef (named 2) mut word), l₃) ∷ (sliceTy (tyRef (named 3) mut (tyInt w8)), l₄) ∷ (sliceTy (tyRef (named 4) mut (tyInt w8)), l₅) ∷ (sliceTy (tyRef (named 5) imm (tyInt w8)), l₆) ∷ (Settings-laws.mir, l₇) ∷ (tyInt w32, l₈) ∷ (word, l₉) ∷ (word, l₁₀) ∷ (word, l₁₁) ∷ (Lookup-laws.mir, l₁₂) ∷ (Outcome-laws.mir, l₁₃) ∷ (tyRef erased imm word, l₁₄) ∷ (sliceTy (tyRef erased imm word), l₁₅) ∷ (tyRef erased imm (tyInt w8), l₁₆) ∷ (sliceTy (tyRef erased imm (tyInt w8)), l₁₇) ∷ (tyRef erased imm (pointee (R-Bound .written)), l₁₈) ∷ (sliceTy (tyRef erased imm (pointee (R-Bound .written))), l₁₉) ∷ (Replica-laws.mir, l₂₀) ∷ (tyRef erased mut word, l₂₁) ∷ (sliceTy (tyRef erased mut word), l₂₂) ∷ (tyRef erased mut (tyInt w8), l₂₃) ∷ (sliceTy (tyRef erased mut (tyInt w8)), l₂₄) ∷ (tyRef erased mut (tyInt w8), l₂₅) ∷ (sliceTy (tyRef erased mut (tyInt w8)), l₂₆) ∷ (tyUnit, l₂₇) ∷ (tyRef erased mut (pointee (R-Bound .written)), l₂₈) ∷ (sliceTy (tyRef erased mut (pointee (R-Bound .written))), l₂₉) ∷ []
 
     -- the walk's parts, the last first
 
-    part₂₀ : (is-c : Is R-Replica the-c (vals-Replica the-c)) → (f₈ : Is u32 x₈ (vint w32 x₈ ∷ [])) → (f₉ : Is u64 x₉ (vint w64 x₉ ∷ [])) → (f₁₁ : Is u64 x₁₁ (vint w64 x₁₁ ∷ [])) → (f₁₂ : Is R-Seen x₁₂ (vals-Seen x₁₂)) → (x : CoreGives) → (p : CoreTold x) → Sq W (After x ∷ ‵ (row R-Handle fullShare the-row (row-at .ptr .0) (row-at .ptr .1)) ∷ ‵ (cellAt fullShare (R-Replica .mir) (vals-Replica the-c) (c-at .ptr .0) (c-at .ptr .1)) ∷ ‵ (R-Replica .own the-c (vals-Replica the-c)) ∷ ‵ (fobor κ₀ q₀ (Inside (mem R-Replica) (c-at .ptr .0) (c-at .ptr .1) (c-at .name))) ∷ ‵ (fobs (c-at .name) (R-Replica .coded .code the-c)) ∷ ‵ (fauth (c-at .name) (R-Replica .coded .code the-c)) ∷ ‵ (fobor κ₁ q₁ (Held R-Handle (length the-row) (row-at .ptr .0) (row-at .ptr .1) (row-at .name))) ∷ ‵ (fobs (row-at .name) (codedHoleys R-Handle .code (heres R-Handle the-row))) ∷ ‵ (fauth (row-at .name) (codedHoleys R-Handle .code (heres R-Handle the-row))) ∷ stack 𝓤 H A (empty Answer-laws.mir l₀ ∷ filled (tyRef (named 0) mut (pointee (R-Replica .written))) l₁ (s-c) ∷ filled (sliceTy (tyRef (named 1) mut (pointee (R-Handle .written)))) l₂ (s-row) ∷ filled (sliceTy (tyRef (named 2) mut word)) l₃ (s-words) ∷ filled (sliceTy (tyRef (named 3) mut (tyInt w8))) l₄ (s-bytes) ∷ filled (sliceTy (tyRef (named 4) mut (tyInt w8))) l₅ (s-holds) ∷ filled (sliceTy (tyRef (named 5) imm (tyInt w8))) l₆ (s-frame) ∷ filled Settings-laws.mir l₇ (val-Settings the-s) ∷ filled (tyInt w32) l₈ (vint w32 x₈) ∷ filled word l₉ (vint w64 x₉) ∷ filled word l₁₀ (vint w64 x₁₀) ∷ filled word l₁₁ (vint w64 x₁₁) ∷ filled Seen-laws.mir l₁₂ (val-Seen x₁₂) ∷ filled Outcome-laws.mir l₁₃ (val-Outcome (x .0)) ∷ filled (tyRef erased imm word) l₁₄ (vptr (words-at .ptr .0) (words-at .ptr .1)) ∷ filled (sliceTy (tyRef erased imm word)) l₁₅ (s-words) ∷ filled (tyRef erased imm (tyInt w8)) l₁₆ (vptr (holds-at .ptr .0) (holds-at .ptr .1)) ∷ filled (sliceTy (tyRef erased imm (tyInt w8))) l₁₇ (s-holds) ∷ filled (tyRef erased imm (pointee (R-Handle .written))) l₁₈ (vptr (row-at .ptr .0) (row-at .ptr .1)) ∷ filled (sliceTy (tyRef erased imm (pointee (R-Handle .written)))) l₁₉ (s-row) ∷ filled Replica-laws.mir l₂₀ (val-Replica the-c) ∷ filled (tyRef erased mut word) l₂₁ (vptr (words-at .ptr .0) (words-at .ptr .1)) ∷ filled (sliceTy (tyRef erased mut word)) l₂₂ (s-words) ∷ filled (tyRef erased mut (tyInt w8)) l₂₃ (vptr (bytes-at .ptr .0) (bytes-at .ptr .1)) ∷ filled (sliceTy (tyRef erased mut (tyInt w8))) l₂₄ (s-bytes) ∷ filled (tyRef erased mut (tyInt w8)) l₂₅ (vptr (holds-at .ptr .0) (holds-at .ptr .1)) ∷ filled (sliceTy (tyRef erased mut (tyInt w8))) l₂₆ (s-holds) ∷ empty tyUnit l₂₇ ∷ empty (tyRef erased mut (pointee (R-Handle .written))) l₂₈ ∷ empty (sliceTy (tyRef erased mut (pointee (R-Handle .written)))) l₂₉ ∷ []) []) (runs Ct Λ En text.t-20 (atRet En Post))
-    part₂₀ is-c f₈ f₉ f₁₁ f₁₂ x p =
+    part₂₀ : (is-counters : Is R-Replica the-counters (vals-Replica the-counters)) → (f₈ : Is u32 x₈ (vint w32 x₈ ∷ [])) → (f₉ : Is u64 x₉ (vint w64 x₉ ∷ [])) → (f₁₁ : Is u64 x₁₁ (vint w64 x₁₁ ∷ [])) → (f₁₂ : Is R-Lookup x₁₂ (vals-Lookup x₁₂)) → (x : CoreGives) → (p : CoreTold x) → Sq W (After x ∷ ‵ (row R-Bound fullShare the-row (row-at .ptr .0) (row-at .ptr .1)) ∷ ‵ (cellAt fullShare (R-Replica .mir) (vals-Replica the-counters) (counters-at .ptr .0) (counters-at .ptr .1)) ∷ ‵ (R-Replica .own the-counters (vals-Replica the-counters)) ∷ ‵ (fobor κ₀ q₀ (Inside (mem R-Replica) (counters-at .ptr .0) (counters-at .ptr .1) (counters-at .name))) ∷ ‵ (fobs (counters-at .name) (R-Replica .coded .code the-counters)) ∷ ‵ (fauth (counters-at .name) (R-Replica .coded .code the-counters)) ∷ ‵ (fobor κ₁ q₁ (Held R-Bound (length the-row) (row-at .ptr .0) (row-at .ptr .1) (row-at .name))) ∷ ‵ (fobs (row-at .name) (codedHoleys R-Bound .code (heres R-Bound the-row))) ∷ ‵ (fauth (row-at .name) (codedHoleys R-Bound .code (heres R-Bound the-row))) ∷ stack 𝓤 H A (empty Answer-laws.mir l₀ ∷ filled (tyRef (named 0) mut (pointee (R-Replica .written))) l₁ (s-counters) ∷ filled (sliceTy (tyRef (named 1) mut (pointee (R-Bound .written)))) l₂ (s-row) ∷ filled (sliceTy (tyRef (named 2) mut word)) l₃ (s-words) ∷ filled (sliceTy (tyRef (named 3) mut (tyInt w8))) l₄ (s-bytes) ∷ filled (sliceTy (tyRef (named 4) mut (tyInt w8))) l₅ (s-holds) ∷ filled (sliceTy (tyRef (named 5) imm (tyInt w8))) l₆ (s-frame) ∷ filled Settings-laws.mir l₇ (val-Settings the-settings) ∷ filled (tyInt w32) l₈ (vint w32 x₈) ∷ filled word l₉ (vint w64 x₉) ∷ filled word l₁₀ (vint w64 x₁₀) ∷ filled word l₁₁ (vint w64 x₁₁) ∷ filled Lookup-laws.mir l₁₂ (val-Lookup x₁₂) ∷ filled Outcome-laws.mir l₁₃ (val-Outcome (x .0)) ∷ filled (tyRef erased imm word) l₁₄ (vptr (words-at .ptr .0) (words-at .ptr .1)) ∷ filled (sliceTy (tyRef erased imm word)) l₁₅ (s-words) ∷ filled (tyRef erased imm (tyInt w8)) l₁₆ (vptr (holds-at .ptr .0) (holds-at .ptr .1)) ∷ filled (sliceTy (tyRef erased imm (tyInt w8))) l₁₇ (s-holds) ∷ filled (tyRef erased imm (pointee (R-Bound .written))) l₁₈ (vptr (row-at .ptr .0) (row-at .ptr .1)) ∷ filled (sliceTy (tyRef erased imm (pointee (R-Bound .written)))) l₁₉ (s-row) ∷ filled Replica-laws.mir l₂₀ (val-Replica the-counters) ∷ filled (tyRef erased mut word) l₂₁ (vptr (words-at .ptr .0) (words-at .ptr .1)) ∷ filled (sliceTy (tyRef erased mut word)) l₂₂ (s-words) ∷ filled (tyRef erased mut (tyInt w8)) l₂₃ (vptr (bytes-at .ptr .0) (bytes-at .ptr .1)) ∷ filled (sliceTy (tyRef erased mut (tyInt w8))) l₂₄ (s-bytes) ∷ filled (tyRef erased mut (tyInt w8)) l₂₅ (vptr (holds-at .ptr .0) (holds-at .ptr .1)) ∷ filled (sliceTy (tyRef erased mut (tyInt w8))) l₂₆ (s-holds) ∷ empty tyUnit l₂₇ ∷ empty (tyRef erased mut (pointee (R-Bound .written))) l₂₈ ∷ empty (sliceTy (tyRef erased mut (pointee (R-Bound .written)))) l₂₉ ∷ []) []) (runs Ct Λ En text.t-20 (atRet En Post))
+    part₂₀ is-counters f₈ f₉ f₁₁ f₁₂ x p =
         assigns ! (addr ! (from ! (fld ! refl (hop ! (look-in ! 64 (sub ! 0 refl (whole !))) (stop !))))) (from ! (stop !)) (init ! 12 refl (tt, tt)) $
         assigns ! (agg ! (and-then ! (load ! (from ! (stop !)) (look ! 12 refl)) (and-then ! (load ! (from ! (fld ! refl (stop !))) (look-in ! 64 (sub ! 1 refl (whole !)))) (no-more !)))) (from ! (stop !)) (init ! 10 refl (tt, (tt, (record { fits = room-row .0 }, tt)))) $ move ! (1 ∷ []) $
-        calls-act ! fm memory run known-act the-row (row-at .ptr .0) (row-at .ptr .1) ((x .0) .at) ((x .0) .from) ((x .0) .slot) room-row ((LL.owed Outcome-type.the-type Outcome-laws.the-laws (x .0) _ (p .0) .1 .1 .1 .1 .0) .1) ((LL.owed Outcome-type.the-type Outcome-laws.the-laws (x .0) _ (p .0) .1 .1 .1 .1 .1 .0) .1) (LL.owed Outcome-type.the-type Outcome-laws.the-laws (x .0) _ (p .0) .1 .1 .1 .1 .1 .1 .0) (λ j. (and-then ! (load ! (from ! (stop !)) (look ! 10 refl)) (and-then ! (load ! (from ! (fld ! refl (stop !))) (look-in ! 42 (sub ! 4 refl (whole !)))) (and-then ! (load ! (from ! (fld ! refl (stop !))) (look-in ! 42 (sub ! 5 refl (whole !)))) (and-then ! (load ! (from ! (fld ! refl (stop !))) (look-in ! 42 (sub ! 6 refl (whole !)))) (no-more !)))))) (land ! (from ! (stop !)) (init ! 14 refl (tt, tt)) $
+        calls-update ! fm memory run known-update the-row (row-at .ptr .0) (row-at .ptr .1) ((x .0) .at) ((x .0) .from) ((x .0) .bound) room-row ((LL.owed Outcome-type.the-type Outcome-laws.the-laws (x .0) _ (p .0) .1 .1 .1 .1 .0) .1) ((LL.owed Outcome-type.the-type Outcome-laws.the-laws (x .0) _ (p .0) .1 .1 .1 .1 .1 .0) .1) (LL.owed Outcome-type.the-type Outcome-laws.the-laws (x .0) _ (p .0) .1 .1 .1 .1 .1 .1 .0) (λ j. (and-then ! (load ! (from ! (stop !)) (look ! 10 refl)) (and-then ! (load ! (from ! (fld ! refl (stop !))) (look-in ! 42 (sub ! 4 refl (whole !)))) (and-then ! (load ! (from ! (fld ! refl (stop !))) (look-in ! 42 (sub ! 5 refl (whole !)))) (and-then ! (load ! (from ! (fld ! refl (stop !))) (look-in ! 42 (sub ! 6 refl (whole !)))) (no-more !)))))) (land ! (from ! (stop !)) (init ! 14 refl (tt, tt)) $
         assigns ! (of-opd ! (load ! (from ! (fld ! refl (stop !))) (look-in ! 42 (sub ! 0 refl (whole !))))) (from ! (hop ! (look ! 66 refl) (stop !))) (store-raw ! 2 refl (LL.lawful Replica-type.the-type Replica-laws.the-laws 𝓤 H A W .typed ((x .0) .replica) (vals-Replica ((x .0) .replica)) (LL.owed Outcome-type.the-type Outcome-laws.the-laws (x .0) _ (p .0) .0) .0)) $
         assigns ! (of-opd ! (load ! (from ! (fld ! refl (stop !))) (look-in ! 42 (sub ! 1 refl (whole !))))) (from ! (stop !)) (init ! 68 refl (LL.lawful Answer-type.the-type Answer-laws.the-laws 𝓤 H A W .typed ((x .0) .answer) (vals-Answer ((x .0) .answer)) (LL.owed Outcome-type.the-type Outcome-laws.the-laws (x .0) _ (p .0) .1 .0) .0)) $
-        move ! (3 ∷ []) $ drop ! $ owned ! R-Replica (Is R-Replica) (makes-Replica 𝓤 H A W) ((x .0) .replica) (vals-Replica ((x .0) .replica)) (LL.owed Outcome-type.the-type Outcome-laws.the-laws (x .0) _ (p .0) .0) $ move ! (3 ∷ 0 ∷ 4 ∷ 5 ∷ 6 ∷ []) $ closes ! tt R-Replica ((x .0) .replica) (vals-Replica ((x .0) .replica)) (c-at .ptr .0) (c-at .ptr .1) $ move ! (3 ∷ 5 ∷ 6 ∷ 7 ∷ []) $ closes-slice ! tt R-Handle the-row (row₁ x) (same₁ x) (row-at .ptr .0) (row-at .ptr .1) $ returns ! (look ! 65 refl) $
-        by ! (frees-stack 𝓤 H A W (filled Answer-laws.mir l₀ _ ∷ filled (tyRef (named 0) mut (pointee (R-Replica .written))) l₁ _ ∷ filled (sliceTy (tyRef (named 1) mut (pointee (R-Handle .written)))) l₂ _ ∷ filled (sliceTy (tyRef (named 2) mut word)) l₃ _ ∷ filled (sliceTy (tyRef (named 3) mut (tyInt w8))) l₄ _ ∷ filled (sliceTy (tyRef (named 4) mut (tyInt w8))) l₅ _ ∷ filled (sliceTy (tyRef (named 5) imm (tyInt w8))) l₆ _ ∷ filled Settings-laws.mir l₇ _ ∷ filled (tyInt w32) l₈ _ ∷ filled word l₉ _ ∷ filled word l₁₀ _ ∷ filled word l₁₁ _ ∷ filled Seen-laws.mir l₁₂ _ ∷ filled Outcome-laws.mir l₁₃ _ ∷ filled (tyRef erased imm word) l₁₄ _ ∷ filled (sliceTy (tyRef erased imm word)) l₁₅ _ ∷ filled (tyRef erased imm (tyInt w8)) l₁₆ _ ∷ filled (sliceTy (tyRef erased imm (tyInt w8))) l₁₇ _ ∷ filled (tyRef erased imm (pointee (R-Handle .written))) l₁₈ _ ∷ filled (sliceTy (tyRef erased imm (pointee (R-Handle .written)))) l₁₉ _ ∷ filled Replica-laws.mir l₂₀ _ ∷ filled (tyRef erased mut word) l₂₁ _ ∷ filled (sliceTy (tyRef erased mut word)) l₂₂ _ ∷ filled (tyRef erased mut (tyInt w8)) l₂₃ _ ∷ filled (sliceTy (tyRef erased mut (tyInt w8))) l₂₄ _ ∷ filled (tyRef erased mut (tyInt w8)) l₂₅ _ ∷ filled (sliceTy (tyRef erased mut (tyInt w8))) l₂₆ _ ∷ filled tyUnit l₂₇ _ ∷ filled (tyRef erased mut (pointee (R-Handle .written))) l₂₈ _ ∷ filled (sliceTy (tyRef erased mut (pointee (R-Handle .written)))) l₂₉ _ ∷ []) (‵ (fobs (row-at .name) (codedHoleys R-Handle .code (heres R-Handle (row₁ x)))) ∷ ‵ (fbor κ₁ (Held R-Handle (length (row₁ x)) (row-at .ptr .0) (row-at .ptr .1) (row-at .name))) ∷ ‵ (flft κ₁ q₁) ∷ ‵ (fobs (c-at .name) (R-Replica .coded .code ((x .0) .replica))) ∷ ‵ (fbor κ₀ (Inside (mem R-Replica) (c-at .ptr .0) (c-at .ptr .1) (c-at .name))) ∷ ‵ (flft κ₀ q₀) ∷ After x ∷ []) (Post (val-Answer ((x .0) .answer))) (exits x p)))
+        move ! (3 ∷ []) $ drop ! $ owned ! R-Replica (Is R-Replica) (makes-Replica 𝓤 H A W) ((x .0) .replica) (vals-Replica ((x .0) .replica)) (LL.owed Outcome-type.the-type Outcome-laws.the-laws (x .0) _ (p .0) .0) $ move ! (3 ∷ 0 ∷ 4 ∷ 5 ∷ 6 ∷ []) $ closes ! tt R-Replica ((x .0) .replica) (vals-Replica ((x .0) .replica)) (counters-at .ptr .0) (counters-at .ptr .1) $ move ! (3 ∷ 5 ∷ 6 ∷ 7 ∷ []) $ closes-slice ! tt R-Bound the-row (row₁ x) (same₁ x) (row-at .ptr .0) (row-at .ptr .1) $ returns ! (look ! 65 refl) $
+        by ! (frees-stack 𝓤 H A W (filled Answer-laws.mir l₀ _ ∷ filled (tyRef (named 0) mut (pointee (R-Replica .written))) l₁ _ ∷ filled (sliceTy (tyRef (named 1) mut (pointee (R-Bound .written)))) l₂ _ ∷ filled (sliceTy (tyRef (named 2) mut word)) l₃ _ ∷ filled (sliceTy (tyRef (named 3) mut (tyInt w8))) l₄ _ ∷ filled (sliceTy (tyRef (named 4) mut (tyInt w8))) l₅ _ ∷ filled (sliceTy (tyRef (named 5) imm (tyInt w8))) l₆ _ ∷ filled Settings-laws.mir l₇ _ ∷ filled (tyInt w32) l₈ _ ∷ filled word l₉ _ ∷ filled word l₁₀ _ ∷ filled word l₁₁ _ ∷ filled Lookup-laws.mir l₁₂ _ ∷ filled Outcome-laws.mir l₁₃ _ ∷ filled (tyRef erased imm word) l₁₄ _ ∷ filled (sliceTy (tyRef erased imm word)) l₁₅ _ ∷ filled (tyRef erased imm (tyInt w8)) l₁₆ _ ∷ filled (sliceTy (tyRef erased imm (tyInt w8))) l₁₇ _ ∷ filled (tyRef erased imm (pointee (R-Bound .written))) l₁₈ _ ∷ filled (sliceTy (tyRef erased imm (pointee (R-Bound .written)))) l₁₉ _ ∷ filled Replica-laws.mir l₂₀ _ ∷ filled (tyRef erased mut word) l₂₁ _ ∷ filled (sliceTy (tyRef erased mut word)) l₂₂ _ ∷ filled (tyRef erased mut (tyInt w8)) l₂₃ _ ∷ filled (sliceTy (tyRef erased mut (tyInt w8))) l₂₄ _ ∷ filled (tyRef erased mut (tyInt w8)) l₂₅ _ ∷ filled (sliceTy (tyRef erased mut (tyInt w8))) l₂₆ _ ∷ filled tyUnit l₂₇ _ ∷ filled (tyRef erased mut (pointee (R-Bound .written))) l₂₈ _ ∷ filled (sliceTy (tyRef erased mut (pointee (R-Bound .written)))) l₂₉ _ ∷ []) (‵ (fobs (row-at .name) (codedHoleys R-Bound .code (heres R-Bound (row₁ x)))) ∷ ‵ (fbor κ₁ (Held R-Bound (length (row₁ x)) (row-at .ptr .0) (row-at .ptr .1) (row-at .name))) ∷ ‵ (flft κ₁ q₁) ∷ ‵ (fobs (counters-at .name) (R-Replica .coded .code ((x .0) .replica))) ∷ ‵ (fbor κ₀ (Inside (mem R-Replica) (counters-at .ptr .0) (counters-at .ptr .1) (counters-at .name))) ∷ ‵ (flft κ₀ q₀) ∷ After x ∷ []) (Post (val-Answer ((x .0) .answer))) (exits x p)))
 
-    part₁ : (is-c : Is R-Replica the-c (vals-Replica the-c)) → Sq W (‵ (row R-Handle fullShare the-row (row-at .ptr .0) (row-at .ptr .1)) ∷ ‵ (cellAt fullShare (R-Replica .mir) (vals-Replica the-c) (c-at .ptr .0) (c-at .ptr .1)) ∷ ‵ (R-Replica .own the-c (vals-Replica the-c)) ∷ ‵ (fobor κ₀ q₀ (Inside (mem R-Replica) (c-at .ptr .0) (c-at .ptr .1) (c-at .name))) ∷ ‵ (fobs (c-at .name) (R-Replica .coded .code the-c)) ∷ ‵ (fauth (c-at .name) (R-Replica .coded .code the-c)) ∷ ‵ (fobor κ₁ q₁ (Held R-Handle (length the-row) (row-at .ptr .0) (row-at .ptr .1) (row-at .name))) ∷ ‵ (fobs (row-at .name) (codedHoleys R-Handle .code (heres R-Handle the-row))) ∷ ‵ (fauth (row-at .name) (codedHoleys R-Handle .code (heres R-Handle the-row))) ∷ Plain-words ∷ Plain-bytes ∷ Plain-holds ∷ Plain-frame ∷ stack 𝓤 H A (empty Answer-laws.mir l₀ ∷ filled (tyRef (named 0) mut (pointee (R-Replica .written))) l₁ (s-c) ∷ filled (sliceTy (tyRef (named 1) mut (pointee (R-Handle .written)))) l₂ (s-row) ∷ filled (sliceTy (tyRef (named 2) mut word)) l₃ (s-words) ∷ filled (sliceTy (tyRef (named 3) mut (tyInt w8))) l₄ (s-bytes) ∷ filled (sliceTy (tyRef (named 4) mut (tyInt w8))) l₅ (s-holds) ∷ filled (sliceTy (tyRef (named 5) imm (tyInt w8))) l₆ (s-frame) ∷ filled Settings-laws.mir l₇ (val-Settings the-s) ∷ empty (tyInt w32) l₈ ∷ empty word l₉ ∷ empty word l₁₀ ∷ empty word l₁₁ ∷ empty Seen-laws.mir l₁₂ ∷ empty Outcome-laws.mir l₁₃ ∷ empty (tyRef erased imm word) l₁₄ ∷ empty (sliceTy (tyRef erased imm word)) l₁₅ ∷ empty (tyRef erased imm (tyInt w8)) l₁₆ ∷ empty (sliceTy (tyRef erased imm (tyInt w8))) l₁₇ ∷ empty (tyRef erased imm (pointee (R-Handle .written))) l₁₈ ∷ empty (sliceTy (tyRef erased imm (pointee (R-Handle .written)))) l₁₉ ∷ empty Replica-laws.mir l₂₀ ∷ empty (tyRef erased mut word) l₂₁ ∷ empty (sliceTy (tyRef erased mut word)) l₂₂ ∷ empty (tyRef erased mut (tyInt w8)) l₂₃ ∷ empty (sliceTy (tyRef erased mut (tyInt w8))) l₂₄ ∷ empty (tyRef erased mut (tyInt w8)) l₂₅ ∷ empty (sliceTy (tyRef erased mut (tyInt w8))) l₂₆ ∷ empty tyUnit l₂₇ ∷ empty (tyRef erased mut (pointee (R-Handle .written))) l₂₈ ∷ empty (sliceTy (tyRef erased mut (pointee (R-Handle .written)))) l₂₉ ∷ []) []) (runs Ct Λ En text.t-1 (atRet En Post))
-    part₁ is-c =
+    part₁ : (is-counters : Is R-Replica the-counters (vals-Replica the-counters)) → Sq W (‵ (row R-Bound fullShare the-row (row-at .ptr .0) (row-at .ptr .1)) ∷ ‵ (cellAt fullShare (R-Replica .mir) (vals-Replica the-counters) (counters-at .ptr .0) (counters-at .ptr .1)) ∷ ‵ (R-Replica .own the-counters (vals-Replica the-counters)) ∷ ‵ (fobor κ₀ q₀ (Inside (mem R-Replica) (counters-at .ptr .0) (counters-at .ptr .1) (counters-at .name))) ∷ ‵ (fobs (counters-at .name) (R-Replica .coded .code the-counters)) ∷ ‵ (fauth (counters-at .name) (R-Replica .coded .code the-counters)) ∷ ‵ (fobor κ₁ q₁ (Held R-Bound (length the-row) (row-at .ptr .0) (row-at .ptr .1) (row-at .name))) ∷ ‵ (fobs (row-at .name) (codedHoleys R-Bound .code (heres R-Bound the-row))) ∷ ‵ (fauth (row-at .name) (codedHoleys R-Bound .code (heres R-Bound the-row))) ∷ Plain-words ∷ Plain-bytes ∷ Plain-holds ∷ Plain-frame ∷ stack 𝓤 H A (empty Answer-laws.mir l₀ ∷ filled (tyRef (named 0) mut (pointee (R-Replica .written))) l₁ (s-counters) ∷ filled (sliceTy (tyRef (named 1) mut (pointee (R-Bound .written)))) l₂ (s-row) ∷ filled (sliceTy (tyRef (named 2) mut word)) l₃ (s-words) ∷ filled (sliceTy (tyRef (named 3) mut (tyInt w8))) l₄ (s-bytes) ∷ filled (sliceTy (tyRef (named 4) mut (tyInt w8))) l₅ (s-holds) ∷ filled (sliceTy (tyRef (named 5) imm (tyInt w8))) l₆ (s-frame) ∷ filled Settings-laws.mir l₇ (val-Settings the-settings) ∷ empty (tyInt w32) l₈ ∷ empty word l₉ ∷ empty word l₁₀ ∷ empty word l₁₁ ∷ empty Lookup-laws.mir l₁₂ ∷ empty Outcome-laws.mir l₁₃ ∷ empty (tyRef erased imm word) l₁₄ ∷ empty (sliceTy (tyRef erased imm word)) l₁₅ ∷ empty (tyRef erased imm (tyInt w8)) l₁₆ ∷ empty (sliceTy (tyRef erased imm (tyInt w8))) l₁₇ ∷ empty (tyRef erased imm (pointee (R-Bound .written))) l₁₈ ∷ empty (sliceTy (tyRef erased imm (pointee (R-Bound .written)))) l₁₉ ∷ empty Replica-laws.mir l₂₀ ∷ empty (tyRef erased mut word) l₂₁ ∷ empty (sliceTy (tyRef erased mut word)) l₂₂ ∷ empty (tyRef erased mut (tyInt w8)) l₂₃ ∷ empty (sliceTy (tyRef erased mut (tyInt w8))) l₂₄ ∷ empty (tyRef erased mut (tyInt w8)) l₂₅ ∷ empty (sliceTy (tyRef erased mut (tyInt w8))) l₂₆ ∷ empty tyUnit l₂₇ ∷ empty (tyRef erased mut (pointee (R-Bound .written))) l₂₈ ∷ empty (sliceTy (tyRef erased mut (pointee (R-Bound .written)))) l₂₉ ∷ []) []) (runs Ct Λ En text.t-1 (atRet En Post))
+    part₁ is-counters =
         move ! (12 ∷ []) $
         calls-handed u8 (frame-at .ptr .0) (frame-at .ptr .1) ! fm (HandleAt 𝓤 H A memory run) known-handle-at to-handle-at (vint w32 x₈) (Is u32 x₈ (vint w32 x₈ ∷ [])) the-frame (named 5) κ₅ q₅ (frame-at .name) goes-handle-at told-handle-at (λ j. (and-then ! (load ! (from ! (stop !)) (look ! 59 refl)) (no-more !))) (λ f₈. land ! (from ! (stop !)) (init ! 55 refl (tt, record { fits = f₈ .1 })) $
         assigns ! (addr ! (from ! (fld ! refl (hop ! (look-in ! 65 (sub ! 0 refl (whole !))) (stop !))))) (from ! (stop !)) (init ! 43 refl (tt, tt)) $
@@ -316,35 +316,35 @@ module _ {M : Type 1} (𝓤 : URA M) (H : Heap 𝓤) (A : Atoms 𝓤) (W : Given
         calls-peek u8 (holds-at .ptr .0) (holds-at .ptr .1) ! fm (RoomOf 𝓤 H A memory run) known-room-of to-room-of (vint w64 x₁₁) (Is u64 x₁₁ (vint w64 x₁₁ ∷ [])) the-holds (named 4) κ₄ q₄ (holds-at .name) room-holds goes-room-of told-room-of (λ α γ j. (and-then ! (load ! (from ! (stop !)) (look ! 37 refl)) (and-then ! (load ! (from ! (stop !)) (look ! 51 refl)) (no-more !)))) (λ f₁₁. land ! (from ! (stop !)) (init ! 49 refl (tt, record { fits = f₁₁ .1 })) $
         assigns ! (addr ! (from ! (fld ! refl (hop ! (look-in ! 67 (sub ! 0 refl (whole !))) (stop !))))) (from ! (stop !)) (init ! 35 refl (tt, tt)) $
         assigns ! (agg ! (and-then ! (load ! (from ! (stop !)) (look ! 35 refl)) (and-then ! (load ! (from ! (fld ! refl (stop !))) (look-in ! 67 (sub ! 1 refl (whole !)))) (no-more !)))) (from ! (stop !)) (init ! 33 refl (tt, (tt, (record { fits = room-row .0 }, tt)))) $ move ! (3 ∷ []) $
-        calls-look ! fm memory run known-look the-row (row-at .ptr .0) (row-at .ptr .1) x₈ x₉ x₁₁ room-row (f₈ .1) (f₉ .1) (f₁₁ .1) (λ j. (and-then ! (load ! (from ! (stop !)) (look ! 33 refl)) (and-then ! (load ! (from ! (stop !)) (look ! 55 refl)) (and-then ! (load ! (from ! (stop !)) (look ! 53 refl)) (and-then ! (load ! (from ! (stop !)) (look ! 49 refl)) (no-more !)))))) (λ f₁₂. land ! (from ! (stop !)) (init ! 47 refl (LL.lawful Seen-type.the-type Seen-laws.the-laws 𝓤 H A W .typed x₁₂ (vals-Seen x₁₂) f₁₂ .0)) $
-        assigns ! (of-opd ! (load ! (from ! (hop ! (look ! 69 refl) (stop !))) (look-raw ! 4 refl))) (from ! (stop !)) (init ! 31 refl (LL.lawful Replica-type.the-type Replica-laws.the-laws 𝓤 H A W .typed the-c (vals-Replica the-c) is-c .0)) $
+        calls-look-up ! fm memory run known-look-up the-row (row-at .ptr .0) (row-at .ptr .1) x₈ x₉ x₁₁ room-row (f₈ .1) (f₉ .1) (f₁₁ .1) (λ j. (and-then ! (load ! (from ! (stop !)) (look ! 33 refl)) (and-then ! (load ! (from ! (stop !)) (look ! 55 refl)) (and-then ! (load ! (from ! (stop !)) (look ! 53 refl)) (and-then ! (load ! (from ! (stop !)) (look ! 49 refl)) (no-more !)))))) (λ f₁₂. land ! (from ! (stop !)) (init ! 47 refl (LL.lawful Lookup-type.the-type Lookup-laws.the-laws 𝓤 H A W .typed x₁₂ (vals-Lookup x₁₂) f₁₂ .0)) $
+        assigns ! (of-opd ! (load ! (from ! (hop ! (look ! 69 refl) (stop !))) (look-raw ! 4 refl))) (from ! (stop !)) (init ! 31 refl (LL.lawful Replica-type.the-type Replica-laws.the-laws 𝓤 H A W .typed the-counters (vals-Replica the-counters) is-counters .0)) $
         assigns ! (addr ! (from ! (fld ! refl (hop ! (look-in ! 65 (sub ! 0 refl (whole !))) (stop !))))) (from ! (stop !)) (init ! 29 refl (tt, tt)) $
         assigns ! (agg ! (and-then ! (load ! (from ! (stop !)) (look ! 29 refl)) (and-then ! (load ! (from ! (fld ! refl (stop !))) (look-in ! 65 (sub ! 1 refl (whole !)))) (no-more !)))) (from ! (stop !)) (init ! 27 refl (tt, (tt, (record { fits = room-words .0 }, tt)))) $
         assigns ! (addr ! (from ! (fld ! refl (hop ! (look-in ! 63 (sub ! 0 refl (whole !))) (stop !))))) (from ! (stop !)) (init ! 25 refl (tt, tt)) $
         assigns ! (agg ! (and-then ! (load ! (from ! (stop !)) (look ! 25 refl)) (and-then ! (load ! (from ! (fld ! refl (stop !))) (look-in ! 63 (sub ! 1 refl (whole !)))) (no-more !)))) (from ! (stop !)) (init ! 23 refl (tt, (tt, (record { fits = room-bytes .0 }, tt)))) $
         assigns ! (addr ! (from ! (fld ! refl (hop ! (look-in ! 61 (sub ! 0 refl (whole !))) (stop !))))) (from ! (stop !)) (init ! 21 refl (tt, tt)) $
         assigns ! (agg ! (and-then ! (load ! (from ! (stop !)) (look ! 21 refl)) (and-then ! (load ! (from ! (fld ! refl (stop !))) (look-in ! 61 (sub ! 1 refl (whole !)))) (no-more !)))) (from ! (stop !)) (init ! 19 refl (tt, (tt, (record { fits = room-holds .0 }, tt)))) $
-        nothing ! $ move ! (2 ∷ 4 ∷ []) $ join ! $ move ! (12 ∷ 0 ∷ []) $ join ! $ move ! (3 ∷ 0 ∷ []) $ join ! $ join ! $ calls-with ! fm (FrameNow 𝓤 H A memory run) known-frame-now to-frame-now (λ x. val-Outcome (x .0)) CoreTold Before (‵ ftrue) After (goes-frame-now is-c f₁₂ is-s) told-frame-now (and-then ! (load ! (from ! (stop !)) (look ! 28 refl)) (and-then ! (load ! (from ! (stop !)) (look ! 44 refl)) (and-then ! (load ! (from ! (stop !)) (look ! 24 refl)) (and-then ! (load ! (from ! (stop !)) (look ! 20 refl)) (and-then ! (load ! (from ! (stop !)) (look ! 16 refl)) (and-then ! (load ! (from ! (stop !)) (look ! 56 refl)) (and-then ! (load ! (from ! (stop !)) (look ! 54 refl)) (no-more !)))))))) (λ x p. move ! (1 ∷ []) $ drop ! $ land ! (from ! (stop !)) (init ! 42 refl (LL.lawful Outcome-type.the-type Outcome-laws.the-laws 𝓤 H A W .typed (x .0) (vals-Outcome (x .0)) (p .0) .0)) $
-        part₂₀ is-c f₈ f₉ f₁₁ f₁₂ x p)))))
+        nothing ! $ move ! (2 ∷ 4 ∷ []) $ join ! $ move ! (12 ∷ 0 ∷ []) $ join ! $ move ! (3 ∷ 0 ∷ []) $ join ! $ join ! $ calls-with ! fm (OnFrame 𝓤 H A memory run) known-on-frame to-on-frame (λ x. val-Outcome (x .0)) CoreTold Before (‵ ftrue) After (goes-on-frame is-counters f₁₂ is-settings) told-on-frame (and-then ! (load ! (from ! (stop !)) (look ! 28 refl)) (and-then ! (load ! (from ! (stop !)) (look ! 44 refl)) (and-then ! (load ! (from ! (stop !)) (look ! 24 refl)) (and-then ! (load ! (from ! (stop !)) (look ! 20 refl)) (and-then ! (load ! (from ! (stop !)) (look ! 16 refl)) (and-then ! (load ! (from ! (stop !)) (look ! 56 refl)) (and-then ! (load ! (from ! (stop !)) (look ! 54 refl)) (no-more !)))))))) (λ x p. move ! (1 ∷ []) $ drop ! $ land ! (from ! (stop !)) (init ! 42 refl (LL.lawful Outcome-type.the-type Outcome-laws.the-laws 𝓤 H A W .typed (x .0) (vals-Outcome (x .0)) (p .0) .0)) $
+        part₂₀ is-counters f₈ f₉ f₁₁ f₁₂ x p)))))
 
-  module _ (Ct : Calls 𝓤 H) (Λ : Loops 𝓤 H) (fm : FmC 𝓤 H (W .laws) Ct) (known-handle-at : Triple 𝓤 (Ct #replica·handle-at) (HandleAt 𝓤 H A memory run)) (known-places-in-use : Triple 𝓤 (Ct #replica·places-in-use) (PlacesInUse 𝓤 H A memory run)) (known-room-of : Triple 𝓤 (Ct #due_batch·room-of) (RoomOf 𝓤 H A memory run)) (known-look : Triple 𝓤 (Ct #row·look) (Look 𝓤 H A memory run)) (known-frame-now : Triple 𝓤 (Ct #standby·frame-now) (FrameNow 𝓤 H A memory run)) (known-act : Triple 𝓤 (Ct #row·act) (Act 𝓤 H A memory run)) where
-    walk : ent 𝓤 (onEntry 𝓤 H A this.signature (κ₀, (κ₁, (κ₂, (κ₃, (κ₄, (κ₅, tt)))))) (q₀, (q₁, (q₂, (q₃, (q₄, (q₅, tt)))))) x-all at-all) (WpFn 𝓤 H Ct Λ code.function (s-c ∷ s-row ∷ s-words ∷ s-bytes ∷ s-holds ∷ s-frame ∷ val-Settings the-s ∷ []) Post)
+  module _ (Ct : Calls 𝓤 H) (Λ : Loops 𝓤 H) (fm : FmC 𝓤 H (W .laws) Ct) (known-handle-at : Triple 𝓤 (Ct #replica·handle-at) (HandleAt 𝓤 H A memory run)) (known-places-in-use : Triple 𝓤 (Ct #replica·places-in-use) (PlacesInUse 𝓤 H A memory run)) (known-room-of : Triple 𝓤 (Ct #standby_batch_due·room-of) (RoomOf 𝓤 H A memory run)) (known-look-up : Triple 𝓤 (Ct #standby_row·look-up) (LookUp 𝓤 H A memory run)) (known-on-frame : Triple 𝓤 (Ct #standby_frame·on-frame) (OnFrame 𝓤 H A memory run)) (known-update : Triple 𝓤 (Ct #standby_row·update) (Update 𝓤 H A memory run)) where
+    walk : ent 𝓤 (onEntry 𝓤 H A this.signature (κ₀, (κ₁, (κ₂, (κ₃, (κ₄, (κ₅, tt)))))) (q₀, (q₁, (q₂, (q₃, (q₄, (q₅, tt)))))) x-all at-all) (WpFn 𝓤 H Ct Λ code.function (s-counters ∷ s-row ∷ s-words ∷ s-bytes ∷ s-holds ∷ s-frame ∷ val-Settings the-settings ∷ []) Post)
     walk =
-        qed W ((‵ (flft κ₀ q₀) ⊛ (‵ (flft κ₁ q₁) ⊛ (‵ (flft κ₂ q₂) ⊛ (‵ (flft κ₃ q₃) ⊛ (‵ (flft κ₄ q₄) ⊛ (‵ (flft κ₅ q₅) ⊛ (‵ ftrue))))))) ∷ ‵ (owns (MutRef (named 0) κ₀ R-Replica ∷ MutSlice (named 1) κ₁ R-Handle ∷ MutSlice (named 2) κ₂ u64 ∷ MutSlice (named 3) κ₃ u8 ∷ MutSlice (named 4) κ₄ u8 ∷ ShrSlice (named 5) κ₅ u8 ∷ R-Settings ∷ []) x-all at-all) ∷ []) ∵ enter ! Ct Λ code.function (s-c ∷ s-row ∷ s-words ∷ s-bytes ∷ s-holds ∷ s-frame ∷ val-Settings the-s ∷ []) _ $
+        qed W ((‵ (flft κ₀ q₀) ⊛ (‵ (flft κ₁ q₁) ⊛ (‵ (flft κ₂ q₂) ⊛ (‵ (flft κ₃ q₃) ⊛ (‵ (flft κ₄ q₄) ⊛ (‵ (flft κ₅ q₅) ⊛ (‵ ftrue))))))) ∷ ‵ (owns (MutRef (named 0) κ₀ R-Replica ∷ MutSlice (named 1) κ₁ R-Bound ∷ MutSlice (named 2) κ₂ u64 ∷ MutSlice (named 3) κ₃ u8 ∷ MutSlice (named 4) κ₄ u8 ∷ ShrSlice (named 5) κ₅ u8 ∷ R-Settings ∷ []) x-all at-all) ∷ []) ∵ enter ! Ct Λ code.function (s-counters ∷ s-row ∷ s-words ∷ s-bytes ∷ s-holds ∷ s-frame ∷ val-Settings the-settings ∷ []) _ $
         alloc1 ! (λ l₀. alloc1 ! (λ l₁. alloc1 ! (λ l₂. alloc1 ! (λ l₃. alloc1 ! (λ l₄. alloc1 ! (λ l₅. alloc1 ! (λ l₆. alloc1 ! (λ l₇. alloc1 ! (λ l₈. alloc1 ! (λ l₉. alloc1 ! (λ l₁₀. alloc1 ! (λ l₁₁. alloc1 ! (λ l₁₂. alloc1 ! (λ l₁₃. alloc1 ! (λ l₁₄. alloc1 ! (λ l₁₅. alloc1 ! (λ l₁₆. alloc1 ! (λ l₁₇. alloc1 ! (λ l₁₈. alloc1 ! (λ l₁₉. alloc1 ! (λ l₂₀. alloc1 ! (λ l₂₁. alloc1 ! (λ l₂₂. alloc1 ! (λ l₂₃. alloc1 ! (λ l₂₄. alloc1 ! (λ l₂₅. alloc1 ! (λ l₂₆. alloc1 ! (λ l₂₇. alloc1 ! (λ l₂₈. alloc1 ! (λ l₂₉. alloc0 ! $ params1 ! $
-        pass1 ! (init ! 56 refl (tt, tt)) $ pass1 ! (init ! 54 refl (tt, (tt, (record { fits = room-row .0 }, tt)))) $ pass1 ! (init ! 52 refl (tt, (tt, (record { fits = room-words .0 }, tt)))) $ pass1 ! (init ! 50 refl (tt, (tt, (record { fits = room-bytes .0 }, tt)))) $ pass1 ! (init ! 48 refl (tt, (tt, (record { fits = room-holds .0 }, tt)))) $ pass1 ! (init ! 46 refl (tt, (tt, (record { fits = room-frame .0 }, tt)))) $ pass1 ! (init ! 44 refl (LL.lawful Settings-type.the-type Settings-laws.the-laws 𝓤 H A W .typed the-s (vals-Settings the-s) is-s .0)) $ pass0 ! $
+        pass1 ! (init ! 56 refl (tt, tt)) $ pass1 ! (init ! 54 refl (tt, (tt, (record { fits = room-row .0 }, tt)))) $ pass1 ! (init ! 52 refl (tt, (tt, (record { fits = room-words .0 }, tt)))) $ pass1 ! (init ! 50 refl (tt, (tt, (record { fits = room-bytes .0 }, tt)))) $ pass1 ! (init ! 48 refl (tt, (tt, (record { fits = room-holds .0 }, tt)))) $ pass1 ! (init ! 46 refl (tt, (tt, (record { fits = room-frame .0 }, tt)))) $ pass1 ! (init ! 44 refl (LL.lawful Settings-type.the-type Settings-laws.the-laws 𝓤 H A W .typed the-settings (vals-Settings the-settings) is-settings .0)) $ pass0 ! $
         move ! (61 ∷ []) $ fsplit ! $ fsplit3 ! $ drop ! $ move ! (2 ∷ []) $ fsplit ! $ fsplit ! $ drop ! $ fsplit ! $ move ! (2 ∷ []) $ fsplit ! $ move ! (1 ∷ []) $ fsplit ! $ move ! (1 ∷ []) $ fsplit ! $ move ! (1 ∷ []) $ fsplit ! $ move ! (1 ∷ []) $ fsplit ! $ drop ! $ drop ! $ move ! (68 ∷ []) $ split ! $ move ! (1 ∷ []) $ split ! $ move ! (1 ∷ []) $ split ! $ move ! (1 ∷ []) $ split ! $ move ! (1 ∷ []) $ split ! $ move ! (1 ∷ []) $ split ! $ move ! (1 ∷ []) $ drop ! $ move ! (3 ∷ 9 ∷ []) $ join ! $ move ! (3 ∷ 8 ∷ []) $ join ! $ move ! (3 ∷ 7 ∷ []) $ join ! $ move ! (3 ∷ 6 ∷ []) $ join ! $
-        move ! (8 ∷ 9 ∷ 5 ∷ []) $ opens ! tt R-Replica {h = the-c} (c-at .ptr .0) (c-at .ptr .1) (λ vs. spelt ! R-Replica (Is R-Replica) (shows 𝓤 H A R-Replica) vals-Replica tells-Replica fullShare the-c vs (c-at .ptr .0) (c-at .ptr .1) $ move ! (1 ∷ []) $ peeks ! R-Replica (Is R-Replica) (shows 𝓤 H A R-Replica) the-c (vals-Replica the-c) (λ is-c. move ! (10 ∷ 11 ∷ 9 ∷ []) $ opens-slice ! tt R-Handle the-row (row-at .ptr .0) (row-at .ptr .1) $ keep ! (0 ∷ 5 ∷ 4 ∷ 6 ∷ 7 ∷ 8 ∷ 1 ∷ 2 ∷ 3 ∷ 12 ∷ 11 ∷ 10 ∷ 9 ∷ 13 ∷ 14 ∷ 15 ∷ 16 ∷ 17 ∷ 18 ∷ 19 ∷ 20 ∷ 21 ∷ 22 ∷ 23 ∷ 24 ∷ 25 ∷ 26 ∷ 27 ∷ 28 ∷ 29 ∷ 30 ∷ 31 ∷ 32 ∷ 33 ∷ 34 ∷ 35 ∷ 36 ∷ 37 ∷ 38 ∷ 39 ∷ 40 ∷ 41 ∷ 42 ∷ 43 ∷ 44 ∷ 45 ∷ 46 ∷ 47 ∷ 48 ∷ 49 ∷ 50 ∷ 51 ∷ 52 ∷ 53 ∷ 54 ∷ 55 ∷ 56 ∷ 57 ∷ 58 ∷ 59 ∷ 60 ∷ 61 ∷ 62 ∷ 63 ∷ 64 ∷ 65 ∷ 66 ∷ 67 ∷ 68 ∷ 69 ∷ 70 ∷ 71 ∷ 72 ∷ []) $
-        part₁ Ct Λ fm known-handle-at known-places-in-use known-room-of known-look known-frame-now known-act l₀ l₁ l₂ l₃ l₄ l₅ l₆ l₇ l₈ l₉ l₁₀ l₁₁ l₁₂ l₁₃ l₁₄ l₁₅ l₁₆ l₁₇ l₁₈ l₁₉ l₂₀ l₂₁ l₂₂ l₂₃ l₂₄ l₂₅ l₂₆ l₂₇ l₂₈ l₂₉ is-c))))))))))))))))))))))))))))))))
+        move ! (8 ∷ 9 ∷ 5 ∷ []) $ opens ! tt R-Replica {h = the-counters} (counters-at .ptr .0) (counters-at .ptr .1) (λ vs. spelt ! R-Replica (Is R-Replica) (shows 𝓤 H A R-Replica) vals-Replica tells-Replica fullShare the-counters vs (counters-at .ptr .0) (counters-at .ptr .1) $ move ! (1 ∷ []) $ peeks ! R-Replica (Is R-Replica) (shows 𝓤 H A R-Replica) the-counters (vals-Replica the-counters) (λ is-counters. move ! (10 ∷ 11 ∷ 9 ∷ []) $ opens-slice ! tt R-Bound the-row (row-at .ptr .0) (row-at .ptr .1) $ keep ! (0 ∷ 5 ∷ 4 ∷ 6 ∷ 7 ∷ 8 ∷ 1 ∷ 2 ∷ 3 ∷ 12 ∷ 11 ∷ 10 ∷ 9 ∷ 13 ∷ 14 ∷ 15 ∷ 16 ∷ 17 ∷ 18 ∷ 19 ∷ 20 ∷ 21 ∷ 22 ∷ 23 ∷ 24 ∷ 25 ∷ 26 ∷ 27 ∷ 28 ∷ 29 ∷ 30 ∷ 31 ∷ 32 ∷ 33 ∷ 34 ∷ 35 ∷ 36 ∷ 37 ∷ 38 ∷ 39 ∷ 40 ∷ 41 ∷ 42 ∷ 43 ∷ 44 ∷ 45 ∷ 46 ∷ 47 ∷ 48 ∷ 49 ∷ 50 ∷ 51 ∷ 52 ∷ 53 ∷ 54 ∷ 55 ∷ 56 ∷ 57 ∷ 58 ∷ 59 ∷ 60 ∷ 61 ∷ 62 ∷ 63 ∷ 64 ∷ 65 ∷ 66 ∷ 67 ∷ 68 ∷ 69 ∷ 70 ∷ 71 ∷ 72 ∷ []) $
+        part₁ Ct Λ fm known-handle-at known-places-in-use known-room-of known-look-up known-on-frame known-update l₀ l₁ l₂ l₃ l₄ l₅ l₆ l₇ l₈ l₉ l₁₀ l₁₁ l₁₂ l₁₃ l₁₄ l₁₅ l₁₆ l₁₇ l₁₈ l₁₉ l₂₀ l₂₁ l₂₂ l₂₃ l₂₄ l₂₅ l₂₆ l₂₇ l₂₈ l₂₉ is-counters))))))))))))))))))))))))))))))))
 
-module _ {M : Type 1} (𝓤 : URA M) (H : Heap 𝓤) (A : Atoms 𝓤) (W : Given 𝓤 H A) (memory : Memory → SProp 𝓤) (run : Routine → Fun 𝓤) (𝓣 : Tables 𝓤 H) (known-handle-at : Triple 𝓤 (𝓣 .C #replica·handle-at) (HandleAt 𝓤 H A memory run)) (known-places-in-use : Triple 𝓤 (𝓣 .C #replica·places-in-use) (PlacesInUse 𝓤 H A memory run)) (known-room-of : Triple 𝓤 (𝓣 .C #due_batch·room-of) (RoomOf 𝓤 H A memory run)) (known-look : Triple 𝓤 (𝓣 .C #row·look) (Look 𝓤 H A memory run)) (known-frame-now : Triple 𝓤 (𝓣 .C #standby·frame-now) (FrameNow 𝓤 H A memory run)) (known-act : Triple 𝓤 (𝓣 .C #row·act) (Act 𝓤 H A memory run)) where
+module _ {M : Type 1} (𝓤 : URA M) (H : Heap 𝓤) (A : Atoms 𝓤) (W : Given 𝓤 H A) (memory : Memory → SProp 𝓤) (run : Routine → Fun 𝓤) (𝓣 : Tables 𝓤 H) (known-handle-at : Triple 𝓤 (𝓣 .C #replica·handle-at) (HandleAt 𝓤 H A memory run)) (known-places-in-use : Triple 𝓤 (𝓣 .C #replica·places-in-use) (PlacesInUse 𝓤 H A memory run)) (known-room-of : Triple 𝓤 (𝓣 .C #standby_batch_due·room-of) (RoomOf 𝓤 H A memory run)) (known-look-up : Triple 𝓤 (𝓣 .C #standby_row·look-up) (LookUp 𝓤 H A memory run)) (known-on-frame : Triple 𝓤 (𝓣 .C #standby_frame·on-frame) (OnFrame 𝓤 H A memory run)) (known-update : Triple 𝓤 (𝓣 .C #standby_row·update) (Update 𝓤 H A memory run)) where
   on-frame-walks : Walks 𝓤 H A this.ended stayed (WpFn 𝓤 H (𝓣 .C) (𝓣 .Λ) code.function) (this.clauses 𝓤 H A memory run)
   on-frame-walks = walked 𝓤 H A this.ended stayed (this.clauses 𝓤 H A memory run) (WpFn 𝓤 H (𝓣 .C) (𝓣 .Λ) code.function) (λ κs. (ptr-vals, (slice-vals, (slice-vals, (slice-vals, (slice-vals, (slice-vals, (vals-Settings, tt))))))))
-      (λ κs. (mut-tells (named 0) (κs .0) R-Replica, (mut-slice-tells (named 1) (κs .1 .0) R-Handle, (mut-slice-tells (named 2) (κs .1 .1 .0) u64, (mut-slice-tells (named 3) (κs .1 .1 .1 .0) u8, (mut-slice-tells (named 4) (κs .1 .1 .1 .1 .0) u8, (shr-slice-tells (named 5) (κs .1 .1 .1 .1 .1 .0) u8, (tells-Settings, tt))))))))
-      (λ κs qs bounds a g are. via 𝓤 _ (fst∗ 𝓤 _ (emp 𝓤)) (walk 𝓤 H A W memory run (κs .0) (κs .1 .0) (κs .1 .1 .0) (κs .1 .1 .1 .0) (κs .1 .1 .1 .1 .0) (κs .1 .1 .1 .1 .1 .0) (qs .0) (qs .1 .0) (qs .1 .1 .0) (qs .1 .1 .1 .0) (qs .1 .1 .1 .1 .0) (qs .1 .1 .1 .1 .1 .0) (a .0) (a .1 .0) (a .1 .1 .0) (a .1 .1 .1 .0) (a .1 .1 .1 .1 .0) (a .1 .1 .1 .1 .1 .0) (a .1 .1 .1 .1 .1 .1 .0) (are .1 .0 .0 .1) (are .1 .1 .0 .0 .1) (are .1 .1 .1 .0 .0 .1) (are .1 .1 .1 .1 .0 .0 .1) (are .1 .1 .1 .1 .1 .0 .0 .1) (are .1 .1 .1 .1 .1 .1 .0) (𝓣 .C) (𝓣 .Λ) (fmOf 𝓤 H (W .laws) 𝓣) known-handle-at known-places-in-use known-room-of known-look known-frame-now known-act))
+      (λ κs. (mut-tells (named 0) (κs .0) R-Replica, (mut-slice-tells (named 1) (κs .1 .0) R-Bound, (mut-slice-tells (named 2) (κs .1 .1 .0) u64, (mut-slice-tells (named 3) (κs .1 .1 .1 .0) u8, (mut-slice-tells (named 4) (κs .1 .1 .1 .1 .0) u8, (shr-slice-tells (named 5) (κs .1 .1 .1 .1 .1 .0) u8, (tells-Settings, tt))))))))
+      (λ κs qs bounds a g are. via 𝓤 _ (fst∗ 𝓤 _ (emp 𝓤)) (walk 𝓤 H A W memory run (κs .0) (κs .1 .0) (κs .1 .1 .0) (κs .1 .1 .1 .0) (κs .1 .1 .1 .1 .0) (κs .1 .1 .1 .1 .1 .0) (qs .0) (qs .1 .0) (qs .1 .1 .0) (qs .1 .1 .1 .0) (qs .1 .1 .1 .1 .0) (qs .1 .1 .1 .1 .1 .0) (a .0) (a .1 .0) (a .1 .1 .0) (a .1 .1 .1 .0) (a .1 .1 .1 .1 .0) (a .1 .1 .1 .1 .1 .0) (a .1 .1 .1 .1 .1 .1 .0) (are .1 .0 .0 .1) (are .1 .1 .0 .0 .1) (are .1 .1 .1 .0 .0 .1) (are .1 .1 .1 .1 .0 .0 .1) (are .1 .1 .1 .1 .1 .0 .0 .1) (are .1 .1 .1 .1 .1 .1 .0) (𝓣 .C) (𝓣 .Λ) (fmOf 𝓤 H (W .laws) 𝓣) known-handle-at known-places-in-use known-room-of known-look-up known-on-frame known-update))
 
   on-frame-meets : Meets 𝓤 H A this.signature (WpFn 𝓤 H (𝓣 .C) (𝓣 .Λ) code.function) (this.spec 𝓤 H A memory run)
-  on-frame-meets = walk-meets 𝓤 H A this.ended stayed W (goes-ref 𝓤 H A W 6 0 tt (plain (λ _. R-Replica)), (goes-slice 𝓤 H A W 6 1 tt (plain (λ _. R-Handle)), (goes-gave-slice 𝓤 H A W 6 2 tt (plain (λ _. u64)), (goes-gave-slice 𝓤 H A W 6 3 tt (plain (λ _. u8)), (goes-gave-slice 𝓤 H A W 6 4 tt (plain (λ _. u8)), (goes-dropped 𝓤 H A W 6 (shrSliceOf (5 ∷ []) tt (plain (λ _. u8))) yes (λ κs x f. refl), (goes-dropped 𝓤 H A W 6 (plain (λ _. R-Settings)) yes (λ κs x f. refl), tt))))))) (this.clauses 𝓤 H A memory run) (WpFn 𝓤 H (𝓣 .C) (𝓣 .Λ) code.function) (WpFn-mono 𝓤 H (W .laws) 𝓣 code.function) on-frame-walks
+  on-frame-meets = walk-meets 𝓤 H A this.ended stayed W (goes-ref 𝓤 H A W 6 0 tt (plain (λ _. R-Replica)), (goes-slice 𝓤 H A W 6 1 tt (plain (λ _. R-Bound)), (goes-gave-slice 𝓤 H A W 6 2 tt (plain (λ _. u64)), (goes-gave-slice 𝓤 H A W 6 3 tt (plain (λ _. u8)), (goes-gave-slice 𝓤 H A W 6 4 tt (plain (λ _. u8)), (goes-dropped 𝓤 H A W 6 (shrSliceOf (5 ∷ []) tt (plain (λ _. u8))) yes (λ κs x f. refl), (goes-dropped 𝓤 H A W 6 (plain (λ _. R-Settings)) yes (λ κs x f. refl), tt))))))) (this.clauses 𝓤 H A memory run) (WpFn 𝓤 H (𝓣 .C) (𝓣 .Λ) code.function) (WpFn-mono 𝓤 H (W .laws) 𝓣 code.function) on-frame-walks
 
 pub on-frame-spec : {M : Type 1} → stated.statement M
 unfolding code.routine tablesOf
@@ -354,7 +354,7 @@ on-frame-spec 𝓤 H 𝓜 𝓖 𝓡 =
     (on-frame-meets 𝓤 H (𝓖 .A) (givenOf 𝓤 H 𝓜 𝓖) (𝓜 .mem) (𝓡 .run) (tablesOf 𝓤 H 𝓜 (tables 𝓤 H 𝓜 𝓡 code.env))
     (cited 𝓤 H (HandleAt 𝓤 H (𝓖 .A) (𝓜 .mem) (𝓡 .run)) 𝓜 𝓡 code.env #replica·handle-at handle-at-def.routine code.calls-replica·handle-at (handle-at-thm.met 𝓤 H 𝓜 𝓖 𝓡))
     (cited 𝓤 H (PlacesInUse 𝓤 H (𝓖 .A) (𝓜 .mem) (𝓡 .run)) 𝓜 𝓡 code.env #replica·places-in-use places-in-use-def.routine code.calls-replica·places-in-use (places-in-use-thm.met 𝓤 H 𝓜 𝓖 𝓡))
-    (cited 𝓤 H (RoomOf 𝓤 H (𝓖 .A) (𝓜 .mem) (𝓡 .run)) 𝓜 𝓡 code.env #due_batch·room-of room-of-def.routine code.calls-due-batch·room-of (room-of-thm.met 𝓤 H 𝓜 𝓖 𝓡))
-    (cited 𝓤 H (Look 𝓤 H (𝓖 .A) (𝓜 .mem) (𝓡 .run)) 𝓜 𝓡 code.env #row·look look-def.routine code.calls-row·look (look-thm.met 𝓤 H 𝓜 𝓖 𝓡))
-    (cited 𝓤 H (FrameNow 𝓤 H (𝓖 .A) (𝓜 .mem) (𝓡 .run)) 𝓜 𝓡 code.env #standby·frame-now frame-now-def.routine code.calls-standby·frame-now (frame-now-thm.met 𝓤 H 𝓜 𝓖 𝓡))
-    (cited 𝓤 H (Act 𝓤 H (𝓖 .A) (𝓜 .mem) (𝓡 .run)) 𝓜 𝓡 code.env #row·act act-def.routine code.calls-row·act (act-thm.met 𝓤 H 𝓜 𝓖 𝓡)))
+    (cited 𝓤 H (RoomOf 𝓤 H (𝓖 .A) (𝓜 .mem) (𝓡 .run)) 𝓜 𝓡 code.env #standby_batch_due·room-of room-of-def.routine code.calls-standby-batch-due·room-of (room-of-thm.met 𝓤 H 𝓜 𝓖 𝓡))
+    (cited 𝓤 H (LookUp 𝓤 H (𝓖 .A) (𝓜 .mem) (𝓡 .run)) 𝓜 𝓡 code.env #standby_row·look-up look-up-def.routine code.calls-standby-row·look-up (look-up-thm.met 𝓤 H 𝓜 𝓖 𝓡))
+    (cited 𝓤 H (OnFrame 𝓤 H (𝓖 .A) (𝓜 .mem) (𝓡 .run)) 𝓜 𝓡 code.env #standby_frame·on-frame on-frame-def.routine code.calls-standby-frame·on-frame (on-frame-thm.met 𝓤 H 𝓜 𝓖 𝓡))
+    (cited 𝓤 H (Update 𝓤 H (𝓖 .A) (𝓜 .mem) (𝓡 .run)) 𝓜 𝓡 code.env #standby_row·update update-def.routine code.calls-standby-row·update (update-thm.met 𝓤 H 𝓜 𝓖 𝓡)))

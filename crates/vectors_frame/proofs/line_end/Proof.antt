@@ -1,6 +1,6 @@
 use borrow.Author.Needs.{needs}
 use native.Mathlib.Omega.{arith}
-use Rattle.lines.proofs.Laws.{bounds}
+use Rattle.base_lines.proofs.Laws.{bounds}
 use Rattle.vectors_frame.proofs.line_end.Statement.{statement}
 use Rattle.vectors_frame.proofs.line_end.Tie as tie
 

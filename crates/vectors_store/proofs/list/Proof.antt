@@ -1,13 +1,13 @@
 use borrow.Author.Needs.{needs}
 use native.Mathlib.Omega.{arith}
 use mathlib.Core.Path.{sym, _∙_}
-use Rattle.areas.proofs.Ruling.{in-use-of}
-use Rattle.sessions.specs.Answers.{StandsAt}
+use Rattle.store_areas.proofs.Ruling.{in-use-of}
+use Rattle.store_sessions.specs.Answers.{PositionAt}
 use Rattle.vectors_store.proofs.list.Statement.{statement}
 use Rattle.vectors_store.proofs.list.Tie as tie
 
 abbrev Inv-loop : tie.InvT-loop
-Inv-loop words bytes shape left₀ dist₀ t9 left dist = StandsAt shape words bytes 0 left dist
+Inv-loop words bytes shape left₀ dist₀ t9 left dist = PositionAt shape words bytes 0 left dist
 
 abbrev μ-loop : tie.MeasureT-loop
 μ-loop words bytes shape left₀ dist₀ t9 left dist = left

@@ -1,2 +1,0 @@
--- The store's areas as a list of places.
-pub mod Areas

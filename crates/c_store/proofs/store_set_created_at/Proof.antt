@@ -1,0 +1,35 @@
+use borrow.Author.Needs.{needs}
+use mathlib.Core.Path.{sym, _∙_}
+use borrow.Author.Tests.{not-true, not-false}
+use Rattle.c_store.proofs.Laws.{used, unfit, cannot, made}
+use Rattle.c_store.proofs.store_set_created_at.Statement.{statement}
+use Rattle.c_store.proofs.store_set_created_at.Tie as tie
+
+returns : tie.Need-returns
+returns c = unfit (c .before .in-use .ensures) (not-true _ (c .if1 .taken))
+
+returns-2 : tie.Need-returns-2
+returns-2 c = cannot (c .before .before .before .in-use .ensures) (not-false _ (c .before .before .if1 .left)) (sym (c .before .is-stamp .ensures) ∙ not-true _ (c .if2 .taken))
+
+set-created-at-requires : tie.Need-set-created-at-requires
+set-created-at-requires c κs = let u = used (c .before .before .before .before .before .in-use .ensures) (not-false _ (c .before .before .before .before .if1 .left)) in (u .rules, (u .at, (sym (c .before .before .before .is-stamp .ensures) ∙ not-false _ (c .before .before .if2 .left))))
+
+returns-3 : tie.Need-returns-3
+returns-3 c = made (c .before .before .before .before .before .before .before .before .before .before .in-use .ensures) (not-false _ (c .before .before .before .before .before .before .before .before .before .if1 .left)) (sym (c .before .before .before .before .before .before .before .before .is-stamp .ensures) ∙ not-false _ (c .before .before .before .before .before .before .before .if2 .left)) (c .before .before .before .before .set-created-at .ensures)
+
+pub store-set-created-at-spec : {M : Type 1} → statement M
+store-set-created-at-spec =
+    tie.close
+    (tie.spec
+    (λ c κs. search needs)
+    (λ c. search needs)
+    (λ c. search needs)
+    returns
+    (λ c κs. search needs)
+    (λ c. search needs)
+    (λ c. search needs)
+    returns-2
+    set-created-at-requires
+    (λ c. search needs)
+    (λ c. search needs)
+    returns-3)

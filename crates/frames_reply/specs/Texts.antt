@@ -1,0 +1,20 @@
+-- The text of an answer. Assumes nothing.
+use Prim.Native.Nat.{ℕ}
+use mathlib.Core.List.{List, []}
+use mathlib.Core.Option.{some}
+use Rattle.model_text.specs.Hex.{hexOf, refusalText}
+use Rattle.model_standby.specs.Answer.{reply, refused, done, protocolVersion}
+use Rattle.model_standby.specs.Answer as the-answer
+use Rattle.frame_writer.specs.Encoding as the-writing
+use Rattle.frame_writer.specs.Encoding.{writeOutcome, wrote}
+
+-- the digits of what was written, or R and the number
+abbrev pub outcomeText : the-writing.WriteOutcome → List ℕ
+outcomeText (wrote bs) = hexOf bs
+outcomeText (the-writing.refused n) = refusalText n
+
+-- the digits of the frame that is answered, which may take so many bytes, or R and the refusal; no frame is answered with 'done'
+abbrev pub answerText : ℕ → the-answer.Answer → List ℕ
+answerText room (reply f) = outcomeText (writeOutcome protocolVersion (some f) room)
+answerText room (refused n) = refusalText n
+answerText room done = []

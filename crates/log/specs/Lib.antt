@@ -1,2 +1,0 @@
--- The log of one session in two slices, and what reading it answers.
-pub mod Log

@@ -1,3 +1,0 @@
--- One place of the store: what its words and bytes mean, and what an operation leaves alone.
-pub mod Place
-pub mod Only

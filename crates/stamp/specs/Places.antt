@@ -1,9 +1,0 @@
--- Some bytes of a list, by their place. Assumes nothing.
-use mathlib.Core.List.{List, [], _∷_}
-use Prim.Native.Nat.{ℕ, zero, suc, _+_}
-use lib.ListN.{getD}
-
--- the k bytes of s from i on
-abbrev pub bytesAt : List ℕ → ℕ → ℕ → List ℕ
-bytesAt s i zero = []
-bytesAt s i (suc k) = getD s i 0 ∷ bytesAt s (i + 1) k

@@ -1,0 +1,60 @@
+-- The words before the first place's: what is written there changes no place. Assumes nothing.
+use mathlib.Core.Path.{_≡_, sym, ap, subst, _∙_}
+use mathlib.Core.List.{List, map}
+use Prim.Native.Nat.{ℕ, _+_, _-_, _<_, _≤_}
+use native.Mathlib.Omega.{arith}
+use mathlib.Core.Logic.{inr}
+use lib.ListN.{length, getD, set, take, drop, length-set, length-drop}
+use lib.Seq.{take-set-le, drop-set-lt, take-take, getD-take, drop-drop, getD-set-other}
+use Rattle.base_laws.proofs.Lists.{drop-take}
+use Rattle.store_place.specs.Only.{Only}
+use Rattle.store_place.specs.Place.{placeIn}
+use Rattle.store_areas.specs.declared.Shape.{Shape}
+use Rattle.store_areas.specs.Areas.{placeWords, wordsAt, bytesAt, placeBytes, slice, placeAt, countUp, placesOf}
+use Rattle.store_areas.proofs.Lists.{count-same, part-kept}
+use Rattle.standby_pending.specs.Pending.{countOf, commitOf, pendingOf}
+
+only-set : (w : List ℕ) (j v : ℕ) → Only j (j + 1) w (set w j v)
+only-set w j v = record { same-length = length-set w j v; front = take-set-le j w j v (omega arith); back = drop-set-lt (j + 1) w j v (omega arith) }
+
+-- what is outside a part of a list, past the first 66
+pub past-66 : (a n : ℕ) (w w' : List ℕ) → Only (66 + a) (66 + a + n) w w' → Only a (a + n) (drop 66 w) (drop 66 w')
+past-66 a n w w' o = record {
+  same-length = length-drop 66 w' ∙ ap (λ (k : ℕ). k - 66) (o .same-length) ∙ sym (length-drop 66 w);
+  front = sym (drop-take 66 a w') ∙ ap (drop 66) (o .front) ∙ drop-take 66 a w;
+  back =
+      let sum : 66 + (a + n) ≡ 66 + a + n = omega arith in
+      drop-drop (a + n) 66 w' ∙ subst (λ (k : ℕ). drop k w' ≡ drop k w) (sym sum) (o .back) ∙ sym (drop-drop (a + n) 66 w);
+}
+
+-- a word of the header but the first
+module _ (s : Shape) (w b : List ℕ) (j v : ℕ) (low : 1 ≤ j) (high : j < 66) where
+  place-kept : (i : ℕ) → placeAt s (set w j v) b i ≡ placeAt s w b i
+  unfolding placeAt
+  place-kept i = ap (λ (l : List ℕ). placeIn (s .bytes) (s .messages) l (slice (bytesAt s i) (placeBytes s) b)) (part-kept j (j + 1) (wordsAt s i) (placeWords s) w (set w j v) (only-set w j v) (inr (omega arith)))
+
+  pub count-kept : getD (set w j v) 0 0 ≡ getD w 0 0
+  count-kept = getD-set-other w j 0 v 0 (λ e. no e)
+    where
+      no : 0 ≡ j → ⊥
+      no e = omega (arith, e)
+
+  pub places-kept : placesOf s (set w j v) b ≡ placesOf s w b
+  unfolding placesOf
+  places-kept =
+      ap (λ (n : ℕ). countUp (placeAt s (set w j v) b) 0 n) count-kept
+      ∙ count-same (placeAt s w b) (placeAt s (set w j v) b) 0 (getD w 0 0) (λ i _ _. place-kept i)
+
+  pub rest-kept : drop 66 (set w j v) ≡ drop 66 w
+  rest-kept = drop-set-lt 66 w j v high
+
+-- the pending commits stand in the first 66 words
+pub pending-kept : (w w' : List ℕ) → 66 ≤ length w → countOf w ≤ 64 → take 66 w' ≡ take 66 w → pendingOf w' ≡ pendingOf w
+unfolding pendingOf
+pending-kept w w' long few e =
+    let one : 1 < 66 = omega arith in
+    let count : countOf w' ≡ countOf w = sym (getD-take 66 w' 1 0 one) ∙ ap (λ (l : List ℕ). getD l 1 0) e ∙ getD-take 66 w 1 0 one in
+    ap (λ (n : ℕ). map commitOf (take n (drop 2 w'))) count ∙ ap (map commitOf) (cut w' ∙ ap (λ (l : List ℕ). take (countOf w) (drop 2 l)) e ∙ sym (cut w))
+  where
+    cut : (l : List ℕ) → take (countOf w) (drop 2 l) ≡ take (countOf w) (drop 2 (take 66 l))
+    cut l = sym (take-take (countOf w) 64 (drop 2 l) few) ∙ ap (take (countOf w)) (sym (drop-take 2 64 l))

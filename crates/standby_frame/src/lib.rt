@@ -1,0 +1,181 @@
+// Taking one frame (standby.rs, on_frame_held and on_frame): 25; the reader's number, or 26 if it isn't just one whole frame; 10 promoted;
+// then due commits and the frame's own answer.
+ghost use mathlib.Core.Path.{_≡_};
+ghost use mathlib.Core.Bool.{true};
+ghost use Rattle.model_frame.specs.Frame.{faultNumber};
+ghost use Rattle.model_frame.specs.Writing.{Writable};
+ghost use Rattle.frame_reader.specs.Answers.{faultOf};
+ghost use Rattle.frame.specs.Answers.{frameOf};
+ghost use Rattle.store_areas.specs.Areas.{Rules};
+ghost use Rattle.model_standby.specs.Answer.{isReply};
+ghost use Rattle.model_standby.specs.State.{onFrameHeld, onFrame};
+ghost use Rattle.standby_state.specs.Answers.{answerOf};
+ghost use Rattle.standby_batch_due.specs.DueBatch.{RecordRulesIn};
+ghost use Rattle.standby_step.specs.Steps.{isFound, StepIs};
+ghost use Rattle.standby_frame.specs.Taking.{isAnswered, IntactIs, Takes};
+use base_refusals::BAD_MARKS;
+use base_refusals::BAD_SESSION;
+use base_refusals::BAD_TEXT;
+use base_refusals::BAD_TIMESTAMP;
+use base_refusals::NOT_ONE_FRAME;
+use base_refusals::PROMOTED;
+use base_refusals::RULES_BROKEN;
+use base_refusals::TOO_LONG;
+use base_refusals::TRUNCATED;
+use base_refusals::UNKNOWN_BYTE;
+use frame::Decoded;
+use frame::Frame;
+use frame_reader::FrameError;
+use frame_reader::Value;
+use frame_stamp::Protocol;
+use standby_row::Lookup;
+use standby_state::Answer;
+use standby_state::Outcome;
+use standby_state::Replica;
+use standby_state::Settings;
+
+// The number of a reader's refusal.
+fn refusal_of(error: FrameError) -> u8
+    ensures { λ r. ⌜ r ≡ faultNumber (faultOf error) ⌝ }
+{
+    match error {
+        FrameError::TooLong(_) => TOO_LONG,
+        FrameError::Truncated => TRUNCATED,
+        FrameError::Unknown(_, _) => UNKNOWN_BYTE,
+        FrameError::Invalid(v) => match v {
+            Value::Text => BAD_TEXT,
+            Value::Session => BAD_SESSION,
+            Value::Timestamp => BAD_TIMESTAMP,
+            Value::Marks => BAD_MARKS,
+        },
+    }
+}
+
+// A frame that was read, once the standby isn't promoted.
+fn on_decoded(
+    words: &mut [u64],
+    bytes: &mut [u8],
+    holds: &mut [u8],
+    frame: &[u8],
+    counters: Replica,
+    settings: Settings,
+    lookup: Lookup,
+    decoded: Frame,
+) -> Outcome
+    requires { ⌜ Rules (settings .shape) (now words) (now bytes) ⌝ }
+    requires { ⌜ (isFound lookup ≡ true → RecordRulesIn lookup (now words) (now holds)) ⌝ }
+    requires { ⌜ Writable 1 (frameOf 1 (now frame) decoded) ⌝ }
+    ensures { λ r. ⌜ IntactIs settings counters lookup (frameOf 1 (now (frame .entry)) decoded) (now (words .entry)) (now (words .exit)) (now (bytes .entry)) (now (bytes .exit)) (now (holds .entry)) (now (holds .exit)) r ⌝ }
+{
+    match decoded {
+        Frame::Batch(b) => standby_batch_due::run_due_then_batch(
+            words,
+            bytes,
+            holds,
+            frame,
+            counters,
+            settings,
+            lookup,
+            b,
+        ),
+        _ => standby_control::run_due_then_answer(
+            words,
+            bytes,
+            frame,
+            counters,
+            settings,
+            lookup,
+            decoded,
+        ),
+    }
+}
+
+// The areas keep the rules (25): the bytes are read as a frame.
+fn on_bytes(
+    words: &mut [u64],
+    bytes: &mut [u8],
+    holds: &mut [u8],
+    frame: &[u8],
+    counters: Replica,
+    settings: Settings,
+    lookup: Lookup,
+) -> Outcome
+    requires { ⌜ Rules (settings .shape) (now words) (now bytes) ⌝ }
+    requires { ⌜ (isFound lookup ≡ true → RecordRulesIn lookup (now words) (now holds)) ⌝ }
+    ensures { λ r. ⌜ Takes settings counters lookup (now (frame .entry)) (now (words .entry)) (now (words .exit)) (now (bytes .entry)) (now (bytes .exit)) (now (holds .entry)) (now (holds .exit)) r ⌝ }
+{
+    match Frame::decode(Protocol { version: 1 }, frame) {
+        Decoded::Bad(e) => standby_state::unchanged(
+            counters,
+            lookup,
+            standby_state::refused(refusal_of(e)),
+        ),
+        Decoded::More => standby_state::unchanged(
+            counters,
+            lookup,
+            standby_state::refused(NOT_ONE_FRAME),
+        ),
+        Decoded::Whole(f, n) => {
+            if n != frame.len() {
+                return standby_state::unchanged(
+                    counters,
+                    lookup,
+                    standby_state::refused(NOT_ONE_FRAME),
+                );
+            }
+            if counters.promoted {
+                return standby_state::unchanged(counters, lookup, standby_state::refused(PROMOTED));
+            }
+            on_decoded(words, bytes, holds, frame, counters, settings, lookup, f)
+        }
+    }
+}
+
+// on_frame_held: commits that the frame leaves pending stay so.
+pub fn on_frame_held(
+    counters: Replica,
+    lookup: Lookup,
+    words: &mut [u64],
+    bytes: &mut [u8],
+    holds: &mut [u8],
+    frame: &[u8],
+    settings: Settings,
+) -> Outcome
+    ensures { λ r. ⌜ StepIs settings counters lookup (onFrameHeld (now (frame .entry))) (now (words .entry)) (now (words .exit)) (now (bytes .entry)) (now (bytes .exit)) (now (holds .entry)) (now (holds .exit)) r ⌝ }
+{
+    let shape = settings.shape;
+    if !standby_rules::keeps_rules(words, bytes, holds, shape, lookup) {
+        return standby_state::unchanged(counters, lookup, standby_state::refused(RULES_BROKEN));
+    }
+    on_bytes(words, bytes, holds, frame, counters, settings, lookup)
+}
+
+// Whether a frame is answered, a Nack too.
+fn is_answered(answer: Answer) -> bool
+    ensures { λ r. ⌜ r ≡ isAnswered answer ⌝ }
+{
+    (answer.refusal == 0) & (answer.kind != 0)
+}
+
+// on_frame: pending commits run after every answered frame.
+pub fn on_frame(
+    counters: Replica,
+    lookup: Lookup,
+    words: &mut [u64],
+    bytes: &mut [u8],
+    holds: &mut [u8],
+    frame: &[u8],
+    settings: Settings,
+) -> Outcome
+    ensures { λ r. ⌜ StepIs settings counters lookup (onFrame (now (frame .entry))) (now (words .entry)) (now (words .exit)) (now (bytes .entry)) (now (bytes .exit)) (now (holds .entry)) (now (holds .exit)) r ⌝ }
+{
+    let shape = settings.shape;
+    if !standby_rules::keeps_rules(words, bytes, holds, shape, lookup) {
+        return standby_state::unchanged(counters, lookup, standby_state::refused(RULES_BROKEN));
+    }
+    let o = on_bytes(words, bytes, holds, frame, counters, settings, lookup);
+    let a = o.answer;
+    let answered = is_answered(a);
+    standby_pending_run::run_if(words, bytes, shape, answered);
+    o
+}

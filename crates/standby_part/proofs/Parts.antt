@@ -1,0 +1,115 @@
+-- Each way through a Batch's part is the definition's. Assumes nothing.
+use mathlib.Core.Path.{_≡_, refl, sym, ap, subst, _∙_}
+use mathlib.Core.Bool.{Bool, true, false, cond, not, true≢false}
+use mathlib.Core.List.{List, [], _∷_, _++_}
+use Prim.Native.Nat.{ℕ, _<_}
+use lib.ListN.{length, getD, take}
+use lib.Dec.{eqb}
+use borrow.Author.Tests.{eq-eqb, ne-eqb}
+use Rattle.model_frame.specs.Frame.{Change, commit, diverged, ack, nack}
+use Rattle.model_frame.specs.Parse.{isEmpty}
+use Rattle.model_frame.specs.Writing.{sizes}
+use Rattle.model_session.specs.Session.{fits}
+use Rattle.frame_op.specs.Answers.{heldRun}
+use Rattle.frame.specs.declared.CommitNumber.{CommitNumber}
+use Rattle.standby_row.specs.declared.Bound.{Bound as BoundRecord}
+use Rattle.store_areas.specs.declared.Shape.{Shape}
+use Rattle.store_areas.specs.Areas.{Rules, placeAt, placesOf}
+use Rattle.store_areas.proofs.Lifting.{session-is}
+use Rattle.standby_pending.specs.Pending.{pendingOf}
+use Rattle.standby_commit.specs.Settling.{Settles}
+use Rattle.standby_commit.proofs.Laws.{touched-none}
+use Rattle.standby_hold.proofs.Laws.{empty-size}
+use Rattle.model_standby.specs.Store.{onPlace, changed, sessionAt, orNew}
+use Rattle.model_standby.specs.Answer.{reply}
+use Rattle.model_standby.specs.State.{Settings, Counters, Bound, numbered}
+use Rattle.model_standby.specs.Core.{leave, store, CoreResult, coreSays, coreRefuse, coreSettle, corePart}
+use Rattle.standby_part.specs.State.{boundOf, coreAt, settingsFor, numberedTo}
+use Rattle.standby_part.specs.Part.{PartIs}
+
+-- what is left of a Commit or LastWhole once it is settled, as the definition has it
+module _ (s : Shape) (h : ℕ) (cs : List Change) (w w' b b' : List ℕ) (yes : Bool) (x : Bound) (n : ℕ) (used : x .place < getD w 0 0) (g : Settles s (x .place) h cs w w' b b' yes)
+    (c : Counters) (room incarnation lag : ℕ) where
+  abbrev L : Settings
+  L = settingsFor s room incarnation lag
+
+  abbrev Yes : CoreResult
+  Yes =
+      coreSays (record { counters = c; places = onPlace (x .place) (changed (s .bytes) (s .messages) cs) (placesOf s w b); pending = pendingOf w ++ ((h, x .place) ∷ []) }) (store h (numbered n x)) (ack h n)
+
+  abbrev No : CoreResult
+  No = coreSays (coreAt c s w b) (store h x) (nack h diverged)
+
+  next : orNew (sessionAt (placesOf s w b) (x .place)) .nextOut ≡ placeAt s w b (x .place) .stored .session .nextOut
+  next = ap (λ o. orNew o .nextOut) (session-is s w b (x .place) used)
+
+  pub settle-is : coreSettle L (coreAt c s w b) h x n cs
+      ≡ record { core = coreAt c s w' b'; action = store h (cond yes (numbered n x) x); answer = reply (cond yes (ack h n) (nack h diverged)) }
+  unfolding coreSettle
+  settle-is = ap (λ (k : ℕ). cond (fits k cs) Yes No) next ∙ ap (λ (t : Bool). cond t Yes No) (sym (g .is)) ∙ go yes (g .places) (g .pending)
+    where
+      go : (y : Bool) → placesOf s w' b' ≡ cond y (onPlace (x .place) (changed (s .bytes) (s .messages) cs) (placesOf s w b)) (placesOf s w b)
+          → pendingOf w' ≡ cond y (pendingOf w ++ ((h, x .place) ∷ [])) (pendingOf w)
+          → cond y Yes No ≡ record { core = coreAt c s w' b'; action = store h (cond y (numbered n x) x); answer = reply (cond y (ack h n) (nack h diverged)) }
+      go true p q = λ j. record { core = record { counters = c; places = sym p j; pending = sym q j }; action = store h (numbered n x); answer = reply (ack h n) }
+      go false p q = λ j. record { core = record { counters = c; places = sym p j; pending = sym q j }; action = store h x; answer = reply (nack h diverged) }
+
+-- ---- Commit
+
+module _ (version : ℕ) (s : Shape) (h : BoundRecord) (n : CommitNumber) (cs : List Change) (w b area : List ℕ) {len : ℕ} (l : len ≡ sizes (heldRun version (take (h .«held_len») area))) where
+  abbrev H : List Change
+  H = heldRun version (take (h .«held_len») area)
+
+  none : isEmpty H ≡ eqb len 0
+  none = empty-size H ∙ ap (λ (k : ℕ). eqb k 0) (sym l)
+
+  pub commit-held : (len ≡ 0 → ⊥) → Rules s w b → PartIs version s h (n .0) commit cs w w b b area area (record { refusal = 15; stores = false; bound = h; nack = false })
+  unfolding corePart
+  commit-held some r = record {
+    is = λ c incarnation lag.
+        sym (ap (λ (t : Bool). cond (not t) (coreRefuse (coreAt c s w b) leave 15) (coreSettle (settingsFor s (length area) incarnation lag) (coreAt c s w b) (h .handle) (boundOf version h area) (n .0) cs)) (none ∙ ne-eqb len 0 some));
+    rules = r;
+    touched = touched-none s (h .place) w b;
+    quiet = λ _. (refl, refl);
+    slot-place = refl;
+    slot-len = λ l. l;
+  }
+
+  module _ (empty : len ≡ 0) (used : h .place < getD w 0 0) where
+    -- past 15
+    past : (c : Counters) (incarnation lag : ℕ)
+        → corePart (settingsFor s (length area) incarnation lag) (coreAt c s w b) (h .handle) (boundOf version h area) (n .0) commit cs
+        ≡ coreSettle (settingsFor s (length area) incarnation lag) (coreAt c s w b) (h .handle) (boundOf version h area) (n .0) cs
+    unfolding corePart
+    past c incarnation lag =
+        ap (λ (t : Bool). cond (not t) (coreRefuse (coreAt c s w b) leave 15) (coreSettle (settingsFor s (length area) incarnation lag) (coreAt c s w b) (h .handle) (boundOf version h area) (n .0) cs)) (none ∙ eq-eqb len 0 empty)
+
+    pub commit-made : {w' b' : List ℕ} {yes : Bool} {slot : BoundRecord} → Settles s (h .place) (h .handle) cs w w' b b' yes → yes ≡ true → slot ≡ numberedTo h n
+        → PartIs version s h (n .0) commit cs w w' b b' area area (record { refusal = 0; stores = true; bound = slot; nack = false })
+    commit-made {w'} {b'} settles y e =
+        subst (λ (k : BoundRecord). PartIs version s h (n .0) commit cs w w' b b' area area (record { refusal = 0; stores = true; bound = k; nack = false })) (sym e)
+        (made (subst (Settles s (h .place) (h .handle) cs w w' b b') y settles))
+      where
+        made : Settles s (h .place) (h .handle) cs w w' b b' true → PartIs version s h (n .0) commit cs w w' b b' area area (record { refusal = 0; stores = true; bound = numberedTo h n; nack = false })
+        made g = record {
+          is = λ c incarnation lag. sym (past c incarnation lag ∙ settle-is s (h .handle) cs w w' b b' true (boundOf version h area) (n .0) used g c (length area) incarnation lag);
+          rules = g .rules;
+          touched = g .touched;
+          quiet = λ e. absurd (true≢false (sym e));
+          slot-place = refl;
+          slot-len = λ l. l;
+        }
+
+    pub commit-off : {w' b' : List ℕ} {yes : Bool} → Settles s (h .place) (h .handle) cs w w' b b' yes → yes ≡ false
+        → PartIs version s h (n .0) commit cs w w' b b' area area (record { refusal = 0; stores = true; bound = h; nack = true })
+    commit-off {w'} {b'} settles y = off (subst (Settles s (h .place) (h .handle) cs w w' b b') y settles)
+      where
+        off : Settles s (h .place) (h .handle) cs w w' b b' false → PartIs version s h (n .0) commit cs w w' b b' area area (record { refusal = 0; stores = true; bound = h; nack = true })
+        off g = record {
+          is = λ c incarnation lag. sym (past c incarnation lag ∙ settle-is s (h .handle) cs w w' b b' false (boundOf version h area) (n .0) used g c (length area) incarnation lag);
+          rules = g .rules;
+          touched = g .touched;
+          quiet = λ _. g .unless refl;
+          slot-place = refl;
+          slot-len = λ l. l;
+        }

@@ -1,0 +1,3 @@
+-- The store's areas as a list of places.
+pub mod StoreWord
+pub mod Areas

@@ -1,0 +1,107 @@
+-- Keys, summaries and messages of a place, from those of its parts. Assumes nothing.
+use mathlib.Core.Path.{_≡_, refl, sym, ap, _∙_, subst, subst₂}
+use mathlib.Core.Bool.{Bool, true, false, cond}
+use mathlib.Core.List.{List, [], _∷_, _++_}
+use mathlib.Core.Option.{Option, none, some, Option·map}
+use Prim.Native.Nat.{ℕ, zero, suc, _+_, _-_, _≤_, _<_}
+use native.Mathlib.Omega.{arith}
+use lib.ListN.{length, take, drop, getD}
+use borrow.Rule.Slice.PartMut.{midOf}
+use Rattle.model_frame.specs.Frame.{Key}
+use Rattle.model_frame.specs.Frame as model-frame
+use Rattle.model_session.specs.Session.{Session}
+use Rattle.model_session.specs.Summary.{lastOut, summary}
+use Rattle.model_standby.specs.Store.{Place, sameKey, sessionAt}
+use Rattle.store_log.specs.Log.{msg}
+use Rattle.store_place.specs.Place.{flightIs, storedKey, sessionOf, placeIn, restIn, PositionIn, FromIn, NextMessageIn}
+use Rattle.store_areas.specs.declared.Shape.{Shape}
+use Rattle.store_areas.specs.Areas.{placeWords, placeBytes, wordsAt, bytesAt, allowed, Rules, SpotIn, slice, placeAt, placesOf}
+use Rattle.store_areas.proofs.Lifting.{spot-place, spot-words-part, spot-bytes-part, session-is, places-length}
+use Rattle.store_state.specs.Answers.{TextAt}
+use Rattle.store_state.specs.declared.StoredSummary.{StoredSummary}
+use Rattle.store_state.proofs.Reading.{part-of}
+use Rattle.store_sessions.specs.Answers.{summaryIs, summarisedIn, restAt, PositionAt, FromAt, NextMessageAt}
+
+module _ (s : Shape) (i wa we ba be : ℕ) (w b : List ℕ) (at : SpotIn s i w b wa we ba be) (r : Rules s w b) (h : i < getD w 0 0) where
+  abbrev mw : List ℕ
+  mw = midOf wa (we - wa) w
+
+  abbrev mb : List ℕ
+  mb = midOf ba (be - ba) b
+
+  abbrev pw : List ℕ
+  pw = slice (wordsAt s i) (placeWords s) w
+
+  abbrev pb : List ℕ
+  pb = slice (bytesAt s i) (placeBytes s) b
+
+  ew : mw ≡ pw
+  ew = spot-words-part s i wa we ba be (at .at) w b r h
+
+  eb : mb ≡ pb
+  eb = spot-bytes-part s i wa we ba be (at .at) w b r h
+
+  pub key-same : (t : Bool) (k : Key) → t ≡ sameKey k (storedKey mw mb) → t ≡ sameKey k (placeAt s w b i .key)
+  unfolding placeIn
+  key-same t k e = e ∙ ap (λ (p : Place). sameKey k (p .key)) (spot-place s i wa we ba be (at .at) w b r h)
+
+  pub last-is : (n x : ℕ) → x ≡ lastOut (sessionOf (s .bytes) (s .messages) mw mb) n → x ≡ lastOut (placeAt s w b i .stored .session) n
+  unfolding placeIn
+  last-is n x e = e ∙ ap (λ (p : Place). lastOut (p .stored .session) n) (spot-place s i wa we ba be (at .at) w b r h)
+
+  pub from-at : (low left dist : ℕ) → FromIn (s .bytes) (s .messages) low mw mb left dist → FromAt s w b i low left dist
+  unfolding PositionAt restAt placeAt placeIn
+  from-at low left dist f =
+      let g : FromIn (s .bytes) (s .messages) low pw pb left dist = subst₂ (λ x y. FromIn (s .bytes) (s .messages) low x y left dist) ew eb f in
+      record { stands = g .stands; is = g .is }
+
+  pub stands-in : (left dist : ℕ) → PositionAt s w b i left dist → PositionIn (length mb - 224) (s .messages) mw mb left dist
+  unfolding PositionAt
+  stands-in left dist g =
+      let c : s .bytes ≡ length mb - 224 = omega (arith, at .bytes-part) in
+      subst (λ (x : ℕ). PositionIn x (s .messages) mw mb left dist) c (subst₂ (λ x y. PositionIn (s .bytes) (s .messages) x y left dist) (sym ew) (sym eb) g)
+
+  pub read-at : (left dist number start first rest left' dist' : ℕ) → NextMessageIn (s .bytes) (s .messages) mw mb left dist number start first rest left' dist'
+      → NextMessageAt s w b i left dist number (ba + start) first (ba + 224) rest left' dist'
+  unfolding PositionAt restAt
+  read-at left dist number start first rest left' dist' f =
+      let long : length mb ≡ 224 + s .bytes = at .bytes-part in
+      let front : take first (drop start mb) ≡ take first (drop (ba + start) b) = part-of s i wa we ba be w b at r h start first (omega (arith, f .inside, long)) in
+      let again : take rest (drop 224 mb) ≡ take rest (drop (ba + 224) b) = part-of s i wa we ba be w b at r h 224 rest (omega (arith, f .front, long)) in
+      let ends : be ≡ ba + (224 + s .bytes) = at .at .bytes-to ∙ ap (λ (x : ℕ). x + (224 + s .bytes)) (sym (at .at .bytes-from)) in
+      record {
+        is = subst₂ (λ x y. restIn (s .bytes) (s .messages) x y left ≡ msg number (take first (drop (ba + start) b) ++ take rest (drop (ba + 224) b)) ∷ restIn (s .bytes) (s .messages) x y left') ew eb
+            (f .is ∙ (λ j. msg number (front j ++ again j) ∷ restIn (s .bytes) (s .messages) mw mb left'));
+        stands = subst₂ (λ x y. PositionIn (s .bytes) (s .messages) x y left' dist') ew eb (f .stands);
+        inside = omega (arith, f .inside, ends, at .bytes-end);
+        inside-again = omega (arith, f .front, ends, at .bytes-end);
+        fewer = f .fewer;
+        nearer = f .nearer;
+      }
+
+-- ---- summaries
+
+pub summed-up : (b : List ℕ) (m : StoredSummary) (x : Session) (n : ℕ) → m .«next_outgoing» ≡ x .nextOut → m .«next_incoming» ≡ x .nextIn → flightIs (m .«in_flight») ≡ x .inFlight
+    → TextAt b (x .stamp) (m .«created_at» .at) (m .«created_at» .len) → TextAt b (x .marks) (m .marks .at) (m .marks .len) → m .«last_outgoing» ≡ lastOut x n → summaryIs b m ≡ summary x n
+unfolding summaryIs summary
+summed-up b m x n eo ei ef es em el = λ j. record { nextOut = eo j; nextIn = ei j; inFlight = ef j; stampText = es .is j; marksText = em .is j; lastOutgoing = el j }
+
+pub summary-known : (s : Shape) (w b : List ℕ) (i n : ℕ) (m : model-frame.Summary) → allowed s w b ≡ true → i < getD w 0 0 → m ≡ summary (placeAt s w b i .stored .session) n → some m ≡ summarisedIn s w b i n
+unfolding summarisedIn
+summary-known s w b i n m e h q =
+    ap some q ∙ sym (ap (λ (t : Bool). cond t (Option·map (λ (x : Session). summary x n) (sessionAt (placesOf s w b) i)) none) e ∙ ap (Option·map (λ (x : Session). summary x n)) (session-is s w b i h))
+
+pub summary-refused : (s : Shape) (w b : List ℕ) (i n : ℕ) → allowed s w b ≡ false → none ≡ summarisedIn s w b i n
+unfolding summarisedIn
+summary-refused s w b i n e = sym (ap (λ (t : Bool). cond t (Option·map (λ (x : Session). summary x n) (sessionAt (placesOf s w b) i)) none) e)
+
+none-there : (ps : List Place) (i : ℕ) → length ps ≤ i → sessionAt ps i ≡ none
+none-there [] i h = refl
+none-there (x ∷ ps) zero h = absurd (omega arith)
+none-there (x ∷ ps) (suc i) h = none-there ps i (omega arith)
+
+pub summary-none : (s : Shape) (w b : List ℕ) (i n : ℕ) → allowed s w b ≡ true → getD w 0 0 ≤ i → none ≡ summarisedIn s w b i n
+unfolding summarisedIn
+summary-none s w b i n e h =
+    sym (ap (λ (t : Bool). cond t (Option·map (λ (x : Session). summary x n) (sessionAt (placesOf s w b) i)) none) e
+    ∙ ap (Option·map (λ (x : Session). summary x n)) (none-there (placesOf s w b) i (omega (arith, places-length s w b))))
