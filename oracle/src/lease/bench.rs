@@ -1,23 +1,51 @@
 //! Times our side and lease.rs on the same questions and attempts in one run.
 
-use crate::ours::{wz_lease_attempt, wz_lease_new, wz_lease_renewal};
+use crate::ours::{Held, wz_lease_attempt, wz_lease_new, wz_lease_renewal};
 use lease_std::lease::reach::Clocked;
 use std::hint::black_box;
 use std::time::{Duration, Instant};
 
-const CALLS: u64 = 2_000_000;
-const ROUNDS: usize = 9;
+const CALLS: usize = 10_000;
+const ROUNDS: usize = 1_000;
+/// So many leases are asked in turn: of one alone, each call would wait for the stores of the one before it.
+const LEASES: usize = 64;
+const HOUR: Duration = Duration::from_secs(3600);
 
-/// Nanoseconds a call: the least of some rounds.
-fn time(mut call: impl FnMut(u64)) -> f64 {
-    let round = |call: &mut dyn FnMut(u64)| {
+/// Nanoseconds a call: the least of many short rounds, since other programs may run beside this one.
+fn time(mut call: impl FnMut(usize)) -> f64 {
+    let mut least = f64::INFINITY;
+    for _ in 0..ROUNDS {
         let began = Instant::now();
         for i in 0..CALLS {
             call(i);
         }
-        began.elapsed().as_nanos() as f64 / CALLS as f64
-    };
-    (0..ROUNDS).map(|_| round(&mut |i| call(i))).fold(f64::INFINITY, f64::min)
+        least = least.min(began.elapsed().as_nanos() as f64 / CALLS as f64);
+    }
+    least
+}
+
+/// Our calls on some leases of this duration in turn, at a time that never falls.
+fn ours(duration: Duration, leases: usize, call: impl Fn(&mut Held, u64)) -> f64 {
+    let mut held = vec![wz_lease_new(duration.as_nanos() as u64, 0); leases];
+    let mut now = 0;
+    time(|i| {
+        now += 1;
+        call(&mut held[i & (leases - 1)], now);
+    })
+}
+
+/// A question changes the last time only.
+fn question(held: &mut Held, now: u64) {
+    let asked = wz_lease_renewal(*held, now);
+    black_box(asked.due);
+    held.last = asked.held.last;
+}
+
+fn attempt(held: &mut Held, now: u64) {
+    let tried = wz_lease_attempt(*held, now, now, black_box(0));
+    held.until = tried.held.until;
+    held.last = now;
+    held.lost = tried.held.lost;
 }
 
 fn row(name: &str, ours: f64, rust: f64) {
@@ -26,18 +54,12 @@ fn row(name: &str, ours: f64, rust: f64) {
 
 pub fn bench() {
     println!("| call | ours, ns | the Rust, ns | ratio |\n|-|-|-|-|");
-    let hour = Duration::from_secs(3600);
-    let (far, near) = (Clocked::new(hour), Clocked::new(Duration::ZERO));
-    let mut held = wz_lease_new(3_600_000_000_000, 0);
-    let ours = time(|i| held = wz_lease_renewal(held, black_box(held.last | i & 1)).held);
-    row("a question, not due", ours, time(|_| drop(black_box(far.plain_renewal()))));
-    let mut held = wz_lease_new(0, 0);
-    let ours = time(|i| held = wz_lease_renewal(held, black_box(held.last | i & 1)).held);
-    row("a question, due", ours, time(|_| drop(black_box(near.plain_renewal()))));
-    let mut held = wz_lease_new(0, 0);
-    let ours = time(|i| {
-        let now = held.last | i & 1;
-        held = wz_lease_attempt(held, black_box(now), black_box(now), black_box(0)).held;
-    });
-    row("a question that is due, and its attempt, renewed", ours, time(|_| drop(black_box(near.plain_renewal().map(|job| job.run())))));
+    let (far, near) = (Clocked::new(HOUR), Clocked::new(Duration::ZERO));
+    let not_due = time(|_| drop(black_box(far.plain_renewal())));
+    let due = time(|_| drop(black_box(near.plain_renewal())));
+    let renewed = time(|_| drop(black_box(near.plain_renewal().map(|job| job.run()))));
+    row("a question, not due", ours(HOUR, LEASES, question), not_due);
+    row("a question, due", ours(Duration::ZERO, LEASES, question), due);
+    row("an attempt, renewed (the Rust: with its question)", ours(Duration::ZERO, LEASES, attempt), renewed);
+    row("a question of the same lease again and again", ours(HOUR, 1, question), not_due);
 }

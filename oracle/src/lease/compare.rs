@@ -108,7 +108,12 @@ struct Both<S> {
 
 impl<S: Side> Both<S> {
     fn new(duration: u64, made: u64) -> Self {
-        Self { rust: Rust::new(duration, made), ours: S::new(duration, made), duration, script: format!("{duration} {made}\n") }
+        Self {
+            rust: Rust::new(duration, made),
+            ours: S::new(duration, made),
+            duration,
+            script: format!("{duration} {made}\n"),
+        }
     }
 
     /// Whether a renewal is due at this time, as the Rust would say without being asked.

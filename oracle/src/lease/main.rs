@@ -5,6 +5,7 @@ mod bench;
 mod compare;
 #[cfg(ours)]
 mod ours;
+#[cfg(not(ours))]
 mod plain;
 mod rust;
 mod script;
