@@ -21,10 +21,10 @@ abbrev pub moved : Held → ℕ → Held
 moved h now = record { duration = h .duration; until = h .until; last = now; lost = h .lost }
 
 module _ (h : Held) (now : ℕ) where
-  pub asks-early : now < h .last → Asks h now (record { refusal = 31; due = 0; held = h })
-  asks-early less =
+  pub asks-early : (held : Held) → now < h .last → held ≡ h → Asks h now (record { refusal = 31; due = 0; held = held })
+  asks-early held less p =
       let e = sym (asked-early (leaseOf h) now (lt-ltb now (h .last) less)) in
-      record { refusal = ap (λ (r : Asked). r .refusal) e; due = ap (λ (r : Asked). byte (r .due)) e; lease = ap (λ (r : Asked). r .lease) e; flag = refl }
+      record { refusal = ap (λ (r : Asked). r .refusal) e; due = ap (λ (r : Asked). byte (r .due)) e; lease = ap leaseOf p ∙ ap (λ (r : Asked). r .lease) e; flag = ap (λ (x : Held). x .lost) p }
 
   pub asks-taken : (b : Bool) (due : ℕ) (held : Held) → h .last ≤ now → b ≡ isDue (leaseOf h) now → due ≡ byte b → held ≡ moved h now → Asks h now (record { refusal = 0; due = due; held = held })
   asks-taken b due held low d q p =
@@ -56,13 +56,13 @@ clear-is-0 : (f : ℕ) → isSet f ≡ false → f ≡ byte false
 clear-is-0 f e = eqb-true f 0 (not-false (eqb f 0) e)
 
 module _ (h : Held) (a : Attempt) where
-  pub tries-early : isEarly (h .last) a ≡ true → Tries h a (record { refusal = 31; held = h })
-  tries-early t =
+  pub tries-early : (held : Held) → isEarly (h .last) a ≡ true → held ≡ h → Tries h a (record { refusal = 31; held = held })
+  tries-early held t p =
       let e = sym (tried-early (leaseOf h) a t) in
       record {
         refusal = ap (λ (r : Tried). r .refusal) e;
-        lease = ap (λ (r : Tried). r .lease) e;
-        flag = by-cases (h .lost ≡ cond (isSet (h .lost)) (h .lost) (byte (attempt (leaseOf h) a .lease .lost))) (isSet (h .lost))
+        lease = ap leaseOf p ∙ ap (λ (r : Tried). r .lease) e;
+        flag = ap (λ (x : Held). x .lost) p ∙ by-cases (h .lost ≡ cond (isSet (h .lost)) (h .lost) (byte (attempt (leaseOf h) a .lease .lost))) (isSet (h .lost))
             (λ s. flag-set (h .lost) (byte (attempt (leaseOf h) a .lease .lost)) s)
             (λ s. clear-is-0 (h .lost) s ∙ ap byte (sym s) ∙ ap (λ (r : Tried). byte (r .lease .lost)) e ∙ flag-clear (h .lost) (byte (attempt (leaseOf h) a .lease .lost)) s);
       }

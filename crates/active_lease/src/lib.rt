@@ -79,7 +79,7 @@ impl Held {
         (self.lost == 0) & (duration != u64::MAX) & (left(until, now) <= duration / 2)
     }
 
-    // The lease at a later time.
+    // The lease with this last time.
     fn at(self, now: u64) -> Held
         ensures { λ r. ⌜ r ≡ record { duration = self .duration; until = self .until; last = now; lost = self .lost } ⌝ }
     {
@@ -96,10 +96,11 @@ impl Held {
         ensures { λ r. ⌜ Asks self now r ⌝ }
     {
         if now < self.last {
+            let held = self.at(self.last);
             return Asked {
                 refusal: 31,
                 due: 0,
-                held: self,
+                held,
             };
         }
         let due = byte_of(self.is_due(now));
@@ -138,10 +139,8 @@ impl Held {
         ensures { λ r. ⌜ Tries self (attemptOf started now outcome) r ⌝ }
     {
         if (started < self.last) | (now < started) {
-            return Tried {
-                refusal: 31,
-                held: self,
-            };
+            let held = self.at(self.last);
+            return Tried { refusal: 31, held };
         }
         if self.lost != 0 {
             let held = self.at(now);

@@ -4,18 +4,21 @@ use borrow.Author.Needs.{needs}
 use Rattle.active_lease.proofs.Held.attempt.Statement.{statement}
 use Rattle.active_lease.proofs.Held.attempt.Tie as tie
 
-returns : tie.Need-returns
-returns c =
-    let a = c .before .before .args in
-    tries-early (a .self) (attemptOf (a .started) (a .now) (a .outcome)) (c .if1 .taken)
-
 at-requires : tie.Need-at-requires
 at-requires c κs = search needs
+
+returns : tie.Need-returns
+returns c =
+    let a = c .before .before .before .args in
+    tries-early (a .self) (attemptOf (a .started) (a .now) (a .outcome)) (c .at .result) (c .before .if1 .taken) (c .at .ensures)
+
+at-requires-2 : tie.Need-at-requires-2
+at-requires-2 c κs = search needs
 
 returns-2 : tie.Need-returns-2
 returns-2 c =
     let a = c .before .before .before .before .before .args in
-    tries-lost (a .self) (attemptOf (a .started) (a .now) (a .outcome)) (c .at .result) (c .before .before .before .if1 .left) (c .before .if2 .taken) (c .at .ensures)
+    tries-lost (a .self) (attemptOf (a .started) (a .now) (a .outcome)) (c .at2 .result) (c .before .before .before .if1 .left) (c .before .if2 .taken) (c .at2 .ensures)
 
 until-after-requires : tie.Need-until-after-requires
 until-after-requires c κs = search needs
@@ -35,8 +38,9 @@ pub attempt-spec : {M : Type 1} → statement M
 attempt-spec =
     tie.close
     (tie.spec
-    returns
     at-requires
+    returns
+    at-requires-2
     returns-2
     until-after-requires
     loses-requires
