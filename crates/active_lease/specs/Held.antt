@@ -5,7 +5,7 @@ use mathlib.Core.List.{List, [], _∷_}
 use Prim.Native.Nat.{ℕ}
 use lib.Dec.{eqb}
 use Rattle.model_lease.specs.Lease.{Lease, Outcome, renewed, failed, deposed, Attempt, renewal, attempt}
-use Rattle.model_lease.specs.History.{Call, question, trial}
+use Rattle.model_lease.specs.History.{Call, question, attempted}
 use Rattle.active_lease.specs.declared.Held.{Held}
 use Rattle.active_lease.specs.declared.Asked.{Asked}
 use Rattle.active_lease.specs.declared.Tried.{Tried}
@@ -48,4 +48,4 @@ pub record Tries (h : Held) (a : Attempt) (r : Tried) : Type 0 where
 pub data Runs : Held → List Call → Held → Type 0 where
   ended : {h : Held} → Runs h [] h
   asked : {h end : Held} {now : ℕ} {cs : List Call} (r : Asked) → Asks h now r → Runs (r .held) cs end → Runs h (question now ∷ cs) end
-  tried : {h end : Held} {a : Attempt} {cs : List Call} (r : Tried) → Tries h a r → Runs (r .held) cs end → Runs h (trial a ∷ cs) end
+  tried : {h end : Held} {a : Attempt} {cs : List Call} (r : Tried) → Tries h a r → Runs (r .held) cs end → Runs h (attempted a ∷ cs) end

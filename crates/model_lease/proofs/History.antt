@@ -7,7 +7,7 @@ use Prim.Native.Nat.{ℕ}
 use native.Mathlib.Omega.{arith}
 use lib.Dec.{ltb}
 use Rattle.model_lease.specs.Lease.{Lease, Outcome, renewed, failed, deposed, Attempt, endFrom, made, isDue, at, endAfter, loses, after, Asked, Tried, renewal, isEarly, attempt}
-use Rattle.model_lease.specs.History.{Call, question, trial, step, run, timeAfter, lastTime, attempts, startAfter, lastStart, Loss, FirstLoss, Told}
+use Rattle.model_lease.specs.History.{Call, question, attempted, step, run, timeAfter, lastTime, attempts, startAfter, lastStart, Loss, FirstLoss, Told}
 
 pub by-cases : (P : Type 0) (b : Bool) → (b ≡ true → P) → (b ≡ false → P) → P
 by-cases P true t f = t refl
@@ -72,10 +72,10 @@ question-early l now e = ap (λ (r : Asked). r .lease) (asked-early l now e)
 pub question-taken : (l : Lease) (now : ℕ) → ltb now (l .last) ≡ false → step l (question now) ≡ at now l
 question-taken l now e = ap (λ (r : Asked). r .lease) (asked-taken l now e)
 
-pub attempt-early : (l : Lease) (a : Attempt) → isEarly (l .last) a ≡ true → step l (trial a) ≡ l
+pub attempt-early : (l : Lease) (a : Attempt) → isEarly (l .last) a ≡ true → step l (attempted a) ≡ l
 attempt-early l a e = ap (λ (r : Tried). r .lease) (tried-early l a e)
 
-pub attempt-taken : (l : Lease) (a : Attempt) → isEarly (l .last) a ≡ false → step l (trial a) ≡ after l a
+pub attempt-taken : (l : Lease) (a : Attempt) → isEarly (l .last) a ≡ false → step l (attempted a) ≡ after l a
 attempt-taken l a e = ap (λ (r : Tried). r .lease) (tried-taken l a e)
 
 -- ---- a lost lease: nothing but the last time changes any more
@@ -85,8 +85,8 @@ gone-step d until last (question now) =
     by-cases (step (gone d until last) (question now) ≡ gone d until (timeAfter last (question now))) (ltb now last)
     (λ e. question-early (gone d until last) now e ∙ rw e)
     (λ e. question-taken (gone d until last) now e ∙ rw e)
-gone-step d until last (trial a) =
-    by-cases (step (gone d until last) (trial a) ≡ gone d until (timeAfter last (trial a))) (isEarly last a)
+gone-step d until last (attempted a) =
+    by-cases (step (gone d until last) (attempted a) ≡ gone d until (timeAfter last (attempted a))) (isEarly last a)
     (λ e. attempt-early (gone d until last) a e ∙ rw e)
     (λ e. attempt-taken (gone d until last) a e ∙ rw e)
 
@@ -191,16 +191,16 @@ told-taken d s last a cs more =
     (λ t. rw (loses-it d s last (a .start) (a .now) (a .outcome) t, gone-stays) (told-lost d s a (attempts (a .now) cs) t (lastTime (a .now) cs)))
     (λ f. rw (holds d s last (a .start) (a .now) (a .outcome) f) (told-held d s a f (attempts (a .now) cs) (run (holding d (startAfter s (a .start) (a .outcome)) (a .now)) cs) (more (startAfter s (a .start) (a .outcome)))))
 
-told-trial : (d s last : ℕ) (a : Attempt) (cs : List Call) → ((s' t : ℕ) → Tells d s' t cs) → Tells d s last (trial a ∷ cs)
-told-trial d s last a cs more =
-    by-cases (Tells d s last (trial a ∷ cs)) (isEarly last a)
+told-attempted : (d s last : ℕ) (a : Attempt) (cs : List Call) → ((s' t : ℕ) → Tells d s' t cs) → Tells d s last (attempted a ∷ cs)
+told-attempted d s last a cs more =
+    by-cases (Tells d s last (attempted a ∷ cs)) (isEarly last a)
     (λ e. rw (attempt-early (holding d s last) a e, e) (more s last))
     (λ e. rw (attempt-taken (holding d s last) a e, e) (told-taken d s last a cs (λ s'. more s' (a .now))))
 
 tells : (d s last : ℕ) (cs : List Call) → Tells d s last cs
 tells d s last [] = told-none d s last
 tells d s last (question now ∷ cs) = told-question d s last now cs (λ t. tells d s t cs)
-tells d s last (trial a ∷ cs) = told-trial d s last a cs (λ s' t. tells d s' t cs)
+tells d s last (attempted a ∷ cs) = told-attempted d s last a cs (λ s' t. tells d s' t cs)
 
 -- after any list of questions and attempts from the making on
 pub history : (d s : ℕ) (cs : List Call) → Told d s (attempts s cs) (run (made d s) cs)

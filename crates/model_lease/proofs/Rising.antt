@@ -9,7 +9,7 @@ use native.Mathlib.Nat.{le-trans, le-refl}
 use lib.Dec.{eqb, leb, ltb}
 use borrow.Author.Tests.{ltb-true, ltb-false, leb-true, le-leb, le-ltb, ne-eqb, eqb-false, not-true}
 use Rattle.model_lease.specs.Lease.{top, Lease, Due, Outcome, renewed, failed, deposed, Attempt, endFrom, made, isDue, at, endAfter, loses, after, Asked, renewal, isEarly}
-use Rattle.model_lease.specs.History.{Call, question, trial, step, run, timeAfter, lastTime}
+use Rattle.model_lease.specs.History.{Call, question, attempted, step, run, timeAfter, lastTime}
 use Rattle.model_lease.proofs.History.{by-cases, asked-early, asked-taken, question-early, question-taken, attempt-early, attempt-taken}
 
 neither : (a b : Bool) → (a || b) ≡ false → (a ≡ false) × (b ≡ false)
@@ -65,8 +65,8 @@ rises l (question now) s =
     by-cases (Rises l (step l (question now))) (ltb now (l .last))
     (λ e. rw (question-early l now e) (rises-same l s))
     (λ e. rw (question-taken l now e) (rises-at l now (ltb-false now (l .last) e) s))
-rises l (trial a) s =
-    by-cases (Rises l (step l (trial a))) (isEarly (l .last) a)
+rises l (attempted a) s =
+    by-cases (Rises l (step l (attempted a))) (isEarly (l .last) a)
     (λ e. rw (attempt-early l a e) (rises-same l s))
     (λ e. let o = in-order (l .last) a e in rw (attempt-taken l a e) (rises-after l a (o .0) (o .1) s))
 
@@ -94,8 +94,8 @@ step-last l (question now) =
     by-cases ((step l (question now) .last ≡ timeAfter (l .last) (question now)) × (step l (question now) .duration ≡ l .duration)) (ltb now (l .last))
     (λ e. rw (question-early l now e, e) (refl, refl))
     (λ e. rw (question-taken l now e, e) (refl, refl))
-step-last l (trial a) =
-    by-cases ((step l (trial a) .last ≡ timeAfter (l .last) (trial a)) × (step l (trial a) .duration ≡ l .duration)) (isEarly (l .last) a)
+step-last l (attempted a) =
+    by-cases ((step l (attempted a) .last ≡ timeAfter (l .last) (attempted a)) × (step l (attempted a) .duration ≡ l .duration)) (isEarly (l .last) a)
     (λ e. rw (attempt-early l a e, e) (refl, refl))
     (λ e. rw (attempt-taken l a e, e) (after-last l a))
 
@@ -109,8 +109,8 @@ run-last l (c ∷ cs) =
 time-rises : (last : ℕ) (c : Call) → last ≤ timeAfter last c
 time-rises last (question now) =
     by-cases (last ≤ timeAfter last (question now)) (ltb now last) (λ e. rw e (le-refl last)) (λ e. rw e (ltb-false now last e))
-time-rises last (trial a) =
-    by-cases (last ≤ timeAfter last (trial a)) (isEarly last a) (λ e. rw e (le-refl last))
+time-rises last (attempted a) =
+    by-cases (last ≤ timeAfter last (attempted a)) (isEarly last a) (λ e. rw e (le-refl last))
     (λ e. let o = in-order last a e in rw e (le-trans (o .0) (o .1)))
 
 pub times-never-fall : (last : ℕ) (cs : List Call) → last ≤ lastTime last cs
@@ -125,10 +125,10 @@ question-keeps l now =
     (λ e. rw (question-early l now e) (refl, refl))
     (λ e. rw (question-taken l now e) (refl, refl))
 
-pub success-keeps : (l : Lease) (start now : ℕ) → l .lost ≡ false → step l (trial (record { start = start; now = now; outcome = renewed })) .lost ≡ false
+pub success-keeps : (l : Lease) (start now : ℕ) → l .lost ≡ false → step l (attempted (record { start = start; now = now; outcome = renewed })) .lost ≡ false
 success-keeps l start now e =
     let a : Attempt = record { start = start; now = now; outcome = renewed } in
-    by-cases (step l (trial a) .lost ≡ false) (isEarly (l .last) a)
+    by-cases (step l (attempted a) .lost ≡ false) (isEarly (l .last) a)
     (λ t. ap (λ (m : Lease). m .lost) (attempt-early l a t) ∙ e)
     (λ t. ap (λ (m : Lease). m .lost) (attempt-taken l a t) ∙ both (l .lost) e)
   where

@@ -9,12 +9,12 @@ use Rattle.model_lease.specs.Lease.{Lease, Outcome, renewed, failed, dep
 
 pub data Call : Type 0 where
   question : ℕ → Call
-  trial : Attempt → Call
+  attempted : Attempt → Call
 
 -- the lease after a call, and after a list of calls
 abbrev pub step : Lease → Call → Lease
 step l (question now) = renewal l now .lease
-step l (trial a) = attempt l a .lease
+step l (attempted a) = attempt l a .lease
 
 abbrev pub run : Lease → List Call → Lease
 run l [] = l
@@ -25,7 +25,7 @@ run l (c ∷ cs) = run (step l c) cs
 -- the last time handed in
 abbrev pub timeAfter : ℕ → Call → ℕ
 timeAfter last (question now) = cond (ltb now last) last now
-timeAfter last (trial a) = cond (isEarly last a) last (a .now)
+timeAfter last (attempted a) = cond (isEarly last a) last (a .now)
 
 abbrev pub lastTime : ℕ → List Call → ℕ
 lastTime last [] = last
@@ -35,7 +35,7 @@ lastTime last (c ∷ cs) = lastTime (timeAfter last c) cs
 abbrev pub attempts : ℕ → List Call → List Attempt
 attempts last [] = []
 attempts last (question now ∷ cs) = attempts (timeAfter last (question now)) cs
-attempts last (trial a ∷ cs) = cond (isEarly last a) (attempts last cs) (a ∷ attempts (a .now) cs)
+attempts last (attempted a ∷ cs) = cond (isEarly last a) (attempts last cs) (a ∷ attempts (a .now) cs)
 
 -- the start of the last success among these, or the making
 abbrev pub startAfter : ℕ → ℕ → Outcome → ℕ
