@@ -61,5 +61,5 @@ pub fn bench() {
     row("a question, not due", ours(HOUR, LEASES, question), not_due);
     row("a question, due", ours(Duration::ZERO, LEASES, question), due);
     row("an attempt, renewed (the Rust: with its question)", ours(Duration::ZERO, LEASES, attempt), renewed);
-    row("a question of the same lease again and again", ours(HOUR, 1, question), not_due);
+    row("a question of the same lease again at once", ours(HOUR, 1, question), not_due);
 }
