@@ -1,0 +1,53 @@
+use Rattle.store_resend.proofs.fill.Statement.{statement}
+use Rattle.store_resend.proofs.Passes.{Filling, fill-starts, room, fills-on, fill-ends}
+use Rattle.store_resend.specs.Ranges.{rangesFrom}
+use native.Mathlib.Omega.{arith}
+use Rattle.store_resend.proofs.fill.Tie as tie
+
+abbrev Inv-loop : tie.InvT-loop
+Inv-loop words bytes shape i first back ranges n entries₀ left₀ dist₀ k₀ kept₀ entries left dist k kept = Filling shape words bytes i (rangesFrom ranges 0 n) first back entries₀ left dist k kept entries
+
+abbrev μ-loop : tie.MeasureT-loop
+μ-loop words bytes shape i first back ranges n entries₀ left₀ dist₀ k₀ kept₀ entries left dist k kept = left
+
+loop-holds : tie.Need-loop-holds Inv-loop μ-loop
+loop-holds c = fill-starts (c .before .before .before .before .args .shape) (c .before .before .before .before .args .words .now) (c .before .before .before .before .args .bytes .now) (c .before .before .before .before .args .i) (rangesFrom (c .before .before .before .before .args .ranges .now) 0 (c .before .before .before .before .args .n)) (c .before .before .before .before .args .first) (c .before .before .before .before .args .back) _ (c .before .before .before .before .pre .1 .1 .0)
+
+message-at-requires : tie.Need-message-at-requires Inv-loop μ-loop
+message-at-requires c κs = (c .before .before .before .before .before .before .pre .0, (c .before .before .before .before .before .before .pre .1 .0, (c .before .loop .inv .stands, omega arith)))
+
+kept-for-requires : tie.Need-kept-for-requires Inv-loop μ-loop
+kept-for-requires c κs = (c .before .before .before .before .before .before .before .pre .1 .1 .1 .0, (c .before .before .before .before .before .before .before .pre .1 .1 .1 .1 .0, c .before .before .loop .inv .keeps))
+
+enter-requires : tie.Need-enter-requires Inv-loop μ-loop
+enter-requires c κs = room (c .before .before .before .before .before .before .before .before .before .args .shape) (c .before .before .before .before .before .before .before .before .before .args .words .now) (c .before .before .before .before .before .before .before .before .before .args .bytes .now) (c .before .before .before .before .before .before .before .before .before .args .i) (rangesFrom (c .before .before .before .before .before .before .before .before .before .args .ranges .now) 0 (c .before .before .before .before .before .before .before .before .before .args .n)) (c .before .before .before .before .before .before .before .before .before .args .first) (c .before .before .before .before .before .before .before .before .before .args .back) (c .before .before .message-at .result) (c .before .before .before .before .loop .inv) (c .before .before .message-at .ensures) (c .before .kept-for .ensures) (c .before .before .before .before .before .before .before .before .before .pre .1 .1 .1 .1 .1)
+
+loop-less : tie.Need-loop-less Inv-loop μ-loop
+loop-less c =
+    let g = c .before .before .before .before .before .before .before .loop .inv in
+    let p = c .before .before .before .before .before .message-at .ensures in
+    omega arith
+
+loop-again : tie.Need-loop-again Inv-loop μ-loop
+loop-again c = fills-on (c .before .before .before .before .before .before .before .before .before .before .before .before .args .shape) (c .before .before .before .before .before .before .before .before .before .before .before .before .args .words .now) (c .before .before .before .before .before .before .before .before .before .before .before .before .args .bytes .now) (c .before .before .before .before .before .before .before .before .before .before .before .before .args .i) (rangesFrom (c .before .before .before .before .before .before .before .before .before .before .before .before .args .ranges .now) 0 (c .before .before .before .before .before .before .before .before .before .before .before .before .args .n)) (c .before .before .before .before .before .before .before .before .before .before .before .before .args .first) (c .before .before .before .before .before .before .before .before .before .before .before .before .args .back) (c .before .before .before .before .before .message-at .result) (c .before .before .before .before .before .before .before .loop .inv) (c .before .before .before .before .before .message-at .ensures) (c .before .before .before .before .kept-for .ensures) (c .before .before .before .before .before .before .before .before .before .before .before .before .pre .1 .1 .1 .1 .1) (c .before .before .enter .ensures)
+
+same-length : tie.Need-same-length Inv-loop μ-loop
+same-length c = c .before .loop .inv .size
+
+returns : tie.Need-returns Inv-loop μ-loop
+returns c = fill-ends (c .before .before .before .before .before .before .args .shape) (c .before .before .before .before .before .before .args .words .now) (c .before .before .before .before .before .before .args .bytes .now) (c .before .before .before .before .before .before .args .i) (rangesFrom (c .before .before .before .before .before .before .args .ranges .now) 0 (c .before .before .before .before .before .before .args .n)) (c .before .before .before .before .before .before .args .first) (c .before .before .before .before .before .before .args .back) (omega arith) (c .before .loop .inv)
+
+pub fill-spec : {M : Type 1} → statement M
+fill-spec =
+    tie.close
+    (tie.spec
+    Inv-loop
+    μ-loop
+    loop-holds
+    message-at-requires
+    kept-for-requires
+    enter-requires
+    loop-less
+    loop-again
+    same-length
+    returns)
