@@ -2,8 +2,6 @@
 // which holds each message against every range, and which also wrote the script. A line is a letter, a character, and what it takes:
 // `n C M` a new store with one session, `l LENGTH` a Record with a made message, `g N` one without message, `z` Reset,
 // `G PLACE ENTRIES FIRST LAST ..` a request for the session at a place, into an area of so many entries.
-ghost use Prim.Native.Nat.{_≤_};
-ghost use lib.ListN.{length};
 use libc::STDIN_FILENO;
 use libc::STDOUT_FILENO;
 use store_areas::Shape;
@@ -91,13 +89,20 @@ fn put_answer(bytes: &[u8], entries: &[u64], r: store_resend::Listed) {
     put_entries(bytes, entries, r.length);
 }
 
-// The numbers of a line from the second on.
-fn read_numbers(line: &[u8], numbers: &mut [u64; 132]) -> usize
-    ensures { λ r. ⌜ r ≤ 132 ⌝ }
-{
+// Every word 7.
+fn lend_anew(entries: &mut [u64]) {
+    let mut i: usize = 0;
+    while i < entries.len() {
+        entries[i] = 7;
+        i += 1;
+    }
+}
+
+// The numbers of a line from the third on, and how many.
+fn read_numbers(line: &[u8], numbers: &mut [u64]) -> usize {
     let mut at = vectors_script::start(line, 2);
     let mut k: usize = 0;
-    while k < 132 {
+    while k < numbers.len() {
         if line.len() <= at {
             return k;
         }
@@ -109,12 +114,24 @@ fn read_numbers(line: &[u8], numbers: &mut [u64; 132]) -> usize
 }
 
 // A request, into an area of at most 72 entries.
-fn request(line: &[u8], words: &[u64], bytes: &[u8], shape: Shape) {
-    let mut numbers = [0u64; 132];
-    let mut entries = [7u64; 432];
-    let many = read_numbers(line, &mut numbers);
+fn request(
+    line: &[u8],
+    words: &[u64],
+    bytes: &[u8],
+    shape: Shape,
+    numbers: &mut [u64],
+    entries: &mut [u64],
+) {
+    lend_anew(entries);
+    let many = read_numbers(line, numbers);
     let place = vectors_script::field(line, 0) as usize;
     let room = vectors_script::field(line, 1) as usize % 73 * 6;
+    if numbers.len() < many {
+        return;
+    }
+    if entries.len() < room {
+        return;
+    }
     let r = store_resend::list(
         words,
         bytes,
@@ -123,7 +140,7 @@ fn request(line: &[u8], words: &[u64], bytes: &[u8], shape: Shape) {
         &numbers[0..many],
         &mut entries[0..room],
     );
-    put_answer(bytes, &entries, r);
+    put_answer(bytes, entries, r);
 }
 
 // A new store with one session.
@@ -144,6 +161,8 @@ fn command(
     words: &mut [u64],
     bytes: &mut [u8],
     room: &mut [u8],
+    numbers: &mut [u64],
+    entries: &mut [u64],
     shape: Shape,
 ) -> Shape {
     let letter = if line.len() == 0 { 0 } else { line[0] };
@@ -163,14 +182,21 @@ fn command(
             shape
         }
         _ => {
-            request(line, words, bytes, shape);
+            request(line, words, bytes, shape, numbers, entries);
             shape
         }
     }
 }
 
 // The lines of a script, one after the other.
-fn run(script: &[u8], words: &mut [u64], bytes: &mut [u8], room: &mut [u8]) {
+fn run(
+    script: &[u8],
+    words: &mut [u64],
+    bytes: &mut [u8],
+    room: &mut [u8],
+    numbers: &mut [u64],
+    entries: &mut [u64],
+) {
     let mut shape = Shape {
         places: 0,
         bytes: 0,
@@ -179,7 +205,15 @@ fn run(script: &[u8], words: &mut [u64], bytes: &mut [u8], room: &mut [u8]) {
     let mut at: usize = 0;
     while at < script.len() {
         let end = vectors_script::line_end(script, at);
-        shape = command(&script[at..end], words, bytes, room, shape);
+        shape = command(
+            &script[at..end],
+            words,
+            bytes,
+            room,
+            numbers,
+            entries,
+            shape,
+        );
         at = end + 1;
     }
 }
@@ -190,5 +224,14 @@ fn main() {
     let mut words = [0u64; 242];
     let mut bytes = [0u8; 1248];
     let mut room = [0u8; 1100];
-    run(&script[..n], &mut words, &mut bytes, &mut room);
+    let mut numbers = [0u64; 132];
+    let mut entries = [0u64; 432];
+    run(
+        &script[..n],
+        &mut words,
+        &mut bytes,
+        &mut room,
+        &mut numbers,
+        &mut entries,
+    );
 }
