@@ -5,7 +5,7 @@ use mathlib.Core.List.{List, [], _∷_}
 use Prim.Native.Nat.{ℕ}
 use lib.Dec.{eqb}
 use Rattle.model_lease.specs.Lease.{Lease, Outcome, renewed, failed, deposed, Attempt, renewal, attempt}
-use Rattle.model_lease.specs.History.{Call, question, attempted}
+use Rattle.model_lease.specs.History.{LeaseCall, question, attempted}
 use Rattle.active_lease.specs.declared.Held.{Held}
 use Rattle.active_lease.specs.declared.Asked.{Asked}
 use Rattle.active_lease.specs.declared.Tried.{Tried}
@@ -45,7 +45,7 @@ pub record Tries (h : Held) (a : Attempt) (r : Tried) : Type 0 where
   pub flag : r .held .lost ≡ cond (isSet (h .lost)) (h .lost) (byte (attempt (leaseOf h) a .lease .lost))
 
 -- a list of calls, each with the lease as the one before left it
-pub data Runs : Held → List Call → Held → Type 0 where
-  ended : {h : Held} → Runs h [] h
-  asked : {h end : Held} {now : ℕ} {cs : List Call} (r : Asked) → Asks h now r → Runs (r .held) cs end → Runs h (question now ∷ cs) end
-  tried : {h end : Held} {a : Attempt} {cs : List Call} (r : Tried) → Tries h a r → Runs (r .held) cs end → Runs h (attempted a ∷ cs) end
+pub data LeaseRuns : Held → List LeaseCall → Held → Type 0 where
+  ended : {h : Held} → LeaseRuns h [] h
+  asked : {h end : Held} {now : ℕ} {cs : List LeaseCall} (r : Asked) → Asks h now r → LeaseRuns (r .held) cs end → LeaseRuns h (question now ∷ cs) end
+  tried : {h end : Held} {a : Attempt} {cs : List LeaseCall} (r : Tried) → Tries h a r → LeaseRuns (r .held) cs end → LeaseRuns h (attempted a ∷ cs) end

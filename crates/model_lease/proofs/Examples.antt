@@ -5,7 +5,7 @@ use mathlib.Core.Bool.{Bool, true, false}
 use mathlib.Core.List.{List, [], _∷_, map}
 use Prim.Native.Nat.{ℕ}
 use Rattle.model_lease.specs.Lease.{top, Lease, Outcome, renewed, failed, deposed, Attempt, made, isDue, renewal, attempt}
-use Rattle.model_lease.specs.History.{Call, question, attempted, run, attempts}
+use Rattle.model_lease.specs.History.{LeaseCall, question, attempted, run, attempts}
 
 abbrev tries : ℕ → ℕ → Outcome → Attempt
 tries start now o = record { start = start; now = now; outcome = o }
@@ -78,7 +78,7 @@ lost-31 : attempt (lease 10 110 110 true) (tries 109 120 renewed) ≡ record { r
 lost-31 = refl
 
 -- a list of calls: a success, one refused, a failure that is borne, one at the end as it then is, a success too late
-abbrev calls : List Call
+abbrev calls : List LeaseCall
 calls = question 104 ∷ attempted (tries 105 107 renewed) ∷ attempted (tries 106 108 deposed) ∷ attempted (tries 110 114 failed) ∷ question 114 ∷ attempted (tries 114 115 failed) ∷ attempted (tries 116 117 renewed) ∷ question 130 ∷ []
 
 calls-so : run (made 10 100) calls ≡ lease 10 115 130 true

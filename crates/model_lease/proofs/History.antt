@@ -7,7 +7,7 @@ use Prim.Native.Nat.{ℕ}
 use native.Mathlib.Omega.{arith}
 use lib.Dec.{ltb}
 use Rattle.model_lease.specs.Lease.{Lease, Outcome, renewed, failed, deposed, Attempt, endFrom, made, isDue, at, endAfter, loses, after, Asked, Tried, renewal, isEarly, attempt}
-use Rattle.model_lease.specs.History.{Call, question, attempted, step, run, timeAfter, lastTime, attempts, startAfter, lastStart, Loss, FirstLoss, Told}
+use Rattle.model_lease.specs.History.{LeaseCall, question, attempted, step, run, timeAfter, lastTime, attempts, startAfter, lastStart, Loss, FirstLoss, Told}
 
 pub by-cases : (P : Type 0) (b : Bool) → (b ≡ true → P) → (b ≡ false → P) → P
 by-cases P true t f = t refl
@@ -80,7 +80,7 @@ attempt-taken l a e = ap (λ (r : Tried). r .lease) (tried-taken l a e)
 
 -- ---- a lost lease: nothing but the last time changes any more
 
-gone-step : (d until last : ℕ) (c : Call) → step (gone d until last) c ≡ gone d until (timeAfter last c)
+gone-step : (d until last : ℕ) (c : LeaseCall) → step (gone d until last) c ≡ gone d until (timeAfter last c)
 gone-step d until last (question now) =
     by-cases (step (gone d until last) (question now) ≡ gone d until (timeAfter last (question now))) (ltb now last)
     (λ e. question-early (gone d until last) now e ∙ rw e)
@@ -90,12 +90,12 @@ gone-step d until last (attempted a) =
     (λ e. attempt-early (gone d until last) a e ∙ rw e)
     (λ e. attempt-taken (gone d until last) a e ∙ rw e)
 
-gone-stays : (d until last : ℕ) (cs : List Call) → run (gone d until last) cs ≡ gone d until (lastTime last cs)
+gone-stays : (d until last : ℕ) (cs : List LeaseCall) → run (gone d until last) cs ≡ gone d until (lastTime last cs)
 gone-stays d until last [] = refl
 gone-stays d until last (c ∷ cs) = ap (λ (l : Lease). run l cs) (gone-step d until last c) ∙ gone-stays d until (timeAfter last c) cs
 
 -- from any lease that is lost
-pub lost-for-good : (l : Lease) (cs : List Call) → l .lost ≡ true → run l cs ≡ gone (l .duration) (l .until) (lastTime (l .last) cs)
+pub lost-for-good : (l : Lease) (cs : List LeaseCall) → l .lost ≡ true → run l cs ≡ gone (l .duration) (l .until) (lastTime (l .last) cs)
 lost-for-good l cs e =
     let as-gone : l ≡ gone (l .duration) (l .until) (l .last) = ap (λ (b : Bool). record { duration = l .duration; until = l .until; last = l .last; lost = b }) e in
     ap (λ (x : Lease). run x cs) as-gone ∙ gone-stays (l .duration) (l .until) (l .last) cs
@@ -168,7 +168,7 @@ module _ (d s : ℕ) (a : Attempt) (kept : loses (endFrom s d) (a .now) (a .outc
 
 -- ---- a list of calls
 
-abbrev Tells : ℕ → ℕ → ℕ → List Call → Type 0
+abbrev Tells : ℕ → ℕ → ℕ → List LeaseCall → Type 0
 Tells d s last cs = Told d s (attempts last cs) (run (holding d s last) cs)
 
 told-none : (d s last : ℕ) → Told d s [] (holding d s last)
@@ -179,29 +179,29 @@ told-none d s last = record {
   end-lost = λ f. absurd (none-empty d s (f .loss));
 }
 
-told-question : (d s last now : ℕ) (cs : List Call) → ((t : ℕ) → Tells d s t cs) → Tells d s last (question now ∷ cs)
+told-question : (d s last now : ℕ) (cs : List LeaseCall) → ((t : ℕ) → Tells d s t cs) → Tells d s last (question now ∷ cs)
 told-question d s last now cs more =
     by-cases (Tells d s last (question now ∷ cs)) (ltb now last)
     (λ e. rw (e, question-early (holding d s last) now e) (more last))
     (λ e. rw (e, question-taken (holding d s last) now e) (more now))
 
-told-taken : (d s last : ℕ) (a : Attempt) (cs : List Call) → ((s' : ℕ) → Tells d s' (a .now) cs) → Told d s (a ∷ attempts (a .now) cs) (run (after (holding d s last) a) cs)
+told-taken : (d s last : ℕ) (a : Attempt) (cs : List LeaseCall) → ((s' : ℕ) → Tells d s' (a .now) cs) → Told d s (a ∷ attempts (a .now) cs) (run (after (holding d s last) a) cs)
 told-taken d s last a cs more =
     by-cases (Told d s (a ∷ attempts (a .now) cs) (run (after (holding d s last) a) cs)) (loses (endFrom s d) (a .now) (a .outcome))
     (λ t. rw (loses-it d s last (a .start) (a .now) (a .outcome) t, gone-stays) (told-lost d s a (attempts (a .now) cs) t (lastTime (a .now) cs)))
     (λ f. rw (holds d s last (a .start) (a .now) (a .outcome) f) (told-held d s a f (attempts (a .now) cs) (run (holding d (startAfter s (a .start) (a .outcome)) (a .now)) cs) (more (startAfter s (a .start) (a .outcome)))))
 
-told-attempted : (d s last : ℕ) (a : Attempt) (cs : List Call) → ((s' t : ℕ) → Tells d s' t cs) → Tells d s last (attempted a ∷ cs)
+told-attempted : (d s last : ℕ) (a : Attempt) (cs : List LeaseCall) → ((s' t : ℕ) → Tells d s' t cs) → Tells d s last (attempted a ∷ cs)
 told-attempted d s last a cs more =
     by-cases (Tells d s last (attempted a ∷ cs)) (isEarly last a)
     (λ e. rw (attempt-early (holding d s last) a e, e) (more s last))
     (λ e. rw (attempt-taken (holding d s last) a e, e) (told-taken d s last a cs (λ s'. more s' (a .now))))
 
-tells : (d s last : ℕ) (cs : List Call) → Tells d s last cs
+tells : (d s last : ℕ) (cs : List LeaseCall) → Tells d s last cs
 tells d s last [] = told-none d s last
 tells d s last (question now ∷ cs) = told-question d s last now cs (λ t. tells d s t cs)
 tells d s last (attempted a ∷ cs) = told-attempted d s last a cs (λ s' t. tells d s' t cs)
 
 -- after any list of questions and attempts from the making on
-pub history : (d s : ℕ) (cs : List Call) → Told d s (attempts s cs) (run (made d s) cs)
+pub history : (d s : ℕ) (cs : List LeaseCall) → Told d s (attempts s cs) (run (made d s) cs)
 history d s cs = tells d s s cs

@@ -9,7 +9,7 @@ use native.Mathlib.Nat.{le-trans, le-refl}
 use lib.Dec.{eqb, leb, ltb}
 use borrow.Author.Tests.{ltb-true, ltb-false, leb-true, le-leb, le-ltb, ne-eqb, eqb-false, not-true}
 use Rattle.model_lease.specs.Lease.{top, Lease, Due, Outcome, renewed, failed, deposed, Attempt, endFrom, made, isDue, at, endAfter, loses, after, Asked, renewal, isEarly}
-use Rattle.model_lease.specs.History.{Call, question, attempted, step, run, timeAfter, lastTime}
+use Rattle.model_lease.specs.History.{LeaseCall, question, attempted, step, run, timeAfter, lastTime}
 use Rattle.model_lease.proofs.History.{by-cases, asked-early, asked-taken, question-early, question-taken, attempt-early, attempt-taken}
 
 neither : (a b : Bool) → (a || b) ≡ false → (a ≡ false) × (b ≡ false)
@@ -60,7 +60,7 @@ rises-after l a low high s =
     (rises-at l (a .now) (le-trans low high) s)
     (rises-to l (a .start) (a .now) (loses (l .until) (a .now) (a .outcome)) (a .outcome) low high s)
 
-rises : (l : Lease) (c : Call) → Started l → Rises l (step l c)
+rises : (l : Lease) (c : LeaseCall) → Started l → Rises l (step l c)
 rises l (question now) s =
     by-cases (Rises l (step l (question now))) (ltb now (l .last))
     (λ e. rw (question-early l now e) (rises-same l s))
@@ -70,14 +70,14 @@ rises l (attempted a) s =
     (λ e. rw (attempt-early l a e) (rises-same l s))
     (λ e. let o = in-order (l .last) a e in rw (attempt-taken l a e) (rises-after l a (o .0) (o .1) s))
 
-rises-all : (l : Lease) (cs : List Call) → Started l → Rises l (run l cs)
+rises-all : (l : Lease) (cs : List LeaseCall) → Started l → Rises l (run l cs)
 rises-all l [] s = rises-same l s
 rises-all l (c ∷ cs) s =
     let r = rises l c s in
     let q = rises-all (step l c) cs (r .0) in
     (q .0, le-trans (r .1) (q .1))
 
-pub end-never-falls : (d s : ℕ) (cs more : List Call) → run (made d s) cs .until ≤ run (run (made d s) cs) more .until
+pub end-never-falls : (d s : ℕ) (cs more : List LeaseCall) → run (made d s) cs .until ≤ run (run (made d s) cs) more .until
 end-never-falls d s cs more =
     rises-all (run (made d s) cs) more (rises-all (made d s) cs (record { start = s; until = refl; past = le-refl s }) .0) .1
 
@@ -89,7 +89,7 @@ after-last l a =
     (record { duration = l .duration; until = endAfter l (a .start) (a .outcome); last = a .now; lost = loses (l .until) (a .now) (a .outcome) })
     (refl, refl) (refl, refl)
 
-step-last : (l : Lease) (c : Call) → (step l c .last ≡ timeAfter (l .last) c) × (step l c .duration ≡ l .duration)
+step-last : (l : Lease) (c : LeaseCall) → (step l c .last ≡ timeAfter (l .last) c) × (step l c .duration ≡ l .duration)
 step-last l (question now) =
     by-cases ((step l (question now) .last ≡ timeAfter (l .last) (question now)) × (step l (question now) .duration ≡ l .duration)) (ltb now (l .last))
     (λ e. rw (question-early l now e, e) (refl, refl))
@@ -99,21 +99,21 @@ step-last l (attempted a) =
     (λ e. rw (attempt-early l a e, e) (refl, refl))
     (λ e. rw (attempt-taken l a e, e) (after-last l a))
 
-pub run-last : (l : Lease) (cs : List Call) → (run l cs .last ≡ lastTime (l .last) cs) × (run l cs .duration ≡ l .duration)
+pub run-last : (l : Lease) (cs : List LeaseCall) → (run l cs .last ≡ lastTime (l .last) cs) × (run l cs .duration ≡ l .duration)
 run-last l [] = (refl, refl)
 run-last l (c ∷ cs) =
     let r = step-last l c in
     let q = run-last (step l c) cs in
     (q .0 ∙ ap (λ (n : ℕ). lastTime n cs) (r .0), q .1 ∙ r .1)
 
-time-rises : (last : ℕ) (c : Call) → last ≤ timeAfter last c
+time-rises : (last : ℕ) (c : LeaseCall) → last ≤ timeAfter last c
 time-rises last (question now) =
     by-cases (last ≤ timeAfter last (question now)) (ltb now last) (λ e. rw e (le-refl last)) (λ e. rw e (ltb-false now last e))
 time-rises last (attempted a) =
     by-cases (last ≤ timeAfter last (attempted a)) (isEarly last a) (λ e. rw e (le-refl last))
     (λ e. let o = in-order last a e in rw e (le-trans (o .0) (o .1)))
 
-pub times-never-fall : (last : ℕ) (cs : List Call) → last ≤ lastTime last cs
+pub times-never-fall : (last : ℕ) (cs : List LeaseCall) → last ≤ lastTime last cs
 times-never-fall last [] = le-refl last
 times-never-fall last (c ∷ cs) = le-trans (time-rises last c) (times-never-fall (timeAfter last c) cs)
 

@@ -7,32 +7,32 @@ use Prim.Native.Nat.{ℕ}
 use lib.Dec.{ltb}
 use Rattle.model_lease.specs.Lease.{Lease, Outcome, renewed, failed, deposed, Attempt, endFrom, loses, renewal, isEarly, attempt}
 
-pub data Call : Type 0 where
-  question : ℕ → Call
-  attempted : Attempt → Call
+pub data LeaseCall : Type 0 where
+  question : ℕ → LeaseCall
+  attempted : Attempt → LeaseCall
 
 -- the lease after a call, and after a list of calls
-abbrev pub step : Lease → Call → Lease
+abbrev pub step : Lease → LeaseCall → Lease
 step l (question now) = renewal l now .lease
 step l (attempted a) = attempt l a .lease
 
-abbrev pub run : Lease → List Call → Lease
+abbrev pub run : Lease → List LeaseCall → Lease
 run l [] = l
 run l (c ∷ cs) = run (step l c) cs
 
 -- ---- the same from the list, without a lease
 
 -- the last time handed in
-abbrev pub timeAfter : ℕ → Call → ℕ
+abbrev pub timeAfter : ℕ → LeaseCall → ℕ
 timeAfter last (question now) = cond (ltb now last) last now
 timeAfter last (attempted a) = cond (isEarly last a) last (a .now)
 
-abbrev pub lastTime : ℕ → List Call → ℕ
+abbrev pub lastTime : ℕ → List LeaseCall → ℕ
 lastTime last [] = last
 lastTime last (c ∷ cs) = lastTime (timeAfter last c) cs
 
 -- the attempts that were taken, in order: those refused with 31 are left out
-abbrev pub attempts : ℕ → List Call → List Attempt
+abbrev pub attempts : ℕ → List LeaseCall → List Attempt
 attempts last [] = []
 attempts last (question now ∷ cs) = attempts (timeAfter last (question now)) cs
 attempts last (attempted a ∷ cs) = cond (isEarly last a) (attempts last cs) (a ∷ attempts (a .now) cs)

@@ -3,6 +3,7 @@
 use std::fmt;
 
 use crate::digits;
+use crate::ranges::Range;
 
 /// A script's first line.
 #[derive(Debug, Clone, PartialEq, Eq)]
@@ -39,6 +40,7 @@ pub enum Call {
     Summary { n: u64, key: Key },
     Whole { handle: u32, epoch: u64, last: u64, key: Key, length: Option<u64> },
     Queue { max_lag: u64, drained: u64, lasts: Vec<u64> },
+    Resend { entries: u64, key: Key, ranges: Vec<Range> },
     Set(Counter),
 }
 
@@ -62,6 +64,11 @@ fn handle(word: &str) -> Option<u32> {
 fn key(word: &str) -> Option<Key> {
     let parts: Option<Vec<_>> = word.split(',').map(|part| digits::read(part.as_bytes())).collect();
     parts?.try_into().ok()
+}
+
+fn range(word: &str) -> Option<Range> {
+    let (first, last) = word.split_once('-')?;
+    Some((number(first)?, number(last)?))
 }
 
 pub fn key_text(key: &Key) -> String {
@@ -111,6 +118,11 @@ impl Call {
                 drained: number(drained)?,
                 lasts: lasts.iter().copied().map(number).collect::<Option<_>>()?,
             },
+            ["G", entries, k, ref ranges @ ..] => Self::Resend {
+                entries: number(entries)?,
+                key: key(k)?,
+                ranges: ranges.iter().copied().map(range).collect::<Option<_>>()?,
+            },
             ["X", "connections", n] => Self::Set(Counter::Connections(number(n)?)),
             ["X", "epoch", n] => Self::Set(Counter::Epoch(number(n)?)),
             ["X", "commit", h, n] => Self::Set(Counter::Commit(handle(h)?, number(n)?)),
@@ -142,6 +154,10 @@ impl fmt::Display for Call {
             Self::Queue { max_lag, drained, lasts } => {
                 write!(f, "Q {max_lag} {drained}")?;
                 lasts.iter().try_for_each(|last| write!(f, " {last}"))
+            }
+            Self::Resend { entries, key, ranges } => {
+                write!(f, "G {entries} {}", key_text(key))?;
+                ranges.iter().try_for_each(|(first, last)| write!(f, " {first}-{last}"))
             }
             Self::Set(Counter::Connections(n)) => write!(f, "X connections {n}"),
             Self::Set(Counter::Epoch(n)) => write!(f, "X epoch {n}"),

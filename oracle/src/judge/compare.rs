@@ -10,7 +10,7 @@ use crate::count::Counts;
 use crate::differences;
 use crate::digits;
 use crate::frames::{Reading, read_by_rust};
-use crate::generate::{Player, Random, reading, setting};
+use crate::generate::{Player, Random, reading, resend, setting};
 #[cfg(calls)]
 use crate::ours::Ours;
 #[cfg(ours)]
@@ -110,14 +110,24 @@ impl Round {
         let mut player = Player::new(Random(random.next()), &setting);
         let mut rust = Rust::make(&setting).expect("within the limits");
         let mut run = Run::new(&setting)?;
+        let mut requests = Random(random.next());
         for _ in 0..length {
             let call = player.call(&mut rust);
-            let answered = run.call(&mut rust, &call)?;
-            self.counts.call(&call, &answered);
-            self.calls += 1;
+            self.call(&mut run, &mut rust, &call)?;
+            if setting.bytes <= 1 << 20 && requests.percent(10) {
+                let call = resend(&mut requests, &mut rust);
+                self.call(&mut run, &mut rust, &call)?;
+            }
         }
         run.call(&mut rust, &Call::State)?;
         self.scripts += 1;
+        Ok(())
+    }
+
+    fn call(&mut self, run: &mut Run, rust: &mut Rust, call: &Call) -> Result<(), Difference> {
+        let answered = run.call(rust, call)?;
+        self.counts.call(call, &answered);
+        self.calls += 1;
         Ok(())
     }
 

@@ -85,6 +85,8 @@ impl Counts {
                 let drained = answer.lines().any(|line| !line.starts_with("drained=0"));
                 ("lag queue".into(), if drained { "drained" } else { "all wait" }.into())
             }
+            Call::Resend { .. } if answer.starts_with('R') => ("resend ranges".into(), answer.into()),
+            Call::Resend { .. } => ("resend ranges".into(), "listed".into()),
             Call::Set(_) => ("counter set".into(), if answer == "ok" { "ok" } else { "no such handle" }.into()),
         };
         self.add(asked, answered);
@@ -96,9 +98,9 @@ impl Counts {
 
     /// Which of the answers that these inputs can show were never given.
     pub fn not_reached(&self) -> Vec<String> {
-        let names = "frame more Welcome Bound Ack done drained";
+        let names = "frame more Welcome Bound Ack done drained listed";
         let nacks = ["StaleEpoch", "Diverged", "Lag", "Restarted"].map(|reason| format!("Nack {reason}"));
-        let numbers = (1..=26).filter(|number| *number != 8).map(|number| format!("R {number}"));
+        let numbers = (1..=26).filter(|number| *number != 8).chain([35, 36]).map(|number| format!("R {number}"));
         let given = |name: &String| self.0.values().any(|answers| answers.contains_key(name));
         names.split(' ').map(String::from).chain(nacks).chain(numbers).filter(|name| !given(name)).collect()
     }

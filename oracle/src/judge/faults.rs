@@ -1,11 +1,11 @@
 //! Faults that are put in between our side and the comparison, one at a time, by the number in WIZHDULET_FAULT: the
-//! comparison must find each (oracle/judge-test). The stand-in has those from 1 to 18 in its own text.
+//! comparison must find each (oracle/judge-test). The stand-in has those from 1 to 19 in its own text.
 
 use std::sync::OnceLock;
 
 #[cfg(calls)]
 use crate::library::{Areas, Ask, Counters, Place, Size};
-use crate::library::{DONE, Outcome};
+use crate::library::{DONE, Outcome, Resent};
 use crate::out::Out;
 #[cfg(calls)]
 use crate::side::Answer;
@@ -67,6 +67,17 @@ pub fn after_push(queue: &mut [u64], waiting: usize) {
     }
     if fault(126) && queue[1] > 0 {
         flip_word(queue.get_mut(2));
+    }
+}
+
+/// Resend ranges listed.
+pub fn after_resend(said: &mut Resent, entries: &mut [u64]) {
+    match *said {
+        Resent { refusal: 36, .. } if fault(142) => said.refusal = 35,
+        Resent { refusal: 0, length, .. } if fault(143) && length > 1 => flip_word(entries.get_mut(6 * length - 5)),
+        Resent { length, .. } if fault(144) => flip_word(entries.get_mut(6 * length)),
+        Resent { refusal: 0, length, .. } if fault(145) && length > 0 => said.bytes += 1,
+        _ => {}
     }
 }
 

@@ -2,6 +2,7 @@
 //! call scripts that mostly make sense.
 
 use crate::call::{Call, Counter, Key, Setting, hold_for_any};
+use crate::ranges::{self, Range};
 use crate::rust::Rust;
 use crate::side::Side;
 use crate::wire::{self, Batch, change};
@@ -569,4 +570,40 @@ impl Player {
             _ => Counter::Epoch(if random.percent(80) { random.below(9) } else { random.number() }),
         }
     }
+}
+
+/// A request for resend ranges of a stored session, now and then of none: mostly ranges near its numbers, with an area
+/// of about as many entries as the list has.
+pub fn resend(random: &mut Random, rust: &mut Rust) -> Call {
+    let sessions = rust.state().sessions;
+    let Some(session) = (!sessions.is_empty()).then(|| random.pick(&sessions)) else {
+        return Call::Resend { entries: 0, key: key(random), ranges: Vec::new() };
+    };
+    let count = if random.percent(8) { 62 + random.below(4) } else { random.below(6) };
+    let ranges: Vec<Range> = (0..count).map(|_| range(random, session.next_outgoing)).collect();
+    let length = ranges::listed(&session, &ranges, u64::MAX).map_or(0, |listed| listed.messages.len() as u64);
+    let entries = match random.below(4) {
+        0 => length.saturating_sub(1),
+        1 => length + random.below(3),
+        2 => random.below(70),
+        _ => length,
+    };
+    let key = if random.percent(97) { session.key } else { key(random) };
+    Call::Resend { entries, key, ranges }
+}
+
+fn range(random: &mut Random, next: u64) -> Range {
+    let first = match random.below(60) {
+        0 => random.number(),
+        1 => next,
+        _ => 1 + random.below(next.saturating_sub(1).clamp(1, 40)),
+    };
+    let last = match random.below(40) {
+        0 => random.number(),
+        1 => first.saturating_sub(1),
+        2..12 => 0,
+        12..20 => first,
+        _ => first.saturating_add(random.below(6)),
+    };
+    (first, last)
 }

@@ -119,18 +119,27 @@ pub fn outcome(answer: u64) -> Outcome {
     if answer & WORK != 0 { Ok(answer & !WORK) } else { Err(((answer >> 40) as u32, answer & ((1 << 40) - 1))) }
 }
 
+/// What a request for resend ranges answers: 0 or the refusal, the list's length, and its messages' bytes.
+#[repr(C)]
+#[derive(Debug, Clone, Copy)]
+pub struct Resent {
+    pub refusal: u8,
+    pub length: usize,
+    pub bytes: usize,
+}
+
 #[cfg(plain)]
-pub use crate::plain::{Said, answer, frame, made, queue, read, said, send, session};
+pub use crate::plain::{Said, answer, frame, made, queue, read, resend, said, send, session};
 
 #[cfg(not(plain))]
-pub use exports::{frame, queue, read, send, session};
+pub use exports::{frame, queue, read, resend, send, session};
 
 #[cfg(all(calls, not(plain)))]
 pub use entry::{Said, answer, fnv, made, said};
 
 #[cfg(not(plain))]
 mod exports {
-    use super::{Areas, Size};
+    use super::{Areas, Resent, Size};
 
     unsafe extern "C" {
         fn wz_frame(frame: *const u8, frame_len: usize, out: *mut u8, out_len: usize) -> u64;
@@ -138,6 +147,21 @@ mod exports {
         fn wz_read(frame: *const u8, frame_len: usize) -> u64;
 
         fn wz_queue(queue: *mut u64, queue_len: usize, max_lag: u64, last: u64) -> u64;
+
+        fn wz_resend(
+            words: *const u64,
+            words_len: usize,
+            bytes: *const u8,
+            bytes_len: usize,
+            ranges: *const u64,
+            ranges_len: usize,
+            entries: *mut u64,
+            entries_len: usize,
+            sessions: u32,
+            c: u32,
+            m: u32,
+            place: u64,
+        ) -> Resent;
     }
 
     /// Functions that read a store: their own parameters stand before the output area, and after the place.
@@ -188,6 +212,15 @@ mod exports {
 
     pub fn queue(queue: &mut [u64], max_lag: u64, last: u64) -> u64 {
         unsafe { wz_queue(queue.as_mut_ptr(), queue.len(), max_lag, last) }
+    }
+
+    /// Ranges are two words each, entries six.
+    pub fn resend(areas: &Areas, size: Size, ranges: &[u64], entries: &mut [u64], place: u64) -> Resent {
+        let Size { sessions, bytes: c, messages: m } = size;
+        let Areas { words, bytes, .. } = areas;
+        let (words, words_len, bytes, bytes_len) = (words.as_ptr(), words.len(), bytes.as_ptr(), bytes.len());
+        let (from, from_len, to, to_len) = (ranges.as_ptr(), ranges.len(), entries.as_mut_ptr(), entries.len());
+        unsafe { wz_resend(words, words_len, bytes, bytes_len, from, from_len, to, to_len, sessions, c, m, place) }
     }
 
     pub fn session(areas: &Areas, size: Size, out: &mut [u8], place: u64, n: u64) -> u64 {

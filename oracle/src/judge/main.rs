@@ -20,6 +20,7 @@ mod out;
 #[cfg(plain)]
 #[path = "../plain/mod.rs"]
 mod plain;
+mod ranges;
 mod record;
 mod run;
 mod rust;

@@ -9,6 +9,7 @@ use crate::frames::Reading;
 use crate::library::Said;
 use crate::library::{self, Areas, Ask, Counters, DONE, Place, RUBBISH, Settings, Size, outcome};
 use crate::out::Out;
+use crate::ranges::{Listed, Range};
 use crate::side::{Answer, Handle, Pushed, Sent, Session, Side, State, Summary};
 use crate::walk::{self, Walk};
 
@@ -273,6 +274,39 @@ impl Ours {
         }
     }
 
+    /// A list of resend ranges into an area of so many entries and a part of one more. What isn't the list's stays, and
+    /// each entry's bytes are the stored message's.
+    fn resend_into(&mut self, place: u64, ranges: &[u64], room: usize) -> Result<Listed, u32> {
+        let mut entries = vec![RUBBISH; 6 * room + place as usize % 6];
+        let mut said = library::resend(&self.areas, self.settings.size, ranges, &mut entries, place);
+        faults::after_resend(&mut said, &mut entries);
+        let written = 6 * said.length;
+        assert!(entries[written..].iter().all(|word| *word == RUBBISH), "wz_resend wrote past its list");
+        if said.refusal != 0 {
+            assert_eq!((said.length, said.bytes), (0, 0), "wz_resend refuses with a list");
+            return Err(said.refusal.into());
+        }
+        let list = &entries[..written];
+        self.looked_up(place, list);
+        let messages = list.chunks(6).map(|entry| (entry[0], entry[1])).collect();
+        Ok(Listed { messages, bytes: said.bytes as u64 })
+    }
+
+    /// The bytes that entries name, beside those of the session's own sending.
+    #[cfg(not(plain))]
+    fn looked_up(&mut self, place: u64, list: &[u64]) {
+        let stored = if list.is_empty() { Vec::new() } else { self.session(place).messages };
+        let part = |at: u64, len: u64| &self.areas.bytes[at as usize..][..len as usize];
+        for entry in list.chunks(6) {
+            let bytes = [part(entry[2], entry[3]), part(entry[4], entry[5])].concat();
+            assert!(stored.contains(&(entry[0], bytes)), "wz_resend names other bytes for message {}", entry[0]);
+        }
+    }
+
+    /// The stand-in has no ring.
+    #[cfg(plain)]
+    fn looked_up(&mut self, _: u64, _: &[u64]) {}
+
     fn hold_of(&self, index: usize) -> &[u8] {
         let start = index * self.hold as usize;
         &self.areas.holds[start..start + self.areas.row[index].held_len as usize]
@@ -398,6 +432,12 @@ impl Side for Ours {
         let mut queue = [RUBBISH; 66 + 4];
         queue[..2].copy_from_slice(&[drained, 0]);
         lasts.iter().map(|last| push(&mut queue, max_lag, *last)).collect()
+    }
+
+    fn resend(&mut self, entries: u64, key: &Key, ranges: &[Range]) -> Result<Listed, u32> {
+        let place = self.place_of(key).unwrap_or(self.areas.words[0]);
+        let words: Vec<u64> = ranges.iter().flat_map(|(first, last)| [*first, *last]).collect();
+        self.resend_into(place, &words, entries.min(1 << 20) as usize)
     }
 
     fn set(&mut self, counter: &Counter) -> bool {

@@ -154,7 +154,7 @@ impl Run {
 
     pub fn call(&mut self, state: &mut Rust, call: &Call) -> Result<String, Difference> {
         let rust = answer(state, call);
-        let reads = matches!(call, Call::State | Call::Summary { .. } | Call::Whole { .. } | Call::Queue { .. });
+        let reads = matches!(call, Call::State | Call::Summary { .. } | Call::Whole { .. } | Call::Queue { .. } | Call::Resend { .. });
         if !reads {
             return Ok(rust);
         }

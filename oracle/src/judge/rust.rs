@@ -13,6 +13,7 @@ use turbojet_replica::standby::reach::{self, summary};
 
 use crate::call::{Counter, Key, Setting};
 use crate::differences;
+use crate::ranges::{self, Listed, Range};
 use crate::side::{Answer, Handle, Pushed, Sent, Session, Side, State, Summary};
 
 pub struct Rust {
@@ -213,6 +214,12 @@ impl Side for Rust {
             Pushed { went: pushed.went, drained_through: pushed.drained_through, waiting: pushed.waiting }
         };
         Ok(lasts.iter().map(push).collect())
+    }
+
+    /// The Rust has no such call: a second reading over its stored session.
+    fn resend(&mut self, entries: u64, key: &Key, ranges: &[Range]) -> Result<Listed, u32> {
+        let session = self.state().sessions.into_iter().find(|session| session.key == *key);
+        ranges::listed(&session.ok_or(differences::MISSING)?, ranges, entries)
     }
 
     fn set(&mut self, counter: &Counter) -> bool {

@@ -4,6 +4,7 @@ use std::fmt::Write;
 
 use crate::call::{Call, Counter, Key, Setting, key_text};
 use crate::digits;
+use crate::ranges::{Listed, Range};
 
 /// The answer's bytes, or document 01's number of the refusal.
 pub type Answer = Result<Vec<u8>, u32>;
@@ -81,6 +82,7 @@ pub trait Side: Sized {
     fn summary(&mut self, n: u64, key: &Key) -> Result<Summary, u32>;
     fn whole(&mut self, handle: u32, epoch: u64, last: u64, key: &Key, length: Option<u64>) -> Sent;
     fn queue(&mut self, max_lag: u64, drained: u64, lasts: &[u64]) -> Result<Vec<Pushed>, u32>;
+    fn resend(&mut self, entries: u64, key: &Key, ranges: &[Range]) -> Result<Listed, u32>;
     /// False where there's no such handle, or it holds nothing.
     fn set(&mut self, counter: &Counter) -> bool;
 }
@@ -187,6 +189,14 @@ impl Pushed {
     }
 }
 
+impl Listed {
+    fn lines(&self) -> String {
+        let head = format!("count={} bytes={}", self.messages.len(), self.bytes);
+        let messages = self.messages.iter().map(|(number, set)| format!("\n{number} {set}"));
+        messages.fold(head, |text, line| text + &line)
+    }
+}
+
 /// What a call writes, without the last line feed; nothing for a queue without pushes.
 pub fn answer<S: Side>(side: &mut S, call: &Call) -> String {
     match call {
@@ -202,6 +212,9 @@ pub fn answer<S: Side>(side: &mut S, call: &Call) -> String {
         Call::Queue { max_lag, drained, lasts } => {
             let lines = |pushes: Vec<Pushed>| pushes.iter().map(Pushed::line).collect::<Vec<_>>().join("\n");
             side.queue(*max_lag, *drained, lasts).map_or_else(refusal, lines)
+        }
+        Call::Resend { entries, key, ranges } => {
+            side.resend(*entries, key, ranges).map_or_else(refusal, |listed| listed.lines())
         }
         Call::Set(counter) if side.set(counter) => "ok".into(),
         Call::Set(_) => format!("? {call}"),

@@ -6,10 +6,10 @@ mod read;
 mod session;
 
 use std::cell::RefCell;
-use std::collections::HashMap;
+use std::collections::{BTreeMap, HashMap};
 
 use crate::faults::fault;
-use crate::library::{Areas, Ask, Counters, Place, Settings, Size};
+use crate::library::{Areas, Ask, Counters, Place, Resent, Settings, Size};
 use crate::wire;
 use read::{Batch, Change, Fault, Frame, Left};
 use session::Session;
@@ -433,4 +433,28 @@ pub fn queue(queue: &mut [u64], max_lag: u64, last: u64) -> u64 {
     queue[1] = waiting.len() as u64;
     queue[2..][..waiting.len()].copy_from_slice(&waiting);
     WORK + count
+}
+
+/// Range after range, gathering the sets by number. There is no ring here, so an entry's four last words are 0.
+pub fn resend(areas: &Areas, _: Size, ranges: &[u64], entries: &mut [u64], place: u64) -> Resent {
+    let refused = |refusal| Resent { refusal, length: 0, bytes: 0 };
+    let Some(session) = stored(areas, place).filter(|_| ranges.len() % 2 == 0) else { return refused(25) };
+    let bad = |range: &[u64]| range[0] == 0 || range[1] != 0 && range[1] < range[0];
+    if ranges.len() > 128 || ranges.chunks(2).any(bad) {
+        return refused(35);
+    }
+    let mut sets: BTreeMap<u64, u64> = BTreeMap::new();
+    for (at, range) in ranges.chunks(2).enumerate() {
+        let last = if range[1] == 0 { u64::MAX } else { range[1] };
+        let within = session.messages.iter().filter(|(number, _)| (range[0]..=last).contains(number));
+        within.for_each(|(number, _)| *sets.entry(*number).or_default() |= 1 << at);
+    }
+    if entries.len() / 6 < sets.len() + usize::from(fault(19)) {
+        return refused(36);
+    }
+    for (entry, (number, set)) in entries.chunks_mut(6).zip(&sets) {
+        entry.copy_from_slice(&[*number, *set, 0, 0, 0, 0]);
+    }
+    let listed = session.messages.iter().filter(|(number, _)| sets.contains_key(number));
+    Resent { refusal: 0, length: sets.len(), bytes: listed.map(|(_, message)| message.len()).sum() }
 }

@@ -1,0 +1,58 @@
+use Rattle.store_resend.proofs.Passes.{Filling, fill-starts, room, fills-on, fill-ends, Counting, count-starts, counts-on, count-ends}
+use Rattle.store_resend.specs.Ranges.{rangesFrom}
+use native.Mathlib.Omega.{arith}
+use Rattle.store_resend.proofs.fill.Statement.{statement}
+use Rattle.store_resend.proofs.fill.Tie as tie
+
+abbrev Inv-loop : tie.InvT-loop
+Inv-loop words bytes shape i first back ranges n entries₀ left₀ dist₀ tally₀ kept₀ entries left dist tally kept = Filling shape words bytes i (rangesFrom ranges 0 n) first back entries₀ left dist (tally .length) kept entries × Counting shape words bytes i (rangesFrom ranges 0 n) first back left dist tally kept
+
+abbrev μ-loop : tie.MeasureT-loop
+μ-loop words bytes shape i first back ranges n entries₀ left₀ dist₀ tally₀ kept₀ entries left dist tally kept = left
+
+loop-holds : tie.Need-loop-holds Inv-loop μ-loop
+loop-holds c = (fill-starts (c .before .before .before .before .args .shape) (c .before .before .before .before .args .words .now) (c .before .before .before .before .args .bytes .now) (c .before .before .before .before .args .i) (rangesFrom (c .before .before .before .before .args .ranges .now) 0 (c .before .before .before .before .args .n)) (c .before .before .before .before .args .first) (c .before .before .before .before .args .back) _ (c .before .before .before .before .pre .1 .1 .0), count-starts (c .before .before .before .before .args .shape) (c .before .before .before .before .args .words .now) (c .before .before .before .before .args .bytes .now) (c .before .before .before .before .args .i) (rangesFrom (c .before .before .before .before .args .ranges .now) 0 (c .before .before .before .before .args .n)) (c .before .before .before .before .args .first) (c .before .before .before .before .args .back) (c .before .before .before .before .pre .1 .1 .0))
+
+message-at-requires : tie.Need-message-at-requires Inv-loop μ-loop
+message-at-requires c κs = (c .before .before .before .before .before .before .pre .0, (c .before .before .before .before .before .before .pre .1 .0, (c .before .loop .inv .0 .stands, omega arith)))
+
+kept-for-requires : tie.Need-kept-for-requires Inv-loop μ-loop
+kept-for-requires c κs = (c .before .before .before .before .before .before .before .pre .1 .1 .1 .0, (c .before .before .before .before .before .before .before .pre .1 .1 .1 .1 .0, c .before .before .loop .inv .0 .keeps))
+
+add-size : tie.Need-add-size Inv-loop μ-loop
+add-size c = let g = c .before .before .before .before .loop .inv .1 in let p = c .before .before .message-at .ensures in omega arith
+
+counted-requires : tie.Need-counted-requires Inv-loop μ-loop
+counted-requires c κs = let g = c .before .before .before .before .loop .inv .1 in let p = c .before .before .message-at .ensures in (omega arith, omega arith)
+
+enter-requires : tie.Need-enter-requires Inv-loop μ-loop
+enter-requires c κs = room (c .before .before .before .before .before .before .before .before .before .before .before .args .shape) (c .before .before .before .before .before .before .before .before .before .before .before .args .words .now) (c .before .before .before .before .before .before .before .before .before .before .before .args .bytes .now) (c .before .before .before .before .before .before .before .before .before .before .before .args .i) (rangesFrom (c .before .before .before .before .before .before .before .before .before .before .before .args .ranges .now) 0 (c .before .before .before .before .before .before .before .before .before .before .before .args .n)) (c .before .before .before .before .before .before .before .before .before .before .before .args .first) (c .before .before .before .before .before .before .before .before .before .before .before .args .back) (c .before .before .before .before .message-at .result) (c .before .before .before .before .before .before .loop .inv .0) (c .before .before .before .before .message-at .ensures) (c .before .before .before .kept-for .ensures) (c .before .before .before .before .before .before .before .before .before .before .before .pre .1 .1 .1 .1 .1)
+
+loop-less : tie.Need-loop-less Inv-loop μ-loop
+loop-less c = let p = c .before .before .before .before .before .before .before .message-at .ensures in omega arith
+
+loop-again : tie.Need-loop-again Inv-loop μ-loop
+loop-again c = (fills-on (c .before .before .before .before .before .before .before .before .before .before .before .before .before .before .args .shape) (c .before .before .before .before .before .before .before .before .before .before .before .before .before .before .args .words .now) (c .before .before .before .before .before .before .before .before .before .before .before .before .before .before .args .bytes .now) (c .before .before .before .before .before .before .before .before .before .before .before .before .before .before .args .i) (rangesFrom (c .before .before .before .before .before .before .before .before .before .before .before .before .before .before .args .ranges .now) 0 (c .before .before .before .before .before .before .before .before .before .before .before .before .before .before .args .n)) (c .before .before .before .before .before .before .before .before .before .before .before .before .before .before .args .first) (c .before .before .before .before .before .before .before .before .before .before .before .before .before .before .args .back) (c .before .before .before .before .before .before .before .message-at .result) (c .before .before .before .before .before .before .before .before .before .loop .inv .0) (c .before .before .before .before .before .before .before .message-at .ensures) (c .before .before .before .before .before .before .kept-for .ensures) (c .before .before .before .before .before .before .before .before .before .before .before .before .before .before .pre .1 .1 .1 .1 .1) (c .before .before .before .before .counted .ensures .many) (c .before .before .enter .ensures), counts-on (c .before .before .before .before .before .before .before .before .before .before .before .before .before .before .args .shape) (c .before .before .before .before .before .before .before .before .before .before .before .before .before .before .args .words .now) (c .before .before .before .before .before .before .before .before .before .before .before .before .before .before .args .bytes .now) (c .before .before .before .before .before .before .before .before .before .before .before .before .before .before .args .i) (rangesFrom (c .before .before .before .before .before .before .before .before .before .before .before .before .before .before .args .ranges .now) 0 (c .before .before .before .before .before .before .before .before .before .before .before .before .before .before .args .n)) (c .before .before .before .before .before .before .before .before .before .before .before .before .before .before .args .first) (c .before .before .before .before .before .before .before .before .before .before .before .before .before .before .args .back) (c .before .before .before .before .before .before .before .before .before .loop .inv .1) (c .before .before .before .before .before .before .before .message-at .ensures) (c .before .before .before .before .before .before .kept-for .ensures) (c .before .before .before .before .counted .ensures))
+
+same-length : tie.Need-same-length Inv-loop μ-loop
+same-length c = c .before .loop .inv .0 .size
+
+returns : tie.Need-returns Inv-loop μ-loop
+returns c = record { written = fill-ends (c .before .before .before .before .before .before .args .shape) (c .before .before .before .before .before .before .args .words .now) (c .before .before .before .before .before .before .args .bytes .now) (c .before .before .before .before .before .before .args .i) (rangesFrom (c .before .before .before .before .before .before .args .ranges .now) 0 (c .before .before .before .before .before .before .args .n)) (c .before .before .before .before .before .before .args .first) (c .before .before .before .before .before .before .args .back) (omega arith) (c .before .loop .inv .0); counts = count-ends (c .before .before .before .before .before .before .args .shape) (c .before .before .before .before .before .before .args .words .now) (c .before .before .before .before .before .before .args .bytes .now) (c .before .before .before .before .before .before .args .i) (rangesFrom (c .before .before .before .before .before .before .args .ranges .now) 0 (c .before .before .before .before .before .before .args .n)) (c .before .before .before .before .before .before .args .first) (c .before .before .before .before .before .before .args .back) (omega arith) (c .before .loop .inv .1) }
+
+pub fill-spec : {M : Type 1} → statement M
+fill-spec =
+    tie.close
+    (tie.spec
+    Inv-loop
+    μ-loop
+    loop-holds
+    message-at-requires
+    kept-for-requires
+    add-size
+    counted-requires
+    enter-requires
+    loop-less
+    loop-again
+    same-length
+    returns)
