@@ -1,3 +1,4 @@
+pub mod Examples
 pub mod Largest
 pub mod Joins
 pub mod Steps

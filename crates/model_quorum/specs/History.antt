@@ -13,6 +13,13 @@ pub data Call : Type 0 where
   ack : ℕ → ℕ → ℕ → Call
   stale : ℕ → Call
 
+-- n standbys, at most five, and a quorum k from 1 to n
+abbrev pub maxMembers : ℕ
+maxMembers = 5
+
+abbrev pub isQuorum : ℕ → ℕ → Bool
+isQuorum n k = leb 1 n && (leb n maxMembers && (leb 1 k && leb k n))
+
 -- A history: the accepted calls, the latest first.
 
 -- whether handle h was bound
