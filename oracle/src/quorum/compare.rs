@@ -129,9 +129,14 @@ impl Judge {
         let handle = self.chance.of(handles);
         let last = history.sent(handle).last().copied().unwrap_or(0);
         let member = self.chance.below(n + u64::from(self.chance.0 % 8 == 0)) as usize;
+        if !history.is_bound(handle) && self.chance.below(3) == 0 {
+            return Call::Bind(handle);
+        }
         match self.chance.below(100) {
-            0..=5 => Call::Bind(handle),
-            6..=39 => Call::Sent(handle, last.wrapping_add(1)),
+            40..=93 if last == 0 && self.chance.below(4) > 0 => Call::Sent(handle, 1),
+            0..=2 if deposing => Call::Stale(member),
+            0..=3 => Call::Bind(handle),
+            4..=39 => Call::Sent(handle, last.wrapping_add(1)),
             40..=43 => Call::Sent(handle, self.chance.of(&[0, last, last.wrapping_add(2), u64::MAX])),
             44..=93 => Call::Ack(member, handle, self.chance.below(last.saturating_add(1)) + 1),
             94..=97 => Call::Ack(member, handle, self.chance.of(&[0, last.wrapping_add(1), u64::MAX])),
