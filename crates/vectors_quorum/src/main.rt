@@ -1,7 +1,7 @@
 // Replays recorded lines on an active with up to five standbys. What it must write was made by tests/make/quorum_vectors.py, which keeps
 // the whole history and counts over it. `n k` makes the state anew (written: nothing, or a refusal); `bind H`, `sent H N`,
-// `ack MEMBER H N`, `stale MEMBER`, `figure H` as in docs/SCRIPTS.md; `lend L` lends the first L words alone from then on; `word I V` sets
-// a word, for a state handed in with others.
+// `ack MEMBER H N`, `stale MEMBER`, `figure H` as in docs/SCRIPTS.md; `lend 0` lends an area one word too short from
+// then on, `lend 1` the first one again; `word I V` sets a word, for a state handed in with others.
 use frame::CommitNumber;
 use libc::STDIN_FILENO;
 use libc::STDOUT_FILENO;
@@ -92,39 +92,58 @@ fn call(words: &mut [u64], line: &[u8], first: u8, second: u8) {
     put_answer(active_quorum::stale_epoch(words, field(line, 1) as usize));
 }
 
-// One line; answers how many words are lent from then on.
-fn replay(words: &mut [u64], line: &[u8], lent: usize) -> usize {
+// A line on one area.
+fn replay(words: &mut [u64], line: &[u8]) {
     if line.len() < 2 {
-        return lent;
+        return;
     }
     let first = line[0];
-    if first == b'l' {
-        return field(line, 1) as usize;
-    }
     if first == b'w' {
         set_word(words, field(line, 1), field(line, 2));
+        return;
+    }
+    if first < b'a' {
+        make(words, line);
+        return;
+    }
+    call(words, line, first, line[1]);
+}
+
+// Which area is lent after a line.
+fn lent_after(line: &[u8], lent: u64) -> u64 {
+    if line.len() == 0 {
         return lent;
     }
-    let end = if words.len() < lent {
-        words.len()
+    if line[0] == b'l' {
+        field(line, 1)
     } else {
         lent
-    };
-    if first < b'a' {
-        make(&mut words[..end], line);
-        return lent;
     }
-    call(&mut words[..end], line, first, line[1]);
-    lent
+}
+
+// A line on the area that is lent.
+fn replay_on(words: &mut [u64], short: &mut [u64], line: &[u8], lent: u64) {
+    if line.len() == 0 {
+        return;
+    }
+    if line[0] == b'l' {
+        return;
+    }
+    if lent == 0 {
+        replay(short, line);
+        return;
+    }
+    replay(words, line);
 }
 
 // The lines of a script, one after the other.
-fn run(script: &[u8], words: &mut [u64]) {
+fn run(script: &[u8], words: &mut [u64], short: &mut [u64]) {
     let mut at: usize = 0;
-    let mut lent = words.len();
+    let mut lent: u64 = 1;
     while at < script.len() {
         let end = vectors_script::line_end(script, at);
-        lent = replay(words, &script[at..end], lent);
+        replay_on(words, short, &script[at..end], lent);
+        lent = lent_after(&script[at..end], lent);
         at = end + 1;
     }
 }
@@ -133,5 +152,6 @@ fn main() {
     let mut script = io::large_buffer();
     let n = io::read_full(STDIN_FILENO, &mut script);
     let mut words = [0u64; 2600];
-    run(&script[..n], &mut words);
+    let mut short = [0u64; 2563];
+    run(&script[..n], &mut words, &mut short);
 }

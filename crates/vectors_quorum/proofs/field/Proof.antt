@@ -1,47 +1,37 @@
+use borrow.Author.Needs.{needs}
+use Prim.Native.Nat.{_≤_}
 use Rattle.vectors_quorum.proofs.field.Statement.{statement}
 use Rattle.vectors_quorum.proofs.field.Tie as tie
-use Rattle.vectors_quorum.proofs.field.Reads as reads
-use Rattle.vectors_quorum.proofs.field.Lts as lts
-use Rattle.vectors_script.proofs.after.Reads as after-reads
-use Rattle.vectors_script.proofs.number_at.Reads as number-at-reads
 
 abbrev Inv-loop : tie.InvT-loop
-Inv-loop line k at₀ left₀ at left = ?
+Inv-loop line k at₀ left₀ at left = 0 ≤ left
 
 abbrev μ-loop : tie.MeasureT-loop
-μ-loop line k at₀ left₀ at left = ?
+μ-loop line k at₀ left₀ at left = left
 
--- src/main.rt:17:5
 loop-holds : tie.Need-loop-holds Inv-loop μ-loop
-loop-holds c = ?
+loop-holds c = search needs
 
--- src/main.rt:19:13
 returns : tie.Need-returns Inv-loop μ-loop
-returns c = ?
+returns c = search needs
 
--- src/main.rt:21:9
 after-requires : tie.Need-after-requires Inv-loop μ-loop
-after-requires c κs = ?
+after-requires c κs = search needs
 
--- src/main.rt:22:9
 sub-left : tie.Need-sub-left Inv-loop μ-loop
-sub-left c = ?
+sub-left c = search needs
 
--- src/main.rt:17:5
 loop-less : tie.Need-loop-less Inv-loop μ-loop
-loop-less c = ?
+loop-less c = search needs
 
--- src/main.rt:17:5
 loop-again : tie.Need-loop-again Inv-loop μ-loop
-loop-again c = ?
+loop-again c = search needs
 
--- src/main.rt:24:5
 number-at-requires : tie.Need-number-at-requires Inv-loop μ-loop
-number-at-requires c κs = ?
+number-at-requires c κs = search needs
 
--- src/main.rt:14:1
 returns-2 : tie.Need-returns-2 Inv-loop μ-loop
-returns-2 c = ?
+returns-2 c = search needs
 
 pub field-spec : {M : Type 1} → statement M
 field-spec =
