@@ -5,7 +5,7 @@ use mathlib.Core.List.{List, [], _∷_, _++_}
 use mathlib.Core.Option.{Option, none, some}
 use Prim.Native.Nat.{ℕ, zero, suc, _+_, _-_}
 use lib.Dec.{eqb, leb, ltb}
-use Rattle.model_quorum.specs.History.{Call, bind, sent, ack, stale, isQuorum, handles, lastSent, ackedBy, refusalOf, accepted}
+use Rattle.model_quorum.specs.History.{Call, bind, sent, ack, stale, isQuorum, handles, lastSent, ackedBy, untilDeposed, refusalOf, accepted}
 use Rattle.model_quorum.specs.Counts.{kept, shown, step, atLeast, largestOf}
 
 is : Option ℕ → ℕ → Bool
@@ -134,3 +134,12 @@ deposed = refl
 unmoved : is (shown (kept 3 1 (bind 7 ∷ stale 3 ∷ acks 3)) 7) 0 ≡ true
 unfolding is sends acks step refusalOf
 unmoved = refl
+
+-- a binding forgets every Ack before it, and once deposed the history before counts
+forgotten : ackedBy 3 7 1 (accepted 3 (bind 7 ∷ acks 3)) ≡ 0
+unfolding sends acks refusalOf
+forgotten = refl
+
+moment : ackedBy 3 7 3 (untilDeposed (accepted 3 after)) ≡ 1
+unfolding sends acks after refusalOf
+moment = refl
