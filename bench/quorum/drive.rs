@@ -168,7 +168,11 @@ fn row(name: &str, handles: &[u32]) -> bool {
         ours = ours.min(turn::<Ours>(handles));
         straight = straight.min(turn::<Straight>(handles));
     }
-    println!("{name:24} {:3} handles: {ours:6.1} ns, straight Rust {straight:6.1} ns, ratio {:.2}", handles.len(), ours / straight);
+    println!(
+        "{name:24} {:3} handles: {ours:6.1} ns, straight Rust {straight:6.1} ns, ratio {:.2}",
+        handles.len(),
+        ours / straight
+    );
     ours <= straight
 }
 

@@ -31,9 +31,30 @@ impl Chance {
 
 /// The answers that must come, each call with its ways.
 const WAYS: [&str; 24] = [
-    "make ok", "make 25", "make 37", "bind new", "bind again", "bind deposed", "bind 25", "bind 37", "sent ok", "sent 25",
-    "sent 37", "sent 38", "ack newer", "ack older", "ack deposed", "ack 25", "ack 37", "ack 38", "stale ok", "stale 25",
-    "stale 37", "figure", "figure 25", "figure 37",
+    "make ok",
+    "make 25",
+    "make 37",
+    "bind new",
+    "bind again",
+    "bind deposed",
+    "bind 25",
+    "bind 37",
+    "sent ok",
+    "sent 25",
+    "sent 37",
+    "sent 38",
+    "ack newer",
+    "ack older",
+    "ack deposed",
+    "ack 25",
+    "ack 37",
+    "ack 38",
+    "stale ok",
+    "stale 25",
+    "stale 37",
+    "figure",
+    "figure 25",
+    "figure 37",
 ];
 
 struct Judge {
@@ -187,7 +208,8 @@ impl Judge {
     fn broken(&mut self, words: &[u64], n: u64, handles: &[u32]) {
         let handle = self.chance.of(handles);
         let calls = [Call::Bind(handle), Call::Sent(handle, 1), Call::Ack(9, handle, 0), Call::Stale(9)];
-        let (at, value) = self.chance.of(&[(0, 0), (0, 6), (0, u64::MAX), (1, 0), (1, n + 1), (3, 257), (3, u64::MAX), (4, 0)]);
+        let (at, value) =
+            self.chance.of(&[(0, 0), (0, 6), (0, u64::MAX), (1, 0), (1, n + 1), (3, 257), (3, u64::MAX), (4, 0)]);
         let mut area = words.to_vec();
         if at == 4 {
             area.truncate(self.chance.below(ours::WORDS as u64) as usize);

@@ -113,7 +113,9 @@ impl Side for History {
         let Some(from) = Self::binding(handle, calls) else { return Ok(0) };
         let own = &calls[from..];
         let held = |call: &Call| match *call {
-            Call::Ack(_, on, number) if on == handle && Self::holders(own, handle, number) >= self.needed => Some(number),
+            Call::Ack(_, on, number) if on == handle && Self::holders(own, handle, number) >= self.needed => {
+                Some(number)
+            }
             _ => None,
         };
         Ok(own.iter().filter_map(held).max().unwrap_or(0))

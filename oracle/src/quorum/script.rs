@@ -13,7 +13,9 @@ fn call(words: &[&str]) -> Option<Call> {
     Some(match *name {
         "bind" => numbers(rest).and_then(|[on]| handle(on)).map(Call::Bind)?,
         "sent" => numbers(rest).and_then(|[on, number]| Some(Call::Sent(handle(on)?, number)))?,
-        "ack" => numbers(rest).and_then(|[member, on, number]| Some(Call::Ack(member as usize, handle(on)?, number)))?,
+        "ack" => {
+            numbers(rest).and_then(|[member, on, number]| Some(Call::Ack(member as usize, handle(on)?, number)))?
+        }
         "stale" => numbers(rest).map(|[member]| Call::Stale(member as usize))?,
         _ => return None,
     })
