@@ -1,0 +1,4 @@
+pub mod History
+pub mod Counts
+pub mod Claim
+pub mod Figures
