@@ -19,7 +19,7 @@ class Copy:
     checked: int = 1
     epoch: int = 1
     sessions: list[tuple[int, int]] = field(default_factory=list)
-    """The count of sessions in use; above PLACES it breaks the rules of the store."""
+    # How many sessions are in use, if not all of these; above PLACES it breaks the rules of the store.
     used: int | None = None
 
     def count(self) -> int:

@@ -22,6 +22,23 @@ use Rattle.model_choice.proofs.Choice.{both}
 use Rattle.model_choice.proofs.Keys.{counted, Numbered}
 use Rattle.standby_ahead.specs.Ahead.{hasNumber}
 
+-- ---- every store's numbers are at least 1
+
+at-least-1 : (s : Shape) (w b : List ℕ) (j : ℕ) → 1 ≤ placeAt s w b j .stored .session .nextOut
+unfolding placeAt placeIn sessionOf nextOutOf
+at-least-1 s w b j = omega arith
+
+each-at-least-1 : (s : Shape) (w b : List ℕ) (n k i : ℕ) (p : Place) → getElem? (countUp (placeAt s w b) k n) i ≡ some p → 1 ≤ p .stored .session .nextOut
+each-at-least-1 s w b zero k i p e = let z : _≡_ {A = ℕ} 0 1 = cc in omega arith
+each-at-least-1 s w b (suc n) k zero p e =
+    let same : placeAt s w b k ≡ p = cc in
+    omega (arith, at-least-1 s w b k, ap (λ (x : Place). x .stored .session .nextOut) same)
+each-at-least-1 s w b (suc n) k (suc i) p e = each-at-least-1 s w b n (suc k) i p e
+
+pub numbered : (s : Shape) (w b : List ℕ) → Numbered (placesOf s w b)
+unfolding placesOf
+numbered s w b i p e = each-at-least-1 s w b (getD w 0 0) 0 i p e
+
 -- ---- one place
 
 pub too-low : (k : Key) (n m : ℕ) (p : Place) → m ≡ p .stored .session .nextOut → m < n → false ≡ hasNumber k n p
@@ -42,9 +59,6 @@ reached s w b k n i less e h =
 passed : (k : Key) (n : ℕ) (p : Place) (ps : List Place) → hasNumber k n p ≡ false → leb n (nextOf k (p ∷ ps)) ≡ leb n (nextOf k ps)
 passed k n p ps h = go (sameKey k (p .key)) (leb n (p .stored .session .nextOut)) (leb n (nextOf k ps)) refl refl h
   where
-    m : ℕ
-    m = p .stored .session .nextOut
-
     go : (t u v : Bool) → leb n (p .stored .session .nextOut) ≡ u → leb n (nextOf k ps) ≡ v → (u && t) ≡ false → leb n (cond t (max (p .stored .session .nextOut) (nextOf k ps)) (nextOf k ps)) ≡ leb n (nextOf k ps)
     go false u v e f g = refl
     go true true v e f g = absurd (true≢false g)
