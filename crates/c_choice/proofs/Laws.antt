@@ -8,16 +8,28 @@ use lib.ListN.{length, getD}
 use lib.Dec.{eqb, leb, ltb}
 use borrow.Author.Tests.{eq-eqb, ne-eqb, le-leb, lt-leb, lt-ltb, le-ltb}
 use Rattle.model_choice.specs.Choice.{chosen}
+use Rattle.standby_choice.specs.declared.Copy.{Copy}
 use Rattle.standby_choice.specs.declared.Copies.{Copies}
 use Rattle.standby_choice.specs.declared.Choice.{Choice}
 use Rattle.standby_choice.specs.Choice.{copiesOf, areSound, Chooses}
-use Rattle.c_choice.specs.Choosing.{flagOf, copiesIn, codeOf, returned}
+use Rattle.c_choice.specs.Choosing.{flagOf, copyAt, copiesIn, codeOf, returned}
 
 pub flag-0 : (w : ℕ) → w ≡ 0 → 0 ≡ flagOf w
 flag-0 w e = sym (ap (λ (t : Bool). cond {A = ℕ} t 0 1) (eq-eqb w 0 e))
 
 pub flag-1 : (w : ℕ) → (w ≡ 0 → ⊥) → 1 ≡ flagOf w
 flag-1 w e = sym (ap (λ (t : Bool). cond {A = ℕ} t 0 1) (ne-eqb w 0 e))
+
+-- ---- copies as words
+
+pub copy-is : (ws : List ℕ) (at : ℕ) {l c s b m : ℕ} → l ≡ flagOf (getD ws at 0) → c ≡ flagOf (getD ws (at + 1) 0) → s ≡ min (getD ws (at + 3) 0) 4294967295 → b ≡ min (getD ws (at + 4) 0) 4294967295
+    → m ≡ min (getD ws (at + 5) 0) 4294967295
+    → _≡_ {A = Copy} (record { listed = l; checked = c; epoch = record { 0 = getD ws (at + 2) 0 }; shape = record { places = s; bytes = b; messages = m } }) (copyAt ws at)
+copy-is ws at el ec es eb em = λ j. record { listed = el j; checked = ec j; epoch = record { 0 = getD ws (at + 2) 0 }; shape = record { places = es j; bytes = eb j; messages = em j } }
+
+pub copies-are : (ws : List ℕ) {c0 c1 c2 c3 c4 : Copy} → c0 ≡ copyAt ws 0 → c1 ≡ copyAt ws 6 → c2 ≡ copyAt ws 12 → c3 ≡ copyAt ws 18 → c4 ≡ copyAt ws 24
+    → _≡_ {A = Copies} (record { 0 = c0; 1 = c1; 2 = c2; 3 = c3; 4 = c4 }) (copiesIn ws)
+copies-are ws e0 e1 e2 e3 e4 = λ j. record { 0 = e0 j; 1 = e1 j; 2 = e2 j; 3 = e3 j; 4 = e4 j }
 
 -- ---- the code of a refusal and of a copy
 
