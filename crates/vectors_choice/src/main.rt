@@ -50,6 +50,23 @@ fn put(c: Choice) {
     io::write_all(STDOUT_FILENO, b"\n");
 }
 
+// The choice over areas of this length.
+fn decide(
+    cs: Copies,
+    w0: &[u64; 114],
+    b0: &[u8; 672],
+    w1: &[u64; 114],
+    b1: &[u8; 672],
+    w2: &[u64; 114],
+    b2: &[u8; 672],
+    w3: &[u64; 114],
+    b3: &[u8; 672],
+    w4: &[u64; 114],
+    b4: &[u8; 672],
+) -> Choice {
+    standby_choice::choose(cs, w0, b0, w1, b1, w2, b2, w3, b3, w4, b4)
+}
+
 // One set.
 fn choose(line: &[u8]) {
     let mut w0 = [0; 114];
@@ -68,7 +85,7 @@ fn choose(line: &[u8]) {
     let mut b4 = [0; 672];
     let fifth = copy(line, 40, &mut w4, &mut b4);
     let cs = Copies(first, second, third, fourth, fifth);
-    put(standby_choice::choose(cs, &w0, &b0, &w1, &b1, &w2, &b2, &w3, &b3, &w4, &b4));
+    put(decide(cs, &w0, &b0, &w1, &b1, &w2, &b2, &w3, &b3, &w4, &b4));
 }
 
 // The lines of a script, one after the other.
