@@ -47,6 +47,13 @@ too-low k n m p e h = sym (ap (λ (t : Bool). t && sameKey k (p .key)) (lt-leb n
 pub high-enough : (k : Key) (n m : ℕ) (p : Place) {t : Bool} → m ≡ p .stored .session .nextOut → n ≤ m → t ≡ sameKey k (p .key) → t ≡ hasNumber k n p
 high-enough k n m p e h s = s ∙ sym (ap (λ (t : Bool). t && sameKey k (p .key)) (le-leb n (p .stored .session .nextOut) (omega (arith, e))))
 
+pub another-key : (k : Key) (n : ℕ) (p : Place) → false ≡ sameKey k (p .key) → false ≡ hasNumber k n p
+another-key k n p e = go (leb n (p .stored .session .nextOut)) e
+  where
+    go : (t : Bool) → false ≡ sameKey k (p .key) → false ≡ (t && sameKey k (p .key))
+    go true e = e
+    go false e = refl
+
 -- a place that has it
 pub reached : (s : Shape) (w b : List ℕ) (k : Key) (n i : ℕ) {t : Bool} → i < getD w 0 0 → t ≡ hasNumber k n (placeAt s w b i) → t ≡ true → true ≡ leb n (nextOf k (placesOf s w b))
 reached s w b k n i less e h =

@@ -1,12 +1,12 @@
 -- What the functions over two stores answer. Assumes nothing.
 use mathlib.Core.Path.{_≡_}
-use Prim.Native.Nat.{ℕ, _-_, _≤_}
-use mathlib.Core.Bool.{Bool, _&&_}
+use Prim.Native.Nat.{ℕ, _-_, _≤_, min}
+use mathlib.Core.Bool.{Bool, false, _&&_}
 use mathlib.Core.List.{List}
 use lib.ListN.{length, take, drop}
 use lib.Dec.{leb}
 use Rattle.model_frame.specs.Frame.{Key}
-use Rattle.model_standby.specs.Store.{Place, sameKey}
+use Rattle.model_standby.specs.Store.{Place, sameBytes, sameKey}
 use Rattle.store_place.specs.Place.{keyFrom}
 use Rattle.store_areas.specs.declared.Shape.{Shape}
 use Rattle.store_areas.specs.Areas.{placeAt}
@@ -15,6 +15,10 @@ use Rattle.standby_ahead.specs.declared.KeyAt.{KeyAt}
 -- a place with this key and at least the number n
 abbrev pub hasNumber : Key → ℕ → Place → Bool
 hasNumber k n p = leb n (p .stored .session .nextOut) && sameKey k (p .key)
+
+-- a text that isn't at `at`, whatever its length there
+abbrev pub MayBe : List ℕ → ℕ → List ℕ → Bool → Type 0
+MayBe b at text t = t ≡ false → (m : ℕ) → sameBytes text (take (min m 32) (drop at b)) ≡ false
 
 -- the elements from a to e
 abbrev pub cut : ℕ → ℕ → List ℕ → List ℕ

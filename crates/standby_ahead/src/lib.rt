@@ -6,7 +6,7 @@ ghost use lib.Dec.{leb};
 ghost use Rattle.store_place.specs.Place.{keyFrom};
 ghost use Rattle.store_areas.specs.Areas.{Rules, placeAt, placesOf};
 ghost use Rattle.model_choice.specs.Choice.{nextOf, isAhead};
-ghost use Rattle.standby_ahead.specs.Ahead.{hasNumber, KeyIs};
+ghost use Rattle.standby_ahead.specs.Ahead.{hasNumber, KeyIs, MayBe};
 use store_areas::Shape;
 
 // Where the four texts of a key stand in the byte area.
@@ -54,6 +54,21 @@ fn key_at(words: &[u64], bytes: &[u8], shape: Shape, i: usize) -> KeyAt
     }
 }
 
+// Whether the target text that begins at `at` can be this one: where this one ends, it has the same byte.
+fn may_be_target(bytes: &[u8], at: usize, target: &[u8]) -> bool
+    requires { ⌜ at + 32 ≤ length (now bytes) ⌝ }
+    ensures { λ r. ⌜ MayBe (now (bytes .entry)) at (now (target .entry)) r ⌝ }
+{
+    let n = target.len();
+    if n == 0 {
+        return true;
+    }
+    if 32 < n {
+        return true;
+    }
+    target[n - 1] == bytes[at + n - 1]
+}
+
 // Whether place i has this key and at least the number n.
 fn has_number(
     words: &[u64],
@@ -78,6 +93,9 @@ fn has_number(
     let we = p.we;
     let ba = p.ba;
     let be = p.be;
+    if !may_be_target(bytes, ba + 64, target) {
+        return false;
+    }
     store_place::has_key(
         &words[wa..we],
         &bytes[ba..be],
