@@ -1,0 +1,2 @@
+-- The answer as a code.
+pub mod Laws

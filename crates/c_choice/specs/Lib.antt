@@ -1,0 +1,2 @@
+-- What the choice takes from C and returns.
+pub mod Choosing

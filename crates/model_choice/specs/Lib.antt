@@ -1,0 +1,2 @@
+-- Which copy takes over.
+pub mod Choice

@@ -1,0 +1,3 @@
+-- Keys, numbers and the two loops.
+pub mod Keys
+pub mod Numbers

@@ -1,0 +1,2 @@
+-- What the functions over two stores answer.
+pub mod Ahead

@@ -1,0 +1,2 @@
+-- Candidates, five tests together, the first that fits.
+pub mod Laws

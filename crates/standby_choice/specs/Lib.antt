@@ -1,0 +1,2 @@
+-- What the choice promises.
+pub mod Choice
