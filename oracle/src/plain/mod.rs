@@ -329,7 +329,7 @@ pub fn said(counters: &mut Counters, areas: &mut Areas, settings: Settings, ask:
         c: c.into(),
         m: m.into(),
         incarnation: settings.incarnation.max(1),
-        lag: settings.lag,
+        lag: settings.max_lag,
     };
     let answer = match ask {
         Ask::Held(frame) => standby.on_frame(frame, true),
