@@ -6,49 +6,39 @@ use Rattle.frames.proofs.tell.Tie as tie
 use Rattle.frames.proofs.tell.Reads as reads
 use Rattle.frames.proofs.tell.Lts as lts
 use Rattle.frames_line.proofs.answer_line.Reads as answer-line-reads
-use Rattle.io.proofs.write_all.Reads as write-all-reads
+use Rattle.frames.proofs.add.Reads as add-reads
+use Rattle.frames.proofs.make_room.Reads as make-room-reads
 
--- src/main.rt:29:9
 answer-line-requires : tie.Need-answer-line-requires
 answer-line-requires c κs = search needs
 
--- src/main.rt:31:34
-sub-write-all : tie.Need-sub-write-all
-sub-write-all c = search needs
+make-room-requires : tie.Need-make-room-requires
+make-room-requires c κs = search needs
 
--- src/main.rt:31:34
-part-write-all-start : tie.Need-part-write-all-start
-part-write-all-start c = search needs
+sub-add : tie.Need-sub-add
+sub-add c = search needs
 
--- src/main.rt:31:34
-part-write-all-end : tie.Need-part-write-all-end
-part-write-all-end c = omega (arith, told-fits (c .before .before .before .before .before .before .before .answer-line .ensures))
+part-add-start : tie.Need-part-add-start
+part-add-start c = search needs
 
--- src/main.rt:31:5
-write-all-requires : tie.Need-write-all-requires
-write-all-requires c κs = search needs
+part-add-end : tie.Need-part-add-end
+part-add-end c = omega (arith, told-fits (c .before .before .before .before .before .before .before .before .before .before .before .before .answer-line .ensures))
 
--- src/main.rt:32:34
-slice-aggregate-write-all : tie.Need-slice-aggregate-write-all
-slice-aggregate-write-all c = search needs
+add-requires : tie.Need-add-requires
+add-requires c κs = search needs
 
--- src/main.rt:32:5
-write-all-requires-2 : tie.Need-write-all-requires-2
-write-all-requires-2 c κs = search needs
-
--- src/main.rt:22:1
 same-length : tie.Need-same-length
 same-length c = search needs
 
--- src/main.rt:22:1
 same-length-2 : tie.Need-same-length-2
 same-length-2 c = search needs
 
--- src/main.rt:22:1
 same-length-3 : tie.Need-same-length-3
 same-length-3 c = search needs
 
--- src/main.rt:22:1
+same-length-4 : tie.Need-same-length-4
+same-length-4 c = search needs
+
 returns : tie.Need-returns
 returns c = search needs
 
@@ -57,13 +47,13 @@ tell-spec =
     tie.close
     (tie.spec
     answer-line-requires
-    sub-write-all
-    part-write-all-start
-    part-write-all-end
-    write-all-requires
-    slice-aggregate-write-all
-    write-all-requires-2
+    make-room-requires
+    sub-add
+    part-add-start
+    part-add-end
+    add-requires
     same-length
     same-length-2
     same-length-3
+    same-length-4
     returns)
