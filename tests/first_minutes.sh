@@ -186,7 +186,7 @@ git -C "$copy" -c user.name=test -c user.email=test commit -q -m test
 name=wizhdulet-$(cat "$root/VERSION")-x86_64-linux
 path=$place/kit:$tools
 run 1 bin/release
-said "release: no file of the gate (target/gate.txt): run .ci/run first, about 40 minutes"
+said "release: no file of the gate (target/gate.txt): run .ci/run first, some 70 minutes"
 commit=$(git -C "$copy" rev-parse HEAD)
 printf '99 passed, 1 failed\ncommit %s\n' "$commit" >"$place/gate"
 run 1 bin/release "$place/gate"
