@@ -95,6 +95,17 @@ fn is_long(at: usize, b: u8) -> bool {
     is_utf8(&s)
 }
 
+// The byte b before following bytes 80, one more than `following` in all.
+fn is_led(following: u8, b: u8) -> bool {
+    match following {
+        0 => is_utf8(&[b]),
+        1 => is_utf8(&[b, 0x80]),
+        2 => is_utf8(&[b, 0x80, 0x80]),
+        3 => is_utf8(&[b, 0x80, 0x80, 0x80]),
+        _ => is_utf8(&[b, 0x80, 0x80, 0x80, 0x80]),
+    }
+}
+
 // The input of that number and shape: its bytes, or its first byte and another with what goes around them.
 fn is_shape(shape: u8, k: u64) -> bool {
     let a = (k / 256 % 256) as u8;
@@ -108,6 +119,7 @@ fn is_shape(shape: u8, k: u64) -> bool {
         6 => is_utf8(&[a, 0x90, b, 0x80]),
         7 => is_utf8(&[a, 0x90, 0x80, b]),
         8 => is_utf8(&[a, 0x8F, 0xBF, b]),
+        9 => is_led(a, b),
         _ => is_long(a as usize, b),
     }
 }
@@ -224,7 +236,8 @@ fn inputs() {
     sweep(b"first and third, after 90", 6, 65536);
     sweep(b"first and last, after 90 80", 7, 65536);
     sweep(b"first and last, after 8F BF", 8, 65536);
-    sweep(b"a byte in 80 of ASCII", 9, 20480);
+    sweep(b"first bytes, then 80, of one to five bytes", 9, 1280);
+    sweep(b"a byte in 80 of ASCII", 10, 20480);
 }
 
 fn main() {
