@@ -67,9 +67,12 @@ fn call(line: &[u8], lease: &mut [u64; 4]) {
         b'd' => put_due(c_lease::wz_lease_renewal(lease, n)),
         b't' => {
             let time = vectors_script::number_at(line, third);
-            let refusal =
-                c_lease::wz_lease_attempt(lease, n, time, outcome(letter(line, fourth)));
-            put_tried(refusal, lease[c_lease::word::UNTIL], lease[c_lease::word::LOST]);
+            let refusal = c_lease::wz_lease_attempt(lease, n, time, outcome(letter(line, fourth)));
+            put_tried(
+                refusal,
+                lease[c_lease::word::UNTIL],
+                lease[c_lease::word::LOST],
+            );
         }
         _ => c_lease::wz_lease_new(lease, vectors_script::number_at(line, 0), n),
     }

@@ -4,14 +4,10 @@ use mathlib.Core.Bool.{Bool, cond, not}
 use borrow.Author.Tests.{eq-eqb, ne-eqb}
 use Rattle.c_lease.proofs.flag_after.Statement.{statement}
 use Rattle.c_lease.proofs.flag_after.Tie as tie
-use Rattle.c_lease.proofs.flag_after.Reads as reads
-use Rattle.c_lease.proofs.flag_after.Lts as lts
 
--- src/lib.rt:87:1
 returns : tie.Need-returns
 returns c = sym (ap (λ (b : Bool). cond (not b) (c .before .args .word) (c .before .args .lost)) (eq-eqb (c .before .args .word) 0 (c .if1 .taken)))
 
--- src/lib.rt:87:1
 returns-2 : tie.Need-returns-2
 returns-2 c = sym (ap (λ (b : Bool). cond (not b) (c .before .args .word) (c .before .args .lost)) (ne-eqb (c .before .args .word) 0 (c .if1 .left)))
 

@@ -4,14 +4,10 @@ use borrow.Author.Tests.{eq-eqb, ne-eqb}
 use Rattle.active_lease.specs.Held.{byte}
 use Rattle.c_lease.proofs.flag_of.Statement.{statement}
 use Rattle.c_lease.proofs.flag_of.Tie as tie
-use Rattle.c_lease.proofs.flag_of.Reads as reads
-use Rattle.c_lease.proofs.flag_of.Lts as lts
 
--- src/lib.rt:42:1
 returns : tie.Need-returns
 returns c = sym (ap (λ (b : Bool). byte (not b)) (eq-eqb (c .before .args .word) 0 (c .if1 .taken)))
 
--- src/lib.rt:42:1
 returns-2 : tie.Need-returns-2
 returns-2 c = sym (ap (λ (b : Bool). byte (not b)) (ne-eqb (c .before .args .word) 0 (c .if1 .left)))
 
