@@ -55,7 +55,7 @@ fn now() -> f64 {
 
 const MESSAGES: u64 = 65_536;
 const LENGTH: usize = 300;
-const ROUNDS: usize = 200;
+const ROUNDS: usize = 300;
 
 struct Store {
     words: Vec<u64>,
@@ -114,17 +114,18 @@ fn plain(messages: &[(u64, usize)], ranges: &[u64], out: &mut Vec<(u64, u64)>) -
     sum
 }
 
-/// The least of two works, which take turns: other programs may run beside this one.
-fn least(mut first: impl FnMut(), mut second: impl FnMut()) -> (f64, f64) {
-    let mut least = (f64::MAX, f64::MAX);
-    for _ in 0..ROUNDS {
-        let begun = now();
-        first();
-        let between = now();
-        second();
-        least = (least.0.min(between - begun), least.1.min(now() - between));
-    }
-    least
+/// Nanoseconds a call, in rounds of so many: the round below which one in a hundred lies. Other programs may run beside this one, and
+/// the least of all can be a single false reading of the clock.
+fn time(calls: usize, mut work: impl FnMut()) -> f64 {
+    let mut rounds: Vec<f64> = (0..ROUNDS)
+        .map(|_| {
+            let begun = now();
+            (0..calls).for_each(|_| work());
+            (now() - begun) / calls as f64
+        })
+        .collect();
+    rounds.sort_by(f64::total_cmp);
+    rounds[ROUNDS / 100]
 }
 
 fn main() {
@@ -148,14 +149,14 @@ fn main() {
         assert_eq!((said.refusal, said.length, said.bytes), (0, list.len(), sum), "{name}");
         let listed = entries.chunks_exact(6).map(|entry| (entry[0], entry[1]));
         assert!(listed.take(said.length).eq(list.iter().copied()), "{name}");
-        let (ours, tests) = least(
-            || {
-                black_box(store.list(black_box(&ranges), &mut entries));
-            },
-            || {
-                black_box(plain(black_box(&messages), &ranges, &mut list));
-            },
-        );
+        // A list that is short is asked for again and again in a round, so that the clock's own time counts for nothing.
+        let calls = 1 + 10_000 / (1 + said.length);
+        let ours = time(calls, || {
+            black_box(store.list(black_box(&ranges), &mut entries));
+        });
+        let tests = time(1, || {
+            black_box(plain(black_box(&messages), &ranges, &mut list));
+        });
         if one == 0.0 {
             one = ours;
         }

@@ -227,7 +227,7 @@ fn search(
     n <= 1
 }
 
-// The same; place `first` is tried before all others.
+// The same; every number is at least 1, and place `first` is tried before all others.
 fn reaches(
     words: &[u64],
     bytes: &[u8],
@@ -244,6 +244,9 @@ fn reaches(
     requires { ⌜ Prints shape (now words) (now bytes) (now prints) ⌝ }
     ensures { λ r. ⌜ r ≡ leb n (nextOf (keyFrom (now (begin .entry)) (now (sender .entry)) (now (target .entry)) (now (suffix .entry))) (placesOf shape (now (words .entry)) (now (bytes .entry)))) ⌝ }
 {
+    if n <= 1 {
+        return true;
+    }
     if first < words[0] as usize {
         if has_number(words, bytes, shape, first, begin, sender, target, suffix, n) {
             return true;

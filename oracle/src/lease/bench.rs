@@ -28,17 +28,20 @@ fn moment() -> f64 {
     it.seconds as f64 * 1e9 + it.nanoseconds as f64
 }
 
-/// Nanoseconds a call: the least of many short rounds, since other programs may run beside this one.
+/// Nanoseconds a call: the round below which one in a hundred lies. Other programs may run beside this one, and the least of all can be
+/// a single false reading of the clock.
 fn time(mut call: impl FnMut(usize)) -> f64 {
-    let mut least = f64::INFINITY;
-    for _ in 0..ROUNDS {
-        let began = moment();
-        for i in 0..CALLS {
-            call(i);
-        }
-        least = least.min((moment() - began) / CALLS as f64);
-    }
-    least
+    let mut rounds: Vec<f64> = (0..ROUNDS)
+        .map(|_| {
+            let began = moment();
+            for i in 0..CALLS {
+                call(i);
+            }
+            (moment() - began) / CALLS as f64
+        })
+        .collect();
+    rounds.sort_by(f64::total_cmp);
+    rounds[ROUNDS / 100]
 }
 
 /// Our calls on some leases of this duration in turn, at a time that never falls.
