@@ -1,3 +1,4 @@
--- Keys, numbers and the two loops.
+-- Keys, numbers and the two loops, fingerprints.
 pub mod Keys
 pub mod Numbers
+pub mod Prints

@@ -72,6 +72,18 @@ passed k n p ps h = go (sameKey k (p .key)) (leb n (p .stored .session .nextOut)
     go true false true e f g = le-leb n (max (p .stored .session .nextOut) (nextOf k ps)) (omega (arith, leb-true n (nextOf k ps) f)) ∙ sym f
     go true false false e f g = lt-leb n (max (p .stored .session .nextOut) (nextOf k ps)) (omega (arith, leb-false n (p .stored .session .nextOut) e, leb-false n (nextOf k ps) f)) ∙ sym f
 
+-- a number of 1 is reached by every store, also one that lacks the session
+one-at-least : (k : Key) (ps : List Place) → 1 ≤ nextOf k ps
+one-at-least k [] = omega arith
+one-at-least k (p ∷ ps) = go (sameKey k (p .key)) (one-at-least k ps)
+  where
+    go : (t : Bool) → 1 ≤ nextOf k ps → 1 ≤ cond t (max (p .stored .session .nextOut) (nextOf k ps)) (nextOf k ps)
+    go true h = omega (arith, h)
+    go false h = h
+
+pub low-enough : (k : Key) (n : ℕ) (ps : List Place) → n ≤ 1 → true ≡ leb n (nextOf k ps)
+low-enough k n ps h = sym (le-leb n (nextOf k ps) (omega (arith, h, one-at-least k ps)))
+
 -- ---- the search over mine
 
 module _ (s : Shape) (w b : List ℕ) (k : Key) (n : ℕ) where

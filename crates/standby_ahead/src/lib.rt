@@ -6,7 +6,7 @@ ghost use lib.Dec.{leb};
 ghost use Rattle.store_place.specs.Place.{keyFrom};
 ghost use Rattle.store_areas.specs.Areas.{Rules, placeAt, placesOf};
 ghost use Rattle.model_choice.specs.Choice.{nextOf, isAhead};
-ghost use Rattle.standby_ahead.specs.Ahead.{hasNumber, KeyIs, MayBe};
+ghost use Rattle.standby_ahead.specs.Ahead.{hasNumber, KeyIs, printOf, Prints, Differs};
 use store_areas::Shape;
 
 // Where the four texts of a key stand in the byte area.
@@ -54,20 +54,77 @@ fn key_at(words: &[u64], bytes: &[u8], shape: Shape, i: usize) -> KeyAt
     }
 }
 
-// Whether the target text that begins at `at` can be this one: where this one ends, it has the same byte.
-fn may_be_target(bytes: &[u8], at: usize, target: &[u8]) -> bool
-    requires { ⌜ at + 32 ≤ length (now bytes) ⌝ }
-    ensures { λ r. ⌜ MayBe (now (bytes .entry)) at (now (target .entry)) r ⌝ }
+// ---- fingerprints: places whose key has another one are passed over
+
+// The first places of a store have their fingerprints kept, so many.
+const KEPT: usize = 256;
+
+// The fingerprint of a key: FNV-1a over its texts.
+fn print_of(begin: &[u8], sender: &[u8], target: &[u8], suffix: &[u8]) -> u64
+    ensures { λ r. ⌜ r ≡ printOf (keyFrom (now (begin .entry)) (now (sender .entry)) (now (target .entry)) (now (suffix .entry))) ⌝ }
 {
-    let n = target.len();
-    if n == 0 {
-        return true;
-    }
-    if 32 < n {
-        return true;
-    }
-    target[n - 1] == bytes[at + n - 1]
+    let a = store_log::fnv::bytes(0xcbf2_9ce4_8422_2325, begin);
+    let b = store_log::fnv::bytes(a, sender);
+    let c = store_log::fnv::bytes(b, target);
+    store_log::fnv::bytes(c, suffix)
 }
+
+// That of the key of a place in use.
+fn print_at(words: &[u64], bytes: &[u8], shape: Shape, i: usize) -> u64
+    requires { ⌜ Rules shape (now words) (now bytes) ⌝ }
+    requires { ⌜ i < getD (now words) 0 0 ⌝ }
+    ensures { λ r. ⌜ r ≡ printOf (placeAt shape (now (words .entry)) (now (bytes .entry)) i .key) ⌝ }
+{
+    let k = key_at(words, bytes, shape, i);
+    let a = k.begin;
+    let a_end = k.begin_end;
+    let b = k.sender;
+    let b_end = k.sender_end;
+    let c = k.target;
+    let c_end = k.target_end;
+    let d = k.suffix;
+    let d_end = k.suffix_end;
+    print_of(
+        &bytes[a..a_end],
+        &bytes[b..b_end],
+        &bytes[c..c_end],
+        &bytes[d..d_end],
+    )
+}
+
+// How many of so many places have theirs kept.
+fn at_most_kept(n: usize) -> usize
+    ensures { λ r. ⌜ r ≡ min n 256 ⌝ }
+{
+    if n < KEPT { n } else { KEPT }
+}
+
+// Those of the first places in use.
+fn prints_of(words: &[u64], bytes: &[u8], shape: Shape) -> [u64; 256]
+    requires { ⌜ Rules shape (now words) (now bytes) ⌝ }
+    ensures { λ r. ⌜ Prints shape (now (words .entry)) (now (bytes .entry)) r ⌝ }
+{
+    let n = at_most_kept(words[0] as usize);
+    let mut out = [0; 256];
+    let mut i: usize = 0;
+    while i < n {
+        out[i] = print_at(words, bytes, shape, i);
+        i += 1;
+    }
+    out
+}
+
+// Whether place i can have the key of this fingerprint.
+fn may_be(prints: &[u64; 256], i: usize, print: u64) -> bool
+    ensures { λ r. ⌜ Differs (now (prints .entry)) i print r ⌝ }
+{
+    if KEPT <= i {
+        return true;
+    }
+    prints[i] == print
+}
+
+// ---- one session
 
 // Whether place i has this key and at least the number n.
 fn has_number(
@@ -93,9 +150,6 @@ fn has_number(
     let words_end = p.words_end;
     let bytes_start = p.bytes_start;
     let bytes_end = p.bytes_end;
-    if !may_be_target(bytes, bytes_start + store_place::byte::TARGET, target) {
-        return false;
-    }
     store_place::has_key(
         &words[words_start..words_end],
         &bytes[bytes_start..bytes_end],
@@ -106,11 +160,14 @@ fn has_number(
     )
 }
 
-// Whether the number of a key's session is at least n; one that the store lacks counts as 1.
-fn search(
+// The same, of a key with this fingerprint.
+fn found_at(
     words: &[u64],
     bytes: &[u8],
     shape: Shape,
+    prints: &[u64; 256],
+    print: u64,
+    i: usize,
     begin: &[u8],
     sender: &[u8],
     target: &[u8],
@@ -118,12 +175,51 @@ fn search(
     n: u64,
 ) -> bool
     requires { ⌜ Rules shape (now words) (now bytes) ⌝ }
+    requires { ⌜ i < getD (now words) 0 0 ⌝ }
+    requires { ⌜ Prints shape (now words) (now bytes) (now prints) ⌝ }
+    requires { ⌜ print ≡ printOf (keyFrom (now begin) (now sender) (now target) (now suffix)) ⌝ }
+    ensures { λ r. ⌜ r ≡ hasNumber (keyFrom (now (begin .entry)) (now (sender .entry)) (now (target .entry)) (now (suffix .entry))) n (placeAt shape (now (words .entry)) (now (bytes .entry)) i) ⌝ }
+{
+    if !may_be(prints, i, print) {
+        return false;
+    }
+    has_number(words, bytes, shape, i, begin, sender, target, suffix, n)
+}
+
+// Whether the number of a key's session is at least n; one that the store lacks counts as 1.
+fn search(
+    words: &[u64],
+    bytes: &[u8],
+    shape: Shape,
+    prints: &[u64; 256],
+    print: u64,
+    begin: &[u8],
+    sender: &[u8],
+    target: &[u8],
+    suffix: &[u8],
+    n: u64,
+) -> bool
+    requires { ⌜ Rules shape (now words) (now bytes) ⌝ }
+    requires { ⌜ Prints shape (now words) (now bytes) (now prints) ⌝ }
+    requires { ⌜ print ≡ printOf (keyFrom (now begin) (now sender) (now target) (now suffix)) ⌝ }
     ensures { λ r. ⌜ r ≡ leb n (nextOf (keyFrom (now (begin .entry)) (now (sender .entry)) (now (target .entry)) (now (suffix .entry))) (placesOf shape (now (words .entry)) (now (bytes .entry)))) ⌝ }
 {
     let used = words[0] as usize;
     let mut i: usize = 0;
     while i < used {
-        if has_number(words, bytes, shape, i, begin, sender, target, suffix, n) {
+        if found_at(
+            words,
+            bytes,
+            shape,
+            prints,
+            print,
+            i,
+            begin,
+            sender,
+            target,
+            suffix,
+            n,
+        ) {
             return true;
         }
         i += 1;
@@ -131,11 +227,12 @@ fn search(
     n <= 1
 }
 
-// The same; place `first` is tried before all others.
+// The same; every number is at least 1, and place `first` is tried before all others.
 fn reaches(
     words: &[u64],
     bytes: &[u8],
     shape: Shape,
+    prints: &[u64; 256],
     first: usize,
     begin: &[u8],
     sender: &[u8],
@@ -144,14 +241,30 @@ fn reaches(
     n: u64,
 ) -> bool
     requires { ⌜ Rules shape (now words) (now bytes) ⌝ }
+    requires { ⌜ Prints shape (now words) (now bytes) (now prints) ⌝ }
     ensures { λ r. ⌜ r ≡ leb n (nextOf (keyFrom (now (begin .entry)) (now (sender .entry)) (now (target .entry)) (now (suffix .entry))) (placesOf shape (now (words .entry)) (now (bytes .entry)))) ⌝ }
 {
+    if n <= 1 {
+        return true;
+    }
     if first < words[0] as usize {
         if has_number(words, bytes, shape, first, begin, sender, target, suffix, n) {
             return true;
         }
     }
-    search(words, bytes, shape, begin, sender, target, suffix, n)
+    let print = print_of(begin, sender, target, suffix);
+    search(
+        words,
+        bytes,
+        shape,
+        prints,
+        print,
+        begin,
+        sender,
+        target,
+        suffix,
+        n,
+    )
 }
 
 // Whether the number of the session at place p of theirs is at most mine.
@@ -159,12 +272,14 @@ fn is_ahead_at(
     words: &[u64],
     bytes: &[u8],
     shape: Shape,
+    prints: &[u64; 256],
     their_words: &[u64],
     their_bytes: &[u8],
     their_shape: Shape,
     p: usize,
 ) -> bool
     requires { ⌜ Rules shape (now words) (now bytes) ⌝ }
+    requires { ⌜ Prints shape (now words) (now bytes) (now prints) ⌝ }
     requires { ⌜ Rules «their_shape» (now «their_words») (now «their_bytes») ⌝ }
     requires { ⌜ p < getD (now «their_words») 0 0 ⌝ }
     ensures { λ r. ⌜ r ≡ leb (placeAt «their_shape» (now («their_words» .entry)) (now («their_bytes» .entry)) p .stored .session .nextOut) (nextOf (placeAt «their_shape» (now («their_words» .entry)) (now («their_bytes» .entry)) p .key) (placesOf shape (now (words .entry)) (now (bytes .entry)))) ⌝ }
@@ -183,6 +298,7 @@ fn is_ahead_at(
         words,
         bytes,
         shape,
+        prints,
         p,
         &their_bytes[a..a_end],
         &their_bytes[b..b_end],
@@ -205,6 +321,7 @@ pub fn is_ahead(
     requires { ⌜ Rules «their_shape» (now «their_words») (now «their_bytes») ⌝ }
     ensures { λ r. ⌜ r ≡ isAhead (placesOf shape (now (words .entry)) (now (bytes .entry))) (placesOf «their_shape» (now («their_words» .entry)) (now («their_bytes» .entry))) ⌝ }
 {
+    let prints = prints_of(words, bytes, shape);
     let used = their_words[0] as usize;
     let mut p: usize = 0;
     while p < used {
@@ -212,6 +329,7 @@ pub fn is_ahead(
             words,
             bytes,
             shape,
+            &prints,
             their_words,
             their_bytes,
             their_shape,

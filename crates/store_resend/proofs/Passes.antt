@@ -19,6 +19,7 @@ use Rattle.store_areas.specs.Areas.{inUse, placeAt, slice, wordsAt, placeWords,
 use Rattle.store_sessions.specs.declared.Message.{Message}
 use Rattle.store_sessions.specs.Answers.{restAt, PositionAt, FromAt, NextMessageAt}
 use Rattle.store_resend.specs.Ranges.{rangesFrom, rangesOf, messagesAt, Keeps, Serves, Counts, Adds, ListEntry, entryWords, wordsOf, servedAt, isInside, allInside, Written, entryOf, entered, HasRoom, Fills, Lists, lowestOf, top}
+use Rattle.store_resend.specs.Passes.{Counting, Filling, Begun, Carries, PassesOver}
 use Rattle.store_resend.specs.declared.Kept.{Kept}
 use Rattle.store_resend.specs.declared.Tally.{Tally}
 use Rattle.store_resend.specs.declared.Listed.{Listed}
@@ -123,15 +124,7 @@ module _ (s : Shape) (w b : List ℕ) (i : ℕ) (rs : List Range) (first back : 
   abbrev still : ℕ → List Msg
   still left = restAt s w b i left
 
-  pub record Counting (left dist : ℕ) (t : Tally) (k : Kept) : Type 0 where
-    pub stands : PositionAt s w b i left dist
-    pub keeps : Keeps rs k
-    pub many : t .length + length (listed rs (still left)) ≡ length (listed rs (still first))
-    pub sum : t .bytes + storedBytes (listed rs (still left)) ≡ storedBytes (listed rs (still first))
-    pub few : t .length + left ≤ first
-    pub less : t .bytes + dist ≤ back
-
-  pub count-starts : PositionAt s w b i first back → Counting first back (record { length = 0; bytes = 0 }) (record { base = 1; until = 0; set = 0 })
+  pub count-starts : PositionAt s w b i first back → Counting s w b i rs first back first back (record { length = 0; bytes = 0 }) (record { base = 1; until = 0; set = 0 })
   count-starts p = record {
     stands = p;
     keeps = record { keeps = λ m low high. absurd (no m low high) };
@@ -144,8 +137,8 @@ module _ (s : Shape) (w b : List ℕ) (i : ℕ) (rs : List Range) (first back : 
       no : (m : ℕ) → 1 ≤ m → m ≤ 0 → ⊥
       no m low high = omega arith
 
-  pub counts-on : {left dist number at f again r left' dist' : ℕ} {t t' : Tally} {k k' : Kept} → Counting left dist t k → NextMessageAt s w b i left dist number at f again r left' dist' → Serves rs number k'
-      → Adds (k' .set) (f + r) t t' → Counting left' dist' t' k'
+  pub counts-on : {left dist number at f again r left' dist' : ℕ} {t t' : Tally} {k k' : Kept} → Counting s w b i rs first back left dist t k → NextMessageAt s w b i left dist number at f again r left' dist' → Serves rs number k'
+      → Adds (k' .set) (f + r) t t' → Counting s w b i rs first back left' dist' t' k'
   counts-on {left} {dist} {number} {at} {f} {again} {r} {left'} {dist'} {t} {t'} {k} {k'} g p e a = go (eqb (k' .set) 0) refl
     where
       text : List ℕ
@@ -157,7 +150,7 @@ module _ (s : Shape) (w b : List ℕ) (i : ℕ) (rs : List Range) (first back : 
       now : listed rs (still left) ≡ cond (eqb (k' .set) 0) (listed rs (still left')) (msg number text ∷ listed rs (still left'))
       now = ap (listed rs) (p .is) ∙ one-listed rs k' (msg number text) (still left') e
 
-      go : (c : Bool) → eqb (k' .set) 0 ≡ c → Counting left' dist' t' k'
+      go : (c : Bool) → eqb (k' .set) 0 ≡ c → Counting s w b i rs first back left' dist' t' k'
       go true z =
           let l : listed rs (still left) ≡ listed rs (still left') = now ∙ rw z refl in
           let n : t' .length ≡ t .length = a .many ∙ rw z refl in
@@ -183,7 +176,7 @@ module _ (s : Shape) (w b : List ℕ) (i : ℕ) (rs : List Range) (first back : 
             less = omega (arith, g .less, p .nearer);
           }
 
-  pub count-ends : {left dist : ℕ} {t : Tally} {k : Kept} → left ≤ 0 → Counting left dist t k → Counts rs (still first) back t
+  pub count-ends : {left dist : ℕ} {t : Tally} {k : Kept} → left ≤ 0 → Counting s w b i rs first back left dist t k → Counts rs (still first) back t
   count-ends {left} {dist} {t} end g =
       let z : left ≡ 0 = omega arith in
       let l : listed rs (still left) ≡ [] = ap (λ (n : ℕ). listed rs (still n)) z ∙ ap (listed rs) (rest-none s w b i) in
@@ -191,17 +184,7 @@ module _ (s : Shape) (w b : List ℕ) (i : ℕ) (rs : List Range) (first back : 
 
   -- ---- writing
 
-  pub record Filling (old : List ℕ) (left dist n : ℕ) (k : Kept) (new : List ℕ) : Type 0 where
-    pub stands : PositionAt s w b i left dist
-    pub keeps : Keeps rs k
-    pub size : length new ≡ length old
-    pub entries : List ListEntry
-    pub many : length entries ≡ n
-    pub shown : map (servedAt b) entries ++ served rs (still left) ≡ served rs (still first)
-    pub inside : allInside b entries ≡ true
-    pub words : new ≡ wordsOf entries ++ drop (6 * length entries) old
-
-  pub fill-starts : (old : List ℕ) → PositionAt s w b i first back → Filling old first back 0 (record { base = 1; until = 0; set = 0 }) old
+  pub fill-starts : (old : List ℕ) → PositionAt s w b i first back → Filling s w b i rs first back old first back 0 (record { base = 1; until = 0; set = 0 }) old
   fill-starts old p = record {
     stands = p;
     keeps = record { keeps = λ m low high. absurd (no m low high) };
@@ -216,7 +199,7 @@ module _ (s : Shape) (w b : List ℕ) (i : ℕ) (rs : List Range) (first back : 
       no : (m : ℕ) → 1 ≤ m → m ≤ 0 → ⊥
       no m low high = omega arith
 
-  module _ {old : List ℕ} {left dist n left' dist' : ℕ} {k k' : Kept} {new : List ℕ} (m : Message) (g : Filling old left dist n k new) (p : NextMessageAt s w b i left dist (m .number) (m .«first_at») (m .«first_len») (m .«second_at») (m .«second_len») left' dist') (e : Serves rs (m .number) k') where
+  module _ {old : List ℕ} {left dist n left' dist' : ℕ} {k k' : Kept} {new : List ℕ} (m : Message) (g : Filling s w b i rs first back old left dist n k new) (p : NextMessageAt s w b i left dist (m .number) (m .«first_at») (m .«first_len») (m .«second_at») (m .«second_len») left' dist') (e : Serves rs (m .number) k') where
     abbrev text : List ℕ
     text = take (m .«first_len») (drop (m .«first_at») b) ++ take (m .«second_len») (drop (m .«second_at») b)
 
@@ -237,10 +220,10 @@ module _ (s : Shape) (w b : List ℕ) (i : ℕ) (rs : List Range) (first back : 
         let l : listed rs (still left) ≡ msg (m .number) text ∷ listed rs (still left') = now ∙ rw c refl in
         omega (arith, ap length l, counted-so, g .many, g .size)
 
-    pub fills-on : {n' : ℕ} {new' : List ℕ} → 6 * length (listed rs (still first)) ≤ length old → n' ≡ cond (eqb (k' .set) 0) n (n + 1) → new' ≡ entered n (k' .set) m new → Filling old left' dist' n' k' new'
+    pub fills-on : {n' : ℕ} {new' : List ℕ} → 6 * length (listed rs (still first)) ≤ length old → n' ≡ cond (eqb (k' .set) 0) n (n + 1) → new' ≡ entered n (k' .set) m new → Filling s w b i rs first back old left' dist' n' k' new'
     fills-on {n'} {new'} h next-so words-so = go (eqb (k' .set) 0) refl
       where
-        go : (c : Bool) → eqb (k' .set) 0 ≡ c → Filling old left' dist' n' k' new'
+        go : (c : Bool) → eqb (k' .set) 0 ≡ c → Filling s w b i rs first back old left' dist' n' k' new'
         go true z =
             let l : listed rs (still left) ≡ listed rs (still left') = now ∙ rw z refl in
             let same : n' ≡ n = next-so ∙ rw z refl in
@@ -282,7 +265,7 @@ module _ (s : Shape) (w b : List ℕ) (i : ℕ) (rs : List Range) (first back : 
                 let v : leb (m .«second_at» + m .«second_len») (length b) ≡ true = le-leb (m .«second_at» + m .«second_len») (length b) y in
                 rw (u, v) refl
 
-  pub fill-ends : {old : List ℕ} {left dist n : ℕ} {k : Kept} {new : List ℕ} → left ≤ 0 → Filling old left dist n k new → Written rs b (still first) old new
+  pub fill-ends : {old : List ℕ} {left dist n : ℕ} {k : Kept} {new : List ℕ} → left ≤ 0 → Filling s w b i rs first back old left dist n k new → Written rs b (still first) old new
   fill-ends {old} {left} {dist} {n} {k} {new} end g =
       let z : left ≡ 0 = omega arith in
       let l : listed rs (still left) ≡ [] = ap (λ (m : ℕ). listed rs (still m)) z ∙ ap (listed rs) (rest-none s w b i) in
@@ -292,6 +275,70 @@ module _ (s : Shape) (w b : List ℕ) (i : ℕ) (rs : List Range) (first back : 
         inside = g .inside;
         words = g .words;
       }
+
+-- ---- messages one after the other that one set serves
+
+module _ (s : Shape) (w b : List ℕ) (i first back : ℕ) (t : Tally) (old : List ℕ) (k : Kept) where
+  pub carry-starts : Carries s w b i k first back t old first back t old
+  carry-starts = record { fewer = omega arith; nearer = omega arith; fills = λ rs f h o fits g. g; counts = λ rs f h g. g }
+
+  -- nothing was read yet
+  pub follow-starts : (n : ℕ) → t .length ≡ n → Carries s w b i k first back t old first back (record { length = n; bytes = t .bytes + (back - back) }) old
+  follow-starts n e =
+      let none : t .bytes ≡ t .bytes + (back - back) = omega arith in
+      subst (λ (u : Tally). Carries s w b i k first back t old first back u old) (λ j. record { length = e j; bytes = none j }) carry-starts
+
+  module _ {left dist : ℕ} {u : Tally} {new : List ℕ} (m : Message) (c : Carries s w b i k first back t old left dist u new)
+      (p : NextMessageAt s w b i left dist (m .number) (m .«first_at») (m .«first_len») (m .«second_at») (m .«second_len») (m .left) (m .dist)) (low : k .base ≤ m .number) (high : m .number ≤ k .until) where
+    serves : (rs : List Range) → Keeps rs k → Serves rs (m .number) k
+    serves rs same = record { same = same; from = low; upto = high }
+
+    pub room-here : (g : Begun s w b i first back t k old) → HasRoom (k .set) (u .length) new
+    room-here g =
+        let h = c .fills (g .rs) (g .first) (g .back) (g .old) (g .fits) (g .filling) in
+        room s w b i (g .rs) (g .first) (g .back) m h p (serves (g .rs) (h .keeps)) (g .fits)
+
+    pub carries-on : (v : Tally) (new' : List ℕ) → Adds (k .set) (m .«first_len» + m .«second_len») u v → new' ≡ entered (u .length) (k .set) m new → Carries s w b i k first back t old (m .left) (m .dist) v new'
+    carries-on v new' a e = record {
+      fewer = omega (arith, c .fewer, p .fewer);
+      nearer = omega (arith, c .nearer, p .nearer);
+      fills = λ rs f h o fits g.
+          let x = c .fills rs f h o fits g in
+          fills-on s w b i rs f h m x p (serves rs (x .keeps)) fits (a .many) e;
+      counts = λ rs f h g.
+          let x = c .counts rs f h g in
+          counts-on s w b i rs f h x p (serves rs (x .keeps)) a;
+    }
+
+    -- the set isn't empty: an entry more; its bytes are those that were read
+    pub follows-on : (new' : List ℕ) (before : ℕ) → (k .set ≡ 0 → ⊥) → u .bytes ≡ before + (back - dist) → new' ≡ entered (u .length) (k .set) m new
+        → Carries s w b i k first back t old (m .left) (m .dist) (record { length = u .length + 1; bytes = before + (back - m .dist) }) new'
+    follows-on new' before some e q =
+        let z : eqb (k .set) 0 ≡ false = ne-eqb (k .set) 0 some in
+        let sum : before + (back - m .dist) ≡ u .bytes + (m .«first_len» + m .«second_len») = omega (arith, e, c .nearer, p .nearer) in
+        carries-on (record { length = u .length + 1; bytes = before + (back - m .dist) }) new' (record { many = rw z refl; sum = sum ∙ rw z refl }) q
+
+    -- it is empty: the message is passed over
+    pub passes-on : k .set ≡ 0 → Carries s w b i k first back t old (m .left) (m .dist) u new
+    passes-on none = carries-on u new (adds-none (k .set) (m .«first_len» + m .«second_len») u none) (enters-none (u .length) (k .set) m new none)
+
+-- where a listing that goes on stands
+pub stands-there : (s : Shape) (w b : List ℕ) (i first back : ℕ) (t : Tally) (old : List ℕ) (k : Kept) {left dist : ℕ} {u : Tally} {new : List ℕ} → Begun s w b i first back t k old → Carries s w b i k first back t old left dist u new → PositionAt s w b i left dist
+stands-there s w b i first back t old k g c = c .fills (g .rs) (g .first) (g .back) (g .old) (g .fits) (g .filling) .stands
+
+pub long-there : (s : Shape) (w b : List ℕ) (i first back : ℕ) (t : Tally) (old : List ℕ) (k : Kept) {left dist : ℕ} {u : Tally} {new : List ℕ} → Begun s w b i first back t k old → Carries s w b i k first back t old left dist u new → length new ≡ length old
+long-there s w b i first back t old k g c = c .fills (g .rs) (g .first) (g .back) (g .old) (g .fits) (g .filling) .size ∙ sym (g .filling .size)
+
+-- ---- passing over
+
+module _ (s : Shape) (w b : List ℕ) (i first back : ℕ) (k : Kept) where
+  pub over-starts : PositionAt s w b i first back → PassesOver s w b i k first back first back
+  over-starts p = record { stands = p; carries = λ t l. carry-starts s w b i first back t l k }
+
+  pub over-on : {left dist : ℕ} (m : Message) → PassesOver s w b i k first back left dist
+      → NextMessageAt s w b i left dist (m .number) (m .«first_at») (m .«first_len») (m .«second_at») (m .«second_len») (m .left) (m .dist) → k .base ≤ m .number → m .number ≤ k .until → k .set ≡ 0
+      → PassesOver s w b i k first back (m .left) (m .dist)
+  over-on m g p low high none = record { stands = p .stands; carries = λ t l. passes-on s w b i first back t l k m (g .carries t l) p low high none }
 
 -- ---- the listing
 

@@ -8,8 +8,10 @@ ghost use Rattle.store_areas.specs.Areas.{Rules};
 ghost use Rattle.store_sessions.specs.Answers.{PositionAt, restAt};
 ghost use Rattle.model_session.specs.Session.{storedBytes};
 ghost use Rattle.model_resend.specs.Resend.{lies, isRange, areRanges, setOf, listed};
+ghost use Rattle.store_resend.specs.Passes.{Begun, Carries, PassesOver};
 ghost use Rattle.store_resend.specs.Ranges.{rangeAt, rangesFrom, stays, until, lowestOf, Keeps, Serves, Counts, Adds, entered, HasRoom, Fills, Lists};
 use store_areas::Shape;
+use store_log::LogPosition;
 use store_sessions::Message;
 
 // The answer: 25, 35 or 36, else 0, how many messages are listed, and their bytes.
@@ -259,6 +261,128 @@ fn enter(entries: &mut [u64], k: usize, set: u64, m: Message)
     entries[at + 5] = m.second_len as u64;
 }
 
+// How far a listing has come: the messages still to be read, their bytes, and what is listed.
+#[repr(C)]
+pub struct Progress {
+    pub left: usize,
+    pub dist: usize,
+    pub length: usize,
+    pub bytes: usize,
+}
+
+// The same without the bytes listed, which are those that were read.
+#[repr(C)]
+pub struct Followed {
+    pub left: usize,
+    pub dist: usize,
+    pub length: usize,
+}
+
+// Passes over messages that lie in no range, as long as that stays.
+fn pass_over(
+    words: &[u64],
+    bytes: &[u8],
+    shape: Shape,
+    i: usize,
+    first: usize,
+    back: usize,
+    kept: Kept,
+) -> LogPosition
+    requires { ⌜ Rules shape (now words) (now bytes) ⌝ }
+    requires { ⌜ i < getD (now words) 0 0 ⌝ }
+    requires { ⌜ PositionAt shape (now words) (now bytes) i first back ⌝ }
+    requires { ⌜ kept .set ≡ 0 ⌝ }
+    ensures { λ r. ⌜ PassesOver shape (now (words .entry)) (now (bytes .entry)) i kept first back (r .left) (r .dist) ⌝ }
+{
+    let mut left = first;
+    let mut dist = back;
+    while 0 < left {
+        let m = store_sessions::message_at(words, bytes, shape, i, left, dist);
+        if m.number < kept.base {
+            return LogPosition { left, dist };
+        }
+        if kept.until < m.number {
+            return LogPosition { left, dist };
+        }
+        left = m.left;
+        dist = m.dist;
+    }
+    LogPosition { left, dist }
+}
+
+// Writes the entries of messages that one set serves, as long as it stays.
+fn follow(
+    words: &[u64],
+    bytes: &[u8],
+    shape: Shape,
+    i: usize,
+    first: usize,
+    back: usize,
+    kept: Kept,
+    tally: Tally,
+    entries: &mut [u64],
+) -> Followed
+    requires { ⌜ Rules shape (now words) (now bytes) ⌝ }
+    requires { ⌜ i < getD (now words) 0 0 ⌝ }
+    requires { ⌜ Begun shape (now words) (now bytes) i first back tally kept (now entries) ⌝ }
+    requires { ⌜ (kept .set ≡ 0 → ⊥) ⌝ }
+    ensures { λ r. ⌜ Carries shape (now (words .entry)) (now (bytes .entry)) i kept first back tally (now (entries .entry)) (r .left) (r .dist) (record { length = r .length; bytes = tally .bytes + (back - r .dist) }) (now (entries .exit)) ⌝ }
+{
+    let mut left = first;
+    let mut dist = back;
+    let mut length = tally.length;
+    while 0 < left {
+        let m = store_sessions::message_at(words, bytes, shape, i, left, dist);
+        if m.number < kept.base {
+            return Followed { left, dist, length };
+        }
+        if kept.until < m.number {
+            return Followed { left, dist, length };
+        }
+        left = m.left;
+        dist = m.dist;
+        enter(entries, length, kept.set, m);
+        length += 1;
+    }
+    Followed { left, dist, length }
+}
+
+// Goes on with a listing as long as a set stays.
+fn go_on(
+    words: &[u64],
+    bytes: &[u8],
+    shape: Shape,
+    i: usize,
+    first: usize,
+    back: usize,
+    kept: Kept,
+    tally: Tally,
+    entries: &mut [u64],
+) -> Progress
+    requires { ⌜ Rules shape (now words) (now bytes) ⌝ }
+    requires { ⌜ i < getD (now words) 0 0 ⌝ }
+    requires { ⌜ Begun shape (now words) (now bytes) i first back tally kept (now entries) ⌝ }
+    ensures { λ r. ⌜ Carries shape (now (words .entry)) (now (bytes .entry)) i kept first back tally (now (entries .entry)) (r .left) (r .dist) (record { length = r .length; bytes = r .bytes }) (now (entries .exit)) ⌝ }
+{
+    if kept.set == 0 {
+        let p = pass_over(words, bytes, shape, i, first, back, kept);
+        return Progress {
+            left: p.left,
+            dist: p.dist,
+            length: tally.length,
+            bytes: tally.bytes,
+        };
+    }
+    let before = tally.bytes;
+    let f = follow(words, bytes, shape, i, first, back, kept, tally, entries);
+    Progress {
+        left: f.left,
+        dist: f.dist,
+        length: f.length,
+        bytes: before + (back - f.dist),
+    }
+}
+
 // Writes the entries of the messages still to be read that lie in some range, and counts them.
 fn fill(
     words: &[u64],
@@ -295,10 +419,16 @@ fn fill(
         kept = kept_for(ranges, n, kept, m.number);
         let size = m.first_len + m.second_len;
         let next = counted(tally, kept.set, size);
-        left = m.left;
-        dist = m.dist;
+        let after = m.left;
+        let behind = m.dist;
         enter(entries, tally.length, kept.set, m);
-        tally = next;
+        let p = go_on(words, bytes, shape, i, after, behind, kept, next, entries);
+        left = p.left;
+        dist = p.dist;
+        tally = Tally {
+            length: p.length,
+            bytes: p.bytes,
+        };
     }
     tally
 }

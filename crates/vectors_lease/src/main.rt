@@ -1,9 +1,7 @@
 // Runs scripts of questions and attempts on leases, one script after the other. What it must write was recorded from the Rust by
 // tests/make/lease_vectors.py, which also wrote the scripts. A script's first line is the duration and the time of making; then
 // `due T`, and `try START OUTCOME ok|failed|deposed`.
-use active_lease::Asked;
-use active_lease::Held;
-use active_lease::Tried;
+use c_lease::Due;
 use libc::STDIN_FILENO;
 use libc::STDOUT_FILENO;
 
@@ -39,54 +37,54 @@ fn outcome(letter: u8) -> u8 {
     }
 }
 
-fn put_due(r: Asked) -> Held {
+fn put_due(r: Due) {
     if r.refusal != 0 {
         put_line(b"R ", r.refusal as u64);
     } else {
         put_line(b"", r.due as u64);
     }
-    r.held
 }
 
-fn put_tried(r: Tried) -> Held {
-    let held = r.held;
-    if r.refusal != 0 {
-        put_line(b"R ", r.refusal as u64);
-        return held;
+fn put_tried(refusal: u8, until: u64, lost: u64) {
+    if refusal != 0 {
+        put_line(b"R ", refusal as u64);
+        return;
     }
-    if held.lost == 0 {
-        put_line(b"held ", held.until);
+    if lost == 0 {
+        put_line(b"held ", until);
     } else {
-        put_line(b"lost ", held.until);
+        put_line(b"lost ", until);
     }
-    held
 }
 
-// One line: the lease then.
-fn call(line: &[u8], held: Held) -> Held {
+// One line on a lease.
+fn call(line: &[u8], lease: &mut [u64; 4]) {
     let second = next(line, 0);
     let third = next(line, second);
     let fourth = next(line, third);
     let n = vectors_script::number_at(line, second);
     match letter(line, 0) {
-        b'd' => put_due(c_lease::wz_lease_renewal(held, n)),
-        b't' => put_tried(c_lease::wz_lease_attempt(
-            held,
-            n,
-            vectors_script::number_at(line, third),
-            outcome(letter(line, fourth)),
-        )),
-        _ => c_lease::wz_lease_new(vectors_script::number_at(line, 0), n),
+        b'd' => put_due(c_lease::wz_lease_renewal(lease, n)),
+        b't' => {
+            let time = vectors_script::number_at(line, third);
+            let refusal = c_lease::wz_lease_attempt(lease, n, time, outcome(letter(line, fourth)));
+            put_tried(
+                refusal,
+                lease[c_lease::word::UNTIL],
+                lease[c_lease::word::LOST],
+            );
+        }
+        _ => c_lease::wz_lease_new(lease, vectors_script::number_at(line, 0), n),
     }
 }
 
 // The lines of a script, one after the other.
 fn run(script: &[u8]) {
-    let mut held = c_lease::wz_lease_new(0, 0);
+    let mut lease = [0; 4];
     let mut at: usize = 0;
     while at < script.len() {
         let end = vectors_script::line_end(script, at);
-        held = call(&script[at..end], held);
+        call(&script[at..end], &mut lease);
         at = end + 1;
     }
 }

@@ -2,32 +2,19 @@
 
 use crate::script::{Answer, Call, Outcome, Side, State};
 
-#[repr(C)]
-#[derive(Clone, Copy)]
-pub struct Held {
-    pub duration: u64,
-    pub until: u64,
-    pub last: u64,
-    pub lost: u8,
-}
+/// A lease's four words: its duration, its end, the last time handed in, whether it is lost.
+pub type Lease = [u64; 4];
 
 #[repr(C)]
-pub struct Asked {
+pub struct Due {
     pub refusal: u8,
     pub due: u8,
-    pub held: Held,
-}
-
-#[repr(C)]
-pub struct Tried {
-    pub refusal: u8,
-    pub held: Held,
 }
 
 unsafe extern "C" {
-    pub safe fn wz_lease_new(duration: u64, now: u64) -> Held;
-    pub safe fn wz_lease_renewal(held: Held, now: u64) -> Asked;
-    pub safe fn wz_lease_attempt(held: Held, started: u64, now: u64, outcome: u8) -> Tried;
+    pub safe fn wz_lease_new(lease: &mut Lease, duration: u64, time: u64);
+    pub safe fn wz_lease_renewal(lease: &mut Lease, time: u64) -> Due;
+    pub safe fn wz_lease_attempt(lease: &mut Lease, started: u64, time: u64, outcome: u8) -> u8;
 }
 
 /// Any byte from 2 on is deposed too.
@@ -40,51 +27,56 @@ fn byte(outcome: Outcome, time: u64) -> u8 {
 }
 
 pub struct Ours {
-    held: Held,
+    lease: Lease,
 }
 
 impl Ours {
-    /// A flag that is set stays byte for byte, and the duration always.
-    fn keep(&mut self, held: Held) {
-        assert_eq!(held.duration, self.held.duration, "the duration changed");
-        assert!(self.held.lost == 0 || self.held.lost == held.lost, "the flag changed");
-        assert!(self.held.lost != 0 || held.lost <= 1, "the flag is neither 0 nor 1");
-        self.held = held;
-        if held.lost != 0 {
-            self.held.lost = 1 + (held.last % 255) as u8;
+    /// A call; a flag that is set stays as it was, and the duration always.
+    fn on_words<T>(&mut self, call: impl FnOnce(&mut Lease) -> T) -> T {
+        let [duration, _, _, lost] = self.lease;
+        let answer = call(&mut self.lease);
+        assert_eq!(self.lease[0], duration, "the duration changed");
+        assert!(lost == 0 || self.lease[3] == lost, "the flag changed");
+        assert!(lost != 0 || self.lease[3] <= 1, "the flag is neither 0 nor 1");
+        answer
+    }
+
+    /// Any word but 0 says that the lease is lost.
+    fn stir(&mut self) {
+        if self.lease[3] != 0 {
+            self.lease[3] = 1 + self.lease[2] % u64::MAX;
         }
     }
 }
 
 impl Side for Ours {
     fn new(duration: u64, made: u64) -> Self {
-        let held = wz_lease_new(duration, made);
-        assert_eq!((held.duration, held.lost), (duration, 0));
-        Self { held }
+        let mut lease = [made ^ duration, made, !duration, 7];
+        wz_lease_new(&mut lease, duration, made);
+        assert_eq!((lease[0], lease[3]), (duration, 0));
+        Self { lease }
     }
 
     fn call(&mut self, call: Call) -> Answer {
-        match call {
+        let answer = match call {
             Call::Due(now) => {
-                let asked = wz_lease_renewal(self.held, now);
-                self.keep(asked.held);
-                assert!(asked.due <= u8::from(asked.refusal == 0), "due is neither 0 nor 1, or with a refusal");
-                if asked.refusal != 0 { Answer::Refused(asked.refusal) } else { Answer::Due(asked.due != 0) }
+                let Due { refusal, due } = self.on_words(|lease| wz_lease_renewal(lease, now));
+                assert!(due <= u8::from(refusal == 0), "due is neither 0 nor 1, or with a refusal");
+                if refusal != 0 { Answer::Refused(refusal) } else { Answer::Due(due != 0) }
             }
             Call::Try(start, now, outcome) => {
-                let tried = wz_lease_attempt(self.held, start, now, byte(outcome, now));
-                self.keep(tried.held);
-                let until = tried.held.until;
-                match tried {
-                    Tried { refusal: 0, held } if held.lost == 0 => Answer::Held(until),
-                    Tried { refusal: 0, .. } => Answer::Lost(until),
-                    Tried { refusal, .. } => Answer::Refused(refusal),
+                match (self.on_words(|lease| wz_lease_attempt(lease, start, now, byte(outcome, now))), self.lease) {
+                    (0, [_, until, _, 0]) => Answer::Held(until),
+                    (0, [_, until, ..]) => Answer::Lost(until),
+                    (refusal, _) => Answer::Refused(refusal),
                 }
             }
-        }
+        };
+        self.stir();
+        answer
     }
 
     fn state(&self) -> State {
-        State { until: self.held.until, last: self.held.last, lost: self.held.lost != 0 }
+        State { until: self.lease[1], last: self.lease[2], lost: self.lease[3] != 0 }
     }
 }

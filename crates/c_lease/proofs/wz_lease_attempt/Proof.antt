@@ -1,20 +1,23 @@
-use mathlib.Core.Path.{subst}
-use Rattle.model_lease.specs.Lease.{Outcome}
-use Rattle.active_lease.specs.Held.{Tries}
+use Rattle.c_lease.proofs.Laws.{tries-in, by-byte}
+use Rattle.c_lease.specs.Boundary.{attemptAt}
 use borrow.Author.Needs.{needs}
 use Rattle.c_lease.proofs.wz_lease_attempt.Statement.{statement}
 use Rattle.c_lease.proofs.wz_lease_attempt.Tie as tie
 
-outcome-of-requires : tie.Need-outcome-of-requires
-outcome-of-requires c κs = search needs
-
-attempt-requires : tie.Need-attempt-requires
-attempt-requires c κs = search needs
-
 returns : tie.Need-returns
 returns c =
-    let a = c .before .before .args in
-    subst (λ (o : Outcome). Tries (a .held) (record { start = a .started; now = a .now; outcome = o }) (c .attempt .result)) (c .before .outcome-of .ensures) (c .attempt .ensures)
+    let a = c .before .before .before .before .before .before .before .before .args in
+    tries-in (a .lease .now) (attemptAt (a .started) (a .time) (a .outcome)) (c .before .before .before .before .held-in .result) (c .before .before .attempt .result) (c .before .before .before .before .held-in .ensures)
+    (by-byte (c .before .before .before .before .held-in .result) (c .before .before .attempt .result) (a .started) (a .time) (a .outcome) _ (c .before .before .before .outcome-of .ensures) (c .before .before .attempt .ensures)) (c .before .flag-after .result) (c .before .flag-after .ensures)
 
 pub wz-lease-attempt-spec : {M : Type 1} → statement M
-wz-lease-attempt-spec = tie.close (tie.spec outcome-of-requires attempt-requires returns)
+wz-lease-attempt-spec =
+    tie.close
+    (tie.spec
+    (λ c. search needs)
+    (λ c. search needs)
+    (λ c κs. search needs)
+    (λ c κs. search needs)
+    (λ c κs. search needs)
+    (λ c κs. search needs)
+    returns)

@@ -2,8 +2,8 @@ use native.Mathlib.Omega.{arith}
 use borrow.Author.Needs.{needs}
 use Rattle.store_place.specs.Place.{keyFrom}
 use Rattle.store_areas.specs.Areas.{placeAt}
-use Rattle.standby_ahead.proofs.Keys.{key-same, key-other}
-use Rattle.standby_ahead.proofs.Numbers.{too-low, another-key, high-enough}
+use Rattle.standby_ahead.proofs.Keys.{key-same}
+use Rattle.standby_ahead.proofs.Numbers.{too-low, high-enough}
 use Rattle.standby_ahead.proofs.has_number.Statement.{statement}
 use Rattle.standby_ahead.proofs.has_number.Tie as tie
 
@@ -12,24 +12,13 @@ returns c =
     let a = c .before .before .before .before .before .before .before .before .args in
     too-low (keyFrom (a .begin .now) (a .sender .now) (a .target .now) (a .suffix .now)) (a .n) (c .before .next-outgoing .result) (placeAt (a .shape) (a .words .now) (a .bytes .now) (a .i)) (c .before .next-outgoing .ensures) (omega (arith, c .if1 .taken))
 
-may-be-target-requires : tie.Need-may-be-target-requires
-may-be-target-requires c κs = omega (arith, c .spot-in .ensures .at .bytes-from, c .spot-in .ensures .at .bytes-to, c .spot-in .ensures .bytes-end)
-
 returns-2 : tie.Need-returns-2
 returns-2 c =
-    let z = c .before .before .before .before .before .before .before .before .before .before .before in
+    let z = c .before .before .before .before .before .before .before .before .before .before .before .before in
     let a = z .args in
     let k = keyFrom (a .begin .now) (a .sender .now) (a .target .now) (a .suffix .now) in
-    another-key k (a .n) (placeAt (a .shape) (a .words .now) (a .bytes .now) (a .i))
-    (key-other (a .shape) (a .i) _ _ _ _ (a .words .now) (a .bytes .now) (c .before .before .spot-in .ensures) (z .pre .0) (z .pre .1) k (c .before .may-be-target .ensures) (c .if2 .taken))
-
-returns-3 : tie.Need-returns-3
-returns-3 c =
-    let z = c .before .before .before .before .before .before .before .before .before .before .before .before .before .before in
-    let a = z .args in
-    let k = keyFrom (a .begin .now) (a .sender .now) (a .target .now) (a .suffix .now) in
-    high-enough k (a .n) (c .before .before .before .before .before .before .before .next-outgoing .result) (placeAt (a .shape) (a .words .now) (a .bytes .now) (a .i)) (c .before .before .before .before .before .before .before .next-outgoing .ensures) (omega (arith, c .before .before .before .before .before .before .if1 .left))
-    (key-same (a .shape) (a .i) _ _ _ _ (a .words .now) (a .bytes .now) (c .before .before .before .before .before .spot-in .ensures) (z .pre .0) (z .pre .1) k (c .has-key .ensures))
+    high-enough k (a .n) (c .before .before .before .before .before .next-outgoing .result) (placeAt (a .shape) (a .words .now) (a .bytes .now) (a .i)) (c .before .before .before .before .before .next-outgoing .ensures) (omega (arith, c .before .before .before .before .if1 .left))
+    (key-same (a .shape) (a .i) _ _ _ _ (a .words .now) (a .bytes .now) (c .before .before .before .spot-in .ensures) (z .pre .0) (z .pre .1) k (c .has-key .ensures))
 
 pub has-number-spec : {M : Type 1} → statement M
 has-number-spec =
@@ -39,9 +28,6 @@ has-number-spec =
     returns
     (λ c κs. search needs)
     (λ c. search needs)
-    may-be-target-requires
-    returns-2
-    (λ c. search needs)
     (λ c. search needs)
     (λ c. search needs)
     (λ c. search needs)
@@ -49,4 +35,4 @@ has-number-spec =
     (λ c. search needs)
     (λ c. search needs)
     (λ c κs. search needs)
-    returns-3)
+    returns-2)

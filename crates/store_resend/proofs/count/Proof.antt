@@ -1,5 +1,6 @@
 use Rattle.store_resend.proofs.count.Statement.{statement}
-use Rattle.store_resend.proofs.Passes.{Counting, count-starts, counts-on, count-ends}
+use Rattle.store_resend.proofs.Passes.{count-starts, counts-on, count-ends}
+use Rattle.store_resend.specs.Passes.{Counting}
 use Rattle.store_resend.specs.Ranges.{rangesFrom}
 use native.Mathlib.Omega.{arith}
 use Rattle.store_resend.proofs.count.Tie as tie

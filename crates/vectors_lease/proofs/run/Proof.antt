@@ -5,13 +5,10 @@ use Rattle.vectors_lease.proofs.run.Statement.{statement}
 use Rattle.vectors_lease.proofs.run.Tie as tie
 
 abbrev Inv-loop : tie.InvT-loop
-Inv-loop script held₀ at₀ held at = 0 ≤ at
+Inv-loop script lease₀ at₀ lease at = 0 ≤ at
 
 abbrev μ-loop : tie.MeasureT-loop
-μ-loop script held₀ at₀ held at = length script - at
-
-wz-lease-new-requires : tie.Need-wz-lease-new-requires Inv-loop μ-loop
-wz-lease-new-requires c κs = search needs
+μ-loop script lease₀ at₀ lease at = length script - at
 
 loop-holds : tie.Need-loop-holds Inv-loop μ-loop
 loop-holds c = search needs
@@ -49,7 +46,6 @@ run-spec =
     (tie.spec
     Inv-loop
     μ-loop
-    wz-lease-new-requires
     loop-holds
     line-end-requires
     sub-call

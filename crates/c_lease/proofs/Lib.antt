@@ -1,0 +1,2 @@
+-- Leases as words.
+pub mod Laws
