@@ -1,3 +1,4 @@
+pub mod Entries
 pub mod Model
 pub mod Demand3
 pub mod Instance
