@@ -14,4 +14,8 @@ joined m =
       flush-asks-nothing = λ κs a. id⊢ (m .𝓤) _;
       disconnected-from-gives = λ κs a r e. id⊢ (m .𝓤) _;
       disconnected-from-asks-nothing = λ κs a. id⊢ (m .𝓤) _;
+      begin-gives = λ κs a r e. id⊢ (m .𝓤) _;
+      begin-asks-nothing = λ κs a. id⊢ (m .𝓤) _;
+      send-whole-gives = λ κs a r e. id⊢ (m .𝓤) _;
+      send-whole-asks-nothing = λ κs a. id⊢ (m .𝓤) _;
     }

@@ -1,8 +1,8 @@
--- WHAT JOINS DEMAND 3 TO THE ENTRY POINTS. A step of its lists (`Calls`) is what the contract that the called function of crate `replica` has
--- gives of the call: for all arguments, results and areas at exit, in every model in which the contract may be read. And no contract asks
--- anything of its caller. The contracts themselves are named here, so a weaker `ensures` or a `requires` in crates/replica/src/lib.rt breaks this.
--- Assumes nothing.
-use mathlib.Core.List.{List}
+-- WHAT JOINS DEMAND 3 TO THE ENTRY POINTS. A step of its lists (`Calls`), and a call of a sending (`SendsWhole`), is what the contract that the called
+-- function of crate `replica` or `active` has gives of the call: for all arguments, results and areas at exit, in every model in which the contract
+-- may be read. And no contract asks anything of its caller. The contracts themselves are named here, so a weaker `ensures` or a `requires` in
+-- crates/replica/src/lib.rt or crates/active/src/lib.rt breaks this. Assumes nothing.
+use mathlib.Core.Path.{_≡_}
 use base.Logic.{ent, emp}
 use contract.Monad.{fact}
 use contract.Lifetimes.{Lfts}
@@ -14,6 +14,10 @@ use Rattle.replica.proofs.on_frame_held as on-frame-held
 use Rattle.replica.proofs.on_frame as on-frame
 use Rattle.replica.proofs.flush as flush-call
 use Rattle.replica.proofs.disconnected_from as disconnected-from
+use Rattle.model_session.specs.Whole.{batchLimit}
+use Rattle.active.specs.Whole.{storedAt, startOf, startFrom, SendsWhole}
+use Rattle.active.proofs.Sending.begin as begin-call
+use Rattle.active.proofs.Sending.send_whole as send-whole
 use Rattle.theorem_whole_copy.specs.Demand.{Lent, Calls}
 
 -- whoever has P knows the plain fact φ; and P is had for nothing
@@ -60,3 +64,18 @@ pub record Joined (m : World) : Type 2 where
   pub disconnected-from-asks-nothing :
       (κs : Lfts (disconnected-from.signature .lifetimes)) (a : ArgsD disconnected-from.signature κs) →
       AsksNothing m (disconnected-from.clauses (m .𝓤) (m .H) (m .𝓖 .A) (m .𝓜 .mem) (m .𝓡 .run) κs a .requires tt)
+  -- the active's side: a sending begins (shape, words, bytes, place, handle, epoch, last number), and gives its next frame
+  pub begin-gives :
+      (κs : Lfts (begin-call.signature .lifetimes)) (a : ArgsD begin-call.signature κs) (r : ResD begin-call.signature κs) (e : AtExit begin-call.ended κs) →
+      Gives m (begin-call.clauses (m .𝓤) (m .H) (m .𝓖 .A) (m .𝓜 .mem) (m .𝓡 .run) κs a .ensures tt r e)
+      (startOf r ≡ startFrom batchLimit (storedAt (a .0) (now (a .1 .0)) (now (a .1 .1 .0)) (a .1 .1 .1 .0)) (a .1 .1 .1 .0) (a .1 .1 .1 .1 .0) (a .1 .1 .1 .1 .1 .0 .0) (a .1 .1 .1 .1 .1 .1 .0 .0))
+  pub begin-asks-nothing :
+      (κs : Lfts (begin-call.signature .lifetimes)) (a : ArgsD begin-call.signature κs) →
+      AsksNothing m (begin-call.clauses (m .𝓤) (m .H) (m .𝓖 .A) (m .𝓜 .mem) (m .𝓡 .run) κs a .requires tt)
+  pub send-whole-gives :
+      (κs : Lfts (send-whole.signature .lifetimes)) (a : ArgsD send-whole.signature κs) (r : ResD send-whole.signature κs) (e : AtExit send-whole.ended κs) →
+      Gives m (send-whole.clauses (m .𝓤) (m .H) (m .𝓖 .A) (m .𝓜 .mem) (m .𝓡 .run) κs a .ensures tt r e)
+      (SendsWhole batchLimit (a .1 .0) (now (a .1 .1 .0)) (now (a .1 .1 .1 .0)) (a .0) (now (a .1 .1 .1 .1 .0)) (now (e .1 .1 .1 .1 .0)) r)
+  pub send-whole-asks-nothing :
+      (κs : Lfts (send-whole.signature .lifetimes)) (a : ArgsD send-whole.signature κs) →
+      AsksNothing m (send-whole.clauses (m .𝓤) (m .H) (m .𝓖 .A) (m .𝓜 .mem) (m .𝓡 .run) κs a .requires tt)
