@@ -33,9 +33,11 @@ use Rattle.standby_state.specs.declared.Settings.{Settings}
 use Rattle.standby_state.specs.declared.Answer as the-code
 use Rattle.standby_state.specs.Answers as the-answers
 use Rattle.standby_state.specs.Outcomes.{settingsOf}
+use Rattle.standby_step.specs.Steps.{roomOf}
 use Rattle.frames_reply.specs.Texts.{outcomeText, answerText}
 use Rattle.standby_step.specs.Calls.{roomAll, standbyOf, allowedAll, Called}
-use Rattle.frames_line.specs.Answering.{theSettings, lineText, spoken, onBytes, lineStep, Heard, unread, called, AnswersLine}
+use Rattle.model_lines.specs.Program.{framesSettings, lineText, spoken, onBytes, lineStep}
+use Rattle.frames_line.specs.Answering.{theSettings, Heard, unread, called, AnswersLine}
 
 -- ---- a line
 
@@ -113,3 +115,7 @@ pub told-fits : {l : List ℕ} {c c' : Replica} {row row' : List Bound} {w w' b 
 told-fits {out = out} {out' = out'} {n = n} k =
     let all : length out' ≡ length (k .text) + length (drop (length (k .text)) out) = ap (λ (x : List ℕ). length x) (k .puts .wrote) ∙ length-append (k .text) (drop (length (k .text)) out) in
     omega (arith, k .puts .count, all)
+
+-- the code's settings are the definition's, with hold areas of 22,504 bytes for four handles, as `main` lends them
+the-settings : settingsOf theSettings (roomOf 22504 4) ≡ framesSettings
+the-settings = refl

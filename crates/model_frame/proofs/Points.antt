@@ -1,4 +1,4 @@
--- Document 01's starred points on frames, and further points that tell near definitions apart, as one table: bytes, what reading
+-- Points that tell near definitions apart, as one table: bytes, what reading
 -- says of them in version 1, and document 01's number if they are refused (0: they aren't). Assumes nothing.
 use Prim.Native.Nat.{ℕ}
 use mathlib.Core.Path.{_≡_, refl}
@@ -62,9 +62,9 @@ leapSecond = 50 ∷ 48 ∷ 50 ∷ 52 ∷ 48 ∷ 50 ∷ 50 ∷ 57 ∷ 45 ∷ 50 �
 abbrev hour24 : List ℕ
 hour24 = 50 ∷ 48 ∷ 50 ∷ 52 ∷ 48 ∷ 50 ∷ 50 ∷ 57 ∷ 45 ∷ 50 ∷ 52 ∷ 58 ∷ 48 ∷ 48 ∷ 58 ∷ 48 ∷ 48 ∷ []
 
--- the starred points
-abbrev pub starred : List Point
-starred =
+-- the bytes of document 01's starred points; the table of all twelve is `starred` in crates/model_standby/specs/Starred.antt
+abbrev pub firstPoints : List Point
+firstPoints =
     point [] more 0
     ∷ point (0 ∷ 0 ∷ 0 ∷ 0 ∷ []) (faulty truncated) 2
     ∷ point (0 ∷ 0 ∷ 0 ∷ 4 ∷ []) more 0
@@ -106,6 +106,6 @@ nearby =
     ∷ point (u32 45 ++ (7 ∷ []) ++ u32 9 ++ u64 3 ++ u64 4 ++ u64 2 ++ u32 0 ++ u32 0 ++ u64 8) (got (bound 9 (record { nextOut = 3; nextIn = 4; inFlight = some 2; stampText = []; marksText = []; lastOutgoing = 8 })) 49) 0
     ∷ []
 
-pub points : answered (starred ++ nearby) ≡ expected (starred ++ nearby)
+pub points : answered (firstPoints ++ nearby) ≡ expected (firstPoints ++ nearby)
 unfolding decode le readNum readBytes readBlob readText readCount many readBody readFields helloFields welcomeFields bindFields batchFields ackFields nackFields boundFields checkedFields readKinds readChanges readChange setIncomingFields setIncomingInFlightFields setInFlightFields recordMsgFields recordBareFields setCreatedAtFields setMarksFields readAppRecords readAppRecord readPart readReason readKey readSummary readStamp readStampOrNone readMarks utf8 wellFormed leadLength ownBits least fitting isScalar isSurrogate isTail isPrintableByte isPrintable isMarks isKey isDigit isPair isStamp takesStamp
 points = refl

@@ -1,4 +1,5 @@
--- How a frame is read: document 01's tables of kinds and changes. The version decides which stamps are taken. Assumes nothing.
+-- How a frame is read: document 01's tables of kinds and changes. The version goes to `takesStamp` alone, which takes every
+-- stamp in every version. Assumes nothing.
 use Prim.Native.Nat.{ℕ, _+_, _-_}
 use mathlib.Core.Bool.{cond, _||_}
 use mathlib.Core.List.{List, [], _∷_}

@@ -31,7 +31,7 @@ changeBytes reset = ChangeKind.reset ∷ []
 changeBytes (setCreatedAt t) = ChangeKind.setCreatedAt ∷ blobBytes t
 changeBytes (setMarks m) = ChangeKind.setMarks ∷ blobBytes m
 
--- a change's length in a frame
+-- a change's length in a frame, which is that of `changeBytes` (`change-size` in proofs/Sizes)
 abbrev pub sizeOf : Change → ℕ
 sizeOf (setIncoming n) = 9
 sizeOf (setIncomingInFlight n f) = 17
@@ -86,7 +86,8 @@ bodyBytes (checked h e i) = FrameKind.checked ∷ bytesOf 4 h ++ bytesOf 8 e ++ 
 unfoldable pub encode : Frame → List ℕ
 encode f = bytesOf 4 (length (bodyBytes f)) ++ bodyBytes f
 
--- a record's length, and a body's; a frame's is 4 more
+-- ---- for proofs: a record's length and a body's, which are those of their bytes (proofs/Sizes); a frame's is 4 more
+
 abbrev pub recordSizes : List AppRecord → ℕ
 recordSizes [] = 0
 recordSizes (r ∷ rs) = 6 + length (r .blob) + recordSizes rs
@@ -200,7 +201,7 @@ shown (bound h m) =
     })
 shown (checked h e i) = checked h e i
 
--- reading gives every other frame back as it was
+-- for proofs: reading gives every other frame back as it was
 abbrev pub NoZeroFlight : Frame → Type 0
 NoZeroFlight (hello v e node ks) = Unit {0}
 NoZeroFlight (welcome e i) = Unit {0}
@@ -211,7 +212,7 @@ NoZeroFlight (nack h r) = Unit {0}
 NoZeroFlight (bound h m) = m .inFlight ≡ some 0 → ⊥
 NoZeroFlight (checked h e i) = Unit {0}
 
--- ---- what a frame's texts and blobs are made of
+-- ---- for proofs: what a frame's texts and blobs are made of
 
 abbrev pub ByteChange : Change → Type 0
 ByteChange (setIncoming n) = Unit {0}

@@ -1,7 +1,7 @@
 -- The lag queue: at most 64 wait, drained never falls, and what is drained leaves at most max_lag.
 -- Assumes nothing.
 use mathlib.Core.Path.{_≡_, refl}
-use Prim.Native.Nat.{ℕ, suc, _-_, _≤_}
+use Prim.Native.Nat.{ℕ, zero, suc, _-_, _≤_}
 use native.Mathlib.Omega.{arith}
 use native.Mathlib.Nat.{le-trans, le-refl}
 use mathlib.Core.List.{List, [], _∷_, _++_}
@@ -72,3 +72,15 @@ module _ (maxLag : ℕ) where
 third-drains-one : push 2 (pushAll 2 (newQueue 0) (1 ∷ 2 ∷ [])) 3 ≡ record { queue = record { drained = 1; waiting = 2 ∷ 3 ∷ [] }; went = 1 }
 unfolding push
 third-drains-one = refl
+
+-- the numbers from n on, k of them
+abbrev numbers : ℕ → ℕ → List ℕ
+numbers n zero = []
+numbers n (suc k) = n ∷ numbers (suc n) k
+
+-- 64 may wait: the 64th push drains none, the 65th one, however great max_lag is
+sixty-four-wait :
+    push 100 (pushAll 100 (newQueue 0) (numbers 1 63)) 64 ∷ push 100 (pushAll 100 (newQueue 0) (numbers 1 64)) 65 ∷ []
+    ≡ record { queue = record { drained = 0; waiting = numbers 1 64 }; went = 0 } ∷ record { queue = record { drained = 1; waiting = numbers 2 64 }; went = 1 } ∷ []
+unfolding push
+sixty-four-wait = refl

@@ -1,7 +1,7 @@
 -- Sending one frame a call gives just the frames that send the session whole, and then "done".
 -- Assumes nothing.
 use mathlib.Core.Path.{_≡_, refl, sym, ap, subst, _∙_}
-use Prim.Native.Nat.{ℕ, zero, suc, _+_, _≤_, max}
+use Prim.Native.Nat.{ℕ, zero, suc, _+_, _-_, _≤_, max}
 use native.Mathlib.Omega.{arith}
 use mathlib.Core.List.{List, [], _∷_, _++_, head-eq-of-cons-eq, tail-eq-of-cons-eq, nil≢cons}
 use mathlib.Core.Option.{Option, none, some}
@@ -9,7 +9,7 @@ use mathlib.Core.Bool.{Bool, true, false, cond}
 use lib.ListN.{length}
 use lib.Dec.{ltb, leb, nltb→le}
 use Rattle.model_frame.specs.Frame.{Change, reset, batch}
-use Rattle.model_session.specs.Session.{Session, Msg, Rising, Holdable, top}
+use Rattle.model_session.specs.Session.{Session, Msg, newSession, Rising, Holdable, top}
 use Rattle.model_session.specs.Whole.{stampPart, sendMsg, batchIf, batchesFrom, wholeBatches, framesOf, wholeFrames}
 use Rattle.model_session.specs.Sender.{cannotSend, Sender, newSender, messagesFrom, sentPart, cutBatch, opening, cutFrom, sendNext, Sends, allSent, isNext}
 use Rattle.model_session.proofs.Basics.{false→notT, cond-true, cond-false, leb-true, leb-false, ltb-false, none≢some, some-inj}
@@ -127,3 +127,13 @@ sends-whole limit C M h e last a ok =
 pub can-send : (limit h e last : ℕ) (a : Session) → cannotSend limit a (newSender h e last) ≡ false → last + length (wholeBatches limit a) ≤ top
 unfolding cannotSend
 can-send limit h e last a p = nltb→le top (last + length (wholeBatches limit a)) (false→notT (ltb top (last + length (wholeBatches limit a))) p)
+
+-- a new session is one batch: 24 with the last commit number 2^64 - 1, not with 2^64 - 2, nor after the first frame
+numbers-end :
+    cannotSend 1048576 newSession (newSender 9 5 top)
+    ∷ cannotSend 1048576 newSession (newSender 9 5 (top - 1))
+    ∷ cannotSend 1048576 newSession (record { handle = 9; epoch = 5; last = top; from = some 1 })
+    ∷ []
+    ≡ true ∷ false ∷ false ∷ []
+unfolding cannotSend wholeBatches
+numbers-end = refl

@@ -16,7 +16,7 @@ use Rattle.model_frame.specs.Writing.{flightNumber, RangedSummary, fineSummary}
 use Rattle.model_text.specs.Utf8.{utf8}
 use Rattle.model_text.specs.Printable.{isMarks}
 use Rattle.model_text.proofs.Laws.{marks-is, takes-is}
-use Rattle.model_session.specs.Session.{Session, Msg, newSession, apply, keep, top, Holdable, smallFlight}
+use Rattle.model_session.specs.Session.{Session, Msg, newSession, apply, applyAll, keep, top, Holdable, smallFlight}
 use Rattle.model_session.specs.Summary.{fnvStep, fnv, fnvStart, fnvMessage, fnvMessages, numberedFrom, lastOut, summary}
 use Rattle.model_session.proofs.Basics.{T→true, and-true, cond-cases}
 use Rattle.model_session.proofs.Writing.{Suits}
@@ -90,3 +90,22 @@ empty-stored = refl
 empty-hashed : lastOut (apply 0 1 (recordMsg 1 []) newSession) 1 ≡ fnv fnvStart (1 ∷ 0 ∷ 0 ∷ 0 ∷ 0 ∷ 0 ∷ 0 ∷ 0 ∷ 0 ∷ 0 ∷ 0 ∷ 0 ∷ 0 ∷ 0 ∷ 0 ∷ 0 ∷ [])
 unfolding lastOut apply keep fnvMessage bytesOf fnvStep
 empty-hashed = refl
+
+-- of messages 1, 2 and 3 a range of two leaves out the first; a range of three, and any longer one, has them all
+abbrev three : Session
+three = applyAll 9 9 (recordMsg 1 (7 ∷ []) ∷ recordMsg 2 [] ∷ recordMsg 3 (8 ∷ 9 ∷ []) ∷ []) newSession
+
+-- number 2, length 0; number 3, length 2 and its bytes
+abbrev twoAndThree : List ℕ
+twoAndThree = 2 ∷ 0 ∷ 0 ∷ 0 ∷ 0 ∷ 0 ∷ 0 ∷ 0 ∷ 0 ∷ 0 ∷ 0 ∷ 0 ∷ 0 ∷ 0 ∷ 0 ∷ 0 ∷ 3 ∷ 0 ∷ 0 ∷ 0 ∷ 0 ∷ 0 ∷ 0 ∷ 0 ∷ 2 ∷ 0 ∷ 0 ∷ 0 ∷ 0 ∷ 0 ∷ 0 ∷ 0 ∷ 8 ∷ 9 ∷ []
+
+range-part :
+    lastOut three 2 ∷ lastOut three 3 ∷ lastOut three top ∷ []
+    ≡ fnv fnvStart twoAndThree ∷ fnv fnvStart (1 ∷ 0 ∷ 0 ∷ 0 ∷ 0 ∷ 0 ∷ 0 ∷ 0 ∷ 1 ∷ 0 ∷ 0 ∷ 0 ∷ 0 ∷ 0 ∷ 0 ∷ 0 ∷ 7 ∷ twoAndThree) ∷ fnv fnvStart (1 ∷ 0 ∷ 0 ∷ 0 ∷ 0 ∷ 0 ∷ 0 ∷ 0 ∷ 1 ∷ 0 ∷ 0 ∷ 0 ∷ 0 ∷ 0 ∷ 0 ∷ 0 ∷ 7 ∷ twoAndThree) ∷ []
+unfolding lastOut apply keep fnvMessage bytesOf fnvStep
+range-part = refl
+
+-- with M = 0 any message, an empty one too, keeps its number only, and nothing else changes; with M = 1 it is stored
+none-kept : apply 9 0 (recordMsg 1 []) newSession ∷ apply 9 0 (recordMsg 1 (7 ∷ [])) newSession ∷ [] ≡ apply 9 0 (recordBare 1) newSession ∷ apply 9 0 (recordBare 1) newSession ∷ []
+unfolding apply keep
+none-kept = refl

@@ -1,4 +1,4 @@
--- Sending a session whole, one frame a call.
+-- Sending a session whole, one frame a call: the frames of `wholeFrames` (Whole.antt), by `sends-whole` in proofs/Sender.
 -- Assumes nothing.
 use mathlib.Core.Path.{_≡_}
 use Prim.Native.Nat.{ℕ, zero, suc, _+_, max}

@@ -97,7 +97,7 @@ messageBytes (c ∷ cs) = messageLength c + messageBytes cs
 
 -- ---- what the store can hold
 
--- the numbers rise, are at least `low` and below `next`
+-- the numbers rise, are at least `low` and below `next`; the texts are bytes
 abbrev pub Rising : ℕ → ℕ → List Msg → Type 0
 Rising low next [] = Unit {0}
 Rising low next (m ∷ ms) = (low ≤ m .num) × (m .num < next) × T (isBytes (m .text)) × Rising (suc (m .num)) next ms
@@ -121,7 +121,8 @@ pub record Holdable (C M : ℕ) (s : Session) : Type 0 where
   pub msgs-bytes : storedBytes (s .messages) ≤ C
   pub msgs-count : length (s .messages) ≤ M
 
--- a change whose numbers, bytes, stamp or marks the store can hold
+-- a change whose incoming and in-flight numbers, message bytes, stamp or marks the store can hold; of a Record's number nothing is asked here, as `fits`
+-- judges it
 abbrev pub Storable : Change → Type 0
 Storable (setIncoming n) = n ≤ top
 Storable (setIncomingInFlight n f) = (n ≤ top) × (f ≤ top)

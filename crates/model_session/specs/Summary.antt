@@ -28,7 +28,7 @@ abbrev pub fnvMessages : ℕ → List Msg → ℕ
 fnvMessages h [] = h
 fnvMessages h (m ∷ ms) = fnvMessages (fnvMessage h m) ms
 
--- the messages with numbers from `low` on
+-- the messages with numbers from `low` on; to next - 1 are all, in every session that the store can hold (`Rising` in `Holdable`)
 abbrev pub numberedFrom : ℕ → List Msg → List Msg
 numberedFrom low [] = []
 numberedFrom low (m ∷ ms) = cond (leb low (m .num)) (m ∷ numberedFrom low ms) (numberedFrom low ms)

@@ -10,7 +10,7 @@ use Rattle.model_text.specs.Stamp.{longestStamp}
 use Rattle.model_frame.specs.Frame.{Change, setIncoming, setIncomingInFlight, recordMsg, recordBare, reset, setCreatedAt, setMarks, Frame, batch, whole, lastWhole}
 use Rattle.model_session.specs.Session.{Session, Msg}
 
--- 1,048,576 for head offices
+-- a batch with more message bytes than these is full
 abbrev pub batchLimit : ℕ
 batchLimit = 1048576
 
@@ -42,7 +42,8 @@ batchIf true now rest = now ∷ rest
 batchIf false now rest = rest
 
 module _ (limit : ℕ) (a : Session) where
-  -- the batch so far with its message bytes, the next number, the messages left
+  -- the batch so far with its message bytes, the next number, the messages left; one batch a call is `sendNext` (Sender.antt), and that both give the
+  -- same frames is `sends-whole` (proofs/Sender)
   abbrev pub batchesFrom : List Change → ℕ → ℕ → List Msg → List (List Change)
   batchesFrom now bytes next [] = (now ++ closing a next) ∷ []
   batchesFrom now bytes next (m ∷ ms) =

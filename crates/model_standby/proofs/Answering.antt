@@ -26,7 +26,7 @@ use Rattle.model_standby.specs.Answer.{protocolVersion, Given, damaged, 
 use Rattle.model_standby.specs.Store.{Place, placeOf, sessionAt, orNew}
 use Rattle.model_standby.specs.State.{Settings, incarnationOf, Standby, Result, Call, onFrameHeld, onFrame, flush, disconnectedFrom, promote, promoteUnchecked}
 use Rattle.model_standby.specs.Standby.{runPending, due, onGiven, step}
-use Rattle.model_standby.specs.Rules.{OkCall, Readable, Valid}
+use Rattle.model_standby.proofs.Rules.{OkCall, Readable, Valid}
 use Rattle.model_standby.proofs.Outcomes.{Nacked, staleBind, lagBind, staleBatch, staleChecked, otherChecked, Batches, refuses, clears, raises, holds, applies, diverges, Does, turns, tells, nacks, greets, binds, checks, batches, does}
 use Rattle.model_standby.proofs.Places.{each-at, each-mark}
 use Rattle.model_standby.proofs.Ruling.{Passed, passed}

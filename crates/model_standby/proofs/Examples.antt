@@ -2,7 +2,7 @@
 -- computed.
 -- Assumes nothing.
 use mathlib.Core.Path.{_≡_, refl}
-use Prim.Native.Nat.{ℕ}
+use Prim.Native.Nat.{ℕ, _-_}
 use mathlib.Core.List.{List, [], _∷_, _++_, map}
 use mathlib.Core.Option.{none, some}
 use mathlib.Core.Bool.{Bool, true, false}
@@ -18,6 +18,7 @@ use Rattle.model_session.specs.Session.{newSession, keep, apply, top}
 use Rattle.model_session.specs.Summary.{summary}
 use Rattle.model_standby.specs.Answer.{given, Answer, reply, refused, done}
 use Rattle.model_standby.specs.Row.{put}
+use Rattle.model_standby.specs.Store.{withB, takenOver}
 use Rattle.model_standby.specs.State.{Settings, Standby, Call, onFrameHeld, onFrame, flush, disconnectedFrom, promote, newStandby}
 use Rattle.model_standby.specs.Standby.{onHello, onBind, onChecked, settle, hold, onPart, onHandle, onBatch, onGiven, step, run}
 
@@ -206,3 +207,58 @@ epochAfter f = step L₁ (two true true [] 0 0) (held f) .state .counters .epoch
 epochs-so : epochAfter (bind 1 8 0 (keyOf 65)) ∷ epochAfter (batch 3 8 1 commit [] (record { kind = 1; blob = [] } ∷ [])) ∷ epochAfter (batch 3 8 1 commit [] []) ∷ epochAfter (checked 1 8 7) ∷ [] ≡ 0 ∷ 0 ∷ 8 ∷ 8 ∷ []
 unfolding step onGiven onBind onBatch onHandle onChecked given encode bodyBytes blobBytes appRecordBytes keyBytes runBytes bytesOf decode le readNum readBytes readBlob readText readCount many readBody readFields bindFields batchFields checkedFields readChanges readAppRecords readAppRecord readPart readKey utf8 wellFormed leadLength ownBits least fitting isScalar isSurrogate isPrintableByte isPrintable isKey
 epochs-so = refl
+
+-- ---- what goes: a binding by a Bind on its handle or by an accepted Hello; at promotion numbers and marks
+
+-- two sessions, the first marked as durable or not; handle 1 at a place and a number, with these changes held and this byte sum
+abbrev onOne : Bool → List (ℕ × ℕ) → ℕ → ℕ → List Change → ℕ → Standby
+onOne durable pending place n cs sum =
+    record {
+      counters = newStandby [] 0 .counters;
+      places = two durable true [] 0 0 .places;
+      handles = some (1, record { place = place; number = n; held = cs; bytes = sum }) ∷ none ∷ [];
+      pending = pending;
+    }
+
+-- a Bind on a used handle starts it anew, on another session here; the pending commit has run
+binds-anew : run L₁ (onOne false ((1, 0) ∷ []) 0 4 (reset ∷ []) 3) (held (bind 1 0 0 (keyOf 66)) ∷ []) ≡ onOne true [] 1 0 [] 0
+unfolding step onGiven onBind put given encode bodyBytes blobBytes keyBytes bytesOf decode le readNum readBytes readBlob readText readBody readFields bindFields readKey utf8 wellFormed leadLength ownBits least fitting isScalar isSurrogate isPrintableByte isPrintable isKey
+binds-anew = refl
+
+-- two sessions that are marked, no handle bound, no commit pending, at this epoch and count of connections
+abbrev noneBound : ℕ → ℕ → Standby
+noneBound epoch connections =
+    record {
+      counters = record { epoch = epoch; connections = connections; promoted = false; checked = false };
+      places = two true true [] 0 0 .places;
+      handles = none ∷ none ∷ [];
+      pending = [];
+    }
+
+-- an accepted Hello, of the standby's epoch too, drops the bindings and counts a connection; a lower one does neither
+hello-drops :
+    run L₁ (two false true ((1, 0) ∷ []) 3 4) (held (hello 1 5 [] []) ∷ [])
+    ∷ run L₁ (two false true ((1, 0) ∷ []) 3 4) (held (hello 1 0 [] []) ∷ [])
+    ∷ run L₁ (noneBound 5 1) (held (hello 1 4 [] []) ∷ [])
+    ∷ []
+    ≡ noneBound 5 1 ∷ noneBound 0 1 ∷ noneBound 5 1 ∷ []
+unfolding step onGiven onHello given encode bodyBytes blobBytes runBytes bytesOf decode le readNum readBytes readBlob readText readCount many readBody readFields helloFields readKinds utf8 wellFormed leadLength ownBits least fitting isScalar isSurrogate
+hello-drops = refl
+
+-- a lower Hello keeps what is bound: handle 1 takes its next Commit
+hello-keeps : answers L₁ (two true true [] 3 4) (held (batch 1 5 4 commit [] []) ∷ held (hello 1 4 [] []) ∷ held (batch 1 5 5 commit [] []) ∷ held (hello 1 5 [] []) ∷ held (batch 1 5 6 commit [] []) ∷ [])
+    ≡ reply (ack 1 4) ∷ reply (welcome 5 7) ∷ reply (ack 1 5) ∷ reply (welcome 5 7) ∷ refused 14 ∷ []
+unfolding step onGiven onHello onBatch onHandle onPart settle apply put given encode bodyBytes blobBytes changeBytes runBytes bytesOf decode le readNum readBytes readBlob readText readCount many readBody readFields helloFields batchFields readKinds readChanges readAppRecords readPart utf8 wellFormed leadLength ownBits least fitting isScalar isSurrogate
+hello-keeps = refl
+
+-- marks get a final B: none, one byte, already B, 63 bytes, 64 bytes (the last replaced), 64 that end in B
+marks-so : map withB ([] ∷ (65 ∷ []) ∷ (66 ∷ []) ∷ replicate 63 65 ∷ replicate 64 65 ∷ (replicate 63 65 ++ (66 ∷ [])) ∷ [])
+    ≡ (66 ∷ []) ∷ (65 ∷ 66 ∷ []) ∷ (66 ∷ []) ∷ (replicate 63 65 ++ (66 ∷ [])) ∷ (replicate 63 65 ++ (66 ∷ [])) ∷ (replicate 63 65 ++ (66 ∷ [])) ∷ []
+marks-so = refl
+
+-- next outgoing at promotion: the same with lag 0, else next + lag, and 2^64 - 1 at most
+abbrev nextAfter : ℕ → ℕ → ℕ
+nextAfter lag next = takenOver lag (record { session = record { stamp = []; nextOut = next; nextIn = 1; inFlight = none; marks = []; messages = [] }; durable = false }) .session .nextOut
+
+cap-so : nextAfter 0 top ∷ nextAfter 5 7 ∷ nextAfter 4 (top - 5) ∷ nextAfter 5 (top - 5) ∷ nextAfter 6 (top - 5) ∷ nextAfter top 1 ∷ [] ≡ top ∷ 12 ∷ (top - 1) ∷ top ∷ top ∷ top ∷ []
+cap-so = refl

@@ -5,6 +5,7 @@ pub mod Outcomes
 pub mod Copying
 pub mod Taking
 pub mod Demand3
+pub mod Rules
 pub mod Ruling
 pub mod Apart
 pub mod Factoring

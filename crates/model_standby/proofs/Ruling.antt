@@ -28,7 +28,7 @@ use Rattle.model_standby.specs.Row.{Row, Used, find}
 use Rattle.model_standby.specs.Store.{Stored, Place, placeOf, isStored, onPlace, sessionAt, orNew, newPlace, opened, changed, withB, takenOver}
 use Rattle.model_standby.specs.State.{Settings, Bound, Standby, Result, Call, onFrameHeld, onFrame, flush, disconnectedFrom, promote, promoteUnchecked, newStandby, atEpoch, newBound, noneHeld, numbered}
 use Rattle.model_standby.specs.Standby.{withCounters, withHandle, unbound, runPending, due, pendsOn, bindTo, heldSum, raised, maxWhole, startsWithReset, summed, holding, applied, onGiven, promotion, step, run}
-use Rattle.model_standby.specs.Rules.{OkCall, changesOf, Readable, BoundValid, BoundUsual, StateRules, Valid, Usual}
+use Rattle.model_standby.proofs.Rules.{OkCall, changesOf, Readable, BoundValid, BoundUsual, StateRules, Valid, Usual}
 use Rattle.model_standby.proofs.Outcomes.{Gathers, ofCommit, ofLast, Batches, refuses, clears, raises, holds, applies, diverges, Does, turns, tells, nacks, greets, binds, checks, batches, does}
 use Rattle.model_standby.proofs.Rows.{used-found, used-put, used-freed, used-none, used-map}
 use Rattle.model_standby.proofs.Places.{place-low, length-on, pending-length, length-places, each-at, each-on, each-places, each-mark}

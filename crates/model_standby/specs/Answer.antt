@@ -15,7 +15,7 @@ use Rattle.model_standby.specs.Row.{isSome}
 abbrev pub protocolVersion : ℕ
 protocolVersion = 1
 
--- ---- what is handed in: bytes refused with this number, or just one whole frame
+-- ---- what is handed in: bytes refused with this number (faulty, a part of a frame, more than a frame: two good ones too), or just one whole frame
 
 pub data Given : Type 0 where
   damaged : ℕ → Given

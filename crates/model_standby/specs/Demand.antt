@@ -1,4 +1,5 @@
--- What demand 3 says: the start, and the two lists of calls.
+-- Demand 3 of the model's steps: the start, and the two lists of calls. What the client reads is the claim of the code
+-- (crates/theorem_whole_copy/specs/Demand.antt), which follows from this one.
 -- Assumes nothing.
 use mathlib.Core.Path.{_≡_}
 use Prim.Native.Nat.{ℕ, _+_, _^_, _≤_, _<_}

@@ -1,5 +1,5 @@
--- The standby: the row of handles, answers, the store's places, the state, its calls; the plain copy and demand 3; the rules
--- that calls keep; what goes into the hold areas; the calls as the code cuts them.
+-- The standby: the row of handles, answers, the store's places, the state, its calls; the plain copy and demand 3;
+-- what goes into the hold areas; the calls as the code cuts them.
 pub mod Row
 pub mod Answer
 pub mod Store
@@ -7,7 +7,6 @@ pub mod State
 pub mod Standby
 pub mod PlainCopy
 pub mod Demand
-pub mod Rules
 pub mod Hold
 pub mod Core
 pub mod Starred

@@ -14,7 +14,8 @@ use Rattle.model_standby.specs.Store.{Place, sameKey}
 use Rattle.model_standby.specs.State.{Settings, Bound, Standby, Call, onFrameHeld, onFrame, flush, disconnectedFrom, promote, promoteUnchecked}
 use Rattle.model_standby.specs.Standby.{step}
 
--- ---- the key of a session: its bytes, and how many earlier places have the same bytes (no operation makes two such places)
+-- ---- the key of a session: its bytes, and how many earlier places have the same bytes. In every store that operations made that is 0, and the key is its
+-- bytes (`apart-run`, `apart-found` in proofs/Apart); areas that hold one key twice are allowed too
 
 pub record OwnKey : Type 0 where
   pub key : Key

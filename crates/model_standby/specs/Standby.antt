@@ -98,7 +98,7 @@ module _ (L : Settings) where
 abbrev pub follows : Bound → ℕ → Bool
 follows b n = eqb n (suc (b .number)) && ltb (b .number) top
 
--- with nothing held the byte sum counts as 0
+-- with nothing held the byte sum counts as 0. In a run from a new standby it then is 0, so that `raised` is document 01's sum: `run-raised` in proofs/Ruling
 abbrev pub heldSum : Bound → ℕ
 heldSum b = cond (isEmpty (b .held)) 0 (b .bytes)
 

@@ -20,6 +20,8 @@ abbrev pub linesOf : List ℕ → List (List ℕ)
 linesOf [] = []
 linesOf (b ∷ s) = cond (eqb b feed) ([] ∷ linesOf s) (inFront b (linesOf s))
 
+-- ---- the same, of a text that is read in pieces: `handed-read` in proofs/Split shows that it gives these lines
+
 -- where the first line feed stands, or the length
 abbrev pub firstFeed : List ℕ → ℕ
 firstFeed [] = zero

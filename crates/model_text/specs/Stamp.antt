@@ -44,7 +44,7 @@ millis = mark 46 ∷ digit ∷ digit ∷ digit ∷ []
 unfoldable pub isStamp : List ℕ → Bool
 isStamp s = matches (date ++ clock) s || matches (date ++ clock ++ millis) s
 
--- a stamp that reading takes in a version of the protocol
+-- a stamp that reading takes in a version of the protocol: each, in every version
 unfoldable pub takesStamp : ℕ → List ℕ → Bool
 takesStamp version s = isStamp s
 

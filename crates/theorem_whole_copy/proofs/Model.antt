@@ -26,13 +26,13 @@ module _ (s : Settings) (room : ℕ) where
   L = settingsOf s room
 
   -- a call from what x stands for
-  record After (st : Standby) (c : Call) (y : Lent) (a : Answer) : Type 0 where
-    state : standsFor s y ≡ step L st c .state
-    answer : answerOf (y .bytes) a ≡ step L st c .answer
-    allowed : Allowed s y
-    same : roomAll (y .row) (y .holds) ≡ room
+  pub record After (st : Standby) (c : Call) (y : Lent) (a : Answer) : Type 0 where
+    pub state : standsFor s y ≡ step L st c .state
+    pub answer : answerOf (y .bytes) a ≡ step L st c .answer
+    pub allowed : Allowed s y
+    pub same : roomAll (y .row) (y .holds) ≡ room
 
-  one : {x y : Lent} {c : Call} {a : Answer} → Allowed s x → roomAll (x .row) (x .holds) ≡ room → Calls s c x y a → (st : Standby) → standsFor s x ≡ st → After st c y a
+  pub one : {x y : Lent} {c : Call} {a : Answer} → Allowed s x → roomAll (x .row) (x .holds) ≡ room → Calls s c x y a → (st : Standby) → standsFor s x ≡ st → After st c y a
   one {x} {y} {c} {a} ok r p st e =
       let q = p .steps ok in
       let is : _≡_ {A = Result} (record { state = standsFor s y; answer = answerOf (y .bytes) a }) (step L st c) = q .is ∙ (λ j. step (settingsOf s (r j)) (e j) c) in

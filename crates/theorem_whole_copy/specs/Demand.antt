@@ -1,5 +1,6 @@
 -- DEMAND 3 ON THE CODE. A session sent whole into the standby ends in exactly A or exactly B. Each step of the lists below is what
--- the contract of the entry point that was called promises (`Called`, crates/standby_step/specs/Calls.antt), so this speaks of the code.
+-- the contract of the entry point that was called promises (`Called`, crates/standby_step/specs/Calls.antt; that these contracts do is
+-- Entries.antt), so this speaks of the code. The same claim of the model's steps is `ModelClaim` (crates/model_standby/specs/Demand.antt).
 -- Assumes nothing.
 use Prim.Native.Nat.{ℕ, _+_, _^_, _≤_, _<_}
 use mathlib.Core.Path.{_≡_}
@@ -49,7 +50,7 @@ module _ (s : Settings) where
   abbrev pub Allowed : Lent → Type 0
   Allowed x = allowedAll s (x .row) (x .words) (x .bytes) (x .holds) ≡ true
 
-  -- one call, from x to y, with the answer a: the entry point's promise
+  -- one call, from x to y, with the answer a: the entry point's promise (Entries.antt)
   abbrev pub Calls : Call → Lent → Lent → Answer → Type 0
   Calls call x y a = Called s call (x .counters) (y .counters) (x .row) (y .row) (x .words) (y .words) (x .bytes) (y .bytes) (x .holds) (y .holds) a
 

@@ -1,4 +1,4 @@
--- The rules of a state that the operations keep, and what is handed in.
+-- The rules of a state that the operations keep, and what is handed in: for theorems (Ruling.antt). No promise of the code cites them.
 -- Assumes nothing.
 use mathlib.Core.Path.{_≡_}
 use Prim.Native.Nat.{ℕ, _≤_, _<_}
