@@ -32,20 +32,17 @@ ruled-of w e =
       few-behind = leb-true (getD w 1 0) 256 (and-right (leb (getD w 0 0) 256) (leb (getD w 1 0) 256) counts);
     }
 
-pub is-ruled : (w : List ℕ) → 1286 ≤ length w → getD w 0 0 ≤ 256 → leb (getD w 1 0) 256 ≡ allowed w
+-- the two counts decide it where the area is long enough
+pub by-counts : (w : List ℕ) → 1286 ≤ length w → (leb (getD w 0 0) 256 && leb (getD w 1 0) 256) ≡ allowed w
 unfolding allowed
-is-ruled w long few = sym (ap (λ (b : Bool). b && (leb (getD w 0 0) 256 && leb (getD w 1 0) 256)) (le-leb 1286 (length w) long) ∙ ap (λ (b : Bool). b && leb (getD w 1 0) 256) (le-leb (getD w 0 0) 256 few))
+by-counts w long = sym (ap (λ (b : Bool). b && (leb (getD w 0 0) 256 && leb (getD w 1 0) 256)) (le-leb 1286 (length w) long))
 
 pub allowed-of : (w : List ℕ) → Ruled w → allowed w ≡ true
-allowed-of w r = sym (is-ruled w (r .long) (r .few)) ∙ le-leb (getD w 1 0) 256 (r .few-behind)
+allowed-of w r = sym (by-counts w (r .long)) ∙ ap (λ (b : Bool). b && leb (getD w 1 0) 256) (le-leb (getD w 0 0) 256 (r .few)) ∙ le-leb (getD w 1 0) 256 (r .few-behind)
 
 pub too-short : (w : List ℕ) → length w < 1286 → false ≡ allowed w
 unfolding allowed
 too-short w short = sym (ap (λ (b : Bool). b && (leb (getD w 0 0) 256 && leb (getD w 1 0) 256)) (lt-leb 1286 (length w) short))
-
-pub too-many : (w : List ℕ) → 1286 ≤ length w → 256 < getD w 0 0 → false ≡ allowed w
-unfolding allowed
-too-many w long many = sym (ap (λ (b : Bool). b && (leb (getD w 0 0) 256 && leb (getD w 1 0) 256)) (le-leb 1286 (length w) long) ∙ ap (λ (b : Bool). b && leb (getD w 1 0) 256) (lt-leb (getD w 0 0) 256 many))
 
 -- ---- lists from numbered places
 

@@ -1,7 +1,8 @@
 // The words of an active's books (active.rs, State) in the area that the caller lends: whether they keep the rules, and where a session stands among them; specs/Words.antt says what each word is.
 ghost use mathlib.Core.Path.{_≡_};
-ghost use mathlib.Core.Option.{none};
-ghost use Prim.Native.Nat.{_+_, _≤_, _<_};
+ghost use mathlib.Core.Bool.{_&&_};
+ghost use lib.Dec.{leb};
+ghost use Prim.Native.Nat.{_+_, _≤_};
 ghost use lib.ListN.{length};
 ghost use Rattle.model_active.specs.CatchUp.{is, catchingNow};
 ghost use Rattle.active_books_area.specs.Words.{flagged, bookOf, allowed};
@@ -34,8 +35,8 @@ pub mod word {
 
 // The two counts of an area: how many sessions were met, and how many are behind.
 pub struct Books {
-    pub met: u64,
-    pub behind: u64,
+    pub met: usize,
+    pub behind: usize,
 }
 
 impl Books {
@@ -43,6 +44,13 @@ impl Books {
     pub const MAX_SESSIONS: usize = 256;
     // The words of the lent area.
     pub const WORDS: usize = 1286;
+
+    // Both counts are at most 256.
+    pub fn is_allowed(self) -> bool
+        ensures { λ r. ⌜ r ≡ (leb (self .met) 256 && leb (self .behind) 256) ⌝ }
+    {
+        (self.met <= Books::MAX_SESSIONS) & (self.behind <= Books::MAX_SESSIONS)
+    }
 }
 
 // Whether an area is long enough and its counts are at most 256.
@@ -52,10 +60,9 @@ pub fn is_allowed(words: &[u64]) -> bool
     if words.len() < Books::WORDS {
         return false;
     }
-    if 256 < words[word::MET_COUNT] {
-        return false;
-    }
-    words[word::BEHIND_COUNT] <= 256
+    let met = words[word::MET_COUNT] as usize;
+    let behind = words[word::BEHIND_COUNT] as usize;
+    Books { met, behind }.is_allowed()
 }
 
 // Where a session stands first among n words from `base` on: n if it doesn't.

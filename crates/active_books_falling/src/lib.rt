@@ -1,10 +1,10 @@
 // Several sessions fall behind together, in the order they were met.
 ghost use mathlib.Core.Path.{_≡_};
-ghost use mathlib.Core.Bool.{true, not, _&&_};
+ghost use mathlib.Core.Bool.{not, _&&_};
 ghost use mathlib.Core.List.{_++_};
 ghost use Prim.Native.Nat.{_+_, _≤_, _<_};
 ghost use lib.ListN.{length, getD};
-ghost use Rattle.model_active.specs.CatchUp.{member, openOnly, listed, falling, sessions, is, behindNow};
+ghost use Rattle.model_active.specs.CatchUp.{member, openOnly, listed, falling, is, behindNow};
 ghost use Rattle.active_books_area.specs.Words.{flagged, listFrom, wordAt, bookOf, entryAt};
 ghost use Rattle.active_books_area.specs.Parts.{Ruled, Makes};
 ghost use Rattle.active_books_falling.specs.Together.{Fallen, newFalling, FallsAll};

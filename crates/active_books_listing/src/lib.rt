@@ -1,11 +1,10 @@
 // A listing's sessions are met: all of them, or none where there is no room for all.
 ghost use mathlib.Core.Path.{_≡_};
-ghost use mathlib.Core.Bool.{true, _||_};
+ghost use mathlib.Core.Bool.{_||_};
 ghost use mathlib.Core.List.{_++_};
-ghost use mathlib.Core.Option.{none};
-ghost use Prim.Native.Nat.{_+_, _≤_, _<_};
+ghost use Prim.Native.Nat.{_+_, _≤_};
 ghost use lib.ListN.{length, getD};
-ghost use Rattle.model_active.specs.CatchUp.{member, sessions, is, metNow};
+ghost use Rattle.model_active.specs.CatchUp.{member, sessions, metNow};
 ghost use Rattle.active_books_area.specs.Words.{listFrom, wordAt, bookOf};
 ghost use Rattle.active_books_area.specs.Parts.{Ruled, Makes};
 ghost use Rattle.active_books_listing.specs.Listings.{newAt, Gathers, Lists};

@@ -1,10 +1,7 @@
 // Who is next to be caught up, and whether Checked is told: what the books say of a listing.
 ghost use mathlib.Core.Path.{_≡_};
-ghost use mathlib.Core.Bool.{true, not, _&&_};
-ghost use mathlib.Core.Option.{none};
-ghost use Prim.Native.Nat.{_+_, _<_};
-ghost use lib.ListN.{length};
-ghost use Rattle.model_active.specs.CatchUp.{isOpen, allWith, toldChecked, listed, is, comparedOf};
+ghost use mathlib.Core.Bool.{not, _&&_};
+ghost use Rattle.model_active.specs.CatchUp.{isOpen, allWith, toldChecked, is, comparedOf};
 ghost use Rattle.active_books_area.specs.Words.{bookOf};
 ghost use Rattle.active_books_area.specs.Parts.{Ruled};
 ghost use Rattle.active_books_next.specs.Firsts.{FirstBehind, FirstListed};

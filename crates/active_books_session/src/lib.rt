@@ -1,9 +1,7 @@
 // One session in the books: it is met, counted open or closed, compared, put behind, or taken from those behind.
 ghost use mathlib.Core.Path.{_≡_};
-ghost use mathlib.Core.Bool.{not};
 ghost use mathlib.Core.List.{[], _∷_, _++_};
-ghost use mathlib.Core.Option.{none};
-ghost use Prim.Native.Nat.{suc, min, _+_, _<_};
+ghost use Prim.Native.Nat.{suc, min, _<_};
 ghost use lib.ListN.{getD};
 ghost use lib.Dec.{ltb};
 ghost use Rattle.model_active.specs.CatchUp.{member, joining, without, less, is, comparedOf, onEntry, opened, shut, comparedWith, metNow, behindNow};

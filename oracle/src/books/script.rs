@@ -120,14 +120,14 @@ fn call(line: &str) -> Option<Call> {
     }
 }
 
-/// A script's answers, a line each. Of several scripts, one after the other, each line `new` begins another.
+/// A script's answers, a line each. Of several scripts, one after the other, each line `make` begins another.
 pub fn run<S: Side>(script: &str, several: bool) -> String {
     let mut side = S::new();
     let mut out = String::new();
     for line in script.lines().filter(|line| !line.is_empty() && !line.starts_with('#')) {
         match call(line) {
             Some(call) => out.push_str(&format!("{}\n", side.call(&call))),
-            None if several && line == "new" => side = S::new(),
+            None if several && line == "make" => side = S::new(),
             None => out.push_str(&format!("? {line}\n")),
         }
     }
