@@ -84,25 +84,51 @@ fn read_numbers(line: &[u8], k: u32, numbers: &mut [u64]) -> usize
     n
 }
 
-// A call that names a listing.
-fn call_listed(words: &mut [u64], line: &[u8], first: u8) {
+// All of a listing fall behind.
+fn all(words: &mut [u64], line: &[u8]) {
     let mut numbers = [0u64; 600];
-    if first == b'a' {
-        let n = read_numbers(line, 1, &mut numbers);
-        put_answer(active_books_pass::all_fall_behind(words, &numbers[0..n]));
-        return;
-    }
+    let n = read_numbers(line, 1, &mut numbers);
+    put_answer(active_books_pass::all_fall_behind(words, &numbers[0..n]));
+}
+
+fn next(words: &mut [u64], line: &[u8]) {
+    let mut numbers = [0u64; 600];
     let n = read_numbers(line, 2, &mut numbers);
     let incarnation = Incarnation(field(line, 1));
-    if first == b'n' {
-        put_answer(active_books_pass::next_to_catch_up(words, &numbers[0..n], incarnation));
-        return;
-    }
+    put_answer(active_books_pass::next_to_catch_up(words, &numbers[0..n], incarnation));
+}
+
+fn check(words: &mut [u64], line: &[u8]) {
+    let mut numbers = [0u64; 600];
+    let n = read_numbers(line, 2, &mut numbers);
+    let incarnation = Incarnation(field(line, 1));
     put_answer(active_books_pass::all_compared(words, &numbers[0..n], incarnation));
 }
 
-// A call that names one session, or none.
-fn call_one(words: &mut [u64], line: &[u8], first: u8, second: u8) {
+// A call whose name begins with c: `check`, `close` or `compared`.
+fn call_c(words: &mut [u64], line: &[u8], second: u8) {
+    if second == b'h' {
+        check(words, line);
+        return;
+    }
+    if second == b'l' {
+        put_answer(active_books::closed(words, field(line, 1)));
+        return;
+    }
+    put_answer(active_books::caught_up(words, field(line, 1), Incarnation(field(line, 2))));
+}
+
+// A call whose name begins with a: `all` or `acked`.
+fn call_a(words: &mut [u64], line: &[u8], second: u8) {
+    if second == b'l' {
+        all(words, line);
+        return;
+    }
+    put_answer(active_books::acknowledged(words, Incarnation(field(line, 1))));
+}
+
+// `behind`, `open`, `is` or `ended`.
+fn call_one(words: &mut [u64], line: &[u8], first: u8) {
     let session = field(line, 1);
     if first == b'b' {
         put_answer(active_books::fall_behind(words, session));
@@ -116,19 +142,11 @@ fn call_one(words: &mut [u64], line: &[u8], first: u8, second: u8) {
         put_answer(active_books::is_behind(words, session));
         return;
     }
-    if first == b'e' {
-        put_answer(active_books::ended(words, session, Incarnation(field(line, 2))));
-        return;
-    }
-    if second == b'l' {
-        put_answer(active_books::closed(words, session));
-        return;
-    }
-    put_answer(active_books::caught_up(words, session, Incarnation(field(line, 2))));
+    put_answer(active_books::ended(words, session, Incarnation(field(line, 2))));
 }
 
-// A line whose first word begins with these two letters.
-fn call(words: &mut [u64], line: &[u8], first: u8, second: u8) {
+// `make`, `word`, `pass`, or a call on one session.
+fn call_other(words: &mut [u64], line: &[u8], first: u8) {
     if first == b'm' {
         make(words);
         return;
@@ -138,29 +156,28 @@ fn call(words: &mut [u64], line: &[u8], first: u8, second: u8) {
         return;
     }
     if first == b'p' {
-        put_answer(active_books_pass::behind_unless_compared_open(
-            words,
-            Incarnation(field(line, 1)),
-        ));
+        let incarnation = Incarnation(field(line, 1));
+        put_answer(active_books_pass::behind_unless_compared_open(words, incarnation));
         return;
     }
+    call_one(words, line, first);
+}
+
+// A line whose first word begins with these two letters.
+fn call(words: &mut [u64], line: &[u8], first: u8, second: u8) {
     if first == b'a' {
-        if second == b'c' {
-            put_answer(active_books::acknowledged(words, Incarnation(field(line, 1))));
-            return;
-        }
-        call_listed(words, line, first);
+        call_a(words, line, second);
+        return;
+    }
+    if first == b'c' {
+        call_c(words, line, second);
         return;
     }
     if first == b'n' {
-        call_listed(words, line, first);
+        next(words, line);
         return;
     }
-    if second == b'h' {
-        call_listed(words, line, first);
-        return;
-    }
-    call_one(words, line, first, second);
+    call_other(words, line, first);
 }
 
 // A line on one area.
