@@ -77,3 +77,6 @@ pub const RULES_BROKEN: u8 = 25;
 
 // Not just one whole frame; of a line: bad digit, odd, empty or long, or not just one whole frame.
 pub const NOT_ONE_FRAME: u8 = 26;
+
+// A 257th session in the books of a catch-up.
+pub const TOO_MANY_SESSIONS: u8 = 27;

@@ -1,0 +1,43 @@
+use lib.ListN.{length-set}
+use Rattle.active_books_area.proofs.Area.{compared-set}
+use native.Mathlib.Omega.{arith}
+use borrow.Author.Needs.{needs}
+use Rattle.active_books_session.proofs.compare.Statement.{statement}
+use Rattle.active_books_session.proofs.compare.Tie as tie
+
+add-words : tie.Need-add-words
+add-words c = search needs
+
+mul-words : tie.Need-mul-words
+mul-words c = search needs
+
+slice-write-words : tie.Need-slice-write-words
+slice-write-words c = search needs
+
+add-words-2 : tie.Need-add-words-2
+add-words-2 c = search needs
+
+mul-words-2 : tie.Need-mul-words-2
+mul-words-2 c = search needs
+
+slice-write-words-2 : tie.Need-slice-write-words-2
+slice-write-words-2 c = simp length-set (omega arith)
+
+same-length : tie.Need-same-length
+same-length c = search needs
+
+returns : tie.Need-returns
+returns c = compared-set (c .args .words .now) (c .args .session) (c .args .i) (c .args .incarnation) (c .pre)
+
+pub compare-spec : {M : Type 1} → statement M
+compare-spec =
+    tie.close
+    (tie.spec
+    add-words
+    mul-words
+    slice-write-words
+    add-words-2
+    mul-words-2
+    slice-write-words-2
+    same-length
+    returns)

@@ -1,0 +1,20 @@
+use Rattle.model_active.specs.CatchUp as m
+use Rattle.c_books.proofs.Laws.{calls}
+use borrow.Author.Needs.{needs}
+use Rattle.c_books.proofs.wz_books_ended.Statement.{statement}
+use Rattle.c_books.proofs.wz_books_ended.Tie as tie
+
+ended-requires : tie.Need-ended-requires
+ended-requires c κs = search needs
+
+in-numbers-requires : tie.Need-in-numbers-requires
+in-numbers-requires c κs = search needs
+
+same-length : tie.Need-same-length
+same-length c = search needs
+
+returns : tie.Need-returns
+returns c = calls (c .before .before .before .before .before .before .args .words .now) (c .before .before .before .ended .last .0) (m.ended (c .before .before .before .before .before .before .args .session) (c .before .before .before .before .before .before .args .incarnation .0)) _ (c .in-numbers .result) (c .before .before .before .ended .ensures) (c .in-numbers .ensures)
+
+pub wz-books-ended-spec : {M : Type 1} → statement M
+wz-books-ended-spec = tie.close (tie.spec ended-requires in-numbers-requires same-length returns)
