@@ -77,3 +77,12 @@ pub const RULES_BROKEN: u8 = 25;
 
 // Not just one whole frame; of a line: bad digit, odd, empty or long, or not just one whole frame.
 pub const NOT_ONE_FRAME: u8 = 26;
+
+// Of a message log: a field fault.
+pub const FIELD_FAULT: u8 = 28;
+
+// Of a message log: a false length or sum.
+pub const FALSE_LENGTH_OR_SUM: u8 = 29;
+
+// Of a message log: a number that doesn't rise.
+pub const NUMBER_NOT_RISING: u8 = 30;

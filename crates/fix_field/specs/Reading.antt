@@ -3,7 +3,7 @@ use mathlib.Core.Path.{_≡_}
 use mathlib.Core.Bool.{Bool, true, false, cond, _&&_}
 use mathlib.Core.List.{List, [], _∷_}
 use Prim.Native.Nat.{ℕ, zero, suc, _+_, _-_, _≤_, _<_, min}
-use lib.ListN.{length, take, drop}
+use lib.ListN.{length, getD, take, drop}
 use Rattle.model_session.specs.Session.{top}
 use Rattle.model_fix.specs.Field.{endsField, piecesOf, allDigits, numberOf, tagOf, valueOf, isField, hasTag}
 use Rattle.fix_field.specs.declared.Field.{Field}
@@ -19,6 +19,15 @@ part s a e = take (e - a) (drop a s)
 abbrev pub untilEnd : List ℕ → ℕ
 untilEnd [] = zero
 untilEnd (b ∷ s) = cond (endsField b) zero (suc (untilEnd s))
+
+-- n bytes of s from `at` on are no byte 01
+abbrev pub FreeRun : List ℕ → ℕ → ℕ → Type 0
+FreeRun s at n = (k : ℕ) → k < n → getD s (at + k) 0 ≡ 1 → ⊥
+
+-- no byte 01 stands from `from` up to i: the next one is the same from there
+pub record Reaches (s : List ℕ) (from i : ℕ) : Type 0 where
+  pub same : from + untilEnd (drop from s) ≡ i + untilEnd (drop i s)
+  pub within : i ≤ length s
 
 -- the text is digits, and if so their number, at most 2^64 - 1
 pub record Reads (text : List ℕ) (r : Number) : Type 0 where
