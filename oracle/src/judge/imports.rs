@@ -65,9 +65,9 @@ pub fn file(random: &mut Random) -> Vec<u8> {
     let (mut file, mut next) = (Vec::new(), 1);
     for _ in 0..random.below(6) {
         let number = match random.below(24) {
-            0 => random.below(next + 1),
+            0 => random.below(next),
             1 => u64::MAX - random.below(3),
-            2..8 => next + random.below(1000),
+            2..8 => next.saturating_add(random.below(1000)),
             _ => next,
         };
         file.extend(message(random, number));
