@@ -196,7 +196,7 @@ fn main() {
         }
         let each = 1e9 / file.len() as f64;
         println!(
-            "| {}{} bytes | {count} | {:.3} | {:.3} | {:.2} | {:.1} |",
+            "| {} bytes{} | {count} | {:.3} | {:.3} | {:.2} | {:.1} |",
             file.len() / count, if value > 1000 { ", one long field" } else { "" }, ours * each, theirs * each, ours / theirs, ours / copied
         );
     }
