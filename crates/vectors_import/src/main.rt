@@ -31,25 +31,30 @@ fn byte_of(b: u8) -> u8 {
     b
 }
 
-// A line's text behind the file: the file's new length.
-fn append(line: &[u8], file: &mut [u8], len: usize) -> usize {
-    let mut i: usize = 2;
-    let mut n = len;
-    while i < line.len() {
-        if n < file.len() {
-            file[n] = byte_of(line[i]);
-            n += 1;
-        }
-        i += 1;
-    }
-    n
-}
-
 // One byte of the file set.
 fn set(file: &mut [u8], at: usize, b: u8) {
     if at < file.len() {
         file[at] = b;
     }
+}
+
+// A line's text behind the file: the file's new length.
+fn append(line: &[u8], file: &mut [u8], len: usize) -> usize {
+    let mut i: usize = 0;
+    while i < line.len() {
+        set(file, len % 8192 + i % 8192, byte_of(line[i]));
+        i += 1;
+    }
+    len % 8192 + line.len() % 8192
+}
+
+// The text of a line, past its letter and a space.
+fn append_text(line: &[u8], file: &mut [u8], len: usize) -> usize {
+    if line.len() < 2 {
+        return len;
+    }
+    let end = line.len();
+    append(&line[2..end], file, len)
 }
 
 // A sum over words in which the order counts.
@@ -95,20 +100,29 @@ fn put_answer(words: &[u64], bytes: &[u8], shape: Shape, r: Built, kept: bool) {
     put(b"\n");
 }
 
+// The sender of one of three keys; else a byte that no key has.
+fn sender_of(key: u64) -> u8 {
+    if key == 0 {
+        return b'A';
+    }
+    if key == 1 {
+        return b'B';
+    }
+    if key == 2 {
+        return b'C';
+    }
+    7
+}
+
 // An import under one of four keys, of which the last is none.
 fn import(words: &mut [u64], bytes: &mut [u8], shape: Shape, key: u64, file: &[u8]) {
     let before = hash_areas(words, bytes);
-    let sender: &[u8] = match key {
-        0 => b"A",
-        1 => b"B",
-        2 => b"C",
-        _ => b"",
-    };
+    let sender = [sender_of(key)];
     let r = c_import::wz_import(
         words,
         bytes,
         b"FIX.4.4",
-        sender,
+        &sender,
         b"V",
         b"",
         file,
@@ -164,13 +178,13 @@ fn command(line: &[u8], words: &mut [u64], bytes: &mut [u8], file: &mut [u8], s:
         b'x' => State { shape, len: 0 },
         b'a' => State {
             shape,
-            len: append(line, file, len),
+            len: append_text(line, file, len),
         },
         b's' => {
             set(
                 file,
                 vectors_script::field(line, 0) as usize,
-                vectors_script::field(line, 1) as u8,
+                (vectors_script::field(line, 1) % 256) as u8,
             );
             State { shape, len }
         }
