@@ -80,3 +80,11 @@ pub const NOT_ONE_FRAME: u8 = 26;
 
 // A 257th session in the books of a catch-up.
 pub const TOO_MANY_SESSIONS: u8 = 27;
+// Of a message log: a field fault.
+pub const FIELD_FAULT: u8 = 28;
+
+// Of a message log: a false length or sum.
+pub const FALSE_LENGTH_OR_SUM: u8 = 29;
+
+// Of a message log: a number that doesn't rise.
+pub const NUMBER_NOT_RISING: u8 = 30;

@@ -41,6 +41,7 @@ pub enum Call {
     Whole { handle: u32, epoch: u64, last: u64, key: Key, length: Option<u64> },
     Queue { max_lag: u64, drained: u64, lasts: Vec<u64> },
     Resend { entries: u64, key: Key, ranges: Vec<Range> },
+    Import { key: Key, file: Vec<u8> },
     Set(Counter),
 }
 
@@ -123,6 +124,8 @@ impl Call {
                 key: key(k)?,
                 ranges: ranges.iter().copied().map(range).collect::<Option<_>>()?,
             },
+            ["I", k] => Self::Import { key: key(k)?, file: Vec::new() },
+            ["I", k, bytes] => Self::Import { key: key(k)?, file: digits::read(bytes.as_bytes())? },
             ["X", "connections", n] => Self::Set(Counter::Connections(number(n)?)),
             ["X", "epoch", n] => Self::Set(Counter::Epoch(number(n)?)),
             ["X", "commit", h, n] => Self::Set(Counter::Commit(handle(h)?, number(n)?)),
@@ -158,6 +161,9 @@ impl fmt::Display for Call {
             Self::Resend { entries, key, ranges } => {
                 write!(f, "G {entries} {}", key_text(key))?;
                 ranges.iter().try_for_each(|(first, last)| write!(f, " {first}-{last}"))
+            }
+            Self::Import { key, file } => {
+                f.write_str(format!("I {} {}", key_text(key), digits::write(file)).trim_end())
             }
             Self::Set(Counter::Connections(n)) => write!(f, "X connections {n}"),
             Self::Set(Counter::Epoch(n)) => write!(f, "X epoch {n}"),

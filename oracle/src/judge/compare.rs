@@ -10,7 +10,8 @@ use crate::count::Counts;
 use crate::differences;
 use crate::digits;
 use crate::frames::{Reading, read_by_rust};
-use crate::generate::{Player, Random, reading, resend, setting};
+use crate::generate::{Player, Random, key, reading, resend, setting};
+use crate::imports;
 #[cfg(calls)]
 use crate::ours::Ours;
 #[cfg(ours)]
@@ -118,9 +119,31 @@ impl Round {
                 let call = resend(&mut requests, &mut rust);
                 self.call(&mut run, &mut rust, &call)?;
             }
+            if setting.bytes <= 1 << 20 && requests.percent(4) {
+                self.import(&mut run, &mut rust, &mut requests)?;
+            }
         }
         run.call(&mut rust, &Call::State)?;
         self.scripts += 1;
+        Ok(())
+    }
+
+    /// A message log under a key by chance, and the session sent whole.
+    fn import(&mut self, run: &mut Run, rust: &mut Rust, random: &mut Random) -> Result<(), Difference> {
+        let key = key(random);
+        self.call(run, rust, &Call::Import { key: key.clone(), file: imports::file(random) })?;
+        self.call(run, rust, &Call::Whole { handle: 1, epoch: 0, last: 0, key, length: None })
+    }
+
+    /// So many files, each into a small store of its own.
+    pub fn imports(&mut self, random: &mut Random, files: u64) -> Result<(), Difference> {
+        for _ in 0..files {
+            let (bytes, messages, sessions) = (random.below(400), random.below(4), random.below(8).min(1));
+            let setting = Setting { incarnation: 1, lag: 0, bytes, messages, sessions, handles: 0, hold: 0 };
+            let mut rust = Rust::make(&setting).expect("within the limits");
+            let mut run = Run::new(&setting)?;
+            self.import(&mut run, &mut rust, random)?;
+        }
         Ok(())
     }
 
@@ -175,6 +198,25 @@ fn inputs(round: &mut Round, seconds: u64, seed: u64) -> Result<(), Difference> 
         (0..100).try_for_each(|_| round.script(&mut random))?;
     }
     Ok(())
+}
+
+/// So many message logs by chance, most of them damaged.
+pub fn compare_imports(files: u64, seed: u64) -> ExitCode {
+    let mut round = Round::default();
+    let result = round.imports(&mut Random(seed), files);
+    print!("{}", round.counts.table());
+    let missing = round.counts.missing(["ok", "R 5", "R 20", "R 28", "R 29", "R 30"]);
+    println!("seed {seed}: {files} files, answers not reached: {}", missing.join(", "));
+    match result {
+        Err(Difference(told)) => println!("DIFFERENCE in {told}"),
+        Ok(()) if !missing.is_empty() => println!("too few files for every answer"),
+        Ok(()) if cfg!(calls) => {
+            println!("no difference");
+            return ExitCode::SUCCESS;
+        }
+        Ok(()) => println!("nothing compared: name the static libraries in WIZHDULET_LIB"),
+    }
+    ExitCode::FAILURE
 }
 
 pub fn compare(seconds: u64, seed: u64) -> ExitCode {

@@ -87,6 +87,7 @@ impl Counts {
             }
             Call::Resend { .. } if answer.starts_with('R') => ("resend ranges".into(), answer.into()),
             Call::Resend { .. } => ("resend ranges".into(), "listed".into()),
+            Call::Import { .. } => ("import".into(), answer.split(' ').take(2).collect::<Vec<_>>().join(" ")),
             Call::Set(_) => ("counter set".into(), if answer == "ok" { "ok" } else { "no such handle" }.into()),
         };
         self.add(asked, answered);
@@ -100,9 +101,15 @@ impl Counts {
     pub fn not_reached(&self) -> Vec<String> {
         let names = "frame more Welcome Bound Ack done drained listed";
         let nacks = ["StaleEpoch", "Diverged", "Lag", "Restarted"].map(|reason| format!("Nack {reason}"));
-        let numbers = (1..=26).filter(|number| *number != 8).chain([35, 36]).map(|number| format!("R {number}"));
+        let numbers = (1..=26).filter(|number| *number != 8).chain([28, 29, 30, 35, 36]).map(|number| format!("R {number}"));
         let given = |name: &String| self.0.values().any(|answers| answers.contains_key(name));
         names.split(' ').map(String::from).chain(nacks).chain(numbers).filter(|name| !given(name)).collect()
+    }
+
+    /// Which answers to an import were never given.
+    pub fn missing<const N: usize>(&self, answers: [&str; N]) -> Vec<String> {
+        let given = |name: &&str| self.0.get("import").is_some_and(|answers| answers.contains_key(*name));
+        answers.into_iter().filter(|name| !given(name)).map(String::from).collect()
     }
 
     pub fn table(&self) -> String {

@@ -4,7 +4,7 @@
 use std::sync::OnceLock;
 
 #[cfg(calls)]
-use crate::library::{Areas, Ask, Counters, Place, Size};
+use crate::library::{Areas, Ask, Counters, Imported, Place, Size};
 use crate::library::{DONE, Outcome, Resent};
 use crate::out::Out;
 #[cfg(calls)]
@@ -77,6 +77,19 @@ pub fn after_resend(said: &mut Resent, entries: &mut [u64]) {
         Resent { refusal: 0, length, .. } if fault(143) && length > 1 => flip_word(entries.get_mut(6 * length - 5)),
         Resent { length, .. } if fault(144) => flip_word(entries.get_mut(6 * length)),
         Resent { refusal: 0, length, .. } if fault(145) && length > 0 => said.bytes += 1,
+        _ => {}
+    }
+}
+
+/// A file imported, or refused.
+pub fn after_import(said: &mut Imported, areas: &mut Areas, size: Size) {
+    let (words, bytes) = size.start(areas.words[0] as usize);
+    match *said {
+        Imported { refusal: 29, .. } if fault(146) => said.refusal = 28,
+        Imported { refusal: 28..=30, .. } if fault(147) => said.at += 1,
+        Imported { refusal: 28..=30, .. } if fault(148) => flip_word(areas.words.get_mut(words)),
+        Imported { refusal: 28..=30, .. } if fault(149) => flip(areas.bytes.get_mut(bytes + 224)),
+        Imported { refusal: 0, .. } if fault(150) => flip_word(areas.words.get_mut(66)),
         _ => {}
     }
 }

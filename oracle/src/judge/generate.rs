@@ -166,7 +166,7 @@ fn key_part(random: &mut Random) -> Vec<u8> {
     }
 }
 
-fn key(random: &mut Random) -> Key {
+pub fn key(random: &mut Random) -> Key {
     let part = |random: &mut Random| if random.percent(80) { random.printable(1, 8) } else { key_part(random) };
     let [begin_string, sender, target] = [part(random), part(random), part(random)];
     [begin_string, sender, target, if random.percent(50) { Vec::new() } else { key_part(random) }]

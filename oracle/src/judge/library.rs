@@ -128,18 +128,28 @@ pub struct Resent {
     pub bytes: usize,
 }
 
+/// What an import answers: 0 or the refusal, the new session's place, the offset of the first faulty message.
+#[repr(C)]
+#[derive(Debug, Clone, Copy)]
+pub struct Imported {
+    pub refusal: u8,
+    pub place: usize,
+    pub at: usize,
+}
+
 #[cfg(plain)]
-pub use crate::plain::{Said, answer, frame, made, queue, read, resend, said, send, session};
+pub use crate::plain::{Said, answer, frame, import, made, queue, read, resend, said, send, session};
 
 #[cfg(not(plain))]
-pub use exports::{frame, queue, read, resend, send, session};
+pub use exports::{frame, import, queue, read, resend, send, session};
 
 #[cfg(all(calls, not(plain)))]
 pub use entry::{Said, answer, fnv, made, said};
 
 #[cfg(not(plain))]
 mod exports {
-    use super::{Areas, Resent, Size};
+    use super::{Areas, Imported, Resent, Size};
+    use crate::call::Key;
 
     unsafe extern "C" {
         fn wz_frame(frame: *const u8, frame_len: usize, out: *mut u8, out_len: usize) -> u64;
@@ -162,6 +172,26 @@ mod exports {
             m: u32,
             place: u64,
         ) -> Resent;
+
+        fn wz_import(
+            words: *mut u64,
+            words_len: usize,
+            bytes: *mut u8,
+            bytes_len: usize,
+            begin: *const u8,
+            begin_len: usize,
+            sender: *const u8,
+            sender_len: usize,
+            target: *const u8,
+            target_len: usize,
+            suffix: *const u8,
+            suffix_len: usize,
+            file: *const u8,
+            file_len: usize,
+            sessions: u32,
+            c: u32,
+            m: u32,
+        ) -> Imported;
     }
 
     /// Functions that read a store: their own parameters stand before the output area, and after the place.
@@ -221,6 +251,14 @@ mod exports {
         let (words, words_len, bytes, bytes_len) = (words.as_ptr(), words.len(), bytes.as_ptr(), bytes.len());
         let (from, from_len, to, to_len) = (ranges.as_ptr(), ranges.len(), entries.as_mut_ptr(), entries.len());
         unsafe { wz_resend(words, words_len, bytes, bytes_len, from, from_len, to, to_len, sessions, c, m, place) }
+    }
+
+    pub fn import(areas: &mut Areas, size: Size, key: &Key, file: &[u8]) -> Imported {
+        let Size { sessions, bytes: c, messages: m } = size;
+        let Areas { words, bytes, .. } = areas;
+        let (w, wl, b, bl) = (words.as_mut_ptr(), words.len(), bytes.as_mut_ptr(), bytes.len());
+        let [(k, kl), (s, sl), (t, tl), (x, xl)] = key.each_ref().map(|part| (part.as_ptr(), part.len()));
+        unsafe { wz_import(w, wl, b, bl, k, kl, s, sl, t, tl, x, xl, file.as_ptr(), file.len(), sessions, c, m) }
     }
 
     pub fn session(areas: &Areas, size: Size, out: &mut [u8], place: u64, n: u64) -> u64 {

@@ -9,8 +9,11 @@ mod differences;
 mod digits;
 #[cfg(ours)]
 mod faults;
+#[path = "../plain/fix.rs"]
+mod fix;
 mod frames;
 mod generate;
+mod imports;
 #[cfg(ours)]
 mod library;
 #[cfg(ours)]
@@ -75,6 +78,12 @@ fn main() -> ExitCode {
             (Ok(seconds), Ok(seed)) => compare::compare(seconds, seed),
             _ => usage(),
         },
+        ["compare-import", files, ref seed @ ..] => {
+            match (files.parse(), seed.first().map_or(Ok(1), |seed| seed.parse())) {
+                (Ok(files), Ok(seed)) => compare::compare_imports(files, seed),
+                _ => usage(),
+            }
+        }
         ["selftest", folder] if selftest::selftest(folder.as_ref()) => ExitCode::SUCCESS,
         ["selftest", _] => ExitCode::FAILURE,
         ["record", folder] => match record::record(folder.as_ref()) {

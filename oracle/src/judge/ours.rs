@@ -7,7 +7,7 @@ use crate::faults::{self, fault};
 use crate::frames::Reading;
 #[cfg(calls)]
 use crate::library::Said;
-use crate::library::{self, Areas, Ask, Counters, DONE, Place, RUBBISH, Settings, Size, outcome};
+use crate::library::{self, Areas, Ask, Counters, DONE, Imported, Place, RUBBISH, Settings, Size, outcome};
 use crate::out::Out;
 use crate::ranges::{Listed, Range};
 use crate::side::{Answer, Handle, Pushed, Sent, Session, Side, State, Summary};
@@ -438,6 +438,20 @@ impl Side for Ours {
         let place = self.place_of(key).unwrap_or(self.areas.words[0]);
         let words: Vec<u64> = ranges.iter().flat_map(|(first, last)| [*first, *last]).collect();
         self.resend_into(place, &words, entries.min(1 << 20) as usize)
+    }
+
+    fn import(&mut self, key: &Key, file: &[u8]) -> Result<(), (u32, Option<u64>)> {
+        let before = self.areas.words[0];
+        let mut said = library::import(&mut self.areas, self.settings.size, key, file);
+        faults::after_import(&mut said, &mut self.areas, self.settings.size);
+        let Imported { refusal, place, at } = said;
+        if refusal == 0 {
+            assert_eq!((place as u64, at), (before, 0), "wz_import names another place");
+            return Ok(());
+        }
+        assert_eq!(place, 0, "wz_import refuses with a place");
+        assert!(at == 0 || (28..=30).contains(&refusal), "wz_import tells an offset with {refusal}");
+        Err((refusal.into(), (28..=30).contains(&refusal).then_some(at as u64)))
     }
 
     fn set(&mut self, counter: &Counter) -> bool {

@@ -605,6 +605,37 @@ fn summaries() -> Script {
     script.all([0, 2, 5], |script, lag| script.frame(wire::bind(2, 0, lag, &key("B")))).summary(1, key("C"))
 }
 
+/// A message of a log: these fields behind 8 and 9, with its length and sum.
+fn logged(fields: &str) -> Vec<u8> {
+    let text = format!("8=FIX.4.4|9={}|{fields}", fields.len()).replace('|', "\x01");
+    let sum = text.bytes().fold(0_u8, u8::wrapping_add);
+    format!("{text}10={sum:03}\x01").into_bytes()
+}
+
+fn imports() -> Script {
+    let import = |script: Script, target: &str, parts: &[&[u8]]| {
+        script.call(&Call::Import { key: key(target), file: parts.concat() })
+    };
+    let (first, second) = (logged("35=D|34=3|58=a=b|"), logged("35=D|49=A|34=007|"));
+    let wrong = [&first[..first.len() - 4], b"999\x01"].concat();
+    let script = Script::new("7 3 60 4 3 2").note("no key; two messages with numbers skipped, longer than C together; the key again");
+    let script = import(import(script, "", &[&first]), "B", &[&first, &second]);
+    let script = import(script, "B", &[&first]).state().whole(0, key("B"), None).summary(9, key("B"));
+    let script = script.note("28, 29, 30, of the first faulty message");
+    let script = import(import(script, "C", &[&first, b"x"]), "C", &[&first, &wrong]);
+    let script = import(import(script, "C", &[&second, &first]), "C", &[&first, &first, b"x"]);
+    let script = import(import(script, "C", &[&logged("35=D|58=no number|")]), "C", &[&logged("35=D|34=18446744073709551615|")]);
+    let script = script.note("an empty file; the last number; a full store").state();
+    let script = import(import(script, "C", &[]), "E", &[&logged("35=D|34=18446744073709551614|")]);
+    let script = import(script, "F", &[]).state().whole(0, key("E"), None);
+    script
+        .note("an imported session is bound and goes on")
+        .frame(hello(5))
+        .frame(wire::bind(1, 5, 0, &key("B")))
+        .frame(commit(1, 5, 1, &[change::record(8, b"next")]))
+        .state()
+}
+
 fn durable() -> Script {
     let same = [change::next_incoming(1), change::marks(b""), change::reset()];
     Script::new("7 0 3 1 2 3")
@@ -710,6 +741,7 @@ fn scripts() -> Vec<(String, Script)> {
         ("20-too-many-bytes", Script::new("7 0 33554433 1 1 1").state()),
         ("21-too-many-messages", Script::new("7 0 1 65537 1 1").state()),
         ("22-no-setting", Script::new("7 0 1 1 1").state()),
+        ("23-imports", imports()),
     ];
     let chance = (1..=12).map(|seed| (format!("chance-{seed:02}"), by_chance(seed)));
     named.into_iter().map(|(name, script)| (name.into(), script)).chain(chance).collect()

@@ -13,8 +13,10 @@ use turbojet_replica::standby::reach::{self, summary};
 
 use crate::call::{Counter, Key, Setting};
 use crate::differences;
+use crate::fix;
 use crate::ranges::{self, Listed, Range};
 use crate::side::{Answer, Handle, Pushed, Sent, Session, Side, State, Summary};
+use crate::wire;
 
 pub struct Rust {
     pub replica: Replica<MemoryStorage>,
@@ -22,6 +24,8 @@ pub struct Rust {
     pub sessions: u64,
     pub handles: u64,
     pub hold: u64,
+    /// C and M.
+    limits: (u64, u64),
 }
 
 /// Document 01's number for a frame that can't be read.
@@ -121,6 +125,18 @@ impl Rust {
         }
     }
 
+    /// A standby with one session, made by Hello, Bind and one Commit of these changes.
+    fn fed(&self, key: &Key, changes: Vec<Vec<u8>>) -> Self {
+        let (bytes, messages) = self.limits;
+        let setting = Setting { incarnation: 1, lag: 0, bytes, messages, sessions: 1, handles: 1, hold: 0 };
+        let mut fed = Self::make(&setting).expect("within the limits");
+        let commit = wire::Batch { handle: 1, epoch: 0, commit_no: 1, part: wire::COMMIT, changes, records: Vec::new() };
+        for frame in [wire::hello(1, 0, b"import", &[]), wire::bind(1, 0, 0, key), wire::batch(&commit)] {
+            fed.frame(&frame, true).expect("a good frame");
+        }
+        fed
+    }
+
     pub fn is_stored(&self, id: &SessionId) -> bool {
         self.replica.storage().stored(id).is_some()
     }
@@ -131,7 +147,8 @@ impl Side for Rust {
         let limits = differences::limits(setting)?;
         let mut replica = Replica::new(MemoryStorage::new(limits)).accepting_lag(setting.lag);
         differences::given_incarnation(&mut replica, setting.incarnation);
-        Some(Self { replica, sessions: setting.sessions, handles: setting.handles, hold: setting.hold })
+        let limits = (setting.bytes, setting.messages);
+        Some(Self { replica, sessions: setting.sessions, handles: setting.handles, hold: setting.hold, limits })
     }
 
     fn frame(&mut self, bytes: &[u8], held: bool) -> Answer {
@@ -220,6 +237,31 @@ impl Side for Rust {
     fn resend(&mut self, entries: u64, key: &Key, ranges: &[Range]) -> Result<Listed, u32> {
         let session = self.state().sessions.into_iter().find(|session| session.key == *key);
         ranges::listed(&session.ok_or(differences::MISSING)?, ranges, entries)
+    }
+
+    /// The Rust has no such call: a second reading of the file, and the Records that it gives.
+    fn import(&mut self, key: &Key, file: &[u8]) -> Result<(), (u32, Option<u64>)> {
+        let id = id_of(key).ok_or((5, None))?;
+        if self.is_stored(&id) || self.replica.storage().count() as u64 >= self.sessions {
+            return Err((20, None));
+        }
+        let messages = fix::read(file).map_err(|(number, at)| (number, Some(at)))?;
+        let mut log = self.replica.storage().open(&id).expect("a stand-in's store doesn't fail");
+        let mut changes = Vec::new();
+        for (seq, text) in messages {
+            if log.next_outgoing() < seq {
+                log.record_outgoing(seq - 1, None).expect("a stand-in's store doesn't fail");
+                changes.push(wire::change::bare_record(seq - 1));
+            }
+            log.record_outgoing(seq, Some(text)).expect("a stand-in's store doesn't fail");
+            changes.push(wire::change::record(seq, text));
+        }
+        // The same Records by Bind and Commit: the same six parts, and the same frames when sent whole.
+        let mut fed = self.fed(key, changes);
+        let session = self.state().sessions.into_iter().find(|session| session.key == *key);
+        assert_eq!(fed.state().sessions.pop(), session, "a session fed by frames");
+        assert_eq!(fed.whole(1, 0, 1, key, None).frames, self.whole(1, 0, 1, key, None).frames);
+        Ok(())
     }
 
     fn set(&mut self, counter: &Counter) -> bool {

@@ -190,6 +190,7 @@ impl Shadow {
                 Free { row: Records::StayOrAreFreed, ..Free::default() }
             }
             Call::Promote | Call::Unchecked if answer == "ok" => self.promotion(),
+            Call::Import { .. } if answer == "ok" => self.imported(),
             Call::Set(_) => {
                 self.areas.row.clone_from(&areas.row);
                 Free::default()
@@ -247,6 +248,14 @@ impl Shadow {
         let bytes = [0, 32, 64, 96].map(text).into();
         let words = [w..w + 3, w + DURABLE..w + KEY_LENS + 4].into_iter().chain([self.newest(place)]).collect();
         Free { words, bytes, ..Free::default() }
+    }
+
+    /// A session built at the next place: nothing outside of it and the count.
+    fn imported(&mut self) -> Free {
+        let place = self.areas.words[0] as usize;
+        self.areas.words[0] += 1;
+        let ((w, b), (w_end, b_end)) = (self.size.start(place), self.size.start(place + 1));
+        Free { words: vec![w..w_end], bytes: vec![b..b_end], ..Free::default() }
     }
 
     /// A Whole is held; a Commit or LastWhole is applied, and pends.

@@ -83,6 +83,8 @@ pub trait Side: Sized {
     fn whole(&mut self, handle: u32, epoch: u64, last: u64, key: &Key, length: Option<u64>) -> Sent;
     fn queue(&mut self, max_lag: u64, drained: u64, lasts: &[u64]) -> Result<Vec<Pushed>, u32>;
     fn resend(&mut self, entries: u64, key: &Key, ranges: &[Range]) -> Result<Listed, u32>;
+    /// A message log built into a new session; the offset of the first faulty message stands beside 28, 29 and 30.
+    fn import(&mut self, key: &Key, file: &[u8]) -> Result<(), (u32, Option<u64>)>;
     /// False where there's no such handle, or it holds nothing.
     fn set(&mut self, counter: &Counter) -> bool;
 }
@@ -216,6 +218,11 @@ pub fn answer<S: Side>(side: &mut S, call: &Call) -> String {
         Call::Resend { entries, key, ranges } => {
             side.resend(*entries, key, ranges).map_or_else(refusal, |listed| listed.lines())
         }
+        Call::Import { key, file } => match side.import(key, file) {
+            Ok(()) => "ok".into(),
+            Err((number, None)) => refusal(number),
+            Err((number, Some(at))) => format!("{} {at}", refusal(number)),
+        },
         Call::Set(counter) if side.set(counter) => "ok".into(),
         Call::Set(_) => format!("? {call}"),
     }

@@ -9,7 +9,9 @@ use std::cell::RefCell;
 use std::collections::{BTreeMap, HashMap};
 
 use crate::faults::fault;
-use crate::library::{Areas, Ask, Counters, Place, Resent, Settings, Size};
+use crate::call::Key;
+use crate::fix;
+use crate::library::{Areas, Ask, Counters, Imported, Place, Resent, Settings, Size};
 use crate::wire;
 use read::{Batch, Change, Fault, Frame, Left};
 use session::Session;
@@ -457,4 +459,31 @@ pub fn resend(areas: &Areas, _: Size, ranges: &[u64], entries: &mut [u64], place
     }
     let listed = session.messages.iter().filter(|(number, _)| sets.contains_key(number));
     Resent { refusal: 0, length: sets.len(), bytes: listed.map(|(_, message)| message.len()).sum() }
+}
+
+/// Each message is recorded with all its bytes; what is skipped has none.
+pub fn import(areas: &mut Areas, size: Size, key: &Key, file: &[u8]) -> Imported {
+    let refused = |refusal, at| Imported { refusal, place: 0, at };
+    let printable = |text: &[u8]| text.len() <= 32 && text.iter().all(|byte| (0x20..0x7f).contains(byte));
+    if !key.iter().all(|text| printable(text)) || key[..3].iter().any(Vec::is_empty) {
+        return refused(5, 0);
+    }
+    let mut sessions = STORES.with_borrow(|stores| stores.get(&store(areas)).cloned()).unwrap_or_default();
+    if sessions.iter().any(|session| session.key == *key) || sessions.len() as u64 >= u64::from(size.sessions) {
+        return refused(20, 0);
+    }
+    let messages = match fix::read(file) {
+        Err((number, at)) => return refused(number as u8, at as usize),
+        Ok(messages) => messages,
+    };
+    let mut session = Session::new(key.clone());
+    for (seq, text) in messages {
+        let text = text[..text.len() - usize::from(fault(20))].to_vec();
+        session.apply(&Change::Record(seq, Some(text)), size.bytes.into(), size.messages.into());
+    }
+    let place = sessions.len();
+    sessions.push(session);
+    areas.words[0] += 1;
+    STORES.with_borrow_mut(|stores| stores.insert(store(areas), sessions));
+    Imported { refusal: 0, place, at: 0 }
 }

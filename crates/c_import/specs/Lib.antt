@@ -1,0 +1,2 @@
+-- What an import answers across the boundary.
+pub mod Answering

@@ -1,0 +1,2 @@
+-- An imported session is like any other.
+pub mod Sending

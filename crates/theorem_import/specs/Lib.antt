@@ -1,0 +1,2 @@
+-- What holds of a session that was imported.
+pub mod Imported
