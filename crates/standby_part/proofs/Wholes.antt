@@ -17,7 +17,7 @@ use Rattle.model_frame.proofs.Le.{are-bytes}
 use Rattle.frame_op.specs.Answers.{heldRun}
 use Rattle.standby_changes.specs.Held.{TakesAll}
 use Rattle.standby_changes.proofs.Held.{held-written, held-in, held-none}
-use Rattle.frame.specs.declared.CommitNumber.{CommitNumber}
+use Rattle.frame_fields.specs.declared.CommitNumber.{CommitNumber}
 use Rattle.standby_row.specs.declared.Bound.{Bound}
 use Rattle.store_areas.specs.declared.Shape.{Shape}
 use Rattle.store_areas.specs.Areas.{Rules}
@@ -52,13 +52,6 @@ module _ {A : Type 0} (x y z go : A) where
   when-17 false true c e = refl
   when-17 false false true e = absurd (eqb-false 18 17 refl e)
   when-17 false false false e = absurd (eqb-false 0 17 refl e)
-
--- the last test does not hold
-last-off : (a b c : Bool) → _≡_ {A = ℕ} (cond a 16 (cond b 17 (cond c 18 0))) 0 → c ≡ false
-last-off true b c e = absurd (eqb-false 16 0 refl e)
-last-off false true c e = absurd (eqb-false 17 0 refl e)
-last-off false false true e = absurd (eqb-false 18 0 refl e)
-last-off false false false e = refl
 
 -- the two that change nothing
 other : (k : Core) (y go : CoreResult) (a b c : Bool) → (Number (coreRefuse k leave 16) y (coreRefuse k leave 18) go a b c ≡ 0 → ⊥) → (Number (coreRefuse k leave 16) y (coreRefuse k leave 18) go a b c ≡ 17 → ⊥)

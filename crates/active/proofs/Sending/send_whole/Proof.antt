@@ -23,7 +23,7 @@ send-at-requires : tie.Need-send-at-requires
 send-at-requires c κs =
     let a = c .before .before .before .before .before .before .before .before .before .before .before .args in
     let q = c .before .before .before .before .before .before .in-use in
-    (rules-hold (a .shape) (now (a .words)) (now (a .bytes)) (a .self .place) (q .result) (q .ensures) (c .before .before .before .before .before .if1 .taken), in-use (a .shape) (now (a .words)) (now (a .bytes)) (a .self .place) (q .result) (q .ensures) (c .before .before .before .before .before .if1 .taken))
+    (rules-hold (a .shape) (now (a .words)) (now (a .bytes)) (a .self .place) (q .result) (q .ensures) (c .before .before .before .before .before .if1 .taken), (in-use (a .shape) (now (a .words)) (now (a .bytes)) (a .self .place) (q .result) (q .ensures) (c .before .before .before .before .before .if1 .taken), refl))
 
 returns-3 : tie.Need-returns-3
 returns-3 c =
