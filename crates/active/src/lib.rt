@@ -8,8 +8,8 @@ ghost use Rattle.active_batch.specs.Batch.{WroteBatch};
 ghost use Rattle.active.specs.Whole.{storedAt, startOf, startFrom, SendsWhole};
 use active_batch::BatchWritten;
 use active_batch::SendBatch;
-use frame::CommitNumber;
-use frame::Epoch;
+use frame_fields::CommitNumber;
+use frame_fields::Epoch;
 use store_areas::Shape;
 
 // A sending: the session's place, the handle, the epoch, the last commit number, the number that it goes on from (0 at first),
@@ -124,6 +124,7 @@ impl Sending {
         let place = self.place;
         let handle = self.handle;
         let epoch = self.epoch;
+        let max = shape.messages as usize;
         if store_areas::in_use(words, bytes, shape, place) {
             if self.done {
                 return Sent::Done;
@@ -133,7 +134,7 @@ impl Sending {
             }
             let last = CommitNumber(self.last.0 + 1);
             let batch = SendBatch {
-                max: shape.messages as usize,
+                max,
                 from: self.from,
                 limit: Self::SNAPSHOT_BATCH_BYTES,
                 handle,

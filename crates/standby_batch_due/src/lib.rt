@@ -9,7 +9,7 @@ ghost use Rattle.frame_fields.specs.Answers.{partOf};
 ghost use Rattle.store_areas.specs.Areas.{Rules};
 ghost use Rattle.standby_step.specs.Steps.{roomOf, roomIn, isFound};
 ghost use Rattle.standby_batch_due.specs.DueBatch.{spotIn, RecordRulesIn, BatchIn};
-use frame::Batch;
+use frame_fields::Batch;
 use standby_row::Lookup;
 use standby_state::Outcome;
 use standby_state::Replica;

@@ -53,6 +53,13 @@ module _ {A : Type 0} (x y z go : A) where
   when-17 false false true e = absurd (eqb-false 18 17 refl e)
   when-17 false false false e = absurd (eqb-false 0 17 refl e)
 
+-- the last test does not hold
+last-off : (a b c : Bool) → _≡_ {A = ℕ} (cond a 16 (cond b 17 (cond c 18 0))) 0 → c ≡ false
+last-off true b c e = absurd (eqb-false 16 0 refl e)
+last-off false true c e = absurd (eqb-false 17 0 refl e)
+last-off false false true e = absurd (eqb-false 18 0 refl e)
+last-off false false false e = refl
+
 -- the two that change nothing
 other : (k : Core) (y go : CoreResult) (a b c : Bool) → (Number (coreRefuse k leave 16) y (coreRefuse k leave 18) go a b c ≡ 0 → ⊥) → (Number (coreRefuse k leave 16) y (coreRefuse k leave 18) go a b c ≡ 17 → ⊥)
     → Tests (coreRefuse k leave 16) y (coreRefuse k leave 18) go a b c ≡ coreRefuse k leave (Number (coreRefuse k leave 16) y (coreRefuse k leave 18) go a b c)

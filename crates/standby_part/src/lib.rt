@@ -11,7 +11,7 @@ ghost use Rattle.standby_part.specs.Part.{PartIs, WholeIs, AreaIs};
 ghost use Rattle.standby_part.specs.State.{numberedTo, summedTo, holdingTo};
 use base_refusals::CHANGES_HELD;
 use base_refusals::TOO_MANY_BYTES;
-use frame::CommitNumber;
+use frame_fields::CommitNumber;
 use frame_stamp::Protocol;
 use standby_row::Bound;
 use store_areas::Shape;

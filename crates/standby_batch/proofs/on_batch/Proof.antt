@@ -58,7 +58,7 @@ is-found-requires c κs = search needs
 
 -- src/lib.rt:113:9
 run-of-requires : tie.Need-run-of-requires
-run-of-requires c κs = search needs
+run-of-requires c κs = c .before .before .before .before .before .before .before .before .before .before .before .before .before .before .before .pre .1 .1 .1
 
 -- src/lib.rt:114:9
 on-handle-requires : tie.Need-on-handle-requires
