@@ -7,8 +7,9 @@ ghost use Rattle.store_areas.specs.Areas.{Rules, placeAt};
 ghost use Rattle.active_batch.specs.Batch.{WroteBatch};
 ghost use Rattle.active.specs.Whole.{storedAt, startOf, startFrom, SendsWhole};
 use active_batch::BatchWritten;
-use frame::CommitNumber;
-use frame::Epoch;
+use active_batch::SendBatch;
+use frame_fields::CommitNumber;
+use frame_fields::Epoch;
 use store_areas::Shape;
 
 // A sending: the session's place, the handle, the epoch, the last commit number, the number that it goes on from (0 at first),
@@ -59,37 +60,33 @@ fn batches_at(words: &[u64], bytes: &[u8], shape: Shape, place: usize, limit: u6
     )
 }
 
-// Writes the frame of the batch that begins at a number, of the session at place i.
+// Writes the frame of a batch of the session at place i.
 fn send_at(
     words: &[u64],
     bytes: &[u8],
     shape: Shape,
     place: usize,
-    from: u64,
-    limit: u64,
-    handle: u32,
-    epoch: Epoch,
-    number: CommitNumber,
+    batch: SendBatch,
     out: &mut [u8],
 ) -> BatchWritten
     requires { ⌜ Rules shape (now words) (now bytes) ⌝ }
     requires { ⌜ place < getD (now words) 0 0 ⌝ }
-    ensures { λ r. ⌜ WroteBatch limit (placeAt shape (now (words .entry)) (now (bytes .entry)) place .stored .session) handle (epoch .0) (number .0) from (now (out .entry)) (now (out .exit)) r ⌝ }
+    requires { ⌜ batch .max ≡ shape .messages ⌝ }
+    ensures { λ r. ⌜ WroteBatch (batch .limit) (placeAt shape (now (words .entry)) (now (bytes .entry)) place .stored .session) (batch .handle) (batch .epoch .0) (batch .«commit_no» .0) (batch .from) (now (out .entry)) (now (out .exit)) r ⌝ }
 {
     let p = store_areas::spot_in(words, bytes, shape, place);
     let words_start = p.words_start;
     let words_end = p.words_end;
     let bytes_start = p.bytes_start;
     let bytes_end = p.bytes_end;
-    let max = shape.messages as usize;
     let w = &words[words_start..words_end];
     let b = &bytes[bytes_start..bytes_end];
-    active_batch::send(w, b, max, from, limit, handle, epoch, number, out)
+    active_batch::send(w, b, batch, out)
 }
 
 impl Sending {
     // The message bytes above which a batch is full.
-    pub const BATCH_BYTES: u64 = 1_048_576;
+    pub const SNAPSHOT_BATCH_BYTES: u64 = 1_048_576;
 
     // Begins to send the session at a place to a handle, numbered on from its last commit number.
     pub fn begin(
@@ -104,7 +101,7 @@ impl Sending {
         ensures { λ r. ⌜ startOf r ≡ startFrom batchLimit (storedAt shape (now (words .entry)) (now (bytes .entry)) place) place handle (epoch .0) (last .0) ⌝ }
     {
         if store_areas::in_use(words, bytes, shape, place) {
-            let count = batches_at(words, bytes, shape, place, Self::BATCH_BYTES);
+            let count = batches_at(words, bytes, shape, place, Self::SNAPSHOT_BATCH_BYTES);
             if u64::MAX - last.0 < count as u64 {
                 return Begun::CommitNumbersExhausted;
             }
@@ -127,7 +124,7 @@ impl Sending {
         let place = self.place;
         let handle = self.handle;
         let epoch = self.epoch;
-        let limit = Self::BATCH_BYTES;
+        let max = shape.messages as usize;
         if store_areas::in_use(words, bytes, shape, place) {
             if self.done {
                 return Sent::Done;
@@ -136,18 +133,15 @@ impl Sending {
                 return Sent::InvalidAreas;
             }
             let last = CommitNumber(self.last.0 + 1);
-            return match send_at(
-                words,
-                bytes,
-                shape,
-                place,
-                self.from,
-                limit,
+            let batch = SendBatch {
+                max,
+                from: self.from,
+                limit: Self::SNAPSHOT_BATCH_BYTES,
                 handle,
                 epoch,
-                last,
-                out,
-            ) {
+                commit_no: last,
+            };
+            return match send_at(words, bytes, shape, place, batch, out) {
                 BatchWritten::TooShort => Sent::TooShort,
                 BatchWritten::Batch(len, from, done) => Sent::Frame(
                     len,

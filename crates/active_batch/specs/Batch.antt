@@ -49,10 +49,6 @@ module _ (limit C M : ℕ) (h : Header) (log ring : List ℕ) where
     pub few : p .count ≤ 131077
     pub small : p .size ≤ 34996357
 
--- the first 30 bytes of the frame: the body's length, kind, handle, epoch, commit number, part and count
-unfoldable pub headBytes : ℕ → ℕ → ℕ → ℕ → ℕ → ℕ → List ℕ
-headBytes size h e n part count = bytesOf 4 (30 + size) ++ bytesOf 1 FrameKind.batch ++ bytesOf 4 h ++ bytesOf 8 e ++ bytesOf 8 n ++ bytesOf 1 part ++ bytesOf 4 count
-
 abbrev pub partIs : Bool → Part
 partIs true = lastWhole
 partIs false = whole

@@ -1,22 +1,22 @@
 // One batch of a session that is sent whole, as a frame, over the words and bytes of the session's place (active.rs, send_whole).
 ghost use mathlib.Core.Path.{_≡_};
-ghost use mathlib.Core.List.{List, [], _∷_};
+ghost use mathlib.Core.List.{[]};
 ghost use Prim.Native.Nat.{ℕ, _+_, _-_, _*_, _≤_, _<_, max};
 ghost use lib.ListN.{length};
 ghost use Rattle.model_frame.specs.Bytes.{write};
-ghost use Rattle.model_frame.specs.Frame.{batch};
+ghost use Rattle.model_frame.specs.Frame as the-frame;
 ghost use Rattle.model_frame.specs.Parse.{runBytes};
-ghost use Rattle.model_frame.specs.Writing.{changeBytes, sizes, partNumber, encode};
+ghost use Rattle.model_frame.specs.Writing.{changeBytes, sizes, encode};
 ghost use Rattle.model_session.specs.Whole.{wholeBatches};
 ghost use Rattle.base_laws.specs.Wrote.{Wrote};
+ghost use Rattle.frame_fields.specs.Answers.{partOf};
 ghost use Rattle.store_log.specs.Log.{Position};
 ghost use Rattle.store_place.specs.Place.{sessionOf};
-ghost use Rattle.active_batch.specs.Batch.{plannedChanges, Planned, headBytes, partIs, WroteBatch};
+ghost use Rattle.active_batch.specs.Batch.{plannedChanges, Planned, partIs, WroteBatch};
 use active_header::Header;
-use frame::CommitNumber;
-use frame::Epoch;
-use frame_fields::kind;
-use frame_fields::part_byte;
+use frame_fields::CommitNumber;
+use frame_fields::Epoch;
+use frame_fields::Part;
 use store_place::byte;
 use store_place::word;
 
@@ -34,6 +34,18 @@ pub struct Plan {
     // Its changes, and their bytes.
     pub count: usize,
     pub size: usize,
+}
+
+// Which batch is written: the session's room for messages, the number that it begins at, the message bytes above which it is
+// full, and the frame's handle, epoch and commit number.
+#[repr(C)]
+pub struct SendBatch {
+    pub max: usize,
+    pub from: u64,
+    pub limit: u64,
+    pub handle: u32,
+    pub epoch: Epoch,
+    pub commit_no: CommitNumber,
 }
 
 // A frame's length, the number that sending goes on from, and whether this was the last; or an area that is too short.
@@ -96,69 +108,39 @@ fn put_changes(
     marks: &[u8],
     words: &[u64],
     bytes: &[u8],
-    max: usize,
-    from: u64,
-    limit: u64,
+    batch: SendBatch,
     plan: Plan,
     out: &mut [u8],
     at: usize,
 ) -> usize
-    requires { ⌜ 2 + 2 * max ≤ length (now words) ⌝ }
+    requires { ⌜ 2 + 2 * batch .max ≤ length (now words) ⌝ }
     requires { ⌜ length (now bytes) ≤ 33554432 ⌝ }
     requires { ⌜ length (now stamp) ≤ 32 ⌝ }
     requires { ⌜ length (now marks) ≤ 64 ⌝ }
-    requires { ⌜ Position (length (now bytes)) max (header .«next_outgoing») (now words) (now bytes) (plan .left) (plan .dist) ⌝ }
-    requires { ⌜ at + sizes (plannedChanges limit (length (now bytes)) max header (now words) (now bytes) (now stamp) (now marks) from plan) ≤ length (now out) ⌝ }
-    ensures { λ r. ⌜ Wrote (now (out .entry)) at (runBytes changeBytes (plannedChanges limit (length (now (bytes .entry))) max header (now (words .entry)) (now (bytes .entry)) (now (stamp .entry)) (now (marks .entry)) from plan)) (now (out .exit)) r ⌝ }
+    requires { ⌜ Position (length (now bytes)) (batch .max) (header .«next_outgoing») (now words) (now bytes) (plan .left) (plan .dist) ⌝ }
+    requires { ⌜ at + sizes (plannedChanges (batch .limit) (length (now bytes)) (batch .max) header (now words) (now bytes) (now stamp) (now marks) (batch .from) plan) ≤ length (now out) ⌝ }
+    ensures { λ r. ⌜ Wrote (now (out .entry)) at (runBytes changeBytes (plannedChanges (batch .limit) (length (now (bytes .entry))) (batch .max) header (now (words .entry)) (now (bytes .entry)) (now (stamp .entry)) (now (marks .entry)) (batch .from) plan)) (now (out .exit)) r ⌝ }
 {
-    let opened = active_header::put_opening(stamp, from, out, at);
+    let opened = active_header::put_opening(stamp, batch.from, out, at);
     let pos = active_messages::put_messages(
         words,
         bytes,
-        max,
+        batch.max,
         header.next_outgoing,
         plan.left,
         plan.dist,
         plan.next,
-        limit,
+        batch.limit,
         out,
         opened,
     );
     active_header::put_ending(header, marks, plan.last, plan.resume_from, out, pos)
 }
 
-fn part_byte(last: bool) -> u8
-    ensures { λ r. ⌜ r ≡ partNumber (partIs last) ⌝ }
+fn part_of(last: bool) -> Part
+    ensures { λ r. ⌜ partOf r ≡ partIs last ⌝ }
 {
-    if last {
-        part_byte::LAST_WHOLE
-    } else {
-        part_byte::WHOLE
-    }
-}
-
-// Writes what stands before the changes.
-fn put_head(
-    size: usize,
-    handle: u32,
-    epoch: Epoch,
-    number: CommitNumber,
-    last: bool,
-    count: usize,
-    out: &mut [u8],
-)
-    requires { ⌜ 30 ≤ length (now out) ⌝ }
-    requires { ⌜ size ≤ 34996357 ⌝ }
-    requires { ⌜ count ≤ 131077 ⌝ }
-    ensures { λ _. ⌜ now (out .exit) ≡ write (now (out .entry)) 0 (headBytes size handle (epoch .0) (number .0) (partNumber (partIs last)) count) ⌝ }
-{
-    base_bytes::put_u32(out, 0, (30 + size) as u32);
-    base_bytes::put_u8(out, 4, kind::BATCH);
-    base_bytes::put_u32(out, 5, handle);
-    base_bytes::put_u64(out, 9, epoch.0);
-    base_bytes::put_u64(out, 17, number.0);
-    base_bytes::put_u8(out, 25, part_byte(last));
-    base_bytes::put_u32(out, 26, count as u32);
+    if last { Part::LastWhole } else { Part::Whole }
 }
 
 // Writes the frame of a batch that goes by a plan at the start of the area.
@@ -168,87 +150,57 @@ fn put_frame(
     marks: &[u8],
     words: &[u64],
     bytes: &[u8],
-    max: usize,
-    from: u64,
-    limit: u64,
+    batch: SendBatch,
     plan: Plan,
-    handle: u32,
-    epoch: Epoch,
-    number: CommitNumber,
     out: &mut [u8],
 )
-    requires { ⌜ 2 + 2 * max ≤ length (now words) ⌝ }
+    requires { ⌜ 2 + 2 * batch .max ≤ length (now words) ⌝ }
     requires { ⌜ length (now bytes) ≤ 33554432 ⌝ }
     requires { ⌜ length (now stamp) ≡ header .stamp ⌝ }
     requires { ⌜ header .stamp ≤ 32 ⌝ }
     requires { ⌜ length (now marks) ≡ header .marks ⌝ }
     requires { ⌜ header .marks ≤ 64 ⌝ }
-    requires { ⌜ Planned limit (length (now bytes)) max header (now words) (now bytes) from plan ⌝ }
+    requires { ⌜ Planned (batch .limit) (length (now bytes)) (batch .max) header (now words) (now bytes) (batch .from) plan ⌝ }
     requires { ⌜ 34 + plan .size ≤ length (now out) ⌝ }
-    ensures { λ _. ⌜ now (out .exit) ≡ write (now (out .entry)) 0 (encode (batch handle (epoch .0) (number .0) (partIs (plan .last)) (plannedChanges limit (length (now (bytes .entry))) max header (now (words .entry)) (now (bytes .entry)) (now (stamp .entry)) (now (marks .entry)) from plan) [])) ⌝ }
+    ensures { λ _. ⌜ now (out .exit) ≡ write (now (out .entry)) 0 (encode (the-frame.batch (batch .handle) (batch .epoch .0) (batch .«commit_no» .0) (partIs (plan .last)) (plannedChanges (batch .limit) (length (now (bytes .entry))) (batch .max) header (now (words .entry)) (now (bytes .entry)) (now (stamp .entry)) (now (marks .entry)) (batch .from) plan) [])) ⌝ }
 {
-    put_head(plan.size, handle, epoch, number, plan.last, plan.count, out);
-    let pos = put_changes(
-        header,
-        stamp,
-        marks,
-        words,
-        bytes,
-        max,
-        from,
-        limit,
-        plan,
+    let epoch = batch.epoch;
+    let commit_no = batch.commit_no;
+    let at = base_bytes::put_u32(out, 0, (30 + plan.size) as u32);
+    let at = frame_encode::put_head(
         out,
-        30,
+        at,
+        batch.handle,
+        epoch,
+        commit_no,
+        part_of(plan.last),
+        plan.count as u32,
     );
+    let pos = put_changes(header, stamp, marks, words, bytes, batch, plan, out, at);
     base_bytes::put_u32(out, pos, 0);
 }
 
 // Writes the frame of the batch that begins at a number, of the session at a place.
-pub fn send(
-    words: &[u64],
-    bytes: &[u8],
-    max: usize,
-    from: u64,
-    limit: u64,
-    handle: u32,
-    epoch: Epoch,
-    number: CommitNumber,
-    out: &mut [u8],
-) -> BatchWritten
-    requires { ⌜ 16 + 2 * max ≤ length (now words) ⌝ }
-    requires { ⌜ max ≤ 65536 ⌝ }
+pub fn send(words: &[u64], bytes: &[u8], batch: SendBatch, out: &mut [u8]) -> BatchWritten
+    requires { ⌜ 16 + 2 * batch .max ≤ length (now words) ⌝ }
+    requires { ⌜ batch .max ≤ 65536 ⌝ }
     requires { ⌜ 224 ≤ length (now bytes) ⌝ }
     requires { ⌜ length (now bytes) ≤ 33554656 ⌝ }
-    ensures { λ r. ⌜ ((C : ℕ) → length (now (bytes .entry)) ≡ 224 + C → WroteBatch limit (sessionOf C max (now (words .entry)) (now (bytes .entry))) handle (epoch .0) (number .0) from (now (out .entry)) (now (out .exit)) r) ⌝ }
+    ensures { λ r. ⌜ ((C : ℕ) → length (now (bytes .entry)) ≡ 224 + C → WroteBatch (batch .limit) (sessionOf C (batch .max) (now (words .entry)) (now (bytes .entry))) (batch .handle) (batch .epoch .0) (batch .«commit_no» .0) (batch .from) (now (out .entry)) (now (out .exit)) r) ⌝ }
 {
     let h = active_header::header_of(words, bytes);
     let stamp_end = byte::STAMP + h.stamp;
     let marks_end = byte::MARKS + h.marks;
     let log = &words[word::LOG..];
     let ring = &bytes[byte::RING..];
-    let p = plan_from(h, log, ring, max, from, limit);
+    let p = plan_from(h, log, ring, batch.max, batch.from, batch.limit);
     let len = 34 + p.size;
     if out.len() < len {
         return BatchWritten::TooShort;
     }
     let stamp = &bytes[byte::STAMP..stamp_end];
     let marks = &bytes[byte::MARKS..marks_end];
-    put_frame(
-        h,
-        stamp,
-        marks,
-        log,
-        ring,
-        max,
-        from,
-        limit,
-        p,
-        handle,
-        epoch,
-        number,
-        out,
-    );
+    put_frame(h, stamp, marks, log, ring, batch, p, out);
     BatchWritten::Batch(len, p.resume_from, p.last)
 }
 

@@ -5,16 +5,14 @@ use Prim.Native.Nat.{ℕ, zero, suc, _+_, _-_, _≤_, _<_}
 use native.Mathlib.Omega.{arith}
 use lib.ListN.{length}
 use borrow.Author.Tests.{lt-ltb, le-ltb}
-use Rattle.model_frame.specs.Bytes.{bytesOf, write}
-use Rattle.model_frame.specs.Frame.{Change, setIncomingInFlight, reset, setCreatedAt, setMarks, recordBare}
+use Rattle.model_frame.specs.Frame.{Change, reset, setCreatedAt, setMarks, recordBare}
 use Rattle.model_frame.specs.Parse.{runBytes}
 use Rattle.model_frame.specs.Writing.{blobBytes, changeBytes, sizeOf, sizes}
-use Rattle.model_frame.proofs.Le.{length-bytes}
 use Rattle.model_frame.proofs.Runs.{run-append, sizes-append}
 use Rattle.model_frame.proofs.Sizes.{change-size, changes-size}
 use Rattle.model_session.specs.Whole.{skipTo}
 use Rattle.base_laws.specs.Wrote.{Wrote}
-use Rattle.base_laws.proofs.Writes.{wrote-then, wrote-on, wrote-number}
+use Rattle.base_laws.proofs.Writes.{wrote-on}
 use Rattle.active_messages.proofs.Putting.{wrote-none}
 use Rattle.active_header.specs.Ends.{Spans, openingOf}
 
@@ -74,12 +72,6 @@ unfolding runBytes changeBytes
 wrote-open-stamped st from h e w v = rw (open-stamped st from h e, append-nil (7 ∷ blobBytes st)) (wrote-on w v)
 
 -- ---- after
-
-pub wrote-flight : {l l₁ l₂ : List ℕ} (at n f : ℕ) {o : ℕ} → Wrote l at (2 ∷ bytesOf 8 n) l₁ o → l₂ ≡ write l₁ (at + 9) (bytesOf 8 f) → Wrote l at (changeBytes (setIncomingInFlight n f)) l₂ (at + 17)
-unfolding changeBytes
-wrote-flight {l} {l₁} {l₂} at n f w e =
-    let v : Wrote l at (2 ∷ bytesOf 8 n ++ bytesOf 8 f) l₂ (at + 9 + 8) = wrote-then w (wrote-number (at + 9) 8 f e) (ap suc (length-bytes 8 n)) in
-    record { bytes = v .bytes; past = omega (arith, v .past) }
 
 pub close-skips : (next n : ℕ) (inc : Change) (marks : List ℕ) → next < n → skipTo next n ++ (inc ∷ setMarks marks ∷ []) ≡ recordBare (n - 1) ∷ inc ∷ setMarks marks ∷ []
 close-skips next n inc marks h = rw (lt-ltb next n h)

@@ -73,7 +73,7 @@ pub fn put_opening(stamp: &[u8], from: u64, out: &mut [u8], at: usize) -> usize
     if 0 < from {
         return at;
     }
-    let pos = put::put_byte(kind::RESET, out, at);
+    let pos = frame_op::tag(out, at, kind::RESET);
     if stamp.len() == 0 {
         return pos;
     }
@@ -97,11 +97,10 @@ fn put_incoming(next: u64, in_flight: Flight, out: &mut [u8], at: usize) -> usiz
     ensures { λ r. ⌜ Wrote (now (out .entry)) at (changeBytes (incomingPart next (flightIs «in_flight»))) (now (out .exit)) r ⌝ }
 {
     match in_flight {
-        Flight::Nothing => put::put_number(kind::SET_NEXT_INCOMING, next, out, at),
+        Flight::Nothing => frame_op::tagged(out, at, kind::SET_NEXT_INCOMING, next),
         Flight::Number(f) => {
-            put::put_number(kind::SET_NEXT_INCOMING_IN_FLIGHT, next, out, at);
-            base_bytes::put_u64(out, at + 9, f);
-            at + 17
+            let pos = frame_op::tagged(out, at, kind::SET_NEXT_INCOMING_IN_FLIGHT, next);
+            base_bytes::put_u64(out, pos, f)
         }
     }
 }

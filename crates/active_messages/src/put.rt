@@ -1,8 +1,7 @@
-// Writing changes: the bytes of each from a position on, and the position past them.
-ghost use mathlib.Core.List.{[], _∷_, _++_};
+// Writing the changes of messages: the bytes of each from a position on, and the position past them.
+ghost use mathlib.Core.List.{_∷_, _++_};
 ghost use Prim.Native.Nat.{_+_, _≤_};
 ghost use lib.ListN.{length, take, drop};
-ghost use Rattle.model_frame.specs.Bytes.{bytesOf};
 ghost use Rattle.model_frame.specs.Frame.{recordMsg};
 ghost use Rattle.model_frame.specs.Parse.{runBytes};
 ghost use Rattle.model_frame.specs.Writing.{blobBytes, changeBytes, sizes};
@@ -11,34 +10,14 @@ ghost use Rattle.base_laws.specs.Wrote.{Wrote};
 ghost use Rattle.store_log.specs.Log.{msg};
 use frame_op::kind;
 
-// A byte.
-pub fn put_byte(k: u8, out: &mut [u8], at: usize) -> usize
-    requires { ⌜ at + 1 ≤ length (now out) ⌝ }
-    ensures { λ r. ⌜ Wrote (now (out .entry)) at (k ∷ []) (now (out .exit)) r ⌝ }
-{
-    base_bytes::put_u8(out, at, k);
-    at + 1
-}
-
-// A tag and a number.
-pub fn put_number(k: u8, n: u64, out: &mut [u8], at: usize) -> usize
-    requires { ⌜ at + 9 ≤ length (now out) ⌝ }
-    ensures { λ r. ⌜ Wrote (now (out .entry)) at (k ∷ bytesOf 8 n) (now (out .exit)) r ⌝ }
-{
-    put_byte(k, out, at);
-    base_bytes::put_u64(out, at + 1, n);
-    at + 9
-}
-
 // A tag and a text.
 pub fn put_text(k: u8, s: &[u8], out: &mut [u8], at: usize) -> usize
     requires { ⌜ at + 5 + length (now s) ≤ length (now out) ⌝ }
     requires { ⌜ length (now s) ≤ 64 ⌝ }
     ensures { λ r. ⌜ Wrote (now (out .entry)) at (k ∷ blobBytes (now (s .entry))) (now (out .exit)) r ⌝ }
 {
-    put_byte(k, out, at);
-    base_bytes::put_u32(out, at + 1, s.len() as u32);
-    base_bytes::copy(s, out, at + 5)
+    let pos = frame_op::tag(out, at, k);
+    frame_op::blob(s, out, pos)
 }
 
 // A bare record of n - 1, if numbers from next on were skipped before n.
@@ -47,7 +26,7 @@ pub fn put_skip(next: u64, n: u64, out: &mut [u8], at: usize) -> usize
     ensures { λ r. ⌜ Wrote (now (out .entry)) at (runBytes changeBytes (skipTo next n)) (now (out .exit)) r ⌝ }
 {
     if next < n {
-        put_number(kind::RECORD_NONE, n - 1, out, at)
+        frame_op::tagged(out, at, kind::RECORD_NONE, n - 1)
     } else {
         at
     }
@@ -88,9 +67,9 @@ pub fn put_record(
     requires { ⌜ at + 13 + first + rest ≤ length (now out) ⌝ }
     ensures { λ r. ⌜ Wrote (now (out .entry)) at (changeBytes (recordMsg number (take first (drop start (now (bytes .entry))) ++ take rest (now (bytes .entry))))) (now (out .exit)) r ⌝ }
 {
-    put_number(kind::RECORD, number, out, at);
-    base_bytes::put_u32(out, at + 9, (first + rest) as u32);
-    put_message(bytes, start, first, rest, out, at + 13)
+    let pos = frame_op::tagged(out, at, kind::RECORD, number);
+    let pos = base_bytes::put_u32(out, pos, (first + rest) as u32);
+    put_message(bytes, start, first, rest, out, pos)
 }
 
 // A record with its message, and a bare record before it if numbers from next on were skipped.

@@ -3,7 +3,7 @@ ghost use mathlib.Core.Path.{_≡_};
 ghost use Prim.Native.Nat.{ℕ, min, _+_, _≤_};
 ghost use lib.ListN.{length};
 ghost use Rattle.c_choice.specs.Choosing.{flagOf, describedAt, copiesIn, codeOf, returned};
-use frame::Epoch;
+use frame_fields::Epoch;
 use standby_choice::Choice;
 use standby_choice::Copies;
 use standby_choice::Copy;

@@ -10,7 +10,7 @@ use lib.ListN.{length, take}
 use lib.Seq.{length-take-le}
 use Rattle.base_laws.proofs.Little.{write-none}
 use Rattle.model_frame.specs.Bytes.{isBytes}
-use Rattle.model_frame.specs.Frame.{Frame, faultNumber}
+use Rattle.model_frame.specs.Frame.{Frame}
 use Rattle.model_frame.specs.Frame as the-frame
 use Rattle.model_frame.specs.Reading.{decode}
 use Rattle.model_frame.specs.Writing.{encode}
@@ -38,7 +38,7 @@ use Rattle.standby_state.specs.Answers as replies
 use Rattle.c_session.specs.Telling as telling
 use Rattle.c_session.specs.Telling.{toldOf}
 use Rattle.c_session.specs.declared.SessionWritten.{SessionWritten}
-use Rattle.c_exports.specs.Returned.{refusalCode, doneCode, fieldNumber, faultCode, readCode, writtenCode, takenCode}
+use Rattle.c_exports.specs.Returned.{refusalCode, doneCode, fieldNumber, faultDetail, faultCode, readCode, writtenCode, takenCode}
 use Rattle.c_exports.specs.Exports.{Again, rewritten, Rewrites, Makes, TellsPlace, TellsAnswer}
 
 -- ---- numbers
@@ -51,18 +51,17 @@ many-done k h = rw (le-ltb k (2 ^ 62) h) refl
 
 -- ---- reading
 
-module _ {e : FrameError} {r : ℕ} where
-  pub fault-as : {f : FrameError} → e ≡ f → r ≡ faultCode (faultOf f) → r ≡ faultCode (faultOf e)
-  fault-as p q = q ∙ ap (λ (x : FrameError). faultCode (faultOf x)) (sym p)
+pub detail-as : {e f : FrameError} {r : ℕ} → e ≡ f → r ≡ faultDetail (faultOf f) → r ≡ faultDetail (faultOf e)
+detail-as p q = q ∙ ap (λ (x : FrameError). faultDetail (faultOf x)) (sym p)
 
-pub unknown-is : (f : Field) (v : ℕ) {k r : ℕ} → k ≡ fieldNumber (fieldOf f) → r ≡ refusalCode 3 (k * 256 + v) → r ≡ refusalCode 3 (fieldNumber (fieldOf f) * 256 + v)
-unknown-is f v p q = q ∙ ap (λ (x : ℕ). refusalCode 3 (x * 256 + v)) p
+pub unknown-is : (f : Field) (v : ℕ) {k r : ℕ} → k ≡ fieldNumber (fieldOf f) → r ≡ k * 256 + v → r ≡ fieldNumber (fieldOf f) * 256 + v
+unknown-is f v p q = q ∙ ap (λ (x : ℕ). x * 256 + v) p
 
-pub invalid-is : (v : Value) {k r : ℕ} → k ≡ faultNumber (invalidOf v) → r ≡ refusalCode k 0 → r ≡ faultCode (invalidOf v)
-invalid-is Value.Text p q = q ∙ ap (λ (x : ℕ). refusalCode x 0) p
-invalid-is Value.Session p q = q ∙ ap (λ (x : ℕ). refusalCode x 0) p
-invalid-is Value.Timestamp p q = q ∙ ap (λ (x : ℕ). refusalCode x 0) p
-invalid-is Value.Marks p q = q ∙ ap (λ (x : ℕ). refusalCode x 0) p
+pub invalid-is : (v : Value) → 0 ≡ faultDetail (invalidOf v)
+invalid-is Value.Text = refl
+invalid-is Value.Session = refl
+invalid-is Value.Timestamp = refl
+invalid-is Value.Marks = refl
 
 pub read-as : (w : List ℕ) {d x : Decoded} {r : ℕ} → readingOf 1 w d ≡ decode 1 w → d ≡ x → r ≡ readCode (readingOf 1 w x) → r ≡ readCode (decode 1 w)
 read-as w read p q = q ∙ ap (λ (y : Decoded). readCode (readingOf 1 w y)) (sym p) ∙ ap readCode read

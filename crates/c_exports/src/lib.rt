@@ -3,17 +3,16 @@ ghost use mathlib.Core.Path.{_≡_};
 ghost use mathlib.Core.Bool.{cond};
 ghost use Prim.Native.Nat.{_+_, _*_, _<_, _≤_};
 ghost use lib.ListN.{length, take, drop, set};
-ghost use Rattle.model_frame.specs.Frame.{faultNumber};
 ghost use Rattle.model_frame.specs.Reading.{decode};
 ghost use Rattle.model_session.specs.Summary.{fnv};
 ghost use Rattle.model_session.specs.Whole.{batchLimit};
-ghost use Rattle.frame_reader.specs.Answers.{fieldOf, invalidOf, faultOf};
+ghost use Rattle.frame_reader.specs.Answers.{fieldOf, faultOf};
 ghost use Rattle.frame_writer.specs.Encoding.{writeOutcome, writtenOf};
 ghost use Rattle.frame.specs.Answers.{frameIn};
 ghost use Rattle.standby_state.specs.Answers.{answerOf};
 ghost use Rattle.active.specs.Whole.{ready, senderOf, storedAt};
 ghost use Rattle.c_session.specs.Telling.{toldAt, toldOf};
-ghost use Rattle.c_exports.specs.Returned.{refusalCode, doneCode, fieldNumber, faultCode, readCode, writtenCode, takenCode};
+ghost use Rattle.c_exports.specs.Returned.{refusalCode, doneCode, fieldNumber, faultDetail, faultCode, readCode, writtenCode, takenCode};
 ghost use Rattle.c_exports.specs.Exports.{Again, Rewrites, shapeOf, Makes, TellsPlace, TellsAnswer};
 ghost use Rattle.c_exports.specs.Queues.{Pushes, Numbered, Filled};
 ghost use Rattle.c_exports.specs.Sendings.{SendIs, SendsNext};
@@ -21,26 +20,19 @@ use active::Begun;
 use active::Sending;
 use active::Sent;
 use active_lag::ReplicatedLog;
-use base_refusals::BAD_MARKS;
-use base_refusals::BAD_SESSION;
-use base_refusals::BAD_TEXT;
-use base_refusals::BAD_TIMESTAMP;
 use base_refusals::NO_ROOM;
 use base_refusals::NUMBERS_PAST;
 use base_refusals::RULES_BROKEN;
 use base_refusals::TOO_LONG;
-use base_refusals::TRUNCATED;
-use base_refusals::UNKNOWN_BYTE;
 use base_refusals::UNREADABLE;
 use c_session::SessionWritten;
-use frame::CommitNumber;
 use frame::Decoded;
-use frame::Epoch;
 use frame::Field;
 use frame::Frame;
 use frame::FrameError;
-use frame::Value;
 use frame::Written;
+use frame_fields::CommitNumber;
+use frame_fields::Epoch;
 use frame_stamp::Protocol;
 use standby_state::Answer;
 use store_areas::Made;
@@ -80,33 +72,29 @@ fn field_number(field: Field) -> u32
     }
 }
 
-fn value_number(value: Value) -> u8
-    ensures { λ r. ⌜ r ≡ faultNumber (invalidOf value) ⌝ }
+fn unknown(f: u32, v: u8) -> u32
+    requires { ⌜ f < 4 ⌝ }
+    ensures { λ r. ⌜ r ≡ f * 256 + v ⌝ }
 {
-    match value {
-        Value::Text => BAD_TEXT,
-        Value::Session => BAD_SESSION,
-        Value::Timestamp => BAD_TIMESTAMP,
-        Value::Marks => BAD_MARKS,
-    }
+    f * 256 + (v as u32)
 }
 
-fn unknown(f: u32, v: u8) -> u64
-    requires { ⌜ f < 4 ⌝ }
-    ensures { λ r. ⌜ r ≡ refusalCode 3 (f * 256 + v) ⌝ }
+// The detail of a fault: a length, a field and its byte, or nothing.
+fn detail(error: FrameError) -> u32
+    ensures { λ r. ⌜ r ≡ faultDetail (faultOf error) ⌝ }
 {
-    refusal(UNKNOWN_BYTE, f * 256 + (v as u32))
+    match error {
+        FrameError::TooLong(n) => n,
+        FrameError::Truncated => 0,
+        FrameError::Unknown(f, v) => unknown(field_number(f), v),
+        FrameError::Invalid(_) => 0,
+    }
 }
 
 fn fault(error: FrameError) -> u64
     ensures { λ r. ⌜ r ≡ faultCode (faultOf error) ⌝ }
 {
-    match error {
-        FrameError::TooLong(n) => refusal(TOO_LONG, n),
-        FrameError::Truncated => refusal(TRUNCATED, 0),
-        FrameError::Unknown(f, v) => unknown(field_number(f), v),
-        FrameError::Invalid(v) => refusal(value_number(v), 0),
-    }
+    refusal(error.number(), detail(error))
 }
 
 // What writing came to: the bytes written, or a refusal.
@@ -139,7 +127,16 @@ fn read_code(written: Written, used: usize) -> u64
 fn rewritten(decoded: Frame, used: usize, src: &[u8], out: &mut [u8]) -> u64
     ensures { λ r. ⌜ Again used (writeOutcome 1 (frameIn 1 (now (src .entry)) decoded) (length (now (out .entry)))) (now (out .entry)) (now (out .exit)) r ⌝ }
 {
-    read_code(decoded.encode(Protocol { version: 1 }, src, out), used)
+    read_code(
+        decoded.encode(
+            Protocol {
+                version: Frame::VERSION,
+            },
+            src,
+            out,
+        ),
+        used,
+    )
 }
 
 // Reads one frame and writes it again.
@@ -147,7 +144,12 @@ fn rewritten(decoded: Frame, used: usize, src: &[u8], out: &mut [u8]) -> u64
 pub extern "C" fn wz_frame(frame: &[u8], out: &mut [u8]) -> u64
     ensures { λ r. ⌜ Rewrites (decode 1 (now (frame .entry))) (now (out .entry)) (now (out .exit)) r ⌝ }
 {
-    match Frame::decode(Protocol { version: 1 }, frame) {
+    match Frame::decode(
+        Protocol {
+            version: Frame::VERSION,
+        },
+        frame,
+    ) {
         Decoded::More => 0,
         Decoded::Bad(e) => fault(e),
         Decoded::Whole(f, used) => rewritten(f, used, frame, out),
@@ -159,7 +161,12 @@ pub extern "C" fn wz_frame(frame: &[u8], out: &mut [u8]) -> u64
 pub extern "C" fn wz_read(frame: &[u8]) -> u64
     ensures { λ r. ⌜ r ≡ readCode (decode 1 (now (frame .entry))) ⌝ }
 {
-    match Frame::decode(Protocol { version: 1 }, frame) {
+    match Frame::decode(
+        Protocol {
+            version: Frame::VERSION,
+        },
+        frame,
+    ) {
         Decoded::More => 0,
         Decoded::Bad(e) => fault(e),
         Decoded::Whole(_, used) => done(used),

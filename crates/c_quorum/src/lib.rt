@@ -2,7 +2,7 @@
 ghost use Rattle.model_quorum.specs.History.{bind, sent, ack, stale};
 ghost use Rattle.active_quorum.specs.Area.{MakesQuorum, Does, Tells};
 use active_quorum::Shown;
-use frame::CommitNumber;
+use frame_fields::CommitNumber;
 
 #[no_mangle]
 pub extern "C" fn wz_quorum_make(words: &mut [u64], n: u64, k: u64) -> u8

@@ -12,6 +12,7 @@ use Rattle.base_laws.proofs.Runs.{run-items}
 use Rattle.model_frame.specs.Frame.{hello, batch, bind, bound}
 use Rattle.model_frame.specs.Parse.{Res, ok, bad, Parser, readNum, many, forget, collect}
 use Rattle.model_frame.specs.Reading.{readChange, readAppRecord, readBody}
+use Rattle.model_frame.specs.Writing.{sizes}
 use Rattle.model_frame.proofs.Grow.{Grows, grow-num, grow-many, change-grows, record-grows}
 use Rattle.frame_reader.specs.declared.Span.{Span}
 use Rattle.frame_reader.specs.Answers.{spanOf}
@@ -22,7 +23,7 @@ use Rattle.frame_writer.specs.Encoding.{spanFits, isOk, runReads}
 use Rattle.frame.specs.declared.Frame
 use Rattle.frame.specs.declared.Frame.{Frame}
 use Rattle.frame.specs.declared.FrameAt.{FrameAt}
-use Rattle.frame.specs.Answers.{resFrame, readable, Stands}
+use Rattle.frame.specs.Answers.{resFrame, readable, Sized, Stands}
 
 pub body-within : (version : ℕ) (b : List ℕ) (n : ℕ) (r : FrameAt) {w : List ℕ} → w ≡ take (4 + n) b → resFrame version w r ≡ readBody version (drop 4 w) → resFrame version (take (4 + n) b) r ≡ readBody version (take n (drop 4 b))
 body-within version b n r e h = rw (← (drop-take 4 n b)) (rw e at h)
@@ -77,33 +78,33 @@ run-again {A = A} {p = p} g n b r = go (many (r .count) p (drop (r .at) (take n 
     go (bad x) e h = absurd (true≢false (sym h))
 
 -- a frame
-pub stands : (version n : ℕ) (b : List ℕ) (f : Frame) → readable version (take n b) f ≡ true → Stands version b f n
-stands version n b (Frame.Hello v e node ks) h =
+pub stands : (version n : ℕ) (b : List ℕ) (f : Frame) → (readable version (take n b) f ≡ true) × Sized version (take n b) f → Stands version b f n
+stands version n b (Frame.Hello v e node ks) (h, z) =
     let x = both (spanFits (take n b) node) (runReads (readNum 2) (take n b) ks) h in
     let p = span-again n b node (x .0) in
     let q = run-again (grow-num 2) n b ks (x .1) in
-    record { own = h; all = rw (p .fits, q .reads); same = ap₂ (λ (s t : List ℕ). hello v (e .0) s t) (p .same) (q .same) }
-stands version n b (Frame.Welcome e i) h = record { own = h; all = refl; same = refl }
-stands version n b (Frame.Bind hd e lag k) h =
+    record { own = h; all = rw (p .fits, q .reads); same = ap₂ (λ (s t : List ℕ). hello v (e .0) s t) (p .same) (q .same); sized = tt }
+stands version n b (Frame.Welcome e i) (h, z) = record { own = h; all = refl; same = refl; sized = tt }
+stands version n b (Frame.Bind hd e lag k) (h, z) =
     let x = both ((spanFits (take n b) (k .«begin_string») && spanFits (take n b) (k .«sender_comp_id»)) && spanFits (take n b) (k .«target_comp_id»)) (spanFits (take n b) (k .«key_suffix»)) h in
     let y = both (spanFits (take n b) (k .«begin_string») && spanFits (take n b) (k .«sender_comp_id»)) (spanFits (take n b) (k .«target_comp_id»)) (x .0) in
-    let z = both (spanFits (take n b) (k .«begin_string»)) (spanFits (take n b) (k .«sender_comp_id»)) (y .0) in
-    let p = span-again n b (k .«begin_string») (z .0) in
-    let q = span-again n b (k .«sender_comp_id») (z .1) in
+    let w = both (spanFits (take n b) (k .«begin_string»)) (spanFits (take n b) (k .«sender_comp_id»)) (y .0) in
+    let p = span-again n b (k .«begin_string») (w .0) in
+    let q = span-again n b (k .«sender_comp_id») (w .1) in
     let r = span-again n b (k .«target_comp_id») (y .1) in
     let s = span-again n b (k .«key_suffix») (x .1) in
-    record { own = h; all = rw (p .fits, q .fits, r .fits, s .fits); same = λ j. bind hd (e .0) lag (record { begin = p .same j; sender = q .same j; target = r .same j; suffix = s .same j }) }
-stands version n b (Frame.Bound hd m) h =
+    record { own = h; all = rw (p .fits, q .fits, r .fits, s .fits); same = λ j. bind hd (e .0) lag (record { begin = p .same j; sender = q .same j; target = r .same j; suffix = s .same j }); sized = tt }
+stands version n b (Frame.Bound hd m) (h, z) =
     let x = both (spanFits (take n b) (m .«created_at»)) (spanFits (take n b) (m .marks)) h in
     let p = span-again n b (m .«created_at») (x .0) in
     let q = span-again n b (m .marks) (x .1) in
     let s = summaryOf b m in
-    record { own = h; all = rw (p .fits, q .fits); same = λ j. bound hd (record { nextOut = s .nextOut; nextIn = s .nextIn; inFlight = s .inFlight; stampText = p .same j; marksText = q .same j; lastOutgoing = s .lastOutgoing }) }
-stands version n b (Frame.Batch x) h =
+    record { own = h; all = rw (p .fits, q .fits); same = λ j. bound hd (record { nextOut = s .nextOut; nextIn = s .nextIn; inFlight = s .inFlight; stampText = p .same j; marksText = q .same j; lastOutgoing = s .lastOutgoing }); sized = tt }
+stands version n b (Frame.Batch x) (h, z) =
     let y = both (runReads (readChange version) (take n b) (x .ops)) (runReads readAppRecord (take n b) (x .«app_records»)) h in
     let p = run-again (change-grows version) n b (x .ops) (y .0) in
     let q = run-again record-grows n b (x .«app_records») (y .1) in
-    record { own = h; all = rw (p .reads, q .reads); same = λ j. batch (x .handle) (x .epoch .0) (x .«commit_no» .0) (partOf (x .part)) (p .same j) (q .same j) }
-stands version n b (Frame.Ack hd k) h = record { own = h; all = refl; same = refl }
-stands version n b (Frame.Nack hd r) h = record { own = h; all = refl; same = refl }
-stands version n b (Frame.Checked hd e i) h = record { own = h; all = refl; same = refl }
+    record { own = h; all = rw (p .reads, q .reads); same = λ j. batch (x .handle) (x .epoch .0) (x .«commit_no» .0) (partOf (x .part)) (p .same j) (q .same j); sized = z ∙ ap sizes (sym (p .same)) }
+stands version n b (Frame.Ack hd k) (h, z) = record { own = h; all = refl; same = refl; sized = tt }
+stands version n b (Frame.Nack hd r) (h, z) = record { own = h; all = refl; same = refl; sized = tt }
+stands version n b (Frame.Checked hd e i) (h, z) = record { own = h; all = refl; same = refl; sized = tt }

@@ -10,10 +10,10 @@ use Rattle.model_frame.specs.Frame.{hello, welcome, bind, batch, ack, nack, bou
 use Rattle.model_frame.specs.Parse.{Res, ok, bad, readNum}
 use Rattle.model_frame.specs.Reading.{readChange, readAppRecord}
 use Rattle.frame_reader.specs.Answers.{faultOf, spanOf}
-use Rattle.frame_op.specs.Answers.{runOf}
+use Rattle.frame_op.specs.Answers.{runOf, HasLength}
 use Rattle.frame_fields.specs.Answers.{partOf, reasonOf, keyOf, summaryOf}
 use Rattle.frame_writer.specs.Encoding.{spanFits, runReads, keyFits, summaryFits, frameIf}
-use Rattle.frame.specs.declared.Batch.{Batch}
+use Rattle.frame_fields.specs.declared.Batch.{Batch}
 use Rattle.frame.specs.declared.Frame
 use Rattle.frame.specs.declared.Frame.{Frame}
 use Rattle.frame.specs.declared.FrameAt
@@ -62,8 +62,19 @@ frameIn version src f = frameIf (readable version src f) (frameOf version src f)
 
 -- ---- reading, then writing: what was read stands in the bytes
 
+-- the changes of a batch have their length
+abbrev pub Sized : ℕ → List ℕ → Frame → Type 0
+Sized version b (Frame.Hello v e node ks) = Unit {0}
+Sized version b (Frame.Welcome e i) = Unit {0}
+Sized version b (Frame.Bind h e lag k) = Unit {0}
+Sized version b (Frame.Bound h m) = Unit {0}
+Sized version b (Frame.Batch x) = HasLength version b (x .ops)
+Sized version b (Frame.Ack h n) = Unit {0}
+Sized version b (Frame.Nack h r) = Unit {0}
+Sized version b (Frame.Checked h e i) = Unit {0}
+
 abbrev pub ReadIn : ℕ → List ℕ → FrameAt → Type 0
-ReadIn version b (FrameAt.Got f c) = readable version b f ≡ true
+ReadIn version b (FrameAt.Got f c) = (readable version b f ≡ true) × Sized version b f
 ReadIn version b (FrameAt.Bad e) = Unit {0}
 
 -- a frame of n bytes stands in the bytes that it took, and in all the bytes it is the same frame
@@ -71,6 +82,7 @@ pub record Stands (version : ℕ) (b : List ℕ) (f : Frame) (n : ℕ) : Type 0 
   pub own : readable version (take n b) f ≡ true
   pub all : readable version b f ≡ true
   pub same : frameOf version b f ≡ frameOf version (take n b) f
+  pub sized : Sized version b f
 
 abbrev pub StandsIn : ℕ → List ℕ → Decoded → Type 0
 StandsIn version b (Decoded.Whole f n) = Stands version b f n

@@ -2,11 +2,15 @@
 ghost use mathlib.Core.Path.{_≡_};
 ghost use Prim.Native.Nat.{ℕ, _+_, _≤_};
 ghost use lib.ListN.{length, take, drop};
-ghost use Rattle.model_frame.specs.Reading.{helloFields, welcomeFields, bindFields, batchFields, ackFields, nackFields, boundFields, checkedFields, maxBody, readFields, readBody, decode};
+ghost use Rattle.model_frame.specs.Reading.{helloFields, welcomeFields, bindFields, batchFields, ackFields, nackFields, boundFields, checkedFields, readFields, readBody, decode};
 ghost use Rattle.frame.specs.Answers.{resFrame, ReadIn, readingOf, StandsIn, frameIn};
 ghost use Rattle.frame_writer.specs.Encoding.{Encoded};
 pub use frame_fields::AppRecord;
+pub use frame_fields::Batch;
+pub use frame_fields::CommitNumber;
+pub use frame_fields::Epoch;
 pub use frame_fields::InFlight;
+pub use frame_fields::Incarnation;
 pub use frame_fields::NackReason;
 pub use frame_fields::Part;
 use frame_fields::PartAt;
@@ -31,29 +35,6 @@ use frame_reader::Word32;
 use frame_reader::Word64;
 use frame_stamp::Protocol;
 pub use frame_writer::Written;
-
-// The epoch of the lease that an active holds.
-#[repr(C)]
-pub struct Epoch(pub u64);
-
-// A run of the standby: a restart is a new one.
-#[repr(C)]
-pub struct Incarnation(pub u64);
-
-// A session's commits on one binding, counted from 1.
-#[repr(C)]
-pub struct CommitNumber(pub u64);
-
-// One commit's changes to a session, and the application's records with them: both are runs in the bytes read.
-#[repr(C)]
-pub struct Batch {
-    pub handle: u32,
-    pub epoch: Epoch,
-    pub commit_no: CommitNumber,
-    pub part: Part,
-    pub ops: Run,
-    pub app_records: Run,
-}
 
 // A frame between an active instance and its standby. Texts, changes and records are parts of the bytes it was read from.
 pub enum Frame {
@@ -323,7 +304,7 @@ impl Frame {
     // The version of the wire form.
     pub const VERSION: u16 = 1;
     // The longest body.
-    pub const LIMIT: u32 = 67108864;
+    pub const MAX_FRAME_BYTES: u32 = 67108864;
 
     // The frame at the start of the bytes; its texts, changes and records are parts of them.
     pub fn decode(protocol: Protocol, buf: &[u8]) -> Decoded
@@ -334,7 +315,7 @@ impl Frame {
             return Decoded::More;
         }
         let n = base_bytes::u32_at(buf, 0);
-        if Self::LIMIT < n {
+        if Self::MAX_FRAME_BYTES < n {
             return Decoded::Bad(FrameError::TooLong(n));
         }
         let len = n as usize;
@@ -363,63 +344,55 @@ impl Frame {
                 app_record_kinds,
             } => {
                 frame_encode::hello(
-                    Self::LIMIT,
+                    Self::MAX_FRAME_BYTES,
                     src,
                     version,
-                    epoch.0,
+                    epoch,
                     node,
                     app_record_kinds,
                     out,
                 )
             }
             Frame::Welcome { epoch, incarnation } => {
-                frame_encode::welcome(Self::LIMIT, epoch.0, incarnation.0, out)
+                frame_encode::welcome(Self::MAX_FRAME_BYTES, epoch, incarnation, out)
             }
             Frame::Bind {
                 handle,
                 epoch,
                 max_lag,
                 session,
-            } => { frame_encode::bind(Self::LIMIT, src, handle, epoch.0, max_lag, session, out) }
-            Frame::Bound { handle, summary } => {
-                frame_encode::bound(Self::LIMIT, protocol, src, handle, summary, out)
+            } => {
+                frame_encode::bind(
+                    Self::MAX_FRAME_BYTES,
+                    src,
+                    handle,
+                    epoch,
+                    max_lag,
+                    session,
+                    out,
+                )
             }
-            Frame::Batch(b) => encode_batch(Self::LIMIT, protocol, src, b, out),
+            Frame::Bound { handle, summary } => {
+                frame_encode::bound(Self::MAX_FRAME_BYTES, protocol, src, handle, summary, out)
+            }
+            Frame::Batch(b) => frame_encode::batch(Self::MAX_FRAME_BYTES, protocol, src, b, out),
             Frame::Ack { handle, commit_no } => frame_encode::ack(
-                Self::LIMIT,
+                Self::MAX_FRAME_BYTES,
                 handle,
-                commit_no.0,
+                commit_no,
                 out,
             ),
-            Frame::Nack { handle, reason } => frame_encode::nack(Self::LIMIT, handle, reason, out),
+            Frame::Nack { handle, reason } => frame_encode::nack(
+                Self::MAX_FRAME_BYTES,
+                handle,
+                reason,
+                out,
+            ),
             Frame::Checked {
                 handle,
                 epoch,
                 incarnation,
-            } => { frame_encode::checked(Self::LIMIT, handle, epoch.0, incarnation.0, out) }
+            } => { frame_encode::checked(Self::MAX_FRAME_BYTES, handle, epoch, incarnation, out) }
         }
     }
-}
-
-fn encode_batch(limit: u32, protocol: Protocol, src: &[u8], batch: Batch, out: &mut [u8]) -> Written
-    requires { ⌜ limit ≡ maxBody ⌝ }
-    ensures { λ r. ⌜ Encoded (protocol .version) (frameIn (protocol .version) (now (src .entry)) (Frame.Batch batch)) (now (out .entry)) (now (out .exit)) r ⌝ }
-{
-    let epoch = batch.epoch;
-    let commit_no = batch.commit_no;
-    let part = batch.part;
-    let ops = batch.ops;
-    let app_records = batch.app_records;
-    frame_encode::batch(
-        limit,
-        protocol,
-        src,
-        batch.handle,
-        epoch.0,
-        commit_no.0,
-        part,
-        ops,
-        app_records,
-        out,
-    )
 }

@@ -5,7 +5,8 @@ ghost use mathlib.Core.List.{_∷_, _++_};
 ghost use Prim.Native.Nat.{ℕ, _+_, _*_, _≤_};
 ghost use lib.ListN.{length, take, drop};
 ghost use Rattle.model_frame.specs.Bytes.{bytesOf};
-ghost use Rattle.model_frame.specs.Frame.{hello, welcome, bind, batch, ack, nack, bound, checked};
+ghost use Rattle.model_frame.specs.Frame as the-frame;
+ghost use Rattle.model_frame.specs.Frame.{hello, welcome, bind, ack, nack, bound, checked};
 ghost use Rattle.model_frame.specs.Parse.{readNum, runBytes};
 ghost use Rattle.model_frame.specs.Reading.{readChange, readAppRecord, maxBody};
 ghost use Rattle.model_frame.specs.Writing.{blobBytes, changeBytes, appRecordBytes, partNumber, bodyBytes};
@@ -14,6 +15,10 @@ ghost use Rattle.frame_reader.specs.Answers.{spanOf};
 ghost use Rattle.frame_op.specs.Answers.{runOf};
 ghost use Rattle.frame_fields.specs.Answers.{partOf, reasonOf, keyOf, summaryOf};
 ghost use Rattle.frame_writer.specs.Encoding.{spanFits, runReads, keyFits, summaryFits, keySize, summarySize, frameIf, Encoded};
+use frame_fields::Batch;
+use frame_fields::CommitNumber;
+use frame_fields::Epoch;
+use frame_fields::Incarnation;
 use frame_fields::NackReason;
 use frame_fields::Part;
 use frame_fields::SessionId;
@@ -21,6 +26,7 @@ use frame_fields::Summary;
 use frame_fields::kind;
 use frame_op::Run;
 use frame_op::RunLen;
+use frame_reader::Cursor;
 use frame_reader::Span;
 use frame_stamp::Protocol;
 use frame_writer::Start;
@@ -29,20 +35,20 @@ use frame_writer::Written;
 fn put_hello(
     src: &[u8],
     version: u16,
-    epoch: u64,
+    epoch: Epoch,
     node: Span,
     kinds: Run,
     out: &mut [u8],
     at: usize,
 ) -> usize
     requires { ⌜ at + (19 + length (spanOf (now src) node) + kinds .count * 2) ≤ length (now out) ⌝ }
-    ensures { λ r. ⌜ Wrote (now (out .entry)) at (1 ∷ bytesOf 2 version ++ bytesOf 8 epoch ++ blobBytes (spanOf (now (src .entry)) node) ++ bytesOf 4 (kinds .count) ++ take (kinds .count * 2) (drop (kinds .at) (now (src .entry)))) (now (out .exit)) r ⌝ }
+    ensures { λ r. ⌜ Wrote (now (out .entry)) at (1 ∷ bytesOf 2 version ++ bytesOf 8 (epoch .0) ++ blobBytes (spanOf (now (src .entry)) node) ++ bytesOf 4 (kinds .count) ++ take (kinds .count * 2) (drop (kinds .at) (now (src .entry)))) (now (out .exit)) r ⌝ }
 {
     let first = kinds.at;
     let len = (kinds.count as usize) * 2;
     let at = frame_op::tag(out, at, kind::HELLO);
     let at = base_bytes::put_u16(out, at, version);
-    let at = base_bytes::put_u64(out, at, epoch);
+    let at = base_bytes::put_u64(out, at, epoch.0);
     let at = frame_writer::put_span(src, node, out, at);
     let at = base_bytes::put_u32(out, at, kinds.count);
     base_bytes::copy(frame_reader::bytes_at(src, first, len), out, at)
@@ -52,13 +58,13 @@ pub fn hello(
     limit: u32,
     src: &[u8],
     version: u16,
-    epoch: u64,
+    epoch: Epoch,
     node: Span,
     kinds: Run,
     out: &mut [u8],
 ) -> Written
     requires { ⌜ limit ≡ maxBody ⌝ }
-    ensures { λ r. ⌜ ((v : ℕ) → Encoded v (frameIf (spanFits (now (src .entry)) node && runReads (readNum 2) (now (src .entry)) kinds) (hello version epoch (spanOf (now (src .entry)) node) (runOf (readNum 2) (now (src .entry)) kinds))) (now (out .entry)) (now (out .exit)) r) ⌝ }
+    ensures { λ r. ⌜ ((v : ℕ) → Encoded v (frameIf (spanFits (now (src .entry)) node && runReads (readNum 2) (now (src .entry)) kinds) (hello version (epoch .0) (spanOf (now (src .entry)) node) (runOf (readNum 2) (now (src .entry)) kinds))) (now (out .entry)) (now (out .exit)) r) ⌝ }
 {
     let fits = frame_writer::within(src, node) & frame_writer::kinds_fit(src, kinds);
     if fits & frame_utf8::is_utf8(frame_reader::slice(src, node)) {
@@ -73,17 +79,17 @@ pub fn hello(
     }
 }
 
-fn put_welcome(epoch: u64, incarnation: u64, out: &mut [u8], at: usize) -> usize
+fn put_welcome(epoch: Epoch, incarnation: Incarnation, out: &mut [u8], at: usize) -> usize
     requires { ⌜ at + 17 ≤ length (now out) ⌝ }
-    ensures { λ r. ⌜ Wrote (now (out .entry)) at (bodyBytes (welcome epoch incarnation)) (now (out .exit)) r ⌝ }
+    ensures { λ r. ⌜ Wrote (now (out .entry)) at (bodyBytes (welcome (epoch .0) (incarnation .0))) (now (out .exit)) r ⌝ }
 {
-    let at = frame_op::tagged(out, at, kind::WELCOME, epoch);
-    base_bytes::put_u64(out, at, incarnation)
+    let at = frame_op::tagged(out, at, kind::WELCOME, epoch.0);
+    base_bytes::put_u64(out, at, incarnation.0)
 }
 
-pub fn welcome(limit: u32, epoch: u64, incarnation: u64, out: &mut [u8]) -> Written
+pub fn welcome(limit: u32, epoch: Epoch, incarnation: Incarnation, out: &mut [u8]) -> Written
     requires { ⌜ limit ≡ maxBody ⌝ }
-    ensures { λ r. ⌜ ((v : ℕ) → Encoded v (frameIf true (welcome epoch incarnation)) (now (out .entry)) (now (out .exit)) r) ⌝ }
+    ensures { λ r. ⌜ ((v : ℕ) → Encoded v (frameIf true (welcome (epoch .0) (incarnation .0))) (now (out .entry)) (now (out .exit)) r) ⌝ }
 {
     match frame_writer::begin(out, limit, 17) {
         Start::TooLong => Written::TooLong,
@@ -95,17 +101,17 @@ pub fn welcome(limit: u32, epoch: u64, incarnation: u64, out: &mut [u8]) -> Writ
 fn put_bind(
     src: &[u8],
     handle: u32,
-    epoch: u64,
+    epoch: Epoch,
     lag: u64,
     session: SessionId,
     out: &mut [u8],
     at: usize,
 ) -> usize
     requires { ⌜ at + (21 + keySize (keyOf (now src) session)) ≤ length (now out) ⌝ }
-    ensures { λ r. ⌜ Wrote (now (out .entry)) at (bodyBytes (bind handle epoch lag (keyOf (now (src .entry)) session))) (now (out .exit)) r ⌝ }
+    ensures { λ r. ⌜ Wrote (now (out .entry)) at (bodyBytes (bind handle (epoch .0) lag (keyOf (now (src .entry)) session))) (now (out .exit)) r ⌝ }
 {
     let at = frame_writer::put_handle(out, at, kind::BIND, handle);
-    let at = base_bytes::put_u64(out, at, epoch);
+    let at = base_bytes::put_u64(out, at, epoch.0);
     let at = base_bytes::put_u64(out, at, lag);
     frame_writer::put_session(src, session, out, at)
 }
@@ -114,13 +120,13 @@ pub fn bind(
     limit: u32,
     src: &[u8],
     handle: u32,
-    epoch: u64,
+    epoch: Epoch,
     lag: u64,
     session: SessionId,
     out: &mut [u8],
 ) -> Written
     requires { ⌜ limit ≡ maxBody ⌝ }
-    ensures { λ r. ⌜ ((v : ℕ) → Encoded v (frameIf (keyFits (now (src .entry)) session) (bind handle epoch lag (keyOf (now (src .entry)) session))) (now (out .entry)) (now (out .exit)) r) ⌝ }
+    ensures { λ r. ⌜ ((v : ℕ) → Encoded v (frameIf (keyFits (now (src .entry)) session) (bind handle (epoch .0) lag (keyOf (now (src .entry)) session))) (now (out .entry)) (now (out .exit)) r) ⌝ }
 {
     if frame_writer::session_fits(src, session) {
         let begin = session.begin_string;
@@ -142,22 +148,23 @@ pub fn bind(
     }
 }
 
-fn put_head(
+// What stands before the changes of a batch.
+pub fn put_head(
     out: &mut [u8],
     at: usize,
     handle: u32,
-    epoch: u64,
-    commit: u64,
+    epoch: Epoch,
+    commit_no: CommitNumber,
     part: Part,
     count: u32,
 ) -> usize
     requires { ⌜ at + 26 ≤ length (now out) ⌝ }
-    ensures { λ r. ⌜ Wrote (now (out .entry)) at (4 ∷ bytesOf 4 handle ++ bytesOf 8 epoch ++ bytesOf 8 commit ++ partNumber (partOf part) ∷ bytesOf 4 count) (now (out .exit)) r ⌝ }
+    ensures { λ r. ⌜ Wrote (now (out .entry)) at (4 ∷ bytesOf 4 handle ++ bytesOf 8 (epoch .0) ++ bytesOf 8 («commit_no» .0) ++ partNumber (partOf part) ∷ bytesOf 4 count) (now (out .exit)) r ⌝ }
     ensures { λ r. ⌜ r ≡ at + 26 ⌝ }
 {
     let at = frame_writer::put_handle(out, at, kind::BATCH, handle);
-    let at = base_bytes::put_u64(out, at, epoch);
-    let at = base_bytes::put_u64(out, at, commit);
+    let at = base_bytes::put_u64(out, at, epoch.0);
+    let at = base_bytes::put_u64(out, at, commit_no.0);
     let at = frame_op::tag(out, at, frame_writer::part_byte(part));
     base_bytes::put_u32(out, at, count)
 }
@@ -184,25 +191,21 @@ fn put_runs(
     base_bytes::copy(frame_reader::bytes_at(src, first, m), out, at)
 }
 
-pub fn batch(
-    limit: u32,
-    protocol: Protocol,
-    src: &[u8],
-    handle: u32,
-    epoch: u64,
-    commit: u64,
-    part: Part,
-    ops: Run,
-    records: Run,
-    out: &mut [u8],
-) -> Written
+pub fn batch(limit: u32, protocol: Protocol, src: &[u8], batch: Batch, out: &mut [u8]) -> Written
     requires { ⌜ limit ≡ maxBody ⌝ }
-    ensures { λ r. ⌜ Encoded (protocol .version) (frameIf (runReads (readChange (protocol .version)) (now (src .entry)) ops && runReads readAppRecord (now (src .entry)) records) (batch handle epoch commit (partOf part) (runOf (readChange (protocol .version)) (now (src .entry)) ops) (runOf readAppRecord (now (src .entry)) records))) (now (out .entry)) (now (out .exit)) r ⌝ }
+    ensures { λ r. ⌜ Encoded (protocol .version) (frameIf (runReads (readChange (protocol .version)) (now (src .entry)) (batch .ops) && runReads readAppRecord (now (src .entry)) (batch .«app_records»)) (the-frame.batch (batch .handle) (batch .epoch .0) (batch .«commit_no» .0) (partOf (batch .part)) (runOf (readChange (protocol .version)) (now (src .entry)) (batch .ops)) (runOf readAppRecord (now (src .entry)) (batch .«app_records»)))) (now (out .entry)) (now (out .exit)) r ⌝ }
 {
-    let RunLen::Bytes(k) = frame_op::ops_len(protocol, src, ops) else {
+    let handle = batch.handle;
+    let epoch = batch.epoch;
+    let commit_no = batch.commit_no;
+    let part = batch.part;
+    let ops = batch.ops;
+    let records = batch.app_records;
+    let RunLen::Bytes(k) = frame_op::ops_len(protocol, src, Cursor { at: ops.at }, ops.count) else {
         return Written::Unreadable;
     };
-    let RunLen::Bytes(m) = frame_writer::records_len(src, records) else {
+    let RunLen::Bytes(m) = frame_fields::records_len(src, Cursor { at: records.at }, records.count)
+    else {
         return Written::Unreadable;
     };
     if (limit as usize) < k {
@@ -215,28 +218,28 @@ pub fn batch(
         Start::TooLong => Written::TooLong,
         Start::NoRoom => Written::NoRoom,
         Start::At(at) => {
-            let at = put_head(out, at, handle, epoch, commit, part, ops.count);
+            let at = put_head(out, at, handle, epoch, commit_no, part, ops.count);
             Written::Bytes(put_runs(protocol, src, ops, k, records, m, out, at))
         }
     }
 }
 
-fn put_ack(handle: u32, commit: u64, out: &mut [u8], at: usize) -> usize
+fn put_ack(handle: u32, commit_no: CommitNumber, out: &mut [u8], at: usize) -> usize
     requires { ⌜ at + 13 ≤ length (now out) ⌝ }
-    ensures { λ r. ⌜ Wrote (now (out .entry)) at (bodyBytes (ack handle commit)) (now (out .exit)) r ⌝ }
+    ensures { λ r. ⌜ Wrote (now (out .entry)) at (bodyBytes (ack handle («commit_no» .0))) (now (out .exit)) r ⌝ }
 {
     let at = frame_writer::put_handle(out, at, kind::ACK, handle);
-    base_bytes::put_u64(out, at, commit)
+    base_bytes::put_u64(out, at, commit_no.0)
 }
 
-pub fn ack(limit: u32, handle: u32, commit: u64, out: &mut [u8]) -> Written
+pub fn ack(limit: u32, handle: u32, commit_no: CommitNumber, out: &mut [u8]) -> Written
     requires { ⌜ limit ≡ maxBody ⌝ }
-    ensures { λ r. ⌜ ((v : ℕ) → Encoded v (frameIf true (ack handle commit)) (now (out .entry)) (now (out .exit)) r) ⌝ }
+    ensures { λ r. ⌜ ((v : ℕ) → Encoded v (frameIf true (ack handle («commit_no» .0))) (now (out .entry)) (now (out .exit)) r) ⌝ }
 {
     match frame_writer::begin(out, limit, 13) {
         Start::TooLong => Written::TooLong,
         Start::NoRoom => Written::NoRoom,
-        Start::At(at) => Written::Bytes(put_ack(handle, commit, out, at)),
+        Start::At(at) => Written::Bytes(put_ack(handle, commit_no, out, at)),
     }
 }
 
@@ -292,18 +295,30 @@ pub fn bound(
     }
 }
 
-fn put_checked(handle: u32, epoch: u64, incarnation: u64, out: &mut [u8], at: usize) -> usize
+fn put_checked(
+    handle: u32,
+    epoch: Epoch,
+    incarnation: Incarnation,
+    out: &mut [u8],
+    at: usize,
+) -> usize
     requires { ⌜ at + 21 ≤ length (now out) ⌝ }
-    ensures { λ r. ⌜ Wrote (now (out .entry)) at (bodyBytes (checked handle epoch incarnation)) (now (out .exit)) r ⌝ }
+    ensures { λ r. ⌜ Wrote (now (out .entry)) at (bodyBytes (checked handle (epoch .0) (incarnation .0))) (now (out .exit)) r ⌝ }
 {
     let at = frame_writer::put_handle(out, at, kind::CHECKED, handle);
-    let at = base_bytes::put_u64(out, at, epoch);
-    base_bytes::put_u64(out, at, incarnation)
+    let at = base_bytes::put_u64(out, at, epoch.0);
+    base_bytes::put_u64(out, at, incarnation.0)
 }
 
-pub fn checked(limit: u32, handle: u32, epoch: u64, incarnation: u64, out: &mut [u8]) -> Written
+pub fn checked(
+    limit: u32,
+    handle: u32,
+    epoch: Epoch,
+    incarnation: Incarnation,
+    out: &mut [u8],
+) -> Written
     requires { ⌜ limit ≡ maxBody ⌝ }
-    ensures { λ r. ⌜ ((v : ℕ) → Encoded v (frameIf true (checked handle epoch incarnation)) (now (out .entry)) (now (out .exit)) r) ⌝ }
+    ensures { λ r. ⌜ ((v : ℕ) → Encoded v (frameIf true (checked handle (epoch .0) (incarnation .0))) (now (out .entry)) (now (out .exit)) r) ⌝ }
 {
     match frame_writer::begin(out, limit, 21) {
         Start::TooLong => Written::TooLong,

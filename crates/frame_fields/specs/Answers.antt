@@ -1,12 +1,18 @@
 -- What the code's answers stand for, over the buffer b that was read. Assumes nothing.
-use Prim.Native.Nat.{ℕ}
+use Prim.Native.Nat.{ℕ, _+_}
+use mathlib.Core.Path.{_≡_}
 use mathlib.Core.List.{List}
 use mathlib.Core.Option.{Option, none, some}
 use lib.ListN.{drop}
 use Rattle.model_frame.specs.Frame as the-frame
 use Rattle.model_frame.specs.Frame.{Key, Reason, staleEpoch, diverged, lagTooGreat, restarted, commit, whole, lastWhole, badSession}
-use Rattle.model_frame.specs.Parse.{Res, ok, bad, andThen, fail}
+use Rattle.model_frame.specs.Parse.{Res, ok, bad, andThen, fail, many, collect, runBytes}
+use Rattle.model_frame.specs.Reading.{readAppRecord}
+use Rattle.model_frame.specs.Writing.{appRecordBytes}
+use Rattle.base_laws.specs.Wrote.{StandsAt}
 use Rattle.frame_reader.specs.Answers.{faultOf, spanOf, Lies}
+use Rattle.frame_op.specs.declared.RunLen
+use Rattle.frame_op.specs.declared.RunLen.{RunLen}
 use Rattle.frame_fields.specs.declared.Part
 use Rattle.frame_fields.specs.declared.Part.{Part}
 use Rattle.frame_fields.specs.declared.PartAt
@@ -52,6 +58,13 @@ recordOf b r = record { kind = r .kind; blob = spanOf b (r .bytes) }
 abbrev pub resRecord : List ℕ → AppRecordAt → Res the-frame.AppRecord
 resRecord b (AppRecordAt.Got r c) = ok (recordOf b r) (drop (c .at) b)
 resRecord b (AppRecordAt.Bad e) = bad (faultOf e)
+
+-- how many bytes so many application records at a position take: they are the records, written; or the fault that reading them meets
+abbrev pub RecordsLen : List ℕ → ℕ → ℕ → RunLen → Type 0
+RecordsLen b at count (RunLen.Bytes n) =
+    (many count readAppRecord (drop at b) ≡ ok (collect count readAppRecord (drop at b)) (drop (at + n) b))
+    × StandsAt b at n (runBytes appRecordBytes (collect count readAppRecord (drop at b)))
+RecordsLen b at count (RunLen.Bad e) = many count readAppRecord (drop at b) ≡ bad (faultOf e)
 
 abbrev pub keyOf : List ℕ → SessionId → Key
 keyOf b k = record {

@@ -1,4 +1,4 @@
-// The parts of frames that are more than a number: part and refusal bytes, kinds, application records, keys, summaries.
+// The parts of frames that are more than a plain number: the three counters, part and refusal bytes, kinds, application records, keys, summaries, batches.
 ghost use mathlib.Core.Path.{_≡_};
 ghost use mathlib.Core.List.{List};
 ghost use Prim.Native.Nat.{ℕ};
@@ -6,11 +6,12 @@ ghost use lib.ListN.{drop};
 ghost use Rattle.model_frame.specs.Parse.{readNum, many, forget};
 ghost use Rattle.model_frame.specs.Reading.{readKinds, readAppRecord, readAppRecords, readPart, readReason, readKey, flight, readSummary};
 ghost use Rattle.frame_reader.specs.Answers.{resSpan};
-ghost use Rattle.frame_op.specs.Answers.{resEnd, resRun, RunIn};
-ghost use Rattle.frame_fields.specs.Answers.{resPart, resReason, resRecord, resSession, KeyIn, noKey, flightOf, resSummary, SummaryIn};
+ghost use Rattle.frame_op.specs.Answers.{resEnd, resRun, RunIn, RunEnds};
+ghost use Rattle.frame_fields.specs.Answers.{resPart, resReason, resRecord, RecordsLen, resSession, KeyIn, noKey, flightOf, resSummary, SummaryIn};
 use frame_op::End;
 use frame_op::Run;
 use frame_op::RunAt;
+use frame_op::RunLen;
 use frame_reader::Byte;
 use frame_reader::CheckedTextAt;
 use frame_reader::Cursor;
@@ -62,6 +63,18 @@ pub mod reason {
 
     pub const RESTARTED: u8 = 4;
 }
+
+// The epoch of the lease that an active holds.
+#[repr(C)]
+pub struct Epoch(pub u64);
+
+// A run of the standby: a restart is a new one.
+#[repr(C)]
+pub struct Incarnation(pub u64);
+
+// A session's commits on one binding, counted from 1.
+#[repr(C)]
+pub struct CommitNumber(pub u64);
 
 // Whether a batch is one commit, or a part of a session sent whole.
 pub enum Part {
@@ -135,6 +148,17 @@ pub enum SummaryAt {
     Bad(FrameError),
 }
 
+// One commit's changes to a session, and the application's records with them: both are runs in the bytes read.
+#[repr(C)]
+pub struct Batch {
+    pub handle: u32,
+    pub epoch: Epoch,
+    pub commit_no: CommitNumber,
+    pub part: Part,
+    pub ops: Run,
+    pub app_records: Run,
+}
+
 pub fn part_from(buf: &[u8], cursor: Cursor) -> PartAt
     ensures { λ r. ⌜ resPart (now (buf .entry)) r ≡ readPart (drop (cursor .at) (now (buf .entry))) ⌝ }
 {
@@ -168,17 +192,14 @@ pub fn reason_from(buf: &[u8], cursor: Cursor) -> ReasonAt
 pub fn kinds_from(buf: &[u8], cursor: Cursor) -> RunAt
     ensures { λ r. ⌜ resRun (readNum 2) (now (buf .entry)) r ≡ readKinds (drop (cursor .at) (now (buf .entry))) ⌝ }
     ensures { λ r. ⌜ RunIn (readNum 2) (now (buf .entry)) r ⌝ }
+    ensures { λ r. ⌜ RunEnds r ⌝ }
 {
     let Word32::Got(count, d) = frame_reader::count_from(buf, cursor, 2) else {
         return RunAt::Bad(FrameError::Truncated);
     };
     let at = d.at;
-    RunAt::Got(
-        Run { at, count },
-        Cursor {
-            at: at + (count as usize) * 2,
-        },
-    )
+    let len = (count as usize) * 2;
+    RunAt::Got(Run { at, count, len }, Cursor { at: at + len })
 }
 
 pub fn app_record_from(buf: &[u8], cursor: Cursor) -> AppRecordAt
@@ -209,19 +230,30 @@ pub fn app_records_end(buf: &[u8], cursor: Cursor, count: u32) -> End
     End::At(d)
 }
 
+// How many bytes so many application records take.
+pub fn records_len(buf: &[u8], cursor: Cursor, count: u32) -> RunLen
+    ensures { λ r. ⌜ RecordsLen (now (buf .entry)) (cursor .at) count r ⌝ }
+{
+    match app_records_end(buf, cursor, count) {
+        End::Bad(e) => RunLen::Bad(e),
+        End::At(d) => RunLen::Bytes(
+            frame_reader::bytes_left(buf, cursor) - frame_reader::bytes_left(buf, d),
+        ),
+    }
+}
+
 pub fn app_records_from(buf: &[u8], cursor: Cursor) -> RunAt
     ensures { λ r. ⌜ resRun readAppRecord (now (buf .entry)) r ≡ readAppRecords (drop (cursor .at) (now (buf .entry))) ⌝ }
     ensures { λ r. ⌜ RunIn readAppRecord (now (buf .entry)) r ⌝ }
+    ensures { λ r. ⌜ RunEnds r ⌝ }
 {
     let Word32::Got(count, d) = frame_reader::count_from(buf, cursor, 6) else {
         return RunAt::Bad(FrameError::Truncated);
     };
-    match app_records_end(buf, d, count) {
-        End::Bad(e) => RunAt::Bad(e),
-        End::At(end) => {
-            let at = d.at;
-            RunAt::Got(Run { at, count }, end)
-        }
+    let at = d.at;
+    match records_len(buf, d, count) {
+        RunLen::Bad(e) => RunAt::Bad(e),
+        RunLen::Bytes(len) => RunAt::Got(Run { at, count, len }, Cursor { at: at + len }),
     }
 }
 

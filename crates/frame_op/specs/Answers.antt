@@ -6,7 +6,7 @@ use lib.ListN.{length, drop}
 use Rattle.model_frame.specs.Frame.{Change, setIncoming, setIncomingInFlight, setInFlight, recordMsg, recordBare, reset, setCreatedAt, setMarks}
 use Rattle.model_frame.specs.Parse.{Res, ok, bad, Parser, many, collect, runBytes}
 use Rattle.model_frame.specs.Reading.{readChange}
-use Rattle.model_frame.specs.Writing.{changeBytes}
+use Rattle.model_frame.specs.Writing.{changeBytes, sizes}
 use Rattle.base_laws.specs.Wrote.{StandsAt}
 use Rattle.frame_reader.specs.Answers.{faultOf, spanOf}
 use Rattle.frame_op.specs.declared.Op
@@ -53,12 +53,26 @@ abbrev pub RunIn : {A : Type 0} → Parser A → List ℕ → RunAt → Type 0
 RunIn p b (RunAt.Got r c) = many (r .count) p (drop (r .at) b) ≡ ok (runOf p b r) (drop (c .at) b)
 RunIn p b (RunAt.Bad e) = Unit {0}
 
--- how many bytes a run of changes takes: they are the changes, written; or the fault that reading it meets
-abbrev pub OpsLen : ℕ → List ℕ → Run → RunLen → Type 0
-OpsLen version b r (RunLen.Bytes n) =
-    (many (r .count) (readChange version) (drop (r .at) b) ≡ ok (runOf (readChange version) b r) (drop (r .at + n) b))
-    × StandsAt b (r .at) n (runBytes changeBytes (runOf (readChange version) b r))
-OpsLen version b r (RunLen.Bad e) = many (r .count) (readChange version) (drop (r .at) b) ≡ bad (faultOf e)
+-- the length of a run of changes is that of its changes, written
+abbrev pub HasLength : ℕ → List ℕ → Run → Type 0
+HasLength version b r = r .len ≡ sizes (runOf (readChange version) b r)
+
+-- a run of changes that was read has its length
+abbrev pub RunSized : ℕ → List ℕ → RunAt → Type 0
+RunSized version b (RunAt.Got r c) = HasLength version b r
+RunSized version b (RunAt.Bad e) = Unit {0}
+
+-- a run ends where its length says
+abbrev pub RunEnds : RunAt → Type 0
+RunEnds (RunAt.Got r c) = r .at + r .len ≡ c .at
+RunEnds (RunAt.Bad e) = Unit {0}
+
+-- how many bytes so many changes at a position take: they are the changes, written; or the fault that reading them meets
+abbrev pub OpsLen : ℕ → List ℕ → ℕ → ℕ → RunLen → Type 0
+OpsLen version b at count (RunLen.Bytes n) =
+    (many count (readChange version) (drop at b) ≡ ok (collect count (readChange version) (drop at b)) (drop (at + n) b))
+    × StandsAt b at n (runBytes changeBytes (collect count (readChange version) (drop at b)))
+OpsLen version b at count (RunLen.Bad e) = many count (readChange version) (drop at b) ≡ bad (faultOf e)
 
 -- the changes read one after the other until the bytes end or one can't be read: each takes a byte at least
 unfoldable pub heldRun : ℕ → List ℕ → List Change

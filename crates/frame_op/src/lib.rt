@@ -5,10 +5,10 @@ ghost use Prim.Native.Nat.{_+_, _^_, _≤_, _<_};
 ghost use lib.ListN.{length, drop};
 ghost use Rattle.model_frame.specs.Bytes.{bytesOf};
 ghost use Rattle.model_frame.specs.Parse.{many, forget, runBytes};
-ghost use Rattle.model_frame.specs.Writing.{blobBytes, changeBytes, sizeOf};
+ghost use Rattle.model_frame.specs.Writing.{blobBytes, changeBytes};
 ghost use Rattle.base_laws.specs.Wrote.{Wrote, StandsAt};
 ghost use Rattle.model_frame.specs.Reading.{setIncomingFields, setIncomingInFlightFields, setInFlightFields, recordMsgFields, recordBareFields, setCreatedAtFields, setMarksFields, readChange, readChanges};
-ghost use Rattle.frame_op.specs.Answers.{runOf, opOf, resOp, resEnd, resRun, RunIn, OpsLen};
+ghost use Rattle.frame_op.specs.Answers.{runOf, resOp, resEnd, resRun, RunIn, RunSized, OpsLen};
 use frame_reader::Byte;
 use frame_reader::Cursor;
 use frame_reader::Field;
@@ -61,11 +61,12 @@ pub enum End {
     Bad(FrameError),
 }
 
-// So many items, the first at `at`.
+// So many items, the first at `at`. Reading says how many bytes they take; writing doesn't ask for `len`, and finds it anew.
 #[repr(C)]
 pub struct Run {
     pub at: usize,
     pub count: u32,
+    pub len: usize,
 }
 
 pub enum RunAt {
@@ -184,33 +185,31 @@ pub fn ops_end(protocol: Protocol, buf: &[u8], cursor: Cursor, count: u32) -> En
     End::At(d)
 }
 
+// How many bytes so many changes take.
+pub fn ops_len(protocol: Protocol, buf: &[u8], cursor: Cursor, count: u32) -> RunLen
+    ensures { λ r. ⌜ OpsLen (protocol .version) (now (buf .entry)) (cursor .at) count r ⌝ }
+{
+    match ops_end(protocol, buf, cursor, count) {
+        End::Bad(e) => RunLen::Bad(e),
+        End::At(d) => RunLen::Bytes(
+            frame_reader::bytes_left(buf, cursor) - frame_reader::bytes_left(buf, d),
+        ),
+    }
+}
+
 // A count of changes and the changes, as a run.
 pub fn ops_from(protocol: Protocol, buf: &[u8], cursor: Cursor) -> RunAt
     ensures { λ r. ⌜ resRun (readChange (protocol .version)) (now (buf .entry)) r ≡ readChanges (protocol .version) (drop (cursor .at) (now (buf .entry))) ⌝ }
     ensures { λ r. ⌜ RunIn (readChange (protocol .version)) (now (buf .entry)) r ⌝ }
+    ensures { λ r. ⌜ RunSized (protocol .version) (now (buf .entry)) r ⌝ }
 {
     let Word32::Got(count, d) = frame_reader::count_from(buf, cursor, 1) else {
         return RunAt::Bad(FrameError::Truncated);
     };
-    match ops_end(protocol, buf, d, count) {
-        End::Bad(e) => RunAt::Bad(e),
-        End::At(end) => {
-            let at = d.at;
-            RunAt::Got(Run { at, count }, end)
-        }
-    }
-}
-
-// How many bytes so many changes take.
-pub fn ops_len(protocol: Protocol, buf: &[u8], run: Run) -> RunLen
-    ensures { λ r. ⌜ OpsLen (protocol .version) (now (buf .entry)) run r ⌝ }
-{
-    let at = run.at;
-    match ops_end(protocol, buf, Cursor { at }, run.count) {
-        End::Bad(e) => RunLen::Bad(e),
-        End::At(d) => RunLen::Bytes(
-            frame_reader::bytes_left(buf, Cursor { at }) - frame_reader::bytes_left(buf, d),
-        ),
+    let at = d.at;
+    match ops_len(protocol, buf, d, count) {
+        RunLen::Bad(e) => RunAt::Bad(e),
+        RunLen::Bytes(len) => RunAt::Got(Run { at, count, len }, Cursor { at: at + len }),
     }
 }
 
@@ -241,53 +240,6 @@ pub fn blob(s: &[u8], out: &mut [u8], at: usize) -> usize
 {
     let next = base_bytes::put_u32(out, at, s.len() as u32);
     base_bytes::copy(s, out, next)
-}
-
-// A change's length in a frame.
-pub fn op_size(src: &[u8], op: Op) -> usize
-    ensures { λ r. ⌜ r ≡ sizeOf (opOf (now (src .entry)) op) ⌝ }
-{
-    match op {
-        Op::SetNextIncoming(_) => 9,
-        Op::SetNextIncomingInFlight {
-            seq: _,
-            in_flight: _,
-        } => 17,
-        Op::SetInFlight(_) => 9,
-        Op::Record(_, msg) => 13 + frame_reader::slice(src, msg).len(),
-        Op::RecordNone(_) => 9,
-        Op::Reset => 1,
-        Op::SetCreatedAt(t) => 5 + frame_reader::slice(src, t).len(),
-        Op::SetMarks(t) => 5 + frame_reader::slice(src, t).len(),
-    }
-}
-
-pub fn put_op(src: &[u8], op: Op, out: &mut [u8], at: usize) -> usize
-    requires { ⌜ at + sizeOf (opOf (now src) op) ≤ length (now out) ⌝ }
-    ensures { λ r. ⌜ Wrote (now (out .entry)) at (changeBytes (opOf (now (src .entry)) op)) (now (out .exit)) r ⌝ }
-{
-    match op {
-        Op::SetNextIncoming(n) => tagged(out, at, kind::SET_NEXT_INCOMING, n),
-        Op::SetNextIncomingInFlight { seq, in_flight } => {
-            let next = tagged(out, at, kind::SET_NEXT_INCOMING_IN_FLIGHT, seq);
-            base_bytes::put_u64(out, next, in_flight)
-        }
-        Op::SetInFlight(n) => tagged(out, at, kind::SET_IN_FLIGHT, n),
-        Op::Record(n, msg) => {
-            let next = tagged(out, at, kind::RECORD, n);
-            blob(frame_reader::slice(src, msg), out, next)
-        }
-        Op::RecordNone(n) => tagged(out, at, kind::RECORD_NONE, n),
-        Op::Reset => tag(out, at, kind::RESET),
-        Op::SetCreatedAt(t) => {
-            let next = tag(out, at, kind::SET_CREATED_AT);
-            blob(frame_reader::slice(src, t), out, next)
-        }
-        Op::SetMarks(t) => {
-            let next = tag(out, at, kind::SET_MARKS);
-            blob(frame_reader::slice(src, t), out, next)
-        }
-    }
 }
 
 // The changes of a run of n bytes, which are copied as they stand.

@@ -5,10 +5,17 @@ ghost use mathlib.Core.Bool.{cond, _||_};
 ghost use lib.ListN.{length, take, drop};
 ghost use Rattle.model_text.specs.Utf8.{utf8};
 ghost use Rattle.model_text.specs.Stamp.{takesStamp};
-ghost use Rattle.model_frame.specs.Frame.{badText};
+ghost use Rattle.model_frame.specs.Frame.{badText, faultNumber};
 ghost use Rattle.model_frame.specs.Parse.{ok, bad, isEmpty, readNum, readBlob, readText, readCount};
 ghost use Rattle.model_frame.specs.Reading.{readStamp, readStampOrNone, readMarks};
-ghost use Rattle.frame_reader.specs.Answers.{invalidOf, spanOf, res8, res16, res32, res64, resSpan, resJudged, Judged, Within32, Lies, SpanIn, JudgedIn};
+ghost use Rattle.frame_reader.specs.Answers.{invalidOf, faultOf, spanOf, res8, res16, res32, res64, resSpan, resJudged, Judged, Within32, Lies, SpanIn, JudgedIn};
+use base_refusals::BAD_MARKS;
+use base_refusals::BAD_SESSION;
+use base_refusals::BAD_TEXT;
+use base_refusals::BAD_TIMESTAMP;
+use base_refusals::TOO_LONG;
+use base_refusals::TRUNCATED;
+use base_refusals::UNKNOWN_BYTE;
 use frame_stamp::Protocol;
 
 #[repr(C)]
@@ -45,6 +52,25 @@ pub enum FrameError {
     Unknown(Field, u8),
     Truncated,
     Invalid(Value),
+}
+
+impl FrameError {
+    // The refusal's number.
+    pub fn number(self) -> u8
+        ensures { λ r. ⌜ r ≡ faultNumber (faultOf self) ⌝ }
+    {
+        match self {
+            FrameError::TooLong(_) => TOO_LONG,
+            FrameError::Truncated => TRUNCATED,
+            FrameError::Unknown(_, _) => UNKNOWN_BYTE,
+            FrameError::Invalid(v) => match v {
+                Value::Text => BAD_TEXT,
+                Value::Session => BAD_SESSION,
+                Value::Timestamp => BAD_TIMESTAMP,
+                Value::Marks => BAD_MARKS,
+            },
+        }
+    }
 }
 
 pub enum Byte {

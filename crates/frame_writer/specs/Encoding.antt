@@ -10,16 +10,12 @@ use Rattle.model_frame.specs.Refusal
 use Rattle.model_frame.specs.Bytes.{bytesOf, write}
 use Rattle.model_frame.specs.Frame as the-frame
 use Rattle.model_frame.specs.Frame.{Key, Frame}
-use Rattle.model_frame.specs.Parse.{Res, ok, bad, Parser, many, runBytes}
-use Rattle.model_frame.specs.Reading.{maxBody, readAppRecord}
-use Rattle.model_frame.specs.Writing.{appRecordBytes, bodyBytes, encode, fine}
-use Rattle.base_laws.specs.Wrote.{Wrote, StandsAt}
+use Rattle.model_frame.specs.Parse.{Res, ok, bad, Parser, many}
+use Rattle.model_frame.specs.Reading.{maxBody}
+use Rattle.model_frame.specs.Writing.{bodyBytes, encode, fine}
+use Rattle.base_laws.specs.Wrote.{Wrote}
 use Rattle.frame_reader.specs.declared.Span.{Span}
-use Rattle.frame_reader.specs.Answers.{faultOf}
 use Rattle.frame_op.specs.declared.Run.{Run}
-use Rattle.frame_op.specs.declared.RunLen
-use Rattle.frame_op.specs.declared.RunLen.{RunLen}
-use Rattle.frame_op.specs.Answers.{runOf}
 use Rattle.frame_fields.specs.declared.SessionId.{SessionId}
 use Rattle.frame_fields.specs.declared.Summary.{Summary}
 use Rattle.frame_writer.specs.declared.Written
@@ -44,12 +40,6 @@ keyFits src k = ((spanFits src (k .«begin_string») && spanFits src (k .«sende
 
 abbrev pub summaryFits : List ℕ → Summary → Bool
 summaryFits src m = spanFits src (m .«created_at») && spanFits src (m .marks)
-
-abbrev pub RecordsLen : List ℕ → Run → RunLen → Type 0
-RecordsLen b r (RunLen.Bytes n) =
-    (many (r .count) readAppRecord (drop (r .at) b) ≡ ok (runOf readAppRecord b r) (drop (r .at + n) b))
-    × StandsAt b (r .at) n (runBytes appRecordBytes (runOf readAppRecord b r))
-RecordsLen b r (RunLen.Bad e) = many (r .count) readAppRecord (drop (r .at) b) ≡ bad (faultOf e)
 
 -- how many bytes a key and a summary take
 abbrev pub keySize : Key → ℕ

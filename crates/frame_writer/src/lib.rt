@@ -13,7 +13,7 @@ ghost use Rattle.base_laws.specs.Wrote.{Wrote};
 ghost use Rattle.frame_reader.specs.Answers.{spanOf};
 ghost use Rattle.frame_op.specs.Answers.{runOf};
 ghost use Rattle.frame_fields.specs.Answers.{partOf, reasonOf, flightOf, keyOf, summaryOf};
-ghost use Rattle.frame_writer.specs.Encoding.{spanFits, runReads, keyFits, summaryFits, RecordsLen, keySize, summarySize, frameIf, Encoded, Started};
+ghost use Rattle.frame_writer.specs.Encoding.{spanFits, runReads, keyFits, summaryFits, keySize, summarySize, frameIf, Encoded, Started};
 use frame_fields::InFlight;
 use frame_fields::NackReason;
 use frame_fields::Part;
@@ -21,9 +21,7 @@ use frame_fields::SessionId;
 use frame_fields::Summary;
 use frame_fields::part_byte;
 use frame_fields::reason;
-use frame_op::End;
 use frame_op::Run;
-use frame_op::RunLen;
 use frame_reader::Cursor;
 use frame_reader::Span;
 use frame_stamp::Protocol;
@@ -86,19 +84,6 @@ pub fn summary_fits(protocol: Protocol, src: &[u8], summary: Summary) -> bool
     let fits = within(src, created_at) & within(src, marks);
     let dated = frame_reader::is_stamp_or_none(protocol, frame_reader::slice(src, created_at));
     fits & (dated & frame_stamp::is_marks(frame_reader::slice(src, marks)))
-}
-
-// How many bytes so many application records take.
-pub fn records_len(src: &[u8], run: Run) -> RunLen
-    ensures { λ r. ⌜ RecordsLen (now (src .entry)) run r ⌝ }
-{
-    let at = run.at;
-    match frame_fields::app_records_end(src, Cursor { at }, run.count) {
-        End::Bad(e) => RunLen::Bad(e),
-        End::At(d) => RunLen::Bytes(
-            frame_reader::bytes_left(src, Cursor { at }) - frame_reader::bytes_left(src, d),
-        ),
-    }
 }
 
 // The length of a body, if the body is short enough and the area has room for both.

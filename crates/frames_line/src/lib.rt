@@ -5,7 +5,7 @@ ghost use lib.ListN.{length};
 ghost use Rattle.frames_line.specs.Answering.{theSettings, AnswersLine};
 use base_hex::Line;
 use base_refusals::NOT_ONE_FRAME;
-use frame::Incarnation;
+use frame_fields::Incarnation;
 use standby_row::Bound;
 use standby_state::Replica;
 use standby_state::Settings;

@@ -6,8 +6,8 @@ ghost use Rattle.model_standby.specs.State.{onFrameHeld, onFrame, flush, discon
 ghost use Rattle.standby_step.specs.Calls.{handleAt, Called};
 ghost use Rattle.replica.specs.Making.{newReplica, MakeIs, MadeOver};
 use base_refusals::RULES_BROKEN;
-use frame::Epoch;
-use frame::Incarnation;
+use frame_fields::Epoch;
+use frame_fields::Incarnation;
 use standby_row::Bound;
 use standby_row::Lookup;
 use standby_state::Answer;

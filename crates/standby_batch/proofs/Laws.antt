@@ -13,8 +13,8 @@ use Rattle.model_frame.specs.Frame.{Change, AppRecord, commit, whole, lastWhole
 use Rattle.model_frame.specs.Frame as the-frame
 use Rattle.model_frame.specs.Parse.{isEmpty}
 use Rattle.model_frame.specs.Writing.{sizes}
-use Rattle.frame.specs.declared.CommitNumber.{CommitNumber}
-use Rattle.frame.specs.declared.Epoch.{Epoch}
+use Rattle.frame_fields.specs.declared.CommitNumber.{CommitNumber}
+use Rattle.frame_fields.specs.declared.Epoch.{Epoch}
 use Rattle.standby_row.specs.declared.Lookup.{Lookup}
 use Rattle.store_areas.specs.Areas.{Rules}
 use Rattle.store_areas.proofs.Lifting.{places-length}

@@ -10,8 +10,8 @@ use Rattle.model_frame.specs.ReasonByte
 use Rattle.model_frame.specs.Bytes.{write}
 use Rattle.model_frame.specs.Frame.{Change, AppRecord, batch}
 use Rattle.model_frame.specs.Frame as the-frame
-use Rattle.frame.specs.declared.CommitNumber.{CommitNumber}
-use Rattle.frame.specs.declared.Epoch.{Epoch}
+use Rattle.frame_fields.specs.declared.CommitNumber.{CommitNumber}
+use Rattle.frame_fields.specs.declared.Epoch.{Epoch}
 use Rattle.standby_row.specs.declared.Lookup.{Lookup}
 use Rattle.store_areas.specs.StoreWord
 use Rattle.store_areas.specs.Areas.{Rules}

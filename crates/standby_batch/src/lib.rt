@@ -5,17 +5,18 @@ ghost use Prim.Native.Nat.{_<_};
 ghost use lib.Dec.{eqb, ltb};
 ghost use Rattle.model_frame.specs.Parse.{isEmpty};
 ghost use Rattle.model_frame.specs.Reading.{readChange, readAppRecord};
-ghost use Rattle.frame_op.specs.Answers.{runOf};
+ghost use Rattle.frame_op.specs.Answers.{runOf, HasLength};
 ghost use Rattle.frame_fields.specs.Answers.{partOf};
 ghost use Rattle.store_areas.specs.Areas.{Rules};
 ghost use Rattle.standby_pending.specs.Pending.{countOf};
 ghost use Rattle.standby_step.specs.Steps.{isFound};
 ghost use Rattle.standby_batch.specs.Batches.{epochTo, foundFor, answerBy, settledOf, RecordRules, BatchIs};
 use base_refusals::APP_RECORDS;
-use frame::Batch;
-use frame::CommitNumber;
-use frame::Epoch;
+use frame::Frame;
 use frame_fields::AppRecordAt;
+use frame_fields::Batch;
+use frame_fields::CommitNumber;
+use frame_fields::Epoch;
 use frame_fields::reason;
 use frame_op::Run;
 use frame_reader::Cursor;
@@ -106,6 +107,7 @@ pub fn on_batch(
     requires { ⌜ Rules (settings .shape) (now words) (now bytes) ⌝ }
     requires { ⌜ countOf (now words) < 64 ⌝ }
     requires { ⌜ (isFound lookup ≡ true → RecordRules lookup (now words) (now area)) ⌝ }
+    requires { ⌜ HasLength 1 (now frame) (batch .ops) ⌝ }
     ensures { λ r. ⌜ BatchIs settings counters lookup (batch .handle) (batch .epoch .0) (batch .«commit_no» .0) (partOf (batch .part)) (runOf (readChange 1) (now (frame .entry)) (batch .ops)) (runOf readAppRecord (now (frame .entry)) (batch .«app_records»)) (now (words .entry)) (now (words .exit)) (now (bytes .entry)) (now (bytes .exit)) (now (area .entry)) (now (area .exit)) r ⌝ }
 {
     let records = batch.app_records;
@@ -126,7 +128,9 @@ pub fn on_batch(
     let ops = batch.ops;
     let part = batch.part;
     let h = lookup.bound;
-    let p = Protocol { version: 1 };
+    let p = Protocol {
+        version: Frame::VERSION,
+    };
     let found = is_found(lookup, handle);
     let run = standby_changes::run_of(p, frame, ops);
     let x = standby_batch_handle::on_handle(

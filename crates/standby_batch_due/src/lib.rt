@@ -4,12 +4,12 @@ ghost use mathlib.Core.Bool.{true, cond};
 ghost use Prim.Native.Nat.{_+_, _*_, _≤_};
 ghost use lib.ListN.{length};
 ghost use Rattle.model_frame.specs.Reading.{readChange, readAppRecord};
-ghost use Rattle.frame_op.specs.Answers.{runOf};
+ghost use Rattle.frame_op.specs.Answers.{runOf, HasLength};
 ghost use Rattle.frame_fields.specs.Answers.{partOf};
 ghost use Rattle.store_areas.specs.Areas.{Rules};
 ghost use Rattle.standby_step.specs.Steps.{roomOf, roomIn, isFound};
 ghost use Rattle.standby_batch_due.specs.DueBatch.{spotIn, RecordRulesIn, BatchIn};
-use frame::Batch;
+use frame_fields::Batch;
 use standby_row::Lookup;
 use standby_state::Outcome;
 use standby_state::Replica;
@@ -48,6 +48,7 @@ pub fn run_due_then_batch(
 ) -> Outcome
     requires { ⌜ Rules (settings .shape) (now words) (now bytes) ⌝ }
     requires { ⌜ (isFound lookup ≡ true → RecordRulesIn lookup (now words) (now holds)) ⌝ }
+    requires { ⌜ HasLength 1 (now frame) (batch .ops) ⌝ }
     ensures { λ r. ⌜ BatchIn settings counters lookup (batch .handle) (batch .epoch .0) (batch .«commit_no» .0) (partOf (batch .part)) (runOf (readChange 1) (now (frame .entry)) (batch .ops)) (runOf readAppRecord (now (frame .entry)) (batch .«app_records»)) (now (words .entry)) (now (words .exit)) (now (bytes .entry)) (now (bytes .exit)) (now (holds .entry)) (now (holds .exit)) r ⌝ }
 {
     let shape = settings.shape;

@@ -11,7 +11,7 @@ ghost use Rattle.standby_pending.specs.Pending.{countOf};
 ghost use Rattle.standby_batch_handle.specs.Handling.{followsOf, Sound, holdAreaAfter, HandleIs};
 ghost use Rattle.standby_part.specs.State.{holdingTo};
 use base_refusals::UNBOUND;
-use frame::CommitNumber;
+use frame_fields::CommitNumber;
 use frame_fields::Part;
 use frame_stamp::Protocol;
 use standby_part::PartResult;

@@ -8,16 +8,16 @@ use lib.ListN.{length, take, drop, length-append, length-take}
 use lib.Seq.{take-at, take-all, take-take, length-take-le}
 use Rattle.model_frame.specs.Bytes.{isBytes, write}
 use Rattle.model_frame.specs.Frame.{Change, Fault, setIncoming, setIncomingInFlight, setInFlight, recordMsg, recordBare, reset, setCreatedAt, setMarks}
-use Rattle.model_frame.specs.Parse.{ok, bad, many, forget, collect, runBytes, Each}
+use Rattle.model_frame.specs.Parse.{ok, bad, collect, runBytes, Each}
 use Rattle.model_frame.specs.Reading.{readChange}
 use Rattle.model_frame.specs.Writing.{changeBytes, sizeOf, sizes, Sendable}
 use Rattle.model_frame.proofs.Le.{bytes-take, bytes-drop}
-use Rattle.model_frame.proofs.Runs.{Stands, count-sizes, sizes-append, change-shorter, collect-run, collect-back, collect-sound, collect-enough}
-use Rattle.model_frame.proofs.SoundChange.{change-sound, changes-sound, taken-sendable}
+use Rattle.model_frame.proofs.Runs.{Stands, count-sizes, change-shorter, collect-run, collect-back, collect-sound, collect-enough}
+use Rattle.model_frame.proofs.SoundChange.{change-sound, taken-sendable}
 use Rattle.model_frame.proofs.Sizes.{changes-size}
 use Rattle.model_session.specs.Session.{messageLength, messageBytes}
 use Rattle.base_laws.proofs.Little.{write-is}
-use Rattle.base_laws.proofs.Runs.{collect-none, collect-more, collect-bad, run-items}
+use Rattle.base_laws.proofs.Runs.{collect-none, collect-more, collect-bad}
 use Rattle.frame_op.specs.Answers.{runOf, heldRun}
 use Rattle.frame_op.specs.declared.Run.{Run}
 use Rattle.standby_changes.specs.Held.{TakesAll, RunPart}
@@ -122,10 +122,6 @@ module _ (version : ℕ) where
       ∙ collect-run version cs t n (taken-sendable version cs (w .taken))
       ∙ ap (λ (ds : List Change). cs ++ ds) (collect-enough version n (length t) t ht (omega arith) (omega arith))
 
-  pub all-append : (s t : List ℕ) → T (isBytes s) → T (isBytes t) → TakesAll version s → TakesAll version t → TakesAll version (s ++ t)
-  all-append s t hs ht alls allt =
-      ap sizes (held-append s t hs ht alls) ∙ omega (arith, sizes-append (heldRun version s) (heldRun version t), length-append s t)
-
   -- a run written behind the `used` bytes of an area that are all changes
   module _ (area : List ℕ) (used : ℕ) (run : List ℕ) (ha : T (isBytes area)) (hr : T (isBytes run)) (room : used + length run ≤ length area) where
     written : take (used + length run) (write area used run) ≡ take used area ++ run
@@ -141,9 +137,6 @@ module _ (version : ℕ) where
       pub held-written : heldRun version (take (used + length run) (write area used run)) ≡ heldRun version (take used area) ++ heldRun version run
       held-written = ap (heldRun version) written ∙ held-append (take used area) run (bytes-take used area ha) hr front
 
-      pub all-written : TakesAll version run → sizes (heldRun version (take (used + length run) (write area used run))) ≡ used + length run
-      all-written r = ap sizes held-written ∙ omega (arith, sizes-append (heldRun version (take used area)) (heldRun version run))
-
   -- ---- a run out of a frame
 
   -- its changes as far as they can be read, n bytes from `at` on
@@ -156,23 +149,3 @@ module _ (version : ℕ) where
         all = subst (TakesAll version) (sym cut) (stands-all w);
         bytes = cut ∙ stands-front w;
       }
-
-  -- n changes that can be read: they are the run's changes, and the bytes up to what is left are theirs
-  module _ (n : ℕ) (s : List ℕ) {cs : List Change} {rest : List ℕ} (e : many n (readChange version) s ≡ ok cs rest) where
-    pub many-items : collect n (readChange version) s ≡ cs
-    many-items =
-        let p : ok (collect n (readChange version) s) rest ≡ ok cs rest = run-items (readChange version) n s (sym (ap forget e)) ∙ e in
-        cc
-
-    module _ (h : T (isBytes s)) where
-      many-stands : Stands version s cs
-      many-stands = subst (Stands version s) many-items (collect-sound version n s h)
-
-      many-size : length s - length rest ≡ sizes cs
-      many-size = omega (arith, ap length (changes-sound version n s h e .0), length-append (runBytes changeBytes cs) rest, changes-size cs)
-
-      pub many-held : heldRun version (take (length s - length rest) s) ≡ cs
-      many-held = ap (λ (k : ℕ). heldRun version (take k s)) many-size ∙ stands-held many-stands
-
-      pub many-all : TakesAll version (take (length s - length rest) s)
-      many-all = subst (λ (k : ℕ). TakesAll version (take k s)) (sym many-size) (stands-all many-stands)

@@ -4,12 +4,12 @@ ghost use mathlib.Core.Path.{_≡_};
 ghost use Prim.Native.Nat.{_+_, _-_, _≤_};
 ghost use lib.ListN.{length, drop};
 ghost use Rattle.model_frame.specs.Bytes.{write};
-ghost use Rattle.model_frame.specs.Parse.{collect, forget};
+ghost use Rattle.model_frame.specs.Parse.{isEmpty, collect, forget};
 ghost use Rattle.model_frame.specs.Reading.{readChange};
 ghost use Rattle.model_frame.specs.Writing.{sizes};
 ghost use Rattle.model_session.specs.Session.{fits, messageLength, messageBytes};
 ghost use Rattle.model_standby.specs.Standby.{startsWithReset};
-ghost use Rattle.frame_op.specs.Answers.{opOf, heldRun};
+ghost use Rattle.frame_op.specs.Answers.{opOf, heldRun, HasLength};
 ghost use Rattle.standby_changes.specs.Held.{outgoingAfter, Follows, resPast, PastRecord, RunPart};
 use frame_op::Op;
 use frame_op::OpAt;
@@ -34,6 +34,16 @@ pub enum Outgoing {
 pub enum Skipped {
     At(Cursor, u32),
     Bad(FrameError),
+}
+
+// No change can be read: a look at the first one.
+pub fn is_none(protocol: Protocol, run: &[u8]) -> bool
+    ensures { λ r. ⌜ r ≡ isEmpty (heldRun (protocol .version) (now (run .entry))) ⌝ }
+{
+    match frame_op::op_from(protocol, run, Cursor { at: 0 }) {
+        OpAt::Bad(_) => true,
+        OpAt::Got(_, _) => false,
+    }
 }
 
 // The first change is a Reset.
@@ -204,14 +214,12 @@ pub fn run_length(protocol: Protocol, s: &[u8]) -> usize
     s.len() - frame_reader::bytes_left(s, d)
 }
 
-// The part of the buffer where the changes of a run stand, as far as they can be read.
+// The part of the buffer where the changes of a run that was read stand.
 pub fn run_of(protocol: Protocol, buf: &[u8], run: Run) -> &[u8]
+    requires { ⌜ HasLength (protocol .version) (now buf) run ⌝ }
     ensures { λ r. ⌜ RunPart (protocol .version) (now (buf .entry)) run (now r) ⌝ }
 {
-    let at = run.at;
-    let d = run_end(protocol, buf, Cursor { at }, run.count as usize);
-    let n = frame_reader::bytes_left(buf, Cursor { at }) - frame_reader::bytes_left(buf, d);
-    frame_reader::bytes_at(buf, at, n)
+    frame_reader::bytes_at(buf, run.at, run.len)
 }
 
 // Puts a run behind the first `used` bytes of a hold area.

@@ -6,7 +6,7 @@ ghost use lib.Dec.{eqb};
 ghost use Rattle.store_areas.specs.Areas.{Rules, placesOf};
 ghost use Rattle.model_choice.specs.Choice.{isCandidate, isAhead, isAheadOfAll, chosen};
 ghost use Rattle.standby_choice.specs.Choice.{isSet, copyOf, isSound, RulesIf, raisedBy, highestOf, copiesOf, areSound, Kept, Chooses};
-use frame::Epoch;
+use frame_fields::Epoch;
 use store_areas::Shape;
 
 // A copy: whether it is listed, its counters' epoch and checked flag, its store's shape. A flag is set if it is not 0.

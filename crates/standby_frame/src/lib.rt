@@ -2,10 +2,8 @@
 // then due commits and the frame's own answer.
 ghost use mathlib.Core.Path.{_≡_};
 ghost use mathlib.Core.Bool.{true};
-ghost use Rattle.model_frame.specs.Frame.{faultNumber};
 ghost use Rattle.model_frame.specs.Writing.{Writable};
-ghost use Rattle.frame_reader.specs.Answers.{faultOf};
-ghost use Rattle.frame.specs.Answers.{frameOf};
+ghost use Rattle.frame.specs.Answers.{frameOf, Sized};
 ghost use Rattle.store_areas.specs.Areas.{Rules};
 ghost use Rattle.model_standby.specs.Answer.{isReply};
 ghost use Rattle.model_standby.specs.State.{onFrameHeld, onFrame};
@@ -13,43 +11,17 @@ ghost use Rattle.standby_state.specs.Answers.{answerOf};
 ghost use Rattle.standby_batch_due.specs.DueBatch.{RecordRulesIn};
 ghost use Rattle.standby_step.specs.Steps.{isFound, StepIs};
 ghost use Rattle.standby_frame.specs.Taking.{isAnswered, IntactIs, Takes};
-use base_refusals::BAD_MARKS;
-use base_refusals::BAD_SESSION;
-use base_refusals::BAD_TEXT;
-use base_refusals::BAD_TIMESTAMP;
 use base_refusals::NOT_ONE_FRAME;
 use base_refusals::PROMOTED;
 use base_refusals::RULES_BROKEN;
-use base_refusals::TOO_LONG;
-use base_refusals::TRUNCATED;
-use base_refusals::UNKNOWN_BYTE;
 use frame::Decoded;
 use frame::Frame;
-use frame_reader::FrameError;
-use frame_reader::Value;
 use frame_stamp::Protocol;
 use standby_row::Lookup;
 use standby_state::Answer;
 use standby_state::Outcome;
 use standby_state::Replica;
 use standby_state::Settings;
-
-// The number of a reader's refusal.
-fn refusal_of(error: FrameError) -> u8
-    ensures { λ r. ⌜ r ≡ faultNumber (faultOf error) ⌝ }
-{
-    match error {
-        FrameError::TooLong(_) => TOO_LONG,
-        FrameError::Truncated => TRUNCATED,
-        FrameError::Unknown(_, _) => UNKNOWN_BYTE,
-        FrameError::Invalid(v) => match v {
-            Value::Text => BAD_TEXT,
-            Value::Session => BAD_SESSION,
-            Value::Timestamp => BAD_TIMESTAMP,
-            Value::Marks => BAD_MARKS,
-        },
-    }
-}
 
 // A frame that was read, once the standby isn't promoted.
 fn on_decoded(
@@ -65,6 +37,7 @@ fn on_decoded(
     requires { ⌜ Rules (settings .shape) (now words) (now bytes) ⌝ }
     requires { ⌜ (isFound lookup ≡ true → RecordRulesIn lookup (now words) (now holds)) ⌝ }
     requires { ⌜ Writable 1 (frameOf 1 (now frame) decoded) ⌝ }
+    requires { ⌜ Sized 1 (now frame) decoded ⌝ }
     ensures { λ r. ⌜ IntactIs settings counters lookup (frameOf 1 (now (frame .entry)) decoded) (now (words .entry)) (now (words .exit)) (now (bytes .entry)) (now (bytes .exit)) (now (holds .entry)) (now (holds .exit)) r ⌝ }
 {
     match decoded {
@@ -104,11 +77,16 @@ fn on_bytes(
     requires { ⌜ (isFound lookup ≡ true → RecordRulesIn lookup (now words) (now holds)) ⌝ }
     ensures { λ r. ⌜ Takes settings counters lookup (now (frame .entry)) (now (words .entry)) (now (words .exit)) (now (bytes .entry)) (now (bytes .exit)) (now (holds .entry)) (now (holds .exit)) r ⌝ }
 {
-    match Frame::decode(Protocol { version: 1 }, frame) {
+    match Frame::decode(
+        Protocol {
+            version: Frame::VERSION,
+        },
+        frame,
+    ) {
         Decoded::Bad(e) => standby_state::unchanged(
             counters,
             lookup,
-            standby_state::refused(refusal_of(e)),
+            standby_state::refused(e.number()),
         ),
         Decoded::More => standby_state::unchanged(
             counters,

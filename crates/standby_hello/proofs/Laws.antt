@@ -7,8 +7,8 @@ use lib.Dec.{eqb, ltb}
 use borrow.Author.Tests.{lt-ltb, le-ltb, ne-eqb, eq-eqb}
 use Rattle.model_frame.specs.Frame.{welcome, nack, ack, staleEpoch, restarted}
 use Rattle.model_frame.specs.Parse.{isEmpty}
-use Rattle.frame.specs.declared.Epoch.{Epoch}
-use Rattle.frame.specs.declared.Incarnation.{Incarnation}
+use Rattle.frame_fields.specs.declared.Epoch.{Epoch}
+use Rattle.frame_fields.specs.declared.Incarnation.{Incarnation}
 use Rattle.standby_row.specs.declared.Lookup.{Lookup}
 use Rattle.model_standby.specs.Answer.{reply}
 use Rattle.model_standby.specs.Store.{Place}

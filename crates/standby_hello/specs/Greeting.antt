@@ -7,7 +7,7 @@ use lib.Dec.{eqb}
 use Rattle.model_frame.specs.FrameKind
 use Rattle.model_frame.specs.Parse.{isEmpty}
 use Rattle.model_session.specs.Session.{top}
-use Rattle.frame.specs.declared.Epoch.{Epoch}
+use Rattle.frame_fields.specs.declared.Epoch.{Epoch}
 use Rattle.standby_row.specs.declared.Lookup.{Lookup}
 use Rattle.model_standby.specs.Store.{Place}
 use Rattle.model_standby.specs.State as state

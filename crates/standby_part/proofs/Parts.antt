@@ -2,16 +2,14 @@
 use mathlib.Core.Path.{_≡_, refl, sym, ap, subst, _∙_}
 use mathlib.Core.Bool.{Bool, true, false, cond, not, true≢false}
 use mathlib.Core.List.{List, [], _∷_, _++_}
-use Prim.Native.Nat.{ℕ, _<_}
-use lib.ListN.{length, getD, take}
-use lib.Dec.{eqb}
-use borrow.Author.Tests.{eq-eqb, ne-eqb}
+use Prim.Native.Nat.{ℕ, _-_, _<_}
+use native.Mathlib.Nat.{sub-zero}
+use lib.ListN.{length, getD, take, drop}
 use Rattle.model_frame.specs.Frame.{Change, commit, diverged, ack, nack}
 use Rattle.model_frame.specs.Parse.{isEmpty}
-use Rattle.model_frame.specs.Writing.{sizes}
 use Rattle.model_session.specs.Session.{fits}
 use Rattle.frame_op.specs.Answers.{heldRun}
-use Rattle.frame.specs.declared.CommitNumber.{CommitNumber}
+use Rattle.frame_fields.specs.declared.CommitNumber.{CommitNumber}
 use Rattle.standby_row.specs.declared.Bound.{Bound as BoundRecord}
 use Rattle.store_areas.specs.declared.Shape.{Shape}
 use Rattle.store_areas.specs.Areas.{Rules, placeAt, placesOf}
@@ -19,7 +17,6 @@ use Rattle.store_areas.proofs.Lifting.{session-is}
 use Rattle.standby_pending.specs.Pending.{pendingOf}
 use Rattle.standby_commit.specs.Settling.{Settles}
 use Rattle.standby_commit.proofs.Laws.{touched-none}
-use Rattle.standby_hold.proofs.Laws.{empty-size}
 use Rattle.model_standby.specs.Store.{onPlace, changed, sessionAt, orNew}
 use Rattle.model_standby.specs.Answer.{reply}
 use Rattle.model_standby.specs.State.{Settings, Counters, Bound, numbered}
@@ -56,18 +53,19 @@ module _ (s : Shape) (h : ℕ) (cs : List Change) (w w' b b' : List ℕ) (yes : 
 
 -- ---- Commit
 
-module _ (version : ℕ) (s : Shape) (h : BoundRecord) (n : CommitNumber) (cs : List Change) (w b area : List ℕ) {len : ℕ} (l : len ≡ sizes (heldRun version (take (h .«held_len») area))) where
+-- whether the first bytes of an area hold a change, as they are lent
+pub front-none : (version len : ℕ) (area : List ℕ) {t : Bool} → t ≡ isEmpty (heldRun version (take (len - 0) (drop 0 area))) → t ≡ isEmpty (heldRun version (take len area))
+front-none version len area e = e ∙ ap (λ (k : ℕ). isEmpty (heldRun version (take k area))) (sub-zero len)
+
+module _ (version : ℕ) (s : Shape) (h : BoundRecord) (n : CommitNumber) (cs : List Change) (w b area : List ℕ) {t : Bool} (l : t ≡ isEmpty (heldRun version (take (h .«held_len») area))) where
   abbrev H : List Change
   H = heldRun version (take (h .«held_len») area)
 
-  none : isEmpty H ≡ eqb len 0
-  none = empty-size H ∙ ap (λ (k : ℕ). eqb k 0) (sym l)
-
-  pub commit-held : (len ≡ 0 → ⊥) → Rules s w b → PartIs version s h (n .0) commit cs w w b b area area (record { refusal = 15; stores = false; bound = h; nack = false })
+  pub commit-held : t ≡ false → Rules s w b → PartIs version s h (n .0) commit cs w w b b area area (record { refusal = 15; stores = false; bound = h; nack = false })
   unfolding corePart
   commit-held some r = record {
     is = λ c incarnation lag.
-        sym (ap (λ (t : Bool). cond (not t) (coreRefuse (coreAt c s w b) leave 15) (coreSettle (settingsFor s (length area) incarnation lag) (coreAt c s w b) (h .handle) (boundOf version h area) (n .0) cs)) (none ∙ ne-eqb len 0 some));
+        sym (ap (λ (t : Bool). cond (not t) (coreRefuse (coreAt c s w b) leave 15) (coreSettle (settingsFor s (length area) incarnation lag) (coreAt c s w b) (h .handle) (boundOf version h area) (n .0) cs)) (sym l ∙ some));
     rules = r;
     touched = touched-none s (h .place) w b;
     quiet = λ _. (refl, refl);
@@ -75,14 +73,14 @@ module _ (version : ℕ) (s : Shape) (h : BoundRecord) (n : CommitNumber) (cs : 
     slot-len = λ l. l;
   }
 
-  module _ (empty : len ≡ 0) (used : h .place < getD w 0 0) where
+  module _ (empty : t ≡ true) (used : h .place < getD w 0 0) where
     -- past 15
     past : (c : Counters) (incarnation lag : ℕ)
         → corePart (settingsFor s (length area) incarnation lag) (coreAt c s w b) (h .handle) (boundOf version h area) (n .0) commit cs
         ≡ coreSettle (settingsFor s (length area) incarnation lag) (coreAt c s w b) (h .handle) (boundOf version h area) (n .0) cs
     unfolding corePart
     past c incarnation lag =
-        ap (λ (t : Bool). cond (not t) (coreRefuse (coreAt c s w b) leave 15) (coreSettle (settingsFor s (length area) incarnation lag) (coreAt c s w b) (h .handle) (boundOf version h area) (n .0) cs)) (none ∙ eq-eqb len 0 empty)
+        ap (λ (t : Bool). cond (not t) (coreRefuse (coreAt c s w b) leave 15) (coreSettle (settingsFor s (length area) incarnation lag) (coreAt c s w b) (h .handle) (boundOf version h area) (n .0) cs)) (sym l ∙ empty)
 
     pub commit-made : {w' b' : List ℕ} {yes : Bool} {slot : BoundRecord} → Settles s (h .place) (h .handle) cs w w' b b' yes → yes ≡ true → slot ≡ numberedTo h n
         → PartIs version s h (n .0) commit cs w w' b b' area area (record { refusal = 0; stores = true; bound = slot; nack = false })

@@ -17,7 +17,7 @@ use Rattle.model_frame.proofs.Le.{are-bytes}
 use Rattle.frame_op.specs.Answers.{heldRun}
 use Rattle.standby_changes.specs.Held.{TakesAll}
 use Rattle.standby_changes.proofs.Held.{held-written, held-in, held-none}
-use Rattle.frame.specs.declared.CommitNumber.{CommitNumber}
+use Rattle.frame_fields.specs.declared.CommitNumber.{CommitNumber}
 use Rattle.standby_row.specs.declared.Bound.{Bound}
 use Rattle.store_areas.specs.declared.Shape.{Shape}
 use Rattle.store_areas.specs.Areas.{Rules}

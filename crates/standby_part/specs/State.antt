@@ -2,7 +2,7 @@
 use Prim.Native.Nat.{ℕ}
 use mathlib.Core.List.{List}
 use lib.ListN.{take}
-use Rattle.frame.specs.declared.CommitNumber.{CommitNumber}
+use Rattle.frame_fields.specs.declared.CommitNumber.{CommitNumber}
 use Rattle.standby_row.specs.declared.Bound.{Bound as BoundRecord}
 use Rattle.frame_op.specs.Answers.{heldRun}
 use Rattle.store_areas.specs.declared.Shape.{Shape}

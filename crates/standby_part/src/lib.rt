@@ -11,7 +11,7 @@ ghost use Rattle.standby_part.specs.Part.{PartIs, WholeIs, AreaIs};
 ghost use Rattle.standby_part.specs.State.{numberedTo, summedTo, holdingTo};
 use base_refusals::CHANGES_HELD;
 use base_refusals::TOO_MANY_BYTES;
-use frame::CommitNumber;
+use frame_fields::CommitNumber;
 use frame_stamp::Protocol;
 use standby_row::Bound;
 use store_areas::Shape;
@@ -53,7 +53,7 @@ pub fn on_commit(
     ensures { λ r. ⌜ PartIs (protocol .version) shape bound (number .0) commit (heldRun (protocol .version) (now (run .entry))) (now (words .entry)) (now (words .exit)) (now (bytes .entry)) (now (bytes .exit)) (now (area .entry)) (now (area .entry)) r ⌝ }
 {
     let len = bound.held_len;
-    if standby_changes::run_length(protocol, &area[0..len]) != 0 {
+    if !standby_changes::is_none(protocol, &area[0..len]) {
         return PartResult {
             refusal: CHANGES_HELD,
             stores: false,

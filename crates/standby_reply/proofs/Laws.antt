@@ -1,6 +1,5 @@
 -- A span cut to its area, a summary, and the frame by its kind. Assumes nothing.
 use mathlib.Core.Path.{_≡_, refl, sym, ap, subst, _∙_}
-use mathlib.Core.Bool.{Bool, true, _&&_}
 use mathlib.Core.List.{List}
 use mathlib.Core.Option.{Option, some}
 use Prim.Native.Nat.{ℕ, _+_, _-_, _≤_, _<_}
@@ -10,6 +9,7 @@ use lib.ListN.{length, take, drop, length-drop, drop-of-length-le}
 use lib.Seq.{take-all, take-nil}
 use Rattle.model_frame.specs.Frame.{Reason, staleEpoch, diverged, lagTooGreat, restarted, Frame, welcome, ack, nack, bound}
 use Rattle.model_frame.specs.Frame as the-frame
+use Rattle.model_frame.proofs.SoundChange.{both}
 use Rattle.frame_reader.specs.declared.Span.{Span}
 use Rattle.frame_fields.specs.declared.InFlight.{InFlight}
 use Rattle.frame_fields.specs.declared.Summary.{Summary}
@@ -44,9 +44,6 @@ module _ (b : List ℕ) (s : Span) where
   whole h fit = record { same = refl; fits = le-leb (s .at + s .len) (length b) (omega arith) }
 
 -- ---- a summary
-
-both : {x y : Bool} → x ≡ true → y ≡ true → (x && y) ≡ true
-both ex ey = rw (ex, ey) refl
 
 pub shows : (b : List ℕ) (m : BoundSummary) {f : InFlight} {t u : Span} → flightOf f ≡ flightBy (m .«has_in_flight») (m .«in_flight») → CutTo b (m .«created_at») t → CutTo b (m .marks) u
     → Shows b m

@@ -111,5 +111,11 @@ pub fn write(answer: Answer, bytes: &[u8], out: &mut [u8]) -> Written
     ensures { λ r. ⌜ Encoded 1 (some (frameBy (now (bytes .entry)) answer)) (now (out .entry)) (now (out .exit)) r ⌝ }
 {
     let f = frame(answer, bytes);
-    f.encode(Protocol { version: 1 }, bytes, out)
+    f.encode(
+        Protocol {
+            version: Frame::VERSION,
+        },
+        bytes,
+        out,
+    )
 }

@@ -1,5 +1,5 @@
 // The bound handles: a lent row of records, searched by handle (standby.rs, where they are a map from handle to bound session).
-use frame::CommitNumber;
+use frame_fields::CommitNumber;
 ghost use mathlib.Core.Path.{_≡_};
 ghost use lib.ListN.{length, set, getD};
 ghost use Rattle.standby_row.specs.Row.{freeRecord, isOf, isFreeFor, breaksOf, findOf, freeOf, freeFor, brokenOf, clearedFrom, clearedAll, seenOf};

@@ -9,9 +9,9 @@ use Rattle.model_frame.specs.FrameKind
 use Rattle.model_frame.specs.Frame.{Reason, staleEpoch, diverged, lagTooGreat, restarted, Frame, welcome, ack, nack, bound}
 use Rattle.model_frame.specs.Frame as the-frame
 use Rattle.frame_reader.specs.Answers.{spanOf}
-use Rattle.frame.specs.declared.CommitNumber.{CommitNumber}
-use Rattle.frame.specs.declared.Epoch.{Epoch}
-use Rattle.frame.specs.declared.Incarnation.{Incarnation}
+use Rattle.frame_fields.specs.declared.CommitNumber.{CommitNumber}
+use Rattle.frame_fields.specs.declared.Epoch.{Epoch}
+use Rattle.frame_fields.specs.declared.Incarnation.{Incarnation}
 use Rattle.model_standby.specs.Answer.{reply, refused, done}
 use Rattle.model_standby.specs.Answer as the-answer
 use Rattle.standby_state.specs.declared.BoundSummary.{BoundSummary}

@@ -2,9 +2,9 @@
 ghost use mathlib.Core.Path.{_≡_};
 ghost use Rattle.standby_state.specs.Answers.{noBrief, blankOf, isRefused, isDone, isWelcome, isAck, isNack, isBound};
 ghost use Rattle.standby_state.specs.Outcomes.{spotOf, leaving, clearing, storing};
-use frame::CommitNumber;
-use frame::Epoch;
-use frame::Incarnation;
+use frame_fields::CommitNumber;
+use frame_fields::Epoch;
+use frame_fields::Incarnation;
 use frame_fields::kind;
 use frame_reader::Span;
 use standby_row::Bound;

@@ -2,7 +2,7 @@
 // A line is `C` and ten numbers for each of five copies: whether it is listed, whether it is checked, its epoch, how many sessions are in
 // use, and of three sessions the key and the next outgoing number. A fourth session in use breaks the store's rules.
 ghost use Prim.Native.Nat.{_≤_};
-use frame::Epoch;
+use frame_fields::Epoch;
 use libc::STDIN_FILENO;
 use libc::STDOUT_FILENO;
 use standby_choice::Choice;

@@ -70,7 +70,13 @@ fn put_digits(src: &[u8])
 // A frame that was read from src, written again.
 fn put_frame(decoded: Frame, src: &[u8]) {
     let mut out = [0u8; 8192];
-    match decoded.encode(Protocol { version: 1 }, src, &mut out) {
+    match decoded.encode(
+        Protocol {
+            version: Frame::VERSION,
+        },
+        src,
+        &mut out,
+    ) {
         Written::Bytes(n) => put_digits(&out[0..n]),
         Written::Unreadable => put(b"not written: 8"),
         Written::TooLong => put(b"not written: 1"),
@@ -80,7 +86,12 @@ fn put_frame(decoded: Frame, src: &[u8]) {
 
 // What reading gives.
 fn put_reading(src: &[u8]) {
-    match Frame::decode(Protocol { version: 1 }, src) {
+    match Frame::decode(
+        Protocol {
+            version: Frame::VERSION,
+        },
+        src,
+    ) {
         Decoded::More => put(b"more"),
         Decoded::Bad(e) => {
             put(b"R ");

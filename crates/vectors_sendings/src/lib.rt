@@ -2,8 +2,8 @@
 use active::Begun;
 use active::Sending;
 use active::Sent;
-use frame::CommitNumber;
-use frame::Epoch;
+use frame_fields::CommitNumber;
+use frame_fields::Epoch;
 use libc::STDOUT_FILENO;
 use store_areas::Shape;
 

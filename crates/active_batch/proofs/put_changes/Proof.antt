@@ -15,28 +15,28 @@ put-opening-requires c κs =
     let s = c .before .before .before .before .before .before in
     let a = s .args in
     let b = now (a .bytes) in
-    (s .pre .1 .1 .0, omega (arith, s .pre .1 .1 .1 .1 .1, three-sizes (openingOf (now (a .stamp)) (a .from)) (taken (a .limit) 0 (a .plan .next) (restOf (length b) (a .max) (a .header .«next_outgoing») (now (a .words)) b (a .plan .left))) (endingOf (a .header) (now (a .marks)) (a .plan .last) (a .plan .«resume_from»))))
+    (s .pre .1 .1 .0, omega (arith, s .pre .1 .1 .1 .1 .1, three-sizes (openingOf (now (a .stamp)) (a .batch .from)) (taken (a .batch .limit) 0 (a .plan .next) (restOf (length b) (a .batch .max) (a .header .«next_outgoing») (now (a .words)) b (a .plan .left))) (endingOf (a .header) (now (a .marks)) (a .plan .last) (a .plan .«resume_from»))))
 
 put-messages-requires : tie.Need-put-messages-requires
 put-messages-requires c κs =
     let s = c .before .before .before .before .before .before .before .before .before .before in
     let a = s .args in
     let b = now (a .bytes) in
-    (s .pre .0, (s .pre .1 .0, (s .pre .1 .1 .1 .1 .0, omega (arith, s .pre .1 .1 .1 .1 .1, three-sizes (openingOf (now (a .stamp)) (a .from)) (taken (a .limit) 0 (a .plan .next) (restOf (length b) (a .max) (a .header .«next_outgoing») (now (a .words)) b (a .plan .left))) (endingOf (a .header) (now (a .marks)) (a .plan .last) (a .plan .«resume_from»)), run-past (openingOf (now (a .stamp)) (a .from)) (c .before .before .before .put-opening .ensures)))))
+    (s .pre .0, (s .pre .1 .0, (s .pre .1 .1 .1 .1 .0, omega (arith, s .pre .1 .1 .1 .1 .1, three-sizes (openingOf (now (a .stamp)) (a .batch .from)) (taken (a .batch .limit) 0 (a .plan .next) (restOf (length b) (a .batch .max) (a .header .«next_outgoing») (now (a .words)) b (a .plan .left))) (endingOf (a .header) (now (a .marks)) (a .plan .last) (a .plan .«resume_from»)), run-past (openingOf (now (a .stamp)) (a .batch .from)) (c .before .before .before .put-opening .ensures)))))
 
 put-ending-requires : tie.Need-put-ending-requires
 put-ending-requires c κs =
     let s = c .before .before .before .before .before .before .before .before .before .before .before .before .before .before in
     let a = s .args in
     let b = now (a .bytes) in
-    let ms = taken (a .limit) 0 (a .plan .next) (restOf (length b) (a .max) (a .header .«next_outgoing») (now (a .words)) b (a .plan .left)) in
-    (s .pre .1 .1 .1 .0, omega (arith, s .pre .1 .1 .1 .1 .1, three-sizes (openingOf (now (a .stamp)) (a .from)) ms (endingOf (a .header) (now (a .marks)) (a .plan .last) (a .plan .«resume_from»)), run-past (openingOf (now (a .stamp)) (a .from)) (c .before .before .before .before .before .before .before .put-opening .ensures), run-past ms (c .before .before .before .put-messages .ensures)))
+    let ms = taken (a .batch .limit) 0 (a .plan .next) (restOf (length b) (a .batch .max) (a .header .«next_outgoing») (now (a .words)) b (a .plan .left)) in
+    (s .pre .1 .1 .1 .0, omega (arith, s .pre .1 .1 .1 .1 .1, three-sizes (openingOf (now (a .stamp)) (a .batch .from)) ms (endingOf (a .header) (now (a .marks)) (a .plan .last) (a .plan .«resume_from»)), run-past (openingOf (now (a .stamp)) (a .batch .from)) (c .before .before .before .before .before .before .before .put-opening .ensures), run-past ms (c .before .before .before .put-messages .ensures)))
 
 returns : tie.Need-returns
 returns c =
     let a = c .before .before .before .before .before .before .before .before .before .before .before .before .before .before .before .before .before .args in
     let b = now (a .bytes) in
-    wrote-three (openingOf (now (a .stamp)) (a .from)) (taken (a .limit) 0 (a .plan .next) (restOf (length b) (a .max) (a .header .«next_outgoing») (now (a .words)) b (a .plan .left))) (endingOf (a .header) (now (a .marks)) (a .plan .last) (a .plan .«resume_from»)) (c .before .before .before .before .before .before .before .before .before .before .put-opening .ensures) (c .before .before .before .before .before .before .put-messages .ensures) (c .before .before .put-ending .ensures)
+    wrote-three (openingOf (now (a .stamp)) (a .batch .from)) (taken (a .batch .limit) 0 (a .plan .next) (restOf (length b) (a .batch .max) (a .header .«next_outgoing») (now (a .words)) b (a .plan .left))) (endingOf (a .header) (now (a .marks)) (a .plan .last) (a .plan .«resume_from»)) (c .before .before .before .before .before .before .before .before .before .before .put-opening .ensures) (c .before .before .before .before .before .before .put-messages .ensures) (c .before .before .put-ending .ensures)
 
 pub put-changes-spec : {M : Type 1} → statement M
 put-changes-spec =

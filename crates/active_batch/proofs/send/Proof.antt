@@ -22,7 +22,7 @@ plan-from-requires c κs =
 returns : tie.Need-returns
 returns c =
     let a = c .before .before .before .before .before .before .before .before .before .before .before .args in
-    λ C lb. too-short (a .limit) C (a .max) (now (a .words)) (now (a .bytes)) lb (c .before .before .before .before .before .before .before .header-of .result) (c .before .before .before .before .before .before .before .header-of .ensures) (λ i. c .before .before .before .before .before .before .before .before .before .shared-slice-known2 .given i .fits) (a .handle) (a .epoch .0) (a .number .0) (a .from) (c .before .before .plan-from .result) (c .before .before .plan-from .ensures) (now (a .out)) (c .if1 .taken)
+    λ C lb. too-short (a .batch .limit) C (a .batch .max) (now (a .words)) (now (a .bytes)) lb (c .before .before .before .before .before .before .before .header-of .result) (c .before .before .before .before .before .before .before .header-of .ensures) (λ i. c .before .before .before .before .before .before .before .before .before .shared-slice-known2 .given i .fits) (a .batch .handle) (a .batch .epoch .0) (a .batch .«commit_no» .0) (a .batch .from) (c .before .before .plan-from .result) (c .before .before .plan-from .ensures) (now (a .out)) (c .if1 .taken)
 
 part-stamp-end : tie.Need-part-stamp-end
 part-stamp-end c = omega (arith, c .before .before .before .before .before .before .before .header-of .ensures .stamp-most, c .before .before .before .before .before .before .before .before .before .before .before .pre)
@@ -38,12 +38,12 @@ put-frame-requires c κs =
     let b = now (a .bytes) in
     let hd = c .before .before .before .before .before .before .before .before .before .before .header-of .result in
     let h = c .before .before .before .before .before .before .before .before .before .before .header-of .ensures in
-    (omega (arith, s .pre, ap length (tail-is 14 w), length-drop 14 w), (omega (arith, s .pre, ap length (tail-is 224 b), length-drop 224 b), (stamp-length (a .limit) (length b - 224) (a .max) w b (omega (arith, s .pre)) hd h, (h .stamp-most, (marks-length (a .limit) (length b - 224) (a .max) w b (omega (arith, s .pre)) hd h, (h .marks-most, (c .before .before .before .before .before .plan-from .ensures, omega arith)))))))
+    (omega (arith, s .pre, ap length (tail-is 14 w), length-drop 14 w), (omega (arith, s .pre, ap length (tail-is 224 b), length-drop 224 b), (stamp-length (a .batch .limit) (length b - 224) (a .batch .max) w b (omega (arith, s .pre)) hd h, (h .stamp-most, (marks-length (a .batch .limit) (length b - 224) (a .batch .max) w b (omega (arith, s .pre)) hd h, (h .marks-most, (c .before .before .before .before .before .plan-from .ensures, omega arith)))))))
 
 returns-2 : tie.Need-returns-2
 returns-2 c =
     let a = c .before .before .before .before .before .before .before .before .before .before .before .before .before .before .before .before .before .args in
-    λ C lb. sent (a .limit) C (a .max) (now (a .words)) (now (a .bytes)) lb (c .before .before .before .before .before .before .before .before .before .before .before .before .before .header-of .result) (c .before .before .before .before .before .before .before .before .before .before .before .before .before .header-of .ensures) (λ i. c .before .before .before .before .before .before .before .before .before .before .before .before .before .before .before .shared-slice-known2 .given i .fits) (a .handle) (a .epoch .0) (a .number .0) (a .from) (c .before .before .before .before .before .before .before .before .plan-from .result) (c .before .before .before .before .before .before .before .before .plan-from .ensures) (now (a .out)) _ (omega arith) (c .before .before .put-frame .ensures)
+    λ C lb. sent (a .batch .limit) C (a .batch .max) (now (a .words)) (now (a .bytes)) lb (c .before .before .before .before .before .before .before .before .before .before .before .before .before .header-of .result) (c .before .before .before .before .before .before .before .before .before .before .before .before .before .header-of .ensures) (λ i. c .before .before .before .before .before .before .before .before .before .before .before .before .before .before .before .shared-slice-known2 .given i .fits) (a .batch .handle) (a .batch .epoch .0) (a .batch .«commit_no» .0) (a .batch .from) (c .before .before .before .before .before .before .before .before .plan-from .result) (c .before .before .before .before .before .before .before .before .plan-from .ensures) (now (a .out)) _ (omega arith) (c .before .before .put-frame .ensures)
 
 pub send-spec : {M : Type 1} → statement M
 send-spec =

@@ -25,7 +25,7 @@ returns-3 c =
     let c2 = c1 .before .before in
     let c3 = c2 .before .before in
     let c4 = c3 .before .before in
-    ((λ v. rw (← (c4 .u32-from .ensures .0), c3 .handle .given .1, ← (c2 .u64-from .ensures), c1 .commit-no .given .1)), λ v. refl)
+    ((λ v. rw (← (c4 .u32-from .ensures .0), c3 .handle .given .1, ← (c2 .u64-from .ensures), c1 .commit-no .given .1)), λ v. (refl, tt))
 
 pub ack-from-spec : {M : Type 1} → statement M
 ack-from-spec =

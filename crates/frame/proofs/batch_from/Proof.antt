@@ -87,7 +87,7 @@ returns-7 c =
     let c10 = c9 .before .before in
     let c11 = c10 .before .before in
     let c12 = c11 .before .before in
-    (rw (← (c12 .u32-from .ensures .0), c11 .handle .given .1, ← (c10 .u64-from .ensures), c9 .epoch .given .1, ← (c8 .u64-from2 .ensures), c7 .commit-no .given .1, ← (c6 .part-from .ensures), c5 .part .given .1, ← (c4 .ops-from .ensures .0), c3 .ops .given .1, ← (c2 .app-records-from .ensures .0), c1 .app-records .given .1), rw (rw (c3 .ops .given .1) at (c4 .ops-from .ensures .1), rw (c1 .app-records .given .1) at (c2 .app-records-from .ensures .1)))
+    (rw (← (c12 .u32-from .ensures .0), c11 .handle .given .1, ← (c10 .u64-from .ensures), c9 .epoch .given .1, ← (c8 .u64-from2 .ensures), c7 .commit-no .given .1, ← (c6 .part-from .ensures), c5 .part .given .1, ← (c4 .ops-from .ensures .0), c3 .ops .given .1, ← (c2 .app-records-from .ensures .0), c1 .app-records .given .1), (rw (rw (c3 .ops .given .1) at (c4 .ops-from .ensures .1 .0), rw (c1 .app-records .given .1) at (c2 .app-records-from .ensures .1 .0)), rw (c3 .ops .given .1) at (c4 .ops-from .ensures .1 .1)))
 
 pub batch-from-spec : {M : Type 1} → statement M
 batch-from-spec =

@@ -52,7 +52,7 @@ returns-5 c =
     let c6 = c5 .before .before in
     let c7 = c6 .before .before in
     let c8 = c7 .before .before in
-    ((λ v. rw (← (c8 .u32-from .ensures .0), c7 .handle .given .1, ← (c6 .u64-from .ensures), c5 .epoch .given .1, ← (c4 .u64-from2 .ensures), c3 .max-lag .given .1, ← (c2 .session-from .ensures .0), c1 .session .given .1)), λ v. let k = rw (c1 .session .given .1) at (c2 .session-from .ensures .1) in rw (le-leb _ _ (k .0), le-leb _ _ (k .1), le-leb _ _ (k .2), le-leb _ _ (k .3)))
+    ((λ v. rw (← (c8 .u32-from .ensures .0), c7 .handle .given .1, ← (c6 .u64-from .ensures), c5 .epoch .given .1, ← (c4 .u64-from2 .ensures), c3 .max-lag .given .1, ← (c2 .session-from .ensures .0), c1 .session .given .1)), λ v. let k = rw (c1 .session .given .1) at (c2 .session-from .ensures .1) in (rw (le-leb _ _ (k .0), le-leb _ _ (k .1), le-leb _ _ (k .2), le-leb _ _ (k .3)), tt))
 
 pub bind-from-spec : {M : Type 1} → statement M
 bind-from-spec =

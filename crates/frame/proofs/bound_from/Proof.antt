@@ -26,7 +26,7 @@ returns-3 c =
     let c2 = c1 .before .before in
     let c3 = c2 .before .before in
     let c4 = c3 .before .before in
-    ((λ v. rw (← (c4 .u32-from .ensures .0), c3 .handle .given .1, ← (c2 .summary-from .ensures .0), c1 .summary .given .1)), λ v. let m = rw (c1 .summary .given .1) at (c2 .summary-from .ensures .1) in rw (le-leb _ _ (m .0), le-leb _ _ (m .1)))
+    ((λ v. rw (← (c4 .u32-from .ensures .0), c3 .handle .given .1, ← (c2 .summary-from .ensures .0), c1 .summary .given .1)), λ v. let m = rw (c1 .summary .given .1) at (c2 .summary-from .ensures .1) in (rw (le-leb _ _ (m .0), le-leb _ _ (m .1)), tt))
 
 pub bound-from-spec : {M : Type 1} → statement M
 bound-from-spec =

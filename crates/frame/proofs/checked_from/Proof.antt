@@ -37,7 +37,7 @@ returns-4 c =
     let c4 = c3 .before .before in
     let c5 = c4 .before .before in
     let c6 = c5 .before .before in
-    ((λ v. rw (← (c6 .u32-from .ensures .0), c5 .handle .given .1, ← (c4 .u64-from .ensures), c3 .epoch .given .1, ← (c2 .u64-from2 .ensures), c1 .incarnation .given .1)), λ v. refl)
+    ((λ v. rw (← (c6 .u32-from .ensures .0), c5 .handle .given .1, ← (c4 .u64-from .ensures), c3 .epoch .given .1, ← (c2 .u64-from2 .ensures), c1 .incarnation .given .1)), λ v. (refl, tt))
 
 pub checked-from-spec : {M : Type 1} → statement M
 checked-from-spec =

@@ -53,7 +53,7 @@ returns-5 c =
     let c6 = c5 .before .before in
     let c7 = c6 .before .before in
     let c8 = c7 .before .before in
-    ((λ v. rw (← (c8 .u16-from .ensures), c7 .version .given .1, ← (c6 .u64-from .ensures), c5 .epoch .given .1, ← (c4 .text-from .ensures .0), c3 .node .given .1, ← (c2 .kinds-from .ensures .0), c1 .app-record-kinds .given .1)), λ v. rw (le-leb _ _ (rw (c3 .node .given .1) at (c4 .text-from .ensures .1)), rw (c1 .app-record-kinds .given .1) at (c2 .kinds-from .ensures .1)))
+    ((λ v. rw (← (c8 .u16-from .ensures), c7 .version .given .1, ← (c6 .u64-from .ensures), c5 .epoch .given .1, ← (c4 .text-from .ensures .0), c3 .node .given .1, ← (c2 .kinds-from .ensures .0), c1 .app-record-kinds .given .1)), λ v. (rw (le-leb _ _ (rw (c3 .node .given .1) at (c4 .text-from .ensures .1)), rw (c1 .app-record-kinds .given .1) at (c2 .kinds-from .ensures .1 .0)), tt))
 
 pub hello-from-spec : {M : Type 1} → statement M
 hello-from-spec =

@@ -26,7 +26,7 @@ returns-3 c =
     let c2 = c1 .before .before in
     let c3 = c2 .before .before in
     let c4 = c3 .before .before in
-    ((λ v. rw (← (c4 .u32-from .ensures .0), c3 .handle .given .1, ← (c2 .reason-from .ensures), c1 .reason .given .1)), λ v. refl)
+    ((λ v. rw (← (c4 .u32-from .ensures .0), c3 .handle .given .1, ← (c2 .reason-from .ensures), c1 .reason .given .1)), λ v. (refl, tt))
 
 pub nack-from-spec : {M : Type 1} → statement M
 nack-from-spec =

@@ -25,7 +25,7 @@ returns-3 c =
     let c2 = c1 .before .before in
     let c3 = c2 .before .before in
     let c4 = c3 .before .before in
-    ((λ v. rw (← (c4 .u64-from .ensures), c3 .epoch .given .1, ← (c2 .u64-from2 .ensures), c1 .incarnation .given .1)), λ v. refl)
+    ((λ v. rw (← (c4 .u64-from .ensures), c3 .epoch .given .1, ← (c2 .u64-from2 .ensures), c1 .incarnation .given .1)), λ v. (refl, tt))
 
 pub welcome-from-spec : {M : Type 1} → statement M
 welcome-from-spec =

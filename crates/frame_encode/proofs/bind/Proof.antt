@@ -17,22 +17,22 @@ put-bind-requires c κs =
 returns : tie.Need-returns
 returns c =
     let a = c .before .before .before .before .before .before .before .before .before .before .before .before .before .before .before .before .before .before .args in
-    λ v. encoded-long v _ _ (bind-ready (now (a .src)) (a .session) v (a .handle) (a .epoch) (a .lag) (sym (c .before .before .before .before .before .before .before .before .before .before .before .before .before .before .before .session-fits .ensures) ∙ c .before .before .before .before .before .before .before .before .before .before .before .before .before .before .if1 .taken) refl) (rw (c .enum-told .given .1) at (c .before .before .before .before .begin2 .ensures))
+    λ v. encoded-long v _ _ (bind-ready (now (a .src)) (a .session) v (a .handle) (a .epoch .0) (a .lag) (sym (c .before .before .before .before .before .before .before .before .before .before .before .before .before .before .before .session-fits .ensures) ∙ c .before .before .before .before .before .before .before .before .before .before .before .before .before .before .if1 .taken) refl) (rw (c .enum-told .given .1) at (c .before .before .before .before .begin2 .ensures))
 
 returns-2 : tie.Need-returns-2
 returns-2 c =
     let a = c .before .before .before .before .before .before .before .before .before .before .before .before .before .before .before .before .before .before .args in
-    λ v. encoded-full v _ _ (bind-ready (now (a .src)) (a .session) v (a .handle) (a .epoch) (a .lag) (sym (c .before .before .before .before .before .before .before .before .before .before .before .before .before .before .before .session-fits .ensures) ∙ c .before .before .before .before .before .before .before .before .before .before .before .before .before .before .if1 .taken) refl) (rw (c .enum-told2 .given .1) at (c .before .before .before .before .begin2 .ensures))
+    λ v. encoded-full v _ _ (bind-ready (now (a .src)) (a .session) v (a .handle) (a .epoch .0) (a .lag) (sym (c .before .before .before .before .before .before .before .before .before .before .before .before .before .before .before .session-fits .ensures) ∙ c .before .before .before .before .before .before .before .before .before .before .before .before .before .before .if1 .taken) refl) (rw (c .enum-told2 .given .1) at (c .before .before .before .before .begin2 .ensures))
 
 returns-3 : tie.Need-returns-3
 returns-3 c =
     let a = c .before .before .before .before .before .before .before .before .before .before .before .before .before .before .before .before .before .before .before .before .before .before .before .args in
-    λ v. encoded-took v _ _ (bind-ready (now (a .src)) (a .session) v (a .handle) (a .epoch) (a .lag) (sym (c .before .before .before .before .before .before .before .before .before .before .before .before .before .before .before .before .before .before .before .before .session-fits .ensures) ∙ c .before .before .before .before .before .before .before .before .before .before .before .before .before .before .before .before .before .before .before .if1 .taken) refl) (rw (c .before .before .before .before .before .at .given .1) at (c .before .before .before .before .before .before .before .before .before .begin2 .ensures)) (c .before .before .put-bind .ensures)
+    λ v. encoded-took v _ _ (bind-ready (now (a .src)) (a .session) v (a .handle) (a .epoch .0) (a .lag) (sym (c .before .before .before .before .before .before .before .before .before .before .before .before .before .before .before .before .before .before .before .before .session-fits .ensures) ∙ c .before .before .before .before .before .before .before .before .before .before .before .before .before .before .before .before .before .before .before .if1 .taken) refl) (rw (c .before .before .before .before .before .at .given .1) at (c .before .before .before .before .before .before .before .before .before .begin2 .ensures)) (c .before .before .put-bind .ensures)
 
 returns-4 : tie.Need-returns-4
 returns-4 c =
     let a = c .before .before .before .before .args in
-    λ v. encoded-unreadable v _ _ _ (bind-unfit (now (a .src)) (a .session) v (a .handle) (a .epoch) (a .lag) (sym (c .before .session-fits .ensures) ∙ c .if1 .left))
+    λ v. encoded-unreadable v _ _ _ (bind-unfit (now (a .src)) (a .session) v (a .handle) (a .epoch .0) (a .lag) (sym (c .before .session-fits .ensures) ∙ c .if1 .left))
 
 pub bind-spec : {M : Type 1} → statement M
 bind-spec =

@@ -18,23 +18,23 @@ put-hello-requires c κs =
 returns : tie.Need-returns
 returns c =
     let a = c .before .before .before .before .before .before .before .before .before .before .before .before .before .before .before .args in
-    λ v. encoded-long v _ _ (hello-ready (now (a .src)) (a .node) (a .kinds) (are-bytes (now (a .src)) (λ i. c .before .before .before .before .before .before .before .before .before .before .before .before .before .before .shared-slice-known .given i .fits)) (hello-judged (now (a .src)) (a .node) (a .kinds) (c .before .before .before .before .before .before .before .before .before .before .before .before .within .ensures) (c .before .before .before .before .before .before .before .before .before .before .before .kinds-fit .ensures) (rw (c .before .before .before .before .before .before .before .before .before .before .slice .ensures) at (c .before .before .before .before .before .before .before .before .before .is-utf8 .ensures)) (c .before .before .before .before .before .before .before .before .if1 .taken)) v (a .version) (a .epoch) refl) (rw (c .enum-told .given .1) at (c .before .before .before .before .begin .ensures))
+    λ v. encoded-long v _ _ (hello-ready (now (a .src)) (a .node) (a .kinds) (are-bytes (now (a .src)) (λ i. c .before .before .before .before .before .before .before .before .before .before .before .before .before .before .shared-slice-known .given i .fits)) (hello-judged (now (a .src)) (a .node) (a .kinds) (c .before .before .before .before .before .before .before .before .before .before .before .before .within .ensures) (c .before .before .before .before .before .before .before .before .before .before .before .kinds-fit .ensures) (rw (c .before .before .before .before .before .before .before .before .before .before .slice .ensures) at (c .before .before .before .before .before .before .before .before .before .is-utf8 .ensures)) (c .before .before .before .before .before .before .before .before .if1 .taken)) v (a .version) (a .epoch .0) refl) (rw (c .enum-told .given .1) at (c .before .before .before .before .begin .ensures))
 
 returns-2 : tie.Need-returns-2
 returns-2 c =
     let a = c .before .before .before .before .before .before .before .before .before .before .before .before .before .before .before .args in
-    λ v. encoded-full v _ _ (hello-ready (now (a .src)) (a .node) (a .kinds) (are-bytes (now (a .src)) (λ i. c .before .before .before .before .before .before .before .before .before .before .before .before .before .before .shared-slice-known .given i .fits)) (hello-judged (now (a .src)) (a .node) (a .kinds) (c .before .before .before .before .before .before .before .before .before .before .before .before .within .ensures) (c .before .before .before .before .before .before .before .before .before .before .before .kinds-fit .ensures) (rw (c .before .before .before .before .before .before .before .before .before .before .slice .ensures) at (c .before .before .before .before .before .before .before .before .before .is-utf8 .ensures)) (c .before .before .before .before .before .before .before .before .if1 .taken)) v (a .version) (a .epoch) refl) (rw (c .enum-told2 .given .1) at (c .before .before .before .before .begin .ensures))
+    λ v. encoded-full v _ _ (hello-ready (now (a .src)) (a .node) (a .kinds) (are-bytes (now (a .src)) (λ i. c .before .before .before .before .before .before .before .before .before .before .before .before .before .before .shared-slice-known .given i .fits)) (hello-judged (now (a .src)) (a .node) (a .kinds) (c .before .before .before .before .before .before .before .before .before .before .before .before .within .ensures) (c .before .before .before .before .before .before .before .before .before .before .before .kinds-fit .ensures) (rw (c .before .before .before .before .before .before .before .before .before .before .slice .ensures) at (c .before .before .before .before .before .before .before .before .before .is-utf8 .ensures)) (c .before .before .before .before .before .before .before .before .if1 .taken)) v (a .version) (a .epoch .0) refl) (rw (c .enum-told2 .given .1) at (c .before .before .before .before .begin .ensures))
 
 returns-3 : tie.Need-returns-3
 returns-3 c =
     let a = c .before .before .before .before .before .before .before .before .before .before .before .before .before .before .before .before .before .before .before .before .args in
     let j = (hello-judged (now (a .src)) (a .node) (a .kinds) (c .before .before .before .before .before .before .before .before .before .before .before .before .before .before .before .before .before .within .ensures) (c .before .before .before .before .before .before .before .before .before .before .before .before .before .before .before .before .kinds-fit .ensures) (rw (c .before .before .before .before .before .before .before .before .before .before .before .before .before .before .before .slice .ensures) at (c .before .before .before .before .before .before .before .before .before .before .before .before .before .before .is-utf8 .ensures)) (c .before .before .before .before .before .before .before .before .before .before .before .before .before .if1 .taken)) in
-    λ v. encoded-took v _ _ (hello-ready (now (a .src)) (a .node) (a .kinds) (are-bytes (now (a .src)) (λ i. c .before .before .before .before .before .before .before .before .before .before .before .before .before .before .before .before .before .before .before .shared-slice-known .given i .fits)) j v (a .version) (a .epoch) refl) (rw (c .before .before .before .before .before .at .given .1) at (c .before .before .before .before .before .before .before .before .before .begin .ensures)) (hello-wrote (now (a .src)) (a .node) (a .kinds) (are-bytes (now (a .src)) (λ i. c .before .before .before .before .before .before .before .before .before .before .before .before .before .before .before .before .before .before .before .shared-slice-known .given i .fits)) j (a .version) (a .epoch) (c .before .before .put-hello .ensures))
+    λ v. encoded-took v _ _ (hello-ready (now (a .src)) (a .node) (a .kinds) (are-bytes (now (a .src)) (λ i. c .before .before .before .before .before .before .before .before .before .before .before .before .before .before .before .before .before .before .before .shared-slice-known .given i .fits)) j v (a .version) (a .epoch .0) refl) (rw (c .before .before .before .before .before .at .given .1) at (c .before .before .before .before .before .before .before .before .before .begin .ensures)) (hello-wrote (now (a .src)) (a .node) (a .kinds) (are-bytes (now (a .src)) (λ i. c .before .before .before .before .before .before .before .before .before .before .before .before .before .before .before .before .before .before .before .shared-slice-known .given i .fits)) j (a .version) (a .epoch .0) (c .before .before .put-hello .ensures))
 
 returns-4 : tie.Need-returns-4
 returns-4 c =
     let a = c .before .before .before .before .before .before .before .args in
-    λ v. encoded-unreadable v _ _ _ (hello-unfit (now (a .src)) (a .node) (a .kinds) v (a .version) (a .epoch) (hello-judged (now (a .src)) (a .node) (a .kinds) (c .before .before .before .before .within .ensures) (c .before .before .before .kinds-fit .ensures) (rw (c .before .before .slice .ensures) at (c .before .is-utf8 .ensures)) (c .if1 .left)))
+    λ v. encoded-unreadable v _ _ _ (hello-unfit (now (a .src)) (a .node) (a .kinds) v (a .version) (a .epoch .0) (hello-judged (now (a .src)) (a .node) (a .kinds) (c .before .before .before .before .within .ensures) (c .before .before .before .kinds-fit .ensures) (rw (c .before .before .slice .ensures) at (c .before .is-utf8 .ensures)) (c .if1 .left)))
 
 pub hello-spec : {M : Type 1} → statement M
 hello-spec =

@@ -1,5 +1,5 @@
 use borrow.Author.Needs.{needs}
-use mathlib.Core.Path.{sym, ap, _∙_}
+use mathlib.Core.Path.{refl, sym, ap, _∙_}
 use Prim.Native.Nat.{_+_, _*_, _≤_}
 use denote.Ref.{now}
 use lib.ListN.{length, drop, length-drop}
@@ -13,14 +13,14 @@ use Rattle.frame_fields.proofs.kinds_from.Tie as tie
 
 returns : tie.Need-returns
 unfolding readKinds
-returns c = (rw (← (c .before .before .count-from .ensures), c .enum-told .given .1), tt)
+returns c = (rw (← (c .before .before .count-from .ensures), c .enum-told .given .1), (tt, tt))
 
 -- what is left has room for the kinds
 room : (c : tie.After-known-told) → c .before .count .given .0 .0 * 2 ≤ length (drop (c .before .count .given .0 .1 .0 .at) (now (c .before .before .before .before .before .args .buf)))
 room c = count-room 2 _ (sym (c .before .before .before .count-from .ensures) ∙ ap (res32 _) (c .before .count .given .1))
 
-add-t11 : tie.Need-add-t11
-add-t11 c =
+add-t9 : tie.Need-add-t9
+add-t9 c =
     let r = room c in
     let l = length-drop (c .before .count .given .0 .1 .0 .at) (now (c .before .before .before .before .before .args .buf)) in
     search needs
@@ -33,7 +33,7 @@ returns-2 c =
     let n = g .count .given .0 .0 in
     let b = now (c .before .before .before .before .before .args .buf) in
     let run = run-items (readNum 2) n (drop at b) {t = drop (at + n * 2) b} (rw (← drop-drop (n * 2) at b) (sym (numbers-end 2 n (drop at b) (room c)))) in
-    (rw (← (g .before .before .count-from .ensures), g .count .given .1) run, sym run)
+    (rw (← (g .before .before .count-from .ensures), g .count .given .1) run, (sym run, refl))
 
 pub kinds-from-spec : {M : Type 1} → statement M
 kinds-from-spec =
@@ -45,5 +45,5 @@ kinds-from-spec =
     returns
     (λ c. search needs)
     (λ c. search needs)
-    add-t11
+    add-t9
     returns-2)

@@ -25,10 +25,10 @@ abbrev versionOf : tie.After-d → ℕ
 versionOf k = k .before .before .before .before .args .protocol .version
 
 abbrev atOf : tie.After-d → ℕ
-atOf k = k .before .before .before .before .args .run .at
+atOf k = k .before .before .before .before .args .cursor .at
 
 abbrev countOf : tie.After-d → ℕ
-countOf k = k .before .before .before .before .args .run .count
+countOf k = k .before .before .before .before .args .count
 
 abbrev endOf : tie.After-d → ℕ
 endOf k = k .d .given .0 .0 .at
@@ -39,8 +39,8 @@ known k = are-bytes (bufOf k) (λ i. k .before .before .before .shared-slice-kno
 ended : (k : tie.After-d) → ok tt (drop (endOf k) (bufOf k)) ≡ forget (many (countOf k) (readChange (versionOf k)) (drop (atOf k) (bufOf k)))
 ended k = sym (ap (resEnd _) (k .d .given .1)) ∙ k .before .before .ops-end .ensures
 
-sub-t13 : tie.Need-sub-t13
-sub-t13 c =
+sub-t11 : tie.Need-sub-t11
+sub-t11 c =
     let k = c .before .before .before in
     let f = run-forward (readChange (versionOf k)) changeBytes (TakenChange (versionOf k)) (change-canon (versionOf k)) (countOf k) (bufOf k) (atOf k) (endOf k) (known k) (ended k) (c .before .bytes-left .ensures) (c .bytes-left2 .ensures) in
     search needs
@@ -62,6 +62,6 @@ ops-len-spec =
     (λ c. search needs)
     (λ c κs. search needs)
     (λ c κs. search needs)
-    sub-t13
+    sub-t11
     returns
     returns-2)

@@ -56,7 +56,7 @@ part-on-batch-end c = omega (arith, c .before .before .area-start .ensures, subs
 on-batch-requires : tie.Need-on-batch-requires
 on-batch-requires c κs =
     let fits : c .before .before .before .area-start .result + c .before .before .before .before .room-of .result ≤ length (now (c .before .before .before .before .before .before .before .before .before .before .before .before .before .before .before .before .before .before .args .holds)) = omega (arith, c .before .before .before .area-start .ensures, subst (λ (k : ℕ). spotIn (c .before .before .before .before .before .before .before .before .before .before .before .before .before .before .before .before .before .before .args .lookup) * k + k ≤ length (now (c .before .before .before .before .before .before .before .before .before .before .before .before .before .before .before .before .before .before .args .holds))) (sym (c .before .before .before .before .room-of .ensures)) (within (c .before .before .before .before .before .before .before .before .before .before .before .before .before .before .before .before .before .before .args .lookup) (now (c .before .before .before .before .before .before .before .before .before .before .before .before .before .before .before .before .before .before .args .holds)))) in
-    (c .before .before .before .before .before .before .before .before .run-if .ensures .rules, (few-left (c .before .before .before .before .before .before .before .before .before .before .before .before .before .before .before .before .before .before .args .settings .shape) (c .before .before .before .before .before .before .before .before .before .before .before .before .before .before .before .before .before .before .args .batch .handle) (now (c .before .before .before .before .before .before .before .before .before .before .before .before .before .before .before .before .before .before .args .words)) (now (c .before .before .before .before .before .before .before .before .before .before .before .before .before .before .before .before .before .before .args .bytes)) (c .before .before .before .before .before .before .before .before .before .before .before .before .before .before .before .before .before .before .pre .0) (c .before .before .before .before .before .before .before .before .before .before .before .is-due-batch .ensures) (c .before .before .before .before .before .before .before .before .run-if .ensures), kept-in (c .before .before .before .before .before .before .before .before .before .before .before .before .before .before .before .before .before .before .args .settings .shape) (c .before .before .before .before .before .before .before .before .before .before .before .before .before .before .before .before .before .before .args .lookup) (now (c .before .before .before .before .before .before .before .before .before .before .before .before .before .before .before .before .before .before .args .words)) (now (c .before .before .before .before .before .before .before .before .before .before .before .before .before .before .before .before .before .before .args .bytes)) (now (c .before .before .before .before .before .before .before .before .before .before .before .before .before .before .before .before .before .before .args .holds)) (c .before .before .before .before .before .before .before .before .run-if .ensures) (c .before .before .before .before .room-of .ensures) (c .before .before .before .area-start .ensures) fits (c .before .before .before .before .before .before .before .before .before .before .before .before .before .before .before .before .before .before .pre .1)))
+    (c .before .before .before .before .before .before .before .before .run-if .ensures .rules, (few-left (c .before .before .before .before .before .before .before .before .before .before .before .before .before .before .before .before .before .before .args .settings .shape) (c .before .before .before .before .before .before .before .before .before .before .before .before .before .before .before .before .before .before .args .batch .handle) (now (c .before .before .before .before .before .before .before .before .before .before .before .before .before .before .before .before .before .before .args .words)) (now (c .before .before .before .before .before .before .before .before .before .before .before .before .before .before .before .before .before .before .args .bytes)) (c .before .before .before .before .before .before .before .before .before .before .before .before .before .before .before .before .before .before .pre .0) (c .before .before .before .before .before .before .before .before .before .before .before .is-due-batch .ensures) (c .before .before .before .before .before .before .before .before .run-if .ensures), (kept-in (c .before .before .before .before .before .before .before .before .before .before .before .before .before .before .before .before .before .before .args .settings .shape) (c .before .before .before .before .before .before .before .before .before .before .before .before .before .before .before .before .before .before .args .lookup) (now (c .before .before .before .before .before .before .before .before .before .before .before .before .before .before .before .before .before .before .args .words)) (now (c .before .before .before .before .before .before .before .before .before .before .before .before .before .before .before .before .before .before .args .bytes)) (now (c .before .before .before .before .before .before .before .before .before .before .before .before .before .before .before .before .before .before .args .holds)) (c .before .before .before .before .before .before .before .before .run-if .ensures) (c .before .before .before .before .room-of .ensures) (c .before .before .before .area-start .ensures) fits (c .before .before .before .before .before .before .before .before .before .before .before .before .before .before .before .before .before .before .pre .1 .0), c .before .before .before .before .before .before .before .before .before .before .before .before .before .before .before .before .before .before .pre .1 .1)))
 
 -- src/lib.rt:39:1
 same-length : tie.Need-same-length

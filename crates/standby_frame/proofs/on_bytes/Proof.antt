@@ -15,7 +15,6 @@ use Rattle.frame.proofs.Frame.decode.Reads as decode-reads
 use Rattle.standby_state.proofs.unchanged.Reads as unchanged-reads
 use Rattle.standby_state.proofs.refused.Reads as refused-reads
 use Rattle.standby_frame.proofs.on_decoded.Reads as on-decoded-reads
-use Rattle.standby_frame.proofs.refusal_of.Reads as refusal-of-reads
 
 -- src/lib.rt:80:11
 decode-requires : tie.Need-decode-requires
@@ -26,8 +25,8 @@ enum-known-e : tie.Need-enum-known-e
 enum-known-e c = search needs
 
 -- src/lib.rt:81:70
-refusal-of-requires : tie.Need-refusal-of-requires
-refusal-of-requires c κs = search needs
+number-requires : tie.Need-number-requires
+number-requires c κs = search needs
 
 -- src/lib.rt:81:53
 refused-requires : tie.Need-refused-requires
@@ -79,11 +78,11 @@ returns-2 c = promoted-left (c .before .before .before .before .before .before .
 
 -- src/lib.rt:90:13
 on-decoded-requires : tie.Need-on-decoded-requires
-on-decoded-requires c κs = (c .before .before .before .before .before .before .before .before .before .before .before .before .before .pre .0, (c .before .before .before .before .before .before .before .before .before .before .before .before .before .pre .1, read-writable (now (c .before .before .before .before .before .before .before .before .before .before .before .before .before .args .frame)) (c .before .before .before .before .before .before .before .before .decode .ensures .0) (c .before .before .before .before .before .before .f .given .1) (are-bytes (now (c .before .before .before .before .before .before .before .before .before .before .before .before .before .args .frame)) (λ i. c .before .before .before .before .before .before .before .before .before .shared-slice-known .given i .fits)) (c .before .before .before .before .if1 .left)))
+on-decoded-requires c κs = (c .before .before .before .before .before .before .before .before .before .before .before .before .before .pre .0, (c .before .before .before .before .before .before .before .before .before .before .before .before .before .pre .1, (read-writable (now (c .before .before .before .before .before .before .before .before .before .before .before .before .before .args .frame)) (c .before .before .before .before .before .before .before .before .decode .ensures .0) (c .before .before .before .before .before .before .f .given .1) (are-bytes (now (c .before .before .before .before .before .before .before .before .before .before .before .before .before .args .frame)) (λ i. c .before .before .before .before .before .before .before .before .before .shared-slice-known .given i .fits)) (c .before .before .before .before .if1 .left), (rw (c .before .before .before .before .before .before .f .given .1) at (c .before .before .before .before .before .before .before .before .decode .ensures .1)) .sized)))
 
 -- src/lib.rt:67:1
 returns-3 : tie.Need-returns-3
-returns-3 c = damaged-left (c .before .before .before .before .before .before .before .before .before .before .before .args .settings) (c .before .before .before .before .before .before .before .before .before .before .before .args .counters) (c .before .before .before .before .before .before .before .before .before .before .before .args .lookup) (now (c .before .before .before .before .before .before .before .before .before .before .before .args .frame)) (now (c .before .before .before .before .before .before .before .before .before .before .before .args .words)) (now (c .before .before .before .before .before .before .before .before .before .before .before .args .bytes)) (now (c .before .before .before .before .before .before .before .before .before .before .before .args .holds)) (c .before .before .before .before .before .before .before .before .before .before .before .pre .0) _ (given-bad (now (c .before .before .before .before .before .before .before .before .before .before .before .args .frame)) (c .before .before .before .before .before .before .decode .ensures .0) (c .before .before .before .before .e .given .1)) (number-some (faultOf (c .before .before .before .before .e .given .0 .0))) (c .unchanged .ensures) (c .before .refused .ensures ∙ ap isRefused (c .before .before .refusal-of .ensures))
+returns-3 c = damaged-left (c .before .before .before .before .before .before .before .before .before .before .before .args .settings) (c .before .before .before .before .before .before .before .before .before .before .before .args .counters) (c .before .before .before .before .before .before .before .before .before .before .before .args .lookup) (now (c .before .before .before .before .before .before .before .before .before .before .before .args .frame)) (now (c .before .before .before .before .before .before .before .before .before .before .before .args .words)) (now (c .before .before .before .before .before .before .before .before .before .before .before .args .bytes)) (now (c .before .before .before .before .before .before .before .before .before .before .before .args .holds)) (c .before .before .before .before .before .before .before .before .before .before .before .pre .0) _ (given-bad (now (c .before .before .before .before .before .before .before .before .before .before .before .args .frame)) (c .before .before .before .before .before .before .decode .ensures .0) (c .before .before .before .before .e .given .1)) (number-some (faultOf (c .before .before .before .before .e .given .0 .0))) (c .unchanged .ensures) (c .before .refused .ensures ∙ ap isRefused (c .before .before .number .ensures))
 
 -- src/lib.rt:67:1
 returns-4 : tie.Need-returns-4
@@ -111,7 +110,7 @@ on-bytes-spec =
     (tie.spec
     decode-requires
     enum-known-e
-    refusal-of-requires
+    number-requires
     refused-requires
     unchanged-requires
     enum-told

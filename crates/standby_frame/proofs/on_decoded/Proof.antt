@@ -16,11 +16,11 @@ enum-known-decoded c = search needs
 
 -- src/lib.rt:61:28
 run-due-then-batch-requires : tie.Need-run-due-then-batch-requires
-run-due-then-batch-requires c κs = search needs
+run-due-then-batch-requires c κs = let s = c .before .before .before .before .before .before .before .before .before .before in (s .pre .0, (s .pre .1 .0, rw (c .before .before .before .before .decoded .given .1) at (s .pre .1 .1 .1)))
 
 -- src/lib.rt:62:14
 run-due-then-answer-requires : tie.Need-run-due-then-answer-requires
-run-due-then-answer-requires c κs = (c .before .before .before .before .before .before .before .pre .0, fit-of (now (c .before .before .before .before .before .before .before .args .frame)) (c .before .before .before .before .before .before .before .args .decoded) (c .before .before .match .keys2) (c .before .before .before .before .before .before .before .pre .1 .1))
+run-due-then-answer-requires c κs = (c .before .before .before .before .before .before .before .pre .0, fit-of (now (c .before .before .before .before .before .before .before .args .frame)) (c .before .before .before .before .before .before .before .args .decoded) (c .before .before .match .keys2) (c .before .before .before .before .before .before .before .pre .1 .1 .0))
 
 -- src/lib.rt:45:1
 same-length : tie.Need-same-length
@@ -48,7 +48,7 @@ same-length-5 c = search needs
 
 -- src/lib.rt:45:1
 returns-2 : tie.Need-returns-2
-returns-2 c = other-intact (c .before .before .before .before .before .before .before .before .before .before .before .before .args .settings) (c .before .before .before .before .before .before .before .before .before .before .before .before .args .counters) (c .before .before .before .before .before .before .before .before .before .before .before .before .args .lookup) (frameOf 1 (now (c .before .before .before .before .before .before .before .before .before .before .before .before .args .frame)) (c .before .before .before .before .before .before .before .before .before .before .before .before .args .decoded)) (fit-of (now (c .before .before .before .before .before .before .before .before .before .before .before .before .args .frame)) (c .before .before .before .before .before .before .before .before .before .before .before .before .args .decoded) (c .before .before .before .before .before .before .before .match .keys2) (c .before .before .before .before .before .before .before .before .before .before .before .before .pre .1 .1)) _ _ _ _ _ _ (c .before .before .before .before .run-due-then-answer .ensures)
+returns-2 c = other-intact (c .before .before .before .before .before .before .before .before .before .before .before .before .args .settings) (c .before .before .before .before .before .before .before .before .before .before .before .before .args .counters) (c .before .before .before .before .before .before .before .before .before .before .before .before .args .lookup) (frameOf 1 (now (c .before .before .before .before .before .before .before .before .before .before .before .before .args .frame)) (c .before .before .before .before .before .before .before .before .before .before .before .before .args .decoded)) (fit-of (now (c .before .before .before .before .before .before .before .before .before .before .before .before .args .frame)) (c .before .before .before .before .before .before .before .before .before .before .before .before .args .decoded) (c .before .before .before .before .before .before .before .match .keys2) (c .before .before .before .before .before .before .before .before .before .before .before .before .pre .1 .1 .0)) _ _ _ _ _ _ (c .before .before .before .before .run-due-then-answer .ensures)
 
 pub on-decoded-spec : {M : Type 1} → statement M
 on-decoded-spec =

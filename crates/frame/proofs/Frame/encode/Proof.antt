@@ -15,7 +15,7 @@ returns-4 : tie.Need-returns-4
 returns-4 c = rw (c .before .before .before .before .before .self4 .given .1) (c .before .before .bound .ensures)
 
 returns-5 : tie.Need-returns-5
-returns-5 c = rw (c .before .before .before .before .before .self5 .given .1) (c .before .before .encode-batch .ensures)
+returns-5 c = rw (c .before .before .before .before .before .self5 .given .1) (c .before .before .batch .ensures)
 
 returns-6 : tie.Need-returns-6
 returns-6 c = rw (c .before .before .before .before .before .self6 .given .1) (c .before .before .ack .ensures _)

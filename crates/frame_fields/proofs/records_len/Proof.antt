@@ -14,18 +14,18 @@ use Rattle.model_frame.proofs.Sound.{record-canon}
 use Rattle.base_laws.proofs.Runs.{run-fault}
 use Rattle.base_laws.proofs.StandsAt.{run-stands, run-past, run-forward}
 use Rattle.frame_op.specs.Answers.{resEnd}
-use Rattle.frame_writer.proofs.records_len.Statement.{statement}
-use Rattle.frame_writer.proofs.records_len.Tie as tie
+use Rattle.frame_fields.proofs.records_len.Statement.{statement}
+use Rattle.frame_fields.proofs.records_len.Tie as tie
 
 -- what is known once the run has been skipped
 abbrev bufOf : tie.After-d → List ℕ
-bufOf k = now (k .before .before .before .before .args .src)
+bufOf k = now (k .before .before .before .before .args .buf)
 
 abbrev atOf : tie.After-d → ℕ
-atOf k = k .before .before .before .before .args .run .at
+atOf k = k .before .before .before .before .args .cursor .at
 
 abbrev countOf : tie.After-d → ℕ
-countOf k = k .before .before .before .before .args .run .count
+countOf k = k .before .before .before .before .args .count
 
 abbrev endOf : tie.After-d → ℕ
 endOf k = k .d .given .0 .0 .at
@@ -36,8 +36,8 @@ known k = are-bytes (bufOf k) (λ i. k .before .before .before .shared-slice-kno
 ended : (k : tie.After-d) → ok tt (drop (endOf k) (bufOf k)) ≡ forget (many (countOf k) readAppRecord (drop (atOf k) (bufOf k)))
 ended k = sym (ap (resEnd _) (k .d .given .1)) ∙ k .before .before .app-records-end .ensures
 
-sub-t12 : tie.Need-sub-t12
-sub-t12 c =
+sub-t10 : tie.Need-sub-t10
+sub-t10 c =
     let k = c .before .before .before in
     let f = run-forward readAppRecord appRecordBytes (λ r. RangedRecord r × ByteRecord r) record-canon (countOf k) (bufOf k) (atOf k) (endOf k) (known k) (ended k) (c .before .bytes-left .ensures) (c .bytes-left2 .ensures) in
     search needs
@@ -59,6 +59,6 @@ records-len-spec =
     (λ c. search needs)
     (λ c κs. search needs)
     (λ c κs. search needs)
-    sub-t12
+    sub-t10
     returns
     returns-2)
