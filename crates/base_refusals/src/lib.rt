@@ -1,4 +1,4 @@
-// Document 01's refusals by their numbers, "Turned down, by operation".
+// Document 01's refusals by their numbers, "Turned down, by operation", and one number of the store's own.
 
 // Body length too great; in writing, body too long.
 pub const TOO_LONG: u8 = 1;
@@ -77,3 +77,6 @@ pub const RULES_BROKEN: u8 = 25;
 
 // Not just one whole frame; of a line: bad digit, odd, empty or long, or not just one whole frame.
 pub const NOT_ONE_FRAME: u8 = 26;
+
+// An outgoing number that can't be recorded: below the next one, or 2^64 - 1. The documents, whose numbers are 1 to 39, have none for it.
+pub const NUMBER_NOT_RECORDED: u8 = 40;

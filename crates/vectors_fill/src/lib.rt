@@ -62,8 +62,8 @@ pub fn record_made(
     room: &mut [u8],
 ) {
     if len <= room.len() {
-        let seq = c_store::store_next_outgoing(words, bytes, shape, place);
-        count_on(&mut room[0..len], seq);
+        let next = c_store::store_next_outgoing(words, bytes, shape, place);
+        count_on(&mut room[0..len], next.value);
         record(words, bytes, shape, place, &room[0..len]);
     }
 }
