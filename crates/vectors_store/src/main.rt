@@ -63,7 +63,7 @@ fn put_hash(hash: u64) {
 // Records the first len bytes of a text.
 fn record_front(words: &mut [u64], bytes: &mut [u8], shape: Shape, text: &[u8], len: usize) {
     if len <= text.len() {
-        c_store::store_record(words, bytes, shape, 0, &text[0..len]);
+        c_changes::store_record(words, bytes, shape, 0, &text[0..len]);
     }
 }
 
@@ -147,7 +147,7 @@ fn make(words: &mut [u64], bytes: &mut [u8], cap: u32, max: u32) -> Shape {
 fn record_none(words: &mut [u64], bytes: &mut [u8], shape: Shape, skip: u32) {
     let next = c_store::store_next_outgoing(words, bytes, shape, 0);
     let seq = wrapping_add_u64(next.value, skip as u64);
-    c_store::store_record_none(words, bytes, shape, 0, seq);
+    c_changes::store_record_none(words, bytes, shape, 0, seq);
 }
 
 fn put_last_outgoing(words: &[u64], bytes: &[u8], shape: Shape, n: u32) {
@@ -178,7 +178,7 @@ fn command(line: &[u8], words: &mut [u64], bytes: &mut [u8], shape: Shape) -> Sh
         b'r' => record_many(words, bytes, shape, a.value as usize, b.value),
         b'g' => record_none(words, bytes, shape, a.value),
         b'z' => {
-            c_store::store_reset(words, bytes, shape, 0);
+            c_changes::store_reset(words, bytes, shape, 0);
         }
         b'p' => {
             c_store::store_take_over(words, bytes, shape, 0, a.value as u64);

@@ -2,9 +2,9 @@ use borrow.Author.Needs.{needs}
 use borrow.Author.Tests.{not-true, not-false}
 use native.Mathlib.Omega.{arith}
 use mathlib.Core.Path.{sym, _∙_}
 use Rattle.c_store.proofs.Laws.{used, unfit, cannot, made-both, by-test}
-use Rattle.c_store.proofs.store_set_marks.Statement.{statement}
-use Rattle.c_store.proofs.store_set_marks.Tie as tie
+use Rattle.c_changes.proofs.store_set_marks.Statement.{statement}
+use Rattle.c_changes.proofs.store_set_marks.Tie as tie
 
 returns : tie.Need-returns
 returns c = unfit (c .before .in-use .ensures) (not-true _ (c .if1 .taken))

@@ -1,9 +1,9 @@
 use borrow.Author.Needs.{needs}
 use borrow.Author.Tests.{not-true, not-false}
 use native.Mathlib.Omega.{arith}
 use Rattle.c_store.proofs.Laws.{used, unfit, cannot, made-words, next-is, below-next, past-top, a-number}
-use Rattle.c_store.proofs.store_record_none.Statement.{statement}
-use Rattle.c_store.proofs.store_record_none.Tie as tie
+use Rattle.c_changes.proofs.store_record_none.Statement.{statement}
+use Rattle.c_changes.proofs.store_record_none.Tie as tie
 
 returns : tie.Need-returns
 returns c = unfit (c .before .in-use .ensures) (not-true _ (c .if1 .taken))
