@@ -18,17 +18,24 @@ struct Listed {
     bytes: usize,
 }
 
+/// A refusal by its number, or 0 and the value.
+#[repr(C)]
+struct StoreAnswer {
+    refusal: u8,
+    value: u64,
+}
+
 extern "C" {
-    fn store_make(w: *mut u64, wl: usize, b: *const u8, bl: usize, shape: Shape) -> u32;
+    fn store_make(w: *mut u64, wl: usize, b: *const u8, bl: usize, shape: Shape) -> u8;
     #[allow(clippy::too_many_arguments)]
     fn store_open(
         w: *mut u64, wl: usize, b: *mut u8, bl: usize, shape: Shape,
         begin: *const u8, beginl: usize, sender: *const u8, senderl: usize,
         target: *const u8, targetl: usize, suffix: *const u8, suffixl: usize,
-    ) -> u64;
+    ) -> StoreAnswer;
     fn store_record(
         w: *mut u64, wl: usize, b: *mut u8, bl: usize, shape: Shape, i: usize, text: *const u8, textl: usize,
-    ) -> u32;
+    ) -> u8;
     #[allow(clippy::too_many_arguments)]
     fn wz_resend(
         w: *const u64, wl: usize, b: *const u8, bl: usize, ranges: *const u64, rl: usize, entries: *mut u64, el: usize,
@@ -75,7 +82,8 @@ impl Store {
             let key = [b"FIX.4.4".as_slice(), b"A", b"B", b""];
             let part = |i: usize| (key[i].as_ptr(), key[i].len());
             let ((k0, l0), (k1, l1), (k2, l2), (k3, l3)) = (part(0), part(1), part(2), part(3));
-            assert_eq!(store_open(w, words, b, bytes, shape, k0, l0, k1, l1, k2, l2, k3, l3), 0);
+            let opened = store_open(w, words, b, bytes, shape, k0, l0, k1, l1, k2, l2, k3, l3);
+            assert_eq!((opened.refusal, opened.value), (0, 0));
             for _ in 0..MESSAGES + 1000 {
                 assert_eq!(store_record(w, words, b, bytes, shape, 0, [7u8; LENGTH].as_ptr(), LENGTH), 0);
             }

@@ -12,33 +12,56 @@ struct Shape {
     messages: u32,
 }
 
+/// A refusal by its number, or 0 and the value.
+#[repr(C)]
+#[derive(Clone, Copy, Debug, PartialEq, Eq)]
+struct StoreAnswer {
+    refusal: u8,
+    value: u64,
+}
+
+impl StoreAnswer {
+    fn value(self) -> u64 {
+        assert_eq!(self.refusal, 0);
+        self.value
+    }
+}
+
 extern "C" {
-    fn store_make(w: *mut u64, wl: usize, b: *const u8, bl: usize, shape: Shape) -> u32;
+    fn store_make(w: *mut u64, wl: usize, b: *const u8, bl: usize, shape: Shape) -> u8;
     #[allow(clippy::too_many_arguments)]
     fn store_open(
         w: *mut u64, wl: usize, b: *mut u8, bl: usize, shape: Shape,
         begin: *const u8, beginl: usize, sender: *const u8, senderl: usize,
         target: *const u8, targetl: usize, suffix: *const u8, suffixl: usize,
-    ) -> u64;
+    ) -> StoreAnswer;
     fn store_record(
         w: *mut u64, wl: usize, b: *mut u8, bl: usize, shape: Shape,
         i: usize, text: *const u8, textl: usize,
-    ) -> u32;
+    ) -> u8;
     fn store_record_none(
         w: *mut u64, wl: usize, b: *const u8, bl: usize, shape: Shape, i: usize, seq: u64,
-    ) -> u32;
-    fn store_reset(w: *mut u64, wl: usize, b: *const u8, bl: usize, shape: Shape, i: usize) -> u32;
+    ) -> u8;
+    fn store_reset(w: *mut u64, wl: usize, b: *const u8, bl: usize, shape: Shape, i: usize) -> u8;
     fn store_take_over(
         w: *mut u64, wl: usize, b: *mut u8, bl: usize, shape: Shape, i: usize, lag: u64,
-    ) -> u32;
-    fn store_next_outgoing(w: *const u64, wl: usize, b: *const u8, bl: usize, shape: Shape, i: usize) -> u64;
+    ) -> u8;
+    fn store_set_created_at(
+        w: *mut u64, wl: usize, b: *mut u8, bl: usize, shape: Shape, i: usize, text: *const u8, textl: usize,
+    ) -> u8;
+    fn store_set_marks(
+        w: *mut u64, wl: usize, b: *mut u8, bl: usize, shape: Shape, i: usize, text: *const u8, textl: usize,
+    ) -> u8;
+    fn store_next_outgoing(w: *const u64, wl: usize, b: *const u8, bl: usize, shape: Shape, i: usize) -> StoreAnswer;
     fn store_last_outgoing(
         w: *const u64, wl: usize, b: *const u8, bl: usize, shape: Shape, i: usize, n: u64,
-    ) -> u64;
-    fn store_count(w: *const u64, wl: usize, b: *const u8, bl: usize, shape: Shape, i: usize) -> u64;
+    ) -> StoreAnswer;
+    fn store_count(w: *const u64, wl: usize, b: *const u8, bl: usize, shape: Shape, i: usize) -> StoreAnswer;
     fn store_fnv(h: u64, s: *const u8, sl: usize) -> u64;
 }
 
+/// An outgoing number that can't be recorded: outside the documents' 1 to 39.
+const NUMBER_NOT_RECORDED: u8 = 40;
 const START: u64 = 0xcbf2_9ce4_8422_2325;
 
 /// The store in its two areas.
@@ -61,12 +84,12 @@ impl Ours {
         let made = unsafe { store_make(it.words.as_mut_ptr(), w, it.bytes.as_ptr(), b, shape) };
         assert_eq!(made, 0);
         for i in 0..places {
-            assert_eq!(it.open(&format!("T{i}")), u64::from(i));
+            assert_eq!(it.open(&format!("T{i}")).value(), u64::from(i));
         }
         it
     }
 
-    fn open(&mut self, target: &str) -> u64 {
+    fn open(&mut self, target: &str) -> StoreAnswer {
         unsafe {
             store_open(
                 self.words.as_mut_ptr(), self.words.len(), self.bytes.as_mut_ptr(), self.bytes.len(), self.shape,
@@ -76,7 +99,7 @@ impl Ours {
     }
 
     #[inline]
-    fn record(&mut self, i: usize, text: &[u8]) -> u32 {
+    fn record(&mut self, i: usize, text: &[u8]) -> u8 {
         unsafe {
             store_record(
                 self.words.as_mut_ptr(), self.words.len(), self.bytes.as_mut_ptr(), self.bytes.len(), self.shape,
@@ -85,27 +108,37 @@ impl Ours {
         }
     }
 
-    fn bare(&mut self, i: usize, seq: u64) -> u32 {
+    fn stamp(&mut self, i: usize, text: &[u8]) -> u8 {
+        let (w, b) = (&mut self.words, &mut self.bytes);
+        unsafe { store_set_created_at(w.as_mut_ptr(), w.len(), b.as_mut_ptr(), b.len(), self.shape, i, text.as_ptr(), text.len()) }
+    }
+
+    fn marks(&mut self, i: usize, text: &[u8]) -> u8 {
+        let (w, b) = (&mut self.words, &mut self.bytes);
+        unsafe { store_set_marks(w.as_mut_ptr(), w.len(), b.as_mut_ptr(), b.len(), self.shape, i, text.as_ptr(), text.len()) }
+    }
+
+    fn bare(&mut self, i: usize, seq: u64) -> u8 {
         unsafe { store_record_none(self.words.as_mut_ptr(), self.words.len(), self.bytes.as_ptr(), self.bytes.len(), self.shape, i, seq) }
     }
 
-    fn reset(&mut self, i: usize) -> u32 {
+    fn reset(&mut self, i: usize) -> u8 {
         unsafe { store_reset(self.words.as_mut_ptr(), self.words.len(), self.bytes.as_ptr(), self.bytes.len(), self.shape, i) }
     }
 
-    fn take_over(&mut self, i: usize, lag: u64) -> u32 {
+    fn take_over(&mut self, i: usize, lag: u64) -> u8 {
         unsafe { store_take_over(self.words.as_mut_ptr(), self.words.len(), self.bytes.as_mut_ptr(), self.bytes.len(), self.shape, i, lag) }
     }
 
-    fn next(&self, i: usize) -> u64 {
+    fn next(&self, i: usize) -> StoreAnswer {
         unsafe { store_next_outgoing(self.words.as_ptr(), self.words.len(), self.bytes.as_ptr(), self.bytes.len(), self.shape, i) }
     }
 
-    fn last(&self, i: usize, n: u64) -> u64 {
+    fn last(&self, i: usize, n: u64) -> StoreAnswer {
         unsafe { store_last_outgoing(self.words.as_ptr(), self.words.len(), self.bytes.as_ptr(), self.bytes.len(), self.shape, i, n) }
     }
 
-    fn count(&self, i: usize) -> u64 {
+    fn count(&self, i: usize) -> StoreAnswer {
         unsafe { store_count(self.words.as_ptr(), self.words.len(), self.bytes.as_ptr(), self.bytes.len(), self.shape, i) }
     }
 }
@@ -282,10 +315,10 @@ fn compare(rounds: u64) {
                 }
             }
             for (k, q) in theirs.iter().enumerate() {
-                assert_eq!(ours.next(k), q.next);
-                assert_eq!(ours.count(k), q.messages.len() as u64);
-                assert_eq!(ours.last(k, 5), q.last(5));
-                assert_eq!(ours.last(k, u64::MAX), q.last(u64::MAX));
+                assert_eq!(ours.next(k).value(), q.next);
+                assert_eq!(ours.count(k).value(), q.messages.len() as u64);
+                assert_eq!(ours.last(k, 5).value(), q.last(5));
+                assert_eq!(ours.last(k, u64::MAX).value(), q.last(u64::MAX));
             }
             calls += 1;
         }
@@ -306,19 +339,50 @@ fn compare(rounds: u64) {
         }
         let (next, count) = (ours.next(1), ours.count(1));
         let code = ours.record(0, b"abc");
-        assert!(code == 0 || ours.next(0) == u64::MAX);
+        assert!(code == 0 || (code == NUMBER_NOT_RECORDED && ours.next(0).value() == u64::MAX));
         assert_eq!((next, count), (ours.next(1), ours.count(1)));
         if code == 0 && cap >= 3 && max > 0 {
-            let seq = ours.next(0) - 1;
+            let seq = ours.next(0).value() - 1;
             let text = fnv(fnv(fnv(START, &seq.to_le_bytes()), &3u64.to_le_bytes()), b"abc");
-            assert_eq!(ours.last(0, 1), text);
+            assert_eq!(ours.last(0, 1).value(), text);
         }
         calls += 1;
     }
     println!("{calls} random calls agree with the VecDeque store");
 }
 
+/// Each refusal by its number, and both areas as they were: the first for a place that holds no session and for broken areas, before all else.
+fn refusals() {
+    let no = |refusal| StoreAnswer { refusal, value: 0 };
+    let mut ours = Ours::new(2, 20, 2);
+    assert_eq!(ours.stamp(0, b"20260101-00:00:00"), 0);
+    assert_eq!(ours.marks(0, b"PossDup"), 0);
+    assert_eq!(ours.record(0, b"abc"), 0);
+    let before = (ours.words.clone(), ours.bytes.clone());
+    assert_eq!(ours.open("T1"), StoreAnswer { refusal: 0, value: 1 });
+    assert_eq!(ours.open(""), no(5));
+    assert_eq!(ours.open("T9"), no(20));
+    assert_eq!(ours.bare(0, 1), NUMBER_NOT_RECORDED);
+    assert_eq!(ours.bare(0, u64::MAX), NUMBER_NOT_RECORDED);
+    assert_eq!(ours.stamp(0, b"today"), 6);
+    assert_eq!(ours.marks(0, &[b'A'; 65]), 7);
+    for broken in [false, true] {
+        let i = if broken { 0 } else { 2 };
+        ours.words[0] += u64::from(broken);
+        assert_eq!((ours.next(i), ours.count(i), ours.last(i, 5)), (no(25), no(25), no(25)));
+        assert_eq!((ours.record(i, b"abc"), ours.bare(i, 0), ours.reset(i), ours.take_over(i, 1)), (25, 25, 25, 25));
+        assert_eq!((ours.stamp(i, b"today"), ours.marks(i, &[b'A'; 65])), (25, 25));
+        if broken {
+            assert_eq!(ours.open(""), no(25));
+        }
+        ours.words[0] -= u64::from(broken);
+    }
+    assert!(before == (ours.words, ours.bytes));
+    println!("each refusal has its number and leaves both areas");
+}
+
 fn main() {
+    refusals();
     compare(60);
     println!("record, ns each, full store       ours   VecDeque   BTreeMap");
     for &(places, cap, max) in &[

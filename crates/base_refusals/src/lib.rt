@@ -1,4 +1,4 @@
-// Document 01's refusals by their numbers, "Turned down, by operation".
+// Document 01's refusals by their numbers, "Turned down, by operation", and one number of the store's own.
 
 // Body length too great; in writing, body too long.
 pub const TOO_LONG: u8 = 1;
@@ -88,3 +88,5 @@ pub const FALSE_LENGTH_OR_SUM: u8 = 29;
 
 // Of a message log: a number that doesn't rise.
 pub const NUMBER_NOT_RISING: u8 = 30;
+// An outgoing number that can't be recorded: below the next one, or 2^64 - 1. The documents, whose numbers are 1 to 39, have none for it.
+pub const NUMBER_NOT_RECORDED: u8 = 40;

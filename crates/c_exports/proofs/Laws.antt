@@ -1,9 +1,10 @@
 -- What the exported functions return, from what the functions that they call promise. Assumes nothing.
 use mathlib.Core.Path.{_≡_, refl, sym, ap, subst, _∙_}
-use mathlib.Core.Bool.{cond}
+use mathlib.Core.Bool.{Bool, true, false, cond}
 use mathlib.Core.List.{List}
 use mathlib.Core.Option.{Option, some}
 use Prim.Native.Nat.{ℕ, _+_, _-_, _*_, _^_, _<_, _≤_}
+use native.Mathlib.Omega.{arith}
 use borrow.Author.Tests.{lt-ltb, le-ltb, eq-eqb, ne-eqb}
 use lib.Dec.{T, ltb}
 use lib.ListN.{length, take}
@@ -31,7 +32,7 @@ use Rattle.frame.proofs.Again.{read-again}
 use Rattle.store_areas.specs.declared.Shape.{Shape}
 use Rattle.store_areas.specs.declared.Made.{Made}
 use Rattle.store_areas.specs.declared.Made.the-variants.{Ready, InvalidAreas}
-use Rattle.store_areas.specs.Areas.{Making}
+use Rattle.store_areas.specs.Areas.{roomy, madeNumber, Making}
 use Rattle.standby_state.specs.declared.Answer as code
 use Rattle.standby_state.specs.Answers.{frameBy}
 use Rattle.standby_state.specs.Answers as replies
@@ -102,16 +103,20 @@ module _ (w : List ℕ) {d : Decoded} (read : readingOf 1 w d ≡ decode 1 w) wh
 
 -- ---- making
 
+-- the code by the number of an answer to making
+by-number : (n : ℕ) (t : Bool) → n ≡ cond t 0 25 → {r : ℕ} → (n ≡ 0 → r ≡ doneCode 0) → (n ≡ 25 → r ≡ refusalCode 25 0) → r ≡ cond t (doneCode 0) (refusalCode 25 0)
+by-number n true e p q = p e
+by-number n false e p q = q e
+
+differ : _≡_ {A = ℕ} 0 25 → ⊥
+differ e = omega arith
+
 module _ {s : Shape} {w w' b : List ℕ} {d : Made} {r : ℕ} where
   pub made : Making s w w' b d → d ≡ Ready → r ≡ doneCode 0 → Makes s w w' b r
-  made m p q =
-      let h : Making s w w' b Ready = rw p at m in
-      record { answer = q ∙ rw (h .0) refl; words = h .1 ∙ rw (h .0) refl }
+  made m p q = record { answer = by-number 0 (roomy s w b) (ap madeNumber (sym p) ∙ m .answer) (λ _. q) (λ e. absurd (differ e)); words = m .words }
 
   pub unfit : Making s w w' b d → d ≡ InvalidAreas → r ≡ refusalCode 25 0 → Makes s w w' b r
-  unfit m p q =
-      let h : Making s w w' b InvalidAreas = rw p at m in
-      record { answer = q ∙ rw (h .0) refl; words = h .1 ∙ rw (h .0) refl }
+  unfit m p q = record { answer = by-number 25 (roomy s w b) (ap madeNumber (sym p) ∙ m .answer) (λ e. absurd (differ (sym e))) (λ _. q); words = m .words }
 
 -- ---- answers
 

@@ -1,46 +1,35 @@
--- A place's key and summary as parts of the byte area, the length of what is told, and the four ways that telling ends. Assumes nothing.
+-- A place's key as parts of the byte area, the length of what is told, and the ways that telling ends. Assumes nothing.
 use mathlib.Core.Path.{_≡_, refl, sym, ap, subst, subst₂, _∙_}
 use mathlib.Core.Bool.{Bool, true, false, cond}
-use mathlib.Core.List.{List, [], _∷_, _++_}
-use mathlib.Core.Option.{Option, none, some, Option·map}
-use Prim.Native.Nat.{ℕ, zero, suc, _+_, _-_, _^_, _≤_, _<_, min}
+use mathlib.Core.List.{List, _∷_, _++_}
+use mathlib.Core.Option.{Option, none, some}
+use Prim.Native.Nat.{ℕ, _+_, _-_, _≤_, _<_, min}
 use native.Mathlib.Omega.{arith}
 use borrow.Author.Tests.{le-leb, lt-leb}
 use borrow.Rule.Slice.PartMut.{midOf}
-use lib.ListN.{length, take, drop, getD, getElem?, length-take, length-append}
-use lib.Seq.{take-all, take-take, getD-take, getD-drop}
-use Rattle.model_text.specs.Printable.{isMarks}
-use Rattle.model_text.proofs.Laws.{marks-is}
+use lib.ListN.{length, take, drop, getD, length-take, length-append}
+use lib.Seq.{getD-take, getD-drop}
 use Rattle.model_frame.specs.Bytes.{write}
 use Rattle.model_frame.specs.Frame as the-frame
 use Rattle.model_frame.specs.Frame.{Key}
 use Rattle.model_frame.specs.Writing.{keyBytes, summaryBytes}
 use Rattle.model_frame.proofs.Le.{length-bytes}
 use Rattle.model_frame.proofs.Sizes.{blob-size}
-use Rattle.model_session.specs.Session.{Session, Holdable}
 use Rattle.model_session.specs.Summary.{summary}
-use Rattle.model_session.proofs.Basics.{T→true}
-use Rattle.model_session.proofs.Sending.{stamp-short}
 use Rattle.model_standby.specs.Store.{Place}
 use Rattle.model_standby.specs.Row.{isSome}
 use Rattle.base_laws.specs.Wrote.{Wrote}
 use Rattle.frame_reader.specs.declared.Span.{Span}
 use Rattle.frame_reader.specs.Answers.{spanOf}
-use Rattle.frame_fields.specs.declared.InFlight.{InFlight}
 use Rattle.frame_fields.specs.declared.SessionId.{SessionId}
 use Rattle.frame_fields.specs.declared.Summary.{Summary}
 use Rattle.frame_fields.specs.Answers.{flightOf, keyOf, summaryOf}
 use Rattle.frame_writer.specs.Encoding.{keySize, summarySize, took}
-use Rattle.store_log.proofs.Lawful.{Small}
 use Rattle.store_place.specs.Place as the-place
-use Rattle.store_place.specs.Place.{flightIs, field, placeIn}
+use Rattle.store_place.specs.Place.{field, placeIn}
 use Rattle.store_areas.specs.declared.Shape.{Shape}
-use Rattle.store_areas.specs.Areas.{allowed, Rules, SpotIn, placeAt, placesOf}
-use Rattle.store_areas.proofs.Holding.{holdable-at}
-use Rattle.store_areas.proofs.Lifting.{places-length, place-is}
-use Rattle.store_state.specs.declared.StoredSummary as the-store
-use Rattle.store_state.proofs.Reading.{lent, part-of}
-use Rattle.store_sessions.specs.Answers.{summaryIs}
+use Rattle.store_areas.specs.Areas.{inUse, Rules, SpotIn, placeAt}
+use Rattle.store_areas.proofs.Reading.{lent, part-of}
 use Rattle.c_session.specs.declared.SessionWritten
 use Rattle.c_session.specs.declared.SessionWritten.{SessionWritten}
 use Rattle.c_session.specs.Telling.{spanUpTo, flag, toldBytes, toldAt, sessionOutcome, TellsSession}
@@ -57,13 +46,6 @@ module _ (at n most : ℕ) where
   cut-long h =
       let e : most ≡ min n most = omega arith in
       ap (λ (k : ℕ). record { at = at; len = k }) e
-
--- of a text that is no longer, nothing is cut off
-cut-all : (n : ℕ) (l : List ℕ) → length (take n l) ≤ 64 → take (min n 64) l ≡ take n l
-cut-all n l h =
-    let low : min n 64 ≤ n = omega arith in
-    let all : length (take n l) ≤ min n 64 = omega (arith, length-take n l) in
-    sym (take-take (min n 64) n l low) ∙ take-all (min n 64) (take n l) all
 
 pub part-short : (b : List ℕ) (p : Span) {k : ℕ} → k ≡ length (spanOf b p) → p .len < 4294967296 → k < 4294967296
 part-short b p e h = omega (arith, e, length-take (p .len) (drop (p .at) b))
@@ -100,33 +82,6 @@ module _ (s : Shape) (i wa we ba be : ℕ) (w b : List ℕ) (at : SpotIn s i w b
         suffix = text 96 10 (ba + 96) (omega arith) (omega arith) refl ev j;
       })
       ∙ ap (λ (x : Place). x .key) (lent s i wa we ba be w b at r h)
-
--- ---- a summary
-
-module _ (s : Shape) (w b : List ℕ) (i n : ℕ) (sw : Small (2 ^ 64) w) (sb : Small 256 b) where
-  abbrev there : Session
-  there = placeAt s w b i .stored .session
-
-  pub summed : (m : the-store.StoredSummary) (f : InFlight) {t u : Span} → summaryIs b m ≡ summary there n → flightOf f ≡ flightIs (m .«in_flight»)
-      → t ≡ spanUpTo (m .«created_at» .at) (m .«created_at» .len) 64 → u ≡ spanUpTo (m .marks .at) (m .marks .len) 64
-      → summaryOf b (record { «next_outgoing» = m .«next_outgoing»; «next_incoming» = m .«next_incoming»; «in_flight» = f; «created_at» = t; marks = u; «last_outgoing» = m .«last_outgoing» })
-      ≡ summary there n
-  unfolding summaryIs summary
-  summed m f is ef et eu =
-      let ok : Holdable (s .bytes) (s .messages) there = holdable-at s w b i sw sb in
-      let stamp : take (m .«created_at» .len) (drop (m .«created_at» .at) b) ≡ there .stamp = ap (λ (x : the-frame.Summary). x .stampText) is in
-      let marked : take (m .marks .len) (drop (m .marks .at) b) ≡ there .marks = ap (λ (x : the-frame.Summary). x .marksText) is in
-      let first : length (there .stamp) ≤ 21 = stamp-short (there .stamp) (ok .stamp-ok) in
-      let second : length (there .marks) ≤ 64 = marks-is (there .marks) (T→true (isMarks (there .marks)) (ok .marks-ok)) .most in
-      (λ j. record {
-        nextOut = m .«next_outgoing»;
-        nextIn = m .«next_incoming»;
-        inFlight = ef j;
-        stampText = (ap (spanOf b) et ∙ cut-all (m .«created_at» .len) (drop (m .«created_at» .at) b) (omega (arith, ap length stamp))) j;
-        marksText = (ap (spanOf b) eu ∙ cut-all (m .marks .len) (drop (m .marks .at) b) (omega (arith, ap length marked))) j;
-        lastOutgoing = m .«last_outgoing»;
-      })
-      ∙ is
 
 -- ---- lengths
 
@@ -173,32 +128,14 @@ module _ (x : Place) (n : ℕ) (b : List ℕ) (k : SessionId) (m : Summary) {z :
 
 -- ---- any place
 
-none-there : (ps : List Place) (i : ℕ) → length ps ≤ i → getElem? ps i ≡ none
-none-there [] i h = refl
-none-there (x ∷ ps) zero h = absurd (omega arith)
-none-there (x ∷ ps) (suc i) h = none-there ps i (omega arith)
-
-module _ (s : Shape) (w b : List ℕ) (i n : ℕ) where
-  abbrev seen : Option Place → Option (List ℕ)
-  seen = Option·map (λ (x : Place). toldBytes x n)
-
-  pub in-use : allowed s w b ≡ true → i < getD w 0 0 → some (toldBytes (placeAt s w b i) n) ≡ toldAt s w b i n
+module _ (s : Shape) (w b : List ℕ) (i n : ℕ) {t : Bool} (is : t ≡ inUse s w b i) where
+  told-by : {u : Bool} → t ≡ u → cond u (some (toldBytes (placeAt s w b i) n)) none ≡ toldAt s w b i n
   unfolding toldAt
-  in-use e h = sym (ap (λ (t : Bool). cond t (seen (getElem? (placesOf s w b) i)) none) e ∙ ap seen (place-is s w b i h))
+  told-by e = ap (λ (x : Bool). cond x (some (toldBytes (placeAt s w b i) n)) none) (sym e ∙ is)
 
-  pub unused : allowed s w b ≡ true → getD w 0 0 ≤ i → none ≡ toldAt s w b i n
-  unfolding toldAt
-  unused e h =
-      sym (ap (λ (t : Bool). cond t (seen (getElem? (placesOf s w b) i)) none) e
-      ∙ ap seen (none-there (placesOf s w b) i (omega (arith, places-length s w b))))
+  pub told-there : {out out' : List ℕ} {r : SessionWritten} → t ≡ true → TellsSession (some (toldBytes (placeAt s w b i) n)) out out' r → TellsSession (toldAt s w b i n) out out' r
+  told-there {out} {out'} {r} e k = subst (λ (x : Option (List ℕ)). TellsSession x out out' r) (told-by e) k
 
-  pub broken : allowed s w b ≡ false → none ≡ toldAt s w b i n
-  unfolding toldAt
-  broken e = sym (ap (λ (t : Bool). cond t (seen (getElem? (placesOf s w b) i)) none) e)
-
-pub unfit : {bytes : Option (List ℕ)} (out : List ℕ) → none ≡ bytes → TellsSession bytes out out SessionWritten.InvalidAreas
-unfolding sessionOutcome
-unfit out e = subst (λ (x : Option (List ℕ)). TellsSession x out out SessionWritten.InvalidAreas) e (record { answer = refl; area = refl })
-
-pub told-in : {bytes bytes' : Option (List ℕ)} {out out' : List ℕ} {r : SessionWritten} → bytes ≡ bytes' → TellsSession bytes out out' r → TellsSession bytes' out out' r
-told-in {out = out} {out' = out'} {r = r} e t = subst (λ (x : Option (List ℕ)). TellsSession x out out' r) e t
+  pub unfit : {out : List ℕ} → t ≡ false → TellsSession (toldAt s w b i n) out out SessionWritten.InvalidAreas
+  unfolding sessionOutcome
+  unfit {out} e = subst (λ (x : Option (List ℕ)). TellsSession x out out SessionWritten.InvalidAreas) (told-by e) (record { answer = refl; area = refl })

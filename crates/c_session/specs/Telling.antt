@@ -3,9 +3,9 @@ use Prim.Native.Nat.{ℕ, min}
 use mathlib.Core.Path.{_≡_}
 use mathlib.Core.Bool.{Bool, cond}
 use mathlib.Core.List.{List, _∷_, _++_}
-use mathlib.Core.Option.{Option, none, some, Option·map}
+use mathlib.Core.Option.{Option, none, some}
 use lib.Dec.{leb}
-use lib.ListN.{length, getElem?}
+use lib.ListN.{length}
 use Rattle.model_frame.specs.Refusal
 use Rattle.model_frame.specs.Writing.{keyBytes, summaryBytes}
 use Rattle.model_session.specs.Summary.{summary}
@@ -14,7 +14,7 @@ use Rattle.model_standby.specs.Row.{isSome}
 use Rattle.frame_reader.specs.declared.Span.{Span}
 use Rattle.frame_writer.specs.Encoding.{WriteOutcome, wrote, refused, areaAfter, WriteAnswer, took, writeRefusal, writeAnswer}
 use Rattle.store_areas.specs.declared.Shape.{Shape}
-use Rattle.store_areas.specs.Areas.{allowed, placesOf}
+use Rattle.store_areas.specs.Areas.{inUse, placeAt}
 use Rattle.c_session.specs.declared.SessionWritten.{SessionWritten}
 use Rattle.c_session.specs.declared.SessionWritten
 
@@ -34,7 +34,7 @@ toldBytes x n =
 
 -- the bytes of the session at place i; none where the areas break the rules or the place is not in use
 unfoldable pub toldAt : Shape → List ℕ → List ℕ → ℕ → ℕ → Option (List ℕ)
-toldAt s w b i n = cond (allowed s w b) (Option·map (λ (x : Place). toldBytes x n) (getElem? (placesOf s w b) i)) none
+toldAt s w b i n = cond (inUse s w b i) (some (toldBytes (placeAt s w b i) n)) none
 
 -- 25 for none, 9 where the area has less room than the bytes take
 unfoldable pub sessionOutcome : Option (List ℕ) → ℕ → WriteOutcome

@@ -5,13 +5,11 @@ ghost use mathlib.Core.Option.{some};
 ghost use Prim.Native.Nat.{ℕ, _+_, _≤_, _<_};
 ghost use lib.ListN.{length, getD};
 ghost use Rattle.model_frame.specs.Writing.{keyBytes, summaryBytes};
-ghost use Rattle.model_session.specs.Summary.{summary};
 ghost use Rattle.model_standby.specs.Row.{isSome};
 ghost use Rattle.base_laws.specs.Wrote.{Wrote};
 ghost use Rattle.frame_reader.specs.Answers.{spanOf};
 ghost use Rattle.frame_fields.specs.Answers.{flightOf, keyOf, summaryOf};
 ghost use Rattle.frame_writer.specs.Encoding.{keySize, summarySize};
-ghost use Rattle.store_place.specs.Place.{flightIs};
 ghost use Rattle.store_areas.specs.Areas.{Rules, placeAt};
 ghost use Rattle.c_session.specs.Telling.{spanUpTo, flag, toldBytes, toldAt, TellsSession};
 use frame_fields::InFlight;
@@ -19,7 +17,6 @@ use frame_fields::SessionId;
 use frame_fields::Summary;
 use frame_reader::Span;
 use store_areas::Shape;
-use store_place::Flight;
 use store_place::byte;
 use store_place::word;
 
@@ -34,9 +31,6 @@ pub enum SessionWritten {
 
 // The most bytes of one of a key's texts.
 const KEY_TEXT_MOST: u32 = byte::KEY_TEXT_SIZE as u32;
-
-// The most bytes of a stamp or of marks.
-const TEXT_MOST: u32 = byte::MARKS_SIZE as u32;
 
 // The n bytes at a position, or the first `most` of them.
 fn span(at: usize, n: u64, most: u32) -> Span
@@ -82,38 +76,6 @@ fn key_of(words: &[u64], bytes: &[u8], shape: Shape, place: usize) -> SessionId
         sender_comp_id,
         target_comp_id,
         key_suffix,
-    }
-}
-
-fn in_flight(flight: Flight) -> InFlight
-    ensures { λ r. ⌜ flightOf r ≡ flightIs flight ⌝ }
-{
-    match flight {
-        Flight::Nothing => InFlight::Nothing,
-        Flight::Number(n) => InFlight::Seq(n),
-    }
-}
-
-// The summary of a session in use; no stamp and no marks are longer than 64 bytes.
-fn summary_of(words: &[u64], bytes: &[u8], shape: Shape, place: usize, n: u64) -> Summary
-    requires { ⌜ Rules shape (now words) (now bytes) ⌝ }
-    requires { ⌜ place < getD (now words) 0 0 ⌝ }
-    ensures { λ r. ⌜ summaryOf (now (bytes .entry)) r ≡ summary (placeAt shape (now (words .entry)) (now (bytes .entry)) place .stored .session) n ⌝ }
-{
-    let m = store_sessions::summary_of(words, bytes, shape, place, n);
-    let f = m.in_flight;
-    let t = m.created_at;
-    let u = m.marks;
-    let in_flight = in_flight(f);
-    let created_at = span(t.at, t.len as u64, TEXT_MOST);
-    let marks = span(u.at, u.len as u64, TEXT_MOST);
-    Summary {
-        next_outgoing: m.next_outgoing,
-        next_incoming: m.next_incoming,
-        in_flight,
-        created_at,
-        marks,
-        last_outgoing: m.last_outgoing,
     }
 }
 
@@ -184,9 +146,9 @@ fn write_session(
     requires { ⌜ place < getD (now words) 0 0 ⌝ }
     ensures { λ r. ⌜ TellsSession (some (toldBytes (placeAt shape (now (words .entry)) (now (bytes .entry)) place) n)) (now (out .entry)) (now (out .exit)) r ⌝ }
 {
-    let durable = store_state::durable(words, bytes, shape, place);
+    let durable = store_sessions::durable(words, bytes, shape, place);
     let k = key_of(words, bytes, shape, place);
-    let m = summary_of(words, bytes, shape, place, n);
+    let m = store_sessions::summary_of(words, bytes, shape, place, n);
     if out.len() < size(bytes, k, m) {
         return SessionWritten::NoRoom;
     }
@@ -204,10 +166,8 @@ pub fn session(
 ) -> SessionWritten
     ensures { λ r. ⌜ TellsSession (toldAt shape (now (words .entry)) (now (bytes .entry)) place n) (now (out .entry)) (now (out .exit)) r ⌝ }
 {
-    if store_areas::allowed(shape, words, bytes) {
-        if place < words[store_areas::word::USED] as usize {
-            return write_session(words, bytes, shape, place, n, out);
-        }
+    if !store_areas::in_use(words, bytes, shape, place) {
+        return SessionWritten::InvalidAreas;
     }
-    SessionWritten::InvalidAreas
+    write_session(words, bytes, shape, place, n, out)
 }

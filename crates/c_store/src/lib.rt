@@ -1,30 +1,29 @@
-// The store's operations for programs in C or Rust: each turns areas that break the rules down (25), and asks nothing of its caller.
+// The store's operations for programs in C or Rust: each turns areas that break the rules, and a place that holds no session, down before all
+// else (25), and asks nothing of its caller.
 ghost use mathlib.Core.Path.{_≡_};
-ghost use mathlib.Core.Bool.{true, _&&_};
-ghost use mathlib.Core.List.{[], _∷_};
 ghost use lib.ListN.{length};
-ghost use lib.Dec.{leb, ltb};
-ghost use Rattle.model_text.specs.Printable.{isMarks};
-ghost use Rattle.model_text.specs.Stamp.{isStamp};
-ghost use Rattle.model_frame.specs.Frame.{setIncoming, setIncomingInFlight, setInFlight, recordMsg, recordBare, reset, setCreatedAt, setMarks};
-ghost use Rattle.model_session.specs.Session.{Session, top};
+ghost use Rattle.model_session.specs.Session.{Session};
 ghost use Rattle.model_session.specs.Summary.{fnv, numberedFrom, lastOut};
-ghost use Rattle.model_standby.specs.Store.{changed, markDurable, takenOver};
+ghost use Rattle.model_standby.specs.Store.{markDurable, takenOver};
 ghost use Rattle.store_place.specs.Place.{keyFrom};
-ghost use Rattle.c_store.specs.Total.{sessionIn, Reads, MadeIs, ChangeIs, OpenIs};
+ghost use Rattle.c_store.specs.Total.{Reads, MadeIs, ChangeIs, OpenIs};
+use base_refusals::BAD_SESSION;
+use base_refusals::NO_SESSION_PLACE;
+use base_refusals::RULES_BROKEN;
 use store_areas::Made;
 use store_areas::Shape;
 use store_areas::word;
 
-// 25 as these functions answer it.
-const RULES_BROKEN: u32 = base_refusals::RULES_BROKEN as u32;
-
-// A change that can't be made.
-const NOT_MADE: u32 = 2;
+// A refusal by its number, or 0 and the value.
+#[repr(C)]
+pub struct StoreAnswer {
+    pub refusal: u8,
+    pub value: u64,
+}
 
 // Makes a store without sessions.
 #[no_mangle]
-pub extern "C" fn store_make(words: &mut [u64], bytes: &[u8], shape: Shape) -> u32
+pub extern "C" fn store_make(words: &mut [u64], bytes: &[u8], shape: Shape) -> u8
     ensures { λ r. ⌜ MadeIs shape (now (words .entry)) (now (words .exit)) (now (bytes .entry)) r ⌝ }
 {
     match store_areas::make(shape, words, bytes) {
@@ -33,7 +32,7 @@ pub extern "C" fn store_make(words: &mut [u64], bytes: &[u8], shape: Shape) -> u
     }
 }
 
-// Opens the session of a key if it has none, and answers its place; 2^64 - 1 if that can't be.
+// Opens the session of a key if it has none, and answers its place: 5 for what is no key, 20 where every place is taken.
 #[no_mangle]
 pub extern "C" fn store_open(
     words: &mut [u64],
@@ -43,27 +42,42 @@ pub extern "C" fn store_open(
     sender: &[u8],
     target: &[u8],
     suffix: &[u8],
-) -> u64
+) -> StoreAnswer
     ensures { λ r. ⌜ OpenIs shape (keyFrom (now (begin .entry)) (now (sender .entry)) (now (target .entry)) (now (suffix .entry))) (now (words .entry)) (now (words .exit)) (now (bytes .entry)) (now (bytes .exit)) r ⌝ }
 {
     if !store_areas::allowed(shape, words, bytes) {
-        return u64::MAX;
+        return StoreAnswer {
+            refusal: RULES_BROKEN,
+            value: 0,
+        };
     }
     if !frame_stamp::is_key(begin, sender, target, suffix) {
-        return u64::MAX;
+        return StoreAnswer {
+            refusal: BAD_SESSION,
+            value: 0,
+        };
     }
     let i = store_sessions::place_of(words, bytes, shape, begin, sender, target, suffix);
     if (i as u64) < words[word::USED] {
-        return i as u64;
+        return StoreAnswer {
+            refusal: 0,
+            value: i as u64,
+        };
     }
     if shape.places as u64 <= words[word::USED] {
-        return u64::MAX;
+        return StoreAnswer {
+            refusal: NO_SESSION_PLACE,
+            value: 0,
+        };
     }
     store_sessions::open(words, bytes, shape, begin, sender, target, suffix);
-    i as u64
+    StoreAnswer {
+        refusal: 0,
+        value: i as u64,
+    }
 }
 
-// ---- reading: 0 for a session that isn't stored
+// ---- reading
 
 #[no_mangle]
 pub extern "C" fn store_next_outgoing(
@@ -71,13 +85,17 @@ pub extern "C" fn store_next_outgoing(
     bytes: &[u8],
     shape: Shape,
     place: usize,
-) -> u64
+) -> StoreAnswer
     ensures { λ r. ⌜ Reads shape (now (words .entry)) (now (bytes .entry)) place (λ x. x .nextOut) r ⌝ }
 {
     if !store_areas::in_use(words, bytes, shape, place) {
-        return 0;
+        return StoreAnswer {
+            refusal: RULES_BROKEN,
+            value: 0,
+        };
     }
-    store_state::next_outgoing(words, bytes, shape, place)
+    let value = store_sessions::next_outgoing(words, bytes, shape, place);
+    StoreAnswer { refusal: 0, value }
 }
 
 // The hash of the newest n numbers' messages.
@@ -88,177 +106,43 @@ pub extern "C" fn store_last_outgoing(
     shape: Shape,
     place: usize,
     n: u64,
-) -> u64
+) -> StoreAnswer
     ensures { λ r. ⌜ Reads shape (now (words .entry)) (now (bytes .entry)) place (λ x. lastOut x n) r ⌝ }
 {
     if !store_areas::in_use(words, bytes, shape, place) {
-        return 0;
+        return StoreAnswer {
+            refusal: RULES_BROKEN,
+            value: 0,
+        };
     }
-    store_sessions::last_outgoing(words, bytes, shape, place, n)
+    let value = store_sessions::last_outgoing(words, bytes, shape, place, n);
+    StoreAnswer { refusal: 0, value }
 }
 
 // How many messages are stored: every stored number is from 1.
 #[no_mangle]
-pub extern "C" fn store_count(words: &[u64], bytes: &[u8], shape: Shape, place: usize) -> u64
+pub extern "C" fn store_count(
+    words: &[u64],
+    bytes: &[u8],
+    shape: Shape,
+    place: usize,
+) -> StoreAnswer
     ensures { λ r. ⌜ Reads shape (now (words .entry)) (now (bytes .entry)) place (λ x. length (numberedFrom 1 (x .messages))) r ⌝ }
 {
     if !store_areas::in_use(words, bytes, shape, place) {
-        return 0;
+        return StoreAnswer {
+            refusal: RULES_BROKEN,
+            value: 0,
+        };
     }
     let c = store_sessions::messages_from(words, bytes, shape, place, 1);
-    c.left as u64
+    StoreAnswer {
+        refusal: 0,
+        value: c.left as u64,
+    }
 }
 
-// ---- the eight changes, the durable mark, promotion: 0, 25, or 2 for a change that can't be made
-
-#[no_mangle]
-pub extern "C" fn store_set_next_incoming(
-    words: &mut [u64],
-    bytes: &[u8],
-    shape: Shape,
-    place: usize,
-    seq: u64,
-) -> u32
-    ensures { λ r. ⌜ ChangeIs shape place true (changed (shape .bytes) (shape .messages) (setIncoming seq ∷ [])) (now (words .entry)) (now (words .exit)) (now (bytes .entry)) (now (bytes .entry)) r ⌝ }
-{
-    if !store_areas::in_use(words, bytes, shape, place) {
-        return RULES_BROKEN;
-    }
-    store_state::set_next_incoming(words, bytes, shape, place, seq);
-    0
-}
-
-#[no_mangle]
-pub extern "C" fn store_set_next_incoming_in_flight(
-    words: &mut [u64],
-    bytes: &[u8],
-    shape: Shape,
-    place: usize,
-    seq: u64,
-    in_flight: u64,
-) -> u32
-    ensures { λ r. ⌜ ChangeIs shape place true (changed (shape .bytes) (shape .messages) (setIncomingInFlight seq «in_flight» ∷ [])) (now (words .entry)) (now (words .exit)) (now (bytes .entry)) (now (bytes .entry)) r ⌝ }
-{
-    if !store_areas::in_use(words, bytes, shape, place) {
-        return RULES_BROKEN;
-    }
-    store_state::set_next_incoming_in_flight(words, bytes, shape, place, seq, in_flight);
-    0
-}
-
-#[no_mangle]
-pub extern "C" fn store_set_in_flight(
-    words: &mut [u64],
-    bytes: &[u8],
-    shape: Shape,
-    place: usize,
-    seq: u64,
-) -> u32
-    ensures { λ r. ⌜ ChangeIs shape place true (changed (shape .bytes) (shape .messages) (setInFlight seq ∷ [])) (now (words .entry)) (now (words .exit)) (now (bytes .entry)) (now (bytes .entry)) r ⌝ }
-{
-    if !store_areas::in_use(words, bytes, shape, place) {
-        return RULES_BROKEN;
-    }
-    store_state::set_in_flight(words, bytes, shape, place, seq);
-    0
-}
-
-// A Record of the next outgoing number with this message; 2 if no number is left.
-#[no_mangle]
-pub extern "C" fn store_record(
-    words: &mut [u64],
-    bytes: &mut [u8],
-    shape: Shape,
-    place: usize,
-    text: &[u8],
-) -> u32
-    ensures { λ r. ⌜ ChangeIs shape place (ltb (sessionIn shape (now (words .entry)) (now (bytes .entry)) place .nextOut) top) (changed (shape .bytes) (shape .messages) (recordMsg (sessionIn shape (now (words .entry)) (now (bytes .entry)) place .nextOut) (now (text .entry)) ∷ [])) (now (words .entry)) (now (words .exit)) (now (bytes .entry)) (now (bytes .exit)) r ⌝ }
-{
-    if !store_areas::in_use(words, bytes, shape, place) {
-        return RULES_BROKEN;
-    }
-    let seq = store_state::next_outgoing(words, bytes, shape, place);
-    if seq == u64::MAX {
-        return NOT_MADE;
-    }
-    store_state::record(words, bytes, shape, place, seq, text);
-    0
-}
-
-// A Record without message; 2 for a number below the next outgoing one or 2^64 - 1.
-#[no_mangle]
-pub extern "C" fn store_record_none(
-    words: &mut [u64],
-    bytes: &[u8],
-    shape: Shape,
-    place: usize,
-    seq: u64,
-) -> u32
-    ensures { λ r. ⌜ ChangeIs shape place (leb (sessionIn shape (now (words .entry)) (now (bytes .entry)) place .nextOut) seq && ltb seq top) (changed (shape .bytes) (shape .messages) (recordBare seq ∷ [])) (now (words .entry)) (now (words .exit)) (now (bytes .entry)) (now (bytes .entry)) r ⌝ }
-{
-    if !store_areas::in_use(words, bytes, shape, place) {
-        return RULES_BROKEN;
-    }
-    if seq == u64::MAX {
-        return NOT_MADE;
-    }
-    if seq < store_state::next_outgoing(words, bytes, shape, place) {
-        return NOT_MADE;
-    }
-    store_state::record_none(words, bytes, shape, place, seq);
-    0
-}
-
-#[no_mangle]
-pub extern "C" fn store_reset(words: &mut [u64], bytes: &[u8], shape: Shape, place: usize) -> u32
-    ensures { λ r. ⌜ ChangeIs shape place true (changed (shape .bytes) (shape .messages) (reset ∷ [])) (now (words .entry)) (now (words .exit)) (now (bytes .entry)) (now (bytes .entry)) r ⌝ }
-{
-    if !store_areas::in_use(words, bytes, shape, place) {
-        return RULES_BROKEN;
-    }
-    store_state::reset(words, bytes, shape, place);
-    0
-}
-
-#[no_mangle]
-pub extern "C" fn store_set_created_at(
-    words: &mut [u64],
-    bytes: &mut [u8],
-    shape: Shape,
-    place: usize,
-    text: &[u8],
-) -> u32
-    ensures { λ r. ⌜ ChangeIs shape place (isStamp (now (text .entry))) (changed (shape .bytes) (shape .messages) (setCreatedAt (now (text .entry)) ∷ [])) (now (words .entry)) (now (words .exit)) (now (bytes .entry)) (now (bytes .exit)) r ⌝ }
-{
-    if !store_areas::in_use(words, bytes, shape, place) {
-        return RULES_BROKEN;
-    }
-    if !frame_stamp::is_stamp(text) {
-        return NOT_MADE;
-    }
-    store_state::set_created_at(words, bytes, shape, place, text);
-    0
-}
-
-#[no_mangle]
-pub extern "C" fn store_set_marks(
-    words: &mut [u64],
-    bytes: &mut [u8],
-    shape: Shape,
-    place: usize,
-    text: &[u8],
-) -> u32
-    ensures { λ r. ⌜ ChangeIs shape place (isMarks (now (text .entry))) (changed (shape .bytes) (shape .messages) (setMarks (now (text .entry)) ∷ [])) (now (words .entry)) (now (words .exit)) (now (bytes .entry)) (now (bytes .exit)) r ⌝ }
-{
-    if !store_areas::in_use(words, bytes, shape, place) {
-        return RULES_BROKEN;
-    }
-    if !frame_stamp::is_marks(text) {
-        return NOT_MADE;
-    }
-    store_state::set_marks(words, bytes, shape, place, text);
-    0
-}
+// ---- the durable mark, promotion: 0, or a refusal
 
 #[no_mangle]
 pub extern "C" fn store_mark_durable(
@@ -266,16 +150,17 @@ pub extern "C" fn store_mark_durable(
     bytes: &[u8],
     shape: Shape,
     place: usize,
-) -> u32
-    ensures { λ r. ⌜ ChangeIs shape place true markDurable (now (words .entry)) (now (words .exit)) (now (bytes .entry)) (now (bytes .entry)) r ⌝ }
+) -> u8
+    ensures { λ r. ⌜ ChangeIs shape place 0 markDurable (now (words .entry)) (now (words .exit)) (now (bytes .entry)) (now (bytes .entry)) r ⌝ }
 {
     if !store_areas::in_use(words, bytes, shape, place) {
         return RULES_BROKEN;
     }
-    store_state::mark_durable(words, bytes, shape, place);
+    store_areas::mark_durable(words, shape, place);
     0
 }
 
+// Promotion's work on one session.
 #[no_mangle]
 pub extern "C" fn store_take_over(
     words: &mut [u64],
@@ -283,13 +168,13 @@ pub extern "C" fn store_take_over(
     shape: Shape,
     place: usize,
     lag: u64,
-) -> u32
-    ensures { λ r. ⌜ ChangeIs shape place true (takenOver lag) (now (words .entry)) (now (words .exit)) (now (bytes .entry)) (now (bytes .exit)) r ⌝ }
+) -> u8
+    ensures { λ r. ⌜ ChangeIs shape place 0 (takenOver lag) (now (words .entry)) (now (words .exit)) (now (bytes .entry)) (now (bytes .exit)) r ⌝ }
 {
     if !store_areas::in_use(words, bytes, shape, place) {
         return RULES_BROKEN;
     }
-    store_state::take_over(words, bytes, shape, place, lag);
+    store_sessions::take_over(words, bytes, shape, place, lag);
     0
 }
 

@@ -12,7 +12,7 @@ use Rattle.model_standby.specs.Store.{Place, sameKey}
 use Rattle.store_place.specs.Place.{field, storedKey, keyFrom, placeIn}
 use Rattle.store_areas.specs.declared.Shape.{Shape}
 use Rattle.store_areas.specs.Areas.{Rules, SpotIn, placeAt}
-use Rattle.store_state.proofs.Reading.{lent, part-of}
+use Rattle.store_areas.proofs.Reading.{lent, part-of}
 use Rattle.standby_ahead.specs.Ahead.{cut, KeyIs}
 
 cuts : (b : List ℕ) (a n : ℕ) → cut a (a + n) b ≡ take n (drop a b)

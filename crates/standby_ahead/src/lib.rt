@@ -142,7 +142,7 @@ fn has_number(
     requires { ⌜ i < getD (now words) 0 0 ⌝ }
     ensures { λ r. ⌜ r ≡ hasNumber (keyFrom (now (begin .entry)) (now (sender .entry)) (now (target .entry)) (now (suffix .entry))) n (placeAt shape (now (words .entry)) (now (bytes .entry)) i) ⌝ }
 {
-    if store_state::next_outgoing(words, bytes, shape, i) < n {
+    if store_sessions::next_outgoing(words, bytes, shape, i) < n {
         return false;
     }
     let p = store_areas::spot_in(words, bytes, shape, i);
@@ -293,7 +293,7 @@ fn is_ahead_at(
     let c_end = k.target_end;
     let d = k.suffix;
     let d_end = k.suffix_end;
-    let n = store_state::next_outgoing(their_words, their_bytes, their_shape, p);
+    let n = store_sessions::next_outgoing(their_words, their_bytes, their_shape, p);
     reaches(
         words,
         bytes,

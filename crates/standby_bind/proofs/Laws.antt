@@ -1,44 +1,37 @@
--- A text cut to 64 bytes is a session's; a session is there or is opened; each way through Bind is the definition's. Assumes nothing.
+-- What a Bound says of a session; a session is there or is opened; each way through Bind is the definition's. Assumes nothing.
 use mathlib.Core.Path.{_≡_, refl, sym, ap, subst, _∙_}
 use mathlib.Core.Bool.{Bool, true, false, cond, not, _||_, true≢false}
 use mathlib.Core.List.{List, [], _∷_, _++_, map}
 use mathlib.Core.Option.{Option, none, some, Option·map}
-use Prim.Native.Nat.{ℕ, _+_, _*_, _-_, _^_, _<_, _≤_, min}
+use Prim.Native.Nat.{ℕ, _+_, _*_, _<_, _≤_}
 use native.Mathlib.Omega.{arith}
 use lib.ListN.{length, getD, set, take, drop, getElem?, length-set, length-take}
-use lib.Seq.{take-all, take-take, drop-set-lt, getD-set-same, getD-set-other}
+use lib.Seq.{take-take, drop-set-lt, getD-set-same, getD-set-other}
 use lib.Dec.{ltb}
 use borrow.Author.Tests.{lt-ltb, le-ltb, ltb-true, not-true, not-false}
-use Rattle.model_text.specs.Printable.{isMarks}
-use Rattle.model_text.proofs.Laws.{marks-is}
 use Rattle.model_frame.specs.Frame.{Key, bound, nack, staleEpoch, lagTooGreat}
 use Rattle.model_frame.specs.Frame as the-frame
-use Rattle.model_session.specs.Session.{Session, Holdable}
+use Rattle.model_session.specs.Session.{Session}
 use Rattle.model_session.specs.Summary.{summary}
-use Rattle.model_session.proofs.Basics.{T→true, some-inj}
-use Rattle.model_session.proofs.Sending.{stamp-short}
+use Rattle.model_session.proofs.Basics.{some-inj}
 use Rattle.model_standby.specs.Row.{isSome}
 use Rattle.model_standby.specs.Store.{Place, placeOf, isStored, sessionAt, orNew, newPlace, opened}
 use Rattle.model_standby.specs.Answer.{reply}
 use Rattle.model_standby.specs.State.{newBound}
 use Rattle.model_standby.specs.Core.{Core, CoreResult, leave, store, coreSays, coreRefuse, coreBind}
 use Rattle.model_standby.proofs.Places.{place-low}
-use Rattle.frame_reader.specs.declared.Span.{Span}
 use Rattle.frame_reader.specs.Answers.{spanOf}
 use Rattle.frame_fields.specs.declared.SessionId.{SessionId}
-use Rattle.frame_fields.specs.Answers.{keyOf}
+use Rattle.frame_fields.specs.declared.Summary.{Summary}
+use Rattle.frame_fields.specs.Answers.{keyOf, flightOf, summaryOf}
 use Rattle.frame_op.specs.Answers.{heldRun}
-use Rattle.store_log.proofs.Lawful.{Small}
 use Rattle.store_place.specs.Only.{Only}
-use Rattle.store_place.specs.Place.{flightIs, keyFrom}
+use Rattle.store_place.specs.Place.{keyFrom}
 use Rattle.store_areas.specs.declared.Shape.{Shape}
 use Rattle.store_areas.specs.Areas.{placeWords, wordsAt, Rules, placeAt, placesOf}
 use Rattle.store_areas.proofs.Lists.{word-kept}
 use Rattle.store_areas.proofs.Lifting.{places-length, place-is, session-is}
-use Rattle.store_areas.proofs.Holding.{holdable-at}
-use Rattle.store_state.specs.declared.Text.{Text}
-use Rattle.store_state.specs.declared.StoredSummary.{StoredSummary}
-use Rattle.store_sessions.specs.Answers.{Opened, summaryIs}
+use Rattle.store_sessions.specs.Answers.{Opened}
 use Rattle.store_sessions.proofs.Opening.{opened-rules}
 use Rattle.standby_changes.proofs.Held.{held-none}
 use Rattle.standby_pending.specs.Pending.{countOf, commitOf, pendingOf}
@@ -53,78 +46,42 @@ use Rattle.standby_state.specs.declared.Settings.{Settings}
 use Rattle.standby_state.specs.declared.BoundSummary.{BoundSummary}
 use Rattle.standby_state.specs.declared.Answer.{Answer}
 use Rattle.standby_state.specs.declared.Outcome.{Outcome}
-use Rattle.standby_state.specs.Answers.{answerOf, briefOf, isRefused, isNack, isBound}
+use Rattle.standby_state.specs.Answers.{answerOf, briefOf, noBrief, isRefused, isNack, isBound}
 use Rattle.standby_state.specs.Outcomes.{countersOf, settingsOf, areaAt, leaving, storing}
 use Rattle.standby_hello.proofs.Laws.{leaving-lands}
-use Rattle.standby_bind.specs.Binding.{textSpan, numberIn, newHandle, roomFor, BindOpens, BindIs}
+use Rattle.standby_bind.specs.Binding.{TextsLie, numberIn, newHandle, roomFor, BindOpens, BindIs}
 
--- ---- texts
-
-pub cut-short : (t : Text) → t .len < 64 → record { at = t .at; len = t .len } ≡ textSpan t
-cut-short t h =
-    let e : t .len ≡ min (t .len) 64 = omega arith in
-    ap (λ (n : ℕ). record { at = t .at; len = n }) e
-
-pub cut-long : (t : Text) → 64 ≤ t .len → record { at = t .at; len = 64 } ≡ textSpan t
-cut-long t h =
-    let e : _≡_ {A = ℕ} 64 (min (t .len) 64) = omega arith in
-    ap (λ (n : ℕ). record { at = t .at; len = n }) e
-
--- of a text that is no longer, nothing is cut off
-cut-all : (n : ℕ) (l : List ℕ) → length (take n l) ≤ 64 → take (min n 64) l ≡ take n l
-cut-all n l h =
-    let low : min n 64 ≤ n = omega arith in
-    let all : length (take n l) ≤ min n 64 = omega (arith, length-take n l) in
-    sym (take-take (min n 64) n l low) ∙ take-all (min n 64) (take n l) all
+-- ---- what a Bound says
 
 flown : (o : Option ℕ) → cond (isSome o) (some (numberIn o)) none ≡ o
 flown none = refl
 flown (some n) = refl
 
--- ---- what a Bound says
-
-module _ (s : Shape) (w b : List ℕ) (i n : ℕ) (sw : Small (2 ^ 64) w) (sb : Small 256 b) where
-  abbrev there : Session
-  there = placeAt s w b i .stored .session
-
-  pub brief-is : (m : StoredSummary) {flies : Bool} {f : ℕ} {at marks : Span} → summaryIs b m ≡ summary there n → flies ≡ isSome (flightIs (m .«in_flight»)) → f ≡ numberIn (flightIs (m .«in_flight»))
-      → at ≡ textSpan (m .«created_at») → marks ≡ textSpan (m .marks)
+module _ (b : List ℕ) (m : Summary) {flies : Bool} {f : ℕ} {x : the-frame.Summary} where
+  pub brief-is : summaryOf b m ≡ x → flies ≡ isSome (flightOf (m .«in_flight»)) → f ≡ numberIn (flightOf (m .«in_flight»))
       → briefOf b (record {
         «next_outgoing» = m .«next_outgoing»;
         «next_incoming» = m .«next_incoming»;
         «has_in_flight» = flies;
         «in_flight» = f;
-        «created_at» = at;
-        marks = marks;
+        «created_at» = m .«created_at»;
+        marks = m .marks;
         «last_outgoing» = m .«last_outgoing»;
       })
-      ≡ summary there n
-  unfolding summaryIs summary
-  brief-is m is e₁ e₂ e₃ e₄ =
-      let ok : Holdable (s .bytes) (s .messages) there = holdable-at s w b i sw sb in
-      let stamp : take (m .«created_at» .len) (drop (m .«created_at» .at) b) ≡ there .stamp = ap (λ (x : the-frame.Summary). x .stampText) is in
-      let marked : take (m .marks .len) (drop (m .marks .at) b) ≡ there .marks = ap (λ (x : the-frame.Summary). x .marksText) is in
-      let first : length (there .stamp) ≤ 21 = stamp-short (there .stamp) (ok .stamp-ok) in
-      let second : length (there .marks) ≤ 64 = marks-is (there .marks) (T→true (isMarks (there .marks)) (ok .marks-ok)) .most in
-      let flight : cond (isSome (flightIs (m .«in_flight»))) (some (numberIn (flightIs (m .«in_flight»)))) none ≡ flightIs (m .«in_flight») = flown (flightIs (m .«in_flight»)) in
-      (λ j. briefOf b (record {
-        «next_outgoing» = m .«next_outgoing»;
-        «next_incoming» = m .«next_incoming»;
-        «has_in_flight» = e₁ j;
-        «in_flight» = e₂ j;
-        «created_at» = e₃ j;
-        marks = e₄ j;
-        «last_outgoing» = m .«last_outgoing»;
-      }))
-      ∙ (λ j. record {
+      ≡ x
+  brief-is is e₁ e₂ =
+      (λ j. record {
         nextOut = m .«next_outgoing»;
         nextIn = m .«next_incoming»;
-        inFlight = flight j;
-        stampText = cut-all (m .«created_at» .len) (drop (m .«created_at» .at) b) (omega (arith, ap length stamp)) j;
-        marksText = cut-all (m .marks .len) (drop (m .marks .at) b) (omega (arith, ap length marked)) j;
+        inFlight = ((λ k. cond (e₁ k) (some (e₂ k)) none) ∙ flown (flightOf (m .«in_flight»))) j;
+        stampText = spanOf b (m .«created_at»);
+        marksText = spanOf b (m .marks);
         lastOutgoing = m .«last_outgoing»;
       })
       ∙ is
+
+no-texts : (b : List ℕ) → TextsLie b noBrief
+no-texts b = record { stamp = omega arith; marks = omega arith }
 
 -- ---- keys
 
@@ -238,19 +195,20 @@ module _ (s : Settings) (c : Replica) (seen : Lookup) (h e lag : ℕ) (k : Key) 
   unfolding coreBind
   tests room = refl
 
-  as-left : {o : Outcome} {a x : Answer} → o ≡ leaving c seen a → a ≡ x → ((room : ℕ) → record { core = At; action = leave; answer = answerOf b x } ≡ Bind room) → BindIs s c seen h e lag k w w b b o
-  as-left {x = x} e₁ e₂ is = subst (BindIs s c seen h e lag k w w b b) (sym (e₁ ∙ ap (leaving c seen) e₂)) (record {
+  as-left : {o : Outcome} {a x : Answer} → o ≡ leaving c seen a → a ≡ x → TextsLie b (x .summary) → ((room : ℕ) → record { core = At; action = leave; answer = answerOf b x } ≡ Bind room) → BindIs s c seen h e lag k w w b b o
+  as-left {x = x} e₁ e₂ lie is = subst (BindIs s c seen h e lag k w w b b) (sym (e₁ ∙ ap (leaving c seen) e₂)) (record {
     is = λ version room holds. is room;
     lands = leaving-lands c seen x (getD w 0 0);
     rules = r;
     more = omega arith;
     touched = touched-none (s .shape) (placeOf k places) w b;
+    texts = lie;
     quiet = λ _. (refl, refl);
   })
 
   pub stale : {o : Outcome} {a : Answer} → e < c .epoch .0 → o ≡ leaving c seen a → a ≡ isNack h 1 → BindIs s c seen h e lag k w w b b o
   stale less e₁ e₂ =
-      as-left e₁ e₂ (λ room. sym (tests room ∙ ap (λ (t : Bool). Tests t (ltb (s .«max_lag») lag) (isStored k places || ltb (length places) (s .shape .places)) (roomFor seen)) (lt-ltb e (c .epoch .0) less)))
+      as-left e₁ e₂ (no-texts b) (λ room. sym (tests room ∙ ap (λ (t : Bool). Tests t (ltb (s .«max_lag») lag) (isStored k places || ltb (length places) (s .shape .places)) (roomFor seen)) (lt-ltb e (c .epoch .0) less)))
 
   -- of an epoch that is not lower
   module _ (high : c .epoch .0 ≤ e) where
@@ -259,7 +217,7 @@ module _ (s : Settings) (c : Replica) (seen : Lookup) (h e lag : ℕ) (k : Key) 
 
     pub lagging : {o : Outcome} {a : Answer} → s .«max_lag» < lag → o ≡ leaving c seen a → a ≡ isNack h 3 → BindIs s c seen h e lag k w w b b o
     lagging great e₁ e₂ =
-        as-left e₁ e₂ (λ room. sym (first room ∙ ap (λ (t : Bool). Tests false t (isStored k places || ltb (length places) (s .shape .places)) (roomFor seen)) (lt-ltb (s .«max_lag») lag great)))
+        as-left e₁ e₂ (no-texts b) (λ room. sym (first room ∙ ap (λ (t : Bool). Tests false t (isStored k places || ltb (length places) (s .shape .places)) (roomFor seen)) (lt-ltb (s .«max_lag») lag great)))
 
     -- and of a lag that is not too great, with what was found of the places
     module _ (small : lag ≤ s .«max_lag») {place : ℕ} {has : Bool} (at : place ≡ placeOf k places) (found : has ≡ (ltb place (getD w 0 0) || ltb (getD w 0 0) (s .shape .places))) where
@@ -274,7 +232,7 @@ module _ (s : Settings) (c : Replica) (seen : Lookup) (h e lag : ℕ) (k : Key) 
           ∙ (λ j. Tests false (le-ltb (s .«max_lag») lag small j) (sym same j) (roomFor seen))
 
       pub all-places : {o : Outcome} {a : Answer} → not has ≡ true → o ≡ leaving c seen a → a ≡ isRefused 20 → BindIs s c seen h e lag k w w b b o
-      all-places full e₁ e₂ = as-left e₁ e₂ (λ room. sym (second room ∙ ap (λ (t : Bool). Tests false false t (roomFor seen)) (not-true has full)))
+      all-places full e₁ e₂ = as-left e₁ e₂ (no-texts b) (λ room. sym (second room ∙ ap (λ (t : Bool). Tests false false t (roomFor seen)) (not-true has full)))
 
       -- and with a session place
       module _ (some-place : not has ≡ false) {free : Bool} (fits : free ≡ roomFor seen) where
@@ -282,11 +240,11 @@ module _ (s : Settings) (c : Replica) (seen : Lookup) (h e lag : ℕ) (k : Key) 
         third room = second room ∙ (λ j. Tests false false (not-false has some-place j) (sym fits j))
 
         pub all-handles : {o : Outcome} {a : Answer} → not free ≡ true → o ≡ leaving c seen a → a ≡ isRefused 21 → BindIs s c seen h e lag k w w b b o
-        all-handles full e₁ e₂ = as-left e₁ e₂ (λ room. sym (third room ∙ ap (Tests false false true) (not-true free full)))
+        all-handles full e₁ e₂ = as-left e₁ e₂ (no-texts b) (λ room. sym (third room ∙ ap (Tests false false true) (not-true free full)))
 
         pub binds : {w' b' : List ℕ} {o : Outcome} {a : Answer} {m : BoundSummary} {g : Bound} → not free ≡ false → BindOpens (s .shape) k w w' b b'
-            → briefOf b' m ≡ summary (placeAt (s .shape) w' b' place .stored .session) lag → a ≡ isBound h m → g ≡ newHandle h place → o ≡ storing c seen a h g → BindIs s c seen h e lag k w w' b b' o
-        binds {w'} {b'} {m = m} has-room op brief e₁ e₂ e₃ =
+            → TextsLie b' m → briefOf b' m ≡ summary (placeAt (s .shape) w' b' place .stored .session) lag → a ≡ isBound h m → g ≡ newHandle h place → o ≡ storing c seen a h g → BindIs s c seen h e lag k w w' b b' o
+        binds {w'} {b'} {m = m} has-room op lie brief e₁ e₂ e₃ =
             subst (BindIs s c seen h e lag k w w' b b') (sym (e₃ ∙ (λ j. storing c seen (e₁ j) h (e₂ j)))) (record {
               is = λ version room holds.
                   let area : List ℕ = areaAt room (storing c seen (isBound h m) h (newHandle h place) .at) holds in
@@ -310,5 +268,6 @@ module _ (s : Settings) (c : Replica) (seen : Lookup) (h e lag : ℕ) (k : Key) 
               rules = op .rules;
               more = op .more;
               touched = op .touched;
+              texts = lie;
               quiet = no;
             })

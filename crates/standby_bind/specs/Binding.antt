@@ -1,5 +1,5 @@
 -- What a Bind leaves and answers. Assumes nothing.
-use Prim.Native.Nat.{ℕ, min, _<_, _≤_}
+use Prim.Native.Nat.{ℕ, _<_, _≤_}
 use mathlib.Core.Path.{_≡_}
 use mathlib.Core.Bool.{Bool, true, _||_}
 use mathlib.Core.List.{List}
@@ -7,7 +7,7 @@ use mathlib.Core.Option.{Option, none, some}
 use lib.ListN.{length, getD}
 use lib.Dec.{ltb}
 use Rattle.model_frame.specs.Frame.{Key}
-use Rattle.frame_reader.specs.declared.Span.{Span}
+use Rattle.frame_reader.specs.Answers.{Lies}
 use Rattle.standby_row.specs.declared.Bound.{Bound}
 use Rattle.standby_row.specs.declared.Lookup.{Lookup}
 use Rattle.store_areas.specs.StoreWord
@@ -15,13 +15,13 @@ use Rattle.store_areas.specs.declared.Shape.{Shape}
 use Rattle.store_areas.specs.Areas.{Rules, placeAt, placesOf}
 use Rattle.standby_pending.specs.Pending.{pendingOf}
 use Rattle.standby_commit.specs.Settling.{Touched}
-use Rattle.store_state.specs.declared.Text.{Text}
 use Rattle.model_standby.specs.Store.{placeOf, sessionAt, orNew, opened}
 use Rattle.model_standby.specs.Core.{coreBind}
 use Rattle.store_place.specs.PlaceByte
 use Rattle.standby_part.specs.State.{coreAt}
 use Rattle.standby_state.specs.declared.Replica.{Replica}
 use Rattle.standby_state.specs.declared.Settings.{Settings}
+use Rattle.standby_state.specs.declared.BoundSummary.{BoundSummary}
 use Rattle.standby_state.specs.declared.Outcome.{Outcome}
 use Rattle.standby_state.specs.Outcomes.{countersOf, settingsOf, outcomeOf, Lands}
 use Rattle.standby_hello.specs.Greeting.{isQuiet}
@@ -33,8 +33,10 @@ pub record Short (k : Key) : Type 0 where
   pub target : length (k .target) ≤ PlaceByte.keyTextSize
   pub suffix : length (k .suffix) ≤ PlaceByte.keyTextSize
 
-abbrev pub textSpan : Text → Span
-textSpan t = record { at = t .at; len = min (t .len) PlaceByte.marksSize }
+-- the texts of a summary lie in the byte area, none of their bytes is cut off
+pub record TextsLie (b : List ℕ) (m : BoundSummary) : Type 0 where
+  pub stamp : Lies b (m .«created_at»)
+  pub marks : Lies b (m .marks)
 
 abbrev pub numberIn : Option ℕ → ℕ
 numberIn none = 0
@@ -57,11 +59,12 @@ pub record BindOpens (s : Shape) (k : Key) (w w' b b' : List ℕ) : Type 0 where
   pub session : placeAt s w' b' (placeOf k (placesOf s w b)) .stored .session ≡ orNew (sessionAt (placesOf s w b) (placeOf k (placesOf s w b)))
   pub touched : Touched s (placeOf k (placesOf s w b)) w w' b b'
 
--- equal to the definition, whatever the hold areas; a refusal and a Nack leave the store as it was
+-- equal to the definition, whatever the hold areas; the texts of the answer lie in the byte area; a refusal and a Nack leave the store as it was
 pub record BindIs (s : Settings) (c : Replica) (seen : Lookup) (h e lag : ℕ) (k : Key) (w w' b b' : List ℕ) (r : Outcome) : Type 0 where
   pub is : (version room : ℕ) (holds : List ℕ) → outcomeOf version room (s .shape) w' b' holds r ≡ coreBind (settingsOf s room) (coreAt (countersOf c) (s .shape) w b) (roomFor seen) h e lag k
   pub lands : (room : ℕ) → Lands seen (getD w' StoreWord.used 0) room r
   pub rules : Rules (s .shape) w' b'
   pub more : getD w StoreWord.used 0 ≤ getD w' StoreWord.used 0
   pub touched : Touched (s .shape) (placeOf k (placesOf (s .shape) w b)) w w' b b'
+  pub texts : TextsLie b' (r .answer .summary)
   pub quiet : isQuiet (r .answer) ≡ true → (w' ≡ w) × (b' ≡ b)

@@ -1,24 +1,23 @@
 // Bind (standby.rs, an arm of `answer`): a handle is bound to the session of a key, which is opened if it is new, and its summary is answered.
 ghost use mathlib.Core.Path.{_≡_};
-ghost use mathlib.Core.Bool.{_||_};
+ghost use mathlib.Core.Bool.{_||_, cond};
 ghost use Prim.Native.Nat.{_<_, _≤_};
 ghost use lib.ListN.{getD};
 ghost use lib.Dec.{ltb};
 ghost use Rattle.model_session.specs.Summary.{summary};
 ghost use Rattle.model_standby.specs.Store.{placeOf};
-ghost use Rattle.frame_fields.specs.Answers.{keyOf};
+ghost use Rattle.frame_fields.specs.Answers.{keyOf, flightOf};
 ghost use Rattle.store_areas.specs.Areas.{Rules, placeAt, placesOf};
 ghost use Rattle.standby_state.specs.Answers.{briefOf};
-ghost use Rattle.store_place.specs.Place.{flightIs};
 ghost use Rattle.model_standby.specs.Row.{isSome};
-ghost use Rattle.standby_bind.specs.Binding.{Short, textSpan, numberIn, newHandle, roomFor, BindOpens, BindIs};
+ghost use Rattle.standby_bind.specs.Binding.{Short, TextsLie, numberIn, newHandle, roomFor, BindOpens, BindIs};
 use base_refusals::NO_HANDLE_PLACE;
 use base_refusals::NO_SESSION_PLACE;
 use frame::SessionId;
 use frame_fields::CommitNumber;
 use frame_fields::Epoch;
+use frame_fields::InFlight;
 use frame_fields::reason;
-use frame_reader::Span;
 use standby_row::Bound;
 use standby_row::Lookup;
 use standby_state::BoundSummary;
@@ -27,41 +26,22 @@ use standby_state::Replica;
 use standby_state::Settings;
 use store_areas::Shape;
 use store_areas::word;
-use store_place::Flight;
-use store_state::Text;
 
-// The most bytes of a stamp or of marks.
-const TEXT_MOST: u32 = store_place::byte::MARKS_SIZE as u32;
-
-// A text of the store as a frame's: no stamp and no marks are longer than 64 bytes.
-fn span_of(text: Text) -> Span
-    ensures { λ r. ⌜ r ≡ textSpan text ⌝ }
-{
-    let at = text.at;
-    if text.len < store_place::byte::MARKS_SIZE {
-        return Span {
-            at,
-            len: text.len as u32,
-        };
-    }
-    Span { at, len: TEXT_MOST }
-}
-
-fn has_in_flight(flight: Flight) -> bool
-    ensures { λ r. ⌜ r ≡ isSome (flightIs flight) ⌝ }
+fn has_in_flight(flight: InFlight) -> u8
+    ensures { λ r. ⌜ r ≡ cond (isSome (flightOf flight)) 1 0 ⌝ }
 {
     match flight {
-        Flight::Nothing => false,
-        Flight::Number(_) => true,
+        InFlight::Nothing => 0,
+        InFlight::Seq(_) => 1,
     }
 }
 
-fn in_flight(flight: Flight) -> u64
-    ensures { λ r. ⌜ r ≡ numberIn (flightIs flight) ⌝ }
+fn in_flight(flight: InFlight) -> u64
+    ensures { λ r. ⌜ r ≡ numberIn (flightOf flight) ⌝ }
 {
     match flight {
-        Flight::Nothing => 0,
-        Flight::Number(n) => n,
+        InFlight::Nothing => 0,
+        InFlight::Seq(n) => n,
     }
 }
 
@@ -69,7 +49,8 @@ fn in_flight(flight: Flight) -> u64
 fn summary_at(words: &[u64], bytes: &[u8], shape: Shape, place: usize, n: u64) -> BoundSummary
     requires { ⌜ Rules shape (now words) (now bytes) ⌝ }
     requires { ⌜ place < getD (now words) 0 0 ⌝ }
-    ensures { λ r. ⌜ briefOf (now (bytes .entry)) r ≡ summary (placeAt shape (now (words .entry)) (now (bytes .entry)) place .stored .session) n ⌝ }
+    ensures inside { λ r. ⌜ TextsLie (now (bytes .entry)) r ⌝ }
+    ensures is { λ r. ⌜ briefOf (now (bytes .entry)) r ≡ summary (placeAt shape (now (words .entry)) (now (bytes .entry)) place .stored .session) n ⌝ }
 {
     let m = store_sessions::summary_of(words, bytes, shape, place, n);
     let f = m.in_flight;
@@ -80,8 +61,8 @@ fn summary_at(words: &[u64], bytes: &[u8], shape: Shape, place: usize, n: u64) -
         next_incoming: m.next_incoming,
         has_in_flight: has_in_flight(f),
         in_flight: in_flight(f),
-        created_at: span_of(created_at),
-        marks: span_of(marks),
+        created_at,
+        marks,
         last_outgoing: m.last_outgoing,
     }
 }
@@ -158,7 +139,7 @@ fn new_bound(handle: u32, place: usize) -> Bound
     ensures { λ r. ⌜ r ≡ newHandle handle place ⌝ }
 {
     Bound {
-        used: true,
+        used: 1,
         handle,
         place,
         commit_no: CommitNumber(0),

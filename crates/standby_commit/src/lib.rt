@@ -23,7 +23,7 @@ pub fn commit_changes(
     requires { ⌜ countOf (now words) < 64 ⌝ }
     ensures { λ r. ⌜ Settles shape place handle (heldRun (protocol .version) (now (run .entry))) (now (words .entry)) (now (words .exit)) (now (bytes .entry)) (now (bytes .exit)) r ⌝ }
 {
-    let next = store_state::next_outgoing(words, bytes, shape, place);
+    let next = store_sessions::next_outgoing(words, bytes, shape, place);
     if !standby_changes::fits(protocol, run, next) {
         return false;
     }

@@ -2,19 +2,14 @@
 use mathlib.Core.Path.{_≡_}
 use mathlib.Core.Bool.{Bool, cond}
 use mathlib.Core.List.{List, [], _∷_}
-use Prim.Native.Nat.{ℕ, _+_}
+use Prim.Native.Nat.{ℕ}
 use lib.Dec.{ltb}
 use lib.ListN.{length, getD, set}
 use Rattle.model_standby.specs.Store.{markAll}
-use Rattle.store_place.specs.PlaceWord
 use Rattle.store_areas.specs.StoreWord
 use Rattle.store_areas.specs.declared.Shape.{Shape}
-use Rattle.store_areas.specs.Areas.{wordsAt, Rules, placesOf}
+use Rattle.store_areas.specs.Areas.{durableAt, Rules, placesOf}
 use Rattle.standby_pending.specs.Pending.{pendingOf}
-
--- where the word stands that says whether the session at place i is durable
-abbrev pub durableAt : Shape → ℕ → ℕ
-durableAt s i = wordsAt s i + PlaceWord.durable
 
 -- one session marked, if its place is one of the first `used`
 abbrev pub markedAt : Shape → ℕ → ℕ → List ℕ → List ℕ

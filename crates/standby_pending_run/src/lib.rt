@@ -3,28 +3,14 @@ ghost use mathlib.Core.Path.{_≡_};
 ghost use mathlib.Core.Bool.{_||_, not};
 ghost use Prim.Native.Nat.{_+_, _*_, _≤_, _<_};
 ghost use lib.Dec.{leb};
-ghost use lib.ListN.{length, getD, set};
+ghost use lib.ListN.{length, getD};
 ghost use Rattle.model_frame.specs.Parse.{isEmpty};
 ghost use Rattle.model_standby.specs.Standby.{pendsOn};
 ghost use Rattle.store_areas.specs.Areas.{placeWords, Rules};
 ghost use Rattle.standby_pending.specs.Pending.{countOf, pendingOf};
-ghost use Rattle.standby_pending_run.specs.Commits.{durableAt, markedAt, Ran, RanIf};
+ghost use Rattle.standby_pending_run.specs.Commits.{markedAt, Ran, RanIf};
 use store_areas::Shape;
 use store_areas::word;
-
-// Marks the session at place i, which is in use.
-pub fn mark(words: &mut [u64], shape: Shape, place: usize)
-    requires { ⌜ shape .messages ≤ 65536 ⌝ }
-    requires { ⌜ 66 + shape .places * placeWords shape ≤ length (now words) ⌝ }
-    requires { ⌜ getD (now words) 0 0 ≤ shape .places ⌝ }
-    requires { ⌜ place < getD (now words) 0 0 ⌝ }
-    ensures { λ _. ⌜ now (words .exit) ≡ set (now (words .entry)) (durableAt shape place) 1 ⌝ }
-{
-    let at = store_areas::COUNT_WORDS
-        + place * store_areas::place_words(shape)
-        + store_place::word::DURABLE;
-    words[at] = 1;
-}
 
 // Marks the session at place i, if that is in use.
 fn mark_used(words: &mut [u64], shape: Shape, place: u64)
@@ -34,7 +20,7 @@ fn mark_used(words: &mut [u64], shape: Shape, place: u64)
     ensures { λ _. ⌜ now (words .exit) ≡ markedAt shape (getD (now (words .entry)) 0 0) place (now (words .entry)) ⌝ }
 {
     if place < words[word::USED] {
-        mark(words, shape, place as usize);
+        store_areas::mark_durable(words, shape, place as usize);
     }
 }
 

@@ -1,6 +1,6 @@
 -- The tests of the rules, and the rules as facts. Assumes nothing.
-use mathlib.Core.Path.{_≡_, sym, ap, _∙_}
-use mathlib.Core.Bool.{Bool, true, false, _&&_}
+use mathlib.Core.Path.{_≡_, refl, sym, ap, _∙_}
+use mathlib.Core.Bool.{Bool, true, false, cond, _&&_}
 use mathlib.Core.List.{List, []}
 use Prim.Native.Nat.{ℕ, _+_, _*_, _≤_, _<_}
 use native.Mathlib.Omega.{arith}
@@ -11,7 +11,9 @@ use lib.ListN.{length, getD, set, length-set}
 use lib.Seq.{getD-set-same, getD-set-other}
 use Rattle.model_text.proofs.Formed.{and-l, and-r}
 use Rattle.store_areas.specs.declared.Shape.{Shape}
-use Rattle.store_areas.specs.Areas.{placeWords, placeBytes, roomy, allowed, Room, Rules, inUse, InUse, placeAt, countUp, placesOf}
+use Rattle.store_areas.specs.declared.Made.{Made}
+use Rattle.store_areas.specs.declared.Made.the-variants.{Ready, InvalidAreas}
+use Rattle.store_areas.specs.Areas.{placeWords, placeBytes, roomy, allowed, Room, Rules, inUse, InUse, placeAt, countUp, placesOf, madeNumber, Making}
 
 module _ (s : Shape) (w b : List ℕ) where
   t1 : Bool
@@ -84,6 +86,18 @@ module _ (s : Shape) (w b : List ℕ) where
 -- a number of places times the elements of one
 pub product : (p n P N : ℕ) → p ≤ P → n ≤ N → p * n ≤ P * N
 product p n P N hp hn = le-trans (mul-le-mul-left p hn) (mul-le-mul-right N hp)
+
+-- ---- making
+
+module _ (s : Shape) (w b : List ℕ) where
+  by-room : (t : Bool) → roomy s w b ≡ t → (r : Made) → madeNumber r ≡ cond t 0 25 → Making s w (cond t (set (set w 0 0) 1 0) w) b r
+  by-room t e r p = record { answer = p ∙ sym (ap (λ (x : Bool). cond x 0 25) e); words = sym (ap (λ (x : Bool). cond x (set (set w 0 0) 1 0) w) e) }
+
+  pub made-ready : roomy s w b ≡ true → Making s w (set (set w 0 0) 1 0) b Ready
+  made-ready e = by-room true e Ready refl
+
+  pub made-unfit : roomy s w b ≡ false → Making s w w b InvalidAreas
+  made-unfit e = by-room false e InvalidAreas refl
 
 -- a new store keeps the rules and has no places
 pub made-rules : (s : Shape) (w b : List ℕ) → Room s w b → Rules s (set (set w 0 0) 1 0) b

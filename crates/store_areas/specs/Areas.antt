@@ -3,7 +3,7 @@
 -- from 66 on the words of place 0, of place 1, and so on. Bytes: those of place 0, of place 1, and so on. Assumes nothing.
 use mathlib.Core.Path.{_≡_}
 use Prim.Native.Nat.{ℕ, zero, suc, _+_, _-_, _*_, _≤_, _<_}
-use mathlib.Core.Bool.{Bool, true, false, _&&_}
+use mathlib.Core.Bool.{Bool, cond, _&&_}
 use mathlib.Core.List.{List, [], _∷_}
 use lib.ListN.{length, take, drop, getD, set}
 use lib.Dec.{leb, ltb}
@@ -31,6 +31,10 @@ wordsAt s i = StoreWord.places + i * placeWords s
 
 abbrev pub bytesAt : Shape → ℕ → ℕ
 bytesAt s i = i * placeBytes s
+
+-- where the word stands that says whether the session at place i is durable
+abbrev pub durableAt : Shape → ℕ → ℕ
+durableAt s i = wordsAt s i + PlaceWord.durable
 
 -- where its words begin and end, and its bytes
 pub record SpotIs (s : Shape) (i wa we ba be : ℕ) : Type 0 where
@@ -100,6 +104,11 @@ countUp f k (suc n) = f k ∷ countUp f (suc k) n
 unfoldable pub placesOf : Shape → List ℕ → List ℕ → List Place
 placesOf s w b = countUp (placeAt s w b) 0 (getD w StoreWord.used 0)
 
+-- a text, as len bytes of b from `at` on, which lie in b
+pub record TextAt (b text : List ℕ) (at len : ℕ) : Type 0 where
+  pub is : take len (drop at b) ≡ text
+  pub inside : at + len ≤ length b
+
 -- ---- what an operation leaves
 
 -- what is stored at place i is changed, and nothing outside that place
@@ -113,7 +122,7 @@ abbrev pub madeNumber : Made → ℕ
 madeNumber Ready = 0
 madeNumber InvalidAreas = Refusal.rulesBroken
 
--- making: 25 leaves all as it was; else no place is in use, no commit is pending, and the other words are as they were
-abbrev pub Making : Shape → List ℕ → List ℕ → List ℕ → Made → Type 0
-Making s w w' b Ready = (roomy s w b ≡ true) × (w' ≡ set (set w StoreWord.used 0) StoreWord.pending 0)
-Making s w w' b InvalidAreas = (roomy s w b ≡ false) × (w' ≡ w)
+-- making: 25 where the areas are too short, which leaves all as it was; else no place is in use, no commit is pending, and the other words are as they were
+pub record Making (s : Shape) (w w' b : List ℕ) (r : Made) : Type 0 where
+  pub answer : madeNumber r ≡ cond (roomy s w b) 0 Refusal.rulesBroken
+  pub words : w' ≡ cond (roomy s w b) (set (set w StoreWord.used 0) StoreWord.pending 0) w

@@ -4,7 +4,7 @@ ghost use Prim.Native.Nat.{ℕ, _+_, _*_, _≤_, _<_};
 ghost use mathlib.Core.Bool.{Bool, true, false};
 ghost use mathlib.Core.List.{List};
 ghost use lib.ListN.{length, getD, set};
-ghost use Rattle.store_areas.specs.Areas.{placeWords, placeBytes, wordsAt, bytesAt, roomy, allowed, Rules, SpotIs, SpotIn, inUse, Making};
+ghost use Rattle.store_areas.specs.Areas.{placeWords, placeBytes, durableAt, roomy, allowed, Rules, SpotIs, SpotIn, inUse, Making};
 
 // How many session places, and for each the message bytes (C) and the messages (M).
 #[repr(C)]
@@ -127,6 +127,18 @@ pub fn in_use(words: &[u64], bytes: &[u8], shape: Shape, place: usize) -> bool
         return (place as u64) < words[word::USED];
     }
     false
+}
+
+// Marks the session at place i, which is in use, as durable.
+pub fn mark_durable(words: &mut [u64], shape: Shape, place: usize)
+    requires { ⌜ shape .messages ≤ 65536 ⌝ }
+    requires { ⌜ 66 + shape .places * placeWords shape ≤ length (now words) ⌝ }
+    requires { ⌜ getD (now words) 0 0 ≤ shape .places ⌝ }
+    requires { ⌜ place < getD (now words) 0 0 ⌝ }
+    ensures { λ _. ⌜ now (words .exit) ≡ set (now (words .entry)) (durableAt shape place) 1 ⌝ }
+{
+    let at = COUNT_WORDS + place * place_words(shape) + store_place::word::DURABLE;
+    words[at] = 1;
 }
 
 // Makes a store without sessions and pending commits.

@@ -8,7 +8,7 @@ ghost use Rattle.model_text.specs.Printable.{isMarks};
 ghost use Rattle.model_text.specs.Stamp.{isStamp};
 ghost use Rattle.model_frame.specs.Frame.{Key, Change, setIncoming, setIncomingInFlight, setInFlight, recordMsg, recordBare, reset, setCreatedAt, setMarks};
 ghost use Rattle.model_session.specs.Summary.{lastOut};
-ghost use Rattle.model_standby.specs.Store.{Place, onStored, changed, markDurable, takenOver, newPlace, sameBytes, sameKey, withB};
+ghost use Rattle.model_standby.specs.Store.{Place, onStored, changed, takenOver, newPlace, sameBytes, sameKey, withB};
 ghost use Rattle.store_place.specs.Only.{Only};
 ghost use Rattle.store_place.specs.Place.{nextOutOf, storedFlight, durableOf, field, stampOf, marksOf, storedKey, sessionOf, placeIn, flightIs, PutText, endsInB, keyFrom, PositionIn, FromIn, NextMessageIn};
 use store_log::Found;
@@ -260,15 +260,7 @@ pub fn set_marks(words: &mut [u64], bytes: &mut [u8], text: &[u8])
     words[word::DURABLE] = 0;
 }
 
-// ---- commits and promotion
-
-pub fn mark_durable(words: &mut [u64])
-    requires { ⌜ 16 ≤ length (now words) ⌝ }
-    ensures marked { λ _. ⌜ ((C M : ℕ) (b : List ℕ) → placeIn C M (now (words .exit)) b ≡ onStored markDurable (placeIn C M (now (words .entry)) b)) ⌝ }
-    ensures word { λ _. ⌜ now (words .exit) ≡ set (now (words .entry)) 4 1 ⌝ }
-{
-    words[word::DURABLE] = 1;
-}
+// ---- promotion
 
 // next + lag, but at most 2^64 - 1.
 fn skipped(next: u64, lag: u64) -> u64

@@ -1,26 +1,24 @@
 -- Keys, summaries and messages of a place, from those of its parts. Assumes nothing.
-use mathlib.Core.Path.{_≡_, refl, sym, ap, _∙_, subst, subst₂}
+use mathlib.Core.Path.{_≡_, sym, ap, _∙_, subst, subst₂}
 use mathlib.Core.Bool.{Bool, true, false, cond}
-use mathlib.Core.List.{List, [], _∷_, _++_}
-use mathlib.Core.Option.{Option, none, some, Option·map}
-use Prim.Native.Nat.{ℕ, zero, suc, _+_, _-_, _≤_, _<_}
+use mathlib.Core.List.{List, _∷_, _++_}
+use Prim.Native.Nat.{ℕ, _+_, _-_, _≤_, _<_}
 use native.Mathlib.Omega.{arith}
 use lib.ListN.{length, take, drop, getD}
 use borrow.Rule.Slice.PartMut.{midOf}
 use Rattle.model_frame.specs.Frame.{Key}
 use Rattle.model_frame.specs.Frame as model-frame
-use Rattle.model_session.specs.Session.{Session}
 use Rattle.model_session.specs.Summary.{lastOut, summary}
-use Rattle.model_standby.specs.Store.{Place, sameKey, sessionAt}
+use Rattle.model_standby.specs.Store.{Place, sameKey}
+use Rattle.frame_fields.specs.declared.Summary.{Summary}
+use Rattle.frame_fields.specs.Answers.{summaryOf}
 use Rattle.store_log.specs.Log.{msg}
-use Rattle.store_place.specs.Place.{flightIs, storedKey, sessionOf, placeIn, restIn, PositionIn, FromIn, NextMessageIn}
+use Rattle.store_place.specs.Place.{storedKey, sessionOf, placeIn, restIn, PositionIn, FromIn, NextMessageIn}
 use Rattle.store_areas.specs.declared.Shape.{Shape}
-use Rattle.store_areas.specs.Areas.{placeWords, placeBytes, wordsAt, bytesAt, allowed, Rules, SpotIn, slice, placeAt, placesOf}
-use Rattle.store_areas.proofs.Lifting.{spot-place, spot-words-part, spot-bytes-part, session-is, places-length}
-use Rattle.store_state.specs.Answers.{TextAt}
-use Rattle.store_state.specs.declared.StoredSummary.{StoredSummary}
-use Rattle.store_state.proofs.Reading.{part-of}
-use Rattle.store_sessions.specs.Answers.{summaryIs, summarisedIn, restAt, PositionAt, FromAt, NextMessageAt}
+use Rattle.store_areas.specs.Areas.{placeWords, placeBytes, wordsAt, bytesAt, inUse, Rules, SpotIn, slice, placeAt, TextAt}
+use Rattle.store_areas.proofs.Lifting.{spot-place, spot-words-part, spot-bytes-part}
+use Rattle.store_areas.proofs.Reading.{part-of, out-is, in-is, flight-is, stamp-at, marks-at}
+use Rattle.store_sessions.specs.Answers.{gives, refuses, SummaryIn, TextsIn, summarisedAt, restAt, PositionAt, FromAt, NextMessageAt}
 
 module _ (s : Shape) (i wa we ba be : ℕ) (w b : List ℕ) (at : SpotIn s i w b wa we ba be) (r : Rules s w b) (h : i < getD w 0 0) where
   abbrev mw : List ℕ
@@ -81,27 +79,39 @@ module _ (s : Shape) (i wa we ba be : ℕ) (w b : List ℕ) (at : SpotIn s i w b
 
 -- ---- summaries
 
-pub summed-up : (b : List ℕ) (m : StoredSummary) (x : Session) (n : ℕ) → m .«next_outgoing» ≡ x .nextOut → m .«next_incoming» ≡ x .nextIn → flightIs (m .«in_flight») ≡ x .inFlight
-    → TextAt b (x .stamp) (m .«created_at» .at) (m .«created_at» .len) → TextAt b (x .marks) (m .marks .at) (m .marks .len) → m .«last_outgoing» ≡ lastOut x n → summaryIs b m ≡ summary x n
-unfolding summaryIs summary
-summed-up b m x n eo ei ef es em el = λ j. record { nextOut = eo j; nextIn = ei j; inFlight = ef j; stampText = es .is j; marksText = em .is j; lastOutgoing = el j }
+module _ (s : Shape) (i wa we ba be : ℕ) (w b : List ℕ) (at : SpotIn s i w b wa we ba be) (r : Rules s w b) (h : i < getD w 0 0) where
+  abbrev lw : List ℕ
+  lw = midOf wa (we - wa) w
 
-pub summary-known : (s : Shape) (w b : List ℕ) (i n : ℕ) (m : model-frame.Summary) → allowed s w b ≡ true → i < getD w 0 0 → m ≡ summary (placeAt s w b i .stored .session) n → some m ≡ summarisedIn s w b i n
-unfolding summarisedIn
-summary-known s w b i n m e h q =
-    ap some q ∙ sym (ap (λ (t : Bool). cond t (Option·map (λ (x : Session). summary x n) (sessionAt (placesOf s w b) i)) none) e ∙ ap (Option·map (λ (x : Session). summary x n)) (session-is s w b i h))
+  abbrev lb : List ℕ
+  lb = midOf ba (be - ba) b
 
-pub summary-refused : (s : Shape) (w b : List ℕ) (i n : ℕ) → allowed s w b ≡ false → none ≡ summarisedIn s w b i n
-unfolding summarisedIn
-summary-refused s w b i n e = sym (ap (λ (t : Bool). cond t (Option·map (λ (x : Session). summary x n) (sessionAt (placesOf s w b) i)) none) e)
+  module _ (n : ℕ) (m : Summary) (k : SummaryIn (s .bytes) (s .messages) ba n lw lb m) where
+    stamp-there : TextAt b (placeAt s w b i .stored .session .stamp) (m .«created_at» .at) (m .«created_at» .len)
+    stamp-there = subst (λ (j : ℕ). TextAt b (placeAt s w b i .stored .session .stamp) j (m .«created_at» .len)) (sym (k .stamp-at)) (stamp-at s i wa we ba be w b at r h (m .«created_at» .len) (k .stamp-len) (k .stamp))
 
-none-there : (ps : List Place) (i : ℕ) → length ps ≤ i → sessionAt ps i ≡ none
-none-there [] i h = refl
-none-there (x ∷ ps) zero h = absurd (omega arith)
-none-there (x ∷ ps) (suc i) h = none-there ps i (omega arith)
+    marks-there : TextAt b (placeAt s w b i .stored .session .marks) (m .marks .at) (m .marks .len)
+    marks-there = subst (λ (j : ℕ). TextAt b (placeAt s w b i .stored .session .marks) j (m .marks .len)) (sym (k .marks-at)) (marks-at s i wa we ba be w b at r h (m .marks .len) (k .marks-len) (k .marks))
 
-pub summary-none : (s : Shape) (w b : List ℕ) (i n : ℕ) → allowed s w b ≡ true → getD w 0 0 ≤ i → none ≡ summarisedIn s w b i n
-unfolding summarisedIn
-summary-none s w b i n e h =
-    sym (ap (λ (t : Bool). cond t (Option·map (λ (x : Session). summary x n) (sessionAt (placesOf s w b) i)) none) e
-    ∙ ap (Option·map (λ (x : Session). summary x n)) (none-there (placesOf s w b) i (omega (arith, places-length s w b))))
+    pub summed-up : summaryOf b m ≡ summary (placeAt s w b i .stored .session) n
+    unfolding summary
+    summed-up = λ j. record {
+      nextOut = (k .out ∙ out-is s i wa we ba be w b at r h) j;
+      nextIn = (k .inc ∙ in-is s i wa we ba be w b at r h) j;
+      inFlight = (k .flight ∙ flight-is s i wa we ba be w b at r h) j;
+      stampText = stamp-there .is j;
+      marksText = marks-there .is j;
+      lastOutgoing = last-is s i wa we ba be w b at r h n (m .«last_outgoing») (k .last) j;
+    }
+
+    pub texts-in : TextsIn b m
+    texts-in = record { stamp = stamp-there .inside; marks = marks-there .inside }
+
+module _ (s : Shape) (w b : List ℕ) (i n : ℕ) {t : Bool} (is : t ≡ inUse s w b i) where
+  pub summary-known : (m : model-frame.Summary) → t ≡ true → m ≡ summary (placeAt s w b i .stored .session) n → gives m ≡ summarisedAt s w b i n
+  unfolding summarisedAt
+  summary-known m e q = ap gives q ∙ sym (ap (λ (t : Bool). cond t (gives (summary (placeAt s w b i .stored .session) n)) (refuses 25)) (sym is ∙ e))
+
+  pub summary-refused : t ≡ false → refuses 25 ≡ summarisedAt s w b i n
+  unfolding summarisedAt
+  summary-refused e = sym (ap (λ (t : Bool). cond t (gives (summary (placeAt s w b i .stored .session) n)) (refuses 25)) (sym is ∙ e))

@@ -2,7 +2,6 @@
 use mathlib.Core.Path.{_≡_, sym, ap, _∙_}
 use mathlib.Core.Bool.{Bool, true, false, cond}
 use mathlib.Core.List.{List}
-use mathlib.Core.Option.{some, none}
 use Prim.Native.Nat.{ℕ, suc, _+_, _-_, _≤_, _<_}
 use native.Mathlib.Omega.{arith}
 use native.Mathlib.Numerals.{add-one}
@@ -10,7 +9,7 @@ use Rattle.model_frame.specs.Frame.{Key}
 use Rattle.model_standby.specs.Store.{Place, sameKey, placeOf}
 use Rattle.store_areas.specs.declared.Shape.{Shape}
 use Rattle.store_areas.specs.Areas.{countUp, allowed, placesOf}
-use Rattle.store_sessions.specs.Answers.{soughtIn}
+use Rattle.store_sessions.specs.Answers.{gives, refuses, soughtIn}
 
 module _ (k : Key) (f : ℕ → Place) (n : ℕ) where
   pub record Seeking (i : ℕ) : Type 0 where
@@ -53,10 +52,10 @@ module _ (k : Key) (f : ℕ → Place) (n : ℕ) where
 
 -- ---- the answer on any areas
 
-pub sought : (s : Shape) (w b : List ℕ) (k : Key) (i : ℕ) → allowed s w b ≡ true → i ≡ placeOf k (placesOf s w b) → some i ≡ soughtIn s w b k
+pub sought : (s : Shape) (w b : List ℕ) (k : Key) (i : ℕ) → allowed s w b ≡ true → i ≡ placeOf k (placesOf s w b) → gives i ≡ soughtIn s w b k
 unfolding soughtIn
-sought s w b k i e q = ap some q ∙ sym (ap (λ (t : Bool). cond t (some (placeOf k (placesOf s w b))) none) e)
+sought s w b k i e q = ap gives q ∙ sym (ap (λ (t : Bool). cond t (gives (placeOf k (placesOf s w b))) (refuses 25)) e)
 
-pub not-sought : (s : Shape) (w b : List ℕ) (k : Key) → allowed s w b ≡ false → none ≡ soughtIn s w b k
+pub not-sought : (s : Shape) (w b : List ℕ) (k : Key) → allowed s w b ≡ false → refuses 25 ≡ soughtIn s w b k
 unfolding soughtIn
-not-sought s w b k e = sym (ap (λ (t : Bool). cond t (some (placeOf k (placesOf s w b))) none) e)
+not-sought s w b k e = sym (ap (λ (t : Bool). cond t (gives (placeOf k (placesOf s w b))) (refuses 25)) e)

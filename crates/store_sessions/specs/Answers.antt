@@ -3,33 +3,42 @@ use mathlib.Core.Path.{_≡_}
 use Prim.Native.Nat.{ℕ, _+_, _≤_}
 use mathlib.Core.Bool.{cond}
 use mathlib.Core.List.{List, [], _∷_, _++_}
-use mathlib.Core.Option.{Option, none, some, Option·map}
 use lib.ListN.{length, take, drop, getD, set}
+use Rattle.model_frame.specs.Refusal
 use Rattle.model_frame.specs.Frame.{Key}
 use Rattle.model_frame.specs.Frame as model-frame
-use Rattle.model_session.specs.Session.{Session, Msg}
-use Rattle.model_session.specs.Summary.{numberedFrom, summary}
-use Rattle.model_standby.specs.Store.{Place, placeOf, sessionAt, newPlace, onPlaces, takenOver}
+use Rattle.model_session.specs.Session.{Msg}
+use Rattle.model_session.specs.Summary.{numberedFrom, lastOut, summary}
+use Rattle.model_standby.specs.Store.{placeOf, newPlace, onPlaces, takenOver}
+use Rattle.frame_reader.specs.Answers.{Lies}
+use Rattle.frame_fields.specs.declared.Summary.{Summary}
+use Rattle.frame_fields.specs.Answers.{flightOf, summaryOf}
 use Rattle.store_log.specs.Log.{msg}
 use Rattle.store_place.specs.Only.{Only}
-use Rattle.store_place.specs.Place.{flightIs, restIn, PositionIn}
+use Rattle.store_place.specs.PlaceByte
+use Rattle.store_place.specs.PlaceWord
+use Rattle.store_place.specs.Place.{nextOutOf, storedFlight, stampOf, marksOf, sessionOf, restIn, PositionIn}
 use Rattle.store_areas.specs.StoreWord
 use Rattle.store_areas.specs.declared.Shape.{Shape}
-use Rattle.store_areas.specs.Areas.{placeWords, placeBytes, wordsAt, bytesAt, allowed, slice, placeAt, placesOf}
-use Rattle.store_state.specs.declared.StoredSummary.{StoredSummary}
+use Rattle.store_areas.specs.Areas.{placeWords, placeBytes, wordsAt, bytesAt, allowed, inUse, slice, placeAt, placesOf}
 use Rattle.store_sessions.specs.declared.Sought.{Sought}
 use Rattle.store_sessions.specs.declared.Sought
 use Rattle.store_sessions.specs.declared.Summarised.{Summarised}
 use Rattle.store_sessions.specs.declared.Summarised
 
--- ---- searching: none is 25
+-- what a function answers: a value, or document 01's number of a refusal
+pub data Answered (A : Type 0) : Type 0 where
+  gives : A → Answered A
+  refuses : ℕ → Answered A
 
-abbrev pub soughtIs : Sought → Option ℕ
-soughtIs (Sought.Place i) = some i
-soughtIs Sought.InvalidAreas = none
+-- ---- searching
 
-unfoldable pub soughtIn : Shape → List ℕ → List ℕ → Key → Option ℕ
-soughtIn s w b k = cond (allowed s w b) (some (placeOf k (placesOf s w b))) none
+abbrev pub soughtIs : Sought → Answered ℕ
+soughtIs (Sought.Place i) = gives i
+soughtIs Sought.InvalidAreas = refuses Refusal.rulesBroken
+
+unfoldable pub soughtIn : Shape → List ℕ → List ℕ → Key → Answered ℕ
+soughtIn s w b k = cond (allowed s w b) (gives (placeOf k (placesOf s w b))) (refuses Refusal.rulesBroken)
 
 -- ---- opening: the new session stands at the place that was the first free one; nothing else changes but the count
 pub record Opened (s : Shape) (k : Key) (w w' b b' : List ℕ) : Type 0 where
@@ -43,25 +52,36 @@ pub record TakenOver (s : Shape) (lag : ℕ) (w w' b b' : List ℕ) : Type 0 whe
   pub words : Only StoreWord.places (wordsAt s (getD w StoreWord.used 0)) w w'
   pub bytes : Only 0 (bytesAt s (getD w StoreWord.used 0)) b b'
 
--- ---- summaries: none is 25
+-- ---- summaries
 
-unfoldable pub summaryIs : List ℕ → StoredSummary → model-frame.Summary
-summaryIs b m =
-    record {
-      nextOut = m .«next_outgoing»;
-      nextIn = m .«next_incoming»;
-      inFlight = flightIs (m .«in_flight»);
-      stampText = take (m .«created_at» .len) (drop (m .«created_at» .at) b);
-      marksText = take (m .marks .len) (drop (m .marks .at) b);
-      lastOutgoing = m .«last_outgoing»;
-    }
+-- the two texts of a summary lie in the byte area, none of their bytes is cut off
+pub record TextsIn (b : List ℕ) (m : Summary) : Type 0 where
+  pub stamp : Lies b (m .«created_at»)
+  pub marks : Lies b (m .marks)
 
-abbrev pub summarisedIs : List ℕ → Summarised → Option model-frame.Summary
-summarisedIs b (Summarised.Session m) = some (summaryIs b m)
-summarisedIs b Summarised.InvalidAreas = none
+-- a summary by the words and bytes of a place, whose bytes begin at `from` in the byte area
+pub record SummaryIn (C M from n : ℕ) (w b : List ℕ) (m : Summary) : Type 0 where
+  pub out : m .«next_outgoing» ≡ nextOutOf w
+  pub inc : m .«next_incoming» ≡ getD w PlaceWord.nextIn 0
+  pub flight : flightOf (m .«in_flight») ≡ storedFlight w
+  pub stamp : take (m .«created_at» .len) (drop PlaceByte.stamp b) ≡ stampOf w b
+  pub stamp-at : m .«created_at» .at ≡ from + PlaceByte.stamp
+  pub stamp-len : m .«created_at» .len ≤ PlaceByte.stampSize
+  pub marks : take (m .marks .len) (drop PlaceByte.marks b) ≡ marksOf w b
+  pub marks-at : m .marks .at ≡ from + PlaceByte.marks
+  pub marks-len : m .marks .len ≤ PlaceByte.marksSize
+  pub last : m .«last_outgoing» ≡ lastOut (sessionOf C M w b) n
 
-unfoldable pub summarisedIn : Shape → List ℕ → List ℕ → ℕ → ℕ → Option model-frame.Summary
-summarisedIn s w b i n = cond (allowed s w b) (Option·map (λ (x : Session). summary x n) (sessionAt (placesOf s w b) i)) none
+abbrev pub summarisedIs : List ℕ → Summarised → Answered model-frame.Summary
+summarisedIs b (Summarised.Session m) = gives (summaryOf b m)
+summarisedIs b Summarised.InvalidAreas = refuses Refusal.rulesBroken
+
+abbrev pub SummarisedIn : List ℕ → Summarised → Type 0
+SummarisedIn b (Summarised.Session m) = TextsIn b m
+SummarisedIn b Summarised.InvalidAreas = Unit {0}
+
+unfoldable pub summarisedAt : Shape → List ℕ → List ℕ → ℕ → ℕ → Answered model-frame.Summary
+summarisedAt s w b i n = cond (inUse s w b i) (gives (summary (placeAt s w b i .stored .session) n)) (refuses Refusal.rulesBroken)
 
 -- ---- reading messages: from a place in the log, `left` are still to be read, `dist` bytes together
 

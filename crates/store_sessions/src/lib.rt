@@ -5,14 +5,18 @@ ghost use mathlib.Core.List.{List, [], _∷_, _++_};
 ghost use Prim.Native.Nat.{ℕ, _+_, _-_, _*_, _≤_, _<_};
 ghost use lib.ListN.{length, take, drop, getD, set};
 ghost use Rattle.model_session.specs.Summary.{lastOut, summary};
-ghost use Rattle.model_standby.specs.Store.{sameKey, placeOf};
-ghost use Rattle.store_place.specs.Place.{keyFrom};
-ghost use Rattle.store_areas.specs.Areas.{Rules, placeAt, placesOf};
-ghost use Rattle.store_sessions.specs.Answers.{soughtIs, soughtIn, Opened, TakenOver, summaryIs, summarisedIs, summarisedIn, PositionAt, FromAt, NextMessageAt};
+ghost use Rattle.model_standby.specs.Store.{sameKey, placeOf, takenOver};
+ghost use Rattle.frame_fields.specs.Answers.{flightOf, summaryOf};
+ghost use Rattle.store_place.specs.Place.{keyFrom, flightIs};
+ghost use Rattle.store_areas.specs.Areas.{Rules, Changed, placeAt, placesOf};
+ghost use Rattle.store_sessions.specs.Answers.{soughtIs, soughtIn, Opened, TakenOver, SummaryIn, TextsIn, summarisedIs, SummarisedIn, summarisedAt, PositionAt, FromAt, NextMessageAt};
+use frame_fields::InFlight;
+use frame_fields::Summary;
+use frame_reader::Span;
 use store_areas::Shape;
 use store_areas::word;
 use store_log::LogPosition;
-use store_state::StoredSummary;
+use store_place::Flight;
 
 // The answer to a search: the place of the key, or, where it has none, the number of places in use.
 pub enum Sought {
@@ -20,9 +24,9 @@ pub enum Sought {
     InvalidAreas,
 }
 
-// The answer to a request for a summary.
+// The answer to a request for a summary, whose texts are parts of the byte area.
 pub enum Summarised {
-    Session(StoredSummary),
+    Session(Summary),
     InvalidAreas,
 }
 
@@ -152,6 +156,26 @@ pub fn open(
 
 // ---- promotion
 
+// Promotion's work on one session.
+pub fn take_over(words: &mut [u64], bytes: &mut [u8], shape: Shape, place: usize, lag: u64)
+    requires { ⌜ Rules shape (now words) (now bytes) ⌝ }
+    requires { ⌜ place < getD (now words) 0 0 ⌝ }
+    ensures { λ _. ⌜ Changed shape place (takenOver lag) (now (words .entry)) (now (words .exit)) (now (bytes .entry)) (now (bytes .exit)) ⌝ }
+{
+    let p = store_areas::spot_in(words, bytes, shape, place);
+    let words_start = p.words_start;
+    let words_end = p.words_end;
+    let bytes_start = p.bytes_start;
+    let bytes_end = p.bytes_end;
+    let max = shape.messages as usize;
+    store_place::take_over(
+        &mut words[words_start..words_end],
+        &mut bytes[bytes_start..bytes_end],
+        max,
+        lag,
+    );
+}
+
 // Promotion's work on all sessions.
 pub fn take_over_all(words: &mut [u64], bytes: &mut [u8], shape: Shape, lag: u64)
     requires { ⌜ Rules shape (now words) (now bytes) ⌝ }
@@ -160,14 +184,36 @@ pub fn take_over_all(words: &mut [u64], bytes: &mut [u8], shape: Shape, lag: u64
     let used = words[word::USED] as usize;
     let mut i = 0;
     while i < used {
-        store_state::take_over(words, bytes, shape, i, lag);
+        take_over(words, bytes, shape, i, lag);
         i += 1;
     }
 }
 
-// ---- summaries
+// ---- what is stored of a session in use
 
-// last_outgoing over n, of a session in use.
+pub fn next_outgoing(words: &[u64], bytes: &[u8], shape: Shape, place: usize) -> u64
+    requires { ⌜ Rules shape (now words) (now bytes) ⌝ }
+    requires { ⌜ place < getD (now words) 0 0 ⌝ }
+    ensures { λ r. ⌜ r ≡ placeAt shape (now (words .entry)) (now (bytes .entry)) place .stored .session .nextOut ⌝ }
+{
+    let p = store_areas::spot_in(words, bytes, shape, place);
+    let words_start = p.words_start;
+    let words_end = p.words_end;
+    store_place::next_outgoing(&words[words_start..words_end])
+}
+
+pub fn durable(words: &[u64], bytes: &[u8], shape: Shape, place: usize) -> bool
+    requires { ⌜ Rules shape (now words) (now bytes) ⌝ }
+    requires { ⌜ place < getD (now words) 0 0 ⌝ }
+    ensures { λ r. ⌜ r ≡ placeAt shape (now (words .entry)) (now (bytes .entry)) place .stored .durable ⌝ }
+{
+    let p = store_areas::spot_in(words, bytes, shape, place);
+    let words_start = p.words_start;
+    let words_end = p.words_end;
+    store_place::durable(&words[words_start..words_end])
+}
+
+// last_outgoing over n.
 pub fn last_outgoing(words: &[u64], bytes: &[u8], shape: Shape, place: usize, n: u64) -> u64
     requires { ⌜ Rules shape (now words) (now bytes) ⌝ }
     requires { ⌜ place < getD (now words) 0 0 ⌝ }
@@ -187,36 +233,74 @@ pub fn last_outgoing(words: &[u64], bytes: &[u8], shape: Shape, place: usize, n:
     )
 }
 
-// The summary of a session in use, with last_outgoing over n.
-pub fn summary_of(words: &[u64], bytes: &[u8], shape: Shape, place: usize, n: u64) -> StoredSummary
-    requires { ⌜ Rules shape (now words) (now bytes) ⌝ }
-    requires { ⌜ place < getD (now words) 0 0 ⌝ }
-    ensures { λ r. ⌜ summaryIs (now (bytes .entry)) r ≡ summary (placeAt shape (now (words .entry)) (now (bytes .entry)) place .stored .session) n ⌝ }
+// A number in flight as a frame has it.
+fn in_flight(flight: Flight) -> InFlight
+    ensures { λ r. ⌜ flightOf r ≡ flightIs flight ⌝ }
 {
-    let next_outgoing = store_state::next_outgoing(words, bytes, shape, place);
-    let next_incoming = store_state::next_incoming(words, bytes, shape, place);
-    let in_flight = store_state::in_flight(words, bytes, shape, place);
-    let created_at = store_state::created_at(words, bytes, shape, place);
-    let marks = store_state::marks(words, bytes, shape, place);
-    let last_outgoing = last_outgoing(words, bytes, shape, place, n);
-    StoredSummary {
+    match flight {
+        Flight::Nothing => InFlight::Nothing,
+        Flight::Number(n) => InFlight::Seq(n),
+    }
+}
+
+// The summary of the session whose words and bytes these are, with last_outgoing over n; its bytes begin at `from` in the byte area.
+fn summary_in(words: &[u64], bytes: &[u8], max: usize, from: usize, n: u64) -> Summary
+    requires { ⌜ 16 + 2 * max ≤ length (now words) ⌝ }
+    requires { ⌜ 224 ≤ length (now bytes) ⌝ }
+    requires { ⌜ from + 224 < 18446744073709551616 ⌝ }
+    ensures { λ r. ⌜ ((C : ℕ) → length (now (bytes .entry)) ≡ 224 + C → SummaryIn C max from n (now (words .entry)) (now (bytes .entry)) r) ⌝ }
+{
+    let next_outgoing = store_place::next_outgoing(words);
+    let next_incoming = store_place::next_incoming(words);
+    let in_flight = in_flight(store_place::in_flight(words));
+    let stamp = store_place::stamp_len(words, bytes);
+    let marks = store_place::marks_len(words, bytes);
+    let last_outgoing = store_place::last_outgoing(words, bytes, max, n);
+    Summary {
         next_outgoing,
         next_incoming,
         in_flight,
-        created_at,
-        marks,
+        created_at: Span {
+            at: from + store_place::byte::STAMP,
+            len: stamp as u32,
+        },
+        marks: Span {
+            at: from + store_place::byte::MARKS,
+            len: marks as u32,
+        },
         last_outgoing,
     }
 }
 
+// The summary with last_outgoing over n; its texts are parts of the byte area.
+pub fn summary_of(words: &[u64], bytes: &[u8], shape: Shape, place: usize, n: u64) -> Summary
+    requires { ⌜ Rules shape (now words) (now bytes) ⌝ }
+    requires { ⌜ place < getD (now words) 0 0 ⌝ }
+    ensures is { λ r. ⌜ summaryOf (now (bytes .entry)) r ≡ summary (placeAt shape (now (words .entry)) (now (bytes .entry)) place .stored .session) n ⌝ }
+    ensures inside { λ r. ⌜ TextsIn (now (bytes .entry)) r ⌝ }
+{
+    let p = store_areas::spot_in(words, bytes, shape, place);
+    let words_start = p.words_start;
+    let words_end = p.words_end;
+    let bytes_start = p.bytes_start;
+    let bytes_end = p.bytes_end;
+    let max = shape.messages as usize;
+    summary_in(
+        &words[words_start..words_end],
+        &bytes[bytes_start..bytes_end],
+        max,
+        bytes_start,
+        n,
+    )
+}
+
 // The same on any areas and of any place.
 pub fn summary(words: &[u64], bytes: &[u8], shape: Shape, place: usize, n: u64) -> Summarised
-    ensures { λ r. ⌜ summarisedIs (now (bytes .entry)) r ≡ summarisedIn shape (now (words .entry)) (now (bytes .entry)) place n ⌝ }
+    ensures is { λ r. ⌜ summarisedIs (now (bytes .entry)) r ≡ summarisedAt shape (now (words .entry)) (now (bytes .entry)) place n ⌝ }
+    ensures inside { λ r. ⌜ SummarisedIn (now (bytes .entry)) r ⌝ }
 {
-    if store_areas::allowed(shape, words, bytes) {
-        if place < words[word::USED] as usize {
-            return Summarised::Session(summary_of(words, bytes, shape, place, n));
-        }
+    if store_areas::in_use(words, bytes, shape, place) {
+        return Summarised::Session(summary_of(words, bytes, shape, place, n));
     }
     Summarised::InvalidAreas
 }

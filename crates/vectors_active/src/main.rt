@@ -35,10 +35,16 @@ fn open(line: &[u8], words: &mut [u64], bytes: &mut [u8], at: At) -> At {
     if line.len() < 2 {
         return at;
     }
-    let place = c_store::store_open(words, bytes, shape, b"FIX.4.4", b"A", &line[2..], b"");
+    let opened = c_store::store_open(words, bytes, shape, b"FIX.4.4", b"A", &line[2..], b"");
+    if opened.refusal != 0 {
+        return At {
+            shape,
+            place: usize::MAX,
+        };
+    }
     At {
         shape,
-        place: place as usize,
+        place: opened.value as usize,
     }
 }
 

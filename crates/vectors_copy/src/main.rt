@@ -10,6 +10,8 @@ use active::Begun;
 use active::Sending;
 use active::Sent;
 use base_hex::Line;
+use frame::InFlight;
+use frame::Summary;
 use frame_fields::CommitNumber;
 use frame_fields::Epoch;
 use frame_fields::Incarnation;
@@ -20,9 +22,7 @@ use standby_state::Answer;
 use standby_state::Replica;
 use standby_state::Settings;
 use store_areas::Shape;
-use store_place::Flight;
 use store_sessions::Summarised;
-use store_state::StoredSummary;
 
 // The stores' shape, what the standby keeps, the sending, the length of the frame that it gave last, and B's hash.
 #[repr(C)]
@@ -63,23 +63,23 @@ fn text_hash(hash: u64, bytes: &[u8], at: usize, len: usize) -> u64 {
     hash
 }
 
-fn flight_hash(hash: u64, flight: Flight) -> u64 {
+fn flight_hash(hash: u64, flight: InFlight) -> u64 {
     match flight {
-        Flight::Nothing => store_log::fnv::word(hash, 0),
-        Flight::Number(n) => store_log::fnv::word(store_log::fnv::word(hash, 1), n),
+        InFlight::Nothing => store_log::fnv::word(hash, 0),
+        InFlight::Seq(n) => store_log::fnv::word(store_log::fnv::word(hash, 1), n),
     }
 }
 
 // A hash over a session's six parts; the messages and their numbers are in last_outgoing.
-fn summary_hash(bytes: &[u8], s: StoredSummary) -> u64 {
+fn summary_hash(bytes: &[u8], s: Summary) -> u64 {
     let stamp = s.created_at;
     let marks = s.marks;
     let flight = s.in_flight;
     let h = store_log::fnv::word(0xcbf2_9ce4_8422_2325, s.next_outgoing);
     let h = store_log::fnv::word(h, s.next_incoming);
     let h = flight_hash(h, flight);
-    let h = text_hash(h, bytes, stamp.at, stamp.len);
-    let h = text_hash(h, bytes, marks.at, marks.len);
+    let h = text_hash(h, bytes, stamp.at, stamp.len as usize);
+    let h = text_hash(h, bytes, marks.at, marks.len as usize);
     store_log::fnv::word(h, s.last_outgoing)
 }
 

@@ -3,7 +3,7 @@ use std::num::wrapping_add_u64;
 use store_areas::Shape;
 
 pub fn set_incoming(words: &mut [u64], bytes: &[u8], shape: Shape, place: usize, seq: u64) {
-    c_store::store_set_next_incoming(words, bytes, shape, place, seq);
+    c_changes::store_set_next_incoming(words, bytes, shape, place, seq);
 }
 
 pub fn set_both(
@@ -14,33 +14,33 @@ pub fn set_both(
     seq: u64,
     flight: u64,
 ) {
-    c_store::store_set_next_incoming_in_flight(words, bytes, shape, place, seq, flight);
+    c_changes::store_set_next_incoming_in_flight(words, bytes, shape, place, seq, flight);
 }
 
 pub fn set_flight(words: &mut [u64], bytes: &[u8], shape: Shape, place: usize, seq: u64) {
-    c_store::store_set_in_flight(words, bytes, shape, place, seq);
+    c_changes::store_set_in_flight(words, bytes, shape, place, seq);
 }
 
 // A Record without message.
 pub fn skip(words: &mut [u64], bytes: &[u8], shape: Shape, place: usize, seq: u64) {
-    c_store::store_record_none(words, bytes, shape, place, seq);
+    c_changes::store_record_none(words, bytes, shape, place, seq);
 }
 
 pub fn reset(words: &mut [u64], bytes: &[u8], shape: Shape, place: usize) {
-    c_store::store_reset(words, bytes, shape, place);
+    c_changes::store_reset(words, bytes, shape, place);
 }
 
 pub fn set_stamp(words: &mut [u64], bytes: &mut [u8], shape: Shape, place: usize, text: &[u8]) {
-    c_store::store_set_created_at(words, bytes, shape, place, text);
+    c_changes::store_set_created_at(words, bytes, shape, place, text);
 }
 
 pub fn set_marks(words: &mut [u64], bytes: &mut [u8], shape: Shape, place: usize, text: &[u8]) {
-    c_store::store_set_marks(words, bytes, shape, place, text);
+    c_changes::store_set_marks(words, bytes, shape, place, text);
 }
 
 // A Record of the next outgoing number with this message.
 pub fn record(words: &mut [u64], bytes: &mut [u8], shape: Shape, place: usize, text: &[u8]) {
-    c_store::store_record(words, bytes, shape, place, text);
+    c_changes::store_record(words, bytes, shape, place, text);
 }
 
 // Bytes that count on from a number, modulo 251.
@@ -62,8 +62,8 @@ pub fn record_made(
     room: &mut [u8],
 ) {
     if len <= room.len() {
-        let seq = c_store::store_next_outgoing(words, bytes, shape, place);
-        count_on(&mut room[0..len], seq);
+        let next = c_store::store_next_outgoing(words, bytes, shape, place);
+        count_on(&mut room[0..len], next.value);
         record(words, bytes, shape, place, &room[0..len]);
     }
 }

@@ -63,17 +63,18 @@ fn put_hash(hash: u64) {
 // Records the first len bytes of a text.
 fn record_front(words: &mut [u64], bytes: &mut [u8], shape: Shape, text: &[u8], len: usize) {
     if len <= text.len() {
-        c_store::store_record(words, bytes, shape, 0, &text[0..len]);
+        c_changes::store_record(words, bytes, shape, 0, &text[0..len]);
     }
 }
 
 // Records a message of len bytes under the next number, from which its bytes come.
 fn record(words: &mut [u64], bytes: &mut [u8], shape: Shape, len: usize) {
     let next = c_store::store_next_outgoing(words, bytes, shape, 0);
+    let from = next.value;
     let mut text = [0u8; 80];
     let mut j: usize = 0;
     while j < 80 {
-        text[j] = (wrapping_add_u64(next, j as u64) % 251) as u8;
+        text[j] = (wrapping_add_u64(from, j as u64) % 251) as u8;
         j += 1;
     }
     record_front(words, bytes, shape, &text, len);
@@ -105,7 +106,8 @@ fn put_message(bytes: &[u8], number: u64, at: usize, first: usize, again: usize,
 
 // The next number and each message's number, length and hash.
 fn list(words: &[u64], bytes: &[u8], shape: Shape) {
-    put_number(c_store::store_next_outgoing(words, bytes, shape, 0));
+    let next = c_store::store_next_outgoing(words, bytes, shape, 0);
+    put_number(next.value);
     put_text(b":");
     if store_areas::in_use(words, bytes, shape, 0) {
         let c = store_sessions::messages_from(words, bytes, shape, 0, 1);
@@ -144,12 +146,13 @@ fn make(words: &mut [u64], bytes: &mut [u8], cap: u32, max: u32) -> Shape {
 // A Record without message that skips some numbers.
 fn record_none(words: &mut [u64], bytes: &mut [u8], shape: Shape, skip: u32) {
     let next = c_store::store_next_outgoing(words, bytes, shape, 0);
-    let seq = wrapping_add_u64(next, skip as u64);
-    c_store::store_record_none(words, bytes, shape, 0, seq);
+    let seq = wrapping_add_u64(next.value, skip as u64);
+    c_changes::store_record_none(words, bytes, shape, 0, seq);
 }
 
 fn put_last_outgoing(words: &[u64], bytes: &[u8], shape: Shape, n: u32) {
-    put_hash(c_store::store_last_outgoing(words, bytes, shape, 0, n as u64));
+    let hash = c_store::store_last_outgoing(words, bytes, shape, 0, n as u64);
+    put_hash(hash.value);
     put_text(b"\n");
 }
 
@@ -175,7 +178,7 @@ fn command(line: &[u8], words: &mut [u64], bytes: &mut [u8], shape: Shape) -> Sh
         b'r' => record_many(words, bytes, shape, a.value as usize, b.value),
         b'g' => record_none(words, bytes, shape, a.value),
         b'z' => {
-            c_store::store_reset(words, bytes, shape, 0);
+            c_changes::store_reset(words, bytes, shape, 0);
         }
         b'p' => {
             c_store::store_take_over(words, bytes, shape, 0, a.value as u64);

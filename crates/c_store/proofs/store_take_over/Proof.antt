@@ -1,6 +1,6 @@
 use borrow.Author.Needs.{needs}
-use mathlib.Core.Path.{refl}
 use borrow.Author.Tests.{not-true, not-false}
+use mathlib.Core.Path.{refl}
 use Rattle.c_store.proofs.Laws.{used, unfit, made}
 use Rattle.c_store.proofs.store_take_over.Statement.{statement}
 use Rattle.c_store.proofs.store_take_over.Tie as tie

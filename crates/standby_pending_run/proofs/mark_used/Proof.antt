@@ -9,7 +9,7 @@ use Rattle.standby_pending_run.proofs.mark_used.Tie as tie
 returns : tie.Need-returns
 returns c =
     let a = c .before .before .before .before .before .before .before .args in
-    c .before .before .mark .ensures ∙ marked-there (a .shape) (getD (a .words .now) 0 0) (a .place) (a .words .now) (omega arith)
+    c .before .before .mark-durable .ensures ∙ marked-there (a .shape) (getD (a .words .now) 0 0) (a .place) (a .words .now) (omega arith)
 
 returns-2 : tie.Need-returns-2
 returns-2 c =

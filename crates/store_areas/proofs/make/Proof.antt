@@ -1,7 +1,7 @@
 use native.Mathlib.Omega.{arith}
-use mathlib.Core.Path.{refl, sym, _∙_}
+use mathlib.Core.Path.{sym, _∙_}
 use lib.ListN.{length-set}
-use Rattle.store_areas.proofs.Ruling.{room-of}
+use Rattle.store_areas.proofs.Ruling.{room-of, made-ready, made-unfit}
 use borrow.Author.Needs.{needs}
 use Rattle.store_areas.proofs.make.Statement.{statement}
 use Rattle.store_areas.proofs.make.Tie as tie
@@ -13,10 +13,10 @@ slice-write-words-2 : tie.Need-slice-write-words-2
 slice-write-words-2 c = simp length-set (omega (arith, room-of _ _ _ (sym (c .before .long-enough .ensures) ∙ c .if1 .taken) .words-long))
 
 returns : tie.Need-returns
-returns c = (sym (c .before .long-enough .ensures) ∙ c .if1 .taken, refl)
+returns c = made-ready _ _ _ (sym (c .before .long-enough .ensures) ∙ c .if1 .taken)
 
 returns-2 : tie.Need-returns-2
-returns-2 c = (sym (c .before .long-enough .ensures) ∙ c .if1 .left, refl)
+returns-2 c = made-unfit _ _ _ (sym (c .before .long-enough .ensures) ∙ c .if1 .left)
 
 pub make-spec : {M : Type 1} → statement M
 make-spec =

@@ -1,2 +1,0 @@
--- What the store's functions answer.
-pub mod Answers
