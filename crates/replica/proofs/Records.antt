@@ -9,7 +9,7 @@ use types.Kit.{Given}
 use denote.RattleType.{RattleType}
 use denote.Laws.{Is, Tells, Makes}
 use denote.Struct.Laws as LL
-use Rattle.standby_state.specs.declared.Replica.{Replica}
+use Rattle.standby_counters.specs.declared.Replica.{Replica}
 use Rattle.standby_state.proofs.Replica as Replica-type
 use Rattle.standby_state.proofs.Replica.Laws as Replica-laws
 use Rattle.standby_state.specs.declared.Settings.{Settings}

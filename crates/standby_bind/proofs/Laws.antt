@@ -9,6 +9,8 @@ use lib.ListN.{length, getD, set, take, drop, getElem?, length-set, length-take}
 use lib.Seq.{take-all, take-take, drop-set-lt, getD-set-same, getD-set-other}
 use lib.Dec.{ltb}
 use borrow.Author.Tests.{lt-ltb, le-ltb, ltb-true, not-true, not-false}
+use Rattle.base_flags.specs.Flag.{isSet}
+use Rattle.base_flags.proofs.Flags.{written-so}
 use Rattle.model_text.specs.Printable.{isMarks}
 use Rattle.model_text.proofs.Laws.{marks-is}
 use Rattle.model_frame.specs.Frame.{Key, bound, nack, staleEpoch, lagTooGreat}
@@ -48,7 +50,7 @@ use Rattle.standby_commit.proofs.Laws.{touched-none}
 use Rattle.standby_row.specs.declared.Bound.{Bound}
 use Rattle.standby_row.specs.declared.Lookup.{Lookup}
 use Rattle.standby_part.specs.State.{coreAt}
-use Rattle.standby_state.specs.declared.Replica.{Replica}
+use Rattle.standby_counters.specs.declared.Replica.{Replica}
 use Rattle.standby_state.specs.declared.Settings.{Settings}
 use Rattle.standby_state.specs.declared.BoundSummary.{BoundSummary}
 use Rattle.standby_state.specs.declared.Answer.{Answer}
@@ -87,7 +89,7 @@ module _ (s : Shape) (w b : List ℕ) (i n : ℕ) (sw : Small (2 ^ 64) w) (sb : 
   abbrev there : Session
   there = placeAt s w b i .stored .session
 
-  pub brief-is : (m : StoredSummary) {flies : Bool} {f : ℕ} {at marks : Span} → summaryIs b m ≡ summary there n → flies ≡ isSome (flightIs (m .«in_flight»)) → f ≡ numberIn (flightIs (m .«in_flight»))
+  pub brief-is : (m : StoredSummary) {flies : ℕ} {f : ℕ} {at marks : Span} → summaryIs b m ≡ summary there n → flies ≡ cond (isSome (flightIs (m .«in_flight»))) 1 0 → f ≡ numberIn (flightIs (m .«in_flight»))
       → at ≡ textSpan (m .«created_at») → marks ≡ textSpan (m .marks)
       → briefOf b (record {
         «next_outgoing» = m .«next_outgoing»;
@@ -107,15 +109,14 @@ module _ (s : Shape) (w b : List ℕ) (i n : ℕ) (sw : Small (2 ^ 64) w) (sb : 
       let first : length (there .stamp) ≤ 21 = stamp-short (there .stamp) (ok .stamp-ok) in
       let second : length (there .marks) ≤ 64 = marks-is (there .marks) (T→true (isMarks (there .marks)) (ok .marks-ok)) .most in
       let flight : cond (isSome (flightIs (m .«in_flight»))) (some (numberIn (flightIs (m .«in_flight»)))) none ≡ flightIs (m .«in_flight») = flown (flightIs (m .«in_flight»)) in
-      (λ j. briefOf b (record {
-        «next_outgoing» = m .«next_outgoing»;
-        «next_incoming» = m .«next_incoming»;
-        «has_in_flight» = e₁ j;
-        «in_flight» = e₂ j;
-        «created_at» = e₃ j;
-        marks = e₄ j;
-        «last_outgoing» = m .«last_outgoing»;
-      }))
+      (λ j. record {
+        nextOut = m .«next_outgoing»;
+        nextIn = m .«next_incoming»;
+        inFlight = cond ((ap isSet e₁ ∙ written-so (isSome (flightIs (m .«in_flight»)))) j) (some (e₂ j)) none;
+        stampText = spanOf b (e₃ j);
+        marksText = spanOf b (e₄ j);
+        lastOutgoing = m .«last_outgoing»;
+      })
       ∙ (λ j. record {
         nextOut = m .«next_outgoing»;
         nextIn = m .«next_incoming»;

@@ -1,6 +1,6 @@
 // Bind (standby.rs, an arm of `answer`): a handle is bound to the session of a key, which is opened if it is new, and its summary is answered.
 ghost use mathlib.Core.Path.{_≡_};
-ghost use mathlib.Core.Bool.{_||_};
+ghost use mathlib.Core.Bool.{_||_, cond};
 ghost use Prim.Native.Nat.{_<_, _≤_};
 ghost use lib.ListN.{getD};
 ghost use lib.Dec.{ltb};
@@ -47,12 +47,12 @@ fn span_of(text: Text) -> Span
     Span { at, len: TEXT_MOST }
 }
 
-fn has_in_flight(flight: Flight) -> bool
-    ensures { λ r. ⌜ r ≡ isSome (flightIs flight) ⌝ }
+fn has_in_flight(flight: Flight) -> u8
+    ensures { λ r. ⌜ r ≡ cond (isSome (flightIs flight)) 1 0 ⌝ }
 {
     match flight {
-        Flight::Nothing => false,
-        Flight::Number(_) => true,
+        Flight::Nothing => 0,
+        Flight::Number(_) => 1,
     }
 }
 
@@ -158,7 +158,7 @@ fn new_bound(handle: u32, place: usize) -> Bound
     ensures { λ r. ⌜ r ≡ newHandle handle place ⌝ }
 {
     Bound {
-        used: true,
+        used: 1,
         handle,
         place,
         commit_no: CommitNumber(0),
