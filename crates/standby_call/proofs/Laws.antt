@@ -59,26 +59,26 @@ module _ (c : Call) (f : List ℕ) where
   pub sought-none : (c .kind ≡ 0 → ⊥) → (c .kind ≡ 1 → ⊥) → 0 ≡ soughtBy (callOf c f)
   sought-none n₀ n₁ = sym (ap soughtBy (past-frames n₀ n₁) ∙ none-sought (eqb (c .kind) 2) (eqb (c .kind) 3) (eqb (c .kind) 4) (c .connection))
 
-  -- ---- the step
+  -- ---- which call it is
 
-  module _ {s : Settings} {k : Replica} {l : Lookup} {w w' b b' h h' : List ℕ} {r : Outcome} where
-    abbrev Steps : state.Call → Type 0
-    Steps x = StepIs s k l x w w' b b' h h' r
+  pub is-held : c .kind ≡ 0 → callOf c f ≡ onFrameHeld f
+  is-held e = by-kind 0 e
 
-    pub held-steps : c .kind ≡ 0 → Steps (onFrameHeld f) → Steps (callOf c f)
-    held-steps e p = subst Steps (sym (by-kind 0 e)) p
+  pub is-frame : c .kind ≡ 1 → callOf c f ≡ onFrame f
+  is-frame e = by-kind 1 e
 
-    pub frame-steps : c .kind ≡ 1 → Steps (onFrame f) → Steps (callOf c f)
-    frame-steps e p = subst Steps (sym (by-kind 1 e)) p
+  pub is-flush : c .kind ≡ 2 → callOf c f ≡ flush (c .connection)
+  is-flush e = by-kind 2 e
 
-    pub flush-steps : c .kind ≡ 2 → Steps (flush (c .connection)) → Steps (callOf c f)
-    flush-steps e p = subst Steps (sym (by-kind 2 e)) p
+  pub is-drop : c .kind ≡ 3 → callOf c f ≡ disconnectedFrom (c .connection)
+  is-drop e = by-kind 3 e
 
-    pub lost-steps : c .kind ≡ 3 → Steps (disconnectedFrom (c .connection)) → Steps (callOf c f)
-    lost-steps e p = subst Steps (sym (by-kind 3 e)) p
+  pub is-promote : c .kind ≡ 4 → callOf c f ≡ promote
+  is-promote e = by-kind 4 e
 
-    pub promote-steps : c .kind ≡ 4 → Steps promote → Steps (callOf c f)
-    promote-steps e p = subst Steps (sym (by-kind 4 e)) p
+  pub is-unchecked : (c .kind ≡ 0 → ⊥) → (c .kind ≡ 1 → ⊥) → (c .kind ≡ 2 → ⊥) → (c .kind ≡ 3 → ⊥) → (c .kind ≡ 4 → ⊥) → callOf c f ≡ promoteUnchecked
+  is-unchecked n₀ n₁ n₂ n₃ n₄ = past-all n₀ n₁ n₂ n₃ n₄
 
-    pub unchecked-steps : (c .kind ≡ 0 → ⊥) → (c .kind ≡ 1 → ⊥) → (c .kind ≡ 2 → ⊥) → (c .kind ≡ 3 → ⊥) → (c .kind ≡ 4 → ⊥) → Steps promoteUnchecked → Steps (callOf c f)
-    unchecked-steps n₀ n₁ n₂ n₃ n₄ p = subst Steps (sym (past-all n₀ n₁ n₂ n₃ n₄)) p
+-- the step of the call that it is
+pub steps-by : {s : Settings} {k : Replica} {l : Lookup} {x y : state.Call} {w w' b b' h h' : List ℕ} {r : Outcome} → y ≡ x → StepIs s k l x w w' b b' h h' r → StepIs s k l y w w' b b' h h' r
+steps-by {s} {k} {l} {x} {y} {w} {w'} {b} {b'} {h} {h'} {r} e p = subst (λ (z : state.Call). StepIs s k l z w w' b b' h h' r) (sym e) p
