@@ -655,7 +655,7 @@ def knowns(C: str) -> str:                           # that each callee meets it
     return ' '.join(f'(known-{dash(f)} : Triple 𝓤 ({C} {symbol(f)}) ({camel(f)} 𝓤 H A memory run))' for f in known)
 
 
-cited = '\n'.join(f'    (cited 𝓤 H ({camel(f)} 𝓤 H (𝓖 .A) (𝓜 .mem) (𝓡 .run)) 𝓜 𝓡 code.env {symbol(f)} {dash(f)}-def.routine code.calls-{f.split("::")[0].replace("_", "-")}·{dash(f)} ({dash(f)}-thm.met 𝓤 H 𝓜 𝓖 𝓡))' for f in known)
+cited = '\n'.join(f'    (cited 𝓤 H ({camel(f)} 𝓤 H (𝓖 .A) (𝓜 .mem) (𝓡 .run)) 𝓜 𝓡 code.env {symbol(f)} {dash(f)}-def.routine code.calls-{f.replace("_", "-").replace("::", "·")} ({dash(f)}-thm.met 𝓤 H 𝓜 𝓖 𝓡))' for f in known)
 contracts = '\n\n'.join(f'  abbrev {camel(f)} : Contract 𝓤\n  {camel(f)} = tripleOf 𝓤 H A {dash(f)}.signature ({dash(f)}.spec 𝓤 H A memory run)' for f in known if not f.startswith('standby_row::'))
 
 

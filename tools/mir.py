@@ -20,8 +20,9 @@ def sub(number: int | str) -> str:                   # digits as subscripts
     return str(number).translate(SUB)
 
 
-def dash(f: str) -> str:                             # a function's name as antt has it
-    return f.split('::')[-1].replace('_', '-')
+def dash(f: str) -> str:                             # a function's name as a walk has it; `run` is a variable there
+    name = f.split('::')[-1].replace('_', '-')
+    return 'run-it' if name == 'run' else name
 
 
 def camel(f: str) -> str:                            # the name of its contract
