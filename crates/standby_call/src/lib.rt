@@ -74,12 +74,24 @@ pub fn run(
     }
     if call.kind == Call::FLUSH {
         return standby_lifecycle::flush(
-            counters, lookup, words, bytes, holds, connection, settings,
+            counters,
+            lookup,
+            words,
+            bytes,
+            holds,
+            connection,
+            settings,
         );
     }
     if call.kind == Call::DISCONNECTED_FROM {
         return standby_lifecycle::disconnected_from(
-            counters, lookup, words, bytes, holds, connection, settings,
+            counters,
+            lookup,
+            words,
+            bytes,
+            holds,
+            connection,
+            settings,
         );
     }
     if call.kind == Call::PROMOTE {

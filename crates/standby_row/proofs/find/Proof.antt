@@ -248,11 +248,11 @@ module _ {M : Type 1} (𝓤 : URA M) (H : Heap 𝓤) (A : Atoms 𝓤) (W : Given
       assigns ! (of-opd ! (load ! (from ! (fld ! refl (stop !))) (look-in ! 22 (sub ! 1 refl (whole !))))) (from ! (stop !)) (init ! 14 refl (tt, record { fits = room .0 })) $
       use0 W (raw (NothingSeen 𝓤 H A memory run .pre to-first)) goes-first $
       calls-at ! fm (NothingSeen 𝓤 H A memory run) known-nothing-seen to-first (and-then ! (load ! (from ! (stop !)) (look ! 15 refl)) (no-more !)) (λ v.
-        use1 W (later (some (λ (r : Lookup). (‵ ftrue ⊛ ‵ (R-Lookup .own r (v ∷ []))) ⊛ raw (ensured 𝓤 H A nothing-seen.ended (nothing-seen.clauses 𝓤 H A memory run) tt (n, tt) tt r)))) (id⊢ 𝓤 _) $ await ! tt $ pick ! (λ r.
-        split ! $ move ! (1 ∷ []) $ use1 W (raw (fact 𝓤 (r ≡ unseen n))) (told-first 𝓤 H A memory run n r) $ heard ! (r ≡ unseen n) (λ e′. split ! $ drop ! $
-        facts ! R-Lookup (Is R-Lookup) (shows 𝓤 H A R-Lookup) r (v ∷ []) (λ is-r.
+      use1 W (later (some (λ (r : Lookup). (‵ ftrue ⊛ ‵ (R-Lookup .own r (v ∷ []))) ⊛ raw (ensured 𝓤 H A nothing-seen.ended (nothing-seen.clauses 𝓤 H A memory run) tt (n, tt) tt r)))) (id⊢ 𝓤 _) $ await ! tt $ pick ! (λ r.
+      split ! $ move ! (1 ∷ []) $ use1 W (raw (fact 𝓤 (r ≡ unseen n))) (told-first 𝓤 H A memory run n r) $ heard ! (r ≡ unseen n) (λ e′. split ! $ drop ! $
+      facts ! R-Lookup (Is R-Lookup) (shows 𝓤 H A R-Lookup) r (v ∷ []) (λ is-r.
       land ! (from ! (stop !)) (init ! 12 refl (LL.lawful L.the-type L′.the-laws 𝓤 H A W .typed r _ is-r .0)) $
-        rewrite ! 12 (λ (us : List Val). ‵ (fat fullShare L′.mir l₆ 0 (only us))) (tells-Lookup r (v ∷ []) is-r) refl $
+      rewrite ! 12 (λ (us : List Val). ‵ (fat fullShare L′.mir l₆ 0 (only us))) (tells-Lookup r (v ∷ []) is-r) refl $
       begins 𝓣 fm known-look-at l₀ l₁ l₂ l₃ l₄ l₅ l₆ l₇ l₈ l₉ l₁₀ l₁₁ l₁₂ r (subst (Is R-Lookup r) (tells-Lookup r (v ∷ []) is-r) is-r) e′)))))))))))))))))
 
 module _ {M : Type 1} (𝓤 : URA M) (H : Heap 𝓤) (A : Atoms 𝓤) (W : Given 𝓤 H A) (memory : Memory → SProp 𝓤) (run : Routine → Fun 𝓤) (𝓣 : Tables 𝓤 H) (known-nothing-seen : Triple 𝓤 (𝓣 .C #standby_row·nothing-seen) (NothingSeen 𝓤 H A memory run)) (known-look-at : Triple 𝓤 (𝓣 .C #standby_row·look-at) (LookAt 𝓤 H A memory run)) where
