@@ -1,5 +1,6 @@
 """A function's MIR (`rt mir`), the contracts and structs of the sources, types and values as a walk writes them, and a context by names. For entry.py."""
 import glob
+import os
 import re
 import subprocess
 import sys
@@ -19,8 +20,9 @@ def sub(number: int | str) -> str:                   # digits as subscripts
     return str(number).translate(SUB)
 
 
-def dash(f: str) -> str:                             # a function's name as antt has it
-    return f.split('::')[-1].replace('_', '-')
+def dash(f: str) -> str:                             # a function's name as a walk has it; `run` is a variable there
+    name = f.split('::')[-1].replace('_', '-')
+    return 'run-it' if name == 'run' else name
 
 
 def camel(f: str) -> str:                            # the name of its contract
@@ -63,10 +65,14 @@ def statements(b: Term) -> list[Term]:
     return [b] if b[0] != 'seq' else statements(b[1]) + statements(b[2])
 
 
-printed = subprocess.run(['rt', 'mir', crate], capture_output=True, text=True, cwd=ROOT)
-text = next((line for line in printed.stdout.split('\n') if line.startswith('program')), '')
+if os.environ.get('MIR_OF') == crate:                # printed before, for several runs (tools/generate)
+    printed, errors = open(f'{ROOT}/target/mir-{crate}.txt').read(), ''
+else:
+    ran = subprocess.run(['rt', 'mir', crate], capture_output=True, text=True, cwd=ROOT)
+    printed, errors = ran.stdout, ran.stderr
+text = next((line for line in printed.split('\n') if line.startswith('program')), '')
 if not text:
-    sys.exit(f'rt mir {crate} printed no program:\n{printed.stderr}')
+    sys.exit(f'rt mir {crate} printed no program:\n{errors}')
 mir = {f[1]: f[2] for f in items(sexp(text)[1])}
 _, lifetimes, _, count, locs, body = mir[f'{crate}::{fn}']
 types = [l[1] for l in items(locs)]
@@ -128,7 +134,7 @@ def ty(t: Term) -> str:                              # a type as antt has it
     if t[0] == 'tyRef':
         return ref_ty(*t[1:])
     if t[0] == 'tyArray':
-        return f'tyArray {ty(t[1])} {t[2][1]}'
+        return f'tyArray {arg(ty(t[1]))} {t[2][1]}'
     return f'{struct(t[1][1])}-laws.mir' if t[0] == 'tyNamed' else 'word' if t[1] == '64' else f'tyInt w{t[1]}'
 
 
@@ -210,8 +216,12 @@ decls = [('pair', *d[1:]) for d in items(next(f[3] for f in items(sexp(text)[1])
 names, _, _ = function(f'{crate}::{fn}')
 
 
+# whether the function only hands on: it lends its &mut record to the core
+forwards = any(st[0] == 'assign' and st[2][0] == 'addrOf' and [x[0] for x in items(st[2][1][2])] == ['deref'] for st in statements(body))
+
+
 class Param:
-    # j the local, kind what is passed: rec a &mut record, row the row of handles, gave a &mut slice, look a & slice, plain a value. val its value at entry; R its row, X its type in antt.
+    # j the local, kind what is passed: rec a &mut record, row the row of handles, gave a &mut slice, ref a &mut record that is handed on, look a & slice, plain a value. val its value at entry; R its row, X its type in antt.
     # Of a reference: l its lifetime's number, k the lifetime, q the share, at the reference, (b, o) the pointer, s_ the machine value; own, tok and item what is had of it
     def __init__(self, j: int) -> None:
         t, self.j, self.name = types[j], j, names[j - 1]
@@ -226,12 +236,14 @@ class Param:
         else:
             self.kind, self.t = 'plain', t
             self.R, self.X = rat(t)[0], rat(t)[4]
+        if forwards:
+            self.kind = {'rec': 'ref', 'row': 'gave'}.get(self.kind, self.kind)
         self.at, self.room = f'{self.name}-at', f'room-{self.name}'
         if self.kind != 'plain':
             self.b, self.o = f'({self.at} .ptr .0)', f'({self.at} .ptr .1)'
             self.k, self.q = f'κ{sub(self.l)}', f'q{sub(self.l)}'
             self.s_ = f's-{self.name}'
-            self.own = f'‵ ({"MutRef" if self.kind == "rec" else "ShrSlice" if self.kind == "look" else "MutSlice"} (named {self.l}) {self.k} {self.R} .own {self.at} ({self.s_} ∷ []))'
+            self.own = f'‵ ({"MutRef" if self.kind in ("rec", "ref") else "ShrSlice" if self.kind == "look" else "MutSlice"} (named {self.l}) {self.k} {self.R} .own {self.at} ({self.s_} ∷ []))'
             self.tok = f'‵ (flft {self.k} {self.q})'
             self.item = f'Plain-{self.name}'
 
@@ -242,10 +254,15 @@ class Param:
 
 params = [Param(j) for j in range(1, count + 1)]
 refs = sorted([p for p in params if p.ref], key=lambda p: p.l)
-plains = [p for p in params if p.kind in ('gave', 'look')]
+plains = [p for p in params if p.kind in ('gave', 'look', 'ref')]
 row = next((p for p in params if p.kind == 'row'), None)
 rec = next((p for p in params if p.kind == 'rec'), None)
 assert [p.l for p in refs] == list(range(lifetimes))
+
+
+class Empty:                                         # an empty & slice of bytes: nothing stands behind it, so it is had for nothing; j the local that it points to
+    def __init__(self, j: int) -> None:
+        self.j, self.l = j, f'l{sub(j)}'
 
 
 class Lent:                                          # a local that is lent to the core: a record, or an array of handles

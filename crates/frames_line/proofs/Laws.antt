@@ -28,7 +28,7 @@ use Rattle.base_hex.specs.Lines.{ReadsLine, Puts, lineRead, lineLength}
 use Rattle.base_hex.specs.declared.Line.{Line}
 use Rattle.base_hex.specs.declared.Line.the-variants.{Bytes, Bad}
 use Rattle.standby_row.specs.declared.Bound.{Bound}
-use Rattle.standby_state.specs.declared.Replica.{Replica}
+use Rattle.standby_counters.specs.declared.Replica.{Replica}
 use Rattle.standby_state.specs.declared.Settings.{Settings}
 use Rattle.standby_state.specs.declared.Answer as the-code
 use Rattle.standby_state.specs.Answers as the-answers

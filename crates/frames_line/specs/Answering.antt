@@ -11,7 +11,7 @@ use Rattle.model_standby.specs.State.{onFrame}
 use Rattle.model_lines.specs.Program.{lineText, lineStep}
 use Rattle.base_hex.specs.Lines.{Puts}
 use Rattle.standby_row.specs.declared.Bound.{Bound}
-use Rattle.standby_state.specs.declared.Replica.{Replica}
+use Rattle.standby_counters.specs.declared.Replica.{Replica}
 use Rattle.standby_state.specs.declared.Settings.{Settings}
 use Rattle.standby_state.specs.declared.Answer.{Answer}
 use Rattle.standby_state.specs.Answers.{answerOf}

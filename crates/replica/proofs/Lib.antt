@@ -1,3 +1,4 @@
+pub mod Handing
 pub mod Laws
 pub mod Making
 pub mod Records

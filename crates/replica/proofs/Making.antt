@@ -22,7 +22,7 @@ use Rattle.model_standby.specs.Answer.{protocolVersion}
 use Rattle.model_standby.specs.Row.{Row}
 use Rattle.standby_part.specs.State.{boundOf}
 use Rattle.model_standby.specs.State.{Bound, newStandby}
-use Rattle.standby_state.specs.declared.Replica.{Replica}
+use Rattle.standby_counters.specs.declared.Replica.{Replica}
 use Rattle.standby_state.specs.declared.Settings.{Settings}
 use Rattle.standby_state.specs.declared.Answer.{Answer}
 use Rattle.standby_state.specs.declared.Outcome.{Outcome}

@@ -9,12 +9,15 @@ use types.Kit.{Given}
 use denote.RattleType.{RattleType}
 use denote.Laws.{Is, Tells, Makes}
 use denote.Struct.Laws as LL
-use Rattle.standby_state.specs.declared.Replica.{Replica}
-use Rattle.standby_state.proofs.Replica as Replica-type
-use Rattle.standby_state.proofs.Replica.Laws as Replica-laws
+use Rattle.standby_counters.specs.declared.Replica.{Replica}
+use Rattle.standby_counters.proofs.Replica as Replica-type
+use Rattle.standby_counters.proofs.Replica.Laws as Replica-laws
 use Rattle.standby_state.specs.declared.Settings.{Settings}
 use Rattle.standby_state.proofs.Settings as Settings-type
 use Rattle.standby_state.proofs.Settings.Laws as Settings-laws
+use Rattle.standby_call.specs.declared.Call.{Call}
+use Rattle.standby_call.proofs.Call as Call-type
+use Rattle.standby_call.proofs.Call.Laws as Call-laws
 use Rattle.standby_state.specs.declared.Answer.{Answer}
 use Rattle.standby_state.proofs.Answer as Answer-type
 use Rattle.standby_state.proofs.Answer.Laws as Answer-laws
@@ -56,6 +59,22 @@ tells-Settings = LL.tells Settings-type.the-type Settings-laws.the-laws
 module _ {M : Type 1} (𝓤 : URA M) (H : Heap 𝓤) (A : Atoms 𝓤) (W : Given 𝓤 H A) where
   pub makes-Settings : Makes 𝓤 H A R-Settings (Is R-Settings)
   makes-Settings = LL.makes Settings-type.the-type Settings-laws.the-plain 𝓤 H A
+
+abbrev pub R-Call : RattleType
+R-Call = Call-type.the-row
+
+abbrev pub val-Call : Call → Val
+val-Call = LL.val Call-type.the-type Call-laws.the-laws
+
+abbrev pub vals-Call : Call → List Val
+vals-Call = LL.vals Call-type.the-type Call-laws.the-laws
+
+pub tells-Call : Tells R-Call (Is R-Call) vals-Call
+tells-Call = LL.tells Call-type.the-type Call-laws.the-laws
+
+module _ {M : Type 1} (𝓤 : URA M) (H : Heap 𝓤) (A : Atoms 𝓤) (W : Given 𝓤 H A) where
+  pub makes-Call : Makes 𝓤 H A R-Call (Is R-Call)
+  makes-Call = LL.makes Call-type.the-type Call-laws.the-plain 𝓤 H A
 
 abbrev pub R-Answer : RattleType
 R-Answer = Answer-type.the-row

@@ -11,7 +11,7 @@ use Rattle.standby_row.specs.Row.{clearedAll}
 use Rattle.store_areas.specs.StoreWord
 use Rattle.store_areas.specs.Areas.{allowed, placesOf}
 use Rattle.model_standby.specs.State.{newStandby}
-use Rattle.standby_state.specs.declared.Replica.{Replica}
+use Rattle.standby_counters.specs.declared.Replica.{Replica}
 use Rattle.standby_state.specs.declared.Settings.{Settings}
 use Rattle.standby_state.specs.declared.Answer.{Answer}
 use Rattle.standby_state.specs.declared.Outcome.{Outcome}
@@ -21,7 +21,7 @@ use Rattle.standby_step.specs.Calls.{standbyOf, allowedAll}
 
 -- no epoch yet, no connection, neither promoted nor checked
 abbrev pub newReplica : Replica
-newReplica = record { epoch = record { 0 = 0 }; connections = 0; promoted = false; checked = false }
+newReplica = record { epoch = record { 0 = 0 }; connections = 0; promoted = 0; checked = 0 }
 
 -- of what was found in the row: 25 where the store's rules are broken; else new counters, no pending commit, every record freed
 pub record MakeIs (s : Settings) (c : Replica) (seen : Lookup) (w w' b : List ℕ) (r : Outcome) : Type 0 where

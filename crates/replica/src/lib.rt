@@ -2,12 +2,15 @@
 ghost use mathlib.Core.Path.{_≡_};
 ghost use Prim.Native.Nat.{max};
 ghost use lib.ListN.{getD};
+ghost use Rattle.base_flags.specs.Flag.{isSet};
 ghost use Rattle.model_standby.specs.State.{onFrameHeld, onFrame, flush, disconnectedFrom, promote, promoteUnchecked};
-ghost use Rattle.standby_step.specs.Calls.{handleAt, Called};
+ghost use Rattle.standby_step.specs.Calls.{Called};
+ghost use Rattle.standby_call.specs.Call.{callOf};
 ghost use Rattle.replica.specs.Making.{newReplica, MakeIs, MadeOver};
 use base_refusals::RULES_BROKEN;
 use frame_fields::Epoch;
 use frame_fields::Incarnation;
+use standby_call::Call;
 use standby_row::Bound;
 use standby_row::Lookup;
 use standby_state::Answer;
@@ -15,16 +18,6 @@ use standby_state::Outcome;
 use standby_state::Replica;
 use standby_state::Settings;
 use store_areas::word;
-
-// Where a Bind and a Batch have their handle.
-fn handle_at(frame: &[u8]) -> u32
-    ensures { λ r. ⌜ r ≡ handleAt (now (frame .entry)) ⌝ }
-{
-    if frame.len() < 9 {
-        return 0;
-    }
-    base_bytes::u32_at(frame, 5)
-}
 
 // How many places of the store are in use.
 fn places_in_use(words: &[u64]) -> usize
@@ -34,6 +27,31 @@ fn places_in_use(words: &[u64]) -> usize
         return 0;
     }
     words[word::USED] as usize
+}
+
+// Any of the six calls: one pass over the row, the call by value, and what it does to the row and the counters.
+fn on_call(
+    counters: &mut Replica,
+    row: &mut [Bound],
+    words: &mut [u64],
+    bytes: &mut [u8],
+    holds: &mut [u8],
+    frame: &[u8],
+    settings: Settings,
+    call: Call,
+) -> Answer
+    ensures { λ r. ⌜ Called settings (callOf call (now (frame .entry))) (now (counters .entry)) (now (counters .exit)) (now (row .entry)) (now (row .exit)) (now (words .entry)) (now (words .exit)) (now (bytes .entry)) (now (bytes .exit)) (now (holds .entry)) (now (holds .exit)) r ⌝ }
+{
+    let handle = standby_call::sought_by(frame, call);
+    let used = places_in_use(words);
+    let len = row.len();
+    let room = standby_batch_due::room_of(holds, len);
+    let seen = standby_row::find(row, handle, used, room);
+    let o = standby_call::run(*counters, seen, words, bytes, holds, frame, settings, call);
+    standby_row::insert(row, o.at, o.bound);
+    standby_row::clear(row, o.from);
+    *counters = o.replica;
+    o.answer
 }
 
 // A frame that may be held back: its answer is sent once the pending commits have run.
@@ -49,15 +67,11 @@ pub extern "C" fn on_frame_held(
 ) -> Answer
     ensures { λ r. ⌜ Called settings (onFrameHeld (now (frame .entry))) (now (counters .entry)) (now (counters .exit)) (now (row .entry)) (now (row .exit)) (now (words .entry)) (now (words .exit)) (now (bytes .entry)) (now (bytes .exit)) (now (holds .entry)) (now (holds .exit)) r ⌝ }
 {
-    let handle = handle_at(frame);
-    let used = places_in_use(words);
-    let len = row.len();
-    let room = standby_batch_due::room_of(holds, len);
-    let seen = standby_row::look_up(row, handle, used, room);
-    let o = standby_frame::on_frame_held(*counters, seen, words, bytes, holds, frame, settings);
-    standby_row::update(row, o.at, o.from, o.bound);
-    *counters = o.replica;
-    o.answer
+    let call = Call {
+        kind: Call::ON_FRAME_HELD,
+        connection: 0,
+    };
+    on_call(counters, row, words, bytes, holds, frame, settings, call)
 }
 
 // A frame, and then the pending commits.
@@ -73,15 +87,11 @@ pub extern "C" fn on_frame(
 ) -> Answer
     ensures { λ r. ⌜ Called settings (onFrame (now (frame .entry))) (now (counters .entry)) (now (counters .exit)) (now (row .entry)) (now (row .exit)) (now (words .entry)) (now (words .exit)) (now (bytes .entry)) (now (bytes .exit)) (now (holds .entry)) (now (holds .exit)) r ⌝ }
 {
-    let handle = handle_at(frame);
-    let used = places_in_use(words);
-    let len = row.len();
-    let room = standby_batch_due::room_of(holds, len);
-    let seen = standby_row::look_up(row, handle, used, room);
-    let o = standby_frame::on_frame(*counters, seen, words, bytes, holds, frame, settings);
-    standby_row::update(row, o.at, o.from, o.bound);
-    *counters = o.replica;
-    o.answer
+    let call = Call {
+        kind: Call::ON_FRAME,
+        connection: 0,
+    };
+    on_call(counters, row, words, bytes, holds, frame, settings, call)
 }
 
 // Runs the pending commits of a connection.
@@ -97,14 +107,11 @@ pub extern "C" fn flush(
 ) -> Answer
     ensures { λ r. ⌜ Called settings (flush connection) (now (counters .entry)) (now (counters .exit)) (now (row .entry)) (now (row .exit)) (now (words .entry)) (now (words .exit)) (now (bytes .entry)) (now (bytes .exit)) (now (holds .entry)) (now (holds .exit)) r ⌝ }
 {
-    let used = places_in_use(words);
-    let len = row.len();
-    let room = standby_batch_due::room_of(holds, len);
-    let seen = standby_row::look_up(row, 0, used, room);
-    let o = standby_lifecycle::flush(*counters, seen, words, bytes, holds, connection, settings);
-    standby_row::update(row, o.at, o.from, o.bound);
-    *counters = o.replica;
-    o.answer
+    let call = Call {
+        kind: Call::FLUSH,
+        connection,
+    };
+    on_call(counters, row, words, bytes, holds, &[], settings, call)
 }
 
 // The connection is gone: with it go the bindings and the pending commits.
@@ -120,22 +127,11 @@ pub extern "C" fn disconnected_from(
 ) -> Answer
     ensures { λ r. ⌜ Called settings (disconnectedFrom connection) (now (counters .entry)) (now (counters .exit)) (now (row .entry)) (now (row .exit)) (now (words .entry)) (now (words .exit)) (now (bytes .entry)) (now (bytes .exit)) (now (holds .entry)) (now (holds .exit)) r ⌝ }
 {
-    let used = places_in_use(words);
-    let len = row.len();
-    let room = standby_batch_due::room_of(holds, len);
-    let seen = standby_row::look_up(row, 0, used, room);
-    let o = standby_lifecycle::disconnected_from(
-        *counters,
-        seen,
-        words,
-        bytes,
-        holds,
+    let call = Call {
+        kind: Call::DISCONNECTED_FROM,
         connection,
-        settings,
-    );
-    standby_row::update(row, o.at, o.from, o.bound);
-    *counters = o.replica;
-    o.answer
+    };
+    on_call(counters, row, words, bytes, holds, &[], settings, call)
 }
 
 // Promotes a standby that was checked.
@@ -150,14 +146,11 @@ pub extern "C" fn promote(
 ) -> Answer
     ensures { λ r. ⌜ Called settings promote (now (counters .entry)) (now (counters .exit)) (now (row .entry)) (now (row .exit)) (now (words .entry)) (now (words .exit)) (now (bytes .entry)) (now (bytes .exit)) (now (holds .entry)) (now (holds .exit)) r ⌝ }
 {
-    let used = places_in_use(words);
-    let len = row.len();
-    let room = standby_batch_due::room_of(holds, len);
-    let seen = standby_row::look_up(row, 0, used, room);
-    let o = standby_lifecycle::promote(*counters, seen, words, bytes, holds, settings);
-    standby_row::update(row, o.at, o.from, o.bound);
-    *counters = o.replica;
-    o.answer
+    let call = Call {
+        kind: Call::PROMOTE,
+        connection: 0,
+    };
+    on_call(counters, row, words, bytes, holds, &[], settings, call)
 }
 
 // Promotes a standby, checked or not.
@@ -172,14 +165,11 @@ pub extern "C" fn promote_unchecked(
 ) -> Answer
     ensures { λ r. ⌜ Called settings promoteUnchecked (now (counters .entry)) (now (counters .exit)) (now (row .entry)) (now (row .exit)) (now (words .entry)) (now (words .exit)) (now (bytes .entry)) (now (bytes .exit)) (now (holds .entry)) (now (holds .exit)) r ⌝ }
 {
-    let used = places_in_use(words);
-    let len = row.len();
-    let room = standby_batch_due::room_of(holds, len);
-    let seen = standby_row::look_up(row, 0, used, room);
-    let o = standby_lifecycle::promote_unchecked(*counters, seen, words, bytes, holds, settings);
-    standby_row::update(row, o.at, o.from, o.bound);
-    *counters = o.replica;
-    o.answer
+    let call = Call {
+        kind: Call::PROMOTE_UNCHECKED,
+        connection: 0,
+    };
+    on_call(counters, row, words, bytes, holds, &[], settings, call)
 }
 
 // The counters of a standby that is new: no epoch yet, no connection, neither promoted nor checked.
@@ -189,8 +179,8 @@ pub fn new() -> Replica
     Replica {
         epoch: Epoch(0),
         connections: 0,
-        promoted: false,
-        checked: false,
+        promoted: 0,
+        checked: 0,
     }
 }
 
@@ -221,9 +211,10 @@ pub extern "C" fn make(
 ) -> Answer
     ensures { λ r. ⌜ MadeOver settings (now (counters .entry)) (now (counters .exit)) (now (row .entry)) (now (row .exit)) (now (words .entry)) (now (words .exit)) (now (bytes .entry)) r ⌝ }
 {
-    let seen = standby_row::look_up(row, 0, 0, 0);
+    let seen = standby_row::find(row, 0, 0, 0);
     let o = made(*counters, seen, words, bytes, settings);
-    standby_row::update(row, o.at, o.from, o.bound);
+    standby_row::insert(row, o.at, o.bound);
+    standby_row::clear(row, o.from);
     *counters = o.replica;
     o.answer
 }
@@ -243,15 +234,15 @@ pub fn connection(counters: Replica) -> u64
 }
 
 pub fn checked(counters: Replica) -> bool
-    ensures { λ r. ⌜ r ≡ counters .checked ⌝ }
+    ensures { λ r. ⌜ r ≡ isSet (counters .checked) ⌝ }
 {
-    counters.checked
+    counters.checked != 0
 }
 
 pub fn promoted(counters: Replica) -> bool
-    ensures { λ r. ⌜ r ≡ counters .promoted ⌝ }
+    ensures { λ r. ⌜ r ≡ isSet (counters .promoted) ⌝ }
 {
-    counters.promoted
+    counters.promoted != 0
 }
 
 // This run of the standby: 0 is taken as 1.

@@ -30,7 +30,7 @@ use Rattle.standby_part.specs.State.{boundOf, coreAt}
 use Rattle.standby_part.specs.Part.{resultOf}
 use Rattle.standby_batch_handle.specs.Handling.{followsOf, foundOf, Sound, holdAreaAfter, HandleIs}
 use Rattle.standby_step.specs.Steps.{isFound}
-use Rattle.standby_state.specs.declared.Replica.{Replica}
+use Rattle.standby_counters.specs.declared.Replica.{Replica}
 use Rattle.standby_state.specs.declared.Settings.{Settings}
 use Rattle.standby_state.specs.declared.Answer.{Answer}
 use Rattle.standby_state.specs.declared.Outcome.{Outcome}

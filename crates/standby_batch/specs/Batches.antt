@@ -23,7 +23,7 @@ use Rattle.model_standby.specs.Core.{leave, store, coreBatch}
 use Rattle.standby_part.specs.declared.PartResult.{PartResult}
 use Rattle.standby_part.specs.State.{boundOf, coreAt}
 use Rattle.standby_batch_handle.specs.Handling.{foundOf}
-use Rattle.standby_state.specs.declared.Replica.{Replica}
+use Rattle.standby_counters.specs.declared.Replica.{Replica}
 use Rattle.standby_state.specs.declared.Settings.{Settings}
 use Rattle.standby_state.specs.declared.Answer.{Answer}
 use Rattle.standby_state.specs.declared.Outcome.{Outcome}

@@ -32,7 +32,7 @@ use Rattle.model_standby.specs.Hold.{HoldWrite, heldBytes, heldPasses, writesAt
 use Rattle.model_standby.specs.Core.{leave, store, clear, coreRun, coreBatch}
 use Rattle.standby_part.specs.State.{boundOf, coreAt}
 use Rattle.standby_batch_handle.specs.Handling.{foundOf}
-use Rattle.standby_state.specs.declared.Replica.{Replica}
+use Rattle.standby_counters.specs.declared.Replica.{Replica}
 use Rattle.standby_state.specs.declared.Settings.{Settings}
 use Rattle.standby_state.specs.declared.Outcome.{Outcome}
 use Rattle.standby_state.specs.Answers.{answerOf}

@@ -15,7 +15,7 @@ use Rattle.model_standby.specs.Standby.{pendsOn}
 use Rattle.model_standby.specs.Hold.{writesFrame}
 use Rattle.model_standby.specs.Core.{coreRun, coreBatch}
 use Rattle.standby_part.specs.State.{coreAt}
-use Rattle.standby_state.specs.declared.Replica.{Replica}
+use Rattle.standby_counters.specs.declared.Replica.{Replica}
 use Rattle.standby_state.specs.declared.Settings.{Settings}
 use Rattle.standby_state.specs.declared.Outcome.{Outcome}
 use Rattle.standby_state.specs.Outcomes.{countersOf, settingsOf, outcomeOf, Lands}

@@ -9,6 +9,8 @@ use lib.ListN.{length, getD, set, take, drop, getElem?, length-set, length-take}
 use lib.Seq.{take-take, drop-set-lt, getD-set-same, getD-set-other}
 use lib.Dec.{ltb}
 use borrow.Author.Tests.{lt-ltb, le-ltb, ltb-true, not-true, not-false}
+use Rattle.base_flags.specs.Flag.{isSet}
+use Rattle.base_flags.proofs.Flags.{written-so}
 use Rattle.model_frame.specs.Frame.{Key, bound, nack, staleEpoch, lagTooGreat}
 use Rattle.model_frame.specs.Frame as the-frame
 use Rattle.model_session.specs.Session.{Session}
@@ -41,7 +43,7 @@ use Rattle.standby_commit.proofs.Laws.{touched-none}
 use Rattle.standby_row.specs.declared.Bound.{Bound}
 use Rattle.standby_row.specs.declared.Lookup.{Lookup}
 use Rattle.standby_part.specs.State.{coreAt}
-use Rattle.standby_state.specs.declared.Replica.{Replica}
+use Rattle.standby_counters.specs.declared.Replica.{Replica}
 use Rattle.standby_state.specs.declared.Settings.{Settings}
 use Rattle.standby_state.specs.declared.BoundSummary.{BoundSummary}
 use Rattle.standby_state.specs.declared.Answer.{Answer}
@@ -57,8 +59,8 @@ flown : (o : Option ℕ) → cond (isSome o) (some (numberIn o)) none ≡ o
 flown none = refl
 flown (some n) = refl
 
-module _ (b : List ℕ) (m : Summary) {flies : Bool} {f : ℕ} {x : the-frame.Summary} where
-  pub brief-is : summaryOf b m ≡ x → flies ≡ isSome (flightOf (m .«in_flight»)) → f ≡ numberIn (flightOf (m .«in_flight»))
+module _ (b : List ℕ) (m : Summary) {flies f : ℕ} {x : the-frame.Summary} where
+  pub brief-is : summaryOf b m ≡ x → flies ≡ cond (isSome (flightOf (m .«in_flight»))) 1 0 → f ≡ numberIn (flightOf (m .«in_flight»))
       → briefOf b (record {
         «next_outgoing» = m .«next_outgoing»;
         «next_incoming» = m .«next_incoming»;
@@ -70,10 +72,11 @@ module _ (b : List ℕ) (m : Summary) {flies : Bool} {f : ℕ} {x : the-frame.Su
       })
       ≡ x
   brief-is is e₁ e₂ =
+      let says : isSet flies ≡ isSome (flightOf (m .«in_flight»)) = ap isSet e₁ ∙ written-so (isSome (flightOf (m .«in_flight»))) in
       (λ j. record {
         nextOut = m .«next_outgoing»;
         nextIn = m .«next_incoming»;
-        inFlight = ((λ k. cond (e₁ k) (some (e₂ k)) none) ∙ flown (flightOf (m .«in_flight»))) j;
+        inFlight = ((λ k. cond (says k) (some (e₂ k)) none) ∙ flown (flightOf (m .«in_flight»))) j;
         stampText = spanOf b (m .«created_at»);
         marksText = spanOf b (m .marks);
         lastOutgoing = m .«last_outgoing»;

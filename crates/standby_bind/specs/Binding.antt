@@ -19,7 +19,7 @@ use Rattle.model_standby.specs.Store.{placeOf, sessionAt, orNew, opened}
 use Rattle.model_standby.specs.Core.{coreBind}
 use Rattle.store_place.specs.PlaceByte
 use Rattle.standby_part.specs.State.{coreAt}
-use Rattle.standby_state.specs.declared.Replica.{Replica}
+use Rattle.standby_counters.specs.declared.Replica.{Replica}
 use Rattle.standby_state.specs.declared.Settings.{Settings}
 use Rattle.standby_state.specs.declared.BoundSummary.{BoundSummary}
 use Rattle.standby_state.specs.declared.Outcome.{Outcome}
@@ -43,7 +43,7 @@ numberIn none = 0
 numberIn (some n) = n
 
 abbrev pub newHandle : ℕ → ℕ → Bound
-newHandle h place = record { used = true; handle = h; place = place; «commit_no» = record { 0 = 0 }; «held_len» = 0; «held_bytes» = 0 }
+newHandle h place = record { used = 1; handle = h; place = place; «commit_no» = record { 0 = 0 }; «held_len» = 0; «held_bytes» = 0 }
 
 -- the row has a place for the handle: its own, or a free one
 abbrev pub roomFor : Lookup → Bool

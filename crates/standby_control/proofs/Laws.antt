@@ -35,7 +35,7 @@ use Rattle.model_standby.specs.State.{Bound}
 use Rattle.model_standby.specs.State as state
 use Rattle.model_standby.specs.Core.{Core, coreBind, coreIntact, coreRun}
 use Rattle.standby_part.specs.State.{coreAt}
-use Rattle.standby_state.specs.declared.Replica.{Replica}
+use Rattle.standby_counters.specs.declared.Replica.{Replica}
 use Rattle.standby_state.specs.declared.Settings.{Settings}
 use Rattle.standby_state.specs.declared.Answer.{Answer}
 use Rattle.standby_state.specs.declared.Outcome.{Outcome}

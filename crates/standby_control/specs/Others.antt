@@ -18,7 +18,7 @@ use Rattle.model_standby.specs.Row.{isSome}
 use Rattle.model_standby.specs.State.{Bound}
 use Rattle.model_standby.specs.Core.{coreRun, coreIntact}
 use Rattle.standby_part.specs.State.{coreAt}
-use Rattle.standby_state.specs.declared.Replica.{Replica}
+use Rattle.standby_counters.specs.declared.Replica.{Replica}
 use Rattle.standby_state.specs.declared.Settings.{Settings}
 use Rattle.standby_state.specs.declared.Outcome.{Outcome}
 use Rattle.standby_state.specs.Outcomes.{countersOf, settingsOf, outcomeOf, Lands}

@@ -8,6 +8,8 @@ use native.Mathlib.Nat.{le-refl, le-of-eq}
 use lib.ListN.{getD}
 use lib.Dec.{eqb, ltb, leb}
 use borrow.Author.Tests.{ltb-true, leb-true}
+use Rattle.base_flags.specs.Flag.{isSet}
+use Rattle.base_flags.proofs.Flags.{set-so, clear-so}
 use Rattle.base_laws.proofs.Lists.{both}
 use Rattle.model_frame.specs.Frame.{Change, AppRecord, batch}
 use Rattle.model_frame.specs.Frame as the-frame
@@ -27,7 +29,7 @@ use Rattle.model_standby.specs.Hold.{HoldWrite, writes, writesFrame}
 use Rattle.model_standby.specs.Core.{leave, Core, CoreResult, coreRefuse, coreRun, coreIntact, coreGiven, coreFlushed, coreStep}
 use Rattle.standby_part.specs.State.{coreAt}
 use Rattle.standby_batch_handle.specs.Handling.{foundOf}
-use Rattle.standby_state.specs.declared.Replica.{Replica}
+use Rattle.standby_counters.specs.declared.Replica.{Replica}
 use Rattle.standby_state.specs.declared.Settings.{Settings}
 use Rattle.standby_state.specs.declared.Answer.{Answer}
 use Rattle.standby_state.specs.declared.Outcome.{Outcome}
@@ -96,7 +98,7 @@ module _ (s : Settings) (c : Replica) (seen : Lookup) (frame w b h : List ℕ) (
   refused-is n x e = ap (λ (t : Bool). cond t done (refused n)) e
 
   -- refused, and all is as it was
-  all-left : (g : Given) → given frame ≡ g → (n : ℕ) → eqb n 0 ≡ false → coreGiven L K F free g ≡ coreRefuse K leave n → dueNow (c .promoted) (pendingOf w) g ≡ false → writes L (countersOf c) F g ≡ none
+  all-left : (g : Given) → given frame ≡ g → (n : ℕ) → eqb n 0 ≡ false → coreGiven L K F free g ≡ coreRefuse K leave n → dueNow (isSet (c .promoted)) (pendingOf w) g ≡ false → writes L (countersOf c) F g ≡ none
       → {r : Outcome} {a : Answer} → r ≡ leaving c seen a → a ≡ isRefused n → Takes s c seen frame w w b b h h r
   all-left g is n off core due-none none-written {r} {a} e₁ e₂ =
       subst (Takes s c seen frame w w b b h h) (sym (e₁ ∙ ap (leaving c seen) e₂))
@@ -110,8 +112,8 @@ module _ (s : Settings) (c : Replica) (seen : Lookup) (frame w b h : List ℕ) (
           leaves = record {
             mid = w;
             touched =
-                subst (λ (t : Bool). Touches t) (sym (ap (dueNow (c .promoted) (pendingOf w)) is ∙ due-none)) (touched-none (s .shape) (placeBy (placesOf (s .shape) w b) (seen .bound .place) (given frame)) w b);
-            still = λ _. (sym (ap (λ (t : Bool). cond t (ranWords (s .shape) w) w) (ap (dueNow (c .promoted) (pendingOf w)) is ∙ due-none)), refl);
+                subst (λ (t : Bool). Touches t) (sym (ap (dueNow (isSet (c .promoted)) (pendingOf w)) is ∙ due-none)) (touched-none (s .shape) (placeBy (placesOf (s .shape) w b) (seen .bound .place) (given frame)) w b);
+            still = λ _. (sym (ap (λ (t : Bool). cond t (ranWords (s .shape) w) w) (ap (dueNow (isSet (c .promoted)) (pendingOf w)) is ∙ due-none)), refl);
             last = refl;
           };
           holds = sym (ap (λ (o : Option HoldWrite). holdsAfter (roomIn seen h) (seen .at) o h) (ap (writes L (countersOf c) F) is ∙ none-written));
@@ -125,16 +127,16 @@ module _ (s : Settings) (c : Replica) (seen : Lookup) (frame w b h : List ℕ) (
   unfolding coreGiven writes
   damaged-left n is off e₁ e₂ = all-left (damaged n) is n off refl refl refl e₁ e₂
 
-  pub promoted-left : (f : the-frame.Frame) → given frame ≡ intact f → c .promoted ≡ true → {r : Outcome} {a : Answer} → r ≡ leaving c seen a → a ≡ isRefused 10 → Takes s c seen frame w w b b h h r
+  pub promoted-left : (f : the-frame.Frame) → given frame ≡ intact f → (c .promoted ≡ 0 → ⊥) → {r : Outcome} {a : Answer} → r ≡ leaving c seen a → a ≡ isRefused 10 → Takes s c seen frame w w b b h h r
   unfolding coreGiven writes
   promoted-left f is on e₁ e₂ =
       all-left (intact f) is 10 refl
-      (ap (λ (t : Bool). cond t (coreRefuse K leave 10) (coreIntact L (coreRun (due (pendingOf w) f) K) F free f)) on)
-      (ap (λ (t : Bool). not t && due (pendingOf w) f) on)
-      (ap (λ (t : Bool). cond t none (writesFrame L (countersOf c) F f)) on)
+      (ap (λ (t : Bool). cond t (coreRefuse K leave 10) (coreIntact L (coreRun (due (pendingOf w) f) K) F free f)) (set-so (c .promoted) on))
+      (ap (λ (t : Bool). not t && due (pendingOf w) f) (set-so (c .promoted) on))
+      (ap (λ (t : Bool). cond t none (writesFrame L (countersOf c) F f)) (set-so (c .promoted) on))
       e₁ e₂
 
-  pub intact-taken : (f : the-frame.Frame) → given frame ≡ intact f → c .promoted ≡ false → {w' b' h' : List ℕ} {r : Outcome} → IntactIs s c seen f w w' b b' h h' r → Takes s c seen frame w w' b b' h h' r
+  pub intact-taken : (f : the-frame.Frame) → given frame ≡ intact f → c .promoted ≡ 0 → {w' b' h' : List ℕ} {r : Outcome} → IntactIs s c seen f w w' b b' h h' r → Takes s c seen frame w w' b b' h h' r
   unfolding coreGiven writes
   intact-taken f is off {w'} {b'} {h'} {r} g = record {
     rules = g .rules;
@@ -143,17 +145,17 @@ module _ (s : Settings) (c : Replica) (seen : Lookup) (frame w b h : List ℕ) (
         record {
           is =
               g .is mine
-              ∙ sym (held-is ∙ ap (coreGiven L K F free) is ∙ ap (λ (t : Bool). cond t (coreRefuse K leave 10) (coreIntact L (coreRun (due (pendingOf w) f) K) F free f)) off);
+              ∙ sym (held-is ∙ ap (coreGiven L K F free) is ∙ ap (λ (t : Bool). cond t (coreRefuse K leave 10) (coreIntact L (coreRun (due (pendingOf w) f) K) F free f)) (clear-so (c .promoted) off));
           lands = g .lands;
           rules = g .rules;
           more = g .more;
           leaves =
-              subst (λ (x : Given). FrameLeaves (s .shape) (placeBy (placesOf (s .shape) w b) (seen .bound .place) x) (dueNow (c .promoted) (pendingOf w) x) false (isQuiet (r .answer)) w w' b b') (sym is)
-              (subst (λ (t : Bool). FrameLeaves (s .shape) (placeBy (placesOf (s .shape) w b) (seen .bound .place) (intact f)) (not t && due (pendingOf w) f) false (isQuiet (r .answer)) w w' b b') (sym off) (g .leaves));
+              subst (λ (x : Given). FrameLeaves (s .shape) (placeBy (placesOf (s .shape) w b) (seen .bound .place) x) (dueNow (isSet (c .promoted)) (pendingOf w) x) false (isQuiet (r .answer)) w w' b b') (sym is)
+              (subst (λ (t : Bool). FrameLeaves (s .shape) (placeBy (placesOf (s .shape) w b) (seen .bound .place) (intact f)) (not t && due (pendingOf w) f) false (isQuiet (r .answer)) w w' b b') (sym (clear-so (c .promoted) off)) (g .leaves));
           holds =
               g .holds mine
               ∙ ap (λ (o : Option HoldWrite). holdsAfter (roomIn seen h) (seen .at) o h)
-              (sym (ap (writes L (countersOf c) F) is ∙ ap (λ (t : Bool). cond t none (writesFrame L (countersOf c) F f)) off));
+              (sym (ap (writes L (countersOf c) F) is ∙ ap (λ (t : Bool). cond t none (writesFrame L (countersOf c) F f)) (clear-so (c .promoted) off)));
         };
   }
 

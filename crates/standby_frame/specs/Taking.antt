@@ -16,7 +16,7 @@ use Rattle.model_standby.specs.Standby.{due}
 use Rattle.model_standby.specs.Hold.{writesFrame}
 use Rattle.model_standby.specs.Core.{coreRun, coreIntact}
 use Rattle.standby_part.specs.State.{coreAt}
-use Rattle.standby_state.specs.declared.Replica.{Replica}
+use Rattle.standby_counters.specs.declared.Replica.{Replica}
 use Rattle.standby_state.specs.declared.Settings.{Settings}
 use Rattle.standby_state.specs.declared.Answer.{Answer}
 use Rattle.standby_state.specs.declared.Outcome.{Outcome}

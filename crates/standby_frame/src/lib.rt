@@ -101,7 +101,7 @@ fn on_bytes(
                     standby_state::refused(NOT_ONE_FRAME),
                 );
             }
-            if counters.promoted {
+            if counters.promoted != 0 {
                 return standby_state::unchanged(counters, lookup, standby_state::refused(PROMOTED));
             }
             on_decoded(words, bytes, holds, frame, counters, settings, lookup, f)

@@ -12,7 +12,7 @@ use lib.Dec.{eqb}
 use borrow.Author.Tests.{eqb-true, eqb-false, eq-eqb, ne-eqb}
 use Rattle.base_laws.proofs.Lists.{drop-take}
 use Rattle.standby_row.specs.declared.Bound.{Bound as BoundRecord}
-use Rattle.standby_row.specs.Row.{isOf, isFree, zeroOrNext, findOf, freeOf, clearedAll}
+use Rattle.standby_row.specs.Row.{isUsed, isOf, isFree, zeroOrNext, findOf, freeOf, clearedAll}
 use Rattle.standby_row.specs.Row as handles
 use Rattle.model_standby.specs.Row.{Row, isSome, freed, hasFree, find, replace, fill, put}
 use Rattle.model_standby.specs.State.{Bound}
@@ -96,10 +96,10 @@ module _ (boundOf : BoundRecord → List ℕ → Bound) (room : ℕ) where
           → zeroOrNext p (findOf hs k) < suc (length hs)
           → find k (Entries (h ∷ hs) holds) ≡ some (boundOf (getD (h ∷ hs) (zeroOrNext p (findOf hs k)) handles.freeRecord) (Part (zeroOrNext p (findOf hs k)) holds))
       go true e ih l =
-          find-at (h .handle) k (boundOf h (take room holds)) (Entries hs (drop room holds)) (h .used) e
+          find-at (h .handle) k (boundOf h (take room holds)) (Entries hs (drop room holds)) (isUsed h) e
           ∙ ap (λ (x : List ℕ). some (boundOf h x)) (sym (part-first holds))
       go false e ih l =
-          find-past (h .handle) k (boundOf h (take room holds)) (Entries hs (drop room holds)) (h .used) e ∙ ih (omega arith)
+          find-past (h .handle) k (boundOf h (take room holds)) (Entries hs (drop room holds)) (isUsed h) e ∙ ih (omega arith)
           ∙ ap (λ (x : List ℕ). some (boundOf (getD hs (findOf hs k) handles.freeRecord) x)) (part-next (findOf hs k) holds)
 
   pub find-miss : (k : ℕ) (row : List BoundRecord) (holds : List ℕ) → length row ≤ findOf row k → find k (Entries row holds) ≡ none
@@ -111,7 +111,7 @@ module _ (boundOf : BoundRecord → List ℕ → Bound) (room : ℕ) where
         where
           no : suc (length hs) ≤ 0 → ⊥
           no l = omega arith
-      go false e ih l = find-past (h .handle) k (boundOf h (take room holds)) (Entries hs (drop room holds)) (h .used) e ∙ ih (omega arith)
+      go false e ih l = find-past (h .handle) k (boundOf h (take room holds)) (Entries hs (drop room holds)) (isUsed h) e ∙ ih (omega arith)
 
   -- ---- free places
 
@@ -123,8 +123,8 @@ module _ (boundOf : BoundRecord → List ℕ → Bound) (room : ℕ) where
   free-hit (h ∷ hs) holds less = go (isFree h) refl (free-hit hs (drop room holds)) less
     where
       go : (p : Bool) → isFree h ≡ p → (freeOf hs < length hs → hasFree (Entries hs (drop room holds)) ≡ true) → zeroOrNext p (freeOf hs) < suc (length hs) → hasFree (Entries (h ∷ hs) holds) ≡ true
-      go true e ih l = free-at (h .handle) 0 (boundOf h (take room holds)) (Entries hs (drop room holds)) (h .used) e
-      go false e ih l = free-past (h .handle) 0 (boundOf h (take room holds)) (Entries hs (drop room holds)) (h .used) e ∙ ih (omega arith)
+      go true e ih l = free-at (h .handle) 0 (boundOf h (take room holds)) (Entries hs (drop room holds)) (isUsed h) e
+      go false e ih l = free-past (h .handle) 0 (boundOf h (take room holds)) (Entries hs (drop room holds)) (isUsed h) e ∙ ih (omega arith)
 
   pub free-miss : (row : List BoundRecord) (holds : List ℕ) → length row ≤ freeOf row → hasFree (Entries row holds) ≡ false
   free-miss [] holds out = refl
@@ -135,7 +135,7 @@ module _ (boundOf : BoundRecord → List ℕ → Bound) (room : ℕ) where
         where
           no : suc (length hs) ≤ 0 → ⊥
           no l = omega arith
-      go false e ih l = free-past (h .handle) 0 (boundOf h (take room holds)) (Entries hs (drop room holds)) (h .used) e ∙ ih (omega arith)
+      go false e ih l = free-past (h .handle) 0 (boundOf h (take room holds)) (Entries hs (drop room holds)) (isUsed h) e ∙ ih (omega arith)
 
   pub all-freed : (row : List BoundRecord) (holds : List ℕ) → Entries (clearedAll row) holds ≡ freed (Entries row holds)
   all-freed [] holds = refl
@@ -168,7 +168,7 @@ module _ (boundOf : BoundRecord → List ℕ → Bound) (room : ℕ) where
       )
 
   -- the record at place i is used for k
-  module _ (k : ℕ) (g : BoundRecord) (used : g .used ≡ true) (is : g .handle ≡ k) where
+  module _ (k : ℕ) (g : BoundRecord) (used : isUsed g ≡ true) (is : g .handle ≡ k) where
     abbrev At : ℕ → List ℕ → Option (ℕ × Bound)
     At i holds = some (k, boundOf g (Part i holds))
 
@@ -189,12 +189,12 @@ module _ (boundOf : BoundRecord → List ℕ → Bound) (room : ℕ) where
             ap (λ (x : Option (ℕ × Bound)). x ∷ Entries hs (drop room b)) (put-entry (take room b))
             ∙ ap (λ (x : List ℕ). some (k, boundOf g (take room b)) ∷ Entries hs x) apart
             ∙ ap (λ (x : List ℕ). some (k, boundOf g x) ∷ Entries hs (drop room a)) (sym (part-first b))
-            ∙ sym (replace-at (h .handle) k (boundOf h (take room a)) (Entries hs (drop room a)) (boundOf g (Part 0 b)) (h .used) e)
+            ∙ sym (replace-at (h .handle) k (boundOf h (take room a)) (Entries hs (drop room a)) (boundOf g (Part 0 b)) (isUsed h) e)
         go false e ih l apart =
             ap (λ (x : List ℕ). entryOf boundOf room h x ∷ Entries (set hs (findOf hs k) g) (drop room b)) (apart .0)
             ∙ ap (λ (t : Row Bound). entryOf boundOf room h (take room a) ∷ t) (ih (omega arith) (apart .1))
             ∙ ap (λ (x : List ℕ). entryOf boundOf room h (take room a) ∷ replace k (boundOf g x) (Entries hs (drop room a))) (part-next (findOf hs k) b)
-            ∙ sym (replace-past (h .handle) k (boundOf h (take room a)) (Entries hs (drop room a)) (boundOf g (Part (suc (findOf hs k)) b)) (h .used) e)
+            ∙ sym (replace-past (h .handle) k (boundOf h (take room a)) (Entries hs (drop room a)) (boundOf g (Part (suc (findOf hs k)) b)) (isUsed h) e)
 
     filled : (row : List BoundRecord) (a : List ℕ) → freeOf row < length row → Entries (set row (freeOf row) g) a ≡ fill k (boundOf g (Part (freeOf row) a)) (Entries row a)
     filled [] a less = refl
@@ -206,11 +206,11 @@ module _ (boundOf : BoundRecord → List ℕ → Bound) (room : ℕ) where
         go true e ih l =
             ap (λ (x : Option (ℕ × Bound)). x ∷ Entries hs (drop room a)) (put-entry (take room a))
             ∙ ap (λ (x : List ℕ). some (k, boundOf g x) ∷ Entries hs (drop room a)) (sym (part-first a))
-            ∙ sym (fill-at (h .handle) k (boundOf h (take room a)) (Entries hs (drop room a)) (boundOf g (Part 0 a)) (h .used) e)
+            ∙ sym (fill-at (h .handle) k (boundOf h (take room a)) (Entries hs (drop room a)) (boundOf g (Part 0 a)) (isUsed h) e)
         go false e ih l =
             ap (λ (t : Row Bound). entryOf boundOf room h (take room a) ∷ t) (ih (omega arith))
             ∙ ap (λ (x : List ℕ). entryOf boundOf room h (take room a) ∷ fill k (boundOf g x) (Entries hs (drop room a))) (part-next (freeOf hs) a)
-            ∙ sym (fill-past (h .handle) k (boundOf h (take room a)) (Entries hs (drop room a)) (boundOf g (Part (suc (freeOf hs)) a)) (h .used) e)
+            ∙ sym (fill-past (h .handle) k (boundOf h (take room a)) (Entries hs (drop room a)) (boundOf g (Part (suc (freeOf hs)) a)) (isUsed h) e)
 
     -- at its own place; at the first free one
     pub put-own : (row : List BoundRecord) (a b : List ℕ) → findOf row k < length row → Apart (findOf row k) a b

@@ -15,7 +15,7 @@ use Rattle.model_standby.specs.Store.{Place}
 use Rattle.model_standby.specs.State.{connected, checkedAt}
 use Rattle.model_standby.specs.State as state
 use Rattle.model_standby.specs.Core.{Core, CoreResult, leave, clear, coreSays, coreRefuse, counting, coreUnbound, coreHello, coreChecked}
-use Rattle.standby_state.specs.declared.Replica.{Replica}
+use Rattle.standby_counters.specs.declared.Replica.{Replica}
 use Rattle.standby_state.specs.declared.Settings.{Settings}
 use Rattle.standby_state.specs.declared.Answer.{Answer}
 use Rattle.standby_state.specs.declared.Outcome.{Outcome}

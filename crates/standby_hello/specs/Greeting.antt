@@ -12,7 +12,7 @@ use Rattle.standby_row.specs.declared.Lookup.{Lookup}
 use Rattle.model_standby.specs.Store.{Place}
 use Rattle.model_standby.specs.State as state
 use Rattle.model_standby.specs.Core.{Core, CoreResult, coreHello, coreChecked}
-use Rattle.standby_state.specs.declared.Replica.{Replica}
+use Rattle.standby_counters.specs.declared.Replica.{Replica}
 use Rattle.standby_state.specs.declared.Settings.{Settings}
 use Rattle.standby_state.specs.declared.Answer.{Answer}
 use Rattle.standby_state.specs.declared.Outcome.{Outcome}
@@ -23,7 +23,7 @@ abbrev pub connectedTo : Replica → Epoch → Replica
 connectedTo c e = record { epoch = e; connections = min (suc (c .connections)) top; promoted = c .promoted; checked = c .checked }
 
 abbrev pub checkedTo : Replica → Epoch → Replica
-checkedTo c e = record { epoch = e; connections = c .connections; promoted = c .promoted; checked = true }
+checkedTo c e = record { epoch = e; connections = c .connections; promoted = c .promoted; checked = 1 }
 
 -- a refusal or a Nack
 abbrev pub isQuiet : Answer → Bool

@@ -42,7 +42,7 @@ fn checked_at(counters: Replica, epoch: Epoch) -> Replica
 {
     let mut d = counters;
     d.epoch = epoch;
-    d.checked = true;
+    d.checked = 1;
     d
 }
 

@@ -12,9 +12,7 @@ use base_refusals::HOLD_AREA_FULL;
 use base_refusals::NO_RESET;
 use base_refusals::TOO_MANY_BYTES;
 use frame_stamp::Protocol;
-
-// The most message bytes that are held of a session.
-pub const MAX_WHOLE_SESSION_BYTES: u64 = 4_294_967_296;
+use standby_counters::Replica;
 
 // 0 or the refusal, how many bytes of the area are held now, and their messages' byte sum.
 #[repr(C)]
@@ -68,7 +66,7 @@ pub fn hold(protocol: Protocol, run: &[u8], area: &mut [u8], len: usize, sum: u6
             sum,
         };
     }
-    if MAX_WHOLE_SESSION_BYTES < sum {
+    if Replica::MAX_WHOLE_SESSION_BYTES < sum {
         return Held {
             refusal: TOO_MANY_BYTES,
             used: end,

@@ -7,6 +7,8 @@ use native.Mathlib.Omega.{arith}
 use lib.ListN.{length, getD, set, length-set}
 use lib.Dec.{eqb, ltb}
 use borrow.Author.Tests.{eq-eqb, ne-eqb}
+use Rattle.base_flags.specs.Flag.{isSet}
+use Rattle.base_flags.proofs.Flags.{set-so, clear-so}
 use Rattle.standby_row.specs.declared.Lookup.{Lookup}
 use Rattle.store_areas.specs.declared.Shape.{Shape}
 use Rattle.store_areas.specs.Areas.{wordsAt, bytesAt, allowed, Rules}
@@ -22,7 +24,7 @@ use Rattle.model_standby.specs.Store.{onPlaces, takenOver}
 use Rattle.model_standby.specs.State.{Call, flush, disconnectedFrom, promote, promoteUnchecked}
 use Rattle.model_standby.specs.Core.{Core, CoreResult, leave, clear, coreRefuse, coreDone, coreRun, coreUnbound, corePromotion, coreStep}
 use Rattle.standby_part.specs.State.{coreAt}
-use Rattle.standby_state.specs.declared.Replica.{Replica}
+use Rattle.standby_counters.specs.declared.Replica.{Replica}
 use Rattle.standby_state.specs.declared.Settings.{Settings}
 use Rattle.standby_state.specs.declared.Answer.{Answer}
 use Rattle.standby_state.specs.declared.Outcome.{Outcome}
@@ -99,11 +101,11 @@ module _ (s : Settings) (c : Replica) (seen : Lookup) (w b h : List ℕ) where
       abbrev Flush : Bool → CoreResult
       Flush t = cond t (coreRefuse Was leave 22) (coreDone (coreRun true Was) leave)
 
-      flush-by : (t : Bool) → (not (eqb n (c .connections)) || c .promoted) ≡ t → coreStep (settingsOf s (roomIn seen h)) Was (foundIn seen h) (ltb (seen .free) (seen .len)) (flush n) ≡ Flush t
+      flush-by : (t : Bool) → (not (eqb n (c .connections)) || isSet (c .promoted)) ≡ t → coreStep (settingsOf s (roomIn seen h)) Was (foundIn seen h) (ltb (seen .free) (seen .len)) (flush n) ≡ Flush t
       unfolding coreStep
       flush-by t e = ap Flush e
 
-      not-flushed : {r : Outcome} {a : Answer} → (not (eqb n (c .connections)) || c .promoted) ≡ true → a ≡ isRefused 22 → r ≡ leaving c seen a → StepIs s c seen (flush n) w w b b h h r
+      not-flushed : {r : Outcome} {a : Answer} → (not (eqb n (c .connections)) || isSet (c .promoted)) ≡ true → a ≡ isRefused 22 → r ≡ leaving c seen a → StepIs s c seen (flush n) w w b b h h r
       not-flushed e e₁ e₂ = subst (StepIs s c seen (flush n) w w b b h h) (sym (e₂ ∙ ap (leaving c seen) e₁)) (stepped (flush n) (record {
         is = sym (flush-by true e);
         lands = leaving-lands c seen (isRefused 22) (getD w 0 0) (roomIn seen h);
@@ -114,15 +116,15 @@ module _ (s : Settings) (c : Replica) (seen : Lookup) (w b h : List ℕ) where
       }))
 
       pub other-connection : {r : Outcome} {a : Answer} → (n ≡ c .connections → ⊥) → a ≡ isRefused 22 → r ≡ leaving c seen a → StepIs s c seen (flush n) w w b b h h r
-      other-connection off = not-flushed (ap (λ (t : Bool). not t || c .promoted) (ne-eqb n (c .connections) off))
+      other-connection off = not-flushed (ap (λ (t : Bool). not t || isSet (c .promoted)) (ne-eqb n (c .connections) off))
 
-      pub after-promotion : {r : Outcome} {a : Answer} → n ≡ c .connections → c .promoted ≡ true → a ≡ isRefused 22 → r ≡ leaving c seen a → StepIs s c seen (flush n) w w b b h h r
-      after-promotion same done-so = not-flushed (ap (λ (t : Bool). not t || c .promoted) (eq-eqb n (c .connections) same) ∙ done-so)
+      pub after-promotion : {r : Outcome} {a : Answer} → n ≡ c .connections → (c .promoted ≡ 0 → ⊥) → a ≡ isRefused 22 → r ≡ leaving c seen a → StepIs s c seen (flush n) w w b b h h r
+      after-promotion same done-so = not-flushed (ap (λ (t : Bool). not t || isSet (c .promoted)) (eq-eqb n (c .connections) same) ∙ set-so (c .promoted) done-so)
 
-      pub flushed : {w' : List ℕ} {r : Outcome} {a : Answer} → n ≡ c .connections → c .promoted ≡ false → Ran (s .shape) b w w' → a ≡ isDone → r ≡ leaving c seen a → StepIs s c seen (flush n) w w' b b h h r
+      pub flushed : {w' : List ℕ} {r : Outcome} {a : Answer} → n ≡ c .connections → c .promoted ≡ 0 → Ran (s .shape) b w w' → a ≡ isDone → r ≡ leaving c seen a → StepIs s c seen (flush n) w w' b b h h r
       flushed {w'} same off ran e₁ e₂ = subst (StepIs s c seen (flush n) w w' b b h h) (sym (e₂ ∙ ap (leaving c seen) e₁)) (stepped (flush n) (record {
         is = (λ j. record { core = record { counters = countersOf c; places = ran .places j; pending = ran .pending j }; action = leave; answer = done })
-            ∙ sym (flush-by false (ap (λ (t : Bool). not t || c .promoted) (eq-eqb n (c .connections) same) ∙ off));
+            ∙ sym (flush-by false (ap (λ (t : Bool). not t || isSet (c .promoted)) (eq-eqb n (c .connections) same) ∙ clear-so (c .promoted) off));
         lands = leaving-lands c seen isDone (getD w' 0 0) (roomIn seen h);
         rules = ran .rules;
         more = omega (arith, ran .used);
@@ -174,7 +176,7 @@ module _ (s : Settings) (c : Replica) (seen : Lookup) (w b h : List ℕ) where
     abbrev Promote : Bool → CoreResult
     Promote t = cond t (coreDone (corePromotion (settingsOf s (roomIn seen h)) Was) clear) (coreRefuse Was leave 23)
 
-    promote-by : (t : Bool) → c .checked ≡ t → coreStep (settingsOf s (roomIn seen h)) Was (foundIn seen h) (ltb (seen .free) (seen .len)) promote ≡ Promote t
+    promote-by : (t : Bool) → isSet (c .checked) ≡ t → coreStep (settingsOf s (roomIn seen h)) Was (foundIn seen h) (ltb (seen .free) (seen .len)) promote ≡ Promote t
     unfolding coreStep
     promote-by t e = ap Promote e
 
@@ -182,9 +184,9 @@ module _ (s : Settings) (c : Replica) (seen : Lookup) (w b h : List ℕ) where
     unfolding coreStep
     unchecked-by = refl
 
-    pub not-checked : {r : Outcome} {a : Answer} → c .checked ≡ false → a ≡ isRefused 23 → r ≡ leaving c seen a → StepIs s c seen promote w w b b h h r
+    pub not-checked : {r : Outcome} {a : Answer} → c .checked ≡ 0 → a ≡ isRefused 23 → r ≡ leaving c seen a → StepIs s c seen promote w w b b h h r
     not-checked off e₁ e₂ = subst (StepIs s c seen promote w w b b h h) (sym (e₂ ∙ ap (leaving c seen) e₁)) (stepped promote (record {
-      is = sym (promote-by false off);
+      is = sym (promote-by false (clear-so (c .checked) off));
       lands = leaving-lands c seen (isRefused 23) (getD w 0 0) (roomIn seen h);
       rules = keeps on;
       more = omega arith;
@@ -199,9 +201,9 @@ module _ (s : Settings) (c : Replica) (seen : Lookup) (w b h : List ℕ) where
       is : Is ≡ Promote true
       is = (λ j. record { core = record { counters = countersOf (promotedFrom c); places = p .places j; pending = p .pending j }; action = clear; answer = done })
 
-      pub promoted-checked : c .checked ≡ true → StepIs s c seen promote w w' b b' h h r
+      pub promoted-checked : (c .checked ≡ 0 → ⊥) → StepIs s c seen promote w w' b b' h h r
       promoted-checked said = subst (StepIs s c seen promote w w' b b' h h) (sym (p .is)) (stepped promote (record {
-        is = is ∙ sym (promote-by true said);
+        is = is ∙ sym (promote-by true (set-so (c .checked) said));
         lands = clearing-lands (promotedFrom c) seen isDone (getD w' 0 0) (roomIn seen h);
         rules = p .rules;
         more = omega (arith, p .used);

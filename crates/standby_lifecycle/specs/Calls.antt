@@ -10,14 +10,14 @@ use Rattle.store_areas.specs.StoreWord
 use Rattle.store_areas.specs.Areas.{wordsAt, bytesAt, Rules, placesOf}
 use Rattle.standby_pending.specs.Pending.{pendingOf}
 use Rattle.model_standby.specs.Store.{onPlaces, takenOver}
-use Rattle.standby_state.specs.declared.Replica.{Replica}
+use Rattle.standby_counters.specs.declared.Replica.{Replica}
 use Rattle.standby_state.specs.declared.Settings.{Settings}
 use Rattle.standby_state.specs.declared.Outcome.{Outcome}
 use Rattle.standby_state.specs.Answers.{isDone}
 use Rattle.standby_state.specs.Outcomes.{clearing}
 
 abbrev pub promotedFrom : Replica → Replica
-promotedFrom c = record { epoch = c .epoch; connections = c .connections; promoted = true; checked = c .checked }
+promotedFrom c = record { epoch = c .epoch; connections = c .connections; promoted = 1; checked = c .checked }
 
 pub record Promoted (s : Settings) (c : Replica) (seen : Lookup) (w w' b b' : List ℕ) (r : Outcome) : Type 0 where
   pub is : r ≡ clearing (promotedFrom c) seen isDone

@@ -32,7 +32,7 @@ fn promoted_from(counters: Replica) -> Replica
     ensures { λ r. ⌜ r ≡ promotedFrom counters ⌝ }
 {
     let mut d = counters;
-    d.promoted = true;
+    d.promoted = 1;
     d
 }
 
@@ -70,7 +70,7 @@ pub fn flush(
     if connection != counters.connections {
         return standby_state::unchanged(counters, lookup, standby_state::refused(OTHER_CONNECTION));
     }
-    if counters.promoted {
+    if counters.promoted != 0 {
         return standby_state::unchanged(counters, lookup, standby_state::refused(OTHER_CONNECTION));
     }
     standby_pending_run::run(words, bytes, settings.shape);
@@ -114,7 +114,7 @@ pub fn promote(
     if !standby_rules::keeps_rules(words, bytes, holds, settings.shape, lookup) {
         return standby_state::unchanged(counters, lookup, standby_state::refused(RULES_BROKEN));
     }
-    if counters.checked {
+    if counters.checked != 0 {
         return promotion(counters, lookup, words, bytes, settings);
     }
     standby_state::unchanged(counters, lookup, standby_state::refused(UNCHECKED))

@@ -9,6 +9,7 @@ ghost use Rattle.model_standby.specs.Standby.{pendsOn};
 ghost use Rattle.store_areas.specs.Areas.{placeWords, Rules};
 ghost use Rattle.standby_pending.specs.Pending.{countOf, pendingOf};
 ghost use Rattle.standby_pending_run.specs.Commits.{markedAt, Ran, RanIf};
+use standby_counters::Replica;
 use store_areas::Shape;
 use store_areas::word;
 
@@ -63,7 +64,7 @@ pub fn is_due_batch(words: &[u64], handle: u32) -> bool
     requires { ⌜ countOf (now words) ≤ 64 ⌝ }
     ensures { λ r. ⌜ r ≡ (leb 64 (length (pendingOf (now (words .entry)))) || pendsOn handle (pendingOf (now (words .entry)))) ⌝ }
 {
-    if store_areas::MAX_PENDING <= words[word::PENDING] {
+    if Replica::MAX_HELD_COMMITS <= words[word::PENDING] {
         return true;
     }
     standby_pending::pends_on(words, handle)

@@ -4,6 +4,7 @@ use mathlib.Core.Path.{_≡_}
 use mathlib.Core.Bool.{Bool, true, cond}
 use mathlib.Core.List.{List}
 use mathlib.Core.Option.{Option, none, some}
+use Rattle.base_flags.specs.Flag.{isSet}
 use Rattle.frame_reader.specs.declared.Span.{Span}
 use Rattle.frame_reader.specs.Answers.{spanOf}
 use Rattle.frame_fields.specs.declared.Summary.{Summary}
@@ -12,8 +13,8 @@ use Rattle.frame_writer.specs.Encoding.{spanFits, summaryFits}
 use Rattle.standby_state.specs.declared.BoundSummary.{BoundSummary}
 use Rattle.standby_state.specs.Answers.{briefOf}
 
-abbrev pub flightBy : Bool → ℕ → Option ℕ
-flightBy has n = cond has (some n) none
+abbrev pub flightBy : ℕ → ℕ → Option ℕ
+flightBy has n = cond (isSet has) (some n) none
 
 -- the same bytes, and they lie in the area
 pub record CutTo (b : List ℕ) (s r : Span) : Type 0 where

@@ -37,10 +37,10 @@ fn reason(n: u8) -> NackReason
     NackReason::Restarted
 }
 
-fn in_flight(has: bool, n: u64) -> InFlight
+fn in_flight(has: u8, n: u64) -> InFlight
     ensures { λ r. ⌜ flightOf r ≡ flightBy has n ⌝ }
 {
-    if has {
+    if has != 0 {
         return InFlight::Seq(n);
     }
     InFlight::Nothing

@@ -1,30 +1,30 @@
 -- What the functions over a row of handles say: each is a definition on lists of the records.
 -- Assumes nothing.
 use Prim.Native.Nat.{ℕ, zero, suc}
-use mathlib.Core.Bool.{Bool, true, false, not, _&&_, _||_}
+use mathlib.Core.Bool.{Bool, true, false, cond, not, _&&_, _||_}
 use mathlib.Core.List.{List, [], _∷_, map}
 use lib.Dec.{eqb, leb, ltb}
 use lib.ListN.{length, getD}
+use Rattle.base_flags.specs.Flag.{isSet}
 use Rattle.standby_row.specs.declared.Bound.{Bound}
 use Rattle.standby_row.specs.declared.Lookup.{Lookup}
 
 -- what is read past the end of a row
 abbrev pub freeRecord : Bound
-freeRecord = record { used = false; handle = 0; place = 0; «commit_no» = record { 0 = 0 }; «held_len» = 0; «held_bytes» = 0 }
+freeRecord = record { used = 0; handle = 0; place = 0; «commit_no» = record { 0 = 0 }; «held_len» = 0; «held_bytes» = 0 }
 
--- a record is used for the handle k; it is free; it is used, and breaks the rules for places and held lengths
+-- a record is used, by any value of its byte but 0; it is used for the handle k; it is free; it is used, and breaks the rules for places and held lengths
+abbrev pub isUsed : Bound → Bool
+isUsed h = isSet (h .used)
+
 abbrev pub isOf : Bound → ℕ → Bool
-isOf h k = h .used && eqb (h .handle) k
+isOf h k = isUsed h && eqb (h .handle) k
 
 abbrev pub isFree : Bound → Bool
-isFree h = not (h .used)
-
--- it ends the search for a free record: it is free, or none is sought, since the handle stands at a place `at` of n
-abbrev pub isFreeFor : Bound → ℕ → ℕ → Bool
-isFreeFor h at n = ltb at n || not (h .used)
+isFree h = not (isUsed h)
 
 abbrev pub breaksOf : Bound → ℕ → ℕ → Bool
-breaksOf h places room = h .used && (leb places (h .place) || ltb room (h .«held_len»))
+breaksOf h places room = isUsed h && (leb places (h .place) || ltb room (h .«held_len»))
 
 -- one more where the head is not the one
 abbrev pub zeroOrNext : Bool → ℕ → ℕ
@@ -42,15 +42,12 @@ findOf hs k = firstOf (λ h. isOf h k) hs
 abbrev pub freeOf : List Bound → ℕ
 freeOf hs = firstOf isFree hs
 
-abbrev pub freeFor : List Bound → ℕ → ℕ → ℕ
-freeFor hs at n = firstOf (λ h. isFreeFor h at n) hs
-
 abbrev pub brokenOf : List Bound → ℕ → ℕ → ℕ
 brokenOf hs places room = firstOf (λ h. breaksOf h places room) hs
 
 -- the same record, free
 abbrev pub cleared : Bound → Bound
-cleared h = record { used = false; handle = h .handle; place = h .place; «commit_no» = h .«commit_no»; «held_len» = h .«held_len»; «held_bytes» = h .«held_bytes» }
+cleared h = record { used = 0; handle = h .handle; place = h .place; «commit_no» = h .«commit_no»; «held_len» = h .«held_len»; «held_bytes» = h .«held_bytes» }
 
 abbrev pub clearedAll : List Bound → List Bound
 clearedAll hs = map cleared hs
@@ -61,6 +58,22 @@ clearedFrom zero hs = clearedAll hs
 clearedFrom (suc i) [] = []
 clearedFrom (suc i) (h ∷ hs) = h ∷ clearedFrom i hs
 
--- all that is found for a handle
+-- all that is found for a handle: its place and record, the first free place, the length, the first record that breaks the rules
 abbrev pub seenOf : List Bound → ℕ → ℕ → ℕ → Lookup
-seenOf hs k places room = record { at = findOf hs k; free = freeFor hs (findOf hs k) (length hs); len = length hs; broken = brokenOf hs places room; bound = getD hs (findOf hs k) freeRecord }
+seenOf hs k places room = record { at = findOf hs k; free = freeOf hs; len = length hs; broken = brokenOf hs places room; bound = getD hs (findOf hs k) freeRecord }
+
+-- ---- one record after the other
+
+-- what is found in a row of n records before any is looked at, and once the record h at place i is
+abbrev pub unseen : ℕ → Lookup
+unseen n = record { at = n; free = n; len = n; broken = n; bound = freeRecord }
+
+abbrev pub lookedAt : Lookup → ℕ → Bound → ℕ → ℕ → ℕ → Lookup
+lookedAt l i h k places room =
+    record {
+      at = cond (leb (l .len) (l .at) && isOf h k) i (l .at);
+      free = cond (leb (l .len) (l .free) && isFree h) i (l .free);
+      len = l .len;
+      broken = cond (leb (l .len) (l .broken) && breaksOf h places room) i (l .broken);
+      bound = cond (leb (l .len) (l .at) && isOf h k) h (l .bound);
+    }

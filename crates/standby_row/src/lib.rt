@@ -1,13 +1,15 @@
 // The bound handles: a lent row of records, searched by handle (standby.rs, where they are a map from handle to bound session).
 use frame_fields::CommitNumber;
 ghost use mathlib.Core.Path.{_≡_};
-ghost use lib.ListN.{length, set, getD};
-ghost use Rattle.standby_row.specs.Row.{freeRecord, isOf, isFreeFor, breaksOf, findOf, freeOf, freeFor, brokenOf, clearedFrom, clearedAll, seenOf};
+ghost use lib.ListN.{set};
+ghost use mathlib.Core.Bool.{cond};
+ghost use Rattle.standby_row.specs.Row.{freeRecord, isUsed, isOf, isFree, breaksOf, clearedFrom, unseen, lookedAt, seenOf};
 
 // A handle that is bound to a session's place, with what it holds back; a record that is not used is free.
 #[repr(C)]
 pub struct Bound {
-    pub used: bool,
+    // Whether the record is used: it is if this is not 0.
+    pub used: u8,
     pub handle: u32,
     pub place: usize,
     pub commit_no: CommitNumber,
@@ -20,7 +22,7 @@ pub fn free_record() -> Bound
     ensures { λ r. ⌜ r ≡ freeRecord ⌝ }
 {
     Bound {
-        used: false,
+        used: 0,
         handle: 0,
         place: 0,
         commit_no: CommitNumber(0),
@@ -29,124 +31,40 @@ pub fn free_record() -> Bound
     }
 }
 
+// Whether a record is used.
+pub fn is_used(bound: Bound) -> bool
+    ensures { λ r. ⌜ r ≡ isUsed bound ⌝ }
+{
+    bound.used != 0
+}
+
 // Whether a record is used for a handle.
 pub fn is_of(bound: Bound, handle: u32) -> bool
     ensures { λ r. ⌜ r ≡ isOf bound handle ⌝ }
 {
-    bound.used && bound.handle == handle
+    (bound.used != 0) & (bound.handle == handle)
 }
 
-// Whether a record ends the search for a free one: it is free, or none is sought, since the handle stands at `at` of `len`.
-pub fn is_free(bound: Bound, at: usize, len: usize) -> bool
-    ensures { λ r. ⌜ r ≡ isFreeFor bound at len ⌝ }
+// Whether a record is free.
+pub fn is_free(bound: Bound) -> bool
+    ensures { λ r. ⌜ r ≡ isFree bound ⌝ }
 {
-    (at < len) | !bound.used
+    !is_used(bound)
 }
 
 // Whether a used record breaks the rules: its place is not below `places`, or it holds more than `room` bytes.
 pub fn breaks_rules(bound: Bound, places: usize, room: usize) -> bool
     ensures { λ r. ⌜ r ≡ breaksOf bound places room ⌝ }
 {
-    bound.used && (bound.place >= places || bound.held_len > room)
-}
-
-// The place of the first record that is used for a handle, or the length.
-pub fn find(row: &[Bound], handle: u32) -> usize
-    ensures { λ r. ⌜ r ≡ findOf (now (row .entry)) handle ⌝ }
-{
-    let mut i = 0;
-    while i < row.len() {
-        let h = row[i];
-        if is_of(h, handle) {
-            return i;
-        }
-        i += 1;
-    }
-    i
-}
-
-// The place of the first record that breaks the rules, or the length.
-pub fn find_broken(row: &[Bound], places: usize, room: usize) -> usize
-    ensures { λ r. ⌜ r ≡ brokenOf (now (row .entry)) places room ⌝ }
-{
-    let mut i = 0;
-    while i < row.len() {
-        let h = row[i];
-        if breaks_rules(h, places, room) {
-            return i;
-        }
-        i += 1;
-    }
-    i
-}
-
-// The place of the first free record, or the length; for a handle that stands at `at` of `len` none is sought, and it is the first place.
-pub fn find_free(row: &[Bound], at: usize, len: usize) -> usize
-    ensures { λ r. ⌜ r ≡ freeFor (now (row .entry)) at len ⌝ }
-{
-    let mut i = 0;
-    while i < row.len() {
-        let h = row[i];
-        if is_free(h, at, len) {
-            return i;
-        }
-        i += 1;
-    }
-    i
-}
-
-// The record at a place, and past the end `free_record`.
-pub fn get_or(row: &[Bound], i: usize) -> Bound
-    ensures { λ r. ⌜ r ≡ getD (now (row .entry)) i freeRecord ⌝ }
-{
-    if i < row.len() {
-        return row[i];
-    }
-    free_record()
-}
-
-// Sets the record at a place; past the end it sets none.
-pub fn put_if(row: &mut [Bound], i: usize, bound: Bound)
-    ensures { λ _. ⌜ now (row .exit) ≡ set (now (row .entry)) i bound ⌝ }
-{
-    if i < row.len() {
-        row[i] = bound;
-    }
-}
-
-// Puts a record in the first free place, and says which; in a full row it puts none, and says the length.
-pub fn insert(row: &mut [Bound], bound: Bound) -> usize
-    ensures { λ r. ⌜ (r ≡ freeOf (now (row .entry))) × (now (row .exit) ≡ set (now (row .entry)) (freeOf (now (row .entry))) bound) ⌝ }
-{
-    let i = find_free(row, 0, 0);
-    put_if(row, i, bound);
-    i
-}
-
-// Frees every record from a place on; from the length on that is none.
-pub fn clear_from(row: &mut [Bound], from: usize)
-    ensures { λ _. ⌜ now (row .exit) ≡ clearedFrom from (now (row .entry)) ⌝ }
-{
-    let mut i = from;
-    while i < row.len() {
-        row[i].used = false;
-        i += 1;
-    }
-}
-
-// Frees every record.
-pub fn clear(row: &mut [Bound])
-    ensures { λ _. ⌜ now (row .exit) ≡ clearedAll (now (row .entry)) ⌝ }
-{
-    clear_from(row, 0);
+    (bound.used != 0) & ((places <= bound.place) | (room < bound.held_len))
 }
 
 // What is found in a row for a handle. A place that there is none of is the length.
 #[repr(C)]
 pub struct Lookup {
-    // The handle's place.
+    // The handle's place: the first record that is used for it.
     pub at: usize,
-    // The first free place, where the handle has none.
+    // The first free place.
     pub free: usize,
     // The row's length.
     pub len: usize,
@@ -156,29 +74,92 @@ pub struct Lookup {
     pub bound: Bound,
 }
 
-// What a call must know of the row, found before it runs.
-pub fn look_up(row: &[Bound], handle: u32, places: usize, room: usize) -> Lookup
-    ensures { λ r. ⌜ r ≡ seenOf (now (row .entry)) handle places room ⌝ }
+// What is found before any record is looked at.
+pub fn nothing_seen(len: usize) -> Lookup
+    ensures { λ r. ⌜ r ≡ unseen len ⌝ }
 {
-    let at = find(row, handle);
-    let len = row.len();
-    let free = find_free(row, at, len);
-    let broken = find_broken(row, places, room);
-    let bound = get_or(row, at);
     Lookup {
-        at: at,
-        free: free,
+        at: len,
+        free: len,
         len: len,
-        broken: broken,
-        bound: bound,
+        broken: len,
+        bound: free_record(),
     }
 }
 
-// What a call does to the row: a record is put at a place, and every record from another place on is freed. At the length
-// and past it there is no place: nothing is put, nothing is freed.
-pub fn update(row: &mut [Bound], at: usize, from: usize, bound: Bound)
-    ensures { λ _. ⌜ now (row .exit) ≡ clearedFrom from (set (now (row .entry)) at bound) ⌝ }
+fn place_if(test: bool, new: usize, old: usize) -> usize
+    ensures { λ r. ⌜ r ≡ cond test new old ⌝ }
 {
-    put_if(row, at, bound);
-    clear_from(row, from);
+    if test {
+        return new;
+    }
+    old
+}
+
+fn bound_if(test: bool, new: Bound, old: Bound) -> Bound
+    ensures { λ r. ⌜ r ≡ cond test new old ⌝ }
+{
+    if test {
+        return new;
+    }
+    old
+}
+
+// What is found once the record at place `i` is looked at too: the first of each kind counts.
+pub fn look_at(
+    lookup: Lookup,
+    i: usize,
+    bound: Bound,
+    handle: u32,
+    places: usize,
+    room: usize,
+) -> Lookup
+    ensures { λ r. ⌜ r ≡ lookedAt lookup i bound handle places room ⌝ }
+{
+    let len = lookup.len;
+    let own = (len <= lookup.at) & is_of(bound, handle);
+    let free = (len <= lookup.free) & is_free(bound);
+    let broken = (len <= lookup.broken) & breaks_rules(bound, places, room);
+    Lookup {
+        at: place_if(own, i, lookup.at),
+        free: place_if(free, i, lookup.free),
+        len: len,
+        broken: place_if(broken, i, lookup.broken),
+        bound: bound_if(own, bound, lookup.bound),
+    }
+}
+
+// All that a call must know of the row, found in one pass before it runs.
+pub fn find(row: &[Bound], handle: u32, places: usize, room: usize) -> Lookup
+    ensures { λ r. ⌜ r ≡ seenOf (now (row .entry)) handle places room ⌝ }
+{
+    let len = row.len();
+    let mut seen = nothing_seen(len);
+    let mut i = 0;
+    while i < row.len() {
+        let bound = row[i];
+        seen = look_at(seen, i, bound, handle, places, room);
+        i += 1;
+    }
+    seen
+}
+
+// Puts a record at a place; at the length and past it there is none, and nothing is put.
+pub fn insert(row: &mut [Bound], at: usize, bound: Bound)
+    ensures { λ _. ⌜ now (row .exit) ≡ set (now (row .entry)) at bound ⌝ }
+{
+    if at < row.len() {
+        row[at] = bound;
+    }
+}
+
+// Frees every record from a place on; from the length on that is none.
+pub fn clear(row: &mut [Bound], from: usize)
+    ensures { λ _. ⌜ now (row .exit) ≡ clearedFrom from (now (row .entry)) ⌝ }
+{
+    let mut i = from;
+    while i < row.len() {
+        row[i].used = 0;
+        i += 1;
+    }
 }

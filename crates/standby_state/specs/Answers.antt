@@ -1,9 +1,10 @@
 -- What an answer stands for: a refusal by its number, a frame, or done. Its texts are parts of the store's bytes b. Assumes nothing.
 use Prim.Native.Nat.{ℕ}
-use mathlib.Core.Bool.{false, cond}
+use mathlib.Core.Bool.{cond}
 use mathlib.Core.List.{List}
 use mathlib.Core.Option.{none, some}
 use lib.Dec.{eqb}
+use Rattle.base_flags.specs.Flag.{isSet}
 use Rattle.model_frame.specs.ReasonByte
 use Rattle.model_frame.specs.FrameKind
 use Rattle.model_frame.specs.Frame.{Reason, staleEpoch, diverged, lagTooGreat, restarted, Frame, welcome, ack, nack, bound}
@@ -22,7 +23,7 @@ briefOf b m =
     record {
       nextOut = m .«next_outgoing»;
       nextIn = m .«next_incoming»;
-      inFlight = cond (m .«has_in_flight») (some (m .«in_flight»)) none;
+      inFlight = cond (isSet (m .«has_in_flight»)) (some (m .«in_flight»)) none;
       stampText = spanOf b (m .«created_at»);
       marksText = spanOf b (m .marks);
       lastOutgoing = m .«last_outgoing»;
@@ -49,7 +50,7 @@ noBrief =
     record {
       «next_outgoing» = 0;
       «next_incoming» = 0;
-      «has_in_flight» = false;
+      «has_in_flight» = 0;
       «in_flight» = 0;
       «created_at» = record { at = 0; len = 0 };
       marks = record { at = 0; len = 0 };

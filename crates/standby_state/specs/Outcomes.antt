@@ -5,21 +5,23 @@ use mathlib.Core.Bool.{true, false, cond}
 use mathlib.Core.List.{List}
 use lib.ListN.{take, drop}
 use lib.Dec.{ltb}
+use Rattle.base_flags.specs.Flag.{isSet}
 use Rattle.standby_row.specs.declared.Bound.{Bound}
 use Rattle.standby_row.specs.declared.Lookup.{Lookup}
+use Rattle.standby_row.specs.Row.{isUsed}
 use Rattle.store_areas.specs.declared.Shape.{Shape}
 use Rattle.model_standby.specs.State.{Counters}
 use Rattle.model_standby.specs.State as state
 use Rattle.model_standby.specs.Core.{Action, leave, store, clear, CoreResult}
 use Rattle.standby_part.specs.State.{boundOf, coreAt, settingsFor}
-use Rattle.standby_state.specs.declared.Replica.{Replica}
+use Rattle.standby_counters.specs.declared.Replica.{Replica}
 use Rattle.standby_state.specs.declared.Settings.{Settings}
 use Rattle.standby_state.specs.declared.Answer.{Answer}
 use Rattle.standby_state.specs.declared.Outcome.{Outcome}
 use Rattle.standby_state.specs.Answers.{answerOf}
 
 abbrev pub countersOf : Replica → Counters
-countersOf c = record { epoch = c .epoch .0; connections = c .connections; promoted = c .promoted; checked = c .checked }
+countersOf c = record { epoch = c .epoch .0; connections = c .connections; promoted = isSet (c .promoted); checked = isSet (c .checked) }
 
 -- with hold areas of `room` bytes
 abbrev pub settingsOf : Settings → ℕ → state.Settings
@@ -36,7 +38,7 @@ abbrev pub clearing : Replica → Lookup → Answer → Outcome
 clearing c seen a = record { replica = c; answer = a; stores = false; clears = true; at = seen .len; from = 0; bound = seen .bound }
 
 abbrev pub usedFor : ℕ → Bound → Bound
-usedFor k h = record { used = true; handle = k; place = h .place; «commit_no» = h .«commit_no»; «held_len» = h .«held_len»; «held_bytes» = h .«held_bytes» }
+usedFor k h = record { used = 1; handle = k; place = h .place; «commit_no» = h .«commit_no»; «held_len» = h .«held_len»; «held_bytes» = h .«held_bytes» }
 
 abbrev pub storing : Replica → Lookup → Answer → ℕ → Bound → Outcome
 storing c seen a k h = record { replica = c; answer = a; stores = true; clears = false; at = spotOf seen; from = seen .len; bound = usedFor k h }
@@ -60,6 +62,6 @@ pub record Lands (seen : Lookup) (used room : ℕ) (o : Outcome) : Type 0 where
   pub at-is : o .at ≡ cond (o .stores) (spotOf seen) (seen .len)
   pub from-is : o .from ≡ cond (o .clears) 0 (seen .len)
   pub one : o .stores ≡ true → o .clears ≡ false
-  pub slot-used : o .stores ≡ true → o .bound .used ≡ true
+  pub slot-used : o .stores ≡ true → isUsed (o .bound) ≡ true
   pub slot-place : o .stores ≡ true → o .bound .place < used
   pub slot-len : o .stores ≡ true → o .bound .«held_len» ≤ room

@@ -1,4 +1,4 @@
-// The standby's counters and settings, what a call answers, and what it does to the row of handles (standby.rs, `Replica`).
+// The standby's settings, what a call answers, and what it does to the row of handles (standby.rs, `Replica`).
 ghost use mathlib.Core.Path.{_≡_};
 ghost use Rattle.standby_state.specs.Answers.{noBrief, blankOf, isRefused, isDone, isWelcome, isAck, isNack, isBound};
 ghost use Rattle.standby_state.specs.Outcomes.{spotOf, leaving, clearing, storing};
@@ -7,25 +7,10 @@ use frame_fields::Epoch;
 use frame_fields::Incarnation;
 use frame_fields::kind;
 use frame_reader::Span;
+pub use standby_counters::Replica;
 use standby_row::Bound;
 use standby_row::Lookup;
 use store_areas::Shape;
-
-// The standby's counters: a small record lent for each call.
-#[repr(C)]
-pub struct Replica {
-    pub epoch: Epoch,
-    pub connections: u64,
-    pub promoted: bool,
-    pub checked: bool,
-}
-
-impl Replica {
-    // The most commits that may be pending.
-    pub const MAX_PENDING: u64 = store_areas::MAX_PENDING;
-    // The most message bytes that a session sent whole may hold back.
-    pub const MAX_WHOLE_SESSION_BYTES: u64 = standby_hold::MAX_WHOLE_SESSION_BYTES;
-}
 
 // What no call changes: the store's shape, this run of the standby (0 is taken as 1), and the accepted lag.
 #[repr(C)]
@@ -40,7 +25,8 @@ pub struct Settings {
 pub struct BoundSummary {
     pub next_outgoing: u64,
     pub next_incoming: u64,
-    pub has_in_flight: bool,
+    // Whether there is a number in flight: there is if this is not 0.
+    pub has_in_flight: u8,
     pub in_flight: u64,
     pub created_at: Span,
     pub marks: Span,
@@ -81,7 +67,7 @@ fn no_summary() -> BoundSummary
     BoundSummary {
         next_outgoing: 0,
         next_incoming: 0,
-        has_in_flight: false,
+        has_in_flight: 0,
         in_flight: 0,
         created_at: Span { at: 0, len: 0 },
         marks: Span { at: 0, len: 0 },
@@ -205,7 +191,7 @@ pub fn stored(
     ensures { λ r. ⌜ r ≡ storing counters lookup answer handle bound ⌝ }
 {
     let mut bound = bound;
-    bound.used = true;
+    bound.used = 1;
     bound.handle = handle;
     Outcome {
         replica: counters,

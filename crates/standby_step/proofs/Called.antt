@@ -13,7 +13,7 @@ use Rattle.model_frame.specs.Bytes.{write}
 use Rattle.base_laws.proofs.Little.{length-write}
 use Rattle.standby_row.specs.declared.Bound.{Bound as BoundRecord}
 use Rattle.standby_row.specs.declared.Lookup.{Lookup}
-use Rattle.standby_row.specs.Row.{isFree, firstOf, findOf, freeOf, brokenOf, clearedFrom, clearedAll, seenOf}
+use Rattle.standby_row.specs.Row.{findOf, freeOf, brokenOf, clearedFrom, clearedAll, seenOf}
 use Rattle.standby_row.specs.Row as handles
 use Rattle.standby_row.proofs.Lists.{clears-end, cleared-length}
 use Rattle.standby_handles.specs.Rows.{rowOf}
@@ -29,7 +29,7 @@ use Rattle.model_standby.specs.Hold.{HoldWrite}
 use Rattle.model_standby.specs.Core.{Core, Action, leave, store, clear, CoreResult, act, acted, coreStep, handleOf}
 use Rattle.model_standby.proofs.Factoring.{factored}
 use Rattle.standby_part.specs.State.{boundOf, coreAt}
-use Rattle.standby_state.specs.declared.Replica.{Replica}
+use Rattle.standby_counters.specs.declared.Replica.{Replica}
 use Rattle.standby_state.specs.declared.Settings.{Settings}
 use Rattle.standby_state.specs.declared.Outcome.{Outcome}
 use Rattle.standby_state.specs.Answers.{answerOf, isRefused}
@@ -78,12 +78,9 @@ module _ (row : List BoundRecord) (k : ℕ) (w h : List ℕ) where
       go true e = sym (find-hit (boundOf protocolVersion) Room k row h (ltb-true (findOf row k) (length row) e))
       go false e = sym (find-miss (boundOf protocolVersion) Room k row h (ltb-false (findOf row k) (length row) e))
 
-  -- the place for a handle that has none: the first free one
+  -- the first free place
   abbrev Free : ℕ
-  Free = Looked .free
-
-  free-of : ltb (findOf row k) (length row) ≡ false → Free ≡ freeOf row
-  free-of e = ap (λ (t : Bool). firstOf (λ x. t || isFree x) row) e
+  Free = freeOf row
 
   free-in : ltb (freeOf row) (length row) ≡ hasFree Handles
   free-in = go (ltb (freeOf row) (length row)) refl
@@ -103,7 +100,7 @@ module _ (row : List BoundRecord) (k : ℕ) (w h : List ℕ) where
           subst (λ (y : Option Bound). coreStep L x y (ltb Free (length row)) call ≡ coreStep L x y (hasFree Handles) call) (sym (ap (λ (t : Bool). cond t (some Own) none) e))
           (step-own L x Own (ltb Free (length row)) (hasFree Handles) call)
           ∙ ap (λ (y : Option Bound). coreStep L x y (hasFree Handles) call) found-in
-      go false e = (λ i. coreStep L x (found-in i) ((ap (λ (n : ℕ). ltb n (length row)) (free-of e) ∙ free-in) i) call)
+      go false e = (λ i. coreStep L x (found-in i) (free-in i) call)
 
   -- ---- what is done to the row
 
@@ -189,7 +186,7 @@ module _ (row : List BoundRecord) (k : ℕ) (w h : List ℕ) where
                   (put-own (boundOf protocolVersion) Room k (o .bound) (lands .slot-used e) is-k row h h' (ltb-true (findOf row k) (length row) p)
                   (subst (Apart (boundOf protocolVersion) Room (findOf row k) h) (sym holds) (holds-apart Room (findOf row k) wr h inside)))
               by-place false p =
-                  at-place (freeOf row) (spot false p ∙ free-of p)
+                  at-place (freeOf row) (spot false p)
                   (subst (λ (x : List ℕ). After (set row (freeOf row) (o .bound)) x ≡ put k (boundOf protocolVersion (o .bound) (areaAt Room (freeOf row) x)) Handles) (sym (still (f .1 .1 .1 not-found)))
                   (put-new (boundOf protocolVersion) Room k (o .bound) (lands .slot-used e) is-k row h (ltb-false (findOf row k) (length row) p) free))
                 where
@@ -197,7 +194,7 @@ module _ (row : List BoundRecord) (k : ℕ) (w h : List ℕ) where
                   not-found = ap (λ (t : Bool). isSome (cond t (some (boundOf protocolVersion (getD row (findOf row k) handles.freeRecord) (areaAt Room (findOf row k) h))) none)) p
 
                   free : freeOf row < length row
-                  free = subst (λ (n : ℕ). n < length row) (free-of p) (ltb-true Free (length row) (sym (ap (λ (t : Bool). t || ltb Free (length row)) not-found) ∙ f .1 .1 .0))
+                  free = ltb-true Free (length row) (sym (ap (λ (t : Bool). t || ltb Free (length row)) not-found) ∙ f .1 .1 .0)
 
           go : (s c : Bool) → o .stores ≡ s → o .clears ≡ c → After Next h' ≡ act (actionOf protocolVersion Room h' o) Handles
           go true c e f =
@@ -290,14 +287,10 @@ module _ (s : Settings) (c : Replica) (row : List BoundRecord) (call : Call) (w 
     Puts = store (o .bound .handle) (boundOf protocolVersion (o .bound) (areaAt R (o .at) h'))
 
     at-spot : o .stores ≡ true → o .at ≡ Spot
-    at-spot e = st .lands .at-is ∙ ap (λ (t : Bool). cond t (spotOf See) (length row)) e ∙ own (ltb (findOf row K) (length row)) refl ∙ ap (spotFor row) (sought-own call asked)
+    at-spot e = st .lands .at-is ∙ ap (λ (t : Bool). cond t (spotOf See) (length row)) e ∙ ap (spotFor row) (sought-own call asked)
       where
         asked : asks call ≡ true
         asked = subst (Fit (asks call) (handleOf call) (foundIn See h) (ltb (See .free) (length row)) Wr) (ap (λ (t : Bool). cond t Puts (cond (o .clears) clear leave)) e) fits .0
-
-        own : (t : Bool) → ltb (findOf row K) (length row) ≡ t → spotOf See ≡ spotFor row K
-        own true f = ap (λ (t : Bool). cond t (findOf row K) (See .free)) f ∙ sym (ap (λ (t : Bool). cond t (findOf row K) (freeOf row)) f)
-        own false f = ap (λ (t : Bool). cond t (findOf row K) (See .free)) f ∙ free-of row K w h f ∙ sym (ap (λ (t : Bool). cond t (findOf row K) (freeOf row)) f)
 
     row-done : RowLeaves Spot (actionOf protocolVersion R h' o) row Row'
     row-done = go (o .stores) (o .clears) refl refl

@@ -7,6 +7,7 @@ use mathlib.Core.Option.{Option, none, some}
 use Prim.Native.Nat.{ℕ, _+_, _≤_}
 use lib.Dec.{eqb, ltb}
 use lib.ListN.{length}
+use Rattle.base_flags.specs.Flag.{isSet}
 use Rattle.model_frame.specs.Frame.{Key, Change, Part, commit, whole, lastWhole, staleEpoch, AppRecord, Frame, hello, welcome, bind, batch, ack, nack, bound, checked}
 use Rattle.model_frame.specs.Parse.{isEmpty}
 use Rattle.model_frame.specs.Writing.{sizes}
@@ -25,7 +26,7 @@ use Rattle.model_standby.specs.State.{Settings, incarnationOf, Counters, Bound,
 use Rattle.model_standby.specs.Standby.{due, follows, raised, maxWhole, startsWithReset, summed}
 use Rattle.model_standby.specs.Hold.{HoldWrite, writesPart, writesFrame, writes}
 use Rattle.model_standby.specs.Core.{Action, leave, store, clear, Core, CoreResult, coreSays, coreRefuse, counting, coreRun, coreFlushed, coreHello, coreBind, coreChecked, coreSettle, coreHold, corePart, coreHandle, coreBatch, coreIntact, coreGiven, coreStep, handleOf}
-use Rattle.standby_state.specs.declared.Replica.{Replica}
+use Rattle.standby_counters.specs.declared.Replica.{Replica}
 use Rattle.standby_state.specs.declared.Answer.{Answer}
 use Rattle.standby_step.specs.Steps.{hasHandle, asks, writesBy, Leaves, FrameLeaves, dueNow, placeBy}
 
@@ -245,8 +246,8 @@ place-any ps p q (intact (bound h m)) e = refl
 place-any ps p q (intact (checked h e₁ i)) e = refl
 
 pub leaves-any : (s : Shape) (c : Replica) (p q : ℕ) (call : Call) (w w' b b' : List ℕ) (a : Answer) → asks call ≡ false → Leaves s c p call w w' b b' a → Leaves s c q call w w' b b' a
-leaves-any s c p q (onFrameHeld f) w w' b b' a e l = subst (λ (i : ℕ). FrameLeaves s i (dueNow (c .promoted) (pendingOf w) (given f)) false (isQuiet a) w w' b b') (place-any (placesOf s w b) p q (given f) e) l
-leaves-any s c p q (onFrame f) w w' b b' a e l = subst (λ (i : ℕ). FrameLeaves s i (dueNow (c .promoted) (pendingOf w) (given f)) (isReply (answerOf b' a)) (isQuiet a) w w' b b') (place-any (placesOf s w b) p q (given f) e) l
+leaves-any s c p q (onFrameHeld f) w w' b b' a e l = subst (λ (i : ℕ). FrameLeaves s i (dueNow (isSet (c .promoted)) (pendingOf w) (given f)) false (isQuiet a) w w' b b') (place-any (placesOf s w b) p q (given f) e) l
+leaves-any s c p q (onFrame f) w w' b b' a e l = subst (λ (i : ℕ). FrameLeaves s i (dueNow (isSet (c .promoted)) (pendingOf w) (given f)) (isReply (answerOf b' a)) (isQuiet a) w w' b b') (place-any (placesOf s w b) p q (given f) e) l
 leaves-any s c p q (flush n) w w' b b' a e l = l
 leaves-any s c p q (disconnectedFrom n) w w' b b' a e l = l
 leaves-any s c p q promote w w' b b' a e l = l

@@ -10,7 +10,7 @@ use lib.Seq.{sets, take-set-le, drop-set-lt}
 use borrow.Author.Tests.{leb-true, leb-false, ltb-true, ltb-false, eqb-true, le-leb, lt-leb, lt-ltb, le-ltb}
 use Rattle.model_frame.specs.Bytes.{write}
 use Rattle.standby_row.specs.declared.Bound.{Bound}
-use Rattle.standby_row.specs.Row.{freeRecord, isOf, breaksOf, zeroOrNext, firstOf, findOf, brokenOf, clearedAll, seenOf}
+use Rattle.standby_row.specs.Row.{freeRecord, isUsed, isOf, breaksOf, zeroOrNext, firstOf, findOf, brokenOf, clearedAll, seenOf}
 use Rattle.store_areas.specs.Areas.{allowed}
 use Rattle.standby_state.specs.declared.Settings.{Settings}
 use Rattle.standby_step.specs.Steps.{seenAllowed}
@@ -87,7 +87,7 @@ pub whole-more : (used more room : ℕ) (row : List Bound) → used ≤ more →
 whole-more used more room row le n = none-also (λ h. breaksOf h used room) (λ h. breaksOf h more room) row one n
   where
     one : (h : Bound) → breaksOf h used room ≡ false → breaksOf h more room ≡ false
-    one h = go (h .used)
+    one h = go (isUsed h)
       where
         go : (x : Bool) → (x && (leb used (h .place) || ltb room (h .«held_len»))) ≡ false → (x && (leb more (h .place) || ltb room (h .«held_len»))) ≡ false
         go false e = refl
@@ -98,7 +98,7 @@ whole-more used more room row le n = none-also (λ h. breaksOf h used room) (λ 
 
 -- a record at a place in use, that holds no more than its area has
 pub record-whole : (h : Bound) (used room : ℕ) → h .place < used → h .«held_len» ≤ room → breaksOf h used room ≡ false
-record-whole h used room p l = go (h .used)
+record-whole h used room p l = go (isUsed h)
   where
     go : (x : Bool) → (x && (leb used (h .place) || ltb room (h .«held_len»))) ≡ false
     go false = refl
@@ -119,11 +119,11 @@ and-r true b e = e
 and-r false b e = absurd (true≢false (sym e))
 
 -- the record found is used for the handle
-pub found-used : (row : List Bound) (k : ℕ) → findOf row k < length row → getD row (findOf row k) freeRecord .used ≡ true
-found-used row k l = and-l (getD row (findOf row k) freeRecord .used) (eqb (getD row (findOf row k) freeRecord .handle) k) (first-is (λ h. isOf h k) row l)
+pub found-used : (row : List Bound) (k : ℕ) → findOf row k < length row → isUsed (getD row (findOf row k) freeRecord) ≡ true
+found-used row k l = and-l (isUsed (getD row (findOf row k) freeRecord)) (eqb (getD row (findOf row k) freeRecord .handle) k) (first-is (λ h. isOf h k) row l)
 
 pub found-own : (row : List Bound) (k : ℕ) → findOf row k < length row → getD row (findOf row k) freeRecord .handle ≡ k
-found-own row k l = eqb-true (getD row (findOf row k) freeRecord .handle) k (and-r (getD row (findOf row k) freeRecord .used) (eqb (getD row (findOf row k) freeRecord .handle) k) (first-is (λ h. isOf h k) row l))
+found-own row k l = eqb-true (getD row (findOf row k) freeRecord .handle) k (and-r (isUsed (getD row (findOf row k) freeRecord)) (eqb (getD row (findOf row k) freeRecord .handle) k) (first-is (λ h. isOf h k) row l))
 
 -- it breaks no rule, if none does
 sound-found : (used room : ℕ) (row : List Bound) (k : ℕ) → findOf row k < length row → Whole used room row

@@ -20,7 +20,7 @@ use Rattle.model_standby.specs.State as state
 use Rattle.model_standby.specs.Standby.{step}
 use Rattle.model_standby.specs.Core.{Action, leave, store, clear, coreOf, coreStep, handleOf}
 use Rattle.standby_part.specs.State.{boundOf}
-use Rattle.standby_state.specs.declared.Replica.{Replica}
+use Rattle.standby_counters.specs.declared.Replica.{Replica}
 use Rattle.standby_state.specs.declared.Settings.{Settings}
 use Rattle.standby_state.specs.declared.Answer.{Answer}
 use Rattle.standby_state.specs.Answers.{answerOf, isRefused}

@@ -6,6 +6,7 @@ use mathlib.Core.List.{List}
 use mathlib.Core.Option.{Option, none, some}
 use lib.ListN.{length, getD, set}
 use lib.Dec.{eqb, ltb, leb}
+use Rattle.base_flags.specs.Flag.{isSet}
 use Rattle.model_frame.specs.Refusal
 use Rattle.model_frame.specs.Bytes.{write}
 use Rattle.model_frame.specs.Frame.{hello, welcome, bind, batch, ack, nack, bound, checked}
@@ -26,7 +27,7 @@ use Rattle.model_standby.specs.Hold.{HoldWrite, writes}
 use Rattle.model_standby.specs.Core.{coreStep, handleOf}
 use Rattle.standby_part.specs.State.{coreAt}
 use Rattle.standby_batch_handle.specs.Handling.{foundOf}
-use Rattle.standby_state.specs.declared.Replica.{Replica}
+use Rattle.standby_counters.specs.declared.Replica.{Replica}
 use Rattle.standby_state.specs.declared.Settings.{Settings}
 use Rattle.standby_state.specs.declared.Answer.{Answer}
 use Rattle.standby_state.specs.declared.Outcome.{Outcome}
@@ -92,8 +93,8 @@ pub record PromotionLeaves (s : Shape) (refused : Bool) (w w' b b' : List ℕ) :
 
 -- by the handle's place and the answer
 abbrev pub Leaves : Shape → Replica → ℕ → Call → List ℕ → List ℕ → List ℕ → List ℕ → Answer → Type 0
-Leaves s c p (onFrameHeld f) w w' b b' a = FrameLeaves s (placeBy (placesOf s w b) p (given f)) (dueNow (c .promoted) (pendingOf w) (given f)) false (isQuiet a) w w' b b'
-Leaves s c p (onFrame f) w w' b b' a = FrameLeaves s (placeBy (placesOf s w b) p (given f)) (dueNow (c .promoted) (pendingOf w) (given f)) (isReply (answerOf b' a)) (isQuiet a) w w' b b'
+Leaves s c p (onFrameHeld f) w w' b b' a = FrameLeaves s (placeBy (placesOf s w b) p (given f)) (dueNow (isSet (c .promoted)) (pendingOf w) (given f)) false (isQuiet a) w w' b b'
+Leaves s c p (onFrame f) w w' b b' a = FrameLeaves s (placeBy (placesOf s w b) p (given f)) (dueNow (isSet (c .promoted)) (pendingOf w) (given f)) (isReply (answerOf b' a)) (isQuiet a) w w' b b'
 Leaves s c p (flush n) w w' b b' a = (w' ≡ cond (eqb (a .refusal) 0) (ranWords s w) w) × (b' ≡ b)
 Leaves s c p (disconnectedFrom n) w w' b b' a = (w' ≡ cond (eqb n (c .connections)) (set w StoreWord.pending 0) w) × (b' ≡ b)
 Leaves s c p promote w w' b b' a = PromotionLeaves s (not (eqb (a .refusal) 0)) w w' b b'

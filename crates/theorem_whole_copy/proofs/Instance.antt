@@ -25,12 +25,12 @@ abbrev s₀ : Settings
 s₀ = record { shape = record { places = 1; bytes = 0; messages = 0 }; incarnation = record { 0 = 7 }; «max_lag» = 0 }
 
 abbrev h₀ : BoundRecord
-h₀ = record { used = true; handle = 9; place = 0; «commit_no» = record { 0 = 7 }; «held_len» = 0; «held_bytes» = 3 }
+h₀ = record { used = 1; handle = 9; place = 0; «commit_no» = record { 0 = 7 }; «held_len» = 0; «held_bytes» = 3 }
 
 abbrev x₀ : Lent
 x₀ =
     record {
-      counters = record { epoch = record { 0 = 5 }; connections = 1; promoted = false; checked = false };
+      counters = record { epoch = record { 0 = 5 }; connections = 1; promoted = 0; checked = 0 };
       row = h₀ ∷ [];
       words = 1 ∷ replicate 81 0;
       bytes = replicate 224 0;

@@ -9,6 +9,7 @@ use mathlib.Core.List.{List, [], _∷_, _++_}
 use mathlib.Core.Option.{some}
 use lib.ListN.{length}
 use lib.Dec.{T, eqb}
+use Rattle.base_flags.specs.Flag.{isSet}
 use Rattle.model_frame.specs.Frame.{Frame}
 use Rattle.model_frame.specs.Parse.{isEmpty}
 use Rattle.model_frame.specs.Writing.{encode}
@@ -23,7 +24,7 @@ use Rattle.model_standby.specs.State.{Bound, Standby, Call, flush, disconnected
 use Rattle.model_standby.specs.State as state
 use Rattle.model_standby.specs.PlainCopy.{OwnKey, ownKey, copyAt, copyRun}
 use Rattle.model_standby.specs.Demand.{Hands, Aside, noPromotions}
-use Rattle.standby_state.specs.declared.Replica.{Replica}
+use Rattle.standby_counters.specs.declared.Replica.{Replica}
 use Rattle.standby_state.specs.declared.Settings.{Settings}
 use Rattle.standby_state.specs.declared.Answer.{Answer}
 use Rattle.standby_state.specs.Answers.{answerOf}
@@ -90,7 +91,7 @@ module _ (s : Settings) where
   pub record Start (limit : ℕ) (A B : Session) (k : OwnKey) (h : ℕ) (b : Bound) (x : Lent) : Type 0 where
     pub allowed : Allowed x
     pub A-held : Holdable (s .shape .bytes) (s .shape .messages) A
-    pub unpromoted : x .counters .promoted ≡ false
+    pub unpromoted : isSet (x .counters .promoted) ≡ false
     pub bound-so : find h (standsFor x .handles) ≡ some b
     pub is-B : sessionAt (standsFor x .places) (b .place) ≡ some B
     pub its-key : ownKey (standsFor x .places) (b .place) ≡ some k

@@ -8,21 +8,21 @@ use crate::out::untouched;
 /// A word full of bytes that aren't to be written.
 pub const RUBBISH: u64 = u64::from_ne_bytes([UNTOUCHED; 8]);
 
-/// The standby's counters, as the library has them.
+/// The standby's counters, as the library has them; a flag is set if it isn't 0.
 #[repr(C)]
 #[derive(Debug, Clone, Default)]
 pub struct Counters {
     pub epoch: u64,
     pub connections: u64,
-    pub promoted: bool,
-    pub checked: bool,
+    pub promoted: u8,
+    pub checked: u8,
 }
 
 /// A place of the row of handles, as the library has it.
 #[repr(C)]
 #[derive(Debug, Clone, Default, PartialEq, Eq)]
 pub struct Place {
-    pub used: bool,
+    pub used: u8,
     pub handle: u32,
     pub place: u64,
     pub commit_no: u64,
@@ -92,7 +92,7 @@ impl Areas {
 
     /// Where a handle stands in the row.
     pub fn index(&self, handle: u32) -> Option<usize> {
-        self.row.iter().position(|place| place.used && place.handle == handle)
+        self.row.iter().position(|place| place.used != 0 && place.handle == handle)
     }
 }
 
@@ -295,7 +295,7 @@ mod entry {
     struct BoundSummary {
         next_outgoing: u64,
         next_incoming: u64,
-        has_in_flight: bool,
+        has_in_flight: u8,
         in_flight: u64,
         created_at: Span,
         marks: Span,

@@ -401,15 +401,15 @@ impl Side for Ours {
         let pending = words[2..][..words[1] as usize].iter().map(|word| *word as u32).collect();
         let sessions = (0..words[0]).map(|place| self.session(place)).collect();
         let row = &self.areas.row;
-        let used: Vec<usize> = (0..row.len()).filter(|index| row[*index].used).collect();
+        let used: Vec<usize> = (0..row.len()).filter(|index| row[*index].used != 0).collect();
         let mut handles: Vec<_> = used.into_iter().map(|index| self.handle(index)).collect();
         handles.sort_by_key(|handle| handle.number);
         State {
             epoch: self.counters.epoch,
             incarnation: self.settings.incarnation.max(1),
             lag: self.settings.max_lag,
-            promoted: self.counters.promoted,
-            checked: self.counters.checked,
+            promoted: self.counters.promoted != 0,
+            checked: self.counters.checked != 0,
             connections: self.counters.connections,
             pending,
             sessions,

@@ -150,7 +150,7 @@ impl Shadow {
         }
         let mut row = match free.row {
             Records::One(at) => vec![at..at + 1],
-            Records::StayOrAreFreed if areas.row.iter().all(|record| !record.used) => vec![0..areas.row.len()],
+            Records::StayOrAreFreed if areas.row.iter().all(|record| record.used == 0) => vec![0..areas.row.len()],
             _ => Vec::new(),
         };
         if let Some(at) = first_change(&areas.row, &copy.row, &mut row) {

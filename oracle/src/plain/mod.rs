@@ -90,16 +90,16 @@ impl Standby<'_> {
     }
 
     fn drop_bindings(&mut self) {
-        self.row.iter_mut().for_each(|place| place.used = false);
+        self.row.iter_mut().for_each(|place| place.used = 0);
         self.words[1] = 0;
     }
 
     fn index(&self, handle: u32) -> Option<usize> {
-        self.row.iter().position(|place| place.used && place.handle == handle)
+        self.row.iter().position(|place| place.used != 0 && place.handle == handle)
     }
 
     fn flush(&mut self, connection: u64) -> Answer {
-        if connection != self.counters.connections || self.counters.promoted {
+        if connection != self.counters.connections || self.counters.promoted != 0 {
             return Err(22);
         }
         self.run_pending();
@@ -107,10 +107,10 @@ impl Standby<'_> {
     }
 
     fn promote(&mut self, unchecked: bool) -> Answer {
-        if !unchecked && !self.counters.checked {
+        if !unchecked && self.counters.checked == 0 {
             return Err(23);
         }
-        self.counters.promoted = true;
+        self.counters.promoted = 1;
         self.drop_bindings();
         let lag = self.lag;
         self.sessions.iter_mut().for_each(|session| session.taken_over(lag));
@@ -123,7 +123,7 @@ impl Standby<'_> {
             Ok(_) | Err(Fault::More) => return Err(26),
             Err(Fault::Refused(number, _)) => return Err(number),
         };
-        if self.counters.promoted {
+        if self.counters.promoted != 0 {
             return Err(10);
         }
         let due = match &frame {
@@ -163,7 +163,7 @@ impl Standby<'_> {
             }
             Frame::Checked { handle, epoch, .. } => {
                 self.counters.epoch = epoch;
-                self.counters.checked = true;
+                self.counters.checked = 1;
                 Ok(wire::ack(handle, 0))
             }
             Frame::Other => Err(19),
@@ -181,7 +181,7 @@ impl Standby<'_> {
         if known.is_none() && self.sessions.len() as u64 >= self.places {
             return Err(20);
         }
-        let free = self.row.iter().position(|place| !place.used);
+        let free = self.row.iter().position(|place| place.used == 0);
         let index = self.index(handle).or(free).ok_or(21_u32)?;
         let place = known.unwrap_or_else(|| {
             self.sessions.push(Session::new(key));
@@ -191,7 +191,7 @@ impl Standby<'_> {
             self.counters.epoch = epoch;
         }
         let place = place as u64;
-        self.row[index] = Place { used: true, handle, place, ..Place::default() };
+        self.row[index] = Place { used: 1, handle, place, ..Place::default() };
         self.words[0] = self.sessions.len() as u64;
         let session = &self.sessions[place as usize];
         let numbers = [session.out, session.incoming, session.flight.unwrap_or(0)];

@@ -74,11 +74,11 @@ unchanged-requires-4 c κs = search needs
 
 -- src/lib.rt:88:17
 returns-2 : tie.Need-returns-2
-returns-2 c = promoted-left (c .before .before .before .before .before .before .before .before .before .before .before .before .args .settings) (c .before .before .before .before .before .before .before .before .before .before .before .before .args .counters) (c .before .before .before .before .before .before .before .before .before .before .before .before .args .lookup) (now (c .before .before .before .before .before .before .before .before .before .before .before .before .args .frame)) (now (c .before .before .before .before .before .before .before .before .before .before .before .before .args .words)) (now (c .before .before .before .before .before .before .before .before .before .before .before .before .args .bytes)) (now (c .before .before .before .before .before .before .before .before .before .before .before .before .args .holds)) (c .before .before .before .before .before .before .before .before .before .before .before .before .pre .0) _ (given-whole (now (c .before .before .before .before .before .before .before .before .before .before .before .before .args .frame)) (c .before .before .before .before .before .before .before .decode .ensures .0) (c .before .before .before .before .before .f .given .1) (c .before .before .before .if1 .left)) (c .before .before .if2 .taken) (c .unchanged4 .ensures) (c .before .refused4 .ensures)
+returns-2 c = promoted-left (c .before .before .before .before .before .before .before .before .before .before .before .before .before .args .settings) (c .before .before .before .before .before .before .before .before .before .before .before .before .before .args .counters) (c .before .before .before .before .before .before .before .before .before .before .before .before .before .args .lookup) (now (c .before .before .before .before .before .before .before .before .before .before .before .before .before .args .frame)) (now (c .before .before .before .before .before .before .before .before .before .before .before .before .before .args .words)) (now (c .before .before .before .before .before .before .before .before .before .before .before .before .before .args .bytes)) (now (c .before .before .before .before .before .before .before .before .before .before .before .before .before .args .holds)) (c .before .before .before .before .before .before .before .before .before .before .before .before .before .pre .0) _ (given-whole (now (c .before .before .before .before .before .before .before .before .before .before .before .before .before .args .frame)) (c .before .before .before .before .before .before .before .before .decode .ensures .0) (c .before .before .before .before .before .before .f .given .1) (c .before .before .before .before .if1 .left)) (c .before .before .if2 .taken) (c .unchanged4 .ensures) (c .before .refused4 .ensures)
 
 -- src/lib.rt:90:13
 on-decoded-requires : tie.Need-on-decoded-requires
-on-decoded-requires c κs = (c .before .before .before .before .before .before .before .before .before .before .before .before .before .pre .0, (c .before .before .before .before .before .before .before .before .before .before .before .before .before .pre .1, (read-writable (now (c .before .before .before .before .before .before .before .before .before .before .before .before .before .args .frame)) (c .before .before .before .before .before .before .before .before .decode .ensures .0) (c .before .before .before .before .before .before .f .given .1) (are-bytes (now (c .before .before .before .before .before .before .before .before .before .before .before .before .before .args .frame)) (λ i. c .before .before .before .before .before .before .before .before .before .shared-slice-known .given i .fits)) (c .before .before .before .before .if1 .left), (rw (c .before .before .before .before .before .before .f .given .1) at (c .before .before .before .before .before .before .before .before .decode .ensures .1)) .sized)))
+on-decoded-requires c κs = (c .before .before .before .before .before .before .before .before .before .before .before .before .before .before .pre .0, (c .before .before .before .before .before .before .before .before .before .before .before .before .before .before .pre .1, (read-writable (now (c .before .before .before .before .before .before .before .before .before .before .before .before .before .before .args .frame)) (c .before .before .before .before .before .before .before .before .before .decode .ensures .0) (c .before .before .before .before .before .before .before .f .given .1) (are-bytes (now (c .before .before .before .before .before .before .before .before .before .before .before .before .before .before .args .frame)) (λ i. c .before .before .before .before .before .before .before .before .before .before .shared-slice-known .given i .fits)) (c .before .before .before .before .before .if1 .left), (rw (c .before .before .before .before .before .before .before .f .given .1) at (c .before .before .before .before .before .before .before .before .before .decode .ensures .1)) .sized)))
 
 -- src/lib.rt:67:1
 returns-3 : tie.Need-returns-3
@@ -102,7 +102,7 @@ same-length-3 c = search needs
 
 -- src/lib.rt:67:1
 returns-5 : tie.Need-returns-5
-returns-5 c = intact-taken (c .before .before .before .before .before .before .before .before .before .before .before .before .before .before .before .before .before .before .before .before .args .settings) (c .before .before .before .before .before .before .before .before .before .before .before .before .before .before .before .before .before .before .before .before .args .counters) (c .before .before .before .before .before .before .before .before .before .before .before .before .before .before .before .before .before .before .before .before .args .lookup) (now (c .before .before .before .before .before .before .before .before .before .before .before .before .before .before .before .before .before .before .before .before .args .frame)) (now (c .before .before .before .before .before .before .before .before .before .before .before .before .before .before .before .before .before .before .before .before .args .words)) (now (c .before .before .before .before .before .before .before .before .before .before .before .before .before .before .before .before .before .before .before .before .args .bytes)) (now (c .before .before .before .before .before .before .before .before .before .before .before .before .before .before .before .before .before .before .before .before .args .holds)) (c .before .before .before .before .before .before .before .before .before .before .before .before .before .before .before .before .before .before .before .before .pre .0) _ (given-whole (now (c .before .before .before .before .before .before .before .before .before .before .before .before .before .before .before .before .before .before .before .before .args .frame)) (c .before .before .before .before .before .before .before .before .before .before .before .before .before .before .before .decode .ensures .0) (c .before .before .before .before .before .before .before .before .before .before .before .before .before .f .given .1) (c .before .before .before .before .before .before .before .before .before .before .before .if1 .left)) (c .before .before .before .before .before .before .before .before .before .before .if2 .left) (c .before .before .before .before .before .before .on-decoded .ensures)
+returns-5 c = intact-taken (c .before .before .before .before .before .before .before .before .before .before .before .before .before .before .before .before .before .before .before .before .before .args .settings) (c .before .before .before .before .before .before .before .before .before .before .before .before .before .before .before .before .before .before .before .before .before .args .counters) (c .before .before .before .before .before .before .before .before .before .before .before .before .before .before .before .before .before .before .before .before .before .args .lookup) (now (c .before .before .before .before .before .before .before .before .before .before .before .before .before .before .before .before .before .before .before .before .before .args .frame)) (now (c .before .before .before .before .before .before .before .before .before .before .before .before .before .before .before .before .before .before .before .before .before .args .words)) (now (c .before .before .before .before .before .before .before .before .before .before .before .before .before .before .before .before .before .before .before .before .before .args .bytes)) (now (c .before .before .before .before .before .before .before .before .before .before .before .before .before .before .before .before .before .before .before .before .before .args .holds)) (c .before .before .before .before .before .before .before .before .before .before .before .before .before .before .before .before .before .before .before .before .before .pre .0) _ (given-whole (now (c .before .before .before .before .before .before .before .before .before .before .before .before .before .before .before .before .before .before .before .before .before .args .frame)) (c .before .before .before .before .before .before .before .before .before .before .before .before .before .before .before .before .decode .ensures .0) (c .before .before .before .before .before .before .before .before .before .before .before .before .before .before .f .given .1) (c .before .before .before .before .before .before .before .before .before .before .before .before .if1 .left)) (c .before .before .before .before .before .before .before .before .before .before .if2 .left) (c .before .before .before .before .before .before .on-decoded .ensures)
 
 pub on-bytes-spec : {M : Type 1} → statement M
 on-bytes-spec =

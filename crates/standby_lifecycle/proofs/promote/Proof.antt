@@ -43,7 +43,7 @@ returns c = unsound (c .before .before .before .before .before .before .before .
 
 -- src/lib.rt:108:9
 promotion-requires : tie.Need-promotion-requires
-promotion-requires c κs = keeps (c .before .before .before .before .before .before .before .before .before .before .before .args .settings) (c .before .before .before .before .before .before .before .before .before .before .before .args .counters) (c .before .before .before .before .before .before .before .before .before .before .before .args .lookup) (now (c .before .before .before .before .before .before .before .before .before .before .before .args .words)) (now (c .before .before .before .before .before .before .before .before .before .before .before .args .bytes)) (now (c .before .before .before .before .before .before .before .before .before .before .before .args .holds)) (sym (c .before .before .before .before .keeps-rules .ensures) ∙ not-false _ (c .before .before .before .if1 .left))
+promotion-requires c κs = keeps (c .before .before .before .before .before .before .before .before .before .before .before .before .args .settings) (c .before .before .before .before .before .before .before .before .before .before .before .before .args .counters) (c .before .before .before .before .before .before .before .before .before .before .before .before .args .lookup) (now (c .before .before .before .before .before .before .before .before .before .before .before .before .args .words)) (now (c .before .before .before .before .before .before .before .before .before .before .before .before .args .bytes)) (now (c .before .before .before .before .before .before .before .before .before .before .before .before .args .holds)) (sym (c .before .before .before .before .before .keeps-rules .ensures) ∙ not-false _ (c .before .before .before .before .if1 .left))
 
 -- src/lib.rt:108:9
 same-length-4 : tie.Need-same-length-4
@@ -59,7 +59,7 @@ same-length-6 c = search needs
 
 -- src/lib.rt:108:9
 returns-2 : tie.Need-returns-2
-returns-2 c = promoted-checked (c .before .before .before .before .before .before .before .before .before .before .before .before .before .before .before .before .args .settings) (c .before .before .before .before .before .before .before .before .before .before .before .before .before .before .before .before .args .counters) (c .before .before .before .before .before .before .before .before .before .before .before .before .before .before .before .before .args .lookup) (now (c .before .before .before .before .before .before .before .before .before .before .before .before .before .before .before .before .args .words)) (now (c .before .before .before .before .before .before .before .before .before .before .before .before .before .before .before .before .args .bytes)) (now (c .before .before .before .before .before .before .before .before .before .before .before .before .before .before .before .before .args .holds)) (sym (c .before .before .before .before .before .before .before .before .before .keeps-rules .ensures) ∙ not-false _ (c .before .before .before .before .before .before .before .before .if1 .left)) (c .before .before .before .before .promotion .ensures) (c .before .before .before .before .before .before .before .if2 .taken)
+returns-2 c = promoted-checked (c .before .before .before .before .before .before .before .before .before .before .before .before .before .before .before .before .before .args .settings) (c .before .before .before .before .before .before .before .before .before .before .before .before .before .before .before .before .before .args .counters) (c .before .before .before .before .before .before .before .before .before .before .before .before .before .before .before .before .before .args .lookup) (now (c .before .before .before .before .before .before .before .before .before .before .before .before .before .before .before .before .before .args .words)) (now (c .before .before .before .before .before .before .before .before .before .before .before .before .before .before .before .before .before .args .bytes)) (now (c .before .before .before .before .before .before .before .before .before .before .before .before .before .before .before .before .before .args .holds)) (sym (c .before .before .before .before .before .before .before .before .before .before .keeps-rules .ensures) ∙ not-false _ (c .before .before .before .before .before .before .before .before .before .if1 .left)) (c .before .before .before .before .promotion .ensures) (c .before .before .before .before .before .before .before .if2 .taken)
 
 -- src/lib.rt:110:30
 refused-requires-2 : tie.Need-refused-requires-2
@@ -83,7 +83,7 @@ same-length-9 c = search needs
 
 -- src/lib.rt:94:1
 returns-3 : tie.Need-returns-3
-returns-3 c = not-checked (c .before .before .before .before .before .before .before .before .before .before .before .args .settings) (c .before .before .before .before .before .before .before .before .before .before .before .args .counters) (c .before .before .before .before .before .before .before .before .before .before .before .args .lookup) (now (c .before .before .before .before .before .before .before .before .before .before .before .args .words)) (now (c .before .before .before .before .before .before .before .before .before .before .before .args .bytes)) (now (c .before .before .before .before .before .before .before .before .before .before .before .args .holds)) (sym (c .before .before .before .before .keeps-rules .ensures) ∙ not-false _ (c .before .before .before .if1 .left)) (c .before .before .if2 .left) (c .before .refused2 .ensures) (c .unchanged2 .ensures)
+returns-3 c = not-checked (c .before .before .before .before .before .before .before .before .before .before .before .before .args .settings) (c .before .before .before .before .before .before .before .before .before .before .before .before .args .counters) (c .before .before .before .before .before .before .before .before .before .before .before .before .args .lookup) (now (c .before .before .before .before .before .before .before .before .before .before .before .before .args .words)) (now (c .before .before .before .before .before .before .before .before .before .before .before .before .args .bytes)) (now (c .before .before .before .before .before .before .before .before .before .before .before .before .args .holds)) (sym (c .before .before .before .before .before .keeps-rules .ensures) ∙ not-false _ (c .before .before .before .before .if1 .left)) (c .before .before .if2 .left) (c .before .refused2 .ensures) (c .unchanged2 .ensures)
 
 pub promote-spec : {M : Type 1} → statement M
 promote-spec =
