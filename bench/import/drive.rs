@@ -1,5 +1,5 @@
 //! An import of 32 MiB of FIX messages beside straight Rust of the same rules, which judges every message and keeps its place
-//! in a list, then copies into a ring. Both take the same files; the answers and the kept messages are compared first.
+//! in a list, then copies into a ring. Both take the same files; the answer and the next outgoing number are compared first.
 use std::collections::VecDeque;
 use std::hint::black_box;
 

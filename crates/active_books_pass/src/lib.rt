@@ -20,7 +20,7 @@ use active_books_next::first_listed;
 use active_books_next::is_told;
 use base_refusals::RULES_BROKEN;
 use base_refusals::TOO_MANY_SESSIONS;
-use frame::Incarnation;
+use frame_fields::Incarnation;
 
 // All of a listing fall behind (ask_lease).
 pub fn all_fall_behind(words: &mut [u64], listing: &[u64]) -> Answer

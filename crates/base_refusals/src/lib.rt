@@ -80,6 +80,7 @@ pub const NOT_ONE_FRAME: u8 = 26;
 
 // A 257th session in the books of a catch-up.
 pub const TOO_MANY_SESSIONS: u8 = 27;
+
 // Of a message log: a field fault.
 pub const FIELD_FAULT: u8 = 28;
 
@@ -88,5 +89,6 @@ pub const FALSE_LENGTH_OR_SUM: u8 = 29;
 
 // Of a message log: a number that doesn't rise.
 pub const NUMBER_NOT_RISING: u8 = 30;
+
 // An outgoing number that can't be recorded: below the next one, or 2^64 - 1. The documents, whose numbers are 1 to 39, have none for it.
 pub const NUMBER_NOT_RECORDED: u8 = 40;

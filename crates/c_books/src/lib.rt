@@ -3,7 +3,7 @@ ghost use Rattle.model_active.specs.CatchUp as m;
 ghost use Rattle.active_books.specs.Calls.{answerOf};
 ghost use Rattle.c_books.specs.Numbers.{InNumbers, Calls, MakesBooks, TellsBehind};
 use active_books::Answer;
-use frame::Incarnation;
+use frame_fields::Incarnation;
 
 // An answer: a refusal or 0; 1 for wait, for one that is picked, and for yes, else 0; the session picked or 0.
 #[repr(C)]

@@ -1,5 +1,5 @@
 // The standby's counters, with its limits (standby.rs, `Replica` and its constants).
-use frame::Epoch;
+use frame_fields::Epoch;
 
 // The standby's counters: a small record lent for each call. A flag is set if it is not 0.
 #[repr(C)]

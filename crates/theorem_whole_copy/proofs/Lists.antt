@@ -62,12 +62,12 @@ abbrev s₁ : Settings
 s₁ = record { shape = record { places = 1; bytes = 1; messages = 2 }; incarnation = record { 0 = 7 }; «max_lag» = 0 }
 
 abbrev h₁ : BoundRecord
-h₁ = record { used = true; handle = 9; place = 0; «commit_no» = record { 0 = 7 }; «held_len» = 0; «held_bytes» = 0 }
+h₁ = record { used = 1; handle = 9; place = 0; «commit_no» = record { 0 = 7 }; «held_len» = 0; «held_bytes» = 0 }
 
 abbrev x₁ : Lent
 x₁ =
     record {
-      counters = record { epoch = record { 0 = 5 }; connections = 1; promoted = false; checked = false };
+      counters = record { epoch = record { 0 = 5 }; connections = 1; promoted = 0; checked = 0 };
       row = h₁ ∷ [];
       words = 1 ∷ replicate 85 0;
       bytes = replicate 225 0;

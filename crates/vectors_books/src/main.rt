@@ -4,7 +4,7 @@
 ghost use Prim.Native.Nat.{_≤_};
 ghost use lib.ListN.{length};
 use active_books::Answer;
-use frame::Incarnation;
+use frame_fields::Incarnation;
 use libc::STDIN_FILENO;
 use libc::STDOUT_FILENO;
 

@@ -90,12 +90,15 @@ fn put_answer(words: &[u64], bytes: &[u8], shape: Shape, r: Built, kept: bool) {
     put_number(b"place=", place as u64);
     put_number(
         b" out=",
-        c_store::store_next_outgoing(words, bytes, shape, place),
+        c_store::store_next_outgoing(words, bytes, shape, place).value,
     );
-    put_number(b" count=", c_store::store_count(words, bytes, shape, place));
+    put_number(
+        b" count=",
+        c_store::store_count(words, bytes, shape, place).value,
+    );
     put_number(
         b" hash=",
-        c_store::store_last_outgoing(words, bytes, shape, place, u64::MAX),
+        c_store::store_last_outgoing(words, bytes, shape, place, u64::MAX).value,
     );
     put(b"\n");
 }
