@@ -77,7 +77,7 @@ handed h e t q {q'} long eh ee m is =
     }
 
 -- the flag of a sending, from its word
-pub flag-word : (h e : ℕ) (q : List ℕ) {n : ℕ} → n ≡ byte (isSet (getD q 3 0)) → record { handle = h; epoch = e; last = getD q 0 0; from = resumeFrom (getD q 2 0) (isSet n) } ≡ senderIn h e q
+flag-word : (h e : ℕ) (q : List ℕ) {n : ℕ} → n ≡ byte (isSet (getD q 3 0)) → record { handle = h; epoch = e; last = getD q 0 0; from = resumeFrom (getD q 2 0) (isSet n) } ≡ senderIn h e q
 flag-word h e q p = ap (λ (b : Bool). record { handle = h; epoch = e; last = getD q 0 0; from = resumeFrom (getD q 2 0) b }) (ap isSet p ∙ written-so (isSet (getD q 3 0)))
 
 -- ---- a call of a sending
@@ -122,10 +122,12 @@ module _ (limit : ℕ) (a : Option Session) (i h e : ℕ) (q out : List ℕ) {r 
   too-few-words less c = stays 25 (rw (lt-ltb (length q) 4 less) refl) c
 
   module _ (long : 4 ≤ length q) where
-    pub goes-on : {q' out' : List ℕ} → (getD q 1 0 ≡ 0 → ⊥) → SendIs limit a h e (ready i (senderIn h e q)) q q' out out' r → SendIs limit a h e (startIn limit a i h e q) q q' out out' r
-    goes-on n s =
+    pub goes-on : {q' out' : List ℕ} {f : ℕ} → (getD q 1 0 ≡ 0 → ⊥) → f ≡ byte (isSet (getD q 3 0))
+        → SendIs limit a h e (ready i (record { handle = h; epoch = e; last = getD q 0 0; from = resumeFrom (getD q 2 0) (isSet f) })) q q' out out' r
+        → SendIs limit a h e (startIn limit a i h e q) q q' out out' r
+    goes-on {q'} {out'} n f s =
         let p : startIn limit a i h e q ≡ ready i (senderIn h e q) = rw (le-ltb (length q) 4 long, ne-eqb (getD q 1 0) 0 n) refl in
-        rw p s
+        rw p (subst (λ (t : Sender). SendIs limit a h e (ready i t) q q' out out' r) (flag-word h e q f) s)
 
     module _ (z : getD q 1 0 ≡ 0) {x : Begun} (begun : startOf x ≡ startFrom limit a i h e (getD q 0 0)) where
       pub numbers-past : x ≡ Begun.CommitNumbersExhausted → r ≡ refusalCode 24 0 → SendIs limit a h e (startIn limit a i h e q) q q out out r

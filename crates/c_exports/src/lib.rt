@@ -316,6 +316,8 @@ pub extern "C" fn wz_send(
 
 // ---- the lag queue: drained, how many wait, 64 numbers
 
+const QUEUE_WORDS: usize = 2 + ReplicatedLog::MAX_QUEUED;
+
 // The numbers from the third on, and one more.
 fn numbers(queue: &[u64]) -> [u64; ReplicatedLog::MAX_QUEUED + 1]
     requires { ⌜ 66 ≤ length (now queue) ⌝ }
@@ -358,7 +360,7 @@ fn put_queue(queue: &mut [u64], log: ReplicatedLog)
 pub extern "C" fn wz_queue(queue: &mut [u64], max_lag: u64, last: u64) -> u64
     ensures { λ r. ⌜ Pushes «max_lag» last (now (queue .entry)) (now (queue .exit)) r ⌝ }
 {
-    if queue.len() < 2 + ReplicatedLog::MAX_QUEUED {
+    if queue.len() < QUEUE_WORDS {
         return refusal(RULES_BROKEN, 0);
     }
     let queued = numbers(queue);

@@ -11,7 +11,7 @@ returns : tie.Need-returns
 returns c = too-few-words batchLimit _ (c .before .before .before .before .before .before .args .place) (c .before .before .before .before .before .before .args .handle) (c .before .before .before .before .before .before .args .epoch) (now (c .before .before .before .before .before .before .args .sending)) (now (c .before .before .before .before .before .before .args .out)) (c .before .if1 .taken) (c .refusal .ensures)
 
 returns-2 : tie.Need-returns-2
-returns-2 c = goes-on batchLimit _ (c .before .before .before .before .before .before .before .before .before .before .before .before .before .before .before .before .before .args .place) (c .before .before .before .before .before .before .before .before .before .before .before .before .before .before .before .before .before .args .handle) (c .before .before .before .before .before .before .before .before .before .before .before .before .before .before .before .before .before .args .epoch) (now (c .before .before .before .before .before .before .before .before .before .before .before .before .before .before .before .before .before .args .sending)) (now (c .before .before .before .before .before .before .before .before .before .before .before .before .before .before .before .before .before .args .out)) (omega arith) (c .before .before .before .before .before .before .before .before .before .if2 .taken) (c .before .before .before .before .send-code .ensures)
+returns-2 c = goes-on batchLimit _ (c .before .before .before .before .before .before .before .before .before .before .before .before .before .before .before .before .before .before .args .place) (c .before .before .before .before .before .before .before .before .before .before .before .before .before .before .before .before .before .before .args .handle) (c .before .before .before .before .before .before .before .before .before .before .before .before .before .before .before .before .before .before .args .epoch) (now (c .before .before .before .before .before .before .before .before .before .before .before .before .before .before .before .before .before .before .args .sending)) (now (c .before .before .before .before .before .before .before .before .before .before .before .before .before .before .before .before .before .before .args .out)) (omega arith) (c .before .before .before .before .before .before .before .before .before .before .if2 .taken) (c .before .before .before .before .before .before .before .flag .ensures) (c .before .before .before .before .send-code .ensures)
 
 returns-3 : tie.Need-returns-3
 returns-3 c = first-call batchLimit (shapeOf (c .before .before .before .before .before .before .before .before .before .before .before .before .before .before .before .before .before .before .before .args .sessions) (c .before .before .before .before .before .before .before .before .before .before .before .before .before .before .before .before .before .before .before .args .c) (c .before .before .before .before .before .before .before .before .before .before .before .before .before .before .before .before .before .before .before .args .m)) (now (c .before .before .before .before .before .before .before .before .before .before .before .before .before .before .before .before .before .before .before .args .words)) (now (c .before .before .before .before .before .before .before .before .before .before .before .before .before .before .before .before .before .before .before .args .bytes)) (c .before .before .before .before .before .before .before .before .before .before .before .before .before .before .before .before .before .before .before .args .place) (c .before .before .before .before .before .before .before .before .before .before .before .before .before .before .before .before .before .before .before .args .handle) (c .before .before .before .before .before .before .before .before .before .before .before .before .before .before .before .before .before .before .before .args .epoch) (now (c .before .before .before .before .before .before .before .before .before .before .before .before .before .before .before .before .before .before .before .args .sending)) (omega arith) (c .before .before .before .before .before .before .before .before .before .before .before .if2 .left) (c .before .before .before .before .before .before .before .before .before .before .begin .ensures .start) (c .before .before .before .before .before .before .before .before .s .given .1) (c .before .before .before .before .send-code2 .ensures)
@@ -33,6 +33,7 @@ wz-send-spec =
     (λ c. search needs)
     (λ c. search needs)
     (λ c κs. search needs)
+    (λ c. search needs)
     (λ c. search needs)
     (λ c. search needs)
     returns-2
