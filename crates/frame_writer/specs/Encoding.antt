@@ -12,6 +12,7 @@ use Rattle.model_frame.specs.Frame as the-frame
 use Rattle.model_frame.specs.Frame.{Key, Frame}
 use Rattle.model_frame.specs.Parse.{Res, ok, bad, Parser, many}
 use Rattle.model_frame.specs.Reading.{maxBody}
+use Rattle.model_frame.specs.Writing.{WriteAnswer, took, writeRefusal, writeOutcome, areaAfter, writeAnswer}
 use Rattle.base_laws.specs.Wrote.{Wrote}
 use Rattle.frame_reader.specs.declared.Span.{Span}
 use Rattle.frame_op.specs.declared.Run.{Run}
