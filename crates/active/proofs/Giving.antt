@@ -12,7 +12,8 @@ use borrow.Author.Tests.{ltb-false, ltb-true, leb-true}
 use Rattle.model_frame.specs.Bytes.{write}
 use Rattle.model_frame.specs.Frame.{Frame, Change, batch, whole, lastWhole}
 use Rattle.model_frame.specs.Parse.{Each}
-use Rattle.model_frame.specs.Writing.{encode, sizes}
+use Rattle.model_frame.specs.Writing.{encode}
+use Rattle.model_frame.specs.Sizes.{sizes}
 use Rattle.model_frame.proofs.Sizes.{encode-size}
 use Rattle.model_session.specs.Session.{Session, top, Holdable}
 use Rattle.model_session.specs.Sender.{Sender, newSender, sentFrom, sendNext, Sends, allSent, isNext, cannotSend}

@@ -6,6 +6,7 @@ use mathlib.Core.List.{List, [], _∷_, _++_, map}
 use mathlib.Core.Option.{Option, none, some}
 use lib.ListN.{length, take}
 use lib.Dec.{ltb, leb}
+use Rattle.base_flags.specs.Flag.{isSet, byte}
 use Rattle.model_frame.specs.Refusal
 use Rattle.model_frame.specs.Bytes.{write}
 use Rattle.model_frame.specs.Frame.{Frame}
@@ -16,6 +17,7 @@ use Rattle.model_session.specs.Whole.{wholeFrames}
 use Rattle.model_standby.specs.Store.{sessionAt}
 use Rattle.store_areas.specs.declared.Shape.{Shape}
 use Rattle.store_areas.specs.Areas.{allowed, placesOf}
+use Rattle.frame_fields.specs.declared.CommitNumber.{CommitNumber}
 use Rattle.active_batch.specs.Batch.{resumeFrom}
 use Rattle.active.specs.declared.Sending.{Sending}
 use Rattle.active.specs.declared.Begun.{Begun}
@@ -25,7 +27,22 @@ use Rattle.active.specs.declared.Sent
 
 -- the model's sender: none is left to send where the state is done, whatever number it goes on from
 abbrev pub senderOf : Sending → Sender
-senderOf s = record { handle = s .handle; epoch = s .epoch .0; last = s .last .0; from = resumeFrom (s .from) (s .done) }
+senderOf s = record { handle = s .handle; epoch = s .epoch .0; last = s .last .0; from = resumeFrom (s .from) (isSet (s .done)) }
+
+-- the state by which a sender is handed on: past the last frame there is no number to go on from, and it is done
+abbrev pub fromWord : Option ℕ → ℕ
+fromWord none = 0
+fromWord (some n) = n
+
+abbrev pub doneByte : Option ℕ → ℕ
+doneByte none = 1
+doneByte (some n) = 0
+
+abbrev pub sendingFor : ℕ → Sender → Sending
+sendingFor i s = record { place = i; handle = s .handle; epoch = record { 0 = s .epoch }; last = record { 0 = s .last }; from = fromWord (s .from); done = doneByte (s .from) }
+
+abbrev pub handedOn : Sending → CommitNumber → ℕ → Bool → Sending
+handedOn s last from done = record { place = s .place; handle = s .handle; epoch = s .epoch; last = last; from = cond done 0 from; done = byte done }
 
 -- the session at a place; none, which is 25, where the areas break the rules or the place holds no session
 unfoldable pub storedAt : Shape → List ℕ → List ℕ → ℕ → Option Session
@@ -46,6 +63,11 @@ startOf Begun.InvalidAreas = refused Refusal.rulesBroken
 unfoldable pub startFrom : ℕ → Option Session → ℕ → ℕ → ℕ → ℕ → SendStart
 startFrom limit none i h e last = refused Refusal.rulesBroken
 startFrom limit (some a) i h e last = cond (cannotSend limit a (newSender h e last)) (refused Refusal.numbersPast) (ready i (newSender h e last))
+
+-- THE PROMISE OF BEGINNING: the store is only read
+pub record Begins (limit : ℕ) (shape : Shape) (w b : List ℕ) (i h e last : ℕ) (r : Begun) : Type 0 where
+  pub start : startOf r ≡ startFrom limit (storedAt shape w b i) i h e last
+  pub state : {s : Sending} → r ≡ Begun.Ready s → s ≡ sendingFor (s .place) (senderOf s)
 
 -- ---- one call
 
@@ -88,6 +110,7 @@ areaFrom limit (some a) s out = cond (spent (s .last) (s .from)) out (filledBy (
 pub record SendsWhole (limit : ℕ) (shape : Shape) (w b : List ℕ) (s : Sending) (out out' : List ℕ) (r : Sent) : Type 0 where
   pub answer : stepOf r ≡ stepFrom limit (storedAt shape w b (s .place)) (s .place) (senderOf s) (length out)
   pub area : out' ≡ areaFrom limit (storedAt shape w b (s .place)) (senderOf s) out
+  pub state : {len : ℕ} {t : Sending} → r ≡ Sent.Frame len t → t ≡ sendingFor (t .place) (senderOf t)
 
 -- calls, one after the other, over one store: the frames that they gave, as bytes, and the state that the last one left
 pub data SendCalls (limit : ℕ) (shape : Shape) (w b : List ℕ) : Sending → List (List ℕ) → Sending → Type 0 where

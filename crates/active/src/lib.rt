@@ -5,7 +5,7 @@ ghost use lib.ListN.{length, getD};
 ghost use Rattle.model_session.specs.Whole.{batchLimit, wholeBatches};
 ghost use Rattle.store_areas.specs.Areas.{Rules, placeAt};
 ghost use Rattle.active_batch.specs.Batch.{WroteBatch};
-ghost use Rattle.active.specs.Whole.{storedAt, startOf, startFrom, SendsWhole};
+ghost use Rattle.active.specs.Whole.{storedAt, handedOn, Begins, SendsWhole};
 use active_batch::BatchWritten;
 use active_batch::SendBatch;
 use frame_fields::CommitNumber;
@@ -13,7 +13,7 @@ use frame_fields::Epoch;
 use store_areas::Shape;
 
 // A sending: the session's place, the handle, the epoch, the last commit number, the number that it goes on from (0 at first),
-// and whether it is done.
+// and whether it is done: it is if this is not 0.
 #[repr(C)]
 pub struct Sending {
     pub place: usize,
@@ -21,7 +21,7 @@ pub struct Sending {
     pub epoch: Epoch,
     pub last: CommitNumber,
     pub from: u64,
-    pub done: bool,
+    pub done: u8,
 }
 
 // The answer to beginning: what to hand to the first call; 24; 25.
@@ -84,6 +84,22 @@ fn send_at(
     active_batch::send(w, b, batch, out)
 }
 
+// What is handed to the next call; past the last frame there is no number to go on from.
+fn handed_on(sending: Sending, last: CommitNumber, from: u64, done: bool) -> Sending
+    ensures { λ r. ⌜ r ≡ handedOn sending last from done ⌝ }
+{
+    let mut next = sending;
+    next.last = last;
+    if done {
+        next.from = 0;
+        next.done = 1;
+        return next;
+    }
+    next.from = from;
+    next.done = 0;
+    next
+}
+
 impl Sending {
     // The message bytes above which a batch is full.
     pub const SNAPSHOT_BATCH_BYTES: u64 = 1_048_576;
@@ -98,7 +114,7 @@ impl Sending {
         epoch: Epoch,
         last: CommitNumber,
     ) -> Begun
-        ensures { λ r. ⌜ startOf r ≡ startFrom batchLimit (storedAt shape (now (words .entry)) (now (bytes .entry)) place) place handle (epoch .0) (last .0) ⌝ }
+        ensures { λ r. ⌜ Begins batchLimit shape (now (words .entry)) (now (bytes .entry)) place handle (epoch .0) (last .0) r ⌝ }
     {
         if store_areas::in_use(words, bytes, shape, place) {
             let count = batches_at(words, bytes, shape, place, Self::SNAPSHOT_BATCH_BYTES);
@@ -111,7 +127,7 @@ impl Sending {
                 epoch,
                 last,
                 from: 0,
-                done: false,
+                done: 0,
             });
         }
         Begun::InvalidAreas
@@ -126,7 +142,7 @@ impl Sending {
         let epoch = self.epoch;
         let max = shape.messages as usize;
         if store_areas::in_use(words, bytes, shape, place) {
-            if self.done {
+            if self.done != 0 {
                 return Sent::Done;
             }
             if self.last.0 == u64::MAX {
@@ -143,17 +159,9 @@ impl Sending {
             };
             return match send_at(words, bytes, shape, place, batch, out) {
                 BatchWritten::TooShort => Sent::TooShort,
-                BatchWritten::Batch(len, from, done) => Sent::Frame(
-                    len,
-                    Sending {
-                        place,
-                        handle,
-                        epoch,
-                        last,
-                        from,
-                        done,
-                    },
-                ),
+                BatchWritten::Batch(len, from, done) => {
+                    Sent::Frame(len, handed_on(self, last, from, done))
+                }
             };
         }
         Sent::InvalidAreas

@@ -7,7 +7,8 @@ use lib.ListN.{length}
 use Rattle.model_frame.specs.Bytes.{bytesOf, write}
 use Rattle.model_frame.specs.Frame.{Change, Part, batch}
 use Rattle.model_frame.specs.Parse.{runBytes}
-use Rattle.model_frame.specs.Writing.{changeBytes, sizes, partNumber, bodyBytes, encode}
+use Rattle.model_frame.specs.Writing.{changeBytes, partNumber, bodyBytes, encode}
+use Rattle.model_frame.specs.Sizes.{sizes}
 use Rattle.model_frame.proofs.Runs.{run-append, sizes-append}
 use Rattle.model_frame.proofs.Sizes.{body-size, encode-size}
 use Rattle.base_laws.specs.Wrote.{Wrote}

@@ -7,7 +7,8 @@ use lib.ListN.{length}
 use borrow.Author.Tests.{lt-ltb, le-ltb}
 use Rattle.model_frame.specs.Frame.{Change, reset, setCreatedAt, setMarks, recordBare}
 use Rattle.model_frame.specs.Parse.{runBytes}
-use Rattle.model_frame.specs.Writing.{blobBytes, changeBytes, sizeOf, sizes}
+use Rattle.model_frame.specs.Writing.{blobBytes, changeBytes}
+use Rattle.model_frame.specs.Sizes.{sizeOf, sizes}
 use Rattle.model_frame.proofs.Runs.{run-append, sizes-append}
 use Rattle.model_frame.proofs.Sizes.{change-size, changes-size}
 use Rattle.model_session.specs.Whole.{skipTo}

@@ -5,7 +5,7 @@ use mathlib.Core.List.{List, [], _∷_, _++_}
 use Prim.Native.Nat.{ℕ, zero, suc, _≤_}
 use lib.ListN.{length, take, drop, getD}
 use Rattle.model_frame.specs.Frame.{Change, reset, setMarks}
-use Rattle.model_frame.specs.Writing.{sizes}
+use Rattle.model_frame.specs.Sizes.{sizes}
 use Rattle.model_session.specs.Whole.{stampPart, skipTo, incomingPart}
 use Rattle.store_place.specs.PlaceByte
 use Rattle.store_place.specs.PlaceWord

@@ -15,10 +15,10 @@ use base_refusals::RULES_BROKEN;
 pub struct ReplicatedLog {
     pub drained_through: u64,
     pub count: usize,
-    pub queued: [u64; 65],
+    pub queued: [u64; ReplicatedLog::MAX_QUEUED + 1],
 }
 
-// What a push does: 25 for a queue that says to hold more than 64, else 0; how many batches of the front went; the queue.
+// What a push does: 25 for a queue that says to hold more than may wait, else 0; how many batches of the front went; the queue.
 #[repr(C)]
 pub struct Queued {
     pub refusal: u8,
@@ -40,15 +40,21 @@ fn lag_of(last: u64, drained: u64) -> u64
     if drained <= last { last - drained } else { 0 }
 }
 
-// The lag is above max_lag, or more than 64 wait.
+// The lag is above max_lag, or more wait than may.
 fn is_over(last: u64, drained: u64, max_lag: u64, waiting: usize) -> bool
     ensures { λ r. ⌜ r ≡ (ltb «max_lag» (last - drained) || ltb 64 waiting) ⌝ }
 {
     (max_lag < lag_of(last, drained)) | (ReplicatedLog::MAX_QUEUED < waiting)
 }
 
-// The front goes while the lag is above max_lag or more than 64 of the n numbers wait.
-fn drain_front(queued: [u64; 65], n: usize, last: u64, through: u64, max_lag: u64) -> Drained
+// The front goes while the lag is above max_lag or more of the n numbers wait than may.
+fn drain_front(
+    queued: [u64; ReplicatedLog::MAX_QUEUED + 1],
+    n: usize,
+    last: u64,
+    through: u64,
+    max_lag: u64,
+) -> Drained
     requires { ⌜ n ≤ 65 ⌝ }
     ensures { λ r. ⌜ Drains «max_lag» last through n (take n queued) (r .drained) (r .through) ⌝ }
 {
@@ -71,7 +77,11 @@ fn drain_front(queued: [u64; 65], n: usize, last: u64, through: u64, max_lag: u6
 }
 
 // The numbers with `last` behind the first `count`.
-fn pushed(queued: [u64; 65], count: usize, last: u64) -> [u64; 65]
+fn pushed(
+    queued: [u64; ReplicatedLog::MAX_QUEUED + 1],
+    count: usize,
+    last: u64,
+) -> [u64; ReplicatedLog::MAX_QUEUED + 1]
     requires { ⌜ count ≤ 64 ⌝ }
     ensures { λ r. ⌜ take (count + 1) r ≡ take count queued ++ (last ∷ []) ⌝ }
 {
@@ -81,7 +91,11 @@ fn pushed(queued: [u64; 65], count: usize, last: u64) -> [u64; 65]
 }
 
 // The numbers from `drained` up to n, moved to the front.
-fn shifted(queued: [u64; 65], drained: usize, n: usize) -> [u64; 65]
+fn shifted(
+    queued: [u64; ReplicatedLog::MAX_QUEUED + 1],
+    drained: usize,
+    n: usize,
+) -> [u64; ReplicatedLog::MAX_QUEUED + 1]
     requires { ⌜ drained ≤ n ⌝ }
     requires { ⌜ n ≤ 65 ⌝ }
     ensures { λ r. ⌜ take (n - drained) r ≡ drop drained (take n queued) ⌝ }
@@ -106,7 +120,7 @@ impl ReplicatedLog {
         ReplicatedLog {
             drained_through,
             count: 0,
-            queued: [0; 65],
+            queued: [0; ReplicatedLog::MAX_QUEUED + 1],
         }
     }
 

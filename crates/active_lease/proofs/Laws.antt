@@ -3,11 +3,13 @@ use mathlib.Core.Path.{_≡_, refl, sym, ap, _∙_}
 use mathlib.Core.Bool.{Bool, true, false, cond, not, _&&_}
 use Prim.Native.Nat.{ℕ, _-_, _/_, _<_, _≤_}
 use lib.Dec.{eqb, leb}
-use borrow.Author.Tests.{lt-ltb, le-ltb, eqb-true, eq-eqb, ne-eqb, not-false}
-use Rattle.model_lease.specs.Lease.{top, Lease, Attempt, isDue, endAfter, loses, after, Asked, Tried, renewal, isEarly, attempt}
+use borrow.Author.Tests.{lt-ltb, le-ltb, eqb-true, not-false}
+use Rattle.model_lease.specs.Lease.{top, Lease, Attempt, isDue, endAfter, loses, after, Asked, Tried, isEarly, attempt}
 use Rattle.model_lease.proofs.History.{by-cases, asked-early, asked-taken, tried-early, tried-taken, after-lost, after-held}
 use Rattle.active_lease.specs.declared.Held.{Held}
-use Rattle.active_lease.specs.Held.{isSet, byte, leaseOf, Asks, Tries}
+use Rattle.base_flags.specs.Flag.{isSet, byte}
+use Rattle.base_flags.proofs.Flags.{set-so, clear-so, written-so}
+use Rattle.active_lease.specs.Held.{leaseOf, Asks, Tries}
 
 pub due-is : (h : Held) (now left : ℕ) → left ≡ h .until - now → ((eqb (h .lost) 0 && not (eqb (h .duration) top)) && leb left (h .duration / 2)) ≡ isDue (leaseOf h) now
 due-is h now left e = go (eqb (h .lost) 0) (not (eqb (h .duration) top)) ∙ ap (λ (n : ℕ). not (not (eqb (h .lost) 0)) && (not (eqb (h .duration) top) && leb n (h .duration / 2))) e
@@ -35,10 +37,6 @@ module _ (h : Held) (now : ℕ) where
         lease = ap leaseOf p ∙ ap (λ (r : Asked). r .lease) e;
         flag = ap (λ (x : Held). x .lost) p;
       }
-
-set-byte : (b : Bool) → isSet (byte b) ≡ b
-set-byte true = refl
-set-byte false = refl
 
 flag-set : (f n : ℕ) → isSet f ≡ true → f ≡ cond (isSet f) f n
 flag-set f n e = sym (go (isSet f) e)
@@ -69,7 +67,7 @@ module _ (h : Held) (a : Attempt) where
 
   pub tries-lost : (held : Held) → isEarly (h .last) a ≡ false → (h .lost ≡ 0 → ⊥) → held ≡ moved h (a .now) → Tries h a (record { refusal = 0; held = held })
   tries-lost held t n p =
-      let s : isSet (h .lost) ≡ true = ap not (ne-eqb (h .lost) 0 n) in
+      let s : isSet (h .lost) ≡ true = set-so (h .lost) n in
       let e = sym (tried-taken (leaseOf h) a t) in
       record {
         refusal = ap (λ (r : Tried). r .refusal) e;
@@ -80,10 +78,10 @@ module _ (h : Held) (a : Attempt) where
   pub tries-held : (until lost : ℕ) (b : Bool) → isEarly (h .last) a ≡ false → h .lost ≡ 0 → until ≡ endAfter (leaseOf h) (a .start) (a .outcome)
       → b ≡ loses (h .until) (a .now) (a .outcome) → lost ≡ byte b → Tries h a (record { refusal = 0; held = record { duration = h .duration; until = until; last = a .now; lost = lost } })
   tries-held until lost b t n p l q =
-      let s : isSet (h .lost) ≡ false = ap not (eq-eqb (h .lost) 0 n) in
+      let s : isSet (h .lost) ≡ false = clear-so (h .lost) n in
       let e = sym (tried-taken (leaseOf h) a t) in
       let held : after (leaseOf h) a ≡ record { duration = h .duration; until = endAfter (leaseOf h) (a .start) (a .outcome); last = a .now; lost = loses (h .until) (a .now) (a .outcome) } = after-held (leaseOf h) a s in
-      let set : isSet lost ≡ loses (h .until) (a .now) (a .outcome) = ap isSet q ∙ set-byte b ∙ l in
+      let set : isSet lost ≡ loses (h .until) (a .now) (a .outcome) = ap isSet q ∙ written-so b ∙ l in
       record {
         refusal = ap (λ (r : Tried). r .refusal) e;
         lease = (λ i. record { duration = h .duration; until = p i; last = a .now; lost = set i }) ∙ sym held ∙ ap (λ (r : Tried). r .lease) e;

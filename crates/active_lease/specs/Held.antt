@@ -1,9 +1,9 @@
 -- What the code's lease stands for, and what its calls answer. Assumes nothing.
 use mathlib.Core.Path.{_≡_}
-use mathlib.Core.Bool.{Bool, cond, not}
+use mathlib.Core.Bool.{cond}
 use mathlib.Core.List.{List, [], _∷_}
 use Prim.Native.Nat.{ℕ}
-use lib.Dec.{eqb}
+use Rattle.base_flags.specs.Flag.{isSet, byte}
 use Rattle.model_lease.specs.Lease.{Lease, Outcome, renewed, failed, deposed, Attempt, renewal, attempt}
 use Rattle.model_lease.specs.History.{LeaseCall, question, attempted}
 use Rattle.active_lease.specs.declared.Held.{Held}
@@ -11,13 +11,6 @@ use Rattle.active_lease.specs.declared.Asked.{Asked}
 use Rattle.active_lease.specs.declared.Tried.{Tried}
 use Rattle.active_lease.specs.declared.RenewalOutcome
 use Rattle.active_lease.specs.declared.RenewalOutcome.{RenewalOutcome}
-
--- a flag is set if its byte isn't 0, and set to 1
-abbrev pub isSet : ℕ → Bool
-isSet b = not (eqb b 0)
-
-abbrev pub byte : Bool → ℕ
-byte b = cond b 1 0
 
 -- every content counts as a lease
 abbrev pub leaseOf : Held → Lease

@@ -2,7 +2,8 @@
 ghost use mathlib.Core.Path.{_≡_};
 ghost use Prim.Native.Nat.{_-_};
 ghost use Rattle.model_lease.specs.Lease.{endFrom, made, isDue, endAfter, loses};
-ghost use Rattle.active_lease.specs.Held.{leaseOf, outcomeOf, attemptOf, byte, Asks, Tries};
+ghost use Rattle.base_flags.specs.Flag.{byte};
+ghost use Rattle.active_lease.specs.Held.{leaseOf, outcomeOf, attemptOf, Asks, Tries};
 
 // `until` is the lease's end, `last` the last time handed in; the lease is lost if `lost` isn't 0.
 #[repr(C)]

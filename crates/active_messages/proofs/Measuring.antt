@@ -9,7 +9,7 @@ use lib.ListN.{length, take, drop, length-append}
 use lib.Dec.{ltb}
 use borrow.Author.Tests.{ltb-true}
 use Rattle.model_frame.specs.Frame.{recordMsg, recordBare}
-use Rattle.model_frame.specs.Writing.{sizes}
+use Rattle.model_frame.specs.Sizes.{sizes}
 use Rattle.model_frame.proofs.Runs.{sizes-append}
 use Rattle.model_session.specs.Session.{Msg}
 use Rattle.model_session.specs.Whole.{sendMsg}

@@ -8,7 +8,8 @@ use borrow.Author.Tests.{lt-ltb, le-ltb}
 use Rattle.model_frame.specs.Bytes.{bytesOf}
 use Rattle.model_frame.specs.Frame.{recordMsg}
 use Rattle.model_frame.specs.Parse.{runBytes}
-use Rattle.model_frame.specs.Writing.{blobBytes, changeBytes, sizes}
+use Rattle.model_frame.specs.Writing.{blobBytes, changeBytes}
+use Rattle.model_frame.specs.Sizes.{sizes}
 use Rattle.model_frame.proofs.Runs.{run-append}
 use Rattle.model_frame.proofs.Sizes.{changes-size}
 use Rattle.model_session.specs.Whole.{skipTo, sendMsg}

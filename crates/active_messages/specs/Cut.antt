@@ -7,7 +7,7 @@ use Prim.Native.Nat.{ℕ, suc, _+_, _*_, _≤_, _<_}
 use lib.ListN.{length}
 use lib.Dec.{ltb}
 use Rattle.model_frame.specs.Frame.{Change}
-use Rattle.model_frame.specs.Writing.{sizes}
+use Rattle.model_frame.specs.Sizes.{sizes}
 use Rattle.model_session.specs.Session.{Session, Msg}
 use Rattle.model_session.specs.Whole.{sendMsg, closing}
 use Rattle.store_log.specs.Log.{restOf, Position}

@@ -1,15 +1,15 @@
 -- The laws of little-endian numbers, once over the width: a number of m + n bytes is its low m bytes and its high n. Assumes nothing.
 use mathlib.Core.Path.{_≡_, refl, sym}
-use mathlib.Core.List.{List, [], _∷_, _++_, append-assoc}
+use mathlib.Core.List.{List, [], _∷_, _++_}
 use Prim.Native.Nat.{ℕ, zero, suc, _+_, _*_, _/_, _%_, _^_, _<_, _≤_}
 use native.Mathlib.Nat.{zero-add, suc-add, add-suc, add-zero, pow-succ', pow-suc, mul-assoc, div-one, div-div-eq-div-mul, mod-eq-of-lt}
 use native.Mathlib.Omega.{arith}
 use lib.Arith.{mod-mul, digits-div, digits-mod}
 use native.Mathlib.Numerals.{add-one}
 use lib.ListN.{length, take, drop, getD, set, drop-of-length-le}
-use lib.Seq.{drop-cons, sets, sets-eq, length-sets, take-nil, drop-nil, drop-drop, take-at, drop-at, length-take-le}
+use lib.Seq.{drop-cons, sets, sets-eq, length-sets, take-nil, drop-nil, drop-drop}
 use Rattle.model_frame.specs.Bytes.{le, leAt, bytesOf, write}
-use Rattle.model_frame.proofs.Le.{length-bytes, le-bytes}
+use Rattle.model_frame.proofs.Le.{length-bytes}
 
 -- reading
 le-take : (m n : ℕ) (l : List ℕ) → le (take (m + n) l) ≡ le (take m l) + 256 ^ m * le (take n (drop m l))
@@ -73,10 +73,6 @@ write-is l i bs h = sets-eq bs l i h
 pub write-then : (l xs ys : List ℕ) (at : ℕ) {n : ℕ} {l₁ l₂ : List ℕ} → l₁ ≡ write l at xs → l₂ ≡ write l₁ (at + n) ys → length xs ≡ n → l₂ ≡ write l at (xs ++ ys)
 write-then l xs ys at e₁ e₂ e = rw (e₂, e₁, ← e) (sym (write-append l xs ys at))
 
--- the same from the start of a list, at a literal position
-pub write-on : (l xs ys : List ℕ) {k : ℕ} {l₁ l₂ : List ℕ} → l₁ ≡ write l 0 xs → l₂ ≡ write l₁ k ys → length xs ≡ k → l₂ ≡ write l 0 (xs ++ ys)
-write-on l xs ys {k} e₁ e₂ e = write-then l xs ys 0 e₁ (rw (zero-add k) e₂) e
-
 -- a list written element by element
 pub write-more : (s out : List ℕ) (at i : ℕ) → i < length s → write out (at + i) (drop i s) ≡ write (set out (at + i) (getD s i 0)) (at + (i + 1)) (drop (i + 1) s)
 unfolding write
@@ -91,9 +87,3 @@ put-join m n l at v = rw (bytes-low m v, bytes-add m n v, write-append, length-b
 pub put-one : (l : List ℕ) (at v : ℕ) → v < 256 → write l at (bytesOf 1 v) ≡ set l at v
 unfolding bytesOf write
 put-one l at v h = rw (mod-eq-of-lt h)
-
--- there and back
-pub le-put : (n : ℕ) (l : List ℕ) (at v : ℕ) → at + n ≤ length l → leAt n (write l at (bytesOf n v)) at ≡ v % 256 ^ n
-le-put n l at v h =
-    let fits : at + length (bytesOf n v) ≤ length l = rw length-bytes h in
-    rw (write-is l at (bytesOf n v) fits, append-assoc, drop-at (take at l) _ at (length-take-le at l (omega arith)), take-at (bytesOf n v) _ n (length-bytes n v)) (le-bytes n v)

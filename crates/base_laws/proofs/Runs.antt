@@ -1,6 +1,6 @@
 -- The laws of a run of items, of any parser: where it ends, one item after the other, and its items. Assumes nothing.
 use mathlib.Core.Path.{_≡_, refl, _∙_}
-use mathlib.Core.List.{List, [], _∷_, _++_}
+use mathlib.Core.List.{List, [], _∷_}
 use mathlib.Core.Bool.{Bool, true, false, cond}
 use Prim.Native.Nat.{ℕ, zero, suc, _+_, _-_, _*_, _≤_, _<_}
 use native.Mathlib.Nat.{not-suc-le-zero, zero-mul, suc-mul}
@@ -11,7 +11,7 @@ use lib.ListN.{length, take, drop, length-drop}
 use lib.Seq.{drop-drop}
 use Rattle.model_frame.specs.Bytes.{le}
 use Rattle.model_frame.specs.Frame.{Fault, truncated}
-use Rattle.model_frame.specs.Parse.{Res, ok, bad, Parser, andThen, readNum, readCount, many, forget, itemThen, collect, runBytes}
+use Rattle.model_frame.specs.Parse.{Res, ok, bad, Parser, andThen, readNum, readCount, many, forget, itemThen, collect}
 use Rattle.base_laws.proofs.Places.{num-whole}
 
 module _ {A : Type 0} where
@@ -70,19 +70,6 @@ module _ {A : Type 0} where
   unfolding collect
   collect-bad p zero e = refl
   collect-bad p (suc n) e = rw e
-
-  -- the bytes of a run's items, one after the other
-  pub bytes-more : (f : A → List ℕ) (p : Parser A) (n : ℕ) {a : A} {s s′ : List ℕ} → 0 < n → p s ≡ ok a s′ → runBytes f (collect n p s) ≡ f a ++ runBytes f (collect (n - 1) p s′)
-  unfolding runBytes
-  bytes-more f p n h e = rw (collect-more p n h e)
-
-  pub bytes-none : (f : A → List ℕ) (p : Parser A) (n : ℕ) (s : List ℕ) → n ≤ 0 → runBytes f (collect n p s) ≡ []
-  unfolding runBytes
-  bytes-none f p n s h = rw (collect-none p n s h)
-
-  pub bytes-bad : (f : A → List ℕ) (p : Parser A) (n : ℕ) {s : List ℕ} {e : Fault} → p s ≡ bad e → runBytes f (collect n p s) ≡ []
-  unfolding runBytes
-  bytes-bad f p n e = rw (collect-bad p n e)
 
 -- numbers of w bytes each: where a run of them ends
 pub numbers-end : (w n : ℕ) (s : List ℕ) → n * w ≤ length s → forget (many n (readNum w) s) ≡ ok tt (drop (n * w) s)

@@ -7,7 +7,7 @@ use lib.Dec.{T}
 use lib.ListN.{length, take, drop, length-append, length-drop}
 use lib.Seq.{take-at, drop-at, drop-drop}
 use Rattle.model_frame.specs.Bytes.{isBytes}
-use Rattle.model_frame.specs.Parse.{Parser, ok, forget, many, collect, runBytes, Each}
+use Rattle.model_frame.specs.Parse.{Parser, ok, forget, many, collect, runBytes}
 use Rattle.model_frame.proofs.Le.{bytes-each, each-drop}
 use Rattle.model_frame.proofs.Canon.{Was, Canon, run-canon, Run}
 use Rattle.base_laws.specs.Wrote.{StandsAt}
@@ -22,9 +22,6 @@ module _ {A : Type 0} (p : Parser A) (f : A → List ℕ) (U : A → Type 0) (ca
 
   split : drop at b ≡ runBytes f (collect n p (drop at b)) ++ drop d b
   split = was .0
-
-  pub run-each : Each U (collect n p (drop at b))
-  run-each = was .1 .1
 
   pub run-counted : length (collect n p (drop at b)) ≡ n
   run-counted = was .1 .0

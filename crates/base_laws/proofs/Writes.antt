@@ -6,14 +6,8 @@ use native.Mathlib.Omega.{arith}
 use lib.ListN.{length, length-append}
 use Rattle.model_frame.specs.Bytes.{bytesOf, write}
 use Rattle.model_frame.proofs.Le.{length-bytes}
-use Rattle.base_laws.proofs.Little.{put-join, write-then, write-append, write-none, length-write}
+use Rattle.base_laws.proofs.Little.{put-join, write-append, write-none, length-write}
 use Rattle.base_laws.specs.Wrote.{Wrote}
-
-pub wrote-then : {l xs l₁ ys l₂ : List ℕ} {at n k r : ℕ} → Wrote l at xs l₁ k → Wrote l₁ (at + n) ys l₂ r → length xs ≡ n → Wrote l at (xs ++ ys) l₂ r
-wrote-then {l} {xs} {l₁} {ys} {l₂} {at} w v e = record {
-  bytes = write-then l xs ys at (w .bytes) (v .bytes) e;
-  past = omega (arith, v .past, length-append xs ys);
-}
 
 -- the second where the first ended
 pub wrote-on : {l xs l₁ ys l₂ : List ℕ} {at k r : ℕ} → Wrote l at xs l₁ k → Wrote l₁ k ys l₂ r → Wrote l at (xs ++ ys) l₂ r
@@ -28,10 +22,6 @@ wrote-join m n v {l} {l₁} {l₂} {at} w u = record {
   bytes = rw (u .bytes, w .bytes) (put-join m n l at v);
   past = omega (arith, u .past, length-bytes n (v / 256 ^ m), length-bytes (m + n) v);
 }
-
--- a number at a position, and the position past it
-pub wrote-number : {l l₁ : List ℕ} (at n v : ℕ) → l₁ ≡ write l at (bytesOf n v) → Wrote l at (bytesOf n v) l₁ (at + n)
-wrote-number at n v e = record { bytes = e; past = omega (arith, length-bytes n v) }
 
 -- What is still to be written, `rest` from `pos` on, makes of the list as it is what `all` from `at` on makes of the first: the invariant of a loop that writes.
 pub record Left (first : List ℕ) (at : ℕ) (all out : List ℕ) (pos : ℕ) (rest : List ℕ) : Type 0 where

@@ -14,7 +14,7 @@ use Rattle.model_frame.specs.Bytes.{isBytes}
 use Rattle.model_frame.specs.Frame.{Frame}
 use Rattle.model_frame.specs.Frame as the-frame
 use Rattle.model_frame.specs.Reading.{decode}
-use Rattle.model_frame.specs.Writing.{encode}
+use Rattle.model_frame.specs.Writing.{encode, WriteOutcome, wrote, refused, writeOutcome, writeAnswer, areaAfter}
 use Rattle.model_standby.specs.Answer as the-answer
 use Rattle.frame_reader.specs.declared.FrameError.{FrameError}
 use Rattle.frame_reader.specs.declared.Field.{Field}
@@ -22,7 +22,7 @@ use Rattle.frame_reader.specs.declared.Value
 use Rattle.frame_reader.specs.declared.Value.{Value}
 use Rattle.frame_reader.specs.Answers.{fieldOf, invalidOf, faultOf}
 use Rattle.frame_writer.specs.declared.Written.{Written}
-use Rattle.frame_writer.specs.Encoding.{WriteOutcome, wrote, refused, writeOutcome, writeAnswer, areaAfter, writtenOf, Encoded}
+use Rattle.frame_writer.specs.Encoding.{writtenOf, Encoded}
 use Rattle.frame.specs.declared.Decoded
 use Rattle.frame.specs.declared.Decoded.{Decoded}
 use Rattle.frame.specs.declared.Frame as code-frame

@@ -1,14 +1,16 @@
 -- A whole sending in words: a call of a sending, and one that begins it. Assumes nothing.
 use mathlib.Core.Path.{_≡_, refl, sym, ap, subst, _∙_}
-use mathlib.Core.Bool.{Bool, true, false, cond, not}
+use mathlib.Core.Bool.{Bool, true, false, cond}
 use mathlib.Core.List.{List}
 use mathlib.Core.Option.{Option, none, some}
 use Prim.Native.Nat.{ℕ, _≤_, _<_}
 use native.Mathlib.Omega.{arith}
 use borrow.Author.Tests.{lt-ltb, le-ltb, eq-eqb, ne-eqb}
-use lib.Dec.{ltb, eqb}
-use lib.ListN.{length, getD, set, drop, length-set}
-use lib.Seq.{getD-set-same, getD-set-other, drop-set-lt}
+use lib.Dec.{ltb}
+use lib.ListN.{length, getD, set, length-set}
+use lib.Seq.{getD-set-same, getD-set-other}
+use Rattle.base_flags.specs.Flag.{isSet, byte}
+use Rattle.base_flags.proofs.Flags.{written-so}
 use Rattle.model_frame.specs.Writing.{encode}
 use Rattle.model_session.specs.Session.{Session}
 use Rattle.model_session.specs.Sender.{Sender, newSender, cannotSend, cutFrom, sent, sentFrom, sendNext}
@@ -19,7 +21,7 @@ use Rattle.active.specs.declared.Begun.{Begun}
 use Rattle.active.specs.declared.Begun
 use Rattle.active.specs.declared.Sent.{Sent}
 use Rattle.active.specs.declared.Sent
-use Rattle.active.specs.Whole.{senderOf, storedAt, SendStart, ready, startOf, startFrom, SendStep, gives, finished, stepOf, spent, sendAnswer, stepFrom, SendsWhole}
+use Rattle.active.specs.Whole.{senderOf, sendingFor, storedAt, SendStart, ready, startOf, startFrom, SendStep, gives, finished, stepOf, spent, sendAnswer, stepFrom, SendsWhole}
 use Rattle.active.specs.Whole as whole
 use Rattle.c_exports.specs.Returned.{refusalCode, doneCode, lastCode}
 use Rattle.c_exports.specs.Sendings.{senderIn, startIn, sendCode, NextWords, Resumes, SendIs}
@@ -53,13 +55,9 @@ kept limit (some a) i s room {len} {j} {t} e = go (spent (s .last) (s .from)) (s
 
 -- ---- the four words
 
-flagged : (b : Bool) {n : ℕ} → n ≡ cond b 1 0 → not (eqb n 0) ≡ b
-flagged true e = ap (λ (k : ℕ). not (eqb k 0)) e
-flagged false e = ap (λ (k : ℕ). not (eqb k 0)) e
-
-handed : (h e : ℕ) (t : Sending) (q : List ℕ) {q' : List ℕ} {flag : ℕ} → 4 ≤ length q → t .handle ≡ h → t .epoch .0 ≡ e → flag ≡ cond (t .done) 1 0
-    → q' ≡ set (set (set (set q 0 (t .last .0)) 1 1) 2 (t .from)) 3 flag → NextWords h e (senderOf t) q q'
-handed h e t q {q'} {flag} long eh ee ef is =
+handed : (h e : ℕ) (t : Sending) (q : List ℕ) {q' : List ℕ} → 4 ≤ length q → t .handle ≡ h → t .epoch .0 ≡ e → t ≡ sendingFor (t .place) (senderOf t)
+    → q' ≡ set (set (set (set q 0 (t .last .0)) 1 1) 2 (t .from)) 3 (t .done) → NextWords h e (senderOf t) q q'
+handed h e t q {q'} long eh ee m is =
     let a : List ℕ = set q 0 (t .last .0) in
     let b : List ℕ = set a 1 1 in
     let c : List ℕ = set b 2 (t .from) in
@@ -67,24 +65,20 @@ handed h e t q {q'} {flag} long eh ee ef is =
     let lb : length b ≡ length q = length-set a 1 1 ∙ la in
     let lc : length c ≡ length q = length-set b 2 (t .from) ∙ lb in
     let w0 : getD q' 0 0 ≡ t .last .0 =
-    ap (λ (l : List ℕ). getD l 0 0) is ∙ getD-set-other c 3 0 flag 0 (λ x. omega arith) ∙ getD-set-other b 2 0 (t .from) 0 (λ x. omega arith)
+    ap (λ (l : List ℕ). getD l 0 0) is ∙ getD-set-other c 3 0 (t .done) 0 (λ x. omega arith) ∙ getD-set-other b 2 0 (t .from) 0 (λ x. omega arith)
     ∙ getD-set-other a 1 0 1 0 (λ x. omega arith) ∙ getD-set-same q 0 (t .last .0) 0 (omega arith) in
-    let w1 : getD q' 1 0 ≡ 1 =
-    ap (λ (l : List ℕ). getD l 1 0) is ∙ getD-set-other c 3 1 flag 0 (λ x. omega arith) ∙ getD-set-other b 2 1 (t .from) 0 (λ x. omega arith)
-    ∙ getD-set-same a 1 1 0 (omega arith) in
-    let w2 : getD q' 2 0 ≡ t .from = ap (λ (l : List ℕ). getD l 2 0) is ∙ getD-set-other c 3 2 flag 0 (λ x. omega arith) ∙ getD-set-same b 2 (t .from) 0 (omega arith) in
-    let w3 : getD q' 3 0 ≡ cond (t .done) 1 0 = ap (λ (l : List ℕ). getD l 3 0) is ∙ getD-set-same c 3 flag 0 (omega arith) ∙ ef in
-    let f3 : not (eqb (getD q' 3 0) 0) ≡ t .done = flagged (t .done) w3 in
+    let w2 : getD q' 2 0 ≡ t .from = ap (λ (l : List ℕ). getD l 2 0) is ∙ getD-set-other c 3 2 (t .done) 0 (λ x. omega arith) ∙ getD-set-same b 2 (t .from) 0 (omega arith) in
+    let w3 : getD q' 3 0 ≡ t .done = ap (λ (l : List ℕ). getD l 3 0) is ∙ getD-set-same c 3 (t .done) 0 (omega arith) in
     let h' : h ≡ t .handle = sym eh in
     let e' : e ≡ t .epoch .0 = sym ee in
     record {
-      next = λ j. record { handle = h' j; epoch = e' j; last = w0 j; from = resumeFrom (w2 j) (f3 j) };
-      begun = w1;
-      same = ap length is ∙ length-set c 3 flag ∙ lc;
-      rest =
-          ap (drop 4) is ∙ drop-set-lt 4 c 3 flag (omega arith) ∙ drop-set-lt 4 b 2 (t .from) (omega arith) ∙ drop-set-lt 4 a 1 1 (omega arith)
-          ∙ drop-set-lt 4 q 0 (t .last .0) (omega arith);
+      next = λ j. record { handle = h' j; epoch = e' j; last = w0 j; from = resumeFrom (w2 j) (isSet (w3 j)) };
+      words = is ∙ ap (λ (x : Sending). set (set b 2 (x .from)) 3 (x .done)) m;
     }
+
+-- the flag of a sending, from its word
+flag-word : (h e : ℕ) (q : List ℕ) {n : ℕ} → n ≡ byte (isSet (getD q 3 0)) → record { handle = h; epoch = e; last = getD q 0 0; from = resumeFrom (getD q 2 0) (isSet n) } ≡ senderIn h e q
+flag-word h e q p = ap (λ (b : Bool). record { handle = h; epoch = e; last = getD q 0 0; from = resumeFrom (getD q 2 0) b }) (ap isSet p ∙ written-so (isSet (getD q 3 0)))
 
 -- ---- a call of a sending
 
@@ -100,11 +94,11 @@ module _ (limit : ℕ) (shape : Shape) (w b : List ℕ) (s : Sending) (q : List 
     area = h .area;
   }
 
-  pub sends-frame : {len flag r : ℕ} {t : Sending} {q' : List ℕ} → 4 ≤ length q → x ≡ Sent.Frame len t → flag ≡ cond (t .done) 1 0 → q' ≡ set (set (set (set q 0 (t .last .0)) 1 1) 2 (t .from)) 3 flag → r ≡ doneCode len
+  pub sends-frame : {len r : ℕ} {t : Sending} {q' : List ℕ} → 4 ≤ length q → x ≡ Sent.Frame len t → q' ≡ set (set (set (set q 0 (t .last .0)) 1 1) 2 (t .from)) 3 (t .done) → r ≡ doneCode len
       → SendIs limit (storedAt shape w b (s .place)) (s .handle) (s .epoch .0) (ready (s .place) (senderOf s)) q q' out out' r
-  sends-frame {len} {flag} {r} {t} {q'} long p ef is a =
+  sends-frame {len} {r} {t} {q'} long p is a =
       let k = kept limit (storedAt shape w b (s .place)) (s .place) (senderOf s) (length out) (step-is p) in
-      goes (Sent.Frame len t) q' p a (handed (s .handle) (s .epoch .0) t q long (k .0) (k .1) ef is)
+      goes (Sent.Frame len t) q' p a (handed (s .handle) (s .epoch .0) t q long (k .0) (k .1) (h .state p) is)
 
   pub sends-done : {r : ℕ} → x ≡ Sent.Done → r ≡ lastCode → SendIs limit (storedAt shape w b (s .place)) (s .handle) (s .epoch .0) (ready (s .place) (senderOf s)) q q out out' r
   sends-done p a = goes Sent.Done q p a refl
@@ -128,10 +122,12 @@ module _ (limit : ℕ) (a : Option Session) (i h e : ℕ) (q out : List ℕ) {r 
   too-few-words less c = stays 25 (rw (lt-ltb (length q) 4 less) refl) c
 
   module _ (long : 4 ≤ length q) where
-    pub goes-on : {q' out' : List ℕ} → (getD q 1 0 ≡ 0 → ⊥) → SendIs limit a h e (ready i (senderIn h e q)) q q' out out' r → SendIs limit a h e (startIn limit a i h e q) q q' out out' r
-    goes-on n s =
+    pub goes-on : {q' out' : List ℕ} {f : ℕ} → (getD q 1 0 ≡ 0 → ⊥) → f ≡ byte (isSet (getD q 3 0))
+        → SendIs limit a h e (ready i (record { handle = h; epoch = e; last = getD q 0 0; from = resumeFrom (getD q 2 0) (isSet f) })) q q' out out' r
+        → SendIs limit a h e (startIn limit a i h e q) q q' out out' r
+    goes-on {q'} {out'} n f s =
         let p : startIn limit a i h e q ≡ ready i (senderIn h e q) = rw (le-ltb (length q) 4 long, ne-eqb (getD q 1 0) 0 n) refl in
-        rw p s
+        rw p (subst (λ (t : Sender). SendIs limit a h e (ready i t) q q' out out' r) (flag-word h e q f) s)
 
     module _ (z : getD q 1 0 ≡ 0) {x : Begun} (begun : startOf x ≡ startFrom limit a i h e (getD q 0 0)) where
       pub numbers-past : x ≡ Begun.CommitNumbersExhausted → r ≡ refusalCode 24 0 → SendIs limit a h e (startIn limit a i h e q) q q out out r

@@ -8,8 +8,7 @@ use lib.ListN.{length, set}
 use lib.Dec.{ltb}
 use Rattle.model_frame.specs.Refusal
 use Rattle.model_frame.specs.Frame.{Frame, Decoded, more, faulty, got}
-use Rattle.model_frame.specs.Writing.{encode}
-use Rattle.frame_writer.specs.Encoding.{WriteOutcome, wrote, refused, writeOutcome, areaAfter, writeAnswer}
+use Rattle.model_frame.specs.Writing.{encode, WriteOutcome, wrote, refused, writeOutcome, areaAfter, writeAnswer}
 use Rattle.model_standby.specs.Answer as the-answer
 use Rattle.c_session.specs.Telling as telling
 use Rattle.store_areas.specs.StoreWord

@@ -2,8 +2,8 @@
 use Prim.Native.Nat.{ℕ, _+_, _-_, _*_, _^_}
 use mathlib.Core.Bool.{cond}
 use lib.Dec.{ltb}
-use Rattle.frame_writer.specs.Encoding.{WriteAnswer, took}
-use Rattle.frame_writer.specs.Encoding as writing
+use Rattle.model_frame.specs.Writing.{WriteAnswer, took}
+use Rattle.model_frame.specs.Writing as writing
 use Rattle.model_frame.specs.Frame.{Field, frameKind, part, refusal, change, Fault, tooLong, truncated, unknown, badText, badSession, badTimestamp, badMarks, faultNumber, Decoded, more, faulty, got}
 
 -- refusal n, with its detail

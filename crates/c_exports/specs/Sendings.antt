@@ -2,23 +2,24 @@
 -- Assumes nothing.
 use mathlib.Core.Path.{_≡_}
 use Prim.Native.Nat.{ℕ}
-use mathlib.Core.Bool.{not, cond}
+use mathlib.Core.Bool.{cond}
 use mathlib.Core.List.{List}
 use mathlib.Core.Option.{Option}
-use lib.ListN.{length, getD, drop}
+use lib.ListN.{length, getD, set}
 use lib.Dec.{ltb, eqb}
+use Rattle.base_flags.specs.Flag.{isSet}
 use Rattle.model_frame.specs.Refusal
 use Rattle.model_session.specs.Session.{Session}
 use Rattle.model_session.specs.Sender.{Sender}
 use Rattle.model_session.specs.Whole.{batchLimit}
 use Rattle.active_batch.specs.Batch.{resumeFrom}
-use Rattle.active.specs.Whole.{SendStart, ready, startFrom, SendStep, gives, finished, stepFrom, areaFrom}
+use Rattle.active.specs.Whole.{fromWord, doneByte, SendStart, ready, startFrom, SendStep, gives, finished, stepFrom, areaFrom}
 use Rattle.active.specs.Whole as whole
 use Rattle.c_exports.specs.Returned.{refusalCode, doneCode, lastCode}
 
 -- the model's sender that the words stand for, for a handle and an epoch
 abbrev pub senderIn : ℕ → ℕ → List ℕ → Sender
-senderIn h e q = record { handle = h; epoch = e; last = getD q 0 0; from = resumeFrom (getD q 2 0) (not (eqb (getD q 3 0) 0)) }
+senderIn h e q = record { handle = h; epoch = e; last = getD q 0 0; from = resumeFrom (getD q 2 0) (isSet (getD q 3 0)) }
 
 -- fewer than four words are 25; a sending that has not begun begins
 abbrev pub startIn : ℕ → Option Session → ℕ → ℕ → ℕ → List ℕ → SendStart
@@ -42,12 +43,10 @@ sendCode (whole.SendStep.refused n) = refusalCode n 0
 sendCode (gives len i t) = doneCode len
 sendCode finished = lastCode
 
--- the words for the next call; those past the four are as they were
+-- the words for the next call: the sender that they stand for, and each of the four; those past them are as they were
 pub record NextWords (h e : ℕ) (t : Sender) (q q' : List ℕ) : Type 0 where
   pub next : senderIn h e q' ≡ t
-  pub begun : getD q' 1 0 ≡ 1
-  pub same : length q' ≡ length q
-  pub rest : drop 4 q' ≡ drop 4 q
+  pub words : q' ≡ set (set (set (set q 0 (t .last)) 1 1) 2 (fromWord (t .from))) 3 (doneByte (t .from))
 
 -- only a frame changes the words
 abbrev pub Resumes : ℕ → ℕ → SendStep → List ℕ → List ℕ → Type 0

@@ -1,13 +1,14 @@
 // The boundary for programs in C or Rust (docs/ENTRY_POINTS.md has the signatures and what is returned). Nothing is asked of a caller.
 ghost use mathlib.Core.Path.{_≡_};
-ghost use mathlib.Core.Bool.{cond};
 ghost use Prim.Native.Nat.{_+_, _*_, _<_, _≤_};
 ghost use lib.ListN.{length, take, drop, set};
+ghost use Rattle.base_flags.specs.Flag.{isSet, byte};
 ghost use Rattle.model_frame.specs.Reading.{decode};
 ghost use Rattle.model_session.specs.Summary.{fnv};
 ghost use Rattle.model_session.specs.Whole.{batchLimit};
 ghost use Rattle.frame_reader.specs.Answers.{fieldOf, faultOf};
-ghost use Rattle.frame_writer.specs.Encoding.{writeOutcome, writtenOf};
+ghost use Rattle.model_frame.specs.Writing.{writeOutcome};
+ghost use Rattle.frame_writer.specs.Encoding.{writtenOf};
 ghost use Rattle.frame.specs.Answers.{frameIn};
 ghost use Rattle.standby_state.specs.Answers.{answerOf};
 ghost use Rattle.active.specs.Whole.{ready, senderOf, storedAt};
@@ -226,10 +227,14 @@ pub extern "C" fn wz_session(
 
 // ---- whole sending: the last commit number, whether it has begun, where it goes on, whether it is done
 
-fn flag(b: bool) -> u64
-    ensures { λ r. ⌜ r ≡ cond b 1 0 ⌝ }
+// A word as a flag.
+fn flag(word: u64) -> u8
+    ensures { λ r. ⌜ r ≡ byte (isSet word) ⌝ }
 {
-    if b { 1 } else { 0 }
+    if word != 0 {
+        return 1;
+    }
+    0
 }
 
 // The words of a sending for its next call.
@@ -258,7 +263,7 @@ fn send_code(
     match state.send_whole(shape, words, bytes, out) {
         Sent::Frame(len, next) => {
             let last = next.last;
-            put_sending(sending, last, next.from, flag(next.done));
+            put_sending(sending, last, next.from, next.done as u64);
             done(len)
         }
         Sent::Done => LAST,
@@ -299,7 +304,7 @@ pub extern "C" fn wz_send(
             epoch: Epoch(epoch),
             last,
             from: sending[2],
-            done: sending[3] != 0,
+            done: flag(sending[3]),
         };
         return send_code(s, shape, words, bytes, sending, out);
     }
@@ -312,27 +317,29 @@ pub extern "C" fn wz_send(
 
 // ---- the lag queue: drained, how many wait, 64 numbers
 
-// The 64 numbers from the third on, and one more.
-fn numbers(queue: &[u64]) -> [u64; 65]
+const QUEUE_WORDS: usize = 2 + ReplicatedLog::MAX_QUEUED;
+
+// The numbers from the third on, and one more.
+fn numbers(queue: &[u64]) -> [u64; ReplicatedLog::MAX_QUEUED + 1]
     requires { ⌜ 66 ≤ length (now queue) ⌝ }
     ensures { λ r. ⌜ take 64 r ≡ take 64 (drop 2 (now (queue .entry))) ⌝ }
 {
-    let mut out = [0; 65];
+    let mut out = [0; ReplicatedLog::MAX_QUEUED + 1];
     let mut i: usize = 0;
-    while i < 64 {
+    while i < ReplicatedLog::MAX_QUEUED {
         out[i] = queue[2 + i];
         i += 1;
     }
     out
 }
 
-// Puts 64 numbers where they stand.
-fn put_numbers(queue: &mut [u64], from: [u64; 65])
+// Puts the numbers where they stand.
+fn put_numbers(queue: &mut [u64], from: [u64; ReplicatedLog::MAX_QUEUED + 1])
     requires { ⌜ 66 ≤ length (now queue) ⌝ }
     ensures { λ r. ⌜ Numbered from (now (queue .entry)) (now (queue .exit)) ⌝ }
 {
     let mut i: usize = 0;
-    while i < 64 {
+    while i < ReplicatedLog::MAX_QUEUED {
         queue[2 + i] = from[i];
         i += 1;
     }
@@ -354,7 +361,7 @@ fn put_queue(queue: &mut [u64], log: ReplicatedLog)
 pub extern "C" fn wz_queue(queue: &mut [u64], max_lag: u64, last: u64) -> u64
     ensures { λ r. ⌜ Pushes «max_lag» last (now (queue .entry)) (now (queue .exit)) r ⌝ }
 {
-    if queue.len() < 66 {
+    if queue.len() < QUEUE_WORDS {
         return refusal(RULES_BROKEN, 0);
     }
     let queued = numbers(queue);

@@ -10,16 +10,14 @@ use Rattle.model_lease.proofs.History.{by-cases, asked-early, asked-taken, trie
 use Rattle.active_lease.specs.declared.Held.{Held}
 use Rattle.active_lease.specs.declared.Asked as held-asked
 use Rattle.active_lease.specs.declared.Tried as held-tried
-use Rattle.active_lease.specs.Held.{isSet, byte, leaseOf, Asks, Tries}
+use Rattle.base_flags.specs.Flag.{isSet, byte}
+use Rattle.base_flags.proofs.Flags.{written-so}
+use Rattle.active_lease.specs.Held.{leaseOf, Asks, Tries}
 use Rattle.c_lease.specs.Boundary.{outcomeAt, attemptAt, leaseIn, heldIn, AsksIn, TriesIn}
-
-set-byte : (b : Bool) → isSet (byte b) ≡ b
-set-byte true = refl
-set-byte false = refl
 
 -- the lease by value is that of the words
 same-lease : (w : List ℕ) (h : Held) → h ≡ heldIn w → leaseOf h ≡ leaseIn w
-same-lease w h e = ap leaseOf e ∙ (λ j. record { duration = getD w 0 0; until = getD w 1 0; last = getD w 2 0; lost = set-byte (isSet (getD w 3 0)) j })
+same-lease w h e = ap leaseOf e ∙ (λ j. record { duration = getD w 0 0; until = getD w 1 0; last = getD w 2 0; lost = written-so (isSet (getD w 3 0)) j })
 
 -- ---- what a call keeps
 

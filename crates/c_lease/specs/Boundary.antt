@@ -7,7 +7,7 @@ use lib.ListN.{getD}
 use lib.Dec.{eqb}
 use Rattle.model_lease.specs.Lease.{Lease, Outcome, renewed, failed, deposed, Attempt, renewal, attempt}
 use Rattle.active_lease.specs.declared.Held.{Held}
-use Rattle.active_lease.specs.Held.{isSet, byte}
+use Rattle.base_flags.specs.Flag.{isSet, byte}
 use Rattle.c_lease.specs.declared.Due.{Due}
 
 -- 0 renewed, 1 failed, any other deposed

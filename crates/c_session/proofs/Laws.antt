@@ -12,7 +12,7 @@ use lib.Seq.{getD-take, getD-drop}
 use Rattle.model_frame.specs.Bytes.{write}
 use Rattle.model_frame.specs.Frame as the-frame
 use Rattle.model_frame.specs.Frame.{Key}
-use Rattle.model_frame.specs.Writing.{keyBytes, summaryBytes}
+use Rattle.model_frame.specs.Writing.{keyBytes, summaryBytes, took}
 use Rattle.model_frame.proofs.Le.{length-bytes}
 use Rattle.model_frame.proofs.Sizes.{blob-size}
 use Rattle.model_session.specs.Summary.{summary}
@@ -24,7 +24,7 @@ use Rattle.frame_reader.specs.Answers.{spanOf}
 use Rattle.frame_fields.specs.declared.SessionId.{SessionId}
 use Rattle.frame_fields.specs.declared.Summary.{Summary}
 use Rattle.frame_fields.specs.Answers.{flightOf, keyOf, summaryOf}
-use Rattle.frame_writer.specs.Encoding.{keySize, summarySize, took}
+use Rattle.frame_writer.specs.Encoding.{keySize, summarySize}
 use Rattle.store_place.specs.Place as the-place
 use Rattle.store_place.specs.Place.{field, placeIn}
 use Rattle.store_areas.specs.declared.Shape.{Shape}

@@ -7,12 +7,11 @@ use mathlib.Core.Option.{Option, none, some}
 use lib.Dec.{leb}
 use lib.ListN.{length}
 use Rattle.model_frame.specs.Refusal
-use Rattle.model_frame.specs.Writing.{keyBytes, summaryBytes}
+use Rattle.model_frame.specs.Writing.{keyBytes, summaryBytes, WriteOutcome, wrote, refused, areaAfter, WriteAnswer, took, writeRefusal, writeAnswer}
 use Rattle.model_session.specs.Summary.{summary}
 use Rattle.model_standby.specs.Store.{Place}
 use Rattle.model_standby.specs.Row.{isSome}
 use Rattle.frame_reader.specs.declared.Span.{Span}
-use Rattle.frame_writer.specs.Encoding.{WriteOutcome, wrote, refused, areaAfter, WriteAnswer, took, writeRefusal, writeAnswer}
 use Rattle.store_areas.specs.declared.Shape.{Shape}
 use Rattle.store_areas.specs.Areas.{inUse, placeAt}
 use Rattle.c_session.specs.declared.SessionWritten.{SessionWritten}

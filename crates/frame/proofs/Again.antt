@@ -13,11 +13,11 @@ use Rattle.model_frame.specs.Bytes.{isBytes, write}
 use Rattle.model_frame.specs.Frame as the-frame
 use Rattle.model_frame.specs.Frame.{got}
 use Rattle.model_frame.specs.Reading.{maxBody, decode}
-use Rattle.model_frame.specs.Writing.{bodyBytes, encode}
+use Rattle.model_frame.specs.Writing.{bodyBytes, encode, WriteOutcome, writeOutcome, wrote, refused, areaAfter, WriteAnswer, took, writeRefusal, writeAnswer}
 use Rattle.model_frame.proofs.Sound.{decode-sound}
 use Rattle.frame_writer.specs.declared.Written
 use Rattle.frame_writer.specs.declared.Written.{Written}
-use Rattle.frame_writer.specs.Encoding.{WriteOutcome, writeOutcome, wrote, refused, areaAfter, WriteAnswer, took, writeRefusal, writeAnswer, writtenOf, Encoded}
+use Rattle.frame_writer.specs.Encoding.{writtenOf, Encoded}
 use Rattle.frame.specs.declared.Frame.{Frame}
 use Rattle.frame.specs.declared.Decoded
 use Rattle.frame.specs.declared.Decoded.{Decoded}

@@ -12,7 +12,7 @@ use Rattle.base_laws.proofs.Runs.{run-items}
 use Rattle.model_frame.specs.Frame.{hello, batch, bind, bound}
 use Rattle.model_frame.specs.Parse.{Res, ok, bad, Parser, readNum, many, forget, collect}
 use Rattle.model_frame.specs.Reading.{readChange, readAppRecord, readBody}
-use Rattle.model_frame.specs.Writing.{sizes}
+use Rattle.model_frame.specs.Sizes.{sizes}
 use Rattle.model_frame.proofs.Grow.{Grows, grow-num, grow-many, change-grows, record-grows}
 use Rattle.frame_reader.specs.declared.Span.{Span}
 use Rattle.frame_reader.specs.Answers.{spanOf}

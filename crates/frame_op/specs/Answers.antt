@@ -6,7 +6,8 @@ use lib.ListN.{length, drop}
 use Rattle.model_frame.specs.Frame.{Change, setIncoming, setIncomingInFlight, setInFlight, recordMsg, recordBare, reset, setCreatedAt, setMarks}
 use Rattle.model_frame.specs.Parse.{Res, ok, bad, Parser, many, collect, runBytes}
 use Rattle.model_frame.specs.Reading.{readChange}
-use Rattle.model_frame.specs.Writing.{changeBytes, sizes}
+use Rattle.model_frame.specs.Writing.{changeBytes}
+use Rattle.model_frame.specs.Sizes.{sizes}
 use Rattle.base_laws.specs.Wrote.{StandsAt}
 use Rattle.frame_reader.specs.Answers.{faultOf, spanOf}
 use Rattle.frame_op.specs.declared.Op

@@ -9,7 +9,7 @@ use lib.ListN.{length, length-append}
 use Rattle.model_frame.specs.Bytes.{bytesOf}
 use Rattle.model_frame.specs.Frame.{Frame}
 use Rattle.model_frame.specs.Reading.{maxBody}
-use Rattle.model_frame.specs.Writing.{bodyBytes, encode, fine}
+use Rattle.model_frame.specs.Writing.{bodyBytes, encode, fine, writeOutcome, took}
 use Rattle.model_frame.proofs.Le.{length-bytes}
 use Rattle.base_laws.specs.Wrote.{Wrote}
 use Rattle.base_laws.proofs.Writes.{wrote-on}
@@ -17,7 +17,7 @@ use Rattle.frame_writer.specs.declared.Written.{Written}
 use Rattle.frame_writer.specs.declared.Written
 use Rattle.frame_writer.specs.declared.Start.{Start}
 use Rattle.frame_writer.specs.declared.Start
-use Rattle.frame_writer.specs.Encoding.{frameIf, writeOutcome, took, Encoded, Started}
+use Rattle.frame_writer.specs.Encoding.{frameIf, Encoded, Started}
 
 module _ (version : ℕ) (t : Bool) (f : Frame) where
   -- a field can't be written

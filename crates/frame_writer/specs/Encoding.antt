@@ -4,15 +4,15 @@ use mathlib.Core.Path.{_≡_}
 use mathlib.Core.Bool.{Bool, true, false, cond, _&&_}
 use mathlib.Core.List.{List}
 use mathlib.Core.Option.{Option, none, some}
-use lib.Dec.{leb, ltb}
+use lib.Dec.{leb}
 use lib.ListN.{length, drop}
 use Rattle.model_frame.specs.Refusal
-use Rattle.model_frame.specs.Bytes.{bytesOf, write}
+use Rattle.model_frame.specs.Bytes.{bytesOf}
 use Rattle.model_frame.specs.Frame as the-frame
 use Rattle.model_frame.specs.Frame.{Key, Frame}
 use Rattle.model_frame.specs.Parse.{Res, ok, bad, Parser, many}
 use Rattle.model_frame.specs.Reading.{maxBody}
-use Rattle.model_frame.specs.Writing.{bodyBytes, encode, fine}
+use Rattle.model_frame.specs.Writing.{WriteAnswer, took, writeRefusal, writeOutcome, areaAfter, writeAnswer}
 use Rattle.base_laws.specs.Wrote.{Wrote}
 use Rattle.frame_reader.specs.declared.Span.{Span}
 use Rattle.frame_op.specs.declared.Run.{Run}
@@ -52,34 +52,7 @@ summarySize m = 40 + length (m .stampText) + length (m .marksText)
 abbrev pub frameIf : Bool → Frame → Option Frame
 frameIf t f = cond t (some f) none
 
--- ---- the outcome
-
-pub data WriteOutcome : Type 0 where
-  wrote : List ℕ → WriteOutcome
-  refused : ℕ → WriteOutcome
-
--- 8 a field that reading would refuse, or that the source doesn't have; 1 a body too long; 9 an area too short; in that order
-unfoldable pub writeOutcome : ℕ → Option Frame → ℕ → WriteOutcome
-writeOutcome version none room = refused Refusal.unreadable
-writeOutcome version (some f) room =
-    cond (fine version f)
-    (cond (ltb maxBody (length (bodyBytes f))) (refused Refusal.tooLong)
-    (cond (ltb room (length (encode f))) (refused Refusal.noRoom) (wrote (encode f))))
-    (refused Refusal.unreadable)
-
--- the area: the bytes at its start and the rest as it was; a refusal leaves all of it
-abbrev pub areaAfter : WriteOutcome → List ℕ → List ℕ
-areaAfter (wrote bs) out = write out 0 bs
-areaAfter (refused n) out = out
-
--- the answer's number: how many bytes were written, or the refusal
-pub data WriteAnswer : Type 0 where
-  took : ℕ → WriteAnswer
-  writeRefusal : ℕ → WriteAnswer
-
-abbrev pub writeAnswer : WriteOutcome → WriteAnswer
-writeAnswer (wrote bs) = took (length bs)
-writeAnswer (refused n) = writeRefusal n
+-- ---- the outcome, as the code has it
 
 abbrev pub writtenOf : Written → WriteAnswer
 writtenOf (Written.Bytes n) = took n

@@ -14,7 +14,7 @@ use Rattle.model_text.specs.Hex.{hexOf, lineBytes, refusalText}
 use Rattle.model_frame.specs.Bytes.{isBytes}
 use Rattle.model_frame.specs.Frame.{Frame}
 use Rattle.model_frame.specs.Reading.{maxBody}
-use Rattle.model_frame.specs.Writing.{bodyBytes, encode}
+use Rattle.model_frame.specs.Writing.{bodyBytes, encode, writeOutcome}
 use Rattle.model_frame.proofs.Le.{are-bytes, bytes-take}
 use Rattle.model_standby.specs.Answer as the-answer
 use Rattle.model_standby.specs.Answer.{reply, refused, done}
@@ -23,7 +23,6 @@ use Rattle.model_standby.specs.State.{Standby, onFrame}
 use Rattle.model_standby.proofs.Answering.{answerBytes, Tellable, Told, Telling, frame-told}
 use Rattle.store_log.proofs.Lawful.{Small}
 use Rattle.store_areas.proofs.Holding.{all-holdable}
-use Rattle.frame_writer.specs.Encoding.{writeOutcome}
 use Rattle.base_hex.specs.Lines.{ReadsLine, Puts, lineRead, lineLength}
 use Rattle.base_hex.specs.declared.Line.{Line}
 use Rattle.base_hex.specs.declared.Line.the-variants.{Bytes, Bad}

@@ -13,11 +13,11 @@ use Rattle.model_text.specs.Hex.{hexOf, refusalText}
 use Rattle.model_text.proofs.HexBack.{length-hex}
 use Rattle.model_frame.specs.Frame.{Frame}
 use Rattle.model_frame.specs.Reading.{maxBody}
-use Rattle.model_frame.specs.Writing.{bodyBytes, encode, fine}
+use Rattle.model_frame.specs.Writing.{bodyBytes, encode, fine, WriteOutcome, wrote, refused, writeOutcome, areaAfter, WriteAnswer, took, writeRefusal, writeAnswer}
 use Rattle.model_standby.specs.Answer as the-answer
 use Rattle.base_laws.proofs.Little.{write-is}
 use Rattle.base_hex.specs.Lines.{WroteFront, Puts}
-use Rattle.frame_writer.specs.Encoding.{WriteOutcome, wrote, refused, writeOutcome, areaAfter, WriteAnswer, took, writeRefusal, writeAnswer, writtenOf, Encoded}
+use Rattle.frame_writer.specs.Encoding.{writtenOf, Encoded}
 use Rattle.frame_writer.specs.declared.Written.{Written}
 use Rattle.frame_writer.specs.declared.Written
 use Rattle.standby_state.specs.declared.Answer as the-code

@@ -5,8 +5,8 @@ use mathlib.Core.Option.{some}
 use Rattle.model_text.specs.Hex.{hexOf, refusalText}
 use Rattle.model_standby.specs.Answer.{reply, refused, done, protocolVersion}
 use Rattle.model_standby.specs.Answer as the-answer
-use Rattle.frame_writer.specs.Encoding as the-writing
-use Rattle.frame_writer.specs.Encoding.{writeOutcome, wrote}
+use Rattle.model_frame.specs.Writing as the-writing
+use Rattle.model_frame.specs.Writing.{writeOutcome, wrote}
 
 -- the digits of what was written, or R and the number
 abbrev pub outcomeText : the-writing.WriteOutcome → List ℕ

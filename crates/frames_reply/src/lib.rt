@@ -3,7 +3,7 @@ ghost use mathlib.Core.Option.{some};
 ghost use Prim.Native.Nat.{_*_, _≤_};
 ghost use lib.ListN.{length};
 ghost use Rattle.base_hex.specs.Lines.{Puts};
-ghost use Rattle.frame_writer.specs.Encoding.{writeOutcome};
+ghost use Rattle.model_frame.specs.Writing.{writeOutcome};
 ghost use Rattle.standby_state.specs.Answers.{frameBy, answerOf};
 ghost use Rattle.frames_reply.specs.Texts.{outcomeText, answerText};
 use base_refusals::NO_ROOM;

@@ -12,7 +12,8 @@ use Rattle.model_frame.specs.Bytes.{isBytes}
 use Rattle.model_frame.specs.Frame.{Change, setIncoming, setIncomingInFlight, setInFlight, recordMsg, recordBare, reset, setCreatedAt, setMarks}
 use Rattle.model_frame.specs.Parse.{Res, ok, bad, readBytes, readNum, many, itemThen, collect, runBytes, Each}
 use Rattle.model_frame.specs.Reading.{readChange}
-use Rattle.model_frame.specs.Writing.{changeBytes, sizeOf, sizes, allFine, RangedChange, Sendable}
+use Rattle.model_frame.specs.Writing.{changeBytes, allFine, RangedChange, Sendable}
+use Rattle.model_frame.specs.Sizes.{sizeOf, sizes}
 use Rattle.model_frame.proofs.RoundTrip.{change-back, changes-back, each-sendable}
 use Rattle.model_frame.proofs.SoundChange.{TakenChange, change-sound}
 use Rattle.model_frame.proofs.Sizes.{change-size}

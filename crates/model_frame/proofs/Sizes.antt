@@ -7,7 +7,8 @@ use lib.ListN.{length, length-append}
 use Rattle.model_frame.specs.Bytes.{bytesOf}
 use Rattle.model_frame.specs.Frame.{Key, Change, setIncoming, setIncomingInFlight, setInFlight, recordMsg, recordBare, reset, setCreatedAt, setMarks, AppRecord, Summary, Frame, hello, welcome, bind, batch, ack, nack, bound, checked}
 use Rattle.model_frame.specs.Parse.{runBytes}
-use Rattle.model_frame.specs.Writing.{blobBytes, changeBytes, sizeOf, sizes, appRecordBytes, recordSizes, keyBytes, summaryBytes, bodyBytes, bodySize, encode}
+use Rattle.model_frame.specs.Writing.{blobBytes, changeBytes, appRecordBytes, keyBytes, summaryBytes, bodyBytes, encode}
+use Rattle.model_frame.specs.Sizes.{sizeOf, sizes, recordSizes, bodySize}
 use Rattle.model_frame.proofs.Le.{length-bytes}
 
 pub blob-size : (bs : List ℕ) → length (blobBytes bs) ≡ 4 + length bs

@@ -1,4 +1,4 @@
--- Little-endian numbers, parsers, frames as values, the numbers that stand for kinds and refusals, how frames are read and written.
+-- Little-endian numbers, parsers, frames as values, the numbers that stand for kinds and refusals, how frames are read and written, and how many bytes that takes.
 pub mod Bytes
 pub mod Parse
 pub mod Frame
@@ -9,3 +9,4 @@ pub mod ReasonByte
 pub mod Refusal
 pub mod Reading
 pub mod Writing
+pub mod Sizes

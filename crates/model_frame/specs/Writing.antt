@@ -1,16 +1,17 @@
--- How a frame is written, and which frames can be: those without a field that reading would refuse. Assumes nothing.
-use Prim.Native.Nat.{ℕ, _+_, _*_, _^_, _<_, _≤_}
+-- How a frame is written, which frames can be (those without a field that reading would refuse), and what writing one gives. Assumes nothing.
+use Prim.Native.Nat.{ℕ, _+_, _^_, _<_, _≤_}
 use mathlib.Core.Path.{_≡_}
-use mathlib.Core.Bool.{Bool, true, _&&_, _||_}
+use mathlib.Core.Bool.{Bool, true, cond, _&&_, _||_}
 use mathlib.Core.List.{List, [], _∷_, _++_}
 use mathlib.Core.Option.{Option, none, some}
-use lib.Dec.{T}
+use lib.Dec.{T, ltb}
 use lib.ListN.{length}
 use Rattle.model_text.specs.Utf8.{utf8}
 use Rattle.model_text.specs.Printable.{isMarks, isKey}
 use Rattle.model_text.specs.Stamp.{takesStamp}
-use Rattle.model_frame.specs.Bytes.{isBytes, bytesOf}
+use Rattle.model_frame.specs.Bytes.{isBytes, bytesOf, write}
 use Rattle.model_frame.specs.Frame.{Key, Change, setIncoming, setIncomingInFlight, setInFlight, recordMsg, recordBare, reset, setCreatedAt, setMarks, Part, commit, whole, lastWhole, Reason, staleEpoch, diverged, lagTooGreat, restarted, AppRecord, Summary, Frame, hello, welcome, bind, batch, ack, nack, bound, checked}
+use Rattle.model_frame.specs.Refusal
 use Rattle.model_frame.specs.FrameKind
 use Rattle.model_frame.specs.ChangeKind
 use Rattle.model_frame.specs.PartByte
@@ -30,21 +31,6 @@ changeBytes (recordBare n) = ChangeKind.recordBare ∷ bytesOf 8 n
 changeBytes reset = ChangeKind.reset ∷ []
 changeBytes (setCreatedAt t) = ChangeKind.setCreatedAt ∷ blobBytes t
 changeBytes (setMarks m) = ChangeKind.setMarks ∷ blobBytes m
-
--- a change's length in a frame, which is that of `changeBytes` (`change-size` in proofs/Sizes)
-abbrev pub sizeOf : Change → ℕ
-sizeOf (setIncoming n) = 9
-sizeOf (setIncomingInFlight n f) = 17
-sizeOf (setInFlight f) = 9
-sizeOf (recordMsg q w) = 13 + length w
-sizeOf (recordBare q) = 9
-sizeOf reset = 1
-sizeOf (setCreatedAt t) = 5 + length t
-sizeOf (setMarks m) = 5 + length m
-
-abbrev pub sizes : List Change → ℕ
-sizes [] = 0
-sizes (c ∷ cs) = sizeOf c + sizes cs
 
 unfoldable pub appRecordBytes : AppRecord → List ℕ
 appRecordBytes r = bytesOf 2 (r .kind) ++ blobBytes (r .blob)
@@ -85,22 +71,6 @@ bodyBytes (checked h e i) = FrameKind.checked ∷ bytesOf 4 h ++ bytesOf 8 e ++ 
 
 unfoldable pub encode : Frame → List ℕ
 encode f = bytesOf 4 (length (bodyBytes f)) ++ bodyBytes f
-
--- ---- for proofs: a record's length and a body's, which are those of their bytes (proofs/Sizes); a frame's is 4 more
-
-abbrev pub recordSizes : List AppRecord → ℕ
-recordSizes [] = 0
-recordSizes (r ∷ rs) = 6 + length (r .blob) + recordSizes rs
-
-abbrev pub bodySize : Frame → ℕ
-bodySize (hello v e node ks) = 19 + length node + 2 * length ks
-bodySize (welcome e i) = 17
-bodySize (bind h e lag k) = 37 + length (k .begin) + length (k .sender) + length (k .target) + length (k .suffix)
-bodySize (batch h e n p cs rs) = 30 + sizes cs + recordSizes rs
-bodySize (ack h n) = 13
-bodySize (nack h r) = 6
-bodySize (bound h m) = 45 + length (m .stampText) + length (m .marksText)
-bodySize (checked h e i) = 21
 
 -- ---- 8 in writing: a field that reading would refuse. Numbers and lengths fit their fields by their types in the code;
 -- here `Ranged` says it, and the texts are judged by `fine`.
@@ -176,6 +146,35 @@ pub record Writable (version : ℕ) (f : Frame) : Type 0 where
   pub ranged : Ranged f
   pub texts : fine version f ≡ true
   pub short : length (bodyBytes f) ≤ maxBody
+
+-- ---- writing a frame into an area: 8, 1, 9 or the bytes
+
+pub data WriteOutcome : Type 0 where
+  wrote : List ℕ → WriteOutcome
+  refused : ℕ → WriteOutcome
+
+-- of a frame, or none where it doesn't stand in what it is written from; 8 a field that reading would refuse, or no frame; 1 a body too long; 9 an area too short; in that order
+unfoldable pub writeOutcome : ℕ → Option Frame → ℕ → WriteOutcome
+writeOutcome version none room = refused Refusal.unreadable
+writeOutcome version (some f) room =
+    cond (fine version f)
+    (cond (ltb maxBody (length (bodyBytes f))) (refused Refusal.tooLong)
+    (cond (ltb room (length (encode f))) (refused Refusal.noRoom) (wrote (encode f))))
+    (refused Refusal.unreadable)
+
+-- the area: the bytes at its start and the rest as it was; a refusal leaves all of it
+abbrev pub areaAfter : WriteOutcome → List ℕ → List ℕ
+areaAfter (wrote bs) out = write out 0 bs
+areaAfter (refused n) out = out
+
+-- the answer's number: how many bytes were written, or the refusal
+pub data WriteAnswer : Type 0 where
+  took : ℕ → WriteAnswer
+  writeRefusal : ℕ → WriteAnswer
+
+abbrev pub writeAnswer : WriteOutcome → WriteAnswer
+writeAnswer (wrote bs) = took (length bs)
+writeAnswer (refused n) = writeRefusal n
 
 -- what reading gives back: an in-flight number 0 in a summary becomes none, and nothing else is lost
 abbrev pub noZero : Option ℕ → Option ℕ

@@ -10,7 +10,7 @@ use mathlib.Core.Bool.{Bool, true, false, cond}
 use lib.ListN.{length, length-append}
 use lib.Dec.{T, ltb, ltb→lt, nltb→le}
 use Rattle.model_frame.specs.Frame.{Change, recordMsg, reset, setMarks}
-use Rattle.model_frame.specs.Writing.{sizes}
+use Rattle.model_frame.specs.Sizes.{sizes}
 use Rattle.model_frame.proofs.Runs.{sizes-append}
 use Rattle.model_frame.specs.Parse.{Each}
 use Rattle.model_text.specs.Stamp.{isStamp, longestStamp}

@@ -16,7 +16,8 @@ use Rattle.model_frame.specs.Parse.{isEmpty, Each}
 use Rattle.model_frame.specs.Reading.{maxBody}
 use Rattle.model_frame.proofs.Sizes.{body-size}
 use Rattle.model_frame.proofs.Runs.{sizes-append, count-sizes}
-use Rattle.model_frame.specs.Writing.{Sendable, sizes, allFine, fine, RangedChange, Writable}
+use Rattle.model_frame.specs.Writing.{Sendable, allFine, fine, RangedChange, Writable}
+use Rattle.model_frame.specs.Sizes.{sizes}
 use Rattle.model_session.specs.Session.{Session, Msg, Holdable, Rising, isStampOrNone, smallFlight, storedBytes, top}
 use Rattle.model_session.specs.Whole.{allChanges, stampPart, skipTo, sendMsg, incomingPart, wholeBatches, framesOf, wholeFrames}
 use Rattle.model_session.proofs.Basics.{T→true, and-true, cond-cases, each-append, each-left, each-right, each-map}

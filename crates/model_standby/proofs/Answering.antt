@@ -14,7 +14,8 @@ use Rattle.model_text.proofs.Laws.{marks-is}
 use Rattle.model_session.proofs.Sending.{stamp-short}
 use Rattle.model_frame.specs.Frame.{Reason, lagTooGreat, restarted, Change, Part, staleEpoch, diverged, Frame, welcome, ack, nack, bound, checked}
 use Rattle.model_frame.specs.Parse.{Each}
-use Rattle.model_frame.specs.Writing.{encode, bodySize, Ranged, Writable, fine}
+use Rattle.model_frame.specs.Writing.{encode, Ranged, Writable, fine}
+use Rattle.model_frame.specs.Sizes.{bodySize}
 use Rattle.model_frame.proofs.Sizes.{body-size, encode-size}
 use Rattle.model_session.specs.Session.{Session, Holdable, isBytes, top}
 use Rattle.model_session.specs.Summary.{summary}

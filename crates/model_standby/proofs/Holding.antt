@@ -10,7 +10,7 @@ use lib.ListN.{length}
 use lib.Dec.{T, ltb, nltb→le}
 use Rattle.model_frame.specs.Frame.{Change, Part, commit, whole, lastWhole, staleEpoch, diverged, AppRecord, Frame, hello, welcome, bind, batch, ack, nack, bound, checked}
 use Rattle.model_frame.specs.Parse.{isEmpty}
-use Rattle.model_frame.specs.Writing.{sizes}
+use Rattle.model_frame.specs.Sizes.{sizes}
 use Rattle.model_frame.proofs.Runs.{sizes-append}
 use Rattle.model_frame.proofs.Sizes.{changes-size}
 use Rattle.model_session.proofs.Basics.{and-r, cond-cases, none≢some, some-inj, true≢false}

@@ -10,7 +10,7 @@ use lib.ListN.{length}
 use lib.Dec.{T, ltb, eqb, ltb→lt, nltb→le}
 use Rattle.model_frame.specs.Frame.{Key, Change, Part, commit, whole, lastWhole, Reason, staleEpoch, diverged, lagTooGreat, restarted, AppRecord, Frame, hello, welcome, bind, batch, ack, nack, bound, checked}
 use Rattle.model_frame.specs.Parse.{isEmpty}
-use Rattle.model_frame.specs.Writing.{sizes}
+use Rattle.model_frame.specs.Sizes.{sizes}
 use Rattle.model_session.specs.Session.{fits}
 use Rattle.model_session.specs.Summary.{summary}
 use Rattle.model_session.proofs.Basics.{T→true, cond-cases}

@@ -8,7 +8,8 @@ use lib.ListN.{length}
 use lib.Dec.{T}
 use Rattle.model_frame.specs.Frame.{Change, Frame, hello, welcome, bind, batch, ack, nack, bound, checked}
 use Rattle.model_frame.specs.Parse.{isEmpty, Each}
-use Rattle.model_frame.specs.Writing.{sizes, Writable}
+use Rattle.model_frame.specs.Writing.{Writable}
+use Rattle.model_frame.specs.Sizes.{sizes}
 use Rattle.model_session.specs.Session.{Holdable, Storable, isBytes, messageBytes, top}
 use Rattle.model_standby.specs.Answer.{protocolVersion}
 use Rattle.model_standby.specs.Row.{Used}

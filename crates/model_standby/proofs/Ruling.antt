@@ -16,7 +16,8 @@ use Rattle.model_text.proofs.Laws.{marks-is, takes-keeps}
 use Rattle.model_frame.specs.Frame.{Key, Change, setIncoming, setIncomingInFlight, setInFlight, recordMsg, recordBare, reset, setCreatedAt, setMarks, Part, Frame, hello, welcome, bind, batch, ack, nack, bound, checked, Decoded, more, faulty, got}
 use Rattle.model_frame.specs.Parse.{isEmpty, Each}
 use Rattle.model_frame.specs.Reading.{decode, maxBody}
-use Rattle.model_frame.specs.Writing.{sizes, fine, fineChange, allFine, Ranged, RangedChange, ByteChange, ByteFrame}
+use Rattle.model_frame.specs.Writing.{fine, fineChange, allFine, Ranged, RangedChange, ByteChange, ByteFrame}
+use Rattle.model_frame.specs.Sizes.{sizes}
 use Rattle.model_frame.proofs.Sizes.{body-size}
 use Rattle.model_frame.proofs.Sound.{decode-sound}
 use Rattle.model_session.specs.Session.{fits, messageBytes, top, Holdable, Storable, isBytes}

@@ -12,7 +12,8 @@ use lib.ListN.{length, getElem?}
 use lib.Dec.{ltb→lt, T, T-not, eqb, ltb}
 use Rattle.model_frame.specs.Frame.{Change, setIncoming, setIncomingInFlight, setInFlight, recordMsg, recordBare, reset, setCreatedAt, setMarks, Part, whole, lastWhole, Frame, batch, ack}
 use Rattle.model_frame.specs.Parse.{isEmpty, Each}
-use Rattle.model_frame.specs.Writing.{sizes, encode, Writable}
+use Rattle.model_frame.specs.Writing.{encode, Writable}
+use Rattle.model_frame.specs.Sizes.{sizes}
 use Rattle.model_frame.proofs.RoundTrip.{decode-alone}
 use Rattle.model_frame.proofs.Runs.{sizes-append}
 use Rattle.model_session.specs.Session.{Session, applyAll, fits, messageBytes, top, Holdable}

@@ -10,7 +10,8 @@ use mathlib.Core.Bool.{Bool, cond, not, _&&_, _||_}
 use lib.Dec.{ltb}
 use Rattle.model_frame.specs.Frame.{Change, Part, commit, whole, lastWhole, Frame, hello, welcome, bind, batch, ack, nack, bound, checked}
 use Rattle.model_frame.specs.Parse.{isEmpty, runBytes}
-use Rattle.model_frame.specs.Writing.{changeBytes, sizes}
+use Rattle.model_frame.specs.Writing.{changeBytes}
+use Rattle.model_frame.specs.Sizes.{sizes}
 use Rattle.model_standby.specs.Answer.{Given, damaged, intact}
 use Rattle.model_standby.specs.State.{Settings, Counters, Bound}
 use Rattle.model_standby.specs.Standby.{follows, startsWithReset, raised, maxWhole}

@@ -12,7 +12,7 @@ use Rattle.model_frame.specs.Bytes.{write}
 use Rattle.model_frame.specs.Frame.{Change, AppRecord, commit, whole, lastWhole, batch, nack, ack, staleEpoch, diverged}
 use Rattle.model_frame.specs.Frame as the-frame
 use Rattle.model_frame.specs.Parse.{isEmpty}
-use Rattle.model_frame.specs.Writing.{sizes}
+use Rattle.model_frame.specs.Sizes.{sizes}
 use Rattle.frame_fields.specs.declared.CommitNumber.{CommitNumber}
 use Rattle.frame_fields.specs.declared.Epoch.{Epoch}
 use Rattle.standby_row.specs.declared.Lookup.{Lookup}

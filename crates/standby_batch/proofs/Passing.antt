@@ -8,7 +8,7 @@ use lib.ListN.{length}
 use lib.Dec.{ltb}
 use Rattle.model_frame.specs.Frame.{Change, Part, commit, whole, lastWhole, ack, nack, diverged}
 use Rattle.model_frame.specs.Parse.{isEmpty}
-use Rattle.model_frame.specs.Writing.{sizes}
+use Rattle.model_frame.specs.Sizes.{sizes}
 use Rattle.model_session.specs.Session.{fits}
 use Rattle.model_standby.specs.Answer.{isReply}
 use Rattle.model_standby.specs.Store.{changed, sessionAt, orNew}

@@ -14,7 +14,7 @@ use Rattle.model_frame.specs.Bytes.{write}
 use Rattle.model_frame.specs.Frame.{Change, AppRecord, commit, whole, lastWhole, batch}
 use Rattle.model_frame.specs.Frame as the-frame
 use Rattle.model_frame.specs.Parse.{isEmpty}
-use Rattle.model_frame.specs.Writing.{sizes}
+use Rattle.model_frame.specs.Sizes.{sizes}
 use Rattle.model_frame.proofs.Sizes.{changes-size}
 use Rattle.model_frame.proofs.Runs.{sizes-append}
 use Rattle.standby_row.specs.declared.Lookup.{Lookup}

@@ -11,7 +11,7 @@ use borrow.Author.Tests.{lt-ltb, le-ltb}
 use Rattle.model_frame.specs.Bytes.{write}
 use Rattle.model_frame.specs.Frame.{Change, commit, whole, lastWhole, nack, diverged}
 use Rattle.model_frame.specs.Frame as the-frame
-use Rattle.model_frame.specs.Writing.{sizes}
+use Rattle.model_frame.specs.Sizes.{sizes}
 use Rattle.model_session.specs.Session.{top}
 use Rattle.frame_op.specs.Answers.{heldRun}
 use Rattle.standby_changes.proofs.Held.{held-none}

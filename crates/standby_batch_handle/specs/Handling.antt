@@ -8,7 +8,7 @@ use lib.ListN.{length, getD, take}
 use lib.Dec.{eqb, ltb}
 use Rattle.model_frame.specs.Frame.{Change, commit, whole, lastWhole}
 use Rattle.model_frame.specs.Bytes.{write}
-use Rattle.model_frame.specs.Writing.{sizes}
+use Rattle.model_frame.specs.Sizes.{sizes}
 use Rattle.frame_op.specs.Answers.{heldRun}
 use Rattle.model_frame.specs.Frame as the-frame
 use Rattle.model_session.specs.Session.{top}

@@ -10,7 +10,8 @@ use Rattle.model_frame.specs.Bytes.{isBytes, write}
 use Rattle.model_frame.specs.Frame.{Change, Fault, setIncoming, setIncomingInFlight, setInFlight, recordMsg, recordBare, reset, setCreatedAt, setMarks}
 use Rattle.model_frame.specs.Parse.{ok, bad, collect, runBytes, Each}
 use Rattle.model_frame.specs.Reading.{readChange}
-use Rattle.model_frame.specs.Writing.{changeBytes, sizeOf, sizes, Sendable}
+use Rattle.model_frame.specs.Writing.{changeBytes, Sendable}
+use Rattle.model_frame.specs.Sizes.{sizeOf, sizes}
 use Rattle.model_frame.proofs.Le.{bytes-take, bytes-drop}
 use Rattle.model_frame.proofs.Runs.{Stands, count-sizes, change-shorter, collect-run, collect-back, collect-sound, collect-enough}
 use Rattle.model_frame.proofs.SoundChange.{change-sound, taken-sendable}

@@ -10,7 +10,7 @@ use Rattle.model_frame.specs.Bytes.{isBytes}
 use Rattle.model_frame.specs.Frame.{Change, Fault}
 use Rattle.model_frame.specs.Parse.{Res, ok, bad, readBytes, readNum, readBlob, forget, collect}
 use Rattle.model_frame.specs.Reading.{recordMsgFields, readChange}
-use Rattle.model_frame.specs.Writing.{sizes}
+use Rattle.model_frame.specs.Sizes.{sizes}
 use Rattle.model_frame.proofs.Le.{are-bytes, bytes-drop}
 use Rattle.model_frame.proofs.Runs.{change-shorter}
 use Rattle.model_frame.proofs.SoundChange.{change-sound}

@@ -8,7 +8,8 @@ use lib.Dec.{ltb}
 use Rattle.model_frame.specs.Frame.{Change}
 use Rattle.model_frame.specs.Parse.{Res, ok, bad, forget, runBytes}
 use Rattle.model_frame.specs.Reading.{readChange}
-use Rattle.model_frame.specs.Writing.{changeBytes, sizes}
+use Rattle.model_frame.specs.Writing.{changeBytes}
+use Rattle.model_frame.specs.Sizes.{sizes}
 use Rattle.model_session.specs.Session.{fits, top}
 use Rattle.frame_op.specs.Answers.{opOf, runOf, heldRun}
 use Rattle.frame_op.specs.declared.Op.{Op}

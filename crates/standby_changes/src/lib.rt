@@ -6,7 +6,7 @@ ghost use lib.ListN.{length, drop};
 ghost use Rattle.model_frame.specs.Bytes.{write};
 ghost use Rattle.model_frame.specs.Parse.{isEmpty, collect, forget};
 ghost use Rattle.model_frame.specs.Reading.{readChange};
-ghost use Rattle.model_frame.specs.Writing.{sizes};
+ghost use Rattle.model_frame.specs.Sizes.{sizes};
 ghost use Rattle.model_session.specs.Session.{fits, messageLength, messageBytes};
 ghost use Rattle.model_standby.specs.Standby.{startsWithReset};
 ghost use Rattle.frame_op.specs.Answers.{opOf, heldRun, HasLength};

@@ -2,17 +2,18 @@
 use mathlib.Core.Path.{_≡_, refl, sym, ap, _∙_}
 use mathlib.Core.Bool.{Bool, true, false, cond, not, _&&_, _||_, true≢false}
 use mathlib.Core.List.{List, [], _∷_}
-use Prim.Native.Nat.{ℕ, zero, suc, _≤_, _<_, max}
+use Prim.Native.Nat.{ℕ, suc, _≤_, _<_, max}
 use native.Mathlib.Omega.{arith}
 use lib.Dec.{eqb}
 use borrow.Author.Tests.{eq-eqb, ne-eqb, not-true, not-false}
-use Rattle.store_areas.specs.Areas.{allowed, Rules}
+use Rattle.base_flags.specs.Flag.{isSet}
+use Rattle.store_areas.specs.Areas.{allowed}
 use Rattle.store_areas.proofs.Ruling.{rules-of}
 use Rattle.model_choice.specs.Choice as the-model
-use Rattle.model_choice.specs.Choice.{isCandidate, isAhead, isAheadOfAll, highest, fitsRule, chosen}
+use Rattle.model_choice.specs.Choice.{isCandidate, isAheadOfAll, highest, fitsRule, chosen}
 use Rattle.standby_choice.specs.declared.Copy.{Copy}
 use Rattle.standby_choice.specs.declared.Copies.{Copies}
-use Rattle.standby_choice.specs.Choice.{isSet, copyOf, isSound, RulesIf, raisedBy, highestOf, copiesOf, areSound, Kept, Chooses}
+use Rattle.standby_choice.specs.Choice.{isSound, RulesIf, raisedBy, highestOf, copiesOf, areSound, Kept, Chooses}
 
 -- ---- the highest epoch
 

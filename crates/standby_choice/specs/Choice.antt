@@ -1,19 +1,16 @@
 -- The copies that five descriptions and their stores' areas stand for, and what is answered. Assumes nothing.
 use mathlib.Core.Path.{_≡_}
 use Prim.Native.Nat.{ℕ, max}
-use mathlib.Core.Bool.{Bool, true, false, cond, not, _&&_, _||_}
+use mathlib.Core.Bool.{Bool, true, cond, not, _&&_, _||_}
 use mathlib.Core.List.{List, [], _∷_}
 use lib.Dec.{eqb}
+use Rattle.base_flags.specs.Flag.{isSet}
 use Rattle.store_areas.specs.Areas.{Rules, allowed, placesOf}
 use Rattle.model_choice.specs.Choice as the-model
 use Rattle.model_choice.specs.Choice.{chosen}
 use Rattle.standby_choice.specs.declared.Copy.{Copy}
 use Rattle.standby_choice.specs.declared.Copies.{Copies}
 use Rattle.standby_choice.specs.declared.Choice.{Choice}
-
--- a flag is 'not 0'
-abbrev pub isSet : ℕ → Bool
-isSet n = not (eqb n 0)
 
 -- ---- one copy and its store's two areas
 

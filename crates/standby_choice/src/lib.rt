@@ -5,7 +5,8 @@ ghost use Prim.Native.Nat.{ℕ, max};
 ghost use lib.Dec.{eqb};
 ghost use Rattle.store_areas.specs.Areas.{Rules, placesOf};
 ghost use Rattle.model_choice.specs.Choice.{isCandidate, isAhead, isAheadOfAll, chosen};
-ghost use Rattle.standby_choice.specs.Choice.{isSet, copyOf, isSound, RulesIf, raisedBy, highestOf, copiesOf, areSound, Kept, Chooses};
+ghost use Rattle.base_flags.specs.Flag.{isSet};
+ghost use Rattle.standby_choice.specs.Choice.{copyOf, isSound, RulesIf, raisedBy, highestOf, copiesOf, areSound, Kept, Chooses};
 use frame_fields::Epoch;
 use store_areas::Shape;
 

@@ -88,9 +88,6 @@ plain-of b (Frame.Checked x e i) h p = tt
 pub cleared-words : {t : Bool} (w : List ℕ) {w' : List ℕ} → t ≡ true → w' ≡ set w 1 0 → w' ≡ clearedIf t w
 cleared-words {t} w {w'} e f = f ∙ sym (ap (λ (x : Bool). clearedIf x w) e)
 
-pub left-words : {t : Bool} (w : List ℕ) → t ≡ false → w ≡ clearedIf t w
-left-words {t} w e = sym (ap (λ (x : Bool). clearedIf x w) e)
-
 module _ (s : Shape) (w b : List ℕ) (r : Rules s w b) where
   long : 66 ≤ length w
   long = omega (arith, r .room .words-long)

@@ -11,7 +11,7 @@ use borrow.Author.Tests.{lt-ltb, le-ltb, ne-eqb}
 use Rattle.model_frame.specs.Bytes.{write}
 use Rattle.model_frame.specs.Frame.{Change, setIncoming, setIncomingInFlight, setInFlight, recordMsg, recordBare, reset, setCreatedAt, setMarks}
 use Rattle.model_frame.specs.Parse.{isEmpty}
-use Rattle.model_frame.specs.Writing.{sizeOf, sizes}
+use Rattle.model_frame.specs.Sizes.{sizeOf, sizes}
 use Rattle.model_session.specs.Session.{messageBytes, top}
 use Rattle.model_standby.specs.Standby.{maxWhole, startsWithReset}
 use Rattle.frame_op.specs.Answers.{heldRun}

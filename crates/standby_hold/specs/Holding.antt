@@ -9,7 +9,7 @@ use Rattle.model_frame.specs.Refusal
 use Rattle.model_frame.specs.Bytes.{write}
 use Rattle.model_frame.specs.Frame.{Change}
 use Rattle.model_frame.specs.Parse.{isEmpty}
-use Rattle.model_frame.specs.Writing.{sizes}
+use Rattle.model_frame.specs.Sizes.{sizes}
 use Rattle.model_session.specs.Session.{messageBytes, top}
 use Rattle.model_standby.specs.Standby.{maxWhole, startsWithReset}
 use Rattle.frame_op.specs.Answers.{heldRun}

@@ -11,7 +11,7 @@ use borrow.Author.Tests.{eq-eqb, ne-eqb, eqb-false, ltb-false}
 use Rattle.model_frame.specs.Bytes.{isBytes, write}
 use Rattle.model_frame.specs.Frame.{Part, Change, whole, lastWhole, ack, nack, diverged}
 use Rattle.model_frame.specs.Parse.{isEmpty}
-use Rattle.model_frame.specs.Writing.{sizes}
+use Rattle.model_frame.specs.Sizes.{sizes}
 use Rattle.model_frame.proofs.Runs.{sizes-append}
 use Rattle.model_frame.proofs.Le.{are-bytes}
 use Rattle.frame_op.specs.Answers.{heldRun}

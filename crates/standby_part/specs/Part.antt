@@ -8,7 +8,7 @@ use lib.Dec.{eqb}
 use Rattle.model_frame.specs.Bytes.{write}
 use Rattle.model_frame.specs.Frame.{Change, whole, diverged, ack, nack}
 use Rattle.model_frame.specs.Frame as the-frame
-use Rattle.model_frame.specs.Writing.{sizes}
+use Rattle.model_frame.specs.Sizes.{sizes}
 use Rattle.frame_op.specs.Answers.{heldRun}
 use Rattle.standby_row.specs.declared.Bound.{Bound}
 use Rattle.store_areas.specs.declared.Shape.{Shape}

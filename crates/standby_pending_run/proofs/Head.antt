@@ -3,11 +3,11 @@ use mathlib.Core.Path.{_≡_, sym, ap, _∙_}
 use mathlib.Core.List.{List}
 use Prim.Native.Nat.{ℕ, _+_, _≤_, _<_}
 use native.Mathlib.Omega.{arith}
-use lib.ListN.{length, take, getD, set, length-set}
+use lib.ListN.{length, take, getD, set}
 use lib.Seq.{getD-take, getD-set-same}
 use Rattle.store_place.specs.Only.{Only}
 use Rattle.store_place.specs.Place.{placeIn}
-use Rattle.store_place.proofs.Fields.{only-after, only-set, only-then, only-wider}
+use Rattle.store_place.proofs.Fields.{only-after, only-set, only-wider}
 use Rattle.store_areas.specs.declared.Shape.{Shape}
 use Rattle.store_areas.specs.Areas.{placeWords, placeBytes, wordsAt, bytesAt, Rules, slice, placeAt, countUp, placesOf}
 use Rattle.store_areas.proofs.Lists.{count-same, word-kept}
@@ -60,20 +60,8 @@ module _ (s : Shape) (w w' b : List ℕ) (o : Only 1 66 w w') where
 abbrev pub pushedWords : ℕ → ℕ → List ℕ → List ℕ
 pushedWords n x w = set (set w (2 + n) x) 1 (n + 1)
 
-pub push-only : (n x : ℕ) (w : List ℕ) → n < 64 → Only 1 66 w (pushedWords n x w)
-push-only n x w h =
-    let one : Only 1 66 w (set w (2 + n) x) = only-wider (2 + n) (2 + n + 1) 1 66 w (set w (2 + n) x) (only-set (2 + n) x w) (omega arith) (omega arith) in
-    let two : Only 1 66 (set w (2 + n) x) (pushedWords n x w) = only-wider 1 2 1 66 (set w (2 + n) x) (pushedWords n x w) (only-set 1 (n + 1) (set w (2 + n) x)) (omega arith) (omega arith) in
-    only-then 1 66 w (set w (2 + n) x) (pushedWords n x w) one two
-
 pub clear-only : (w : List ℕ) → Only 1 66 w (set w 1 0)
 clear-only w = only-wider 1 2 1 66 w (set w 1 0) (only-set 1 0 w) (omega arith) (omega arith)
-
-pub push-rules : (s : Shape) (n x : ℕ) (w b : List ℕ) → n < 64 → Rules s w b → Rules s (pushedWords n x w) b
-push-rules s n x w b h r =
-    let inside : 1 < length (set w (2 + n) x) = omega (arith, r .room .words-long, length-set w (2 + n) x) in
-    let count : getD (pushedWords n x w) 1 0 ≡ n + 1 = getD-set-same (set w (2 + n) x) 1 (n + 1) 0 inside in
-    rules-stay s w (pushedWords n x w) b (push-only n x w h) r (omega arith)
 
 pub clear-rules : (s : Shape) (w b : List ℕ) → Rules s w b → Rules s (set w 1 0) b
 clear-rules s w b r =

@@ -10,7 +10,7 @@ use lib.ListN.{length}
 use Rattle.base_flags.specs.Flag.{isSet}
 use Rattle.model_frame.specs.Frame.{Key, Change, Part, commit, whole, lastWhole, staleEpoch, AppRecord, Frame, hello, welcome, bind, batch, ack, nack, bound, checked}
 use Rattle.model_frame.specs.Parse.{isEmpty}
-use Rattle.model_frame.specs.Writing.{sizes}
+use Rattle.model_frame.specs.Sizes.{sizes}
 use Rattle.model_session.specs.Session.{fits}
 use Rattle.model_session.proofs.Basics.{none≢some}
 use Rattle.store_areas.specs.declared.Shape.{Shape}

@@ -8,7 +8,7 @@ use lib.Dec.{eqb, ltb}
 use lib.ListN.{length}
 use Rattle.model_frame.specs.Frame.{Key, Change, Part, commit, whole, lastWhole, AppRecord, Frame, hello, welcome, bind, batch, ack, nack, bound, checked}
 use Rattle.model_frame.specs.Parse.{isEmpty}
-use Rattle.model_frame.specs.Writing.{sizes}
+use Rattle.model_frame.specs.Sizes.{sizes}
 use Rattle.model_session.specs.Session.{fits}
 use Rattle.model_standby.specs.Answer.{protocolVersion, Given, damaged, intact, given, Answer, reply, refused, done}
 use Rattle.model_standby.specs.Row.{isSome}

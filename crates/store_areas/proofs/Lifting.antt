@@ -2,7 +2,7 @@
 use mathlib.Core.Path.{_≡_, refl, sym, ap, _∙_, subst}
 use mathlib.Core.Logic.{_⊎_, inl, inr}
 use mathlib.Core.List.{List, _++_}
-use mathlib.Core.Option.{Option, some, Option·map}
+use mathlib.Core.Option.{some, Option·map}
 use Prim.Native.Nat.{ℕ, _+_, _-_, _*_, _≤_, _<_}
 use native.Mathlib.Omega.{arith}
 use lib.ListN.{length, take, drop, getD, getElem?}
@@ -237,15 +237,3 @@ unfolding placesOf placeAt
 heads-places s w w' b o =
     ap (countUp (placeAt s w' b) 0) (word-kept 1 66 0 w w' o (omega arith))
     ∙ count-same (placeAt s w b) (placeAt s w' b) 0 (getD w 0 0) (λ j _ l. ap (λ (x : List ℕ). placeIn (s .bytes) (s .messages) x (slice (bytesAt s j) (placeBytes s) b)) (part-kept 1 66 (wordsAt s j) (placeWords s) w w' o (inr (omega arith))))
-
-pub heads-rules : (s : Shape) (w w' b : List ℕ) → Only 1 66 w w' → getD w' 1 0 ≤ 64 → Rules s w b → Rules s w' b
-heads-rules s w w' b o h r = record {
-  room = record {
-    bytes-limit = r .room .bytes-limit;
-    messages-limit = r .room .messages-limit;
-    words-long = omega (arith, r .room .words-long, o .same-length);
-    bytes-long = r .room .bytes-long;
-  };
-  used = omega (arith, r .used, word-kept 1 66 0 w w' o (omega arith));
-  pending = h;
-}

@@ -33,8 +33,8 @@ pub mod word {
     pub const COMMITS: usize = 2;
 }
 
-// The most commits that can be pending.
-pub const MAX_PENDING: u64 = 64;
+// The most commits that can be pending: each has a word.
+pub const MAX_PENDING: u64 = (COUNT_WORDS - word::COMMITS) as u64;
 
 // The answer to making a store.
 pub enum Made {

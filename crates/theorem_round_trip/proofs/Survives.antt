@@ -15,12 +15,12 @@ use Rattle.model_frame.specs.Bytes.{isBytes, write}
 use Rattle.model_frame.specs.Frame as the-frame
 use Rattle.model_frame.specs.Frame.{got}
 use Rattle.model_frame.specs.Reading.{maxBody, decode}
-use Rattle.model_frame.specs.Writing.{bodyBytes, encode, fine, shown}
+use Rattle.model_frame.specs.Writing.{bodyBytes, encode, fine, shown, WriteOutcome, writeOutcome, wrote, refused, areaAfter, took, writeRefusal, writeAnswer}
 use Rattle.model_frame.proofs.RoundTrip.{decode-encode}
 use Rattle.base_laws.proofs.Little.{write-is}
 use Rattle.frame_writer.specs.declared.Written
 use Rattle.frame_writer.specs.declared.Written.{Written}
-use Rattle.frame_writer.specs.Encoding.{WriteOutcome, writeOutcome, wrote, refused, areaAfter, took, writeRefusal, writeAnswer, writtenOf, frameIf, Encoded}
+use Rattle.frame_writer.specs.Encoding.{writtenOf, frameIf, Encoded}
 use Rattle.frame.specs.declared.Frame.{Frame}
 use Rattle.frame.specs.declared.Decoded.{Decoded}
 use Rattle.frame.specs.Answers.{frameOf, readingOf, readable, frameIn}

@@ -8,8 +8,7 @@ use mathlib.Core.Bool.{Bool, true, false}
 use mathlib.Core.List.{List}
 use lib.ListN.{length, drop}
 use Rattle.model_frame.specs.Frame.{got}
-use Rattle.model_frame.specs.Writing.{shown}
-use Rattle.frame_writer.specs.Encoding.{WriteOutcome, wrote, refused, writeOutcome}
+use Rattle.model_frame.specs.Writing.{shown, WriteOutcome, wrote, refused, writeOutcome}
 use Rattle.frame.specs.declared.Frame.{Frame}
 use Rattle.frame.specs.Answers.{frameOf, readingOf, frameIn}
 use Rattle.theorem_round_trip.specs.declared.ReadAgain

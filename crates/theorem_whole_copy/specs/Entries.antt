@@ -15,7 +15,7 @@ use Rattle.replica.proofs.on_frame as on-frame
 use Rattle.replica.proofs.flush as flush-call
 use Rattle.replica.proofs.disconnected_from as disconnected-from
 use Rattle.model_session.specs.Whole.{batchLimit}
-use Rattle.active.specs.Whole.{storedAt, startOf, startFrom, SendsWhole}
+use Rattle.active.specs.Whole.{Begins, SendsWhole}
 use Rattle.active.proofs.Sending.begin as begin-call
 use Rattle.active.proofs.Sending.send_whole as send-whole
 use Rattle.theorem_whole_copy.specs.Demand.{Lent, Calls}
@@ -68,7 +68,7 @@ pub record Joined (m : World) : Type 2 where
   pub begin-gives :
       (κs : Lfts (begin-call.signature .lifetimes)) (a : ArgsD begin-call.signature κs) (r : ResD begin-call.signature κs) (e : AtExit begin-call.ended κs) →
       Gives m (begin-call.clauses (m .𝓤) (m .H) (m .𝓖 .A) (m .𝓜 .mem) (m .𝓡 .run) κs a .ensures tt r e)
-      (startOf r ≡ startFrom batchLimit (storedAt (a .0) (now (a .1 .0)) (now (a .1 .1 .0)) (a .1 .1 .1 .0)) (a .1 .1 .1 .0) (a .1 .1 .1 .1 .0) (a .1 .1 .1 .1 .1 .0 .0) (a .1 .1 .1 .1 .1 .1 .0 .0))
+      (Begins batchLimit (a .0) (now (a .1 .0)) (now (a .1 .1 .0)) (a .1 .1 .1 .0) (a .1 .1 .1 .1 .0) (a .1 .1 .1 .1 .1 .0 .0) (a .1 .1 .1 .1 .1 .1 .0 .0) r)
   pub begin-asks-nothing :
       (κs : Lfts (begin-call.signature .lifetimes)) (a : ArgsD begin-call.signature κs) →
       AsksNothing m (begin-call.clauses (m .𝓤) (m .H) (m .𝓖 .A) (m .𝓜 .mem) (m .𝓡 .run) κs a .requires tt)

@@ -137,7 +137,7 @@ fn start(shape: Shape) -> Way {
             epoch: Epoch(0),
             last: CommitNumber(0),
             from: 0,
-            done: true,
+            done: 1,
         },
         len: 0,
         before: 0,

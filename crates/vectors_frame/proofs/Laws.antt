@@ -10,8 +10,8 @@ use lib.Dec.{ltb}
 use lib.ListN.{length}
 use Rattle.model_frame.specs.Frame.{Frame}
 use Rattle.model_frame.specs.Reading.{maxBody}
-use Rattle.model_frame.specs.Writing.{bodyBytes, encode, fine}
-use Rattle.frame_writer.specs.Encoding.{wrote, refused, writeOutcome, WriteAnswer, took, writeRefusal, writeAnswer, Encoded}
+use Rattle.model_frame.specs.Writing.{bodyBytes, encode, fine, wrote, refused, writeOutcome, WriteAnswer, took, writeRefusal, writeAnswer}
+use Rattle.frame_writer.specs.Encoding.{Encoded}
 use Rattle.frame_writer.specs.declared.Written.{Written}
 use Rattle.frame_writer.specs.declared.Written
 

@@ -15,7 +15,7 @@ fn put_number(name: &[u8], n: u64) {
 }
 
 // The numbers that went: the first of those that waited, and then the one pushed.
-fn put_gone(waiting: [u64; 65], count: usize, last: u64, gone: usize) {
+fn put_gone(waiting: [u64; ReplicatedLog::MAX_QUEUED + 1], count: usize, last: u64, gone: usize) {
     let mut i: usize = 0;
     while i < gone {
         if 0 < i {
@@ -77,7 +77,7 @@ fn queue(line: &[u8]) {
     let q = ReplicatedLog {
         drained_through: drained,
         count: vectors_script::field(line, 2) as usize,
-        queued: [0; 65],
+        queued: [0; ReplicatedLog::MAX_QUEUED + 1],
     };
     series(line, vectors_script::start(line, 3), q, max_lag);
 }

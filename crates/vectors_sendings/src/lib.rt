@@ -169,7 +169,7 @@ pub fn odd(
         epoch: Epoch(0),
         last: CommitNumber(last),
         from,
-        done: false,
+        done: 0,
     };
     turn(s, shape, words, bytes, out);
 }

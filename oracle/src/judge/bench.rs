@@ -149,17 +149,21 @@ impl Pair {
     }
 }
 
-fn decoding() -> Row {
-    // A frame's head, the change's and the count of records are 47 bytes.
-    let commit = Commit::new(153);
-    assert_eq!(commit.0.len(), 200);
-    let frame = black_box(commit.0);
+fn decoding(name: &str, frame: Vec<u8>) -> Row {
+    let frame = black_box(frame);
     timed(
-        "decode of a 200-byte Commit",
+        name,
         1_000_000,
         || assert!(outcome(library::read(black_box(&frame))).is_ok()),
         || assert!(black_box(Frame::decode(black_box(&frame))).is_ok()),
     )
+}
+
+/// A Commit of 200 bytes: a frame's head, the change's and the count of records are 47 of them.
+fn small_commit() -> Vec<u8> {
+    let commit = Commit::new(153);
+    assert_eq!(commit.0.len(), 200);
+    commit.0
 }
 
 fn encoding() -> Row {
@@ -294,7 +298,8 @@ pub fn bench() -> ExitCode {
 }
 
 fn calls() {
-    print(&decoding());
+    print(&decoding("decode of a 200-byte Commit", small_commit()));
+    print(&decoding("decode of a Bind", wire::bind(0, 0, 64, &key(0))));
     print(&encoding());
     for (c, m) in [(4096, 64), (1 << 20, 1024)] {
         for sessions in [1, 50] {

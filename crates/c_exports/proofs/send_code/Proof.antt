@@ -8,7 +8,7 @@ use Rattle.c_exports.proofs.send_code.Statement.{statement}
 use Rattle.c_exports.proofs.send_code.Tie as tie
 
 returns : tie.Need-returns
-returns c = sends-frame batchLimit (c .before .before .before .before .before .before .before .before .before .before .before .before .before .before .before .before .before .before .args .shape) (now (c .before .before .before .before .before .before .before .before .before .before .before .before .before .before .before .before .before .before .args .words)) (now (c .before .before .before .before .before .before .before .before .before .before .before .before .before .before .before .before .before .before .args .bytes)) (c .before .before .before .before .before .before .before .before .before .before .before .before .before .before .before .before .before .before .args .state) (now (c .before .before .before .before .before .before .before .before .before .before .before .before .before .before .before .before .before .before .args .sending)) (c .before .before .before .before .before .before .before .before .before .before .before .before .send-whole .ensures) (omega arith) (c .before .before .before .before .before .before .before .before .len .given .1) (c .before .before .before .before .flag .ensures) (c .before .before .before .put-sending .ensures) (c .done .ensures)
+returns c = sends-frame batchLimit (c .before .before .before .before .before .before .before .before .before .before .before .before .before .before .before .before .before .before .args .shape) (now (c .before .before .before .before .before .before .before .before .before .before .before .before .before .before .before .before .before .before .args .words)) (now (c .before .before .before .before .before .before .before .before .before .before .before .before .before .before .before .before .before .before .args .bytes)) (c .before .before .before .before .before .before .before .before .before .before .before .before .before .before .before .before .before .before .args .state) (now (c .before .before .before .before .before .before .before .before .before .before .before .before .before .before .before .before .before .before .args .sending)) (c .before .before .before .before .before .before .before .before .before .before .before .before .send-whole .ensures) (omega arith) (c .before .before .before .before .before .before .before .before .len .given .1) (c .before .before .before .put-sending .ensures) (c .done .ensures)
 
 returns-2 : tie.Need-returns-2
 returns-2 c = sends-done batchLimit (c .before .before .before .before .before .before .before .before .before .before .args .shape) (now (c .before .before .before .before .before .before .before .before .before .before .args .words)) (now (c .before .before .before .before .before .before .before .before .before .before .args .bytes)) (c .before .before .before .before .before .before .before .before .before .before .args .state) (now (c .before .before .before .before .before .before .before .before .before .before .args .sending)) (c .before .before .before .before .send-whole .ensures) (c .enum-told .given .1) refl
@@ -25,7 +25,7 @@ send-code-spec =
     (tie.spec
     (λ c κs. search needs)
     (λ c. search needs)
-    (λ c κs. search needs)
+    (λ c. search needs)
     (λ c κs. search needs)
     (λ c κs. search needs)
     (λ c. search needs)

@@ -1,7 +1,7 @@
 use mathlib.Core.Path.{_≡_, ap, sym}
 use mathlib.Core.Bool.{Bool, not}
 use borrow.Author.Tests.{eq-eqb, ne-eqb}
-use Rattle.active_lease.specs.Held.{byte}
+use Rattle.base_flags.specs.Flag.{byte}
 use Rattle.c_lease.proofs.flag_of.Statement.{statement}
 use Rattle.c_lease.proofs.flag_of.Tie as tie
 

@@ -1,7 +1,7 @@
 use native.Mathlib.Omega.{arith}
 use borrow.Author.Needs.{needs}
 use mathlib.Core.Bool.{_&&_}
-use Rattle.standby_choice.specs.Choice.{isSet}
+use Rattle.base_flags.specs.Flag.{isSet}
 use Rattle.standby_choice.proofs.Laws.{not-raised, raised-not, raised-so}
 use Rattle.standby_choice.proofs.raised.Statement.{statement}
 use Rattle.standby_choice.proofs.raised.Tie as tie
