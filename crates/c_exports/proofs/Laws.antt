@@ -1,12 +1,12 @@
 -- What the exported functions return, from what the functions that they call promise. Assumes nothing.
 use mathlib.Core.Path.{_≡_, refl, sym, ap, subst, _∙_}
 use mathlib.Core.Bool.{Bool, true, false, cond}
-use mathlib.Core.List.{List}
+use mathlib.Core.List.{List, []}
 use mathlib.Core.Option.{Option, some}
 use Prim.Native.Nat.{ℕ, _+_, _-_, _*_, _^_, _<_, _≤_}
 use native.Mathlib.Omega.{arith}
 use borrow.Author.Tests.{lt-ltb, le-ltb, eq-eqb, ne-eqb}
-use lib.Dec.{T, ltb}
+use lib.Dec.{T, ltb, eqb}
 use lib.ListN.{length, take}
 use lib.Seq.{length-take-le}
 use Rattle.base_laws.proofs.Little.{write-none}
@@ -15,7 +15,6 @@ use Rattle.model_frame.specs.Frame.{Frame}
 use Rattle.model_frame.specs.Frame as the-frame
 use Rattle.model_frame.specs.Reading.{decode}
 use Rattle.model_frame.specs.Writing.{encode, WriteOutcome, wrote, refused, writeOutcome, writeAnswer, areaAfter}
-use Rattle.model_standby.specs.Answer as the-answer
 use Rattle.frame_reader.specs.declared.FrameError.{FrameError}
 use Rattle.frame_reader.specs.declared.Field.{Field}
 use Rattle.frame_reader.specs.declared.Value
@@ -33,14 +32,13 @@ use Rattle.store_areas.specs.declared.Shape.{Shape}
 use Rattle.store_areas.specs.declared.Made.{Made}
 use Rattle.store_areas.specs.declared.Made.the-variants.{Ready, InvalidAreas}
 use Rattle.store_areas.specs.Areas.{roomy, madeNumber, Making}
-use Rattle.standby_state.specs.declared.Answer as code
-use Rattle.standby_state.specs.Answers.{frameBy}
-use Rattle.standby_state.specs.Answers as replies
+use Rattle.standby_state.specs.declared.Answer.{Answer}
+use Rattle.standby_reply.specs.Replies.{frameFor}
 use Rattle.c_session.specs.Telling as telling
 use Rattle.c_session.specs.Telling.{toldOf}
 use Rattle.c_session.specs.declared.SessionWritten.{SessionWritten}
 use Rattle.c_exports.specs.Returned.{refusalCode, doneCode, fieldNumber, faultDetail, faultCode, readCode, writtenCode, takenCode}
-use Rattle.c_exports.specs.Exports.{Again, rewritten, Rewrites, Makes, TellsPlace, TellsAnswer}
+use Rattle.c_exports.specs.Exports.{Again, rewritten, Rewrites, Makes, TellsPlace, told, TellsAnswer}
 
 -- ---- numbers
 
@@ -120,23 +118,25 @@ module _ {s : Shape} {w w' b : List ℕ} {d : Made} {r : ℕ} where
 
 -- ---- answers
 
-module _ (b : List ℕ) (a : code.Answer) (out : List ℕ) {r : ℕ} where
-  pub tells-refusal : (a .refusal ≡ 0 → ⊥) → r ≡ refusalCode (a .refusal) 0 → TellsAnswer (replies.answerOf b a) out out r
-  tells-refusal n q =
-      let e : replies.answerOf b a ≡ the-answer.refused (a .refusal) = rw (ne-eqb (a .refusal) 0 n) refl in
-      rw e (record { answer = q; area = refl })
+module _ (b : List ℕ) (a : Answer) (out : List ℕ) where
+  abbrev By : Bool → Bool → WriteOutcome
+  By t u = cond t (cond u (wrote []) (writeOutcome 1 (frameFor b a) (length out))) (refused (a .refusal))
 
-  pub tells-nothing : a .refusal ≡ 0 → a .kind ≡ 0 → r ≡ doneCode 0 → TellsAnswer (replies.answerOf b a) out out r
-  tells-nothing z k q =
-      let e : replies.answerOf b a ≡ the-answer.done = rw (eq-eqb (a .refusal) 0 z, eq-eqb (a .kind) 0 k) refl in
-      rw e (record { answer = q; area = sym (write-none out 0) })
+  tells : {o : WriteOutcome} {out' : List ℕ} {r : ℕ} → told b a (length out) ≡ o → r ≡ writtenCode (writeAnswer o) → out' ≡ areaAfter o out → TellsAnswer b a out out' r
+  tells e q p =
+      record {
+        answer = q ∙ ap (λ (x : WriteOutcome). writtenCode (writeAnswer x)) (sym e);
+        area = p ∙ ap (λ (x : WriteOutcome). areaAfter x out) (sym e);
+      }
 
-  pub tells-frame :
-      {out' : List ℕ} {x : Written} → a .refusal ≡ 0 → (a .kind ≡ 0 → ⊥) → Encoded 1 (some (frameBy b a)) out out' x → r ≡ writtenCode (writtenOf x)
-      → TellsAnswer (replies.answerOf b a) out out' r
-  tells-frame z k w q =
-      let e : replies.answerOf b a ≡ the-answer.reply (frameBy b a) = rw (eq-eqb (a .refusal) 0 z, ne-eqb (a .kind) 0 k) refl in
-      rw e (record { answer = q ∙ ap writtenCode (w .answer); area = w .area })
+  pub tells-refusal : {r : ℕ} → (a .refusal ≡ 0 → ⊥) → r ≡ refusalCode (a .refusal) 0 → TellsAnswer b a out out r
+  tells-refusal n q = tells (ap (λ (t : Bool). By t (eqb (a .kind) 0)) (ne-eqb (a .refusal) 0 n)) q refl
+
+  pub tells-nothing : {r : ℕ} → a .refusal ≡ 0 → a .kind ≡ 0 → r ≡ doneCode 0 → TellsAnswer b a out out r
+  tells-nothing z k q = tells (λ j. By (eq-eqb (a .refusal) 0 z j) (eq-eqb (a .kind) 0 k j)) q (sym (write-none out 0))
+
+  pub tells-frame : {r : ℕ} {out' : List ℕ} {x : Written} → a .refusal ≡ 0 → (a .kind ≡ 0 → ⊥) → Encoded 1 (frameFor b a) out out' x → r ≡ writtenCode (writtenOf x) → TellsAnswer b a out out' r
+  tells-frame z k w q = tells (λ j. By (eq-eqb (a .refusal) 0 z j) (ne-eqb (a .kind) 0 k j)) (q ∙ ap writtenCode (w .answer)) (w .area)
 
 pub written-as : {w x : Written} {r : ℕ} → w ≡ x → r ≡ writtenCode (writtenOf x) → r ≡ writtenCode (writtenOf w)
 written-as p q = q ∙ ap (λ (y : Written). writtenCode (writtenOf y)) (sym p)

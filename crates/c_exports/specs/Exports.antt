@@ -3,13 +3,14 @@ use mathlib.Core.Path.{_≡_}
 use Prim.Native.Nat.{ℕ}
 use mathlib.Core.Bool.{Bool, cond}
 use mathlib.Core.List.{List, []}
-use mathlib.Core.Option.{Option, some}
+use mathlib.Core.Option.{Option}
 use lib.ListN.{length, set}
-use lib.Dec.{ltb}
+use lib.Dec.{ltb, eqb}
 use Rattle.model_frame.specs.Refusal
 use Rattle.model_frame.specs.Frame.{Frame, Decoded, more, faulty, got}
 use Rattle.model_frame.specs.Writing.{encode, WriteOutcome, wrote, refused, writeOutcome, areaAfter, writeAnswer}
-use Rattle.model_standby.specs.Answer as the-answer
+use Rattle.standby_state.specs.declared.Answer.{Answer}
+use Rattle.standby_reply.specs.Replies.{frameFor}
 use Rattle.c_session.specs.Telling as telling
 use Rattle.store_areas.specs.StoreWord
 use Rattle.store_areas.specs.declared.Shape.{Shape}
@@ -62,13 +63,11 @@ pub record TellsPlace (bytes : Option (List ℕ)) (out out' : List ℕ) (r : ℕ
 
 -- ---- the standby's answers
 
--- an answer without a frame is no bytes; a frame is written, or refused as in writing
-abbrev pub told : the-answer.Answer → ℕ → WriteOutcome
-told (the-answer.reply f) room = writeOutcome 1 (some f) room
-told (the-answer.refused n) room = refused n
-told the-answer.done room = wrote []
+-- a refusal is itself, done is no bytes; a frame is written, or refused as in writing: 8 for what is no frame
+abbrev pub told : List ℕ → Answer → ℕ → WriteOutcome
+told b a room = cond (eqb (a .refusal) 0) (cond (eqb (a .kind) 0) (wrote []) (writeOutcome 1 (frameFor b a) room)) (refused (a .refusal))
 
 -- that outcome's number, and the area as it leaves it
-pub record TellsAnswer (a : the-answer.Answer) (out out' : List ℕ) (r : ℕ) : Type 0 where
-  pub answer : r ≡ writtenCode (writeAnswer (told a (length out)))
-  pub area : out' ≡ areaAfter (told a (length out)) out
+pub record TellsAnswer (b : List ℕ) (a : Answer) (out out' : List ℕ) (r : ℕ) : Type 0 where
+  pub answer : r ≡ writtenCode (writeAnswer (told b a (length out)))
+  pub area : out' ≡ areaAfter (told b a (length out)) out

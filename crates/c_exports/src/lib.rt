@@ -10,7 +10,6 @@ ghost use Rattle.frame_reader.specs.Answers.{fieldOf, faultOf};
 ghost use Rattle.model_frame.specs.Writing.{writeOutcome};
 ghost use Rattle.frame_writer.specs.Encoding.{writtenOf};
 ghost use Rattle.frame.specs.Answers.{frameIn};
-ghost use Rattle.standby_state.specs.Answers.{answerOf};
 ghost use Rattle.active.specs.Whole.{ready, senderOf, storedAt};
 ghost use Rattle.c_session.specs.Telling.{toldAt, toldOf};
 ghost use Rattle.c_exports.specs.Returned.{refusalCode, doneCode, fieldNumber, faultDetail, faultCode, readCode, writtenCode, takenCode};
@@ -381,10 +380,10 @@ pub extern "C" fn wz_queue(queue: &mut [u64], max_lag: u64, last: u64) -> u64
 
 // ---- the standby's answers
 
-// An answer's frame; 0 bytes where it has none. The byte area is the store's.
+// An answer's frame; 0 bytes for done, 8 for a record that is no answer. The byte area is the store's.
 #[no_mangle]
 pub extern "C" fn wz_answer(answer: Answer, bytes: &[u8], out: &mut [u8]) -> u64
-    ensures { λ r. ⌜ TellsAnswer (answerOf (now (bytes .entry)) answer) (now (out .entry)) (now (out .exit)) r ⌝ }
+    ensures { λ r. ⌜ TellsAnswer (now (bytes .entry)) answer (now (out .entry)) (now (out .exit)) r ⌝ }
 {
     if answer.refusal != 0 {
         return refusal(answer.refusal, 0);

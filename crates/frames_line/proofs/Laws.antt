@@ -33,7 +33,8 @@ use Rattle.standby_state.specs.declared.Answer as the-code
 use Rattle.standby_state.specs.Answers as the-answers
 use Rattle.standby_state.specs.Outcomes.{settingsOf}
 use Rattle.standby_step.specs.Steps.{roomOf}
-use Rattle.frames_reply.specs.Texts.{outcomeText, answerText}
+use Rattle.frames_reply.specs.Texts.{outcomeText, answerText, recordText}
+use Rattle.frames_reply.proofs.Laws.{exact-text}
 use Rattle.standby_step.specs.Calls.{roomAll, standbyOf, allowedAll, Called}
 use Rattle.model_lines.specs.Program.{framesSettings, lineText, spoken, onBytes, lineStep}
 use Rattle.frames_line.specs.Answering.{theSettings, Heard, unread, called, AnswersLine}
@@ -100,14 +101,14 @@ module _ (l : List ℕ) (c : Replica) (row : List Bound) (w b h out : List ℕ) 
   pub bad-line : {buf out' : List ℕ} {r : Line} {n : ℕ} → ReadsLine (lineBytes l) buf r → r ≡ Bad → Puts (refusalText 26) out out' n → AnswersLine l c c row row w w b b h h out out' n
   bad-line {buf} g e p = answers (unread (sym (g .bytes) ∙ ap (lineRead buf) e) refl refl refl refl refl) p
 
-  pub some-line : {buf : List ℕ} {r : Line} (m : ℕ) → Numbers c w b → ReadsLine (lineBytes l) buf r → ((i : ℕ) → getD buf i 0 < 256) → r ≡ Bytes m → {c' : Replica} {row' : List Bound} {w' b' h' out' : List ℕ} {s : Settings} {a : the-code.Answer} {n k : ℕ} → answerBytes ≤ k → s ≡ theSettings → Called s (onFrame (take (m - 0) (drop 0 buf))) c c' row row' w w' b b' h h' a → Puts (answerText k (the-answers.answerOf b' a)) out out' n → AnswersLine l c c' row row' w w' b b' h h' out out' n
+  pub some-line : {buf : List ℕ} {r : Line} (m : ℕ) → Numbers c w b → ReadsLine (lineBytes l) buf r → ((i : ℕ) → getD buf i 0 < 256) → r ≡ Bytes m → {c' : Replica} {row' : List Bound} {w' b' h' out' : List ℕ} {s : Settings} {a : the-code.Answer} {n k : ℕ} → answerBytes ≤ k → s ≡ theSettings → Called s (onFrame (take (m - 0) (drop 0 buf))) c c' row row' w w' b b' h h' a → Puts (recordText k b' a) out out' n → AnswersLine l c c' row row' w w' b b' h h' out out' n
   some-line {buf} m num g ok e {c'} {row'} {w'} {b'} {h'} {out' = out'} {a = a} {n = n} {k = room} big es k p =
       let cut : m - 0 ≡ m = omega arith in
       let call : Called theSettings (onFrame (take m buf)) c c' row row' w w' b b' h h' a =
       subst (λ (x : ℕ). Called theSettings (onFrame (take x buf)) c c' row row' w w' b b' h h' a) cut
       (subst (λ (x : Settings). Called x (onFrame (take (m - 0) buf)) c c' row row' w w' b b' h h' a) es k) in
       let t : Told (the-answers.answerOf b' a) = told (take m buf) num (bytes-take m buf (are-bytes buf ok)) call in
-      answers (called (take m buf) a (sym (g .bytes) ∙ ap (lineRead buf) e) call) (subst (λ (x : List ℕ). Puts x out out' n) (text-is (the-answers.answerOf b' a) t big) p)
+      answers (called (take m buf) a (sym (g .bytes) ∙ ap (lineRead buf) e) call) (subst (λ (x : List ℕ). Puts x out out' n) (exact-text room b' a (call .exact) ∙ text-is (the-answers.answerOf b' a) t big) p)
 
 -- the text lies in the output area
 pub told-fits : {l : List ℕ} {c c' : Replica} {row row' : List Bound} {w w' b b' h h' out out' : List ℕ} {n : ℕ} → AnswersLine l c c' row row' w w' b b' h h' out out' n → n ≤ length out'

@@ -1,12 +1,12 @@
 -- The text of an answer. Assumes nothing.
 use mathlib.Core.Path.{_≡_, refl, sym, ap, subst, _∙_}
 use mathlib.Core.Bool.{Bool, true, false, cond}
-use mathlib.Core.List.{List}
+use mathlib.Core.List.{List, []}
 use mathlib.Core.Option.{Option, none, some}
 use Prim.Native.Nat.{ℕ, _+_, _-_, _*_, _≤_}
 use native.Mathlib.Omega.{arith}
 use borrow.Author.Tests.{ltb-false, eq-eqb, ne-eqb}
-use lib.Dec.{ltb}
+use lib.Dec.{ltb, eqb}
 use lib.ListN.{length, take, drop}
 use lib.Seq.{take-at, length-take-le}
 use Rattle.model_text.specs.Hex.{hexOf, refusalText}
@@ -20,10 +20,12 @@ use Rattle.base_hex.specs.Lines.{WroteFront, Puts}
 use Rattle.frame_writer.specs.Encoding.{writtenOf, Encoded}
 use Rattle.frame_writer.specs.declared.Written.{Written}
 use Rattle.frame_writer.specs.declared.Written
-use Rattle.standby_state.specs.declared.Answer as the-code
-use Rattle.standby_state.specs.Answers as the-answers
-use Rattle.standby_state.specs.Answers.{frameBy}
-use Rattle.frames_reply.specs.Texts.{outcomeText, answerText}
+use Rattle.standby_state.specs.declared.Answer.{Answer}
+use Rattle.standby_state.specs.Answers.{frameBy, answerOf}
+use Rattle.standby_state.specs.Exact.{Exact}
+use Rattle.standby_reply.specs.Replies.{frameFor}
+use Rattle.standby_reply.proofs.Exact.{exact-frame}
+use Rattle.frames_reply.specs.Texts.{outcomeText, answerText, recordText}
 
 -- ---- what was written
 
@@ -86,12 +88,27 @@ module _ (f : Option Frame) {before after : List ℕ} where
 
 -- ---- the text of an answer
 
-module _ (room : ℕ) (b : List ℕ) (a : the-code.Answer) (out : List ℕ) where
-  pub text-done : a .refusal ≡ 0 → a .kind ≡ 0 → Puts (answerText room (the-answers.answerOf b a)) out out 0
-  text-done e k = rw (eq-eqb (a .refusal) 0 e, eq-eqb (a .kind) 0 k) (record { count = refl; wrote = refl })
+module _ (room : ℕ) (b : List ℕ) (a : Answer) where
+  abbrev By : Bool → Bool → List ℕ
+  By t u = cond t (cond u [] (outcomeText (writeOutcome 1 (frameFor b a) room))) (refusalText (a .refusal))
 
-  pub text-reply : a .refusal ≡ 0 → (a .kind ≡ 0 → ⊥) → {out' : List ℕ} {n : ℕ} → Puts (outcomeText (writeOutcome 1 (some (frameBy b a)) room)) out out' n → Puts (answerText room (the-answers.answerOf b a)) out out' n
-  text-reply e k h = rw (eq-eqb (a .refusal) 0 e, ne-eqb (a .kind) 0 k) h
+  -- the record of an answer has that answer's text
+  pub exact-text : Exact b a → recordText room b a ≡ answerText room (answerOf b a)
+  exact-text x = go (eqb (a .refusal) 0) (eqb (a .kind) 0) refl refl
+    where
+      go : (t u : Bool) → eqb (a .refusal) 0 ≡ t → eqb (a .kind) 0 ≡ u → By t u ≡ answerText room (cond t (cond u the-answer.done (the-answer.reply (frameBy b a))) (the-answer.refused (a .refusal)))
+      go true true p q = refl
+      go true false p q =
+          ap (λ (f : Option Frame). outcomeText (writeOutcome 1 f room))
+          (exact-frame b a x (λ j. cond (p j) (cond (q j) the-answer.done (the-answer.reply (frameBy b a))) (the-answer.refused (a .refusal))))
+      go false u p q = refl
 
-  pub text-refused : (a .refusal ≡ 0 → ⊥) → {out' : List ℕ} {n : ℕ} → Puts (refusalText (a .refusal)) out out' n → Puts (answerText room (the-answers.answerOf b a)) out out' n
-  text-refused e h = rw (ne-eqb (a .refusal) 0 e) h
+  module _ (out : List ℕ) where
+    pub text-done : a .refusal ≡ 0 → a .kind ≡ 0 → Puts (recordText room b a) out out 0
+    text-done e k = subst (λ (t : List ℕ). Puts t out out 0) (sym (λ j. By (eq-eqb (a .refusal) 0 e j) (eq-eqb (a .kind) 0 k j))) (record { count = refl; wrote = refl })
+
+    pub text-reply : a .refusal ≡ 0 → (a .kind ≡ 0 → ⊥) → {out' : List ℕ} {n : ℕ} → Puts (outcomeText (writeOutcome 1 (frameFor b a) room)) out out' n → Puts (recordText room b a) out out' n
+    text-reply e k {out'} {n} h = subst (λ (t : List ℕ). Puts t out out' n) (sym (λ j. By (eq-eqb (a .refusal) 0 e j) (ne-eqb (a .kind) 0 k j))) h
+
+    pub text-refused : (a .refusal ≡ 0 → ⊥) → {out' : List ℕ} {n : ℕ} → Puts (refusalText (a .refusal)) out out' n → Puts (recordText room b a) out out' n
+    text-refused e {out'} {n} h = subst (λ (t : List ℕ). Puts t out out' n) (sym (ap (λ (t : Bool). By t (eqb (a .kind) 0)) (ne-eqb (a .refusal) 0 e))) h

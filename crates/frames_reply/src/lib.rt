@@ -1,11 +1,10 @@
 // What a call of the standby answers, as a line's text: the digits of its frame, or R and the refusal.
-ghost use mathlib.Core.Option.{some};
 ghost use Prim.Native.Nat.{_*_, _≤_};
 ghost use lib.ListN.{length};
 ghost use Rattle.base_hex.specs.Lines.{Puts};
 ghost use Rattle.model_frame.specs.Writing.{writeOutcome};
-ghost use Rattle.standby_state.specs.Answers.{frameBy, answerOf};
-ghost use Rattle.frames_reply.specs.Texts.{outcomeText, answerText};
+ghost use Rattle.standby_reply.specs.Replies.{frameFor};
+ghost use Rattle.frames_reply.specs.Texts.{outcomeText, recordText};
 use base_refusals::NO_ROOM;
 use base_refusals::TOO_LONG;
 use base_refusals::UNREADABLE;
@@ -16,7 +15,7 @@ use standby_state::Answer;
 fn put_reply(answer: Answer, bytes: &[u8], buf: &mut [u8], out: &mut [u8]) -> usize
     requires { ⌜ 4 ≤ length (now buf) ⌝ }
     requires { ⌜ 2 * length (now buf) ≤ length (now out) ⌝ }
-    ensures { λ r. ⌜ Puts (outcomeText (writeOutcome 1 (some (frameBy (now (bytes .entry)) answer)) (length (now (buf .entry))))) (now (out .entry)) (now (out .exit)) r ⌝ }
+    ensures { λ r. ⌜ Puts (outcomeText (writeOutcome 1 (frameFor (now (bytes .entry)) answer) (length (now (buf .entry))))) (now (out .entry)) (now (out .exit)) r ⌝ }
 {
     match standby_reply::write(answer, bytes, buf) {
         Written::Bytes(n) => {
@@ -33,7 +32,7 @@ fn put_reply(answer: Answer, bytes: &[u8], buf: &mut [u8], out: &mut [u8]) -> us
 pub fn put_answer(answer: Answer, bytes: &[u8], buf: &mut [u8], out: &mut [u8]) -> usize
     requires { ⌜ 4 ≤ length (now buf) ⌝ }
     requires { ⌜ 2 * length (now buf) ≤ length (now out) ⌝ }
-    ensures { λ r. ⌜ Puts (answerText (length (now (buf .entry))) (answerOf (now (bytes .entry)) answer)) (now (out .entry)) (now (out .exit)) r ⌝ }
+    ensures { λ r. ⌜ Puts (recordText (length (now (buf .entry))) (now (bytes .entry)) answer) (now (out .entry)) (now (out .exit)) r ⌝ }
 {
     if answer.refusal == 0 {
         if answer.kind == 0 {

@@ -35,7 +35,9 @@ use Rattle.standby_state.specs.declared.Settings.{Settings}
 use Rattle.standby_state.specs.declared.Answer.{Answer}
 use Rattle.standby_state.specs.declared.Outcome.{Outcome}
 use Rattle.standby_state.specs.Answers.{answerOf, isRefused, isNack, isAck}
+use Rattle.standby_state.specs.Exact.{Exact}
 use Rattle.standby_state.specs.Outcomes.{countersOf, settingsOf, leaving, storing, Lands}
+use Rattle.standby_state.proofs.Exact.{exact-refused, exact-nack, exact-ack}
 use Rattle.standby_hello.specs.Greeting.{isQuiet}
 use Rattle.standby_hello.proofs.Laws.{leaving-lands}
 use Rattle.standby_batch.specs.Batches.{epochTo, foundFor, answerBy, settledOf, RecordRules, holdAreaWith, foundAt, BatchIs}
@@ -69,6 +71,17 @@ module _ (d : PartResult) (h : ℕ) (n : CommitNumber) where
       go true e = yes (d .nack)
       go false e = ap (λ (t : Bool). not t || eqb 0 6) e
 
+  answer-exact : (b : List ℕ) → Exact b (answerBy d h n)
+  answer-exact b = go (eqb (d .refusal) 0)
+    where
+      yes : (m : Bool) → Exact b (cond m (isNack h 2) (isAck h n))
+      yes true = exact-nack b h diverged
+      yes false = exact-ack b h n
+
+      go : (t : Bool) → Exact b (cond t (cond (d .nack) (isNack h 2) (isAck h n)) (isRefused (d .refusal)))
+      go true = yes (d .nack)
+      go false = exact-refused b (d .refusal)
+
   said-reply : isReply Said ≡ eqb (d .refusal) 0
   said-reply = go (eqb (d .refusal) 0)
     where
@@ -101,9 +114,9 @@ module _ (s : Settings) (c : Replica) (seen : Lookup) (h : ℕ) (e : Epoch) (n :
   unfolding coreBatch
   tests = refl
 
-  left : (t u : Bool) → isEmpty apps ≡ t → ltb (e .0) (c .epoch .0) ≡ u → {r : Outcome} {a : Answer} (x : Answer) → r ≡ leaving c seen a → a ≡ x
+  left : (t u : Bool) → isEmpty apps ≡ t → ltb (e .0) (c .epoch .0) ≡ u → {r : Outcome} {a : Answer} (x : Answer) → r ≡ leaving c seen a → a ≡ x → Exact b x
       → record { core = K; action = leave; answer = answerOf b x } ≡ Goes t u → Writes t u ≡ none → Is w b area r
-  left t u p q x e₁ e₂ is none-written =
+  left t u p q x e₁ e₂ is-exact is none-written =
       subst (Is w b area) (sym (e₁ ∙ ap (leaving c seen) e₂))
       (record {
         is = is ∙ sym (tests ∙ (λ j. Goes (p j) (q j)));
@@ -115,13 +128,14 @@ module _ (s : Settings) (c : Replica) (seen : Lookup) (h : ℕ) (e : Epoch) (n :
         touched = touched-none (s .shape) (seen .bound .place) w b;
         quiet = λ _. (refl, refl);
         area-is = ap (λ (o : Option HoldWrite). holdAreaWith o area) (sym ((λ j. Writes (p j) (q j)) ∙ none-written));
+        exact = is-exact;
       })
 
   pub with-records : {r : Outcome} {a : Answer} → isEmpty apps ≡ false → r ≡ leaving c seen a → a ≡ isRefused 13 → Is w b area r
-  with-records p e₁ e₂ = left false (ltb (e .0) (c .epoch .0)) p refl (isRefused 13) e₁ e₂ refl refl
+  with-records p e₁ e₂ = left false (ltb (e .0) (c .epoch .0)) p refl (isRefused 13) e₁ e₂ (exact-refused b 13) refl refl
 
   pub stale : {r : Outcome} {a : Answer} → isEmpty apps ≡ true → ltb (e .0) (c .epoch .0) ≡ true → r ≡ leaving c seen a → a ≡ isNack h 1 → Is w b area r
-  stale p less e₁ e₂ = left true true p less (isNack h 1) e₁ e₂ refl refl
+  stale p less e₁ e₂ = left true true p less (isNack h 1) e₁ e₂ (exact-nack b h staleEpoch) refl refl
 
   -- ---- past them
 
@@ -268,6 +282,7 @@ module _ (s : Settings) (c : Replica) (seen : Lookup) (h : ℕ) (e : Epoch) (n :
           touched = g .touched;
           quiet = λ q. g .quiet (sym (quiet-is d h n) ∙ ap isQuiet (sym (says-so (d .stores))) ∙ q);
           area-is = area-whole;
+          exact = subst (Exact b') (sym (says-so (d .stores))) (answer-exact d h n b');
         })
 
 -- ---- what the handle asks

@@ -28,6 +28,7 @@ use Rattle.standby_state.specs.declared.Settings.{Settings}
 use Rattle.standby_state.specs.declared.Answer.{Answer}
 use Rattle.standby_state.specs.declared.Outcome.{Outcome}
 use Rattle.standby_state.specs.Answers.{answerOf, isRefused, isNack, isAck}
+use Rattle.standby_state.specs.Exact.{Exact}
 use Rattle.standby_state.specs.Outcomes.{countersOf, settingsOf, leaving, storing, Lands}
 use Rattle.standby_hello.specs.Greeting.{isQuiet}
 
@@ -73,3 +74,4 @@ pub record BatchIs (s : Settings) (c : Replica) (seen : Lookup) (h e n : ℕ) (p
   pub touched : Touched (s .shape) (seen .bound .place) w w' b b'
   pub quiet : isQuiet (r .answer) ≡ true → (w' ≡ w) × (b' ≡ b)
   pub area-is : area' ≡ holdAreaWith (writesFrame (settingsOf s (length area)) (countersOf c) (foundAt seen h area) (batch h e n part cs apps)) area
+  pub exact : Exact b' (r .answer)

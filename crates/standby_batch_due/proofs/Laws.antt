@@ -192,6 +192,7 @@ module _ (s : Settings) (c : Replica) (seen : Lookup) (h e n : ℕ) (part : the-
       holds = λ own.
           at-own (wrote (O R (foundIn seen l)) (frame-inside (settingsOf s R) h n cs (countersOf c) (foundIn seen l) e part apps)
           (g .area-is ∙ (λ j. holdAreaWith (O (long j) (found-is seen h l own j)) P)));
+      exact = g .exact;
     }
 
   -- over the part as it was lent

@@ -18,6 +18,7 @@ use Rattle.standby_part.specs.State.{coreAt}
 use Rattle.standby_counters.specs.declared.Replica.{Replica}
 use Rattle.standby_state.specs.declared.Settings.{Settings}
 use Rattle.standby_state.specs.declared.Outcome.{Outcome}
+use Rattle.standby_state.specs.Exact.{Exact}
 use Rattle.standby_state.specs.Outcomes.{countersOf, settingsOf, outcomeOf, Lands}
 use Rattle.standby_hello.specs.Greeting.{isQuiet}
 use Rattle.standby_step.specs.Steps.{roomIn, isFound, foundIn, FrameLeaves, holdsAfter}
@@ -45,3 +46,4 @@ pub record BatchIn (s : Settings) (c : Replica) (seen : Lookup) (h e n : ℕ) (p
   pub leaves : FrameLeaves (s .shape) (seen .bound .place) (dueBatch h w) false (isQuiet (r .answer)) w w' b b'
   pub holds : (isFound seen ≡ true → seen .bound .handle ≡ h)
       → l' ≡ holdsAfter (roomIn seen l) (seen .at) (writesFrame (settingsOf s (roomIn seen l)) (countersOf c) (foundIn seen l) (batch h e n part cs apps)) l
+  pub exact : Exact b' (r .answer)

@@ -10,13 +10,12 @@ use lib.Seq.{take-take, drop-set-lt, getD-set-same, getD-set-other}
 use lib.Dec.{ltb}
 use borrow.Author.Tests.{lt-ltb, le-ltb, ltb-true, not-true, not-false}
 use Rattle.base_flags.specs.Flag.{isSet}
-use Rattle.base_flags.proofs.Flags.{written-so}
 use Rattle.model_frame.specs.Frame.{Key, bound, nack, staleEpoch, lagTooGreat}
 use Rattle.model_frame.specs.Frame as the-frame
+use Rattle.model_frame.specs.Writing.{flightNumber}
 use Rattle.model_session.specs.Session.{Session}
 use Rattle.model_session.specs.Summary.{summary}
 use Rattle.model_session.proofs.Basics.{some-inj}
-use Rattle.model_standby.specs.Row.{isSome}
 use Rattle.model_standby.specs.Store.{Place, placeOf, isStored, sessionAt, orNew, newPlace, opened}
 use Rattle.model_standby.specs.Answer.{reply}
 use Rattle.model_standby.specs.State.{newBound}
@@ -33,7 +32,7 @@ use Rattle.store_areas.specs.declared.Shape.{Shape}
 use Rattle.store_areas.specs.Areas.{placeWords, wordsAt, Rules, placeAt, placesOf}
 use Rattle.store_areas.proofs.Lists.{word-kept}
 use Rattle.store_areas.proofs.Lifting.{places-length, place-is, session-is}
-use Rattle.store_sessions.specs.Answers.{Opened}
+use Rattle.store_sessions.specs.Answers.{Opened, TextsIn}
 use Rattle.store_sessions.proofs.Opening.{opened-rules}
 use Rattle.standby_changes.proofs.Held.{held-none}
 use Rattle.standby_pending.specs.Pending.{countOf, commitOf, pendingOf}
@@ -48,20 +47,23 @@ use Rattle.standby_state.specs.declared.Settings.{Settings}
 use Rattle.standby_state.specs.declared.BoundSummary.{BoundSummary}
 use Rattle.standby_state.specs.declared.Answer.{Answer}
 use Rattle.standby_state.specs.declared.Outcome.{Outcome}
-use Rattle.standby_state.specs.Answers.{answerOf, briefOf, noBrief, isRefused, isNack, isBound}
+use Rattle.standby_state.specs.Answers.{answerOf, briefOf, isRefused, isNack, isBound}
+use Rattle.standby_state.specs.Exact.{flightFlag, Exact, ExactSummary}
+use Rattle.standby_state.proofs.Exact.{exact-refused, exact-nack, exact-bound}
 use Rattle.standby_state.specs.Outcomes.{countersOf, settingsOf, areaAt, leaving, storing}
 use Rattle.standby_hello.proofs.Laws.{leaving-lands}
-use Rattle.standby_bind.specs.Binding.{TextsLie, numberIn, newHandle, roomFor, BindOpens, BindIs}
+use Rattle.standby_bind.specs.Binding.{newHandle, roomFor, BindOpens, BindIs}
 
 -- ---- what a Bound says
 
-flown : (o : Option ℕ) → cond (isSome o) (some (numberIn o)) none ≡ o
+flown : (o : Option ℕ) → cond (isSet (flightFlag o)) (some (flightNumber o)) none ≡ o
 flown none = refl
 flown (some n) = refl
 
-module _ (b : List ℕ) (m : Summary) {flies f : ℕ} {x : the-frame.Summary} where
-  pub brief-is : summaryOf b m ≡ x → flies ≡ cond (isSome (flightOf (m .«in_flight»))) 1 0 → f ≡ numberIn (flightOf (m .«in_flight»))
-      → briefOf b (record {
+module _ (b : List ℕ) (m : Summary) {flies f : ℕ} (e₁ : flies ≡ flightFlag (flightOf (m .«in_flight»))) (e₂ : f ≡ flightNumber (flightOf (m .«in_flight»))) where
+  abbrev Says : BoundSummary
+  Says =
+      record {
         «next_outgoing» = m .«next_outgoing»;
         «next_incoming» = m .«next_incoming»;
         «has_in_flight» = flies;
@@ -69,22 +71,39 @@ module _ (b : List ℕ) (m : Summary) {flies f : ℕ} {x : the-frame.Summary} wh
         «created_at» = m .«created_at»;
         marks = m .marks;
         «last_outgoing» = m .«last_outgoing»;
-      })
-      ≡ x
-  brief-is is e₁ e₂ =
-      let says : isSet flies ≡ isSome (flightOf (m .«in_flight»)) = ap isSet e₁ ∙ written-so (isSome (flightOf (m .«in_flight»))) in
+      }
+
+  flight : cond (isSet flies) (some f) none ≡ flightOf (m .«in_flight»)
+  flight = (λ k. cond (isSet (e₁ k)) (some (e₂ k)) none) ∙ flown (flightOf (m .«in_flight»))
+
+  pub brief-is : {x : the-frame.Summary} → summaryOf b m ≡ x → briefOf b Says ≡ x
+  brief-is is =
       (λ j. record {
         nextOut = m .«next_outgoing»;
         nextIn = m .«next_incoming»;
-        inFlight = ((λ k. cond (says k) (some (e₂ k)) none) ∙ flown (flightOf (m .«in_flight»))) j;
+        inFlight = flight j;
         stampText = spanOf b (m .«created_at»);
         marksText = spanOf b (m .marks);
         lastOutgoing = m .«last_outgoing»;
       })
       ∙ is
 
-no-texts : (b : List ℕ) → TextsLie b noBrief
-no-texts b = record { stamp = omega arith; marks = omega arith }
+  pub brief-exact : TextsIn b m → ExactSummary b Says
+  brief-exact t =
+      record {
+        is =
+            (λ j. record {
+              «next_outgoing» = m .«next_outgoing»;
+              «next_incoming» = m .«next_incoming»;
+              «has_in_flight» = (e₁ ∙ sym (ap flightFlag flight)) j;
+              «in_flight» = (e₂ ∙ sym (ap flightNumber flight)) j;
+              «created_at» = m .«created_at»;
+              marks = m .marks;
+              «last_outgoing» = m .«last_outgoing»;
+            });
+        stamp = t .stamp;
+        marks = t .marks;
+      }
 
 -- ---- keys
 
@@ -198,20 +217,20 @@ module _ (s : Settings) (c : Replica) (seen : Lookup) (h e lag : ℕ) (k : Key) 
   unfolding coreBind
   tests room = refl
 
-  as-left : {o : Outcome} {a x : Answer} → o ≡ leaving c seen a → a ≡ x → TextsLie b (x .summary) → ((room : ℕ) → record { core = At; action = leave; answer = answerOf b x } ≡ Bind room) → BindIs s c seen h e lag k w w b b o
-  as-left {x = x} e₁ e₂ lie is = subst (BindIs s c seen h e lag k w w b b) (sym (e₁ ∙ ap (leaving c seen) e₂)) (record {
+  as-left : {o : Outcome} {a x : Answer} → o ≡ leaving c seen a → a ≡ x → Exact b x → ((room : ℕ) → record { core = At; action = leave; answer = answerOf b x } ≡ Bind room) → BindIs s c seen h e lag k w w b b o
+  as-left {x = x} e₁ e₂ is-exact is = subst (BindIs s c seen h e lag k w w b b) (sym (e₁ ∙ ap (leaving c seen) e₂)) (record {
     is = λ version room holds. is room;
     lands = leaving-lands c seen x (getD w 0 0);
     rules = r;
     more = omega arith;
     touched = touched-none (s .shape) (placeOf k places) w b;
-    texts = lie;
     quiet = λ _. (refl, refl);
+    exact = is-exact;
   })
 
   pub stale : {o : Outcome} {a : Answer} → e < c .epoch .0 → o ≡ leaving c seen a → a ≡ isNack h 1 → BindIs s c seen h e lag k w w b b o
   stale less e₁ e₂ =
-      as-left e₁ e₂ (no-texts b) (λ room. sym (tests room ∙ ap (λ (t : Bool). Tests t (ltb (s .«max_lag») lag) (isStored k places || ltb (length places) (s .shape .places)) (roomFor seen)) (lt-ltb e (c .epoch .0) less)))
+      as-left e₁ e₂ (exact-nack b h staleEpoch) (λ room. sym (tests room ∙ ap (λ (t : Bool). Tests t (ltb (s .«max_lag») lag) (isStored k places || ltb (length places) (s .shape .places)) (roomFor seen)) (lt-ltb e (c .epoch .0) less)))
 
   -- of an epoch that is not lower
   module _ (high : c .epoch .0 ≤ e) where
@@ -220,7 +239,7 @@ module _ (s : Settings) (c : Replica) (seen : Lookup) (h e lag : ℕ) (k : Key) 
 
     pub lagging : {o : Outcome} {a : Answer} → s .«max_lag» < lag → o ≡ leaving c seen a → a ≡ isNack h 3 → BindIs s c seen h e lag k w w b b o
     lagging great e₁ e₂ =
-        as-left e₁ e₂ (no-texts b) (λ room. sym (first room ∙ ap (λ (t : Bool). Tests false t (isStored k places || ltb (length places) (s .shape .places)) (roomFor seen)) (lt-ltb (s .«max_lag») lag great)))
+        as-left e₁ e₂ (exact-nack b h lagTooGreat) (λ room. sym (first room ∙ ap (λ (t : Bool). Tests false t (isStored k places || ltb (length places) (s .shape .places)) (roomFor seen)) (lt-ltb (s .«max_lag») lag great)))
 
     -- and of a lag that is not too great, with what was found of the places
     module _ (small : lag ≤ s .«max_lag») {place : ℕ} {has : Bool} (at : place ≡ placeOf k places) (found : has ≡ (ltb place (getD w 0 0) || ltb (getD w 0 0) (s .shape .places))) where
@@ -235,7 +254,7 @@ module _ (s : Settings) (c : Replica) (seen : Lookup) (h e lag : ℕ) (k : Key) 
           ∙ (λ j. Tests false (le-ltb (s .«max_lag») lag small j) (sym same j) (roomFor seen))
 
       pub all-places : {o : Outcome} {a : Answer} → not has ≡ true → o ≡ leaving c seen a → a ≡ isRefused 20 → BindIs s c seen h e lag k w w b b o
-      all-places full e₁ e₂ = as-left e₁ e₂ (no-texts b) (λ room. sym (second room ∙ ap (λ (t : Bool). Tests false false t (roomFor seen)) (not-true has full)))
+      all-places full e₁ e₂ = as-left e₁ e₂ (exact-refused b 20) (λ room. sym (second room ∙ ap (λ (t : Bool). Tests false false t (roomFor seen)) (not-true has full)))
 
       -- and with a session place
       module _ (some-place : not has ≡ false) {free : Bool} (fits : free ≡ roomFor seen) where
@@ -243,11 +262,11 @@ module _ (s : Settings) (c : Replica) (seen : Lookup) (h e lag : ℕ) (k : Key) 
         third room = second room ∙ (λ j. Tests false false (not-false has some-place j) (sym fits j))
 
         pub all-handles : {o : Outcome} {a : Answer} → not free ≡ true → o ≡ leaving c seen a → a ≡ isRefused 21 → BindIs s c seen h e lag k w w b b o
-        all-handles full e₁ e₂ = as-left e₁ e₂ (no-texts b) (λ room. sym (third room ∙ ap (Tests false false true) (not-true free full)))
+        all-handles full e₁ e₂ = as-left e₁ e₂ (exact-refused b 21) (λ room. sym (third room ∙ ap (Tests false false true) (not-true free full)))
 
         pub binds : {w' b' : List ℕ} {o : Outcome} {a : Answer} {m : BoundSummary} {g : Bound} → not free ≡ false → BindOpens (s .shape) k w w' b b'
-            → TextsLie b' m → briefOf b' m ≡ summary (placeAt (s .shape) w' b' place .stored .session) lag → a ≡ isBound h m → g ≡ newHandle h place → o ≡ storing c seen a h g → BindIs s c seen h e lag k w w' b b' o
-        binds {w'} {b'} {m = m} has-room op lie brief e₁ e₂ e₃ =
+            → ExactSummary b' m → briefOf b' m ≡ summary (placeAt (s .shape) w' b' place .stored .session) lag → a ≡ isBound h m → g ≡ newHandle h place → o ≡ storing c seen a h g → BindIs s c seen h e lag k w w' b b' o
+        binds {w'} {b'} {m = m} has-room op is-exact brief e₁ e₂ e₃ =
             subst (BindIs s c seen h e lag k w w' b b') (sym (e₃ ∙ (λ j. storing c seen (e₁ j) h (e₂ j)))) (record {
               is = λ version room holds.
                   let area : List ℕ = areaAt room (storing c seen (isBound h m) h (newHandle h place) .at) holds in
@@ -271,6 +290,6 @@ module _ (s : Settings) (c : Replica) (seen : Lookup) (h e lag : ℕ) (k : Key) 
               rules = op .rules;
               more = op .more;
               touched = op .touched;
-              texts = lie;
               quiet = no;
+              exact = exact-bound b' h m is-exact;
             })

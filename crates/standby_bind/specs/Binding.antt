@@ -3,11 +3,9 @@ use Prim.Native.Nat.{ℕ, _<_, _≤_}
 use mathlib.Core.Path.{_≡_}
 use mathlib.Core.Bool.{Bool, true, _||_}
 use mathlib.Core.List.{List}
-use mathlib.Core.Option.{Option, none, some}
 use lib.ListN.{length, getD}
 use lib.Dec.{ltb}
 use Rattle.model_frame.specs.Frame.{Key}
-use Rattle.frame_reader.specs.Answers.{Lies}
 use Rattle.standby_row.specs.declared.Bound.{Bound}
 use Rattle.standby_row.specs.declared.Lookup.{Lookup}
 use Rattle.store_areas.specs.StoreWord
@@ -21,8 +19,8 @@ use Rattle.store_place.specs.PlaceByte
 use Rattle.standby_part.specs.State.{coreAt}
 use Rattle.standby_counters.specs.declared.Replica.{Replica}
 use Rattle.standby_state.specs.declared.Settings.{Settings}
-use Rattle.standby_state.specs.declared.BoundSummary.{BoundSummary}
 use Rattle.standby_state.specs.declared.Outcome.{Outcome}
+use Rattle.standby_state.specs.Exact.{Exact}
 use Rattle.standby_state.specs.Outcomes.{countersOf, settingsOf, outcomeOf, Lands}
 use Rattle.standby_hello.specs.Greeting.{isQuiet}
 
@@ -32,15 +30,6 @@ pub record Short (k : Key) : Type 0 where
   pub sender : length (k .sender) ≤ PlaceByte.keyTextSize
   pub target : length (k .target) ≤ PlaceByte.keyTextSize
   pub suffix : length (k .suffix) ≤ PlaceByte.keyTextSize
-
--- the texts of a summary lie in the byte area, none of their bytes is cut off
-pub record TextsLie (b : List ℕ) (m : BoundSummary) : Type 0 where
-  pub stamp : Lies b (m .«created_at»)
-  pub marks : Lies b (m .marks)
-
-abbrev pub numberIn : Option ℕ → ℕ
-numberIn none = 0
-numberIn (some n) = n
 
 abbrev pub newHandle : ℕ → ℕ → Bound
 newHandle h place = record { used = 1; handle = h; place = place; «commit_no» = record { 0 = 0 }; «held_len» = 0; «held_bytes» = 0 }
@@ -59,12 +48,12 @@ pub record BindOpens (s : Shape) (k : Key) (w w' b b' : List ℕ) : Type 0 where
   pub session : placeAt s w' b' (placeOf k (placesOf s w b)) .stored .session ≡ orNew (sessionAt (placesOf s w b) (placeOf k (placesOf s w b)))
   pub touched : Touched s (placeOf k (placesOf s w b)) w w' b b'
 
--- equal to the definition, whatever the hold areas; the texts of the answer lie in the byte area; a refusal and a Nack leave the store as it was
+-- equal to the definition, whatever the hold areas; a refusal and a Nack leave the store as it was
 pub record BindIs (s : Settings) (c : Replica) (seen : Lookup) (h e lag : ℕ) (k : Key) (w w' b b' : List ℕ) (r : Outcome) : Type 0 where
   pub is : (version room : ℕ) (holds : List ℕ) → outcomeOf version room (s .shape) w' b' holds r ≡ coreBind (settingsOf s room) (coreAt (countersOf c) (s .shape) w b) (roomFor seen) h e lag k
   pub lands : (room : ℕ) → Lands seen (getD w' StoreWord.used 0) room r
   pub rules : Rules (s .shape) w' b'
   pub more : getD w StoreWord.used 0 ≤ getD w' StoreWord.used 0
   pub touched : Touched (s .shape) (placeOf k (placesOf (s .shape) w b)) w w' b b'
-  pub texts : TextsLie b' (r .answer .summary)
   pub quiet : isQuiet (r .answer) ≡ true → (w' ≡ w) × (b' ≡ b)
+  pub exact : Exact b' (r .answer)

@@ -1,6 +1,6 @@
 // Bind (standby.rs, an arm of `answer`): a handle is bound to the session of a key, which is opened if it is new, and its summary is answered.
 ghost use mathlib.Core.Path.{_≡_};
-ghost use mathlib.Core.Bool.{_||_, cond};
+ghost use mathlib.Core.Bool.{_||_};
 ghost use Prim.Native.Nat.{_<_, _≤_};
 ghost use lib.ListN.{getD};
 ghost use lib.Dec.{ltb};
@@ -8,9 +8,10 @@ ghost use Rattle.model_session.specs.Summary.{summary};
 ghost use Rattle.model_standby.specs.Store.{placeOf};
 ghost use Rattle.frame_fields.specs.Answers.{keyOf, flightOf};
 ghost use Rattle.store_areas.specs.Areas.{Rules, placeAt, placesOf};
+ghost use Rattle.model_frame.specs.Writing.{flightNumber};
 ghost use Rattle.standby_state.specs.Answers.{briefOf};
-ghost use Rattle.model_standby.specs.Row.{isSome};
-ghost use Rattle.standby_bind.specs.Binding.{Short, TextsLie, numberIn, newHandle, roomFor, BindOpens, BindIs};
+ghost use Rattle.standby_state.specs.Exact.{flightFlag, ExactSummary};
+ghost use Rattle.standby_bind.specs.Binding.{Short, newHandle, roomFor, BindOpens, BindIs};
 use base_refusals::NO_HANDLE_PLACE;
 use base_refusals::NO_SESSION_PLACE;
 use frame::SessionId;
@@ -28,7 +29,7 @@ use store_areas::Shape;
 use store_areas::word;
 
 fn has_in_flight(flight: InFlight) -> u8
-    ensures { λ r. ⌜ r ≡ cond (isSome (flightOf flight)) 1 0 ⌝ }
+    ensures { λ r. ⌜ r ≡ flightFlag (flightOf flight) ⌝ }
 {
     match flight {
         InFlight::Nothing => 0,
@@ -37,7 +38,7 @@ fn has_in_flight(flight: InFlight) -> u8
 }
 
 fn in_flight(flight: InFlight) -> u64
-    ensures { λ r. ⌜ r ≡ numberIn (flightOf flight) ⌝ }
+    ensures { λ r. ⌜ r ≡ flightNumber (flightOf flight) ⌝ }
 {
     match flight {
         InFlight::Nothing => 0,
@@ -49,7 +50,7 @@ fn in_flight(flight: InFlight) -> u64
 fn summary_at(words: &[u64], bytes: &[u8], shape: Shape, place: usize, n: u64) -> BoundSummary
     requires { ⌜ Rules shape (now words) (now bytes) ⌝ }
     requires { ⌜ place < getD (now words) 0 0 ⌝ }
-    ensures inside { λ r. ⌜ TextsLie (now (bytes .entry)) r ⌝ }
+    ensures exact { λ r. ⌜ ExactSummary (now (bytes .entry)) r ⌝ }
     ensures is { λ r. ⌜ briefOf (now (bytes .entry)) r ≡ summary (placeAt shape (now (words .entry)) (now (bytes .entry)) place .stored .session) n ⌝ }
 {
     let m = store_sessions::summary_of(words, bytes, shape, place, n);

@@ -41,6 +41,7 @@ use Rattle.standby_state.specs.declared.Answer.{Answer}
 use Rattle.standby_state.specs.declared.Outcome.{Outcome}
 use Rattle.standby_state.specs.Answers.{answerOf, isRefused}
 use Rattle.standby_state.specs.Outcomes.{countersOf, settingsOf, actionOf, leaving}
+use Rattle.standby_state.proofs.Exact.{exact-refused}
 use Rattle.standby_hello.specs.Greeting.{Replies}
 use Rattle.standby_hello.proofs.Laws.{as-left}
 use Rattle.standby_bind.specs.Binding.{BindIs}
@@ -64,12 +65,12 @@ plain-same L k o free (checked h e i) p = refl
 pub nineteen : (c : Replica) (s : Settings) (seen : Lookup) (b : List ℕ) (f : Frame) → OneOf (1 ∷ 2 ∷ 3 ∷ 4 ∷ 5 ∷ 6 ∷ []) (tagOf frame-type.the-type f) → Plain (frameOf 1 b f)
     → {r : Outcome} {a : Answer} → r ≡ leaving c seen a → a ≡ isRefused 19 → Replies c s seen (λ L k. coreIntact L k none false (frameOf 1 b f)) r
 nineteen c s seen b (Frame.Hello v e node ks) h p e₁ e₂ = absurd (miss (1 ∷ 2 ∷ 3 ∷ 4 ∷ 5 ∷ 6 ∷ []) 0 tt h)
-nineteen c s seen b (Frame.Welcome e i) h p e₁ e₂ = as-left c s seen (λ L k. coreIntact L k none false (welcome (e .0) (i .0))) e₁ e₂ (λ room x ps pending. refl)
+nineteen c s seen b (Frame.Welcome e i) h p e₁ e₂ = as-left c s seen (λ L k. coreIntact L k none false (welcome (e .0) (i .0))) e₁ e₂ (λ y. exact-refused y 19) (λ room x ps pending. refl)
 nineteen c s seen b (Frame.Bind x e lag k) h p e₁ e₂ = absurd p
-nineteen c s seen b (Frame.Bound x m) h p e₁ e₂ = as-left c s seen (λ L k. coreIntact L k none false (frameOf 1 b (Frame.Bound x m))) e₁ e₂ (λ room y ps pending. refl)
+nineteen c s seen b (Frame.Bound x m) h p e₁ e₂ = as-left c s seen (λ L k. coreIntact L k none false (frameOf 1 b (Frame.Bound x m))) e₁ e₂ (λ y. exact-refused y 19) (λ room y ps pending. refl)
 nineteen c s seen b (Frame.Batch x) h p e₁ e₂ = absurd p
-nineteen c s seen b (Frame.Ack x n) h p e₁ e₂ = as-left c s seen (λ L k. coreIntact L k none false (ack x (n .0))) e₁ e₂ (λ room y ps pending. refl)
-nineteen c s seen b (Frame.Nack x r) h p e₁ e₂ = as-left c s seen (λ L k. coreIntact L k none false (frameOf 1 b (Frame.Nack x r))) e₁ e₂ (λ room y ps pending. refl)
+nineteen c s seen b (Frame.Ack x n) h p e₁ e₂ = as-left c s seen (λ L k. coreIntact L k none false (ack x (n .0))) e₁ e₂ (λ y. exact-refused y 19) (λ room y ps pending. refl)
+nineteen c s seen b (Frame.Nack x r) h p e₁ e₂ = as-left c s seen (λ L k. coreIntact L k none false (frameOf 1 b (Frame.Nack x r))) e₁ e₂ (λ y. exact-refused y 19) (λ room y ps pending. refl)
 nineteen c s seen b (Frame.Checked x e i) h p e₁ e₂ = absurd (miss (1 ∷ 2 ∷ 3 ∷ 4 ∷ 5 ∷ 6 ∷ []) 7 tt h)
 
 -- the last way of `answer`: no Bind
@@ -129,6 +130,7 @@ module _ (s : Settings) (c : Replica) (seen : Lookup) (w b : List ℕ) (rules : 
     more = le-of-eq (sym (cleared-used (s .shape) w b rules (r .clears)));
     touched = cleared-touched (s .shape) w b rules (placeBy (placesOf (s .shape) w b) (seen .bound .place) (intact f)) (r .clears);
     quiet = λ q. (ap (λ (t : Bool). clearedIf t w) (g .quiet q), refl);
+    exact = g .exact b;
   })
 
   pub bound-to : (h e lag : ℕ) (k : Key) {w' b' : List ℕ} {r : Outcome} → BindIs s c seen h e lag k w w' b b' r → OtherIs s c seen (bind h e lag k) w w' b b' r
@@ -140,6 +142,7 @@ module _ (s : Settings) (c : Replica) (seen : Lookup) (w b : List ℕ) (rules : 
     more = g .more;
     touched = g .touched;
     quiet = g .quiet;
+    exact = g .exact;
   }
 
 -- ---- pending commits run first
@@ -188,4 +191,5 @@ module _ (s : Settings) (c : Replica) (seen : Lookup) (f : the-frame.Frame) (w b
       still = λ q. (g .quiet q .0 ∙ words-are, g .quiet q .1);
       last = refl;
     };
+    exact = g .exact;
   }

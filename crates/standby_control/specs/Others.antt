@@ -21,6 +21,7 @@ use Rattle.standby_part.specs.State.{coreAt}
 use Rattle.standby_counters.specs.declared.Replica.{Replica}
 use Rattle.standby_state.specs.declared.Settings.{Settings}
 use Rattle.standby_state.specs.declared.Outcome.{Outcome}
+use Rattle.standby_state.specs.Exact.{Exact}
 use Rattle.standby_state.specs.Outcomes.{countersOf, settingsOf, outcomeOf, Lands}
 use Rattle.standby_hello.specs.Greeting.{isQuiet}
 use Rattle.standby_bind.specs.Binding.{Short}
@@ -60,6 +61,7 @@ pub record OtherIs (s : Settings) (c : Replica) (seen : Lookup) (f : Frame) (w w
   pub more : getD w StoreWord.used 0 ≤ getD w' StoreWord.used 0
   pub touched : Touched (s .shape) (placeBy (placesOf (s .shape) w b) (seen .bound .place) (intact f)) w w' b b'
   pub quiet : isQuiet (r .answer) ≡ true → (w' ≡ w) × (b' ≡ b)
+  pub exact : Exact b' (r .answer)
 
 -- the same, after the pending commits
 pub record OtherIn (s : Settings) (c : Replica) (seen : Lookup) (f : Frame) (w w' b b' : List ℕ) (r : Outcome) : Type 0 where
@@ -70,3 +72,4 @@ pub record OtherIn (s : Settings) (c : Replica) (seen : Lookup) (f : Frame) (w w
   pub rules : Rules (s .shape) w' b'
   pub more : getD w StoreWord.used 0 ≤ getD w' StoreWord.used 0
   pub leaves : FrameLeaves (s .shape) (placeBy (placesOf (s .shape) w b) (seen .bound .place) (intact f)) (not (isEmpty (pendingOf w))) false (isQuiet (r .answer)) w w' b b'
+  pub exact : Exact b' (r .answer)

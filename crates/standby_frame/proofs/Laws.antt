@@ -34,7 +34,9 @@ use Rattle.standby_state.specs.declared.Settings.{Settings}
 use Rattle.standby_state.specs.declared.Answer.{Answer}
 use Rattle.standby_state.specs.declared.Outcome.{Outcome}
 use Rattle.standby_state.specs.Answers.{answerOf, frameBy, isRefused}
+use Rattle.standby_state.specs.Exact.{Exact}
 use Rattle.standby_state.specs.Outcomes.{countersOf, settingsOf, leaving, areaAt, actionOf, outcomeOf, Lands}
+use Rattle.standby_state.proofs.Exact.{exact-refused}
 use Rattle.standby_hello.specs.Greeting.{isQuiet}
 use Rattle.standby_hello.proofs.Laws.{leaving-lands}
 use Rattle.standby_batch_due.specs.DueBatch.{RecordRulesIn, BatchIn}
@@ -54,6 +56,7 @@ batch-intact s c seen h e n part cs apps w w' b b' l l' r g = record {
   more = le-of-eq (sym (g .used));
   leaves = g .leaves;
   holds = λ own. g .holds (λ f. own f refl);
+  exact = g .exact;
 }
 
 found-some : (seen : Lookup) (l : List ℕ) → isSome (foundIn seen l) ≡ isFound seen
@@ -73,6 +76,7 @@ other-intact s c seen f fit w w' b b' l r g = record {
   more = g .more;
   leaves = subst (λ (t : Bool). FrameLeaves (s .shape) (placeBy (placesOf (s .shape) w b) (seen .bound .place) (intact f)) t false (isQuiet (r .answer)) w w' b b') (due-other (pendingOf w) f fit) (g .leaves);
   holds = λ own. sym (ap (λ (o : Option HoldWrite). holdsAfter (roomIn seen l) (seen .at) o l) (writes-other (settingsOf s (roomIn seen l)) (countersOf c) (foundIn seen l) f fit));
+  exact = g .exact;
 }
 
 -- ---- taking
@@ -118,6 +122,7 @@ module _ (s : Settings) (c : Replica) (seen : Lookup) (frame w b h : List ℕ) (
           };
           holds = sym (ap (λ (o : Option HoldWrite). holdsAfter (roomIn seen h) (seen .at) o h) (ap (writes L (countersOf c) F) is ∙ none-written));
         };
+        exact = exact-refused b n;
       })
     where
       Touches : Bool → Type 0
@@ -157,6 +162,7 @@ module _ (s : Settings) (c : Replica) (seen : Lookup) (frame w b h : List ℕ) (
               ∙ ap (λ (o : Option HoldWrite). holdsAfter (roomIn seen h) (seen .at) o h)
               (sym (ap (writes L (countersOf c) F) is ∙ ap (λ (t : Bool). cond t none (writesFrame L (countersOf c) F f)) (clear-so (c .promoted) off)));
         };
+    exact = g .exact;
   }
 
 -- ---- the call: 25, or the frame
@@ -179,11 +185,12 @@ module _ (s : Settings) (c : Replica) (seen : Lookup) (w b h : List ℕ) where
   refuses-25 call e off e₁ e₂ = record {
     refuses = λ _. (e₁ ∙ ap (leaving c seen) e₂, (refl, (refl, refl)));
     steps = λ y _. absurd (true≢false (sym y ∙ sym e ∙ off));
+    exact = subst (λ (x : Outcome). Exact b (x .answer)) (sym (e₁ ∙ ap (leaving c seen) e₂)) (exact-refused b 25);
   }
 
   module _ (frame : List ℕ) {w1 b' h' : List ℕ} {r : Outcome} {t : Bool} (e : t ≡ seenAllowed (s .shape) seen w b h) (on : t ≡ true) (g : Takes s c seen frame w w1 b b' h h' r) where
     pub held-steps : StepIs s c seen (onFrameHeld frame) w w1 b b' h h' r
-    held-steps = record { refuses = λ y. absurd (true≢false (sym (sym e ∙ on) ∙ y)); steps = λ _ own. g .steps own }
+    held-steps = record { refuses = λ y. absurd (true≢false (sym (sym e ∙ on) ∙ y)); steps = λ _ own. g .steps own; exact = g .exact }
 
     answered-is : (x : List ℕ) (a : Answer) → isReply (answerOf x a) ≡ isAnswered a
     answered-is x a = go (eqb (a .refusal) 0) (eqb (a .kind) 0)
@@ -224,4 +231,5 @@ module _ (s : Settings) (c : Replica) (seen : Lookup) (w b h : List ℕ) where
               };
               holds = p .holds;
             };
+        exact = g .exact;
       }

@@ -20,6 +20,7 @@ use Rattle.standby_counters.specs.declared.Replica.{Replica}
 use Rattle.standby_state.specs.declared.Settings.{Settings}
 use Rattle.standby_state.specs.declared.Answer.{Answer}
 use Rattle.standby_state.specs.declared.Outcome.{Outcome}
+use Rattle.standby_state.specs.Exact.{Exact}
 use Rattle.standby_state.specs.Outcomes.{countersOf, settingsOf, outcomeOf, Lands}
 use Rattle.standby_hello.specs.Greeting.{isQuiet}
 use Rattle.standby_step.specs.Steps.{roomIn, isFound, foundIn, placeBy, FrameLeaves, holdsAfter, hasHandle, Stepped}
@@ -41,7 +42,9 @@ pub record IntactIs (s : Settings) (c : Replica) (seen : Lookup) (f : Frame) (w 
   pub more : getD w StoreWord.used 0 ≤ getD w' StoreWord.used 0
   pub leaves : FrameLeaves (s .shape) (placeBy (placesOf (s .shape) w b) (seen .bound .place) (intact f)) (due (pendingOf w) f) false (isQuiet (r .answer)) w w' b b'
   pub holds : Own seen f → h' ≡ holdsAfter (roomIn seen h) (seen .at) (writesFrame (settingsOf s (roomIn seen h)) (countersOf c) (foundIn seen h) f) h
+  pub exact : Exact b' (r .answer)
 
 pub record Takes (s : Settings) (c : Replica) (seen : Lookup) (frame w w' b b' h h' : List ℕ) (r : Outcome) : Type 0 where
   pub rules : Rules (s .shape) w' b'
   pub steps : (isFound seen ≡ true → hasHandle (given frame) ≡ true → seen .bound .handle ≡ handleIn (given frame)) → Stepped s c seen (onFrameHeld frame) w w' b b' h h' r
+  pub exact : Exact b' (r .answer)

@@ -20,7 +20,9 @@ use Rattle.standby_state.specs.declared.Settings.{Settings}
 use Rattle.standby_state.specs.declared.Answer.{Answer}
 use Rattle.standby_state.specs.declared.Outcome.{Outcome}
 use Rattle.standby_state.specs.Answers.{answerOf, isRefused, isWelcome, isNack, isAck}
+use Rattle.standby_state.specs.Exact.{Exact}
 use Rattle.standby_state.specs.Outcomes.{countersOf, settingsOf, leaving, clearing, Lands}
+use Rattle.standby_state.proofs.Exact.{exact-refused, exact-welcome, exact-nack, exact-ack}
 use Rattle.standby_hello.specs.Greeting.{connectedTo, checkedTo, isQuiet, Replies}
 
 no : {A : Type 0} → false ≡ true → A
@@ -37,22 +39,22 @@ abbrev At : Replica → List Place → List (ℕ × ℕ) → Core
 At c ps pending = record { counters = countersOf c; places = ps; pending = pending }
 
 -- the row is left, or freed
-pub leaves-is : (c : Replica) (s : Settings) (seen : Lookup) (m : state.Settings → Core → CoreResult) (d : Replica) (a : Answer)
+leaves-is : (c : Replica) (s : Settings) (seen : Lookup) (m : state.Settings → Core → CoreResult) (d : Replica) (a : Answer) → ((b : List ℕ) → Exact b a)
     → ((room : ℕ) (b : List ℕ) (ps : List Place) (pending : List (ℕ × ℕ)) → record { core = At d ps pending; action = leave; answer = answerOf b a } ≡ m (settingsOf s room) (At c ps pending))
     → Replies c s seen m (leaving d seen a)
-leaves-is c s seen m d a f = record { is = λ version room holds b ps pending. f room b ps pending; lands = leaving-lands d seen a; quiet = λ _. refl; stays = refl }
+leaves-is c s seen m d a x f = record { is = λ version room holds b ps pending. f room b ps pending; lands = leaving-lands d seen a; quiet = λ _. refl; stays = refl; exact = x }
 
-clears-is : (c : Replica) (s : Settings) (seen : Lookup) (m : state.Settings → Core → CoreResult) (d : Replica) (a : Answer) → isQuiet a ≡ false
+clears-is : (c : Replica) (s : Settings) (seen : Lookup) (m : state.Settings → Core → CoreResult) (d : Replica) (a : Answer) → isQuiet a ≡ false → ((b : List ℕ) → Exact b a)
     → ((room : ℕ) (b : List ℕ) (ps : List Place) (pending : List (ℕ × ℕ)) → record { core = At d ps []; action = clear; answer = answerOf b a } ≡ m (settingsOf s room) (At c ps pending))
     → Replies c s seen m (clearing d seen a)
-clears-is c s seen m d a q f = record { is = λ version room holds b ps pending. f room b ps pending; lands = clearing-lands d seen a; quiet = λ e. absurd (true≢false (sym e ∙ q)); stays = refl }
+clears-is c s seen m d a q x f = record { is = λ version room holds b ps pending. f room b ps pending; lands = clearing-lands d seen a; quiet = λ e. absurd (true≢false (sym e ∙ q)); stays = refl; exact = x }
 
 module _ (c : Replica) (s : Settings) (seen : Lookup) where
   -- a refusal or a Nack that leaves all as it was
-  pub as-left : (m : state.Settings → Core → CoreResult) {r : Outcome} {a : Answer} {d : Replica} {x : Answer} → r ≡ leaving d seen a → a ≡ x
+  pub as-left : (m : state.Settings → Core → CoreResult) {r : Outcome} {a : Answer} {d : Replica} {x : Answer} → r ≡ leaving d seen a → a ≡ x → ((b : List ℕ) → Exact b x)
       → ((room : ℕ) (b : List ℕ) (ps : List Place) (pending : List (ℕ × ℕ)) → record { core = At d ps pending; action = leave; answer = answerOf b x } ≡ m (settingsOf s room) (At c ps pending))
       → Replies c s seen m r
-  as-left m {d = d} {x = x} e f is = subst (Replies c s seen m) (sym (e ∙ ap (leaving d seen) f)) (leaves-is c s seen m d x is)
+  as-left m {d = d} {x = x} e f is-exact is = subst (Replies c s seen m) (sym (e ∙ ap (leaving d seen) f)) (leaves-is c s seen m d x is-exact is)
 
   -- ---- Hello
 
@@ -68,7 +70,7 @@ module _ (c : Replica) (s : Settings) (seen : Lookup) where
 
     pub other-version : {r : Outcome} {a : Answer} → (v ≡ 1 → ⊥) → r ≡ leaving c seen a → a ≡ isRefused 11 → Replies c s seen Hello r
     unfolding coreHello
-    other-version off e₁ e₂ = as-left Hello e₁ e₂ (λ room b ps pending. sym (ap (λ (t : Bool). Tests (settingsOf s room) (At c ps pending) t (isEmpty kinds)) (ne-eqb v 1 off)))
+    other-version off e₁ e₂ = as-left Hello e₁ e₂ (λ b. exact-refused b 11) (λ room b ps pending. sym (ap (λ (t : Bool). Tests (settingsOf s room) (At c ps pending) t (isEmpty kinds)) (ne-eqb v 1 off)))
 
     -- of version 1
     module _ (one : v ≡ 1) where
@@ -78,7 +80,7 @@ module _ (c : Replica) (s : Settings) (seen : Lookup) where
 
       pub some-kinds : {r : Outcome} {a : Answer} → isEmpty kinds ≡ false → r ≡ leaving c seen a → a ≡ isRefused 12 → Replies c s seen Hello r
       some-kinds off e₁ e₂ =
-          as-left Hello e₁ e₂ (λ room b ps pending. sym (first (settingsOf s room) (At c ps pending) ∙ ap (λ (t : Bool). Tests (settingsOf s room) (At c ps pending) true t) off))
+          as-left Hello e₁ e₂ (λ b. exact-refused b 12) (λ room b ps pending. sym (first (settingsOf s room) (At c ps pending) ∙ ap (λ (t : Bool). Tests (settingsOf s room) (At c ps pending) true t) off))
 
       -- and without kinds
       module _ (none : isEmpty kinds ≡ true) where
@@ -87,7 +89,7 @@ module _ (c : Replica) (s : Settings) (seen : Lookup) where
 
         pub lower-told : {r : Outcome} {a : Answer} {i : Incarnation} → e < c .epoch .0 → i .0 ≡ max (s .incarnation .0) 1 → r ≡ leaving c seen a → a ≡ isWelcome (c .epoch) i → Replies c s seen Hello r
         lower-told {i = i} less own e₁ e₂ =
-            as-left Hello e₁ e₂ (λ room b ps pending.
+            as-left Hello e₁ e₂ (λ b. exact-welcome b (c .epoch) i) (λ room b ps pending.
             ap (λ (x : ℕ). record { core = At c ps pending; action = leave; answer = reply (welcome (c .epoch .0) x) }) own
             ∙ sym (second (settingsOf s room) (At c ps pending) ∙ ap (Lower (settingsOf s room) (At c ps pending)) (lt-ltb e (c .epoch .0) less)))
 
@@ -95,7 +97,7 @@ module _ (c : Replica) (s : Settings) (seen : Lookup) where
             → Replies c s seen Hello r
         taken {i = i} {d = d} {n = n} is high own e₀ e₁ e₂ =
             subst (Replies c s seen Hello) (sym (e₁ ∙ (λ j. clearing (e₀ j) seen (e₂ j))))
-            (clears-is c s seen Hello (connectedTo c n) (isWelcome n i) refl (λ room b ps pending.
+            (clears-is c s seen Hello (connectedTo c n) (isWelcome n i) refl (λ b. exact-welcome b n i) (λ room b ps pending.
             ap (λ (x : ℕ). record { core = At (connectedTo c n) ps []; action = clear; answer = reply (welcome (n .0) x) }) own
             ∙ ap (λ (x : ℕ). record { core = At (connectedTo c (record { 0 = x })) ps []; action = clear; answer = reply (welcome x (max (s .incarnation .0) 1)) }) is
             ∙ sym (second (settingsOf s room) (At c ps pending) ∙ ap (Lower (settingsOf s room) (At c ps pending)) (le-ltb e (c .epoch .0) high))))
@@ -112,7 +114,7 @@ module _ (c : Replica) (s : Settings) (seen : Lookup) where
     pub stale : {r : Outcome} {a : Answer} → e < c .epoch .0 → r ≡ leaving c seen a → a ≡ isNack h 1 → Replies c s seen Checked r
     unfolding coreChecked
     stale less e₁ e₂ =
-        as-left Checked e₁ e₂ (λ room b ps pending. sym (ap (λ (t : Bool). Asks (settingsOf s room) (At c ps pending) t (eqb i (max (s .incarnation .0) 1))) (lt-ltb e (c .epoch .0) less)))
+        as-left Checked e₁ e₂ (λ b. exact-nack b h staleEpoch) (λ room b ps pending. sym (ap (λ (t : Bool). Asks (settingsOf s room) (At c ps pending) t (eqb i (max (s .incarnation .0) 1))) (lt-ltb e (c .epoch .0) less)))
 
     module _ (high : c .epoch .0 ≤ e) {own : ℕ} (is : own ≡ max (s .incarnation .0) 1) where
       not-stale : (room : ℕ) (ps : List Place) (pending : List (ℕ × ℕ)) → Checked (settingsOf s room) (At c ps pending) ≡ Asks (settingsOf s room) (At c ps pending) false (eqb i own)
@@ -122,10 +124,10 @@ module _ (c : Replica) (s : Settings) (seen : Lookup) where
           ∙ ap (λ (x : ℕ). Asks (settingsOf s room) (At c ps pending) false (eqb i x)) (sym is)
 
       pub other-run : {r : Outcome} {a : Answer} → (i ≡ own → ⊥) → r ≡ leaving c seen a → a ≡ isNack h 4 → Replies c s seen Checked r
-      other-run off e₁ e₂ = as-left Checked e₁ e₂ (λ room b ps pending. sym (not-stale room ps pending ∙ ap (Asks (settingsOf s room) (At c ps pending) false) (ne-eqb i own off)))
+      other-run off e₁ e₂ = as-left Checked e₁ e₂ (λ b. exact-nack b h restarted) (λ room b ps pending. sym (not-stale room ps pending ∙ ap (Asks (settingsOf s room) (At c ps pending) false) (ne-eqb i own off)))
 
       pub said : {r : Outcome} {a : Answer} {d : Replica} {n : Epoch} → n .0 ≡ e → i ≡ own → d ≡ checkedTo c n → r ≡ leaving d seen a → a ≡ isAck h (record { 0 = 0 }) → Replies c s seen Checked r
       said {a = a} {d = d} {n = n} at same e₀ e₁ e₂ =
-          as-left Checked (e₁ ∙ ap (λ (x : Replica). leaving x seen a) e₀) e₂ (λ room b ps pending.
+          as-left Checked (e₁ ∙ ap (λ (x : Replica). leaving x seen a) e₀) e₂ (λ b. exact-ack b h (record { 0 = 0 })) (λ room b ps pending.
           ap (λ (x : ℕ). record { core = At (checkedTo c (record { 0 = x })) ps pending; action = leave; answer = reply (ack h 0) }) at
           ∙ sym (not-stale room ps pending ∙ ap (Asks (settingsOf s room) (At c ps pending) false) (eq-eqb i own same)))

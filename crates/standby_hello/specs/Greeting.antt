@@ -17,6 +17,7 @@ use Rattle.standby_state.specs.declared.Settings.{Settings}
 use Rattle.standby_state.specs.declared.Answer.{Answer}
 use Rattle.standby_state.specs.declared.Outcome.{Outcome}
 use Rattle.standby_state.specs.Answers.{answerOf}
+use Rattle.standby_state.specs.Exact.{Exact}
 use Rattle.standby_state.specs.Outcomes.{countersOf, settingsOf, actionOf, Lands}
 
 abbrev pub connectedTo : Replica → Epoch → Replica
@@ -41,6 +42,7 @@ pub record Replies (c : Replica) (s : Settings) (seen : Lookup) (m : state.Setti
   pub lands : (used room : ℕ) → Lands seen used room r
   pub quiet : isQuiet (r .answer) ≡ true → r .clears ≡ false
   pub stays : r .stores ≡ false
+  pub exact : (b : List ℕ) → Exact b (r .answer)
 
 abbrev pub HelloIs : Replica → Settings → Lookup → ℕ → ℕ → Bool → Outcome → Type 0
 HelloIs c s seen v e none r = (kinds : List ℕ) → isEmpty kinds ≡ none → Replies c s seen (λ L k. coreHello L k v e kinds) r

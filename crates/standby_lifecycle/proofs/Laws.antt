@@ -29,7 +29,9 @@ use Rattle.standby_state.specs.declared.Settings.{Settings}
 use Rattle.standby_state.specs.declared.Answer.{Answer}
 use Rattle.standby_state.specs.declared.Outcome.{Outcome}
 use Rattle.standby_state.specs.Answers.{isRefused, isDone}
+use Rattle.standby_state.specs.Exact.{Exact}
 use Rattle.standby_state.specs.Outcomes.{countersOf, settingsOf, leaving, clearing}
+use Rattle.standby_state.proofs.Exact.{exact-done, exact-refused}
 use Rattle.standby_hello.proofs.Laws.{leaving-lands, clearing-lands}
 use Rattle.standby_step.specs.Steps.{roomIn, foundIn, seenAllowed, Stepped, StepIs}
 use Rattle.standby_lifecycle.specs.Calls.{promotedFrom, Promoted}
@@ -81,6 +83,7 @@ module _ (s : Settings) (c : Replica) (seen : Lookup) (w b h : List ℕ) where
   unsound call off e₁ e₂ = record {
     refuses = λ _. (e₂ ∙ ap (leaving c seen) e₁, (refl, (refl, refl)));
     steps = λ on own. absurd (true≢false (sym on ∙ off));
+    exact = subst (λ (x : Outcome). Exact b (x .answer)) (sym (e₂ ∙ ap (leaving c seen) e₁)) (exact-refused b 25);
   }
 
   pub keeps : Sound ≡ true → Rules (s .shape) w b
@@ -92,8 +95,8 @@ module _ (s : Settings) (c : Replica) (seen : Lookup) (w b h : List ℕ) where
 
   -- the rules are kept
   module _ (on : Sound ≡ true) where
-    stepped : (call : Call) {w' b' h' : List ℕ} {r : Outcome} → Stepped s c seen call w w' b b' h h' r → StepIs s c seen call w w' b b' h h' r
-    stepped call g = record { refuses = λ off. absurd (true≢false (sym on ∙ off)); steps = λ _ own. g }
+    stepped : (call : Call) {w' b' h' : List ℕ} {r : Outcome} → Exact b' (r .answer) → Stepped s c seen call w w' b b' h h' r → StepIs s c seen call w w' b b' h h' r
+    stepped call is-exact g = record { refuses = λ off. absurd (true≢false (sym on ∙ off)); steps = λ _ own. g; exact = is-exact }
 
     -- ---- flush
 
@@ -106,7 +109,7 @@ module _ (s : Settings) (c : Replica) (seen : Lookup) (w b h : List ℕ) where
       flush-by t e = ap Flush e
 
       not-flushed : {r : Outcome} {a : Answer} → (not (eqb n (c .connections)) || isSet (c .promoted)) ≡ true → a ≡ isRefused 22 → r ≡ leaving c seen a → StepIs s c seen (flush n) w w b b h h r
-      not-flushed e e₁ e₂ = subst (StepIs s c seen (flush n) w w b b h h) (sym (e₂ ∙ ap (leaving c seen) e₁)) (stepped (flush n) (record {
+      not-flushed e e₁ e₂ = subst (StepIs s c seen (flush n) w w b b h h) (sym (e₂ ∙ ap (leaving c seen) e₁)) (stepped (flush n) (exact-refused b 22) (record {
         is = sym (flush-by true e);
         lands = leaving-lands c seen (isRefused 22) (getD w 0 0) (roomIn seen h);
         rules = keeps on;
@@ -122,7 +125,7 @@ module _ (s : Settings) (c : Replica) (seen : Lookup) (w b h : List ℕ) where
       after-promotion same done-so = not-flushed (ap (λ (t : Bool). not t || isSet (c .promoted)) (eq-eqb n (c .connections) same) ∙ set-so (c .promoted) done-so)
 
       pub flushed : {w' : List ℕ} {r : Outcome} {a : Answer} → n ≡ c .connections → c .promoted ≡ 0 → Ran (s .shape) b w w' → a ≡ isDone → r ≡ leaving c seen a → StepIs s c seen (flush n) w w' b b h h r
-      flushed {w'} same off ran e₁ e₂ = subst (StepIs s c seen (flush n) w w' b b h h) (sym (e₂ ∙ ap (leaving c seen) e₁)) (stepped (flush n) (record {
+      flushed {w'} same off ran e₁ e₂ = subst (StepIs s c seen (flush n) w w' b b h h) (sym (e₂ ∙ ap (leaving c seen) e₁)) (stepped (flush n) (exact-done b) (record {
         is = (λ j. record { core = record { counters = countersOf c; places = ran .places j; pending = ran .pending j }; action = leave; answer = done })
             ∙ sym (flush-by false (ap (λ (t : Bool). not t || isSet (c .promoted)) (eq-eqb n (c .connections) same) ∙ clear-so (c .promoted) off));
         lands = leaving-lands c seen isDone (getD w' 0 0) (roomIn seen h);
@@ -148,7 +151,7 @@ module _ (s : Settings) (c : Replica) (seen : Lookup) (w b h : List ℕ) where
       pub other-lost : {w' : List ℕ} {r : Outcome} {a : Answer} → eqb n (c .connections) ≡ false → w' ≡ Left (eqb n (c .connections)) → a ≡ isDone → r ≡ leaving c seen a → StepIs s c seen (disconnectedFrom n) w w' b b h h r
       other-lost {w'} {r} e left e₁ e₂ =
           subst (λ (x : List ℕ). StepIs s c seen (disconnectedFrom n) w x b b h h r) (sym (left ∙ ap Left e))
-          (subst (StepIs s c seen (disconnectedFrom n) w w b b h h) (sym (e₂ ∙ ap (leaving c seen) e₁)) (stepped (disconnectedFrom n) (record {
+          (subst (StepIs s c seen (disconnectedFrom n) w w b b h h) (sym (e₂ ∙ ap (leaving c seen) e₁)) (stepped (disconnectedFrom n) (exact-done b) (record {
             is = sym (lost-by false e);
             lands = leaving-lands c seen isDone (getD w 0 0) (roomIn seen h);
             rules = keeps on;
@@ -161,7 +164,7 @@ module _ (s : Settings) (c : Replica) (seen : Lookup) (w b h : List ℕ) where
       own-lost {w'} {r} e left e₁ e₂ =
           let long : 66 ≤ length w = omega (arith, keeps on .room .words-long) in
           subst (λ (x : List ℕ). StepIs s c seen (disconnectedFrom n) w x b b h h r) (sym (left ∙ ap Left e))
-          (subst (StepIs s c seen (disconnectedFrom n) w (set w 1 0) b b h h) (sym (e₂ ∙ ap (clearing c seen) e₁)) (stepped (disconnectedFrom n) (record {
+          (subst (StepIs s c seen (disconnectedFrom n) w (set w 1 0) b b h h) (sym (e₂ ∙ ap (clearing c seen) e₁)) (stepped (disconnectedFrom n) (exact-done b) (record {
             is = (λ j. record { core = record { counters = countersOf c; places = places-kept (s .shape) w (set w 1 0) b (clear-only w) j; pending = cleared w long j }; action = clear; answer = done })
                 ∙ sym (lost-by true e);
             lands = clearing-lands c seen isDone (getD (set w 1 0) 0 0) (roomIn seen h);
@@ -185,7 +188,7 @@ module _ (s : Settings) (c : Replica) (seen : Lookup) (w b h : List ℕ) where
     unchecked-by = refl
 
     pub not-checked : {r : Outcome} {a : Answer} → c .checked ≡ 0 → a ≡ isRefused 23 → r ≡ leaving c seen a → StepIs s c seen promote w w b b h h r
-    not-checked off e₁ e₂ = subst (StepIs s c seen promote w w b b h h) (sym (e₂ ∙ ap (leaving c seen) e₁)) (stepped promote (record {
+    not-checked off e₁ e₂ = subst (StepIs s c seen promote w w b b h h) (sym (e₂ ∙ ap (leaving c seen) e₁)) (stepped promote (exact-refused b 23) (record {
       is = sym (promote-by false (clear-so (c .checked) off));
       lands = leaving-lands c seen (isRefused 23) (getD w 0 0) (roomIn seen h);
       rules = keeps on;
@@ -202,7 +205,7 @@ module _ (s : Settings) (c : Replica) (seen : Lookup) (w b h : List ℕ) where
       is = (λ j. record { core = record { counters = countersOf (promotedFrom c); places = p .places j; pending = p .pending j }; action = clear; answer = done })
 
       pub promoted-checked : (c .checked ≡ 0 → ⊥) → StepIs s c seen promote w w' b b' h h r
-      promoted-checked said = subst (StepIs s c seen promote w w' b b' h h) (sym (p .is)) (stepped promote (record {
+      promoted-checked said = subst (StepIs s c seen promote w w' b b' h h) (sym (p .is)) (stepped promote (exact-done b') (record {
         is = is ∙ sym (promote-by true (set-so (c .checked) said));
         lands = clearing-lands (promotedFrom c) seen isDone (getD w' 0 0) (roomIn seen h);
         rules = p .rules;
@@ -212,7 +215,7 @@ module _ (s : Settings) (c : Replica) (seen : Lookup) (w b h : List ℕ) where
       }))
 
       pub promoted-unchecked : StepIs s c seen promoteUnchecked w w' b b' h h r
-      promoted-unchecked = subst (StepIs s c seen promoteUnchecked w w' b b' h h) (sym (p .is)) (stepped promoteUnchecked (record {
+      promoted-unchecked = subst (StepIs s c seen promoteUnchecked w w' b b' h h) (sym (p .is)) (stepped promoteUnchecked (exact-done b') (record {
         is = is ∙ sym unchecked-by;
         lands = clearing-lands (promotedFrom c) seen isDone (getD w' 0 0) (roomIn seen h);
         rules = p .rules;

@@ -1,22 +1,15 @@
 // What a call of the standby answers, as a frame and as its bytes.
 ghost use mathlib.Core.Path.{_≡_};
-ghost use mathlib.Core.Bool.{true};
-ghost use mathlib.Core.Option.{some};
-ghost use Prim.Native.Nat.{_+_, _≤_};
-ghost use lib.ListN.{length};
-ghost use Rattle.frame_reader.specs.Answers.{spanOf};
 ghost use Rattle.frame_fields.specs.Answers.{reasonOf, flightOf};
 ghost use Rattle.frame_writer.specs.Encoding.{Encoded};
-ghost use Rattle.frame.specs.Answers.{frameIn};
-ghost use Rattle.standby_state.specs.Answers.{reasonBy, frameBy};
-ghost use Rattle.standby_reply.specs.Replies.{flightBy, CutTo, Shows};
+ghost use Rattle.standby_state.specs.Answers.{reasonBy};
+ghost use Rattle.standby_reply.specs.Replies.{isFrame, frameFor, flightBy, Shows, Frames};
 use frame::Frame;
 use frame::InFlight;
 use frame::NackReason;
 use frame::Summary;
 use frame::Written;
 use frame_fields::kind;
-use frame_reader::Span;
 use frame_stamp::Protocol;
 use standby_state::Answer;
 use standby_state::BoundSummary;
@@ -46,29 +39,12 @@ fn in_flight(has: u8, n: u64) -> InFlight
     InFlight::Nothing
 }
 
-// The same bytes as a part that lies in the area.
-fn cut(bytes: &[u8], span: Span) -> Span
-    ensures { λ r. ⌜ CutTo (now (bytes .entry)) span r ⌝ }
-{
-    if bytes.len() < span.at {
-        return Span { at: 0, len: 0 };
-    }
-    let left = bytes.len() - span.at;
-    if left < span.len as usize {
-        return Span {
-            at: span.at,
-            len: left as u32,
-        };
-    }
-    span
-}
-
-fn summary(flat: BoundSummary, bytes: &[u8]) -> Summary
-    ensures { λ r. ⌜ Shows (now (bytes .entry)) flat r ⌝ }
+fn summary(flat: BoundSummary) -> Summary
+    ensures { λ r. ⌜ Shows flat r ⌝ }
 {
     let in_flight = in_flight(flat.has_in_flight, flat.in_flight);
-    let created_at = cut(bytes, flat.created_at);
-    let marks = cut(bytes, flat.marks);
+    let created_at = flat.created_at;
+    let marks = flat.marks;
     Summary {
         next_outgoing: flat.next_outgoing,
         next_incoming: flat.next_incoming,
@@ -79,9 +55,21 @@ fn summary(flat: BoundSummary, bytes: &[u8]) -> Summary
     }
 }
 
-// The frame of an answer that has one.
-fn frame(answer: Answer, bytes: &[u8]) -> Frame
-    ensures { λ r. ⌜ frameIn 1 (now (bytes .entry)) r ≡ some (frameBy (now (bytes .entry)) answer) ⌝ }
+// Whether an answer is a frame: no refusal, not done, of a kind and a reason that there are.
+fn is_frame(answer: Answer) -> bool
+    ensures { λ r. ⌜ r ≡ isFrame answer ⌝ }
+{
+    (answer.refusal == 0)
+        & ((((answer.kind == kind::WELCOME) | (answer.kind == kind::ACK))
+            | (answer.kind == kind::BOUND))
+            | ((answer.kind == kind::NACK)
+                & ((frame_fields::reason::STALE_EPOCH <= answer.reason)
+                    & (answer.reason <= frame_fields::reason::RESTARTED))))
+}
+
+// The frame of an answer that is one.
+fn frame(answer: Answer) -> Frame
+    ensures { λ r. ⌜ Frames answer r ⌝ }
 {
     let handle = answer.handle;
     if answer.kind == kind::WELCOME {
@@ -102,20 +90,23 @@ fn frame(answer: Answer, bytes: &[u8]) -> Frame
     let flat = answer.summary;
     Frame::Bound {
         handle,
-        summary: summary(flat, bytes),
+        summary: summary(flat),
     }
 }
 
-// The bytes of an answer that has a frame; `bytes` is the store's byte area, where a Bound has its texts.
+// The bytes of an answer's frame, and 8 where it has none; `bytes` is the store's byte area, where a Bound has its texts.
 pub fn write(answer: Answer, bytes: &[u8], out: &mut [u8]) -> Written
-    ensures { λ r. ⌜ Encoded 1 (some (frameBy (now (bytes .entry)) answer)) (now (out .entry)) (now (out .exit)) r ⌝ }
+    ensures { λ r. ⌜ Encoded 1 (frameFor (now (bytes .entry)) answer) (now (out .entry)) (now (out .exit)) r ⌝ }
 {
-    let f = frame(answer, bytes);
-    f.encode(
-        Protocol {
-            version: Frame::VERSION,
-        },
-        bytes,
-        out,
-    )
+    if is_frame(answer) {
+        let f = frame(answer);
+        return f.encode(
+            Protocol {
+                version: Frame::VERSION,
+            },
+            bytes,
+            out,
+        );
+    }
+    Written::Unreadable
 }

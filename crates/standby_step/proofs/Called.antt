@@ -340,6 +340,7 @@ module _ (s : Settings) (c : Replica) (row : List BoundRecord) (call : Call) (w 
       record {
         refuses = λ e. refused (p .refuses (seen-allowed s row K w b h ∙ e));
         steps = λ e. called-steps e (p .steps (seen-allowed s row K w b h ∙ e) (λ f a. found-own row K (ltb-true (findOf row K) (length row) f) ∙ sought-own call a));
+        exact = p .exact;
       }
     where
       refused : (o ≡ leaving c See (isRefused 25)) × ((w' ≡ w) × ((b' ≡ b) × (h' ≡ h)))

@@ -24,6 +24,7 @@ use Rattle.standby_counters.specs.declared.Replica.{Replica}
 use Rattle.standby_state.specs.declared.Settings.{Settings}
 use Rattle.standby_state.specs.declared.Answer.{Answer}
 use Rattle.standby_state.specs.Answers.{answerOf, isRefused}
+use Rattle.standby_state.specs.Exact.{Exact}
 use Rattle.standby_state.specs.Outcomes.{countersOf, settingsOf}
 use Rattle.standby_step.specs.Steps.{roomOf, Leaves, holdsAfter, writesBy}
 
@@ -87,7 +88,8 @@ pub record CalledSteps (s : Settings) (call : Call) (c c' : Replica) (row row' :
   pub row-length : length row' ≡ length row
   pub holds-length : length h' ≡ length h
 
--- 25 where the rules are broken, and all is as it was; else the step
+-- 25 where the rules are broken, and all is as it was; else the step; the answer is the record of what it stands for, field for field
 pub record Called (s : Settings) (call : Call) (c c' : Replica) (row row' : List Bound) (w w' b b' h h' : List ℕ) (a : Answer) : Type 0 where
   pub refuses : allowedAll s row w b h ≡ false → (a ≡ isRefused Refusal.rulesBroken) × ((c' ≡ c) × ((row' ≡ row) × ((w' ≡ w) × ((b' ≡ b) × (h' ≡ h)))))
   pub steps : allowedAll s row w b h ≡ true → CalledSteps s call c c' row row' w w' b b' h h' a
+  pub exact : Exact b' a

@@ -32,6 +32,7 @@ use Rattle.standby_state.specs.declared.Settings.{Settings}
 use Rattle.standby_state.specs.declared.Answer.{Answer}
 use Rattle.standby_state.specs.declared.Outcome.{Outcome}
 use Rattle.standby_state.specs.Answers.{answerOf, isRefused}
+use Rattle.standby_state.specs.Exact.{Exact}
 use Rattle.standby_state.specs.Outcomes.{countersOf, settingsOf, leaving, areaAt, outcomeOf, Lands}
 use Rattle.standby_hello.specs.Greeting.{isQuiet}
 
@@ -148,3 +149,4 @@ pub record Stepped (s : Settings) (c : Replica) (seen : Lookup) (call : Call) (w
 pub record StepIs (s : Settings) (c : Replica) (seen : Lookup) (call : Call) (w w' b b' h h' : List ℕ) (r : Outcome) : Type 0 where
   pub refuses : seenAllowed (s .shape) seen w b h ≡ false → (r ≡ leaving c seen (isRefused Refusal.rulesBroken)) × ((w' ≡ w) × ((b' ≡ b) × (h' ≡ h)))
   pub steps : seenAllowed (s .shape) seen w b h ≡ true → (isFound seen ≡ true → asks call ≡ true → seen .bound .handle ≡ handleOf call) → Stepped s c seen call w w' b b' h h' r
+  pub exact : Exact b' (r .answer)
