@@ -18,8 +18,9 @@ use Rattle.frame_fields.specs.declared.Epoch.{Epoch}
 use Rattle.standby_row.specs.declared.Lookup.{Lookup}
 use Rattle.store_areas.specs.Areas.{Rules}
 use Rattle.store_areas.proofs.Lifting.{places-length}
-use Rattle.standby_commit.proofs.Laws.{touched-none}
-use Rattle.model_standby.specs.Answer.{protocolVersion, reply, refused, isReply}
+use Rattle.standby_commit.specs.Settling.{batchChange, StoreAfter}
+use Rattle.standby_commit.proofs.Laws.{none-changed}
+use Rattle.model_standby.specs.Answer.{protocolVersion, reply, refused, accepted, isReply}
 use Rattle.model_standby.specs.Answer as the-answer
 use Rattle.model_standby.specs.State.{Bound, atEpoch}
 use Rattle.model_standby.specs.State as state
@@ -36,7 +37,6 @@ use Rattle.standby_state.specs.declared.Answer.{Answer}
 use Rattle.standby_state.specs.declared.Outcome.{Outcome}
 use Rattle.standby_state.specs.Answers.{answerOf, isRefused, isNack, isAck}
 use Rattle.standby_state.specs.Outcomes.{countersOf, settingsOf, leaving, storing, Lands}
-use Rattle.standby_hello.specs.Greeting.{isQuiet}
 use Rattle.standby_hello.proofs.Laws.{leaving-lands}
 use Rattle.standby_batch.specs.Batches.{epochTo, foundFor, answerBy, settledOf, RecordRules, holdAreaWith, foundAt, BatchIs}
 use Rattle.standby_batch.proofs.Passing.{as-many, isStore, store-none, Passes, whole-passes, last-passes}
@@ -58,16 +58,13 @@ module _ (d : PartResult) (h : ℕ) (n : CommitNumber) where
       go true e = yes (d .nack)
       go false e = ap (λ (t : Bool). cond t the-answer.done (refused (d .refusal))) e
 
-  quiet-is : isQuiet (answerBy d h n) ≡ (not (eqb (d .refusal) 0) || d .nack)
-  quiet-is = go (eqb (d .refusal) 0) refl
+  said-accepted : accepted Said ≡ (eqb (d .refusal) 0 && not (d .nack))
+  said-accepted = go (eqb (d .refusal) 0) (d .nack)
     where
-      yes : (m : Bool) → isQuiet (cond m (isNack h 2) (isAck h n)) ≡ m
-      yes true = refl
-      yes false = refl
-
-      go : (t : Bool) → eqb (d .refusal) 0 ≡ t → isQuiet (cond t (cond (d .nack) (isNack h 2) (isAck h n)) (isRefused (d .refusal))) ≡ (not t || d .nack)
-      go true e = yes (d .nack)
-      go false e = ap (λ (t : Bool). not t || eqb 0 6) e
+      go : (t m : Bool) → accepted (cond t (reply (cond m (nack h diverged) (ack h (n .0)))) (refused (d .refusal))) ≡ (t && not m)
+      go true true = refl
+      go true false = refl
+      go false m = refl
 
   said-reply : isReply Said ≡ eqb (d .refusal) 0
   said-reply = go (eqb (d .refusal) 0)
@@ -101,9 +98,9 @@ module _ (s : Settings) (c : Replica) (seen : Lookup) (h : ℕ) (e : Epoch) (n :
   unfolding coreBatch
   tests = refl
 
-  left : (t u : Bool) → isEmpty apps ≡ t → ltb (e .0) (c .epoch .0) ≡ u → {r : Outcome} {a : Answer} (x : Answer) → r ≡ leaving c seen a → a ≡ x
+  left : (t u : Bool) → isEmpty apps ≡ t → ltb (e .0) (c .epoch .0) ≡ u → {r : Outcome} {a : Answer} (x : Answer) → r ≡ leaving c seen a → a ≡ x → accepted (answerOf b x) ≡ false
       → record { core = K; action = leave; answer = answerOf b x } ≡ Goes t u → Writes t u ≡ none → Is w b area r
-  left t u p q x e₁ e₂ is none-written =
+  left t u p q x e₁ e₂ off is none-written =
       subst (Is w b area) (sym (e₁ ∙ ap (leaving c seen) e₂))
       (record {
         is = is ∙ sym (tests ∙ (λ j. Goes (p j) (q j)));
@@ -112,16 +109,15 @@ module _ (s : Settings) (c : Replica) (seen : Lookup) (h : ℕ) (e : Epoch) (n :
         stored = λ y. absurd (true≢false (sym y));
         rules = rules;
         used = refl;
-        touched = touched-none (s .shape) (seen .bound .place) w b;
-        quiet = λ _. (refl, refl);
+        store-after = none-changed (s .shape) h (seen .bound .place) part w b off;
         area-is = ap (λ (o : Option HoldWrite). holdAreaWith o area) (sym ((λ j. Writes (p j) (q j)) ∙ none-written));
       })
 
   pub with-records : {r : Outcome} {a : Answer} → isEmpty apps ≡ false → r ≡ leaving c seen a → a ≡ isRefused 13 → Is w b area r
-  with-records p e₁ e₂ = left false (ltb (e .0) (c .epoch .0)) p refl (isRefused 13) e₁ e₂ refl refl
+  with-records p e₁ e₂ = left false (ltb (e .0) (c .epoch .0)) p refl (isRefused 13) e₁ e₂ refl refl refl
 
   pub stale : {r : Outcome} {a : Answer} → isEmpty apps ≡ true → ltb (e .0) (c .epoch .0) ≡ true → r ≡ leaving c seen a → a ≡ isNack h 1 → Is w b area r
-  stale p less e₁ e₂ = left true true p less (isNack h 1) e₁ e₂ refl refl
+  stale p less e₁ e₂ = left true true p less (isNack h 1) e₁ e₂ refl refl refl
 
   -- ---- past them
 
@@ -265,8 +261,9 @@ module _ (s : Settings) (c : Replica) (seen : Lookup) (h : ℕ) (e : Epoch) (n :
           stored = λ y. sym found-is ∙ stored-found (sym (stores-so (d .stores)) ∙ y);
           rules = g .rules;
           used = used-same;
-          touched = g .touched;
-          quiet = λ q. g .quiet (sym (quiet-is d h n) ∙ ap isQuiet (sym (says-so (d .stores))) ∙ q);
+          store-after =
+              subst (λ (t : Bool). StoreAfter (s .shape) (batchChange h (seen .bound .place) part t) w w' b b')
+              (sym (ap (λ (a : Answer). accepted (answerOf b' a)) (says-so (d .stores)) ∙ ap accepted (answer-is d h n b') ∙ said-accepted d h n)) (g .store-after);
           area-is = area-whole;
         })
 

@@ -23,8 +23,8 @@ use Rattle.store_areas.proofs.Lifting.{part-lent, part-length, part-own}
 use Rattle.standby_pending.specs.Pending.{countOf, pendingOf}
 use Rattle.standby_pending_run.specs.Commits.{ranWords, RanIf}
 use Rattle.standby_pending_run.proofs.Due.{many-pending}
-use Rattle.standby_commit.specs.Settling.{Touched}
-use Rattle.model_standby.specs.Answer.{protocolVersion}
+use Rattle.standby_commit.specs.Settling.{batchChange, StoreAfter}
+use Rattle.model_standby.specs.Answer.{protocolVersion, accepted}
 use Rattle.model_standby.specs.State.{Bound, Counters}
 use Rattle.model_standby.specs.State as state
 use Rattle.model_standby.specs.Standby.{follows, startsWithReset, raised, maxWhole, pendsOn}
@@ -185,8 +185,7 @@ module _ (s : Settings) (c : Replica) (seen : Lookup) (h e n : ℕ) (part : the-
       used = g .used ∙ ran .used;
       leaves = record {
         mid = w';
-        touched = subst (λ (x : List ℕ). Touched (s .shape) (seen .bound .place) x w' b b') words-are (g .touched);
-        still = λ q. (g .quiet q .0 ∙ words-are, g .quiet q .1);
+        store-after = subst (λ (x : List ℕ). StoreAfter (s .shape) (batchChange h (seen .bound .place) part (accepted (answerOf b' (r .answer)))) x w' b b') words-are (g .store-after);
         last = refl;
       };
       holds = λ own.

@@ -1,6 +1,6 @@
 -- What a Bound says of a session; a session is there or is opened; each way through Bind is the definition's. Assumes nothing.
 use mathlib.Core.Path.{_≡_, refl, sym, ap, subst, _∙_}
-use mathlib.Core.Bool.{Bool, true, false, cond, not, _||_, true≢false}
+use mathlib.Core.Bool.{Bool, true, false, cond, not, _&&_, _||_}
 use mathlib.Core.List.{List, [], _∷_, _++_, map}
 use mathlib.Core.Option.{Option, none, some, Option·map}
 use Prim.Native.Nat.{ℕ, _+_, _*_, _<_, _≤_}
@@ -18,7 +18,7 @@ use Rattle.model_session.specs.Summary.{summary}
 use Rattle.model_session.proofs.Basics.{some-inj}
 use Rattle.model_standby.specs.Row.{isSome}
 use Rattle.model_standby.specs.Store.{Place, placeOf, isStored, sessionAt, orNew, newPlace, opened}
-use Rattle.model_standby.specs.Answer.{reply}
+use Rattle.model_standby.specs.Answer.{reply, accepted}
 use Rattle.model_standby.specs.State.{newBound}
 use Rattle.model_standby.specs.Core.{Core, CoreResult, leave, store, coreSays, coreRefuse, coreBind}
 use Rattle.model_standby.proofs.Places.{place-low}
@@ -27,7 +27,6 @@ use Rattle.frame_fields.specs.declared.SessionId.{SessionId}
 use Rattle.frame_fields.specs.declared.Summary.{Summary}
 use Rattle.frame_fields.specs.Answers.{keyOf, flightOf, summaryOf}
 use Rattle.frame_op.specs.Answers.{heldRun}
-use Rattle.store_place.specs.Only.{Only}
 use Rattle.store_place.specs.Place.{keyFrom}
 use Rattle.store_areas.specs.declared.Shape.{Shape}
 use Rattle.store_areas.specs.Areas.{placeWords, wordsAt, Rules, placeAt, placesOf}
@@ -37,9 +36,8 @@ use Rattle.store_sessions.specs.Answers.{Opened}
 use Rattle.store_sessions.proofs.Opening.{opened-rules}
 use Rattle.standby_changes.proofs.Held.{held-none}
 use Rattle.standby_pending.specs.Pending.{countOf, commitOf, pendingOf}
-use Rattle.standby_commit.specs.Settling.{Touched}
-use Rattle.standby_commit.proofs.Header.{past-66, pending-kept}
-use Rattle.standby_commit.proofs.Laws.{touched-none}
+use Rattle.standby_commit.specs.Settling.{stays, opens, openedWords, Touched, StoreAfter}
+use Rattle.standby_commit.proofs.Header.{pending-kept}
 use Rattle.standby_row.specs.declared.Bound.{Bound}
 use Rattle.standby_row.specs.declared.Lookup.{Lookup}
 use Rattle.standby_part.specs.State.{coreAt}
@@ -133,7 +131,7 @@ module _ (s : Shape) (k : Key) (w b : List ℕ) (r : Rules s w b) (place : ℕ) 
         more = omega arith;
         there = less;
         session = sym (ap orNew (session-is s w b (placeOf k ps) less));
-        touched = touched-none s (placeOf k ps) w b;
+        store-after = subst (λ (t : Bool). StoreAfter s (cond (not t) (opens (placeOf k ps)) stays) w w b b) (sym stored) (refl, refl);
       }
 
   pub newly-there : {w' b' : List ℕ} {x : Key} → x ≡ k → n ≤ place → n < s .places → Opened s x w w' b b' → BindOpens s k w w' b b'
@@ -162,10 +160,9 @@ module _ (s : Shape) (k : Key) (w b : List ℕ) (r : Rules s w b) (place : ℕ) 
         more = omega (arith, more);
         there = inside;
         session = ap (λ (x : Place). x .stored .session) own ∙ sym (ap (λ (x : Option Place). orNew (Option·map (λ (y : Place). y .stored .session) x)) none-there);
-        touched = subst (λ (i : ℕ). Touched s i w w' b b') (sym at) (record {
-          words = subst (λ (l : List ℕ). Only (n * placeWords s) (n * placeWords s + placeWords s) l (drop 66 w')) (drop-set-lt 66 w 0 (n + 1) (omega arith)) (past-66 (n * placeWords s) (placeWords s) v w' (o .words));
-          bytes = o .bytes;
-        });
+        store-after =
+            subst (λ (t : Bool). StoreAfter s (cond (not t) (opens (placeOf k ps)) stays) w w' b b') (sym new)
+            (subst (λ (i : ℕ). Touched s i (openedWords w) w' b b') (sym at) (record { words = o .words; bytes = o .bytes }));
       }
 
 -- a new key is opened only where a place is free
@@ -173,9 +170,6 @@ pub free-there : (place used places : ℕ) {t : Bool} → t ≡ (ltb place used 
 free-there place used places e h high = ltb-true used places (ap (λ (x : Bool). x || ltb used places) (sym (le-ltb place used high)) ∙ sym e ∙ h)
 
 -- ---- each way through
-
-no : {A : Type 0} → false ≡ true → A
-no e = absurd (true≢false (sym e))
 
 module _ (s : Settings) (c : Replica) (seen : Lookup) (h e lag : ℕ) (k : Key) (w b : List ℕ) (r : Rules (s .shape) w b) where
   abbrev places : List Place
@@ -198,20 +192,19 @@ module _ (s : Settings) (c : Replica) (seen : Lookup) (h e lag : ℕ) (k : Key) 
   unfolding coreBind
   tests room = refl
 
-  as-left : {o : Outcome} {a x : Answer} → o ≡ leaving c seen a → a ≡ x → TextsLie b (x .summary) → ((room : ℕ) → record { core = At; action = leave; answer = answerOf b x } ≡ Bind room) → BindIs s c seen h e lag k w w b b o
-  as-left {x = x} e₁ e₂ lie is = subst (BindIs s c seen h e lag k w w b b) (sym (e₁ ∙ ap (leaving c seen) e₂)) (record {
+  as-left : {o : Outcome} {a x : Answer} → o ≡ leaving c seen a → a ≡ x → accepted (answerOf b x) ≡ false → TextsLie b (x .summary) → ((room : ℕ) → record { core = At; action = leave; answer = answerOf b x } ≡ Bind room) → BindIs s c seen h e lag k w w b b o
+  as-left {x = x} e₁ e₂ off lie is = subst (BindIs s c seen h e lag k w w b b) (sym (e₁ ∙ ap (leaving c seen) e₂)) (record {
     is = λ version room holds. is room;
     lands = leaving-lands c seen x (getD w 0 0);
     rules = r;
     more = omega arith;
-    touched = touched-none (s .shape) (placeOf k places) w b;
+    store-after = subst (λ (t : Bool). StoreAfter (s .shape) (cond (t && not (isStored k places)) (opens (placeOf k places)) stays) w w b b) (sym off) (refl, refl);
     texts = lie;
-    quiet = λ _. (refl, refl);
   })
 
   pub stale : {o : Outcome} {a : Answer} → e < c .epoch .0 → o ≡ leaving c seen a → a ≡ isNack h 1 → BindIs s c seen h e lag k w w b b o
   stale less e₁ e₂ =
-      as-left e₁ e₂ (no-texts b) (λ room. sym (tests room ∙ ap (λ (t : Bool). Tests t (ltb (s .«max_lag») lag) (isStored k places || ltb (length places) (s .shape .places)) (roomFor seen)) (lt-ltb e (c .epoch .0) less)))
+      as-left e₁ e₂ refl (no-texts b) (λ room. sym (tests room ∙ ap (λ (t : Bool). Tests t (ltb (s .«max_lag») lag) (isStored k places || ltb (length places) (s .shape .places)) (roomFor seen)) (lt-ltb e (c .epoch .0) less)))
 
   -- of an epoch that is not lower
   module _ (high : c .epoch .0 ≤ e) where
@@ -220,7 +213,7 @@ module _ (s : Settings) (c : Replica) (seen : Lookup) (h e lag : ℕ) (k : Key) 
 
     pub lagging : {o : Outcome} {a : Answer} → s .«max_lag» < lag → o ≡ leaving c seen a → a ≡ isNack h 3 → BindIs s c seen h e lag k w w b b o
     lagging great e₁ e₂ =
-        as-left e₁ e₂ (no-texts b) (λ room. sym (first room ∙ ap (λ (t : Bool). Tests false t (isStored k places || ltb (length places) (s .shape .places)) (roomFor seen)) (lt-ltb (s .«max_lag») lag great)))
+        as-left e₁ e₂ refl (no-texts b) (λ room. sym (first room ∙ ap (λ (t : Bool). Tests false t (isStored k places || ltb (length places) (s .shape .places)) (roomFor seen)) (lt-ltb (s .«max_lag») lag great)))
 
     -- and of a lag that is not too great, with what was found of the places
     module _ (small : lag ≤ s .«max_lag») {place : ℕ} {has : Bool} (at : place ≡ placeOf k places) (found : has ≡ (ltb place (getD w 0 0) || ltb (getD w 0 0) (s .shape .places))) where
@@ -235,7 +228,7 @@ module _ (s : Settings) (c : Replica) (seen : Lookup) (h e lag : ℕ) (k : Key) 
           ∙ (λ j. Tests false (le-ltb (s .«max_lag») lag small j) (sym same j) (roomFor seen))
 
       pub all-places : {o : Outcome} {a : Answer} → not has ≡ true → o ≡ leaving c seen a → a ≡ isRefused 20 → BindIs s c seen h e lag k w w b b o
-      all-places full e₁ e₂ = as-left e₁ e₂ (no-texts b) (λ room. sym (second room ∙ ap (λ (t : Bool). Tests false false t (roomFor seen)) (not-true has full)))
+      all-places full e₁ e₂ = as-left e₁ e₂ refl (no-texts b) (λ room. sym (second room ∙ ap (λ (t : Bool). Tests false false t (roomFor seen)) (not-true has full)))
 
       -- and with a session place
       module _ (some-place : not has ≡ false) {free : Bool} (fits : free ≡ roomFor seen) where
@@ -243,7 +236,7 @@ module _ (s : Settings) (c : Replica) (seen : Lookup) (h e lag : ℕ) (k : Key) 
         third room = second room ∙ (λ j. Tests false false (not-false has some-place j) (sym fits j))
 
         pub all-handles : {o : Outcome} {a : Answer} → not free ≡ true → o ≡ leaving c seen a → a ≡ isRefused 21 → BindIs s c seen h e lag k w w b b o
-        all-handles full e₁ e₂ = as-left e₁ e₂ (no-texts b) (λ room. sym (third room ∙ ap (Tests false false true) (not-true free full)))
+        all-handles full e₁ e₂ = as-left e₁ e₂ refl (no-texts b) (λ room. sym (third room ∙ ap (Tests false false true) (not-true free full)))
 
         pub binds : {w' b' : List ℕ} {o : Outcome} {a : Answer} {m : BoundSummary} {g : Bound} → not free ≡ false → BindOpens (s .shape) k w w' b b'
             → TextsLie b' m → briefOf b' m ≡ summary (placeAt (s .shape) w' b' place .stored .session) lag → a ≡ isBound h m → g ≡ newHandle h place → o ≡ storing c seen a h g → BindIs s c seen h e lag k w w' b b' o
@@ -270,7 +263,6 @@ module _ (s : Settings) (c : Replica) (seen : Lookup) (h e lag : ℕ) (k : Key) 
               };
               rules = op .rules;
               more = op .more;
-              touched = op .touched;
+              store-after = op .store-after;
               texts = lie;
-              quiet = no;
             })

@@ -21,7 +21,7 @@ use Rattle.standby_state.specs.declared.Answer.{Answer}
 use Rattle.standby_state.specs.declared.Outcome.{Outcome}
 use Rattle.standby_state.specs.Answers.{answerOf, isRefused, isWelcome, isNack, isAck}
 use Rattle.standby_state.specs.Outcomes.{countersOf, settingsOf, leaving, clearing, Lands}
-use Rattle.standby_hello.specs.Greeting.{connectedTo, checkedTo, isQuiet, Replies}
+use Rattle.standby_hello.specs.Greeting.{connectedTo, checkedTo, Replies}
 
 no : {A : Type 0} → false ≡ true → A
 no e = absurd (true≢false (sym e))
@@ -40,12 +40,12 @@ At c ps pending = record { counters = countersOf c; places = ps; pending = pendi
 pub leaves-is : (c : Replica) (s : Settings) (seen : Lookup) (m : state.Settings → Core → CoreResult) (d : Replica) (a : Answer)
     → ((room : ℕ) (b : List ℕ) (ps : List Place) (pending : List (ℕ × ℕ)) → record { core = At d ps pending; action = leave; answer = answerOf b a } ≡ m (settingsOf s room) (At c ps pending))
     → Replies c s seen m (leaving d seen a)
-leaves-is c s seen m d a f = record { is = λ version room holds b ps pending. f room b ps pending; lands = leaving-lands d seen a; quiet = λ _. refl; stays = refl }
+leaves-is c s seen m d a f = record { is = λ version room holds b ps pending. f room b ps pending; lands = leaving-lands d seen a; stays = refl }
 
-clears-is : (c : Replica) (s : Settings) (seen : Lookup) (m : state.Settings → Core → CoreResult) (d : Replica) (a : Answer) → isQuiet a ≡ false
+clears-is : (c : Replica) (s : Settings) (seen : Lookup) (m : state.Settings → Core → CoreResult) (d : Replica) (a : Answer)
     → ((room : ℕ) (b : List ℕ) (ps : List Place) (pending : List (ℕ × ℕ)) → record { core = At d ps []; action = clear; answer = answerOf b a } ≡ m (settingsOf s room) (At c ps pending))
     → Replies c s seen m (clearing d seen a)
-clears-is c s seen m d a q f = record { is = λ version room holds b ps pending. f room b ps pending; lands = clearing-lands d seen a; quiet = λ e. absurd (true≢false (sym e ∙ q)); stays = refl }
+clears-is c s seen m d a f = record { is = λ version room holds b ps pending. f room b ps pending; lands = clearing-lands d seen a; stays = refl }
 
 module _ (c : Replica) (s : Settings) (seen : Lookup) where
   -- a refusal or a Nack that leaves all as it was
@@ -95,7 +95,7 @@ module _ (c : Replica) (s : Settings) (seen : Lookup) where
             → Replies c s seen Hello r
         taken {i = i} {d = d} {n = n} is high own e₀ e₁ e₂ =
             subst (Replies c s seen Hello) (sym (e₁ ∙ (λ j. clearing (e₀ j) seen (e₂ j))))
-            (clears-is c s seen Hello (connectedTo c n) (isWelcome n i) refl (λ room b ps pending.
+            (clears-is c s seen Hello (connectedTo c n) (isWelcome n i) (λ room b ps pending.
             ap (λ (x : ℕ). record { core = At (connectedTo c n) ps []; action = clear; answer = reply (welcome (n .0) x) }) own
             ∙ ap (λ (x : ℕ). record { core = At (connectedTo c (record { 0 = x })) ps []; action = clear; answer = reply (welcome x (max (s .incarnation .0) 1)) }) is
             ∙ sym (second (settingsOf s room) (At c ps pending) ∙ ap (Lower (settingsOf s room) (At c ps pending)) (le-ltb e (c .epoch .0) high))))

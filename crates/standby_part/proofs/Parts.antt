@@ -1,6 +1,6 @@
 -- Each way through a Batch's part is the definition's. Assumes nothing.
 use mathlib.Core.Path.{_≡_, refl, sym, ap, subst, _∙_}
-use mathlib.Core.Bool.{Bool, true, false, cond, not, true≢false}
+use mathlib.Core.Bool.{Bool, true, false, cond, not}
 use mathlib.Core.List.{List, [], _∷_, _++_}
 use Prim.Native.Nat.{ℕ, _-_, _<_}
 use native.Mathlib.Nat.{sub-zero}
@@ -16,7 +16,6 @@ use Rattle.store_areas.specs.Areas.{Rules, placeAt, placesOf}
 use Rattle.store_areas.proofs.Lifting.{session-is}
 use Rattle.standby_pending.specs.Pending.{pendingOf}
 use Rattle.standby_commit.specs.Settling.{Settles}
-use Rattle.standby_commit.proofs.Laws.{touched-none}
 use Rattle.model_standby.specs.Store.{onPlace, changed, sessionAt, orNew}
 use Rattle.model_standby.specs.Answer.{reply}
 use Rattle.model_standby.specs.State.{Settings, Counters, Bound, numbered}
@@ -67,8 +66,7 @@ module _ (version : ℕ) (s : Shape) (h : BoundRecord) (n : CommitNumber) (cs : 
     is = λ c incarnation lag.
         sym (ap (λ (t : Bool). cond (not t) (coreRefuse (coreAt c s w b) leave 15) (coreSettle (settingsFor s (length area) incarnation lag) (coreAt c s w b) (h .handle) (boundOf version h area) (n .0) cs)) (sym l ∙ some));
     rules = r;
-    touched = touched-none s (h .place) w b;
-    quiet = λ _. (refl, refl);
+    store-after = (refl, refl);
     slot-place = refl;
     slot-len = λ l. l;
   }
@@ -92,8 +90,7 @@ module _ (version : ℕ) (s : Shape) (h : BoundRecord) (n : CommitNumber) (cs : 
         made g = record {
           is = λ c incarnation lag. sym (past c incarnation lag ∙ settle-is s (h .handle) cs w w' b b' true (boundOf version h area) (n .0) used g c (length area) incarnation lag);
           rules = g .rules;
-          touched = g .touched;
-          quiet = λ e. absurd (true≢false (sym e));
+          store-after = g .store-after;
           slot-place = refl;
           slot-len = λ l. l;
         }
@@ -106,8 +103,7 @@ module _ (version : ℕ) (s : Shape) (h : BoundRecord) (n : CommitNumber) (cs : 
         off g = record {
           is = λ c incarnation lag. sym (past c incarnation lag ∙ settle-is s (h .handle) cs w w' b b' false (boundOf version h area) (n .0) used g c (length area) incarnation lag);
           rules = g .rules;
-          touched = g .touched;
-          quiet = λ _. g .unless refl;
+          store-after = g .store-after;
           slot-place = refl;
           slot-len = λ l. l;
         }

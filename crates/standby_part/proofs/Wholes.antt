@@ -1,6 +1,6 @@
 -- A Whole's ways are the definition's; a LastWhole's up to where it is settled. Assumes nothing.
 use mathlib.Core.Path.{_≡_, refl, sym, ap, subst, _∙_}
-use mathlib.Core.Bool.{Bool, true, false, cond, not, _&&_, _||_, true≢false}
+use mathlib.Core.Bool.{Bool, true, false, cond, not, _&&_}
 use mathlib.Core.List.{List, [], _++_}
 use Prim.Native.Nat.{ℕ, _+_, _-_, _<_, _≤_}
 use native.Mathlib.Omega.{arith}
@@ -21,8 +21,8 @@ use Rattle.frame_fields.specs.declared.CommitNumber.{CommitNumber}
 use Rattle.standby_row.specs.declared.Bound.{Bound}
 use Rattle.store_areas.specs.declared.Shape.{Shape}
 use Rattle.store_areas.specs.Areas.{Rules}
-use Rattle.standby_commit.specs.Settling.{Settles}
-use Rattle.standby_commit.proofs.Laws.{touched-none}
+use Rattle.standby_commit.specs.Settling.{stays, commits, StoreAfter, Settles}
+use Rattle.standby_commit.proofs.Laws.{none-changed}
 use Rattle.standby_hold.specs.declared.Held.{Held}
 use Rattle.standby_hold.specs.Holding.{sumOf, HoldIs}
 use Rattle.model_standby.specs.Answer.{reply, refused}
@@ -137,8 +137,7 @@ module _ (version : ℕ) (h : Bound) (n : CommitNumber) (run area : List ℕ) (s
         })
         ∙ sym (on c incarnation lag ∙ hold-sum version h n run area s w b c incarnation lag (go c incarnation lag) g e);
     rules = rules;
-    touched = touched-none s (h .place) w b;
-    quiet = λ _. (refl, refl);
+    store-after = none-changed s (h .handle) (h .place) part w b (ap (λ (m : ℕ). eqb m 0 && not false) e);
     slot-place = ap (λ (x : Bound). x .place) is;
     slot-len = λ l. subst (λ (x : Bound). x .«held_len» ≤ length area) (sym is) l;
   }
@@ -153,8 +152,7 @@ module _ (version : ℕ) (h : Bound) (n : CommitNumber) (run area : List ℕ) (s
         ap (λ (t : Bool). record { core = coreAt c s w b; action = leave; answer = cond t (reply (ack (h .handle) (n .0))) (refused (r .refusal)) }) (ne-eqb (r .refusal) 0 z)
         ∙ sym (on c incarnation lag ∙ hold-refuses version h n run area s w b c incarnation lag (go c incarnation lag) g z m);
     rules = rules;
-    touched = touched-none s (h .place) w b;
-    quiet = λ _. (refl, refl);
+    store-after = none-changed s (h .handle) (h .place) part w b (ap (λ (t : Bool). t && not false) (ne-eqb (r .refusal) 0 z));
     slot-place = refl;
     slot-len = λ l. l;
   }
@@ -200,8 +198,7 @@ module _ (version : ℕ) (h : Bound) (n : CommitNumber) (run area : List ℕ) (k
         })
         ∙ sym (hold-goes version h n run area s w b c incarnation lag (coreSays (coreAt c s w b) (store (h .handle) (holding (boundOf version h area) (n .0) (heldRun version run))) (ack (h .handle) (n .0))) g e);
     rules = rules;
-    touched = touched-none s (h .place) w b;
-    quiet = λ t. absurd (true≢false (sym t ∙ ap (λ (m : ℕ). not (eqb m 0) || false) e));
+    store-after = (refl, refl);
     slot-place = ap (λ (x : Bound). x .place) is;
     slot-len = λ _. subst (λ (x : Bound). x .«held_len» ≤ length area) (sym is) (subst (λ (k : ℕ). k ≤ length area) (sym (g .ends)) (within-area e));
   }
@@ -259,8 +256,7 @@ module _ (version : ℕ) (h : Bound) (n : CommitNumber) (run area : List ℕ) (k
           })
           ∙ sym (ended c incarnation lag);
       rules = t .rules;
-      touched = t .touched;
-      quiet = λ q. absurd (true≢false (sym q ∙ ap (λ (m : ℕ). not (eqb m 0) || false) e));
+      store-after = subst (λ (x : Bool). StoreAfter s (cond x (commits (h .handle) (h .place)) stays) w w' b b') (y ∙ sym (ap (λ (m : ℕ). eqb m 0 && not false) e)) (t .store-after);
       slot-place = ap (λ (x : Bound). x .place) is;
       slot-len = λ _. subst (λ (x : Bound). x .«held_len» ≤ length area) (sym is) (omega arith);
     }
@@ -286,8 +282,7 @@ module _ (version : ℕ) (h : Bound) (n : CommitNumber) (run area : List ℕ) (k
           })
           ∙ sym (ended c incarnation lag);
       rules = t .rules;
-      touched = t .touched;
-      quiet = λ _. t .unless y;
+      store-after = subst (λ (x : Bool). StoreAfter s (cond x (commits (h .handle) (h .place)) stays) w w' b b') (y ∙ sym (ap (λ (m : ℕ). eqb m 0 && not true) e)) (t .store-after);
       slot-place = ap (λ (x : Bound). x .place) is;
       slot-len = λ _. subst (λ (x : Bound). x .«held_len» ≤ length area) (sym is) (omega arith);
     }

@@ -17,9 +17,9 @@ use Rattle.store_areas.specs.declared.Shape.{Shape}
 use Rattle.store_areas.specs.Areas.{wordsAt, bytesAt, allowed, Rules, placesOf}
 use Rattle.standby_pending.specs.Pending.{pendingOf}
 use Rattle.standby_pending_run.specs.Commits.{ranWords}
-use Rattle.standby_commit.specs.Settling.{Touched}
-use Rattle.model_standby.specs.Answer.{protocolVersion, Given, damaged, intact, given, isReply}
-use Rattle.model_standby.specs.Store.{Place, placeOf}
+use Rattle.standby_commit.specs.Settling.{StoreChange, stays, bindChange, batchChange, StoreAfter}
+use Rattle.model_standby.specs.Answer.{protocolVersion, Given, damaged, intact, given, accepted, isReply}
+use Rattle.model_standby.specs.Store.{Place, placeOf, isStored}
 use Rattle.model_standby.specs.State.{Bound, Counters, Call, onFrameHeld, onFrame, flush, disconnectedFrom, promote, promoteUnchecked}
 use Rattle.model_standby.specs.State as state
 use Rattle.model_standby.specs.Standby.{due}
@@ -33,7 +33,6 @@ use Rattle.standby_state.specs.declared.Answer.{Answer}
 use Rattle.standby_state.specs.declared.Outcome.{Outcome}
 use Rattle.standby_state.specs.Answers.{answerOf, isRefused}
 use Rattle.standby_state.specs.Outcomes.{countersOf, settingsOf, leaving, areaAt, outcomeOf, Lands}
-use Rattle.standby_hello.specs.Greeting.{isQuiet}
 
 -- ---- hold areas: the bytes are divided evenly among the row's places
 
@@ -66,23 +65,22 @@ abbrev pub dueNow : Bool → List (ℕ × ℕ) → Given → Bool
 dueNow promoted pending (damaged n) = false
 dueNow promoted pending (intact f) = not promoted && due pending f
 
--- the place of the store that a frame may change: a Bind's is its key's, a Batch's is its handle's; no other frame changes one (for these it is written 0)
-abbrev pub placeBy : List Place → ℕ → Given → ℕ
-placeBy ps p (damaged n) = 0
-placeBy ps p (intact (hello v e node kinds)) = 0
-placeBy ps p (intact (welcome e i)) = 0
-placeBy ps p (intact (bind h e lag k)) = placeOf k ps
-placeBy ps p (intact (batch h e n part cs apps)) = p
-placeBy ps p (intact (ack h n)) = 0
-placeBy ps p (intact (nack h r)) = 0
-placeBy ps p (intact (bound h m)) = 0
-placeBy ps p (intact (checked h e i)) = 0
+-- what a frame changes in the store, of the places and its handle's place p, if it is accepted or not: a Bind and a Batch as said, no other frame anything
+abbrev pub changesBy : List Place → ℕ → Given → Bool → StoreChange
+changesBy ps p (damaged n) taken = stays
+changesBy ps p (intact (hello v e node kinds)) taken = stays
+changesBy ps p (intact (welcome e i)) taken = stays
+changesBy ps p (intact (bind h e lag k)) taken = bindChange (placeOf k ps) (isStored k ps) taken
+changesBy ps p (intact (batch h e n part cs apps)) taken = batchChange h p part taken
+changesBy ps p (intact (ack h n)) taken = stays
+changesBy ps p (intact (nack h r)) taken = stays
+changesBy ps p (intact (bound h m)) taken = stays
+changesBy ps p (intact (checked h e i)) taken = stays
 
--- commits run before, if they are due; then only place i and the first 66 words change, and nothing for a refusal or a Nack; then commits run after it, if asked
-pub record FrameLeaves (s : Shape) (i : ℕ) (before after quiet : Bool) (w w' b b' : List ℕ) : Type 0 where
+-- commits run before, if they are due; then the change; then commits run after it, if asked. No other word or byte changes
+pub record FrameLeaves (s : Shape) (x : StoreChange) (before after : Bool) (w w' b b' : List ℕ) : Type 0 where
   pub mid : List ℕ
-  pub touched : Touched s i (cond before (ranWords s w) w) mid b b'
-  pub still : quiet ≡ true → (mid ≡ cond before (ranWords s w) w) × (b' ≡ b)
+  pub store-after : StoreAfter s x (cond before (ranWords s w) w) mid b b'
   pub last : w' ≡ cond after (ranWords s mid) mid
 
 -- promotion: nothing but the places in use and the count of pending commits
@@ -93,8 +91,8 @@ pub record PromotionLeaves (s : Shape) (refused : Bool) (w w' b b' : List ℕ) :
 
 -- by the handle's place and the answer
 abbrev pub Leaves : Shape → Replica → ℕ → Call → List ℕ → List ℕ → List ℕ → List ℕ → Answer → Type 0
-Leaves s c p (onFrameHeld f) w w' b b' a = FrameLeaves s (placeBy (placesOf s w b) p (given f)) (dueNow (isSet (c .promoted)) (pendingOf w) (given f)) false (isQuiet a) w w' b b'
-Leaves s c p (onFrame f) w w' b b' a = FrameLeaves s (placeBy (placesOf s w b) p (given f)) (dueNow (isSet (c .promoted)) (pendingOf w) (given f)) (isReply (answerOf b' a)) (isQuiet a) w w' b b'
+Leaves s c p (onFrameHeld f) w w' b b' a = FrameLeaves s (changesBy (placesOf s w b) p (given f) (accepted (answerOf b' a))) (dueNow (isSet (c .promoted)) (pendingOf w) (given f)) false w w' b b'
+Leaves s c p (onFrame f) w w' b b' a = FrameLeaves s (changesBy (placesOf s w b) p (given f) (accepted (answerOf b' a))) (dueNow (isSet (c .promoted)) (pendingOf w) (given f)) (isReply (answerOf b' a)) w w' b b'
 Leaves s c p (flush n) w w' b b' a = (w' ≡ cond (eqb (a .refusal) 0) (ranWords s w) w) × (b' ≡ b)
 Leaves s c p (disconnectedFrom n) w w' b b' a = (w' ≡ cond (eqb n (c .connections)) (set w StoreWord.pending 0) w) × (b' ≡ b)
 Leaves s c p promote w w' b b' a = PromotionLeaves s (not (eqb (a .refusal) 0)) w w' b b'
