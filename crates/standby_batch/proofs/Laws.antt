@@ -184,7 +184,7 @@ module _ (s : Settings) (c : Replica) (seen : Lookup) (h : ℕ) (e : Epoch) (n :
             absurd (true≢false (sym y ∙ sym (shown (d .stores) leave) ∙ ap (λ (r : CoreResult). isStore (r .action)) handled
             ∙ ap (λ (u : Bool). isStore (coreHandle L K' h (foundOf protocolVersion u (seen .bound) area) (n .0) part cs .action)) f ∙ store-none L K' h (n .0) part cs))
 
-    lands-in : (t : Bool) → d .stores ≡ t → Lands seen (getD w' 0 0) (length area) (X t)
+    lands-in : (t : Bool) → d .stores ≡ t → Lands seen (getD w' 0 0) (length area) area' (X t)
     lands-in false q = leaving-lands (epochTo c e) seen A (getD w' 0 0) (length area)
     lands-in true q =
         let k : RecordRules seen w area = kept (stored-found q) in
@@ -192,7 +192,7 @@ module _ (s : Settings) (c : Replica) (seen : Lookup) (h : ℕ) (e : Epoch) (n :
           at-is = refl;
           from-is = refl;
           one = λ _. refl;
-          slot-used = λ _. refl;
+          slot-is = λ _. (λ j. record { used = 1; handle = h; place = d .bound .place; «commit_no» = record { 0 = d .bound .«commit_no» .0 }; «held_len» = g .slot-held q j; «held_bytes» = d .bound .«held_bytes» });
           slot-place = λ _. subst (λ (m : ℕ). m < getD w' 0 0) (sym (g .slot-place)) (subst (λ (m : ℕ). seen .bound .place < m) (sym used-same) (k .place-used));
           slot-len = λ _. g .slot-len (k .held-within);
         }

@@ -64,7 +64,7 @@ pub record BatchIs (s : Settings) (c : Replica) (seen : Lookup) (h e n : ℕ) (p
     answer = answerOf b' (r .answer);
   }
       ≡ coreBatch (settingsOf s (length area)) (coreAt (countersOf c) (s .shape) w b) (foundAt seen h area) h e n part cs apps
-  pub lands : Lands seen (getD w' StoreWord.used 0) (length area) r
+  pub lands : Lands seen (getD w' StoreWord.used 0) (length area) area' r
   pub stays : r .clears ≡ false
   pub stored : r .stores ≡ true → foundFor seen h ≡ true
   pub rules : Rules (s .shape) w' b'

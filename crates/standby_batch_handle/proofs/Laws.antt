@@ -1,6 +1,6 @@
 -- Each way of a Batch on a handle is the definition's. Assumes nothing.
 use mathlib.Core.Path.{_≡_, refl, sym, ap, subst, _∙_}
-use mathlib.Core.Bool.{Bool, true, false, cond, not, _&&_}
+use mathlib.Core.Bool.{Bool, true, false, cond, not, _&&_, true≢false}
 use mathlib.Core.List.{List, []}
 use Prim.Native.Nat.{ℕ, suc, _+_, _<_, _≤_}
 use native.Mathlib.Omega.{arith}
@@ -56,6 +56,7 @@ module _ (version : ℕ) (s : Shape) (handle : ℕ) (h : Bound) (n : ℕ) (part 
     store-after = none-changed s handle (h .place) part w b refl;
     slot-place = refl;
     slot-len = λ l. l;
+    slot-held = λ t. absurd (true≢false (sym t));
   }
 
   -- bound, and past the commit number
@@ -80,6 +81,7 @@ module _ (version : ℕ) (s : Shape) (handle : ℕ) (h : Bound) (n : ℕ) (part 
     store-after = none-changed s handle (h .place) part w b refl;
     slot-place = ap (λ (x : Bound). x .place) is;
     slot-len = λ _. subst (λ (x : Bound). x .«held_len» ≤ length area) (sym is) (omega arith);
+    slot-held = λ _. subst (λ (x : Bound). x .«held_len» ≡ sizes (heldRun version (take (x .«held_len») area))) (sym is) (sym (ap sizes nothing));
   }
 
   pub by-part : {found next : Bool} {w' b' area' : List ℕ} {d : PartResult} → found ≡ true → next ≡ followsOf h n → next ≡ true → h .handle ≡ handle
@@ -93,6 +95,7 @@ module _ (version : ℕ) (s : Shape) (handle : ℕ) (h : Bound) (n : ℕ) (part 
     store-after = subst (λ (k : ℕ). StoreAfter s (batchChange k (h .place) part (eqb (d .refusal) 0 && not (d .nack))) w w' b b') own (p .store-after);
     slot-place = p .slot-place;
     slot-len = p .slot-len;
+    slot-held = p .slot-held;
   }
 
 -- ---- the hold area

@@ -54,3 +54,4 @@ pub record HandleIs (version : ℕ) (s : Shape) (handle : ℕ) (found : Bool) (h
   pub store-after : StoreAfter s (batchChange handle (h .place) part (eqb (d .refusal) 0 && not (d .nack))) w w' b b'
   pub slot-place : d .bound .place ≡ h .place
   pub slot-len : h .«held_len» ≤ length area → d .bound .«held_len» ≤ length area
+  pub slot-held : d .stores ≡ true → d .bound .«held_len» ≡ sizes (heldRun version (take (d .bound .«held_len») area'))

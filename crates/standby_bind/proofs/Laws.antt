@@ -34,6 +34,7 @@ use Rattle.store_areas.proofs.Lists.{word-kept}
 use Rattle.store_areas.proofs.Lifting.{places-length, place-is, session-is}
 use Rattle.store_sessions.specs.Answers.{Opened}
 use Rattle.store_sessions.proofs.Opening.{opened-rules}
+use Rattle.model_frame.specs.Writing.{sizes}
 use Rattle.standby_changes.proofs.Held.{held-none}
 use Rattle.standby_pending.specs.Pending.{countOf, commitOf, pendingOf}
 use Rattle.standby_commit.specs.Settling.{stays, opens, openedWords, Touched, StoreAfter}
@@ -195,7 +196,7 @@ module _ (s : Settings) (c : Replica) (seen : Lookup) (h e lag : ℕ) (k : Key) 
   as-left : {o : Outcome} {a x : Answer} → o ≡ leaving c seen a → a ≡ x → accepted (answerOf b x) ≡ false → TextsLie b (x .summary) → ((room : ℕ) → record { core = At; action = leave; answer = answerOf b x } ≡ Bind room) → BindIs s c seen h e lag k w w b b o
   as-left {x = x} e₁ e₂ off lie is = subst (BindIs s c seen h e lag k w w b b) (sym (e₁ ∙ ap (leaving c seen) e₂)) (record {
     is = λ version room holds. is room;
-    lands = leaving-lands c seen x (getD w 0 0);
+    lands = λ room area. leaving-lands c seen x (getD w 0 0) room;
     rules = r;
     more = omega arith;
     store-after = subst (λ (t : Bool). StoreAfter (s .shape) (cond (t && not (isStored k places)) (opens (placeOf k places)) stays) w w b b) (sym off) (refl, refl);
@@ -253,11 +254,11 @@ module _ (s : Settings) (c : Replica) (seen : Lookup) (h e lag : ℕ) (k : Key) 
                     answer = reply (bound h (says j));
                   })
                   ∙ sym (third room ∙ ap (Tests false false true) (not-false free has-room));
-              lands = λ room. record {
+              lands = λ room area. record {
                 at-is = refl;
                 from-is = refl;
                 one = λ _. refl;
-                slot-used = λ _. refl;
+                slot-is = λ _. (λ j. record { used = 1; handle = h; place = place; «commit_no» = record { 0 = 0 }; «held_len» = sym (ap sizes (held-none 1 (take 0 area) (omega (arith, length-take 0 area)))) j; «held_bytes» = 0 });
                 slot-place = λ _. subst (λ (i : ℕ). i < getD w' 0 0) (sym at) (op .there);
                 slot-len = λ _. omega arith;
               };

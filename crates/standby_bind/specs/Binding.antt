@@ -63,7 +63,7 @@ pub record BindOpens (s : Shape) (k : Key) (w w' b b' : List ℕ) : Type 0 where
 -- equal to the definition, whatever the hold areas; the texts of the answer lie in the byte area
 pub record BindIs (s : Settings) (c : Replica) (seen : Lookup) (h e lag : ℕ) (k : Key) (w w' b b' : List ℕ) (r : Outcome) : Type 0 where
   pub is : (version room : ℕ) (holds : List ℕ) → outcomeOf version room (s .shape) w' b' holds r ≡ coreBind (settingsOf s room) (coreAt (countersOf c) (s .shape) w b) (roomFor seen) h e lag k
-  pub lands : (room : ℕ) → Lands seen (getD w' StoreWord.used 0) room r
+  pub lands : (room : ℕ) (area : List ℕ) → Lands seen (getD w' StoreWord.used 0) room area r
   pub rules : Rules (s .shape) w' b'
   pub more : getD w StoreWord.used 0 ≤ getD w' StoreWord.used 0
   pub store-after : StoreAfter (s .shape) (bindChange (placeOf k (placesOf (s .shape) w b)) (isStored k (placesOf (s .shape) w b)) (accepted (answerOf b' (r .answer)))) w w' b b'

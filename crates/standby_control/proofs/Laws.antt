@@ -136,7 +136,7 @@ module _ (s : Settings) (c : Replica) (seen : Lookup) (w b : List ℕ) (rules : 
         (λ j. record { core = record { counters = countersOf (r .replica); places = cleared-places (s .shape) w b rules (r .clears) j; pending = cleared-pending (s .shape) w b rules (r .clears) j }; action = actionOf version room holds r; answer = answerOf b (r .answer) })
         ∙ g .is version room holds b (placesOf (s .shape) w b) (pendingOf w)
         ∙ plain-same (settingsOf s room) (coreAt (countersOf c) (s .shape) w b) o (ltb (seen .free) (seen .len)) f p;
-    lands = λ room. g .lands (getD (clearedIf (r .clears) w) 0 0) room;
+    lands = λ room area. g .lands (getD (clearedIf (r .clears) w) 0 0) room area;
     rules = cleared-rules (s .shape) w b rules (r .clears);
     more = le-of-eq (sym (cleared-used (s .shape) w b rules (r .clears)));
     store-after = λ e₀.

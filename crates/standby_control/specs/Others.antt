@@ -55,7 +55,7 @@ clearedIf t w = cond t (set w StoreWord.pending 0) w
 pub record OtherIs (s : Settings) (c : Replica) (seen : Lookup) (f : Frame) (w w' b b' : List ℕ) (r : Outcome) : Type 0 where
   pub is : (version room : ℕ) (holds : List ℕ) (o : Option Bound) → isSome o ≡ isFound seen
       → outcomeOf version room (s .shape) w' b' holds r ≡ coreIntact (settingsOf s room) (coreAt (countersOf c) (s .shape) w b) o (ltb (seen .free) (seen .len)) f
-  pub lands : (room : ℕ) → Lands seen (getD w' StoreWord.used 0) room r
+  pub lands : (room : ℕ) (area : List ℕ) → Lands seen (getD w' StoreWord.used 0) room area r
   pub rules : Rules (s .shape) w' b'
   pub more : getD w StoreWord.used 0 ≤ getD w' StoreWord.used 0
   pub store-after : countOf w ≡ 0 → StoreAfter (s .shape) (changesBy (placesOf (s .shape) w b) (seen .bound .place) (intact f) (accepted (answerOf b' (r .answer)))) w w' b b'
@@ -65,7 +65,7 @@ pub record OtherIn (s : Settings) (c : Replica) (seen : Lookup) (f : Frame) (w w
   pub is : (version room : ℕ) (holds : List ℕ) (o : Option Bound) → isSome o ≡ isFound seen
       → outcomeOf version room (s .shape) w' b' holds r
       ≡ coreIntact (settingsOf s room) (coreRun (not (isEmpty (pendingOf w))) (coreAt (countersOf c) (s .shape) w b)) o (ltb (seen .free) (seen .len)) f
-  pub lands : (room : ℕ) → Lands seen (getD w' StoreWord.used 0) room r
+  pub lands : (room : ℕ) (area : List ℕ) → Lands seen (getD w' StoreWord.used 0) room area r
   pub rules : Rules (s .shape) w' b'
   pub more : getD w StoreWord.used 0 ≤ getD w' StoreWord.used 0
   pub leaves : FrameLeaves (s .shape) (changesBy (placesOf (s .shape) w b) (seen .bound .place) (intact f) (accepted (answerOf b' (r .answer)))) (not (isEmpty (pendingOf w))) false w w' b b'

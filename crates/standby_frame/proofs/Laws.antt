@@ -67,7 +67,7 @@ other-intact s c seen f fit w w' b b' l r g = record {
   is = λ own.
       g .is protocolVersion (roomIn seen l) l (foundIn seen l) (found-some seen l)
       ∙ ap (λ (t : Bool). coreIntact (settingsOf s (roomIn seen l)) (coreRun t (coreAt (countersOf c) (s .shape) w b)) (foundIn seen l) (ltb (seen .free) (seen .len)) f) (due-other (pendingOf w) f fit);
-  lands = g .lands (roomIn seen l);
+  lands = g .lands (roomIn seen l) (areaAt (roomIn seen l) (r .at) l);
   rules = g .rules;
   more = g .more;
   leaves = subst (λ (t : Bool). FrameLeaves (s .shape) (changesBy (placesOf (s .shape) w b) (seen .bound .place) (intact f) (accepted (answerOf b' (r .answer)))) t false w w' b b') (due-other (pendingOf w) f fit) (g .leaves);
@@ -227,7 +227,7 @@ module _ (s : Settings) (c : Replica) (seen : Lookup) (w b h : List ℕ) where
             let p = g .steps own in
             record {
               is = flushed-is _ (p .is);
-              lands = subst (λ (k : ℕ). Lands seen k (roomIn seen h) r) (sym (ran .used)) (p .lands);
+              lands = subst (λ (k : ℕ). Lands seen k (roomIn seen h) (areaAt (roomIn seen h) (r .at) h') r) (sym (ran .used)) (p .lands);
               rules = ran .rules;
               more = subst (λ (k : ℕ). getD w 0 0 ≤ k) (sym (ran .used)) (p .more);
               leaves = record {

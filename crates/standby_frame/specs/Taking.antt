@@ -21,7 +21,7 @@ use Rattle.standby_state.specs.declared.Settings.{Settings}
 use Rattle.standby_state.specs.declared.Answer.{Answer}
 use Rattle.standby_state.specs.declared.Outcome.{Outcome}
 use Rattle.standby_state.specs.Answers.{answerOf}
-use Rattle.standby_state.specs.Outcomes.{countersOf, settingsOf, outcomeOf, Lands}
+use Rattle.standby_state.specs.Outcomes.{countersOf, settingsOf, areaAt, outcomeOf, Lands}
 use Rattle.standby_step.specs.Steps.{roomIn, isFound, foundIn, changesBy, FrameLeaves, holdsAfter, hasHandle, Stepped}
 
 -- a frame is answered, a Nack too
@@ -36,7 +36,7 @@ pub record IntactIs (s : Settings) (c : Replica) (seen : Lookup) (f : Frame) (w 
   pub is : Own seen f
       → outcomeOf protocolVersion (roomIn seen h) (s .shape) w' b' h' r
       ≡ coreIntact (settingsOf s (roomIn seen h)) (coreRun (due (pendingOf w) f) (coreAt (countersOf c) (s .shape) w b)) (foundIn seen h) (ltb (seen .free) (seen .len)) f
-  pub lands : Lands seen (getD w' StoreWord.used 0) (roomIn seen h) r
+  pub lands : Lands seen (getD w' StoreWord.used 0) (roomIn seen h) (areaAt (roomIn seen h) (r .at) h') r
   pub rules : Rules (s .shape) w' b'
   pub more : getD w StoreWord.used 0 ≤ getD w' StoreWord.used 0
   pub leaves : FrameLeaves (s .shape) (changesBy (placesOf (s .shape) w b) (seen .bound .place) (intact f) (accepted (answerOf b' (r .answer)))) (due (pendingOf w) f) false w w' b b'

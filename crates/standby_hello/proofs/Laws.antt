@@ -26,11 +26,11 @@ use Rattle.standby_hello.specs.Greeting.{connectedTo, checkedTo, Replies
 no : {A : Type 0} → false ≡ true → A
 no e = absurd (true≢false (sym e))
 
-pub leaving-lands : (c : Replica) (seen : Lookup) (a : Answer) (used room : ℕ) → Lands seen used room (leaving c seen a)
-leaving-lands c seen a used room = record { at-is = refl; from-is = refl; one = no; slot-used = no; slot-place = no; slot-len = no }
+pub leaving-lands : (c : Replica) (seen : Lookup) (a : Answer) (used room : ℕ) {area : List ℕ} → Lands seen used room area (leaving c seen a)
+leaving-lands c seen a used room = record { at-is = refl; from-is = refl; one = no; slot-is = no; slot-place = no; slot-len = no }
 
-pub clearing-lands : (c : Replica) (seen : Lookup) (a : Answer) (used room : ℕ) → Lands seen used room (clearing c seen a)
-clearing-lands c seen a used room = record { at-is = refl; from-is = refl; one = no; slot-used = no; slot-place = no; slot-len = no }
+pub clearing-lands : (c : Replica) (seen : Lookup) (a : Answer) (used room : ℕ) {area : List ℕ} → Lands seen used room area (clearing c seen a)
+clearing-lands c seen a used room = record { at-is = refl; from-is = refl; one = no; slot-is = no; slot-place = no; slot-len = no }
 
 -- the state but for the row, with these counters
 abbrev At : Replica → List Place → List (ℕ × ℕ) → Core
@@ -40,12 +40,12 @@ At c ps pending = record { counters = countersOf c; places = ps; pending = pendi
 pub leaves-is : (c : Replica) (s : Settings) (seen : Lookup) (m : state.Settings → Core → CoreResult) (d : Replica) (a : Answer)
     → ((room : ℕ) (b : List ℕ) (ps : List Place) (pending : List (ℕ × ℕ)) → record { core = At d ps pending; action = leave; answer = answerOf b a } ≡ m (settingsOf s room) (At c ps pending))
     → Replies c s seen m (leaving d seen a)
-leaves-is c s seen m d a f = record { is = λ version room holds b ps pending. f room b ps pending; lands = leaving-lands d seen a; stays = refl }
+leaves-is c s seen m d a f = record { is = λ version room holds b ps pending. f room b ps pending; lands = λ used room area. leaving-lands d seen a used room; stays = refl }
 
 clears-is : (c : Replica) (s : Settings) (seen : Lookup) (m : state.Settings → Core → CoreResult) (d : Replica) (a : Answer)
     → ((room : ℕ) (b : List ℕ) (ps : List Place) (pending : List (ℕ × ℕ)) → record { core = At d ps []; action = clear; answer = answerOf b a } ≡ m (settingsOf s room) (At c ps pending))
     → Replies c s seen m (clearing d seen a)
-clears-is c s seen m d a f = record { is = λ version room holds b ps pending. f room b ps pending; lands = clearing-lands d seen a; stays = refl }
+clears-is c s seen m d a f = record { is = λ version room holds b ps pending. f room b ps pending; lands = λ used room area. clearing-lands d seen a used room; stays = refl }
 
 module _ (c : Replica) (s : Settings) (seen : Lookup) where
   -- a refusal or a Nack that leaves all as it was

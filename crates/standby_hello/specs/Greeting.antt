@@ -31,7 +31,7 @@ pub record Replies (c : Replica) (s : Settings) (seen : Lookup) (m : state.Setti
         answer = answerOf b (r .answer);
       }
       ≡ m (settingsOf s room) (record { counters = countersOf c; places = ps; pending = pending })
-  pub lands : (used room : ℕ) → Lands seen used room r
+  pub lands : (used room : ℕ) (area : List ℕ) → Lands seen used room area r
   pub stays : r .stores ≡ false
 
 abbrev pub HelloIs : Replica → Settings → Lookup → ℕ → ℕ → Bool → Outcome → Type 0

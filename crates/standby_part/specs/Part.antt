@@ -1,6 +1,6 @@
 -- What a Commit, a Whole or a LastWhole does on its handle, past the commit number. Assumes nothing.
 use mathlib.Core.Path.{_≡_}
-use mathlib.Core.Bool.{cond, not, _&&_}
+use mathlib.Core.Bool.{true, cond, not, _&&_}
 use mathlib.Core.List.{List}
 use Prim.Native.Nat.{ℕ, _≤_}
 use lib.ListN.{length, take}
@@ -37,6 +37,7 @@ pub record PartIs (version : ℕ) (s : Shape) (h : Bound) (n : ℕ) (part : the-
   pub store-after : StoreAfter s (batchChange (h .handle) (h .place) part (eqb (d .refusal) 0 && not (d .nack))) w w' b b'
   pub slot-place : d .bound .place ≡ h .place
   pub slot-len : h .«held_len» ≤ length area → d .bound .«held_len» ≤ length area
+  pub slot-held : d .stores ≡ true → d .bound .«held_len» ≡ sizes (heldRun version (take (d .bound .«held_len») area'))
 
 -- a Whole leaves the store as it was
 abbrev pub WholeIs : ℕ → Bound → ℕ → List Change → List ℕ → List ℕ → PartResult → Type 0

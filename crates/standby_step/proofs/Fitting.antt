@@ -25,10 +25,10 @@ use Rattle.model_standby.specs.Store.{Place, isStored, sessionAt, orNew}
 use Rattle.model_standby.specs.State.{Settings, incarnationOf, Counters, Bound, Call, onFrameHeld, onFrame, flush, disconnectedFrom, promote, promoteUnchecked, atEpoch, noneHeld}
 use Rattle.model_standby.specs.Standby.{due, follows, raised, maxWhole, startsWithReset, summed}
 use Rattle.model_standby.specs.Hold.{HoldWrite, writesPart, writesFrame, writes}
-use Rattle.model_standby.specs.Core.{Action, leave, store, clear, Core, CoreResult, coreSays, coreRefuse, counting, coreRun, coreFlushed, coreHello, coreBind, coreChecked, coreSettle, coreHold, corePart, coreHandle, coreBatch, coreIntact, coreGiven, coreStep, handleOf}
+use Rattle.model_standby.specs.Core.{Action, leave, store, clear, Core, CoreResult, coreSays, coreRefuse, counting, coreRun, coreFlushed, coreHello, coreBind, coreChecked, coreSettle, coreHold, corePart, coreHandle, coreBatch, coreIntact, coreGiven, coreStep}
 use Rattle.standby_counters.specs.declared.Replica.{Replica}
 use Rattle.standby_state.specs.declared.Answer.{Answer}
-use Rattle.standby_step.specs.Steps.{hasHandle, asks, writesBy, Leaves, FrameLeaves, dueNow, changesBy}
+use Rattle.standby_step.specs.Steps.{hasHandle, handleBy, asks, writesBy, Leaves, FrameLeaves, dueNow, changesBy}
 
 -- ---- what a call does, by what was found
 
@@ -151,7 +151,7 @@ module _ (L : Settings) where
       ways false = intact-fit (coreRun (due (k .pending) f) k) found free f
 
   -- every call
-  pub step-fit : (k : Core) (found : Option Bound) (free : Bool) (c : Call) → Fit (asks c) (handleOf c) found free (writesBy L (k .counters) found c) (coreStep L k found free c .action)
+  pub step-fit : (k : Core) (found : Option Bound) (free : Bool) (c : Call) → Fit (asks c) (handleBy c) found free (writesBy L (k .counters) found c) (coreStep L k found free c .action)
   unfolding coreStep
   step-fit k found free (onFrameHeld w) = given-fit k found free (given w)
   step-fit k found free (onFrame w) = given-fit k found free (given w)

@@ -18,13 +18,13 @@ use Rattle.store_areas.specs.Areas.{wordsAt, bytesAt, allowed, Rules, placesOf}
 use Rattle.standby_pending.specs.Pending.{pendingOf}
 use Rattle.standby_pending_run.specs.Commits.{ranWords}
 use Rattle.standby_commit.specs.Settling.{StoreChange, stays, bindChange, batchChange, StoreAfter}
-use Rattle.model_standby.specs.Answer.{protocolVersion, Given, damaged, intact, given, accepted, isReply}
+use Rattle.model_standby.specs.Answer.{protocolVersion, Given, damaged, intact, given, handleIn, accepted, isReply}
 use Rattle.model_standby.specs.Store.{Place, placeOf, isStored}
 use Rattle.model_standby.specs.State.{Bound, Counters, Call, onFrameHeld, onFrame, flush, disconnectedFrom, promote, promoteUnchecked}
 use Rattle.model_standby.specs.State as state
 use Rattle.model_standby.specs.Standby.{due}
 use Rattle.model_standby.specs.Hold.{HoldWrite, writes}
-use Rattle.model_standby.specs.Core.{coreStep, handleOf}
+use Rattle.model_standby.specs.Core.{coreStep}
 use Rattle.standby_part.specs.State.{coreAt}
 use Rattle.standby_batch_handle.specs.Handling.{foundOf}
 use Rattle.standby_counters.specs.declared.Replica.{Replica}
@@ -126,6 +126,15 @@ hasHandle (intact (nack h r)) = false
 hasHandle (intact (bound h m)) = false
 hasHandle (intact (checked h e i)) = false
 
+-- the handle that a call's frame names
+abbrev pub handleBy : Call → ℕ
+handleBy (onFrameHeld f) = handleIn (given f)
+handleBy (onFrame f) = handleIn (given f)
+handleBy (flush n) = 0
+handleBy (disconnectedFrom n) = 0
+handleBy promote = 0
+handleBy promoteUnchecked = 0
+
 abbrev pub asks : Call → Bool
 asks (onFrameHeld f) = hasHandle (given f)
 asks (onFrame f) = hasHandle (given f)
@@ -134,9 +143,11 @@ asks (disconnectedFrom n) = false
 asks promote = false
 asks promoteUnchecked = false
 
+-- ---- a call's core by value, as it is proved: no entry point's promise cites what follows
+
 pub record Stepped (s : Settings) (c : Replica) (seen : Lookup) (call : Call) (w w' b b' h h' : List ℕ) (r : Outcome) : Type 0 where
   pub is : outcomeOf protocolVersion (roomIn seen h) (s .shape) w' b' h' r ≡ coreStep (settingsOf s (roomIn seen h)) (coreAt (countersOf c) (s .shape) w b) (foundIn seen h) (ltb (seen .free) (seen .len)) call
-  pub lands : Lands seen (getD w' StoreWord.used 0) (roomIn seen h) r
+  pub lands : Lands seen (getD w' StoreWord.used 0) (roomIn seen h) (areaAt (roomIn seen h) (r .at) h') r
   pub rules : Rules (s .shape) w' b'
   pub more : getD w StoreWord.used 0 ≤ getD w' StoreWord.used 0
   pub leaves : Leaves (s .shape) c (seen .bound .place) call w w' b b' (r .answer)
@@ -145,4 +156,4 @@ pub record Stepped (s : Settings) (c : Replica) (seen : Lookup) (call : Call) (w
 -- 25 where the rules are broken; else the step, where the record found is of the call's handle, if the call has one
 pub record StepIs (s : Settings) (c : Replica) (seen : Lookup) (call : Call) (w w' b b' h h' : List ℕ) (r : Outcome) : Type 0 where
   pub refuses : seenAllowed (s .shape) seen w b h ≡ false → (r ≡ leaving c seen (isRefused Refusal.rulesBroken)) × ((w' ≡ w) × ((b' ≡ b) × (h' ≡ h)))
-  pub steps : seenAllowed (s .shape) seen w b h ≡ true → (isFound seen ≡ true → asks call ≡ true → seen .bound .handle ≡ handleOf call) → Stepped s c seen call w w' b b' h h' r
+  pub steps : seenAllowed (s .shape) seen w b h ≡ true → (isFound seen ≡ true → asks call ≡ true → seen .bound .handle ≡ handleBy call) → Stepped s c seen call w w' b b' h h' r
