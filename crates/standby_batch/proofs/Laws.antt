@@ -18,8 +18,9 @@ use Rattle.frame_fields.specs.declared.Epoch.{Epoch}
 use Rattle.standby_row.specs.declared.Lookup.{Lookup}
 use Rattle.store_areas.specs.Areas.{Rules}
 use Rattle.store_areas.proofs.Lifting.{places-length}
-use Rattle.standby_commit.proofs.Laws.{touched-none}
-use Rattle.model_standby.specs.Answer.{protocolVersion, reply, refused, isReply}
+use Rattle.standby_commit.specs.Settling.{batchChange, StoreAfter}
+use Rattle.standby_commit.proofs.Laws.{none-changed}
+use Rattle.model_standby.specs.Answer.{protocolVersion, reply, refused, accepted, isReply}
 use Rattle.model_standby.specs.Answer as the-answer
 use Rattle.model_standby.specs.State.{Bound, atEpoch}
 use Rattle.model_standby.specs.State as state
@@ -38,7 +39,6 @@ use Rattle.standby_state.specs.Answers.{answerOf, isRefused, isNack, isAck}
 use Rattle.standby_state.specs.Exact.{Exact}
 use Rattle.standby_state.specs.Outcomes.{countersOf, settingsOf, leaving, storing, Lands}
 use Rattle.standby_state.proofs.Exact.{exact-refused, exact-nack, exact-ack}
-use Rattle.standby_hello.specs.Greeting.{isQuiet}
 use Rattle.standby_hello.proofs.Laws.{leaving-lands}
 use Rattle.standby_batch.specs.Batches.{epochTo, foundFor, answerBy, settledOf, RecordRules, holdAreaWith, foundAt, BatchIs}
 use Rattle.standby_batch.proofs.Passing.{as-many, isStore, store-none, Passes, whole-passes, last-passes}
@@ -60,16 +60,13 @@ module _ (d : PartResult) (h : ℕ) (n : CommitNumber) where
       go true e = yes (d .nack)
       go false e = ap (λ (t : Bool). cond t the-answer.done (refused (d .refusal))) e
 
-  quiet-is : isQuiet (answerBy d h n) ≡ (not (eqb (d .refusal) 0) || d .nack)
-  quiet-is = go (eqb (d .refusal) 0) refl
+  said-accepted : accepted Said ≡ (eqb (d .refusal) 0 && not (d .nack))
+  said-accepted = go (eqb (d .refusal) 0) (d .nack)
     where
-      yes : (m : Bool) → isQuiet (cond m (isNack h 2) (isAck h n)) ≡ m
-      yes true = refl
-      yes false = refl
-
-      go : (t : Bool) → eqb (d .refusal) 0 ≡ t → isQuiet (cond t (cond (d .nack) (isNack h 2) (isAck h n)) (isRefused (d .refusal))) ≡ (not t || d .nack)
-      go true e = yes (d .nack)
-      go false e = ap (λ (t : Bool). not t || eqb 0 6) e
+      go : (t m : Bool) → accepted (cond t (reply (cond m (nack h diverged) (ack h (n .0)))) (refused (d .refusal))) ≡ (t && not m)
+      go true true = refl
+      go true false = refl
+      go false m = refl
 
   answer-exact : (b : List ℕ) → Exact b (answerBy d h n)
   answer-exact b = go (eqb (d .refusal) 0)
@@ -114,9 +111,9 @@ module _ (s : Settings) (c : Replica) (seen : Lookup) (h : ℕ) (e : Epoch) (n :
   unfolding coreBatch
   tests = refl
 
-  left : (t u : Bool) → isEmpty apps ≡ t → ltb (e .0) (c .epoch .0) ≡ u → {r : Outcome} {a : Answer} (x : Answer) → r ≡ leaving c seen a → a ≡ x → Exact b x
+  left : (t u : Bool) → isEmpty apps ≡ t → ltb (e .0) (c .epoch .0) ≡ u → {r : Outcome} {a : Answer} (x : Answer) → r ≡ leaving c seen a → a ≡ x → Exact b x → accepted (answerOf b x) ≡ false
       → record { core = K; action = leave; answer = answerOf b x } ≡ Goes t u → Writes t u ≡ none → Is w b area r
-  left t u p q x e₁ e₂ is-exact is none-written =
+  left t u p q x e₁ e₂ is-exact off is none-written =
       subst (Is w b area) (sym (e₁ ∙ ap (leaving c seen) e₂))
       (record {
         is = is ∙ sym (tests ∙ (λ j. Goes (p j) (q j)));
@@ -125,17 +122,16 @@ module _ (s : Settings) (c : Replica) (seen : Lookup) (h : ℕ) (e : Epoch) (n :
         stored = λ y. absurd (true≢false (sym y));
         rules = rules;
         used = refl;
-        touched = touched-none (s .shape) (seen .bound .place) w b;
-        quiet = λ _. (refl, refl);
+        store-after = none-changed (s .shape) h (seen .bound .place) part w b off;
         area-is = ap (λ (o : Option HoldWrite). holdAreaWith o area) (sym ((λ j. Writes (p j) (q j)) ∙ none-written));
         exact = is-exact;
       })
 
   pub with-records : {r : Outcome} {a : Answer} → isEmpty apps ≡ false → r ≡ leaving c seen a → a ≡ isRefused 13 → Is w b area r
-  with-records p e₁ e₂ = left false (ltb (e .0) (c .epoch .0)) p refl (isRefused 13) e₁ e₂ (exact-refused b 13) refl refl
+  with-records p e₁ e₂ = left false (ltb (e .0) (c .epoch .0)) p refl (isRefused 13) e₁ e₂ (exact-refused b 13) refl refl refl
 
   pub stale : {r : Outcome} {a : Answer} → isEmpty apps ≡ true → ltb (e .0) (c .epoch .0) ≡ true → r ≡ leaving c seen a → a ≡ isNack h 1 → Is w b area r
-  stale p less e₁ e₂ = left true true p less (isNack h 1) e₁ e₂ (exact-nack b h staleEpoch) refl refl
+  stale p less e₁ e₂ = left true true p less (isNack h 1) e₁ e₂ (exact-nack b h staleEpoch) refl refl refl
 
   -- ---- past them
 
@@ -202,7 +198,7 @@ module _ (s : Settings) (c : Replica) (seen : Lookup) (h : ℕ) (e : Epoch) (n :
             absurd (true≢false (sym y ∙ sym (shown (d .stores) leave) ∙ ap (λ (r : CoreResult). isStore (r .action)) handled
             ∙ ap (λ (u : Bool). isStore (coreHandle L K' h (foundOf protocolVersion u (seen .bound) area) (n .0) part cs .action)) f ∙ store-none L K' h (n .0) part cs))
 
-    lands-in : (t : Bool) → d .stores ≡ t → Lands seen (getD w' 0 0) (length area) (X t)
+    lands-in : (t : Bool) → d .stores ≡ t → Lands seen (getD w' 0 0) (length area) area' (X t)
     lands-in false q = leaving-lands (epochTo c e) seen A (getD w' 0 0) (length area)
     lands-in true q =
         let k : RecordRules seen w area = kept (stored-found q) in
@@ -210,7 +206,7 @@ module _ (s : Settings) (c : Replica) (seen : Lookup) (h : ℕ) (e : Epoch) (n :
           at-is = refl;
           from-is = refl;
           one = λ _. refl;
-          slot-used = λ _. refl;
+          slot-is = λ _. (λ j. record { used = 1; handle = h; place = d .bound .place; «commit_no» = record { 0 = d .bound .«commit_no» .0 }; «held_len» = g .slot-held q j; «held_bytes» = d .bound .«held_bytes» });
           slot-place = λ _. subst (λ (m : ℕ). m < getD w' 0 0) (sym (g .slot-place)) (subst (λ (m : ℕ). seen .bound .place < m) (sym used-same) (k .place-used));
           slot-len = λ _. g .slot-len (k .held-within);
         }
@@ -279,8 +275,9 @@ module _ (s : Settings) (c : Replica) (seen : Lookup) (h : ℕ) (e : Epoch) (n :
           stored = λ y. sym found-is ∙ stored-found (sym (stores-so (d .stores)) ∙ y);
           rules = g .rules;
           used = used-same;
-          touched = g .touched;
-          quiet = λ q. g .quiet (sym (quiet-is d h n) ∙ ap isQuiet (sym (says-so (d .stores))) ∙ q);
+          store-after =
+              subst (λ (t : Bool). StoreAfter (s .shape) (batchChange h (seen .bound .place) part t) w w' b b')
+              (sym (ap (λ (a : Answer). accepted (answerOf b' a)) (says-so (d .stores)) ∙ ap accepted (answer-is d h n b') ∙ said-accepted d h n)) (g .store-after);
           area-is = area-whole;
           exact = subst (Exact b') (sym (says-so (d .stores))) (answer-exact d h n b');
         })

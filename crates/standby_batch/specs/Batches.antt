@@ -15,8 +15,8 @@ use Rattle.frame_fields.specs.declared.Epoch.{Epoch}
 use Rattle.standby_row.specs.declared.Lookup.{Lookup}
 use Rattle.store_areas.specs.StoreWord
 use Rattle.store_areas.specs.Areas.{Rules}
-use Rattle.standby_commit.specs.Settling.{Touched}
-use Rattle.model_standby.specs.Answer.{protocolVersion}
+use Rattle.standby_commit.specs.Settling.{batchChange, StoreAfter}
+use Rattle.model_standby.specs.Answer.{protocolVersion, accepted}
 use Rattle.model_standby.specs.State.{Bound}
 use Rattle.model_standby.specs.Hold.{HoldWrite, writesFrame}
 use Rattle.model_standby.specs.Core.{leave, store, coreBatch}
@@ -30,7 +30,6 @@ use Rattle.standby_state.specs.declared.Outcome.{Outcome}
 use Rattle.standby_state.specs.Answers.{answerOf, isRefused, isNack, isAck}
 use Rattle.standby_state.specs.Exact.{Exact}
 use Rattle.standby_state.specs.Outcomes.{countersOf, settingsOf, leaving, storing, Lands}
-use Rattle.standby_hello.specs.Greeting.{isQuiet}
 
 abbrev pub epochTo : Replica → Epoch → Replica
 epochTo c e = record { epoch = e; connections = c .connections; promoted = c .promoted; checked = c .checked }
@@ -58,7 +57,7 @@ holdAreaWith (some x) area = write area (x .offset) (x .bytes)
 abbrev pub foundAt : Lookup → ℕ → List ℕ → Option Bound
 foundAt seen h area = foundOf protocolVersion (foundFor seen h) (seen .bound) area
 
--- equal to the definition; a refusal and a Nack leave the store as it was
+-- equal to the definition
 pub record BatchIs (s : Settings) (c : Replica) (seen : Lookup) (h e n : ℕ) (part : the-frame.Part) (cs : List Change) (apps : List AppRecord) (w w' b b' area area' : List ℕ) (r : Outcome) : Type 0 where
   pub is : record {
     core = coreAt (countersOf (r .replica)) (s .shape) w' b';
@@ -66,12 +65,11 @@ pub record BatchIs (s : Settings) (c : Replica) (seen : Lookup) (h e n : ℕ) (p
     answer = answerOf b' (r .answer);
   }
       ≡ coreBatch (settingsOf s (length area)) (coreAt (countersOf c) (s .shape) w b) (foundAt seen h area) h e n part cs apps
-  pub lands : Lands seen (getD w' StoreWord.used 0) (length area) r
+  pub lands : Lands seen (getD w' StoreWord.used 0) (length area) area' r
   pub stays : r .clears ≡ false
   pub stored : r .stores ≡ true → foundFor seen h ≡ true
   pub rules : Rules (s .shape) w' b'
   pub used : getD w' StoreWord.used 0 ≡ getD w StoreWord.used 0
-  pub touched : Touched (s .shape) (seen .bound .place) w w' b b'
-  pub quiet : isQuiet (r .answer) ≡ true → (w' ≡ w) × (b' ≡ b)
+  pub store-after : StoreAfter (s .shape) (batchChange h (seen .bound .place) part (accepted (answerOf b' (r .answer)))) w w' b b'
   pub area-is : area' ≡ holdAreaWith (writesFrame (settingsOf s (length area)) (countersOf c) (foundAt seen h area) (batch h e n part cs apps)) area
   pub exact : Exact b' (r .answer)

@@ -23,20 +23,20 @@ use Rattle.store_areas.proofs.Lifting.{part-lent, part-length, part-own}
 use Rattle.standby_pending.specs.Pending.{countOf, pendingOf}
 use Rattle.standby_pending_run.specs.Commits.{ranWords, RanIf}
 use Rattle.standby_pending_run.proofs.Due.{many-pending}
-use Rattle.standby_commit.specs.Settling.{Touched}
-use Rattle.model_standby.specs.Answer.{protocolVersion}
+use Rattle.standby_commit.specs.Settling.{batchChange, StoreAfter}
+use Rattle.model_standby.specs.Answer.{protocolVersion, accepted}
 use Rattle.model_standby.specs.State.{Bound, Counters}
 use Rattle.model_standby.specs.State as state
 use Rattle.model_standby.specs.Standby.{follows, startsWithReset, raised, maxWhole, pendsOn}
 use Rattle.model_standby.specs.Hold.{HoldWrite, heldBytes, heldPasses, writesAt, writesPart, writesFrame}
 use Rattle.model_standby.specs.Core.{leave, store, clear, coreRun, coreBatch}
-use Rattle.standby_part.specs.State.{boundOf, coreAt}
+use Rattle.standby_part.specs.State.{boundOf, recordFor, coreAt}
 use Rattle.standby_batch_handle.specs.Handling.{foundOf}
 use Rattle.standby_counters.specs.declared.Replica.{Replica}
 use Rattle.standby_state.specs.declared.Settings.{Settings}
 use Rattle.standby_state.specs.declared.Outcome.{Outcome}
 use Rattle.standby_state.specs.Answers.{answerOf}
-use Rattle.standby_state.specs.Outcomes.{countersOf, settingsOf, areaAt, spotOf, Lands}
+use Rattle.standby_state.specs.Outcomes.{countersOf, settingsOf, areaAt, spotOf}
 use Rattle.standby_step.specs.Steps.{roomIn, isFound, foundIn, holdsAfter}
 use Rattle.standby_batch.specs.Batches.{foundFor, RecordRules, holdAreaWith, foundAt, BatchIs}
 use Rattle.standby_batch_due.specs.DueBatch.{spotIn, RecordRulesIn, dueBatch, BatchIn}
@@ -141,6 +141,12 @@ module _ (s : Settings) (c : Replica) (seen : Lookup) (h e n : ℕ) (part : the-
         go true q = refl
         go false q = absurd (true≢false (sym (both (isFound seen) _ f .0) ∙ q))
 
+    -- what is put is put at the lent area's place
+    own-area : r .stores ≡ true → areaAt R (r .at) l' ≡ area'
+    own-area y =
+        let at : r .at ≡ spotIn seen = g .lands .at-is ∙ ap (λ (t : Bool). cond t (spotOf seen) (seen .len)) y ∙ at-found (g .stored y) in
+        ap (λ (k : ℕ). areaAt R k l') at ∙ part-own A R l area' (within seen l) size
+
     action-is : cond (r .stores) (store (r .bound .handle) (boundOf protocolVersion (r .bound) (areaAt R (r .at) l'))) (cond (r .clears) clear leave)
         ≡ cond (r .stores) (store (r .bound .handle) (boundOf protocolVersion (r .bound) area')) leave
     action-is = go (r .stores) refl
@@ -148,9 +154,7 @@ module _ (s : Settings) (c : Replica) (seen : Lookup) (h e n : ℕ) (part : the-
         go : (t : Bool) → r .stores ≡ t
             → cond t (store (r .bound .handle) (boundOf protocolVersion (r .bound) (areaAt R (r .at) l'))) (cond (r .clears) clear leave)
             ≡ cond t (store (r .bound .handle) (boundOf protocolVersion (r .bound) area')) leave
-        go true y =
-            let at : r .at ≡ spotIn seen = g .lands .at-is ∙ ap (λ (t : Bool). cond t (spotOf seen) (seen .len)) y ∙ at-found (g .stored y) in
-            ap (λ (x : List ℕ). store (r .bound .handle) (boundOf protocolVersion (r .bound) x)) (ap (λ (k : ℕ). areaAt R k l') at ∙ part-own A R l area' (within seen l) size)
+        go true y = ap (λ (x : List ℕ). store (r .bound .handle) (boundOf protocolVersion (r .bound) x)) (own-area y)
         go false y = ap (λ (t : Bool). cond t clear leave) (g .stays)
 
     abbrev O : ℕ → Option Bound → Option HoldWrite
@@ -180,13 +184,19 @@ module _ (s : Settings) (c : Replica) (seen : Lookup) (h e n : ℕ) (part : the-
       is = λ own.
           (λ j. record { core = coreAt (countersOf (r .replica)) (s .shape) w' b'; action = action-is j; answer = answerOf b' (r .answer) }) ∙ g .is
           ∙ (λ j. coreBatch (settingsOf s (long j)) (ran-is j) (found-is seen h l own j) h e n part cs apps);
-      lands = subst (λ (k : ℕ). Lands seen (getD w' 0 0) k r) long (g .lands);
+      lands = record {
+        at-is = g .lands .at-is;
+        from-is = g .lands .from-is;
+        one = g .lands .one;
+        slot-is = λ y. g .lands .slot-is y ∙ ap (λ (x : List ℕ). recordFor (r .bound .handle) (boundOf protocolVersion (r .bound) x)) (sym (own-area y));
+        slot-place = g .lands .slot-place;
+        slot-len = λ y. subst (λ (k : ℕ). r .bound .«held_len» ≤ k) long (g .lands .slot-len y);
+      };
       rules = g .rules;
       used = g .used ∙ ran .used;
       leaves = record {
         mid = w';
-        touched = subst (λ (x : List ℕ). Touched (s .shape) (seen .bound .place) x w' b b') words-are (g .touched);
-        still = λ q. (g .quiet q .0 ∙ words-are, g .quiet q .1);
+        store-after = subst (λ (x : List ℕ). StoreAfter (s .shape) (batchChange h (seen .bound .place) part (accepted (answerOf b' (r .answer)))) x w' b b') words-are (g .store-after);
         last = refl;
       };
       holds = λ own.

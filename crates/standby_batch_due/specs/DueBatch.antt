@@ -10,7 +10,8 @@ use Rattle.model_frame.specs.Frame as the-frame
 use Rattle.standby_row.specs.declared.Lookup.{Lookup}
 use Rattle.store_areas.specs.Areas.{Rules}
 use Rattle.standby_pending.specs.Pending.{pendingOf}
-use Rattle.model_standby.specs.Answer.{protocolVersion}
+use Rattle.standby_commit.specs.Settling.{batchChange}
+use Rattle.model_standby.specs.Answer.{protocolVersion, accepted}
 use Rattle.model_standby.specs.Standby.{pendsOn}
 use Rattle.model_standby.specs.Hold.{writesFrame}
 use Rattle.model_standby.specs.Core.{coreRun, coreBatch}
@@ -18,9 +19,9 @@ use Rattle.standby_part.specs.State.{coreAt}
 use Rattle.standby_counters.specs.declared.Replica.{Replica}
 use Rattle.standby_state.specs.declared.Settings.{Settings}
 use Rattle.standby_state.specs.declared.Outcome.{Outcome}
+use Rattle.standby_state.specs.Answers.{answerOf}
 use Rattle.standby_state.specs.Exact.{Exact}
-use Rattle.standby_state.specs.Outcomes.{countersOf, settingsOf, outcomeOf, Lands}
-use Rattle.standby_hello.specs.Greeting.{isQuiet}
+use Rattle.standby_state.specs.Outcomes.{countersOf, settingsOf, areaAt, outcomeOf, Lands}
 use Rattle.standby_step.specs.Steps.{roomIn, isFound, foundIn, FrameLeaves, holdsAfter}
 
 -- the place of the record found, or 0
@@ -40,10 +41,10 @@ pub record BatchIn (s : Settings) (c : Replica) (seen : Lookup) (h e n : ℕ) (p
   pub is : (isFound seen ≡ true → seen .bound .handle ≡ h)
       → outcomeOf protocolVersion (roomIn seen l) (s .shape) w' b' l' r
       ≡ coreBatch (settingsOf s (roomIn seen l)) (coreRun (dueBatch h w) (coreAt (countersOf c) (s .shape) w b)) (foundIn seen l) h e n part cs apps
-  pub lands : Lands seen (getD w' 0 0) (roomIn seen l) r
+  pub lands : Lands seen (getD w' 0 0) (roomIn seen l) (areaAt (roomIn seen l) (r .at) l') r
   pub rules : Rules (s .shape) w' b'
   pub used : getD w' 0 0 ≡ getD w 0 0
-  pub leaves : FrameLeaves (s .shape) (seen .bound .place) (dueBatch h w) false (isQuiet (r .answer)) w w' b b'
+  pub leaves : FrameLeaves (s .shape) (batchChange h (seen .bound .place) part (accepted (answerOf b' (r .answer)))) (dueBatch h w) false w w' b b'
   pub holds : (isFound seen ≡ true → seen .bound .handle ≡ h)
       → l' ≡ holdsAfter (roomIn seen l) (seen .at) (writesFrame (settingsOf s (roomIn seen l)) (countersOf c) (foundIn seen l) (batch h e n part cs apps)) l
   pub exact : Exact b' (r .answer)

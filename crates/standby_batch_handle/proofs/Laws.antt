@@ -1,6 +1,6 @@
 -- Each way of a Batch on a handle is the definition's. Assumes nothing.
 use mathlib.Core.Path.{_≡_, refl, sym, ap, subst, _∙_}
-use mathlib.Core.Bool.{Bool, true, false, cond, _&&_}
+use mathlib.Core.Bool.{Bool, true, false, cond, not, _&&_, true≢false}
 use mathlib.Core.List.{List, []}
 use Prim.Native.Nat.{ℕ, suc, _+_, _<_, _≤_}
 use native.Mathlib.Omega.{arith}
@@ -18,7 +18,8 @@ use Rattle.standby_changes.proofs.Held.{held-none}
 use Rattle.standby_row.specs.declared.Bound.{Bound}
 use Rattle.store_areas.specs.declared.Shape.{Shape}
 use Rattle.store_areas.specs.Areas.{Rules}
-use Rattle.standby_commit.proofs.Laws.{touched-none}
+use Rattle.standby_commit.specs.Settling.{batchChange, StoreAfter}
+use Rattle.standby_commit.proofs.Laws.{none-changed}
 use Rattle.model_standby.specs.Answer.{reply}
 use Rattle.model_standby.specs.State.{Counters, noneHeld}
 use Rattle.model_standby.specs.Core.{store, coreSays, corePart, coreHandle}
@@ -52,10 +53,10 @@ module _ (version : ℕ) (s : Shape) (handle : ℕ) (h : Bound) (n : ℕ) (part 
     is = λ c incarnation lag.
         sym (ap (λ (f : Bool). coreHandle (settingsFor s (length area) incarnation lag) (coreAt c s w b) handle (foundOf version f h area) n part cs) e);
     rules = r;
-    touched = touched-none s (h .place) w b;
-    quiet = λ _. (refl, refl);
+    store-after = none-changed s handle (h .place) part w b refl;
     slot-place = refl;
     slot-len = λ l. l;
+    slot-held = λ t. absurd (true≢false (sym t));
   }
 
   -- bound, and past the commit number
@@ -77,10 +78,10 @@ module _ (version : ℕ) (s : Shape) (handle : ℕ) (h : Bound) (n : ℕ) (part 
         ∙ sym (bound-part e c incarnation lag
         ∙ ap (λ (t : Bool). cond t (corePart (settingsFor s (length area) incarnation lag) (coreAt c s w b) handle (boundOf version h area) n part cs) (coreSays (coreAt c s w b) (store handle (noneHeld (boundOf version h area))) (nack handle diverged))) (sym f ∙ off));
     rules = r;
-    touched = touched-none s (h .place) w b;
-    quiet = λ _. (refl, refl);
+    store-after = none-changed s handle (h .place) part w b refl;
     slot-place = ap (λ (x : Bound). x .place) is;
     slot-len = λ _. subst (λ (x : Bound). x .«held_len» ≤ length area) (sym is) (omega arith);
+    slot-held = λ _. subst (λ (x : Bound). x .«held_len» ≡ sizes (heldRun version (take (x .«held_len») area))) (sym is) (sym (ap sizes nothing));
   }
 
   pub by-part : {found next : Bool} {w' b' area' : List ℕ} {d : PartResult} → found ≡ true → next ≡ followsOf h n → next ≡ true → h .handle ≡ handle
@@ -91,10 +92,10 @@ module _ (version : ℕ) (s : Shape) (handle : ℕ) (h : Bound) (n : ℕ) (part 
         ∙ sym (bound-part e c incarnation lag
         ∙ ap (λ (t : Bool). cond t (corePart (settingsFor s (length area) incarnation lag) (coreAt c s w b) handle (boundOf version h area) n part cs) (coreSays (coreAt c s w b) (store handle (noneHeld (boundOf version h area))) (nack handle diverged))) (sym f ∙ on));
     rules = p .rules;
-    touched = p .touched;
-    quiet = p .quiet;
+    store-after = subst (λ (k : ℕ). StoreAfter s (batchChange k (h .place) part (eqb (d .refusal) 0 && not (d .nack))) w w' b b') own (p .store-after);
     slot-place = p .slot-place;
     slot-len = p .slot-len;
+    slot-held = p .slot-held;
   }
 
 -- ---- the hold area

@@ -1,6 +1,6 @@
 -- What a Batch does on the handle that it names: 14 unbound, Nack Diverged for the number, else its part. Assumes nothing.
 use mathlib.Core.Path.{_≡_}
-use mathlib.Core.Bool.{Bool, true, false, cond, not, _&&_, _||_}
+use mathlib.Core.Bool.{Bool, true, false, cond, not, _&&_}
 use mathlib.Core.List.{List}
 use mathlib.Core.Option.{Option, none, some}
 use Prim.Native.Nat.{ℕ, suc, _<_, _≤_}
@@ -16,7 +16,7 @@ use Rattle.standby_row.specs.declared.Bound.{Bound as BoundRecord}
 use Rattle.store_areas.specs.StoreWord
 use Rattle.store_areas.specs.declared.Shape.{Shape}
 use Rattle.store_areas.specs.Areas.{Rules}
-use Rattle.standby_commit.specs.Settling.{Touched}
+use Rattle.standby_commit.specs.Settling.{batchChange, StoreAfter}
 use Rattle.model_standby.specs.State.{Counters, Bound}
 use Rattle.model_standby.specs.Core.{coreHandle}
 use Rattle.standby_part.specs.declared.PartResult.{PartResult}
@@ -46,12 +46,12 @@ abbrev pub holdAreaAfter : ℕ → Bool → BoundRecord → ℕ → the-frame.Pa
 holdAreaAfter version found h n part run area refusal =
     cond (found && (followsOf h n && isHeld part)) (cond (eqb refusal 0) (write area (sizes (heldRun version (take (h .«held_len») area))) run) area) area
 
--- equal to the definition, whatever the counters and the settings; a refusal and a Nack leave the store as it was
+-- equal to the definition, whatever the counters and the settings
 pub record HandleIs (version : ℕ) (s : Shape) (handle : ℕ) (found : Bool) (h : BoundRecord) (n : ℕ) (part : the-frame.Part) (cs : List Change) (w w' b b' area area' : List ℕ) (d : PartResult) : Type 0 where
   pub is : (c : Counters) (incarnation lag : ℕ)
       → resultOf version handle n area' d (coreAt c s w' b') ≡ coreHandle (settingsFor s (length area) incarnation lag) (coreAt c s w b) handle (foundOf version found h area) n part cs
   pub rules : Rules s w' b'
-  pub touched : Touched s (h .place) w w' b b'
-  pub quiet : (not (eqb (d .refusal) 0) || d .nack) ≡ true → (w' ≡ w) × (b' ≡ b)
+  pub store-after : StoreAfter s (batchChange handle (h .place) part (eqb (d .refusal) 0 && not (d .nack))) w w' b b'
   pub slot-place : d .bound .place ≡ h .place
   pub slot-len : h .«held_len» ≤ length area → d .bound .«held_len» ≤ length area
+  pub slot-held : d .stores ≡ true → d .bound .«held_len» ≡ sizes (heldRun version (take (d .bound .«held_len») area'))

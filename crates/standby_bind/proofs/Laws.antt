@@ -1,9 +1,9 @@
 -- What a Bound says of a session; a session is there or is opened; each way through Bind is the definition's. Assumes nothing.
 use mathlib.Core.Path.{_≡_, refl, sym, ap, subst, _∙_}
-use mathlib.Core.Bool.{Bool, true, false, cond, not, _||_, true≢false}
+use mathlib.Core.Bool.{Bool, true, false, cond, not, _&&_, _||_}
 use mathlib.Core.List.{List, [], _∷_, _++_, map}
 use mathlib.Core.Option.{Option, none, some, Option·map}
-use Prim.Native.Nat.{ℕ, _+_, _*_, _<_, _≤_}
+use Prim.Native.Nat.{ℕ, _+_, _<_, _≤_}
 use native.Mathlib.Omega.{arith}
 use lib.ListN.{length, getD, set, take, drop, getElem?, length-set, length-take}
 use lib.Seq.{take-take, drop-set-lt, getD-set-same, getD-set-other}
@@ -17,7 +17,7 @@ use Rattle.model_session.specs.Session.{Session}
 use Rattle.model_session.specs.Summary.{summary}
 use Rattle.model_session.proofs.Basics.{some-inj}
 use Rattle.model_standby.specs.Store.{Place, placeOf, isStored, sessionAt, orNew, newPlace, opened}
-use Rattle.model_standby.specs.Answer.{reply}
+use Rattle.model_standby.specs.Answer.{reply, accepted}
 use Rattle.model_standby.specs.State.{newBound}
 use Rattle.model_standby.specs.Core.{Core, CoreResult, leave, store, coreSays, coreRefuse, coreBind}
 use Rattle.model_standby.proofs.Places.{place-low}
@@ -26,7 +26,6 @@ use Rattle.frame_fields.specs.declared.SessionId.{SessionId}
 use Rattle.frame_fields.specs.declared.Summary.{Summary}
 use Rattle.frame_fields.specs.Answers.{keyOf, flightOf, summaryOf}
 use Rattle.frame_op.specs.Answers.{heldRun}
-use Rattle.store_place.specs.Only.{Only}
 use Rattle.store_place.specs.Place.{keyFrom}
 use Rattle.store_areas.specs.declared.Shape.{Shape}
 use Rattle.store_areas.specs.Areas.{placeWords, wordsAt, Rules, placeAt, placesOf}
@@ -34,11 +33,11 @@ use Rattle.store_areas.proofs.Lists.{word-kept}
 use Rattle.store_areas.proofs.Lifting.{places-length, place-is, session-is}
 use Rattle.store_sessions.specs.Answers.{Opened, TextsIn}
 use Rattle.store_sessions.proofs.Opening.{opened-rules}
+use Rattle.model_frame.specs.Sizes.{sizes}
 use Rattle.standby_changes.proofs.Held.{held-none}
 use Rattle.standby_pending.specs.Pending.{countOf, commitOf, pendingOf}
-use Rattle.standby_commit.specs.Settling.{Touched}
-use Rattle.standby_commit.proofs.Header.{past-66, pending-kept}
-use Rattle.standby_commit.proofs.Laws.{touched-none}
+use Rattle.standby_commit.specs.Settling.{stays, opens, openedWords, Touched, StoreAfter}
+use Rattle.standby_commit.proofs.Header.{pending-kept}
 use Rattle.standby_row.specs.declared.Bound.{Bound}
 use Rattle.standby_row.specs.declared.Lookup.{Lookup}
 use Rattle.standby_part.specs.State.{coreAt}
@@ -152,7 +151,7 @@ module _ (s : Shape) (k : Key) (w b : List ℕ) (r : Rules s w b) (place : ℕ) 
         more = omega arith;
         there = less;
         session = sym (ap orNew (session-is s w b (placeOf k ps) less));
-        touched = touched-none s (placeOf k ps) w b;
+        store-after = subst (λ (t : Bool). StoreAfter s (cond (not t) (opens (placeOf k ps)) stays) w w b b) (sym stored) (refl, refl);
       }
 
   pub newly-there : {w' b' : List ℕ} {x : Key} → x ≡ k → n ≤ place → n < s .places → Opened s x w w' b b' → BindOpens s k w w' b b'
@@ -181,10 +180,9 @@ module _ (s : Shape) (k : Key) (w b : List ℕ) (r : Rules s w b) (place : ℕ) 
         more = omega (arith, more);
         there = inside;
         session = ap (λ (x : Place). x .stored .session) own ∙ sym (ap (λ (x : Option Place). orNew (Option·map (λ (y : Place). y .stored .session) x)) none-there);
-        touched = subst (λ (i : ℕ). Touched s i w w' b b') (sym at) (record {
-          words = subst (λ (l : List ℕ). Only (n * placeWords s) (n * placeWords s + placeWords s) l (drop 66 w')) (drop-set-lt 66 w 0 (n + 1) (omega arith)) (past-66 (n * placeWords s) (placeWords s) v w' (o .words));
-          bytes = o .bytes;
-        });
+        store-after =
+            subst (λ (t : Bool). StoreAfter s (cond (not t) (opens (placeOf k ps)) stays) w w' b b') (sym new)
+            (subst (λ (i : ℕ). Touched s i (openedWords w) w' b b') (sym at) (record { words = o .words; bytes = o .bytes }));
       }
 
 -- a new key is opened only where a place is free
@@ -192,9 +190,6 @@ pub free-there : (place used places : ℕ) {t : Bool} → t ≡ (ltb place used 
 free-there place used places e h high = ltb-true used places (ap (λ (x : Bool). x || ltb used places) (sym (le-ltb place used high)) ∙ sym e ∙ h)
 
 -- ---- each way through
-
-no : {A : Type 0} → false ≡ true → A
-no e = absurd (true≢false (sym e))
 
 module _ (s : Settings) (c : Replica) (seen : Lookup) (h e lag : ℕ) (k : Key) (w b : List ℕ) (r : Rules (s .shape) w b) where
   abbrev places : List Place
@@ -217,20 +212,19 @@ module _ (s : Settings) (c : Replica) (seen : Lookup) (h e lag : ℕ) (k : Key) 
   unfolding coreBind
   tests room = refl
 
-  as-left : {o : Outcome} {a x : Answer} → o ≡ leaving c seen a → a ≡ x → Exact b x → ((room : ℕ) → record { core = At; action = leave; answer = answerOf b x } ≡ Bind room) → BindIs s c seen h e lag k w w b b o
-  as-left {x = x} e₁ e₂ is-exact is = subst (BindIs s c seen h e lag k w w b b) (sym (e₁ ∙ ap (leaving c seen) e₂)) (record {
+  as-left : {o : Outcome} {a x : Answer} → o ≡ leaving c seen a → a ≡ x → accepted (answerOf b x) ≡ false → Exact b x → ((room : ℕ) → record { core = At; action = leave; answer = answerOf b x } ≡ Bind room) → BindIs s c seen h e lag k w w b b o
+  as-left {x = x} e₁ e₂ off is-exact is = subst (BindIs s c seen h e lag k w w b b) (sym (e₁ ∙ ap (leaving c seen) e₂)) (record {
     is = λ version room holds. is room;
-    lands = leaving-lands c seen x (getD w 0 0);
+    lands = λ room area. leaving-lands c seen x (getD w 0 0) room;
     rules = r;
     more = omega arith;
-    touched = touched-none (s .shape) (placeOf k places) w b;
-    quiet = λ _. (refl, refl);
+    store-after = subst (λ (t : Bool). StoreAfter (s .shape) (cond (t && not (isStored k places)) (opens (placeOf k places)) stays) w w b b) (sym off) (refl, refl);
     exact = is-exact;
   })
 
   pub stale : {o : Outcome} {a : Answer} → e < c .epoch .0 → o ≡ leaving c seen a → a ≡ isNack h 1 → BindIs s c seen h e lag k w w b b o
   stale less e₁ e₂ =
-      as-left e₁ e₂ (exact-nack b h staleEpoch) (λ room. sym (tests room ∙ ap (λ (t : Bool). Tests t (ltb (s .«max_lag») lag) (isStored k places || ltb (length places) (s .shape .places)) (roomFor seen)) (lt-ltb e (c .epoch .0) less)))
+      as-left e₁ e₂ refl (exact-nack b h staleEpoch) (λ room. sym (tests room ∙ ap (λ (t : Bool). Tests t (ltb (s .«max_lag») lag) (isStored k places || ltb (length places) (s .shape .places)) (roomFor seen)) (lt-ltb e (c .epoch .0) less)))
 
   -- of an epoch that is not lower
   module _ (high : c .epoch .0 ≤ e) where
@@ -239,7 +233,7 @@ module _ (s : Settings) (c : Replica) (seen : Lookup) (h e lag : ℕ) (k : Key) 
 
     pub lagging : {o : Outcome} {a : Answer} → s .«max_lag» < lag → o ≡ leaving c seen a → a ≡ isNack h 3 → BindIs s c seen h e lag k w w b b o
     lagging great e₁ e₂ =
-        as-left e₁ e₂ (exact-nack b h lagTooGreat) (λ room. sym (first room ∙ ap (λ (t : Bool). Tests false t (isStored k places || ltb (length places) (s .shape .places)) (roomFor seen)) (lt-ltb (s .«max_lag») lag great)))
+        as-left e₁ e₂ refl (exact-nack b h lagTooGreat) (λ room. sym (first room ∙ ap (λ (t : Bool). Tests false t (isStored k places || ltb (length places) (s .shape .places)) (roomFor seen)) (lt-ltb (s .«max_lag») lag great)))
 
     -- and of a lag that is not too great, with what was found of the places
     module _ (small : lag ≤ s .«max_lag») {place : ℕ} {has : Bool} (at : place ≡ placeOf k places) (found : has ≡ (ltb place (getD w 0 0) || ltb (getD w 0 0) (s .shape .places))) where
@@ -254,7 +248,7 @@ module _ (s : Settings) (c : Replica) (seen : Lookup) (h e lag : ℕ) (k : Key) 
           ∙ (λ j. Tests false (le-ltb (s .«max_lag») lag small j) (sym same j) (roomFor seen))
 
       pub all-places : {o : Outcome} {a : Answer} → not has ≡ true → o ≡ leaving c seen a → a ≡ isRefused 20 → BindIs s c seen h e lag k w w b b o
-      all-places full e₁ e₂ = as-left e₁ e₂ (exact-refused b 20) (λ room. sym (second room ∙ ap (λ (t : Bool). Tests false false t (roomFor seen)) (not-true has full)))
+      all-places full e₁ e₂ = as-left e₁ e₂ refl (exact-refused b 20) (λ room. sym (second room ∙ ap (λ (t : Bool). Tests false false t (roomFor seen)) (not-true has full)))
 
       -- and with a session place
       module _ (some-place : not has ≡ false) {free : Bool} (fits : free ≡ roomFor seen) where
@@ -262,7 +256,7 @@ module _ (s : Settings) (c : Replica) (seen : Lookup) (h e lag : ℕ) (k : Key) 
         third room = second room ∙ (λ j. Tests false false (not-false has some-place j) (sym fits j))
 
         pub all-handles : {o : Outcome} {a : Answer} → not free ≡ true → o ≡ leaving c seen a → a ≡ isRefused 21 → BindIs s c seen h e lag k w w b b o
-        all-handles full e₁ e₂ = as-left e₁ e₂ (exact-refused b 21) (λ room. sym (third room ∙ ap (Tests false false true) (not-true free full)))
+        all-handles full e₁ e₂ = as-left e₁ e₂ refl (exact-refused b 21) (λ room. sym (third room ∙ ap (Tests false false true) (not-true free full)))
 
         pub binds : {w' b' : List ℕ} {o : Outcome} {a : Answer} {m : BoundSummary} {g : Bound} → not free ≡ false → BindOpens (s .shape) k w w' b b'
             → ExactSummary b' m → briefOf b' m ≡ summary (placeAt (s .shape) w' b' place .stored .session) lag → a ≡ isBound h m → g ≡ newHandle h place → o ≡ storing c seen a h g → BindIs s c seen h e lag k w w' b b' o
@@ -279,17 +273,16 @@ module _ (s : Settings) (c : Replica) (seen : Lookup) (h e lag : ℕ) (k : Key) 
                     answer = reply (bound h (says j));
                   })
                   ∙ sym (third room ∙ ap (Tests false false true) (not-false free has-room));
-              lands = λ room. record {
+              lands = λ room area. record {
                 at-is = refl;
                 from-is = refl;
                 one = λ _. refl;
-                slot-used = λ _. refl;
+                slot-is = λ _. (λ j. record { used = 1; handle = h; place = place; «commit_no» = record { 0 = 0 }; «held_len» = sym (ap sizes (held-none 1 (take 0 area) (omega (arith, length-take 0 area)))) j; «held_bytes» = 0 });
                 slot-place = λ _. subst (λ (i : ℕ). i < getD w' 0 0) (sym at) (op .there);
                 slot-len = λ _. omega arith;
               };
               rules = op .rules;
               more = op .more;
-              touched = op .touched;
-              quiet = no;
+              store-after = op .store-after;
               exact = exact-bound b' h m is-exact;
             })

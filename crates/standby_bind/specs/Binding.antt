@@ -12,17 +12,18 @@ use Rattle.store_areas.specs.StoreWord
 use Rattle.store_areas.specs.declared.Shape.{Shape}
 use Rattle.store_areas.specs.Areas.{Rules, placeAt, placesOf}
 use Rattle.standby_pending.specs.Pending.{pendingOf}
-use Rattle.standby_commit.specs.Settling.{Touched}
-use Rattle.model_standby.specs.Store.{placeOf, sessionAt, orNew, opened}
+use Rattle.standby_commit.specs.Settling.{bindChange, StoreAfter}
+use Rattle.model_standby.specs.Answer.{accepted}
+use Rattle.model_standby.specs.Store.{placeOf, isStored, sessionAt, orNew, opened}
 use Rattle.model_standby.specs.Core.{coreBind}
 use Rattle.store_place.specs.PlaceByte
 use Rattle.standby_part.specs.State.{coreAt}
 use Rattle.standby_counters.specs.declared.Replica.{Replica}
 use Rattle.standby_state.specs.declared.Settings.{Settings}
 use Rattle.standby_state.specs.declared.Outcome.{Outcome}
+use Rattle.standby_state.specs.Answers.{answerOf}
 use Rattle.standby_state.specs.Exact.{Exact}
 use Rattle.standby_state.specs.Outcomes.{countersOf, settingsOf, outcomeOf, Lands}
-use Rattle.standby_hello.specs.Greeting.{isQuiet}
 
 -- texts of at most 32 bytes
 pub record Short (k : Key) : Type 0 where
@@ -46,14 +47,13 @@ pub record BindOpens (s : Shape) (k : Key) (w w' b b' : List ℕ) : Type 0 where
   pub more : getD w StoreWord.used 0 ≤ getD w' StoreWord.used 0
   pub there : placeOf k (placesOf s w b) < getD w' StoreWord.used 0
   pub session : placeAt s w' b' (placeOf k (placesOf s w b)) .stored .session ≡ orNew (sessionAt (placesOf s w b) (placeOf k (placesOf s w b)))
-  pub touched : Touched s (placeOf k (placesOf s w b)) w w' b b'
+  pub store-after : StoreAfter s (bindChange (placeOf k (placesOf s w b)) (isStored k (placesOf s w b)) true) w w' b b'
 
--- equal to the definition, whatever the hold areas; a refusal and a Nack leave the store as it was
+-- equal to the definition, whatever the hold areas
 pub record BindIs (s : Settings) (c : Replica) (seen : Lookup) (h e lag : ℕ) (k : Key) (w w' b b' : List ℕ) (r : Outcome) : Type 0 where
   pub is : (version room : ℕ) (holds : List ℕ) → outcomeOf version room (s .shape) w' b' holds r ≡ coreBind (settingsOf s room) (coreAt (countersOf c) (s .shape) w b) (roomFor seen) h e lag k
-  pub lands : (room : ℕ) → Lands seen (getD w' StoreWord.used 0) room r
+  pub lands : (room : ℕ) (area : List ℕ) → Lands seen (getD w' StoreWord.used 0) room area r
   pub rules : Rules (s .shape) w' b'
   pub more : getD w StoreWord.used 0 ≤ getD w' StoreWord.used 0
-  pub touched : Touched (s .shape) (placeOf k (placesOf (s .shape) w b)) w w' b b'
-  pub quiet : isQuiet (r .answer) ≡ true → (w' ≡ w) × (b' ≡ b)
+  pub store-after : StoreAfter (s .shape) (bindChange (placeOf k (placesOf (s .shape) w b)) (isStored k (placesOf (s .shape) w b)) (accepted (answerOf b' (r .answer)))) w w' b b'
   pub exact : Exact b' (r .answer)

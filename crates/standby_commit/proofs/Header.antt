@@ -1,11 +1,11 @@
 -- The words before the first place's: what is written there changes no place. Assumes nothing.
-use mathlib.Core.Path.{_≡_, sym, ap, subst, _∙_}
+use mathlib.Core.Path.{_≡_, sym, ap, _∙_}
 use mathlib.Core.List.{List, map}
-use Prim.Native.Nat.{ℕ, _+_, _-_, _<_, _≤_}
+use Prim.Native.Nat.{ℕ, _+_, _<_, _≤_}
 use native.Mathlib.Omega.{arith}
 use mathlib.Core.Logic.{inr}
-use lib.ListN.{length, getD, set, take, drop, length-set, length-drop}
-use lib.Seq.{take-set-le, drop-set-lt, take-take, getD-take, drop-drop, getD-set-other}
+use lib.ListN.{length, getD, set, take, drop, length-set}
+use lib.Seq.{take-set-le, take-set-lt, drop-set-lt, take-take, getD-take, getD-set-other}
 use Rattle.base_laws.proofs.Lists.{drop-take}
 use Rattle.store_place.specs.Only.{Only}
 use Rattle.store_place.specs.Place.{placeIn}
@@ -17,14 +17,12 @@ use Rattle.standby_pending.specs.Pending.{countOf, commitOf, pendingOf}
 only-set : (w : List ℕ) (j v : ℕ) → Only j (j + 1) w (set w j v)
 only-set w j v = record { same-length = length-set w j v; front = take-set-le j w j v (omega arith); back = drop-set-lt (j + 1) w j v (omega arith) }
 
--- what is outside a part of a list, past the first 66
-pub past-66 : (a n : ℕ) (w w' : List ℕ) → Only (66 + a) (66 + a + n) w w' → Only a (a + n) (drop 66 w) (drop 66 w')
-past-66 a n w w' o = record {
-  same-length = length-drop 66 w' ∙ ap (λ (k : ℕ). k - 66) (o .same-length) ∙ sym (length-drop 66 w);
-  front = sym (drop-take 66 a w') ∙ ap (drop 66) (o .front) ∙ drop-take 66 a w;
-  back =
-      let sum : 66 + (a + n) ≡ 66 + a + n = omega arith in
-      drop-drop (a + n) 66 w' ∙ subst (λ (k : ℕ). drop k w' ≡ drop k w) (sym sum) (o .back) ∙ sym (drop-drop (a + n) 66 w);
+-- the same element set in front of the part that may have changed
+pub only-both : (a n j v : ℕ) (w w' : List ℕ) → j < a → Only a (a + n) w w' → Only a (a + n) (set w j v) (set w' j v)
+only-both a n j v w w' less o = record {
+  same-length = length-set w' j v ∙ o .same-length ∙ sym (length-set w j v);
+  front = take-set-lt a w' j v less ∙ ap (λ (l : List ℕ). set l j v) (o .front) ∙ sym (take-set-lt a w j v less);
+  back = drop-set-lt (a + n) w' j v (omega arith) ∙ o .back ∙ sym (drop-set-lt (a + n) w j v (omega arith));
 }
 
 -- a word of the header but the first
@@ -44,9 +42,6 @@ module _ (s : Shape) (w b : List ℕ) (j v : ℕ) (low : 1 ≤ j) (high : j < 66
   places-kept =
       ap (λ (n : ℕ). countUp (placeAt s (set w j v) b) 0 n) count-kept
       ∙ count-same (placeAt s w b) (placeAt s (set w j v) b) 0 (getD w 0 0) (λ i _ _. place-kept i)
-
-  pub rest-kept : drop 66 (set w j v) ≡ drop 66 w
-  rest-kept = drop-set-lt 66 w j v high
 
 -- the pending commits stand in the first 66 words
 pub pending-kept : (w w' : List ℕ) → 66 ≤ length w → countOf w ≤ 64 → take 66 w' ≡ take 66 w → pendingOf w' ≡ pendingOf w

@@ -1,12 +1,13 @@
 -- Each way of a frame that is no Batch is the definition's. Assumes nothing.
-use Prim.Native.Nat.{ℕ, zero, suc, _*_, _+_, _≤_}
+use Prim.Native.Nat.{ℕ, zero, suc, _≤_}
 use mathlib.Core.Path.{_≡_, refl, sym, ap, subst, _∙_}
 use mathlib.Core.Bool.{Bool, true, false, cond, not, _||_}
 use mathlib.Core.List.{List, [], _∷_}
 use mathlib.Core.Option.{Option, none}
 use native.Mathlib.Omega.{arith}
 use native.Mathlib.Nat.{le-of-eq}
-use lib.ListN.{length, getD, set, drop}
+use lib.ListN.{length, getD, set}
+use lib.Seq.{set-getD}
 use lib.Dec.{ltb}
 use types.Run.{OneOf, miss}
 use denote.Enum.Declared.{tagOf}
@@ -18,19 +19,19 @@ use Rattle.frame.specs.declared.Frame.{Frame}
 use Rattle.frame.proofs.Frame as frame-type
 use Rattle.frame.specs.Answers.{frameOf}
 use Rattle.standby_row.specs.declared.Lookup.{Lookup}
-use Rattle.store_place.specs.Only.{Only}
 use Rattle.store_areas.specs.declared.Shape.{Shape}
-use Rattle.store_areas.specs.Areas.{placeWords, Rules, placesOf}
+use Rattle.store_areas.specs.Areas.{Rules, placesOf}
 use Rattle.store_areas.proofs.Lifting.{heads-places}
 use Rattle.store_areas.proofs.Lists.{word-kept}
-use Rattle.standby_pending.specs.Pending.{pendingOf}
+use Rattle.standby_pending.specs.Pending.{countOf, pendingOf}
 use Rattle.standby_pending.proofs.Laws.{cleared}
 use Rattle.standby_pending_run.specs.Commits.{ranWords, RanIf}
 use Rattle.standby_pending_run.proofs.Head.{clear-only, clear-rules}
-use Rattle.standby_commit.specs.Settling.{Touched}
-use Rattle.standby_commit.proofs.Laws.{touched-none}
-use Rattle.model_standby.specs.Answer.{intact}
-use Rattle.model_standby.specs.Store.{Stored, Place, sameKey, placeOf, onPlace, markDurable, markAll}
+use Rattle.standby_pending_run.proofs.Due.{many-pending}
+use Rattle.standby_commit.specs.Settling.{StoreChange, stays, bindChange, StoreAfter}
+use Rattle.model_standby.specs.Answer.{intact, accepted}
+use Rattle.model_standby.specs.Store.{Stored, Place, sameKey, placeOf, isStored, onPlace, markDurable, markAll}
+use Rattle.model_standby.proofs.Places.{length-on}
 use Rattle.model_standby.specs.State.{Bound}
 use Rattle.model_standby.specs.State as state
 use Rattle.model_standby.specs.Core.{Core, coreBind, coreIntact, coreRun}
@@ -45,7 +46,7 @@ use Rattle.standby_state.proofs.Exact.{exact-refused}
 use Rattle.standby_hello.specs.Greeting.{Replies}
 use Rattle.standby_hello.proofs.Laws.{as-left}
 use Rattle.standby_bind.specs.Binding.{BindIs}
-use Rattle.standby_step.specs.Steps.{placeBy}
+use Rattle.standby_step.specs.Steps.{changesBy}
 use Rattle.standby_control.specs.Others.{Plain, Fit, clearedIf, OtherIs, OtherIn}
 
 -- ---- frames
@@ -109,12 +110,20 @@ module _ (s : Shape) (w b : List ℕ) (r : Rules s w b) where
   cleared-used true = word-kept 1 66 0 w (set w 1 0) (clear-only w) (omega arith)
   cleared-used false = refl
 
-  cleared-touched : (i : ℕ) (t : Bool) → Touched s i w (clearedIf t w) b b
-  cleared-touched i true = record {
-    words = subst (Only (i * placeWords s) (i * placeWords s + placeWords s) (drop 66 w)) (sym (clear-only w .back)) (touched-none s i w b .words);
-    bytes = touched-none s i w b .bytes;
-  }
-  cleared-touched i false = touched-none s i w b
+-- where none is pending they stay as they were
+cleared-same : (w : List ℕ) (t : Bool) → countOf w ≡ 0 → clearedIf t w ≡ w
+cleared-same w true e = ap (set w 1) (sym e) ∙ set-getD w 1 0
+cleared-same w false e = refl
+
+plain-stays : (ps : List Place) (p : ℕ) (f : the-frame.Frame) (taken : Bool) → Plain f → changesBy ps p (intact f) taken ≡ stays
+plain-stays ps p (hello v e node kinds) taken q = refl
+plain-stays ps p (welcome e i) taken q = refl
+plain-stays ps p (bind h e lag j) taken q = absurd q
+plain-stays ps p (batch h e n part cs apps) taken q = absurd q
+plain-stays ps p (ack h n) taken q = refl
+plain-stays ps p (nack h r) taken q = refl
+plain-stays ps p (bound h m) taken q = refl
+plain-stays ps p (checked h e i) taken q = refl
 
 -- ---- the ways of `answer`
 
@@ -125,11 +134,12 @@ module _ (s : Settings) (c : Replica) (seen : Lookup) (w b : List ℕ) (rules : 
         (λ j. record { core = record { counters = countersOf (r .replica); places = cleared-places (s .shape) w b rules (r .clears) j; pending = cleared-pending (s .shape) w b rules (r .clears) j }; action = actionOf version room holds r; answer = answerOf b (r .answer) })
         ∙ g .is version room holds b (placesOf (s .shape) w b) (pendingOf w)
         ∙ plain-same (settingsOf s room) (coreAt (countersOf c) (s .shape) w b) o (ltb (seen .free) (seen .len)) f p;
-    lands = λ room. g .lands (getD (clearedIf (r .clears) w) 0 0) room;
+    lands = λ room area. g .lands (getD (clearedIf (r .clears) w) 0 0) room area;
     rules = cleared-rules (s .shape) w b rules (r .clears);
     more = le-of-eq (sym (cleared-used (s .shape) w b rules (r .clears)));
-    touched = cleared-touched (s .shape) w b rules (placeBy (placesOf (s .shape) w b) (seen .bound .place) (intact f)) (r .clears);
-    quiet = λ q. (ap (λ (t : Bool). clearedIf t w) (g .quiet q), refl);
+    store-after = λ e₀.
+        subst (λ (x : StoreChange). StoreAfter (s .shape) x w (clearedIf (r .clears) w) b b) (sym (plain-stays (placesOf (s .shape) w b) (seen .bound .place) f (accepted (answerOf b (r .answer))) p))
+        (cleared-same w (r .clears) e₀, refl);
     exact = g .exact b;
   })
 
@@ -140,8 +150,7 @@ module _ (s : Settings) (c : Replica) (seen : Lookup) (w b : List ℕ) (rules : 
     lands = g .lands;
     rules = g .rules;
     more = g .more;
-    touched = g .touched;
-    quiet = g .quiet;
+    store-after = λ _. g .store-after;
     exact = g .exact;
   }
 
@@ -156,16 +165,23 @@ place-marked : (k : Key) (cs : List (ℕ × ℕ)) (ps : List Place) → placeOf 
 place-marked k [] ps = refl
 place-marked k (c ∷ cs) ps = place-marked k cs (onPlace (c .1) markDurable ps) ∙ place-on k (c .1) markDurable ps
 
-place-run : (f : the-frame.Frame) (p : ℕ) (t : Bool) (cs : List (ℕ × ℕ)) (ps : List Place) → placeBy (cond t (markAll cs ps) ps) p (intact f) ≡ placeBy ps p (intact f)
-place-run (hello v e node kinds) p t cs ps = refl
-place-run (welcome e i) p t cs ps = refl
-place-run (bind h e lag k) p true cs ps = place-marked k cs ps
-place-run (bind h e lag k) p false cs ps = refl
-place-run (batch h e n part xs apps) p t cs ps = refl
-place-run (ack h n) p t cs ps = refl
-place-run (nack h r) p t cs ps = refl
-place-run (bound h m) p t cs ps = refl
-place-run (checked h e i) p t cs ps = refl
+length-marked : (cs : List (ℕ × ℕ)) (ps : List Place) → length (markAll cs ps) ≡ length ps
+length-marked [] ps = refl
+length-marked (c ∷ cs) ps = length-marked cs (onPlace (c .1) markDurable ps) ∙ length-on (c .1) markDurable ps
+
+changes-marked : (k : Key) (cs : List (ℕ × ℕ)) (ps : List Place) (taken : Bool) → bindChange (placeOf k (markAll cs ps)) (isStored k (markAll cs ps)) taken ≡ bindChange (placeOf k ps) (isStored k ps) taken
+changes-marked k cs ps taken = (λ j. bindChange (place-marked k cs ps j) (ltb (place-marked k cs ps j) (length-marked cs ps j)) taken)
+
+changes-run : (f : the-frame.Frame) (p : ℕ) (t : Bool) (cs : List (ℕ × ℕ)) (ps : List Place) (taken : Bool) → changesBy (cond t (markAll cs ps) ps) p (intact f) taken ≡ changesBy ps p (intact f) taken
+changes-run (hello v e node kinds) p t cs ps taken = refl
+changes-run (welcome e i) p t cs ps taken = refl
+changes-run (bind h e lag k) p true cs ps taken = changes-marked k cs ps taken
+changes-run (bind h e lag k) p false cs ps taken = refl
+changes-run (batch h e n part xs apps) p t cs ps taken = refl
+changes-run (ack h n) p t cs ps taken = refl
+changes-run (nack h r) p t cs ps taken = refl
+changes-run (bound h m) p t cs ps taken = refl
+changes-run (checked h e i) p t cs ps taken = refl
 
 module _ (s : Settings) (c : Replica) (seen : Lookup) (f : the-frame.Frame) (w b : List ℕ) {due : Bool} (due-is : due ≡ not (isEmpty (pendingOf w))) {w1 : List ℕ} (ran : RanIf due (s .shape) b w w1) where
   ran-is : coreAt (countersOf c) (s .shape) w1 b ≡ coreRun (not (isEmpty (pendingOf w))) (coreAt (countersOf c) (s .shape) w b)
@@ -174,10 +190,20 @@ module _ (s : Settings) (c : Replica) (seen : Lookup) (f : the-frame.Frame) (w b
   words-are : w1 ≡ cond (not (isEmpty (pendingOf w))) (ranWords (s .shape) w) w
   words-are = ran .words ∙ ap (λ (t : Bool). cond t (ranWords (s .shape) w) w) due-is
 
-  place-is : placeBy (placesOf (s .shape) w1 b) (seen .bound .place) (intact f) ≡ placeBy (placesOf (s .shape) w b) (seen .bound .place) (intact f)
-  place-is =
-      ap (λ (ps : List Place). placeBy ps (seen .bound .place) (intact f)) (ran .places)
-      ∙ place-run f (seen .bound .place) due (pendingOf w) (placesOf (s .shape) w b)
+  changes-are : (taken : Bool) → changesBy (placesOf (s .shape) w1 b) (seen .bound .place) (intact f) taken ≡ changesBy (placesOf (s .shape) w b) (seen .bound .place) (intact f) taken
+  changes-are taken =
+      ap (λ (ps : List Place). changesBy ps (seen .bound .place) (intact f) taken) (ran .places)
+      ∙ changes-run f (seen .bound .place) due (pendingOf w) (placesOf (s .shape) w b) taken
+
+  -- no commit is pending then
+  none-left : countOf w1 ≡ 0
+  none-left =
+      let long : 66 ≤ length w1 = omega (arith, ran .rules .room .words-long) in
+      sym (many-pending w1 long (ran .rules .pending)) ∙ ap length (ran .pending ∙ ap (λ (t : Bool). cond t [] (pendingOf w)) due-is ∙ none-of (pendingOf w))
+    where
+      none-of : (l : List (ℕ × ℕ)) → cond (not (isEmpty l)) [] l ≡ []
+      none-of [] = refl
+      none-of (x ∷ l) = refl
 
   pub other-in : {w' b' : List ℕ} {r : Outcome} → OtherIs s c seen f w1 w' b b' r → OtherIn s c seen f w w' b b' r
   other-in {w'} {b'} {r} g = record {
@@ -187,8 +213,9 @@ module _ (s : Settings) (c : Replica) (seen : Lookup) (f : the-frame.Frame) (w b
     more = subst (λ (k : ℕ). k ≤ getD w' 0 0) (ran .used) (g .more);
     leaves = record {
       mid = w';
-      touched = subst (λ (x : List ℕ). Touched (s .shape) (placeBy (placesOf (s .shape) w b) (seen .bound .place) (intact f)) x w' b b') words-are (subst (λ (i : ℕ). Touched (s .shape) i w1 w' b b') place-is (g .touched));
-      still = λ q. (g .quiet q .0 ∙ words-are, g .quiet q .1);
+      store-after =
+          subst (λ (x : List ℕ). StoreAfter (s .shape) (changesBy (placesOf (s .shape) w b) (seen .bound .place) (intact f) (accepted (answerOf b' (r .answer)))) x w' b b') words-are
+          (subst (λ (x : StoreChange). StoreAfter (s .shape) x w1 w' b b') (changes-are (accepted (answerOf b' (r .answer)))) (g .store-after none-left));
       last = refl;
     };
     exact = g .exact;

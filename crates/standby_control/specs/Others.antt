@@ -1,7 +1,7 @@
 -- What a frame that is no Batch leaves and answers. Assumes nothing.
 use Prim.Native.Nat.{ℕ, _≤_}
 use mathlib.Core.Path.{_≡_}
-use mathlib.Core.Bool.{Bool, true, false, cond, not}
+use mathlib.Core.Bool.{Bool, false, cond, not}
 use mathlib.Core.List.{List}
 use mathlib.Core.Option.{Option}
 use lib.ListN.{getD, set}
@@ -11,9 +11,9 @@ use Rattle.model_frame.specs.Parse.{isEmpty}
 use Rattle.standby_row.specs.declared.Lookup.{Lookup}
 use Rattle.store_areas.specs.StoreWord
 use Rattle.store_areas.specs.Areas.{Rules, placesOf}
-use Rattle.standby_pending.specs.Pending.{pendingOf}
-use Rattle.standby_commit.specs.Settling.{Touched}
-use Rattle.model_standby.specs.Answer.{intact}
+use Rattle.standby_pending.specs.Pending.{countOf, pendingOf}
+use Rattle.standby_commit.specs.Settling.{StoreAfter}
+use Rattle.model_standby.specs.Answer.{intact, accepted}
 use Rattle.model_standby.specs.Row.{isSome}
 use Rattle.model_standby.specs.State.{Bound}
 use Rattle.model_standby.specs.Core.{coreRun, coreIntact}
@@ -21,11 +21,11 @@ use Rattle.standby_part.specs.State.{coreAt}
 use Rattle.standby_counters.specs.declared.Replica.{Replica}
 use Rattle.standby_state.specs.declared.Settings.{Settings}
 use Rattle.standby_state.specs.declared.Outcome.{Outcome}
+use Rattle.standby_state.specs.Answers.{answerOf}
 use Rattle.standby_state.specs.Exact.{Exact}
 use Rattle.standby_state.specs.Outcomes.{countersOf, settingsOf, outcomeOf, Lands}
-use Rattle.standby_hello.specs.Greeting.{isQuiet}
 use Rattle.standby_bind.specs.Binding.{Short}
-use Rattle.standby_step.specs.Steps.{isFound, placeBy, FrameLeaves}
+use Rattle.standby_step.specs.Steps.{isFound, changesBy, FrameLeaves}
 
 -- neither Bind nor Batch
 abbrev pub Plain : Frame → Type 0
@@ -52,15 +52,14 @@ Fit (checked h e i) = Unit {0}
 abbrev pub clearedIf : Bool → List ℕ → List ℕ
 clearedIf t w = cond t (set w StoreWord.pending 0) w
 
--- equal to the definition, whatever the hold areas and the record found; a refusal and a Nack leave the store as it was
+-- equal to the definition, whatever the hold areas and the record found; what is left of the store is said where no commit is pending
 pub record OtherIs (s : Settings) (c : Replica) (seen : Lookup) (f : Frame) (w w' b b' : List ℕ) (r : Outcome) : Type 0 where
   pub is : (version room : ℕ) (holds : List ℕ) (o : Option Bound) → isSome o ≡ isFound seen
       → outcomeOf version room (s .shape) w' b' holds r ≡ coreIntact (settingsOf s room) (coreAt (countersOf c) (s .shape) w b) o (ltb (seen .free) (seen .len)) f
-  pub lands : (room : ℕ) → Lands seen (getD w' StoreWord.used 0) room r
+  pub lands : (room : ℕ) (area : List ℕ) → Lands seen (getD w' StoreWord.used 0) room area r
   pub rules : Rules (s .shape) w' b'
   pub more : getD w StoreWord.used 0 ≤ getD w' StoreWord.used 0
-  pub touched : Touched (s .shape) (placeBy (placesOf (s .shape) w b) (seen .bound .place) (intact f)) w w' b b'
-  pub quiet : isQuiet (r .answer) ≡ true → (w' ≡ w) × (b' ≡ b)
+  pub store-after : countOf w ≡ 0 → StoreAfter (s .shape) (changesBy (placesOf (s .shape) w b) (seen .bound .place) (intact f) (accepted (answerOf b' (r .answer)))) w w' b b'
   pub exact : Exact b' (r .answer)
 
 -- the same, after the pending commits
@@ -68,8 +67,8 @@ pub record OtherIn (s : Settings) (c : Replica) (seen : Lookup) (f : Frame) (w w
   pub is : (version room : ℕ) (holds : List ℕ) (o : Option Bound) → isSome o ≡ isFound seen
       → outcomeOf version room (s .shape) w' b' holds r
       ≡ coreIntact (settingsOf s room) (coreRun (not (isEmpty (pendingOf w))) (coreAt (countersOf c) (s .shape) w b)) o (ltb (seen .free) (seen .len)) f
-  pub lands : (room : ℕ) → Lands seen (getD w' StoreWord.used 0) room r
+  pub lands : (room : ℕ) (area : List ℕ) → Lands seen (getD w' StoreWord.used 0) room area r
   pub rules : Rules (s .shape) w' b'
   pub more : getD w StoreWord.used 0 ≤ getD w' StoreWord.used 0
-  pub leaves : FrameLeaves (s .shape) (placeBy (placesOf (s .shape) w b) (seen .bound .place) (intact f)) (not (isEmpty (pendingOf w))) false (isQuiet (r .answer)) w w' b b'
+  pub leaves : FrameLeaves (s .shape) (changesBy (placesOf (s .shape) w b) (seen .bound .place) (intact f) (accepted (answerOf b' (r .answer)))) (not (isEmpty (pendingOf w))) false w w' b b'
   pub exact : Exact b' (r .answer)

@@ -11,16 +11,16 @@ use borrow.Author.Tests.{ltb-true, leb-true}
 use Rattle.base_flags.specs.Flag.{isSet}
 use Rattle.base_flags.proofs.Flags.{set-so, clear-so}
 use Rattle.base_laws.proofs.Lists.{both}
-use Rattle.model_frame.specs.Frame.{Change, AppRecord, batch}
+use Rattle.model_frame.specs.Frame.{Change, AppRecord, commit, whole, lastWhole, hello, welcome, bind, batch, ack, nack, bound, checked}
 use Rattle.model_frame.specs.Frame as the-frame
 use Rattle.standby_row.specs.declared.Lookup.{Lookup}
 use Rattle.store_areas.specs.Areas.{allowed, Rules, placesOf}
 use Rattle.store_areas.proofs.Ruling.{rules-of}
 use Rattle.standby_pending.specs.Pending.{pendingOf}
 use Rattle.standby_pending_run.specs.Commits.{ranWords, RanIf}
-use Rattle.standby_commit.specs.Settling.{Touched}
-use Rattle.standby_commit.proofs.Laws.{touched-none}
-use Rattle.model_standby.specs.Answer.{protocolVersion, Given, damaged, intact, given, handleIn, reply, refused, done, isReply}
+use Rattle.standby_commit.specs.Settling.{StoreChange, stays, batchChange, StoreAfter}
+use Rattle.model_standby.specs.Answer.{protocolVersion, Given, damaged, intact, given, handleIn, reply, refused, done, accepted, isReply}
+use Rattle.model_standby.specs.Store.{Place}
 use Rattle.model_standby.specs.Row.{isSome}
 use Rattle.model_standby.specs.State.{Bound, Call, onFrameHeld, onFrame}
 use Rattle.model_standby.specs.State as state
@@ -37,11 +37,10 @@ use Rattle.standby_state.specs.Answers.{answerOf, frameBy, isRefused}
 use Rattle.standby_state.specs.Exact.{Exact}
 use Rattle.standby_state.specs.Outcomes.{countersOf, settingsOf, leaving, areaAt, actionOf, outcomeOf, Lands}
 use Rattle.standby_state.proofs.Exact.{exact-refused}
-use Rattle.standby_hello.specs.Greeting.{isQuiet}
 use Rattle.standby_hello.proofs.Laws.{leaving-lands}
 use Rattle.standby_batch_due.specs.DueBatch.{RecordRulesIn, BatchIn}
 use Rattle.standby_control.specs.Others.{Fit, OtherIn}
-use Rattle.standby_step.specs.Steps.{roomIn, isFound, foundIn, seenAllowed, dueNow, placeBy, FrameLeaves, holdsAfter, hasHandle, StepIs}
+use Rattle.standby_step.specs.Steps.{roomIn, isFound, foundIn, seenAllowed, dueNow, changesBy, FrameLeaves, holdsAfter, hasHandle, StepIs}
 use Rattle.standby_frame.specs.Taking.{isAnswered, Own, IntactIs, Takes}
 use Rattle.standby_frame.proofs.Frames.{due-other, writes-other}
 
@@ -71,15 +70,32 @@ other-intact s c seen f fit w w' b b' l r g = record {
   is = λ own.
       g .is protocolVersion (roomIn seen l) l (foundIn seen l) (found-some seen l)
       ∙ ap (λ (t : Bool). coreIntact (settingsOf s (roomIn seen l)) (coreRun t (coreAt (countersOf c) (s .shape) w b)) (foundIn seen l) (ltb (seen .free) (seen .len)) f) (due-other (pendingOf w) f fit);
-  lands = g .lands (roomIn seen l);
+  lands = g .lands (roomIn seen l) (areaAt (roomIn seen l) (r .at) l);
   rules = g .rules;
   more = g .more;
-  leaves = subst (λ (t : Bool). FrameLeaves (s .shape) (placeBy (placesOf (s .shape) w b) (seen .bound .place) (intact f)) t false (isQuiet (r .answer)) w w' b b') (due-other (pendingOf w) f fit) (g .leaves);
+  leaves = subst (λ (t : Bool). FrameLeaves (s .shape) (changesBy (placesOf (s .shape) w b) (seen .bound .place) (intact f) (accepted (answerOf b' (r .answer)))) t false w w' b b') (due-other (pendingOf w) f fit) (g .leaves);
   holds = λ own. sym (ap (λ (o : Option HoldWrite). holdsAfter (roomIn seen l) (seen .at) o l) (writes-other (settingsOf s (roomIn seen l)) (countersOf c) (foundIn seen l) f fit));
   exact = g .exact;
 }
 
 -- ---- taking
+
+off-batch : (h i : ℕ) (part : the-frame.Part) → batchChange h i part false ≡ stays
+off-batch h i commit = refl
+off-batch h i whole = refl
+off-batch h i lastWhole = refl
+
+-- what isn't accepted changes nothing
+off-stays : (ps : List Place) (p : ℕ) (g : Given) → changesBy ps p g false ≡ stays
+off-stays ps p (damaged n) = refl
+off-stays ps p (intact (hello v e node kinds)) = refl
+off-stays ps p (intact (welcome e i)) = refl
+off-stays ps p (intact (bind h e lag k)) = refl
+off-stays ps p (intact (batch h e n part cs apps)) = off-batch h p part
+off-stays ps p (intact (ack h n)) = refl
+off-stays ps p (intact (nack h r)) = refl
+off-stays ps p (intact (bound h m)) = refl
+off-stays ps p (intact (checked h e i)) = refl
 
 module _ (s : Settings) (c : Replica) (seen : Lookup) (frame w b h : List ℕ) (rules : Rules (s .shape) w b) where
   abbrev L : state.Settings
@@ -115,18 +131,16 @@ module _ (s : Settings) (c : Replica) (seen : Lookup) (frame w b h : List ℕ) (
           more = le-refl (getD w 0 0);
           leaves = record {
             mid = w;
-            touched =
-                subst (λ (t : Bool). Touches t) (sym (ap (dueNow (isSet (c .promoted)) (pendingOf w)) is ∙ due-none)) (touched-none (s .shape) (placeBy (placesOf (s .shape) w b) (seen .bound .place) (given frame)) w b);
-            still = λ _. (sym (ap (λ (t : Bool). cond t (ranWords (s .shape) w) w) (ap (dueNow (isSet (c .promoted)) (pendingOf w)) is ∙ due-none)), refl);
+            store-after =
+                subst (λ (x : StoreChange). StoreAfter (s .shape) x (cond (dueNow (isSet (c .promoted)) (pendingOf w) (given frame)) (ranWords (s .shape) w) w) w b b)
+                (sym (ap (changesBy (placesOf (s .shape) w b) (seen .bound .place) (given frame)) (ap accepted (refused-is n b off)) ∙ off-stays (placesOf (s .shape) w b) (seen .bound .place) (given frame)))
+                (sym (ap (λ (t : Bool). cond t (ranWords (s .shape) w) w) (ap (dueNow (isSet (c .promoted)) (pendingOf w)) is ∙ due-none)), refl);
             last = refl;
           };
           holds = sym (ap (λ (o : Option HoldWrite). holdsAfter (roomIn seen h) (seen .at) o h) (ap (writes L (countersOf c) F) is ∙ none-written));
         };
         exact = exact-refused b n;
       })
-    where
-      Touches : Bool → Type 0
-      Touches t = Touched (s .shape) (placeBy (placesOf (s .shape) w b) (seen .bound .place) (given frame)) (cond t (ranWords (s .shape) w) w) w b b
 
   pub damaged-left : (n : ℕ) → given frame ≡ damaged n → eqb n 0 ≡ false → {r : Outcome} {a : Answer} → r ≡ leaving c seen a → a ≡ isRefused n → Takes s c seen frame w w b b h h r
   unfolding coreGiven writes
@@ -155,8 +169,8 @@ module _ (s : Settings) (c : Replica) (seen : Lookup) (frame w b h : List ℕ) (
           rules = g .rules;
           more = g .more;
           leaves =
-              subst (λ (x : Given). FrameLeaves (s .shape) (placeBy (placesOf (s .shape) w b) (seen .bound .place) x) (dueNow (isSet (c .promoted)) (pendingOf w) x) false (isQuiet (r .answer)) w w' b b') (sym is)
-              (subst (λ (t : Bool). FrameLeaves (s .shape) (placeBy (placesOf (s .shape) w b) (seen .bound .place) (intact f)) (not t && due (pendingOf w) f) false (isQuiet (r .answer)) w w' b b') (sym (clear-so (c .promoted) off)) (g .leaves));
+              subst (λ (x : Given). FrameLeaves (s .shape) (changesBy (placesOf (s .shape) w b) (seen .bound .place) x (accepted (answerOf b' (r .answer)))) (dueNow (isSet (c .promoted)) (pendingOf w) x) false w w' b b') (sym is)
+              (subst (λ (t : Bool). FrameLeaves (s .shape) (changesBy (placesOf (s .shape) w b) (seen .bound .place) (intact f) (accepted (answerOf b' (r .answer)))) (not t && due (pendingOf w) f) false w w' b b') (sym (clear-so (c .promoted) off)) (g .leaves));
           holds =
               g .holds mine
               ∙ ap (λ (o : Option HoldWrite). holdsAfter (roomIn seen h) (seen .at) o h)
@@ -220,13 +234,12 @@ module _ (s : Settings) (c : Replica) (seen : Lookup) (w b h : List ℕ) where
             let p = g .steps own in
             record {
               is = flushed-is _ (p .is);
-              lands = subst (λ (k : ℕ). Lands seen k (roomIn seen h) r) (sym (ran .used)) (p .lands);
+              lands = subst (λ (k : ℕ). Lands seen k (roomIn seen h) (areaAt (roomIn seen h) (r .at) h') r) (sym (ran .used)) (p .lands);
               rules = ran .rules;
               more = subst (λ (k : ℕ). getD w 0 0 ≤ k) (sym (ran .used)) (p .more);
               leaves = record {
                 mid = p .leaves .mid;
-                touched = p .leaves .touched;
-                still = p .leaves .still;
+                store-after = p .leaves .store-after;
                 last = ran .words ∙ (λ j. cond (replies j) (ranWords (s .shape) (p .leaves .last j)) (p .leaves .last j));
               };
               holds = p .holds;

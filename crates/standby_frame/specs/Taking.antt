@@ -10,7 +10,7 @@ use Rattle.standby_row.specs.declared.Lookup.{Lookup}
 use Rattle.store_areas.specs.StoreWord
 use Rattle.store_areas.specs.Areas.{Rules, placesOf}
 use Rattle.standby_pending.specs.Pending.{pendingOf}
-use Rattle.model_standby.specs.Answer.{protocolVersion, intact, given, handleIn}
+use Rattle.model_standby.specs.Answer.{protocolVersion, intact, given, handleIn, accepted}
 use Rattle.model_standby.specs.State.{onFrameHeld}
 use Rattle.model_standby.specs.Standby.{due}
 use Rattle.model_standby.specs.Hold.{writesFrame}
@@ -20,10 +20,10 @@ use Rattle.standby_counters.specs.declared.Replica.{Replica}
 use Rattle.standby_state.specs.declared.Settings.{Settings}
 use Rattle.standby_state.specs.declared.Answer.{Answer}
 use Rattle.standby_state.specs.declared.Outcome.{Outcome}
+use Rattle.standby_state.specs.Answers.{answerOf}
 use Rattle.standby_state.specs.Exact.{Exact}
-use Rattle.standby_state.specs.Outcomes.{countersOf, settingsOf, outcomeOf, Lands}
-use Rattle.standby_hello.specs.Greeting.{isQuiet}
-use Rattle.standby_step.specs.Steps.{roomIn, isFound, foundIn, placeBy, FrameLeaves, holdsAfter, hasHandle, Stepped}
+use Rattle.standby_state.specs.Outcomes.{countersOf, settingsOf, areaAt, outcomeOf, Lands}
+use Rattle.standby_step.specs.Steps.{roomIn, isFound, foundIn, changesBy, FrameLeaves, holdsAfter, hasHandle, Stepped}
 
 -- a frame is answered, a Nack too
 abbrev pub isAnswered : Answer → Bool
@@ -37,10 +37,10 @@ pub record IntactIs (s : Settings) (c : Replica) (seen : Lookup) (f : Frame) (w 
   pub is : Own seen f
       → outcomeOf protocolVersion (roomIn seen h) (s .shape) w' b' h' r
       ≡ coreIntact (settingsOf s (roomIn seen h)) (coreRun (due (pendingOf w) f) (coreAt (countersOf c) (s .shape) w b)) (foundIn seen h) (ltb (seen .free) (seen .len)) f
-  pub lands : Lands seen (getD w' StoreWord.used 0) (roomIn seen h) r
+  pub lands : Lands seen (getD w' StoreWord.used 0) (roomIn seen h) (areaAt (roomIn seen h) (r .at) h') r
   pub rules : Rules (s .shape) w' b'
   pub more : getD w StoreWord.used 0 ≤ getD w' StoreWord.used 0
-  pub leaves : FrameLeaves (s .shape) (placeBy (placesOf (s .shape) w b) (seen .bound .place) (intact f)) (due (pendingOf w) f) false (isQuiet (r .answer)) w w' b b'
+  pub leaves : FrameLeaves (s .shape) (changesBy (placesOf (s .shape) w b) (seen .bound .place) (intact f) (accepted (answerOf b' (r .answer)))) (due (pendingOf w) f) false w w' b b'
   pub holds : Own seen f → h' ≡ holdsAfter (roomIn seen h) (seen .at) (writesFrame (settingsOf s (roomIn seen h)) (countersOf c) (foundIn seen h) f) h
   pub exact : Exact b' (r .answer)
 

@@ -23,16 +23,16 @@ use Rattle.standby_state.specs.Answers.{answerOf, isRefused, isWelcome, isNack,
 use Rattle.standby_state.specs.Exact.{Exact}
 use Rattle.standby_state.specs.Outcomes.{countersOf, settingsOf, leaving, clearing, Lands}
 use Rattle.standby_state.proofs.Exact.{exact-refused, exact-welcome, exact-nack, exact-ack}
-use Rattle.standby_hello.specs.Greeting.{connectedTo, checkedTo, isQuiet, Replies}
+use Rattle.standby_hello.specs.Greeting.{connectedTo, checkedTo, Replies}
 
 no : {A : Type 0} → false ≡ true → A
 no e = absurd (true≢false (sym e))
 
-pub leaving-lands : (c : Replica) (seen : Lookup) (a : Answer) (used room : ℕ) → Lands seen used room (leaving c seen a)
-leaving-lands c seen a used room = record { at-is = refl; from-is = refl; one = no; slot-used = no; slot-place = no; slot-len = no }
+pub leaving-lands : (c : Replica) (seen : Lookup) (a : Answer) (used room : ℕ) {area : List ℕ} → Lands seen used room area (leaving c seen a)
+leaving-lands c seen a used room = record { at-is = refl; from-is = refl; one = no; slot-is = no; slot-place = no; slot-len = no }
 
-pub clearing-lands : (c : Replica) (seen : Lookup) (a : Answer) (used room : ℕ) → Lands seen used room (clearing c seen a)
-clearing-lands c seen a used room = record { at-is = refl; from-is = refl; one = no; slot-used = no; slot-place = no; slot-len = no }
+pub clearing-lands : (c : Replica) (seen : Lookup) (a : Answer) (used room : ℕ) {area : List ℕ} → Lands seen used room area (clearing c seen a)
+clearing-lands c seen a used room = record { at-is = refl; from-is = refl; one = no; slot-is = no; slot-place = no; slot-len = no }
 
 -- the state but for the row, with these counters
 abbrev At : Replica → List Place → List (ℕ × ℕ) → Core
@@ -42,12 +42,12 @@ At c ps pending = record { counters = countersOf c; places = ps; pending = pendi
 leaves-is : (c : Replica) (s : Settings) (seen : Lookup) (m : state.Settings → Core → CoreResult) (d : Replica) (a : Answer) → ((b : List ℕ) → Exact b a)
     → ((room : ℕ) (b : List ℕ) (ps : List Place) (pending : List (ℕ × ℕ)) → record { core = At d ps pending; action = leave; answer = answerOf b a } ≡ m (settingsOf s room) (At c ps pending))
     → Replies c s seen m (leaving d seen a)
-leaves-is c s seen m d a x f = record { is = λ version room holds b ps pending. f room b ps pending; lands = leaving-lands d seen a; quiet = λ _. refl; stays = refl; exact = x }
+leaves-is c s seen m d a x f = record { is = λ version room holds b ps pending. f room b ps pending; lands = λ used room area. leaving-lands d seen a used room; stays = refl; exact = x }
 
-clears-is : (c : Replica) (s : Settings) (seen : Lookup) (m : state.Settings → Core → CoreResult) (d : Replica) (a : Answer) → isQuiet a ≡ false → ((b : List ℕ) → Exact b a)
+clears-is : (c : Replica) (s : Settings) (seen : Lookup) (m : state.Settings → Core → CoreResult) (d : Replica) (a : Answer) → ((b : List ℕ) → Exact b a)
     → ((room : ℕ) (b : List ℕ) (ps : List Place) (pending : List (ℕ × ℕ)) → record { core = At d ps []; action = clear; answer = answerOf b a } ≡ m (settingsOf s room) (At c ps pending))
     → Replies c s seen m (clearing d seen a)
-clears-is c s seen m d a q x f = record { is = λ version room holds b ps pending. f room b ps pending; lands = clearing-lands d seen a; quiet = λ e. absurd (true≢false (sym e ∙ q)); stays = refl; exact = x }
+clears-is c s seen m d a x f = record { is = λ version room holds b ps pending. f room b ps pending; lands = λ used room area. clearing-lands d seen a used room; stays = refl; exact = x }
 
 module _ (c : Replica) (s : Settings) (seen : Lookup) where
   -- a refusal or a Nack that leaves all as it was
@@ -97,7 +97,7 @@ module _ (c : Replica) (s : Settings) (seen : Lookup) where
             → Replies c s seen Hello r
         taken {i = i} {d = d} {n = n} is high own e₀ e₁ e₂ =
             subst (Replies c s seen Hello) (sym (e₁ ∙ (λ j. clearing (e₀ j) seen (e₂ j))))
-            (clears-is c s seen Hello (connectedTo c n) (isWelcome n i) refl (λ b. exact-welcome b n i) (λ room b ps pending.
+            (clears-is c s seen Hello (connectedTo c n) (isWelcome n i) (λ b. exact-welcome b n i) (λ room b ps pending.
             ap (λ (x : ℕ). record { core = At (connectedTo c n) ps []; action = clear; answer = reply (welcome (n .0) x) }) own
             ∙ ap (λ (x : ℕ). record { core = At (connectedTo c (record { 0 = x })) ps []; action = clear; answer = reply (welcome x (max (s .incarnation .0) 1)) }) is
             ∙ sym (second (settingsOf s room) (At c ps pending) ∙ ap (Lower (settingsOf s room) (At c ps pending)) (le-ltb e (c .epoch .0) high))))

@@ -1,10 +1,8 @@
 -- What is answered by the counters alone: the store's places stay as they are, and pending commits go with the bindings. Assumes nothing.
 use Prim.Native.Nat.{ℕ, suc, min}
 use mathlib.Core.Path.{_≡_}
-use mathlib.Core.Bool.{Bool, true, false, cond, not, _||_}
+use mathlib.Core.Bool.{Bool, false, cond}
 use mathlib.Core.List.{List, []}
-use lib.Dec.{eqb}
-use Rattle.model_frame.specs.FrameKind
 use Rattle.model_frame.specs.Parse.{isEmpty}
 use Rattle.model_session.specs.Session.{top}
 use Rattle.frame_fields.specs.declared.Epoch.{Epoch}
@@ -14,7 +12,6 @@ use Rattle.model_standby.specs.State as state
 use Rattle.model_standby.specs.Core.{Core, CoreResult, coreHello, coreChecked}
 use Rattle.standby_counters.specs.declared.Replica.{Replica}
 use Rattle.standby_state.specs.declared.Settings.{Settings}
-use Rattle.standby_state.specs.declared.Answer.{Answer}
 use Rattle.standby_state.specs.declared.Outcome.{Outcome}
 use Rattle.standby_state.specs.Answers.{answerOf}
 use Rattle.standby_state.specs.Exact.{Exact}
@@ -26,10 +23,6 @@ connectedTo c e = record { epoch = e; connections = min (suc (c .connections)) t
 abbrev pub checkedTo : Replica → Epoch → Replica
 checkedTo c e = record { epoch = e; connections = c .connections; promoted = c .promoted; checked = 1 }
 
--- a refusal or a Nack
-abbrev pub isQuiet : Answer → Bool
-isQuiet a = not (eqb (a .refusal) 0) || eqb (a .kind) FrameKind.nack
-
 -- equal to the definition m, whatever the places, the pending commits and the hold areas
 pub record Replies (c : Replica) (s : Settings) (seen : Lookup) (m : state.Settings → Core → CoreResult) (r : Outcome) : Type 0 where
   pub is : (version room : ℕ) (holds b : List ℕ) (ps : List Place) (pending : List (ℕ × ℕ))
@@ -39,8 +32,7 @@ pub record Replies (c : Replica) (s : Settings) (seen : Lookup) (m : state.Setti
         answer = answerOf b (r .answer);
       }
       ≡ m (settingsOf s room) (record { counters = countersOf c; places = ps; pending = pending })
-  pub lands : (used room : ℕ) → Lands seen used room r
-  pub quiet : isQuiet (r .answer) ≡ true → r .clears ≡ false
+  pub lands : (used room : ℕ) (area : List ℕ) → Lands seen used room area r
   pub stays : r .stores ≡ false
   pub exact : (b : List ℕ) → Exact b (r .answer)
 

@@ -66,28 +66,29 @@ module _ (version : ℕ) (run area : List ℕ) (len sum : ℕ) {used before more
   size : length run ≡ sizes cs
   size = sym all
 
-  made : (n : ℕ) (area' : List ℕ) → n ≡ refusalOf H sum cs (length area) → area' ≡ cond (eqb n 0) (write area (sizes H) run) area → HoldIs version run area len sum area' (record { refusal = n; used = used + length run; sum = s })
-  made n area' e w = record { refusal = e; summed = total; ends = ap (λ (k : ℕ). k + length run) u; written = w }
+  made : (n at : ℕ) (area' : List ℕ) → n ≡ refusalOf H sum cs (length area) → at ≡ cond (eqb n 0) (sizes H + length run) (sizes H) → area' ≡ cond (eqb n 0) (write area (sizes H) run) area
+      → HoldIs version run area len sum area' (record { refusal = n; used = at; sum = s })
+  made n at area' e f w = record { refusal = e; summed = total; ends = f; written = w }
 
-  pub no-reset : lacks ≡ true → HoldIs version run area len sum area (record { refusal = 16; used = used + length run; sum = s })
-  no-reset h = made 16 area (sym (ap (λ (x : Bool). cond x 16 (cond (ltb maxWhole (sumOf H sum cs)) 17 (cond (ltb (length area) (sizes H + sizes cs)) 18 0))) (sym lacking ∙ h))) refl
+  pub no-reset : lacks ≡ true → HoldIs version run area len sum area (record { refusal = 16; used = used; sum = s })
+  no-reset h = made 16 used area (sym (ap (λ (x : Bool). cond x 16 (cond (ltb maxWhole (sumOf H sum cs)) 17 (cond (ltb (length area) (sizes H + sizes cs)) 18 0))) (sym lacking ∙ h))) u refl
 
   past-16 : lacks ≡ false → refusalOf H sum cs (length area) ≡ cond (ltb maxWhole s) 17 (cond (ltb (length area) (sizes H + sizes cs)) 18 0)
   past-16 h =
       ap (λ (x : Bool). cond x 16 (cond (ltb maxWhole (sumOf H sum cs)) 17 (cond (ltb (length area) (sizes H + sizes cs)) 18 0))) (sym lacking ∙ h)
       ∙ ap (λ (k : ℕ). cond (ltb maxWhole k) 17 (cond (ltb (length area) (sizes H + sizes cs)) 18 0)) (sym total)
 
-  pub too-much : lacks ≡ false → 4294967296 < s → HoldIs version run area len sum area (record { refusal = 17; used = used + length run; sum = s })
-  too-much h g = made 17 area (sym (past-16 h ∙ ap (λ (x : Bool). cond x 17 (cond (ltb (length area) (sizes H + sizes cs)) 18 0)) (lt-ltb maxWhole s g))) refl
+  pub too-much : lacks ≡ false → 4294967296 < s → HoldIs version run area len sum area (record { refusal = 17; used = used; sum = s })
+  too-much h g = made 17 used area (sym (past-16 h ∙ ap (λ (x : Bool). cond x 17 (cond (ltb (length area) (sizes H + sizes cs)) 18 0)) (lt-ltb maxWhole s g))) u refl
 
   past-17 : lacks ≡ false → s ≤ 4294967296 → refusalOf H sum cs (length area) ≡ cond (ltb (length area) (used + length run)) 18 0
   past-17 h g =
       past-16 h ∙ ap (λ (x : Bool). cond x 17 (cond (ltb (length area) (sizes H + sizes cs)) 18 0)) (le-ltb maxWhole s g)
       ∙ ap (λ (k : ℕ). cond (ltb (length area) (k + sizes cs)) 18 0) (sym u) ∙ ap (λ (k : ℕ). cond (ltb (length area) (used + k)) 18 0) (sym size)
 
-  pub no-room : lacks ≡ false → s ≤ 4294967296 → length area < used + length run → HoldIs version run area len sum area (record { refusal = 18; used = used + length run; sum = s })
-  no-room h g r = made 18 area (sym (past-17 h g ∙ ap (λ (x : Bool). cond x 18 0) (lt-ltb (length area) (used + length run) r))) refl
+  pub no-room : lacks ≡ false → s ≤ 4294967296 → length area < used + length run → HoldIs version run area len sum area (record { refusal = 18; used = used; sum = s })
+  no-room h g r = made 18 used area (sym (past-17 h g ∙ ap (λ (x : Bool). cond x 18 0) (lt-ltb (length area) (used + length run) r))) u refl
 
   pub held : lacks ≡ false → s ≤ 4294967296 → used + length run ≤ length area → {area' : List ℕ} → area' ≡ write area used run
       → HoldIs version run area len sum area' (record { refusal = 0; used = used + length run; sum = s })
-  held h g r {area'} w = made 0 area' (sym (past-17 h g ∙ ap (λ (x : Bool). cond x 18 0) (le-ltb (length area) (used + length run) r))) (w ∙ ap (λ (k : ℕ). write area k run) u)
+  held h g r {area'} w = made 0 (used + length run) area' (sym (past-17 h g ∙ ap (λ (x : Bool). cond x 18 0) (le-ltb (length area) (used + length run) r))) (ap (λ (k : ℕ). k + length run) u) (w ∙ ap (λ (k : ℕ). write area k run) u)

@@ -30,5 +30,5 @@ refusalOf held sum cs room =
 pub record HoldIs (version : ℕ) (run area : List ℕ) (len sum : ℕ) (area' : List ℕ) (r : Held) : Type 0 where
   pub refusal : r .refusal ≡ refusalOf (heldRun version (take len area)) sum (heldRun version run) (length area)
   pub summed : r .sum ≡ sumOf (heldRun version (take len area)) sum (heldRun version run)
-  pub ends : r .used ≡ sizes (heldRun version (take len area)) + length run
+  pub ends : r .used ≡ cond (eqb (r .refusal) 0) (sizes (heldRun version (take len area)) + length run) (sizes (heldRun version (take len area)))
   pub written : area' ≡ cond (eqb (r .refusal) 0) (write area (sizes (heldRun version (take len area))) run) area

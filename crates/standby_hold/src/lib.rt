@@ -62,21 +62,21 @@ pub fn hold(protocol: Protocol, run: &[u8], area: &mut [u8], len: usize, sum: u6
     if lacks_reset(protocol, run, used) {
         return Held {
             refusal: NO_RESET,
-            used: end,
+            used,
             sum,
         };
     }
     if Replica::MAX_WHOLE_SESSION_BYTES < sum {
         return Held {
             refusal: TOO_MANY_BYTES,
-            used: end,
+            used,
             sum,
         };
     }
     if area.len() < end {
         return Held {
             refusal: HOLD_AREA_FULL,
-            used: end,
+            used,
             sum,
         };
     }

@@ -3,25 +3,27 @@ use mathlib.Core.Path.{_≡_, refl, sym, ap, subst, _∙_}
 use mathlib.Core.Bool.{Bool, true, false, cond, not, true≢false}
 use mathlib.Core.List.{List, [], _∷_, _++_}
 use Prim.Native.Nat.{ℕ, _-_, _<_}
+use native.Mathlib.Omega.{arith}
 use native.Mathlib.Nat.{sub-zero}
 use lib.ListN.{length, getD, take, drop}
 use Rattle.model_frame.specs.Frame.{Change, commit, diverged, ack, nack}
 use Rattle.model_frame.specs.Parse.{isEmpty}
+use Rattle.model_frame.specs.Sizes.{sizes}
 use Rattle.model_session.specs.Session.{fits}
 use Rattle.frame_op.specs.Answers.{heldRun}
+use Rattle.standby_changes.proofs.Held.{held-none}
 use Rattle.frame_fields.specs.declared.CommitNumber.{CommitNumber}
 use Rattle.standby_row.specs.declared.Bound.{Bound as BoundRecord}
 use Rattle.store_areas.specs.declared.Shape.{Shape}
 use Rattle.store_areas.specs.Areas.{Rules, placeAt, placesOf}
 use Rattle.store_areas.proofs.Lifting.{session-is}
 use Rattle.standby_pending.specs.Pending.{pendingOf}
-use Rattle.standby_commit.specs.Settling.{Settles}
-use Rattle.standby_commit.proofs.Laws.{touched-none}
+use Rattle.standby_commit.specs.Settling.{stays, commits, StoreAfter, Settles}
 use Rattle.model_standby.specs.Store.{onPlace, changed, sessionAt, orNew}
 use Rattle.model_standby.specs.Answer.{reply}
 use Rattle.model_standby.specs.State.{Settings, Counters, Bound, numbered}
 use Rattle.model_standby.specs.Core.{leave, store, CoreResult, coreSays, coreRefuse, coreSettle, corePart}
-use Rattle.standby_part.specs.State.{boundOf, coreAt, settingsFor, numberedTo}
+use Rattle.standby_part.specs.State.{boundOf, coreAt, settingsFor, holdingTo}
 use Rattle.standby_part.specs.Part.{PartIs}
 
 -- what is left of a Commit or LastWhole once it is settled, as the definition has it
@@ -67,10 +69,10 @@ module _ (version : ℕ) (s : Shape) (h : BoundRecord) (n : CommitNumber) (cs : 
     is = λ c incarnation lag.
         sym (ap (λ (t : Bool). cond (not t) (coreRefuse (coreAt c s w b) leave 15) (coreSettle (settingsFor s (length area) incarnation lag) (coreAt c s w b) (h .handle) (boundOf version h area) (n .0) cs)) (sym l ∙ some));
     rules = r;
-    touched = touched-none s (h .place) w b;
-    quiet = λ _. (refl, refl);
+    store-after = (refl, refl);
     slot-place = refl;
     slot-len = λ l. l;
+    slot-held = λ e. absurd (true≢false (sym e));
   }
 
   module _ (empty : t ≡ true) (used : h .place < getD w 0 0) where
@@ -82,32 +84,53 @@ module _ (version : ℕ) (s : Shape) (h : BoundRecord) (n : CommitNumber) (cs : 
     past c incarnation lag =
         ap (λ (t : Bool). cond (not t) (coreRefuse (coreAt c s w b) leave 15) (coreSettle (settingsFor s (length area) incarnation lag) (coreAt c s w b) (h .handle) (boundOf version h area) (n .0) cs)) (sym l ∙ empty)
 
-    pub commit-made : {w' b' : List ℕ} {yes : Bool} {slot : BoundRecord} → Settles s (h .place) (h .handle) cs w w' b b' yes → yes ≡ true → slot ≡ numberedTo h n
-        → PartIs version s h (n .0) commit cs w w' b b' area area (record { refusal = 0; stores = true; bound = slot; nack = false })
-    commit-made {w'} {b'} settles y e =
-        subst (λ (k : BoundRecord). PartIs version s h (n .0) commit cs w w' b b' area area (record { refusal = 0; stores = true; bound = k; nack = false })) (sym e)
-        (made (subst (Settles s (h .place) (h .handle) cs w w' b b') y settles))
+    none-held : heldRun version (take 0 area) ≡ H
+    none-held = held-none version [] (omega arith) ∙ sym (none-there H (sym l ∙ empty))
       where
-        made : Settles s (h .place) (h .handle) cs w w' b b' true → PartIs version s h (n .0) commit cs w w' b b' area area (record { refusal = 0; stores = true; bound = numberedTo h n; nack = false })
-        made g = record {
-          is = λ c incarnation lag. sym (past c incarnation lag ∙ settle-is s (h .handle) cs w w' b b' true (boundOf version h area) (n .0) used g c (length area) incarnation lag);
-          rules = g .rules;
-          touched = g .touched;
-          quiet = λ e. absurd (true≢false (sym e));
-          slot-place = refl;
-          slot-len = λ l. l;
-        }
+        none-there : (x : List Change) → isEmpty x ≡ true → x ≡ []
+        none-there [] e = refl
+        none-there (y ∷ x) e = absurd (true≢false (sym e))
 
-    pub commit-off : {w' b' : List ℕ} {yes : Bool} → Settles s (h .place) (h .handle) cs w w' b b' yes → yes ≡ false
-        → PartIs version s h (n .0) commit cs w w' b b' area area (record { refusal = 0; stores = true; bound = h; nack = true })
-    commit-off {w'} {b'} settles y = off (subst (Settles s (h .place) (h .handle) cs w w' b b') y settles)
-      where
-        off : Settles s (h .place) (h .handle) cs w w' b b' false → PartIs version s h (n .0) commit cs w w' b b' area area (record { refusal = 0; stores = true; bound = h; nack = true })
-        off g = record {
-          is = λ c incarnation lag. sym (past c incarnation lag ∙ settle-is s (h .handle) cs w w' b b' false (boundOf version h area) (n .0) used g c (length area) incarnation lag);
+    -- nothing is held, and the byte sum stays
+    commit-settled : (k : CommitNumber) (taken : Bool) {w' b' : List ℕ} {slot : BoundRecord} → Settles s (h .place) (h .handle) cs w w' b b' taken → k .0 ≡ cond taken (n .0) (h .«commit_no» .0)
+        → slot ≡ holdingTo h k 0 (h .«held_bytes»)
+        → PartIs version s h (n .0) commit cs w w' b b' area area (record { refusal = 0; stores = true; bound = slot; nack = not taken })
+    commit-settled k taken {w'} {b'} g at e =
+        subst (λ (x : BoundRecord). PartIs version s h (n .0) commit cs w w' b b' area area (record { refusal = 0; stores = true; bound = x; nack = not taken })) (sym e)
+        (record {
+          is = λ c incarnation lag.
+              (λ j. record {
+                core = coreAt c s w' b';
+                action = store (h .handle) (record { place = h .place; number = at j; held = none-held j; bytes = h .«held_bytes» });
+                answer = reply (cond (not taken) (nack (h .handle) diverged) (ack (h .handle) (n .0)));
+              })
+              ∙ by taken c
+              ∙ sym (past c incarnation lag ∙ settle-is s (h .handle) cs w w' b b' taken (boundOf version h area) (n .0) used g c (length area) incarnation lag);
           rules = g .rules;
-          touched = g .touched;
-          quiet = λ _. g .unless refl;
+          store-after = subst (λ (t : Bool). StoreAfter s (cond t (commits (h .handle) (h .place)) stays) w w' b b') (sym (twice taken)) (g .store-after);
           slot-place = refl;
-          slot-len = λ l. l;
-        }
+          slot-len = λ _. omega arith;
+          slot-held = λ _. sym (ap sizes (held-none version [] (omega arith)));
+        })
+      where
+        twice : (t : Bool) → not (not t) ≡ t
+        twice true = refl
+        twice false = refl
+
+        by : (t : Bool) (c : Counters) → _≡_ {A = CoreResult}
+            (record {
+              core = coreAt c s w' b';
+              action = store (h .handle) (record { place = h .place; number = cond t (n .0) (h .«commit_no» .0); held = H; bytes = h .«held_bytes» });
+              answer = reply (cond (not t) (nack (h .handle) diverged) (ack (h .handle) (n .0)));
+            })
+            (record { core = coreAt c s w' b'; action = store (h .handle) (cond t (numbered (n .0) (boundOf version h area)) (boundOf version h area)); answer = reply (cond t (ack (h .handle) (n .0)) (nack (h .handle) diverged)) })
+        by true c = refl
+        by false c = refl
+
+    pub commit-made : {w' b' : List ℕ} {yes : Bool} {slot : BoundRecord} → Settles s (h .place) (h .handle) cs w w' b b' yes → yes ≡ true → slot ≡ holdingTo h n 0 (h .«held_bytes»)
+        → PartIs version s h (n .0) commit cs w w' b b' area area (record { refusal = 0; stores = true; bound = slot; nack = false })
+    commit-made {w'} {b'} settles y e = commit-settled n true (subst (Settles s (h .place) (h .handle) cs w w' b b') y settles) refl e
+
+    pub commit-off : {w' b' : List ℕ} {yes : Bool} {slot : BoundRecord} → Settles s (h .place) (h .handle) cs w w' b b' yes → yes ≡ false → slot ≡ holdingTo h (h .«commit_no») 0 (h .«held_bytes»)
+        → PartIs version s h (n .0) commit cs w w' b b' area area (record { refusal = 0; stores = true; bound = slot; nack = true })
+    commit-off {w'} {b'} settles y e = commit-settled (h .«commit_no») false (subst (Settles s (h .place) (h .handle) cs w w' b b') y settles) refl e

@@ -1,6 +1,6 @@
 -- A Whole's ways are the definition's; a LastWhole's up to where it is settled. Assumes nothing.
 use mathlib.Core.Path.{_≡_, refl, sym, ap, subst, _∙_}
-use mathlib.Core.Bool.{Bool, true, false, cond, not, _&&_, _||_, true≢false}
+use mathlib.Core.Bool.{Bool, true, false, cond, not, _&&_, true≢false}
 use mathlib.Core.List.{List, [], _++_}
 use Prim.Native.Nat.{ℕ, _+_, _-_, _<_, _≤_}
 use native.Mathlib.Omega.{arith}
@@ -21,15 +21,16 @@ use Rattle.frame_fields.specs.declared.CommitNumber.{CommitNumber}
 use Rattle.standby_row.specs.declared.Bound.{Bound}
 use Rattle.store_areas.specs.declared.Shape.{Shape}
 use Rattle.store_areas.specs.Areas.{Rules}
-use Rattle.standby_commit.specs.Settling.{Settles}
-use Rattle.standby_commit.proofs.Laws.{touched-none}
+use Rattle.standby_commit.specs.Settling.{stays, commits, StoreAfter, Settles}
+use Rattle.standby_commit.proofs.Laws.{none-changed}
 use Rattle.standby_hold.specs.declared.Held.{Held}
 use Rattle.standby_hold.specs.Holding.{sumOf, HoldIs}
+use Rattle.standby_hold.proofs.Laws.{within}
 use Rattle.model_standby.specs.Answer.{reply, refused}
 use Rattle.model_standby.specs.State.{Settings, Counters, noneHeld, numbered}
 use Rattle.model_standby.specs.Standby.{maxWhole, startsWithReset, summed, holding}
 use Rattle.model_standby.specs.Core.{leave, store, Core, CoreResult, coreSays, coreRefuse, coreSettle, coreHold, corePart}
-use Rattle.standby_part.specs.State.{boundOf, coreAt, settingsFor, summedTo, holdingTo}
+use Rattle.standby_part.specs.State.{boundOf, coreAt, settingsFor, holdingTo}
 use Rattle.standby_part.specs.Part.{PartIs}
 use Rattle.standby_part.proofs.Parts.{settle-is}
 
@@ -121,30 +122,37 @@ module _ (version : ℕ) (h : Bound) (n : CommitNumber) (run area : List ℕ) (s
   abbrev J : List Change
   J = heldRun version (take (h .«held_len») area)
 
-  pub sum-kept : {slot : Bound} → r .refusal ≡ 17 → slot ≡ summedTo h (r .sum)
+  -- what was held stays so, and is counted
+  pub sum-kept : {slot : Bound} → ((i : ℕ) → getD area i 0 < 256) → r .refusal ≡ 17 → slot ≡ holdingTo h (h .«commit_no») (r .used) (r .sum)
       → PartIs version s h (n .0) part (heldRun version run) w w b b area area' (record { refusal = r .refusal; stores = true; bound = slot; nack = false })
-  sum-kept {slot} e is = record {
+  sum-kept {slot} known e is = record {
     is = λ c incarnation lag.
         (λ j. record {
           core = coreAt c s w b;
-          action = store (h .handle) (boundOf version (is j) (kept j));
+          action = store (h .handle) (boundOf version (is j) area');
           answer = cond (eqb (e j) 0) (reply (ack (h .handle) (n .0))) (refused (e j));
         })
         ∙ (λ j. record {
           core = coreAt c s w b;
-          action = store (h .handle) (record { place = h .place; number = h .«commit_no» .0; held = J; bytes = g .summed j });
+          action = store (h .handle) (record { place = h .place; number = h .«commit_no» .0; held = front j; bytes = g .summed j });
           answer = refused 17;
         })
         ∙ sym (on c incarnation lag ∙ hold-sum version h n run area s w b c incarnation lag (go c incarnation lag) g e);
     rules = rules;
-    touched = touched-none s (h .place) w b;
-    quiet = λ _. (refl, refl);
+    store-after = none-changed s (h .handle) (h .place) part w b (ap (λ (m : ℕ). eqb m 0 && not false) e);
     slot-place = ap (λ (x : Bound). x .place) is;
-    slot-len = λ l. subst (λ (x : Bound). x .«held_len» ≤ length area) (sym is) l;
+    slot-len = λ _. subst (λ (x : Bound). x .«held_len» ≤ length area) (sym is) (within version (h .«held_len») area known len);
+    slot-held = λ _. subst (λ (x : Bound). x .«held_len» ≡ sizes (heldRun version (take (x .«held_len») area'))) (sym is) (len ∙ sym (ap sizes front));
   }
     where
+      len : r .used ≡ sizes J
+      len = g .ends ∙ ap (λ (m : ℕ). cond (eqb m 0) (sizes J + length run) (sizes J)) e
+
       kept : area' ≡ area
       kept = g .written ∙ ap (λ (t : Bool). cond t (write area (sizes J) run) area) (ne-eqb (r .refusal) 0 (λ z. eqb-false 17 0 refl (sym e ∙ z)))
+
+      front : heldRun version (take (r .used) area') ≡ J
+      front = (λ j. heldRun version (take (len j) (kept j))) ∙ held-in version area (h .«held_len») (are-bytes area known)
 
   pub all-refused : (r .refusal ≡ 17 → ⊥) → (r .refusal ≡ 0 → ⊥)
       → PartIs version s h (n .0) part (heldRun version run) w w b b area area' (record { refusal = r .refusal; stores = false; bound = h; nack = false })
@@ -153,10 +161,10 @@ module _ (version : ℕ) (h : Bound) (n : CommitNumber) (run area : List ℕ) (s
         ap (λ (t : Bool). record { core = coreAt c s w b; action = leave; answer = cond t (reply (ack (h .handle) (n .0))) (refused (r .refusal)) }) (ne-eqb (r .refusal) 0 z)
         ∙ sym (on c incarnation lag ∙ hold-refuses version h n run area s w b c incarnation lag (go c incarnation lag) g z m);
     rules = rules;
-    touched = touched-none s (h .place) w b;
-    quiet = λ _. (refl, refl);
+    store-after = none-changed s (h .handle) (h .place) part w b (ap (λ (t : Bool). t && not false) (ne-eqb (r .refusal) 0 z));
     slot-place = refl;
     slot-len = λ l. l;
+    slot-held = λ t. absurd (true≢false (sym t));
   }
 
 -- ---- Whole
@@ -172,6 +180,9 @@ module _ (version : ℕ) (h : Bound) (n : CommitNumber) (run area : List ℕ) (k
       last-off (isEmpty K && not (startsWithReset (heldRun version run))) (ltb maxWhole (sumOf K (h .«held_bytes») (heldRun version run))) (ltb (length area) (sizes K + sizes (heldRun version run))) (sym (g .refusal) ∙ e) in
       omega (arith, ltb-false (length area) (sizes K + sizes (heldRun version run)) room, all)
 
+  pub ends-at : r .refusal ≡ 0 → r .used ≡ sizes K + length run
+  ends-at e = g .ends ∙ ap (λ (m : ℕ). cond (eqb m 0) (sizes K + length run) (sizes K)) e
+
   -- what is held then: those before, and its own
   pub held-now : r .refusal ≡ 0 → heldRun version (take (r .used) area') ≡ K ++ heldRun version run
   held-now e =
@@ -180,7 +191,7 @@ module _ (version : ℕ) (h : Bound) (n : CommitNumber) (run area : List ℕ) (k
       let wrote : area' ≡ write area (sizes K) run = g .written ∙ ap (λ (t : Bool). cond t (write area (sizes K) run) area) (eq-eqb (r .refusal) 0 e) in
       let front : heldRun version (take (sizes K) area) ≡ K = held-in version area (h .«held_len») ha in
       let room : sizes K + length run ≤ length area = within-area e in
-      ap (λ (m : ℕ). heldRun version (take m area')) (g .ends) ∙ ap (λ (l : List ℕ). heldRun version (take (sizes K + length run) l)) wrote
+      ap (λ (m : ℕ). heldRun version (take m area')) (ends-at e) ∙ ap (λ (l : List ℕ). heldRun version (take (sizes K + length run) l)) wrote
       ∙ held-written version area (sizes K) run ha hr room (ap sizes front) ∙ ap (λ (l : List Change). l ++ heldRun version run) front
 
   pub whole-held : {slot : Bound} → r .refusal ≡ 0 → slot ≡ holdingTo h n (r .used) (r .sum) → (s : Shape) (w b : List ℕ) → Rules s w b
@@ -200,10 +211,11 @@ module _ (version : ℕ) (h : Bound) (n : CommitNumber) (run area : List ℕ) (k
         })
         ∙ sym (hold-goes version h n run area s w b c incarnation lag (coreSays (coreAt c s w b) (store (h .handle) (holding (boundOf version h area) (n .0) (heldRun version run))) (ack (h .handle) (n .0))) g e);
     rules = rules;
-    touched = touched-none s (h .place) w b;
-    quiet = λ t. absurd (true≢false (sym t ∙ ap (λ (m : ℕ). not (eqb m 0) || false) e));
+    store-after = (refl, refl);
     slot-place = ap (λ (x : Bound). x .place) is;
-    slot-len = λ _. subst (λ (x : Bound). x .«held_len» ≤ length area) (sym is) (subst (λ (k : ℕ). k ≤ length area) (sym (g .ends)) (within-area e));
+    slot-len = λ _. subst (λ (x : Bound). x .«held_len» ≤ length area) (sym is) (subst (λ (k : ℕ). k ≤ length area) (sym (ends-at e)) (within-area e));
+    slot-held = λ _. subst (λ (x : Bound). x .«held_len» ≡ sizes (heldRun version (take (x .«held_len») area'))) (sym is)
+        (omega (arith, ends-at e, ap sizes (held-now e), sizes-append K (heldRun version run), all));
   }
 
   pub whole-on : (s : Shape) (w b : List ℕ) → GoesOn version h (n .0) whole run area s w b (λ c _ _. coreSays (coreAt c s w b) (store (h .handle) (holding (boundOf version h area) (n .0) (heldRun version run))) (ack (h .handle) (n .0)))
@@ -259,10 +271,10 @@ module _ (version : ℕ) (h : Bound) (n : CommitNumber) (run area : List ℕ) (k
           })
           ∙ sym (ended c incarnation lag);
       rules = t .rules;
-      touched = t .touched;
-      quiet = λ q. absurd (true≢false (sym q ∙ ap (λ (m : ℕ). not (eqb m 0) || false) e));
+      store-after = subst (λ (x : Bool). StoreAfter s (cond x (commits (h .handle) (h .place)) stays) w w' b b') (y ∙ sym (ap (λ (m : ℕ). eqb m 0 && not false) e)) (t .store-after);
       slot-place = ap (λ (x : Bound). x .place) is;
       slot-len = λ _. subst (λ (x : Bound). x .«held_len» ≤ length area) (sym is) (omega arith);
+      slot-held = λ _. subst (λ (x : Bound). x .«held_len» ≡ sizes (heldRun version (take (x .«held_len») area'))) (sym is) (sym (ap sizes nothing));
     }
 
     pub last-diverged : {slot : Bound} → yes ≡ false → slot ≡ holdingTo h (h .«commit_no») 0 0
@@ -286,8 +298,8 @@ module _ (version : ℕ) (h : Bound) (n : CommitNumber) (run area : List ℕ) (k
           })
           ∙ sym (ended c incarnation lag);
       rules = t .rules;
-      touched = t .touched;
-      quiet = λ _. t .unless y;
+      store-after = subst (λ (x : Bool). StoreAfter s (cond x (commits (h .handle) (h .place)) stays) w w' b b') (y ∙ sym (ap (λ (m : ℕ). eqb m 0 && not true) e)) (t .store-after);
       slot-place = ap (λ (x : Bound). x .place) is;
       slot-len = λ _. subst (λ (x : Bound). x .«held_len» ≤ length area) (sym is) (omega arith);
+      slot-held = λ _. subst (λ (x : Bound). x .«held_len» ≡ sizes (heldRun version (take (x .«held_len») area'))) (sym is) (sym (ap sizes nothing));
     }

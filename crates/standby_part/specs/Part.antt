@@ -1,6 +1,6 @@
 -- What a Commit, a Whole or a LastWhole does on its handle, past the commit number. Assumes nothing.
 use mathlib.Core.Path.{_≡_}
-use mathlib.Core.Bool.{true, cond, not, _||_}
+use mathlib.Core.Bool.{true, cond, not, _&&_}
 use mathlib.Core.List.{List}
 use Prim.Native.Nat.{ℕ, _≤_}
 use lib.ListN.{length, take}
@@ -13,7 +13,7 @@ use Rattle.frame_op.specs.Answers.{heldRun}
 use Rattle.standby_row.specs.declared.Bound.{Bound}
 use Rattle.store_areas.specs.declared.Shape.{Shape}
 use Rattle.store_areas.specs.Areas.{Rules}
-use Rattle.standby_commit.specs.Settling.{Touched}
+use Rattle.standby_commit.specs.Settling.{batchChange, StoreAfter}
 use Rattle.model_standby.specs.Answer.{reply, refused}
 use Rattle.model_standby.specs.State.{Counters}
 use Rattle.model_standby.specs.Core.{leave, store, Core, CoreResult, corePart}
@@ -29,15 +29,15 @@ resultOf version h n area d k =
       answer = cond (eqb (d .refusal) 0) (reply (cond (d .nack) (nack h diverged) (ack h n))) (refused (d .refusal));
     }
 
--- equal to the definition, whatever the counters and the settings; a refusal and a Nack leave the store as it was
+-- equal to the definition, whatever the counters and the settings
 pub record PartIs (version : ℕ) (s : Shape) (h : Bound) (n : ℕ) (part : the-frame.Part) (cs : List Change) (w w' b b' area area' : List ℕ) (d : PartResult) : Type 0 where
   pub is : (c : Counters) (incarnation lag : ℕ)
       → resultOf version (h .handle) n area' d (coreAt c s w' b') ≡ corePart (settingsFor s (length area) incarnation lag) (coreAt c s w b) (h .handle) (boundOf version h area) n part cs
   pub rules : Rules s w' b'
-  pub touched : Touched s (h .place) w w' b b'
-  pub quiet : (not (eqb (d .refusal) 0) || d .nack) ≡ true → (w' ≡ w) × (b' ≡ b)
+  pub store-after : StoreAfter s (batchChange (h .handle) (h .place) part (eqb (d .refusal) 0 && not (d .nack))) w w' b b'
   pub slot-place : d .bound .place ≡ h .place
   pub slot-len : h .«held_len» ≤ length area → d .bound .«held_len» ≤ length area
+  pub slot-held : d .stores ≡ true → d .bound .«held_len» ≡ sizes (heldRun version (take (d .bound .«held_len») area'))
 
 -- a Whole leaves the store as it was
 abbrev pub WholeIs : ℕ → Bound → ℕ → List Change → List ℕ → List ℕ → PartResult → Type 0

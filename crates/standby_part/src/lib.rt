@@ -8,7 +8,7 @@ ghost use Rattle.standby_changes.specs.Held.{TakesAll};
 ghost use Rattle.store_areas.specs.Areas.{Rules};
 ghost use Rattle.standby_pending.specs.Pending.{countOf};
 ghost use Rattle.standby_part.specs.Part.{PartIs, WholeIs, AreaIs};
-ghost use Rattle.standby_part.specs.State.{numberedTo, summedTo, holdingTo};
+ghost use Rattle.standby_part.specs.State.{holdingTo};
 use base_refusals::CHANGES_HELD;
 use base_refusals::TOO_MANY_BYTES;
 use frame_fields::CommitNumber;
@@ -26,12 +26,14 @@ pub struct PartResult {
     pub nack: bool,
 }
 
-// The record with another commit number.
-fn with_commit_no(bound: Bound, number: CommitNumber) -> Bound
-    ensures { λ r. ⌜ r ≡ numberedTo bound number ⌝ }
+// The record with another commit number and other held changes.
+fn with_held(bound: Bound, number: CommitNumber, len: usize, sum: u64) -> Bound
+    ensures { λ r. ⌜ r ≡ holdingTo bound number len sum ⌝ }
 {
     let mut g = bound;
     g.commit_no = number;
+    g.held_len = len;
+    g.held_bytes = sum;
     g
 }
 
@@ -73,36 +75,16 @@ pub fn on_commit(
         return PartResult {
             refusal: 0,
             stores: true,
-            bound: with_commit_no(bound, number),
+            bound: with_held(bound, number, 0, bound.held_bytes),
             nack: false,
         };
     }
     PartResult {
         refusal: 0,
         stores: true,
-        bound: bound,
+        bound: with_held(bound, bound.commit_no, 0, bound.held_bytes),
         nack: true,
     }
-}
-
-// The record with another byte sum.
-fn with_held_bytes(bound: Bound, sum: u64) -> Bound
-    ensures { λ r. ⌜ r ≡ summedTo bound sum ⌝ }
-{
-    let mut g = bound;
-    g.held_bytes = sum;
-    g
-}
-
-// The record with another commit number and other held changes.
-fn with_held(bound: Bound, number: CommitNumber, len: usize, sum: u64) -> Bound
-    ensures { λ r. ⌜ r ≡ holdingTo bound number len sum ⌝ }
-{
-    let mut g = bound;
-    g.commit_no = number;
-    g.held_len = len;
-    g.held_bytes = sum;
-    g
 }
 
 // A Whole: its changes are held after those before them.
@@ -124,7 +106,7 @@ pub fn on_whole(
         return PartResult {
             refusal,
             stores: true,
-            bound: with_held_bytes(bound, g.sum),
+            bound: with_held(bound, bound.commit_no, g.used, g.sum),
             nack: false,
         };
     }
@@ -169,7 +151,7 @@ pub fn on_last_whole(
         return PartResult {
             refusal,
             stores: true,
-            bound: with_held_bytes(bound, all.sum),
+            bound: with_held(bound, bound.commit_no, all.used, all.sum),
             nack: false,
         };
     }

@@ -8,12 +8,12 @@ use lib.Dec.{ltb}
 use Rattle.base_flags.specs.Flag.{isSet}
 use Rattle.standby_row.specs.declared.Bound.{Bound}
 use Rattle.standby_row.specs.declared.Lookup.{Lookup}
-use Rattle.standby_row.specs.Row.{isUsed}
 use Rattle.store_areas.specs.declared.Shape.{Shape}
+use Rattle.model_standby.specs.Answer.{protocolVersion}
 use Rattle.model_standby.specs.State.{Counters}
 use Rattle.model_standby.specs.State as state
 use Rattle.model_standby.specs.Core.{Action, leave, store, clear, CoreResult}
-use Rattle.standby_part.specs.State.{boundOf, coreAt, settingsFor}
+use Rattle.standby_part.specs.State.{boundOf, recordFor, coreAt, settingsFor}
 use Rattle.standby_counters.specs.declared.Replica.{Replica}
 use Rattle.standby_state.specs.declared.Settings.{Settings}
 use Rattle.standby_state.specs.declared.Answer.{Answer}
@@ -57,11 +57,11 @@ abbrev pub outcomeOf : ℕ → ℕ → Shape → List ℕ → List ℕ → List 
 outcomeOf version room s w b holds o =
     record { core = coreAt (countersOf (o .replica)) s w b; action = actionOf version room holds o; answer = answerOf b (o .answer) }
 
--- what is put fits the row: at the handle's place or the first free one, used, at a place in use, holding no more than its area has
-pub record Lands (seen : Lookup) (used room : ℕ) (o : Outcome) : Type 0 where
+-- what is put fits the row: at the handle's place or the first free one, where the hold area is `area`; it is the record of what it stands for, at a place in use, and holds no more than the area has
+pub record Lands (seen : Lookup) (used room : ℕ) (area : List ℕ) (o : Outcome) : Type 0 where
   pub at-is : o .at ≡ cond (o .stores) (spotOf seen) (seen .len)
   pub from-is : o .from ≡ cond (o .clears) 0 (seen .len)
   pub one : o .stores ≡ true → o .clears ≡ false
-  pub slot-used : o .stores ≡ true → isUsed (o .bound) ≡ true
+  pub slot-is : o .stores ≡ true → o .bound ≡ recordFor (o .bound .handle) (boundOf protocolVersion (o .bound) area)
   pub slot-place : o .stores ≡ true → o .bound .place < used
   pub slot-len : o .stores ≡ true → o .bound .«held_len» ≤ room

@@ -22,23 +22,26 @@ use Rattle.store_areas.specs.Areas.{allowed, placesOf}
 use Rattle.store_areas.proofs.Ruling.{rules-true}
 use Rattle.standby_pending.specs.Pending.{pendingOf}
 use Rattle.model_standby.specs.Answer.{protocolVersion, refused}
-use Rattle.model_standby.specs.Row.{Row, isSome, hasFree, find, put}
-use Rattle.model_standby.specs.State.{Bound, Call}
+use Rattle.model_standby.specs.Row.{Row, isSome, hasFree, find, hasRoom, put}
+use Rattle.model_standby.specs.State.{Bound, Standby, Result, Call, onFrameHeld, onFrame, flush, disconnectedFrom, promote, promoteUnchecked}
 use Rattle.model_standby.specs.State as state
+use Rattle.model_standby.specs.Standby.{step}
 use Rattle.model_standby.specs.Hold.{HoldWrite}
 use Rattle.model_standby.specs.Core.{Core, Action, leave, store, clear, CoreResult, act, acted, coreStep, handleOf}
 use Rattle.model_standby.proofs.Factoring.{factored}
+use Rattle.model_standby.proofs.Rows.{find-put-same}
 use Rattle.standby_part.specs.State.{boundOf, coreAt}
 use Rattle.standby_counters.specs.declared.Replica.{Replica}
 use Rattle.standby_state.specs.declared.Settings.{Settings}
 use Rattle.standby_state.specs.declared.Outcome.{Outcome}
 use Rattle.standby_state.specs.Answers.{answerOf, isRefused}
 use Rattle.standby_state.specs.Outcomes.{countersOf, settingsOf, leaving, spotOf, areaAt, actionOf, Lands}
-use Rattle.standby_step.specs.Steps.{roomOf, foundIn, asks, Leaves, holdsAfter, writesBy, Stepped, StepIs}
-use Rattle.standby_step.specs.Calls.{roomAll, standbyOf, allowedAll, soughtBy, spotFor, RowLeaves, actionBy, CalledSteps, Called}
+use Rattle.standby_step.specs.Steps.{roomOf, foundIn, handleBy, asks, Leaves, holdsAfter, writesBy, Stepped, StepIs}
+use Rattle.standby_step.specs.Calls.{roomAll, standbyOf, allowedAll, soughtBy, spotFor, RowChange, rowBy, RowPut, RowLeaves, CalledSteps, Called}
 use Rattle.standby_step.proofs.Naming.{sought-own}
 use Rattle.standby_step.proofs.Fitting.{Fit, step-fit, step-any, step-own, writes-none, written-inside, leaves-any}
 use Rattle.standby_step.proofs.Still.{refused-still}
+use Rattle.standby_step.proofs.Doing.{kindOf, done-by}
 use Rattle.standby_step.proofs.Rows.{Whole, whole-of, of-whole, whole-more, record-whole, whole-cleared, none-set, found-own, seen-allowed, take-write, drop-write}
 use Rattle.model_text.proofs.Formed.{and-r}
 
@@ -57,6 +60,15 @@ holds-apart room i (some x) h inside =
     let before : i * room ≤ i * room + x .offset = omega arith in
     let after : i * room + x .offset + length (x .bytes) ≤ i * room + room = omega arith in
     apart-of (boundOf protocolVersion) room i h (write h (i * room + x .offset) (x .bytes)) (take-write h (i * room + x .offset) (i * room) (x .bytes) before) (drop-write h (i * room + x .offset) (i * room + room) (x .bytes) after)
+
+-- the handle is the one by which the definition is cut
+named : (call : Call) → handleBy call ≡ handleOf call
+named (onFrameHeld f) = refl
+named (onFrame f) = refl
+named (flush n) = refl
+named (disconnectedFrom n) = refl
+named promote = refl
+named promoteUnchecked = refl
 
 module _ (row : List BoundRecord) (k : ℕ) (w h : List ℕ) where
   abbrev Room : ℕ
@@ -104,7 +116,7 @@ module _ (row : List BoundRecord) (k : ℕ) (w h : List ℕ) where
 
   -- ---- what is done to the row
 
-  module _ (o : Outcome) (used : ℕ) (lands : Lands Looked used Room o) where
+  module _ (o : Outcome) (used : ℕ) {area : List ℕ} (lands : Lands Looked used Room area o) where
     abbrev Next : List BoundRecord
     Next = clearedFrom (o .from) (set row (o .at) (o .bound))
 
@@ -183,12 +195,12 @@ module _ (row : List BoundRecord) (k : ℕ) (w h : List ℕ) where
                   → After (set row (o .at) (o .bound)) h' ≡ put (o .bound .handle) (boundOf protocolVersion (o .bound) (areaAt Room (o .at) h')) Handles
               by-place true p =
                   at-place (findOf row k) (spot true p)
-                  (put-own (boundOf protocolVersion) Room k (o .bound) (lands .slot-used e) is-k row h h' (ltb-true (findOf row k) (length row) p)
+                  (put-own (boundOf protocolVersion) Room k (o .bound) (ap handles.isUsed (lands .slot-is e)) is-k row h h' (ltb-true (findOf row k) (length row) p)
                   (subst (Apart (boundOf protocolVersion) Room (findOf row k) h) (sym holds) (holds-apart Room (findOf row k) wr h inside)))
               by-place false p =
                   at-place (freeOf row) (spot false p)
                   (subst (λ (x : List ℕ). After (set row (freeOf row) (o .bound)) x ≡ put k (boundOf protocolVersion (o .bound) (areaAt Room (freeOf row) x)) Handles) (sym (still (f .1 .1 .1 not-found)))
-                  (put-new (boundOf protocolVersion) Room k (o .bound) (lands .slot-used e) is-k row h (ltb-false (findOf row k) (length row) p) free))
+                  (put-new (boundOf protocolVersion) Room k (o .bound) (ap handles.isUsed (lands .slot-is e)) is-k row h (ltb-false (findOf row k) (length row) p) free))
                 where
                   not-found : isSome (foundIn Looked h) ≡ false
                   not-found = ap (λ (t : Bool). isSome (cond t (some (boundOf protocolVersion (getD row (findOf row k) handles.freeRecord) (areaAt Room (findOf row k) h))) none)) p
@@ -242,73 +254,106 @@ module _ (s : Settings) (c : Replica) (row : List BoundRecord) (call : Call) (w 
     room-same : roomAll Row' h' ≡ R
     room-same = (λ i. roomOf (holds-same i) (row-same i))
 
-    fits : Fit (asks call) (handleOf call) (foundIn See h) (ltb (See .free) (length row)) Wr (actionOf protocolVersion R h' o)
+    fits : Fit (asks call) (handleBy call) (foundIn See h) (ltb (See .free) (length row)) Wr (actionOf protocolVersion R h' o)
     fits =
-        subst (Fit (asks call) (handleOf call) (foundIn See h) (ltb (See .free) (length row)) Wr) (sym (ap (λ (r : CoreResult). r .action) (st .is)))
+        subst (Fit (asks call) (handleBy call) (foundIn See h) (ltb (See .free) (length row)) Wr) (sym (ap (λ (r : CoreResult). r .action) (st .is)))
         (step-fit L (coreAt (countersOf c) (s .shape) w b) (foundIn See h) (ltb (See .free) (length row)) call)
 
     handles-are : rowOf (boundOf protocolVersion) (roomAll Row' h') Row' h' ≡ act (actionOf protocolVersion R h' o) T
     handles-are =
         ap (λ (n : ℕ). rowOf (boundOf protocolVersion) n Row' h') room-same
-        ∙ next-handles row K w h o (getD w' 0 0) (st .lands) (handleOf call) (asks call) Wr h' (sought-own call) fits (st .holds) (written-inside L (countersOf c) (foundIn See h) call)
+        ∙ next-handles row K w h o (getD w' 0 0) (st .lands) (handleBy call) (asks call) Wr h' (sought-own call) fits (st .holds) (written-inside L (countersOf c) (foundIn See h) call)
 
     -- what is found for the handle looked up is what is found for the call's
     found-own-core : coreStep L (coreAt (countersOf c) (s .shape) w b) (foundIn See h) (ltb (See .free) (length row)) call
-        ≡ coreStep L (coreAt (countersOf c) (s .shape) w b) (find (handleOf call) T) (hasFree T) call
+        ≡ coreStep L (coreAt (countersOf c) (s .shape) w b) (find (handleBy call) T) (hasFree T) call
     found-own-core =
         found-core row K w h L (coreAt (countersOf c) (s .shape) w b) call ∙ go (asks call) refl
       where
-        go : (t : Bool) → asks call ≡ t → coreStep L (coreAt (countersOf c) (s .shape) w b) (find K T) (hasFree T) call ≡ coreStep L (coreAt (countersOf c) (s .shape) w b) (find (handleOf call) T) (hasFree T) call
+        go : (t : Bool) → asks call ≡ t → coreStep L (coreAt (countersOf c) (s .shape) w b) (find K T) (hasFree T) call ≡ coreStep L (coreAt (countersOf c) (s .shape) w b) (find (handleBy call) T) (hasFree T) call
         go true e = ap (λ (k : ℕ). coreStep L (coreAt (countersOf c) (s .shape) w b) (find k T) (hasFree T) call) (sought-own call e)
-        go false e = step-any L (coreAt (countersOf c) (s .shape) w b) (find K T) (find (handleOf call) T) (hasFree T) call e
+        go false e = step-any L (coreAt (countersOf c) (s .shape) w b) (find K T) (find (handleBy call) T) (hasFree T) call e
 
-    holds-own : h' ≡ holdsAfter R (findOf row (handleOf call)) (writesBy L (countersOf c) (find (handleOf call) T) call) h
+    holds-own : h' ≡ holdsAfter R (findOf row (handleBy call)) (writesBy L (countersOf c) (find (handleBy call) T) call) h
     holds-own = st .holds ∙ ap (λ (x : Option Bound). holdsAfter R (findOf row K) (writesBy L (countersOf c) x call) h) (found-in row K w h) ∙ go (asks call) refl
       where
-        go : (t : Bool) → asks call ≡ t → holdsAfter R (findOf row K) (writesBy L (countersOf c) (find K T) call) h ≡ holdsAfter R (findOf row (handleOf call)) (writesBy L (countersOf c) (find (handleOf call) T) call) h
+        go : (t : Bool) → asks call ≡ t → holdsAfter R (findOf row K) (writesBy L (countersOf c) (find K T) call) h ≡ holdsAfter R (findOf row (handleBy call)) (writesBy L (countersOf c) (find (handleBy call) T) call) h
         go true e = ap (λ (k : ℕ). holdsAfter R (findOf row k) (writesBy L (countersOf c) (find k T) call) h) (sought-own call e)
         go false e =
             ap (λ (x : Option HoldWrite). holdsAfter R (findOf row K) x h) (writes-none L (countersOf c) (find K T) call e)
-            ∙ sym (ap (λ (x : Option HoldWrite). holdsAfter R (findOf row (handleOf call)) x h) (writes-none L (countersOf c) (find (handleOf call) T) call e))
+            ∙ sym (ap (λ (x : Option HoldWrite). holdsAfter R (findOf row (handleBy call)) x h) (writes-none L (countersOf c) (find (handleBy call) T) call e))
 
-    leaves-own : Leaves (s .shape) c (getD row (findOf row (handleOf call)) handles.freeRecord .place) call w w' b b' (o .answer)
+    leaves-own : Leaves (s .shape) c (getD row (findOf row (handleBy call)) handles.freeRecord .place) call w w' b b' (o .answer)
     leaves-own = go (asks call) refl
       where
-        go : (t : Bool) → asks call ≡ t → Leaves (s .shape) c (getD row (findOf row (handleOf call)) handles.freeRecord .place) call w w' b b' (o .answer)
+        go : (t : Bool) → asks call ≡ t → Leaves (s .shape) c (getD row (findOf row (handleBy call)) handles.freeRecord .place) call w w' b b' (o .answer)
         go true e = subst (λ (k : ℕ). Leaves (s .shape) c (getD row (findOf row k) handles.freeRecord .place) call w w' b b' (o .answer)) (sought-own call e) (st .leaves)
-        go false e = leaves-any (s .shape) c (getD row (findOf row K) handles.freeRecord .place) (getD row (findOf row (handleOf call)) handles.freeRecord .place) call w w' b b' (o .answer) e (st .leaves)
+        go false e = leaves-any (s .shape) c (getD row (findOf row K) handles.freeRecord .place) (getD row (findOf row (handleBy call)) handles.freeRecord .place) call w w' b b' (o .answer) e (st .leaves)
 
     -- ---- the row, record for record
 
-    abbrev Spot : ℕ
-    Spot = spotFor row (handleOf call)
+    abbrev X : Standby
+    X = standbyOf s c row w b h
+
+    stepped-is : step L X call ≡ acted T (coreStep L (coreAt (countersOf c) (s .shape) w b) (find (handleBy call) T) (hasFree T) call)
+    stepped-is = factored L X call ∙ ap (λ (k : ℕ). acted T (coreStep L (coreAt (countersOf c) (s .shape) w b) (find k T) (hasFree T) call)) (sym (named call))
 
     abbrev Puts : Action
     Puts = store (o .bound .handle) (boundOf protocolVersion (o .bound) (areaAt R (o .at) h'))
 
-    at-spot : o .stores ≡ true → o .at ≡ Spot
-    at-spot e = st .lands .at-is ∙ ap (λ (t : Bool). cond t (spotOf See) (length row)) e ∙ ap (spotFor row) (sought-own call asked)
-      where
-        asked : asks call ≡ true
-        asked = subst (Fit (asks call) (handleOf call) (foundIn See h) (ltb (See .free) (length row)) Wr) (ap (λ (t : Bool). cond t Puts (cond (o .clears) clear leave)) e) fits .0
+    -- what the definition leaves
+    abbrev Leaving : Row Bound
+    Leaving = step L X call .state .handles
 
-    row-done : RowLeaves Spot (actionOf protocolVersion R h' o) row Row'
+    after-is : Leaving ≡ act (actionOf protocolVersion R h' o) T
+    after-is = ap (λ (r : Result). r .state .handles) stepped-is ∙ ap (λ (r : CoreResult). act (r .action) T) (sym (st .is ∙ found-own-core))
+
+    -- a record is put
+    module _ (e : o .stores ≡ true) where
+      is-puts : actionOf protocolVersion R h' o ≡ Puts
+      is-puts = ap (λ (t : Bool). cond t Puts (cond (o .clears) clear leave)) e
+
+      puts-fit : Fit (asks call) (handleBy call) (foundIn See h) (ltb (See .free) (length row)) Wr Puts
+      puts-fit = subst (Fit (asks call) (handleBy call) (foundIn See h) (ltb (See .free) (length row)) Wr) is-puts fits
+
+      is-sought : o .bound .handle ≡ K
+      is-sought = puts-fit .1 .0 ∙ sym (sought-own call (puts-fit .0))
+
+      has-room : hasRoom (o .bound .handle) T ≡ true
+      has-room = ap (λ (k : ℕ). hasRoom k T) is-sought ∙ sym (λ j. isSome (found-in row K w h j) || free-in row K w h j) ∙ puts-fit .1 .1 .0
+
+      found-after : find (o .bound .handle) Leaving ≡ some (boundOf protocolVersion (o .bound) (areaAt R (o .at) h'))
+      found-after = ap (find (o .bound .handle)) (after-is ∙ ap (λ (x : Action). act x T) is-puts) ∙ find-put-same (o .bound .handle) (boundOf protocolVersion (o .bound) (areaAt R (o .at) h')) T has-room
+
+      at-spot : o .at ≡ spotFor row (o .bound .handle)
+      at-spot = st .lands .at-is ∙ ap (λ (t : Bool). cond t (spotOf See) (length row)) e ∙ ap (spotFor row) (sym is-sought)
+
+      row-put : RowPut (spotFor row (o .bound .handle)) (o .bound .handle) (find (o .bound .handle) Leaving) row Row'
+      row-put =
+          subst (λ (x : Option Bound). RowPut (spotFor row (o .bound .handle)) (o .bound .handle) x row Row') (sym found-after)
+          (put-row row K w h o (getD w' 0 0) (st .lands) e ∙ (λ j. set row (at-spot j) (st .lands .slot-is e j)))
+
+    row-done : RowLeaves (kindOf (actionOf protocolVersion R h' o)) Leaving row Row'
     row-done = go (o .stores) (o .clears) refl refl
       where
-        go : (t u : Bool) → o .stores ≡ t → o .clears ≡ u → RowLeaves Spot (actionOf protocolVersion R h' o) row Row'
-        go true u e f =
-            subst (λ (x : Action). RowLeaves Spot x row Row') (sym (ap (λ (t : Bool). cond t Puts (cond (o .clears) clear leave)) e))
-            (record { bound = o .bound; is = put-row row K w h o (getD w' 0 0) (st .lands) e ∙ ap (λ (n : ℕ). set row n (o .bound)) (at-spot e) })
-        go false true e f = subst (λ (x : Action). RowLeaves Spot x row Row') (sym (λ i. cond (e i) Puts (cond (f i) clear leave))) (freed-row row K w h o (getD w' 0 0) (st .lands) e f)
-        go false false e f = subst (λ (x : Action). RowLeaves Spot x row Row') (sym (λ i. cond (e i) Puts (cond (f i) clear leave))) (same-row row K w h o (getD w' 0 0) (st .lands) e f)
+        go : (t u : Bool) → o .stores ≡ t → o .clears ≡ u → RowLeaves (kindOf (actionOf protocolVersion R h' o)) Leaving row Row'
+        go true u e f = subst (λ (x : Action). RowLeaves (kindOf x) Leaving row Row') (sym (is-puts e)) (row-put e)
+        go false true e f = subst (λ (x : Action). RowLeaves (kindOf x) Leaving row Row') (sym (λ i. cond (e i) Puts (cond (f i) clear leave))) (freed-row row K w h o (getD w' 0 0) (st .lands) e f)
+        go false false e f = subst (λ (x : Action). RowLeaves (kindOf x) Leaving row Row') (sym (λ i. cond (e i) Puts (cond (f i) clear leave))) (same-row row K w h o (getD w' 0 0) (st .lands) e f)
 
-    row-by : RowLeaves Spot (actionBy L (standbyOf s c row w b h) call) row Row'
-    row-by = subst (λ (x : Action). RowLeaves Spot x row Row') (ap (λ (r : CoreResult). r .action) (st .is ∙ found-own-core)) row-done
+    row-by : RowLeaves (rowBy (countersOf c) call (step L X call .answer)) Leaving row Row'
+    row-by =
+        subst (λ (x : RowChange). RowLeaves x Leaving row Row')
+        (ap (λ (r : CoreResult). kindOf (r .action)) (st .is ∙ found-own-core) ∙ done-by L (coreAt (countersOf c) (s .shape) w b) (find (handleBy call) T) (hasFree T) call
+        ∙ ap (rowBy (countersOf c) call) (sym (ap (λ (r : Result). r .answer) stepped-is)))
+        row-done
 
     still-row : (n : ℕ) → answerOf b' (o .answer) ≡ refused n → eqb n 17 ≡ false → Row' ≡ row
     still-row n e f =
-        subst (λ (x : Action). RowLeaves Spot x row Row')
-        (refused-still L (coreAt (countersOf c) (s .shape) w b) (find (handleOf call) T) (hasFree T) call n (sym (ap (λ (r : CoreResult). r .answer) (st .is ∙ found-own-core)) ∙ e) f) row-by
+        subst (λ (x : RowChange). RowLeaves x Leaving row Row')
+        (ap (λ (r : CoreResult). kindOf (r .action)) (st .is ∙ found-own-core)
+        ∙ ap kindOf (refused-still L (coreAt (countersOf c) (s .shape) w b) (find (handleBy call) T) (hasFree T) call n (sym (ap (λ (r : CoreResult). r .answer) (st .is ∙ found-own-core)) ∙ e) f))
+        row-done
 
     allowed-after : allowedAll s Row' w' b' h' ≡ true
     allowed-after =
@@ -325,7 +370,7 @@ module _ (s : Settings) (c : Replica) (row : List BoundRecord) (call : Call) (w 
                 answer = answerOf b' (o .answer);
               })
               ∙ ap (acted T) (st .is ∙ found-own-core)
-              ∙ sym (factored L (standbyOf s c row w b h) call);
+              ∙ sym stepped-is;
           allowed = allowed-after;
           leaves = leaves-own;
           holds = holds-own;

@@ -18,17 +18,17 @@ use Rattle.store_areas.specs.Areas.{placesOf}
 use Rattle.standby_pending.specs.Pending.{pendingOf}
 use Rattle.model_standby.proofs.Holding.{writes-inside}
 use Rattle.standby_state.specs.Answers.{answerOf}
-use Rattle.standby_hello.specs.Greeting.{isQuiet}
-use Rattle.model_standby.specs.Answer.{protocolVersion, Given, damaged, intact, given, handleIn, isReply}
+use Rattle.standby_commit.specs.Settling.{StoreChange}
+use Rattle.model_standby.specs.Answer.{protocolVersion, Given, damaged, intact, given, handleIn, accepted, isReply}
 use Rattle.model_standby.specs.Row.{isSome}
 use Rattle.model_standby.specs.Store.{Place, isStored, sessionAt, orNew}
 use Rattle.model_standby.specs.State.{Settings, incarnationOf, Counters, Bound, Call, onFrameHeld, onFrame, flush, disconnectedFrom, promote, promoteUnchecked, atEpoch, noneHeld}
 use Rattle.model_standby.specs.Standby.{due, follows, raised, maxWhole, startsWithReset, summed}
 use Rattle.model_standby.specs.Hold.{HoldWrite, writesPart, writesFrame, writes}
-use Rattle.model_standby.specs.Core.{Action, leave, store, clear, Core, CoreResult, coreSays, coreRefuse, counting, coreRun, coreFlushed, coreHello, coreBind, coreChecked, coreSettle, coreHold, corePart, coreHandle, coreBatch, coreIntact, coreGiven, coreStep, handleOf}
+use Rattle.model_standby.specs.Core.{Action, leave, store, clear, Core, CoreResult, coreSays, coreRefuse, counting, coreRun, coreFlushed, coreHello, coreBind, coreChecked, coreSettle, coreHold, corePart, coreHandle, coreBatch, coreIntact, coreGiven, coreStep}
 use Rattle.standby_counters.specs.declared.Replica.{Replica}
 use Rattle.standby_state.specs.declared.Answer.{Answer}
-use Rattle.standby_step.specs.Steps.{hasHandle, asks, writesBy, Leaves, FrameLeaves, dueNow, placeBy}
+use Rattle.standby_step.specs.Steps.{hasHandle, handleBy, asks, writesBy, Leaves, FrameLeaves, dueNow, changesBy}
 
 -- ---- what a call does, by what was found
 
@@ -151,7 +151,7 @@ module _ (L : Settings) where
       ways false = intact-fit (coreRun (due (k .pending) f) k) found free f
 
   -- every call
-  pub step-fit : (k : Core) (found : Option Bound) (free : Bool) (c : Call) → Fit (asks c) (handleOf c) found free (writesBy L (k .counters) found c) (coreStep L k found free c .action)
+  pub step-fit : (k : Core) (found : Option Bound) (free : Bool) (c : Call) → Fit (asks c) (handleBy c) found free (writesBy L (k .counters) found c) (coreStep L k found free c .action)
   unfolding coreStep
   step-fit k found free (onFrameHeld w) = given-fit k found free (given w)
   step-fit k found free (onFrame w) = given-fit k found free (given w)
@@ -234,20 +234,22 @@ module _ (L : Settings) where
   written-inside c x promote r e = absurd (none≢some e)
   written-inside c x promoteUnchecked r e = absurd (none≢some e)
 
-place-any : (ps : List Place) (p q : ℕ) (g : Given) → hasHandle g ≡ false → placeBy ps p g ≡ placeBy ps q g
-place-any ps p q (damaged n) e = refl
-place-any ps p q (intact (hello v e₁ node kinds)) e = refl
-place-any ps p q (intact (welcome e₁ i)) e = refl
-place-any ps p q (intact (bind h e₁ lag j)) e = refl
-place-any ps p q (intact (batch h e₁ n part cs apps)) e = absurd (true≢false e)
-place-any ps p q (intact (ack h n)) e = refl
-place-any ps p q (intact (nack h r)) e = refl
-place-any ps p q (intact (bound h m)) e = refl
-place-any ps p q (intact (checked h e₁ i)) e = refl
+changes-any : (ps : List Place) (p q : ℕ) (g : Given) (taken : Bool) → hasHandle g ≡ false → changesBy ps p g taken ≡ changesBy ps q g taken
+changes-any ps p q (damaged n) taken e = refl
+changes-any ps p q (intact (hello v e₁ node kinds)) taken e = refl
+changes-any ps p q (intact (welcome e₁ i)) taken e = refl
+changes-any ps p q (intact (bind h e₁ lag k)) taken e = refl
+changes-any ps p q (intact (batch h e₁ n part cs apps)) taken e = absurd (true≢false e)
+changes-any ps p q (intact (ack h n)) taken e = refl
+changes-any ps p q (intact (nack h r)) taken e = refl
+changes-any ps p q (intact (bound h m)) taken e = refl
+changes-any ps p q (intact (checked h e₁ i)) taken e = refl
 
 pub leaves-any : (s : Shape) (c : Replica) (p q : ℕ) (call : Call) (w w' b b' : List ℕ) (a : Answer) → asks call ≡ false → Leaves s c p call w w' b b' a → Leaves s c q call w w' b b' a
-leaves-any s c p q (onFrameHeld f) w w' b b' a e l = subst (λ (i : ℕ). FrameLeaves s i (dueNow (isSet (c .promoted)) (pendingOf w) (given f)) false (isQuiet a) w w' b b') (place-any (placesOf s w b) p q (given f) e) l
-leaves-any s c p q (onFrame f) w w' b b' a e l = subst (λ (i : ℕ). FrameLeaves s i (dueNow (isSet (c .promoted)) (pendingOf w) (given f)) (isReply (answerOf b' a)) (isQuiet a) w w' b b') (place-any (placesOf s w b) p q (given f) e) l
+leaves-any s c p q (onFrameHeld f) w w' b b' a e l =
+    subst (λ (x : StoreChange). FrameLeaves s x (dueNow (isSet (c .promoted)) (pendingOf w) (given f)) false w w' b b') (changes-any (placesOf s w b) p q (given f) (accepted (answerOf b' a)) e) l
+leaves-any s c p q (onFrame f) w w' b b' a e l =
+    subst (λ (x : StoreChange). FrameLeaves s x (dueNow (isSet (c .promoted)) (pendingOf w) (given f)) (isReply (answerOf b' a)) w w' b b') (changes-any (placesOf s w b) p q (given f) (accepted (answerOf b' a)) e) l
 leaves-any s c p q (flush n) w w' b b' a e l = l
 leaves-any s c p q (disconnectedFrom n) w w' b b' a e l = l
 leaves-any s c p q promote w w' b b' a e l = l

@@ -2,4 +2,5 @@ pub mod Naming
 pub mod Fitting
 pub mod Rows
 pub mod Still
+pub mod Doing
 pub mod Called

@@ -15,8 +15,7 @@ use Rattle.model_frame.specs.Reading.{readKinds, readKey, readPart, readChanges
 use Rattle.model_frame.proofs.Sound.{Taking, decode-taking}
 use Rattle.model_standby.specs.Answer.{protocolVersion, Given, damaged, intact, judged, given, handleIn}
 use Rattle.model_standby.specs.State.{Call, onFrameHeld, onFrame, flush, disconnectedFrom, promote, promoteUnchecked}
-use Rattle.model_standby.specs.Core.{handleOf}
-use Rattle.standby_step.specs.Steps.{hasHandle, asks}
+use Rattle.standby_step.specs.Steps.{hasHandle, handleBy, asks}
 use Rattle.standby_step.specs.Calls.{handleAt, soughtBy}
 
 -- a Bind's and a Batch's handle stands in front of the fields t
@@ -190,7 +189,7 @@ frame-sought w (intact (bound h m)) e t = absurd (true≢false (sym t))
 frame-sought w (intact (checked h e₁ i)) e t = absurd (true≢false (sym t))
 
 -- what is looked up is the call's handle, if it has one
-pub sought-own : (c : Call) → asks c ≡ true → soughtBy c ≡ handleOf c
+pub sought-own : (c : Call) → asks c ≡ true → soughtBy c ≡ handleBy c
 sought-own (onFrameHeld w) t = frame-sought w (given w) refl t
 sought-own (onFrame w) t = frame-sought w (given w) refl t
 sought-own (flush n) t = absurd (true≢false (sym t))

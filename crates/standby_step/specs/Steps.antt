@@ -17,14 +17,14 @@ use Rattle.store_areas.specs.declared.Shape.{Shape}
 use Rattle.store_areas.specs.Areas.{wordsAt, bytesAt, allowed, Rules, placesOf}
 use Rattle.standby_pending.specs.Pending.{pendingOf}
 use Rattle.standby_pending_run.specs.Commits.{ranWords}
-use Rattle.standby_commit.specs.Settling.{Touched}
-use Rattle.model_standby.specs.Answer.{protocolVersion, Given, damaged, intact, given, isReply}
-use Rattle.model_standby.specs.Store.{Place, placeOf}
+use Rattle.standby_commit.specs.Settling.{StoreChange, stays, bindChange, batchChange, StoreAfter}
+use Rattle.model_standby.specs.Answer.{protocolVersion, Given, damaged, intact, given, handleIn, accepted, isReply}
+use Rattle.model_standby.specs.Store.{Place, placeOf, isStored}
 use Rattle.model_standby.specs.State.{Bound, Counters, Call, onFrameHeld, onFrame, flush, disconnectedFrom, promote, promoteUnchecked}
 use Rattle.model_standby.specs.State as state
 use Rattle.model_standby.specs.Standby.{due}
 use Rattle.model_standby.specs.Hold.{HoldWrite, writes}
-use Rattle.model_standby.specs.Core.{coreStep, handleOf}
+use Rattle.model_standby.specs.Core.{coreStep}
 use Rattle.standby_part.specs.State.{coreAt}
 use Rattle.standby_batch_handle.specs.Handling.{foundOf}
 use Rattle.standby_counters.specs.declared.Replica.{Replica}
@@ -34,7 +34,6 @@ use Rattle.standby_state.specs.declared.Outcome.{Outcome}
 use Rattle.standby_state.specs.Answers.{answerOf, isRefused}
 use Rattle.standby_state.specs.Exact.{Exact}
 use Rattle.standby_state.specs.Outcomes.{countersOf, settingsOf, leaving, areaAt, outcomeOf, Lands}
-use Rattle.standby_hello.specs.Greeting.{isQuiet}
 
 -- ---- hold areas: the bytes are divided evenly among the row's places
 
@@ -67,23 +66,22 @@ abbrev pub dueNow : Bool → List (ℕ × ℕ) → Given → Bool
 dueNow promoted pending (damaged n) = false
 dueNow promoted pending (intact f) = not promoted && due pending f
 
--- the place of the store that a frame may change: a Bind's is its key's, a Batch's is its handle's; no other frame changes one (for these it is written 0)
-abbrev pub placeBy : List Place → ℕ → Given → ℕ
-placeBy ps p (damaged n) = 0
-placeBy ps p (intact (hello v e node kinds)) = 0
-placeBy ps p (intact (welcome e i)) = 0
-placeBy ps p (intact (bind h e lag k)) = placeOf k ps
-placeBy ps p (intact (batch h e n part cs apps)) = p
-placeBy ps p (intact (ack h n)) = 0
-placeBy ps p (intact (nack h r)) = 0
-placeBy ps p (intact (bound h m)) = 0
-placeBy ps p (intact (checked h e i)) = 0
+-- what a frame changes in the store, of the places and its handle's place p, if it is accepted or not: a Bind and a Batch as said, no other frame anything
+abbrev pub changesBy : List Place → ℕ → Given → Bool → StoreChange
+changesBy ps p (damaged n) taken = stays
+changesBy ps p (intact (hello v e node kinds)) taken = stays
+changesBy ps p (intact (welcome e i)) taken = stays
+changesBy ps p (intact (bind h e lag k)) taken = bindChange (placeOf k ps) (isStored k ps) taken
+changesBy ps p (intact (batch h e n part cs apps)) taken = batchChange h p part taken
+changesBy ps p (intact (ack h n)) taken = stays
+changesBy ps p (intact (nack h r)) taken = stays
+changesBy ps p (intact (bound h m)) taken = stays
+changesBy ps p (intact (checked h e i)) taken = stays
 
--- commits run before, if they are due; then only place i and the first 66 words change, and nothing for a refusal or a Nack; then commits run after it, if asked
-pub record FrameLeaves (s : Shape) (i : ℕ) (before after quiet : Bool) (w w' b b' : List ℕ) : Type 0 where
+-- commits run before, if they are due; then the change; then commits run after it, if asked. No other word or byte changes
+pub record FrameLeaves (s : Shape) (x : StoreChange) (before after : Bool) (w w' b b' : List ℕ) : Type 0 where
   pub mid : List ℕ
-  pub touched : Touched s i (cond before (ranWords s w) w) mid b b'
-  pub still : quiet ≡ true → (mid ≡ cond before (ranWords s w) w) × (b' ≡ b)
+  pub store-after : StoreAfter s x (cond before (ranWords s w) w) mid b b'
   pub last : w' ≡ cond after (ranWords s mid) mid
 
 -- promotion: nothing but the places in use and the count of pending commits
@@ -94,8 +92,8 @@ pub record PromotionLeaves (s : Shape) (refused : Bool) (w w' b b' : List ℕ) :
 
 -- by the handle's place and the answer
 abbrev pub Leaves : Shape → Replica → ℕ → Call → List ℕ → List ℕ → List ℕ → List ℕ → Answer → Type 0
-Leaves s c p (onFrameHeld f) w w' b b' a = FrameLeaves s (placeBy (placesOf s w b) p (given f)) (dueNow (isSet (c .promoted)) (pendingOf w) (given f)) false (isQuiet a) w w' b b'
-Leaves s c p (onFrame f) w w' b b' a = FrameLeaves s (placeBy (placesOf s w b) p (given f)) (dueNow (isSet (c .promoted)) (pendingOf w) (given f)) (isReply (answerOf b' a)) (isQuiet a) w w' b b'
+Leaves s c p (onFrameHeld f) w w' b b' a = FrameLeaves s (changesBy (placesOf s w b) p (given f) (accepted (answerOf b' a))) (dueNow (isSet (c .promoted)) (pendingOf w) (given f)) false w w' b b'
+Leaves s c p (onFrame f) w w' b b' a = FrameLeaves s (changesBy (placesOf s w b) p (given f) (accepted (answerOf b' a))) (dueNow (isSet (c .promoted)) (pendingOf w) (given f)) (isReply (answerOf b' a)) w w' b b'
 Leaves s c p (flush n) w w' b b' a = (w' ≡ cond (eqb (a .refusal) 0) (ranWords s w) w) × (b' ≡ b)
 Leaves s c p (disconnectedFrom n) w w' b b' a = (w' ≡ cond (eqb n (c .connections)) (set w StoreWord.pending 0) w) × (b' ≡ b)
 Leaves s c p promote w w' b b' a = PromotionLeaves s (not (eqb (a .refusal) 0)) w w' b b'
@@ -129,6 +127,15 @@ hasHandle (intact (nack h r)) = false
 hasHandle (intact (bound h m)) = false
 hasHandle (intact (checked h e i)) = false
 
+-- the handle that a call's frame names
+abbrev pub handleBy : Call → ℕ
+handleBy (onFrameHeld f) = handleIn (given f)
+handleBy (onFrame f) = handleIn (given f)
+handleBy (flush n) = 0
+handleBy (disconnectedFrom n) = 0
+handleBy promote = 0
+handleBy promoteUnchecked = 0
+
 abbrev pub asks : Call → Bool
 asks (onFrameHeld f) = hasHandle (given f)
 asks (onFrame f) = hasHandle (given f)
@@ -137,9 +144,11 @@ asks (disconnectedFrom n) = false
 asks promote = false
 asks promoteUnchecked = false
 
+-- ---- a call's core by value, as it is proved: no entry point's promise cites what follows
+
 pub record Stepped (s : Settings) (c : Replica) (seen : Lookup) (call : Call) (w w' b b' h h' : List ℕ) (r : Outcome) : Type 0 where
   pub is : outcomeOf protocolVersion (roomIn seen h) (s .shape) w' b' h' r ≡ coreStep (settingsOf s (roomIn seen h)) (coreAt (countersOf c) (s .shape) w b) (foundIn seen h) (ltb (seen .free) (seen .len)) call
-  pub lands : Lands seen (getD w' StoreWord.used 0) (roomIn seen h) r
+  pub lands : Lands seen (getD w' StoreWord.used 0) (roomIn seen h) (areaAt (roomIn seen h) (r .at) h') r
   pub rules : Rules (s .shape) w' b'
   pub more : getD w StoreWord.used 0 ≤ getD w' StoreWord.used 0
   pub leaves : Leaves (s .shape) c (seen .bound .place) call w w' b b' (r .answer)
@@ -148,5 +157,5 @@ pub record Stepped (s : Settings) (c : Replica) (seen : Lookup) (call : Call) (w
 -- 25 where the rules are broken; else the step, where the record found is of the call's handle, if the call has one
 pub record StepIs (s : Settings) (c : Replica) (seen : Lookup) (call : Call) (w w' b b' h h' : List ℕ) (r : Outcome) : Type 0 where
   pub refuses : seenAllowed (s .shape) seen w b h ≡ false → (r ≡ leaving c seen (isRefused Refusal.rulesBroken)) × ((w' ≡ w) × ((b' ≡ b) × (h' ≡ h)))
-  pub steps : seenAllowed (s .shape) seen w b h ≡ true → (isFound seen ≡ true → asks call ≡ true → seen .bound .handle ≡ handleOf call) → Stepped s c seen call w w' b b' h h' r
+  pub steps : seenAllowed (s .shape) seen w b h ≡ true → (isFound seen ≡ true → asks call ≡ true → seen .bound .handle ≡ handleBy call) → Stepped s c seen call w w' b b' h h' r
   pub exact : Exact b' (r .answer)

@@ -17,7 +17,7 @@ push-requires : tie.Need-push-requires
 push-requires c κs = push-asks _ _ (c .before .before .before .before .before .before .before .before .before .before .before .before .before .before .before .before .args .handle) (heldRun (c .before .before .before .before .before .before .before .before .before .before .before .before .before .before .before .before .args .protocol .version) (now (c .before .before .before .before .before .before .before .before .before .before .before .before .before .before .before .before .args .run))) _ _ (c .before .before .before .before .before .before .before .before .before .before .before .before .before .before .before .before .pre .0) _ (c .before .before .before .before .before .before .before .before .before .before .next-outgoing .ensures) (c .before .before .before .before .before .apply-at .ensures) (c .before .before .before .before .before .before .before .before .before .before .before .before .before .before .before .before .pre .1 .0) (c .before .before .before .before .before .before .before .before .before .before .before .before .before .before .before .before .pre .1 .1) (omega arith)
 
 returns-2 : tie.Need-returns-2
-returns-2 c = settled _ _ (c .before .before .before .before .before .before .before .before .before .before .before .before .before .before .before .before .before .before .before .args .handle) (heldRun (c .before .before .before .before .before .before .before .before .before .before .before .before .before .before .before .before .before .before .before .args .protocol .version) (now (c .before .before .before .before .before .before .before .before .before .before .before .before .before .before .before .before .before .before .before .args .run))) _ _ (c .before .before .before .before .before .before .before .before .before .before .before .before .before .before .before .before .before .before .before .pre .0) _ (c .before .before .before .before .before .before .before .before .before .before .before .before .before .next-outgoing .ensures) (c .before .before .before .before .before .before .before .before .apply-at .ensures) _ (c .before .before .before .before .before .before .before .before .before .before .before .before .fits2 .ensures) (not-false _ (c .before .before .before .before .before .before .before .before .before .before .before .if1 .left)) (c .before .before .before .before .before .before .before .before .before .before .before .before .before .before .before .before .before .before .before .pre .1 .1) (c .before .before .push .ensures .0) (c .before .before .push .ensures .1)
+returns-2 c = settled _ _ (c .before .before .before .before .before .before .before .before .before .before .before .before .before .before .before .before .before .before .before .args .handle) (heldRun (c .before .before .before .before .before .before .before .before .before .before .before .before .before .before .before .before .before .before .before .args .protocol .version) (now (c .before .before .before .before .before .before .before .before .before .before .before .before .before .before .before .before .before .before .before .args .run))) _ _ (c .before .before .before .before .before .before .before .before .before .before .before .before .before .before .before .before .before .before .before .pre .0) _ (c .before .before .before .before .before .before .before .before .before .before .before .before .before .next-outgoing .ensures) (c .before .before .before .before .before .before .before .before .apply-at .ensures) (c .before .before .before .before .before .before .before .before .before .before .before .before .fits2 .ensures) (not-false _ (c .before .before .before .before .before .before .before .before .before .before .before .if1 .left)) (c .before .before .before .before .before .before .before .before .before .before .before .before .before .before .before .before .before .before .before .pre .1 .1) (c .before .before .push .ensures .0) (c .before .before .push .ensures .1)
 
 pub commit-changes-spec : {M : Type 1} → statement M
 commit-changes-spec =
