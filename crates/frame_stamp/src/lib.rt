@@ -157,14 +157,18 @@ fn month_days(y: u32, m: u32) -> u32
     31
 }
 
-// The day at 6 exists in the month at 4 of the year at 0.
+// The day at 6 exists in the month at 4 of the year at 0; no month is shorter than 28 days.
 fn is_day(s: &[u8]) -> bool
     requires { ⌜ 17 ≤ length (now s) ⌝ }
     ensures { λ r. ⌜ r ≡ dayExists (now (s .entry)) ⌝ }
 {
+    let day = pair_number(s[6], s[7]);
+    if day <= 28 {
+        return true;
+    }
     let year = pair_number(s[0], s[1]) * 100 + pair_number(s[2], s[3]);
     let month = pair_number(s[4], s[5]);
-    pair_number(s[6], s[7]) <= month_days(year, month)
+    day <= month_days(year, month)
 }
 
 // s is a stamp that the store keeps: YYYYMMDD-HH:MM:SS, or that with `.` and three digits, of a day that exists.
