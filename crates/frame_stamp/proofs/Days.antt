@@ -39,6 +39,7 @@ shortest y m = go (eqb m 2) (isLeap y) (eqb m 4 || eqb m 6 || eqb m 9 || eqb m 1
 in-every : (y m d : ℕ) → d ≤ 28 → true ≡ leb d (monthDays y m)
 in-every y m d h = let least = shortest y m in sym (le-leb d (monthDays y m) (omega arith))
 
+-- a day up to 28, and any other, by what its digits say
 pub says-early : (s : List ℕ) {d : ℕ} → d ≡ dayOf s → d ≤ 28 → true ≡ dayExists s
 unfolding dayExists
 says-early s {d} ed h = in-every (yearOf s) (monthOf s) d h ∙ (λ i. leb (ed i) (monthDays (yearOf s) (monthOf s)))

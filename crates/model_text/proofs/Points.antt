@@ -118,13 +118,16 @@ ends =
 lateDays : (ℕ → Bool) → List Bool
 lateDays takes = map takes (28 ∷ 29 ∷ 30 ∷ 31 ∷ 32 ∷ [])
 
-takenIn : ℕ → ℕ → List Bool
-takenIn y m = lateDays (λ d. isStamp (two (y / 100) ++ two (y % 100) ++ two m ++ two d ++ hour 0 0 0))
+takenIn : (List ℕ → Bool) → ℕ → ℕ → List Bool
+takenIn takes y m = lateDays (λ d. takes (two (y / 100) ++ two (y % 100) ++ two m ++ two d ++ hour 0 0 0))
 
 -- those up to the month's last day, and no others
-ends-hold : map (λ p. takenIn (p .0) (p .1)) ends ≡ map (λ p. lateDays (λ d. leb d (p .2))) ends
-unfolding ends lateDays takenIn hour two isStamp dayExists monthDays isLeap isDigit isPair
-ends-hold = refl
+lasts : List (List Bool)
+lasts = map (λ p. lateDays (λ d. leb d (p .2))) ends
+
+ends-hold : (map (λ p. takenIn isStamp (p .0) (p .1)) ends ≡ lasts) × (map (λ p. takenIn (takesStamp 1) (p .0) (p .1)) ends ≡ lasts)
+unfolding ends lateDays takenIn lasts hour two takesStamp isStamp dayExists monthDays isLeap isDigit isPair
+ends-hold = (refl, refl)
 
 -- ---- marks and keys
 
