@@ -198,13 +198,13 @@ fn made_by_us(_: &Setting, _: bool) -> Result<(), Difference> {
     Ok(())
 }
 
-/// All inputs, in turn, until the time is over.
+/// The days of a cycle, which always have their time; then all inputs, in turn, until the time is over.
 fn inputs(round: &mut Round, seconds: u64, seed: u64) -> Result<(), Difference> {
+    round.days()?;
     let end = Instant::now() + Duration::from_secs(seconds);
     let mut random = Random(seed);
     round.making()?;
     (0..=2).try_for_each(|len| round.bodies(len, end))?;
-    round.days()?;
     if seconds >= 60 {
         round.bodies(3, end)?;
     }
