@@ -129,6 +129,9 @@ say(*(hello(node=bytes(at) + byte + bytes(80 - at)) for at in range(81) for byte
 
 # stamps: each number at its limits and past them, each byte wrong in turn, each length
 MENDS = [(0, "0000"), (0, "9999"), (4, "00"), (4, "01"), (4, "12"), (4, "13"), (4, "02"), (6, "00"), (6, "01"), (6, "31"), (6, "32"), (9, "00"), (9, "23"), (9, "24"), (12, "59"), (12, "60"), (15, "59"), (15, "60"), (15, "61"), (15, "99"), (4, "0230"), (9, "23:59:60")]
+# the last day of each month and the day after it; 28, 29 and 30 February of leap years and others
+MENDS += [(4, "%02d%02d" % (month, day + n)) for month, day in enumerate([31, 28, 31, 30, 31, 30, 31, 31, 30, 31, 30, 31], 1) for n in (0, 1)]
+MENDS += [(0, "%04d02%d" % (year, day)) for year in (2023, 2024, 1900, 2000, 2100, 0) for day in (28, 29, 30)] + [(0, "99991231")]
 STAMPS = [stamp[:at] + text.encode() + stamp[at + len(text) :] for stamp in (STAMP, LONG) for at, text in MENDS]
 STAMPS += [stamp[:at] + bytes([byte]) + stamp[at + 1 :] for stamp in (STAMP, LONG) for at in range(len(stamp)) for byte in b"/:a "]
 STAMPS += [LONG[:n] for n in range(22)] + [LONG + b"4", LONG + b"456", b" " + STAMP, STAMP + b" ", STAMP + b"Z", STAMP + b",123", STAMP + "\u00e9".encode()]

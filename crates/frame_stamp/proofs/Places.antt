@@ -8,7 +8,7 @@ use native.Mathlib.Numerals.{add-one}
 use lib.Dec.{leb}
 use lib.ListN.{length, drop, getD, drop-of-length-le}
 use lib.Seq.{drop-cons}
-use Rattle.model_text.specs.Stamp.{isDigit, isPair, matches, date, clock, millis, isStamp}
+use Rattle.model_text.specs.Stamp.{isDigit, isPair, matches, date, clock, millis, dayExists, isStamp}
 use Rattle.model_text.proofs.Formed.{and-l, and-r}
 use Rattle.model_text.proofs.Form.{digit-bounds, not-long}
 use Rattle.frame_stamp.specs.Places.{sliceAt}
@@ -38,23 +38,25 @@ module _ (s : List ℕ) where
       → p ≡ isPair 1 12 (getD s 4 0) (getD s 5 0) → q ≡ isPair 1 31 (getD s 6 0) (getD s 7 0) → (a && b && c && d && p && q) ≡ matches date (sliceAt s 0 8)
   says-date ea eb ec ed ep eq = (λ i. ea i && eb i && ec i && ed i && ep i && eq i) ∙ simp (and-assoc, and-true)
 
-  pub says-seconds : length s ≡ 17 → {d c : Bool} → d ≡ matches date (sliceAt s 0 8) → c ≡ matches clock (sliceAt s 8 9) → (d && c) ≡ isStamp s
+  pub says-seconds : length s ≡ 17 → {d c y : Bool} → d ≡ matches date (sliceAt s 0 8) → c ≡ matches clock (sliceAt s 8 9) → y ≡ dayExists s → (d && c && y) ≡ isStamp s
   unfolding isStamp
-  says-seconds h ed ec =
-      (λ i. ed i && ec i)
-      ∙ (let e : (matches date (sliceAt s 0 8) && matches clock (sliceAt s 8 9)) ≡ matches (date ++ clock) (sliceAt s 0 17) = simp (and-assoc, and-true) in e)
+  says-seconds h ed ec ey =
+      (λ i. ed i && ec i && ey i)
+      ∙ ap (λ (t : Bool). t && dayExists s)
+      ((let e : (matches date (sliceAt s 0 8) && matches clock (sliceAt s 8 9)) ≡ matches (date ++ clock) (sliceAt s 0 17) = simp (and-assoc, and-true) in e)
       ∙ ap (matches (date ++ clock)) (bytes-all 17 0 s (sym h))
-      ∙ sym (ap (λ (t : Bool). matches (date ++ clock) s || t) (not-long (date ++ clock ++ millis) s (λ q. omega arith)) ∙ or-false (matches (date ++ clock) s))
+      ∙ sym (ap (λ (t : Bool). matches (date ++ clock) s || t) (not-long (date ++ clock ++ millis) s (λ q. omega arith)) ∙ or-false (matches (date ++ clock) s)))
 
-  pub says-millis : length s ≡ 21 → {d c m : Bool} → d ≡ matches date (sliceAt s 0 8) → c ≡ matches clock (sliceAt s 8 9) → m ≡ matches millis (sliceAt s 17 4)
-      → (d && c && m) ≡ isStamp s
+  pub says-millis : length s ≡ 21 → {d c m y : Bool} → d ≡ matches date (sliceAt s 0 8) → c ≡ matches clock (sliceAt s 8 9) → m ≡ matches millis (sliceAt s 17 4)
+      → y ≡ dayExists s → (d && c && m && y) ≡ isStamp s
   unfolding isStamp
-  says-millis h ed ec em =
-      (λ i. ed i && ec i && em i)
-      ∙ (let e : (matches date (sliceAt s 0 8) && matches clock (sliceAt s 8 9) && matches millis (sliceAt s 17 4)) ≡ matches (date ++ clock ++ millis) (sliceAt s 0 21) = simp (and-assoc, and-true) in e)
+  says-millis h ed ec em ey =
+      (λ i. ed i && ec i && em i && ey i)
+      ∙ ap (λ (t : Bool). t && dayExists s)
+      ((let e : (matches date (sliceAt s 0 8) && matches clock (sliceAt s 8 9) && matches millis (sliceAt s 17 4)) ≡ matches (date ++ clock ++ millis) (sliceAt s 0 21) = simp (and-assoc, and-true) in e)
       ∙ ap (matches (date ++ clock ++ millis)) (bytes-all 21 0 s (sym h))
-      ∙ sym (ap (λ (t : Bool). t || matches (date ++ clock ++ millis) s) (not-long (date ++ clock) s (λ q. omega arith)))
+      ∙ sym (ap (λ (t : Bool). t || matches (date ++ clock ++ millis) s) (not-long (date ++ clock) s (λ q. omega arith))))
 
   pub says-neither : (length s ≡ 17 → ⊥) → (length s ≡ 21 → ⊥) → false ≡ isStamp s
   unfolding isStamp
-  says-neither g h = sym (ap₂ _||_ (not-long (date ++ clock) s g) (not-long (date ++ clock ++ millis) s h))
+  says-neither g h = sym (ap (λ (t : Bool). t && dayExists s) (ap₂ _||_ (not-long (date ++ clock) s g) (not-long (date ++ clock ++ millis) s h)))

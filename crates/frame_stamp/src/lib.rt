@@ -1,9 +1,10 @@
 // Time stamps, marks and keys.
 ghost use mathlib.Core.Path.{_≡_};
-ghost use Prim.Native.Nat.{_≤_};
+ghost use Prim.Native.Nat.{_-_, _≤_};
 ghost use lib.ListN.{length};
 ghost use Rattle.model_text.specs.Printable.{isPrintableByte, allPrintable, isPrintable, isMarks, isKey};
-ghost use Rattle.model_text.specs.Stamp.{isDigit, isPair, matches, date, clock, millis, isStamp, takesStamp};
+ghost use Rattle.model_text.specs.Calendar.{isLeap, monthDays};
+ghost use Rattle.model_text.specs.Stamp.{isDigit, pairNumber, isPair, matches, date, clock, millis, dayExists, isStamp, takesStamp};
 ghost use Rattle.frame_stamp.specs.Places.{sliceAt};
 
 // What an instance speaks on a connection: the version decides which stamps are taken.
@@ -115,15 +116,70 @@ fn is_millis(s: &[u8]) -> bool
     (s[17] == b'.') & is_digit(s[18]) & is_digit(s[19]) & is_digit(s[20])
 }
 
-// s is a stamp that the store keeps: YYYYMMDD-HH:MM:SS, or that with `.` and three digits.
+// A digit's number; 0 for a byte below the digits, so that nothing is asked of it.
+fn digit_number(b: u8) -> u32
+    ensures { λ r. ⌜ r ≡ b - 48 ⌝ }
+{
+    if b < 48 {
+        return 0;
+    }
+    (b as u32) - 48
+}
+
+// The number of two digits.
+fn pair_number(a: u8, b: u8) -> u32
+    ensures is { λ r. ⌜ r ≡ pairNumber a b ⌝ }
+    ensures small { λ r. ⌜ r ≤ 2277 ⌝ }
+{
+    digit_number(a) * 10 + digit_number(b)
+}
+
+// Divisible by 4, and where it is divisible by 100 also by 400.
+fn is_leap(y: u32) -> bool
+    ensures { λ r. ⌜ r ≡ isLeap y ⌝ }
+{
+    (y % 4 == 0) & (!(y % 100 == 0) | (y % 400 == 0))
+}
+
+// The days of month m in year y.
+fn month_days(y: u32, m: u32) -> u32
+    ensures { λ r. ⌜ r ≡ monthDays y m ⌝ }
+{
+    if m == 2 {
+        if is_leap(y) {
+            return 29;
+        }
+        return 28;
+    }
+    if (m == 4) | (m == 6) | (m == 9) | (m == 11) {
+        return 30;
+    }
+    31
+}
+
+// The day at 6 exists in the month at 4 of the year at 0; no month is shorter than 28 days.
+fn is_day(s: &[u8]) -> bool
+    requires { ⌜ 17 ≤ length (now s) ⌝ }
+    ensures { λ r. ⌜ r ≡ dayExists (now (s .entry)) ⌝ }
+{
+    let day = pair_number(s[6], s[7]);
+    if day <= 28 {
+        return true;
+    }
+    let year = pair_number(s[0], s[1]) * 100 + pair_number(s[2], s[3]);
+    let month = pair_number(s[4], s[5]);
+    day <= month_days(year, month)
+}
+
+// s is a stamp that the store keeps: YYYYMMDD-HH:MM:SS, or that with `.` and three digits, of a day that exists.
 pub fn is_stamp(s: &[u8]) -> bool
     ensures { λ r. ⌜ r ≡ isStamp (now (s .entry)) ⌝ }
 {
     if s.len() == 17 {
-        return is_date(s) & is_clock(s);
+        return is_date(s) & is_clock(s) & is_day(s);
     }
     if s.len() == 21 {
-        return is_date(s) & is_clock(s) & is_millis(s);
+        return is_date(s) & is_clock(s) & is_millis(s) & is_day(s);
     }
     false
 }

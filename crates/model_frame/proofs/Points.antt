@@ -6,7 +6,8 @@ use mathlib.Core.List.{List, [], _∷_, _++_}
 use mathlib.Core.Option.{none, some}
 use Rattle.model_text.specs.Utf8.{utf8, wellFormed, leadLength, ownBits, least, fitting, isScalar, isSurrogate, isTail}
 use Rattle.model_text.specs.Printable.{isPrintableByte, isPrintable, isMarks, isKey}
-use Rattle.model_text.specs.Stamp.{isDigit, isPair, isStamp, takesStamp}
+use Rattle.model_text.specs.Calendar.{isLeap, monthDays}
+use Rattle.model_text.specs.Stamp.{isDigit, isPair, dayExists, isStamp, takesStamp}
 use Rattle.model_frame.specs.Bytes.{le}
 use Rattle.model_frame.specs.Frame.{recordMsg, recordBare, reset, setCreatedAt, commit, whole, lastWhole, staleEpoch, hello, bind, batch, nack, bound, frameKind, part, refusal, change, tooLong, truncated, unknown, badText, badSession, badTimestamp, badMarks, faultNumber, Decoded, more, faulty, got}
 use Rattle.model_frame.specs.Parse.{readBytes, readNum, readBlob, readText, readCount, many}
@@ -107,5 +108,5 @@ nearby =
     ∷ []
 
 pub points : answered (firstPoints ++ nearby) ≡ expected (firstPoints ++ nearby)
-unfolding decode le readNum readBytes readBlob readText readCount many readBody readFields helloFields welcomeFields bindFields batchFields ackFields nackFields boundFields checkedFields readKinds readChanges readChange setIncomingFields setIncomingInFlightFields setInFlightFields recordMsgFields recordBareFields setCreatedAtFields setMarksFields readAppRecords readAppRecord readPart readReason readKey readSummary readStamp readStampOrNone readMarks utf8 wellFormed leadLength ownBits least fitting isScalar isSurrogate isTail isPrintableByte isPrintable isMarks isKey isDigit isPair isStamp takesStamp
+unfolding decode le readNum readBytes readBlob readText readCount many readBody readFields helloFields welcomeFields bindFields batchFields ackFields nackFields boundFields checkedFields readKinds readChanges readChange setIncomingFields setIncomingInFlightFields setInFlightFields recordMsgFields recordBareFields setCreatedAtFields setMarksFields readAppRecords readAppRecord readPart readReason readKey readSummary readStamp readStampOrNone readMarks utf8 wellFormed leadLength ownBits least fitting isScalar isSurrogate isTail isPrintableByte isPrintable isMarks isKey isDigit isPair isStamp dayExists monthDays isLeap takesStamp
 points = refl

@@ -8,7 +8,8 @@ use mathlib.Core.Option.{none, some}
 use mathlib.Core.Bool.{Bool, true, false, cond}
 use Rattle.model_text.specs.Utf8.{utf8, wellFormed, leadLength, ownBits, least, fitting, isScalar, isSurrogate}
 use Rattle.model_text.specs.Printable.{isPrintableByte, isPrintable, isMarks}
-use Rattle.model_text.specs.Stamp.{isDigit, isPair, isStamp, takesStamp}
+use Rattle.model_text.specs.Calendar.{isLeap, monthDays}
+use Rattle.model_text.specs.Stamp.{isDigit, isPair, dayExists, isStamp, takesStamp}
 use Rattle.model_frame.specs.Bytes.{le, bytesOf}
 use Rattle.model_frame.specs.Frame.{setIncomingInFlight, setInFlight, recordMsg, recordBare, reset, setCreatedAt, setMarks, commit, whole, lastWhole, Frame, batch, ack}
 use Rattle.model_frame.specs.Parse.{readBytes, readNum, readBlob, readText, readCount, many, runBytes}
@@ -40,7 +41,7 @@ A₀ =
     }
 
 A₀-held : Holdable 4096 64 A₀
-unfolding isStamp isPair isDigit isMarks isPrintable isPrintableByte
+unfolding isStamp dayExists monthDays isLeap isPair isDigit isMarks isPrintable isPrintableByte
 A₀-held =
     record {
       stamp-ok = tt;
@@ -109,7 +110,7 @@ abbrev calls₁ : List Call
 calls₁ = onFrame (1 ∷ 0 ∷ 0 ∷ []) ∷ onFrameHeld (encode f₁) ∷ onFrame (encode (batch 9 4 2 commit [] [])) ∷ flush 1 ∷ disconnectedFrom 0 ∷ onFrame (encode f₂) ∷ onFrameHeld (encode (ack 9 9)) ∷ []
 
 unfoldable list₁ : FirstList L₀ 5 (wholeFrames 3 9 5 7 A₀) s₀ calls₁
-unfolding wholeFrames wholeBatches step onGiven onBatch onHandle onPart hold settle apply keep put given encode bodyBytes blobBytes changeBytes runBytes bytesOf decode le readNum readBytes readBlob readText readCount many readBody readFields batchFields ackFields readChanges readChange setIncomingInFlightFields recordMsgFields recordBareFields setCreatedAtFields setMarksFields readAppRecords readPart readStamp readMarks utf8 wellFormed leadLength ownBits least fitting isScalar isSurrogate isPrintableByte isPrintable isMarks isDigit isPair isStamp takesStamp
+unfolding wholeFrames wholeBatches step onGiven onBatch onHandle onPart hold settle apply keep put given encode bodyBytes blobBytes changeBytes runBytes bytesOf decode le readNum readBytes readBlob readText readCount many readBody readFields batchFields ackFields readChanges readChange setIncomingInFlightFields recordMsgFields recordBareFields setCreatedAtFields setMarksFields readAppRecords readPart readStamp readMarks utf8 wellFormed leadLength ownBits least fitting isScalar isSurrogate isPrintableByte isPrintable isMarks isDigit isPair isStamp dayExists monthDays isLeap takesStamp
 list₁ =
     asideNext byFrame (refusedOutside {n = 26} tt)
     (oursNext byHeld
@@ -120,7 +121,7 @@ list₁ =
     (asideNext byHeld (refusedOutside {n = 19} tt) listEnds))))))
 
 took₁ : modelTookLast list₁ ≡ true
-unfolding list₁ wholeFrames wholeBatches step onGiven onBatch onHandle onPart hold settle apply keep put given encode bodyBytes blobBytes changeBytes runBytes bytesOf decode le readNum readBytes readBlob readText readCount many readBody readFields batchFields ackFields readChanges readChange setIncomingInFlightFields recordMsgFields recordBareFields setCreatedAtFields setMarksFields readAppRecords readPart readStamp readMarks utf8 wellFormed leadLength ownBits least fitting isScalar isSurrogate isPrintableByte isPrintable isMarks isDigit isPair isStamp takesStamp
+unfolding list₁ wholeFrames wholeBatches step onGiven onBatch onHandle onPart hold settle apply keep put given encode bodyBytes blobBytes changeBytes runBytes bytesOf decode le readNum readBytes readBlob readText readCount many readBody readFields batchFields ackFields readChanges readChange setIncomingInFlightFields recordMsgFields recordBareFields setCreatedAtFields setMarksFields readAppRecords readPart readStamp readMarks utf8 wellFormed leadLength ownBits least fitting isScalar isSurrogate isPrintableByte isPrintable isMarks isDigit isPair isStamp dayExists monthDays isLeap takesStamp
 took₁ = refl
 
 -- by the theorem
@@ -132,11 +133,11 @@ abbrev calls₂ : List Call
 calls₂ = onFrameHeld (encode f₁) ∷ disconnectedFrom 1 ∷ onFrame (encode f₂) ∷ []
 
 unfoldable list₂ : FirstList L₀ 5 (wholeFrames 3 9 5 7 A₀) s₀ calls₂
-unfolding wholeFrames wholeBatches step onGiven onBatch onHandle onPart hold settle apply keep put given encode bodyBytes blobBytes changeBytes runBytes bytesOf decode le readNum readBytes readBlob readText readCount many readBody readFields batchFields ackFields readChanges readChange setIncomingInFlightFields recordMsgFields recordBareFields setCreatedAtFields setMarksFields readAppRecords readPart readStamp readMarks utf8 wellFormed leadLength ownBits least fitting isScalar isSurrogate isPrintableByte isPrintable isMarks isDigit isPair isStamp takesStamp
+unfolding wholeFrames wholeBatches step onGiven onBatch onHandle onPart hold settle apply keep put given encode bodyBytes blobBytes changeBytes runBytes bytesOf decode le readNum readBytes readBlob readText readCount many readBody readFields batchFields ackFields readChanges readChange setIncomingInFlightFields recordMsgFields recordBareFields setCreatedAtFields setMarksFields readAppRecords readPart readStamp readMarks utf8 wellFormed leadLength ownBits least fitting isScalar isSurrogate isPrintableByte isPrintable isMarks isDigit isPair isStamp dayExists monthDays isLeap takesStamp
 list₂ = oursNext byHeld (dropNext 1 (oursNext byFrame listEnds))
 
 took₂ : modelTookLast list₂ ≡ false
-unfolding list₂ wholeFrames wholeBatches step onGiven onBatch onHandle onPart hold settle apply keep put given encode bodyBytes blobBytes changeBytes runBytes bytesOf decode le readNum readBytes readBlob readText readCount many readBody readFields batchFields ackFields readChanges readChange setIncomingInFlightFields recordMsgFields recordBareFields setCreatedAtFields setMarksFields readAppRecords readPart readStamp readMarks utf8 wellFormed leadLength ownBits least fitting isScalar isSurrogate isPrintableByte isPrintable isMarks isDigit isPair isStamp takesStamp
+unfolding list₂ wholeFrames wholeBatches step onGiven onBatch onHandle onPart hold settle apply keep put given encode bodyBytes blobBytes changeBytes runBytes bytesOf decode le readNum readBytes readBlob readText readCount many readBody readFields batchFields ackFields readChanges readChange setIncomingInFlightFields recordMsgFields recordBareFields setCreatedAtFields setMarksFields readAppRecords readPart readStamp readMarks utf8 wellFormed leadLength ownBits least fitting isScalar isSurrogate isPrintableByte isPrintable isMarks isDigit isPair isStamp dayExists monthDays isLeap takesStamp
 took₂ = refl
 
 left-B : sessionAt (run L₀ s₀ calls₂ .places) 1 ≡ some newSession
@@ -144,9 +145,9 @@ left-B = demand-3 L₀ 3 A₀ newSession k₀ 9 b₀ s₀ a-start calls₂ list�
 
 -- and by computing: the standby's session, and the plain copy's
 computed-so : sessionAt (run L₀ s₀ calls₁ .places) 1 ∷ sessionAt (run L₀ s₀ calls₂ .places) 1 ∷ [] ≡ some A₀ ∷ some newSession ∷ []
-unfolding step onGiven onBatch onHandle onPart hold settle apply keep put given encode bodyBytes blobBytes changeBytes runBytes bytesOf decode le readNum readBytes readBlob readText readCount many readBody readFields batchFields ackFields readChanges readChange setIncomingInFlightFields recordMsgFields recordBareFields setCreatedAtFields setMarksFields readAppRecords readPart readStamp readMarks utf8 wellFormed leadLength ownBits least fitting isScalar isSurrogate isPrintableByte isPrintable isMarks isDigit isPair isStamp takesStamp
+unfolding step onGiven onBatch onHandle onPart hold settle apply keep put given encode bodyBytes blobBytes changeBytes runBytes bytesOf decode le readNum readBytes readBlob readText readCount many readBody readFields batchFields ackFields readChanges readChange setIncomingInFlightFields recordMsgFields recordBareFields setCreatedAtFields setMarksFields readAppRecords readPart readStamp readMarks utf8 wellFormed leadLength ownBits least fitting isScalar isSurrogate isPrintableByte isPrintable isMarks isDigit isPair isStamp dayExists monthDays isLeap takesStamp
 computed-so = refl
 
 copies-so : copyRun L₀ k₀ (copyAt newSession s₀) s₀ calls₁ .session ∷ copyRun L₀ k₀ (copyAt newSession s₀) s₀ calls₂ .session ∷ [] ≡ A₀ ∷ newSession ∷ []
-unfolding step onGiven onBatch onHandle onPart hold settle apply keep put given encode bodyBytes blobBytes changeBytes runBytes bytesOf decode le readNum readBytes readBlob readText readCount many readBody readFields batchFields ackFields readChanges readChange setIncomingInFlightFields recordMsgFields recordBareFields setCreatedAtFields setMarksFields readAppRecords readPart readStamp readMarks utf8 wellFormed leadLength ownBits least fitting isScalar isSurrogate isPrintableByte isPrintable isMarks isDigit isPair isStamp takesStamp
+unfolding step onGiven onBatch onHandle onPart hold settle apply keep put given encode bodyBytes blobBytes changeBytes runBytes bytesOf decode le readNum readBytes readBlob readText readCount many readBody readFields batchFields ackFields readChanges readChange setIncomingInFlightFields recordMsgFields recordBareFields setCreatedAtFields setMarksFields readAppRecords readPart readStamp readMarks utf8 wellFormed leadLength ownBits least fitting isScalar isSurrogate isPrintableByte isPrintable isMarks isDigit isPair isStamp dayExists monthDays isLeap takesStamp
 copies-so = refl

@@ -9,7 +9,7 @@ use lib.Dec.{leb, eqb}
 use lib.ListN.{length}
 use Rattle.model_text.specs.Utf8.{utf8}
 use Rattle.model_text.specs.Printable.{isPrintableByte, allPrintable, isPrintable, isMarks, isKey}
-use Rattle.model_text.specs.Stamp.{Pattern, digit, pair, mark, isDigit, isPair, matches, date, clock, millis, isStamp, takesStamp, longestStamp}
+use Rattle.model_text.specs.Stamp.{Pattern, digit, pair, mark, isDigit, isPair, matches, date, clock, millis, dayExists, isStamp, takesStamp, longestStamp}
 use Rattle.model_text.proofs.Formed.{and-l, and-r}
 use Rattle.model_text.proofs.Agree.{ascii-first}
 use Rattle.model_text.proofs.Form.{digit-bounds, pair-digits, fits-length}
@@ -104,7 +104,7 @@ stamp-by ps s g h m e = let p : allPrintable s ≡ true = fits-plain ps s m e in
 
 pub stamp-is : (s : List ℕ) → isStamp s ≡ true → StampIs s
 unfolding isStamp isPrintableByte
-stamp-is s e = go (matches (date ++ clock) s) refl e
+stamp-is s e = go (matches (date ++ clock) s) refl (and-l (matches (date ++ clock) s || matches (date ++ clock ++ millis) s) (dayExists s) e)
   where
     go : (t : Bool) → matches (date ++ clock) s ≡ t → (t || matches (date ++ clock ++ millis) s) ≡ true → StampIs s
     go true q r = let n = fits-length (date ++ clock) s q in stamp-by (date ++ clock) s (omega arith) (omega arith) (refl, (refl, (refl, tt))) q

@@ -4,10 +4,12 @@ use mathlib.Core.Bool.{Bool, true, false}
 use mathlib.Core.List.{List, [], _∷_, map, _++_}
 use mathlib.Core.Option.{Option, none, some}
 use Prim.Native.Nat.{ℕ, _/_, _%_, _+_}
+use lib.Dec.{leb}
 use lib.ListN.{replicate}
 use Rattle.model_text.specs.Utf8.{isSurrogate, isScalar, encodeScalar, leadLength, ownBits, least, fitting, isTail, wellFormed, utf8}
 use Rattle.model_text.specs.Printable.{isPrintableByte, isPrintable, isMarks, isKey}
-use Rattle.model_text.specs.Stamp.{isDigit, isPair, isStamp, takesStamp}
+use Rattle.model_text.specs.Calendar.{isLeap, monthDays}
+use Rattle.model_text.specs.Stamp.{isDigit, isPair, dayExists, isStamp, takesStamp}
 use Rattle.model_text.specs.Hex.{digitValue, lineBytes, digitOf, hexOf, decimal, refusalText}
 use Rattle.model_text.specs.Lines.{linesOf}
 
@@ -60,9 +62,13 @@ rows-hold = refl
 two : ℕ → List ℕ
 two n = (48 + n / 10) ∷ (48 + n % 10) ∷ []
 
+-- -h:n:s
+hour : ℕ → ℕ → ℕ → List ℕ
+hour h n s = (45 ∷ []) ++ two h ++ (58 ∷ []) ++ two n ++ (58 ∷ []) ++ two s
+
 -- 2024, month m, day d, h:n:s, and then l
 stamp : ℕ → ℕ → ℕ → ℕ → ℕ → List ℕ → List ℕ
-stamp m d h n s l = two 20 ++ two 24 ++ two m ++ two d ++ (45 ∷ []) ++ two h ++ (58 ∷ []) ++ two n ++ (58 ∷ []) ++ two s ++ l
+stamp m d h n s l = two 20 ++ two 24 ++ two m ++ two d ++ hour h n s ++ l
 
 stamps : List (List ℕ × Bool)
 stamps =
@@ -82,8 +88,46 @@ stamps =
 
 -- what the store keeps, and what reading takes in version 1
 stamps-hold : (map (λ p. isStamp (p .0)) stamps ≡ map (λ p. p .1) stamps) × (map (λ p. takesStamp 1 (p .0)) stamps ≡ map (λ p. p .1) stamps)
-unfolding stamps stamp two takesStamp isStamp isDigit isPair
+unfolding stamps stamp hour two takesStamp isStamp dayExists monthDays isLeap isDigit isPair
 stamps-hold = (refl, refl)
+
+-- year, month, and the month's last day: the months of 2023; February of leap years and others, of the year 0 too; the last day of all
+ends : List (ℕ × ℕ × ℕ)
+ends =
+    (2023, 1, 31)
+    ∷ (2023, 2, 28)
+    ∷ (2023, 3, 31)
+    ∷ (2023, 4, 30)
+    ∷ (2023, 5, 31)
+    ∷ (2023, 6, 30)
+    ∷ (2023, 7, 31)
+    ∷ (2023, 8, 31)
+    ∷ (2023, 9, 30)
+    ∷ (2023, 10, 31)
+    ∷ (2023, 11, 30)
+    ∷ (2023, 12, 31)
+    ∷ (2024, 2, 29)
+    ∷ (1900, 2, 28)
+    ∷ (2000, 2, 29)
+    ∷ (2100, 2, 28)
+    ∷ (0, 2, 29)
+    ∷ (9999, 12, 31)
+    ∷ []
+
+-- which of the days 28 to 32 are taken, at 00:00:00
+lateDays : (ℕ → Bool) → List Bool
+lateDays takes = map takes (28 ∷ 29 ∷ 30 ∷ 31 ∷ 32 ∷ [])
+
+takenIn : (List ℕ → Bool) → ℕ → ℕ → List Bool
+takenIn takes y m = lateDays (λ d. takes (two (y / 100) ++ two (y % 100) ++ two m ++ two d ++ hour 0 0 0))
+
+-- those up to the month's last day, and no others
+lasts : List (List Bool)
+lasts = map (λ p. lateDays (λ d. leb d (p .2))) ends
+
+ends-hold : (map (λ p. takenIn isStamp (p .0) (p .1)) ends ≡ lasts) × (map (λ p. takenIn (takesStamp 1) (p .0) (p .1)) ends ≡ lasts)
+unfolding ends lateDays takenIn lasts hour two takesStamp isStamp dayExists monthDays isLeap isDigit isPair
+ends-hold = (refl, refl)
 
 -- ---- marks and keys
 

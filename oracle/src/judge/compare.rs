@@ -10,7 +10,7 @@ use crate::count::Counts;
 use crate::differences;
 use crate::digits;
 use crate::frames::{Reading, read_by_rust};
-use crate::generate::{Player, Random, key, reading, resend, setting};
+use crate::generate::{Player, Random, cycle, key, reading, resend, setting};
 use crate::imports;
 #[cfg(calls)]
 use crate::ours::Ours;
@@ -21,7 +21,7 @@ use crate::run::looked;
 use crate::run::{Difference, Run};
 use crate::rust::Rust;
 use crate::side::Side;
-use crate::wire::framed;
+use crate::wire::{self, Batch, COMMIT, change, framed};
 
 #[derive(Default)]
 struct Round {
@@ -81,6 +81,21 @@ impl Round {
                 return Ok(());
             }
             self.frame(&framed(&number.to_le_bytes()[..len as usize]))?;
+        }
+        Ok(())
+    }
+
+    /// Every year, month and day of a whole cycle of the calendar, and the day 32, in a change 7; the days from 28 on also
+    /// in a Bound.
+    fn days(&mut self) -> Result<(), Difference> {
+        for (year, month, day) in cycle() {
+            let stamp = format!("{year:04}{month:02}{day:02}-23:59:60").into_bytes();
+            let changes = vec![change::created_at(&stamp)];
+            let batch = Batch { handle: 1, epoch: 0, commit_no: 1, part: COMMIT, changes, records: Vec::new() };
+            self.frame(&wire::batch(&batch))?;
+            if day >= 28 {
+                self.frame(&wire::bound(1, [1, 1, 0], &stamp, b"", 0))?;
+            }
         }
         Ok(())
     }
@@ -183,8 +198,9 @@ fn made_by_us(_: &Setting, _: bool) -> Result<(), Difference> {
     Ok(())
 }
 
-/// All inputs, in turn, until the time is over.
+/// The days of a cycle, which always have their time; then all inputs, in turn, until the time is over.
 fn inputs(round: &mut Round, seconds: u64, seed: u64) -> Result<(), Difference> {
+    round.days()?;
     let end = Instant::now() + Duration::from_secs(seconds);
     let mut random = Random(seed);
     round.making()?;

@@ -1,5 +1,5 @@
 //! Faults that are put in between our side and the comparison, one at a time, by the number in WIZHDULET_FAULT: the
-//! comparison must find each (oracle/judge-test). The stand-in has those from 1 to 19 in its own text.
+//! comparison must find each (oracle/judge-test). The stand-in has those from 1 to 21 in its own text.
 
 use std::sync::OnceLock;
 

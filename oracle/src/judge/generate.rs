@@ -98,12 +98,30 @@ fn text(random: &mut Random) -> Vec<u8> {
     }
 }
 
-const STAMPS: [&[u8]; 14] = [
+const STAMPS: [&[u8]; 32] = [
     b"20261115-12:00:00",
     b"20261115-12:00:00.000",
     b"00000101-00:00:00",
     b"99991231-23:59:60.999",
+    b"20260228-23:59:60",
+    b"20260229-23:59:60",
     b"20260230-23:59:60",
+    b"20240229-00:00:00.000",
+    b"20240230-00:00:00.000",
+    b"19000228-00:00:00",
+    b"19000229-00:00:00",
+    b"20000229-00:00:00",
+    b"20000230-00:00:00",
+    b"21000229-00:00:00.999",
+    b"00000229-00:00:00",
+    b"00000230-00:00:00",
+    b"20260131-00:00:00",
+    b"20260430-00:00:00",
+    b"20260431-00:00:00",
+    b"20260631-00:00:00",
+    b"20260831-00:00:00",
+    b"20260931-00:00:00",
+    b"20261131-00:00:00",
     b"20260001-00:00:00",
     b"20261301-00:00:00",
     b"20260100-00:00:00",
@@ -115,12 +133,30 @@ const STAMPS: [&[u8]; 14] = [
     b"20260101 00:00:00",
 ];
 
+/// The last day of a month; of February by the number of leap years up to each year.
+pub fn last_day(year: u64, month: u64) -> u64 {
+    let leaps = |year: u64| year / 4 - year / 100 + year / 400;
+    match month {
+        2 if year == 0 => 29,
+        2 => 28 + leaps(year) - leaps(year - 1),
+        4 | 6 | 9 | 11 => 30,
+        _ => 31,
+    }
+}
+
+/// Year, month and day 1 to 32 of each month of a whole cycle of 400 years.
+pub fn cycle() -> impl Iterator<Item = (u64, u64, u64)> {
+    (2000..2400).flat_map(|year| (1..=12).flat_map(move |month| (1..=32).map(move |day| (year, month, day))))
+}
+
+/// A stamp of a day that exists; a day past its month's end becomes the last one.
 fn good_stamp(random: &mut Random) -> Vec<u8> {
-    let mut stamp = |most: u64, least: u64| format!("{:02}", least + random.below(most - least + 1));
-    let (month, day) = (stamp(12, 1), stamp(31, 1));
-    let (hour, minute, second) = (stamp(23, 0), stamp(59, 0), stamp(60, 0));
+    let mut within = |most: u64, least: u64| least + random.below(most - least + 1);
+    let (month, day) = (within(12, 1), within(31, 1));
+    let (hour, minute, second) = (within(23, 0), within(59, 0), within(60, 0));
     let year = random.below(10_000);
-    let text = format!("{year:04}{month}{day}-{hour}:{minute}:{second}");
+    let day = day.min(last_day(year, month));
+    let text = format!("{year:04}{month:02}{day:02}-{hour:02}:{minute:02}:{second:02}");
     if random.percent(50) { text.into() } else { format!("{text}.{:03}", random.below(1000)).into() }
 }
 

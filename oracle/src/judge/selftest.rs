@@ -9,6 +9,7 @@ use turbojet_replica::frame::Frame;
 
 use crate::digits;
 use crate::frames::{program, read_by_rust};
+use crate::generate::{cycle, last_day};
 use crate::record::{self, fnv_1a, key};
 use crate::rust::{Rust, encoded};
 use crate::side::{Side, run};
@@ -107,6 +108,24 @@ fn starred(checks: &mut Checks) {
         third.lines().last().unwrap_or_default(),
         "drained=1 through=1 waiting=2 numbers=1",
     );
+}
+
+/// The days of each month, by hand, and those of a whole cycle: 146,097 (document 02, U8).
+fn days(checks: &mut Checks) {
+    let taken = |year: u64, month: u64, day: u64| {
+        let stamp = format!("{year:04}{month:02}{day:02}-00:00:00");
+        let frame = digits::read(stamped(&stamp).as_bytes()).expect("digits");
+        read_by_rust(&frame).text() != "R 6"
+    };
+    let last = |year, month| (28..=32).filter(|day| taken(year, month, *day)).max().unwrap_or(0);
+    let common: Vec<u64> = (1..=12).map(|month| last(2023, month)).collect();
+    checks.same("months of 2023", &format!("{common:?}"), "[31, 28, 31, 30, 31, 30, 31, 31, 30, 31, 30, 31]");
+    let february = [2023, 2024, 1900, 2000, 2100, 0].map(|year| last(year, 2));
+    checks.same("February", &format!("{february:?}"), "[28, 29, 28, 29, 28, 29]");
+    let days = cycle().filter(|(year, month, day)| taken(*year, *month, *day));
+    checks.same("days of 400 years", &days.count().to_string(), "146097");
+    let made = cycle().filter(|(year, month, day)| *day <= last_day(*year, *month));
+    checks.same("days of 400 years for good stamps", &made.count().to_string(), "146097");
 }
 
 fn bind() -> String {
@@ -233,6 +252,7 @@ pub fn selftest(folder: &Path) -> bool {
     let mut checks = Checks::default();
     examples(&mut checks);
     starred(&mut checks);
+    days(&mut checks);
     fnv(&mut checks);
     store(&mut checks);
     utf_8(&mut checks);

@@ -1,4 +1,6 @@
-//! Reading, by document 01's table alone.
+//! Reading, by document 01's table alone, and document 02's rule for the day of a stamp.
+
+use crate::faults::fault;
 
 pub enum Fault {
     More,
@@ -217,20 +219,32 @@ fn two_digits(text: &[u8], at: usize) -> Option<u32> {
     Some(digit(text[at])? * 10 + digit(text[at + 1])?)
 }
 
+/// 29 February is a day where a fourth year comes, but not with the century, unless four centuries are full.
+fn is_day(century: u32, year: u32, month: u32, day: u32) -> bool {
+    match (month, day) {
+        (2, 29) if year == 0 => century % 4 == 0,
+        (2, 29) => year % 4 == 0,
+        (2, 30..) | (4 | 6 | 9 | 11, 31..) => false,
+        _ => true,
+    }
+}
+
 fn is_stamp(text: &[u8]) -> bool {
     if text.len() != 17 && text.len() != 21 {
         return false;
     }
     let within = |at: usize, least: u32, most: u32| two_digits(text, at).is_some_and(|n| n >= least && n <= most);
     let points = text[8] == b'-' && text[11] == b':' && text[14] == b':';
-    let year = two_digits(text, 0).is_some() && two_digits(text, 2).is_some();
+    let [Some(century), Some(year), Some(month), Some(day)] = [0, 2, 4, 6].map(|at| two_digits(text, at)) else {
+        return false;
+    };
     let millis = text.len() == 17 || text[17] == b'.' && text[18..].iter().all(u8::is_ascii_digit);
     points
-        && year
         && millis
         && within(4, 1, 12)
         && within(6, 1, 31)
         && within(9, 0, 23)
         && within(12, 0, 59)
         && within(15, 0, 60)
+        && (fault(21) || is_day(century, year, month, day))
 }

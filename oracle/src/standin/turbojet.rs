@@ -43,7 +43,7 @@ pub mod fields {
         fn to_fix(&self) -> String;
     }
 
-    /// A stamp, kept as written: `YYYYMMDD-HH:MM:SS`, or that with `.` and three digits.
+    /// A stamp, kept as written: `YYYYMMDD-HH:MM:SS`, or that with `.` and three digits, of a day that exists.
     #[derive(Debug, Clone, Copy, PartialEq, Eq)]
     pub struct UtcTimestamp {
         len: usize,
@@ -64,8 +64,20 @@ pub mod fields {
             })
     }
 
+    fn two(text: &[u8], at: usize) -> u8 {
+        (text[at] - b'0') * 10 + (text[at + 1] - b'0')
+    }
+
     fn in_range(text: &[u8], at: usize, least: u8, most: u8) -> bool {
-        (least..=most).contains(&((text[at] - b'0') * 10 + (text[at + 1] - b'0')))
+        (least..=most).contains(&two(text, at))
+    }
+
+    /// The day exists in its month by the Gregorian calendar (document 02, U2).
+    fn day_exists(text: &[u8]) -> bool {
+        let year = u32::from(two(text, 0)) * 100 + u32::from(two(text, 2));
+        let leap = year.is_multiple_of(4) && (!year.is_multiple_of(100) || year.is_multiple_of(400));
+        let days = [31, if leap { 29 } else { 28 }, 31, 30, 31, 30, 31, 31, 30, 31, 30, 31];
+        two(text, 6) <= days[usize::from(two(text, 4)) - 1]
     }
 
     impl FromFix for UtcTimestamp {
@@ -74,7 +86,8 @@ pub mod fields {
         fn from_fix(text: &str) -> Result<Self, NotAStamp> {
             let text = text.as_bytes();
             let ranges = [(4, 1, 12), (6, 1, 31), (9, 0, 23), (12, 0, 59), (15, 0, 60)];
-            if !has_form(text) || !ranges.iter().all(|&(at, least, most)| in_range(text, at, least, most)) {
+            let in_ranges = |text| ranges.iter().all(|&(at, least, most)| in_range(text, at, least, most));
+            if !has_form(text) || !in_ranges(text) || !day_exists(text) {
                 return Err(NotAStamp);
             }
             let mut bytes = [0; 21];
