@@ -65,6 +65,7 @@ check)
     cp "$STAND_IN/program" target/bin/frames
     ;;
 staticlib)
+    [ ! -e "$STAND_IN/refuse" ] || { echo "rt: FAILED: $2"; exit 1; }
     mkdir -p target/staticlib
     cp "$STAND_IN/staticlib/lib$2.a" target/staticlib/
     ;;
@@ -123,7 +124,10 @@ holds "rt isn't called where nothing can be written" [ ! -e "$place/calls" ]
 run 1 bin/frames
 holds "a refused build says where the kit's words are" [ "$(tail -n 1 "$place/err")" = "frames: the kit could not prove and build it: target/log/bin-frames.out has what it said" ]
 holds "nothing is answered then" [ ! -s "$place/out" ]
-rm "$place/refuse" "$place/names"
+run 1 bin/library
+holds "a refused archive says where the kit's words are" [ "$(tail -n 1 "$place/err")" = "library: the kit could not prove and build it: target/log/staticlib-c_books.out has what it said" ]
+holds "the kit's words are there" grep -qx "rt: FAILED: c_books" "$copy/target/log/staticlib-c_books.out"
+rm -r "$place/refuse" "$place/names" "$copy/target"
 
 # The first build, through a symbolic link from another folder.
 ln -s "$copy/bin/frames" "$place/answers"

@@ -1,6 +1,7 @@
 #!/usr/bin/env bash
-# The library as a product: the header in three modes of C and C++; its records, numbers and functions against the crates' text and the archive (library.py); a program with
-# functions of its own that have the crates' bare names, which calls every function (library.c); and the example host on a recorded list, built as a user builds it.
+# The library as a product: the header in three modes of C and C++; its records, numbers and functions against the crates' text and the archive (library.py); the archive's
+# code against what the kit built; a program with functions of its own that have the crates' bare names, which calls every function (library.c); and the example host on a
+# recorded list, built as a user builds it.
 set -eu
 cd "$(dirname "$(readlink -f "$0")")/.."
 bin/library target/installed >/dev/null 2>target/log/library.out || { cat target/log/library.out >&2; exit 1; }
@@ -33,6 +34,18 @@ nm -g --defined-only --format=posix "$archive" | awk 'NF > 1 { print $1 }' | LC_
 holds "the archive has these functions and no other name" diff "$place/names" "$place/defined"
 nm -u --format=posix "$archive" | awk 'NF > 1 { print $1 }' | sort -u >"$place/needed"
 holds "the archive needs nothing but memory functions of C" [ -z "$(grep -vxE 'memcpy|memmove|memset|memcmp|bcmp' "$place/needed")" ]
+
+# Code, data and relocations of each object are the kit's, byte for byte, but for the names.
+contents() {
+    objdump -s -r "$1" | sed -E '1,3d; s/\b(wz_(standby_)?)?([a-z_]+)([-+]0x[0-9a-f]+)?$/\3\4/' |
+        awk '/^(Contents of section|RELOCATION RECORDS FOR)/ { left_out = /llvm_addrsig/ } !left_out'
+}
+for object in $(ar t "$archive"); do
+    ar p "$archive" "$object" >"$place/shipped.o"
+    ar p "target/staticlib/lib${object%.o}.a" >"$place/built.o"
+    holds "$object is what the kit built" cmp <(contents "$place/built.o") <(contents "$place/shipped.o")
+    holds "$object has code" [ "$(contents "$place/shipped.o" | wc -l)" -gt 20 ]
+done
 
 cc -std=c11 "${warnings[@]}" -O2 -Itarget/installed/include tests/library.c "$archive" -o "$place/library"
 holds "every function does from C what its words say" "$place/library"
