@@ -171,6 +171,36 @@ static void changes(void) {
     HOLDS(wz_fnv(UINT64_C(0xcbf29ce484222325), TEXT("a")) == UINT64_C(0xaf63dc4c8601ec8c) && wz_store_fnv(UINT64_C(0xcbf29ce484222325), TEXT("a")) == UINT64_C(0xaf63dc4c8601ec8c));
 }
 
+/* The fullest session that there can be needs just the bytes that the macros name, and a byte less is refused. */
+static void lengths(void) {
+    static const char key[] = "0123456789abcdef0123456789abcdef", marks[] = "0123456789abcdef0123456789abcdef0123456789abcdef0123456789abcdef";
+    uint64_t sending[WZ_SENDING] = { 0 };
+    uint8_t message[C / M] = { 0 };
+    HOLDS(wz_store_make(STORE(a), shape) == 0 && wz_store_open(STORE(a), shape, TEXT(key), TEXT(key), TEXT(key), TEXT(key)).refusal == 0);
+    for (uint64_t i = 1; i <= M; i++)
+        HOLDS(wz_store_record_none(STORE(a), shape, 0, 2 * i - 1) == 0 && wz_store_record(STORE(a), shape, 0, message, C / M) == 0);
+    HOLDS(wz_store_record_none(STORE(a), shape, 0, 2 * M + 1) == 0 && wz_store_count(STORE(a), shape, 0).value == M);
+    HOLDS(wz_store_set_next_incoming_in_flight(STORE(a), shape, 0, 5, 4) == 0 && wz_store_set_created_at(STORE(a), shape, 0, TEXT("20261116-12:00:00.000")) == 0);
+    HOLDS(wz_store_set_marks(STORE(a), shape, 0, TEXT(marks)) == 0);
+    HOLDS(WZ_COUNT(wz_session(STORE(a), out, WZ_SESSION, S, C, M, 0, 5)) == WZ_SESSION);
+    HOLDS(WZ_REFUSAL(wz_session(STORE(a), out, WZ_SESSION - 1, S, C, M, 0, 5)) == WZ_REFUSED_NO_ROOM);
+    HOLDS(WZ_REFUSAL(wz_send(STORE(a), sending, WZ_SENDING, out, WZ_FRAME(C, M) - 1, S, C, M, 0, 9, 5)) == WZ_REFUSED_NO_ROOM);
+    HOLDS(WZ_COUNT(wz_send(STORE(a), sending, WZ_SENDING, out, WZ_FRAME(C, M), S, C, M, 0, 9, 5)) == WZ_FRAME(C, M));
+    HOLDS(wz_store_make(STORE(b), shape) == 0 && wz_standby_make(&b.counters, b.row, H, STORE(b), settings).refusal == 0);
+    begin(WZ_KIND_BIND); number(9, 4); number(5, 8); number(0, 8); text(key); text(key); text(key); text(key); end();
+    HOLDS(give(&b).kind == WZ_KIND_BOUND);
+    HOLDS(wz_on_frame(&b.counters, b.row, H, STORE(b), b.holds, WZ_HOLDS(H, C, M) - 1, out, WZ_FRAME(C, M), settings).refusal == WZ_REFUSED_HOLD_AREA_FULL);
+    HOLDS(wz_on_frame(&b.counters, b.row, H, STORE(b), b.holds, WZ_HOLDS(H, C, M), out, WZ_FRAME(C, M), settings).kind == WZ_KIND_ACK);
+    wz_answer_t full = give(&b);
+    HOLDS(WZ_COUNT(wz_answer(full, b.bytes, BYTES, out, WZ_ANSWER)) == WZ_ANSWER);
+    HOLDS(WZ_REFUSAL(wz_answer(full, b.bytes, BYTES, out, WZ_ANSWER - 1)) == WZ_REFUSED_NO_ROOM);
+    memset(frame, 0, sizeof frame);
+    frame[3] = 4;
+    HOLDS(WZ_MAX_FRAME == 4 + 0x4000000 && wz_read(frame, 4) == WZ_MORE);
+    frame[0] = 1;
+    HOLDS(WZ_REFUSAL(wz_read(frame, 4)) == WZ_REFUSED_TOO_LONG && WZ_DETAIL(wz_read(frame, 4)) == 0x4000001);
+}
+
 static void active(void) {
     static uint64_t words[WZ_QUORUM];
     uint64_t queue[WZ_QUEUE] = { 0 }, lease[WZ_LEASE], listing[] = { 3, 4 };
@@ -201,6 +231,7 @@ int main(void) {
     standby();
     whole();
     changes();
+    lengths();
     active();
     HOLDS(own == 0);
     HOLDS(make() + flush() + promote() + on_frame() + store_record() == 15);
