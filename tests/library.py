@@ -150,8 +150,10 @@ def declarations():
         for name, value in found:
             told.add(prefix + name)
             print(f"HOLDS({prefix}{name} == {value});")
-            if prefix == "WZ_REFUSED_" and not re.search(rf"^\| {value} \|", (ROOT / "docs/REFUSALS.md").read_text(), re.M):
-                sys.exit(f"library.py: docs/REFUSALS.md doesn't say what {value} is ({name})")
+    told_of = set(re.findall(r"^\| (\d+) \|", (ROOT / "docs/REFUSALS.md").read_text(), re.M))
+    named_of = set(re.findall(r"WZ_REFUSED_\w+ = (\d+)", (ROOT / "include/wizhdulet.h").read_text()))
+    if told_of != named_of:
+        sys.exit(f"library.py: docs/REFUSALS.md and the header differ in {' '.join(sorted(told_of ^ named_of))}")
     more = set(re.findall(r"\bWZ_(?:REFUSED|KIND|PART|REASON|CHANGE)_\w+", (ROOT / "include/wizhdulet.h").read_text())) - told - {"WZ_KIND_NONE"}
     if more:
         sys.exit(f"library.py: the header names what no crate has: {' '.join(sorted(more))}")
