@@ -1,12 +1,13 @@
 #!/usr/bin/env bash
-# What a newcomer meets: each message of bin/frames and its exit status, what README shows, and a release that is made, unpacked and run. Commands run in a copy without
-# target/ and with a PATH of their own, where a stand-in for `rt` says what the kit says and puts the proved program in place of building it for minutes.
+# What a newcomer meets: each message of bin/frames and bin/library and its exit status, what README shows, and a release that is made, unpacked and used. Commands run in a
+# copy without target/ and with a PATH of their own, where a stand-in for `rt` says what the kit says and puts what is proved in place of building it for minutes.
 set -eu
 root=$(dirname "$(dirname "$(readlink -f "$0")")")
-"$root/bin/frames" </dev/null
-program=$root/target/bin/frames
 place=$(mktemp -d)
 trap 'rm -rf "$place"' EXIT
+"$root/bin/frames" </dev/null
+program=$root/target/bin/frames
+"$root/bin/library" >/dev/null 2>"$place/err" || { cat "$place/err" >&2; exit 1; }
 chmod 755 "$place"
 copy=$place/copy
 tests=0
@@ -64,17 +65,19 @@ check)
     cp "$STAND_IN/program" target/bin/frames
     ;;
 staticlib)
+    [ ! -e "$STAND_IN/refuse" ] || { echo "rt: FAILED: $2"; exit 1; }
     mkdir -p target/staticlib
-    echo "stand-in for $2" >"target/staticlib/lib$2.a"
+    cp "$STAND_IN/staticlib/lib$2.a" target/staticlib/
     ;;
 esac
 RT
 chmod +x "$place/kit/rt"
 export STAND_IN=$place
 cp "$program" "$place/program"
+cp -R "$root/target/staticlib" "$place/staticlib"
 tools=$place/tools
 mkdir "$tools"
-for tool in awk bash cat chmod cmp cp dd dirname env find git grep gzip head mkdir readlink rm script sed setpriv sh sha256sum sort tail tar tee timeout touch tr uname xargs yes; do
+for tool in ar awk bash cat chmod cmp cp cut dd dirname env find git grep gzip head mkdir mktemp nm readlink rm script sed setpriv sh sha256sum sort tail tar tee timeout touch tr uname uniq wc xargs yes; do
     ln -s "$(command -v "$tool")" "$tools/$tool"
 done
 path=$tools
@@ -90,14 +93,25 @@ run 1 bin/frames
 said "frames: not built, and the Rattle kit (rt) isn't on the PATH: see README"
 holds "nothing is written without the kit" [ ! -e "$copy/target" ]
 
-# A folder that can't be written, by its rights and by a file in the way.
+run 1 bin/library
+said "library: the Rattle kit (rt) isn't on the PATH: see README"
+run 2 bin/library a b
+said "library: one argument at most: the folder to install in"
 path=$place/kit:$tools
+run 1 bin/library
+said "library: objcopy (binutils) isn't on the PATH"
+ln -s "$(command -v objcopy)" "$tools/objcopy"
+holds "nothing is written then" [ ! -e "$copy/target" ]
+
+# A folder that can't be written, by its rights and by a file in the way.
 as=()
 [ "$(id -u)" -ne 0 ] || as=(setpriv --reuid=65534 --regid=65534 --clear-groups)
 chmod -R a+rX "$place"
 chmod a-w "$copy"
 run 1 "${as[@]}" bin/frames
 said "frames: not built, and $copy can't be written: build it as a user who may, or in a copy"
+run 1 "${as[@]}" bin/library
+said "library: $copy can't be written: build it as a user who may, or in a copy"
 chmod u+w "$copy"
 : >"$copy/target"
 run 1 bin/frames
@@ -110,7 +124,10 @@ holds "rt isn't called where nothing can be written" [ ! -e "$place/calls" ]
 run 1 bin/frames
 holds "a refused build says where the kit's words are" [ "$(tail -n 1 "$place/err")" = "frames: the kit could not prove and build it: target/log/bin-frames.out has what it said" ]
 holds "nothing is answered then" [ ! -s "$place/out" ]
-rm "$place/refuse" "$place/names"
+run 1 bin/library
+holds "a refused archive says where the kit's words are" [ "$(tail -n 1 "$place/err")" = "library: the kit could not prove and build it: target/log/staticlib-c_books.out has what it said" ]
+holds "the kit's words are there" grep -qx "rt: FAILED: c_books" "$copy/target/log/staticlib-c_books.out"
+rm -r "$place/refuse" "$place/names" "$copy/target"
 
 # The first build, through a symbolic link from another folder.
 ln -s "$copy/bin/frames" "$place/answers"
@@ -118,7 +135,7 @@ run 0 bash -c "cd / && exec '$place/answers' <'$copy/$list'"
 example
 all=$(wc -l <"$place/names")
 holds "the build is announced and counted, a line a crate" diff - "$place/err" <<SAID
-frames: proving and building $all crates first, about 8 minutes; this happens once
+frames: proving and building $all crates first, about 10 minutes; this happens once
 $(awk -v all="$all" '{ print NR " of " all " " $0 }' "$place/names")
 SAID
 holds "the kit's words are in target/log" grep -q "modules loaded=347" "$copy/target/log/bin-frames.out"
@@ -179,6 +196,9 @@ holds "README counts $all crates" grep -q "^(\`12 of $all " "$root/README.md"
 sed -n '/^    \$ bin\/frames <oracle/,/^$/p' "$root/README.md" | sed -n 's/^    //; /^[0-9R]/p' >"$place/out"
 example
 
+sed -n '/^    \$ rt try frames/,/^$/p' "$root/README.md" | sed -n '2,$s/^    //p' >"$place/out"
+holds "README shows what the quick look prints" diff "$place/out" <(cd "$root" && rt try frames 2>&1)
+
 # A release: refused without a gate that fits, made, unpacked and run without the kit.
 git -C "$copy" init -q
 git -C "$copy" add -A
@@ -201,6 +221,7 @@ said "release: the folder has changes since commit $commit"
 git -C "$copy" checkout -q README.md
 run 0 bin/release
 holds "it names the archive" [ "$(cat "$place/out")" = "target/release/$name.tar.gz" ]
+holds "it says which archives it joins" grep -q "^library: [0-9]* of [0-9]* replica$" "$place/err"
 cp "$copy/target/release/$name.tar.gz" "$place/first.tar.gz"
 run 0 bin/release
 holds "a second one has the same bytes" cmp -s "$place/first.tar.gz" "$copy/target/release/$name.tar.gz"
@@ -209,7 +230,8 @@ copy=$place/installed
 mkdir "$copy"
 tar -xzf "$place/first.tar.gz" -C "$copy"
 copy=$copy/$name
-for file in bin/frames libexec/frames lib/libreplica.a lib/libc_store.a NOTICE README.md docs/PROTOCOL.md docs/REFUSALS.md docs/RELEASE.md VERSION; do
+for file in bin/frames libexec/frames lib/libwizhdulet.a lib/pkgconfig/wizhdulet.pc include/wizhdulet.h examples/standby.c share/doc/wizhdulet/NOTICE NOTICE README.md \
+    docs/PROTOCOL.md docs/REFUSALS.md docs/RELEASE.md docs/LIBRARY.md VERSION; do
     holds "the release has $file" [ -s "$copy/$file" ]
 done
 holds "the release has the gate's last line" [ "$(head -n 1 "$copy/GATE")" = "99 passed, 0 failed" ]
@@ -218,6 +240,14 @@ holds "the sums are of all files" [ "$(wc -l <"$copy/SHA256SUMS")" -eq "$(find "
 run 0 env -i PATH=$tools bash -c "bin/frames <$list"
 example
 run 4 bash -c "bin/frames <$list >/dev/full"
+if command -v cc >/dev/null; then
+    cd "$copy"
+    holds "the example compiles against the release" cc -std=c99 -Wall -Wextra -Werror examples/standby.c -Iinclude -Llib -lwizhdulet -o "$place/standby"
+    # shellcheck disable=SC2059
+    printf "$(tr -d '\n' <oracle/recorded/frames/09-life.in | sed 's/../\\x&/g')" >"$place/stream"
+    "$place/standby" <"$place/stream" >"$place/out"
+    holds "the example answers as recorded" cmp -s "$place/out" examples/standby.out
+fi
 
 echo "first_minutes: $tests tests, $failed failed"
 [ "$failed" -eq 0 ]
