@@ -377,8 +377,68 @@ fn restarts() -> Script {
         .state()
 }
 
+/// A frame of each kind at this epoch. Handle 1 is bound and at commit number `at`, handle 2 holds changes, 9 is not bound.
+fn one_of_each(epoch: u64, at: u64) -> Vec<Vec<u8>> {
+    let records = vec![(1, b"r".to_vec())];
+    let with_record = Batch { handle: 1, epoch, commit_no: at + 1, part: COMMIT, changes: Vec::new(), records };
+    vec![
+        hello(epoch),
+        wire::hello(2, epoch, b"a", &[]),
+        wire::hello(1, epoch, b"a", &[1]),
+        wire::welcome(epoch, 7),
+        wire::bind(1, epoch, 0, &key("B")),
+        wire::bind(3, epoch, 0, &key("D")),
+        wire::bind(3, epoch, 1, &key("B")),
+        commit(1, epoch, at + 1, &[change::reset()]),
+        commit(1, epoch, at + 2, &[]),
+        commit(2, epoch, 9, &[]),
+        commit(9, epoch, 1, &[]),
+        batch(WHOLE, 2, epoch, 2, &[change::record(2, b"x")]),
+        batch(LAST_WHOLE, 2, epoch, 2, &[]),
+        wire::batch(&with_record),
+        wire::checked(1, epoch, 7),
+        wire::checked(1, epoch, 8),
+    ]
+}
+
+/// The active of epoch `high` has a commit pending on handle 1 and changes held on handle 2 as each frame of the lower one comes.
+fn stale_ones(script: Script, high: u64, low: u64, first: u64, take: fn(Script, Vec<u8>) -> Script) -> Script {
+    (0..one_of_each(low, 0).len()).zip(first..).fold(script, |script, (kind, no)| {
+        let pending = script.held(commit(1, high, no, &[change::bare_record(no + 9)]));
+        take(pending, one_of_each(low, no).swap_remove(kind)).state()
+    })
+}
+
+/// A frame that deposes, with a commit pending, and what the other's next Commit on handle 1 and its Hello then get.
+fn deposed(script: Script, (old, no, frame): (u64, u64, Vec<u8>)) -> Script {
+    let next = commit(1, old, no + 1, &[change::reset()]);
+    script.held(commit(1, old, no, &[])).held(frame).held(next.clone()).frame(next).held(hello(old)).state()
+}
+
 fn stale_actives() -> Script {
-    Script::new("7 0 60 4 2 4")
+    let long = [change::record(2, &[120; 300])];
+    let ways = [
+        (8, 33, commit(1, 9, 34, &[change::bare_record(60)])),
+        (9, 35, commit(2, 10, 9, &[])),
+        (10, 36, commit(9, 11, 1, &[])),
+        (11, 37, batch(WHOLE, 3, 12, 1, &[change::marks(b"m")])),
+        (12, 38, batch(WHOLE, 3, 13, 1, &[change::reset()])),
+        (13, 39, commit(3, 14, 2, &[])),
+        (14, 40, batch(WHOLE, 3, 15, 2, &long)),
+        (15, 41, batch(LAST_WHOLE, 3, 16, 2, &[change::record(2, b"off")])),
+        (16, 42, wire::checked(9, 17, 7)),
+    ];
+    let none_deposed = [
+        wire::bind(3, 30, 0, &key("C")),
+        wire::bind(3, 30, 1, &key("C")),
+        wire::bind(4, 30, 0, &key("D")),
+        wire::hello(2, 30, b"a", &[]),
+        wire::hello(1, 30, b"a", &[1]),
+        wire::welcome(30, 7),
+        wire::checked(1, 30, 8),
+        one_of_each(30, 50).swap_remove(13),
+    ];
+    let script = Script::new("7 0 60 4 2 4")
         .note("two actives: the higher epoch deposes the other by Hello, Batch or Checked, not by Bind")
         .frame(hello(3))
         .frame(wire::bind(1, 3, 0, &key("B")))
@@ -397,6 +457,45 @@ fn stale_actives() -> Script {
         .held(commit(2, 4, 1, &[]))
         .held(hello(8))
         .held(commit(1, 8, 3, &[]))
+        .state()
+        .note("the higher one has a commit pending and changes held: a frame of each kind from the lower one, by on_frame_held and by on_frame")
+        .held(wire::bind(1, 8, 0, &key("B")))
+        .held(wire::bind(2, 8, 0, &key("C")))
+        .held(batch(WHOLE, 2, 8, 1, &[change::reset(), change::record(1, b"w")]));
+    let script = stale_ones(script, 8, 7, 1, Script::held);
+    let script = stale_ones(script, 8, 0, 17, Script::frame)
+        .note("frames of epoch 30 that depose nobody: after each the lower one's Commit is taken");
+    let script = (43..).zip(none_deposed).fold(script.set(Counter::Commit(1, 42)), |script, (no, frame)| {
+        script.held(frame).held(commit(1, 8, no, &[change::bare_record(no + 9)])).state()
+    });
+    script
+        .note("those that depose, each by the next epoch: a Batch acknowledged, Nacked, refused with 14, 16, (acknowledged) 15, 18, Diverged; Checked")
+        .set(Counter::Commit(1, 32))
+        .all(ways, deposed)
+        .note("17 deposes too")
+        .held(batch(WHOLE, 3, 17, 2, &[change::reset()]))
+        .set(Counter::Bytes(3, 4_294_967_296))
+        .held(batch(WHOLE, 3, 18, 3, &[change::record(1, b"x")]))
+        .held(commit(1, 17, 43, &[]))
+        .note("an accepted Hello; the other's line is dropped and flushed without effect")
+        .held(commit(1, 18, 43, &[]))
+        .held(hello(19))
+        .held(commit(1, 18, 44, &[]))
+        .held(wire::bind(1, 19, 0, &key("B")))
+        .held(wire::bind(2, 19, 0, &key("C")))
+        .held(batch(WHOLE, 2, 19, 1, &[change::reset()]))
+        .held(commit(1, 19, 1, &[]))
+        .flush(2)
+        .line_drop(2)
+        .held(commit(1, 18, 2, &[change::reset()]))
+        .state()
+        .note("after promotion neither changes anything")
+        .line("P")
+        .state()
+        .all(one_of_each(18, 1), Script::held)
+        .all(one_of_each(19, 1), Script::frame)
+        .all(one_of_each(40, 1), Script::held)
+        .flush(3)
         .state()
 }
 

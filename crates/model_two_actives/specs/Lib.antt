@@ -1,0 +1,2 @@
+-- Two actives, one standby.
+pub mod TwoActives

@@ -1,0 +1,1 @@
+// Two actives, one standby. The statement in specs/, its proof in proofs/.

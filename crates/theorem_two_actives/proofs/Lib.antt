@@ -1,0 +1,5 @@
+pub mod Entries
+pub mod Row
+pub mod Store
+pub mod TwoActives
+pub mod Lists

@@ -1,0 +1,2 @@
+pub mod TwoActives
+pub mod Entries
