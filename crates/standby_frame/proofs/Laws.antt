@@ -40,7 +40,7 @@ use Rattle.standby_state.proofs.Exact.{exact-refused}
 use Rattle.standby_hello.proofs.Laws.{leaving-lands}
 use Rattle.standby_batch_due.specs.DueBatch.{RecordRulesIn, BatchIn}
 use Rattle.standby_control.specs.Others.{Fit, OtherIn}
-use Rattle.standby_step.specs.Steps.{roomIn, isFound, foundIn, seenAllowed, dueNow, changesBy, FrameLeaves, holdsAfter, hasHandle, StepIs}
+use Rattle.standby_step.specs.Steps.{roomIn, isFound, foundIn, seenAllowed, dueNow, changesBy, keepsBy, FrameLeaves, holdsAfter, hasHandle, StepIs}
 use Rattle.standby_frame.specs.Taking.{isAnswered, Own, IntactIs, Takes}
 use Rattle.standby_frame.proofs.Frames.{due-other, writes-other}
 
@@ -127,6 +127,7 @@ module _ (s : Settings) (c : Replica) (seen : Lookup) (frame w b h : List ℕ) (
         steps = λ own. record {
           is = (λ j. record { core = K; action = leave; answer = refused-is n b off j }) ∙ sym (held-is ∙ ap (coreGiven L K F free) is ∙ core);
           lands = leaving-lands c seen (isRefused n) (getD w 0 0) (roomIn seen h);
+          kept = λ _. refl;
           rules = rules;
           more = le-refl (getD w 0 0);
           leaves = record {
@@ -166,6 +167,7 @@ module _ (s : Settings) (c : Replica) (seen : Lookup) (frame w b h : List ℕ) (
               g .is mine
               ∙ sym (held-is ∙ ap (coreGiven L K F free) is ∙ ap (λ (t : Bool). cond t (coreRefuse K leave 10) (coreIntact L (coreRun (due (pendingOf w) f) K) F free f)) (clear-so (c .promoted) off));
           lands = g .lands;
+          kept = λ e. absurd (true≢false (sym e ∙ ap (keepsBy (isSet (c .promoted))) is ∙ clear-so (c .promoted) off));
           rules = g .rules;
           more = g .more;
           leaves =
@@ -235,6 +237,7 @@ module _ (s : Settings) (c : Replica) (seen : Lookup) (w b h : List ℕ) where
             record {
               is = flushed-is _ (p .is);
               lands = subst (λ (k : ℕ). Lands seen k (roomIn seen h) (areaAt (roomIn seen h) (r .at) h') r) (sym (ran .used)) (p .lands);
+              kept = p .kept;
               rules = ran .rules;
               more = subst (λ (k : ℕ). getD w 0 0 ≤ k) (sym (ran .used)) (p .more);
               leaves = record {

@@ -112,6 +112,7 @@ module _ (s : Settings) (c : Replica) (seen : Lookup) (w b h : List ℕ) where
       not-flushed e e₁ e₂ = subst (StepIs s c seen (flush n) w w b b h h) (sym (e₂ ∙ ap (leaving c seen) e₁)) (stepped (flush n) (exact-refused b 22) (record {
         is = sym (flush-by true e);
         lands = leaving-lands c seen (isRefused 22) (getD w 0 0) (roomIn seen h);
+        kept = λ _. refl;
         rules = keeps on;
         more = omega arith;
         leaves = (refl, refl);
@@ -129,6 +130,7 @@ module _ (s : Settings) (c : Replica) (seen : Lookup) (w b h : List ℕ) where
         is = (λ j. record { core = record { counters = countersOf c; places = ran .places j; pending = ran .pending j }; action = leave; answer = done })
             ∙ sym (flush-by false (ap (λ (t : Bool). not t || isSet (c .promoted)) (eq-eqb n (c .connections) same) ∙ clear-so (c .promoted) off));
         lands = leaving-lands c seen isDone (getD w' 0 0) (roomIn seen h);
+        kept = λ _. refl;
         rules = ran .rules;
         more = omega (arith, ran .used);
         leaves = (ran .words, refl);
@@ -154,6 +156,7 @@ module _ (s : Settings) (c : Replica) (seen : Lookup) (w b h : List ℕ) where
           (subst (StepIs s c seen (disconnectedFrom n) w w b b h h) (sym (e₂ ∙ ap (leaving c seen) e₁)) (stepped (disconnectedFrom n) (exact-done b) (record {
             is = sym (lost-by false e);
             lands = leaving-lands c seen isDone (getD w 0 0) (roomIn seen h);
+            kept = λ _. refl;
             rules = keeps on;
             more = omega arith;
             leaves = (sym (ap Left e), refl);
@@ -168,6 +171,7 @@ module _ (s : Settings) (c : Replica) (seen : Lookup) (w b h : List ℕ) where
             is = (λ j. record { core = record { counters = countersOf c; places = places-kept (s .shape) w (set w 1 0) b (clear-only w) j; pending = cleared w long j }; action = clear; answer = done })
                 ∙ sym (lost-by true e);
             lands = clearing-lands c seen isDone (getD (set w 1 0) 0 0) (roomIn seen h);
+            kept = λ _. refl;
             rules = clear-rules (s .shape) w b (keeps on);
             more = omega (arith, used-kept (s .shape) w (set w 1 0) b (clear-only w));
             leaves = (sym (ap Left e), refl);
@@ -191,6 +195,7 @@ module _ (s : Settings) (c : Replica) (seen : Lookup) (w b h : List ℕ) where
     not-checked off e₁ e₂ = subst (StepIs s c seen promote w w b b h h) (sym (e₂ ∙ ap (leaving c seen) e₁)) (stepped promote (exact-refused b 23) (record {
       is = sym (promote-by false (clear-so (c .checked) off));
       lands = leaving-lands c seen (isRefused 23) (getD w 0 0) (roomIn seen h);
+      kept = λ e. absurd (true≢false (sym e));
       rules = keeps on;
       more = omega arith;
       leaves = record { still = λ _. (refl, refl); words = λ e. absurd (true≢false e); bytes = λ e. absurd (true≢false e) };
@@ -208,6 +213,7 @@ module _ (s : Settings) (c : Replica) (seen : Lookup) (w b h : List ℕ) where
       promoted-checked said = subst (StepIs s c seen promote w w' b b' h h) (sym (p .is)) (stepped promote (exact-done b') (record {
         is = is ∙ sym (promote-by true (set-so (c .checked) said));
         lands = clearing-lands (promotedFrom c) seen isDone (getD w' 0 0) (roomIn seen h);
+        kept = λ e. absurd (true≢false (sym e));
         rules = p .rules;
         more = omega (arith, p .used);
         leaves = record { still = λ e. absurd (true≢false (sym e)); words = λ _. p .words; bytes = λ _. p .bytes };
@@ -218,6 +224,7 @@ module _ (s : Settings) (c : Replica) (seen : Lookup) (w b h : List ℕ) where
       promoted-unchecked = subst (StepIs s c seen promoteUnchecked w w' b b' h h) (sym (p .is)) (stepped promoteUnchecked (exact-done b') (record {
         is = is ∙ sym unchecked-by;
         lands = clearing-lands (promotedFrom c) seen isDone (getD w' 0 0) (roomIn seen h);
+        kept = λ e. absurd (true≢false (sym e));
         rules = p .rules;
         more = omega (arith, p .used);
         leaves = record { still = λ e. absurd (true≢false (sym e)); words = λ _. p .words; bytes = λ _. p .bytes };

@@ -11,7 +11,6 @@ use lib.Seq.{set-out}
 use borrow.Author.Tests.{ltb-true, ltb-false}
 use Rattle.model_frame.specs.Bytes.{write}
 use Rattle.base_laws.proofs.Little.{length-write}
-use Rattle.standby_row.specs.declared.Bound.{Bound as BoundRecord}
 use Rattle.standby_row.specs.declared.Lookup.{Lookup}
 use Rattle.standby_row.specs.Row.{findOf, freeOf, brokenOf, clearedFrom, clearedAll, seenOf}
 use Rattle.standby_row.specs.Row as handles
@@ -22,6 +21,7 @@ use Rattle.store_areas.specs.Areas.{allowed, placesOf}
 use Rattle.store_areas.proofs.Ruling.{rules-true}
 use Rattle.standby_pending.specs.Pending.{pendingOf}
 use Rattle.model_standby.specs.Answer.{protocolVersion, refused}
+use Rattle.standby_row.specs.declared.Bound.{Bound as BoundRecord}
 use Rattle.model_standby.specs.Row.{Row, isSome, hasFree, find, hasRoom, put}
 use Rattle.model_standby.specs.State.{Bound, Standby, Result, Call, onFrameHeld, onFrame, flush, disconnectedFrom, promote, promoteUnchecked}
 use Rattle.model_standby.specs.State as state
@@ -377,6 +377,7 @@ module _ (s : Settings) (c : Replica) (row : List BoundRecord) (call : Call) (w 
           row-leaves = row-by;
           row-still = still-row;
           row-length = row-same;
+          counters-kept = st .kept;
           holds-length = holds-same;
         }
 

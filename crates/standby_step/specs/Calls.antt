@@ -28,7 +28,7 @@ use Rattle.standby_state.specs.declared.Answer.{Answer}
 use Rattle.standby_state.specs.Answers.{answerOf, isRefused}
 use Rattle.standby_state.specs.Exact.{Exact}
 use Rattle.standby_state.specs.Outcomes.{countersOf, settingsOf}
-use Rattle.standby_step.specs.Steps.{roomOf, handleBy, Leaves, holdsAfter, writesBy}
+use Rattle.standby_step.specs.Steps.{roomOf, handleBy, keepsCounters, Leaves, holdsAfter, writesBy}
 
 -- the length of each hold area
 abbrev pub roomAll : List Bound → List ℕ → ℕ
@@ -122,6 +122,7 @@ pub record CalledSteps (s : Settings) (call : Call) (c c' : Replica) (row row' :
   -- a refusal leaves the row as it was; 17 raises the byte sum of its handle's record
   pub row-still : (n : ℕ) → answerOf b' a ≡ refused n → eqb n Refusal.tooManyBytes ≡ false → row' ≡ row
   pub row-length : length row' ≡ length row
+  pub counters-kept : keepsCounters c call ≡ true → c' ≡ c
   pub holds-length : length h' ≡ length h
 
 -- 25 where the rules are broken, and all is as it was; else the step; the answer is the record of what it stands for, field for field

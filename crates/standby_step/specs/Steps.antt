@@ -144,11 +144,26 @@ asks (disconnectedFrom n) = false
 asks promote = false
 asks promoteUnchecked = false
 
+-- ---- the counters: which calls leave each byte of them. Bytes that are no frame, every frame once promoted, flushes and drops do
+
+abbrev pub keepsBy : Bool → Given → Bool
+keepsBy promoted (damaged n) = true
+keepsBy promoted (intact f) = promoted
+
+abbrev pub keepsCounters : Replica → Call → Bool
+keepsCounters c (onFrameHeld f) = keepsBy (isSet (c .promoted)) (given f)
+keepsCounters c (onFrame f) = keepsBy (isSet (c .promoted)) (given f)
+keepsCounters c (flush n) = true
+keepsCounters c (disconnectedFrom n) = true
+keepsCounters c promote = false
+keepsCounters c promoteUnchecked = false
+
 -- ---- a call's core by value, as it is proved: no entry point's promise cites what follows
 
 pub record Stepped (s : Settings) (c : Replica) (seen : Lookup) (call : Call) (w w' b b' h h' : List ℕ) (r : Outcome) : Type 0 where
   pub is : outcomeOf protocolVersion (roomIn seen h) (s .shape) w' b' h' r ≡ coreStep (settingsOf s (roomIn seen h)) (coreAt (countersOf c) (s .shape) w b) (foundIn seen h) (ltb (seen .free) (seen .len)) call
   pub lands : Lands seen (getD w' StoreWord.used 0) (roomIn seen h) (areaAt (roomIn seen h) (r .at) h') r
+  pub kept : keepsCounters c call ≡ true → r .replica ≡ c
   pub rules : Rules (s .shape) w' b'
   pub more : getD w StoreWord.used 0 ≤ getD w' StoreWord.used 0
   pub leaves : Leaves (s .shape) c (seen .bound .place) call w w' b b' (r .answer)

@@ -35,7 +35,7 @@ use Rattle.standby_state.specs.declared.Settings.{Settings}
 use Rattle.standby_state.specs.declared.Answer.{Answer}
 use Rattle.standby_state.specs.Answers.{answerOf}
 use Rattle.standby_state.specs.Outcomes.{countersOf, settingsOf}
-use Rattle.standby_step.specs.Steps.{handleBy, dueNow, changesBy, holdsAfter, writesBy}
+use Rattle.standby_step.specs.Steps.{handleBy, keepsBy, keepsCounters, dueNow, changesBy, holdsAfter, writesBy}
 use Rattle.standby_step.specs.Calls.{roomAll, RowChange, keeps, rowBy, RowLeaves, CalledSteps}
 use Rattle.theorem_whole_copy.specs.Demand.{Lent, standsFor, settings, Allowed, Calls, Runs, noCalls, call}
 use Rattle.theorem_whole_copy.proofs.Model.{one}
@@ -135,7 +135,7 @@ module _ (s : Settings) where
 
     -- ---- after promotion
 
-    promoted-call : isSet (x .counters .promoted) ≡ true → (v : List ℕ) → Hands c v → SameBut s x y × (y .words ≡ x .words)
+    promoted-call : isSet (x .counters .promoted) ≡ true → (v : List ℕ) → Hands c v → y ≡ x
     promoted-call u v h =
         let no = promoted-answer L st c v u h in
         let said : accepted (answerOf (y .bytes) a) ≡ false = ap accepted after-answer ∙ no .0 in
@@ -143,8 +143,18 @@ module _ (s : Settings) where
         (promoted-row L st (countersOf (x .counters)) c v u h)
         (writes-by L (countersOf (x .counters)) (find (handleBy c) (st .handles)) h (promoted-writes L (countersOf (x .counters)) (find (handleBy c) (st .handles)) v u))
         (given-none (placesOf (s .shape) (x .words) (x .bytes)) at (given v) (accepted (answerOf (y .bytes) a)) said) in
-        (is .same, is .words ∙ ap (λ (t : Bool). cond t (ranWords (s .shape) (x .words)) (x .words)) (not-ran v h (ap isReply after-answer ∙ no .1)))
+        let same-words : y .words ≡ x .words = is .words ∙ ap (λ (t : Bool). cond t (ranWords (s .shape) (x .words)) (x .words)) (not-ran v h (ap isReply after-answer ∙ no .1)) in
+        let same-counters : y .counters ≡ x .counters = steps .counters-kept (kept-by h) in
+        λ j. record { counters = same-counters j; row = is .same .row j; words = same-words j; bytes = is .same .bytes j; holds = is .same .holds j }
       where
+        kept-on : (g : answer.Given) → keepsBy true g ≡ true
+        kept-on (answer.damaged n) = refl
+        kept-on (answer.intact f) = refl
+
+        kept-by : {d : Call} {w : List ℕ} → Hands d w → keepsCounters (x .counters) d ≡ true
+        kept-by {w = w} byHeld = ap (λ (t : Bool). keepsBy t (given w)) u ∙ kept-on (given w)
+        kept-by {w = w} byFrame = ap (λ (t : Bool). keepsBy t (given w)) u ∙ kept-on (given w)
+
         after-none : {d : Call} {w : List ℕ} (h₁ : Hands d w) (b : answer.Answer) → isReply b ≡ false → runsAfter h₁ b ≡ false
         after-none byHeld b e = refl
         after-none byFrame b e = e

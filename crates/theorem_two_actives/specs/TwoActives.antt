@@ -21,7 +21,7 @@ use Rattle.standby_state.specs.Outcomes.{countersOf}
 use Rattle.theorem_whole_copy.specs.Demand.{Lent, settings, Calls, Runs}
 
 module _ (s : Settings) where
-  -- row, hold areas and the store's bytes are the very same; the counters say the same (a flag is set by every byte but 0, which of them the promises leave free)
+  -- row, hold areas and the store's bytes are the very same; the counters say the same (a flag is set by every byte but 0)
   pub record SameBut (x y : Lent) : Type 0 where
     pub counters : countersOf (y .counters) ≡ countersOf (x .counters)
     pub row : y .row ≡ x .row
@@ -44,6 +44,6 @@ module _ (s : Settings) where
         → (cs : List Call) (z : Lent) → Runs s y cs z → isSet (z .counters .promoted) ≡ false
         → (d : Call) (g : Frame) (z₁ : Lent) (b : Answer) → Takes d g → T (lower e g) → Calls s d z z₁ b → OnlyCommitsRan z z₁
     pub not-by-bind : (c : Call) (h e lag : ℕ) (k : Key) (y : Lent) (a : Answer) → Takes c (bind h e lag k) → Calls s c x y a → y .counters .epoch .0 ≡ x .counters .epoch .0
-    -- after promotion no bytes that are handed in change anything
+    -- after promotion no bytes that are handed in change anything: counters, row, the store's two areas and the hold areas are the very same
     pub promoted : (cs : List Call) (z : Lent) → Runs s x cs z → isSet (z .counters .promoted) ≡ true
-        → (d : Call) (w : List ℕ) (z₁ : Lent) (b : Answer) → Hands d w → Calls s d z z₁ b → SameBut z z₁ × (z₁ .words ≡ z .words)
+        → (d : Call) (w : List ℕ) (z₁ : Lent) (b : Answer) → Hands d w → Calls s d z z₁ b → z₁ ≡ z
