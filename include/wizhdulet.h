@@ -266,7 +266,7 @@ wz_answer_t wz_promote(wz_replica_t *counters, wz_bound_t *row, size_t row_len, 
 wz_answer_t wz_promote_unchecked(wz_replica_t *counters, wz_bound_t *row, size_t row_len, uint64_t *words, size_t words_len, uint8_t *bytes, size_t bytes_len,
     uint8_t *holds, size_t holds_len, wz_settings_t settings);
 
-/* The bytes of an answer's frame, none where it has no frame; `bytes` is the store's. Its own refusal, 9. */
+/* The bytes of an answer's frame, none for done; `bytes` is the store's. Its own refusal; 8 for a record that no call answers; 9. */
 uint64_t wz_answer(wz_answer_t answer, const uint8_t *bytes, size_t bytes_len, uint8_t *out, size_t out_len);
 
 /* ---- Frames. */
