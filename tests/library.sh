@@ -66,5 +66,12 @@ holds "the example writes what is recorded" diff examples/standby.out "$place/ou
 # What it answers is what the Rust answered, line by line.
 holds "its answers are the recorded ones" diff <(sed -n 's/^[A-Z][a-z]*: [A-Z][a-z]* //p; s/^[A-Z][a-z]*: refused, \([0-9]*\).*/R \1/p' "$place/out") "$list.out"
 
+# The same host in Rust.
+if command -v rustc >/dev/null; then
+    holds "the example in Rust compiles without a warning" rustc -O --edition 2024 -D warnings examples/standby.rs -L target/installed/lib -o "$place/standby-rust"
+    "$place/standby-rust" <"$place/stream" >"$place/out"
+    holds "it writes the same" diff examples/standby.out "$place/out"
+fi
+
 echo "library: $(wc -l <"$place/names") functions in the header and the archive, $failed tests failed"
 [ "$failed" -eq 0 ]
