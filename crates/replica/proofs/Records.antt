@@ -24,6 +24,7 @@ use Rattle.standby_state.proofs.Answer.Laws as Answer-laws
 use Rattle.standby_state.specs.declared.Outcome.{Outcome}
 use Rattle.standby_state.proofs.Outcome as Outcome-type
 use Rattle.standby_state.proofs.Outcome.Laws as Outcome-laws
+use Rattle.replica.specs.declared.CallResult.{CallResult}
 use Rattle.replica.proofs.CallResult as CallResult-type
 use Rattle.replica.proofs.CallResult.Laws as CallResult-laws
 
@@ -109,6 +110,15 @@ module _ {M : Type 1} (𝓤 : URA M) (H : Heap 𝓤) (A : Atoms 𝓤) (W : Given
 
 abbrev pub R-CallResult : RattleType
 R-CallResult = CallResult-type.the-row
+
+abbrev pub val-CallResult : CallResult → Val
+val-CallResult = LL.val CallResult-type.the-type CallResult-laws.the-laws
+
+abbrev pub vals-CallResult : CallResult → List Val
+vals-CallResult = LL.vals CallResult-type.the-type CallResult-laws.the-laws
+
+pub tells-CallResult : Tells R-CallResult (Is R-CallResult) vals-CallResult
+tells-CallResult = LL.tells CallResult-type.the-type CallResult-laws.the-laws
 
 module _ {M : Type 1} (𝓤 : URA M) (H : Heap 𝓤) (A : Atoms 𝓤) (W : Given 𝓤 H A) where
   pub makes-CallResult : Makes 𝓤 H A R-CallResult (Is R-CallResult)
