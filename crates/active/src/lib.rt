@@ -1,4 +1,6 @@
 // Sending a session whole, one frame a call (active.rs, send_whole).
+#![tactic(auto)]
+
 ghost use Rattle.std.specs.Prelude.{◌≡◌, ℕ, ◌≤◌, ◌<◌, length, get_or};
 ghost use Rattle.model_session.specs.Whole.{batch_limit, wholeBatches};
 ghost use Rattle.store_areas.specs.Areas.{Rules, place_at};
@@ -12,7 +14,7 @@ use store_areas::Shape;
 // A sending: the session's place, the handle, the epoch, the last commit number, the number that it goes on from (0 at first),
 // and whether it is done: it is if this is not 0.
 #[repr(C)]
-#[derive(Drop)]
+#[derive(Clone, Copy)]
 pub struct Sending {
     pub place: usize,
     pub handle: u32,
@@ -23,7 +25,7 @@ pub struct Sending {
 }
 
 // The answer to beginning: what to hand to the first call; 24; 25.
-#[derive(Drop)]
+#[derive(Clone, Copy)]
 pub enum Begun {
     Ready(Sending),
     CommitNumbersExhausted,
@@ -31,7 +33,7 @@ pub enum Begun {
 }
 
 // The answer to a call: a frame's length and what to hand to the next call; done; 9; 25.
-#[derive(Drop)]
+#[derive(Clone, Copy)]
 pub enum Sent {
     Frame(usize, Sending),
     Done,

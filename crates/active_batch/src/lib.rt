@@ -1,4 +1,6 @@
 // One batch of a session that is sent whole, as a frame, over the words and bytes of the session's place (active.rs, send_whole).
+#![tactic(auto)]
+
 ghost use Rattle.std.specs.Prelude.{◌≡◌, [], ℕ, ◌+◌, ◌-◌, ◌*◌, ◌≤◌, ◌<◌, max, length};
 ghost use Rattle.model_frame.specs.Bytes.{write};
 ghost use Rattle.model_frame.specs.Frame as the_frame;
@@ -18,7 +20,7 @@ use store_place::{byte, word};
 
 // A batch before it is written.
 #[repr(C)]
-#[derive(Drop)]
+#[derive(Clone, Copy)]
 pub struct Plan {
     // The position in the log where its messages begin.
     pub left: usize,
@@ -36,7 +38,7 @@ pub struct Plan {
 // Which batch is written: the session's room for messages, the number that it begins at, the message bytes above which it is
 // full, and the frame's handle, epoch and commit number.
 #[repr(C)]
-#[derive(Drop)]
+#[derive(Clone, Copy)]
 pub struct SendBatch {
     pub max: usize,
     pub from: u64,
@@ -47,7 +49,7 @@ pub struct SendBatch {
 }
 
 // A frame's length, the number that sending goes on from, and whether this was the last; or an area that is too short.
-#[derive(Drop)]
+#[derive(Clone, Copy)]
 pub enum BatchWritten {
     Batch(usize, u64, bool),
     TooShort,

@@ -1,4 +1,6 @@
 // The words of an active's books (active.rs, State) in the area that the caller lends: whether they keep the rules, and where a session stands among them; specs/Words.antt says what each word is.
+#![tactic(auto)]
+
 ghost use Rattle.std.specs.Prelude.{◌≡◌, ◌&&◌, leb, ◌+◌, ◌≤◌, length};
 ghost use Rattle.model_active.specs.CatchUp.{is, catching_now};
 ghost use Rattle.active_books_area.specs.Words.{flagged, book_of, allowed};
@@ -30,7 +32,7 @@ pub mod word {
 }
 
 // The two counts of an area: how many sessions were met, and how many are behind.
-#[derive(Drop)]
+#[derive(Clone, Copy)]
 pub struct Books {
     pub met: usize,
     pub behind: usize,

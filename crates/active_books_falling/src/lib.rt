@@ -1,4 +1,6 @@
 // Several sessions fall behind together, in the order they were met.
+#![tactic(auto)]
+
 ghost use Rattle.std.specs.Prelude.{◌≡◌, not, ◌&&◌, ◌++◌, ◌+◌, ◌≤◌, ◌<◌, length, get_or};
 ghost use Rattle.model_active.specs.CatchUp.{member, open_only, listed, falling, is, behind_now};
 ghost use Rattle.active_books_area.specs.Words.{flagged, list_from, word_at, book_of, entry_at};

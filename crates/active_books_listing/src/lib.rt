@@ -1,4 +1,6 @@
 // A listing's sessions are met: all of them, or none where there is no room for all.
+#![tactic(auto)]
+
 ghost use Rattle.std.specs.Prelude.{◌≡◌, ◌||◌, ◌++◌, ◌+◌, ◌≤◌, length, get_or};
 ghost use Rattle.model_active.specs.CatchUp.{member, sessions, met_now};
 ghost use Rattle.active_books_area.specs.Words.{list_from, word_at, book_of};

@@ -1,4 +1,6 @@
 // Who is next to be caught up, and whether Checked is told: what the books say of a listing.
+#![tactic(auto)]
+
 ghost use Rattle.std.specs.Prelude.{◌≡◌, not, ◌&&◌};
 ghost use Rattle.model_active.specs.CatchUp.{is_open, all_with, told_checked, is, compared_of};
 ghost use Rattle.active_books_area.specs.Words.{book_of};

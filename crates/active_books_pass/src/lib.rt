@@ -1,4 +1,6 @@
 // The books in a pass: the open ones fall behind, the next one is picked, and whether Checked is told; and all of a listing fall behind.
+#![tactic(auto)]
+
 ghost use Rattle.model_active.specs.CatchUp as m;
 ghost use Rattle.active_books_area.specs.Parts.{Ruled};
 ghost use Rattle.active_books.specs.Calls.{answer_of, Called};

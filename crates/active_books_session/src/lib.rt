@@ -1,4 +1,6 @@
 // One session in the books: it is met, counted open or closed, compared, put behind, or taken from those behind.
+#![tactic(auto)]
+
 ghost use Rattle.std.specs.Prelude.{◌≡◌, [], ◌∷◌, ◌++◌, suc, min, ◌<◌, get_or, ltb};
 ghost use Rattle.model_active.specs.CatchUp.{member, joining, without, less, is, compared_of, on_entry, opened, shut, compared_with, met_now, behind_now};
 ghost use Rattle.active_books_area.specs.Words.{book_of};

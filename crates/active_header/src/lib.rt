@@ -1,4 +1,6 @@
 // What a session that is sent whole has beside its messages: the changes that stand before them and after them.
+#![tactic(auto)]
+
 ghost use Rattle.std.specs.Prelude.{◌≡◌, List, [], ◌∷◌, ℕ, ◌+◌, ◌≤◌, ◌<◌, length, eqb};
 ghost use Rattle.model_frame.specs.Parse.{run_bytes};
 ghost use Rattle.model_frame.specs.Writing.{change_bytes};
@@ -14,7 +16,7 @@ use store_place::Flight;
 
 // What a session has beside its messages: stamp and marks by their lengths.
 #[repr(C)]
-#[derive(Drop)]
+#[derive(Clone, Copy)]
 pub struct Header {
     pub next_outgoing: u64,
     pub next_incoming: u64,
@@ -25,7 +27,7 @@ pub struct Header {
 
 // How many changes, and their bytes.
 #[repr(C)]
-#[derive(Drop)]
+#[derive(Clone, Copy)]
 pub struct Extent {
     pub count: usize,
     pub size: usize,

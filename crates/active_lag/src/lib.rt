@@ -1,4 +1,6 @@
 // The lag queue of an active's session (active.rs, ReplicatedLog::queue): which of the batches sent are to be waited for.
+#![tactic(auto)]
+
 ghost use Rattle.std.specs.Prelude.{◌≡◌, ◌||◌, [], ◌∷◌, ◌++◌, ◌+◌, ◌-◌, ◌≤◌, take, drop, ltb};
 ghost use Rattle.active_lag.specs.Queue.{queue_of, Drains, Answers};
 ghost use Rattle.model_session.specs.Lag.{new_queue};
@@ -8,7 +10,7 @@ use base_refusals::RULES_BROKEN;
 // The batches sent that no commit has waited for yet, oldest first: the last outgoing number of each. The room is one more
 // than may wait, for the batch that was just pushed.
 #[repr(C)]
-#[derive(Drop)]
+#[derive(Clone, Copy)]
 pub struct ReplicatedLog {
     pub drained_through: u64,
     pub count: usize,
@@ -17,7 +19,7 @@ pub struct ReplicatedLog {
 
 // What a push does: 25 for a queue that says to hold more than may wait, else 0; how many batches of the front went; the queue.
 #[repr(C)]
-#[derive(Drop)]
+#[derive(Clone, Copy)]
 pub struct Queued {
     pub refusal: u8,
     pub drained: usize,
@@ -26,7 +28,7 @@ pub struct Queued {
 
 // How many batches of the front go, and the last of their numbers.
 #[repr(C)]
-#[derive(Drop)]
+#[derive(Clone, Copy)]
 pub struct Drained {
     pub drained: usize,
     pub through: u64,

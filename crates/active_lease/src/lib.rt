@@ -1,4 +1,6 @@
 // An active's hold on its lease (lease.rs, `Held`), by a clock whose times are handed in as nanoseconds.
+#![tactic(auto)]
+
 ghost use Rattle.std.specs.Prelude.{◌≡◌, ◌-◌};
 ghost use Rattle.model_lease.specs.Lease.{end_from, made, is_due, end_after, loses};
 ghost use Rattle.base_flags.specs.Flag.{byte};
@@ -6,7 +8,7 @@ ghost use Rattle.active_lease.specs.Held.{lease_of, outcome_of, attempt_of, Asks
 
 // `until` is the lease's end, `last` the last time handed in; the lease is lost if `lost` isn't 0.
 #[repr(C)]
-#[derive(Drop)]
+#[derive(Clone, Copy)]
 pub struct Held {
     pub duration: u64,
     pub until: u64,
@@ -15,7 +17,7 @@ pub struct Held {
 }
 
 // How an attempt to renew ended.
-#[derive(Drop)]
+#[derive(Clone, Copy)]
 pub enum RenewalOutcome {
     Renewed,
     Failed,
@@ -24,7 +26,7 @@ pub enum RenewalOutcome {
 
 // 31 for a time below the last one handed in, else 0; 1 if a renewal is due, else 0; the lease then.
 #[repr(C)]
-#[derive(Drop)]
+#[derive(Clone, Copy)]
 pub struct Asked {
     pub refusal: u8,
     pub due: u8,
@@ -33,7 +35,7 @@ pub struct Asked {
 
 // 31 as above, else 0; the lease then.
 #[repr(C)]
-#[derive(Drop)]
+#[derive(Clone, Copy)]
 pub struct Tried {
     pub refusal: u8,
     pub held: Held,

@@ -1,4 +1,6 @@
 // One batch of a session that is sent whole (active.rs, send_whole), over the session's log.
+#![tactic(auto)]
+
 pub mod put;
 
 ghost use Rattle.std.specs.Prelude.{◌≡◌, cond, ◌+◌, ◌*◌, ◌≤◌, ◌<◌, length, ltb};
@@ -12,7 +14,7 @@ ghost use Rattle.active_messages.specs.Cut.{taken, batchCount, Measured};
 
 // A batch: the place in the log where it ends, the next outgoing number there, how many changes its messages make, and their bytes.
 #[repr(C)]
-#[derive(Drop)]
+#[derive(Clone, Copy)]
 pub struct Cut {
     pub left: usize,
     pub dist: usize,

@@ -1,4 +1,6 @@
 // Little-endian numbers in a slice of bytes, by one law over the width, and copying.
+#![tactic(auto)]
+
 ghost use Rattle.std.specs.Prelude.{◌≡◌, ◌+◌, ◌≤◌, length};
 ghost use Rattle.model_frame.specs.Bytes.{le_at, bytes_of};
 ghost use Rattle.base_laws.specs.Wrote.{Wrote};

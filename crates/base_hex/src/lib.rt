@@ -1,10 +1,12 @@
 // Lines of lower-case hexadecimal digits, read into bytes and written from them.
+#![tactic(auto)]
+
 ghost use Rattle.std.specs.Prelude.{◌≡◌, ◌+◌, ◌*◌, ◌/◌, ◌%◌, ◌≤◌, ◌<◌, length};
 ghost use Rattle.model_text.specs.Hex.{digit_value, bytes_from, line_bytes, digit_of, hex_of, refusal_text};
 ghost use Rattle.base_hex.specs.Lines.{ReadsLine, WroteFront, Puts};
 
 // The bytes of a line, as the first so many of the area that was lent, or a bad line.
-#[derive(Drop)]
+#[derive(Clone, Copy)]
 pub enum Line {
     Bytes(usize),
     Bad,

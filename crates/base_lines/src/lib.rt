@@ -1,4 +1,6 @@
 // The lines of an input that is read piece by piece. A line's bytes are gathered in an area; those past its end are not kept.
+#![tactic(auto)]
+
 ghost use Rattle.std.specs.Prelude.{◌≡◌, ◌+◌, ◌≤◌, min, length, drop};
 ghost use Rattle.std.proofs.Math.Seq.{paste};
 ghost use Rattle.model_text.specs.Lines.{first_feed};
@@ -6,7 +8,7 @@ ghost use Rattle.base_lines.specs.Feeding.{Feeds};
 
 // What a piece gave: a whole line or a part of one, how many of its bytes are kept, and where the piece goes on.
 #[repr(C)]
-#[derive(Drop)]
+#[derive(Clone, Copy)]
 pub struct Fed {
     pub whole: bool,
     pub len: usize,

@@ -1,4 +1,5 @@
 // Document 01's refusals by their numbers, "Turned down, by operation", and one number of the store's own.
+#![tactic(auto)]
 
 // Body length too great; in writing, body too long.
 pub const TOO_LONG: u8 = 1;

@@ -1,4 +1,6 @@
 // The books of catching a standby up, for programs in C or Rust: each function has the promise of `active_books`, its answer in numbers, and asks nothing of its caller.
+#![tactic(auto)]
+
 ghost use Rattle.model_active.specs.CatchUp as m;
 ghost use Rattle.active_books.specs.Calls.{answer_of};
 ghost use Rattle.c_books.specs.Numbers.{InNumbers, Calls, MakesBooks, TellsBehind};
@@ -8,7 +10,7 @@ use frame_fields::Incarnation;
 
 // An answer: a refusal or 0; 1 for wait, for one that is picked, and for yes, else 0; the session picked or 0.
 #[repr(C)]
-#[derive(Drop)]
+#[derive(Clone, Copy)]
 pub struct Answered {
     pub refusal: u8,
     pub flag: u8,

@@ -1,5 +1,7 @@
 // The eight changes of a stored session for programs in C or Rust: 0, or a refusal. Areas that break the rules, and a place that holds no session,
 // are turned down before all else (25), and nothing is asked of a caller.
+#![tactic(auto)]
+
 ghost use Rattle.std.specs.Prelude.{[], ◌∷◌};
 ghost use Rattle.model_frame.specs.Frame.{set_incoming, set_incoming_in_flight, set_in_flight, record_msg, record_bare, reset, set_created_at, set_marks};
 ghost use Rattle.model_standby.specs.Store.{changed};

@@ -1,4 +1,6 @@
 // The boundary for programs in C or Rust: which copy takes over. Nothing is asked of a caller.
+#![tactic(auto)]
+
 ghost use Rattle.std.specs.Prelude.{◌≡◌, ℕ, min, ◌+◌, ◌≤◌, length};
 ghost use Rattle.c_choice.specs.Choosing.{flag_of, described_at, copies_in, code_of, returned};
 

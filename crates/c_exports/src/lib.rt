@@ -1,4 +1,6 @@
 // The boundary for programs in C or Rust (docs/ENTRY_POINTS.md has the signatures and what is returned). Nothing is asked of a caller.
+#![tactic(auto)]
+
 ghost use Rattle.std.specs.Prelude.{◌≡◌, ◌+◌, ◌*◌, ◌<◌, ◌≤◌, length, take, drop, set};
 ghost use Rattle.base_flags.specs.Flag.{is_set, byte};
 ghost use Rattle.model_frame.specs.Reading.{decode};

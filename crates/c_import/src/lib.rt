@@ -1,4 +1,6 @@
 // A session built from a file of sent messages, for programs in C or Rust. Nothing is asked of a caller.
+#![tactic(auto)]
+
 ghost use Rattle.std.specs.Prelude.{◌≡◌};
 ghost use Rattle.store_place.specs.Place.{key_from};
 ghost use Rattle.c_import.specs.Answering.{Imports};
@@ -8,7 +10,7 @@ use store_import::Imported;
 
 // The answer: 0 and the new session's place; or the refusal, with the offset of the first faulty message for 28, 29 and 30.
 #[repr(C)]
-#[derive(Drop)]
+#[derive(Clone, Copy)]
 pub struct Built {
     pub refusal: u8,
     pub place: usize,

@@ -1,4 +1,6 @@
 // An active's lease for programs in C or Rust, as four words that the caller lends. Nothing is asked of a caller: every content counts as a lease.
+#![tactic(auto)]
+
 ghost use Rattle.std.specs.Prelude.{◌≡◌, cond, ℕ};
 ghost use Rattle.model_lease.specs.Lease.{made};
 ghost use Rattle.base_flags.specs.Flag.{is_set, byte};
@@ -20,7 +22,7 @@ pub mod word {
 
 // 31 for a time below the last one handed in, else 0; 1 if a renewal is due, else 0.
 #[repr(C)]
-#[derive(Drop)]
+#[derive(Clone, Copy)]
 pub struct Due {
     pub refusal: u8,
     pub due: u8,

@@ -1,4 +1,6 @@
 // Up to five standbys, for programs in C or Rust: each function has the promise of `active_quorum`, and asks nothing of its caller.
+#![tactic(auto)]
+
 ghost use Rattle.model_quorum.specs.History.{bind, sent, ack, stale};
 ghost use Rattle.active_quorum.specs.Area.{MakesQuorum, Does, Tells};
 

@@ -1,4 +1,6 @@
 // Several resend ranges together, for C and Rust.
+#![tactic(auto)]
+
 ghost use Rattle.store_resend.specs.Ranges.{Lists};
 
 use store_areas::Shape;

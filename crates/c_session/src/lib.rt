@@ -1,4 +1,6 @@
 // The session at a place of the store, written as bytes: whether it is durable, whether a number is in flight, its key, its summary.
+#![tactic(auto)]
+
 ghost use Rattle.std.specs.Prelude.{◌≡◌, ◌∷◌, ◌++◌, ℕ, ◌+◌, ◌≤◌, ◌<◌, length, get_or};
 ghost use Rattle.std.proofs.Math.Option.{some};
 ghost use Rattle.model_frame.specs.Writing.{key_bytes, summary_bytes};
@@ -16,7 +18,7 @@ use store_areas::Shape;
 use store_place::{byte, word};
 
 // How many bytes were written, or why none was: an area too short, broken rules or a place that is not in use.
-#[derive(Drop)]
+#[derive(Clone, Copy)]
 pub enum SessionWritten {
     Bytes(usize),
     NoRoom,

@@ -1,5 +1,7 @@
 // The store's operations for programs in C or Rust: each turns areas that break the rules, and a place that holds no session, down before all
 // else (25), and asks nothing of its caller.
+#![tactic(auto)]
+
 ghost use Rattle.std.specs.Prelude.{◌≡◌, length};
 ghost use Rattle.model_session.specs.Session.{Session};
 ghost use Rattle.model_session.specs.Summary.{fnv, numbered_from, last_out};
@@ -12,7 +14,7 @@ use store_areas::{Made, Shape, word};
 
 // A refusal by its number, or 0 and the value.
 #[repr(C)]
-#[derive(Drop)]
+#[derive(Clone, Copy)]
 pub struct StoreAnswer {
     pub refusal: u8,
     pub value: u64,

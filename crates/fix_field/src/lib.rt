@@ -1,4 +1,6 @@
 // Fields of a FIX message: where one begins and ends, its tag, a value as a number, the sum of bytes.
+#![tactic(auto)]
+
 ghost use Rattle.std.specs.Prelude.{◌≡◌, ◌+◌, ◌-◌, ◌*◌, ◌%◌, ◌<◌, ◌≤◌, min, true, [], ◌∷◌, length, drop};
 ghost use Rattle.model_session.specs.Session.{top};
 ghost use Rattle.model_text.specs.Stamp.{is_digit};
@@ -7,20 +9,20 @@ ghost use Rattle.model_fix.specs.Message.{total};
 ghost use Rattle.fix_field.specs.Reading.{part, until_end, FreeRun, Reaches, Reads, FieldAt, TaggedAt};
 
 // Where a field's `=` stands, and where it ends, past its byte 01.
-#[derive(Drop)]
+#[derive(Clone, Copy)]
 pub struct Field {
     pub eq: usize,
     pub end: usize,
 }
 
-#[derive(Drop)]
+#[derive(Clone, Copy)]
 pub enum Found {
     At(Field),
     Nothing,
 }
 
 // A text as a number: whether it is digits, and their number, at most 2^64 - 1.
-#[derive(Drop)]
+#[derive(Clone, Copy)]
 pub struct Number {
     pub digits: bool,
     pub value: u64,

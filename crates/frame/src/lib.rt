@@ -1,4 +1,6 @@
 // The frames an active instance and its standby exchange, and their wire form (frame.rs).
+#![tactic(auto)]
+
 ghost use Rattle.std.specs.Prelude.{◌≡◌, ℕ, ◌+◌, ◌≤◌, length, take, drop};
 ghost use Rattle.model_frame.specs.Reading.{hello_fields, welcome_fields, bind_fields, batch_fields, ack_fields, nack_fields, bound_fields, checked_fields, read_fields, read_body, decode};
 ghost use Rattle.frame.specs.Answers.{res_frame, ReadIn, reading_of, StandsIn, frame_in};
@@ -17,7 +19,7 @@ use frame_stamp::Protocol;
 pub use frame_writer::Written;
 
 // A frame between an active instance and its standby. Texts, changes and records are parts of the bytes it was read from.
-#[derive(Drop)]
+#[derive(Clone, Copy)]
 pub enum Frame {
     Hello {
         version: u16,
@@ -55,14 +57,14 @@ pub enum Frame {
     },
 }
 
-#[derive(Drop)]
+#[derive(Clone, Copy)]
 pub enum FrameAt {
     Got(Frame, Cursor),
     Bad(FrameError),
 }
 
 // A whole frame and how many bytes it took, more bytes needed, or the first fault.
-#[derive(Drop)]
+#[derive(Clone, Copy)]
 pub enum Decoded {
     Whole(Frame, usize),
     More,

@@ -1,4 +1,6 @@
 // Writing a frame of each kind from the start of an area: 8, 1 or 9 with the area untouched, or the frame's bytes.
+#![tactic(auto)]
+
 ghost use Rattle.std.specs.Prelude.{◌≡◌, true, ◌&&◌, ◌∷◌, ◌++◌, ℕ, ◌+◌, ◌*◌, ◌≤◌, length, take, drop};
 ghost use Rattle.model_frame.specs.Bytes.{bytes_of};
 ghost use Rattle.model_frame.specs.Frame as the_frame;

@@ -1,4 +1,6 @@
 // The parts of frames that are more than a plain number: the three counters, part and refusal bytes, kinds, application records, keys, summaries, batches.
+#![tactic(auto)]
+
 ghost use Rattle.std.specs.Prelude.{◌≡◌, List, ℕ, drop};
 ghost use Rattle.model_frame.specs.Parse.{read_num, many, forget};
 ghost use Rattle.model_frame.specs.Reading.{read_kinds, read_app_record, read_app_records, read_part, read_reason, read_key, flight, read_summary};
@@ -53,35 +55,35 @@ pub mod reason {
 
 // The epoch of the lease that an active holds.
 #[repr(C)]
-#[derive(Drop)]
+#[derive(Clone, Copy)]
 pub struct Epoch(pub u64);
 
 // A run of the standby: a restart is a new one.
 #[repr(C)]
-#[derive(Drop)]
+#[derive(Clone, Copy)]
 pub struct Incarnation(pub u64);
 
 // A session's commits on one binding, counted from 1.
 #[repr(C)]
-#[derive(Drop)]
+#[derive(Clone, Copy)]
 pub struct CommitNumber(pub u64);
 
 // Whether a batch is one commit, or a part of a session sent whole.
-#[derive(Drop)]
+#[derive(Clone, Copy)]
 pub enum Part {
     Commit,
     Whole,
     LastWhole,
 }
 
-#[derive(Drop)]
+#[derive(Clone, Copy)]
 pub enum PartAt {
     Got(Part, Cursor),
     Bad(FrameError),
 }
 
 // Why a standby refused.
-#[derive(Drop)]
+#[derive(Clone, Copy)]
 pub enum NackReason {
     StaleEpoch,
     Diverged,
@@ -89,7 +91,7 @@ pub enum NackReason {
     Restarted,
 }
 
-#[derive(Drop)]
+#[derive(Clone, Copy)]
 pub enum ReasonAt {
     Got(NackReason, Cursor),
     Bad(FrameError),
@@ -97,13 +99,13 @@ pub enum ReasonAt {
 
 // An application's own record.
 #[repr(C)]
-#[derive(Drop)]
+#[derive(Clone, Copy)]
 pub struct AppRecord {
     pub kind: u16,
     pub bytes: Span,
 }
 
-#[derive(Drop)]
+#[derive(Clone, Copy)]
 pub enum AppRecordAt {
     Got(AppRecord, Cursor),
     Bad(FrameError),
@@ -111,7 +113,7 @@ pub enum AppRecordAt {
 
 // A session's key.
 #[repr(C)]
-#[derive(Drop)]
+#[derive(Clone, Copy)]
 pub struct SessionId {
     pub begin_string: Span,
     pub sender_comp_id: Span,
@@ -119,13 +121,13 @@ pub struct SessionId {
     pub key_suffix: Span,
 }
 
-#[derive(Drop)]
+#[derive(Clone, Copy)]
 pub enum SessionAt {
     Got(SessionId, Cursor),
     Bad(FrameError),
 }
 
-#[derive(Drop)]
+#[derive(Clone, Copy)]
 pub enum InFlight {
     Seq(u64),
     Nothing,
@@ -133,7 +135,7 @@ pub enum InFlight {
 
 // A session's stored state, as far as an active and its standby compare it; an empty stamp is none.
 #[repr(C)]
-#[derive(Drop)]
+#[derive(Clone, Copy)]
 pub struct Summary {
     pub next_outgoing: u64,
     pub next_incoming: u64,
@@ -143,7 +145,7 @@ pub struct Summary {
     pub last_outgoing: u64,
 }
 
-#[derive(Drop)]
+#[derive(Clone, Copy)]
 pub enum SummaryAt {
     Got(Summary, Cursor),
     Bad(FrameError),
@@ -151,7 +153,7 @@ pub enum SummaryAt {
 
 // One commit's changes to a session, and the application's records with them: both are runs in the bytes read.
 #[repr(C)]
-#[derive(Drop)]
+#[derive(Clone, Copy)]
 pub struct Batch {
     pub handle: u32,
     pub epoch: Epoch,

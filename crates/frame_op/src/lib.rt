@@ -1,4 +1,6 @@
 // A change to a session's stored state: read at a position, walked over, and written.
+#![tactic(auto)]
+
 ghost use Rattle.std.specs.Prelude.{◌≡◌, [], ◌∷◌, ◌+◌, ◌^◌, ◌≤◌, ◌<◌, length, drop};
 ghost use Rattle.model_frame.specs.Bytes.{bytes_of};
 ghost use Rattle.model_frame.specs.Parse.{many, forget, run_bytes};
@@ -30,7 +32,7 @@ pub mod kind {
 }
 
 // A Record with its message is one variant, a Record without another.
-#[derive(Drop)]
+#[derive(Clone, Copy)]
 pub enum Op {
     SetNextIncoming(u64),
     SetNextIncomingInFlight { seq: u64, in_flight: u64 },
@@ -42,14 +44,14 @@ pub enum Op {
     SetMarks(Span),
 }
 
-#[derive(Drop)]
+#[derive(Clone, Copy)]
 pub enum OpAt {
     Got(Op, Cursor),
     Bad(FrameError),
 }
 
 // Where a run of items ends.
-#[derive(Drop)]
+#[derive(Clone, Copy)]
 pub enum End {
     At(Cursor),
     Bad(FrameError),
@@ -57,21 +59,21 @@ pub enum End {
 
 // So many items, the first at `at`. Reading says how many bytes they take; writing doesn't ask for `len`, and finds it anew.
 #[repr(C)]
-#[derive(Drop)]
+#[derive(Clone, Copy)]
 pub struct Run {
     pub at: usize,
     pub count: u32,
     pub len: usize,
 }
 
-#[derive(Drop)]
+#[derive(Clone, Copy)]
 pub enum RunAt {
     Got(Run, Cursor),
     Bad(FrameError),
 }
 
 // How many bytes a run takes.
-#[derive(Drop)]
+#[derive(Clone, Copy)]
 pub enum RunLen {
     Bytes(usize),
     Bad(FrameError),

@@ -1,4 +1,6 @@
 // Reading numbers, blobs, texts and counts off a buffer, from a cursor by value.
+#![tactic(auto)]
+
 ghost use Rattle.std.specs.Prelude.{◌≡◌, ◌+◌, ◌-◌, ◌≤◌, cond, ◌||◌, length, take, drop};
 ghost use Rattle.model_text.specs.Utf8.{utf8};
 ghost use Rattle.model_text.specs.Stamp.{takes_stamp};
@@ -13,21 +15,21 @@ use base_refusals::{
 use frame_stamp::Protocol;
 
 #[repr(C)]
-#[derive(Drop)]
+#[derive(Clone, Copy)]
 pub struct Cursor {
     pub at: usize,
 }
 
 // A part of the buffer.
 #[repr(C)]
-#[derive(Drop)]
+#[derive(Clone, Copy)]
 pub struct Span {
     pub at: usize,
     pub len: u32,
 }
 
 // What has an unknown byte.
-#[derive(Drop)]
+#[derive(Clone, Copy)]
 pub enum Field {
     FrameKind,
     Part,
@@ -36,7 +38,7 @@ pub enum Field {
 }
 
 // What isn't valid.
-#[derive(Drop)]
+#[derive(Clone, Copy)]
 pub enum Value {
     Text,
     Session,
@@ -45,7 +47,7 @@ pub enum Value {
 }
 
 // A frame that can't be decoded.
-#[derive(Drop)]
+#[derive(Clone, Copy)]
 pub enum FrameError {
     TooLong(u32),
     Unknown(Field, u8),
@@ -72,38 +74,38 @@ impl FrameError {
     }
 }
 
-#[derive(Drop)]
+#[derive(Clone, Copy)]
 pub enum Byte {
     Got(u8, Cursor),
     Short,
 }
 
-#[derive(Drop)]
+#[derive(Clone, Copy)]
 pub enum Word16 {
     Got(u16, Cursor),
     Short,
 }
 
-#[derive(Drop)]
+#[derive(Clone, Copy)]
 pub enum Word32 {
     Got(u32, Cursor),
     Short,
 }
 
-#[derive(Drop)]
+#[derive(Clone, Copy)]
 pub enum Word64 {
     Got(u64, Cursor),
     Short,
 }
 
-#[derive(Drop)]
+#[derive(Clone, Copy)]
 pub enum SpanAt {
     Got(Span, Cursor),
     Bad(FrameError),
 }
 
 // A text, and whether it is as long and printable as was asked.
-#[derive(Drop)]
+#[derive(Clone, Copy)]
 pub enum CheckedTextAt {
     Got(Span, bool, Cursor),
     Bad(FrameError),

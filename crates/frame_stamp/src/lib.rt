@@ -1,4 +1,6 @@
 // Time stamps, marks and keys.
+#![tactic(auto)]
+
 ghost use Rattle.std.specs.Prelude.{◌≡◌, ◌-◌, ◌≤◌, length};
 ghost use Rattle.model_text.specs.Printable.{is_printable_byte, all_printable, is_printable, is_marks, is_key};
 ghost use Rattle.model_text.specs.Calendar.{is_leap, month_days};
@@ -7,7 +9,7 @@ ghost use Rattle.frame_stamp.specs.Places.{slice_at};
 
 // What an instance speaks on a connection: the version decides which stamps are taken.
 #[repr(C)]
-#[derive(Drop)]
+#[derive(Clone, Copy)]
 pub struct Protocol {
     pub version: u16,
 }

@@ -1,4 +1,6 @@
 // UTF-8 by RFC 3629: which slices of bytes are well formed.
+#![tactic(auto)]
+
 ghost use Rattle.std.specs.Prelude.{◌≡◌, true, cond, ◌&&◌, List, ◌∷◌, ℕ, ◌+◌, ◌-◌, ◌*◌, ◌%◌, ◌≤◌, ◌<◌, length, drop, get_or, leb};
 ghost use Rattle.model_text.specs.Utf8.{lead_length, is_tail, is_scalar, well_formed, utf8};
 ghost use Rattle.frame_utf8.specs.Places.{AsciiRun};

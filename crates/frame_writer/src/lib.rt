@@ -1,4 +1,6 @@
 // Writing frames, kind by kind: whether every field can be written, whether there is room, then the bytes.
+#![tactic(auto)]
+
 ghost use Rattle.std.specs.Prelude.{◌≡◌, true, ◌&&◌, ◌∷◌, ◌++◌, ℕ, ◌+◌, ◌*◌, ◌^◌, ◌≤◌, ◌<◌, length};
 ghost use Rattle.model_frame.specs.Bytes.{bytes_of};
 ghost use Rattle.model_frame.specs.Frame.{hello, welcome, bind, batch, ack, nack, bound, checked};
@@ -17,7 +19,7 @@ use frame_reader::{Cursor, Span};
 use frame_stamp::Protocol;
 
 // How many bytes were written, or why none was: a field that reading would refuse, a body too long, an area too short.
-#[derive(Drop)]
+#[derive(Clone, Copy)]
 pub enum Written {
     Bytes(usize),
     Unreadable,
@@ -25,7 +27,7 @@ pub enum Written {
     NoRoom,
 }
 
-#[derive(Drop)]
+#[derive(Clone, Copy)]
 pub enum Start {
     At(usize),
     TooLong,

@@ -2,6 +2,8 @@
 // standby answers them all: incarnation 7, lag 0, C 4,096, M 64, four sessions, four handles, hold areas of 5,626 bytes.
 // The answers to the lines that one read brings are written together. A failing read or write is said on standard error and ends the run; the
 // descriptor VERDICT then gets a digit, since a program here has no exit status.
+#![tactic(auto)]
+
 ghost use Rattle.std.specs.Prelude.{◌≡◌, ◌≤◌, length};
 
 use libc::{STDIN_FILENO, STDOUT_FILENO};
@@ -15,7 +17,7 @@ const VERDICT: i32 = 3;
 // The counters, the row, how many bytes of the next line are read, how many bytes of answers aren't written yet, whether the input goes on, and
 // whether a read or write has failed.
 #[repr(C)]
-#[derive(Drop)]
+#[derive(Clone, Copy)]
 struct State {
     replica: Replica,
     row: [Bound; 4],
@@ -62,7 +64,7 @@ fn add(out: &mut [u8], unsent: usize, text: &[u8]) -> usize {
 }
 
 // How many bytes of answers wait once there is room for a text of so many bytes, and whether a write has failed.
-#[derive(Drop)]
+#[derive(Clone, Copy)]
 struct Room {
     unsent: usize,
     failed: bool,

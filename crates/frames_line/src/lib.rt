@@ -1,4 +1,6 @@
 // The program `frames`, one line at a time: a frame in digits, and the answer's digits or its refusal.
+#![tactic(auto)]
+
 ghost use Rattle.std.specs.Prelude.{◌≡◌, ◌*◌, ◌≤◌, length};
 ghost use Rattle.frames_line.specs.Answering.{the_settings, AnswersLine};
 
@@ -11,7 +13,7 @@ use store_areas::Shape;
 
 // What a line leaves of the counters and the row, and the length of its answer's text.
 #[repr(C)]
-#[derive(Drop)]
+#[derive(Clone, Copy)]
 pub struct LineAnswer {
     pub replica: Replica,
     pub row: [Bound; 4],

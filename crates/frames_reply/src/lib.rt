@@ -1,4 +1,6 @@
 // What a call of the standby answers, as a line's text: the digits of its frame, or R and the refusal.
+#![tactic(auto)]
+
 ghost use Rattle.std.specs.Prelude.{◌*◌, ◌≤◌, length};
 ghost use Rattle.base_hex.specs.Lines.{Puts};
 ghost use Rattle.model_frame.specs.Writing.{write_outcome};

@@ -1,1 +1,2 @@
 // Two actives, one standby. The statement in specs/, its proof in proofs/.
+#![tactic(auto)]

@@ -1,4 +1,6 @@
 // The standby's calls over the lent counters, the lent row of handles, the store's two areas and the hold areas (standby.rs, `Replica`).
+#![tactic(auto)]
+
 ghost use Rattle.std.specs.Prelude.{◌≡◌, max, get_or};
 ghost use Rattle.base_flags.specs.Flag.{is_set};
 ghost use Rattle.model_standby.specs.State.{on_frame_held, on_frame, flush, disconnected_from, promote, promote_unchecked};
@@ -248,7 +250,7 @@ pub fn incarnation(settings: Settings) -> Incarnation
 
 // What a call by value gives: the counters and the row after it, and its answer.
 #[repr(C)]
-#[derive(Drop)]
+#[derive(Clone, Copy)]
 pub struct CallResult {
     pub replica: Replica,
     pub row: [Bound; 4],

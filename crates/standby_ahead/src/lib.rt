@@ -1,4 +1,6 @@
 // Whether one store is ahead of another: at least its next outgoing number in each session.
+#![tactic(auto)]
+
 ghost use Rattle.std.specs.Prelude.{◌≡◌, ℕ, min, ◌+◌, ◌-◌, ◌≤◌, ◌<◌, length, get_or, leb};
 ghost use Rattle.store_place.specs.Place.{key_from};
 ghost use Rattle.store_areas.specs.Areas.{Rules, place_at, places_of};
@@ -9,7 +11,7 @@ use store_areas::Shape;
 
 // Where the four texts of a key stand in the byte area.
 #[repr(C)]
-#[derive(Drop)]
+#[derive(Clone, Copy)]
 pub struct KeyAt {
     pub begin: usize,
     pub begin_end: usize,

@@ -1,4 +1,6 @@
 // Making changes to a stored session (standby.rs, apply), at one place of a store.
+#![tactic(auto)]
+
 ghost use Rattle.std.specs.Prelude.{◌≡◌, true, [], ◌∷◌, ℕ, ◌+◌, ◌*◌, ◌≤◌, ◌<◌, length, get_or};
 ghost use Rattle.model_frame.specs.Writing.{fine_change};
 ghost use Rattle.model_session.specs.Session.{fits};

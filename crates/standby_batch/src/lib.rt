@@ -1,4 +1,6 @@
 // A Batch on the row's record of its handle (standby.rs, on_batch): 13 application records, Nack StaleEpoch, the epoch, then the handle.
+#![tactic(auto)]
+
 ghost use Rattle.std.specs.Prelude.{◌≡◌, true, ◌&&◌, ◌<◌, eqb, ltb};
 ghost use Rattle.model_frame.specs.Parse.{is_empty};
 ghost use Rattle.model_frame.specs.Reading.{read_change, read_app_record};

@@ -1,4 +1,6 @@
 // A Batch among the hold areas of the row's places: due commits run first (standby.rs, on_frame_held).
+#![tactic(auto)]
+
 ghost use Rattle.std.specs.Prelude.{◌≡◌, true, cond, ◌+◌, ◌*◌, ◌≤◌, length};
 ghost use Rattle.model_frame.specs.Reading.{read_change, read_app_record};
 ghost use Rattle.frame_op.specs.Answers.{run_of, HasLength};

@@ -1,4 +1,6 @@
 // A Batch on the handle that it names (standby.rs, on_batch): 14 unbound, Nack Diverged for the number, else its part.
+#![tactic(auto)]
+
 ghost use Rattle.std.specs.Prelude.{◌≡◌, true, ◌<◌, length};
 ghost use Rattle.frame_op.specs.Answers.{held_run};
 ghost use Rattle.frame_fields.specs.Answers.{part_of};

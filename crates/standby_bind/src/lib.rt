@@ -1,4 +1,6 @@
 // Bind (standby.rs, an arm of `answer`): a handle is bound to the session of a key, which is opened if it is new, and its summary is answered.
+#![tactic(auto)]
+
 ghost use Rattle.std.specs.Prelude.{◌≡◌, ◌||◌, ◌<◌, ◌≤◌, get_or, ltb};
 ghost use Rattle.model_session.specs.Summary.{summary};
 ghost use Rattle.model_standby.specs.Store.{place_of};

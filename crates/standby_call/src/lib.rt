@@ -1,4 +1,6 @@
 // One call on the standby, by value: which of the six it is, and what it comes to over what was found in the row (standby.rs, the functions of `Replica`).
+#![tactic(auto)]
+
 ghost use Rattle.std.specs.Prelude.{◌≡◌};
 ghost use Rattle.standby_step.specs.Steps.{StepIs};
 ghost use Rattle.standby_step.specs.Calls.{handle_at, sought_by};
@@ -10,7 +12,7 @@ use standby_state::{Outcome, Settings};
 
 // Which call it is, and the number of the connection, for the calls that name one.
 #[repr(C)]
-#[derive(Drop)]
+#[derive(Clone, Copy)]
 pub struct Call {
     pub kind: u8,
     pub connection: u64,

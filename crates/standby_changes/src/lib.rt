@@ -1,5 +1,7 @@
 // Runs of changes in frame form, as a hold area has them from its start (standby.rs, `hold` and `fits`): what stands in front,
 // their message bytes, whether their outgoing numbers follow on, how long they are, and how one is added to another.
+#![tactic(auto)]
+
 ghost use Rattle.std.specs.Prelude.{◌≡◌, ◌+◌, ◌-◌, ◌≤◌, length, drop};
 ghost use Rattle.model_frame.specs.Bytes.{write};
 ghost use Rattle.model_frame.specs.Parse.{is_empty, collect, forget};
@@ -18,14 +20,14 @@ use frame_stamp::Protocol;
 const TOP: u64 = 18446744073709551615;
 
 // The next outgoing number after a change, or that the change diverges from it.
-#[derive(Drop)]
+#[derive(Clone, Copy)]
 pub enum Outgoing {
     Next(u64),
     Diverges,
 }
 
 // Where the next change begins, and the message length of the last Record; or why the change can't be read.
-#[derive(Drop)]
+#[derive(Clone, Copy)]
 pub enum Skipped {
     At(Cursor, u32),
     Bad(FrameError),

@@ -1,4 +1,6 @@
 // Which copy takes over, of several standbys.
+#![tactic(auto)]
+
 ghost use Rattle.std.specs.Prelude.{◌≡◌, cond, not, ◌||◌, ◌&&◌, ℕ, max, eqb};
 ghost use Rattle.store_areas.specs.Areas.{Rules, places_of};
 ghost use Rattle.model_choice.specs.Choice.{is_candidate, is_ahead, is_ahead_of_all, chosen};
@@ -10,7 +12,7 @@ use store_areas::Shape;
 
 // A copy: whether it is listed, its counters' epoch and checked flag, its store's shape. A flag is set if it is not 0.
 #[repr(C)]
-#[derive(Drop)]
+#[derive(Clone, Copy)]
 pub struct Copy {
     pub listed: u8,
     pub checked: u8,
@@ -20,7 +22,7 @@ pub struct Copy {
 
 // As many copies as there can be standbys, by their numbers.
 #[repr(C)]
-#[derive(Drop)]
+#[derive(Clone, Copy)]
 pub struct Copies(pub Copy, pub Copy, pub Copy, pub Copy, pub Copy);
 
 impl Copies {
@@ -32,7 +34,7 @@ impl Copies {
 
 // The number of the copy that takes over, from 0, or a refusal.
 #[repr(C)]
-#[derive(Drop)]
+#[derive(Clone, Copy)]
 pub struct Choice {
     pub refusal: u8,
     pub copy: usize,

@@ -1,4 +1,6 @@
 // The end of a Commit or LastWhole (standby.rs, on_batch): outgoing numbers are checked before anything is applied.
+#![tactic(auto)]
+
 ghost use Rattle.std.specs.Prelude.{◌<◌, get_or};
 ghost use Rattle.frame_op.specs.Answers.{held_run};
 ghost use Rattle.store_areas.specs.Areas.{Rules};

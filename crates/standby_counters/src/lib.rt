@@ -1,9 +1,11 @@
 // The standby's counters, with its limits (standby.rs, `Replica` and its constants).
+#![tactic(auto)]
+
 use frame_fields::Epoch;
 
 // The standby's counters: a small record lent for each call. A flag is set if it is not 0.
 #[repr(C)]
-#[derive(Drop)]
+#[derive(Clone, Copy)]
 pub struct Replica {
     pub epoch: Epoch,
     pub connections: u64,

@@ -1,5 +1,7 @@
 // Taking one frame (standby.rs, on_frame_held and on_frame): 25; the reader's number, or 26 if it isn't just one whole frame; 10 promoted;
 // then due commits and the frame's own answer.
+#![tactic(auto)]
+
 ghost use Rattle.std.specs.Prelude.{◌≡◌, true};
 ghost use Rattle.model_frame.specs.Writing.{Writable};
 ghost use Rattle.frame.specs.Answers.{frame_of, Sized};

@@ -1,4 +1,6 @@
 // Hello and Checked, which need no more than the counters (standby.rs, two arms of `answer`).
+#![tactic(auto)]
+
 ghost use Rattle.std.specs.Prelude.{◌≡◌, ℕ, max};
 ghost use Rattle.standby_hello.specs.Greeting.{HelloIs, CheckedIs, connected_to, checked_to};
 

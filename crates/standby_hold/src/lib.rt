@@ -1,4 +1,6 @@
 // Holding a part of a session that is sent whole, until the last (standby.rs, hold).
+#![tactic(auto)]
+
 ghost use Rattle.std.specs.Prelude.{◌≡◌, cond, not, ◌&&◌, ◌+◌, ◌≤◌, min, length, eqb};
 ghost use Rattle.model_standby.specs.Standby.{starts_with_reset};
 ghost use Rattle.frame_op.specs.Answers.{held_run};
@@ -11,7 +13,7 @@ use standby_counters::Replica;
 
 // 0 or the refusal, how many bytes of the area are held now, and their messages' byte sum.
 #[repr(C)]
-#[derive(Drop)]
+#[derive(Clone, Copy)]
 pub struct Held {
     pub refusal: u8,
     pub used: usize,

@@ -1,4 +1,6 @@
 // The calls that carry no frame, by value: flush, a connection lost, promotion (standby.rs, `flush`, `disconnected_from`, `promote`, `promote_unchecked`).
+#![tactic(auto)]
+
 ghost use Rattle.std.specs.Prelude.{◌≡◌, cond, [], ◌≤◌, length, set};
 ghost use Rattle.store_areas.specs.Areas.{Rules};
 ghost use Rattle.standby_pending.specs.Pending.{pending_of};

@@ -1,4 +1,6 @@
 // A Batch on a bound handle (standby.rs, on_batch): Commit, Whole, LastWhole.
+#![tactic(auto)]
+
 ghost use Rattle.std.specs.Prelude.{◌≡◌, ◌≤◌, ◌<◌, length, get_or};
 ghost use Rattle.model_frame.specs.Frame.{commit, whole, last_whole};
 ghost use Rattle.frame_op.specs.Answers.{held_run};
@@ -17,7 +19,7 @@ use store_areas::Shape;
 // What a Commit, Whole or LastWhole gives: 0 or the refusal, whether the handle's record changes and to what, and whether
 // the answer is Nack Diverged.
 #[repr(C)]
-#[derive(Drop)]
+#[derive(Clone, Copy)]
 pub struct PartResult {
     pub refusal: u8,
     pub stores: bool,

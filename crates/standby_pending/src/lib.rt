@@ -1,4 +1,6 @@
 // The pending commits, in the first words of a store: their number at word 1, then for each the place of its session and its handle.
+#![tactic(auto)]
+
 ghost use Rattle.std.specs.Prelude.{◌≡◌, [], ◌∷◌, ◌++◌, ◌+◌, ◌*◌, ◌-◌, ◌≤◌, ◌<◌, length, get_or, set};
 ghost use Rattle.model_standby.specs.Standby.{pends_on};
 ghost use Rattle.standby_pending.specs.Pending.{count_of, pending_of};

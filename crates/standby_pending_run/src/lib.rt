@@ -1,4 +1,6 @@
 // What the standby does with pending commits: each marks its session as durable.
+#![tactic(auto)]
+
 ghost use Rattle.std.specs.Prelude.{◌≡◌, ◌||◌, not, ◌+◌, ◌*◌, ◌≤◌, ◌<◌, leb, length, get_or};
 ghost use Rattle.model_frame.specs.Parse.{is_empty};
 ghost use Rattle.model_standby.specs.Standby.{pends_on};

@@ -1,4 +1,6 @@
 // What a call of the standby answers, as a frame and as its bytes.
+#![tactic(auto)]
+
 ghost use Rattle.std.specs.Prelude.{◌≡◌};
 ghost use Rattle.frame_fields.specs.Answers.{reason_of, flight_of};
 ghost use Rattle.frame_writer.specs.Encoding.{Encoded};

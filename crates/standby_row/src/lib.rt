@@ -1,4 +1,6 @@
 // The bound handles: a lent row of records, searched by handle (standby.rs, where they are a map from handle to bound session).
+#![tactic(auto)]
+
 ghost use Rattle.std.specs.Prelude.{◌≡◌, set, cond};
 ghost use Rattle.standby_row.specs.Row.{free_record, is_used, is_of, is_free, breaks_of, cleared_from, unseen, looked_at, seen_of};
 
@@ -6,7 +8,7 @@ use frame_fields::CommitNumber;
 
 // A handle that is bound to a session's place, with what it holds back; a record that is not used is free.
 #[repr(C)]
-#[derive(Drop)]
+#[derive(Clone, Copy)]
 pub struct Bound {
     // Whether the record is used: it is if this is not 0.
     pub used: u8,
@@ -61,7 +63,7 @@ pub fn breaks_rules(bound: Bound, places: usize, room: usize) -> bool
 
 // What is found in a row for a handle. A place that there is none of is the length.
 #[repr(C)]
-#[derive(Drop)]
+#[derive(Clone, Copy)]
 pub struct Lookup {
     // The handle's place: the first record that is used for it.
     pub at: usize,

@@ -1,4 +1,6 @@
 // Whether what a call finds keeps the rules: the store's, and those of the row's records. A call answers 25 where it does not.
+#![tactic(auto)]
+
 ghost use Rattle.std.specs.Prelude.{◌≡◌};
 ghost use Rattle.standby_step.specs.Steps.{seen_allowed};
 

@@ -1,4 +1,6 @@
 // The standby's settings, what a call answers, and what it does to the row of handles (standby.rs, `Replica`).
+#![tactic(auto)]
+
 ghost use Rattle.std.specs.Prelude.{◌≡◌};
 ghost use Rattle.standby_state.specs.Answers.{no_brief, blank_of, is_refused, is_done, is_welcome, is_ack, is_nack, is_bound};
 ghost use Rattle.standby_state.specs.Outcomes.{spot_of, leaving, clearing, storing};
@@ -11,7 +13,7 @@ use store_areas::Shape;
 
 // What no call changes: the store's shape, this run of the standby (0 is taken as 1), and the accepted lag.
 #[repr(C)]
-#[derive(Drop)]
+#[derive(Clone, Copy)]
 pub struct Settings {
     pub shape: Shape,
     pub incarnation: Incarnation,
@@ -20,7 +22,7 @@ pub struct Settings {
 
 // What a Bound says of a session; its texts are parts of the store's byte area.
 #[repr(C)]
-#[derive(Drop)]
+#[derive(Clone, Copy)]
 pub struct BoundSummary {
     pub next_outgoing: u64,
     pub next_incoming: u64,
@@ -34,7 +36,7 @@ pub struct BoundSummary {
 
 // A refusal by its number, or the frame that is answered by its kind: 2 Welcome, 5 Ack, 6 Nack, 7 Bound; both 0: done.
 #[repr(C)]
-#[derive(Drop)]
+#[derive(Clone, Copy)]
 pub struct Answer {
     pub refusal: u8,
     pub kind: u8,
@@ -48,7 +50,7 @@ pub struct Answer {
 
 // What a call by value gives: the counters after it, its answer, and what is to be done to the row.
 #[repr(C)]
-#[derive(Drop)]
+#[derive(Clone, Copy)]
 pub struct Outcome {
     pub replica: Replica,
     pub answer: Answer,

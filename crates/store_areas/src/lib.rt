@@ -1,10 +1,12 @@
 // The store's two areas: their shape, the rules that they keep, and where each place's words and bytes stand.
+#![tactic(auto)]
+
 ghost use Rattle.std.specs.Prelude.{◌≡◌, ℕ, ◌+◌, ◌*◌, ◌≤◌, ◌<◌, Bool, true, false, List, length, get_or, set};
 ghost use Rattle.store_areas.specs.Areas.{place_words, place_bytes, durable_at, roomy, allowed, Rules, SpotIs, SpotIn, in_use, Making};
 
 // How many session places, and for each the message bytes (C) and the messages (M).
 #[repr(C)]
-#[derive(Drop)]
+#[derive(Clone, Copy)]
 pub struct Shape {
     pub places: u32,
     pub bytes: u32,
@@ -34,7 +36,7 @@ pub mod word {
 pub const MAX_PENDING: u64 = (COUNT_WORDS - word::COMMITS) as u64;
 
 // The answer to making a store.
-#[derive(Drop)]
+#[derive(Clone, Copy)]
 pub enum Made {
     Ready,
     InvalidAreas,
@@ -57,7 +59,7 @@ pub fn place_bytes(shape: Shape) -> usize
 
 // Where the words and the bytes of a place begin and end.
 #[repr(C)]
-#[derive(Drop)]
+#[derive(Clone, Copy)]
 pub struct Spot {
     pub words_start: usize,
     pub words_end: usize,

@@ -1,4 +1,6 @@
 // One session's log of messages, in two lent slices: `words` (a head, a tail and a ring of entries) and `bytes` (a ring).
+#![tactic(auto)]
+
 pub mod fnv;
 
 ghost use Rattle.std.specs.Prelude.{◌≡◌, ℕ, ◌+◌, ◌-◌, ◌*◌, ◌<◌, ◌≤◌, List, [], ◌∷◌, ◌++◌, length, take, drop, slice_index};
@@ -148,7 +150,7 @@ pub fn clear(words: &mut [u64], max: usize)
 
 // A place in the log: the newest messages that are still to be read, and their bytes.
 #[repr(C)]
-#[derive(Drop)]
+#[derive(Clone, Copy)]
 pub struct LogPosition {
     pub left: usize,
     pub dist: usize,
@@ -205,7 +207,7 @@ pub fn slot_at(head: usize, max: usize, i: usize) -> usize
 
 // Where bytes of the ring stand: `first` from `start`, then `rest` from the ring's start.
 #[repr(C)]
-#[derive(Drop)]
+#[derive(Clone, Copy)]
 pub struct RingSpan {
     pub start: usize,
     pub first: usize,
@@ -244,7 +246,7 @@ pub fn span_of(tail: usize, cap: usize, dist: usize, len: usize) -> RingSpan
 
 // A message in the ring: its number, where its bytes stand, and the place after it.
 #[repr(C)]
-#[derive(Drop)]
+#[derive(Clone, Copy)]
 pub struct Found {
     pub number: u64,
     pub start: usize,

@@ -1,4 +1,6 @@
 // One place of the store: the words and bytes of one session, and its key.
+#![tactic(auto)]
+
 ghost use Rattle.std.specs.Prelude.{◌≡◌, Bool, true, List, [], ◌∷◌, ℕ, ◌+◌, ◌-◌, ◌*◌, ◌≤◌, ◌<◌, min, length, take, drop, get_or, set};
 ghost use Rattle.model_text.specs.Printable.{is_marks};
 ghost use Rattle.model_text.specs.Stamp.{is_stamp};
@@ -69,7 +71,7 @@ const BEFORE_MARKS: usize = byte::MARKS - 1;
 const LAST_MARK: usize = byte::RING - 1;
 
 // A number that is in flight.
-#[derive(Drop)]
+#[derive(Clone, Copy)]
 pub enum Flight {
     Nothing,
     Number(u64),

@@ -1,4 +1,6 @@
 // Several resend ranges together: the stored messages of a session that lie in some range, with the set of ranges each serves.
+#![tactic(auto)]
+
 ghost use Rattle.std.specs.Prelude.{◌≡◌, cond, ℕ, min, ◌+◌, ◌-◌, ◌*◌, ◌≤◌, ◌<◌, length, get_or, leb};
 ghost use Rattle.store_areas.specs.Areas.{Rules};
 ghost use Rattle.store_sessions.specs.Answers.{PositionAt, rest_at};
@@ -13,7 +15,7 @@ use store_sessions::Message;
 
 // The answer: 25, 35 or 36, else 0, how many messages are listed, and their bytes.
 #[repr(C)]
-#[derive(Drop)]
+#[derive(Clone, Copy)]
 pub struct Listed {
     pub refusal: u8,
     pub length: usize,
@@ -33,7 +35,7 @@ impl Listed {
 
 // The set of ranges that every number from base to until lies in.
 #[repr(C)]
-#[derive(Drop)]
+#[derive(Clone, Copy)]
 pub struct Kept {
     pub base: u64,
     pub until: u64,
@@ -42,7 +44,7 @@ pub struct Kept {
 
 // How many messages are listed, and their bytes.
 #[repr(C)]
-#[derive(Drop)]
+#[derive(Clone, Copy)]
 pub struct Tally {
     pub length: usize,
     pub bytes: usize,
@@ -263,7 +265,7 @@ fn enter(entries: &mut [u64], k: usize, set: u64, m: Message)
 
 // How far a listing has come: the messages still to be read, their bytes, and what is listed.
 #[repr(C)]
-#[derive(Drop)]
+#[derive(Clone, Copy)]
 pub struct Progress {
     pub left: usize,
     pub dist: usize,
@@ -273,7 +275,7 @@ pub struct Progress {
 
 // The same without the bytes listed, which are those that were read.
 #[repr(C)]
-#[derive(Drop)]
+#[derive(Clone, Copy)]
 pub struct Followed {
     pub left: usize,
     pub dist: usize,

@@ -1,4 +1,6 @@
 // The sessions of a store: finding and opening one, its summary and its messages, promotion of all.
+#![tactic(auto)]
+
 ghost use Rattle.std.specs.Prelude.{◌≡◌, Bool, true, List, [], ◌∷◌, ◌++◌, ℕ, ◌+◌, ◌-◌, ◌*◌, ◌≤◌, ◌<◌, length, take, drop, get_or, set};
 ghost use Rattle.model_session.specs.Summary.{last_out, summary};
 ghost use Rattle.model_standby.specs.Store.{same_key, place_of, taken_over};
@@ -14,14 +16,14 @@ use store_log::LogPosition;
 use store_place::Flight;
 
 // The answer to a search: the place of the key, or, where it has none, the number of places in use.
-#[derive(Drop)]
+#[derive(Clone, Copy)]
 pub enum Sought {
     Place(usize),
     InvalidAreas,
 }
 
 // The answer to a request for a summary, whose texts are parts of the byte area.
-#[derive(Drop)]
+#[derive(Clone, Copy)]
 pub enum Summarised {
     Session(Summary),
     InvalidAreas,
@@ -30,7 +32,7 @@ pub enum Summarised {
 // A stored message: its number, where its bytes stand in the byte area (the second part is empty unless they wrap around
 // the ring's end), and the position of the message before it in the log.
 #[repr(C)]
-#[derive(Drop)]
+#[derive(Clone, Copy)]
 pub struct Message {
     pub number: u64,
     pub first_at: usize,

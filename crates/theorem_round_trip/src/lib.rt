@@ -1,11 +1,13 @@
 // Frames survive writing and reading: what the contracts of `Frame::encode` and `Frame::decode` come to, one after the other.
+#![tactic(auto)]
+
 ghost use Rattle.theorem_round_trip.specs.RoundTrip.{Survives};
 
 use frame::{Decoded, Frame, Written};
 use frame_stamp::Protocol;
 
 // What reading the area gave after a frame of some length was written at its start, or that none was written.
-#[derive(Drop)]
+#[derive(Clone, Copy)]
 pub enum ReadAgain {
     Read(Decoded, usize),
     NotWritten,

@@ -5,12 +5,14 @@
 // Record with this message, `l LENGTH` one with a made message, `g N` one without message, `z` Reset;
 // `w HANDLE EPOCH LAST` a sending, `v HANDLE EPOCH LAST LENGTH` one that lends so many bytes first and more after a 9,
 // `x LAST FROM` a call with a state that no beginning gave.
+#![tactic(auto)]
+
 use libc::STDIN_FILENO;
 use store_areas::Shape;
 
 // The store's shape and the place that commands are about.
 #[repr(C)]
-#[derive(Drop)]
+#[derive(Clone, Copy)]
 struct At {
     shape: Shape,
     place: usize,

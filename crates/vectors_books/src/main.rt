@@ -1,6 +1,8 @@
 // Replays recorded lines on the books of a catch-up. What it must write was recorded from the Rust by tests/make/books_vectors.py, which
 // also wrote the lines. `make` makes the books anew (written: nothing, or a refusal); the calls are those of docs/SCRIPTS.md; `lend 0` lends
 // an area one word too short from then on, `lend 1` the first one again; `word I V` sets a word, for an area handed in with others.
+#![tactic(auto)]
+
 ghost use Rattle.std.specs.Prelude.{◌≤◌, length};
 
 use active_books::Answer;

@@ -1,6 +1,8 @@
 // Runs recorded sets of copies, a line a set; tests/make/choice_vectors.py wrote the script and what must be written.
 // A line is `C` and ten numbers for each of five copies: whether it is listed, whether it is checked, its epoch, how many sessions are in
 // use, and of three sessions the key and the next outgoing number. A fourth session in use breaks the store's rules.
+#![tactic(auto)]
+
 ghost use Rattle.std.specs.Prelude.{◌≤◌};
 
 use frame_fields::Epoch;

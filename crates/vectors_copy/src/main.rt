@@ -6,6 +6,8 @@
 // message, `g N` one without message, `b N F` SetNextIncomingInFlight, `t:TEXT` the stamp, `k:TEXT` the marks;
 // `h:DIGITS` a frame for the standby; `w HANDLE EPOCH LAST` begins the sending: what the standby has now is B;
 // `f` takes the next frame; `=` gives it to the standby; `x AT N` gives it with N added to its byte AT.
+#![tactic(auto)]
+
 use active::{Begun, Sending, Sent};
 use base_hex::Line;
 use frame::{InFlight, Summary};
@@ -18,7 +20,7 @@ use store_sessions::Summarised;
 
 // The stores' shape, what the standby keeps, the sending, the length of the frame that it gave last, and B's hash.
 #[repr(C)]
-#[derive(Drop)]
+#[derive(Clone, Copy)]
 struct Way {
     shape: Shape,
     replica: Replica,

@@ -1,4 +1,6 @@
 // The changes of a session that the programs make: one that can't be made is left out.
+#![tactic(auto)]
+
 use std::num::wrapping_add_u64;
 use store_areas::Shape;
 

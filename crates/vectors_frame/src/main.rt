@@ -1,5 +1,7 @@
 // Reads frames, one line of digits each, and writes for each what reading it gives: `more`, `R` with the refusal's number and values, or the
 // bytes taken and the frame written again. What it must write is what oracle/rust-frames writes; the lines come from tests/make/frame_vectors.py.
+#![tactic(auto)]
+
 ghost use Rattle.std.specs.Prelude.{◌≡◌, ◌≤◌, length};
 
 use base_hex::Line;

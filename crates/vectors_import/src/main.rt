@@ -2,6 +2,8 @@
 // files once more, and which also wrote the script. A line is a letter, a character, and what it takes: `n S C M` a new store, `x` an empty
 // file, `a TEXT` a text behind the file (`|` for byte 01, `~` for byte 80, `^` for a line feed), `s AT BYTE` one byte of it set,
 // `i KEY LENGTH` an import of the file's first bytes.
+#![tactic(auto)]
+
 use c_import::Built;
 use libc::{STDIN_FILENO, STDOUT_FILENO};
 use std::num::wrapping_add_u64;
@@ -162,7 +164,7 @@ fn import_part(line: &[u8], words: &mut [u64], bytes: &mut [u8], shape: Shape, f
 }
 
 // What a command leaves beside the areas.
-#[derive(Drop)]
+#[derive(Clone, Copy)]
 struct State {
     shape: Shape,
     len: usize,

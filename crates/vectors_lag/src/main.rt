@@ -1,6 +1,8 @@
 // Runs a script of pushes onto lag queues. What it must write was recorded from the Rust by tests/make/active_vectors.py, which also wrote
 // the script. `Q MAX_LAG DRAINED LAST..` is a new queue with a push for each LAST, as in call scripts; `q MAX_LAG DRAINED COUNT LAST..`
 // one in which COUNT zeros wait.
+#![tactic(auto)]
+
 use active_lag::ReplicatedLog;
 use libc::{STDIN_FILENO, STDOUT_FILENO};
 

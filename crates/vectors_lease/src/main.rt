@@ -1,6 +1,8 @@
 // Runs scripts of questions and attempts on leases, one script after the other. What it must write was recorded from the Rust by
 // tests/make/lease_vectors.py, which also wrote the scripts. A script's first line is the duration and the time of making; then
 // `due T`, and `try START OUTCOME ok|failed|deposed`.
+#![tactic(auto)]
+
 use c_lease::Due;
 use libc::{STDIN_FILENO, STDOUT_FILENO};
 

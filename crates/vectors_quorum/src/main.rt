@@ -2,6 +2,8 @@
 // the whole history and counts over it. `n k` makes the state anew (written: nothing, or a refusal); `bind H`, `sent H N`,
 // `ack MEMBER H N`, `stale MEMBER`, `figure H` as in docs/SCRIPTS.md; `lend 0` lends an area one word too short from
 // then on, `lend 1` the first one again; `word I V` sets a word, for a state handed in with others.
+#![tactic(auto)]
+
 use frame_fields::CommitNumber;
 use libc::{STDIN_FILENO, STDOUT_FILENO};
 

@@ -2,6 +2,8 @@
 // which holds each message against every range, and which also wrote the script. A line is a letter, a character, and what it takes:
 // `n C M` a new store with one session, `l LENGTH` a Record with a made message, `g N` one without message, `z` Reset,
 // `G PLACE ENTRIES FIRST LAST ..` a request for the session at a place, into an area of so many entries.
+#![tactic(auto)]
+
 use libc::{STDIN_FILENO, STDOUT_FILENO};
 use store_areas::Shape;
 

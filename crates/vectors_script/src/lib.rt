@@ -1,4 +1,6 @@
 // Lines, and numbers in them.
+#![tactic(auto)]
+
 ghost use Rattle.std.specs.Prelude.{◌<◌, ◌≤◌, length};
 
 use std::num::wrapping_add_u64;

@@ -1,4 +1,6 @@
 // Sendings of a session, and what they give in text.
+#![tactic(auto)]
+
 use active::{Begun, Sending, Sent};
 use frame_fields::{CommitNumber, Epoch};
 use libc::STDOUT_FILENO;
@@ -6,7 +8,7 @@ use store_areas::Shape;
 
 // What a call answered (0 for a frame, 1 for done, or the refusal), and what to hand to the next call.
 #[repr(C)]
-#[derive(Drop)]
+#[derive(Clone, Copy)]
 struct Called {
     answer: u8,
     next: Sending,

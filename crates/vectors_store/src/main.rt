@@ -2,6 +2,8 @@
 // FNV-1a. Commands: `n C M` a new store, `r LENGTH COUNT` Records with messages, `g K` a Record without one that skips K numbers,
 // `z` Reset, `p LAG` promotion, `l` a listing, `h N` last_outgoing, `f TEXT` the hash of a text. What it must write was made by
 // tests/make/store_vectors.py, which has the rules in Python.
+#![tactic(auto)]
+
 ghost use Rattle.std.specs.Prelude.{◌+◌, ◌<◌, ◌≤◌, length};
 ghost use Rattle.store_areas.specs.Areas.{Rules};
 ghost use Rattle.store_sessions.specs.Answers.{PositionAt};
@@ -12,7 +14,7 @@ use store_areas::Shape;
 
 // A number in a line, and where it ends.
 #[repr(C)]
-#[derive(Drop)]
+#[derive(Clone, Copy)]
 struct Number {
     value: u32,
     end: usize,

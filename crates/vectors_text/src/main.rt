@@ -1,5 +1,7 @@
 // Runs the examples of RFC 3629, the edges of each length, all inputs of one, two and three bytes, all first bytes with good and bad
 // following bytes, and stamps, marks and keys, and writes how many were taken. What it must write was counted with Python's decoder.
+#![tactic(auto)]
+
 ghost use Rattle.std.specs.Prelude.{◌≤◌, length};
 
 use frame_stamp::{Protocol, is_key, is_marks, is_stamp, takes_stamp};
@@ -8,7 +10,7 @@ use std::num::wrapping_add_u64;
 
 // How many inputs there were, how many of them were taken, and the sum of the numbers of those taken, which tells them apart.
 #[repr(C)]
-#[derive(Drop)]
+#[derive(Clone, Copy)]
 struct Tally {
     of: u64,
     taken: u64,

@@ -9,23 +9,23 @@ use Rattle.base_laws.proofs.Little.{write_more, write_done}
 use Rattle.base_bytes.proofs.copy.Statement.{statement}
 use Rattle.base_bytes.proofs.copy.Tie as tie
 
-abbrev invariant-loop : tie.invariant-loop
-invariant-loop s out₀ at i₀ out i = (i ≤ length s) × (length out ≡ length out₀) × (write out (at + i) (drop i s) ≡ write out₀ at s)
+abbrev invariant-loop-i : tie.invariant-loop-i
+invariant-loop-i s out₀ at i₀ out i = (i ≤ length s) × (length out ≡ length out₀) × (write out (at + i) (drop i s) ≡ write out₀ at s)
 
-abbrev decreases-loop : tie.decreases-loop
-decreases-loop s out₀ at i₀ out i = length s - i
+abbrev decreases-loop-i : tie.decreases-loop-i
+decreases-loop-i s out₀ at i₀ out i = length s - i
 
-loop-holds : tie.Need-loop-init invariant-loop decreases-loop
+loop-holds : tie.Need-loop-i-init invariant-loop-i decreases-loop-i
 loop-holds c = (search rules, refl, rw add-zero)
 
-loop-again : tie.Need-loop-preserved invariant-loop decreases-loop
+loop-again : tie.Need-loop-i-preserved invariant-loop-i decreases-loop-i
 loop-again c =
-    let l = c.before.before in
-    (search rules, simp length-set l.loop.invariant.1, sym (write_more _ _ _ _ c.before.loop-test.true) ∙ l.loop.invariant.2)
+    let l = c in
+    (search rules, simp length-set l.loop-i.invariant.1, sym (write_more _ _ _ _ c.loop-i-test.true) ∙ l.loop-i.invariant.2)
 
-returns : tie.Need-returns invariant-loop decreases-loop
+returns : tie.Need-returns invariant-loop-i decreases-loop-i
 returns c = record {
-  bytes = sym (write_done _ _ _ _ c.loop-test.false) ∙ c.before.loop.invariant.2;
+  bytes = sym (write_done _ _ _ _ c.loop-i-test.false) ∙ c.loop-i.invariant.2;
   past = omega arith;
 }
 
@@ -33,8 +33,8 @@ pub copy_spec : {M : Type 1} → statement M
 copy_spec =
     tie.close
     (tie.spec
-    invariant-loop
-    decreases-loop
+    invariant-loop-i
+    decreases-loop-i
     loop-holds
     (λ c. search rules)
     (λ c. search rules)

@@ -6,8 +6,8 @@ use Rattle.base_bytes.proofs.put_u16.Tie as tie
 
 returns : tie.Need-returns
 returns c =
-    let b = c.before.before in
-    (wrote_join 1 1 _ b.before.before.before.before.put-u8.ensures.0 b.put-u82.ensures.0, omega (arith, b.put-u82.ensures.1))
+    let b = c in
+    (wrote_join 1 1 _ b.put_u8.ensures.0 b.put_u8-2.ensures.0, omega (arith, b.put_u8-2.ensures.1))
 
 pub put_u16_spec : {M : Type 1} → statement M
 put_u16_spec =

@@ -6,8 +6,8 @@ use Rattle.base_bytes.proofs.put_u32.Tie as tie
 
 returns : tie.Need-returns
 returns c =
-    let b = c.before.before in
-    (wrote_join 2 2 _ b.before.before.before.before.put-u16.ensures.0 b.put-u162.ensures.0, omega (arith, b.put-u162.ensures.1))
+    let b = c in
+    (wrote_join 2 2 _ b.put_u16.ensures.0 b.put_u16-2.ensures.0, omega (arith, b.put_u16-2.ensures.1))
 
 pub put_u32_spec : {M : Type 1} → statement M
 put_u32_spec =

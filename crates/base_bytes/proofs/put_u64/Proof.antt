@@ -6,8 +6,8 @@ use Rattle.base_bytes.proofs.put_u64.Tie as tie
 
 returns : tie.Need-returns
 returns c =
-    let b = c.before.before in
-    (wrote_join 4 4 _ b.before.before.before.before.put-u32.ensures.0 b.put-u322.ensures.0, omega (arith, b.put-u322.ensures.1))
+    let b = c in
+    (wrote_join 4 4 _ b.put_u32.ensures.0 b.put_u32-2.ensures.0, omega (arith, b.put_u32-2.ensures.1))
 
 pub put_u64_spec : {M : Type 1} → statement M
 put_u64_spec =

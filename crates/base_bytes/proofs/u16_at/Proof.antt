@@ -5,7 +5,7 @@ use Rattle.base_bytes.proofs.u16_at.Statement.{statement}
 use Rattle.base_bytes.proofs.u16_at.Tie as tie
 
 returns : tie.Need-returns
-returns c = omega (arith, le_join 1 1 c.before.before.before.args.buf.now c.before.before.before.args.at)
+returns c = omega (arith, le_join 1 1 c.args.buf.now c.args.at)
 
 pub u16_at_spec : {M : Type 1} → statement M
 u16_at_spec =

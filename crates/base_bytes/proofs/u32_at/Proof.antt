@@ -5,7 +5,7 @@ use Rattle.base_bytes.proofs.u32_at.Statement.{statement}
 use Rattle.base_bytes.proofs.u32_at.Tie as tie
 
 returns : tie.Need-returns
-returns c = omega (arith, le_join 2 2 c.before.before.before.args.buf.now c.before.before.before.args.at)
+returns c = omega (arith, le_join 2 2 c.args.buf.now c.args.at)
 
 pub u32_at_spec : {M : Type 1} → statement M
 u32_at_spec =

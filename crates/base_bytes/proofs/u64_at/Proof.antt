@@ -5,7 +5,7 @@ use Rattle.base_bytes.proofs.u64_at.Statement.{statement}
 use Rattle.base_bytes.proofs.u64_at.Tie as tie
 
 returns : tie.Need-returns
-returns c = omega (arith, le_join 4 4 c.before.before.before.args.buf.now c.before.before.before.args.at)
+returns c = omega (arith, le_join 4 4 c.args.buf.now c.args.at)
 
 pub u64_at_spec : {M : Type 1} → statement M
 u64_at_spec =

@@ -5,20 +5,20 @@ use borrow.Author.Rules.{rules}
 use Rattle.base_hex.proofs.put_refusal.Statement.{statement}
 use Rattle.base_hex.proofs.put_refusal.Tie as tie
 
-slice_write_out_2 : tie.Need-slice-write-out-2
+slice_write_out_2 : tie.Need-bounds-out-1
 slice_write_out_2 c = simp length-set (omega arith)
 
-slice_write_out_3 : tie.Need-slice-write-out-3
+slice_write_out_3 : tie.Need-bounds-out-2
 slice_write_out_3 c = simp length-set (omega arith)
 
-returns : tie.Need-returns
-returns c = one_digit c.before.args.n c.before.args.out.now (omega arith) c.if1.true
+returns : tie.Need-returns-then-n-lt10
+returns c = one_digit c.args.n c.args.out.now (omega arith) c.if-n-lt10.true
 
-slice_write_out_4 : tie.Need-slice-write-out-4
+slice_write_out_4 : tie.Need-bounds-out-2-2
 slice_write_out_4 c = simp length-set (omega arith)
 
-returns-2 : tie.Need-returns-2
-returns-2 c = two_digits c.before.args.n c.before.args.out.now (omega arith) c.if1.false
+returns-2 : tie.Need-returns
+returns-2 c = two_digits c.args.n c.args.out.now (omega arith) c.if-n-lt10.false
 
 pub put_refusal_spec : {M : Type 1} → statement M
 put_refusal_spec =

@@ -7,8 +7,8 @@ use Rattle.base_lines.proofs.copy.Tie as tie
 
 returns : tie.Need-returns
 returns c =
-    let a = c.before.before.before.before.before.before.before.args in
-    c.before.before.copy.ensures.bytes ∙ copied a.dst.now a.at a.src.now a.from a.n (omega arith) (omega arith)
+    let a = c.args in
+    c.copy.ensures.bytes ∙ copied a.dst.now a.at a.src.now a.from a.n (omega arith) (omega arith)
 
 pub copy_spec : {M : Type 1} → statement M
 copy_spec =

@@ -10,29 +10,29 @@ use Rattle.base_laws.proofs.Runs.{numbers_end, count_room, run-items}
 use Rattle.frame_fields.proofs.kinds_from.Statement.{statement}
 use Rattle.frame_fields.proofs.kinds_from.Tie as tie
 
-returns : tie.Need-returns
+returns : tie.Need-returns-in_default
 unfolding read_kinds
-returns c = (rw (← c.before.before.count-from.ensures, c.enum_told.given.1), (tt, tt))
+returns c = (rw (← c.count_from.ensures, c.in_default.is), (tt, tt))
 
 -- what is left has room for the kinds
-room : (c : tie.After-known-told) → c.before.count.given.0.0 * 2 ≤ length (drop c.before.count.given.0.1.0.at c.before.before.before.before.before.args.buf.now)
-room c = count_room 2 _ (sym c.before.before.before.count-from.ensures ∙ ap (res32 _) c.before.count.given.1)
+room : (c : tie.In-Got) → c.in-Got.count * 2 ≤ length (drop c.in-Got.d.at c.args.buf.now)
+room c = count_room 2 _ (sym c.count_from.ensures ∙ ap (res32 _) c.in-Got.is)
 
-add_t9 : tie.Need-overflow-add-t9
+add_t9 : tie.Need-overflow_add-result
 add_t9 c =
     let r = room c in
-    let l = length-drop c.before.count.given.0.1.0.at c.before.before.before.before.before.args.buf.now in
+    let l = length-drop c.in-Got.d.at c.args.buf.now in
     search rules
 
-returns-2 : tie.Need-returns-2
+returns-2 : tie.Need-returns
 unfolding read_kinds
 returns-2 c =
-    let g = c.before in
-    let at = g.count.given.0.1.0.at in
-    let n = g.count.given.0.0 in
-    let b = c.before.before.before.before.before.args.buf.now in
+    let g = c in
+    let at = g.in-Got.d.at in
+    let n = g.in-Got.count in
+    let b = c.args.buf.now in
     let run = run-items (read_num 2) n (drop at b) {t = drop (at + n * 2) b} (rw (← drop-drop (n * 2) at b) (sym (numbers_end 2 n (drop at b) (room c)))) in
-    (rw (← g.before.before.count-from.ensures, g.count.given.1) run, (sym run, refl))
+    (rw (← g.count_from.ensures, g.in-Got.is) run, (sym run, refl))
 
 pub kinds_from_spec : {M : Type 1} → statement M
 kinds_from_spec =

@@ -4,39 +4,39 @@ use borrow.Author.Tests.{ne_eqb}
 use Rattle.frame_fields.proofs.part_from.Statement.{statement}
 use Rattle.frame_fields.proofs.part_from.Tie as tie
 
-returns : tie.Need-returns
+returns : tie.Need-returns-in_default
 unfolding read_part
 returns c =
-    let c1 = c.before.before in
-    rw (← c1.u8-from.ensures, c.enum_told.given.1)
+    let c1 = c in
+    rw (← c1.u8_from.ensures, c.in_default.is)
 
-returns-2 : tie.Need-returns-2
+returns-2 : tie.Need-returns-in-0
 unfolding read_part
 returns-2 c =
-    let c1 = c.before.before in
-    let c2 = c1.before.before in
-    rw (← c2.u8-from.ensures, c1.k.given.1, c.match2.keys1)
+    let c1 = c in
+    let c2 = c1 in
+    rw (← c2.u8_from.ensures, c1.in-Got.is, c.in-0.is)
 
-returns-3 : tie.Need-returns-3
+returns-3 : tie.Need-returns-in-1
 unfolding read_part
 returns-3 c =
-    let c1 = c.before.before in
-    let c2 = c1.before.before in
-    rw (← c2.u8-from.ensures, c1.k.given.1, c.match2.keys2)
+    let c1 = c in
+    let c2 = c1 in
+    rw (← c2.u8_from.ensures, c1.in-Got.is, c.in-1.is)
 
-returns-4 : tie.Need-returns-4
+returns-4 : tie.Need-returns-in-2
 unfolding read_part
 returns-4 c =
-    let c1 = c.before.before in
-    let c2 = c1.before.before in
-    rw (← c2.u8-from.ensures, c1.k.given.1, c.match2.keys3)
+    let c1 = c in
+    let c2 = c1 in
+    rw (← c2.u8_from.ensures, c1.in-Got.is, c.in-2.is)
 
-returns-5 : tie.Need-returns-5
+returns-5 : tie.Need-returns-in_default-k
 unfolding read_part
 returns-5 c =
-    let c1 = c.before.before in
-    let c2 = c1.before.before in
-    rw (← c2.u8-from.ensures, c1.k.given.1, ne_eqb _ _ c.match2.rest.0.0.1, ne_eqb _ _ c.match2.rest.0.1, ne_eqb _ _ c.match2.rest.1)
+    let c1 = c in
+    let c2 = c1 in
+    rw (← c2.u8_from.ensures, c1.in-Got.is, ne_eqb _ _ c.in_default-k.in_default-k-own.rest.0.0.1, ne_eqb _ _ c.in_default-k.in_default-k-own.rest.0.1, ne_eqb _ _ c.in_default-k.in_default-k-own.rest.1)
 
 pub part_from_spec : {M : Type 1} → statement M
 part_from_spec =

@@ -17,37 +17,37 @@ use Rattle.frame_fields.proofs.records_len.Statement.{statement}
 use Rattle.frame_fields.proofs.records_len.Tie as tie
 
 -- what is known once the run has been skipped
-abbrev buf_of : tie.After-d → List ℕ
-buf_of k = k.before.before.before.before.args.buf.now
+abbrev buf_of : tie.After-bytes_left-in-At → List ℕ
+buf_of k = k.args.buf.now
 
-abbrev at_of : tie.After-d → ℕ
-at_of k = k.before.before.before.before.args.cursor.at
+abbrev at_of : tie.After-bytes_left-in-At → ℕ
+at_of k = k.args.cursor.at
 
-abbrev count_of : tie.After-d → ℕ
-count_of k = k.before.before.before.before.args.count
+abbrev count_of : tie.After-bytes_left-in-At → ℕ
+count_of k = k.args.count
 
-abbrev end_of : tie.After-d → ℕ
-end_of k = k.d.given.0.0.at
+abbrev end_of : tie.After-bytes_left-in-At → ℕ
+end_of k = k.in-At.d.at
 
-known : (k : tie.After-d) → T (is_bytes (buf_of k))
-known k = are_bytes (buf_of k) (λ i. (k.before.before.before.shared-slice-known.given i).fits)
+known : (k : tie.After-bytes_left-in-At) → T (is_bytes (buf_of k))
+known k = are_bytes (buf_of k) (λ i. (k.shared_slice_known-1.given i).fits)
 
-ended : (k : tie.After-d) → ok tt (drop (end_of k) (buf_of k)) ≡ forget (many (count_of k) read_app_record (drop (at_of k) (buf_of k)))
-ended k = sym (ap (res_end _) k.d.given.1) ∙ k.before.before.app-records-end.ensures
+ended : (k : tie.After-bytes_left-in-At) → ok tt (drop (end_of k) (buf_of k)) ≡ forget (many (count_of k) read_app_record (drop (at_of k) (buf_of k)))
+ended k = sym (ap (res_end _) k.in-At.is) ∙ k.app_records_end.ensures
 
-sub_t10 : tie.Need-overflow-sub-t10
+sub_t10 : tie.Need-overflow_sub-result
 sub_t10 c =
-    let k = c.before.before.before in
-    let f = run-forward read_app_record app_record_bytes (λ r. RangedRecord r × ByteRecord r) record_canon (count_of k) (buf_of k) (at_of k) (end_of k) (known k) (ended k) c.before.bytes_left.ensures c.bytes-left2.ensures in
+    let k = c in
+    let f = run-forward read_app_record app_record_bytes (λ r. RangedRecord r × ByteRecord r) record_canon (count_of k) (buf_of k) (at_of k) (end_of k) (known k) (ended k) c.bytes_left.ensures c.bytes_left-in-At.ensures in
     search rules
 
-returns : tie.Need-returns
-returns c = sym (run-fault _ (sym (ap (res_end _) c.before.e.given.1) ∙ c.before.before.before.app-records-end.ensures))
+returns : tie.Need-returns-in-Bad
+returns c = sym (run-fault _ (sym (ap (res_end _) c.in-Bad.is) ∙ c.app_records_end.ensures))
 
-returns-2 : tie.Need-returns-2
+returns-2 : tie.Need-returns-in-At
 returns-2 c =
-    let k = c.before.before.before in
-    (run_past read_app_record app_record_bytes (λ r. RangedRecord r × ByteRecord r) record_canon (count_of k) (buf_of k) (at_of k) (end_of k) (known k) (ended k) c.before.bytes_left.ensures c.bytes-left2.ensures, run-stands read_app_record app_record_bytes (λ r. RangedRecord r × ByteRecord r) record_canon (count_of k) (buf_of k) (at_of k) (end_of k) (known k) (ended k) c.before.bytes_left.ensures c.bytes-left2.ensures)
+    let k = c in
+    (run_past read_app_record app_record_bytes (λ r. RangedRecord r × ByteRecord r) record_canon (count_of k) (buf_of k) (at_of k) (end_of k) (known k) (ended k) c.bytes_left.ensures c.bytes_left-in-At.ensures, run-stands read_app_record app_record_bytes (λ r. RangedRecord r × ByteRecord r) record_canon (count_of k) (buf_of k) (at_of k) (end_of k) (known k) (ended k) c.bytes_left.ensures c.bytes_left-in-At.ensures)
 
 pub records_len_spec : {M : Type 1} → statement M
 records_len_spec =

@@ -5,98 +5,98 @@ use Rattle.model_frame.specs.Reading.{read_key}
 use Rattle.frame_fields.proofs.session_from.Statement.{statement}
 use Rattle.frame_fields.proofs.session_from.Tie as tie
 
-returns : tie.Need-returns
+returns : tie.Need-returns-then-not-v-w
 unfolding read_key
 returns c =
-    let c1 = c.before in
-    let c2 = c1.before in
-    let c3 = c2.before.before in
-    let c4 = c3.before.before in
-    let c5 = c4.before.before in
-    let c6 = c5.before.before in
-    let c7 = c6.before.before in
-    let c8 = c7.before.before in
-    let v = rw c7.begin-string.given.1 at c8.checked-text-from.ensures.1.0 in
-    let w = rw c5.sender-comp-id.given.1 at c6.checked-text-from2.ensures.1.0 in
-    let x = rw c3.target-comp-id.given.1 at c4.checked-text-from3.ensures.1.0 in
-    (rw (← c8.checked-text-from.ensures.0, c7.begin-string.given.1, ← c6.checked-text-from2.ensures.0, c5.sender-comp-id.given.1, ← c4.checked-text-from3.ensures.0, c3.target-comp-id.given.1) (c.no-session.ensures.0 _ ∙ key-none _ _ _ v w x c2.if1.true c1.text-from.ensures.0), c.no-session.ensures.1 _)
+    let c1 = c in
+    let c2 = c1 in
+    let c3 = c2 in
+    let c4 = c3 in
+    let c5 = c4 in
+    let c6 = c5 in
+    let c7 = c6 in
+    let c8 = c7 in
+    let v = rw c7.in-Got.is at c8.checked_text_from.ensures.1.0 in
+    let w = rw c5.in-Got-checked_text_from.is at c6.checked_text_from-in-Got.ensures.1.0 in
+    let x = rw c3.in-Got-checked_text_from-2.is at c4.checked_text_from-in-Got-checked_text_from.ensures.1.0 in
+    (rw (← c8.checked_text_from.ensures.0, c7.in-Got.is, ← c6.checked_text_from-in-Got.ensures.0, c5.in-Got-checked_text_from.is, ← c4.checked_text_from-in-Got-checked_text_from.ensures.0, c3.in-Got-checked_text_from-2.is) (c.no_session.ensures.0 _ ∙ key-none _ _ _ v w x c2.if-not-v-w.true c1.text_from.ensures.0), c.no_session.ensures.1 _)
 
-returns-2 : tie.Need-returns-2
+returns-2 : tie.Need-returns-in-Bad
 unfolding read_key
 returns-2 c =
-    let c1 = c.before in
-    let c2 = c1.before.before in
-    (rw (← c2.checked-text-from.ensures.0, c1.e.given.1), tt)
+    let c1 = c in
+    let c2 = c1 in
+    (rw (← c2.checked_text_from.ensures.0, c1.in-Bad.is), tt)
 
-returns-3 : tie.Need-returns-3
+returns-3 : tie.Need-returns-in-Bad-checked_text_from
 unfolding read_key
 returns-3 c =
-    let c1 = c.before in
-    let c2 = c1.before.before in
-    let c3 = c2.before.before in
-    let c4 = c3.before.before in
-    (rw (← c4.checked-text-from.ensures.0, c3.begin-string.given.1, ← c2.checked-text-from2.ensures.0, c1.e2.given.1), tt)
+    let c1 = c in
+    let c2 = c1 in
+    let c3 = c2 in
+    let c4 = c3 in
+    (rw (← c4.checked_text_from.ensures.0, c3.in-Got.is, ← c2.checked_text_from-in-Got.ensures.0, c1.in-Bad-checked_text_from.is), tt)
 
-returns-4 : tie.Need-returns-4
+returns-4 : tie.Need-returns-in-Bad-checked_text_from-2
 unfolding read_key
 returns-4 c =
-    let c1 = c.before in
-    let c2 = c1.before.before in
-    let c3 = c2.before.before in
-    let c4 = c3.before.before in
-    let c5 = c4.before.before in
-    let c6 = c5.before.before in
-    (rw (← c6.checked-text-from.ensures.0, c5.begin-string.given.1, ← c4.checked-text-from2.ensures.0, c3.sender-comp-id.given.1, ← c2.checked-text-from3.ensures.0, c1.e3.given.1), tt)
+    let c1 = c in
+    let c2 = c1 in
+    let c3 = c2 in
+    let c4 = c3 in
+    let c5 = c4 in
+    let c6 = c5 in
+    (rw (← c6.checked_text_from.ensures.0, c5.in-Got.is, ← c4.checked_text_from-in-Got.ensures.0, c3.in-Got-checked_text_from.is, ← c2.checked_text_from-in-Got-checked_text_from.ensures.0, c1.in-Bad-checked_text_from-2.is), tt)
 
-returns-5 : tie.Need-returns-5
+returns-5 : tie.Need-returns-in-Bad-checked_text_from-3
 unfolding read_key
 returns-5 c =
-    let c1 = c.before in
-    let c2 = c1.before.before in
-    let c3 = c2.before in
-    let c4 = c3.before.before in
-    let c5 = c4.before.before in
-    let c6 = c5.before.before in
-    let c7 = c6.before.before in
-    let c8 = c7.before.before in
-    let c9 = c8.before.before in
-    (rw (← c9.checked-text-from.ensures.0, c8.begin-string.given.1, ← c7.checked-text-from2.ensures.0, c6.sender-comp-id.given.1, ← c5.checked-text-from3.ensures.0, c4.target-comp-id.given.1, ← c2.checked-text-from4.ensures.0, c1.e4.given.1), tt)
+    let c1 = c in
+    let c2 = c1 in
+    let c3 = c2 in
+    let c4 = c3 in
+    let c5 = c4 in
+    let c6 = c5 in
+    let c7 = c6 in
+    let c8 = c7 in
+    let c9 = c8 in
+    (rw (← c9.checked_text_from.ensures.0, c8.in-Got.is, ← c7.checked_text_from-in-Got.ensures.0, c6.in-Got-checked_text_from.is, ← c5.checked_text_from-in-Got-checked_text_from.ensures.0, c4.in-Got-checked_text_from-2.is, ← c2.checked_text_from-in-Got-checked_text_from-2.ensures.0, c1.in-Bad-checked_text_from-3.is), tt)
 
-returns-6 : tie.Need-returns-6
+returns-6 : tie.Need-returns-then-y
 unfolding read_key
 returns-6 c =
-    let c1 = c.before.before in
-    let c2 = c1.before.before in
-    let c3 = c2.before in
-    let c4 = c3.before.before in
-    let c5 = c4.before.before in
-    let c6 = c5.before.before in
-    let c7 = c6.before.before in
-    let c8 = c7.before.before in
-    let c9 = c8.before.before in
-    let v = rw c8.begin-string.given.1 at c9.checked-text-from.ensures.1.0 in
-    let w = rw c6.sender-comp-id.given.1 at c7.checked-text-from2.ensures.1.0 in
-    let x = rw c4.target-comp-id.given.1 at c5.checked-text-from3.ensures.1.0 in
-    let y = rw c1.key-suffix.given.1 at c2.checked-text-from4.ensures.1.0 in
-    (rw (← c9.checked-text-from.ensures.0, c8.begin-string.given.1, ← c7.checked-text-from2.ensures.0, c6.sender-comp-id.given.1, ← c5.checked-text-from3.ensures.0, c4.target-comp-id.given.1, ← c2.checked-text-from4.ensures.0, c1.key-suffix.given.1, key-told _ _ _ v w x _ c3.if1.false y c.if2.true), (rw c8.begin-string.given.1 at c9.checked-text-from.ensures.1.1, rw c6.sender-comp-id.given.1 at c7.checked-text-from2.ensures.1.1, rw c4.target-comp-id.given.1 at c5.checked-text-from3.ensures.1.1, rw c1.key-suffix.given.1 at c2.checked-text-from4.ensures.1.1))
+    let c1 = c in
+    let c2 = c1 in
+    let c3 = c2 in
+    let c4 = c3 in
+    let c5 = c4 in
+    let c6 = c5 in
+    let c7 = c6 in
+    let c8 = c7 in
+    let c9 = c8 in
+    let v = rw c8.in-Got.is at c9.checked_text_from.ensures.1.0 in
+    let w = rw c6.in-Got-checked_text_from.is at c7.checked_text_from-in-Got.ensures.1.0 in
+    let x = rw c4.in-Got-checked_text_from-2.is at c5.checked_text_from-in-Got-checked_text_from.ensures.1.0 in
+    let y = rw c1.in-Got-checked_text_from-3.is at c2.checked_text_from-in-Got-checked_text_from-2.ensures.1.0 in
+    (rw (← c9.checked_text_from.ensures.0, c8.in-Got.is, ← c7.checked_text_from-in-Got.ensures.0, c6.in-Got-checked_text_from.is, ← c5.checked_text_from-in-Got-checked_text_from.ensures.0, c4.in-Got-checked_text_from-2.is, ← c2.checked_text_from-in-Got-checked_text_from-2.ensures.0, c1.in-Got-checked_text_from-3.is, key-told _ _ _ v w x _ c3.if-not-v-w.false y c.if-y.true), (rw c8.in-Got.is at c9.checked_text_from.ensures.1.1, rw c6.in-Got-checked_text_from.is at c7.checked_text_from-in-Got.ensures.1.1, rw c4.in-Got-checked_text_from-2.is at c5.checked_text_from-in-Got-checked_text_from.ensures.1.1, rw c1.in-Got-checked_text_from-3.is at c2.checked_text_from-in-Got-checked_text_from-2.ensures.1.1))
 
-returns-7 : tie.Need-returns-7
+returns-7 : tie.Need-returns-else-y
 unfolding read_key
 returns-7 c =
-    let c1 = c.before.before in
-    let c2 = c1.before.before in
-    let c3 = c2.before in
-    let c4 = c3.before.before in
-    let c5 = c4.before.before in
-    let c6 = c5.before.before in
-    let c7 = c6.before.before in
-    let c8 = c7.before.before in
-    let c9 = c8.before.before in
-    let v = rw c8.begin-string.given.1 at c9.checked-text-from.ensures.1.0 in
-    let w = rw c6.sender-comp-id.given.1 at c7.checked-text-from2.ensures.1.0 in
-    let x = rw c4.target-comp-id.given.1 at c5.checked-text-from3.ensures.1.0 in
-    let y = rw c1.key-suffix.given.1 at c2.checked-text-from4.ensures.1.0 in
-    (rw (← c9.checked-text-from.ensures.0, c8.begin-string.given.1, ← c7.checked-text-from2.ensures.0, c6.sender-comp-id.given.1, ← c5.checked-text-from3.ensures.0, c4.target-comp-id.given.1, ← c2.checked-text-from4.ensures.0, c1.key-suffix.given.1, key-told _ _ _ v w x _ c3.if1.false y c.if2.false), tt)
+    let c1 = c in
+    let c2 = c1 in
+    let c3 = c2 in
+    let c4 = c3 in
+    let c5 = c4 in
+    let c6 = c5 in
+    let c7 = c6 in
+    let c8 = c7 in
+    let c9 = c8 in
+    let v = rw c8.in-Got.is at c9.checked_text_from.ensures.1.0 in
+    let w = rw c6.in-Got-checked_text_from.is at c7.checked_text_from-in-Got.ensures.1.0 in
+    let x = rw c4.in-Got-checked_text_from-2.is at c5.checked_text_from-in-Got-checked_text_from.ensures.1.0 in
+    let y = rw c1.in-Got-checked_text_from-3.is at c2.checked_text_from-in-Got-checked_text_from-2.ensures.1.0 in
+    (rw (← c9.checked_text_from.ensures.0, c8.in-Got.is, ← c7.checked_text_from-in-Got.ensures.0, c6.in-Got-checked_text_from.is, ← c5.checked_text_from-in-Got-checked_text_from.ensures.0, c4.in-Got-checked_text_from-2.is, ← c2.checked_text_from-in-Got-checked_text_from-2.ensures.0, c1.in-Got-checked_text_from-3.is, key-told _ _ _ v w x _ c3.if-not-v-w.false y c.if-y.false), tt)
 
 pub session_from_spec : {M : Type 1} → statement M
 session_from_spec =

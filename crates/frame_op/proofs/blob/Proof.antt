@@ -8,8 +8,8 @@ use Rattle.frame_op.proofs.blob.Tie as tie
 returns : tie.Need-returns
 unfolding blob_bytes
 returns c =
-    let w = c.before.before in
-    (wrote_on w.before.before.before.before.put-u32.ensures.0 w.copy.ensures, omega (arith, w.copy.ensures.past))
+    let w = c in
+    (wrote_on w.put_u32-next.ensures.0 w.copy.ensures, omega (arith, w.copy.ensures.past))
 
 pub blob_spec : {M : Type 1} → statement M
 blob_spec = tie.close (tie.spec (λ c. search rules) (λ c κs. search rules) (λ c κs. search rules) (λ c. search rules) returns)

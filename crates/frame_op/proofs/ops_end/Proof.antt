@@ -8,35 +8,35 @@ use Rattle.frame_op.specs.Answers.{res_op}
 use Rattle.frame_op.proofs.ops_end.Statement.{statement}
 use Rattle.frame_op.proofs.ops_end.Tie as tie
 
-abbrev invariant-loop : tie.invariant-loop
-invariant-loop p buf count d₀ n₀ d n =
+abbrev invariant-loop-n : tie.invariant-loop-n
+invariant-loop-n p buf count d₀ n₀ d n =
     forget (many n₀ (read_change p.version) (drop d₀.at buf)) ≡ forget (many n (read_change p.version) (drop d.at buf))
 
-abbrev decreases-loop : tie.decreases-loop
-decreases-loop p buf count d₀ n₀ d n = n
+abbrev decreases-loop-n : tie.decreases-loop-n
+decreases-loop-n p buf count d₀ n₀ d n = n
 
-loop-holds : tie.Need-loop-init invariant-loop decreases-loop
+loop-holds : tie.Need-loop-n-init invariant-loop-n decreases-loop-n
 loop-holds c = refl
 
-returns : tie.Need-returns invariant-loop decreases-loop
+returns : tie.Need-returns-in-Bad invariant-loop-n decreases-loop-n
 returns c =
-    let k = c.before.before.before in
-    sym (k.before.before.loop.invariant ∙ run-bad _ _ k.before.loop-test.true (sym k.op-from.ensures ∙ ap (res_op _) c.before.e.given.1))
+    let k = c in
+    sym (k.loop-n.invariant ∙ run-bad _ _ k.loop-n-test.true (sym k.op_from.ensures ∙ ap (res_op _) c.in-Bad.is))
 
-loop-again : tie.Need-loop-preserved invariant-loop decreases-loop
+loop-again : tie.Need-loop-n-preserved invariant-loop-n decreases-loop-n
 loop-again c =
-    let k = c.before.before.before in
-    k.before.before.loop.invariant ∙ run_more _ _ k.before.loop-test.true (sym k.op-from.ensures ∙ ap (res_op _) c.before.next.given.1)
+    let k = c in
+    k.loop-n.invariant ∙ run_more _ _ k.loop-n-test.true (sym k.op_from.ensures ∙ ap (res_op _) c.in-Got.is)
 
-returns-2 : tie.Need-returns-2 invariant-loop decreases-loop
-returns-2 c = sym (c.before.loop.invariant ∙ run_none _ _ _ c.loop-test.false)
+returns-2 : tie.Need-returns invariant-loop-n decreases-loop-n
+returns-2 c = sym (c.loop-n.invariant ∙ run_none _ _ _ c.loop-n-test.false)
 
 pub ops_end_spec : {M : Type 1} → statement M
 ops_end_spec =
     tie.close
     (tie.spec
-    invariant-loop
-    decreases-loop
+    invariant-loop-n
+    decreases-loop-n
     loop-holds
     (λ c κs. search rules)
     (λ c. search rules)

@@ -7,14 +7,14 @@ use Rattle.frame_op.proofs.put_ops.Tie as tie
 
 copy-requires : tie.Need-copy-requires
 copy-requires c κs =
-    let s = c.before.before.before.before.requires.0 in
-    omega (arith, ap length (c.before.bytes-at.ensures ∙ s.same), s.size)
+    let s = c.requires.0 in
+    omega (arith, ap length (c.bytes_at.ensures ∙ s.same), s.size)
 
 returns : tie.Need-returns
 returns c =
-    let w = c.before.before in
-    let s = w.before.before.before.before.before.requires.0 in
-    let e = w.before.before.bytes-at.ensures ∙ s.same in
+    let w = c in
+    let s = w.requires.0 in
+    let e = w.bytes_at.ensures ∙ s.same in
     (rw e at w.copy.ensures, omega (arith, w.copy.ensures.past, ap length e, s.size))
 
 pub put_ops_spec : {M : Type 1} → statement M

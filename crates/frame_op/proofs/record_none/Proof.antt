@@ -3,18 +3,18 @@ use Rattle.model_frame.specs.Reading.{record_bare_fields}
 use Rattle.frame_op.proofs.record_none.Statement.{statement}
 use Rattle.frame_op.proofs.record_none.Tie as tie
 
-returns : tie.Need-returns
+returns : tie.Need-returns-in_default
 unfolding record_bare_fields
 returns c =
-    let c1 = c.before.before in
-    rw (← c1.u64-from.ensures, c.enum_told.given.1)
+    let c1 = c in
+    rw (← c1.u64_from.ensures, c.in_default.is)
 
-returns-2 : tie.Need-returns-2
+returns-2 : tie.Need-returns
 unfolding record_bare_fields
 returns-2 c =
-    let c1 = c.before in
-    let c2 = c1.before.before in
-    rw (← c2.u64-from.ensures, c1.seq.given.1)
+    let c1 = c in
+    let c2 = c1 in
+    rw (← c2.u64_from.ensures, c1.in-Got.is)
 
 pub record_none_spec : {M : Type 1} → statement M
 record_none_spec =

@@ -3,19 +3,19 @@ use Rattle.model_frame.specs.Reading.{set_marks_fields}
 use Rattle.frame_op.proofs.set_marks.Statement.{statement}
 use Rattle.frame_op.proofs.set_marks.Tie as tie
 
-returns : tie.Need-returns
+returns : tie.Need-returns-in-Bad
 unfolding set_marks_fields
 returns c =
-    let c1 = c.before in
-    let c2 = c1.before.before in
-    rw (← c2.marks-from.ensures.0, c1.e.given.1)
+    let c1 = c in
+    let c2 = c1 in
+    rw (← c2.marks_from.ensures.0, c1.in-Bad.is)
 
-returns-2 : tie.Need-returns-2
+returns-2 : tie.Need-returns-in-Got
 unfolding set_marks_fields
 returns-2 c =
-    let c1 = c.before in
-    let c2 = c1.before.before in
-    rw (← c2.marks-from.ensures.0, c1.t.given.1)
+    let c1 = c in
+    let c2 = c1 in
+    rw (← c2.marks_from.ensures.0, c1.in-Got.is)
 
 pub set_marks_spec : {M : Type 1} → statement M
 set_marks_spec =

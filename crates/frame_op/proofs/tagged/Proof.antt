@@ -6,8 +6,8 @@ use Rattle.frame_op.proofs.tagged.Tie as tie
 
 returns : tie.Need-returns
 returns c =
-    let w = c.before.before in
-    (wrote_on w.before.before.before.before.tag.ensures.0 w.put-u64.ensures.0, omega arith)
+    let w = c in
+    (wrote_on w.tag-next.ensures.0 w.put_u64.ensures.0, omega arith)
 
 pub tagged_spec : {M : Type 1} → statement M
 tagged_spec = tie.close (tie.spec (λ c κs. search rules) (λ c κs. search rules) (λ c. search rules) returns)

@@ -4,16 +4,16 @@ use Rattle.base_laws.proofs.Places.{slice_past, slice_over}
 use Rattle.frame_reader.proofs.bytes_at.Statement.{statement}
 use Rattle.frame_reader.proofs.bytes_at.Tie as tie
 
-returns : tie.Need-returns
-returns c = cc (slice_past _ _ _ c.before.if1.true)
+returns : tie.Need-returns-then-buf-at
+returns c = cc (slice_past _ _ _ c.if-buf-at.true)
 
-returns-2 : tie.Need-returns-2
+returns-2 : tie.Need-returns-then-len-buf
 returns-2 c = rw add-sub_cancel_left
 
-returns-3 : tie.Need-returns-3
+returns-3 : tie.Need-returns-else-len-buf
 returns-3 c =
-    let a = c.before.before.before.args in
-    slice_over a.buf.now a.at a.len c.before.if2.false
+    let a = c.args in
+    slice_over a.buf.now a.at a.len c.if-len-buf.false
 
 pub bytes_at_spec : {M : Type 1} → statement M
 bytes_at_spec =

@@ -5,30 +5,30 @@ use Rattle.model_text.proofs.Laws.{printable_is}
 use Rattle.frame_reader.proofs.checked_text_from.Statement.{statement}
 use Rattle.frame_reader.proofs.checked_text_from.Tie as tie
 
-returns : tie.Need-returns
+returns : tie.Need-returns-then-is_printable
 unfolding read_text
 returns c =
-    let g = c.before.before.before.before in
-    let told = sym c.before.is-printable.ensures ∙ c.if1.true in
-    (rw (← g.before.before.blob-from.ensures.0, g.s.given.1, ← c.before.before.slice.ensures, (printable_is _ _ _ told).coded), (rw (← c.before.before.slice.ensures) (sym told), rw g.s.given.1 at g.before.before.blob-from.ensures.1))
+    let g = c in
+    let told = sym c.is_printable.ensures ∙ c.if-is_printable.true in
+    (rw (← g.blob_from.ensures.0, g.in-Got.is, ← c.slice.ensures, (printable_is _ _ _ told).coded), (rw (← c.slice.ensures) (sym told), rw g.in-Got.is at g.blob_from.ensures.1))
 
-returns-2 : tie.Need-returns-2
+returns-2 : tie.Need-returns-in-Bad
 unfolding read_text
 returns-2 c =
-    (rw (← c.before.before.before.blob-from.ensures.0, c.before.e.given.1), (tt, tt))
+    (rw (← c.blob_from.ensures.0, c.in-Bad.is), (tt, tt))
 
-returns-3 : tie.Need-returns-3
+returns-3 : tie.Need-returns-then-is_utf8
 unfolding read_text
 returns-3 c =
-    let f = c.before.before.before in
-    let g = f.before.before.before.before in
-    (rw (← g.before.before.blob-from.ensures.0, g.s.given.1, ← c.before.before.slice2.ensures, ← c.before.is-utf8.ensures, c.if2.true), (rw (← f.before.before.slice.ensures) (sym f.if1.false ∙ f.before.is-printable.ensures), rw g.s.given.1 at g.before.before.blob-from.ensures.1))
+    let f = c in
+    let g = f in
+    (rw (← g.blob_from.ensures.0, g.in-Got.is, ← c.slice-in-Got.ensures, ← c.is_utf8.ensures, c.if-is_utf8.true), (rw (← f.slice.ensures) (sym f.if-is_printable.false ∙ f.is_printable.ensures), rw g.in-Got.is at g.blob_from.ensures.1))
 
-returns-4 : tie.Need-returns-4
+returns-4 : tie.Need-returns-else-is_utf8
 unfolding read_text
 returns-4 c =
-    let g = c.before.before.before.before.before.before.before in
-    (rw (← g.before.before.blob-from.ensures.0, g.s.given.1, ← c.before.before.slice2.ensures, ← c.before.is-utf8.ensures, c.if2.false), (tt, tt))
+    let g = c in
+    (rw (← g.blob_from.ensures.0, g.in-Got.is, ← c.slice-in-Got.ensures, ← c.is_utf8.ensures, c.if-is_utf8.false), (tt, tt))
 
 pub checked_text_from_spec : {M : Type 1} → statement M
 checked_text_from_spec =

@@ -4,24 +4,24 @@ use Rattle.base_laws.proofs.Places.{enough, lacking, product_below}
 use Rattle.frame_reader.proofs.count_from.Statement.{statement}
 use Rattle.frame_reader.proofs.count_from.Tie as tie
 
-mul_if1 : tie.Need-overflow-mul-if1
+mul_if1 : tie.Need-overflow_mul-n
 mul_if1 c = record { fits = product_below _ _ (search rules) (search rules) }
 
-returns : tie.Need-returns
+returns : tie.Need-returns-in-Short
 unfolding read_count
-returns c = rw (← c.before.before.u32-from.ensures.0, c.enum_told.given.1)
+returns c = rw (← c.u32_from.ensures.0, c.in-Short.is)
 
-returns-2 : tie.Need-returns-2
+returns-2 : tie.Need-returns-then-n-min
 unfolding read_count
 returns-2 c =
-    let r = c.before.before.before in
-    rw (← r.before.before.u32-from.ensures.0, r.n.given.1, enough _ _ _ c.before.bytes_left.ensures c.if1.true)
+    let r = c in
+    rw (← r.u32_from.ensures.0, r.in-Got.is, enough _ _ _ c.bytes_left.ensures c.if-n-min.true)
 
-returns-3 : tie.Need-returns-3
+returns-3 : tie.Need-returns-else-n-min
 unfolding read_count
 returns-3 c =
-    let r = c.before.before.before in
-    rw (← r.before.before.u32-from.ensures.0, r.n.given.1, lacking _ _ _ c.before.bytes_left.ensures c.if1.false)
+    let r = c in
+    rw (← r.u32_from.ensures.0, r.in-Got.is, lacking _ _ _ c.bytes_left.ensures c.if-n-min.false)
 
 pub count_from_spec : {M : Type 1} → statement M
 count_from_spec =

@@ -5,14 +5,14 @@ use Rattle.frame_reader.proofs.Rules.{stamp_judged, stamp_fault}
 use Rattle.frame_reader.proofs.stamp_from.Statement.{statement}
 use Rattle.frame_reader.proofs.stamp_from.Tie as tie
 
-returns : tie.Need-returns
+returns : tie.Need-returns-in-Bad
 returns c =
-    (sym (stamp_fault _ _ (sym c.before.before.before.blob-from.ensures.0 ∙ ap (res_span _) c.before.e.given.1)), tt)
+    (sym (stamp_fault _ _ (sym c.blob_from.ensures.0 ∙ ap (res_span _) c.in-Bad.is)), tt)
 
-returns-2 : tie.Need-returns-2
+returns-2 : tie.Need-returns-in-Got
 returns-2 c =
-    let g = c.before.before.before.before in
-    (rw (c.text-or-fault.ensures.0, c.before.takes-stamp.ensures, c.before.before.slice.ensures) (sym (stamp_judged _ _ (sym g.before.before.blob-from.ensures.0 ∙ ap (res_span _) g.s.given.1))), c.text-or-fault.ensures.1 (rw g.s.given.1 at g.before.before.blob-from.ensures.1))
+    let g = c in
+    (rw (c.text_or_fault.ensures.0, c.takes_stamp-valid.ensures, c.slice.ensures) (sym (stamp_judged _ _ (sym g.blob_from.ensures.0 ∙ ap (res_span _) g.in-Got.is))), c.text_or_fault.ensures.1 (rw g.in-Got.is at g.blob_from.ensures.1))
 
 pub stamp_from_spec : {M : Type 1} → statement M
 stamp_from_spec =

@@ -3,11 +3,11 @@ use Rattle.base_laws.proofs.Places.{num_short, num_got}
 use Rattle.frame_reader.proofs.u16_from.Statement.{statement}
 use Rattle.frame_reader.proofs.u16_from.Tie as tie
 
-returns : tie.Need-returns
-returns c = cc (num_short _ _ _ c.before.bytes_left.ensures c.if1.true)
+returns : tie.Need-returns-then-bytes_left-lt2
+returns c = cc (num_short _ _ _ c.bytes_left.ensures c.if-bytes_left-lt2.true)
 
-returns-2 : tie.Need-returns-2
-returns-2 c = cc (num_got _ _ _ c.before.before.bytes_left.ensures c.before.if1.false)
+returns-2 : tie.Need-returns
+returns-2 c = cc (num_got _ _ _ c.bytes_left.ensures c.if-bytes_left-lt2.false)
 
 pub u16_from_spec : {M : Type 1} → statement M
 u16_from_spec = tie.close (tie.spec (λ c κs. search rules) returns (λ c κs. search rules) (λ c. search rules) returns-2)

@@ -6,13 +6,13 @@ use Rattle.frame_stamp.proofs.is_date.Tie as tie
 
 returns : tie.Need-returns
 returns c =
-    let p = c.before.before.before in
-    let d₄ = p.before.before.before in
-    let d₃ = d₄.before.before in
-    let d₂ = d₃.before.before in
-    let d₁ = d₂.before.before in
-    says-date d₁.before.before.before.args.s.now d₁.is_digit.ensures d₂.is-digit2.ensures d₃.is-digit3.ensures d₄.is-digit4.ensures
-    p.is-pair.ensures c.is-pair2.ensures
+    let p = c in
+    let d₄ = p in
+    let d₃ = d₄ in
+    let d₂ = d₃ in
+    let d₁ = d₂ in
+    says-date d₁.args.s.now d₁.is_digit.ensures d₂.is_digit-2.ensures d₃.is_digit-3.ensures d₄.is_digit-4.ensures
+    p.is_pair.ensures c.is_pair-2.ensures
 
 pub is_date_spec : {M : Type 1} → statement M
 is_date_spec =

@@ -4,16 +4,16 @@ use borrow.Author.Rules.{rules}
 use Rattle.frame_stamp.proofs.is_day.Statement.{statement}
 use Rattle.frame_stamp.proofs.is_day.Tie as tie
 
-returns : tie.Need-returns
-returns c = says_early c.before.before.before.before.before.args.s.now c.before.pair-number.ensures.0 c.if1.true
+returns : tie.Need-returns-then-day-le28
+returns c = says_early c.args.s.now c.pair_number-day.ensures.0 c.if-day-le28.true
 
-returns-2 : tie.Need-returns-2
+returns-2 : tie.Need-returns
 returns-2 c =
-    let month = c.before in
-    let low = month.before.before.before in
-    let high = low.before.before.before in
-    let day = high.before.before.before.before in
-    says_day day.before.before.before.before.args.s.now high.pair-number2.ensures.0 low.pair-number3.ensures.0 month.pair-number4.ensures.0 day.pair-number.ensures.0 c.month-days.ensures
+    let month = c in
+    let low = month in
+    let high = low in
+    let day = high in
+    says_day day.args.s.now high.pair_number.ensures.0 low.pair_number-2.ensures.0 month.pair_number-month.ensures.0 day.pair_number-day.ensures.0 c.month_days.ensures
 
 pub is_day_spec : {M : Type 1} → statement M
 is_day_spec =

@@ -7,7 +7,7 @@ use Rattle.frame_stamp.proofs.is_key.Tie as tie
 
 returns : tie.Need-returns
 unfolding is_key
-returns c = λ i. c.before.before.before.is-printable.ensures i && c.before.before.is-printable2.ensures i && c.before.is-printable3.ensures i && c.is-printable4.ensures i
+returns c = λ i. c.is_printable.ensures i && c.is_printable-2.ensures i && c.is_printable-3.ensures i && c.is_printable-4.ensures i
 
 pub is_key_spec : {M : Type 1} → statement M
 is_key_spec =

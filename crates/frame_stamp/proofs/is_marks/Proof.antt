@@ -6,7 +6,7 @@ use Rattle.frame_stamp.proofs.is_marks.Tie as tie
 
 returns : tie.Need-returns
 unfolding is_marks
-returns c = c.is-printable.ensures
+returns c = c.is_printable.ensures
 
 pub is_marks_spec : {M : Type 1} → statement M
 is_marks_spec = tie.close (tie.spec (λ c κs. search rules) returns)

@@ -6,23 +6,23 @@ use borrow.Author.Rules.{rules}
 use Rattle.frame_stamp.proofs.is_pair.Statement.{statement}
 use Rattle.frame_stamp.proofs.is_pair.Tie as tie
 
-sub_n : tie.Need-overflow-sub-n
-sub_n c = let h = two_digits _ _ c.before.before.is_digit.ensures c.before.is-digit2.ensures c.if1.true in omega arith
+sub_n : tie.Need-overflow_sub-n
+sub_n c = let h = two_digits _ _ c.is_digit.ensures c.is_digit-2.ensures c.if-is_digit.true in omega arith
 
-mul_n : tie.Need-overflow-mul-n
-mul_n c = let h = two_digits _ _ c.before.before.is_digit.ensures c.before.is-digit2.ensures c.if1.true in omega arith
+mul_n : tie.Need-overflow_mul-n
+mul_n c = let h = two_digits _ _ c.is_digit.ensures c.is_digit-2.ensures c.if-is_digit.true in omega arith
 
-sub_n_2 : tie.Need-overflow-sub-n-2
-sub_n_2 c = let h = two_digits _ _ c.before.before.is_digit.ensures c.before.is-digit2.ensures c.if1.true in omega arith
+sub_n_2 : tie.Need-overflow_sub-n-then-is_digit
+sub_n_2 c = let h = two_digits _ _ c.is_digit.ensures c.is_digit-2.ensures c.if-is_digit.true in omega arith
 
-add_n : tie.Need-overflow-add-n
-add_n c = let h = two_digits _ _ c.before.before.is_digit.ensures c.before.is-digit2.ensures c.if1.true in omega arith
+add_n : tie.Need-overflow_add-n
+add_n c = let h = two_digits _ _ c.is_digit.ensures c.is_digit-2.ensures c.if-is_digit.true in omega arith
 
-returns : tie.Need-returns
-returns c = pair-by _ _ c.before.before.is_digit.ensures c.before.is-digit2.ensures _ _ true c.if1.true
+returns : tie.Need-returns-then-is_digit
+returns c = pair-by _ _ c.is_digit.ensures c.is_digit-2.ensures _ _ true c.if-is_digit.true
 
-returns-2 : tie.Need-returns-2
-returns-2 c = pair-by _ _ c.before.before.is_digit.ensures c.before.is-digit2.ensures _ _ false c.if1.false
+returns-2 : tie.Need-returns-else-is_digit
+returns-2 c = pair-by _ _ c.is_digit.ensures c.is_digit-2.ensures _ _ false c.if-is_digit.false
 
 pub is_pair_spec : {M : Type 1} → statement M
 is_pair_spec =

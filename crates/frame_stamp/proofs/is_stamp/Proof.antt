@@ -4,14 +4,14 @@ use borrow.Author.Rules.{rules}
 use Rattle.frame_stamp.proofs.is_stamp.Statement.{statement}
 use Rattle.frame_stamp.proofs.is_stamp.Tie as tie
 
-returns : tie.Need-returns
-returns c = says-seconds c.before.before.before.before.before.args.s.now c.before.before.before.if1.true c.before.before.is-date.ensures c.before.is-clock.ensures c.is-day.ensures
+returns : tie.Need-returns-then-s-eq17
+returns c = says-seconds c.args.s.now c.if-s-eq17.true c.is_date.ensures c.is_clock.ensures c.is_day.ensures
 
-returns-2 : tie.Need-returns-2
-returns-2 c = says-millis c.before.before.before.before.before.before.before.args.s.now c.before.before.before.before.if2.true c.before.before.before.is-date2.ensures c.before.before.is-clock2.ensures c.before.is-millis.ensures c.is-day2.ensures
+returns-2 : tie.Need-returns-then-s-eq21
+returns-2 c = says-millis c.args.s.now c.if-s-eq21.true c.is_date-then-s-eq21.ensures c.is_clock-then-s-eq21.ensures c.is_millis.ensures c.is_day-then-s-eq21.ensures
 
-returns-3 : tie.Need-returns-3
-returns-3 c = says-neither c.before.before.before.args.s.now c.before.if1.false c.if2.false
+returns-3 : tie.Need-returns
+returns-3 c = says-neither c.args.s.now c.if-s-eq17.false c.if-s-eq21.false
 
 pub is_stamp_spec : {M : Type 1} → statement M
 is_stamp_spec =

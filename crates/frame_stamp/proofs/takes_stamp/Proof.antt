@@ -6,7 +6,7 @@ use Rattle.frame_stamp.proofs.takes_stamp.Tie as tie
 
 returns : tie.Need-returns
 unfolding takes_stamp
-returns c = c.is-stamp.ensures
+returns c = c.is_stamp.ensures
 
 pub takes_stamp_spec : {M : Type 1} → statement M
 takes_stamp_spec = tie.close (tie.spec (λ c κs. search rules) returns)

@@ -5,12 +5,12 @@ use Rattle.frame_utf8.proofs.Ascii.{one_ascii}
 use Rattle.frame_utf8.proofs.ascii_run.Statement.{statement}
 use Rattle.frame_utf8.proofs.ascii_run.Tie as tie
 
-returns-2 : tie.Need-returns-2
-returns-2 c = c.before.is-run.ensures c.if2.true
+returns-2 : tie.Need-returns-then-is_run
+returns-2 c = c.is_run.ensures c.if-is_run.true
 
-returns-3 : tie.Need-returns-3
+returns-3 : tie.Need-returns
 returns-3 c =
-    let a = c.before.before.before.before.before.args in
+    let a = c.args in
     (omega arith, one_ascii a.s.now a.at (omega arith))
 
 pub ascii_run_spec : {M : Type 1} → statement M

@@ -6,29 +6,29 @@ use borrow.Author.Rules.{rules}
 use Rattle.frame_utf8.proofs.formed_length.Statement.{statement}
 use Rattle.frame_utf8.proofs.formed_length.Tie as tie
 
-returns : tie.Need-returns
-returns c = let a = c.before.before.args in as_length (omega arith) (says-one a.s.now a.at a.n (omega arith)) refl
+returns : tie.Need-returns-then-n-eq1
+returns c = let a = c.args in as_length (omega arith) (says-one a.s.now a.at a.n (omega arith)) refl
 
-returns-2 : tie.Need-returns-2
-returns-2 c = let a = c.before.before.before.args in as_length refl (says-short a.s.now a.at a.n (omega arith) (omega arith)) refl
+returns-2 : tie.Need-returns-then-s-at
+returns-2 c = let a = c.args in as_length refl (says-short a.s.now a.at a.n (omega arith) (omega arith)) refl
 
-returns-3 : tie.Need-returns-3
+returns-3 : tie.Need-returns-then-n-eq2
 returns-3 c =
-    let a = c.before.before.before.before.before.before.before.before.args in
-    as_length (omega arith) (says_two a.s.now a.at a.n _ (omega arith) (omega arith) c.before.is-two.ensures) c.length-if.ensures
+    let a = c.args in
+    as_length (omega arith) (says_two a.s.now a.at a.n _ (omega arith) (omega arith) c.is_two.ensures) c.length_if.ensures
 
-returns-4 : tie.Need-returns-4
+returns-4 : tie.Need-returns-then-n-eq3
 returns-4 c =
-    let a = c.before.before.before.before.before.before.before.before.before.before.args in
-    as_length (omega arith) (says_three a.s.now a.at a.n _ (omega arith) (omega arith) c.before.is-three.ensures) c.length-if2.ensures
+    let a = c.args in
+    as_length (omega arith) (says_three a.s.now a.at a.n _ (omega arith) (omega arith) c.is_three.ensures) c.length_if-then-n-eq3.ensures
 
-returns-5 : tie.Need-returns-5
+returns-5 : tie.Need-returns-then-n-eq4
 returns-5 c =
-    let a = c.before.before.before.before.before.before.before.before.before.before.before.before.args in
-    as_length (omega arith) (says_four a.s.now a.at a.n _ (omega arith) (omega arith) c.before.is-four.ensures) c.length-if3.ensures
+    let a = c.args in
+    as_length (omega arith) (says_four a.s.now a.at a.n _ (omega arith) (omega arith) c.is_four.ensures) c.length_if-then-n-eq4.ensures
 
-returns-6 : tie.Need-returns-6
-returns-6 c = let a = c.before.before.before.before.before.before.args in as_length refl (says_none a.s.now a.at a.n (omega arith)) refl
+returns-6 : tie.Need-returns
+returns-6 c = let a = c.args in as_length refl (says_none a.s.now a.at a.n (omega arith)) refl
 
 pub formed_length_spec : {M : Type 1} → statement M
 formed_length_spec =

@@ -5,23 +5,23 @@ use borrow.Author.Rules.{rules}
 use Rattle.frame_utf8.proofs.lead_length.Statement.{statement}
 use Rattle.frame_utf8.proofs.lead_length.Tie as tie
 
-returns : tie.Need-returns
-returns c = (one_byte c.before.args.a (omega arith) (omega arith), omega arith)
+returns : tie.Need-returns-then-n-eq0
+returns c = (one_byte c.args.a (omega arith) (omega arith), omega arith)
 
 begins-requires : tie.Need-begins-requires
 begins-requires c κs = search rules
 
-cast-result : tie.Need-overflow-cast-result
+cast-result : tie.Need-overflow_cast-result
 cast-result c =
-    let m = so-many c.before.before.before.args.a (omega arith) c.before.before.if1.false c.before.begins.ensures c.if2.true in
+    let m = so-many c.args.a (omega arith) c.if-n-eq0.false c.begins.ensures c.if-begins.true in
     omega arith
 
-returns-2 : tie.Need-returns-2
-returns-2 c = so-many c.before.before.before.args.a (omega arith) c.before.before.if1.false c.before.begins.ensures c.if2.true
+returns-2 : tie.Need-returns-then-begins
+returns-2 c = so-many c.args.a (omega arith) c.if-n-eq0.false c.begins.ensures c.if-begins.true
 
-returns-3 : tie.Need-returns-3
+returns-3 : tie.Need-returns
 returns-3 c =
-    (no_bytes c.before.before.before.args.a (omega arith) c.before.before.if1.false c.before.begins.ensures c.if2.false, omega arith)
+    (no_bytes c.args.a (omega arith) c.if-n-eq0.false c.begins.ensures c.if-begins.false, omega arith)
 
 pub lead_length_spec : {M : Type 1} → statement M
 lead_length_spec = tie.close (tie.spec returns begins-requires cast-result returns-2 returns-3)
