@@ -2,6 +2,7 @@
 """Spells the names of this repository's definitions and lemmas as today's Rattle does, once, after port.py.
 
 usage: tools/respell.py          at the top of the repository: rewrites crates/*/{src,specs,proofs} in place
+       tools/respell.py inner    the same for names declared further in, as in a `module _ .. where`
 
 A name that specs/ or proofs/ declare (a definition, a lemma, a field, a constructor) is written in snake case: goesOn and goes-on
 are goes_on. A fact or a type keeps its capitals: Makes-new is MakesNew. Where two names would fall together the definition has the
@@ -16,10 +17,12 @@ import sys
 TOKEN = r"[^\s(){}.;,@\"«»\[\]|]+"
 DECLARED = re.compile(r"^(?:(?:pub|abbrev|unfoldable)\s+)*([^\s:(){}=|,;]+)\s*:(?!\S)")
 TYPE = re.compile(r"^\s*(?:pub\s+)?(?:abbrev\s+)?(data|record)\s+([^\s:(){}]+)")
+INNER = re.compile(r"^\s+(?:(?:pub|abbrev|unfoldable)\s+)*([^\s:(){}=|,;]+)\s*:(?!\S)")
 MEMBER = re.compile(r"^\s+(?:pub\s+)?\|?\s*([^\s:(){}=|,;]+)\s*:(?!\S)")
 OF_A_FUNCTION = re.compile(r"/proofs/[^/]+/")
 # The names of a proof of a function that Rattle asks for.
 ASKED = re.compile(r"^(invariant|decreases|loop|returns|Inv|μ|ghost)(-|$)|^Need-|-requires|^overflow|^bounds|^nonzero|^prove|^slice_bounds|^cast")
+INNER_TOO = sys.argv[1:] == ["inner"]
 # Lemmas that are in snake case already and meet a definition's new name.
 MET = [("crates/fix_field/", "is_digit"), ("crates/", "same_text"), ("crates/standby_step/", "found_in")]
 
@@ -55,6 +58,8 @@ def declared():
                     inside = None
                     if m := DECLARED.match(line):
                         to[m[1]].add("D")
+                elif INNER_TOO and not inside and (m := INNER.match(line)):
+                    to[m[1]].add("D")
                 elif inside and (m := MEMBER.match(line)):
                     to[m[1]].add("F" if inside == "record" else "C")
     return kinds, local
@@ -81,7 +86,7 @@ def table(kinds, local, taken, together):
         # A definition is in camel case in the older spelling, a lemma has dashes: the lemma gives way where one file has both.
         olds.sort(key=lambda n: ("-" in n, n))
         names[olds[0]] = new
-        if "-" in olds[0] and new in taken and together(olds[0], new):
+        if ("-" in olds[0] or INNER_TOO) and new in taken and together(olds[0], new):
             names[olds[0]] = new + "_lem"
         for name in olds[1:]:
             names[name] = new + "_lem" if together(name, olds[0]) or together(name, new) else new
@@ -120,7 +125,7 @@ def main():
 
         def turn(m):
             word = m[0]
-            for crate, lemma in MET:
+            for crate, lemma in [] if INNER_TOO else MET:
                 if word == lemma and path.endswith(".antt") and path.startswith(crate):
                     line = text[text.rfind("\n", 0, m.start()) + 1 : m.start()]
                     if not line.endswith("."):
@@ -146,7 +151,7 @@ def main():
                     print(f"look: {path}: {name} meets {names[name]}")
             with open(path, "w", encoding="utf-8") as f:
                 f.write(turned)
-    with open("/tmp/respelled.tsv", "w", encoding="utf-8") as f:
+    with open("/tmp/respelled-inner.tsv" if INNER_TOO else "/tmp/respelled.tsv", "w", encoding="utf-8") as f:
         for old, new in sorted(names.items()):
             f.write(f"{old}\t{new}\n")
     print(f"respell: {len(names)} names in {changed} files; the table is in /tmp/respelled.tsv")

@@ -16,8 +16,8 @@ use Rattle.model_frame.specs.Writing.{encode}
 use Rattle.model_frame.specs.Sizes.{sizes}
 use Rattle.model_frame.proofs.Sizes.{encode_size}
 use Rattle.model_session.specs.Session.{Session, top, Holdable}
-use Rattle.model_session.specs.Sender.{Sender, new_sender, sentFrom, sendNext, Sends, all_sent, is_next, cannotSend}
-use Rattle.model_session.specs.Whole.{wholeBatches, whole_frames, frames_of}
+use Rattle.model_session.specs.Sender.{Sender, new_sender, sent_from, send_next, Sends, all_sent, is_next, cannotSend}
+use Rattle.model_session.specs.Whole.{whole_batches, whole_frames, frames_of}
 use Rattle.model_session.proofs.Basics.{none≢some, some_inj, true≢false, each_right, each_map}
 use Rattle.model_session.proofs.Sender.{sends_whole}
 use Rattle.model_session.proofs.Sending.{batch_sizes}
@@ -70,19 +70,19 @@ gave false (some (f, v)) out out' i len j u e a = go (ltb (length out) (length (
 
 module _ (limit : ℕ) (shape : Shape) (w b : List ℕ) (a : Session) where
   -- a sender's number after a frame
-  number-from : (s t : Sender) (f : Frame) (o : Option ℕ) → sentFrom limit a s o ≡ some (f, t) → t.last ≡ suc s.last
-  number-from s t f none e = absurd (none≢some e)
-  number-from s t f (some n) e = sym (ap (λ (p : Frame × Sender). p.1.last) (some_inj e))
+  number_from : (s t : Sender) (f : Frame) (o : Option ℕ) → sent_from limit a s o ≡ some (f, t) → t.last ≡ suc s.last
+  number_from s t f none e = absurd (none≢some e)
+  number_from s t f (some n) e = sym (ap (λ (p : Frame × Sender). p.1.last) (some_inj e))
 
-  number-next : (s t : Sender) (f : Frame) → sendNext limit a s ≡ some (f, t) → t.last ≡ suc s.last
-  unfolding sendNext
-  number-next s t f e = number-from s t f s.from e
+  number_next : (s t : Sender) (f : Frame) → send_next limit a s ≡ some (f, t) → t.last ≡ suc s.last
+  unfolding send_next
+  number_next s t f e = number_from s t f s.from e
 
   -- the call's own words: what it gives is the sender's next
-  call-gave : (s s' : Sending) (out out' : List ℕ) (len : ℕ) → stored_at shape w b s.place ≡ some a → SendsWhole limit shape w b s out out' (Sent.Frame len s')
-      → Gave (sendNext limit a (sender_of s)) out' s.place len s'.place (sender_of s')
+  call_gave : (s s' : Sending) (out out' : List ℕ) (len : ℕ) → stored_at shape w b s.place ≡ some a → SendsWhole limit shape w b s out out' (Sent.Frame len s')
+      → Gave (send_next limit a (sender_of s)) out' s.place len s'.place (sender_of s')
   unfolding step_from area_from
-  call-gave s s' out out' len k p = gave (spent s.last.0 (sender_of s).from) (sendNext limit a (sender_of s)) out out' s.place len s'.place (sender_of s') (rw k at p.answer) (rw k at p.area)
+  call_gave s s' out out' len k p = gave (spent s.last.0 (sender_of s).from) (send_next limit a (sender_of s)) out out' s.place len s'.place (sender_of s') (rw k at p.answer) (rw k at p.area)
 
   pub record Reached (frames : List Frame) (fs : List (List ℕ)) (i n : ℕ) (t : Sending) : Type 0 where
     pub so : Sofar frames fs
@@ -94,16 +94,16 @@ module _ (limit : ℕ) (shape : Shape) (w b : List ℕ) (a : Session) where
       → Reached frames fs s.place (s.last.0 + length frames) t
   reach frames k g nothing = record { so = record { sent = []; left = frames; all = refl; bytes = refl }; goes = g; place = refl; number = refl }
   reach frames k g (too_short p q) = reach frames k g q
-  reach {s} {t} frames k g (frame {s' = s'} {fs = fs} {out = out} {out' = out'} {len = len} p q) = go frames g (call-gave s s' out out' len k p) (λ rest e r. reach {s = s'} rest (ap (stored_at shape w b) e ∙ k) r q)
+  reach {s} {t} frames k g (frame {s' = s'} {fs = fs} {out = out} {out' = out'} {len = len} p q) = go frames g (call_gave s s' out out' len k p) (λ rest e r. reach {s = s'} rest (ap (stored_at shape w b) e ∙ k) r q)
     where
-      go : (l : List Frame) → Sends limit a (sender_of s) l → (v : Gave (sendNext limit a (sender_of s)) out' s.place len s'.place (sender_of s'))
+      go : (l : List Frame) → Sends limit a (sender_of s) l → (v : Gave (send_next limit a (sender_of s)) out' s.place len s'.place (sender_of s'))
           → ((rest : List Frame) → s'.place ≡ s.place → Sends limit a (sender_of s') rest → Reached rest fs s'.place (s'.last.0 + length rest) t)
           → Reached l (take len out' ∷ fs) s.place (s.last.0 + length l) t
       go [] (all_sent e) v ih = absurd (none≢some (sym e ∙ v.is))
       go (f ∷ l) (is_next {s = z} {t = u} e r) v ih =
           let p : ◌≡◌ {A = Frame × Sender} (f, u) (v.which, sender_of s') = some_inj (sym e ∙ v.is) in
           let h : Reached l fs s'.place (s'.last.0 + length l) t = ih l v.same (subst (λ (y : Sender). Sends limit a y l) (ap (λ (x : Frame × Sender). x.1) p) r) in
-          let n : s'.last.0 ≡ suc s.last.0 = number-next (sender_of s) (sender_of s') v.which v.is in
+          let n : s'.last.0 ≡ suc s.last.0 = number_next (sender_of s) (sender_of s') v.which v.is in
           record {
             so = record {
               sent = f ∷ h.so.sent;
@@ -132,33 +132,33 @@ frames_short n h e last (b ∷ c ∷ bs) k = (omega (arith, k.0, encode_size (ba
 
 module _ (limit : ℕ) (a : Session) where
   some_left : (s : Sender) (l : List Frame) (n : ℕ) → Sends limit a s l → s.from ≡ some n → 1 ≤ length l
-  unfolding sendNext
-  some_left s [] n (all_sent e) k = absurd (none≢some (sym e ∙ ap (sentFrom limit a s) k))
+  unfolding send_next
+  some_left s [] n (all_sent e) k = absurd (none≢some (sym e ∙ ap (sent_from limit a s) k))
   some_left s (f ∷ l) n (is_next e r) k = omega arith
 
-  next-none : (s : Sender) (l : List Frame) → Sends limit a s l → sendNext limit a s ≡ none → l ≡ []
-  next-none s [] (all_sent e) k = refl
-  next-none s (f ∷ l) (is_next e r) k = absurd (none≢some (sym k ∙ e))
+  next_none : (s : Sender) (l : List Frame) → Sends limit a s l → send_next limit a s ≡ none → l ≡ []
+  next_none s [] (all_sent e) k = refl
+  next_none s (f ∷ l) (is_next e r) k = absurd (none≢some (sym k ∙ e))
 
-  none_next : (s : Sender) → Sends limit a s [] → sendNext limit a s ≡ none
+  none_next : (s : Sender) → Sends limit a s [] → send_next limit a s ≡ none
   none_next s (all_sent e) = e
 
-  next-head : (s : Sender) (l : List Frame) (f : Frame) (u : Sender) (P : Frame → Type 0) → Sends limit a s l → sendNext limit a s ≡ some (f, u) → Each P l → P f
-  next-head s [] f u P (all_sent e) k h = absurd (none≢some (sym e ∙ k))
-  next-head s (g ∷ l) f u P (is_next e r) k h = subst P (ap (λ (x : Frame × Sender). x.0) (some_inj (sym e ∙ k))) h.0
+  next_head : (s : Sender) (l : List Frame) (f : Frame) (u : Sender) (P : Frame → Type 0) → Sends limit a s l → send_next limit a s ≡ some (f, u) → Each P l → P f
+  next_head s [] f u P (all_sent e) k h = absurd (none≢some (sym e ∙ k))
+  next_head s (g ∷ l) f u P (is_next e r) k h = subst P (ap (λ (x : Frame × Sender). x.0) (some_inj (sym e ∙ k))) h.0
 
-  never-spent : (s : Sender) (l : List Frame) → Sends limit a s l → s.last + length l ≤ top → spent s.last s.from ≡ true → ⊥
-  never-spent s l g h e = go s.from refl e
+  never_spent : (s : Sender) (l : List Frame) → Sends limit a s l → s.last + length l ≤ top → spent s.last s.from ≡ true → ⊥
+  never_spent s l g h e = go s.from refl e
     where
       go : (o : Option ℕ) → s.from ≡ o → spent s.last o ≡ true → ⊥
       go none k e = true≢false (sym e)
       go (some n) k e = omega (arith, leb-true top s.last e, some_left s l n g k)
 
-  at_rest : (s : Sender) → sendNext limit a s ≡ none → spent s.last s.from ≡ false
-  unfolding sendNext
+  at_rest : (s : Sender) → send_next limit a s ≡ none → spent s.last s.from ≡ false
+  unfolding send_next
   at_rest s e = go s.from e
     where
-      go : (o : Option ℕ) → sentFrom limit a s o ≡ none → spent s.last o ≡ false
+      go : (o : Option ℕ) → sent_from limit a s o ≡ none → spent s.last o ≡ false
       go none e = refl
       go (some n) e = absurd (none≢some (sym e))
 
@@ -217,26 +217,26 @@ module _ (limit : ℕ) (shape : Shape) (w b : List ℕ) (a : Session) (h e last 
 
   begun : (i : ℕ) (s : Sending) → ready s.place (sender_of s) ≡ start_from limit (some a) i h e last → Beginning i s
   unfolding start_from cannotSend whole_frames
-  begun i s r = go (ltb top (last + length (wholeBatches limit a))) refl r
+  begun i s r = go (ltb top (last + length (whole_batches limit a))) refl r
     where
-      go : (t : Bool) → ltb top (last + length (wholeBatches limit a)) ≡ t → ready s.place (sender_of s) ≡ cond t (call.SendStart.refused 24) (ready i (new_sender h e last)) → Beginning i s
+      go : (t : Bool) → ltb top (last + length (whole_batches limit a)) ≡ t → ready s.place (sender_of s) ≡ cond t (call.SendStart.refused 24) (ready i (new_sender h e last)) → Beginning i s
       go true k r = absurd (let z : ◌≡◌ {A = ℕ} 0 1 = cc in omega arith)
-      go false k r = record { place = cc; sender = cc; fits = omega (arith, ltb-false top (last + length (wholeBatches limit a)) k, frames_count h e last (wholeBatches limit a)) }
+      go false k r = record { place = cc; sender = cc; fits = omega (arith, ltb-false top (last + length (whole_batches limit a)) k, frames_count h e last (whole_batches limit a)) }
 
   module _ (t : Sending) (k : stored_at shape w b t.place ≡ some a) (out out' : List ℕ) (r : Sent) (p : SendsWhole limit shape w b t out out' r) where
-    answer_at : step_of r ≡ cond (spent t.last.0 (sender_of t).from) (call.SendStep.refused 25) (send_answer (length out) t.place (sendNext limit a (sender_of t)))
+    answer_at : step_of r ≡ cond (spent t.last.0 (sender_of t).from) (call.SendStep.refused 25) (send_answer (length out) t.place (send_next limit a (sender_of t)))
     unfolding step_from
     answer_at = rw k at p.answer
 
-    area_at : out' ≡ cond (spent t.last.0 (sender_of t).from) out (filled_by (sendNext limit a (sender_of t)) out)
+    area_at : out' ≡ cond (spent t.last.0 (sender_of t).from) out (filled_by (send_next limit a (sender_of t)) out)
     unfolding area_from
     area_at = rw k at p.area
 
   all_short : Holdable shape.bytes shape.messages a → Each (λ (f : Frame). length (encode f) ≤ shape.bytes + 22 * shape.messages + 156) frames
   unfolding whole_frames
   all_short ok =
-      each_map (λ (f : Frame). length (encode f) ≤ 34 + (shape.bytes + 22 * shape.messages + 122)) (λ (f : Frame). length (encode f) ≤ shape.bytes + 22 * shape.messages + 156) (λ f h. omega arith) (frames_of h e last (wholeBatches limit a))
-      (frames_short (shape.bytes + 22 * shape.messages + 122) h e last (wholeBatches limit a) (batch_sizes limit shape.bytes shape.messages a ok))
+      each_map (λ (f : Frame). length (encode f) ≤ 34 + (shape.bytes + 22 * shape.messages + 122)) (λ (f : Frame). length (encode f) ≤ shape.bytes + 22 * shape.messages + 156) (λ f h. omega arith) (frames_of h e last (whole_batches limit a))
+      (frames_short (shape.bytes + 22 * shape.messages + 122) h e last (whole_batches limit a) (batch_sizes limit shape.bytes shape.messages a ok))
 
   comes_to : (t : Sending) (fs : List (List ℕ)) (i m : ℕ) → Holdable shape.bytes shape.messages a → stored_at shape w b t.place ≡ some a
       → (q : Reached limit shape w b a frames fs i m t) → t.last.0 + length q.so.left ≤ top → SentWhole limit shape w b a h e last fs t
@@ -244,12 +244,12 @@ module _ (limit : ℕ) (shape : Shape) (w b : List ℕ) (a : Session) (h e last 
       record {
         so = q.so;
         at_end = λ out out' r z p. ended out out' r p (none_next limit a (sender_of t) (subst (Sends limit a (sender_of t)) z q.goes));
-        then_all = λ out out' p. all_given (next-none limit a (sender_of t) q.so.left q.goes (done_only (spent t.last.0 (sender_of t).from) (sendNext limit a (sender_of t)) (length out) t.place (answer_at t k out out' Sent.Done p)));
-        never_unfit = λ out out' p. never-spent limit a (sender_of t) q.so.left q.goes n (unfit_only (spent t.last.0 (sender_of t).from) (sendNext limit a (sender_of t)) (length out) t.place (answer_at t k out out' Sent.InvalidAreas p));
-        never_short = λ out out' room p. too_long out room (short_only (spent t.last.0 (sender_of t).from) (sendNext limit a (sender_of t)) (length out) t.place (answer_at t k out out' Sent.TooShort p));
+        then_all = λ out out' p. all_given (next_none limit a (sender_of t) q.so.left q.goes (done_only (spent t.last.0 (sender_of t).from) (send_next limit a (sender_of t)) (length out) t.place (answer_at t k out out' Sent.Done p)));
+        never_unfit = λ out out' p. never_spent limit a (sender_of t) q.so.left q.goes n (unfit_only (spent t.last.0 (sender_of t).from) (send_next limit a (sender_of t)) (length out) t.place (answer_at t k out out' Sent.InvalidAreas p));
+        never_short = λ out out' room p. too_long out room (short_only (spent t.last.0 (sender_of t).from) (send_next limit a (sender_of t)) (length out) t.place (answer_at t k out out' Sent.TooShort p));
       }
     where
-      ended : (out out' : List ℕ) (r : Sent) → SendsWhole limit shape w b t out out' r → sendNext limit a (sender_of t) ≡ none → (r ≡ Sent.Done) × (out' ≡ out)
+      ended : (out out' : List ℕ) (r : Sent) → SendsWhole limit shape w b t out out' r → send_next limit a (sender_of t) ≡ none → (r ≡ Sent.Done) × (out' ≡ out)
       ended out out' r p x =
           let z = at_rest limit a (sender_of t) x in
           (is_finished r (rw (z, x) at (answer_at t k out out' r p)), rw (z, x) at (area_at t k out out' r p))
@@ -257,11 +257,11 @@ module _ (limit : ℕ) (shape : Shape) (w b : List ℕ) (a : Session) (h e last 
       all_given : q.so.left ≡ [] → fs ≡ map encode frames
       all_given z = q.so.bytes ∙ ap (map encode) (sym (q.so.all ∙ ap (λ (l : List Frame). q.so.sent ++ l) z ∙ append-nil q.so.sent))
 
-      too_long : (out : List ℕ) → shape.bytes + 22 * shape.messages + 156 ≤ length out → Longer (sendNext limit a (sender_of t)) (length out) → ⊥
+      too_long : (out : List ℕ) → shape.bytes + 22 * shape.messages + 156 ≤ length out → Longer (send_next limit a (sender_of t)) (length out) → ⊥
       too_long out room l =
           let most : Frame → Type 0 = λ f. length (encode f) ≤ shape.bytes + 22 * shape.messages + 156 in
           let few : length (encode l.which) ≤ shape.bytes + 22 * shape.messages + 156 =
-          next-head limit a (sender_of t) q.so.left l.which l.after most q.goes l.is (each_right most q.so.sent q.so.left (subst (Each most) q.so.all (all_short ok))) in
+          next_head limit a (sender_of t) q.so.left l.which l.after most q.goes l.is (each_right most q.so.sent q.so.left (subst (Each most) q.so.all (all_short ok))) in
           omega (arith, l.long)
 
   -- from what `begin` answers, over areas of u64 and u8 that keep the rules and hold the session a at place i

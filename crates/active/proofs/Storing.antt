@@ -19,8 +19,8 @@ use Rattle.store_areas.specs.declared.Shape.{Shape}
 use Rattle.store_areas.specs.Areas.{allowed, Rules, SpotIn, place_at, places_of}
 use Rattle.store_log.proofs.Lawful.{Small}
 use Rattle.store_areas.proofs.Holding.{all_holdable}
-use Rattle.store_areas.proofs.Lifting.{spot-place, places_length, session_is}
-use Rattle.store_areas.proofs.Ruling.{rules-of}
+use Rattle.store_areas.proofs.Lifting.{spot_place, places_length, session_is}
+use Rattle.store_areas.proofs.Ruling.{rules_of}
 use Rattle.active.specs.Whole.{stored_at}
 
 beyond : (ps : List Place) (i : ℕ) → length ps ≤ i → get_elem? ps i ≡ none
@@ -36,8 +36,8 @@ module _ (s : Shape) (w b : List ℕ) (i : ℕ) where
   held = (place_at s w b i).stored.session
 
   module _ (t : Bool) (e : t ≡ (allowed s w b && ltb i (get_or w 0 0))) where
-    pub rules-hold : t ≡ true → Rules s w b
-    rules-hold k = rules-of s w b (and_l (allowed s w b) (ltb i (get_or w 0 0)) (sym e ∙ k))
+    pub rules_hold : t ≡ true → Rules s w b
+    rules_hold k = rules_of s w b (and_l (allowed s w b) (ltb i (get_or w 0 0)) (sym e ∙ k))
 
     pub in_use : t ≡ true → i < get_or w 0 0
     in_use k = ltb-true i (get_or w 0 0) (and_r (allowed s w b) (ltb i (get_or w 0 0)) (sym e ∙ k))
@@ -46,9 +46,9 @@ module _ (s : Shape) (w b : List ℕ) (i : ℕ) where
     unfolding stored_at
     is_held k = rw (and_l (allowed s w b) (ltb i (get_or w 0 0)) (sym e ∙ k)) (session_is s w b i (in_use k))
 
-    pub not-held : t ≡ false → stored_at s w b i ≡ none
+    pub not_held : t ≡ false → stored_at s w b i ≡ none
     unfolding stored_at
-    not-held k = go (allowed s w b) (sym e ∙ k)
+    not_held k = go (allowed s w b) (sym e ∙ k)
       where
         past : ltb i (get_or w 0 0) ≡ false → session_at (places_of s w b) i ≡ none
         past f =
@@ -61,9 +61,9 @@ module _ (s : Shape) (w b : List ℕ) (i : ℕ) where
 
   -- the place's parts, lent
   module _ (wa we ba be : ℕ) (at : SpotIn s i w b wa we ba be) (r : Rules s w b) (h : i < get_or w 0 0) where
-    pub lent-session : session_of s.bytes s.messages (mid_of wa (we - wa) w) (mid_of ba (be - ba) b) ≡ held
+    pub lent_session : session_of s.bytes s.messages (mid_of wa (we - wa) w) (mid_of ba (be - ba) b) ≡ held
     unfolding place_in
-    lent-session = ap (λ (p : Place). p.stored.session) (spot-place s i wa we ba be at.at w b r h)
+    lent_session = ap (λ (p : Place). p.stored.session) (spot_place s i wa we ba be at.at w b r h)
 
 -- what is stored can be held
 pub stored_holdable : (s : Shape) (w b : List ℕ) (i : ℕ) (a : Session) → Small (2 ^ 64) w → Small 256 b → stored_at s w b i ≡ some a → Holdable s.bytes s.messages a

@@ -7,7 +7,7 @@ use Rattle.model_frame.specs.Bytes.{write}
 use Rattle.model_frame.specs.Frame.{Frame}
 use Rattle.model_frame.specs.Writing.{encode}
 use Rattle.model_session.specs.Session.{Session, top}
-use Rattle.model_session.specs.Sender.{Sender, new_sender, sendNext, cannotSend}
+use Rattle.model_session.specs.Sender.{Sender, new_sender, send_next, cannotSend}
 use Rattle.model_session.specs.Whole.{whole_frames}
 use Rattle.model_standby.specs.Store.{session_at}
 use Rattle.store_areas.specs.declared.Shape.{Shape}
@@ -90,7 +90,7 @@ send_answer room i (some (f, t)) = cond (ltb room (length (encode f))) (refused 
 
 unfoldable pub step_from : ℕ → Option Session → ℕ → Sender → ℕ → SendStep
 step_from limit none i s room = refused Refusal.rules_broken
-step_from limit (some a) i s room = cond (spent s.last s.from) (refused Refusal.rules_broken) (send_answer room i (sendNext limit a s))
+step_from limit (some a) i s room = cond (spent s.last s.from) (refused Refusal.rules_broken) (send_answer room i (send_next limit a s))
 
 -- what the area holds then: the frame at its start, and the rest as it was; without a frame all is as it was
 abbrev pub filled_by : Option (Frame × Sender) → List ℕ → List ℕ
@@ -99,7 +99,7 @@ filled_by (some (f, t)) out = cond (ltb (length out) (length (encode f))) out (w
 
 unfoldable pub area_from : ℕ → Option Session → Sender → List ℕ → List ℕ
 area_from limit none s out = out
-area_from limit (some a) s out = cond (spent s.last s.from) out (filled_by (sendNext limit a s) out)
+area_from limit (some a) s out = cond (spent s.last s.from) out (filled_by (send_next limit a s) out)
 
 -- THE PROMISE OF A CALL: the store is only read
 pub record SendsWhole (limit : ℕ) (shape : Shape) (w b : List ℕ) (s : Sending) (out out' : List ℕ) (r : Sent) : Type 0 where

@@ -2,7 +2,7 @@
 #![tactic(auto)]
 
 ghost use Rattle.std.specs.Prelude.{◌≡◌, ℕ, ◌≤◌, ◌<◌, length, get_or};
-ghost use Rattle.model_session.specs.Whole.{batch_limit, wholeBatches};
+ghost use Rattle.model_session.specs.Whole.{batch_limit, whole_batches};
 ghost use Rattle.store_areas.specs.Areas.{Rules, place_at};
 ghost use Rattle.active_batch.specs.Batch.{WroteBatch};
 ghost use Rattle.active.specs.Whole.{stored_at, handed_on, Begins, SendsWhole};
@@ -45,7 +45,7 @@ pub enum Sent {
 fn batches_at(words: &[u64], bytes: &[u8], shape: Shape, place: usize, limit: u64) -> usize
     requires rules { Rules shape words.now bytes.now }
     requires place_bound { place < get_or words.now 0 0 }
-    ensures is { result ≡ length (wholeBatches limit (place_at shape words.now bytes.now place).stored.session) }
+    ensures is { result ≡ length (whole_batches limit (place_at shape words.now bytes.now place).stored.session) }
     ensures few { result ≤ 33554433 }
 {
     let p = store_areas::spot_in(words, bytes, shape, place);

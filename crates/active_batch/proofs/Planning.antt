@@ -11,15 +11,15 @@ use Rattle.model_frame.specs.Parse.{is_empty}
 use Rattle.model_frame.proofs.Runs.{sizes_append}
 use Rattle.model_session.specs.Session.{Session, Msg, Rising}
 use Rattle.model_session.specs.Summary.{numbered_from}
-use Rattle.model_session.specs.Sender.{opening, cutBatch, cutFrom, messages_from}
+use Rattle.model_session.specs.Sender.{opening, cut_batch, cut_from, messages_from}
 use Rattle.store_log.specs.Log.{log_of, rest_of, From}
 use Rattle.active_messages.specs.Cut.{taken, closing_after, goes_from, Measured}
 use Rattle.active_messages.proofs.Counting.{rest_length}
-use Rattle.active_messages.proofs.Cutting.{cut-is, from_same}
+use Rattle.active_messages.proofs.Cutting.{cut_is, from_same}
 use Rattle.active_header.specs.declared.Header.{Header}
 use Rattle.active_batch.specs.declared.Plan.{Plan}
 use Rattle.active_header.specs.Ends.{Spans, opening_of, ending_of}
-use Rattle.active_batch.specs.Batch.{session_with, plannedChanges, Planned, resume_from}
+use Rattle.active_batch.specs.Batch.{session_with, planned_changes, Planned, resume_from}
 
 empty_is : (n : ℕ) (ms : List Msg) → length ms ≡ n → eqb n 0 ≡ is_empty ms
 empty_is n [] e = eq-eqb n 0 (sym e)
@@ -65,15 +65,15 @@ module _ (limit C M : ℕ) (h : Header) (log ring : List ℕ) (from : ℕ) where
     end_is next [] = refl
     end_is next (m ∷ ms) = refl
 
-    goes-is : (next : ℕ) (ms : List Msg) → goes_from next ms ≡ resume_from next (is_empty ms)
-    goes-is next [] = refl
-    goes-is next (m ∷ ms) = refl
+    goes_is : (next : ℕ) (ms : List Msg) → goes_from next ms ≡ resume_from next (is_empty ms)
+    goes_is next [] = refl
+    goes_is next (m ∷ ms) = refl
 
-    pub cut-planned : (p : Plan) → Rising 1 h.next_outgoing (log_of C M h.next_outgoing log ring) → Planned limit C M h log ring from p
-        → cutFrom limit a from ≡ record { changes = plannedChanges limit C M h log ring stamp marks from p; goes_on = resume_from p.resume_from p.last }
-    cut-planned p r q =
+    pub cut_planned : (p : Plan) → Rising 1 h.next_outgoing (log_of C M h.next_outgoing log ring) → Planned limit C M h log ring from p
+        → cut_from limit a from ≡ record { changes = planned_changes limit C M h log ring stamp marks from p; goes_on = resume_from p.resume_from p.last }
+    cut_planned p r q =
         let ms : List Msg = rest_of C M h.next_outgoing log ring p.left in
         let e : messages_from (max from 1) a.messages ≡ ms = from_same (max from 1) 1 h.next_outgoing a.messages r ∙ sym q.starts in
-        ap (cutBatch limit a (opening limit a from) 0 (max from 1)) e
-        ∙ cut-is limit a (opening limit a from) 0 (max from 1) ms
-        ∙ rw (← q.begins, open_is from, end_is, goes-is, ← q.goes_on, ← q.is_last)
+        ap (cut_batch limit a (opening limit a from) 0 (max from 1)) e
+        ∙ cut_is limit a (opening limit a from) 0 (max from 1) ms
+        ∙ rw (← q.begins, open_is from, end_is, goes_is, ← q.goes_on, ← q.is_last)

@@ -7,11 +7,11 @@ use Rattle.model_frame.specs.Frame.{Change, Part, whole, last_whole, Frame, batc
 use Rattle.model_frame.specs.Parse.{is_empty}
 use Rattle.model_frame.specs.Writing.{encode}
 use Rattle.model_session.specs.Session.{Session, Msg}
-use Rattle.model_session.specs.Sender.{sent_part, cutFrom}
+use Rattle.model_session.specs.Sender.{sent_part, cut_from}
 use Rattle.model_session.specs.Summary.{numbered_from}
 use Rattle.store_log.specs.Log.{log_of, rest_of, Position}
 use Rattle.store_place.specs.Place.{flight_is}
-use Rattle.active_messages.specs.Cut.{taken, leftOver, next_after}
+use Rattle.active_messages.specs.Cut.{taken, left_over, next_after}
 use Rattle.active_header.specs.declared.Header.{Header}
 use Rattle.active_header.specs.Ends.{Spans, opening_of, ending_of}
 use Rattle.active_batch.specs.declared.Plan.{Plan}
@@ -32,16 +32,16 @@ session_with h stamp marks ms =
 
 module _ (limit C M : ℕ) (h : Header) (log ring : List ℕ) where
   -- the changes of a batch that goes by a plan
-  abbrev pub plannedChanges : List ℕ → List ℕ → ℕ → Plan → List Change
-  plannedChanges stamp marks from p = opening_of stamp from ++ (taken limit 0 p.next (rest_of C M h.next_outgoing log ring p.left) ++ ending_of h marks p.last p.resume_from)
+  abbrev pub planned_changes : List ℕ → List ℕ → ℕ → Plan → List Change
+  planned_changes stamp marks from p = opening_of stamp from ++ (taken limit 0 p.next (rest_of C M h.next_outgoing log ring p.left) ++ ending_of h marks p.last p.resume_from)
 
   pub record Planned (from : ℕ) (p : Plan) : Type 0 where
     pub stands : Position C M h.next_outgoing log ring p.left p.dist
     pub starts : rest_of C M h.next_outgoing log ring p.left ≡ numbered_from (max from 1) (log_of C M h.next_outgoing log ring)
     pub begins : p.next ≡ max from 1
     pub goes_on : p.resume_from ≡ next_after limit 0 p.next (rest_of C M h.next_outgoing log ring p.left)
-    pub is_last : p.last ≡ is_empty (leftOver limit 0 (rest_of C M h.next_outgoing log ring p.left))
-    pub spans : (stamp marks : List ℕ) → length stamp ≡ h.stamp → length marks ≡ h.marks → Spans (plannedChanges stamp marks from p) p.count p.size
+    pub is_last : p.last ≡ is_empty (left_over limit 0 (rest_of C M h.next_outgoing log ring p.left))
+    pub spans : (stamp marks : List ℕ) → length stamp ≡ h.stamp → length marks ≡ h.marks → Spans (planned_changes stamp marks from p) p.count p.size
     pub few : p.count ≤ 131077
     pub small : p.size ≤ 34996357
 
@@ -51,7 +51,7 @@ part_is false = whole
 
 -- the frame that carries the batch from a number on
 unfoldable pub frame_from : ℕ → Session → ℕ → ℕ → ℕ → ℕ → Frame
-frame_from limit a h e n from = batch h e n (sent_part (cutFrom limit a from).goes_on) (cutFrom limit a from).changes []
+frame_from limit a h e n from = batch h e n (sent_part (cut_from limit a from).goes_on) (cut_from limit a from).changes []
 
 -- where sending goes on, in the code's terms
 abbrev pub resume_from : ℕ → Bool → Option ℕ
@@ -60,5 +60,5 @@ resume_from from done = cond done none (some from)
 -- what is answered, and what stands in the lent area: the frame at its start and the rest as it was, or 9 and all as it was
 abbrev pub WroteBatch : ℕ → Session → ℕ → ℕ → ℕ → ℕ → List ℕ → List ℕ → BatchWritten → Type 0
 WroteBatch limit a h e n from out out' (Batch len next done) =
-    (len ≡ length (encode (frame_from limit a h e n from))) × (len ≤ length out) × (out' ≡ write out 0 (encode (frame_from limit a h e n from))) × ((cutFrom limit a from).goes_on ≡ resume_from next done)
+    (len ≡ length (encode (frame_from limit a h e n from))) × (len ≤ length out) × (out' ≡ write out 0 (encode (frame_from limit a h e n from))) × ((cut_from limit a from).goes_on ≡ resume_from next done)
 WroteBatch limit a h e n from out out' TooShort = (suc (length out) ≤ length (encode (frame_from limit a h e n from))) × (out' ≡ out)

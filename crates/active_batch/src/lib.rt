@@ -7,12 +7,12 @@ ghost use Rattle.model_frame.specs.Frame as the_frame;
 ghost use Rattle.model_frame.specs.Parse.{run_bytes};
 ghost use Rattle.model_frame.specs.Writing.{change_bytes, encode};
 ghost use Rattle.model_frame.specs.Sizes.{sizes};
-ghost use Rattle.model_session.specs.Whole.{wholeBatches};
+ghost use Rattle.model_session.specs.Whole.{whole_batches};
 ghost use Rattle.base_laws.specs.Wrote.{Wrote};
 ghost use Rattle.frame_fields.specs.Answers.{part_of};
 ghost use Rattle.store_log.specs.Log.{Position};
 ghost use Rattle.store_place.specs.Place.{session_of};
-ghost use Rattle.active_batch.specs.Batch.{plannedChanges, Planned, part_is, WroteBatch};
+ghost use Rattle.active_batch.specs.Batch.{planned_changes, Planned, part_is, WroteBatch};
 
 use active_header::Header;
 use frame_fields::{CommitNumber, Epoch, Part};
@@ -119,8 +119,8 @@ fn put_changes(
     requires stamp_len_bound { length stamp.now ≤ 32 }
     requires marks_len_bound { length marks.now ≤ 64 }
     requires position { Position (length bytes.now) batch.max header.next_outgoing words.now bytes.now plan.left plan.dist }
-    requires plan_in_bounds { at + sizes (plannedChanges batch.limit (length bytes.now) batch.max header words.now bytes.now stamp.now marks.now batch.from plan) ≤ length out.old }
-    ensures { Wrote out.old at (run_bytes change_bytes (plannedChanges batch.limit (length bytes.now) batch.max header words.now bytes.now stamp.now marks.now batch.from plan)) out.new result }
+    requires plan_in_bounds { at + sizes (planned_changes batch.limit (length bytes.now) batch.max header words.now bytes.now stamp.now marks.now batch.from plan) ≤ length out.old }
+    ensures { Wrote out.old at (run_bytes change_bytes (planned_changes batch.limit (length bytes.now) batch.max header words.now bytes.now stamp.now marks.now batch.from plan)) out.new result }
 {
     let opened = active_header::put_opening(stamp, batch.from, out, at);
     let pos = active_messages::put_messages(
@@ -163,7 +163,7 @@ fn put_frame(
     requires marks_bound { header.marks ≤ 64 }
     requires planned { Planned batch.limit (length bytes.now) batch.max header words.now bytes.now batch.from plan }
     requires size_in_bounds { 34 + plan.size ≤ length out.old }
-    ensures { out.new ≡ write out.old 0 (encode (the_frame.batch batch.handle batch.epoch.0 batch.commit_no.0 (part_is plan.last) (plannedChanges batch.limit (length bytes.now) batch.max header words.now bytes.now stamp.now marks.now batch.from plan) [])) }
+    ensures { out.new ≡ write out.old 0 (encode (the_frame.batch batch.handle batch.epoch.0 batch.commit_no.0 (part_is plan.last) (planned_changes batch.limit (length bytes.now) batch.max header words.now bytes.now stamp.now marks.now batch.from plan) [])) }
 {
     let epoch = batch.epoch;
     let commit_no = batch.commit_no;
@@ -211,7 +211,7 @@ pub fn batches(words: &[u64], bytes: &[u8], max: usize, limit: u64) -> usize
     requires max_bound { max ≤ 65536 }
     requires in_bounds { 224 ≤ length bytes.now }
     requires bytes_len_bound { length bytes.now ≤ 33554656 }
-    ensures is { (C : ℕ) → length bytes.now ≡ 224 + C → result ≡ length (wholeBatches limit (session_of C max words.now bytes.now)) }
+    ensures is { (C : ℕ) → length bytes.now ≡ 224 + C → result ≡ length (whole_batches limit (session_of C max words.now bytes.now)) }
     ensures few { result ≤ 33554433 }
 {
     let next = store_place::next_outgoing(words);

@@ -13,7 +13,7 @@ use borrow.Author.Tests.{lt-ltb, le-ltb, eq-eqb, ne_eqb}
 use Rattle.model_active.specs.CatchUp.{Entry, Book, new, member, joining, sessions, opens_of, compared_of, on_entry, compared_with, is, less, met_now, behind_now, catching_now, acknowledged_now, says}
 use Rattle.active_books_area.specs.Words.{list_from, word_at, entry_at, flagged, book_of}
 use Rattle.active_books_area.specs.Parts.{Ruled, FirstAt, At, Makes, Appends, Meets}
-use Rattle.active_books_area.proofs.Laws.{First, member_first, entry_first, changed, length_from, from-alike, from-snoc, sessions_from}
+use Rattle.active_books_area.proofs.Laws.{First, member_first, entry_first, changed, length_from, from_alike, from_snoc, sessions_from}
 
 -- ---- what a search says
 
@@ -86,7 +86,7 @@ on_entry_lem w w' s i h a o singles others at behind =
     let n1 : 1 < 6 = omega arith in
     let m = ap (list_from (entry_at w') 0) (singles 0 n0)
     ∙ changed s i (entry_at w) (entry_at w') h 0 (get_or w 0 0) (first_of_lem w 6 (get_or w 0 0) s i a.found) (omega (arith, a.inside)) at (λ k x y ne. others k (omega (arith, r.few)) ne) in
-    let b = ap (list_from (word_at w' 1030) 0) (singles 1 n1) ∙ from-alike (word_at w' 1030) (word_at w 1030) 0 (get_or w 1 0) (λ k x y. behind k (omega (arith, r.few_behind))) in
+    let b = ap (list_from (word_at w' 1030) 0) (singles 1 n1) ∙ from_alike (word_at w' 1030) (word_at w 1030) 0 (get_or w 1 0) (λ k x y. behind k (omega (arith, r.few_behind))) in
     let x2 = singles 2 (omega arith) in
     let x3 = singles 3 (omega arith) in
     let x4 = singles 4 (omega arith) in
@@ -150,7 +150,7 @@ pub on_behind : (w w' l : List ℕ) → Ruled w → length w' ≡ length w → d
 unfolding book_of
 on_behind w w' l r size rest same few list =
     let n0 : get_or w' 0 0 ≡ get_or w 0 0 = same 0 (omega arith) (λ q. omega arith) in
-    let m = ap (list_from (entry_at w') 0) n0 ∙ from-alike (entry_at w') (entry_at w) 0 (get_or w 0 0) (λ k x y.
+    let m = ap (list_from (entry_at w') 0) n0 ∙ from_alike (entry_at w') (entry_at w) 0 (get_or w 0 0) (λ k x y.
     let less : k < 256 = omega (arith, r.few) in
     let a1 = same (6 + k) (omega arith) (λ q. omega arith) in
     let a2 = same (262 + k) (omega arith) (λ q. omega arith) in
@@ -179,12 +179,12 @@ pushed w s m r is_m less =
     let count : get_or w₂ 1 0 ≡ suc m = get_or-set_same w₁ 1 (m + 1) 0 in₂ ∙ add-one m in
     let o = outside_on w w₁ w₂ (set_outside w (1030 + m) s (omega arith)) (set_outside w₁ 1 (m + 1) (omega arith)) in
     let front : list_from (word_at w₂ 1030) 0 m ≡ list_from (word_at w 1030) 0 (get_or w 1 0) =
-    from-alike (word_at w₂ 1030) (word_at w 1030) 0 m (λ k x y. other2 w (1030 + m) s 1 (m + 1) (1030 + k) (λ q. omega arith) (λ q. omega arith)) ∙ ap (list_from (word_at w 1030) 0) (sym is_m) in
+    from_alike (word_at w₂ 1030) (word_at w 1030) 0 m (λ k x y. other2 w (1030 + m) s 1 (m + 1) (1030 + k) (λ q. omega arith) (λ q. omega arith)) ∙ ap (list_from (word_at w 1030) 0) (sym is_m) in
     let last : word_at w₂ 1030 (0 + m) ≡ s = ap (word_at w₂ 1030) (zero_plus m) ∙ other w₁ 1 (m + 1) (1030 + m) (λ q. omega arith) ∙ get_or-set_same w (1030 + m) s 0 in₁ in
     on_behind w w₂ (list_from (word_at w 1030) 0 (get_or w 1 0) ++ (s ∷ [])) r o.size o.rest
     (λ k x ne. other2 w (1030 + m) s 1 (m + 1) k (λ q. omega arith) ne)
     (omega (arith, count))
-    (ap (list_from (word_at w₂ 1030) 0) count ∙ from-snoc (word_at w₂ 1030) 0 m ∙ (λ j. front j ++ (last j ∷ [])))
+    (ap (list_from (word_at w₂ 1030) 0) count ∙ from_snoc (word_at w₂ 1030) 0 m ∙ (λ j. front j ++ (last j ∷ [])))
 
 -- the words 2 and 3, or 4 and 5
 pub catching_set : (w : List ℕ) (f s : ℕ) → Ruled w → Makes w (set (set w 2 f) 3 s) (catching_now (book_of w) (flagged f s))
@@ -202,13 +202,13 @@ catching_set w f s r =
     let x3 = get_or-set_same w₁ 3 s 0 in₂ in
     let x4 = same 4 (λ q. omega arith) (λ q. omega arith) in
     let x5 = same 5 (λ q. omega arith) (λ q. omega arith) in
-    let m = ap (list_from (entry_at w₂) 0) x0 ∙ from-alike (entry_at w₂) (entry_at w) 0 (get_or w 0 0) (λ k x y.
+    let m = ap (list_from (entry_at w₂) 0) x0 ∙ from_alike (entry_at w₂) (entry_at w) 0 (get_or w 0 0) (λ k x y.
     let a1 = same (6 + k) (λ q. omega arith) (λ q. omega arith) in
     let a2 = same (262 + k) (λ q. omega arith) (λ q. omega arith) in
     let a3 = same (518 + k) (λ q. omega arith) (λ q. omega arith) in
     let a4 = same (774 + k) (λ q. omega arith) (λ q. omega arith) in
     λ j. record { session = a1 j; opens = a2 j; compared = flagged (a3 j) (a4 j) }) in
-    let b = ap (list_from (word_at w₂ 1030) 0) x1 ∙ from-alike (word_at w₂ 1030) (word_at w 1030) 0 (get_or w 1 0) (λ k x y. same (1030 + k) (λ q. omega arith) (λ q. omega arith)) in
+    let b = ap (list_from (word_at w₂ 1030) 0) x1 ∙ from_alike (word_at w₂ 1030) (word_at w 1030) 0 (get_or w 1 0) (λ k x y. same (1030 + k) (λ q. omega arith) (λ q. omega arith)) in
     record {
       book = λ j. record { met = m j; behind = b j; catching = flagged (x2 j) (x3 j); acknowledged = flagged (x4 j) (x5 j) };
       ruled = record { long = omega (arith, r.long, o.size); few = omega (arith, r.few, x0); few_behind = omega (arith, r.few_behind, x1) };
@@ -230,13 +230,13 @@ acknowledged_set w i r =
     let x3 = same 3 (λ q. omega arith) (λ q. omega arith) in
     let x4 = other w₁ 5 i 4 (λ q. omega arith) ∙ get_or-set_same w 4 1 0 in₁ in
     let x5 = get_or-set_same w₁ 5 i 0 in₂ in
-    let m = ap (list_from (entry_at w₂) 0) x0 ∙ from-alike (entry_at w₂) (entry_at w) 0 (get_or w 0 0) (λ k x y.
+    let m = ap (list_from (entry_at w₂) 0) x0 ∙ from_alike (entry_at w₂) (entry_at w) 0 (get_or w 0 0) (λ k x y.
     let a1 = same (6 + k) (λ q. omega arith) (λ q. omega arith) in
     let a2 = same (262 + k) (λ q. omega arith) (λ q. omega arith) in
     let a3 = same (518 + k) (λ q. omega arith) (λ q. omega arith) in
     let a4 = same (774 + k) (λ q. omega arith) (λ q. omega arith) in
     λ j. record { session = a1 j; opens = a2 j; compared = flagged (a3 j) (a4 j) }) in
-    let b = ap (list_from (word_at w₂ 1030) 0) x1 ∙ from-alike (word_at w₂ 1030) (word_at w 1030) 0 (get_or w 1 0) (λ k x y. same (1030 + k) (λ q. omega arith) (λ q. omega arith)) in
+    let b = ap (list_from (word_at w₂ 1030) 0) x1 ∙ from_alike (word_at w₂ 1030) (word_at w 1030) 0 (get_or w 1 0) (λ k x y. same (1030 + k) (λ q. omega arith) (λ q. omega arith)) in
     record {
       book = λ j. record { met = m j; behind = b j; catching = flagged (x2 j) (x3 j); acknowledged = flagged (x4 j) (x5 j) };
       ruled = record { long = omega (arith, r.long, o.size); few = omega (arith, r.few, x0); few_behind = omega (arith, r.few_behind, x1) };
@@ -271,7 +271,7 @@ appended w s n r is-n less =
     let x3 = same 3 (λ q. omega arith) (λ q. omega arith) (λ q. omega arith) (λ q. omega arith) in
     let x4 = same 4 (λ q. omega arith) (λ q. omega arith) (λ q. omega arith) (λ q. omega arith) in
     let x5 = same 5 (λ q. omega arith) (λ q. omega arith) (λ q. omega arith) (λ q. omega arith) in
-    let front : list_from (entry_at w₄) 0 n ≡ list_from (entry_at w) 0 (get_or w 0 0) = from-alike (entry_at w₄) (entry_at w) 0 n (λ k x y.
+    let front : list_from (entry_at w₄) 0 n ≡ list_from (entry_at w) 0 (get_or w 0 0) = from_alike (entry_at w₄) (entry_at w) 0 n (λ k x y.
     let a1 = same (6 + k) (λ q. omega arith) (λ q. omega arith) (λ q. omega arith) (λ q. omega arith) in
     let a2 = same (262 + k) (λ q. omega arith) (λ q. omega arith) (λ q. omega arith) (λ q. omega arith) in
     let a3 = same (518 + k) (λ q. omega arith) (λ q. omega arith) (λ q. omega arith) (λ q. omega arith) in
@@ -282,8 +282,8 @@ appended w s n r is-n less =
     let e3 : word_at w₄ 518 n ≡ 0 = other w₃ 0 (n + 1) (518 + n) (λ q. omega arith) ∙ get_or-set_same w₂ (518 + n) 0 0 in₃ in
     let last : entry_at w₄ (0 + n) ≡ new s = ap (entry_at w₄) (zero_plus n) ∙ (λ j. record { session = e1 j; opens = e2 j; compared = flagged (e3 j) (word_at w₄ 774 n) }) in
     let m : list_from (entry_at w₄) 0 (get_or w₄ 0 0) ≡ list_from (entry_at w) 0 (get_or w 0 0) ++ (new s ∷ []) =
-    ap (list_from (entry_at w₄) 0) (count ∙ add-one n) ∙ from-snoc (entry_at w₄) 0 n ∙ (λ j. front j ++ (last j ∷ [])) in
-    let b = ap (list_from (word_at w₄ 1030) 0) x1 ∙ from-alike (word_at w₄ 1030) (word_at w 1030) 0 (get_or w 1 0) (λ k x y.
+    ap (list_from (entry_at w₄) 0) (count ∙ add-one n) ∙ from_snoc (entry_at w₄) 0 n ∙ (λ j. front j ++ (last j ∷ [])) in
+    let b = ap (list_from (word_at w₄ 1030) 0) x1 ∙ from_alike (word_at w₄ 1030) (word_at w 1030) 0 (get_or w 1 0) (λ k x y.
     same (1030 + k) (λ q. omega arith) (λ q. omega arith) (λ q. omega arith) (λ q. omega arith)) in
     record {
       makes = record {

@@ -51,18 +51,18 @@ module _ {A : Type 0} where
   length_from f i zero = refl
   length_from f i (suc n) = ap suc (length_from f (suc i) n)
 
-  pub from-alike : (f g : ℕ → A) (i n : ℕ) → ((k : ℕ) → i ≤ k → k < i + n → f k ≡ g k) → list_from f i n ≡ list_from g i n
-  from-alike f g i zero e = refl
-  from-alike f g i (suc n) e =
+  pub from_alike : (f g : ℕ → A) (i n : ℕ) → ((k : ℕ) → i ≤ k → k < i + n → f k ≡ g k) → list_from f i n ≡ list_from g i n
+  from_alike f g i zero e = refl
+  from_alike f g i (suc n) e =
       let here : f i ≡ g i = e i (omega arith) (omega arith) in
-      let rest : list_from f (suc i) n ≡ list_from g (suc i) n = from-alike f g (suc i) n (λ k a b. e k (omega arith) (omega arith)) in
+      let rest : list_from f (suc i) n ≡ list_from g (suc i) n = from_alike f g (suc i) n (λ k a b. e k (omega arith) (omega arith)) in
       λ j. here j ∷ rest j
 
-  pub from-snoc : (f : ℕ → A) (i n : ℕ) → list_from f i (suc n) ≡ list_from f i n ++ (f (i + n) ∷ [])
-  from-snoc f i zero = let z : i ≡ i + 0 = omega arith in ap (λ (k : ℕ). f k ∷ []) z
-  from-snoc f i (suc n) =
+  pub from_snoc : (f : ℕ → A) (i n : ℕ) → list_from f i (suc n) ≡ list_from f i n ++ (f (i + n) ∷ [])
+  from_snoc f i zero = let z : i ≡ i + 0 = omega arith in ap (λ (k : ℕ). f k ∷ []) z
+  from_snoc f i (suc n) =
       let next : suc i + n ≡ i + suc n = omega arith in
-      ap (λ (l : List A). f i ∷ l) (from-snoc f (suc i) n) ∙ ap (λ (k : ℕ). f i ∷ (list_from f (suc i) n ++ (f k ∷ []))) next
+      ap (λ (l : List A). f i ∷ l) (from_snoc f (suc i) n) ∙ ap (λ (k : ℕ). f i ∷ (list_from f (suc i) n ++ (f k ∷ []))) next
 
 pub sessions_from : (e : ℕ → Entry) (i n : ℕ) → sessions (list_from e i n) ≡ list_from (λ k. (e k).session) i n
 sessions_from e i zero = refl
@@ -136,5 +136,5 @@ module _ (s r : ℕ) where
       go false q rest =
           let same : r ≡ i = omega (arith, ltb-false i r q, p.low) in
           let here : g i ≡ h (e i) = ap g (sym same) ∙ at ∙ ap (λ (k : ℕ). h (e k)) same in
-          let more = from-alike g e (suc i) n (λ k a b. others k (omega arith) (omega arith) (λ z. omega arith)) in
+          let more = from_alike g e (suc i) n (λ k a b. others k (omega arith) (omega arith) (λ z. omega arith)) in
           (λ j. here j ∷ more j) ∙ ap (λ (b : Bool). cond b (h (e i) ∷ list_from e (suc i) n) (e i ∷ on_entry s h (list_from e (suc i) n))) (sym (eq-eqb s (e i).session (sym (p.there in_it) ∙ ap (λ (k : ℕ). (e k).session) same)))

@@ -14,7 +14,7 @@ use Rattle.active_books_area.specs.Words.{flagged, list_from, word_at, entry_at,
 use Rattle.active_books_listing.specs.Listings.{new_at}
 use Rattle.active_books_area.specs.Parts.{Ruled, FirstAt, Makes}
 use Rattle.active_books_falling.specs.Together.{Fallen, new_falling, FallsAll}
-use Rattle.active_books_area.proofs.Laws.{from-alike, from-snoc, length_from}
+use Rattle.active_books_area.proofs.Laws.{from_alike, from_snoc, length_from}
 use Rattle.active_books_area.proofs.Area.{found_in, found_behind, length_behind, after}
 
 append_nil : {A : Type 0} (l : List A) → l ++ [] ≡ l
@@ -37,43 +37,43 @@ pub record Falls (q : Entry → Bool) (e : ℕ → Entry) (pre : List ℕ) (c₀
   pub list : list_from (word_at a 0) 0 c ≡ pre ++ met_that q (list_from e 0 k)
 
 module _ (q : Entry → Bool) (e : ℕ → Entry) (pre : List ℕ) (c₀ : ℕ) where
-  pub falls-begin : (a : List ℕ) → list_from (word_at a 0) 0 c₀ ≡ pre → Falls q e pre c₀ a 0 c₀
-  falls-begin a h = record { few = omega arith; list = h ∙ sym (append_nil pre) }
+  pub falls_begin : (a : List ℕ) → list_from (word_at a 0) 0 c₀ ≡ pre → Falls q e pre c₀ a 0 c₀
+  falls_begin a h = record { few = omega arith; list = h ∙ sym (append_nil pre) }
 
   one_more : (k : ℕ) → met_that q (list_from e 0 (k + 1)) ≡ met_that q (list_from e 0 k) ++ cond (q (e k)) ((e k).session ∷ []) []
   one_more k =
       let z : 0 + k ≡ k = omega arith in
-      ap (λ (n : ℕ). met_that q (list_from e 0 n)) (add-one k) ∙ ap (met_that q) (from-snoc e 0 k ∙ ap (λ (n : ℕ). list_from e 0 k ++ (e n ∷ [])) z) ∙ that_append q (list_from e 0 k) (e k ∷ [])
+      ap (λ (n : ℕ). met_that q (list_from e 0 n)) (add-one k) ∙ ap (met_that q) (from_snoc e 0 k ∙ ap (λ (n : ℕ). list_from e 0 k ++ (e n ∷ [])) z) ∙ that_append q (list_from e 0 k) (e k ∷ [])
 
-  pub falls-not : (a : List ℕ) (k c : ℕ) {b : Bool} → Falls q e pre c₀ a k c → b ≡ q (e k) → b ≡ false → Falls q e pre c₀ a (k + 1) c
-  falls-not a k c f h no-b = record {
+  pub falls_not : (a : List ℕ) (k c : ℕ) {b : Bool} → Falls q e pre c₀ a k c → b ≡ q (e k) → b ≡ false → Falls q e pre c₀ a (k + 1) c
+  falls_not a k c f h no_b = record {
     few = omega (arith, f.few);
     list =
         f.list ∙ ap (λ (l : List ℕ). pre ++ l)
-        (sym (one_more k ∙ ap (λ (b : Bool). met_that q (list_from e 0 k) ++ cond b ((e k).session ∷ []) []) (sym h ∙ no-b) ∙ append_nil (met_that q (list_from e 0 k))));
+        (sym (one_more k ∙ ap (λ (b : Bool). met_that q (list_from e 0 k) ++ cond b ((e k).session ∷ []) []) (sym h ∙ no_b) ∙ append_nil (met_that q (list_from e 0 k))));
   }
 
-  pub falls-in : (a : List ℕ) (k c : ℕ) {b : Bool} → Falls q e pre c₀ a k c → c < length a → b ≡ q (e k) → b ≡ true → Falls q e pre c₀ (set a c (e k).session) (k + 1) (c + 1)
-  falls-in a k c f inside h yes-b =
+  pub falls_in : (a : List ℕ) (k c : ℕ) {b : Bool} → Falls q e pre c₀ a k c → c < length a → b ≡ q (e k) → b ≡ true → Falls q e pre c₀ (set a c (e k).session) (k + 1) (c + 1)
+  falls_in a k c f inside h yes-b =
       let a' = set a c (e k).session in
-      let front : list_from (word_at a' 0) 0 c ≡ list_from (word_at a 0) 0 c = from-alike (word_at a' 0) (word_at a 0) 0 c (λ i x y. get_or-set_other a c (0 + i) (e k).session 0 (λ z. omega arith)) in
+      let front : list_from (word_at a' 0) 0 c ≡ list_from (word_at a 0) 0 c = from_alike (word_at a' 0) (word_at a 0) 0 c (λ i x y. get_or-set_other a c (0 + i) (e k).session 0 (λ z. omega arith)) in
       let zero-c : 0 + (0 + c) ≡ c = omega arith in
       let last : word_at a' 0 (0 + c) ≡ (e k).session = ap (λ (n : ℕ). get_or a' n 0) zero-c ∙ get_or-set_same a c (e k).session 0 inside in
       record {
         few = omega (arith, f.few);
         list =
-            ap (list_from (word_at a' 0) 0) (add-one c) ∙ from-snoc (word_at a' 0) 0 c ∙ (λ i. (front ∙ f.list) i ++ (last i ∷ []))
+            ap (list_from (word_at a' 0) 0) (add-one c) ∙ from_snoc (word_at a' 0) 0 c ∙ (λ i. (front ∙ f.list) i ++ (last i ∷ []))
             ∙ append_assoc pre (met_that q (list_from e 0 k)) ((e k).session ∷ [])
             ∙ ap (λ (l : List ℕ). pre ++ l) (sym (one_more k ∙ ap (λ (b : Bool). met_that q (list_from e 0 k) ++ cond b ((e k).session ∷ []) []) (sym h ∙ yes-b)));
       }
 
-  pub falls-not-on : (a : List ℕ) (k c : ℕ) {b : Bool} → Falls q e pre c₀ a k c → b ≡ q (e k) → b ≡ false → (a₀ a' : List ℕ) (c' : ℕ) → length a ≡ length a₀ → a' ≡ a → c' ≡ c → Falls q e pre c₀ a' (k + 1) c' × (length a' ≡ length a₀)
-  falls-not-on a k c f h no-b a₀ a' c' size x y =
-      (subst (λ (v : List ℕ). Falls q e pre c₀ v (k + 1) c') (sym x) (subst (λ (n : ℕ). Falls q e pre c₀ a (k + 1) n) (sym y) (falls-not a k c f h no-b)), ap length x ∙ size)
+  pub falls_not_on : (a : List ℕ) (k c : ℕ) {b : Bool} → Falls q e pre c₀ a k c → b ≡ q (e k) → b ≡ false → (a₀ a' : List ℕ) (c' : ℕ) → length a ≡ length a₀ → a' ≡ a → c' ≡ c → Falls q e pre c₀ a' (k + 1) c' × (length a' ≡ length a₀)
+  falls_not_on a k c f h no_b a₀ a' c' size x y =
+      (subst (λ (v : List ℕ). Falls q e pre c₀ v (k + 1) c') (sym x) (subst (λ (n : ℕ). Falls q e pre c₀ a (k + 1) n) (sym y) (falls_not a k c f h no_b)), ap length x ∙ size)
 
-  pub falls-in-on : (a : List ℕ) (k c : ℕ) {b : Bool} → Falls q e pre c₀ a k c → c < length a → b ≡ q (e k) → b ≡ true → (a₀ a' : List ℕ) (c' : ℕ) → length a ≡ length a₀ → a' ≡ set a c (e k).session → c' ≡ c + 1 → Falls q e pre c₀ a' (k + 1) c' × (length a' ≡ length a₀)
-  falls-in-on a k c f inside h yes-b a₀ a' c' size x y =
-      (subst (λ (v : List ℕ). Falls q e pre c₀ v (k + 1) c') (sym x) (subst (λ (n : ℕ). Falls q e pre c₀ (set a c (e k).session) (k + 1) n) (sym y) (falls-in a k c f inside h yes-b)), ap length x ∙ length-set a c (e k).session ∙ size)
+  pub falls_in_on : (a : List ℕ) (k c : ℕ) {b : Bool} → Falls q e pre c₀ a k c → c < length a → b ≡ q (e k) → b ≡ true → (a₀ a' : List ℕ) (c' : ℕ) → length a ≡ length a₀ → a' ≡ set a c (e k).session → c' ≡ c + 1 → Falls q e pre c₀ a' (k + 1) c' × (length a' ≡ length a₀)
+  falls_in_on a k c f inside h yes-b a₀ a' c' size x y =
+      (subst (λ (v : List ℕ). Falls q e pre c₀ v (k + 1) c') (sym x) (subst (λ (n : ℕ). Falls q e pre c₀ (set a c (e k).session) (k + 1) n) (sym y) (falls_in a k c f inside h yes-b)), ap length x ∙ length-set a c (e k).session ∙ size)
 
 -- those met of whom p holds that aren't behind
 abbrev pub falls_now : List ℕ → (Entry → Bool) → Entry → Bool
@@ -147,7 +147,7 @@ pushes w₀ a w w' i g size p =
             p.book ∙ ap (λ (b : Book). behind_now b (b.behind ++ (get_or a i 0 ∷ []))) g.makes.book
             ∙ ap (λ (l : List ℕ). behind_now (book_of w₀) l)
             (append_assoc (book_of w₀).behind (list_from (word_at a 0) 0 i) (get_or a i 0 ∷ [])
-            ∙ ap (λ (x : List ℕ). (book_of w₀).behind ++ x) (ap (λ (e : ℕ). list_from (word_at a 0) 0 i ++ (e ∷ [])) last ∙ sym (from-snoc (word_at a 0) 0 i) ∙ ap (list_from (word_at a 0) 0) (sym (add-one i))));
+            ∙ ap (λ (x : List ℕ). (book_of w₀).behind ++ x) (ap (λ (e : ℕ). list_from (word_at a 0) 0 i ++ (e ∷ [])) last ∙ sym (from_snoc (word_at a 0) 0 i) ∙ ap (list_from (word_at a 0) 0) (sym (add-one i))));
         ruled = p.ruled;
         rest = p.rest ∙ g.makes.rest;
       };
@@ -200,9 +200,9 @@ at_zero b k = let e : k ≡ 0 + k = omega arith in ap (λ (n : ℕ). get_or b n 
 pub new_in_on : (w l b pre : List ℕ) (c₀ : ℕ) (a : List ℕ) (k c : ℕ) {t : Bool} → Falls (falls_now w (listed l)) (new_at b) pre c₀ a k c → c < length a → t ≡ (member (get_or b k 0) l && not (member (get_or b k 0) (book_of w).behind)) → t ≡ true
     → (a₀ a' : List ℕ) (c' : ℕ) → length a ≡ length a₀ → a' ≡ set a c (get_or b k 0) → c' ≡ c + 1 → Falls (falls_now w (listed l)) (new_at b) pre c₀ a' (k + 1) c' × (length a' ≡ length a₀)
 new_in_on w l b pre c₀ a k c f inside h y a₀ a' c' size x z =
-    falls-in-on (falls_now w (listed l)) (new_at b) pre c₀ a k c f inside (h ∙ ap (λ (s : ℕ). member s l && not (member s (book_of w).behind)) (at_zero b k)) y a₀ a' c' size (x ∙ ap (set a c) (at_zero b k)) z
+    falls_in_on (falls_now w (listed l)) (new_at b) pre c₀ a k c f inside (h ∙ ap (λ (s : ℕ). member s l && not (member s (book_of w).behind)) (at_zero b k)) y a₀ a' c' size (x ∙ ap (set a c) (at_zero b k)) z
 
 pub new_not_on : (w l b pre : List ℕ) (c₀ : ℕ) (a : List ℕ) (k c : ℕ) {t : Bool} → Falls (falls_now w (listed l)) (new_at b) pre c₀ a k c → t ≡ (member (get_or b k 0) l && not (member (get_or b k 0) (book_of w).behind)) → t ≡ false
     → (a₀ a' : List ℕ) (c' : ℕ) → length a ≡ length a₀ → a' ≡ a → c' ≡ c → Falls (falls_now w (listed l)) (new_at b) pre c₀ a' (k + 1) c' × (length a' ≡ length a₀)
 new_not_on w l b pre c₀ a k c f h y a₀ a' c' size x z =
-    falls-not-on (falls_now w (listed l)) (new_at b) pre c₀ a k c f (h ∙ ap (λ (s : ℕ). member s l && not (member s (book_of w).behind)) (at_zero b k)) y a₀ a' c' size x z
+    falls_not_on (falls_now w (listed l)) (new_at b) pre c₀ a k c f (h ∙ ap (λ (s : ℕ). member s l && not (member s (book_of w).behind)) (at_zero b k)) y a₀ a' c' size x z

@@ -14,7 +14,7 @@ use Rattle.model_active.specs.CatchUp.{Entry, Book, member, sessions, new, meeti
 use Rattle.active_books_area.specs.Words.{list_from, word_at, entry_at, book_of}
 use Rattle.active_books_listing.specs.Listings.{new_at, Gathers, Lists}
 use Rattle.active_books_area.specs.Parts.{Ruled, FirstAt, Makes, Appends}
-use Rattle.active_books_area.proofs.Laws.{from-alike, from-snoc, length_from, sessions_from}
+use Rattle.active_books_area.proofs.Laws.{from_alike, from_snoc, length_from, sessions_from}
 use Rattle.active_books_area.proofs.Area.{found_in, found_met, length_met}
 
 -- ---- members
@@ -108,7 +108,7 @@ module _ (w l a : List ℕ) (j k : ℕ) (g : Gathering w l a j k) (less : j < le
   takes e f fits =
       let a' = set a k (get_or l j 0) in
       let inside : k < length a = omega (arith, g.size) in
-      let front : list_from (new_at a') 0 k ≡ list_from (new_at a) 0 k = from-alike (new_at a') (new_at a) 0 k (λ i x y. ap new (get_or-set_other a k (0 + i) (get_or l j 0) 0 (λ q. omega arith))) in
+      let front : list_from (new_at a') 0 k ≡ list_from (new_at a) 0 k = from_alike (new_at a') (new_at a) 0 k (λ i x y. ap new (get_or-set_other a k (0 + i) (get_or l j 0) 0 (λ q. omega arith))) in
       let zero-k : 0 + (0 + k) ≡ k = omega arith in
       let last : new_at a' (0 + k) ≡ new (get_or l j 0) = ap new (ap (λ (n : ℕ). get_or a' n 0) zero-k ∙ get_or-set_same a k (get_or l j 0) 0 inside) in
       record {
@@ -118,7 +118,7 @@ module _ (w l a : List ℕ) (j k : ℕ) (g : Gathering w l a j k) (less : j < le
         left =
             one_more e f ∙ ap (meeting (drop (j + 1) l))
             (append_assoc (book_of w).met (list_from (new_at a) 0 k) (new (get_or l j 0) ∷ [])
-            ∙ ap (λ (x : List Entry). (book_of w).met ++ x) (sym (ap (list_from (new_at a') 0) (add-one k) ∙ from-snoc (new_at a') 0 k ∙ (λ i. front i ++ (last i ∷ [])))));
+            ∙ ap (λ (x : List Entry). (book_of w).met ++ x) (sym (ap (list_from (new_at a') 0) (add-one k) ∙ from_snoc (new_at a') 0 k ∙ (λ i. front i ++ (last i ∷ [])))));
       }
 
 grows : (l : List ℕ) (es : List Entry) → length es ≤ length (meeting l es)
@@ -169,7 +169,7 @@ appends w₀ a w w' i g size p =
             p.makes.book ∙ ap (λ (b : Book). met_now b (b.met ++ (new (get_or a i 0) ∷ []))) g.makes.book
             ∙ ap (λ (l : List Entry). met_now (book_of w₀) l)
             (append_assoc (book_of w₀).met (list_from (new_at a) 0 i) (new (get_or a i 0) ∷ [])
-            ∙ ap (λ (x : List Entry). (book_of w₀).met ++ x) (ap (λ (e : Entry). list_from (new_at a) 0 i ++ (e ∷ [])) last ∙ sym (from-snoc (new_at a) 0 i) ∙ ap (list_from (new_at a) 0) (sym (add-one i))));
+            ∙ ap (λ (x : List Entry). (book_of w₀).met ++ x) (ap (λ (e : Entry). list_from (new_at a) 0 i ++ (e ∷ [])) last ∙ sym (from_snoc (new_at a) 0 i) ∙ ap (list_from (new_at a) 0) (sym (add-one i))));
         ruled = p.makes.ruled;
         rest = p.makes.rest ∙ g.makes.rest;
       };

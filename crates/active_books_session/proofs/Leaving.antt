@@ -12,7 +12,7 @@ use borrow.Author.Tests.{eq-eqb, ne_eqb}
 use Rattle.model_active.specs.CatchUp.{without, behind_now}
 use Rattle.active_books_area.specs.Words.{list_from, word_at, book_of}
 use Rattle.active_books_area.specs.Parts.{Ruled, FirstAt, Makes}
-use Rattle.active_books_area.proofs.Laws.{from-alike, from-snoc}
+use Rattle.active_books_area.proofs.Laws.{from_alike, from_snoc}
 use Rattle.active_books_area.proofs.Area.{on_behind}
 
 without_snoc : (s y : ℕ) (xs : List ℕ) → without s (xs ++ (y ∷ [])) ≡ cond (eqb s y) (without s xs) (without s xs ++ (y ∷ []))
@@ -59,7 +59,7 @@ zero_plus n = omega arith
 more : (w₀ : List ℕ) (s j : ℕ) → without s (list_from (word_at w₀ 1030) 0 (j + 1)) ≡ cond (eqb s (word_at w₀ 1030 j)) (without s (list_from (word_at w₀ 1030) 0 j)) (without s (list_from (word_at w₀ 1030) 0 j) ++ (word_at w₀ 1030 j ∷ []))
 more w₀ s j =
     ap (λ (n : ℕ). without s (list_from (word_at w₀ 1030) 0 n)) (add-one j)
-    ∙ ap (without s) (from-snoc (word_at w₀ 1030) 0 j)
+    ∙ ap (without s) (from_snoc (word_at w₀ 1030) 0 j)
     ∙ ap (λ (n : ℕ). without s (list_from (word_at w₀ 1030) 0 j ++ (word_at w₀ 1030 n ∷ []))) (zero_plus j)
     ∙ without_snoc s (word_at w₀ 1030 j) (list_from (word_at w₀ 1030) 0 j)
 
@@ -80,7 +80,7 @@ pub stays : (w₀ : List ℕ) (s m : ℕ) (w : List ℕ) (j k x : ℕ) → 1286 
 stays w₀ s m w j k x long few l less is_x ne =
     let w' = set w (1030 + k) x in
     let inside : 1030 + k < length w = omega (arith, l.size, l.under) in
-    let front : list_from (word_at w' 1030) 0 k ≡ list_from (word_at w 1030) 0 k = from-alike (word_at w' 1030) (word_at w 1030) 0 k (λ i a b. get_or-set_other w (1030 + k) (1030 + i) x 0 (λ q. omega arith)) in
+    let front : list_from (word_at w' 1030) 0 k ≡ list_from (word_at w 1030) 0 k = from_alike (word_at w' 1030) (word_at w 1030) 0 k (λ i a b. get_or-set_other w (1030 + k) (1030 + i) x 0 (λ q. omega arith)) in
     let last : word_at w' 1030 (0 + k) ≡ word_at w₀ 1030 j = ap (word_at w' 1030) (zero_plus k) ∙ get_or-set_same w (1030 + k) x 0 inside ∙ is_x ∙ l.left j (omega arith) in
     record {
       size = length-set w (1030 + k) x ∙ l.size;
@@ -89,7 +89,7 @@ stays w₀ s m w j k x long few l less is_x ne =
       out = λ i h. get_or-set_other w (1030 + k) i x 0 (λ q. omega arith) ∙ l.out i h;
       left = λ i h. get_or-set_other w (1030 + k) (1030 + i) x 0 (λ q. omega (arith, l.under)) ∙ l.left i (omega arith);
       stay =
-          ap (list_from (word_at w' 1030) 0) (add-one k) ∙ from-snoc (word_at w' 1030) 0 k ∙ (λ i. (front ∙ l.stay) i ++ (last i ∷ []))
+          ap (list_from (word_at w' 1030) 0) (add-one k) ∙ from_snoc (word_at w' 1030) 0 k ∙ (λ i. (front ∙ l.stay) i ++ (last i ∷ []))
           ∙ sym (more w₀ s j ∙ ap (λ (b : Bool). cond b (without s (list_from (word_at w₀ 1030) 0 j)) (without s (list_from (word_at w₀ 1030) 0 j) ++ (word_at w₀ 1030 j ∷ [])))
           (ne_eqb s (word_at w₀ 1030 j) (λ q. ne (is_x ∙ l.left j (omega arith) ∙ sym q))));
       rest = drop-set-lt 1286 w (1030 + k) x (omega (arith, l.under)) ∙ l.rest;
@@ -106,7 +106,7 @@ left_now w₀ s w j k r l end =
     (λ i h ne. get_or-set_other w 1 i k 0 ne ∙ l.out i h)
     (omega (arith, count, l.under, r.few_behind))
     (ap (list_from (word_at w' 1030) 0) count
-    ∙ from-alike (word_at w' 1030) (word_at w 1030) 0 k (λ i a b. get_or-set_other w 1 (1030 + i) k 0 (λ q. omega arith))
+    ∙ from_alike (word_at w' 1030) (word_at w 1030) 0 k (λ i a b. get_or-set_other w 1 (1030 + i) k 0 (λ q. omega arith))
     ∙ l.stay ∙ ap (λ (n : ℕ). without s (list_from (word_at w₀ 1030) 0 n)) all)
 
 -- a turn, as the loop's two arms leave the words and the count

@@ -23,13 +23,13 @@ abbrev pub moved : Held → ℕ → Held
 moved h now = record { duration = h.duration; until = h.until; last = now; lost = h.lost }
 
 module _ (h : Held) (now : ℕ) where
-  pub asks-early : (held : Held) → now < h.last → held ≡ h → Asks h now (record { refusal = 31; due = 0; held = held })
-  asks-early held less p =
+  pub asks_early : (held : Held) → now < h.last → held ≡ h → Asks h now (record { refusal = 31; due = 0; held = held })
+  asks_early held less p =
       let e = sym (asked_early (lease_of h) now (lt-ltb now h.last less)) in
       record { refusal = ap (λ (r : Asked). r.refusal) e; due = ap (λ (r : Asked). byte r.due) e; lease = ap lease_of p ∙ ap (λ (r : Asked). r.lease) e; flag = ap (λ (x : Held). x.lost) p }
 
-  pub asks-taken : (b : Bool) (due : ℕ) (held : Held) → h.last ≤ now → b ≡ is_due (lease_of h) now → due ≡ byte b → held ≡ moved h now → Asks h now (record { refusal = 0; due = due; held = held })
-  asks-taken b due held low d q p =
+  pub asks_taken : (b : Bool) (due : ℕ) (held : Held) → h.last ≤ now → b ≡ is_due (lease_of h) now → due ≡ byte b → held ≡ moved h now → Asks h now (record { refusal = 0; due = due; held = held })
+  asks_taken b due held low d q p =
       let e = sym (asked_taken (lease_of h) now (le-ltb now h.last low)) in
       record {
         refusal = ap (λ (r : Asked). r.refusal) e;
@@ -54,8 +54,8 @@ clear_is_0 : (f : ℕ) → is_set f ≡ false → f ≡ byte false
 clear_is_0 f e = eqb-true f 0 (not-false (eqb f 0) e)
 
 module _ (h : Held) (a : Attempt) where
-  pub tries-early : (held : Held) → is_early h.last a ≡ true → held ≡ h → Tries h a (record { refusal = 31; held = held })
-  tries-early held t p =
+  pub tries_early : (held : Held) → is_early h.last a ≡ true → held ≡ h → Tries h a (record { refusal = 31; held = held })
+  tries_early held t p =
       let e = sym (tried_early (lease_of h) a t) in
       record {
         refusal = ap (λ (r : Tried). r.refusal) e;
@@ -65,8 +65,8 @@ module _ (h : Held) (a : Attempt) where
             (λ s. clear_is_0 h.lost s ∙ ap byte (sym s) ∙ ap (λ (r : Tried). byte r.lease.lost) e ∙ flag_clear h.lost (byte (attempt (lease_of h) a).lease.lost) s);
       }
 
-  pub tries-lost : (held : Held) → is_early h.last a ≡ false → (h.lost ≡ 0 → ⊥) → held ≡ moved h a.now → Tries h a (record { refusal = 0; held = held })
-  tries-lost held t n p =
+  pub tries_lost : (held : Held) → is_early h.last a ≡ false → (h.lost ≡ 0 → ⊥) → held ≡ moved h a.now → Tries h a (record { refusal = 0; held = held })
+  tries_lost held t n p =
       let s : is_set h.lost ≡ true = set_so h.lost n in
       let e = sym (tried_taken (lease_of h) a t) in
       record {
@@ -75,9 +75,9 @@ module _ (h : Held) (a : Attempt) where
         flag = ap (λ (x : Held). x.lost) p ∙ flag_set h.lost (byte (attempt (lease_of h) a).lease.lost) s;
       }
 
-  pub tries-held : (until lost : ℕ) (b : Bool) → is_early h.last a ≡ false → h.lost ≡ 0 → until ≡ end_after (lease_of h) a.start a.outcome
+  pub tries_held : (until lost : ℕ) (b : Bool) → is_early h.last a ≡ false → h.lost ≡ 0 → until ≡ end_after (lease_of h) a.start a.outcome
       → b ≡ loses h.until a.now a.outcome → lost ≡ byte b → Tries h a (record { refusal = 0; held = record { duration = h.duration; until = until; last = a.now; lost = lost } })
-  tries-held until lost b t n p l q =
+  tries_held until lost b t n p l q =
       let s : is_set h.lost ≡ false = clear_so h.lost n in
       let e = sym (tried_taken (lease_of h) a t) in
       let held : after (lease_of h) a ≡ record { duration = h.duration; until = end_after (lease_of h) a.start a.outcome; last = a.now; lost = loses h.until a.now a.outcome } = after_held (lease_of h) a s in

@@ -11,41 +11,41 @@ use lib.Dec.{ltb}
 use borrow.Author.Tests.{le-ltb}
 use Rattle.model_frame.specs.Frame.{Change}
 use Rattle.model_session.specs.Session.{Session, Msg}
-use Rattle.model_session.specs.Whole.{send_msg, batch_if, batchesFrom}
+use Rattle.model_session.specs.Whole.{send_msg, batch_if, batches_from}
 use Rattle.model_session.specs.Summary.{numbered_from}
 use Rattle.store_log.specs.Log.{newest_first, log_of, rest_of, Position, From}
-use Rattle.active_messages.specs.Cut.{leftOver, batchCount, Measured}
+use Rattle.active_messages.specs.Cut.{left_over, batch_count, Measured}
 
 module _ (limit : ℕ) where
   -- the batches of the messages that are left
   abbrev pub afterwards : List Msg → ℕ
   afterwards [] = 0
-  afterwards (m ∷ ms) = batchCount limit 0 (m ∷ ms)
+  afterwards (m ∷ ms) = batch_count limit 0 (m ∷ ms)
 
-  pub count-step : (sent : ℕ) (ms : List Msg) → batchCount limit sent ms ≡ suc (afterwards (leftOver limit sent ms))
-  count-step sent [] = refl
-  count-step sent (m ∷ ms) = go (ltb limit sent) (count-step (sent + length m.text) ms)
+  pub count_step : (sent : ℕ) (ms : List Msg) → batch_count limit sent ms ≡ suc (afterwards (left_over limit sent ms))
+  count_step sent [] = refl
+  count_step sent (m ∷ ms) = go (ltb limit sent) (count_step (sent + length m.text) ms)
     where
-      go : (t : Bool) → batchCount limit (sent + length m.text) ms ≡ suc (afterwards (leftOver limit (sent + length m.text) ms))
-          → cond t (suc (batchCount limit (length m.text) ms)) (batchCount limit (sent + length m.text) ms)
-          ≡ suc (afterwards (cond t (m ∷ ms) (leftOver limit (sent + length m.text) ms)))
+      go : (t : Bool) → batch_count limit (sent + length m.text) ms ≡ suc (afterwards (left_over limit (sent + length m.text) ms))
+          → cond t (suc (batch_count limit (length m.text) ms)) (batch_count limit (sent + length m.text) ms)
+          ≡ suc (afterwards (cond t (m ∷ ms) (left_over limit (sent + length m.text) ms)))
       go true ih = rw (le-ltb limit 0 (omega arith), zero-add (length m.text))
       go false ih = ih
 
   -- they are the batches of a session
-  pub count-is : (a : Session) (before : List Change) (sent next : ℕ) (ms : List Msg) → length (batchesFrom limit a before sent next ms) ≡ batchCount limit sent ms
-  count-is a before sent next [] = refl
-  count-is a before sent next (m ∷ ms) =
-      go (ltb limit sent) (count-is a ([] ++ send_msg next m) (0 + length m.text) (suc m.num) ms) (count-is a (before ++ send_msg next m) (sent + length m.text) (suc m.num) ms)
+  pub count_is : (a : Session) (before : List Change) (sent next : ℕ) (ms : List Msg) → length (batches_from limit a before sent next ms) ≡ batch_count limit sent ms
+  count_is a before sent next [] = refl
+  count_is a before sent next (m ∷ ms) =
+      go (ltb limit sent) (count_is a ([] ++ send_msg next m) (0 + length m.text) (suc m.num) ms) (count_is a (before ++ send_msg next m) (sent + length m.text) (suc m.num) ms)
     where
-      go : (t : Bool) → length (batchesFrom limit a ([] ++ send_msg next m) (0 + length m.text) (suc m.num) ms) ≡ batchCount limit (0 + length m.text) ms
-          → length (batchesFrom limit a (before ++ send_msg next m) (sent + length m.text) (suc m.num) ms) ≡ batchCount limit (sent + length m.text) ms
-          → length (batch_if t before (batchesFrom limit a (cond t [] before ++ send_msg next m) (cond t 0 sent + length m.text) (suc m.num) ms))
-          ≡ cond t (suc (batchCount limit (length m.text) ms)) (batchCount limit (sent + length m.text) ms)
+      go : (t : Bool) → length (batches_from limit a ([] ++ send_msg next m) (0 + length m.text) (suc m.num) ms) ≡ batch_count limit (0 + length m.text) ms
+          → length (batches_from limit a (before ++ send_msg next m) (sent + length m.text) (suc m.num) ms) ≡ batch_count limit (sent + length m.text) ms
+          → length (batch_if t before (batches_from limit a (cond t [] before ++ send_msg next m) (cond t 0 sent + length m.text) (suc m.num) ms))
+          ≡ cond t (suc (batch_count limit (length m.text) ms)) (batch_count limit (sent + length m.text) ms)
       go true i j = ap suc (i ∙ rw (zero-add (length m.text)))
       go false i j = j
 
-  pub some_left : (ms : List Msg) → 0 < length ms → afterwards ms ≡ batchCount limit 0 ms
+  pub some_left : (ms : List Msg) → 0 < length ms → afterwards ms ≡ batch_count limit 0 ms
   some_left [] h = absurd (no h)
     where
       no : 0 < 0 → ⊥
@@ -74,7 +74,7 @@ module _ (limit C M end : ℕ) (w b : List ℕ) where
 
   pub record Counting (left dist count : ℕ) : Type 0 where
     pub stands : Position C M end w b left dist
-    pub total : count + afterwards limit (rest_of C M end w b left) ≡ batchCount limit 0 all
+    pub total : count + afterwards limit (rest_of C M end w b left) ≡ batch_count limit 0 all
     pub few : 0 < left → count + dist ≤ C
     pub most : count ≤ C + 1
 
@@ -82,7 +82,7 @@ module _ (limit C M end : ℕ) (w b : List ℕ) where
   begins left dist next left' dist' next' count size f m =
       record {
         stands = m.stands;
-        total = omega (arith, count-step limit 0 all, ap (λ (ms : List Msg). afterwards limit (leftOver limit 0 ms)) f.is, ap (afterwards limit) m.rest);
+        total = omega (arith, count_step limit 0 all, ap (λ (ms : List Msg). afterwards limit (left_over limit 0 ms)) f.is, ap (afterwards limit) m.rest);
         few = λ k. omega (arith, m.goes k, f.stands.room);
         most = omega arith;
       }
@@ -96,10 +96,10 @@ module _ (limit C M end : ℕ) (w b : List ℕ) where
   goes_on left dist count next left' dist' next' c size g h m =
       record {
         stands = m.stands;
-        total = omega (arith, g.total, some_left limit (rest_of C M end w b left) (rest_some C M end w b left dist g.stands h), count-step limit 0 (rest_of C M end w b left), ap (afterwards limit) m.rest);
+        total = omega (arith, g.total, some_left limit (rest_of C M end w b left) (rest_some C M end w b left dist g.stands h), count_step limit 0 (rest_of C M end w b left), ap (afterwards limit) m.rest);
         few = λ k. omega (arith, m.goes k, g.few h);
         most = omega (arith, g.few h);
       }
 
-  pub ends_count : (left dist count : ℕ) → Counting left dist count → left ≤ 0 → C ≤ 33554432 → (count ≡ batchCount limit 0 all) × (count ≤ 33554433)
+  pub ends_count : (left dist count : ℕ) → Counting left dist count → left ≤ 0 → C ≤ 33554432 → (count ≡ batch_count limit 0 all) × (count ≤ 33554433)
   ends_count left dist count g h k = (omega (arith, g.total, ap (afterwards limit) (rest_none C M end w b left h)), omega (arith, g.most))

@@ -11,38 +11,38 @@ use borrow.Author.Tests.{le-leb, leb-true}
 use Rattle.model_frame.specs.Frame.{Change}
 use Rattle.model_session.specs.Session.{Session, Msg, Rising}
 use Rattle.model_session.specs.Whole.{send_msg}
-use Rattle.model_session.specs.Sender.{Cut, cutBatch, messages_from}
+use Rattle.model_session.specs.Sender.{Cut, cut_batch, messages_from}
 use Rattle.model_session.specs.Summary.{numbered_from}
-use Rattle.active_messages.specs.Cut.{taken, leftOver, next_after, closing_after, goes_from}
+use Rattle.active_messages.specs.Cut.{taken, left_over, next_after, closing_after, goes_from}
 
 regroup : (p q r s : List Change) → (p ++ q) ++ (r ++ s) ≡ p ++ ((q ++ r) ++ s)
 regroup p q r s = simp append_assoc
 
 module _ (limit : ℕ) (a : Session) where
-  abbrev pub byParts : List Change → ℕ → ℕ → List Msg → Cut
-  byParts before sent next ms =
+  abbrev pub by_parts : List Change → ℕ → ℕ → List Msg → Cut
+  by_parts before sent next ms =
       record {
-        changes = before ++ (taken limit sent next ms ++ closing_after a (next_after limit sent next ms) (leftOver limit sent ms));
-        goes_on = goes_from (next_after limit sent next ms) (leftOver limit sent ms);
+        changes = before ++ (taken limit sent next ms ++ closing_after a (next_after limit sent next ms) (left_over limit sent ms));
+        goes_on = goes_from (next_after limit sent next ms) (left_over limit sent ms);
       }
 
-  pub cut-is : (before : List Change) (sent next : ℕ) (ms : List Msg) → cutBatch limit a before sent next ms ≡ byParts before sent next ms
-  cut-is before sent next [] = refl
-  cut-is before sent next (m ∷ ms) = go (ltb limit sent) (cut-is (before ++ send_msg next m) (sent + length m.text) (suc m.num) ms)
+  pub cut_is : (before : List Change) (sent next : ℕ) (ms : List Msg) → cut_batch limit a before sent next ms ≡ by_parts before sent next ms
+  cut_is before sent next [] = refl
+  cut_is before sent next (m ∷ ms) = go (ltb limit sent) (cut_is (before ++ send_msg next m) (sent + length m.text) (suc m.num) ms)
     where
-      go : (t : Bool) → cutBatch limit a (before ++ send_msg next m) (sent + length m.text) (suc m.num) ms ≡ byParts (before ++ send_msg next m) (sent + length m.text) (suc m.num) ms
-          → cond t (record { changes = before; goes_on = some next }) (cutBatch limit a (before ++ send_msg next m) (sent + length m.text) (suc m.num) ms)
+      go : (t : Bool) → cut_batch limit a (before ++ send_msg next m) (sent + length m.text) (suc m.num) ms ≡ by_parts (before ++ send_msg next m) (sent + length m.text) (suc m.num) ms
+          → cond t (record { changes = before; goes_on = some next }) (cut_batch limit a (before ++ send_msg next m) (sent + length m.text) (suc m.num) ms)
           ≡ record {
             changes =
                 before ++ (cond t [] (send_msg next m ++ taken limit (sent + length m.text) (suc m.num) ms)
-                ++ closing_after a (cond t next (next_after limit (sent + length m.text) (suc m.num) ms)) (cond t (m ∷ ms) (leftOver limit (sent + length m.text) ms)));
-            goes_on = goes_from (cond t next (next_after limit (sent + length m.text) (suc m.num) ms)) (cond t (m ∷ ms) (leftOver limit (sent + length m.text) ms));
+                ++ closing_after a (cond t next (next_after limit (sent + length m.text) (suc m.num) ms)) (cond t (m ∷ ms) (left_over limit (sent + length m.text) ms)));
+            goes_on = goes_from (cond t next (next_after limit (sent + length m.text) (suc m.num) ms)) (cond t (m ∷ ms) (left_over limit (sent + length m.text) ms));
           }
       go true ih = rw (append-nil before)
       go false ih =
           ih
-          ∙ ap (λ (cs : List Change). record { changes = cs; goes_on = goes_from (next_after limit (sent + length m.text) (suc m.num) ms) (leftOver limit (sent + length m.text) ms) })
-          (regroup before (send_msg next m) (taken limit (sent + length m.text) (suc m.num) ms) (closing_after a (next_after limit (sent + length m.text) (suc m.num) ms) (leftOver limit (sent + length m.text) ms)))
+          ∙ ap (λ (cs : List Change). record { changes = cs; goes_on = goes_from (next_after limit (sent + length m.text) (suc m.num) ms) (left_over limit (sent + length m.text) ms) })
+          (regroup before (send_msg next m) (taken limit (sent + length m.text) (suc m.num) ms) (closing_after a (next_after limit (sent + length m.text) (suc m.num) ms) (left_over limit (sent + length m.text) ms)))
 
 -- the messages from a number on, where numbers rise
 pub numbered_all : (n low N : ℕ) (ms : List Msg) → n ≤ low → Rising low N ms → numbered_from n ms ≡ ms

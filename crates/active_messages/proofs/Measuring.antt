@@ -15,7 +15,7 @@ use Rattle.model_session.specs.Session.{Msg}
 use Rattle.model_session.specs.Whole.{send_msg}
 use Rattle.store_log.specs.Log.{msg, rest_of, Position, NextMessage}
 use Rattle.active_messages.proofs.Putting.{piece_length}
-use Rattle.active_messages.specs.Cut.{taken, leftOver, next_after, Measured}
+use Rattle.active_messages.specs.Cut.{taken, left_over, next_after, Measured}
 
 -- how many changes a message makes, and their bytes
 send_count : (next : ℕ) (m : Msg) → length (send_msg next m) ≡ cond (ltb next m.num) 1 0 + 1
@@ -34,17 +34,17 @@ send_size next m = go (ltb next m.num)
 
 -- a batch that is full takes no more
 module _ (limit sent next : ℕ) (full : ltb limit sent ≡ true) where
-  pub full-taken : (ms : List Msg) → taken limit sent next ms ≡ []
-  full-taken [] = refl
-  full-taken (m ∷ ms) = ap (λ (b : Bool). cond b [] (send_msg next m ++ taken limit (sent + length m.text) (suc m.num) ms)) full
+  pub full_taken : (ms : List Msg) → taken limit sent next ms ≡ []
+  full_taken [] = refl
+  full_taken (m ∷ ms) = ap (λ (b : Bool). cond b [] (send_msg next m ++ taken limit (sent + length m.text) (suc m.num) ms)) full
 
-  full-left : (ms : List Msg) → leftOver limit sent ms ≡ ms
-  full-left [] = refl
-  full-left (m ∷ ms) = ap (λ (b : Bool). cond b (m ∷ ms) (leftOver limit (sent + length m.text) ms)) full
+  full_left : (ms : List Msg) → left_over limit sent ms ≡ ms
+  full_left [] = refl
+  full_left (m ∷ ms) = ap (λ (b : Bool). cond b (m ∷ ms) (left_over limit (sent + length m.text) ms)) full
 
-  full-next : (ms : List Msg) → next_after limit sent next ms ≡ next
-  full-next [] = refl
-  full-next (m ∷ ms) = ap (λ (b : Bool). cond b next (next_after limit (sent + length m.text) (suc m.num) ms)) full
+  full_next : (ms : List Msg) → next_after limit sent next ms ≡ next
+  full_next [] = refl
+  full_next (m ∷ ms) = ap (λ (b : Bool). cond b next (next_after limit (sent + length m.text) (suc m.num) ms)) full
 
 pub piece_of : (C M end : ℕ) (w b : List ℕ) (left dist number start first rest left' dist' : ℕ) → length b ≡ C → NextMessage C M end w b left dist number start first rest left' dist'
     → length (take first (drop start b) ++ take rest b) ≡ first + rest
@@ -65,14 +65,14 @@ module _ (limit C M end : ℕ) (w b : List ℕ) where
       ∙ ap (λ (t : Bool). cond t [] (send_msg next m ++ taken limit (sent + length m.text) (suc number) (Rest left'))) h
       ∙ rw (len, later) refl
 
-  left-more : (left dist sent number start first rest left' dist' : ℕ) → ltb limit sent ≡ false → length b ≡ C → NextMessage C M end w b left dist number start first rest left' dist'
-      → leftOver limit sent (Rest left) ≡ leftOver limit (sent + (first + rest)) (Rest left')
-  left-more left dist sent number start first rest left' dist' h long r =
+  left_more : (left dist sent number start first rest left' dist' : ℕ) → ltb limit sent ≡ false → length b ≡ C → NextMessage C M end w b left dist number start first rest left' dist'
+      → left_over limit sent (Rest left) ≡ left_over limit (sent + (first + rest)) (Rest left')
+  left_more left dist sent number start first rest left' dist' h long r =
       let m : Msg = msg number (take first (drop start b) ++ take rest b) in
       let len : length m.text ≡ first + rest = piece_of C M end w b left dist number start first rest left' dist' long r in
-      ap (leftOver limit sent) r.is
-      ∙ ap (λ (t : Bool). cond t (m ∷ Rest left') (leftOver limit (sent + length m.text) (Rest left'))) h
-      ∙ ap (λ (k : ℕ). leftOver limit (sent + k) (Rest left')) len
+      ap (left_over limit sent) r.is
+      ∙ ap (λ (t : Bool). cond t (m ∷ Rest left') (left_over limit (sent + length m.text) (Rest left'))) h
+      ∙ ap (λ (k : ℕ). left_over limit (sent + k) (Rest left')) len
 
   next_more : (left dist next sent number start first rest left' dist' : ℕ) → ltb limit sent ≡ false → length b ≡ C → NextMessage C M end w b left dist number start first rest left' dist'
       → next_after limit sent next (Rest left) ≡ next_after limit (sent + (first + rest)) (number + 1) (Rest left')
@@ -90,7 +90,7 @@ module _ (limit C M end : ℕ) (w b : List ℕ) (left₀ dist₀ next₀ : ℕ) 
 
   pub record Measuring (left dist next count size sent : ℕ) : Type 0 where
     pub stands : Position C M end w b left dist
-    pub rest : leftOver limit sent (Rest₀ left) ≡ leftOver limit 0 (Rest₀ left₀)
+    pub rest : left_over limit sent (Rest₀ left) ≡ left_over limit 0 (Rest₀ left₀)
     pub after : next_after limit sent next (Rest₀ left) ≡ next_after limit 0 next₀ (Rest₀ left₀)
     pub counts : count + length (taken limit sent next (Rest₀ left)) ≡ length (taken limit 0 next₀ (Rest₀ left₀))
     pub spans : size + sizes (taken limit sent next (Rest₀ left)) ≡ sizes (taken limit 0 next₀ (Rest₀ left₀))
@@ -103,11 +103,11 @@ module _ (limit C M end : ℕ) (w b : List ℕ) (left₀ dist₀ next₀ : ℕ) 
 
   pub full_stop : (left dist next count size sent : ℕ) → Measuring left dist next count size sent → ltb limit sent ≡ true → Measured limit C M end w b left₀ dist₀ next₀ left dist next count size
   full_stop left dist next count size sent g h =
-      let none : taken limit sent next (Rest₀ left) ≡ [] = full-taken limit sent next h (Rest₀ left) in
+      let none : taken limit sent next (Rest₀ left) ≡ [] = full_taken limit sent next h (Rest₀ left) in
       record {
         stands = g.stands;
-        rest = sym (full-left limit sent next h (Rest₀ left)) ∙ g.rest;
-        after = sym (full-next limit sent next h (Rest₀ left)) ∙ g.after;
+        rest = sym (full_left limit sent next h (Rest₀ left)) ∙ g.rest;
+        after = sym (full_next limit sent next h (Rest₀ left)) ∙ g.after;
         counts = omega (arith, g.counts, ap length none);
         spans = omega (arith, g.spans, ap sizes none);
         few = g.few;
@@ -128,7 +128,7 @@ module _ (limit C M end : ℕ) (w b : List ℕ) (left₀ dist₀ next₀ : ℕ) 
       ends : Measuring 0 dist next count size sent → Rest₀ 0 ≡ [] → Measured limit C M end w b left₀ dist₀ next₀ 0 dist next count size
       ends g e = record {
         stands = g.stands;
-        rest = e ∙ sym (ap (leftOver limit sent) e) ∙ g.rest;
+        rest = e ∙ sym (ap (left_over limit sent) e) ∙ g.rest;
         after = sym (ap (next_after limit sent next) e) ∙ g.after;
         counts = omega (arith, g.counts, ap (λ (l : List Msg). length (taken limit sent next l)) e);
         spans = omega (arith, g.spans, ap (λ (l : List Msg). sizes (taken limit sent next l)) e);
@@ -152,7 +152,7 @@ module _ (limit C M end : ℕ) (w b : List ℕ) (left₀ dist₀ next₀ : ℕ) 
       let cut = taken_more limit C M end w b left dist next sent number start first rest left' dist' h long r in
       record {
         stands = r.stands;
-        rest = sym (left-more limit C M end w b left dist sent number start first rest left' dist' h long r) ∙ g.rest;
+        rest = sym (left_more limit C M end w b left dist sent number start first rest left' dist' h long r) ∙ g.rest;
         after = sym (next_more limit C M end w b left dist next sent number start first rest left' dist' h long r) ∙ g.after;
         counts = omega (arith, g.counts, ap length cut, length-append (send_msg next m) (taken limit (sent + (first + rest)) (number + 1) (Rest₀ left')), send_count next m, s);
         spans = omega (arith, g.spans, ap sizes cut, sizes_append (send_msg next m) (taken limit (sent + (first + rest)) (number + 1) (Rest₀ left')), send_size next m, s, len);

@@ -7,7 +7,7 @@ use lib.ListN.{take}
 use Rattle.model_frame.specs.Parse.{Each}
 use Rattle.model_session.specs.Session.{Msg}
 use Rattle.store_log.specs.Log.{Entry, entry, unrolled, tail_of, newest, walk, newest_first, rest_of}
-use Rattle.store_log.proofs.Walk.{Look, hit, low, high, full, look, walk-hit, walk-low, walk-high, walk-full}
+use Rattle.store_log.proofs.Walk.{Look, hit, low, high, full, look, walk_hit, walk_low, walk_high, walk_full}
 
 abbrev Under : ℕ → Msg → Type 0
 Under bound m = m.num < bound
@@ -34,10 +34,10 @@ walk_under C u [] d bound = tt
 walk_under C u (entry n l ∷ es) d bound = go (look C d bound n l) (walk_under C u es (d + l) n)
   where
     go : Look C d bound n l → Each (Under n) (walk C u es (d + l) n) → Each (Under bound) (walk C u (entry n l ∷ es) d bound)
-    go (hit a b r) e = subst (Each (Under bound)) (sym (walk-hit C u n l es d bound a b r)) (b, rises n bound (walk C u es (d + l) n) b e)
-    go (low a) e = subst (Each (Under bound)) (sym (walk-low C u n l es d bound a)) tt
-    go (high a) e = subst (Each (Under bound)) (sym (walk-high C u n l es d bound a)) tt
-    go (full a) e = subst (Each (Under bound)) (sym (walk-full C u n l es d bound a)) tt
+    go (hit a b r) e = subst (Each (Under bound)) (sym (walk_hit C u n l es d bound a b r)) (b, rises n bound (walk C u es (d + l) n) b e)
+    go (low a) e = subst (Each (Under bound)) (sym (walk_low C u n l es d bound a)) tt
+    go (high a) e = subst (Each (Under bound)) (sym (walk_high C u n l es d bound a)) tt
+    go (full a) e = subst (Each (Under bound)) (sym (walk_full C u n l es d bound a)) tt
 
 pub below : (C M next : ℕ) (w b : List ℕ) (left : ℕ) (m : Msg) (ms : List Msg) → rest_of C M next w b left ≡ m ∷ ms → m.num < next
 unfolding rest_of

@@ -14,32 +14,32 @@ use Rattle.model_frame.proofs.Runs.{run_append, sizes_append}
 use Rattle.model_frame.proofs.Sizes.{changes_size}
 use Rattle.model_session.specs.Whole.{skip_to, send_msg}
 use Rattle.base_laws.specs.Wrote.{Wrote}
-use Rattle.base_laws.proofs.Writes.{Left, left_start, left-room, left_step, left-done}
+use Rattle.base_laws.proofs.Writes.{Left, left_start, left_room, left_step, left_done}
 use Rattle.store_log.specs.Log.{msg, rest_of, Position, NextMessage}
-use Rattle.active_messages.proofs.Measuring.{taken_more, full-taken, piece_of}
+use Rattle.active_messages.proofs.Measuring.{taken_more, full_taken, piece_of}
 use Rattle.active_messages.specs.Cut.{taken}
 
 module _ (limit C M end : ℕ) (w b : List ℕ) where
   -- the bytes of what a batch takes
-  abbrev pub toWrite : ℕ → ℕ → ℕ → List ℕ
-  toWrite sent next left = run_bytes change_bytes (taken limit sent next (rest_of C M end w b left))
+  abbrev pub to_write : ℕ → ℕ → ℕ → List ℕ
+  to_write sent next left = run_bytes change_bytes (taken limit sent next (rest_of C M end w b left))
 
   module _ (first : List ℕ) (at left₀ dist₀ next₀ : ℕ) where
     pub record Sending (out : List ℕ) (left dist next sent pos : ℕ) : Type 0 where
       pub stands : Position C M end w b left dist
       pub sums : sent + dist ≤ dist₀
-      pub writes : Left first at (toWrite 0 next₀ left₀) out pos (toWrite sent next left)
+      pub writes : Left first at (to_write 0 next₀ left₀) out pos (to_write sent next left)
 
     pub begins : Position C M end w b left₀ dist₀ → Sending first left₀ dist₀ next₀ 0 at
-    begins s = record { stands = s; sums = omega arith; writes = left_start first at (toWrite 0 next₀ left₀) }
+    begins s = record { stands = s; sums = omega arith; writes = left_start first at (to_write 0 next₀ left₀) }
 
-    pub full_stop : (out : List ℕ) (left dist next sent pos : ℕ) → Sending out left dist next sent pos → ltb limit sent ≡ true → Wrote first at (toWrite 0 next₀ left₀) out pos
+    pub full_stop : (out : List ℕ) (left dist next sent pos : ℕ) → Sending out left dist next sent pos → ltb limit sent ≡ true → Wrote first at (to_write 0 next₀ left₀) out pos
     unfolding run_bytes
-    full_stop out left dist next sent pos g h = left-done g.writes (ap (run_bytes change_bytes) (full-taken limit sent next h (rest_of C M end w b left)))
+    full_stop out left dist next sent pos g h = left_done g.writes (ap (run_bytes change_bytes) (full_taken limit sent next h (rest_of C M end w b left)))
 
-    pub last_stop : (out : List ℕ) (left dist next sent pos : ℕ) → Sending out left dist next sent pos → left ≤ 0 → Wrote first at (toWrite 0 next₀ left₀) out pos
+    pub last_stop : (out : List ℕ) (left dist next sent pos : ℕ) → Sending out left dist next sent pos → left ≤ 0 → Wrote first at (to_write 0 next₀ left₀) out pos
     unfolding rest_of run_bytes
-    last_stop out zero dist next sent pos g h = left-done g.writes refl
+    last_stop out zero dist next sent pos g h = left_done g.writes refl
     last_stop out (suc left) dist next sent pos g h = absurd (no h)
       where
         no : suc left ≤ 0 → ⊥
@@ -50,7 +50,7 @@ module _ (limit C M end : ℕ) (w b : List ℕ) where
       abbrev this : List Change
       this = send_msg next (msg number (take part (drop start b) ++ take rest b))
 
-      more : toWrite sent next left ≡ run_bytes change_bytes this ++ toWrite (sent + (part + rest)) (number + 1) left'
+      more : to_write sent next left ≡ run_bytes change_bytes this ++ to_write (sent + (part + rest)) (number + 1) left'
       more =
           ap (run_bytes change_bytes) (taken_more limit C M end w b left dist next sent number start part rest left' dist' h long r)
           ∙ run_append change_bytes this (taken limit (sent + (part + rest)) (number + 1) (rest_of C M end w b left'))
@@ -58,7 +58,7 @@ module _ (limit C M end : ℕ) (w b : List ℕ) where
       pub has_room : at + sizes (taken limit 0 next₀ (rest_of C M end w b left₀)) ≤ length first → pos + sizes (skip_to next number) + 13 + part + rest ≤ length out
       has_room k =
           let room : pos + length (run_bytes change_bytes this) ≤ length out =
-          left-room (run_bytes change_bytes this) (toWrite (sent + (part + rest)) (number + 1) left') g.writes more
+          left_room (run_bytes change_bytes this) (to_write (sent + (part + rest)) (number + 1) left') g.writes more
           (omega (arith, k, changes_size (taken limit 0 next₀ (rest_of C M end w b left₀)))) in
           omega (arith, room, changes_size this, sizes_append (skip_to next number) (record_msg number (take part (drop start b) ++ take rest b) ∷ []), piece_of C M end w b left dist number start part rest left' dist' long r)
 

@@ -14,9 +14,9 @@ module _ (limit : ℕ) where
   taken sent next (m ∷ ms) = cond (ltb limit sent) [] (send_msg next m ++ taken (sent + length m.text) (suc m.num) ms)
 
   -- the messages that it leaves
-  abbrev pub leftOver : ℕ → List Msg → List Msg
-  leftOver sent [] = []
-  leftOver sent (m ∷ ms) = cond (ltb limit sent) (m ∷ ms) (leftOver (sent + length m.text) ms)
+  abbrev pub left_over : ℕ → List Msg → List Msg
+  left_over sent [] = []
+  left_over sent (m ∷ ms) = cond (ltb limit sent) (m ∷ ms) (left_over (sent + length m.text) ms)
 
   -- the next number after those that it takes
   abbrev pub next_after : ℕ → ℕ → List Msg → ℕ
@@ -24,9 +24,9 @@ module _ (limit : ℕ) where
   next_after sent next (m ∷ ms) = cond (ltb limit sent) next (next_after (sent + length m.text) (suc m.num) ms)
 
   -- how many batches there are, with so many message bytes in the first
-  abbrev pub batchCount : ℕ → List Msg → ℕ
-  batchCount sent [] = 1
-  batchCount sent (m ∷ ms) = cond (ltb limit sent) (suc (batchCount (length m.text) ms)) (batchCount (sent + length m.text) ms)
+  abbrev pub batch_count : ℕ → List Msg → ℕ
+  batch_count sent [] = 1
+  batch_count sent (m ∷ ms) = cond (ltb limit sent) (suc (batch_count (length m.text) ms)) (batch_count (sent + length m.text) ms)
 
 -- what stands after the messages: the closing if none is left
 abbrev pub closing_after : Session → ℕ → List Msg → List Change
@@ -41,7 +41,7 @@ goes_from next (m ∷ ms) = some next
 -- from a place in the log: the place where the batch ends, the next number there, how many changes there are, and their bytes
 pub record Measured (limit C M end : ℕ) (w b : List ℕ) (left dist next left' dist' next' count size : ℕ) : Type 0 where
   pub stands : Position C M end w b left' dist'
-  pub rest : rest_of C M end w b left' ≡ leftOver limit 0 (rest_of C M end w b left)
+  pub rest : rest_of C M end w b left' ≡ left_over limit 0 (rest_of C M end w b left)
   pub after : next' ≡ next_after limit 0 next (rest_of C M end w b left)
   pub counts : count ≡ length (taken limit 0 next (rest_of C M end w b left))
   pub spans : size ≡ sizes (taken limit 0 next (rest_of C M end w b left))

@@ -10,7 +10,7 @@ ghost use Rattle.model_frame.specs.Sizes.{sizes};
 ghost use Rattle.base_laws.specs.Wrote.{Wrote};
 ghost use Rattle.model_session.specs.Summary.{numbered_from};
 ghost use Rattle.store_log.specs.Log.{Position, log_of, rest_of};
-ghost use Rattle.active_messages.specs.Cut.{taken, batchCount, Measured};
+ghost use Rattle.active_messages.specs.Cut.{taken, batch_count, Measured};
 
 // A batch: the place in the log where it ends, the next outgoing number there, how many changes its messages make, and their bytes.
 #[repr(C)]
@@ -135,7 +135,7 @@ pub fn batches(words: &[u64], bytes: &[u8], max: usize, end: u64, limit: u64) ->
     requires max_bound { max ≤ 65536 }
     requires bytes_len_bound { length bytes.now ≤ 33554432 }
     requires le_end { 1 ≤ end }
-    ensures is { result ≡ batchCount limit 0 (numbered_from 1 (log_of (length bytes.now) max end words.now bytes.now)) }
+    ensures is { result ≡ batch_count limit 0 (numbered_from 1 (log_of (length bytes.now) max end words.now bytes.now)) }
     ensures few { result ≤ 33554433 }
 {
     let c = store_log::messages_from(words, bytes, max, end, 1);

@@ -41,17 +41,17 @@ module _ (w : List ℕ) (h i : ℕ) (d : m.Count) (v : List ℕ) (at : i ≡ pla
   seven : length vs ≡ 7
   seven = omega (arith, p.five)
 
-  pub kept-before : (k : ℕ) → k < start i + 2 → get_or v k 0 ≡ get_or w k 0
-  kept-before k low = ap (λ (l : List ℕ). get_or l k 0) p.words ∙ sets_before vs w (start i + 2) k low
+  pub kept_before : (k : ℕ) → k < start i + 2 → get_or v k 0 ≡ get_or w k 0
+  kept_before k low = ap (λ (l : List ℕ). get_or l k 0) p.words ∙ sets_before vs w (start i + 2) k low
 
-  kept-after : (k : ℕ) → start i + 9 ≤ k → get_or v k 0 ≡ get_or w k 0
-  kept-after k high = ap (λ (l : List ℕ). get_or l k 0) p.words ∙ sets_after vs w (start i + 2) k (omega (arith, seven))
+  kept_after : (k : ℕ) → start i + 9 ≤ k → get_or v k 0 ≡ get_or w k 0
+  kept_after k high = ap (λ (l : List ℕ). get_or l k 0) p.words ∙ sets_after vs w (start i + 2) k (omega (arith, seven))
 
-  pub kept-size : length v ≡ length w
-  kept-size = ap length p.words ∙ length-sets w (start i + 2) vs
+  pub kept_size : length v ≡ length w
+  kept_size = ap length p.words ∙ length-sets w (start i + 2) vs
 
-  pub kept-past : drop 2564 v ≡ drop 2564 w
-  kept-past = ap (drop 2564) p.words ∙ sets_drop vs w (start i + 2) 2564 (omega (arith, seven))
+  pub kept_past : drop 2564 v ≡ drop 2564 w
+  kept_past = ap (drop 2564) p.words ∙ sets_drop vs w (start i + 2) 2564 (omega (arith, seven))
 
   links : (j : ℕ) → (handle_at v j ≡ handle_at w j) × (before_at v j ≡ before_at w j)
   links j = go (leb j i) refl
@@ -59,31 +59,31 @@ module _ (w : List ℕ) (h i : ℕ) (d : m.Count) (v : List ℕ) (at : i ≡ pla
       go : (b : Bool) → leb j i ≡ b → (handle_at v j ≡ handle_at w j) × (before_at v j ≡ before_at w j)
       go true e =
           let low : j ≤ i = leb-true j i e in
-          (kept-before (start j) (omega arith), kept-before (start j + 1) (omega arith))
+          (kept_before (start j) (omega arith), kept_before (start j + 1) (omega arith))
       go false e =
           let high : i < j = leb-false j i e in
-          (kept-after (start j) (omega arith), kept-after (start j + 1) (omega arith))
+          (kept_after (start j) (omega arith), kept_after (start j + 1) (omega arith))
 
   same_place : (g : ℕ) → place_of v g ≡ place_of w g
   unfolding place_of
   same_place g =
       walk_same v w g (get_or v 3 0) (newest_of v g) (λ j _. links j)
-      ∙ ap (λ (b : ℕ). walk w g b (newest_of v g)) (kept-before 3 (omega arith))
-      ∙ ap (walk w g (get_or w 3 0)) (kept-before (4 + g % 256) (omega arith))
+      ∙ ap (λ (b : ℕ). walk w g b (newest_of v g)) (kept_before 3 (omega arith))
+      ∙ ap (walk w g (get_or w 3 0)) (kept_before (4 + g % 256) (omega arith))
 
-  others-count : (j : ℕ) → (j ≡ i → ⊥) → count_at v j ≡ count_at w j
-  others-count j other = go (leb j i) refl
+  others_count : (j : ℕ) → (j ≡ i → ⊥) → count_at v j ≡ count_at w j
+  others_count j other = go (leb j i) refl
     where
       go : (b : Bool) → leb j i ≡ b → count_at v j ≡ count_at w j
       go true e =
           let low : j ≤ i = leb-true j i e in
-          same_count v w j (λ k _ high. kept-before k (omega arith))
+          same_count v w j (λ k _ high. kept_before k (omega arith))
       go false e =
           let high : i < j = leb-false j i e in
-          same_count v w j (λ k low _. kept-after k (omega arith))
+          same_count v w j (λ k low _. kept_after k (omega arith))
 
-  own-count : count_at v i ≡ d
-  own-count = read d.acks (five_so d.acks p.five) d.last d.figure p.words refl
+  own_count : count_at v i ≡ d
+  own_count = read d.acks (five_so d.acks p.five) d.last d.figure p.words refl
     where
       read : (l : List ℕ) → l ≡ get_or l 0 0 ∷ get_or l 1 0 ∷ get_or l 2 0 ∷ get_or l 3 0 ∷ get_or l 4 0 ∷ [] → (a f : ℕ) → v ≡ sets w (start i + 2) (a ∷ f ∷ l) → length (a ∷ f ∷ l) ≡ length vs
           → count_at v i ≡ record { last = a; figure = f; acks = l }
@@ -103,14 +103,14 @@ module _ (w : List ℕ) (h i : ℕ) (d : m.Count) (v : List ℕ) (at : i ≡ pla
       other true t e =
           let mine : handle_at w (place_of w g) ≡ g = (place_found w g (ltb-true (place_of w g) 256 t)).own in
           let its : handle_at w (place_of w h) ≡ h = (place_found w h (omega arith)).own in
-          ap some (others-count (place_of w g) (λ same. eqb-false g h e (sym mine ∙ ap (handle_at w) (same ∙ at) ∙ its)))
+          ap some (others_count (place_of w g) (λ same. eqb-false g h e (sym mine ∙ ap (handle_at w) (same ∙ at) ∙ its)))
       other false t e = refl
 
       go : (b : Bool) → eqb g h ≡ b → count_of v g ≡ cond b (some d) (count_of w g)
       go true e =
           let here : place_of v g ≡ i = same_place g ∙ ap (place_of w) (eqb-true g h e) ∙ sym at in
           let t : ltb i 256 ≡ true = lt-ltb i 256 less in
-          ap (kept_at v) here ∙ ap (λ (b : Bool). cond b (some (count_at v i)) none) t ∙ ap some own-count
+          ap (kept_at v) here ∙ ap (λ (b : Bool). cond b (some (count_at v i)) none) t ∙ ap some own_count
       go false e = ap (kept_at v) (same_place g) ∙ other (ltb (place_of w g) 256) refl e
 
 -- ---- a new handle is added at place n
@@ -131,26 +131,26 @@ module _ (w : List ℕ) (h n : ℕ) (v : List ℕ) (end : n ≡ get_or w 3 0) (r
   size2 : length s2 ≡ length w
   size2 = length-set s1 (4 + h % 256) n ∙ size1
 
-  pub added-size : length v ≡ length w
-  added-size = ap length p ∙ length-set s2 3 (n + 1) ∙ size2
+  pub added_size : length v ≡ length w
+  added_size = ap length p ∙ length-set s2 3 (n + 1) ∙ size2
 
-  pub added-past : drop 2564 v ≡ drop 2564 w
-  added-past = ap (drop 2564) p ∙ drop-set-lt 2564 s2 3 (n + 1) (omega arith) ∙ drop-set-lt 2564 s1 (4 + h % 256) n (omega arith) ∙ sets_drop ns w (start n) 2564 (omega arith)
+  pub added_past : drop 2564 v ≡ drop 2564 w
+  added_past = ap (drop 2564) p ∙ drop-set-lt 2564 s2 3 (n + 1) (omega arith) ∙ drop-set-lt 2564 s1 (4 + h % 256) n (omega arith) ∙ sets_drop ns w (start n) 2564 (omega arith)
 
   -- word by word
-  pub added-head : (k : ℕ) → k < 3 → get_or v k 0 ≡ get_or w k 0
-  added-head k low =
+  pub added_head : (k : ℕ) → k < 3 → get_or v k 0 ≡ get_or w k 0
+  added_head k low =
       ap (λ (l : List ℕ). get_or l k 0) p ∙ get_or-set_other s2 3 k (n + 1) 0 (λ e. omega arith) ∙ get_or-set_other s1 (4 + h % 256) k n 0 (λ e. omega arith) ∙ sets_before ns w (start n) k (omega arith)
 
-  pub added-one : get_or v 3 0 ≡ n + 1
-  added-one = ap (λ (l : List ℕ). get_or l 3 0) p ∙ get_or-set_same s2 3 (n + 1) 0 (omega (arith, size2))
+  pub added_one : get_or v 3 0 ≡ n + 1
+  added_one = ap (λ (l : List ℕ). get_or l 3 0) p ∙ get_or-set_same s2 3 (n + 1) 0 (omega (arith, size2))
 
-  own-chain : newest_of v h ≡ n
-  own-chain =
+  own_chain : newest_of v h ≡ n
+  own_chain =
       ap (λ (l : List ℕ). get_or l (4 + h % 256) 0) p ∙ get_or-set_other s2 3 (4 + h % 256) (n + 1) 0 (λ e. omega arith) ∙ get_or-set_same s1 (4 + h % 256) n 0 (omega (arith, size1))
 
-  other-chain : (g : ℕ) → (g % 256 ≡ h % 256 → ⊥) → newest_of v g ≡ newest_of w g
-  other-chain g other =
+  other_chain : (g : ℕ) → (g % 256 ≡ h % 256 → ⊥) → newest_of v g ≡ newest_of w g
+  other_chain g other =
       ap (λ (l : List ℕ). get_or l (4 + g % 256) 0) p ∙ get_or-set_other s2 3 (4 + g % 256) (n + 1) 0 (λ e. omega arith)
       ∙ get_or-set_other s1 (4 + h % 256) (4 + g % 256) n 0 (λ e. other (omega arith)) ∙ sets_before ns w (start n) (4 + g % 256) (omega arith)
 
@@ -158,48 +158,48 @@ module _ (w : List ℕ) (h n : ℕ) (v : List ℕ) (end : n ≡ get_or w 3 0) (r
   there : (k : ℕ) → 260 ≤ k → get_or v k 0 ≡ get_or s1 k 0
   there k high = ap (λ (l : List ℕ). get_or l k 0) p ∙ get_or-set_other s2 3 k (n + 1) 0 (λ e. omega arith) ∙ get_or-set_other s1 (4 + h % 256) k n 0 (λ e. omega arith)
 
-  below-kept : (k : ℕ) → 260 ≤ k → k < start n → get_or v k 0 ≡ get_or w k 0
-  below-kept k high low = there k high ∙ sets_before ns w (start n) k low
+  below_kept : (k : ℕ) → 260 ≤ k → k < start n → get_or v k 0 ≡ get_or w k 0
+  below_kept k high low = there k high ∙ sets_before ns w (start n) k low
 
-  own-words : (k j : ℕ) → start n + k ≡ j → k < 9 → get_or v j 0 ≡ get_or ns k 0
-  own-words k j e low = there j (omega arith) ∙ ap (λ (x : ℕ). get_or s1 x 0) (sym e) ∙ sets_in ns w (start n) k low (omega arith)
+  own_words : (k j : ℕ) → start n + k ≡ j → k < 9 → get_or v j 0 ≡ get_or ns k 0
+  own_words k j e low = there j (omega arith) ∙ ap (λ (x : ℕ). get_or s1 x 0) (sym e) ∙ sets_in ns w (start n) k low (omega arith)
 
-  links-below : (j : ℕ) → j < n → (handle_at v j ≡ handle_at w j) × (before_at v j ≡ before_at w j)
-  links-below j low = (below-kept (start j) (omega arith) (omega arith), below-kept (start j + 1) (omega arith) (omega arith))
+  links_below : (j : ℕ) → j < n → (handle_at v j ≡ handle_at w j) × (before_at v j ≡ before_at w j)
+  links_below j low = (below_kept (start j) (omega arith) (omega arith), below_kept (start j + 1) (omega arith) (omega arith))
 
-  own-handle : handle_at v n ≡ h
-  own-handle = own-words 0 (start n) (omega arith) (omega arith)
+  own_handle : handle_at v n ≡ h
+  own_handle = own_words 0 (start n) (omega arith) (omega arith)
 
-  own-before : before_at v n ≡ newest_of w h
-  own-before = own-words 1 (start n + 1) (omega arith) (omega arith)
+  own_before : before_at v n ≡ newest_of w h
+  own_before = own_words 1 (start n + 1) (omega arith) (omega arith)
 
-  new-count : count_at v n ≡ record { last = 0; figure = 0; acks = no_acks }
-  new-count = λ t. record {
-    last = own-words 2 (start n + 2) (omega arith) (omega arith) t;
-    figure = own-words 3 (start n + 3) (omega arith) (omega arith) t;
-    acks = own-words 4 (start n + 4) (omega arith) (omega arith) t ∷ own-words 5 (start n + 5) (omega arith) (omega arith) t ∷ own-words 6 (start n + 6) (omega arith) (omega arith) t ∷ own-words 7 (start n + 7) (omega arith) (omega arith) t ∷ own-words 8 (start n + 8) (omega arith) (omega arith) t ∷ [];
+  new_count : count_at v n ≡ record { last = 0; figure = 0; acks = no_acks }
+  new_count = λ t. record {
+    last = own_words 2 (start n + 2) (omega arith) (omega arith) t;
+    figure = own_words 3 (start n + 3) (omega arith) (omega arith) t;
+    acks = own_words 4 (start n + 4) (omega arith) (omega arith) t ∷ own_words 5 (start n + 5) (omega arith) (omega arith) t ∷ own_words 6 (start n + 6) (omega arith) (omega arith) t ∷ own_words 7 (start n + 7) (omega arith) (omega arith) t ∷ own_words 8 (start n + 8) (omega arith) (omega arith) t ∷ [];
   }
 
   -- the walk of handle g from place q on, one place more
   longer : (g q : ℕ) → walk v g (get_or v 3 0) q ≡ cond (eqb q n) (look v g n) (walk w g n q)
   longer g q =
-      ap (λ (b : ℕ). walk v g b q) (added-one ∙ add-one n)
-      ∙ ap (λ (x : ℕ). cond (eqb q n) (look v g n) x) (walk_same v w g n q links-below)
+      ap (λ (b : ℕ). walk v g b q) (added_one ∙ add-one n)
+      ∙ ap (λ (x : ℕ). cond (eqb q n) (look v g n) x) (walk_same v w g n q links_below)
 
-  found-new : place_of v h ≡ n
+  found_new : place_of v h ≡ n
   unfolding place_of
-  found-new =
-      let a : eqb (newest_of v h) n ≡ true = eq-eqb (newest_of v h) n own-chain in
-      let b : eqb (handle_at v n) h ≡ true = eq-eqb (handle_at v n) h own-handle in
+  found_new =
+      let a : eqb (newest_of v h) n ≡ true = eq-eqb (newest_of v h) n own_chain in
+      let b : eqb (handle_at v n) h ≡ true = eq-eqb (handle_at v n) h own_handle in
       longer h (newest_of v h) ∙ rw (a, b) refl
 
   -- another handle is found where it was: of its own chain, or of another
-  found-other : (g : ℕ) → (g ≡ h → ⊥) → place_of v g ≡ place_of w g
+  found_other : (g : ℕ) → (g ≡ h → ⊥) → place_of v g ≡ place_of w g
   unfolding place_of
-  found-other g other = longer g (newest_of v g) ∙ go (eqb (g % 256) (h % 256)) refl ∙ ap (λ (b : ℕ). walk w g b (newest_of w g)) end
+  found_other g other = longer g (newest_of v g) ∙ go (eqb (g % 256) (h % 256)) refl ∙ ap (λ (b : ℕ). walk w g b (newest_of w g)) end
     where
       miss : eqb (handle_at v n) g ≡ false
-      miss = ap (λ (x : ℕ). eqb x g) own-handle ∙ ne_eqb h g (λ e. other (sym e))
+      miss = ap (λ (x : ℕ). eqb x g) own_handle ∙ ne_eqb h g (λ e. other (sym e))
 
       past : (b : Bool) → eqb (newest_of w g) n ≡ b → cond b (cond (eqb (handle_at v n % 256) (g % 256)) (walk v g n (before_at v n)) 256) (walk w g n (newest_of w g)) ≡ walk w g n (newest_of w g) → cond b (look v g n) (walk w g n (newest_of w g)) ≡ walk w g n (newest_of w g)
       past true e f = rw miss f
@@ -208,14 +208,14 @@ module _ (w : List ℕ) (h n : ℕ) (v : List ℕ) (end : n ≡ get_or w 3 0) (r
       go : (b : Bool) → eqb (g % 256) (h % 256) ≡ b → cond (eqb (newest_of v g) n) (look v g n) (walk w g n (newest_of v g)) ≡ walk w g n (newest_of w g)
       go true e =
           let same : g % 256 ≡ h % 256 = eqb-true (g % 256) (h % 256) e in
-          let mine : newest_of v g ≡ n = ap (λ (x : ℕ). get_or v (4 + x) 0) same ∙ own-chain in
+          let mine : newest_of v g ≡ n = ap (λ (x : ℕ). get_or v (4 + x) 0) same ∙ own_chain in
           let a : eqb (newest_of v g) n ≡ true = eq-eqb (newest_of v g) n mine in
-          let c : eqb (handle_at v n % 256) (g % 256) ≡ true = eq-eqb (handle_at v n % 256) (g % 256) (ap (λ (x : ℕ). x % 256) own-handle ∙ sym same) in
-          rw (a, miss, c) (walk_same v w g n (before_at v n) links-below ∙ ap (walk w g n) (own-before ∙ ap (λ (x : ℕ). get_or w (4 + x) 0) (sym same)))
+          let c : eqb (handle_at v n % 256) (g % 256) ≡ true = eq-eqb (handle_at v n % 256) (g % 256) (ap (λ (x : ℕ). x % 256) own_handle ∙ sym same) in
+          rw (a, miss, c) (walk_same v w g n (before_at v n) links_below ∙ ap (walk w g n) (own_before ∙ ap (λ (x : ℕ). get_or w (4 + x) 0) (sym same)))
       go false e =
           let apart : g % 256 ≡ h % 256 → ⊥ = eqb-false (g % 256) (h % 256) e in
-          let c : eqb (handle_at v n % 256) (g % 256) ≡ false = ne_eqb (handle_at v n % 256) (g % 256) (λ s. apart (sym s ∙ ap (λ (x : ℕ). x % 256) own-handle)) in
-          ap (λ (q : ℕ). cond (eqb q n) (look v g n) (walk w g n q)) (other-chain g apart) ∙ ends (eqb (newest_of w g) n) refl c
+          let c : eqb (handle_at v n % 256) (g % 256) ≡ false = ne_eqb (handle_at v n % 256) (g % 256) (λ s. apart (sym s ∙ ap (λ (x : ℕ). x % 256) own_handle)) in
+          ap (λ (q : ℕ). cond (eqb q n) (look v g n) (walk w g n q)) (other_chain g apart) ∙ ends (eqb (newest_of w g) n) refl c
         where
           ends : (b : Bool) → eqb (newest_of w g) n ≡ b → eqb (handle_at v n % 256) (g % 256) ≡ false → cond b (look v g n) (walk w g n (newest_of w g)) ≡ walk w g n (newest_of w g)
           ends true s c = rw (miss, c) (sym (walk_out w g n (newest_of w g) (omega (arith, eqb-true (newest_of w g) n s))))
@@ -227,12 +227,12 @@ module _ (w : List ℕ) (h n : ℕ) (v : List ℕ) (end : n ≡ get_or w 3 0) (r
       other : (b : Bool) → ltb (place_of w g) 256 ≡ b → cond b (some (count_at v (place_of w g))) none ≡ cond b (some (count_at w (place_of w g))) none
       other true t =
           let low : place_of w g < get_or w 3 0 = (place_found w g (ltb-true (place_of w g) 256 t)).below in
-          ap some (same_count v w (place_of w g) (λ k from upto. below-kept k (omega arith) (omega arith)))
+          ap some (same_count v w (place_of w g) (λ k from upto. below_kept k (omega arith) (omega arith)))
       other false t = refl
 
       go : (b : Bool) → eqb g h ≡ b → count_of v g ≡ cond b (some (record { last = 0; figure = 0; acks = no_acks })) (count_of w g)
       go true e =
-          let here : place_of v g ≡ n = ap (place_of v) (eqb-true g h e) ∙ found-new in
+          let here : place_of v g ≡ n = ap (place_of v) (eqb-true g h e) ∙ found_new in
           let t : ltb n 256 ≡ true = lt-ltb n 256 room in
-          ap (kept_at v) here ∙ ap (λ (b : Bool). cond b (some (count_at v n)) none) t ∙ ap some new-count
-      go false e = ap (kept_at v) (found-other g (eqb-false g h e)) ∙ other (ltb (place_of w g) 256) refl
+          ap (kept_at v) here ∙ ap (λ (b : Bool). cond b (some (count_at v n)) none) t ∙ ap some new_count
+      go false e = ap (kept_at v) (found_other g (eqb-false g h e)) ∙ other (ltb (place_of w g) 256) refl

@@ -72,8 +72,8 @@ module _ (size : ℕ) (line out : List ℕ) (i : ℕ) (g : Reading size line out
         ∙ (λ j. cond (ltb (sym ea j) 16 && ltb (sym eb j) 16) (byte_then (sym ea j * 16 + sym eb j) (bytes_from (drop (2 * (i + 1)) line))) none)
         ∙ ap (λ (t : Bool). cond t (byte_then (a * 16 + b) (bytes_from (drop (2 * (i + 1)) line))) none) e
 
-    pub reads-bad : (ltb a 16 && ltb b 16) ≡ false → ReadsLine (bytes_from line) out Bad
-    reads-bad e = record { bytes = sym (g.left ∙ ap (behind (take i out)) (tested e)); within = omega arith }
+    pub reads_bad : (ltb a 16 && ltb b 16) ≡ false → ReadsLine (bytes_from line) out Bad
+    reads_bad e = record { bytes = sym (g.left ∙ ap (behind (take i out)) (tested e)); within = omega arith }
 
     pub reads_on : (ltb a 16 && ltb b 16) ≡ true → Reading size line (set out i (a * 16 + b)) (i + 1)
     reads_on e = record {
@@ -88,8 +88,8 @@ module _ (size : ℕ) (line out : List ℕ) (i : ℕ) (g : Reading size line out
 
   -- nothing is left, or one digit
   module _ (end : length line / 2 ≤ i) where
-    pub reads-odd : 2 * (length line / 2) < length line → ReadsLine (bytes_from line) out Bad
-    reads-odd odd =
+    pub reads_odd : 2 * (length line / 2) < length line → ReadsLine (bytes_from line) out Bad
+    reads_odd odd =
         let one : length (drop (2 * i) line) ≡ 1 = omega (arith, length-drop (2 * i) line, g.upto) in
         record { bytes = sym (g.left ∙ ap (behind (take i out)) (alone (drop (2 * i) line) one)); within = omega arith }
 
@@ -135,8 +135,8 @@ pub writing : (src before : List ℕ) → Writing src before before 0
 writing src before = record { same = refl; upto = omega arith; front = refl; rest = refl }
 
 module _ (src before out : List ℕ) (i : ℕ) (g : Writing src before out i) (room : 2 * length src ≤ length before) where
-  pub writes-on : i < length src → {x y : ℕ} → x ≡ digit_of (get_or src i 0 / 16) → y ≡ digit_of (get_or src i 0 % 16) → Writing src before (set (set out (2 * i) x) (2 * i + 1) y) (i + 1)
-  writes-on less {x} {y} ex ey =
+  pub writes_on : i < length src → {x y : ℕ} → x ≡ digit_of (get_or src i 0 / 16) → y ≡ digit_of (get_or src i 0 % 16) → Writing src before (set (set out (2 * i) x) (2 * i + 1) y) (i + 1)
+  writes_on less {x} {y} ex ey =
       let fits : 2 * i + 2 ≤ length out = omega (arith, g.same) in
       let stored : set (set out (2 * i) x) (2 * i + 1) y ≡ take (2 * i) out ++ (x ∷ y ∷ []) ++ drop (2 * i + 2) out = rw add-one (sets-eq (x ∷ y ∷ []) out (2 * i) fits) in
       let next : 2 * (i + 1) ≡ 2 * i + 2 = omega arith in
@@ -152,8 +152,8 @@ module _ (src before out : List ℕ) (i : ℕ) (g : Writing src before out i) (r
             refl;
       }
 
-  pub writes-all : length src ≤ i → WroteFront (hex_of src) before out
-  writes-all end =
+  pub writes_all : length src ≤ i → WroteFront (hex_of src) before out
+  writes_all end =
       let at : i ≡ length src = omega (arith, g.upto) in
       let digits : length (hex_of src) ≡ 2 * i = length_hex src ∙ ap (λ (k : ℕ). 2 * k) (sym at) in
       sym (take-append-drop (2 * i) out) ∙ (λ j. g.front j ++ g.rest j)

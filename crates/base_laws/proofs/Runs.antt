@@ -15,9 +15,9 @@ use Rattle.model_frame.specs.Parse.{Res, ok, bad, Parser, and_then, read_num, re
 use Rattle.base_laws.proofs.Places.{num_whole}
 
 module _ {A : Type 0} where
-  forget-cons : (a : A) (m : Res (List A)) → forget (and_then m (λ xs s. ok (a ∷ xs) s)) ≡ forget m
-  forget-cons a (ok xs s) = refl
-  forget-cons a (bad e) = refl
+  forget_cons : (a : A) (m : Res (List A)) → forget (and_then m (λ xs s. ok (a ∷ xs) s)) ≡ forget m
+  forget_cons a (ok xs s) = refl
+  forget_cons a (bad e) = refl
 
   pub run_none : (p : Parser A) (n : ℕ) (s : List ℕ) → n ≤ 0 → forget (many n p s) ≡ ok tt s
   unfolding many
@@ -29,47 +29,47 @@ module _ {A : Type 0} where
   run_more p zero h e = absurd (not-suc-le-zero h)
   run_more p (suc n) {a} {s} {s'} h e =
       let k : suc n - 1 ≡ n = omega arith in
-      rw (k, e) (forget-cons a (many n p s'))
+      rw (k, e) (forget_cons a (many n p s'))
 
-  pub run-bad : (p : Parser A) (n : ℕ) {s : List ℕ} {e : Fault} → 0 < n → p s ≡ bad e → forget (many n p s) ≡ bad e
+  pub run_bad : (p : Parser A) (n : ℕ) {s : List ℕ} {e : Fault} → 0 < n → p s ≡ bad e → forget (many n p s) ≡ bad e
   unfolding many
-  run-bad p zero h e = absurd (not-suc-le-zero h)
-  run-bad p (suc n) h e = rw e
+  run_bad p zero h e = absurd (not-suc-le-zero h)
+  run_bad p (suc n) h e = rw e
 
-  pub run-fault : (m : Res (List A)) {e : Fault} → bad e ≡ forget m → bad e ≡ m
-  run-fault (ok xs t) e = cc
-  run-fault (bad f) e = cc
+  pub run_fault : (m : Res (List A)) {e : Fault} → bad e ≡ forget m → bad e ≡ m
+  run_fault (ok xs t) e = cc
+  run_fault (bad f) e = cc
 
-  pub run-items : (p : Parser A) (n : ℕ) (s : List ℕ) {t : List ℕ} → ok tt t ≡ forget (many n p s) → ok (collect n p s) t ≡ many n p s
+  pub run_items : (p : Parser A) (n : ℕ) (s : List ℕ) {t : List ℕ} → ok tt t ≡ forget (many n p s) → ok (collect n p s) t ≡ many n p s
   unfolding many collect
-  run-items p zero s e = cc
-  run-items p (suc n) s {t} e = go (p s) (λ s'. run-items p n s') e
+  run_items p zero s e = cc
+  run_items p (suc n) s {t} e = go (p s) (λ s'. run_items p n s') e
     where
       go :
           (r : Res A) →
           ((s' : List ℕ) → ok tt t ≡ forget (many n p s') → ok (collect n p s') t ≡ many n p s') →
           ok tt t ≡ forget (and_then r (λ x s'. and_then (many n p s') (λ xs s''. ok (x ∷ xs) s''))) →
           ok (item_then r (collect n p)) t ≡ and_then r (λ x s'. and_then (many n p s') (λ xs s''. ok (x ∷ xs) s''))
-      go (ok a s') ih e = rw (← (ih s' (e ∙ forget-cons a (many n p s'))))
+      go (ok a s') ih e = rw (← (ih s' (e ∙ forget_cons a (many n p s'))))
       go (bad f) ih e = cc
 
   -- the items of a run, one after the other
-  pub collect-none : (p : Parser A) (n : ℕ) (s : List ℕ) → n ≤ 0 → collect n p s ≡ []
+  pub collect_none : (p : Parser A) (n : ℕ) (s : List ℕ) → n ≤ 0 → collect n p s ≡ []
   unfolding collect
-  collect-none p zero s h = refl
-  collect-none p (suc n) s h = absurd (not-suc-le-zero h)
+  collect_none p zero s h = refl
+  collect_none p (suc n) s h = absurd (not-suc-le-zero h)
 
-  pub collect-more : (p : Parser A) (n : ℕ) {a : A} {s s' : List ℕ} → 0 < n → p s ≡ ok a s' → collect n p s ≡ a ∷ collect (n - 1) p s'
+  pub collect_more : (p : Parser A) (n : ℕ) {a : A} {s s' : List ℕ} → 0 < n → p s ≡ ok a s' → collect n p s ≡ a ∷ collect (n - 1) p s'
   unfolding collect
-  collect-more p zero h e = absurd (not-suc-le-zero h)
-  collect-more p (suc n) h e =
+  collect_more p zero h e = absurd (not-suc-le-zero h)
+  collect_more p (suc n) h e =
       let k : suc n - 1 ≡ n = omega arith in
       rw (k, e)
 
-  pub collect-bad : (p : Parser A) (n : ℕ) {s : List ℕ} {e : Fault} → p s ≡ bad e → collect n p s ≡ []
+  pub collect_bad : (p : Parser A) (n : ℕ) {s : List ℕ} {e : Fault} → p s ≡ bad e → collect n p s ≡ []
   unfolding collect
-  collect-bad p zero e = refl
-  collect-bad p (suc n) e = rw e
+  collect_bad p zero e = refl
+  collect_bad p (suc n) e = rw e
 
 -- numbers of w bytes each: where a run of them ends
 pub numbers_end : (w n : ℕ) (s : List ℕ) → n * w ≤ length s → forget (many n (read_num w) s) ≡ ok tt (drop (n * w) s)
@@ -80,7 +80,7 @@ numbers_end w (suc n) s h =
     let rest : n * w ≤ length (drop w s) = omega (arith, suc-mul n w, length-drop w s) in
     let one : read_num w s ≡ ok (le (take w s)) (drop w s) = num_whole w s room in
     let sum : suc n * w ≡ w + n * w = omega (arith, suc-mul n w) in
-    rw (one, forget-cons (le (take w s)) (many n (read_num w) (drop w s)), sum, ← drop-drop (n * w) w s) (numbers_end w n (drop w s) rest)
+    rw (one, forget_cons (le (take w s)) (many n (read_num w) (drop w s)), sum, ← drop-drop (n * w) w s) (numbers_end w n (drop w s) rest)
 
 -- a count was followed by room for its items
 pub count_room : (min : ℕ) (s : List ℕ) {n : ℕ} {t : List ℕ} → read_count min s ≡ ok n t → n * min ≤ length t

@@ -33,8 +33,8 @@ pub left_start : (l : List ℕ) (at : ℕ) (bs : List ℕ) → Left l at bs l at
 left_start l at bs = record { same = refl; bytes = refl; past = refl }
 
 module _ {first all out : List ℕ} {at pos : ℕ} where
-  pub left-room : {more : List ℕ} (xs rest : List ℕ) → Left first at all out pos more → more ≡ xs ++ rest → at + length all ≤ length first → pos + length xs ≤ length out
-  left-room xs rest w e h = omega (arith, w.same, w.past, ap length e, length-append xs rest)
+  pub left_room : {more : List ℕ} (xs rest : List ℕ) → Left first at all out pos more → more ≡ xs ++ rest → at + length all ≤ length first → pos + length xs ≤ length out
+  left_room xs rest w e h = omega (arith, w.same, w.past, ap length e, length-append xs rest)
 
   pub left_step : {more xs rest out' : List ℕ} {r : ℕ} → Left first at all out pos more → Wrote out pos xs out' r → more ≡ xs ++ rest → Left first at all out' r rest
   left_step {more} {xs} {rest} w v e = record {
@@ -43,5 +43,5 @@ module _ {first all out : List ℕ} {at pos : ℕ} where
     past = omega (arith, w.past, v.past, ap length e, length-append xs rest);
   }
 
-  pub left-done : {more : List ℕ} → Left first at all out pos more → more ≡ [] → Wrote first at all out pos
-  left-done w e = record { bytes = sym (ap (write out pos) e ∙ write_none out pos) ∙ w.bytes; past = omega (arith, w.past, ap length e) }
+  pub left_done : {more : List ℕ} → Left first at all out pos more → more ≡ [] → Wrote first at all out pos
+  left_done w e = record { bytes = sym (ap (write out pos) e ∙ write_none out pos) ∙ w.bytes; past = omega (arith, w.past, ap length e) }

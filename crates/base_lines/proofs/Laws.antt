@@ -21,18 +21,18 @@ abbrev pub Seeking : List ℕ → ℕ → ℕ → Type 0
 Seeking s from i = from + first_feed (drop from s) ≡ i + first_feed (drop i s)
 
 module _ (s : List ℕ) (from i : ℕ) (g : Seeking s from i) where
-  pub seeks-on : i < length s → (get_or s i 0 ≡ feed → ⊥) → Seeking s from (i + 1)
-  seeks-on h other =
+  pub seeks_on : i < length s → (get_or s i 0 ≡ feed → ⊥) → Seeking s from (i + 1)
+  seeks_on h other =
       let step : first_feed (drop i s) ≡ suc (first_feed (drop (i + 1) s)) = rw (drop-cons s i 0 h, ne_eqb (get_or s i 0) feed other, add-one i) refl in
       omega arith
 
-  pub seeks-here : i < length s → get_or s i 0 ≡ feed → i ≡ from + first_feed (drop from s)
-  seeks-here h here =
+  pub seeks_here : i < length s → get_or s i 0 ≡ feed → i ≡ from + first_feed (drop from s)
+  seeks_here h here =
       let stop : first_feed (drop i s) ≡ 0 = rw (drop-cons s i 0 h, eq-eqb (get_or s i 0) feed here) refl in
       omega arith
 
-  pub seeks-none : length s ≤ i → i ≡ from + first_feed (drop from s)
-  seeks-none h =
+  pub seeks_none : length s ≤ i → i ≡ from + first_feed (drop from s)
+  seeks_none h =
       let stop : first_feed (drop i s) ≡ 0 = rw (drop_of_length-le s h) refl in
       omega arith
 
@@ -90,9 +90,9 @@ module _ (before : List ℕ) (len : ℕ) (piece : List ℕ) (from to n : ℕ) (f
       ∙ sym (take-append-add (take len before) (take (first_feed (drop from piece)) (drop from piece)) (length before - len))
       ∙ ap (λ (m : ℕ). take m (take len before ++ take (first_feed (drop from piece)) (drop from piece))) (sym sum)
 
-  pub feeds-line : to < length piece → Feeds before len piece from after (record { whole = true; len = len + n; next = to + 1 })
+  pub feeds_line : to < length piece → Feeds before len piece from after (record { whole = true; len = len + n; next = to + 1 })
   unfolding cut_at
-  feeds-line h = record {
+  feeds_line h = record {
     cut =
         let found : first_feed (drop from piece) < length (drop from piece) = omega (arith, length-drop from piece) in
         let next : from + (first_feed (drop from piece) + 1) ≡ to + 1 = omega arith in
@@ -102,9 +102,9 @@ module _ (before : List ℕ) (len : ℕ) (piece : List ℕ) (from to n : ℕ) (f
     further = λ t. omega arith;
   }
 
-  pub feeds-part : length piece ≤ to → Feeds before len piece from after (record { whole = false; len = len + n; next = to })
+  pub feeds_part : length piece ≤ to → Feeds before len piece from after (record { whole = false; len = len + n; next = to })
   unfolding cut_at
-  feeds-part h = record {
+  feeds_part h = record {
     cut =
         let none : length (drop from piece) ≤ first_feed (drop from piece) = omega (arith, length-drop from piece) in
         let all : take (first_feed (drop from piece)) (drop from piece) ≡ drop from piece = take_all (first_feed (drop from piece)) (drop from piece) none in

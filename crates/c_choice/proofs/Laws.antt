@@ -11,7 +11,7 @@ use Rattle.model_choice.specs.Choice.{chosen}
 use Rattle.standby_choice.specs.declared.Copy.{Copy}
 use Rattle.standby_choice.specs.declared.Copies.{Copies}
 use Rattle.standby_choice.specs.declared.Choice.{Choice}
-use Rattle.standby_choice.specs.Choice.{copiesOf, areSound, Chooses}
+use Rattle.standby_choice.specs.Choice.{copies_of, are_sound, Chooses}
 use Rattle.c_choice.specs.Choosing.{flag_of, described_at, copies_in, code_of, returned}
 
 pub flag_0 : (w : ℕ) → w ≡ 0 → 0 ≡ flag_of w
@@ -49,10 +49,10 @@ took_most n copy e h = sym (ap (λ (t : Bool). cond t (taken copy) (n * 2 ^ 40))
 
 module _ (ws w0 b0 w1 b1 w2 b2 w3 b3 w4 b4 : List ℕ) where
   abbrev sound : Bool
-  sound = areSound (copies_in ws) w0 b0 w1 b1 w2 b2 w3 b3 w4 b4
+  sound = are_sound (copies_in ws) w0 b0 w1 b1 w2 b2 w3 b3 w4 b4
 
   abbrev taker : ℕ
-  taker = chosen (copiesOf (copies_in ws) w0 b0 w1 b1 w2 b2 w3 b3 w4 b4)
+  taker = chosen (copies_of (copies_in ws) w0 b0 w1 b1 w2 b2 w3 b3 w4 b4)
 
   pub too_short : (n : ℕ) → length ws < 30 → n ≡ code_of 25 0 → n ≡ returned ws w0 b0 w1 b1 w2 b2 w3 b3 w4 b4
   too_short n h e = e ∙ sym (ap (λ (t : Bool). cond (t && sound) (cond (eqb taker 5) (code_of 39 0) (code_of 0 taker)) (code_of 25 0)) (lt-leb 30 (length ws) h))
@@ -65,6 +65,6 @@ module _ (ws w0 b0 w1 b1 w2 b2 w3 b3 w4 b4 : List ℕ) where
   pub answered : (cs : Copies) (r : Choice) (n : ℕ) → 30 ≤ length ws → cs ≡ copies_in ws → Chooses cs w0 b0 w1 b1 w2 b2 w3 b3 w4 b4 r → n ≡ code_of r.refusal r.copy
       → n ≡ returned ws w0 b0 w1 b1 w2 b2 w3 b3 w4 b4
   answered cs r n h e c q =
-      q ∙ (λ i. code_of (c.refusal i) (c.copy i)) ∙ answer (areSound cs w0 b0 w1 b1 w2 b2 w3 b3 w4 b4) (eqb (chosen (copiesOf cs w0 b0 w1 b1 w2 b2 w3 b3 w4 b4)) 5) (chosen (copiesOf cs w0 b0 w1 b1 w2 b2 w3 b3 w4 b4))
-      ∙ ap (λ (x : Copies). cond (areSound x w0 b0 w1 b1 w2 b2 w3 b3 w4 b4) (cond (eqb (chosen (copiesOf x w0 b0 w1 b1 w2 b2 w3 b3 w4 b4)) 5) (code_of 39 0) (code_of 0 (chosen (copiesOf x w0 b0 w1 b1 w2 b2 w3 b3 w4 b4)))) (code_of 25 0)) e
+      q ∙ (λ i. code_of (c.refusal i) (c.copy i)) ∙ answer (are_sound cs w0 b0 w1 b1 w2 b2 w3 b3 w4 b4) (eqb (chosen (copies_of cs w0 b0 w1 b1 w2 b2 w3 b3 w4 b4)) 5) (chosen (copies_of cs w0 b0 w1 b1 w2 b2 w3 b3 w4 b4))
+      ∙ ap (λ (x : Copies). cond (are_sound x w0 b0 w1 b1 w2 b2 w3 b3 w4 b4) (cond (eqb (chosen (copies_of x w0 b0 w1 b1 w2 b2 w3 b3 w4 b4)) 5) (code_of 39 0) (code_of 0 (chosen (copies_of x w0 b0 w1 b1 w2 b2 w3 b3 w4 b4)))) (code_of 25 0)) e
       ∙ sym (ap (λ (t : Bool). cond (t && sound) (cond (eqb taker 5) (code_of 39 0) (code_of 0 taker)) (code_of 25 0)) (le-leb 30 (length ws) h))

@@ -3,7 +3,7 @@ use Rattle.std.specs.Prelude.{ℕ, ◌+◌, ◌*◌, ◌-◌, ◌^◌, min, cond
 use Rattle.model_choice.specs.Choice.{chosen}
 use Rattle.standby_choice.specs.declared.Copy.{Copy}
 use Rattle.standby_choice.specs.declared.Copies.{Copies}
-use Rattle.standby_choice.specs.Choice.{copiesOf, areSound}
+use Rattle.standby_choice.specs.Choice.{copies_of, are_sound}
 
 -- ---- five copies of six words: whether it is listed, whether it is checked, its epoch, and its store's S, C and M
 
@@ -32,6 +32,6 @@ code_of refusal copy = cond (eqb refusal 0) (cond (ltb copy (2 ^ 62)) (2 ^ 63 + 
 -- 25 for fewer than 30 words, or if a listed copy's store breaks its rules; 39 where none fits; else the copy that is taken
 abbrev pub returned : List ℕ → List ℕ → List ℕ → List ℕ → List ℕ → List ℕ → List ℕ → List ℕ → List ℕ → List ℕ → List ℕ → ℕ
 returned ws w0 b0 w1 b1 w2 b2 w3 b3 w4 b4 =
-    cond (leb 30 (length ws) && areSound (copies_in ws) w0 b0 w1 b1 w2 b2 w3 b3 w4 b4)
-    (cond (eqb (chosen (copiesOf (copies_in ws) w0 b0 w1 b1 w2 b2 w3 b3 w4 b4)) 5) (code_of 39 0) (code_of 0 (chosen (copiesOf (copies_in ws) w0 b0 w1 b1 w2 b2 w3 b3 w4 b4))))
+    cond (leb 30 (length ws) && are_sound (copies_in ws) w0 b0 w1 b1 w2 b2 w3 b3 w4 b4)
+    (cond (eqb (chosen (copies_of (copies_in ws) w0 b0 w1 b1 w2 b2 w3 b3 w4 b4)) 5) (code_of 39 0) (code_of 0 (chosen (copies_of (copies_in ws) w0 b0 w1 b1 w2 b2 w3 b3 w4 b4))))
     (code_of 25 0)

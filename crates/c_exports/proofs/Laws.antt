@@ -75,26 +75,26 @@ pub again_is :
 again_is used v q = record { answer = q ∙ ap (taken_code used) v.answer; area = v.area }
 
 module _ (w : List ℕ) {d : Decoded} (read : reading_of 1 w d ≡ decode 1 w) where
-  by-reading : {x : Decoded} {out out' : List ℕ} {r : ℕ} → d ≡ x → Rewrites (reading_of 1 w x) out out' r → Rewrites (decode 1 w) out out' r
-  by-reading {x} {out} {out'} {r} p h = subst (λ (y : the_frame.Decoded). Rewrites y out out' r) (ap (reading_of 1 w) (sym p) ∙ read) h
+  by_reading : {x : Decoded} {out out' : List ℕ} {r : ℕ} → d ≡ x → Rewrites (reading_of 1 w x) out out' r → Rewrites (decode 1 w) out out' r
+  by_reading {x} {out} {out'} {r} p h = subst (λ (y : the_frame.Decoded). Rewrites y out out' r) (ap (reading_of 1 w) (sym p) ∙ read) h
 
-  pub again-more : {out : List ℕ} → d ≡ Decoded.More → Rewrites (decode 1 w) out out 0
-  again-more p = by-reading p (record { answer = refl; area = refl })
+  pub again_more : {out : List ℕ} → d ≡ Decoded.More → Rewrites (decode 1 w) out out 0
+  again_more p = by_reading p (record { answer = refl; area = refl })
 
-  pub again-bad : {e : FrameError} {out : List ℕ} {r : ℕ} → d ≡ Decoded.Bad e → r ≡ fault_code (fault_of e) → Rewrites (decode 1 w) out out r
-  again-bad p q = by-reading p (record { answer = q; area = refl })
+  pub again_bad : {e : FrameError} {out : List ℕ} {r : ℕ} → d ≡ Decoded.Bad e → r ≡ fault_code (fault_of e) → Rewrites (decode 1 w) out out r
+  again_bad p q = by_reading p (record { answer = q; area = refl })
 
   -- what was read is written again, byte for byte
-  pub again-whole :
+  pub again_whole :
       {f : code-Frame.Frame} {used : ℕ} {out out' : List ℕ} {r : ℕ} → d ≡ Decoded.Whole f used → T (is_bytes w) → StandsIn 1 w d → Again used (write_outcome 1 (frame_in 1 w f) (length out)) out out' r
       → Rewrites (decode 1 w) out out' r
-  again-whole {f} {used} {out} p bytes stands h =
+  again_whole {f} {used} {out} p bytes stands h =
       let g : Frame = frame_of 1 (take used w) f in
       let whole : reading_of 1 w (Decoded.Whole f used) ≡ decode 1 w = subst (λ (y : Decoded). reading_of 1 w y ≡ decode 1 w) p read in
       let a : twice.Again 1 w f g used = read_again 1 w bytes (sym whole) whole (subst (StandsIn 1 w) p stands) in
       let size : length (encode g) ≡ used = ap length a.bytes ∙ length-take-le used w a.within in
       let only : write_outcome 1 (frame_in 1 w f) (length out) ≡ rewritten g (length out) = a.result (length out) ∙ ap (λ (k : ℕ). cond (ltb (length out) k) (refused 9) (wrote (encode g))) (sym size) in
-      by-reading p (record {
+      by_reading p (record {
         answer = h.answer ∙ ap (λ (o : WriteOutcome). taken_code used (write_answer o)) only;
         area = h.area ∙ ap (λ (o : WriteOutcome). area_after o out) only;
       })
@@ -129,14 +129,14 @@ module _ (b : List ℕ) (a : Answer) (out : List ℕ) where
         area = p ∙ ap (λ (x : WriteOutcome). area_after x out) (sym e);
       }
 
-  pub tells-refusal : {r : ℕ} → (a.refusal ≡ 0 → ⊥) → r ≡ refusal_code a.refusal 0 → TellsAnswer b a out out r
-  tells-refusal n q = tells (ap (λ (t : Bool). By t (eqb a.kind 0)) (ne_eqb a.refusal 0 n)) q refl
+  pub tells_refusal : {r : ℕ} → (a.refusal ≡ 0 → ⊥) → r ≡ refusal_code a.refusal 0 → TellsAnswer b a out out r
+  tells_refusal n q = tells (ap (λ (t : Bool). By t (eqb a.kind 0)) (ne_eqb a.refusal 0 n)) q refl
 
-  pub tells-nothing : {r : ℕ} → a.refusal ≡ 0 → a.kind ≡ 0 → r ≡ done_code 0 → TellsAnswer b a out out r
-  tells-nothing z k q = tells (λ j. By (eq-eqb a.refusal 0 z j) (eq-eqb a.kind 0 k j)) q (sym (write_none out 0))
+  pub tells_nothing : {r : ℕ} → a.refusal ≡ 0 → a.kind ≡ 0 → r ≡ done_code 0 → TellsAnswer b a out out r
+  tells_nothing z k q = tells (λ j. By (eq-eqb a.refusal 0 z j) (eq-eqb a.kind 0 k j)) q (sym (write_none out 0))
 
-  pub tells-frame : {r : ℕ} {out' : List ℕ} {x : Written} → a.refusal ≡ 0 → (a.kind ≡ 0 → ⊥) → Encoded 1 (frame_for b a) out out' x → r ≡ written_code (written_of x) → TellsAnswer b a out out' r
-  tells-frame z k w q = tells (λ j. By (eq-eqb a.refusal 0 z j) (ne_eqb a.kind 0 k j)) (q ∙ ap written_code w.answer) w.area
+  pub tells_frame : {r : ℕ} {out' : List ℕ} {x : Written} → a.refusal ≡ 0 → (a.kind ≡ 0 → ⊥) → Encoded 1 (frame_for b a) out out' x → r ≡ written_code (written_of x) → TellsAnswer b a out out' r
+  tells_frame z k w q = tells (λ j. By (eq-eqb a.refusal 0 z j) (ne_eqb a.kind 0 k j)) (q ∙ ap written_code w.answer) w.area
 
 pub written_as : {w x : Written} {r : ℕ} → w ≡ x → r ≡ written_code (written_of x) → r ≡ written_code (written_of w)
 written_as p q = q ∙ ap (λ (y : Written). written_code (written_of y)) (sym p)

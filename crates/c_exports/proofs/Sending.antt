@@ -13,7 +13,7 @@ use Rattle.base_flags.specs.Flag.{is_set, byte}
 use Rattle.base_flags.proofs.Flags.{written_so}
 use Rattle.model_frame.specs.Writing.{encode}
 use Rattle.model_session.specs.Session.{Session}
-use Rattle.model_session.specs.Sender.{Sender, new_sender, cannotSend, cutFrom, sent, sentFrom, sendNext}
+use Rattle.model_session.specs.Sender.{Sender, new_sender, cannotSend, cut_from, sent, sent_from, send_next}
 use Rattle.active_batch.specs.Batch.{resume_from}
 use Rattle.store_areas.specs.declared.Shape.{Shape}
 use Rattle.active.specs.declared.Sending.{Sending}
@@ -29,7 +29,7 @@ use Rattle.c_exports.specs.Sendings.{sender_in, start_in, send_code, NextWords, 
 -- ---- a call keeps the handle and the epoch
 
 kept : (limit : ℕ) (a : Option Session) (i : ℕ) (s : Sender) (room : ℕ) {len j : ℕ} {t : Sender} → gives len j t ≡ step_from limit a i s room → (t.handle ≡ s.handle) × (t.epoch ≡ s.epoch)
-unfolding step_from sendNext
+unfolding step_from send_next
 kept limit none i s room e = absurd (omega (arith, clash e))
   where
     clash : {len j : ℕ} {t : Sender} → gives len j t ≡ whole.SendStep.refused 25 → ◌≡◌ {A = ℕ} 0 1
@@ -42,16 +42,16 @@ kept limit (some a) i s room {len} {j} {t} e = go (spent s.last s.from) s.from e
     ended : gives len j t ≡ finished → ◌≡◌ {A = ℕ} 0 1
     ended e = cc
 
-    with-room : (b : Bool) (n : ℕ) → gives len j t ≡ cond b (whole.SendStep.refused 9) (gives (length (encode (sent limit a s (cutFrom limit a n)).0)) i (sent limit a s (cutFrom limit a n)).1) → (t.handle ≡ s.handle) × (t.epoch ≡ s.epoch)
-    with-room true n e = absurd (omega (arith, clash e))
-    with-room false n e =
-        let q : t ≡ (sent limit a s (cutFrom limit a n)).1 = cc in
+    with_room : (b : Bool) (n : ℕ) → gives len j t ≡ cond b (whole.SendStep.refused 9) (gives (length (encode (sent limit a s (cut_from limit a n)).0)) i (sent limit a s (cut_from limit a n)).1) → (t.handle ≡ s.handle) × (t.epoch ≡ s.epoch)
+    with_room true n e = absurd (omega (arith, clash e))
+    with_room false n e =
+        let q : t ≡ (sent limit a s (cut_from limit a n)).1 = cc in
         (ap (λ (x : Sender). x.handle) q, ap (λ (x : Sender). x.epoch) q)
 
-    go : (b : Bool) (o : Option ℕ) → gives len j t ≡ cond b (whole.SendStep.refused 25) (send_answer room i (sentFrom limit a s o)) → (t.handle ≡ s.handle) × (t.epoch ≡ s.epoch)
+    go : (b : Bool) (o : Option ℕ) → gives len j t ≡ cond b (whole.SendStep.refused 25) (send_answer room i (sent_from limit a s o)) → (t.handle ≡ s.handle) × (t.epoch ≡ s.epoch)
     go true o e = absurd (omega (arith, clash e))
     go false none e = absurd (omega (arith, ended e))
-    go false (some n) e = with-room (ltb room (length (encode (sent limit a s (cutFrom limit a n)).0))) n e
+    go false (some n) e = with_room (ltb room (length (encode (sent limit a s (cut_from limit a n)).0))) n e
 
 -- ---- the four words
 
@@ -94,20 +94,20 @@ module _ (limit : ℕ) (shape : Shape) (w b : List ℕ) (s : Sending) (q : List 
     area = h.area;
   }
 
-  pub sends-frame : {len r : ℕ} {t : Sending} {q' : List ℕ} → 4 ≤ length q → x ≡ Sent.Frame len t → q' ≡ set (set (set (set q 0 t.last.0) 1 1) 2 t.from) 3 t.done → r ≡ done_code len
+  pub sends_frame : {len r : ℕ} {t : Sending} {q' : List ℕ} → 4 ≤ length q → x ≡ Sent.Frame len t → q' ≡ set (set (set (set q 0 t.last.0) 1 1) 2 t.from) 3 t.done → r ≡ done_code len
       → SendIs limit (stored_at shape w b s.place) s.handle s.epoch.0 (ready s.place (sender_of s)) q q' out out' r
-  sends-frame {len} {r} {t} {q'} long p is a =
+  sends_frame {len} {r} {t} {q'} long p is a =
       let k = kept limit (stored_at shape w b s.place) s.place (sender_of s) (length out) (step_is p) in
       goes (Sent.Frame len t) q' p a (handed s.handle s.epoch.0 t q long k.0 k.1 (h.state p) is)
 
-  pub sends-done : {r : ℕ} → x ≡ Sent.Done → r ≡ last_code → SendIs limit (stored_at shape w b s.place) s.handle s.epoch.0 (ready s.place (sender_of s)) q q out out' r
-  sends-done p a = goes Sent.Done q p a refl
+  pub sends_done : {r : ℕ} → x ≡ Sent.Done → r ≡ last_code → SendIs limit (stored_at shape w b s.place) s.handle s.epoch.0 (ready s.place (sender_of s)) q q out out' r
+  sends_done p a = goes Sent.Done q p a refl
 
-  pub sends-short : {r : ℕ} → x ≡ Sent.TooShort → r ≡ refusal_code 9 0 → SendIs limit (stored_at shape w b s.place) s.handle s.epoch.0 (ready s.place (sender_of s)) q q out out' r
-  sends-short p a = goes Sent.TooShort q p a refl
+  pub sends_short : {r : ℕ} → x ≡ Sent.TooShort → r ≡ refusal_code 9 0 → SendIs limit (stored_at shape w b s.place) s.handle s.epoch.0 (ready s.place (sender_of s)) q q out out' r
+  sends_short p a = goes Sent.TooShort q p a refl
 
-  pub sends-unfit : {r : ℕ} → x ≡ Sent.InvalidAreas → r ≡ refusal_code 25 0 → SendIs limit (stored_at shape w b s.place) s.handle s.epoch.0 (ready s.place (sender_of s)) q q out out' r
-  sends-unfit p a = goes Sent.InvalidAreas q p a refl
+  pub sends_unfit : {r : ℕ} → x ≡ Sent.InvalidAreas → r ≡ refusal_code 25 0 → SendIs limit (stored_at shape w b s.place) s.handle s.epoch.0 (ready s.place (sender_of s)) q q out out' r
+  sends_unfit p a = goes Sent.InvalidAreas q p a refl
 
 -- ---- by the words: too few, begun, not begun
 
@@ -118,8 +118,8 @@ module _ (limit : ℕ) (a : Option Session) (i h e : ℕ) (q out : List ℕ) {r 
   stays : (n : ℕ) → start_in limit a i h e q ≡ whole.SendStart.refused n → r ≡ refusal_code n 0 → SendIs limit a h e (start_in limit a i h e q) q q out out r
   stays n p c = rw p (record { answer = c; words = refl; area = refl })
 
-  pub too-few-words : length q < 4 → r ≡ refusal_code 25 0 → SendIs limit a h e (start_in limit a i h e q) q q out out r
-  too-few-words less c = stays 25 (rw (lt-ltb (length q) 4 less) refl) c
+  pub too_few_words : length q < 4 → r ≡ refusal_code 25 0 → SendIs limit a h e (start_in limit a i h e q) q q out out r
+  too_few_words less c = stays 25 (rw (lt-ltb (length q) 4 less) refl) c
 
   module _ (long : 4 ≤ length q) where
     pub goes_on : {q' out' : List ℕ} {f : ℕ} → (get_or q 1 0 ≡ 0 → ⊥) → f ≡ byte (is_set (get_or q 3 0))
@@ -130,11 +130,11 @@ module _ (limit : ℕ) (a : Option Session) (i h e : ℕ) (q out : List ℕ) {r 
         rw p (subst (λ (t : Sender). SendIs limit a h e (ready i t) q q' out out' r) (flag_word h e q f) s)
 
     module _ (z : get_or q 1 0 ≡ 0) {x : Begun} (begun : start_of x ≡ start_from limit a i h e (get_or q 0 0)) where
-      pub numbers-past : x ≡ Begun.CommitNumbersExhausted → r ≡ refusal_code 24 0 → SendIs limit a h e (start_in limit a i h e q) q q out out r
-      numbers-past p c = stays 24 (begins limit a i h e q long z begun p) c
+      pub numbers_past : x ≡ Begun.CommitNumbersExhausted → r ≡ refusal_code 24 0 → SendIs limit a h e (start_in limit a i h e q) q q out out r
+      numbers_past p c = stays 24 (begins limit a i h e q long z begun p) c
 
-      pub unfit-start : x ≡ Begun.InvalidAreas → r ≡ refusal_code 25 0 → SendIs limit a h e (start_in limit a i h e q) q q out out r
-      unfit-start p c = stays 25 (begins limit a i h e q long z begun p) c
+      pub unfit_start : x ≡ Begun.InvalidAreas → r ≡ refusal_code 25 0 → SendIs limit a h e (start_in limit a i h e q) q q out out r
+      unfit_start p c = stays 25 (begins limit a i h e q long z begun p) c
 
 -- what was begun is for the place, the handle and the epoch that were given
 new_start : (limit : ℕ) (a : Option Session) (i h e last : ℕ) {j : ℕ} {t : Sender} → ready j t ≡ start_from limit a i h e last → (j ≡ i) × (t ≡ new_sender h e last)
@@ -153,10 +153,10 @@ new_start limit (some a) i h e last {j} {t} p = go (cannotSend limit a (new_send
     go false p = (cc, cc)
 
 module _ (limit : ℕ) (shape : Shape) (w b : List ℕ) (i h e : ℕ) (q : List ℕ) {out out' q' : List ℕ} {r : ℕ} where
-  pub first-call : 4 ≤ length q → get_or q 1 0 ≡ 0 → {x : Begun} {s : Sending} → start_of x ≡ start_from limit (stored_at shape w b i) i h e (get_or q 0 0) → x ≡ Begun.Ready s
+  pub first_call : 4 ≤ length q → get_or q 1 0 ≡ 0 → {x : Begun} {s : Sending} → start_of x ≡ start_from limit (stored_at shape w b i) i h e (get_or q 0 0) → x ≡ Begun.Ready s
       → SendIs limit (stored_at shape w b s.place) s.handle s.epoch.0 (ready s.place (sender_of s)) q q' out out' r
       → SendIs limit (stored_at shape w b i) h e (start_in limit (stored_at shape w b i) i h e q) q q' out out' r
-  first-call long z {x} {s} begun p c =
+  first_call long z {x} {s} begun p c =
       let n = new_start limit (stored_at shape w b i) i h e (get_or q 0 0) (ap start_of (sym p) ∙ begun) in
       let eh : s.handle ≡ h = ap (λ (t : Sender). t.handle) n.1 in
       let ee : s.epoch.0 ≡ e = ap (λ (t : Sender). t.epoch) n.1 in

@@ -67,24 +67,24 @@ module _ (w : List ℕ) (a : Attempt) (h : Held) (r : held-tried.Tried) (e : h �
   ends = s.lease ∙ ap (λ (l : Lease). (attempt l a).lease) (same_lease w h e)
 
   -- one that is not set becomes the attempt's
-  clear-flag : is_set (get_or w 3 0) ≡ false → r.held.lost ≡ byte (attempt (lease_in w) a).lease.lost
-  clear-flag z =
+  clear_flag : is_set (get_or w 3 0) ≡ false → r.held.lost ≡ byte (attempt (lease_in w) a).lease.lost
+  clear_flag z =
       let none : h.lost ≡ 0 = ap (λ (x : Held). x.lost) e ∙ ap byte z in
       s.flag ∙ ap (λ (n : ℕ). cond (is_set n) n (byte (attempt (lease_of h) a).lease.lost)) none ∙ ap (λ (l : Lease). byte (attempt l a).lease.lost) (same_lease w h e)
 
   flag_is : (b : Bool) → is_set (get_or w 3 0) ≡ b → cond b (get_or w 3 0) r.held.lost ≡ cond b (get_or w 3 0) (byte (attempt (lease_in w) a).lease.lost)
   flag_is true z = refl
-  flag_is false z = clear-flag z
+  flag_is false z = clear_flag z
 
-  lost-is : (b : Bool) → is_set (get_or w 3 0) ≡ b → is_set (cond b (get_or w 3 0) r.held.lost) ≡ is_set r.held.lost
-  lost-is true z = z ∙ sym (attempt_lost (lease_in w) a z) ∙ ap (λ (l : Lease). l.lost) (sym ends)
-  lost-is false z = refl
+  lost_is : (b : Bool) → is_set (get_or w 3 0) ≡ b → is_set (cond b (get_or w 3 0) r.held.lost) ≡ is_set r.held.lost
+  lost_is true z = z ∙ sym (attempt_lost (lease_in w) a z) ∙ ap (λ (l : Lease). l.lost) (sym ends)
+  lost_is false z = refl
 
-  pub tries-in : (flag : ℕ) → flag ≡ cond (is_set (get_or w 3 0)) (get_or w 3 0) r.held.lost
+  pub tries_in : (flag : ℕ) → flag ≡ cond (is_set (get_or w 3 0)) (get_or w 3 0) r.held.lost
       → TriesIn w a r.refusal (get_or w 0 0 ∷ r.held.until ∷ r.held.last ∷ flag ∷ [])
-  tries-in flag f =
+  tries_in flag f =
       let kept : get_or w 0 0 ≡ r.held.duration = sym (attempt_duration (lease_in w) a) ∙ ap (λ (l : Lease). l.duration) (sym ends) in
-      let lost : is_set flag ≡ is_set r.held.lost = ap is_set f ∙ lost-is (is_set (get_or w 3 0)) refl in
+      let lost : is_set flag ≡ is_set r.held.lost = ap is_set f ∙ lost_is (is_set (get_or w 3 0)) refl in
       record {
         refusal = s.refusal ∙ ap (λ (l : Lease). (attempt l a).refusal) (same_lease w h e);
         lease = (λ j. record { duration = kept j; until = r.held.until; last = r.held.last; lost = lost j }) ∙ ends;

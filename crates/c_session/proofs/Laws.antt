@@ -42,8 +42,8 @@ module _ (at n most : ℕ) where
       let e : n ≡ min n most = omega arith in
       ap (λ (k : ℕ). record { at = at; len = k }) e
 
-  pub cut-long : most ≤ n → record { at = at; len = most } ≡ span_up_to at n most
-  cut-long h =
+  pub cut_long : most ≤ n → record { at = at; len = most } ≡ span_up_to at n most
+  cut_long h =
       let e : most ≡ min n most = omega arith in
       ap (λ (k : ℕ). record { at = at; len = k }) e
 
@@ -129,13 +129,13 @@ module _ (x : Place) (n : ℕ) (b : List ℕ) (k : SessionId) (m : Summary) {z :
 -- ---- any place
 
 module _ (s : Shape) (w b : List ℕ) (i n : ℕ) {t : Bool} (is : t ≡ in_use s w b i) where
-  told-by : {u : Bool} → t ≡ u → cond u (some (told_bytes (place_at s w b i) n)) none ≡ told_at s w b i n
+  told_by : {u : Bool} → t ≡ u → cond u (some (told_bytes (place_at s w b i) n)) none ≡ told_at s w b i n
   unfolding told_at
-  told-by e = ap (λ (x : Bool). cond x (some (told_bytes (place_at s w b i) n)) none) (sym e ∙ is)
+  told_by e = ap (λ (x : Bool). cond x (some (told_bytes (place_at s w b i) n)) none) (sym e ∙ is)
 
-  pub told-there : {out out' : List ℕ} {r : SessionWritten} → t ≡ true → TellsSession (some (told_bytes (place_at s w b i) n)) out out' r → TellsSession (told_at s w b i n) out out' r
-  told-there {out} {out'} {r} e k = subst (λ (x : Option (List ℕ)). TellsSession x out out' r) (told-by e) k
+  pub told_there : {out out' : List ℕ} {r : SessionWritten} → t ≡ true → TellsSession (some (told_bytes (place_at s w b i) n)) out out' r → TellsSession (told_at s w b i n) out out' r
+  told_there {out} {out'} {r} e k = subst (λ (x : Option (List ℕ)). TellsSession x out out' r) (told_by e) k
 
   pub unfit : {out : List ℕ} → t ≡ false → TellsSession (told_at s w b i n) out out SessionWritten.InvalidAreas
   unfolding session_outcome
-  unfit {out} e = subst (λ (x : Option (List ℕ)). TellsSession x out out SessionWritten.InvalidAreas) (told-by e) (record { answer = refl; area = refl })
+  unfit {out} e = subst (λ (x : Option (List ℕ)). TellsSession x out out SessionWritten.InvalidAreas) (told_by e) (record { answer = refl; area = refl })

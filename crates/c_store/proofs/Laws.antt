@@ -18,10 +18,10 @@ use Rattle.store_place.specs.Place.{next_out_of, place_in, rest_in, PositionIn}
 use Rattle.store_areas.specs.declared.Shape.{Shape}
 use Rattle.store_areas.specs.declared.Made.{Made}
 use Rattle.store_areas.specs.Areas.{durable_at, allowed, in_use, InUse, SpotIn, places_of, Changed, made_number, Making}
-use Rattle.store_areas.proofs.Lifting.{places_length, spot-both, spot-words}
-use Rattle.store_areas.proofs.Reading.{out-is}
+use Rattle.store_areas.proofs.Lifting.{places_length, spot_both, spot_words}
+use Rattle.store_areas.proofs.Reading.{out_is}
 use Rattle.store_areas.proofs.Marking.{marked}
-use Rattle.store_areas.proofs.Ruling.{in-use-of}
+use Rattle.store_areas.proofs.Ruling.{in_use_of}
 use Rattle.store_sessions.specs.Answers.{Opened, rest_at, PositionAt, FromAt}
 use Rattle.c_store.specs.declared.StoreAnswer.{StoreAnswer}
 use Rattle.c_store.specs.Total.{session_in, given, refused, Reads, MadeIs, why_no_record, why_no_bare_record, ChangeIs, key_is, is_free, OpenIs}
@@ -32,11 +32,11 @@ no_zero n h e = omega arith
 module _ {s : Shape} {i : ℕ} {w b : List ℕ} {t : Bool} (is : t ≡ in_use s w b i) where
   -- ---- reading
 
-  reads-by : {f : Session → ℕ} {u : Bool} → t ≡ u → Reads s w b i f (cond u (given (f (session_in s w b i))) (refused 25))
-  reads-by {f} e = record { answer = ap (λ (x : Bool). cond x (given (f (session_in s w b i))) (refused 25)) (sym e ∙ is) }
+  reads_by : {f : Session → ℕ} {u : Bool} → t ≡ u → Reads s w b i f (cond u (given (f (session_in s w b i))) (refused 25))
+  reads_by {f} e = record { answer = ap (λ (x : Bool). cond x (given (f (session_in s w b i))) (refused 25)) (sym e ∙ is) }
 
   pub reads_none : {f : Session → ℕ} → t ≡ false → Reads s w b i f (refused 25)
-  reads_none {f} e = reads-by {f = f} e
+  reads_none {f} e = reads_by {f = f} e
 
   -- ---- a change
 
@@ -45,10 +45,10 @@ module _ {s : Shape} {i : ℕ} {w b : List ℕ} {t : Bool} (is : t ≡ in_use s 
 
   module _ (e : t ≡ true) where
     pub used : InUse s w b i
-    used = in-use-of s w b i (sym is ∙ e)
+    used = in_use_of s w b i (sym is ∙ e)
 
     pub reads : {f : Session → ℕ} {v : ℕ} → v ≡ f (session_in s w b i) → Reads s w b i f (given v)
-    reads {f} q = subst (Reads s w b i f) (ap given (sym q)) (reads-by {f = f} e)
+    reads {f} q = subst (Reads s w b i f) (ap given (sym q)) (reads_by {f = f} e)
 
     pub cannot : {why n : ℕ} {f : Stored → Stored} → why ≡ n → 0 < n → ChangeIs s i why f w w b b n
     cannot {why} {n} q h = record { answer = sym q ∙ ap (λ (x : Bool). cond x why 25) (sym e ∙ is); made = λ z. absurd (no_zero n h z); still = λ _. (refl, refl) }
@@ -62,16 +62,16 @@ module _ {s : Shape} {i : ℕ} {w b : List ℕ} {t : Bool} (is : t ≡ in_use s 
     -- by a function that is lent the place's words, or its words and bytes
     module _ {wa we ba be : ℕ} (at : SpotIn s i w b wa we ba be) where
       pub next_is : {n : ℕ} → n ≡ next_out_of (mid_of wa (we - wa) w) → n ≡ (session_in s w b i).next_out
-      next_is q = q ∙ out-is s i wa we ba be w b at used.rules used.at
+      next_is q = q ∙ out_is s i wa we ba be w b at used.rules used.at
 
-      pub made-words : {why : ℕ} {f : Stored → Stored} (x : List ℕ) → why ≡ 0 → length x ≡ length (mid_of wa (we - wa) w)
+      pub made_words : {why : ℕ} {f : Stored → Stored} (x : List ℕ) → why ≡ 0 → length x ≡ length (mid_of wa (we - wa) w)
           → ((y : List ℕ) → place_in s.bytes s.messages x y ≡ on_stored f (place_in s.bytes s.messages (mid_of wa (we - wa) w) y)) → ChangeIs s i why f w (put_mid wa (we - wa) w x) b b 0
-      made-words {f = f} x q l p = made q (spot-words s i wa we ba be at.at w b used.rules used.at f x l p)
+      made_words {f = f} x q l p = made q (spot_words s i wa we ba be at.at w b used.rules used.at f x l p)
 
-      pub made-both : {why : ℕ} {f : Stored → Stored} (x y : List ℕ) → why ≡ 0 → length x ≡ length (mid_of wa (we - wa) w) → length y ≡ length (mid_of ba (be - ba) b)
+      pub made_both : {why : ℕ} {f : Stored → Stored} (x y : List ℕ) → why ≡ 0 → length x ≡ length (mid_of wa (we - wa) w) → length y ≡ length (mid_of ba (be - ba) b)
           → place_in s.bytes s.messages x y ≡ on_stored f (place_in s.bytes s.messages (mid_of wa (we - wa) w) (mid_of ba (be - ba) b))
           → ChangeIs s i why f w (put_mid wa (we - wa) w x) b (put_mid ba (be - ba) b y) 0
-      made-both {f = f} x y q l m p = made q (spot-both s i wa we ba be at.at w b used.rules used.at f x y l m p)
+      made_both {f = f} x y q l m p = made q (spot_both s i wa we ba be at.at w b used.rules used.at f x y l m p)
 
       -- the number recorded is the next outgoing one
       pub recorded : (n : ℕ) (text x y : List ℕ) → n ≡ next_out_of (mid_of wa (we - wa) w) → n < top → length x ≡ length (mid_of wa (we - wa) w) → length y ≡ length (mid_of ba (be - ba) b)
@@ -79,7 +79,7 @@ module _ {s : Shape} {i : ℕ} {w b : List ℕ} {t : Bool} (is : t ≡ in_use s 
           → ChangeIs s i (why_no_record (session_in s w b i).next_out) (changed s.bytes s.messages (record_msg (session_in s w b i).next_out text ∷ [])) w (put_mid wa (we - wa) w x) b (put_mid ba (be - ba) b y) 0
       recorded n text x y q h l m p =
           subst (λ (k : ℕ). ChangeIs s i (why_no_record k) (changed s.bytes s.messages (record_msg k text ∷ [])) w (put_mid wa (we - wa) w x) b (put_mid ba (be - ba) b y) 0) (next_is q)
-          (made-both x y (ap (λ (u : Bool). cond u 0 40) (lt-ltb n top h)) l m p)
+          (made_both x y (ap (λ (u : Bool). cond u 0 40) (lt-ltb n top h)) l m p)
 
 -- ---- why a change can't be made
 
@@ -138,27 +138,27 @@ module _ (s : Shape) (w b : List ℕ) (k : Key) where
   no : {A : Type 0} → false ≡ true → A
   no e = absurd (true≢false (sym e))
 
-  pub rules-broken : {t : Bool} → t ≡ allowed s w b → t ≡ false → OpenIs s k w w b b (refused 25)
-  rules-broken a e = by false _ _ _ (sym a ∙ e) refl refl refl no (λ _. (refl, refl))
+  pub rules_broken : {t : Bool} → t ≡ allowed s w b → t ≡ false → OpenIs s k w w b b (refused 25)
+  rules_broken a e = by false _ _ _ (sym a ∙ e) refl refl refl no (λ _. (refl, refl))
 
   module _ {t : Bool} (a : t ≡ allowed s w b) (e : t ≡ true) where
     pub no_key : {u : Bool} → u ≡ key_is k → u ≡ false → OpenIs s k w w b b (refused 5)
     no_key q f = by true false _ _ (sym a ∙ e) (sym q ∙ f) refl refl no (λ _. (refl, refl))
 
     module _ {u : Bool} (q : u ≡ key_is k) (f : u ≡ true) where
-      here-is : {here : Bool} → ltb At (get_or w 0 0) ≡ here → is_stored k (places_of s w b) ≡ here
-      here-is h = ap (ltb At) (places_length s w b) ∙ h
+      here_is : {here : Bool} → ltb At (get_or w 0 0) ≡ here → is_stored k (places_of s w b) ≡ here
+      here_is h = ap (ltb At) (places_length s w b) ∙ h
 
       pub stored : {i : ℕ} → i ≡ At → i < get_or w 0 0 → OpenIs s k w w b b (given i)
       stored {i} n h =
           subst (λ (j : ℕ). OpenIs s k w w b b (given j)) (sym n)
-          (by true true true _ (sym a ∙ e) (sym q ∙ f) (here-is (lt-ltb At (get_or w 0 0) (subst (λ (x : ℕ). x < get_or w 0 0) n h))) refl no (λ _. (refl, refl)))
+          (by true true true _ (sym a ∙ e) (sym q ∙ f) (here_is (lt-ltb At (get_or w 0 0) (subst (λ (x : ℕ). x < get_or w 0 0) n h))) refl no (λ _. (refl, refl)))
 
       pub no_place : {i : ℕ} → i ≡ At → get_or w 0 0 ≤ i → s.places ≤ get_or w 0 0 → OpenIs s k w w b b (refused 20)
       no_place n h r =
-          by true true false false (sym a ∙ e) (sym q ∙ f) (here-is (le-ltb At (get_or w 0 0) (subst (λ (x : ℕ). get_or w 0 0 ≤ x) n h))) (le-ltb (get_or w 0 0) s.places r) no (λ _. (refl, refl))
+          by true true false false (sym a ∙ e) (sym q ∙ f) (here_is (le-ltb At (get_or w 0 0) (subst (λ (x : ℕ). get_or w 0 0 ≤ x) n h))) (le-ltb (get_or w 0 0) s.places r) no (λ _. (refl, refl))
 
       pub opened : {i : ℕ} {w' b' : List ℕ} → i ≡ At → get_or w 0 0 ≤ i → get_or w 0 0 < s.places → Opened s k w w' b b' → OpenIs s k w w' b b' (given i)
       opened {w' = w'} {b' = b'} n h r p =
           subst (λ (j : ℕ). OpenIs s k w w' b b' (given j)) (sym n)
-          (by true true false true (sym a ∙ e) (sym q ∙ f) (here-is (le-ltb At (get_or w 0 0) (subst (λ (x : ℕ). get_or w 0 0 ≤ x) n h))) (lt-ltb (get_or w 0 0) s.places r) (λ _. p) (λ z. absurd (true≢false z)))
+          (by true true false true (sym a ∙ e) (sym q ∙ f) (here_is (le-ltb At (get_or w 0 0) (subst (λ (x : ℕ). get_or w 0 0 ≤ x) n h))) (lt-ltb (get_or w 0 0) s.places r) (λ _. p) (λ z. absurd (true≢false z)))

@@ -8,7 +8,7 @@ use borrow.Author.Tests.{leb-true, le-leb}
 use lib.ListN.{length, take, drop, length-append, length-drop, take-append-drop}
 use lib.Seq.{take-append-le}
 use Rattle.base_laws.proofs.Lists.{drop_take, both}
-use Rattle.base_laws.proofs.Runs.{run-items}
+use Rattle.base_laws.proofs.Runs.{run_items}
 use Rattle.model_frame.specs.Frame.{hello, batch, bind, bound}
 use Rattle.model_frame.specs.Parse.{Res, ok, bad, Parser, read_num, many, forget, collect}
 use Rattle.model_frame.specs.Reading.{read_change, read_app_record, read_body}
@@ -63,7 +63,7 @@ record RunAgain {A : Type 0} (p : Parser A) (n : ℕ) (b : List ℕ) (r : Run) :
 
 items_are : {A : Type 0} (p : Parser A) (k : ℕ) (s : List ℕ) {xs : List A} {s' : List ℕ} → many k p s ≡ ok xs s' → collect k p s ≡ xs
 items_are p k s {xs} {s'} e =
-    let same : ok (collect k p s) s' ≡ ok xs s' = run-items p k s (sym (ap forget e)) ∙ e in
+    let same : ok (collect k p s) s' ≡ ok xs s' = run_items p k s (sym (ap forget e)) ∙ e in
     cc
 
 run_again : {A : Type 0} {p : Parser A} → Grows p → (n : ℕ) (b : List ℕ) (r : Run) → run_reads p (take n b) r ≡ true → RunAgain p n b r

@@ -19,10 +19,10 @@ use Rattle.model_frame.proofs.Canon.{Was, Canon, run_canon, num_canon, Run}
 use Rattle.model_frame.proofs.RoundTrip.{and_left, and_right}
 use Rattle.model_frame.proofs.Sizes.{body_size_lem, changes_size, records_size}
 use Rattle.model_frame.proofs.Sound.{record_canon}
-use Rattle.model_frame.proofs.SoundChange.{TakenChange, change-canon, taken_fine}
+use Rattle.model_frame.proofs.SoundChange.{TakenChange, change_canon, taken_fine}
 use Rattle.base_laws.specs.Wrote.{Wrote, StandsAt}
 use Rattle.base_laws.proofs.Runs.{numbers_end}
-use Rattle.base_laws.proofs.StandsAt.{run-stands, run-counted}
+use Rattle.base_laws.proofs.StandsAt.{run_stands, run_counted}
 use Rattle.frame_reader.specs.declared.Span.{Span}
 use Rattle.frame_reader.specs.Answers.{span_of}
 use Rattle.frame_op.specs.declared.Run as the-run
@@ -61,44 +61,44 @@ kinds_ready src r known e =
     let room : n * 2 ≤ length (drop at src) = leb-true (n * 2) (length (drop at src)) (numbers_read 2 n (drop at src) refl ∙ e) in
     let ends : ok tt (drop (at + n * 2) src) ≡ forget (many n (read_num 2) (drop at src)) = rw (← drop-drop (n * 2) at src) (sym (numbers_end 2 n (drop at src) room)) in
     let k : (length src - at) - (length src - (at + n * 2)) ≡ n * 2 = omega (arith, length-drop at src) in
-    (rw k at (run-stands (read_num 2) (bytes_of 2) (λ v. v < 256 ^ 2) (num_canon 2) n src at (at + n * 2) known ends refl refl), run-counted (read_num 2) (bytes_of 2) (λ v. v < 256 ^ 2) (num_canon 2) n src at (at + n * 2) known ends)
+    (rw k at (run_stands (read_num 2) (bytes_of 2) (λ v. v < 256 ^ 2) (num_canon 2) n src at (at + n * 2) known ends refl refl), run_counted (read_num 2) (bytes_of 2) (λ v. v < 256 ^ 2) (num_canon 2) n src at (at + n * 2) known ends)
 
 module _ (src : List ℕ) (node : Span) (ks : the-run.Run) where
-  pub hello-judged : {w k u t : Bool} → w ≡ span_fits src node → k ≡ run_reads (read_num 2) src ks → u ≡ utf8 (span_of src node) → ((w && k) && u) ≡ t → ((span_fits src node && run_reads (read_num 2) src ks) && utf8 (span_of src node)) ≡ t
-  hello-judged ew ek eu e = rw (← ew, ← ek, ← eu) e
+  pub hello_judged : {w k u t : Bool} → w ≡ span_fits src node → k ≡ run_reads (read_num 2) src ks → u ≡ utf8 (span_of src node) → ((w && k) && u) ≡ t → ((span_fits src node && run_reads (read_num 2) src ks) && utf8 (span_of src node)) ≡ t
+  hello_judged ew ek eu e = rw (← ew, ← ek, ← eu) e
 
-  pub hello-unfit : (v version epoch : ℕ) → ((span_fits src node && run_reads (read_num 2) src ks) && utf8 (span_of src node)) ≡ false → Unready v (span_fits src node && run_reads (read_num 2) src ks) (hello version epoch (span_of src node) (run_of (read_num 2) src ks))
+  pub hello_unfit : (v version epoch : ℕ) → ((span_fits src node && run_reads (read_num 2) src ks) && utf8 (span_of src node)) ≡ false → Unready v (span_fits src node && run_reads (read_num 2) src ks) (hello version epoch (span_of src node) (run_of (read_num 2) src ks))
   unfolding fine
-  hello-unfit v version epoch e = record { unfit = e }
+  hello_unfit v version epoch e = record { unfit = e }
 
   module _ (known : T (is_bytes src)) (e : ((span_fits src node && run_reads (read_num 2) src ks) && utf8 (span_of src node)) ≡ true) where
     fit : (span_fits src node && run_reads (read_num 2) src ks) ≡ true
     fit = and_left (span_fits src node && run_reads (read_num 2) src ks) (utf8 (span_of src node)) e
 
-    kinds-fit : StandsAt src ks.at (ks.count * 2) (run_bytes (bytes_of 2) (run_of (read_num 2) src ks)) × (length (run_of (read_num 2) src ks) ≡ ks.count)
-    kinds-fit = kinds_ready src ks known (and_right (span_fits src node) (run_reads (read_num 2) src ks) fit)
+    kinds_fit : StandsAt src ks.at (ks.count * 2) (run_bytes (bytes_of 2) (run_of (read_num 2) src ks)) × (length (run_of (read_num 2) src ks) ≡ ks.count)
+    kinds_fit = kinds_ready src ks known (and_right (span_fits src node) (run_reads (read_num 2) src ks) fit)
 
-    pub node-length : length (span_of src node) ≡ node.len
-    node-length = span_length src node (and_left (span_fits src node) (run_reads (read_num 2) src ks) fit)
+    pub node_length : length (span_of src node) ≡ node.len
+    node_length = span_length src node (and_left (span_fits src node) (run_reads (read_num 2) src ks) fit)
 
-    pub hello-ready : (v version epoch : ℕ) {n : ℕ} → n ≡ 19 + node.len + ks.count * 2 → Ready v (span_fits src node && run_reads (read_num 2) src ks) (hello version epoch (span_of src node) (run_of (read_num 2) src ks)) n
+    pub hello_ready : (v version epoch : ℕ) {n : ℕ} → n ≡ 19 + node.len + ks.count * 2 → Ready v (span_fits src node && run_reads (read_num 2) src ks) (hello version epoch (span_of src node) (run_of (read_num 2) src ks)) n
     unfolding fine
-    hello-ready v version epoch q = record {
+    hello_ready v version epoch q = record {
       read = fit;
       texts = and_right (span_fits src node && run_reads (read_num 2) src ks) (utf8 (span_of src node)) e;
-      size = omega (arith, q, body_size_lem (hello version epoch (span_of src node) (run_of (read_num 2) src ks)), node-length, kinds-fit.1);
+      size = omega (arith, q, body_size_lem (hello version epoch (span_of src node) (run_of (read_num 2) src ks)), node_length, kinds_fit.1);
     }
 
-    pub hello-wrote : (version epoch : ℕ) {l m : List ℕ} {at r : ℕ} → Wrote l at (1 ∷ bytes_of 2 version ++ bytes_of 8 epoch ++ blob_bytes (span_of src node) ++ bytes_of 4 ks.count ++ take (ks.count * 2) (drop ks.at src)) m r → Wrote l at (body_bytes (hello version epoch (span_of src node) (run_of (read_num 2) src ks))) m r
+    pub hello_wrote : (version epoch : ℕ) {l m : List ℕ} {at r : ℕ} → Wrote l at (1 ∷ bytes_of 2 version ++ bytes_of 8 epoch ++ blob_bytes (span_of src node) ++ bytes_of 4 ks.count ++ take (ks.count * 2) (drop ks.at src)) m r → Wrote l at (body_bytes (hello version epoch (span_of src node) (run_of (read_num 2) src ks))) m r
     unfolding body_bytes
-    hello-wrote version epoch w = rw (kinds-fit.1, ← kinds-fit.0.same) w
+    hello_wrote version epoch w = rw (kinds_fit.1, ← kinds_fit.0.same) w
 
 -- ---- Bind and Bound
 
 module _ (src : List ℕ) (k : SessionId) where
-  pub bind-unfit : (v h e lag : ℕ) → (key_fits src k && fine_key (key_of src k)) ≡ false → Unready v (key_fits src k) (bind h e lag (key_of src k))
+  pub bind_unfit : (v h e lag : ℕ) → (key_fits src k && fine_key (key_of src k)) ≡ false → Unready v (key_fits src k) (bind h e lag (key_of src k))
   unfolding fine
-  bind-unfit v h e lag q = record { unfit = q }
+  bind_unfit v h e lag q = record { unfit = q }
 
   -- the lengths of the four texts
   pub record KeyLengths : Type 0 where
@@ -132,9 +132,9 @@ module _ (src : List ℕ) (k : SessionId) where
   }
 
 module _ (v : ℕ) (src : List ℕ) (m : the-summary.Summary) where
-  pub bound-unfit : (h : ℕ) → (summary_fits src m && fine_summary v (summary_of src m)) ≡ false → Unready v (summary_fits src m) (bound h (summary_of src m))
+  pub bound_unfit : (h : ℕ) → (summary_fits src m && fine_summary v (summary_of src m)) ≡ false → Unready v (summary_fits src m) (bound h (summary_of src m))
   unfolding fine
-  bound-unfit h q = record { unfit = q }
+  bound_unfit h q = record { unfit = q }
 
   pub record SummaryLengths : Type 0 where
     pub stamp_is : length (span_of src m.created_at) ≡ m.created_at.len
@@ -176,11 +176,11 @@ module _ (v : ℕ) (src : List ℕ) (os rs : the-run.Run) where
   abbrev pub both : ℕ → ℕ → ℕ → Part → Frame
   both h e n p = batch h e n p (run_of (read_change v) src os) (run_of read_app_record src rs)
 
-  pub ops-unread : (h e n : ℕ) (p : Part) {x : Fault} → many os.count (read_change v) (drop os.at src) ≡ bad x → Unready v read (both h e n p)
-  ops-unread h e n p q = record { unfit = rw q }
+  pub ops_unread : (h e n : ℕ) (p : Part) {x : Fault} → many os.count (read_change v) (drop os.at src) ≡ bad x → Unready v read (both h e n p)
+  ops_unread h e n p q = record { unfit = rw q }
 
-  pub records-unread : (h e n : ℕ) (p : Part) {x : Fault} → many rs.count read_app_record (drop rs.at src) ≡ bad x → Unready v read (both h e n p)
-  records-unread h e n p q = record { unfit = rw q (no (run_reads (read_change v) src os) (fine v (both h e n p))) }
+  pub records_unread : (h e n : ℕ) (p : Part) {x : Fault} → many rs.count read_app_record (drop rs.at src) ≡ bad x → Unready v read (both h e n p)
+  records_unread h e n p q = record { unfit = rw q (no (run_reads (read_change v) src os) (fine v (both h e n p))) }
     where
       no : (a b : Bool) → ((a && false) && b) ≡ false
       no true b = refl
@@ -191,25 +191,25 @@ module _ (v : ℕ) (src : List ℕ) (os rs : the-run.Run) where
       (eo : many os.count (read_change v) (drop os.at src) ≡ ok (run_of (read_change v) src os) s) (so : StandsAt src os.at k (run_bytes change_bytes (run_of (read_change v) src os)))
       (er : many rs.count read_app_record (drop rs.at src) ≡ ok (run_of read_app_record src rs) t) (sr : StandsAt src rs.at m (run_bytes app_record_bytes (run_of read_app_record src rs)))
     where
-      ops-are : (length (run_of (read_change v) src os) ≡ os.count) × Each (TakenChange v) (run_of (read_change v) src os)
-      ops-are = run_items_are (change-canon v) os.count (drop os.at src) (bytes_drop os.at src known) eo
+      ops_are : (length (run_of (read_change v) src os) ≡ os.count) × Each (TakenChange v) (run_of (read_change v) src os)
+      ops_are = run_items_are (change_canon v) os.count (drop os.at src) (bytes_drop os.at src known) eo
 
-      records-are : (length (run_of read_app_record src rs) ≡ rs.count) × Each (λ (r : AppRecord). RangedRecord r × ByteRecord r) (run_of read_app_record src rs)
-      records-are = run_items_are record_canon rs.count (drop rs.at src) (bytes_drop rs.at src known) er
+      records_are : (length (run_of read_app_record src rs) ≡ rs.count) × Each (λ (r : AppRecord). RangedRecord r × ByteRecord r) (run_of read_app_record src rs)
+      records_are = run_items_are record_canon rs.count (drop rs.at src) (bytes_drop rs.at src known) er
 
-      pub batch-ready : (h e n : ℕ) (p : Part) → Ready v read (batch h e n p (run_of (read_change v) src os) (run_of read_app_record src rs)) (30 + k + m)
+      pub batch_ready : (h e n : ℕ) (p : Part) → Ready v read (batch h e n p (run_of (read_change v) src os) (run_of read_app_record src rs)) (30 + k + m)
       unfolding fine
-      batch-ready h e n p = record {
+      batch_ready h e n p = record {
         read = rw (eo, er);
-        texts = taken_fine v (run_of (read_change v) src os) ops-are.1;
+        texts = taken_fine v (run_of (read_change v) src os) ops_are.1;
         size = omega (arith, body_size_lem (batch h e n p (run_of (read_change v) src os) (run_of read_app_record src rs)), so.size, sr.size, changes_size (run_of (read_change v) src os), records_size (run_of read_app_record src rs));
       }
 
-      pub batch-wrote :
+      pub batch_wrote :
           (h e n : ℕ) (p : Part) {l o : List ℕ} {at r : ℕ} →
           Wrote l at ((4 ∷ bytes_of 4 h ++ bytes_of 8 e ++ bytes_of 8 n ++ part_number p ∷ bytes_of 4 os.count) ++ (run_bytes change_bytes (run_of (read_change v) src os) ++ bytes_of 4 rs.count ++ run_bytes app_record_bytes (run_of read_app_record src rs))) o r →
           Wrote l at (body_bytes (batch h e n p (run_of (read_change v) src os) (run_of read_app_record src rs))) o r
       unfolding body_bytes
-      batch-wrote h e n p w =
-          rw (ops-are.0, records-are.0)
+      batch_wrote h e n p w =
+          rw (ops_are.0, records_are.0)
           (wrote_as w (regroup (4 ∷ bytes_of 4 h ++ bytes_of 8 e ++ bytes_of 8 n ++ part_number p ∷ bytes_of 4 os.count) (run_bytes change_bytes (run_of (read_change v) src os)) (bytes_of 4 rs.count) (run_bytes app_record_bytes (run_of read_app_record src rs))))

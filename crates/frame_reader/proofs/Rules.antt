@@ -23,13 +23,13 @@ module _ (rule : List ℕ → Bool) (f : Fault) where
   judge x s false true e h = let z : false ≡ true = h refl in cc
   judge x s false false e h = refl
 
-  rule-judged : (s : List ℕ) {x s' : List ℕ} → ((x : List ℕ) → rule x ≡ true → utf8 x ≡ true) → read_blob s ≡ ok x s' → ruled s ≡ cond (rule x) (ok x s') (bad (cond (utf8 x) f bad_text))
+  rule_judged : (s : List ℕ) {x s' : List ℕ} → ((x : List ℕ) → rule x ≡ true → utf8 x ≡ true) → read_blob s ≡ ok x s' → ruled s ≡ cond (rule x) (ok x s') (bad (cond (utf8 x) f bad_text))
   unfolding read_text
-  rule-judged s {x} {s'} h e = rw e (judge x s' (utf8 x) (rule x) refl (h x))
+  rule_judged s {x} {s'} h e = rw e (judge x s' (utf8 x) (rule x) refl (h x))
 
-  rule-fault : (s : List ℕ) {e : Fault} → read_blob s ≡ bad e → ruled s ≡ bad e
+  rule_fault : (s : List ℕ) {e : Fault} → read_blob s ≡ bad e → ruled s ≡ bad e
   unfolding read_text
-  rule-fault s h = rw h
+  rule_fault s h = rw h
 
 pub none_or_coded : (version : ℕ) (s : List ℕ) → (is_empty s || takes_stamp version s) ≡ true → utf8 s ≡ true
 unfolding utf8
@@ -39,27 +39,27 @@ none_or_coded version (x ∷ xs) h = (takes_is version (x ∷ xs) h).coded
 -- the three rules
 pub stamp_judged : (version : ℕ) (s : List ℕ) {x s' : List ℕ} → read_blob s ≡ ok x s' → read_stamp version s ≡ cond (takes_stamp version x) (ok x s') (bad (cond (utf8 x) bad_timestamp bad_text))
 unfolding read_stamp
-stamp_judged version s e = rule-judged (takes_stamp version) bad_timestamp s (λ x t. (takes_is version x t).coded) e
+stamp_judged version s e = rule_judged (takes_stamp version) bad_timestamp s (λ x t. (takes_is version x t).coded) e
 
 pub stamp_fault : (version : ℕ) (s : List ℕ) {e : Fault} → read_blob s ≡ bad e → read_stamp version s ≡ bad e
 unfolding read_stamp
-stamp_fault version s e = rule-fault (takes_stamp version) bad_timestamp s e
+stamp_fault version s e = rule_fault (takes_stamp version) bad_timestamp s e
 
 pub none_judged : (version : ℕ) (s : List ℕ) {x s' : List ℕ} → read_blob s ≡ ok x s' → read_stamp_or_none version s ≡ cond (is_empty x || takes_stamp version x) (ok x s') (bad (cond (utf8 x) bad_timestamp bad_text))
 unfolding read_stamp_or_none
-none_judged version s e = rule-judged (λ x. is_empty x || takes_stamp version x) bad_timestamp s (none_or_coded version) e
+none_judged version s e = rule_judged (λ x. is_empty x || takes_stamp version x) bad_timestamp s (none_or_coded version) e
 
 pub none_fault : (version : ℕ) (s : List ℕ) {e : Fault} → read_blob s ≡ bad e → read_stamp_or_none version s ≡ bad e
 unfolding read_stamp_or_none
-none_fault version s e = rule-fault (λ x. is_empty x || takes_stamp version x) bad_timestamp s e
+none_fault version s e = rule_fault (λ x. is_empty x || takes_stamp version x) bad_timestamp s e
 
 pub marks_judged : (s : List ℕ) {x s' : List ℕ} → read_blob s ≡ ok x s' → read_marks s ≡ cond (is_marks x) (ok x s') (bad (cond (utf8 x) bad_marks bad_text))
 unfolding read_marks
-marks_judged s e = rule-judged is_marks bad_marks s (λ x t. (marks_is x t).coded) e
+marks_judged s e = rule_judged is_marks bad_marks s (λ x t. (marks_is x t).coded) e
 
 pub marks_fault : (s : List ℕ) {e : Fault} → read_blob s ≡ bad e → read_marks s ≡ bad e
 unfolding read_marks
-marks_fault s e = rule-fault is_marks bad_marks s e
+marks_fault s e = rule_fault is_marks bad_marks s e
 
 pub none_taken : (version : ℕ) (s : List ℕ) → length s ≡ 0 → true ≡ (is_empty s || takes_stamp version s)
 none_taken version [] h = refl

@@ -21,9 +21,9 @@ module _ (a b : ℕ) {t u : Bool} (et : t ≡ is_digit a) (eu : u ≡ is_digit b
       let y = digit_bounds b (sym eu ∙ and_r t u e) in
       (x.0, x.1, y.0, y.1)
 
-  pub pair-by : (lo hi : ℕ) (f : Bool) → (t && u) ≡ f → (f && (leb lo ((a - 48) * 10 + (b - 48)) && leb ((a - 48) * 10 + (b - 48)) hi)) ≡ is_pair lo hi a b
+  pub pair_by : (lo hi : ℕ) (f : Bool) → (t && u) ≡ f → (f && (leb lo ((a - 48) * 10 + (b - 48)) && leb ((a - 48) * 10 + (b - 48)) hi)) ≡ is_pair lo hi a b
   unfolding is_pair
-  pair-by lo hi f e = ap (λ (g : Bool). g && (leb lo ((a - 48) * 10 + (b - 48)) && leb ((a - 48) * 10 + (b - 48)) hi)) (sym e ∙ ap₂ ◌&&◌ et eu)
+  pair_by lo hi f e = ap (λ (g : Bool). g && (leb lo ((a - 48) * 10 + (b - 48)) && leb ((a - 48) * 10 + (b - 48)) hi)) (sym e ∙ ap₂ ◌&&◌ et eu)
 
 -- ---- the bytes, one by one
 
@@ -34,29 +34,29 @@ bytes_all (suc k) i s e =
     ∙ sym (drop-cons s i 0 (omega arith))
 
 module _ (s : List ℕ) where
-  pub says-date : {a b c d p q : Bool} → a ≡ is_digit (get_or s 0 0) → b ≡ is_digit (get_or s 1 0) → c ≡ is_digit (get_or s 2 0) → d ≡ is_digit (get_or s 3 0)
+  pub says_date : {a b c d p q : Bool} → a ≡ is_digit (get_or s 0 0) → b ≡ is_digit (get_or s 1 0) → c ≡ is_digit (get_or s 2 0) → d ≡ is_digit (get_or s 3 0)
       → p ≡ is_pair 1 12 (get_or s 4 0) (get_or s 5 0) → q ≡ is_pair 1 31 (get_or s 6 0) (get_or s 7 0) → (a && b && c && d && p && q) ≡ matches date (slice_at s 0 8)
-  says-date ea eb ec ed ep eq = (λ i. ea i && eb i && ec i && ed i && ep i && eq i) ∙ simp (and_assoc, and-true)
+  says_date ea eb ec ed ep eq = (λ i. ea i && eb i && ec i && ed i && ep i && eq i) ∙ simp (and_assoc, and-true)
 
-  pub says-seconds : length s ≡ 17 → {d c y : Bool} → d ≡ matches date (slice_at s 0 8) → c ≡ matches clock (slice_at s 8 9) → y ≡ day_exists s → (d && c && y) ≡ is_stamp s
+  pub says_seconds : length s ≡ 17 → {d c y : Bool} → d ≡ matches date (slice_at s 0 8) → c ≡ matches clock (slice_at s 8 9) → y ≡ day_exists s → (d && c && y) ≡ is_stamp s
   unfolding is_stamp
-  says-seconds h ed ec ey =
+  says_seconds h ed ec ey =
       (λ i. ed i && ec i && ey i)
       ∙ ap (λ (t : Bool). t && day_exists s)
       ((let e : (matches date (slice_at s 0 8) && matches clock (slice_at s 8 9)) ≡ matches (date ++ clock) (slice_at s 0 17) = simp (and_assoc, and-true) in e)
       ∙ ap (matches (date ++ clock)) (bytes_all 17 0 s (sym h))
       ∙ sym (ap (λ (t : Bool). matches (date ++ clock) s || t) (not_long (date ++ clock ++ millis) s (λ q. omega arith)) ∙ or-false (matches (date ++ clock) s)))
 
-  pub says-millis : length s ≡ 21 → {d c m y : Bool} → d ≡ matches date (slice_at s 0 8) → c ≡ matches clock (slice_at s 8 9) → m ≡ matches millis (slice_at s 17 4)
+  pub says_millis : length s ≡ 21 → {d c m y : Bool} → d ≡ matches date (slice_at s 0 8) → c ≡ matches clock (slice_at s 8 9) → m ≡ matches millis (slice_at s 17 4)
       → y ≡ day_exists s → (d && c && m && y) ≡ is_stamp s
   unfolding is_stamp
-  says-millis h ed ec em ey =
+  says_millis h ed ec em ey =
       (λ i. ed i && ec i && em i && ey i)
       ∙ ap (λ (t : Bool). t && day_exists s)
       ((let e : (matches date (slice_at s 0 8) && matches clock (slice_at s 8 9) && matches millis (slice_at s 17 4)) ≡ matches (date ++ clock ++ millis) (slice_at s 0 21) = simp (and_assoc, and-true) in e)
       ∙ ap (matches (date ++ clock ++ millis)) (bytes_all 21 0 s (sym h))
       ∙ sym (ap (λ (t : Bool). t || matches (date ++ clock ++ millis) s) (not_long (date ++ clock) s (λ q. omega arith))))
 
-  pub says-neither : (length s ≡ 17 → ⊥) → (length s ≡ 21 → ⊥) → false ≡ is_stamp s
+  pub says_neither : (length s ≡ 17 → ⊥) → (length s ≡ 21 → ⊥) → false ≡ is_stamp s
   unfolding is_stamp
-  says-neither g h = sym (ap (λ (t : Bool). t && day_exists s) (ap₂ ◌||◌ (not_long (date ++ clock) s g) (not_long (date ++ clock ++ millis) s h)))
+  says_neither g h = sym (ap (λ (t : Bool). t && day_exists s) (ap₂ ◌||◌ (not_long (date ++ clock) s g) (not_long (date ++ clock ++ millis) s h)))

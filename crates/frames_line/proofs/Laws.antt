@@ -20,7 +20,7 @@ use Rattle.model_standby.specs.Answer as the-answer
 use Rattle.model_standby.specs.Answer.{reply, refused, done}
 use Rattle.model_standby.specs.State as the-state
 use Rattle.model_standby.specs.State.{Standby, on_frame}
-use Rattle.model_standby.proofs.Answering.{answer_bytes, Tellable, Told, Telling, frame-told}
+use Rattle.model_standby.proofs.Answering.{answer_bytes, Tellable, Told, Telling, frame_told}
 use Rattle.store_log.proofs.Lawful.{Small}
 use Rattle.store_areas.proofs.Holding.{all_holdable}
 use Rattle.base_hex.specs.Lines.{ReadsLine, Puts, line_read, line_length}
@@ -34,7 +34,7 @@ use Rattle.standby_state.specs.Answers as the-answers
 use Rattle.standby_state.specs.Outcomes.{settings_of}
 use Rattle.standby_step.specs.Steps.{room_of}
 use Rattle.frames_reply.specs.Texts.{outcome_text, answer_text, record_text}
-use Rattle.frames_reply.proofs.Laws.{exact-text}
+use Rattle.frames_reply.proofs.Laws.{exact_text}
 use Rattle.standby_step.specs.Calls.{room_all, standby_of, allowed_all, Called}
 use Rattle.model_lines.specs.Program.{frames_settings, line_text, spoken, on_bytes, line_step}
 use Rattle.frames_line.specs.Answering.{the_settings, Heard, unread, called, AnswersLine}
@@ -87,19 +87,19 @@ module _ (l : List ℕ) (c : Replica) (row : List Bound) (w b h out : List ℕ) 
   told {b' = b'} {a = a} f n ok k = go (allowed_all the_settings row w b h) refl
     where
       go : (x : Bool) → allowed_all the_settings row w b h ≡ x → Told (the-answers.answer_of b' a)
-      go true e = subst Told (sym (ap (λ (r : the-state.Result). r.answer) (k.steps e).is)) (frame-told L st f (omega arith) ok (telling c row w b h n))
+      go true e = subst Told (sym (ap (λ (r : the-state.Result). r.answer) (k.steps e).is)) (frame_told L st f (omega arith) ok (telling c row w b h n))
       go false e = subst (λ (x : the_code.Answer). Told (the-answers.answer_of b' x)) (sym (k.refuses e).0) tt
 
-  heard-is : {c' : Replica} {row' : List Bound} {w' b' h' t : List ℕ} (x : List ℕ) → x ≡ t → Heard l c c' row row' w w' b b' h h' t → allowed_all the_settings row w b h ≡ true → record { state = standby_of the_settings c' row' w' b' h'; text = x } ≡ line_step L st l
-  heard-is x ex (unread e ec er ew eb eh) ok = (λ j. record { state = standby_of the_settings (ec j) (er j) (ew j) (eb j) (eh j); text = ex j }) ∙ sym (ap (on_bytes L st) e)
-  heard-is {c'} {row'} {w'} {b'} {h'} x ex (called f a e k) ok =
+  heard_is : {c' : Replica} {row' : List Bound} {w' b' h' t : List ℕ} (x : List ℕ) → x ≡ t → Heard l c c' row row' w w' b b' h h' t → allowed_all the_settings row w b h ≡ true → record { state = standby_of the_settings c' row' w' b' h'; text = x } ≡ line_step L st l
+  heard_is x ex (unread e ec er ew eb eh) ok = (λ j. record { state = standby_of the_settings (ec j) (er j) (ew j) (eb j) (eh j); text = ex j }) ∙ sym (ap (on_bytes L st) e)
+  heard_is {c'} {row'} {w'} {b'} {h'} x ex (called f a e k) ok =
       (λ j. record { state = standby_of the_settings c' row' w' b' h'; text = ex j }) ∙ ap spoken (k.steps ok).is ∙ sym (ap (on_bytes L st) e)
 
   answers : {c' : Replica} {row' : List Bound} {w' b' h' out' t : List ℕ} {n : ℕ} → Heard l c c' row row' w w' b b' h h' t → Puts t out out' n → AnswersLine l c c' row row' w w' b b' h h' out out' n
-  answers {t = t} {n = n} k p = record { text = t; heard = k; puts = p; is = heard-is _ (put_text p) k }
+  answers {t = t} {n = n} k p = record { text = t; heard = k; puts = p; is = heard_is _ (put_text p) k }
 
-  pub bad-line : {buf out' : List ℕ} {r : Line} {n : ℕ} → ReadsLine (line_bytes l) buf r → r ≡ Bad → Puts (refusal_text 26) out out' n → AnswersLine l c c row row w w b b h h out out' n
-  bad-line {buf} g e p = answers (unread (sym g.bytes ∙ ap (line_read buf) e) refl refl refl refl refl) p
+  pub bad_line : {buf out' : List ℕ} {r : Line} {n : ℕ} → ReadsLine (line_bytes l) buf r → r ≡ Bad → Puts (refusal_text 26) out out' n → AnswersLine l c c row row w w b b h h out out' n
+  bad_line {buf} g e p = answers (unread (sym g.bytes ∙ ap (line_read buf) e) refl refl refl refl refl) p
 
   pub some_line : {buf : List ℕ} {r : Line} (m : ℕ) → Numbers c w b → ReadsLine (line_bytes l) buf r → ((i : ℕ) → get_or buf i 0 < 256) → r ≡ Bytes m → {c' : Replica} {row' : List Bound} {w' b' h' out' : List ℕ} {s : Settings} {a : the_code.Answer} {n k : ℕ} → answer_bytes ≤ k → s ≡ the_settings → Called s (on_frame (take (m - 0) (drop 0 buf))) c c' row row' w w' b b' h h' a → Puts (record_text k b' a) out out' n → AnswersLine l c c' row row' w w' b b' h h' out out' n
   some_line {buf} m num g ok e {c'} {row'} {w'} {b'} {h'} {out' = out'} {a = a} {n = n} {k = room} big es k p =
@@ -108,7 +108,7 @@ module _ (l : List ℕ) (c : Replica) (row : List Bound) (w b h out : List ℕ) 
       subst (λ (x : ℕ). Called the_settings (on_frame (take x buf)) c c' row row' w w' b b' h h' a) cut
       (subst (λ (x : Settings). Called x (on_frame (take (m - 0) buf)) c c' row row' w w' b b' h h' a) es k) in
       let t : Told (the-answers.answer_of b' a) = told (take m buf) num (bytes_take m buf (are_bytes buf ok)) call in
-      answers (called (take m buf) a (sym g.bytes ∙ ap (line_read buf) e) call) (subst (λ (x : List ℕ). Puts x out out' n) (exact-text room b' a call.exact ∙ text_is (the-answers.answer_of b' a) t big) p)
+      answers (called (take m buf) a (sym g.bytes ∙ ap (line_read buf) e) call) (subst (λ (x : List ℕ). Puts x out out' n) (exact_text room b' a call.exact ∙ text_is (the-answers.answer_of b' a) t big) p)
 
 -- the text lies in the output area
 pub told_fits : {l : List ℕ} {c c' : Replica} {row row' : List Bound} {w w' b b' h h' out out' : List ℕ} {n : ℕ} → AnswersLine l c c' row row' w w' b b' h h' out out' n → n ≤ length out'

@@ -24,7 +24,7 @@ use Rattle.standby_state.specs.declared.Answer.{Answer}
 use Rattle.standby_state.specs.Answers.{frame_by, answer_of}
 use Rattle.standby_state.specs.Exact.{Exact}
 use Rattle.standby_reply.specs.Replies.{frame_for}
-use Rattle.standby_reply.proofs.Exact.{exact-frame}
+use Rattle.standby_reply.proofs.Exact.{exact_frame}
 use Rattle.frames_reply.specs.Texts.{outcome_text, answer_text, record_text}
 
 -- ---- what was written
@@ -65,8 +65,8 @@ told_no (wrote bs) m e = absurd (omega (arith, ap tag e))
 told_no (refused k) m e = ap (λ (x : ℕ). refusal_text x) (ap told e)
 
 module _ (f : Option Frame) {before after : List ℕ} where
-  pub took-front : (n : ℕ) → Encoded 1 f before after (Written.Bytes n) → write_outcome 1 f (length before) ≡ wrote (take n after)
-  took-front n e = front (write_outcome 1 f (length before)) n before after (room f (length before)) e.answer e.area
+  pub took_front : (n : ℕ) → Encoded 1 f before after (Written.Bytes n) → write_outcome 1 f (length before) ≡ wrote (take n after)
+  took_front n e = front (write_outcome 1 f (length before)) n before after (room f (length before)) e.answer e.area
 
   pub took_fits : (n : ℕ) → Encoded 1 f before after (Written.Bytes n) → n ≤ length before
   took_fits n e = go (write_outcome 1 f (length before)) (room f (length before)) e.answer
@@ -75,16 +75,16 @@ module _ (f : Option Frame) {before after : List ℕ} where
       go (wrote bs) h q = omega (arith, ap told q)
       go (refused m) h q = absurd (omega (arith, ap tag q))
 
-  pub put-digits : (n : ℕ) (out : List ℕ) {out' : List ℕ} → length after ≡ length before → Encoded 1 f before after (Written.Bytes n) → WroteFront (hex_of (take (n - 0) (drop 0 after))) out out' → Puts (outcome_text (write_outcome 1 f (length before))) out out' (2 * n)
-  put-digits n out {out'} same e h =
+  pub put_digits : (n : ℕ) (out : List ℕ) {out' : List ℕ} → length after ≡ length before → Encoded 1 f before after (Written.Bytes n) → WroteFront (hex_of (take (n - 0) (drop 0 after))) out out' → Puts (outcome_text (write_outcome 1 f (length before))) out out' (2 * n)
+  put_digits n out {out'} same e h =
       let fit : n ≤ length after = omega (arith, took_fits n e) in
       let cut : n - 0 ≡ n = omega arith in
       let long : 2 * n ≡ length (hex_of (take n after)) = sym (length_hex (take n after) ∙ ap (λ (k : ℕ). 2 * k) (length-take-le n after fit)) in
-      subst (λ (o : WriteOutcome). Puts (outcome_text o) out out' (2 * n)) (sym (took-front n e))
+      subst (λ (o : WriteOutcome). Puts (outcome_text o) out out' (2 * n)) (sym (took_front n e))
       (record { count = long; wrote = subst (λ (k : ℕ). WroteFront (hex_of (take k after)) out out') cut h })
 
-  pub put-no : (m : ℕ) {r : Written} {out out' : List ℕ} {n : ℕ} → written_of r ≡ write_refusal m → Encoded 1 f before after r → Puts (refusal_text m) out out' n → Puts (outcome_text (write_outcome 1 f (length before))) out out' n
-  put-no m {r} {out} {out'} {n} q e h = subst (λ (t : List ℕ). Puts t out out' n) (told_no (write_outcome 1 f (length before)) m (sym q ∙ e.answer)) h
+  pub put_no : (m : ℕ) {r : Written} {out out' : List ℕ} {n : ℕ} → written_of r ≡ write_refusal m → Encoded 1 f before after r → Puts (refusal_text m) out out' n → Puts (outcome_text (write_outcome 1 f (length before))) out out' n
+  put_no m {r} {out} {out'} {n} q e h = subst (λ (t : List ℕ). Puts t out out' n) (told_no (write_outcome 1 f (length before)) m (sym q ∙ e.answer)) h
 
 -- ---- the text of an answer
 
@@ -93,22 +93,22 @@ module _ (room : ℕ) (b : List ℕ) (a : Answer) where
   By t u = cond t (cond u [] (outcome_text (write_outcome 1 (frame_for b a) room))) (refusal_text a.refusal)
 
   -- the record of an answer has that answer's text
-  pub exact-text : Exact b a → record_text room b a ≡ answer_text room (answer_of b a)
-  exact-text x = go (eqb a.refusal 0) (eqb a.kind 0) refl refl
+  pub exact_text : Exact b a → record_text room b a ≡ answer_text room (answer_of b a)
+  exact_text x = go (eqb a.refusal 0) (eqb a.kind 0) refl refl
     where
       go : (t u : Bool) → eqb a.refusal 0 ≡ t → eqb a.kind 0 ≡ u → By t u ≡ answer_text room (cond t (cond u the-answer.done (the-answer.reply (frame_by b a))) (the-answer.refused a.refusal))
       go true true p q = refl
       go true false p q =
           ap (λ (f : Option Frame). outcome_text (write_outcome 1 f room))
-          (exact-frame b a x (λ j. cond (p j) (cond (q j) the-answer.done (the-answer.reply (frame_by b a))) (the-answer.refused a.refusal)))
+          (exact_frame b a x (λ j. cond (p j) (cond (q j) the-answer.done (the-answer.reply (frame_by b a))) (the-answer.refused a.refusal)))
       go false u p q = refl
 
   module _ (out : List ℕ) where
-    pub text-done : a.refusal ≡ 0 → a.kind ≡ 0 → Puts (record_text room b a) out out 0
-    text-done e k = subst (λ (t : List ℕ). Puts t out out 0) (sym (λ j. By (eq-eqb a.refusal 0 e j) (eq-eqb a.kind 0 k j))) (record { count = refl; wrote = refl })
+    pub text_done : a.refusal ≡ 0 → a.kind ≡ 0 → Puts (record_text room b a) out out 0
+    text_done e k = subst (λ (t : List ℕ). Puts t out out 0) (sym (λ j. By (eq-eqb a.refusal 0 e j) (eq-eqb a.kind 0 k j))) (record { count = refl; wrote = refl })
 
-    pub text-reply : a.refusal ≡ 0 → (a.kind ≡ 0 → ⊥) → {out' : List ℕ} {n : ℕ} → Puts (outcome_text (write_outcome 1 (frame_for b a) room)) out out' n → Puts (record_text room b a) out out' n
-    text-reply e k {out'} {n} h = subst (λ (t : List ℕ). Puts t out out' n) (sym (λ j. By (eq-eqb a.refusal 0 e j) (ne_eqb a.kind 0 k j))) h
+    pub text_reply : a.refusal ≡ 0 → (a.kind ≡ 0 → ⊥) → {out' : List ℕ} {n : ℕ} → Puts (outcome_text (write_outcome 1 (frame_for b a) room)) out out' n → Puts (record_text room b a) out out' n
+    text_reply e k {out'} {n} h = subst (λ (t : List ℕ). Puts t out out' n) (sym (λ j. By (eq-eqb a.refusal 0 e j) (ne_eqb a.kind 0 k j))) h
 
-    pub text-refused : (a.refusal ≡ 0 → ⊥) → {out' : List ℕ} {n : ℕ} → Puts (refusal_text a.refusal) out out' n → Puts (record_text room b a) out out' n
-    text-refused e {out'} {n} h = subst (λ (t : List ℕ). Puts t out out' n) (sym (ap (λ (t : Bool). By t (eqb a.kind 0)) (ne_eqb a.refusal 0 e))) h
+    pub text_refused : (a.refusal ≡ 0 → ⊥) → {out' : List ℕ} {n : ℕ} → Puts (refusal_text a.refusal) out out' n → Puts (record_text room b a) out out' n
+    text_refused e {out'} {n} h = subst (λ (t : List ℕ). Puts t out out' n) (sym (ap (λ (t : Bool). By t (eqb a.kind 0)) (ne_eqb a.refusal 0 e))) h

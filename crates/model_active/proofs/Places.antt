@@ -63,13 +63,13 @@ alike : (p : Entry → Bool) (s : ℕ) (xs : List ℕ) (es : List Entry) → mem
 alike p s xs [] n = refl
 alike p s xs (e ∷ es) n =
     let apart : eqb e.session s ≡ false = eqb_swap e.session s ∙ or_none_left (eqb s e.session) (member s (sessions es)) n in
-    let same : member e.session (xs ++ (s ∷ [])) ≡ member e.session xs = member_snoc e.session s xs ∙ ap (λ (b : Bool). member e.session xs || b) apart ∙ or-false (member e.session xs) in
+    let same : member e.session (xs ++ (s ∷ [])) ≡ member e.session xs = member_snoc e.session s xs ∙ ap (λ (b : Bool). member e.session xs || b) apart ∙ or_false (member e.session xs) in
     let rest = alike p s xs es (or_none_right (eqb s e.session) (member s (sessions es)) n) in
     λ j. cond (p e && not (same j)) (e.session ∷ rest j) (rest j)
   where
-    or-false : (b : Bool) → (b || false) ≡ b
-    or-false true = refl
-    or-false false = refl
+    or_false : (b : Bool) → (b || false) ≡ b
+    or_false true = refl
+    or_false false = refl
 
 one_by_one : (p : Entry → Bool) (xs : List ℕ) (es : List Entry) → Once (sessions es) → xs ++ met_that (λ e. p e && not (member e.session xs)) es ≡ all_joining (met_that p es) xs
 one_by_one p xs [] o = append_nil xs

@@ -32,8 +32,8 @@ module _ (c : StandbyCopy) (before after : List StandbyCopy) where
       go false true ih = ih
       go false false ih = ih
 
-  same-highest : (is_checked_copy c ≡ true → c.epoch < highest (without before)) → highest (with before) ≡ highest (without before)
-  same-highest lower = go (is_checked_copy c) refl (high before)
+  same_highest : (is_checked_copy c ≡ true → c.epoch < highest (without before)) → highest (with before) ≡ highest (without before)
+  same_highest lower = go (is_checked_copy c) refl (high before)
     where
       go : (t : Bool) → is_checked_copy c ≡ t → highest (with before) ≡ cond t (max c.epoch (highest (without before))) (highest (without before)) → highest (with before) ≡ highest (without before)
       go true e h = omega (arith, h, lower e)
@@ -51,12 +51,12 @@ module _ (c : StandbyCopy) (before after : List StandbyCopy) where
     same_ahead mine [] = rw no refl
     same_ahead mine (d ∷ cs) = ap (λ (t : Bool). (not (is_candidate top d) || is_ahead mine d.places) && t) (same_ahead mine cs)
 
-  pub changes-nothing : (is_checked_copy c ≡ true → c.epoch < highest (before ++ (unlisted c ∷ after))) → chosen (before ++ (c ∷ after)) ≡ chosen (before ++ (unlisted c ∷ after))
+  pub changes_nothing : (is_checked_copy c ≡ true → c.epoch < highest (before ++ (unlisted c ∷ after))) → chosen (before ++ (c ∷ after)) ≡ chosen (before ++ (unlisted c ∷ after))
   unfolding chosen
-  changes-nothing lower = go before
+  changes_nothing lower = go before
     where
       top : highest (with before) ≡ highest (without before)
-      top = same-highest lower
+      top = same_highest lower
 
       no : is_candidate (highest (without before)) c ≡ false
       no = no_candidate lower

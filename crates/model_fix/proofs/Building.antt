@@ -11,8 +11,8 @@ use borrow.Author.Tests.{ltb-true, ltb-false, lt-ltb, le-ltb, le-leb, eq-eqb}
 use Rattle.model_text.specs.Lines.{joined}
 use Rattle.model_frame.specs.Frame.{Change, record_msg, record_bare}
 use Rattle.model_frame.specs.Parse.{Each}
-use Rattle.model_session.specs.Session.{Session, Msg, new_session, apply, applyAll, fits, Holdable, Storable, is_bytes, top}
-use Rattle.model_session.specs.Whole.{send_msg, skip_to, wholeBatches}
+use Rattle.model_session.specs.Session.{Session, Msg, new_session, apply, apply_all, fits, Holdable, Storable, is_bytes, top}
+use Rattle.model_session.specs.Whole.{send_msg, skip_to, whole_batches}
 use Rattle.model_session.specs.Whole as whole
 use Rattle.model_session.proofs.Basics.{each_append, T→true, true→T, and_l, and_r}
 use Rattle.model_session.proofs.Sending.{whole_is_exact}
@@ -20,7 +20,7 @@ use Rattle.model_session.proofs.Keeping.{new_holdable, apply_all_keeps}
 use Rattle.model_fix.specs.Field.{pieces_of, number_of, value_of, has_tag}
 use Rattle.model_fix.specs.Message.{tag10, tag34, tagged, is_sequence, one_sequence, fields_good, length_good, sum_good, Verdict, bad, good, judge, messages_of}
 use Rattle.model_fix.specs.Import.{Judged, fault, taken, onto_taken, judge_next, judge_all, judge_file, records_of, imported}
-use Rattle.model_fix.proofs.Cuts.{flat, cut-flat, pieces_joined, joined_append}
+use Rattle.model_fix.proofs.Cuts.{flat, cut_flat, pieces_joined, joined_append}
 use Rattle.model_fix.proofs.Fields.{good_fields, Sequence, sequence}
 
 -- ---- a good message's number
@@ -144,20 +144,20 @@ pub record AsNew (next : ℕ) (x : Session) : Type 0 where
   pub in_flight : x.in_flight ≡ new_session.in_flight
   pub marks : x.marks ≡ new_session.marks
 
-after_skip : (C M : ℕ) (t : Bool) (n next : ℕ) (m : Msg) (x : Session) → AsNew next x → AsNew (suc m.num) (applyAll C M (cond t (record_bare n ∷ []) [] ++ (record_msg m.num m.text ∷ [])) x)
+after_skip : (C M : ℕ) (t : Bool) (n next : ℕ) (m : Msg) (x : Session) → AsNew next x → AsNew (suc m.num) (apply_all C M (cond t (record_bare n ∷ []) [] ++ (record_msg m.num m.text ∷ [])) x)
 unfolding apply
 after_skip C M true n next m x a = record { stamp = a.stamp; next_out = refl; next_in = a.next_in; in_flight = a.in_flight; marks = a.marks }
 after_skip C M false n next m x a = record { stamp = a.stamp; next_out = refl; next_in = a.next_in; in_flight = a.in_flight; marks = a.marks }
 
-append_applied : (C M : ℕ) (x y : List Change) (s : Session) → applyAll C M (x ++ y) s ≡ applyAll C M y (applyAll C M x s)
+append_applied : (C M : ℕ) (x y : List Change) (s : Session) → apply_all C M (x ++ y) s ≡ apply_all C M y (apply_all C M x s)
 append_applied C M [] y s = refl
 append_applied C M (c ∷ x) y s = append_applied C M x y (apply C M c s)
 
-as_new : (C M next : ℕ) (ms : List Msg) (x : Session) → AsNew next x → AsNew (next_after next ms) (applyAll C M (records_of next ms) x)
+as_new : (C M next : ℕ) (ms : List Msg) (x : Session) → AsNew next x → AsNew (next_after next ms) (apply_all C M (records_of next ms) x)
 as_new C M next [] x a = a
 as_new C M next (m ∷ ms) x a =
     rw (append_applied C M (send_msg next m) (records_of (suc m.num) ms) x)
-    (as_new C M (suc m.num) ms (applyAll C M (send_msg next m) x) (after_skip C M (ltb next m.num) (m.num - 1) next m x a))
+    (as_new C M (suc m.num) ms (apply_all C M (send_msg next m) x) (after_skip C M (ltb next m.num) (m.num - 1) next m x a))
 
 -- next outgoing follows the last message (1 for an empty file); stamp, next incoming, in flight and marks are as new
 pub imported_parts : (C M : ℕ) (ms : List Msg) → AsNew (next_after 1 ms) (imported C M ms)
@@ -186,7 +186,7 @@ taken_texts at last (p ∷ ps) ms e = go (judge p) refl (λ q l h. taken_texts (
 
 pub file_texts : (file : List ℕ) (ms : List Msg) → judge_file file ≡ taken ms → texts ms ≡ file
 unfolding judge_file
-file_texts file ms e = taken_texts 0 0 (messages_of (pieces_of file)) ms e ∙ ap joined (cut-flat (has_tag tag10) (pieces_of file)) ∙ pieces_joined file
+file_texts file ms e = taken_texts 0 0 (messages_of (pieces_of file)) ms e ∙ ap joined (cut_flat (has_tag tag10) (pieces_of file)) ∙ pieces_joined file
 
 bytes_left : (x y : List ℕ) → T (is_bytes (x ++ y)) → T (is_bytes x)
 bytes_left [] y o = tt
@@ -205,5 +205,5 @@ pub file_holdable : (C M : ℕ) (file : List ℕ) (ms : List Msg) → T (is_byte
 file_holdable C M file ms o e = imported_holdable C M file ms e (octets_of ms (rw (file_texts file ms e) o))
 
 -- and sent whole it gives exactly itself, whatever stood there
-pub file_sent_whole : (limit C M : ℕ) (file : List ℕ) (ms : List Msg) (x : Session) → T (is_bytes file) → judge_file file ≡ taken ms → applyAll C M (whole.all_changes (wholeBatches limit (imported C M ms))) x ≡ imported C M ms
+pub file_sent_whole : (limit C M : ℕ) (file : List ℕ) (ms : List Msg) (x : Session) → T (is_bytes file) → judge_file file ≡ taken ms → apply_all C M (whole.all_changes (whole_batches limit (imported C M ms))) x ≡ imported C M ms
 file_sent_whole limit C M file ms x o e = whole_is_exact limit C M (imported C M ms) x (file_holdable C M file ms o e)

@@ -45,10 +45,10 @@ count_back min n rest h fits = rw (num_back 4 n rest h, le-leb (n * min) (length
 
 -- a run, where each item comes back
 module _ {A : Type 0} (p : Parser A) (f : A → List ℕ) (P : A → Type 0) (back : (a : A) (rest : List ℕ) → P a → p (f a ++ rest) ≡ ok a rest) where
-  pub run-back : (xs : List A) (rest : List ℕ) → Each P xs → many (length xs) p (run_bytes f xs ++ rest) ≡ ok xs rest
+  pub run_back : (xs : List A) (rest : List ℕ) → Each P xs → many (length xs) p (run_bytes f xs ++ rest) ≡ ok xs rest
   unfolding many run_bytes
-  run-back [] rest h = refl
-  run-back (x ∷ xs) rest h = rw (append_assoc, back x (run_bytes f xs ++ rest) h.0, run-back xs rest h.1)
+  run_back [] rest h = refl
+  run_back (x ∷ xs) rest h = rw (append_assoc, back x (run_bytes f xs ++ rest) h.0, run_back xs rest h.1)
 
 -- a run of items of at least m bytes each
 pub run_long : {A : Type 0} (f : A → List ℕ) (m : ℕ) → ((a : A) → m ≤ length (f a)) → (xs : List A) → length xs * m ≤ length (run_bytes f xs)

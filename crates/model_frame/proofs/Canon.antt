@@ -44,29 +44,29 @@ pub canon_row : {B : Type 0} {k : ℕ} (n : ℕ) {p q : Parser B} {g : B → Lis
 canon_row {k = k} n c d = canon_cond (eqb k n) (λ e. rw (eqb-true k n e) c) (λ _. d)
 
 module _ {A B : Type 0} (pre : List ℕ) (e : A → List ℕ) (U : A → Type 0) (f : A → Parser B) (g : B → List ℕ) (W : B → Type 0) where
-  then-was : (s : List ℕ) (r : Res A) → Was e U s r → ((a : A) → U a → Canon (pre ++ e a) (f a) g W) → Was g W (pre ++ s) (and_then r f)
-  then-was s (ok a s') w k =
+  then_was : (s : List ℕ) (r : Res A) → Was e U s r → ((a : A) → U a → Canon (pre ++ e a) (f a) g W) → Was g W (pre ++ s) (and_then r f)
+  then_was s (ok a s') w k =
       let q : pre ++ s ≡ (pre ++ e a) ++ s' = ap (λ (l : List ℕ). pre ++ l) w.0 ∙ sym (append_assoc pre (e a) s') in
       rw q ((k a w.1).reads s' w.2)
-  then-was s (bad x) w k = tt
+  then_was s (bad x) w k = tt
 
 pub canon_then :
     {A B : Type 0} {pre : List ℕ} {p : Parser A} {e : A → List ℕ} {U : A → Type 0} {f : A → Parser B} {g : B → List ℕ} {W : B → Type 0} →
     Canon [] p e U → ((a : A) → U a → Canon (pre ++ e a) (f a) g W) → Canon pre (p >>= f) g W
-canon_then {pre = pre} {p = p} {e = e} {U = U} {f = f} {g = g} {W = W} c k = record { reads = λ s h. then-was pre e U f g W s (p s) (c.reads s h) k }
+canon_then {pre = pre} {p = p} {e = e} {U = U} {f = f} {g = g} {W = W} c k = record { reads = λ s h. then_was pre e U f g W s (p s) (c.reads s h) k }
 
 module _ {A : Type 0} (pre : List ℕ) (e : A → List ℕ) (U : A → Type 0) (g : A → List ℕ) (W : A → Type 0) where
-  last-was : (s : List ℕ) (r : Res A) → Was e U s r → ((a : A) → U a → (pre ++ e a ≡ g a) × W a) → Was g W (pre ++ s) r
-  last-was s (ok a s') w k =
+  last_was : (s : List ℕ) (r : Res A) → Was e U s r → ((a : A) → U a → (pre ++ e a ≡ g a) × W a) → Was g W (pre ++ s) r
+  last_was s (ok a s') w k =
       let q : pre ++ s ≡ (pre ++ e a) ++ s' = ap (λ (l : List ℕ). pre ++ l) w.0 ∙ sym (append_assoc pre (e a) s') in
       (q ∙ ap (λ (l : List ℕ). l ++ s') (k a w.1).0, (k a w.1).1, w.2)
-  last-was s (bad x) w k = tt
+  last_was s (bad x) w k = tt
 
 -- the last read of a row
 pub canon_last :
     {A : Type 0} {pre : List ℕ} {p : Parser A} {e : A → List ℕ} {U : A → Type 0} {g : A → List ℕ} {W : A → Type 0} →
     Canon [] p e U → ((a : A) → U a → (pre ++ e a ≡ g a) × W a) → Canon pre p g W
-canon_last {pre = pre} {p = p} {e = e} {U = U} {g = g} {W = W} c k = record { reads = λ s h. last-was pre e U g W s (p s) (c.reads s h) k }
+canon_last {pre = pre} {p = p} {e = e} {U = U} {g = g} {W = W} c k = record { reads = λ s h. last_was pre e U g W s (p s) (c.reads s h) k }
 
 -- ---- bytes, numbers, blobs, texts
 

@@ -18,7 +18,7 @@ use Rattle.model_frame.specs.Parse.{is_empty, ok, read_num, many, run_bytes, Eac
 use Rattle.model_frame.specs.Reading.{max_body, read_stamp, read_stamp_or_none, read_marks, set_incoming_fields, set_incoming_in_flight_fields, set_in_flight_fields, record_msg_fields, record_bare_fields, set_created_at_fields, set_marks_fields, read_change, read_changes, read_kinds, read_app_record, read_app_records, read_part, read_reason, read_key, flight, read_summary, hello_fields, welcome_fields, bind_fields, batch_fields, ack_fields, nack_fields, bound_fields, checked_fields, read_fields, read_body, decode}
 use Rattle.model_frame.specs.Writing.{blob_bytes, change_bytes, app_record_bytes, part_number, reason_number, flight_number, key_bytes, summary_bytes, body_bytes, encode, fine_change, all_fine, fine_key, fine_summary, fine, RangedChange, RangedRecord, RangedKey, RangedSummary, Ranged, Writable, no_zero, shown, NoZeroFlight, Sendable}
 use Rattle.model_frame.proofs.Le.{length_bytes, le_bytes}
-use Rattle.model_frame.proofs.Back.{num_back, byte_back, blob_back, text_back, count_back, run-back, run_long}
+use Rattle.model_frame.proofs.Back.{num_back, byte_back, blob_back, text_back, count_back, run_back, run_long}
 
 -- both tests hold
 pub and_left : (a b : Bool) → (a && b) ≡ true → a ≡ true
@@ -69,7 +69,7 @@ each_sendable version (c ∷ cs) r e =
     ((r.0, and_left (fine_change version c) (all_fine version cs) e), each_sendable version cs r.1 (and_right (fine_change version c) (all_fine version cs) e))
 
 pub changes_back : (version : ℕ) (cs : List Change) (rest : List ℕ) → Each (Sendable version) cs → many (length cs) (read_change version) (run_bytes change_bytes cs ++ rest) ≡ ok cs rest
-changes_back version cs rest h = run-back (read_change version) change_bytes (Sendable version) (change_back version) cs rest h
+changes_back version cs rest h = run_back (read_change version) change_bytes (Sendable version) (change_back version) cs rest h
 
 counted_changes_back :
     (version : ℕ) (cs : List Change) (rest : List ℕ) → length cs < 2 ^ 32 → Each (Sendable version) cs →
@@ -88,7 +88,7 @@ kinds_back ks rest h each =
     let two : (n : ℕ) → 2 ≤ length (bytes_of 2 n) = λ n. omega (arith, length_bytes 2 n) in
     let fits : length ks * 2 ≤ length (run_bytes (bytes_of 2) ks ++ rest) =
     omega (arith, run_long (bytes_of 2) 2 two ks, length-append (run_bytes (bytes_of 2) ks) rest) in
-    rw (count_back 2 (length ks) (run_bytes (bytes_of 2) ks ++ rest) h fits, run-back (read_num 2) (bytes_of 2) (λ (n : ℕ). n < 2 ^ 16) (λ n rest h. num_back 2 n rest h) ks rest each)
+    rw (count_back 2 (length ks) (run_bytes (bytes_of 2) ks ++ rest) h fits, run_back (read_num 2) (bytes_of 2) (λ (n : ℕ). n < 2 ^ 16) (λ n rest h. num_back 2 n rest h) ks rest each)
 
 record_back : (r : AppRecord) (rest : List ℕ) → RangedRecord r → read_app_record (app_record_bytes r ++ rest) ≡ ok r rest
 unfolding read_app_record app_record_bytes
@@ -103,7 +103,7 @@ unfolding read_app_records
 records_back rs rest h each =
     let fits : length rs * 6 ≤ length (run_bytes app_record_bytes rs ++ rest) =
     omega (arith, run_long app_record_bytes 6 record_long rs, length-append (run_bytes app_record_bytes rs) rest) in
-    rw (count_back 6 (length rs) (run_bytes app_record_bytes rs ++ rest) h fits, run-back read_app_record app_record_bytes RangedRecord record_back rs rest each)
+    rw (count_back 6 (length rs) (run_bytes app_record_bytes rs ++ rest) h fits, run_back read_app_record app_record_bytes RangedRecord record_back rs rest each)
 
 part_back : (p : Part) (rest : List ℕ) → read_part (part_number p ∷ rest) ≡ ok p rest
 unfolding read_part

@@ -15,7 +15,7 @@ use Rattle.model_frame.specs.Reading.{read_change}
 use Rattle.model_frame.specs.Writing.{change_bytes, all_fine, RangedChange, Sendable}
 use Rattle.model_frame.specs.Sizes.{size_of, sizes}
 use Rattle.model_frame.proofs.RoundTrip.{change_back, changes_back, each_sendable}
-use Rattle.model_frame.proofs.SoundChange.{TakenChange, change-sound}
+use Rattle.model_frame.proofs.SoundChange.{TakenChange, change_sound}
 use Rattle.model_frame.proofs.Sizes.{change_size}
 use Rattle.model_frame.proofs.Grow.{change_grows}
 
@@ -53,70 +53,70 @@ pub record Stands (version : ℕ) (s : List ℕ) (cs : List Change) : Type 0 whe
 module _ (version : ℕ) where
   -- ---- a run of known length
 
-  pub many-changes :
+  pub many_changes :
       (cs : List Change) (rest : List ℕ) → Each RangedChange cs → all_fine version cs ≡ true → many (length cs) (read_change version) (run_bytes change_bytes cs ++ rest) ≡ ok cs rest
-  many-changes cs rest r e = changes_back version cs rest (each_sendable version cs r e)
+  many_changes cs rest r e = changes_back version cs rest (each_sendable version cs r e)
 
   -- what follows a change doesn't matter to it
-  pub change-prefix : (s t : List ℕ) {c : Change} {s' : List ℕ} → read_change version s ≡ ok c s' → read_change version (s ++ t) ≡ ok c (s' ++ t)
-  change-prefix s t e = (change_grows version).grows s t e
+  pub change_prefix : (s t : List ℕ) {c : Change} {s' : List ℕ} → read_change version s ≡ ok c s' → read_change version (s ++ t) ≡ ok c (s' ++ t)
+  change_prefix s t e = (change_grows version).grows s t e
 
   -- no change's bytes begin another's
-  pub change-unique :
+  pub change_unique :
       (c d : Change) (r t : List ℕ) → Sendable version c → Sendable version d → change_bytes c ++ r ≡ change_bytes d ++ t → (c ≡ d) × (r ≡ t)
-  change-unique c d r t hc hd e =
+  change_unique c d r t hc hd e =
       let p : ok c r ≡ ok d t = sym (change_back version c r hc) ∙ ap (read_change version) e ∙ change_back version d t hd in
       (cc, cc)
 
   -- ---- a run as far as it goes
 
-  pub collect-run :
+  pub collect_run :
       (cs : List Change) (rest : List ℕ) (n : ℕ) → Each (Sendable version) cs →
       collect (length cs + n) (read_change version) (run_bytes change_bytes cs ++ rest) ≡ cs ++ collect n (read_change version) rest
   unfolding collect run_bytes
-  collect-run [] rest n h = rw (zero-add n)
-  collect-run (c ∷ cs) rest n h = rw (suc-add, append_assoc, change_back version c (run_bytes change_bytes cs ++ rest) h.0, collect-run cs rest n h.1)
+  collect_run [] rest n h = rw (zero-add n)
+  collect_run (c ∷ cs) rest n h = rw (suc-add, append_assoc, change_back version c (run_bytes change_bytes cs ++ rest) h.0, collect_run cs rest n h.1)
 
-  pub collect-empty : (n : ℕ) → collect n (read_change version) [] ≡ []
+  pub collect_empty : (n : ℕ) → collect n (read_change version) [] ≡ []
   unfolding collect read_change read_num read_bytes
-  collect-empty zero = refl
-  collect-empty (suc n) = refl
+  collect_empty zero = refl
+  collect_empty (suc n) = refl
 
-  collect-no-bytes : (n : ℕ) (s : List ℕ) → length s ≤ 0 → collect n (read_change version) s ≡ []
-  collect-no-bytes n [] h = collect-empty n
-  collect-no-bytes n (x ∷ xs) h = absurd (not-suc-le-zero h)
+  collect_no_bytes : (n : ℕ) (s : List ℕ) → length s ≤ 0 → collect n (read_change version) s ≡ []
+  collect_no_bytes n [] h = collect_empty n
+  collect_no_bytes n (x ∷ xs) h = absurd (not-suc-le-zero h)
 
   -- just the run: it is read whole, whatever the limit on its length, if that isn't below it
-  pub collect-back : (cs : List Change) (n : ℕ) → Each (Sendable version) cs → length cs ≤ n → collect n (read_change version) (run_bytes change_bytes cs) ≡ cs
-  collect-back cs n h fits =
+  pub collect_back : (cs : List Change) (n : ℕ) → Each (Sendable version) cs → length cs ≤ n → collect n (read_change version) (run_bytes change_bytes cs) ≡ cs
+  collect_back cs n h fits =
       let k : length cs + (n - length cs) ≡ n = omega arith in
-      rw append-nil at (rw (k, collect-empty, append-nil cs) at (collect-run cs [] (n - length cs) h))
+      rw append-nil at (rw (k, collect_empty, append-nil cs) at (collect_run cs [] (n - length cs) h))
 
   -- so runs are told apart by their bytes
-  pub run-unique : (cs ds : List Change) → Each (Sendable version) cs → Each (Sendable version) ds → run_bytes change_bytes cs ≡ run_bytes change_bytes ds → cs ≡ ds
-  run-unique cs ds hc hd e =
+  pub run_unique : (cs ds : List Change) → Each (Sendable version) cs → Each (Sendable version) ds → run_bytes change_bytes cs ≡ run_bytes change_bytes ds → cs ≡ ds
+  run_unique cs ds hc hd e =
       let n : ℕ = length cs + length ds in
-      sym (collect-back cs n hc (omega arith)) ∙ ap (collect n (read_change version)) e ∙ collect-back ds n hd (omega arith)
+      sym (collect_back cs n hc (omega arith)) ∙ ap (collect n (read_change version)) e ∙ collect_back ds n hd (omega arith)
 
   -- a change that is read takes a byte at least
-  pub change-shorter : (s : List ℕ) {c : Change} {t : List ℕ} → T (is_bytes s) → read_change version s ≡ ok c t → (length s ≡ size_of c + length t) × (length t < length s)
-  change-shorter s {c} {t} h e =
-      let q = change-sound version s h e in
+  pub change_shorter : (s : List ℕ) {c : Change} {t : List ℕ} → T (is_bytes s) → read_change version s ≡ ok c t → (length s ≡ size_of c + length t) × (length t < length s)
+  change_shorter s {c} {t} h e =
+      let q = change_sound version s h e in
       let l : length s ≡ size_of c + length t = ap length q.0 ∙ omega (arith, length-append (change_bytes c) t, change_size c) in
       (l, omega (arith, size_positive c))
 
   -- what is read as far as it goes can be sent, and stands at the start of the bytes
-  pub collect-sound : (n : ℕ) (s : List ℕ) → T (is_bytes s) → Stands version s (collect n (read_change version) s)
+  pub collect_sound : (n : ℕ) (s : List ℕ) → T (is_bytes s) → Stands version s (collect n (read_change version) s)
   unfolding collect run_bytes
-  collect-sound zero s h = record { taken = tt; front = refl }
-  collect-sound (suc n) s h = go (λ t. collect-sound n t) (read_change version s) refl
+  collect_sound zero s h = record { taken = tt; front = refl }
+  collect_sound (suc n) s h = go (λ t. collect_sound n t) (read_change version s) refl
     where
       go :
           ((t : List ℕ) → T (is_bytes t) → Stands version t (collect n (read_change version) t)) → (r : Res Change) → read_change version s ≡ r →
           Stands version s (item_then r (collect n (read_change version)))
       go next (bad x) e = record { taken = tt; front = refl }
       go next (ok c t) e =
-          let q = change-sound version s h e in
+          let q = change_sound version s h e in
           let cs : List Change = collect n (read_change version) t in
           let rest = next t q.2 in
           let behind : drop (size_of c) s ≡ t = ap (drop (size_of c)) q.0 ∙ drop_at (change_bytes c) t (size_of c) (change_size c) in
@@ -124,17 +124,17 @@ module _ (version : ℕ) where
           record { taken = (q.1, rest.taken); front = q.0 ∙ ap (λ (l : List ℕ). change_bytes c ++ l) rest.front ∙ rw (far, append_assoc) }
 
   -- a limit on the number of changes doesn't bite if it is as great as the number of bytes
-  pub collect-enough : (n m : ℕ) (s : List ℕ) → T (is_bytes s) → length s ≤ n → length s ≤ m → collect n (read_change version) s ≡ collect m (read_change version) s
+  pub collect_enough : (n m : ℕ) (s : List ℕ) → T (is_bytes s) → length s ≤ n → length s ≤ m → collect n (read_change version) s ≡ collect m (read_change version) s
   unfolding collect
-  collect-enough zero m s h p q = sym (collect-no-bytes m s p)
-  collect-enough (suc n) zero s h p q = collect-no-bytes (suc n) s q
-  collect-enough (suc n) (suc m) s h p q = go (λ t. collect-enough n m t) (read_change version s) refl
+  collect_enough zero m s h p q = sym (collect_no_bytes m s p)
+  collect_enough (suc n) zero s h p q = collect_no_bytes (suc n) s q
+  collect_enough (suc n) (suc m) s h p q = go (λ t. collect_enough n m t) (read_change version s) refl
     where
       go :
           ((t : List ℕ) → T (is_bytes t) → length t ≤ n → length t ≤ m → collect n (read_change version) t ≡ collect m (read_change version) t) → (r : Res Change) →
           read_change version s ≡ r → item_then r (collect n (read_change version)) ≡ item_then r (collect m (read_change version))
       go next (bad e) k = refl
       go next (ok c t) k =
-          let l = change-shorter s h k in
-          let b = change-sound version s h k in
+          let l = change_shorter s h k in
+          let b = change_sound version s h k in
           ap (λ (cs : List Change). c ∷ cs) (next t b.2 (omega arith) (omega arith))

@@ -19,7 +19,7 @@ use Rattle.model_frame.specs.Reading.{max_body, read_stamp_or_none, read_changes
 use Rattle.model_frame.specs.Writing.{blob_bytes, change_bytes, app_record_bytes, part_number, reason_number, flight_number, key_bytes, summary_bytes, body_bytes, encode, fine_key, fine_summary, fine, RangedRecord, RangedKey, RangedSummary, Ranged, Writable, NoZeroFlight, ByteRecord, ByteKey, ByteSummary, ByteFrame}
 use Rattle.model_frame.proofs.Le.{Byte, bytes_each, each_take, each_drop, bytes_le}
 use Rattle.model_frame.proofs.Canon.{Was, Canon, canon_done, canon_fail, canon_test, canon_row, canon_then, num_canon, byte_canon, blob_canon, text_canon, counted_canon, Blob}
-use Rattle.model_frame.proofs.SoundChange.{both, TakenChange, marks_canon, change-canon, taken-ranged, taken_fine, taken-blob}
+use Rattle.model_frame.proofs.SoundChange.{both, TakenChange, marks_canon, change_canon, taken_ranged, taken_fine, taken_blob}
 
 -- ---- parts of frames
 
@@ -29,7 +29,7 @@ kinds_canon = counted_canon 2 (num_canon 2)
 
 changes_canon : (version : ℕ) → Canon [] (read_changes version) (λ cs. bytes_of 4 (length cs) ++ run_bytes change_bytes cs) (λ cs. (length cs < 2 ^ 32) × Each (TakenChange version) cs)
 unfolding read_changes
-changes_canon version = counted_canon 1 (change-canon version)
+changes_canon version = counted_canon 1 (change_canon version)
 
 pub record_canon : Canon [] read_app_record app_record_bytes (λ r. RangedRecord r × ByteRecord r)
 unfolding read_app_record app_record_bytes
@@ -125,32 +125,32 @@ regroup : (a : List ℕ) (k : ℕ) (x y z u : List ℕ) → a ++ (k ∷ []) ++ (
 regroup a k x y z u = simp append_assoc
 
 module _ (version : ℕ) where
-  hello-canon : Canon (1 ∷ []) hello_fields body_bytes (TakenFrame version)
+  hello_canon : Canon (1 ∷ []) hello_fields body_bytes (TakenFrame version)
   unfolding hello_fields body_bytes fine
-  hello-canon =
+  hello_canon =
       canon_then (num_canon 2)
       (λ v hv. canon_then (num_canon 8)
       (λ e he. canon_then text_canon
       (λ n hn. canon_then kinds_canon
       (λ ks hk. canon_done (simp append_assoc) (record { ranged = (hv, he, hn.0.0, hk.0, hk.1); texts = hn.1; blobs = hn.0.1; flight = tt })))))
 
-  welcome-canon : Canon (2 ∷ []) welcome_fields body_bytes (TakenFrame version)
+  welcome_canon : Canon (2 ∷ []) welcome_fields body_bytes (TakenFrame version)
   unfolding welcome_fields body_bytes fine
-  welcome-canon =
+  welcome_canon =
       canon_then (num_canon 8) (λ e he. canon_then (num_canon 8) (λ i hi. canon_done refl (record { ranged = (he, hi); texts = refl; blobs = tt; flight = tt })))
 
-  bind-canon : Canon (3 ∷ []) bind_fields body_bytes (TakenFrame version)
+  bind_canon : Canon (3 ∷ []) bind_fields body_bytes (TakenFrame version)
   unfolding bind_fields body_bytes fine
-  bind-canon =
+  bind_canon =
       canon_then (num_canon 4)
       (λ h hh. canon_then (num_canon 8)
       (λ e he. canon_then (num_canon 8)
       (λ l hl. canon_then key_canon
       (λ k hk. canon_done refl (record { ranged = (hh, he, hl, hk.0); texts = hk.1; blobs = hk.2; flight = tt })))))
 
-  batch-canon : Canon (4 ∷ []) (batch_fields version) body_bytes (TakenFrame version)
+  batch_canon : Canon (4 ∷ []) (batch_fields version) body_bytes (TakenFrame version)
   unfolding batch_fields body_bytes fine
-  batch-canon =
+  batch_canon =
       canon_then (num_canon 4)
       (λ h hh. canon_then (num_canon 8)
       (λ e he. canon_then (num_canon 8)
@@ -161,45 +161,45 @@ module _ (version : ℕ) where
       let split = records_split rs hr.1 in
       canon_done (regroup ((4 ∷ bytes_of 4 h) ++ bytes_of 8 e ++ bytes_of 8 n) (part_number p) (bytes_of 4 (length cs)) (run_bytes change_bytes cs) (bytes_of 4 (length rs)) (run_bytes app_record_bytes rs))
       (record {
-        ranged = (hh, he, hn, hc.0, taken-ranged version cs hc.1, hr.0, split.0);
+        ranged = (hh, he, hn, hc.0, taken_ranged version cs hc.1, hr.0, split.0);
         texts = taken_fine version cs hc.1;
-        blobs = (taken-blob version cs hc.1, split.1);
+        blobs = (taken_blob version cs hc.1, split.1);
         flight = tt;
       })))))))
 
-  ack-canon : Canon (5 ∷ []) ack_fields body_bytes (TakenFrame version)
+  ack_canon : Canon (5 ∷ []) ack_fields body_bytes (TakenFrame version)
   unfolding ack_fields body_bytes fine
-  ack-canon = canon_then (num_canon 4) (λ h hh. canon_then (num_canon 8) (λ n hn. canon_done refl (record { ranged = (hh, hn); texts = refl; blobs = tt; flight = tt })))
+  ack_canon = canon_then (num_canon 4) (λ h hh. canon_then (num_canon 8) (λ n hn. canon_done refl (record { ranged = (hh, hn); texts = refl; blobs = tt; flight = tt })))
 
-  nack-canon : Canon (6 ∷ []) nack_fields body_bytes (TakenFrame version)
+  nack_canon : Canon (6 ∷ []) nack_fields body_bytes (TakenFrame version)
   unfolding nack_fields body_bytes fine
-  nack-canon = canon_then (num_canon 4) (λ h hh. canon_then reason_canon (λ r hr. canon_done refl (record { ranged = hh; texts = refl; blobs = tt; flight = tt })))
+  nack_canon = canon_then (num_canon 4) (λ h hh. canon_then reason_canon (λ r hr. canon_done refl (record { ranged = hh; texts = refl; blobs = tt; flight = tt })))
 
-  bound-canon : Canon (7 ∷ []) (bound_fields version) body_bytes (TakenFrame version)
+  bound_canon : Canon (7 ∷ []) (bound_fields version) body_bytes (TakenFrame version)
   unfolding bound_fields body_bytes fine
-  bound-canon =
+  bound_canon =
       canon_then (num_canon 4)
       (λ h hh. canon_then (summary_canon version) (λ m hm. canon_done refl (record { ranged = (hh, hm.0); texts = hm.1; blobs = hm.2; flight = hm.3 })))
 
-  checked-canon : Canon (8 ∷ []) checked_fields body_bytes (TakenFrame version)
+  checked_canon : Canon (8 ∷ []) checked_fields body_bytes (TakenFrame version)
   unfolding checked_fields body_bytes fine
-  checked-canon =
+  checked_canon =
       canon_then (num_canon 4)
       (λ h hh. canon_then (num_canon 8) (λ e he. canon_then (num_canon 8) (λ i hi. canon_done refl (record { ranged = (hh, he, hi); texts = refl; blobs = tt; flight = tt }))))
 
-  fields-canon : Canon [] (read_fields version) body_bytes (TakenFrame version)
+  fields_canon : Canon [] (read_fields version) body_bytes (TakenFrame version)
   unfolding read_fields
-  fields-canon =
+  fields_canon =
       canon_then byte_canon
       (λ k h.
-      canon_row 1 hello-canon
-      (canon_row 2 welcome-canon
-      (canon_row 3 bind-canon
-      (canon_row 4 batch-canon
-      (canon_row 5 ack-canon
-      (canon_row 6 nack-canon
-      (canon_row 7 bound-canon
-      (canon_row 8 checked-canon canon_fail))))))))
+      canon_row 1 hello_canon
+      (canon_row 2 welcome_canon
+      (canon_row 3 bind_canon
+      (canon_row 4 batch_canon
+      (canon_row 5 ack_canon
+      (canon_row 6 nack_canon
+      (canon_row 7 bound_canon
+      (canon_row 8 checked_canon canon_fail))))))))
 
   pub body_end : (s : List ℕ) {f : Frame} {t : List ℕ} → read_body version s ≡ ok f t → t ≡ []
   unfolding read_body
@@ -210,9 +210,9 @@ module _ (version : ℕ) where
       go (ok a (x ∷ xs)) e = cc
       go (bad x) e = cc
 
-  pub body-sound : (s : List ℕ) {f : Frame} {t : List ℕ} → Each Byte s → read_body version s ≡ ok f t → (s ≡ body_bytes f) × TakenFrame version f
+  pub body_sound : (s : List ℕ) {f : Frame} {t : List ℕ} → Each Byte s → read_body version s ≡ ok f t → (s ≡ body_bytes f) × TakenFrame version f
   unfolding read_body
-  body-sound s {f} {t} h = go (read_fields version s) (fields-canon.reads s h)
+  body_sound s {f} {t} h = go (read_fields version s) (fields_canon.reads s h)
     where
       go : (r : Res Frame) → Was body_bytes (TakenFrame version) s r → and_then r at_end ≡ ok f t → (s ≡ body_bytes f) × TakenFrame version f
       go (ok a []) w e =
@@ -293,7 +293,7 @@ decode_sound version w {f} {used} h e =
     let left = length-drop 4 w in
     let fits : n ≤ length (drop 4 w) = omega (arith, t.fits) in
     let each = bytes_each w h in
-    let sound : (b ≡ body_bytes f) × TakenFrame version f = body-sound version b (each_take n (drop 4 w) (each_drop 4 w each)) t.whole in
+    let sound : (b ≡ body_bytes f) × TakenFrame version f = body_sound version b (each_take n (drop 4 w) (each_drop 4 w each)) t.whole in
     let count : length (body_bytes f) ≡ n = ap length (sym sound.0) ∙ length-take-le n (drop 4 w) fits in
     let four : length (take 4 w) ≡ 4 = length-take-le 4 w t.four in
     let front : take 4 w ≡ bytes_of 4 n = sym (rw four at (bytes_le (take 4 w) (each_take 4 w each))) in

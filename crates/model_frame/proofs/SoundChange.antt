@@ -31,76 +31,76 @@ unfolding read_marks
 marks_canon = canon_then text_canon (λ t h. canon_test (is_marks t) t bad_marks refl (λ e. (h.0, both h.1 e)))
 
 module _ (version : ℕ) where
-  set-incoming-canon : Canon (1 ∷ []) set_incoming_fields change_bytes (TakenChange version)
+  set_incoming_canon : Canon (1 ∷ []) set_incoming_fields change_bytes (TakenChange version)
   unfolding set_incoming_fields change_bytes
-  set-incoming-canon = canon_then (num_canon 8) (λ n h. canon_done refl ((h, refl), tt))
+  set_incoming_canon = canon_then (num_canon 8) (λ n h. canon_done refl ((h, refl), tt))
 
-  set-incoming-in-flight-canon : Canon (2 ∷ []) set_incoming_in_flight_fields change_bytes (TakenChange version)
+  set_incoming_in_flight_canon : Canon (2 ∷ []) set_incoming_in_flight_fields change_bytes (TakenChange version)
   unfolding set_incoming_in_flight_fields change_bytes
-  set-incoming-in-flight-canon = canon_then (num_canon 8) (λ n h. canon_then (num_canon 8) (λ f k. canon_done refl (((h, k), refl), tt)))
+  set_incoming_in_flight_canon = canon_then (num_canon 8) (λ n h. canon_then (num_canon 8) (λ f k. canon_done refl (((h, k), refl), tt)))
 
-  set-in-flight-canon : Canon (3 ∷ []) set_in_flight_fields change_bytes (TakenChange version)
+  set_in_flight_canon : Canon (3 ∷ []) set_in_flight_fields change_bytes (TakenChange version)
   unfolding set_in_flight_fields change_bytes
-  set-in-flight-canon = canon_then (num_canon 8) (λ n h. canon_done refl ((h, refl), tt))
+  set_in_flight_canon = canon_then (num_canon 8) (λ n h. canon_done refl ((h, refl), tt))
 
-  record-msg-canon : Canon (4 ∷ []) record_msg_fields change_bytes (TakenChange version)
+  record_msg_canon : Canon (4 ∷ []) record_msg_fields change_bytes (TakenChange version)
   unfolding record_msg_fields change_bytes
-  record-msg-canon = canon_then (num_canon 8) (λ n h. canon_then blob_canon (λ m k. canon_done refl (((h, k.0), refl), k.1)))
+  record_msg_canon = canon_then (num_canon 8) (λ n h. canon_then blob_canon (λ m k. canon_done refl (((h, k.0), refl), k.1)))
 
-  record-bare-canon : Canon (5 ∷ []) record_bare_fields change_bytes (TakenChange version)
+  record_bare_canon : Canon (5 ∷ []) record_bare_fields change_bytes (TakenChange version)
   unfolding record_bare_fields change_bytes
-  record-bare-canon = canon_then (num_canon 8) (λ n h. canon_done refl ((h, refl), tt))
+  record_bare_canon = canon_then (num_canon 8) (λ n h. canon_done refl ((h, refl), tt))
 
-  reset-canon : Canon (6 ∷ []) (pure reset) change_bytes (TakenChange version)
+  reset_canon : Canon (6 ∷ []) (pure reset) change_bytes (TakenChange version)
   unfolding change_bytes
-  reset-canon = canon_done refl ((tt, refl), tt)
+  reset_canon = canon_done refl ((tt, refl), tt)
 
-  set-created-at-canon : Canon (7 ∷ []) (set_created_at_fields version) change_bytes (TakenChange version)
+  set_created_at_canon : Canon (7 ∷ []) (set_created_at_fields version) change_bytes (TakenChange version)
   unfolding set_created_at_fields change_bytes
-  set-created-at-canon = canon_then (stamp_canon version) (λ t h. canon_done refl ((h.0.0, h.1), h.0.1))
+  set_created_at_canon = canon_then (stamp_canon version) (λ t h. canon_done refl ((h.0.0, h.1), h.0.1))
 
-  set-marks-canon : Canon (8 ∷ []) set_marks_fields change_bytes (TakenChange version)
+  set_marks_canon : Canon (8 ∷ []) set_marks_fields change_bytes (TakenChange version)
   unfolding set_marks_fields change_bytes
-  set-marks-canon = canon_then marks_canon (λ t h. canon_done refl ((h.0.0, h.1), h.0.1))
+  set_marks_canon = canon_then marks_canon (λ t h. canon_done refl ((h.0.0, h.1), h.0.1))
 
-  pub change-canon : Canon [] (read_change version) change_bytes (TakenChange version)
+  pub change_canon : Canon [] (read_change version) change_bytes (TakenChange version)
   unfolding read_change
-  change-canon =
+  change_canon =
       canon_then byte_canon
       (λ k h.
-      canon_row 1 set-incoming-canon
-      (canon_row 2 set-incoming-in-flight-canon
-      (canon_row 3 set-in-flight-canon
-      (canon_row 4 record-msg-canon
-      (canon_row 5 record-bare-canon
-      (canon_row 6 reset-canon
-      (canon_row 7 set-created-at-canon
-      (canon_row 8 set-marks-canon canon_fail))))))))
+      canon_row 1 set_incoming_canon
+      (canon_row 2 set_incoming_in_flight_canon
+      (canon_row 3 set_in_flight_canon
+      (canon_row 4 record_msg_canon
+      (canon_row 5 record_bare_canon
+      (canon_row 6 reset_canon
+      (canon_row 7 set_created_at_canon
+      (canon_row 8 set_marks_canon canon_fail))))))))
 
-  pub taken-ranged : (cs : List Change) → Each (TakenChange version) cs → Each RangedChange cs
-  taken-ranged [] h = tt
-  taken-ranged (c ∷ cs) h = (h.0.0.0, taken-ranged cs h.1)
+  pub taken_ranged : (cs : List Change) → Each (TakenChange version) cs → Each RangedChange cs
+  taken_ranged [] h = tt
+  taken_ranged (c ∷ cs) h = (h.0.0.0, taken_ranged cs h.1)
 
   pub taken_fine : (cs : List Change) → Each (TakenChange version) cs → all_fine version cs ≡ true
   taken_fine [] h = refl
   taken_fine (c ∷ cs) h = both h.0.0.1 (taken_fine cs h.1)
 
-  pub taken-blob : (cs : List Change) → Each (TakenChange version) cs → Each ByteChange cs
-  taken-blob [] h = tt
-  taken-blob (c ∷ cs) h = (h.0.1, taken-blob cs h.1)
+  pub taken_blob : (cs : List Change) → Each (TakenChange version) cs → Each ByteChange cs
+  taken_blob [] h = tt
+  taken_blob (c ∷ cs) h = (h.0.1, taken_blob cs h.1)
 
   -- the changes of a run
-  pub taken-sendable : (cs : List Change) → Each (TakenChange version) cs → Each (Sendable version) cs
-  taken-sendable [] h = tt
-  taken-sendable (c ∷ cs) h = (h.0.0, taken-sendable cs h.1)
+  pub taken_sendable : (cs : List Change) → Each (TakenChange version) cs → Each (Sendable version) cs
+  taken_sendable [] h = tt
+  taken_sendable (c ∷ cs) h = (h.0.0, taken_sendable cs h.1)
 
   -- one change, and a run of them, read from bytes
-  pub change-sound : (s : List ℕ) {c : Change} {t : List ℕ} → T (is_bytes s) → read_change version s ≡ ok c t → (s ≡ change_bytes c ++ t) × TakenChange version c × T (is_bytes t)
-  change-sound s {c} {t} h e =
-      let w : Was change_bytes (TakenChange version) s (ok c t) = rw e at (change-canon.reads s (bytes_each s h)) in
+  pub change_sound : (s : List ℕ) {c : Change} {t : List ℕ} → T (is_bytes s) → read_change version s ≡ ok c t → (s ≡ change_bytes c ++ t) × TakenChange version c × T (is_bytes t)
+  change_sound s {c} {t} h e =
+      let w : Was change_bytes (TakenChange version) s (ok c t) = rw e at (change_canon.reads s (bytes_each s h)) in
       (w.0, w.1, each_bytes t w.2)
 
-  pub changes-sound : (n : ℕ) (s : List ℕ) {cs : List Change} {t : List ℕ} → T (is_bytes s) → many n (read_change version) s ≡ ok cs t → (s ≡ run_bytes change_bytes cs ++ t) × Run (TakenChange version) n cs × T (is_bytes t)
-  changes-sound n s {cs} {t} h e =
-      let w : Was (run_bytes change_bytes) (Run (TakenChange version) n) s (ok cs t) = rw e at ((run_canon change-canon n).reads s (bytes_each s h)) in
+  pub changes_sound : (n : ℕ) (s : List ℕ) {cs : List Change} {t : List ℕ} → T (is_bytes s) → many n (read_change version) s ≡ ok cs t → (s ≡ run_bytes change_bytes cs ++ t) × Run (TakenChange version) n cs × T (is_bytes t)
+  changes_sound n s {cs} {t} h e =
+      let w : Was (run_bytes change_bytes) (Run (TakenChange version) n) s (ok cs t) = rw e at ((run_canon change_canon n).reads s (bytes_each s h)) in
       (w.0, w.1, each_bytes t w.2)

@@ -120,8 +120,8 @@ module _ (d s : ℕ) (a : Attempt) (more : List Attempt) (lost : loses (end_from
       let p : a ≡ b = cc in
       absurd (none (record { before = []; by = b; later = bs; split = refl; lost = rw p at lost }))
 
-  told-lost : (last : ℕ) → Told d s (a ∷ more) (gone d (end_from s d) last)
-  told-lost last = record {
+  told_lost : (last : ℕ) → Told d s (a ∷ more) (gone d (end_from s d) last)
+  told_lost last = record {
     lost_by = λ _. here;
     lost_if = λ _. refl;
     end_held = λ e. absurd (true≢false e);
@@ -136,16 +136,16 @@ module _ (d s : ℕ) (a : Attempt) (kept : loses (end_from s d) a.now a.outcome 
   push : (all : List Attempt) → Loss d next all → Loss d s (a ∷ all)
   push all x = record { before = a ∷ x.before; by = x.by; later = x.later; split = ap (λ (l : List Attempt). a ∷ l) x.split; lost = x.lost }
 
-  pop-at : (all before : List Attempt) (by : Attempt) (later : List Attempt) → a ∷ all ≡ before ++ (by ∷ later) → loses (end_from (last_start s before) d) by.now by.outcome ≡ true → Loss d next all
-  pop-at all [] by later e t =
+  pop_at : (all before : List Attempt) (by : Attempt) (later : List Attempt) → a ∷ all ≡ before ++ (by ∷ later) → loses (end_from (last_start s before) d) by.now by.outcome ≡ true → Loss d next all
+  pop_at all [] by later e t =
       let p : by ≡ a = cc in
       absurd (true≢false (sym (rw p at t) ∙ kept))
-  pop-at all (b ∷ bs) by later e t =
+  pop_at all (b ∷ bs) by later e t =
       let p : b ≡ a = cc in
       record { before = bs; by = by; later = later; split = cc; lost = rw p at t }
 
   pop : (all : List Attempt) → Loss d s (a ∷ all) → Loss d next all
-  pop all x = pop-at all x.before x.by x.later x.split x.lost
+  pop all x = pop_at all x.before x.by x.later x.split x.lost
 
   module _ (all : List Attempt) (l : Lease) (t : Told d next all l) where
     ended : (before : List Attempt) (by : Attempt) (later : List Attempt) → a ∷ all ≡ before ++ (by ∷ later) → loses (end_from (last_start s before) d) by.now by.outcome ≡ true
@@ -157,9 +157,9 @@ module _ (d s : ℕ) (a : Attempt) (kept : loses (end_from s d) a.now a.outcome 
         let p : b ≡ a = cc in
         rw p (t.end_lost (record { loss = record { before = bs; by = by; later = later; split = cc; lost = rw p at lost }; none_before = λ y. none (rw p (push bs y)) }))
 
-    told-held : Told d s (a ∷ all) l
+    told_held : Told d s (a ∷ all) l
     unfolding push
-    told-held = record {
+    told_held = record {
       lost_by = λ e. let f = t.lost_by e in record { loss = push all f.loss; none_before = λ y. f.none_before (pop f.loss.before y) };
       lost_if = λ x. t.lost_if (pop all x);
       end_held = λ e. t.end_held e;
@@ -188,8 +188,8 @@ told_question d s last now cs more =
 told_taken : (d s last : ℕ) (a : Attempt) (cs : List LeaseCall) → ((s' : ℕ) → Tells d s' a.now cs) → Told d s (a ∷ attempts a.now cs) (run (after (holding d s last) a) cs)
 told_taken d s last a cs more =
     by_cases (Told d s (a ∷ attempts a.now cs) (run (after (holding d s last) a) cs)) (loses (end_from s d) a.now a.outcome)
-    (λ t. rw (loses_it d s last a.start a.now a.outcome t, gone_stays) (told-lost d s a (attempts a.now cs) t (last_time a.now cs)))
-    (λ f. rw (holds d s last a.start a.now a.outcome f) (told-held d s a f (attempts a.now cs) (run (holding d (start_after s a.start a.outcome) a.now) cs) (more (start_after s a.start a.outcome))))
+    (λ t. rw (loses_it d s last a.start a.now a.outcome t, gone_stays) (told_lost d s a (attempts a.now cs) t (last_time a.now cs)))
+    (λ f. rw (holds d s last a.start a.now a.outcome f) (told_held d s a f (attempts a.now cs) (run (holding d (start_after s a.start a.outcome) a.now) cs) (more (start_after s a.start a.outcome))))
 
 told_attempted : (d s last : ℕ) (a : Attempt) (cs : List LeaseCall) → ((s' t : ℕ) → Tells d s' t cs) → Tells d s last (attempted a ∷ cs)
 told_attempted d s last a cs more =

@@ -25,23 +25,23 @@ names h (stale m) = false
 
 -- a call about another handle changes nothing of this one's
 module _ (h : ℕ) (past : List QuorumCall) where
-  bound-same : (c : QuorumCall) → names h c ≡ false → is_bound h (c ∷ past) ≡ is_bound h past
-  bound-same (bind g) e = rw e refl
-  bound-same (sent g x) e = refl
-  bound-same (ack m g x) e = refl
-  bound-same (stale m) e = refl
+  bound_same : (c : QuorumCall) → names h c ≡ false → is_bound h (c ∷ past) ≡ is_bound h past
+  bound_same (bind g) e = rw e refl
+  bound_same (sent g x) e = refl
+  bound_same (ack m g x) e = refl
+  bound_same (stale m) e = refl
 
-  sent-same : (c : QuorumCall) → names h c ≡ false → last_sent h (c ∷ past) ≡ last_sent h past
-  sent-same (bind g) e = rw e refl
-  sent-same (sent g x) e = rw e refl
-  sent-same (ack m g x) e = refl
-  sent-same (stale m) e = refl
+  sent_same : (c : QuorumCall) → names h c ≡ false → last_sent h (c ∷ past) ≡ last_sent h past
+  sent_same (bind g) e = rw e refl
+  sent_same (sent g x) e = rw e refl
+  sent_same (ack m g x) e = refl
+  sent_same (stale m) e = refl
 
-  acked-same : (m x : ℕ) (c : QuorumCall) → names h c ≡ false → has_acked h m x (c ∷ past) ≡ has_acked h m x past
-  acked-same m x (bind g) e = rw e refl
-  acked-same m x (sent g y) e = refl
-  acked-same m x (ack l g y) e = rw e refl
-  acked-same m x (stale l) e = refl
+  acked_same : (m x : ℕ) (c : QuorumCall) → names h c ≡ false → has_acked h m x (c ∷ past) ≡ has_acked h m x past
+  acked_same m x (bind g) e = rw e refl
+  acked_same m x (sent g y) e = refl
+  acked_same m x (ack l g y) e = rw e refl
+  acked_same m x (stale l) e = refl
 
 pub live : (past : List QuorumCall) → is_deposed past ≡ false → until_deposed past ≡ past
 live [] e = refl
@@ -60,20 +60,20 @@ module _ (n k h : ℕ) where
   counts_same zero xs ys x f = refl
   counts_same (suc i) xs ys x f = rw (f i, counts_same i xs ys x f) refl
 
-  figure-same : {xs ys : List QuorumCall} {f : ℕ} → ((m x : ℕ) → 0 < x → has_acked h m x ys ≡ has_acked h m x xs) → Figure n k h xs f → Figure n k h ys f
-  figure-same {xs} {ys} {f} s g = record {
+  figure_same : {xs ys : List QuorumCall} {f : ℕ} → ((m x : ℕ) → 0 < x → has_acked h m x ys ≡ has_acked h m x xs) → Figure n k h xs f → Figure n k h ys f
+  figure_same {xs} {ys} {f} s g = record {
     held = λ more. subst (λ (c : ℕ). k ≤ c) (sym (counts_same n xs ys f (λ m. s m f more))) (g.held more);
     largest = λ y more e. g.largest y more (subst (λ (c : ℕ). k ≤ c) (counts_same n xs ys y (λ m. s m y more)) e);
   }
 
   -- after one call more that tells nothing new of who acknowledged what
-  figure-on : (past : List QuorumCall) (f : ℕ) (c : QuorumCall) → (is_deposed past ≡ false → (m x : ℕ) → 0 < x → has_acked h m x (c ∷ past) ≡ has_acked h m x past)
+  figure_on : (past : List QuorumCall) (f : ℕ) (c : QuorumCall) → (is_deposed past ≡ false → (m x : ℕ) → 0 < x → has_acked h m x (c ∷ past) ≡ has_acked h m x past)
       → Figure n k h (until_deposed past) f → Figure n k h (until_deposed (c ∷ past)) f
-  figure-on past f c s g = go (is_deposed (c ∷ past)) refl
+  figure_on past f c s g = go (is_deposed (c ∷ past)) refl
     where
       go : (b : Bool) → is_deposed (c ∷ past) ≡ b → Figure n k h (until_deposed (c ∷ past)) f
       go true d = rw d g
-      go false d = rw d (figure-same (s (live_before c past d)) (subst (λ (l : List QuorumCall). Figure n k h l f) (live past (live_before c past d)) g))
+      go false d = rw d (figure_same (s (live_before c past d)) (subst (λ (l : List QuorumCall). Figure n k h l f) (live past (live_before c past d)) g))
 
   -- what is kept of the handle
   pub record Known (past : List QuorumCall) (c : Count) : Type 0 where
@@ -94,15 +94,15 @@ module _ (n k h : ℕ) where
   -- a call about another handle
   pub others : (past : List QuorumCall) (c : QuorumCall) (o : Option Count) → names h c ≡ false → Joined past o → Joined (c ∷ past) o
   others past c none e j = record {
-    unbound = bound-same h past c e ∙ j.unbound;
-    figure = figure-on past 0 c (λ _ m x _. acked-same h past m x c e) j.figure;
+    unbound = bound_same h past c e ∙ j.unbound;
+    figure = figure_on past 0 c (λ _ m x _. acked_same h past m x c e) j.figure;
   }
   others past c (some d) e j = record {
-    bound = bound-same h past c e ∙ j.bound;
-    last = j.last ∙ sym (sent-same h past c e);
+    bound = bound_same h past c e ∙ j.bound;
+    last = j.last ∙ sym (sent_same h past c e);
     five = j.five;
-    acked = λ l m x less more. j.acked (live_before c past l) m x less more ∙ sym (acked-same h past m x c e);
-    figure = figure-on past d.figure c (λ _ m x _. acked-same h past m x c e) j.figure;
+    acked = λ l m x less more. j.acked (live_before c past l) m x less more ∙ sym (acked_same h past m x c e);
+    figure = figure_on past d.figure c (λ _ m x _. acked_same h past m x c e) j.figure;
   }
 
   -- its own calls: nobody acknowledged anything right after a binding
@@ -158,7 +158,7 @@ module _ (n k h : ℕ) where
       last = rw (same_so h) refl;
       five = j.five;
       acked = j.acked;
-      figure = figure-on past c.figure (sent h x) (λ _ m y _. refl) j.figure;
+      figure = figure_on past c.figure (sent h x) (λ _ m y _. refl) j.figure;
     }
 
     -- who acknowledged what, with one Ack more
@@ -172,7 +172,7 @@ module _ (n k h : ℕ) where
       last = j.last;
       five = j.five;
       acked = λ e m y within more. j.acked e m y within more ∙ sym (same e m y more);
-      figure = figure-on past c.figure (ack l h x) same j.figure;
+      figure = figure_on past c.figure (ack l h x) same j.figure;
     }
       where
         same : is_deposed past ≡ false → (m y : ℕ) → 0 < y → has_acked h m y (ack l h x ∷ past) ≡ has_acked h m y past

@@ -38,7 +38,8 @@ no_fewer zero h x c past e = omega arith
 no_fewer (suc n) h x c past e = go (has_acked h n x past) refl (no_fewer n h x c past e)
   where
     go : (b : Bool) → has_acked h n x past ≡ b → acked_by n h x past ≤ acked_by n h x (c ∷ past) → cond (has_acked h n x past) 1 0 + acked_by n h x past ≤ cond (has_acked h n x (c ∷ past)) 1 0 + acked_by n h x (c ∷ past)
-    go true t ih = rw (t, still h n x c past e t) (omega arith)
+    go true t ih =
+        rw t (subst (λ (b : Bool). 1 + acked_by n h x past ≤ cond b 1 0 + acked_by n h x (c ∷ past)) (sym (still h n x c past e t)) (omega arith))
     go false t ih = rw t (omega arith)
 
 pub never_falls : {n k h x y : ℕ} {past : List QuorumCall} (c : QuorumCall) → is_bind h c ≡ false → Figure n k h past x → Figure n k h (c ∷ past) y → x ≤ y
@@ -51,42 +52,42 @@ never_falls {n} {k} {h} {x} {y} {past} c e f g = go x refl
 -- ---- any k - 1 members lost, one is left that acknowledged it or a later one
 
 module _ (h x : ℕ) (past : List QuorumCall) where
-  abbrev leftBy : ℕ → List ℕ → ℕ
-  leftBy zero lost = 0
-  leftBy (suc n) lost = cond (has_acked h n x past && not (is_lost n lost)) 1 0 + leftBy n lost
+  abbrev left_by : ℕ → List ℕ → ℕ
+  left_by zero lost = 0
+  left_by (suc n) lost = cond (has_acked h n x past && not (is_lost n lost)) 1 0 + left_by n lost
 
-  none-lost : (n : ℕ) → acked_by n h x past ≤ leftBy n []
-  none-lost zero = omega arith
-  none-lost (suc n) = go (has_acked h n x past) (none-lost n)
+  none_lost : (n : ℕ) → acked_by n h x past ≤ left_by n []
+  none_lost zero = omega arith
+  none_lost (suc n) = go (has_acked h n x past) (none_lost n)
     where
-      go : (b : Bool) → acked_by n h x past ≤ leftBy n [] → cond b 1 0 + acked_by n h x past ≤ cond (b && true) 1 0 + leftBy n []
+      go : (b : Bool) → acked_by n h x past ≤ left_by n [] → cond b 1 0 + acked_by n h x past ≤ cond (b && true) 1 0 + left_by n []
       go true ih = omega arith
       go false ih = omega arith
 
   -- one more lost matters for one member only
-  same-below : (n l : ℕ) (ls : List ℕ) → n ≤ l → leftBy n (l ∷ ls) ≡ leftBy n ls
-  same-below zero l ls h = refl
-  same-below (suc n) l ls low =
+  same_below : (n l : ℕ) (ls : List ℕ) → n ≤ l → left_by n (l ∷ ls) ≡ left_by n ls
+  same_below zero l ls h = refl
+  same_below (suc n) l ls low =
       let o : eqb n l ≡ false = ne_eqb n l (λ e. omega arith) in
-      rw (o, same-below n l ls (omega arith)) refl
+      rw (o, same_below n l ls (omega arith)) refl
 
-  one-lost : (n l : ℕ) (ls : List ℕ) → leftBy n ls ≤ suc (leftBy n (l ∷ ls))
-  one-lost zero l ls = omega arith
-  one-lost (suc n) l ls = go (eqb n l) refl (one-lost n l ls)
+  one_lost : (n l : ℕ) (ls : List ℕ) → left_by n ls ≤ suc (left_by n (l ∷ ls))
+  one_lost zero l ls = omega arith
+  one_lost (suc n) l ls = go (eqb n l) refl (one_lost n l ls)
     where
       most : (b : Bool) → cond b 1 0 ≤ 1
       most true = omega arith
       most false = omega arith
 
-      go : (b : Bool) → eqb n l ≡ b → leftBy n ls ≤ suc (leftBy n (l ∷ ls)) → leftBy (suc n) ls ≤ suc (leftBy (suc n) (l ∷ ls))
-      go true e ih = omega (arith, most (has_acked h n x past && not (is_lost n ls)), same-below n l ls (omega (arith, eqb-true n l e)))
+      go : (b : Bool) → eqb n l ≡ b → left_by n ls ≤ suc (left_by n (l ∷ ls)) → left_by (suc n) ls ≤ suc (left_by (suc n) (l ∷ ls))
+      go true e ih = omega (arith, most (has_acked h n x past && not (is_lost n ls)), same_below n l ls (omega (arith, eqb-true n l e)))
       go false e ih = rw e (omega arith)
 
-  enough : (n : ℕ) (lost : List ℕ) → acked_by n h x past ≤ length lost + leftBy n lost
-  enough n [] = omega (arith, none-lost n)
-  enough n (l ∷ ls) = omega (arith, enough n ls, one-lost n l ls)
+  enough : (n : ℕ) (lost : List ℕ) → acked_by n h x past ≤ length lost + left_by n lost
+  enough n [] = omega (arith, none_lost n)
+  enough n (l ∷ ls) = omega (arith, enough n ls, one_lost n l ls)
 
-  pick : (n : ℕ) (lost : List ℕ) → 0 < leftBy n lost → Left h x past n lost
+  pick : (n : ℕ) (lost : List ℕ) → 0 < left_by n lost → Left h x past n lost
   pick zero lost more = absurd (no more)
     where
       no : 0 < 0 → ⊥
@@ -96,7 +97,7 @@ module _ (h x : ℕ) (past : List QuorumCall) where
       wider : Left h x past n lost → Left h x past (suc n) lost
       wider z = record { member = z.member; among = omega (arith, z.among); kept = z.kept; acked = z.acked }
 
-      go : (a : Bool) → has_acked h n x past ≡ a → (b : Bool) → is_lost n lost ≡ b → 0 < cond (a && not b) 1 0 + leftBy n lost → (0 < leftBy n lost → Left h x past n lost) → Left h x past (suc n) lost
+      go : (a : Bool) → has_acked h n x past ≡ a → (b : Bool) → is_lost n lost ≡ b → 0 < cond (a && not b) 1 0 + left_by n lost → (0 < left_by n lost → Left h x past n lost) → Left h x past (suc n) lost
       go true e false f more ih = record { member = n; among = omega arith; kept = f; acked = e }
       go true e true f more ih = wider (ih (omega arith))
       go false e b f more ih = wider (ih (omega arith))
@@ -115,14 +116,14 @@ module _ (n : ℕ) (h : ℕ) where
   abbrev Sent : List QuorumCall → Type 0
   Sent past = (m x : ℕ) → has_acked h m x past ≡ true → x ≤ last_sent h past
 
-  keeps-sent : (past : List QuorumCall) (c : QuorumCall) → refusal_of n past c ≡ 0 → Sent past → Sent (c ∷ past)
+  keeps_sent : (past : List QuorumCall) (c : QuorumCall) → refusal_of n past c ≡ 0 → Sent past → Sent (c ∷ past)
   unfolding refusal_of
-  keeps-sent past (bind g) e s m x t = go (eqb h g) t
+  keeps_sent past (bind g) e s m x t = go (eqb h g) t
     where
       go : (b : Bool) → cond b false (has_acked h m x past) ≡ true → x ≤ cond b 0 (last_sent h past)
       go true t = absurd (true≢false (sym t))
       go false t = s m x t
-  keeps-sent past (sent g y) e s m x t = go (eqb h g) refl (is_bound g past) (eqb y (suc (last_sent g past))) refl e
+  keeps_sent past (sent g y) e s m x t = go (eqb h g) refl (is_bound g past) (eqb y (suc (last_sent g past))) refl e
     where
       no : ◌≡◌ {A = ℕ} 38 0 → ⊥
       no z = omega arith
@@ -137,7 +138,7 @@ module _ (n : ℕ) (h : ℕ) where
       go true q true false d z = absurd (no z)
       go true q false d e z = absurd (no' z)
       go false q c d e z = s m x t
-  keeps-sent past (ack l g y) e s m x t = go (eqb h g) refl (eqb m l) (leb x y) refl t (ltb l n) (is_bound g past) (leb 1 y && leb y (last_sent g past)) refl e
+  keeps_sent past (ack l g y) e s m x t = go (eqb h g) refl (eqb m l) (leb x y) refl t (ltb l n) (is_bound g past) (leb 1 y && leb y (last_sent g past)) refl e
     where
       no : ◌≡◌ {A = ℕ} 38 0 → ⊥
       no z = omega arith
@@ -155,24 +156,24 @@ module _ (n : ℕ) (h : ℕ) where
       go true q true false r t d f i u z = s m x t
       go true q false c r t d f i u z = s m x t
       go false q b c r t d f i u z = s m x t
-  keeps-sent past (stale l) e s m x t = s m x t
+  keeps_sent past (stale l) e s m x t = s m x t
 
-  all-sent : (calls : List QuorumCall) → Sent (accepted n calls)
-  all-sent [] = λ m x t. absurd (true≢false (sym t))
-  all-sent (c ∷ calls) = go (eqb (refusal_of n (accepted n calls) c) 0) refl (all-sent calls)
+  all_sent : (calls : List QuorumCall) → Sent (accepted n calls)
+  all_sent [] = λ m x t. absurd (true≢false (sym t))
+  all_sent (c ∷ calls) = go (eqb (refusal_of n (accepted n calls) c) 0) refl (all_sent calls)
     where
       go : (b : Bool) → eqb (refusal_of n (accepted n calls) c) 0 ≡ b → Sent (accepted n calls) → Sent (cond b (c ∷ accepted n calls) (accepted n calls))
-      go true e s = keeps-sent (accepted n calls) c (eqb-true (refusal_of n (accepted n calls) c) 0 e) s
+      go true e s = keeps_sent (accepted n calls) c (eqb-true (refusal_of n (accepted n calls) c) 0 e) s
       go false e s = s
 
-  pub was-sent : {k x : ℕ} (calls : List QuorumCall) → 1 ≤ k → Figure n k h (accepted n calls) x → x ≤ last_sent h (accepted n calls)
-  was-sent {k} {x} calls some f = go x refl
+  pub was_sent : {k x : ℕ} (calls : List QuorumCall) → 1 ≤ k → Figure n k h (accepted n calls) x → x ≤ last_sent h (accepted n calls)
+  was_sent {k} {x} calls some f = go x refl
     where
       go : (z : ℕ) → x ≡ z → x ≤ last_sent h (accepted n calls)
       go zero z = omega arith
       go (suc z') z =
           let l = one_left h x (accepted n calls) [] (omega arith) f (omega arith) in
-          all-sent calls l.member x l.acked
+          all_sent calls l.member x l.acked
 
 -- ---- of one member it is the highest number acknowledged
 

@@ -12,7 +12,7 @@ use Rattle.model_text.specs.Printable.{is_printable, is_marks}
 use Rattle.model_text.specs.Stamp.{is_stamp}
 use Rattle.model_frame.specs.Frame.{Change, set_incoming, set_incoming_in_flight, set_in_flight, record_msg, record_bare, reset, set_created_at, set_marks}
 use Rattle.model_frame.specs.Parse.{Each}
-use Rattle.model_session.specs.Session.{Session, Msg, new_session, stored_bytes, hasSpace, evict, keep, apply, applyAll, fits, Rising, is_bytes, Holdable, is_stamp_or_none, Storable, top}
+use Rattle.model_session.specs.Session.{Session, Msg, new_session, stored_bytes, has_space_lem, evict, keep, apply, apply_all, fits, Rising, is_bytes, Holdable, is_stamp_or_none, Storable, top}
 use Rattle.model_session.proofs.Basics.{T→true, true→T, and_l, and_r, cond_cases, leb_true}
 use Rattle.model_session.proofs.Sending.{total_append}
 use Rattle.model_session.proofs.Longest.{evict_space}
@@ -30,11 +30,11 @@ rising_snoc a [] m h w r = (h, le_refl (suc m.num), w, tt)
 rising_snoc a (x ∷ ms) m h w r = (r.0, omega (arith, r.1), r.2, rising_snoc (suc x.num) ms m r.1 w r.3)
 
 module _ (C M : ℕ) where
-  evict-rises : (a N n : ℕ) (ms : List Msg) → Rising a N ms → Rising a N (evict C M n ms)
-  evict-rises a N n [] r = r
-  evict-rises a N n (m ∷ ms) r =
-      cond_cases (Rising a N) (hasSpace C M n (m ∷ ms)) (λ _. r)
-      (λ _. rising_lower a (suc m.num) N (evict C M n ms) (omega (arith, r.0)) (evict-rises (suc m.num) N n ms r.3))
+  evict_rises : (a N n : ℕ) (ms : List Msg) → Rising a N ms → Rising a N (evict C M n ms)
+  evict_rises a N n [] r = r
+  evict_rises a N n (m ∷ ms) r =
+      cond_cases (Rising a N) (has_space_lem C M n (m ∷ ms)) (λ _. r)
+      (λ _. rising_lower a (suc m.num) N (evict C M n ms) (omega (arith, r.0)) (evict_rises (suc m.num) N n ms r.3))
 
   record Kept (N : ℕ) (l : List Msg) : Type 0 where
     rise : Rising 1 N l
@@ -47,7 +47,7 @@ module _ (C M : ℕ) where
       cond_cases (Kept (suc m.num)) (leb (length m.text) C && ltb 0 M)
       (λ t. let r = evict_space C M (length m.text) ms (leb→le (length m.text) C (and_l (leb (length m.text) C) (ltb 0 M) t)) (ltb→lt 0 M (and_r (leb (length m.text) C) (ltb 0 M) t)) in
       record {
-        rise = rising_snoc 1 (evict C M (length m.text) ms) m h w (evict-rises 1 m.num (length m.text) ms k.rise);
+        rise = rising_snoc 1 (evict C M (length m.text) ms) m h w (evict_rises 1 m.num (length m.text) ms k.rise);
         fit = omega (arith, total_append (evict C M (length m.text) ms) (m ∷ []), r.0);
         count = omega (arith, length-append (evict C M (length m.text) ms) (m ∷ []), r.1);
       })
@@ -93,7 +93,7 @@ module _ (C M : ℕ) where
       stamp_or (y ∷ ys) t = t
   apply_keeps (set_marks m) cs s h o f = (record { stamp_ok = h.stamp_ok; out_low = h.out_low; out_high = h.out_high; inc_high = h.inc_high; flight_high = h.flight_high; marks_ok = o; msgs_rise = h.msgs_rise; msgs_bytes = h.msgs_bytes; msgs_count = h.msgs_count }, f)
 
-  pub apply_all_keeps : (cs : List Change) (s : Session) → Holdable C M s → Each Storable cs → fits s.next_out cs ≡ true → Holdable C M (applyAll C M cs s)
+  pub apply_all_keeps : (cs : List Change) (s : Session) → Holdable C M s → Each Storable cs → fits s.next_out cs ≡ true → Holdable C M (apply_all C M cs s)
   apply_all_keeps [] s h o f = h
   apply_all_keeps (c ∷ cs) s h o f =
       let k = apply_keeps c cs s h o.0 f in

@@ -10,8 +10,8 @@ use lib.ListN.{length}
 use lib.Dec.{ltb, leb, nltb→le}
 use Rattle.model_frame.specs.Frame.{Change, reset, batch}
 use Rattle.model_session.specs.Session.{Session, Msg, new_session, Rising, Holdable, top}
-use Rattle.model_session.specs.Whole.{stamp_part, send_msg, batch_if, batchesFrom, wholeBatches, frames_of, whole_frames}
-use Rattle.model_session.specs.Sender.{cannotSend, Sender, new_sender, messages_from, sent_part, cutBatch, opening, cutFrom, sendNext, Sends, all_sent, is_next}
+use Rattle.model_session.specs.Whole.{stamp_part, send_msg, batch_if, batches_from, whole_batches, frames_of, whole_frames}
+use Rattle.model_session.specs.Sender.{cannotSend, Sender, new_sender, messages_from, sent_part, cut_batch, opening, cut_from, send_next, Sends, all_sent, is_next}
 use Rattle.model_session.proofs.Basics.{false→not_t, cond-true, cond-false, leb_true, leb_false, ltb_false, none≢some, some_inj}
 
 -- ---- the messages from a number on
@@ -48,34 +48,34 @@ module _ (limit : ℕ) (a : Session) where
   -- what comes after a batch
   abbrev after : Option ℕ → List (List Change)
   after none = []
-  after (some n) = batchesFrom limit a [] 0 n (messages_from n a.messages)
+  after (some n) = batches_from limit a [] 0 n (messages_from n a.messages)
 
   -- a batch cut, then the batches from there on
-  cut-is : (ms : List Msg) (now : List Change) (bytes next : ℕ) → Rising 1 a.next_out a.messages → messages_from next a.messages ≡ ms
-      → batchesFrom limit a now bytes next ms ≡ (cutBatch limit a now bytes next ms).changes ∷ after (cutBatch limit a now bytes next ms).goes_on
-  cut-is [] now bytes next r p = refl
-  cut-is (m ∷ ms) now bytes next r p = go (ltb limit bytes) (cut-is ms (now ++ send_msg next m) (bytes + length m.text) (suc m.num) r (from_tail next 1 a.next_out a.messages m ms r p))
+  cut_is : (ms : List Msg) (now : List Change) (bytes next : ℕ) → Rising 1 a.next_out a.messages → messages_from next a.messages ≡ ms
+      → batches_from limit a now bytes next ms ≡ (cut_batch limit a now bytes next ms).changes ∷ after (cut_batch limit a now bytes next ms).goes_on
+  cut_is [] now bytes next r p = refl
+  cut_is (m ∷ ms) now bytes next r p = go (ltb limit bytes) (cut_is ms (now ++ send_msg next m) (bytes + length m.text) (suc m.num) r (from_tail next 1 a.next_out a.messages m ms r p))
     where
-      fresh : batchesFrom limit a [] 0 next (m ∷ ms) ≡ batchesFrom limit a ([] ++ send_msg next m) (0 + length m.text) (suc m.num) ms
+      fresh : batches_from limit a [] 0 next (m ∷ ms) ≡ batches_from limit a ([] ++ send_msg next m) (0 + length m.text) (suc m.num) ms
       fresh =
-          ap (λ (b : Bool). batch_if b [] (batchesFrom limit a (cond b [] [] ++ send_msg next m) (cond b 0 0 + length m.text) (suc m.num) ms)) (ltb_false {m = limit} {n = 0} (omega arith))
+          ap (λ (b : Bool). batch_if b [] (batches_from limit a (cond b [] [] ++ send_msg next m) (cond b 0 0 + length m.text) (suc m.num) ms)) (ltb_false {m = limit} {n = 0} (omega arith))
 
       go : (b : Bool)
-          → batchesFrom limit a (now ++ send_msg next m) (bytes + length m.text) (suc m.num) ms
-          ≡ (cutBatch limit a (now ++ send_msg next m) (bytes + length m.text) (suc m.num) ms).changes ∷ after (cutBatch limit a (now ++ send_msg next m) (bytes + length m.text) (suc m.num) ms).goes_on
-          → batch_if b now (batchesFrom limit a (cond b [] now ++ send_msg next m) (cond b 0 bytes + length m.text) (suc m.num) ms)
-          ≡ (cond b (record { changes = now; goes_on = some next }) (cutBatch limit a (now ++ send_msg next m) (bytes + length m.text) (suc m.num) ms)).changes
-          ∷ after (cond b (record { changes = now; goes_on = some next }) (cutBatch limit a (now ++ send_msg next m) (bytes + length m.text) (suc m.num) ms)).goes_on
-      go true ih = ap {B = List (List Change)} (λ l. now ∷ l) (sym fresh ∙ ap (batchesFrom limit a [] 0 next) (sym p))
+          → batches_from limit a (now ++ send_msg next m) (bytes + length m.text) (suc m.num) ms
+          ≡ (cut_batch limit a (now ++ send_msg next m) (bytes + length m.text) (suc m.num) ms).changes ∷ after (cut_batch limit a (now ++ send_msg next m) (bytes + length m.text) (suc m.num) ms).goes_on
+          → batch_if b now (batches_from limit a (cond b [] now ++ send_msg next m) (cond b 0 bytes + length m.text) (suc m.num) ms)
+          ≡ (cond b (record { changes = now; goes_on = some next }) (cut_batch limit a (now ++ send_msg next m) (bytes + length m.text) (suc m.num) ms)).changes
+          ∷ after (cond b (record { changes = now; goes_on = some next }) (cut_batch limit a (now ++ send_msg next m) (bytes + length m.text) (suc m.num) ms)).goes_on
+      go true ih = ap {B = List (List Change)} (λ l. now ∷ l) (sym fresh ∙ ap (batches_from limit a [] 0 next) (sym p))
       go false ih = ih
 
   -- a batch goes on from 1 at least
-  cut_on : (ms : List Msg) (now : List Change) (bytes next n : ℕ) → 1 ≤ next → (cutBatch limit a now bytes next ms).goes_on ≡ some n → 1 ≤ n
+  cut_on : (ms : List Msg) (now : List Change) (bytes next n : ℕ) → 1 ≤ next → (cut_batch limit a now bytes next ms).goes_on ≡ some n → 1 ≤ n
   cut_on [] now bytes next n h p = absurd (none≢some p)
   cut_on (m ∷ ms) now bytes next n h p = go (ltb limit bytes) p (cut_on ms (now ++ send_msg next m) (bytes + length m.text) (suc m.num) n (omega arith))
     where
-      go : (b : Bool) → (cond b (record { changes = now; goes_on = some next }) (cutBatch limit a (now ++ send_msg next m) (bytes + length m.text) (suc m.num) ms)).goes_on ≡ some n
-          → ((cutBatch limit a (now ++ send_msg next m) (bytes + length m.text) (suc m.num) ms).goes_on ≡ some n → 1 ≤ n) → 1 ≤ n
+      go : (b : Bool) → (cond b (record { changes = now; goes_on = some next }) (cut_batch limit a (now ++ send_msg next m) (bytes + length m.text) (suc m.num) ms)).goes_on ≡ some n
+          → ((cut_batch limit a (now ++ send_msg next m) (bytes + length m.text) (suc m.num) ms).goes_on ≡ some n → 1 ≤ n) → 1 ≤ n
       go true q ih = subst (λ (x : ℕ). 1 ≤ x) (some_inj q) h
       go false q ih = ih q
 
@@ -85,48 +85,48 @@ module _ (limit : ℕ) (a : Session) where
   sender h e last o = record { handle = h; epoch = e; last = last; from = o }
 
   -- the batches from number n on
-  abbrev batchesAt : ℕ → List (List Change)
-  batchesAt n = batchesFrom limit a (opening limit a n) 0 (max n 1) (messages_from (max n 1) a.messages)
+  abbrev batches_at : ℕ → List (List Change)
+  batches_at n = batches_from limit a (opening limit a n) 0 (max n 1) (messages_from (max n 1) a.messages)
 
-  at_on : (n : ℕ) → 1 ≤ n → after (some n) ≡ batchesAt n
+  at_on : (n : ℕ) → 1 ≤ n → after (some n) ≡ batches_at n
   at_on zero h = absurd (omega arith)
-  at_on (suc n) h = ap (λ (x : ℕ). batchesFrom limit a [] 0 x (messages_from x a.messages)) (let e : suc n ≡ max (suc n) 1 = omega arith in e)
+  at_on (suc n) h = ap (λ (x : ℕ). batches_from limit a [] 0 x (messages_from x a.messages)) (let e : suc n ≡ max (suc n) 1 = omega arith in e)
 
-  sends-from : (bs : List (List Change)) (h e last n : ℕ) → Rising 1 a.next_out a.messages → bs ≡ batchesAt n → Sends limit a (sender h e last (some n)) (frames_of h e last bs)
-  unfolding sendNext
-  sends-from [] h e last n r p = absurd (nil≢cons (p ∙ cut-is (messages_from (max n 1) a.messages) (opening limit a n) 0 (max n 1) r refl))
-  sends-from (b ∷ bs) h e last n r p = go (cutFrom limit a n).goes_on refl bs (tail-eq_of_cons-eq is) (λ m q. sends-from bs h e (suc last) m r q)
+  sends_from : (bs : List (List Change)) (h e last n : ℕ) → Rising 1 a.next_out a.messages → bs ≡ batches_at n → Sends limit a (sender h e last (some n)) (frames_of h e last bs)
+  unfolding send_next
+  sends_from [] h e last n r p = absurd (nil≢cons (p ∙ cut_is (messages_from (max n 1) a.messages) (opening limit a n) 0 (max n 1) r refl))
+  sends_from (b ∷ bs) h e last n r p = go (cut_from limit a n).goes_on refl bs (tail-eq_of_cons-eq is) (λ m q. sends_from bs h e (suc last) m r q)
     where
-      is : b ∷ bs ≡ (cutFrom limit a n).changes ∷ after (cutFrom limit a n).goes_on
-      is = p ∙ cut-is (messages_from (max n 1) a.messages) (opening limit a n) 0 (max n 1) r refl
+      is : b ∷ bs ≡ (cut_from limit a n).changes ∷ after (cut_from limit a n).goes_on
+      is = p ∙ cut_is (messages_from (max n 1) a.messages) (opening limit a n) 0 (max n 1) r refl
 
-      next : (o : Option ℕ) → (cutFrom limit a n).goes_on ≡ o → sendNext limit a (sender h e last (some n)) ≡ some (batch h e (suc last) (sent_part o) b [], sender h e (suc last) o)
+      next : (o : Option ℕ) → (cut_from limit a n).goes_on ≡ o → send_next limit a (sender h e last (some n)) ≡ some (batch h e (suc last) (sent_part o) b [], sender h e (suc last) o)
       next o q =
-          ap (λ (x : List Change). some (batch h e (suc last) (sent_part (cutFrom limit a n).goes_on) x [], sender h e (suc last) (cutFrom limit a n).goes_on)) (sym (head-eq_of_cons-eq is))
+          ap (λ (x : List Change). some (batch h e (suc last) (sent_part (cut_from limit a n).goes_on) x [], sender h e (suc last) (cut_from limit a n).goes_on)) (sym (head-eq_of_cons-eq is))
           ∙ ap (λ (x : Option ℕ). some (batch h e (suc last) (sent_part x) b [], sender h e (suc last) x)) q
 
-      ended : sendNext limit a (sender h e (suc last) none) ≡ none
+      ended : send_next limit a (sender h e (suc last) none) ≡ none
       ended = refl
 
-      go : (o : Option ℕ) → (cutFrom limit a n).goes_on ≡ o → (bs : List (List Change)) → bs ≡ after (cutFrom limit a n).goes_on
-          → ((m : ℕ) → bs ≡ batchesAt m → Sends limit a (sender h e (suc last) (some m)) (frames_of h e (suc last) bs)) → Sends limit a (sender h e last (some n)) (frames_of h e last (b ∷ bs))
+      go : (o : Option ℕ) → (cut_from limit a n).goes_on ≡ o → (bs : List (List Change)) → bs ≡ after (cut_from limit a n).goes_on
+          → ((m : ℕ) → bs ≡ batches_at m → Sends limit a (sender h e (suc last) (some m)) (frames_of h e (suc last) bs)) → Sends limit a (sender h e last (some n)) (frames_of h e last (b ∷ bs))
       go none q [] w ih = is_next (next none q) (all_sent ended)
       go none q (c ∷ cs) w ih = absurd (nil≢cons (sym (w ∙ ap after q)))
-      go (some m) q [] w ih = absurd (nil≢cons (w ∙ ap after q ∙ cut-is (messages_from m a.messages) [] 0 m r refl))
+      go (some m) q [] w ih = absurd (nil≢cons (w ∙ ap after q ∙ cut_is (messages_from m a.messages) [] 0 m r refl))
       go (some m) q (c ∷ cs) w ih =
           is_next (next (some m) q) (ih m (w ∙ ap after q ∙ at_on m (cut_on (messages_from (max n 1) a.messages) (opening limit a n) 0 (max n 1) m (omega arith) q)))
 
 -- from a new sender the calls give the frames that send the session whole
 pub sends_whole : (limit C M h e last : ℕ) (a : Session) → Holdable C M a → Sends limit a (new_sender h e last) (whole_frames limit h e last a)
-unfolding whole_frames wholeBatches
+unfolding whole_frames whole_batches
 sends_whole limit C M h e last a ok =
-    sends-from limit a (wholeBatches limit a) h e last 0 ok.msgs_rise
-    (ap (batchesFrom limit a (reset ∷ stamp_part a.stamp) 0 1) (sym (from_all 1 1 a.next_out a.messages (omega arith) ok.msgs_rise)))
+    sends_from limit a (whole_batches limit a) h e last 0 ok.msgs_rise
+    (ap (batches_from limit a (reset ∷ stamp_part a.stamp) 0 1) (sym (from_all 1 1 a.next_out a.messages (omega arith) ok.msgs_rise)))
 
 -- past 24 the commit numbers stay within their type
-pub can_send : (limit h e last : ℕ) (a : Session) → cannotSend limit a (new_sender h e last) ≡ false → last + length (wholeBatches limit a) ≤ top
+pub can_send : (limit h e last : ℕ) (a : Session) → cannotSend limit a (new_sender h e last) ≡ false → last + length (whole_batches limit a) ≤ top
 unfolding cannotSend
-can_send limit h e last a p = nltb→le top (last + length (wholeBatches limit a)) (false→not_t (ltb top (last + length (wholeBatches limit a))) p)
+can_send limit h e last a p = nltb→le top (last + length (whole_batches limit a)) (false→not_t (ltb top (last + length (whole_batches limit a))) p)
 
 -- a new session is one batch: 24 with the last commit number 2^64 - 1, not with 2^64 - 2, nor after the first frame
 numbers_end :
@@ -135,5 +135,5 @@ numbers_end :
     ∷ cannotSend 1048576 new_session (record { handle = 9; epoch = 5; last = top; from = some 1 })
     ∷ []
     ≡ true ∷ false ∷ false ∷ []
-unfolding cannotSend wholeBatches
+unfolding cannotSend whole_batches
 numbers_end = refl

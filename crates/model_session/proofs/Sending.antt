@@ -16,8 +16,8 @@ use Rattle.model_frame.specs.Parse.{Each}
 use Rattle.model_text.specs.Stamp.{is_stamp, longest_stamp}
 use Rattle.model_text.specs.Printable.{is_marks}
 use Rattle.model_text.proofs.Laws.{stamp_is, marks_is}
-use Rattle.model_session.specs.Session.{Session, Msg, stored_bytes, hasSpace, evict, keep, apply, applyAll, fits, message_bytes, top, Rising, Holdable, is_stamp_or_none}
-use Rattle.model_session.specs.Whole.{hold_length, all_changes, stamp_part, skip_to, send_msg, incoming_part, closing, batch_if, batchesFrom, wholeBatches}
+use Rattle.model_session.specs.Session.{Session, Msg, stored_bytes, has_space_lem, evict, keep, apply, apply_all, fits, message_bytes, top, Rising, Holdable, is_stamp_or_none}
+use Rattle.model_session.specs.Whole.{hold_length, all_changes, stamp_part, skip_to, send_msg, incoming_part, closing, batch_if, batches_from, whole_batches}
 use Rattle.model_session.proofs.Basics.{T→true, and_true, leb_true, ltb_true, eqb_true, cond-true, cond_cases, snoc_append}
 
 -- ---- the changes in one list
@@ -42,34 +42,34 @@ regroup true now S R Q = simp append_assoc
 regroup false now S R Q = simp append_assoc
 
 module _ (limit : ℕ) (a : Session) where
-  joined-from : (now : List Change) (bytes next : ℕ) (ms : List Msg) → all_changes (batchesFrom limit a now bytes next ms) ≡ now ++ (sends next ms ++ closing a (next_after next ms))
-  joined-from now bytes next [] = append-nil (now ++ closing a next)
-  joined-from now bytes next (m ∷ ms) =
+  joined_from : (now : List Change) (bytes next : ℕ) (ms : List Msg) → all_changes (batches_from limit a now bytes next ms) ≡ now ++ (sends next ms ++ closing a (next_after next ms))
+  joined_from now bytes next [] = append-nil (now ++ closing a next)
+  joined_from now bytes next (m ∷ ms) =
       joined_stands (ltb limit bytes) now _
-      ∙ ap (λ (l : List Change). cond (ltb limit bytes) now [] ++ l) (joined-from (cond (ltb limit bytes) [] now ++ send_msg next m) (cond (ltb limit bytes) 0 bytes + length m.text) (suc m.num) ms)
+      ∙ ap (λ (l : List Change). cond (ltb limit bytes) now [] ++ l) (joined_from (cond (ltb limit bytes) [] now ++ send_msg next m) (cond (ltb limit bytes) 0 bytes + length m.text) (suc m.num) ms)
       ∙ regroup (ltb limit bytes) now (send_msg next m) (sends (suc m.num) ms) (closing a (next_after (suc m.num) ms))
 
-  pub joined-whole : all_changes (wholeBatches limit a) ≡ whole_changes a
-  unfolding wholeBatches
-  joined-whole = joined-from (reset ∷ stamp_part a.stamp) 0 1 a.messages
+  pub joined_whole : all_changes (whole_batches limit a) ≡ whole_changes a
+  unfolding whole_batches
+  joined_whole = joined_from (reset ∷ stamp_part a.stamp) 0 1 a.messages
 
 -- ---- (a) applied to any session they give exactly the session sent
 
-apply_all_append : (C M : ℕ) (x y : List Change) (s : Session) → applyAll C M (x ++ y) s ≡ applyAll C M y (applyAll C M x s)
+apply_all_append : (C M : ℕ) (x y : List Change) (s : Session) → apply_all C M (x ++ y) s ≡ apply_all C M y (apply_all C M x s)
 apply_all_append C M [] y s = refl
 apply_all_append C M (c ∷ x) y s = apply_all_append C M x y (apply C M c s)
 
 module _ (C M : ℕ) where
-  evict-none : (n : ℕ) (ms : List Msg) → hasSpace C M n ms ≡ true → evict C M n ms ≡ ms
-  evict-none n [] h = refl
-  evict-none n (m ∷ ms) h = ap (λ (b : Bool). cond b (m ∷ ms) (evict C M n ms)) h
+  evict_none : (n : ℕ) (ms : List Msg) → has_space_lem C M n ms ≡ true → evict C M n ms ≡ ms
+  evict_none n [] h = refl
+  evict_none n (m ∷ ms) h = ap (λ (b : Bool). cond b (m ∷ ms) (evict C M n ms)) h
 
   keep_all : (m : Msg) (ms : List Msg) → stored_bytes ms + length m.text ≤ C → suc (length ms) ≤ M → keep C M m ms ≡ ms ++ (m ∷ [])
   unfolding keep
   keep_all m ms hc hm =
       cond-true _ _ (and_true (leb_true {m = length m.text} {n = C} (omega arith)) (ltb_true {m = 0} {n = M} (omega arith)))
       ∙ ap (λ (l : List Msg). l ++ (m ∷ []))
-      (evict-none (length m.text) ms (and_true (leb_true hc) (leb_true hm)))
+      (evict_none (length m.text) ms (and_true (leb_true hc) (leb_true hm)))
 
 pub total_append : (x y : List Msg) → stored_bytes (x ++ y) ≡ stored_bytes x + stored_bytes y
 total_append [] y = omega arith
@@ -83,30 +83,30 @@ skip_eq : (next n : ℕ) → next ≤ n → T (ltb next n) → suc (n - 1) ≡ n
 skip_eq next n h t = let l : next < n = ltb→lt next n t in omega arith
 
 module _ (C M : ℕ) (st : List ℕ) (i : ℕ) (fl : Option ℕ) (mr : List ℕ) where
-  apply-skip : (next n : ℕ) (acc : List Msg) → next ≤ n → applyAll C M (skip_to next n) (parts st i fl mr next acc) ≡ parts st i fl mr n acc
+  apply_skip : (next n : ℕ) (acc : List Msg) → next ≤ n → apply_all C M (skip_to next n) (parts st i fl mr next acc) ≡ parts st i fl mr n acc
   unfolding apply
-  apply-skip next n acc h =
-      cond_cases (λ (l : List Change). applyAll C M l (parts st i fl mr next acc) ≡ parts st i fl mr n acc) (ltb next n)
+  apply_skip next n acc h =
+      cond_cases (λ (l : List Change). apply_all C M l (parts st i fl mr next acc) ≡ parts st i fl mr n acc) (ltb next n)
       (λ t. ap (λ (x : ℕ). parts st i fl mr x acc) (skip_eq next n h t))
       (λ t. ap (λ (x : ℕ). parts st i fl mr x acc) (let l : n ≤ next = nltb→le next n t in omega arith))
 
-  apply-sends : (next top₁ : ℕ) (acc ms : List Msg) → Rising next top₁ ms → stored_bytes acc + stored_bytes ms ≤ C → length acc + length ms ≤ M
-      → applyAll C M (sends next ms) (parts st i fl mr next acc) ≡ parts st i fl mr (next_after next ms) (acc ++ ms)
+  apply_sends : (next top₁ : ℕ) (acc ms : List Msg) → Rising next top₁ ms → stored_bytes acc + stored_bytes ms ≤ C → length acc + length ms ≤ M
+      → apply_all C M (sends next ms) (parts st i fl mr next acc) ≡ parts st i fl mr (next_after next ms) (acc ++ ms)
   unfolding apply
-  apply-sends next N acc [] r hc hm = ap (λ (l : List Msg). parts st i fl mr next l) (sym (append-nil acc))
-  apply-sends next N acc (m ∷ ms) r hc hm =
+  apply_sends next N acc [] r hc hm = ap (λ (l : List Msg). parts st i fl mr next l) (sym (append-nil acc))
+  apply_sends next N acc (m ∷ ms) r hc hm =
       apply_all_append C M (send_msg next m) (sends (suc m.num) ms) (parts st i fl mr next acc)
-      ∙ ap (applyAll C M (sends (suc m.num) ms)) one
-      ∙ apply-sends (suc m.num) N (acc ++ (m ∷ [])) ms r.3 tot len
+      ∙ ap (apply_all C M (sends (suc m.num) ms)) one
+      ∙ apply_sends (suc m.num) N (acc ++ (m ∷ [])) ms r.3 tot len
       ∙ ap (λ (l : List Msg). parts st i fl mr (next_after (suc m.num) ms) l) (snoc_append acc m ms)
     where
       low : next ≤ m.num
       low = r.0
 
-      one : applyAll C M (send_msg next m) (parts st i fl mr next acc) ≡ parts st i fl mr (suc m.num) (acc ++ (m ∷ []))
+      one : apply_all C M (send_msg next m) (parts st i fl mr next acc) ≡ parts st i fl mr (suc m.num) (acc ++ (m ∷ []))
       one =
           apply_all_append C M (skip_to next m.num) (record_msg m.num m.text ∷ []) (parts st i fl mr next acc)
-          ∙ ap (applyAll C M (record_msg m.num m.text ∷ [])) (apply-skip next m.num acc low)
+          ∙ ap (apply_all C M (record_msg m.num m.text ∷ [])) (apply_skip next m.num acc low)
           ∙ ap (λ (l : List Msg). parts st i fl mr (suc m.num) l) (keep_all C M m acc (omega arith) (omega arith))
 
       tot : stored_bytes (acc ++ (m ∷ [])) + stored_bytes ms ≤ C
@@ -120,36 +120,36 @@ next_low next N [] h r = h
 next_low next N (m ∷ ms) h r = next_low (suc m.num) N ms r.1 r.3
 
 -- the incoming part and the marks
-apply_end : (C M : ℕ) (a : Session) (acc : List Msg) → applyAll C M (incoming_part a.next_in a.in_flight ∷ set_marks a.marks ∷ []) (parts a.stamp 1 none [] a.next_out acc) ≡ parts a.stamp a.next_in a.in_flight a.marks a.next_out acc
+apply_end : (C M : ℕ) (a : Session) (acc : List Msg) → apply_all C M (incoming_part a.next_in a.in_flight ∷ set_marks a.marks ∷ []) (parts a.stamp 1 none [] a.next_out acc) ≡ parts a.stamp a.next_in a.in_flight a.marks a.next_out acc
 unfolding apply
 apply_end C M a acc = go a.in_flight
   where
-    go : (f : Option ℕ) → applyAll C M (incoming_part a.next_in f ∷ set_marks a.marks ∷ []) (parts a.stamp 1 none [] a.next_out acc) ≡ parts a.stamp a.next_in f a.marks a.next_out acc
+    go : (f : Option ℕ) → apply_all C M (incoming_part a.next_in f ∷ set_marks a.marks ∷ []) (parts a.stamp 1 none [] a.next_out acc) ≡ parts a.stamp a.next_in f a.marks a.next_out acc
     go none = refl
     go (some f) = refl
 
-apply_closing : (C M : ℕ) (a : Session) (next : ℕ) (acc : List Msg) → next ≤ a.next_out → applyAll C M (closing a next) (parts a.stamp 1 none [] next acc) ≡ parts a.stamp a.next_in a.in_flight a.marks a.next_out acc
+apply_closing : (C M : ℕ) (a : Session) (next : ℕ) (acc : List Msg) → next ≤ a.next_out → apply_all C M (closing a next) (parts a.stamp 1 none [] next acc) ≡ parts a.stamp a.next_in a.in_flight a.marks a.next_out acc
 apply_closing C M a next acc h =
     apply_all_append C M (skip_to next a.next_out) (incoming_part a.next_in a.in_flight ∷ set_marks a.marks ∷ []) (parts a.stamp 1 none [] next acc)
-    ∙ ap (applyAll C M (incoming_part a.next_in a.in_flight ∷ set_marks a.marks ∷ [])) (apply-skip C M a.stamp 1 none [] next a.next_out acc h)
+    ∙ ap (apply_all C M (incoming_part a.next_in a.in_flight ∷ set_marks a.marks ∷ [])) (apply_skip C M a.stamp 1 none [] next a.next_out acc h)
     ∙ apply_end C M a acc
 
-apply_stamp : (C M : ℕ) (st : List ℕ) (b : Session) → applyAll C M (reset ∷ stamp_part st) b ≡ parts st 1 none [] 1 []
+apply_stamp : (C M : ℕ) (st : List ℕ) (b : Session) → apply_all C M (reset ∷ stamp_part st) b ≡ parts st 1 none [] 1 []
 unfolding apply
 apply_stamp C M [] b = refl
 apply_stamp C M (x ∷ xs) b = refl
 
-pub apply_whole : (C M : ℕ) (a b : Session) → Holdable C M a → applyAll C M (whole_changes a) b ≡ a
+pub apply_whole : (C M : ℕ) (a b : Session) → Holdable C M a → apply_all C M (whole_changes a) b ≡ a
 apply_whole C M a b h =
     apply_all_append C M (reset ∷ stamp_part a.stamp) _ b
-    ∙ ap (applyAll C M (sends 1 a.messages ++ closing a (next_after 1 a.messages))) (apply_stamp C M a.stamp b)
+    ∙ ap (apply_all C M (sends 1 a.messages ++ closing a (next_after 1 a.messages))) (apply_stamp C M a.stamp b)
     ∙ apply_all_append C M (sends 1 a.messages) _ (parts a.stamp 1 none [] 1 [])
-    ∙ ap (applyAll C M (closing a (next_after 1 a.messages))) (apply-sends C M a.stamp 1 none [] 1 a.next_out [] a.messages h.msgs_rise (omega arith) (omega arith))
+    ∙ ap (apply_all C M (closing a (next_after 1 a.messages))) (apply_sends C M a.stamp 1 none [] 1 a.next_out [] a.messages h.msgs_rise (omega arith) (omega arith))
     ∙ apply_closing C M a (next_after 1 a.messages) a.messages (next_low 1 a.next_out a.messages h.out_low h.msgs_rise)
 
 -- (a) the joined batches, applied to any session
-pub whole_is_exact : (limit C M : ℕ) (a b : Session) → Holdable C M a → applyAll C M (all_changes (wholeBatches limit a)) b ≡ a
-whole_is_exact limit C M a b h = ap (λ (l : List Change). applyAll C M l b) (joined-whole limit a) ∙ apply_whole C M a b h
+pub whole_is_exact : (limit C M : ℕ) (a b : Session) → Holdable C M a → apply_all C M (all_changes (whole_batches limit a)) b ≡ a
+whole_is_exact limit C M a b h = ap (λ (l : List Change). apply_all C M l b) (joined_whole limit a) ∙ apply_whole C M a b h
 
 -- ---- (b) they fit from any next outgoing
 
@@ -186,8 +186,8 @@ fits_whole C M a next h =
     (fits_skip (next_after 1 a.messages) a.next_out _ (next_low 1 a.next_out a.messages h.out_low h.msgs_rise) h.out_high (fits_end a.next_out a.next_in a.in_flight a.marks)))
 
 -- (b) the joined batches
-pub whole_fits : (limit C M : ℕ) (a : Session) (next : ℕ) → Holdable C M a → fits next (all_changes (wholeBatches limit a)) ≡ true
-whole_fits limit C M a next h = ap (fits next) (joined-whole limit a) ∙ fits_whole C M a next h
+pub whole_fits : (limit C M : ℕ) (a : Session) (next : ℕ) → Holdable C M a → fits next (all_changes (whole_batches limit a)) ≡ true
+whole_fits limit C M a next h = ap (fits next) (joined_whole limit a) ∙ fits_whole C M a next h
 
 -- ---- (c) sizes
 
@@ -274,35 +274,35 @@ bytes_whole a =
     )
 
 -- (c) the encoded size of all changes
-pub whole_size : (limit C M : ℕ) (a : Session) → Holdable C M a → sizes (all_changes (wholeBatches limit a)) ≤ hold_length C M
-whole_size limit C M a h = subst (λ (l : List Change). sizes l ≤ hold_length C M) (sym (joined-whole limit a)) (sizes_whole C M a h)
+pub whole_size : (limit C M : ℕ) (a : Session) → Holdable C M a → sizes (all_changes (whole_batches limit a)) ≤ hold_length C M
+whole_size limit C M a h = subst (λ (l : List Change). sizes l ≤ hold_length C M) (sym (joined_whole limit a)) (sizes_whole C M a h)
 
 each_bytes : (n : ℕ) (bs : List (List Change)) → message_bytes (all_changes bs) ≤ n → Each (λ b. message_bytes b ≤ n) bs
 each_bytes n [] h = tt
 each_bytes n (b ∷ bs) h = (omega (arith, message_bytes_append b (all_changes bs)), each_bytes n bs (omega (arith, message_bytes_append b (all_changes bs))))
 
 -- (c) each batch's message bytes
-pub batch_bytes : (limit C M : ℕ) (a : Session) → Holdable C M a → Each (λ b. message_bytes b ≤ limit + C) (wholeBatches limit a)
-batch_bytes limit C M a h = each_bytes (limit + C) (wholeBatches limit a) (omega (arith, ap message_bytes (joined-whole limit a), bytes_whole a, h.msgs_bytes))
+pub batch_bytes : (limit C M : ℕ) (a : Session) → Holdable C M a → Each (λ b. message_bytes b ≤ limit + C) (whole_batches limit a)
+batch_bytes limit C M a h = each_bytes (limit + C) (whole_batches limit a) (omega (arith, ap message_bytes (joined_whole limit a), bytes_whole a, h.msgs_bytes))
 
 each_sizes : (n : ℕ) (bs : List (List Change)) → sizes (all_changes bs) ≤ n → Each (λ b. sizes b ≤ n) bs
 each_sizes n [] h = tt
 each_sizes n (b ∷ bs) h = (omega (arith, sizes_append b (all_changes bs)), each_sizes n bs (omega (arith, sizes_append b (all_changes bs))))
 
 -- (c) each batch's encoded changes
-pub batch_sizes : (limit C M : ℕ) (a : Session) → Holdable C M a → Each (λ b. sizes b ≤ hold_length C M) (wholeBatches limit a)
-batch_sizes limit C M a h = each_sizes (hold_length C M) (wholeBatches limit a) (whole_size limit C M a h)
+pub batch_sizes : (limit C M : ℕ) (a : Session) → Holdable C M a → Each (λ b. sizes b ≤ hold_length C M) (whole_batches limit a)
+batch_sizes limit C M a h = each_sizes (hold_length C M) (whole_batches limit a) (whole_size limit C M a h)
 
 -- there are no more batches than messages and one
-batches_few : (limit : ℕ) (a : Session) (now : List Change) (bytes next : ℕ) (ms : List Msg) → length (batchesFrom limit a now bytes next ms) ≤ suc (length ms)
+batches_few : (limit : ℕ) (a : Session) (now : List Change) (bytes next : ℕ) (ms : List Msg) → length (batches_from limit a now bytes next ms) ≤ suc (length ms)
 batches_few limit a now bytes next [] = omega arith
 batches_few limit a now bytes next (m ∷ ms) = go (ltb limit bytes) (λ x y. batches_few limit a x y (suc m.num) ms)
   where
-    go : (f : Bool) → ((x : List Change) (y : ℕ) → length (batchesFrom limit a x y (suc m.num) ms) ≤ suc (length ms))
-        → length (batch_if f now (batchesFrom limit a (cond f [] now ++ send_msg next m) (cond f 0 bytes + length m.text) (suc m.num) ms)) ≤ suc (suc (length ms))
+    go : (f : Bool) → ((x : List Change) (y : ℕ) → length (batches_from limit a x y (suc m.num) ms) ≤ suc (length ms))
+        → length (batch_if f now (batches_from limit a (cond f [] now ++ send_msg next m) (cond f 0 bytes + length m.text) (suc m.num) ms)) ≤ suc (suc (length ms))
     go true ih = omega (arith, ih ([] ++ send_msg next m) (0 + length m.text))
     go false ih = omega (arith, ih (now ++ send_msg next m) (bytes + length m.text))
 
-pub whole_few : (limit : ℕ) (a : Session) → length (wholeBatches limit a) ≤ suc (length a.messages)
-unfolding wholeBatches
+pub whole_few : (limit : ℕ) (a : Session) → length (whole_batches limit a) ≤ suc (length a.messages)
+unfolding whole_batches
 whole_few limit a = batches_few limit a (reset ∷ stamp_part a.stamp) 0 1 a.messages

@@ -16,7 +16,7 @@ use Rattle.model_frame.specs.Writing.{flight_number, RangedSummary, fine_summary
 use Rattle.model_text.specs.Utf8.{utf8}
 use Rattle.model_text.specs.Printable.{is_marks}
 use Rattle.model_text.proofs.Laws.{marks_is, takes_is}
-use Rattle.model_session.specs.Session.{Session, Msg, new_session, apply, applyAll, keep, top, Holdable, small_flight}
+use Rattle.model_session.specs.Session.{Session, Msg, new_session, apply, apply_all, keep, top, Holdable, small_flight}
 use Rattle.model_session.specs.Summary.{fnv_step, fnv, fnv_start, fnv_message, fnv_messages, numbered_from, last_out, summary}
 use Rattle.model_session.proofs.Basics.{T→true, and_true, cond_cases}
 use Rattle.model_session.proofs.Writing.{Suits}
@@ -51,9 +51,9 @@ module _ (version C M : ℕ) (s : Session) (n : ℕ) (h : Holdable C M s) where
       let i = takes_is version (x ∷ xs) e in
       (i.coded, omega (arith, i.most))
 
-  pub summary-ranged : Suits version s.stamp → RangedSummary (summary s n)
+  pub summary_ranged : Suits version s.stamp → RangedSummary (summary s n)
   unfolding summary
-  summary-ranged e =
+  summary_ranged e =
       record {
         out_u64 = omega (arith, h.out_high);
         in_u64 = omega (arith, h.inc_high);
@@ -63,9 +63,9 @@ module _ (version C M : ℕ) (s : Session) (n : ℕ) (h : Holdable C M s) where
         last_u64 = last_u64 s n;
       }
 
-  pub summary-fine : Suits version s.stamp → fine_summary version (summary s n) ≡ true
+  pub summary_fine : Suits version s.stamp → fine_summary version (summary s n) ≡ true
   unfolding summary fine_summary
-  summary-fine e =
+  summary_fine e =
       let m = T→true (is_marks s.marks) h.marks_ok in
       and_true (and_true (stamp_small s.stamp e).0 e) (and_true (marks_is s.marks m).coded m)
 
@@ -93,7 +93,7 @@ empty_hashed = refl
 
 -- of messages 1, 2 and 3 a range of two leaves out the first; a range of three, and any longer one, has them all
 abbrev three : Session
-three = applyAll 9 9 (record_msg 1 (7 ∷ []) ∷ record_msg 2 [] ∷ record_msg 3 (8 ∷ 9 ∷ []) ∷ []) new_session
+three = apply_all 9 9 (record_msg 1 (7 ∷ []) ∷ record_msg 2 [] ∷ record_msg 3 (8 ∷ 9 ∷ []) ∷ []) new_session
 
 -- number 2, length 0; number 3, length 2 and its bytes
 abbrev two_and_three : List ℕ

@@ -4,7 +4,7 @@ use Rattle.std.specs.Prelude.{◌≡◌, ℕ, zero, suc, ◌+◌, max, List, [],
 use Rattle.std.proofs.Math.Option.{Option, none, some}
 use Rattle.model_frame.specs.Frame.{Change, reset, Part, whole, last_whole, Frame, batch}
 use Rattle.model_session.specs.Session.{Session, Msg, top}
-use Rattle.model_session.specs.Whole.{stamp_part, send_msg, closing, wholeBatches}
+use Rattle.model_session.specs.Whole.{stamp_part, send_msg, closing, whole_batches}
 
 -- what a call hands on to the next
 pub record Sender : Type 0 where
@@ -34,19 +34,19 @@ sent_part (some n) = whole
 
 module _ (limit : ℕ) (a : Session) where
   -- the batch so far with its message bytes, the next number, the messages left
-  abbrev pub cutBatch : List Change → ℕ → ℕ → List Msg → Cut
-  cutBatch now bytes next [] = record { changes = now ++ closing a next; goes_on = none }
-  cutBatch now bytes next (m ∷ ms) =
+  abbrev pub cut_batch : List Change → ℕ → ℕ → List Msg → Cut
+  cut_batch now bytes next [] = record { changes = now ++ closing a next; goes_on = none }
+  cut_batch now bytes next (m ∷ ms) =
       cond (ltb limit bytes) (record { changes = now; goes_on = some next })
-      (cutBatch (now ++ send_msg next m) (bytes + length m.text) (suc m.num) ms)
+      (cut_batch (now ++ send_msg next m) (bytes + length m.text) (suc m.num) ms)
 
   -- Reset and the stamp stand before all else
   abbrev pub opening : ℕ → List Change
   opening zero = reset ∷ stamp_part a.stamp
   opening (suc n) = []
 
-  abbrev pub cutFrom : ℕ → Cut
-  cutFrom n = cutBatch (opening n) 0 (max n 1) (messages_from (max n 1) a.messages)
+  abbrev pub cut_from : ℕ → Cut
+  cut_from n = cut_batch (opening n) 0 (max n 1) (messages_from (max n 1) a.messages)
 
   abbrev pub sent : Sender → Cut → Frame × Sender
   sent s c = (
@@ -54,23 +54,23 @@ module _ (limit : ℕ) (a : Session) where
     record { handle = s.handle; epoch = s.epoch; last = suc s.last; from = c.goes_on },
   )
 
-  abbrev pub sentFrom : Sender → Option ℕ → Option (Frame × Sender)
-  sentFrom s none = none
-  sentFrom s (some n) = some (sent s (cutFrom n))
+  abbrev pub sent_from : Sender → Option ℕ → Option (Frame × Sender)
+  sent_from s none = none
+  sent_from s (some n) = some (sent s (cut_from n))
 
   -- the next frame, and what to hand to the next call; none: done
-  unfoldable pub sendNext : Sender → Option (Frame × Sender)
-  sendNext s = sentFrom s s.from
+  unfoldable pub send_next : Sender → Option (Frame × Sender)
+  send_next s = sent_from s s.from
 
   -- call after call gives these frames, and then "done"
   pub data Sends : Sender → List Frame → Type 0 where
-    all_sent : {s : Sender} → sendNext s ≡ none → Sends s []
-    is_next : {s t : Sender} {f : Frame} {fs : List Frame} → sendNext s ≡ some (f, t) → Sends t fs → Sends s (f ∷ fs)
+    all_sent : {s : Sender} → send_next s ≡ none → Sends s []
+    is_next : {s t : Sender} {f : Frame} {fs : List Frame} → send_next s ≡ some (f, t) → Sends t fs → Sends s (f ∷ fs)
 
   -- 24: at the start the commit numbers would pass 2^64 - 1
   abbrev pub passesTop : ℕ → Option ℕ → Bool
   passesTop last none = false
-  passesTop last (some zero) = ltb top (last + length (wholeBatches limit a))
+  passesTop last (some zero) = ltb top (last + length (whole_batches limit a))
   passesTop last (some (suc n)) = false
 
   unfoldable pub cannotSend : Sender → Bool

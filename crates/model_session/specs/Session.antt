@@ -37,13 +37,13 @@ stored_bytes (m ∷ ms) = length m.text + stored_bytes ms
 
 module _ (C M : ℕ) where
   -- one more message of n bytes fits
-  abbrev pub hasSpace : ℕ → List Msg → Bool
-  hasSpace n ms = leb (stored_bytes ms + n) C && leb (suc (length ms)) M
+  abbrev pub has_space_lem : ℕ → List Msg → Bool
+  has_space_lem n ms = leb (stored_bytes ms + n) C && leb (suc (length ms)) M
 
   -- the oldest go until it fits
   abbrev pub evict : ℕ → List Msg → List Msg
   evict n [] = []
-  evict n (m ∷ ms) = cond (hasSpace n (m ∷ ms)) (m ∷ ms) (evict n ms)
+  evict n (m ∷ ms) = cond (has_space_lem n (m ∷ ms)) (m ∷ ms) (evict n ms)
 
   -- a message longer than C, or any with M = 0, keeps its number only
   unfoldable pub keep : Msg → List Msg → List Msg
@@ -59,9 +59,9 @@ module _ (C M : ℕ) where
   apply (set_created_at t) s = record { stamp = t; next_out = s.next_out; next_in = s.next_in; in_flight = s.in_flight; marks = s.marks; messages = s.messages }
   apply (set_marks m) s = record { stamp = s.stamp; next_out = s.next_out; next_in = s.next_in; in_flight = s.in_flight; marks = m; messages = s.messages }
 
-  abbrev pub applyAll : List Change → Session → Session
-  applyAll [] s = s
-  applyAll (c ∷ cs) s = applyAll cs (apply c s)
+  abbrev pub apply_all : List Change → Session → Session
+  apply_all [] s = s
+  apply_all (c ∷ cs) s = apply_all cs (apply c s)
 
 -- whether the outgoing numbers of the changes follow on from `next`: a number below next, a message off next,
 -- or a Record of 2^64 - 1 does not

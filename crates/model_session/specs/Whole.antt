@@ -40,14 +40,14 @@ batch_if false now rest = rest
 module _ (limit : ℕ) (a : Session) where
   -- the batch so far with its message bytes, the next number, the messages left; one batch a call is `sendNext` (Sender.antt), and that both give the
   -- same frames is `sends-whole` (proofs/Sender)
-  abbrev pub batchesFrom : List Change → ℕ → ℕ → List Msg → List (List Change)
-  batchesFrom now bytes next [] = (now ++ closing a next) ∷ []
-  batchesFrom now bytes next (m ∷ ms) =
+  abbrev pub batches_from : List Change → ℕ → ℕ → List Msg → List (List Change)
+  batches_from now bytes next [] = (now ++ closing a next) ∷ []
+  batches_from now bytes next (m ∷ ms) =
       batch_if (ltb limit bytes) now
-      (batchesFrom (cond (ltb limit bytes) [] now ++ send_msg next m) (cond (ltb limit bytes) 0 bytes + length m.text) (suc m.num) ms)
+      (batches_from (cond (ltb limit bytes) [] now ++ send_msg next m) (cond (ltb limit bytes) 0 bytes + length m.text) (suc m.num) ms)
 
-  unfoldable pub wholeBatches : List (List Change)
-  wholeBatches = batchesFrom (reset ∷ stamp_part a.stamp) 0 1 a.messages
+  unfoldable pub whole_batches : List (List Change)
+  whole_batches = batches_from (reset ∷ stamp_part a.stamp) 0 1 a.messages
 
 -- the changes of a list of batches
 abbrev pub all_changes : List (List Change) → List Change
@@ -61,7 +61,7 @@ frames_of h e last (b ∷ []) = batch h e (suc last) last_whole b [] ∷ []
 frames_of h e last (b ∷ c ∷ bs) = batch h e (suc last) whole b [] ∷ frames_of h e (suc last) (c ∷ bs)
 
 unfoldable pub whole_frames : ℕ → ℕ → ℕ → ℕ → Session → List Frame
-whole_frames limit h e last a = frames_of h e last (wholeBatches limit a)
+whole_frames limit h e last a = frames_of h e last (whole_batches limit a)
 
 -- a hold area of this length takes any session: C + 22 × M + 122, of which 21 are for the longest stamp
 abbrev pub hold_length : ℕ → ℕ → ℕ

@@ -21,12 +21,12 @@ use Rattle.model_session.specs.Session.{Session, Holdable, is_bytes, top}
 use Rattle.model_session.specs.Summary.{summary}
 use Rattle.model_session.proofs.Basics.{T→true, cond_cases}
 use Rattle.model_session.proofs.Keeping.{new_holdable}
-use Rattle.model_session.proofs.Summing.{summary-ranged, summary-fine}
+use Rattle.model_session.proofs.Summing.{summary_ranged, summary_fine}
 use Rattle.model_session.proofs.Writing.{suits_first}
 use Rattle.model_standby.specs.Answer.{protocol_version, Given, damaged, intact, given, Answer, reply, refused, done}
 use Rattle.model_standby.specs.Store.{Place, place_of, session_at, or_new}
 use Rattle.model_standby.specs.State.{Settings, incarnation_of, Standby, Result, Call, on_frame_held, on_frame, flush, disconnected_from, promote, promote_unchecked}
-use Rattle.model_standby.specs.Standby.{run_pending, due, onGiven, step}
+use Rattle.model_standby.specs.Standby.{run_pending, due, on_given, step}
 use Rattle.model_standby.proofs.Rules.{OkCall, Readable, Valid}
 use Rattle.model_standby.proofs.Outcomes.{Nacked, stale_bind, lag_bind, stale_batch, stale_checked, other_checked, Batches, refuses, clears, raises, holds, applies, diverges, Does, turns, tells, nacks, greets, binds, checks, batches, does}
 use Rattle.model_standby.proofs.Places.{each_at, each_mark}
@@ -66,7 +66,7 @@ tell_bound C M h n s hh ok =
     let suits = suits_first s.stamp ok.stamp_ok in
     let e : length s.stamp ≤ longest_stamp = stamp_short s.stamp ok.stamp_ok in
     let m = marks_is s.marks (T→true (is_marks s.marks) ok.marks_ok) in
-    tellable (bound h (summary s n)) (hh, summary-ranged protocol_version C M s n ok suits) (summary-fine protocol_version C M s n ok suits) (omega (arith, e, m.most))
+    tellable (bound h (summary s n)) (hh, summary_ranged protocol_version C M s n ok suits) (summary_fine protocol_version C M s n ok suits) (omega (arith, e, m.most))
 
 -- ---- the answers
 
@@ -102,60 +102,60 @@ module _ (L : Settings) where
   abbrev Held : Place → Type 0
   Held x = Holdable L.C L.M x.stored.session
 
-  telling-pending : (now : Bool) (s : Standby) → Telling L s → Telling L (run_pending now s)
-  telling-pending now s r =
+  telling_pending : (now : Bool) (s : Standby) → Telling L s → Telling L (run_pending now s)
+  telling_pending now s r =
       record {
         epoch_u64 = r.epoch_u64;
         sessions_ok = cond_cases (Each Held) now (λ _. each_mark Held s.pending s.places (λ _ h. h) r.sessions_ok) (λ _. r.sessions_ok);
       }
 
-  found-held : (s : Standby) (n : ℕ) → Telling L s → Holdable L.C L.M (or_new (session_at s.places n))
-  found-held s n v = go (get_elem? s.places n) refl
+  found_held : (s : Standby) (n : ℕ) → Telling L s → Holdable L.C L.M (or_new (session_at s.places n))
+  found_held s n v = go (get_elem? s.places n) refl
     where
       go : (o : Option Place) → get_elem? s.places n ≡ o → Holdable L.C L.M (or_new (map (λ (x : Place). x.stored.session) o))
       go none p = new_holdable L.C L.M
       go (some x) p = each_at Held s.places n x p v.sessions_ok
 
-  batch-says : {s : Standby} {h n : ℕ} {p : Part} {cs : List Change} {r : Result} → Batches L s h n p cs r → h < 2 ^ 32 → n < 2 ^ 64 → Says r
-  batch-says (refuses t) hh hn = tt
-  batch-says {h} (clears f) hh hn = tell_nack h diverged hh
-  batch-says (raises f t) hh hn = tt
-  batch-says {h} {n} (holds f q t) hh hn = tell_ack h n hh hn
-  batch-says {h} {n} (applies f g t) hh hn = tell_ack h n hh hn
-  batch-says {h} (diverges f g) hh hn = tell_nack h diverged hh
+  batch_says : {s : Standby} {h n : ℕ} {p : Part} {cs : List Change} {r : Result} → Batches L s h n p cs r → h < 2 ^ 32 → n < 2 ^ 64 → Says r
+  batch_says (refuses t) hh hn = tt
+  batch_says {h} (clears f) hh hn = tell_nack h diverged hh
+  batch_says (raises f t) hh hn = tt
+  batch_says {h} {n} (holds f q t) hh hn = tell_ack h n hh hn
+  batch_says {h} {n} (applies f g t) hh hn = tell_ack h n hh hn
+  batch_says {h} (diverges f g) hh hn = tell_nack h diverged hh
 
-  nack-says : {f : Frame} {h : ℕ} {r : Reason} → Nacked f h r → Readable f → Tellable (nack h r)
-  nack-says (stale_bind {h}) o = tell_nack h stale_epoch o.writable.ranged.0
-  nack-says (lag_bind {h}) o = tell_nack h lag_too_great o.writable.ranged.0
-  nack-says (stale_batch {h}) o = tell_nack h stale_epoch o.writable.ranged.0
-  nack-says (stale_checked {h}) o = tell_nack h stale_epoch o.writable.ranged.0
-  nack-says (other_checked {h}) o = tell_nack h restarted o.writable.ranged.0
+  nack_says : {f : Frame} {h : ℕ} {r : Reason} → Nacked f h r → Readable f → Tellable (nack h r)
+  nack_says (stale_bind {h}) o = tell_nack h stale_epoch o.writable.ranged.0
+  nack_says (lag_bind {h}) o = tell_nack h lag_too_great o.writable.ranged.0
+  nack_says (stale_batch {h}) o = tell_nack h stale_epoch o.writable.ranged.0
+  nack_says (stale_checked {h}) o = tell_nack h stale_epoch o.writable.ranged.0
+  nack_says (other_checked {h}) o = tell_nack h restarted o.writable.ranged.0
 
-  does-says : {s : Standby} {f : Frame} {r : Result} → Does L s f r → L.incarnation ≤ top → Readable f → Telling L s → Says r
-  does-says (turns t) i o r = tt
-  does-says {s} tells i o r = tell_welcome s.counters.epoch (incarnation_of L) (omega (arith, r.epoch_u64)) (omega arith)
-  does-says (nacks q) i o r = nack-says q o
-  does-says (greets {e} le) i o r = tell_welcome e (incarnation_of L) o.writable.ranged.1 (omega arith)
-  does-says {s} (binds {h} {lag} {k} le p q) i o r = tell_bound L.C L.M h lag (or_new (session_at s.places (place_of k s.places))) o.writable.ranged.0 (found-held s (place_of k s.places) r)
-  does-says (checks {h} le) i o r = tell_ack h 0 o.writable.ranged.0 (omega arith)
-  does-says (batches le d) i o r = batch-says d o.writable.ranged.0 o.writable.ranged.2
+  does_says : {s : Standby} {f : Frame} {r : Result} → Does L s f r → L.incarnation ≤ top → Readable f → Telling L s → Says r
+  does_says (turns t) i o r = tt
+  does_says {s} tells i o r = tell_welcome s.counters.epoch (incarnation_of L) (omega (arith, r.epoch_u64)) (omega arith)
+  does_says (nacks q) i o r = nack_says q o
+  does_says (greets {e} le) i o r = tell_welcome e (incarnation_of L) o.writable.ranged.1 (omega arith)
+  does_says {s} (binds {h} {lag} {k} le p q) i o r = tell_bound L.C L.M h lag (or_new (session_at s.places (place_of k s.places))) o.writable.ranged.0 (found_held s (place_of k s.places) r)
+  does_says (checks {h} le) i o r = tell_ack h 0 o.writable.ranged.0 (omega arith)
+  does_says (batches le d) i o r = batch_says d o.writable.ranged.0 o.writable.ranged.2
 
-  given-says : (s : Standby) (g : Given) → L.incarnation ≤ top → Passed g → Telling L s → Says (onGiven L s g)
-  unfolding onGiven
-  given-says s (damaged n) i o r = tt
-  given-says s (intact f) i o r =
-      cond_cases Says s.counters.promoted (λ _. tt) (λ _. does-says (does L (run_pending (due s.pending f) s) f) i o (telling-pending (due s.pending f) s r))
+  given_says : (s : Standby) (g : Given) → L.incarnation ≤ top → Passed g → Telling L s → Says (on_given L s g)
+  unfolding on_given
+  given_says s (damaged n) i o r = tt
+  given_says s (intact f) i o r =
+      cond_cases Says s.counters.promoted (λ _. tt) (λ _. does_says (does L (run_pending (due s.pending f) s) f) i o (telling_pending (due s.pending f) s r))
 
   -- a frame is answered with a refusal, or with a frame that can be written
-  pub frame-told : (s : Standby) (w : List ℕ) → L.incarnation ≤ top → T (is_bytes w) → Telling L s → Told (step L s (on_frame w)).answer
+  pub frame_told : (s : Standby) (w : List ℕ) → L.incarnation ≤ top → T (is_bytes w) → Telling L s → Told (step L s (on_frame w)).answer
   unfolding step
-  frame-told s w i o r = given-says s (given w) i (passed w o) r
+  frame_told s w i o r = given_says s (given w) i (passed w o) r
 
 -- writing an answer never meets 8 or 1, nor 9 in an area of `answerBytes`
 pub answers_tellable : (L : Settings) (s : Standby) (c : Call) → L.incarnation ≤ top → OkCall c → Telling L s → TellableAnswer (step L s c).answer
 unfolding step
-answers_tellable L s (on_frame_held w) i o r = told_tellable (onGiven L s (given w)).answer (given-says L s (given w) i (passed w o) r)
-answers_tellable L s (on_frame w) i o r = told_tellable (onGiven L s (given w)).answer (given-says L s (given w) i (passed w o) r)
+answers_tellable L s (on_frame_held w) i o r = told_tellable (on_given L s (given w)).answer (given_says L s (given w) i (passed w o) r)
+answers_tellable L s (on_frame w) i o r = told_tellable (on_given L s (given w)).answer (given_says L s (given w) i (passed w o) r)
 answers_tellable L s (flush n) i o r = cond_cases (λ (x : Result). TellableAnswer x.answer) (not (eqb n s.counters.connections) || s.counters.promoted) (λ _. tt) (λ _. tt)
 answers_tellable L s (disconnected_from n) i o r = tt
 answers_tellable L s promote i o r = cond_cases (λ (x : Result). TellableAnswer x.answer) s.counters.checked (λ _. tt) (λ _. tt)

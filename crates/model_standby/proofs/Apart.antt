@@ -14,7 +14,7 @@ use Rattle.model_frame.specs.Frame.{Key, Change, Part, Frame, checked}
 use Rattle.model_standby.specs.Answer.{Given, damaged, intact, given, is_reply}
 use Rattle.model_standby.specs.Store.{Stored, Place, same_key, place_of, is_stored, on_place, on_places, mark_durable, new_place, opened, changed, mark_all, taken_over}
 use Rattle.model_standby.specs.State.{Settings, Standby, Result, Call, on_frame_held, on_frame, flush, disconnected_from, promote, promote_unchecked}
-use Rattle.model_standby.specs.Standby.{run_pending, due, onGiven, step, run}
+use Rattle.model_standby.specs.Standby.{run_pending, due, on_given, step, run}
 use Rattle.model_standby.specs.PlainCopy.{OwnKey, key_count, own_key}
 use Rattle.model_session.proofs.Basics.{eqb_sound, and_true, true→T, false→not_t, cond_cases, none≢some, some_inj}
 use Rattle.model_standby.proofs.Outcomes.{Batches, refuses, clears, raises, holds, applies, diverges, Does, turns, tells, nacks, greets, binds, checks, batches, does}
@@ -120,26 +120,26 @@ does_keeps (checks le) a = a
 does_keeps (batches le d) a = batch_keeps d a
 
 module _ (L : Settings) where
-  given-keeps : (s : Standby) (g : Given) → Apart s.places → Keeps (onGiven L s g)
-  unfolding onGiven
-  given-keeps s (damaged n) a = a
-  given-keeps s (intact f) a = cond_cases Keeps s.counters.promoted (λ _. a) (λ _. does_keeps (does L (run_pending (due s.pending f) s) f) (apart_pending (due s.pending f) s a))
+  given_keeps : (s : Standby) (g : Given) → Apart s.places → Keeps (on_given L s g)
+  unfolding on_given
+  given_keeps s (damaged n) a = a
+  given_keeps s (intact f) a = cond_cases Keeps s.counters.promoted (λ _. a) (λ _. does_keeps (does L (run_pending (due s.pending f) s) f) (apart_pending (due s.pending f) s a))
 
-  apart-promoted : (ps : List Place) → Apart ps → Apart (on_places (taken_over L.lag) ps)
-  apart-promoted ps a = apart_same ps (on_places (taken_over L.lag) ps) (keys_places (taken_over L.lag) ps) a
+  apart_promoted : (ps : List Place) → Apart ps → Apart (on_places (taken_over L.lag) ps)
+  apart_promoted ps a = apart_same ps (on_places (taken_over L.lag) ps) (keys_places (taken_over L.lag) ps) a
 
-  apart-step : (s : Standby) (c : Call) → Apart s.places → Keeps (step L s c)
+  apart_step : (s : Standby) (c : Call) → Apart s.places → Keeps (step L s c)
   unfolding step
-  apart-step s (on_frame_held w) a = given-keeps s (given w) a
-  apart-step s (on_frame w) a = apart_pending (is_reply (onGiven L s (given w)).answer) (onGiven L s (given w)).state (given-keeps s (given w) a)
-  apart-step s (flush n) a = cond_cases Keeps (not (eqb n s.counters.connections) || s.counters.promoted) (λ _. a) (λ _. apart_pending true s a)
-  apart-step s (disconnected_from n) a = cond_cases (λ (x : Standby). Apart x.places) (eqb n s.counters.connections) (λ _. a) (λ _. a)
-  apart-step s promote a = cond_cases Keeps s.counters.checked (λ _. apart-promoted s.places a) (λ _. a)
-  apart-step s promote_unchecked a = apart-promoted s.places a
+  apart_step s (on_frame_held w) a = given_keeps s (given w) a
+  apart_step s (on_frame w) a = apart_pending (is_reply (on_given L s (given w)).answer) (on_given L s (given w)).state (given_keeps s (given w) a)
+  apart_step s (flush n) a = cond_cases Keeps (not (eqb n s.counters.connections) || s.counters.promoted) (λ _. a) (λ _. apart_pending true s a)
+  apart_step s (disconnected_from n) a = cond_cases (λ (x : Standby). Apart x.places) (eqb n s.counters.connections) (λ _. a) (λ _. a)
+  apart_step s promote a = cond_cases Keeps s.counters.checked (λ _. apart_promoted s.places a) (λ _. a)
+  apart_step s promote_unchecked a = apart_promoted s.places a
 
-  pub apart-run : (s : Standby) (cs : List Call) → Apart s.places → Apart (run L s cs).places
-  apart-run s [] a = a
-  apart-run s (c ∷ cs) a = apart-run (step L s c).state cs (apart-step s c a)
+  pub apart_run : (s : Standby) (cs : List Call) → Apart s.places → Apart (run L s cs).places
+  apart_run s [] a = a
+  apart_run s (c ∷ cs) a = apart_run (step L s c).state cs (apart_step s c a)
 
 -- an empty store has no two places with one key
 pub apart_new_store : Apart []

@@ -20,7 +20,7 @@ use Rattle.model_standby.specs.Answer.{given, Answer, reply, refused, done}
 use Rattle.model_standby.specs.Row.{put}
 use Rattle.model_standby.specs.Store.{with_b, taken_over}
 use Rattle.model_standby.specs.State.{Settings, Standby, Call, on_frame_held, on_frame, flush, disconnected_from, promote, new_standby}
-use Rattle.model_standby.specs.Standby.{onHello, onBind, onChecked, settle, hold, onPart, onHandle, onBatch, onGiven, step, run}
+use Rattle.model_standby.specs.Standby.{on_hello, on_bind, on_checked, settle, hold, on_part, on_handle, on_batch, on_given, step, run}
 
 abbrev held : Frame → Call
 held f = on_frame_held (encode f)
@@ -47,7 +47,7 @@ lines =
     ∷ []
 
 lines_so : answers L₀ (new_standby [] 4) lines ≡ reply (welcome 5 7) ∷ refused 14 ∷ refused 26 ∷ refused 26 ∷ refused 3 ∷ []
-unfolding step onGiven onHello onBatch onHandle given decode le read_num read_bytes read_blob read_text read_count many read_body read_fields hello_fields batch_fields ack_fields read_kinds read_changes read_app_records read_part utf8 well_formed lead_length own_bits least fitting is_scalar is_surrogate
+unfolding step on_given on_hello on_batch on_handle given decode le read_num read_bytes read_blob read_text read_count many read_body read_fields hello_fields batch_fields ack_fields read_kinds read_changes read_app_records read_part utf8 well_formed lead_length own_bits least fitting is_scalar is_surrogate
 lines_so = refl
 
 -- the answer to the first line
@@ -114,7 +114,7 @@ script =
     ∷ []
 
 script_so : answers L₁ (new_standby [] 2) (map (λ (p : Call × Answer). p.0) script) ≡ map (λ (p : Call × Answer). p.1) script
-unfolding step onGiven onHello onBind onChecked onBatch onHandle onPart hold settle apply keep put given encode body_bytes blob_bytes change_bytes app_record_bytes key_bytes run_bytes bytes_of decode le read_num read_bytes read_blob read_text read_count many read_body read_fields hello_fields bind_fields batch_fields ack_fields checked_fields read_kinds read_changes read_change record_msg_fields record_bare_fields set_marks_fields read_app_records read_app_record read_part read_key read_marks utf8 well_formed lead_length own_bits least fitting is_scalar is_surrogate is_tail is_printable_byte is_printable is_marks is_key
+unfolding step on_given on_hello on_bind on_checked on_batch on_handle on_part hold settle apply keep put given encode body_bytes blob_bytes change_bytes app_record_bytes key_bytes run_bytes bytes_of decode le read_num read_bytes read_blob read_text read_count many read_body read_fields hello_fields bind_fields batch_fields ack_fields checked_fields read_kinds read_changes read_change record_msg_fields record_bare_fields set_marks_fields read_app_records read_app_record read_part read_key read_marks utf8 well_formed lead_length own_bits least fitting is_scalar is_surrogate is_tail is_printable_byte is_printable is_marks is_key
 script_so = refl
 
 -- Of the three messages the second is left (the first made place for it, the third is longer than C); promotion skipped one
@@ -123,7 +123,7 @@ script_places : (run L₁ (new_standby [] 2) (map (λ (p : Call × Answer). p.0)
     ≡ record { key = key_of 65; stored = record { session = record { stamp = []; next_out = 6; next_in = 1; in_flight = none; marks = 66 ∷ []; messages = record { num = 3; text = 1 ∷ 2 ∷ [] } ∷ [] }; durable = true } }
     ∷ record { key = key_of 66; stored = record { session = record { stamp = []; next_out = 2; next_in = 1; in_flight = none; marks = 66 ∷ []; messages = [] }; durable = true } }
     ∷ []
-unfolding step onGiven onHello onBind onChecked onBatch onHandle onPart hold settle apply keep put given encode body_bytes blob_bytes change_bytes app_record_bytes key_bytes run_bytes bytes_of decode le read_num read_bytes read_blob read_text read_count many read_body read_fields hello_fields bind_fields batch_fields ack_fields checked_fields read_kinds read_changes read_change record_msg_fields record_bare_fields set_marks_fields read_app_records read_app_record read_part read_key read_marks utf8 well_formed lead_length own_bits least fitting is_scalar is_surrogate is_tail is_printable_byte is_printable is_marks is_key
+unfolding step on_given on_hello on_bind on_checked on_batch on_handle on_part hold settle apply keep put given encode body_bytes blob_bytes change_bytes app_record_bytes key_bytes run_bytes bytes_of decode le read_num read_bytes read_blob read_text read_count many read_body read_fields hello_fields bind_fields batch_fields ack_fields checked_fields read_kinds read_changes read_change record_msg_fields record_bare_fields set_marks_fields read_app_records read_app_record read_part read_key read_marks utf8 well_formed lead_length own_bits least fitting is_scalar is_surrogate is_tail is_printable_byte is_printable is_marks is_key
 script_places = refl
 
 -- ---- commits: pending until due
@@ -156,7 +156,7 @@ commits =
     ∷ []
 
 commits_so : map (λ (p : Standby × List Call × Standby). run L₁ p.0 p.1) commits ≡ map (λ (p : Standby × List Call × Standby). p.2) commits
-unfolding step onGiven onBatch onHandle onPart settle apply put given encode body_bytes change_bytes run_bytes bytes_of decode le read_num read_bytes read_count many read_body read_fields batch_fields ack_fields read_changes read_change set_incoming_fields read_app_records read_part
+unfolding step on_given on_batch on_handle on_part settle apply put given encode body_bytes change_bytes run_bytes bytes_of decode le read_num read_bytes read_count many read_body read_fields batch_fields ack_fields read_changes read_change set_incoming_fields read_app_records read_part
 commits_so = refl
 
 -- ---- states that no operation makes
@@ -173,14 +173,14 @@ odd durable n cs sum pending =
 
 -- 17: the byte sum stays raised, what is held stays held; the commit due has run, that of place 5 marked nothing
 too_many : run L₁ (odd false 0 (reset ∷ []) 4294967296 ((1, 0) ∷ (2, 5) ∷ [])) (held (batch 1 0 2 whole (record_msg 1 (5 ∷ []) ∷ []) []) ∷ []) ≡ odd true 0 (reset ∷ []) 4294967297 []
-unfolding step onGiven onBatch onHandle onPart hold settle apply put given encode body_bytes blob_bytes change_bytes run_bytes bytes_of decode le read_num read_bytes read_blob read_count many read_body read_fields batch_fields read_changes read_change record_msg_fields read_app_records read_part
+unfolding step on_given on_batch on_handle on_part hold settle apply put given encode body_bytes blob_bytes change_bytes run_bytes bytes_of decode le read_num read_bytes read_blob read_count many read_body read_fields batch_fields read_changes read_change record_msg_fields read_app_records read_part
 too_many = refl
 
 -- one byte less passes; with nothing held the byte sum counts as 0
 just_enough : answers L₁ (odd true 0 (reset ∷ []) 4294967295 []) (held (batch 1 0 2 whole (record_msg 1 (5 ∷ []) ∷ []) []) ∷ [])
     ++ answers L₁ (odd true 0 [] top []) (held (batch 1 0 2 whole (reset ∷ record_msg 1 (5 ∷ []) ∷ []) []) ∷ [])
     ≡ reply (ack 1 2) ∷ reply (ack 1 2) ∷ []
-unfolding step onGiven onBatch onHandle onPart hold settle apply put given encode body_bytes blob_bytes change_bytes run_bytes bytes_of decode le read_num read_bytes read_blob read_count many read_body read_fields batch_fields read_changes read_change record_msg_fields read_app_records read_part
+unfolding step on_given on_batch on_handle on_part hold settle apply put given encode body_bytes blob_bytes change_bytes run_bytes bytes_of decode le read_num read_bytes read_blob read_count many read_body read_fields batch_fields read_changes read_change record_msg_fields read_app_records read_part
 just_enough = refl
 
 -- of two places with one key a Bind takes the first
@@ -197,7 +197,7 @@ twice read_marks =
     }
 
 first_counts : run L₁ (twice []) (taken (bind 1 0 0 (key_of 65)) ∷ taken (batch 1 0 1 commit (set_marks (65 ∷ []) ∷ []) []) ∷ disconnected_from 0 ∷ []) ≡ twice (65 ∷ [])
-unfolding step onGiven onBind onBatch onHandle onPart hold settle apply put given encode body_bytes blob_bytes change_bytes key_bytes run_bytes bytes_of decode le read_num read_bytes read_blob read_text read_count many read_body read_fields bind_fields batch_fields read_changes read_change set_marks_fields read_app_records read_part read_key read_marks utf8 well_formed lead_length own_bits least fitting is_scalar is_surrogate is_printable_byte is_printable is_marks is_key
+unfolding step on_given on_bind on_batch on_handle on_part hold settle apply put given encode body_bytes blob_bytes change_bytes key_bytes run_bytes bytes_of decode le read_num read_bytes read_blob read_text read_count many read_body read_fields bind_fields batch_fields read_changes read_change set_marks_fields read_app_records read_part read_key read_marks utf8 well_formed lead_length own_bits least fitting is_scalar is_surrogate is_printable_byte is_printable is_marks is_key
 first_counts = refl
 
 -- a Bind doesn't raise the epoch, nor does a Batch with application records; one that is then refused does
@@ -205,7 +205,7 @@ abbrev epoch_after : Frame → ℕ
 epoch_after f = (step L₁ (two true true [] 0 0) (held f)).state.counters.epoch
 
 epochs_so : epoch_after (bind 1 8 0 (key_of 65)) ∷ epoch_after (batch 3 8 1 commit [] (record { kind = 1; blob = [] } ∷ [])) ∷ epoch_after (batch 3 8 1 commit [] []) ∷ epoch_after (checked 1 8 7) ∷ [] ≡ 0 ∷ 0 ∷ 8 ∷ 8 ∷ []
-unfolding step onGiven onBind onBatch onHandle onChecked given encode body_bytes blob_bytes app_record_bytes key_bytes run_bytes bytes_of decode le read_num read_bytes read_blob read_text read_count many read_body read_fields bind_fields batch_fields checked_fields read_changes read_app_records read_app_record read_part read_key utf8 well_formed lead_length own_bits least fitting is_scalar is_surrogate is_printable_byte is_printable is_key
+unfolding step on_given on_bind on_batch on_handle on_checked given encode body_bytes blob_bytes app_record_bytes key_bytes run_bytes bytes_of decode le read_num read_bytes read_blob read_text read_count many read_body read_fields bind_fields batch_fields checked_fields read_changes read_app_records read_app_record read_part read_key utf8 well_formed lead_length own_bits least fitting is_scalar is_surrogate is_printable_byte is_printable is_key
 epochs_so = refl
 
 -- ---- what goes: a binding by a Bind on its handle or by an accepted Hello; at promotion numbers and marks
@@ -222,7 +222,7 @@ on_one durable pending place n cs sum =
 
 -- a Bind on a used handle starts it anew, on another session here; the pending commit has run
 binds_anew : run L₁ (on_one false ((1, 0) ∷ []) 0 4 (reset ∷ []) 3) (held (bind 1 0 0 (key_of 66)) ∷ []) ≡ on_one true [] 1 0 [] 0
-unfolding step onGiven onBind put given encode body_bytes blob_bytes key_bytes bytes_of decode le read_num read_bytes read_blob read_text read_body read_fields bind_fields read_key utf8 well_formed lead_length own_bits least fitting is_scalar is_surrogate is_printable_byte is_printable is_key
+unfolding step on_given on_bind put given encode body_bytes blob_bytes key_bytes bytes_of decode le read_num read_bytes read_blob read_text read_body read_fields bind_fields read_key utf8 well_formed lead_length own_bits least fitting is_scalar is_surrogate is_printable_byte is_printable is_key
 binds_anew = refl
 
 -- two sessions that are marked, no handle bound, no commit pending, at this epoch and count of connections
@@ -242,13 +242,13 @@ hello_drops :
     ∷ run L₁ (none_bound 5 1) (held (hello 1 4 [] []) ∷ [])
     ∷ []
     ≡ none_bound 5 1 ∷ none_bound 0 1 ∷ none_bound 5 1 ∷ []
-unfolding step onGiven onHello given encode body_bytes blob_bytes run_bytes bytes_of decode le read_num read_bytes read_blob read_text read_count many read_body read_fields hello_fields read_kinds utf8 well_formed lead_length own_bits least fitting is_scalar is_surrogate
+unfolding step on_given on_hello given encode body_bytes blob_bytes run_bytes bytes_of decode le read_num read_bytes read_blob read_text read_count many read_body read_fields hello_fields read_kinds utf8 well_formed lead_length own_bits least fitting is_scalar is_surrogate
 hello_drops = refl
 
 -- a lower Hello keeps what is bound: handle 1 takes its next Commit
 hello_keeps : answers L₁ (two true true [] 3 4) (held (batch 1 5 4 commit [] []) ∷ held (hello 1 4 [] []) ∷ held (batch 1 5 5 commit [] []) ∷ held (hello 1 5 [] []) ∷ held (batch 1 5 6 commit [] []) ∷ [])
     ≡ reply (ack 1 4) ∷ reply (welcome 5 7) ∷ reply (ack 1 5) ∷ reply (welcome 5 7) ∷ refused 14 ∷ []
-unfolding step onGiven onHello onBatch onHandle onPart settle apply put given encode body_bytes blob_bytes change_bytes run_bytes bytes_of decode le read_num read_bytes read_blob read_text read_count many read_body read_fields hello_fields batch_fields read_kinds read_changes read_app_records read_part utf8 well_formed lead_length own_bits least fitting is_scalar is_surrogate
+unfolding step on_given on_hello on_batch on_handle on_part settle apply put given encode body_bytes blob_bytes change_bytes run_bytes bytes_of decode le read_num read_bytes read_blob read_text read_count many read_body read_fields hello_fields batch_fields read_kinds read_changes read_app_records read_part utf8 well_formed lead_length own_bits least fitting is_scalar is_surrogate
 hello_keeps = refl
 
 -- marks get a final B: none, one byte, already B, 63 bytes, 64 bytes (the last replaced), 64 that end in B

@@ -17,9 +17,9 @@ use Rattle.model_session.proofs.Basics.{and_r, cond_cases, none≢some, some_inj
 use Rattle.model_standby.specs.Answer.{Given, damaged, intact, accepted}
 use Rattle.model_standby.specs.Row.{is_some, find, put}
 use Rattle.model_standby.specs.State.{Settings, Counters, Bound, Standby, Result, at_epoch, none_held}
-use Rattle.model_standby.specs.Standby.{with_counters, with_handle, run_pending, due, says, refuse, follows, raised, max_whole, starts_with_reset, summed, holding, settle, hold, onPart, onHandle, onBatch, onGiven}
-use Rattle.model_standby.specs.Hold.{HoldWrite, held_bytes, heldPasses, writes_at, writesPart, writesFrame, writes}
-use Rattle.model_standby.proofs.Rows.{find-put-found}
+use Rattle.model_standby.specs.Standby.{with_counters, with_handle, run_pending, due, says, refuse, follows, raised, max_whole, starts_with_reset, summed, holding, settle, hold, on_part, on_handle, on_batch, on_given}
+use Rattle.model_standby.specs.Hold.{HoldWrite, held_bytes, held_passes, writes_at, writes_part, writes_frame, writes}
+use Rattle.model_standby.proofs.Rows.{find_put_found}
 
 module _ (L : Settings) where
   -- ---- inside
@@ -30,40 +30,40 @@ module _ (L : Settings) where
   none_inside : Inside none
   none_inside w p = absurd (none≢some p)
 
-  inside-at : (h : ℕ) (o : Option Bound) (n : ℕ) (cs : List Change) → Inside (writes_at L h o n cs)
-  inside-at h none n cs = none_inside
-  inside-at h (some b) n cs =
-      cond_cases Inside (heldPasses L b n cs)
+  inside_at : (h : ℕ) (o : Option Bound) (n : ℕ) (cs : List Change) → Inside (writes_at L h o n cs)
+  inside_at h none n cs = none_inside
+  inside_at h (some b) n cs =
+      cond_cases Inside (held_passes L b n cs)
       (λ t w p. subst (λ (x : HoldWrite). x.offset + length x.bytes ≤ L.room) (some_inj p) (fit t))
       (λ _. none_inside)
     where
-      fit : T (heldPasses L b n cs) → sizes b.held + length (held_bytes cs) ≤ L.room
+      fit : T (held_passes L b n cs) → sizes b.held + length (held_bytes cs) ≤ L.room
       fit t =
           let t₂ = and_r (follows b n) (not (is_empty b.held && not (starts_with_reset cs)) && (not (ltb max_whole (raised b cs)) && not (ltb L.room (sizes (b.held ++ cs))))) t in
           let t₃ = and_r (not (is_empty b.held && not (starts_with_reset cs))) (not (ltb max_whole (raised b cs)) && not (ltb L.room (sizes (b.held ++ cs)))) t₂ in
           let t₄ = and_r (not (ltb max_whole (raised b cs))) (not (ltb L.room (sizes (b.held ++ cs)))) t₃ in
           omega (arith, nltb→le L.room (sizes (b.held ++ cs)) t₄, sizes_append b.held cs, changes_size cs)
 
-  inside-part : (h : ℕ) (o : Option Bound) (n : ℕ) (p : Part) (cs : List Change) → Inside (writesPart L h o n p cs)
-  inside-part h o n commit cs = none_inside
-  inside-part h o n whole cs = inside-at h o n cs
-  inside-part h o n last_whole cs = inside-at h o n cs
+  inside_part : (h : ℕ) (o : Option Bound) (n : ℕ) (p : Part) (cs : List Change) → Inside (writes_part L h o n p cs)
+  inside_part h o n commit cs = none_inside
+  inside_part h o n whole cs = inside_at h o n cs
+  inside_part h o n last_whole cs = inside_at h o n cs
 
-  inside-frame : (c : Counters) (o : Option Bound) (f : Frame) → Inside (writesFrame L c o f)
-  inside-frame c o (hello v e node kinds) = none_inside
-  inside-frame c o (welcome e i) = none_inside
-  inside-frame c o (bind h e lag k) = none_inside
-  inside-frame c o (batch h e n p cs apps) = cond_cases Inside (not (is_empty apps) || ltb e c.epoch) (λ _. none_inside) (λ _. inside-part h o n p cs)
-  inside-frame c o (ack h n) = none_inside
-  inside-frame c o (nack h r) = none_inside
-  inside-frame c o (bound h m) = none_inside
-  inside-frame c o (checked h e i) = none_inside
+  inside_frame : (c : Counters) (o : Option Bound) (f : Frame) → Inside (writes_frame L c o f)
+  inside_frame c o (hello v e node kinds) = none_inside
+  inside_frame c o (welcome e i) = none_inside
+  inside_frame c o (bind h e lag k) = none_inside
+  inside_frame c o (batch h e n p cs apps) = cond_cases Inside (not (is_empty apps) || ltb e c.epoch) (λ _. none_inside) (λ _. inside_part h o n p cs)
+  inside_frame c o (ack h n) = none_inside
+  inside_frame c o (nack h r) = none_inside
+  inside_frame c o (bound h m) = none_inside
+  inside_frame c o (checked h e i) = none_inside
 
   -- nothing is written outside the handle's area
-  pub writes-inside : (c : Counters) (o : Option Bound) (g : Given) (w : HoldWrite) → writes L c o g ≡ some w → w.offset + length w.bytes ≤ L.room
+  pub writes_inside : (c : Counters) (o : Option Bound) (g : Given) (w : HoldWrite) → writes L c o g ≡ some w → w.offset + length w.bytes ≤ L.room
   unfolding writes
-  writes-inside c o (damaged n) = none_inside
-  writes-inside c o (intact f) = cond_cases Inside c.promoted (λ _. none_inside) (λ _. inside-frame c o f)
+  writes_inside c o (damaged n) = none_inside
+  writes_inside c o (intact f) = cond_cases Inside c.promoted (λ _. none_inside) (λ _. inside_frame c o f)
 
   -- ---- what is then held
 
@@ -75,12 +75,12 @@ module _ (L : Settings) where
   abbrev pub Needs : Option HoldWrite → Result → Type 0
   Needs w r = accepted r.answer ≡ true → is_some w ≡ true
 
-  at-agrees : (s : Standby) (h n : ℕ) (b : Bound) (cs : List Change) → find h s.handles ≡ some b → Agrees h cs (some b) (writes_at L h (some b) n cs) (onHandle L s h (some b) n whole cs)
-  unfolding onHandle onPart hold
-  at-agrees s h n b cs f = go (follows b n) (is_empty b.held && not (starts_with_reset cs)) (ltb max_whole (raised b cs)) (ltb L.room (sizes (b.held ++ cs)))
+  at_agrees : (s : Standby) (h n : ℕ) (b : Bound) (cs : List Change) → find h s.handles ≡ some b → Agrees h cs (some b) (writes_at L h (some b) n cs) (on_handle L s h (some b) n whole cs)
+  unfolding on_handle on_part hold
+  at_agrees s h n b cs f = go (follows b n) (is_empty b.held && not (starts_with_reset cs)) (ltb max_whole (raised b cs)) (ltb L.room (sizes (b.held ++ cs)))
     where
-      held-so : map (λ (x : Bound). x.held) (find h (put h (holding b n cs) s.handles)) ≡ some (b.held ++ cs)
-      held-so = ap (map (λ (x : Bound). x.held)) (find-put-found h (holding b n cs) b s.handles f)
+      held_so : map (λ (x : Bound). x.held) (find h (put h (holding b n cs) s.handles)) ≡ some (b.held ++ cs)
+      held_so = ap (map (λ (x : Bound). x.held)) (find_put_found h (holding b n cs) b s.handles f)
 
       go : (fo t16 t17 t18 : Bool)
           → Agrees h cs (some b) (cond (fo && (not t16 && (not t17 && not t18))) (some (record { handle = h; offset = sizes b.held; bytes = held_bytes cs })) none)
@@ -93,17 +93,17 @@ module _ (L : Settings) where
       go true true t17 t18 = (refl, λ c p u. absurd (true≢false (sym u)))
       go true false true t18 = (refl, λ c p u. absurd (true≢false (sym u)))
       go true false false true = (refl, λ c p u. absurd (true≢false (sym u)))
-      go true false false false = (refl, λ c p u. held-so ∙ ap (λ (x : Bound). some (x.held ++ cs)) (some_inj p))
+      go true false false false = (refl, λ c p u. held_so ∙ ap (λ (x : Bound). some (x.held ++ cs)) (some_inj p))
 
-  handle-agrees : (s : Standby) (h n : ℕ) (o : Option Bound) (cs : List Change) → find h s.handles ≡ o → Agrees h cs o (writes_at L h o n cs) (onHandle L s h o n whole cs)
-  unfolding onHandle
-  handle-agrees s h n none cs f = (refl, λ c p u. absurd (true≢false (sym u)))
-  handle-agrees s h n (some b) cs f = at-agrees s h n b cs f
+  handle_agrees : (s : Standby) (h n : ℕ) (o : Option Bound) (cs : List Change) → find h s.handles ≡ o → Agrees h cs o (writes_at L h o n cs) (on_handle L s h o n whole cs)
+  unfolding on_handle
+  handle_agrees s h n none cs f = (refl, λ c p u. absurd (true≢false (sym u)))
+  handle_agrees s h n (some b) cs f = at_agrees s h n b cs f
 
-  handle-needs : (s : Standby) (h n : ℕ) (o : Option Bound) (cs : List Change) → Needs (writes_at L h o n cs) (onHandle L s h o n last_whole cs)
-  unfolding onHandle onPart hold
-  handle-needs s h n none cs = λ u. absurd (true≢false (sym u))
-  handle-needs s h n (some b) cs = go (follows b n) (is_empty b.held && not (starts_with_reset cs)) (ltb max_whole (raised b cs)) (ltb L.room (sizes (b.held ++ cs)))
+  handle_needs : (s : Standby) (h n : ℕ) (o : Option Bound) (cs : List Change) → Needs (writes_at L h o n cs) (on_handle L s h o n last_whole cs)
+  unfolding on_handle on_part hold
+  handle_needs s h n none cs = λ u. absurd (true≢false (sym u))
+  handle_needs s h n (some b) cs = go (follows b n) (is_empty b.held && not (starts_with_reset cs)) (ltb max_whole (raised b cs)) (ltb L.room (sizes (b.held ++ cs)))
     where
       go : (fo t16 t17 t18 : Bool)
           → Needs (cond (fo && (not t16 && (not t17 && not t18))) (some (record { handle = h; offset = sizes b.held; bytes = held_bytes cs })) none)
@@ -120,33 +120,33 @@ module _ (L : Settings) where
 
   module _ (s : Standby) (h e n : ℕ) (cs : List Change) (apps : List AppRecord) where
     -- A Whole is accepted just if it writes, and then the handle holds what it held, followed by what was written.
-    pub whole-writes : Agrees h cs (find h s.handles) (writes L s.counters (find h s.handles) (intact (batch h e n whole cs apps))) (onGiven L s (intact (batch h e n whole cs apps)))
-    unfolding writes onGiven onBatch
-    whole-writes = go s.counters.promoted (not (is_empty apps)) (ltb e s.counters.epoch)
+    pub whole_writes : Agrees h cs (find h s.handles) (writes L s.counters (find h s.handles) (intact (batch h e n whole cs apps))) (on_given L s (intact (batch h e n whole cs apps)))
+    unfolding writes on_given on_batch
+    whole_writes = go s.counters.promoted (not (is_empty apps)) (ltb e s.counters.epoch)
       where
         s₁ : Standby
         s₁ = run_pending (due s.pending (batch h e n whole cs apps)) s
 
         go : (q a b : Bool)
             → Agrees h cs (find h s.handles) (cond q none (cond (a || b) none (writes_at L h (find h s.handles) n cs)))
-            (cond q (refuse s 10) (cond a (refuse s₁ 13) (cond b (says s₁ (nack h stale_epoch)) (onHandle L (with_counters s₁ (at_epoch e s.counters)) h (find h s.handles) n whole cs))))
+            (cond q (refuse s 10) (cond a (refuse s₁ 13) (cond b (says s₁ (nack h stale_epoch)) (on_handle L (with_counters s₁ (at_epoch e s.counters)) h (find h s.handles) n whole cs))))
         go true a b = (refl, λ c p u. absurd (true≢false (sym u)))
         go false true b = (refl, λ c p u. absurd (true≢false (sym u)))
         go false false true = (refl, λ c p u. absurd (true≢false (sym u)))
-        go false false false = handle-agrees (with_counters s₁ (at_epoch e s.counters)) h n (find h s.handles) cs refl
+        go false false false = handle_agrees (with_counters s₁ (at_epoch e s.counters)) h n (find h s.handles) cs refl
 
     -- A LastWhole is accepted only if it writes.
-    pub last-writes : Needs (writes L s.counters (find h s.handles) (intact (batch h e n last_whole cs apps))) (onGiven L s (intact (batch h e n last_whole cs apps)))
-    unfolding writes onGiven onBatch
-    last-writes = go s.counters.promoted (not (is_empty apps)) (ltb e s.counters.epoch)
+    pub last_writes : Needs (writes L s.counters (find h s.handles) (intact (batch h e n last_whole cs apps))) (on_given L s (intact (batch h e n last_whole cs apps)))
+    unfolding writes on_given on_batch
+    last_writes = go s.counters.promoted (not (is_empty apps)) (ltb e s.counters.epoch)
       where
         s₁ : Standby
         s₁ = run_pending (due s.pending (batch h e n last_whole cs apps)) s
 
         go : (q a b : Bool)
             → Needs (cond q none (cond (a || b) none (writes_at L h (find h s.handles) n cs)))
-            (cond q (refuse s 10) (cond a (refuse s₁ 13) (cond b (says s₁ (nack h stale_epoch)) (onHandle L (with_counters s₁ (at_epoch e s.counters)) h (find h s.handles) n last_whole cs))))
+            (cond q (refuse s 10) (cond a (refuse s₁ 13) (cond b (says s₁ (nack h stale_epoch)) (on_handle L (with_counters s₁ (at_epoch e s.counters)) h (find h s.handles) n last_whole cs))))
         go true a b u = absurd (true≢false (sym u))
         go false true b u = absurd (true≢false (sym u))
         go false false true u = absurd (true≢false (sym u))
-        go false false false u = handle-needs (with_counters s₁ (at_epoch e s.counters)) h n (find h s.handles) cs u
+        go false false false u = handle_needs (with_counters s₁ (at_epoch e s.counters)) h n (find h s.handles) cs u

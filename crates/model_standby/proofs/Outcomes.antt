@@ -15,10 +15,10 @@ use Rattle.model_session.specs.Session.{fits}
 use Rattle.model_session.specs.Summary.{summary}
 use Rattle.model_session.proofs.Basics.{T→true, cond_cases}
 use Rattle.model_standby.specs.Answer.{protocol_version}
-use Rattle.model_standby.specs.Row.{find, hasRoom}
+use Rattle.model_standby.specs.Row.{find, has_room_lem}
 use Rattle.model_standby.specs.Store.{place_of, is_stored, session_at, or_new}
 use Rattle.model_standby.specs.State.{Settings, incarnation_of, Bound, Standby, Result, at_epoch, connected, checked_at, none_held}
-use Rattle.model_standby.specs.Standby.{with_counters, with_handle, unbound, bind_to, says, refuse, onHello, onBind, onChecked, follows, raised, max_whole, starts_with_reset, summed, holding, applied, settle, hold, onPart, onHandle, onBatch, onIntact}
+use Rattle.model_standby.specs.Standby.{with_counters, with_handle, unbound, bind_to, says, refuse, on_hello, on_bind, on_checked, follows, raised, max_whole, starts_with_reset, summed, holding, applied, settle, hold, on_part, on_handle, on_batch, on_intact}
 use Rattle.model_standby.specs.Demand.{is_outside}
 
 pub not_not : (b : Bool) → T (not (not b)) → b ≡ true
@@ -69,31 +69,31 @@ module _ (L : Settings) where
     nacks : {f : Frame} {h : ℕ} {r : Reason} → Nacked f h r → Does s f (says s (nack h r))
     -- not stale
     greets : {v e : ℕ} {node kinds : List ℕ} → s.counters.epoch ≤ e → Does s (hello v e node kinds) (says (with_counters (unbound s) (connected e s.counters)) (welcome e (incarnation_of L)))
-    binds : {h e lag : ℕ} {k : Key} → s.counters.epoch ≤ e → (is_stored k s.places || ltb (length s.places) L.S) ≡ true → hasRoom h s.handles ≡ true
+    binds : {h e lag : ℕ} {k : Key} → s.counters.epoch ≤ e → (is_stored k s.places || ltb (length s.places) L.S) ≡ true → has_room_lem h s.handles ≡ true
         → Does s (bind h e lag k) (says (bind_to s h k) (bound h (summary (or_new (session_at s.places (place_of k s.places))) lag)))
     checks : {h e i : ℕ} → s.counters.epoch ≤ e → Does s (checked h e i) (says (with_counters s (checked_at e s.counters)) (ack h 0))
     batches : {h e n : ℕ} {p : Part} {cs : List Change} {apps : List AppRecord} {r : Result} → s.counters.epoch ≤ e → Batches (with_counters s (at_epoch e s.counters)) h n p cs r → Does s (batch h e n p cs apps) r
 
   -- ---- the walk
 
-  does_hello : (s : Standby) (v e : ℕ) (node kinds : List ℕ) → Does s (hello v e node kinds) (onHello L s v e kinds)
-  unfolding onHello
+  does_hello : (s : Standby) (v e : ℕ) (node kinds : List ℕ) → Does s (hello v e node kinds) (on_hello L s v e kinds)
+  unfolding on_hello
   does_hello s v e node kinds =
       cond_cases (Does s (hello v e node kinds)) (not (eqb v protocol_version)) (λ _. turns tt)
       (λ _. cond_cases (Does s (hello v e node kinds)) (not (is_empty kinds)) (λ _. turns tt)
       (λ _. cond_cases (Does s (hello v e node kinds)) (ltb e s.counters.epoch) (λ _. tells) (λ t. greets (nltb→le e s.counters.epoch t))))
 
-  does_bind : (s : Standby) (h e lag : ℕ) (k : Key) → Does s (bind h e lag k) (onBind L s h e lag k)
-  unfolding onBind
+  does_bind : (s : Standby) (h e lag : ℕ) (k : Key) → Does s (bind h e lag k) (on_bind L s h e lag k)
+  unfolding on_bind
   does_bind s h e lag k =
       cond_cases (Does s (bind h e lag k)) (ltb e s.counters.epoch) (λ _. nacks stale_bind)
       (λ t. cond_cases (Does s (bind h e lag k)) (ltb L.lag lag) (λ _. nacks lag_bind)
       (λ _. cond_cases (Does s (bind h e lag k)) (not (is_stored k s.places || ltb (length s.places) L.S)) (λ _. turns tt)
-      (λ u. cond_cases (Does s (bind h e lag k)) (not (hasRoom h s.handles)) (λ _. turns tt)
-      (λ v. binds (nltb→le e s.counters.epoch t) (not_not (is_stored k s.places || ltb (length s.places) L.S) u) (not_not (hasRoom h s.handles) v)))))
+      (λ u. cond_cases (Does s (bind h e lag k)) (not (has_room_lem h s.handles)) (λ _. turns tt)
+      (λ v. binds (nltb→le e s.counters.epoch t) (not_not (is_stored k s.places || ltb (length s.places) L.S) u) (not_not (has_room_lem h s.handles) v)))))
 
-  does_checked : (s : Standby) (h e i : ℕ) → Does s (checked h e i) (onChecked L s h e i)
-  unfolding onChecked
+  does_checked : (s : Standby) (h e i : ℕ) → Does s (checked h e i) (on_checked L s h e i)
+  unfolding on_checked
   does_checked s h e i =
       cond_cases (Does s (checked h e i)) (ltb e s.counters.epoch) (λ _. nacks stale_checked)
       (λ t. cond_cases (Does s (checked h e i)) (not (eqb i (incarnation_of L))) (λ _. nacks other_checked) (λ _. checks (nltb→le e s.counters.epoch t)))
@@ -111,26 +111,26 @@ module _ (L : Settings) where
       (λ u. cond_cases (Batches s h n p cs) (ltb L.room (sizes (b.held ++ cs))) (λ _. refuses tt)
       (λ v. k (record { begins = t; few = nltb→le max_whole (raised b cs) u; small = nltb→le L.room (sizes (b.held ++ cs)) v }))))
 
-  does_part : (s : Standby) (h n : ℕ) (p : Part) (cs : List Change) (b : Bound) → find h s.handles ≡ some b → Batches s h n p cs (onPart L s h b n p cs)
-  unfolding onPart
+  does_part : (s : Standby) (h n : ℕ) (p : Part) (cs : List Change) (b : Bound) → find h s.handles ≡ some b → Batches s h n p cs (on_part L s h b n p cs)
+  unfolding on_part
   does_part s h n commit cs b f =
       cond_cases (Batches s h n commit cs) (not (is_empty b.held)) (λ _. refuses tt) (λ t. does_settle s h n commit cs b b cs f (of_commit (empty_nil b.held t)))
   does_part s h n whole cs b f = does_hold s h n whole cs b _ f (λ q. holds f refl q)
   does_part s h n last_whole cs b f = does_hold s h n last_whole cs b _ f (λ q. does_settle s h n last_whole cs b (none_held b) (b.held ++ cs) f (of_last q))
 
-  does_handle : (s : Standby) (h n : ℕ) (p : Part) (cs : List Change) (o : Option Bound) → find h s.handles ≡ o → Batches s h n p cs (onHandle L s h o n p cs)
-  unfolding onHandle
+  does_handle : (s : Standby) (h n : ℕ) (p : Part) (cs : List Change) (o : Option Bound) → find h s.handles ≡ o → Batches s h n p cs (on_handle L s h o n p cs)
+  unfolding on_handle
   does_handle s h n p cs none f = refuses tt
   does_handle s h n p cs (some b) f = cond_cases (Batches s h n p cs) (follows b n) (λ _. does_part s h n p cs b f) (λ _. clears f)
 
-  does_batch : (s : Standby) (h e n : ℕ) (p : Part) (cs : List Change) (apps : List AppRecord) → Does s (batch h e n p cs apps) (onBatch L s h e n p cs apps)
-  unfolding onBatch
+  does_batch : (s : Standby) (h e n : ℕ) (p : Part) (cs : List Change) (apps : List AppRecord) → Does s (batch h e n p cs apps) (on_batch L s h e n p cs apps)
+  unfolding on_batch
   does_batch s h e n p cs apps =
       cond_cases (Does s (batch h e n p cs apps)) (not (is_empty apps)) (λ _. turns tt)
       (λ _. cond_cases (Does s (batch h e n p cs apps)) (ltb e s.counters.epoch) (λ _. nacks stale_batch)
       (λ t. batches (nltb→le e s.counters.epoch t) (does_handle (with_counters s (at_epoch e s.counters)) h n p cs (find h s.handles) refl)))
 
-  pub does : (s : Standby) (f : Frame) → Does s f (onIntact L s f)
+  pub does : (s : Standby) (f : Frame) → Does s f (on_intact L s f)
   does s (hello v e node kinds) = does_hello s v e node kinds
   does s (welcome e i) = turns tt
   does s (bind h e lag k) = does_bind s h e lag k

@@ -28,10 +28,10 @@ use Rattle.model_standby.specs.Answer.{protocol_version, Given, damaged, intact,
 use Rattle.model_standby.specs.Row.{Row, Used, find}
 use Rattle.model_standby.specs.Store.{Stored, Place, place_of, is_stored, on_place, session_at, or_new, new_place, opened, changed, with_b, taken_over}
 use Rattle.model_standby.specs.State.{Settings, Bound, Standby, Result, Call, on_frame_held, on_frame, flush, disconnected_from, promote, promote_unchecked, new_standby, at_epoch, new_bound, none_held, numbered}
-use Rattle.model_standby.specs.Standby.{with_counters, with_handle, unbound, run_pending, due, pends_on, bind_to, held_sum, raised, max_whole, starts_with_reset, summed, holding, applied, onGiven, promotion, step, run}
+use Rattle.model_standby.specs.Standby.{with_counters, with_handle, unbound, run_pending, due, pends_on, bind_to, held_sum, raised, max_whole, starts_with_reset, summed, holding, applied, on_given, promotion, step, run}
 use Rattle.model_standby.proofs.Rules.{OkCall, changes_of, Readable, BoundValid, BoundUsual, StateRules, Valid, Usual}
 use Rattle.model_standby.proofs.Outcomes.{Gathers, of_commit, of_last, Batches, refuses, clears, raises, holds, applies, diverges, Does, turns, tells, nacks, greets, binds, checks, batches, does}
-use Rattle.model_standby.proofs.Rows.{used-found, used-put, used-freed, used-none, used_map}
+use Rattle.model_standby.proofs.Rows.{used_found, used_put, used_freed, used_none, used_map}
 use Rattle.model_standby.proofs.Places.{place_low, length_on, pending_length, length_places, each_at, each_on, each_places, each_mark}
 use Rattle.model_standby.proofs.Taking.{starts_append}
 
@@ -76,8 +76,8 @@ module _ (L : Settings) (Also : Bound → Type 0) (closed : Closed Also) where
   all_grown : (m n : ℕ) (t : Row Bound) → m ≤ n → Each (Used (BoundValid L m)) t → Each (Used (BoundValid L n)) t
   all_grown m n t h u = used_map (BoundValid L m) (BoundValid L n) (λ b o. grown m n b h o) t u
 
-  rules-pending : (w : Bool) (s : Standby) → StateRules L Also s → StateRules L Also (run_pending w s)
-  rules-pending w s r =
+  rules_pending : (w : Bool) (s : Standby) → StateRules L Also s → StateRules L Also (run_pending w s)
+  rules_pending w s r =
       record {
         epoch_u64 = r.epoch_u64;
         connections_u64 = r.connections_u64;
@@ -88,58 +88,58 @@ module _ (L : Settings) (Also : Bound → Type 0) (closed : Closed Also) where
         pending_few = cond_cases (λ (l : List (ℕ × ℕ)). length l ≤ 64) w (λ _. omega arith) (λ _. r.pending_few);
       }
 
-  rules-unbound : (s : Standby) → StateRules L Also s → StateRules L Also (unbound s)
-  rules-unbound s r =
+  rules_unbound : (s : Standby) → StateRules L Also s → StateRules L Also (unbound s)
+  rules_unbound s r =
       record {
         epoch_u64 = r.epoch_u64;
         connections_u64 = r.connections_u64;
         places_few = r.places_few;
         sessions_ok = r.sessions_ok;
-        handles_ok = used-freed (BoundValid L _) s.handles;
-        handles_also = used-freed Also s.handles;
+        handles_ok = used_freed (BoundValid L _) s.handles;
+        handles_also = used_freed Also s.handles;
         pending_few = omega arith;
       }
 
-  rules-epoch : (s : Standby) (e : ℕ) → e ≤ top → StateRules L Also s → StateRules L Also (with_counters s (at_epoch e s.counters))
-  rules-epoch s e h r =
+  rules_epoch : (s : Standby) (e : ℕ) → e ≤ top → StateRules L Also s → StateRules L Also (with_counters s (at_epoch e s.counters))
+  rules_epoch s e h r =
       record { epoch_u64 = h; connections_u64 = r.connections_u64; places_few = r.places_few; sessions_ok = r.sessions_ok; handles_ok = r.handles_ok; handles_also = r.handles_also; pending_few = r.pending_few }
 
-  all-fine : (s : Standby) → StateRules L Also s → (x : ℕ) (y : Bound) → find x s.handles ≡ some y → Fine (length s.places) y
-  all-fine s r x y p = (used-found (BoundValid L (length s.places)) x y s.handles r.handles_ok p, used-found Also x y s.handles r.handles_also p)
+  all_fine_lem : (s : Standby) → StateRules L Also s → (x : ℕ) (y : Bound) → find x s.handles ≡ some y → Fine (length s.places) y
+  all_fine_lem s r x y p = (used_found (BoundValid L (length s.places)) x y s.handles r.handles_ok p, used_found Also x y s.handles r.handles_also p)
 
   -- a handle gets another value
-  rules-set : (s : Standby) (h : ℕ) (b : Bound) → Fine (length s.places) b → StateRules L Also s → StateRules L Also (with_handle s h b)
-  rules-set s h b fine r =
+  rules_set : (s : Standby) (h : ℕ) (b : Bound) → Fine (length s.places) b → StateRules L Also s → StateRules L Also (with_handle s h b)
+  rules_set s h b fine r =
       record {
         epoch_u64 = r.epoch_u64;
         connections_u64 = r.connections_u64;
         places_few = r.places_few;
         sessions_ok = r.sessions_ok;
-        handles_ok = used-put (BoundValid L (length s.places)) h b s.handles fine.0 r.handles_ok;
-        handles_also = used-put Also h b s.handles fine.1 r.handles_also;
+        handles_ok = used_put (BoundValid L (length s.places)) h b s.handles fine.0 r.handles_ok;
+        handles_also = used_put Also h b s.handles fine.1 r.handles_also;
         pending_few = r.pending_few;
       }
 
-  none-fine : (n : ℕ) (b : Bound) → Fine n b → Fine n (none_held b)
-  none-fine n b o = (record { place_there = o.0.place_there; number_u64 = o.0.number_u64; bytes_u64 = omega arith; held_small = omega arith; held_ok = tt }, closed.clears b o.1)
+  none_fine : (n : ℕ) (b : Bound) → Fine n b → Fine n (none_held b)
+  none_fine n b o = (record { place_there = o.0.place_there; number_u64 = o.0.number_u64; bytes_u64 = omega arith; held_small = omega arith; held_ok = tt }, closed.clears b o.1)
 
   -- ---- a settled Batch
 
-  sessions-changed : (ps : List Place) (n : ℕ) (cs : List Change) → Each Storable cs → fits (or_new (session_at ps n)).next_out cs ≡ true → Each Held ps → Each Held (on_place n (changed L.C L.M cs) ps)
-  sessions-changed ps n cs o f r =
+  sessions_changed : (ps : List Place) (n : ℕ) (cs : List Change) → Each Storable cs → fits (or_new (session_at ps n)).next_out cs ≡ true → Each Held ps → Each Held (on_place n (changed L.C L.M cs) ps)
+  sessions_changed ps n cs o f r =
       each_on Held n (changed L.C L.M cs) ps
       (λ x p h. apply_all_keeps L.C L.M cs x.stored.session h o (sym (ap (λ (y : Option Place). fits (or_new (map (λ (z : Place). z.stored.session) y)).next_out cs) p) ∙ f)) r
 
-  rules-applied : (s : Standby) (h : ℕ) (b : Bound) (n : ℕ) (cs : List Change) → suc (length s.pending) ≤ 64 → n ≤ top → Each Storable cs
+  rules_applied : (s : Standby) (h : ℕ) (b : Bound) (n : ℕ) (cs : List Change) → suc (length s.pending) ≤ 64 → n ≤ top → Each Storable cs
       → Fine (length s.places) b → fits (or_new (session_at s.places b.place)).next_out cs ≡ true → StateRules L Also s → StateRules L Also (applied L s h b n cs)
-  rules-applied s h b n cs few hn o fine ft r =
+  rules_applied s h b n cs few hn o fine ft r =
       record {
         epoch_u64 = r.epoch_u64;
         connections_u64 = r.connections_u64;
         places_few = le_trans (le_of_eq same) r.places_few;
-        sessions_ok = sessions-changed s.places b.place cs o ft r.sessions_ok;
-        handles_ok = all_grown (length s.places) (length (applied L s h b n cs).places) (applied L s h b n cs).handles (le_of_eq (sym same)) (used-put (BoundValid L (length s.places)) h (numbered n b) s.handles fine₁.0 r.handles_ok);
-        handles_also = used-put Also h (numbered n b) s.handles fine₁.1 r.handles_also;
+        sessions_ok = sessions_changed s.places b.place cs o ft r.sessions_ok;
+        handles_ok = all_grown (length s.places) (length (applied L s h b n cs).places) (applied L s h b n cs).handles (le_of_eq (sym same)) (used_put (BoundValid L (length s.places)) h (numbered n b) s.handles fine₁.0 r.handles_ok);
+        handles_also = used_put Also h (numbered n b) s.handles fine₁.1 r.handles_also;
         pending_few = omega (arith, length-append s.pending ((h, b.place) ∷ []));
       }
     where
@@ -154,63 +154,63 @@ module _ (L : Settings) (Also : Bound → Type 0) (closed : Closed Also) where
 
   -- ---- a Batch
 
-  gather-fine : {p : Part} {b b₁ : Bound} {cs all : List Change} (n : ℕ) → Gathers L p b cs b₁ all → Fine n b → Each Storable cs → Fine n b₁ × Each Storable all
-  gather-fine n (of_commit e) o oc = (o, oc)
-  gather-fine n (of_last {b} {cs} q) o oc = (none-fine n b o, each_append Storable b.held cs o.0.held_ok oc)
+  gather_fine : {p : Part} {b b₁ : Bound} {cs all : List Change} (n : ℕ) → Gathers L p b cs b₁ all → Fine n b → Each Storable cs → Fine n b₁ × Each Storable all
+  gather_fine n (of_commit e) o oc = (o, oc)
+  gather_fine n (of_last {b} {cs} q) o oc = (none_fine n b o, each_append Storable b.held cs o.0.held_ok oc)
 
-  keeps-batch : {s : Standby} {h n : ℕ} {p : Part} {cs : List Change} {r : Result} → Batches L s h n p cs r → suc (length s.pending) ≤ 64 → n ≤ top → Each Storable cs → message_bytes cs ≤ max_body
+  keeps_batch : {s : Standby} {h n : ℕ} {p : Part} {cs : List Change} {r : Result} → Batches L s h n p cs r → suc (length s.pending) ≤ 64 → n ≤ top → Each Storable cs → message_bytes cs ≤ max_body
       → StateRules L Also s → Keeps r
-  keeps-batch (refuses t) few hn oc small r = r
-  keeps-batch {s} {h} (clears {b} f) few hn oc small r = rules-set s h (none_held b) (none-fine (length s.places) b (all-fine s r h b f)) r
-  keeps-batch {s} {h} {cs} (raises {b} f t) few hn oc small r =
-      let o = all-fine s r h b f in
-      rules-set s h (summed b cs) (
+  keeps_batch (refuses t) few hn oc small r = r
+  keeps_batch {s} {h} (clears {b} f) few hn oc small r = rules_set s h (none_held b) (none_fine (length s.places) b (all_fine_lem s r h b f)) r
+  keeps_batch {s} {h} {cs} (raises {b} f t) few hn oc small r =
+      let o = all_fine_lem s r h b f in
+      rules_set s h (summed b cs) (
         record { place_there = o.0.place_there; number_u64 = o.0.number_u64; bytes_u64 = omega arith; held_small = o.0.held_small; held_ok = o.0.held_ok },
         closed.raises b cs small t o.1,
       ) r
-  keeps-batch {s} {h} {n} {cs} (holds {b} f e q) few hn oc small r =
-      let o = all-fine s r h b f in
-      rules-set s h (holding b n cs) (
+  keeps_batch {s} {h} {n} {cs} (holds {b} f e q) few hn oc small r =
+      let o = all_fine_lem s r h b f in
+      rules_set s h (holding b n cs) (
         record { place_there = o.0.place_there; number_u64 = hn; bytes_u64 = omega arith; held_small = q.small; held_ok = each_append Storable b.held cs o.0.held_ok oc },
         closed.takes b n cs q.begins q.few o.1,
       ) r
-  keeps-batch {s} {h} {n} (applies {b} {b₁} {all} f g t) few hn oc small r =
-      let o = gather-fine (length s.places) g (all-fine s r h b f) oc in
-      rules-applied s h b₁ n all few hn o.1 o.0 t r
-  keeps-batch {s} {h} (diverges {b} {b₁} f g) few hn oc small r = rules-set s h b₁ (gather-fine (length s.places) g (all-fine s r h b f) oc).0 r
+  keeps_batch {s} {h} {n} (applies {b} {b₁} {all} f g t) few hn oc small r =
+      let o = gather_fine (length s.places) g (all_fine_lem s r h b f) oc in
+      rules_applied s h b₁ n all few hn o.1 o.0 t r
+  keeps_batch {s} {h} (diverges {b} {b₁} f g) few hn oc small r = rules_set s h b₁ (gather_fine (length s.places) g (all_fine_lem s r h b f) oc).0 r
 
   -- ---- a Bind
 
-  open-length : (j : Key) (ps : List Place) → length ps ≤ length (opened j ps)
-  open-length j ps = cond_cases (λ (l : List Place). length ps ≤ length l) (is_stored j ps) (λ _. le_refl (length ps)) (λ _. omega (arith, length-append ps (new_place j ∷ [])))
+  open_length : (j : Key) (ps : List Place) → length ps ≤ length (opened j ps)
+  open_length j ps = cond_cases (λ (l : List Place). length ps ≤ length l) (is_stored j ps) (λ _. le_refl (length ps)) (λ _. omega (arith, length-append ps (new_place j ∷ [])))
 
-  open-few : (j : Key) (ps : List Place) → length ps ≤ L.S → (is_stored j ps || ltb (length ps) L.S) ≡ true → length (opened j ps) ≤ L.S
-  open-few j ps h p = go (is_stored j ps) p
+  open_few : (j : Key) (ps : List Place) → length ps ≤ L.S → (is_stored j ps || ltb (length ps) L.S) ≡ true → length (opened j ps) ≤ L.S
+  open_few j ps h p = go (is_stored j ps) p
     where
       go : (b : Bool) → (b || ltb (length ps) L.S) ≡ true → length (cond b ps (ps ++ (new_place j ∷ []))) ≤ L.S
       go true q = h
       go false q = omega (arith, length-append ps (new_place j ∷ []), ltb→lt (length ps) L.S (true→T (ltb (length ps) L.S) q))
 
-  open-there : (j : Key) (ps : List Place) → place_of j ps < length (opened j ps)
-  open-there j ps =
+  open_there : (j : Key) (ps : List Place) → place_of j ps < length (opened j ps)
+  open_there j ps =
       cond_cases (λ (l : List Place). place_of j ps < length l) (is_stored j ps) (λ t. ltb→lt (place_of j ps) (length ps) t)
       (λ _. omega (arith, length-append ps (new_place j ∷ []), place_low j ps))
 
-  open-held : (j : Key) (ps : List Place) → Each Held ps → Each Held (opened j ps)
-  open-held j ps h = cond_cases (Each Held) (is_stored j ps) (λ _. h) (λ _. each_append Held ps (new_place j ∷ []) h (new_holdable L.C L.M, tt))
+  open_held : (j : Key) (ps : List Place) → Each Held ps → Each Held (opened j ps)
+  open_held j ps h = cond_cases (Each Held) (is_stored j ps) (λ _. h) (λ _. each_append Held ps (new_place j ∷ []) h (new_holdable L.C L.M, tt))
 
-  rules-bind : (s : Standby) (h : ℕ) (j : Key) → (is_stored j s.places || ltb (length s.places) L.S) ≡ true → StateRules L Also s → StateRules L Also (bind_to s h j)
-  rules-bind s h j room r =
+  rules_bind : (s : Standby) (h : ℕ) (j : Key) → (is_stored j s.places || ltb (length s.places) L.S) ≡ true → StateRules L Also s → StateRules L Also (bind_to s h j)
+  rules_bind s h j room r =
       record {
         epoch_u64 = r.epoch_u64;
         connections_u64 = r.connections_u64;
-        places_few = open-few j s.places r.places_few room;
-        sessions_ok = open-held j s.places r.sessions_ok;
+        places_few = open_few j s.places r.places_few room;
+        sessions_ok = open_held j s.places r.sessions_ok;
         handles_ok =
-            used-put (BoundValid L (length (opened j s.places))) h (new_bound (place_of j s.places)) s.handles
-            (record { place_there = open-there j s.places; number_u64 = omega arith; bytes_u64 = omega arith; held_small = omega arith; held_ok = tt })
-            (all_grown (length s.places) (length (opened j s.places)) s.handles (open-length j s.places) r.handles_ok);
-        handles_also = used-put Also h (new_bound (place_of j s.places)) s.handles (closed.binds (place_of j s.places)) r.handles_also;
+            used_put (BoundValid L (length (opened j s.places))) h (new_bound (place_of j s.places)) s.handles
+            (record { place_there = open_there j s.places; number_u64 = omega arith; bytes_u64 = omega arith; held_small = omega arith; held_ok = tt })
+            (all_grown (length s.places) (length (opened j s.places)) s.handles (open_length j s.places) r.handles_ok);
+        handles_also = used_put Also h (new_bound (place_of j s.places)) s.handles (closed.binds (place_of j s.places)) r.handles_also;
         pending_few = r.pending_few;
       }
 
@@ -232,38 +232,38 @@ module _ (L : Settings) (Also : Bound → Type 0) (closed : Closed Also) where
   keeps tells room o r = r
   keeps (nacks q) room o r = r
   keeps {s} (greets le) room o r =
-      let u = rules-unbound s r in
+      let u = rules_unbound s r in
       record { epoch_u64 = omega (arith, o.writable.ranged.1); connections_u64 = omega arith; places_few = u.places_few; sessions_ok = u.sessions_ok; handles_ok = u.handles_ok; handles_also = u.handles_also; pending_few = u.pending_few }
-  keeps {s} (binds {h} {k} le p q) room o r = rules-bind s h k p r
+  keeps {s} (binds {h} {k} le p q) room o r = rules_bind s h k p r
   keeps (checks le) room o r =
       record { epoch_u64 = omega (arith, o.writable.ranged.1); connections_u64 = r.connections_u64; places_few = r.places_few; sessions_ok = r.sessions_ok; handles_ok = r.handles_ok; handles_also = r.handles_also; pending_few = r.pending_few }
   keeps {s} (batches {h} {e} {n} {p} {cs} {apps} le d) room o r =
-      keeps-batch d room (omega (arith, o.writable.ranged.2)) o.storable (omega (arith, bytes_in_size cs, o.writable.short, body_size_lem (batch h e n p cs apps)))
-      (rules-epoch s e (omega (arith, o.writable.ranged.1)) r)
+      keeps_batch d room (omega (arith, o.writable.ranged.2)) o.storable (omega (arith, bytes_in_size cs, o.writable.short, body_size_lem (batch h e n p cs apps)))
+      (rules_epoch s e (omega (arith, o.writable.ranged.1)) r)
 
   -- before a Batch fewer than 64 commits are pending
-  few-due : (s : Standby) (h : ℕ) (w : Bool) → (leb 64 (length s.pending) || pends_on h s.pending) ≡ w → suc (length (run_pending w s).pending) ≤ 64
-  few-due s h true p = omega arith
-  few-due s h false p = nleb→lt 64 (length s.pending) (go (leb 64 (length s.pending)) (pends_on h s.pending) p)
+  few_due : (s : Standby) (h : ℕ) (w : Bool) → (leb 64 (length s.pending) || pends_on h s.pending) ≡ w → suc (length (run_pending w s).pending) ≤ 64
+  few_due s h true p = omega arith
+  few_due s h false p = nleb→lt 64 (length s.pending) (go (leb 64 (length s.pending)) (pends_on h s.pending) p)
     where
       go : (a b : Bool) → (a || b) ≡ false → T (not a)
       go true b q = absurd (true≢false q)
       go false b q = tt
 
-  room-due : (s : Standby) (f : Frame) → Room (run_pending (due s.pending f) s) f
-  room-due s (hello v e node kinds) = tt
-  room-due s (welcome e i) = tt
-  room-due s (bind h e lag k) = tt
-  room-due s (batch h e n p cs apps) = few-due s h (due s.pending (batch h e n p cs apps)) refl
-  room-due s (ack h n) = tt
-  room-due s (nack h r) = tt
-  room-due s (bound h m) = tt
-  room-due s (checked h e i) = tt
+  room_due : (s : Standby) (f : Frame) → Room (run_pending (due s.pending f) s) f
+  room_due s (hello v e node kinds) = tt
+  room_due s (welcome e i) = tt
+  room_due s (bind h e lag k) = tt
+  room_due s (batch h e n p cs apps) = few_due s h (due s.pending (batch h e n p cs apps)) refl
+  room_due s (ack h n) = tt
+  room_due s (nack h r) = tt
+  room_due s (bound h m) = tt
+  room_due s (checked h e i) = tt
 
-  keeps_given : (s : Standby) (g : Given) → Passed g → StateRules L Also s → Keeps (onGiven L s g)
-  unfolding onGiven
+  keeps_given : (s : Standby) (g : Given) → Passed g → StateRules L Also s → Keeps (on_given L s g)
+  unfolding on_given
   keeps_given s (damaged n) o r = r
-  keeps_given s (intact f) o r = cond_cases Keeps s.counters.promoted (λ _. r) (λ _. keeps (does L (run_pending (due s.pending f) s) f) (room-due s f) o (rules-pending (due s.pending f) s r))
+  keeps_given s (intact f) o r = cond_cases Keeps s.counters.promoted (λ _. r) (λ _. keeps (does L (run_pending (due s.pending f) s) f) (room_due s f) o (rules_pending (due s.pending f) s r))
 
   -- ---- promotion
 
@@ -284,21 +284,21 @@ module _ (L : Settings) (Also : Bound → Type 0) (closed : Closed Also) where
       go true t ih = ih t
       go false t ih = t
 
-  marks-made : (m : List ℕ) → length m ≤ 64 → all_printable m ≡ true → T (is_marks m)
+  marks_made : (m : List ℕ) → length m ≤ 64 → all_printable m ≡ true → T (is_marks m)
   unfolding is_marks is_printable
-  marks-made m h p = true→T (leb 0 (length m) && (leb (length m) 64 && all_printable m)) (and_true (leb_true {m = 0} {n = length m} (omega arith)) (and_true (leb_true h) p))
+  marks_made m h p = true→T (leb 0 (length m) && (leb (length m) 64 && all_printable m)) (and_true (leb_true {m = 0} {n = length m} (omega arith)) (and_true (leb_true h) p))
 
-  with-B : (m : List ℕ) → T (is_marks m) → T (is_marks (with_b m))
+  with_B : (m : List ℕ) → T (is_marks m) → T (is_marks (with_b m))
   unfolding is_printable_byte
-  with-B m t =
+  with_B m t =
       let i = marks_is m (T→true (is_marks m) t) in
       cond_cases (λ (l : List ℕ). T (is_marks l)) (ltb 0 (length m) && eqb (get_or m (length m - 1) 0) 66) (λ _. t)
       (λ _. cond_cases (λ (l : List ℕ). T (is_marks l)) (leb 64 (length m))
-      (λ _. marks-made (take 63 m ++ (66 ∷ [])) (omega (arith, length-append (take 63 m) (66 ∷ []), length-take 63 m)) (plain_append (take 63 m) (66 ∷ []) (plain_take 63 m i.plain) refl))
-      (λ u. marks-made (m ++ (66 ∷ [])) (omega (arith, length-append m (66 ∷ []), nleb→lt 64 (length m) u)) (plain_append m (66 ∷ []) i.plain refl)))
+      (λ _. marks_made (take 63 m ++ (66 ∷ [])) (omega (arith, length-append (take 63 m) (66 ∷ []), length-take 63 m)) (plain_append (take 63 m) (66 ∷ []) (plain_take 63 m i.plain) refl))
+      (λ u. marks_made (m ++ (66 ∷ [])) (omega (arith, length-append m (66 ∷ []), nleb→lt 64 (length m) u)) (plain_append m (66 ∷ []) i.plain refl)))
 
-  taken-holdable : (lag : ℕ) (d : Stored) → Holdable L.C L.M d.session → Holdable L.C L.M (taken_over lag d).session
-  taken-holdable lag d h =
+  taken_holdable : (lag : ℕ) (d : Stored) → Holdable L.C L.M d.session → Holdable L.C L.M (taken_over lag d).session
+  taken_holdable lag d h =
       let o : (d.session.next_out ≤ cond (ltb 0 lag) (min (d.session.next_out + lag) top) d.session.next_out) × (cond (ltb 0 lag) (min (d.session.next_out + lag) top) d.session.next_out ≤ top) =
       cond_cases (λ (x : ℕ). (d.session.next_out ≤ x) × (x ≤ top)) (ltb 0 lag) (λ _. (omega (arith, h.out_high), omega arith)) (λ _. (le_refl d.session.next_out, h.out_high)) in
       record {
@@ -307,21 +307,21 @@ module _ (L : Settings) (Also : Bound → Type 0) (closed : Closed Also) where
         out_high = o.1;
         inc_high = h.inc_high;
         flight_high = h.flight_high;
-        marks_ok = with-B d.session.marks h.marks_ok;
+        marks_ok = with_B d.session.marks h.marks_ok;
         msgs_rise = rising_up 1 d.session.next_out _ d.session.messages o.0 h.msgs_rise;
         msgs_bytes = h.msgs_bytes;
         msgs_count = h.msgs_count;
       }
 
-  rules-promoted : (s : Standby) → StateRules L Also s → StateRules L Also (promotion L s)
-  rules-promoted s r =
+  rules_promoted : (s : Standby) → StateRules L Also s → StateRules L Also (promotion L s)
+  rules_promoted s r =
       record {
         epoch_u64 = r.epoch_u64;
         connections_u64 = r.connections_u64;
         places_few = le_trans (le_of_eq (length_places (taken_over L.lag) s.places)) r.places_few;
-        sessions_ok = each_places Held (taken_over L.lag) s.places (λ x h. taken-holdable L.lag x.stored h) r.sessions_ok;
-        handles_ok = used-freed (BoundValid L _) s.handles;
-        handles_also = used-freed Also s.handles;
+        sessions_ok = each_places Held (taken_over L.lag) s.places (λ x h. taken_holdable L.lag x.stored h) r.sessions_ok;
+        handles_ok = used_freed (BoundValid L _) s.handles;
+        handles_also = used_freed Also s.handles;
         pending_few = omega arith;
       }
 
@@ -369,20 +369,20 @@ passed w t = go (decode protocol_version w) refl
         cond_cases Passed (eqb used (length w)) (λ _. record { writable = a.writable; storable = frame_storable f a.writable.ranged a.writable.texts a.blobs }) (λ _. tt)
 
 module _ (L : Settings) (Also : Bound → Type 0) (closed : Closed Also) where
-  pub rules-step : (s : Standby) (c : Call) → OkCall c → StateRules L Also s → StateRules L Also (step L s c).state
+  pub rules_step : (s : Standby) (c : Call) → OkCall c → StateRules L Also s → StateRules L Also (step L s c).state
   unfolding step
-  rules-step s (on_frame_held w) o r = keeps_given L Also closed s (given w) (passed w o) r
-  rules-step s (on_frame w) o r =
-      rules-pending L Also closed (is_reply (onGiven L s (given w)).answer) (onGiven L s (given w)).state (keeps_given L Also closed s (given w) (passed w o) r)
-  rules-step s (flush n) o r =
-      cond_cases (Keeps L Also closed) (not (eqb n s.counters.connections) || s.counters.promoted) (λ _. r) (λ _. rules-pending L Also closed true s r)
-  rules-step s (disconnected_from n) o r = cond_cases (StateRules L Also) (eqb n s.counters.connections) (λ _. rules-unbound L Also closed s r) (λ _. r)
-  rules-step s promote o r = cond_cases (Keeps L Also closed) s.counters.checked (λ _. rules-promoted L Also closed s r) (λ _. r)
-  rules-step s promote_unchecked o r = rules-promoted L Also closed s r
+  rules_step s (on_frame_held w) o r = keeps_given L Also closed s (given w) (passed w o) r
+  rules_step s (on_frame w) o r =
+      rules_pending L Also closed (is_reply (on_given L s (given w)).answer) (on_given L s (given w)).state (keeps_given L Also closed s (given w) (passed w o) r)
+  rules_step s (flush n) o r =
+      cond_cases (Keeps L Also closed) (not (eqb n s.counters.connections) || s.counters.promoted) (λ _. r) (λ _. rules_pending L Also closed true s r)
+  rules_step s (disconnected_from n) o r = cond_cases (StateRules L Also) (eqb n s.counters.connections) (λ _. rules_unbound L Also closed s r) (λ _. r)
+  rules_step s promote o r = cond_cases (Keeps L Also closed) s.counters.checked (λ _. rules_promoted L Also closed s r) (λ _. r)
+  rules_step s promote_unchecked o r = rules_promoted L Also closed s r
 
-  pub rules-run : (s : Standby) (cs : List Call) → Each OkCall cs → StateRules L Also s → StateRules L Also (run L s cs)
-  rules-run s [] o r = r
-  rules-run s (c ∷ cs) o r = rules-run (step L s c).state cs o.1 (rules-step s c o.0 r)
+  pub rules_run : (s : Standby) (cs : List Call) → Each OkCall cs → StateRules L Also s → StateRules L Also (run L s cs)
+  rules_run s [] o r = r
+  rules_run s (c ∷ cs) o r = rules_run (step L s c).state cs o.1 (rules_step s c o.0 r)
 
 -- ---- any content of the areas
 
@@ -390,13 +390,13 @@ closed_valid : Closed (λ _. Unit {0})
 closed_valid = record { binds = λ _. tt; clears = λ _ _. tt; counts = λ _ _ _. tt; raises = λ _ _ _ _ _. tt; takes = λ _ _ _ _ _ _. tt }
 
 pub valid_pending : (L : Settings) (w : Bool) (s : Standby) → Valid L s → Valid L (run_pending w s)
-valid_pending L w s r = rules-pending L (λ _. Unit {0}) closed_valid w s r
+valid_pending L w s r = rules_pending L (λ _. Unit {0}) closed_valid w s r
 
 pub valid_step : (L : Settings) (s : Standby) (c : Call) → OkCall c → Valid L s → Valid L (step L s c).state
-valid_step L s c o r = rules-step L (λ _. Unit {0}) closed_valid s c o r
+valid_step L s c o r = rules_step L (λ _. Unit {0}) closed_valid s c o r
 
 pub valid_run : (L : Settings) (s : Standby) (cs : List Call) → Each OkCall cs → Valid L s → Valid L (run L s cs)
-valid_run L s cs o r = rules-run L (λ _. Unit {0}) closed_valid s cs o r
+valid_run L s cs o r = rules_run L (λ _. Unit {0}) closed_valid s cs o r
 
 -- ---- what a new standby reaches
 
@@ -454,26 +454,26 @@ closed_usual =
 
 module _ (L : Settings) (ps : List Place) (n : ℕ) (few : length ps ≤ L.S) (held : Each (λ (x : Place). Holdable L.C L.M x.stored.session) ps) where
   -- a standby as it is made over a store
-  pub usual-new : Usual L (new_standby ps n)
-  usual-new =
+  pub usual_new : Usual L (new_standby ps n)
+  usual_new =
       record {
         epoch_u64 = omega arith;
         connections_u64 = omega arith;
         places_few = few;
         sessions_ok = held;
-        handles_ok = used-none (BoundValid L _) n;
-        handles_also = used-none BoundUsual n;
+        handles_ok = used_none (BoundValid L _) n;
+        handles_also = used_none BoundUsual n;
         pending_few = omega arith;
       }
 
   module _ (cs : List Call) (ok : Each OkCall cs) where
-    pub usual-run : Usual L (run L (new_standby ps n) cs)
-    usual-run = rules-run L BoundUsual closed_usual (new_standby ps n) cs ok usual-new
+    pub usual_run : Usual L (run L (new_standby ps n) cs)
+    usual_run = rules_run L BoundUsual closed_usual (new_standby ps n) cs ok usual_new
 
     -- In a run from a new standby every stored session is one that the store can hold,
-    pub run-holdable : (p : ℕ) (x : Place) → get_elem? (run L (new_standby ps n) cs).places p ≡ some x → Holdable L.C L.M x.stored.session
-    run-holdable p x q = each_at (λ (y : Place). Holdable L.C L.M y.stored.session) (run L (new_standby ps n) cs).places p x q usual-run.sessions_ok
+    pub run_holdable : (p : ℕ) (x : Place) → get_elem? (run L (new_standby ps n) cs).places p ≡ some x → Holdable L.C L.M x.stored.session
+    run_holdable p x q = each_at (λ (y : Place). Holdable L.C L.M y.stored.session) (run L (new_standby ps n) cs).places p x q usual_run.sessions_ok
 
     -- and counting a byte sum as 0 with nothing held changes nothing: what is raised is the handle's byte sum
-    pub run-raised : (h : ℕ) (b : Bound) → find h (run L (new_standby ps n) cs).handles ≡ some b → (own : List Change) → raised b own ≡ min (b.bytes + message_bytes own) top
-    run-raised h b q own = ap (λ (x : ℕ). min (x + message_bytes own) top) (sum_counts b (used-found BoundUsual h b (run L (new_standby ps n) cs).handles usual-run.handles_also q))
+    pub run_raised : (h : ℕ) (b : Bound) → find h (run L (new_standby ps n) cs).handles ≡ some b → (own : List Change) → raised b own ≡ min (b.bytes + message_bytes own) top
+    run_raised h b q own = ap (λ (x : ℕ). min (x + message_bytes own) top) (sum_counts b (used_found BoundUsual h b (run L (new_standby ps n) cs).handles usual_run.handles_also q))

@@ -16,7 +16,7 @@ use Rattle.model_frame.specs.Writing.{encode, Writable}
 use Rattle.model_frame.specs.Sizes.{sizes}
 use Rattle.model_frame.proofs.RoundTrip.{decode_alone}
 use Rattle.model_frame.proofs.Runs.{sizes_append}
-use Rattle.model_session.specs.Session.{Session, applyAll, fits, message_bytes, top, Holdable}
+use Rattle.model_session.specs.Session.{Session, apply_all, fits, message_bytes, top, Holdable}
 use Rattle.model_session.specs.Whole.{all_changes, frames_of, hold_length}
 use Rattle.model_session.proofs.Basics.{true→T, and_true, cond_cases, cond-true, cond-false, eqb_true, ltb_true, ltb_false, none≢some}
 use Rattle.model_session.proofs.Sending.{whole_changes, apply_whole, fits_whole, sizes_whole, bytes_whole, message_bytes_append}
@@ -24,10 +24,10 @@ use Rattle.model_standby.specs.Answer.{protocol_version, Given, damaged, intact,
 use Rattle.model_standby.specs.Row.{Row, find, put}
 use Rattle.model_standby.specs.Store.{Place, on_stored, session_at, or_new, changed}
 use Rattle.model_standby.specs.State.{Settings, Bound, Standby, Result, Call, flush, disconnected_from, at_epoch, none_held}
-use Rattle.model_standby.specs.Standby.{with_counters, with_handle, unbound, run_pending, due, says, refuse, held_sum, raised, max_whole, starts_with_reset, applied, settle, hold, onPart, onHandle, onBatch, onIntact, onGiven, step, run}
-use Rattle.model_standby.specs.Demand.{is_outside, Hands, by_held, by_frame, Aside, is_lower, refused_outside, FirstList, list_ends, ours_next, aside_next, flush_next, drop_next, modelTookLast, ModelAllTaken}
+use Rattle.model_standby.specs.Standby.{with_counters, with_handle, unbound, run_pending, due, says, refuse, held_sum, raised, max_whole, starts_with_reset, applied, settle, hold, on_part, on_handle, on_batch, on_intact, on_given, step, run}
+use Rattle.model_standby.specs.Demand.{is_outside, Hands, by_held, by_frame, Aside, is_lower, refused_outside, FirstList, list_ends, ours_next, aside_next, flush_next, drop_next, model_took_last, ModelAllTaken}
 use Rattle.model_standby.proofs.Outcomes.{Batches, refuses, clears, raises, holds, applies, diverges, Does, turns, tells, nacks, greets, binds, checks, batches, does}
-use Rattle.model_standby.proofs.Rows.{find-freed, find-put-found}
+use Rattle.model_standby.proofs.Rows.{find_freed, find_put_found}
 use Rattle.model_standby.proofs.Places.{at_on_same, pending_session}
 
 -- ---- what asides and commits leave as it was
@@ -97,33 +97,33 @@ leaves {s} e p (checks {e = e₁} h) a = elim a [ inl u ↦ absurd (not_both e s
 leaves {s} e p (batches {e = e₁} h d) a = elim a [ inl u ↦ absurd (not_both e s.counters.epoch e₁ p h u) | inr u ↦ absurd (batch_inside d u) ]
 
 module _ (L : Settings) where
-  leaves-given : (e : ℕ) (s : Standby) (g : Given) → s.counters.epoch ≡ e → AsideOf e g (onGiven L s g).answer → Same s (onGiven L s g).state
-  unfolding onGiven
-  leaves-given e s (damaged n) p a = same_refl s
-  leaves-given e s (intact f) p a =
+  leaves_given : (e : ℕ) (s : Standby) (g : Given) → s.counters.epoch ≡ e → AsideOf e g (on_given L s g).answer → Same s (on_given L s g).state
+  unfolding on_given
+  leaves_given e s (damaged n) p a = same_refl s
+  leaves_given e s (intact f) p a =
       (cond_cases (λ (r : Result). T (lower e f) ⊎ T (outside r.answer) → Same s r.state) s.counters.promoted (λ _ _. same_refl s)
       (λ _ v. same_trans s (run_pending (due s.pending f) s) _ (same_pending (due s.pending f) s) (leaves e p (does L (run_pending (due s.pending f) s) f) v)))
       a
 
 module _ (L : Settings) where
-  step-answer : (s : Standby) (c : Call) (w : List ℕ) → Hands c w → (step L s c).answer ≡ (onGiven L s (given w)).answer
+  step_answer : (s : Standby) (c : Call) (w : List ℕ) → Hands c w → (step L s c).answer ≡ (on_given L s (given w)).answer
   unfolding step
-  step-answer s c w by_held = refl
-  step-answer s c w by_frame = refl
+  step_answer s c w by_held = refl
+  step_answer s c w by_frame = refl
 
-  step-state : (s : Standby) (c : Call) (w : List ℕ) → Hands c w → Same (onGiven L s (given w)).state (step L s c).state
+  step_state : (s : Standby) (c : Call) (w : List ℕ) → Hands c w → Same (on_given L s (given w)).state (step L s c).state
   unfolding step
-  step-state s c w by_held = same_refl _
-  step-state s c w by_frame = same_pending (is_reply (onGiven L s (given w)).answer) (onGiven L s (given w)).state
+  step_state s c w by_held = same_refl _
+  step_state s c w by_frame = same_pending (is_reply (on_given L s (given w)).answer) (on_given L s (given w)).state
 
   aside_same : (e : ℕ) (s : Standby) (c : Call) (w : List ℕ) → s.counters.epoch ≡ e → Hands c w → Aside e w (step L s c).answer → Same s (step L s c).state
   aside_same e s c w p hands a =
-      same_trans s (onGiven L s (given w)).state (step L s c).state
-      (leaves-given L e s (given w) p (aside_of (subst (Aside e w) (step-answer s c w hands) a))) (step-state s c w hands)
+      same_trans s (on_given L s (given w)).state (step L s c).state
+      (leaves_given L e s (given w) p (aside_of (subst (Aside e w) (step_answer s c w hands) a))) (step_state s c w hands)
 
-  flush-same : (s : Standby) (n : ℕ) → Same s (step L s (flush n)).state
+  flush_same : (s : Standby) (n : ℕ) → Same s (step L s (flush n)).state
   unfolding step
-  flush-same s n = cond_cases (λ (r : Result). Same s r.state) (not (eqb n s.counters.connections) || s.counters.promoted) (λ _. same_refl s) (λ _. same_pending true s)
+  flush_same s n = cond_cases (λ (r : Result). Same s r.state) (not (eqb n s.counters.connections) || s.counters.promoted) (λ _. same_refl s) (λ _. same_pending true s)
 
 -- ---- A's frames
 
@@ -163,22 +163,22 @@ module _ (L : Settings) where
 
   -- a Batch at the standby's epoch that follows on handle h
   batch_part : (s : Standby) (e h : ℕ) (b : Bound) (p : Part) (cs : List Change) → s.counters.epoch ≡ e → find h s.handles ≡ some b → b.number < top
-      → onBatch L s h e (suc b.number) p cs [] ≡ onPart L (with_counters s (at_epoch e s.counters)) h b (suc b.number) p cs
-  unfolding onBatch onHandle
+      → on_batch L s h e (suc b.number) p cs [] ≡ on_part L (with_counters s (at_epoch e s.counters)) h b (suc b.number) p cs
+  unfolding on_batch on_handle
   batch_part s e h b p cs pe ph lt =
       cond-false _ _ (ltb_false {m = e} {n = s.counters.epoch} (le_of_eq pe))
-      ∙ ap (λ (o : Option Bound). onHandle L (with_counters s (at_epoch e s.counters)) h o (suc b.number) p cs) ph
+      ∙ ap (λ (o : Option Bound). on_handle L (with_counters s (at_epoch e s.counters)) h o (suc b.number) p cs) ph
       ∙ cond-true _ _ (and_true (eqb_true (suc b.number)) (ltb_true lt))
 
   batch_unbound : (s : Standby) (e h n : ℕ) (p : Part) (cs : List Change) → s.counters.epoch ≡ e → find h s.handles ≡ none
-      → onBatch L s h e n p cs [] ≡ refuse (with_counters s (at_epoch e s.counters)) 14
-  unfolding onBatch onHandle
+      → on_batch L s h e n p cs [] ≡ refuse (with_counters s (at_epoch e s.counters)) 14
+  unfolding on_batch on_handle
   batch_unbound s e h n p cs pe ph =
       cond-false _ _ (ltb_false {m = e} {n = s.counters.epoch} (le_of_eq pe))
-      ∙ ap (λ (o : Option Bound). onHandle L (with_counters s (at_epoch e s.counters)) h o n p cs) ph
+      ∙ ap (λ (o : Option Bound). on_handle L (with_counters s (at_epoch e s.counters)) h o n p cs) ph
 
-  given_intact : (s : Standby) (f : Frame) → s.counters.promoted ≡ false → onGiven L s (intact f) ≡ onIntact L (run_pending (due s.pending f) s) f
-  unfolding onGiven
+  given_intact : (s : Standby) (f : Frame) → s.counters.promoted ≡ false → on_given L s (intact f) ≡ on_intact L (run_pending (due s.pending f) s) f
+  unfolding on_given
   given_intact s f p = cond-false _ _ p
 
 -- a byte sum that is the held messages' counts as that
@@ -188,9 +188,9 @@ sum_is p m (x ∷ H) y e = e
 
 module _ (L : Settings) (A B : Session) (here h e : ℕ) (okA : Holdable L.C L.M A) (C-small : L.C ≤ 33554432) (room-big : hold_length L.C L.M ≤ L.room) where
   -- what is handed in is the Batch written
-  given-written : (n : ℕ) (p : Part) (cs : List Change) → Writable protocol_version (batch h e n p cs []) → given (encode (batch h e n p cs [])) ≡ intact (batch h e n p cs [])
+  given_written : (n : ℕ) (p : Part) (cs : List Change) → Writable protocol_version (batch h e n p cs []) → given (encode (batch h e n p cs [])) ≡ intact (batch h e n p cs [])
   unfolding given
-  given-written n p cs w =
+  given_written n p cs w =
       ap (judged (length (encode (batch h e n p cs [])))) (decode_alone protocol_version (batch h e n p cs []) w) ∙ cond-true _ _ (eqb_true (length (encode (batch h e n p cs []))))
 
   -- after A's last, or after a drop
@@ -224,19 +224,19 @@ module _ (L : Settings) (A B : Session) (here h e : ℕ) (okA : Holdable L.C L.M
   bytes_eq H cs rest x w hx = omega (arith, hx, message_bytes_append H cs, message_bytes_append H (cs ++ rest), message_bytes_append cs rest, ap message_bytes w, bytes_whole A, okA.msgs_bytes)
 
   set_found : (t : Row Bound) (b b₁ : Bound) → find h t ≡ some b → find h (put h b₁ t) ≡ some b₁
-  set_found t b b₁ p = find-put-found h b₁ b t p
+  set_found t b b₁ p = find_put_found h b₁ b t p
 
   -- a Whole is taken and held
   whole_taken : (s : Standby) (m : ℕ) (H cs rest : List Change) → H ++ (cs ++ rest) ≡ whole_changes A → starts_with_reset (H ++ cs) ≡ true → m < top → Holding s m H
-      → ((onBatch L s h e (suc m) whole cs []).answer ≡ reply (ack h (suc m))) × Holding (onBatch L s h e (suc m) whole cs []).state (suc m) (H ++ cs)
-  unfolding onPart
+      → ((on_batch L s h e (suc m) whole cs []).answer ≡ reply (ack h (suc m))) × Holding (on_batch L s h e (suc m) whole cs []).state (suc m) (H ++ cs)
+  unfolding on_part
   whole_taken s m H cs rest w b lt q =
       (ap (λ (r : Result). r.answer) is, subst (λ (r : Result). Holding r.state (suc m) (H ++ cs)) (sym is) now)
     where
       y : ℕ
       y = raised (held_at L here m H q.sum) cs
 
-      is : onBatch L s h e (suc m) whole cs [] ≡ says (with_handle (with_counters s (at_epoch e s.counters)) h (held_at L here (suc m) (H ++ cs) y)) (ack h (suc m))
+      is : on_batch L s h e (suc m) whole cs [] ≡ says (with_handle (with_counters s (at_epoch e s.counters)) h (held_at L here (suc m) (H ++ cs) y)) (ack h (suc m))
       is =
           batch_part L s e h (held_at L here m H q.sum) whole cs q.rests.epoch q.handle lt
           ∙ hold_passes L (with_counters s (at_epoch e s.counters)) h here m H cs q.sum _ q.counted (fits_in H cs rest w b)
@@ -252,8 +252,8 @@ module _ (L : Settings) (A B : Session) (here h e : ℕ) (okA : Holdable L.C L.M
 
   -- the LastWhole is taken, and the session is A
   last_taken : (s : Standby) (m : ℕ) (H cs : List Change) → H ++ (cs ++ []) ≡ whole_changes A → starts_with_reset (H ++ cs) ≡ true → m < top → Holding s m H
-      → ((onBatch L s h e (suc m) last_whole cs []).answer ≡ reply (ack h (suc m))) × Resting (onBatch L s h e (suc m) last_whole cs []).state A
-  unfolding onPart settle
+      → ((on_batch L s h e (suc m) last_whole cs []).answer ≡ reply (ack h (suc m))) × Resting (on_batch L s h e (suc m) last_whole cs []).state A
+  unfolding on_part settle
   last_taken s m H cs w b lt q =
       (ap (λ (r : Result). r.answer) is, subst (λ (r : Result). Resting r.state A) (sym is) now)
     where
@@ -263,7 +263,7 @@ module _ (L : Settings) (A B : Session) (here h e : ℕ) (okA : Holdable L.C L.M
       s₁ : Standby
       s₁ = applied L (with_counters s (at_epoch e s.counters)) h (none_held (held_at L here m H q.sum)) (suc m) (H ++ cs)
 
-      is : onBatch L s h e (suc m) last_whole cs [] ≡ says s₁ (ack h (suc m))
+      is : on_batch L s h e (suc m) last_whole cs [] ≡ says s₁ (ack h (suc m))
       is =
           batch_part L s e h (held_at L here m H q.sum) last_whole cs q.rests.epoch q.handle lt
           ∙ hold_passes L (with_counters s (at_epoch e s.counters)) h here m H cs q.sum _ q.counted (fits_in H cs [] w b)
@@ -271,7 +271,7 @@ module _ (L : Settings) (A B : Session) (here h e : ℕ) (okA : Holdable L.C L.M
 
       up : (o : Option Place) → map (λ (x : Place). x.stored.session) o ≡ some B → map (λ (x : Place). x.stored.session) (map (on_stored (changed L.C L.M (H ++ cs))) o) ≡ some A
       up none p = absurd (none≢some p)
-      up (some x) p = ap {B = Option Session} some (ap (λ (l : List Change). applyAll L.C L.M l x.stored.session) all ∙ apply_whole L.C L.M A x.stored.session okA)
+      up (some x) p = ap {B = Option Session} some (ap (λ (l : List Change). apply_all L.C L.M l x.stored.session) all ∙ apply_whole L.C L.M A x.stored.session okA)
 
       now : Resting s₁ A
       now =
@@ -285,42 +285,42 @@ module _ (L : Settings) (A B : Session) (here h e : ℕ) (okA : Holdable L.C L.M
   call_whole : (s : Standby) (c : Call) (m : ℕ) (H cs rest : List Change) → H ++ (cs ++ rest) ≡ whole_changes A → starts_with_reset (H ++ cs) ≡ true → m < top → Holding s m H
       → Writable protocol_version (batch h e (suc m) whole cs []) → Hands c (encode (batch h e (suc m) whole cs [])) → (accepted (step L s c).answer ≡ true) × Holding (step L s c).state (suc m) (H ++ cs)
   call_whole s c m H cs rest w b lt q fine hands = (
-    ap accepted (step-answer L s c (encode f) hands ∙ ap (λ (r : Result). r.answer) is ∙ got₁.0),
-    same_holding _ _ (suc m) (H ++ cs) (step-state L s c (encode f) hands) (subst (λ (r : Result). Holding r.state (suc m) (H ++ cs)) (sym is) got₁.1),
+    ap accepted (step_answer L s c (encode f) hands ∙ ap (λ (r : Result). r.answer) is ∙ got₁.0),
+    same_holding _ _ (suc m) (H ++ cs) (step_state L s c (encode f) hands) (subst (λ (r : Result). Holding r.state (suc m) (H ++ cs)) (sym is) got₁.1),
   )
     where
       f : Frame
       f = batch h e (suc m) whole cs []
 
-      is : onGiven L s (given (encode f)) ≡ onIntact L (run_pending (due s.pending f) s) f
-      is = ap (onGiven L s) (given-written (suc m) whole cs fine) ∙ given_intact L s f q.rests.promoted
+      is : on_given L s (given (encode f)) ≡ on_intact L (run_pending (due s.pending f) s) f
+      is = ap (on_given L s) (given_written (suc m) whole cs fine) ∙ given_intact L s f q.rests.promoted
 
-      got₁ : ((onBatch L (run_pending (due s.pending f) s) h e (suc m) whole cs []).answer ≡ reply (ack h (suc m))) × Holding (onBatch L (run_pending (due s.pending f) s) h e (suc m) whole cs []).state (suc m) (H ++ cs)
+      got₁ : ((on_batch L (run_pending (due s.pending f) s) h e (suc m) whole cs []).answer ≡ reply (ack h (suc m))) × Holding (on_batch L (run_pending (due s.pending f) s) h e (suc m) whole cs []).state (suc m) (H ++ cs)
       got₁ = whole_taken (run_pending (due s.pending f) s) m H cs rest w b lt (same_holding s _ m H (same_pending (due s.pending f) s) q)
 
   call_last : (s : Standby) (c : Call) (m : ℕ) (H cs : List Change) → H ++ (cs ++ []) ≡ whole_changes A → starts_with_reset (H ++ cs) ≡ true → m < top → Holding s m H
       → Writable protocol_version (batch h e (suc m) last_whole cs []) → Hands c (encode (batch h e (suc m) last_whole cs [])) → (accepted (step L s c).answer ≡ true) × Resting (step L s c).state A
   call_last s c m H cs w b lt q fine hands = (
-    ap accepted (step-answer L s c (encode f) hands ∙ ap (λ (r : Result). r.answer) is ∙ got₁.0),
-    same_resting _ _ A (step-state L s c (encode f) hands) (subst (λ (r : Result). Resting r.state A) (sym is) got₁.1),
+    ap accepted (step_answer L s c (encode f) hands ∙ ap (λ (r : Result). r.answer) is ∙ got₁.0),
+    same_resting _ _ A (step_state L s c (encode f) hands) (subst (λ (r : Result). Resting r.state A) (sym is) got₁.1),
   )
     where
       f : Frame
       f = batch h e (suc m) last_whole cs []
 
-      is : onGiven L s (given (encode f)) ≡ onIntact L (run_pending (due s.pending f) s) f
-      is = ap (onGiven L s) (given-written (suc m) last_whole cs fine) ∙ given_intact L s f q.rests.promoted
+      is : on_given L s (given (encode f)) ≡ on_intact L (run_pending (due s.pending f) s) f
+      is = ap (on_given L s) (given_written (suc m) last_whole cs fine) ∙ given_intact L s f q.rests.promoted
 
-      got₁ : ((onBatch L (run_pending (due s.pending f) s) h e (suc m) last_whole cs []).answer ≡ reply (ack h (suc m))) × Resting (onBatch L (run_pending (due s.pending f) s) h e (suc m) last_whole cs []).state A
+      got₁ : ((on_batch L (run_pending (due s.pending f) s) h e (suc m) last_whole cs []).answer ≡ reply (ack h (suc m))) × Resting (on_batch L (run_pending (due s.pending f) s) h e (suc m) last_whole cs []).state A
       got₁ = last_taken (run_pending (due s.pending f) s) m H cs w b lt (same_holding s _ m H (same_pending (due s.pending f) s) q)
 
   -- ... on a handle that a drop has unbound
   call_unbound : (s : Standby) (c : Call) (n : ℕ) (p : Part) (cs : List Change) (X : Session) → find h s.handles ≡ none → Resting s X
       → Writable protocol_version (batch h e n p cs []) → Hands c (encode (batch h e n p cs [])) → (accepted (step L s c).answer ≡ false) × (find h (step L s c).state.handles ≡ none) × Resting (step L s c).state X
   call_unbound s c n p cs X u r fine hands = (
-    ap accepted (step-answer L s c (encode f) hands ∙ ap (λ (x : Result). x.answer) is),
-    ap (find h) (step-state L s c (encode f) hands).handles ∙ ap (λ (x : Result). find h x.state.handles) is ∙ u,
-    same_resting _ _ X (step-state L s c (encode f) hands) (subst (λ (x : Result). Resting x.state X) (sym is) now),
+    ap accepted (step_answer L s c (encode f) hands ∙ ap (λ (x : Result). x.answer) is),
+    ap (find h) (step_state L s c (encode f) hands).handles ∙ ap (λ (x : Result). find h x.state.handles) is ∙ u,
+    same_resting _ _ X (step_state L s c (encode f) hands) (subst (λ (x : Result). Resting x.state X) (sym is) now),
   )
     where
       f : Frame
@@ -329,8 +329,8 @@ module _ (L : Settings) (A B : Session) (here h e : ℕ) (okA : Holdable L.C L.M
       s₁ : Standby
       s₁ = run_pending (due s.pending f) s
 
-      is : onGiven L s (given (encode f)) ≡ refuse (with_counters s₁ (at_epoch e s₁.counters)) 14
-      is = ap (onGiven L s) (given-written n p cs fine) ∙ given_intact L s f r.promoted ∙ batch_unbound L s₁ e h n p cs r.epoch u
+      is : on_given L s (given (encode f)) ≡ refuse (with_counters s₁ (at_epoch e s₁.counters)) 14
+      is = ap (on_given L s) (given_written n p cs fine) ∙ given_intact L s f r.promoted ∙ batch_unbound L s₁ e h n p cs r.epoch u
 
       now : Resting (with_counters s₁ (at_epoch e s₁.counters)) X
       now = record { epoch = refl; promoted = r.promoted; session = pending_session (due s.pending f) s here ∙ r.session }
@@ -360,7 +360,7 @@ module _ (L : Settings) (A B : Session) (here h e : ℕ) (okA : Holdable L.C L.M
 
   drop_unbound : (s : Standby) (n : ℕ) → find h s.handles ≡ none → find h (step L s (disconnected_from n)).state.handles ≡ none
   unfolding step
-  drop_unbound s n u = cond_cases (λ (x : Standby). find h x.handles ≡ none) (eqb n s.counters.connections) (λ _. find-freed h s.handles) (λ _. u)
+  drop_unbound s n u = cond_cases (λ (x : Standby). find h x.handles ≡ none) (eqb n s.counters.connections) (λ _. find_freed h s.handles) (λ _. u)
 
   drop_is : (s : Standby) (n : ℕ) (w : Bool) → eqb n s.counters.connections ≡ w → (step L s (disconnected_from n)).state ≡ cond w (unbound s) s
   unfolding step
@@ -376,34 +376,34 @@ module _ (L : Settings) (A B : Session) (here h e : ℕ) (okA : Holdable L.C L.M
 
   -- no frame of A's is left
   quiet_run : {fs : List Frame} {s : Standby} {cs : List Call} (d : FirstList L e fs s cs) (X : Session) → fs ≡ [] → Resting s X
-      → ModelAllTaken d × (modelTookLast d ≡ false) × (Finally s cs X)
+      → ModelAllTaken d × (model_took_last d ≡ false) × (Finally s cs X)
   quiet_run list_ends X p r = (tt, refl, r.session)
   quiet_run (ours_next hands rest) X p r = absurd (nil≢cons (sym p))
   quiet_run (aside_next {s} {c} {w} hands a rest) X p r = quiet_run rest X p (same_resting s _ X (aside_same L e s c w r.epoch hands a) r)
-  quiet_run (flush_next {s} n rest) X p r = quiet_run rest X p (same_resting s _ X (flush-same L s n) r)
+  quiet_run (flush_next {s} n rest) X p r = quiet_run rest X p (same_resting s _ X (flush_same L s n) r)
   quiet_run (drop_next {s} n rest) X p r =
       let q = quiet_run rest X p (drop_resting s n X r) in
       (cond_cases (λ (t : Type 0). t) (eqb n s.counters.connections) (λ _. tt) (λ _. q.0), q.1, q.2)
 
   -- the handle is unbound
   cut_run : {fs : List Frame} {s : Standby} {cs : List Call} (d : FirstList L e fs s cs) (m : ℕ) (bs : List (List Change)) (X : Session) → fs ≡ frames_of h e m bs → Each (Writable protocol_version) fs → find h s.handles ≡ none → Resting s X
-      → (modelTookLast d ≡ false) × (Finally s cs X)
+      → (model_took_last d ≡ false) × (Finally s cs X)
   cut_run list_ends m bs X p fine u r = (refl, r.session)
   cut_run (ours_next {f} {left} {s} {c} hands rest) m bs X p fine u r =
       let v = frame_is f left m bs p in
       let q = call_unbound s c (suc m) v.part v.own X u r (subst (Writable protocol_version) v.frame_is fine.0) (subst (λ (x : Frame). Hands c (encode x)) v.frame_is hands) in
       let z = cut_run rest (suc m) v.more X v.left_is fine.1 q.1 q.2 in
-      (ap (λ (x : Bool). x || modelTookLast rest) (and_false (is_empty left) (accepted (step L s c).answer) q.0) ∙ z.0, z.1)
+      (ap (λ (x : Bool). x || model_took_last rest) (and_false (is_empty left) (accepted (step L s c).answer) q.0) ∙ z.0, z.1)
   cut_run (aside_next {s} {c} {w} hands a rest) m bs X p fine u r =
       let same = aside_same L e s c w r.epoch hands a in
       cut_run rest m bs X p fine (ap (find h) same.handles ∙ u) (same_resting s _ X same r)
   cut_run (flush_next {s} n rest) m bs X p fine u r =
-      let same = flush-same L s n in
+      let same = flush_same L s n in
       cut_run rest m bs X p fine (ap (find h) same.handles ∙ u) (same_resting s _ X same r)
   cut_run (drop_next {s} n rest) m bs X p fine u r = cut_run rest m bs X p fine (drop_unbound s n u) (drop_resting s n X r)
 
   abbrev pub Ends : {fs : List Frame} {s : Standby} {cs : List Call} → FirstList L e fs s cs → Type 0
-  Ends {s} {cs} d = ModelAllTaken d × (Finally s cs (cond (modelTookLast d) A B))
+  Ends {s} {cs} d = ModelAllTaken d × (Finally s cs (cond (model_took_last d) A B))
 
   -- A's parts up to H are held, b and bs are to come
   pub record Coming (m : ℕ) (H b : List Change) (bs : List (List Change)) : Type 0 where
@@ -422,24 +422,24 @@ module _ (L : Settings) (A B : Session) (here h e : ℕ) (okA : Holdable L.C L.M
       go [] p w ih =
           let x = call_last s c m H b w.all w.begins (omega (arith, w.numbers)) q (subst (Writable protocol_version) (head-eq_of_cons-eq p) fine.0) (subst (λ (y : Frame). Hands c (encode y)) (head-eq_of_cons-eq p) hands) in
           let z = quiet_run rest A (tail-eq_of_cons-eq p) x.1 in
-          let t : (is_empty left && accepted (step L s c).answer || modelTookLast rest) ≡ true = ap (λ (y : Bool). y || modelTookLast rest) (and_true (ap is_empty (tail-eq_of_cons-eq p)) x.0) in
+          let t : (is_empty left && accepted (step L s c).answer || model_took_last rest) ≡ true = ap (λ (y : Bool). y || model_took_last rest) (and_true (ap is_empty (tail-eq_of_cons-eq p)) x.0) in
           ((true→T _ x.0, z.0), subst (Finally s (c ∷ cs)) (sym (cond-true A B t)) z.2)
       go (b₁ ∷ bs) p w ih =
           let x = call_whole s c m H b (b₁ ++ all_changes bs) w.all w.begins (omega (arith, w.numbers)) q (subst (Writable protocol_version) (head-eq_of_cons-eq p) fine.0) (subst (λ (y : Frame). Hands c (encode y)) (head-eq_of_cons-eq p) hands) in
           let w₁ : Coming (suc m) (H ++ b) b₁ bs =
           record { all = append_assoc H b (b₁ ++ all_changes bs) ∙ w.all; begins = starts_append (H ++ b) b₁ w.begins; numbers = omega (arith, w.numbers) } in
           let z = ih (suc m) (H ++ b) b₁ bs (tail-eq_of_cons-eq p) fine.1 w₁ x.1 in
-          let t : (is_empty left && accepted (step L s c).answer || modelTookLast rest) ≡ modelTookLast rest =
-          ap (λ (y : Bool). y && accepted (step L s c).answer || modelTookLast rest) (ap is_empty (tail-eq_of_cons-eq p) ∙ frames_more (suc m) b₁ bs) in
+          let t : (is_empty left && accepted (step L s c).answer || model_took_last rest) ≡ model_took_last rest =
+          ap (λ (y : Bool). y && accepted (step L s c).answer || model_took_last rest) (ap is_empty (tail-eq_of_cons-eq p) ∙ frames_more (suc m) b₁ bs) in
           ((true→T _ x.0, z.0), subst (λ (y : Bool). Finally s (c ∷ cs) (cond y A B)) (sym t) z.1)
   hold_run (aside_next {s} {c} {w = w₁} hands a rest) m H b bs p fine w q = hold_run rest m H b bs p fine w (same_holding s _ m H (aside_same L e s c w₁ q.rests.epoch hands a) q)
-  hold_run (flush_next {s} n rest) m H b bs p fine w q = hold_run rest m H b bs p fine w (same_holding s _ m H (flush-same L s n) q)
+  hold_run (flush_next {s} n rest) m H b bs p fine w q = hold_run rest m H b bs p fine w (same_holding s _ m H (flush_same L s n) q)
   hold_run (drop_next {s} {cs} n rest) m H b bs p fine w q = go (eqb n s.counters.connections) refl (hold_run rest m H b bs p fine w)
     where
       go : (x : Bool) → eqb n s.counters.connections ≡ x → (Holding (step L s (disconnected_from n)).state m H → Ends rest) → Ends (drop_next {s = s} {cs = cs} n rest)
       go true y ih =
           let is = drop_is s n true y in
-          let z = cut_run rest m (b ∷ bs) B p fine (ap (λ (v : Standby). find h v.handles) is ∙ find-freed h s.handles)
+          let z = cut_run rest m (b ∷ bs) B p fine (ap (λ (v : Standby). find h v.handles) is ∙ find_freed h s.handles)
           (subst (λ (v : Standby). Resting v B) (sym is) (record { epoch = q.rests.epoch; promoted = q.rests.promoted; session = q.rests.session })) in
           (subst (λ (v : Bool). cond v (Unit {0}) (ModelAllTaken rest)) (sym y) tt, subst (λ (v : Bool). Finally s (disconnected_from n ∷ cs) (cond v A B)) (sym z.0) z.1)
       go false y ih =

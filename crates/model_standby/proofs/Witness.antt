@@ -16,15 +16,15 @@ use Rattle.model_frame.specs.Parse.{read_bytes, read_num, read_blob, read_text, 
 use Rattle.model_frame.specs.Reading.{read_stamp, read_marks, set_incoming_in_flight_fields, record_msg_fields, record_bare_fields, set_created_at_fields, set_marks_fields, read_change, read_changes, read_app_records, read_part, batch_fields, ack_fields, read_fields, read_body, decode}
 use Rattle.model_frame.specs.Writing.{blob_bytes, change_bytes, body_bytes, encode}
 use Rattle.model_session.specs.Session.{Session, new_session, apply, keep, Holdable}
-use Rattle.model_session.specs.Whole.{wholeBatches, whole_frames}
+use Rattle.model_session.specs.Whole.{whole_batches, whole_frames}
 use Rattle.model_standby.specs.Answer.{given}
 use Rattle.model_standby.specs.Row.{put}
 use Rattle.model_standby.specs.Store.{session_at}
 use Rattle.model_standby.specs.State.{Bound, Standby, Call, on_frame_held, on_frame, flush, disconnected_from}
-use Rattle.model_standby.specs.Standby.{onBatch, onHandle, onPart, hold, settle, onGiven, step, run}
-use Rattle.model_standby.specs.PlainCopy.{OwnKey, copy_at, copyRun}
-use Rattle.model_standby.specs.Demand.{ModelStart, by_held, by_frame, is_lower, refused_outside, FirstList, list_ends, ours_next, aside_next, flush_next, drop_next, modelTookLast}
-use Rattle.model_standby.proofs.Demand3.{demand-3}
+use Rattle.model_standby.specs.Standby.{on_batch, on_handle, on_part, hold, settle, on_given, step, run}
+use Rattle.model_standby.specs.PlainCopy.{OwnKey, copy_at, copy_run_lem}
+use Rattle.model_standby.specs.Demand.{ModelStart, by_held, by_frame, is_lower, refused_outside, FirstList, list_ends, ours_next, aside_next, flush_next, drop_next, model_took_last}
+use Rattle.model_standby.proofs.Demand3.{demand_3}
 use Rattle.model_standby.proofs.Examples.{L₀, key_of}
 
 -- ---- a session with messages 2, 3 and 6 and next outgoing 9
@@ -78,7 +78,7 @@ s₀ =
     }
 
 a_start : ModelStart L₀ 3 A₀ new_session k₀ 9 b₀ s₀
-unfolding wholeBatches
+unfolding whole_batches
 a_start =
     record {
       C_limit = omega arith;
@@ -110,7 +110,7 @@ abbrev calls₁ : List Call
 calls₁ = on_frame (1 ∷ 0 ∷ 0 ∷ []) ∷ on_frame_held (encode f₁) ∷ on_frame (encode (batch 9 4 2 commit [] [])) ∷ flush 1 ∷ disconnected_from 0 ∷ on_frame (encode f₂) ∷ on_frame_held (encode (ack 9 9)) ∷ []
 
 unfoldable list₁ : FirstList L₀ 5 (whole_frames 3 9 5 7 A₀) s₀ calls₁
-unfolding whole_frames wholeBatches step onGiven onBatch onHandle onPart hold settle apply keep put given encode body_bytes blob_bytes change_bytes run_bytes bytes_of decode le read_num read_bytes read_blob read_text read_count many read_body read_fields batch_fields ack_fields read_changes read_change set_incoming_in_flight_fields record_msg_fields record_bare_fields set_created_at_fields set_marks_fields read_app_records read_part read_stamp read_marks utf8 well_formed lead_length own_bits least fitting is_scalar is_surrogate is_printable_byte is_printable is_marks is_digit is_pair is_stamp day_exists month_days is_leap takes_stamp
+unfolding whole_frames whole_batches step on_given on_batch on_handle on_part hold settle apply keep put given encode body_bytes blob_bytes change_bytes run_bytes bytes_of decode le read_num read_bytes read_blob read_text read_count many read_body read_fields batch_fields ack_fields read_changes read_change set_incoming_in_flight_fields record_msg_fields record_bare_fields set_created_at_fields set_marks_fields read_app_records read_part read_stamp read_marks utf8 well_formed lead_length own_bits least fitting is_scalar is_surrogate is_printable_byte is_printable is_marks is_digit is_pair is_stamp day_exists month_days is_leap takes_stamp
 list₁ =
     aside_next by_frame (refused_outside {n = 26} tt)
     (ours_next by_held
@@ -120,34 +120,34 @@ list₁ =
     (ours_next by_frame
     (aside_next by_held (refused_outside {n = 19} tt) list_ends))))))
 
-took₁ : modelTookLast list₁ ≡ true
-unfolding list₁ whole_frames wholeBatches step onGiven onBatch onHandle onPart hold settle apply keep put given encode body_bytes blob_bytes change_bytes run_bytes bytes_of decode le read_num read_bytes read_blob read_text read_count many read_body read_fields batch_fields ack_fields read_changes read_change set_incoming_in_flight_fields record_msg_fields record_bare_fields set_created_at_fields set_marks_fields read_app_records read_part read_stamp read_marks utf8 well_formed lead_length own_bits least fitting is_scalar is_surrogate is_printable_byte is_printable is_marks is_digit is_pair is_stamp day_exists month_days is_leap takes_stamp
+took₁ : model_took_last list₁ ≡ true
+unfolding list₁ whole_frames whole_batches step on_given on_batch on_handle on_part hold settle apply keep put given encode body_bytes blob_bytes change_bytes run_bytes bytes_of decode le read_num read_bytes read_blob read_text read_count many read_body read_fields batch_fields ack_fields read_changes read_change set_incoming_in_flight_fields record_msg_fields record_bare_fields set_created_at_fields set_marks_fields read_app_records read_part read_stamp read_marks utf8 well_formed lead_length own_bits least fitting is_scalar is_surrogate is_printable_byte is_printable is_marks is_digit is_pair is_stamp day_exists month_days is_leap takes_stamp
 took₁ = refl
 
 -- by the theorem
 made_A : session_at (run L₀ s₀ calls₁).places 1 ≡ some A₀
-made_A = (demand-3 L₀ 3 A₀ new_session k₀ 9 b₀ s₀ a_start calls₁ list₁).is_A_or_B ∙ ap (λ (x : Bool). some (cond x A₀ new_session)) took₁
+made_A = (demand_3 L₀ 3 A₀ new_session k₀ 9 b₀ s₀ a_start calls₁ list₁).is_A_or_B ∙ ap (λ (x : Bool). some (cond x A₀ new_session)) took₁
 
 -- A's first, a drop of the current line, A's last
 abbrev calls₂ : List Call
 calls₂ = on_frame_held (encode f₁) ∷ disconnected_from 1 ∷ on_frame (encode f₂) ∷ []
 
 unfoldable list₂ : FirstList L₀ 5 (whole_frames 3 9 5 7 A₀) s₀ calls₂
-unfolding whole_frames wholeBatches step onGiven onBatch onHandle onPart hold settle apply keep put given encode body_bytes blob_bytes change_bytes run_bytes bytes_of decode le read_num read_bytes read_blob read_text read_count many read_body read_fields batch_fields ack_fields read_changes read_change set_incoming_in_flight_fields record_msg_fields record_bare_fields set_created_at_fields set_marks_fields read_app_records read_part read_stamp read_marks utf8 well_formed lead_length own_bits least fitting is_scalar is_surrogate is_printable_byte is_printable is_marks is_digit is_pair is_stamp day_exists month_days is_leap takes_stamp
+unfolding whole_frames whole_batches step on_given on_batch on_handle on_part hold settle apply keep put given encode body_bytes blob_bytes change_bytes run_bytes bytes_of decode le read_num read_bytes read_blob read_text read_count many read_body read_fields batch_fields ack_fields read_changes read_change set_incoming_in_flight_fields record_msg_fields record_bare_fields set_created_at_fields set_marks_fields read_app_records read_part read_stamp read_marks utf8 well_formed lead_length own_bits least fitting is_scalar is_surrogate is_printable_byte is_printable is_marks is_digit is_pair is_stamp day_exists month_days is_leap takes_stamp
 list₂ = ours_next by_held (drop_next 1 (ours_next by_frame list_ends))
 
-took₂ : modelTookLast list₂ ≡ false
-unfolding list₂ whole_frames wholeBatches step onGiven onBatch onHandle onPart hold settle apply keep put given encode body_bytes blob_bytes change_bytes run_bytes bytes_of decode le read_num read_bytes read_blob read_text read_count many read_body read_fields batch_fields ack_fields read_changes read_change set_incoming_in_flight_fields record_msg_fields record_bare_fields set_created_at_fields set_marks_fields read_app_records read_part read_stamp read_marks utf8 well_formed lead_length own_bits least fitting is_scalar is_surrogate is_printable_byte is_printable is_marks is_digit is_pair is_stamp day_exists month_days is_leap takes_stamp
+took₂ : model_took_last list₂ ≡ false
+unfolding list₂ whole_frames whole_batches step on_given on_batch on_handle on_part hold settle apply keep put given encode body_bytes blob_bytes change_bytes run_bytes bytes_of decode le read_num read_bytes read_blob read_text read_count many read_body read_fields batch_fields ack_fields read_changes read_change set_incoming_in_flight_fields record_msg_fields record_bare_fields set_created_at_fields set_marks_fields read_app_records read_part read_stamp read_marks utf8 well_formed lead_length own_bits least fitting is_scalar is_surrogate is_printable_byte is_printable is_marks is_digit is_pair is_stamp day_exists month_days is_leap takes_stamp
 took₂ = refl
 
 left_B : session_at (run L₀ s₀ calls₂).places 1 ≡ some new_session
-left_B = (demand-3 L₀ 3 A₀ new_session k₀ 9 b₀ s₀ a_start calls₂ list₂).is_A_or_B ∙ ap (λ (x : Bool). some (cond x A₀ new_session)) took₂
+left_B = (demand_3 L₀ 3 A₀ new_session k₀ 9 b₀ s₀ a_start calls₂ list₂).is_A_or_B ∙ ap (λ (x : Bool). some (cond x A₀ new_session)) took₂
 
 -- and by computing: the standby's session, and the plain copy's
 computed_so : session_at (run L₀ s₀ calls₁).places 1 ∷ session_at (run L₀ s₀ calls₂).places 1 ∷ [] ≡ some A₀ ∷ some new_session ∷ []
-unfolding step onGiven onBatch onHandle onPart hold settle apply keep put given encode body_bytes blob_bytes change_bytes run_bytes bytes_of decode le read_num read_bytes read_blob read_text read_count many read_body read_fields batch_fields ack_fields read_changes read_change set_incoming_in_flight_fields record_msg_fields record_bare_fields set_created_at_fields set_marks_fields read_app_records read_part read_stamp read_marks utf8 well_formed lead_length own_bits least fitting is_scalar is_surrogate is_printable_byte is_printable is_marks is_digit is_pair is_stamp day_exists month_days is_leap takes_stamp
+unfolding step on_given on_batch on_handle on_part hold settle apply keep put given encode body_bytes blob_bytes change_bytes run_bytes bytes_of decode le read_num read_bytes read_blob read_text read_count many read_body read_fields batch_fields ack_fields read_changes read_change set_incoming_in_flight_fields record_msg_fields record_bare_fields set_created_at_fields set_marks_fields read_app_records read_part read_stamp read_marks utf8 well_formed lead_length own_bits least fitting is_scalar is_surrogate is_printable_byte is_printable is_marks is_digit is_pair is_stamp day_exists month_days is_leap takes_stamp
 computed_so = refl
 
-copies_so : (copyRun L₀ k₀ (copy_at new_session s₀) s₀ calls₁).session ∷ (copyRun L₀ k₀ (copy_at new_session s₀) s₀ calls₂).session ∷ [] ≡ A₀ ∷ new_session ∷ []
-unfolding step onGiven onBatch onHandle onPart hold settle apply keep put given encode body_bytes blob_bytes change_bytes run_bytes bytes_of decode le read_num read_bytes read_blob read_text read_count many read_body read_fields batch_fields ack_fields read_changes read_change set_incoming_in_flight_fields record_msg_fields record_bare_fields set_created_at_fields set_marks_fields read_app_records read_part read_stamp read_marks utf8 well_formed lead_length own_bits least fitting is_scalar is_surrogate is_printable_byte is_printable is_marks is_digit is_pair is_stamp day_exists month_days is_leap takes_stamp
+copies_so : (copy_run_lem L₀ k₀ (copy_at new_session s₀) s₀ calls₁).session ∷ (copy_run_lem L₀ k₀ (copy_at new_session s₀) s₀ calls₂).session ∷ [] ≡ A₀ ∷ new_session ∷ []
+unfolding step on_given on_batch on_handle on_part hold settle apply keep put given encode body_bytes blob_bytes change_bytes run_bytes bytes_of decode le read_num read_bytes read_blob read_text read_count many read_body read_fields batch_fields ack_fields read_changes read_change set_incoming_in_flight_fields record_msg_fields record_bare_fields set_created_at_fields set_marks_fields read_app_records read_part read_stamp read_marks utf8 well_formed lead_length own_bits least fitting is_scalar is_surrogate is_printable_byte is_printable is_marks is_digit is_pair is_stamp day_exists month_days is_leap takes_stamp
 copies_so = refl

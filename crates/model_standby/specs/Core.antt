@@ -66,16 +66,16 @@ abbrev pub core_run : Bool → Core → Core
 core_run now k = record { counters = k.counters; places = cond now (mark_all k.pending k.places) k.places; pending = cond now [] k.pending }
 
 module _ (L : Settings) where
-  unfoldable pub coreHello : Core → ℕ → ℕ → List ℕ → CoreResult
-  coreHello k v e kinds =
+  unfoldable pub core_hello : Core → ℕ → ℕ → List ℕ → CoreResult
+  core_hello k v e kinds =
       cond (not (eqb v protocol_version)) (core_refuse k leave Refusal.bad_version)
       (cond (not (is_empty kinds)) (core_refuse k leave Refusal.kinds_listed)
       (cond (ltb e k.counters.epoch) (core_says k leave (welcome k.counters.epoch (incarnation_of L)))
       (core_says (counting (core_unbound k) (connected e k.counters)) clear (welcome e (incarnation_of L)))))
 
   -- whether the row has a place for the handle: it has one, or one is free
-  unfoldable pub coreBind : Core → Bool → ℕ → ℕ → ℕ → Key → CoreResult
-  coreBind k room h e lag j =
+  unfoldable pub core_bind : Core → Bool → ℕ → ℕ → ℕ → Key → CoreResult
+  core_bind k room h e lag j =
       cond (ltb e k.counters.epoch) (core_says k leave (nack h stale_epoch))
       (cond (ltb L.lag lag) (core_says k leave (nack h lag_too_great))
       (cond (not (is_stored j k.places || ltb (length k.places) L.S)) (core_refuse k leave Refusal.no_session_place)
@@ -83,68 +83,68 @@ module _ (L : Settings) where
       (core_says (record { counters = k.counters; places = opened j k.places; pending = k.pending }) (store h (new_bound (place_of j k.places)))
       (bound h (summary (or_new (session_at k.places (place_of j k.places))) lag))))))
 
-  unfoldable pub coreChecked : Core → ℕ → ℕ → ℕ → CoreResult
-  coreChecked k h e i =
+  unfoldable pub core_checked : Core → ℕ → ℕ → ℕ → CoreResult
+  core_checked k h e i =
       cond (ltb e k.counters.epoch) (core_says k leave (nack h stale_epoch))
       (cond (not (eqb i (incarnation_of L))) (core_says k leave (nack h restarted))
       (core_says (counting k (checked_at e k.counters)) leave (ack h 0)))
 
-  unfoldable pub coreSettle : Core → ℕ → Bound → ℕ → List Change → CoreResult
-  coreSettle k h b n cs =
+  unfoldable pub core_settle : Core → ℕ → Bound → ℕ → List Change → CoreResult
+  core_settle k h b n cs =
       cond (fits (or_new (session_at k.places b.place)).next_out cs)
       (core_says (record { counters = k.counters; places = on_place b.place (changed L.C L.M cs) k.places; pending = k.pending ++ ((h, b.place) ∷ []) }) (store h (numbered n b)) (ack h n))
       (core_says k (store h b) (nack h diverged))
 
-  unfoldable pub coreHold : Core → ℕ → Bound → List Change → CoreResult → CoreResult
-  coreHold k h b cs go =
+  unfoldable pub core_hold : Core → ℕ → Bound → List Change → CoreResult → CoreResult
+  core_hold k h b cs go =
       cond (is_empty b.held && not (starts_with_reset cs)) (core_refuse k leave Refusal.no_reset)
       (cond (ltb max_whole (raised b cs)) (core_refuse k (store h (summed b cs)) Refusal.too_many_bytes)
       (cond (ltb L.room (sizes (b.held ++ cs))) (core_refuse k leave Refusal.hold_area_full) go))
 
-  unfoldable pub corePart : Core → ℕ → Bound → ℕ → Part → List Change → CoreResult
-  corePart k h b n commit cs = cond (not (is_empty b.held)) (core_refuse k leave Refusal.changes_held) (coreSettle k h b n cs)
-  corePart k h b n whole cs = coreHold k h b cs (core_says k (store h (holding b n cs)) (ack h n))
-  corePart k h b n last_whole cs = coreHold k h b cs (coreSettle k h (none_held b) n (b.held ++ cs))
+  unfoldable pub core_part : Core → ℕ → Bound → ℕ → Part → List Change → CoreResult
+  core_part k h b n commit cs = cond (not (is_empty b.held)) (core_refuse k leave Refusal.changes_held) (core_settle k h b n cs)
+  core_part k h b n whole cs = core_hold k h b cs (core_says k (store h (holding b n cs)) (ack h n))
+  core_part k h b n last_whole cs = core_hold k h b cs (core_settle k h (none_held b) n (b.held ++ cs))
 
-  unfoldable pub coreHandle : Core → ℕ → Option Bound → ℕ → Part → List Change → CoreResult
-  coreHandle k h none n p cs = core_refuse k leave Refusal.unbound
-  coreHandle k h (some b) n p cs = cond (follows b n) (corePart k h b n p cs) (core_says k (store h (none_held b)) (nack h diverged))
+  unfoldable pub core_handle : Core → ℕ → Option Bound → ℕ → Part → List Change → CoreResult
+  core_handle k h none n p cs = core_refuse k leave Refusal.unbound
+  core_handle k h (some b) n p cs = cond (follows b n) (core_part k h b n p cs) (core_says k (store h (none_held b)) (nack h diverged))
 
-  unfoldable pub coreBatch : Core → Option Bound → ℕ → ℕ → ℕ → Part → List Change → List AppRecord → CoreResult
-  coreBatch k found h e n p cs apps =
+  unfoldable pub core_batch : Core → Option Bound → ℕ → ℕ → ℕ → Part → List Change → List AppRecord → CoreResult
+  core_batch k found h e n p cs apps =
       cond (not (is_empty apps)) (core_refuse k leave Refusal.app_records)
       (cond (ltb e k.counters.epoch) (core_says k leave (nack h stale_epoch))
-      (coreHandle (counting k (at_epoch e k.counters)) h found n p cs))
+      (core_handle (counting k (at_epoch e k.counters)) h found n p cs))
 
   -- ---- the calls, with what was found for the frame's handle, and whether the row has a free place
 
-  abbrev pub coreIntact : Core → Option Bound → Bool → Frame → CoreResult
-  coreIntact k found free (hello v e node kinds) = coreHello k v e kinds
-  coreIntact k found free (welcome e i) = core_refuse k leave Refusal.other_frame
-  coreIntact k found free (bind h e lag j) = coreBind k (is_some found || free) h e lag j
-  coreIntact k found free (batch h e n p cs apps) = coreBatch k found h e n p cs apps
-  coreIntact k found free (ack h n) = core_refuse k leave Refusal.other_frame
-  coreIntact k found free (nack h r) = core_refuse k leave Refusal.other_frame
-  coreIntact k found free (bound h m) = core_refuse k leave Refusal.other_frame
-  coreIntact k found free (checked h e i) = coreChecked k h e i
+  abbrev pub core_intact : Core → Option Bound → Bool → Frame → CoreResult
+  core_intact k found free (hello v e node kinds) = core_hello k v e kinds
+  core_intact k found free (welcome e i) = core_refuse k leave Refusal.other_frame
+  core_intact k found free (bind h e lag j) = core_bind k (is_some found || free) h e lag j
+  core_intact k found free (batch h e n p cs apps) = core_batch k found h e n p cs apps
+  core_intact k found free (ack h n) = core_refuse k leave Refusal.other_frame
+  core_intact k found free (nack h r) = core_refuse k leave Refusal.other_frame
+  core_intact k found free (bound h m) = core_refuse k leave Refusal.other_frame
+  core_intact k found free (checked h e i) = core_checked k h e i
 
-  unfoldable pub coreGiven : Core → Option Bound → Bool → Given → CoreResult
-  coreGiven k found free (damaged n) = core_refuse k leave n
-  coreGiven k found free (intact f) = cond k.counters.promoted (core_refuse k leave Refusal.promoted) (coreIntact (core_run (due k.pending f) k) found free f)
+  unfoldable pub core_given : Core → Option Bound → Bool → Given → CoreResult
+  core_given k found free (damaged n) = core_refuse k leave n
+  core_given k found free (intact f) = cond k.counters.promoted (core_refuse k leave Refusal.promoted) (core_intact (core_run (due k.pending f) k) found free f)
 
-  abbrev pub coreFlushed : CoreResult → CoreResult
-  coreFlushed r = record { core = core_run (is_reply r.answer) r.core; action = r.action; answer = r.answer }
+  abbrev pub core_flushed : CoreResult → CoreResult
+  core_flushed r = record { core = core_run (is_reply r.answer) r.core; action = r.action; answer = r.answer }
 
-  abbrev pub corePromotion : Core → Core
-  corePromotion k = record { counters = promoted_to k.counters; places = on_places (taken_over L.lag) k.places; pending = [] }
+  abbrev pub core_promotion : Core → Core
+  core_promotion k = record { counters = promoted_to k.counters; places = on_places (taken_over L.lag) k.places; pending = [] }
 
-  unfoldable pub coreStep : Core → Option Bound → Bool → Call → CoreResult
-  coreStep k found free (on_frame_held w) = coreGiven k found free (given w)
-  coreStep k found free (on_frame w) = coreFlushed (coreGiven k found free (given w))
-  coreStep k found free (flush n) = cond (not (eqb n k.counters.connections) || k.counters.promoted) (core_refuse k leave Refusal.other_connection) (core_done (core_run true k) leave)
-  coreStep k found free (disconnected_from n) = cond (eqb n k.counters.connections) (core_done (core_unbound k) clear) (core_done k leave)
-  coreStep k found free promote = cond k.counters.checked (core_done (corePromotion k) clear) (core_refuse k leave Refusal.unchecked)
-  coreStep k found free promote_unchecked = core_done (corePromotion k) clear
+  unfoldable pub core_step : Core → Option Bound → Bool → Call → CoreResult
+  core_step k found free (on_frame_held w) = core_given k found free (given w)
+  core_step k found free (on_frame w) = core_flushed (core_given k found free (given w))
+  core_step k found free (flush n) = cond (not (eqb n k.counters.connections) || k.counters.promoted) (core_refuse k leave Refusal.other_connection) (core_done (core_run true k) leave)
+  core_step k found free (disconnected_from n) = cond (eqb n k.counters.connections) (core_done (core_unbound k) clear) (core_done k leave)
+  core_step k found free promote = cond k.counters.checked (core_done (core_promotion k) clear) (core_refuse k leave Refusal.unchecked)
+  core_step k found free promote_unchecked = core_done (core_promotion k) clear
 
 -- the handle to look up
 abbrev pub handle_of : Call → ℕ

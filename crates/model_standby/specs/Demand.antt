@@ -8,13 +8,13 @@ use Rattle.model_frame.specs.Refusal
 use Rattle.model_frame.specs.Parse.{is_empty}
 use Rattle.model_frame.specs.Writing.{encode}
 use Rattle.model_session.specs.Session.{Session, Holdable, top}
-use Rattle.model_session.specs.Whole.{wholeBatches, whole_frames, hold_length}
+use Rattle.model_session.specs.Whole.{whole_batches, whole_frames, hold_length}
 use Rattle.model_standby.specs.Answer.{intact, given, Answer, refused, accepted, lower}
 use Rattle.model_standby.specs.Row.{find}
 use Rattle.model_standby.specs.Store.{session_at}
 use Rattle.model_standby.specs.State.{Settings, Bound, Standby, Call, on_frame_held, on_frame, flush, disconnected_from, promote, promote_unchecked}
 use Rattle.model_standby.specs.Standby.{step, run}
-use Rattle.model_standby.specs.PlainCopy.{OwnKey, own_key, copy_at, copyRun}
+use Rattle.model_standby.specs.PlainCopy.{OwnKey, own_key, copy_at, copy_run_lem}
 
 -- A is a session that the store can hold. The handle h is bound to the place of session B, whose key is k, with nothing
 -- held and document 01's hold area; the standby is unpromoted. Handle, epoch and the numbers of A's batches are of their
@@ -31,7 +31,7 @@ pub record ModelStart (L : Settings) (limit : ℕ) (A B : Session) (k : OwnKey) 
   pub area : hold_length L.C L.M ≤ L.room
   pub handle_u32 : h < 2 ^ 32
   pub epoch_u64 : s.counters.epoch ≤ top
-  pub sendable : b.number + length (wholeBatches limit A) ≤ top
+  pub sendable : b.number + length (whole_batches limit A) ≤ top
 
 -- frames, flushes and drops
 abbrev pub not_promotion : Call → Bool
@@ -71,12 +71,12 @@ pub data FirstList (L : Settings) (e : ℕ) : List Frame → Standby → List Ca
 
 module _ {L : Settings} {e : ℕ} where
   -- A's last is among those accepted
-  abbrev pub modelTookLast : {left : List Frame} {s : Standby} {cs : List Call} → FirstList L e left s cs → Bool
-  modelTookLast list_ends = false
-  modelTookLast (ours_next {left} {s} {c} hands rest) = is_empty left && accepted (step L s c).answer || modelTookLast rest
-  modelTookLast (aside_next hands p rest) = modelTookLast rest
-  modelTookLast (flush_next n rest) = modelTookLast rest
-  modelTookLast (drop_next n rest) = modelTookLast rest
+  abbrev pub model_took_last : {left : List Frame} {s : Standby} {cs : List Call} → FirstList L e left s cs → Bool
+  model_took_last list_ends = false
+  model_took_last (ours_next {left} {s} {c} hands rest) = is_empty left && accepted (step L s c).answer || model_took_last rest
+  model_took_last (aside_next hands p rest) = model_took_last rest
+  model_took_last (flush_next n rest) = model_took_last rest
+  model_took_last (drop_next n rest) = model_took_last rest
 
   -- A's frames before any drop of the current line are all accepted
   abbrev pub ModelAllTaken : {left : List Frame} {s : Standby} {cs : List Call} → FirstList L e left s cs → Type 0
@@ -92,8 +92,8 @@ pub record ModelClaim (L : Settings) (limit : ℕ) (A B : Session) (k : OwnKey) 
   -- A's frames before any drop of the current line are all accepted
   pub all_taken : ModelAllTaken d
   -- after the list the session is exactly A if A's last is among those accepted, else exactly B
-  pub is_A_or_B : session_at (run L s cs).places b.place ≡ some (cond (modelTookLast d) A B)
+  pub is_A_or_B : session_at (run L s cs).places b.place ≡ some (cond (model_took_last d) A B)
   -- after every further list the session is exactly that of the plain copy, fed both lists
-  pub is_the_copy : (more : List Call) → T (no_promotions more) → session_at (run L s (cs ++ more)).places b.place ≡ some (copyRun L k (copy_at B s) s (cs ++ more)).session
+  pub is_the_copy : (more : List Call) → T (no_promotions more) → session_at (run L s (cs ++ more)).places b.place ≡ some (copy_run_lem L k (copy_at B s) s (cs ++ more)).session
   -- which after the first list was A or B likewise, so batches accepted after A act as on A
-  pub copy_is_A_or_B : (copyRun L k (copy_at B s) s cs).session ≡ cond (modelTookLast d) A B
+  pub copy_is_A_or_B : (copy_run_lem L k (copy_at B s) s cs).session ≡ cond (model_took_last d) A B

@@ -25,8 +25,8 @@ held_bytes cs = run_bytes change_bytes cs
 
 module _ (L : Settings) where
   -- past the commit number and 16 to 18
-  abbrev pub heldPasses : Bound → ℕ → List Change → Bool
-  heldPasses b n cs =
+  abbrev pub held_passes : Bound → ℕ → List Change → Bool
+  held_passes b n cs =
       follows b n
       && (not (is_empty b.held && not (starts_with_reset cs))
       && (not (ltb max_whole (raised b cs))
@@ -35,25 +35,25 @@ module _ (L : Settings) where
   -- past 14
   abbrev pub writes_at : ℕ → Option Bound → ℕ → List Change → Option HoldWrite
   writes_at h none n cs = none
-  writes_at h (some b) n cs = cond (heldPasses b n cs) (some (record { handle = h; offset = sizes b.held; bytes = held_bytes cs })) none
+  writes_at h (some b) n cs = cond (held_passes b n cs) (some (record { handle = h; offset = sizes b.held; bytes = held_bytes cs })) none
 
-  abbrev pub writesPart : ℕ → Option Bound → ℕ → Part → List Change → Option HoldWrite
-  writesPart h o n commit cs = none
-  writesPart h o n whole cs = writes_at h o n cs
-  writesPart h o n last_whole cs = writes_at h o n cs
+  abbrev pub writes_part : ℕ → Option Bound → ℕ → Part → List Change → Option HoldWrite
+  writes_part h o n commit cs = none
+  writes_part h o n whole cs = writes_at h o n cs
+  writes_part h o n last_whole cs = writes_at h o n cs
 
   -- past 13 and the epoch
-  abbrev pub writesFrame : Counters → Option Bound → Frame → Option HoldWrite
-  writesFrame c found (hello v e node kinds) = none
-  writesFrame c found (welcome e i) = none
-  writesFrame c found (bind h e lag k) = none
-  writesFrame c found (batch h e n p cs apps) = cond (not (is_empty apps) || ltb e c.epoch) none (writesPart h found n p cs)
-  writesFrame c found (ack h n) = none
-  writesFrame c found (nack h r) = none
-  writesFrame c found (bound h m) = none
-  writesFrame c found (checked h e i) = none
+  abbrev pub writes_frame : Counters → Option Bound → Frame → Option HoldWrite
+  writes_frame c found (hello v e node kinds) = none
+  writes_frame c found (welcome e i) = none
+  writes_frame c found (bind h e lag k) = none
+  writes_frame c found (batch h e n p cs apps) = cond (not (is_empty apps) || ltb e c.epoch) none (writes_part h found n p cs)
+  writes_frame c found (ack h n) = none
+  writes_frame c found (nack h r) = none
+  writes_frame c found (bound h m) = none
+  writes_frame c found (checked h e i) = none
 
   -- with what is found for the frame's handle; by on_frame_held or on_frame, other calls write nothing there
   unfoldable pub writes : Counters → Option Bound → Given → Option HoldWrite
   writes c found (damaged n) = none
-  writes c found (intact f) = cond c.promoted none (writesFrame c found f)
+  writes c found (intact f) = cond c.promoted none (writes_frame c found f)

@@ -4,7 +4,7 @@ use Rattle.std.specs.Prelude.{ℕ, zero, suc, ◌+◌, List, [], ◌∷◌, ◌+
 use Rattle.std.proofs.Math.Option.{Option, none, some, map}
 use Rattle.std.proofs.Math.ListN.{get_elem?}
 use Rattle.model_frame.specs.Frame.{Key, Change, Part, commit, whole, last_whole, Frame, hello, welcome, bind, batch, ack, nack, bound, checked}
-use Rattle.model_session.specs.Session.{Session, applyAll}
+use Rattle.model_session.specs.Session.{Session, apply_all}
 use Rattle.model_standby.specs.Answer.{Given, damaged, intact, given, Answer, accepted, says_diverged}
 use Rattle.model_standby.specs.Row.{find}
 use Rattle.model_standby.specs.Store.{Place, same_key}
@@ -58,47 +58,47 @@ set_at h v f x = cond (eqb x h) v (f x)
 
 module _ (L : Settings) (k : OwnKey) where
   -- those held, then its own, applied if the key is the session's; none held
-  abbrev pub copySettle : Copy → ℕ → List Change → Copy
-  copySettle c h cs =
+  abbrev pub copy_settle : Copy → ℕ → List Change → Copy
+  copy_settle c h cs =
       record {
-        session = cond (key_is k (c.key_of h)) (applyAll L.C L.M (c.held_of h ++ cs) c.session) c.session;
+        session = cond (key_is k (c.key_of h)) (apply_all L.C L.M (c.held_of h ++ cs) c.session) c.session;
         key_of = c.key_of;
         held_of = set_at h [] c.held_of;
       }
 
   -- Whole: its changes added
-  abbrev pub copyBatch : Copy → ℕ → Part → List Change → Copy
-  copyBatch c h commit cs = copySettle c h cs
-  copyBatch c h whole cs = record { session = c.session; key_of = c.key_of; held_of = set_at h (c.held_of h ++ cs) c.held_of }
-  copyBatch c h last_whole cs = copySettle c h cs
+  abbrev pub copy_batch : Copy → ℕ → Part → List Change → Copy
+  copy_batch c h commit cs = copy_settle c h cs
+  copy_batch c h whole cs = record { session = c.session; key_of = c.key_of; held_of = set_at h (c.held_of h ++ cs) c.held_of }
+  copy_batch c h last_whole cs = copy_settle c h cs
 
   -- Bind, if accepted: its key, none held; Nack Diverged: none held; else nothing
-  abbrev pub copyFrame : Copy → Frame → Answer → Copy
-  copyFrame c (hello v e node kinds) a = c
-  copyFrame c (welcome e i) a = c
-  copyFrame c (bind h e lag j) a =
+  abbrev pub copy_frame : Copy → Frame → Answer → Copy
+  copy_frame c (hello v e node kinds) a = c
+  copy_frame c (welcome e i) a = c
+  copy_frame c (bind h e lag j) a =
       cond (accepted a) (record { session = c.session; key_of = set_at h (some (record { key = j; earlier = 0 })) c.key_of; held_of = set_at h [] c.held_of }) c
-  copyFrame c (batch h e n p cs apps) a =
-      cond (accepted a) (copyBatch c h p cs)
+  copy_frame c (batch h e n p cs apps) a =
+      cond (accepted a) (copy_batch c h p cs)
       (cond (says_diverged a) (record { session = c.session; key_of = c.key_of; held_of = set_at h [] c.held_of }) c)
-  copyFrame c (ack h n) a = c
-  copyFrame c (nack h r) a = c
-  copyFrame c (bound h m) a = c
-  copyFrame c (checked h e i) a = c
+  copy_frame c (ack h n) a = c
+  copy_frame c (nack h r) a = c
+  copy_frame c (bound h m) a = c
+  copy_frame c (checked h e i) a = c
 
-  abbrev pub copyGiven : Copy → Given → Answer → Copy
-  copyGiven c (damaged n) a = c
-  copyGiven c (intact f) a = copyFrame c f a
+  abbrev pub copy_given : Copy → Given → Answer → Copy
+  copy_given c (damaged n) a = c
+  copy_given c (intact f) a = copy_frame c f a
 
-  abbrev pub copyStep : Copy → Call → Answer → Copy
-  copyStep c (on_frame_held w) a = copyGiven c (given w) a
-  copyStep c (on_frame w) a = copyGiven c (given w) a
-  copyStep c (flush n) a = c
-  copyStep c (disconnected_from n) a = c
-  copyStep c promote a = c
-  copyStep c promote_unchecked a = c
+  abbrev pub copy_step_lem : Copy → Call → Answer → Copy
+  copy_step_lem c (on_frame_held w) a = copy_given c (given w) a
+  copy_step_lem c (on_frame w) a = copy_given c (given w) a
+  copy_step_lem c (flush n) a = c
+  copy_step_lem c (disconnected_from n) a = c
+  copy_step_lem c promote a = c
+  copy_step_lem c promote_unchecked a = c
 
   -- the copy after a list of calls that the standby answers from s on
-  abbrev pub copyRun : Copy → Standby → List Call → Copy
-  copyRun c s [] = c
-  copyRun c s (x ∷ xs) = copyRun (copyStep c x (step L s x).answer) (step L s x).state xs
+  abbrev pub copy_run_lem : Copy → Standby → List Call → Copy
+  copy_run_lem c s [] = c
+  copy_run_lem c s (x ∷ xs) = copy_run_lem (copy_step_lem c x (step L s x).answer) (step L s x).state xs

@@ -21,10 +21,10 @@ module _ {A : Type 0} where
   freed [] = []
   freed (p ∷ t) = none ∷ freed t
 
-  abbrev pub hasFree : Row A → Bool
-  hasFree [] = false
-  hasFree (none ∷ t) = true
-  hasFree (some e ∷ t) = hasFree t
+  abbrev pub has_free : Row A → Bool
+  has_free [] = false
+  has_free (none ∷ t) = true
+  has_free (some e ∷ t) = has_free t
 
   abbrev pub find : ℕ → Row A → Option A
   find h [] = none
@@ -44,8 +44,8 @@ module _ {A : Type 0} where
   fill h v (some e ∷ t) = some e ∷ fill h v t
 
   -- there is a place for h: its own or a free one
-  abbrev pub hasRoom : ℕ → Row A → Bool
-  hasRoom h t = is_some (find h t) || hasFree t
+  abbrev pub has_room_lem : ℕ → Row A → Bool
+  has_room_lem h t = is_some (find h t) || has_free t
 
   -- h gets the value v, at its own place or, if it has none, at the first free one
   unfoldable pub put : ℕ → A → Row A → Row A

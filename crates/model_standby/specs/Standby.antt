@@ -9,7 +9,7 @@ use Rattle.model_frame.specs.Sizes.{sizes}
 use Rattle.model_session.specs.Session.{fits, message_bytes, top}
 use Rattle.model_session.specs.Summary.{summary}
 use Rattle.model_standby.specs.Answer.{protocol_version, Given, damaged, intact, given, reply, refused, done, is_reply}
-use Rattle.model_standby.specs.Row.{find, hasRoom, put, freed}
+use Rattle.model_standby.specs.Row.{find, has_room_lem, put, freed}
 use Rattle.model_standby.specs.Store.{place_of, is_stored, on_place, on_places, session_at, or_new, opened, changed, mark_all, taken_over}
 use Rattle.model_standby.specs.State.{Settings, incarnation_of, Counters, Bound, Standby, Call, on_frame_held, on_frame, flush, disconnected_from, promote, promote_unchecked, Result, at_epoch, connected, checked_at, promoted_to, new_bound, none_held, numbered}
 
@@ -65,25 +65,25 @@ flushed r = record { state = run_pending (is_reply r.answer) r.state; answer = r
 
 module _ (L : Settings) where
   -- Hello: 11 version not 1, 12 kinds listed; a lower epoch is told the standby's
-  unfoldable pub onHello : Standby → ℕ → ℕ → List ℕ → Result
-  onHello s v e kinds =
+  unfoldable pub on_hello : Standby → ℕ → ℕ → List ℕ → Result
+  on_hello s v e kinds =
       cond (not (eqb v protocol_version)) (refuse s Refusal.bad_version)
       (cond (not (is_empty kinds)) (refuse s Refusal.kinds_listed)
       (cond (ltb e s.counters.epoch) (says s (welcome s.counters.epoch (incarnation_of L)))
       (says (with_counters (unbound s) (connected e s.counters)) (welcome e (incarnation_of L)))))
 
   -- Bind: Nack StaleEpoch, Nack Lag, 20 no free session place for a new key, 21 no free handle place for a new handle
-  unfoldable pub onBind : Standby → ℕ → ℕ → ℕ → Key → Result
-  onBind s h e lag k =
+  unfoldable pub on_bind : Standby → ℕ → ℕ → ℕ → Key → Result
+  on_bind s h e lag k =
       cond (ltb e s.counters.epoch) (says s (nack h stale_epoch))
       (cond (ltb L.lag lag) (says s (nack h lag_too_great))
       (cond (not (is_stored k s.places || ltb (length s.places) L.S)) (refuse s Refusal.no_session_place)
-      (cond (not (hasRoom h s.handles)) (refuse s Refusal.no_handle_place)
+      (cond (not (has_room_lem h s.handles)) (refuse s Refusal.no_handle_place)
       (says (bind_to s h k) (bound h (summary (or_new (session_at s.places (place_of k s.places))) lag))))))
 
   -- Checked: Nack StaleEpoch, Nack Restarted
-  unfoldable pub onChecked : Standby → ℕ → ℕ → ℕ → Result
-  onChecked s h e i =
+  unfoldable pub on_checked : Standby → ℕ → ℕ → ℕ → Result
+  on_checked s h e i =
       cond (ltb e s.counters.epoch) (says s (nack h stale_epoch))
       (cond (not (eqb i (incarnation_of L))) (says s (nack h restarted))
       (says (with_counters s (checked_at e s.counters)) (ack h 0)))
@@ -149,40 +149,40 @@ module _ (L : Settings) where
       (cond (ltb L.room (sizes (b.held ++ cs))) (refuse s Refusal.hold_area_full) go))
 
   -- Commit: 15 while changes are held
-  unfoldable pub onPart : Standby → ℕ → Bound → ℕ → Part → List Change → Result
-  onPart s h b n commit cs = cond (not (is_empty b.held)) (refuse s Refusal.changes_held) (settle s h b n cs)
-  onPart s h b n whole cs = hold s h b cs (says (with_handle s h (holding b n cs)) (ack h n))
-  onPart s h b n last_whole cs = hold s h b cs (settle s h (none_held b) n (b.held ++ cs))
+  unfoldable pub on_part : Standby → ℕ → Bound → ℕ → Part → List Change → Result
+  on_part s h b n commit cs = cond (not (is_empty b.held)) (refuse s Refusal.changes_held) (settle s h b n cs)
+  on_part s h b n whole cs = hold s h b cs (says (with_handle s h (holding b n cs)) (ack h n))
+  on_part s h b n last_whole cs = hold s h b cs (settle s h (none_held b) n (b.held ++ cs))
 
   -- 14 unbound; Nack Diverged for the number, which clears what is held
-  unfoldable pub onHandle : Standby → ℕ → Option Bound → ℕ → Part → List Change → Result
-  onHandle s h none n p cs = refuse s Refusal.unbound
-  onHandle s h (some b) n p cs = cond (follows b n) (onPart s h b n p cs) (says (with_handle s h (none_held b)) (nack h diverged))
+  unfoldable pub on_handle : Standby → ℕ → Option Bound → ℕ → Part → List Change → Result
+  on_handle s h none n p cs = refuse s Refusal.unbound
+  on_handle s h (some b) n p cs = cond (follows b n) (on_part s h b n p cs) (says (with_handle s h (none_held b)) (nack h diverged))
 
   -- Batch: 13 application records; Nack StaleEpoch; the epoch is raised, even if the Batch is then refused
-  unfoldable pub onBatch : Standby → ℕ → ℕ → ℕ → Part → List Change → List AppRecord → Result
-  onBatch s h e n p cs apps =
+  unfoldable pub on_batch : Standby → ℕ → ℕ → ℕ → Part → List Change → List AppRecord → Result
+  on_batch s h e n p cs apps =
       cond (not (is_empty apps)) (refuse s Refusal.app_records)
       (cond (ltb e s.counters.epoch) (says s (nack h stale_epoch))
-      (onHandle (with_counters s (at_epoch e s.counters)) h (find h s.handles) n p cs))
+      (on_handle (with_counters s (at_epoch e s.counters)) h (find h s.handles) n p cs))
 
   -- ---- the calls
 
   -- others: 19
-  abbrev pub onIntact : Standby → Frame → Result
-  onIntact s (hello v e node kinds) = onHello L s v e kinds
-  onIntact s (welcome e i) = refuse s Refusal.other_frame
-  onIntact s (bind h e lag k) = onBind L s h e lag k
-  onIntact s (batch h e n p cs apps) = onBatch s h e n p cs apps
-  onIntact s (ack h n) = refuse s Refusal.other_frame
-  onIntact s (nack h r) = refuse s Refusal.other_frame
-  onIntact s (bound h m) = refuse s Refusal.other_frame
-  onIntact s (checked h e i) = onChecked L s h e i
+  abbrev pub on_intact : Standby → Frame → Result
+  on_intact s (hello v e node kinds) = on_hello L s v e kinds
+  on_intact s (welcome e i) = refuse s Refusal.other_frame
+  on_intact s (bind h e lag k) = on_bind L s h e lag k
+  on_intact s (batch h e n p cs apps) = on_batch s h e n p cs apps
+  on_intact s (ack h n) = refuse s Refusal.other_frame
+  on_intact s (nack h r) = refuse s Refusal.other_frame
+  on_intact s (bound h m) = refuse s Refusal.other_frame
+  on_intact s (checked h e i) = on_checked L s h e i
 
   -- on_frame_held: the reader's number or 26 (no commit runs for these), 10 promoted, due commits, then the frame
-  unfoldable pub onGiven : Standby → Given → Result
-  onGiven s (damaged n) = refuse s n
-  onGiven s (intact f) = cond s.counters.promoted (refuse s Refusal.promoted) (onIntact (run_pending (due s.pending f) s) f)
+  unfoldable pub on_given : Standby → Given → Result
+  on_given s (damaged n) = refuse s n
+  on_given s (intact f) = cond s.counters.promoted (refuse s Refusal.promoted) (on_intact (run_pending (due s.pending f) s) f)
 
   -- promoted; bindings and pending commits go; each session is taken over
   abbrev pub promotion : Standby → Standby
@@ -190,8 +190,8 @@ module _ (L : Settings) where
 
   -- flush: 22 other connection, or promoted; promote: 23 unchecked
   unfoldable pub step : Standby → Call → Result
-  step s (on_frame_held w) = onGiven s (given w)
-  step s (on_frame w) = flushed (onGiven s (given w))
+  step s (on_frame_held w) = on_given s (given w)
+  step s (on_frame w) = flushed (on_given s (given w))
   step s (flush n) = cond (not (eqb n s.counters.connections) || s.counters.promoted) (refuse s Refusal.other_connection) (record { state = run_pending true s; answer = done })
   step s (disconnected_from n) = record { state = cond (eqb n s.counters.connections) (unbound s) s; answer = done }
   step s promote = cond s.counters.checked (record { state = promotion s; answer = done }) (refuse s Refusal.unchecked)

@@ -5,7 +5,7 @@ use Rattle.std.proofs.Math.Option.{Option, none, some, map}
 use Rattle.std.proofs.Math.ListN.{get_elem?}
 use Rattle.model_frame.specs.Frame.{Key, Change}
 use Rattle.model_frame.specs.Parse.{is_empty}
-use Rattle.model_session.specs.Session.{Session, new_session, applyAll, top}
+use Rattle.model_session.specs.Session.{Session, new_session, apply_all, top}
 
 pub record Stored : Type 0 where
   pub session : Session
@@ -69,7 +69,7 @@ on_places f (x ∷ ps) = on_stored f x ∷ on_places f ps
 
 -- within C and M; any change unmarks the session
 abbrev pub changed : ℕ → ℕ → List Change → Stored → Stored
-changed C M cs d = record { session = applyAll C M cs d.session; durable = d.durable && is_empty cs }
+changed C M cs d = record { session = apply_all C M cs d.session; durable = d.durable && is_empty cs }
 
 abbrev pub mark_durable : Stored → Stored
 mark_durable d = record { session = d.session; durable = true }

@@ -13,7 +13,7 @@ use lib.Dec.{leb, lit<}
 use lib.ListN.{drop}
 use lib.Seq.{drop-nil}
 use Rattle.model_text.specs.Utf8.{is_surrogate, is_scalar, encode_scalar, encode_all, AllScalar, IsUtf8, lead_length, own_bits, is_tail, fitting, least, well_formed, utf8_from, utf8}
-use Rattle.model_text.proofs.Tables.{lead-one, lead-none, lead-two, lead-three, lead-four, lead_high, formed-two, formed-three, formed-four}
+use Rattle.model_text.proofs.Tables.{lead_one, lead_none, lead_two, lead_three, lead_four, lead_high, formed_two, formed_three, formed_four}
 use Rattle.model_text.proofs.Formed.{and_l, and_r, Formed, formed, formed_one}
 
 -- ---- the tests, as facts
@@ -41,17 +41,17 @@ module _ (c : ℕ) where
   unfolding encode_scalar
   encode_one h = simp (le-leb c 0x7F h)
 
-  encode-two : 0x7F < c → c ≤ 0x7FF → encode_scalar c ≡ (0xC0 + c / 64) ∷ (0x80 + c % 64) ∷ []
+  encode_two : 0x7F < c → c ≤ 0x7FF → encode_scalar c ≡ (0xC0 + c / 64) ∷ (0x80 + c % 64) ∷ []
   unfolding encode_scalar
-  encode-two l h = simp (lt-leb c 0x7F l, le-leb c 0x7FF h)
+  encode_two l h = simp (lt-leb c 0x7F l, le-leb c 0x7FF h)
 
-  encode-three : 0x7FF < c → c ≤ 0xFFFF → encode_scalar c ≡ (0xE0 + c / 64 / 64) ∷ (0x80 + c / 64 % 64) ∷ (0x80 + c % 64) ∷ []
+  encode_three : 0x7FF < c → c ≤ 0xFFFF → encode_scalar c ≡ (0xE0 + c / 64 / 64) ∷ (0x80 + c / 64 % 64) ∷ (0x80 + c % 64) ∷ []
   unfolding encode_scalar
-  encode-three l h = simp (lt-leb c 0x7F (omega arith), lt-leb c 0x7FF l, le-leb c 0xFFFF h)
+  encode_three l h = simp (lt-leb c 0x7F (omega arith), lt-leb c 0x7FF l, le-leb c 0xFFFF h)
 
-  encode-four : 0xFFFF < c → encode_scalar c ≡ (0xF0 + c / 64 / 64 / 64) ∷ (0x80 + c / 64 / 64 % 64) ∷ (0x80 + c / 64 % 64) ∷ (0x80 + c % 64) ∷ []
+  encode_four : 0xFFFF < c → encode_scalar c ≡ (0xF0 + c / 64 / 64 / 64) ∷ (0x80 + c / 64 / 64 % 64) ∷ (0x80 + c / 64 % 64) ∷ (0x80 + c % 64) ∷ []
   unfolding encode_scalar
-  encode-four l = simp (lt-leb c 0x7F (omega arith), lt-leb c 0x7FF (omega arith), lt-leb c 0xFFFF l)
+  encode_four l = simp (lt-leb c 0x7F (omega arith), lt-leb c 0x7FF (omega arith), lt-leb c 0xFFFF l)
 
 -- ---- what is encoded is read
 
@@ -62,7 +62,7 @@ taken n a l e w =
 
 -- ASCII stands for itself
 pub ascii_first : (b : ℕ) (l : List ℕ) → b ≤ 0x7F → utf8_from 0 (b ∷ l) ≡ utf8_from 0 l
-ascii_first b l h = taken 1 b l (lead-one b h) (sym (formed_one b l))
+ascii_first b l h = taken 1 b l (lead_one b h) (sym (formed_one b l))
 
 fits_from : (n c : ℕ) → least n ≤ c → is_scalar c ≡ true → true ≡ fitting n c
 unfolding fitting
@@ -93,37 +93,37 @@ module _ (c : ℕ) (s : is_scalar c ≡ true) (l : List ℕ) where
   read_two g h =
       let a : ℕ = 0xC0 + c / 64 in
       let b : ℕ = 0x80 + c % 64 in
-      taken 2 a (b ∷ l) (lead-two a (omega arith) (omega arith)) (formed-two a b (tail_is c) {n = c} (omega arith) (fits_from 2 c (omega arith) s) l)
+      taken 2 a (b ∷ l) (lead_two a (omega arith) (omega arith)) (formed_two a b (tail_is c) {n = c} (omega arith) (fits_from 2 c (omega arith) s) l)
 
-  read-three : 0x7FF < c → c ≤ 0xFFFF → utf8_from 0 ((0xE0 + c / 64 / 64) ∷ (0x80 + c / 64 % 64) ∷ (0x80 + c % 64) ∷ l) ≡ utf8_from 0 l
+  read_three : 0x7FF < c → c ≤ 0xFFFF → utf8_from 0 ((0xE0 + c / 64 / 64) ∷ (0x80 + c / 64 % 64) ∷ (0x80 + c % 64) ∷ l) ≡ utf8_from 0 l
   unfolding least
-  read-three g h =
+  read_three g h =
       let a : ℕ = 0xE0 + c / 64 / 64 in
       let b : ℕ = 0x80 + c / 64 % 64 in
       let d : ℕ = 0x80 + c % 64 in
-      taken 3 a (b ∷ d ∷ l) (lead-three a (omega arith) (omega arith))
-      (formed-three a b (tail_is (c / 64)) d (tail_is c) {n = c} (omega arith) (fits_from 3 c (omega arith) s) l)
+      taken 3 a (b ∷ d ∷ l) (lead_three a (omega arith) (omega arith))
+      (formed_three a b (tail_is (c / 64)) d (tail_is c) {n = c} (omega arith) (fits_from 3 c (omega arith) s) l)
 
-  read-four : 0xFFFF < c → c ≤ 0x10FFFF
+  read_four : 0xFFFF < c → c ≤ 0x10FFFF
       → utf8_from 0 ((0xF0 + c / 64 / 64 / 64) ∷ (0x80 + c / 64 / 64 % 64) ∷ (0x80 + c / 64 % 64) ∷ (0x80 + c % 64) ∷ l) ≡ utf8_from 0 l
   unfolding least
-  read-four g h =
+  read_four g h =
       let a : ℕ = 0xF0 + c / 64 / 64 / 64 in
       let b : ℕ = 0x80 + c / 64 / 64 % 64 in
       let d : ℕ = 0x80 + c / 64 % 64 in
       let f : ℕ = 0x80 + c % 64 in
-      taken 4 a (b ∷ d ∷ f ∷ l) (lead-four a (omega arith) (omega arith))
-      (formed-four a b (tail_is (c / 64 / 64)) d (tail_is (c / 64)) f (tail_is c) {n = c} (rejoined c h) (fits_from 4 c (omega arith) s) l)
+      taken 4 a (b ∷ d ∷ f ∷ l) (lead_four a (omega arith) (omega arith))
+      (formed_four a b (tail_is (c / 64 / 64)) d (tail_is (c / 64)) f (tail_is c) {n = c} (rejoined c h) (fits_from 4 c (omega arith) s) l)
 
 read : (c : ℕ) → is_scalar c ≡ true → (l : List ℕ) → utf8_from 0 (encode_scalar c ++ l) ≡ utf8_from 0 l
 read c s l =
     elim (dec_le c 0x7F) [
       | yes h ↦ rw (encode_one c h) (ascii_first c l h)
       | no g ↦ elim (dec_le c 0x7FF) [
-        | yes h ↦ rw (encode-two c (omega arith) h) (read_two c s l (omega arith) h)
+        | yes h ↦ rw (encode_two c (omega arith) h) (read_two c s l (omega arith) h)
         | no g' ↦ elim (dec_le c 0xFFFF) [
-          | yes h ↦ rw (encode-three c (omega arith) h) (read-three c s l (omega arith) h)
-          | no g'' ↦ rw (encode-four c (omega arith)) (read-four c s l (omega arith) (scalar_max c s))
+          | yes h ↦ rw (encode_three c (omega arith) h) (read_three c s l (omega arith) h)
+          | no g'' ↦ rw (encode_four c (omega arith)) (read_four c s l (omega arith) (scalar_max c s))
         ]
       ]
     ]
@@ -166,7 +166,7 @@ front_two a (b ∷ l) g h f =
     record {
       value = c;
       scalar = fit.1;
-      spelt = rw (encode-two c (omega arith) (omega arith)) (λ i. e₀ i ∷ e₁ i ∷ l);
+      spelt = rw (encode_two c (omega arith) (omega arith)) (λ i. e₀ i ∷ e₁ i ∷ l);
     }
 
 front_three : (a : ℕ) (l : List ℕ) → 0xDF < a → a ≤ 0xEF → Formed 3 a l → Front 3 a l
@@ -188,7 +188,7 @@ front_three a (b ∷ d ∷ l) g h f =
     record {
       value = c;
       scalar = fit.1;
-      spelt = rw (encode-three c (omega arith) (omega arith)) (λ i. e₀ i ∷ e₁ i ∷ under p d td i ∷ l);
+      spelt = rw (encode_three c (omega arith) (omega arith)) (λ i. e₀ i ∷ e₁ i ∷ under p d td i ∷ l);
     }
 
 front_four : (a : ℕ) (l : List ℕ) → 0xEF < a → a ≤ 0xF7 → Formed 4 a l → Front 4 a l
@@ -216,7 +216,7 @@ front_four a (b ∷ d ∷ k ∷ l) g h f =
     record {
       value = c;
       scalar = fit.1;
-      spelt = rw (encode-four c (omega arith)) (λ i. e₀ i ∷ e₁ i ∷ e₂ i ∷ under p k tk i ∷ l);
+      spelt = rw (encode_four c (omega arith)) (λ i. e₀ i ∷ e₁ i ∷ e₂ i ∷ under p k tk i ∷ l);
     }
 
 at_length : {n : ℕ} (a : ℕ) (l : List ℕ) → lead_length a ≡ n → well_formed (lead_length a) a l ≡ true → (Formed n a l → Front n a l) → Front (lead_length a) a l
@@ -228,15 +228,15 @@ impossible a l f = absurd (let no : 1 ≤ 0 = f.some in omega arith)
 front : (a : ℕ) (l : List ℕ) → well_formed (lead_length a) a l ≡ true → Front (lead_length a) a l
 front a l w =
     elim (dec_le a 0x7F) [
-      | yes h ↦ at_length a l (lead-one a h) w (λ f. front_one a l h)
+      | yes h ↦ at_length a l (lead_one a h) w (λ f. front_one a l h)
       | no g ↦ elim (dec_le a 0xBF) [
-        | yes h ↦ at_length a l (lead-none a (omega arith) h) w (impossible a l)
+        | yes h ↦ at_length a l (lead_none a (omega arith) h) w (impossible a l)
         | no g₁ ↦ elim (dec_le a 0xDF) [
-          | yes h ↦ at_length a l (lead-two a (omega arith) h) w (front_two a l (omega arith) h)
+          | yes h ↦ at_length a l (lead_two a (omega arith) h) w (front_two a l (omega arith) h)
           | no g₂ ↦ elim (dec_le a 0xEF) [
-            | yes h ↦ at_length a l (lead-three a (omega arith) h) w (front_three a l (omega arith) h)
+            | yes h ↦ at_length a l (lead_three a (omega arith) h) w (front_three a l (omega arith) h)
             | no g₃ ↦ elim (dec_le a 0xF7) [
-              | yes h ↦ at_length a l (lead-four a (omega arith) h) w (front_four a l (omega arith) h)
+              | yes h ↦ at_length a l (lead_four a (omega arith) h) w (front_four a l (omega arith) h)
               | no g₄ ↦ at_length a l (lead_high a (omega arith)) w (impossible a l)
             ]
           ]

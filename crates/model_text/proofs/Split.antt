@@ -125,8 +125,8 @@ module _ (room : ℕ) (some : 1 ≤ room) where
       handed h (t ++ s) kept (both t s c (clear s g.none)) ∙ ap (λ (x : List ℕ). map (take room) (lines_of x)) (append_assoc t s (joined pieces))
 
   -- the lines handed on are those of the whole text, of each no more than `room` bytes
-  pub handed-all : {pieces lines : List (List ℕ)} → Handed room [] pieces lines → lines ≡ map (take room) (lines_of (joined pieces))
-  handed-all h = handed h [] (sym (take-nil room)) tt
+  pub handed_all : {pieces lines : List (List ℕ)} → Handed room [] pieces lines → lines ≡ map (take room) (lines_of (joined pieces))
+  handed_all h = handed h [] (sym (take-nil room)) tt
 
 -- ---- a line that is cut reads as the whole line does
 
@@ -147,4 +147,4 @@ map_kept room (l ∷ ls) h = λ i. kept_line room l h i ∷ map_kept room ls h i
 
 -- so what is read of the lines handed on is what is read of the text's lines
 pub handed_read : (room : ℕ) {pieces lines : List (List ℕ)} → longest_line < room → Handed room [] pieces lines → map line_bytes lines ≡ map line_bytes (lines_of (joined pieces))
-handed_read room {pieces} h d = ap (map line_bytes) (handed-all room (omega arith) d) ∙ map_kept room (lines_of (joined pieces)) h
+handed_read room {pieces} h d = ap (map line_bytes) (handed_all room (omega arith) d) ∙ map_kept room (lines_of (joined pieces)) h

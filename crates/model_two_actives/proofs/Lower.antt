@@ -13,8 +13,8 @@ use Rattle.model_frame.specs.Parse.{is_empty}
 use Rattle.model_session.proofs.Basics.{T→true, true≢false, eqb_sound, cond-true, cond-false}
 use Rattle.model_standby.specs.Answer.{Given, damaged, intact, given, lower, Answer, reply, refused, done, reason_in, is_diverged, accepted, says_diverged, is_reply}
 use Rattle.model_standby.specs.State.{Settings, Counters, Bound, Standby, Call, Result}
-use Rattle.model_standby.specs.Standby.{due, run_pending, onGiven, step}
-use Rattle.model_standby.specs.Hold.{HoldWrite, writesPart, writesFrame, writes}
+use Rattle.model_standby.specs.Standby.{due, run_pending, on_given, step}
+use Rattle.model_standby.specs.Hold.{HoldWrite, writes_part, writes_frame, writes}
 use Rattle.model_standby.specs.Demand.{is_outside, Hands, by_held, by_frame}
 use Rattle.model_standby.proofs.Outcomes.{Nacked, stale_bind, lag_bind, stale_batch, stale_checked, other_checked, Does, turns, tells, nacks, greets, binds, checks, batches, does}
 
@@ -86,61 +86,61 @@ does_spares {s} (checks {e} h) u = absurd (omega (arith, ltb→lt e s.counters.e
 does_spares {s} (batches {e} h d) u = absurd (omega (arith, ltb→lt e s.counters.epoch u))
 
 module _ (L : Settings) (s : Standby) where
-  given-spares : (f : Frame) → s.counters.promoted ≡ false → T (lower s.counters.epoch f) → Spares (onGiven L s (intact f)).answer
-  unfolding onGiven
-  given-spares f p t = subst (λ (r : Result). Spares r.answer) (sym (cond-false _ _ p)) (does_spares (does L (run_pending (due s.pending f) s) f) t)
+  given_spares : (f : Frame) → s.counters.promoted ≡ false → T (lower s.counters.epoch f) → Spares (on_given L s (intact f)).answer
+  unfolding on_given
+  given_spares f p t = subst (λ (r : Result). Spares r.answer) (sym (cond-false _ _ p)) (does_spares (does L (run_pending (due s.pending f) s) f) t)
 
-  pub lower-spares : (c : Call) (w : List ℕ) (f : Frame) → s.counters.promoted ≡ false → Hands c w → given w ≡ intact f → T (lower s.counters.epoch f) → Spares (step L s c).answer
+  pub lower_spares : (c : Call) (w : List ℕ) (f : Frame) → s.counters.promoted ≡ false → Hands c w → given w ≡ intact f → T (lower s.counters.epoch f) → Spares (step L s c).answer
   unfolding step
-  lower-spares c w f p by_held r t = subst (λ (g : Given). Spares (onGiven L s g).answer) (sym r) (given-spares f p t)
-  lower-spares c w f p by_frame r t = subst (λ (g : Given). Spares (onGiven L s g).answer) (sym r) (given-spares f p t)
+  lower_spares c w f p by_held r t = subst (λ (g : Given). Spares (on_given L s g).answer) (sym r) (given_spares f p t)
+  lower_spares c w f p by_frame r t = subst (λ (g : Given). Spares (on_given L s g).answer) (sym r) (given_spares f p t)
 
-  given-answer : (f : Frame) → s.counters.promoted ≡ false → T (lower s.counters.epoch f) → (is_hello f || not (accepted (onGiven L s (intact f)).answer)) ≡ true
-  unfolding onGiven
-  given-answer f p t = ap (λ (r : Result). is_hello f || not (accepted r.answer)) (cond-false _ _ p) ∙ lower_does (does L (run_pending (due s.pending f) s) f) t
+  given_answer : (f : Frame) → s.counters.promoted ≡ false → T (lower s.counters.epoch f) → (is_hello f || not (accepted (on_given L s (intact f)).answer)) ≡ true
+  unfolding on_given
+  given_answer f p t = ap (λ (r : Result). is_hello f || not (accepted r.answer)) (cond-false _ _ p) ∙ lower_does (does L (run_pending (due s.pending f) s) f) t
 
-  pub lower-answer : (c : Call) (w : List ℕ) (f : Frame) → s.counters.promoted ≡ false → Hands c w → given w ≡ intact f → T (lower s.counters.epoch f)
+  pub lower_answer : (c : Call) (w : List ℕ) (f : Frame) → s.counters.promoted ≡ false → Hands c w → given w ≡ intact f → T (lower s.counters.epoch f)
       → (is_hello f || not (accepted (step L s c).answer)) ≡ true
   unfolding step
-  lower-answer c w f p by_held r t = ap (λ (g : Given). is_hello f || not (accepted (onGiven L s g).answer)) r ∙ given-answer f p t
-  lower-answer c w f p by_frame r t = ap (λ (g : Given). is_hello f || not (accepted (onGiven L s g).answer)) r ∙ given-answer f p t
+  lower_answer c w f p by_held r t = ap (λ (g : Given). is_hello f || not (accepted (on_given L s g).answer)) r ∙ given_answer f p t
+  lower_answer c w f p by_frame r t = ap (λ (g : Given). is_hello f || not (accepted (on_given L s g).answer)) r ∙ given_answer f p t
 
   -- neither accepted nor a frame
   abbrev Refused : Answer → Type 0
   Refused a = (accepted a ≡ false) × (is_reply a ≡ false)
 
-  given-refused : (g : Given) → s.counters.promoted ≡ true → Refused (onGiven L s g).answer
-  unfolding onGiven
-  given-refused (damaged n) p = (refl, refl)
-  given-refused (intact f) p = (ap (λ (r : Result). accepted r.answer) (cond-true _ _ p), ap (λ (r : Result). is_reply r.answer) (cond-true _ _ p))
+  given_refused : (g : Given) → s.counters.promoted ≡ true → Refused (on_given L s g).answer
+  unfolding on_given
+  given_refused (damaged n) p = (refl, refl)
+  given_refused (intact f) p = (ap (λ (r : Result). accepted r.answer) (cond-true _ _ p), ap (λ (r : Result). is_reply r.answer) (cond-true _ _ p))
 
-  pub promoted-answer : (c : Call) (w : List ℕ) → s.counters.promoted ≡ true → Hands c w → Refused (step L s c).answer
+  pub promoted_answer : (c : Call) (w : List ℕ) → s.counters.promoted ≡ true → Hands c w → Refused (step L s c).answer
   unfolding step
-  promoted-answer c w p by_held = given-refused (given w) p
-  promoted-answer c w p by_frame = given-refused (given w) p
+  promoted_answer c w p by_held = given_refused (given w) p
+  promoted_answer c w p by_frame = given_refused (given w) p
 
 -- ---- the hold areas
 
 module _ (L : Settings) (k : Counters) (found : Option Bound) where
-  frame-writes : (f : Frame) → T (lower k.epoch f) → writesFrame L k found f ≡ none
-  frame-writes (hello v e node kinds) t = refl
-  frame-writes (welcome e i) t = refl
-  frame-writes (bind h e lag j) t = refl
-  frame-writes (batch h e n p cs apps) t =
-      cond-true none (writesPart L h found n p cs) (ap (λ (b : Bool). not (is_empty apps) || b) (T→true (ltb e k.epoch) t) ∙ or_true (not (is_empty apps)))
-  frame-writes (ack h n) t = refl
-  frame-writes (nack h r) t = refl
-  frame-writes (bound h m) t = refl
-  frame-writes (checked h e i) t = refl
+  frame_writes : (f : Frame) → T (lower k.epoch f) → writes_frame L k found f ≡ none
+  frame_writes (hello v e node kinds) t = refl
+  frame_writes (welcome e i) t = refl
+  frame_writes (bind h e lag j) t = refl
+  frame_writes (batch h e n p cs apps) t =
+      cond-true none (writes_part L h found n p cs) (ap (λ (b : Bool). not (is_empty apps) || b) (T→true (ltb e k.epoch) t) ∙ or_true (not (is_empty apps)))
+  frame_writes (ack h n) t = refl
+  frame_writes (nack h r) t = refl
+  frame_writes (bound h m) t = refl
+  frame_writes (checked h e i) t = refl
 
-  pub lower-writes : (w : List ℕ) (f : Frame) → k.promoted ≡ false → given w ≡ intact f → T (lower k.epoch f) → writes L k found (given w) ≡ none
+  pub lower_writes : (w : List ℕ) (f : Frame) → k.promoted ≡ false → given w ≡ intact f → T (lower k.epoch f) → writes L k found (given w) ≡ none
   unfolding writes
-  lower-writes w f p r t = ap (writes L k found) r ∙ cond-false none (writesFrame L k found f) p ∙ frame-writes f t
+  lower_writes w f p r t = ap (writes L k found) r ∙ cond-false none (writes_frame L k found f) p ∙ frame_writes f t
 
-  given-writes : (g : Given) → k.promoted ≡ true → writes L k found g ≡ none
+  given_writes : (g : Given) → k.promoted ≡ true → writes L k found g ≡ none
   unfolding writes
-  given-writes (damaged n) p = refl
-  given-writes (intact f) p = cond-true none (writesFrame L k found f) p
+  given_writes (damaged n) p = refl
+  given_writes (intact f) p = cond-true none (writes_frame L k found f) p
 
-  pub promoted-writes : (w : List ℕ) → k.promoted ≡ true → writes L k found (given w) ≡ none
-  promoted-writes w p = given-writes (given w) p
+  pub promoted_writes : (w : List ℕ) → k.promoted ≡ true → writes L k found (given w) ≡ none
+  promoted_writes w p = given_writes (given w) p

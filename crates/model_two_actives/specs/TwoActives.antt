@@ -4,7 +4,7 @@ use Rattle.std.specs.Prelude.{◌≡◌, ℕ, ◌≤◌, max, List, [], ◌∷�
 use Rattle.std.proofs.Math.Option.{some}
 use Rattle.model_frame.specs.Frame.{Key, Change, record_msg, Part, commit, Frame, hello, bind, batch, ack, bound, checked}
 use Rattle.model_frame.specs.Writing.{encode}
-use Rattle.model_session.specs.Session.{new_session, applyAll}
+use Rattle.model_session.specs.Session.{new_session, apply_all}
 use Rattle.model_session.specs.Summary.{summary}
 use Rattle.model_standby.specs.Answer.{protocol_version, intact, given, lower, reply}
 use Rattle.model_standby.specs.Store.{session_at}
@@ -52,4 +52,4 @@ pub record NotByBind (L : Settings) (a b : Key) (s₁ : Standby) (high low : Cal
   pub calls : (high ≡ on_frame_held (encode (bind 2 9 0 b))) × (low ≡ on_frame_held (encode (batch 1 5 1 commit (record_msg 1 (7 ∷ []) ∷ []) [])))
   pub accepted : (step L s₁ high).answer ≡ reply (bound 2 (summary new_session 0))
   pub acknowledged : (step L (step L s₁ high).state low).answer ≡ reply (ack 1 1)
-  pub applied : session_at (step L (step L s₁ high).state low).state.places 0 ≡ some (applyAll L.C L.M (record_msg 1 (7 ∷ []) ∷ []) new_session)
+  pub applied : session_at (step L (step L s₁ high).state low).state.places 0 ≡ some (apply_all L.C L.M (record_msg 1 (7 ∷ []) ∷ []) new_session)

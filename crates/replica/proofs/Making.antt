@@ -14,10 +14,10 @@ use Rattle.standby_row.specs.Row.{broken_of, cleared_from, cleared_all, seen_of}
 use Rattle.standby_row.proofs.Lists.{clears_end}
 use Rattle.standby_handles.specs.Rows.{row_of}
 use Rattle.store_areas.specs.Areas.{allowed, Rules, places_of}
-use Rattle.store_areas.proofs.Ruling.{rules-of, rules-true}
+use Rattle.store_areas.proofs.Ruling.{rules_of, rules_true}
 use Rattle.standby_pending.specs.Pending.{pending_of}
 use Rattle.standby_pending.proofs.Laws.{cleared as no-commits}
-use Rattle.standby_pending_run.proofs.Head.{clear_only, clear_rules, places-kept}
+use Rattle.standby_pending_run.proofs.Head.{clear_only, clear_rules, places_kept}
 use Rattle.model_standby.specs.Answer.{protocol_version}
 use Rattle.model_standby.specs.Row.{Row}
 use Rattle.standby_part.specs.State.{bound_of}
@@ -35,7 +35,7 @@ use Rattle.replica.specs.Making.{new_replica, MakeIs, MadeNew, MadeOver}
 -- ---- the core's two ways
 
 pub one_inside : (s : Settings) (w b : List ℕ) {t : Bool} → t ≡ allowed s.shape w b → t ≡ true → 1 < length w
-one_inside s w b e on = let r : Rules s.shape w b = rules-of s.shape w b (sym e ∙ on) in omega (arith, r.room.words_long)
+one_inside s w b e on = let r : Rules s.shape w b = rules_of s.shape w b (sym e ∙ on) in omega (arith, r.room.words_long)
 
 pub not_allowed : (s : Settings) (c : Replica) (seen : Lookup) (w b : List ℕ) {t : Bool} {r : Outcome} {a : Answer} → t ≡ allowed s.shape w b → t ≡ false → r ≡ leaving c seen a → a ≡ is_refused 25 → MakeIs s c seen w w b r
 not_allowed s c seen w b e off is an = record { refuses = λ _. (is ∙ ap (leaving c seen) an, refl); makes = λ yes. absurd (true≢false (sym yes ∙ sym e ∙ off)) }
@@ -57,8 +57,8 @@ module _ (s : Settings) (c : Replica) (row : List BoundRecord) (w w' b : List �
   abbrev Row' : List BoundRecord
   Row' = cleared_from o.from (set row o.at o.bound)
 
-  pub made-over : MakeIs s c See w w' b o → MadeOver s c o.replica row Row' w w' b o.answer
-  made-over p = record { refuses = λ e. refused (p.refuses e); makes = λ e. made e (p.makes e) }
+  pub made_over : MakeIs s c See w w' b o → MadeOver s c o.replica row Row' w w' b o.answer
+  made_over p = record { refuses = λ e. refused (p.refuses e); makes = λ e. made e (p.makes e) }
     where
       out : (g : BoundRecord) → set row (length row) g ≡ row
       out g = set_out row (length row) g (omega arith)
@@ -83,7 +83,7 @@ module _ (s : Settings) (c : Replica) (row : List BoundRecord) (w w' b : List �
           }
         where
           rules : Rules s.shape w b
-          rules = rules-of s.shape w b e
+          rules = rules_of s.shape w b e
 
           free : Row' ≡ cleared_all row
           free = ap (λ (x : Outcome). cleared_from x.from (set row x.at x.bound)) q.0 ∙ ap cleared_all (out See.bound)
@@ -92,12 +92,12 @@ module _ (s : Settings) (c : Replica) (row : List BoundRecord) (w w' b : List �
           new h =
               (λ i. record {
                 counters = counters_of new_replica;
-                places = places-kept s.shape w (set w 1 0) b (clear_only w) i;
+                places = places_kept s.shape w (set w 1 0) b (clear_only w) i;
                 handles = all_free (bound_of protocol_version) (room_all (cleared_all row) h) row h i;
                 pending = no-commits w (omega (arith, rules.room.words_long)) i;
               })
 
           sound : (h : List ℕ) → allowed_all s (cleared_all row) (set w 1 0) b h ≡ true
           sound h =
-              (λ i. rules-true s.shape (set w 1 0) b (clear_rules s.shape w b rules) i && leb (length (cleared_all row)) (broken_of (cleared_all row) (get_or (set w 1 0) 0 0) (room_all (cleared_all row) h)))
+              (λ i. rules_true s.shape (set w 1 0) b (clear_rules s.shape w b rules) i && leb (length (cleared_all row)) (broken_of (cleared_all row) (get_or (set w 1 0) 0 0) (room_all (cleared_all row) h)))
               ∙ of_whole (get_or (set w 1 0) 0 0) (room_all (cleared_all row) h) (cleared_all row) (whole_cleared (get_or (set w 1 0) 0 0) (room_all (cleared_all row) h) row)

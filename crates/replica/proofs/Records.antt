@@ -39,8 +39,8 @@ pub tells_Replica : Tells R_Replica (Is R_Replica) vals_Replica
 tells_Replica = LL.tells Replica-type.the_type Replica-laws.the_laws
 
 module _ {M : Type 1} {𝓤 : Ura M} (𝓛 : Logic 𝓤) where
-  pub makes-Replica : Makes 𝓛 R_Replica (Is R_Replica)
-  makes-Replica = LL.makes Replica-type.the_type Replica-laws.the_plain 𝓛
+  pub makes_Replica : Makes 𝓛 R_Replica (Is R_Replica)
+  makes_Replica = LL.makes Replica-type.the_type Replica-laws.the_plain 𝓛
 
 abbrev pub R_Settings : RattleType
 R_Settings = Settings-type.the_row
@@ -55,8 +55,8 @@ pub tells_Settings : Tells R_Settings (Is R_Settings) vals_Settings
 tells_Settings = LL.tells Settings-type.the_type Settings-laws.the_laws
 
 module _ {M : Type 1} {𝓤 : Ura M} (𝓛 : Logic 𝓤) where
-  pub makes-Settings : Makes 𝓛 R_Settings (Is R_Settings)
-  makes-Settings = LL.makes Settings-type.the_type Settings-laws.the_plain 𝓛
+  pub makes_Settings : Makes 𝓛 R_Settings (Is R_Settings)
+  makes_Settings = LL.makes Settings-type.the_type Settings-laws.the_plain 𝓛
 
 abbrev pub R_Call : RattleType
 R_Call = Call-type.the_row
@@ -71,8 +71,8 @@ pub tells_Call : Tells R_Call (Is R_Call) vals_Call
 tells_Call = LL.tells Call-type.the_type Call-laws.the_laws
 
 module _ {M : Type 1} {𝓤 : Ura M} (𝓛 : Logic 𝓤) where
-  pub makes-Call : Makes 𝓛 R_Call (Is R_Call)
-  makes-Call = LL.makes Call-type.the_type Call-laws.the_plain 𝓛
+  pub makes_Call : Makes 𝓛 R_Call (Is R_Call)
+  makes_Call = LL.makes Call-type.the_type Call-laws.the_plain 𝓛
 
 abbrev pub R_Answer : RattleType
 R_Answer = Answer-type.the_row
@@ -87,8 +87,8 @@ pub tells_Answer : Tells R_Answer (Is R_Answer) vals_Answer
 tells_Answer = LL.tells Answer-type.the_type Answer-laws.the_laws
 
 module _ {M : Type 1} {𝓤 : Ura M} (𝓛 : Logic 𝓤) where
-  pub makes-Answer : Makes 𝓛 R_Answer (Is R_Answer)
-  makes-Answer = LL.makes Answer-type.the_type Answer-laws.the_plain 𝓛
+  pub makes_Answer : Makes 𝓛 R_Answer (Is R_Answer)
+  makes_Answer = LL.makes Answer-type.the_type Answer-laws.the_plain 𝓛
 
 abbrev pub R_Outcome : RattleType
 R_Outcome = Outcome-type.the_row
@@ -103,8 +103,8 @@ pub tells_Outcome : Tells R_Outcome (Is R_Outcome) vals_Outcome
 tells_Outcome = LL.tells Outcome-type.the_type Outcome-laws.the_laws
 
 module _ {M : Type 1} {𝓤 : Ura M} (𝓛 : Logic 𝓤) where
-  pub makes-Outcome : Makes 𝓛 R_Outcome (Is R_Outcome)
-  makes-Outcome = LL.makes Outcome-type.the_type Outcome-laws.the_plain 𝓛
+  pub makes_Outcome : Makes 𝓛 R_Outcome (Is R_Outcome)
+  makes_Outcome = LL.makes Outcome-type.the_type Outcome-laws.the_plain 𝓛
 
 abbrev pub R_CallResult : RattleType
 R_CallResult = CallResult-type.the_row
@@ -119,5 +119,5 @@ pub tells_Call_result : Tells R_CallResult (Is R_CallResult) vals_Call_result
 tells_Call_result = LL.tells CallResult-type.the_type CallResult-laws.the_laws
 
 module _ {M : Type 1} {𝓤 : Ura M} (𝓛 : Logic 𝓤) where
-  pub makes-CallResult : Makes 𝓛 R_CallResult (Is R_CallResult)
-  makes-CallResult = LL.makes CallResult-type.the_type CallResult-laws.the_plain 𝓛
+  pub makes_Call_result : Makes 𝓛 R_CallResult (Is R_CallResult)
+  makes_Call_result = LL.makes CallResult-type.the_type CallResult-laws.the_plain 𝓛

@@ -60,6 +60,6 @@ module _ (s : Shape) (i wa we ba be : ℕ) (w b : List ℕ) (at : SpotIn s i w b
       room : ba + 224 ≤ length b
       room = omega (arith, at.at.bytes_from, at.at.bytes_to, at.bytes_end)
 
-  pub key-same : {t : Bool} (k : Key) → t ≡ same_key k (stored_key mw mb) → t ≡ same_key k (place_at s w b i).key
+  pub key_same : {t : Bool} (k : Key) → t ≡ same_key k (stored_key mw mb) → t ≡ same_key k (place_at s w b i).key
   unfolding place_in
-  key-same k e = e ∙ ap (λ (p : Place). same_key k p.key) (lent s i wa we ba be w b at r h)
+  key_same k e = e ∙ ap (λ (p : Place). same_key k p.key) (lent s i wa we ba be w b at r h)

@@ -12,7 +12,7 @@ use Rattle.model_standby.specs.Store.{Place, on_stored, changed}
 use Rattle.store_place.specs.Place.{next_out_of, place_in}
 use Rattle.store_areas.specs.declared.Shape.{Shape}
 use Rattle.store_areas.specs.Areas.{SpotIn, Rules, Changed, place_at}
-use Rattle.store_areas.proofs.Lifting.{spot-place, spot-both}
+use Rattle.store_areas.proofs.Lifting.{spot_place, spot_both}
 use Rattle.standby_apply.proofs.Loop.{next_out_lem}
 
 module _ (s : Shape) (i wa we ba be : ℕ) (w b : List ℕ) (spot : SpotIn s i w b wa we ba be) (r : Rules s w b) (h : i < get_or w 0 0) (cs : List Change) where
@@ -28,7 +28,7 @@ module _ (s : Shape) (i wa we ba be : ℕ) (w b : List ℕ) (spot : SpotIn s i w
     omega (arith, spot.words_part),
     (
       omega (arith, spot.bytes_part),
-      subst (λ (n : ℕ). fits n cs ≡ true) (sym (sym (next_out_lem s.bytes s.messages mw mb) ∙ ap (λ (x : Place). x.stored.session.next_out) (spot-place s i wa we ba be spot.at w b r h))) f,
+      subst (λ (n : ℕ). fits n cs ≡ true) (sym (sym (next_out_lem s.bytes s.messages mw mb) ∙ ap (λ (x : Place). x.stored.session.next_out) (spot_place s i wa we ba be spot.at w b r h))) f,
     ),
   )
 
@@ -36,4 +36,4 @@ module _ (s : Shape) (i wa we ba be : ℕ) (w b : List ℕ) (spot : SpotIn s i w
   pub made : (x y : List ℕ) → length x ≡ length mw → length y ≡ length mb
       → ((C : ℕ) → length mb ≡ 224 + C → place_in C s.messages x y ≡ on_stored (changed C s.messages cs) (place_in C s.messages mw mb))
       → Changed s i (changed s.bytes s.messages cs) w (put_mid wa (we - wa) w x) b (put_mid ba (be - ba) b y)
-  made x y lx ly did = spot-both s i wa we ba be spot.at w b r h (changed s.bytes s.messages cs) x y lx ly (did s.bytes spot.bytes_part)
+  made x y lx ly did = spot_both s i wa we ba be spot.at w b r h (changed s.bytes s.messages cs) x y lx ly (did s.bytes spot.bytes_part)

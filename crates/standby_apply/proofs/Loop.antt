@@ -13,11 +13,11 @@ use Rattle.model_frame.specs.Parse.{is_empty, ok, bad}
 use Rattle.model_frame.specs.Reading.{read_change}
 use Rattle.model_frame.specs.Writing.{fine_change}
 use Rattle.model_frame.proofs.Le.{are_bytes}
-use Rattle.model_frame.proofs.SoundChange.{change-sound}
-use Rattle.model_session.specs.Session.{Session, fits, apply, applyAll, top}
+use Rattle.model_frame.proofs.SoundChange.{change_sound}
+use Rattle.model_session.specs.Session.{Session, fits, apply, apply_all, top}
 use Rattle.model_standby.specs.Store.{Place, on_stored, changed}
 use Rattle.frame_op.specs.Answers.{held_run}
-use Rattle.standby_changes.proofs.Held.{held_none, held-bad, held_more}
+use Rattle.standby_changes.proofs.Held.{held_none, held_bad, held_more}
 use Rattle.store_place.specs.Place.{next_out_of, session_of, place_in}
 
 -- changes that fit go on to fit after the first of them is made
@@ -45,7 +45,7 @@ fits_first next (set_marks m) cs h = refl
 
 -- one change and then the others are all of them
 changed_on : (C M : ℕ) (c : Change) (cs : List Change) (x : Place) → on_stored (changed C M cs) (on_stored (changed C M (c ∷ [])) x) ≡ on_stored (changed C M (c ∷ cs)) x
-changed_on C M c cs x = ap (λ (b : Bool). record { key = x.key; stored = record { session = applyAll C M cs (apply C M c x.stored.session); durable = b } }) (flag x.stored.durable (is_empty cs))
+changed_on C M c cs x = ap (λ (b : Bool). record { key = x.key; stored = record { session = apply_all C M cs (apply C M c x.stored.session); durable = b } }) (flag x.stored.durable (is_empty cs))
   where
     flag : (d e : Bool) → ((d && false) && e) ≡ (d && false)
     flag true e = refl
@@ -79,7 +79,7 @@ module _ (version max : ℕ) where
 
     -- what `apply` asks
     pub first_fine : fine_change version c ≡ true
-    first_fine = (change-sound version rest g.octets e).1.0.1
+    first_fine = (change_sound version rest g.octets e).1.0.1
 
     pub first_fits : fits (next_out_of w) (c ∷ []) ≡ true
     first_fits = fits_first (next_out_of w) c (held_run version t) whole
@@ -94,7 +94,7 @@ module _ (version max : ℕ) where
         record {
           words = lw ∙ g.words;
           bytes = lb ∙ g.bytes;
-          octets = (change-sound version rest g.octets e).2;
+          octets = (change_sound version rest g.octets e).2;
           follow =
               subst (λ (n : ℕ). fits n (held_run version t) ≡ true) (sym next)
               (fits_on D max (place_in D max w b).stored.session c (held_run version t) (subst (λ (n : ℕ). fits n (c ∷ held_run version t) ≡ true) (sym (next_out_lem D max w b)) whole));
@@ -112,7 +112,7 @@ module _ (version max : ℕ) where
 
   pub made_bad : {run w₀ b₀ w b rest : List ℕ} {f : Fault} → Applying run w₀ b₀ w b rest → read_change version rest ≡ bad f
       → (C : ℕ) → length b₀ ≡ 224 + C → place_in C max w b ≡ on_stored (changed C max (held_run version run)) (place_in C max w₀ b₀)
-  made_bad {rest = rest} g e = all_made g (held-bad version rest e)
+  made_bad {rest = rest} g e = all_made g (held_bad version rest e)
 
   pub made_all : {run w₀ b₀ w b rest : List ℕ} → Applying run w₀ b₀ w b rest → rest ≡ []
       → (C : ℕ) → length b₀ ≡ 224 + C → place_in C max w b ≡ on_stored (changed C max (held_run version run)) (place_in C max w₀ b₀)

@@ -24,8 +24,8 @@ use Rattle.model_standby.specs.Answer.{protocol_version, reply, refused, accepte
 use Rattle.model_standby.specs.Answer as the-answer
 use Rattle.model_standby.specs.State.{Bound, at_epoch}
 use Rattle.model_standby.specs.State as state
-use Rattle.model_standby.specs.Hold.{HoldWrite, held_bytes, writesPart, writesFrame}
-use Rattle.model_standby.specs.Core.{Action, leave, store, Core, CoreResult, core_says, core_refuse, counting, coreHandle, coreBatch}
+use Rattle.model_standby.specs.Hold.{HoldWrite, held_bytes, writes_part, writes_frame}
+use Rattle.model_standby.specs.Core.{Action, leave, store, Core, CoreResult, core_says, core_refuse, counting, core_handle, core_batch}
 use Rattle.standby_part.specs.declared.PartResult.{PartResult}
 use Rattle.standby_part.specs.State.{bound_of, core_at}
 use Rattle.standby_part.specs.Part.{result_of}
@@ -41,7 +41,7 @@ use Rattle.standby_state.specs.Outcomes.{counters_of, settings_of, leaving, stor
 use Rattle.standby_state.proofs.Exact.{exact_refused, exact_nack, exact_ack}
 use Rattle.standby_hello.proofs.Laws.{leaving_lands}
 use Rattle.standby_batch.specs.Batches.{epoch_to, found_for, answer_by, settled_of, RecordRules, hold_area_with, found_at, BatchIs}
-use Rattle.standby_batch.proofs.Passing.{as_many, is_store, store_none, Passes, whole-passes, last-passes}
+use Rattle.standby_batch.proofs.Passing.{as_many, is_store, store_none, Passes, whole_passes, last_passes}
 
 -- ---- what the answer of a handle stands for
 
@@ -49,8 +49,8 @@ module _ (d : PartResult) (h : ℕ) (n : CommitNumber) where
   abbrev Said : the-answer.Answer
   Said = cond (eqb d.refusal 0) (reply (cond d.nack (nack h diverged) (ack h n.0))) (refused d.refusal)
 
-  answer-is : (b : List ℕ) → answer_of b (answer_by d h n) ≡ Said
-  answer-is b = go (eqb d.refusal 0) refl
+  answer_is : (b : List ℕ) → answer_of b (answer_by d h n) ≡ Said
+  answer_is b = go (eqb d.refusal 0) refl
     where
       yes : (m : Bool) → answer_of b (cond m (is_nack h 2) (is_ack h n)) ≡ reply (cond m (nack h diverged) (ack h n.0))
       yes true = refl
@@ -60,16 +60,16 @@ module _ (d : PartResult) (h : ℕ) (n : CommitNumber) where
       go true e = yes d.nack
       go false e = ap (λ (t : Bool). cond t the-answer.done (refused d.refusal)) e
 
-  said-accepted : accepted Said ≡ (eqb d.refusal 0 && not d.nack)
-  said-accepted = go (eqb d.refusal 0) d.nack
+  said_accepted : accepted Said ≡ (eqb d.refusal 0 && not d.nack)
+  said_accepted = go (eqb d.refusal 0) d.nack
     where
       go : (t m : Bool) → accepted (cond t (reply (cond m (nack h diverged) (ack h n.0))) (refused d.refusal)) ≡ (t && not m)
       go true true = refl
       go true false = refl
       go false m = refl
 
-  answer-exact : (b : List ℕ) → Exact b (answer_by d h n)
-  answer-exact b = go (eqb d.refusal 0)
+  answer_exact : (b : List ℕ) → Exact b (answer_by d h n)
+  answer_exact b = go (eqb d.refusal 0)
     where
       yes : (m : Bool) → Exact b (cond m (is_nack h 2) (is_ack h n))
       yes true = exact_nack b h diverged
@@ -79,8 +79,8 @@ module _ (d : PartResult) (h : ℕ) (n : CommitNumber) where
       go true = yes d.nack
       go false = exact_refused b d.refusal
 
-  said-reply : is_reply Said ≡ eqb d.refusal 0
-  said-reply = go (eqb d.refusal 0)
+  said_reply : is_reply Said ≡ eqb d.refusal 0
+  said_reply = go (eqb d.refusal 0)
     where
       go : (t : Bool) → is_reply (cond t (reply (cond d.nack (nack h diverged) (ack h n.0))) (refused d.refusal)) ≡ t
       go true = refl
@@ -99,16 +99,16 @@ module _ (s : Settings) (c : Replica) (seen : Lookup) (h : ℕ) (e : Epoch) (n :
   F = found_at seen h area
 
   abbrev Goes : Bool → Bool → CoreResult
-  Goes t u = cond (not t) (core_refuse K leave 13) (cond u (core_says K leave (nack h stale_epoch)) (coreHandle L (counting K (at_epoch e.0 K.counters)) h F n.0 part cs))
+  Goes t u = cond (not t) (core_refuse K leave 13) (cond u (core_says K leave (nack h stale_epoch)) (core_handle L (counting K (at_epoch e.0 K.counters)) h F n.0 part cs))
 
   abbrev Writes : Bool → Bool → Option HoldWrite
-  Writes t u = cond (not t || u) none (writesPart L h F n.0 part cs)
+  Writes t u = cond (not t || u) none (writes_part L h F n.0 part cs)
 
   abbrev Is : List ℕ → List ℕ → List ℕ → Outcome → Type 0
   Is w' b' area' r = BatchIs s c seen h e.0 n.0 part cs apps w w' b b' area area' r
 
-  tests : coreBatch L K F h e.0 n.0 part cs apps ≡ Goes (is_empty apps) (ltb e.0 c.epoch.0)
-  unfolding coreBatch
+  tests : core_batch L K F h e.0 n.0 part cs apps ≡ Goes (is_empty apps) (ltb e.0 c.epoch.0)
+  unfolding core_batch
   tests = refl
 
   left : (t u : Bool) → is_empty apps ≡ t → ltb e.0 c.epoch.0 ≡ u → {r : Outcome} {a : Answer} (x : Answer) → r ≡ leaving c seen a → a ≡ x → Exact b x → accepted (answer_of b x) ≡ false
@@ -127,15 +127,15 @@ module _ (s : Settings) (c : Replica) (seen : Lookup) (h : ℕ) (e : Epoch) (n :
         exact = is-exact;
       })
 
-  pub with-records : {r : Outcome} {a : Answer} → is_empty apps ≡ false → r ≡ leaving c seen a → a ≡ is_refused 13 → Is w b area r
-  with-records p e₁ e₂ = left false (ltb e.0 c.epoch.0) p refl (is_refused 13) e₁ e₂ (exact_refused b 13) refl refl refl
+  pub with_records : {r : Outcome} {a : Answer} → is_empty apps ≡ false → r ≡ leaving c seen a → a ≡ is_refused 13 → Is w b area r
+  with_records p e₁ e₂ = left false (ltb e.0 c.epoch.0) p refl (is_refused 13) e₁ e₂ (exact_refused b 13) refl refl refl
 
   pub stale : {r : Outcome} {a : Answer} → is_empty apps ≡ true → ltb e.0 c.epoch.0 ≡ true → r ≡ leaving c seen a → a ≡ is_nack h 1 → Is w b area r
   stale p less e₁ e₂ = left true true p less (is_nack h 1) e₁ e₂ (exact_nack b h stale_epoch) refl refl refl
 
   -- ---- past them
 
-  module _ (p : is_empty apps ≡ true) (high : ltb e.0 c.epoch.0 ≡ false) {found : Bool} (found-is : found ≡ found_for seen h) {w' b' area' run : List ℕ} {d : PartResult}
+  module _ (p : is_empty apps ≡ true) (high : ltb e.0 c.epoch.0 ≡ false) {found : Bool} (found_is : found ≡ found_for seen h) {w' b' area' run : List ℕ} {d : PartResult}
       (g : HandleIs protocol_version s.shape h found seen.bound n.0 part cs w w' b b' area area' d)
       (written : area' ≡ hold_area_after protocol_version found seen.bound n.0 part run area d.refusal) (bytes : run ≡ held_bytes cs)
       (kept : found ≡ true → RecordRules seen w area) where
@@ -145,10 +145,10 @@ module _ (s : Settings) (c : Replica) (seen : Lookup) (h : ℕ) (e : Epoch) (n :
     abbrev K' : Core
     K' = core_at (counters_of (epoch_to c e)) s.shape w b
 
-    went : coreBatch L K F h e.0 n.0 part cs apps ≡ coreHandle L K' h (found_of protocol_version found seen.bound area) n.0 part cs
-    went = tests ∙ (λ j. Goes (p j) (high j)) ∙ ap (λ (t : Bool). coreHandle L K' h (found_of protocol_version t seen.bound area) n.0 part cs) (sym found-is)
+    went : core_batch L K F h e.0 n.0 part cs apps ≡ core_handle L K' h (found_of protocol_version found seen.bound area) n.0 part cs
+    went = tests ∙ (λ j. Goes (p j) (high j)) ∙ ap (λ (t : Bool). core_handle L K' h (found_of protocol_version t seen.bound area) n.0 part cs) (sym found_is)
 
-    handled : result_of protocol_version h n.0 area' d (core_at (counters_of (epoch_to c e)) s.shape w' b') ≡ coreHandle L K' h (found_of protocol_version found seen.bound area) n.0 part cs
+    handled : result_of protocol_version h n.0 area' d (core_at (counters_of (epoch_to c e)) s.shape w' b') ≡ core_handle L K' h (found_of protocol_version found seen.bound area) n.0 part cs
     handled = g.is (counters_of (epoch_to c e)) s.incarnation.0 s.max_lag
 
     abbrev A : Answer
@@ -171,22 +171,22 @@ module _ (s : Settings) (c : Replica) (seen : Lookup) (h : ℕ) (e : Epoch) (n :
     says_so true = refl
     says_so false = refl
 
-    stores-so : (t : Bool) → (X t).stores ≡ t
-    stores-so true = refl
-    stores-so false = refl
+    stores_so : (t : Bool) → (X t).stores ≡ t
+    stores_so true = refl
+    stores_so false = refl
 
-    clears-none : (t : Bool) → (X t).clears ≡ false
-    clears-none true = refl
-    clears-none false = refl
+    clears_none : (t : Bool) → (X t).clears ≡ false
+    clears_none true = refl
+    clears_none false = refl
 
-    used-same : get_or w' 0 0 ≡ get_or w 0 0
-    used-same =
+    used_same : get_or w' 0 0 ≡ get_or w 0 0
+    used_same =
         sym (places_length s.shape w' b') ∙ ap (λ (r : CoreResult). length r.core.places) handled
         ∙ as_many L K' h (found_of protocol_version found seen.bound area) n.0 part cs ∙ places_length s.shape w b
 
     -- a record is stored for a bound handle alone
-    stored-found : d.stores ≡ true → found ≡ true
-    stored-found y = go found refl
+    stored_found : d.stores ≡ true → found ≡ true
+    stored_found y = go found refl
       where
         shown : (t : Bool) (x : Action) → is_store (cond t (store h (bound_of protocol_version d.bound area')) leave) ≡ t
         shown true x = refl
@@ -196,18 +196,18 @@ module _ (s : Settings) (c : Replica) (seen : Lookup) (h : ℕ) (e : Epoch) (n :
         go true f = refl
         go false f =
             absurd (true≢false (sym y ∙ sym (shown d.stores leave) ∙ ap (λ (r : CoreResult). is_store r.action) handled
-            ∙ ap (λ (u : Bool). is_store (coreHandle L K' h (found_of protocol_version u seen.bound area) n.0 part cs).action) f ∙ store_none L K' h n.0 part cs))
+            ∙ ap (λ (u : Bool). is_store (core_handle L K' h (found_of protocol_version u seen.bound area) n.0 part cs).action) f ∙ store_none L K' h n.0 part cs))
 
-    lands-in : (t : Bool) → d.stores ≡ t → Lands seen (get_or w' 0 0) (length area) area' (X t)
-    lands-in false q = leaving_lands (epoch_to c e) seen A (get_or w' 0 0) (length area)
-    lands-in true q =
-        let k : RecordRules seen w area = kept (stored-found q) in
+    lands_in : (t : Bool) → d.stores ≡ t → Lands seen (get_or w' 0 0) (length area) area' (X t)
+    lands_in false q = leaving_lands (epoch_to c e) seen A (get_or w' 0 0) (length area)
+    lands_in true q =
+        let k : RecordRules seen w area = kept (stored_found q) in
         record {
           at_is = refl;
           from_is = refl;
           one = λ _. refl;
           slot_is = λ _. (λ j. record { used = 1; handle = h; place = d.bound.place; commit_no = record { 0 = d.bound.commit_no.0 }; held_len = g.slot_held q j; held_bytes = d.bound.held_bytes });
-          slot_place = λ _. subst (λ (m : ℕ). m < get_or w' 0 0) (sym g.slot_place) (subst (λ (m : ℕ). seen.bound.place < m) (sym used-same) k.place_used);
+          slot_place = λ _. subst (λ (m : ℕ). m < get_or w' 0 0) (sym g.slot_place) (subst (λ (m : ℕ). seen.bound.place < m) (sym used_same) k.place_used);
           slot_len = λ _. g.slot_len k.held_within;
         }
 
@@ -223,63 +223,63 @@ module _ (s : Settings) (c : Replica) (seen : Lookup) (h : ℕ) (e : Epoch) (n :
     put_is true = ap (write area (sizes B.held)) bytes
     put_is false = refl
 
-    answered : found ≡ true → is_reply (coreHandle L K' h (some B) n.0 part cs).answer ≡ eqb d.refusal 0
+    answered : found ≡ true → is_reply (core_handle L K' h (some B) n.0 part cs).answer ≡ eqb d.refusal 0
     answered f =
-        ap (λ (u : Bool). is_reply (coreHandle L K' h (found_of protocol_version u seen.bound area) n.0 part cs).answer) (sym f)
-        ∙ ap (λ (r : CoreResult). is_reply r.answer) (sym handled) ∙ said-reply d h n
+        ap (λ (u : Bool). is_reply (core_handle L K' h (found_of protocol_version u seen.bound area) n.0 part cs).answer) (sym f)
+        ∙ ap (λ (r : CoreResult). is_reply r.answer) (sym handled) ∙ said_reply d h n
 
     -- of a Whole or LastWhole that is found
-    held-area : found ≡ true → (follows_of seen.bound n.0 ≡ true → eqb d.refusal 0 ≡ Passes L K' h B n.0 cs)
+    held_area : found ≡ true → (follows_of seen.bound n.0 ≡ true → eqb d.refusal 0 ≡ Passes L K' h B n.0 cs)
         → cond (follows_of seen.bound n.0 && true) (New (eqb d.refusal 0)) area ≡ hold_area_with (cond (follows_of seen.bound n.0 && Passes L K' h B n.0 cs) (some Put) none) area
-    held-area f passes = go (follows_of seen.bound n.0) refl
+    held_area f passes = go (follows_of seen.bound n.0) refl
       where
         go : (t : Bool) → follows_of seen.bound n.0 ≡ t → cond (t && true) (New (eqb d.refusal 0)) area ≡ hold_area_with (cond (t && Passes L K' h B n.0 cs) (some Put) none) area
         go true q = ap New (passes q) ∙ put_is (Passes L K' h B n.0 cs)
         go false q = refl
 
-    off-held : (t : Bool) → cond (t && false) (New (eqb d.refusal 0)) area ≡ area
-    off-held true = refl
-    off-held false = refl
+    off_held : (t : Bool) → cond (t && false) (New (eqb d.refusal 0)) area ≡ area
+    off_held true = refl
+    off_held false = refl
 
-    area-found : (q : the_frame.Part) → part ≡ q → found ≡ true → hold_area_after protocol_version true seen.bound n.0 q run area d.refusal ≡ hold_area_with (writesPart L h (some B) n.0 q cs) area
-    area-found commit q f = off-held (follows_of seen.bound n.0)
-    area-found whole q f =
-        held-area f (λ t. sym (answered f) ∙ ap (λ (x : the_frame.Part). is_reply (coreHandle L K' h (some B) n.0 x cs).answer) q ∙ whole-passes L K' h B n.0 cs t)
-    area-found last_whole q f =
-        held-area f (λ t. sym (answered f) ∙ ap (λ (x : the_frame.Part). is_reply (coreHandle L K' h (some B) n.0 x cs).answer) q ∙ last-passes L K' h B n.0 cs t)
+    area_found : (q : the_frame.Part) → part ≡ q → found ≡ true → hold_area_after protocol_version true seen.bound n.0 q run area d.refusal ≡ hold_area_with (writes_part L h (some B) n.0 q cs) area
+    area_found commit q f = off_held (follows_of seen.bound n.0)
+    area_found whole q f =
+        held_area f (λ t. sym (answered f) ∙ ap (λ (x : the_frame.Part). is_reply (core_handle L K' h (some B) n.0 x cs).answer) q ∙ whole_passes L K' h B n.0 cs t)
+    area_found last_whole q f =
+        held_area f (λ t. sym (answered f) ∙ ap (λ (x : the_frame.Part). is_reply (core_handle L K' h (some B) n.0 x cs).answer) q ∙ last_passes L K' h B n.0 cs t)
 
-    none_found : (q : the_frame.Part) → area ≡ hold_area_with (writesPart L h none n.0 q cs) area
+    none_found : (q : the_frame.Part) → area ≡ hold_area_with (writes_part L h none n.0 q cs) area
     none_found commit = refl
     none_found whole = refl
     none_found last_whole = refl
 
-    area-part : area' ≡ hold_area_with (writesPart L h (found_of protocol_version found seen.bound area) n.0 part cs) area
-    area-part = written ∙ go found refl
+    area_part : area' ≡ hold_area_with (writes_part L h (found_of protocol_version found seen.bound area) n.0 part cs) area
+    area_part = written ∙ go found refl
       where
-        go : (t : Bool) → found ≡ t → hold_area_after protocol_version t seen.bound n.0 part run area d.refusal ≡ hold_area_with (writesPart L h (found_of protocol_version t seen.bound area) n.0 part cs) area
-        go true f = area-found part refl f
+        go : (t : Bool) → found ≡ t → hold_area_after protocol_version t seen.bound n.0 part run area d.refusal ≡ hold_area_with (writes_part L h (found_of protocol_version t seen.bound area) n.0 part cs) area
+        go true f = area_found part refl f
         go false f = none_found part
 
-    area-whole : area' ≡ hold_area_with (writesFrame L (counters_of c) F (batch h e.0 n.0 part cs apps)) area
-    area-whole =
-        area-part ∙ ap (λ (t : Bool). hold_area_with (writesPart L h (found_of protocol_version t seen.bound area) n.0 part cs) area) found-is
+    area_whole : area' ≡ hold_area_with (writes_frame L (counters_of c) F (batch h e.0 n.0 part cs apps)) area
+    area_whole =
+        area_part ∙ ap (λ (t : Bool). hold_area_with (writes_part L h (found_of protocol_version t seen.bound area) n.0 part cs) area) found_is
         ∙ ap (λ (o : Option HoldWrite). hold_area_with o area) (sym (λ j. Writes (p j) (high j)))
 
-    pub handled-is : {r : Outcome} {c' : Replica} → c' ≡ epoch_to c e → r ≡ settled_of c' seen d h n → Is w' b' area' r
-    handled-is e₁ e₂ =
+    pub handled_is : {r : Outcome} {c' : Replica} → c' ≡ epoch_to c e → r ≡ settled_of c' seen d h n → Is w' b' area' r
+    handled_is e₁ e₂ =
         subst (Is w' b' area') (sym (e₂ ∙ ap (λ (x : Replica). settled_of x seen d h n) e₁))
         (record {
-          is = reads d.stores ∙ (λ j. record { core = core_at (counters_of (epoch_to c e)) s.shape w' b'; action = cond d.stores (store h (bound_of protocol_version d.bound area')) leave; answer = answer-is d h n b' j }) ∙ handled ∙ sym went;
-          lands = lands-in d.stores refl;
-          stays = clears-none d.stores;
-          stored = λ y. sym found-is ∙ stored-found (sym (stores-so d.stores) ∙ y);
+          is = reads d.stores ∙ (λ j. record { core = core_at (counters_of (epoch_to c e)) s.shape w' b'; action = cond d.stores (store h (bound_of protocol_version d.bound area')) leave; answer = answer_is d h n b' j }) ∙ handled ∙ sym went;
+          lands = lands_in d.stores refl;
+          stays = clears_none d.stores;
+          stored = λ y. sym found_is ∙ stored_found (sym (stores_so d.stores) ∙ y);
           rules = g.rules;
-          used = used-same;
+          used = used_same;
           store_after =
               subst (λ (t : Bool). StoreAfter s.shape (batch_change h seen.bound.place part t) w w' b b')
-              (sym (ap (λ (a : Answer). accepted (answer_of b' a)) (says_so d.stores) ∙ ap accepted (answer-is d h n b') ∙ said-accepted d h n)) g.store_after;
-          area_is = area-whole;
-          exact = subst (Exact b') (sym (says_so d.stores)) (answer-exact d h n b');
+              (sym (ap (λ (a : Answer). accepted (answer_of b' a)) (says_so d.stores) ∙ ap accepted (answer_is d h n b') ∙ said_accepted d h n)) g.store_after;
+          area_is = area_whole;
+          exact = subst (Exact b') (sym (says_so d.stores)) (answer_exact d h n b');
         })
 
 -- ---- what the handle asks
@@ -288,6 +288,6 @@ module _ (seen : Lookup) (h : ℕ) (w area : List ℕ) (kept : is_found seen ≡
   pub kept_of : found ≡ true → RecordRules seen w area
   kept_of t = kept (both (is_found seen) (eqb seen.bound.handle h) (sym is ∙ t)).0
 
-  pub sound-of : found ≡ true → Sound h seen.bound w area
-  sound-of t =
+  pub sound_of : found ≡ true → Sound h seen.bound w area
+  sound_of t =
       record { own = eqb-true seen.bound.handle h (both (is_found seen) (eqb seen.bound.handle h) (sym is ∙ t)).1; place_used = (kept_of t).place_used; held_within = (kept_of t).held_within }

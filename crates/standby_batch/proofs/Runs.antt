@@ -14,17 +14,17 @@ module _ {A : Type 0} (p : Parser A) (b : List ℕ) (run : Run) where
   unfolding collect
   run_none e = sym (ap (λ (n : ℕ). is_empty (collect n p (drop run.at b))) e)
 
-  pub run-some : (run.count ≡ 0 → ⊥) → {x : A} {s : List ℕ} → ok x s ≡ p (drop run.at b) → false ≡ is_empty (run_of p b run)
+  pub run_some : (run.count ≡ 0 → ⊥) → {x : A} {s : List ℕ} → ok x s ≡ p (drop run.at b) → false ≡ is_empty (run_of p b run)
   unfolding collect
-  run-some off {x} {s} e = go run.count off
+  run_some off {x} {s} e = go run.count off
     where
       go : (n : ℕ) → (n ≡ 0 → ⊥) → false ≡ is_empty (collect n p (drop run.at b))
       go zero off = absurd (off refl)
       go (suc n) off = ap (λ (r : Res A). is_empty (item_then r (collect n p))) e
 
-  pub run-bad : {x : Fault} → bad x ≡ p (drop run.at b) → true ≡ is_empty (run_of p b run)
+  pub run_bad : {x : Fault} → bad x ≡ p (drop run.at b) → true ≡ is_empty (run_of p b run)
   unfolding collect
-  run-bad {x} e = go run.count
+  run_bad {x} e = go run.count
     where
       go : (n : ℕ) → true ≡ is_empty (collect n p (drop run.at b))
       go zero = refl

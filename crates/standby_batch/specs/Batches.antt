@@ -13,8 +13,8 @@ use Rattle.store_areas.specs.Areas.{Rules}
 use Rattle.standby_commit.specs.Settling.{batch_change, StoreAfter}
 use Rattle.model_standby.specs.Answer.{protocol_version, accepted}
 use Rattle.model_standby.specs.State.{Bound}
-use Rattle.model_standby.specs.Hold.{HoldWrite, writesFrame}
-use Rattle.model_standby.specs.Core.{leave, store, coreBatch}
+use Rattle.model_standby.specs.Hold.{HoldWrite, writes_frame}
+use Rattle.model_standby.specs.Core.{leave, store, core_batch}
 use Rattle.standby_part.specs.declared.PartResult.{PartResult}
 use Rattle.standby_part.specs.State.{bound_of, core_at}
 use Rattle.standby_batch_handle.specs.Handling.{found_of}
@@ -59,12 +59,12 @@ pub record BatchIs (s : Settings) (c : Replica) (seen : Lookup) (h e n : ℕ) (p
     action = cond r.stores (store r.bound.handle (bound_of protocol_version r.bound area')) leave;
     answer = answer_of b' r.answer;
   }
-      ≡ coreBatch (settings_of s (length area)) (core_at (counters_of c) s.shape w b) (found_at seen h area) h e n part cs apps
+      ≡ core_batch (settings_of s (length area)) (core_at (counters_of c) s.shape w b) (found_at seen h area) h e n part cs apps
   pub lands : Lands seen (get_or w' StoreWord.used 0) (length area) area' r
   pub stays : r.clears ≡ false
   pub stored : r.stores ≡ true → found_for seen h ≡ true
   pub rules : Rules s.shape w' b'
   pub used : get_or w' StoreWord.used 0 ≡ get_or w StoreWord.used 0
   pub store_after : StoreAfter s.shape (batch_change h seen.bound.place part (accepted (answer_of b' r.answer))) w w' b b'
-  pub area_is : area' ≡ hold_area_with (writesFrame (settings_of s (length area)) (counters_of c) (found_at seen h area) (batch h e n part cs apps)) area
+  pub area_is : area' ≡ hold_area_with (writes_frame (settings_of s (length area)) (counters_of c) (found_at seen h area) (batch h e n part cs apps)) area
   pub exact : Exact b' r.answer

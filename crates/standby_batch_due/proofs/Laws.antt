@@ -19,7 +19,7 @@ use Rattle.model_frame.proofs.Sizes.{changes_size}
 use Rattle.model_frame.proofs.Runs.{sizes_append}
 use Rattle.standby_row.specs.declared.Lookup.{Lookup}
 use Rattle.store_areas.specs.Areas.{Rules}
-use Rattle.store_areas.proofs.Lifting.{part-lent, part_length, part-own}
+use Rattle.store_areas.proofs.Lifting.{part_lent, part_length, part_own}
 use Rattle.standby_pending.specs.Pending.{count_of, pending_of}
 use Rattle.standby_pending_run.specs.Commits.{ran_words, RanIf}
 use Rattle.standby_pending_run.proofs.Due.{many_pending}
@@ -28,8 +28,8 @@ use Rattle.model_standby.specs.Answer.{protocol_version, accepted}
 use Rattle.model_standby.specs.State.{Bound, Counters}
 use Rattle.model_standby.specs.State as state
 use Rattle.model_standby.specs.Standby.{follows, starts_with_reset, raised, max_whole, pends_on}
-use Rattle.model_standby.specs.Hold.{HoldWrite, held_bytes, heldPasses, writes_at, writesPart, writesFrame}
-use Rattle.model_standby.specs.Core.{leave, store, clear, core_run, coreBatch}
+use Rattle.model_standby.specs.Hold.{HoldWrite, held_bytes, held_passes, writes_at, writes_part, writes_frame}
+use Rattle.model_standby.specs.Core.{leave, store, clear, core_run, core_batch}
 use Rattle.standby_part.specs.State.{bound_of, record_for, core_at}
 use Rattle.standby_batch_handle.specs.Handling.{found_of}
 use Rattle.standby_counters.specs.declared.Replica.{Replica}
@@ -53,11 +53,11 @@ inside_cond room true x f = f refl
 inside_cond room false x f = tt
 
 module _ (L : state.Settings) (h n : ℕ) (cs : List Change) where
-  at-inside : (o : Option Bound) → Inside L.room (writes_at L h o n cs)
-  at-inside none = tt
-  at-inside (some b) = inside_cond L.room (heldPasses L b n cs) (record { handle = h; offset = sizes b.held; bytes = held_bytes cs }) fits
+  at_inside : (o : Option Bound) → Inside L.room (writes_at L h o n cs)
+  at_inside none = tt
+  at_inside (some b) = inside_cond L.room (held_passes L b n cs) (record { handle = h; offset = sizes b.held; bytes = held_bytes cs }) fits
     where
-      fits : heldPasses L b n cs ≡ true → sizes b.held + length (held_bytes cs) ≤ L.room
+      fits : held_passes L b n cs ≡ true → sizes b.held + length (held_bytes cs) ≤ L.room
       fits e =
           let p = (both (follows b n) _ e).1 in
           let q = (both (not (is_empty b.held && not (starts_with_reset cs))) _ p).1 in
@@ -69,43 +69,43 @@ module _ (L : state.Settings) (h n : ℕ) (cs : List Change) where
           off true e = absurd (true≢false (sym e))
           off false e = refl
 
-  part-inside : (o : Option Bound) (p : the_frame.Part) → Inside L.room (writesPart L h o n p cs)
-  part-inside o commit = tt
-  part-inside o whole = at-inside o
-  part-inside o last_whole = at-inside o
+  part_inside : (o : Option Bound) (p : the_frame.Part) → Inside L.room (writes_part L h o n p cs)
+  part_inside o commit = tt
+  part_inside o whole = at_inside o
+  part_inside o last_whole = at_inside o
 
-  frame-inside : (c : Counters) (o : Option Bound) (e : ℕ) (p : the_frame.Part) (apps : List AppRecord) → Inside L.room (writesFrame L c o (batch h e n p cs apps))
-  frame-inside c o e p apps = go (not (is_empty apps) || ltb e c.epoch)
+  frame_inside : (c : Counters) (o : Option Bound) (e : ℕ) (p : the_frame.Part) (apps : List AppRecord) → Inside L.room (writes_frame L c o (batch h e n p cs apps))
+  frame_inside c o e p apps = go (not (is_empty apps) || ltb e c.epoch)
     where
-      go : (t : Bool) → Inside L.room (cond t none (writesPart L h o n p cs))
+      go : (t : Bool) → Inside L.room (cond t none (writes_part L h o n p cs))
       go true = tt
-      go false = part-inside o p
+      go false = part_inside o p
 
-  none-part : (p : the_frame.Part) → writesPart L h none n p cs ≡ none
-  none-part commit = refl
-  none-part whole = refl
-  none-part last_whole = refl
+  none_part : (p : the_frame.Part) → writes_part L h none n p cs ≡ none
+  none_part commit = refl
+  none_part whole = refl
+  none_part last_whole = refl
 
-  none-frame : (c : Counters) (e : ℕ) (p : the_frame.Part) (apps : List AppRecord) → writesFrame L c none (batch h e n p cs apps) ≡ none
-  none-frame c e p apps = go (not (is_empty apps) || ltb e c.epoch)
+  none_frame : (c : Counters) (e : ℕ) (p : the_frame.Part) (apps : List AppRecord) → writes_frame L c none (batch h e n p cs apps) ≡ none
+  none_frame c e p apps = go (not (is_empty apps) || ltb e c.epoch)
     where
-      go : (t : Bool) → cond t none (writesPart L h none n p cs) ≡ none
+      go : (t : Bool) → cond t none (writes_part L h none n p cs) ≡ none
       go true = refl
-      go false = none-part p
+      go false = none_part p
 
 -- ---- the record found
 
 module _ (seen : Lookup) (h : ℕ) (l : List ℕ) where
-  same-found : (is_found seen ≡ true → seen.bound.handle ≡ h) → found_for seen h ≡ is_found seen
-  same-found own = go (is_found seen) refl own
+  same_found : (is_found seen ≡ true → seen.bound.handle ≡ h) → found_for seen h ≡ is_found seen
+  same_found own = go (is_found seen) refl own
     where
       go : (t : Bool) → is_found seen ≡ t → (t ≡ true → seen.bound.handle ≡ h) → (t && eqb seen.bound.handle h) ≡ t
       go true f own = eq-eqb seen.bound.handle h (own refl)
       go false f own = refl
 
-  found-is : (is_found seen ≡ true → seen.bound.handle ≡ h) → found_at seen h (area_at (room_in seen l) (spot_in seen) l) ≡ found_in seen l
-  found-is own =
-      ap (λ (t : Bool). found_of protocol_version t seen.bound (area_at (room_in seen l) (spot_in seen) l)) (same-found own) ∙ go (is_found seen)
+  found_is : (is_found seen ≡ true → seen.bound.handle ≡ h) → found_at seen h (area_at (room_in seen l) (spot_in seen) l) ≡ found_in seen l
+  found_is own =
+      ap (λ (t : Bool). found_of protocol_version t seen.bound (area_at (room_in seen l) (spot_in seen) l)) (same_found own) ∙ go (is_found seen)
     where
       go : (t : Bool) → found_of protocol_version t seen.bound (area_at (room_in seen l) (cond t seen.at 0) l) ≡ found_of protocol_version t seen.bound (area_at (room_in seen l) seen.at l)
       go true = refl
@@ -121,8 +121,8 @@ module _ (s : Settings) (c : Replica) (seen : Lookup) (h e n : ℕ) (part : the_
   abbrev P : List ℕ
   P = area_at R (spot_in seen) l
 
-  ran-is : core_at (counters_of c) s.shape w1 b ≡ core_run (due_batch h w) (core_at (counters_of c) s.shape w b)
-  ran-is = (λ j. record { counters = counters_of c; places = ran.places j; pending = ran.pending j }) ∙ ap (λ (t : Bool). core_run t (core_at (counters_of c) s.shape w b)) due_is
+  ran_is : core_at (counters_of c) s.shape w1 b ≡ core_run (due_batch h w) (core_at (counters_of c) s.shape w b)
+  ran_is = (λ j. record { counters = counters_of c; places = ran.places j; pending = ran.pending j }) ∙ ap (λ (t : Bool). core_run t (core_at (counters_of c) s.shape w b)) due_is
 
   words_are : w1 ≡ cond (due_batch h w) (ran_words s.shape w) w
   words_are = ran.words ∙ ap (λ (t : Bool). cond t (ran_words s.shape w) w) due_is
@@ -132,39 +132,39 @@ module _ (s : Settings) (c : Replica) (seen : Lookup) (h e n : ℕ) (part : the_
     l' = put_mid A (A + R - A) l area'
 
     long : length P ≡ R
-    long = ap length (sym (part-lent A R l area' (within seen l) size)) ∙ part_length A R l area' (within seen l) size
+    long = ap length (sym (part_lent A R l area' (within seen l) size)) ∙ part_length A R l area' (within seen l) size
 
-    at-found : found_for seen h ≡ true → spot_of seen ≡ spot_in seen
-    at-found f = go (is_found seen) refl
+    at_found : found_for seen h ≡ true → spot_of seen ≡ spot_in seen
+    at_found f = go (is_found seen) refl
       where
         go : (t : Bool) → is_found seen ≡ t → cond t seen.at seen.free ≡ cond t seen.at 0
         go true q = refl
         go false q = absurd (true≢false (sym (both (is_found seen) _ f).0 ∙ q))
 
     -- what is put is put at the lent area's place
-    own-area : r.stores ≡ true → area_at R r.at l' ≡ area'
-    own-area y =
-        let at : r.at ≡ spot_in seen = g.lands.at_is ∙ ap (λ (t : Bool). cond t (spot_of seen) seen.len) y ∙ at-found (g.stored y) in
-        ap (λ (k : ℕ). area_at R k l') at ∙ part-own A R l area' (within seen l) size
+    own_area : r.stores ≡ true → area_at R r.at l' ≡ area'
+    own_area y =
+        let at : r.at ≡ spot_in seen = g.lands.at_is ∙ ap (λ (t : Bool). cond t (spot_of seen) seen.len) y ∙ at_found (g.stored y) in
+        ap (λ (k : ℕ). area_at R k l') at ∙ part_own A R l area' (within seen l) size
 
-    action-is : cond r.stores (store r.bound.handle (bound_of protocol_version r.bound (area_at R r.at l'))) (cond r.clears clear leave)
+    action_is : cond r.stores (store r.bound.handle (bound_of protocol_version r.bound (area_at R r.at l'))) (cond r.clears clear leave)
         ≡ cond r.stores (store r.bound.handle (bound_of protocol_version r.bound area')) leave
-    action-is = go r.stores refl
+    action_is = go r.stores refl
       where
         go : (t : Bool) → r.stores ≡ t
             → cond t (store r.bound.handle (bound_of protocol_version r.bound (area_at R r.at l'))) (cond r.clears clear leave)
             ≡ cond t (store r.bound.handle (bound_of protocol_version r.bound area')) leave
-        go true y = ap (λ (x : List ℕ). store r.bound.handle (bound_of protocol_version r.bound x)) (own-area y)
+        go true y = ap (λ (x : List ℕ). store r.bound.handle (bound_of protocol_version r.bound x)) (own_area y)
         go false y = ap (λ (t : Bool). cond t clear leave) g.stays
 
     abbrev O : ℕ → Option Bound → Option HoldWrite
-    O room o = writesFrame (settings_of s room) (counters_of c) o (batch h e n part cs apps)
+    O room o = writes_frame (settings_of s room) (counters_of c) o (batch h e n part cs apps)
 
     wrote : (o : Option HoldWrite) → Inside R o → area' ≡ hold_area_with o P → l' ≡ holds_after R (spot_in seen) o l
     wrote none q is =
-        ap (put_mid A (A + R - A) l) (is ∙ sym (part-lent A R l area' (within seen l) size)) ∙ put_same A (A + R - A) l
+        ap (put_mid A (A + R - A) l) (is ∙ sym (part_lent A R l area' (within seen l) size)) ∙ put_same A (A + R - A) l
     wrote (some x) q is =
-        let mid : mid_of A (A + R - A) l ≡ P = part-lent A R l area' (within seen l) size in
+        let mid : mid_of A (A + R - A) l ≡ P = part_lent A R l area' (within seen l) size in
         let low : A ≤ length l = omega (arith, within seen l) in
         ap (put_mid A (A + R - A) l) (is ∙ ap (λ (m : List ℕ). write m x.offset x.bytes) (sym mid))
         ∙ write_part A (A + R - A) x.offset l x.bytes low (subst (λ (k : ℕ). x.offset + length x.bytes ≤ k) (sym (part_length A R l area' (within seen l) size)) q)
@@ -176,19 +176,19 @@ module _ (s : Settings) (c : Replica) (seen : Lookup) (h e n : ℕ) (part : the_
             → l' ≡ holds_after R seen.at (O R (found_of protocol_version t seen.bound (area_at R seen.at l))) l
         go true p = p
         go false p =
-            p ∙ ap (λ (o : Option HoldWrite). holds_after R 0 o l) (none-frame (settings_of s R) h n cs (counters_of c) e part apps)
-            ∙ sym (ap (λ (o : Option HoldWrite). holds_after R seen.at o l) (none-frame (settings_of s R) h n cs (counters_of c) e part apps))
+            p ∙ ap (λ (o : Option HoldWrite). holds_after R 0 o l) (none_frame (settings_of s R) h n cs (counters_of c) e part apps)
+            ∙ sym (ap (λ (o : Option HoldWrite). holds_after R seen.at o l) (none_frame (settings_of s R) h n cs (counters_of c) e part apps))
 
-    pub batch-in : BatchIn s c seen h e n part cs apps w w' b b' l l' r
-    batch-in = record {
+    pub batch_in : BatchIn s c seen h e n part cs apps w w' b b' l l' r
+    batch_in = record {
       is = λ own.
-          (λ j. record { core = core_at (counters_of r.replica) s.shape w' b'; action = action-is j; answer = answer_of b' r.answer }) ∙ g.is
-          ∙ (λ j. coreBatch (settings_of s (long j)) (ran-is j) (found-is seen h l own j) h e n part cs apps);
+          (λ j. record { core = core_at (counters_of r.replica) s.shape w' b'; action = action_is j; answer = answer_of b' r.answer }) ∙ g.is
+          ∙ (λ j. core_batch (settings_of s (long j)) (ran_is j) (found_is seen h l own j) h e n part cs apps);
       lands = record {
         at_is = g.lands.at_is;
         from_is = g.lands.from_is;
         one = g.lands.one;
-        slot_is = λ y. g.lands.slot_is y ∙ ap (λ (x : List ℕ). record_for r.bound.handle (bound_of protocol_version r.bound x)) (sym (own-area y));
+        slot_is = λ y. g.lands.slot_is y ∙ ap (λ (x : List ℕ). record_for r.bound.handle (bound_of protocol_version r.bound x)) (sym (own_area y));
         slot_place = g.lands.slot_place;
         slot_len = λ y. subst (λ (k : ℕ). r.bound.held_len ≤ k) long (g.lands.slot_len y);
       };
@@ -200,8 +200,8 @@ module _ (s : Settings) (c : Replica) (seen : Lookup) (h e n : ℕ) (part : the_
         last = refl;
       };
       holds = λ own.
-          at_own (wrote (O R (found_in seen l)) (frame-inside (settings_of s R) h n cs (counters_of c) (found_in seen l) e part apps)
-          (g.area_is ∙ (λ j. hold_area_with (O (long j) (found-is seen h l own j)) P)));
+          at_own (wrote (O R (found_in seen l)) (frame_inside (settings_of s R) h n cs (counters_of c) (found_in seen l) e part apps)
+          (g.area_is ∙ (λ j. hold_area_with (O (long j) (found_is seen h l own j)) P)));
       exact = g.exact;
     }
 
@@ -212,10 +212,10 @@ module _ (s : Settings) (c : Replica) (seen : Lookup) (h e n : ℕ) (part : the_
       → BatchIn s c seen h e n part cs apps w w' b b' l (put_mid lo (lo + room - lo) l area') r
 
   goes : (w' b' area' : List ℕ) (r : Outcome) → Goes w' b' area' r R A
-  goes w' b' area' r size g = batch-in size (subst (λ (x : List ℕ). BatchIs s c seen h e n part cs apps w1 w' b b' x area' r) (part-lent A R l area' (within seen l) size) g)
+  goes w' b' area' r size g = batch_in size (subst (λ (x : List ℕ). BatchIs s c seen h e n part cs apps w1 w' b b' x area' r) (part_lent A R l area' (within seen l) size) g)
 
-  pub batch-at : (w' b' area' : List ℕ) (r : Outcome) {room lo : ℕ} → room ≡ R → lo ≡ spot_in seen * room → Goes w' b' area' r room lo
-  batch-at w' b' area' r {room} {lo} p q =
+  pub batch_at : (w' b' area' : List ℕ) (r : Outcome) {room lo : ℕ} → room ≡ R → lo ≡ spot_in seen * room → Goes w' b' area' r room lo
+  batch_at w' b' area' r {room} {lo} p q =
       subst (λ (k : ℕ). (x : ℕ) → x ≡ spot_in seen * k → Goes w' b' area' r k x) (sym p) (λ x f. subst (Goes w' b' area' r R) (sym f) (goes w' b' area' r)) lo q
 
 -- ---- what the Batch asks

@@ -8,8 +8,8 @@ use Rattle.standby_pending.specs.Pending.{pending_of}
 use Rattle.standby_commit.specs.Settling.{batch_change}
 use Rattle.model_standby.specs.Answer.{protocol_version, accepted}
 use Rattle.model_standby.specs.Standby.{pends_on}
-use Rattle.model_standby.specs.Hold.{writesFrame}
-use Rattle.model_standby.specs.Core.{core_run, coreBatch}
+use Rattle.model_standby.specs.Hold.{writes_frame}
+use Rattle.model_standby.specs.Core.{core_run, core_batch}
 use Rattle.standby_part.specs.State.{core_at}
 use Rattle.standby_counters.specs.declared.Replica.{Replica}
 use Rattle.standby_state.specs.declared.Settings.{Settings}
@@ -35,11 +35,11 @@ due_batch h w = leb 64 (length (pending_of w)) || pends_on h (pending_of w)
 pub record BatchIn (s : Settings) (c : Replica) (seen : Lookup) (h e n : ℕ) (part : the_frame.Part) (cs : List Change) (apps : List AppRecord) (w w' b b' l l' : List ℕ) (r : Outcome) : Type 0 where
   pub is : (is_found seen ≡ true → seen.bound.handle ≡ h)
       → outcome_of protocol_version (room_in seen l) s.shape w' b' l' r
-      ≡ coreBatch (settings_of s (room_in seen l)) (core_run (due_batch h w) (core_at (counters_of c) s.shape w b)) (found_in seen l) h e n part cs apps
+      ≡ core_batch (settings_of s (room_in seen l)) (core_run (due_batch h w) (core_at (counters_of c) s.shape w b)) (found_in seen l) h e n part cs apps
   pub lands : Lands seen (get_or w' 0 0) (room_in seen l) (area_at (room_in seen l) r.at l') r
   pub rules : Rules s.shape w' b'
   pub used : get_or w' 0 0 ≡ get_or w 0 0
   pub leaves : FrameLeaves s.shape (batch_change h seen.bound.place part (accepted (answer_of b' r.answer))) (due_batch h w) false w w' b b'
   pub holds : (is_found seen ≡ true → seen.bound.handle ≡ h)
-      → l' ≡ holds_after (room_in seen l) seen.at (writesFrame (settings_of s (room_in seen l)) (counters_of c) (found_in seen l) (batch h e n part cs apps)) l
+      → l' ≡ holds_after (room_in seen l) seen.at (writes_frame (settings_of s (room_in seen l)) (counters_of c) (found_in seen l) (batch h e n part cs apps)) l
   pub exact : Exact b' r.answer

@@ -13,7 +13,7 @@ use Rattle.store_areas.specs.declared.Shape.{Shape}
 use Rattle.store_areas.specs.Areas.{Rules}
 use Rattle.standby_commit.specs.Settling.{batch_change, StoreAfter}
 use Rattle.model_standby.specs.State.{Counters, Bound}
-use Rattle.model_standby.specs.Core.{coreHandle}
+use Rattle.model_standby.specs.Core.{core_handle}
 use Rattle.standby_part.specs.declared.PartResult.{PartResult}
 use Rattle.standby_part.specs.State.{bound_of, core_at, settings_for}
 use Rattle.standby_part.specs.Part.{result_of}
@@ -44,7 +44,7 @@ hold_area_after version found h n part run area refusal =
 -- equal to the definition, whatever the counters and the settings
 pub record HandleIs (version : ℕ) (s : Shape) (handle : ℕ) (found : Bool) (h : BoundRecord) (n : ℕ) (part : the_frame.Part) (cs : List Change) (w w' b b' area area' : List ℕ) (d : PartResult) : Type 0 where
   pub is : (c : Counters) (incarnation lag : ℕ)
-      → result_of version handle n area' d (core_at c s w' b') ≡ coreHandle (settings_for s (length area) incarnation lag) (core_at c s w b) handle (found_of version found h area) n part cs
+      → result_of version handle n area' d (core_at c s w' b') ≡ core_handle (settings_for s (length area) incarnation lag) (core_at c s w b) handle (found_of version found h area) n part cs
   pub rules : Rules s w' b'
   pub store_after : StoreAfter s (batch_change handle h.place part (eqb d.refusal 0 && not d.nack)) w w' b b'
   pub slot_place : d.bound.place ≡ h.place

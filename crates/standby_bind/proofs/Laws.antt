@@ -20,7 +20,7 @@ use Rattle.model_session.proofs.Basics.{some_inj}
 use Rattle.model_standby.specs.Store.{Place, place_of, is_stored, session_at, or_new, new_place, opened}
 use Rattle.model_standby.specs.Answer.{reply, accepted}
 use Rattle.model_standby.specs.State.{new_bound}
-use Rattle.model_standby.specs.Core.{Core, CoreResult, leave, store, core_says, core_refuse, coreBind}
+use Rattle.model_standby.specs.Core.{Core, CoreResult, leave, store, core_says, core_refuse, core_bind}
 use Rattle.model_standby.proofs.Places.{place_low}
 use Rattle.frame_reader.specs.Answers.{span_of}
 use Rattle.frame_fields.specs.declared.SessionId.{SessionId}
@@ -76,8 +76,8 @@ module _ (b : List ℕ) (m : Summary) {flies f : ℕ} (e₁ : flies ≡ flight_f
   flight : cond (is_set flies) (some f) none ≡ flight_of m.in_flight
   flight = (λ k. cond (is_set (e₁ k)) (some (e₂ k)) none) ∙ flown (flight_of m.in_flight)
 
-  pub brief-is : {x : the_frame.Summary} → summary_of b m ≡ x → brief_of b Says ≡ x
-  brief-is is =
+  pub brief_is : {x : the_frame.Summary} → summary_of b m ≡ x → brief_of b Says ≡ x
+  brief_is is =
       (λ j. record {
         next_out = m.next_outgoing;
         next_in = m.next_incoming;
@@ -88,8 +88,8 @@ module _ (b : List ℕ) (m : Summary) {flies f : ℕ} (e₁ : flies ≡ flight_f
       })
       ∙ is
 
-  pub brief-exact : TextsIn b m → ExactSummary b Says
-  brief-exact t =
+  pub brief_exact : TextsIn b m → ExactSummary b Says
+  brief_exact t =
       record {
         is =
             (λ j. record {
@@ -141,8 +141,8 @@ module _ (s : Shape) (k : Key) (w b : List ℕ) (r : Rules s w b) (place : ℕ) 
   low : place_of k ps ≤ length ps
   low = place_low k ps
 
-  pub was-there : place < n → BindOpens s k w w b b
-  was-there h =
+  pub was_there : place < n → BindOpens s k w w b b
+  was_there h =
       let less : place_of k ps < n = subst (λ (i : ℕ). i < n) is h in
       let stored : is_stored k ps ≡ true = lt-ltb (place_of k ps) (length ps) (omega (arith, count)) in
       record {
@@ -155,9 +155,9 @@ module _ (s : Shape) (k : Key) (w b : List ℕ) (r : Rules s w b) (place : ℕ) 
         store_after = subst (λ (t : Bool). StoreAfter s (cond (not t) (opens (place_of k ps)) stays) w w b b) (sym stored) (refl, refl);
       }
 
-  pub newly-there : {w' b' : List ℕ} {x : Key} → x ≡ k → n ≤ place → n < s.places → Opened s x w w' b b' → BindOpens s k w w' b b'
+  pub newly_there : {w' b' : List ℕ} {x : Key} → x ≡ k → n ≤ place → n < s.places → Opened s x w w' b b' → BindOpens s k w w' b b'
   unfolding pending_of
-  newly-there {w'} {b'} same h few op =
+  newly_there {w'} {b'} same h few op =
       let o : Opened s k w w' b b' = subst (λ (y : Key). Opened s y w w' b b') same op in
       let v : List ℕ = set w 0 (n + 1) in
       let last : place_of k ps ≡ length ps = omega (arith, count, low, is) in
@@ -173,14 +173,14 @@ module _ (s : Shape) (k : Key) (w b : List ℕ) (r : Rules s w b) (place : ℕ) 
       let inside : place_of k ps < get_or w' 0 0 = omega (arith, more, at) in
       let own : place_at s w' b' (place_of k ps) ≡ new_place k =
       some_inj (sym (place_is s w' b' (place_of k ps) inside) ∙ (λ j. get_elem? (o.places j) (last j)) ∙ at_end ps (new_place k)) in
-      let none-there : get_elem? ps (place_of k ps) ≡ none = ap (get_elem? ps) last ∙ past_end ps in
+      let none_there : get_elem? ps (place_of k ps) ≡ none = ap (get_elem? ps) last ∙ past_end ps in
       record {
         places = o.places ∙ sym (ap (λ (t : Bool). cond t ps (ps ++ (new_place k ∷ []))) new);
         pending = pending_kept v w' (omega (arith, long, size)) (omega (arith, commits, r.pending)) head ∙ pends;
         rules = opened_rules s k w w' b b' r few o;
         more = omega (arith, more);
         there = inside;
-        session = ap (λ (x : Place). x.stored.session) own ∙ sym (ap (λ (x : Option Place). or_new (Option.map (λ (y : Place). y.stored.session) x)) none-there);
+        session = ap (λ (x : Place). x.stored.session) own ∙ sym (ap (λ (x : Option Place). or_new (Option.map (λ (y : Place). y.stored.session) x)) none_there);
         store_after =
             subst (λ (t : Bool). StoreAfter s (cond (not t) (opens (place_of k ps)) stays) w w' b b') (sym new)
             (subst (λ (i : ℕ). Touched s i (opened_words w) w' b b') (sym at) (record { words = o.words; bytes = o.bytes }));
@@ -200,7 +200,7 @@ module _ (s : Settings) (c : Replica) (seen : Lookup) (h e lag : ℕ) (k : Key) 
   At = core_at (counters_of c) s.shape w b
 
   abbrev Bind : ℕ → CoreResult
-  Bind room = coreBind (settings_of s room) At (room_for seen) h e lag k
+  Bind room = core_bind (settings_of s room) At (room_for seen) h e lag k
 
   abbrev Stored : CoreResult
   Stored = core_says (record { counters = counters_of c; places = opened k places; pending = pending_of w }) (store h (new_bound (place_of k places))) (bound h (summary (or_new (session_at places (place_of k places))) lag))
@@ -210,11 +210,11 @@ module _ (s : Settings) (c : Replica) (seen : Lookup) (h e lag : ℕ) (k : Key) 
   Tests t u v x = cond t (core_says At leave (nack h stale_epoch)) (cond u (core_says At leave (nack h lag_too_great)) (cond (not v) (core_refuse At leave 20) (cond (not x) (core_refuse At leave 21) Stored)))
 
   tests : (room : ℕ) → Bind room ≡ Tests (ltb e c.epoch.0) (ltb s.max_lag lag) (is_stored k places || ltb (length places) s.shape.places) (room_for seen)
-  unfolding coreBind
+  unfolding core_bind
   tests room = refl
 
-  as-left : {o : Outcome} {a x : Answer} → o ≡ leaving c seen a → a ≡ x → accepted (answer_of b x) ≡ false → Exact b x → ((room : ℕ) → record { core = At; action = leave; answer = answer_of b x } ≡ Bind room) → BindIs s c seen h e lag k w w b b o
-  as-left {x = x} e₁ e₂ off is-exact is = subst (BindIs s c seen h e lag k w w b b) (sym (e₁ ∙ ap (leaving c seen) e₂)) (record {
+  as_left : {o : Outcome} {a x : Answer} → o ≡ leaving c seen a → a ≡ x → accepted (answer_of b x) ≡ false → Exact b x → ((room : ℕ) → record { core = At; action = leave; answer = answer_of b x } ≡ Bind room) → BindIs s c seen h e lag k w w b b o
+  as_left {x = x} e₁ e₂ off is-exact is = subst (BindIs s c seen h e lag k w w b b) (sym (e₁ ∙ ap (leaving c seen) e₂)) (record {
     is = λ version room holds. is room;
     lands = λ room area. leaving_lands c seen x (get_or w 0 0) room;
     rules = r;
@@ -225,7 +225,7 @@ module _ (s : Settings) (c : Replica) (seen : Lookup) (h e lag : ℕ) (k : Key) 
 
   pub stale : {o : Outcome} {a : Answer} → e < c.epoch.0 → o ≡ leaving c seen a → a ≡ is_nack h 1 → BindIs s c seen h e lag k w w b b o
   stale less e₁ e₂ =
-      as-left e₁ e₂ refl (exact_nack b h stale_epoch) (λ room. sym (tests room ∙ ap (λ (t : Bool). Tests t (ltb s.max_lag lag) (is_stored k places || ltb (length places) s.shape.places) (room_for seen)) (lt-ltb e c.epoch.0 less)))
+      as_left e₁ e₂ refl (exact_nack b h stale_epoch) (λ room. sym (tests room ∙ ap (λ (t : Bool). Tests t (ltb s.max_lag lag) (is_stored k places || ltb (length places) s.shape.places) (room_for seen)) (lt-ltb e c.epoch.0 less)))
 
   -- of an epoch that is not lower
   module _ (high : c.epoch.0 ≤ e) where
@@ -234,7 +234,7 @@ module _ (s : Settings) (c : Replica) (seen : Lookup) (h e lag : ℕ) (k : Key) 
 
     pub lagging : {o : Outcome} {a : Answer} → s.max_lag < lag → o ≡ leaving c seen a → a ≡ is_nack h 3 → BindIs s c seen h e lag k w w b b o
     lagging great e₁ e₂ =
-        as-left e₁ e₂ refl (exact_nack b h lag_too_great) (λ room. sym (first room ∙ ap (λ (t : Bool). Tests false t (is_stored k places || ltb (length places) s.shape.places) (room_for seen)) (lt-ltb s.max_lag lag great)))
+        as_left e₁ e₂ refl (exact_nack b h lag_too_great) (λ room. sym (first room ∙ ap (λ (t : Bool). Tests false t (is_stored k places || ltb (length places) s.shape.places) (room_for seen)) (lt-ltb s.max_lag lag great)))
 
     -- and of a lag that is not too great, with what was found of the places
     module _ (small : lag ≤ s.max_lag) {place : ℕ} {has : Bool} (at : place ≡ place_of k places) (found : has ≡ (ltb place (get_or w 0 0) || ltb (get_or w 0 0) s.shape.places)) where
@@ -249,15 +249,15 @@ module _ (s : Settings) (c : Replica) (seen : Lookup) (h e lag : ℕ) (k : Key) 
           ∙ (λ j. Tests false (le-ltb s.max_lag lag small j) (sym same j) (room_for seen))
 
       pub all_places : {o : Outcome} {a : Answer} → not has ≡ true → o ≡ leaving c seen a → a ≡ is_refused 20 → BindIs s c seen h e lag k w w b b o
-      all_places full e₁ e₂ = as-left e₁ e₂ refl (exact_refused b 20) (λ room. sym (second room ∙ ap (λ (t : Bool). Tests false false t (room_for seen)) (not-true has full)))
+      all_places full e₁ e₂ = as_left e₁ e₂ refl (exact_refused b 20) (λ room. sym (second room ∙ ap (λ (t : Bool). Tests false false t (room_for seen)) (not-true has full)))
 
       -- and with a session place
       module _ (some-place : not has ≡ false) {free : Bool} (fits : free ≡ room_for seen) where
         third : (room : ℕ) → Bind room ≡ Tests false false true free
         third room = second room ∙ (λ j. Tests false false (not-false has some-place j) (sym fits j))
 
-        pub all-handles : {o : Outcome} {a : Answer} → not free ≡ true → o ≡ leaving c seen a → a ≡ is_refused 21 → BindIs s c seen h e lag k w w b b o
-        all-handles full e₁ e₂ = as-left e₁ e₂ refl (exact_refused b 21) (λ room. sym (third room ∙ ap (Tests false false true) (not-true free full)))
+        pub all_handles : {o : Outcome} {a : Answer} → not free ≡ true → o ≡ leaving c seen a → a ≡ is_refused 21 → BindIs s c seen h e lag k w w b b o
+        all_handles full e₁ e₂ = as_left e₁ e₂ refl (exact_refused b 21) (λ room. sym (third room ∙ ap (Tests false false true) (not-true free full)))
 
         pub binds : {w' b' : List ℕ} {o : Outcome} {a : Answer} {m : BoundSummary} {g : Bound} → not free ≡ false → BindOpens s.shape k w w' b b'
             → ExactSummary b' m → brief_of b' m ≡ summary (place_at s.shape w' b' place).stored.session lag → a ≡ is_bound h m → g ≡ new_handle h place → o ≡ storing c seen a h g → BindIs s c seen h e lag k w w' b b' o

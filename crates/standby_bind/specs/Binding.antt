@@ -10,7 +10,7 @@ use Rattle.standby_pending.specs.Pending.{pending_of}
 use Rattle.standby_commit.specs.Settling.{bind_change, StoreAfter}
 use Rattle.model_standby.specs.Answer.{accepted}
 use Rattle.model_standby.specs.Store.{place_of, is_stored, session_at, or_new, opened}
-use Rattle.model_standby.specs.Core.{coreBind}
+use Rattle.model_standby.specs.Core.{core_bind}
 use Rattle.store_place.specs.PlaceByte
 use Rattle.standby_part.specs.State.{core_at}
 use Rattle.standby_counters.specs.declared.Replica.{Replica}
@@ -46,7 +46,7 @@ pub record BindOpens (s : Shape) (k : Key) (w w' b b' : List ℕ) : Type 0 where
 
 -- equal to the definition, whatever the hold areas
 pub record BindIs (s : Settings) (c : Replica) (seen : Lookup) (h e lag : ℕ) (k : Key) (w w' b b' : List ℕ) (r : Outcome) : Type 0 where
-  pub is : (version room : ℕ) (holds : List ℕ) → outcome_of version room s.shape w' b' holds r ≡ coreBind (settings_of s room) (core_at (counters_of c) s.shape w b) (room_for seen) h e lag k
+  pub is : (version room : ℕ) (holds : List ℕ) → outcome_of version room s.shape w' b' holds r ≡ core_bind (settings_of s room) (core_at (counters_of c) s.shape w b) (room_for seen) h e lag k
   pub lands : (room : ℕ) (area : List ℕ) → Lands seen (get_or w' StoreWord.used 0) room area r
   pub rules : Rules s.shape w' b'
   pub more : get_or w StoreWord.used 0 ≤ get_or w' StoreWord.used 0

@@ -31,53 +31,53 @@ module _ (c : Call) (f : List ℕ) where
   by_kind : (k : ℕ) → c.kind ≡ k → call_of c f ≡ call_by k c.connection f
   by_kind k e = ap (λ (x : ℕ). call_by x c.connection f) e
 
-  past-frames : (c.kind ≡ 0 → ⊥) → (c.kind ≡ 1 → ⊥)
+  past_frames : (c.kind ≡ 0 → ⊥) → (c.kind ≡ 1 → ⊥)
       → call_of c f ≡ cond (eqb c.kind 2) (flush c.connection) (cond (eqb c.kind 3) (disconnected_from c.connection) (cond (eqb c.kind 4) promote promote_unchecked))
-  past-frames n₀ n₁ =
+  past_frames n₀ n₁ =
       (λ i. cond (ne_eqb c.kind 0 n₀ i) (on_frame_held f)
       (cond (ne_eqb c.kind 1 n₁ i) (on_frame f) (cond (eqb c.kind 2) (flush c.connection) (cond (eqb c.kind 3) (disconnected_from c.connection) (cond (eqb c.kind 4) promote promote_unchecked)))))
 
   past_all : (c.kind ≡ 0 → ⊥) → (c.kind ≡ 1 → ⊥) → (c.kind ≡ 2 → ⊥) → (c.kind ≡ 3 → ⊥) → (c.kind ≡ 4 → ⊥) → call_of c f ≡ promote_unchecked
   past_all n₀ n₁ n₂ n₃ n₄ =
-      past-frames n₀ n₁
+      past_frames n₀ n₁
       ∙ (λ i. cond (ne_eqb c.kind 2 n₂ i) (flush c.connection) (cond (ne_eqb c.kind 3 n₃ i) (disconnected_from c.connection) (cond (ne_eqb c.kind 4 n₄ i) promote promote_unchecked)))
 
   -- ---- the handle that is looked up
 
-  pub sought-held : {n : ℕ} → c.kind ≡ 0 → n ≡ handle_at f → n ≡ sought_by (call_of c f)
-  sought-held e h = h ∙ sym (ap sought_by (by_kind 0 e))
+  pub sought_held : {n : ℕ} → c.kind ≡ 0 → n ≡ handle_at f → n ≡ sought_by (call_of c f)
+  sought_held e h = h ∙ sym (ap sought_by (by_kind 0 e))
 
-  pub sought-frame : {n : ℕ} → c.kind ≡ 1 → n ≡ handle_at f → n ≡ sought_by (call_of c f)
-  sought-frame e h = h ∙ sym (ap sought_by (by_kind 1 e))
+  pub sought_frame : {n : ℕ} → c.kind ≡ 1 → n ≡ handle_at f → n ≡ sought_by (call_of c f)
+  sought_frame e h = h ∙ sym (ap sought_by (by_kind 1 e))
 
-  none-sought : (a b d : Bool) (n : ℕ) → sought_by (cond a (flush n) (cond b (disconnected_from n) (cond d promote promote_unchecked))) ≡ 0
-  none-sought true b d n = refl
-  none-sought false true d n = refl
-  none-sought false false true n = refl
-  none-sought false false false n = refl
+  none_sought : (a b d : Bool) (n : ℕ) → sought_by (cond a (flush n) (cond b (disconnected_from n) (cond d promote promote_unchecked))) ≡ 0
+  none_sought true b d n = refl
+  none_sought false true d n = refl
+  none_sought false false true n = refl
+  none_sought false false false n = refl
 
-  pub sought-none : (c.kind ≡ 0 → ⊥) → (c.kind ≡ 1 → ⊥) → 0 ≡ sought_by (call_of c f)
-  sought-none n₀ n₁ = sym (ap sought_by (past-frames n₀ n₁) ∙ none-sought (eqb c.kind 2) (eqb c.kind 3) (eqb c.kind 4) c.connection)
+  pub sought_none : (c.kind ≡ 0 → ⊥) → (c.kind ≡ 1 → ⊥) → 0 ≡ sought_by (call_of c f)
+  sought_none n₀ n₁ = sym (ap sought_by (past_frames n₀ n₁) ∙ none_sought (eqb c.kind 2) (eqb c.kind 3) (eqb c.kind 4) c.connection)
 
   -- ---- which call it is
 
   pub is_held : c.kind ≡ 0 → call_of c f ≡ on_frame_held f
   is_held e = by_kind 0 e
 
-  pub is-frame : c.kind ≡ 1 → call_of c f ≡ on_frame f
-  is-frame e = by_kind 1 e
+  pub is_frame_lem : c.kind ≡ 1 → call_of c f ≡ on_frame f
+  is_frame_lem e = by_kind 1 e
 
-  pub is-flush : c.kind ≡ 2 → call_of c f ≡ flush c.connection
-  is-flush e = by_kind 2 e
+  pub is_flush : c.kind ≡ 2 → call_of c f ≡ flush c.connection
+  is_flush e = by_kind 2 e
 
-  pub is-drop : c.kind ≡ 3 → call_of c f ≡ disconnected_from c.connection
-  is-drop e = by_kind 3 e
+  pub is_drop : c.kind ≡ 3 → call_of c f ≡ disconnected_from c.connection
+  is_drop e = by_kind 3 e
 
-  pub is-promote : c.kind ≡ 4 → call_of c f ≡ promote
-  is-promote e = by_kind 4 e
+  pub is_promote : c.kind ≡ 4 → call_of c f ≡ promote
+  is_promote e = by_kind 4 e
 
-  pub is-unchecked : (c.kind ≡ 0 → ⊥) → (c.kind ≡ 1 → ⊥) → (c.kind ≡ 2 → ⊥) → (c.kind ≡ 3 → ⊥) → (c.kind ≡ 4 → ⊥) → call_of c f ≡ promote_unchecked
-  is-unchecked n₀ n₁ n₂ n₃ n₄ = past_all n₀ n₁ n₂ n₃ n₄
+  pub is_unchecked : (c.kind ≡ 0 → ⊥) → (c.kind ≡ 1 → ⊥) → (c.kind ≡ 2 → ⊥) → (c.kind ≡ 3 → ⊥) → (c.kind ≡ 4 → ⊥) → call_of c f ≡ promote_unchecked
+  is_unchecked n₀ n₁ n₂ n₃ n₄ = past_all n₀ n₁ n₂ n₃ n₄
 
 -- the step of the call that it is
 pub steps_by : {s : Settings} {k : Replica} {l : Lookup} {x y : state.Call} {w w' b b' h h' : List ℕ} {r : Outcome} → y ≡ x → StepIs s k l x w w' b b' h h' r → StepIs s k l y w w' b b' h h' r

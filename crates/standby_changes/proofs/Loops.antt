@@ -12,15 +12,15 @@ use Rattle.model_frame.specs.Parse.{Res, ok, bad, read_bytes, read_num, read_blo
 use Rattle.model_frame.specs.Reading.{record_msg_fields, read_change}
 use Rattle.model_frame.specs.Sizes.{sizes}
 use Rattle.model_frame.proofs.Le.{are_bytes, bytes_drop}
-use Rattle.model_frame.proofs.Runs.{change-shorter}
-use Rattle.model_frame.proofs.SoundChange.{change-sound}
+use Rattle.model_frame.proofs.Runs.{change_shorter}
+use Rattle.model_frame.proofs.SoundChange.{change_sound}
 use Rattle.model_session.specs.Session.{fits, message_length, message_bytes}
-use Rattle.base_laws.proofs.Runs.{collect-none, collect-more, collect-bad}
+use Rattle.base_laws.proofs.Runs.{collect_none, collect_more, collect_bad}
 use Rattle.frame_op.specs.Answers.{held_run}
 use Rattle.standby_changes.specs.Held.{fits_from}
 use Rattle.standby_changes.specs.declared.Outgoing
 use Rattle.standby_changes.specs.declared.Outgoing.{Outgoing}
-use Rattle.standby_changes.proofs.Held.{held_none, held-bad, held_more, held-messages}
+use Rattle.standby_changes.proofs.Held.{held_none, held_bad, held_more, held_messages}
 
 -- whether something was read, and what is left then
 abbrev reads : {A : Type 0} → Res A → Bool
@@ -42,14 +42,14 @@ module _ (version : ℕ) where
   pub summing : (run : List ℕ) → ((i : ℕ) → get_or run i 0 < 256) → Summing run 0 run
   summing run known =
       let h = are_bytes run known in
-      record { octets = h; total = omega arith; small = held-messages version run h }
+      record { octets = h; total = omega arith; small = held_messages version run h }
 
   module _ {run rest t : List ℕ} {sum n : ℕ} {c : Change} (w : Summing run sum rest) (e : read_change version rest ≡ ok c t) (size : n ≡ message_length c) where
     one : message_bytes (held_run version rest) ≡ message_length c + message_bytes (held_run version t)
     one = ap message_bytes (held_more version rest w.octets e)
 
     pub summed : Summing run (sum + n) t
-    summed = record { octets = (change-sound version rest w.octets e).2; total = omega (arith, w.total, one); small = w.small }
+    summed = record { octets = (change_sound version rest w.octets e).2; total = omega (arith, w.total, one); small = w.small }
 
     pub sum_fits : sum + n ≤ length run
     sum_fits = omega (arith, w.total, w.small, one)
@@ -59,7 +59,7 @@ module _ (version : ℕ) where
   summed_all w e = omega (arith, w.total, ap message_bytes e)
 
   pub sum_bad : {run rest : List ℕ} {sum : ℕ} {f : Fault} → Summing run sum rest → read_change version rest ≡ bad f → sum ≡ message_bytes (held_run version run)
-  sum_bad {rest = rest} w e = summed_all w (held-bad version rest e)
+  sum_bad {rest = rest} w e = summed_all w (held_bad version rest e)
 
   pub sum_none : {run rest : List ℕ} {sum : ℕ} → Summing run sum rest → rest ≡ [] → sum ≡ message_bytes (held_run version run)
   sum_none w e = summed_all w (ap (held_run version) e ∙ held_none version [] (omega arith))
@@ -79,7 +79,7 @@ module _ (version : ℕ) where
     turn = w.same ∙ ap (fits next) (held_more version rest w.octets e) ∙ sym (follows (held_run version t))
 
     pub fit_next : {n : ℕ} → o ≡ Outgoing.Next n → Fitting run first n t
-    fit_next is = record { octets = (change-sound version rest w.octets e).2; same = turn ∙ ap (λ (o : Outgoing). fits_from o (held_run version t)) is }
+    fit_next is = record { octets = (change_sound version rest w.octets e).2; same = turn ∙ ap (λ (o : Outgoing). fits_from o (held_run version t)) is }
 
     pub fit_off : o ≡ Outgoing.Diverges → false ≡ fits first (held_run version run)
     fit_off is = sym (turn ∙ ap (λ (o : Outgoing). fits_from o (held_run version t)) is)
@@ -88,7 +88,7 @@ module _ (version : ℕ) where
   fits_all {next = next} w e = sym (w.same ∙ ap (fits next) e)
 
   pub fit_bad : {run rest : List ℕ} {first next : ℕ} {f : Fault} → Fitting run first next rest → read_change version rest ≡ bad f → true ≡ fits first (held_run version run)
-  fit_bad {rest = rest} w e = fits_all w (held-bad version rest e)
+  fit_bad {rest = rest} w e = fits_all w (held_bad version rest e)
 
   pub fit_none : {run rest : List ℕ} {first next : ℕ} → Fitting run first next rest → rest ≡ [] → true ≡ fits first (held_run version run)
   fit_none w e = fits_all w (ap (held_run version) e ∙ held_none version [] (omega arith))
@@ -108,10 +108,10 @@ module _ (version : ℕ) where
   module _ {b : List ℕ} {at n₀ d n : ℕ} (w : Ending b at n₀ d n) where
     end_next : {to : ℕ} {c : Change} → 0 < n → read_change version (drop d b) ≡ ok c (drop to b) → Ending b at n₀ to (n - 1)
     end_next {to} {c} some e = record {
-      octets = (change-sound version (drop d b) w.octets e).2;
+      octets = (change_sound version (drop d b) w.octets e).2;
       same =
           omega
-          (arith, w.same, ap sizes (collect-more (read_change version) n some e), (change-shorter version (drop d b) w.octets e).0, length-drop d b, length-drop to b);
+          (arith, w.same, ap sizes (collect_more (read_change version) n some e), (change_shorter version (drop d b) w.octets e).0, length-drop d b, length-drop to b);
     }
 
     pub end_past : {to : ℕ} → 0 < n → forget (read_change version (drop d b)) ≡ ok tt (drop to b) → Ending b at n₀ to (n - 1)
@@ -126,10 +126,10 @@ module _ (version : ℕ) where
       where
         go : (r : Res Change) → read_change version (drop d b) ≡ r → forget r ≡ bad f → length b - at ≡ left b at n₀ + (length b - d)
         go (ok c s) p q = absurd (true≢false (ap reads q))
-        go (bad g) p q = omega (arith, w.same, ap sizes (collect-bad (read_change version) n p))
+        go (bad g) p q = omega (arith, w.same, ap sizes (collect_bad (read_change version) n p))
 
     pub end_none : n ≤ 0 → length b - at ≡ left b at n₀ + (length b - d)
-    end_none none = omega (arith, w.same, ap sizes (collect-none (read_change version) n (drop d b) none))
+    end_none none = omega (arith, w.same, ap sizes (collect_none (read_change version) n (drop d b) none))
 
 -- a Record with a message of len bytes is read: its tag, its number, its message's length and as many bytes
 pub record_there : (version : ℕ) (s : List ℕ) {s₁ s₂ s₃ s₄ w : List ℕ} {k q n len : ℕ} → read_num 1 s ≡ ok k s₁ → k ≡ 4 → read_num 8 s₁ ≡ ok q s₂ → read_num 4 s₂ ≡ ok n s₃ → n ≡ len → read_bytes len s₃ ≡ ok w s₄

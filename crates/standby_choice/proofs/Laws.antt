@@ -8,12 +8,12 @@ use lib.Dec.{eqb}
 use borrow.Author.Tests.{eq-eqb, ne_eqb, not-true, not-false}
 use Rattle.base_flags.specs.Flag.{is_set}
 use Rattle.store_areas.specs.Areas.{allowed}
-use Rattle.store_areas.proofs.Ruling.{rules-of}
+use Rattle.store_areas.proofs.Ruling.{rules_of}
 use Rattle.model_choice.specs.Choice as the-model
 use Rattle.model_choice.specs.Choice.{is_candidate, is_ahead_of_all, highest, fits_rule, chosen}
 use Rattle.standby_choice.specs.declared.Copy.{Copy}
 use Rattle.standby_choice.specs.declared.Copies.{Copies}
-use Rattle.standby_choice.specs.Choice.{is_sound, RulesIf, raised_by, highest_of, copiesOf, areSound, Kept, Chooses}
+use Rattle.standby_choice.specs.Choice.{is_sound, RulesIf, raised_by, highest_of, copies_of, are_sound, Kept, Chooses}
 
 -- ---- the highest epoch
 
@@ -88,7 +88,7 @@ pub listed_sound : (c : Copy) (w b : List ℕ) {r : Bool} → (c.listed ≡ 0 �
 listed_sound c w b h e = e ∙ sym (ap (λ (x : Bool). not (not x) || allowed c.shape w b) (ne_eqb c.listed 0 h))
 
 rules_if : (c : Copy) (w b : List ℕ) → is_sound c w b ≡ true → RulesIf c w b
-rules_if c w b h t = rules-of c.shape w b (sym (ap (λ (x : Bool). not x || allowed c.shape w b) t) ∙ h)
+rules_if c w b h t = rules_of c.shape w b (sym (ap (λ (x : Bool). not x || allowed c.shape w b) t) ∙ h)
 
 first_true : (a b : Bool) → (a && b) ≡ true → a ≡ true
 first_true true b h = refl
@@ -114,7 +114,7 @@ module _ (cs : Copies) (w0 b0 w1 b1 w2 b2 w3 b3 w4 b4 : List ℕ) where
   abbrev s4 : Bool
   s4 = is_sound cs.4 w4 b4
 
-  pub kept : {r : Bool} → r ≡ areSound cs w0 b0 w1 b1 w2 b2 w3 b3 w4 b4 → not r ≡ false → Kept cs w0 b0 w1 b1 w2 b2 w3 b3 w4 b4
+  pub kept : {r : Bool} → r ≡ are_sound cs w0 b0 w1 b1 w2 b2 w3 b3 w4 b4 → not r ≡ false → Kept cs w0 b0 w1 b1 w2 b2 w3 b3 w4 b4
   kept e n =
       let h = sym e ∙ not-false _ n in
       let h1 = rest_true s0 (s1 && (s2 && (s3 && (s4 && true)))) h in
@@ -130,10 +130,10 @@ module _ (cs : Copies) (w0 b0 w1 b1 w2 b2 w3 b3 w4 b4 : List ℕ) where
       }
 
   abbrev all : List the-model.StandbyCopy
-  all = copiesOf cs w0 b0 w1 b1 w2 b2 w3 b3 w4 b4
+  all = copies_of cs w0 b0 w1 b1 w2 b2 w3 b3 w4 b4
 
   abbrev sound : Bool
-  sound = areSound cs w0 b0 w1 b1 w2 b2 w3 b3 w4 b4
+  sound = are_sound cs w0 b0 w1 b1 w2 b2 w3 b3 w4 b4
 
   pub broken : {r : Bool} → r ≡ sound → not r ≡ true → Chooses cs w0 b0 w1 b1 w2 b2 w3 b3 w4 b4 (record { refusal = 25; copy = 0 })
   broken e n =
@@ -171,24 +171,24 @@ module _ (k0 k1 k2 k3 k4 : the-model.StandbyCopy) (t : ℕ) (top : t ≡ highest
   unfolding chosen
   picks f0 f1 f2 f3 f4 a b c d e = sym (λ j. pick_of (a j) (b j) (c j) (d j) (e j))
 
-  pub takes-0 : {q0 : Bool} → q0 ≡ fit k0 → q0 ≡ true → 0 ≡ chosen ks
-  takes-0 a x = picks true _ _ _ _ (it k0 a x) refl refl refl refl
+  pub takes_0 : {q0 : Bool} → q0 ≡ fit k0 → q0 ≡ true → 0 ≡ chosen ks
+  takes_0 a x = picks true _ _ _ _ (it k0 a x) refl refl refl refl
 
   module _ {q0 : Bool} (a : q0 ≡ fit k0) (x : q0 ≡ false) where
-    pub takes-1 : {q1 : Bool} → q1 ≡ fit k1 → q1 ≡ true → 1 ≡ chosen ks
-    takes-1 b y = picks false true _ _ _ (it k0 a x) (it k1 b y) refl refl refl
+    pub takes_1 : {q1 : Bool} → q1 ≡ fit k1 → q1 ≡ true → 1 ≡ chosen ks
+    takes_1 b y = picks false true _ _ _ (it k0 a x) (it k1 b y) refl refl refl
 
     module _ {q1 : Bool} (b : q1 ≡ fit k1) (y : q1 ≡ false) where
-      pub takes-2 : {q2 : Bool} → q2 ≡ fit k2 → q2 ≡ true → 2 ≡ chosen ks
-      takes-2 c z = picks false false true _ _ (it k0 a x) (it k1 b y) (it k2 c z) refl refl
+      pub takes_2 : {q2 : Bool} → q2 ≡ fit k2 → q2 ≡ true → 2 ≡ chosen ks
+      takes_2 c z = picks false false true _ _ (it k0 a x) (it k1 b y) (it k2 c z) refl refl
 
       module _ {q2 : Bool} (c : q2 ≡ fit k2) (z : q2 ≡ false) where
-        pub takes-3 : {q3 : Bool} → q3 ≡ fit k3 → q3 ≡ true → 3 ≡ chosen ks
-        takes-3 d u = picks false false false true _ (it k0 a x) (it k1 b y) (it k2 c z) (it k3 d u) refl
+        pub takes_3 : {q3 : Bool} → q3 ≡ fit k3 → q3 ≡ true → 3 ≡ chosen ks
+        takes_3 d u = picks false false false true _ (it k0 a x) (it k1 b y) (it k2 c z) (it k3 d u) refl
 
         module _ {q3 : Bool} (d : q3 ≡ fit k3) (u : q3 ≡ false) where
-          pub takes-4 : {q4 : Bool} → q4 ≡ fit k4 → q4 ≡ true → 4 ≡ chosen ks
-          takes-4 e v = picks false false false false true (it k0 a x) (it k1 b y) (it k2 c z) (it k3 d u) (it k4 e v)
+          pub takes_4 : {q4 : Bool} → q4 ≡ fit k4 → q4 ≡ true → 4 ≡ chosen ks
+          takes_4 e v = picks false false false false true (it k0 a x) (it k1 b y) (it k2 c z) (it k3 d u) (it k4 e v)
 
           pub takes_none : {q4 : Bool} → q4 ≡ fit k4 → q4 ≡ false → 5 ≡ chosen ks
           takes_none e v = picks false false false false false (it k0 a x) (it k1 b y) (it k2 c z) (it k3 d u) (it k4 e v)

@@ -31,11 +31,11 @@ highest_of cs = raised_by cs.0 (raised_by cs.1 (raised_by cs.2 (raised_by cs.3 (
 -- ---- five copies, and the words and bytes of each
 
 module _ (cs : Copies) (w0 b0 w1 b1 w2 b2 w3 b3 w4 b4 : List ℕ) where
-  abbrev pub copiesOf : List the-model.StandbyCopy
-  copiesOf = copy_of cs.0 w0 b0 ∷ copy_of cs.1 w1 b1 ∷ copy_of cs.2 w2 b2 ∷ copy_of cs.3 w3 b3 ∷ copy_of cs.4 w4 b4 ∷ []
+  abbrev pub copies_of : List the-model.StandbyCopy
+  copies_of = copy_of cs.0 w0 b0 ∷ copy_of cs.1 w1 b1 ∷ copy_of cs.2 w2 b2 ∷ copy_of cs.3 w3 b3 ∷ copy_of cs.4 w4 b4 ∷ []
 
-  abbrev pub areSound : Bool
-  areSound = is_sound cs.0 w0 b0 && (is_sound cs.1 w1 b1 && (is_sound cs.2 w2 b2 && (is_sound cs.3 w3 b3 && (is_sound cs.4 w4 b4 && true))))
+  abbrev pub are_sound : Bool
+  are_sound = is_sound cs.0 w0 b0 && (is_sound cs.1 w1 b1 && (is_sound cs.2 w2 b2 && (is_sound cs.3 w3 b3 && (is_sound cs.4 w4 b4 && true))))
 
   -- the same as facts
   pub record Kept : Type 0 where
@@ -47,5 +47,5 @@ module _ (cs : Copies) (w0 b0 w1 b1 w2 b2 w3 b3 w4 b4 : List ℕ) where
 
   -- 25 if a listed copy's store breaks its rules; 39 where none fits; else the copy that is taken
   pub record Chooses (r : Choice) : Type 0 where
-    pub refusal : r.refusal ≡ cond areSound (cond (eqb (chosen copiesOf) 5) 39 0) 25
-    pub copy : r.copy ≡ cond areSound (cond (eqb (chosen copiesOf) 5) 0 (chosen copiesOf)) 0
+    pub refusal : r.refusal ≡ cond are_sound (cond (eqb (chosen copies_of) 5) 39 0) 25
+    pub copy : r.copy ≡ cond are_sound (cond (eqb (chosen copies_of) 5) 0 (chosen copies_of)) 0

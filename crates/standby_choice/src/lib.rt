@@ -5,7 +5,7 @@ ghost use Rattle.std.specs.Prelude.{◌≡◌, cond, not, ◌||◌, ◌&&◌, �
 ghost use Rattle.store_areas.specs.Areas.{Rules, places_of};
 ghost use Rattle.model_choice.specs.Choice.{is_candidate, is_ahead, is_ahead_of_all, chosen};
 ghost use Rattle.base_flags.specs.Flag.{is_set};
-ghost use Rattle.standby_choice.specs.Choice.{copy_of, is_sound, RulesIf, raised_by, highest_of, copiesOf, areSound, Kept, Chooses};
+ghost use Rattle.standby_choice.specs.Choice.{copy_of, is_sound, RulesIf, raised_by, highest_of, copies_of, are_sound, Kept, Chooses};
 
 use frame_fields::Epoch;
 use store_areas::Shape;
@@ -119,7 +119,7 @@ fn is_fit(
 ) -> bool
     requires rules_if { RulesIf c words.now bytes.now }
     requires kept { Kept cs w0.now b0.now w1.now b1.now w2.now b2.now w3.now b3.now w4.now b4.now }
-    ensures { result ≡ (is_candidate top (copy_of c words.now bytes.now) && is_ahead_of_all top (places_of c.shape words.now bytes.now) (copiesOf cs w0.now b0.now w1.now b1.now w2.now b2.now w3.now b3.now w4.now b4.now)) }
+    ensures { result ≡ (is_candidate top (copy_of c words.now bytes.now) && is_ahead_of_all top (places_of c.shape words.now bytes.now) (copies_of cs w0.now b0.now w1.now b1.now w2.now b2.now w3.now b3.now w4.now b4.now)) }
 {
     if !is_candidate(c, top) {
         return false;
@@ -149,7 +149,7 @@ fn first_that_fits(
     b4: &[u8],
 ) -> usize
     requires { Kept cs w0.now b0.now w1.now b1.now w2.now b2.now w3.now b3.now w4.now b4.now }
-    ensures { result ≡ chosen (copiesOf cs w0.now b0.now w1.now b1.now w2.now b2.now w3.now b3.now w4.now b4.now) }
+    ensures { result ≡ chosen (copies_of cs w0.now b0.now w1.now b1.now w2.now b2.now w3.now b3.now w4.now b4.now) }
 {
     let t = highest(cs);
     if is_fit(cs, cs.0, w0, b0, t, w0, b0, w1, b1, w2, b2, w3, b3, w4, b4) {
@@ -194,7 +194,7 @@ fn are_sound(
     w4: &[u64],
     b4: &[u8],
 ) -> bool
-    ensures { result ≡ areSound cs w0.now b0.now w1.now b1.now w2.now b2.now w3.now b3.now w4.now b4.now }
+    ensures { result ≡ are_sound cs w0.now b0.now w1.now b1.now w2.now b2.now w3.now b3.now w4.now b4.now }
 {
     is_sound(cs.0, w0, b0)
         & is_sound(cs.1, w1, b1)

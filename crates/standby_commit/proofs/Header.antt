@@ -37,9 +37,9 @@ module _ (s : Shape) (w b : List ℕ) (j v : ℕ) (low : 1 ≤ j) (high : j < 66
       no : 0 ≡ j → ⊥
       no e = omega (arith, e)
 
-  pub places-kept : places_of s (set w j v) b ≡ places_of s w b
+  pub places_kept : places_of s (set w j v) b ≡ places_of s w b
   unfolding places_of
-  places-kept =
+  places_kept =
       ap (λ (n : ℕ). count_up (place_at s (set w j v) b) 0 n) count_kept
       ∙ count_same (place_at s w b) (place_at s (set w j v) b) 0 (get_or w 0 0) (λ i _ _. place_kept i)
 

@@ -15,7 +15,7 @@ use Rattle.store_areas.specs.Areas.{place_words, words_at, Rules, Changed, place
 use Rattle.store_areas.proofs.Lifting.{rules_kept}
 use Rattle.standby_pending.specs.Pending.{count_of, pending_of}
 use Rattle.standby_commit.specs.Settling.{StoreChange, stays, commits, batch_change, pended_words, StoreAfter, Settles}
-use Rattle.standby_commit.proofs.Header.{only_both, count_kept, places-kept, pending_kept}
+use Rattle.standby_commit.proofs.Header.{only_both, count_kept, places_kept, pending_kept}
 
 -- a Batch that isn't accepted leaves the store as it was
 pub none_changed : (s : Shape) (h i : ℕ) (part : Part) (w b : List ℕ) {taken : Bool} → taken ≡ false → StoreAfter s (batch_change h i part taken) w w b b
@@ -36,13 +36,13 @@ module _ (s : Shape) (i h : ℕ) (cs : List Change) (w b : List ℕ) (r : Rules 
     store_after = (refl, refl);
   }
 
-  pub fits-there : {yes : Bool} → yes ≡ fits n cs → yes ≡ true → fits (place_at s w b i).stored.session.next_out cs ≡ true
-  fits-there f y = ap (λ (k : ℕ). fits k cs) (sym is) ∙ sym f ∙ y
+  pub fits_there : {yes : Bool} → yes ≡ fits n cs → yes ≡ true → fits (place_at s w b i).stored.session.next_out cs ≡ true
+  fits_there f y = ap (λ (k : ℕ). fits k cs) (sym is) ∙ sym f ∙ y
 
   module _ {w' b' : List ℕ} (c : Changed s i (changed s.bytes s.messages cs) w w' b b') where
     -- the first 66 words are as they were
-    head-kept : take 66 w' ≡ take 66 w
-    head-kept =
+    head_kept : take 66 w' ≡ take 66 w
+    head_kept =
         let low : 66 ≤ words_at s i = omega arith in
         sym (take-take 66 (words_at s i) w' low) ∙ ap (take 66) c.words.front ∙ take-take 66 (words_at s i) w low
 
@@ -52,10 +52,10 @@ module _ (s : Shape) (i h : ℕ) (cs : List Change) (w b : List ℕ) (r : Rules 
     pub count_same : count_of w' ≡ count_of w
     count_same =
         let one : 1 < 66 = omega arith in
-        sym (get_or-take 66 w' 1 0 one) ∙ ap (λ (l : List ℕ). get_or l 1 0) head-kept ∙ get_or-take 66 w 1 0 one
+        sym (get_or-take 66 w' 1 0 one) ∙ ap (λ (l : List ℕ). get_or l 1 0) head_kept ∙ get_or-take 66 w 1 0 one
 
-    pub push-asks : i < get_or w 0 0 → count_of w < 64 → s.places < 4294967296 → (66 ≤ length w') × ((count_of w' < 64) × (i < 4294967296))
-    push-asks used few small = (omega (arith, c.words.same_length, long), (omega (arith, count_same), omega (arith, used, r.used)))
+    pub push_asks : i < get_or w 0 0 → count_of w < 64 → s.places < 4294967296 → (66 ≤ length w') × ((count_of w' < 64) × (i < 4294967296))
+    push_asks used few small = (omega (arith, c.words.same_length, long), (omega (arith, count_same), omega (arith, used, r.used)))
 
     pub settled : {yes : Bool} {w'' : List ℕ} → yes ≡ fits n cs → yes ≡ true → count_of w < 64 → pending_of w'' ≡ pending_of w' ++ ((h, i) ∷ [])
         → w'' ≡ pended_words h i w' → Settles s i h cs w w'' b b' true
@@ -66,7 +66,7 @@ module _ (s : Shape) (i h : ℕ) (cs : List Change) (w b : List ℕ) (r : Rules 
         let one : 1 < 66 = omega arith in
         let r' : Rules s w' b' = rules_kept s i (changed s.bytes s.messages cs) w w' b b' c r in
         let same : places_of s w'' b' ≡ places_of s w' b' =
-        ap (λ (l : List ℕ). places_of s l b') e ∙ places-kept s v b' 1 (count_of w' + 1) (omega arith) one ∙ places-kept s w' b' (2 + count_of w') x (omega arith) slot in
+        ap (λ (l : List ℕ). places_of s l b') e ∙ places_kept s v b' 1 (count_of w' + 1) (omega arith) one ∙ places_kept s w' b' (2 + count_of w') x (omega arith) slot in
         let before : 2 + count_of w < words_at s i = omega arith in
         let words : Only (words_at s i) (words_at s i + place_words s) (pended_words h i w) (set (set w' (2 + count_of w) x) 1 (count_of w + 1)) =
         only_both (words_at s i) (place_words s) 1 (count_of w + 1) (set w (2 + count_of w) x) (set w' (2 + count_of w) x) (omega arith) (only_both (words_at s i) (place_words s) (2 + count_of w) x w w' before c.words) in
@@ -78,7 +78,7 @@ module _ (s : Shape) (i h : ℕ) (cs : List Change) (w b : List ℕ) (r : Rules 
         record {
           is = sym y ∙ f ∙ ap (λ (k : ℕ). fits k cs) is;
           places = same ∙ c.places;
-          pending = pend ∙ ap (λ (l : List (ℕ × ℕ)). l ++ ((h, i) ∷ [])) (pending_kept w w' long r.pending head-kept);
+          pending = pend ∙ ap (λ (l : List (ℕ × ℕ)). l ++ ((h, i) ∷ [])) (pending_kept w w' long r.pending head_kept);
           rules = record {
             room = record { bytes_limit = r'.room.bytes_limit; messages_limit = r'.room.messages_limit; words_long = omega (arith, r'.room.words_long, size); bytes_long = r'.room.bytes_long };
             used = subst (λ (k : ℕ). k ≤ s.places) (sym first) r'.used;

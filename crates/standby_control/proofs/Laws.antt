@@ -34,7 +34,7 @@ use Rattle.model_standby.specs.Store.{Stored, Place, same_key, place_of, is_stor
 use Rattle.model_standby.proofs.Places.{length_on}
 use Rattle.model_standby.specs.State.{Bound}
 use Rattle.model_standby.specs.State as state
-use Rattle.model_standby.specs.Core.{Core, coreBind, coreIntact, core_run}
+use Rattle.model_standby.specs.Core.{Core, core_bind, core_intact, core_run}
 use Rattle.standby_part.specs.State.{core_at}
 use Rattle.standby_counters.specs.declared.Replica.{Replica}
 use Rattle.standby_state.specs.declared.Settings.{Settings}
@@ -44,7 +44,7 @@ use Rattle.standby_state.specs.Answers.{answer_of, is_refused}
 use Rattle.standby_state.specs.Outcomes.{counters_of, settings_of, action_of, leaving}
 use Rattle.standby_state.proofs.Exact.{exact_refused}
 use Rattle.standby_hello.specs.Greeting.{Replies}
-use Rattle.standby_hello.proofs.Laws.{as-left}
+use Rattle.standby_hello.proofs.Laws.{as_left}
 use Rattle.standby_bind.specs.Binding.{BindIs}
 use Rattle.standby_step.specs.Steps.{changes_by}
 use Rattle.standby_control.specs.Others.{Plain, Fit, cleared_if, OtherIs, OtherIn}
@@ -52,7 +52,7 @@ use Rattle.standby_control.specs.Others.{Plain, Fit, cleared_if, OtherIs, OtherI
 -- ---- frames
 
 -- neither Bind nor Batch: nothing is asked of the row
-plain_same : (L : state.Settings) (k : Core) (o : Option Bound) (free : Bool) (f : the_frame.Frame) → Plain f → coreIntact L k none false f ≡ coreIntact L k o free f
+plain_same : (L : state.Settings) (k : Core) (o : Option Bound) (free : Bool) (f : the_frame.Frame) → Plain f → core_intact L k none false f ≡ core_intact L k o free f
 plain_same L k o free (hello v e node kinds) p = refl
 plain_same L k o free (welcome e i) p = refl
 plain_same L k o free (bind h e lag j) p = absurd p
@@ -64,14 +64,14 @@ plain_same L k o free (checked h e i) p = refl
 
 -- the last way of `reply`: 19
 pub nineteen : (c : Replica) (s : Settings) (seen : Lookup) (b : List ℕ) (f : Frame) → OneOf (1 ∷ 2 ∷ 3 ∷ 4 ∷ 5 ∷ 6 ∷ []) (tag_of frame-type.the_type f) → Plain (frame_of 1 b f)
-    → {r : Outcome} {a : Answer} → r ≡ leaving c seen a → a ≡ is_refused 19 → Replies c s seen (λ L k. coreIntact L k none false (frame_of 1 b f)) r
+    → {r : Outcome} {a : Answer} → r ≡ leaving c seen a → a ≡ is_refused 19 → Replies c s seen (λ L k. core_intact L k none false (frame_of 1 b f)) r
 nineteen c s seen b (Frame.Hello v e node ks) h p e₁ e₂ = absurd (miss (1 ∷ 2 ∷ 3 ∷ 4 ∷ 5 ∷ 6 ∷ []) 0 tt h)
-nineteen c s seen b (Frame.Welcome e i) h p e₁ e₂ = as-left c s seen (λ L k. coreIntact L k none false (welcome e.0 i.0)) e₁ e₂ (λ y. exact_refused y 19) (λ room x ps pending. refl)
+nineteen c s seen b (Frame.Welcome e i) h p e₁ e₂ = as_left c s seen (λ L k. core_intact L k none false (welcome e.0 i.0)) e₁ e₂ (λ y. exact_refused y 19) (λ room x ps pending. refl)
 nineteen c s seen b (Frame.Bind x e lag k) h p e₁ e₂ = absurd p
-nineteen c s seen b (Frame.Bound x m) h p e₁ e₂ = as-left c s seen (λ L k. coreIntact L k none false (frame_of 1 b (Frame.Bound x m))) e₁ e₂ (λ y. exact_refused y 19) (λ room y ps pending. refl)
+nineteen c s seen b (Frame.Bound x m) h p e₁ e₂ = as_left c s seen (λ L k. core_intact L k none false (frame_of 1 b (Frame.Bound x m))) e₁ e₂ (λ y. exact_refused y 19) (λ room y ps pending. refl)
 nineteen c s seen b (Frame.Batch x) h p e₁ e₂ = absurd p
-nineteen c s seen b (Frame.Ack x n) h p e₁ e₂ = as-left c s seen (λ L k. coreIntact L k none false (ack x n.0)) e₁ e₂ (λ y. exact_refused y 19) (λ room y ps pending. refl)
-nineteen c s seen b (Frame.Nack x r) h p e₁ e₂ = as-left c s seen (λ L k. coreIntact L k none false (frame_of 1 b (Frame.Nack x r))) e₁ e₂ (λ y. exact_refused y 19) (λ room y ps pending. refl)
+nineteen c s seen b (Frame.Ack x n) h p e₁ e₂ = as_left c s seen (λ L k. core_intact L k none false (ack x n.0)) e₁ e₂ (λ y. exact_refused y 19) (λ room y ps pending. refl)
+nineteen c s seen b (Frame.Nack x r) h p e₁ e₂ = as_left c s seen (λ L k. core_intact L k none false (frame_of 1 b (Frame.Nack x r))) e₁ e₂ (λ y. exact_refused y 19) (λ room y ps pending. refl)
 nineteen c s seen b (Frame.Checked x e i) h p e₁ e₂ = absurd (miss (1 ∷ 2 ∷ 3 ∷ 4 ∷ 5 ∷ 6 ∷ []) 7 tt h)
 
 -- the last way of `answer`: no Bind
@@ -94,21 +94,21 @@ module _ (s : Shape) (w b : List ℕ) (r : Rules s w b) where
   long : 66 ≤ length w
   long = omega (arith, r.room.words_long)
 
-  cleared-places : (t : Bool) → places_of s (cleared_if t w) b ≡ places_of s w b
-  cleared-places true = heads_places s w (set w 1 0) b (clear_only w)
-  cleared-places false = refl
+  cleared_places : (t : Bool) → places_of s (cleared_if t w) b ≡ places_of s w b
+  cleared_places true = heads_places s w (set w 1 0) b (clear_only w)
+  cleared_places false = refl
 
-  cleared-pending : (t : Bool) → pending_of (cleared_if t w) ≡ cond t [] (pending_of w)
-  cleared-pending true = cleared w long
-  cleared-pending false = refl
+  cleared_pending : (t : Bool) → pending_of (cleared_if t w) ≡ cond t [] (pending_of w)
+  cleared_pending true = cleared w long
+  cleared_pending false = refl
 
-  cleared-rules : (t : Bool) → Rules s (cleared_if t w) b
-  cleared-rules true = clear_rules s w b r
-  cleared-rules false = r
+  cleared_rules : (t : Bool) → Rules s (cleared_if t w) b
+  cleared_rules true = clear_rules s w b r
+  cleared_rules false = r
 
-  cleared-used : (t : Bool) → get_or (cleared_if t w) 0 0 ≡ get_or w 0 0
-  cleared-used true = word_kept 1 66 0 w (set w 1 0) (clear_only w) (omega arith)
-  cleared-used false = refl
+  cleared_used : (t : Bool) → get_or (cleared_if t w) 0 0 ≡ get_or w 0 0
+  cleared_used true = word_kept 1 66 0 w (set w 1 0) (clear_only w) (omega arith)
+  cleared_used false = refl
 
 -- where none is pending they stay as they were
 cleared_same : (w : List ℕ) (t : Bool) → count_of w ≡ 0 → cleared_if t w ≡ w
@@ -128,25 +128,25 @@ plain_stays ps p (checked h e i) taken q = refl
 -- ---- the ways of `answer`
 
 module _ (s : Settings) (c : Replica) (seen : Lookup) (w b : List ℕ) (rules : Rules s.shape w b) where
-  pub replied : (f : the_frame.Frame) → Plain f → {r : Outcome} {w' : List ℕ} → Replies c s seen (λ L k. coreIntact L k none false f) r → w' ≡ cleared_if r.clears w → OtherIs s c seen f w w' b b r
+  pub replied : (f : the_frame.Frame) → Plain f → {r : Outcome} {w' : List ℕ} → Replies c s seen (λ L k. core_intact L k none false f) r → w' ≡ cleared_if r.clears w → OtherIs s c seen f w w' b b r
   replied f p {r} {w'} g e = subst (λ (x : List ℕ). OtherIs s c seen f w x b b r) (sym e) (record {
     is = λ version room holds o q.
-        (λ j. record { core = record { counters = counters_of r.replica; places = cleared-places s.shape w b rules r.clears j; pending = cleared-pending s.shape w b rules r.clears j }; action = action_of version room holds r; answer = answer_of b r.answer })
+        (λ j. record { core = record { counters = counters_of r.replica; places = cleared_places s.shape w b rules r.clears j; pending = cleared_pending s.shape w b rules r.clears j }; action = action_of version room holds r; answer = answer_of b r.answer })
         ∙ g.is version room holds b (places_of s.shape w b) (pending_of w)
         ∙ plain_same (settings_of s room) (core_at (counters_of c) s.shape w b) o (ltb seen.free seen.len) f p;
     lands = λ room area. g.lands (get_or (cleared_if r.clears w) 0 0) room area;
-    rules = cleared-rules s.shape w b rules r.clears;
-    more = le_of_eq (sym (cleared-used s.shape w b rules r.clears));
+    rules = cleared_rules s.shape w b rules r.clears;
+    more = le_of_eq (sym (cleared_used s.shape w b rules r.clears));
     store_after = λ e₀.
         subst (λ (x : StoreChange). StoreAfter s.shape x w (cleared_if r.clears w) b b) (sym (plain_stays (places_of s.shape w b) seen.bound.place f (accepted (answer_of b r.answer)) p))
         (cleared_same w r.clears e₀, refl);
     exact = g.exact b;
   })
 
-  pub bound-to : (h e lag : ℕ) (k : Key) {w' b' : List ℕ} {r : Outcome} → BindIs s c seen h e lag k w w' b b' r → OtherIs s c seen (bind h e lag k) w w' b b' r
-  bound-to h e lag k g = record {
+  pub bound_to : (h e lag : ℕ) (k : Key) {w' b' : List ℕ} {r : Outcome} → BindIs s c seen h e lag k w w' b b' r → OtherIs s c seen (bind h e lag k) w w' b b' r
+  bound_to h e lag k g = record {
     is = λ version room holds o q.
-        g.is version room holds ∙ ap (λ (t : Bool). coreBind (settings_of s room) (core_at (counters_of c) s.shape w b) (t || ltb seen.free seen.len) h e lag k) (sym q);
+        g.is version room holds ∙ ap (λ (t : Bool). core_bind (settings_of s room) (core_at (counters_of c) s.shape w b) (t || ltb seen.free seen.len) h e lag k) (sym q);
     lands = g.lands;
     rules = g.rules;
     more = g.more;
@@ -184,14 +184,14 @@ changes_run (bound h m) p t cs ps taken = refl
 changes_run (checked h e i) p t cs ps taken = refl
 
 module _ (s : Settings) (c : Replica) (seen : Lookup) (f : the_frame.Frame) (w b : List ℕ) {due : Bool} (due_is : due ≡ not (is_empty (pending_of w))) {w1 : List ℕ} (ran : RanIf due s.shape b w w1) where
-  ran-is : core_at (counters_of c) s.shape w1 b ≡ core_run (not (is_empty (pending_of w))) (core_at (counters_of c) s.shape w b)
-  ran-is = (λ j. record { counters = counters_of c; places = ran.places j; pending = ran.pending j }) ∙ ap (λ (t : Bool). core_run t (core_at (counters_of c) s.shape w b)) due_is
+  ran_is : core_at (counters_of c) s.shape w1 b ≡ core_run (not (is_empty (pending_of w))) (core_at (counters_of c) s.shape w b)
+  ran_is = (λ j. record { counters = counters_of c; places = ran.places j; pending = ran.pending j }) ∙ ap (λ (t : Bool). core_run t (core_at (counters_of c) s.shape w b)) due_is
 
   words_are : w1 ≡ cond (not (is_empty (pending_of w))) (ran_words s.shape w) w
   words_are = ran.words ∙ ap (λ (t : Bool). cond t (ran_words s.shape w) w) due_is
 
-  changes-are : (taken : Bool) → changes_by (places_of s.shape w1 b) seen.bound.place (intact f) taken ≡ changes_by (places_of s.shape w b) seen.bound.place (intact f) taken
-  changes-are taken =
+  changes_are : (taken : Bool) → changes_by (places_of s.shape w1 b) seen.bound.place (intact f) taken ≡ changes_by (places_of s.shape w b) seen.bound.place (intact f) taken
+  changes_are taken =
       ap (λ (ps : List Place). changes_by ps seen.bound.place (intact f) taken) ran.places
       ∙ changes_run f seen.bound.place due (pending_of w) (places_of s.shape w b) taken
 
@@ -205,9 +205,9 @@ module _ (s : Settings) (c : Replica) (seen : Lookup) (f : the_frame.Frame) (w b
       none_of [] = refl
       none_of (x ∷ l) = refl
 
-  pub other-in : {w' b' : List ℕ} {r : Outcome} → OtherIs s c seen f w1 w' b b' r → OtherIn s c seen f w w' b b' r
-  other-in {w'} {b'} {r} g = record {
-    is = λ version room holds o q. g.is version room holds o q ∙ ap (λ (k : Core). coreIntact (settings_of s room) k o (ltb seen.free seen.len) f) ran-is;
+  pub other_in : {w' b' : List ℕ} {r : Outcome} → OtherIs s c seen f w1 w' b b' r → OtherIn s c seen f w w' b b' r
+  other_in {w'} {b'} {r} g = record {
+    is = λ version room holds o q. g.is version room holds o q ∙ ap (λ (k : Core). core_intact (settings_of s room) k o (ltb seen.free seen.len) f) ran_is;
     lands = g.lands;
     rules = g.rules;
     more = subst (λ (k : ℕ). k ≤ get_or w' 0 0) ran.used g.more;
@@ -215,7 +215,7 @@ module _ (s : Settings) (c : Replica) (seen : Lookup) (f : the_frame.Frame) (w b
       mid = w';
       store_after =
           subst (λ (x : List ℕ). StoreAfter s.shape (changes_by (places_of s.shape w b) seen.bound.place (intact f) (accepted (answer_of b' r.answer))) x w' b b') words_are
-          (subst (λ (x : StoreChange). StoreAfter s.shape x w1 w' b b') (changes-are (accepted (answer_of b' r.answer))) (g.store_after none_left));
+          (subst (λ (x : StoreChange). StoreAfter s.shape x w1 w' b b') (changes_are (accepted (answer_of b' r.answer))) (g.store_after none_left));
       last = refl;
     };
     exact = g.exact;

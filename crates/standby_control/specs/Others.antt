@@ -11,7 +11,7 @@ use Rattle.standby_commit.specs.Settling.{StoreAfter}
 use Rattle.model_standby.specs.Answer.{intact, accepted}
 use Rattle.model_standby.specs.Row.{is_some}
 use Rattle.model_standby.specs.State.{Bound}
-use Rattle.model_standby.specs.Core.{core_run, coreIntact}
+use Rattle.model_standby.specs.Core.{core_run, core_intact}
 use Rattle.standby_part.specs.State.{core_at}
 use Rattle.standby_counters.specs.declared.Replica.{Replica}
 use Rattle.standby_state.specs.declared.Settings.{Settings}
@@ -50,7 +50,7 @@ cleared_if t w = cond t (set w StoreWord.pending 0) w
 -- equal to the definition, whatever the hold areas and the record found; what is left of the store is said where no commit is pending
 pub record OtherIs (s : Settings) (c : Replica) (seen : Lookup) (f : Frame) (w w' b b' : List ℕ) (r : Outcome) : Type 0 where
   pub is : (version room : ℕ) (holds : List ℕ) (o : Option Bound) → is_some o ≡ is_found seen
-      → outcome_of version room s.shape w' b' holds r ≡ coreIntact (settings_of s room) (core_at (counters_of c) s.shape w b) o (ltb seen.free seen.len) f
+      → outcome_of version room s.shape w' b' holds r ≡ core_intact (settings_of s room) (core_at (counters_of c) s.shape w b) o (ltb seen.free seen.len) f
   pub lands : (room : ℕ) (area : List ℕ) → Lands seen (get_or w' StoreWord.used 0) room area r
   pub rules : Rules s.shape w' b'
   pub more : get_or w StoreWord.used 0 ≤ get_or w' StoreWord.used 0
@@ -61,7 +61,7 @@ pub record OtherIs (s : Settings) (c : Replica) (seen : Lookup) (f : Frame) (w w
 pub record OtherIn (s : Settings) (c : Replica) (seen : Lookup) (f : Frame) (w w' b b' : List ℕ) (r : Outcome) : Type 0 where
   pub is : (version room : ℕ) (holds : List ℕ) (o : Option Bound) → is_some o ≡ is_found seen
       → outcome_of version room s.shape w' b' holds r
-      ≡ coreIntact (settings_of s room) (core_run (not (is_empty (pending_of w))) (core_at (counters_of c) s.shape w b)) o (ltb seen.free seen.len) f
+      ≡ core_intact (settings_of s room) (core_run (not (is_empty (pending_of w))) (core_at (counters_of c) s.shape w b)) o (ltb seen.free seen.len) f
   pub lands : (room : ℕ) (area : List ℕ) → Lands seen (get_or w' StoreWord.used 0) room area r
   pub rules : Rules s.shape w' b'
   pub more : get_or w StoreWord.used 0 ≤ get_or w' StoreWord.used 0

@@ -8,7 +8,7 @@ ghost use Rattle.frame_op.specs.Answers.{run_of};
 ghost use Rattle.frame.specs.Answers.{frame_of};
 ghost use Rattle.store_areas.specs.Areas.{Rules};
 ghost use Rattle.standby_hello.specs.Greeting.{Replies};
-ghost use Rattle.model_standby.specs.Core.{coreIntact};
+ghost use Rattle.model_standby.specs.Core.{core_intact};
 ghost use Rattle.standby_control.specs.Others.{Plain, Fit, cleared_if, OtherIs, OtherIn};
 
 use base_refusals::OTHER_FRAME;
@@ -50,7 +50,7 @@ fn answer_by_counters(
     decoded: Frame,
 ) -> Outcome
     requires { Plain (frame_of 1 frame.now decoded) }
-    ensures { Replies counters settings lookup (λ L k. coreIntact L k none false (frame_of 1 frame.now decoded)) result }
+    ensures { Replies counters settings lookup (λ L k. core_intact L k none false (frame_of 1 frame.now decoded)) result }
 {
     match decoded {
         Frame::Hello {

@@ -32,7 +32,7 @@ use Rattle.model_standby.specs.Answer.{damaged, intact, judged, given}
 use Rattle.model_standby.specs.State.{Bound, Counters}
 use Rattle.model_standby.specs.State as state
 use Rattle.model_standby.specs.Standby.{due}
-use Rattle.model_standby.specs.Hold.{writesFrame}
+use Rattle.model_standby.specs.Hold.{writes_frame}
 use Rattle.standby_bind.specs.Binding.{Short}
 use Rattle.standby_control.specs.Others.{Fit}
 
@@ -50,29 +50,29 @@ number_some bad_marks = refl
 -- ---- what was handed in
 
 module _ (w : List ℕ) {d : Decoded} (read : reading_of 1 w d ≡ decode 1 w) where
-  given-as : {x : Decoded} → d ≡ x → given w ≡ judged (length w) (reading_of 1 w x)
+  given_as : {x : Decoded} → d ≡ x → given w ≡ judged (length w) (reading_of 1 w x)
   unfolding given
-  given-as {x} e = sym (ap (λ (y : Decoded). judged (length w) (reading_of 1 w y)) (sym e) ∙ ap (judged (length w)) read)
+  given_as {x} e = sym (ap (λ (y : Decoded). judged (length w) (reading_of 1 w y)) (sym e) ∙ ap (judged (length w)) read)
 
-  pub given-bad : {e : FrameError} → d ≡ Decoded.Bad e → given w ≡ damaged (fault_number (fault_of e))
-  given-bad e = given-as e
+  pub given_bad : {e : FrameError} → d ≡ Decoded.Bad e → given w ≡ damaged (fault_number (fault_of e))
+  given_bad e = given_as e
 
-  pub given-more : d ≡ Decoded.More → given w ≡ damaged 26
-  given-more e = given-as e
+  pub given_more : d ≡ Decoded.More → given w ≡ damaged 26
+  given_more e = given_as e
 
   module _ {f : Frame} {n : ℕ} (e : d ≡ Decoded.Whole f n) where
-    pub given-short : (n ≡ length w → ⊥) → given w ≡ damaged 26
-    given-short off = given-as e ∙ ap (λ (t : Bool). cond t (intact (frame_of 1 (take n w) f)) (damaged 26)) (ne_eqb n (length w) off)
+    pub given_short : (n ≡ length w → ⊥) → given w ≡ damaged 26
+    given_short off = given_as e ∙ ap (λ (t : Bool). cond t (intact (frame_of 1 (take n w) f)) (damaged 26)) (ne_eqb n (length w) off)
 
     all : n ≡ length w → take n w ≡ w
     all is = ap (λ (k : ℕ). take k w) is ∙ take-length w
 
-    pub given-whole : n ≡ length w → given w ≡ intact (frame_of 1 w f)
-    given-whole is =
-        given-as e ∙ ap (λ (t : Bool). cond t (intact (frame_of 1 (take n w) f)) (damaged 26)) (eq-eqb n (length w) is) ∙ ap (λ (b : List ℕ). intact (frame_of 1 b f)) (all is)
+    pub given_whole : n ≡ length w → given w ≡ intact (frame_of 1 w f)
+    given_whole is =
+        given_as e ∙ ap (λ (t : Bool). cond t (intact (frame_of 1 (take n w) f)) (damaged 26)) (eq-eqb n (length w) is) ∙ ap (λ (b : List ℕ). intact (frame_of 1 b f)) (all is)
 
-    pub read-writable : T (is_bytes w) → n ≡ length w → Writable 1 (frame_of 1 w f)
-    read-writable t is =
+    pub read_writable : T (is_bytes w) → n ≡ length w → Writable 1 (frame_of 1 w f)
+    read_writable t is =
         subst (λ (b : List ℕ). Writable 1 (frame_of 1 b f)) (all is) (decode_sound 1 w t (sym read ∙ ap (reading_of 1 w) e)).writable
 
 -- ---- frames that are no Batch
@@ -117,7 +117,7 @@ due_other pending (nack h r) p = refl
 due_other pending (bound h m) p = refl
 due_other pending (checked h e i) p = refl
 
-pub writes_other : (L : state.Settings) (c : Counters) (o : Option Bound) (f : the_frame.Frame) → Fit f → writesFrame L c o f ≡ none
+pub writes_other : (L : state.Settings) (c : Counters) (o : Option Bound) (f : the_frame.Frame) → Fit f → writes_frame L c o f ≡ none
 writes_other L c o (hello v e node kinds) p = refl
 writes_other L c o (welcome e i) p = refl
 writes_other L c o (bind h e lag k) p = refl

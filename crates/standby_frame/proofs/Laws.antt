@@ -15,7 +15,7 @@ use Rattle.model_frame.specs.Frame.{Change, AppRecord, commit, whole, last_whole
 use Rattle.model_frame.specs.Frame as the_frame
 use Rattle.standby_row.specs.declared.Lookup.{Lookup}
 use Rattle.store_areas.specs.Areas.{allowed, Rules, places_of}
-use Rattle.store_areas.proofs.Ruling.{rules-of}
+use Rattle.store_areas.proofs.Ruling.{rules_of}
 use Rattle.standby_pending.specs.Pending.{pending_of}
 use Rattle.standby_pending_run.specs.Commits.{ran_words, RanIf}
 use Rattle.standby_commit.specs.Settling.{StoreChange, stays, batch_change, StoreAfter}
@@ -25,8 +25,8 @@ use Rattle.model_standby.specs.Row.{is_some}
 use Rattle.model_standby.specs.State.{Bound, Call, on_frame_held, on_frame}
 use Rattle.model_standby.specs.State as state
 use Rattle.model_standby.specs.Standby.{due}
-use Rattle.model_standby.specs.Hold.{HoldWrite, writes, writesFrame}
-use Rattle.model_standby.specs.Core.{leave, Core, CoreResult, core_refuse, core_run, coreIntact, coreGiven, coreFlushed, coreStep}
+use Rattle.model_standby.specs.Hold.{HoldWrite, writes, writes_frame}
+use Rattle.model_standby.specs.Core.{leave, Core, CoreResult, core_refuse, core_run, core_intact, core_given, core_flushed, core_step}
 use Rattle.standby_part.specs.State.{core_at}
 use Rattle.standby_batch_handle.specs.Handling.{found_of}
 use Rattle.standby_counters.specs.declared.Replica.{Replica}
@@ -69,7 +69,7 @@ pub other_intact : (s : Settings) (c : Replica) (seen : Lookup) (f : the_frame.F
 other_intact s c seen f fit w w' b b' l r g = record {
   is = λ own.
       g.is protocol_version (room_in seen l) l (found_in seen l) (found_some seen l)
-      ∙ ap (λ (t : Bool). coreIntact (settings_of s (room_in seen l)) (core_run t (core_at (counters_of c) s.shape w b)) (found_in seen l) (ltb seen.free seen.len) f) (due_other (pending_of w) f fit);
+      ∙ ap (λ (t : Bool). core_intact (settings_of s (room_in seen l)) (core_run t (core_at (counters_of c) s.shape w b)) (found_in seen l) (ltb seen.free seen.len) f) (due_other (pending_of w) f fit);
   lands = g.lands (room_in seen l) (area_at (room_in seen l) r.at l);
   rules = g.rules;
   more = g.more;
@@ -110,22 +110,22 @@ module _ (s : Settings) (c : Replica) (seen : Lookup) (frame w b h : List ℕ) (
   abbrev free : Bool
   free = ltb seen.free seen.len
 
-  held-is : coreStep L K F free (on_frame_held frame) ≡ coreGiven L K F free (given frame)
-  unfolding coreStep
-  held-is = refl
+  held_is : core_step L K F free (on_frame_held frame) ≡ core_given L K F free (given frame)
+  unfolding core_step
+  held_is = refl
 
-  refused-is : (n : ℕ) (x : List ℕ) → eqb n 0 ≡ false → answer_of x (is_refused n) ≡ refused n
-  refused-is n x e = ap (λ (t : Bool). cond t done (refused n)) e
+  refused_is : (n : ℕ) (x : List ℕ) → eqb n 0 ≡ false → answer_of x (is_refused n) ≡ refused n
+  refused_is n x e = ap (λ (t : Bool). cond t done (refused n)) e
 
   -- refused, and all is as it was
-  all_left : (g : Given) → given frame ≡ g → (n : ℕ) → eqb n 0 ≡ false → coreGiven L K F free g ≡ core_refuse K leave n → due_now (is_set c.promoted) (pending_of w) g ≡ false → writes L (counters_of c) F g ≡ none
+  all_left : (g : Given) → given frame ≡ g → (n : ℕ) → eqb n 0 ≡ false → core_given L K F free g ≡ core_refuse K leave n → due_now (is_set c.promoted) (pending_of w) g ≡ false → writes L (counters_of c) F g ≡ none
       → {r : Outcome} {a : Answer} → r ≡ leaving c seen a → a ≡ is_refused n → Takes s c seen frame w w b b h h r
   all_left g is n off core due-none none_written {r} {a} e₁ e₂ =
       subst (Takes s c seen frame w w b b h h) (sym (e₁ ∙ ap (leaving c seen) e₂))
       (record {
         rules = rules;
         steps = λ own. record {
-          is = (λ j. record { core = K; action = leave; answer = refused-is n b off j }) ∙ sym (held-is ∙ ap (coreGiven L K F free) is ∙ core);
+          is = (λ j. record { core = K; action = leave; answer = refused_is n b off j }) ∙ sym (held_is ∙ ap (core_given L K F free) is ∙ core);
           lands = leaving_lands c seen (is_refused n) (get_or w 0 0) (room_in seen h);
           kept = λ _. refl;
           rules = rules;
@@ -134,7 +134,7 @@ module _ (s : Settings) (c : Replica) (seen : Lookup) (frame w b h : List ℕ) (
             mid = w;
             store_after =
                 subst (λ (x : StoreChange). StoreAfter s.shape x (cond (due_now (is_set c.promoted) (pending_of w) (given frame)) (ran_words s.shape w) w) w b b)
-                (sym (ap (changes_by (places_of s.shape w b) seen.bound.place (given frame)) (ap accepted (refused-is n b off)) ∙ off_stays (places_of s.shape w b) seen.bound.place (given frame)))
+                (sym (ap (changes_by (places_of s.shape w b) seen.bound.place (given frame)) (ap accepted (refused_is n b off)) ∙ off_stays (places_of s.shape w b) seen.bound.place (given frame)))
                 (sym (ap (λ (t : Bool). cond t (ran_words s.shape w) w) (ap (due_now (is_set c.promoted) (pending_of w)) is ∙ due-none)), refl);
             last = refl;
           };
@@ -143,29 +143,29 @@ module _ (s : Settings) (c : Replica) (seen : Lookup) (frame w b h : List ℕ) (
         exact = exact_refused b n;
       })
 
-  pub damaged-left : (n : ℕ) → given frame ≡ damaged n → eqb n 0 ≡ false → {r : Outcome} {a : Answer} → r ≡ leaving c seen a → a ≡ is_refused n → Takes s c seen frame w w b b h h r
-  unfolding coreGiven writes
-  damaged-left n is off e₁ e₂ = all_left (damaged n) is n off refl refl refl e₁ e₂
+  pub damaged_left : (n : ℕ) → given frame ≡ damaged n → eqb n 0 ≡ false → {r : Outcome} {a : Answer} → r ≡ leaving c seen a → a ≡ is_refused n → Takes s c seen frame w w b b h h r
+  unfolding core_given writes
+  damaged_left n is off e₁ e₂ = all_left (damaged n) is n off refl refl refl e₁ e₂
 
-  pub promoted-left : (f : the_frame.Frame) → given frame ≡ intact f → (c.promoted ≡ 0 → ⊥) → {r : Outcome} {a : Answer} → r ≡ leaving c seen a → a ≡ is_refused 10 → Takes s c seen frame w w b b h h r
-  unfolding coreGiven writes
-  promoted-left f is on e₁ e₂ =
+  pub promoted_left : (f : the_frame.Frame) → given frame ≡ intact f → (c.promoted ≡ 0 → ⊥) → {r : Outcome} {a : Answer} → r ≡ leaving c seen a → a ≡ is_refused 10 → Takes s c seen frame w w b b h h r
+  unfolding core_given writes
+  promoted_left f is on e₁ e₂ =
       all_left (intact f) is 10 refl
-      (ap (λ (t : Bool). cond t (core_refuse K leave 10) (coreIntact L (core_run (due (pending_of w) f) K) F free f)) (set_so c.promoted on))
+      (ap (λ (t : Bool). cond t (core_refuse K leave 10) (core_intact L (core_run (due (pending_of w) f) K) F free f)) (set_so c.promoted on))
       (ap (λ (t : Bool). not t && due (pending_of w) f) (set_so c.promoted on))
-      (ap (λ (t : Bool). cond t none (writesFrame L (counters_of c) F f)) (set_so c.promoted on))
+      (ap (λ (t : Bool). cond t none (writes_frame L (counters_of c) F f)) (set_so c.promoted on))
       e₁ e₂
 
-  pub intact-taken : (f : the_frame.Frame) → given frame ≡ intact f → c.promoted ≡ 0 → {w' b' h' : List ℕ} {r : Outcome} → IntactIs s c seen f w w' b b' h h' r → Takes s c seen frame w w' b b' h h' r
-  unfolding coreGiven writes
-  intact-taken f is off {w'} {b'} {h'} {r} g = record {
+  pub intact_taken : (f : the_frame.Frame) → given frame ≡ intact f → c.promoted ≡ 0 → {w' b' h' : List ℕ} {r : Outcome} → IntactIs s c seen f w w' b b' h h' r → Takes s c seen frame w w' b b' h h' r
+  unfolding core_given writes
+  intact_taken f is off {w'} {b'} {h'} {r} g = record {
     rules = g.rules;
     steps = λ own.
         let mine : Own seen f = λ found asks. own found (ap has_handle is ∙ asks) ∙ ap handle_in is in
         record {
           is =
               g.is mine
-              ∙ sym (held-is ∙ ap (coreGiven L K F free) is ∙ ap (λ (t : Bool). cond t (core_refuse K leave 10) (coreIntact L (core_run (due (pending_of w) f) K) F free f)) (clear_so c.promoted off));
+              ∙ sym (held_is ∙ ap (core_given L K F free) is ∙ ap (λ (t : Bool). cond t (core_refuse K leave 10) (core_intact L (core_run (due (pending_of w) f) K) F free f)) (clear_so c.promoted off));
           lands = g.lands;
           kept = λ e. absurd (true≢false (sym e ∙ ap (keeps_by (is_set c.promoted)) is ∙ clear_so c.promoted off));
           rules = g.rules;
@@ -176,7 +176,7 @@ module _ (s : Settings) (c : Replica) (seen : Lookup) (frame w b h : List ℕ) (
           holds =
               g.holds mine
               ∙ ap (λ (o : Option HoldWrite). holds_after (room_in seen h) seen.at o h)
-              (sym (ap (writes L (counters_of c) F) is ∙ ap (λ (t : Bool). cond t none (writesFrame L (counters_of c) F f)) (clear_so c.promoted off)));
+              (sym (ap (writes L (counters_of c) F) is ∙ ap (λ (t : Bool). cond t none (writes_frame L (counters_of c) F f)) (clear_so c.promoted off)));
         };
     exact = g.exact;
   }
@@ -184,11 +184,11 @@ module _ (s : Settings) (c : Replica) (seen : Lookup) (frame w b h : List ℕ) (
 -- ---- the call: 25, or the frame
 
 module _ (s : Settings) (c : Replica) (seen : Lookup) (w b h : List ℕ) where
-  pub rules-seen : seen_allowed s.shape seen w b h ≡ true → Rules s.shape w b
-  rules-seen e = rules-of s.shape w b (both (allowed s.shape w b) _ e).0
+  pub rules_seen : seen_allowed s.shape seen w b h ≡ true → Rules s.shape w b
+  rules_seen e = rules_of s.shape w b (both (allowed s.shape w b) _ e).0
 
-  pub holds-seen : seen_allowed s.shape seen w b h ≡ true → is_found seen ≡ true → RecordRulesIn seen w h
-  holds-seen e f =
+  pub holds_seen : seen_allowed s.shape seen w b h ≡ true → is_found seen ≡ true → RecordRulesIn seen w h
+  holds_seen e f =
       let p = (both (leb seen.len seen.broken) _ (both (allowed s.shape w b) _ e).1).1 in
       let q = both (ltb seen.bound.place (get_or w 0 0)) _ (go (is_found seen) _ f p) in
       record { place_used = ltb-true seen.bound.place (get_or w 0 0) q.0; held_within = leb-true seen.bound.held_len (room_in seen h) q.1 }
@@ -208,8 +208,8 @@ module _ (s : Settings) (c : Replica) (seen : Lookup) (w b h : List ℕ) where
     pub held_steps : StepIs s c seen (on_frame_held frame) w w1 b b' h h' r
     held_steps = record { refuses = λ y. absurd (true≢false (sym (sym e ∙ on) ∙ y)); steps = λ _ own. g.steps own; exact = g.exact }
 
-    answered-is : (x : List ℕ) (a : Answer) → is_reply (answer_of x a) ≡ is_answered a
-    answered-is x a = go (eqb a.refusal 0) (eqb a.kind 0)
+    answered_is : (x : List ℕ) (a : Answer) → is_reply (answer_of x a) ≡ is_answered a
+    answered_is x a = go (eqb a.refusal 0) (eqb a.kind 0)
       where
         go : (t u : Bool) → is_reply (cond t (cond u done (reply (frame_by x a))) (refused a.refusal)) ≡ (t && not u)
         go true true = refl
@@ -218,24 +218,24 @@ module _ (s : Settings) (c : Replica) (seen : Lookup) (w b h : List ℕ) where
 
     module _ {w' : List ℕ} {answered : Bool} (is : answered ≡ is_answered r.answer) (ran : RanIf answered s.shape b' w1 w') where
       replies : answered ≡ is_reply (answer_of b' r.answer)
-      replies = is ∙ sym (answered-is b' r.answer)
+      replies = is ∙ sym (answered_is b' r.answer)
 
-      core-ran : core_at (counters_of r.replica) s.shape w' b' ≡ core_run (is_reply (answer_of b' r.answer)) (core_at (counters_of r.replica) s.shape w1 b')
-      core-ran = (λ j. record { counters = counters_of r.replica; places = ran.places j; pending = ran.pending j }) ∙ ap (λ (t : Bool). core_run t (core_at (counters_of r.replica) s.shape w1 b')) replies
+      core_ran : core_at (counters_of r.replica) s.shape w' b' ≡ core_run (is_reply (answer_of b' r.answer)) (core_at (counters_of r.replica) s.shape w1 b')
+      core_ran = (λ j. record { counters = counters_of r.replica; places = ran.places j; pending = ran.pending j }) ∙ ap (λ (t : Bool). core_run t (core_at (counters_of r.replica) s.shape w1 b')) replies
 
-      flushed-is : (m : CoreResult) → outcome_of protocol_version (room_in seen h) s.shape w1 b' h' r ≡ m
-          → outcome_of protocol_version (room_in seen h) s.shape w' b' h' r ≡ coreFlushed (settings_of s (room_in seen h)) m
-      flushed-is m p =
-          (λ j. record { core = core-ran j; action = action_of protocol_version (room_in seen h) h' r; answer = answer_of b' r.answer }) ∙ ap (coreFlushed (settings_of s (room_in seen h))) p
+      flushed_is : (m : CoreResult) → outcome_of protocol_version (room_in seen h) s.shape w1 b' h' r ≡ m
+          → outcome_of protocol_version (room_in seen h) s.shape w' b' h' r ≡ core_flushed (settings_of s (room_in seen h)) m
+      flushed_is m p =
+          (λ j. record { core = core_ran j; action = action_of protocol_version (room_in seen h) h' r; answer = answer_of b' r.answer }) ∙ ap (core_flushed (settings_of s (room_in seen h))) p
 
-      pub now-steps : StepIs s c seen (on_frame frame) w w' b b' h h' r
-      unfolding coreStep
-      now-steps = record {
+      pub now_steps : StepIs s c seen (on_frame frame) w w' b b' h h' r
+      unfolding core_step
+      now_steps = record {
         refuses = λ y. absurd (true≢false (sym (sym e ∙ on) ∙ y));
         steps = λ _ own.
             let p = g.steps own in
             record {
-              is = flushed-is _ p.is;
+              is = flushed_is _ p.is;
               lands = subst (λ (k : ℕ). Lands seen k (room_in seen h) (area_at (room_in seen h) r.at h') r) (sym ran.used) p.lands;
               kept = p.kept;
               rules = ran.rules;

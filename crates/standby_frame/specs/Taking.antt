@@ -8,8 +8,8 @@ use Rattle.standby_pending.specs.Pending.{pending_of}
 use Rattle.model_standby.specs.Answer.{protocol_version, intact, given, handle_in, accepted}
 use Rattle.model_standby.specs.State.{on_frame_held}
 use Rattle.model_standby.specs.Standby.{due}
-use Rattle.model_standby.specs.Hold.{writesFrame}
-use Rattle.model_standby.specs.Core.{core_run, coreIntact}
+use Rattle.model_standby.specs.Hold.{writes_frame}
+use Rattle.model_standby.specs.Core.{core_run, core_intact}
 use Rattle.standby_part.specs.State.{core_at}
 use Rattle.standby_counters.specs.declared.Replica.{Replica}
 use Rattle.standby_state.specs.declared.Settings.{Settings}
@@ -31,12 +31,12 @@ Own seen f = is_found seen ≡ true → has_handle (intact f) ≡ true → seen.
 pub record IntactIs (s : Settings) (c : Replica) (seen : Lookup) (f : Frame) (w w' b b' h h' : List ℕ) (r : Outcome) : Type 0 where
   pub is : Own seen f
       → outcome_of protocol_version (room_in seen h) s.shape w' b' h' r
-      ≡ coreIntact (settings_of s (room_in seen h)) (core_run (due (pending_of w) f) (core_at (counters_of c) s.shape w b)) (found_in seen h) (ltb seen.free seen.len) f
+      ≡ core_intact (settings_of s (room_in seen h)) (core_run (due (pending_of w) f) (core_at (counters_of c) s.shape w b)) (found_in seen h) (ltb seen.free seen.len) f
   pub lands : Lands seen (get_or w' StoreWord.used 0) (room_in seen h) (area_at (room_in seen h) r.at h') r
   pub rules : Rules s.shape w' b'
   pub more : get_or w StoreWord.used 0 ≤ get_or w' StoreWord.used 0
   pub leaves : FrameLeaves s.shape (changes_by (places_of s.shape w b) seen.bound.place (intact f) (accepted (answer_of b' r.answer))) (due (pending_of w) f) false w w' b b'
-  pub holds : Own seen f → h' ≡ holds_after (room_in seen h) seen.at (writesFrame (settings_of s (room_in seen h)) (counters_of c) (found_in seen h) f) h
+  pub holds : Own seen f → h' ≡ holds_after (room_in seen h) seen.at (writes_frame (settings_of s (room_in seen h)) (counters_of c) (found_in seen h) f) h
   pub exact : Exact b' r.answer
 
 pub record Takes (s : Settings) (c : Replica) (seen : Lookup) (frame w w' b b' h h' : List ℕ) (r : Outcome) : Type 0 where

@@ -14,7 +14,7 @@ use Rattle.base_laws.proofs.Lists.{drop_take}
 use Rattle.standby_row.specs.declared.Bound.{Bound as BoundRecord}
 use Rattle.standby_row.specs.Row.{is_used, is_of, is_free, zero_or_next, find_of, free_of, cleared_all}
 use Rattle.standby_row.specs.Row as handles
-use Rattle.model_standby.specs.Row.{Row, is_some, freed, hasFree, find, replace, fill, put}
+use Rattle.model_standby.specs.Row.{Row, is_some, freed, has_free, find, replace, fill, put}
 use Rattle.model_standby.specs.State.{Bound}
 use Rattle.standby_handles.specs.Rows.{entry_of, row_of, part_at}
 
@@ -39,29 +39,29 @@ module _ (n k : ℕ) (b : Bound) (t : Row Bound) where
   find_past true h = ap (λ (x : Bool). cond x (some b) (find k t)) (eqb_comm k n ∙ h)
   find_past false h = refl
 
-  replace-at : (v : Bound) (u : Bool) → (u && eqb n k) ≡ true → replace k v (Head u) ≡ some (k, v) ∷ t
-  replace-at v true h = ap (λ (x : Bool). cond x (some (n, v) ∷ t) (some (n, b) ∷ replace k v t)) (eqb_comm k n ∙ h) ∙ ap (λ (m : ℕ). some (m, v) ∷ t) (eqb-true n k h)
-  replace-at v false h = absurd (true≢false (sym h))
+  replace_at : (v : Bound) (u : Bool) → (u && eqb n k) ≡ true → replace k v (Head u) ≡ some (k, v) ∷ t
+  replace_at v true h = ap (λ (x : Bool). cond x (some (n, v) ∷ t) (some (n, b) ∷ replace k v t)) (eqb_comm k n ∙ h) ∙ ap (λ (m : ℕ). some (m, v) ∷ t) (eqb-true n k h)
+  replace_at v false h = absurd (true≢false (sym h))
 
-  replace-past : (v : Bound) (u : Bool) → (u && eqb n k) ≡ false → replace k v (Head u) ≡ cond u (some (n, b)) none ∷ replace k v t
-  replace-past v true h = ap (λ (x : Bool). cond x (some (n, v) ∷ t) (some (n, b) ∷ replace k v t)) (eqb_comm k n ∙ h)
-  replace-past v false h = refl
+  replace_past : (v : Bound) (u : Bool) → (u && eqb n k) ≡ false → replace k v (Head u) ≡ cond u (some (n, b)) none ∷ replace k v t
+  replace_past v true h = ap (λ (x : Bool). cond x (some (n, v) ∷ t) (some (n, b) ∷ replace k v t)) (eqb_comm k n ∙ h)
+  replace_past v false h = refl
 
-  fill-at : (v : Bound) (u : Bool) → not u ≡ true → fill k v (Head u) ≡ some (k, v) ∷ t
-  fill-at v true h = absurd (true≢false (sym h))
-  fill-at v false h = refl
+  fill_at : (v : Bound) (u : Bool) → not u ≡ true → fill k v (Head u) ≡ some (k, v) ∷ t
+  fill_at v true h = absurd (true≢false (sym h))
+  fill_at v false h = refl
 
-  fill-past : (v : Bound) (u : Bool) → not u ≡ false → fill k v (Head u) ≡ cond u (some (n, b)) none ∷ fill k v t
-  fill-past v true h = refl
-  fill-past v false h = absurd (true≢false h)
+  fill_past : (v : Bound) (u : Bool) → not u ≡ false → fill k v (Head u) ≡ cond u (some (n, b)) none ∷ fill k v t
+  fill_past v true h = refl
+  fill_past v false h = absurd (true≢false h)
 
-  free-at : (u : Bool) → not u ≡ true → hasFree (Head u) ≡ true
-  free-at true h = absurd (true≢false (sym h))
-  free-at false h = refl
+  free_at : (u : Bool) → not u ≡ true → has_free (Head u) ≡ true
+  free_at true h = absurd (true≢false (sym h))
+  free_at false h = refl
 
-  free-past : (u : Bool) → not u ≡ false → hasFree (Head u) ≡ hasFree t
-  free-past true h = refl
-  free-past false h = absurd (true≢false h)
+  free_past : (u : Bool) → not u ≡ false → has_free (Head u) ≡ has_free t
+  free_past true h = refl
+  free_past false h = absurd (true≢false h)
 
 -- ---- rows
 
@@ -72,39 +72,39 @@ module _ (bound_of : BoundRecord → List ℕ → Bound) (room : ℕ) where
   abbrev Part : ℕ → List ℕ → List ℕ
   Part i holds = part_at bound_of room i holds
 
-  part-first : (holds : List ℕ) → Part 0 holds ≡ take room holds
-  part-first holds = ap (λ (k : ℕ). take room (drop k holds)) (zero-mul room)
+  part_first : (holds : List ℕ) → Part 0 holds ≡ take room holds
+  part_first holds = ap (λ (k : ℕ). take room (drop k holds)) (zero-mul room)
 
   -- the part of the next place
-  part-next : (i : ℕ) (holds : List ℕ) → Part i (drop room holds) ≡ Part (suc i) holds
-  part-next i holds = ap (take room) (drop-drop (i * room) room holds) ∙ ap (λ (k : ℕ). take room (drop k holds)) sum
+  part_next : (i : ℕ) (holds : List ℕ) → Part i (drop room holds) ≡ Part (suc i) holds
+  part_next i holds = ap (take room) (drop-drop (i * room) room holds) ∙ ap (λ (k : ℕ). take room (drop k holds)) sum
     where
       sum : room + i * room ≡ suc i * room
       sum = omega (arith, suc-mul i room)
 
   -- ---- a handle's record
 
-  pub find-hit : (k : ℕ) (row : List BoundRecord) (holds : List ℕ) → find_of row k < length row
+  pub find_hit : (k : ℕ) (row : List BoundRecord) (holds : List ℕ) → find_of row k < length row
       → find k (Entries row holds) ≡ some (bound_of (get_or row (find_of row k) handles.free_record) (Part (find_of row k) holds))
-  find-hit k [] holds less = absurd (no less)
+  find_hit k [] holds less = absurd (no less)
     where
       no : 0 < 0 → ⊥
       no h = omega arith
-  find-hit k (h ∷ hs) holds less = go (is_of h k) refl (find-hit k hs (drop room holds)) less
+  find_hit k (h ∷ hs) holds less = go (is_of h k) refl (find_hit k hs (drop room holds)) less
     where
       go : (p : Bool) → is_of h k ≡ p → (find_of hs k < length hs → find k (Entries hs (drop room holds)) ≡ some (bound_of (get_or hs (find_of hs k) handles.free_record) (Part (find_of hs k) (drop room holds))))
           → zero_or_next p (find_of hs k) < suc (length hs)
           → find k (Entries (h ∷ hs) holds) ≡ some (bound_of (get_or (h ∷ hs) (zero_or_next p (find_of hs k)) handles.free_record) (Part (zero_or_next p (find_of hs k)) holds))
       go true e ih l =
           find_at h.handle k (bound_of h (take room holds)) (Entries hs (drop room holds)) (is_used h) e
-          ∙ ap (λ (x : List ℕ). some (bound_of h x)) (sym (part-first holds))
+          ∙ ap (λ (x : List ℕ). some (bound_of h x)) (sym (part_first holds))
       go false e ih l =
           find_past h.handle k (bound_of h (take room holds)) (Entries hs (drop room holds)) (is_used h) e ∙ ih (omega arith)
-          ∙ ap (λ (x : List ℕ). some (bound_of (get_or hs (find_of hs k) handles.free_record) x)) (part-next (find_of hs k) holds)
+          ∙ ap (λ (x : List ℕ). some (bound_of (get_or hs (find_of hs k) handles.free_record) x)) (part_next (find_of hs k) holds)
 
-  pub find-miss : (k : ℕ) (row : List BoundRecord) (holds : List ℕ) → length row ≤ find_of row k → find k (Entries row holds) ≡ none
-  find-miss k [] holds out = refl
-  find-miss k (h ∷ hs) holds out = go (is_of h k) refl (find-miss k hs (drop room holds)) out
+  pub find_miss : (k : ℕ) (row : List BoundRecord) (holds : List ℕ) → length row ≤ find_of row k → find k (Entries row holds) ≡ none
+  find_miss k [] holds out = refl
+  find_miss k (h ∷ hs) holds out = go (is_of h k) refl (find_miss k hs (drop room holds)) out
     where
       go : (p : Bool) → is_of h k ≡ p → (length hs ≤ find_of hs k → find k (Entries hs (drop room holds)) ≡ none) → suc (length hs) ≤ zero_or_next p (find_of hs k) → find k (Entries (h ∷ hs) holds) ≡ none
       go true e ih l = absurd (no l)
@@ -115,31 +115,31 @@ module _ (bound_of : BoundRecord → List ℕ → Bound) (room : ℕ) where
 
   -- ---- free places
 
-  pub free-hit : (row : List BoundRecord) (holds : List ℕ) → free_of row < length row → hasFree (Entries row holds) ≡ true
-  free-hit [] holds less = absurd (no less)
+  pub free_hit : (row : List BoundRecord) (holds : List ℕ) → free_of row < length row → has_free (Entries row holds) ≡ true
+  free_hit [] holds less = absurd (no less)
     where
       no : 0 < 0 → ⊥
       no h = omega arith
-  free-hit (h ∷ hs) holds less = go (is_free h) refl (free-hit hs (drop room holds)) less
+  free_hit (h ∷ hs) holds less = go (is_free h) refl (free_hit hs (drop room holds)) less
     where
-      go : (p : Bool) → is_free h ≡ p → (free_of hs < length hs → hasFree (Entries hs (drop room holds)) ≡ true) → zero_or_next p (free_of hs) < suc (length hs) → hasFree (Entries (h ∷ hs) holds) ≡ true
-      go true e ih l = free-at h.handle 0 (bound_of h (take room holds)) (Entries hs (drop room holds)) (is_used h) e
-      go false e ih l = free-past h.handle 0 (bound_of h (take room holds)) (Entries hs (drop room holds)) (is_used h) e ∙ ih (omega arith)
+      go : (p : Bool) → is_free h ≡ p → (free_of hs < length hs → has_free (Entries hs (drop room holds)) ≡ true) → zero_or_next p (free_of hs) < suc (length hs) → has_free (Entries (h ∷ hs) holds) ≡ true
+      go true e ih l = free_at h.handle 0 (bound_of h (take room holds)) (Entries hs (drop room holds)) (is_used h) e
+      go false e ih l = free_past h.handle 0 (bound_of h (take room holds)) (Entries hs (drop room holds)) (is_used h) e ∙ ih (omega arith)
 
-  pub free-miss : (row : List BoundRecord) (holds : List ℕ) → length row ≤ free_of row → hasFree (Entries row holds) ≡ false
-  free-miss [] holds out = refl
-  free-miss (h ∷ hs) holds out = go (is_free h) refl (free-miss hs (drop room holds)) out
+  pub free_miss : (row : List BoundRecord) (holds : List ℕ) → length row ≤ free_of row → has_free (Entries row holds) ≡ false
+  free_miss [] holds out = refl
+  free_miss (h ∷ hs) holds out = go (is_free h) refl (free_miss hs (drop room holds)) out
     where
-      go : (p : Bool) → is_free h ≡ p → (length hs ≤ free_of hs → hasFree (Entries hs (drop room holds)) ≡ false) → suc (length hs) ≤ zero_or_next p (free_of hs) → hasFree (Entries (h ∷ hs) holds) ≡ false
+      go : (p : Bool) → is_free h ≡ p → (length hs ≤ free_of hs → has_free (Entries hs (drop room holds)) ≡ false) → suc (length hs) ≤ zero_or_next p (free_of hs) → has_free (Entries (h ∷ hs) holds) ≡ false
       go true e ih l = absurd (no l)
         where
           no : suc (length hs) ≤ 0 → ⊥
           no l = omega arith
-      go false e ih l = free-past h.handle 0 (bound_of h (take room holds)) (Entries hs (drop room holds)) (is_used h) e ∙ ih (omega arith)
+      go false e ih l = free_past h.handle 0 (bound_of h (take room holds)) (Entries hs (drop room holds)) (is_used h) e ∙ ih (omega arith)
 
-  pub all-freed : (row : List BoundRecord) (holds : List ℕ) → Entries (cleared_all row) holds ≡ freed (Entries row holds)
-  all-freed [] holds = refl
-  all-freed (h ∷ hs) holds = ap (λ (t : Row Bound). none ∷ t) (all-freed hs (drop room holds))
+  pub all_freed : (row : List BoundRecord) (holds : List ℕ) → Entries (cleared_all row) holds ≡ freed (Entries row holds)
+  all_freed [] holds = refl
+  all_freed (h ∷ hs) holds = ap (λ (t : Row Bound). none ∷ t) (all_freed hs (drop room holds))
 
   -- ---- a record is set, and the hold areas of the other places stay
 
@@ -172,8 +172,8 @@ module _ (bound_of : BoundRecord → List ℕ → Bound) (room : ℕ) where
     abbrev At : ℕ → List ℕ → Option (ℕ × Bound)
     At i holds = some (k, bound_of g (Part i holds))
 
-    put-entry : (part : List ℕ) → entry_of bound_of room g part ≡ some (k, bound_of g part)
-    put-entry part = ap (λ (u : Bool). cond u (some (g.handle, bound_of g part)) none) used ∙ ap (λ (m : ℕ). some (m, bound_of g part)) is
+    put_entry : (part : List ℕ) → entry_of bound_of room g part ≡ some (k, bound_of g part)
+    put_entry part = ap (λ (u : Bool). cond u (some (g.handle, bound_of g part)) none) used ∙ ap (λ (m : ℕ). some (m, bound_of g part)) is
 
     replaced : (row : List BoundRecord) (a b : List ℕ) → find_of row k < length row → Apart (find_of row k) a b
         → Entries (set row (find_of row k) g) b ≡ replace k (bound_of g (Part (find_of row k) b)) (Entries row a)
@@ -186,15 +186,15 @@ module _ (bound_of : BoundRecord → List ℕ → Bound) (room : ℕ) where
             → zero_or_next p (find_of hs k) < suc (length hs) → Apart (zero_or_next p (find_of hs k)) a b
             → Entries (set (h ∷ hs) (zero_or_next p (find_of hs k)) g) b ≡ replace k (bound_of g (Part (zero_or_next p (find_of hs k)) b)) (Entries (h ∷ hs) a)
         go true e ih l apart =
-            ap (λ (x : Option (ℕ × Bound)). x ∷ Entries hs (drop room b)) (put-entry (take room b))
+            ap (λ (x : Option (ℕ × Bound)). x ∷ Entries hs (drop room b)) (put_entry (take room b))
             ∙ ap (λ (x : List ℕ). some (k, bound_of g (take room b)) ∷ Entries hs x) apart
-            ∙ ap (λ (x : List ℕ). some (k, bound_of g x) ∷ Entries hs (drop room a)) (sym (part-first b))
-            ∙ sym (replace-at h.handle k (bound_of h (take room a)) (Entries hs (drop room a)) (bound_of g (Part 0 b)) (is_used h) e)
+            ∙ ap (λ (x : List ℕ). some (k, bound_of g x) ∷ Entries hs (drop room a)) (sym (part_first b))
+            ∙ sym (replace_at h.handle k (bound_of h (take room a)) (Entries hs (drop room a)) (bound_of g (Part 0 b)) (is_used h) e)
         go false e ih l apart =
             ap (λ (x : List ℕ). entry_of bound_of room h x ∷ Entries (set hs (find_of hs k) g) (drop room b)) apart.0
             ∙ ap (λ (t : Row Bound). entry_of bound_of room h (take room a) ∷ t) (ih (omega arith) apart.1)
-            ∙ ap (λ (x : List ℕ). entry_of bound_of room h (take room a) ∷ replace k (bound_of g x) (Entries hs (drop room a))) (part-next (find_of hs k) b)
-            ∙ sym (replace-past h.handle k (bound_of h (take room a)) (Entries hs (drop room a)) (bound_of g (Part (suc (find_of hs k)) b)) (is_used h) e)
+            ∙ ap (λ (x : List ℕ). entry_of bound_of room h (take room a) ∷ replace k (bound_of g x) (Entries hs (drop room a))) (part_next (find_of hs k) b)
+            ∙ sym (replace_past h.handle k (bound_of h (take room a)) (Entries hs (drop room a)) (bound_of g (Part (suc (find_of hs k)) b)) (is_used h) e)
 
     filled : (row : List BoundRecord) (a : List ℕ) → free_of row < length row → Entries (set row (free_of row) g) a ≡ fill k (bound_of g (Part (free_of row) a)) (Entries row a)
     filled [] a less = refl
@@ -204,25 +204,25 @@ module _ (bound_of : BoundRecord → List ℕ → Bound) (room : ℕ) where
             → (free_of hs < length hs → Entries (set hs (free_of hs) g) (drop room a) ≡ fill k (bound_of g (Part (free_of hs) (drop room a))) (Entries hs (drop room a)))
             → zero_or_next p (free_of hs) < suc (length hs) → Entries (set (h ∷ hs) (zero_or_next p (free_of hs)) g) a ≡ fill k (bound_of g (Part (zero_or_next p (free_of hs)) a)) (Entries (h ∷ hs) a)
         go true e ih l =
-            ap (λ (x : Option (ℕ × Bound)). x ∷ Entries hs (drop room a)) (put-entry (take room a))
-            ∙ ap (λ (x : List ℕ). some (k, bound_of g x) ∷ Entries hs (drop room a)) (sym (part-first a))
-            ∙ sym (fill-at h.handle k (bound_of h (take room a)) (Entries hs (drop room a)) (bound_of g (Part 0 a)) (is_used h) e)
+            ap (λ (x : Option (ℕ × Bound)). x ∷ Entries hs (drop room a)) (put_entry (take room a))
+            ∙ ap (λ (x : List ℕ). some (k, bound_of g x) ∷ Entries hs (drop room a)) (sym (part_first a))
+            ∙ sym (fill_at h.handle k (bound_of h (take room a)) (Entries hs (drop room a)) (bound_of g (Part 0 a)) (is_used h) e)
         go false e ih l =
             ap (λ (t : Row Bound). entry_of bound_of room h (take room a) ∷ t) (ih (omega arith))
-            ∙ ap (λ (x : List ℕ). entry_of bound_of room h (take room a) ∷ fill k (bound_of g x) (Entries hs (drop room a))) (part-next (free_of hs) a)
-            ∙ sym (fill-past h.handle k (bound_of h (take room a)) (Entries hs (drop room a)) (bound_of g (Part (suc (free_of hs)) a)) (is_used h) e)
+            ∙ ap (λ (x : List ℕ). entry_of bound_of room h (take room a) ∷ fill k (bound_of g x) (Entries hs (drop room a))) (part_next (free_of hs) a)
+            ∙ sym (fill_past h.handle k (bound_of h (take room a)) (Entries hs (drop room a)) (bound_of g (Part (suc (free_of hs)) a)) (is_used h) e)
 
     -- at its own place; at the first free one
-    pub put-own : (row : List BoundRecord) (a b : List ℕ) → find_of row k < length row → Apart (find_of row k) a b
+    pub put_own : (row : List BoundRecord) (a b : List ℕ) → find_of row k < length row → Apart (find_of row k) a b
         → Entries (set row (find_of row k) g) b ≡ put k (bound_of g (Part (find_of row k) b)) (Entries row a)
     unfolding put
-    put-own row a b less apart =
+    put_own row a b less apart =
         replaced row a b less apart
-        ∙ ap (λ (x : Bool). cond x (replace k (bound_of g (Part (find_of row k) b)) (Entries row a)) (fill k (bound_of g (Part (find_of row k) b)) (Entries row a))) (sym (ap is_some (find-hit k row a less)))
+        ∙ ap (λ (x : Bool). cond x (replace k (bound_of g (Part (find_of row k) b)) (Entries row a)) (fill k (bound_of g (Part (find_of row k) b)) (Entries row a))) (sym (ap is_some (find_hit k row a less)))
 
-    pub put-new : (row : List BoundRecord) (a : List ℕ) → length row ≤ find_of row k → free_of row < length row
+    pub put_new : (row : List BoundRecord) (a : List ℕ) → length row ≤ find_of row k → free_of row < length row
         → Entries (set row (free_of row) g) a ≡ put k (bound_of g (Part (free_of row) a)) (Entries row a)
     unfolding put
-    put-new row a out less =
+    put_new row a out less =
         filled row a less
-        ∙ ap (λ (x : Bool). cond x (replace k (bound_of g (Part (free_of row) a)) (Entries row a)) (fill k (bound_of g (Part (free_of row) a)) (Entries row a))) (sym (ap is_some (find-miss k row a out)))
+        ∙ ap (λ (x : Bool). cond x (replace k (bound_of g (Part (free_of row) a)) (Entries row a)) (fill k (bound_of g (Part (free_of row) a)) (Entries row a))) (sym (ap is_some (find_miss k row a out)))

@@ -14,7 +14,7 @@ use Rattle.model_standby.specs.Answer.{reply}
 use Rattle.model_standby.specs.Store.{Place}
 use Rattle.model_standby.specs.State.{connected, checked_at}
 use Rattle.model_standby.specs.State as state
-use Rattle.model_standby.specs.Core.{Core, CoreResult, leave, clear, core_says, core_refuse, counting, core_unbound, coreHello, coreChecked}
+use Rattle.model_standby.specs.Core.{Core, CoreResult, leave, clear, core_says, core_refuse, counting, core_unbound, core_hello, core_checked}
 use Rattle.standby_counters.specs.declared.Replica.{Replica}
 use Rattle.standby_state.specs.declared.Settings.{Settings}
 use Rattle.standby_state.specs.declared.Answer.{Answer}
@@ -51,16 +51,16 @@ clears_is c s seen m d a x f = record { is = λ version room holds b ps pending.
 
 module _ (c : Replica) (s : Settings) (seen : Lookup) where
   -- a refusal or a Nack that leaves all as it was
-  pub as-left : (m : state.Settings → Core → CoreResult) {r : Outcome} {a : Answer} {d : Replica} {x : Answer} → r ≡ leaving d seen a → a ≡ x → ((b : List ℕ) → Exact b x)
+  pub as_left : (m : state.Settings → Core → CoreResult) {r : Outcome} {a : Answer} {d : Replica} {x : Answer} → r ≡ leaving d seen a → a ≡ x → ((b : List ℕ) → Exact b x)
       → ((room : ℕ) (b : List ℕ) (ps : List Place) (pending : List (ℕ × ℕ)) → record { core = At d ps pending; action = leave; answer = answer_of b x } ≡ m (settings_of s room) (At c ps pending))
       → Replies c s seen m r
-  as-left m {d = d} {x = x} e f is-exact is = subst (Replies c s seen m) (sym (e ∙ ap (leaving d seen) f)) (leaves_is c s seen m d x is-exact is)
+  as_left m {d = d} {x = x} e f is-exact is = subst (Replies c s seen m) (sym (e ∙ ap (leaving d seen) f)) (leaves_is c s seen m d x is-exact is)
 
   -- ---- Hello
 
   module _ (v e : ℕ) (kinds : List ℕ) where
     abbrev Hello : state.Settings → Core → CoreResult
-    Hello L k = coreHello L k v e kinds
+    Hello L k = core_hello L k v e kinds
 
     abbrev Lower : state.Settings → Core → Bool → CoreResult
     Lower L k t = cond t (core_says k leave (welcome k.counters.epoch (max L.incarnation 1))) (core_says (counting (core_unbound k) (connected e k.counters)) clear (welcome e (max L.incarnation 1)))
@@ -68,28 +68,28 @@ module _ (c : Replica) (s : Settings) (seen : Lookup) where
     abbrev Tests : state.Settings → Core → Bool → Bool → CoreResult
     Tests L k t u = cond (not t) (core_refuse k leave 11) (cond (not u) (core_refuse k leave 12) (Lower L k (ltb e k.counters.epoch)))
 
-    pub other-version : {r : Outcome} {a : Answer} → (v ≡ 1 → ⊥) → r ≡ leaving c seen a → a ≡ is_refused 11 → Replies c s seen Hello r
-    unfolding coreHello
-    other-version off e₁ e₂ = as-left Hello e₁ e₂ (λ b. exact_refused b 11) (λ room b ps pending. sym (ap (λ (t : Bool). Tests (settings_of s room) (At c ps pending) t (is_empty kinds)) (ne_eqb v 1 off)))
+    pub other_version : {r : Outcome} {a : Answer} → (v ≡ 1 → ⊥) → r ≡ leaving c seen a → a ≡ is_refused 11 → Replies c s seen Hello r
+    unfolding core_hello
+    other_version off e₁ e₂ = as_left Hello e₁ e₂ (λ b. exact_refused b 11) (λ room b ps pending. sym (ap (λ (t : Bool). Tests (settings_of s room) (At c ps pending) t (is_empty kinds)) (ne_eqb v 1 off)))
 
     -- of version 1
     module _ (one : v ≡ 1) where
       first : (L : state.Settings) (k : Core) → Hello L k ≡ Tests L k true (is_empty kinds)
-      unfolding coreHello
+      unfolding core_hello
       first L k = ap (λ (t : Bool). Tests L k t (is_empty kinds)) (eq-eqb v 1 one)
 
-      pub some-kinds : {r : Outcome} {a : Answer} → is_empty kinds ≡ false → r ≡ leaving c seen a → a ≡ is_refused 12 → Replies c s seen Hello r
-      some-kinds off e₁ e₂ =
-          as-left Hello e₁ e₂ (λ b. exact_refused b 12) (λ room b ps pending. sym (first (settings_of s room) (At c ps pending) ∙ ap (λ (t : Bool). Tests (settings_of s room) (At c ps pending) true t) off))
+      pub some_kinds : {r : Outcome} {a : Answer} → is_empty kinds ≡ false → r ≡ leaving c seen a → a ≡ is_refused 12 → Replies c s seen Hello r
+      some_kinds off e₁ e₂ =
+          as_left Hello e₁ e₂ (λ b. exact_refused b 12) (λ room b ps pending. sym (first (settings_of s room) (At c ps pending) ∙ ap (λ (t : Bool). Tests (settings_of s room) (At c ps pending) true t) off))
 
       -- and without kinds
       module _ (none : is_empty kinds ≡ true) where
         second : (L : state.Settings) (k : Core) → Hello L k ≡ Lower L k (ltb e k.counters.epoch)
         second L k = first L k ∙ ap (λ (t : Bool). Tests L k true t) none
 
-        pub lower-told : {r : Outcome} {a : Answer} {i : Incarnation} → e < c.epoch.0 → i.0 ≡ max s.incarnation.0 1 → r ≡ leaving c seen a → a ≡ is_welcome c.epoch i → Replies c s seen Hello r
-        lower-told {i = i} less own e₁ e₂ =
-            as-left Hello e₁ e₂ (λ b. exact_welcome b c.epoch i) (λ room b ps pending.
+        pub lower_told : {r : Outcome} {a : Answer} {i : Incarnation} → e < c.epoch.0 → i.0 ≡ max s.incarnation.0 1 → r ≡ leaving c seen a → a ≡ is_welcome c.epoch i → Replies c s seen Hello r
+        lower_told {i = i} less own e₁ e₂ =
+            as_left Hello e₁ e₂ (λ b. exact_welcome b c.epoch i) (λ room b ps pending.
             ap (λ (x : ℕ). record { core = At c ps pending; action = leave; answer = reply (welcome c.epoch.0 x) }) own
             ∙ sym (second (settings_of s room) (At c ps pending) ∙ ap (Lower (settings_of s room) (At c ps pending)) (lt-ltb e c.epoch.0 less)))
 
@@ -106,28 +106,28 @@ module _ (c : Replica) (s : Settings) (seen : Lookup) where
 
   module _ (h e i : ℕ) where
     abbrev Checked : state.Settings → Core → CoreResult
-    Checked L k = coreChecked L k h e i
+    Checked L k = core_checked L k h e i
 
     abbrev Asks : state.Settings → Core → Bool → Bool → CoreResult
     Asks L k t u = cond t (core_says k leave (nack h stale_epoch)) (cond (not u) (core_says k leave (nack h restarted)) (core_says (counting k (checked_at e k.counters)) leave (ack h 0)))
 
     pub stale : {r : Outcome} {a : Answer} → e < c.epoch.0 → r ≡ leaving c seen a → a ≡ is_nack h 1 → Replies c s seen Checked r
-    unfolding coreChecked
+    unfolding core_checked
     stale less e₁ e₂ =
-        as-left Checked e₁ e₂ (λ b. exact_nack b h stale_epoch) (λ room b ps pending. sym (ap (λ (t : Bool). Asks (settings_of s room) (At c ps pending) t (eqb i (max s.incarnation.0 1))) (lt-ltb e c.epoch.0 less)))
+        as_left Checked e₁ e₂ (λ b. exact_nack b h stale_epoch) (λ room b ps pending. sym (ap (λ (t : Bool). Asks (settings_of s room) (At c ps pending) t (eqb i (max s.incarnation.0 1))) (lt-ltb e c.epoch.0 less)))
 
     module _ (high : c.epoch.0 ≤ e) {own : ℕ} (is : own ≡ max s.incarnation.0 1) where
-      not-stale : (room : ℕ) (ps : List Place) (pending : List (ℕ × ℕ)) → Checked (settings_of s room) (At c ps pending) ≡ Asks (settings_of s room) (At c ps pending) false (eqb i own)
-      unfolding coreChecked
-      not-stale room ps pending =
+      not_stale : (room : ℕ) (ps : List Place) (pending : List (ℕ × ℕ)) → Checked (settings_of s room) (At c ps pending) ≡ Asks (settings_of s room) (At c ps pending) false (eqb i own)
+      unfolding core_checked
+      not_stale room ps pending =
           ap (λ (t : Bool). Asks (settings_of s room) (At c ps pending) t (eqb i (max s.incarnation.0 1))) (le-ltb e c.epoch.0 high)
           ∙ ap (λ (x : ℕ). Asks (settings_of s room) (At c ps pending) false (eqb i x)) (sym is)
 
-      pub other-run : {r : Outcome} {a : Answer} → (i ≡ own → ⊥) → r ≡ leaving c seen a → a ≡ is_nack h 4 → Replies c s seen Checked r
-      other-run off e₁ e₂ = as-left Checked e₁ e₂ (λ b. exact_nack b h restarted) (λ room b ps pending. sym (not-stale room ps pending ∙ ap (Asks (settings_of s room) (At c ps pending) false) (ne_eqb i own off)))
+      pub other_run : {r : Outcome} {a : Answer} → (i ≡ own → ⊥) → r ≡ leaving c seen a → a ≡ is_nack h 4 → Replies c s seen Checked r
+      other_run off e₁ e₂ = as_left Checked e₁ e₂ (λ b. exact_nack b h restarted) (λ room b ps pending. sym (not_stale room ps pending ∙ ap (Asks (settings_of s room) (At c ps pending) false) (ne_eqb i own off)))
 
       pub said : {r : Outcome} {a : Answer} {d : Replica} {n : Epoch} → n.0 ≡ e → i ≡ own → d ≡ checked_to c n → r ≡ leaving d seen a → a ≡ is_ack h (record { 0 = 0 }) → Replies c s seen Checked r
       said {a = a} {d = d} {n = n} at same e₀ e₁ e₂ =
-          as-left Checked (e₁ ∙ ap (λ (x : Replica). leaving x seen a) e₀) e₂ (λ b. exact_ack b h (record { 0 = 0 })) (λ room b ps pending.
+          as_left Checked (e₁ ∙ ap (λ (x : Replica). leaving x seen a) e₀) e₂ (λ b. exact_ack b h (record { 0 = 0 })) (λ room b ps pending.
           ap (λ (x : ℕ). record { core = At (checked_to c (record { 0 = x })) ps pending; action = leave; answer = reply (ack h 0) }) at
-          ∙ sym (not-stale room ps pending ∙ ap (Asks (settings_of s room) (At c ps pending) false) (eq-eqb i own same)))
+          ∙ sym (not_stale room ps pending ∙ ap (Asks (settings_of s room) (At c ps pending) false) (eq-eqb i own same)))

@@ -6,7 +6,7 @@ use Rattle.frame_fields.specs.declared.Epoch.{Epoch}
 use Rattle.standby_row.specs.declared.Lookup.{Lookup}
 use Rattle.model_standby.specs.Store.{Place}
 use Rattle.model_standby.specs.State as state
-use Rattle.model_standby.specs.Core.{Core, CoreResult, coreHello, coreChecked}
+use Rattle.model_standby.specs.Core.{Core, CoreResult, core_hello, core_checked}
 use Rattle.standby_counters.specs.declared.Replica.{Replica}
 use Rattle.standby_state.specs.declared.Settings.{Settings}
 use Rattle.standby_state.specs.declared.Outcome.{Outcome}
@@ -34,7 +34,7 @@ pub record Replies (c : Replica) (s : Settings) (seen : Lookup) (m : state.Setti
   pub exact : (b : List ℕ) → Exact b r.answer
 
 abbrev pub HelloIs : Replica → Settings → Lookup → ℕ → ℕ → Bool → Outcome → Type 0
-HelloIs c s seen v e none r = (kinds : List ℕ) → is_empty kinds ≡ none → Replies c s seen (λ L k. coreHello L k v e kinds) r
+HelloIs c s seen v e none r = (kinds : List ℕ) → is_empty kinds ≡ none → Replies c s seen (λ L k. core_hello L k v e kinds) r
 
 abbrev pub CheckedIs : Replica → Settings → Lookup → ℕ → ℕ → ℕ → Outcome → Type 0
-CheckedIs c s seen h e i r = Replies c s seen (λ L k. coreChecked L k h e i) r
+CheckedIs c s seen h e i r = Replies c s seen (λ L k. core_checked L k h e i) r

@@ -17,7 +17,7 @@ use Rattle.model_standby.specs.Standby.{max_whole, starts_with_reset}
 use Rattle.frame_op.specs.Answers.{held_run}
 use Rattle.model_frame.proofs.Le.{are_bytes, bytes_take}
 use Rattle.standby_changes.specs.Held.{TakesAll}
-use Rattle.standby_changes.proofs.Held.{held-sizes}
+use Rattle.standby_changes.proofs.Held.{held_sizes}
 use Rattle.standby_hold.specs.Holding.{sum_of, refusal_of, HoldIs}
 
 positive : (c : Change) → 0 < size_of c
@@ -35,7 +35,7 @@ pub front : (version len : ℕ) (area : List ℕ) {used : ℕ} → used ≡ size
 front version len area e = e ∙ ap (λ (k : ℕ). sizes (held_run version (take k area))) (sub-zero len)
 
 pub within : (version len : ℕ) (area : List ℕ) {used : ℕ} → ((i : ℕ) → get_or area i 0 < 256) → used ≡ sizes (held_run version (take len area)) → used ≤ length area
-within version len area known u = omega (arith, u, held-sizes version (take len area) (bytes_take len area (are_bytes area known)), length-take len area)
+within version len area known u = omega (arith, u, held_sizes version (take len area) (bytes_take len area (are_bytes area known)), length-take len area)
 
 -- no changes are no bytes
 pub empty_size : (cs : List Change) → is_empty cs ≡ eqb (sizes cs) 0
@@ -73,22 +73,22 @@ module _ (version : ℕ) (run area : List ℕ) (len sum : ℕ) {used before more
   pub no_reset : lacks ≡ true → HoldIs version run area len sum area (record { refusal = 16; used = used; sum = s })
   no_reset h = made 16 used area (sym (ap (λ (x : Bool). cond x 16 (cond (ltb max_whole (sum_of H sum cs)) 17 (cond (ltb (length area) (sizes H + sizes cs)) 18 0))) (sym lacking ∙ h))) u refl
 
-  past-16 : lacks ≡ false → refusal_of H sum cs (length area) ≡ cond (ltb max_whole s) 17 (cond (ltb (length area) (sizes H + sizes cs)) 18 0)
-  past-16 h =
+  past_16 : lacks ≡ false → refusal_of H sum cs (length area) ≡ cond (ltb max_whole s) 17 (cond (ltb (length area) (sizes H + sizes cs)) 18 0)
+  past_16 h =
       ap (λ (x : Bool). cond x 16 (cond (ltb max_whole (sum_of H sum cs)) 17 (cond (ltb (length area) (sizes H + sizes cs)) 18 0))) (sym lacking ∙ h)
       ∙ ap (λ (k : ℕ). cond (ltb max_whole k) 17 (cond (ltb (length area) (sizes H + sizes cs)) 18 0)) (sym total)
 
   pub too_much : lacks ≡ false → 4294967296 < s → HoldIs version run area len sum area (record { refusal = 17; used = used; sum = s })
-  too_much h g = made 17 used area (sym (past-16 h ∙ ap (λ (x : Bool). cond x 17 (cond (ltb (length area) (sizes H + sizes cs)) 18 0)) (lt-ltb max_whole s g))) u refl
+  too_much h g = made 17 used area (sym (past_16 h ∙ ap (λ (x : Bool). cond x 17 (cond (ltb (length area) (sizes H + sizes cs)) 18 0)) (lt-ltb max_whole s g))) u refl
 
-  past-17 : lacks ≡ false → s ≤ 4294967296 → refusal_of H sum cs (length area) ≡ cond (ltb (length area) (used + length run)) 18 0
-  past-17 h g =
-      past-16 h ∙ ap (λ (x : Bool). cond x 17 (cond (ltb (length area) (sizes H + sizes cs)) 18 0)) (le-ltb max_whole s g)
+  past_17 : lacks ≡ false → s ≤ 4294967296 → refusal_of H sum cs (length area) ≡ cond (ltb (length area) (used + length run)) 18 0
+  past_17 h g =
+      past_16 h ∙ ap (λ (x : Bool). cond x 17 (cond (ltb (length area) (sizes H + sizes cs)) 18 0)) (le-ltb max_whole s g)
       ∙ ap (λ (k : ℕ). cond (ltb (length area) (k + sizes cs)) 18 0) (sym u) ∙ ap (λ (k : ℕ). cond (ltb (length area) (used + k)) 18 0) (sym size)
 
   pub no_room : lacks ≡ false → s ≤ 4294967296 → length area < used + length run → HoldIs version run area len sum area (record { refusal = 18; used = used; sum = s })
-  no_room h g r = made 18 used area (sym (past-17 h g ∙ ap (λ (x : Bool). cond x 18 0) (lt-ltb (length area) (used + length run) r))) u refl
+  no_room h g r = made 18 used area (sym (past_17 h g ∙ ap (λ (x : Bool). cond x 18 0) (lt-ltb (length area) (used + length run) r))) u refl
 
   pub held : lacks ≡ false → s ≤ 4294967296 → used + length run ≤ length area → {area' : List ℕ} → area' ≡ write area used run
       → HoldIs version run area len sum area' (record { refusal = 0; used = used + length run; sum = s })
-  held h g r {area'} w = made 0 (used + length run) area' (sym (past-17 h g ∙ ap (λ (x : Bool). cond x 18 0) (le-ltb (length area) (used + length run) r))) (ap (λ (k : ℕ). k + length run) u) (w ∙ ap (λ (k : ℕ). write area k run) u)
+  held h g r {area'} w = made 0 (used + length run) area' (sym (past_17 h g ∙ ap (λ (x : Bool). cond x 18 0) (le-ltb (length area) (used + length run) r))) (ap (λ (k : ℕ). k + length run) u) (w ∙ ap (λ (k : ℕ). write area k run) u)

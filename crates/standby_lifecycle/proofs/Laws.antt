@@ -12,17 +12,17 @@ use Rattle.base_flags.proofs.Flags.{set_so, clear_so}
 use Rattle.standby_row.specs.declared.Lookup.{Lookup}
 use Rattle.store_areas.specs.declared.Shape.{Shape}
 use Rattle.store_areas.specs.Areas.{words_at, bytes_at, allowed, Rules}
-use Rattle.store_areas.proofs.Ruling.{rules-of}
+use Rattle.store_areas.proofs.Ruling.{rules_of}
 use Rattle.store_place.specs.Only.{Only}
 use Rattle.standby_pending.proofs.Laws.{cleared}
 use Rattle.standby_commit.proofs.Header.{pending_kept}
 use Rattle.standby_pending_run.specs.Commits.{Ran}
-use Rattle.standby_pending_run.proofs.Head.{word_same, used-kept, places-kept, rules_front, clear_only, clear_rules}
+use Rattle.standby_pending_run.proofs.Head.{word_same, used_kept, places_kept, rules_front, clear_only, clear_rules}
 use Rattle.store_sessions.specs.Answers.{TakenOver}
 use Rattle.model_standby.specs.Answer.{done}
 use Rattle.model_standby.specs.Store.{on_places, taken_over}
 use Rattle.model_standby.specs.State.{Call, flush, disconnected_from, promote, promote_unchecked}
-use Rattle.model_standby.specs.Core.{Core, CoreResult, leave, clear, core_refuse, core_done, core_run, core_unbound, corePromotion, coreStep}
+use Rattle.model_standby.specs.Core.{Core, CoreResult, leave, clear, core_refuse, core_done, core_run, core_unbound, core_promotion, core_step}
 use Rattle.standby_part.specs.State.{core_at}
 use Rattle.standby_counters.specs.declared.Replica.{Replica}
 use Rattle.standby_state.specs.declared.Settings.{Settings}
@@ -54,14 +54,14 @@ pub promoted_is : (s : Settings) (c : Replica) (seen : Lookup) (w b : List ℕ) 
     → d ≡ promoted_from c → a ≡ is_done → r ≡ clearing d seen a → Promoted s c seen w w' b b' r
 promoted_is s c seen w b r {w1} {w'} {b'} first t₁ e₀ e₁ e₂ =
     let t : TakenOver s.shape s.max_lag (set w 1 0) w' b b' = subst (λ (x : List ℕ). TakenOver s.shape s.max_lag x w' b b') first t₁ in
-    let kept : get_or (set w 1 0) 0 0 ≡ get_or w 0 0 = used-kept s.shape w (set w 1 0) b (clear_only w) in
+    let kept : get_or (set w 1 0) 0 0 ≡ get_or w 0 0 = used_kept s.shape w (set w 1 0) b (clear_only w) in
     let still : Rules s.shape (set w 1 0) b = clear_rules s.shape w b r in
     let long : 66 ≤ length w = omega (arith, r.room.words_long) in
     let long' : 66 ≤ length (set w 1 0) = omega (arith, length-set w 1 0) in
     let rules : Rules s.shape w' b' = rules_front s.shape (set w 1 0) w' b b' t.words.front t.words.same_length t.bytes.same_length still in
     record {
       is = e₂ ∙ (λ j. clearing (e₀ j) seen (e₁ j));
-      places = t.places ∙ ap (on_places (taken_over s.max_lag)) (places-kept s.shape w (set w 1 0) b (clear_only w));
+      places = t.places ∙ ap (on_places (taken_over s.max_lag)) (places_kept s.shape w (set w 1 0) b (clear_only w));
       pending = pending_kept (set w 1 0) w' long' still.pending t.words.front ∙ cleared w long;
       rules = rules;
       used = word_same 0 (set w 1 0) w' t.words.front (omega arith) ∙ kept;
@@ -87,7 +87,7 @@ module _ (s : Settings) (c : Replica) (seen : Lookup) (w b h : List ℕ) where
   }
 
   pub keeps : Sound ≡ true → Rules s.shape w b
-  keeps on = rules-of s.shape w b (front (allowed s.shape w b) _ on)
+  keeps on = rules_of s.shape w b (front (allowed s.shape w b) _ on)
     where
       front : (t u : Bool) → (t && u) ≡ true → t ≡ true
       front true u e = refl
@@ -104,13 +104,13 @@ module _ (s : Settings) (c : Replica) (seen : Lookup) (w b h : List ℕ) where
       abbrev Flush : Bool → CoreResult
       Flush t = cond t (core_refuse Was leave 22) (core_done (core_run true Was) leave)
 
-      flush-by : (t : Bool) → (not (eqb n c.connections) || is_set c.promoted) ≡ t → coreStep (settings_of s (room_in seen h)) Was (found_in seen h) (ltb seen.free seen.len) (flush n) ≡ Flush t
-      unfolding coreStep
-      flush-by t e = ap Flush e
+      flush_by : (t : Bool) → (not (eqb n c.connections) || is_set c.promoted) ≡ t → core_step (settings_of s (room_in seen h)) Was (found_in seen h) (ltb seen.free seen.len) (flush n) ≡ Flush t
+      unfolding core_step
+      flush_by t e = ap Flush e
 
-      not-flushed : {r : Outcome} {a : Answer} → (not (eqb n c.connections) || is_set c.promoted) ≡ true → a ≡ is_refused 22 → r ≡ leaving c seen a → StepIs s c seen (flush n) w w b b h h r
-      not-flushed e e₁ e₂ = subst (StepIs s c seen (flush n) w w b b h h) (sym (e₂ ∙ ap (leaving c seen) e₁)) (stepped (flush n) (exact_refused b 22) (record {
-        is = sym (flush-by true e);
+      not_flushed : {r : Outcome} {a : Answer} → (not (eqb n c.connections) || is_set c.promoted) ≡ true → a ≡ is_refused 22 → r ≡ leaving c seen a → StepIs s c seen (flush n) w w b b h h r
+      not_flushed e e₁ e₂ = subst (StepIs s c seen (flush n) w w b b h h) (sym (e₂ ∙ ap (leaving c seen) e₁)) (stepped (flush n) (exact_refused b 22) (record {
+        is = sym (flush_by true e);
         lands = leaving_lands c seen (is_refused 22) (get_or w 0 0) (room_in seen h);
         kept = λ _. refl;
         rules = keeps on;
@@ -119,16 +119,16 @@ module _ (s : Settings) (c : Replica) (seen : Lookup) (w b h : List ℕ) where
         holds = refl;
       }))
 
-      pub other-connection : {r : Outcome} {a : Answer} → (n ≡ c.connections → ⊥) → a ≡ is_refused 22 → r ≡ leaving c seen a → StepIs s c seen (flush n) w w b b h h r
-      other-connection off = not-flushed (ap (λ (t : Bool). not t || is_set c.promoted) (ne_eqb n c.connections off))
+      pub other_connection : {r : Outcome} {a : Answer} → (n ≡ c.connections → ⊥) → a ≡ is_refused 22 → r ≡ leaving c seen a → StepIs s c seen (flush n) w w b b h h r
+      other_connection off = not_flushed (ap (λ (t : Bool). not t || is_set c.promoted) (ne_eqb n c.connections off))
 
-      pub after-promotion : {r : Outcome} {a : Answer} → n ≡ c.connections → (c.promoted ≡ 0 → ⊥) → a ≡ is_refused 22 → r ≡ leaving c seen a → StepIs s c seen (flush n) w w b b h h r
-      after-promotion same done-so = not-flushed (ap (λ (t : Bool). not t || is_set c.promoted) (eq-eqb n c.connections same) ∙ set_so c.promoted done-so)
+      pub after_promotion : {r : Outcome} {a : Answer} → n ≡ c.connections → (c.promoted ≡ 0 → ⊥) → a ≡ is_refused 22 → r ≡ leaving c seen a → StepIs s c seen (flush n) w w b b h h r
+      after_promotion same done-so = not_flushed (ap (λ (t : Bool). not t || is_set c.promoted) (eq-eqb n c.connections same) ∙ set_so c.promoted done-so)
 
       pub flushed : {w' : List ℕ} {r : Outcome} {a : Answer} → n ≡ c.connections → c.promoted ≡ 0 → Ran s.shape b w w' → a ≡ is_done → r ≡ leaving c seen a → StepIs s c seen (flush n) w w' b b h h r
       flushed {w'} same off ran e₁ e₂ = subst (StepIs s c seen (flush n) w w' b b h h) (sym (e₂ ∙ ap (leaving c seen) e₁)) (stepped (flush n) (exact_done b) (record {
         is = (λ j. record { core = record { counters = counters_of c; places = ran.places j; pending = ran.pending j }; action = leave; answer = done })
-            ∙ sym (flush-by false (ap (λ (t : Bool). not t || is_set c.promoted) (eq-eqb n c.connections same) ∙ clear_so c.promoted off));
+            ∙ sym (flush_by false (ap (λ (t : Bool). not t || is_set c.promoted) (eq-eqb n c.connections same) ∙ clear_so c.promoted off));
         lands = leaving_lands c seen is_done (get_or w' 0 0) (room_in seen h);
         kept = λ _. refl;
         rules = ran.rules;
@@ -143,15 +143,15 @@ module _ (s : Settings) (c : Replica) (seen : Lookup) (w b h : List ℕ) where
       abbrev Lost : Bool → CoreResult
       Lost t = cond t (core_done (core_unbound Was) clear) (core_done Was leave)
 
-      lost_by : (t : Bool) → eqb n c.connections ≡ t → coreStep (settings_of s (room_in seen h)) Was (found_in seen h) (ltb seen.free seen.len) (disconnected_from n) ≡ Lost t
-      unfolding coreStep
+      lost_by : (t : Bool) → eqb n c.connections ≡ t → core_step (settings_of s (room_in seen h)) Was (found_in seen h) (ltb seen.free seen.len) (disconnected_from n) ≡ Lost t
+      unfolding core_step
       lost_by t e = ap Lost e
 
       abbrev Left : Bool → List ℕ
       Left t = cond t (set w 1 0) w
 
-      pub other-lost : {w' : List ℕ} {r : Outcome} {a : Answer} → eqb n c.connections ≡ false → w' ≡ Left (eqb n c.connections) → a ≡ is_done → r ≡ leaving c seen a → StepIs s c seen (disconnected_from n) w w' b b h h r
-      other-lost {w'} {r} e left e₁ e₂ =
+      pub other_lost : {w' : List ℕ} {r : Outcome} {a : Answer} → eqb n c.connections ≡ false → w' ≡ Left (eqb n c.connections) → a ≡ is_done → r ≡ leaving c seen a → StepIs s c seen (disconnected_from n) w w' b b h h r
+      other_lost {w'} {r} e left e₁ e₂ =
           subst (λ (x : List ℕ). StepIs s c seen (disconnected_from n) w x b b h h r) (sym (left ∙ ap Left e))
           (subst (StepIs s c seen (disconnected_from n) w w b b h h) (sym (e₂ ∙ ap (leaving c seen) e₁)) (stepped (disconnected_from n) (exact_done b) (record {
             is = sym (lost_by false e);
@@ -163,17 +163,17 @@ module _ (s : Settings) (c : Replica) (seen : Lookup) (w b h : List ℕ) where
             holds = refl;
           })))
 
-      pub own-lost : {w' : List ℕ} {r : Outcome} {a : Answer} → eqb n c.connections ≡ true → w' ≡ Left (eqb n c.connections) → a ≡ is_done → r ≡ clearing c seen a → StepIs s c seen (disconnected_from n) w w' b b h h r
-      own-lost {w'} {r} e left e₁ e₂ =
+      pub own_lost : {w' : List ℕ} {r : Outcome} {a : Answer} → eqb n c.connections ≡ true → w' ≡ Left (eqb n c.connections) → a ≡ is_done → r ≡ clearing c seen a → StepIs s c seen (disconnected_from n) w w' b b h h r
+      own_lost {w'} {r} e left e₁ e₂ =
           let long : 66 ≤ length w = omega (arith, (keeps on).room.words_long) in
           subst (λ (x : List ℕ). StepIs s c seen (disconnected_from n) w x b b h h r) (sym (left ∙ ap Left e))
           (subst (StepIs s c seen (disconnected_from n) w (set w 1 0) b b h h) (sym (e₂ ∙ ap (clearing c seen) e₁)) (stepped (disconnected_from n) (exact_done b) (record {
-            is = (λ j. record { core = record { counters = counters_of c; places = places-kept s.shape w (set w 1 0) b (clear_only w) j; pending = cleared w long j }; action = clear; answer = done })
+            is = (λ j. record { core = record { counters = counters_of c; places = places_kept s.shape w (set w 1 0) b (clear_only w) j; pending = cleared w long j }; action = clear; answer = done })
                 ∙ sym (lost_by true e);
             lands = clearing_lands c seen is_done (get_or (set w 1 0) 0 0) (room_in seen h);
             kept = λ _. refl;
             rules = clear_rules s.shape w b (keeps on);
-            more = omega (arith, used-kept s.shape w (set w 1 0) b (clear_only w));
+            more = omega (arith, used_kept s.shape w (set w 1 0) b (clear_only w));
             leaves = (sym (ap Left e), refl);
             holds = refl;
           })))
@@ -181,19 +181,19 @@ module _ (s : Settings) (c : Replica) (seen : Lookup) (w b h : List ℕ) where
     -- ---- promotion
 
     abbrev Promote : Bool → CoreResult
-    Promote t = cond t (core_done (corePromotion (settings_of s (room_in seen h)) Was) clear) (core_refuse Was leave 23)
+    Promote t = cond t (core_done (core_promotion (settings_of s (room_in seen h)) Was) clear) (core_refuse Was leave 23)
 
-    promote-by : (t : Bool) → is_set c.checked ≡ t → coreStep (settings_of s (room_in seen h)) Was (found_in seen h) (ltb seen.free seen.len) promote ≡ Promote t
-    unfolding coreStep
-    promote-by t e = ap Promote e
+    promote_by : (t : Bool) → is_set c.checked ≡ t → core_step (settings_of s (room_in seen h)) Was (found_in seen h) (ltb seen.free seen.len) promote ≡ Promote t
+    unfolding core_step
+    promote_by t e = ap Promote e
 
-    unchecked-by : coreStep (settings_of s (room_in seen h)) Was (found_in seen h) (ltb seen.free seen.len) promote_unchecked ≡ Promote true
-    unfolding coreStep
-    unchecked-by = refl
+    unchecked_by : core_step (settings_of s (room_in seen h)) Was (found_in seen h) (ltb seen.free seen.len) promote_unchecked ≡ Promote true
+    unfolding core_step
+    unchecked_by = refl
 
-    pub not-checked : {r : Outcome} {a : Answer} → c.checked ≡ 0 → a ≡ is_refused 23 → r ≡ leaving c seen a → StepIs s c seen promote w w b b h h r
-    not-checked off e₁ e₂ = subst (StepIs s c seen promote w w b b h h) (sym (e₂ ∙ ap (leaving c seen) e₁)) (stepped promote (exact_refused b 23) (record {
-      is = sym (promote-by false (clear_so c.checked off));
+    pub not_checked : {r : Outcome} {a : Answer} → c.checked ≡ 0 → a ≡ is_refused 23 → r ≡ leaving c seen a → StepIs s c seen promote w w b b h h r
+    not_checked off e₁ e₂ = subst (StepIs s c seen promote w w b b h h) (sym (e₂ ∙ ap (leaving c seen) e₁)) (stepped promote (exact_refused b 23) (record {
+      is = sym (promote_by false (clear_so c.checked off));
       lands = leaving_lands c seen (is_refused 23) (get_or w 0 0) (room_in seen h);
       kept = λ e. absurd (true≢false (sym e));
       rules = keeps on;
@@ -209,9 +209,9 @@ module _ (s : Settings) (c : Replica) (seen : Lookup) (w b h : List ℕ) where
       is : Is ≡ Promote true
       is = (λ j. record { core = record { counters = counters_of (promoted_from c); places = p.places j; pending = p.pending j }; action = clear; answer = done })
 
-      pub promoted-checked : (c.checked ≡ 0 → ⊥) → StepIs s c seen promote w w' b b' h h r
-      promoted-checked said = subst (StepIs s c seen promote w w' b b' h h) (sym p.is) (stepped promote (exact_done b') (record {
-        is = is ∙ sym (promote-by true (set_so c.checked said));
+      pub promoted_checked : (c.checked ≡ 0 → ⊥) → StepIs s c seen promote w w' b b' h h r
+      promoted_checked said = subst (StepIs s c seen promote w w' b b' h h) (sym p.is) (stepped promote (exact_done b') (record {
+        is = is ∙ sym (promote_by true (set_so c.checked said));
         lands = clearing_lands (promoted_from c) seen is_done (get_or w' 0 0) (room_in seen h);
         kept = λ e. absurd (true≢false (sym e));
         rules = p.rules;
@@ -220,9 +220,9 @@ module _ (s : Settings) (c : Replica) (seen : Lookup) (w b h : List ℕ) where
         holds = refl;
       }))
 
-      pub promoted-unchecked : StepIs s c seen promote_unchecked w w' b b' h h r
-      promoted-unchecked = subst (StepIs s c seen promote_unchecked w w' b b' h h) (sym p.is) (stepped promote_unchecked (exact_done b') (record {
-        is = is ∙ sym unchecked-by;
+      pub promoted_unchecked : StepIs s c seen promote_unchecked w w' b b' h h r
+      promoted_unchecked = subst (StepIs s c seen promote_unchecked w w' b b' h h) (sym p.is) (stepped promote_unchecked (exact_done b') (record {
+        is = is ∙ sym unchecked_by;
         lands = clearing_lands (promoted_from c) seen is_done (get_or w' 0 0) (room_in seen h);
         kept = λ e. absurd (true≢false (sym e));
         rules = p.rules;

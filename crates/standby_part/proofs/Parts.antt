@@ -22,7 +22,7 @@ use Rattle.standby_commit.specs.Settling.{stays, commits, StoreAfter, Settles}
 use Rattle.model_standby.specs.Store.{on_place, changed, session_at, or_new}
 use Rattle.model_standby.specs.Answer.{reply}
 use Rattle.model_standby.specs.State.{Settings, Counters, Bound, numbered}
-use Rattle.model_standby.specs.Core.{leave, store, CoreResult, core_says, core_refuse, coreSettle, corePart}
+use Rattle.model_standby.specs.Core.{leave, store, CoreResult, core_says, core_refuse, core_settle, core_part}
 use Rattle.standby_part.specs.State.{bound_of, core_at, settings_for, holding_to}
 use Rattle.standby_part.specs.Part.{PartIs}
 
@@ -42,9 +42,9 @@ module _ (s : Shape) (h : ℕ) (cs : List Change) (w w' b b' : List ℕ) (yes : 
   next : (or_new (session_at (places_of s w b) x.place)).next_out ≡ (place_at s w b x.place).stored.session.next_out
   next = ap (λ o. (or_new o).next_out) (session_is s w b x.place used)
 
-  pub settle_is : coreSettle L (core_at c s w b) h x n cs
+  pub settle_is : core_settle L (core_at c s w b) h x n cs
       ≡ record { core = core_at c s w' b'; action = store h (cond yes (numbered n x) x); answer = reply (cond yes (ack h n) (nack h diverged)) }
-  unfolding coreSettle
+  unfolding core_settle
   settle_is = ap (λ (k : ℕ). cond (fits k cs) Yes No) next ∙ ap (λ (t : Bool). cond t Yes No) (sym g.is) ∙ go yes g.places g.pending
     where
       go : (y : Bool) → places_of s w' b' ≡ cond y (on_place x.place (changed s.bytes s.messages cs) (places_of s w b)) (places_of s w b)
@@ -63,11 +63,11 @@ module _ (version : ℕ) (s : Shape) (h : BoundRecord) (n : CommitNumber) (cs : 
   abbrev H : List Change
   H = held_run version (take h.held_len area)
 
-  pub commit-held : t ≡ false → Rules s w b → PartIs version s h n.0 commit cs w w b b area area (record { refusal = 15; stores = false; bound = h; nack = false })
-  unfolding corePart
-  commit-held some r = record {
+  pub commit_held : t ≡ false → Rules s w b → PartIs version s h n.0 commit cs w w b b area area (record { refusal = 15; stores = false; bound = h; nack = false })
+  unfolding core_part
+  commit_held some r = record {
     is = λ c incarnation lag.
-        sym (ap (λ (t : Bool). cond (not t) (core_refuse (core_at c s w b) leave 15) (coreSettle (settings_for s (length area) incarnation lag) (core_at c s w b) h.handle (bound_of version h area) n.0 cs)) (sym l ∙ some));
+        sym (ap (λ (t : Bool). cond (not t) (core_refuse (core_at c s w b) leave 15) (core_settle (settings_for s (length area) incarnation lag) (core_at c s w b) h.handle (bound_of version h area) n.0 cs)) (sym l ∙ some));
     rules = r;
     store_after = (refl, refl);
     slot_place = refl;
@@ -78,24 +78,24 @@ module _ (version : ℕ) (s : Shape) (h : BoundRecord) (n : CommitNumber) (cs : 
   module _ (empty : t ≡ true) (used : h.place < get_or w 0 0) where
     -- past 15
     past : (c : Counters) (incarnation lag : ℕ)
-        → corePart (settings_for s (length area) incarnation lag) (core_at c s w b) h.handle (bound_of version h area) n.0 commit cs
-        ≡ coreSettle (settings_for s (length area) incarnation lag) (core_at c s w b) h.handle (bound_of version h area) n.0 cs
-    unfolding corePart
+        → core_part (settings_for s (length area) incarnation lag) (core_at c s w b) h.handle (bound_of version h area) n.0 commit cs
+        ≡ core_settle (settings_for s (length area) incarnation lag) (core_at c s w b) h.handle (bound_of version h area) n.0 cs
+    unfolding core_part
     past c incarnation lag =
-        ap (λ (t : Bool). cond (not t) (core_refuse (core_at c s w b) leave 15) (coreSettle (settings_for s (length area) incarnation lag) (core_at c s w b) h.handle (bound_of version h area) n.0 cs)) (sym l ∙ empty)
+        ap (λ (t : Bool). cond (not t) (core_refuse (core_at c s w b) leave 15) (core_settle (settings_for s (length area) incarnation lag) (core_at c s w b) h.handle (bound_of version h area) n.0 cs)) (sym l ∙ empty)
 
     none_held_lem : held_run version (take 0 area) ≡ H
-    none_held_lem = held_none version [] (omega arith) ∙ sym (none-there H (sym l ∙ empty))
+    none_held_lem = held_none version [] (omega arith) ∙ sym (none_there H (sym l ∙ empty))
       where
-        none-there : (x : List Change) → is_empty x ≡ true → x ≡ []
-        none-there [] e = refl
-        none-there (y ∷ x) e = absurd (true≢false (sym e))
+        none_there : (x : List Change) → is_empty x ≡ true → x ≡ []
+        none_there [] e = refl
+        none_there (y ∷ x) e = absurd (true≢false (sym e))
 
     -- nothing is held, and the byte sum stays
-    commit-settled : (k : CommitNumber) (taken : Bool) {w' b' : List ℕ} {slot : BoundRecord} → Settles s h.place h.handle cs w w' b b' taken → k.0 ≡ cond taken n.0 h.commit_no.0
+    commit_settled : (k : CommitNumber) (taken : Bool) {w' b' : List ℕ} {slot : BoundRecord} → Settles s h.place h.handle cs w w' b b' taken → k.0 ≡ cond taken n.0 h.commit_no.0
         → slot ≡ holding_to h k 0 h.held_bytes
         → PartIs version s h n.0 commit cs w w' b b' area area (record { refusal = 0; stores = true; bound = slot; nack = not taken })
-    commit-settled k taken {w'} {b'} g at e =
+    commit_settled k taken {w'} {b'} g at e =
         subst (λ (x : BoundRecord). PartIs version s h n.0 commit cs w w' b b' area area (record { refusal = 0; stores = true; bound = x; nack = not taken })) (sym e)
         (record {
           is = λ c incarnation lag.
@@ -127,10 +127,10 @@ module _ (version : ℕ) (s : Shape) (h : BoundRecord) (n : CommitNumber) (cs : 
         by true c = refl
         by false c = refl
 
-    pub commit-made : {w' b' : List ℕ} {yes : Bool} {slot : BoundRecord} → Settles s h.place h.handle cs w w' b b' yes → yes ≡ true → slot ≡ holding_to h n 0 h.held_bytes
+    pub commit_made : {w' b' : List ℕ} {yes : Bool} {slot : BoundRecord} → Settles s h.place h.handle cs w w' b b' yes → yes ≡ true → slot ≡ holding_to h n 0 h.held_bytes
         → PartIs version s h n.0 commit cs w w' b b' area area (record { refusal = 0; stores = true; bound = slot; nack = false })
-    commit-made {w'} {b'} settles y e = commit-settled n true (subst (Settles s h.place h.handle cs w w' b b') y settles) refl e
+    commit_made {w'} {b'} settles y e = commit_settled n true (subst (Settles s h.place h.handle cs w w' b b') y settles) refl e
 
-    pub commit-off : {w' b' : List ℕ} {yes : Bool} {slot : BoundRecord} → Settles s h.place h.handle cs w w' b b' yes → yes ≡ false → slot ≡ holding_to h h.commit_no 0 h.held_bytes
+    pub commit_off : {w' b' : List ℕ} {yes : Bool} {slot : BoundRecord} → Settles s h.place h.handle cs w w' b b' yes → yes ≡ false → slot ≡ holding_to h h.commit_no 0 h.held_bytes
         → PartIs version s h n.0 commit cs w w' b b' area area (record { refusal = 0; stores = true; bound = slot; nack = true })
-    commit-off {w'} {b'} settles y e = commit-settled h.commit_no false (subst (Settles s h.place h.handle cs w w' b b') y settles) refl e
+    commit_off {w'} {b'} settles y e = commit_settled h.commit_no false (subst (Settles s h.place h.handle cs w w' b b') y settles) refl e

@@ -11,7 +11,7 @@ use Rattle.store_areas.specs.Areas.{Rules}
 use Rattle.standby_commit.specs.Settling.{batch_change, StoreAfter}
 use Rattle.model_standby.specs.Answer.{reply, refused}
 use Rattle.model_standby.specs.State.{Counters}
-use Rattle.model_standby.specs.Core.{leave, store, Core, CoreResult, corePart}
+use Rattle.model_standby.specs.Core.{leave, store, Core, CoreResult, core_part}
 use Rattle.standby_part.specs.declared.PartResult.{PartResult}
 use Rattle.standby_part.specs.State.{bound_of, core_at, settings_for}
 
@@ -27,7 +27,7 @@ result_of version h n area d k =
 -- equal to the definition, whatever the counters and the settings
 pub record PartIs (version : ℕ) (s : Shape) (h : Bound) (n : ℕ) (part : the_frame.Part) (cs : List Change) (w w' b b' area area' : List ℕ) (d : PartResult) : Type 0 where
   pub is : (c : Counters) (incarnation lag : ℕ)
-      → result_of version h.handle n area' d (core_at c s w' b') ≡ corePart (settings_for s (length area) incarnation lag) (core_at c s w b) h.handle (bound_of version h area) n part cs
+      → result_of version h.handle n area' d (core_at c s w' b') ≡ core_part (settings_for s (length area) incarnation lag) (core_at c s w b) h.handle (bound_of version h area) n part cs
   pub rules : Rules s w' b'
   pub store_after : StoreAfter s (batch_change h.handle h.place part (eqb d.refusal 0 && not d.nack)) w w' b b'
   pub slot_place : d.bound.place ≡ h.place

@@ -31,26 +31,26 @@ rules_front s w w' b b' e lw lb r = record {
 
 -- what only changes words 1 to 65 changes no place
 module _ (s : Shape) (w w' b : List ℕ) (o : Only 1 66 w w') where
-  pub used-kept : get_or w' 0 0 ≡ get_or w 0 0
-  used-kept = word_kept 1 66 0 w w' o (omega arith)
+  pub used_kept : get_or w' 0 0 ≡ get_or w 0 0
+  used_kept = word_kept 1 66 0 w w' o (omega arith)
 
   place_kept : (j : ℕ) → place_at s w' b j ≡ place_at s w b j
   unfolding place_at
   place_kept j = ap (λ (l : List ℕ). place_in s.bytes s.messages (take (place_words s) l) (slice (bytes_at s j) (place_bytes s) b)) (only_after 1 66 (words_at s j) w w' o (omega arith))
 
-  pub places-kept : places_of s w' b ≡ places_of s w b
+  pub places_kept : places_of s w' b ≡ places_of s w b
   unfolding places_of
-  places-kept = ap (count_up (place_at s w' b) 0) used-kept ∙ count_same (place_at s w b) (place_at s w' b) 0 (get_or w 0 0) (λ j l m. place_kept j)
+  places_kept = ap (count_up (place_at s w' b) 0) used_kept ∙ count_same (place_at s w b) (place_at s w' b) 0 (get_or w 0 0) (λ j l m. place_kept j)
 
-  pub rules-stay : Rules s w b → get_or w' 1 0 ≤ 64 → Rules s w' b
-  rules-stay r h = record {
+  pub rules_stay : Rules s w b → get_or w' 1 0 ≤ 64 → Rules s w' b
+  rules_stay r h = record {
     room = record {
       bytes_limit = r.room.bytes_limit;
       messages_limit = r.room.messages_limit;
       words_long = omega (arith, r.room.words_long, o.same_length);
       bytes_long = r.room.bytes_long;
     };
-    used = omega (arith, r.used, used-kept);
+    used = omega (arith, r.used, used_kept);
     pending = h;
   }
 
@@ -67,4 +67,4 @@ pub clear_rules : (s : Shape) (w b : List ℕ) → Rules s w b → Rules s (set 
 clear_rules s w b r =
     let inside : 1 < length w = omega (arith, r.room.words_long) in
     let count : get_or (set w 1 0) 1 0 ≡ 0 = get_or-set_same w 1 0 0 inside in
-    rules-stay s w (set w 1 0) b (clear_only w) r (omega arith)
+    rules_stay s w (set w 1 0) b (clear_only w) r (omega arith)

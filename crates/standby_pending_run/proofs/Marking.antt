@@ -19,7 +19,7 @@ use Rattle.store_areas.proofs.Marking.{marked}
 use Rattle.standby_pending.specs.Pending.{pending_of}
 use Rattle.standby_pending.proofs.Laws.{cleared}
 use Rattle.standby_pending_run.specs.Commits.{marked_at, marked_words, ran_words, Ran, RanIf}
-use Rattle.standby_pending_run.proofs.Head.{word_same, rules_front, used-kept, places-kept, clear_only, clear_rules}
+use Rattle.standby_pending_run.proofs.Head.{word_same, rules_front, used_kept, places_kept, clear_only, clear_rules}
 
 -- ---- a session, if its place is in use
 
@@ -69,12 +69,12 @@ module _ (s : Shape) (b : List ℕ) (used : ℕ) where
       go (inl h) = not_there (omega (arith, places_length s w b, e)) (marked_past s used i w h)
       go (inr h) = there (omega (arith, e)) (marked_there s used i w h)
 
-  pub mark-all : (cs : List (ℕ × ℕ)) (w : List ℕ) → get_or w 0 0 ≡ used → Rules s w b → Marks s b w (marked_words s used cs w) (mark_all cs (places_of s w b))
-  mark-all [] w e r = record { places = refl; front = refl; same_length = refl }
-  mark-all (c ∷ cs) w e r =
+  pub mark_all_lem : (cs : List (ℕ × ℕ)) (w : List ℕ) → get_or w 0 0 ≡ used → Rules s w b → Marks s b w (marked_words s used cs w) (mark_all cs (places_of s w b))
+  mark_all_lem [] w e r = record { places = refl; front = refl; same_length = refl }
+  mark_all_lem (c ∷ cs) w e r =
       let v : List ℕ = marked_at s used c.1 w in
       let k : Marks s b w v (on_place c.1 mark_durable (places_of s w b)) = mark_one c.1 w e r in
-      let m : Marks s b v (marked_words s used cs v) (mark_all cs (places_of s v b)) = mark-all cs v (word_same 0 w v k.front (omega arith) ∙ e) (rules_front s w v b b k.front k.same_length refl r) in
+      let m : Marks s b v (marked_words s used cs v) (mark_all cs (places_of s v b)) = mark_all_lem cs v (word_same 0 w v k.front (omega arith) ∙ e) (rules_front s w v b b k.front k.same_length refl r) in
       record {
         places = m.places ∙ ap (mark_all cs) k.places;
         front = m.front ∙ k.front;
@@ -87,16 +87,16 @@ pub ran : (s : Shape) (b w : List ℕ) → Rules s w b → Ran s b w (ran_words 
 unfolding ran_words
 ran s b w r =
     let v : List ℕ = marked_words s (get_or w 0 0) (pending_of w) w in
-    let m : Marks s b w v (mark_all (pending_of w) (places_of s w b)) = mark-all s b (get_or w 0 0) (pending_of w) w refl r in
+    let m : Marks s b w v (mark_all (pending_of w) (places_of s w b)) = mark_all_lem s b (get_or w 0 0) (pending_of w) w refl r in
     let kept : Rules s v b = rules_front s w v b b m.front m.same_length refl r in
     let long : 66 ≤ length v = omega (arith, kept.room.words_long) in
     let o : Only 1 66 v (set v 1 0) = clear_only v in
     record {
       words = refl;
-      places = places-kept s v (set v 1 0) b o ∙ m.places;
+      places = places_kept s v (set v 1 0) b o ∙ m.places;
       pending = cleared v long;
       rules = clear_rules s v b kept;
-      used = used-kept s v (set v 1 0) b o ∙ word_same 0 w v m.front (omega arith);
+      used = used_kept s v (set v 1 0) b o ∙ word_same 0 w v m.front (omega arith);
       same_length = length-set v 1 0 ∙ m.same_length;
     }
 

@@ -23,23 +23,23 @@ said (refused n) = none
 said done = none
 
 module _ (b : List ℕ) (a : Answer) where
-  of-frame : (f : Frame) → FrameRecord b f a → answer_of b a ≡ reply f → frame_for b a ≡ some f
-  of-frame (hello v e node kinds) r q = absurd r
-  of-frame (welcome e i) r q = ap (frame_for b) r
-  of-frame (bind h e lag k) r q = absurd r
-  of-frame (batch h e n part cs apps) r q = absurd r
-  of-frame (ack h n) r q = ap (frame_for b) r
-  of-frame (nack h stale_epoch) r q = ap (frame_for b) r
-  of-frame (nack h diverged) r q = ap (frame_for b) r
-  of-frame (nack h lag_too_great) r q = ap (frame_for b) r
-  of-frame (nack h restarted) r q = ap (frame_for b) r
-  of-frame (bound h m) r q =
+  of_frame : (f : Frame) → FrameRecord b f a → answer_of b a ≡ reply f → frame_for b a ≡ some f
+  of_frame (hello v e node kinds) r q = absurd r
+  of_frame (welcome e i) r q = ap (frame_for b) r
+  of_frame (bind h e lag k) r q = absurd r
+  of_frame (batch h e n part cs apps) r q = absurd r
+  of_frame (ack h n) r q = ap (frame_for b) r
+  of_frame (nack h stale_epoch) r q = ap (frame_for b) r
+  of_frame (nack h diverged) r q = ap (frame_for b) r
+  of_frame (nack h lag_too_great) r q = ap (frame_for b) r
+  of_frame (nack h restarted) r q = ap (frame_for b) r
+  of_frame (bound h m) r q =
       let s : BoundSummary = summary_at a.summary.created_at a.summary.marks m in
       let both-lie : (span_fits b a.summary.created_at && span_fits b a.summary.marks) ≡ true =
       (λ j. le-leb (a.summary.created_at.at + a.summary.created_at.len) (length b) r.stamp j && le-leb (a.summary.marks.at + a.summary.marks.len) (length b) r.marks j) in
       let same : some (bound h (brief_of b s)) ≡ some (bound h m) = ap said (sym (ap (answer_of b) r.is) ∙ q) in
       ap (frame_for b) r.is ∙ ap (λ (t : Bool). frame_if t (bound h (brief_of b s))) both-lie ∙ same
-  of-frame (checked h e i) r q = absurd r
+  of_frame (checked h e i) r q = absurd r
 
-  pub exact-frame : Exact b a → {f : Frame} → answer_of b a ≡ reply f → frame_for b a ≡ some f
-  exact-frame x {f} q = of-frame f (subst (λ (y : the-answer.Answer). RecordOf b y a) q x.is) q
+  pub exact_frame : Exact b a → {f : Frame} → answer_of b a ≡ reply f → frame_for b a ≡ some f
+  exact_frame x {f} q = of_frame f (subst (λ (y : the-answer.Answer). RecordOf b y a) q x.is) q

@@ -53,18 +53,18 @@ shows m ef =
 -- ---- a frame
 
 module _ (a : Answer) where
-  pub by-welcome : a.kind ≡ 2 → Frames a (Frame.Welcome a.epoch a.incarnation)
-  by-welcome e = record { is = λ b. rw (eq-eqb a.kind 2 e) refl }
+  pub by_welcome : a.kind ≡ 2 → Frames a (Frame.Welcome a.epoch a.incarnation)
+  by_welcome e = record { is = λ b. rw (eq-eqb a.kind 2 e) refl }
 
-  pub by-ack : (a.kind ≡ 2 → ⊥) → a.kind ≡ 5 → Frames a (Frame.Ack a.handle a.commit_no)
-  by-ack n e = record { is = λ b. rw (ne_eqb a.kind 2 n, eq-eqb a.kind 5 e) refl }
+  pub by_ack : (a.kind ≡ 2 → ⊥) → a.kind ≡ 5 → Frames a (Frame.Ack a.handle a.commit_no)
+  by_ack n e = record { is = λ b. rw (ne_eqb a.kind 2 n, eq-eqb a.kind 5 e) refl }
 
-  pub by-nack : (a.kind ≡ 2 → ⊥) → (a.kind ≡ 5 → ⊥) → a.kind ≡ 6 → (r : NackReason) → reason_of r ≡ reason_by a.reason → Frames a (Frame.Nack a.handle r)
-  by-nack n n₁ e r er =
+  pub by_nack : (a.kind ≡ 2 → ⊥) → (a.kind ≡ 5 → ⊥) → a.kind ≡ 6 → (r : NackReason) → reason_of r ≡ reason_by a.reason → Frames a (Frame.Nack a.handle r)
+  by_nack n n₁ e r er =
       record { is = λ b. ap (λ (x : Reason). some (nack a.handle x)) er ∙ rw (ne_eqb a.kind 2 n, ne_eqb a.kind 5 n₁, eq-eqb a.kind 6 e) refl }
 
-  pub by-bound : (a.kind ≡ 2 → ⊥) → (a.kind ≡ 5 → ⊥) → (a.kind ≡ 6 → ⊥) → (m : Summary) → Shows a.summary m → Frames a (Frame.Bound a.handle m)
-  by-bound n n₁ n₂ m s =
+  pub by_bound : (a.kind ≡ 2 → ⊥) → (a.kind ≡ 5 → ⊥) → (a.kind ≡ 6 → ⊥) → (m : Summary) → Shows a.summary m → Frames a (Frame.Bound a.handle m)
+  by_bound n n₁ n₂ m s =
       record {
         is = λ b.
             (λ j. frame_if (span_fits b (s.stamp j) && span_fits b (s.marks j)) (bound a.handle (s.same b j)))
@@ -92,8 +92,8 @@ module _ (b : List ℕ) (a : Answer) {t : Bool} (is : t ≡ is_frame a) {before 
   written on {f} {after} {r} g h =
       subst (λ (x : Option the_frame.Frame). Encoded 1 x before after r) (g.is b ∙ sym (ap (λ (y : Bool). cond y (framed b a) none) (sym is ∙ on))) h
 
-  pub no-frame : t ≡ false → Encoded 1 (frame_for b a) before before Written.Unreadable
+  pub no_frame : t ≡ false → Encoded 1 (frame_for b a) before before Written.Unreadable
   unfolding write_outcome
-  no-frame off =
+  no_frame off =
       subst (λ (x : Option the_frame.Frame). Encoded 1 x before before Written.Unreadable) (sym (ap (λ (y : Bool). cond y (framed b a) none) (sym is ∙ off)))
       (record { answer = refl; area = refl })

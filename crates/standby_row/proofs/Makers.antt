@@ -1,7 +1,7 @@
 -- A call of an entry point by a function that has the record and the row by value: two locals are lent for the call, the record's as a `&mut S` and the array's as a `&mut [R]`.
 --     row_field        an array of handles as a struct's field, whose row relates the elements' tuples
 --     row_val           an array's machine value
---     calls-lending    the two cells stand at the head, and i, what else the callee asks; after the call they are back at the last values that the callee's contract says, with k beside
+--     calls_lending    the two cells stand at the head, and i, what else the callee asks; after the call they are back at the last values that the callee's contract says, with k beside
 -- Of the callee's contract it takes `to`, `goes` and `told`, as `Lent.antt`'s rules do. The first two lifetimes of the callee are the locals'.
 -- Assumes `Logic`, and that the table of calls is monotone under a frame.
 use mathlib.Core.Path.{◌≡◌, refl, sym, ◌∙◌, subst}
@@ -38,7 +38,7 @@ use denote.Triple.Statement.{Contract, Triple}
 use Rattle.standby_row.specs.declared.Bound.{Bound}
 use Rattle.standby_row.specs.contracts.Bound as T
 use Rattle.standby_row.proofs.Rows.{R as R-Bound, vals as vals-Bound}
-use Rattle.standby_row.proofs.Lent.{calls-with}
+use Rattle.standby_row.proofs.Lent.{calls_with}
 use Rattle.standby_row.proofs.Locals.{lies_in, lies_out}
 
 abbrev pub row_val : {X : Type 0} → (X → List Val) → List X → Val
@@ -66,7 +66,7 @@ module _ {M : Type 1} {𝓤 : Ura M} {𝓛 : Logic 𝓤} {K : Type 0} {Γ : List
 
   module _ (S R : RattleType) (τ σ : Ty) (one : S.mir ≡ τ ∷ []) (n : ℕ) (many : (Array R n).mir ≡ σ ∷ []) (single : Single R.mir) (room : Room R n) (val : S.Denot → Val) (tells-S : Tells S (Is S) (λ x. val x ∷ [])) (makes-S : Makes 𝓛 S (Is S)) (vals : R.Denot → List Val)
       (tells-R : Tells R (Is R) vals) (makes-R : Makes 𝓛 R (Is R)) (l m : ℕ) where
-    pub calls-lending : K → FmC 𝓤 H 𝓛.laws C → (c : Contract 𝓤) → Triple 𝓤 (C f) c → (to : ℕ → ℕ → GName → GName → c.Ghost) {X : Type 0} (v : X → Val) (φ : X → Type 0) (s : S.Denot) (ys : List R.Denot) (s' : X → S.Denot) (ys' : X → List R.Denot) (i : Item 𝓤) (k : X → Item 𝓤)
+    pub calls_lending : K → FmC 𝓤 H 𝓛.laws C → (c : Contract 𝓤) → Triple 𝓤 (C f) c → (to : ℕ → ℕ → GName → GName → c.Ghost) {X : Type 0} (v : X → Val) (φ : X → Type 0) (s : S.Denot) (ys : List R.Denot) (s' : X → S.Denot) (ys' : X → List R.Denot) (i : Item 𝓤) (k : X → Item 𝓤)
         → Is S s (val s ∷ []) → Is (Array R n) ys (row_val vals ys ∷ [])
         → ((α β : ℕ) (γ δ : GName) → ent 𝓤 (mean 𝓛 (‵ (flft (α ∷ []) full_share) ⊛ (‵ (flft (β ∷ []) full_share) ⊛ (‵ (LentRecord S R l m α γ s) ⊛ (‵ (LentRow S R l m β δ ys) ⊛ i))))) (c.pre (to α β γ δ)))
         → ((α β : ℕ) (γ δ : GName) (w : Val) → ent 𝓤 (c.post (to α β γ δ) w)
@@ -74,7 +74,7 @@ module _ {M : Type 1} {𝓤 : Ura M} {𝓛 : Logic 𝓤} {K : Type 0} {Γ : List
         → ((α β : ℕ) (γ δ : GName) (j : Item 𝓤) → Opds K 𝓛 (j ∷ Γ) E xs (c.args (to α β γ δ)))
         → ((x : X) → φ x → Is S (s' x) (val (s' x) ∷ []) → Is (Array R n) (ys' x) (row_val vals (ys' x) ∷ []) → Seq K 𝓛 (‵ (fat full_share τ l 0 (val (s' x))) ∷ ‵ (fat full_share σ m 0 (row_val vals (ys' x))) ∷ k x ∷ Γ) (lands C Λ E d (v x) rest q))
         → Seq K 𝓛 (‵ (fat full_share τ l 0 (val s)) ∷ ‵ (fat full_share σ m 0 (row_val vals ys)) ∷ i ∷ Γ) (runs C Λ E (seq (call f xs d) rest) q)
-    calls-lending t fm c known to {X} v φ s ys s' ys' i k is-s is-ys goes told ops go =
+    calls_lending t fm c known to {X} v φ s ys s' ys' i k is-s is-ys goes told ops go =
         use1 𝓛 (‵ ((mem S).own_at s l 0)) (lies_in 𝓛 S τ one l 0 makes-S s (val s) is-s) $
         lft_new t tt (λ α. move t (1 ∷ []) $ use1 𝓛 (later (some (λ (γ : GName). ‵ (LentRecord S R l m α γ s) ⊛ ‵ (flent (α ∷ []) (Inside (mem S) l 0 γ))))) (lends_ref 𝓛 S (named 0) (α ∷ []) s l 0) $ await t tt $ pick t (λ γ. split t $
         move t (3 ∷ []) $ use1 𝓛 (‵ ((mem (Array R n)).own_at ys m 0)) (lies_in 𝓛 (Array R n) σ many m 0 (Array-Makes 𝓛 R makes-R n) ys (row_val vals ys) is-ys) $
@@ -82,7 +82,7 @@ module _ {M : Type 1} {𝓤 : Ura M} {𝓛 : Logic 𝓤} {K : Type 0} {Γ : List
         lft_new t tt (λ β. move t (1 ∷ []) $ use1 𝓛 (later (some (λ (δ : GName). ‵ (LentRow S R l m β δ ys) ⊛ ‵ (flent (β ∷ []) (Held R (length ys) m 0 δ))))) (lends_slice 𝓛 R (named 1) (β ∷ []) ys m 0 (subst (Room R) (sym as_many) room)) $ await t tt $ pick t (λ δ. split t $
         -- [the slice; its lender's part; its token; the reference; its lender's part; its token; i]
         move t (0 ∷ 6 ∷ []) $ join t $ move t (3 ∷ 0 ∷ []) $ join t $ move t (2 ∷ 0 ∷ []) $ join t $ move t (3 ∷ 0 ∷ []) $ join t $ move t (1 ∷ 2 ∷ []) $ join t $ move t (1 ∷ []) $ join t $
-        calls-with t fm c known (to α β γ δ) v φ (‵ (flft (α ∷ []) full_share) ⊛ (‵ (flft (β ∷ []) full_share) ⊛ (‵ (LentRecord S R l m α γ s) ⊛ (‵ (LentRow S R l m β δ ys) ⊛ i)))) (‵ (flent (β ∷ []) (Held R (length ys) m 0 δ)) ⊛ ‵ (flent (α ∷ []) (Inside (mem S) l 0 γ)))
+        calls_with t fm c known (to α β γ δ) v φ (‵ (flft (α ∷ []) full_share) ⊛ (‵ (flft (β ∷ []) full_share) ⊛ (‵ (LentRecord S R l m α γ s) ⊛ (‵ (LentRow S R l m β δ ys) ⊛ i)))) (‵ (flent (β ∷ []) (Held R (length ys) m 0 δ)) ⊛ ‵ (flent (α ∷ []) (Inside (mem S) l 0 γ)))
         (λ x. ‵ (flft (α ∷ []) full_share) ⊛ (‵ (flft (β ∷ []) full_share) ⊛ (‵ (fres γ (S.coded.code (s' x))) ⊛ (‵ (finally R δ (ys' x)) ⊛ k x)))) (goes α β γ δ) (told α β γ δ) (ops α β γ δ _) (λ x p.
         split t $ lft_end t tt $ move t (1 ∷ []) $ split t $ lft_end t tt $ move t (1 ∷ []) $ split t $ move t (1 ∷ []) $ split t $ move t (5 ∷ []) $ split t $
         -- [the slice's lender's part; the reference's; the last list; k; the last record; the slice's lifetime is over; the reference's]

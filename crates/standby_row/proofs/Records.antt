@@ -24,5 +24,5 @@ pub tells_Lookup : Tells R_Lookup (Is R_Lookup) vals_Lookup
 tells_Lookup = LL.tells Lookup-type.the_type Lookup-laws.the_laws
 
 module _ {M : Type 1} {𝓤 : Ura M} (𝓛 : Logic 𝓤) where
-  pub makes-Lookup : Makes 𝓛 R_Lookup (Is R_Lookup)
-  makes-Lookup = LL.makes Lookup-type.the_type Lookup-laws.the_plain 𝓛
+  pub makes_Lookup : Makes 𝓛 R_Lookup (Is R_Lookup)
+  makes_Lookup = LL.makes Lookup-type.the_type Lookup-laws.the_plain 𝓛

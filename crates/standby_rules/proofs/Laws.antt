@@ -20,12 +20,12 @@ module _ (s : Shape) (seen : Lookup) (w b h : List ℕ) where
   abbrev by : Bool → Bool → Bool → Bool
   by t u v = t && (u && (not v || own (room_in seen h)))
 
-  pub store-breaks : allowed s w b ≡ false → false ≡ seen_allowed s seen w b h
-  store-breaks e = sym (ap (λ (t : Bool). by t (leb seen.len seen.broken) (is_found seen)) e)
+  pub store_breaks : allowed s w b ≡ false → false ≡ seen_allowed s seen w b h
+  store_breaks e = sym (ap (λ (t : Bool). by t (leb seen.len seen.broken) (is_found seen)) e)
 
   module _ (keeps : allowed s w b ≡ true) where
-    pub row-breaks : seen.broken < seen.len → false ≡ seen_allowed s seen w b h
-    row-breaks less =
+    pub row_breaks : seen.broken < seen.len → false ≡ seen_allowed s seen w b h
+    row_breaks less =
         sym (ap (λ (t : Bool). by t (leb seen.len seen.broken) (is_found seen)) keeps ∙ ap (λ (t : Bool). by true t (is_found seen)) (lt-leb seen.len seen.broken less))
 
     module _ (whole : seen.len ≤ seen.broken) where

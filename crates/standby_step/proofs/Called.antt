@@ -16,20 +16,20 @@ use Rattle.standby_row.specs.Row.{find_of, free_of, broken_of, cleared_from, cle
 use Rattle.standby_row.specs.Row as handles
 use Rattle.standby_row.proofs.Lists.{clears_end, cleared_length}
 use Rattle.standby_handles.specs.Rows.{row_of}
-use Rattle.standby_handles.proofs.Rows.{Apart, find-hit, find-miss, free-hit, free-miss, all-freed, apart_same, apart_of, put-own, put-new}
+use Rattle.standby_handles.proofs.Rows.{Apart, find_hit, find_miss, free_hit, free_miss, all_freed, apart_same, apart_of, put_own, put_new}
 use Rattle.store_areas.specs.Areas.{allowed, places_of}
-use Rattle.store_areas.proofs.Ruling.{rules-true}
+use Rattle.store_areas.proofs.Ruling.{rules_true}
 use Rattle.standby_pending.specs.Pending.{pending_of}
 use Rattle.model_standby.specs.Answer.{protocol_version, refused}
 use Rattle.standby_row.specs.declared.Bound.{Bound as BoundRecord}
-use Rattle.model_standby.specs.Row.{Row, is_some, hasFree, find, hasRoom, put}
+use Rattle.model_standby.specs.Row.{Row, is_some, has_free, find, has_room_lem, put}
 use Rattle.model_standby.specs.State.{Bound, Standby, Result, Call, on_frame_held, on_frame, flush, disconnected_from, promote, promote_unchecked}
 use Rattle.model_standby.specs.State as state
 use Rattle.model_standby.specs.Standby.{step}
 use Rattle.model_standby.specs.Hold.{HoldWrite}
-use Rattle.model_standby.specs.Core.{Core, Action, leave, store, clear, CoreResult, act, acted, coreStep, handle_of}
+use Rattle.model_standby.specs.Core.{Core, Action, leave, store, clear, CoreResult, act, acted, core_step, handle_of}
 use Rattle.model_standby.proofs.Factoring.{factored}
-use Rattle.model_standby.proofs.Rows.{find-put-same}
+use Rattle.model_standby.proofs.Rows.{find_put_same}
 use Rattle.standby_part.specs.State.{bound_of, core_at}
 use Rattle.standby_counters.specs.declared.Replica.{Replica}
 use Rattle.standby_state.specs.declared.Settings.{Settings}
@@ -39,9 +39,9 @@ use Rattle.standby_state.specs.Outcomes.{counters_of, settings_of, leaving, spot
 use Rattle.standby_step.specs.Steps.{room_of, found_in, handle_by, asks, Leaves, holds_after, writes_by, Stepped, StepIs}
 use Rattle.standby_step.specs.Calls.{room_all, standby_of, allowed_all, sought_by, spot_for, RowChange, row_by, RowPut, RowLeaves, CalledSteps, Called}
 use Rattle.standby_step.proofs.Naming.{sought_own}
-use Rattle.standby_step.proofs.Fitting.{Fit, step-fit, step-any, step-own, writes-none, written-inside, leaves_any}
-use Rattle.standby_step.proofs.Still.{refused-still}
-use Rattle.standby_step.proofs.Doing.{kind_of, done-by}
+use Rattle.standby_step.proofs.Fitting.{Fit, step_fit, step_any, step_own, writes_none, written_inside, leaves_any}
+use Rattle.standby_step.proofs.Still.{refused_still}
+use Rattle.standby_step.proofs.Doing.{kind_of, done_by}
 use Rattle.standby_step.proofs.Rows.{Whole, whole_of, of_whole, whole_more, record_whole, whole_cleared, none_set, found_own, seen_allowed_lem, take_write, drop_write}
 use Rattle.model_text.proofs.Formed.{and_r}
 
@@ -87,32 +87,32 @@ module _ (row : List BoundRecord) (k : ℕ) (w h : List ℕ) where
     where
       go : (t : Bool) → ltb (find_of row k) (length row) ≡ t
           → cond t (some (bound_of protocol_version (get_or row (find_of row k) handles.free_record) (area_at Room (find_of row k) h))) none ≡ find k Handles
-      go true e = sym (find-hit (bound_of protocol_version) Room k row h (ltb-true (find_of row k) (length row) e))
-      go false e = sym (find-miss (bound_of protocol_version) Room k row h (ltb-false (find_of row k) (length row) e))
+      go true e = sym (find_hit (bound_of protocol_version) Room k row h (ltb-true (find_of row k) (length row) e))
+      go false e = sym (find_miss (bound_of protocol_version) Room k row h (ltb-false (find_of row k) (length row) e))
 
   -- the first free place
   abbrev Free : ℕ
   Free = free_of row
 
-  free_in : ltb (free_of row) (length row) ≡ hasFree Handles
+  free_in : ltb (free_of row) (length row) ≡ has_free Handles
   free_in = go (ltb (free_of row) (length row)) refl
     where
-      go : (t : Bool) → ltb (free_of row) (length row) ≡ t → t ≡ hasFree Handles
-      go true e = sym (free-hit (bound_of protocol_version) Room row h (ltb-true (free_of row) (length row) e))
-      go false e = sym (free-miss (bound_of protocol_version) Room row h (ltb-false (free_of row) (length row) e))
+      go : (t : Bool) → ltb (free_of row) (length row) ≡ t → t ≡ has_free Handles
+      go true e = sym (free_hit (bound_of protocol_version) Room row h (ltb-true (free_of row) (length row) e))
+      go false e = sym (free_miss (bound_of protocol_version) Room row h (ltb-false (free_of row) (length row) e))
 
   abbrev Own : Bound
   Own = bound_of protocol_version (get_or row (find_of row k) handles.free_record) (area_at Room (find_of row k) h)
 
-  found-core : (L : state.Settings) (x : Core) (call : Call) → coreStep L x (found_in Looked h) (ltb Free (length row)) call ≡ coreStep L x (find k Handles) (hasFree Handles) call
-  found-core L x call = go (ltb (find_of row k) (length row)) refl
+  found_core : (L : state.Settings) (x : Core) (call : Call) → core_step L x (found_in Looked h) (ltb Free (length row)) call ≡ core_step L x (find k Handles) (has_free Handles) call
+  found_core L x call = go (ltb (find_of row k) (length row)) refl
     where
-      go : (t : Bool) → ltb (find_of row k) (length row) ≡ t → coreStep L x (found_in Looked h) (ltb Free (length row)) call ≡ coreStep L x (find k Handles) (hasFree Handles) call
+      go : (t : Bool) → ltb (find_of row k) (length row) ≡ t → core_step L x (found_in Looked h) (ltb Free (length row)) call ≡ core_step L x (find k Handles) (has_free Handles) call
       go true e =
-          subst (λ (y : Option Bound). coreStep L x y (ltb Free (length row)) call ≡ coreStep L x y (hasFree Handles) call) (sym (ap (λ (t : Bool). cond t (some Own) none) e))
-          (step-own L x Own (ltb Free (length row)) (hasFree Handles) call)
-          ∙ ap (λ (y : Option Bound). coreStep L x y (hasFree Handles) call) found_in_lem
-      go false e = (λ i. coreStep L x (found_in_lem i) (free_in i) call)
+          subst (λ (y : Option Bound). core_step L x y (ltb Free (length row)) call ≡ core_step L x y (has_free Handles) call) (sym (ap (λ (t : Bool). cond t (some Own) none) e))
+          (step_own L x Own (ltb Free (length row)) (has_free Handles) call)
+          ∙ ap (λ (y : Option Bound). core_step L x y (has_free Handles) call) found_in_lem
+      go false e = (λ i. core_step L x (found_in_lem i) (free_in i) call)
 
   -- ---- what is done to the row
 
@@ -120,8 +120,8 @@ module _ (row : List BoundRecord) (k : ℕ) (w h : List ℕ) where
     abbrev Next : List BoundRecord
     Next = cleared_from o.from (set row o.at o.bound)
 
-    next-length : length Next ≡ length row
-    next-length = cleared_length o.from (set row o.at o.bound) ∙ length-set row o.at o.bound
+    next_length : length Next ≡ length row
+    next_length = cleared_length o.from (set row o.at o.bound) ∙ length-set row o.at o.bound
 
     -- nothing
     same_row : o.stores ≡ false → o.clears ≡ false → Next ≡ row
@@ -132,27 +132,27 @@ module _ (row : List BoundRecord) (k : ℕ) (w h : List ℕ) where
         ap (cleared_from o.from) out ∙ clears_end o.from row (omega (arith, from))
 
     -- every record is freed
-    freed-row : o.stores ≡ false → o.clears ≡ true → Next ≡ cleared_all row
-    freed-row e f =
+    freed_row : o.stores ≡ false → o.clears ≡ true → Next ≡ cleared_all row
+    freed_row e f =
         let at : o.at ≡ length row = lands.at_is ∙ ap (λ (t : Bool). cond t (spot_of Looked) (length row)) e in
         let out : set row o.at o.bound ≡ row = set_out row o.at o.bound (omega (arith, at)) in
         ap (cleared_from o.from) out ∙ ap (λ (n : ℕ). cleared_from n row) (lands.from_is ∙ ap (λ (t : Bool). cond t 0 (length row)) f)
 
     -- one is put
-    put-row : o.stores ≡ true → Next ≡ set row o.at o.bound
-    put-row e =
+    put_row : o.stores ≡ true → Next ≡ set row o.at o.bound
+    put_row e =
         let from : o.from ≡ length row = lands.from_is ∙ ap (λ (t : Bool). cond t 0 (length row)) (lands.one e) in
         clears_end o.from (set row o.at o.bound) (omega (arith, from, length-set row o.at o.bound))
 
-    next-whole : get_or w 0 0 ≤ used → Whole (get_or w 0 0) Room row → Whole used Room Next
-    next-whole le n = go o.stores o.clears refl refl
+    next_whole : get_or w 0 0 ≤ used → Whole (get_or w 0 0) Room row → Whole used Room Next
+    next_whole le n = go o.stores o.clears refl refl
       where
         grown : Whole used Room row
         grown = whole_more (get_or w 0 0) used Room row le n
 
         go : (s c : Bool) → o.stores ≡ s → o.clears ≡ c → Whole used Room Next
-        go true c e f = subst (Whole used Room) (sym (put-row e)) (none_set (λ g. handles.breaks_of g used Room) row o.at o.bound (record_whole o.bound used Room (lands.slot_place e) (lands.slot_len e)) grown)
-        go false true e f = subst (Whole used Room) (sym (freed-row e f)) (whole_cleared used Room row)
+        go true c e f = subst (Whole used Room) (sym (put_row e)) (none_set (λ g. handles.breaks_of g used Room) row o.at o.bound (record_whole o.bound used Room (lands.slot_place e) (lands.slot_len e)) grown)
+        go false true e f = subst (Whole used Room) (sym (freed_row e f)) (whole_cleared used Room row)
         go false false e f = subst (Whole used Room) (sym (same_row e f)) grown
 
     module _ (own : ℕ) (asked : Bool) (wr : Option HoldWrite) (h' : List ℕ) (mine : asked ≡ true → k ≡ own)
@@ -164,29 +164,29 @@ module _ (row : List BoundRecord) (k : ℕ) (w h : List ℕ) where
       still : wr ≡ none → h' ≡ h
       still e = holds ∙ ap (λ (x : Option HoldWrite). holds_after Room (find_of row k) x h) e
 
-      next-handles : After Next h' ≡ act (action_of protocol_version Room h' o) Handles
-      next-handles = go o.stores o.clears refl refl
+      next_handles : After Next h' ≡ act (action_of protocol_version Room h' o) Handles
+      next_handles = go o.stores o.clears refl refl
         where
-          put-action : o.stores ≡ true → action_of protocol_version Room h' o ≡ store o.bound.handle (bound_of protocol_version o.bound (area_at Room o.at h'))
-          put-action e = ap (λ (t : Bool). cond t (store o.bound.handle (bound_of protocol_version o.bound (area_at Room o.at h'))) (cond o.clears clear leave)) e
+          put_action : o.stores ≡ true → action_of protocol_version Room h' o ≡ store o.bound.handle (bound_of protocol_version o.bound (area_at Room o.at h'))
+          put_action e = ap (λ (t : Bool). cond t (store o.bound.handle (bound_of protocol_version o.bound (area_at Room o.at h'))) (cond o.clears clear leave)) e
 
-          other-action : (c : Bool) → o.stores ≡ false → o.clears ≡ c → action_of protocol_version Room h' o ≡ cond c clear leave
-          other-action c e f =
+          other_action : (c : Bool) → o.stores ≡ false → o.clears ≡ c → action_of protocol_version Room h' o ≡ cond c clear leave
+          other_action c e f =
               (λ i. cond (e i) (store o.bound.handle (bound_of protocol_version o.bound (area_at Room o.at h'))) (cond (f i) clear leave))
 
           puts : o.stores ≡ true → Fit asked own (found_in Looked h) (ltb Free (length row)) wr (store o.bound.handle (bound_of protocol_version o.bound (area_at Room o.at h')))
               → After (set row o.at o.bound) h' ≡ put o.bound.handle (bound_of protocol_version o.bound (area_at Room o.at h')) Handles
           puts e f = by_place (ltb (find_of row k) (length row)) refl
             where
-              is-k : o.bound.handle ≡ k
-              is-k = f.1.0 ∙ sym (mine f.0)
+              is_k : o.bound.handle ≡ k
+              is_k = f.1.0 ∙ sym (mine f.0)
 
               -- at this place
               at_place : (i : ℕ) → o.at ≡ i → After (set row i o.bound) h' ≡ put k (bound_of protocol_version o.bound (area_at Room i h')) Handles
                   → After (set row o.at o.bound) h' ≡ put o.bound.handle (bound_of protocol_version o.bound (area_at Room o.at h')) Handles
               at_place i at p =
                   ap (λ (j : ℕ). After (set row j o.bound) h') at ∙ p
-                  ∙ sym (λ j. put (is-k j) (bound_of protocol_version o.bound (area_at Room (at j) h')) Handles)
+                  ∙ sym (λ j. put (is_k j) (bound_of protocol_version o.bound (area_at Room (at j) h')) Handles)
 
               spot : (t : Bool) → ltb (find_of row k) (length row) ≡ t → o.at ≡ cond t (find_of row k) Free
               spot t p = lands.at_is ∙ (λ i. cond (e i) (cond (p i) (find_of row k) Free) (length row))
@@ -195,12 +195,12 @@ module _ (row : List BoundRecord) (k : ℕ) (w h : List ℕ) where
                   → After (set row o.at o.bound) h' ≡ put o.bound.handle (bound_of protocol_version o.bound (area_at Room o.at h')) Handles
               by_place true p =
                   at_place (find_of row k) (spot true p)
-                  (put-own (bound_of protocol_version) Room k o.bound (ap handles.is_used (lands.slot_is e)) is-k row h h' (ltb-true (find_of row k) (length row) p)
+                  (put_own (bound_of protocol_version) Room k o.bound (ap handles.is_used (lands.slot_is e)) is_k row h h' (ltb-true (find_of row k) (length row) p)
                   (subst (Apart (bound_of protocol_version) Room (find_of row k) h) (sym holds) (holds_apart Room (find_of row k) wr h inside)))
               by_place false p =
                   at_place (free_of row) (spot false p)
                   (subst (λ (x : List ℕ). After (set row (free_of row) o.bound) x ≡ put k (bound_of protocol_version o.bound (area_at Room (free_of row) x)) Handles) (sym (still (f.1.1.1 not_found)))
-                  (put-new (bound_of protocol_version) Room k o.bound (ap handles.is_used (lands.slot_is e)) is-k row h (ltb-false (find_of row k) (length row) p) free))
+                  (put_new (bound_of protocol_version) Room k o.bound (ap handles.is_used (lands.slot_is e)) is_k row h (ltb-false (find_of row k) (length row) p) free))
                 where
                   not_found : is_some (found_in Looked h) ≡ false
                   not_found = ap (λ (t : Bool). is_some (cond t (some (bound_of protocol_version (get_or row (find_of row k) handles.free_record) (area_at Room (find_of row k) h))) none)) p
@@ -210,15 +210,15 @@ module _ (row : List BoundRecord) (k : ℕ) (w h : List ℕ) where
 
           go : (s c : Bool) → o.stores ≡ s → o.clears ≡ c → After Next h' ≡ act (action_of protocol_version Room h' o) Handles
           go true c e f =
-              ap (λ (r : List BoundRecord). After r h') (put-row e)
-              ∙ puts e (subst (Fit asked own (found_in Looked h) (ltb Free (length row)) wr) (put-action e) fit)
-              ∙ sym (ap (λ (a : Action). act a Handles) (put-action e))
+              ap (λ (r : List BoundRecord). After r h') (put_row e)
+              ∙ puts e (subst (Fit asked own (found_in Looked h) (ltb Free (length row)) wr) (put_action e) fit)
+              ∙ sym (ap (λ (a : Action). act a Handles) (put_action e))
           go false true e f =
-              let quiet : wr ≡ none = subst (Fit asked own (found_in Looked h) (ltb Free (length row)) wr) (other-action true e f) fit in
-              (λ i. After (freed-row e f i) (still quiet i)) ∙ all-freed (bound_of protocol_version) Room row h ∙ sym (ap (λ (a : Action). act a Handles) (other-action true e f))
+              let quiet : wr ≡ none = subst (Fit asked own (found_in Looked h) (ltb Free (length row)) wr) (other_action true e f) fit in
+              (λ i. After (freed_row e f i) (still quiet i)) ∙ all_freed (bound_of protocol_version) Room row h ∙ sym (ap (λ (a : Action). act a Handles) (other_action true e f))
           go false false e f =
-              let quiet : wr ≡ none = subst (Fit asked own (found_in Looked h) (ltb Free (length row)) wr) (other-action false e f) fit in
-              (λ i. After (same_row e f i) (still quiet i)) ∙ sym (ap (λ (a : Action). act a Handles) (other-action false e f))
+              let quiet : wr ≡ none = subst (Fit asked own (found_in Looked h) (ltb Free (length row)) wr) (other_action false e f) fit in
+              (λ i. After (same_row e f i) (still quiet i)) ∙ sym (ap (λ (a : Action). act a Handles) (other_action false e f))
 
 -- ---- a call
 
@@ -246,45 +246,45 @@ module _ (s : Settings) (c : Replica) (row : List BoundRecord) (call : Call) (w 
     Wr = writes_by L (counters_of c) (found_in See h) call
 
     row_same : length Row' ≡ length row
-    row_same = next-length row K w h o (get_or w' 0 0) st.lands
+    row_same = next_length row K w h o (get_or w' 0 0) st.lands
 
     holds_same : length h' ≡ length h
     holds_same = ap length st.holds ∙ holds_length R (find_of row K) Wr h
 
-    room-same : room_all Row' h' ≡ R
-    room-same = (λ i. room_of (holds_same i) (row_same i))
+    room_same : room_all Row' h' ≡ R
+    room_same = (λ i. room_of (holds_same i) (row_same i))
 
     fits : Fit (asks call) (handle_by call) (found_in See h) (ltb See.free (length row)) Wr (action_of protocol_version R h' o)
     fits =
         subst (Fit (asks call) (handle_by call) (found_in See h) (ltb See.free (length row)) Wr) (sym (ap (λ (r : CoreResult). r.action) st.is))
-        (step-fit L (core_at (counters_of c) s.shape w b) (found_in See h) (ltb See.free (length row)) call)
+        (step_fit L (core_at (counters_of c) s.shape w b) (found_in See h) (ltb See.free (length row)) call)
 
-    handles-are : row_of (bound_of protocol_version) (room_all Row' h') Row' h' ≡ act (action_of protocol_version R h' o) T
-    handles-are =
-        ap (λ (n : ℕ). row_of (bound_of protocol_version) n Row' h') room-same
-        ∙ next-handles row K w h o (get_or w' 0 0) st.lands (handle_by call) (asks call) Wr h' (sought_own call) fits st.holds (written-inside L (counters_of c) (found_in See h) call)
+    handles_are : row_of (bound_of protocol_version) (room_all Row' h') Row' h' ≡ act (action_of protocol_version R h' o) T
+    handles_are =
+        ap (λ (n : ℕ). row_of (bound_of protocol_version) n Row' h') room_same
+        ∙ next_handles row K w h o (get_or w' 0 0) st.lands (handle_by call) (asks call) Wr h' (sought_own call) fits st.holds (written_inside L (counters_of c) (found_in See h) call)
 
     -- what is found for the handle looked up is what is found for the call's
-    found-own-core : coreStep L (core_at (counters_of c) s.shape w b) (found_in See h) (ltb See.free (length row)) call
-        ≡ coreStep L (core_at (counters_of c) s.shape w b) (find (handle_by call) T) (hasFree T) call
-    found-own-core =
-        found-core row K w h L (core_at (counters_of c) s.shape w b) call ∙ go (asks call) refl
+    found_own_core : core_step L (core_at (counters_of c) s.shape w b) (found_in See h) (ltb See.free (length row)) call
+        ≡ core_step L (core_at (counters_of c) s.shape w b) (find (handle_by call) T) (has_free T) call
+    found_own_core =
+        found_core row K w h L (core_at (counters_of c) s.shape w b) call ∙ go (asks call) refl
       where
-        go : (t : Bool) → asks call ≡ t → coreStep L (core_at (counters_of c) s.shape w b) (find K T) (hasFree T) call ≡ coreStep L (core_at (counters_of c) s.shape w b) (find (handle_by call) T) (hasFree T) call
-        go true e = ap (λ (k : ℕ). coreStep L (core_at (counters_of c) s.shape w b) (find k T) (hasFree T) call) (sought_own call e)
-        go false e = step-any L (core_at (counters_of c) s.shape w b) (find K T) (find (handle_by call) T) (hasFree T) call e
+        go : (t : Bool) → asks call ≡ t → core_step L (core_at (counters_of c) s.shape w b) (find K T) (has_free T) call ≡ core_step L (core_at (counters_of c) s.shape w b) (find (handle_by call) T) (has_free T) call
+        go true e = ap (λ (k : ℕ). core_step L (core_at (counters_of c) s.shape w b) (find k T) (has_free T) call) (sought_own call e)
+        go false e = step_any L (core_at (counters_of c) s.shape w b) (find K T) (find (handle_by call) T) (has_free T) call e
 
-    holds-own : h' ≡ holds_after R (find_of row (handle_by call)) (writes_by L (counters_of c) (find (handle_by call) T) call) h
-    holds-own = st.holds ∙ ap (λ (x : Option Bound). holds_after R (find_of row K) (writes_by L (counters_of c) x call) h) (found_in_lem row K w h) ∙ go (asks call) refl
+    holds_own : h' ≡ holds_after R (find_of row (handle_by call)) (writes_by L (counters_of c) (find (handle_by call) T) call) h
+    holds_own = st.holds ∙ ap (λ (x : Option Bound). holds_after R (find_of row K) (writes_by L (counters_of c) x call) h) (found_in_lem row K w h) ∙ go (asks call) refl
       where
         go : (t : Bool) → asks call ≡ t → holds_after R (find_of row K) (writes_by L (counters_of c) (find K T) call) h ≡ holds_after R (find_of row (handle_by call)) (writes_by L (counters_of c) (find (handle_by call) T) call) h
         go true e = ap (λ (k : ℕ). holds_after R (find_of row k) (writes_by L (counters_of c) (find k T) call) h) (sought_own call e)
         go false e =
-            ap (λ (x : Option HoldWrite). holds_after R (find_of row K) x h) (writes-none L (counters_of c) (find K T) call e)
-            ∙ sym (ap (λ (x : Option HoldWrite). holds_after R (find_of row (handle_by call)) x h) (writes-none L (counters_of c) (find (handle_by call) T) call e))
+            ap (λ (x : Option HoldWrite). holds_after R (find_of row K) x h) (writes_none L (counters_of c) (find K T) call e)
+            ∙ sym (ap (λ (x : Option HoldWrite). holds_after R (find_of row (handle_by call)) x h) (writes_none L (counters_of c) (find (handle_by call) T) call e))
 
-    leaves-own : Leaves s.shape c (get_or row (find_of row (handle_by call)) handles.free_record).place call w w' b b' o.answer
-    leaves-own = go (asks call) refl
+    leaves_own : Leaves s.shape c (get_or row (find_of row (handle_by call)) handles.free_record).place call w w' b b' o.answer
+    leaves_own = go (asks call) refl
       where
         go : (t : Bool) → asks call ≡ t → Leaves s.shape c (get_or row (find_of row (handle_by call)) handles.free_record).place call w w' b b' o.answer
         go true e = subst (λ (k : ℕ). Leaves s.shape c (get_or row (find_of row k) handles.free_record).place call w w' b b' o.answer) (sought_own call e) st.leaves
@@ -295,8 +295,8 @@ module _ (s : Settings) (c : Replica) (row : List BoundRecord) (call : Call) (w 
     abbrev X : Standby
     X = standby_of s c row w b h
 
-    stepped-is : step L X call ≡ acted T (coreStep L (core_at (counters_of c) s.shape w b) (find (handle_by call) T) (hasFree T) call)
-    stepped-is = factored L X call ∙ ap (λ (k : ℕ). acted T (coreStep L (core_at (counters_of c) s.shape w b) (find k T) (hasFree T) call)) (sym (named call))
+    stepped_is : step L X call ≡ acted T (core_step L (core_at (counters_of c) s.shape w b) (find (handle_by call) T) (has_free T) call)
+    stepped_is = factored L X call ∙ ap (λ (k : ℕ). acted T (core_step L (core_at (counters_of c) s.shape w b) (find k T) (has_free T) call)) (sym (named call))
 
     abbrev Puts : Action
     Puts = store o.bound.handle (bound_of protocol_version o.bound (area_at R o.at h'))
@@ -306,76 +306,76 @@ module _ (s : Settings) (c : Replica) (row : List BoundRecord) (call : Call) (w 
     Leaving = (step L X call).state.handles
 
     after_is : Leaving ≡ act (action_of protocol_version R h' o) T
-    after_is = ap (λ (r : Result). r.state.handles) stepped-is ∙ ap (λ (r : CoreResult). act r.action T) (sym (st.is ∙ found-own-core))
+    after_is = ap (λ (r : Result). r.state.handles) stepped_is ∙ ap (λ (r : CoreResult). act r.action T) (sym (st.is ∙ found_own_core))
 
     -- a record is put
     module _ (e : o.stores ≡ true) where
-      is-puts : action_of protocol_version R h' o ≡ Puts
-      is-puts = ap (λ (t : Bool). cond t Puts (cond o.clears clear leave)) e
+      is_puts : action_of protocol_version R h' o ≡ Puts
+      is_puts = ap (λ (t : Bool). cond t Puts (cond o.clears clear leave)) e
 
-      puts-fit : Fit (asks call) (handle_by call) (found_in See h) (ltb See.free (length row)) Wr Puts
-      puts-fit = subst (Fit (asks call) (handle_by call) (found_in See h) (ltb See.free (length row)) Wr) is-puts fits
+      puts_fit : Fit (asks call) (handle_by call) (found_in See h) (ltb See.free (length row)) Wr Puts
+      puts_fit = subst (Fit (asks call) (handle_by call) (found_in See h) (ltb See.free (length row)) Wr) is_puts fits
 
-      is-sought : o.bound.handle ≡ K
-      is-sought = puts-fit.1.0 ∙ sym (sought_own call puts-fit.0)
+      is_sought : o.bound.handle ≡ K
+      is_sought = puts_fit.1.0 ∙ sym (sought_own call puts_fit.0)
 
-      has_room : hasRoom o.bound.handle T ≡ true
-      has_room = ap (λ (k : ℕ). hasRoom k T) is-sought ∙ sym (λ j. is_some (found_in_lem row K w h j) || free_in row K w h j) ∙ puts-fit.1.1.0
+      has_room : has_room_lem o.bound.handle T ≡ true
+      has_room = ap (λ (k : ℕ). has_room_lem k T) is_sought ∙ sym (λ j. is_some (found_in_lem row K w h j) || free_in row K w h j) ∙ puts_fit.1.1.0
 
       found_after : find o.bound.handle Leaving ≡ some (bound_of protocol_version o.bound (area_at R o.at h'))
-      found_after = ap (find o.bound.handle) (after_is ∙ ap (λ (x : Action). act x T) is-puts) ∙ find-put-same o.bound.handle (bound_of protocol_version o.bound (area_at R o.at h')) T has_room
+      found_after = ap (find o.bound.handle) (after_is ∙ ap (λ (x : Action). act x T) is_puts) ∙ find_put_same o.bound.handle (bound_of protocol_version o.bound (area_at R o.at h')) T has_room
 
-      at-spot : o.at ≡ spot_for row o.bound.handle
-      at-spot = st.lands.at_is ∙ ap (λ (t : Bool). cond t (spot_of See) (length row)) e ∙ ap (spot_for row) (sym is-sought)
+      at_spot : o.at ≡ spot_for row o.bound.handle
+      at_spot = st.lands.at_is ∙ ap (λ (t : Bool). cond t (spot_of See) (length row)) e ∙ ap (spot_for row) (sym is_sought)
 
       row_put : RowPut (spot_for row o.bound.handle) o.bound.handle (find o.bound.handle Leaving) row Row'
       row_put =
           subst (λ (x : Option Bound). RowPut (spot_for row o.bound.handle) o.bound.handle x row Row') (sym found_after)
-          (put-row row K w h o (get_or w' 0 0) st.lands e ∙ (λ j. set row (at-spot j) (st.lands.slot_is e j)))
+          (put_row row K w h o (get_or w' 0 0) st.lands e ∙ (λ j. set row (at_spot j) (st.lands.slot_is e j)))
 
     row_done : RowLeaves (kind_of (action_of protocol_version R h' o)) Leaving row Row'
     row_done = go o.stores o.clears refl refl
       where
         go : (t u : Bool) → o.stores ≡ t → o.clears ≡ u → RowLeaves (kind_of (action_of protocol_version R h' o)) Leaving row Row'
-        go true u e f = subst (λ (x : Action). RowLeaves (kind_of x) Leaving row Row') (sym (is-puts e)) (row_put e)
-        go false true e f = subst (λ (x : Action). RowLeaves (kind_of x) Leaving row Row') (sym (λ i. cond (e i) Puts (cond (f i) clear leave))) (freed-row row K w h o (get_or w' 0 0) st.lands e f)
+        go true u e f = subst (λ (x : Action). RowLeaves (kind_of x) Leaving row Row') (sym (is_puts e)) (row_put e)
+        go false true e f = subst (λ (x : Action). RowLeaves (kind_of x) Leaving row Row') (sym (λ i. cond (e i) Puts (cond (f i) clear leave))) (freed_row row K w h o (get_or w' 0 0) st.lands e f)
         go false false e f = subst (λ (x : Action). RowLeaves (kind_of x) Leaving row Row') (sym (λ i. cond (e i) Puts (cond (f i) clear leave))) (same_row row K w h o (get_or w' 0 0) st.lands e f)
 
-    row-by : RowLeaves (row_by (counters_of c) call (step L X call).answer) Leaving row Row'
-    row-by =
+    row_by_lem : RowLeaves (row_by (counters_of c) call (step L X call).answer) Leaving row Row'
+    row_by_lem =
         subst (λ (x : RowChange). RowLeaves x Leaving row Row')
-        (ap (λ (r : CoreResult). kind_of r.action) (st.is ∙ found-own-core) ∙ done-by L (core_at (counters_of c) s.shape w b) (find (handle_by call) T) (hasFree T) call
-        ∙ ap (row_by (counters_of c) call) (sym (ap (λ (r : Result). r.answer) stepped-is)))
+        (ap (λ (r : CoreResult). kind_of r.action) (st.is ∙ found_own_core) ∙ done_by L (core_at (counters_of c) s.shape w b) (find (handle_by call) T) (has_free T) call
+        ∙ ap (row_by (counters_of c) call) (sym (ap (λ (r : Result). r.answer) stepped_is)))
         row_done
 
-    still-row : (n : ℕ) → answer_of b' o.answer ≡ refused n → eqb n 17 ≡ false → Row' ≡ row
-    still-row n e f =
+    still_row : (n : ℕ) → answer_of b' o.answer ≡ refused n → eqb n 17 ≡ false → Row' ≡ row
+    still_row n e f =
         subst (λ (x : RowChange). RowLeaves x Leaving row Row')
-        (ap (λ (r : CoreResult). kind_of r.action) (st.is ∙ found-own-core)
-        ∙ ap kind_of (refused-still L (core_at (counters_of c) s.shape w b) (find (handle_by call) T) (hasFree T) call n (sym (ap (λ (r : CoreResult). r.answer) (st.is ∙ found-own-core)) ∙ e) f))
+        (ap (λ (r : CoreResult). kind_of r.action) (st.is ∙ found_own_core)
+        ∙ ap kind_of (refused_still L (core_at (counters_of c) s.shape w b) (find (handle_by call) T) (has_free T) call n (sym (ap (λ (r : CoreResult). r.answer) (st.is ∙ found_own_core)) ∙ e) f))
         row_done
 
-    allowed-after : allowed_all s Row' w' b' h' ≡ true
-    allowed-after =
-        (λ i. rules-true s.shape w' b' st.rules i && leb (length Row') (broken_of Row' (get_or w' 0 0) (room-same i)))
+    allowed_after : allowed_all s Row' w' b' h' ≡ true
+    allowed_after =
+        (λ i. rules_true s.shape w' b' st.rules i && leb (length Row') (broken_of Row' (get_or w' 0 0) (room_same i)))
         ∙ of_whole (get_or w' 0 0) R Row'
-        (next-whole row K w h o (get_or w' 0 0) st.lands st.more (whole_of (get_or w 0 0) R row (and_r (allowed s.shape w b) (leb (length row) (broken_of row (get_or w 0 0) R)) clean)))
+        (next_whole row K w h o (get_or w' 0 0) st.lands st.more (whole_of (get_or w 0 0) R row (and_r (allowed s.shape w b) (leb (length row) (broken_of row (get_or w 0 0) R)) clean)))
 
-    called-steps : CalledSteps s call c o.replica row Row' w w' b b' h h' o.answer
-    called-steps =
+    called_steps : CalledSteps s call c o.replica row Row' w w' b b' h h' o.answer
+    called_steps =
         record {
           is =
               (λ i. record {
-                state = record { counters = counters_of o.replica; places = places_of s.shape w' b'; handles = handles-are i; pending = pending_of w' };
+                state = record { counters = counters_of o.replica; places = places_of s.shape w' b'; handles = handles_are i; pending = pending_of w' };
                 answer = answer_of b' o.answer;
               })
-              ∙ ap (acted T) (st.is ∙ found-own-core)
-              ∙ sym stepped-is;
-          allowed = allowed-after;
-          leaves = leaves-own;
-          holds = holds-own;
-          row_leaves = row-by;
-          row_still = still-row;
+              ∙ ap (acted T) (st.is ∙ found_own_core)
+              ∙ sym stepped_is;
+          allowed = allowed_after;
+          leaves = leaves_own;
+          holds = holds_own;
+          row_leaves = row_by_lem;
+          row_still = still_row;
           row_length = row_same;
           counters_kept = st.kept;
           holds_length = holds_same;
@@ -385,7 +385,7 @@ module _ (s : Settings) (c : Replica) (row : List BoundRecord) (call : Call) (w 
   called p =
       record {
         refuses = λ e. refused (p.refuses (seen_allowed_lem s row K w b h ∙ e));
-        steps = λ e. called-steps e (p.steps (seen_allowed_lem s row K w b h ∙ e) (λ f a. found_own row K (ltb-true (find_of row K) (length row) f) ∙ sought_own call a));
+        steps = λ e. called_steps e (p.steps (seen_allowed_lem s row K w b h ∙ e) (λ f a. found_own row K (ltb-true (find_of row K) (length row) f) ∙ sought_own call a));
         exact = p.exact;
       }
     where

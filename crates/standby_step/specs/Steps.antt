@@ -19,7 +19,7 @@ use Rattle.model_standby.specs.State.{Bound, Counters, Call, on_frame_held, on_f
 use Rattle.model_standby.specs.State as state
 use Rattle.model_standby.specs.Standby.{due}
 use Rattle.model_standby.specs.Hold.{HoldWrite, writes}
-use Rattle.model_standby.specs.Core.{coreStep}
+use Rattle.model_standby.specs.Core.{core_step}
 use Rattle.standby_part.specs.State.{core_at}
 use Rattle.standby_batch_handle.specs.Handling.{found_of}
 use Rattle.standby_counters.specs.declared.Replica.{Replica}
@@ -156,7 +156,7 @@ keeps_counters c promote_unchecked = false
 -- ---- a call's core by value, as it is proved: no entry point's promise cites what follows
 
 pub record Stepped (s : Settings) (c : Replica) (seen : Lookup) (call : Call) (w w' b b' h h' : List ℕ) (r : Outcome) : Type 0 where
-  pub is : outcome_of protocol_version (room_in seen h) s.shape w' b' h' r ≡ coreStep (settings_of s (room_in seen h)) (core_at (counters_of c) s.shape w b) (found_in seen h) (ltb seen.free seen.len) call
+  pub is : outcome_of protocol_version (room_in seen h) s.shape w' b' h' r ≡ core_step (settings_of s (room_in seen h)) (core_at (counters_of c) s.shape w b) (found_in seen h) (ltb seen.free seen.len) call
   pub lands : Lands seen (get_or w' StoreWord.used 0) (room_in seen h) (area_at (room_in seen h) r.at h') r
   pub kept : keeps_counters c call ≡ true → r.replica ≡ c
   pub rules : Rules s.shape w' b'

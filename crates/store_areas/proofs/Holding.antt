@@ -14,7 +14,7 @@ use Rattle.store_place.specs.Place.{field, stored_key, place_in}
 use Rattle.store_place.proofs.Holding.{holdable, Kept, Short, ShortKey, kept}
 use Rattle.store_areas.specs.declared.Shape.{Shape}
 use Rattle.store_areas.specs.Areas.{place_words, place_bytes, words_at, bytes_at, Rules, slice, place_at, count_up, places_of, Changed}
-use Rattle.store_areas.proofs.Lifting.{Within, within, part_length, lift-both, rules_kept}
+use Rattle.store_areas.proofs.Lifting.{Within, within, part_length, lift_both, rules_kept}
 
 -- ---- total
 
@@ -72,7 +72,7 @@ held_at s i x w b r h sw sb hold =
     let k : Kept s.bytes s.messages (record { key = stored_key mw mb; stored = x }) = kept s.bytes s.messages (omega (arith, v.bytes_few)) (omega (arith, v.messages_few)) (stored_key mw mb) x.session x.durable (short_key mw mb small) hold in
     let lw : length k.words ≡ length mw = k.words_long ∙ sym (part_length wa (place_words s) w mw v.words_in refl) in
     let lb : length k.bytes ≡ length mb = k.bytes_long ∙ sym (part_length ba (place_bytes s) b mb v.bytes_in refl) in
-    let c : Changed s i (λ _. x) w (put_mid wa (wa + place_words s - wa) w k.words) b (put_mid ba (ba + place_bytes s - ba) b k.bytes) = lift-both s i w b k.words k.bytes r h (λ _. x) lw lb k.is in
+    let c : Changed s i (λ _. x) w (put_mid wa (wa + place_words s - wa) w k.words) b (put_mid ba (ba + place_bytes s - ba) b k.bytes) = lift_both s i w b k.words k.bytes r h (λ _. x) lw lb k.is in
     record {
       words = put_mid wa (wa + place_words s - wa) w k.words;
       bytes = put_mid ba (ba + place_bytes s - ba) b k.bytes;

@@ -41,19 +41,19 @@ module _ (a n : ℕ) (l ys : List ℕ) (fits : a + n ≤ length l) (same : lengt
   size : a + n - a ≡ n
   size = omega arith
 
-  pub part-lent : mid_of a (a + n - a) l ≡ slice a n l
-  part-lent = ap (λ (k : ℕ). take k (drop a l)) size
+  pub part_lent : mid_of a (a + n - a) l ≡ slice a n l
+  part_lent = ap (λ (k : ℕ). take k (drop a l)) size
 
   pub part_length : length (mid_of a (a + n - a) l) ≡ n
   part_length = mid_len a (a + n) l fits ∙ size
 
-  pub part-own : slice a n (put_mid a (a + n - a) l ys) ≡ ys
-  part-own =
+  pub part_own : slice a n (put_mid a (a + n - a) l ys) ≡ ys
+  part_own =
       ap (take n) (drop_at (take a l) (ys ++ post_of a (a + n - a) l) a (length-take-le a l (omega arith)))
       ∙ take_at ys (post_of a (a + n - a) l) n (same ∙ part_length)
 
-  pub part-only : Only a (a + n) l (put_mid a (a + n - a) l ys)
-  part-only = only_put a (a + n) l ys (omega arith) fits same
+  pub part_only : Only a (a + n) l (put_mid a (a + n - a) l ys)
+  part_only = only_put a (a + n) l ys (omega arith) fits same
 
 -- ---- one place changes
 
@@ -73,9 +73,9 @@ module _ (s : Shape) (i : ℕ) (w w' b b' : List ℕ) (ow : Only (words_at s i) 
       up (inl h) = inl (omega arith)
       up (inr h) = inr (omega arith)
 
-  pub changed-at : (f : Stored → Stored) → i < get_or w 0 0 → place_at s w' b' i ≡ on_stored f (place_at s w b i) → Changed s i f w w' b b'
+  pub changed_at : (f : Stored → Stored) → i < get_or w 0 0 → place_at s w' b' i ≡ on_stored f (place_at s w b i) → Changed s i f w w' b b'
   unfolding places_of
-  changed-at f h e =
+  changed_at f h e =
       let z : i ≡ 0 + i = omega arith in
       record {
         places = ap (count_up (place_at s w' b') 0) count_kept ∙ count_one (place_at s w b) (place_at s w' b') f 0 (get_or w 0 0) i i z h e other_place;
@@ -83,8 +83,8 @@ module _ (s : Shape) (i : ℕ) (w w' b b' : List ℕ) (ow : Only (words_at s i) 
         bytes = ob;
       }
 
-  pub rules-kept-by : Rules s w b → Rules s w' b'
-  rules-kept-by r = record {
+  pub rules_kept_by : Rules s w b → Rules s w' b'
+  rules_kept_by r = record {
     room = record {
       bytes_limit = r.room.bytes_limit;
       messages_limit = r.room.messages_limit;
@@ -96,7 +96,7 @@ module _ (s : Shape) (i : ℕ) (w w' b b' : List ℕ) (ow : Only (words_at s i) 
   }
 
 pub rules_kept : (s : Shape) (i : ℕ) (f : Stored → Stored) (w w' b b' : List ℕ) → Changed s i f w w' b b' → Rules s w b → Rules s w' b'
-rules_kept s i f w w' b b' c r = rules-kept-by s i w w' b b' c.words c.bytes r
+rules_kept s i f w w' b b' c r = rules_kept_by s i w w' b b' c.words c.bytes r
 
 -- ---- by functions that are lent the place's parts
 
@@ -113,29 +113,29 @@ module _ (s : Shape) (i : ℕ) (w b x y : List ℕ) (r : Rules s w b) (h : i < g
   abbrev vb : List ℕ
   vb = put_mid (bytes_at s i) (bytes_at s i + place_bytes s - bytes_at s i) b y
 
-  pub lent-place : place_in s.bytes s.messages mw mb ≡ place_at s w b i
+  pub lent_place : place_in s.bytes s.messages mw mb ≡ place_at s w b i
   unfolding place_at
-  lent-place =
+  lent_place =
       let v : Within s i w b = within s i w b r h in
-      λ k. place_in s.bytes s.messages (part-lent (words_at s i) (place_words s) w mw v.words_in refl k) (part-lent (bytes_at s i) (place_bytes s) b mb v.bytes_in refl k)
+      λ k. place_in s.bytes s.messages (part_lent (words_at s i) (place_words s) w mw v.words_in refl k) (part_lent (bytes_at s i) (place_bytes s) b mb v.bytes_in refl k)
 
-  pub lift-both : (f : Stored → Stored) → length x ≡ length mw → length y ≡ length mb
+  pub lift_both : (f : Stored → Stored) → length x ≡ length mw → length y ≡ length mb
       → place_in s.bytes s.messages x y ≡ on_stored f (place_in s.bytes s.messages mw mb) → Changed s i f w vw b vb
   unfolding place_at
-  lift-both f sx sy e =
+  lift_both f sx sy e =
       let v : Within s i w b = within s i w b r h in
-      changed-at s i w vw b vb (part-only (words_at s i) (place_words s) w x v.words_in sx) (part-only (bytes_at s i) (place_bytes s) b y v.bytes_in sy) f h
-      ((λ k. place_in s.bytes s.messages (part-own (words_at s i) (place_words s) w x v.words_in sx k) (part-own (bytes_at s i) (place_bytes s) b y v.bytes_in sy k))
-      ∙ e ∙ ap (on_stored f) lent-place)
+      changed_at s i w vw b vb (part_only (words_at s i) (place_words s) w x v.words_in sx) (part_only (bytes_at s i) (place_bytes s) b y v.bytes_in sy) f h
+      ((λ k. place_in s.bytes s.messages (part_own (words_at s i) (place_words s) w x v.words_in sx k) (part_own (bytes_at s i) (place_bytes s) b y v.bytes_in sy k))
+      ∙ e ∙ ap (on_stored f) lent_place)
 
-  pub lift-words : (f : Stored → Stored) → length x ≡ length mw
+  pub lift_words : (f : Stored → Stored) → length x ≡ length mw
       → place_in s.bytes s.messages x mb ≡ on_stored f (place_in s.bytes s.messages mw mb) → Changed s i f w vw b b
   unfolding place_at
-  lift-words f sx e =
+  lift_words f sx e =
       let v : Within s i w b = within s i w b r h in
-      changed-at s i w vw b b (part-only (words_at s i) (place_words s) w x v.words_in sx) (only_none (bytes_at s i) (bytes_at s i + place_bytes s) b) f h
-      ((λ k. place_in s.bytes s.messages (part-own (words_at s i) (place_words s) w x v.words_in sx k) (sym (part-lent (bytes_at s i) (place_bytes s) b mb v.bytes_in refl) k))
-      ∙ e ∙ ap (on_stored f) lent-place)
+      changed_at s i w vw b b (part_only (words_at s i) (place_words s) w x v.words_in sx) (only_none (bytes_at s i) (bytes_at s i + place_bytes s) b) f h
+      ((λ k. place_in s.bytes s.messages (part_own (words_at s i) (place_words s) w x v.words_in sx k) (sym (part_lent (bytes_at s i) (place_bytes s) b mb v.bytes_in refl) k))
+      ∙ e ∙ ap (on_stored f) lent_place)
 
 -- a place that is put back whole
 pub record Put (s : Shape) (i : ℕ) (w w' b b' : List ℕ) (p : Place) : Type 0 where
@@ -149,9 +149,9 @@ unfolding place_at
 put_both s i w b x y r h sx sy =
     let v : Within s i w b = within s i w b r h in
     record {
-      own = λ k. place_in s.bytes s.messages (part-own (words_at s i) (place_words s) w x v.words_in sx k) (part-own (bytes_at s i) (place_bytes s) b y v.bytes_in sy k);
-      words = part-only (words_at s i) (place_words s) w x v.words_in sx;
-      bytes = part-only (bytes_at s i) (place_bytes s) b y v.bytes_in sy;
+      own = λ k. place_in s.bytes s.messages (part_own (words_at s i) (place_words s) w x v.words_in sx k) (part_own (bytes_at s i) (place_bytes s) b y v.bytes_in sy k);
+      words = part_only (words_at s i) (place_words s) w x v.words_in sx;
+      bytes = part_only (bytes_at s i) (place_bytes s) b y v.bytes_in sy;
     }
 
 -- ---- the same where the code's own numbers say where the place stands
@@ -162,40 +162,40 @@ module _ (s : Shape) (i wa we ba be : ℕ) (at : SpotIs s i wa we ba be) (w b : 
       subst (λ (x : ℕ). P x we ba be) (sym at.words_from) (subst (λ (x : ℕ). P (words_at s i) x ba be) (sym at.words_to)
       (subst (λ (x : ℕ). P (words_at s i) (words_at s i + place_words s) x be) (sym at.bytes_from) (subst (P (words_at s i) (words_at s i + place_words s) (bytes_at s i)) (sym at.bytes_to) p)))
 
-  pub spot-place : place_in s.bytes s.messages (mid_of wa (we - wa) w) (mid_of ba (be - ba) b) ≡ place_at s w b i
-  spot-place = moved (λ c d e g. place_in s.bytes s.messages (mid_of c (d - c) w) (mid_of e (g - e) b) ≡ place_at s w b i) (lent-place s i w b w b r h)
+  pub spot_place : place_in s.bytes s.messages (mid_of wa (we - wa) w) (mid_of ba (be - ba) b) ≡ place_at s w b i
+  spot_place = moved (λ c d e g. place_in s.bytes s.messages (mid_of c (d - c) w) (mid_of e (g - e) b) ≡ place_at s w b i) (lent_place s i w b w b r h)
 
-  pub spot-both : (f : Stored → Stored) (x y : List ℕ) → length x ≡ length (mid_of wa (we - wa) w) → length y ≡ length (mid_of ba (be - ba) b)
+  pub spot_both : (f : Stored → Stored) (x y : List ℕ) → length x ≡ length (mid_of wa (we - wa) w) → length y ≡ length (mid_of ba (be - ba) b)
       → place_in s.bytes s.messages x y ≡ on_stored f (place_in s.bytes s.messages (mid_of wa (we - wa) w) (mid_of ba (be - ba) b))
       → Changed s i f w (put_mid wa (we - wa) w x) b (put_mid ba (be - ba) b y)
-  spot-both f x y =
+  spot_both f x y =
       moved (λ c d e g. length x ≡ length (mid_of c (d - c) w) → length y ≡ length (mid_of e (g - e) b)
       → place_in s.bytes s.messages x y ≡ on_stored f (place_in s.bytes s.messages (mid_of c (d - c) w) (mid_of e (g - e) b))
       → Changed s i f w (put_mid c (d - c) w x) b (put_mid e (g - e) b y))
-      (lift-both s i w b x y r h f)
+      (lift_both s i w b x y r h f)
 
-  pub spot-words : (f : Stored → Stored) (x : List ℕ) → length x ≡ length (mid_of wa (we - wa) w)
+  pub spot_words : (f : Stored → Stored) (x : List ℕ) → length x ≡ length (mid_of wa (we - wa) w)
       → ((y : List ℕ) → place_in s.bytes s.messages x y ≡ on_stored f (place_in s.bytes s.messages (mid_of wa (we - wa) w) y))
       → Changed s i f w (put_mid wa (we - wa) w x) b b
-  spot-words f x =
+  spot_words f x =
       moved (λ c d e g. length x ≡ length (mid_of c (d - c) w)
       → ((y : List ℕ) → place_in s.bytes s.messages x y ≡ on_stored f (place_in s.bytes s.messages (mid_of c (d - c) w) y))
       → Changed s i f w (put_mid c (d - c) w x) b b)
-      (λ k e. lift-words s i w b x b r h f k (e (mid_of (bytes_at s i) (bytes_at s i + place_bytes s - bytes_at s i) b)))
+      (λ k e. lift_words s i w b x b r h f k (e (mid_of (bytes_at s i) (bytes_at s i + place_bytes s - bytes_at s i) b)))
 
   -- the parts as the definitions have them
-  pub spot-words-part : mid_of wa (we - wa) w ≡ slice (words_at s i) (place_words s) w
-  spot-words-part =
-      moved (λ c d e g. mid_of c (d - c) w ≡ slice (words_at s i) (place_words s) w) (part-lent (words_at s i) (place_words s) w (mid_of (words_at s i) (words_at s i + place_words s - words_at s i) w) (within s i w b r h).words_in refl)
+  pub spot_words_part : mid_of wa (we - wa) w ≡ slice (words_at s i) (place_words s) w
+  spot_words_part =
+      moved (λ c d e g. mid_of c (d - c) w ≡ slice (words_at s i) (place_words s) w) (part_lent (words_at s i) (place_words s) w (mid_of (words_at s i) (words_at s i + place_words s - words_at s i) w) (within s i w b r h).words_in refl)
 
-  pub spot-bytes-part : mid_of ba (be - ba) b ≡ slice (bytes_at s i) (place_bytes s) b
-  spot-bytes-part =
-      moved (λ c d e g. mid_of e (g - e) b ≡ slice (bytes_at s i) (place_bytes s) b) (part-lent (bytes_at s i) (place_bytes s) b (mid_of (bytes_at s i) (bytes_at s i + place_bytes s - bytes_at s i) b) (within s i w b r h).bytes_in refl)
+  pub spot_bytes_part : mid_of ba (be - ba) b ≡ slice (bytes_at s i) (place_bytes s) b
+  spot_bytes_part =
+      moved (λ c d e g. mid_of e (g - e) b ≡ slice (bytes_at s i) (place_bytes s) b) (part_lent (bytes_at s i) (place_bytes s) b (mid_of (bytes_at s i) (bytes_at s i + place_bytes s - bytes_at s i) b) (within s i w b r h).bytes_in refl)
 
   -- parts that are put back whole, with another key too
-  pub spot-put : (x y : List ℕ) → length x ≡ length (mid_of wa (we - wa) w) → length y ≡ length (mid_of ba (be - ba) b)
+  pub spot_put : (x y : List ℕ) → length x ≡ length (mid_of wa (we - wa) w) → length y ≡ length (mid_of ba (be - ba) b)
       → Put s i w (put_mid wa (we - wa) w x) b (put_mid ba (be - ba) b y) (place_in s.bytes s.messages x y)
-  spot-put x y =
+  spot_put x y =
       moved (λ c d e g. length x ≡ length (mid_of c (d - c) w) → length y ≡ length (mid_of e (g - e) b)
       → Put s i w (put_mid c (d - c) w x) b (put_mid e (g - e) b y) (place_in s.bytes s.messages x y))
       (put_both s i w b x y r h)

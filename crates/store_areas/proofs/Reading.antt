@@ -11,7 +11,7 @@ use Rattle.store_log.proofs.Spans.{within}
 use Rattle.store_place.specs.Place.{next_out_of, stored_flight, durable_of, stamp_of, marks_of, session_of, place_in}
 use Rattle.store_areas.specs.declared.Shape.{Shape}
 use Rattle.store_areas.specs.Areas.{Rules, SpotIn, place_at, TextAt}
-use Rattle.store_areas.proofs.Lifting.{spot-place}
+use Rattle.store_areas.proofs.Lifting.{spot_place}
 
 module _ (s : Shape) (i wa we ba be : ℕ) (w b : List ℕ) (at : SpotIn s i w b wa we ba be) (r : Rules s w b) (h : i < get_or w 0 0) where
   abbrev mw : List ℕ
@@ -21,23 +21,23 @@ module _ (s : Shape) (i wa we ba be : ℕ) (w b : List ℕ) (at : SpotIn s i w b
   mb = mid_of ba (be - ba) b
 
   pub lent : place_in s.bytes s.messages mw mb ≡ place_at s w b i
-  lent = spot-place s i wa we ba be at.at w b r h
+  lent = spot_place s i wa we ba be at.at w b r h
 
-  pub out-is : next_out_of mw ≡ (place_at s w b i).stored.session.next_out
+  pub out_is : next_out_of mw ≡ (place_at s w b i).stored.session.next_out
   unfolding place_in session_of
-  out-is = ap (λ (p : Place). p.stored.session.next_out) lent
+  out_is = ap (λ (p : Place). p.stored.session.next_out) lent
 
   pub in_is : get_or mw 1 0 ≡ (place_at s w b i).stored.session.next_in
   unfolding place_in session_of
   in_is = ap (λ (p : Place). p.stored.session.next_in) lent
 
-  pub flight-is : stored_flight mw ≡ (place_at s w b i).stored.session.in_flight
+  pub flight_is : stored_flight mw ≡ (place_at s w b i).stored.session.in_flight
   unfolding place_in session_of
-  flight-is = ap (λ (p : Place). p.stored.session.in_flight) lent
+  flight_is = ap (λ (p : Place). p.stored.session.in_flight) lent
 
-  pub durable-is : durable_of mw ≡ (place_at s w b i).stored.durable
+  pub durable_is : durable_of mw ≡ (place_at s w b i).stored.durable
   unfolding place_in session_of
-  durable-is = ap (λ (p : Place). p.stored.durable) lent
+  durable_is = ap (λ (p : Place). p.stored.durable) lent
 
   stamp_is : stamp_of mw mb ≡ (place_at s w b i).stored.session.stamp
   unfolding place_in session_of

@@ -40,44 +40,44 @@ module _ (s : Shape) (w b : List ℕ) where
         bytes_long = leb-true (s.places * place_bytes s) (length b) (and_r t3 t4 e3);
       }
 
-  pub room-true : Room s w b → roomy s w b ≡ true
+  pub room_true : Room s w b → roomy s w b ≡ true
   unfolding roomy
-  room-true r = simp (le-leb s.bytes 33554432 r.bytes_limit, le-leb s.messages 65536 r.messages_limit, le-leb (66 + s.places * place_words s) (length w) r.words_long, le-leb (s.places * place_bytes s) (length b) r.bytes_long)
+  room_true r = simp (le-leb s.bytes 33554432 r.bytes_limit, le-leb s.messages 65536 r.messages_limit, le-leb (66 + s.places * place_words s) (length w) r.words_long, le-leb (s.places * place_bytes s) (length b) r.bytes_long)
 
-  pub rules-of : allowed s w b ≡ true → Rules s w b
+  pub rules_of : allowed s w b ≡ true → Rules s w b
   unfolding allowed
-  rules-of e =
+  rules_of e =
       let u : Bool = leb (get_or w 0 0) s.places in
       let v : Bool = leb (get_or w 1 0) 64 in
       let e2 : (u && v) ≡ true = and_r (roomy s w b) (u && v) e in
       record { room = room_of (and_l (roomy s w b) (u && v) e); used = leb-true (get_or w 0 0) s.places (and_l u v e2); pending = leb-true (get_or w 1 0) 64 (and_r u v e2) }
 
-  pub in-use-of : (i : ℕ) → in_use s w b i ≡ true → InUse s w b i
-  in-use-of i e = record { rules = rules-of (and_l (allowed s w b) (ltb i (get_or w 0 0)) e); at = ltb-true i (get_or w 0 0) (and_r (allowed s w b) (ltb i (get_or w 0 0)) e) }
+  pub in_use_of : (i : ℕ) → in_use s w b i ≡ true → InUse s w b i
+  in_use_of i e = record { rules = rules_of (and_l (allowed s w b) (ltb i (get_or w 0 0)) e); at = ltb-true i (get_or w 0 0) (and_r (allowed s w b) (ltb i (get_or w 0 0)) e) }
 
-  pub rules-true : Rules s w b → allowed s w b ≡ true
+  pub rules_true : Rules s w b → allowed s w b ≡ true
   unfolding allowed
-  rules-true r = (λ i. room-true r.room i && (le-leb (get_or w 0 0) s.places r.used i && le-leb (get_or w 1 0) 64 r.pending i))
+  rules_true r = (λ i. room_true r.room i && (le-leb (get_or w 0 0) s.places r.used i && le-leb (get_or w 1 0) 64 r.pending i))
 
-  pub bytes-beyond : 33554432 < s.bytes → false ≡ roomy s w b
+  pub bytes_beyond : 33554432 < s.bytes → false ≡ roomy s w b
   unfolding roomy
-  bytes-beyond h = sym (simp (lt-leb s.bytes 33554432 h))
+  bytes_beyond h = sym (simp (lt-leb s.bytes 33554432 h))
 
-  pub messages-beyond : s.bytes ≤ 33554432 → 65536 < s.messages → false ≡ roomy s w b
+  pub messages_beyond : s.bytes ≤ 33554432 → 65536 < s.messages → false ≡ roomy s w b
   unfolding roomy
-  messages-beyond g h = sym (simp (le-leb s.bytes 33554432 g, lt-leb s.messages 65536 h))
+  messages_beyond g h = sym (simp (le-leb s.bytes 33554432 g, lt-leb s.messages 65536 h))
 
-  pub lengths-judged : (pw pb : ℕ) → s.bytes ≤ 33554432 → s.messages ≤ 65536 → pw ≡ place_words s → pb ≡ place_bytes s
+  pub lengths_judged : (pw pb : ℕ) → s.bytes ≤ 33554432 → s.messages ≤ 65536 → pw ≡ place_words s → pb ≡ place_bytes s
       → (leb (66 + s.places * pw) (length w) && leb (s.places * pb) (length b)) ≡ roomy s w b
   unfolding roomy
-  lengths-judged pw pb g h ew eb =
+  lengths_judged pw pb g h ew eb =
       (λ i. leb (66 + s.places * ew i) (length w) && leb (s.places * eb i) (length b))
       ∙ sym (simp (le-leb s.bytes 33554432 g, le-leb s.messages 65536 h))
 
   -- what `allowed` answers
-  pub counts-judged : roomy s w b ≡ true → (leb (get_or w 0 0) s.places && leb (get_or w 1 0) 64) ≡ allowed s w b
+  pub counts_judged : roomy s w b ≡ true → (leb (get_or w 0 0) s.places && leb (get_or w 1 0) 64) ≡ allowed s w b
   unfolding allowed
-  counts-judged e = sym (ap (λ (t : Bool). t && (leb (get_or w 0 0) s.places && leb (get_or w 1 0) 64)) e)
+  counts_judged e = sym (ap (λ (t : Bool). t && (leb (get_or w 0 0) s.places && leb (get_or w 1 0) 64)) e)
 
   pub no_room : roomy s w b ≡ false → false ≡ allowed s w b
   unfolding allowed
@@ -90,14 +90,14 @@ product p n P N hp hn = le_trans (mul-le-mul_left p hn) (mul-le-mul_right N hp)
 -- ---- making
 
 module _ (s : Shape) (w b : List ℕ) where
-  by-room : (t : Bool) → roomy s w b ≡ t → (r : Made) → made_number r ≡ cond t 0 25 → Making s w (cond t (set (set w 0 0) 1 0) w) b r
-  by-room t e r p = record { answer = p ∙ sym (ap (λ (x : Bool). cond x 0 25) e); words = sym (ap (λ (x : Bool). cond x (set (set w 0 0) 1 0) w) e) }
+  by_room : (t : Bool) → roomy s w b ≡ t → (r : Made) → made_number r ≡ cond t 0 25 → Making s w (cond t (set (set w 0 0) 1 0) w) b r
+  by_room t e r p = record { answer = p ∙ sym (ap (λ (x : Bool). cond x 0 25) e); words = sym (ap (λ (x : Bool). cond x (set (set w 0 0) 1 0) w) e) }
 
-  pub made-ready : roomy s w b ≡ true → Making s w (set (set w 0 0) 1 0) b Ready
-  made-ready e = by-room true e Ready refl
+  pub made_ready : roomy s w b ≡ true → Making s w (set (set w 0 0) 1 0) b Ready
+  made_ready e = by_room true e Ready refl
 
-  pub made-unfit : roomy s w b ≡ false → Making s w w b InvalidAreas
-  made-unfit e = by-room false e InvalidAreas refl
+  pub made_unfit : roomy s w b ≡ false → Making s w w b InvalidAreas
+  made_unfit e = by_room false e InvalidAreas refl
 
 -- a new store keeps the rules and has no places
 pub made_rules : (s : Shape) (w b : List ℕ) → Room s w b → Rules s (set (set w 0 0) 1 0) b

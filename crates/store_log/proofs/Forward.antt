@@ -5,7 +5,7 @@ use borrow.Author.Tests.{lt-leb}
 use Rattle.model_session.specs.Session.{Msg, stored_bytes}
 use Rattle.model_session.specs.Summary.{numbered_from}
 use Rattle.store_log.specs.Log.{msg, Entry, entry, num_of, len_of, walk, since}
-use Rattle.store_log.proofs.Walk.{cmp, Look, hit, low, high, full, look, walk-hit, walk-low, walk-high, walk-full}
+use Rattle.store_log.proofs.Walk.{cmp, Look, hit, low, high, full, look, walk_hit, walk_low, walk_high, walk_full}
 
 since_hit : (lo n : ℕ) (b : List ℕ) (l : List Msg) → lo ≤ n → since lo (msg n b ∷ l) ≡ msg n b ∷ since lo l
 since_hit lo n b l h = simp (le-leb lo n h)
@@ -47,10 +47,10 @@ module _ (C : ℕ) (u : List ℕ) (lu : length u ≡ C) where
         let z : length (walk C u (entry n l ∷ es) d bound) ≡ 0 = rw e in
         omega arith
 
-    nth-cons : (k : ℕ) → d + l ≤ C → ((j : ℕ) → j < length (walk C u es (d + l) n) → Nth C u (walk C u es (d + l) n) es (d + l) j)
+    nth_cons : (k : ℕ) → d + l ≤ C → ((j : ℕ) → j < length (walk C u es (d + l) n) → Nth C u (walk C u es (d + l) n) es (d + l) j)
         → k < suc (length (walk C u es (d + l) n)) → Nth C u (msg n A ∷ walk C u es (d + l) n) (entry n l ∷ es) d k
     unfolding A
-    nth-cons zero r rec h =
+    nth_cons zero r rec h =
         let la : length A ≡ l = length-take-le l (drop (C - (d + l)) u) (simp length-drop (omega arith)) in
         let t : stored_bytes (take 1 (msg n A ∷ walk C u es (d + l) n)) ≡ l = omega (arith, la) in
         record {
@@ -58,7 +58,7 @@ module _ (C : ℕ) (u : List ℕ) (lu : length u ≡ C) where
           sum = omega (arith, t);
           room = omega (arith, t);
         }
-    nth-cons (suc j) r rec h =
+    nth_cons (suc j) r rec h =
         let la : length A ≡ l = length-take-le l (drop (C - (d + l)) u) (simp length-drop (omega arith)) in
         let g = rec j (omega arith) in
         let S : ℕ = stored_bytes (take (suc j) (walk C u es (d + l) n)) in
@@ -69,19 +69,19 @@ module _ (C : ℕ) (u : List ℕ) (lu : length u ≡ C) where
           room = omega (arith, g.room, e);
         }
 
-    nth-step : (k : ℕ) → (d + l ≤ C → (j : ℕ) → j < length (walk C u es (d + l) n) → Nth C u (walk C u es (d + l) n) es (d + l) j)
+    nth_step : (k : ℕ) → (d + l ≤ C → (j : ℕ) → j < length (walk C u es (d + l) n) → Nth C u (walk C u es (d + l) n) es (d + l) j)
         → Look C d bound n l → k < length (walk C u (entry n l ∷ es) d bound) → Nth C u (walk C u (entry n l ∷ es) d bound) (entry n l ∷ es) d k
     unfolding A
-    nth-step k rec (low p) h = absurd (none k (walk-low C u n l es d bound p) h)
-    nth-step k rec (high p) h = absurd (none k (walk-high C u n l es d bound p) h)
-    nth-step k rec (full p) h = absurd (none k (walk-full C u n l es d bound p) h)
-    nth-step k rec (hit p q r) h =
-        let e : walk C u (entry n l ∷ es) d bound ≡ msg n A ∷ walk C u es (d + l) n = walk-hit C u n l es d bound p q r in
-        rw e (nth-cons k r (rec r) (rw e at h))
+    nth_step k rec (low p) h = absurd (none k (walk_low C u n l es d bound p) h)
+    nth_step k rec (high p) h = absurd (none k (walk_high C u n l es d bound p) h)
+    nth_step k rec (full p) h = absurd (none k (walk_full C u n l es d bound p) h)
+    nth_step k rec (hit p q r) h =
+        let e : walk C u (entry n l ∷ es) d bound ≡ msg n A ∷ walk C u es (d + l) n = walk_hit C u n l es d bound p q r in
+        rw e (nth_cons k r (rec r) (rw e at h))
 
   pub nth : (es : List Entry) (d bound k : ℕ) → k < length (walk C u es d bound) → Nth C u (walk C u es d bound) es d k
   nth [] d bound k h = absurd (omega arith)
-  nth (entry n l ∷ es) d bound k h = nth-step n l es d bound k (λ r j m. nth es (d + l) n j m) (look C d bound n l) h
+  nth (entry n l ∷ es) d bound k h = nth_step n l es d bound k (λ r j m. nth es (d + l) n j m) (look C d bound n l) h
 
 -- ---- oldest first
 
@@ -99,20 +99,20 @@ module _ (C : ℕ) (u : List ℕ) (lo : ℕ) where
   since_none (entry n l ∷ es) d bound h = go (look C d bound n l)
     where
       go : Look C d bound n l → since lo (walk C u (entry n l ∷ es) d bound) ≡ []
-      go (low p) = ap (since lo) (walk-low C u n l es d bound p)
-      go (high p) = ap (since lo) (walk-high C u n l es d bound p)
-      go (full p) = ap (since lo) (walk-full C u n l es d bound p)
-      go (hit p q r) = ap (since lo) (walk-hit C u n l es d bound p q r) ∙ since_stop lo n (take l (drop (C - (d + l)) u)) (walk C u es (d + l) n) (omega arith)
+      go (low p) = ap (since lo) (walk_low C u n l es d bound p)
+      go (high p) = ap (since lo) (walk_high C u n l es d bound p)
+      go (full p) = ap (since lo) (walk_full C u n l es d bound p)
+      go (hit p q r) = ap (since lo) (walk_hit C u n l es d bound p q r) ∙ since_stop lo n (take l (drop (C - (d + l)) u)) (walk C u es (d + l) n) (omega arith)
 
   from_step : (n l : ℕ) (es : List Entry) (d bound : ℕ) → numbered_from lo (reverse (walk C u es (d + l) n)) ≡ reverse (since lo (walk C u es (d + l) n))
       → Look C d bound n l → (lo ≤ n) ⊎ (n < lo) → numbered_from lo (reverse (walk C u (entry n l ∷ es) d bound)) ≡ reverse (since lo (walk C u (entry n l ∷ es) d bound))
-  from_step n l es d bound rec (low p) j = rw (walk-low C u n l es d bound p)
-  from_step n l es d bound rec (high p) j = rw (walk-high C u n l es d bound p)
-  from_step n l es d bound rec (full p) j = rw (walk-full C u n l es d bound p)
+  from_step n l es d bound rec (low p) j = rw (walk_low C u n l es d bound p)
+  from_step n l es d bound rec (high p) j = rw (walk_high C u n l es d bound p)
+  from_step n l es d bound rec (full p) j = rw (walk_full C u n l es d bound p)
   from_step n l es d bound rec (hit p q r) (inl j) =
       let m : Msg = msg n (take l (drop (C - (d + l)) u)) in
       let W : List Msg = walk C u es (d + l) n in
-      rw (walk-hit C u n l es d bound p q r)
+      rw (walk_hit C u n l es d bound p q r)
       (ap (numbered_from lo) (reverse-cons m W) ∙ from_append lo (reverse W) (m ∷ [])
       ∙ (λ i. rec i ++ since_hit lo n (take l (drop (C - (d + l)) u)) [] j i)
       ∙ sym (ap reverse (since_hit lo n (take l (drop (C - (d + l)) u)) W j) ∙ reverse-cons m (since lo W)))
@@ -120,12 +120,12 @@ module _ (C : ℕ) (u : List ℕ) (lo : ℕ) where
       let m : Msg = msg n (take l (drop (C - (d + l)) u)) in
       let W : List Msg = walk C u es (d + l) n in
       let z : numbered_from lo (m ∷ []) ≡ [] = simp (lt-leb lo n j) in
-      rw (walk-hit C u n l es d bound p q r)
+      rw (walk_hit C u n l es d bound p q r)
       (ap (numbered_from lo) (reverse-cons m W) ∙ from_append lo (reverse W) (m ∷ [])
       ∙ (λ i. rec i ++ z i)
       ∙ append-nil (reverse (since lo W)) ∙ ap reverse (since_none es (d + l) n (omega arith))
       ∙ sym (ap reverse (since_stop lo n (take l (drop (C - (d + l)) u)) W j)))
 
-  pub from-since : (es : List Entry) (d bound : ℕ) → numbered_from lo (reverse (walk C u es d bound)) ≡ reverse (since lo (walk C u es d bound))
-  from-since [] d bound = refl
-  from-since (entry n l ∷ es) d bound = from_step n l es d bound (from-since es (d + l) n) (look C d bound n l) (cmp lo n)
+  pub from_since : (es : List Entry) (d bound : ℕ) → numbered_from lo (reverse (walk C u es d bound)) ≡ reverse (since lo (walk C u es d bound))
+  from_since [] d bound = refl
+  from_since (entry n l ∷ es) d bound = from_step n l es d bound (from_since es (d + l) n) (look C d bound n l) (cmp lo n)

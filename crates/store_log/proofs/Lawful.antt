@@ -4,7 +4,7 @@ use mathlib.Core.List.{reverse-cons}
 use lib.ListN.{length-reverse}
 use Rattle.model_session.specs.Session.{Msg, stored_bytes, is_bytes, Rising}
 use Rattle.store_log.specs.Log.{msg, Entry, entry, walk, entries, before, newest, newest_first, head_of, tail_of, unrolled, log_of, Lawful}
-use Rattle.store_log.proofs.Walk.{Look, hit, low, high, full, look, walk-hit, walk-low, walk-high, walk-full, stored_reverse}
+use Rattle.store_log.proofs.Walk.{Look, hit, low, high, full, look, walk_hit, walk_low, walk_high, walk_full, stored_reverse}
 
 -- ---- every element is below n
 
@@ -48,15 +48,15 @@ good_nil C d bound es k = record { rising = tt; count = omega arith; bytes = ome
 good_step : (C : ℕ) (u : List ℕ) (n l : ℕ) (es : List Entry) (d bound : ℕ) → Small 256 u → d ≤ C
     → (d + l ≤ C → Good C (d + l) n es (walk C u es (d + l) n)) → Look C d bound n l
     → Good C d bound (entry n l ∷ es) (walk C u (entry n l ∷ es) d bound)
-good_step C u n l es d bound s q rec (low h) = rw (walk-low C u n l es d bound h) (good_nil C d bound (entry n l ∷ es) q)
-good_step C u n l es d bound s q rec (high h) = rw (walk-high C u n l es d bound h) (good_nil C d bound (entry n l ∷ es) q)
-good_step C u n l es d bound s q rec (full h) = rw (walk-full C u n l es d bound h) (good_nil C d bound (entry n l ∷ es) q)
+good_step C u n l es d bound s q rec (low h) = rw (walk_low C u n l es d bound h) (good_nil C d bound (entry n l ∷ es) q)
+good_step C u n l es d bound s q rec (high h) = rw (walk_high C u n l es d bound h) (good_nil C d bound (entry n l ∷ es) q)
+good_step C u n l es d bound s q rec (full h) = rw (walk_full C u n l es d bound h) (good_nil C d bound (entry n l ∷ es) q)
 good_step C u n l es d bound s q rec (hit a b r) =
     let g = rec r in
     let A : List ℕ = take l (drop (C - (d + l)) u) in
     let la : length A ≤ l = omega (arith, length-take l (drop (C - (d + l)) u)) in
     let t : T (is_bytes A) = small_bytes A (small_take l (drop (C - (d + l)) u) (omega arith) (small_drop (C - (d + l)) u s)) in
-    rw (walk-hit C u n l es d bound a b r) (record {
+    rw (walk_hit C u n l es d bound a b r) (record {
       rising = rw (reverse-cons (msg n A) (walk C u es (d + l) n)) (rising_snoc 1 n bound A (reverse (walk C u es (d + l) n)) a g.rising b t);
       count = omega (arith, g.count);
       bytes = omega (arith, g.bytes);

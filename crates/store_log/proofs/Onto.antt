@@ -3,9 +3,9 @@ use Rattle.std.proofs.Common.{◌≡◌, ℕ, zero, suc, ◌+◌, ◌-◌, ◌*�
 use lib.ListN.{length-replicate}
 use Rattle.model_session.specs.Session.{Msg, stored_bytes, is_bytes, Rising, keep}
 use Rattle.store_log.specs.Log.{before, entries, head_of, tail_of, unrolled, log_of, Lawful}
-use Rattle.store_log.proofs.Walk.{walk-low, stored_append}
+use Rattle.store_log.proofs.Walk.{walk_low, stored_append}
 use Rattle.store_log.proofs.Ring.{length_unrolled}
-use Rattle.store_log.proofs.Slots.{head_lt, tail_le, stored, stored-newest, stored-tail}
+use Rattle.store_log.proofs.Slots.{head_lt, tail_le, stored, stored_newest, stored_tail}
 use Rattle.store_log.proofs.Recording.{room_all, stored_law}
 use Rattle.store_log.proofs.Lawful.{Small, small_take, small_drop, small_append}
 
@@ -54,7 +54,7 @@ unfolding log_of
 empty C zero next w b z = refl
 empty C (suc m) next w b z =
     let p : ℕ = before (suc m) (head_of (suc m) w) in
-    ap reverse (walk-low C (unrolled (tail_of C w) b) (get_or w (2 + 2 * p) 0) (get_or w (3 + 2 * p) 0) (entries w (suc m) m p) 0 next (omega (arith, z (2 + 2 * p))))
+    ap reverse (walk_low C (unrolled (tail_of C w) b) (get_or w (2 + 2 * p) 0) (get_or w (3 + 2 * p) 0) (entries w (suc m) m p) 0 next (omega (arith, z (2 + 2 * p))))
 
 none_held_lem : (C M n : ℕ) → Held C M n []
 none_held_lem C M n = record {
@@ -96,12 +96,12 @@ module _ (C M : ℕ) (hC : C < 2 ^ 64) (hM : M < 2 ^ 64) where
             (bytes_small x.text fit);
         is = λ later g.
             stored_law C M x.num later t 0 w v b c x.text a.bytes_long (omega arith) one g (omega arith) tl refl (omega arith)
-            (append-nil c) (stored-newest w h 0 x.num k lw M refl hl) (stored-tail w h 0 x.num k lw)
+            (append-nil c) (stored_newest w h 0 x.num k lw M refl hl) (stored_tail w h 0 x.num k lw)
             ∙ ap (keep C M x) (a.is x.num low) ∙ room_all C M x l room count;
       }
 
-  later-held : (n m : ℕ) (l : List Msg) → Held C M n l → n ≤ m → Held C M m l
-  later-held n m l a h = record {
+  later_held : (n m : ℕ) (l : List Msg) → Held C M n l → n ≤ m → Held C M m l
+  later_held n m l a h = record {
     words = a.words;
     bytes = a.bytes;
     words_long = a.words_long;
@@ -112,7 +112,7 @@ module _ (C M : ℕ) (hC : C < 2 ^ 64) (hM : M < 2 ^ 64) where
   }
 
   all_held : (next n : ℕ) (l r : List Msg) → next ≤ 2 ^ 64 → 1 ≤ n → n ≤ next → Held C M n l → Rising n next r → stored_bytes l + stored_bytes r ≤ C → length l + length r ≤ M → Held C M next (l ++ r)
-  all_held next n l [] top one low a s h k = rw (append-nil l) (later-held n next l a low)
+  all_held next n l [] top one low a s h k = rw (append-nil l) (later_held n next l a low)
   all_held next n l (x ∷ r) top one low a s h k =
       let e : l ++ (x ∷ r) ≡ (l ++ (x ∷ [])) ++ r = sym (append_assoc l (x ∷ []) r) in
       rw e (all_held next (suc x.num) (l ++ (x ∷ [])) r top (omega arith) s.1

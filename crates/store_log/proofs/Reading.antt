@@ -3,8 +3,8 @@ use Rattle.std.proofs.Common.{◌≡◌, ℕ, suc, ◌+◌, ◌-◌, ◌*◌, �
 use borrow.Author.Tests.{lt-leb}
 use Rattle.model_session.specs.Session.{Msg, stored_bytes}
 use Rattle.store_log.specs.Log.{msg, before, entries, newest, newest_first, head_of, tail_of, unrolled, walk, since, log_of, rest_of, From}
-use Rattle.store_log.proofs.Walk.{Look, hit, low, high, full, look, walk-hit, walk-low, walk-high, walk-full}
-use Rattle.store_log.proofs.Forward.{since_taken, from-since}
+use Rattle.store_log.proofs.Walk.{Look, hit, low, high, full, look, walk_hit, walk_low, walk_high, walk_full}
+use Rattle.store_log.proofs.Forward.{since_taken, from_since}
 
 module _ (C M lo : ℕ) (w u : List ℕ) where
   -- what is still to be counted: f entries before slot s
@@ -18,24 +18,24 @@ module _ (C M lo : ℕ) (w u : List ℕ) where
   len_at p = get_or w (3 + 2 * p) 0
 
   module _ (f s p d bound : ℕ) (e : p ≡ before M s) where
-    left-low : num_at p < lo → left (suc f) s d bound ≡ []
-    left-low h = go (look C d bound (num_at p) (len_at p))
+    left_low : num_at p < lo → left (suc f) s d bound ≡ []
+    left_low h = go (look C d bound (num_at p) (len_at p))
       where
         go : Look C d bound (num_at p) (len_at p) → left (suc f) s d bound ≡ []
-        go (hit a b r) = rw (← e, walk-hit C u (num_at p) (len_at p) (entries w M f p) d bound a b r) (simp (lt-leb lo (num_at p) h))
-        go (low a) = rw (← e, walk-low C u (num_at p) (len_at p) (entries w M f p) d bound a)
-        go (high a) = rw (← e, walk-high C u (num_at p) (len_at p) (entries w M f p) d bound a)
-        go (full a) = rw (← e, walk-full C u (num_at p) (len_at p) (entries w M f p) d bound a)
+        go (hit a b r) = rw (← e, walk_hit C u (num_at p) (len_at p) (entries w M f p) d bound a b r) (simp (lt-leb lo (num_at p) h))
+        go (low a) = rw (← e, walk_low C u (num_at p) (len_at p) (entries w M f p) d bound a)
+        go (high a) = rw (← e, walk_high C u (num_at p) (len_at p) (entries w M f p) d bound a)
+        go (full a) = rw (← e, walk_full C u (num_at p) (len_at p) (entries w M f p) d bound a)
 
-    left-high : bound ≤ num_at p → left (suc f) s d bound ≡ []
-    left-high h = rw (← e, walk-high C u (num_at p) (len_at p) (entries w M f p) d bound h)
+    left_high : bound ≤ num_at p → left (suc f) s d bound ≡ []
+    left_high h = rw (← e, walk_high C u (num_at p) (len_at p) (entries w M f p) d bound h)
 
-    left-full : C < d + len_at p → left (suc f) s d bound ≡ []
-    left-full h = rw (← e, walk-full C u (num_at p) (len_at p) (entries w M f p) d bound h)
+    left_full : C < d + len_at p → left (suc f) s d bound ≡ []
+    left_full h = rw (← e, walk_full C u (num_at p) (len_at p) (entries w M f p) d bound h)
 
-    left-hit : 1 ≤ lo → lo ≤ num_at p → num_at p < bound → d + len_at p ≤ C
+    left_hit : 1 ≤ lo → lo ≤ num_at p → num_at p < bound → d + len_at p ≤ C
         → left (suc f) s d bound ≡ msg (num_at p) (take (len_at p) (drop (C - (d + len_at p)) u)) ∷ left f p (d + len_at p) (num_at p)
-    left-hit a b c r = rw (← e, walk-hit C u (num_at p) (len_at p) (entries w M f p) d bound (omega arith) c r) (simp (le-leb lo (num_at p) b))
+    left_hit a b c r = rw (← e, walk_hit C u (num_at p) (len_at p) (entries w M f p) d bound (omega arith) c r) (simp (le-leb lo (num_at p) b))
 
   -- the loop's invariant: what was counted, and what is left
   pub record Counting (all : List Msg) (count sum slot bound : ℕ) : Type 0 where
@@ -55,13 +55,13 @@ module _ (C M lo : ℕ) (w u : List ℕ) where
         (i.many ∙ ap (λ (l : List Msg). count + length l) y ∙ omega arith, i.long ∙ ap (λ (l : List Msg). sum + stored_bytes l) y ∙ omega arith)
 
     pub done_low : num_at p < lo → (length all ≡ count) × (stored_bytes all ≡ sum)
-    done_low h = done (left-low (M - (count + 1)) slot p sum bound e h)
+    done_low h = done (left_low (M - (count + 1)) slot p sum bound e h)
 
     pub done_high : bound ≤ num_at p → (length all ≡ count) × (stored_bytes all ≡ sum)
-    done_high h = done (left-high (M - (count + 1)) slot p sum bound e h)
+    done_high h = done (left_high (M - (count + 1)) slot p sum bound e h)
 
     pub done_full : C - sum < len_at p → (length all ≡ count) × (stored_bytes all ≡ sum)
-    done_full h = done (left-full (M - (count + 1)) slot p sum bound e (omega (arith, i.room)))
+    done_full h = done (left_full (M - (count + 1)) slot p sum bound e (omega (arith, i.room)))
 
     pub counts : length u ≡ C → 1 ≤ lo → p < M → lo ≤ num_at p → num_at p < bound → len_at p ≤ C - sum → Counting all (count + 1) (sum + len_at p) p (num_at p)
     counts lu hl hp a b r =
@@ -70,7 +70,7 @@ module _ (C M lo : ℕ) (w u : List ℕ) where
         let A : List ℕ = take (len_at p) (drop (C - d) u) in
         let la : length A ≡ len_at p = length-take-le (len_at p) (drop (C - d) u) (simp length-drop (omega arith)) in
         let z : left (M - count) slot sum bound ≡ msg (num_at p) A ∷ left (M - (count + 1)) p d (num_at p) =
-        rw fuel (left-hit (M - (count + 1)) slot p sum bound e hl a b rr) in
+        rw fuel (left_hit (M - (count + 1)) slot p sum bound e hl a b rr) in
         record {
           most = omega arith;
           room = rr;
@@ -94,7 +94,7 @@ counted C M next lo w b count sum m r h =
     let t : take count L ≡ since lo L = ap (λ (k : ℕ). take k L) (sym h.0) ∙ (since_taken lo L).is in
     record {
       stands = record { many = omega (arith, (since_taken lo L).few, h.0); few = m; sum = sym h.1 ∙ ap stored_bytes (sym t); room = r };
-      is = ap reverse t ∙ sym (from-since C (unrolled (tail_of C w) b) lo (newest M w) 0 next);
+      is = ap reverse t ∙ sym (from_since C (unrolled (tail_of C w) b) lo (newest M w) 0 next);
     }
 
 pub counted_none : (C M next lo : ℕ) (w b : List ℕ) → M ≡ 0 → From C M next lo w b 0 0

@@ -4,7 +4,7 @@ use mathlib.Core.Bool.{and-false}
 use borrow.Author.Tests.{lt-leb}
 use Rattle.model_session.specs.Session.{Msg, stored_bytes, keep}
 use Rattle.store_log.specs.Log.{msg, Entry, entry, before, entries, newest, head_of, tail_of, unrolled, walk, log_of, replayed, Lawful}
-use Rattle.store_log.proofs.Walk.{walk-low, walk-high, walk_record, stored_append}
+use Rattle.store_log.proofs.Walk.{walk_low, walk_high, walk_record, stored_append}
 use Rattle.store_log.proofs.Ring.{length_unrolled}
 
 pub before_pos : (M h : ℕ) → (h ≡ 0 → ⊥) → before M h ≡ h - 1
@@ -40,7 +40,7 @@ cleared C (suc m) next p w x _ e l r =
     let v0 : get_or v 0 0 ≡ get_or w 0 0 = get_or-set_other w (2 + 2 * p) 0 0 0 (λ e. omega arith) in
     let qq : q' ≡ p = ap (λ (z : ℕ). before (suc m) (cond (ltb z (suc m)) z 0)) v0 ∙ sym e in
     let z : get_or v (2 + 2 * q') 0 < 1 = rw qq (omega (arith, get_or-set_same w (2 + 2 * p) 0 0 (omega arith))) in
-    ap reverse (walk-low C (unrolled (tail_of C v) x) (get_or v (2 + 2 * q') 0) (get_or v (3 + 2 * q') 0) (entries v (suc m) m q') 0 next z)
+    ap reverse (walk_low C (unrolled (tail_of C v) x) (get_or v (2 + 2 * q') 0) (get_or v (3 + 2 * q') 0) (entries v (suc m) m q') 0 next z)
 
 -- the newest entry's number is too great: there are no messages
 beyond : (C M next p : ℕ) (w x : List ℕ) → p ≡ before M (head_of M w) → next ≤ get_or w (2 + 2 * p) 0 → log_of C M next w x ≡ []
@@ -49,7 +49,7 @@ beyond C zero next p w x e h = refl
 beyond C (suc m) next p w x e h =
     let q : ℕ = before (suc m) (head_of (suc m) w) in
     let h' : next ≤ get_or w (2 + 2 * q) 0 = rw (← e) h in
-    ap reverse (walk-high C (unrolled (tail_of C w) x) (get_or w (2 + 2 * q) 0) (get_or w (3 + 2 * q) 0) (entries w (suc m) m q) 0 next h')
+    ap reverse (walk_high C (unrolled (tail_of C w) x) (get_or w (2 + 2 * q) 0) (get_or w (3 + 2 * q) 0) (entries w (suc m) m q) 0 next h')
 
 pub settle_cleared : (C M a b p : ℕ) (w x : List ℕ) → 0 < M → p ≡ before M (head_of M w) → p < M → 2 + 2 * M ≤ length w → a ≤ get_or w (2 + 2 * p) 0
     → log_of C M b (set w (2 + 2 * p) 0) x ≡ log_of C M a w x

@@ -13,12 +13,12 @@ abbrev Clear : ℕ → ℕ → ℕ → ℕ → Type 0
 Clear M h f s = ((s ≤ h) × (f + h + 1 ≤ s + M)) ⊎ ((h < s) × (f + h < s))
 
 module _ (w v : List ℕ) (M h : ℕ) (hM : h < M) (same : (p : ℕ) → (p ≡ h → ⊥) → entry_at v p ≡ entry_at w p) where
-  entries-clear : (f s : ℕ) → Clear M h f s → entries v M f s ≡ entries w M f s
-  entries-clear zero s c = refl
-  entries-clear (suc f) zero (inl c) = λ i. same (M - 1) (omega arith) i ∷ entries-clear f (M - 1) (inr (omega arith)) i
-  entries-clear (suc f) zero (inr c) = absurd (omega arith)
-  entries-clear (suc f) (suc s) (inl c) = λ i. same s (omega arith) i ∷ entries-clear f s (inl (omega arith)) i
-  entries-clear (suc f) (suc s) (inr c) = λ i. same s (omega arith) i ∷ entries-clear f s (inr (omega arith)) i
+  entries_clear : (f s : ℕ) → Clear M h f s → entries v M f s ≡ entries w M f s
+  entries_clear zero s c = refl
+  entries_clear (suc f) zero (inl c) = λ i. same (M - 1) (omega arith) i ∷ entries_clear f (M - 1) (inr (omega arith)) i
+  entries_clear (suc f) zero (inr c) = absurd (omega arith)
+  entries_clear (suc f) (suc s) (inl c) = λ i. same s (omega arith) i ∷ entries_clear f s (inl (omega arith)) i
+  entries_clear (suc f) (suc s) (inr c) = λ i. same s (omega arith) i ∷ entries_clear f s (inr (omega arith)) i
 
 pub head_lt : (M : ℕ) (w : List ℕ) → 0 < M → head_of M w < M
 head_lt M w h = go (cmp M (get_or w 0 0))
@@ -62,21 +62,21 @@ module _ (w : List ℕ) (h end n k : ℕ) (room : 4 + 2 * h ≤ length w) where
       get_or-set_other w3 (3 + 2 * h) j k 0 c ∙ get_or-set_other w2 (2 + 2 * h) j n 0 b
       ∙ get_or-set_other w1 1 j end 0 (λ e. omega arith) ∙ get_or-set_other w 0 j (h + 1) 0 (λ e. omega arith)
 
-  stored-head : get_or (stored w h end n k) 0 0 ≡ h + 1
+  stored_head : get_or (stored w h end n k) 0 0 ≡ h + 1
   unfolding w1 w2 w3
-  stored-head =
+  stored_head =
       get_or-set_other w3 (3 + 2 * h) 0 k 0 (λ e. omega arith) ∙ get_or-set_other w2 (2 + 2 * h) 0 n 0 (λ e. omega arith)
       ∙ get_or-set_other w1 1 0 end 0 (λ e. omega arith) ∙ get_or-set_same w 0 (h + 1) 0 (omega arith)
 
-  pub stored-tail : get_or (stored w h end n k) 1 0 ≡ end
+  pub stored_tail : get_or (stored w h end n k) 1 0 ≡ end
   unfolding w1 w2 w3
-  stored-tail =
+  stored_tail =
       get_or-set_other w3 (3 + 2 * h) 1 k 0 (λ e. omega arith) ∙ get_or-set_other w2 (2 + 2 * h) 1 n 0 (λ e. omega arith)
       ∙ get_or-set_same w1 1 end 0 (simp length-set (omega arith))
 
-  stored-entry : entry_at (stored w h end n k) h ≡ entry n k
+  stored_entry : entry_at (stored w h end n k) h ≡ entry n k
   unfolding w1 w2 w3
-  stored-entry =
+  stored_entry =
       let a : get_or (stored w h end n k) (2 + 2 * h) 0 ≡ n =
       get_or-set_other w3 (3 + 2 * h) (2 + 2 * h) k 0 (λ e. omega arith) ∙ get_or-set_same w2 (2 + 2 * h) n 0 (simp length-set (omega arith)) in
       let b : get_or (stored w h end n k) (3 + 2 * h) 0 ≡ k = get_or-set_same w3 (3 + 2 * h) k 0 (simp length-set (omega arith)) in
@@ -88,14 +88,14 @@ module _ (w : List ℕ) (h end n k : ℕ) (room : 4 + 2 * h ≤ length w) where
       let b : get_or (stored w h end n k) (3 + 2 * p) 0 ≡ get_or w (3 + 2 * p) 0 = stored_other (3 + 2 * p) (omega arith) (λ e. omega arith) (λ e. ne (omega arith)) in
       λ i. entry (a i) (b i)
 
-  pub stored-newest : (M : ℕ) → h ≡ head_of M w → h < M → newest M (stored w h end n k) ≡ entry n k ∷ take (M - 1) (newest M w)
-  stored-newest zero e l = absurd (omega arith)
-  stored-newest (suc m) e l =
+  pub stored_newest : (M : ℕ) → h ≡ head_of M w → h < M → newest M (stored w h end n k) ≡ entry n k ∷ take (M - 1) (newest M w)
+  stored_newest zero e l = absurd (omega arith)
+  stored_newest (suc m) e l =
       let v : List ℕ = stored w h end n k in
-      let p : before (suc m) (head_of (suc m) v) ≡ h = before_head (suc m) h v l stored-head in
+      let p : before (suc m) (head_of (suc m) v) ≡ h = before_head (suc m) h v l stored_head in
       let m' : suc m - 1 ≡ m = omega arith in
       ap (λ (s : ℕ). entry_at v s ∷ entries v (suc m) m s) p
-      ∙ (λ i. stored-entry i ∷ entries-clear w v (suc m) h l stored_same m h (inl (omega arith)) i)
+      ∙ (λ i. stored_entry i ∷ entries_clear w v (suc m) h l stored_same m h (inl (omega arith)) i)
       ∙ ap (λ (t : List Entry). entry n k ∷ t)
       (sym (ap (λ (s : ℕ). take (suc m - 1) (entries w (suc m) (suc m) s)) (sym e) ∙ ap (λ (f : ℕ). take f (entries w (suc m) (suc m) h)) m' ∙ take_entries w (suc m) m h))
 

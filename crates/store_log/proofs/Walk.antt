@@ -35,18 +35,18 @@ look C d bound n l = go (cmp 1 n) (cmp bound n) (cmp (d + l) C)
     go (inl h) (inr k) (inr r) = full r
 
 module _ (C : ℕ) (u : List ℕ) (n l : ℕ) (es : List Entry) (d bound : ℕ) where
-  pub walk-hit : 1 ≤ n → n < bound → d + l ≤ C
+  pub walk_hit : 1 ≤ n → n < bound → d + l ≤ C
       → walk C u (entry n l ∷ es) d bound ≡ msg n (take l (drop (C - (d + l)) u)) ∷ walk C u es (d + l) n
-  walk-hit p q r = simp (le-leb 1 n p, lt-ltb n bound q, le-leb (d + l) C r)
+  walk_hit p q r = simp (le-leb 1 n p, lt-ltb n bound q, le-leb (d + l) C r)
 
-  pub walk-low : n < 1 → walk C u (entry n l ∷ es) d bound ≡ []
-  walk-low p = simp (lt-leb 1 n p)
+  pub walk_low : n < 1 → walk C u (entry n l ∷ es) d bound ≡ []
+  walk_low p = simp (lt-leb 1 n p)
 
-  pub walk-high : bound ≤ n → walk C u (entry n l ∷ es) d bound ≡ []
-  walk-high p = simp (le-ltb n bound p, and-false)
+  pub walk_high : bound ≤ n → walk C u (entry n l ∷ es) d bound ≡ []
+  walk_high p = simp (le-ltb n bound p, and-false)
 
-  pub walk-full : C < d + l → walk C u (entry n l ∷ es) d bound ≡ []
-  walk-full p = simp (lt-leb (d + l) C p, and-false)
+  pub walk_full : C < d + l → walk C u (entry n l ∷ es) d bound ≡ []
+  walk_full p = simp (lt-leb (d + l) C p, and-false)
 
 -- ---- the newest that fit: at most m, within C with d taken already
 
@@ -65,20 +65,20 @@ fit_nil C d zero = refl
 fit_nil C d (suc m) = refl
 
 module _ (C d m n : ℕ) (b : List ℕ) (l : List Msg) where
-  fit-hit : d + length b ≤ C → fit C d (suc m) (msg n b ∷ l) ≡ msg n b ∷ fit C (d + length b) m l
+  fit_hit : d + length b ≤ C → fit C d (suc m) (msg n b ∷ l) ≡ msg n b ∷ fit C (d + length b) m l
   unfolding fit
-  fit-hit h = simp (le-leb (d + length b) C h)
+  fit_hit h = simp (le-leb (d + length b) C h)
 
-  fit-full : C < d + length b → fit C d (suc m) (msg n b ∷ l) ≡ []
+  fit_full : C < d + length b → fit C d (suc m) (msg n b ∷ l) ≡ []
   unfolding fit
-  fit-full h = simp (lt-leb (d + length b) C h)
+  fit_full h = simp (lt-leb (d + length b) C h)
 
 -- ---- what the ring says after a write of x
 
 module _ (C : ℕ) (u x : List ℕ) (lu : length u ≡ C) where
-  bytes-kept : (d l : ℕ) → d + length x + l ≤ C
+  bytes_kept : (d l : ℕ) → d + length x + l ≤ C
       → take l (drop (C - (d + length x + l)) (drop (length x) u ++ x)) ≡ take l (drop (C - (d + l)) u)
-  bytes-kept d l h =
+  bytes_kept d l h =
       let a : C - (d + length x + l) ≤ length (drop (length x) u) = simp length-drop (omega arith) in
       let e : length x + (C - (d + length x + l)) ≡ C - (d + l) = omega arith in
       let b : l ≤ length (drop (C - (d + l)) u) = simp length-drop (omega arith) in
@@ -95,12 +95,12 @@ module _ (C : ℕ) (u x : List ℕ) (lu : length u ≡ C) where
       → Look C d bound n l
       → walk C u' (entry n l ∷ take m es) e bound ≡ fit C e (suc m) (walk C u (entry n l ∷ es) d bound)
   step n l es m d e bound q rec (low p) =
-      walk-low C u' n l (take m es) e bound p ∙ sym (ap (fit C e (suc m)) (walk-low C u n l es d bound p) ∙ fit_nil C e (suc m))
+      walk_low C u' n l (take m es) e bound p ∙ sym (ap (fit C e (suc m)) (walk_low C u n l es d bound p) ∙ fit_nil C e (suc m))
   step n l es m d e bound q rec (high p) =
-      walk-high C u' n l (take m es) e bound p ∙ sym (ap (fit C e (suc m)) (walk-high C u n l es d bound p) ∙ fit_nil C e (suc m))
+      walk_high C u' n l (take m es) e bound p ∙ sym (ap (fit C e (suc m)) (walk_high C u n l es d bound p) ∙ fit_nil C e (suc m))
   step n l es m d e bound q rec (full p) =
       let p' : C < e + l = omega arith in
-      walk-full C u' n l (take m es) e bound p' ∙ sym (ap (fit C e (suc m)) (walk-full C u n l es d bound p) ∙ fit_nil C e (suc m))
+      walk_full C u' n l (take m es) e bound p' ∙ sym (ap (fit C e (suc m)) (walk_full C u n l es d bound p) ∙ fit_nil C e (suc m))
   step n l es m d e bound q rec (hit p k r) = go (cmp (e + l) C)
     where
       A : List ℕ
@@ -113,19 +113,19 @@ module _ (C : ℕ) (u x : List ℕ) (lu : length u ≡ C) where
       la = long d l r
 
       back : fit C e (suc m) (walk C u (entry n l ∷ es) d bound) ≡ fit C e (suc m) (msg n A ∷ L)
-      back = ap (fit C e (suc m)) (walk-hit C u n l es d bound p k r)
+      back = ap (fit C e (suc m)) (walk_hit C u n l es d bound p k r)
 
       go : (e + l ≤ C) ⊎ (C < e + l) → walk C u' (entry n l ∷ take m es) e bound ≡ fit C e (suc m) (walk C u (entry n l ∷ es) d bound)
       go (inr f) =
           let f' : C < e + length A = omega (arith, la) in
-          walk-full C u' n l (take m es) e bound f ∙ sym (back ∙ fit-full C e m n A L f')
+          walk_full C u' n l (take m es) e bound f ∙ sym (back ∙ fit_full C e m n A L f')
       go (inl f) =
           let f' : e + length A ≤ C = omega (arith, la) in
-          let same : take l (drop (C - (e + l)) u') ≡ A = rw q (bytes-kept d l (omega arith)) in
-          walk-hit C u' n l (take m es) e bound p k f
+          let same : take l (drop (C - (e + l)) u') ≡ A = rw q (bytes_kept d l (omega arith)) in
+          walk_hit C u' n l (take m es) e bound p k f
           ∙ (λ i. msg n (same i) ∷ rec i)
           ∙ ap (λ (j : ℕ). msg n A ∷ fit C (e + j) m L) (sym la)
-          ∙ sym (back ∙ fit-hit C e m n A L f')
+          ∙ sym (back ∙ fit_hit C e m n A L f')
 
   -- after the write the walk finds what it found before, as far as there is room beside x
   pub walk_kept : (es : List Entry) (m d e bound : ℕ) → e ≡ d + length x
@@ -142,7 +142,7 @@ fit_all : (C d m : ℕ) (l : List Msg) → d + stored_bytes l ≤ C → length l
 fit_all C d m [] h k = fit_nil C d m
 fit_all C d zero (x ∷ l) h k = absurd (omega arith)
 fit_all C d (suc m) (x ∷ l) h k =
-    fit-hit C d m x.num x.text l (omega arith) ∙ ap (λ (t : List Msg). x ∷ t) (fit_all C (d + length x.text) m l (omega arith) (omega arith))
+    fit_hit C d m x.num x.text l (omega arith) ∙ ap (λ (t : List Msg). x ∷ t) (fit_all C (d + length x.text) m l (omega arith) (omega arith))
 
 -- too many with x: x goes
 abbrev Over : ℕ → ℕ → ℕ → List Msg → Type 0
@@ -151,13 +151,13 @@ Over C d m l = (C < d + stored_bytes l) ⊎ (m < length l)
 cut_step : (C d m n : ℕ) (b : List ℕ) (l : List Msg) (x : Msg) → (Over C (d + length b) m (l ++ (x ∷ [])) → fit C (d + length b) m (l ++ (x ∷ [])) ≡ fit C (d + length b) m l)
     → (d + length b ≤ C) ⊎ (C < d + length b) → Over C d (suc m) (msg n b ∷ (l ++ (x ∷ [])))
     → fit C d (suc m) (msg n b ∷ (l ++ (x ∷ []))) ≡ fit C d (suc m) (msg n b ∷ l)
-cut_step C d m n b l x rec (inr f) h = fit-full C d m n b (l ++ (x ∷ [])) f ∙ sym (fit-full C d m n b l f)
-cut_step C d m n b l x rec (inl f) (inl h) = fit-hit C d m n b (l ++ (x ∷ [])) f ∙ ap (λ (t : List Msg). msg n b ∷ t) (rec (inl (omega arith))) ∙ sym (fit-hit C d m n b l f)
-cut_step C d m n b l x rec (inl f) (inr h) = fit-hit C d m n b (l ++ (x ∷ [])) f ∙ ap (λ (t : List Msg). msg n b ∷ t) (rec (inr (omega arith))) ∙ sym (fit-hit C d m n b l f)
+cut_step C d m n b l x rec (inr f) h = fit_full C d m n b (l ++ (x ∷ [])) f ∙ sym (fit_full C d m n b l f)
+cut_step C d m n b l x rec (inl f) (inl h) = fit_hit C d m n b (l ++ (x ∷ [])) f ∙ ap (λ (t : List Msg). msg n b ∷ t) (rec (inl (omega arith))) ∙ sym (fit_hit C d m n b l f)
+cut_step C d m n b l x rec (inl f) (inr h) = fit_hit C d m n b (l ++ (x ∷ [])) f ∙ ap (λ (t : List Msg). msg n b ∷ t) (rec (inr (omega arith))) ∙ sym (fit_hit C d m n b l f)
 
 fit_cut : (C d m : ℕ) (l : List Msg) (x : Msg) → Over C d m (l ++ (x ∷ [])) → fit C d m (l ++ (x ∷ [])) ≡ fit C d m l
 fit_cut C d zero l x h = fit_zero C d (l ++ (x ∷ [])) ∙ sym (fit_zero C d l)
-fit_cut C d (suc m) [] x (inl h) = fit-full C d m x.num x.text [] (omega arith) ∙ sym (fit_nil C d (suc m))
+fit_cut C d (suc m) [] x (inl h) = fit_full C d m x.num x.text [] (omega arith) ∙ sym (fit_nil C d (suc m))
 fit_cut C d (suc m) [] x (inr h) = absurd (omega arith)
 fit_cut C d (suc m) (y ∷ l) x h = cut_step C d m y.num y.text l x (fit_cut C (d + length y.text) m l x) (cmp (d + length y.text) C) h
 
@@ -208,7 +208,7 @@ walk_record C (suc m) n later u x es lu hx hM hn hl =
     let own : take k (drop (C - (0 + k)) v) ≡ x =
     rw (z, drop_at (drop k u) x (C - k) (simp length-drop (omega arith)), take-length x) in
     let rest : walk C v (take m es) (0 + k) n ≡ fit C k m L = rw (z) (walk_kept C u x lu es m 0 k n (sym z)) in
-    rw m' (ap reverse (walk-hit C v n k (take m es) 0 later hn hl (omega arith))
+    rw m' (ap reverse (walk_hit C v n k (take m es) 0 later hn hl (omega arith))
     ∙ ap reverse (λ i. msg n (own i) ∷ rest i)
     ∙ reverse-cons (msg n x) (fit C k m L)
     ∙ ap (λ (t : List Msg). reverse (fit C k m t) ++ (msg n x ∷ [])) (sym (reverse-reverse L))

@@ -55,8 +55,8 @@ module _ (at : ℕ) (b s : List ℕ) (h : at + length s ≤ length b) where
   long : length (take at b) ≡ at
   long = length-take-le at b (omega arith)
 
-  only-paste : Only at (at + length s) b (paste b at s (length s))
-  only-paste = record {
+  only_paste : Only at (at + length s) b (paste b at s (length s))
+  only_paste = record {
     same_length = length-paste b at s (length s) h (omega arith);
     front = ap (take at) split ∙ take_at (take at b) (s ++ drop (at + length s) b) at long;
     back = drop-paste b at s (length s) (omega arith) (omega arith);
@@ -71,7 +71,7 @@ put_text at size b b' s h k e =
     let fit : at + length s ≤ length b = omega arith in
     let m : min (length s) size ≡ length s = omega arith in
     rw e (record {
-      only = only_wider at (at + length s) at (at + size) b (paste b at s (length s)) (only-paste at b s fit) (omega arith) (omega arith);
+      only = only_wider at (at + length s) at (at + size) b (paste b at s (length s)) (only_paste at b s fit) (omega arith) (omega arith);
       holds = ap (λ (n : ℕ). take n (drop at (paste b at s (length s)))) m ∙ pasted at b s fit;
     })
 

@@ -175,14 +175,14 @@ module _ (C M : ℕ) (hC : C < 2 ^ 64) (hM : M < 2 ^ 64) (k : Key) (s : Session)
   log : Held C M s.next_out s.messages
   log = held C M hC hM s.next_out s.messages h.out_low (omega (arith, h.out_high)) (record { rising = h.msgs_rise; count = h.msgs_count; bytes = h.msgs_bytes })
 
-  marks-true : is_marks s.marks ≡ true
-  marks-true = true_of (is_marks s.marks) h.marks_ok
+  marks_true : is_marks s.marks ≡ true
+  marks_true = true_of (is_marks s.marks) h.marks_ok
 
   stamp_most : length s.stamp ≤ 32
   stamp_most = stamp_short s.stamp h.stamp_ok
 
   marks_most : length s.marks ≤ 64
-  marks_most = (marks_is s.marks marks-true).most
+  marks_most = (marks_is s.marks marks_true).most
 
   abbrev lens : List ℕ
   lens = length s.stamp ∷ length s.marks ∷ length k.begin ∷ length k.sender ∷ length k.target ∷ length k.suffix ∷ 0 ∷ 0 ∷ 0 ∷ log.words
@@ -226,14 +226,14 @@ module _ (C M : ℕ) (hC : C < 2 ^ 64) (hM : M < 2 ^ 64) (k : Key) (s : Session)
       (small_cons (length k.suffix) (0 ∷ 0 ∷ 0 ∷ log.words) (omega (arith, ks.suffix_short.most))
       (small_cons 0 (0 ∷ 0 ∷ log.words) (omega arith) (small_cons 0 (0 ∷ log.words) (omega arith) (small_cons 0 log.words (omega arith) log.words_fit)))))))))))))
 
-  bytes-small-all : Small 256 bytes
-  bytes-small-all =
+  bytes_small_all : Small 256 bytes
+  bytes_small_all =
       small_append (pad 32 k.begin) b1 (pad_small 32 k.begin ks.begin_short.small)
       (small_append (pad 32 k.sender) b2 (pad_small 32 k.sender ks.sender_short.small)
       (small_append (pad 32 k.target) b3 (pad_small 32 k.target ks.target_short.small)
       (small_append (pad 32 k.suffix) b4 (pad_small 32 k.suffix ks.suffix_short.small)
       (small_append (pad 32 s.stamp) b5 (pad_small 32 s.stamp (stamp_small s.stamp h.stamp_ok))
-      (small_append (pad 64 s.marks) b6 (pad_small 64 s.marks (plain_small s.marks (marks_is s.marks marks-true).plain)) log.bytes_fit)))))
+      (small_append (pad 64 s.marks) b6 (pad_small 64 s.marks (plain_small s.marks (marks_is s.marks marks_true).plain)) log.bytes_fit)))))
 
   bytes_all : length bytes ≡ 224 + C
   bytes_all =
@@ -273,14 +273,14 @@ module _ (C M : ℕ) (hC : C < 2 ^ 64) (hM : M < 2 ^ 64) (k : Key) (s : Session)
   d6 : drop 224 bytes ≡ b6
   d6 = pad_past bytes b6 s.marks 160 64 d5 marks_most
 
-  is-place : place_in C M words bytes ≡ record { key = k; stored = record { session = s; durable = d } }
+  is_place : place_in C M words bytes ≡ record { key = k; stored = record { session = s; durable = d } }
   unfolding place_in session_of stored_key stamp_of marks_of next_out_of stored_flight durable_of
-  is-place =
+  is_place =
       let out : max s.next_out 1 ≡ s.next_out = omega (arith, h.out_low) in
       let f : field bytes 128 32 (length s.stamp) ≡ s.stamp = pad_field bytes b5 s.stamp 128 32 d4 stamp_most in
       let g : field bytes 160 64 (length s.marks) ≡ s.marks = pad_field bytes b6 s.marks 160 64 d5 marks_most in
       let st : or_none (is_stamp (field bytes 128 32 (length s.stamp))) (field bytes 128 32 (length s.stamp)) ≡ s.stamp = ap (λ (x : List ℕ). or_none (is_stamp x) x) f ∙ stamp_back s.stamp h.stamp_ok in
-      let mk : or_none (is_marks (field bytes 160 64 (length s.marks))) (field bytes 160 64 (length s.marks)) ≡ s.marks = ap (λ (x : List ℕ). or_none (is_marks x) x) g ∙ ap (λ (t : Bool). or_none t s.marks) marks-true in
+      let mk : or_none (is_marks (field bytes 160 64 (length s.marks))) (field bytes 160 64 (length s.marks)) ≡ s.marks = ap (λ (x : List ℕ). or_none (is_marks x) x) g ∙ ap (λ (t : Bool). or_none t s.marks) marks_true in
       let ms : log_of C M (max s.next_out 1) log.words (drop 224 bytes) ≡ s.messages = (λ i. log_of C M (out i) log.words (d6 i)) ∙ log.is s.next_out (omega arith) in
       λ i. record {
         key = record {
@@ -302,6 +302,6 @@ module _ (C M : ℕ) (hC : C < 2 ^ 64) (hM : M < 2 ^ 64) (k : Key) (s : Session)
     words_long = omega (arith, log.words_long);
     bytes_long = bytes_all;
     words_fit = words_small;
-    bytes_fit = bytes-small-all;
-    is = is-place;
+    bytes_fit = bytes_small_all;
+    is = is_place;
   }

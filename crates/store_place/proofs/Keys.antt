@@ -46,8 +46,8 @@ module _ (a b : List ℕ) (i : ℕ) (c : Comparing a b i) where
     is = more h ∙ simp (eq-eqb (get_or a i 0) (get_or b i 0) e) (ap (λ (k : ℕ). same_bytes (drop k a) (drop k b)) (sym (add-one i)));
   }
 
-  pub all-equal : length a ≤ i → true ≡ same_bytes a b
-  all-equal h =
+  pub all_equal : length a ≤ i → true ≡ same_bytes a b
+  all_equal h =
       let g : length b ≤ i = omega (arith, c.same) in
       sym (c.is ∙ (λ j. same_bytes (drop_of_length-le a h j) (drop_of_length-le b g j)))
 

@@ -25,22 +25,22 @@ use Rattle.store_place.proofs.Changes.{with_session, unmarked}
 -- ---- the bytes: what changes from a to e leaves the texts elsewhere
 
 module _ (a e : ℕ) (w b b' : List ℕ) (o : Only a e b b') where
-  pub key-kept : 128 ≤ a → stored_key w b' ≡ stored_key w b
+  pub key_kept : 128 ≤ a → stored_key w b' ≡ stored_key w b
   unfolding stored_key
-  key-kept h = λ i. record {
+  key_kept h = λ i. record {
     begin = field_kept a e 0 32 (get_or w 7 0) b b' o (inl (omega arith)) i;
     sender = field_kept a e 32 32 (get_or w 8 0) b b' o (inl (omega arith)) i;
     target = field_kept a e 64 32 (get_or w 9 0) b b' o (inl (omega arith)) i;
     suffix = field_kept a e 96 32 (get_or w 10 0) b b' o (inl (omega arith)) i;
   }
 
-  pub stamp-kept : (160 ≤ a) ⊎ (e ≤ 128) → stamp_of w b' ≡ stamp_of w b
+  pub stamp_kept : (160 ≤ a) ⊎ (e ≤ 128) → stamp_of w b' ≡ stamp_of w b
   unfolding stamp_of
-  stamp-kept h = ap (λ (f : List ℕ). or_none (is_stamp f) f) (field_kept a e 128 32 (get_or w 5 0) b b' o h)
+  stamp_kept h = ap (λ (f : List ℕ). or_none (is_stamp f) f) (field_kept a e 128 32 (get_or w 5 0) b b' o h)
 
-  pub marks-kept : (224 ≤ a) ⊎ (e ≤ 160) → marks_of w b' ≡ marks_of w b
+  pub marks_kept : (224 ≤ a) ⊎ (e ≤ 160) → marks_of w b' ≡ marks_of w b
   unfolding marks_of
-  marks-kept h = ap (λ (f : List ℕ). or_none (is_marks f) f) (field_kept a e 160 64 (get_or w 6 0) b b' o h)
+  marks_kept h = ap (λ (f : List ℕ). or_none (is_marks f) f) (field_kept a e 160 64 (get_or w 6 0) b b' o h)
 
 -- a part from a to the end that is put back
 pub put_tail : (a : ℕ) (l ys : List ℕ) → a ≤ length l → length ys ≡ length (mid_of a (length l - a) l) → put_mid a (length l - a) l ys ≡ take a l ++ ys
@@ -67,14 +67,14 @@ recorded_at C M q x b b' zs ys w (header a0 a1 a2 a3 a4 a5 a6 a7 a8 a9 a10 a11 a
     let ms : log_of C M (max (q + 1) 1) ys (drop 224 b') ≡ keep C M (msg q x) (log_of C M (max a0 1) ws (drop 224 b)) =
     (λ i. log_of C M (one i) ys (ez i)) ∙ el ∙ (λ i. keep C M (msg q x) (log_of C M (eq i) ws (drop 224 b))) in
     λ i. record {
-      key = key-kept 224 (length b) v b b' o (omega arith) i;
+      key = key_kept 224 (length b) v b b' o (omega arith) i;
       stored = record {
         session = record {
-          stamp = stamp-kept 224 (length b) v b b' o (inl (omega arith)) i;
+          stamp = stamp_kept 224 (length b) v b b' o (inl (omega arith)) i;
           next_out = more i;
           next_in = a1;
           in_flight = stored_flight v;
-          marks = marks-kept 224 (length b) v b b' o (inl (omega arith)) i;
+          marks = marks_kept 224 (length b) v b b' o (inl (omega arith)) i;
           messages = ms i;
         };
         durable = false;
@@ -156,14 +156,14 @@ stamped_at C M x b b' w (header a0 a1 a2 a3 a4 a5 a6 a7 a8 a9 a10 a11 a12 a13 ws
     let s : or_none (is_stamp (field b' 128 32 (length x))) (field b' 128 32 (length x)) ≡ x =
     ap (λ (f : List ℕ). or_none (is_stamp f) f) p.holds ∙ ap (λ (j : Bool). or_none j x) t in
     λ i. record {
-      key = key-kept 128 160 v b b' p.only (omega arith) i;
+      key = key_kept 128 160 v b b' p.only (omega arith) i;
       stored = record {
         session = record {
           stamp = s i;
           next_out = max a0 1;
           next_in = a1;
           in_flight = stored_flight v;
-          marks = marks-kept 128 160 v b b' p.only (inr (omega arith)) i;
+          marks = marks_kept 128 160 v b b' p.only (inr (omega arith)) i;
           messages = log_of C M (max a0 1) ws (only_after 128 160 224 b b' p.only (omega arith) i);
         };
         durable = false;
@@ -183,10 +183,10 @@ marks_set_at C M x b b' w (header a0 a1 a2 a3 a4 a5 a6 a7 a8 a9 a10 a11 a12 a13 
     let s : or_none (is_marks (field b' 160 64 (length x))) (field b' 160 64 (length x)) ≡ x =
     ap (λ (f : List ℕ). or_none (is_marks f) f) p.holds ∙ ap (λ (j : Bool). or_none j x) t in
     λ i. record {
-      key = key-kept 160 224 v b b' p.only (omega arith) i;
+      key = key_kept 160 224 v b b' p.only (omega arith) i;
       stored = record {
         session = record {
-          stamp = stamp-kept 160 224 v b b' p.only (inl (omega arith)) i;
+          stamp = stamp_kept 160 224 v b b' p.only (inl (omega arith)) i;
           next_out = max a0 1;
           next_in = a1;
           in_flight = stored_flight v;

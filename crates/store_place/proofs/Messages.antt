@@ -30,30 +30,30 @@ module _ (C M : ℕ) (w b : List ℕ) (lb : length b ≡ 224 + C) (next : ℕ) (
   eb : mb ≡ drop 224 b
   eb = tail_is 224 b
 
-  pub ring-length : length mb ≡ C
-  ring-length = ap length eb ∙ length-drop 224 b ∙ omega arith
+  pub ring_length : length mb ≡ C
+  ring_length = ap length eb ∙ length-drop 224 b ∙ omega arith
 
-  pub last-in : (n r : ℕ) → r ≡ last_of next n (log_of (length mb) M next mw mb) → r ≡ last_out (session_of C M w b) n
+  pub last_in : (n r : ℕ) → r ≡ last_of next n (log_of (length mb) M next mw mb) → r ≡ last_out (session_of C M w b) n
   unfolding last_out last_of session_of
-  last-in n r e = e ∙ (λ i. last_of (en i) n (log_of (ring-length i) M (en i) (ew i) (eb i)))
+  last_in n r e = e ∙ (λ i. last_of (en i) n (log_of (ring_length i) M (en i) (ew i) (eb i)))
 
   pub from_in : (low left dist : ℕ) → From (length mb) M next low mw mb left dist → FromIn C M low w b left dist
   unfolding PositionIn rest_in session_of
   from_in low left dist f =
       let g : From C M (next_out_of w) low (drop 14 w) (drop 224 b) left dist =
-      moved (λ c n v r. From c M n low v r left dist) ring-length en ew eb f in
+      moved (λ c n v r. From c M n low v r left dist) ring_length en ew eb f in
       record { stands = g.stands; is = g.is }
 
-  pub stands-out : (left dist : ℕ) → PositionIn C M w b left dist → Position (length mb) M next mw mb left dist
+  pub stands_out : (left dist : ℕ) → PositionIn C M w b left dist → Position (length mb) M next mw mb left dist
   unfolding PositionIn
-  stands-out left dist s = moved (λ c n v r. Position c M n v r left dist) (sym ring-length) (sym en) (sym ew) (sym eb) s
+  stands_out left dist s = moved (λ c n v r. Position c M n v r left dist) (sym ring_length) (sym en) (sym ew) (sym eb) s
 
-  pub read-in : (left dist number start first rest left' dist' : ℕ) → NextMessage (length mb) M next mw mb left dist number start first rest left' dist'
+  pub read_in : (left dist number start first rest left' dist' : ℕ) → NextMessage (length mb) M next mw mb left dist number start first rest left' dist'
       → NextMessageIn C M w b left dist number (224 + start) first rest left' dist'
   unfolding PositionIn rest_in
-  read-in left dist number start first rest left' dist' f =
+  read_in left dist number start first rest left' dist' f =
       let g : NextMessage C M (next_out_of w) (drop 14 w) (drop 224 b) left dist number start first rest left' dist' =
-      moved (λ c n v r. NextMessage c M n v r left dist number start first rest left' dist') ring-length en ew eb f in
+      moved (λ c n v r. NextMessage c M n v r left dist number start first rest left' dist') ring_length en ew eb f in
       record {
         is = g.is ∙ ap (λ (l : List ℕ). msg number (take first l ++ take rest (drop 224 b)) ∷ rest_of C M (next_out_of w) (drop 14 w) (drop 224 b) left') (drop-drop start 224 b);
         stands = g.stands;

@@ -23,7 +23,7 @@ use Rattle.store_place.specs.Place.{next_out_of, stored_flight, durable_of, fiel
 use Rattle.store_place.proofs.Header.{Header, header, header_of}
 use Rattle.store_place.proofs.Fields.{only_set, only_wider, only_after}
 use Rattle.store_place.proofs.Texts.{or_none}
-use Rattle.store_place.proofs.Logging.{key-kept, stamp-kept, put_tail}
+use Rattle.store_place.proofs.Logging.{key_kept, stamp_kept, put_tail}
 
 -- ---- the B
 
@@ -34,47 +34,47 @@ module _ (b : List ℕ) (n : ℕ) (h : 224 ≤ length b) (k : n ≤ 64) where
   room : length l ≡ length b - 160
   room = length-drop 160 b
 
-  pub marks-long : length (take n l) ≡ n
-  marks-long = length-take-le n l (omega (arith, room))
+  pub marks_long : length (take n l) ≡ n
+  marks_long = length-take-le n l (omega (arith, room))
 
-  pub no-b : n ≡ 0 → false ≡ ends_in_b (take n l)
-  no-b e = sym (simp (le-ltb 0 (length (take n l)) (omega (arith, marks-long))))
+  pub no_b : n ≡ 0 → false ≡ ends_in_b (take n l)
+  no_b e = sym (simp (le-ltb 0 (length (take n l)) (omega (arith, marks_long))))
 
-  pub last-b : (n ≡ 0 → ⊥) → eqb (get_or b (159 + n) 0) 66 ≡ ends_in_b (take n l)
-  last-b ne =
-      let p : length (take n l) - 1 ≡ n - 1 = omega (arith, marks-long) in
+  pub last_b : (n ≡ 0 → ⊥) → eqb (get_or b (159 + n) 0) 66 ≡ ends_in_b (take n l)
+  last_b ne =
+      let p : length (take n l) - 1 ≡ n - 1 = omega (arith, marks_long) in
       let q : 160 + (n - 1) ≡ 159 + n = omega arith in
       let e : get_or (take n l) (length (take n l) - 1) 0 ≡ get_or b (159 + n) 0 =
       ap (λ (j : ℕ). get_or (take n l) j 0) p ∙ get_or-take n l (n - 1) 0 (omega arith) ∙ get_or-drop 160 b (n - 1) 0 ∙ ap (λ (j : ℕ). get_or b j 0) q in
-      sym (simp (lt-ltb 0 (length (take n l)) (omega (arith, marks-long))) (ap (λ (x : ℕ). eqb x 66) e))
+      sym (simp (lt-ltb 0 (length (take n l)) (omega (arith, marks_long))) (ap (λ (x : ℕ). eqb x 66) e))
 
   -- the test as the model has it, then the three ways
-  with-b : Bool → List ℕ → List ℕ
-  with-b t m = cond t m (cond (leb 64 (length m)) (take 63 m ++ (66 ∷ [])) (m ++ (66 ∷ [])))
+  with_b_lem : Bool → List ℕ → List ℕ
+  with_b_lem t m = cond t m (cond (leb 64 (length m)) (take 63 m ++ (66 ∷ [])) (m ++ (66 ∷ [])))
 
   pub kept_b : (t : Bool) → t ≡ ends_in_b (take n l) → t ≡ true → take n l ≡ with_b (take n l)
-  unfolding with-b
-  kept_b t e y = sym (ap (λ (j : Bool). with-b j (take n l)) (sym e ∙ y))
+  unfolding with_b_lem
+  kept_b t e y = sym (ap (λ (j : Bool). with_b_lem j (take n l)) (sym e ∙ y))
 
-  pub full-b : (t : Bool) → t ≡ ends_in_b (take n l) → t ≡ false → 64 ≤ n → take n (drop 160 (set b 223 66)) ≡ with_b (take n l)
-  unfolding with-b
-  full-b t e y g =
+  pub full_b : (t : Bool) → t ≡ ends_in_b (take n l) → t ≡ false → 64 ≤ n → take n (drop 160 (set b 223 66)) ≡ with_b (take n l)
+  unfolding with_b_lem
+  full_b t e y g =
       let n64 : n ≡ 64 = omega arith in
       let a : drop 160 (set b 223 66) ≡ set l 63 66 = drop-set-add 160 b 63 66 in
       let c : take 64 (set l 63 66) ≡ take 63 l ++ (66 ∷ []) = take-suc-set l 63 66 (omega (arith, room)) in
       let d : take 63 (take n l) ≡ take 63 l = take-take 63 n l (omega arith) in
       ap (λ (j : ℕ). take j (drop 160 (set b 223 66))) n64 ∙ ap (take 64) a ∙ c
-      ∙ sym (ap (λ (j : Bool). with-b j (take n l)) (sym e ∙ y) ∙ simp (le-leb 64 (length (take n l)) (omega (arith, marks-long))) (ap (λ (m : List ℕ). m ++ (66 ∷ [])) d))
+      ∙ sym (ap (λ (j : Bool). with_b_lem j (take n l)) (sym e ∙ y) ∙ simp (le-leb 64 (length (take n l)) (omega (arith, marks_long))) (ap (λ (m : List ℕ). m ++ (66 ∷ [])) d))
 
-  pub more-b : (t : Bool) → t ≡ ends_in_b (take n l) → t ≡ false → n < 64 → take (n + 1) (drop 160 (set b (160 + n) 66)) ≡ with_b (take n l)
-  unfolding with-b
-  more-b t e y g =
+  pub more_b : (t : Bool) → t ≡ ends_in_b (take n l) → t ≡ false → n < 64 → take (n + 1) (drop 160 (set b (160 + n) 66)) ≡ with_b (take n l)
+  unfolding with_b_lem
+  more_b t e y g =
       let a : drop 160 (set b (160 + n) 66) ≡ set l n 66 = drop-set-add 160 b n 66 in
       ap (λ (j : ℕ). take j (drop 160 (set b (160 + n) 66))) (add-one n) ∙ ap (take (suc n)) a ∙ take-suc-set l n 66 (omega (arith, room))
-      ∙ sym (ap (λ (j : Bool). with-b j (take n l)) (sym e ∙ y) ∙ simp (lt-leb 64 (length (take n l)) (omega (arith, marks-long))))
+      ∙ sym (ap (λ (j : Bool). with_b_lem j (take n l)) (sym e ∙ y) ∙ simp (lt-leb 64 (length (take n l)) (omega (arith, marks_long))))
 
-  pub only-b : (j : ℕ) → j ≤ 63 → Only 160 224 b (set b (160 + j) 66)
-  only-b j g = only_wider (160 + j) (160 + j + 1) 160 224 b (set b (160 + j) 66) (only_set (160 + j) 66 b) (omega arith) (omega arith)
+  pub only_b : (j : ℕ) → j ≤ 63 → Only 160 224 b (set b (160 + j) 66)
+  only_b j g = only_wider (160 + j) (160 + j + 1) 160 224 b (set b (160 + j) 66) (only_set (160 + j) 66 b) (omega arith) (omega arith)
 
 -- ---- marks stay marks
 
@@ -143,10 +143,10 @@ taken_at C M lag end out b b' ys w (header a0 a1 a2 a3 a4 a5 a6 a7 a8 a9 a10 a11
     let ms : log_of C M (max out 1) ys (drop 224 b') ≡ log_of C M next ws (drop 224 b) =
     el (max out 1) (drop 224 b') up ∙ ap (log_of C M next ws) (only_after 160 224 224 b b' o (omega arith)) in
     λ i. record {
-      key = key-kept 160 224 v b b' o (omega arith) i;
+      key = key_kept 160 224 v b b' o (omega arith) i;
       stored = record {
         session = record {
-          stamp = stamp-kept 160 224 v b b' o (inl (omega arith)) i;
+          stamp = stamp_kept 160 224 v b b' o (inl (omega arith)) i;
           next_out = go i;
           next_in = a1;
           in_flight = stored_flight v;

@@ -17,9 +17,9 @@ module _ (valid : List ℕ → Bool) (b : List ℕ) (at size n k : ℕ) (t : Boo
       let e : at + k - at ≡ min n size = omega arith in
       et ∙ ap (λ (j : ℕ). valid (take j (drop at b))) e
 
-  pub valid-text : t ≡ true → take k (drop at b) ≡ or_none (valid (field b at size n)) (field b at size n)
+  pub valid_text : t ≡ true → take k (drop at b) ≡ or_none (valid (field b at size n)) (field b at size n)
   unfolding field
-  valid-text h = ap (λ (j : ℕ). take j (drop at b)) ek ∙ sym (ap (λ (v : Bool). or_none v (take (min n size) (drop at b))) (sym judged ∙ h))
+  valid_text h = ap (λ (j : ℕ). take j (drop at b)) ek ∙ sym (ap (λ (v : Bool). or_none v (take (min n size) (drop at b))) (sym judged ∙ h))
 
   pub no_text : t ≡ false → [] ≡ or_none (valid (field b at size n)) (field b at size n)
   no_text h = sym (ap (λ (v : Bool). or_none v (field b at size n)) (sym judged ∙ h))

@@ -156,8 +156,8 @@ module _ (w : List ℕ) (count : ℕ) where
 -- ---- one range
 
 module _ (r : Range) (n : ℕ) where
-  pub stays-before : n < r.first → r.first - 1 ≡ stays r n
-  stays-before h =
+  pub stays_before : n < r.first → r.first - 1 ≡ stays r n
+  stays_before h =
       let t : ltb n r.first ≡ true = lt-ltb n r.first h in
       rw t refl
 
@@ -167,15 +167,15 @@ module _ (r : Range) (n : ℕ) where
       let u : eqb r.last 0 ≡ true = eq-eqb r.last 0 z in
       rw (t, u) refl
 
-  pub stays-in : r.first ≤ n → (r.last ≡ 0 → ⊥) → n ≤ r.last → r.last ≡ stays r n
-  stays-in h z l =
+  pub stays_in : r.first ≤ n → (r.last ≡ 0 → ⊥) → n ≤ r.last → r.last ≡ stays r n
+  stays_in h z l =
       let t : ltb n r.first ≡ false = le-ltb n r.first h in
       let u : eqb r.last 0 ≡ false = ne_eqb r.last 0 z in
       let v : leb n r.last ≡ true = le-leb n r.last l in
       rw (t, u, v) refl
 
-  pub stays-past : r.first ≤ n → (r.last ≡ 0 → ⊥) → r.last < n → top ≡ stays r n
-  stays-past h z l =
+  pub stays_past : r.first ≤ n → (r.last ≡ 0 → ⊥) → r.last < n → top ≡ stays r n
+  stays_past h z l =
       let t : ltb n r.first ≡ false = le-ltb n r.first h in
       let u : eqb r.last 0 ≡ false = ne_eqb r.last 0 z in
       let v : leb n r.last ≡ false = lt-leb n r.last l in

@@ -124,8 +124,8 @@ module _ (s : Shape) (w b : List ℕ) (i : ℕ) (rs : List Range) (first back : 
   abbrev still : ℕ → List Msg
   still left = rest_at s w b i left
 
-  pub count-starts : PositionAt s w b i first back → Counting s w b i rs first back first back (record { length = 0; bytes = 0 }) (record { base = 1; until = 0; set = 0 })
-  count-starts p = record {
+  pub count_starts : PositionAt s w b i first back → Counting s w b i rs first back first back (record { length = 0; bytes = 0 }) (record { base = 1; until = 0; set = 0 })
+  count_starts p = record {
     stands = p;
     keeps = record { keeps = λ m low high. absurd (no m low high) };
     many = omega arith;
@@ -137,9 +137,9 @@ module _ (s : Shape) (w b : List ℕ) (i : ℕ) (rs : List Range) (first back : 
       no : (m : ℕ) → 1 ≤ m → m ≤ 0 → ⊥
       no m low high = omega arith
 
-  pub counts-on : {left dist number at f again r left' dist' : ℕ} {t t' : Tally} {k k' : Kept} → Counting s w b i rs first back left dist t k → NextMessageAt s w b i left dist number at f again r left' dist' → Serves rs number k'
+  pub counts_on : {left dist number at f again r left' dist' : ℕ} {t t' : Tally} {k k' : Kept} → Counting s w b i rs first back left dist t k → NextMessageAt s w b i left dist number at f again r left' dist' → Serves rs number k'
       → Adds k'.set (f + r) t t' → Counting s w b i rs first back left' dist' t' k'
-  counts-on {left} {dist} {number} {at} {f} {again} {r} {left'} {dist'} {t} {t'} {k} {k'} g p e a = go (eqb k'.set 0) refl
+  counts_on {left} {dist} {number} {at} {f} {again} {r} {left'} {dist'} {t} {t'} {k} {k'} g p e a = go (eqb k'.set 0) refl
     where
       text : List ℕ
       text = take f (drop at b) ++ take r (drop again b)
@@ -176,16 +176,16 @@ module _ (s : Shape) (w b : List ℕ) (i : ℕ) (rs : List Range) (first back : 
             less = omega (arith, g.less, p.nearer);
           }
 
-  pub count-ends : {left dist : ℕ} {t : Tally} {k : Kept} → left ≤ 0 → Counting s w b i rs first back left dist t k → Counts rs (still first) back t
-  count-ends {left} {dist} {t} end g =
+  pub count_ends : {left dist : ℕ} {t : Tally} {k : Kept} → left ≤ 0 → Counting s w b i rs first back left dist t k → Counts rs (still first) back t
+  count_ends {left} {dist} {t} end g =
       let z : left ≡ 0 = omega arith in
       let l : listed rs (still left) ≡ [] = ap (λ (n : ℕ). listed rs (still n)) z ∙ ap (listed rs) (rest_none s w b i) in
       record { many = omega (arith, ap length l, g.many); sum = omega (arith, ap stored_bytes l, g.sum); within = omega (arith, g.less) }
 
   -- ---- writing
 
-  pub fill-starts : (old : List ℕ) → PositionAt s w b i first back → Filling s w b i rs first back old first back 0 (record { base = 1; until = 0; set = 0 }) old
-  fill-starts old p = record {
+  pub fill_starts : (old : List ℕ) → PositionAt s w b i first back → Filling s w b i rs first back old first back 0 (record { base = 1; until = 0; set = 0 }) old
+  fill_starts old p = record {
     stands = p;
     keeps = record { keeps = λ m low high. absurd (no m low high) };
     size = refl;
@@ -209,8 +209,8 @@ module _ (s : Shape) (w b : List ℕ) (i : ℕ) (rs : List Range) (first back : 
     now : listed rs (still left) ≡ cond (eqb k'.set 0) (listed rs (still left')) (msg m.number text ∷ listed rs (still left'))
     now = ap (listed rs) p.is ∙ one_listed rs k' (msg m.number text) (still left') e
 
-    counted-so : length g.entries + length (listed rs (still left)) ≡ length (listed rs (still first))
-    counted-so =
+    counted_so : length g.entries + length (listed rs (still left)) ≡ length (listed rs (still first))
+    counted_so =
         let x : length (map (served_at b) g.entries ++ served rs (still left)) ≡ length (served rs (still first)) = ap length g.shown in
         omega (arith, x, length-append (map (served_at b) g.entries) (served rs (still left)), length-map g.entries (served_at b), length-map (listed rs (still left)) (serve rs), length-map (listed rs (still first)) (serve rs))
 
@@ -218,10 +218,10 @@ module _ (s : Shape) (w b : List ℕ) (i : ℕ) (rs : List Range) (first back : 
     room h z =
         let c : eqb k'.set 0 ≡ false = ne_eqb k'.set 0 z in
         let l : listed rs (still left) ≡ msg m.number text ∷ listed rs (still left') = now ∙ rw c refl in
-        omega (arith, ap length l, counted-so, g.many, g.size)
+        omega (arith, ap length l, counted_so, g.many, g.size)
 
-    pub fills-on : {n' : ℕ} {new' : List ℕ} → 6 * length (listed rs (still first)) ≤ length old → n' ≡ cond (eqb k'.set 0) n (n + 1) → new' ≡ entered n k'.set m new → Filling s w b i rs first back old left' dist' n' k' new'
-    fills-on {n'} {new'} h next-so words-so = go (eqb k'.set 0) refl
+    pub fills_on : {n' : ℕ} {new' : List ℕ} → 6 * length (listed rs (still first)) ≤ length old → n' ≡ cond (eqb k'.set 0) n (n + 1) → new' ≡ entered n k'.set m new → Filling s w b i rs first back old left' dist' n' k' new'
+    fills_on {n'} {new'} h next-so words-so = go (eqb k'.set 0) refl
       where
         go : (c : Bool) → eqb k'.set 0 ≡ c → Filling s w b i rs first back old left' dist' n' k' new'
         go true z =
@@ -243,7 +243,7 @@ module _ (s : Shape) (w b : List ℕ) (i : ℕ) (rs : List Range) (first back : 
             let next : n' ≡ n + 1 = next-so ∙ rw z refl in
             let area : new' ≡ sets new (6 * n) (entry_words own) = words-so ∙ rw z refl in
             let set_so : set_of rs m.number ≡ k'.set = e.same.keeps m.number e.from e.upto in
-            let fits : 6 * length g.entries + 6 ≤ length old = omega (arith, ap length l, counted-so) in
+            let fits : 6 * length g.entries + 6 ≤ length old = omega (arith, ap length l, counted_so) in
             record {
               stands = p.stands;
               keeps = e.same;
@@ -254,19 +254,19 @@ module _ (s : Shape) (w b : List ℕ) (i : ℕ) (rs : List Range) (first back : 
                   ∙ append_assoc (map (served_at b) g.entries) (served_at b own ∷ []) (served rs (still left'))
                   ∙ ap (λ (x : ℕ). map (served_at b) g.entries ++ (record { message = msg m.number text; set = x } ∷ served rs (still left'))) (sym set_so)
                   ∙ ap (λ (x : List Msg). map (served_at b) g.entries ++ map (serve rs) x) (sym l) ∙ g.shown;
-              inside = inside_more b g.entries own g.inside (inside-so p.inside p.inside_again);
+              inside = inside_more b g.entries own g.inside (inside_so p.inside p.inside_again);
               words = area ∙ ap (λ (x : ℕ). sets new (6 * x) (entry_words own)) (sym g.many) ∙ ap (λ (x : List ℕ). sets x (6 * length g.entries) (entry_words own)) g.words
                   ∙ one_more old g.entries own fits;
             }
           where
-            inside-so : m.first_at + m.first_len ≤ length b → m.second_at + m.second_len ≤ length b → is_inside b own ≡ true
-            inside-so x y =
+            inside_so : m.first_at + m.first_len ≤ length b → m.second_at + m.second_len ≤ length b → is_inside b own ≡ true
+            inside_so x y =
                 let u : leb (m.first_at + m.first_len) (length b) ≡ true = le-leb (m.first_at + m.first_len) (length b) x in
                 let v : leb (m.second_at + m.second_len) (length b) ≡ true = le-leb (m.second_at + m.second_len) (length b) y in
                 rw (u, v) refl
 
-  pub fill-ends : {old : List ℕ} {left dist n : ℕ} {k : Kept} {new : List ℕ} → left ≤ 0 → Filling s w b i rs first back old left dist n k new → Written rs b (still first) old new
-  fill-ends {old} {left} {dist} {n} {k} {new} end g =
+  pub fill_ends : {old : List ℕ} {left dist n : ℕ} {k : Kept} {new : List ℕ} → left ≤ 0 → Filling s w b i rs first back old left dist n k new → Written rs b (still first) old new
+  fill_ends {old} {left} {dist} {n} {k} {new} end g =
       let z : left ≡ 0 = omega arith in
       let l : listed rs (still left) ≡ [] = ap (λ (m : ℕ). listed rs (still m)) z ∙ ap (listed rs) (rest_none s w b i) in
       record {
@@ -279,35 +279,35 @@ module _ (s : Shape) (w b : List ℕ) (i : ℕ) (rs : List Range) (first back : 
 -- ---- messages one after the other that one set serves
 
 module _ (s : Shape) (w b : List ℕ) (i first back : ℕ) (t : Tally) (old : List ℕ) (k : Kept) where
-  pub carry-starts : Carries s w b i k first back t old first back t old
-  carry-starts = record { fewer = omega arith; nearer = omega arith; fills = λ rs f h o fits g. g; counts = λ rs f h g. g }
+  pub carry_starts : Carries s w b i k first back t old first back t old
+  carry_starts = record { fewer = omega arith; nearer = omega arith; fills = λ rs f h o fits g. g; counts = λ rs f h g. g }
 
   -- nothing was read yet
-  pub follow-starts : (n : ℕ) → t.length ≡ n → Carries s w b i k first back t old first back (record { length = n; bytes = t.bytes + (back - back) }) old
-  follow-starts n e =
+  pub follow_starts : (n : ℕ) → t.length ≡ n → Carries s w b i k first back t old first back (record { length = n; bytes = t.bytes + (back - back) }) old
+  follow_starts n e =
       let none : t.bytes ≡ t.bytes + (back - back) = omega arith in
-      subst (λ (u : Tally). Carries s w b i k first back t old first back u old) (λ j. record { length = e j; bytes = none j }) carry-starts
+      subst (λ (u : Tally). Carries s w b i k first back t old first back u old) (λ j. record { length = e j; bytes = none j }) carry_starts
 
   module _ {left dist : ℕ} {u : Tally} {new : List ℕ} (m : Message) (c : Carries s w b i k first back t old left dist u new)
       (p : NextMessageAt s w b i left dist m.number m.first_at m.first_len m.second_at m.second_len m.left m.dist) (low : k.base ≤ m.number) (high : m.number ≤ k.until) where
     serves : (rs : List Range) → Keeps rs k → Serves rs m.number k
     serves rs same = record { same = same; from = low; upto = high }
 
-    pub room-here : (g : Begun s w b i first back t k old) → HasRoom k.set u.length new
-    room-here g =
+    pub room_here : (g : Begun s w b i first back t k old) → HasRoom k.set u.length new
+    room_here g =
         let h = c.fills g.rs g.first g.back g.old g.fits g.filling in
         room s w b i g.rs g.first g.back m h p (serves g.rs h.keeps) g.fits
 
-    pub carries-on : (v : Tally) (new' : List ℕ) → Adds k.set (m.first_len + m.second_len) u v → new' ≡ entered u.length k.set m new → Carries s w b i k first back t old m.left m.dist v new'
-    carries-on v new' a e = record {
+    pub carries_on : (v : Tally) (new' : List ℕ) → Adds k.set (m.first_len + m.second_len) u v → new' ≡ entered u.length k.set m new → Carries s w b i k first back t old m.left m.dist v new'
+    carries_on v new' a e = record {
       fewer = omega (arith, c.fewer, p.fewer);
       nearer = omega (arith, c.nearer, p.nearer);
       fills = λ rs f h o fits g.
           let x = c.fills rs f h o fits g in
-          fills-on s w b i rs f h m x p (serves rs x.keeps) fits a.many e;
+          fills_on s w b i rs f h m x p (serves rs x.keeps) fits a.many e;
       counts = λ rs f h g.
           let x = c.counts rs f h g in
-          counts-on s w b i rs f h x p (serves rs x.keeps) a;
+          counts_on s w b i rs f h x p (serves rs x.keeps) a;
     }
 
     -- the set isn't empty: an entry more; its bytes are those that were read
@@ -316,11 +316,11 @@ module _ (s : Shape) (w b : List ℕ) (i first back : ℕ) (t : Tally) (old : Li
     follows_on new' before some e q =
         let z : eqb k.set 0 ≡ false = ne_eqb k.set 0 some in
         let sum : before + (back - m.dist) ≡ u.bytes + (m.first_len + m.second_len) = omega (arith, e, c.nearer, p.nearer) in
-        carries-on (record { length = u.length + 1; bytes = before + (back - m.dist) }) new' (record { many = rw z refl; sum = sum ∙ rw z refl }) q
+        carries_on (record { length = u.length + 1; bytes = before + (back - m.dist) }) new' (record { many = rw z refl; sum = sum ∙ rw z refl }) q
 
     -- it is empty: the message is passed over
     pub passes_on : k.set ≡ 0 → Carries s w b i k first back t old m.left m.dist u new
-    passes_on none = carries-on u new (adds_none k.set (m.first_len + m.second_len) u none) (enters_none u.length k.set m new none)
+    passes_on none = carries_on u new (adds_none k.set (m.first_len + m.second_len) u none) (enters_none u.length k.set m new none)
 
 -- where a listing that goes on stands
 pub stands_there : (s : Shape) (w b : List ℕ) (i first back : ℕ) (t : Tally) (old : List ℕ) (k : Kept) {left dist : ℕ} {u : Tally} {new : List ℕ} → Begun s w b i first back t k old → Carries s w b i k first back t old left dist u new → PositionAt s w b i left dist
@@ -332,13 +332,13 @@ long_there s w b i first back t old k g c = (c.fills g.rs g.first g.back g.old g
 -- ---- passing over
 
 module _ (s : Shape) (w b : List ℕ) (i first back : ℕ) (k : Kept) where
-  pub over-starts : PositionAt s w b i first back → PassesOver s w b i k first back first back
-  over-starts p = record { stands = p; carries = λ t l. carry-starts s w b i first back t l k }
+  pub over_starts : PositionAt s w b i first back → PassesOver s w b i k first back first back
+  over_starts p = record { stands = p; carries = λ t l. carry_starts s w b i first back t l k }
 
-  pub over-on : {left dist : ℕ} (m : Message) → PassesOver s w b i k first back left dist
+  pub over_on : {left dist : ℕ} (m : Message) → PassesOver s w b i k first back left dist
       → NextMessageAt s w b i left dist m.number m.first_at m.first_len m.second_at m.second_len m.left m.dist → k.base ≤ m.number → m.number ≤ k.until → k.set ≡ 0
       → PassesOver s w b i k first back m.left m.dist
-  over-on m g p low high none = record { stands = p.stands; carries = λ t l. passes_on s w b i first back t l k m (g.carries t l) p low high none }
+  over_on m g p low high none = record { stands = p.stands; carries = λ t l. passes_on s w b i first back t l k m (g.carries t l) p low high none }
 
 -- ---- the listing
 
@@ -415,12 +415,12 @@ module _ (s : Shape) (w b : List ℕ) (i : ℕ) (ranges entries : List ℕ) wher
     size = refl;
   })
 
-  pub list-unused : {c : Bool} (r : Listed) → r ≡ None 25 → c ≡ in_use s w b i → c ≡ false → Lists s w b i ranges entries r entries
-  list-unused r e is f = keeps_all r 24 e (rw (sym is ∙ f) refl)
+  pub list_unused : {c : Bool} (r : Listed) → r ≡ None 25 → c ≡ in_use s w b i → c ≡ false → Lists s w b i ranges entries r entries
+  list_unused r e is f = keeps_all r 24 e (rw (sym is ∙ f) refl)
 
   module _ {c : Bool} (is : c ≡ in_use s w b i) (used : c ≡ true) where
-    pub list-half : (r : Listed) → r ≡ None 25 → (length ranges % 2 ≡ 0 → ⊥) → Lists s w b i ranges entries r entries
-    list-half r e h =
+    pub list_half : (r : Listed) → r ≡ None 25 → (length ranges % 2 ≡ 0 → ⊥) → Lists s w b i ranges entries r entries
+    list_half r e h =
         let f : eqb (length ranges % 2) 0 ≡ false = ne_eqb (length ranges % 2) 0 h in
         keeps_all r 24 e (rw (sym is ∙ used, f) refl)
 
@@ -433,13 +433,13 @@ module _ (s : Shape) (w b : List ℕ) (i : ℕ) (ranges entries : List ℕ) wher
       counted : length rs ≡ length ranges / 2
       counted = many ranges 0 0 0 (length ranges / 2)
 
-      pub list-many : (r : Listed) → r ≡ None 35 → 64 < length ranges / 2 → Lists s w b i ranges entries r entries
-      list-many r e h =
+      pub list_many : (r : Listed) → r ≡ None 35 → 64 < length ranges / 2 → Lists s w b i ranges entries r entries
+      list_many r e h =
           let f : leb (length rs) 64 ≡ false = lt-leb (length rs) 64 (omega (arith, counted)) in
           keeps_all r 34 e (rw (whole, f) refl)
 
-      pub list-wrong : {d : Bool} (r : Listed) → r ≡ None 35 → length ranges / 2 ≤ 64 → d ≡ are_ranges rs → d ≡ false → Lists s w b i ranges entries r entries
-      list-wrong r e h a f =
+      pub list_wrong : {d : Bool} (r : Listed) → r ≡ None 35 → length ranges / 2 ≤ 64 → d ≡ are_ranges rs → d ≡ false → Lists s w b i ranges entries r entries
+      list_wrong r e h a f =
           let t : leb (length rs) 64 ≡ true = le-leb (length rs) 64 (omega (arith, counted)) in
           keeps_all r 34 e (rw (whole, t, sym a ∙ f) refl)
 
@@ -451,11 +451,11 @@ module _ (s : Shape) (w b : List ℕ) (i : ℕ) (ranges entries : List ℕ) wher
         good : leb (length rs) 64 ≡ true
         good = le-leb (length rs) 64 (omega (arith, counted))
 
-        room-so : leb (length (listed rs ms)) (length entries / 6) ≡ y
-        room-so = ap (λ (x : List Msg). leb (length x) (length entries / 6)) (sym all) ∙ sym y-so
+        room_so : leb (length (listed rs ms)) (length entries / 6) ≡ y
+        room_so = ap (λ (x : List Msg). leb (length x) (length entries / 6)) (sym all) ∙ sym y-so
 
-        pub list-short : (r : Listed) → r ≡ None 36 → y ≡ false → Lists s w b i ranges entries r entries
-        list-short r e h = keeps_all r 35 e (rw (whole, good, sym a ∙ ranges-so, room-so ∙ h) refl)
+        pub list_short : (r : Listed) → r ≡ None 36 → y ≡ false → Lists s w b i ranges entries r entries
+        list_short r e h = keeps_all r 35 e (rw (whole, good, sym a ∙ ranges-so, room_so ∙ h) refl)
 
         pub fits : y ≡ true → 6 * length (listed rs (rest_at s w b i left)) ≤ length entries
         fits h =
@@ -471,7 +471,7 @@ module _ (s : Shape) (w b : List ℕ) (i : ℕ) (ranges entries : List ℕ) wher
             let v : length (map (served_at b) e.entries) ≡ length (served rs (rest_at s w b i left)) = ap length e.are in
             let long : length new ≡ length entries = omega (arith, x, v, fits h, length-append (words_of e.entries) (drop (6 * length e.entries) entries), words_many e.entries, length-drop (6 * length e.entries) entries, length-map e.entries (served_at b), length-map (listed rs (rest_at s w b i left)) (serve rs)) in
             record {
-              refusal = rw (whole, good, sym a ∙ ranges-so, room-so ∙ h) refl;
+              refusal = rw (whole, good, sym a ∙ ranges-so, room_so ∙ h) refl;
               many = λ _. n.many ∙ ap length all;
               sum = λ _. n.sum ∙ ap stored_bytes all;
               within = omega (arith, n.within);

@@ -15,7 +15,7 @@ use Rattle.store_place.proofs.Fields.{only_set}
 use Rattle.store_areas.specs.declared.Shape.{Shape}
 use Rattle.store_areas.specs.Areas.{place_words, place_bytes, words_at, bytes_at, SpotIn, Rules, slice, place_at, count_up, places_of}
 use Rattle.store_areas.proofs.Lists.{count_same, count_snoc, part_kept}
-use Rattle.store_areas.proofs.Lifting.{Put, spot-put, count_kept, other_place, rules-kept-by}
+use Rattle.store_areas.proofs.Lifting.{Put, spot_put, count_kept, other_place, rules_kept_by}
 use Rattle.store_sessions.specs.Answers.{Opened}
 
 module _ (s : Shape) (w b : List ℕ) (r : Rules s w b) (h : get_or w 0 0 < s.places) where
@@ -53,7 +53,7 @@ module _ (s : Shape) (w b : List ℕ) (r : Rules s w b) (h : get_or w 0 0 < s.pl
   opened k wa we ba be x y at sx sy e =
       let v : List ℕ = put_mid wa (we - wa) w1 x in
       let c : List ℕ = put_mid ba (be - ba) b y in
-      let p : Put s n w1 v b c (place_in s.bytes s.messages x y) = spot-put s n wa we ba be at.at w1 b raised in_use x y sx sy in
+      let p : Put s n w1 v b c (place_in s.bytes s.messages x y) = spot_put s n wa we ba be at.at w1 b raised in_use x y sx sy in
       let count : get_or v 0 0 ≡ suc n = count_kept s n w1 v b c p.words p.bytes ∙ counted ∙ add-one n in
       let z : n ≡ 0 + n = omega arith in
       let same : count_up (place_at s v c) 0 n ≡ count_up (place_at s w b) 0 n =
@@ -66,4 +66,4 @@ module _ (s : Shape) (w b : List ℕ) (r : Rules s w b) (h : get_or w 0 0 < s.pl
 
 -- the rules hold then too
 pub opened_rules : (s : Shape) (k : Key) (w w' b b' : List ℕ) → Rules s w b → get_or w 0 0 < s.places → Opened s k w w' b b' → Rules s w' b'
-opened_rules s k w w' b b' r h o = rules-kept-by s (get_or w 0 0) (set w 0 (get_or w 0 0 + 1)) w' b b' o.words o.bytes (raised s w b r h)
+opened_rules s k w w' b b' r h o = rules_kept_by s (get_or w 0 0) (set w 0 (get_or w 0 0 + 1)) w' b b' o.words o.bytes (raised s w b r h)

@@ -16,8 +16,8 @@ use Rattle.store_log.specs.Log.{msg}
 use Rattle.store_place.specs.Place.{stored_key, session_of, place_in, rest_in, PositionIn, FromIn, NextMessageIn}
 use Rattle.store_areas.specs.declared.Shape.{Shape}
 use Rattle.store_areas.specs.Areas.{place_words, place_bytes, words_at, bytes_at, in_use, Rules, SpotIn, slice, place_at, TextAt}
-use Rattle.store_areas.proofs.Lifting.{spot-place, spot-words-part, spot-bytes-part}
-use Rattle.store_areas.proofs.Reading.{part_of, out-is, in_is, flight-is, stamp_at, marks_at}
+use Rattle.store_areas.proofs.Lifting.{spot_place, spot_words_part, spot_bytes_part}
+use Rattle.store_areas.proofs.Reading.{part_of, out_is, in_is, flight_is, stamp_at, marks_at}
 use Rattle.store_sessions.specs.Answers.{gives, refuses, SummaryIn, TextsIn, summarised_at, rest_at, PositionAt, FromAt, NextMessageAt}
 
 module _ (s : Shape) (i wa we ba be : ℕ) (w b : List ℕ) (at : SpotIn s i w b wa we ba be) (r : Rules s w b) (h : i < get_or w 0 0) where
@@ -34,18 +34,18 @@ module _ (s : Shape) (i wa we ba be : ℕ) (w b : List ℕ) (at : SpotIn s i w b
   pb = slice (bytes_at s i) (place_bytes s) b
 
   ew : mw ≡ pw
-  ew = spot-words-part s i wa we ba be at.at w b r h
+  ew = spot_words_part s i wa we ba be at.at w b r h
 
   eb : mb ≡ pb
-  eb = spot-bytes-part s i wa we ba be at.at w b r h
+  eb = spot_bytes_part s i wa we ba be at.at w b r h
 
-  pub key-same : (t : Bool) (k : Key) → t ≡ same_key k (stored_key mw mb) → t ≡ same_key k (place_at s w b i).key
+  pub key_same : (t : Bool) (k : Key) → t ≡ same_key k (stored_key mw mb) → t ≡ same_key k (place_at s w b i).key
   unfolding place_in
-  key-same t k e = e ∙ ap (λ (p : Place). same_key k p.key) (spot-place s i wa we ba be at.at w b r h)
+  key_same t k e = e ∙ ap (λ (p : Place). same_key k p.key) (spot_place s i wa we ba be at.at w b r h)
 
-  pub last-is : (n x : ℕ) → x ≡ last_out (session_of s.bytes s.messages mw mb) n → x ≡ last_out (place_at s w b i).stored.session n
+  pub last_is : (n x : ℕ) → x ≡ last_out (session_of s.bytes s.messages mw mb) n → x ≡ last_out (place_at s w b i).stored.session n
   unfolding place_in
-  last-is n x e = e ∙ ap (λ (p : Place). last_out p.stored.session n) (spot-place s i wa we ba be at.at w b r h)
+  last_is n x e = e ∙ ap (λ (p : Place). last_out p.stored.session n) (spot_place s i wa we ba be at.at w b r h)
 
   pub from_at : (low left dist : ℕ) → FromIn s.bytes s.messages low mw mb left dist → FromAt s w b i low left dist
   unfolding PositionAt rest_at place_at place_in
@@ -53,9 +53,9 @@ module _ (s : Shape) (i wa we ba be : ℕ) (w b : List ℕ) (at : SpotIn s i w b
       let g : FromIn s.bytes s.messages low pw pb left dist = subst₂ (λ x y. FromIn s.bytes s.messages low x y left dist) ew eb f in
       record { stands = g.stands; is = g.is }
 
-  pub stands-in : (left dist : ℕ) → PositionAt s w b i left dist → PositionIn (length mb - 224) s.messages mw mb left dist
+  pub stands_in : (left dist : ℕ) → PositionAt s w b i left dist → PositionIn (length mb - 224) s.messages mw mb left dist
   unfolding PositionAt
-  stands-in left dist g =
+  stands_in left dist g =
       let c : s.bytes ≡ length mb - 224 = omega (arith, at.bytes_part) in
       subst (λ (x : ℕ). PositionIn x s.messages mw mb left dist) c (subst₂ (λ x y. PositionIn s.bytes s.messages x y left dist) (sym ew) (sym eb) g)
 
@@ -87,31 +87,31 @@ module _ (s : Shape) (i wa we ba be : ℕ) (w b : List ℕ) (at : SpotIn s i w b
   lb = mid_of ba (be - ba) b
 
   module _ (n : ℕ) (m : Summary) (k : SummaryIn s.bytes s.messages ba n lw lb m) where
-    stamp-there : TextAt b (place_at s w b i).stored.session.stamp m.created_at.at m.created_at.len
-    stamp-there = subst (λ (j : ℕ). TextAt b (place_at s w b i).stored.session.stamp j m.created_at.len) (sym k.stamp_at) (stamp_at s i wa we ba be w b at r h m.created_at.len k.stamp_len k.stamp)
+    stamp_there : TextAt b (place_at s w b i).stored.session.stamp m.created_at.at m.created_at.len
+    stamp_there = subst (λ (j : ℕ). TextAt b (place_at s w b i).stored.session.stamp j m.created_at.len) (sym k.stamp_at) (stamp_at s i wa we ba be w b at r h m.created_at.len k.stamp_len k.stamp)
 
-    marks-there : TextAt b (place_at s w b i).stored.session.marks m.marks.at m.marks.len
-    marks-there = subst (λ (j : ℕ). TextAt b (place_at s w b i).stored.session.marks j m.marks.len) (sym k.marks_at) (marks_at s i wa we ba be w b at r h m.marks.len k.marks_len k.marks)
+    marks_there : TextAt b (place_at s w b i).stored.session.marks m.marks.at m.marks.len
+    marks_there = subst (λ (j : ℕ). TextAt b (place_at s w b i).stored.session.marks j m.marks.len) (sym k.marks_at) (marks_at s i wa we ba be w b at r h m.marks.len k.marks_len k.marks)
 
-    pub summed-up : summary_of b m ≡ summary (place_at s w b i).stored.session n
+    pub summed_up : summary_of b m ≡ summary (place_at s w b i).stored.session n
     unfolding summary
-    summed-up = λ j. record {
-      next_out = (k.out ∙ out-is s i wa we ba be w b at r h) j;
+    summed_up = λ j. record {
+      next_out = (k.out ∙ out_is s i wa we ba be w b at r h) j;
       next_in = (k.inc ∙ in_is s i wa we ba be w b at r h) j;
-      in_flight = (k.flight ∙ flight-is s i wa we ba be w b at r h) j;
-      stamp_text = stamp-there.is j;
-      marks_text = marks-there.is j;
-      last_outgoing = last-is s i wa we ba be w b at r h n m.last_outgoing k.last j;
+      in_flight = (k.flight ∙ flight_is s i wa we ba be w b at r h) j;
+      stamp_text = stamp_there.is j;
+      marks_text = marks_there.is j;
+      last_outgoing = last_is s i wa we ba be w b at r h n m.last_outgoing k.last j;
     }
 
-    pub texts-in : TextsIn b m
-    texts-in = record { stamp = stamp-there.inside; marks = marks-there.inside }
+    pub texts_in : TextsIn b m
+    texts_in = record { stamp = stamp_there.inside; marks = marks_there.inside }
 
 module _ (s : Shape) (w b : List ℕ) (i n : ℕ) {t : Bool} (is : t ≡ in_use s w b i) where
-  pub summary-known : (m : model-frame.Summary) → t ≡ true → m ≡ summary (place_at s w b i).stored.session n → gives m ≡ summarised_at s w b i n
+  pub summary_known : (m : model-frame.Summary) → t ≡ true → m ≡ summary (place_at s w b i).stored.session n → gives m ≡ summarised_at s w b i n
   unfolding summarised_at
-  summary-known m e q = ap gives q ∙ sym (ap (λ (t : Bool). cond t (gives (summary (place_at s w b i).stored.session n)) (refuses 25)) (sym is ∙ e))
+  summary_known m e q = ap gives q ∙ sym (ap (λ (t : Bool). cond t (gives (summary (place_at s w b i).stored.session n)) (refuses 25)) (sym is ∙ e))
 
-  pub summary-refused : t ≡ false → refuses 25 ≡ summarised_at s w b i n
+  pub summary_refused : t ≡ false → refuses 25 ≡ summarised_at s w b i n
   unfolding summarised_at
-  summary-refused e = sym (ap (λ (t : Bool). cond t (gives (summary (place_at s w b i).stored.session n)) (refuses 25)) (sym is ∙ e))
+  summary_refused e = sym (ap (λ (t : Bool). cond t (gives (summary (place_at s w b i).stored.session n)) (refuses 25)) (sym is ∙ e))

@@ -18,13 +18,13 @@ use Rattle.model_fix.proofs.Building.{file_holdable}
 use Rattle.fix_file.specs.Judging.{messages_in}
 use Rattle.store_areas.specs.declared.Shape.{Shape}
 use Rattle.store_areas.specs.Areas.{Rules, allowed, places_of}
-use Rattle.store_areas.proofs.Ruling.{rules-of, rules-true}
-use Rattle.store_areas.proofs.Lifting.{places_length, rules-kept-by}
+use Rattle.store_areas.proofs.Ruling.{rules_of, rules_true}
+use Rattle.store_areas.proofs.Lifting.{places_length, rules_kept_by}
 use Rattle.store_sessions.proofs.Opening.{raised}
 use Rattle.store_import.specs.Importing.{fault_of, refuses, imported_place, Taken}
 use Rattle.active.specs.Whole.{stored_at}
 use Rattle.active.proofs.Giving.{whole_given}
-use Rattle.theorem_whole_copy.proofs.Demand3.{demand-3}
+use Rattle.theorem_whole_copy.proofs.Demand3.{demand_3}
 use Rattle.theorem_import.specs.Imported.{session_of, LikeAny}
 
 -- ---- where nothing is refused
@@ -69,7 +69,7 @@ module _ (s : Shape) (k : Key) (file w w' b b' : List ℕ) (i : ℕ) (bytes : T 
   held = file_holdable s.bytes s.messages file (messages_in (judge_file file)) bytes (no_fault (judge_file file) opens.file)
 
   rules : Rules s w' b'
-  rules = rules-kept-by s (get_or w 0 0) (set w 0 (get_or w 0 0 + 1)) w' b b' t.words t.bytes (raised s w b (rules-of s w b opens.keeps) room)
+  rules = rules_kept_by s (get_or w 0 0) (set w 0 (get_or w 0 0 + 1)) w' b b' t.words t.bytes (raised s w b (rules_of s w b opens.keeps) room)
 
   there : session_at (places_of s w' b') i ≡ some (session_of s file)
   there =
@@ -78,7 +78,7 @@ module _ (s : Shape) (k : Key) (file w w' b b' : List ℕ) (i : ℕ) (bytes : T 
 
   stored : stored_at s w' b' i ≡ some (session_of s file)
   unfolding stored_at
-  stored = ap (λ (x : Bool). cond x (session_at (places_of s w' b') i) none) (rules-true s w' b' rules) ∙ there
+  stored = ap (λ (x : Bool). cond x (session_at (places_of s w' b') i) none) (rules_true s w' b' rules) ∙ there
 
   pub like_any : LikeAny s file w' b' i
   like_any = record {
@@ -89,5 +89,5 @@ module _ (s : Shape) (k : Key) (file w w' b b' : List ℕ) (i : ℕ) (bytes : T 
     frames = λ limit h e last from u fs hw hb r g. whole_given limit s w' b' (session_of s file) h e last i from u fs hw hb stored r g;
     copied =
         λ set same limit B own h bound x start cs z d.
-        demand-3 set limit (session_of s file) B own h bound x (start (subst (λ (q : Shape). Holdable q.bytes q.messages (session_of s file)) (sym same) held)) cs z d;
+        demand_3 set limit (session_of s file) B own h bound x (start (subst (λ (q : Shape). Holdable q.bytes q.messages (session_of s file)) (sym same) held)) cs z d;
   }

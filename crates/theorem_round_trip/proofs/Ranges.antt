@@ -19,8 +19,8 @@ use Rattle.model_frame.proofs.Le.{bytes_each, bytes_drop}
 use Rattle.model_frame.proofs.Canon.{Was, Canon, run_canon, num_canon, Run}
 use Rattle.model_frame.proofs.RoundTrip.{and_left, and_right}
 use Rattle.model_frame.proofs.Sound.{record_canon}
-use Rattle.model_frame.proofs.SoundChange.{TakenChange, change-canon, taken-ranged}
-use Rattle.base_laws.proofs.Runs.{run-items}
+use Rattle.model_frame.proofs.SoundChange.{TakenChange, change_canon, taken_ranged}
+use Rattle.base_laws.proofs.Runs.{run_items}
 use Rattle.frame_reader.specs.declared.Span.{Span}
 use Rattle.frame_reader.specs.Answers.{span_of}
 use Rattle.frame_op.specs.declared.Run as the-run
@@ -46,12 +46,12 @@ span_short src p h = omega (arith, length-take p.len (drop p.at src))
 
 module _ {A : Type 0} (p : Parser A) (f : A → List ℕ) (U : A → Type 0) (canon : Canon [] p f U) (src : List ℕ) (known : T (is_bytes src)) where
   -- a run that can be read has as many items as it says, each as it was read
-  run-was : (r : the-run.Run) → run_reads p src r ≡ true → Run U r.count (run_of p src r)
-  run-was r e = go (many r.count p (drop r.at src)) e refl ((run_canon canon r.count).reads (drop r.at src) (bytes_each (drop r.at src) (bytes_drop r.at src known)))
+  run_was : (r : the-run.Run) → run_reads p src r ≡ true → Run U r.count (run_of p src r)
+  run_was r e = go (many r.count p (drop r.at src)) e refl ((run_canon canon r.count).reads (drop r.at src) (bytes_each (drop r.at src) (bytes_drop r.at src known)))
     where
       go : (m : Res (List A)) → is_ok m ≡ true → many r.count p (drop r.at src) ≡ m → Was (run_bytes f) (Run U r.count) (drop r.at src) (many r.count p (drop r.at src)) → Run U r.count (run_of p src r)
       go (ok xs t) o q w =
-          let items : many r.count p (drop r.at src) ≡ ok (collect r.count p (drop r.at src)) t = sym (run-items p r.count (drop r.at src) (sym (ap forget q))) in
+          let items : many r.count p (drop r.at src) ≡ ok (collect r.count p (drop r.at src)) t = sym (run_items p r.count (drop r.at src) (sym (ap forget q))) in
           let was : Was (run_bytes f) (Run U r.count) (drop r.at src) (ok (collect r.count p (drop r.at src)) t) = rw items at w in
           was.1
       go (bad x) o q w =
@@ -74,7 +74,7 @@ flight_short h InFlight.Nothing m g = omega arith
 
 pub ranged : (version : ℕ) (src : List ℕ) (f : Frame) {vs : List Val} → T (is_bytes src) → IsFrame f vs → readable version src f ≡ true → Ranged (frame_of version src f)
 ranged version src (Frame.Hello v e node ks) known g r =
-    let w = run-was (read_num 2) (bytes_of 2) (λ n. n < 256 ^ 2) (num_canon 2) src known ks (and_right (span_fits src node) (run_reads (read_num 2) src ks) r) in
+    let w = run_was (read_num 2) (bytes_of 2) (λ n. n < 256 ^ 2) (num_canon 2) src known ks (and_right (span_fits src node) (run_reads (read_num 2) src ks) r) in
     (omega arith, omega arith, span_short src node (omega arith), omega (arith, w.0), w.1)
 ranged version src (Frame.Welcome e i) known g r = omega arith
 ranged version src (Frame.Bind h e lag k) known g r = (
@@ -100,9 +100,9 @@ ranged version src (Frame.Bound h m) known g r = (
   },
 )
 ranged version src (Frame.Batch x) known g r =
-    let w = run-was (read_change version) change_bytes (TakenChange version) (change-canon version) src known x.ops (and_left (run_reads (read_change version) src x.ops) (run_reads read_app_record src x.app_records) r) in
-    let v = run-was read_app_record app_record_bytes (λ (a : AppRecord). RangedRecord a × ByteRecord a) record_canon src known x.app_records (and_right (run_reads (read_change version) src x.ops) (run_reads read_app_record src x.app_records) r) in
-    (omega arith, omega arith, omega arith, omega (arith, w.0), taken-ranged version (run_of (read_change version) src x.ops) w.1, omega (arith, v.0), records_ranged (run_of read_app_record src x.app_records) v.1)
+    let w = run_was (read_change version) change_bytes (TakenChange version) (change_canon version) src known x.ops (and_left (run_reads (read_change version) src x.ops) (run_reads read_app_record src x.app_records) r) in
+    let v = run_was read_app_record app_record_bytes (λ (a : AppRecord). RangedRecord a × ByteRecord a) record_canon src known x.app_records (and_right (run_reads (read_change version) src x.ops) (run_reads read_app_record src x.app_records) r) in
+    (omega arith, omega arith, omega arith, omega (arith, w.0), taken_ranged version (run_of (read_change version) src x.ops) w.1, omega (arith, v.0), records_ranged (run_of read_app_record src x.app_records) v.1)
 ranged version src (Frame.Ack h n) known g r = omega arith
 ranged version src (Frame.Nack h why) known g r = omega arith
 ranged version src (Frame.Checked h e i) known g r = omega arith

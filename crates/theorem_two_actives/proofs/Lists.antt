@@ -13,15 +13,15 @@ use Rattle.model_frame.specs.Frame.{record_msg, commit, Frame, hello, bind, batc
 use Rattle.model_frame.specs.Parse.{read_bytes, read_num, read_blob, read_text, read_count, many, run_bytes}
 use Rattle.model_frame.specs.Reading.{record_msg_fields, read_change, read_changes, read_kinds, read_app_records, read_part, hello_fields, batch_fields, read_fields, read_body, decode}
 use Rattle.model_frame.specs.Writing.{blob_bytes, change_bytes, body_bytes, encode}
-use Rattle.model_session.specs.Session.{new_session, applyAll}
+use Rattle.model_session.specs.Session.{new_session, apply_all}
 use Rattle.standby_row.specs.Row.{free_record}
 use Rattle.store_areas.specs.Areas.{places_of, Rules}
-use Rattle.store_areas.proofs.Ruling.{rules-true}
+use Rattle.store_areas.proofs.Ruling.{rules_true}
 use Rattle.standby_pending.specs.Pending.{pending_of}
 use Rattle.model_standby.specs.Answer.{given}
 use Rattle.model_standby.specs.Store.{session_at}
 use Rattle.model_standby.specs.State.{Standby, Call, on_frame_held, on_frame, new_standby}
-use Rattle.model_standby.specs.Standby.{onHello, onGiven, step}
+use Rattle.model_standby.specs.Standby.{on_hello, on_given, step}
 use Rattle.model_standby.specs.Demand.{by_held, by_frame}
 use Rattle.model_two_actives.specs.TwoActives.{by_hello, Takes}
 use Rattle.model_two_actives.proofs.Witness.{L₀, key_of, not_by_bind}
@@ -49,7 +49,7 @@ rules₀ : Rules s₀.shape x₀.words x₀.bytes
 rules₀ = record { room = record { bytes_limit = omega arith; messages_limit = omega arith; words_long = omega arith; bytes_long = omega arith }; used = omega arith; pending = omega arith }
 
 allowed₀ : Allowed s₀ x₀
-allowed₀ = ap (λ (t : Bool). t && true) (rules-true s₀.shape x₀.words x₀.bytes rules₀)
+allowed₀ = ap (λ (t : Bool). t && true) (rules_true s₀.shape x₀.words x₀.bytes rules₀)
 
 stands₀ : stands_for s₀ x₀ ≡ new_standby [] 2
 unfolding pending_of places_of
@@ -63,7 +63,7 @@ low_commit = batch 1 5 1 commit (record_msg 1 (7 ∷ []) ∷ []) []
 abbrev both : List Call
 both = on_frame_held (encode (hello 1 5 [] [])) ∷ on_frame_held (encode (bind 1 5 0 (key_of 65))) ∷ on_frame_held (encode (bind 2 9 0 (key_of 67))) ∷ on_frame_held (encode low_commit) ∷ []
 
-pub commit_taken : {z : Lent} → Runs s₀ x₀ both z → session_at (places_of s₀.shape z.words z.bytes) 0 ≡ some (applyAll 4 2 (record_msg 1 (7 ∷ []) ∷ []) new_session)
+pub commit_taken : {z : Lent} → Runs s₀ x₀ both z → session_at (places_of s₀.shape z.words z.bytes) 0 ≡ some (apply_all 4 2 (record_msg 1 (7 ∷ []) ∷ []) new_session)
 commit_taken {z} rs = ap (λ (t : Standby). session_at t.places 0) (sym (runs s₀ 170 rs allowed₀ refl (new_standby [] 2) stands₀)) ∙ not_by_bind.applied
 
 -- ---- deposed by Hello
@@ -77,7 +77,7 @@ unfolding given encode body_bytes blob_bytes change_bytes run_bytes bytes_of dec
 commit_read = record { bytes = encode low_commit; hands = by_held; reads = refl }
 
 still_unpromoted : (step L₀ (new_standby [] 2) (on_frame (encode (hello 1 9 [] [])))).state.counters.promoted ≡ false
-unfolding step onGiven onHello given encode body_bytes blob_bytes run_bytes bytes_of decode le read_num read_bytes read_blob read_text read_count many read_body read_fields hello_fields read_kinds utf8 well_formed lead_length own_bits least fitting is_scalar is_surrogate
+unfolding step on_given on_hello given encode body_bytes blob_bytes run_bytes bytes_of decode le read_num read_bytes read_blob read_text read_count many read_body read_fields hello_fields read_kinds utf8 well_formed lead_length own_bits least fitting is_scalar is_surrogate
 still_unpromoted = refl
 
 pub commit_stale : {y z : Lent} {a b : Answer} → Calls s₀ (on_frame (encode (hello 1 9 [] []))) x₀ y a → Calls s₀ (on_frame_held (encode low_commit)) y z b → OnlyCommitsRan s₀ y z

@@ -8,9 +8,9 @@ use Rattle.model_frame.specs.Frame.{Frame, hello, welcome, bind, batch, ack, nac
 use Rattle.model_session.proofs.Basics.{T→true, cond-true}
 use Rattle.model_standby.specs.Answer.{Given, damaged, intact, given, lower, Answer, reply, refused, done, accepted, says_diverged}
 use Rattle.model_standby.specs.State.{Settings, Counters, Standby, Call, Result}
-use Rattle.model_standby.specs.Standby.{onGiven, step}
+use Rattle.model_standby.specs.Standby.{on_given, step}
 use Rattle.model_standby.specs.Demand.{Hands, by_held, by_frame}
-use Rattle.model_two_actives.proofs.Lower.{is_hello, Spares, lower-answer, lower-spares}
+use Rattle.model_two_actives.proofs.Lower.{is_hello, Spares, lower_answer, lower_spares}
 use Rattle.standby_step.specs.Calls.{RowChange, keeps, puts, frees, says_too_many, row_by_frame, row_by_given, row_by}
 
 not_so : (b : Bool) → not b ≡ true → b ≡ false
@@ -47,8 +47,8 @@ row_refused k (bound h m) = refl
 row_refused k (checked h e i) = refl
 
 module _ (L : Settings) (s : Standby) (k : Counters) where
-  pub lower-row : (c : Call) (w : List ℕ) (f : Frame) → s.counters ≡ k → s.counters.promoted ≡ false → Hands c w → given w ≡ intact f → T (lower s.counters.epoch f) → row_by k c (step L s c).answer ≡ keeps
-  lower-row c w f e p h r t = by h (lower-answer L s c w f p h r t) (lower-spares L s c w f p h r t)
+  pub lower_row : (c : Call) (w : List ℕ) (f : Frame) → s.counters ≡ k → s.counters.promoted ≡ false → Hands c w → given w ≡ intact f → T (lower s.counters.epoch f) → row_by k c (step L s c).answer ≡ keeps
+  lower_row c w f e p h r t = by h (lower_answer L s c w f p h r t) (lower_spares L s c w f p h r t)
     where
       low : T (lower k.epoch f)
       low = subst (λ (x : Counters). T (lower x.epoch f)) e t
@@ -57,12 +57,12 @@ module _ (L : Settings) (s : Standby) (k : Counters) where
       by {a = a} by_held q u = ap (λ (g : Given). row_by_given k g a) r ∙ row_lower k f a low q u
       by {a = a} by_frame q u = ap (λ (g : Given). row_by_given k g a) r ∙ row_lower k f a low q u
 
-  given-row : (g : Given) → s.counters.promoted ≡ true → row_by_given k g (onGiven L s g).answer ≡ keeps
-  unfolding onGiven
-  given-row (damaged n) p = refl
-  given-row (intact f) p = ap (λ (r : Result). row_by_frame k f r.answer) (cond-true _ _ p) ∙ row_refused k f
+  given_row : (g : Given) → s.counters.promoted ≡ true → row_by_given k g (on_given L s g).answer ≡ keeps
+  unfolding on_given
+  given_row (damaged n) p = refl
+  given_row (intact f) p = ap (λ (r : Result). row_by_frame k f r.answer) (cond-true _ _ p) ∙ row_refused k f
 
-  pub promoted-row : (c : Call) (w : List ℕ) → s.counters.promoted ≡ true → Hands c w → row_by k c (step L s c).answer ≡ keeps
+  pub promoted_row : (c : Call) (w : List ℕ) → s.counters.promoted ≡ true → Hands c w → row_by k c (step L s c).answer ≡ keeps
   unfolding step
-  promoted-row c w p by_held = given-row (given w) p
-  promoted-row c w p by_frame = given-row (given w) p
+  promoted_row c w p by_held = given_row (given w) p
+  promoted_row c w p by_frame = given_row (given w) p

@@ -39,18 +39,18 @@ module _ (s : Shape) (w b : List ℕ) (rules : Rules s w b) where
   abbrev If : Bool → List ℕ
   If t = cond t (ran_words s w) w
 
-  ran-twice : (after before : Bool) → cond after (ran_words s (If before)) (If before) ≡ If (after || before)
-  ran-twice true true = none_ran s (ran_words s w) (ran s b w rules).pending ∙ cleared_again s w
-  ran-twice true false = refl
-  ran-twice false true = refl
-  ran-twice false false = refl
+  ran_twice : (after before : Bool) → cond after (ran_words s (If before)) (If before) ≡ If (after || before)
+  ran_twice true true = none_ran s (ran_words s w) (ran s b w rules).pending ∙ cleared_again s w
+  ran_twice true false = refl
+  ran_twice false true = refl
+  ran_twice false false = refl
 
   -- ---- where nothing is changed
 
-  frame-stays : {x : StoreChange} {before after : Bool} {w' b' : List ℕ} → FrameLeaves s x before after w w' b b' → x ≡ stays → (b' ≡ b) × (w' ≡ If (after || before))
-  frame-stays {before} {after} {b'} l e =
+  frame_stays : {x : StoreChange} {before after : Bool} {w' b' : List ℕ} → FrameLeaves s x before after w w' b b' → x ≡ stays → (b' ≡ b) × (w' ≡ If (after || before))
+  frame_stays {before} {after} {b'} l e =
       let st = subst (λ (x : StoreChange). StoreAfter s x (If before) l.mid b b') e l.store_after in
-      (st.1, l.last ∙ ap (λ (m : List ℕ). cond after (ran_words s m) m) st.0 ∙ ran-twice after before)
+      (st.1, l.last ∙ ap (λ (m : List ℕ). cond after (ran_words s m) m) st.0 ∙ ran_twice after before)
 
 -- whether commits run after the frame
 abbrev pub runs_after : {c : Call} {v : List ℕ} → Hands c v → answer.Answer → Bool
@@ -60,8 +60,8 @@ runs_after by_frame a = is_reply a
 pub store_stays : (s : Shape) (k : Replica) (p : ℕ) {c : Call} {v : List ℕ} (hands : Hands c v) (w w' b b' : List ℕ) (a : Answer) → Rules s w b → Leaves s k p c w w' b b' a
     → changes_by (places_of s w b) p (given v) (accepted (answer_of b' a)) ≡ stays
     → (b' ≡ b) × (w' ≡ cond (runs_after hands (answer_of b' a) || due_now (is_set k.promoted) (pending_of w) (given v)) (ran_words s w) w)
-store_stays s k p by_held w w' b b' a rules l e = frame-stays s w b rules l e
-store_stays s k p by_frame w w' b b' a rules l e = frame-stays s w b rules l e
+store_stays s k p by_held w w' b b' a rules l e = frame_stays s w b rules l e
+store_stays s k p by_frame w w' b b' a rules l e = frame_stays s w b rules l e
 
 -- ---- which frames change nothing: a Hello, and whatever isn't accepted
 

@@ -12,7 +12,7 @@ use Rattle.base_flags.specs.Flag.{is_set}
 use Rattle.base_laws.proofs.Lists.{both}
 use Rattle.model_frame.specs.Frame.{Frame, bind}
 use Rattle.store_areas.specs.Areas.{allowed, Rules, places_of}
-use Rattle.store_areas.proofs.Ruling.{rules-of}
+use Rattle.store_areas.proofs.Ruling.{rules_of}
 use Rattle.standby_pending.specs.Pending.{pending_of}
 use Rattle.standby_pending_run.specs.Commits.{ran_words}
 use Rattle.standby_commit.specs.Settling.{stays}
@@ -27,10 +27,10 @@ use Rattle.model_standby.specs.State as state
 use Rattle.model_standby.specs.Standby.{step, run}
 use Rattle.model_standby.specs.Hold.{HoldWrite, writes}
 use Rattle.model_standby.specs.Demand.{Hands, by_held, by_frame}
-use Rattle.model_standby.proofs.Sanity.{epoch-never-falls}
+use Rattle.model_standby.proofs.Sanity.{epoch_never_falls}
 use Rattle.model_two_actives.specs.TwoActives.{Deposing, Takes}
 use Rattle.model_two_actives.proofs.TwoActives as model
-use Rattle.model_two_actives.proofs.Lower.{is_hello, lower-answer, promoted-answer, lower-writes, promoted-writes}
+use Rattle.model_two_actives.proofs.Lower.{is_hello, lower_answer, promoted_answer, lower_writes, promoted_writes}
 use Rattle.standby_state.specs.declared.Settings.{Settings}
 use Rattle.standby_state.specs.declared.Answer.{Answer}
 use Rattle.standby_state.specs.Answers.{answer_of}
@@ -40,7 +40,7 @@ use Rattle.standby_step.specs.Calls.{room_all, RowChange, keeps, row_by, RowLeav
 use Rattle.theorem_whole_copy.specs.Demand.{Lent, stands_for, settings, Allowed, Calls, Runs, no_calls, call}
 use Rattle.theorem_whole_copy.proofs.Model.{one}
 use Rattle.theorem_two_actives.specs.TwoActives.{SameBut, OnlyCommitsRan, TwoActives}
-use Rattle.theorem_two_actives.proofs.Row.{lower-row, promoted-row}
+use Rattle.theorem_two_actives.proofs.Row.{lower_row, promoted_row}
 use Rattle.theorem_two_actives.proofs.Store.{runs_after, store_stays, changes_none, given_none, due_promoted}
 
 -- ---- the frame's bytes are what a call writes by
@@ -77,7 +77,7 @@ module _ (s : Settings) where
     steps = p.steps ok
 
     rules : Rules s.shape x.words x.bytes
-    rules = rules-of s.shape x.words x.bytes (both (allowed s.shape x.words x.bytes) _ ok).0
+    rules = rules_of s.shape x.words x.bytes (both (allowed s.shape x.words x.bytes) _ ok).0
 
     after_state : stands_for s y ≡ (step L st c).state
     after_state = ap (λ (r : state.Result). r.state) steps.is
@@ -122,11 +122,11 @@ module _ (s : Settings) where
         let m = (model.two_actives L st u).lower_leaves c f t l in
         let v = t.bytes in
         let is = left v t.hands (ap (λ (z : Standby). z.counters) after_state ∙ m.counters)
-        (lower-row L st (counters_of x.counters) c v f refl u t.hands t.reads l)
-        (writes_by_lem L (counters_of x.counters) (find (handle_by c) st.handles) t.hands (lower-writes L (counters_of x.counters) (find (handle_by c) st.handles) v f u t.reads l))
+        (lower_row L st (counters_of x.counters) c v f refl u t.hands t.reads l)
+        (writes_by_lem L (counters_of x.counters) (find (handle_by c) st.handles) t.hands (lower_writes L (counters_of x.counters) (find (handle_by c) st.handles) v f u t.reads l))
         (ap (λ (g : answer.Given). changes_by (places_of s.shape x.words x.bytes) at g (accepted (answer_of y.bytes a))) t.reads
         ∙ changes_none (places_of s.shape x.words x.bytes) at f (accepted (answer_of y.bytes a))
-        (ap (λ (b : answer.Answer). is_hello f || not (accepted b)) after_answer ∙ lower-answer L st c v f u t.hands t.reads l)) in
+        (ap (λ (b : answer.Answer). is_hello f || not (accepted b)) after_answer ∙ lower_answer L st c v f u t.hands t.reads l)) in
         record {
           same = is.same;
           words = (Ran v t.hands, is.words);
@@ -137,11 +137,11 @@ module _ (s : Settings) where
 
     promoted_call : is_set x.counters.promoted ≡ true → (v : List ℕ) → Hands c v → y ≡ x
     promoted_call u v h =
-        let no = promoted-answer L st c v u h in
+        let no = promoted_answer L st c v u h in
         let said : accepted (answer_of y.bytes a) ≡ false = ap accepted after_answer ∙ no.0 in
         let is = left v h (ap (λ (z : Standby). z.counters) (after_state ∙ model.promoted_call L st c v u h))
-        (promoted-row L st (counters_of x.counters) c v u h)
-        (writes_by_lem L (counters_of x.counters) (find (handle_by c) st.handles) h (promoted-writes L (counters_of x.counters) (find (handle_by c) st.handles) v u))
+        (promoted_row L st (counters_of x.counters) c v u h)
+        (writes_by_lem L (counters_of x.counters) (find (handle_by c) st.handles) h (promoted_writes L (counters_of x.counters) (find (handle_by c) st.handles) v u))
         (given_none (places_of s.shape x.words x.bytes) at (given v) (accepted (answer_of y.bytes a)) said) in
         let same-words : y.words ≡ x.words = is.words ∙ ap (λ (t : Bool). cond t (ran_words s.shape x.words) x.words) (not_ran v h (ap is_reply after_answer ∙ no.1)) in
         let same-counters : y.counters ≡ x.counters = steps.counters_kept (kept_by h) in
@@ -179,7 +179,7 @@ module _ (s : Settings) where
             let rest = reached rs (one s (room_all x.row x.holds) ok refl p (stands_for s x) refl).allowed (one s (room_all x.row x.holds) ok refl p (stands_for s x) refl).same (stands_for s y) refl in
             let raised : y.counters.epoch.0 ≡ max x.counters.epoch.0 e = ap (λ (k : Standby). k.counters.epoch) (after_state x ok c y a p) ∙ M.raises c e f t d in
             let more : y.counters.epoch.0 ≤ z.counters.epoch.0 =
-            subst (λ (k : Standby). y.counters.epoch.0 ≤ k.counters.epoch) rest.ran (epoch-never-falls (settings_of s (room_all x.row x.holds)) (stands_for s y) cs) in
+            subst (λ (k : Standby). y.counters.epoch.0 ≤ k.counters.epoch) rest.ran (epoch_never_falls (settings_of s (room_all x.row x.holds)) (stands_for s y) cs) in
             let high : e ≤ z.counters.epoch.0 = omega (arith, raised, more) in
             lower_call z q.allowed d₁ z₁ b p₁ v g t₁ (model.lower_more e z.counters.epoch.0 g high l);
         not_by_bind = λ c h e lag k y a t p. ap (λ (z : Standby). z.counters.epoch) (after_state x ok c y a p) ∙ M.not_by_bind c h e lag k t;

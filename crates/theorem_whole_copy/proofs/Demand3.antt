@@ -10,7 +10,7 @@ use Rattle.model_frame.specs.Writing.{encode}
 use Rattle.model_session.specs.Session.{Session}
 use Rattle.store_areas.specs.declared.Shape.{Shape}
 use Rattle.store_areas.specs.Areas.{allowed, Rules, places_of}
-use Rattle.store_areas.proofs.Ruling.{rules-of}
+use Rattle.store_areas.proofs.Ruling.{rules_of}
 use Rattle.model_standby.specs.Store.{session_at}
 use Rattle.model_standby.specs.State.{Bound, Standby, Call, on_frame_held}
 use Rattle.model_standby.specs.State as state
@@ -39,10 +39,10 @@ module _ (s : Settings) (limit : ℕ) (A B : Session) (k : OwnKey) (h : ℕ) (b 
   st = stands_for s x
 
   rules : Rules s.shape x.words x.bytes
-  rules = rules-of s.shape x.words x.bytes (both (allowed s.shape x.words x.bytes) _ start.allowed).0
+  rules = rules_of s.shape x.words x.bytes (both (allowed s.shape x.words x.bytes) _ start.allowed).0
 
-  model-start : model.ModelStart L limit A B k h b st
-  model-start = record {
+  model_start : model.ModelStart L limit A B k h b st
+  model_start = record {
     C_limit = rules.room.bytes_limit;
     M_limit = rules.room.messages_limit;
     A_held = start.A_held;
@@ -58,10 +58,10 @@ module _ (s : Settings) (limit : ℕ) (A B : Session) (k : OwnKey) (h : ℕ) (b 
   }
 
   -- THE THEOREM
-  pub demand-3 : (cs : List Call) (z : Lent) (d : First s x.counters.epoch.0 (framesOfA s limit A h b x) x cs z) → Claim s limit A B k h b x cs z d
-  demand-3 cs z d =
+  pub demand_3 : (cs : List Call) (z : Lent) (d : First s x.counters.epoch.0 (framesOfA s limit A h b x) x cs z) → Claim s limit A B k h b x cs z d
+  demand_3 cs z d =
       let m = modelled s (room_all x.row x.holds) d start.allowed refl st refl in
-      let c = theorem.demand-3 L limit A B k h b st model-start cs m.list in
+      let c = theorem.demand_3 L limit A B k h b st model_start cs m.list in
       record {
         all_taken = m.taken c.all_taken;
         is_A_or_B = ap (λ (t : Standby). session_at t.places b.place) (sym m.ran) ∙ c.is_A_or_B ∙ ap (λ (t : Bool). some (cond t A B)) m.took;
@@ -74,26 +74,26 @@ module _ (s : Settings) (limit : ℕ) (A B : Session) (k : OwnKey) (h : ℕ) (b 
 
   -- the frames of A as `send_whole` gives them, over the active's store (shape, w, a): once each in order
   module _ (shape : Shape) (w a : List ℕ) (fs : List (List ℕ)) (t : Sending) (sent : SentWhole limit shape w a A h x.counters.epoch.0 b.number fs t) where
-    pub are-A's : Sofar (framesOfA s limit A h b x) fs
-    are-A's = sent.so
+    pub are_A's : Sofar (framesOfA s limit A h b x) fs
+    are_A's = sent.so
 
-    map-map : (gs : List Frame) → map on_frame_held (map encode gs) ≡ theorem.handed L x.counters.epoch.0 gs
-    map-map [] = refl
-    map-map (g ∷ gs) = ap (λ (cs : List Call). on_frame_held (encode g) ∷ cs) (map-map gs)
+    map_map : (gs : List Frame) → map on_frame_held (map encode gs) ≡ theorem.handed L x.counters.epoch.0 gs
+    map_map [] = refl
+    map_map (g ∷ gs) = ap (λ (cs : List Call). on_frame_held (encode g) ∷ cs) (map_map gs)
 
     reaches : {z : Lent} → Runs s x (map on_frame_held fs) z → (gs : List Frame) → fs ≡ map encode gs → run L st (theorem.handed L x.counters.epoch.0 gs) ≡ stands_for s z
     reaches r gs e =
-        ap (run L st) (sym (ap (map on_frame_held) e ∙ map-map gs)) ∙ runs s (room_all x.row x.holds) r start.allowed refl st refl
+        ap (run L st) (sym (ap (map on_frame_held) e ∙ map_map gs)) ∙ runs s (room_all x.row x.holds) r start.allowed refl st refl
 
     -- a sending cut short leaves B
     pub cut_short : {z : Lent} (g : Frame) (left : List Frame) → sent.so.left ≡ g ∷ left → Runs s x (map on_frame_held fs) z → session_at (places_of s.shape z.words z.bytes) b.place ≡ some B
     cut_short g left e r =
         ap (λ (u : Standby). session_at u.places b.place) (sym (reaches r sent.so.sent sent.so.bytes))
-        ∙ theorem.cut_short L limit A B k h b st model-start sent.so.sent g left (sym (sent.so.all ∙ ap (λ (l : List Frame). sent.so.sent ++ l) e))
+        ∙ theorem.cut_short L limit A B k h b st model_start sent.so.sent g left (sym (sent.so.all ∙ ap (λ (l : List Frame). sent.so.sent ++ l) e))
 
     -- all that a sending gives until it says done, handed in, makes the session A
-    pub sent-whole : {z : Lent} {out out' : List ℕ} (f : Frame) (gs : List Frame) → f ∷ gs ≡ framesOfA s limit A h b x → SendsWhole limit shape w a t out out' Sent.Done → Runs s x (map on_frame_held fs) z
+    pub sent_whole : {z : Lent} {out out' : List ℕ} (f : Frame) (gs : List Frame) → f ∷ gs ≡ framesOfA s limit A h b x → SendsWhole limit shape w a t out out' Sent.Done → Runs s x (map on_frame_held fs) z
         → session_at (places_of s.shape z.words z.bytes) b.place ≡ some A
-    sent-whole {out = out} {out' = out'} f gs e said r =
+    sent_whole {out = out} {out' = out'} f gs e said r =
         ap (λ (u : Standby). session_at u.places b.place) (sym (reaches r (f ∷ gs) (sent.then_all out out' said ∙ ap (map encode) (sym e))))
-        ∙ theorem.sent-whole L limit A B k h b st model-start f gs e
+        ∙ theorem.sent_whole L limit A B k h b st model_start f gs e

@@ -7,10 +7,10 @@ use native.Mathlib.Omega.{arith}
 use lib.ListN.{replicate}
 use Rattle.model_text.specs.Printable.{is_printable_byte, is_printable, is_marks}
 use Rattle.model_session.specs.Session.{new_session, Holdable}
-use Rattle.model_session.specs.Whole.{wholeBatches}
+use Rattle.model_session.specs.Whole.{whole_batches}
 use Rattle.standby_row.specs.declared.Bound.{Bound as BoundRecord}
 use Rattle.store_areas.specs.Areas.{allowed, place_at, places_of, Rules}
-use Rattle.store_areas.proofs.Ruling.{rules-true}
+use Rattle.store_areas.proofs.Ruling.{rules_true}
 use Rattle.store_areas.proofs.Lifting.{place_is, session_is}
 use Rattle.standby_changes.proofs.Held.{held_none}
 use Rattle.model_standby.specs.Answer.{protocol_version}
@@ -61,9 +61,9 @@ new_held = record {
 }
 
 pub a_start : Start s₀ 1048576 new_session p₀.stored.session (record { key = p₀.key; earlier = 0 }) 9 b₀ x₀
-unfolding wholeBatches
+unfolding whole_batches
 a_start = record {
-  allowed = ap (λ (t : Bool). t && true) (rules-true s₀.shape x₀.words x₀.bytes rules₀);
+  allowed = ap (λ (t : Bool). t && true) (rules_true s₀.shape x₀.words x₀.bytes rules₀);
   A_held = new_held;
   unpromoted = refl;
   bound_so = refl;

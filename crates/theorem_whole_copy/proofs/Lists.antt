@@ -16,10 +16,10 @@ use Rattle.model_frame.specs.Parse.{read_bytes, read_num, read_count, many, run_
 use Rattle.model_frame.specs.Reading.{read_changes, read_app_records, read_part, batch_fields, read_fields, read_body, decode}
 use Rattle.model_frame.specs.Writing.{body_bytes, encode}
 use Rattle.model_session.specs.Session.{Session, Holdable}
-use Rattle.model_session.specs.Whole.{wholeBatches, whole_frames}
+use Rattle.model_session.specs.Whole.{whole_batches, whole_frames}
 use Rattle.standby_row.specs.declared.Bound.{Bound as BoundRecord}
 use Rattle.store_areas.specs.Areas.{place_at, places_of, Rules}
-use Rattle.store_areas.proofs.Ruling.{rules-true}
+use Rattle.store_areas.proofs.Ruling.{rules_true}
 use Rattle.store_areas.proofs.Lifting.{place_is, session_is}
 use Rattle.standby_changes.proofs.Held.{held_none}
 use Rattle.model_standby.specs.Answer.{protocol_version, given, refused, accepted}
@@ -28,7 +28,7 @@ use Rattle.model_standby.specs.Store.{Place, session_at}
 use Rattle.model_standby.specs.State.{Bound, Call, Result, on_frame_held, on_frame, flush, disconnected_from}
 use Rattle.model_standby.specs.Demand.{Aside, by_held, by_frame, is_lower, refused_outside}
 use Rattle.model_standby.proofs.Places.{own_made}
-use Rattle.model_standby.proofs.Sanity.{damaged-frame}
+use Rattle.model_standby.proofs.Sanity.{damaged_frame}
 use Rattle.standby_part.specs.State.{bound_of}
 use Rattle.standby_state.specs.declared.Settings.{Settings}
 use Rattle.standby_state.specs.declared.Answer.{Answer}
@@ -36,7 +36,7 @@ use Rattle.standby_state.specs.Answers.{answer_of}
 use Rattle.standby_step.specs.Calls.{room_all}
 use Rattle.theorem_whole_copy.specs.Demand.{Lent, stands_for, settings, Calls, Runs, no_calls, call, First, ends, ours, aside, flushes, drops, Start, framesOfA}
 use Rattle.theorem_whole_copy.proofs.Model.{one}
-use Rattle.theorem_whole_copy.proofs.Demand3.{demand-3}
+use Rattle.theorem_whole_copy.proofs.Demand3.{demand_3}
 
 -- ---- A, and the areas
 
@@ -88,10 +88,10 @@ rules₁ = record { room = record { bytes_limit = omega arith; messages_limit = 
 
 -- batches are cut where they have more than no message byte
 start₁ : Start s₁ 0 A₁ B₁ (record { key = place₁.key; earlier = 0 }) 9 b₁ x₁
-unfolding wholeBatches
+unfolding whole_batches
 start₁ =
     record {
-      allowed = ap (λ (t : Bool). t && true) (rules-true s₁.shape x₁.words x₁.bytes rules₁);
+      allowed = ap (λ (t : Bool). t && true) (rules_true s₁.shape x₁.words x₁.bytes rules₁);
       A_held = A₁_held;
       unpromoted = refl;
       bound_so = refl;
@@ -115,7 +115,7 @@ abbrev f₂ : Frame
 f₂ = batch 9 5 9 last_whole (record_msg 2 [] ∷ set_incoming 4 ∷ set_marks [] ∷ []) []
 
 are_frames : framesOfA s₁ 0 A₁ 9 b₁ x₁ ≡ f₁ ∷ f₂ ∷ []
-unfolding whole_frames wholeBatches
+unfolding whole_frames whole_batches
 are_frames = refl
 
 -- ---- the lists
@@ -139,7 +139,7 @@ said_26 : {y : Lent} {a : Answer} → Calls s₁ (on_frame no_frame) x₁ y a �
 unfolding given decode
 said_26 {y} {a} p =
     let o = one s₁ (room_all x₁.row x₁.holds) start₁.allowed refl p (stands_for s₁ x₁) refl in
-    let is : answer_of y.bytes a ≡ refused 26 = o.answer ∙ ap (λ (r : Result). r.answer) (damaged-frame (settings s₁ x₁) (stands_for s₁ x₁) no_frame 26 refl) in
+    let is : answer_of y.bytes a ≡ refused 26 = o.answer ∙ ap (λ (r : Result). r.answer) (damaged_frame (settings s₁ x₁) (stands_for s₁ x₁) no_frame 26 refl) in
     subst (Aside 5 no_frame) (sym is) (refused_outside {n = 26} tt)
 
 is_stale : (n : answer.Answer) → Aside 5 (encode stale) n
@@ -156,15 +156,15 @@ abbrev Ends : Lent → Session → Type 0
 Ends z a = session_at (places_of s₁.shape z.words z.bytes) 0 ≡ some a
 
 pub ends_in_A : {z : Lent} → Runs s₁ x₁ calls₁ z → Ends z A₁
-unfolding whole_frames wholeBatches
+unfolding whole_frames whole_batches
 ends_in_A {z} (call p₁ (call p₂ (call p₃ (call p₄ (call {y = y₅} {a = a₅} p₅ (call p₆ no_calls)))))) =
     let d : First s₁ 5 (framesOfA s₁ 0 A₁ 9 b₁ x₁) x₁ calls₁ z =
     aside by_frame p₁ (said_26 p₁) (ours by_held p₂ (flushes 1 p₃ (aside by_frame p₄ (is_stale _) (ours by_frame p₅ (drops 1 p₆ ends))))) in
-    let c = demand-3 s₁ 0 A₁ B₁ (record { key = place₁.key; earlier = 0 }) 9 b₁ x₁ start₁ calls₁ z d in
+    let c = demand_3 s₁ 0 A₁ B₁ (record { key = place₁.key; earlier = 0 }) 9 b₁ x₁ start₁ calls₁ z d in
     c.is_A_or_B ∙ last_taken (accepted (answer_of y₅.bytes a₅)) c.all_taken.1.0
 
 pub ends_in_B : {z : Lent} → Runs s₁ x₁ calls₂ z → Ends z B₁
-unfolding whole_frames wholeBatches
+unfolding whole_frames whole_batches
 ends_in_B {z} (call p₁ (call p₂ (call p₃ no_calls))) =
     let d : First s₁ 5 (framesOfA s₁ 0 A₁ 9 b₁ x₁) x₁ calls₂ z = ours by_held p₁ (drops 1 p₂ (aside by_frame p₃ (is_stale _) ends)) in
-    (demand-3 s₁ 0 A₁ B₁ (record { key = place₁.key; earlier = 0 }) 9 b₁ x₁ start₁ calls₂ z d).is_A_or_B
+    (demand_3 s₁ 0 A₁ B₁ (record { key = place₁.key; earlier = 0 }) 9 b₁ x₁ start₁ calls₂ z d).is_A_or_B

@@ -52,7 +52,7 @@ module _ (s : Settings) (room : ℕ) where
   module _ {e : ℕ} where
     pub record Modelled {left : List Frame} {x z : Lent} {cs : List Call} (d : First s e left x cs z) (st : Standby) : Type 0 where
       pub list : FirstList L e left st cs
-      pub took : model.modelTookLast list ≡ tookLast s d
+      pub took : model.model_took_last list ≡ tookLast s d
       pub taken : model.ModelAllTaken list → AllTaken s d
       pub ran : run L st cs ≡ stands_for s z
       pub allowed : Allowed s z

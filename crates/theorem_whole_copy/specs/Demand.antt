@@ -9,7 +9,7 @@ use Rattle.model_frame.specs.Frame.{Frame}
 use Rattle.model_frame.specs.Parse.{is_empty}
 use Rattle.model_frame.specs.Writing.{encode}
 use Rattle.model_session.specs.Session.{Session, Holdable, top}
-use Rattle.model_session.specs.Whole.{wholeBatches, whole_frames, hold_length}
+use Rattle.model_session.specs.Whole.{whole_batches, whole_frames, hold_length}
 use Rattle.standby_row.specs.declared.Bound.{Bound as BoundRecord}
 use Rattle.store_areas.specs.Areas.{places_of}
 use Rattle.model_standby.specs.Answer.{accepted}
@@ -17,7 +17,7 @@ use Rattle.model_standby.specs.Row.{find}
 use Rattle.model_standby.specs.Store.{session_at}
 use Rattle.model_standby.specs.State.{Bound, Standby, Call, flush, disconnected_from}
 use Rattle.model_standby.specs.State as state
-use Rattle.model_standby.specs.PlainCopy.{OwnKey, own_key, copy_at, copyRun}
+use Rattle.model_standby.specs.PlainCopy.{OwnKey, own_key, copy_at, copy_run_lem}
 use Rattle.model_standby.specs.Demand.{Hands, Aside, no_promotions}
 use Rattle.standby_counters.specs.declared.Replica.{Replica}
 use Rattle.standby_state.specs.declared.Settings.{Settings}
@@ -94,7 +94,7 @@ module _ (s : Settings) where
     pub area : hold_length s.shape.bytes s.shape.messages ≤ room_all x.row x.holds
     pub handle_u32 : h < 2 ^ 32
     pub epoch_u64 : x.counters.epoch.0 ≤ top
-    pub sendable : b.number + length (wholeBatches limit A) ≤ top
+    pub sendable : b.number + length (whole_batches limit A) ≤ top
 
   -- A's frames: those that send A whole at the standby's epoch, numbered on from the handle's last
   abbrev pub framesOfA : ℕ → Session → ℕ → Bound → Lent → List Frame
@@ -110,6 +110,6 @@ module _ (s : Settings) where
     pub still_allowed : Allowed z
     -- "after every further list the session is exactly that of the plain copy, fed both lists"
     pub is_the_copy : (more : List Call) (y : Lent) → T (no_promotions more) → Runs z more y
-        → session_at (places_of s.shape y.words y.bytes) b.place ≡ some (copyRun (settings x) k (copy_at B (stands_for x)) (stands_for x) (cs ++ more)).session
+        → session_at (places_of s.shape y.words y.bytes) b.place ≡ some (copy_run_lem (settings x) k (copy_at B (stands_for x)) (stands_for x) (cs ++ more)).session
     -- which after the first list was A or B likewise
-    pub copy_is_A_or_B : (copyRun (settings x) k (copy_at B (stands_for x)) (stands_for x) cs).session ≡ cond (tookLast d) A B
+    pub copy_is_A_or_B : (copy_run_lem (settings x) k (copy_at B (stands_for x)) (stands_for x) cs).session ≡ cond (tookLast d) A B

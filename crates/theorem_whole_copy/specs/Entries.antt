@@ -16,7 +16,7 @@ use Rattle.replica.specs.contracts.disconnected_from as disconnected-from
 use Rattle.model_session.specs.Whole.{batch_limit}
 use Rattle.active.specs.Whole.{Begins, SendsWhole}
 use Rattle.active.specs.contracts.Sending.begin as begin-call
-use Rattle.active.specs.contracts.Sending.send_whole as send-whole
+use Rattle.active.specs.contracts.Sending.send_whole as send_whole
 use Rattle.theorem_whole_copy.specs.Demand.{Lent, Calls}
 
 -- whoever has P knows the plain fact φ; and P is had for nothing
@@ -72,9 +72,9 @@ pub record Joined (m : World) : Type 2 where
       (κs : Lfts (begin-call.signature).lifetimes) (a : ArgsD begin-call.signature κs) →
       AsksNothing m ((begin-call.clauses m.𝓛 m.𝓜.mem m.𝓡.run κs a).requires tt)
   pub send_whole_gives :
-      (κs : Lfts (send-whole.signature).lifetimes) (a : ArgsD send-whole.signature κs) (r : ResD send-whole.signature κs) (e : AtExit send-whole.ended κs) →
-      Gives m ((send-whole.clauses m.𝓛 m.𝓜.mem m.𝓡.run κs a).ensures tt r e)
+      (κs : Lfts (send_whole.signature).lifetimes) (a : ArgsD send_whole.signature κs) (r : ResD send_whole.signature κs) (e : AtExit send_whole.ended κs) →
+      Gives m ((send_whole.clauses m.𝓛 m.𝓜.mem m.𝓡.run κs a).ensures tt r e)
       (SendsWhole batch_limit a.1.0 a.1.1.0.now a.1.1.1.0.now a.0 a.1.1.1.1.0.now e.1.1.1.1.0.now r)
   pub send_whole_asks_nothing :
-      (κs : Lfts (send-whole.signature).lifetimes) (a : ArgsD send-whole.signature κs) →
-      AsksNothing m ((send-whole.clauses m.𝓛 m.𝓜.mem m.𝓡.run κs a).requires tt)
+      (κs : Lfts (send_whole.signature).lifetimes) (a : ArgsD send_whole.signature κs) →
+      AsksNothing m ((send_whole.clauses m.𝓛 m.𝓜.mem m.𝓡.run κs a).requires tt)

@@ -1,8 +1,8 @@
 use mathlib.Core.Path.{ap, ◌∙◌}
 use lib.ListN.{length}
 use Rattle.model_session.specs.Session.{Session}
-use Rattle.model_session.specs.Whole.{wholeBatches}
-use Rattle.active.proofs.Storing.{lent-session}
+use Rattle.model_session.specs.Whole.{whole_batches}
+use Rattle.active.proofs.Storing.{lent_session}
 use borrow.Author.Rules.{rules}
 use Rattle.active.proofs.batches_at.Statement.{statement}
 use Rattle.active.proofs.batches_at.Tie as tie
@@ -12,7 +12,7 @@ returns c =
     let s = c.before.before.before.before.before.before.before in
     let a = s.args in
     let p = c.before.before.before.before.spot_in in
-    (c.batches.ensures.0 a.shape.bytes p.ensures.bytes_part ∙ ap (λ (x : Session). length (wholeBatches a.limit x)) (lent-session a.shape a.words.now a.bytes.now a.place p.result.words_start p.result.words_end p.result.bytes_start p.result.bytes_end p.ensures s.requires.0 s.requires.1), c.batches.ensures.1)
+    (c.batches.ensures.0 a.shape.bytes p.ensures.bytes_part ∙ ap (λ (x : Session). length (whole_batches a.limit x)) (lent_session a.shape a.words.now a.bytes.now a.place p.result.words_start p.result.words_end p.result.bytes_start p.result.bytes_end p.ensures s.requires.0 s.requires.1), c.batches.ensures.1)
 
 pub batches_at_spec : {M : Type 1} → statement M
 batches_at_spec =

@@ -1,6 +1,6 @@
 use native.Mathlib.Omega.{arith}
 use lib.ListN.{length}
-use Rattle.active_batch.specs.Batch.{part_is, plannedChanges}
+use Rattle.active_batch.specs.Batch.{part_is, planned_changes}
 use Rattle.active_header.proofs.Ends.{run_past}
 use Rattle.active_batch.proofs.Framing.{wrote_frame}
 use borrow.Author.Rules.{rules}
@@ -29,7 +29,7 @@ put-u32-requires-2 c κs =
     let p = s.requires in
     let q = p.1.1.1.1.1.1 in
     let b = a.bytes.now in
-    omega (arith, q.1, (q.0.spans a.stamp.now a.marks.now p.1.1.0 p.1.1.1.1.0).sums, hd.put-head.ensures.1, u.put-u32.ensures.1, run_past (plannedChanges a.batch.limit (length b) a.batch.max a.header a.words.now b a.stamp.now a.marks.now a.batch.from a.plan) c.before.before.before.put-changes.ensures)
+    omega (arith, q.1, (q.0.spans a.stamp.now a.marks.now p.1.1.0 p.1.1.1.1.0).sums, hd.put-head.ensures.1, u.put-u32.ensures.1, run_past (planned_changes a.batch.limit (length b) a.batch.max a.header a.words.now b a.stamp.now a.marks.now a.batch.from a.plan) c.before.before.before.put-changes.ensures)
 
 returns : tie.Need-returns
 returns c =
@@ -40,7 +40,7 @@ returns c =
     let p = s.requires in
     let q = p.1.1.1.1.1.1 in
     let b = a.bytes.now in
-    wrote_frame _ _ _ _ (part_is a.plan.last) (plannedChanges a.batch.limit (length b) a.batch.max a.header a.words.now b a.stamp.now a.marks.now a.batch.from a.plan) (q.0.spans _ _ p.1.1.0 p.1.1.1.1.0) u.put-u32.ensures.0 (rw hd.before.before.part_of.ensures at hd.put-head.ensures.0) c.before.before.before.before.before.before.put-changes.ensures c.before.before.put-u322.ensures.0
+    wrote_frame _ _ _ _ (part_is a.plan.last) (planned_changes a.batch.limit (length b) a.batch.max a.header a.words.now b a.stamp.now a.marks.now a.batch.from a.plan) (q.0.spans _ _ p.1.1.0 p.1.1.1.1.0) u.put-u32.ensures.0 (rw hd.before.before.part_of.ensures at hd.put-head.ensures.0) c.before.before.before.before.before.before.put-changes.ensures c.before.before.put-u322.ensures.0
 
 pub put_frame_spec : {M : Type 1} → statement M
 put_frame_spec =

@@ -4,7 +4,7 @@ use Prim.Native.Nat.{◌-◌}
 use lib.ListN.{length, length-drop}
 use Rattle.store_place.proofs.Header.{next_pos}
 use Rattle.store_place.proofs.Messages.{tail_is}
-use Rattle.active_batch.proofs.Sending.{stamp-length, marks-length, sent, too_short}
+use Rattle.active_batch.proofs.Sending.{stamp_length, marks_length, sent, too_short}
 use borrow.Author.Rules.{rules}
 use Rattle.active_batch.proofs.send.Statement.{statement}
 use Rattle.active_batch.proofs.send.Tie as tie
@@ -37,7 +37,7 @@ put-frame-requires c κs =
     let b = a.bytes.now in
     let hd = c.before.before.before.before.before.before.before.before.before.before.header_of.result in
     let h = c.before.before.before.before.before.before.before.before.before.before.header_of.ensures in
-    (omega (arith, s.requires, ap length (tail_is 14 w), length-drop 14 w), (omega (arith, s.requires, ap length (tail_is 224 b), length-drop 224 b), (stamp-length a.batch.limit (length b - 224) a.batch.max w b (omega (arith, s.requires)) hd h, (h.stamp_most, (marks-length a.batch.limit (length b - 224) a.batch.max w b (omega (arith, s.requires)) hd h, (h.marks_most, (c.before.before.before.before.before.plan-from.ensures, omega arith)))))))
+    (omega (arith, s.requires, ap length (tail_is 14 w), length-drop 14 w), (omega (arith, s.requires, ap length (tail_is 224 b), length-drop 224 b), (stamp_length a.batch.limit (length b - 224) a.batch.max w b (omega (arith, s.requires)) hd h, (h.stamp_most, (marks_length a.batch.limit (length b - 224) a.batch.max w b (omega (arith, s.requires)) hd h, (h.marks_most, (c.before.before.before.before.before.plan-from.ensures, omega arith)))))))
 
 returns-2 : tie.Need-returns-2
 returns-2 c =

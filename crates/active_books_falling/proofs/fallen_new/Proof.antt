@@ -8,7 +8,7 @@ use mathlib.Core.Logic.{⊎_elim}
 use mathlib.Core.List.{[]}
 use mathlib.Core.Path.{◌≡◌, refl}
 use Prim.Native.Nat.{◌-◌, ◌≤◌}
-use Rattle.active_books_falling.proofs.Falling.{Falls, falls_now, falls-begin, new_in_on, new_not_on, new_fallen}
+use Rattle.active_books_falling.proofs.Falling.{Falls, falls_now, falls_begin, new_in_on, new_not_on, new_fallen}
 use Rattle.active_books_falling.proofs.fallen_new.Tie as tie
 
 abbrev invariant-loop : tie.invariant-loop
@@ -18,7 +18,7 @@ abbrev decreases-loop : tie.decreases-loop
 decreases-loop words listing fresh n fallen₀ c d₀ k₀ fallen d k = n - k
 
 loop-holds : tie.Need-loop-init invariant-loop decreases-loop
-loop-holds c = (falls-begin (falls_now c.before.before.before.before.args.words.now (listed c.before.before.before.before.args.listing.now)) (new_at c.before.before.before.before.args.fresh.now) (list_from (word_at c.before.before.before.before.args.fallen.now 0) 0 c.before.before.before.before.args.c) c.before.before.before.before.args.c c.before.before.before.before.args.fallen.now refl, (omega arith, refl))
+loop-holds c = (falls_begin (falls_now c.before.before.before.before.args.words.now (listed c.before.before.before.before.args.listing.now)) (new_at c.before.before.before.before.args.fresh.now) (list_from (word_at c.before.before.before.before.args.fallen.now 0) 0 c.before.before.before.before.args.c) c.before.before.before.before.args.c c.before.before.before.before.args.fallen.now refl, (omega arith, refl))
 
 mul_s : tie.Need-overflow-mul-s invariant-loop decreases-loop
 mul_s c = omega arith

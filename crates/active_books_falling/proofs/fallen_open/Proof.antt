@@ -7,7 +7,7 @@ use mathlib.Core.Logic.{⊎_elim}
 use mathlib.Core.List.{[]}
 use mathlib.Core.Path.{◌≡◌, refl}
 use Prim.Native.Nat.{◌-◌, ◌≤◌}
-use Rattle.active_books_falling.proofs.Falling.{Falls, falls_now, falls-begin, falls-in-on, falls-not-on, fallen_of}
+use Rattle.active_books_falling.proofs.Falling.{Falls, falls_now, falls_begin, falls_in_on, falls_not_on, fallen_of}
 use Rattle.active_books_falling.proofs.fallen_open.Tie as tie
 
 abbrev invariant-loop : tie.invariant-loop
@@ -20,7 +20,7 @@ shared_slice_read_n : tie.Need-shared-slice-read-n invariant-loop decreases-loop
 shared_slice_read_n c = omega arith
 
 loop-holds : tie.Need-loop-init invariant-loop decreases-loop
-loop-holds c = (falls-begin (falls_now c.before.before.before.args.words.now (open_only c.before.before.before.args.incarnation)) (entry_at c.before.before.before.args.words.now) [] 0 c.before.before.before.args.fallen.now refl, (omega arith, refl))
+loop-holds c = (falls_begin (falls_now c.before.before.before.args.words.now (open_only c.before.before.before.args.incarnation)) (entry_at c.before.before.before.args.words.now) [] 0 c.before.before.before.args.fallen.now refl, (omega arith, refl))
 
 falls-open-requires : tie.Need-falls-open-requires invariant-loop decreases-loop
 falls-open-requires c κs = (c.before.before.before.before.before.requires.0, omega arith)
@@ -52,8 +52,8 @@ loop-less c = omega arith
 loop-again : tie.Need-loop-preserved invariant-loop decreases-loop
 loop-again c =
     let r = ⊎_elim
-    (λ a. falls-in-on (falls_now c.before.before.before.before.before.before.before.args.words.now (open_only c.before.before.before.before.before.before.before.args.incarnation)) (entry_at c.before.before.before.before.before.before.before.args.words.now) [] 0 c.before.before.before.loop.fallen c.before.before.before.loop.k c.before.before.before.loop.c c.before.before.before.loop.invariant.0 (omega (arith, c.before.before.before.loop.invariant.0.few, c.before.before.before.loop.invariant.1.1)) c.before.falls-open.ensures a.0.taken c.before.before.before.before.before.before.before.args.fallen.now c.if1.fallen c.if1.c c.before.before.before.loop.invariant.1.1 a.2 a.3)
-    (λ a. falls-not-on (falls_now c.before.before.before.before.before.before.before.args.words.now (open_only c.before.before.before.before.before.before.before.args.incarnation)) (entry_at c.before.before.before.before.before.before.before.args.words.now) [] 0 c.before.before.before.loop.fallen c.before.before.before.loop.k c.before.before.before.loop.c c.before.before.before.loop.invariant.0 c.before.falls-open.ensures a.0.left c.before.before.before.before.before.before.before.args.fallen.now c.if1.fallen c.if1.c c.before.before.before.loop.invariant.1.1 a.1 a.2)
+    (λ a. falls_in_on (falls_now c.before.before.before.before.before.before.before.args.words.now (open_only c.before.before.before.before.before.before.before.args.incarnation)) (entry_at c.before.before.before.before.before.before.before.args.words.now) [] 0 c.before.before.before.loop.fallen c.before.before.before.loop.k c.before.before.before.loop.c c.before.before.before.loop.invariant.0 (omega (arith, c.before.before.before.loop.invariant.0.few, c.before.before.before.loop.invariant.1.1)) c.before.falls-open.ensures a.0.taken c.before.before.before.before.before.before.before.args.fallen.now c.if1.fallen c.if1.c c.before.before.before.loop.invariant.1.1 a.2 a.3)
+    (λ a. falls_not_on (falls_now c.before.before.before.before.before.before.before.args.words.now (open_only c.before.before.before.before.before.before.before.args.incarnation)) (entry_at c.before.before.before.before.before.before.before.args.words.now) [] 0 c.before.before.before.loop.fallen c.before.before.before.loop.k c.before.before.before.loop.c c.before.before.before.loop.invariant.0 c.before.falls-open.ensures a.0.left c.before.before.before.before.before.before.before.args.fallen.now c.if1.fallen c.if1.c c.before.before.before.loop.invariant.1.1 a.1 a.2)
     c.if1.branch in
     (r.0, (omega arith, r.1))
 

@@ -1,7 +1,7 @@
 use Prim.Native.Nat.{◌-◌}
 use native.Mathlib.Omega.{arith}
 use lib.ListN.{length, length-set}
-use Rattle.base_hex.proofs.Laws.{Writing, writing, writes-on, writes-all}
+use Rattle.base_hex.proofs.Laws.{Writing, writing, writes_on, writes_all}
 use Rattle.base_hex.proofs.put_hex.Statement.{statement}
 use Rattle.base_hex.proofs.put_hex.Tie as tie
 
@@ -48,7 +48,7 @@ loop-again : tie.Need-loop-i-preserved invariant-loop-i decreases-loop-i
 loop-again c =
     let a = c.args in
     let l = c.loop-i in
-    writes-on a.src.now a.out.now l.out l.i l.invariant (omega arith) (omega arith) c.digit_of.ensures c.digit_of-in-loop-i.ensures
+    writes_on a.src.now a.out.now l.out l.i l.invariant (omega arith) (omega arith) c.digit_of.ensures c.digit_of-in-loop-i.ensures
 
 same_length : tie.Need-shape_of-out invariant-loop-i decreases-loop-i
 same_length c = c.loop-i.invariant.same
@@ -57,7 +57,7 @@ returns : tie.Need-returns invariant-loop-i decreases-loop-i
 returns c =
     let a = c.args in
     let l = c.loop-i in
-    writes-all a.src.now a.out.now l.out l.i l.invariant (omega arith) (omega arith)
+    writes_all a.src.now a.out.now l.out l.i l.invariant (omega arith) (omega arith)
 
 pub put_hex_spec : {M : Type 1} → statement M
 put_hex_spec =

@@ -2,7 +2,7 @@ use Prim.Native.Nat.{◌-◌}
 use native.Mathlib.Omega.{arith}
 use borrow.Author.Tests.{not-true, not-false}
 use lib.ListN.{length}
-use Rattle.base_hex.proofs.Laws.{Reading, reading, both, reads-bad, reads_on, reads-odd, reads_all}
+use Rattle.base_hex.proofs.Laws.{Reading, reading, both, reads_bad, reads_on, reads_odd, reads_all}
 use Rattle.base_hex.proofs.read_digits.Statement.{statement}
 use Rattle.base_hex.proofs.read_digits.Tie as tie
 
@@ -43,7 +43,7 @@ returns : tie.Need-returns-then-not-a-b invariant-loop-i decreases-loop-i
 returns c =
     let a = c.args in
     let l = c.loop-i in
-    reads-bad (length a.out.now) a.line.now l.out l.i l.invariant (omega arith) (omega arith) c.digit_value-a.ensures c.digit_value-b.ensures c.if-not-a-b.true
+    reads_bad (length a.out.now) a.line.now l.out l.i l.invariant (omega arith) (omega arith) c.digit_value-a.ensures c.digit_value-b.ensures c.if-not-a-b.true
 
 mul_out : tie.Need-overflow_mul-out invariant-loop-i decreases-loop-i
 mul_out c = omega (arith, both c.digit_value-a.result c.digit_value-b.result c.if-not-a-b.false)
@@ -76,7 +76,7 @@ returns-2 : tie.Need-returns-then-n-line invariant-loop-i decreases-loop-i
 returns-2 c =
     let a = c.args in
     let l = c.loop-i in
-    reads-odd (length a.out.now) a.line.now l.out l.i l.invariant (omega arith) (omega arith) (omega arith)
+    reads_odd (length a.out.now) a.line.now l.out l.i l.invariant (omega arith) (omega arith) (omega arith)
 
 same_length_3 : tie.Need-shape_of-out invariant-loop-i decreases-loop-i
 same_length_3 c = c.loop-i.invariant.same

@@ -1,5 +1,5 @@
 use native.Mathlib.Omega.{arith}
-use Rattle.base_lines.proofs.Laws.{bounds, feeds-line, feeds-part}
+use Rattle.base_lines.proofs.Laws.{bounds, feeds_line, feeds_part}
 use borrow.Author.Rules.{rules}
 use Rattle.base_lines.proofs.feed.Statement.{statement}
 use Rattle.base_lines.proofs.feed.Tie as tie
@@ -13,12 +13,12 @@ copy-requires c κs =
 returns : tie.Need-returns-then-to-piece
 returns c =
     let a = c.args in
-    feeds-line a.line.now a.len a.piece.now a.from c.next_feed-to.result c.least-n.result (omega arith) (omega arith) c.next_feed-to.ensures c.least-n.ensures c.copy.new.dst c.copy.ensures (omega arith)
+    feeds_line a.line.now a.len a.piece.now a.from c.next_feed-to.result c.least-n.result (omega arith) (omega arith) c.next_feed-to.ensures c.least-n.ensures c.copy.new.dst c.copy.ensures (omega arith)
 
 returns-2 : tie.Need-returns
 returns-2 c =
     let a = c.args in
-    feeds-part a.line.now a.len a.piece.now a.from c.next_feed-to.result c.least-n.result (omega arith) (omega arith) c.next_feed-to.ensures c.least-n.ensures c.copy.new.dst c.copy.ensures (omega arith)
+    feeds_part a.line.now a.len a.piece.now a.from c.next_feed-to.result c.least-n.result (omega arith) (omega arith) c.next_feed-to.ensures c.least-n.ensures c.copy.new.dst c.copy.ensures (omega arith)
 
 pub feed_spec : {M : Type 1} → statement M
 feed_spec =

@@ -1,7 +1,7 @@
 use borrow.Author.Rules.{rules}
 use borrow.Author.Tests.{not-true, not-false}
 use native.Mathlib.Omega.{arith}
-use Rattle.c_store.proofs.Laws.{used, unfit, cannot, made-words, next_is, below_next, past_top, a_number}
+use Rattle.c_store.proofs.Laws.{used, unfit, cannot, made_words, next_is, below_next, past_top, a_number}
 use Rattle.c_changes.proofs.store_record_none.Statement.{statement}
 use Rattle.c_changes.proofs.store_record_none.Tie as tie
 
@@ -21,7 +21,7 @@ record-none-requires : tie.Need-record-none-requires
 record-none-requires c κs = omega (arith, c.before.before.before.next-outgoing.ensures, c.before.before.before.before.before.before.before.spot_in.ensures, c.before.before.if2.false, c.before.if3.false)
 
 returns-4 : tie.Need-returns-4
-returns-4 c = made-words c.before.before.before.before.before.before.before.before.before.before.before.before.before.in_use.ensures (not-false _ c.before.before.before.before.before.before.before.before.before.before.before.before.if1.false) c.before.before.before.before.before.before.before.before.before.before.spot_in.ensures c.before.before.record-none.new.0 (a_number c.before.before.before.before.before.before.before.before.before.before.before.before.before.before.before.before.before.args.seq (next_is c.before.before.before.before.before.before.before.before.before.before.before.before.before.in_use.ensures (not-false _ c.before.before.before.before.before.before.before.before.before.before.before.before.if1.false) c.before.before.before.before.before.before.before.before.before.before.spot_in.ensures c.before.before.before.before.before.before.next-outgoing.ensures) c.before.before.before.before.before.if2.false (omega (arith, c.before.before.before.before.if3.false))) c.before.before.record-none.auto.0 (c.before.before.record-none.ensures c.before.before.before.before.before.before.before.before.before.before.before.before.before.before.before.before.before.args.shape.bytes)
+returns-4 c = made_words c.before.before.before.before.before.before.before.before.before.before.before.before.before.in_use.ensures (not-false _ c.before.before.before.before.before.before.before.before.before.before.before.before.if1.false) c.before.before.before.before.before.before.before.before.before.before.spot_in.ensures c.before.before.record-none.new.0 (a_number c.before.before.before.before.before.before.before.before.before.before.before.before.before.before.before.before.before.args.seq (next_is c.before.before.before.before.before.before.before.before.before.before.before.before.before.in_use.ensures (not-false _ c.before.before.before.before.before.before.before.before.before.before.before.before.if1.false) c.before.before.before.before.before.before.before.before.before.before.spot_in.ensures c.before.before.before.before.before.before.next-outgoing.ensures) c.before.before.before.before.before.if2.false (omega (arith, c.before.before.before.before.if3.false))) c.before.before.record-none.auto.0 (c.before.before.record-none.ensures c.before.before.before.before.before.before.before.before.before.before.before.before.before.before.before.before.before.args.shape.bytes)
 
 pub store_record_none_spec : {M : Type 1} → statement M
 store_record_none_spec =

@@ -2,7 +2,7 @@ use borrow.Author.Rules.{rules}
 use borrow.Author.Tests.{not-true, not-false}
 use native.Mathlib.Omega.{arith}
 use mathlib.Core.Path.{sym, ◌∙◌}
-use Rattle.c_store.proofs.Laws.{used, unfit, cannot, made-both, by_test}
+use Rattle.c_store.proofs.Laws.{used, unfit, cannot, made_both, by_test}
 use Rattle.c_changes.proofs.store_set_marks.Statement.{statement}
 use Rattle.c_changes.proofs.store_set_marks.Tie as tie
 
@@ -19,7 +19,7 @@ set-marks-requires : tie.Need-set-marks-requires
 set-marks-requires c κs = (omega (arith, c.before.before.spot_in.ensures), (omega (arith, c.before.before.spot_in.ensures), sym c.before.before.before.before.before.before.is-marks.ensures ∙ not-false _ c.before.before.before.before.before.if2.false))
 
 returns-3 : tie.Need-returns-3
-returns-3 c = made-both c.before.before.before.before.before.before.before.before.before.before.before.before.before.in_use.ensures (not-false _ c.before.before.before.before.before.before.before.before.before.before.before.before.if1.false) c.before.before.before.before.before.before.before.spot_in.ensures c.before.before.before.before.set-marks.new.0 c.before.before.before.before.set-marks.new.1.0 (by_test 7 c.before.before.before.before.before.before.before.before.before.before.before.is-marks.ensures (not-false _ c.before.before.before.before.before.before.before.before.before.before.if2.false)) c.before.before.before.before.set-marks.auto.0 c.before.before.before.before.set-marks.auto.1.0 (c.before.before.before.before.set-marks.ensures c.before.before.before.before.before.before.before.before.before.before.before.before.before.before.before.before.before.before.before.args.shape.bytes c.before.before.before.before.before.before.before.before.before.before.before.before.before.before.before.before.before.before.before.args.shape.messages)
+returns-3 c = made_both c.before.before.before.before.before.before.before.before.before.before.before.before.before.in_use.ensures (not-false _ c.before.before.before.before.before.before.before.before.before.before.before.before.if1.false) c.before.before.before.before.before.before.before.spot_in.ensures c.before.before.before.before.set-marks.new.0 c.before.before.before.before.set-marks.new.1.0 (by_test 7 c.before.before.before.before.before.before.before.before.before.before.before.is-marks.ensures (not-false _ c.before.before.before.before.before.before.before.before.before.before.if2.false)) c.before.before.before.before.set-marks.auto.0 c.before.before.before.before.set-marks.auto.1.0 (c.before.before.before.before.set-marks.ensures c.before.before.before.before.before.before.before.before.before.before.before.before.before.before.before.before.before.before.before.args.shape.bytes c.before.before.before.before.before.before.before.before.before.before.before.before.before.before.before.before.before.before.before.args.shape.messages)
 
 pub store_set_marks_spec : {M : Type 1} → statement M
 store_set_marks_spec =

@@ -1,5 +1,5 @@
 use borrow.Author.Rules.{rules}
-use Rattle.c_session.proofs.Laws.{cut_short, cut-long}
+use Rattle.c_session.proofs.Laws.{cut_short, cut_long}
 use Rattle.c_session.proofs.span.Statement.{statement}
 use Rattle.c_session.proofs.span.Tie as tie
 
@@ -11,7 +11,7 @@ returns c =
 returns-2 : tie.Need-returns-2
 returns-2 c =
     let a = c.before.args in
-    cut-long a.at a.n a.most c.if1.false
+    cut_long a.at a.n a.most c.if1.false
 
 pub span_spec : {M : Type 1} → statement M
 span_spec = tie.close (tie.spec (λ c. search rules) returns returns-2)

@@ -1,4 +1,4 @@
-use Rattle.fix_field.proofs.Scan.{Seeking, seeks-on, seeks-here, seeks-none}
+use Rattle.fix_field.proofs.Scan.{Seeking, seeks_on, seeks_here, seeks_none}
 use Rattle.std.proofs.Common.{◌-◌, length, refl, arith}
 use Rattle.fix_field.proofs.seek_end.Statement.{statement}
 use Rattle.fix_field.proofs.seek_end.Tie as tie
@@ -16,7 +16,7 @@ shared_slice_read_if1 : tie.Need-shared-slice-read-if1 invariant-loop decreases-
 shared_slice_read_if1 c = omega arith
 
 returns : tie.Need-returns invariant-loop decreases-loop
-returns c = seeks-here c.before.before.before.before.args.file.now c.before.before.before.before.args.from c.before.before.before.loop.i c.before.before.before.loop.invariant (omega arith) c.if1.true
+returns c = seeks_here c.before.before.before.before.args.file.now c.before.before.before.before.args.from c.before.before.before.loop.i c.before.before.before.loop.invariant (omega arith) c.if1.true
 
 add_i : tie.Need-overflow-add-i invariant-loop decreases-loop
 add_i c = omega arith
@@ -25,10 +25,10 @@ loop-less : tie.Need-loop-smaller invariant-loop decreases-loop
 loop-less c = omega arith
 
 loop-again : tie.Need-loop-preserved invariant-loop decreases-loop
-loop-again c = seeks-on c.before.before.before.before.args.file.now c.before.before.before.before.args.from c.before.before.before.loop.i c.before.before.before.loop.invariant (omega arith) c.if1.false
+loop-again c = seeks_on c.before.before.before.before.args.file.now c.before.before.before.before.args.from c.before.before.before.loop.i c.before.before.before.loop.invariant (omega arith) c.if1.false
 
 returns-2 : tie.Need-returns-2 invariant-loop decreases-loop
-returns-2 c = seeks-none c.before.before.args.file.now c.before.before.args.from c.before.loop.i c.before.loop.invariant (omega arith)
+returns-2 c = seeks_none c.before.before.args.file.now c.before.before.args.from c.before.loop.i c.before.loop.invariant (omega arith)
 
 pub seek_end_spec : {M : Type 1} → statement M
 seek_end_spec =

@@ -14,7 +14,7 @@ use Rattle.frame_op.specs.declared.RunLen.{RunLen}
 use Rattle.frame_op.specs.Answers.{run_of, OpsLen}
 use Rattle.frame_fields.specs.Answers.{part_of, RecordsLen}
 use Rattle.frame_writer.proofs.Encoded.{Ready, encoded_unreadable, encoded_long, encoded_full, encoded_took}
-use Rattle.frame_encode.proofs.Ready.{read, ops-unread, records-unread, batch-ready, batch-wrote}
+use Rattle.frame_encode.proofs.Ready.{read, ops_unread, records_unread, batch_ready, batch_wrote}
 use Rattle.frame_encode.proofs.batch.Statement.{statement}
 use Rattle.frame_encode.proofs.batch.Tie as tie
 
@@ -41,17 +41,17 @@ ready_at :
     (30 + x.before.before.before.before.k.given.0.0 + x.m.given.0.0)
 ready_at x =
     let a = x.before.before.before.before.before.before.before.before.before.before.before.before.before.args in
-    batch-ready (version_of x) (src_of x) a.batch.ops a.batch.app_records (known x) (ops_at x).0 (ops_at x).1 (records_at x).0 (records_at x).1 a.batch.handle a.batch.epoch.0 a.batch.commit_no.0 (part_of a.batch.part)
+    batch_ready (version_of x) (src_of x) a.batch.ops a.batch.app_records (known x) (ops_at x).0 (ops_at x).1 (records_at x).0 (records_at x).1 a.batch.handle a.batch.epoch.0 a.batch.commit_no.0 (part_of a.batch.part)
 
 returns : tie.Need-returns
 returns c =
     let a = c.before.before.before.before.before.before.before.before.before.args in
-    encoded_unreadable _ _ _ _ (ops-unread a.protocol.version a.src.now a.batch.ops a.batch.app_records a.batch.handle a.batch.epoch.0 a.batch.commit_no.0 (part_of a.batch.part) (rw c.enum_told.given.1 at c.before.before.ops-len.ensures))
+    encoded_unreadable _ _ _ _ (ops_unread a.protocol.version a.src.now a.batch.ops a.batch.app_records a.batch.handle a.batch.epoch.0 a.batch.commit_no.0 (part_of a.batch.part) (rw c.enum_told.given.1 at c.before.before.ops-len.ensures))
 
 returns-2 : tie.Need-returns-2
 returns-2 c =
     let a = c.before.before.before.before.before.before.before.before.before.before.before.before.before.args in
-    encoded_unreadable _ _ _ _ (records-unread a.protocol.version a.src.now a.batch.ops a.batch.app_records a.batch.handle a.batch.epoch.0 a.batch.commit_no.0 (part_of a.batch.part) (rw c.enum-told2.given.1 at c.before.before.records-len.ensures))
+    encoded_unreadable _ _ _ _ (records_unread a.protocol.version a.src.now a.batch.ops a.batch.app_records a.batch.handle a.batch.epoch.0 a.batch.commit_no.0 (part_of a.batch.part) (rw c.enum-told2.given.1 at c.before.before.records-len.ensures))
 
 returns-3 : tie.Need-returns-3
 returns-3 c =
@@ -84,7 +84,7 @@ returns-7 c =
     let x = c.before.before.before.before.before.before.before.before.before.before.before.before.before.before.before.before.before.before in
     let a = x.before.before.before.before.before.before.before.before.before.before.before.before.before.args in
     encoded_took _ _ _ (ready_at x) (rw c.before.before.before.before.before.before.before.before.before.at.given.1 at c.before.before.before.before.before.before.before.before.before.before.before.before.before.begin.ensures)
-    (batch-wrote (version_of x) (src_of x) a.batch.ops a.batch.app_records (known x) (ops_at x).0 (ops_at x).1 (records_at x).0 (records_at x).1 a.batch.handle a.batch.epoch.0 a.batch.commit_no.0 (part_of a.batch.part) (wrote_on c.before.before.before.before.before.before.put-head.ensures.0 c.before.before.put-runs.ensures))
+    (batch_wrote (version_of x) (src_of x) a.batch.ops a.batch.app_records (known x) (ops_at x).0 (ops_at x).1 (records_at x).0 (records_at x).1 a.batch.handle a.batch.epoch.0 a.batch.commit_no.0 (part_of a.batch.part) (wrote_on c.before.before.before.before.before.before.put-head.ensures.0 c.before.before.put-runs.ensures))
 
 pub batch_spec : {M : Type 1} → statement M
 batch_spec =

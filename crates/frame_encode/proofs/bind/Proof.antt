@@ -1,7 +1,7 @@
 use borrow.Author.Rules.{rules}
 use native.Mathlib.Omega.{arith}
 use mathlib.Core.Path.{refl, sym, ◌∙◌}
-use Rattle.frame_encode.proofs.Ready.{bind_ready, bind-unfit, key_lengths}
+use Rattle.frame_encode.proofs.Ready.{bind_ready, bind_unfit, key_lengths}
 use Rattle.frame_writer.proofs.Encoded.{encoded_unreadable, encoded_long, encoded_full, encoded_took}
 use Rattle.frame_encode.proofs.bind.Statement.{statement}
 use Rattle.frame_encode.proofs.bind.Tie as tie
@@ -31,7 +31,7 @@ returns-3 c =
 returns-4 : tie.Need-returns-4
 returns-4 c =
     let a = c.before.before.before.before.args in
-    λ v. encoded_unreadable v _ _ _ (bind-unfit a.src.now a.session v a.handle a.epoch.0 a.lag (sym c.before.session-fits.ensures ∙ c.if1.false))
+    λ v. encoded_unreadable v _ _ _ (bind_unfit a.src.now a.session v a.handle a.epoch.0 a.lag (sym c.before.session-fits.ensures ∙ c.if1.false))
 
 pub bind_spec : {M : Type 1} → statement M
 bind_spec =

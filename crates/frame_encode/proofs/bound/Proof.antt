@@ -1,7 +1,7 @@
 use borrow.Author.Rules.{rules}
 use native.Mathlib.Omega.{arith}
 use mathlib.Core.Path.{refl, sym, ◌∙◌}
-use Rattle.frame_encode.proofs.Ready.{bound_ready, bound-unfit, summary_lengths}
+use Rattle.frame_encode.proofs.Ready.{bound_ready, bound_unfit, summary_lengths}
 use Rattle.frame_writer.proofs.Encoded.{encoded_unreadable, encoded_long, encoded_full, encoded_took}
 use Rattle.frame_encode.proofs.bound.Statement.{statement}
 use Rattle.frame_encode.proofs.bound.Tie as tie
@@ -31,7 +31,7 @@ returns-3 c =
 returns-4 : tie.Need-returns-4
 returns-4 c =
     let a = c.before.before.before.before.args in
-    encoded_unreadable _ _ _ _ (bound-unfit a.protocol.version a.src.now a.summary a.handle (sym c.before.summary-fits.ensures ∙ c.if1.false))
+    encoded_unreadable _ _ _ _ (bound_unfit a.protocol.version a.src.now a.summary a.handle (sym c.before.summary-fits.ensures ∙ c.if1.false))
 
 pub bound_spec : {M : Type 1} → statement M
 bound_spec =

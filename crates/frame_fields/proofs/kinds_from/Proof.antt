@@ -6,7 +6,7 @@ use lib.Seq.{drop-drop}
 use Rattle.model_frame.specs.Parse.{read_num, read_count}
 use Rattle.model_frame.specs.Reading.{read_kinds}
 use Rattle.frame_reader.specs.Answers.{res32}
-use Rattle.base_laws.proofs.Runs.{numbers_end, count_room, run-items}
+use Rattle.base_laws.proofs.Runs.{numbers_end, count_room, run_items}
 use Rattle.frame_fields.proofs.kinds_from.Statement.{statement}
 use Rattle.frame_fields.proofs.kinds_from.Tie as tie
 
@@ -31,7 +31,7 @@ returns-2 c =
     let at = g.in-Got.d.at in
     let n = g.in-Got.count in
     let b = c.args.buf.now in
-    let run = run-items (read_num 2) n (drop at b) {t = drop (at + n * 2) b} (rw (← drop-drop (n * 2) at b) (sym (numbers_end 2 n (drop at b) (room c)))) in
+    let run = run_items (read_num 2) n (drop at b) {t = drop (at + n * 2) b} (rw (← drop-drop (n * 2) at b) (sym (numbers_end 2 n (drop at b) (room c)))) in
     (rw (← g.count_from.ensures, g.in-Got.is) run, (sym run, refl))
 
 pub kinds_from_spec : {M : Type 1} → statement M

@@ -10,8 +10,8 @@ use Rattle.model_frame.specs.Reading.{read_app_record}
 use Rattle.model_frame.specs.Writing.{app_record_bytes, RangedRecord, ByteRecord}
 use Rattle.model_frame.proofs.Le.{are_bytes}
 use Rattle.model_frame.proofs.Sound.{record_canon}
-use Rattle.base_laws.proofs.Runs.{run-fault}
-use Rattle.base_laws.proofs.StandsAt.{run-stands, run_past, run-forward}
+use Rattle.base_laws.proofs.Runs.{run_fault}
+use Rattle.base_laws.proofs.StandsAt.{run_stands, run_past, run_forward}
 use Rattle.frame_op.specs.Answers.{res_end}
 use Rattle.frame_fields.proofs.records_len.Statement.{statement}
 use Rattle.frame_fields.proofs.records_len.Tie as tie
@@ -38,16 +38,16 @@ ended k = sym (ap (res_end _) k.in-At.is) ∙ k.app_records_end.ensures
 sub_t10 : tie.Need-overflow_sub-result
 sub_t10 c =
     let k = c in
-    let f = run-forward read_app_record app_record_bytes (λ r. RangedRecord r × ByteRecord r) record_canon (count_of k) (buf_of k) (at_of k) (end_of k) (known k) (ended k) c.bytes_left.ensures c.bytes_left-in-At.ensures in
+    let f = run_forward read_app_record app_record_bytes (λ r. RangedRecord r × ByteRecord r) record_canon (count_of k) (buf_of k) (at_of k) (end_of k) (known k) (ended k) c.bytes_left.ensures c.bytes_left-in-At.ensures in
     search rules
 
 returns : tie.Need-returns-in-Bad
-returns c = sym (run-fault _ (sym (ap (res_end _) c.in-Bad.is) ∙ c.app_records_end.ensures))
+returns c = sym (run_fault _ (sym (ap (res_end _) c.in-Bad.is) ∙ c.app_records_end.ensures))
 
 returns-2 : tie.Need-returns-in-At
 returns-2 c =
     let k = c in
-    (run_past read_app_record app_record_bytes (λ r. RangedRecord r × ByteRecord r) record_canon (count_of k) (buf_of k) (at_of k) (end_of k) (known k) (ended k) c.bytes_left.ensures c.bytes_left-in-At.ensures, run-stands read_app_record app_record_bytes (λ r. RangedRecord r × ByteRecord r) record_canon (count_of k) (buf_of k) (at_of k) (end_of k) (known k) (ended k) c.bytes_left.ensures c.bytes_left-in-At.ensures)
+    (run_past read_app_record app_record_bytes (λ r. RangedRecord r × ByteRecord r) record_canon (count_of k) (buf_of k) (at_of k) (end_of k) (known k) (ended k) c.bytes_left.ensures c.bytes_left-in-At.ensures, run_stands read_app_record app_record_bytes (λ r. RangedRecord r × ByteRecord r) record_canon (count_of k) (buf_of k) (at_of k) (end_of k) (known k) (ended k) c.bytes_left.ensures c.bytes_left-in-At.ensures)
 
 pub records_len_spec : {M : Type 1} → statement M
 records_len_spec =

@@ -1,5 +1,5 @@
 use mathlib.Core.Path.{◌∙◌}
-use Rattle.frame_fields.proofs.Keys.{key-told, key-none}
+use Rattle.frame_fields.proofs.Keys.{key_told, key_none}
 use borrow.Author.Rules.{rules}
 use Rattle.model_frame.specs.Reading.{read_key}
 use Rattle.frame_fields.proofs.session_from.Statement.{statement}
@@ -19,7 +19,7 @@ returns c =
     let v = rw c7.in-Got.is at c8.checked_text_from.ensures.1.0 in
     let w = rw c5.in-Got-checked_text_from.is at c6.checked_text_from-in-Got.ensures.1.0 in
     let x = rw c3.in-Got-checked_text_from-2.is at c4.checked_text_from-in-Got-checked_text_from.ensures.1.0 in
-    (rw (← c8.checked_text_from.ensures.0, c7.in-Got.is, ← c6.checked_text_from-in-Got.ensures.0, c5.in-Got-checked_text_from.is, ← c4.checked_text_from-in-Got-checked_text_from.ensures.0, c3.in-Got-checked_text_from-2.is) (c.no_session.ensures.0 _ ∙ key-none _ _ _ v w x c2.if-not-v-w.true c1.text_from.ensures.0), c.no_session.ensures.1 _)
+    (rw (← c8.checked_text_from.ensures.0, c7.in-Got.is, ← c6.checked_text_from-in-Got.ensures.0, c5.in-Got-checked_text_from.is, ← c4.checked_text_from-in-Got-checked_text_from.ensures.0, c3.in-Got-checked_text_from-2.is) (c.no_session.ensures.0 _ ∙ key_none _ _ _ v w x c2.if-not-v-w.true c1.text_from.ensures.0), c.no_session.ensures.1 _)
 
 returns-2 : tie.Need-returns-in-Bad
 unfolding read_key
@@ -78,7 +78,7 @@ returns-6 c =
     let w = rw c6.in-Got-checked_text_from.is at c7.checked_text_from-in-Got.ensures.1.0 in
     let x = rw c4.in-Got-checked_text_from-2.is at c5.checked_text_from-in-Got-checked_text_from.ensures.1.0 in
     let y = rw c1.in-Got-checked_text_from-3.is at c2.checked_text_from-in-Got-checked_text_from-2.ensures.1.0 in
-    (rw (← c9.checked_text_from.ensures.0, c8.in-Got.is, ← c7.checked_text_from-in-Got.ensures.0, c6.in-Got-checked_text_from.is, ← c5.checked_text_from-in-Got-checked_text_from.ensures.0, c4.in-Got-checked_text_from-2.is, ← c2.checked_text_from-in-Got-checked_text_from-2.ensures.0, c1.in-Got-checked_text_from-3.is, key-told _ _ _ v w x _ c3.if-not-v-w.false y c.if-y.true), (rw c8.in-Got.is at c9.checked_text_from.ensures.1.1, rw c6.in-Got-checked_text_from.is at c7.checked_text_from-in-Got.ensures.1.1, rw c4.in-Got-checked_text_from-2.is at c5.checked_text_from-in-Got-checked_text_from.ensures.1.1, rw c1.in-Got-checked_text_from-3.is at c2.checked_text_from-in-Got-checked_text_from-2.ensures.1.1))
+    (rw (← c9.checked_text_from.ensures.0, c8.in-Got.is, ← c7.checked_text_from-in-Got.ensures.0, c6.in-Got-checked_text_from.is, ← c5.checked_text_from-in-Got-checked_text_from.ensures.0, c4.in-Got-checked_text_from-2.is, ← c2.checked_text_from-in-Got-checked_text_from-2.ensures.0, c1.in-Got-checked_text_from-3.is, key_told _ _ _ v w x _ c3.if-not-v-w.false y c.if-y.true), (rw c8.in-Got.is at c9.checked_text_from.ensures.1.1, rw c6.in-Got-checked_text_from.is at c7.checked_text_from-in-Got.ensures.1.1, rw c4.in-Got-checked_text_from-2.is at c5.checked_text_from-in-Got-checked_text_from.ensures.1.1, rw c1.in-Got-checked_text_from-3.is at c2.checked_text_from-in-Got-checked_text_from-2.ensures.1.1))
 
 returns-7 : tie.Need-returns-else-y
 unfolding read_key
@@ -96,7 +96,7 @@ returns-7 c =
     let w = rw c6.in-Got-checked_text_from.is at c7.checked_text_from-in-Got.ensures.1.0 in
     let x = rw c4.in-Got-checked_text_from-2.is at c5.checked_text_from-in-Got-checked_text_from.ensures.1.0 in
     let y = rw c1.in-Got-checked_text_from-3.is at c2.checked_text_from-in-Got-checked_text_from-2.ensures.1.0 in
-    (rw (← c9.checked_text_from.ensures.0, c8.in-Got.is, ← c7.checked_text_from-in-Got.ensures.0, c6.in-Got-checked_text_from.is, ← c5.checked_text_from-in-Got-checked_text_from.ensures.0, c4.in-Got-checked_text_from-2.is, ← c2.checked_text_from-in-Got-checked_text_from-2.ensures.0, c1.in-Got-checked_text_from-3.is, key-told _ _ _ v w x _ c3.if-not-v-w.false y c.if-y.false), tt)
+    (rw (← c9.checked_text_from.ensures.0, c8.in-Got.is, ← c7.checked_text_from-in-Got.ensures.0, c6.in-Got-checked_text_from.is, ← c5.checked_text_from-in-Got-checked_text_from.ensures.0, c4.in-Got-checked_text_from-2.is, ← c2.checked_text_from-in-Got-checked_text_from-2.ensures.0, c1.in-Got-checked_text_from-3.is, key_told _ _ _ v w x _ c3.if-not-v-w.false y c.if-y.false), tt)
 
 pub session_from_spec : {M : Type 1} → statement M
 session_from_spec =

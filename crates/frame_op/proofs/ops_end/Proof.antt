@@ -3,7 +3,7 @@ use mathlib.Core.Path.{◌≡◌, refl, sym, ap, ◌∙◌}
 use lib.ListN.{drop}
 use Rattle.model_frame.specs.Parse.{many, forget}
 use Rattle.model_frame.specs.Reading.{read_change}
-use Rattle.base_laws.proofs.Runs.{run_none, run_more, run-bad}
+use Rattle.base_laws.proofs.Runs.{run_none, run_more, run_bad}
 use Rattle.frame_op.specs.Answers.{res_op}
 use Rattle.frame_op.proofs.ops_end.Statement.{statement}
 use Rattle.frame_op.proofs.ops_end.Tie as tie
@@ -21,7 +21,7 @@ loop-holds c = refl
 returns : tie.Need-returns-in-Bad invariant-loop-n decreases-loop-n
 returns c =
     let k = c in
-    sym (k.loop-n.invariant ∙ run-bad _ _ k.loop-n-test.true (sym k.op_from.ensures ∙ ap (res_op _) c.in-Bad.is))
+    sym (k.loop-n.invariant ∙ run_bad _ _ k.loop-n-test.true (sym k.op_from.ensures ∙ ap (res_op _) c.in-Bad.is))
 
 loop-again : tie.Need-loop-n-preserved invariant-loop-n decreases-loop-n
 loop-again c =

@@ -9,9 +9,9 @@ use Rattle.model_frame.specs.Parse.{ok, forget, many}
 use Rattle.model_frame.specs.Reading.{read_change}
 use Rattle.model_frame.specs.Writing.{change_bytes}
 use Rattle.model_frame.proofs.Le.{are_bytes}
-use Rattle.model_frame.proofs.SoundChange.{TakenChange, change-canon}
-use Rattle.base_laws.proofs.Runs.{run-fault}
-use Rattle.base_laws.proofs.StandsAt.{run-stands, run_past, run-forward}
+use Rattle.model_frame.proofs.SoundChange.{TakenChange, change_canon}
+use Rattle.base_laws.proofs.Runs.{run_fault}
+use Rattle.base_laws.proofs.StandsAt.{run_stands, run_past, run_forward}
 use Rattle.frame_op.specs.Answers.{res_end}
 use Rattle.frame_op.proofs.ops_len.Statement.{statement}
 use Rattle.frame_op.proofs.ops_len.Tie as tie
@@ -41,16 +41,16 @@ ended k = sym (ap (res_end _) k.in-At.is) ∙ k.ops_end.ensures
 sub_t11 : tie.Need-overflow_sub-result
 sub_t11 c =
     let k = c in
-    let f = run-forward (read_change (version_of k)) change_bytes (TakenChange (version_of k)) (change-canon (version_of k)) (count_of k) (buf_of k) (at_of k) (end_of k) (known k) (ended k) c.bytes_left.ensures c.bytes_left-in-At.ensures in
+    let f = run_forward (read_change (version_of k)) change_bytes (TakenChange (version_of k)) (change_canon (version_of k)) (count_of k) (buf_of k) (at_of k) (end_of k) (known k) (ended k) c.bytes_left.ensures c.bytes_left-in-At.ensures in
     search rules
 
 returns : tie.Need-returns-in-Bad
-returns c = sym (run-fault _ (sym (ap (res_end _) c.in-Bad.is) ∙ c.ops_end.ensures))
+returns c = sym (run_fault _ (sym (ap (res_end _) c.in-Bad.is) ∙ c.ops_end.ensures))
 
 returns-2 : tie.Need-returns-in-At
 returns-2 c =
     let k = c in
-    (run_past (read_change (version_of k)) change_bytes (TakenChange (version_of k)) (change-canon (version_of k)) (count_of k) (buf_of k) (at_of k) (end_of k) (known k) (ended k) c.bytes_left.ensures c.bytes_left-in-At.ensures, run-stands (read_change (version_of k)) change_bytes (TakenChange (version_of k)) (change-canon (version_of k)) (count_of k) (buf_of k) (at_of k) (end_of k) (known k) (ended k) c.bytes_left.ensures c.bytes_left-in-At.ensures)
+    (run_past (read_change (version_of k)) change_bytes (TakenChange (version_of k)) (change_canon (version_of k)) (count_of k) (buf_of k) (at_of k) (end_of k) (known k) (ended k) c.bytes_left.ensures c.bytes_left-in-At.ensures, run_stands (read_change (version_of k)) change_bytes (TakenChange (version_of k)) (change_canon (version_of k)) (count_of k) (buf_of k) (at_of k) (end_of k) (known k) (ended k) c.bytes_left.ensures c.bytes_left-in-At.ensures)
 
 pub ops_len_spec : {M : Type 1} → statement M
 ops_len_spec =

@@ -1,7 +1,7 @@
 -- `frame_stamp::is_pair` meets its contract. Assumes nothing.
 use native.Mathlib.Omega.{arith}
 use mathlib.Core.Bool.{true, false}
-use Rattle.frame_stamp.proofs.Places.{two_digits, pair-by}
+use Rattle.frame_stamp.proofs.Places.{two_digits, pair_by}
 use borrow.Author.Rules.{rules}
 use Rattle.frame_stamp.proofs.is_pair.Statement.{statement}
 use Rattle.frame_stamp.proofs.is_pair.Tie as tie
@@ -19,10 +19,10 @@ add_n : tie.Need-overflow_add-n
 add_n c = let h = two_digits _ _ c.is_digit.ensures c.is_digit-2.ensures c.if-is_digit.true in omega arith
 
 returns : tie.Need-returns-then-is_digit
-returns c = pair-by _ _ c.is_digit.ensures c.is_digit-2.ensures _ _ true c.if-is_digit.true
+returns c = pair_by _ _ c.is_digit.ensures c.is_digit-2.ensures _ _ true c.if-is_digit.true
 
 returns-2 : tie.Need-returns-else-is_digit
-returns-2 c = pair-by _ _ c.is_digit.ensures c.is_digit-2.ensures _ _ false c.if-is_digit.false
+returns-2 c = pair_by _ _ c.is_digit.ensures c.is_digit-2.ensures _ _ false c.if-is_digit.false
 
 pub is_pair_spec : {M : Type 1} → statement M
 is_pair_spec =

@@ -1,16 +1,16 @@
 -- `frame_utf8::formed_length` meets its contract. Assumes nothing.
 use mathlib.Core.Path.{refl}
 use native.Mathlib.Omega.{arith}
-use Rattle.frame_utf8.proofs.Scan.{as_length, says-one, says-short, says_two, says_three, says_four, says_none}
+use Rattle.frame_utf8.proofs.Scan.{as_length, says_one, says_short, says_two, says_three, says_four, says_none}
 use borrow.Author.Rules.{rules}
 use Rattle.frame_utf8.proofs.formed_length.Statement.{statement}
 use Rattle.frame_utf8.proofs.formed_length.Tie as tie
 
 returns : tie.Need-returns-then-n-eq1
-returns c = let a = c.args in as_length (omega arith) (says-one a.s.now a.at a.n (omega arith)) refl
+returns c = let a = c.args in as_length (omega arith) (says_one a.s.now a.at a.n (omega arith)) refl
 
 returns-2 : tie.Need-returns-then-s-at
-returns-2 c = let a = c.args in as_length refl (says-short a.s.now a.at a.n (omega arith) (omega arith)) refl
+returns-2 c = let a = c.args in as_length refl (says_short a.s.now a.at a.n (omega arith) (omega arith)) refl
 
 returns-3 : tie.Need-returns-then-n-eq2
 returns-3 c =

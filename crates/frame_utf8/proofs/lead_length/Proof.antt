@@ -1,6 +1,6 @@
 -- `frame_utf8::lead_length` meets its contract. Assumes nothing.
 use native.Mathlib.Omega.{arith}
-use Rattle.frame_utf8.proofs.Bytes.{one_byte, so-many, no_bytes}
+use Rattle.frame_utf8.proofs.Bytes.{one_byte, so_many, no_bytes}
 use borrow.Author.Rules.{rules}
 use Rattle.frame_utf8.proofs.lead_length.Statement.{statement}
 use Rattle.frame_utf8.proofs.lead_length.Tie as tie
@@ -13,11 +13,11 @@ begins-requires c κs = search rules
 
 cast-result : tie.Need-overflow_cast-result
 cast-result c =
-    let m = so-many c.args.a (omega arith) c.if-n-eq0.false c.begins.ensures c.if-begins.true in
+    let m = so_many c.args.a (omega arith) c.if-n-eq0.false c.begins.ensures c.if-begins.true in
     omega arith
 
 returns-2 : tie.Need-returns-then-begins
-returns-2 c = so-many c.args.a (omega arith) c.if-n-eq0.false c.begins.ensures c.if-begins.true
+returns-2 c = so_many c.args.a (omega arith) c.if-n-eq0.false c.begins.ensures c.if-begins.true
 
 returns-3 : tie.Need-returns
 returns-3 c =

@@ -1,7 +1,7 @@
 use mir.Syntax.{w64}
 use mir.Val.{Fits}
 use borrow.Author.Rules.{rules}
-use Rattle.frames_line.proofs.Laws.{bad-line, some_line, takes_any, reads_within, roomy}
+use Rattle.frames_line.proofs.Laws.{bad_line, some_line, takes_any, reads_within, roomy}
 use native.Mathlib.Omega.{arith}
 use mathlib.Core.Path.{◌∙◌}
 use Rattle.frames_line.proofs.answer_in.Statement.{statement}
@@ -92,7 +92,7 @@ same_length_7 c = search rules
 
 -- src/lib.rt:44:1
 returns-2 : tie.Need-returns-2
-returns-2 c = bad-line c.before.before.before.before.before.before.before.before.before.before.before.before.before.before.before.before.args.line.now c.before.before.before.before.before.before.before.before.before.before.before.before.before.before.before.before.args.counters c.before.before.before.before.before.before.before.before.before.before.before.before.before.before.before.before.args.row c.before.before.before.before.before.before.before.before.before.before.before.before.before.before.before.before.args.words.now c.before.before.before.before.before.before.before.before.before.before.before.before.before.before.before.before.args.bytes.now c.before.before.before.before.before.before.before.before.before.before.before.before.before.before.before.before.args.holds.now c.before.before.before.before.before.before.before.before.before.before.before.before.before.before.before.before.args.out.now c.before.before.before.before.before.before.before.before.read-line.ensures c.before.before.before.before.enum_told.given.1 c.before.before.put-refusal.ensures
+returns-2 c = bad_line c.before.before.before.before.before.before.before.before.before.before.before.before.before.before.before.before.args.line.now c.before.before.before.before.before.before.before.before.before.before.before.before.before.before.before.before.args.counters c.before.before.before.before.before.before.before.before.before.before.before.before.before.before.before.before.args.row c.before.before.before.before.before.before.before.before.before.before.before.before.before.before.before.before.args.words.now c.before.before.before.before.before.before.before.before.before.before.before.before.before.before.before.before.args.bytes.now c.before.before.before.before.before.before.before.before.before.before.before.before.before.before.before.before.args.holds.now c.before.before.before.before.before.before.before.before.before.before.before.before.before.before.before.before.args.out.now c.before.before.before.before.before.before.before.before.read-line.ensures c.before.before.before.before.enum_told.given.1 c.before.before.put-refusal.ensures
 
 pub answer_in_spec : {M : Type 1} → statement M
 answer_in_spec =

@@ -1,5 +1,5 @@
 use borrow.Author.Rules.{rules}
-use Rattle.frames_reply.proofs.Laws.{text-done, text-reply, text-refused}
+use Rattle.frames_reply.proofs.Laws.{text_done, text_reply, text_refused}
 use lib.ListN.{length}
 use Rattle.frames_reply.proofs.put_answer.Statement.{statement}
 use Rattle.frames_reply.proofs.put_answer.Tie as tie
@@ -10,7 +10,7 @@ use Rattle.frames_reply.proofs.put_reply.Reads as put-reply-reads
 
 -- src/lib.rt:37:13
 returns : tie.Need-returns
-returns c = text-done (length c.before.before.before.before.before.before.before.args.buf.now) c.before.before.before.before.before.before.before.args.bytes.now c.before.before.before.before.before.before.before.args.answer c.before.before.before.before.before.before.before.args.out.now c.before.before.if1.true c.if2.true
+returns c = text_done (length c.before.before.before.before.before.before.before.args.buf.now) c.before.before.before.before.before.before.before.args.bytes.now c.before.before.before.before.before.before.before.args.answer c.before.before.before.before.before.before.before.args.out.now c.before.before.if1.true c.if2.true
 
 -- src/lib.rt:39:9
 put-reply-requires : tie.Need-put-reply-requires
@@ -26,7 +26,7 @@ same_length_2 c = search rules
 
 -- src/lib.rt:39:9
 returns-2 : tie.Need-returns-2
-returns-2 c = text-reply (length c.before.before.before.before.before.before.before.before.before.before.before.before.before.before.args.buf.now) c.before.before.before.before.before.before.before.before.before.before.before.before.before.before.args.bytes.now c.before.before.before.before.before.before.before.before.before.before.before.before.before.before.args.answer c.before.before.before.before.before.before.before.before.before.before.before.before.before.before.args.out.now c.before.before.before.before.before.before.before.before.before.if1.true c.before.before.before.before.before.before.before.if2.false c.before.before.before.before.put-reply.ensures
+returns-2 c = text_reply (length c.before.before.before.before.before.before.before.before.before.before.before.before.before.before.args.buf.now) c.before.before.before.before.before.before.before.before.before.before.before.before.before.before.args.bytes.now c.before.before.before.before.before.before.before.before.before.before.before.before.before.before.args.answer c.before.before.before.before.before.before.before.before.before.before.before.before.before.before.args.out.now c.before.before.before.before.before.before.before.before.before.if1.true c.before.before.before.before.before.before.before.if2.false c.before.before.before.before.put-reply.ensures
 
 -- src/lib.rt:41:5
 put-refusal-requires : tie.Need-put-refusal-requires
@@ -38,7 +38,7 @@ same_length_3 c = search rules
 
 -- src/lib.rt:30:1
 returns-3 : tie.Need-returns-3
-returns-3 c = text-refused (length c.before.before.before.before.before.before.before.before.before.args.buf.now) c.before.before.before.before.before.before.before.before.before.args.bytes.now c.before.before.before.before.before.before.before.before.before.args.answer c.before.before.before.before.before.before.before.before.before.args.out.now c.before.before.before.before.if1.false c.before.before.put-refusal.ensures
+returns-3 c = text_refused (length c.before.before.before.before.before.before.before.before.before.args.buf.now) c.before.before.before.before.before.before.before.before.before.args.bytes.now c.before.before.before.before.before.before.before.before.before.args.answer c.before.before.before.before.before.before.before.before.before.args.out.now c.before.before.before.before.if1.false c.before.before.put-refusal.ensures
 
 pub put_answer_spec : {M : Type 1} → statement M
 put_answer_spec =

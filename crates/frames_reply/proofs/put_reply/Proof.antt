@@ -1,5 +1,5 @@
 use borrow.Author.Rules.{rules}
-use Rattle.frames_reply.proofs.Laws.{took_fits, put-digits, put-no}
+use Rattle.frames_reply.proofs.Laws.{took_fits, put_digits, put_no}
 use Rattle.frame_writer.specs.Encoding.{written_of}
 use mathlib.Core.Path.{ap}
 use native.Mathlib.Omega.{arith}
@@ -73,7 +73,7 @@ same_length_2 c = search rules
 
 -- src/lib.rt:13:1
 returns : tie.Need-returns
-returns c = put-digits _ _ c.before.before.before.before.before.before.before.before.before.before.before.before.before.before.before.before.args.out.now c.before.before.before.before.before.before.before.before.before.before.before.write.auto.1.1.0 (rw c.before.before.before.before.before.before.before.n.given.1 at c.before.before.before.before.before.before.before.before.before.before.before.write.ensures) c.before.before.put-hex.ensures
+returns c = put_digits _ _ c.before.before.before.before.before.before.before.before.before.before.before.before.before.before.before.before.args.out.now c.before.before.before.before.before.before.before.before.before.before.before.write.auto.1.1.0 (rw c.before.before.before.before.before.before.before.n.given.1 at c.before.before.before.before.before.before.before.before.before.before.before.write.ensures) c.before.before.put-hex.ensures
 
 -- src/lib.rt:13:1
 same_length_3 : tie.Need-same-length-3
@@ -85,7 +85,7 @@ same_length_4 c = search rules
 
 -- src/lib.rt:13:1
 returns-2 : tie.Need-returns-2
-returns-2 c = put-no _ 8 (ap written_of c.before.before.before.before.enum_told.given.1) c.before.before.before.before.before.before.before.before.write.ensures c.before.before.put-refusal.ensures
+returns-2 c = put_no _ 8 (ap written_of c.before.before.before.before.enum_told.given.1) c.before.before.before.before.before.before.before.before.write.ensures c.before.before.put-refusal.ensures
 
 -- src/lib.rt:13:1
 same_length_5 : tie.Need-same-length-5
@@ -97,7 +97,7 @@ same_length_6 c = search rules
 
 -- src/lib.rt:13:1
 returns-3 : tie.Need-returns-3
-returns-3 c = put-no _ 1 (ap written_of c.before.before.before.before.enum-told2.given.1) c.before.before.before.before.before.before.before.before.write.ensures c.before.before.put-refusal2.ensures
+returns-3 c = put_no _ 1 (ap written_of c.before.before.before.before.enum-told2.given.1) c.before.before.before.before.before.before.before.before.write.ensures c.before.before.put-refusal2.ensures
 
 -- src/lib.rt:13:1
 same_length_7 : tie.Need-same-length-7
@@ -109,7 +109,7 @@ same_length_8 c = search rules
 
 -- src/lib.rt:13:1
 returns-4 : tie.Need-returns-4
-returns-4 c = put-no _ 9 (ap written_of c.before.before.before.before.enum-told3.given.1) c.before.before.before.before.before.before.before.before.write.ensures c.before.before.put-refusal3.ensures
+returns-4 c = put_no _ 9 (ap written_of c.before.before.before.before.enum-told3.given.1) c.before.before.before.before.before.before.before.before.write.ensures c.before.before.put-refusal3.ensures
 
 pub put_reply_spec : {M : Type 1} → statement M
 put_reply_spec =

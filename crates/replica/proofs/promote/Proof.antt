@@ -49,18 +49,18 @@ use Rattle.standby_row.proofs.Rows.{R as R-Bound}
 use Rattle.standby_state.specs.declared.Settings.{Settings}
 use Rattle.standby_state.specs.contracts.Settings as Settings-type
 use Rattle.standby_state.proofs.Settings.TheLaws as Settings-laws
-use Rattle.replica.proofs.Records.{R_Settings, val_Settings, vals_Settings, tells_Settings, makes-Settings}
+use Rattle.replica.proofs.Records.{R_Settings, val_Settings, vals_Settings, tells_Settings, makes_Settings}
 use Rattle.standby_state.specs.declared.Answer.{Answer}
 use Rattle.standby_state.specs.contracts.Answer as Answer-type
 use Rattle.standby_state.proofs.Answer.TheLaws as Answer-laws
-use Rattle.replica.proofs.Records.{R_Answer, val_Answer, vals_Answer, tells_Answer, makes-Answer}
+use Rattle.replica.proofs.Records.{R_Answer, val_Answer, vals_Answer, tells_Answer, makes_Answer}
 use Rattle.standby_call.specs.declared.Call.{Call}
 use Rattle.standby_call.specs.contracts.Call as Call-type
 use Rattle.standby_call.proofs.Call.TheLaws as Call-laws
-use Rattle.replica.proofs.Records.{R_Call, val_Call, vals_Call, makes-Call}
-use Rattle.standby_row.proofs.Locals.{filled, empty, stack, frees-stack}
+use Rattle.replica.proofs.Records.{R_Call, val_Call, vals_Call, makes_Call}
+use Rattle.standby_row.proofs.Locals.{filled, empty, stack, frees_stack}
 use Rattle.standby_row.proofs.Lent.{at}
-use Rattle.replica.proofs.Handing.{calls-empty}
+use Rattle.replica.proofs.Handing.{calls_empty}
 use Rattle.replica.specs.contracts.on_call as on_call
 use Rattle.replica.proofs.on_call.Symbol as on-call-def
 use Rattle.replica.proofs.on_call.Symbol.{name as #replica·on-call}
@@ -88,70 +88,70 @@ module _ {M : Type 1} {𝓤 : Ura M} (𝓛 : Logic 𝓤) (memory : Memory → SP
   -- the values passed, and their machine values
   open 𝓛 use {H}
 
-  abbrev the-counters : Replica
-  the-counters = counters-at.now
+  abbrev the_counters : Replica
+  the_counters = counters-at.now
 
-  abbrev s-counters : Val
-  s-counters = vptr counters-at.ptr.0 counters-at.ptr.1
+  abbrev s_counters : Val
+  s_counters = vptr counters-at.ptr.0 counters-at.ptr.1
 
   abbrev the_row : List Bound
   the_row = row_at.now
 
-  abbrev s-row : Val
-  s-row = slice_val row_at.ptr (length the_row)
+  abbrev s_row : Val
+  s_row = slice_val row_at.ptr (length the_row)
 
-  abbrev the-words : List ℕ
-  the-words = words-at.now
+  abbrev the_words : List ℕ
+  the_words = words-at.now
 
-  abbrev s-words : Val
-  s-words = slice_val words-at.ptr (length the-words)
+  abbrev s_words : Val
+  s_words = slice_val words-at.ptr (length the_words)
 
-  abbrev the-bytes : List ℕ
-  the-bytes = bytes-at.now
+  abbrev the_bytes : List ℕ
+  the_bytes = bytes-at.now
 
-  abbrev s-bytes : Val
-  s-bytes = slice_val bytes-at.ptr (length the-bytes)
+  abbrev s_bytes : Val
+  s_bytes = slice_val bytes-at.ptr (length the_bytes)
 
-  abbrev the-holds : List ℕ
-  the-holds = holds_at.now
+  abbrev the_holds : List ℕ
+  the_holds = holds_at.now
 
-  abbrev s-holds : Val
-  s-holds = slice_val holds_at.ptr (length the-holds)
+  abbrev s_holds : Val
+  s_holds = slice_val holds_at.ptr (length the_holds)
 
-  abbrev x-all : Bor (Replica) × (Bor (List Bound) × (Bor (List ℕ) × (Bor (List ℕ) × (Bor (List ℕ) × (Settings × Unit {0})))))
-  x-all = (counters-at, (row_at, (words-at, (bytes-at, (holds_at, (the_settings_lem, tt))))))
+  abbrev x_all : Bor (Replica) × (Bor (List Bound) × (Bor (List ℕ) × (Bor (List ℕ) × (Bor (List ℕ) × (Settings × Unit {0})))))
+  x_all = (counters-at, (row_at, (words-at, (bytes-at, (holds_at, (the_settings_lem, tt))))))
 
   abbrev at_all : List Val × (List Val × (List Val × (List Val × (List Val × (List Val × Unit {0})))))
-  at_all = (s-counters ∷ [], (s-row ∷ [], (s-words ∷ [], (s-bytes ∷ [], (s-holds ∷ [], (vals_Settings the_settings_lem, tt))))))
+  at_all = (s_counters ∷ [], (s_row ∷ [], (s_words ∷ [], (s_bytes ∷ [], (s_holds ∷ [], (vals_Settings the_settings_lem, tt))))))
 
   abbrev Post : Val → SProp 𝓤
-  Post = (walk_of 𝓛 this.ended stayed (this.clauses 𝓛 memory run)).post (((κ₀, (κ₁, (κ₂, (κ₃, (κ₄, tt))))), (q₀, (q₁, (q₂, (q₃, (q₄, tt))))), tt, x-all, at_all), tt)
+  Post = (walk_of 𝓛 this.ended stayed (this.clauses 𝓛 memory run)).post (((κ₀, (κ₁, (κ₂, (κ₃, (κ₄, tt))))), (q₀, (q₁, (q₂, (q₃, (q₄, tt))))), tt, x_all, at_all), tt)
 
   -- what locals hold
   abbrev x₇ : Call
   x₇ = record { kind = 4; connection = 0 }
 
-  x₇-is : Is R_Call x₇ (vals_Call x₇)
-  x₇-is = LL.owes Call-type.the_type Call-laws.the_laws x₇ ((refl, lit< tt), ((refl, lit< tt), tt))
+  x₇_is : Is R_Call x₇ (vals_Call x₇)
+  x₇_is = LL.owes Call-type.the_type Call-laws.the_laws x₇ ((refl, lit< tt), ((refl, lit< tt), tt))
 
   -- the plain slices, with their lifetimes' tokens
-  abbrev Plain-counters : Item 𝓤
-  Plain-counters = ‵ (flft κ₀ q₀) ⊛ ‵ ((MutRef (named 0) κ₀ R_Replica).own_val counters-at (s-counters ∷ []))
+  abbrev PlainCounters : Item 𝓤
+  PlainCounters = ‵ (flft κ₀ q₀) ⊛ ‵ ((MutRef (named 0) κ₀ R_Replica).own_val counters-at (s_counters ∷ []))
 
-  abbrev Plain-row : Item 𝓤
-  Plain-row = ‵ (flft κ₁ q₁) ⊛ ‵ ((MutSlice (named 1) κ₁ R-Bound).own_val row_at (s-row ∷ []))
+  abbrev PlainRow : Item 𝓤
+  PlainRow = ‵ (flft κ₁ q₁) ⊛ ‵ ((MutSlice (named 1) κ₁ R-Bound).own_val row_at (s_row ∷ []))
 
-  abbrev Plain-words : Item 𝓤
-  Plain-words = ‵ (flft κ₂ q₂) ⊛ ‵ ((MutSlice (named 2) κ₂ u64).own_val words-at (s-words ∷ []))
+  abbrev PlainWords : Item 𝓤
+  PlainWords = ‵ (flft κ₂ q₂) ⊛ ‵ ((MutSlice (named 2) κ₂ u64).own_val words-at (s_words ∷ []))
 
-  abbrev Plain-bytes : Item 𝓤
-  Plain-bytes = ‵ (flft κ₃ q₃) ⊛ ‵ ((MutSlice (named 3) κ₃ u8).own_val bytes-at (s-bytes ∷ []))
+  abbrev PlainBytes : Item 𝓤
+  PlainBytes = ‵ (flft κ₃ q₃) ⊛ ‵ ((MutSlice (named 3) κ₃ u8).own_val bytes-at (s_bytes ∷ []))
 
-  abbrev Plain-holds : Item 𝓤
-  Plain-holds = ‵ (flft κ₄ q₄) ⊛ ‵ ((MutSlice (named 4) κ₄ u8).own_val holds_at (s-holds ∷ []))
+  abbrev PlainHolds : Item 𝓤
+  PlainHolds = ‵ (flft κ₄ q₄) ⊛ ‵ ((MutSlice (named 4) κ₄ u8).own_val holds_at (s_holds ∷ []))
 
   abbrev Before : Item 𝓤
-  Before = Plain-counters ⊛ (Plain-row ⊛ (Plain-words ⊛ (Plain-bytes ⊛ (Plain-holds))))
+  Before = PlainCounters ⊛ (PlainRow ⊛ (PlainWords ⊛ (PlainBytes ⊛ (PlainHolds))))
 
   abbrev Tokens : Item 𝓤
   Tokens = ‵ (flft κ₀ q₀) ⊛ (‵ (flft κ₁ q₁) ⊛ (‵ (flft κ₂ q₂) ⊛ (‵ (flft κ₃ q₃) ⊛ (‵ (flft κ₄ q₄) ⊛ (‵ ftrue)))))
@@ -161,34 +161,34 @@ module _ {M : Type 1} {𝓤 : Ura M} (𝓛 : Logic 𝓤) (memory : Memory → SP
   LastValues = Replica × (List Bound × (List ℕ × (List ℕ × (List ℕ × (Unit {0} × (Unit {0} × (Unit {0} × Unit {0})))))))
 
   abbrev CoreSays : Answer → LastValues → Type 0
-  CoreSays r ws = Called the_settings_lem (call_of x₇ ([])) (the-counters) ws.0 (the_row) ws.1.0 (the-words) ws.1.1.0 (the-bytes) ws.1.1.1.0 (the-holds) ws.1.1.1.1.0 r
+  CoreSays r ws = Called the_settings_lem (call_of x₇ ([])) (the_counters) ws.0 (the_row) ws.1.0 (the_words) ws.1.1.0 (the_bytes) ws.1.1.1.0 (the_holds) ws.1.1.1.1.0 r
 
   abbrev CoreGives : Type 0
   CoreGives = Answer × LastValues
 
   abbrev CoreTold : CoreGives → Type 0
-  CoreTold x = Is R_Answer x.0 (vals_Answer x.0) × CoreSays x.0 x.1 × (length x.1.1.0 ≡ length the_row) × (length x.1.1.1.0 ≡ length the-words) × (length x.1.1.1.1.0 ≡ length the-bytes) × (length x.1.1.1.1.1.0 ≡ length the-holds)
+  CoreTold x = Is R_Answer x.0 (vals_Answer x.0) × CoreSays x.0 x.1 × (length x.1.1.0 ≡ length the_row) × (length x.1.1.1.0 ≡ length the_words) × (length x.1.1.1.1.0 ≡ length the_bytes) × (length x.1.1.1.1.1.0 ≡ length the_holds)
 
   abbrev After : CoreGives → Item 𝓤
   After x = Tokens ⊛ (‵ (fres counters-at.name (R_Replica.coded.code x.1.0)) ⊛ (‵ (finally R-Bound row_at.name x.1.1.0) ⊛ (‵ (finally u64 words-at.name x.1.1.1.0) ⊛ (‵ (finally u8 bytes-at.name x.1.1.1.1.0) ⊛ (‵ (finally u8 holds_at.name x.1.1.1.1.1.0))))))
 
-  abbrev to-on-call : (l α : ℕ) (γ : GName) → (OnCall 𝓛 memory run).Ghost
-  to-on-call l α γ = (((κ₀, (κ₁, (κ₂, (κ₃, (κ₄, (α ∷ [], tt)))))), (q₀, (q₁, (q₂, (q₃, (q₄, (full_share, tt)))))), tt, (counters-at, (row_at, (words-at, (bytes-at, (holds_at, ((at u8 l 0 γ []), (the_settings_lem, (x₇, tt)))))))), (s-counters ∷ [], (s-row ∷ [], (s-words ∷ [], (s-bytes ∷ [], (s-holds ∷ [], (slice_val (l, 0) 0 ∷ [], (vals_Settings the_settings_lem, (vals_Call x₇, tt))))))))), tt)
+  abbrev to_on_call : (l α : ℕ) (γ : GName) → (OnCall 𝓛 memory run).Ghost
+  to_on_call l α γ = (((κ₀, (κ₁, (κ₂, (κ₃, (κ₄, (α ∷ [], tt)))))), (q₀, (q₁, (q₂, (q₃, (q₄, (full_share, tt)))))), tt, (counters-at, (row_at, (words-at, (bytes-at, (holds_at, ((at u8 l 0 γ []), (the_settings_lem, (x₇, tt)))))))), (s_counters ∷ [], (s_row ∷ [], (s_words ∷ [], (s_bytes ∷ [], (s_holds ∷ [], (slice_val (l, 0) 0 ∷ [], (vals_Settings the_settings_lem, (vals_Call x₇, tt))))))))), tt)
 
-  goes-on-call : (l α : ℕ) (γ : GName) → Is R_Settings the_settings_lem (vals_Settings the_settings_lem) → Is R_Call x₇ (vals_Call x₇) → ent 𝓤 (mean 𝓛 ((‵ (flft (α ∷ []) full_share) ⊛ ‵ ((ShrSlice (named 5) (α ∷ []) u8).own_val (at u8 l 0 γ []) (slice_val (l, 0) 0 ∷ []))) ⊛ Before)) ((OnCall 𝓛 memory run).pre (to-on-call l α γ))
-  goes-on-call l α γ a₆ a₇ = qed 𝓛 (((‵ (flft (α ∷ []) full_share) ⊛ ‵ ((ShrSlice (named 5) (α ∷ []) u8).own_val (at u8 l 0 γ []) (slice_val (l, 0) 0 ∷ []))) ⊛ Before) ∷ []) ∵ split ! $ split ! $ move ! (2 ∷ []) $ split ! $ move ! (1 ∷ []) $ split ! $ move ! (1 ∷ []) $ split ! $ move ! (1 ∷ []) $ split ! $ move ! (4 ∷ []) $ split ! $ move ! (5 ∷ []) $ split ! $ move ! (6 ∷ []) $ split ! $ move ! (6 ∷ []) $ split ! $ move ! (8 ∷ []) $ split ! $ nothing ! $ move ! (11 ∷ 0 ∷ []) $ join ! $ move ! (1 ∷ 0 ∷ []) $ join ! $ move ! (2 ∷ 0 ∷ []) $ join ! $ move ! (3 ∷ 0 ∷ []) $ join ! $ move ! (4 ∷ 0 ∷ []) $ join ! $ move ! (5 ∷ 0 ∷ []) $ join ! $ nothing ! $ owned ! R_Call (Is R_Call) (makes-Call 𝓛) x₇ (vals_Call x₇) a₇ $ fjoin ! $ owned ! R_Settings (Is R_Settings) (makes-Settings 𝓛) the_settings_lem (vals_Settings the_settings_lem) a₆ $ fjoin ! $ move ! (7 ∷ 0 ∷ []) $ fjoin ! $ move ! (2 ∷ 0 ∷ []) $ fjoin ! $ move ! (2 ∷ 0 ∷ []) $ fjoin ! $ move ! (2 ∷ 0 ∷ []) $ fjoin ! $ move ! (2 ∷ 0 ∷ []) $ fjoin ! $ move ! (2 ∷ 0 ∷ []) $ fjoin ! $ move ! (1 ∷ 0 ∷ []) $ join ! $ nothing ! $ move ! (1 ∷ 0 ∷ []) $ done !
+  goes_on_call : (l α : ℕ) (γ : GName) → Is R_Settings the_settings_lem (vals_Settings the_settings_lem) → Is R_Call x₇ (vals_Call x₇) → ent 𝓤 (mean 𝓛 ((‵ (flft (α ∷ []) full_share) ⊛ ‵ ((ShrSlice (named 5) (α ∷ []) u8).own_val (at u8 l 0 γ []) (slice_val (l, 0) 0 ∷ []))) ⊛ Before)) ((OnCall 𝓛 memory run).pre (to_on_call l α γ))
+  goes_on_call l α γ a₆ a₇ = qed 𝓛 (((‵ (flft (α ∷ []) full_share) ⊛ ‵ ((ShrSlice (named 5) (α ∷ []) u8).own_val (at u8 l 0 γ []) (slice_val (l, 0) 0 ∷ []))) ⊛ Before) ∷ []) ∵ split ! $ split ! $ move ! (2 ∷ []) $ split ! $ move ! (1 ∷ []) $ split ! $ move ! (1 ∷ []) $ split ! $ move ! (1 ∷ []) $ split ! $ move ! (4 ∷ []) $ split ! $ move ! (5 ∷ []) $ split ! $ move ! (6 ∷ []) $ split ! $ move ! (6 ∷ []) $ split ! $ move ! (8 ∷ []) $ split ! $ nothing ! $ move ! (11 ∷ 0 ∷ []) $ join ! $ move ! (1 ∷ 0 ∷ []) $ join ! $ move ! (2 ∷ 0 ∷ []) $ join ! $ move ! (3 ∷ 0 ∷ []) $ join ! $ move ! (4 ∷ 0 ∷ []) $ join ! $ move ! (5 ∷ 0 ∷ []) $ join ! $ nothing ! $ owned ! R_Call (Is R_Call) (makes_Call 𝓛) x₇ (vals_Call x₇) a₇ $ fjoin ! $ owned ! R_Settings (Is R_Settings) (makes_Settings 𝓛) the_settings_lem (vals_Settings the_settings_lem) a₆ $ fjoin ! $ move ! (7 ∷ 0 ∷ []) $ fjoin ! $ move ! (2 ∷ 0 ∷ []) $ fjoin ! $ move ! (2 ∷ 0 ∷ []) $ fjoin ! $ move ! (2 ∷ 0 ∷ []) $ fjoin ! $ move ! (2 ∷ 0 ∷ []) $ fjoin ! $ move ! (2 ∷ 0 ∷ []) $ fjoin ! $ move ! (1 ∷ 0 ∷ []) $ join ! $ nothing ! $ move ! (1 ∷ 0 ∷ []) $ done !
 
-  told-on-call : (l α : ℕ) (γ : GName) (u : Val) → ent 𝓤 ((OnCall 𝓛 memory run).post (to-on-call l α γ) u) (H.⇛ (mean 𝓛 (some (λ (x : CoreGives). After x ⊛ raw (fact 𝓤 ((u ≡ val_Answer x.0) × CoreTold x))))))
-  told-on-call l α γ u =
-      qed 𝓛 (raw ((OnCall 𝓛 memory run).post (to-on-call l α γ) u) ∷ []) ∵ updating ! $
+  told_on_call : (l α : ℕ) (γ : GName) (u : Val) → ent 𝓤 ((OnCall 𝓛 memory run).post (to_on_call l α γ) u) (H.⇛ (mean 𝓛 (some (λ (x : CoreGives). After x ⊛ raw (fact 𝓤 ((u ≡ val_Answer x.0) × CoreTold x))))))
+  told_on_call l α γ u =
+      qed 𝓛 (raw ((OnCall 𝓛 memory run).post (to_on_call l α γ) u) ∷ []) ∵ updating ! $
       use1 𝓛 (later (some (λ (r : Answer). ((‵ (flft κ₀ q₀) ⊛ (‵ (flft κ₁ q₁) ⊛ (‵ (flft κ₂ q₂) ⊛ (‵ (flft κ₃ q₃) ⊛ (‵ (flft κ₄ q₄) ⊛ (‵ (flft (α ∷ []) full_share) ⊛ (‵ ftrue))))))) ⊛ ‵ (R_Answer.own r (u ∷ []))) ⊛ some (λ (ws : LastValues). ‵ (lasts on_call.ended (κ₀, (κ₁, (κ₂, (κ₃, (κ₄, (α ∷ [], tt)))))) (counters-at, (row_at, (words-at, (bytes-at, (holds_at, ((at u8 l 0 γ []), (the_settings_lem, (x₇, tt)))))))) ws) ⊛ raw (fact 𝓤 (CoreSays r ws)))))) (id⊢ 𝓤 _) $ await ! tt $ pick ! (λ r.
       split ! $ move ! (1 ∷ []) $ pick ! (λ ws. split ! $ move ! (1 ∷ []) $ heard ! (CoreSays r ws) (λ e. fsplit ! $ move ! (1 ∷ []) $ fsplit ! $ fsplit ! $ move ! (1 ∷ []) $ feq_l ! (λ len₁. move ! (1 ∷ []) $ fsplit ! $ fsplit ! $ move ! (1 ∷ []) $ feq_l ! (λ len₂. move ! (1 ∷ []) $ fsplit ! $ fsplit ! $ move ! (1 ∷ []) $ feq_l ! (λ len₃. move ! (1 ∷ []) $ fsplit ! $ fsplit ! $ move ! (1 ∷ []) $ feq_l ! (λ len₄. move ! (1 ∷ []) $ fsplit ! $ drop ! $ fsplit ! $ drop ! $ fsplit ! $ drop ! $ move ! (6 ∷ []) $ split ! $ move ! (1 ∷ []) $ facts ! R_Answer (Is R_Answer) (shows 𝓛 R_Answer) r (u ∷ []) (λ is. at_once ! $ show ! (λ (x : CoreGives). mean 𝓛 (After x ⊛ raw (fact 𝓤 ((u ≡ val_Answer x.0) × CoreTold x)))) (r, ws) $ says ! (ap only (tells_Answer r (u ∷ []) is), (subst (Is R_Answer r) (tells_Answer r (u ∷ []) is) is, e, len₁, len₂, len₃, len₄)) $ split ! $ move ! (1 ∷ []) $ split ! $ move ! (1 ∷ []) $ split ! $ move ! (1 ∷ []) $ split ! $ move ! (1 ∷ []) $ split ! $ nothing ! $ move ! (1 ∷ 0 ∷ []) $ join ! $ move ! (2 ∷ 0 ∷ []) $ join ! $ move ! (2 ∷ 0 ∷ []) $ join ! $ move ! (2 ∷ 0 ∷ []) $ join ! $ move ! (2 ∷ 0 ∷ []) $ join ! $ keep ! (0 ∷ 7 ∷ 6 ∷ 5 ∷ 4 ∷ 3 ∷ []) $ done !))))))))
 
   exits : (x : CoreGives) → CoreTold x → ent 𝓤 (⋆ 𝓛 (After x ∷ [])) (Post (val_Answer x.0))
   exits x p =
       qed 𝓛 (After x ∷ []) ∵
-      suffices ! _ (ends_at 𝓛 this.ended stayed (this.clauses 𝓛 memory run) (((κ₀, (κ₁, (κ₂, (κ₃, (κ₄, tt))))), (q₀, (q₁, (q₂, (q₃, (q₄, tt))))), tt, x-all, at_all), tt) (val_Answer x.0) x.0 (x.1.0, (x.1.1.0, (x.1.1.1.0, (x.1.1.1.1.0, (x.1.1.1.1.1.0, (tt, tt)))))) (tt, (p.2, (p.3, (p.4, (p.5, (tt, tt))))))) $ says ! p.1 $
-      split ! $ frame ! $ split ! $ move ! (1 ∷ []) $ split ! $ move ! (1 ∷ []) $ split ! $ move ! (1 ∷ []) $ split ! $ nothing ! $ nothing ! $ fjoin ! $ move ! (2 ∷ 0 ∷ []) $ fjoin ! $ move ! (1 ∷ 0 ∷ []) $ fjoin ! $ move ! (1 ∷ 0 ∷ []) $ fjoin ! $ move ! (1 ∷ 0 ∷ []) $ fjoin ! $ move ! (1 ∷ 0 ∷ []) $ fjoin ! $ frame ! $ owned ! R_Answer (Is R_Answer) (makes-Answer 𝓛) x.0 (vals_Answer x.0) p.0 $ done !
+      suffices ! _ (ends_at 𝓛 this.ended stayed (this.clauses 𝓛 memory run) (((κ₀, (κ₁, (κ₂, (κ₃, (κ₄, tt))))), (q₀, (q₁, (q₂, (q₃, (q₄, tt))))), tt, x_all, at_all), tt) (val_Answer x.0) x.0 (x.1.0, (x.1.1.0, (x.1.1.1.0, (x.1.1.1.1.0, (x.1.1.1.1.1.0, (tt, tt)))))) (tt, (p.2, (p.3, (p.4, (p.5, (tt, tt))))))) $ says ! p.1 $
+      split ! $ frame ! $ split ! $ move ! (1 ∷ []) $ split ! $ move ! (1 ∷ []) $ split ! $ move ! (1 ∷ []) $ split ! $ nothing ! $ nothing ! $ fjoin ! $ move ! (2 ∷ 0 ∷ []) $ fjoin ! $ move ! (1 ∷ 0 ∷ []) $ fjoin ! $ move ! (1 ∷ 0 ∷ []) $ fjoin ! $ move ! (1 ∷ 0 ∷ []) $ fjoin ! $ move ! (1 ∷ 0 ∷ []) $ fjoin ! $ frame ! $ owned ! R_Answer (Is R_Answer) (makes_Answer 𝓛) x.0 (vals_Answer x.0) p.0 $ done !
 
   module _ (Ct : Calls 𝓤 H) (Λ : Loops 𝓤 H) (fm : FmC 𝓤 H 𝓛.laws Ct) (known-on-call : Triple 𝓤 (Ct #replica·on-call) (OnCall 𝓛 memory run)) (l₀ l₁ l₂ l₃ l₄ l₅ l₆ l₇ l₈ l₉ l₁₀ l₁₁ l₁₂ l₁₃ l₁₄ l₁₅ l₁₆ l₁₇ l₁₈ l₁₉ : ℕ) where
     abbrev En : Env 𝓤 H
@@ -196,15 +196,15 @@ module _ {M : Type 1} {𝓤 : Ura M} (𝓛 : Logic 𝓤) (memory : Memory → SP
 
     -- the walk's parts, the last first
 
-    part₁₅ : (x : CoreGives) → (p : CoreTold x) → Sq 𝓛 (After x ∷ stack 𝓛 (filled Answer-laws.mir l₀ (val_Answer x.0) ∷ filled (ty_ref (named 0) mut (pointee R_Replica.written)) l₁ (s-counters) ∷ filled (slice_ty (ty_ref (named 1) mut (pointee R-Bound.written))) l₂ (s-row) ∷ filled (slice_ty (ty_ref (named 2) mut word)) l₃ (s-words) ∷ filled (slice_ty (ty_ref (named 3) mut (ty_int w8))) l₄ (s-bytes) ∷ filled (slice_ty (ty_ref (named 4) mut (ty_int w8))) l₅ (s-holds) ∷ filled Settings-laws.mir l₆ (val_Settings the_settings_lem) ∷ filled Call-laws.mir l₇ (val_Call x₇) ∷ filled (ty_array (ty_int w8) 0) l₈ (vstruct (of_list [])) ∷ filled (ty_ref erased mut (pointee R_Replica.written)) l₉ (s-counters) ∷ filled (ty_ref erased mut (pointee R-Bound.written)) l₁₀ (vptr row_at.ptr.0 row_at.ptr.1) ∷ filled (slice_ty (ty_ref erased mut (pointee R-Bound.written))) l₁₁ (s-row) ∷ filled (ty_ref erased mut word) l₁₂ (vptr words-at.ptr.0 words-at.ptr.1) ∷ filled (slice_ty (ty_ref erased mut word)) l₁₃ (s-words) ∷ filled (ty_ref erased mut (ty_int w8)) l₁₄ (vptr bytes-at.ptr.0 bytes-at.ptr.1) ∷ filled (slice_ty (ty_ref erased mut (ty_int w8))) l₁₅ (s-bytes) ∷ filled (ty_ref erased mut (ty_int w8)) l₁₆ (vptr holds_at.ptr.0 holds_at.ptr.1) ∷ filled (slice_ty (ty_ref erased mut (ty_int w8))) l₁₇ (s-holds) ∷ filled (ty_ref erased imm (ty_array (ty_int w8) 0)) l₁₈ (vptr l₈ 0) ∷ filled (slice_ty (ty_ref erased imm (ty_int w8))) l₁₉ (slice_val (l₈, 0) 0) ∷ []) []) (runs Ct Λ En text.t-15 (at_ret En Post))
+    part₁₅ : (x : CoreGives) → (p : CoreTold x) → Sq 𝓛 (After x ∷ stack 𝓛 (filled Answer-laws.mir l₀ (val_Answer x.0) ∷ filled (ty_ref (named 0) mut (pointee R_Replica.written)) l₁ (s_counters) ∷ filled (slice_ty (ty_ref (named 1) mut (pointee R-Bound.written))) l₂ (s_row) ∷ filled (slice_ty (ty_ref (named 2) mut word)) l₃ (s_words) ∷ filled (slice_ty (ty_ref (named 3) mut (ty_int w8))) l₄ (s_bytes) ∷ filled (slice_ty (ty_ref (named 4) mut (ty_int w8))) l₅ (s_holds) ∷ filled Settings-laws.mir l₆ (val_Settings the_settings_lem) ∷ filled Call-laws.mir l₇ (val_Call x₇) ∷ filled (ty_array (ty_int w8) 0) l₈ (vstruct (of_list [])) ∷ filled (ty_ref erased mut (pointee R_Replica.written)) l₉ (s_counters) ∷ filled (ty_ref erased mut (pointee R-Bound.written)) l₁₀ (vptr row_at.ptr.0 row_at.ptr.1) ∷ filled (slice_ty (ty_ref erased mut (pointee R-Bound.written))) l₁₁ (s_row) ∷ filled (ty_ref erased mut word) l₁₂ (vptr words-at.ptr.0 words-at.ptr.1) ∷ filled (slice_ty (ty_ref erased mut word)) l₁₃ (s_words) ∷ filled (ty_ref erased mut (ty_int w8)) l₁₄ (vptr bytes-at.ptr.0 bytes-at.ptr.1) ∷ filled (slice_ty (ty_ref erased mut (ty_int w8))) l₁₅ (s_bytes) ∷ filled (ty_ref erased mut (ty_int w8)) l₁₆ (vptr holds_at.ptr.0 holds_at.ptr.1) ∷ filled (slice_ty (ty_ref erased mut (ty_int w8))) l₁₇ (s_holds) ∷ filled (ty_ref erased imm (ty_array (ty_int w8) 0)) l₁₈ (vptr l₈ 0) ∷ filled (slice_ty (ty_ref erased imm (ty_int w8))) l₁₉ (slice_val (l₈, 0) 0) ∷ []) []) (runs Ct Λ En text.t-15 (at_ret En Post))
     part₁₅ x p =
         returns ! (look ! 39 refl) $
-        by ! (frees-stack 𝓛 (filled Answer-laws.mir l₀ _ ∷ filled (ty_ref (named 0) mut (pointee R_Replica.written)) l₁ _ ∷ filled (slice_ty (ty_ref (named 1) mut (pointee R-Bound.written))) l₂ _ ∷ filled (slice_ty (ty_ref (named 2) mut word)) l₃ _ ∷ filled (slice_ty (ty_ref (named 3) mut (ty_int w8))) l₄ _ ∷ filled (slice_ty (ty_ref (named 4) mut (ty_int w8))) l₅ _ ∷ filled Settings-laws.mir l₆ _ ∷ filled Call-laws.mir l₇ _ ∷ filled (ty_array (ty_int w8) 0) l₈ _ ∷ filled (ty_ref erased mut (pointee R_Replica.written)) l₉ _ ∷ filled (ty_ref erased mut (pointee R-Bound.written)) l₁₀ _ ∷ filled (slice_ty (ty_ref erased mut (pointee R-Bound.written))) l₁₁ _ ∷ filled (ty_ref erased mut word) l₁₂ _ ∷ filled (slice_ty (ty_ref erased mut word)) l₁₃ _ ∷ filled (ty_ref erased mut (ty_int w8)) l₁₄ _ ∷ filled (slice_ty (ty_ref erased mut (ty_int w8))) l₁₅ _ ∷ filled (ty_ref erased mut (ty_int w8)) l₁₆ _ ∷ filled (slice_ty (ty_ref erased mut (ty_int w8))) l₁₇ _ ∷ filled (ty_ref erased imm (ty_array (ty_int w8) 0)) l₁₈ _ ∷ filled (slice_ty (ty_ref erased imm (ty_int w8))) l₁₉ _ ∷ []) (After x ∷ []) (Post (val_Answer x.0)) (exits x p))
+        by ! (frees_stack 𝓛 (filled Answer-laws.mir l₀ _ ∷ filled (ty_ref (named 0) mut (pointee R_Replica.written)) l₁ _ ∷ filled (slice_ty (ty_ref (named 1) mut (pointee R-Bound.written))) l₂ _ ∷ filled (slice_ty (ty_ref (named 2) mut word)) l₃ _ ∷ filled (slice_ty (ty_ref (named 3) mut (ty_int w8))) l₄ _ ∷ filled (slice_ty (ty_ref (named 4) mut (ty_int w8))) l₅ _ ∷ filled Settings-laws.mir l₆ _ ∷ filled Call-laws.mir l₇ _ ∷ filled (ty_array (ty_int w8) 0) l₈ _ ∷ filled (ty_ref erased mut (pointee R_Replica.written)) l₉ _ ∷ filled (ty_ref erased mut (pointee R-Bound.written)) l₁₀ _ ∷ filled (slice_ty (ty_ref erased mut (pointee R-Bound.written))) l₁₁ _ ∷ filled (ty_ref erased mut word) l₁₂ _ ∷ filled (slice_ty (ty_ref erased mut word)) l₁₃ _ ∷ filled (ty_ref erased mut (ty_int w8)) l₁₄ _ ∷ filled (slice_ty (ty_ref erased mut (ty_int w8))) l₁₅ _ ∷ filled (ty_ref erased mut (ty_int w8)) l₁₆ _ ∷ filled (slice_ty (ty_ref erased mut (ty_int w8))) l₁₇ _ ∷ filled (ty_ref erased imm (ty_array (ty_int w8) 0)) l₁₈ _ ∷ filled (slice_ty (ty_ref erased imm (ty_int w8))) l₁₉ _ ∷ []) (After x ∷ []) (Post (val_Answer x.0)) (exits x p))
 
-    part₁ : Sq 𝓛 (Plain-counters ∷ Plain-row ∷ Plain-words ∷ Plain-bytes ∷ Plain-holds ∷ stack 𝓛 (empty Answer-laws.mir l₀ ∷ filled (ty_ref (named 0) mut (pointee R_Replica.written)) l₁ (s-counters) ∷ filled (slice_ty (ty_ref (named 1) mut (pointee R-Bound.written))) l₂ (s-row) ∷ filled (slice_ty (ty_ref (named 2) mut word)) l₃ (s-words) ∷ filled (slice_ty (ty_ref (named 3) mut (ty_int w8))) l₄ (s-bytes) ∷ filled (slice_ty (ty_ref (named 4) mut (ty_int w8))) l₅ (s-holds) ∷ filled Settings-laws.mir l₆ (val_Settings the_settings_lem) ∷ empty Call-laws.mir l₇ ∷ empty (ty_array (ty_int w8) 0) l₈ ∷ empty (ty_ref erased mut (pointee R_Replica.written)) l₉ ∷ empty (ty_ref erased mut (pointee R-Bound.written)) l₁₀ ∷ empty (slice_ty (ty_ref erased mut (pointee R-Bound.written))) l₁₁ ∷ empty (ty_ref erased mut word) l₁₂ ∷ empty (slice_ty (ty_ref erased mut word)) l₁₃ ∷ empty (ty_ref erased mut (ty_int w8)) l₁₄ ∷ empty (slice_ty (ty_ref erased mut (ty_int w8))) l₁₅ ∷ empty (ty_ref erased mut (ty_int w8)) l₁₆ ∷ empty (slice_ty (ty_ref erased mut (ty_int w8))) l₁₇ ∷ empty (ty_ref erased imm (ty_array (ty_int w8) 0)) l₁₈ ∷ empty (slice_ty (ty_ref erased imm (ty_int w8))) l₁₉ ∷ []) []) (runs Ct Λ En text.t-1 (at_ret En Post))
+    part₁ : Sq 𝓛 (PlainCounters ∷ PlainRow ∷ PlainWords ∷ PlainBytes ∷ PlainHolds ∷ stack 𝓛 (empty Answer-laws.mir l₀ ∷ filled (ty_ref (named 0) mut (pointee R_Replica.written)) l₁ (s_counters) ∷ filled (slice_ty (ty_ref (named 1) mut (pointee R-Bound.written))) l₂ (s_row) ∷ filled (slice_ty (ty_ref (named 2) mut word)) l₃ (s_words) ∷ filled (slice_ty (ty_ref (named 3) mut (ty_int w8))) l₄ (s_bytes) ∷ filled (slice_ty (ty_ref (named 4) mut (ty_int w8))) l₅ (s_holds) ∷ filled Settings-laws.mir l₆ (val_Settings the_settings_lem) ∷ empty Call-laws.mir l₇ ∷ empty (ty_array (ty_int w8) 0) l₈ ∷ empty (ty_ref erased mut (pointee R_Replica.written)) l₉ ∷ empty (ty_ref erased mut (pointee R-Bound.written)) l₁₀ ∷ empty (slice_ty (ty_ref erased mut (pointee R-Bound.written))) l₁₁ ∷ empty (ty_ref erased mut word) l₁₂ ∷ empty (slice_ty (ty_ref erased mut word)) l₁₃ ∷ empty (ty_ref erased mut (ty_int w8)) l₁₄ ∷ empty (slice_ty (ty_ref erased mut (ty_int w8))) l₁₅ ∷ empty (ty_ref erased mut (ty_int w8)) l₁₆ ∷ empty (slice_ty (ty_ref erased mut (ty_int w8))) l₁₇ ∷ empty (ty_ref erased imm (ty_array (ty_int w8) 0)) l₁₈ ∷ empty (slice_ty (ty_ref erased imm (ty_int w8))) l₁₉ ∷ []) []) (runs Ct Λ En text.t-1 (at_ret En Post))
     part₁ =
         assigns ! (agg ! (no_more !)) (from ! (stop !)) (init ! 27 refl (tt, tt)) $
-        assigns ! (agg ! (and_then ! (lit ! tt) (and_then ! (lit ! tt) (no_more !)))) (from ! (stop !)) (init ! 29 refl ((LL.lawful Call-type.the_type Call-laws.the_laws 𝓛).typed x₇ (vals_Call x₇) x₇-is).0) $
+        assigns ! (agg ! (and_then ! (lit ! tt) (and_then ! (lit ! tt) (no_more !)))) (from ! (stop !)) (init ! 29 refl ((LL.lawful Call-type.the_type Call-laws.the_laws 𝓛).typed x₇ (vals_Call x₇) x₇_is).0) $
         assigns ! (addr ! (from ! (hop ! (look ! 41 refl) (stop !)))) (from ! (stop !)) (init ! 25 refl (tt, tt)) $
         assigns ! (addr ! (from ! (fld ! refl (hop ! (look_in ! 39 (sub ! 0 refl (whole !))) (stop !))))) (from ! (stop !)) (init ! 23 refl (tt, tt)) $
         assigns ! (agg ! (and_then ! (load ! (from ! (stop !)) (look ! 23 refl)) (and_then ! (load ! (from ! (fld ! refl (stop !))) (look_in ! 39 (sub ! 1 refl (whole !)))) (no_more !)))) (from ! (stop !)) (init ! 21 refl (tt, (tt, (record { fits = Room-row.0 }, tt)))) $
@@ -216,13 +216,13 @@ module _ {M : Type 1} {𝓤 : Ura M} (𝓛 : Logic 𝓤) (memory : Memory → SP
         assigns ! (agg ! (and_then ! (load ! (from ! (stop !)) (look ! 11 refl)) (and_then ! (load ! (from ! (fld ! refl (stop !))) (look_in ! 33 (sub ! 1 refl (whole !)))) (no_more !)))) (from ! (stop !)) (init ! 9 refl (tt, (tt, (record { fits = room-holds.0 }, tt)))) $
         assigns ! (addr ! (from ! (stop !))) (from ! (stop !)) (init ! 7 refl (tt, tt)) $
         assigns ! (agg ! (and_then ! (load ! (from ! (stop !)) (look ! 7 refl)) (and_then ! (lit ! tt) (no_more !)))) (from ! (stop !)) (init ! 5 refl (tt, (tt, (record { fits = lit< tt }, tt)))) $
-        nothing ! $ move ! (4 ∷ 5 ∷ []) $ join ! $ move ! (4 ∷ 0 ∷ []) $ join ! $ move ! (3 ∷ 0 ∷ []) $ join ! $ move ! (2 ∷ 0 ∷ []) $ join ! $ move ! (1 ∷ []) $ drop ! $ calls-empty ! fm (OnCall 𝓛 memory run) known-on-call u8 l₈ 0 (named 5) (lit< tt, lit< tt) (to-on-call l₈) (λ x. val_Answer x.0) CoreTold Before After (λ α γ. goes-on-call l₈ α γ is-settings x₇-is) (told-on-call l₈) (λ α γ j. (and_then ! (load ! (from ! (stop !)) (look ! 21 refl)) (and_then ! (load ! (from ! (stop !)) (look ! 17 refl)) (and_then ! (load ! (from ! (stop !)) (look ! 13 refl)) (and_then ! (load ! (from ! (stop !)) (look ! 9 refl)) (and_then ! (load ! (from ! (stop !)) (look ! 5 refl)) (and_then ! (load ! (from ! (stop !)) (look ! 1 refl)) (and_then ! (load ! (from ! (stop !)) (look ! 27 refl)) (and_then ! (load ! (from ! (stop !)) (look ! 25 refl)) (no_more !)))))))))) (λ x p. land ! (from ! (stop !)) (init ! 39 refl ((LL.lawful Answer-type.the_type Answer-laws.the_laws 𝓛).typed x.0 (vals_Answer x.0) p.0).0) $
+        nothing ! $ move ! (4 ∷ 5 ∷ []) $ join ! $ move ! (4 ∷ 0 ∷ []) $ join ! $ move ! (3 ∷ 0 ∷ []) $ join ! $ move ! (2 ∷ 0 ∷ []) $ join ! $ move ! (1 ∷ []) $ drop ! $ calls_empty ! fm (OnCall 𝓛 memory run) known-on-call u8 l₈ 0 (named 5) (lit< tt, lit< tt) (to_on_call l₈) (λ x. val_Answer x.0) CoreTold Before After (λ α γ. goes_on_call l₈ α γ is-settings x₇_is) (told_on_call l₈) (λ α γ j. (and_then ! (load ! (from ! (stop !)) (look ! 21 refl)) (and_then ! (load ! (from ! (stop !)) (look ! 17 refl)) (and_then ! (load ! (from ! (stop !)) (look ! 13 refl)) (and_then ! (load ! (from ! (stop !)) (look ! 9 refl)) (and_then ! (load ! (from ! (stop !)) (look ! 5 refl)) (and_then ! (load ! (from ! (stop !)) (look ! 1 refl)) (and_then ! (load ! (from ! (stop !)) (look ! 27 refl)) (and_then ! (load ! (from ! (stop !)) (look ! 25 refl)) (no_more !)))))))))) (λ x p. land ! (from ! (stop !)) (init ! 39 refl ((LL.lawful Answer-type.the_type Answer-laws.the_laws 𝓛).typed x.0 (vals_Answer x.0) p.0).0) $
         part₁₅ x p)
 
   module _ (Ct : Calls 𝓤 H) (Λ : Loops 𝓤 H) (fm : FmC 𝓤 H 𝓛.laws Ct) (known-on-call : Triple 𝓤 (Ct #replica·on-call) (OnCall 𝓛 memory run)) where
-    walk : ent 𝓤 (on_entry 𝓛 this.signature (κ₀, (κ₁, (κ₂, (κ₃, (κ₄, tt))))) (q₀, (q₁, (q₂, (q₃, (q₄, tt))))) x-all at_all) (WpFn 𝓤 H Ct Λ code.function (s-counters ∷ s-row ∷ s-words ∷ s-bytes ∷ s-holds ∷ val_Settings the_settings_lem ∷ []) Post)
+    walk : ent 𝓤 (on_entry 𝓛 this.signature (κ₀, (κ₁, (κ₂, (κ₃, (κ₄, tt))))) (q₀, (q₁, (q₂, (q₃, (q₄, tt))))) x_all at_all) (WpFn 𝓤 H Ct Λ code.function (s_counters ∷ s_row ∷ s_words ∷ s_bytes ∷ s_holds ∷ val_Settings the_settings_lem ∷ []) Post)
     walk =
-        qed 𝓛 ((‵ (flft κ₀ q₀) ⊛ (‵ (flft κ₁ q₁) ⊛ (‵ (flft κ₂ q₂) ⊛ (‵ (flft κ₃ q₃) ⊛ (‵ (flft κ₄ q₄) ⊛ (‵ ftrue)))))) ∷ ‵ (owns (MutRef (named 0) κ₀ R_Replica ∷ MutSlice (named 1) κ₁ R-Bound ∷ MutSlice (named 2) κ₂ u64 ∷ MutSlice (named 3) κ₃ u8 ∷ MutSlice (named 4) κ₄ u8 ∷ R_Settings ∷ []) x-all at_all) ∷ []) ∵ enter ! Ct Λ code.function (s-counters ∷ s-row ∷ s-words ∷ s-bytes ∷ s-holds ∷ val_Settings the_settings_lem ∷ []) _ $
+        qed 𝓛 ((‵ (flft κ₀ q₀) ⊛ (‵ (flft κ₁ q₁) ⊛ (‵ (flft κ₂ q₂) ⊛ (‵ (flft κ₃ q₃) ⊛ (‵ (flft κ₄ q₄) ⊛ (‵ ftrue)))))) ∷ ‵ (owns (MutRef (named 0) κ₀ R_Replica ∷ MutSlice (named 1) κ₁ R-Bound ∷ MutSlice (named 2) κ₂ u64 ∷ MutSlice (named 3) κ₃ u8 ∷ MutSlice (named 4) κ₄ u8 ∷ R_Settings ∷ []) x_all at_all) ∷ []) ∵ enter ! Ct Λ code.function (s_counters ∷ s_row ∷ s_words ∷ s_bytes ∷ s_holds ∷ val_Settings the_settings_lem ∷ []) _ $
         alloc1 ! (λ l₀. alloc1 ! (λ l₁. alloc1 ! (λ l₂. alloc1 ! (λ l₃. alloc1 ! (λ l₄. alloc1 ! (λ l₅. alloc1 ! (λ l₆. alloc1 ! (λ l₇. alloc1 ! (λ l₈. alloc1 ! (λ l₉. alloc1 ! (λ l₁₀. alloc1 ! (λ l₁₁. alloc1 ! (λ l₁₂. alloc1 ! (λ l₁₃. alloc1 ! (λ l₁₄. alloc1 ! (λ l₁₅. alloc1 ! (λ l₁₆. alloc1 ! (λ l₁₇. alloc1 ! (λ l₁₈. alloc1 ! (λ l₁₉. alloc0 ! $ params1 ! $
         pass1 ! (init ! 36 refl (tt, tt)) $ pass1 ! (init ! 34 refl (tt, (tt, (record { fits = Room-row.0 }, tt)))) $ pass1 ! (init ! 32 refl (tt, (tt, (record { fits = room-words.0 }, tt)))) $ pass1 ! (init ! 30 refl (tt, (tt, (record { fits = room-bytes.0 }, tt)))) $ pass1 ! (init ! 28 refl (tt, (tt, (record { fits = room-holds.0 }, tt)))) $ pass1 ! (init ! 26 refl ((LL.lawful Settings-type.the_type Settings-laws.the_laws 𝓛).typed the_settings_lem (vals_Settings the_settings_lem) is-settings).0) $ pass0 ! $
         move ! (41 ∷ []) $ fsplit ! $ move ! (1 ∷ []) $ fsplit ! $ move ! (1 ∷ []) $ fsplit ! $ move ! (1 ∷ []) $ fsplit ! $ move ! (1 ∷ []) $ fsplit ! $ move ! (1 ∷ []) $ fsplit ! $ drop ! $ drop ! $ move ! (45 ∷ []) $ split ! $ move ! (1 ∷ []) $ split ! $ move ! (1 ∷ []) $ split ! $ move ! (1 ∷ []) $ split ! $ move ! (1 ∷ []) $ split ! $ move ! (1 ∷ []) $ drop ! $ move ! (4 ∷ 9 ∷ []) $ join ! $ move ! (4 ∷ 8 ∷ []) $ join ! $ move ! (4 ∷ 7 ∷ []) $ join ! $ move ! (4 ∷ 6 ∷ []) $ join ! $ move ! (4 ∷ 5 ∷ []) $ join ! $
@@ -232,18 +232,18 @@ module _ {M : Type 1} {𝓤 : Ura M} (𝓛 : Logic 𝓤) (memory : Memory → SP
 module _ {M : Type 1} {𝓤 : Ura M} (𝓛 : Logic 𝓤) (memory : Memory → SProp 𝓤) (run : Routine → Fun 𝓤) (𝓣 : Tables 𝓤 𝓛.H) (known-on-call : Triple 𝓤 (𝓣.C #replica·on-call) (OnCall 𝓛 memory run)) where
   open 𝓛 use {H}
 
-  promote-walks : Walks 𝓛 this.ended stayed (WpFn 𝓤 H 𝓣.C 𝓣.Λ code.function) (this.clauses 𝓛 memory run)
-  promote-walks = walked 𝓛 this.ended stayed (this.clauses 𝓛 memory run) (WpFn 𝓤 H 𝓣.C 𝓣.Λ code.function) (λ κs. (mut_vals, (mut_slice_vals, (mut_slice_vals, (mut_slice_vals, (mut_slice_vals, (vals_Settings, tt)))))))
+  promote_walks : Walks 𝓛 this.ended stayed (WpFn 𝓤 H 𝓣.C 𝓣.Λ code.function) (this.clauses 𝓛 memory run)
+  promote_walks = walked 𝓛 this.ended stayed (this.clauses 𝓛 memory run) (WpFn 𝓤 H 𝓣.C 𝓣.Λ code.function) (λ κs. (mut_vals, (mut_slice_vals, (mut_slice_vals, (mut_slice_vals, (mut_slice_vals, (vals_Settings, tt)))))))
       (λ κs. (mut_Tells (named 0) κs.0 R_Replica, (mut_slice_Tells (named 1) κs.1.0 R-Bound, (mut_slice_Tells (named 2) κs.1.1.0 u64, (mut_slice_Tells (named 3) κs.1.1.1.0 u8, (mut_slice_Tells (named 4) κs.1.1.1.1.0 u8, (tells_Settings, tt)))))))
       (λ κs qs bounds a g are. via 𝓤 _ (fst∗ 𝓤 _ (emp 𝓤)) (walk 𝓛 memory run κs.0 κs.1.0 κs.1.1.0 κs.1.1.1.0 κs.1.1.1.1.0 qs.0 qs.1.0 qs.1.1.0 qs.1.1.1.0 qs.1.1.1.1.0 a.0 a.1.0 a.1.1.0 a.1.1.1.0 a.1.1.1.1.0 a.1.1.1.1.1.0 are.1.0.0.1 are.1.1.0.0.1 are.1.1.1.0.0.1 are.1.1.1.1.0.0.1 are.1.1.1.1.1.0 𝓣.C 𝓣.Λ (fm_of 𝓤 H 𝓛.laws 𝓣) known-on-call))
 
-  promote-meets : Meets 𝓛 this.signature (WpFn 𝓤 H 𝓣.C 𝓣.Λ code.function) (this.spec 𝓛 memory run)
-  promote-meets = walk_Meets 𝓛 this.ended stayed (Goes-gave_ref 𝓛 5 0 tt (plain (λ _. R_Replica)), (Goes-gave_slice 𝓛 5 1 tt (plain (λ _. R-Bound)), (Goes-gave_slice 𝓛 5 2 tt (plain (λ _. u64)), (Goes-gave_slice 𝓛 5 3 tt (plain (λ _. u8)), (Goes-gave_slice 𝓛 5 4 tt (plain (λ _. u8)), (Goes-dropped 𝓛 5 (plain (λ _. R_Settings)) yes (λ κs x f. refl), tt)))))) (this.clauses 𝓛 memory run) (WpFn 𝓤 H 𝓣.C 𝓣.Λ code.function) (WpFn-mono 𝓤 H 𝓛.laws 𝓣 code.function) promote-walks
+  promote_meets : Meets 𝓛 this.signature (WpFn 𝓤 H 𝓣.C 𝓣.Λ code.function) (this.spec 𝓛 memory run)
+  promote_meets = walk_Meets 𝓛 this.ended stayed (Goes-gave_ref 𝓛 5 0 tt (plain (λ _. R_Replica)), (Goes-gave_slice 𝓛 5 1 tt (plain (λ _. R-Bound)), (Goes-gave_slice 𝓛 5 2 tt (plain (λ _. u64)), (Goes-gave_slice 𝓛 5 3 tt (plain (λ _. u8)), (Goes-gave_slice 𝓛 5 4 tt (plain (λ _. u8)), (Goes-dropped 𝓛 5 (plain (λ _. R_Settings)) yes (λ κs x f. refl), tt)))))) (this.clauses 𝓛 memory run) (WpFn 𝓤 H 𝓣.C 𝓣.Λ code.function) (WpFn-mono 𝓤 H 𝓛.laws 𝓣 code.function) promote_walks
 
 pub promote_spec : {M : Type 1} → stated.statement M
 unfolding code.routine tables_of
 promote_spec 𝓤 𝓛 𝓜 𝓡 =
     entered 𝓤 𝓛.H (triple_of 𝓛 this.signature (this.spec 𝓛 𝓜.mem 𝓡.run))
     (tables 𝓤 𝓛.H 𝓜 𝓡 code.env).C (tables 𝓤 𝓛.H 𝓜 𝓡 code.env).Λ #replica·promote code.function (code.unfolded 𝓤 𝓛.H 𝓜 𝓡)
-    (promote-meets 𝓛 𝓜.mem 𝓡.run (tables_of 𝓤 𝓛.H 𝓜 (tables 𝓤 𝓛.H 𝓜 𝓡 code.env))
+    (promote_meets 𝓛 𝓜.mem 𝓡.run (tables_of 𝓤 𝓛.H 𝓜 (tables 𝓤 𝓛.H 𝓜 𝓡 code.env))
     (cited 𝓤 𝓛.H (OnCall 𝓛 𝓜.mem 𝓡.run) 𝓜 𝓡 code.env #replica·on-call on-call-def.routine code.calls-replica::on-call (on-call-thm.met 𝓤 𝓛 𝓜 𝓡)))

@@ -3,33 +3,33 @@ use lib.ListN.{length}
 use native.Mathlib.Omega.{arith}
 use borrow.Author.Rules.{rules}
 use Rattle.store_place.specs.Place.{next_out_of}
-use Rattle.standby_apply.proofs.Laws.{message-next, bare-next, stamp-kept, marks-kept}
+use Rattle.standby_apply.proofs.Laws.{message_next, bare_next, stamp_kept, marks_kept}
 use Rattle.standby_apply.proofs.apply.Statement.{statement}
 use Rattle.standby_apply.proofs.apply.Tie as tie
 
 record-requires : tie.Need-record-requires
 record-requires c κs =
     let a = c.before.before.before.before.before.before.before.before.before in
-    let n = message-next a.args.run.now a.args.op (next_out_of a.args.words.now) c.before.before.before.before.op4.given.1 a.requires.1.1.1 in
+    let n = message_next a.args.run.now a.args.op (next_out_of a.args.words.now) c.before.before.before.before.op4.given.1 a.requires.1.1.1 in
     (a.requires.0, (a.requires.1.0, n))
 
 record-none-requires : tie.Need-record-none-requires
 record-none-requires c κs =
     let a = c.before.before.before.before.before.before.before in
-    let n = bare-next a.args.run.now a.args.op (next_out_of a.args.words.now) c.before.before.op5.given.1 a.requires.1.1.1 in
+    let n = bare_next a.args.run.now a.args.op (next_out_of a.args.words.now) c.before.before.op5.given.1 a.requires.1.1.1 in
     (a.requires.0, n)
 
 set-created-at-requires : tie.Need-set-created-at-requires
 set-created-at-requires c κs =
     let a = c.before.before.before.before.before.before.before.before.before in
     let long : 16 ≤ length a.args.words.now = omega arith in
-    (long, (a.requires.1.0, rw c.slice2.ensures (stamp-kept a.args.run.now a.args.op a.args.protocol.version c.before.before.before.before.op6.given.1 a.requires.1.1.0)))
+    (long, (a.requires.1.0, rw c.slice2.ensures (stamp_kept a.args.run.now a.args.op a.args.protocol.version c.before.before.before.before.op6.given.1 a.requires.1.1.0)))
 
 set-marks-requires : tie.Need-set-marks-requires
 set-marks-requires c κs =
     let a = c.before.before.before.before.before.before.before.before.before in
     let long : 16 ≤ length a.args.words.now = omega arith in
-    (long, (a.requires.1.0, rw c.slice3.ensures (marks-kept a.args.run.now a.args.op a.args.protocol.version c.before.before.before.before.op7.given.1 a.requires.1.1.0)))
+    (long, (a.requires.1.0, rw c.slice3.ensures (marks_kept a.args.run.now a.args.op a.args.protocol.version c.before.before.before.before.op7.given.1 a.requires.1.1.0)))
 
 returns : tie.Need-returns
 returns c = rw c.before.before.before.before.before.op.given.1 (λ C e. c.before.before.set-next-incoming.ensures C _ _)

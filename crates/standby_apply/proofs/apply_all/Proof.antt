@@ -2,7 +2,7 @@ use borrow.Author.Rules.{rules}
 use native.Mathlib.Omega.{arith}
 use mathlib.Core.Path.{sym, ap, ◌∙◌}
 use lib.ListN.{length, drop, drop_of_length-le}
-use Rattle.model_frame.proofs.Runs.{change-shorter}
+use Rattle.model_frame.proofs.Runs.{change_shorter}
 use Rattle.frame_op.specs.Answers.{res_op}
 use Rattle.standby_apply.proofs.Loop.{Applying, starts, first_fine, first_fits, goes_on, made_bad, made_all}
 use Rattle.standby_apply.proofs.apply_all.Statement.{statement}
@@ -36,7 +36,7 @@ apply-requires c κs =
 
 loop-less : tie.Need-loop-smaller invariant-loop decreases-loop
 loop-less c =
-    (change-shorter _ _ c.before.before.before.before.before.before.before.before.before.before.before.before.before.loop.invariant.octets (sym c.before.before.before.before.before.before.before.before.before.before.op-from.ensures ∙ ap (res_op _) c.before.before.before.before.before.before.before.before.op.given.1)).1
+    (change_shorter _ _ c.before.before.before.before.before.before.before.before.before.before.before.before.before.loop.invariant.octets (sym c.before.before.before.before.before.before.before.before.before.before.op-from.ensures ∙ ap (res_op _) c.before.before.before.before.before.before.before.before.op.given.1)).1
 
 loop-again : tie.Need-loop-preserved invariant-loop decreases-loop
 loop-again c =

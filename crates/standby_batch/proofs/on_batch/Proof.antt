@@ -1,5 +1,5 @@
 use borrow.Author.Rules.{rules}
-use Rattle.standby_batch.proofs.Laws.{with-records, stale, handled-is, kept_of, sound-of}
+use Rattle.standby_batch.proofs.Laws.{with_records, stale, handled_is, kept_of, sound_of}
 use Rattle.frame_fields.specs.Answers.{part_of}
 use Rattle.frame_op.specs.Answers.{run_of}
 use Rattle.model_frame.specs.Reading.{read_change, read_app_record}
@@ -33,7 +33,7 @@ unchanged-requires c κs = search rules
 
 -- src/lib.rt:98:9
 returns : tie.Need-returns
-returns c = with-records c.before.before.before.before.before.before.before.before.before.args.settings c.before.before.before.before.before.before.before.before.before.args.counters c.before.before.before.before.before.before.before.before.before.args.lookup c.before.before.before.before.before.before.before.before.before.args.batch.handle c.before.before.before.before.before.before.before.before.before.args.batch.epoch c.before.before.before.before.before.before.before.before.before.args.batch.commit_no (part_of c.before.before.before.before.before.before.before.before.before.args.batch.part) (run_of (read_change 1) c.before.before.before.before.before.before.before.before.before.args.frame.now c.before.before.before.before.before.before.before.before.before.args.batch.ops) (run_of read_app_record c.before.before.before.before.before.before.before.before.before.args.frame.now c.before.before.before.before.before.before.before.before.before.args.batch.app_records) c.before.before.before.before.before.before.before.before.before.args.words.now c.before.before.before.before.before.before.before.before.before.args.bytes.now c.before.before.before.before.before.before.before.before.before.args.area.now c.before.before.before.before.before.before.before.before.before.requires.0 (sym c.before.before.before.no-records.ensures ∙ not-true _ c.before.before.if1.true) c.unchanged.ensures c.before.refused.ensures
+returns c = with_records c.before.before.before.before.before.before.before.before.before.args.settings c.before.before.before.before.before.before.before.before.before.args.counters c.before.before.before.before.before.before.before.before.before.args.lookup c.before.before.before.before.before.before.before.before.before.args.batch.handle c.before.before.before.before.before.before.before.before.before.args.batch.epoch c.before.before.before.before.before.before.before.before.before.args.batch.commit_no (part_of c.before.before.before.before.before.before.before.before.before.args.batch.part) (run_of (read_change 1) c.before.before.before.before.before.before.before.before.before.args.frame.now c.before.before.before.before.before.before.before.before.before.args.batch.ops) (run_of read_app_record c.before.before.before.before.before.before.before.before.before.args.frame.now c.before.before.before.before.before.before.before.before.before.args.batch.app_records) c.before.before.before.before.before.before.before.before.before.args.words.now c.before.before.before.before.before.before.before.before.before.args.bytes.now c.before.before.before.before.before.before.before.before.before.args.area.now c.before.before.before.before.before.before.before.before.before.requires.0 (sym c.before.before.before.no-records.ensures ∙ not-true _ c.before.before.if1.true) c.unchanged.ensures c.before.refused.ensures
 
 -- src/lib.rt
 is-stale-requires : tie.Need-is-stale-requires
@@ -61,7 +61,7 @@ run-of-requires c κs = c.before.before.before.before.before.before.before.befor
 
 -- src/lib.rt:114:9
 on-handle-requires : tie.Need-on-handle-requires
-on-handle-requires c κs = (c.before.before.before.before.before.before.before.before.before.before.before.before.before.before.before.before.before.before.before.requires.0, (c.before.before.before.before.before.before.before.before.before.before.before.before.before.before.before.before.before.before.before.requires.1.0, (c.before.before.before.run_of.ensures.all, λ t. sound-of c.before.before.before.before.before.before.before.before.before.before.before.before.before.before.before.before.before.before.before.args.lookup c.before.before.before.before.before.before.before.before.before.before.before.before.before.before.before.before.before.before.before.args.batch.handle c.before.before.before.before.before.before.before.before.before.before.before.before.before.before.before.before.before.before.before.args.words.now c.before.before.before.before.before.before.before.before.before.before.before.before.before.before.before.before.before.before.before.args.area.now c.before.before.before.before.before.before.before.before.before.before.before.before.before.before.before.before.before.before.before.requires.1.1.0 c.before.before.before.before.is_found.ensures t)))
+on-handle-requires c κs = (c.before.before.before.before.before.before.before.before.before.before.before.before.before.before.before.before.before.before.before.requires.0, (c.before.before.before.before.before.before.before.before.before.before.before.before.before.before.before.before.before.before.before.requires.1.0, (c.before.before.before.run_of.ensures.all, λ t. sound_of c.before.before.before.before.before.before.before.before.before.before.before.before.before.before.before.before.before.before.before.args.lookup c.before.before.before.before.before.before.before.before.before.before.before.before.before.before.before.before.before.before.before.args.batch.handle c.before.before.before.before.before.before.before.before.before.before.before.before.before.before.before.before.before.before.before.args.words.now c.before.before.before.before.before.before.before.before.before.before.before.before.before.before.before.before.before.before.before.args.area.now c.before.before.before.before.before.before.before.before.before.before.before.before.before.before.before.before.before.before.before.requires.1.1.0 c.before.before.before.before.is_found.ensures t)))
 
 -- src/lib.rt:115:13
 with-epoch-requires : tie.Need-with-epoch-requires
@@ -85,7 +85,7 @@ same_length_3 c = search rules
 
 -- src/lib.rt:81:1
 returns-3 : tie.Need-returns-3
-returns-3 c = handled-is c.before.before.before.before.before.before.before.before.before.before.before.before.before.before.before.before.before.before.before.before.before.before.before.before.before.before.before.before.args.settings c.before.before.before.before.before.before.before.before.before.before.before.before.before.before.before.before.before.before.before.before.before.before.before.before.before.before.before.before.args.counters c.before.before.before.before.before.before.before.before.before.before.before.before.before.before.before.before.before.before.before.before.before.before.before.before.before.before.before.before.args.lookup c.before.before.before.before.before.before.before.before.before.before.before.before.before.before.before.before.before.before.before.before.before.before.before.before.before.before.before.before.args.batch.handle c.before.before.before.before.before.before.before.before.before.before.before.before.before.before.before.before.before.before.before.before.before.before.before.before.before.before.before.before.args.batch.epoch c.before.before.before.before.before.before.before.before.before.before.before.before.before.before.before.before.before.before.before.before.before.before.before.before.before.before.before.before.args.batch.commit_no (part_of c.before.before.before.before.before.before.before.before.before.before.before.before.before.before.before.before.before.before.before.before.before.before.before.before.before.before.before.before.args.batch.part) (run_of (read_change 1) c.before.before.before.before.before.before.before.before.before.before.before.before.before.before.before.before.before.before.before.before.before.before.before.before.before.before.before.before.args.frame.now c.before.before.before.before.before.before.before.before.before.before.before.before.before.before.before.before.before.before.before.before.before.before.before.before.before.before.before.before.args.batch.ops) (run_of read_app_record c.before.before.before.before.before.before.before.before.before.before.before.before.before.before.before.before.before.before.before.before.before.before.before.before.before.before.before.before.args.frame.now c.before.before.before.before.before.before.before.before.before.before.before.before.before.before.before.before.before.before.before.before.before.before.before.before.before.before.before.before.args.batch.app_records) c.before.before.before.before.before.before.before.before.before.before.before.before.before.before.before.before.before.before.before.before.before.before.before.before.before.before.before.before.args.words.now c.before.before.before.before.before.before.before.before.before.before.before.before.before.before.before.before.before.before.before.before.before.before.before.before.before.before.before.before.args.bytes.now c.before.before.before.before.before.before.before.before.before.before.before.before.before.before.before.before.before.before.before.before.before.before.before.before.before.before.before.before.args.area.now c.before.before.before.before.before.before.before.before.before.before.before.before.before.before.before.before.before.before.before.before.before.before.before.before.before.before.before.before.requires.0 (sym c.before.before.before.before.before.before.before.before.before.before.before.before.before.before.before.before.before.before.before.before.before.before.no-records.ensures ∙ not-false _ c.before.before.before.before.before.before.before.before.before.before.before.before.before.before.before.before.before.before.before.before.before.if1.false) (sym c.before.before.before.before.before.before.before.before.before.before.before.before.before.before.before.before.before.before.before.before.is-stale.ensures ∙ c.before.before.before.before.before.before.before.before.before.before.before.before.before.before.before.before.before.before.before.if2.false) c.before.before.before.before.before.before.before.before.before.before.before.before.before.is_found.ensures (rw c.before.before.before.before.before.before.before.before.before.before.before.before.run_of.ensures.changes at c.before.before.before.before.before.before.before.before.on-handle.ensures.0) c.before.before.before.before.before.before.before.before.on-handle.ensures.1 c.before.before.before.before.before.before.before.before.before.before.before.before.run_of.ensures.bytes (kept_of c.before.before.before.before.before.before.before.before.before.before.before.before.before.before.before.before.before.before.before.before.before.before.before.before.before.before.before.before.args.lookup c.before.before.before.before.before.before.before.before.before.before.before.before.before.before.before.before.before.before.before.before.before.before.before.before.before.before.before.before.args.batch.handle c.before.before.before.before.before.before.before.before.before.before.before.before.before.before.before.before.before.before.before.before.before.before.before.before.before.before.before.before.args.words.now c.before.before.before.before.before.before.before.before.before.before.before.before.before.before.before.before.before.before.before.before.before.before.before.before.before.before.before.before.args.area.now c.before.before.before.before.before.before.before.before.before.before.before.before.before.before.before.before.before.before.before.before.before.before.before.before.before.before.before.before.requires.1.1.0 c.before.before.before.before.before.before.before.before.before.before.before.before.before.is_found.ensures) c.before.with-epoch.ensures c.part-outcome.ensures
+returns-3 c = handled_is c.before.before.before.before.before.before.before.before.before.before.before.before.before.before.before.before.before.before.before.before.before.before.before.before.before.before.before.before.args.settings c.before.before.before.before.before.before.before.before.before.before.before.before.before.before.before.before.before.before.before.before.before.before.before.before.before.before.before.before.args.counters c.before.before.before.before.before.before.before.before.before.before.before.before.before.before.before.before.before.before.before.before.before.before.before.before.before.before.before.before.args.lookup c.before.before.before.before.before.before.before.before.before.before.before.before.before.before.before.before.before.before.before.before.before.before.before.before.before.before.before.before.args.batch.handle c.before.before.before.before.before.before.before.before.before.before.before.before.before.before.before.before.before.before.before.before.before.before.before.before.before.before.before.before.args.batch.epoch c.before.before.before.before.before.before.before.before.before.before.before.before.before.before.before.before.before.before.before.before.before.before.before.before.before.before.before.before.args.batch.commit_no (part_of c.before.before.before.before.before.before.before.before.before.before.before.before.before.before.before.before.before.before.before.before.before.before.before.before.before.before.before.before.args.batch.part) (run_of (read_change 1) c.before.before.before.before.before.before.before.before.before.before.before.before.before.before.before.before.before.before.before.before.before.before.before.before.before.before.before.before.args.frame.now c.before.before.before.before.before.before.before.before.before.before.before.before.before.before.before.before.before.before.before.before.before.before.before.before.before.before.before.before.args.batch.ops) (run_of read_app_record c.before.before.before.before.before.before.before.before.before.before.before.before.before.before.before.before.before.before.before.before.before.before.before.before.before.before.before.before.args.frame.now c.before.before.before.before.before.before.before.before.before.before.before.before.before.before.before.before.before.before.before.before.before.before.before.before.before.before.before.before.args.batch.app_records) c.before.before.before.before.before.before.before.before.before.before.before.before.before.before.before.before.before.before.before.before.before.before.before.before.before.before.before.before.args.words.now c.before.before.before.before.before.before.before.before.before.before.before.before.before.before.before.before.before.before.before.before.before.before.before.before.before.before.before.before.args.bytes.now c.before.before.before.before.before.before.before.before.before.before.before.before.before.before.before.before.before.before.before.before.before.before.before.before.before.before.before.before.args.area.now c.before.before.before.before.before.before.before.before.before.before.before.before.before.before.before.before.before.before.before.before.before.before.before.before.before.before.before.before.requires.0 (sym c.before.before.before.before.before.before.before.before.before.before.before.before.before.before.before.before.before.before.before.before.before.before.no-records.ensures ∙ not-false _ c.before.before.before.before.before.before.before.before.before.before.before.before.before.before.before.before.before.before.before.before.before.if1.false) (sym c.before.before.before.before.before.before.before.before.before.before.before.before.before.before.before.before.before.before.before.before.is-stale.ensures ∙ c.before.before.before.before.before.before.before.before.before.before.before.before.before.before.before.before.before.before.before.if2.false) c.before.before.before.before.before.before.before.before.before.before.before.before.before.is_found.ensures (rw c.before.before.before.before.before.before.before.before.before.before.before.before.run_of.ensures.changes at c.before.before.before.before.before.before.before.before.on-handle.ensures.0) c.before.before.before.before.before.before.before.before.on-handle.ensures.1 c.before.before.before.before.before.before.before.before.before.before.before.before.run_of.ensures.bytes (kept_of c.before.before.before.before.before.before.before.before.before.before.before.before.before.before.before.before.before.before.before.before.before.before.before.before.before.before.before.before.args.lookup c.before.before.before.before.before.before.before.before.before.before.before.before.before.before.before.before.before.before.before.before.before.before.before.before.before.before.before.before.args.batch.handle c.before.before.before.before.before.before.before.before.before.before.before.before.before.before.before.before.before.before.before.before.before.before.before.before.before.before.before.before.args.words.now c.before.before.before.before.before.before.before.before.before.before.before.before.before.before.before.before.before.before.before.before.before.before.before.before.before.before.before.before.args.area.now c.before.before.before.before.before.before.before.before.before.before.before.before.before.before.before.before.before.before.before.before.before.before.before.before.before.before.before.before.requires.1.1.0 c.before.before.before.before.before.before.before.before.before.before.before.before.before.is_found.ensures) c.before.with-epoch.ensures c.part-outcome.ensures
 
 pub on_batch_spec : {M : Type 1} → statement M
 on_batch_spec =

@@ -1,5 +1,5 @@
 use borrow.Author.Rules.{rules}
-use Rattle.standby_batch_due.proofs.Laws.{batch-at, few_left, kept_in}
+use Rattle.standby_batch_due.proofs.Laws.{batch_at, few_left, kept_in}
 use Rattle.standby_batch_due.proofs.Areas.{within}
 use Rattle.standby_batch_due.specs.DueBatch.{spot_in}
 use Rattle.frame_fields.specs.Answers.{part_of}
@@ -71,7 +71,7 @@ same_length_3 c = search rules
 
 -- src/lib.rt:39:1
 returns : tie.Need-returns
-returns c = batch-at c.before.before.before.before.before.before.before.before.before.before.before.before.before.before.before.before.before.before.before.before.before.before.before.before.before.args.settings c.before.before.before.before.before.before.before.before.before.before.before.before.before.before.before.before.before.before.before.before.before.before.before.before.before.args.counters c.before.before.before.before.before.before.before.before.before.before.before.before.before.before.before.before.before.before.before.before.before.before.before.before.before.args.lookup c.before.before.before.before.before.before.before.before.before.before.before.before.before.before.before.before.before.before.before.before.before.before.before.before.before.args.batch.handle c.before.before.before.before.before.before.before.before.before.before.before.before.before.before.before.before.before.before.before.before.before.before.before.before.before.args.batch.epoch.0 c.before.before.before.before.before.before.before.before.before.before.before.before.before.before.before.before.before.before.before.before.before.before.before.before.before.args.batch.commit_no.0 (part_of c.before.before.before.before.before.before.before.before.before.before.before.before.before.before.before.before.before.before.before.before.before.before.before.before.before.args.batch.part) (run_of (read_change 1) c.before.before.before.before.before.before.before.before.before.before.before.before.before.before.before.before.before.before.before.before.before.before.before.before.before.args.frame.now c.before.before.before.before.before.before.before.before.before.before.before.before.before.before.before.before.before.before.before.before.before.before.before.before.before.args.batch.ops) (run_of read_app_record c.before.before.before.before.before.before.before.before.before.before.before.before.before.before.before.before.before.before.before.before.before.before.before.before.before.args.frame.now c.before.before.before.before.before.before.before.before.before.before.before.before.before.before.before.before.before.before.before.before.before.before.before.before.before.args.batch.app_records) c.before.before.before.before.before.before.before.before.before.before.before.before.before.before.before.before.before.before.before.before.before.before.before.before.before.args.words.now c.before.before.before.before.before.before.before.before.before.before.before.before.before.before.before.before.before.before.before.before.before.before.before.before.before.args.bytes.now c.before.before.before.before.before.before.before.before.before.before.before.before.before.before.before.before.before.before.before.before.before.before.before.before.before.args.holds.now c.before.before.before.before.before.before.before.before.before.before.before.before.before.before.before.before.before.before.is-due-batch.ensures c.before.before.before.before.before.before.before.before.before.before.before.before.before.before.before.run-if.ensures _ _ _ _ c.before.before.before.before.before.before.before.before.before.before.before.room_of.ensures c.before.before.before.before.before.before.before.before.before.before.area-start.ensures c.before.before.before.before.before.before.on-batch.auto.1.1.0 c.before.before.before.before.before.before.on-batch.ensures
+returns c = batch_at c.before.before.before.before.before.before.before.before.before.before.before.before.before.before.before.before.before.before.before.before.before.before.before.before.before.args.settings c.before.before.before.before.before.before.before.before.before.before.before.before.before.before.before.before.before.before.before.before.before.before.before.before.before.args.counters c.before.before.before.before.before.before.before.before.before.before.before.before.before.before.before.before.before.before.before.before.before.before.before.before.before.args.lookup c.before.before.before.before.before.before.before.before.before.before.before.before.before.before.before.before.before.before.before.before.before.before.before.before.before.args.batch.handle c.before.before.before.before.before.before.before.before.before.before.before.before.before.before.before.before.before.before.before.before.before.before.before.before.before.args.batch.epoch.0 c.before.before.before.before.before.before.before.before.before.before.before.before.before.before.before.before.before.before.before.before.before.before.before.before.before.args.batch.commit_no.0 (part_of c.before.before.before.before.before.before.before.before.before.before.before.before.before.before.before.before.before.before.before.before.before.before.before.before.before.args.batch.part) (run_of (read_change 1) c.before.before.before.before.before.before.before.before.before.before.before.before.before.before.before.before.before.before.before.before.before.before.before.before.before.args.frame.now c.before.before.before.before.before.before.before.before.before.before.before.before.before.before.before.before.before.before.before.before.before.before.before.before.before.args.batch.ops) (run_of read_app_record c.before.before.before.before.before.before.before.before.before.before.before.before.before.before.before.before.before.before.before.before.before.before.before.before.before.args.frame.now c.before.before.before.before.before.before.before.before.before.before.before.before.before.before.before.before.before.before.before.before.before.before.before.before.before.args.batch.app_records) c.before.before.before.before.before.before.before.before.before.before.before.before.before.before.before.before.before.before.before.before.before.before.before.before.before.args.words.now c.before.before.before.before.before.before.before.before.before.before.before.before.before.before.before.before.before.before.before.before.before.before.before.before.before.args.bytes.now c.before.before.before.before.before.before.before.before.before.before.before.before.before.before.before.before.before.before.before.before.before.before.before.before.before.args.holds.now c.before.before.before.before.before.before.before.before.before.before.before.before.before.before.before.before.before.before.is-due-batch.ensures c.before.before.before.before.before.before.before.before.before.before.before.before.before.before.before.run-if.ensures _ _ _ _ c.before.before.before.before.before.before.before.before.before.before.before.room_of.ensures c.before.before.before.before.before.before.before.before.before.before.area-start.ensures c.before.before.before.before.before.before.on-batch.auto.1.1.0 c.before.before.before.before.before.before.on-batch.ensures
 
 pub run_due_then_batch_spec : {M : Type 1} → statement M
 run_due_then_batch_spec =

@@ -1,5 +1,5 @@
 use borrow.Author.Rules.{rules}
-use Rattle.standby_bind.proofs.Laws.{brief-is, brief-exact}
+use Rattle.standby_bind.proofs.Laws.{brief_is, brief_exact}
 use Rattle.standby_bind.proofs.summary_at.Statement.{statement}
 use Rattle.standby_bind.proofs.summary_at.Tie as tie
 
@@ -7,7 +7,7 @@ returns : tie.Need-returns
 returns c =
     let m = c.before.before.before.before.summary-of in
     let b = c.before.before.before.before.before.before.before.args.bytes.now in
-    (brief-exact b m.result c.before.has-in-flight.ensures c.in-flight.ensures m.ensures.1, brief-is b m.result c.before.has-in-flight.ensures c.in-flight.ensures m.ensures.0)
+    (brief_exact b m.result c.before.has-in-flight.ensures c.in-flight.ensures m.ensures.1, brief_is b m.result c.before.has-in-flight.ensures c.in-flight.ensures m.ensures.0)
 
 pub summary_at_spec : {M : Type 1} → statement M
 summary_at_spec = tie.close (tie.spec (λ c κs. search rules) (λ c κs. search rules) (λ c κs. search rules) returns)

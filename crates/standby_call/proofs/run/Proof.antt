@@ -1,5 +1,5 @@
 use borrow.Author.Rules.{rules}
-use Rattle.standby_call.proofs.Laws.{is_held, is-frame, is-flush, is-drop, is-promote, is-unchecked, steps_by}
+use Rattle.standby_call.proofs.Laws.{is_held, is_frame_lem, is_flush, is_drop, is_promote, is_unchecked, steps_by}
 use Rattle.standby_call.proofs.run.Statement.{statement}
 use Rattle.standby_call.proofs.run.Tie as tie
 use Rattle.standby_call.proofs.run.Reads as reads
@@ -49,7 +49,7 @@ same_length_6 c = search rules
 
 -- src/lib.rt:73:9
 returns-2 : tie.Need-returns-2
-returns-2 c = steps_by (is-frame c.before.before.before.before.before.before.before.before.before.before.before.before.before.before.before.before.before.before.args.call c.before.before.before.before.before.before.before.before.before.before.before.before.before.before.before.before.before.before.args.frame.now c.before.before.before.before.before.before.before.before.before.before.if2.true) c.before.before.before.before.before.before.on-frame.ensures
+returns-2 c = steps_by (is_frame_lem c.before.before.before.before.before.before.before.before.before.before.before.before.before.before.before.before.before.before.args.call c.before.before.before.before.before.before.before.before.before.before.before.before.before.before.before.before.before.before.args.frame.now c.before.before.before.before.before.before.before.before.before.before.if2.true) c.before.before.before.before.before.before.on-frame.ensures
 
 -- src/lib.rt:76:9
 flush-requires : tie.Need-flush-requires
@@ -69,7 +69,7 @@ same_length_9 c = search rules
 
 -- src/lib.rt:76:9
 returns-3 : tie.Need-returns-3
-returns-3 c = steps_by (is-flush c.before.before.before.before.before.before.before.before.before.before.before.before.before.before.before.before.before.before.before.before.args.call c.before.before.before.before.before.before.before.before.before.before.before.before.before.before.before.before.before.before.before.before.args.frame.now c.before.before.before.before.before.before.before.before.before.before.if3.true) c.before.before.before.before.before.before.flush.ensures
+returns-3 c = steps_by (is_flush c.before.before.before.before.before.before.before.before.before.before.before.before.before.before.before.before.before.before.before.before.args.call c.before.before.before.before.before.before.before.before.before.before.before.before.before.before.before.before.before.before.before.before.args.frame.now c.before.before.before.before.before.before.before.before.before.before.if3.true) c.before.before.before.before.before.before.flush.ensures
 
 -- src/lib.rt:81:9
 disconnected-from-requires : tie.Need-disconnected-from-requires
@@ -89,7 +89,7 @@ same_length_12 c = search rules
 
 -- src/lib.rt:81:9
 returns-4 : tie.Need-returns-4
-returns-4 c = steps_by (is-drop c.before.before.before.before.before.before.before.before.before.before.before.before.before.before.before.before.before.before.before.before.before.before.args.call c.before.before.before.before.before.before.before.before.before.before.before.before.before.before.before.before.before.before.before.before.before.before.args.frame.now c.before.before.before.before.before.before.before.before.before.before.if4.true) c.before.before.before.before.before.before.disconnected-from.ensures
+returns-4 c = steps_by (is_drop c.before.before.before.before.before.before.before.before.before.before.before.before.before.before.before.before.before.before.before.before.before.before.args.call c.before.before.before.before.before.before.before.before.before.before.before.before.before.before.before.before.before.before.before.before.before.before.args.frame.now c.before.before.before.before.before.before.before.before.before.before.if4.true) c.before.before.before.before.before.before.disconnected-from.ensures
 
 -- src/lib.rt:86:9
 promote-requires : tie.Need-promote-requires
@@ -109,7 +109,7 @@ same_length_15 c = search rules
 
 -- src/lib.rt:86:9
 returns-5 : tie.Need-returns-5
-returns-5 c = steps_by (is-promote c.before.before.before.before.before.before.before.before.before.before.before.before.before.before.before.before.before.before.before.before.before.before.before.before.args.call c.before.before.before.before.before.before.before.before.before.before.before.before.before.before.before.before.before.before.before.before.before.before.before.before.args.frame.now c.before.before.before.before.before.before.before.before.before.before.if5.true) c.before.before.before.before.before.before.promote.ensures
+returns-5 c = steps_by (is_promote c.before.before.before.before.before.before.before.before.before.before.before.before.before.before.before.before.before.before.before.before.before.before.before.before.args.call c.before.before.before.before.before.before.before.before.before.before.before.before.before.before.before.before.before.before.before.before.before.before.before.before.args.frame.now c.before.before.before.before.before.before.before.before.before.before.if5.true) c.before.before.before.before.before.before.promote.ensures
 
 -- src/lib.rt:88:5
 promote-unchecked-requires : tie.Need-promote-unchecked-requires
@@ -129,7 +129,7 @@ same_length_18 c = search rules
 
 -- src/lib.rt:56:1
 returns-6 : tie.Need-returns-6
-returns-6 c = steps_by (is-unchecked c.before.before.before.before.before.before.before.before.before.before.before.before.before.before.before.before.before.before.before.before.before.before.before.before.args.call c.before.before.before.before.before.before.before.before.before.before.before.before.before.before.before.before.before.before.before.before.before.before.before.before.args.frame.now c.before.before.before.before.before.before.before.before.before.before.before.before.before.before.before.before.before.before.if1.false c.before.before.before.before.before.before.before.before.before.before.before.before.before.before.before.before.if2.false c.before.before.before.before.before.before.before.before.before.before.before.before.before.before.if3.false c.before.before.before.before.before.before.before.before.before.before.before.before.if4.false c.before.before.before.before.before.before.before.before.before.before.if5.false) c.before.before.before.before.before.before.promote-unchecked.ensures
+returns-6 c = steps_by (is_unchecked c.before.before.before.before.before.before.before.before.before.before.before.before.before.before.before.before.before.before.before.before.before.before.before.before.args.call c.before.before.before.before.before.before.before.before.before.before.before.before.before.before.before.before.before.before.before.before.before.before.before.before.args.frame.now c.before.before.before.before.before.before.before.before.before.before.before.before.before.before.before.before.before.before.if1.false c.before.before.before.before.before.before.before.before.before.before.before.before.before.before.before.before.if2.false c.before.before.before.before.before.before.before.before.before.before.before.before.before.before.if3.false c.before.before.before.before.before.before.before.before.before.before.before.before.if4.false c.before.before.before.before.before.before.before.before.before.before.if5.false) c.before.before.before.before.before.before.promote-unchecked.ensures
 
 pub run_spec : {M : Type 1} → statement M
 run_spec =

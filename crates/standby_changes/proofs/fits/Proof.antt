@@ -1,7 +1,7 @@
 use borrow.Author.Rules.{rules}
 use mathlib.Core.Path.{sym, ap, ◌∙◌}
 use lib.ListN.{length, drop, drop_of_length-le}
-use Rattle.model_frame.proofs.Runs.{change-shorter}
+use Rattle.model_frame.proofs.Runs.{change_shorter}
 use Rattle.frame_op.specs.Answers.{res_op}
 use Rattle.standby_changes.proofs.Loops.{Fitting, fitting, fit_next, fit_off, fit_bad, fit_none}
 use Rattle.standby_changes.proofs.fits.Statement.{statement}
@@ -31,7 +31,7 @@ loop-less : tie.Need-loop-smaller invariant-loop decreases-loop
 loop-less c =
     let op = c.before.before.before.before.before in
     let k = op.before.before in
-    (change-shorter _ _ k.before.before.before.loop.invariant.octets (sym k.op-from.ensures ∙ ap (res_op _) op.op.given.1)).1
+    (change_shorter _ _ k.before.before.before.loop.invariant.octets (sym k.op-from.ensures ∙ ap (res_op _) op.op.given.1)).1
 
 loop-again : tie.Need-loop-preserved invariant-loop decreases-loop
 loop-again c =

@@ -3,12 +3,12 @@ use mathlib.Core.Path.{sym, ap, ◌∙◌}
 use Rattle.model_frame.specs.Parse.{is_empty}
 use Rattle.model_frame.proofs.Le.{are_bytes}
 use Rattle.frame_op.specs.Answers.{res_op}
-use Rattle.standby_changes.proofs.Held.{held-bad, held_more}
+use Rattle.standby_changes.proofs.Held.{held_bad, held_more}
 use Rattle.standby_changes.proofs.is_none.Statement.{statement}
 use Rattle.standby_changes.proofs.is_none.Tie as tie
 
 returns : tie.Need-returns
-returns c = sym (ap is_empty (held-bad _ _ (sym c.before.before.op-from.ensures ∙ ap (res_op _) c.enum_told.given.1)))
+returns c = sym (ap is_empty (held_bad _ _ (sym c.before.before.op-from.ensures ∙ ap (res_op _) c.enum_told.given.1)))
 
 returns-2 : tie.Need-returns-2
 returns-2 c =

@@ -2,7 +2,7 @@ use borrow.Author.Rules.{rules}
 use native.Mathlib.Omega.{arith}
 use mathlib.Core.Path.{sym, ap, ◌∙◌}
 use lib.ListN.{length, drop, drop_of_length-le}
-use Rattle.model_frame.proofs.Runs.{change-shorter}
+use Rattle.model_frame.proofs.Runs.{change_shorter}
 use Rattle.frame_op.specs.Answers.{res_op}
 use Rattle.standby_changes.proofs.Loops.{Summing, summing, summed, sum_fits, sum_bad, sum_none}
 use Rattle.standby_changes.proofs.message_bytes.Statement.{statement}
@@ -30,7 +30,7 @@ add_sum c =
 loop-less : tie.Need-loop-smaller invariant-loop decreases-loop
 loop-less c =
     let k = c.before.before.before.before in
-    (change-shorter _ _ k.before.before.before.loop.invariant.octets (sym k.op-from.ensures ∙ ap (res_op _) c.before.before.op.given.1)).1
+    (change_shorter _ _ k.before.before.before.loop.invariant.octets (sym k.op-from.ensures ∙ ap (res_op _) c.before.before.op.given.1)).1
 
 loop-again : tie.Need-loop-preserved invariant-loop decreases-loop
 loop-again c =

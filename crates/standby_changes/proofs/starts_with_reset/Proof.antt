@@ -2,13 +2,13 @@ use borrow.Author.Rules.{rules}
 use mathlib.Core.Path.{sym, ap, ◌∙◌}
 use Rattle.model_standby.specs.Standby.{starts_with_reset}
 use Rattle.frame_op.specs.Answers.{res_op}
-use Rattle.standby_changes.proofs.Held.{held-bad}
+use Rattle.standby_changes.proofs.Held.{held_bad}
 use Rattle.standby_changes.proofs.Steps.{starts, starts_not}
 use Rattle.standby_changes.proofs.starts_with_reset.Statement.{statement}
 use Rattle.standby_changes.proofs.starts_with_reset.Tie as tie
 
 returns : tie.Need-returns
-returns c = sym (ap starts_with_reset (held-bad _ _ (sym c.before.before.op-from.ensures ∙ ap (res_op _) c.enum_told.given.1)))
+returns c = sym (ap starts_with_reset (held_bad _ _ (sym c.before.before.op-from.ensures ∙ ap (res_op _) c.enum_told.given.1)))
 
 returns-2 : tie.Need-returns-2
 returns-2 c =

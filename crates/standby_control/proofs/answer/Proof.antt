@@ -1,5 +1,5 @@
 use borrow.Author.Rules.{rules}
-use Rattle.standby_control.proofs.Laws.{replied, bound-to, plain_of}
+use Rattle.standby_control.proofs.Laws.{replied, bound_to, plain_of}
 use Rattle.standby_control.specs.Others.{Fit}
 use Rattle.frame.specs.declared.Frame.{Frame}
 use Rattle.frame.specs.Answers.{frame_of}
@@ -38,7 +38,7 @@ same_length_2 c = search rules
 
 -- src/lib.rt:71:1
 returns : tie.Need-returns
-returns c = rw c.before.before.before.before.before.before.before.before.decoded.given.1 (bound-to c.before.before.before.before.before.before.before.before.before.before.before.before.before.args.settings c.before.before.before.before.before.before.before.before.before.before.before.before.before.args.counters c.before.before.before.before.before.before.before.before.before.before.before.before.before.args.lookup c.before.before.before.before.before.before.before.before.before.before.before.before.before.args.words.now c.before.before.before.before.before.before.before.before.before.before.before.before.before.args.bytes.now c.before.before.before.before.before.before.before.before.before.before.before.before.before.requires.0 _ _ _ _ c.before.before.before.before.on-bind.ensures)
+returns c = rw c.before.before.before.before.before.before.before.before.decoded.given.1 (bound_to c.before.before.before.before.before.before.before.before.before.before.before.before.before.args.settings c.before.before.before.before.before.before.before.before.before.before.before.before.before.args.counters c.before.before.before.before.before.before.before.before.before.before.before.before.before.args.lookup c.before.before.before.before.before.before.before.before.before.before.before.before.before.args.words.now c.before.before.before.before.before.before.before.before.before.before.before.before.before.args.bytes.now c.before.before.before.before.before.before.before.before.before.before.before.before.before.requires.0 _ _ _ _ c.before.before.before.before.on-bind.ensures)
 
 -- src/lib.rt:71:1
 same_length_3 : tie.Need-same-length-3

@@ -1,5 +1,5 @@
 use borrow.Author.Rules.{rules}
-use Rattle.standby_batch.proofs.Runs.{run_none, run-some, run-bad}
+use Rattle.standby_batch.proofs.Runs.{run_none, run_some, run_bad}
 use Rattle.frame_reader.specs.Answers.{res16}
 use Rattle.model_frame.specs.Parse.{read_num}
 use mathlib.Core.Path.{◌∙◌, sym, ap}
@@ -27,11 +27,11 @@ enum_told_2 c = search rules
 
 -- src/lib.rt:24:1
 returns-2 : tie.Need-returns-2
-returns-2 c = run-some (read_num 2) c.before.before.before.before.before.before.args.frame.now c.before.before.before.before.before.before.args.run c.before.before.before.if1.false (sym (ap (res16 c.before.before.before.before.before.before.args.frame.now) c.enum_told.given.1) ∙ c.before.before.u16-from.ensures)
+returns-2 c = run_some (read_num 2) c.before.before.before.before.before.before.args.frame.now c.before.before.before.before.before.before.args.run c.before.before.before.if1.false (sym (ap (res16 c.before.before.before.before.before.before.args.frame.now) c.enum_told.given.1) ∙ c.before.before.u16-from.ensures)
 
 -- src/lib.rt:24:1
 returns-3 : tie.Need-returns-3
-returns-3 c = run-bad (read_num 2) c.before.before.before.before.before.before.args.frame.now c.before.before.before.before.before.before.args.run (sym (ap (res16 c.before.before.before.before.before.before.args.frame.now) c.enum-told2.given.1) ∙ c.before.before.u16-from.ensures)
+returns-3 c = run_bad (read_num 2) c.before.before.before.before.before.before.args.frame.now c.before.before.before.before.before.before.args.run (sym (ap (res16 c.before.before.before.before.before.before.args.frame.now) c.enum-told2.given.1) ∙ c.before.before.u16-from.ensures)
 
 pub no_kinds_spec : {M : Type 1} → statement M
 no_kinds_spec =

@@ -1,5 +1,5 @@
 use borrow.Author.Rules.{rules}
-use Rattle.standby_control.proofs.Laws.{other-in}
+use Rattle.standby_control.proofs.Laws.{other_in}
 use Rattle.frame.specs.Answers.{frame_of}
 use Rattle.standby_control.proofs.run_due_then_answer.Statement.{statement}
 use Rattle.standby_control.proofs.run_due_then_answer.Tie as tie
@@ -31,7 +31,7 @@ same_length_2 c = search rules
 
 -- src/lib.rt:102:1
 returns : tie.Need-returns
-returns c = other-in c.before.before.before.before.before.before.before.before.before.before.before.before.before.before.before.before.before.before.args.settings c.before.before.before.before.before.before.before.before.before.before.before.before.before.before.before.before.before.before.args.counters c.before.before.before.before.before.before.before.before.before.before.before.before.before.before.before.before.before.before.args.lookup (frame_of 1 c.before.before.before.before.before.before.before.before.before.before.before.before.before.before.before.before.before.before.args.frame.now c.before.before.before.before.before.before.before.before.before.before.before.before.before.before.before.before.before.before.args.decoded) c.before.before.before.before.before.before.before.before.before.before.before.before.before.before.before.before.before.before.args.words.now c.before.before.before.before.before.before.before.before.before.before.before.before.before.before.before.before.before.before.args.bytes.now c.before.before.before.before.before.before.before.before.before.before.before.before.is-pending.ensures c.before.before.before.before.before.before.before.before.before.run-if.ensures c.before.before.before.before.answer.ensures
+returns c = other_in c.before.before.before.before.before.before.before.before.before.before.before.before.before.before.before.before.before.before.args.settings c.before.before.before.before.before.before.before.before.before.before.before.before.before.before.before.before.before.before.args.counters c.before.before.before.before.before.before.before.before.before.before.before.before.before.before.before.before.before.before.args.lookup (frame_of 1 c.before.before.before.before.before.before.before.before.before.before.before.before.before.before.before.before.before.before.args.frame.now c.before.before.before.before.before.before.before.before.before.before.before.before.before.before.before.before.before.before.args.decoded) c.before.before.before.before.before.before.before.before.before.before.before.before.before.before.before.before.before.before.args.words.now c.before.before.before.before.before.before.before.before.before.before.before.before.before.before.before.before.before.before.args.bytes.now c.before.before.before.before.before.before.before.before.before.before.before.before.is-pending.ensures c.before.before.before.before.before.before.before.before.before.run-if.ensures c.before.before.before.before.answer.ensures
 
 pub run_due_then_answer_spec : {M : Type 1} → statement M
 run_due_then_answer_spec =

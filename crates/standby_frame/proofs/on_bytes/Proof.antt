@@ -1,6 +1,6 @@
 use borrow.Author.Rules.{rules}
-use Rattle.standby_frame.proofs.Laws.{damaged-left, promoted-left, intact-taken}
-use Rattle.standby_frame.proofs.Frames.{number_some, given-bad, given-more, given-short, given-whole, read-writable}
+use Rattle.standby_frame.proofs.Laws.{damaged_left, promoted_left, intact_taken}
+use Rattle.standby_frame.proofs.Frames.{number_some, given_bad, given_more, given_short, given_whole, read_writable}
 use Rattle.model_frame.proofs.Le.{are_bytes}
 use Rattle.model_frame.specs.Frame.{fault_number}
 use Rattle.standby_state.specs.Answers.{is_refused}
@@ -61,7 +61,7 @@ unchanged-requires-3 c κs = search rules
 
 -- src/lib.rt:85:17
 returns : tie.Need-returns
-returns c = damaged-left c.before.before.before.before.before.before.before.before.before.before.before.args.settings c.before.before.before.before.before.before.before.before.before.before.before.args.counters c.before.before.before.before.before.before.before.before.before.before.before.args.lookup c.before.before.before.before.before.before.before.before.before.before.before.args.frame.now c.before.before.before.before.before.before.before.before.before.before.before.args.words.now c.before.before.before.before.before.before.before.before.before.before.before.args.bytes.now c.before.before.before.before.before.before.before.before.before.before.before.args.holds.now c.before.before.before.before.before.before.before.before.before.before.before.requires.0 26 (given-short c.before.before.before.before.before.before.before.before.before.before.before.args.frame.now c.before.before.before.before.before.before.decode.ensures.0 c.before.before.before.before.f.given.1 c.before.before.if1.true) refl c.unchanged3.ensures c.before.refused3.ensures
+returns c = damaged_left c.before.before.before.before.before.before.before.before.before.before.before.args.settings c.before.before.before.before.before.before.before.before.before.before.before.args.counters c.before.before.before.before.before.before.before.before.before.before.before.args.lookup c.before.before.before.before.before.before.before.before.before.before.before.args.frame.now c.before.before.before.before.before.before.before.before.before.before.before.args.words.now c.before.before.before.before.before.before.before.before.before.before.before.args.bytes.now c.before.before.before.before.before.before.before.before.before.before.before.args.holds.now c.before.before.before.before.before.before.before.before.before.before.before.requires.0 26 (given_short c.before.before.before.before.before.before.before.before.before.before.before.args.frame.now c.before.before.before.before.before.before.decode.ensures.0 c.before.before.before.before.f.given.1 c.before.before.if1.true) refl c.unchanged3.ensures c.before.refused3.ensures
 
 -- src/lib.rt:88:49
 refused-requires-4 : tie.Need-refused-requires-4
@@ -73,19 +73,19 @@ unchanged-requires-4 c κs = search rules
 
 -- src/lib.rt:88:17
 returns-2 : tie.Need-returns-2
-returns-2 c = promoted-left c.before.before.before.before.before.before.before.before.before.before.before.before.before.args.settings c.before.before.before.before.before.before.before.before.before.before.before.before.before.args.counters c.before.before.before.before.before.before.before.before.before.before.before.before.before.args.lookup c.before.before.before.before.before.before.before.before.before.before.before.before.before.args.frame.now c.before.before.before.before.before.before.before.before.before.before.before.before.before.args.words.now c.before.before.before.before.before.before.before.before.before.before.before.before.before.args.bytes.now c.before.before.before.before.before.before.before.before.before.before.before.before.before.args.holds.now c.before.before.before.before.before.before.before.before.before.before.before.before.before.requires.0 _ (given-whole c.before.before.before.before.before.before.before.before.before.before.before.before.before.args.frame.now c.before.before.before.before.before.before.before.before.decode.ensures.0 c.before.before.before.before.before.before.f.given.1 c.before.before.before.before.if1.false) c.before.before.if2.true c.unchanged4.ensures c.before.refused4.ensures
+returns-2 c = promoted_left c.before.before.before.before.before.before.before.before.before.before.before.before.before.args.settings c.before.before.before.before.before.before.before.before.before.before.before.before.before.args.counters c.before.before.before.before.before.before.before.before.before.before.before.before.before.args.lookup c.before.before.before.before.before.before.before.before.before.before.before.before.before.args.frame.now c.before.before.before.before.before.before.before.before.before.before.before.before.before.args.words.now c.before.before.before.before.before.before.before.before.before.before.before.before.before.args.bytes.now c.before.before.before.before.before.before.before.before.before.before.before.before.before.args.holds.now c.before.before.before.before.before.before.before.before.before.before.before.before.before.requires.0 _ (given_whole c.before.before.before.before.before.before.before.before.before.before.before.before.before.args.frame.now c.before.before.before.before.before.before.before.before.decode.ensures.0 c.before.before.before.before.before.before.f.given.1 c.before.before.before.before.if1.false) c.before.before.if2.true c.unchanged4.ensures c.before.refused4.ensures
 
 -- src/lib.rt:90:13
 on-decoded-requires : tie.Need-on-decoded-requires
-on-decoded-requires c κs = (c.before.before.before.before.before.before.before.before.before.before.before.before.before.before.requires.0, (c.before.before.before.before.before.before.before.before.before.before.before.before.before.before.requires.1, (read-writable c.before.before.before.before.before.before.before.before.before.before.before.before.before.before.args.frame.now c.before.before.before.before.before.before.before.before.before.decode.ensures.0 c.before.before.before.before.before.before.before.f.given.1 (are_bytes c.before.before.before.before.before.before.before.before.before.before.before.before.before.before.args.frame.now (λ i. (c.before.before.before.before.before.before.before.before.before.before.shared-slice-known.given i).fits)) c.before.before.before.before.before.if1.false, (rw c.before.before.before.before.before.before.before.f.given.1 at c.before.before.before.before.before.before.before.before.before.decode.ensures.1).sized)))
+on-decoded-requires c κs = (c.before.before.before.before.before.before.before.before.before.before.before.before.before.before.requires.0, (c.before.before.before.before.before.before.before.before.before.before.before.before.before.before.requires.1, (read_writable c.before.before.before.before.before.before.before.before.before.before.before.before.before.before.args.frame.now c.before.before.before.before.before.before.before.before.before.decode.ensures.0 c.before.before.before.before.before.before.before.f.given.1 (are_bytes c.before.before.before.before.before.before.before.before.before.before.before.before.before.before.args.frame.now (λ i. (c.before.before.before.before.before.before.before.before.before.before.shared-slice-known.given i).fits)) c.before.before.before.before.before.if1.false, (rw c.before.before.before.before.before.before.before.f.given.1 at c.before.before.before.before.before.before.before.before.before.decode.ensures.1).sized)))
 
 -- src/lib.rt:67:1
 returns-3 : tie.Need-returns-3
-returns-3 c = damaged-left c.before.before.before.before.before.before.before.before.before.before.before.args.settings c.before.before.before.before.before.before.before.before.before.before.before.args.counters c.before.before.before.before.before.before.before.before.before.before.before.args.lookup c.before.before.before.before.before.before.before.before.before.before.before.args.frame.now c.before.before.before.before.before.before.before.before.before.before.before.args.words.now c.before.before.before.before.before.before.before.before.before.before.before.args.bytes.now c.before.before.before.before.before.before.before.before.before.before.before.args.holds.now c.before.before.before.before.before.before.before.before.before.before.before.requires.0 _ (given-bad c.before.before.before.before.before.before.before.before.before.before.before.args.frame.now c.before.before.before.before.before.before.decode.ensures.0 c.before.before.before.before.e.given.1) (number_some (fault_of c.before.before.before.before.e.given.0.0)) c.unchanged.ensures (c.before.refused.ensures ∙ ap is_refused c.before.before.number.ensures)
+returns-3 c = damaged_left c.before.before.before.before.before.before.before.before.before.before.before.args.settings c.before.before.before.before.before.before.before.before.before.before.before.args.counters c.before.before.before.before.before.before.before.before.before.before.before.args.lookup c.before.before.before.before.before.before.before.before.before.before.before.args.frame.now c.before.before.before.before.before.before.before.before.before.before.before.args.words.now c.before.before.before.before.before.before.before.before.before.before.before.args.bytes.now c.before.before.before.before.before.before.before.before.before.before.before.args.holds.now c.before.before.before.before.before.before.before.before.before.before.before.requires.0 _ (given_bad c.before.before.before.before.before.before.before.before.before.before.before.args.frame.now c.before.before.before.before.before.before.decode.ensures.0 c.before.before.before.before.e.given.1) (number_some (fault_of c.before.before.before.before.e.given.0.0)) c.unchanged.ensures (c.before.refused.ensures ∙ ap is_refused c.before.before.number.ensures)
 
 -- src/lib.rt:67:1
 returns-4 : tie.Need-returns-4
-returns-4 c = damaged-left c.before.before.before.before.before.before.before.before.before.args.settings c.before.before.before.before.before.before.before.before.before.args.counters c.before.before.before.before.before.before.before.before.before.args.lookup c.before.before.before.before.before.before.before.before.before.args.frame.now c.before.before.before.before.before.before.before.before.before.args.words.now c.before.before.before.before.before.before.before.before.before.args.bytes.now c.before.before.before.before.before.before.before.before.before.args.holds.now c.before.before.before.before.before.before.before.before.before.requires.0 26 (given-more c.before.before.before.before.before.before.before.before.before.args.frame.now c.before.before.before.before.decode.ensures.0 c.before.before.enum_told.given.1) refl c.unchanged2.ensures c.before.refused2.ensures
+returns-4 c = damaged_left c.before.before.before.before.before.before.before.before.before.args.settings c.before.before.before.before.before.before.before.before.before.args.counters c.before.before.before.before.before.before.before.before.before.args.lookup c.before.before.before.before.before.before.before.before.before.args.frame.now c.before.before.before.before.before.before.before.before.before.args.words.now c.before.before.before.before.before.before.before.before.before.args.bytes.now c.before.before.before.before.before.before.before.before.before.args.holds.now c.before.before.before.before.before.before.before.before.before.requires.0 26 (given_more c.before.before.before.before.before.before.before.before.before.args.frame.now c.before.before.before.before.decode.ensures.0 c.before.before.enum_told.given.1) refl c.unchanged2.ensures c.before.refused2.ensures
 
 -- src/lib.rt:67:1
 same_length : tie.Need-same-length
@@ -101,7 +101,7 @@ same_length_3 c = search rules
 
 -- src/lib.rt:67:1
 returns-5 : tie.Need-returns-5
-returns-5 c = intact-taken c.before.before.before.before.before.before.before.before.before.before.before.before.before.before.before.before.before.before.before.before.before.args.settings c.before.before.before.before.before.before.before.before.before.before.before.before.before.before.before.before.before.before.before.before.before.args.counters c.before.before.before.before.before.before.before.before.before.before.before.before.before.before.before.before.before.before.before.before.before.args.lookup c.before.before.before.before.before.before.before.before.before.before.before.before.before.before.before.before.before.before.before.before.before.args.frame.now c.before.before.before.before.before.before.before.before.before.before.before.before.before.before.before.before.before.before.before.before.before.args.words.now c.before.before.before.before.before.before.before.before.before.before.before.before.before.before.before.before.before.before.before.before.before.args.bytes.now c.before.before.before.before.before.before.before.before.before.before.before.before.before.before.before.before.before.before.before.before.before.args.holds.now c.before.before.before.before.before.before.before.before.before.before.before.before.before.before.before.before.before.before.before.before.before.requires.0 _ (given-whole c.before.before.before.before.before.before.before.before.before.before.before.before.before.before.before.before.before.before.before.before.before.args.frame.now c.before.before.before.before.before.before.before.before.before.before.before.before.before.before.before.before.decode.ensures.0 c.before.before.before.before.before.before.before.before.before.before.before.before.before.before.f.given.1 c.before.before.before.before.before.before.before.before.before.before.before.before.if1.false) c.before.before.before.before.before.before.before.before.before.before.if2.false c.before.before.before.before.before.before.on-decoded.ensures
+returns-5 c = intact_taken c.before.before.before.before.before.before.before.before.before.before.before.before.before.before.before.before.before.before.before.before.before.args.settings c.before.before.before.before.before.before.before.before.before.before.before.before.before.before.before.before.before.before.before.before.before.args.counters c.before.before.before.before.before.before.before.before.before.before.before.before.before.before.before.before.before.before.before.before.before.args.lookup c.before.before.before.before.before.before.before.before.before.before.before.before.before.before.before.before.before.before.before.before.before.args.frame.now c.before.before.before.before.before.before.before.before.before.before.before.before.before.before.before.before.before.before.before.before.before.args.words.now c.before.before.before.before.before.before.before.before.before.before.before.before.before.before.before.before.before.before.before.before.before.args.bytes.now c.before.before.before.before.before.before.before.before.before.before.before.before.before.before.before.before.before.before.before.before.before.args.holds.now c.before.before.before.before.before.before.before.before.before.before.before.before.before.before.before.before.before.before.before.before.before.requires.0 _ (given_whole c.before.before.before.before.before.before.before.before.before.before.before.before.before.before.before.before.before.before.before.before.before.args.frame.now c.before.before.before.before.before.before.before.before.before.before.before.before.before.before.before.before.decode.ensures.0 c.before.before.before.before.before.before.before.before.before.before.before.before.before.before.f.given.1 c.before.before.before.before.before.before.before.before.before.before.before.before.if1.false) c.before.before.before.before.before.before.before.before.before.before.if2.false c.before.before.before.before.before.before.on-decoded.ensures
 
 pub on_bytes_spec : {M : Type 1} → statement M
 on_bytes_spec =

@@ -1,5 +1,5 @@
 use borrow.Author.Rules.{rules}
-use Rattle.standby_frame.proofs.Laws.{rules-seen, holds-seen, refuses_25, held_steps}
+use Rattle.standby_frame.proofs.Laws.{rules_seen, holds_seen, refuses_25, held_steps}
 use Rattle.model_standby.specs.State.{on_frame_held}
 use borrow.Author.Tests.{not-true, not-false}
 use mathlib.Core.Path.{◌∙◌, sym}
@@ -42,7 +42,7 @@ returns c = refuses_25 c.before.before.before.before.before.before.before.before
 
 -- src/lib.rt:111:5
 on-bytes-requires : tie.Need-on-bytes-requires
-on-bytes-requires c κs = (rules-seen c.before.before.before.before.before.before.before.before.before.before.before.before.before.args.settings c.before.before.before.before.before.before.before.before.before.before.before.before.before.args.counters c.before.before.before.before.before.before.before.before.before.before.before.before.before.args.lookup c.before.before.before.before.before.before.before.before.before.before.before.before.before.args.words.now c.before.before.before.before.before.before.before.before.before.before.before.before.before.args.bytes.now c.before.before.before.before.before.before.before.before.before.before.before.before.before.args.holds.now (sym c.before.before.before.before.keeps-rules.ensures ∙ not-false _ c.before.before.before.if1.false), holds-seen c.before.before.before.before.before.before.before.before.before.before.before.before.before.args.settings c.before.before.before.before.before.before.before.before.before.before.before.before.before.args.counters c.before.before.before.before.before.before.before.before.before.before.before.before.before.args.lookup c.before.before.before.before.before.before.before.before.before.before.before.before.before.args.words.now c.before.before.before.before.before.before.before.before.before.before.before.before.before.args.bytes.now c.before.before.before.before.before.before.before.before.before.before.before.before.before.args.holds.now (sym c.before.before.before.before.keeps-rules.ensures ∙ not-false _ c.before.before.before.if1.false))
+on-bytes-requires c κs = (rules_seen c.before.before.before.before.before.before.before.before.before.before.before.before.before.args.settings c.before.before.before.before.before.before.before.before.before.before.before.before.before.args.counters c.before.before.before.before.before.before.before.before.before.before.before.before.before.args.lookup c.before.before.before.before.before.before.before.before.before.before.before.before.before.args.words.now c.before.before.before.before.before.before.before.before.before.before.before.before.before.args.bytes.now c.before.before.before.before.before.before.before.before.before.before.before.before.before.args.holds.now (sym c.before.before.before.before.keeps-rules.ensures ∙ not-false _ c.before.before.before.if1.false), holds_seen c.before.before.before.before.before.before.before.before.before.before.before.before.before.args.settings c.before.before.before.before.before.before.before.before.before.before.before.before.before.args.counters c.before.before.before.before.before.before.before.before.before.before.before.before.before.args.lookup c.before.before.before.before.before.before.before.before.before.before.before.before.before.args.words.now c.before.before.before.before.before.before.before.before.before.before.before.before.before.args.bytes.now c.before.before.before.before.before.before.before.before.before.before.before.before.before.args.holds.now (sym c.before.before.before.before.keeps-rules.ensures ∙ not-false _ c.before.before.before.if1.false))
 
 -- src/lib.rt:96:1
 same_length_4 : tie.Need-same-length-4

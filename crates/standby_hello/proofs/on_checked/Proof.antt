@@ -1,5 +1,5 @@
 use borrow.Author.Rules.{rules}
-use Rattle.standby_hello.proofs.Laws.{stale, other-run, said}
+use Rattle.standby_hello.proofs.Laws.{stale, other_run, said}
 use mathlib.Core.Path.{refl}
 use Rattle.standby_hello.proofs.on_checked.Statement.{statement}
 use Rattle.standby_hello.proofs.on_checked.Tie as tie
@@ -37,7 +37,7 @@ unchanged-requires-2 c κs = search rules
 
 -- src/lib.rt:90:9
 returns-2 : tie.Need-returns-2
-returns-2 c = other-run c.before.before.before.before.before.before.before.before.before.before.args.counters c.before.before.before.before.before.before.before.before.before.before.args.settings c.before.before.before.before.before.before.before.before.before.before.args.lookup c.before.before.before.before.before.before.before.before.before.before.args.handle c.before.before.before.before.before.before.before.before.before.before.args.epoch.0 c.before.before.before.before.before.before.before.before.before.before.args.incarnation-sent.0 c.before.before.before.before.before.before.if1.false c.before.before.before.before.before.incarnation.ensures c.before.before.if2.true c.unchanged2.ensures c.before.nack2.ensures
+returns-2 c = other_run c.before.before.before.before.before.before.before.before.before.before.args.counters c.before.before.before.before.before.before.before.before.before.before.args.settings c.before.before.before.before.before.before.before.before.before.before.args.lookup c.before.before.before.before.before.before.before.before.before.before.args.handle c.before.before.before.before.before.before.before.before.before.before.args.epoch.0 c.before.before.before.before.before.before.before.before.before.before.args.incarnation-sent.0 c.before.before.before.before.before.before.if1.false c.before.before.before.before.before.incarnation.ensures c.before.before.if2.true c.unchanged2.ensures c.before.nack2.ensures
 
 -- src/lib.rt:93:9
 checked-at-requires : tie.Need-checked-at-requires

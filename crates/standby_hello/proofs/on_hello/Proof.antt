@@ -1,5 +1,5 @@
 use borrow.Author.Rules.{rules}
-use Rattle.standby_hello.proofs.Laws.{other-version, some-kinds, lower-told, taken}
+use Rattle.standby_hello.proofs.Laws.{other_version, some_kinds, lower_told, taken}
 use borrow.Author.Tests.{not-true, not-false}
 use mathlib.Core.Path.{refl, ◌∙◌}
 use Rattle.standby_hello.proofs.on_hello.Statement.{statement}
@@ -23,7 +23,7 @@ unchanged-requires c κs = search rules
 
 -- src/lib.rt:58:9
 returns : tie.Need-returns
-returns c = λ kinds e. other-version c.before.before.before.args.counters c.before.before.before.args.settings c.before.before.before.args.lookup c.before.before.before.args.version c.before.before.before.args.epoch.0 kinds c.before.before.if1.true c.unchanged.ensures c.before.refused.ensures
+returns c = λ kinds e. other_version c.before.before.before.args.counters c.before.before.before.args.settings c.before.before.before.args.lookup c.before.before.before.args.version c.before.before.before.args.epoch.0 kinds c.before.before.if1.true c.unchanged.ensures c.before.refused.ensures
 
 -- src/lib.rt:61:41
 refused-requires-2 : tie.Need-refused-requires-2
@@ -35,7 +35,7 @@ unchanged-requires-2 c κs = search rules
 
 -- src/lib.rt:61:9
 returns-2 : tie.Need-returns-2
-returns-2 c = λ kinds e. some-kinds c.before.before.before.before.args.counters c.before.before.before.before.args.settings c.before.before.before.before.args.lookup c.before.before.before.before.args.version c.before.before.before.before.args.epoch.0 kinds c.before.before.before.if1.false (e ∙ not-true c.before.before.before.before.args.no-kinds c.before.before.if2.true) c.unchanged2.ensures c.before.refused2.ensures
+returns-2 c = λ kinds e. some_kinds c.before.before.before.before.args.counters c.before.before.before.before.args.settings c.before.before.before.before.args.lookup c.before.before.before.before.args.version c.before.before.before.before.args.epoch.0 kinds c.before.before.before.if1.false (e ∙ not-true c.before.before.before.before.args.no-kinds c.before.before.if2.true) c.unchanged2.ensures c.before.refused2.ensures
 
 -- src/lib.rt:65:63
 incarnation-requires : tie.Need-incarnation-requires
@@ -51,7 +51,7 @@ unchanged-requires-3 c κs = search rules
 
 -- src/lib.rt:65:9
 returns-3 : tie.Need-returns-3
-returns-3 c = λ kinds e. lower-told c.before.before.before.before.before.before.before.before.before.args.counters c.before.before.before.before.before.before.before.before.before.args.settings c.before.before.before.before.before.before.before.before.before.args.lookup c.before.before.before.before.before.before.before.before.before.args.version c.before.before.before.before.before.before.before.before.before.args.epoch.0 kinds c.before.before.before.before.before.before.before.before.if1.false (e ∙ not-false c.before.before.before.before.before.before.before.before.before.args.no-kinds c.before.before.before.before.before.before.before.if2.false) c.before.before.before.if3.true c.before.before.incarnation.ensures c.unchanged3.ensures c.before.welcome.ensures
+returns-3 c = λ kinds e. lower_told c.before.before.before.before.before.before.before.before.before.args.counters c.before.before.before.before.before.before.before.before.before.args.settings c.before.before.before.before.before.before.before.before.before.args.lookup c.before.before.before.before.before.before.before.before.before.args.version c.before.before.before.before.before.before.before.before.before.args.epoch.0 kinds c.before.before.before.before.before.before.before.before.if1.false (e ∙ not-false c.before.before.before.before.before.before.before.before.before.args.no-kinds c.before.before.before.before.before.before.before.if2.false) c.before.before.before.if3.true c.before.before.incarnation.ensures c.unchanged3.ensures c.before.welcome.ensures
 
 -- src/lib.rt:68:9
 connected-requires : tie.Need-connected-requires

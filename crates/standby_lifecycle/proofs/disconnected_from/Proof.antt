@@ -1,6 +1,6 @@
 use borrow.Author.Rules.{rules}
 use Rattle.model_standby.specs.State.{disconnected_from}
-use Rattle.standby_lifecycle.proofs.Laws.{unsound, keeps, other-lost, own-lost}
+use Rattle.standby_lifecycle.proofs.Laws.{unsound, keeps, other_lost, own_lost}
 use borrow.Author.Tests.{not-true, not-false}
 use mathlib.Core.Path.{◌∙◌, sym}
 use native.Mathlib.Omega.{arith}
@@ -69,7 +69,7 @@ same_length_6 c = search rules
 
 -- src/lib.rt:89:9
 returns-2 : tie.Need-returns-2
-returns-2 c = own-lost c.before.before.before.before.before.before.before.before.before.before.before.before.before.before.before.before.args.settings c.before.before.before.before.before.before.before.before.before.before.before.before.before.before.before.before.args.counters c.before.before.before.before.before.before.before.before.before.before.before.before.before.before.before.before.args.lookup c.before.before.before.before.before.before.before.before.before.before.before.before.before.before.before.before.args.words.now c.before.before.before.before.before.before.before.before.before.before.before.before.before.before.before.before.args.bytes.now c.before.before.before.before.before.before.before.before.before.before.before.before.before.before.before.before.args.holds.now (sym c.before.before.before.before.before.before.before.before.before.keeps-rules.ensures ∙ not-false _ c.before.before.before.before.before.before.before.before.if1.false) c.before.before.before.before.before.before.before.before.before.before.before.before.before.before.before.before.args.connection c.before.before.if2.true c.before.before.before.before.before.clear-pending-if.ensures c.before.done.ensures c.cleared.ensures
+returns-2 c = own_lost c.before.before.before.before.before.before.before.before.before.before.before.before.before.before.before.before.args.settings c.before.before.before.before.before.before.before.before.before.before.before.before.before.before.before.before.args.counters c.before.before.before.before.before.before.before.before.before.before.before.before.before.before.before.before.args.lookup c.before.before.before.before.before.before.before.before.before.before.before.before.before.before.before.before.args.words.now c.before.before.before.before.before.before.before.before.before.before.before.before.before.before.before.before.args.bytes.now c.before.before.before.before.before.before.before.before.before.before.before.before.before.before.before.before.args.holds.now (sym c.before.before.before.before.before.before.before.before.before.keeps-rules.ensures ∙ not-false _ c.before.before.before.before.before.before.before.before.if1.false) c.before.before.before.before.before.before.before.before.before.before.before.before.before.before.before.before.args.connection c.before.before.if2.true c.before.before.before.before.before.clear-pending-if.ensures c.before.done.ensures c.cleared.ensures
 
 -- src/lib.rt:91:30
 done-requires-2 : tie.Need-done-requires-2
@@ -93,7 +93,7 @@ same_length_9 c = search rules
 
 -- src/lib.rt:72:1
 returns-3 : tie.Need-returns-3
-returns-3 c = other-lost c.before.before.before.before.before.before.before.before.before.before.before.before.before.before.before.before.args.settings c.before.before.before.before.before.before.before.before.before.before.before.before.before.before.before.before.args.counters c.before.before.before.before.before.before.before.before.before.before.before.before.before.before.before.before.args.lookup c.before.before.before.before.before.before.before.before.before.before.before.before.before.before.before.before.args.words.now c.before.before.before.before.before.before.before.before.before.before.before.before.before.before.before.before.args.bytes.now c.before.before.before.before.before.before.before.before.before.before.before.before.before.before.before.before.args.holds.now (sym c.before.before.before.before.before.before.before.before.before.keeps-rules.ensures ∙ not-false _ c.before.before.before.before.before.before.before.before.if1.false) c.before.before.before.before.before.before.before.before.before.before.before.before.before.before.before.before.args.connection c.before.before.if2.false c.before.before.before.before.before.clear-pending-if.ensures c.before.done2.ensures c.unchanged2.ensures
+returns-3 c = other_lost c.before.before.before.before.before.before.before.before.before.before.before.before.before.before.before.before.args.settings c.before.before.before.before.before.before.before.before.before.before.before.before.before.before.before.before.args.counters c.before.before.before.before.before.before.before.before.before.before.before.before.before.before.before.before.args.lookup c.before.before.before.before.before.before.before.before.before.before.before.before.before.before.before.before.args.words.now c.before.before.before.before.before.before.before.before.before.before.before.before.before.before.before.before.args.bytes.now c.before.before.before.before.before.before.before.before.before.before.before.before.before.before.before.before.args.holds.now (sym c.before.before.before.before.before.before.before.before.before.keeps-rules.ensures ∙ not-false _ c.before.before.before.before.before.before.before.before.if1.false) c.before.before.before.before.before.before.before.before.before.before.before.before.before.before.before.before.args.connection c.before.before.if2.false c.before.before.before.before.before.clear-pending-if.ensures c.before.done2.ensures c.unchanged2.ensures
 
 pub disconnected_from_spec : {M : Type 1} → statement M
 disconnected_from_spec =

@@ -1,6 +1,6 @@
 use borrow.Author.Rules.{rules}
 use Rattle.model_standby.specs.State.{flush}
-use Rattle.standby_lifecycle.proofs.Laws.{unsound, keeps, other-connection, after-promotion, flushed}
+use Rattle.standby_lifecycle.proofs.Laws.{unsound, keeps, other_connection, after_promotion, flushed}
 use borrow.Author.Tests.{not-true, not-false}
 use mathlib.Core.Path.{◌∙◌, sym}
 use native.Mathlib.Omega.{arith}
@@ -8,7 +8,7 @@ use Rattle.standby_lifecycle.proofs.flush.Statement.{statement}
 use Rattle.standby_lifecycle.proofs.flush.Tie as tie
 use Rattle.standby_lifecycle.proofs.flush.Reads as reads
 use Rattle.standby_lifecycle.proofs.flush.Lts as lts
-use Rattle.standby_pending_run.proofs.run.Reads as run-reads
+use Rattle.standby_pending_run.proofs.run.Reads as run_reads
 use Rattle.standby_state.proofs.done.Reads as done-reads
 use Rattle.standby_state.proofs.unchanged.Reads as unchanged-reads
 use Rattle.standby_state.proofs.refused.Reads as refused-reads
@@ -64,7 +64,7 @@ same_length_6 c = search rules
 
 -- src/lib.rt:62:9
 returns-2 : tie.Need-returns-2
-returns-2 c = other-connection c.before.before.before.before.before.before.before.before.before.before.before.before.args.settings c.before.before.before.before.before.before.before.before.before.before.before.before.args.counters c.before.before.before.before.before.before.before.before.before.before.before.before.args.lookup c.before.before.before.before.before.before.before.before.before.before.before.before.args.words.now c.before.before.before.before.before.before.before.before.before.before.before.before.args.bytes.now c.before.before.before.before.before.before.before.before.before.before.before.before.args.holds.now (sym c.before.before.before.before.before.keeps-rules.ensures ∙ not-false _ c.before.before.before.before.if1.false) c.before.before.before.before.before.before.before.before.before.before.before.before.args.connection (λ e. omega (arith, e, c.before.before.if2.true)) c.before.refused2.ensures c.unchanged2.ensures
+returns-2 c = other_connection c.before.before.before.before.before.before.before.before.before.before.before.before.args.settings c.before.before.before.before.before.before.before.before.before.before.before.before.args.counters c.before.before.before.before.before.before.before.before.before.before.before.before.args.lookup c.before.before.before.before.before.before.before.before.before.before.before.before.args.words.now c.before.before.before.before.before.before.before.before.before.before.before.before.args.bytes.now c.before.before.before.before.before.before.before.before.before.before.before.before.args.holds.now (sym c.before.before.before.before.before.keeps-rules.ensures ∙ not-false _ c.before.before.before.before.if1.false) c.before.before.before.before.before.before.before.before.before.before.before.before.args.connection (λ e. omega (arith, e, c.before.before.if2.true)) c.before.refused2.ensures c.unchanged2.ensures
 
 -- src/lib.rt:65:41
 refused-requires-3 : tie.Need-refused-requires-3
@@ -88,7 +88,7 @@ same_length_9 c = search rules
 
 -- src/lib.rt:65:9
 returns-3 : tie.Need-returns-3
-returns-3 c = after-promotion c.before.before.before.before.before.before.before.before.before.before.before.before.before.before.args.settings c.before.before.before.before.before.before.before.before.before.before.before.before.before.before.args.counters c.before.before.before.before.before.before.before.before.before.before.before.before.before.before.args.lookup c.before.before.before.before.before.before.before.before.before.before.before.before.before.before.args.words.now c.before.before.before.before.before.before.before.before.before.before.before.before.before.before.args.bytes.now c.before.before.before.before.before.before.before.before.before.before.before.before.before.before.args.holds.now (sym c.before.before.before.before.before.before.before.keeps-rules.ensures ∙ not-false _ c.before.before.before.before.before.before.if1.false) c.before.before.before.before.before.before.before.before.before.before.before.before.before.before.args.connection (omega (arith, c.before.before.before.before.if2.false)) c.before.before.if3.true c.before.refused3.ensures c.unchanged3.ensures
+returns-3 c = after_promotion c.before.before.before.before.before.before.before.before.before.before.before.before.before.before.args.settings c.before.before.before.before.before.before.before.before.before.before.before.before.before.before.args.counters c.before.before.before.before.before.before.before.before.before.before.before.before.before.before.args.lookup c.before.before.before.before.before.before.before.before.before.before.before.before.before.before.args.words.now c.before.before.before.before.before.before.before.before.before.before.before.before.before.before.args.bytes.now c.before.before.before.before.before.before.before.before.before.before.before.before.before.before.args.holds.now (sym c.before.before.before.before.before.before.before.keeps-rules.ensures ∙ not-false _ c.before.before.before.before.before.before.if1.false) c.before.before.before.before.before.before.before.before.before.before.before.before.before.before.args.connection (omega (arith, c.before.before.before.before.if2.false)) c.before.before.if3.true c.before.refused3.ensures c.unchanged3.ensures
 
 -- src/lib.rt:67:5
 run-requires : tie.Need-run-requires

@@ -1,6 +1,6 @@
 use borrow.Author.Rules.{rules}
 use Rattle.model_standby.specs.State.{promote}
-use Rattle.standby_lifecycle.proofs.Laws.{unsound, keeps, not-checked, promoted-checked}
+use Rattle.standby_lifecycle.proofs.Laws.{unsound, keeps, not_checked, promoted_checked}
 use borrow.Author.Tests.{not-true, not-false}
 use mathlib.Core.Path.{◌∙◌, sym}
 use Rattle.standby_lifecycle.proofs.promote.Statement.{statement}
@@ -58,7 +58,7 @@ same_length_6 c = search rules
 
 -- src/lib.rt:108:9
 returns-2 : tie.Need-returns-2
-returns-2 c = promoted-checked c.before.before.before.before.before.before.before.before.before.before.before.before.before.before.before.before.before.args.settings c.before.before.before.before.before.before.before.before.before.before.before.before.before.before.before.before.before.args.counters c.before.before.before.before.before.before.before.before.before.before.before.before.before.before.before.before.before.args.lookup c.before.before.before.before.before.before.before.before.before.before.before.before.before.before.before.before.before.args.words.now c.before.before.before.before.before.before.before.before.before.before.before.before.before.before.before.before.before.args.bytes.now c.before.before.before.before.before.before.before.before.before.before.before.before.before.before.before.before.before.args.holds.now (sym c.before.before.before.before.before.before.before.before.before.before.keeps-rules.ensures ∙ not-false _ c.before.before.before.before.before.before.before.before.before.if1.false) c.before.before.before.before.promotion.ensures c.before.before.before.before.before.before.before.if2.true
+returns-2 c = promoted_checked c.before.before.before.before.before.before.before.before.before.before.before.before.before.before.before.before.before.args.settings c.before.before.before.before.before.before.before.before.before.before.before.before.before.before.before.before.before.args.counters c.before.before.before.before.before.before.before.before.before.before.before.before.before.before.before.before.before.args.lookup c.before.before.before.before.before.before.before.before.before.before.before.before.before.before.before.before.before.args.words.now c.before.before.before.before.before.before.before.before.before.before.before.before.before.before.before.before.before.args.bytes.now c.before.before.before.before.before.before.before.before.before.before.before.before.before.before.before.before.before.args.holds.now (sym c.before.before.before.before.before.before.before.before.before.before.keeps-rules.ensures ∙ not-false _ c.before.before.before.before.before.before.before.before.before.if1.false) c.before.before.before.before.promotion.ensures c.before.before.before.before.before.before.before.if2.true
 
 -- src/lib.rt:110:30
 refused-requires-2 : tie.Need-refused-requires-2
@@ -82,7 +82,7 @@ same_length_9 c = search rules
 
 -- src/lib.rt:94:1
 returns-3 : tie.Need-returns-3
-returns-3 c = not-checked c.before.before.before.before.before.before.before.before.before.before.before.before.args.settings c.before.before.before.before.before.before.before.before.before.before.before.before.args.counters c.before.before.before.before.before.before.before.before.before.before.before.before.args.lookup c.before.before.before.before.before.before.before.before.before.before.before.before.args.words.now c.before.before.before.before.before.before.before.before.before.before.before.before.args.bytes.now c.before.before.before.before.before.before.before.before.before.before.before.before.args.holds.now (sym c.before.before.before.before.before.keeps-rules.ensures ∙ not-false _ c.before.before.before.before.if1.false) c.before.before.if2.false c.before.refused2.ensures c.unchanged2.ensures
+returns-3 c = not_checked c.before.before.before.before.before.before.before.before.before.before.before.before.args.settings c.before.before.before.before.before.before.before.before.before.before.before.before.args.counters c.before.before.before.before.before.before.before.before.before.before.before.before.args.lookup c.before.before.before.before.before.before.before.before.before.before.before.before.args.words.now c.before.before.before.before.before.before.before.before.before.before.before.before.args.bytes.now c.before.before.before.before.before.before.before.before.before.before.before.before.args.holds.now (sym c.before.before.before.before.before.keeps-rules.ensures ∙ not-false _ c.before.before.before.before.if1.false) c.before.before.if2.false c.before.refused2.ensures c.unchanged2.ensures
 
 pub promote_spec : {M : Type 1} → statement M
 promote_spec =

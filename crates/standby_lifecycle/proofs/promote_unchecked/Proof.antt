@@ -1,6 +1,6 @@
 use borrow.Author.Rules.{rules}
 use Rattle.model_standby.specs.State.{promote_unchecked}
-use Rattle.standby_lifecycle.proofs.Laws.{unsound, keeps, promoted-unchecked}
+use Rattle.standby_lifecycle.proofs.Laws.{unsound, keeps, promoted_unchecked}
 use borrow.Author.Tests.{not-true, not-false}
 use mathlib.Core.Path.{◌∙◌, sym}
 use Rattle.standby_lifecycle.proofs.promote_unchecked.Statement.{statement}
@@ -58,7 +58,7 @@ same_length_6 c = search rules
 
 -- src/lib.rt:114:1
 returns-2 : tie.Need-returns-2
-returns-2 c = promoted-unchecked c.before.before.before.before.before.before.before.before.before.before.before.before.before.before.before.args.settings c.before.before.before.before.before.before.before.before.before.before.before.before.before.before.before.args.counters c.before.before.before.before.before.before.before.before.before.before.before.before.before.before.before.args.lookup c.before.before.before.before.before.before.before.before.before.before.before.before.before.before.before.args.words.now c.before.before.before.before.before.before.before.before.before.before.before.before.before.before.before.args.bytes.now c.before.before.before.before.before.before.before.before.before.before.before.before.before.before.before.args.holds.now (sym c.before.before.before.before.before.before.before.before.keeps-rules.ensures ∙ not-false _ c.before.before.before.before.before.before.before.if1.false) c.before.before.before.before.promotion.ensures
+returns-2 c = promoted_unchecked c.before.before.before.before.before.before.before.before.before.before.before.before.before.before.before.args.settings c.before.before.before.before.before.before.before.before.before.before.before.before.before.before.before.args.counters c.before.before.before.before.before.before.before.before.before.before.before.before.before.before.before.args.lookup c.before.before.before.before.before.before.before.before.before.before.before.before.before.before.before.args.words.now c.before.before.before.before.before.before.before.before.before.before.before.before.before.before.before.args.bytes.now c.before.before.before.before.before.before.before.before.before.before.before.before.before.before.before.args.holds.now (sym c.before.before.before.before.before.before.before.before.keeps-rules.ensures ∙ not-false _ c.before.before.before.before.before.before.before.if1.false) c.before.before.before.before.promotion.ensures
 
 pub promote_unchecked_spec : {M : Type 1} → statement M
 promote_unchecked_spec =

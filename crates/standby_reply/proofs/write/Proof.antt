@@ -1,5 +1,5 @@
 use borrow.Author.Rules.{rules}
-use Rattle.standby_reply.proofs.Laws.{written, no-frame}
+use Rattle.standby_reply.proofs.Laws.{written, no_frame}
 use Rattle.standby_reply.proofs.write.Statement.{statement}
 use Rattle.standby_reply.proofs.write.Tie as tie
 use Rattle.standby_reply.proofs.write.Reads as reads
@@ -30,7 +30,7 @@ returns c = written c.before.before.before.before.before.before.before.before.be
 
 -- src/lib.rt:102:1
 returns-2 : tie.Need-returns-2
-returns-2 c = no-frame c.before.before.before.before.args.bytes.now c.before.before.before.before.args.answer c.before.is-frame.ensures c.if1.false
+returns-2 c = no_frame c.before.before.before.before.args.bytes.now c.before.before.before.before.args.answer c.before.is-frame.ensures c.if1.false
 
 pub write_spec : {M : Type 1} → statement M
 write_spec =

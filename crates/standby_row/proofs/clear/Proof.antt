@@ -107,8 +107,8 @@ module _ {M : Type 1} {𝓤 : Ura M} (𝓛 : Logic 𝓤) (memory : Memory → SP
   abbrev Nearer : Upto → Upto → Type 0
   Nearer u v = n - u.0 < n - v.0
 
-  Nearer-wf : WellFounded Nearer
-  Nearer-wf = InvImage.wf (λ (u : Upto). n - u.0) lt-wf_rel.wf
+  NearerWf : WellFounded Nearer
+  NearerWf = InvImage.wf (λ (u : Upto). n - u.0) lt-wf_rel.wf
 
   module _ (𝓣 : Tables 𝓤 H) (l₀ l₁ l₂ l₃ l₄ l₅ l₆ : ℕ) where
     abbrev C : Calls 𝓤 H
@@ -196,7 +196,7 @@ module _ {M : Type 1} {𝓤 : Ura M} (𝓛 : Logic 𝓤) (memory : Memory → SP
       -- [the locals; the token; what row and from own]
       move ! (15 ∷ []) $ fsplit ! $ fsplit ! $ drop ! $ fsplit ! $ move ! (17 ∷ []) $ split ! $ move ! (2 ∷ 3 ∷ 0 ∷ []) $ opens_slice ! tt R ys b o $
       keep ! (0 ∷ 1 ∷ 2 ∷ 3 ∷ 6 ∷ 7 ∷ 8 ∷ 9 ∷ 10 ∷ 11 ∷ 12 ∷ 13 ∷ 14 ∷ 15 ∷ 16 ∷ 17 ∷ 18 ∷ 19 ∷ []) $
-      first ! $ blocks ! $ loops ! 𝓣 Nearer Nearer-wf (At 𝓣 l₀ l₁ l₂ l₃ l₄ l₅ l₆) (turns 𝓣 l₀ l₁ l₂ l₃ l₄ l₅ l₆) (k, (ys, (k-fits, refl, refl))))))))))
+      first ! $ blocks ! $ loops ! 𝓣 Nearer NearerWf (At 𝓣 l₀ l₁ l₂ l₃ l₄ l₅ l₆) (turns 𝓣 l₀ l₁ l₂ l₃ l₄ l₅ l₆) (k, (ys, (k-fits, refl, refl))))))))))
 
 module _ {M : Type 1} {𝓤 : Ura M} (𝓛 : Logic 𝓤) (memory : Memory → SProp 𝓤) (run : Routine → Fun 𝓤) (𝓣 : Tables 𝓤 𝓛.H) where
   open 𝓛 use {H}
@@ -205,8 +205,8 @@ module _ {M : Type 1} {𝓤 : Ura M} (𝓛 : Logic 𝓤) (memory : Memory → SP
   clear_walks = walked 𝓛 clear.ended stayed (clear.clauses 𝓛 memory run) (WpFn 𝓤 H 𝓣.C 𝓣.Λ code.function) (λ κs. (mut_slice_vals, (uint_vals w64, tt))) (λ κs. (mut_slice_Tells (named 0) κs.0 R, (uint_Tells w64, tt)))
       (λ κs qs bounds a g are. via 𝓤 _ (fst∗ 𝓤 _ (emp 𝓤)) (walk 𝓛 memory run κs.0 qs.0 a.0.ref_ptr.0 a.0.ref_ptr.1 a.0.ghost_name a.0.now a.1.0 are.0.0.1 are.1.0.1 𝓣))
 
-  clear-meets : Meets 𝓛 clear.signature (WpFn 𝓤 H 𝓣.C 𝓣.Λ code.function) (clear.spec 𝓛 memory run)
-  clear-meets = walk_Meets 𝓛 clear.ended stayed (Goes-slice 𝓛 1 0 tt (plain (λ _. R)), (Goes-dropped 𝓛 1 (plain (λ _. usize)) yes (λ κs x f. refl), tt)) (clear.clauses 𝓛 memory run)
+  clear_meets : Meets 𝓛 clear.signature (WpFn 𝓤 H 𝓣.C 𝓣.Λ code.function) (clear.spec 𝓛 memory run)
+  clear_meets = walk_Meets 𝓛 clear.ended stayed (Goes-slice 𝓛 1 0 tt (plain (λ _. R)), (Goes-dropped 𝓛 1 (plain (λ _. usize)) yes (λ κs x f. refl), tt)) (clear.clauses 𝓛 memory run)
       (WpFn 𝓤 H 𝓣.C 𝓣.Λ code.function) (WpFn-mono 𝓤 H 𝓛.laws 𝓣 code.function) clear_walks
 
 pub clear_spec : {M : Type 1} → stated.statement M
@@ -214,4 +214,4 @@ unfolding code.routine tables_of
 clear_spec 𝓤 𝓛 𝓜 𝓡 =
     entered 𝓤 𝓛.H (triple_of 𝓛 clear.signature (clear.spec 𝓛 𝓜.mem 𝓡.run))
     (tables 𝓤 𝓛.H 𝓜 𝓡 code.env).C (tables 𝓤 𝓛.H 𝓜 𝓡 code.env).Λ #standby_row·clear code.function (code.unfolded 𝓤 𝓛.H 𝓜 𝓡)
-    (clear-meets 𝓛 𝓜.mem 𝓡.run (tables_of 𝓤 𝓛.H 𝓜 (tables 𝓤 𝓛.H 𝓜 𝓡 code.env)))
+    (clear_meets 𝓛 𝓜.mem 𝓡.run (tables_of 𝓤 𝓛.H 𝓜 (tables 𝓤 𝓛.H 𝓜 𝓡 code.env)))

@@ -47,7 +47,7 @@ use Rattle.standby_row.specs.declared.Bound.{Bound}
 use Rattle.standby_row.specs.Row.{free_record}
 use Rattle.standby_row.specs.contracts.Bound as T
 use Rattle.standby_row.proofs.Bound.TheLaws as T'
-use Rattle.standby_row.proofs.Rows.{R, val, vals, tells, makes, product_fits, place_at, by_bool, passes-by, goes_in}
+use Rattle.standby_row.proofs.Rows.{R, val, vals, tells, makes, product_fits, place_at, by_bool, passes_by, goes_in}
 use Rattle.standby_row.specs.contracts.insert.Key.{name as #standby_row·insert}
 use Rattle.standby_row.specs.contracts.insert as insert
 use Rattle.standby_row.proofs.insert.Statement as stated
@@ -127,22 +127,22 @@ module _ {M : Type 1} {𝓤 : Ura M} (𝓛 : Logic 𝓤) (memory : Memory → SP
         exec ! C Λ (En C Λ l₀ l₁ l₂ l₃ l₄ l₅ l₆ l₇) mir.t-4 (at_ret (En C Λ l₀ l₁ l₂ l₃ l₄ l₅ l₆ l₇) Post) $
         move ! (1 ∷ []) $ drop ! $ owned ! R (Is R) (makes 𝓛) h (vals h) is $ move ! (1 ∷ 0 ∷ []) $ elem_put ! R full_share ys i h (vals h) b o (ltb-true i n e) $
         forget ! 4 refl $ forget ! 6 refl $ forget ! 8 refl $ forget ! 10 refl $ leaves C Λ l₀ l₁ l₂ l₃ l₄ l₅ l₆ l₇ (set ys i h) refl (length-set ys i h)))
-        (λ e. rewrite ! 8 (λ (t : Bool). ‵ (fat full_share ty_bool l₅ 0 (vbool t))) e refl $ passes-by ! (load ! (from ! (stop !)) (look ! 8 refl)) $ forget ! 8 refl $ forget ! 10 refl $ leaves C Λ l₀ l₁ l₂ l₃ l₄ l₅ l₆ l₇ ys (sym (set_out ys i h (ltb-false i n e))) refl)))))))))
+        (λ e. rewrite ! 8 (λ (t : Bool). ‵ (fat full_share ty_bool l₅ 0 (vbool t))) e refl $ passes_by ! (load ! (from ! (stop !)) (look ! 8 refl)) $ forget ! 8 refl $ forget ! 10 refl $ leaves C Λ l₀ l₁ l₂ l₃ l₄ l₅ l₆ l₇ ys (sym (set_out ys i h (ltb-false i n e))) refl)))))))))
 
 module _ {M : Type 1} {𝓤 : Ura M} (𝓛 : Logic 𝓤) (memory : Memory → SProp 𝓤) (run : Routine → Fun 𝓤) (𝓣 : Tables 𝓤 𝓛.H) where
   open 𝓛 use {H}
 
-  insert-walks : Walks 𝓛 insert.ended stayed (WpFn 𝓤 H 𝓣.C 𝓣.Λ code.function) (insert.clauses 𝓛 memory run)
-  insert-walks = walked 𝓛 insert.ended stayed (insert.clauses 𝓛 memory run) (WpFn 𝓤 H 𝓣.C 𝓣.Λ code.function) (λ κs. (mut_slice_vals, (uint_vals w64, (vals, tt)))) (λ κs. (mut_slice_Tells (named 0) κs.0 R, (uint_Tells w64, (tells, tt))))
+  insert_walks : Walks 𝓛 insert.ended stayed (WpFn 𝓤 H 𝓣.C 𝓣.Λ code.function) (insert.clauses 𝓛 memory run)
+  insert_walks = walked 𝓛 insert.ended stayed (insert.clauses 𝓛 memory run) (WpFn 𝓤 H 𝓣.C 𝓣.Λ code.function) (λ κs. (mut_slice_vals, (uint_vals w64, (vals, tt)))) (λ κs. (mut_slice_Tells (named 0) κs.0 R, (uint_Tells w64, (tells, tt))))
       (λ κs qs bounds a g are. via 𝓤 _ (fst∗ 𝓤 _ (emp 𝓤)) (walk 𝓛 memory run κs.0 qs.0 a.0.ref_ptr.0 a.0.ref_ptr.1 a.0.ghost_name a.0.now a.1.0 a.1.1.0 are.0.0.1 are.1.0.1 are.1.1.0 𝓣.C 𝓣.Λ))
 
-  insert-meets : Meets 𝓛 insert.signature (WpFn 𝓤 H 𝓣.C 𝓣.Λ code.function) (insert.spec 𝓛 memory run)
-  insert-meets = walk_Meets 𝓛 insert.ended stayed (Goes-slice 𝓛 1 0 tt (plain (λ _. R)), (Goes-dropped 𝓛 1 (plain (λ _. usize)) yes (λ κs x f. refl), (Goes-dropped 𝓛 1 (plain (λ _. R)) yes (λ κs x f. refl), tt))) (insert.clauses 𝓛 memory run)
-      (WpFn 𝓤 H 𝓣.C 𝓣.Λ code.function) (WpFn-mono 𝓤 H 𝓛.laws 𝓣 code.function) insert-walks
+  insert_meets : Meets 𝓛 insert.signature (WpFn 𝓤 H 𝓣.C 𝓣.Λ code.function) (insert.spec 𝓛 memory run)
+  insert_meets = walk_Meets 𝓛 insert.ended stayed (Goes-slice 𝓛 1 0 tt (plain (λ _. R)), (Goes-dropped 𝓛 1 (plain (λ _. usize)) yes (λ κs x f. refl), (Goes-dropped 𝓛 1 (plain (λ _. R)) yes (λ κs x f. refl), tt))) (insert.clauses 𝓛 memory run)
+      (WpFn 𝓤 H 𝓣.C 𝓣.Λ code.function) (WpFn-mono 𝓤 H 𝓛.laws 𝓣 code.function) insert_walks
 
 pub insert_spec : {M : Type 1} → stated.statement M
 unfolding code.routine tables_of
 insert_spec 𝓤 𝓛 𝓜 𝓡 =
     entered 𝓤 𝓛.H (triple_of 𝓛 insert.signature (insert.spec 𝓛 𝓜.mem 𝓡.run))
     (tables 𝓤 𝓛.H 𝓜 𝓡 code.env).C (tables 𝓤 𝓛.H 𝓜 𝓡 code.env).Λ #standby_row·insert code.function (code.unfolded 𝓤 𝓛.H 𝓜 𝓡)
-    (insert-meets 𝓛 𝓜.mem 𝓡.run (tables_of 𝓤 𝓛.H 𝓜 (tables 𝓤 𝓛.H 𝓜 𝓡 code.env)))
+    (insert_meets 𝓛 𝓜.mem 𝓡.run (tables_of 𝓤 𝓛.H 𝓜 (tables 𝓤 𝓛.H 𝓜 𝓡 code.env)))

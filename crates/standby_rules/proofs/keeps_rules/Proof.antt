@@ -1,6 +1,6 @@
 use borrow.Author.Rules.{rules}
-use Rattle.standby_rules.proofs.Laws.{store-breaks, row-breaks, none_found, one_found}
-use Rattle.store_areas.proofs.Ruling.{rules-of}
+use Rattle.standby_rules.proofs.Laws.{store_breaks, row_breaks, none_found, one_found}
+use Rattle.store_areas.proofs.Ruling.{rules_of}
 use mathlib.Core.Path.{◌∙◌, sym}
 use native.Mathlib.Omega.{arith}
 use Rattle.standby_rules.proofs.keeps_rules.Statement.{statement}
@@ -16,7 +16,7 @@ allowed-requires c κs = search rules
 
 -- src/lib.rt:13:13
 returns : tie.Need-returns
-returns c = row-breaks c.before.before.before.before.before.before.before.args.shape c.before.before.before.before.before.before.before.args.lookup c.before.before.before.before.before.before.before.args.words.now c.before.before.before.before.before.before.before.args.bytes.now c.before.before.before.before.before.before.before.args.holds.now (sym c.before.before.before.allowed.ensures ∙ c.before.before.if1.true) (omega (arith, c.if2.true))
+returns c = row_breaks c.before.before.before.before.before.before.before.args.shape c.before.before.before.before.before.before.before.args.lookup c.before.before.before.before.before.before.before.args.words.now c.before.before.before.before.before.before.before.args.bytes.now c.before.before.before.before.before.before.before.args.holds.now (sym c.before.before.before.allowed.ensures ∙ c.before.before.if1.true) (omega (arith, c.if2.true))
 
 -- src/lib.rt:16:13
 returns-2 : tie.Need-returns-2
@@ -28,7 +28,7 @@ room-of-requires c κs = search rules
 
 -- src/lib.rt:20:36
 shared_slice_read_result : tie.Need-shared-slice-read-result
-shared_slice_read_result c = omega (arith, (rules-of c.before.before.before.before.before.before.before.before.before.before.before.before.args.shape c.before.before.before.before.before.before.before.before.before.before.before.before.args.words.now c.before.before.before.before.before.before.before.before.before.before.before.before.args.bytes.now (sym c.before.before.before.before.before.before.before.before.allowed.ensures ∙ c.before.before.before.before.before.before.before.if1.true)).room.words_long)
+shared_slice_read_result c = omega (arith, (rules_of c.before.before.before.before.before.before.before.before.before.before.before.before.args.shape c.before.before.before.before.before.before.before.before.before.before.before.before.args.words.now c.before.before.before.before.before.before.before.before.before.before.before.before.args.bytes.now (sym c.before.before.before.before.before.before.before.before.allowed.ensures ∙ c.before.before.before.before.before.before.before.if1.true)).room.words_long)
 
 -- src/lib.rt:20:9
 returns-3 : tie.Need-returns-3
@@ -36,7 +36,7 @@ returns-3 c = one_found c.before.before.before.before.before.before.before.befor
 
 -- src/lib.rt:8:1
 returns-4 : tie.Need-returns-4
-returns-4 c = store-breaks c.before.before.before.before.before.args.shape c.before.before.before.before.before.args.lookup c.before.before.before.before.before.args.words.now c.before.before.before.before.before.args.bytes.now c.before.before.before.before.before.args.holds.now (sym c.before.allowed.ensures ∙ c.if1.false)
+returns-4 c = store_breaks c.before.before.before.before.before.args.shape c.before.before.before.before.before.args.lookup c.before.before.before.before.before.args.words.now c.before.before.before.before.before.args.bytes.now c.before.before.before.before.before.args.holds.now (sym c.before.allowed.ensures ∙ c.if1.false)
 
 pub keeps_rules_spec : {M : Type 1} → statement M
 keeps_rules_spec =

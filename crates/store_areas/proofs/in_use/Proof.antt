@@ -1,12 +1,12 @@
 use native.Mathlib.Omega.{arith}
 use mathlib.Core.Path.{sym, ◌∙◌}
-use Rattle.store_areas.proofs.Ruling.{rules-of}
+use Rattle.store_areas.proofs.Ruling.{rules_of}
 use borrow.Author.Rules.{rules}
 use Rattle.store_areas.proofs.in_use.Statement.{statement}
 use Rattle.store_areas.proofs.in_use.Tie as tie
 
 shared_slice_read_result : tie.Need-shared-slice-read-result
-shared_slice_read_result c = omega (arith, (rules-of _ _ _ (sym c.before.before.allowed.ensures ∙ c.before.if1.true)).room.words_long)
+shared_slice_read_result c = omega (arith, (rules_of _ _ _ (sym c.before.before.allowed.ensures ∙ c.before.if1.true)).room.words_long)
 
 returns : tie.Need-returns
 returns c = rw (← c.before.before.allowed.ensures, c.before.if1.true)

@@ -1,7 +1,7 @@
 use native.Mathlib.Omega.{arith}
 use mathlib.Core.Path.{sym, ◌∙◌}
 use lib.ListN.{length-set}
-use Rattle.store_areas.proofs.Ruling.{room_of, made-ready, made-unfit}
+use Rattle.store_areas.proofs.Ruling.{room_of, made_ready, made_unfit}
 use borrow.Author.Rules.{rules}
 use Rattle.store_areas.proofs.make.Statement.{statement}
 use Rattle.store_areas.proofs.make.Tie as tie
@@ -13,10 +13,10 @@ slice_write_words_2 : tie.Need-slice-write-words-2
 slice_write_words_2 c = simp length-set (omega (arith, (room_of _ _ _ (sym c.before.long-enough.ensures ∙ c.if1.true)).words_long))
 
 returns : tie.Need-returns
-returns c = made-ready _ _ _ (sym c.before.long-enough.ensures ∙ c.if1.true)
+returns c = made_ready _ _ _ (sym c.before.long-enough.ensures ∙ c.if1.true)
 
 returns-2 : tie.Need-returns-2
-returns-2 c = made-unfit _ _ _ (sym c.before.long-enough.ensures ∙ c.if1.false)
+returns-2 c = made_unfit _ _ _ (sym c.before.long-enough.ensures ∙ c.if1.false)
 
 pub make_spec : {M : Type 1} → statement M
 make_spec =

@@ -1,5 +1,5 @@
 use Rattle.std.proofs.Common.{arith, length-set, rules}
-use Rattle.store_log.proofs.Slots.{stored-newest, stored-tail}
+use Rattle.store_log.proofs.Slots.{stored_newest, stored_tail}
 use Rattle.store_log.proofs.put_entry.Statement.{statement}
 use Rattle.store_log.proofs.put_entry.Tie as tie
 
@@ -17,7 +17,7 @@ returns c =
     let a = c.before.before.before.args in
     let s = c.head.result in
     let w = a.words.now in
-    (stored-newest w s a.«end» a.seq a.len (omega arith) a.max c.head.ensures.1 (omega arith), stored-tail w s a.«end» a.seq a.len (omega arith))
+    (stored_newest w s a.«end» a.seq a.len (omega arith) a.max c.head.ensures.1 (omega arith), stored_tail w s a.«end» a.seq a.len (omega arith))
 
 pub put_entry_spec : {M : Type 1} → statement M
 put_entry_spec =

@@ -1,4 +1,4 @@
-use Rattle.store_place.proofs.Messages.{last-in}
+use Rattle.store_place.proofs.Messages.{last_in}
 use borrow.Author.Rules.{rules}
 use Rattle.store_place.proofs.last_outgoing.Statement.{statement}
 use Rattle.store_place.proofs.last_outgoing.Tie as tie
@@ -6,7 +6,7 @@ use Rattle.store_place.proofs.last_outgoing.Tie as tie
 returns : tie.Need-returns
 returns c =
     let a = c.before.before.before.before.before.before.args in
-    λ C lb. last-in C a.max a.words.now a.bytes.now lb c.before.before.before.next-outgoing.result c.before.before.before.next-outgoing.ensures a.n c.last-outgoing.result c.last-outgoing.ensures
+    λ C lb. last_in C a.max a.words.now a.bytes.now lb c.before.before.before.next-outgoing.result c.before.before.before.next-outgoing.ensures a.n c.last-outgoing.result c.last-outgoing.ensures
 
 pub last_outgoing_spec : {M : Type 1} → statement M
 last_outgoing_spec =

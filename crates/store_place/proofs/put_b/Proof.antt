@@ -1,6 +1,6 @@
 use native.Mathlib.Omega.{arith}
 use Rattle.store_place.proofs.Fields.{only_none}
-use Rattle.store_place.proofs.Promotion.{kept_b, full-b, more-b, only-b}
+use Rattle.store_place.proofs.Promotion.{kept_b, full_b, more_b, only_b}
 use borrow.Author.Rules.{rules}
 use Rattle.store_place.proofs.put_b.Statement.{statement}
 use Rattle.store_place.proofs.put_b.Tie as tie
@@ -17,14 +17,14 @@ returns-2 c =
     let a = c.before.before.before.before.before.args in
     let p = c.before.before.before.before.before.requires in
     let e = c.before.before.ends-in-b in
-    (p.1, (only-b a.bytes.now a.n p.0 p.1 63 (omega arith), full-b a.bytes.now a.n p.0 p.1 e.result e.ensures c.before.if1.false c.if2.true))
+    (p.1, (only_b a.bytes.now a.n p.0 p.1 63 (omega arith), full_b a.bytes.now a.n p.0 p.1 e.result e.ensures c.before.if1.false c.if2.true))
 
 returns-3 : tie.Need-returns-3
 returns-3 c =
     let a = c.before.before.before.before.before.args in
     let p = c.before.before.before.before.before.requires in
     let e = c.before.before.ends-in-b in
-    (omega arith, (only-b a.bytes.now a.n p.0 p.1 a.n (omega arith), more-b a.bytes.now a.n p.0 p.1 e.result e.ensures c.before.if1.false c.if2.false))
+    (omega arith, (only_b a.bytes.now a.n p.0 p.1 a.n (omega arith), more_b a.bytes.now a.n p.0 p.1 e.result e.ensures c.before.if1.false c.if2.false))
 
 pub put_b_spec : {M : Type 1} → statement M
 put_b_spec =

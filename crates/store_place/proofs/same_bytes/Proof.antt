@@ -2,7 +2,7 @@ use native.Mathlib.Omega.{arith}
 use mathlib.Core.Path.{refl}
 use Prim.Native.Nat.{◌-◌}
 use lib.ListN.{length}
-use Rattle.store_place.proofs.Keys.{differ, Comparing, other, equal, all-equal}
+use Rattle.store_place.proofs.Keys.{differ, Comparing, other, equal, all_equal}
 use Rattle.store_place.proofs.same_bytes.Statement.{statement}
 use Rattle.store_place.proofs.same_bytes.Tie as tie
 
@@ -43,7 +43,7 @@ loop-again c =
     equal a.a.now a.b.now l.i l.invariant (omega arith) (omega arith)
 
 returns-3 : tie.Need-returns-3 invariant-loop decreases-loop
-returns-3 c = all-equal _ _ _ c.before.loop.invariant c.loop-test.false
+returns-3 c = all_equal _ _ _ c.before.loop.invariant c.loop-test.false
 
 pub same_bytes_spec : {M : Type 1} → statement M
 same_bytes_spec =

@@ -1,5 +1,5 @@
 use Rattle.store_resend.proofs.count.Statement.{statement}
-use Rattle.store_resend.proofs.Passes.{count-starts, counts-on, count-ends}
+use Rattle.store_resend.proofs.Passes.{count_starts, counts_on, count_ends}
 use Rattle.store_resend.specs.Passes.{Counting}
 use Rattle.store_resend.specs.Ranges.{ranges_from}
 use native.Mathlib.Omega.{arith}
@@ -12,7 +12,7 @@ abbrev decreases-loop : tie.decreases-loop
 decreases-loop words bytes shape i first back ranges n left₀ dist₀ tally₀ kept₀ left dist tally kept = left
 
 loop-holds : tie.Need-loop-init invariant-loop decreases-loop
-loop-holds c = count-starts c.before.before.before.args.shape c.before.before.before.args.words.now c.before.before.before.args.bytes.now c.before.before.before.args.i (ranges_from c.before.before.before.args.ranges.now 0 c.before.before.before.args.n) c.before.before.before.args.first c.before.before.before.args.back c.before.before.before.requires.1.1.0
+loop-holds c = count_starts c.before.before.before.args.shape c.before.before.before.args.words.now c.before.before.before.args.bytes.now c.before.before.before.args.i (ranges_from c.before.before.before.args.ranges.now 0 c.before.before.before.args.n) c.before.before.before.args.first c.before.before.before.args.back c.before.before.before.requires.1.1.0
 
 message-at-requires : tie.Need-message-at-requires invariant-loop decreases-loop
 message-at-requires c κs = (c.before.before.before.before.before.requires.0, (c.before.before.before.before.before.requires.1.0, (c.before.loop.invariant.stands, omega arith)))
@@ -39,10 +39,10 @@ loop-less c =
     omega arith
 
 loop-again : tie.Need-loop-preserved invariant-loop decreases-loop
-loop-again c = counts-on c.before.before.before.before.before.before.before.before.before.args.shape c.before.before.before.before.before.before.before.before.before.args.words.now c.before.before.before.before.before.before.before.before.before.args.bytes.now c.before.before.before.before.before.before.before.before.before.args.i (ranges_from c.before.before.before.before.before.before.before.before.before.args.ranges.now 0 c.before.before.before.before.before.before.before.before.before.args.n) c.before.before.before.before.before.before.before.before.before.args.first c.before.before.before.before.before.before.before.before.before.args.back c.before.before.before.before.before.loop.invariant c.before.before.before.message-at.ensures c.before.before.kept_for.ensures c.counted.ensures
+loop-again c = counts_on c.before.before.before.before.before.before.before.before.before.args.shape c.before.before.before.before.before.before.before.before.before.args.words.now c.before.before.before.before.before.before.before.before.before.args.bytes.now c.before.before.before.before.before.before.before.before.before.args.i (ranges_from c.before.before.before.before.before.before.before.before.before.args.ranges.now 0 c.before.before.before.before.before.before.before.before.before.args.n) c.before.before.before.before.before.before.before.before.before.args.first c.before.before.before.before.before.before.before.before.before.args.back c.before.before.before.before.before.loop.invariant c.before.before.before.message-at.ensures c.before.before.kept_for.ensures c.counted.ensures
 
 returns : tie.Need-returns invariant-loop decreases-loop
-returns c = count-ends c.before.before.before.before.before.args.shape c.before.before.before.before.before.args.words.now c.before.before.before.before.before.args.bytes.now c.before.before.before.before.before.args.i (ranges_from c.before.before.before.before.before.args.ranges.now 0 c.before.before.before.before.before.args.n) c.before.before.before.before.before.args.first c.before.before.before.before.before.args.back (omega arith) c.before.loop.invariant
+returns c = count_ends c.before.before.before.before.before.args.shape c.before.before.before.before.before.args.words.now c.before.before.before.before.before.args.bytes.now c.before.before.before.before.before.args.i (ranges_from c.before.before.before.before.before.args.ranges.now 0 c.before.before.before.before.before.args.n) c.before.before.before.before.before.args.first c.before.before.before.before.before.args.back (omega arith) c.before.loop.invariant
 
 pub count_spec : {M : Type 1} → statement M
 count_spec =

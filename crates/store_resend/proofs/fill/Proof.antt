@@ -1,7 +1,7 @@
 use native.Mathlib.Omega.{arith}
 use Rattle.store_resend.specs.Ranges.{ranges_from}
 use Rattle.store_resend.specs.Passes.{Counting, Filling, Begun}
-use Rattle.store_resend.proofs.Passes.{fill-starts, room, fills-on, fill-ends, count-starts, counts-on, count-ends, within_C}
+use Rattle.store_resend.proofs.Passes.{fill_starts, room, fills_on, fill_ends, count_starts, counts_on, count_ends, within_C}
 use Rattle.store_resend.proofs.fill.Statement.{statement}
 use Rattle.store_resend.proofs.fill.Tie as tie
 
@@ -12,7 +12,7 @@ abbrev decreases-loop : tie.decreases-loop
 decreases-loop words bytes shape i first back ranges n entries₀ left₀ dist₀ tally₀ kept₀ entries left dist tally kept = left
 
 loop-holds : tie.Need-loop-init invariant-loop decreases-loop
-loop-holds c = (fill-starts c.before.before.before.before.args.shape c.before.before.before.before.args.words.now c.before.before.before.before.args.bytes.now c.before.before.before.before.args.i (ranges_from c.before.before.before.before.args.ranges.now 0 c.before.before.before.before.args.n) c.before.before.before.before.args.first c.before.before.before.before.args.back _ c.before.before.before.before.requires.1.1.0, count-starts c.before.before.before.before.args.shape c.before.before.before.before.args.words.now c.before.before.before.before.args.bytes.now c.before.before.before.before.args.i (ranges_from c.before.before.before.before.args.ranges.now 0 c.before.before.before.before.args.n) c.before.before.before.before.args.first c.before.before.before.before.args.back c.before.before.before.before.requires.1.1.0)
+loop-holds c = (fill_starts c.before.before.before.before.args.shape c.before.before.before.before.args.words.now c.before.before.before.before.args.bytes.now c.before.before.before.before.args.i (ranges_from c.before.before.before.before.args.ranges.now 0 c.before.before.before.before.args.n) c.before.before.before.before.args.first c.before.before.before.before.args.back _ c.before.before.before.before.requires.1.1.0, count_starts c.before.before.before.before.args.shape c.before.before.before.before.args.words.now c.before.before.before.before.args.bytes.now c.before.before.before.before.args.i (ranges_from c.before.before.before.before.args.ranges.now 0 c.before.before.before.before.args.n) c.before.before.before.before.args.first c.before.before.before.before.args.back c.before.before.before.before.requires.1.1.0)
 
 message-at-requires : tie.Need-message-at-requires invariant-loop decreases-loop
 message-at-requires c κs = (c.before.before.before.before.before.before.requires.0, (c.before.before.before.before.before.before.requires.1.0, (c.before.loop.invariant.0.stands, omega arith)))
@@ -43,8 +43,8 @@ go-on-requires c κs =
           old = a.entries.now;
           small = within_C a.shape a.words.now a.bytes.now a.i a.first a.back z.requires.1.1.0;
           fits = z.requires.1.1.1.1.1;
-          filling = fills-on a.shape a.words.now a.bytes.now a.i (ranges_from a.ranges.now 0 a.n) a.first a.back c.before.before.before.before.before.before.before.before.message-at.result c.before.before.before.before.before.before.before.before.before.before.loop.invariant.0 c.before.before.before.before.before.before.before.before.message-at.ensures c.before.before.before.before.before.before.before.kept_for.ensures z.requires.1.1.1.1.1 c.before.before.before.before.before.counted.ensures.many c.before.before.before.enter.ensures;
-          counting = counts-on a.shape a.words.now a.bytes.now a.i (ranges_from a.ranges.now 0 a.n) a.first a.back c.before.before.before.before.before.before.before.before.before.before.loop.invariant.1 c.before.before.before.before.before.before.before.before.message-at.ensures c.before.before.before.before.before.before.before.kept_for.ensures c.before.before.before.before.before.counted.ensures;
+          filling = fills_on a.shape a.words.now a.bytes.now a.i (ranges_from a.ranges.now 0 a.n) a.first a.back c.before.before.before.before.before.before.before.before.message-at.result c.before.before.before.before.before.before.before.before.before.before.loop.invariant.0 c.before.before.before.before.before.before.before.before.message-at.ensures c.before.before.before.before.before.before.before.kept_for.ensures z.requires.1.1.1.1.1 c.before.before.before.before.before.counted.ensures.many c.before.before.before.enter.ensures;
+          counting = counts_on a.shape a.words.now a.bytes.now a.i (ranges_from a.ranges.now 0 a.n) a.first a.back c.before.before.before.before.before.before.before.before.before.before.loop.invariant.1 c.before.before.before.before.before.before.before.before.message-at.ensures c.before.before.before.before.before.before.before.kept_for.ensures c.before.before.before.before.before.counted.ensures;
         },
       ),
     )
@@ -60,13 +60,13 @@ loop-again c =
     let z = c.before.before.before.before.before.before.before.before.before.before.before.before.before.before.before.before.before.before in
     let a = z.args in
     let q = c.before.before.go_on.ensures in
-    (q.fills (ranges_from a.ranges.now 0 a.n) a.first a.back a.entries.now z.requires.1.1.1.1.1 (fills-on a.shape a.words.now a.bytes.now a.i (ranges_from a.ranges.now 0 a.n) a.first a.back c.before.before.before.before.before.before.before.before.before.before.before.message-at.result c.before.before.before.before.before.before.before.before.before.before.before.before.before.loop.invariant.0 c.before.before.before.before.before.before.before.before.before.before.before.message-at.ensures c.before.before.before.before.before.before.before.before.before.before.kept_for.ensures z.requires.1.1.1.1.1 c.before.before.before.before.before.before.before.before.counted.ensures.many c.before.before.before.before.before.before.enter.ensures), q.counts (ranges_from a.ranges.now 0 a.n) a.first a.back (counts-on a.shape a.words.now a.bytes.now a.i (ranges_from a.ranges.now 0 a.n) a.first a.back c.before.before.before.before.before.before.before.before.before.before.before.before.before.loop.invariant.1 c.before.before.before.before.before.before.before.before.before.before.before.message-at.ensures c.before.before.before.before.before.before.before.before.before.before.kept_for.ensures c.before.before.before.before.before.before.before.before.counted.ensures))
+    (q.fills (ranges_from a.ranges.now 0 a.n) a.first a.back a.entries.now z.requires.1.1.1.1.1 (fills_on a.shape a.words.now a.bytes.now a.i (ranges_from a.ranges.now 0 a.n) a.first a.back c.before.before.before.before.before.before.before.before.before.before.before.message-at.result c.before.before.before.before.before.before.before.before.before.before.before.before.before.loop.invariant.0 c.before.before.before.before.before.before.before.before.before.before.before.message-at.ensures c.before.before.before.before.before.before.before.before.before.before.kept_for.ensures z.requires.1.1.1.1.1 c.before.before.before.before.before.before.before.before.counted.ensures.many c.before.before.before.before.before.before.enter.ensures), q.counts (ranges_from a.ranges.now 0 a.n) a.first a.back (counts_on a.shape a.words.now a.bytes.now a.i (ranges_from a.ranges.now 0 a.n) a.first a.back c.before.before.before.before.before.before.before.before.before.before.before.before.before.loop.invariant.1 c.before.before.before.before.before.before.before.before.before.before.before.message-at.ensures c.before.before.before.before.before.before.before.before.before.before.kept_for.ensures c.before.before.before.before.before.before.before.before.counted.ensures))
 
 same_length : tie.Need-same-length invariant-loop decreases-loop
 same_length c = c.before.loop.invariant.0.size
 
 returns : tie.Need-returns invariant-loop decreases-loop
-returns c = record { written = fill-ends c.before.before.before.before.before.before.args.shape c.before.before.before.before.before.before.args.words.now c.before.before.before.before.before.before.args.bytes.now c.before.before.before.before.before.before.args.i (ranges_from c.before.before.before.before.before.before.args.ranges.now 0 c.before.before.before.before.before.before.args.n) c.before.before.before.before.before.before.args.first c.before.before.before.before.before.before.args.back (omega arith) c.before.loop.invariant.0; counts = count-ends c.before.before.before.before.before.before.args.shape c.before.before.before.before.before.before.args.words.now c.before.before.before.before.before.before.args.bytes.now c.before.before.before.before.before.before.args.i (ranges_from c.before.before.before.before.before.before.args.ranges.now 0 c.before.before.before.before.before.before.args.n) c.before.before.before.before.before.before.args.first c.before.before.before.before.before.before.args.back (omega arith) c.before.loop.invariant.1 }
+returns c = record { written = fill_ends c.before.before.before.before.before.before.args.shape c.before.before.before.before.before.before.args.words.now c.before.before.before.before.before.before.args.bytes.now c.before.before.before.before.before.before.args.i (ranges_from c.before.before.before.before.before.before.args.ranges.now 0 c.before.before.before.before.before.before.args.n) c.before.before.before.before.before.before.args.first c.before.before.before.before.before.before.args.back (omega arith) c.before.loop.invariant.0; counts = count_ends c.before.before.before.before.before.before.args.shape c.before.before.before.before.before.before.args.words.now c.before.before.before.before.before.before.args.bytes.now c.before.before.before.before.before.before.args.i (ranges_from c.before.before.before.before.before.before.args.ranges.now 0 c.before.before.before.before.before.before.args.n) c.before.before.before.before.before.before.args.first c.before.before.before.before.before.before.args.back (omega arith) c.before.loop.invariant.1 }
 
 pub fill_spec : {M : Type 1} → statement M
 fill_spec =

@@ -3,7 +3,7 @@ use Prim.Native.Nat.{ℕ, ◌+◌, ◌-◌}
 use native.Mathlib.Omega.{arith}
 use Rattle.store_resend.specs.declared.Tally.{Tally}
 use Rattle.store_resend.specs.Passes.{Begun, Carries}
-use Rattle.store_resend.proofs.Passes.{follow-starts, follows_on, room-here, stands_there, long_there}
+use Rattle.store_resend.proofs.Passes.{follow_starts, follows_on, room_here, stands_there, long_there}
 use Rattle.store_resend.proofs.follow.Statement.{statement}
 use Rattle.store_resend.proofs.follow.Tie as tie
 
@@ -17,7 +17,7 @@ loop-holds : tie.Need-loop-init invariant-loop decreases-loop
 loop-holds c =
     let z = c.before.before.before in
     let a = z.args in
-    λ t e. follow-starts a.shape a.words.now a.bytes.now a.i a.first a.back t a.entries.now a.kept a.tally.length e
+    λ t e. follow_starts a.shape a.words.now a.bytes.now a.i a.first a.back t a.entries.now a.kept a.tally.length e
 
 message-at-requires : tie.Need-message-at-requires invariant-loop decreases-loop
 message-at-requires c κs =
@@ -53,13 +53,13 @@ enter-requires : tie.Need-enter-requires invariant-loop decreases-loop
 enter-requires c κs =
     let z = c.before.before.before.before.before.before.before.before.before.before.before.before.before in
     let a = z.args in
-    room-here a.shape a.words.now a.bytes.now a.i a.first a.back a.tally a.entries.now a.kept c.before.before.before.before.before.before.before.message-at.result (c.before.before.before.before.before.before.before.before.before.loop.invariant a.tally refl) c.before.before.before.before.before.before.before.message-at.ensures (omega (arith, c.before.before.before.before.if1.false)) (omega (arith, c.before.if2.false)) z.requires.1.1.0
+    room_here a.shape a.words.now a.bytes.now a.i a.first a.back a.tally a.entries.now a.kept c.before.before.before.before.before.before.before.message-at.result (c.before.before.before.before.before.before.before.before.before.loop.invariant a.tally refl) c.before.before.before.before.before.before.before.message-at.ensures (omega (arith, c.before.before.before.before.if1.false)) (omega (arith, c.before.if2.false)) z.requires.1.1.0
 
 add_length : tie.Need-overflow-add-length invariant-loop decreases-loop
 add_length c =
     let z = c.before.before.before.before.before.before.before.before.before.before.before.before.before.before.before.before in
     let a = z.args in
-    let h = room-here a.shape a.words.now a.bytes.now a.i a.first a.back a.tally a.entries.now a.kept c.before.before.before.before.before.before.before.before.before.before.message-at.result (c.before.before.before.before.before.before.before.before.before.before.before.before.loop.invariant a.tally refl) c.before.before.before.before.before.before.before.before.before.before.message-at.ensures (omega (arith, c.before.before.before.before.before.before.before.if1.false)) (omega (arith, c.before.before.before.before.if2.false)) z.requires.1.1.0 z.requires.1.1.1 in
+    let h = room_here a.shape a.words.now a.bytes.now a.i a.first a.back a.tally a.entries.now a.kept c.before.before.before.before.before.before.before.before.before.before.message-at.result (c.before.before.before.before.before.before.before.before.before.before.before.before.loop.invariant a.tally refl) c.before.before.before.before.before.before.before.before.before.before.message-at.ensures (omega (arith, c.before.before.before.before.before.before.before.if1.false)) (omega (arith, c.before.before.before.before.if2.false)) z.requires.1.1.0 z.requires.1.1.1 in
     let e = long_there a.shape a.words.now a.bytes.now a.i a.first a.back a.tally a.entries.now a.kept z.requires.1.1.0 (c.before.before.before.before.before.before.before.before.before.before.before.before.loop.invariant a.tally refl) in
     omega (arith, h, e)
 

@@ -1,6 +1,6 @@
 use native.Mathlib.Omega.{arith}
 use Rattle.store_resend.specs.Passes.{PassesOver}
-use Rattle.store_resend.proofs.Passes.{over-starts, over-on}
+use Rattle.store_resend.proofs.Passes.{over_starts, over_on}
 use Rattle.store_resend.proofs.pass_over.Statement.{statement}
 use Rattle.store_resend.proofs.pass_over.Tie as tie
 
@@ -14,7 +14,7 @@ loop-holds : tie.Need-loop-init invariant-loop decreases-loop
 loop-holds c =
     let z = c.before.before in
     let a = z.args in
-    over-starts a.shape a.words.now a.bytes.now a.i a.first a.back a.kept z.requires.1.1.0
+    over_starts a.shape a.words.now a.bytes.now a.i a.first a.back a.kept z.requires.1.1.0
 
 message-at-requires : tie.Need-message-at-requires invariant-loop decreases-loop
 message-at-requires c κs =
@@ -37,7 +37,7 @@ loop-again : tie.Need-loop-preserved invariant-loop decreases-loop
 loop-again c =
     let z = c.before.before.before.before.before.before.before.before.before.before.before in
     let a = z.args in
-    over-on a.shape a.words.now a.bytes.now a.i a.first a.back a.kept c.before.before.before.before.before.before.message-at.result c.before.before.before.before.before.before.before.before.loop.invariant c.before.before.before.before.before.before.message-at.ensures (omega (arith, c.before.before.before.if1.false)) (omega (arith, c.if2.false)) z.requires.1.1.1
+    over_on a.shape a.words.now a.bytes.now a.i a.first a.back a.kept c.before.before.before.before.before.before.message-at.result c.before.before.before.before.before.before.before.before.loop.invariant c.before.before.before.before.before.before.message-at.ensures (omega (arith, c.before.before.before.if1.false)) (omega (arith, c.if2.false)) z.requires.1.1.1
 
 returns-3 : tie.Need-returns-3 invariant-loop decreases-loop
 returns-3 c = c.before.loop.invariant

@@ -1,21 +1,21 @@
 use borrow.Author.Rules.{rules}
-use Rattle.store_resend.proofs.Laws.{stays-before, stays_open, stays-in, stays-past}
+use Rattle.store_resend.proofs.Laws.{stays_before, stays_open, stays_in, stays_past}
 use Rattle.store_resend.specs.Ranges.{range_at}
 use native.Mathlib.Omega.{arith}
 use Rattle.store_resend.proofs.stays_until.Statement.{statement}
 use Rattle.store_resend.proofs.stays_until.Tie as tie
 
 returns : tie.Need-returns
-returns c = stays-before (range_at c.before.before.before.args.ranges.now c.before.before.before.args.j) c.before.before.before.args.n (omega arith)
+returns c = stays_before (range_at c.before.before.before.args.ranges.now c.before.before.before.args.j) c.before.before.before.args.n (omega arith)
 
 returns-2 : tie.Need-returns-2
 returns-2 c = stays_open (range_at c.before.before.before.before.args.ranges.now c.before.before.before.before.args.j) c.before.before.before.before.args.n (omega arith) c.if2.taken
 
 returns-3 : tie.Need-returns-3
-returns-3 c = stays-in (range_at c.before.before.before.before.before.args.ranges.now c.before.before.before.before.before.args.j) c.before.before.before.before.before.args.n (omega arith) c.before.if2.left (omega arith)
+returns-3 c = stays_in (range_at c.before.before.before.before.before.args.ranges.now c.before.before.before.before.before.args.j) c.before.before.before.before.before.args.n (omega arith) c.before.if2.left (omega arith)
 
 returns-4 : tie.Need-returns-4
-returns-4 c = stays-past (range_at c.before.before.before.before.before.args.ranges.now c.before.before.before.before.before.args.j) c.before.before.before.before.before.args.n (omega arith) c.before.if2.left (omega arith)
+returns-4 c = stays_past (range_at c.before.before.before.before.before.args.ranges.now c.before.before.before.before.before.args.j) c.before.before.before.before.before.args.n (omega arith) c.before.if2.left (omega arith)
 
 pub stays_until_spec : {M : Type 1} → statement M
 stays_until_spec =

@@ -1,5 +1,5 @@
 use mathlib.Core.Path.{◌∙◌}
-use Rattle.store_areas.proofs.Reading.{durable-is}
+use Rattle.store_areas.proofs.Reading.{durable_is}
 use borrow.Author.Rules.{rules}
 use Rattle.store_sessions.proofs.durable.Statement.{statement}
 use Rattle.store_sessions.proofs.durable.Tie as tie
@@ -7,7 +7,7 @@ use Rattle.store_sessions.proofs.durable.Tie as tie
 returns : tie.Need-returns
 returns c =
     let a = c.before.before.before.before.before.args in
-    c.durable.ensures ∙ durable-is a.shape a.place _ _ _ _ a.words.now a.bytes.now c.before.before.spot_in.ensures c.before.before.before.before.before.requires.0 c.before.before.before.before.before.requires.1
+    c.durable.ensures ∙ durable_is a.shape a.place _ _ _ _ a.words.now a.bytes.now c.before.before.spot_in.ensures c.before.before.before.before.before.requires.0 c.before.before.before.before.before.requires.1
 
 pub durable_spec : {M : Type 1} → statement M
 durable_spec =

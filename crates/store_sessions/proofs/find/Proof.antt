@@ -1,12 +1,12 @@
 use mathlib.Core.Path.{sym, ◌∙◌}
-use Rattle.store_areas.proofs.Ruling.{rules-of}
+use Rattle.store_areas.proofs.Ruling.{rules_of}
 use Rattle.store_sessions.proofs.Seeking.{sought, not_sought}
 use borrow.Author.Rules.{rules}
 use Rattle.store_sessions.proofs.find.Statement.{statement}
 use Rattle.store_sessions.proofs.find.Tie as tie
 
 place-of-requires : tie.Need-place-of-requires
-place-of-requires c κs = rules-of _ _ _ (sym c.before.allowed.ensures ∙ c.if1.true)
+place-of-requires c κs = rules_of _ _ _ (sym c.before.allowed.ensures ∙ c.if1.true)
 
 returns : tie.Need-returns
 returns c = sought _ _ _ _ _ (sym c.before.before.allowed.ensures ∙ c.before.if1.true) c.place_of.ensures

@@ -1,5 +1,5 @@
 use Rattle.store_place.specs.Place.{key_from}
-use Rattle.store_sessions.proofs.Parts.{key-same}
+use Rattle.store_sessions.proofs.Parts.{key_same}
 use borrow.Author.Rules.{rules}
 use Rattle.store_sessions.proofs.has_key.Statement.{statement}
 use Rattle.store_sessions.proofs.has_key.Tie as tie
@@ -7,7 +7,7 @@ use Rattle.store_sessions.proofs.has_key.Tie as tie
 returns : tie.Need-returns
 returns c =
     let a = c.before.before.before.before.before.before.before.before.before.before.args in
-    key-same a.shape a.place _ _ _ _ a.words.now a.bytes.now c.before.before.before.spot_in.ensures c.before.before.before.before.before.before.before.before.before.before.requires.0 c.before.before.before.before.before.before.before.before.before.before.requires.1 c.has_key_lem.result (key_from a.begin.now a.sender.now a.target.now a.suffix.now) c.has_key_lem.ensures
+    key_same a.shape a.place _ _ _ _ a.words.now a.bytes.now c.before.before.before.spot_in.ensures c.before.before.before.before.before.before.before.before.before.before.requires.0 c.before.before.before.before.before.before.before.before.before.before.requires.1 c.has_key_lem.result (key_from a.begin.now a.sender.now a.target.now a.suffix.now) c.has_key_lem.ensures
 
 pub has_key_spec : {M : Type 1} → statement M
 has_key_spec =

@@ -1,4 +1,4 @@
-use Rattle.store_sessions.proofs.Parts.{last-is}
+use Rattle.store_sessions.proofs.Parts.{last_is}
 use borrow.Author.Rules.{rules}
 use Rattle.store_sessions.proofs.last_outgoing.Statement.{statement}
 use Rattle.store_sessions.proofs.last_outgoing.Tie as tie
@@ -7,7 +7,7 @@ returns : tie.Need-returns
 returns c =
     let a = c.before.before.before.before.before.before.before.args in
     let at = c.before.before.before.before.spot_in.ensures in
-    last-is a.shape a.place _ _ _ _ a.words.now a.bytes.now at c.before.before.before.before.before.before.before.requires.0 c.before.before.before.before.before.before.before.requires.1 a.n c.last-outgoing.result (c.last-outgoing.ensures a.shape.bytes at.bytes_part)
+    last_is a.shape a.place _ _ _ _ a.words.now a.bytes.now at c.before.before.before.before.before.before.before.requires.0 c.before.before.before.before.before.before.before.requires.1 a.n c.last-outgoing.result (c.last-outgoing.ensures a.shape.bytes at.bytes_part)
 
 pub last_outgoing_spec : {M : Type 1} → statement M
 last_outgoing_spec =

@@ -1,5 +1,5 @@
 use native.Mathlib.Omega.{arith}
-use Rattle.store_sessions.proofs.Parts.{stands-in, read_at}
+use Rattle.store_sessions.proofs.Parts.{stands_in, read_at}
 use borrow.Author.Rules.{rules}
 use Rattle.store_sessions.proofs.message_at.Statement.{statement}
 use Rattle.store_sessions.proofs.message_at.Tie as tie
@@ -9,7 +9,7 @@ message-at-requires c κs =
     let a = c.before.before.before.before.before.before.args in
     let p = c.before.before.before.before.before.before.requires in
     let at = c.before.before.before.spot_in.ensures in
-    (omega (arith, at), (omega (arith, at), (stands-in a.shape a.place _ _ _ _ a.words.now a.bytes.now at p.0 p.1.0 a.left a.dist p.1.1.0, p.1.1.1)))
+    (omega (arith, at), (omega (arith, at), (stands_in a.shape a.place _ _ _ _ a.words.now a.bytes.now at p.0 p.1.0 a.left a.dist p.1.1.0, p.1.1.1)))
 
 add_t14 : tie.Need-overflow-add-t14
 add_t14 c =

@@ -1,5 +1,5 @@
 use mathlib.Core.Path.{◌∙◌}
-use Rattle.store_areas.proofs.Reading.{out-is}
+use Rattle.store_areas.proofs.Reading.{out_is}
 use borrow.Author.Rules.{rules}
 use Rattle.store_sessions.proofs.next_outgoing.Statement.{statement}
 use Rattle.store_sessions.proofs.next_outgoing.Tie as tie
@@ -7,7 +7,7 @@ use Rattle.store_sessions.proofs.next_outgoing.Tie as tie
 returns : tie.Need-returns
 returns c =
     let a = c.before.before.before.before.before.args in
-    c.next-outgoing.ensures ∙ out-is a.shape a.place _ _ _ _ a.words.now a.bytes.now c.before.before.spot_in.ensures c.before.before.before.before.before.requires.0 c.before.before.before.before.before.requires.1
+    c.next-outgoing.ensures ∙ out_is a.shape a.place _ _ _ _ a.words.now a.bytes.now c.before.before.spot_in.ensures c.before.before.before.before.before.requires.0 c.before.before.before.before.before.requires.1
 
 pub next_outgoing_spec : {M : Type 1} → statement M
 next_outgoing_spec =

@@ -1,5 +1,5 @@
 use borrow.Author.Rules.{rules}
-use Rattle.store_sessions.proofs.Parts.{summed-up, texts-in}
+use Rattle.store_sessions.proofs.Parts.{summed_up, texts_in}
 use Rattle.store_sessions.proofs.summary_of.Statement.{statement}
 use Rattle.store_sessions.proofs.summary_of.Tie as tie
 
@@ -9,7 +9,7 @@ returns c =
     let p = c.before.before.before.before.before.before.before.requires in
     let at = c.before.before.before.before.spot_in.ensures in
     let k = c.summary-in.ensures a.shape.bytes at.bytes_part in
-    (summed-up a.shape a.place _ _ _ _ a.words.now a.bytes.now at p.0 p.1 a.n c.summary-in.result k, texts-in a.shape a.place _ _ _ _ a.words.now a.bytes.now at p.0 p.1 a.n c.summary-in.result k)
+    (summed_up a.shape a.place _ _ _ _ a.words.now a.bytes.now at p.0 p.1 a.n c.summary-in.result k, texts_in a.shape a.place _ _ _ _ a.words.now a.bytes.now at p.0 p.1 a.n c.summary-in.result k)
 
 pub summary_of_spec : {M : Type 1} → statement M
 summary_of_spec =

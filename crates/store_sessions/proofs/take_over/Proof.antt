@@ -1,5 +1,5 @@
 use Rattle.model_standby.specs.Store.{taken_over}
-use Rattle.store_areas.proofs.Lifting.{spot-both}
+use Rattle.store_areas.proofs.Lifting.{spot_both}
 use borrow.Author.Rules.{rules}
 use Rattle.store_sessions.proofs.take_over.Statement.{statement}
 use Rattle.store_sessions.proofs.take_over.Tie as tie
@@ -9,7 +9,7 @@ returns c =
     let a = c.before.before.before.before.before.before.before.before.before.before.before.before.before.args in
     let r = c.before.before.before.before.take-over in
     let p = c.before.before.before.before.before.before.before.before.before.before.before.before.before.requires in
-    spot-both a.shape a.place _ _ _ _ c.before.before.before.before.before.before.before.before.spot_in.ensures.at a.words.now a.bytes.now p.0 p.1 (taken_over a.lag) r.new.0 r.new.1.0 r.auto.0 r.auto.1.0 (r.ensures a.shape.bytes)
+    spot_both a.shape a.place _ _ _ _ c.before.before.before.before.before.before.before.before.spot_in.ensures.at a.words.now a.bytes.now p.0 p.1 (taken_over a.lag) r.new.0 r.new.1.0 r.auto.0 r.auto.1.0 (r.ensures a.shape.bytes)
 
 pub take_over_spec : {M : Type 1} → statement M
 take_over_spec =

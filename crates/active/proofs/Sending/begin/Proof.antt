@@ -1,8 +1,8 @@
 use native.Mathlib.Omega.{arith}
 use Rattle.model_session.specs.Sender.{new_sender}
 use Rattle.active.specs.Whole.{sending_for, start_from}
-use Rattle.active.proofs.Storing.{rules-hold, in_use, is_held, not-held}
-use Rattle.active.proofs.Calling.{begins-not, begins-at, numbers-past, numbers_fit}
+use Rattle.active.proofs.Storing.{rules_hold, in_use, is_held, not_held}
+use Rattle.active.proofs.Calling.{begins_not, begins_at, numbers_past, numbers_fit}
 use mathlib.Core.Path.{refl}
 use borrow.Author.Rules.{rules}
 use Rattle.active.proofs.Sending.begin.Statement.{statement}
@@ -12,26 +12,26 @@ batches-at-requires : tie.Need-batches-at-requires
 batches-at-requires c κs =
     let a = c.before.before.before.before.args in
     let q = c.before.in_use in
-    (rules-hold a.shape a.words.now a.bytes.now a.place q.result q.ensures c.if1.true, in_use a.shape a.words.now a.bytes.now a.place q.result q.ensures c.if1.true)
+    (rules_hold a.shape a.words.now a.bytes.now a.place q.result q.ensures c.if1.true, in_use a.shape a.words.now a.bytes.now a.place q.result q.ensures c.if1.true)
 
 returns : tie.Need-returns
 returns c =
     let a = c.before.before.before.before.before.before.before.args in
     let q = c.before.before.before.before.in_use in
-    begins-not _ refl (rw (is_held a.shape a.words.now a.bytes.now a.place q.result q.ensures c.before.before.before.if1.true) (numbers-past _ _ _ _ _ _ _ c.before.before.batches-at.ensures.0 (omega arith) c.if2.true))
+    begins_not _ refl (rw (is_held a.shape a.words.now a.bytes.now a.place q.result q.ensures c.before.before.before.if1.true) (numbers_past _ _ _ _ _ _ _ c.before.before.batches-at.ensures.0 (omega arith) c.if2.true))
 
 returns-2 : tie.Need-returns-2
 returns-2 c =
     let a = c.before.before.before.before.before.before.before.args in
     let q = c.before.before.before.before.in_use in
-    begins-at (sending_for a.place (new_sender a.handle a.epoch.0 a.last.0)) refl (rw (is_held a.shape a.words.now a.bytes.now a.place q.result q.ensures c.before.before.before.if1.true) (numbers_fit _ _ _ _ _ _ _ c.before.before.batches-at.ensures.0 (omega arith) c.if2.false))
+    begins_at (sending_for a.place (new_sender a.handle a.epoch.0 a.last.0)) refl (rw (is_held a.shape a.words.now a.bytes.now a.place q.result q.ensures c.before.before.before.if1.true) (numbers_fit _ _ _ _ _ _ _ c.before.before.batches-at.ensures.0 (omega arith) c.if2.false))
 
 returns-3 : tie.Need-returns-3
 unfolding start_from
 returns-3 c =
     let a = c.before.before.before.before.args in
     let q = c.before.in_use in
-    begins-not _ refl (rw (not-held a.shape a.words.now a.bytes.now a.place q.result q.ensures c.if1.false))
+    begins_not _ refl (rw (not_held a.shape a.words.now a.bytes.now a.place q.result q.ensures c.if1.false))
 
 pub begin_spec : {M : Type 1} → statement M
 begin_spec =
