@@ -157,7 +157,10 @@ def relabel(text, of, path):
             return m[0]
         return f".{m[1]}.new.{names[k]}"
 
-    return re.sub(rf"\.({WORD})\.new((?:\.1)*)\.0(?![\w])", lent, text), said
+    text = re.sub(rf"\.({WORD})\.new((?:\.1)*)\.0(?![\w])", lent, text)
+    # The test of an `if !x` is told of x.
+    text = re.sub(r"\(not-(?:true|false) (?:_|\S+|\([^()]*\)) ([\w.'-]+\.(?:true|false))\)", r"\1", text)
+    return re.sub(r"\bnot-(?:true|false) _ ([\w.'-]+\.(?:true|false))(?![\w.])", r"\1", text), said
 
 
 def main():

@@ -37,10 +37,13 @@ no_fewer : (n h x : ℕ) (c : QuorumCall) (past : List QuorumCall) → is_bind h
 no_fewer zero h x c past e = omega arith
 no_fewer (suc n) h x c past e = go (has_acked h n x past) refl (no_fewer n h x c past e)
   where
+    least : (p q : Bool) (i j : ℕ) → (p ≡ true → q ≡ true) → i ≤ j → cond p 1 0 + i ≤ cond q 1 0 + j
+    least true q i j more le = rw (more refl) (omega arith)
+    least false true i j more le = omega arith
+    least false false i j more le = omega arith
+
     go : (b : Bool) → has_acked h n x past ≡ b → acked_by n h x past ≤ acked_by n h x (c ∷ past) → cond (has_acked h n x past) 1 0 + acked_by n h x past ≤ cond (has_acked h n x (c ∷ past)) 1 0 + acked_by n h x (c ∷ past)
-    go true t ih =
-        rw t (subst (λ (b : Bool). 1 + acked_by n h x past ≤ cond b 1 0 + acked_by n h x (c ∷ past)) (sym (still h n x c past e t)) (omega arith))
-    go false t ih = rw t (omega arith)
+    go b t ih = least (has_acked h n x past) (has_acked h n x (c ∷ past)) (acked_by n h x past) (acked_by n h x (c ∷ past)) (λ (acked : has_acked h n x past ≡ true). still h n x c past e acked) ih
 
 pub never_falls : {n k h x y : ℕ} {past : List QuorumCall} (c : QuorumCall) → is_bind h c ≡ false → Figure n k h past x → Figure n k h (c ∷ past) y → x ≤ y
 never_falls {n} {k} {h} {x} {y} {past} c e f g = go x refl

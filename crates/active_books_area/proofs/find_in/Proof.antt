@@ -6,45 +6,45 @@ use native.Mathlib.Omega.{arith}
 use Rattle.active_books_area.proofs.find_in.Statement.{statement}
 use Rattle.active_books_area.proofs.find_in.Tie as tie
 
-abbrev invariant-loop : tie.invariant-loop
-invariant-loop words base n session i₀ i = (i ≤ n) × ((k : ℕ) → k < i → word_at words base k ≡ session → ⊥)
+abbrev invariant-loop-i : tie.invariant-loop-i
+invariant-loop-i words base n session i₀ i = (i ≤ n) × ((k : ℕ) → k < i → word_at words base k ≡ session → ⊥)
 
-abbrev decreases-loop : tie.decreases-loop
-decreases-loop words base n session i₀ i = n - i
+abbrev decreases-loop-i : tie.decreases-loop-i
+decreases-loop-i words base n session i₀ i = n - i
 
-loop-holds : tie.Need-loop-init invariant-loop decreases-loop
+loop-holds : tie.Need-loop-i-init invariant-loop-i decreases-loop-i
 loop-holds c = (omega arith, λ k h. absurd (let no : ⊥ = omega arith in no))
 
-add_if1 : tie.Need-overflow-add-if1 invariant-loop decreases-loop
+add_if1 : tie.Need-overflow_add-base invariant-loop-i decreases-loop-i
 add_if1 c = omega arith
 
-mul_if1 : tie.Need-overflow-mul-if1 invariant-loop decreases-loop
+mul_if1 : tie.Need-offset_bounds-words-base invariant-loop-i decreases-loop-i
 mul_if1 c = omega arith
 
-shared_slice_read_if1 : tie.Need-shared-slice-read-if1 invariant-loop decreases-loop
+shared_slice_read_if1 : tie.Need-bounds-words-base invariant-loop-i decreases-loop-i
 shared_slice_read_if1 c = omega arith
 
-returns : tie.Need-returns invariant-loop decreases-loop
-returns c = record { upto = omega arith; before = c.before.before.before.loop.invariant.1; there = λ _. c.if1.true }
+returns : tie.Need-returns-then-words-base invariant-loop-i decreases-loop-i
+returns c = record { upto = omega arith; before = c.loop-i.invariant.1; there = λ _. c.if-words-base.true }
 
-add_i : tie.Need-overflow-add-i invariant-loop decreases-loop
+add_i : tie.Need-overflow_add-i invariant-loop-i decreases-loop-i
 add_i c = omega arith
 
-loop-less : tie.Need-loop-smaller invariant-loop decreases-loop
+loop-less : tie.Need-loop-i-smaller invariant-loop-i decreases-loop-i
 loop-less c = omega arith
 
-loop-again : tie.Need-loop-preserved invariant-loop decreases-loop
-loop-again c = (omega arith, below_more _ _ c.before.before.before.loop.invariant.1 c.if1.false)
+loop-again : tie.Need-loop-i-preserved invariant-loop-i decreases-loop-i
+loop-again c = (omega arith, below_more _ _ c.loop-i.invariant.1 c.if-words-base.false)
 
-returns-2 : tie.Need-returns-2 invariant-loop decreases-loop
-returns-2 c = record { upto = omega arith; before = c.before.loop.invariant.1; there = λ h. absurd (let no : ⊥ = omega arith in no) }
+returns-2 : tie.Need-returns invariant-loop-i decreases-loop-i
+returns-2 c = record { upto = omega arith; before = c.loop-i.invariant.1; there = λ h. absurd (let no : ⊥ = omega arith in no) }
 
 pub find_in_spec : {M : Type 1} → statement M
 find_in_spec =
     tie.close
     (tie.spec
-    invariant-loop
-    decreases-loop
+    invariant-loop-i
+    decreases-loop-i
     loop-holds
     add_if1
     mul_if1

@@ -5,13 +5,13 @@ use borrow.Author.Rules.{rules}
 use Rattle.active_books_area.proofs.set_catching.Statement.{statement}
 use Rattle.active_books_area.proofs.set_catching.Tie as tie
 
-slice_write_words : tie.Need-slice-write-words
+slice_write_words : tie.Need-bounds-words-2
 slice_write_words c = search rules
 
-slice_write_words_2 : tie.Need-slice-write-words-2
+slice_write_words_2 : tie.Need-bounds-words-3
 slice_write_words_2 c = simp length-set (omega arith)
 
-same_length : tie.Need-same-length
+same_length : tie.Need-shape_of-words
 same_length c = search rules
 
 returns : tie.Need-returns

@@ -4,28 +4,28 @@ use Rattle.model_frame.specs.Reading.{ack_fields}
 use Rattle.frame.proofs.ack_from.Statement.{statement}
 use Rattle.frame.proofs.ack_from.Tie as tie
 
-returns : tie.Need-returns
+returns : tie.Need-returns-in_default
 unfolding ack_fields
 returns c =
-    let c1 = c.before.before in
-    ((λ v. rw (← c1.u32-from.ensures.0, c.enum_told.given.1)), λ v. tt)
+    let c1 = c in
+    ((λ v. rw (← c1.u32_from.ensures.0, c.in_default.is)), λ v. tt)
 
-returns-2 : tie.Need-returns-2
+returns-2 : tie.Need-returns-in_default-u64_from
 unfolding ack_fields
 returns-2 c =
-    let c1 = c.before.before in
-    let c2 = c1.before.before in
-    let c3 = c2.before.before in
-    ((λ v. rw (← c3.u32-from.ensures.0, c2.handle.given.1, ← c1.u64-from.ensures, c.enum-told2.given.1)), λ v. tt)
+    let c1 = c in
+    let c2 = c1 in
+    let c3 = c2 in
+    ((λ v. rw (← c3.u32_from.ensures.0, c2.in-Got.is, ← c1.u64_from.ensures, c.in_default-u64_from.is)), λ v. tt)
 
-returns-3 : tie.Need-returns-3
+returns-3 : tie.Need-returns
 unfolding ack_fields
 returns-3 c =
-    let c1 = c.before in
-    let c2 = c1.before.before in
-    let c3 = c2.before.before in
-    let c4 = c3.before.before in
-    ((λ v. rw (← c4.u32-from.ensures.0, c3.handle.given.1, ← c2.u64-from.ensures, c1.commit-no.given.1)), λ v. (refl, tt))
+    let c1 = c in
+    let c2 = c1 in
+    let c3 = c2 in
+    let c4 = c3 in
+    ((λ v. rw (← c4.u32_from.ensures.0, c3.in-Got.is, ← c2.u64_from.ensures, c1.in-Got-u64_from.is)), λ v. (refl, tt))
 
 pub ack_from_spec : {M : Type 1} → statement M
 ack_from_spec =

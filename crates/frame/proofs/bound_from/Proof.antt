@@ -4,29 +4,29 @@ use Rattle.model_frame.specs.Reading.{bound_fields}
 use Rattle.frame.proofs.bound_from.Statement.{statement}
 use Rattle.frame.proofs.bound_from.Tie as tie
 
-returns : tie.Need-returns
+returns : tie.Need-returns-in_default
 unfolding bound_fields
 returns c =
-    let c1 = c.before.before in
-    ((λ v. rw (← c1.u32-from.ensures.0, c.enum_told.given.1)), λ v. tt)
+    let c1 = c in
+    ((λ v. rw (← c1.u32_from.ensures.0, c.in_default.is)), λ v. tt)
 
-returns-2 : tie.Need-returns-2
+returns-2 : tie.Need-returns-in-Bad
 unfolding bound_fields
 returns-2 c =
-    let c1 = c.before in
-    let c2 = c1.before.before in
-    let c3 = c2.before.before in
-    let c4 = c3.before.before in
-    ((λ v. rw (← c4.u32-from.ensures.0, c3.handle.given.1, ← c2.summary-from.ensures.0, c1.e.given.1)), λ v. tt)
+    let c1 = c in
+    let c2 = c1 in
+    let c3 = c2 in
+    let c4 = c3 in
+    ((λ v. rw (← c4.u32_from.ensures.0, c3.in-Got.is, ← c2.summary_from.ensures.0, c1.in-Bad.is)), λ v. tt)
 
-returns-3 : tie.Need-returns-3
+returns-3 : tie.Need-returns-in-Got-summary_from
 unfolding bound_fields
 returns-3 c =
-    let c1 = c.before in
-    let c2 = c1.before.before in
-    let c3 = c2.before.before in
-    let c4 = c3.before.before in
-    ((λ v. rw (← c4.u32-from.ensures.0, c3.handle.given.1, ← c2.summary-from.ensures.0, c1.summary.given.1)), λ v. let m = rw c1.summary.given.1 at c2.summary-from.ensures.1 in (rw (le-leb _ _ m.0, le-leb _ _ m.1), tt))
+    let c1 = c in
+    let c2 = c1 in
+    let c3 = c2 in
+    let c4 = c3 in
+    ((λ v. rw (← c4.u32_from.ensures.0, c3.in-Got.is, ← c2.summary_from.ensures.0, c1.in-Got-summary_from.is)), λ v. let m = rw c1.in-Got-summary_from.is at c2.summary_from.ensures.1 in (rw (le-leb _ _ m.0, le-leb _ _ m.1), tt))
 
 pub bound_from_spec : {M : Type 1} → statement M
 bound_from_spec =

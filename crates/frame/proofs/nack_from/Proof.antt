@@ -4,29 +4,29 @@ use Rattle.model_frame.specs.Reading.{nack_fields}
 use Rattle.frame.proofs.nack_from.Statement.{statement}
 use Rattle.frame.proofs.nack_from.Tie as tie
 
-returns : tie.Need-returns
+returns : tie.Need-returns-in_default
 unfolding nack_fields
 returns c =
-    let c1 = c.before.before in
-    ((λ v. rw (← c1.u32-from.ensures.0, c.enum_told.given.1)), λ v. tt)
+    let c1 = c in
+    ((λ v. rw (← c1.u32_from.ensures.0, c.in_default.is)), λ v. tt)
 
-returns-2 : tie.Need-returns-2
+returns-2 : tie.Need-returns-in-Bad
 unfolding nack_fields
 returns-2 c =
-    let c1 = c.before in
-    let c2 = c1.before.before in
-    let c3 = c2.before.before in
-    let c4 = c3.before.before in
-    ((λ v. rw (← c4.u32-from.ensures.0, c3.handle.given.1, ← c2.reason-from.ensures, c1.e.given.1)), λ v. tt)
+    let c1 = c in
+    let c2 = c1 in
+    let c3 = c2 in
+    let c4 = c3 in
+    ((λ v. rw (← c4.u32_from.ensures.0, c3.in-Got.is, ← c2.reason_from.ensures, c1.in-Bad.is)), λ v. tt)
 
-returns-3 : tie.Need-returns-3
+returns-3 : tie.Need-returns-in-Got-reason_from
 unfolding nack_fields
 returns-3 c =
-    let c1 = c.before in
-    let c2 = c1.before.before in
-    let c3 = c2.before.before in
-    let c4 = c3.before.before in
-    ((λ v. rw (← c4.u32-from.ensures.0, c3.handle.given.1, ← c2.reason-from.ensures, c1.reason.given.1)), λ v. (refl, tt))
+    let c1 = c in
+    let c2 = c1 in
+    let c3 = c2 in
+    let c4 = c3 in
+    ((λ v. rw (← c4.u32_from.ensures.0, c3.in-Got.is, ← c2.reason_from.ensures, c1.in-Got-reason_from.is)), λ v. (refl, tt))
 
 pub nack_from_spec : {M : Type 1} → statement M
 nack_from_spec =

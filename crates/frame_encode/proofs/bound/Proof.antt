@@ -6,32 +6,32 @@ use Rattle.frame_writer.proofs.Encoded.{encoded_unreadable, encoded_long, encode
 use Rattle.frame_encode.proofs.bound.Statement.{statement}
 use Rattle.frame_encode.proofs.bound.Tie as tie
 
-put-bound-requires : tie.Need-put-bound-requires
+put-bound-requires : tie.Need-put_bound-requires
 put-bound-requires c κs =
-    let s = rw c.before.before.at.given.1 at c.before.before.before.before.before.before.begin.ensures in
-    let a = c.before.before.before.before.before.before.before.before.before.before.before.before.before.before.before.before.args in
-    let l = summary_lengths a.protocol.version a.src.now a.summary (sym c.before.before.before.before.before.before.before.before.before.before.before.before.before.summary-fits.ensures ∙ c.before.before.before.before.before.before.before.before.before.before.before.before.if1.true) in
-    omega (arith, s.1, s.3, c.before.before.before.before.before.before.begin.auto.0, l.stamp_is, l.marks_is)
+    let s = rw c.in-At.is at c.begin.ensures in
+    let a = c.args in
+    let l = summary_lengths a.protocol.version a.src.now a.summary (sym c.summary_fits.ensures ∙ c.if-summary_fits.true) in
+    omega (arith, s.1, s.3, c.begin.auto.out, l.stamp_is, l.marks_is)
 
-returns : tie.Need-returns
+returns : tie.Need-returns-in-TooLong
 returns c =
-    let a = c.before.before.before.before.before.before.before.before.before.before.before.before.before.before.args in
-    encoded_long _ _ _ (bound_ready a.protocol.version a.src.now a.summary a.handle (sym c.before.before.before.before.before.before.before.before.before.before.before.summary-fits.ensures ∙ c.before.before.before.before.before.before.before.before.before.before.if1.true) refl) (rw c.enum_told.given.1 at c.before.before.before.before.begin.ensures)
+    let a = c.args in
+    encoded_long _ _ _ (bound_ready a.protocol.version a.src.now a.summary a.handle (sym c.summary_fits.ensures ∙ c.if-summary_fits.true) refl) (rw c.in-TooLong.is at c.begin.ensures)
 
-returns-2 : tie.Need-returns-2
+returns-2 : tie.Need-returns-in-NoRoom
 returns-2 c =
-    let a = c.before.before.before.before.before.before.before.before.before.before.before.before.before.before.args in
-    encoded_full _ _ _ (bound_ready a.protocol.version a.src.now a.summary a.handle (sym c.before.before.before.before.before.before.before.before.before.before.before.summary-fits.ensures ∙ c.before.before.before.before.before.before.before.before.before.before.if1.true) refl) (rw c.enum-told2.given.1 at c.before.before.before.before.begin.ensures)
+    let a = c.args in
+    encoded_full _ _ _ (bound_ready a.protocol.version a.src.now a.summary a.handle (sym c.summary_fits.ensures ∙ c.if-summary_fits.true) refl) (rw c.in-NoRoom.is at c.begin.ensures)
 
-returns-3 : tie.Need-returns-3
+returns-3 : tie.Need-returns-in-At
 returns-3 c =
-    let a = c.before.before.before.before.before.before.before.before.before.before.before.before.before.before.before.before.before.before.before.args in
-    encoded_took _ _ _ (bound_ready a.protocol.version a.src.now a.summary a.handle (sym c.before.before.before.before.before.before.before.before.before.before.before.before.before.before.before.before.summary-fits.ensures ∙ c.before.before.before.before.before.before.before.before.before.before.before.before.before.before.before.if1.true) refl) (rw c.before.before.before.before.before.at.given.1 at c.before.before.before.before.before.before.before.before.before.begin.ensures) c.before.before.put-bound.ensures
+    let a = c.args in
+    encoded_took _ _ _ (bound_ready a.protocol.version a.src.now a.summary a.handle (sym c.summary_fits.ensures ∙ c.if-summary_fits.true) refl) (rw c.in-At.is at c.begin.ensures) c.put_bound.ensures
 
-returns-4 : tie.Need-returns-4
+returns-4 : tie.Need-returns-else-summary_fits
 returns-4 c =
-    let a = c.before.before.before.before.args in
-    encoded_unreadable _ _ _ _ (bound_unfit a.protocol.version a.src.now a.summary a.handle (sym c.before.summary-fits.ensures ∙ c.if1.false))
+    let a = c.args in
+    encoded_unreadable _ _ _ _ (bound_unfit a.protocol.version a.src.now a.summary a.handle (sym c.summary_fits.ensures ∙ c.if-summary_fits.false))
 
 pub bound_spec : {M : Type 1} → statement M
 bound_spec =

@@ -5,25 +5,25 @@ use Rattle.frame_writer.proofs.Encoded.{encoded_long, encoded_full, encoded_took
 use Rattle.frame_encode.proofs.checked.Statement.{statement}
 use Rattle.frame_encode.proofs.checked.Tie as tie
 
-put-checked-requires : tie.Need-put-checked-requires
+put-checked-requires : tie.Need-put_checked-requires
 put-checked-requires c κs =
-    let s = rw c.before.before.at.given.1 at c.before.before.before.before.before.before.begin.ensures in
-    omega (arith, s.1, s.3, c.before.before.before.before.before.before.begin.auto.0)
+    let s = rw c.in-At.is at c.begin.ensures in
+    omega (arith, s.1, s.3, c.begin.auto.out)
 
-returns : tie.Need-returns
+returns : tie.Need-returns-in-TooLong
 returns c =
-    let a = c.before.before.before.before.before.before.before.args in
-    λ v. encoded_long v _ _ (checked_ready v a.handle a.epoch.0 a.incarnation.0) (rw c.enum_told.given.1 at c.before.before.before.before.begin.ensures)
+    let a = c.args in
+    λ v. encoded_long v _ _ (checked_ready v a.handle a.epoch.0 a.incarnation.0) (rw c.in-TooLong.is at c.begin.ensures)
 
-returns-2 : tie.Need-returns-2
+returns-2 : tie.Need-returns-in-NoRoom
 returns-2 c =
-    let a = c.before.before.before.before.before.before.before.args in
-    λ v. encoded_full v _ _ (checked_ready v a.handle a.epoch.0 a.incarnation.0) (rw c.enum-told2.given.1 at c.before.before.before.before.begin.ensures)
+    let a = c.args in
+    λ v. encoded_full v _ _ (checked_ready v a.handle a.epoch.0 a.incarnation.0) (rw c.in-NoRoom.is at c.begin.ensures)
 
-returns-3 : tie.Need-returns-3
+returns-3 : tie.Need-returns-in-At
 returns-3 c =
-    let a = c.before.before.before.before.before.before.before.before.before.before.before.before.args in
-    λ v. encoded_took v _ _ (checked_ready v a.handle a.epoch.0 a.incarnation.0) (rw c.before.before.before.before.before.at.given.1 at c.before.before.before.before.before.before.before.before.before.begin.ensures) c.before.before.put-checked.ensures
+    let a = c.args in
+    λ v. encoded_took v _ _ (checked_ready v a.handle a.epoch.0 a.incarnation.0) (rw c.in-At.is at c.begin.ensures) c.put_checked.ensures
 
 pub checked_spec : {M : Type 1} → statement M
 checked_spec =

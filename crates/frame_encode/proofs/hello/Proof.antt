@@ -7,33 +7,33 @@ use Rattle.frame_writer.proofs.Encoded.{encoded_unreadable, encoded_long, encode
 use Rattle.frame_encode.proofs.hello.Statement.{statement}
 use Rattle.frame_encode.proofs.hello.Tie as tie
 
-put-hello-requires : tie.Need-put-hello-requires
+put-hello-requires : tie.Need-put_hello-requires
 put-hello-requires c κs =
-    let s = rw c.before.before.at.given.1 at c.before.before.before.before.before.before.begin.ensures in
-    let a = c.before.before.before.before.before.before.before.before.before.before.before.before.before.before.before.before.before.args in
-    let l = node_length a.src.now a.node a.kinds (are_bytes a.src.now (λ i. (c.before.before.before.before.before.before.before.before.before.before.before.before.before.before.before.before.shared-slice-known.given i).fits)) (hello_judged a.src.now a.node a.kinds c.before.before.before.before.before.before.before.before.before.before.before.before.before.before.within.ensures c.before.before.before.before.before.before.before.before.before.before.before.before.before.kinds-fit.ensures (rw c.before.before.before.before.before.before.before.before.before.before.before.before.slice.ensures at c.before.before.before.before.before.before.before.before.before.before.before.is-utf8.ensures) c.before.before.before.before.before.before.before.before.before.before.if1.true) in
-    omega (arith, s.1, s.3, c.before.before.before.before.before.before.begin.auto.0, l)
+    let s = rw c.in-At.is at c.begin.ensures in
+    let a = c.args in
+    let l = node_length a.src.now a.node a.kinds (are_bytes a.src.now (λ i. (c.shared_slice_known-1.given i).fits)) (hello_judged a.src.now a.node a.kinds c.within.ensures c.kinds_fit.ensures (rw c.slice.ensures at c.is_utf8.ensures) c.if-fits-is_utf8.true) in
+    omega (arith, s.1, s.3, c.begin.auto.out, l)
 
-returns : tie.Need-returns
+returns : tie.Need-returns-in-TooLong
 returns c =
-    let a = c.before.before.before.before.before.before.before.before.before.before.before.before.before.before.before.args in
-    λ v. encoded_long v _ _ (hello_ready a.src.now a.node a.kinds (are_bytes a.src.now (λ i. (c.before.before.before.before.before.before.before.before.before.before.before.before.before.before.shared-slice-known.given i).fits)) (hello_judged a.src.now a.node a.kinds c.before.before.before.before.before.before.before.before.before.before.before.before.within.ensures c.before.before.before.before.before.before.before.before.before.before.before.kinds-fit.ensures (rw c.before.before.before.before.before.before.before.before.before.before.slice.ensures at c.before.before.before.before.before.before.before.before.before.is-utf8.ensures) c.before.before.before.before.before.before.before.before.if1.true) v a.version a.epoch.0 refl) (rw c.enum_told.given.1 at c.before.before.before.before.begin.ensures)
+    let a = c.args in
+    λ v. encoded_long v _ _ (hello_ready a.src.now a.node a.kinds (are_bytes a.src.now (λ i. (c.shared_slice_known-1.given i).fits)) (hello_judged a.src.now a.node a.kinds c.within.ensures c.kinds_fit.ensures (rw c.slice.ensures at c.is_utf8.ensures) c.if-fits-is_utf8.true) v a.version a.epoch.0 refl) (rw c.in-TooLong.is at c.begin.ensures)
 
-returns-2 : tie.Need-returns-2
+returns-2 : tie.Need-returns-in-NoRoom
 returns-2 c =
-    let a = c.before.before.before.before.before.before.before.before.before.before.before.before.before.before.before.args in
-    λ v. encoded_full v _ _ (hello_ready a.src.now a.node a.kinds (are_bytes a.src.now (λ i. (c.before.before.before.before.before.before.before.before.before.before.before.before.before.before.shared-slice-known.given i).fits)) (hello_judged a.src.now a.node a.kinds c.before.before.before.before.before.before.before.before.before.before.before.before.within.ensures c.before.before.before.before.before.before.before.before.before.before.before.kinds-fit.ensures (rw c.before.before.before.before.before.before.before.before.before.before.slice.ensures at c.before.before.before.before.before.before.before.before.before.is-utf8.ensures) c.before.before.before.before.before.before.before.before.if1.true) v a.version a.epoch.0 refl) (rw c.enum-told2.given.1 at c.before.before.before.before.begin.ensures)
+    let a = c.args in
+    λ v. encoded_full v _ _ (hello_ready a.src.now a.node a.kinds (are_bytes a.src.now (λ i. (c.shared_slice_known-1.given i).fits)) (hello_judged a.src.now a.node a.kinds c.within.ensures c.kinds_fit.ensures (rw c.slice.ensures at c.is_utf8.ensures) c.if-fits-is_utf8.true) v a.version a.epoch.0 refl) (rw c.in-NoRoom.is at c.begin.ensures)
 
-returns-3 : tie.Need-returns-3
+returns-3 : tie.Need-returns-in-At
 returns-3 c =
-    let a = c.before.before.before.before.before.before.before.before.before.before.before.before.before.before.before.before.before.before.before.before.args in
-    let j = (hello_judged a.src.now a.node a.kinds c.before.before.before.before.before.before.before.before.before.before.before.before.before.before.before.before.before.within.ensures c.before.before.before.before.before.before.before.before.before.before.before.before.before.before.before.before.kinds-fit.ensures (rw c.before.before.before.before.before.before.before.before.before.before.before.before.before.before.before.slice.ensures at c.before.before.before.before.before.before.before.before.before.before.before.before.before.before.is-utf8.ensures) c.before.before.before.before.before.before.before.before.before.before.before.before.before.if1.true) in
-    λ v. encoded_took v _ _ (hello_ready a.src.now a.node a.kinds (are_bytes a.src.now (λ i. (c.before.before.before.before.before.before.before.before.before.before.before.before.before.before.before.before.before.before.before.shared-slice-known.given i).fits)) j v a.version a.epoch.0 refl) (rw c.before.before.before.before.before.at.given.1 at c.before.before.before.before.before.before.before.before.before.begin.ensures) (hello_wrote a.src.now a.node a.kinds (are_bytes a.src.now (λ i. (c.before.before.before.before.before.before.before.before.before.before.before.before.before.before.before.before.before.before.before.shared-slice-known.given i).fits)) j a.version a.epoch.0 c.before.before.put-hello.ensures)
+    let a = c.args in
+    let j = (hello_judged a.src.now a.node a.kinds c.within.ensures c.kinds_fit.ensures (rw c.slice.ensures at c.is_utf8.ensures) c.if-fits-is_utf8.true) in
+    λ v. encoded_took v _ _ (hello_ready a.src.now a.node a.kinds (are_bytes a.src.now (λ i. (c.shared_slice_known-1.given i).fits)) j v a.version a.epoch.0 refl) (rw c.in-At.is at c.begin.ensures) (hello_wrote a.src.now a.node a.kinds (are_bytes a.src.now (λ i. (c.shared_slice_known-1.given i).fits)) j a.version a.epoch.0 c.put_hello.ensures)
 
-returns-4 : tie.Need-returns-4
+returns-4 : tie.Need-returns-else-fits-is_utf8
 returns-4 c =
-    let a = c.before.before.before.before.before.before.before.args in
-    λ v. encoded_unreadable v _ _ _ (hello_unfit a.src.now a.node a.kinds v a.version a.epoch.0 (hello_judged a.src.now a.node a.kinds c.before.before.before.before.within.ensures c.before.before.before.kinds-fit.ensures (rw c.before.before.slice.ensures at c.before.is-utf8.ensures) c.if1.false))
+    let a = c.args in
+    λ v. encoded_unreadable v _ _ _ (hello_unfit a.src.now a.node a.kinds v a.version a.epoch.0 (hello_judged a.src.now a.node a.kinds c.within.ensures c.kinds_fit.ensures (rw c.slice.ensures at c.is_utf8.ensures) c.if-fits-is_utf8.false))
 
 pub hello_spec : {M : Type 1} → statement M
 hello_spec =

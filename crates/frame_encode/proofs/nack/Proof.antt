@@ -6,25 +6,25 @@ use Rattle.frame_writer.proofs.Encoded.{encoded_long, encoded_full, encoded_took
 use Rattle.frame_encode.proofs.nack.Statement.{statement}
 use Rattle.frame_encode.proofs.nack.Tie as tie
 
-put-nack-requires : tie.Need-put-nack-requires
+put-nack-requires : tie.Need-put_nack-requires
 put-nack-requires c κs =
-    let s = rw c.before.before.at.given.1 at c.before.before.before.before.before.before.begin.ensures in
-    omega (arith, s.1, s.3, c.before.before.before.before.before.before.begin.auto.0)
+    let s = rw c.in-At.is at c.begin.ensures in
+    omega (arith, s.1, s.3, c.begin.auto.out)
 
-returns : tie.Need-returns
+returns : tie.Need-returns-in-TooLong
 returns c =
-    let a = c.before.before.before.before.before.before.before.args in
-    λ v. encoded_long v _ _ (nack_ready v a.handle (reason_of a.reason)) (rw c.enum_told.given.1 at c.before.before.before.before.begin.ensures)
+    let a = c.args in
+    λ v. encoded_long v _ _ (nack_ready v a.handle (reason_of a.reason)) (rw c.in-TooLong.is at c.begin.ensures)
 
-returns-2 : tie.Need-returns-2
+returns-2 : tie.Need-returns-in-NoRoom
 returns-2 c =
-    let a = c.before.before.before.before.before.before.before.args in
-    λ v. encoded_full v _ _ (nack_ready v a.handle (reason_of a.reason)) (rw c.enum-told2.given.1 at c.before.before.before.before.begin.ensures)
+    let a = c.args in
+    λ v. encoded_full v _ _ (nack_ready v a.handle (reason_of a.reason)) (rw c.in-NoRoom.is at c.begin.ensures)
 
-returns-3 : tie.Need-returns-3
+returns-3 : tie.Need-returns-in-At
 returns-3 c =
-    let a = c.before.before.before.before.before.before.before.before.before.before.before.before.args in
-    λ v. encoded_took v _ _ (nack_ready v a.handle (reason_of a.reason)) (rw c.before.before.before.before.before.at.given.1 at c.before.before.before.before.before.before.before.before.before.begin.ensures) c.before.before.put-nack.ensures
+    let a = c.args in
+    λ v. encoded_took v _ _ (nack_ready v a.handle (reason_of a.reason)) (rw c.in-At.is at c.begin.ensures) c.put_nack.ensures
 
 pub nack_spec : {M : Type 1} → statement M
 nack_spec =

@@ -7,11 +7,11 @@ use Rattle.frame_encode.proofs.put_bind.Tie as tie
 returns : tie.Need-returns
 unfolding body_bytes
 returns c =
-    let w4 = c.before.before in
-    let w3 = w4.before.before.before.before in
-    let w2 = w3.before.before.before.before in
-    let w1 = w2.before.before.before.before in
-    wrote_on (wrote_on (wrote_on w1.put-handle.ensures.0 w2.put-u64.ensures.0) w3.put-u642.ensures.0) w4.put-session.ensures
+    let w4 = c in
+    let w3 = w4 in
+    let w2 = w3 in
+    let w1 = w2 in
+    wrote_on (wrote_on (wrote_on w1.put_handle-at.ensures.0 w2.put_u64-at.ensures.0) w3.put_u64-at-2.ensures.0) w4.put_session.ensures
 
 pub put_bind_spec : {M : Type 1} → statement M
 put_bind_spec =

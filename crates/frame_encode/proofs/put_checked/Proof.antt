@@ -7,10 +7,10 @@ use Rattle.frame_encode.proofs.put_checked.Tie as tie
 returns : tie.Need-returns
 unfolding body_bytes
 returns c =
-    let w3 = c.before.before in
-    let w2 = w3.before.before.before.before in
-    let w1 = w2.before.before.before.before in
-    wrote_on (wrote_on w1.put-handle.ensures.0 w2.put-u64.ensures.0) w3.put-u642.ensures.0
+    let w3 = c in
+    let w2 = w3 in
+    let w1 = w2 in
+    wrote_on (wrote_on w1.put_handle-at.ensures.0 w2.put_u64-at.ensures.0) w3.put_u64.ensures.0
 
 pub put_checked_spec : {M : Type 1} → statement M
 put_checked_spec =

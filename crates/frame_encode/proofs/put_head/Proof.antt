@@ -6,12 +6,12 @@ use Rattle.frame_encode.proofs.put_head.Tie as tie
 
 returns : tie.Need-returns
 returns c =
-    let u = c.before.before in
-    let t = u.before.before.before.before in
-    let b = t.before.before.before.before.before in
-    let a = b.before.before.before.before in
-    let h = a.before.before.before.before in
-    (rw (← t.before.part-byte.ensures) (wrote_on (wrote_on (wrote_on h.put-handle.ensures.0 a.put-u64.ensures.0) b.put-u642.ensures.0) (wrote_on t.tag.ensures.0 u.put-u32.ensures.0)), omega (arith, h.put-handle.ensures.1, a.put-u64.ensures.1, b.put-u642.ensures.1, t.tag.ensures.1, u.put-u32.ensures.1))
+    let u = c in
+    let t = u in
+    let b = t in
+    let a = b in
+    let h = a in
+    (rw (← t.part_byte.ensures) (wrote_on (wrote_on (wrote_on h.put_handle-at.ensures.0 a.put_u64-at.ensures.0) b.put_u64-at-2.ensures.0) (wrote_on t.tag-at.ensures.0 u.put_u32.ensures.0)), omega (arith, h.put_handle-at.ensures.1, a.put_u64-at.ensures.1, b.put_u64-at-2.ensures.1, t.tag-at.ensures.1, u.put_u32.ensures.1))
 
 pub put_head_spec : {M : Type 1} → statement M
 put_head_spec =

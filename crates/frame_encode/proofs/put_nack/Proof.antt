@@ -7,9 +7,9 @@ use Rattle.frame_encode.proofs.put_nack.Tie as tie
 returns : tie.Need-returns
 unfolding body_bytes
 returns c =
-    let w2 = c.before.before in
-    let w1 = w2.before.before.before.before.before in
-    rw (← c.before.before.before.reason-byte.ensures) (wrote_on w1.put-handle.ensures.0 w2.tag.ensures.0)
+    let w2 = c in
+    let w1 = w2 in
+    rw (← c.reason_byte.ensures) (wrote_on w1.put_handle-at.ensures.0 w2.tag.ensures.0)
 
 pub put_nack_spec : {M : Type 1} → statement M
 put_nack_spec =

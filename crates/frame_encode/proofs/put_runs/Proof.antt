@@ -8,17 +8,17 @@ use Rattle.frame_encode.proofs.put_runs.Tie as tie
 
 copy-requires : tie.Need-copy-requires
 copy-requires c κs =
-    let u = c.before.before.before.before in
-    let o = u.before.before.before.before in
-    let s = o.before.before.before.before.requires in
-    omega (arith, ap length (c.before.bytes-at.ensures ∙ s.1.0.same), s.1.0.size, s.1.1, o.put-ops, u.put-u32.ensures.1, u.put-u32.auto.0)
+    let u = c in
+    let o = u in
+    let s = o.requires in
+    omega (arith, ap length (c.bytes_at.ensures ∙ s.1.0.same), s.1.0.size, s.1.1, o.put_ops-at, u.put_u32-at.ensures.1, u.put_u32-at.auto.out)
 
 returns : tie.Need-returns
 returns c =
-    let w = c.before.before in
-    let u = w.before.before.before.before.before in
-    let o = u.before.before.before.before in
-    wrote_on (wrote_on o.put-ops.ensures.0 u.put-u32.ensures.0) (rw (w.before.before.bytes-at.ensures ∙ o.before.before.before.before.requires.1.0.same) at w.copy.ensures)
+    let w = c in
+    let u = w in
+    let o = u in
+    wrote_on (wrote_on o.put_ops-at.ensures.0 u.put_u32-at.ensures.0) (rw (w.bytes_at.ensures ∙ o.requires.1.0.same) at w.copy.ensures)
 
 pub put_runs_spec : {M : Type 1} → statement M
 put_runs_spec =

@@ -7,9 +7,9 @@ use Rattle.frame_encode.proofs.put_welcome.Tie as tie
 returns : tie.Need-returns
 unfolding body_bytes
 returns c =
-    let w2 = c.before.before in
-    let w1 = w2.before.before.before.before in
-    wrote_on w1.tagged.ensures.0 w2.put-u64.ensures.0
+    let w2 = c in
+    let w1 = w2 in
+    wrote_on w1.tagged-at.ensures.0 w2.put_u64.ensures.0
 
 pub put_welcome_spec : {M : Type 1} → statement M
 put_welcome_spec = tie.close (tie.spec (λ c κs. search rules) (λ c κs. search rules) (λ c. search rules) returns)

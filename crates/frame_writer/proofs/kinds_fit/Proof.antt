@@ -7,7 +7,7 @@ use Rattle.frame_writer.proofs.kinds_fit.Tie as tie
 
 returns : tie.Need-returns
 returns c =
-    let a = c.before.before.before.args in
+    let a = c.args in
     numbers_read 2 _ _ (c.bytes_left.ensures ∙ sym (length-drop a.run.at a.src.now))
 
 pub kinds_fit_spec : {M : Type 1} → statement M

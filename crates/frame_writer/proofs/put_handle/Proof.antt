@@ -6,9 +6,9 @@ use Rattle.frame_writer.proofs.put_handle.Tie as tie
 
 returns : tie.Need-returns
 returns c =
-    let w2 = c.before.before in
-    let w1 = w2.before.before.before.before in
-    (wrote_on w1.tag.ensures.0 w2.put-u32.ensures.0, omega (arith, w1.tag.ensures.1, w2.put-u32.ensures.1))
+    let w2 = c in
+    let w1 = w2 in
+    (wrote_on w1.tag-at.ensures.0 w2.put_u32.ensures.0, omega (arith, w1.tag-at.ensures.1, w2.put_u32.ensures.1))
 
 pub put_handle_spec : {M : Type 1} → statement M
 put_handle_spec = tie.close (tie.spec (λ c κs. search rules) (λ c κs. search rules) (λ c. search rules) returns)

@@ -13,13 +13,13 @@ small n s t e h = omega (arith, ap length e, length-take n s)
 
 blob-requires : tie.Need-blob-requires
 blob-requires c κs =
-    let e = c.before.slice.ensures in
-    (omega (arith, ap length e), small c.before.before.before.before.args.span.len _ _ e (search rules))
+    let e = c.slice.ensures in
+    (omega (arith, ap length e), small c.args.span.len _ _ e (search rules))
 
 returns : tie.Need-returns
 returns c =
-    let e = c.before.before.before.before.slice.ensures in
-    (rw e at c.before.before.blob.ensures.0, rw e at c.before.before.blob.ensures.1)
+    let e = c.slice.ensures in
+    (rw e at c.blob.ensures.0, rw e at c.blob.ensures.1)
 
 pub put_span_spec : {M : Type 1} → statement M
 put_span_spec = tie.close (tie.spec (λ c κs. search rules) blob-requires (λ c. search rules) returns)

@@ -5,34 +5,34 @@ use Rattle.frame.proofs.Laws.{body_within, stands}
 use Rattle.frame.proofs.Frame.decode.Statement.{statement}
 use Rattle.frame.proofs.Frame.decode.Tie as tie
 
-returns : tie.Need-returns
+returns : tie.Need-returns-then-buf-lt4
 unfolding decode
 returns c =
-    (rw (lt-ltb _ _ c.if1.true), tt)
+    (rw (lt-ltb _ _ c.if-buf-lt4.true), tt)
 
-returns-2 : tie.Need-returns-2
+returns-2 : tie.Need-returns-then-n-gt-MAX_FRAME_BYTES
 unfolding decode
 returns-2 c =
-    (rw (le-ltb _ _ c.before.before.if1.false, ← c.before.u32-at.ensures, lt-ltb _ _ c.if2.true), tt)
+    (rw (le-ltb _ _ c.if-buf-lt4.false, ← c.u32_at-n.ensures, lt-ltb _ _ c.if-n-gt-MAX_FRAME_BYTES.true), tt)
 
-returns-3 : tie.Need-returns-3
+returns-3 : tie.Need-returns-then-buf-len
 unfolding decode
 returns-3 c =
-    (rw (le-ltb _ _ c.before.before.before.if1.false, ← c.before.before.u32-at.ensures, le-ltb _ _ c.before.if2.false, lt-ltb _ _ c.if3.true), tt)
+    (rw (le-ltb _ _ c.if-buf-lt4.false, ← c.u32_at-n.ensures, le-ltb _ _ c.if-n-gt-MAX_FRAME_BYTES.false, lt-ltb _ _ c.if-buf-len.true), tt)
 
-returns-4 : tie.Need-returns-4
+returns-4 : tie.Need-returns-in-Bad
 unfolding decode
 returns-4 c =
-    let k = c.before.before.before in
-    let t = k.before.before in
-    (rw (le-ltb _ _ t.before.before.before.if1.false, ← t.before.before.u32-at.ensures, le-ltb _ _ t.before.if2.false, le-ltb _ _ t.if3.false, ← (body_within _ _ _ k.body-from.result k.before.bytes-at.ensures k.body-from.ensures.0), c.before.e.given.1), tt)
+    let k = c in
+    let t = k in
+    (rw (le-ltb _ _ t.if-buf-lt4.false, ← t.u32_at-n.ensures, le-ltb _ _ t.if-n-gt-MAX_FRAME_BYTES.false, le-ltb _ _ t.if-buf-len.false, ← (body_within _ _ _ k.body_from.result k.bytes_at.ensures k.body_from.ensures.0), c.in-Bad.is), tt)
 
-returns-5 : tie.Need-returns-5
+returns-5 : tie.Need-returns-in-Got
 unfolding decode
 returns-5 c =
-    let k = c.before.before.before in
-    let t = k.before.before in
-    (rw (le-ltb _ _ t.before.before.before.if1.false, ← t.before.before.u32-at.ensures, le-ltb _ _ t.before.if2.false, le-ltb _ _ t.if3.false, ← (body_within _ _ _ k.body-from.result k.before.bytes-at.ensures k.body-from.ensures.0), c.before.f.given.1), stands _ _ _ _ (rw (k.before.bytes-at.ensures, c.before.f.given.1) at k.body-from.ensures.1))
+    let k = c in
+    let t = k in
+    (rw (le-ltb _ _ t.if-buf-lt4.false, ← t.u32_at-n.ensures, le-ltb _ _ t.if-n-gt-MAX_FRAME_BYTES.false, le-ltb _ _ t.if-buf-len.false, ← (body_within _ _ _ k.body_from.result k.bytes_at.ensures k.body_from.ensures.0), c.in-Got.is), stands _ _ _ _ (rw (k.bytes_at.ensures, c.in-Got.is) at k.body_from.ensures.1))
 
 pub decode_spec : {M : Type 1} → statement M
 decode_spec =

@@ -2,29 +2,29 @@ use borrow.Author.Rules.{rules}
 use Rattle.frame.proofs.Frame.encode.Statement.{statement}
 use Rattle.frame.proofs.Frame.encode.Tie as tie
 
-returns : tie.Need-returns
-returns c = rw c.before.before.before.before.before.self.given.1 (c.before.before.hello.ensures _)
+returns : tie.Need-returns-in-Hello
+returns c = rw c.in-Hello.is (c.hello.ensures _)
 
-returns-2 : tie.Need-returns-2
-returns-2 c = rw c.before.before.before.before.before.self2.given.1 (c.before.before.welcome.ensures _)
+returns-2 : tie.Need-returns-in-Welcome
+returns-2 c = rw c.in-Welcome.is (c.welcome.ensures _)
 
-returns-3 : tie.Need-returns-3
-returns-3 c = rw c.before.before.before.before.before.self3.given.1 (c.before.before.bind.ensures _)
+returns-3 : tie.Need-returns-in-Bind
+returns-3 c = rw c.in-Bind.is (c.bind.ensures _)
 
-returns-4 : tie.Need-returns-4
-returns-4 c = rw c.before.before.before.before.before.self4.given.1 c.before.before.bound.ensures
+returns-4 : tie.Need-returns-in-Bound
+returns-4 c = rw c.in-Bound.is c.bound.ensures
 
-returns-5 : tie.Need-returns-5
-returns-5 c = rw c.before.before.before.before.before.self5.given.1 c.before.before.batch.ensures
+returns-5 : tie.Need-returns-in-Batch
+returns-5 c = rw c.in-Batch.is c.batch.ensures
 
-returns-6 : tie.Need-returns-6
-returns-6 c = rw c.before.before.before.before.before.self6.given.1 (c.before.before.ack.ensures _)
+returns-6 : tie.Need-returns-in-Ack
+returns-6 c = rw c.in-Ack.is (c.ack.ensures _)
 
-returns-7 : tie.Need-returns-7
-returns-7 c = rw c.before.before.before.before.before.self7.given.1 (c.before.before.nack.ensures _)
+returns-7 : tie.Need-returns-in-Nack
+returns-7 c = rw c.in-Nack.is (c.nack.ensures _)
 
-returns-8 : tie.Need-returns-8
-returns-8 c = rw c.before.before.before.before.before.self8.given.1 (c.before.before.checked.ensures _)
+returns-8 : tie.Need-returns-in-Checked
+returns-8 c = rw c.in-Checked.is (c.checked.ensures _)
 
 pub encode_spec : {M : Type 1} → statement M
 encode_spec =
