@@ -43,7 +43,7 @@ def arguments(text):
 
 
 def plain(word):
-    return word.replace("_", "-")
+    return word.replace("_", "-").lower()
 
 
 def chain(m, heads, bound):
@@ -123,15 +123,28 @@ def relabel(text, of, path):
             place = above
         at[goal] = here
 
+    # What is passed: by its name in the source.
+    passed = {old.split()[1][1:]: new.split()[1][1:] for old, new in of["args"] if old.startswith(".args ")}
+    made = {"well-formed": "well_formed"}
+    made.update({old[1:]: new[1:] for old, new in of["args"] if " " not in old})
+
     def block(text):
+        lets = "|".join(["args", *re.findall(r"let (\S+) = [^\s()]*\bargs in", text)])
+        of_args = re.compile(rf"(?<![\w'-])(?:{lets})$")
         m = re.match(r"(\S+) : tie\.Need-([^\s()]+)", text)
         here = at.get(m[2], {}) if m else {}
 
         def word(m):
             before, name = m[1], m[2]
+            if re.search(r"(?m)^use [^\n]*$", text[: m.start(2)]):
+                return m[0]
             for kind in ("invariant-", "decreases-"):
                 if name.startswith(kind) and plain(name[len(kind):]) in loops:
                     return before + kind + loops[plain(name[len(kind):])]
+            if before == "." and of_args.search(text[: m.start(1)][-60:]):
+                return before + passed.get(name, name.replace("-", "_"))
+            if before == "." and name in made:
+                return before + made[name]
             if before == "." and (plain(name) in labels or plain(name) in here):
                 news = [here[plain(name)]] if plain(name) in here else sorted(labels[plain(name)])
                 if len(news) > 1:
@@ -158,6 +171,10 @@ def relabel(text, of, path):
         return f".{m[1]}.new.{names[k]}"
 
     text = re.sub(rf"\.({WORD})\.new((?:\.1)*)\.0(?![\w])", lent, text)
+    if re.search(r"\.branch(?![\w-])", text) and "⊎_elim" in text:
+        text = re.sub(r"\.branch(?![\w-])", ".branch-raw", text)
+        text = re.sub(r"(\.\d)\.taken(?![\w-])", r"\1.true", text)
+        text = re.sub(r"(\.\d)\.left(?![\w-])", r"\1.false", text)
     # The test of an `if !x` is told of x.
     text = re.sub(r"\(not-(?:true|false) (?:_|\S+|\([^()]*\)) ([\w.'-]+\.(?:true|false))\)", r"\1", text)
     return re.sub(r"\bnot-(?:true|false) _ ([\w.'-]+\.(?:true|false))(?![\w.])", r"\1", text), said

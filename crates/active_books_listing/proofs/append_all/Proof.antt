@@ -5,46 +5,46 @@ use Prim.Native.Nat.{◌-◌, ◌≤◌}
 use Rattle.active_books_listing.proofs.Listing.{Appending, appending, appends}
 use Rattle.active_books_listing.proofs.append_all.Tie as tie
 
-abbrev invariant-loop : tie.invariant-loop
-invariant-loop words₀ fresh k i₀ words i = Appending words₀ fresh words i × (i ≤ k)
+abbrev invariant-loop-i : tie.invariant-loop-i
+invariant-loop-i words₀ fresh k i₀ words i = Appending words₀ fresh words i × (i ≤ k)
 
-abbrev decreases-loop : tie.decreases-loop
-decreases-loop words₀ fresh k i₀ words i = k - i
+abbrev decreases-loop-i : tie.decreases-loop-i
+decreases-loop-i words₀ fresh k i₀ words i = k - i
 
-loop-holds : tie.Need-loop-init invariant-loop decreases-loop
-loop-holds c = (appending c.before.before.args.words.now c.before.before.args.fresh.now c.before.before.requires.0, omega arith)
+loop-holds : tie.Need-loop-i-init invariant-loop-i decreases-loop-i
+loop-holds c = (appending c.args.words.now c.args.fresh.now c.requires.0, omega arith)
 
-mul_append : tie.Need-overflow-mul-append invariant-loop decreases-loop
+mul_append : tie.Need-offset_bounds-fresh-i invariant-loop-i decreases-loop-i
 mul_append c = omega arith
 
-shared_slice_read_append : tie.Need-shared-slice-read-append invariant-loop decreases-loop
+shared_slice_read_append : tie.Need-bounds-fresh-i invariant-loop-i decreases-loop-i
 shared_slice_read_append c = omega arith
 
-append-requires : tie.Need-append-requires invariant-loop decreases-loop
-append-requires c κs = (c.before.before.before.loop.invariant.0.makes.ruled, omega (arith, c.before.before.before.loop.invariant.0.count))
+append-requires : tie.Need-append-requires invariant-loop-i decreases-loop-i
+append-requires c κs = (c.loop-i.invariant.0.makes.ruled, omega (arith, c.loop-i.invariant.0.count))
 
-add_i : tie.Need-overflow-add-i invariant-loop decreases-loop
+add_i : tie.Need-overflow_add-i invariant-loop-i decreases-loop-i
 add_i c = omega arith
 
-loop-less : tie.Need-loop-smaller invariant-loop decreases-loop
+loop-less : tie.Need-loop-i-smaller invariant-loop-i decreases-loop-i
 loop-less c = omega arith
 
-loop-again : tie.Need-loop-preserved invariant-loop decreases-loop
-loop-again c = (appends c.before.before.before.before.before.before.before.before.before.args.words.now c.before.before.before.before.before.before.before.before.before.args.fresh.now c.before.before.before.before.before.before.loop.words c.before.before.append.new.0 c.before.before.before.before.before.before.loop.i c.before.before.before.before.before.before.loop.invariant.0 c.before.before.append.auto.0 c.before.before.append.ensures, omega arith)
+loop-again : tie.Need-loop-i-preserved invariant-loop-i decreases-loop-i
+loop-again c = (appends c.args.words.now c.args.fresh.now c.loop-i.words c.append.new.words c.loop-i.i c.loop-i.invariant.0 c.append.auto.words c.append.ensures, omega arith)
 
-same_length : tie.Need-same-length invariant-loop decreases-loop
-same_length c = c.before.loop.invariant.0.size
+same_length : tie.Need-shape_of-words invariant-loop-i decreases-loop-i
+same_length c = c.loop-i.invariant.0.size
 
-returns : tie.Need-returns invariant-loop decreases-loop
-returns c = let e : c.before.loop.i ≡ c.before.before.before.before.args.k = omega arith in
-    rw e at c.before.loop.invariant.0.makes
+returns : tie.Need-returns invariant-loop-i decreases-loop-i
+returns c = let e : c.loop-i.i ≡ c.args.k = omega arith in
+    rw e at c.loop-i.invariant.0.makes
 
 pub append_all_spec : {M : Type 1} → statement M
 append_all_spec =
     tie.close
     (tie.spec
-    invariant-loop
-    decreases-loop
+    invariant-loop-i
+    decreases-loop-i
     loop-holds
     mul_append
     shared_slice_read_append

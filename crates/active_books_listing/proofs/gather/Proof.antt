@@ -8,70 +8,70 @@ use Prim.Native.Nat.{◌-◌}
 use Rattle.active_books_listing.proofs.Listing.{Gathering, gathering, passes_on, takes_on, no_room, gathered}
 use Rattle.active_books_listing.proofs.gather.Tie as tie
 
-abbrev invariant-loop : tie.invariant-loop
-invariant-loop words listing fresh₀ n k₀ j₀ fresh k j = Gathering words listing fresh j k × (length fresh ≡ length fresh₀)
+abbrev invariant-loop-j : tie.invariant-loop-j
+invariant-loop-j words listing fresh₀ n k₀ j₀ fresh k j = Gathering words listing fresh j k × (length fresh ≡ length fresh₀)
 
-abbrev decreases-loop : tie.decreases-loop
-decreases-loop words listing fresh₀ n k₀ j₀ fresh k j = length listing - j
+abbrev decreases-loop-j : tie.decreases-loop-j
+decreases-loop-j words listing fresh₀ n k₀ j₀ fresh k j = length listing - j
 
-shared_slice_read_n : tie.Need-shared-slice-read-n invariant-loop decreases-loop
+shared_slice_read_n : tie.Need-bounds-words-0 invariant-loop-j decreases-loop-j
 shared_slice_read_n c = omega arith
 
-loop-holds : tie.Need-loop-init invariant-loop decreases-loop
-loop-holds c = (gathering c.before.before.before.before.args.words.now c.before.before.before.before.args.listing.now c.before.before.before.before.args.fresh.now c.before.before.before.before.requires.0 (omega arith), refl)
+loop-holds : tie.Need-loop-j-init invariant-loop-j decreases-loop-j
+loop-holds c = (gathering c.args.words.now c.args.listing.now c.args.fresh.now c.requires.0 (omega arith), refl)
 
-mul_s : tie.Need-overflow-mul-s invariant-loop decreases-loop
+mul_s : tie.Need-offset_bounds-listing-j invariant-loop-j decreases-loop-j
 mul_s c = omega arith
 
-shared_slice_read_s : tie.Need-shared-slice-read-s invariant-loop decreases-loop
+shared_slice_read_s : tie.Need-bounds-listing-j invariant-loop-j decreases-loop-j
 shared_slice_read_s c = omega arith
 
-is-known-requires : tie.Need-is-known-requires invariant-loop decreases-loop
-is-known-requires c κs = (c.before.before.before.before.before.before.before.before.requires.0, omega (arith, c.before.before.before.loop.invariant.0.room, c.before.before.before.loop.invariant.0.size))
+is-known-requires : tie.Need-is_known-requires invariant-loop-j decreases-loop-j
+is-known-requires c κs = (c.requires.0, omega (arith, c.loop-j.invariant.0.room, c.loop-j.invariant.0.size))
 
-add_if2 : tie.Need-overflow-add-if2 invariant-loop decreases-loop
+add_if2 : tie.Need-overflow_add-n invariant-loop-j decreases-loop-j
 add_if2 c = omega arith
 
-same_length : tie.Need-same-length invariant-loop decreases-loop
-same_length c = c.before.before.before.before.before.before.loop.invariant.1
+same_length : tie.Need-shape_of-fresh-then-n-k-ge-MAX_SESSIONS invariant-loop-j decreases-loop-j
+same_length c = c.loop-j.invariant.1
 
-returns : tie.Need-returns invariant-loop decreases-loop
-returns c = no_room c.before.before.before.before.before.before.before.before.before.before.before.args.words.now c.before.before.before.before.before.before.before.before.before.before.before.args.listing.now c.before.before.before.before.before.before.loop.fresh c.before.before.before.before.before.before.loop.j c.before.before.before.before.before.before.loop.k c.before.before.before.before.before.before.loop.invariant.0 (omega arith) c.before.before.is_Known.ensures (not-true _ c.before.if1.true) (omega arith)
+returns : tie.Need-returns-then-n-k-ge-MAX_SESSIONS invariant-loop-j decreases-loop-j
+returns c = no_room c.args.words.now c.args.listing.now c.loop-j.fresh c.loop-j.j c.loop-j.k c.loop-j.invariant.0 (omega arith) c.is_known.ensures c.if-not-is_known.true (omega arith)
 
-mul_fresh : tie.Need-overflow-mul-fresh invariant-loop decreases-loop
+mul_fresh : tie.Need-offset_bounds-fresh-k invariant-loop-j decreases-loop-j
 mul_fresh c = omega arith
 
-slice_write_fresh : tie.Need-slice-write-fresh invariant-loop decreases-loop
-slice_write_fresh c = omega (arith, c.before.before.before.before.before.before.loop.invariant.0.size, c.before.before.before.before.before.before.loop.invariant.0.room)
+slice_write_fresh : tie.Need-bounds-fresh-k invariant-loop-j decreases-loop-j
+slice_write_fresh c = omega (arith, c.loop-j.invariant.0.size, c.loop-j.invariant.0.room)
 
-add_k : tie.Need-overflow-add-k invariant-loop decreases-loop
+add_k : tie.Need-overflow_add-k invariant-loop-j decreases-loop-j
 add_k c = omega arith
 
-add_j : tie.Need-overflow-add-j invariant-loop decreases-loop
+add_j : tie.Need-overflow_add-j invariant-loop-j decreases-loop-j
 add_j c = omega arith
 
-loop-less : tie.Need-loop-smaller invariant-loop decreases-loop
+loop-less : tie.Need-loop-j-smaller invariant-loop-j decreases-loop-j
 loop-less c = omega arith
 
-loop-again : tie.Need-loop-preserved invariant-loop decreases-loop
+loop-again : tie.Need-loop-j-preserved invariant-loop-j decreases-loop-j
 loop-again c =
     ⊎_elim
-    (λ a. takes_on c.before.before.before.before.before.before.before.before.before.before.args.words.now c.before.before.before.before.before.before.before.before.before.before.args.listing.now c.before.before.before.before.before.loop.fresh c.before.before.before.before.before.loop.j c.before.before.before.before.before.loop.k c.before.before.before.before.before.loop.invariant.0 (omega arith) c.before.is_Known.ensures (not-true _ a.0.taken) (omega (arith, a.1.left)) c.before.before.before.before.before.before.before.before.before.before.args.fresh.now c.if1.fresh c.if1.k c.before.before.before.before.before.loop.invariant.1 a.2 a.3)
-    (λ a. passes_on c.before.before.before.before.before.before.before.before.before.before.args.words.now c.before.before.before.before.before.before.before.before.before.before.args.listing.now c.before.before.before.before.before.loop.fresh c.before.before.before.before.before.loop.j c.before.before.before.before.before.loop.k c.before.before.before.before.before.loop.invariant.0 (omega arith) c.before.is_Known.ensures (not-false _ a.0.left) c.before.before.before.before.before.before.before.before.before.before.args.fresh.now c.if1.fresh c.if1.k c.before.before.before.before.before.loop.invariant.1 a.1 a.2)
-    c.if1.branch
+    (λ a. takes_on c.args.words.now c.args.listing.now c.loop-j.fresh c.loop-j.j c.loop-j.k c.loop-j.invariant.0 (omega arith) c.is_known.ensures a.if-not-is_known.true (omega (arith, a.if-n-k-ge-MAX_SESSIONS.false)) c.args.fresh.now c.if-not-is_known.fresh c.if-not-is_known.k c.loop-j.invariant.1 a.fresh-is a.3)
+    (λ a. passes_on c.args.words.now c.args.listing.now c.loop-j.fresh c.loop-j.j c.loop-j.k c.loop-j.invariant.0 (omega arith) c.is_known.ensures a.0.false c.args.fresh.now c.if-not-is_known.fresh c.if-not-is_known.k c.loop-j.invariant.1 a.1 a.2)
+    c.if-not-is_known.branch-raw
 
-same_length_2 : tie.Need-same-length-2 invariant-loop decreases-loop
-same_length_2 c = c.before.loop.invariant.1
+same_length_2 : tie.Need-shape_of-fresh invariant-loop-j decreases-loop-j
+same_length_2 c = c.loop-j.invariant.1
 
-returns-2 : tie.Need-returns-2 invariant-loop decreases-loop
-returns-2 c = gathered c.before.before.before.before.before.before.args.words.now c.before.before.before.before.before.before.args.listing.now c.before.loop.fresh c.before.loop.j c.before.loop.k c.before.loop.invariant.0 (omega arith)
+returns-2 : tie.Need-returns invariant-loop-j decreases-loop-j
+returns-2 c = gathered c.args.words.now c.args.listing.now c.loop-j.fresh c.loop-j.j c.loop-j.k c.loop-j.invariant.0 (omega arith)
 
 pub gather_spec : {M : Type 1} → statement M
 gather_spec =
     tie.close
     (tie.spec
-    invariant-loop
-    decreases-loop
+    invariant-loop-j
+    decreases-loop-j
     shared_slice_read_n
     loop-holds
     mul_s

@@ -4,29 +4,29 @@ use Rattle.active_books_listing.proofs.Listing.{listed_none, listed_all}
 use Rattle.active_books_listing.proofs.meet_listed.Statement.{statement}
 use Rattle.active_books_listing.proofs.meet_listed.Tie as tie
 
-slice_aggregate_gather : tie.Need-slice-aggregate-gather
+slice_aggregate_gather : tie.Need-slice_bounds-gather-end
 slice_aggregate_gather c = search rules
 
-gather-requires : tie.Need-gather-requires
+gather-requires : tie.Need-gather-k-requires
 gather-requires c κs = search rules
 
-same_length : tie.Need-same-length
+same_length : tie.Need-shape_of-words-then-k-gt-MAX_SESSIONS
 same_length c = search rules
 
-returns : tie.Need-returns
-returns c = listed_none c.before.before.before.before.before.before.before.args.words.now c.before.before.before.before.before.before.before.args.listing.now c.before.before.gather.new.1.1.0 c.before.before.gather.result c.before.before.gather.ensures (omega arith)
+returns : tie.Need-returns-then-k-gt-MAX_SESSIONS
+returns c = listed_none c.args.words.now c.args.listing.now c.gather-k.new.fresh c.gather-k.result c.gather-k.ensures (omega arith)
 
-slice_aggregate_append_all : tie.Need-slice-aggregate-append-all
+slice_aggregate_append_all : tie.Need-slice_bounds-append_all-end
 slice_aggregate_append_all c = search rules
 
-append-all-requires : tie.Need-append-all-requires
-append-all-requires c κs = (c.before.before.before.before.before.before.before.before.before.requires, (omega (arith, c.before.before.before.before.gather.auto.1.1.0), c.before.before.before.before.gather.ensures.fit (omega arith)))
+append-all-requires : tie.Need-append_all-requires
+append-all-requires c κs = (c.requires, (omega (arith, c.gather-k.auto.fresh), c.gather-k.ensures.fit (omega arith)))
 
-same_length_2 : tie.Need-same-length-2
+same_length_2 : tie.Need-shape_of-words
 same_length_2 c = search rules
 
-returns-2 : tie.Need-returns-2
-returns-2 c = listed_all c.before.before.before.before.before.before.before.before.before.before.before.before.args.words.now c.before.before.append-all.new.0 c.before.before.before.before.before.before.before.before.before.before.before.before.args.listing.now c.before.before.before.before.before.before.before.gather.new.1.1.0 c.before.before.before.before.before.before.before.gather.result c.before.before.before.before.before.before.before.gather.ensures (omega arith) c.before.before.append-all.ensures
+returns-2 : tie.Need-returns
+returns-2 c = listed_all c.args.words.now c.append_all.new.words c.args.listing.now c.gather-k.new.fresh c.gather-k.result c.gather-k.ensures (omega arith) c.append_all.ensures
 
 pub meet_listed_spec : {M : Type 1} → statement M
 meet_listed_spec =

@@ -5,25 +5,25 @@ use borrow.Author.Rules.{rules}
 use Rattle.active_books_session.proofs.compare.Statement.{statement}
 use Rattle.active_books_session.proofs.compare.Tie as tie
 
-add_words : tie.Need-overflow-add-words
+add_words : tie.Need-overflow_add-words
 add_words c = search rules
 
-mul_words : tie.Need-overflow-mul-words
+mul_words : tie.Need-offset_bounds-words-i
 mul_words c = search rules
 
-slice_write_words : tie.Need-slice-write-words
+slice_write_words : tie.Need-bounds-words-i
 slice_write_words c = search rules
 
-add_words_2 : tie.Need-overflow-add-words-2
+add_words_2 : tie.Need-overflow_add-words-2
 add_words_2 c = search rules
 
-mul_words_2 : tie.Need-overflow-mul-words-2
+mul_words_2 : tie.Need-offset_bounds-words-i-2
 mul_words_2 c = search rules
 
-slice_write_words_2 : tie.Need-slice-write-words-2
+slice_write_words_2 : tie.Need-bounds-words-i-2
 slice_write_words_2 c = simp length-set (omega arith)
 
-same_length : tie.Need-same-length
+same_length : tie.Need-shape_of-words
 same_length c = search rules
 
 returns : tie.Need-returns

@@ -7,72 +7,72 @@ use Rattle.active_books_session.proofs.Leaving.{Leaving, leaving, goes_on, stays
 use Rattle.active_books_session.proofs.leave.Statement.{statement}
 use Rattle.active_books_session.proofs.leave.Tie as tie
 
-abbrev invariant-loop : tie.invariant-loop
-invariant-loop words₀ session m j₀ k₀ words j k = Leaving words₀ session m words j k
+abbrev invariant-loop-j : tie.invariant-loop-j
+invariant-loop-j words₀ session m j₀ k₀ words j k = Leaving words₀ session m words j k
 
-abbrev decreases-loop : tie.decreases-loop
-decreases-loop words₀ session m j₀ k₀ words j k = m - j
+abbrev decreases-loop-j : tie.decreases-loop-j
+decreases-loop-j words₀ session m j₀ k₀ words j k = m - j
 
-slice_read_m : tie.Need-slice-read-m invariant-loop decreases-loop
+slice_read_m : tie.Need-bounds-words-1 invariant-loop-j decreases-loop-j
 slice_read_m c = omega arith
 
-find-in-requires : tie.Need-find-in-requires invariant-loop decreases-loop
+find-in-requires : tie.Need-find_in-j-requires invariant-loop-j decreases-loop-j
 find-in-requires c κs = omega arith
 
-loop-holds : tie.Need-loop-init invariant-loop decreases-loop
-loop-holds c = leaving c.before.before.before.before.args.words.now c.before.before.before.before.args.session _ c.find-in.result c.find-in.ensures
+loop-holds : tie.Need-loop-j-init invariant-loop-j decreases-loop-j
+loop-holds c = leaving c.args.words.now c.args.session _ c.find_in-j.result c.find_in-j.ensures
 
-add_x : tie.Need-overflow-add-x invariant-loop decreases-loop
+add_x : tie.Need-overflow_add-x invariant-loop-j decreases-loop-j
 add_x c = omega arith
 
-mul_x : tie.Need-overflow-mul-x invariant-loop decreases-loop
+mul_x : tie.Need-offset_bounds-words-j invariant-loop-j decreases-loop-j
 mul_x c = omega arith
 
-slice_read_x : tie.Need-slice-read-x invariant-loop decreases-loop
+slice_read_x : tie.Need-bounds-words-j invariant-loop-j decreases-loop-j
 slice_read_x c = omega arith
 
-add_words : tie.Need-overflow-add-words invariant-loop decreases-loop
+add_words : tie.Need-overflow_add-words invariant-loop-j decreases-loop-j
 add_words c = omega arith
 
-mul_words : tie.Need-overflow-mul-words invariant-loop decreases-loop
+mul_words : tie.Need-offset_bounds-words-k invariant-loop-j decreases-loop-j
 mul_words c = omega arith
 
-slice_write_words : tie.Need-slice-write-words invariant-loop decreases-loop
+slice_write_words : tie.Need-bounds-words-k invariant-loop-j decreases-loop-j
 slice_write_words c = omega arith
 
-add_k : tie.Need-overflow-add-k invariant-loop decreases-loop
+add_k : tie.Need-overflow_add-k invariant-loop-j decreases-loop-j
 add_k c = omega arith
 
-add_j : tie.Need-overflow-add-j invariant-loop decreases-loop
+add_j : tie.Need-overflow_add-j invariant-loop-j decreases-loop-j
 add_j c = omega arith
 
-loop-less : tie.Need-loop-smaller invariant-loop decreases-loop
+loop-less : tie.Need-loop-j-smaller invariant-loop-j decreases-loop-j
 loop-less c = omega arith
 
-loop-again : tie.Need-loop-preserved invariant-loop decreases-loop
+loop-again : tie.Need-loop-j-preserved invariant-loop-j decreases-loop-j
 loop-again c =
-    let s = c.before.before.before.before.before.before.before.before in
-    let l = c.before.before.before.loop in
+    let s = c in
+    let l = c.loop-j in
     ⊎_elim
-    (λ a. stays_on s.args.words.now s.args.session _ l.words l.j l.k _ s.requires.long s.requires.few_behind l.invariant (omega arith) refl a.0.taken c.if1.words c.if1.k a.1 a.2)
-    (λ a. goes_on s.args.words.now s.args.session _ l.words l.j l.k l.invariant (omega arith) a.0.left c.if1.words c.if1.k a.1 a.2)
-    c.if1.branch
+    (λ a. stays_on s.args.words.now s.args.session _ l.words l.j l.k _ s.requires.long s.requires.few_behind l.invariant (omega arith) refl a.if-x-session.true c.if-x-session.words c.if-x-session.k a.words-is a.k-is)
+    (λ a. goes_on s.args.words.now s.args.session _ l.words l.j l.k l.invariant (omega arith) a.if-x-session.false c.if-x-session.words c.if-x-session.k a.words-is a.k-is)
+    c.if-x-session.branch-raw
 
-slice_write_words_2 : tie.Need-slice-write-words-2 invariant-loop decreases-loop
+slice_write_words_2 : tie.Need-bounds-words-1-2 invariant-loop-j decreases-loop-j
 slice_write_words_2 c = omega arith
 
-same_length : tie.Need-same-length invariant-loop decreases-loop
-same_length c = simp length-set c.before.loop.invariant.size
+same_length : tie.Need-shape_of-words invariant-loop-j decreases-loop-j
+same_length c = simp length-set c.loop-j.invariant.size
 
-returns : tie.Need-returns invariant-loop decreases-loop
-returns c = left_now c.before.before.before.before.before.before.args.words.now c.before.before.before.before.before.before.args.session c.before.loop.words c.before.loop.j c.before.loop.k c.before.before.before.before.before.before.requires c.before.loop.invariant (omega arith)
+returns : tie.Need-returns invariant-loop-j decreases-loop-j
+returns c = left_now c.args.words.now c.args.session c.loop-j.words c.loop-j.j c.loop-j.k c.requires c.loop-j.invariant (omega arith)
 
 pub leave_spec : {M : Type 1} → statement M
 leave_spec =
     tie.close
     (tie.spec
-    invariant-loop
-    decreases-loop
+    invariant-loop-j
+    decreases-loop-j
     slice_read_m
     find-in-requires
     loop-holds

@@ -14,7 +14,7 @@ same_length : tie.Need-same-length
 same_length c = search rules
 
 returns : tie.Need-returns
-returns c = calls c.before.before.before.before.before.before.before.args.words.now c.before.before.before.all_compared_lem.new.0 (m.all_compared c.before.before.before.before.before.before.before.args.listing.now c.before.before.before.before.before.before.before.args.incarnation.0) _ c.in-numbers.result c.before.before.before.all_compared_lem.ensures c.in-numbers.ensures
+returns c = calls c.before.before.before.before.before.before.before.args.words.now c.before.before.before.all_compared.new.0 (m.all_compared c.before.before.before.before.before.before.before.args.listing.now c.before.before.before.before.before.before.before.args.incarnation.0) _ c.in-numbers.result c.before.before.before.all_compared.ensures c.in-numbers.ensures
 
 pub wz_books_all_compared_spec : {M : Type 1} → statement M
 wz_books_all_compared_spec =

@@ -18,7 +18,7 @@ returns-2 c =
     let a = z.args in
     let k = key_from a.begin.now a.sender.now a.target.now a.suffix.now in
     high_enough k a.n c.before.before.before.before.before.next-outgoing.result (place_at a.shape a.words.now a.bytes.now a.i) c.before.before.before.before.before.next-outgoing.ensures (omega (arith, c.before.before.before.before.if1.false))
-    (key_same a.shape a.i _ _ _ _ a.words.now a.bytes.now c.before.before.before.spot_in.ensures z.requires.0 z.requires.1 k c.has_key_lem.ensures)
+    (key_same a.shape a.i _ _ _ _ a.words.now a.bytes.now c.before.before.before.spot_in.ensures z.requires.0 z.requires.1 k c.has_key.ensures)
 
 pub has_number_spec : {M : Type 1} → statement M
 has_number_spec =

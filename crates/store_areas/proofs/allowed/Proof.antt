@@ -5,17 +5,17 @@ use borrow.Author.Rules.{rules}
 use Rattle.store_areas.proofs.allowed.Statement.{statement}
 use Rattle.store_areas.proofs.allowed.Tie as tie
 
-shared_slice_read_result : tie.Need-shared-slice-read-result
-shared_slice_read_result c = omega (arith, (room_of _ _ _ (sym c.before.before.long-enough.ensures ∙ c.before.if1.true)).words_long)
+shared_slice_read_result : tie.Need-bounds-words-0
+shared_slice_read_result c = omega (arith, (room_of _ _ _ (sym c.long_enough.ensures ∙ c.if-long_enough.true)).words_long)
 
-shared_slice_read_result_2 : tie.Need-shared-slice-read-result-2
-shared_slice_read_result_2 c = omega (arith, (room_of _ _ _ (sym c.before.before.before.before.long-enough.ensures ∙ c.before.before.before.if1.true)).words_long)
+shared_slice_read_result_2 : tie.Need-bounds-words-1
+shared_slice_read_result_2 c = omega (arith, (room_of _ _ _ (sym c.long_enough.ensures ∙ c.if-long_enough.true)).words_long)
 
-returns : tie.Need-returns
-returns c = counts_judged c.before.before.before.before.before.before.before.args.shape c.before.before.before.before.before.before.before.args.words.now c.before.before.before.before.before.before.before.args.bytes.now (sym c.before.before.before.before.long-enough.ensures ∙ c.before.before.before.if1.true)
+returns : tie.Need-returns-then-long_enough
+returns c = counts_judged c.args.shape c.args.words.now c.args.bytes.now (sym c.long_enough.ensures ∙ c.if-long_enough.true)
 
-returns-2 : tie.Need-returns-2
-returns-2 c = no_room c.before.before.before.before.args.shape c.before.before.before.before.args.words.now c.before.before.before.before.args.bytes.now (sym c.before.long-enough.ensures ∙ c.if1.false)
+returns-2 : tie.Need-returns
+returns-2 c = no_room c.args.shape c.args.words.now c.args.bytes.now (sym c.long_enough.ensures ∙ c.if-long_enough.false)
 
 pub allowed_spec : {M : Type 1} → statement M
 allowed_spec =

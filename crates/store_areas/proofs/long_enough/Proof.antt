@@ -4,23 +4,23 @@ use borrow.Author.Rules.{rules}
 use Rattle.store_areas.proofs.long_enough.Statement.{statement}
 use Rattle.store_areas.proofs.long_enough.Tie as tie
 
-returns : tie.Need-returns
-returns c = bytes_beyond c.before.before.before.before.args.shape c.before.before.before.before.args.words.now c.before.before.before.before.args.bytes.now (omega arith)
+returns : tie.Need-returns-then-shape-gt-MAX_BYTES
+returns c = bytes_beyond c.args.shape c.args.words.now c.args.bytes.now (omega arith)
 
-returns-2 : tie.Need-returns-2
-returns-2 c = messages_beyond c.before.before.before.before.before.before.args.shape c.before.before.before.before.before.before.args.words.now c.before.before.before.before.before.before.args.bytes.now (omega arith) (omega arith)
+returns-2 : tie.Need-returns-then-shape-gt-MAX_MESSAGES
+returns-2 c = messages_beyond c.args.shape c.args.words.now c.args.bytes.now (omega arith) (omega arith)
 
-mul_result : tie.Need-overflow-mul-result
-mul_result c = omega (arith, product c.before.before.before.before.before.before.before.before.args.shape.places c.place-words.result 4294967296 131088 (omega arith) (omega (arith, c.place-words.ensures)))
+mul_result : tie.Need-overflow_mul-result
+mul_result c = omega (arith, product c.args.shape.places c.place_words.result 4294967296 131088 (omega arith) (omega (arith, c.place_words.ensures)))
 
-add_result : tie.Need-overflow-add-result
-add_result c = omega (arith, product c.before.before.before.before.before.before.before.before.args.shape.places c.place-words.result 4294967296 131088 (omega arith) (omega (arith, c.place-words.ensures)))
+add_result : tie.Need-overflow_add-result
+add_result c = omega (arith, product c.args.shape.places c.place_words.result 4294967296 131088 (omega arith) (omega (arith, c.place_words.ensures)))
 
-mul_result_2 : tie.Need-overflow-mul-result-2
-mul_result_2 c = omega (arith, product c.before.before.before.before.before.before.before.before.before.args.shape.places c.place-bytes.result 4294967296 33554656 (omega arith) (omega (arith, c.place-bytes.ensures)))
+mul_result_2 : tie.Need-overflow_mul-result-2
+mul_result_2 c = omega (arith, product c.args.shape.places c.place_bytes.result 4294967296 33554656 (omega arith) (omega (arith, c.place_bytes.ensures)))
 
-returns-3 : tie.Need-returns-3
-returns-3 c = lengths_judged c.before.before.before.before.before.before.before.before.before.args.shape c.before.before.before.before.before.before.before.before.before.args.words.now c.before.before.before.before.before.before.before.before.before.args.bytes.now _ _ (omega arith) (omega arith) c.before.place-words.ensures c.place-bytes.ensures
+returns-3 : tie.Need-returns
+returns-3 c = lengths_judged c.args.shape c.args.words.now c.args.bytes.now _ _ (omega arith) (omega arith) c.place_words.ensures c.place_bytes.ensures
 
 pub long_enough_spec : {M : Type 1} → statement M
 long_enough_spec =

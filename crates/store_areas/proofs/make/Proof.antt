@@ -6,17 +6,17 @@ use borrow.Author.Rules.{rules}
 use Rattle.store_areas.proofs.make.Statement.{statement}
 use Rattle.store_areas.proofs.make.Tie as tie
 
-slice_write_words : tie.Need-slice-write-words
-slice_write_words c = omega (arith, (room_of _ _ _ (sym c.before.long-enough.ensures ∙ c.if1.true)).words_long)
+slice_write_words : tie.Need-bounds-words-0
+slice_write_words c = omega (arith, (room_of _ _ _ (sym c.long_enough.ensures ∙ c.if-long_enough.true)).words_long)
 
-slice_write_words_2 : tie.Need-slice-write-words-2
-slice_write_words_2 c = simp length-set (omega (arith, (room_of _ _ _ (sym c.before.long-enough.ensures ∙ c.if1.true)).words_long))
+slice_write_words_2 : tie.Need-bounds-words-1
+slice_write_words_2 c = simp length-set (omega (arith, (room_of _ _ _ (sym c.long_enough.ensures ∙ c.if-long_enough.true)).words_long))
 
-returns : tie.Need-returns
-returns c = made_ready _ _ _ (sym c.before.long-enough.ensures ∙ c.if1.true)
+returns : tie.Need-returns-then-long_enough
+returns c = made_ready _ _ _ (sym c.long_enough.ensures ∙ c.if-long_enough.true)
 
-returns-2 : tie.Need-returns-2
-returns-2 c = made_unfit _ _ _ (sym c.before.long-enough.ensures ∙ c.if1.false)
+returns-2 : tie.Need-returns
+returns-2 c = made_unfit _ _ _ (sym c.long_enough.ensures ∙ c.if-long_enough.false)
 
 pub make_spec : {M : Type 1} → statement M
 make_spec =

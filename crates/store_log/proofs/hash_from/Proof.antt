@@ -3,39 +3,39 @@ use Rattle.store_log.proofs.Summing.{Hashing, hashing_starts, hashing_goes, hash
 use Rattle.store_log.proofs.hash_from.Statement.{statement}
 use Rattle.store_log.proofs.hash_from.Tie as tie
 
-abbrev invariant-loop : tie.invariant-loop
-invariant-loop words bytes max next low hash₀ left₀ dist₀ hash left dist = Hashing max next words bytes low hash left dist
+abbrev invariant-loop-left : tie.invariant-loop-left
+invariant-loop-left words bytes max next low hash₀ left₀ dist₀ hash left dist = Hashing max next words bytes low hash left dist
 
-abbrev decreases-loop : tie.decreases-loop
-decreases-loop words bytes max next low hash₀ left₀ dist₀ hash left dist = left
+abbrev decreases-loop-left : tie.decreases-loop-left
+decreases-loop-left words bytes max next low hash₀ left₀ dist₀ hash left dist = left
 
-messages-from-requires : tie.Need-messages-from-requires invariant-loop decreases-loop
+messages-from-requires : tie.Need-messages_from-c-requires invariant-loop-left decreases-loop-left
 messages-from-requires c κs = omega arith
 
-loop-holds : tie.Need-loop-init invariant-loop decreases-loop
-loop-holds c = hashing_starts _ _ _ _ _ _ _ c.messages-from.ensures
+loop-holds : tie.Need-loop-left-init invariant-loop-left decreases-loop-left
+loop-holds c = hashing_starts _ _ _ _ _ _ _ c.messages_from-c.ensures
 
-message-at-requires : tie.Need-message-at-requires invariant-loop decreases-loop
-message-at-requires c κs = (omega arith, (c.before.loop.invariant.stands, omega arith))
+message-at-requires : tie.Need-message_at-f-requires invariant-loop-left decreases-loop-left
+message-at-requires c κs = (omega arith, (c.loop-left.invariant.stands, omega arith))
 
-hash-message-requires : tie.Need-hash-message-requires invariant-loop decreases-loop
+hash-message-requires : tie.Need-hash_message-hash-requires invariant-loop-left decreases-loop-left
 hash-message-requires c κs = omega arith
 
-loop-less : tie.Need-loop-smaller invariant-loop decreases-loop
+loop-less : tie.Need-loop-left-smaller invariant-loop-left decreases-loop-left
 loop-less c = omega arith
 
-loop-again : tie.Need-loop-preserved invariant-loop decreases-loop
-loop-again c = hashing_goes _ _ _ _ _ _ _ _ _ _ _ _ _ _ _ c.before.before.before.loop.invariant c.before.message-at.ensures c.hash-message.ensures
+loop-again : tie.Need-loop-left-preserved invariant-loop-left decreases-loop-left
+loop-again c = hashing_goes _ _ _ _ _ _ _ _ _ _ _ _ _ _ _ c.loop-left.invariant c.message_at-f.ensures c.hash_message-hash.ensures
 
-returns : tie.Need-returns invariant-loop decreases-loop
-returns c = hashing_ends _ _ _ _ _ _ _ _ c.before.loop.invariant c.loop-test.false
+returns : tie.Need-returns invariant-loop-left decreases-loop-left
+returns c = hashing_ends _ _ _ _ _ _ _ _ c.loop-left.invariant c.loop-left-test.false
 
 pub hash_from_spec : {M : Type 1} → statement M
 hash_from_spec =
     tie.close
     (tie.spec
-    invariant-loop
-    decreases-loop
+    invariant-loop-left
+    decreases-loop-left
     messages-from-requires
     loop-holds
     message-at-requires

@@ -3,30 +3,30 @@ use Rattle.store_log.proofs.Summing.{last_zero, last_one, last_some}
 use Rattle.store_log.proofs.last_outgoing.Statement.{statement}
 use Rattle.store_log.proofs.last_outgoing.Tie as tie
 
-returns : tie.Need-returns
-returns c = last_zero _ _ _ c.if1.true
+returns : tie.Need-returns-then-n-eq0
+returns c = last_zero _ _ _ c.if-n-eq0.true
 
-returns-2 : tie.Need-returns-2
-returns-2 c = last_one _ _ _ c.if2.true
+returns-2 : tie.Need-returns-then-next-eq1
+returns-2 c = last_one _ _ _ c.if-next-eq1.true
 
-sub_hash_from : tie.Need-overflow-sub-hash-from
+sub_hash_from : tie.Need-overflow_sub-next
 sub_hash_from c = omega arith
 
-hash-from-requires : tie.Need-hash-from-requires
+hash-from-requires : tie.Need-hash_from-requires
 hash-from-requires c κs = omega arith
 
-returns-3 : tie.Need-returns-3
+returns-3 : tie.Need-returns-then-n-next
 returns-3 c =
-    let a = c.before.before.before.before.before.before.args in
-    last_some a.n a.next (a.next - a.n) _ _ (omega arith) (omega arith) (omega arith) c.hash-from.ensures
+    let a = c.args in
+    last_some a.n a.next (a.next - a.n) _ _ (omega arith) (omega arith) (omega arith) c.hash_from.ensures
 
-hash-from-requires-2 : tie.Need-hash-from-requires-2
+hash-from-requires-2 : tie.Need-hash_from-requires-2
 hash-from-requires-2 c κs = omega arith
 
-returns-4 : tie.Need-returns-4
+returns-4 : tie.Need-returns
 returns-4 c =
-    let a = c.before.before.before.before.before.before.args in
-    last_some a.n a.next 1 _ _ (omega arith) (omega arith) (omega arith) c.hash-from2.ensures
+    let a = c.args in
+    last_some a.n a.next 1 _ _ (omega arith) (omega arith) (omega arith) c.hash_from-2.ensures
 
 pub last_outgoing_spec : {M : Type 1} → statement M
 last_outgoing_spec =

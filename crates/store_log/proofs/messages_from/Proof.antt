@@ -6,105 +6,105 @@ use Rattle.store_log.proofs.Reading.{Counting, done_low, done_high, done_full, c
 use Rattle.store_log.proofs.messages_from.Statement.{statement}
 use Rattle.store_log.proofs.messages_from.Tie as tie
 
-abbrev invariant-loop : tie.invariant-loop
-invariant-loop words bytes max next low cap left₀ dist₀ slot₀ bound₀ left dist slot bound = Counting (length bytes) max low words (unrolled (tail_of (length bytes) words) bytes) (since low (newest_first (length bytes) max next words bytes)) left dist slot bound
+abbrev invariant-loop-left : tie.invariant-loop-left
+invariant-loop-left words bytes max next low cap left₀ dist₀ slot₀ bound₀ left dist slot bound = Counting (length bytes) max low words (unrolled (tail_of (length bytes) words) bytes) (since low (newest_first (length bytes) max next words bytes)) left dist slot bound
 
-abbrev decreases-loop : tie.decreases-loop
-decreases-loop words bytes max next low cap left₀ dist₀ slot₀ bound₀ left dist slot bound = max - left
+abbrev decreases-loop-left : tie.decreases-loop-left
+decreases-loop-left words bytes max next low cap left₀ dist₀ slot₀ bound₀ left dist slot bound = max - left
 
-returns : tie.Need-returns invariant-loop decreases-loop
+returns : tie.Need-returns-then-max-eq0 invariant-loop-left decreases-loop-left
 returns c =
-    let a = c.before.before.before.args in
-    counted_none (length a.bytes.now) a.max a.next a.low a.words.now a.bytes.now c.if1.true
+    let a = c.args in
+    counted_none (length a.bytes.now) a.max a.next a.low a.words.now a.bytes.now c.if-max-eq0.true
 
-head-requires : tie.Need-head-requires invariant-loop decreases-loop
+head-requires : tie.Need-head-slot-requires invariant-loop-left decreases-loop-left
 head-requires c κs = omega arith
 
-loop-holds : tie.Need-loop-init invariant-loop decreases-loop
+loop-holds : tie.Need-loop-left-init invariant-loop-left decreases-loop-left
 loop-holds c =
-    let a = c.before.before.before.before.args in
-    counting_starts (length a.bytes.now) a.max a.next a.low c.head.result a.words.now a.bytes.now (omega arith) c.head.ensures.1 (omega arith)
+    let a = c.args in
+    counting_starts (length a.bytes.now) a.max a.next a.low c.head-slot.result a.words.now a.bytes.now (omega arith) c.head-slot.ensures.1 (omega arith)
 
-slot-before-requires : tie.Need-slot-before-requires invariant-loop decreases-loop
+slot-before-requires : tie.Need-slot_before-slot-requires invariant-loop-left decreases-loop-left
 slot-before-requires c κs = omega arith
 
-mul_n : tie.Need-overflow-mul-n invariant-loop decreases-loop
+mul_n : tie.Need-overflow_mul-n invariant-loop-left decreases-loop-left
 mul_n c = omega arith
 
-add_n : tie.Need-overflow-add-n invariant-loop decreases-loop
+add_n : tie.Need-overflow_add-n invariant-loop-left decreases-loop-left
 add_n c = omega arith
 
-mul_n_2 : tie.Need-overflow-mul-n-2 invariant-loop decreases-loop
+mul_n_2 : tie.Need-offset_bounds-words-slot invariant-loop-left decreases-loop-left
 mul_n_2 c = omega arith
 
-shared_slice_read_n : tie.Need-shared-slice-read-n invariant-loop decreases-loop
+shared_slice_read_n : tie.Need-bounds-words-slot invariant-loop-left decreases-loop-left
 shared_slice_read_n c = omega arith
 
-mul_l : tie.Need-overflow-mul-l invariant-loop decreases-loop
+mul_l : tie.Need-overflow_mul-l invariant-loop-left decreases-loop-left
 mul_l c = omega arith
 
-add_l : tie.Need-overflow-add-l invariant-loop decreases-loop
+add_l : tie.Need-overflow_add-l invariant-loop-left decreases-loop-left
 add_l c = omega arith
 
-mul_l_2 : tie.Need-overflow-mul-l-2 invariant-loop decreases-loop
+mul_l_2 : tie.Need-offset_bounds-words-slot-in-loop-left invariant-loop-left decreases-loop-left
 mul_l_2 c = omega arith
 
-shared_slice_read_l : tie.Need-shared-slice-read-l invariant-loop decreases-loop
+shared_slice_read_l : tie.Need-bounds-words-slot-in-loop-left invariant-loop-left decreases-loop-left
 shared_slice_read_l c = omega arith
 
-returns-2 : tie.Need-returns-2 invariant-loop decreases-loop
+returns-2 : tie.Need-returns-then-n-low invariant-loop-left decreases-loop-left
 returns-2 c =
-    let a = c.before.before.before.before.before.before.before.before.before.before.args in
+    let a = c.args in
     let C = length a.bytes.now in
-    let at = c.before.before.before.before.before.loop in
+    let at = c.loop-left in
     counted C a.max a.next a.low a.words.now a.bytes.now at.left at.dist at.invariant.most at.invariant.room
     (done_low C a.max a.low a.words.now (unrolled (tail_of C a.words.now) a.bytes.now) (since a.low (newest_first C a.max a.next a.words.now a.bytes.now)) at.left at.dist at.slot at.bound
-    c.before.before.before.slot-before.result at.invariant (omega arith) c.before.before.before.slot-before.ensures.1 c.if2.true)
+    c.slot_before-slot.result at.invariant (omega arith) c.slot_before-slot.ensures.1 c.if-n-low.true)
 
-returns-3 : tie.Need-returns-3 invariant-loop decreases-loop
+returns-3 : tie.Need-returns-then-bound-n invariant-loop-left decreases-loop-left
 returns-3 c =
-    let a = c.before.before.before.before.before.before.before.before.before.before.before.args in
+    let a = c.args in
     let C = length a.bytes.now in
-    let at = c.before.before.before.before.before.before.loop in
+    let at = c.loop-left in
     counted C a.max a.next a.low a.words.now a.bytes.now at.left at.dist at.invariant.most at.invariant.room
     (done_high C a.max a.low a.words.now (unrolled (tail_of C a.words.now) a.bytes.now) (since a.low (newest_first C a.max a.next a.words.now a.bytes.now)) at.left at.dist at.slot at.bound
-    c.before.before.before.before.slot-before.result at.invariant (omega arith) c.before.before.before.before.slot-before.ensures.1 c.if3.true)
+    c.slot_before-slot.result at.invariant (omega arith) c.slot_before-slot.ensures.1 c.if-bound-n.true)
 
-sub_if4 : tie.Need-overflow-sub-if4 invariant-loop decreases-loop
+sub_if4 : tie.Need-overflow_sub-cap invariant-loop-left decreases-loop-left
 sub_if4 c = omega arith
 
-returns-4 : tie.Need-returns-4 invariant-loop decreases-loop
+returns-4 : tie.Need-returns-then-cap-dist invariant-loop-left decreases-loop-left
 returns-4 c =
-    let a = c.before.before.before.before.before.before.before.before.before.before.before.before.args in
+    let a = c.args in
     let C = length a.bytes.now in
-    let at = c.before.before.before.before.before.before.before.loop in
+    let at = c.loop-left in
     counted C a.max a.next a.low a.words.now a.bytes.now at.left at.dist at.invariant.most at.invariant.room
     (done_full C a.max a.low a.words.now (unrolled (tail_of C a.words.now) a.bytes.now) (since a.low (newest_first C a.max a.next a.words.now a.bytes.now)) at.left at.dist at.slot at.bound
-    c.before.before.before.before.before.slot-before.result at.invariant (omega arith) c.before.before.before.before.before.slot-before.ensures.1 c.if4.true)
+    c.slot_before-slot.result at.invariant (omega arith) c.slot_before-slot.ensures.1 c.if-cap-dist.true)
 
-add_dist : tie.Need-overflow-add-dist invariant-loop decreases-loop
+add_dist : tie.Need-overflow_add-dist invariant-loop-left decreases-loop-left
 add_dist c = omega arith
 
-add_left : tie.Need-overflow-add-left invariant-loop decreases-loop
+add_left : tie.Need-overflow_add-left invariant-loop-left decreases-loop-left
 add_left c = omega arith
 
-loop-less : tie.Need-loop-smaller invariant-loop decreases-loop
+loop-less : tie.Need-loop-left-smaller invariant-loop-left decreases-loop-left
 loop-less c = omega arith
 
-loop-again : tie.Need-loop-preserved invariant-loop decreases-loop
+loop-again : tie.Need-loop-left-preserved invariant-loop-left decreases-loop-left
 loop-again c =
-    let a = c.before.before.before.before.before.before.before.before.before.before.before.before.args in
+    let a = c.args in
     let C = length a.bytes.now in
-    let at = c.before.before.before.before.before.before.before.loop in
+    let at = c.loop-left in
     counts C a.max a.low a.words.now (unrolled (tail_of C a.words.now) a.bytes.now) (since a.low (newest_first C a.max a.next a.words.now a.bytes.now)) at.left at.dist at.slot at.bound
-    c.before.before.before.before.before.slot-before.result at.invariant (omega arith) c.before.before.before.before.before.slot-before.ensures.1
-    (length_unrolled (tail_of C a.words.now) a.bytes.now (tail_le C a.words.now)) (omega arith) (omega arith) c.before.before.if2.false c.before.if3.false c.if4.false
+    c.slot_before-slot.result at.invariant (omega arith) c.slot_before-slot.ensures.1
+    (length_unrolled (tail_of C a.words.now) a.bytes.now (tail_le C a.words.now)) (omega arith) (omega arith) c.if-n-low.false c.if-bound-n.false c.if-cap-dist.false
 
-returns-5 : tie.Need-returns-5 invariant-loop decreases-loop
+returns-5 : tie.Need-returns invariant-loop-left decreases-loop-left
 returns-5 c =
-    let a = c.before.before.before.before.before.before.args in
+    let a = c.args in
     let C = length a.bytes.now in
-    let at = c.before.loop in
+    let at = c.loop-left in
     counted C a.max a.next a.low a.words.now a.bytes.now at.left at.dist at.invariant.most at.invariant.room
     (done_all C a.max a.low a.words.now (unrolled (tail_of C a.words.now) a.bytes.now) (since a.low (newest_first C a.max a.next a.words.now a.bytes.now)) at.left at.dist at.slot at.bound at.invariant (omega arith))
 
@@ -112,8 +112,8 @@ pub messages_from_spec : {M : Type 1} → statement M
 messages_from_spec =
     tie.close
     (tie.spec
-    invariant-loop
-    decreases-loop
+    invariant-loop-left
+    decreases-loop-left
     returns
     head-requires
     loop-holds

@@ -6,7 +6,7 @@ use Rattle.store_place.proofs.has_key.Tie as tie
 
 returns : tie.Need-returns
 unfolding stored_key
-returns c = λ i. c.before.before.before.before.before.before.same-field.ensures i && (c.before.before.before.before.same-field2.ensures i && (c.before.before.same-field3.ensures i && c.same-field4.ensures i))
+returns c = λ i. c.same_field.ensures i && (c.same_field-2.ensures i && (c.same_field-3.ensures i && c.same_field-4.ensures i))
 
 pub has_key_spec : {M : Type 1} → statement M
 has_key_spec =

@@ -5,8 +5,8 @@ use Rattle.store_place.proofs.last_outgoing.Tie as tie
 
 returns : tie.Need-returns
 returns c =
-    let a = c.before.before.before.before.before.before.args in
-    λ C lb. last_in C a.max a.words.now a.bytes.now lb c.before.before.before.next-outgoing.result c.before.before.before.next-outgoing.ensures a.n c.last-outgoing.result c.last-outgoing.ensures
+    let a = c.args in
+    λ C lb. last_in C a.max a.words.now a.bytes.now lb c.next_outgoing-next.result c.next_outgoing-next.ensures a.n c.last_outgoing.result c.last_outgoing.ensures
 
 pub last_outgoing_spec : {M : Type 1} → statement M
 last_outgoing_spec =

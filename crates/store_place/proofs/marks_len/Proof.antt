@@ -7,17 +7,17 @@ use borrow.Author.Rules.{rules}
 use Rattle.store_place.proofs.marks_len.Statement.{statement}
 use Rattle.store_place.proofs.marks_len.Tie as tie
 
-returns : tie.Need-returns
+returns : tie.Need-returns-then-is_marks
 unfolding marks_of
 returns c =
-    let a = c.before.before.before.before.before.before.before.args in
-    (omega (arith, c.before.before.before.cut.ensures), valid_text is_marks a.bytes.now 160 64 (get_or a.words.now 6 0) c.before.before.before.cut.result c.before.is-marks.result c.before.before.before.cut.ensures c.before.is-marks.ensures c.if1.true)
+    let a = c.args in
+    (omega (arith, c.cut-n.ensures), valid_text is_marks a.bytes.now 160 64 (get_or a.words.now 6 0) c.cut-n.result c.is_marks.result c.cut-n.ensures c.is_marks.ensures c.if-is_marks.true)
 
-returns-2 : tie.Need-returns-2
+returns-2 : tie.Need-returns-else-is_marks
 unfolding marks_of
 returns-2 c =
-    let a = c.before.before.before.before.before.before.before.args in
-    (omega arith, no_text is_marks a.bytes.now 160 64 (get_or a.words.now 6 0) c.before.before.before.cut.result c.before.is-marks.result c.before.before.before.cut.ensures c.before.is-marks.ensures c.if1.false)
+    let a = c.args in
+    (omega arith, no_text is_marks a.bytes.now 160 64 (get_or a.words.now 6 0) c.cut-n.result c.is_marks.result c.cut-n.ensures c.is_marks.ensures c.if-is_marks.false)
 
 pub marks_len_spec : {M : Type 1} → statement M
 marks_len_spec =

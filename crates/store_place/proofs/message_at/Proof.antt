@@ -6,18 +6,18 @@ use borrow.Author.Rules.{rules}
 use Rattle.store_place.proofs.message_at.Statement.{statement}
 use Rattle.store_place.proofs.message_at.Tie as tie
 
-message-at-requires : tie.Need-message-at-requires
+message-at-requires : tie.Need-message_at-f-requires
 message-at-requires c κs =
-    let a = c.before.before.before.before.before.args in
-    let p = c.before.before.before.before.before.requires in
-    let n = c.before.before.next-outgoing in
+    let a = c.args in
+    let p = c.requires in
+    let n = c.next_outgoing-next in
     (search rules, (stands_out (length a.bytes.now - 224) a.max a.words.now a.bytes.now (omega arith) n.result n.ensures a.left a.dist p.1.1.0, p.1.1.1))
 
 returns : tie.Need-returns
 returns c =
-    let a = c.before.before.before.before.before.before.before.args in
-    let n = c.before.before.before.before.next-outgoing in
-    let f = c.before.message-at in
+    let a = c.args in
+    let n = c.next_outgoing-next in
+    let f = c.message_at-f in
     λ C lb. read_in C a.max a.words.now a.bytes.now lb n.result n.ensures a.left a.dist f.result.number f.result.start f.result.first f.result.rest f.result.left f.result.dist f.ensures
 
 pub message_at_spec : {M : Type 1} → statement M

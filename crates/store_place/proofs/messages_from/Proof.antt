@@ -5,8 +5,8 @@ use Rattle.store_place.proofs.messages_from.Tie as tie
 
 returns : tie.Need-returns
 returns c =
-    let a = c.before.before.before.before.before.before.args in
-    λ C lb. from_in C a.max a.words.now a.bytes.now lb c.before.before.before.next-outgoing.result c.before.before.before.next-outgoing.ensures a.low c.messages-from.result.left c.messages-from.result.dist c.messages-from.ensures
+    let a = c.args in
+    λ C lb. from_in C a.max a.words.now a.bytes.now lb c.next_outgoing-next.result c.next_outgoing-next.ensures a.low c.messages_from.result.left c.messages_from.result.dist c.messages_from.ensures
 
 pub messages_from_spec : {M : Type 1} → statement M
 messages_from_spec =

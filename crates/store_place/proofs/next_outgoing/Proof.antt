@@ -4,11 +4,11 @@ use borrow.Author.Rules.{rules}
 use Rattle.store_place.proofs.next_outgoing.Statement.{statement}
 use Rattle.store_place.proofs.next_outgoing.Tie as tie
 
-returns : tie.Need-returns
+returns : tie.Need-returns-then-words-lt1
 unfolding next_out_of
 returns c = omega arith
 
-returns-2 : tie.Need-returns-2
+returns-2 : tie.Need-returns-else-words-lt1
 unfolding next_out_of
 returns-2 c = omega arith
 

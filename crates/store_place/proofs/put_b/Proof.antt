@@ -5,26 +5,26 @@ use borrow.Author.Rules.{rules}
 use Rattle.store_place.proofs.put_b.Statement.{statement}
 use Rattle.store_place.proofs.put_b.Tie as tie
 
-returns : tie.Need-returns
+returns : tie.Need-returns-then-ends_in_b
 returns c =
-    let a = c.before.before.before.before.args in
-    let p = c.before.before.before.before.requires in
-    let e = c.before.ends-in-b in
-    (p.1, (only_none 160 224 a.bytes.now, kept_b a.bytes.now a.n p.0 p.1 e.result e.ensures c.if1.true))
+    let a = c.args in
+    let p = c.requires in
+    let e = c.ends_in_b in
+    (p.1, (only_none 160 224 a.bytes.now, kept_b a.bytes.now a.n p.0 p.1 e.result e.ensures c.if-ends_in_b.true))
 
-returns-2 : tie.Need-returns-2
+returns-2 : tie.Need-returns-then-n-ge-MARKS_SIZE
 returns-2 c =
-    let a = c.before.before.before.before.before.args in
-    let p = c.before.before.before.before.before.requires in
-    let e = c.before.before.ends-in-b in
-    (p.1, (only_b a.bytes.now a.n p.0 p.1 63 (omega arith), full_b a.bytes.now a.n p.0 p.1 e.result e.ensures c.before.if1.false c.if2.true))
+    let a = c.args in
+    let p = c.requires in
+    let e = c.ends_in_b in
+    (p.1, (only_b a.bytes.now a.n p.0 p.1 63 (omega arith), full_b a.bytes.now a.n p.0 p.1 e.result e.ensures c.if-ends_in_b.false c.if-n-ge-MARKS_SIZE.true))
 
-returns-3 : tie.Need-returns-3
+returns-3 : tie.Need-returns
 returns-3 c =
-    let a = c.before.before.before.before.before.args in
-    let p = c.before.before.before.before.before.requires in
-    let e = c.before.before.ends-in-b in
-    (omega arith, (only_b a.bytes.now a.n p.0 p.1 a.n (omega arith), more_b a.bytes.now a.n p.0 p.1 e.result e.ensures c.before.if1.false c.if2.false))
+    let a = c.args in
+    let p = c.requires in
+    let e = c.ends_in_b in
+    (omega arith, (only_b a.bytes.now a.n p.0 p.1 a.n (omega arith), more_b a.bytes.now a.n p.0 p.1 e.result e.ensures c.if-ends_in_b.false c.if-n-ge-MARKS_SIZE.false))
 
 pub put_b_spec : {M : Type 1} → statement M
 put_b_spec =

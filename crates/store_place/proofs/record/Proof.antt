@@ -7,17 +7,17 @@ use Rattle.store_place.proofs.record.Statement.{statement}
 use Rattle.store_place.proofs.record.Tie as tie
 
 record-requires : tie.Need-record-requires
-record-requires c κs = omega (arith, next_pos c.before.before.before.before.before.args.words.now)
+record-requires c κs = omega (arith, next_pos c.args.words.now)
 
-slice_write_words_2 : tie.Need-slice-write-words-2
+slice_write_words_2 : tie.Need-bounds-words-4
 slice_write_words_2 c = simp length-set (omega arith)
 
 returns : tie.Need-returns
 returns c =
-    let a = c.before.before.before.before.before.before.before.before.before.before.args in
-    let p = c.before.before.before.before.before.before.before.before.before.before.requires in
-    let r = c.before.before.before.before.«record» in
-    λ C lb. recorded C a.max a.seq a.text.now a.bytes.now r.new.1.0 r.new.0 a.words.now (omega arith) lb r.auto.0 r.auto.1.0 p.1.1.0 r.ensures
+    let a = c.args in
+    let p = c.requires in
+    let r = c.«record» in
+    λ C lb. recorded C a.max a.seq a.text.now a.bytes.now r.new.bytes r.new.words a.words.now (omega arith) lb r.auto.words r.auto.bytes p.1.1.0 r.ensures
 
 pub record_spec : {M : Type 1} → statement M
 record_spec =

@@ -5,8 +5,8 @@ use Rattle.store_place.proofs.same_field.Tie as tie
 
 returns : tie.Need-returns
 returns c =
-    let a = c.before.before.before.before.before.args in
-    field_same a.text.now a.bytes.now a.at a.n _ _ c.before.before.cut.ensures c.same_bytes.ensures
+    let a = c.args in
+    field_same a.text.now a.bytes.now a.at a.n _ _ c.cut.ensures c.same_bytes.ensures
 
 pub same_field_spec : {M : Type 1} → statement M
 same_field_spec =

@@ -6,16 +6,16 @@ use borrow.Author.Rules.{rules}
 use Rattle.store_place.proofs.set_created_at.Statement.{statement}
 use Rattle.store_place.proofs.set_created_at.Tie as tie
 
-put-text-requires : tie.Need-put-text-requires
-put-text-requires c κs = omega (arith, stamp_is _ c.before.before.before.before.requires.1.1)
+put-text-requires : tie.Need-put_text-requires
+put-text-requires c κs = omega (arith, stamp_is _ c.requires.1.1)
 
-slice_write_words_2 : tie.Need-slice-write-words-2
+slice_write_words_2 : tie.Need-bounds-words-4
 slice_write_words_2 c = simp length-set (omega arith)
 
 returns : tie.Need-returns
 returns c =
-    let a = c.before.before.before.before.before.before.before.args in
-    λ C M. stamped C M a.text.now a.bytes.now c.before.before.put-text.new.0 a.words.now (omega arith) c.before.before.put-text.ensures c.before.before.before.before.before.before.before.requires.1.1
+    let a = c.args in
+    λ C M. stamped C M a.text.now a.bytes.now c.put_text.new.bytes a.words.now (omega arith) c.put_text.ensures c.requires.1.1
 
 pub set_created_at_spec : {M : Type 1} → statement M
 set_created_at_spec =

@@ -5,10 +5,10 @@ use borrow.Author.Rules.{rules}
 use Rattle.store_place.proofs.set_in_flight.Statement.{statement}
 use Rattle.store_place.proofs.set_in_flight.Tie as tie
 
-slice_write_words_2 : tie.Need-slice-write-words-2
+slice_write_words_2 : tie.Need-bounds-words-3
 slice_write_words_2 c = simp length-set (omega arith)
 
-slice_write_words_3 : tie.Need-slice-write-words-3
+slice_write_words_3 : tie.Need-bounds-words-4
 slice_write_words_3 c = simp length-set (omega arith)
 
 returns : tie.Need-returns

@@ -7,17 +7,17 @@ use borrow.Author.Rules.{rules}
 use Rattle.store_place.proofs.stamp_len.Statement.{statement}
 use Rattle.store_place.proofs.stamp_len.Tie as tie
 
-returns : tie.Need-returns
+returns : tie.Need-returns-then-is_stamp
 unfolding stamp_of
 returns c =
-    let a = c.before.before.before.before.before.before.before.args in
-    (omega (arith, c.before.before.before.cut.ensures), valid_text is_stamp a.bytes.now 128 32 (get_or a.words.now 5 0) c.before.before.before.cut.result c.before.is-stamp.result c.before.before.before.cut.ensures c.before.is-stamp.ensures c.if1.true)
+    let a = c.args in
+    (omega (arith, c.cut-n.ensures), valid_text is_stamp a.bytes.now 128 32 (get_or a.words.now 5 0) c.cut-n.result c.is_stamp.result c.cut-n.ensures c.is_stamp.ensures c.if-is_stamp.true)
 
-returns-2 : tie.Need-returns-2
+returns-2 : tie.Need-returns-else-is_stamp
 unfolding stamp_of
 returns-2 c =
-    let a = c.before.before.before.before.before.before.before.args in
-    (omega arith, no_text is_stamp a.bytes.now 128 32 (get_or a.words.now 5 0) c.before.before.before.cut.result c.before.is-stamp.result c.before.before.before.cut.ensures c.before.is-stamp.ensures c.if1.false)
+    let a = c.args in
+    (omega arith, no_text is_stamp a.bytes.now 128 32 (get_or a.words.now 5 0) c.cut-n.result c.is_stamp.result c.cut-n.ensures c.is_stamp.ensures c.if-is_stamp.false)
 
 pub stamp_len_spec : {M : Type 1} → statement M
 stamp_len_spec =

@@ -5,14 +5,14 @@ use borrow.Author.Rules.{rules}
 use Rattle.store_sessions.proofs.find.Statement.{statement}
 use Rattle.store_sessions.proofs.find.Tie as tie
 
-place-of-requires : tie.Need-place-of-requires
-place-of-requires c κs = rules_of _ _ _ (sym c.before.allowed.ensures ∙ c.if1.true)
+place-of-requires : tie.Need-place_of-requires
+place-of-requires c κs = rules_of _ _ _ (sym c.allowed.ensures ∙ c.if-allowed.true)
 
-returns : tie.Need-returns
-returns c = sought _ _ _ _ _ (sym c.before.before.allowed.ensures ∙ c.before.if1.true) c.place_of.ensures
+returns : tie.Need-returns-then-allowed
+returns c = sought _ _ _ _ _ (sym c.allowed.ensures ∙ c.if-allowed.true) c.place_of.ensures
 
-returns-2 : tie.Need-returns-2
-returns-2 c = not_sought _ _ _ _ (sym c.before.allowed.ensures ∙ c.if1.false)
+returns-2 : tie.Need-returns
+returns-2 c = not_sought _ _ _ _ (sym c.allowed.ensures ∙ c.if-allowed.false)
 
 pub find_spec : {M : Type 1} → statement M
 find_spec = tie.close (tie.spec (λ c κs. search rules) place-of-requires returns returns-2)

@@ -6,8 +6,8 @@ use Rattle.store_sessions.proofs.has_key.Tie as tie
 
 returns : tie.Need-returns
 returns c =
-    let a = c.before.before.before.before.before.before.before.before.before.before.args in
-    key_same a.shape a.place _ _ _ _ a.words.now a.bytes.now c.before.before.before.spot_in.ensures c.before.before.before.before.before.before.before.before.before.before.requires.0 c.before.before.before.before.before.before.before.before.before.before.requires.1 c.has_key_lem.result (key_from a.begin.now a.sender.now a.target.now a.suffix.now) c.has_key_lem.ensures
+    let a = c.args in
+    key_same a.shape a.place _ _ _ _ a.words.now a.bytes.now c.spot_in-p.ensures c.requires.0 c.requires.1 c.has_key.result (key_from a.begin.now a.sender.now a.target.now a.suffix.now) c.has_key.ensures
 
 pub has_key_spec : {M : Type 1} → statement M
 has_key_spec =

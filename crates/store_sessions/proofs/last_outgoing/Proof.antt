@@ -5,9 +5,9 @@ use Rattle.store_sessions.proofs.last_outgoing.Tie as tie
 
 returns : tie.Need-returns
 returns c =
-    let a = c.before.before.before.before.before.before.before.args in
-    let at = c.before.before.before.before.spot_in.ensures in
-    last_is a.shape a.place _ _ _ _ a.words.now a.bytes.now at c.before.before.before.before.before.before.before.requires.0 c.before.before.before.before.before.before.before.requires.1 a.n c.last-outgoing.result (c.last-outgoing.ensures a.shape.bytes at.bytes_part)
+    let a = c.args in
+    let at = c.spot_in-p.ensures in
+    last_is a.shape a.place _ _ _ _ a.words.now a.bytes.now at c.requires.0 c.requires.1 a.n c.last_outgoing.result (c.last_outgoing.ensures a.shape.bytes at.bytes_part)
 
 pub last_outgoing_spec : {M : Type 1} → statement M
 last_outgoing_spec =

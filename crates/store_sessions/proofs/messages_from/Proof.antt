@@ -5,10 +5,10 @@ use Rattle.store_sessions.proofs.messages_from.Tie as tie
 
 returns : tie.Need-returns
 returns c =
-    let a = c.before.before.before.before.before.before.before.args in
-    let at = c.before.before.before.before.spot_in.ensures in
-    let r = c.messages-from in
-    from_at a.shape a.place _ _ _ _ a.words.now a.bytes.now at c.before.before.before.before.before.before.before.requires.0 c.before.before.before.before.before.before.before.requires.1.0 a.low r.result.left r.result.dist (r.ensures a.shape.bytes at.bytes_part)
+    let a = c.args in
+    let at = c.spot_in-p.ensures in
+    let r = c.messages_from in
+    from_at a.shape a.place _ _ _ _ a.words.now a.bytes.now at c.requires.0 c.requires.1.0 a.low r.result.left r.result.dist (r.ensures a.shape.bytes at.bytes_part)
 
 pub messages_from_spec : {M : Type 1} → statement M
 messages_from_spec =

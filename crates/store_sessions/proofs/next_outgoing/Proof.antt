@@ -6,8 +6,8 @@ use Rattle.store_sessions.proofs.next_outgoing.Tie as tie
 
 returns : tie.Need-returns
 returns c =
-    let a = c.before.before.before.before.before.args in
-    c.next-outgoing.ensures ∙ out_is a.shape a.place _ _ _ _ a.words.now a.bytes.now c.before.before.spot_in.ensures c.before.before.before.before.before.requires.0 c.before.before.before.before.before.requires.1
+    let a = c.args in
+    c.next_outgoing.ensures ∙ out_is a.shape a.place _ _ _ _ a.words.now a.bytes.now c.spot_in-p.ensures c.requires.0 c.requires.1
 
 pub next_outgoing_spec : {M : Type 1} → statement M
 next_outgoing_spec =

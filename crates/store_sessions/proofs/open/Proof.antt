@@ -8,26 +8,26 @@ use borrow.Author.Rules.{rules}
 use Rattle.store_sessions.proofs.open.Statement.{statement}
 use Rattle.store_sessions.proofs.open.Tie as tie
 
-spot-in-requires : tie.Need-spot-in-requires
+spot-in-requires : tie.Need-spot_in-p-requires
 spot-in-requires c κs =
-    let a = c.before.before.before.before.before.before.before.before.before.args in
-    (raised a.shape a.words.now a.bytes.now c.before.before.before.before.before.before.before.before.before.requires.0 c.before.before.before.before.before.before.before.before.before.requires.1.0, in_use a.shape a.words.now a.bytes.now c.before.before.before.before.before.before.before.before.before.requires.0 c.before.before.before.before.before.before.before.before.before.requires.1.0)
+    let a = c.args in
+    (raised a.shape a.words.now a.bytes.now c.requires.0 c.requires.1.0, in_use a.shape a.words.now a.bytes.now c.requires.0 c.requires.1.0)
 
-mul_new_session : tie.Need-overflow-mul-new-session
-mul_new_session c = omega (arith, c.before.spot_in.ensures, length-set c.before.before.before.before.before.before.before.before.before.before.before.args.words.now 0 (get_or c.before.before.before.before.before.before.before.before.before.before.before.args.words.now 0 0 + 1))
+mul_new_session : tie.Need-offset_bounds-words-words_start
+mul_new_session c = omega (arith, c.spot_in-p.ensures, length-set c.args.words.now 0 (get_or c.args.words.now 0 0 + 1))
 
-same_length : tie.Need-same-length
+same_length : tie.Need-shape_of-words
 same_length c =
-    let a = c.before.before.before.before.before.before.before.before.before.before.before.before.before.before.before.before.before.before.args in
-    let r = c.before.before.before.before.new-session in
-    (opened a.shape a.words.now a.bytes.now c.before.before.before.before.before.before.before.before.before.before.before.before.before.before.before.before.before.before.requires.0 c.before.before.before.before.before.before.before.before.before.before.before.before.before.before.before.before.before.before.requires.1.0 (key_from a.begin.now a.sender.now a.target.now a.suffix.now) _ _ _ _ r.new.0 r.new.1.0 c.before.before.before.before.before.before.before.before.spot_in.ensures r.auto.0 r.auto.1.0 (r.ensures a.shape.bytes)).words.same_length
+    let a = c.args in
+    let r = c.new_session in
+    (opened a.shape a.words.now a.bytes.now c.requires.0 c.requires.1.0 (key_from a.begin.now a.sender.now a.target.now a.suffix.now) _ _ _ _ r.new.words r.new.bytes c.spot_in-p.ensures r.auto.0 r.auto.1.0 (r.ensures a.shape.bytes)).words.same_length
     ∙ length-set a.words.now 0 (get_or a.words.now 0 0 + 1)
 
 returns : tie.Need-returns
 returns c =
-    let a = c.before.before.before.before.before.before.before.before.before.before.before.before.before.before.before.before.before.before.args in
-    let r = c.before.before.before.before.new-session in
-    opened a.shape a.words.now a.bytes.now c.before.before.before.before.before.before.before.before.before.before.before.before.before.before.before.before.before.before.requires.0 c.before.before.before.before.before.before.before.before.before.before.before.before.before.before.before.before.before.before.requires.1.0 (key_from a.begin.now a.sender.now a.target.now a.suffix.now) _ _ _ _ r.new.0 r.new.1.0 c.before.before.before.before.before.before.before.before.spot_in.ensures r.auto.0 r.auto.1.0 (r.ensures a.shape.bytes)
+    let a = c.args in
+    let r = c.new_session in
+    opened a.shape a.words.now a.bytes.now c.requires.0 c.requires.1.0 (key_from a.begin.now a.sender.now a.target.now a.suffix.now) _ _ _ _ r.new.words r.new.bytes c.spot_in-p.ensures r.auto.0 r.auto.1.0 (r.ensures a.shape.bytes)
 
 pub open_spec : {M : Type 1} → statement M
 open_spec =

@@ -7,52 +7,52 @@ use Rattle.store_sessions.proofs.Seeking.{Seeking, seeking_starts, found, goes_o
 use Rattle.store_sessions.proofs.place_of.Statement.{statement}
 use Rattle.store_sessions.proofs.place_of.Tie as tie
 
-abbrev invariant-loop : tie.invariant-loop
-invariant-loop words bytes shape begin sender target suffix used i₀ i = Seeking (key_from begin sender target suffix) (place_at shape words bytes) (get_or words 0 0) i
+abbrev invariant-loop-i : tie.invariant-loop-i
+invariant-loop-i words bytes shape begin sender target suffix used i₀ i = Seeking (key_from begin sender target suffix) (place_at shape words bytes) (get_or words 0 0) i
 
-abbrev decreases-loop : tie.decreases-loop
-decreases-loop words bytes shape begin sender target suffix used i₀ i = get_or words 0 0 - i
+abbrev decreases-loop-i : tie.decreases-loop-i
+decreases-loop-i words bytes shape begin sender target suffix used i₀ i = get_or words 0 0 - i
 
-shared_slice_read_used : tie.Need-shared-slice-read-used invariant-loop decreases-loop
-shared_slice_read_used c = omega (arith, c.before.before.before.before.before.before.before.requires.room.words_long)
+shared_slice_read_used : tie.Need-bounds-words-0 invariant-loop-i decreases-loop-i
+shared_slice_read_used c = omega (arith, c.requires.room.words_long)
 
-loop-holds : tie.Need-loop-init invariant-loop decreases-loop
+loop-holds : tie.Need-loop-i-init invariant-loop-i decreases-loop-i
 loop-holds c =
-    let a = c.before.before.before.before.before.before.before.args in
+    let a = c.args in
     seeking_starts (key_from a.begin.now a.sender.now a.target.now a.suffix.now) (place_at a.shape a.words.now a.bytes.now) (get_or a.words.now 0 0)
 
-has-key-requires : tie.Need-has-key-requires invariant-loop decreases-loop
-has-key-requires c κs = (c.before.before.before.before.before.before.before.before.before.requires, c.loop-test.true)
+has-key-requires : tie.Need-has_key-requires invariant-loop-i decreases-loop-i
+has-key-requires c κs = (c.requires, c.loop-i-test.true)
 
-returns : tie.Need-returns invariant-loop decreases-loop
+returns : tie.Need-returns-then-has_key invariant-loop-i decreases-loop-i
 unfolding places_of
 returns c =
-    let a = c.before.before.before.before.before.before.before.before.before.before.before.args in
-    found (key_from a.begin.now a.sender.now a.target.now a.suffix.now) (place_at a.shape a.words.now a.bytes.now) (get_or a.words.now 0 0) c.before.before.before.loop.i c.before.before.before.loop.invariant c.before.has_key_lem.result c.before.before.loop-test.true c.before.has_key_lem.ensures c.if1.true
+    let a = c.args in
+    found (key_from a.begin.now a.sender.now a.target.now a.suffix.now) (place_at a.shape a.words.now a.bytes.now) (get_or a.words.now 0 0) c.loop-i.i c.loop-i.invariant c.has_key.result c.loop-i-test.true c.has_key.ensures c.if-has_key.true
 
-add_i : tie.Need-overflow-add-i invariant-loop decreases-loop
-add_i c = omega (arith, c.before.before.loop-test.true)
+add_i : tie.Need-overflow_add-i invariant-loop-i decreases-loop-i
+add_i c = omega (arith, c.loop-i-test.true)
 
-loop-less : tie.Need-loop-smaller invariant-loop decreases-loop
-loop-less c = omega (arith, c.before.before.loop-test.true)
+loop-less : tie.Need-loop-i-smaller invariant-loop-i decreases-loop-i
+loop-less c = omega (arith, c.loop-i-test.true)
 
-loop-again : tie.Need-loop-preserved invariant-loop decreases-loop
+loop-again : tie.Need-loop-i-preserved invariant-loop-i decreases-loop-i
 loop-again c =
-    let a = c.before.before.before.before.before.before.before.before.before.before.before.args in
-    goes_on (key_from a.begin.now a.sender.now a.target.now a.suffix.now) (place_at a.shape a.words.now a.bytes.now) (get_or a.words.now 0 0) c.before.before.before.loop.i c.before.before.before.loop.invariant c.before.has_key_lem.result c.before.before.loop-test.true c.before.has_key_lem.ensures c.if1.false
+    let a = c.args in
+    goes_on (key_from a.begin.now a.sender.now a.target.now a.suffix.now) (place_at a.shape a.words.now a.bytes.now) (get_or a.words.now 0 0) c.loop-i.i c.loop-i.invariant c.has_key.result c.loop-i-test.true c.has_key.ensures c.if-has_key.false
 
-returns-2 : tie.Need-returns-2 invariant-loop decreases-loop
+returns-2 : tie.Need-returns invariant-loop-i decreases-loop-i
 unfolding places_of
 returns-2 c =
-    let a = c.before.before.before.before.before.before.before.before.before.args in
-    nowhere (key_from a.begin.now a.sender.now a.target.now a.suffix.now) (place_at a.shape a.words.now a.bytes.now) (get_or a.words.now 0 0) c.before.loop.i c.before.loop.invariant c.loop-test.false
+    let a = c.args in
+    nowhere (key_from a.begin.now a.sender.now a.target.now a.suffix.now) (place_at a.shape a.words.now a.bytes.now) (get_or a.words.now 0 0) c.loop-i.i c.loop-i.invariant c.loop-i-test.false
 
 pub place_of_spec : {M : Type 1} → statement M
 place_of_spec =
     tie.close
     (tie.spec
-    invariant-loop
-    decreases-loop
+    invariant-loop-i
+    decreases-loop-i
     shared_slice_read_used
     loop-holds
     has-key-requires

@@ -5,16 +5,16 @@ use Rattle.store_sessions.proofs.summary_in.Tie as tie
 
 returns : tie.Need-returns
 returns c C e = record {
-  out = c.before.before.before.before.before.before.next-outgoing.ensures;
-  inc = c.before.before.before.before.before.next-incoming.ensures;
-  flight = c.before.before.before.in-flight2.ensures ∙ c.before.before.before.before.in-flight.ensures;
-  stamp = c.before.before.stamp_len.ensures.1;
+  out = c.next_outgoing-next_outgoing.ensures;
+  inc = c.next_incoming-next_incoming.ensures;
+  flight = c.in_flight-in_flight.ensures ∙ c.in_flight.ensures;
+  stamp = c.stamp_len-stamp.ensures.1;
   stamp_at = refl;
-  stamp_len = c.before.before.stamp_len.ensures.0;
-  marks = c.before.marks_len.ensures.1;
+  stamp_len = c.stamp_len-stamp.ensures.0;
+  marks = c.marks_len-marks.ensures.1;
   marks_at = refl;
-  marks_len = c.before.marks_len.ensures.0;
-  last = c.last-outgoing.ensures C e;
+  marks_len = c.marks_len-marks.ensures.0;
+  last = c.last_outgoing-last_outgoing.ensures C e;
 }
 
 pub summary_in_spec : {M : Type 1} → statement M

@@ -6,10 +6,10 @@ use Rattle.store_sessions.proofs.take_over.Tie as tie
 
 returns : tie.Need-returns
 returns c =
-    let a = c.before.before.before.before.before.before.before.before.before.before.before.before.before.args in
-    let r = c.before.before.before.before.take-over in
-    let p = c.before.before.before.before.before.before.before.before.before.before.before.before.before.requires in
-    spot_both a.shape a.place _ _ _ _ c.before.before.before.before.before.before.before.before.spot_in.ensures.at a.words.now a.bytes.now p.0 p.1 (taken_over a.lag) r.new.0 r.new.1.0 r.auto.0 r.auto.1.0 (r.ensures a.shape.bytes)
+    let a = c.args in
+    let r = c.take_over in
+    let p = c.requires in
+    spot_both a.shape a.place _ _ _ _ c.spot_in-p.ensures.at a.words.now a.bytes.now p.0 p.1 (taken_over a.lag) r.new.words r.new.bytes r.auto.0 r.auto.1.0 (r.ensures a.shape.bytes)
 
 pub take_over_spec : {M : Type 1} → statement M
 take_over_spec =

@@ -4,13 +4,13 @@ use Rattle.active_lag.proofs.Laws.{refuses, pushes}
 use Rattle.active_lag.proofs.ReplicatedLog.queue.Statement.{statement}
 use Rattle.active_lag.proofs.ReplicatedLog.queue.Tie as tie
 
-returns : tie.Need-returns
-returns c = refuses c.before.args.max-lag c.before.args.self c.before.args.last c.if1.true
+returns : tie.Need-returns-then-count-gt-MAX_QUEUED
+returns c = refuses c.args.max_lag c.args.self c.args.last c.if-count-gt-MAX_QUEUED.true
 
-returns-2 : tie.Need-returns-2
+returns-2 : tie.Need-returns
 returns-2 c =
-    let a = c.before.before.before.before.before.args in
-    pushes a.max-lag a.self a.last c.before.drain-front.result.drained c.before.drain-front.result.through c.before.before.pushed.result c.shifted.result (omega arith) c.before.before.pushed.ensures c.before.drain-front.ensures c.shifted.ensures
+    let a = c.args in
+    pushes a.max_lag a.self a.last c.drain_front-d.result.drained c.drain_front-d.result.through c.pushed-queued.result c.shifted-out.result (omega arith) c.pushed-queued.ensures c.drain_front-d.ensures c.shifted-out.ensures
 
 pub queue_spec : {M : Type 1} → statement M
 queue_spec =

@@ -7,7 +7,7 @@ left-requires : tie.Need-left-requires
 left-requires c κs = search rules
 
 returns : tie.Need-returns
-returns c = due_is c.before.before.args.self c.before.before.args.now c.left.result c.left.ensures
+returns c = due_is c.args.self c.args.now c.left.result c.left.ensures
 
 pub is_due_spec : {M : Type 1} → statement M
 is_due_spec = tie.close (tie.spec left-requires returns)

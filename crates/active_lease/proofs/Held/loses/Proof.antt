@@ -6,24 +6,24 @@ use borrow.Author.Rules.{rules}
 use Rattle.active_lease.proofs.Held.loses.Statement.{statement}
 use Rattle.active_lease.proofs.Held.loses.Tie as tie
 
-enum_told : tie.Need-enum-told
+enum_told : tie.Need-enum_told-1
 enum_told c = search rules
 
-enum_told_2 : tie.Need-enum-told-2
+enum_told_2 : tie.Need-enum_told-in-Failed
 enum_told_2 c = search rules
 
-enum_told_3 : tie.Need-enum-told-3
+enum_told_3 : tie.Need-enum_told-in-Deposed
 enum_told_3 c = search rules
 
-returns : tie.Need-returns
+returns : tie.Need-returns-in-Renewed
 returns c = search rules
 
-returns-2 : tie.Need-returns-2
+returns-2 : tie.Need-returns-in-Failed
 returns-2 c =
-    let a = c.before.before.before.args in
-    sym (ap (λ (o : RenewalOutcome). loses a.self.until a.now (outcome_of o)) c.before.enum-told2.given.1)
+    let a = c.args in
+    sym (ap (λ (o : RenewalOutcome). loses a.self.until a.now (outcome_of o)) c.in-Failed.is)
 
-returns-3 : tie.Need-returns-3
+returns-3 : tie.Need-returns-in-Deposed
 returns-3 c = search rules
 
 pub loses_spec : {M : Type 1} → statement M

@@ -6,13 +6,13 @@ use borrow.Author.Rules.{rules}
 use Rattle.active_lease.proofs.Held.new.Statement.{statement}
 use Rattle.active_lease.proofs.Held.new.Tie as tie
 
-end-from-requires : tie.Need-end-from-requires
+end-from-requires : tie.Need-end_from-requires
 end-from-requires c κs = search rules
 
 returns : tie.Need-returns
 returns c =
-    let a = c.before.args in
-    ap (λ (n : ℕ). record { duration = a.duration; until = n; last = a.now; lost = false }) c.end-from.ensures
+    let a = c.args in
+    ap (λ (n : ℕ). record { duration = a.duration; until = n; last = a.now; lost = false }) c.end_from.ensures
 
 pub new_spec : {M : Type 1} → statement M
 new_spec = tie.close (tie.spec end-from-requires returns)

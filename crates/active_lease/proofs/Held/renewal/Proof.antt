@@ -3,27 +3,27 @@ use borrow.Author.Rules.{rules}
 use Rattle.active_lease.proofs.Held.renewal.Statement.{statement}
 use Rattle.active_lease.proofs.Held.renewal.Tie as tie
 
-at-requires : tie.Need-at-requires
+at-requires : tie.Need-at-held-requires
 at-requires c κs = search rules
 
-returns : tie.Need-returns
+returns : tie.Need-returns-then-now-self
 returns c =
-    let a = c.before.before.before.args in
-    asks_early a.self a.now c.at.result c.before.if1.true c.at.ensures
+    let a = c.args in
+    asks_early a.self a.now c.at-held.result c.if-now-self.true c.at-held.ensures
 
-is-due-requires : tie.Need-is-due-requires
+is-due-requires : tie.Need-is_due-requires
 is-due-requires c κs = search rules
 
-byte-of-requires : tie.Need-byte-of-requires
+byte-of-requires : tie.Need-byte_of-due-requires
 byte-of-requires c κs = search rules
 
-at-requires-2 : tie.Need-at-requires-2
+at-requires-2 : tie.Need-at-held-requires-2
 at-requires-2 c κs = search rules
 
-returns-2 : tie.Need-returns-2
+returns-2 : tie.Need-returns
 returns-2 c =
-    let a = c.before.before.before.before.before.args in
-    asks_taken a.self a.now c.before.before.is-due.result c.before.byte_of.result c.at2.result c.before.before.before.if1.false c.before.before.is-due.ensures c.before.byte_of.ensures c.at2.ensures
+    let a = c.args in
+    asks_taken a.self a.now c.is_due.result c.byte_of-due.result c.at-held-2.result c.if-now-self.false c.is_due.ensures c.byte_of-due.ensures c.at-held-2.ensures
 
 pub renewal_spec : {M : Type 1} → statement M
 renewal_spec =

@@ -5,45 +5,45 @@ use Rattle.store_log.proofs.Hash.{Word, word_starts, word_some, word_next, word_
 use Rattle.store_log.proofs.fnv.word.Statement.{statement}
 use Rattle.store_log.proofs.fnv.word.Tie as tie
 
-abbrev invariant-loop : tie.invariant-loop
-invariant-loop h x r₀ y₀ left₀ r y left = Word (fnv h (bytes_of 8 x)) r left y
+abbrev invariant-loop-y : tie.invariant-loop-y
+invariant-loop-y h x r₀ y₀ left₀ r y left = Word (fnv h (bytes_of 8 x)) r left y
 
-abbrev decreases-loop : tie.decreases-loop
-decreases-loop h x r₀ y₀ left₀ r y left = left
+abbrev decreases-loop-y : tie.decreases-loop-y
+decreases-loop-y h x r₀ y₀ left₀ r y left = left
 
-loop-holds : tie.Need-loop-init invariant-loop decreases-loop
+loop-holds : tie.Need-loop-y-init invariant-loop-y decreases-loop-y
 loop-holds c = word_starts c.args.hash c.args.x c.ranges.hash.fits c.ranges.x.fits
 
-step-requires : tie.Need-step-requires invariant-loop decreases-loop
+step-requires : tie.Need-step-r-requires invariant-loop-y decreases-loop-y
 step-requires c κs = tt
 
-sub_left : tie.Need-overflow-sub-left invariant-loop decreases-loop
-sub_left c = omega (arith, word_some _ _ _ _ c.before.before.loop.invariant c.before.loop-test.true)
+sub_left : tie.Need-overflow_sub-left invariant-loop-y decreases-loop-y
+sub_left c = omega (arith, word_some _ _ _ _ c.loop-y.invariant c.loop-y-test.true)
 
-loop-less : tie.Need-loop-smaller invariant-loop decreases-loop
-loop-less c = omega (arith, word_some _ _ _ _ c.before.before.loop.invariant c.before.loop-test.true)
+loop-less : tie.Need-loop-y-smaller invariant-loop-y decreases-loop-y
+loop-less c = omega (arith, word_some _ _ _ _ c.loop-y.invariant c.loop-y-test.true)
 
-loop-again : tie.Need-loop-preserved invariant-loop decreases-loop
-loop-again c = word_next _ _ _ _ _ c.before.before.loop.invariant c.before.loop-test.true c.step.ensures
+loop-again : tie.Need-loop-y-preserved invariant-loop-y decreases-loop-y
+loop-again c = word_next _ _ _ _ _ c.loop-y.invariant c.loop-y-test.true c.step-r.ensures
 
-mul_wrapping_mul : tie.Need-overflow-mul-wrapping-mul invariant-loop decreases-loop
+mul_wrapping_mul : tie.Need-offset_bounds-left invariant-loop-y decreases-loop-y
 mul_wrapping_mul c = omega arith
 
-array_read_wrapping_mul : tie.Need-array-read-wrapping-mul invariant-loop decreases-loop
+array_read_wrapping_mul : tie.Need-bounds-left invariant-loop-y decreases-loop-y
 array_read_wrapping_mul c = omega arith
 
-wrapping-mul-requires : tie.Need-wrapping-mul-requires invariant-loop decreases-loop
+wrapping-mul-requires : tie.Need-wrapping_mul-requires invariant-loop-y decreases-loop-y
 wrapping-mul-requires c κs = tt
 
-returns : tie.Need-returns invariant-loop decreases-loop
-returns c = word_ends _ _ _ _ _ c.before.before.loop.invariant c.before.loop-test.false c.wrapping-mul.ensures
+returns : tie.Need-returns invariant-loop-y decreases-loop-y
+returns c = word_ends _ _ _ _ _ c.loop-y.invariant c.loop-y-test.false c.wrapping_mul.ensures
 
 pub word_spec : {M : Type 1} → statement M
 word_spec =
     tie.close
     (tie.spec
-    invariant-loop
-    decreases-loop
+    invariant-loop-y
+    decreases-loop-y
     loop-holds
     step-requires
     sub_left
