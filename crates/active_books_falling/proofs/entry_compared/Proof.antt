@@ -3,29 +3,29 @@ use Rattle.active_books_area.proofs.Area.{no_flag, flag_is}
 use Rattle.active_books_falling.proofs.entry_compared.Statement.{statement}
 use Rattle.active_books_falling.proofs.entry_compared.Tie as tie
 
-add_if1 : tie.Need-overflow-add-if1
+add_if1 : tie.Need-overflow_add-k
 add_if1 c = search rules
 
-mul_if1 : tie.Need-overflow-mul-if1
+mul_if1 : tie.Need-offset_bounds-words-k
 mul_if1 c = search rules
 
-shared_slice_read_if1 : tie.Need-shared-slice-read-if1
+shared_slice_read_if1 : tie.Need-bounds-words-k
 shared_slice_read_if1 c = search rules
 
-returns : tie.Need-returns
-returns c = no_flag _ _ c.before.before.args.incarnation c.if1.true
+returns : tie.Need-returns-then-words-k-eq0
+returns c = no_flag _ _ c.args.incarnation c.if-words-k-eq0.true
 
-add_result : tie.Need-overflow-add-result
+add_result : tie.Need-overflow_add-result
 add_result c = search rules
 
-mul_result : tie.Need-overflow-mul-result
+mul_result : tie.Need-offset_bounds-words-k-2
 mul_result c = search rules
 
-shared_slice_read_result : tie.Need-shared-slice-read-result
+shared_slice_read_result : tie.Need-bounds-words-k-2
 shared_slice_read_result c = search rules
 
-returns-2 : tie.Need-returns-2
-returns-2 c = flag_is _ _ c.before.before.before.args.incarnation c.before.if1.false
+returns-2 : tie.Need-returns
+returns-2 c = flag_is _ _ c.args.incarnation c.if-words-k-eq0.false
 
 pub entry_compared_spec : {M : Type 1} → statement M
 entry_compared_spec =

@@ -11,59 +11,59 @@ use Prim.Native.Nat.{◌-◌, ◌≤◌}
 use Rattle.active_books_falling.proofs.Falling.{Falls, falls_now, falls_begin, new_in_on, new_not_on, new_fallen}
 use Rattle.active_books_falling.proofs.fallen_new.Tie as tie
 
-abbrev invariant-loop : tie.invariant-loop
-invariant-loop words listing fresh n fallen₀ c d₀ k₀ fallen d k = Falls (falls_now words (listed listing)) (new_at fresh) (list_from (word_at fallen₀ 0) 0 c) c fallen k d × ((k ≤ n) × (length fallen ≡ length fallen₀))
+abbrev invariant-loop-k : tie.invariant-loop-k
+invariant-loop-k words listing fresh n fallen₀ c d₀ k₀ fallen d k = Falls (falls_now words (listed listing)) (new_at fresh) (list_from (word_at fallen₀ 0) 0 c) c fallen k d × ((k ≤ n) × (length fallen ≡ length fallen₀))
 
-abbrev decreases-loop : tie.decreases-loop
-decreases-loop words listing fresh n fallen₀ c d₀ k₀ fallen d k = n - k
+abbrev decreases-loop-k : tie.decreases-loop-k
+decreases-loop-k words listing fresh n fallen₀ c d₀ k₀ fallen d k = n - k
 
-loop-holds : tie.Need-loop-init invariant-loop decreases-loop
-loop-holds c = (falls_begin (falls_now c.before.before.before.before.args.words.now (listed c.before.before.before.before.args.listing.now)) (new_at c.before.before.before.before.args.fresh.now) (list_from (word_at c.before.before.before.before.args.fallen.now 0) 0 c.before.before.before.before.args.c) c.before.before.before.before.args.c c.before.before.before.before.args.fallen.now refl, (omega arith, refl))
+loop-holds : tie.Need-loop-k-init invariant-loop-k decreases-loop-k
+loop-holds c = (falls_begin (falls_now c.args.words.now (listed c.args.listing.now)) (new_at c.args.fresh.now) (list_from (word_at c.args.fallen.now 0) 0 c.args.c) c.args.c c.args.fallen.now refl, (omega arith, refl))
 
-mul_s : tie.Need-overflow-mul-s invariant-loop decreases-loop
+mul_s : tie.Need-offset_bounds-fresh-k invariant-loop-k decreases-loop-k
 mul_s c = omega arith
 
-shared_slice_read_s : tie.Need-shared-slice-read-s invariant-loop decreases-loop
+shared_slice_read_s : tie.Need-bounds-fresh-k invariant-loop-k decreases-loop-k
 shared_slice_read_s c = omega arith
 
-falls-listed-requires : tie.Need-falls-listed-requires invariant-loop decreases-loop
-falls-listed-requires c κs = c.before.before.before.before.before.before.before.requires.0
+falls-listed-requires : tie.Need-falls_listed-requires invariant-loop-k decreases-loop-k
+falls-listed-requires c κs = c.requires.0
 
-mul_fallen : tie.Need-overflow-mul-fallen invariant-loop decreases-loop
-mul_fallen c = omega (arith, c.before.before.before.before.loop.invariant.0.few, c.before.before.before.before.loop.invariant.1.1)
+mul_fallen : tie.Need-offset_bounds-fallen-d invariant-loop-k decreases-loop-k
+mul_fallen c = omega (arith, c.loop-k.invariant.0.few, c.loop-k.invariant.1.1)
 
-slice_write_fallen : tie.Need-slice-write-fallen invariant-loop decreases-loop
-slice_write_fallen c = omega (arith, c.before.before.before.before.loop.invariant.0.few, c.before.before.before.before.loop.invariant.1.1)
+slice_write_fallen : tie.Need-bounds-fallen-d invariant-loop-k decreases-loop-k
+slice_write_fallen c = omega (arith, c.loop-k.invariant.0.few, c.loop-k.invariant.1.1)
 
-add_d : tie.Need-overflow-add-d invariant-loop decreases-loop
-add_d c = omega (arith, c.before.before.before.before.loop.invariant.0.few, c.before.before.before.before.loop.invariant.1.1)
+add_d : tie.Need-overflow_add-d invariant-loop-k decreases-loop-k
+add_d c = omega (arith, c.loop-k.invariant.0.few, c.loop-k.invariant.1.1)
 
-add_k : tie.Need-overflow-add-k invariant-loop decreases-loop
+add_k : tie.Need-overflow_add-k invariant-loop-k decreases-loop-k
 add_k c = omega arith
 
-loop-less : tie.Need-loop-smaller invariant-loop decreases-loop
+loop-less : tie.Need-loop-k-smaller invariant-loop-k decreases-loop-k
 loop-less c = omega arith
 
-loop-again : tie.Need-loop-preserved invariant-loop decreases-loop
+loop-again : tie.Need-loop-k-preserved invariant-loop-k decreases-loop-k
 loop-again c =
     let r = ⊎_elim
-    (λ a. new_in_on c.before.before.before.before.before.before.before.before.before.args.words.now c.before.before.before.before.before.before.before.before.before.args.listing.now c.before.before.before.before.before.before.before.before.before.args.fresh.now (list_from (word_at c.before.before.before.before.before.before.before.before.before.args.fallen.now 0) 0 c.before.before.before.before.before.before.before.before.before.args.c) c.before.before.before.before.before.before.before.before.before.args.c c.before.before.before.before.loop.fallen c.before.before.before.before.loop.k c.before.before.before.before.loop.d c.before.before.before.before.loop.invariant.0 (omega (arith, c.before.before.before.before.loop.invariant.0.few, c.before.before.before.before.loop.invariant.1.1)) c.before.falls-listed.ensures a.0.taken c.before.before.before.before.before.before.before.before.before.args.fallen.now c.if1.fallen c.if1.d c.before.before.before.before.loop.invariant.1.1 a.1 a.2)
-    (λ a. new_not_on c.before.before.before.before.before.before.before.before.before.args.words.now c.before.before.before.before.before.before.before.before.before.args.listing.now c.before.before.before.before.before.before.before.before.before.args.fresh.now (list_from (word_at c.before.before.before.before.before.before.before.before.before.args.fallen.now 0) 0 c.before.before.before.before.before.before.before.before.before.args.c) c.before.before.before.before.before.before.before.before.before.args.c c.before.before.before.before.loop.fallen c.before.before.before.before.loop.k c.before.before.before.before.loop.d c.before.before.before.before.loop.invariant.0 c.before.falls-listed.ensures a.0.left c.before.before.before.before.before.before.before.before.before.args.fallen.now c.if1.fallen c.if1.d c.before.before.before.before.loop.invariant.1.1 a.1 a.2)
-    c.if1.branch in
+    (λ a. new_in_on c.args.words.now c.args.listing.now c.args.fresh.now (list_from (word_at c.args.fallen.now 0) 0 c.args.c) c.args.c c.loop-k.fallen c.loop-k.k c.loop-k.d c.loop-k.invariant.0 (omega (arith, c.loop-k.invariant.0.few, c.loop-k.invariant.1.1)) c.falls_listed.ensures a.if-falls_listed.true c.args.fallen.now c.if-falls_listed.fallen c.if-falls_listed.d c.loop-k.invariant.1.1 a.fallen-is a.d-is)
+    (λ a. new_not_on c.args.words.now c.args.listing.now c.args.fresh.now (list_from (word_at c.args.fallen.now 0) 0 c.args.c) c.args.c c.loop-k.fallen c.loop-k.k c.loop-k.d c.loop-k.invariant.0 c.falls_listed.ensures a.if-falls_listed.false c.args.fallen.now c.if-falls_listed.fallen c.if-falls_listed.d c.loop-k.invariant.1.1 a.fallen-is a.d-is)
+    c.if-falls_listed.branch-raw in
     (r.0, (omega arith, r.1))
 
-same_length : tie.Need-same-length invariant-loop decreases-loop
-same_length c = c.before.loop.invariant.1.1
+same_length : tie.Need-shape_of-fallen invariant-loop-k decreases-loop-k
+same_length c = c.loop-k.invariant.1.1
 
-returns : tie.Need-returns invariant-loop decreases-loop
-returns c = new_fallen c.before.before.before.before.before.before.args.words.now c.before.before.before.before.before.before.args.listing.now c.before.before.before.before.before.before.args.fresh.now c.before.before.before.before.before.before.args.fallen.now c.before.loop.fallen c.before.before.before.before.before.before.args.n c.before.before.before.before.before.before.args.c c.before.loop.k c.before.loop.d c.before.loop.invariant.0 (omega arith) (omega arith)
+returns : tie.Need-returns invariant-loop-k decreases-loop-k
+returns c = new_fallen c.args.words.now c.args.listing.now c.args.fresh.now c.args.fallen.now c.loop-k.fallen c.args.n c.args.c c.loop-k.k c.loop-k.d c.loop-k.invariant.0 (omega arith) (omega arith)
 
 pub fallen_new_spec : {M : Type 1} → statement M
 fallen_new_spec =
     tie.close
     (tie.spec
-    invariant-loop
-    decreases-loop
+    invariant-loop-k
+    decreases-loop-k
     loop-holds
     mul_s
     shared_slice_read_s

@@ -56,8 +56,8 @@ loop-less c = omega arith
 loop-again : tie.Need-loop-j-preserved invariant-loop-j decreases-loop-j
 loop-again c =
     ⊎_elim
-    (λ a. takes_on c.args.words.now c.args.listing.now c.loop-j.fresh c.loop-j.j c.loop-j.k c.loop-j.invariant.0 (omega arith) c.is_known.ensures a.if-not-is_known.true (omega (arith, a.if-n-k-ge-MAX_SESSIONS.false)) c.args.fresh.now c.if-not-is_known.fresh c.if-not-is_known.k c.loop-j.invariant.1 a.fresh-is a.3)
-    (λ a. passes_on c.args.words.now c.args.listing.now c.loop-j.fresh c.loop-j.j c.loop-j.k c.loop-j.invariant.0 (omega arith) c.is_known.ensures a.0.false c.args.fresh.now c.if-not-is_known.fresh c.if-not-is_known.k c.loop-j.invariant.1 a.1 a.2)
+    (λ a. takes_on c.args.words.now c.args.listing.now c.loop-j.fresh c.loop-j.j c.loop-j.k c.loop-j.invariant.0 (omega arith) c.is_known.ensures a.if-not-is_known.true (omega (arith, a.if-n-k-ge-MAX_SESSIONS.false)) c.args.fresh.now c.if-not-is_known.fresh c.if-not-is_known.k c.loop-j.invariant.1 a.fresh-is a.k-is)
+    (λ a. passes_on c.args.words.now c.args.listing.now c.loop-j.fresh c.loop-j.j c.loop-j.k c.loop-j.invariant.0 (omega arith) c.is_known.ensures a.if-not-is_known.false c.args.fresh.now c.if-not-is_known.fresh c.if-not-is_known.k c.loop-j.invariant.1 a.fresh-is a.k-is)
     c.if-not-is_known.branch-raw
 
 same_length_2 : tie.Need-shape_of-fresh invariant-loop-j decreases-loop-j

@@ -4,20 +4,20 @@ use Rattle.active_books_next.proofs.Nexts.{never_compared}
 use Rattle.active_books_next.proofs.was_compared.Statement.{statement}
 use Rattle.active_books_next.proofs.was_compared.Tie as tie
 
-shared_slice_read_n : tie.Need-shared-slice-read-n
+shared_slice_read_n : tie.Need-bounds-words-0
 shared_slice_read_n c = search rules
 
-find-in-requires : tie.Need-find-in-requires
+find-in-requires : tie.Need-find_in-i-requires
 find-in-requires c κs = search rules
 
-is-compared-requires : tie.Need-is-compared-requires
+is-compared-requires : tie.Need-is_compared-requires
 is-compared-requires c κs = search rules
 
-returns : tie.Need-returns
+returns : tie.Need-returns-then-i-n
 returns c = search rules
 
-returns-2 : tie.Need-returns-2
-returns-2 c = never_compared c.before.before.before.before.args.words.now c.before.before.before.before.args.session c.before.find-in.result c.before.before.before.before.args.incarnation c.before.find-in.ensures (omega arith)
+returns-2 : tie.Need-returns
+returns-2 c = never_compared c.args.words.now c.args.session c.find_in-i.result c.args.incarnation c.find_in-i.ensures (omega arith)
 
 pub was_compared_spec : {M : Type 1} → statement M
 was_compared_spec =

@@ -20,14 +20,14 @@ same_length : tie.Need-shape_of-words
 same_length c =
     let a = c.args in
     let r = c.new_session in
-    (opened a.shape a.words.now a.bytes.now c.requires.0 c.requires.1.0 (key_from a.begin.now a.sender.now a.target.now a.suffix.now) _ _ _ _ r.new.words r.new.bytes c.spot_in-p.ensures r.auto.0 r.auto.1.0 (r.ensures a.shape.bytes)).words.same_length
+    (opened a.shape a.words.now a.bytes.now c.requires.0 c.requires.1.0 (key_from a.begin.now a.sender.now a.target.now a.suffix.now) _ _ _ _ r.new.words r.new.bytes c.spot_in-p.ensures r.auto.words r.auto.bytes (r.ensures a.shape.bytes)).words.same_length
     ∙ length-set a.words.now 0 (get_or a.words.now 0 0 + 1)
 
 returns : tie.Need-returns
 returns c =
     let a = c.args in
     let r = c.new_session in
-    opened a.shape a.words.now a.bytes.now c.requires.0 c.requires.1.0 (key_from a.begin.now a.sender.now a.target.now a.suffix.now) _ _ _ _ r.new.words r.new.bytes c.spot_in-p.ensures r.auto.0 r.auto.1.0 (r.ensures a.shape.bytes)
+    opened a.shape a.words.now a.bytes.now c.requires.0 c.requires.1.0 (key_from a.begin.now a.sender.now a.target.now a.suffix.now) _ _ _ _ r.new.words r.new.bytes c.spot_in-p.ensures r.auto.words r.auto.bytes (r.ensures a.shape.bytes)
 
 pub open_spec : {M : Type 1} → statement M
 open_spec =

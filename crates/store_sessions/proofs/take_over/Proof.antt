@@ -9,7 +9,7 @@ returns c =
     let a = c.args in
     let r = c.take_over in
     let p = c.requires in
-    spot_both a.shape a.place _ _ _ _ c.spot_in-p.ensures.at a.words.now a.bytes.now p.0 p.1 (taken_over a.lag) r.new.words r.new.bytes r.auto.0 r.auto.1.0 (r.ensures a.shape.bytes)
+    spot_both a.shape a.place _ _ _ _ c.spot_in-p.ensures.at a.words.now a.bytes.now p.0 p.1 (taken_over a.lag) r.new.words r.new.bytes r.auto.words r.auto.bytes (r.ensures a.shape.bytes)
 
 pub take_over_spec : {M : Type 1} → statement M
 take_over_spec =
