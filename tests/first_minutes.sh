@@ -197,8 +197,8 @@ holds "README counts $all crates" grep -q "^(\`12 of $all " "$root/README.md"
 sed -n '/^    \$ bin\/frames <oracle/,/^$/p' "$root/README.md" | sed -n 's/^    //; /^[0-9R]/p' >"$place/out"
 example
 
-sed -n '/^    crates\/frames\$ rt try/,/^$/p' "$root/README.md" | sed -n '2,$s/^    //p' >"$place/out"
-holds "README shows what the quick look prints" diff "$place/out" <(cd "$root/crates/frames" && rt try 2>&1)
+sed -n '/^    \$ cd crates\/frames && rt try/,/^$/p' "$root/README.md" | sed -n '2,$s/^    //p' >"$place/out"
+holds "README shows what the quick look prints" diff "$place/out" <(cd "$root/crates/frames" && { rt try <stdin | cmp - stdout; } 2>&1)
 
 # A release: refused without a gate that fits, made, unpacked and run without the kit.
 git -C "$copy" init -q
