@@ -184,7 +184,7 @@ run 3 bash -c "bin/frames </"
 said "frames: standard input: Is a directory"
 run 3 bash -c "bin/frames <&-"
 said "frames: standard input: Bad file descriptor"
-run 0 bash -c "crates/frames/out/frames <$list >/dev/full 3>&-"
+run 4 bash -c "crates/frames/out/frames <$list >/dev/full"
 said "frames: standard output: No space left on device"
 run 141 bash -c "set -o pipefail; yes 00 | head -n 400000 | bin/frames | head -n 1 >/dev/null"
 
