@@ -1,12 +1,12 @@
 #!/usr/bin/env bash
 # What a newcomer meets: each message of bin/frames and bin/library and its exit status, what README shows, and a release that is made, unpacked and used. Commands run in a
-# copy without target/ and with a PATH of their own, where a stand-in for `rt` says what the kit says and puts what is proved in place of building it for minutes.
+# copy without target/ and out/ and with a PATH of their own, where a stand-in for `rt` says what the kit says and puts what is proved in place of building it for minutes.
 set -eu
 root=$(dirname "$(dirname "$(readlink -f "$0")")")
 place=$(mktemp -d)
 trap 'rm -rf "$place"' EXIT
 "$root/bin/frames" </dev/null
-program=$root/target/bin/frames
+program=$root/crates/frames/out/frames
 "$root/bin/library" >/dev/null 2>"$place/err" || { cat "$place/err" >&2; exit 1; }
 chmod 755 "$place"
 copy=$place/copy
@@ -37,37 +37,38 @@ said() { holds "it says '$1' and nothing else" [ "$(cat "$place/err")" = "$1" ];
 example() { holds "the example's answer comes" cmp -s "$place/out" "$root/oracle/recorded/frames/01-document.out"; }
 list=oracle/recorded/frames/01-document.in
 
-# The copy: what git has, without target/.
+# The copy: what git has, without target/ and out/.
 mkdir "$copy"
-(cd "$root" && tar -cf - --exclude=./target --exclude=./oracle/target --exclude=./.git .) | tar --no-same-owner -xf - -C "$copy"
+(cd "$root" && tar -cf - --exclude=./target --exclude=./oracle/target --exclude=./crates/*/out --exclude=./.git .) | tar --no-same-owner -xf - -C "$copy"
 
 # The stand-in kit: as many lines a crate as the kit's, and no proof.
 mkdir "$place/kit"
 cat >"$place/kit/rt" <<'RT'
 #!/usr/bin/env bash
+crate=${PWD##*/}
 case $1 in
-check)
-    echo "rt $*" >>"$STAND_IN/calls"
-    names=frames more=
+run)
+    echo "rt $* in $crate" >>"$STAND_IN/calls"
+    names=$crate more=
     while [ "$names" != "$more" ]; do
         more=$names
-        names=$(for name in $names; do echo "$name"; sed -n "s/^$name://p" crates.txt | tr ' ' '\n'; done | grep . | sort -u)
+        names=$(for name in $names; do echo "$name"; sed -n "s/^$name://p" ../../crates.txt | tr ' ' '\n'; done | grep . | sort -u)
     done
     for name in $names; do
-        grep -q "^$name:" crates.txt || continue
-        echo "library $name: modules loaded=347 checked=0"
+        grep -q "^$name:" ../../crates.txt || continue
+        echo "library base_laws: modules loaded=347 checked=0" >&2
+        echo "crate $name: modules loaded=0 checked=60"
         echo "logic=proved functions=7 native=nat,char,string logic-built=trusted" >&2
-        echo "rt: $name proved (1 s)"
         echo "$name" >>"$STAND_IN/names"
     done
-    [ ! -e "$STAND_IN/refuse" ] || { echo "rt: FAILED: frames"; exit 1; }
-    mkdir -p target/bin
-    cp "$STAND_IN/program" target/bin/frames
+    [ ! -e "$STAND_IN/refuse" ] || { echo "logic=not-proved"; exit 1; }
+    mkdir -p out
+    cp "$STAND_IN/program" "out/$crate"
     ;;
-staticlib)
-    [ ! -e "$STAND_IN/refuse" ] || { echo "rt: FAILED: $2"; exit 1; }
-    mkdir -p target/staticlib
-    cp "$STAND_IN/staticlib/lib$2.a" target/staticlib/
+lib)
+    [ ! -e "$STAND_IN/refuse" ] || { echo "rt: the library $crate did not build"; exit 1; }
+    mkdir -p out
+    cp "$STAND_IN/staticlib/lib${crate%_c}.a" "out/lib$crate.a"
     ;;
 esac
 RT
@@ -126,7 +127,7 @@ holds "a refused build says where the kit's words are" [ "$(tail -n 1 "$place/er
 holds "nothing is answered then" [ ! -s "$place/out" ]
 run 1 bin/library
 holds "a refused archive says where the kit's words are" [ "$(tail -n 1 "$place/err")" = "library: the kit could not prove and build it: target/log/staticlib-c_books.out has what it said" ]
-holds "the kit's words are there" grep -qx "rt: FAILED: c_books" "$copy/target/log/staticlib-c_books.out"
+holds "the kit's words are there" grep -qx "rt: the library c_books did not build" "$copy/target/log/staticlib-c_books.out"
 rm -r "$place/refuse" "$place/names" "$copy/target"
 
 # The first build, through a symbolic link from another folder.
@@ -135,7 +136,7 @@ run 0 bash -c "cd / && exec '$place/answers' <'$copy/$list'"
 example
 all=$(wc -l <"$place/names")
 holds "the build is announced and counted, a line a crate" diff - "$place/err" <<SAID
-frames: proving and building $all crates first, about 10 minutes; this happens once
+frames: proving and building $all crates first, which takes long; this happens once
 $(awk -v all="$all" '{ print NR " of " all " " $0 }' "$place/names")
 SAID
 holds "the kit's words are in target/log" grep -q "modules loaded=347" "$copy/target/log/bin-frames.out"
@@ -155,8 +156,8 @@ chmod u+w "$copy"
 touch -d '+1 minute' "$copy/crates/frames/src/main.rt"
 run 1 bin/frames
 said "frames: older than a file of the crates, and the Rattle kit (rt) isn't on the PATH: see README"
-touch "$copy/crates/frames/src/main.rt" "$copy/target/bin/frames"
-touch -d '-1 minute' "$copy/target/bin/frames"
+touch "$copy/crates/frames/src/main.rt" "$copy/crates/frames/out/frames"
+touch -d '-1 minute' "$copy/crates/frames/out/frames"
 path=$place/kit:$tools
 run 0 bash -c "bin/frames <$list"
 example
@@ -183,7 +184,7 @@ run 3 bash -c "bin/frames </"
 said "frames: standard input: Is a directory"
 run 3 bash -c "bin/frames <&-"
 said "frames: standard input: Bad file descriptor"
-run 0 bash -c "target/bin/frames <$list >/dev/full 3>&-"
+run 4 bash -c "crates/frames/out/frames <$list >/dev/full"
 said "frames: standard output: No space left on device"
 run 141 bash -c "set -o pipefail; yes 00 | head -n 400000 | bin/frames | head -n 1 >/dev/null"
 
@@ -196,8 +197,8 @@ holds "README counts $all crates" grep -q "^(\`12 of $all " "$root/README.md"
 sed -n '/^    \$ bin\/frames <oracle/,/^$/p' "$root/README.md" | sed -n 's/^    //; /^[0-9R]/p' >"$place/out"
 example
 
-sed -n '/^    \$ rt try frames/,/^$/p' "$root/README.md" | sed -n '2,$s/^    //p' >"$place/out"
-holds "README shows what the quick look prints" diff "$place/out" <(cd "$root" && rt try frames 2>&1)
+sed -n '/^    \$ cd crates\/frames && rt try/,/^$/p' "$root/README.md" | sed -n '2,$s/^    //p' >"$place/out"
+holds "README shows what the quick look prints" diff "$place/out" <(cd "$root/crates/frames" && { rt try <stdin | cmp - stdout; } 2>&1)
 
 # A release: refused without a gate that fits, made, unpacked and run without the kit.
 git -C "$copy" init -q
@@ -206,7 +207,7 @@ git -C "$copy" -c user.name=test -c user.email=test commit -q -m test
 name=wizhdulet-$(cat "$root/VERSION")-x86_64-linux
 path=$place/kit:$tools
 run 1 bin/release
-said "release: no file of the gate (target/gate.txt): run .ci/run first, some 70 minutes"
+said "release: no file of the gate (target/gate.txt): run .ci/run first"
 commit=$(git -C "$copy" rev-parse HEAD)
 printf '99 passed, 1 failed\ncommit %s\n' "$commit" >"$place/gate"
 run 1 bin/release "$place/gate"

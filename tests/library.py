@@ -35,20 +35,20 @@ def home(name, crate):
     text = source(crate)
     if re.search(rf"^pub struct {name}\b", text, re.M):
         return crate
-    found = re.search(rf"^(?:pub )?use (\w+)::{name};", text, re.M)
-    if not found:
-        sys.exit(f"library.py: {crate} doesn't say where {name} is from")
-    return home(name, found[1])
+    for found, several, one in re.findall(r"^(?:pub )?use (\w+)::(?:\{([^}]*)\}|(\w+));", text, re.M):
+        if name in re.findall(r"\w+", several) + [one]:
+            return home(name, found)
+    sys.exit(f"library.py: {crate} doesn't say where {name} is from")
 
 
 def record(name, crate):
     """The fields of a record, as pairs of name and type; one of a newtype has no name."""
     crate = home(name, crate)
     text = source(crate)
-    newtype = re.search(rf"^#\[repr\(C\)\]\npub struct {name}\(pub (\w+)\);", text, re.M)
+    newtype = re.search(rf"^#\[repr\(C\)\]\n(?:#\[derive\([\w, ]*\)\]\n)?pub struct {name}\(pub (\w+)\);", text, re.M)
     if newtype:
         return crate, [(None, newtype[1])]
-    body = re.search(rf"^#\[repr\(C\)\]\npub struct {name} {{\n(.*?)^}}", text, re.M | re.S)
+    body = re.search(rf"^#\[repr\(C\)\]\n(?:#\[derive\([\w, ]*\)\]\n)?pub struct {name} {{\n(.*?)^}}", text, re.M | re.S)
     if not body:
         sys.exit(f"library.py: {name} of {crate} has no layout for C")
     return crate, re.findall(r"^    pub (\w+): (\w+),", body[1], re.M)
@@ -81,8 +81,8 @@ def exports():
     """Every exported function: its crate, its name in the archive, its parameters and its result."""
     for path in sorted((ROOT / "crates").glob("*/src/*.rt")):
         text = path.read_text()
-        found = re.findall(r'^#\[no_mangle\]\npub extern "C" fn (\w+)\((.*?)\)(?: -> (\w+))?\n', text, re.M | re.S)
-        if len(found) != text.count("#[no_mangle]"):
+        found = re.findall(r'^#\[unsafe\(no_mangle\)\]\npub extern "C" fn (\w+)\((.*?)\)(?: -> (\w+))?\n', text, re.M | re.S)
+        if len(found) != text.count("no_mangle"):
             sys.exit(f"library.py: {path} has an exported function of a form that isn't known")
         for name, parameters, result in found:
             name = "wz_standby_make" if name == "make" else name if name.startswith("wz_") else "wz_" + name

@@ -4,6 +4,7 @@
 # recorded list, built as a user builds it.
 set -eu
 cd "$(dirname "$(readlink -f "$0")")/.."
+mkdir -p target/log
 bin/library target/installed >/dev/null 2>target/log/library.out || { cat target/log/library.out >&2; exit 1; }
 place=$(mktemp -d)
 trap 'rm -rf "$place"' EXIT

@@ -1,6 +1,6 @@
 -- What a list of calls comes to, by the promises of the calls alone. Assumes nothing.
 use mathlib.Core.Path.{◌≡◌, refl, sym, ap, subst, ◌∙◌}
-use mathlib.Core.List.{List, [], ◌∷◌}
+use mathlib.Core.List.{List}
 use Prim.Native.Nat.{ℕ, ◌≤◌}
 use Rattle.model_lease.specs.Lease.{Lease, made}
 use Rattle.model_lease.specs.History.{LeaseCall, run, attempts, Told}

@@ -6,7 +6,6 @@ use Rattle.model_lease.specs.History.{LeaseCall, question, attempted}
 use Rattle.active_lease.specs.declared.Held.{Held}
 use Rattle.active_lease.specs.declared.Asked.{Asked}
 use Rattle.active_lease.specs.declared.Tried.{Tried}
-use Rattle.active_lease.specs.declared.RenewalOutcome
 use Rattle.active_lease.specs.declared.RenewalOutcome.{RenewalOutcome}
 
 -- every content counts as a lease

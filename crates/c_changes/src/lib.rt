@@ -10,8 +10,7 @@ ghost use Rattle.c_store.specs.Total.{session_in, why_no_record, why_no_bare_rec
 use base_refusals::{BAD_MARKS, BAD_TIMESTAMP, NUMBER_NOT_RECORDED, RULES_BROKEN};
 use store_areas::Shape;
 
-#[unsafe(no_mangle)]
-pub extern "C" fn store_set_next_incoming(
+pub fn store_set_next_incoming(
     words: &mut [u64],
     bytes: &[u8],
     shape: Shape,
@@ -30,8 +29,7 @@ pub extern "C" fn store_set_next_incoming(
     0
 }
 
-#[unsafe(no_mangle)]
-pub extern "C" fn store_set_next_incoming_in_flight(
+pub fn store_set_next_incoming_in_flight(
     words: &mut [u64],
     bytes: &[u8],
     shape: Shape,
@@ -51,8 +49,7 @@ pub extern "C" fn store_set_next_incoming_in_flight(
     0
 }
 
-#[unsafe(no_mangle)]
-pub extern "C" fn store_set_in_flight(
+pub fn store_set_in_flight(
     words: &mut [u64],
     bytes: &[u8],
     shape: Shape,
@@ -72,8 +69,7 @@ pub extern "C" fn store_set_in_flight(
 }
 
 // A Record of the next outgoing number with this message; 40 if no number is left.
-#[unsafe(no_mangle)]
-pub extern "C" fn store_record(
+pub fn store_record(
     words: &mut [u64],
     bytes: &mut [u8],
     shape: Shape,
@@ -106,8 +102,7 @@ pub extern "C" fn store_record(
 }
 
 // A Record without message; 40 for a number below the next outgoing one or 2^64 - 1.
-#[unsafe(no_mangle)]
-pub extern "C" fn store_record_none(
+pub fn store_record_none(
     words: &mut [u64],
     bytes: &[u8],
     shape: Shape,
@@ -133,8 +128,7 @@ pub extern "C" fn store_record_none(
     0
 }
 
-#[unsafe(no_mangle)]
-pub extern "C" fn store_reset(words: &mut [u64], bytes: &[u8], shape: Shape, place: usize) -> u8
+pub fn store_reset(words: &mut [u64], bytes: &[u8], shape: Shape, place: usize) -> u8
     ensures { ChangeIs shape place 0 (changed shape.bytes shape.messages (reset ∷ [])) words.old words.new bytes.now bytes.now result }
 {
     if !store_areas::in_use(words, bytes, shape, place) {
@@ -149,8 +143,7 @@ pub extern "C" fn store_reset(words: &mut [u64], bytes: &[u8], shape: Shape, pla
 }
 
 // 6 for what is no stamp.
-#[unsafe(no_mangle)]
-pub extern "C" fn store_set_created_at(
+pub fn store_set_created_at(
     words: &mut [u64],
     bytes: &mut [u8],
     shape: Shape,
@@ -179,8 +172,7 @@ pub extern "C" fn store_set_created_at(
 }
 
 // 7 for what are no marks.
-#[unsafe(no_mangle)]
-pub extern "C" fn store_set_marks(
+pub fn store_set_marks(
     words: &mut [u64],
     bytes: &mut [u8],
     shape: Shape,

@@ -18,8 +18,7 @@ pub struct Built {
 }
 
 // Builds the session of a key from a file of sent messages, as `store_import::import` does.
-#[unsafe(no_mangle)]
-pub extern "C" fn wz_import(
+pub fn wz_import(
     words: &mut [u64],
     bytes: &mut [u8],
     begin: &[u8],

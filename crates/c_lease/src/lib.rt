@@ -61,8 +61,7 @@ fn held_in(lease: &[u64; 4]) -> Held
 }
 
 // Makes the lease, just taken.
-#[unsafe(no_mangle)]
-pub extern "C" fn wz_lease_new(lease: &mut [u64; 4], duration: u64, time: u64)
+pub fn wz_lease_new(lease: &mut [u64; 4], duration: u64, time: u64)
     ensures { lease_in lease.new ≡ made duration time }
 {
     let held = Held::new(duration, time);
@@ -70,8 +69,7 @@ pub extern "C" fn wz_lease_new(lease: &mut [u64; 4], duration: u64, time: u64)
 }
 
 // Whether a renewal is due.
-#[unsafe(no_mangle)]
-pub extern "C" fn wz_lease_renewal(lease: &mut [u64; 4], time: u64) -> Due
+pub fn wz_lease_renewal(lease: &mut [u64; 4], time: u64) -> Due
     ensures { AsksIn lease.old time result lease.new }
 {
     let duration = lease[word::DURATION];
@@ -93,8 +91,7 @@ fn flag_after(word: u64, lost: u8) -> u64
 }
 
 // An attempt to renew that started at one time, and whose outcome came at another; 31 as above, else 0.
-#[unsafe(no_mangle)]
-pub extern "C" fn wz_lease_attempt(lease: &mut [u64; 4], started: u64, time: u64, outcome: u8) -> u8
+pub fn wz_lease_attempt(lease: &mut [u64; 4], started: u64, time: u64, outcome: u8) -> u8
     ensures { TriesIn lease.old (attempt_at started time outcome) result lease.new }
 {
     let duration = lease[word::DURATION];

@@ -21,8 +21,7 @@ pub struct StoreAnswer {
 }
 
 // Makes a store without sessions.
-#[unsafe(no_mangle)]
-pub extern "C" fn store_make(words: &mut [u64], bytes: &[u8], shape: Shape) -> u8
+pub fn store_make(words: &mut [u64], bytes: &[u8], shape: Shape) -> u8
     ensures { MadeIs shape words.old words.new bytes.now result }
 {
     match store_areas::make(shape, words, bytes) {
@@ -32,8 +31,7 @@ pub extern "C" fn store_make(words: &mut [u64], bytes: &[u8], shape: Shape) -> u
 }
 
 // Opens the session of a key if it has none, and answers its place: 5 for what is no key, 20 where every place is taken.
-#[unsafe(no_mangle)]
-pub extern "C" fn store_open(
+pub fn store_open(
     words: &mut [u64],
     bytes: &mut [u8],
     shape: Shape,
@@ -78,13 +76,7 @@ pub extern "C" fn store_open(
 
 // ---- reading
 
-#[unsafe(no_mangle)]
-pub extern "C" fn store_next_outgoing(
-    words: &[u64],
-    bytes: &[u8],
-    shape: Shape,
-    place: usize,
-) -> StoreAnswer
+pub fn store_next_outgoing(words: &[u64], bytes: &[u8], shape: Shape, place: usize) -> StoreAnswer
     ensures { Reads shape words.now bytes.now place (λ x. x.next_out) result }
 {
     if !store_areas::in_use(words, bytes, shape, place) {
@@ -98,8 +90,7 @@ pub extern "C" fn store_next_outgoing(
 }
 
 // The hash of the newest n numbers' messages.
-#[unsafe(no_mangle)]
-pub extern "C" fn store_last_outgoing(
+pub fn store_last_outgoing(
     words: &[u64],
     bytes: &[u8],
     shape: Shape,
@@ -119,13 +110,7 @@ pub extern "C" fn store_last_outgoing(
 }
 
 // How many messages are stored: every stored number is from 1.
-#[unsafe(no_mangle)]
-pub extern "C" fn store_count(
-    words: &[u64],
-    bytes: &[u8],
-    shape: Shape,
-    place: usize,
-) -> StoreAnswer
+pub fn store_count(words: &[u64], bytes: &[u8], shape: Shape, place: usize) -> StoreAnswer
     ensures { Reads shape words.now bytes.now place (λ x. length (numbered_from 1 x.messages)) result }
 {
     if !store_areas::in_use(words, bytes, shape, place) {
@@ -143,13 +128,7 @@ pub extern "C" fn store_count(
 
 // ---- the durable mark, promotion: 0, or a refusal
 
-#[unsafe(no_mangle)]
-pub extern "C" fn store_mark_durable(
-    words: &mut [u64],
-    bytes: &[u8],
-    shape: Shape,
-    place: usize,
-) -> u8
+pub fn store_mark_durable(words: &mut [u64], bytes: &[u8], shape: Shape, place: usize) -> u8
     ensures { ChangeIs shape place 0 mark_durable words.old words.new bytes.now bytes.now result }
 {
     if !store_areas::in_use(words, bytes, shape, place) {
@@ -160,8 +139,7 @@ pub extern "C" fn store_mark_durable(
 }
 
 // Promotion's work on one session.
-#[unsafe(no_mangle)]
-pub extern "C" fn store_take_over(
+pub fn store_take_over(
     words: &mut [u64],
     bytes: &mut [u8],
     shape: Shape,
@@ -178,8 +156,7 @@ pub extern "C" fn store_take_over(
 }
 
 // FNV-1a over bytes, on from h.
-#[unsafe(no_mangle)]
-pub extern "C" fn store_fnv(hash: u64, s: &[u8]) -> u64
+pub fn store_fnv(hash: u64, s: &[u8]) -> u64
     ensures { result ≡ fnv hash s.now }
 {
     store_log::fnv::bytes(hash, s)

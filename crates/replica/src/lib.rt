@@ -1,4 +1,4 @@
-// The standby's calls over the lent counters, the lent row of handles, the store's two areas and the hold areas (standby.rs, `Replica`).
+// The standby's calls over the lent counters, the lent row of handles, the store's two areas and the hold areas (standby.rs, `Replica`); `replica_c` has them for C.
 #![tactic(auto)]
 
 ghost use Rattle.std.specs.Prelude.{◌≡◌, max, get_or};
@@ -51,8 +51,7 @@ fn on_call(
 }
 
 // A frame that may be held back: its answer is sent once the pending commits have run.
-#[unsafe(no_mangle)]
-pub extern "C" fn on_frame_held(
+pub fn on_frame_held(
     counters: &mut Replica,
     row: &mut [Bound],
     words: &mut [u64],
@@ -71,8 +70,7 @@ pub extern "C" fn on_frame_held(
 }
 
 // A frame, and then the pending commits.
-#[unsafe(no_mangle)]
-pub extern "C" fn on_frame(
+pub fn on_frame(
     counters: &mut Replica,
     row: &mut [Bound],
     words: &mut [u64],
@@ -91,8 +89,7 @@ pub extern "C" fn on_frame(
 }
 
 // Runs the pending commits of a connection.
-#[unsafe(no_mangle)]
-pub extern "C" fn flush(
+pub fn flush(
     counters: &mut Replica,
     row: &mut [Bound],
     words: &mut [u64],
@@ -111,8 +108,7 @@ pub extern "C" fn flush(
 }
 
 // The connection is gone: with it go the bindings and the pending commits.
-#[unsafe(no_mangle)]
-pub extern "C" fn disconnected_from(
+pub fn disconnected_from(
     counters: &mut Replica,
     row: &mut [Bound],
     words: &mut [u64],
@@ -131,8 +127,7 @@ pub extern "C" fn disconnected_from(
 }
 
 // Promotes a standby that was checked.
-#[unsafe(no_mangle)]
-pub extern "C" fn promote(
+pub fn promote(
     counters: &mut Replica,
     row: &mut [Bound],
     words: &mut [u64],
@@ -150,8 +145,7 @@ pub extern "C" fn promote(
 }
 
 // Promotes a standby, checked or not.
-#[unsafe(no_mangle)]
-pub extern "C" fn promote_unchecked(
+pub fn promote_unchecked(
     counters: &mut Replica,
     row: &mut [Bound],
     words: &mut [u64],
@@ -197,8 +191,7 @@ fn made(
 }
 
 // Makes a standby over a store: new counters, no pending commit, every record of the row freed.
-#[unsafe(no_mangle)]
-pub extern "C" fn make(
+pub fn make(
     counters: &mut Replica,
     row: &mut [Bound],
     words: &mut [u64],
