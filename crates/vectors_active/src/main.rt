@@ -101,7 +101,7 @@ fn sending(
     let long = out.len();
     match letter {
         b'w' => vectors_sendings::whole(
- rt,
+            rt,
             words,
             bytes,
             shape,
@@ -115,7 +115,7 @@ fn sending(
         b'v' => {
             let short = vectors_script::field(line, 3) as usize;
             vectors_sendings::whole(
- rt,
+                rt,
                 words,
                 bytes,
                 shape,
@@ -133,7 +133,14 @@ fn sending(
 }
 
 // One command: what it leaves as the store's shape and the place.
-fn command(rt: &impl Print, line: &[u8], words: &mut [u64], bytes: &mut [u8], out: &mut [u8], at: At) -> io::Result<At> {
+fn command(
+    rt: &impl Print,
+    line: &[u8],
+    words: &mut [u64],
+    bytes: &mut [u8],
+    out: &mut [u8],
+    at: At,
+) -> io::Result<At> {
     let letter = if line.len() == 0 { 0 } else { line[0] };
     let shape = at.shape;
     let i = at.place;
@@ -171,7 +178,13 @@ fn command(rt: &impl Print, line: &[u8], words: &mut [u64], bytes: &mut [u8], ou
 }
 
 // The lines of a script, one after the other.
-fn run(rt: &impl Print, script: &[u8], words: &mut [u64], bytes: &mut [u8], out: &mut [u8]) -> io::Result<()> {
+fn run(
+    rt: &impl Print,
+    script: &[u8],
+    words: &mut [u64],
+    bytes: &mut [u8],
+    out: &mut [u8],
+) -> io::Result<()> {
     let mut now = At {
         shape: Shape {
             places: 0,

@@ -89,21 +89,30 @@ fn read_numbers(line: &[u8], k: u32, numbers: &mut [u64]) -> usize
 fn all(rt: &impl Print, words: &mut [u64], line: &[u8]) -> io::Result<()> {
     let mut numbers = [0u64; 600];
     let n = read_numbers(line, 1, &mut numbers);
-    put_answer(rt, active_books_pass::all_fall_behind(words, &numbers[0..n]))
+    put_answer(
+        rt,
+        active_books_pass::all_fall_behind(words, &numbers[0..n]),
+    )
 }
 
 fn next(rt: &impl Print, words: &mut [u64], line: &[u8]) -> io::Result<()> {
     let mut numbers = [0u64; 600];
     let n = read_numbers(line, 2, &mut numbers);
     let incarnation = Incarnation(field(line, 1));
-    put_answer(rt, active_books_pass::next_to_catch_up(words, &numbers[0..n], incarnation))
+    put_answer(
+        rt,
+        active_books_pass::next_to_catch_up(words, &numbers[0..n], incarnation),
+    )
 }
 
 fn check(rt: &impl Print, words: &mut [u64], line: &[u8]) -> io::Result<()> {
     let mut numbers = [0u64; 600];
     let n = read_numbers(line, 2, &mut numbers);
     let incarnation = Incarnation(field(line, 1));
-    put_answer(rt, active_books_pass::all_compared(words, &numbers[0..n], incarnation))
+    put_answer(
+        rt,
+        active_books_pass::all_compared(words, &numbers[0..n], incarnation),
+    )
 }
 
 // A call whose name begins with c: `check`, `close` or `compared`.
@@ -114,7 +123,10 @@ fn call_c(rt: &impl Print, words: &mut [u64], line: &[u8], second: u8) -> io::Re
     if second == b'l' {
         return put_answer(rt, active_books::closed(words, field(line, 1)));
     }
-    put_answer(rt, active_books::caught_up(words, field(line, 1), Incarnation(field(line, 2))))
+    put_answer(
+        rt,
+        active_books::caught_up(words, field(line, 1), Incarnation(field(line, 2))),
+    )
 }
 
 // A call whose name begins with a: `all` or `acked`.
@@ -122,7 +134,10 @@ fn call_a(rt: &impl Print, words: &mut [u64], line: &[u8], second: u8) -> io::Re
     if second == b'l' {
         return all(rt, words, line);
     }
-    put_answer(rt, active_books::acknowledged(words, Incarnation(field(line, 1))))
+    put_answer(
+        rt,
+        active_books::acknowledged(words, Incarnation(field(line, 1))),
+    )
 }
 
 // `behind`, `open`, `is` or `ended`.
@@ -137,7 +152,10 @@ fn call_one(rt: &impl Print, words: &mut [u64], line: &[u8], first: u8) -> io::R
     if first == b'i' {
         return put_answer(rt, active_books::is_behind(words, session));
     }
-    put_answer(rt, active_books::ended(words, session, Incarnation(field(line, 2))))
+    put_answer(
+        rt,
+        active_books::ended(words, session, Incarnation(field(line, 2))),
+    )
 }
 
 // `make`, `word`, `pass`, or a call on one session.
@@ -151,7 +169,10 @@ fn call_other(rt: &impl Print, words: &mut [u64], line: &[u8], first: u8) -> io:
     }
     if first == b'p' {
         let incarnation = Incarnation(field(line, 1));
-        return put_answer(rt, active_books_pass::behind_unless_compared_open(words, incarnation));
+        return put_answer(
+            rt,
+            active_books_pass::behind_unless_compared_open(words, incarnation),
+        );
     }
     call_one(rt, words, line, first)
 }
@@ -191,7 +212,13 @@ fn lent_after(line: &[u8], lent: u64) -> u64 {
 }
 
 // A line on the area that is lent.
-fn replay_on(rt: &impl Print, words: &mut [u64], short: &mut [u64], line: &[u8], lent: u64) -> io::Result<()> {
+fn replay_on(
+    rt: &impl Print,
+    words: &mut [u64],
+    short: &mut [u64],
+    line: &[u8],
+    lent: u64,
+) -> io::Result<()> {
     if line.len() == 0 {
         return Ok(());
     }

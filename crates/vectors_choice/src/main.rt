@@ -85,7 +85,10 @@ fn choose(rt: &impl Print, line: &[u8]) -> io::Result<()> {
     let mut b4 = [0; 672];
     let fifth = copy(line, 40, &mut w4, &mut b4);
     let cs = Copies(first, second, third, fourth, fifth);
-    put(rt, decide(cs, &w0, &b0, &w1, &b1, &w2, &b2, &w3, &b3, &w4, &b4))
+    put(
+        rt,
+        decide(cs, &w0, &b0, &w1, &b1, &w2, &b2, &w3, &b3, &w4, &b4),
+    )
 }
 
 // The lines of a script, one after the other.

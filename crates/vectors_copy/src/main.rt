@@ -309,13 +309,7 @@ fn command(
     let a = hash(words_start, bytes_start, shape);
     match letter {
         b'n' => Ok(make(line, words_start, bytes_start, wb, bb)),
-        b'w' => Ok(begin(
-            line,
-            words_start,
-            bytes_start,
-            w,
-            hash(wb, bb, shape),
-        )),
+        b'w' => Ok(begin(line, words_start, bytes_start, w, hash(wb, bb, shape))),
         b'f' => take(rt, words_start, bytes_start, out, w),
         b'h' => {
             if line.len() < 2 {
@@ -327,7 +321,7 @@ fn command(
         b'x' => {
             let n = (vectors_script::field(line, 1) % 256) as u8;
             hand_with(
- rt,
+                rt,
                 vectors_script::field(line, 0) as usize,
                 n,
                 out,
@@ -367,7 +361,7 @@ fn run(
         let end = vectors_script::line_end(script, from);
         at = end + 1;
         now = command(
- rt,
+            rt,
             &script[from..end],
             words_start,
             bytes_start,
@@ -405,7 +399,8 @@ fn main(rt: HostRuntime) -> io::Result<()> {
     let mut holds = [0u8; 4_200_000];
     let mut out = [0u8; 1_050_000];
     run_in(
-        &rt, &script[..n],
+        &rt,
+        &script[..n],
         &mut words_start,
         &mut bytes_start,
         &mut wb,

@@ -75,7 +75,14 @@ fn hash_areas(words: &[u64], bytes: &[u8]) -> u64 {
 }
 
 // The answer of an import; of the new session next outgoing, its messages, and the hash over all of them.
-fn put_answer(rt: &impl Print, words: &[u64], bytes: &[u8], shape: Shape, r: Built, kept: bool) -> io::Result<()> {
+fn put_answer(
+    rt: &impl Print,
+    words: &[u64],
+    bytes: &[u8],
+    shape: Shape,
+    r: Built,
+    kept: bool,
+) -> io::Result<()> {
     let refusal = r.refusal as u64;
     let place = r.place;
     if refusal != 0 {
@@ -90,17 +97,17 @@ fn put_answer(rt: &impl Print, words: &[u64], bytes: &[u8], shape: Shape, r: Bui
     }
     put_number(rt, b"place=", place as u64)?;
     put_number(
- rt,
+        rt,
         b" out=",
         c_store::store_next_outgoing(words, bytes, shape, place).value,
     )?;
     put_number(
- rt,
+        rt,
         b" count=",
         c_store::store_count(words, bytes, shape, place).value,
     )?;
     put_number(
- rt,
+        rt,
         b" hash=",
         c_store::store_last_outgoing(words, bytes, shape, place, u64::MAX).value,
     )?;
@@ -122,7 +129,14 @@ fn sender_of(key: u64) -> u8 {
 }
 
 // An import under one of four keys, of which the last is none.
-fn import(rt: &impl Print, words: &mut [u64], bytes: &mut [u8], shape: Shape, key: u64, file: &[u8]) -> io::Result<()> {
+fn import(
+    rt: &impl Print,
+    words: &mut [u64],
+    bytes: &mut [u8],
+    shape: Shape,
+    key: u64,
+    file: &[u8],
+) -> io::Result<()> {
     let before = hash_areas(words, bytes);
     let sender = [sender_of(key)];
     let r = c_import::wz_import(
@@ -153,11 +167,18 @@ fn make(line: &[u8], words: &mut [u64], bytes: &[u8]) -> Shape {
 }
 
 // An import of the file's first bytes.
-fn import_part(rt: &impl Print, line: &[u8], words: &mut [u64], bytes: &mut [u8], shape: Shape, file: &[u8]) -> io::Result<()> {
+fn import_part(
+    rt: &impl Print,
+    line: &[u8],
+    words: &mut [u64],
+    bytes: &mut [u8],
+    shape: Shape,
+    file: &[u8],
+) -> io::Result<()> {
     let len = vectors_script::field(line, 1) as usize;
     if len <= file.len() {
         import(
- rt,
+            rt,
             words,
             bytes,
             shape,
@@ -176,7 +197,14 @@ struct State {
 }
 
 // One command.
-fn command(rt: &impl Print, line: &[u8], words: &mut [u64], bytes: &mut [u8], file: &mut [u8], s: State) -> io::Result<State> {
+fn command(
+    rt: &impl Print,
+    line: &[u8],
+    words: &mut [u64],
+    bytes: &mut [u8],
+    file: &mut [u8],
+    s: State,
+) -> io::Result<State> {
     let letter = if line.len() == 0 { 0 } else { line[0] };
     let shape = s.shape;
     let len = s.len;
@@ -206,7 +234,13 @@ fn command(rt: &impl Print, line: &[u8], words: &mut [u64], bytes: &mut [u8], fi
 }
 
 // The lines of a script, one after the other.
-fn run(rt: &impl Print, script: &[u8], words: &mut [u64], bytes: &mut [u8], file: &mut [u8]) -> io::Result<()> {
+fn run(
+    rt: &impl Print,
+    script: &[u8],
+    words: &mut [u64],
+    bytes: &mut [u8],
+    file: &mut [u8],
+) -> io::Result<()> {
     let mut s = State {
         shape: Shape {
             places: 0,

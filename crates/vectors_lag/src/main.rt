@@ -16,7 +16,13 @@ fn put_number(rt: &impl Print, name: &[u8], n: u64) -> io::Result<()> {
 }
 
 // The numbers that went: the first of those that waited, and then the one pushed.
-fn put_gone(rt: &impl Print, waiting: [u64; ReplicatedLog::MAX_QUEUED + 1], count: usize, last: u64, gone: usize) -> io::Result<()> {
+fn put_gone(
+    rt: &impl Print,
+    waiting: [u64; ReplicatedLog::MAX_QUEUED + 1],
+    count: usize,
+    last: u64,
+    gone: usize,
+) -> io::Result<()> {
     let mut i: usize = 0;
     while i < gone {
         if 0 < i {
@@ -53,7 +59,13 @@ fn push(rt: &impl Print, q: ReplicatedLog, last: u64, max_lag: u64) -> io::Resul
 }
 
 // A push for each number of the line from `at` on.
-fn series(rt: &impl Print, line: &[u8], at: usize, q: ReplicatedLog, max_lag: u64) -> io::Result<()> {
+fn series(
+    rt: &impl Print,
+    line: &[u8],
+    at: usize,
+    q: ReplicatedLog,
+    max_lag: u64,
+) -> io::Result<()> {
     let mut q = q;
     let mut at = at;
     while at < line.len() {
@@ -70,7 +82,7 @@ fn queue(rt: &impl Print, line: &[u8]) -> io::Result<()> {
     let letter = if line.len() == 0 { 0 } else { line[0] };
     if letter == b'Q' {
         return series(
- rt,
+            rt,
             line,
             vectors_script::start(line, 2),
             ReplicatedLog::new(drained),

@@ -69,7 +69,7 @@ fn call(rt: &impl Print, line: &[u8], lease: &mut [u64; 4]) -> io::Result<()> {
             let time = vectors_script::number_at(line, third);
             let refusal = c_lease::wz_lease_attempt(lease, n, time, outcome(letter(line, fourth)));
             put_tried(
- rt,
+                rt,
                 refusal,
                 lease[c_lease::word::UNTIL],
                 lease[c_lease::word::LOST],

@@ -75,18 +75,18 @@ fn call(rt: &impl Print, words: &mut [u64], line: &[u8], first: u8, second: u8) 
         let member = field(line, 1) as usize;
         let number = CommitNumber(field(line, 3));
         return put_answer(
- rt,active_quorum::acknowledged(
-            words,
-            member,
-            vectors_script::low(field(line, 2)),
-            number,
-        ));
+            rt,
+            active_quorum::acknowledged(words, member, vectors_script::low(field(line, 2)), number),
+        );
     }
     if second == b'e' {
         let number = CommitNumber(field(line, 2));
         return put_answer(rt, active_quorum::sent(words, handle, number));
     }
-    put_answer(rt, active_quorum::stale_epoch(words, field(line, 1) as usize))
+    put_answer(
+        rt,
+        active_quorum::stale_epoch(words, field(line, 1) as usize),
+    )
 }
 
 // A line on one area.
@@ -118,7 +118,13 @@ fn lent_after(line: &[u8], lent: u64) -> u64 {
 }
 
 // A line on the area that is lent.
-fn replay_on(rt: &impl Print, words: &mut [u64], short: &mut [u64], line: &[u8], lent: u64) -> io::Result<()> {
+fn replay_on(
+    rt: &impl Print,
+    words: &mut [u64],
+    short: &mut [u64],
+    line: &[u8],
+    lent: u64,
+) -> io::Result<()> {
     if line.len() == 0 {
         return Ok(());
     }

@@ -48,7 +48,7 @@ fn put_entries(rt: &impl Print, bytes: &[u8], entries: &[u64], count: usize) -> 
             return Ok(());
         }
         put_entry(
- rt,
+            rt,
             bytes,
             [
                 entries[at],
@@ -77,7 +77,12 @@ fn are_kept(entries: &[u64], from: usize) -> bool {
 }
 
 // The answer to a request, and whether what isn't the list's is as it was lent.
-fn put_answer(rt: &impl Print, bytes: &[u8], entries: &[u64], r: store_resend::Listed) -> io::Result<()> {
+fn put_answer(
+    rt: &impl Print,
+    bytes: &[u8],
+    entries: &[u64],
+    r: store_resend::Listed,
+) -> io::Result<()> {
     if r.refusal != 0 {
         put_number(rt, b"R ", r.refusal as u64)?;
     } else {
@@ -212,7 +217,7 @@ fn run(
     while at < script.len() {
         let end = vectors_script::line_end(script, at);
         shape = command(
- rt,
+            rt,
             &script[at..end],
             words,
             bytes,
@@ -235,7 +240,8 @@ fn main(rt: HostRuntime) -> io::Result<()> {
     let mut numbers = [0u64; 132];
     let mut entries = [0u64; 432];
     run(
-        &rt, &script[..n],
+        &rt,
+        &script[..n],
         &mut words,
         &mut bytes,
         &mut room,

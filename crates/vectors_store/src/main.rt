@@ -91,7 +91,15 @@ fn record_many(words: &mut [u64], bytes: &mut [u8], shape: Shape, len: usize, co
 }
 
 // A message's number, length and hash.
-fn put_message(rt: &impl Print, bytes: &[u8], number: u64, at: usize, first: usize, again: usize, rest: usize) -> io::Result<()>
+fn put_message(
+    rt: &impl Print,
+    bytes: &[u8],
+    number: u64,
+    at: usize,
+    first: usize,
+    again: usize,
+    rest: usize,
+) -> io::Result<()>
     requires first_in_bounds { at + first ≤ length bytes.now }
     requires rest_in_bounds { again + rest ≤ length bytes.now }
 {
@@ -118,7 +126,7 @@ fn list(rt: &impl Print, words: &[u64], bytes: &[u8], shape: Shape) -> io::Resul
         while 0 < left {
             let m = store_sessions::message_at(words, bytes, shape, 0, left, dist);
             put_message(
- rt,
+                rt,
                 bytes,
                 m.number,
                 m.first_at,
@@ -153,7 +161,13 @@ fn record_none(words: &mut [u64], bytes: &mut [u8], shape: Shape, skip: u32) {
     c_changes::store_record_none(words, bytes, shape, 0, seq);
 }
 
-fn put_last_outgoing(rt: &impl Print, words: &[u64], bytes: &[u8], shape: Shape, n: u32) -> io::Result<()> {
+fn put_last_outgoing(
+    rt: &impl Print,
+    words: &[u64],
+    bytes: &[u8],
+    shape: Shape,
+    n: u32,
+) -> io::Result<()> {
     let hash = c_store::store_last_outgoing(words, bytes, shape, 0, n as u64);
     put_hash(rt, hash.value)?;
     put_text(rt, b"\n")
@@ -169,7 +183,13 @@ fn put_text_hash(rt: &impl Print, line: &[u8]) -> io::Result<()> {
 }
 
 // One command.
-fn command(rt: &impl Print, line: &[u8], words: &mut [u64], bytes: &mut [u8], shape: Shape) -> io::Result<Shape> {
+fn command(
+    rt: &impl Print,
+    line: &[u8],
+    words: &mut [u64],
+    bytes: &mut [u8],
+    shape: Shape,
+) -> io::Result<Shape> {
     if line.len() == 0 {
         return Ok(shape);
     }
