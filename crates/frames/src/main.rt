@@ -1,7 +1,7 @@
 // Answers replication frames, one line of lower-case hexadecimal digits each, with the answer in the same form or `R` and the refusal. One new
 // standby answers them all: incarnation 7, lag 0, C 4,096, M 64, four sessions, four handles, hold areas of 5,626 bytes.
 // The answers to the lines that one read brings are written together. A failing read or write is said on standard error and ends the run; the
-// program's exit status is then 3 or 4.
+// program's exit status is then 3 or 4; where nobody reads the answers any more it is 141, and nothing is said.
 #![tactic(auto)]
 
 ghost use Rattle.std.specs.Prelude.{◌≡◌, ◌≤◌, IfOk, length};
@@ -9,7 +9,7 @@ ghost use Rattle.std.specs.Prelude.{◌≡◌, ◌≤◌, IfOk, length};
 use standby_row::Bound;
 use standby_state::Replica;
 use std::io;
-use std::io::Read;
+use std::io::{ErrorKind, Read};
 use std::process::ExitCode;
 use store_areas::Made;
 
@@ -17,6 +17,9 @@ use store_areas::Made;
 const INPUT_FAILED: u8 = 3;
 
 const OUTPUT_FAILED: u8 = 4;
+
+// The status where nobody reads the answers any more: what a shell shows of a program that SIGPIPE ends.
+const OUTPUT_CLOSED: u8 = 141;
 
 // The read or the write that failed.
 #[derive(Drop)]
@@ -283,7 +286,7 @@ fn say(rt: &(impl Eprint + AllocGlobal), what: &str, error: io::Error) -> io::Re
     }
 }
 
-// Says what failed, where standard error takes it: the exit status.
+// Says what failed, where standard error takes it: the exit status. Of answers that nobody reads nothing is said.
 fn told(rt: &(impl Eprint + AllocGlobal), failure: Failure) -> ExitCode {
     match failure {
         Failure::Input(e) => {
@@ -291,6 +294,9 @@ fn told(rt: &(impl Eprint + AllocGlobal), failure: Failure) -> ExitCode {
             ExitCode::from(INPUT_FAILED)
         }
         Failure::Output(e) => {
+            if matches!(e.kind(), ErrorKind::BrokenPipe) {
+                return ExitCode::from(OUTPUT_CLOSED);
+            }
             let _ = say(rt, "standard output", e);
             ExitCode::from(OUTPUT_FAILED)
         }
