@@ -7,7 +7,7 @@
 // `x LAST FROM` a call with a state that no beginning gave.
 #![tactic(auto)]
 
-use libc::STDIN_FILENO;
+use std::io;
 use store_areas::Shape;
 
 // The store's shape and the place that commands are about.
@@ -86,6 +86,7 @@ fn text(letter: u8, line: &[u8], words: &mut [u64], bytes: &mut [u8], shape: Sha
 
 // A sending.
 fn sending(
+    rt: &impl Print,
     letter: u8,
     line: &[u8],
     words: &[u64],
@@ -93,13 +94,14 @@ fn sending(
     shape: Shape,
     place: usize,
     out: &mut [u8],
-) {
+) -> io::Result<()> {
     let a = vectors_script::field(line, 0);
     let b = vectors_script::field(line, 1);
     let c = vectors_script::field(line, 2);
     let long = out.len();
     match letter {
         b'w' => vectors_sendings::whole(
+            rt,
             words,
             bytes,
             shape,
@@ -113,6 +115,7 @@ fn sending(
         b'v' => {
             let short = vectors_script::field(line, 3) as usize;
             vectors_sendings::whole(
+                rt,
                 words,
                 bytes,
                 shape,
@@ -124,23 +127,30 @@ fn sending(
                 short,
             )
         }
-        b'x' => vectors_sendings::odd(words, bytes, shape, place, a, b, out),
-        _ => {}
+        b'x' => vectors_sendings::odd(rt, words, bytes, shape, place, a, b, out),
+        _ => Ok(()),
     }
 }
 
 // One command: what it leaves as the store's shape and the place.
-fn command(line: &[u8], words: &mut [u64], bytes: &mut [u8], out: &mut [u8], at: At) -> At {
+fn command(
+    rt: &impl Print,
+    line: &[u8],
+    words: &mut [u64],
+    bytes: &mut [u8],
+    out: &mut [u8],
+    at: At,
+) -> io::Result<At> {
     let letter = if line.len() == 0 { 0 } else { line[0] };
     let shape = at.shape;
     let i = at.place;
     match letter {
-        b'n' => make(line, words, bytes),
-        b'o' => open(line, words, bytes, at),
-        b'p' => At {
+        b'n' => Ok(make(line, words, bytes)),
+        b'o' => Ok(open(line, words, bytes, at)),
+        b'p' => Ok(At {
             shape,
             place: vectors_script::field(line, 0) as usize,
-        },
+        }),
         b'l' => {
             vectors_fill::record_made(
                 words,
@@ -150,25 +160,31 @@ fn command(line: &[u8], words: &mut [u64], bytes: &mut [u8], out: &mut [u8], at:
                 vectors_script::field(line, 0) as usize,
                 out,
             );
-            at
+            Ok(at)
         }
         b't' | b'k' | b'm' => {
             text(letter, line, words, bytes, shape, i);
-            at
+            Ok(at)
         }
         b'w' | b'v' | b'x' => {
-            sending(letter, line, words, bytes, shape, i, out);
-            at
+            sending(rt, letter, line, words, bytes, shape, i, out)?;
+            Ok(at)
         }
         _ => {
             number(letter, line, words, bytes, shape, i);
-            at
+            Ok(at)
         }
     }
 }
 
 // The lines of a script, one after the other.
-fn run(script: &[u8], words: &mut [u64], bytes: &mut [u8], out: &mut [u8]) {
+fn run(
+    rt: &impl Print,
+    script: &[u8],
+    words: &mut [u64],
+    bytes: &mut [u8],
+    out: &mut [u8],
+) -> io::Result<()> {
     let mut now = At {
         shape: Shape {
             places: 0,
@@ -180,26 +196,28 @@ fn run(script: &[u8], words: &mut [u64], bytes: &mut [u8], out: &mut [u8]) {
     let mut at: usize = 0;
     while at < script.len() {
         let end = vectors_script::line_end(script, at);
-        now = command(&script[at..end], words, bytes, out, now);
+        now = command(rt, &script[at..end], words, bytes, out, now)?;
         at = end + 1;
     }
+    Ok(())
 }
 
 // The script in areas for a store with the messages of two full batches, and for its longest frame.
 fn run_in(
+    rt: &impl Print,
     script: &[u8],
     words: &mut [u64; 162],
     bytes: &mut [u8; 2_100_224],
     out: &mut [u8; 1_100_000],
-) {
-    run(script, words, bytes, out);
+) -> io::Result<()> {
+    run(rt, script, words, bytes, out)
 }
 
-fn main() {
-    let mut script = io::large_buffer();
-    let n = io::read_full(STDIN_FILENO, &mut script);
+fn main(rt: HostRuntime) -> io::Result<()> {
+    let mut script = [0u8; 65_536];
+    let n = vectors_script::read_script(&rt, &mut script)?;
     let mut words = [0u64; 162];
     let mut bytes = [0u8; 2_100_224];
     let mut out = [0u8; 1_100_000];
-    run_in(&script[..n], &mut words, &mut bytes, &mut out);
+    run_in(&rt, &script[..n], &mut words, &mut bytes, &mut out)
 }

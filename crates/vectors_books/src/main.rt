@@ -7,39 +7,39 @@ ghost use Rattle.std.specs.Prelude.{◌≤◌, length};
 
 use active_books::Answer;
 use frame_fields::Incarnation;
-use libc::{STDIN_FILENO, STDOUT_FILENO};
+use std::io;
 
-fn put(text: &[u8]) {
-    io::write_all(STDOUT_FILENO, text);
+fn put(rt: &impl Print, text: &[u8]) -> io::Result<()> {
+    rt.write_all(text)
 }
 
-fn put_number(name: &[u8], n: u64) {
-    put(name);
-    io::print_decimal(STDOUT_FILENO, n);
-    put(b"\n");
+fn put_number(rt: &impl Print, name: &[u8], n: u64) -> io::Result<()> {
+    put(rt, name)?;
+    rt.print(n)?;
+    put(rt, b"\n")
 }
 
-fn put_answer(answer: Answer) {
+fn put_answer(rt: &impl Print, answer: Answer) -> io::Result<()> {
     match answer {
-        Answer::Refused(refusal) => put_number(b"R ", refusal as u64),
-        Answer::Done => put(b"ok\n"),
-        Answer::Wait => put(b"wait\n"),
-        Answer::Picked(session) => put_number(b"", session),
-        Answer::Nobody => put(b"none\n"),
+        Answer::Refused(refusal) => put_number(rt, b"R ", refusal as u64),
+        Answer::Done => put(rt, b"ok\n"),
+        Answer::Wait => put(rt, b"wait\n"),
+        Answer::Picked(session) => put_number(rt, b"", session),
+        Answer::Nobody => put(rt, b"none\n"),
         Answer::Says(yes) => {
             if yes {
-                put(b"1\n");
+                put(rt, b"1\n")
             } else {
-                put(b"0\n");
+                put(rt, b"0\n")
             }
         }
     }
 }
 
-fn make(words: &mut [u64]) {
+fn make(rt: &impl Print, words: &mut [u64]) -> io::Result<()> {
     match active_books::make(words) {
-        Answer::Refused(refusal) => put_number(b"R ", refusal as u64),
-        _ => {}
+        Answer::Refused(refusal) => put_number(rt, b"R ", refusal as u64),
+        _ => Ok(()),
     }
 }
 
@@ -86,107 +86,117 @@ fn read_numbers(line: &[u8], k: u32, numbers: &mut [u64]) -> usize
 }
 
 // All of a listing fall behind.
-fn all(words: &mut [u64], line: &[u8]) {
+fn all(rt: &impl Print, words: &mut [u64], line: &[u8]) -> io::Result<()> {
     let mut numbers = [0u64; 600];
     let n = read_numbers(line, 1, &mut numbers);
-    put_answer(active_books_pass::all_fall_behind(words, &numbers[0..n]));
+    put_answer(
+        rt,
+        active_books_pass::all_fall_behind(words, &numbers[0..n]),
+    )
 }
 
-fn next(words: &mut [u64], line: &[u8]) {
+fn next(rt: &impl Print, words: &mut [u64], line: &[u8]) -> io::Result<()> {
     let mut numbers = [0u64; 600];
     let n = read_numbers(line, 2, &mut numbers);
     let incarnation = Incarnation(field(line, 1));
-    put_answer(active_books_pass::next_to_catch_up(words, &numbers[0..n], incarnation));
+    put_answer(
+        rt,
+        active_books_pass::next_to_catch_up(words, &numbers[0..n], incarnation),
+    )
 }
 
-fn check(words: &mut [u64], line: &[u8]) {
+fn check(rt: &impl Print, words: &mut [u64], line: &[u8]) -> io::Result<()> {
     let mut numbers = [0u64; 600];
     let n = read_numbers(line, 2, &mut numbers);
     let incarnation = Incarnation(field(line, 1));
-    put_answer(active_books_pass::all_compared(words, &numbers[0..n], incarnation));
+    put_answer(
+        rt,
+        active_books_pass::all_compared(words, &numbers[0..n], incarnation),
+    )
 }
 
 // A call whose name begins with c: `check`, `close` or `compared`.
-fn call_c(words: &mut [u64], line: &[u8], second: u8) {
+fn call_c(rt: &impl Print, words: &mut [u64], line: &[u8], second: u8) -> io::Result<()> {
     if second == b'h' {
-        check(words, line);
-        return;
+        return check(rt, words, line);
     }
     if second == b'l' {
-        put_answer(active_books::closed(words, field(line, 1)));
-        return;
+        return put_answer(rt, active_books::closed(words, field(line, 1)));
     }
-    put_answer(active_books::caught_up(words, field(line, 1), Incarnation(field(line, 2))));
+    put_answer(
+        rt,
+        active_books::caught_up(words, field(line, 1), Incarnation(field(line, 2))),
+    )
 }
 
 // A call whose name begins with a: `all` or `acked`.
-fn call_a(words: &mut [u64], line: &[u8], second: u8) {
+fn call_a(rt: &impl Print, words: &mut [u64], line: &[u8], second: u8) -> io::Result<()> {
     if second == b'l' {
-        all(words, line);
-        return;
+        return all(rt, words, line);
     }
-    put_answer(active_books::acknowledged(words, Incarnation(field(line, 1))));
+    put_answer(
+        rt,
+        active_books::acknowledged(words, Incarnation(field(line, 1))),
+    )
 }
 
 // `behind`, `open`, `is` or `ended`.
-fn call_one(words: &mut [u64], line: &[u8], first: u8) {
+fn call_one(rt: &impl Print, words: &mut [u64], line: &[u8], first: u8) -> io::Result<()> {
     let session = field(line, 1);
     if first == b'b' {
-        put_answer(active_books::fall_behind(words, session));
-        return;
+        return put_answer(rt, active_books::fall_behind(words, session));
     }
     if first == b'o' {
-        put_answer(active_books::opening(words, session));
-        return;
+        return put_answer(rt, active_books::opening(words, session));
     }
     if first == b'i' {
-        put_answer(active_books::is_behind(words, session));
-        return;
+        return put_answer(rt, active_books::is_behind(words, session));
     }
-    put_answer(active_books::ended(words, session, Incarnation(field(line, 2))));
+    put_answer(
+        rt,
+        active_books::ended(words, session, Incarnation(field(line, 2))),
+    )
 }
 
 // `make`, `word`, `pass`, or a call on one session.
-fn call_other(words: &mut [u64], line: &[u8], first: u8) {
+fn call_other(rt: &impl Print, words: &mut [u64], line: &[u8], first: u8) -> io::Result<()> {
     if first == b'm' {
-        make(words);
-        return;
+        return make(rt, words);
     }
     if first == b'w' {
         set_word(words, field(line, 1), field(line, 2));
-        return;
+        return Ok(());
     }
     if first == b'p' {
         let incarnation = Incarnation(field(line, 1));
-        put_answer(active_books_pass::behind_unless_compared_open(words, incarnation));
-        return;
+        return put_answer(
+            rt,
+            active_books_pass::behind_unless_compared_open(words, incarnation),
+        );
     }
-    call_one(words, line, first);
+    call_one(rt, words, line, first)
 }
 
 // A line whose first word begins with these two letters.
-fn call(words: &mut [u64], line: &[u8], first: u8, second: u8) {
+fn call(rt: &impl Print, words: &mut [u64], line: &[u8], first: u8, second: u8) -> io::Result<()> {
     if first == b'a' {
-        call_a(words, line, second);
-        return;
+        return call_a(rt, words, line, second);
     }
     if first == b'c' {
-        call_c(words, line, second);
-        return;
+        return call_c(rt, words, line, second);
     }
     if first == b'n' {
-        next(words, line);
-        return;
+        return next(rt, words, line);
     }
-    call_other(words, line, first);
+    call_other(rt, words, line, first)
 }
 
 // A line on one area.
-fn replay(words: &mut [u64], line: &[u8]) {
+fn replay(rt: &impl Print, words: &mut [u64], line: &[u8]) -> io::Result<()> {
     if line.len() < 2 {
-        return;
+        return Ok(());
     }
-    call(words, line, line[0], line[1]);
+    call(rt, words, line, line[0], line[1])
 }
 
 // Which area is lent after a line.
@@ -202,36 +212,42 @@ fn lent_after(line: &[u8], lent: u64) -> u64 {
 }
 
 // A line on the area that is lent.
-fn replay_on(words: &mut [u64], short: &mut [u64], line: &[u8], lent: u64) {
+fn replay_on(
+    rt: &impl Print,
+    words: &mut [u64],
+    short: &mut [u64],
+    line: &[u8],
+    lent: u64,
+) -> io::Result<()> {
     if line.len() == 0 {
-        return;
+        return Ok(());
     }
     if line[0] == b'l' {
-        return;
+        return Ok(());
     }
     if lent == 0 {
-        replay(short, line);
-        return;
+        return replay(rt, short, line);
     }
-    replay(words, line);
+    replay(rt, words, line)
 }
 
 // The lines of a script, one after the other.
-fn run(script: &[u8], words: &mut [u64], short: &mut [u64]) {
+fn run(rt: &impl Print, script: &[u8], words: &mut [u64], short: &mut [u64]) -> io::Result<()> {
     let mut at: usize = 0;
     let mut lent: u64 = 1;
     while at < script.len() {
         let end = vectors_script::line_end(script, at);
-        replay_on(words, short, &script[at..end], lent);
+        replay_on(rt, words, short, &script[at..end], lent)?;
         lent = lent_after(&script[at..end], lent);
         at = end + 1;
     }
+    Ok(())
 }
 
-fn main() {
-    let mut script = io::large_buffer();
-    let n = io::read_full(STDIN_FILENO, &mut script);
+fn main(rt: HostRuntime) -> io::Result<()> {
+    let mut script = [0u8; 65_536];
+    let n = vectors_script::read_script(&rt, &mut script)?;
     let mut words = [0u64; 1300];
     let mut short = [0u64; 1285];
-    run(&script[..n], &mut words, &mut short);
+    run(&rt, &script[..n], &mut words, &mut short)
 }

@@ -6,8 +6,8 @@
 ghost use Rattle.std.specs.Prelude.{◌≤◌};
 
 use frame_fields::Epoch;
-use libc::{STDIN_FILENO, STDOUT_FILENO};
 use standby_choice::{Choice, Copies, Copy};
+use std::io;
 use store_areas::Shape;
 
 fn byte(n: u64) -> u8 {
@@ -40,14 +40,14 @@ fn copy(line: &[u8], k: u32, words: &mut [u64; 114], bytes: &mut [u8; 672]) -> C
     }
 }
 
-fn put(c: Choice) {
+fn put(rt: &impl Print, c: Choice) -> io::Result<()> {
     if c.refusal != 0 {
-        io::write_all(STDOUT_FILENO, b"R ");
-        io::print_decimal(STDOUT_FILENO, c.refusal as u64);
+        rt.write_all(b"R ")?;
+        rt.print(c.refusal as u64)?;
     } else {
-        io::print_decimal(STDOUT_FILENO, c.copy as u64);
+        rt.print(c.copy as u64)?;
     }
-    io::write_all(STDOUT_FILENO, b"\n");
+    rt.write_all(b"\n")
 }
 
 // The choice over areas of this length.
@@ -68,7 +68,7 @@ fn decide(
 }
 
 // One set.
-fn choose(line: &[u8]) {
+fn choose(rt: &impl Print, line: &[u8]) -> io::Result<()> {
     let mut w0 = [0; 114];
     let mut b0 = [0; 672];
     let first = copy(line, 0, &mut w0, &mut b0);
@@ -85,21 +85,25 @@ fn choose(line: &[u8]) {
     let mut b4 = [0; 672];
     let fifth = copy(line, 40, &mut w4, &mut b4);
     let cs = Copies(first, second, third, fourth, fifth);
-    put(decide(cs, &w0, &b0, &w1, &b1, &w2, &b2, &w3, &b3, &w4, &b4));
+    put(
+        rt,
+        decide(cs, &w0, &b0, &w1, &b1, &w2, &b2, &w3, &b3, &w4, &b4),
+    )
 }
 
 // The lines of a script, one after the other.
-fn run(script: &[u8]) {
+fn run(rt: &impl Print, script: &[u8]) -> io::Result<()> {
     let mut at: usize = 0;
     while at < script.len() {
         let end = vectors_script::line_end(script, at);
-        choose(&script[at..end]);
+        choose(rt, &script[at..end])?;
         at = end + 1;
     }
+    Ok(())
 }
 
-fn main() {
-    let mut script = io::large_buffer();
-    let n = io::read_full(STDIN_FILENO, &mut script);
-    run(&script[..n]);
+fn main(rt: HostRuntime) -> io::Result<()> {
+    let mut script = [0u8; 65_536];
+    let n = vectors_script::read_script(&rt, &mut script)?;
+    run(&rt, &script[..n])
 }

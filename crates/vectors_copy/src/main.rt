@@ -12,9 +12,9 @@ use active::{Begun, Sending, Sent};
 use base_hex::Line;
 use frame::{InFlight, Summary};
 use frame_fields::{CommitNumber, Epoch, Incarnation};
-use libc::{STDIN_FILENO, STDOUT_FILENO};
 use standby_row::Bound;
 use standby_state::{Answer, Replica, Settings};
+use std::io;
 use store_areas::Shape;
 use store_sessions::Summarised;
 
@@ -30,20 +30,20 @@ struct Way {
     before: u64,
 }
 
-fn put(text: &[u8]) {
-    io::write_all(STDOUT_FILENO, text);
+fn put(rt: &impl Print, text: &[u8]) -> io::Result<()> {
+    rt.write_all(text)
 }
 
-fn put_number(b: u8) {
-    io::print_decimal(STDOUT_FILENO, b as u64);
+fn put_number(rt: &impl Print, b: u8) -> io::Result<()> {
+    rt.print(b as u64)
 }
 
-fn put_answer(answer: Answer) {
-    put_number(answer.kind);
-    put(b"/");
-    put_number(answer.refusal);
-    put(b"/");
-    put_number(answer.reason);
+fn put_answer(rt: &impl Print, answer: Answer) -> io::Result<()> {
+    put_number(rt, answer.kind)?;
+    put(rt, b"/")?;
+    put_number(rt, answer.refusal)?;
+    put(rt, b"/")?;
+    put_number(rt, answer.reason)
 }
 
 // The hash h carried over a text's length and bytes.
@@ -87,15 +87,15 @@ fn hash(words: &[u64], bytes: &[u8], shape: Shape) -> u64 {
 }
 
 // Which session the standby has, by the hashes of its own, of A and of B; nothing before a sending begins.
-fn put_which(now: u64, a: u64, b: u64) {
+fn put_which(rt: &impl Print, now: u64, a: u64, b: u64) -> io::Result<()> {
     if b == 0 {
-        put(b"\n");
+        put(rt, b"\n")
     } else if now == a {
-        put(b" A\n");
+        put(rt, b" A\n")
     } else if now == b {
-        put(b" B\n");
+        put(rt, b" B\n")
     } else {
-        put(b" neither\n");
+        put(rt, b" neither\n")
     }
 }
 
@@ -171,13 +171,14 @@ fn change(
 
 // Gives the standby a frame; a is A's hash.
 fn hand(
+    rt: &impl Print,
     frame: &[u8],
     words: &mut [u64],
     bytes: &mut [u8],
     holds: &mut [u8],
     w: Way,
     a: u64,
-) -> Way {
+) -> io::Result<Way> {
     let shape = w.shape;
     let before = w.replica;
     let row = w.row;
@@ -190,37 +191,39 @@ fn hand(
     let replica = k.replica;
     let row = k.row;
     let answer = k.answer;
-    put_answer(answer);
-    put_which(hash(words, bytes, shape), a, w.before);
+    put_answer(rt, answer)?;
+    put_which(rt, hash(words, bytes, shape), a, w.before)?;
     let mut next = w;
     next.replica = replica;
     next.row = row;
-    next
+    Ok(next)
 }
 
 // Gives the standby a frame in digits.
 fn hand_line(
+    rt: &impl Print,
     digits: &[u8],
     words: &mut [u64],
     bytes: &mut [u8],
     holds: &mut [u8],
     w: Way,
     a: u64,
-) -> Way {
+) -> io::Result<Way> {
     let mut frame = [0u8; 8192];
     match base_hex::read_line(digits, &mut frame) {
         Line::Bytes(n) => {
             if n <= 8192 {
-                return hand(&frame[0..n], words, bytes, holds, w, a);
+                return hand(rt, &frame[0..n], words, bytes, holds, w, a);
             }
-            w
+            Ok(w)
         }
-        Line::Bad => w,
+        Line::Bad => Ok(w),
     }
 }
 
 // Gives the standby the frame in the area with n added to its byte at, which stays as it was.
 fn hand_with(
+    rt: &impl Print,
     at: usize,
     n: u8,
     out: &mut [u8],
@@ -229,22 +232,22 @@ fn hand_with(
     holds: &mut [u8],
     w: Way,
     a: u64,
-) -> Way {
+) -> io::Result<Way> {
     let len = w.len;
     if out.len() < len {
-        return w;
+        return Ok(w);
     }
     if len <= at {
-        return hand(&out[0..len], words, bytes, holds, w, a);
+        return hand(rt, &out[0..len], words, bytes, holds, w, a);
     }
     let good = out[at];
     out[at] = std::num::wrapping_add_u8(good, n);
-    let next = hand(&out[0..len], words, bytes, holds, w, a);
+    let next = hand(rt, &out[0..len], words, bytes, holds, w, a)?;
     if at < out.len() {
         out[at] = good;
-        return next;
+        return Ok(next);
     }
-    next
+    Ok(next)
 }
 
 // Begins the sending; b is B's hash.
@@ -265,32 +268,33 @@ fn begin(line: &[u8], words: &[u64], bytes: &[u8], w: Way, b: u64) -> Way {
 }
 
 // Takes the next frame into the area.
-fn take(words: &[u64], bytes: &[u8], out: &mut [u8], w: Way) -> Way {
+fn take(rt: &impl Print, words: &[u64], bytes: &[u8], out: &mut [u8], w: Way) -> io::Result<Way> {
     let mut next = w;
     let s = w.sending;
     match s.send_whole(w.shape, words, bytes, out) {
         Sent::Frame(len, t) => {
             next.sending = t;
             next.len = len;
-            next
+            Ok(next)
         }
         Sent::Done => {
-            put(b"done\n");
-            next
+            put(rt, b"done\n")?;
+            Ok(next)
         }
         Sent::TooShort => {
-            put(b"R 9\n");
-            next
+            put(rt, b"R 9\n")?;
+            Ok(next)
         }
         Sent::InvalidAreas => {
-            put(b"R 25\n");
-            next
+            put(rt, b"R 25\n")?;
+            Ok(next)
         }
     }
 }
 
 // One command.
 fn command(
+    rt: &impl Print,
     line: &[u8],
     words_start: &mut [u64],
     bytes_start: &mut [u8],
@@ -299,24 +303,25 @@ fn command(
     holds: &mut [u8],
     out: &mut [u8],
     w: Way,
-) -> Way {
+) -> io::Result<Way> {
     let letter = if line.len() == 0 { 0 } else { line[0] };
     let shape = w.shape;
     let a = hash(words_start, bytes_start, shape);
     match letter {
-        b'n' => make(line, words_start, bytes_start, wb, bb),
-        b'w' => begin(line, words_start, bytes_start, w, hash(wb, bb, shape)),
-        b'f' => take(words_start, bytes_start, out, w),
+        b'n' => Ok(make(line, words_start, bytes_start, wb, bb)),
+        b'w' => Ok(begin(line, words_start, bytes_start, w, hash(wb, bb, shape))),
+        b'f' => take(rt, words_start, bytes_start, out, w),
         b'h' => {
             if line.len() < 2 {
-                return w;
+                return Ok(w);
             }
-            hand_line(&line[2..], wb, bb, holds, w, a)
+            hand_line(rt, &line[2..], wb, bb, holds, w, a)
         }
-        b'=' => hand_with(0, 0, out, wb, bb, holds, w, a),
+        b'=' => hand_with(rt, 0, 0, out, wb, bb, holds, w, a),
         b'x' => {
             let n = (vectors_script::field(line, 1) % 256) as u8;
             hand_with(
+                rt,
                 vectors_script::field(line, 0) as usize,
                 n,
                 out,
@@ -329,13 +334,14 @@ fn command(
         }
         _ => {
             change(letter, line, words_start, bytes_start, shape, out);
-            w
+            Ok(w)
         }
     }
 }
 
 // The lines of a script, one after the other.
 fn run(
+    rt: &impl Print,
     script: &[u8],
     words_start: &mut [u64],
     bytes_start: &mut [u8],
@@ -343,7 +349,7 @@ fn run(
     bb: &mut [u8],
     holds: &mut [u8],
     out: &mut [u8],
-) {
+) -> io::Result<()> {
     let mut now = start(Shape {
         places: 0,
         bytes: 0,
@@ -355,6 +361,7 @@ fn run(
         let end = vectors_script::line_end(script, from);
         at = end + 1;
         now = command(
+            rt,
             &script[from..end],
             words_start,
             bytes_start,
@@ -363,12 +370,14 @@ fn run(
             holds,
             out,
             now,
-        );
+        )?;
     }
+    Ok(())
 }
 
 // The script in areas for stores with one message more than a full batch has, and for the frames of that.
 fn run_in(
+    rt: &impl Print,
     script: &[u8],
     words_start: &mut [u64; 162],
     bytes_start: &mut [u8; 1_050_000],
@@ -376,13 +385,13 @@ fn run_in(
     bb: &mut [u8; 1_050_000],
     holds: &mut [u8; 4_200_000],
     out: &mut [u8; 1_050_000],
-) {
-    run(script, words_start, bytes_start, wb, bb, holds, out);
+) -> io::Result<()> {
+    run(rt, script, words_start, bytes_start, wb, bb, holds, out)
 }
 
-fn main() {
-    let mut script = io::large_buffer();
-    let n = io::read_full(STDIN_FILENO, &mut script);
+fn main(rt: HostRuntime) -> io::Result<()> {
+    let mut script = [0u8; 65_536];
+    let n = vectors_script::read_script(&rt, &mut script)?;
     let mut words_start = [0u64; 162];
     let mut bytes_start = [0u8; 1_050_000];
     let mut wb = [0u64; 162];
@@ -390,6 +399,7 @@ fn main() {
     let mut holds = [0u8; 4_200_000];
     let mut out = [0u8; 1_050_000];
     run_in(
+        &rt,
         &script[..n],
         &mut words_start,
         &mut bytes_start,
@@ -397,5 +407,5 @@ fn main() {
         &mut bb,
         &mut holds,
         &mut out,
-    );
+    )
 }

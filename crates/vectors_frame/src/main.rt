@@ -7,63 +7,63 @@ ghost use Rattle.std.specs.Prelude.{◌≡◌, ◌≤◌, length};
 use base_hex::Line;
 use frame::{Decoded, Field, Frame, FrameError, Value, Written};
 use frame_stamp::Protocol;
-use libc::{STDIN_FILENO, STDOUT_FILENO};
+use std::io;
 
-fn put(text: &[u8]) {
-    io::write_all(STDOUT_FILENO, text);
+fn put(rt: &impl Print, text: &[u8]) -> io::Result<()> {
+    rt.write_all(text)
 }
 
-fn put_number(n: u64) {
-    io::print_decimal(STDOUT_FILENO, n);
+fn put_number(rt: &impl Print, n: u64) -> io::Result<()> {
+    rt.print(n)
 }
 
-fn put_field(field: Field) {
+fn put_field(rt: &impl Print, field: Field) -> io::Result<()> {
     match field {
-        Field::FrameKind => put(b"kind "),
-        Field::Part => put(b"part "),
-        Field::Refusal => put(b"refusal "),
-        Field::Change => put(b"change "),
+        Field::FrameKind => put(rt, b"kind "),
+        Field::Part => put(rt, b"part "),
+        Field::Refusal => put(rt, b"refusal "),
+        Field::Change => put(rt, b"change "),
     }
 }
 
-fn put_value(value: Value) {
+fn put_value(rt: &impl Print, value: Value) -> io::Result<()> {
     match value {
-        Value::Text => put(b"4"),
-        Value::Session => put(b"5"),
-        Value::Timestamp => put(b"6"),
-        Value::Marks => put(b"7"),
+        Value::Text => put(rt, b"4"),
+        Value::Session => put(rt, b"5"),
+        Value::Timestamp => put(rt, b"6"),
+        Value::Marks => put(rt, b"7"),
     }
 }
 
 // A refusal's number and values.
-fn put_fault(error: FrameError) {
+fn put_fault(rt: &impl Print, error: FrameError) -> io::Result<()> {
     match error {
         FrameError::TooLong(n) => {
-            put(b"1 ");
-            put_number(n as u64);
+            put(rt, b"1 ")?;
+            put_number(rt, n as u64)
         }
-        FrameError::Truncated => put(b"2"),
+        FrameError::Truncated => put(rt, b"2"),
         FrameError::Unknown(f, v) => {
-            put(b"3 ");
-            put_field(f);
-            put_number(v as u64);
+            put(rt, b"3 ")?;
+            put_field(rt, f)?;
+            put_number(rt, v as u64)
         }
-        FrameError::Invalid(v) => put_value(v),
+        FrameError::Invalid(v) => put_value(rt, v),
     }
 }
 
 // At most 8,192 bytes in digits.
-fn put_digits(src: &[u8])
+fn put_digits(rt: &impl Print, src: &[u8]) -> io::Result<()>
     requires { length src.now ≤ 8192 }
 {
     let mut text = [0u8; 16384];
     base_hex::put_hex(src, &mut text);
     let n = 2 * src.len();
-    put(&text[0..n]);
+    put(rt, &text[0..n])
 }
 
 // A frame that was read from src, written again.
-fn put_frame(decoded: Frame, src: &[u8]) {
+fn put_frame(rt: &impl Print, decoded: Frame, src: &[u8]) -> io::Result<()> {
     let mut out = [0u8; 8192];
     match decoded.encode(
         Protocol {
@@ -72,46 +72,45 @@ fn put_frame(decoded: Frame, src: &[u8]) {
         src,
         &mut out,
     ) {
-        Written::Bytes(n) => put_digits(&out[0..n]),
-        Written::Unreadable => put(b"not written: 8"),
-        Written::TooLong => put(b"not written: 1"),
-        Written::NoRoom => put(b"not written: 9"),
+        Written::Bytes(n) => put_digits(rt, &out[0..n]),
+        Written::Unreadable => put(rt, b"not written: 8"),
+        Written::TooLong => put(rt, b"not written: 1"),
+        Written::NoRoom => put(rt, b"not written: 9"),
     }
 }
 
 // What reading gives.
-fn put_reading(src: &[u8]) {
+fn put_reading(rt: &impl Print, src: &[u8]) -> io::Result<()> {
     match Frame::decode(
         Protocol {
             version: Frame::VERSION,
         },
         src,
     ) {
-        Decoded::More => put(b"more"),
+        Decoded::More => put(rt, b"more"),
         Decoded::Bad(e) => {
-            put(b"R ");
-            put_fault(e);
+            put(rt, b"R ")?;
+            put_fault(rt, e)
         }
         Decoded::Whole(f, used) => {
-            put_number(used as u64);
-            put(b" ");
-            put_frame(f, src);
+            put_number(rt, used as u64)?;
+            put(rt, b" ")?;
+            put_frame(rt, f, src)
         }
     }
 }
 
 // The answer to a line; an empty line is an empty frame.
-fn answer(line: &[u8]) {
+fn answer(rt: &impl Print, line: &[u8]) -> io::Result<()> {
     let mut bytes = [0u8; 8192];
     if line.len() == 0 {
-        put_reading(b"");
-        return;
+        return put_reading(rt, b"");
     }
     match base_hex::read_line(line, &mut bytes) {
-        Line::Bytes(n) => put_reading(&bytes[0..n]),
+        Line::Bytes(n) => put_reading(rt, &bytes[0..n]),
         Line::Bad => {
-            put(b"? ");
-            put(line);
+            put(rt, b"? ")?;
+            put(rt, line)
         }
     }
 }
@@ -124,14 +123,15 @@ fn line_end(script: &[u8], at: usize) -> usize
     base_lines::next_feed(script, at)
 }
 
-fn run(script: &[u8]) {
+fn run(rt: &impl Print, script: &[u8]) -> io::Result<()> {
     let mut at: usize = 0;
     while at < script.len() {
         let end = line_end(script, at);
-        answer(&script[at..end]);
-        put(b"\n");
+        answer(rt, &script[at..end])?;
+        put(rt, b"\n")?;
         at = end + 1;
     }
+    Ok(())
 }
 
 // Room for the whole list.
@@ -141,8 +141,8 @@ fn area() -> [u8; 1048576]
     [0; 1048576]
 }
 
-fn main() {
+fn main(rt: HostRuntime) -> io::Result<()> {
     let mut script = area();
-    let n = io::read_full(STDIN_FILENO, &mut script);
-    run(&script[..n]);
+    let n = vectors_script::read_script(&rt, &mut script)?;
+    run(&rt, &script[..n])
 }

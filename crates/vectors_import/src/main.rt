@@ -5,17 +5,17 @@
 #![tactic(auto)]
 
 use c_import::Built;
-use libc::{STDIN_FILENO, STDOUT_FILENO};
+use std::io;
 use std::num::wrapping_add_u64;
 use store_areas::Shape;
 
-fn put(text: &[u8]) {
-    io::write_all(STDOUT_FILENO, text);
+fn put(rt: &impl Print, text: &[u8]) -> io::Result<()> {
+    rt.write_all(text)
 }
 
-fn put_number(name: &[u8], n: u64) {
-    put(name);
-    io::print_decimal(STDOUT_FILENO, n);
+fn put_number(rt: &impl Print, name: &[u8], n: u64) -> io::Result<()> {
+    put(rt, name)?;
+    rt.print(n)
 }
 
 // A byte of the file as the script writes it.
@@ -75,33 +75,43 @@ fn hash_areas(words: &[u64], bytes: &[u8]) -> u64 {
 }
 
 // The answer of an import; of the new session next outgoing, its messages, and the hash over all of them.
-fn put_answer(words: &[u64], bytes: &[u8], shape: Shape, r: Built, kept: bool) {
+fn put_answer(
+    rt: &impl Print,
+    words: &[u64],
+    bytes: &[u8],
+    shape: Shape,
+    r: Built,
+    kept: bool,
+) -> io::Result<()> {
     let refusal = r.refusal as u64;
     let place = r.place;
     if refusal != 0 {
-        put_number(b"R ", refusal);
-        put_number(b" ", r.at as u64);
+        put_number(rt, b"R ", refusal)?;
+        put_number(rt, b" ", r.at as u64)?;
         if kept {
-            put(b"\n");
+            put(rt, b"\n")?;
         } else {
-            put(b" and something was written\n");
+            put(rt, b" and something was written\n")?;
         }
-        return;
+        return Ok(());
     }
-    put_number(b"place=", place as u64);
+    put_number(rt, b"place=", place as u64)?;
     put_number(
+        rt,
         b" out=",
         c_store::store_next_outgoing(words, bytes, shape, place).value,
-    );
+    )?;
     put_number(
+        rt,
         b" count=",
         c_store::store_count(words, bytes, shape, place).value,
-    );
+    )?;
     put_number(
+        rt,
         b" hash=",
         c_store::store_last_outgoing(words, bytes, shape, place, u64::MAX).value,
-    );
-    put(b"\n");
+    )?;
+    put(rt, b"\n")
 }
 
 // The sender of one of three keys; else a byte that no key has.
@@ -119,7 +129,14 @@ fn sender_of(key: u64) -> u8 {
 }
 
 // An import under one of four keys, of which the last is none.
-fn import(words: &mut [u64], bytes: &mut [u8], shape: Shape, key: u64, file: &[u8]) {
+fn import(
+    rt: &impl Print,
+    words: &mut [u64],
+    bytes: &mut [u8],
+    shape: Shape,
+    key: u64,
+    file: &[u8],
+) -> io::Result<()> {
     let before = hash_areas(words, bytes);
     let sender = [sender_of(key)];
     let r = c_import::wz_import(
@@ -135,7 +152,7 @@ fn import(words: &mut [u64], bytes: &mut [u8], shape: Shape, key: u64, file: &[u
         shape.messages,
     );
     let after = hash_areas(words, bytes);
-    put_answer(words, bytes, shape, r, before == after);
+    put_answer(rt, words, bytes, shape, r, before == after)
 }
 
 // A new store.
@@ -150,17 +167,26 @@ fn make(line: &[u8], words: &mut [u64], bytes: &[u8]) -> Shape {
 }
 
 // An import of the file's first bytes.
-fn import_part(line: &[u8], words: &mut [u64], bytes: &mut [u8], shape: Shape, file: &[u8]) {
+fn import_part(
+    rt: &impl Print,
+    line: &[u8],
+    words: &mut [u64],
+    bytes: &mut [u8],
+    shape: Shape,
+    file: &[u8],
+) -> io::Result<()> {
     let len = vectors_script::field(line, 1) as usize;
     if len <= file.len() {
         import(
+            rt,
             words,
             bytes,
             shape,
             vectors_script::field(line, 0),
             &file[0..len],
-        );
+        )?;
     }
+    Ok(())
 }
 
 // What a command leaves beside the areas.
@@ -171,37 +197,50 @@ struct State {
 }
 
 // One command.
-fn command(line: &[u8], words: &mut [u64], bytes: &mut [u8], file: &mut [u8], s: State) -> State {
+fn command(
+    rt: &impl Print,
+    line: &[u8],
+    words: &mut [u64],
+    bytes: &mut [u8],
+    file: &mut [u8],
+    s: State,
+) -> io::Result<State> {
     let letter = if line.len() == 0 { 0 } else { line[0] };
     let shape = s.shape;
     let len = s.len;
     match letter {
-        b'n' => State {
+        b'n' => Ok(State {
             shape: make(line, words, bytes),
             len,
-        },
-        b'x' => State { shape, len: 0 },
-        b'a' => State {
+        }),
+        b'x' => Ok(State { shape, len: 0 }),
+        b'a' => Ok(State {
             shape,
             len: append_text(line, file, len),
-        },
+        }),
         b's' => {
             set(
                 file,
                 vectors_script::field(line, 0) as usize,
                 (vectors_script::field(line, 1) % 256) as u8,
             );
-            State { shape, len }
+            Ok(State { shape, len })
         }
         _ => {
-            import_part(line, words, bytes, shape, file);
-            State { shape, len }
+            import_part(rt, line, words, bytes, shape, file)?;
+            Ok(State { shape, len })
         }
     }
 }
 
 // The lines of a script, one after the other.
-fn run(script: &[u8], words: &mut [u64], bytes: &mut [u8], file: &mut [u8]) {
+fn run(
+    rt: &impl Print,
+    script: &[u8],
+    words: &mut [u64],
+    bytes: &mut [u8],
+    file: &mut [u8],
+) -> io::Result<()> {
     let mut s = State {
         shape: Shape {
             places: 0,
@@ -213,16 +252,17 @@ fn run(script: &[u8], words: &mut [u64], bytes: &mut [u8], file: &mut [u8]) {
     let mut at: usize = 0;
     while at < script.len() {
         let end = vectors_script::line_end(script, at);
-        s = command(&script[at..end], words, bytes, file, s);
+        s = command(rt, &script[at..end], words, bytes, file, s)?;
         at = end + 1;
     }
+    Ok(())
 }
 
-fn main() {
-    let mut script = io::large_buffer();
-    let n = io::read_full(STDIN_FILENO, &mut script);
+fn main(rt: HostRuntime) -> io::Result<()> {
+    let mut script = [0u8; 65_536];
+    let n = vectors_script::read_script(&rt, &mut script)?;
     let mut words = [5u64; 220];
     let mut bytes = [9u8; 8192];
     let mut file = [0u8; 8192];
-    run(&script[..n], &mut words, &mut bytes, &mut file);
+    run(&rt, &script[..n], &mut words, &mut bytes, &mut file)
 }

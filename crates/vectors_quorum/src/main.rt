@@ -5,10 +5,10 @@
 #![tactic(auto)]
 
 use frame_fields::CommitNumber;
-use libc::{STDIN_FILENO, STDOUT_FILENO};
+use std::io;
 
-fn put(text: &[u8]) {
-    io::write_all(STDOUT_FILENO, text);
+fn put(rt: &impl Print, text: &[u8]) -> io::Result<()> {
+    rt.write_all(text)
 }
 
 // The number that stands k words after the first.
@@ -25,35 +25,34 @@ fn field(line: &[u8], k: u32) -> u64 {
     vectors_script::number_at(line, at)
 }
 
-fn put_refusal(r: u8) {
-    put(b"R ");
-    io::print_decimal(STDOUT_FILENO, r as u64);
-    put(b"\n");
+fn put_refusal(rt: &impl Print, r: u8) -> io::Result<()> {
+    put(rt, b"R ")?;
+    rt.print(r as u64)?;
+    put(rt, b"\n")
 }
 
-fn put_answer(r: u8) {
+fn put_answer(rt: &impl Print, r: u8) -> io::Result<()> {
     if r == 0 {
-        put(b"ok\n");
-        return;
+        return put(rt, b"ok\n");
     }
-    put_refusal(r);
+    put_refusal(rt, r)
 }
 
-fn put_figure(words: &[u64], handle: u32) {
+fn put_figure(rt: &impl Print, words: &[u64], handle: u32) -> io::Result<()> {
     let shown = active_quorum::figure(words, handle);
     if shown.refusal == 0 {
-        io::print_decimal(STDOUT_FILENO, shown.number.0);
-        put(b"\n");
-        return;
+        rt.print(shown.number.0)?;
+        return put(rt, b"\n");
     }
-    put_refusal(shown.refusal);
+    put_refusal(rt, shown.refusal)
 }
 
-fn make(words: &mut [u64], line: &[u8]) {
+fn make(rt: &impl Print, words: &mut [u64], line: &[u8]) -> io::Result<()> {
     let r = active_quorum::make(words, field(line, 0), field(line, 1));
     if r != 0 {
-        put_refusal(r);
+        put_refusal(rt, r)?;
     }
+    Ok(())
 }
 
 fn set_word(words: &mut [u64], i: u64, value: u64) {
@@ -64,50 +63,46 @@ fn set_word(words: &mut [u64], i: u64, value: u64) {
 }
 
 // A line whose first word has two letters in front that say what it is.
-fn call(words: &mut [u64], line: &[u8], first: u8, second: u8) {
+fn call(rt: &impl Print, words: &mut [u64], line: &[u8], first: u8, second: u8) -> io::Result<()> {
     let handle = vectors_script::low(field(line, 1));
     if first == b'b' {
-        put_answer(active_quorum::bind(words, handle));
-        return;
+        return put_answer(rt, active_quorum::bind(words, handle));
     }
     if first == b'f' {
-        put_figure(words, handle);
-        return;
+        return put_figure(rt, words, handle);
     }
     if first == b'a' {
         let member = field(line, 1) as usize;
         let number = CommitNumber(field(line, 3));
-        put_answer(active_quorum::acknowledged(
-            words,
-            member,
-            vectors_script::low(field(line, 2)),
-            number,
-        ));
-        return;
+        return put_answer(
+            rt,
+            active_quorum::acknowledged(words, member, vectors_script::low(field(line, 2)), number),
+        );
     }
     if second == b'e' {
         let number = CommitNumber(field(line, 2));
-        put_answer(active_quorum::sent(words, handle, number));
-        return;
+        return put_answer(rt, active_quorum::sent(words, handle, number));
     }
-    put_answer(active_quorum::stale_epoch(words, field(line, 1) as usize));
+    put_answer(
+        rt,
+        active_quorum::stale_epoch(words, field(line, 1) as usize),
+    )
 }
 
 // A line on one area.
-fn replay(words: &mut [u64], line: &[u8]) {
+fn replay(rt: &impl Print, words: &mut [u64], line: &[u8]) -> io::Result<()> {
     if line.len() < 2 {
-        return;
+        return Ok(());
     }
     let first = line[0];
     if first == b'w' {
         set_word(words, field(line, 1), field(line, 2));
-        return;
+        return Ok(());
     }
     if first < b'a' {
-        make(words, line);
-        return;
+        return make(rt, words, line);
     }
-    call(words, line, first, line[1]);
+    call(rt, words, line, first, line[1])
 }
 
 // Which area is lent after a line.
@@ -123,36 +118,42 @@ fn lent_after(line: &[u8], lent: u64) -> u64 {
 }
 
 // A line on the area that is lent.
-fn replay_on(words: &mut [u64], short: &mut [u64], line: &[u8], lent: u64) {
+fn replay_on(
+    rt: &impl Print,
+    words: &mut [u64],
+    short: &mut [u64],
+    line: &[u8],
+    lent: u64,
+) -> io::Result<()> {
     if line.len() == 0 {
-        return;
+        return Ok(());
     }
     if line[0] == b'l' {
-        return;
+        return Ok(());
     }
     if lent == 0 {
-        replay(short, line);
-        return;
+        return replay(rt, short, line);
     }
-    replay(words, line);
+    replay(rt, words, line)
 }
 
 // The lines of a script, one after the other.
-fn run(script: &[u8], words: &mut [u64], short: &mut [u64]) {
+fn run(rt: &impl Print, script: &[u8], words: &mut [u64], short: &mut [u64]) -> io::Result<()> {
     let mut at: usize = 0;
     let mut lent: u64 = 1;
     while at < script.len() {
         let end = vectors_script::line_end(script, at);
-        replay_on(words, short, &script[at..end], lent);
+        replay_on(rt, words, short, &script[at..end], lent)?;
         lent = lent_after(&script[at..end], lent);
         at = end + 1;
     }
+    Ok(())
 }
 
-fn main() {
-    let mut script = io::large_buffer();
-    let n = io::read_full(STDIN_FILENO, &mut script);
+fn main(rt: HostRuntime) -> io::Result<()> {
+    let mut script = [0u8; 65_536];
+    let n = vectors_script::read_script(&rt, &mut script)?;
     let mut words = [0u64; 2600];
     let mut short = [0u64; 2563];
-    run(&script[..n], &mut words, &mut short);
+    run(&rt, &script[..n], &mut words, &mut short)
 }

@@ -4,16 +4,16 @@
 // `G PLACE ENTRIES FIRST LAST ..` a request for the session at a place, into an area of so many entries.
 #![tactic(auto)]
 
-use libc::{STDIN_FILENO, STDOUT_FILENO};
+use std::io;
 use store_areas::Shape;
 
-fn put(text: &[u8]) {
-    io::write_all(STDOUT_FILENO, text);
+fn put(rt: &impl Print, text: &[u8]) -> io::Result<()> {
+    rt.write_all(text)
 }
 
-fn put_number(name: &[u8], n: u64) {
-    put(name);
-    io::print_decimal(STDOUT_FILENO, n);
+fn put_number(rt: &impl Print, name: &[u8], n: u64) -> io::Result<()> {
+    put(rt, name)?;
+    rt.print(n)
 }
 
 // FNV-1a of a part of the byte area on from h, 0 where it lies outside.
@@ -30,24 +30,25 @@ fn hash_part(h: u64, bytes: &[u8], at: u64, len: u64) -> u64 {
 }
 
 // An entry: number, set, length and the hash of the bytes that it names.
-fn put_entry(bytes: &[u8], e: [u64; 6]) {
-    put_number(b"", e[0]);
-    put_number(b" ", e[1]);
-    put_number(b" ", e[3] % 4_294_967_296 + e[5] % 4_294_967_296);
+fn put_entry(rt: &impl Print, bytes: &[u8], e: [u64; 6]) -> io::Result<()> {
+    put_number(rt, b"", e[0])?;
+    put_number(rt, b" ", e[1])?;
+    put_number(rt, b" ", e[3] % 4_294_967_296 + e[5] % 4_294_967_296)?;
     let h = hash_part(14695981039346656037, bytes, e[2], e[3]);
-    put_number(b" ", hash_part(h, bytes, e[4], e[5]));
-    put(b"\n");
+    put_number(rt, b" ", hash_part(h, bytes, e[4], e[5]))?;
+    put(rt, b"\n")
 }
 
 // The entries of a list.
-fn put_entries(bytes: &[u8], entries: &[u64], count: usize) {
+fn put_entries(rt: &impl Print, bytes: &[u8], entries: &[u64], count: usize) -> io::Result<()> {
     let mut i: usize = 0;
     while i < count {
         let at = i % 72 * 6;
         if entries.len() < at + 6 {
-            return;
+            return Ok(());
         }
         put_entry(
+            rt,
             bytes,
             [
                 entries[at],
@@ -57,9 +58,10 @@ fn put_entries(bytes: &[u8], entries: &[u64], count: usize) {
                 entries[at + 4],
                 entries[at + 5],
             ],
-        );
+        )?;
         i += 1;
     }
+    Ok(())
 }
 
 // Whether the words from a place on are as they were lent.
@@ -75,19 +77,24 @@ fn are_kept(entries: &[u64], from: usize) -> bool {
 }
 
 // The answer to a request, and whether what isn't the list's is as it was lent.
-fn put_answer(bytes: &[u8], entries: &[u64], r: store_resend::Listed) {
+fn put_answer(
+    rt: &impl Print,
+    bytes: &[u8],
+    entries: &[u64],
+    r: store_resend::Listed,
+) -> io::Result<()> {
     if r.refusal != 0 {
-        put_number(b"R ", r.refusal as u64);
+        put_number(rt, b"R ", r.refusal as u64)?;
     } else {
-        put_number(b"count=", r.length as u64);
-        put_number(b" bytes=", r.bytes as u64);
+        put_number(rt, b"count=", r.length as u64)?;
+        put_number(rt, b" bytes=", r.bytes as u64)?;
     }
     if are_kept(entries, r.length % 73 * 6) {
-        put(b"\n");
+        put(rt, b"\n")?;
     } else {
-        put(b" and more was written\n");
+        put(rt, b" and more was written\n")?;
     }
-    put_entries(bytes, entries, r.length);
+    put_entries(rt, bytes, entries, r.length)
 }
 
 // Every word 7.
@@ -116,22 +123,23 @@ fn read_numbers(line: &[u8], numbers: &mut [u64]) -> usize {
 
 // A request, into an area of at most 72 entries.
 fn request(
+    rt: &impl Print,
     line: &[u8],
     words: &[u64],
     bytes: &[u8],
     shape: Shape,
     numbers: &mut [u64],
     entries: &mut [u64],
-) {
+) -> io::Result<()> {
     lend_anew(entries);
     let many = read_numbers(line, numbers);
     let place = vectors_script::field(line, 0) as usize;
     let room = vectors_script::field(line, 1) as usize % 73 * 6;
     if numbers.len() < many {
-        return;
+        return Ok(());
     }
     if entries.len() < room {
-        return;
+        return Ok(());
     }
     let r = store_resend::list(
         words,
@@ -141,7 +149,7 @@ fn request(
         &numbers[0..many],
         &mut entries[0..room],
     );
-    put_answer(bytes, entries, r);
+    put_answer(rt, bytes, entries, r)
 }
 
 // A new store with one session.
@@ -158,6 +166,7 @@ fn make(line: &[u8], words: &mut [u64], bytes: &mut [u8]) -> Shape {
 
 // One command: what it leaves as the store's shape.
 fn command(
+    rt: &impl Print,
     line: &[u8],
     words: &mut [u64],
     bytes: &mut [u8],
@@ -165,39 +174,40 @@ fn command(
     numbers: &mut [u64],
     entries: &mut [u64],
     shape: Shape,
-) -> Shape {
+) -> io::Result<Shape> {
     let letter = if line.len() == 0 { 0 } else { line[0] };
     let n = vectors_script::field(line, 0);
     match letter {
-        b'n' => make(line, words, bytes),
+        b'n' => Ok(make(line, words, bytes)),
         b'l' => {
             vectors_fill::record_made(words, bytes, shape, 0, n as usize, room);
-            shape
+            Ok(shape)
         }
         b'g' => {
             vectors_fill::skip(words, bytes, shape, 0, n);
-            shape
+            Ok(shape)
         }
         b'z' => {
             vectors_fill::reset(words, bytes, shape, 0);
-            shape
+            Ok(shape)
         }
         _ => {
-            request(line, words, bytes, shape, numbers, entries);
-            shape
+            request(rt, line, words, bytes, shape, numbers, entries)?;
+            Ok(shape)
         }
     }
 }
 
 // The lines of a script, one after the other.
 fn run(
+    rt: &impl Print,
     script: &[u8],
     words: &mut [u64],
     bytes: &mut [u8],
     room: &mut [u8],
     numbers: &mut [u64],
     entries: &mut [u64],
-) {
+) -> io::Result<()> {
     let mut shape = Shape {
         places: 0,
         bytes: 0,
@@ -207,6 +217,7 @@ fn run(
     while at < script.len() {
         let end = vectors_script::line_end(script, at);
         shape = command(
+            rt,
             &script[at..end],
             words,
             bytes,
@@ -214,25 +225,27 @@ fn run(
             numbers,
             entries,
             shape,
-        );
+        )?;
         at = end + 1;
     }
+    Ok(())
 }
 
-fn main() {
-    let mut script = io::large_buffer();
-    let n = io::read_full(STDIN_FILENO, &mut script);
+fn main(rt: HostRuntime) -> io::Result<()> {
+    let mut script = [0u8; 65_536];
+    let n = vectors_script::read_script(&rt, &mut script)?;
     let mut words = [0u64; 242];
     let mut bytes = [0u8; 1248];
     let mut room = [0u8; 1100];
     let mut numbers = [0u64; 132];
     let mut entries = [0u64; 432];
     run(
+        &rt,
         &script[..n],
         &mut words,
         &mut bytes,
         &mut room,
         &mut numbers,
         &mut entries,
-    );
+    )
 }

@@ -1,9 +1,27 @@
-// Lines, and numbers in them.
+// A script read from standard input; lines, and numbers in them.
 #![tactic(auto)]
 
-ghost use Rattle.std.specs.Prelude.{◌<◌, ◌≤◌, length};
+ghost use Rattle.std.specs.Prelude.{◌<◌, ◌≤◌, IfOk, length};
 
+use std::io;
+use std::io::Read;
 use std::num::wrapping_add_u64;
+
+// Reads until the room is full or the input ends, and says how many bytes came.
+pub fn read_script(rt: &impl Input, script: &mut [u8]) -> io::Result<usize>
+    ensures { IfOk result (λ n. n ≤ length script.new) }
+{
+    let mut reader = rt.reader();
+    let mut done: usize = 0;
+    while done < script.len() {
+        let n = reader.read(&mut script[done..])?;
+        if n == 0 {
+            break;
+        }
+        done += n;
+    }
+    Ok(done)
+}
 
 // The end of the line that starts at `at`.
 pub fn line_end(s: &[u8], at: usize) -> usize

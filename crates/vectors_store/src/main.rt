@@ -8,7 +8,7 @@ ghost use Rattle.std.specs.Prelude.{◌+◌, ◌<◌, ◌≤◌, length};
 ghost use Rattle.store_areas.specs.Areas.{Rules};
 ghost use Rattle.store_sessions.specs.Answers.{PositionAt};
 
-use libc::{STDIN_FILENO, STDOUT_FILENO};
+use std::io;
 use std::num::wrapping_add_u64;
 use store_areas::Shape;
 
@@ -50,16 +50,16 @@ fn number_at(s: &[u8], at: usize) -> Number {
     Number { value, end: i }
 }
 
-fn put_text(text: &[u8]) {
-    io::write_all(STDOUT_FILENO, text);
+fn put_text(rt: &impl Print, text: &[u8]) -> io::Result<()> {
+    rt.write_all(text)
 }
 
-fn put_number(n: u64) {
-    io::print_decimal(STDOUT_FILENO, n);
+fn put_number(rt: &impl Print, n: u64) -> io::Result<()> {
+    rt.print(n)
 }
 
-fn put_hash(hash: u64) {
-    io::print_hex(STDOUT_FILENO, hash, 16);
+fn put_hash(rt: &impl Print, hash: u64) -> io::Result<()> {
+    print!(rt; "{hash:016x}")
 }
 
 // Records the first len bytes of a text.
@@ -91,26 +91,34 @@ fn record_many(words: &mut [u64], bytes: &mut [u8], shape: Shape, len: usize, co
 }
 
 // A message's number, length and hash.
-fn put_message(bytes: &[u8], number: u64, at: usize, first: usize, again: usize, rest: usize)
+fn put_message(
+    rt: &impl Print,
+    bytes: &[u8],
+    number: u64,
+    at: usize,
+    first: usize,
+    again: usize,
+    rest: usize,
+) -> io::Result<()>
     requires first_in_bounds { at + first ≤ length bytes.now }
     requires rest_in_bounds { again + rest ≤ length bytes.now }
 {
     let end = at + first;
     let done = again + rest;
-    put_text(b" ");
-    put_number(number);
-    put_text(b"/");
-    put_number(wrapping_add_u64(first as u64, rest as u64));
-    put_text(b"/");
+    put_text(rt, b" ")?;
+    put_number(rt, number)?;
+    put_text(rt, b"/")?;
+    put_number(rt, wrapping_add_u64(first as u64, rest as u64))?;
+    put_text(rt, b"/")?;
     let h = store_log::fnv::bytes(0xcbf2_9ce4_8422_2325, &bytes[at..end]);
-    put_hash(store_log::fnv::bytes(h, &bytes[again..done]));
+    put_hash(rt, store_log::fnv::bytes(h, &bytes[again..done]))
 }
 
 // The next number and each message's number, length and hash.
-fn list(words: &[u64], bytes: &[u8], shape: Shape) {
+fn list(rt: &impl Print, words: &[u64], bytes: &[u8], shape: Shape) -> io::Result<()> {
     let next = c_store::store_next_outgoing(words, bytes, shape, 0);
-    put_number(next.value);
-    put_text(b":");
+    put_number(rt, next.value)?;
+    put_text(rt, b":")?;
     if store_areas::in_use(words, bytes, shape, 0) {
         let c = store_sessions::messages_from(words, bytes, shape, 0, 1);
         let mut left = c.left;
@@ -118,18 +126,19 @@ fn list(words: &[u64], bytes: &[u8], shape: Shape) {
         while 0 < left {
             let m = store_sessions::message_at(words, bytes, shape, 0, left, dist);
             put_message(
+                rt,
                 bytes,
                 m.number,
                 m.first_at,
                 m.first_len,
                 m.second_at,
                 m.second_len,
-            );
+            )?;
             left = m.left;
             dist = m.dist;
         }
     }
-    put_text(b"\n");
+    put_text(rt, b"\n")
 }
 
 // Makes a store of two sessions, of which the first is recorded to.
@@ -152,30 +161,43 @@ fn record_none(words: &mut [u64], bytes: &mut [u8], shape: Shape, skip: u32) {
     c_changes::store_record_none(words, bytes, shape, 0, seq);
 }
 
-fn put_last_outgoing(words: &[u64], bytes: &[u8], shape: Shape, n: u32) {
+fn put_last_outgoing(
+    rt: &impl Print,
+    words: &[u64],
+    bytes: &[u8],
+    shape: Shape,
+    n: u32,
+) -> io::Result<()> {
     let hash = c_store::store_last_outgoing(words, bytes, shape, 0, n as u64);
-    put_hash(hash.value);
-    put_text(b"\n");
+    put_hash(rt, hash.value)?;
+    put_text(rt, b"\n")
 }
 
 // The hash of a command's text.
-fn put_text_hash(line: &[u8]) {
+fn put_text_hash(rt: &impl Print, line: &[u8]) -> io::Result<()> {
     if 2 <= line.len() {
-        put_hash(store_log::fnv::bytes(0xcbf2_9ce4_8422_2325, &line[2..]));
-        put_text(b"\n");
+        put_hash(rt, store_log::fnv::bytes(0xcbf2_9ce4_8422_2325, &line[2..]))?;
+        put_text(rt, b"\n")?;
     }
+    Ok(())
 }
 
 // One command.
-fn command(line: &[u8], words: &mut [u64], bytes: &mut [u8], shape: Shape) -> Shape {
+fn command(
+    rt: &impl Print,
+    line: &[u8],
+    words: &mut [u64],
+    bytes: &mut [u8],
+    shape: Shape,
+) -> io::Result<Shape> {
     if line.len() == 0 {
-        return shape;
+        return Ok(shape);
     }
     let a = number_at(line, 2);
     let b = number_at(line, a.end);
     match line[0] {
         b'n' => {
-            return make(words, bytes, a.value, b.value);
+            return Ok(make(words, bytes, a.value, b.value));
         }
         b'r' => record_many(words, bytes, shape, a.value as usize, b.value),
         b'g' => record_none(words, bytes, shape, a.value),
@@ -185,14 +207,14 @@ fn command(line: &[u8], words: &mut [u64], bytes: &mut [u8], shape: Shape) -> Sh
         b'p' => {
             c_store::store_take_over(words, bytes, shape, 0, a.value as u64);
         }
-        b'l' => list(words, bytes, shape),
-        b'h' => put_last_outgoing(words, bytes, shape, a.value),
-        _ => put_text_hash(line),
+        b'l' => list(rt, words, bytes, shape)?,
+        b'h' => put_last_outgoing(rt, words, bytes, shape, a.value)?,
+        _ => put_text_hash(rt, line)?,
     }
-    shape
+    Ok(shape)
 }
 
-fn run(script: &[u8], words: &mut [u64], bytes: &mut [u8]) {
+fn run(rt: &impl Print, script: &[u8], words: &mut [u64], bytes: &mut [u8]) -> io::Result<()> {
     let mut shape = Shape {
         places: 2,
         bytes: 0,
@@ -201,15 +223,16 @@ fn run(script: &[u8], words: &mut [u64], bytes: &mut [u8]) {
     let mut at: usize = 0;
     while at < script.len() {
         let end = line_end(script, at);
-        shape = command(&script[at..end], words, bytes, shape);
+        shape = command(rt, &script[at..end], words, bytes, shape)?;
         at = end + 1;
     }
+    Ok(())
 }
 
-fn main() {
-    let mut script = io::large_buffer();
-    let n = io::read_full(STDIN_FILENO, &mut script);
+fn main(rt: HostRuntime) -> io::Result<()> {
+    let mut script = [0u8; 65_536];
+    let n = vectors_script::read_script(&rt, &mut script)?;
     let mut words = [0u64; 162];
     let mut bytes = [0u8; 576];
-    run(&script[..n], &mut words, &mut bytes);
+    run(&rt, &script[..n], &mut words, &mut bytes)
 }

@@ -6,6 +6,7 @@ ghost use Rattle.std.specs.Prelude.{◌≤◌, length};
 
 use frame_stamp::{Protocol, is_key, is_marks, is_stamp, takes_stamp};
 use frame_utf8::is_utf8;
+use std::io;
 use std::num::wrapping_add_u64;
 
 // How many inputs there were, how many of them were taken, and the sum of the numbers of those taken, which tells them apart.
@@ -138,132 +139,137 @@ fn shapes(shape: u8, n: u64) -> Tally {
     t
 }
 
-fn line(name: &[u8], t: Tally) {
-    io::write_all(1, name);
-    io::write_all(1, b": ");
-    io::print_decimal(1, t.taken);
-    io::write_all(1, b" of ");
-    io::print_decimal(1, t.of);
-    io::write_all(1, b" taken, sum ");
-    io::print_decimal(1, t.sum);
-    io::write_all(1, b"\n");
+fn line(rt: &impl Print, name: &[u8], t: Tally) -> io::Result<()> {
+    let Tally { of, taken, sum } = t;
+    rt.write_all(name)?;
+    println!(rt; ": {taken} of {of} taken, sum {sum}")
 }
 
 // The answers to the parts of s.
-fn row(name: &[u8], kind: u8, s: &[u8]) {
-    line(name, table(kind, s));
+fn row(rt: &impl Print, name: &[u8], kind: u8, s: &[u8]) -> io::Result<()> {
+    line(rt, name, table(kind, s))
 }
 
 // The answers to all n inputs of that shape.
-fn sweep(name: &[u8], shape: u8, n: u64) {
-    line(name, shapes(shape, n));
+fn sweep(rt: &impl Print, name: &[u8], shape: u8, n: u64) -> io::Result<()> {
+    line(rt, name, shapes(shape, n))
 }
 
 // The examples of RFC 3629, and the first and the last of each length.
-fn texts_taken() {
+fn texts_taken(rt: &impl Print) -> io::Result<()> {
     row(
+        rt,
         b"RFC 3629, section 7",
         b'u',
         b"A\xE2\x89\xA2\xCE\x91.|\xED\x95\x9C\xEA\xB5\xAD\xEC\x96\xB4|\
         \xE6\x97\xA5\xE6\x9C\xAC\xE8\xAA\x9E|\xEF\xBB\xBF\xF0\xA3\x8E\xB4|",
-    );
+    )?;
     row(
+        rt,
         b"first and last of each length",
         b'u',
         b"\x00|\x7F|\xC2\x80|\xDF\xBF|\xE0\xA0\x80|\xED\x9F\xBF|\xEE\x80\x80|\xEF\xBF\xBF|\
         \xF0\x90\x80\x80|\xF4\x8F\xBF\xBF||",
-    );
+    )
 }
 
 // One before the first and one after the last of each length, then sequences out of form.
-fn texts_refused() {
+fn texts_refused(rt: &impl Print) -> io::Result<()> {
     row(
+        rt,
         b"overlong, surrogates, above 10FFFF",
         b'u',
         b"\xC0\x80|\xC1\xBF|\xE0\x80\x80|\xE0\x9F\xBF|\xED\xA0\x80|\xED\xAF\xBF|\
         \xED\xB0\x80|\xED\xBF\xBF|\xED\xA1\x8C\xED\xBE\xB4|\xF0\x80\x80\x80|\xF0\x8F\xBF\xBF|\xF4\x90\x80\x80|\xF5\x80\x80\x80|\xF7\xBF\xBF\xBF|",
-    );
+    )?;
     row(
+        rt,
         b"out of form",
         b'u',
         b"\x80|\xBF|\xF8\x88\x80\x80\x80|\xFC\x84\x80\x80\x80\x80|\xFE|\xFF|\xC2|\xC2A|\xC2\xC0|\xE2\x89|\
         \xE2\x89A|\xE2A\xA2|A\xF0\xA3\x8E|\xF0\xA3\x8E\xC0|\xF0\xA3\x41\xB4|A\x80|",
-    );
+    )
 }
 
-fn stamps() {
+fn stamps(rt: &impl Print) -> io::Result<()> {
     row(
+        rt,
         b"stamps in range",
         b's',
         b"20240229-23:59:60|00000101-00:00:00|99991231-23:59:59.999|20240131-00:00:00.000|20230228-12:30:30|",
-    );
+    )?;
     row(
+        rt,
         b"stamps out of range",
         b's',
         b"20240229-24:00:00|20240229-23:60:00|20240229-23:59:61|20240029-23:59:59|20241329-23:59:59|\
         20240200-23:59:59|20240132-23:59:59|2024022a-23:59:59|20240229-2/:59:59|",
-    );
+    )?;
     row(
+        rt,
         b"stamps out of form",
         b's',
         b"|20240229-23:59:5|20240229 23:59:59|20240229-23.59:59|20240229-23:59:59.|20240229-23:59:59.12|\
         20240229-23:59:59,123|20240229-23:59:59.1234|20240229-23:59:59.123456|20240229-23:59:59.12a|",
-    );
+    )
 }
 
 // The last day of each month and the day after it; February of leap years and others.
-fn days() {
+fn days(rt: &impl Print) -> io::Result<()> {
     row(
+        rt,
         b"last days",
         b's',
         b"20230131-00:00:00|20230228-00:00:00|20230331-00:00:00|20230430-00:00:00|20230531-00:00:00|\
         20230630-00:00:00|20230731-00:00:00|20230831-00:00:00|20230930-00:00:00|20231031-00:00:00|\
         20231130-00:00:00|20231231-00:00:00|20240229-00:00:00|20000229-00:00:00|00000229-00:00:00|\
         99991231-00:00:00|",
-    );
+    )?;
     row(
+        rt,
         b"days after them",
         b's',
         b"20230132-00:00:00|20230229-00:00:00|20230332-00:00:00|20230431-00:00:00|20230532-00:00:00|\
         20230631-00:00:00|20230732-00:00:00|20230832-00:00:00|20230931-00:00:00|20231032-00:00:00|\
         20231131-00:00:00|20231232-00:00:00|20240230-00:00:00|20000230-00:00:00|00000230-00:00:00|\
         19000229-00:00:00|21000229-00:00:00|99991232-00:00:00|",
-    );
+    )
 }
 
-fn names() {
+fn names(rt: &impl Print) -> io::Result<()> {
     row(
+        rt,
         b"marks",
         b'm',
         b"|B|ABCDEFGHIJKLMNOPQRSTUVWXYZ012345ABCDEFGHIJKLMNOPQRSTUVWXYZ012345|\
         ABCDEFGHIJKLMNOPQRSTUVWXYZ012345ABCDEFGHIJKLMNOPQRSTUVWXYZ0123456| ~|\x1F|\x7F|A\xC2\x80|A\n|",
-    );
+    )?;
     let parts =
         b"|A|ABCDEFGHIJKLMNOPQRSTUVWXYZ012345|ABCDEFGHIJKLMNOPQRSTUVWXYZ0123456| ~|\x1F|\x7F|\xC2\x80|";
-    row(b"begin string", b'1', parts);
-    row(b"sender", b'2', parts);
-    row(b"target", b'3', parts);
-    row(b"suffix", b'4', parts);
+    row(rt, b"begin string", b'1', parts)?;
+    row(rt, b"sender", b'2', parts)?;
+    row(rt, b"target", b'3', parts)?;
+    row(rt, b"suffix", b'4', parts)
 }
 
-fn inputs() {
-    sweep(b"all of one byte", 1, 256);
-    sweep(b"all of two bytes", 2, 65536);
-    sweep(b"all of three bytes", 3, 16777216);
-    sweep(b"first two of four", 4, 65536);
-    sweep(b"first and third, after 8F", 5, 65536);
-    sweep(b"first and third, after 90", 6, 65536);
-    sweep(b"first and last, after 90 80", 7, 65536);
-    sweep(b"first and last, after 8F BF", 8, 65536);
-    sweep(b"first bytes, then 80, of one to five bytes", 9, 1280);
-    sweep(b"a byte in 80 of ASCII", 10, 20480);
+fn inputs(rt: &impl Print) -> io::Result<()> {
+    sweep(rt, b"all of one byte", 1, 256)?;
+    sweep(rt, b"all of two bytes", 2, 65536)?;
+    sweep(rt, b"all of three bytes", 3, 16777216)?;
+    sweep(rt, b"first two of four", 4, 65536)?;
+    sweep(rt, b"first and third, after 8F", 5, 65536)?;
+    sweep(rt, b"first and third, after 90", 6, 65536)?;
+    sweep(rt, b"first and last, after 90 80", 7, 65536)?;
+    sweep(rt, b"first and last, after 8F BF", 8, 65536)?;
+    sweep(rt, b"first bytes, then 80, of one to five bytes", 9, 1280)?;
+    sweep(rt, b"a byte in 80 of ASCII", 10, 20480)
 }
 
-fn main() {
-    texts_taken();
-    texts_refused();
-    stamps();
-    days();
-    names();
-    inputs();
+fn main(rt: HostRuntime) -> io::Result<()> {
+    texts_taken(&rt)?;
+    texts_refused(&rt)?;
+    stamps(&rt)?;
+    days(&rt)?;
+    names(&rt)?;
+    inputs(&rt)
 }

@@ -2,39 +2,39 @@ use Rattle.std.proofs.Common.{◌-◌, ◌≤◌, length, rules}
 use Rattle.vectors_script.proofs.line_end.Statement.{statement}
 use Rattle.vectors_script.proofs.line_end.Tie as tie
 
-abbrev invariant-loop : tie.invariant-loop
-invariant-loop s at i₀ i = (at ≤ i) × (i ≤ length s)
+abbrev invariant-loop-i : tie.invariant-loop-i
+invariant-loop-i s at i₀ i = (at ≤ i) × (i ≤ length s)
 
-abbrev decreases-loop : tie.decreases-loop
-decreases-loop s at i₀ i = length s - i
+abbrev decreases-loop-i : tie.decreases-loop-i
+decreases-loop-i s at i₀ i = length s - i
 
-loop-holds : tie.Need-loop-init invariant-loop decreases-loop
+loop-holds : tie.Need-loop-i-init invariant-loop-i decreases-loop-i
 loop-holds c = search rules
 
-shared_slice_read_if1 : tie.Need-shared-slice-read-if1 invariant-loop decreases-loop
+shared_slice_read_if1 : tie.Need-bounds-s-i invariant-loop-i decreases-loop-i
 shared_slice_read_if1 c = search rules
 
-returns : tie.Need-returns invariant-loop decreases-loop
+returns : tie.Need-returns-then-s-i-eq10 invariant-loop-i decreases-loop-i
 returns c = search rules
 
-add_i : tie.Need-overflow-add-i invariant-loop decreases-loop
+add_i : tie.Need-overflow_add-i invariant-loop-i decreases-loop-i
 add_i c = search rules
 
-loop-less : tie.Need-loop-smaller invariant-loop decreases-loop
+loop-less : tie.Need-loop-i-smaller invariant-loop-i decreases-loop-i
 loop-less c = search rules
 
-loop-again : tie.Need-loop-preserved invariant-loop decreases-loop
+loop-again : tie.Need-loop-i-preserved invariant-loop-i decreases-loop-i
 loop-again c = search rules
 
-returns-2 : tie.Need-returns-2 invariant-loop decreases-loop
+returns-2 : tie.Need-returns invariant-loop-i decreases-loop-i
 returns-2 c = search rules
 
 pub line_end_spec : {M : Type 1} → statement M
 line_end_spec =
     tie.close
     (tie.spec
-    invariant-loop
-    decreases-loop
+    invariant-loop-i
+    decreases-loop-i
     loop-holds
     shared_slice_read_if1
     returns

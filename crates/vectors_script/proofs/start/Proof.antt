@@ -2,39 +2,39 @@ use Rattle.std.proofs.Common.{◌≤◌, rules}
 use Rattle.vectors_script.proofs.start.Statement.{statement}
 use Rattle.vectors_script.proofs.start.Tie as tie
 
-abbrev invariant-loop : tie.invariant-loop
-invariant-loop s k at₀ left₀ at left = 0 ≤ left
+abbrev invariant-loop-left : tie.invariant-loop-left
+invariant-loop-left s k at₀ left₀ at left = 0 ≤ left
 
-abbrev decreases-loop : tie.decreases-loop
-decreases-loop s k at₀ left₀ at left = left
+abbrev decreases-loop-left : tie.decreases-loop-left
+decreases-loop-left s k at₀ left₀ at left = left
 
-loop-holds : tie.Need-loop-init invariant-loop decreases-loop
+loop-holds : tie.Need-loop-left-init invariant-loop-left decreases-loop-left
 loop-holds c = search rules
 
-returns : tie.Need-returns invariant-loop decreases-loop
+returns : tie.Need-returns-then-s-at invariant-loop-left decreases-loop-left
 returns c = search rules
 
-after-requires : tie.Need-after-requires invariant-loop decreases-loop
+after-requires : tie.Need-after-at-requires invariant-loop-left decreases-loop-left
 after-requires c κs = search rules
 
-sub_left : tie.Need-overflow-sub-left invariant-loop decreases-loop
+sub_left : tie.Need-overflow_sub-left invariant-loop-left decreases-loop-left
 sub_left c = search rules
 
-loop-less : tie.Need-loop-smaller invariant-loop decreases-loop
+loop-less : tie.Need-loop-left-smaller invariant-loop-left decreases-loop-left
 loop-less c = search rules
 
-loop-again : tie.Need-loop-preserved invariant-loop decreases-loop
+loop-again : tie.Need-loop-left-preserved invariant-loop-left decreases-loop-left
 loop-again c = search rules
 
-returns-2 : tie.Need-returns-2 invariant-loop decreases-loop
+returns-2 : tie.Need-returns invariant-loop-left decreases-loop-left
 returns-2 c = search rules
 
 pub start_spec : {M : Type 1} → statement M
 start_spec =
     tie.close
     (tie.spec
-    invariant-loop
-    decreases-loop
+    invariant-loop-left
+    decreases-loop-left
     loop-holds
     returns
     after-requires

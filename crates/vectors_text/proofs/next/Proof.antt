@@ -3,18 +3,18 @@ use Rattle.std.proofs.Common.{◌-◌, ◌≤◌, length, rules}
 use Rattle.vectors_text.proofs.next.Statement.{statement}
 use Rattle.vectors_text.proofs.next.Tie as tie
 
-abbrev invariant-loop : tie.invariant-loop
-invariant-loop s at x i₀ i = (at ≤ i) × (i ≤ length s)
+abbrev invariant-loop-i : tie.invariant-loop-i
+invariant-loop-i s at x i₀ i = (at ≤ i) × (i ≤ length s)
 
-abbrev decreases-loop : tie.decreases-loop
-decreases-loop s at x i₀ i = length s - i
+abbrev decreases-loop-i : tie.decreases-loop-i
+decreases-loop-i s at x i₀ i = length s - i
 
 pub next_spec : {M : Type 1} → statement M
 next_spec =
     tie.close
     (tie.spec
-    invariant-loop
-    decreases-loop
+    invariant-loop-i
+    decreases-loop-i
     (λ c. search rules)
     (λ c. search rules)
     (λ c. search rules)

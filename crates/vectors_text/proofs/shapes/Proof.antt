@@ -3,18 +3,18 @@ use Rattle.std.proofs.Common.{◌-◌, ◌≤◌, rules}
 use Rattle.vectors_text.proofs.shapes.Statement.{statement}
 use Rattle.vectors_text.proofs.shapes.Tie as tie
 
-abbrev invariant-loop : tie.invariant-loop
-invariant-loop shape n t₀ k₀ t k = k ≤ n
+abbrev invariant-loop-k : tie.invariant-loop-k
+invariant-loop-k shape n t₀ k₀ t k = k ≤ n
 
-abbrev decreases-loop : tie.decreases-loop
-decreases-loop shape n t₀ k₀ t k = n - k
+abbrev decreases-loop-k : tie.decreases-loop-k
+decreases-loop-k shape n t₀ k₀ t k = n - k
 
 pub shapes_spec : {M : Type 1} → statement M
 shapes_spec =
     tie.close
     (tie.spec
-    invariant-loop
-    decreases-loop
+    invariant-loop-k
+    decreases-loop-k
     (λ c. search rules)
     (λ c κs. search rules)
     (λ c κs. search rules)
