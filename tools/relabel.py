@@ -171,6 +171,29 @@ def relabel(text, of, path):
         return f".{m[1]}.new.{names[k]}"
 
     text = re.sub(rf"\.({WORD})\.new((?:\.1)*)\.0(?![\w])", lent, text)
+    # What a call keeps of each reference that it is lent.
+    def kept(block):
+        m = re.match(r"(\S+) : tie\.Need-([^\s()]+)", block)
+        lets = dict(re.findall(r"let (\S+) = [\w.'-]*\.([^\s.()]+) in", block))
+        whose = None
+        if m and "-requires" in m[2]:
+            head = m[2].split("-requires")[0]
+            whose = params.get(head) or params.get(m[2].replace("-requires", ""))
+            if not whose:
+                sames = {tuple(p) for new, p in params.items() if p and re.split(r"-", new)[0] == head.split("-")[0]}
+                whose = list(sames.pop()) if len(sames) == 1 else None
+
+        def by(m):
+            head, k = m[1], m[2].count(".1")
+            names = whose if head == "κs" else params.get(lets.get(head.rsplit(".auto", 1)[0].rsplit(".", 1)[-1], head.rsplit(".auto", 1)[0].rsplit(".", 1)[-1]))
+            if not names or k >= len(names):
+                said.append(f"{path}: {m[0]}: whose?")
+                return m[0]
+            return f"{head}.{names[k]}"
+
+        return re.sub(r"((?<![\w.'-])κs|[\w.'-]+\.auto)((?:\.1)*)\.0(?![\w])", by, block)
+
+    text = "\n\n".join(kept(it) for it in text.split("\n\n"))
     if re.search(r"\.branch(?![\w-])", text) and "⊎_elim" in text:
         text = re.sub(r"\.branch(?![\w-])", ".branch-raw", text)
         text = re.sub(r"(\.\d)\.taken(?![\w-])", r"\1.true", text)

@@ -4,24 +4,24 @@ use borrow.Author.Rules.{rules}
 use Rattle.active_batch.proofs.plan_from.Statement.{statement}
 use Rattle.active_batch.proofs.plan_from.Tie as tie
 
-add_t13 : tie.Need-overflow-add-t13
-add_t13 c = let m = c.before.before.before.before.before.measure.ensures in omega (arith, m.few, c.before.before.before.before.before.before.messages-from.ensures.stands.few, c.before.before.before.before.before.before.before.before.before.before.requires, c.before.before.before.before.opening-extent.ensures.1)
+add_t13 : tie.Need-overflow_add-result
+add_t13 c = let m = c.measure-cut.ensures in omega (arith, m.few, c.messages_from-c.ensures.stands.few, c.requires, c.opening_extent-opening.ensures.1)
 
-add_t14 : tie.Need-overflow-add-t14
-add_t14 c = let m = c.before.before.before.before.before.before.measure.ensures in omega (arith, m.few, c.before.before.before.before.before.before.before.messages-from.ensures.stands.few, c.before.before.before.before.before.before.before.before.before.before.before.requires, c.before.before.before.before.before.opening-extent.ensures.1, c.before.before.before.before.ending-extent.ensures.1)
+add_t14 : tie.Need-overflow_add-result-2
+add_t14 c = let m = c.measure-cut.ensures in omega (arith, m.few, c.messages_from-c.ensures.stands.few, c.requires, c.opening_extent-opening.ensures.1, c.ending_extent-ending.ensures.1)
 
-add_t15 : tie.Need-overflow-add-t15
-add_t15 c = let m = c.before.before.before.before.before.before.before.before.measure.ensures in omega (arith, m.small, c.before.before.before.before.before.before.before.before.before.messages-from.ensures.stands.few, c.before.before.before.before.before.before.before.before.before.messages-from.ensures.stands.room, c.before.before.before.before.before.before.before.before.before.before.before.before.before.requires, c.before.before.before.before.before.before.before.opening-extent.ensures.1)
+add_t15 : tie.Need-overflow_add-result-3
+add_t15 c = let m = c.measure-cut.ensures in omega (arith, m.small, c.messages_from-c.ensures.stands.few, c.messages_from-c.ensures.stands.room, c.requires, c.opening_extent-opening.ensures.1)
 
-add_t16 : tie.Need-overflow-add-t16
-add_t16 c = let m = c.before.before.before.before.before.before.before.before.before.measure.ensures in omega (arith, m.small, c.before.before.before.before.before.before.before.before.before.before.messages-from.ensures.stands.few, c.before.before.before.before.before.before.before.before.before.before.messages-from.ensures.stands.room, c.before.before.before.before.before.before.before.before.before.before.before.before.before.before.requires, c.before.before.before.before.before.before.before.before.opening-extent.ensures.1, c.before.before.before.before.before.before.before.ending-extent.ensures.1)
+add_t16 : tie.Need-overflow_add-result-4
+add_t16 c = let m = c.measure-cut.ensures in omega (arith, m.small, c.messages_from-c.ensures.stands.few, c.messages_from-c.ensures.stands.room, c.requires, c.opening_extent-opening.ensures.1, c.ending_extent-ending.ensures.1)
 
 returns : tie.Need-returns
 returns c =
-    let p = c.before.before.before.before.before.before.before.before.before.before.before.before.before.before.requires in
-    let o = c.before.before.before.before.before.before.before.before.opening-extent.ensures in
-    let e = c.before.before.before.before.before.before.before.ending-extent.ensures in
-    planned _ _ _ _ _ _ _ _ _ _ _ _ _ _ _ _ _ _ _ p.1.1.0 p.1.0 c.before.before.before.before.before.before.before.before.before.before.before.first-number.ensures.0 c.before.before.before.before.before.before.before.before.before.before.messages-from.ensures c.before.before.before.before.before.before.before.before.before.measure.ensures o.0 o.1 e.0 e.1
+    let p = c.requires in
+    let o = c.opening_extent-opening.ensures in
+    let e = c.ending_extent-ending.ensures in
+    planned _ _ _ _ _ _ _ _ _ _ _ _ _ _ _ _ _ _ _ p.1.1.0 p.1.0 c.first_number-next.ensures.0 c.messages_from-c.ensures c.measure-cut.ensures o.0 o.1 e.0 e.1
 
 pub plan_from_spec : {M : Type 1} → statement M
 plan_from_spec =

@@ -6,30 +6,30 @@ use borrow.Author.Rules.{rules}
 use Rattle.active_header.proofs.put_closing.Statement.{statement}
 use Rattle.active_header.proofs.put_closing.Tie as tie
 
-put-skip-requires : tie.Need-put-skip-requires
+put-skip-requires : tie.Need-put_skip-skipped-requires
 put-skip-requires c κs =
-    let s = c.before.before.before in
+    let s = c in
     let h = s.args.header in
     omega (arith, s.requires.1, close_size s.args.next h.next_outgoing (incoming_part h.next_incoming (flight_is h.in_flight)) s.args.marks.now)
 
-put-incoming-requires : tie.Need-put-incoming-requires
+put-incoming-requires : tie.Need-put_incoming-pos-requires
 put-incoming-requires c κs =
-    let s = c.before.before.before.before.before.before.before in
+    let s = c in
     let h = s.args.header in
-    omega (arith, s.requires.1, close_size s.args.next h.next_outgoing (incoming_part h.next_incoming (flight_is h.in_flight)) s.args.marks.now, run_past (skip_to s.args.next h.next_outgoing) c.before.before.before.put-skip.ensures)
+    omega (arith, s.requires.1, close_size s.args.next h.next_outgoing (incoming_part h.next_incoming (flight_is h.in_flight)) s.args.marks.now, run_past (skip_to s.args.next h.next_outgoing) c.put_skip-skipped.ensures)
 
-put-text-requires : tie.Need-put-text-requires
+put-text-requires : tie.Need-put_text-requires
 put-text-requires c κs =
-    let s = c.before.before.before.before.before.before.before.before.before.before.before in
+    let s = c in
     let h = s.args.header in
     let inc = incoming_part h.next_incoming (flight_is h.in_flight) in
-    (omega (arith, s.requires.1, close_size s.args.next h.next_outgoing inc s.args.marks.now, run_past (skip_to s.args.next h.next_outgoing) c.before.before.before.before.before.before.before.put-skip.ensures, change_past inc c.before.before.before.put-incoming.ensures), omega arith)
+    (omega (arith, s.requires.1, close_size s.args.next h.next_outgoing inc s.args.marks.now, run_past (skip_to s.args.next h.next_outgoing) c.put_skip-skipped.ensures, change_past inc c.put_incoming-pos.ensures), omega arith)
 
 returns : tie.Need-returns
 returns c =
-    let s = c.before.before.before.before.before.before.before.before.before.before.before.before.before.before in
+    let s = c in
     let h = s.args.header in
-    wrote_closing (skip_to s.args.next h.next_outgoing) (incoming_part h.next_incoming (flight_is h.in_flight)) s.args.marks.now c.before.before.before.before.before.before.before.before.before.before.put-skip.ensures c.before.before.before.before.before.before.put-incoming.ensures c.before.before.put-text.ensures
+    wrote_closing (skip_to s.args.next h.next_outgoing) (incoming_part h.next_incoming (flight_is h.in_flight)) s.args.marks.now c.put_skip-skipped.ensures c.put_incoming-pos.ensures c.put_text.ensures
 
 pub put_closing_spec : {M : Type 1} → statement M
 put_closing_spec =

@@ -6,21 +6,21 @@ use Rattle.active_header.proofs.put_incoming.Statement.{statement}
 use Rattle.active_header.proofs.put_incoming.Tie as tie
 
 tagged-requires : tie.Need-tagged-requires
-tagged-requires c κs = omega (arith, rw c.before.enum_told.given.1 at c.before.before.before.before.requires)
+tagged-requires c κs = omega (arith, rw c.in-Nothing.is at c.requires)
 
-tagged-requires-2 : tie.Need-tagged-requires-2
-tagged-requires-2 c κs = omega (arith, rw c.before.before.in-flight.given.1 at c.before.before.before.before.before.requires)
+tagged-requires-2 : tie.Need-tagged-pos-requires
+tagged-requires-2 c κs = omega (arith, rw c.in-Number.is at c.requires)
 
-put-u64-requires : tie.Need-put-u64-requires
-put-u64-requires c κs = omega (arith, rw c.before.before.before.before.before.before.in-flight.given.1 at c.before.before.before.before.before.before.before.before.before.requires, c.before.before.before.tagged2.ensures.1, c.before.before.before.tagged2.auto)
+put-u64-requires : tie.Need-put_u64-requires
+put-u64-requires c κs = omega (arith, rw c.in-Number.is at c.requires, c.tagged-pos.ensures.1, c.tagged-pos.auto)
 
-returns : tie.Need-returns
+returns : tie.Need-returns-in-Nothing
 unfolding change_bytes
-returns c = rw c.before.before.before.before.enum_told.given.1 c.before.before.tagged.ensures.0
+returns c = rw c.in-Nothing.is c.tagged.ensures.0
 
-returns-2 : tie.Need-returns-2
+returns-2 : tie.Need-returns-in-Number
 unfolding change_bytes
-returns-2 c = rw c.before.before.before.before.before.before.before.before.before.in-flight.given.1 (wrote_on c.before.before.before.before.before.before.tagged2.ensures.0 c.before.before.put-u64.ensures.0)
+returns-2 c = rw c.in-Number.is (wrote_on c.tagged-pos.ensures.0 c.put_u64.ensures.0)
 
 pub put_incoming_spec : {M : Type 1} → statement M
 put_incoming_spec =

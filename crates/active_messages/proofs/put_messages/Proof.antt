@@ -6,63 +6,63 @@ use Rattle.active_messages.proofs.Sending.{Sending, begins, full_stop, last_stop
 use Rattle.active_messages.proofs.put_messages.Statement.{statement}
 use Rattle.active_messages.proofs.put_messages.Tie as tie
 
-abbrev invariant-loop : tie.invariant-loop
-invariant-loop words bytes max end left dist next limit out₀ at left₀ dist₀ next₀ sent₀ pos₀ out left' dist' next' sent pos =
+abbrev invariant-loop-left : tie.invariant-loop-left
+invariant-loop-left words bytes max end left dist next limit out₀ at left₀ dist₀ next₀ sent₀ pos₀ out left' dist' next' sent pos =
     Sending limit (length bytes) max end words bytes out₀ at left dist next out left' dist' next' sent pos
 
-abbrev decreases-loop : tie.decreases-loop
-decreases-loop words bytes max end left dist next limit out₀ at left₀ dist₀ next₀ sent₀ pos₀ out left' dist' next' sent pos =
+abbrev decreases-loop-left : tie.decreases-loop-left
+decreases-loop-left words bytes max end left dist next limit out₀ at left₀ dist₀ next₀ sent₀ pos₀ out left' dist' next' sent pos =
     left'
 
-loop-holds : tie.Need-loop-init invariant-loop decreases-loop
-loop-holds c = begins _ _ _ _ _ _ _ _ _ _ _ c.before.before.before.requires.1.1.0
+loop-holds : tie.Need-loop-left-init invariant-loop-left decreases-loop-left
+loop-holds c = begins _ _ _ _ _ _ _ _ _ _ _ c.requires.1.1.0
 
-is-full-requires : tie.Need-is-full-requires invariant-loop decreases-loop
+is-full-requires : tie.Need-is_full-requires invariant-loop-left decreases-loop-left
 is-full-requires c κs = tt
 
-same_length : tie.Need-same-length invariant-loop decreases-loop
-same_length c = c.before.before.before.loop.invariant.writes.same
+same_length : tie.Need-shape_of-out-then-is_full invariant-loop-left decreases-loop-left
+same_length c = c.loop-left.invariant.writes.same
 
-returns : tie.Need-returns invariant-loop decreases-loop
-returns c = full_stop _ _ _ _ _ _ _ _ _ _ _ _ _ _ _ _ _ c.before.before.before.loop.invariant (sym c.before.is-full.ensures ∙ c.if1.true)
+returns : tie.Need-returns-then-is_full invariant-loop-left decreases-loop-left
+returns c = full_stop _ _ _ _ _ _ _ _ _ _ _ _ _ _ _ _ _ c.loop-left.invariant (sym c.is_full.ensures ∙ c.if-is_full.true)
 
-message-at-requires : tie.Need-message-at-requires invariant-loop decreases-loop
-message-at-requires c κs = (c.before.before.before.before.before.before.before.requires.0, (c.before.before.before.loop.invariant.stands, omega arith))
+message-at-requires : tie.Need-message_at-f-requires invariant-loop-left decreases-loop-left
+message-at-requires c κs = (c.requires.0, (c.loop-left.invariant.stands, omega arith))
 
-put-sent-requires : tie.Need-put-sent-requires invariant-loop decreases-loop
+put-sent-requires : tie.Need-put_sent-pos-requires invariant-loop-left decreases-loop-left
 put-sent-requires c κs =
-    let r = c.before.message-at.ensures in
-    let g = c.before.before.before.before.before.loop.invariant in
-    let k = has_room _ _ _ _ _ _ _ _ _ _ _ _ _ _ _ _ _ _ _ _ _ _ _ g (sym c.before.before.before.is-full.ensures ∙ c.before.before.if1.false) refl r c.before.before.before.before.before.before.before.before.before.requires.1.1.1 in
-    (omega (arith, r.inside), (omega (arith, r.front), (omega (arith, r.nearer, g.stands.room, c.before.before.before.before.before.before.before.before.before.requires.1.0), k)))
+    let r = c.message_at-f.ensures in
+    let g = c.loop-left.invariant in
+    let k = has_room _ _ _ _ _ _ _ _ _ _ _ _ _ _ _ _ _ _ _ _ _ _ _ g (sym c.is_full.ensures ∙ c.if-is_full.false) refl r c.requires.1.1.1 in
+    (omega (arith, r.inside), (omega (arith, r.front), (omega (arith, r.nearer, g.stands.room, c.requires.1.0), k)))
 
-add_sent : tie.Need-overflow-add-sent invariant-loop decreases-loop
-add_sent c = omega (arith, c.before.before.before.before.before.message-at.ensures.nearer, c.before.before.before.before.before.before.before.before.before.loop.invariant.stands.room, c.before.before.before.before.before.before.before.before.before.before.before.before.before.requires.1.0)
+add_sent : tie.Need-overflow_add-sent invariant-loop-left decreases-loop-left
+add_sent c = omega (arith, c.message_at-f.ensures.nearer, c.loop-left.invariant.stands.room, c.requires.1.0)
 
-add_sent_2 : tie.Need-overflow-add-sent-2 invariant-loop decreases-loop
-add_sent_2 c = omega (arith, c.before.before.before.before.before.message-at.ensures.nearer, c.before.before.before.before.before.before.before.before.before.loop.invariant.stands.room, c.before.before.before.before.before.before.before.before.before.before.before.before.before.requires.1.0, c.before.before.before.before.before.before.before.before.before.loop.invariant.sums)
+add_sent_2 : tie.Need-overflow_add-sent-in-loop-left invariant-loop-left decreases-loop-left
+add_sent_2 c = omega (arith, c.message_at-f.ensures.nearer, c.loop-left.invariant.stands.room, c.requires.1.0, c.loop-left.invariant.sums)
 
-add_next : tie.Need-overflow-add-next invariant-loop decreases-loop
-add_next c = omega (arith, below _ _ _ _ _ _ _ _ c.before.before.before.before.before.before.message-at.ensures.is)
+add_next : tie.Need-overflow_add-next invariant-loop-left decreases-loop-left
+add_next c = omega (arith, below _ _ _ _ _ _ _ _ c.message_at-f.ensures.is)
 
-loop-less : tie.Need-loop-smaller invariant-loop decreases-loop
-loop-less c = omega (arith, c.before.before.before.before.before.before.message-at.ensures.fewer)
+loop-less : tie.Need-loop-left-smaller invariant-loop-left decreases-loop-left
+loop-less c = omega (arith, c.message_at-f.ensures.fewer)
 
-loop-again : tie.Need-loop-preserved invariant-loop decreases-loop
-loop-again c = goes_on _ _ _ _ _ _ _ _ _ _ _ _ _ _ _ _ _ _ _ _ _ _ _ c.before.before.before.before.before.before.before.before.before.before.loop.invariant (sym c.before.before.before.before.before.before.before.before.is-full.ensures ∙ c.before.before.before.before.before.before.before.if1.false) refl c.before.before.before.before.before.before.message-at.ensures _ _ c.before.before.before.before.put-sent.ensures
+loop-again : tie.Need-loop-left-preserved invariant-loop-left decreases-loop-left
+loop-again c = goes_on _ _ _ _ _ _ _ _ _ _ _ _ _ _ _ _ _ _ _ _ _ _ _ c.loop-left.invariant (sym c.is_full.ensures ∙ c.if-is_full.false) refl c.message_at-f.ensures _ _ c.put_sent-pos.ensures
 
-same_length_2 : tie.Need-same-length-2 invariant-loop decreases-loop
-same_length_2 c = c.before.loop.invariant.writes.same
+same_length_2 : tie.Need-shape_of-out invariant-loop-left decreases-loop-left
+same_length_2 c = c.loop-left.invariant.writes.same
 
-returns-2 : tie.Need-returns-2 invariant-loop decreases-loop
-returns-2 c = last_stop _ _ _ _ _ _ _ _ _ _ _ _ _ _ _ _ _ c.before.loop.invariant c.loop-test.false
+returns-2 : tie.Need-returns invariant-loop-left decreases-loop-left
+returns-2 c = last_stop _ _ _ _ _ _ _ _ _ _ _ _ _ _ _ _ _ c.loop-left.invariant c.loop-left-test.false
 
 pub put_messages_spec : {M : Type 1} → statement M
 put_messages_spec =
     tie.close
     (tie.spec
-    invariant-loop
-    decreases-loop
+    invariant-loop-left
+    decreases-loop-left
     loop-holds
     is-full-requires
     same_length

@@ -7,12 +7,12 @@ use Rattle.active_messages.proofs.skips.Reads as reads
 use Rattle.active_messages.proofs.skips.Lts as lts
 
 -- src/lib.rt:21:1
-returns : tie.Need-returns
-returns c = (rw (lt-ltb _ _ c.if1.true) refl, omega arith)
+returns : tie.Need-returns-then-next-number
+returns c = (rw (lt-ltb _ _ c.if-next-number.true) refl, omega arith)
 
 -- src/lib.rt:21:1
-returns-2 : tie.Need-returns-2
-returns-2 c = (rw (le-ltb _ _ c.if1.false) refl, omega arith)
+returns-2 : tie.Need-returns-else-next-number
+returns-2 c = (rw (le-ltb _ _ c.if-next-number.false) refl, omega arith)
 
 pub skips_spec : {M : Type 1} → statement M
 skips_spec = tie.close (tie.spec returns returns-2)

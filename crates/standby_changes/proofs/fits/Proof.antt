@@ -7,47 +7,47 @@ use Rattle.standby_changes.proofs.Loops.{Fitting, fitting, fit_next, fit_off, fi
 use Rattle.standby_changes.proofs.fits.Statement.{statement}
 use Rattle.standby_changes.proofs.fits.Tie as tie
 
-abbrev invariant-loop : tie.invariant-loop
-invariant-loop p run first next₀ d₀ next d = Fitting p.version run first next (drop d.at run)
+abbrev invariant-loop-d : tie.invariant-loop-d
+invariant-loop-d p run first next₀ d₀ next d = Fitting p.version run first next (drop d.at run)
 
-abbrev decreases-loop : tie.decreases-loop
-decreases-loop p run first next₀ d₀ next d = length (drop d.at run)
+abbrev decreases-loop-d : tie.decreases-loop-d
+decreases-loop-d p run first next₀ d₀ next d = length (drop d.at run)
 
-loop-holds : tie.Need-loop-init invariant-loop decreases-loop
-loop-holds c = fitting _ c.before.args.run.now _ (λ i. (c.shared-slice-known.given i).fits)
+loop-holds : tie.Need-loop-d-init invariant-loop-d decreases-loop-d
+loop-holds c = fitting _ c.args.run.now _ (λ i. (c.shared_slice_known-1.given i).fits)
 
-returns : tie.Need-returns invariant-loop decreases-loop
+returns : tie.Need-returns-in_default invariant-loop-d decreases-loop-d
 returns c =
-    let k = c.before.before in
-    fit_bad _ k.before.before.before.loop.invariant (sym k.op-from.ensures ∙ ap (res_op _) c.enum_told.given.1)
+    let k = c in
+    fit_bad _ k.loop-d.invariant (sym k.op_from.ensures ∙ ap (res_op _) c.in_default.is)
 
-returns-2 : tie.Need-returns-2 invariant-loop decreases-loop
+returns-2 : tie.Need-returns-in_default-outgoing_by invariant-loop-d decreases-loop-d
 returns-2 c =
-    let op = c.before.before.before.before in
-    let k = op.before.before in
-    fit_off _ _ k.before.before.before.loop.invariant (sym k.op-from.ensures ∙ ap (res_op _) op.op.given.1) (c.before.before.outgoing-by.ensures _) c.enum-told2.given.1
+    let op = c in
+    let k = op in
+    fit_off _ _ k.loop-d.invariant (sym k.op_from.ensures ∙ ap (res_op _) op.in-Got.is) (c.outgoing_by.ensures _) c.in_default-outgoing_by.is
 
-loop-less : tie.Need-loop-smaller invariant-loop decreases-loop
+loop-less : tie.Need-loop-d-smaller invariant-loop-d decreases-loop-d
 loop-less c =
-    let op = c.before.before.before.before.before in
-    let k = op.before.before in
-    (change_shorter _ _ k.before.before.before.loop.invariant.octets (sym k.op-from.ensures ∙ ap (res_op _) op.op.given.1)).1
+    let op = c in
+    let k = op in
+    (change_shorter _ _ k.loop-d.invariant.octets (sym k.op_from.ensures ∙ ap (res_op _) op.in-Got.is)).1
 
-loop-again : tie.Need-loop-preserved invariant-loop decreases-loop
+loop-again : tie.Need-loop-d-preserved invariant-loop-d decreases-loop-d
 loop-again c =
-    let op = c.before.before.before.before.before in
-    let k = op.before.before in
-    fit_next _ _ k.before.before.before.loop.invariant (sym k.op-from.ensures ∙ ap (res_op _) op.op.given.1) (c.before.before.before.outgoing-by.ensures _) c.before.n.given.1
+    let op = c in
+    let k = op in
+    fit_next _ _ k.loop-d.invariant (sym k.op_from.ensures ∙ ap (res_op _) op.in-Got.is) (c.outgoing_by.ensures _) c.in-Next.is
 
-returns-3 : tie.Need-returns-3 invariant-loop decreases-loop
-returns-3 c = fit_none _ c.before.before.loop.invariant (drop_of_length-le _ c.if1.false)
+returns-3 : tie.Need-returns invariant-loop-d decreases-loop-d
+returns-3 c = fit_none _ c.loop-d.invariant (drop_of_length-le _ c.loop-d-test.false)
 
 pub fits_spec : {M : Type 1} → statement M
 fits_spec =
     tie.close
     (tie.spec
-    invariant-loop
-    decreases-loop
+    invariant-loop-d
+    decreases-loop-d
     loop-holds
     (λ c κs. search rules)
     (λ c. search rules)

@@ -8,44 +8,44 @@ use Rattle.standby_changes.proofs.Loops.{Summing, summing, summed, sum_fits, sum
 use Rattle.standby_changes.proofs.message_bytes.Statement.{statement}
 use Rattle.standby_changes.proofs.message_bytes.Tie as tie
 
-abbrev invariant-loop : tie.invariant-loop
-invariant-loop p run sum₀ d₀ sum d = Summing p.version run sum (drop d.at run)
+abbrev invariant-loop-d : tie.invariant-loop-d
+invariant-loop-d p run sum₀ d₀ sum d = Summing p.version run sum (drop d.at run)
 
-abbrev decreases-loop : tie.decreases-loop
-decreases-loop p run sum₀ d₀ sum d = length (drop d.at run)
+abbrev decreases-loop-d : tie.decreases-loop-d
+decreases-loop-d p run sum₀ d₀ sum d = length (drop d.at run)
 
-loop-holds : tie.Need-loop-init invariant-loop decreases-loop
-loop-holds c = summing _ c.before.args.run.now (λ i. (c.shared-slice-known.given i).fits)
+loop-holds : tie.Need-loop-d-init invariant-loop-d decreases-loop-d
+loop-holds c = summing _ c.args.run.now (λ i. (c.shared_slice_known-1.given i).fits)
 
-returns : tie.Need-returns invariant-loop decreases-loop
+returns : tie.Need-returns-in_default invariant-loop-d decreases-loop-d
 returns c =
-    let k = c.before.before in
-    sum_bad _ k.before.before.before.loop.invariant (sym k.op-from.ensures ∙ ap (res_op _) c.enum_told.given.1)
+    let k = c in
+    sum_bad _ k.loop-d.invariant (sym k.op_from.ensures ∙ ap (res_op _) c.in_default.is)
 
-add_sum : tie.Need-overflow-add-sum invariant-loop decreases-loop
+add_sum : tie.Need-overflow_add-sum invariant-loop-d decreases-loop-d
 add_sum c =
-    let k = c.before.before.before.before in
-    omega (arith, sum_fits _ k.before.before.before.loop.invariant (sym k.op-from.ensures ∙ ap (res_op _) c.before.before.op.given.1) c.message-length.ensures)
+    let k = c in
+    omega (arith, sum_fits _ k.loop-d.invariant (sym k.op_from.ensures ∙ ap (res_op _) c.in-Got.is) c.message_length-sum.ensures)
 
-loop-less : tie.Need-loop-smaller invariant-loop decreases-loop
+loop-less : tie.Need-loop-d-smaller invariant-loop-d decreases-loop-d
 loop-less c =
-    let k = c.before.before.before.before in
-    (change_shorter _ _ k.before.before.before.loop.invariant.octets (sym k.op-from.ensures ∙ ap (res_op _) c.before.before.op.given.1)).1
+    let k = c in
+    (change_shorter _ _ k.loop-d.invariant.octets (sym k.op_from.ensures ∙ ap (res_op _) c.in-Got.is)).1
 
-loop-again : tie.Need-loop-preserved invariant-loop decreases-loop
+loop-again : tie.Need-loop-d-preserved invariant-loop-d decreases-loop-d
 loop-again c =
-    let k = c.before.before.before.before in
-    summed _ k.before.before.before.loop.invariant (sym k.op-from.ensures ∙ ap (res_op _) c.before.before.op.given.1) c.message-length.ensures
+    let k = c in
+    summed _ k.loop-d.invariant (sym k.op_from.ensures ∙ ap (res_op _) c.in-Got.is) c.message_length-sum.ensures
 
-returns-2 : tie.Need-returns-2 invariant-loop decreases-loop
-returns-2 c = sum_none _ c.before.before.loop.invariant (drop_of_length-le _ c.if1.false)
+returns-2 : tie.Need-returns invariant-loop-d decreases-loop-d
+returns-2 c = sum_none _ c.loop-d.invariant (drop_of_length-le _ c.loop-d-test.false)
 
 pub message_bytes_spec : {M : Type 1} → statement M
 message_bytes_spec =
     tie.close
     (tie.spec
-    invariant-loop
-    decreases-loop
+    invariant-loop-d
+    decreases-loop-d
     loop-holds
     (λ c κs. search rules)
     (λ c. search rules)

@@ -5,11 +5,11 @@ use Rattle.standby_changes.proofs.Steps.{no_message}
 use Rattle.standby_changes.proofs.message_length.Statement.{statement}
 use Rattle.standby_changes.proofs.message_length.Tie as tie
 
-returns : tie.Need-returns
-returns c = rw c.before.before.op.given.1 (ap length c.slice.ensures)
+returns : tie.Need-returns-in-Record
+returns c = rw c.in-Record.is (ap length c.slice.ensures)
 
-returns-2 : tie.Need-returns-2
-returns-2 c = sym (no_message c.before.before.args.run.now c.before.before.args.op c.match.keys2)
+returns-2 : tie.Need-returns-in_default
+returns-2 c = sym (no_message c.args.run.now c.args.op c.in_default.in_default-own.keys2)
 
 pub message_length_spec : {M : Type 1} → statement M
 message_length_spec = tie.close (tie.spec (λ c. search rules) (λ c κs. search rules) returns returns-2)

@@ -7,13 +7,13 @@ use Rattle.model_session.specs.Session.{top}
 use Rattle.standby_changes.proofs.outgoing_after.Statement.{statement}
 use Rattle.standby_changes.proofs.outgoing_after.Tie as tie
 
-returns : tie.Need-returns
+returns : tie.Need-returns-then-seq-lt-TOP
 returns c =
-    let below : c.before.args.seq < top = omega arith in
+    let below : c.args.seq < top = omega arith in
     rw (lt-ltb _ _ below, add-one)
 
-returns-2 : tie.Need-returns-2
-returns-2 c = rw (le-ltb _ _ c.if1.false)
+returns-2 : tie.Need-returns-else-seq-lt-TOP
+returns-2 c = rw (le-ltb _ _ c.if-seq-lt-TOP.false)
 
 pub outgoing_after_spec : {M : Type 1} → statement M
 outgoing_after_spec = tie.close (tie.spec (λ c. search rules) returns returns-2)

@@ -6,9 +6,9 @@ use Rattle.standby_changes.proofs.run_of.Tie as tie
 
 returns : tie.Need-returns
 returns c =
-    let k = c.before.before in
+    let k = c in
     let b = k.args.buf.now in
-    run_part _ b k.args.run (are_bytes b (λ i. (c.before.shared-slice-known.given i).fits)) k.requires c.bytes-at.ensures
+    run_part _ b k.args.run (are_bytes b (λ i. (c.shared_slice_known-1.given i).fits)) k.requires c.bytes_at.ensures
 
 pub run_of_spec : {M : Type 1} → statement M
 run_of_spec = tie.close (tie.spec (λ c κs. search rules) returns)

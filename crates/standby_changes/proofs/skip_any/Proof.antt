@@ -6,11 +6,11 @@ use mathlib.Core.Path.{sym, ap, ◌∙◌}
 use Rattle.standby_changes.proofs.skip_any.Statement.{statement}
 use Rattle.standby_changes.proofs.skip_any.Tie as tie
 
-returns : tie.Need-returns
-returns c = sym (ap (λ (x : OpAt). forget (res_op c.before.before.before.before.before.args.buf.now x)) c.before.e.given.1) ∙ ap forget c.before.before.before.op-from.ensures
+returns : tie.Need-returns-in-Bad
+returns c = sym (ap (λ (x : OpAt). forget (res_op c.args.buf.now x)) c.in-Bad.is) ∙ ap forget c.op_from.ensures
 
-returns-2 : tie.Need-returns-2
-returns-2 c = sym (ap (λ (x : OpAt). forget (res_op c.before.before.before.before.before.before.args.buf.now x)) c.before.before.op.given.1) ∙ ap forget c.before.before.before.before.op-from.ensures
+returns-2 : tie.Need-returns-in-Got
+returns-2 c = sym (ap (λ (x : OpAt). forget (res_op c.args.buf.now x)) c.in-Got.is) ∙ ap forget c.op_from.ensures
 
 pub skip_any_spec : {M : Type 1} → statement M
 skip_any_spec =

@@ -7,11 +7,11 @@ use Rattle.standby_changes.proofs.Loops.{record_there}
 use Rattle.standby_changes.proofs.skip_record.Statement.{statement}
 use Rattle.standby_changes.proofs.skip_record.Tie as tie
 
-returns-7 : tie.Need-returns-7
+returns-7 : tie.Need-returns
 returns-7 c = λ version.
-    let b = c.before.before.before.before.before.before.before.before.before.before.before.before.before.before.before.before.before.args.buf.now in
-    record_there version _ (sym c.before.before.before.before.before.before.before.before.before.before.before.before.before.before.before.u8-from.ensures ∙ ap (res8 b) c.before.before.before.before.before.before.before.before.before.before.before.before.before.k.given.1) c.before.before.before.if1.false (sym c.before.before.before.before.before.before.before.before.before.before.before.u64-from.ensures ∙ ap (res64 b) c.before.before.before.before.before.before.before.before.before.d.given.1)
-    (sym c.before.before.before.before.before.before.before.u32-from.ensures.0 ∙ ap (res32 b) c.before.before.before.before.before.n.given.1) c.before.before.if2.false (bytes_got c.before.before.before.before.before.before.before.before.before.before.before.before.before.before.before.before.before.args.len b _ c.before.bytes_left.ensures (omega (arith, c.if3.false)))
+    let b = c.args.buf.now in
+    record_there version _ (sym c.u8_from.ensures ∙ ap (res8 b) c.in-Got.is) c.if-k-ne-RECORD.false (sym c.u64_from.ensures ∙ ap (res64 b) c.in-Got-u64_from.is)
+    (sym c.u32_from.ensures.0 ∙ ap (res32 b) c.in-Got-u32_from.is) c.if-n-len.false (bytes_got c.args.len b _ c.bytes_left.ensures (omega (arith, c.if-bytes_left-size.false)))
 
 pub skip_record_spec : {M : Type 1} → statement M
 skip_record_spec =

@@ -7,20 +7,20 @@ use Rattle.standby_changes.proofs.Steps.{starts, starts_not}
 use Rattle.standby_changes.proofs.starts_with_reset.Statement.{statement}
 use Rattle.standby_changes.proofs.starts_with_reset.Tie as tie
 
-returns : tie.Need-returns
-returns c = sym (ap starts_with_reset (held_bad _ _ (sym c.before.before.op-from.ensures ∙ ap (res_op _) c.enum_told.given.1)))
+returns : tie.Need-returns-in_default
+returns c = sym (ap starts_with_reset (held_bad _ _ (sym c.op_from.ensures ∙ ap (res_op _) c.in_default.is)))
 
-returns-2 : tie.Need-returns-2
+returns-2 : tie.Need-returns-in-Reset
 returns-2 c =
-    let op = c.before.before.before in
-    let k = op.before.before in
-    starts _ k.before.before.args.run.now (λ i. (k.before.shared-slice-known.given i).fits) op.op.given.0.0 (sym k.op-from.ensures ∙ ap (res_op _) op.op.given.1) c.enum-told2.given.1
+    let op = c in
+    let k = op in
+    starts _ k.args.run.now (λ i. (k.shared_slice_known-1.given i).fits) op.in-Got.op (sym k.op_from.ensures ∙ ap (res_op _) op.in-Got.is) c.in-Reset.is
 
-returns-3 : tie.Need-returns-3
+returns-3 : tie.Need-returns-in_default-op
 returns-3 c =
-    let op = c.before.before in
-    let k = op.before.before in
-    starts_not _ k.before.before.args.run.now (λ i. (k.before.shared-slice-known.given i).fits) op.op.given.0.0 (sym k.op-from.ensures ∙ ap (res_op _) op.op.given.1) c.match2.keys2
+    let op = c in
+    let k = op in
+    starts_not _ k.args.run.now (λ i. (k.shared_slice_known-1.given i).fits) op.in-Got.op (sym k.op_from.ensures ∙ ap (res_op _) op.in-Got.is) c.in_default-op.in_default-op-own.keys2
 
 pub starts_with_reset_spec : {M : Type 1} → statement M
 starts_with_reset_spec =

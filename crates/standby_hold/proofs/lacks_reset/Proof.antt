@@ -6,7 +6,7 @@ use Rattle.standby_hold.proofs.lacks_reset.Statement.{statement}
 use Rattle.standby_hold.proofs.lacks_reset.Tie as tie
 
 returns : tie.Need-returns
-returns c = ap (λ (x : Bool). eqb c.before.before.args.used 0 && not x) c.starts-with-reset.ensures
+returns c = ap (λ (x : Bool). eqb c.args.used 0 && not x) c.starts_with_reset.ensures
 
 pub lacks_reset_spec : {M : Type 1} → statement M
 lacks_reset_spec = tie.close (tie.spec (λ c κs. search rules) returns)

@@ -6,11 +6,11 @@ use borrow.Author.Rules.{rules}
 use Rattle.standby_pending.proofs.push.Statement.{statement}
 use Rattle.standby_pending.proofs.push.Tie as tie
 
-slice_write_words_2 : tie.Need-slice-write-words-2
+slice_write_words_2 : tie.Need-bounds-words-1-2
 slice_write_words_2 c = simp length-set (omega arith)
 
 returns : tie.Need-returns
-returns c = (pushed c.before.args.words.now _ c.before.args.place c.before.args.handle (omega arith) refl (omega arith) (omega arith), refl)
+returns c = (pushed c.args.words.now _ c.args.place c.args.handle (omega arith) refl (omega arith) (omega arith), refl)
 
 pub push_spec : {M : Type 1} → statement M
 push_spec =

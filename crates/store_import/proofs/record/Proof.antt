@@ -12,16 +12,16 @@ use Rattle.store_import.proofs.record.Tie as tie
 
 record-requires : tie.Need-record-requires
 record-requires c κs =
-    let a = c.before.before.before.before.before.before.before.before.before.args in
-    let p = c.before.before.before.before.before.before.before.before.before.requires in
-    (omega (arith, c.before.before.before.spot_in.ensures), (omega (arith, c.before.before.before.spot_in.ensures), (p.1.1.0 ∙ sym (out_is a.shape a.place _ _ _ _ a.words.now a.bytes.now c.before.before.before.spot_in.ensures p.0 p.1.0), p.1.1.1)))
+    let a = c.args in
+    let p = c.requires in
+    (omega (arith, c.spot_in-p.ensures), (omega (arith, c.spot_in-p.ensures), (p.1.1.0 ∙ sym (out_is a.shape a.place _ _ _ _ a.words.now a.bytes.now c.spot_in-p.ensures p.0 p.1.0), p.1.1.1)))
 
 returns : tie.Need-returns
 returns c =
-    let a = c.before.before.before.before.before.before.before.before.before.before.before.before.before.before.args in
-    let r = c.before.before.before.before.«record» in
-    let p = c.before.before.before.before.before.before.before.before.before.before.before.before.before.before.requires in
-    spot_both a.shape a.place _ _ _ _ c.before.before.before.before.before.before.before.before.spot_in.ensures.at a.words.now a.bytes.now p.0 p.1.0 (changed a.shape.bytes a.shape.messages (record_msg a.seq a.text.now ∷ [])) r.new.0 r.new.1.0 r.auto.0 r.auto.1.0 (r.ensures a.shape.bytes c.before.before.before.before.before.before.before.before.spot_in.ensures.bytes_part)
+    let a = c.args in
+    let r = c.«record» in
+    let p = c.requires in
+    spot_both a.shape a.place _ _ _ _ c.spot_in-p.ensures.at a.words.now a.bytes.now p.0 p.1.0 (changed a.shape.bytes a.shape.messages (record_msg a.seq a.text.now ∷ [])) r.new.words r.new.bytes r.auto.words r.auto.bytes (r.ensures a.shape.bytes c.spot_in-p.ensures.bytes_part)
 
 pub record_spec : {M : Type 1} → statement M
 record_spec =

@@ -9,18 +9,18 @@ use borrow.Author.Rules.{rules}
 use Rattle.store_import.proofs.record_none.Statement.{statement}
 use Rattle.store_import.proofs.record_none.Tie as tie
 
-record-none-requires : tie.Need-record-none-requires
+record-none-requires : tie.Need-record_none-requires
 record-none-requires c κs =
-    let a = c.before.before.before.before.before.before.args in
-    let p = c.before.before.before.before.before.before.requires in
-    omega (arith, out_is a.shape a.place _ _ _ _ a.words.now a.bytes.now c.before.before.spot_in.ensures p.0 p.1.0, c.before.before.spot_in.ensures, p.1.1.0, p.1.1.1)
+    let a = c.args in
+    let p = c.requires in
+    omega (arith, out_is a.shape a.place _ _ _ _ a.words.now a.bytes.now c.spot_in-p.ensures p.0 p.1.0, c.spot_in-p.ensures, p.1.1.0, p.1.1.1)
 
 returns : tie.Need-returns
 returns c =
-    let a = c.before.before.before.before.before.before.before.before.before.args in
-    let r = c.before.before.record-none in
-    let p = c.before.before.before.before.before.before.before.before.before.requires in
-    spot_words a.shape a.place _ _ _ _ c.before.before.before.before.before.spot_in.ensures.at a.words.now a.bytes.now p.0 p.1.0 (changed a.shape.bytes a.shape.messages (record_bare a.seq ∷ [])) r.new.0 r.auto.0 (r.ensures a.shape.bytes)
+    let a = c.args in
+    let r = c.record_none in
+    let p = c.requires in
+    spot_words a.shape a.place _ _ _ _ c.spot_in-p.ensures.at a.words.now a.bytes.now p.0 p.1.0 (changed a.shape.bytes a.shape.messages (record_bare a.seq ∷ [])) r.new.words r.auto.words (r.ensures a.shape.bytes)
 
 pub record_none_spec : {M : Type 1} → statement M
 record_none_spec =

@@ -2,8 +2,8 @@ use borrow.Author.Rules.{rules}
 use Rattle.store_resend.proofs.go_on.Statement.{statement}
 use Rattle.store_resend.proofs.go_on.Tie as tie
 
-returns : tie.Need-returns
-returns c = c.pass-over.ensures.carries _ _
+returns : tie.Need-returns-then-kept-eq0
+returns c = c.pass_over-p.ensures.carries _ _
 
 pub go_on_spec : {M : Type 1} → statement M
 go_on_spec =

@@ -5,17 +5,17 @@ use native.Mathlib.Omega.{arith}
 use Rattle.store_resend.proofs.stays_until.Statement.{statement}
 use Rattle.store_resend.proofs.stays_until.Tie as tie
 
-returns : tie.Need-returns
-returns c = stays_before (range_at c.before.before.before.args.ranges.now c.before.before.before.args.j) c.before.before.before.args.n (omega arith)
+returns : tie.Need-returns-then-n-first
+returns c = stays_before (range_at c.args.ranges.now c.args.j) c.args.n (omega arith)
 
-returns-2 : tie.Need-returns-2
-returns-2 c = stays_open (range_at c.before.before.before.before.args.ranges.now c.before.before.before.before.args.j) c.before.before.before.before.args.n (omega arith) c.if2.taken
+returns-2 : tie.Need-returns-then-last-eq0
+returns-2 c = stays_open (range_at c.args.ranges.now c.args.j) c.args.n (omega arith) c.if-last-eq0.true
 
-returns-3 : tie.Need-returns-3
-returns-3 c = stays_in (range_at c.before.before.before.before.before.args.ranges.now c.before.before.before.before.before.args.j) c.before.before.before.before.before.args.n (omega arith) c.before.if2.left (omega arith)
+returns-3 : tie.Need-returns-then-n-last
+returns-3 c = stays_in (range_at c.args.ranges.now c.args.j) c.args.n (omega arith) c.if-last-eq0.false (omega arith)
 
-returns-4 : tie.Need-returns-4
-returns-4 c = stays_past (range_at c.before.before.before.before.before.args.ranges.now c.before.before.before.before.before.args.j) c.before.before.before.before.before.args.n (omega arith) c.before.if2.left (omega arith)
+returns-4 : tie.Need-returns-else-n-last
+returns-4 c = stays_past (range_at c.args.ranges.now c.args.j) c.args.n (omega arith) c.if-last-eq0.false (omega arith)
 
 pub stays_until_spec : {M : Type 1} → statement M
 stays_until_spec =

@@ -6,10 +6,10 @@ use Rattle.active_messages.proofs.put.put_record.Tie as tie
 
 returns : tie.Need-returns
 returns c =
-    let u = c.before.before.before.before.before.before in
-    let t = u.before.before.before.before in
-    let p = t.before.before.before.before.requires in
-    wrote_record _ _ (piece_length _ _ _ _ p.0 p.1.0) (wrote_on t.tagged.ensures.0 u.put-u32.ensures.0) c.before.before.put-message.ensures
+    let u = c in
+    let t = u in
+    let p = t.requires in
+    wrote_record _ _ (piece_length _ _ _ _ p.0 p.1.0) (wrote_on t.tagged-pos.ensures.0 u.put_u32-pos.ensures.0) c.put_message.ensures
 
 pub put_record_spec : {M : Type 1} → statement M
 put_record_spec =

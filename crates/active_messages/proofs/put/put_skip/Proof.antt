@@ -4,13 +4,13 @@ use Rattle.active_messages.proofs.put.put_skip.Statement.{statement}
 use Rattle.active_messages.proofs.put.put_skip.Tie as tie
 
 tagged-requires : tie.Need-tagged-requires
-tagged-requires c κs = skip_room _ _ _ _ c.before.if1.true c.before.before.before.requires
+tagged-requires c κs = skip_room _ _ _ _ c.if-next-n.true c.requires
 
-returns : tie.Need-returns
-returns c = wrote_skip _ _ _ c.before.before.before.before.if1.true c.before.before.tagged.ensures.0
+returns : tie.Need-returns-then-next-n
+returns c = wrote_skip _ _ _ c.if-next-n.true c.tagged.ensures.0
 
-returns-2 : tie.Need-returns-2
-returns-2 c = skip_nothing _ _ _ _ c.if1.false
+returns-2 : tie.Need-returns-else-next-n
+returns-2 c = skip_nothing _ _ _ _ c.if-next-n.false
 
 pub put_skip_spec : {M : Type 1} → statement M
 put_skip_spec =

@@ -4,7 +4,7 @@ use Rattle.active_messages.proofs.put.put_text.Statement.{statement}
 use Rattle.active_messages.proofs.put.put_text.Tie as tie
 
 returns : tie.Need-returns
-returns c = wrote_on c.before.before.before.before.before.before.tag.ensures.0 c.before.before.blob.ensures.0
+returns c = wrote_on c.tag-pos.ensures.0 c.blob.ensures.0
 
 pub put_text_spec : {M : Type 1} → statement M
 put_text_spec = tie.close (tie.spec (λ c κs. search rules) (λ c κs. search rules) (λ c. search rules) returns)
