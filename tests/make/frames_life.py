@@ -1,5 +1,5 @@
 #!/usr/bin/env python3
-"""Writes crates/frames/stdin and stdout, on which `rt check` tests the program `frames`: document 01's two lines, then the life of
+"""Writes crates/frames/stdin and stdout, on which `rt ci` tests the program `frames`: document 01's two lines, then the life of
 oracle/recorded/frames/09-life.in with every epoch raised by 5, since one standby answers them all; and what the Rust prints for them
 (oracle/rust-frames-program).
 """
