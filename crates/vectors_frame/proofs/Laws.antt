@@ -13,7 +13,6 @@ use Rattle.model_frame.specs.Reading.{max_body}
 use Rattle.model_frame.specs.Writing.{body_bytes, encode, fine, wrote, refused, write_outcome, WriteAnswer, took, write_refusal, write_answer}
 use Rattle.frame_writer.specs.Encoding.{Encoded}
 use Rattle.frame_writer.specs.declared.Written.{Written}
-use Rattle.frame_writer.specs.declared.Written
 
 -- how many bytes an answer tells of
 abbrev told : WriteAnswer → ℕ
