@@ -14,7 +14,7 @@ use Rattle.frame_fields.specs.declared.CommitNumber.{CommitNumber}
 use Rattle.model_frame.specs.Frame.{Frame}
 use Rattle.model_frame.specs.Writing.{encode}
 use Rattle.model_session.specs.Session.{Session, top}
-use Rattle.model_session.specs.Sender.{Sender, new_sender, cut_from, send_next, cannotSend}
+use Rattle.model_session.specs.Sender.{Sender, new_sender, cut_from, send_next, cannot_send}
 use Rattle.model_session.specs.Whole.{whole_batches}
 use Rattle.active_batch.specs.declared.BatchWritten.TheVariants.{Batch, TooShort}
 use Rattle.active_batch.specs.Batch.{frame_from, resume_from, WroteBatch}
@@ -31,11 +31,11 @@ use Rattle.active.specs.Whole as whole
 
 module _ (limit : ℕ) (a : Session) (i h e last n : ℕ) (count : n ≡ length (whole_batches limit a)) (small : last ≤ top) where
   pub numbers_past : top - last < n → whole.SendStart.refused 24 ≡ start_from limit (some a) i h e last
-  unfolding start_from cannotSend
+  unfolding start_from cannot_send
   numbers_past g = sym (rw (lt-ltb top (last + length (whole_batches limit a)) (omega (arith, count))))
 
   pub numbers_fit : n ≤ top - last → whole.SendStart.ready i (new_sender h e last) ≡ start_from limit (some a) i h e last
-  unfolding start_from cannotSend
+  unfolding start_from cannot_send
   numbers_fit g = sym (rw (le-ltb top (last + length (whole_batches limit a)) (omega (arith, count))))
 
 abbrev is_ready : Begun → ℕ

@@ -16,7 +16,7 @@ use Rattle.model_frame.specs.Writing.{encode}
 use Rattle.model_frame.specs.Sizes.{sizes}
 use Rattle.model_frame.proofs.Sizes.{encode_size}
 use Rattle.model_session.specs.Session.{Session, top, Holdable}
-use Rattle.model_session.specs.Sender.{Sender, new_sender, sent_from, send_next, Sends, all_sent, is_next, cannotSend}
+use Rattle.model_session.specs.Sender.{Sender, new_sender, sent_from, send_next, Sends, all_sent, is_next, cannot_send}
 use Rattle.model_session.specs.Whole.{whole_batches, whole_frames, frames_of}
 use Rattle.model_session.proofs.Basics.{none≢some, some_inj, true≢false, each_right, each_map}
 use Rattle.model_session.proofs.Sender.{sends_whole}
@@ -216,7 +216,7 @@ module _ (limit : ℕ) (shape : Shape) (w b : List ℕ) (a : Session) (h e last 
     fits : last + length frames ≤ top
 
   begun : (i : ℕ) (s : Sending) → ready s.place (sender_of s) ≡ start_from limit (some a) i h e last → Beginning i s
-  unfolding start_from cannotSend whole_frames
+  unfolding start_from cannot_send whole_frames
   begun i s r = go (ltb top (last + length (whole_batches limit a))) refl r
     where
       go : (t : Bool) → ltb top (last + length (whole_batches limit a)) ≡ t → ready s.place (sender_of s) ≡ cond t (call.SendStart.refused 24) (ready i (new_sender h e last)) → Beginning i s

@@ -7,7 +7,7 @@ use Rattle.model_frame.specs.Bytes.{write}
 use Rattle.model_frame.specs.Frame.{Frame}
 use Rattle.model_frame.specs.Writing.{encode}
 use Rattle.model_session.specs.Session.{Session, top}
-use Rattle.model_session.specs.Sender.{Sender, new_sender, send_next, cannotSend}
+use Rattle.model_session.specs.Sender.{Sender, new_sender, send_next, cannot_send}
 use Rattle.model_session.specs.Whole.{whole_frames}
 use Rattle.model_standby.specs.Store.{session_at}
 use Rattle.store_areas.specs.declared.Shape.{Shape}
@@ -57,7 +57,7 @@ start_of Begun.InvalidAreas = refused Refusal.rules_broken
 
 unfoldable pub start_from : ℕ → Option Session → ℕ → ℕ → ℕ → ℕ → SendStart
 start_from limit none i h e last = refused Refusal.rules_broken
-start_from limit (some a) i h e last = cond (cannotSend limit a (new_sender h e last)) (refused Refusal.numbers_past) (ready i (new_sender h e last))
+start_from limit (some a) i h e last = cond (cannot_send limit a (new_sender h e last)) (refused Refusal.numbers_past) (ready i (new_sender h e last))
 
 -- THE PROMISE OF BEGINNING: the store is only read
 pub record Begins (limit : ℕ) (shape : Shape) (w b : List ℕ) (i h e last : ℕ) (r : Begun) : Type 0 where

@@ -13,7 +13,7 @@ use Rattle.base_flags.specs.Flag.{is_set, byte}
 use Rattle.base_flags.proofs.Flags.{written_so}
 use Rattle.model_frame.specs.Writing.{encode}
 use Rattle.model_session.specs.Session.{Session}
-use Rattle.model_session.specs.Sender.{Sender, new_sender, cannotSend, cut_from, sent, sent_from, send_next}
+use Rattle.model_session.specs.Sender.{Sender, new_sender, cannot_send, cut_from, sent, sent_from, send_next}
 use Rattle.active_batch.specs.Batch.{resume_from}
 use Rattle.store_areas.specs.declared.Shape.{Shape}
 use Rattle.active.specs.declared.Sending.{Sending}
@@ -143,7 +143,7 @@ new_start limit none i h e last p = absurd (omega (arith, clash p))
   where
     clash : {j : ℕ} {t : Sender} → ready j t ≡ whole.SendStart.refused 25 → ◌≡◌ {A = ℕ} 0 1
     clash p = cc
-new_start limit (some a) i h e last {j} {t} p = go (cannotSend limit a (new_sender h e last)) p
+new_start limit (some a) i h e last {j} {t} p = go (cannot_send limit a (new_sender h e last)) p
   where
     clash : ready j t ≡ whole.SendStart.refused 24 → ◌≡◌ {A = ℕ} 0 1
     clash p = cc

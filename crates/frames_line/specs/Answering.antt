@@ -14,7 +14,7 @@ use Rattle.standby_state.specs.Answers.{answer_of}
 use Rattle.standby_state.specs.Outcomes.{settings_of}
 use Rattle.standby_step.specs.Calls.{room_all, standby_of, allowed_all, Called}
 
--- `framesSettings`, as the code has them: four sessions, C 4,096, M 64, incarnation 7, lag 0; a hold area's length is that of the lent slice by the row's
+-- `frames_settings`, as the code has them: four sessions, C 4,096, M 64, incarnation 7, lag 0; a hold area's length is that of the lent slice by the row's
 abbrev pub the_settings : Settings
 the_settings = record { shape = record { places = 4; bytes = 4096; messages = 64 }; incarnation = record { 0 = 7 }; max_lag = 0 }
 

@@ -1,4 +1,4 @@
--- How a frame is read: document 01's tables of kinds and changes. The version goes to `takesStamp` alone, which takes every
+-- How a frame is read: document 01's tables of kinds and changes. The version goes to `takes_stamp` alone, which takes every
 -- stamp in every version. Assumes nothing.
 use Rattle.std.specs.Prelude.{ℕ, ◌+◌, ◌-◌, cond, ◌||◌, List, [], ◌∷◌, length, take, drop, ltb, eqb}
 use Rattle.std.proofs.Math.Option.{Option, none, some}

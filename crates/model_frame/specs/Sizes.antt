@@ -2,7 +2,7 @@
 use Rattle.std.specs.Prelude.{ℕ, ◌+◌, ◌*◌, List, [], ◌∷◌, length}
 use Rattle.model_frame.specs.Frame.{Change, set_incoming, set_incoming_in_flight, set_in_flight, record_msg, record_bare, reset, set_created_at, set_marks, AppRecord, Frame, hello, welcome, bind, batch, ack, nack, bound, checked}
 
--- a change's: that of `changeBytes` (`change-size`)
+-- a change's: that of `change_bytes` (`change_size`)
 abbrev pub size_of : Change → ℕ
 size_of (set_incoming n) = 9
 size_of (set_incoming_in_flight n f) = 17

@@ -11,7 +11,7 @@ use lib.Dec.{ltb, leb, nltb→le}
 use Rattle.model_frame.specs.Frame.{Change, reset, batch}
 use Rattle.model_session.specs.Session.{Session, Msg, new_session, Rising, Holdable, top}
 use Rattle.model_session.specs.Whole.{stamp_part, send_msg, batch_if, batches_from, whole_batches, frames_of, whole_frames}
-use Rattle.model_session.specs.Sender.{cannotSend, Sender, new_sender, messages_from, sent_part, cut_batch, opening, cut_from, send_next, Sends, all_sent, is_next}
+use Rattle.model_session.specs.Sender.{cannot_send, Sender, new_sender, messages_from, sent_part, cut_batch, opening, cut_from, send_next, Sends, all_sent, is_next}
 use Rattle.model_session.proofs.Basics.{false→not_t, cond-true, cond-false, leb_true, leb_false, ltb_false, none≢some, some_inj}
 
 -- ---- the messages from a number on
@@ -124,16 +124,16 @@ sends_whole limit C M h e last a ok =
     (ap (batches_from limit a (reset ∷ stamp_part a.stamp) 0 1) (sym (from_all 1 1 a.next_out a.messages (omega arith) ok.msgs_rise)))
 
 -- past 24 the commit numbers stay within their type
-pub can_send : (limit h e last : ℕ) (a : Session) → cannotSend limit a (new_sender h e last) ≡ false → last + length (whole_batches limit a) ≤ top
-unfolding cannotSend
+pub can_send : (limit h e last : ℕ) (a : Session) → cannot_send limit a (new_sender h e last) ≡ false → last + length (whole_batches limit a) ≤ top
+unfolding cannot_send
 can_send limit h e last a p = nltb→le top (last + length (whole_batches limit a)) (false→not_t (ltb top (last + length (whole_batches limit a))) p)
 
 -- a new session is one batch: 24 with the last commit number 2^64 - 1, not with 2^64 - 2, nor after the first frame
 numbers_end :
-    cannotSend 1048576 new_session (new_sender 9 5 top)
-    ∷ cannotSend 1048576 new_session (new_sender 9 5 (top - 1))
-    ∷ cannotSend 1048576 new_session (record { handle = 9; epoch = 5; last = top; from = some 1 })
+    cannot_send 1048576 new_session (new_sender 9 5 top)
+    ∷ cannot_send 1048576 new_session (new_sender 9 5 (top - 1))
+    ∷ cannot_send 1048576 new_session (record { handle = 9; epoch = 5; last = top; from = some 1 })
     ∷ []
     ≡ true ∷ false ∷ false ∷ []
-unfolding cannotSend whole_batches
+unfolding cannot_send whole_batches
 numbers_end = refl

@@ -1,4 +1,4 @@
--- Sending a session whole, one frame a call: the frames of `wholeFrames` (Whole.antt), by `sends-whole` in proofs/Sender.
+-- Sending a session whole, one frame a call: the frames of `whole_frames` (Whole.antt), by `sends_whole` in proofs/Sender.
 -- Assumes nothing.
 use Rattle.std.specs.Prelude.{◌≡◌, ℕ, zero, suc, ◌+◌, max, List, [], ◌∷◌, ◌++◌, Bool, false, cond, length, ltb, leb}
 use Rattle.std.proofs.Math.Option.{Option, none, some}
@@ -68,10 +68,10 @@ module _ (limit : ℕ) (a : Session) where
     is_next : {s t : Sender} {f : Frame} {fs : List Frame} → send_next s ≡ some (f, t) → Sends t fs → Sends s (f ∷ fs)
 
   -- 24: at the start the commit numbers would pass 2^64 - 1
-  abbrev pub passesTop : ℕ → Option ℕ → Bool
-  passesTop last none = false
-  passesTop last (some zero) = ltb top (last + length (whole_batches limit a))
-  passesTop last (some (suc n)) = false
+  abbrev pub passes_top : ℕ → Option ℕ → Bool
+  passes_top last none = false
+  passes_top last (some zero) = ltb top (last + length (whole_batches limit a))
+  passes_top last (some (suc n)) = false
 
-  unfoldable pub cannotSend : Sender → Bool
-  cannotSend s = passesTop s.last s.from
+  unfoldable pub cannot_send : Sender → Bool
+  cannot_send s = passes_top s.last s.from

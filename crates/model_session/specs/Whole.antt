@@ -38,8 +38,8 @@ batch_if true now rest = now ∷ rest
 batch_if false now rest = rest
 
 module _ (limit : ℕ) (a : Session) where
-  -- the batch so far with its message bytes, the next number, the messages left; one batch a call is `sendNext` (Sender.antt), and that both give the
-  -- same frames is `sends-whole` (proofs/Sender)
+  -- the batch so far with its message bytes, the next number, the messages left; one batch a call is `send_next` (Sender.antt), and that both give the
+  -- same frames is `sends_whole` (proofs/Sender)
   abbrev pub batches_from : List Change → ℕ → ℕ → List Msg → List (List Change)
   batches_from now bytes next [] = (now ++ closing a next) ∷ []
   batches_from now bytes next (m ∷ ms) =

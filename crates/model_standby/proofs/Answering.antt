@@ -151,7 +151,7 @@ module _ (L : Settings) where
   unfolding step
   frame_told s w i o r = given_says s (given w) i (passed w o) r
 
--- writing an answer never meets 8 or 1, nor 9 in an area of `answerBytes`
+-- writing an answer never meets 8 or 1, nor 9 in an area of `answer_bytes`
 pub answers_tellable : (L : Settings) (s : Standby) (c : Call) → L.incarnation ≤ top → OkCall c → Telling L s → TellableAnswer (step L s c).answer
 unfolding step
 answers_tellable L s (on_frame_held w) i o r = told_tellable (on_given L s (given w)).answer (given_says L s (given w) i (passed w o) r)

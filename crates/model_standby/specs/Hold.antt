@@ -1,7 +1,7 @@
 -- What a frame writes into the hold areas: a Whole or LastWhole that passes 13 to 18 and the commit number writes its changes
 -- after those held, in frame form, and no other byte, also if its outgoing numbers then give Diverged.
--- The tests are those of Standby.antt, said the other way round: a Whole writes just if it is accepted (`whole-writes`), and a LastWhole that is accepted
--- writes (`last-writes`, both in proofs/Holding).
+-- The tests are those of Standby.antt, said the other way round: a Whole writes just if it is accepted (`whole_writes`), and a LastWhole that is accepted
+-- writes (`last_writes`, both in proofs/Holding).
 -- Assumes nothing.
 use Rattle.std.specs.Prelude.{ℕ, List, ◌++◌, Bool, cond, not, ◌&&◌, ◌||◌, ltb}
 use Rattle.std.proofs.Math.Option.{Option, none, some}

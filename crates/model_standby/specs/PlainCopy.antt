@@ -12,7 +12,7 @@ use Rattle.model_standby.specs.State.{Settings, Bound, Standby, Call, on_frame_h
 use Rattle.model_standby.specs.Standby.{step}
 
 -- ---- the key of a session: its bytes, and how many earlier places have the same bytes. In every store that operations made that is 0, and the key is its
--- bytes (`apart-run`, `apart-found` in proofs/Apart); areas that hold one key twice are allowed too
+-- bytes (`apart_run`, `apart_found` in proofs/Apart); areas that hold one key twice are allowed too
 
 pub record OwnKey : Type 0 where
   pub key : Key

@@ -94,7 +94,7 @@ module _ (L : Settings) where
 abbrev pub follows : Bound → ℕ → Bool
 follows b n = eqb n (suc b.number) && ltb b.number top
 
--- with nothing held the byte sum counts as 0. In a run from a new standby it then is 0, so that `raised` is document 01's sum: `run-raised` in proofs/Ruling
+-- with nothing held the byte sum counts as 0. In a run from a new standby it then is 0, so that `raised` is document 01's sum: `run_raised` in proofs/Ruling
 abbrev pub held_sum : Bound → ℕ
 held_sum b = cond (is_empty b.held) 0 b.bytes
 

@@ -15,7 +15,7 @@ abbrev pub lines_of : List ℕ → List (List ℕ)
 lines_of [] = []
 lines_of (b ∷ s) = cond (eqb b feed) ([] ∷ lines_of s) (in_front b (lines_of s))
 
--- ---- the same, of a text that is read in pieces: `handed-read` in proofs/Split shows that it gives these lines
+-- ---- the same, of a text that is read in pieces: `handed_read` in proofs/Split shows that it gives these lines
 
 -- where the first line feed stands, or the length
 abbrev pub first_feed : List ℕ → ℕ

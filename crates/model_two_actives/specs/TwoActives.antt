@@ -12,7 +12,7 @@ use Rattle.model_standby.specs.State.{Settings, incarnation_of, Standby, Call, o
 use Rattle.model_standby.specs.Standby.{run_pending, step, run}
 use Rattle.model_standby.specs.Demand.{Hands}
 
--- "at most, due commits run": no counter (epoch, checked flag), binding, held change or session is another; the state is that of `runPending`, or as it was
+-- "at most, due commits run": no counter (epoch, checked flag), binding, held change or session is another; the state is that of `run_pending`, or as it was
 pub record OnlyCommits (s s₁ : Standby) : Type 0 where
   pub counters : s₁.counters ≡ s.counters
   pub handles : s₁.handles ≡ s.handles

@@ -16,7 +16,7 @@ use Rattle.active.specs.declared.Sending.{Sending}
 use Rattle.active.specs.declared.Begun.{Begun}
 use Rattle.active.specs.declared.Begun
 use Rattle.active.specs.Whole.{stored_at, start_of, start_from, SendCalls, SentWhole}
-use Rattle.theorem_whole_copy.specs.Demand.{Lent, Start, First, framesOfA, Claim}
+use Rattle.theorem_whole_copy.specs.Demand.{Lent, Start, First, frames_of_a, Claim}
 
 -- the session that a file builds
 abbrev pub session_of : Shape → List ℕ → Session
@@ -36,4 +36,4 @@ pub record LikeAny (s : Shape) (file w b : List ℕ) (i : ℕ) : Type 0 where
   -- demand 3: of a start, that the session sent is one the store can hold need not be asked
   pub copied : (set : Settings) → set.shape ≡ s → (limit : ℕ) (B : Session) (k : OwnKey) (h : ℕ) (bound : Bound) (x : Lent)
       → (start : Holdable set.shape.bytes set.shape.messages (session_of s file) → Start set limit (session_of s file) B k h bound x)
-      → (cs : List Call) (z : Lent) (d : First set x.counters.epoch.0 (framesOfA set limit (session_of s file) h bound x) x cs z) → Claim set limit (session_of s file) B k h bound x cs z d
+      → (cs : List Call) (z : Lent) (d : First set x.counters.epoch.0 (frames_of_a set limit (session_of s file) h bound x) x cs z) → Claim set limit (session_of s file) B k h bound x cs z d

@@ -24,7 +24,7 @@ use Rattle.active.specs.declared.Sent.{Sent}
 use Rattle.active.specs.Whole.{SendsWhole, Sofar, SentWhole}
 use Rattle.standby_state.specs.declared.Settings.{Settings}
 use Rattle.standby_step.specs.Calls.{room_all}
-use Rattle.theorem_whole_copy.specs.Demand.{Lent, stands_for, settings, Runs, First, Start, framesOfA, Claim}
+use Rattle.theorem_whole_copy.specs.Demand.{Lent, stands_for, settings, Runs, First, Start, frames_of_a, Claim}
 use Rattle.theorem_whole_copy.proofs.Model.{runs, modelled}
 
 run_append : (L : state.Settings) (st : Standby) (cs more : List Call) → run L (run L st cs) more ≡ run L st (cs ++ more)
@@ -58,7 +58,7 @@ module _ (s : Settings) (limit : ℕ) (A B : Session) (k : OwnKey) (h : ℕ) (b 
   }
 
   -- THE THEOREM
-  pub demand_3 : (cs : List Call) (z : Lent) (d : First s x.counters.epoch.0 (framesOfA s limit A h b x) x cs z) → Claim s limit A B k h b x cs z d
+  pub demand_3 : (cs : List Call) (z : Lent) (d : First s x.counters.epoch.0 (frames_of_a s limit A h b x) x cs z) → Claim s limit A B k h b x cs z d
   demand_3 cs z d =
       let m = modelled s (room_all x.row x.holds) d start.allowed refl st refl in
       let c = theorem.demand_3 L limit A B k h b st model_start cs m.list in
@@ -74,7 +74,7 @@ module _ (s : Settings) (limit : ℕ) (A B : Session) (k : OwnKey) (h : ℕ) (b 
 
   -- the frames of A as `send_whole` gives them, over the active's store (shape, w, a): once each in order
   module _ (shape : Shape) (w a : List ℕ) (fs : List (List ℕ)) (t : Sending) (sent : SentWhole limit shape w a A h x.counters.epoch.0 b.number fs t) where
-    pub are_A's : Sofar (framesOfA s limit A h b x) fs
+    pub are_A's : Sofar (frames_of_a s limit A h b x) fs
     are_A's = sent.so
 
     map_map : (gs : List Frame) → map on_frame_held (map encode gs) ≡ theorem.handed L x.counters.epoch.0 gs
@@ -92,7 +92,7 @@ module _ (s : Settings) (limit : ℕ) (A B : Session) (k : OwnKey) (h : ℕ) (b 
         ∙ theorem.cut_short L limit A B k h b st model_start sent.so.sent g left (sym (sent.so.all ∙ ap (λ (l : List Frame). sent.so.sent ++ l) e))
 
     -- all that a sending gives until it says done, handed in, makes the session A
-    pub sent_whole : {z : Lent} {out out' : List ℕ} (f : Frame) (gs : List Frame) → f ∷ gs ≡ framesOfA s limit A h b x → SendsWhole limit shape w a t out out' Sent.Done → Runs s x (map on_frame_held fs) z
+    pub sent_whole : {z : Lent} {out out' : List ℕ} (f : Frame) (gs : List Frame) → f ∷ gs ≡ frames_of_a s limit A h b x → SendsWhole limit shape w a t out out' Sent.Done → Runs s x (map on_frame_held fs) z
         → session_at (places_of s.shape z.words z.bytes) b.place ≡ some A
     sent_whole {out = out} {out' = out'} f gs e said r =
         ap (λ (u : Standby). session_at u.places b.place) (sym (reaches r (f ∷ gs) (sent.then_all out out' said ∙ ap (map encode) (sym e))))

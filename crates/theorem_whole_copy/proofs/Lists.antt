@@ -34,7 +34,7 @@ use Rattle.standby_state.specs.declared.Settings.{Settings}
 use Rattle.standby_state.specs.declared.Answer.{Answer}
 use Rattle.standby_state.specs.Answers.{answer_of}
 use Rattle.standby_step.specs.Calls.{room_all}
-use Rattle.theorem_whole_copy.specs.Demand.{Lent, stands_for, settings, Calls, Runs, no_calls, call, First, ends, ours, aside, flushes, drops, Start, framesOfA}
+use Rattle.theorem_whole_copy.specs.Demand.{Lent, stands_for, settings, Calls, Runs, no_calls, call, First, ends, ours, aside, flushes, drops, Start, frames_of_a}
 use Rattle.theorem_whole_copy.proofs.Model.{one}
 use Rattle.theorem_whole_copy.proofs.Demand3.{demand_3}
 
@@ -114,7 +114,7 @@ f₁ = batch 9 5 8 whole (reset ∷ record_msg 1 (7 ∷ []) ∷ []) []
 abbrev f₂ : Frame
 f₂ = batch 9 5 9 last_whole (record_msg 2 [] ∷ set_incoming 4 ∷ set_marks [] ∷ []) []
 
-are_frames : framesOfA s₁ 0 A₁ 9 b₁ x₁ ≡ f₁ ∷ f₂ ∷ []
+are_frames : frames_of_a s₁ 0 A₁ 9 b₁ x₁ ≡ f₁ ∷ f₂ ∷ []
 unfolding whole_frames whole_batches
 are_frames = refl
 
@@ -158,7 +158,7 @@ Ends z a = session_at (places_of s₁.shape z.words z.bytes) 0 ≡ some a
 pub ends_in_A : {z : Lent} → Runs s₁ x₁ calls₁ z → Ends z A₁
 unfolding whole_frames whole_batches
 ends_in_A {z} (call p₁ (call p₂ (call p₃ (call p₄ (call {y = y₅} {a = a₅} p₅ (call p₆ no_calls)))))) =
-    let d : First s₁ 5 (framesOfA s₁ 0 A₁ 9 b₁ x₁) x₁ calls₁ z =
+    let d : First s₁ 5 (frames_of_a s₁ 0 A₁ 9 b₁ x₁) x₁ calls₁ z =
     aside by_frame p₁ (said_26 p₁) (ours by_held p₂ (flushes 1 p₃ (aside by_frame p₄ (is_stale _) (ours by_frame p₅ (drops 1 p₆ ends))))) in
     let c = demand_3 s₁ 0 A₁ B₁ (record { key = place₁.key; earlier = 0 }) 9 b₁ x₁ start₁ calls₁ z d in
     c.is_A_or_B ∙ last_taken (accepted (answer_of y₅.bytes a₅)) c.all_taken.1.0
@@ -166,5 +166,5 @@ ends_in_A {z} (call p₁ (call p₂ (call p₃ (call p₄ (call {y = y₅} {a = 
 pub ends_in_B : {z : Lent} → Runs s₁ x₁ calls₂ z → Ends z B₁
 unfolding whole_frames whole_batches
 ends_in_B {z} (call p₁ (call p₂ (call p₃ no_calls))) =
-    let d : First s₁ 5 (framesOfA s₁ 0 A₁ 9 b₁ x₁) x₁ calls₂ z = ours by_held p₁ (drops 1 p₂ (aside by_frame p₃ (is_stale _) ends)) in
+    let d : First s₁ 5 (frames_of_a s₁ 0 A₁ 9 b₁ x₁) x₁ calls₂ z = ours by_held p₁ (drops 1 p₂ (aside by_frame p₃ (is_stale _) ends)) in
     (demand_3 s₁ 0 A₁ B₁ (record { key = place₁.key; earlier = 0 }) 9 b₁ x₁ start₁ calls₂ z d).is_A_or_B

@@ -19,7 +19,7 @@ use Rattle.standby_state.specs.Answers.{answer_of}
 use Rattle.standby_state.specs.Outcomes.{settings_of}
 use Rattle.standby_step.specs.Steps.{room_of}
 use Rattle.standby_step.specs.Calls.{room_all}
-use Rattle.theorem_whole_copy.specs.Demand.{Lent, stands_for, Allowed, Calls, Runs, no_calls, call, First, ends, ours, aside, flushes, drops, tookLast, AllTaken}
+use Rattle.theorem_whole_copy.specs.Demand.{Lent, stands_for, Allowed, Calls, Runs, no_calls, call, First, ends, ours, aside, flushes, drops, took_last, AllTaken}
 
 module _ (s : Settings) (room : ℕ) where
   abbrev L : state.Settings
@@ -52,7 +52,7 @@ module _ (s : Settings) (room : ℕ) where
   module _ {e : ℕ} where
     pub record Modelled {left : List Frame} {x z : Lent} {cs : List Call} (d : First s e left x cs z) (st : Standby) : Type 0 where
       pub list : FirstList L e left st cs
-      pub took : model.model_took_last list ≡ tookLast s d
+      pub took : model.model_took_last list ≡ took_last s d
       pub taken : model.ModelAllTaken list → AllTaken s d
       pub ran : run L st cs ≡ stands_for s z
       pub allowed : Allowed s z

@@ -66,12 +66,12 @@ module _ (s : Settings) where
 
   module _ {e : ℕ} where
     -- "A's last is among those accepted"
-    abbrev pub tookLast : {left : List Frame} {x z : Lent} {cs : List Call} → First e left x cs z → Bool
-    tookLast ends = false
-    tookLast (ours {left} {y} {a} hands p rest) = is_empty left && accepted (answer_of y.bytes a) || tookLast rest
-    tookLast (aside hands p q rest) = tookLast rest
-    tookLast (flushes n p rest) = tookLast rest
-    tookLast (drops n p rest) = tookLast rest
+    abbrev pub took_last : {left : List Frame} {x z : Lent} {cs : List Call} → First e left x cs z → Bool
+    took_last ends = false
+    took_last (ours {left} {y} {a} hands p rest) = is_empty left && accepted (answer_of y.bytes a) || took_last rest
+    took_last (aside hands p q rest) = took_last rest
+    took_last (flushes n p rest) = took_last rest
+    took_last (drops n p rest) = took_last rest
 
     -- "A's frames before any drop of the current line are all accepted"
     abbrev pub AllTaken : {left : List Frame} {x z : Lent} {cs : List Call} → First e left x cs z → Type 0
@@ -97,19 +97,19 @@ module _ (s : Settings) where
     pub sendable : b.number + length (whole_batches limit A) ≤ top
 
   -- A's frames: those that send A whole at the standby's epoch, numbered on from the handle's last
-  abbrev pub framesOfA : ℕ → Session → ℕ → Bound → Lent → List Frame
-  framesOfA limit A h b x = whole_frames limit h x.counters.epoch.0 b.number A
+  abbrev pub frames_of_a : ℕ → Session → ℕ → Bound → Lent → List Frame
+  frames_of_a limit A h b x = whole_frames limit h x.counters.epoch.0 b.number A
 
   -- the client's sentence, of a first list d from x to z
-  pub record Claim (limit : ℕ) (A B : Session) (k : OwnKey) (h : ℕ) (b : Bound) (x : Lent) (cs : List Call) (z : Lent) (d : First x.counters.epoch.0 (framesOfA limit A h b x) x cs z) : Type 0 where
+  pub record Claim (limit : ℕ) (A B : Session) (k : OwnKey) (h : ℕ) (b : Bound) (x : Lent) (cs : List Call) (z : Lent) (d : First x.counters.epoch.0 (frames_of_a limit A h b x) x cs z) : Type 0 where
     -- "A's frames before any drop of the current line are all accepted"
     pub all_taken : AllTaken d
     -- "the session is exactly A if A's last is among those accepted, else exactly B": in the store's areas
-    pub is_A_or_B : session_at (places_of s.shape z.words z.bytes) b.place ≡ some (cond (tookLast d) A B)
+    pub is_A_or_B : session_at (places_of s.shape z.words z.bytes) b.place ≡ some (cond (took_last d) A B)
     -- the rules still hold
     pub still_allowed : Allowed z
     -- "after every further list the session is exactly that of the plain copy, fed both lists"
     pub is_the_copy : (more : List Call) (y : Lent) → T (no_promotions more) → Runs z more y
         → session_at (places_of s.shape y.words y.bytes) b.place ≡ some (copy_run_lem (settings x) k (copy_at B (stands_for x)) (stands_for x) (cs ++ more)).session
     -- which after the first list was A or B likewise
-    pub copy_is_A_or_B : (copy_run_lem (settings x) k (copy_at B (stands_for x)) (stands_for x) cs).session ≡ cond (tookLast d) A B
+    pub copy_is_A_or_B : (copy_run_lem (settings x) k (copy_at B (stands_for x)) (stands_for x) cs).session ≡ cond (took_last d) A B
