@@ -6,8 +6,8 @@ use Rattle.standby_ahead.proofs.is_ahead_at.Tie as tie
 
 returns : tie.Need-returns
 returns c =
-    let a = c.before.before.before.before.before.before.before.before.before.before.before.args in
-    compared (places_of a.shape a.words.now a.bytes.now) a.their-shape a.their-words.now a.their-bytes.now a.p c.before.before.before.before.before.next-outgoing.result _ c.before.before.before.before.before.before.key-at.ensures.is c.before.before.before.before.before.next-outgoing.ensures c.reaches.ensures
+    let a = c.args in
+    compared (places_of a.shape a.words.now a.bytes.now) a.their_shape a.their_words.now a.their_bytes.now a.p c.next_outgoing-n.result _ c.key_at-k.ensures.is c.next_outgoing-n.ensures c.reaches.ensures
 
 pub is_ahead_at_spec : {M : Type 1} → statement M
 is_ahead_at_spec =

@@ -5,7 +5,7 @@ use Rattle.standby_ahead.proofs.key_at.Statement.{statement}
 use Rattle.standby_ahead.proofs.key_at.Tie as tie
 
 returns : tie.Need-returns
-returns c = key_there c.before.before.before.before.before.before.before.before.before.before.before.args.shape c.before.before.before.before.before.before.before.before.before.before.before.args.i _ _ _ _ c.before.before.before.before.before.before.before.before.before.before.before.args.words.now c.before.before.before.before.before.before.before.before.before.before.before.args.bytes.now c.before.before.before.before.before.before.before.before.spot_in.ensures c.before.before.before.before.before.before.before.before.before.before.before.requires.0 c.before.before.before.before.before.before.before.before.before.before.before.requires.1 _ _ _ _ c.before.before.before.before.before.before.at-most-32.ensures c.before.before.before.before.at-most-322.ensures c.before.before.at-most-323.ensures c.at-most-324.ensures
+returns c = key_there c.args.shape c.args.i _ _ _ _ c.args.words.now c.args.bytes.now c.spot_in-p.ensures c.requires.0 c.requires.1 _ _ _ _ c.at_most_32-begin.ensures c.at_most_32-sender.ensures c.at_most_32-target.ensures c.at_most_32-suffix.ensures
 
 pub key_at_spec : {M : Type 1} → statement M
 key_at_spec =

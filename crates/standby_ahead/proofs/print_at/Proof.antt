@@ -5,7 +5,7 @@ use Rattle.standby_ahead.proofs.print_at.Statement.{statement}
 use Rattle.standby_ahead.proofs.print_at.Tie as tie
 
 returns : tie.Need-returns
-returns c = c.print-of.ensures ∙ ap print_of c.before.before.before.before.before.key-at.ensures.is
+returns c = c.print_of.ensures ∙ ap print_of c.key_at-k.ensures.is
 
 pub print_at_spec : {M : Type 1} → statement M
 print_at_spec =

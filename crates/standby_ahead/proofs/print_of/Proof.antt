@@ -5,8 +5,8 @@ use Rattle.standby_ahead.proofs.print_of.Tie as tie
 
 returns : tie.Need-returns
 returns c =
-    let a = c.before.before.before.before.before.before.before.before.args in
-    print_is a.begin.now a.sender.now a.target.now a.suffix.now c.before.before.before.bytes.ensures c.before.before.bytes2.ensures c.before.bytes3.ensures c.bytes4.ensures
+    let a = c.args in
+    print_is a.begin.now a.sender.now a.target.now a.suffix.now c.bytes-a.ensures c.bytes-b.ensures c.bytes-c.ensures c.bytes.ensures
 
 pub print_of_spec : {M : Type 1} → statement M
 print_of_spec =

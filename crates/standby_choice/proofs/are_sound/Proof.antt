@@ -5,7 +5,7 @@ use Rattle.standby_choice.proofs.are_sound.Statement.{statement}
 use Rattle.standby_choice.proofs.are_sound.Tie as tie
 
 returns : tie.Need-returns
-returns c = together c.before.before.before.before.is-sound.ensures c.before.before.before.is-sound2.ensures c.before.before.is-sound3.ensures c.before.is-sound4.ensures c.is-sound5.ensures
+returns c = together c.is_sound.ensures c.is_sound-2.ensures c.is_sound-3.ensures c.is_sound-4.ensures c.is_sound-5.ensures
 
 pub are_sound_spec : {M : Type 1} → statement M
 are_sound_spec =

@@ -5,7 +5,7 @@ use Rattle.standby_choice.proofs.highest.Statement.{statement}
 use Rattle.standby_choice.proofs.highest.Tie as tie
 
 returns : tie.Need-returns
-returns c = highest_is c.before.before.before.before.before.args.cs c.before.before.before.before.raised.ensures c.before.before.before.raised2.ensures c.before.before.raised3.ensures c.before.raised4.ensures c.raised5.ensures
+returns c = highest_is c.args.cs c.raised-t4.ensures c.raised-t3.ensures c.raised-t2.ensures c.raised-t1.ensures c.raised.ensures
 
 pub highest_spec : {M : Type 1} → statement M
 highest_spec =

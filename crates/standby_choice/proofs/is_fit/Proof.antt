@@ -5,13 +5,13 @@ use Rattle.standby_choice.proofs.Laws.{listed_so, no_candidate, candidate, toget
 use Rattle.standby_choice.proofs.is_fit.Statement.{statement}
 use Rattle.standby_choice.proofs.is_fit.Tie as tie
 
-returns : tie.Need-returns
-returns c = no_candidate _ c.before.is-candidate.ensures c.if1.true
+returns : tie.Need-returns-then-not-is_candidate
+returns c = no_candidate _ c.is_candidate.ensures c.if-not-is_candidate.true
 
-returns-2 : tie.Need-returns-2
+returns-2 : tie.Need-returns
 returns-2 c =
-    candidate c.before.before.before.before.before.before.before.is-candidate.ensures c.before.before.before.before.before.before.if1.false
-    (together c.before.before.before.before.is-ahead-if.ensures c.before.before.before.is-ahead-if2.ensures c.before.before.is-ahead-if3.ensures c.before.is-ahead-if4.ensures c.is-ahead-if5.ensures)
+    candidate c.is_candidate.ensures c.if-not-is_candidate.false
+    (together c.is_ahead_if.ensures c.is_ahead_if-2.ensures c.is_ahead_if-3.ensures c.is_ahead_if-4.ensures c.is_ahead_if-5.ensures)
 
 pub is_fit_spec : {M : Type 1} → statement M
 is_fit_spec =
@@ -20,18 +20,18 @@ is_fit_spec =
     (λ c κs. search rules)
     returns
     (λ c κs.
-    let z = c.before.before.before.before.before.before.before.before.before.before.before.before.before.before.before in
-    (z.requires.0 (listed_so z.args.c z.args.top c.before.before.is-candidate.ensures (not-false _ c.before.if1.false)), z.requires.1.first))
+    let z = c in
+    (z.requires.0 (listed_so z.args.c z.args.top c.is_candidate.ensures c.if-not-is_candidate.false), z.requires.1.first))
     (λ c κs.
-    let z = c.before.before.before.before.before.before.before.before.before.before.before.before.before.before.before.before in
-    (z.requires.0 (listed_so z.args.c z.args.top c.before.before.before.is-candidate.ensures (not-false _ c.before.before.if1.false)), z.requires.1.second))
+    let z = c in
+    (z.requires.0 (listed_so z.args.c z.args.top c.is_candidate.ensures c.if-not-is_candidate.false), z.requires.1.second))
     (λ c κs.
-    let z = c.before.before.before.before.before.before.before.before.before.before.before.before.before.before.before.before.before in
-    (z.requires.0 (listed_so z.args.c z.args.top c.before.before.before.before.is-candidate.ensures (not-false _ c.before.before.before.if1.false)), z.requires.1.third))
+    let z = c in
+    (z.requires.0 (listed_so z.args.c z.args.top c.is_candidate.ensures c.if-not-is_candidate.false), z.requires.1.third))
     (λ c κs.
-    let z = c.before.before.before.before.before.before.before.before.before.before.before.before.before.before.before.before.before.before in
-    (z.requires.0 (listed_so z.args.c z.args.top c.before.before.before.before.before.is-candidate.ensures (not-false _ c.before.before.before.before.if1.false)), z.requires.1.fourth))
+    let z = c in
+    (z.requires.0 (listed_so z.args.c z.args.top c.is_candidate.ensures c.if-not-is_candidate.false), z.requires.1.fourth))
     (λ c κs.
-    let z = c.before.before.before.before.before.before.before.before.before.before.before.before.before.before.before.before.before.before.before in
-    (z.requires.0 (listed_so z.args.c z.args.top c.before.before.before.before.before.before.is-candidate.ensures (not-false _ c.before.before.before.before.before.if1.false)), z.requires.1.fifth))
+    let z = c in
+    (z.requires.0 (listed_so z.args.c z.args.top c.is_candidate.ensures c.if-not-is_candidate.false), z.requires.1.fifth))
     returns-2)

@@ -6,17 +6,17 @@ use Rattle.standby_commit.proofs.Laws.{refused, fits_there, push_asks, settled}
 use Rattle.standby_commit.proofs.commit_changes.Statement.{statement}
 use Rattle.standby_commit.proofs.commit_changes.Tie as tie
 
-returns : tie.Need-returns
-returns c = refused _ _ c.before.before.before.before.before.before.before.before.args.handle (held_run c.before.before.before.before.before.before.before.before.args.protocol.version c.before.before.before.before.before.before.before.before.args.run.now) _ _ c.before.before.before.before.before.before.before.before.requires.0 _ c.before.before.next-outgoing.ensures c.before.fits2.ensures (not-true _ c.if1.true)
+returns : tie.Need-returns-then-not-fits
+returns c = refused _ _ c.args.handle (held_run c.args.protocol.version c.args.run.now) _ _ c.requires.0 _ c.next_outgoing-next.ensures c.fits.ensures c.if-not-fits.true
 
-apply-at-requires : tie.Need-apply-at-requires
-apply-at-requires c κs = (c.before.before.before.before.before.before.before.before.before.before.requires.0, (c.before.before.before.before.before.before.before.before.before.before.requires.1.0, fits_there _ _ c.before.before.before.before.before.before.before.before.before.before.args.handle (held_run c.before.before.before.before.before.before.before.before.before.before.args.protocol.version c.before.before.before.before.before.before.before.before.before.before.args.run.now) _ _ c.before.before.before.before.before.before.before.before.before.before.requires.0 _ c.before.before.before.before.next-outgoing.ensures c.before.before.before.fits2.ensures (not-false _ c.before.before.if1.false)))
+apply-at-requires : tie.Need-apply_at-requires
+apply-at-requires c κs = (c.requires.0, (c.requires.1.0, fits_there _ _ c.args.handle (held_run c.args.protocol.version c.args.run.now) _ _ c.requires.0 _ c.next_outgoing-next.ensures c.fits.ensures c.if-not-fits.false))
 
 push-requires : tie.Need-push-requires
-push-requires c κs = push_asks _ _ c.before.before.before.before.before.before.before.before.before.before.before.before.before.before.before.before.args.handle (held_run c.before.before.before.before.before.before.before.before.before.before.before.before.before.before.before.before.args.protocol.version c.before.before.before.before.before.before.before.before.before.before.before.before.before.before.before.before.args.run.now) _ _ c.before.before.before.before.before.before.before.before.before.before.before.before.before.before.before.before.requires.0 _ c.before.before.before.before.before.before.before.before.before.before.next-outgoing.ensures c.before.before.before.before.before.apply_at.ensures c.before.before.before.before.before.before.before.before.before.before.before.before.before.before.before.before.requires.1.0 c.before.before.before.before.before.before.before.before.before.before.before.before.before.before.before.before.requires.1.1 (omega arith)
+push-requires c κs = push_asks _ _ c.args.handle (held_run c.args.protocol.version c.args.run.now) _ _ c.requires.0 _ c.next_outgoing-next.ensures c.apply_at.ensures c.requires.1.0 c.requires.1.1 (omega arith)
 
-returns-2 : tie.Need-returns-2
-returns-2 c = settled _ _ c.before.before.before.before.before.before.before.before.before.before.before.before.before.before.before.before.before.before.before.args.handle (held_run c.before.before.before.before.before.before.before.before.before.before.before.before.before.before.before.before.before.before.before.args.protocol.version c.before.before.before.before.before.before.before.before.before.before.before.before.before.before.before.before.before.before.before.args.run.now) _ _ c.before.before.before.before.before.before.before.before.before.before.before.before.before.before.before.before.before.before.before.requires.0 _ c.before.before.before.before.before.before.before.before.before.before.before.before.before.next-outgoing.ensures c.before.before.before.before.before.before.before.before.apply_at.ensures c.before.before.before.before.before.before.before.before.before.before.before.before.fits2.ensures (not-false _ c.before.before.before.before.before.before.before.before.before.before.before.if1.false) c.before.before.before.before.before.before.before.before.before.before.before.before.before.before.before.before.before.before.before.requires.1.1 c.before.before.push.ensures.0 c.before.before.push.ensures.1
+returns-2 : tie.Need-returns
+returns-2 c = settled _ _ c.args.handle (held_run c.args.protocol.version c.args.run.now) _ _ c.requires.0 _ c.next_outgoing-next.ensures c.apply_at.ensures c.fits.ensures c.if-not-fits.false c.requires.1.1 c.push.ensures.0 c.push.ensures.1
 
 pub commit_changes_spec : {M : Type 1} → statement M
 commit_changes_spec =

@@ -5,14 +5,14 @@ use Rattle.standby_part.proofs.Parts.{front_none, commit_held, commit_made, comm
 use Rattle.standby_part.proofs.on_commit.Statement.{statement}
 use Rattle.standby_part.proofs.on_commit.Tie as tie
 
-returns : tie.Need-returns
-returns c = commit_held c.before.before.before.before.before.before.before.args.protocol.version c.before.before.before.before.before.before.before.args.shape c.before.before.before.before.before.before.before.args.bound c.before.before.before.before.before.before.before.args.number (held_run c.before.before.before.before.before.before.before.args.protocol.version c.before.before.before.before.before.before.before.args.run.now) _ _ c.before.before.before.before.before.before.before.args.area.now (front_none c.before.before.before.before.before.before.before.args.protocol.version c.before.before.before.before.before.before.before.args.bound.held_len c.before.before.before.before.before.before.before.args.area.now c.before.is_none.ensures) (not-true _ c.if1.true) c.before.before.before.before.before.before.before.requires.0
+returns : tie.Need-returns-then-not-is_none
+returns c = commit_held c.args.protocol.version c.args.shape c.args.bound c.args.number (held_run c.args.protocol.version c.args.run.now) _ _ c.args.area.now (front_none c.args.protocol.version c.args.bound.held_len c.args.area.now c.is_none.ensures) c.if-not-is_none.true c.requires.0
 
-returns-2 : tie.Need-returns-2
-returns-2 c = commit_made c.before.before.before.before.before.before.before.before.before.before.before.before.before.before.before.before.args.protocol.version c.before.before.before.before.before.before.before.before.before.before.before.before.before.before.before.before.args.shape c.before.before.before.before.before.before.before.before.before.before.before.before.before.before.before.before.args.bound c.before.before.before.before.before.before.before.before.before.before.before.before.before.before.before.before.args.number (held_run c.before.before.before.before.before.before.before.before.before.before.before.before.before.before.before.before.args.protocol.version c.before.before.before.before.before.before.before.before.before.before.before.before.before.before.before.before.args.run.now) _ _ c.before.before.before.before.before.before.before.before.before.before.before.before.before.before.before.before.args.area.now (front_none c.before.before.before.before.before.before.before.before.before.before.before.before.before.before.before.before.args.protocol.version c.before.before.before.before.before.before.before.before.before.before.before.before.before.before.before.before.args.bound.held_len c.before.before.before.before.before.before.before.before.before.before.before.before.before.before.before.before.args.area.now c.before.before.before.before.before.before.before.before.before.before.is_none.ensures) (not-false _ c.before.before.before.before.before.before.before.before.before.if1.false) c.before.before.before.before.before.before.before.before.before.before.before.before.before.before.before.before.requires.1.0 c.before.before.before.before.before.before.commit-changes.ensures c.before.if2.true c.with-held.ensures
+returns-2 : tie.Need-returns-then-commit_changes
+returns-2 c = commit_made c.args.protocol.version c.args.shape c.args.bound c.args.number (held_run c.args.protocol.version c.args.run.now) _ _ c.args.area.now (front_none c.args.protocol.version c.args.bound.held_len c.args.area.now c.is_none.ensures) c.if-not-is_none.false c.requires.1.0 c.commit_changes.ensures c.if-commit_changes.true c.with_held.ensures
 
-returns-3 : tie.Need-returns-3
-returns-3 c = commit_off c.before.before.before.before.before.before.before.before.before.before.before.before.before.before.before.before.args.protocol.version c.before.before.before.before.before.before.before.before.before.before.before.before.before.before.before.before.args.shape c.before.before.before.before.before.before.before.before.before.before.before.before.before.before.before.before.args.bound c.before.before.before.before.before.before.before.before.before.before.before.before.before.before.before.before.args.number (held_run c.before.before.before.before.before.before.before.before.before.before.before.before.before.before.before.before.args.protocol.version c.before.before.before.before.before.before.before.before.before.before.before.before.before.before.before.before.args.run.now) _ _ c.before.before.before.before.before.before.before.before.before.before.before.before.before.before.before.before.args.area.now (front_none c.before.before.before.before.before.before.before.before.before.before.before.before.before.before.before.before.args.protocol.version c.before.before.before.before.before.before.before.before.before.before.before.before.before.before.before.before.args.bound.held_len c.before.before.before.before.before.before.before.before.before.before.before.before.before.before.before.before.args.area.now c.before.before.before.before.before.before.before.before.before.before.is_none.ensures) (not-false _ c.before.before.before.before.before.before.before.before.before.if1.false) c.before.before.before.before.before.before.before.before.before.before.before.before.before.before.before.before.requires.1.0 c.before.before.before.before.before.before.commit-changes.ensures c.before.if2.false c.with-held2.ensures
+returns-3 : tie.Need-returns
+returns-3 c = commit_off c.args.protocol.version c.args.shape c.args.bound c.args.number (held_run c.args.protocol.version c.args.run.now) _ _ c.args.area.now (front_none c.args.protocol.version c.args.bound.held_len c.args.area.now c.is_none.ensures) c.if-not-is_none.false c.requires.1.0 c.commit_changes.ensures c.if-commit_changes.false c.with_held-2.ensures
 
 pub on_commit_spec : {M : Type 1} → statement M
 on_commit_spec =
