@@ -49,7 +49,14 @@ fn put_front(rt: &impl Print, out: &[u8], len: usize) -> io::Result<()> {
 }
 
 // One call, with what it gave in text.
-fn turn(rt: &impl Print, state: Sending, shape: Shape, words: &[u64], bytes: &[u8], out: &mut [u8]) -> io::Result<Called> {
+fn turn(
+    rt: &impl Print,
+    state: Sending,
+    shape: Shape,
+    words: &[u64],
+    bytes: &[u8],
+    out: &mut [u8],
+) -> io::Result<Called> {
     match state.send_whole(shape, words, bytes, out) {
         Sent::Frame(len, next) => {
             put_front(rt, out, len)?;

@@ -6,11 +6,11 @@ use Rattle.standby_choice.proofs.is_fit.Statement.{statement}
 use Rattle.standby_choice.proofs.is_fit.Tie as tie
 
 returns : tie.Need-returns-then-not-is_candidate
-returns c = no_candidate _ c.is_candidate.ensures c.if-not-is_candidate.true
+returns c = no_candidate _ c.is_candidate.ensures c.if-not-is_candidate.true-raw
 
 returns-2 : tie.Need-returns
 returns-2 c =
-    candidate c.is_candidate.ensures c.if-not-is_candidate.false
+    candidate c.is_candidate.ensures c.if-not-is_candidate.false-raw
     (together c.is_ahead_if.ensures c.is_ahead_if-2.ensures c.is_ahead_if-3.ensures c.is_ahead_if-4.ensures c.is_ahead_if-5.ensures)
 
 pub is_fit_spec : {M : Type 1} → statement M

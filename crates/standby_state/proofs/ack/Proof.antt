@@ -8,13 +8,13 @@ use Rattle.standby_state.proofs.ack.Lts as lts
 use Rattle.standby_state.proofs.blank.Reads as blank-reads
 
 -- src/lib.rt:129:9
-blank-requires : tie.Need-blank-requires
+blank-requires : tie.Need-blank-a-requires
 blank-requires c κs = search rules
 
 -- src/lib.rt:126:1
 
 returns : tie.Need-returns
-returns c = ap (λ (x : Answer). record { refusal = x.refusal; kind = x.kind; handle = x.handle; epoch = x.epoch; incarnation = x.incarnation; commit_no = c.before.args.commit-no; reason = x.reason; summary = x.summary }) c.blank.ensures
+returns c = ap (λ (x : Answer). record { refusal = x.refusal; kind = x.kind; handle = x.handle; epoch = x.epoch; incarnation = x.incarnation; commit_no = c.args.commit_no; reason = x.reason; summary = x.summary }) c.blank-a.ensures
 
 pub ack_spec : {M : Type 1} → statement M
 ack_spec = tie.close (tie.spec blank-requires returns)

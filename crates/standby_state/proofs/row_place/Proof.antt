@@ -7,12 +7,12 @@ use mathlib.Core.Path.{ap, sym}
 use mathlib.Core.Bool.{Bool, cond}
 
 -- src/lib.rt:186:9
-returns : tie.Need-returns
-returns c = sym (ap (λ (t : Bool). cond t c.before.before.args.lookup.at c.before.before.args.lookup.free) (lt-ltb _ _ c.if1.true))
+returns : tie.Need-returns-then-lookup
+returns c = sym (ap (λ (t : Bool). cond t c.args.lookup.at c.args.lookup.free) (lt-ltb _ _ c.if-lookup.true))
 
 -- src/lib.rt:182:1
-returns-2 : tie.Need-returns-2
-returns-2 c = sym (ap (λ (t : Bool). cond t c.before.before.args.lookup.at c.before.before.args.lookup.free) (le-ltb _ _ c.if1.false))
+returns-2 : tie.Need-returns
+returns-2 c = sym (ap (λ (t : Bool). cond t c.args.lookup.at c.args.lookup.free) (le-ltb _ _ c.if-lookup.false))
 
 pub row_place_spec : {M : Type 1} → statement M
 row_place_spec = tie.close (tie.spec returns returns-2)

@@ -8,12 +8,12 @@ use mathlib.Core.Path.{ap}
 use Rattle.standby_state.specs.declared.Answer.{Answer}
 
 -- src/lib.rt:120:9
-blank-requires : tie.Need-blank-requires
+blank-requires : tie.Need-blank-a-requires
 blank-requires c κs = search rules
 
 -- src/lib.rt:117:1
 returns : tie.Need-returns
-returns c = ap (λ (x : Answer). record { refusal = x.refusal; kind = x.kind; handle = x.handle; epoch = c.before.args.epoch; incarnation = c.before.args.incarnation; commit_no = x.commit_no; reason = x.reason; summary = x.summary }) c.blank.ensures
+returns c = ap (λ (x : Answer). record { refusal = x.refusal; kind = x.kind; handle = x.handle; epoch = c.args.epoch; incarnation = c.args.incarnation; commit_no = x.commit_no; reason = x.reason; summary = x.summary }) c.blank-a.ensures
 
 pub welcome_spec : {M : Type 1} → statement M
 welcome_spec = tie.close (tie.spec blank-requires returns)
