@@ -20,7 +20,7 @@ use Rattle.standby_state.proofs.nack.Reads as nack-reads
 use Rattle.standby_state.proofs.refused.Reads as refused-reads
 
 -- src/lib.rt:97:9
-no-records-requires : tie.Need-no-records-requires
+no-records-requires : tie.Need-no_records-requires
 no-records-requires c κs = search rules
 
 -- src/lib.rt:98:41
@@ -32,11 +32,11 @@ unchanged-requires : tie.Need-unchanged-requires
 unchanged-requires c κs = search rules
 
 -- src/lib.rt:98:9
-returns : tie.Need-returns
-returns c = with_records c.before.before.before.before.before.before.before.before.before.args.settings c.before.before.before.before.before.before.before.before.before.args.counters c.before.before.before.before.before.before.before.before.before.args.lookup c.before.before.before.before.before.before.before.before.before.args.batch.handle c.before.before.before.before.before.before.before.before.before.args.batch.epoch c.before.before.before.before.before.before.before.before.before.args.batch.commit_no (part_of c.before.before.before.before.before.before.before.before.before.args.batch.part) (run_of (read_change 1) c.before.before.before.before.before.before.before.before.before.args.frame.now c.before.before.before.before.before.before.before.before.before.args.batch.ops) (run_of read_app_record c.before.before.before.before.before.before.before.before.before.args.frame.now c.before.before.before.before.before.before.before.before.before.args.batch.app_records) c.before.before.before.before.before.before.before.before.before.args.words.now c.before.before.before.before.before.before.before.before.before.args.bytes.now c.before.before.before.before.before.before.before.before.before.args.area.now c.before.before.before.before.before.before.before.before.before.requires.0 (sym c.before.before.before.no-records.ensures ∙ not-true _ c.before.before.if1.true) c.unchanged.ensures c.before.refused.ensures
+returns : tie.Need-returns-then-not-no_records
+returns c = with_records c.args.settings c.args.counters c.args.lookup c.args.batch.handle c.args.batch.epoch c.args.batch.commit_no (part_of c.args.batch.part) (run_of (read_change 1) c.args.frame.now c.args.batch.ops) (run_of read_app_record c.args.frame.now c.args.batch.app_records) c.args.words.now c.args.bytes.now c.args.area.now c.requires.0 (sym c.no_records.ensures ∙ c.if-not-no_records.true) c.unchanged.ensures c.refused.ensures
 
 -- src/lib.rt
-is-stale-requires : tie.Need-is-stale-requires
+is-stale-requires : tie.Need-is_stale-requires
 is-stale-requires c κs = search rules
 
 -- src/lib.rt:104:41
@@ -44,48 +44,48 @@ nack-requires : tie.Need-nack-requires
 nack-requires c κs = search rules
 
 -- src/lib.rt:104:9
-unchanged-requires-2 : tie.Need-unchanged-requires-2
+unchanged-requires-2 : tie.Need-unchanged-requires-then-is_stale
 unchanged-requires-2 c κs = search rules
 
 -- src/lib.rt:104:9
-returns-2 : tie.Need-returns-2
-returns-2 c = stale c.before.before.before.before.before.before.before.before.before.before.before.args.settings c.before.before.before.before.before.before.before.before.before.before.before.args.counters c.before.before.before.before.before.before.before.before.before.before.before.args.lookup c.before.before.before.before.before.before.before.before.before.before.before.args.batch.handle c.before.before.before.before.before.before.before.before.before.before.before.args.batch.epoch c.before.before.before.before.before.before.before.before.before.before.before.args.batch.commit_no (part_of c.before.before.before.before.before.before.before.before.before.before.before.args.batch.part) (run_of (read_change 1) c.before.before.before.before.before.before.before.before.before.before.before.args.frame.now c.before.before.before.before.before.before.before.before.before.before.before.args.batch.ops) (run_of read_app_record c.before.before.before.before.before.before.before.before.before.before.before.args.frame.now c.before.before.before.before.before.before.before.before.before.before.before.args.batch.app_records) c.before.before.before.before.before.before.before.before.before.before.before.args.words.now c.before.before.before.before.before.before.before.before.before.before.before.args.bytes.now c.before.before.before.before.before.before.before.before.before.before.before.args.area.now c.before.before.before.before.before.before.before.before.before.before.before.requires.0 (sym c.before.before.before.before.before.no-records.ensures ∙ not-false _ c.before.before.before.before.if1.false) (sym c.before.before.before.is-stale.ensures ∙ c.before.before.if2.true) c.unchanged2.ensures c.before.nack.ensures
+returns-2 : tie.Need-returns-then-is_stale
+returns-2 c = stale c.args.settings c.args.counters c.args.lookup c.args.batch.handle c.args.batch.epoch c.args.batch.commit_no (part_of c.args.batch.part) (run_of (read_change 1) c.args.frame.now c.args.batch.ops) (run_of read_app_record c.args.frame.now c.args.batch.app_records) c.args.words.now c.args.bytes.now c.args.area.now c.requires.0 (sym c.no_records.ensures ∙ c.if-not-no_records.false) (sym c.is_stale.ensures ∙ c.if-is_stale.true) c.unchanged-then-is_stale.ensures c.nack.ensures
 
 -- src/lib.rt:112:9
-is-found-requires : tie.Need-is-found-requires
+is-found-requires : tie.Need-is_found-found-requires
 is-found-requires c κs = search rules
 
 -- src/lib.rt:113:9
-run-of-requires : tie.Need-run-of-requires
-run-of-requires c κs = c.before.before.before.before.before.before.before.before.before.before.before.before.before.before.before.requires.1.1.1
+run-of-requires : tie.Need-run_of-run-requires
+run-of-requires c κs = c.requires.1.1.1
 
 -- src/lib.rt:114:9
-on-handle-requires : tie.Need-on-handle-requires
-on-handle-requires c κs = (c.before.before.before.before.before.before.before.before.before.before.before.before.before.before.before.before.before.before.before.requires.0, (c.before.before.before.before.before.before.before.before.before.before.before.before.before.before.before.before.before.before.before.requires.1.0, (c.before.before.before.run_of.ensures.all, λ t. sound_of c.before.before.before.before.before.before.before.before.before.before.before.before.before.before.before.before.before.before.before.args.lookup c.before.before.before.before.before.before.before.before.before.before.before.before.before.before.before.before.before.before.before.args.batch.handle c.before.before.before.before.before.before.before.before.before.before.before.before.before.before.before.before.before.before.before.args.words.now c.before.before.before.before.before.before.before.before.before.before.before.before.before.before.before.before.before.before.before.args.area.now c.before.before.before.before.before.before.before.before.before.before.before.before.before.before.before.before.before.before.before.requires.1.1.0 c.before.before.before.before.is_found.ensures t)))
+on-handle-requires : tie.Need-on_handle-x-requires
+on-handle-requires c κs = (c.requires.0, (c.requires.1.0, (c.run_of-run.ensures.all, λ t. sound_of c.args.lookup c.args.batch.handle c.args.words.now c.args.area.now c.requires.1.1.0 c.is_found-found.ensures t)))
 
 -- src/lib.rt:115:13
-with-epoch-requires : tie.Need-with-epoch-requires
+with-epoch-requires : tie.Need-with_epoch-requires
 with-epoch-requires c κs = search rules
 
 -- src/lib.rt:115:5
-part-outcome-requires : tie.Need-part-outcome-requires
+part-outcome-requires : tie.Need-part_outcome-requires
 part-outcome-requires c κs = search rules
 
 -- src/lib.rt:81:1
-same_length : tie.Need-same-length
+same_length : tie.Need-shape_of-words
 same_length c = search rules
 
 -- src/lib.rt:81:1
-same_length_2 : tie.Need-same-length-2
+same_length_2 : tie.Need-shape_of-bytes
 same_length_2 c = search rules
 
 -- src/lib.rt:81:1
-same_length_3 : tie.Need-same-length-3
+same_length_3 : tie.Need-shape_of-area
 same_length_3 c = search rules
 
 -- src/lib.rt:81:1
-returns-3 : tie.Need-returns-3
-returns-3 c = handled_is c.before.before.before.before.before.before.before.before.before.before.before.before.before.before.before.before.before.before.before.before.before.before.before.before.before.before.before.before.args.settings c.before.before.before.before.before.before.before.before.before.before.before.before.before.before.before.before.before.before.before.before.before.before.before.before.before.before.before.before.args.counters c.before.before.before.before.before.before.before.before.before.before.before.before.before.before.before.before.before.before.before.before.before.before.before.before.before.before.before.before.args.lookup c.before.before.before.before.before.before.before.before.before.before.before.before.before.before.before.before.before.before.before.before.before.before.before.before.before.before.before.before.args.batch.handle c.before.before.before.before.before.before.before.before.before.before.before.before.before.before.before.before.before.before.before.before.before.before.before.before.before.before.before.before.args.batch.epoch c.before.before.before.before.before.before.before.before.before.before.before.before.before.before.before.before.before.before.before.before.before.before.before.before.before.before.before.before.args.batch.commit_no (part_of c.before.before.before.before.before.before.before.before.before.before.before.before.before.before.before.before.before.before.before.before.before.before.before.before.before.before.before.before.args.batch.part) (run_of (read_change 1) c.before.before.before.before.before.before.before.before.before.before.before.before.before.before.before.before.before.before.before.before.before.before.before.before.before.before.before.before.args.frame.now c.before.before.before.before.before.before.before.before.before.before.before.before.before.before.before.before.before.before.before.before.before.before.before.before.before.before.before.before.args.batch.ops) (run_of read_app_record c.before.before.before.before.before.before.before.before.before.before.before.before.before.before.before.before.before.before.before.before.before.before.before.before.before.before.before.before.args.frame.now c.before.before.before.before.before.before.before.before.before.before.before.before.before.before.before.before.before.before.before.before.before.before.before.before.before.before.before.before.args.batch.app_records) c.before.before.before.before.before.before.before.before.before.before.before.before.before.before.before.before.before.before.before.before.before.before.before.before.before.before.before.before.args.words.now c.before.before.before.before.before.before.before.before.before.before.before.before.before.before.before.before.before.before.before.before.before.before.before.before.before.before.before.before.args.bytes.now c.before.before.before.before.before.before.before.before.before.before.before.before.before.before.before.before.before.before.before.before.before.before.before.before.before.before.before.before.args.area.now c.before.before.before.before.before.before.before.before.before.before.before.before.before.before.before.before.before.before.before.before.before.before.before.before.before.before.before.before.requires.0 (sym c.before.before.before.before.before.before.before.before.before.before.before.before.before.before.before.before.before.before.before.before.before.before.no-records.ensures ∙ not-false _ c.before.before.before.before.before.before.before.before.before.before.before.before.before.before.before.before.before.before.before.before.before.if1.false) (sym c.before.before.before.before.before.before.before.before.before.before.before.before.before.before.before.before.before.before.before.before.is-stale.ensures ∙ c.before.before.before.before.before.before.before.before.before.before.before.before.before.before.before.before.before.before.before.if2.false) c.before.before.before.before.before.before.before.before.before.before.before.before.before.is_found.ensures (rw c.before.before.before.before.before.before.before.before.before.before.before.before.run_of.ensures.changes at c.before.before.before.before.before.before.before.before.on-handle.ensures.0) c.before.before.before.before.before.before.before.before.on-handle.ensures.1 c.before.before.before.before.before.before.before.before.before.before.before.before.run_of.ensures.bytes (kept_of c.before.before.before.before.before.before.before.before.before.before.before.before.before.before.before.before.before.before.before.before.before.before.before.before.before.before.before.before.args.lookup c.before.before.before.before.before.before.before.before.before.before.before.before.before.before.before.before.before.before.before.before.before.before.before.before.before.before.before.before.args.batch.handle c.before.before.before.before.before.before.before.before.before.before.before.before.before.before.before.before.before.before.before.before.before.before.before.before.before.before.before.before.args.words.now c.before.before.before.before.before.before.before.before.before.before.before.before.before.before.before.before.before.before.before.before.before.before.before.before.before.before.before.before.args.area.now c.before.before.before.before.before.before.before.before.before.before.before.before.before.before.before.before.before.before.before.before.before.before.before.before.before.before.before.before.requires.1.1.0 c.before.before.before.before.before.before.before.before.before.before.before.before.before.is_found.ensures) c.before.with-epoch.ensures c.part-outcome.ensures
+returns-3 : tie.Need-returns
+returns-3 c = handled_is c.args.settings c.args.counters c.args.lookup c.args.batch.handle c.args.batch.epoch c.args.batch.commit_no (part_of c.args.batch.part) (run_of (read_change 1) c.args.frame.now c.args.batch.ops) (run_of read_app_record c.args.frame.now c.args.batch.app_records) c.args.words.now c.args.bytes.now c.args.area.now c.requires.0 (sym c.no_records.ensures ∙ c.if-not-no_records.false) (sym c.is_stale.ensures ∙ c.if-is_stale.false) c.is_found-found.ensures (rw c.run_of-run.ensures.changes at c.on_handle-x.ensures.0) c.on_handle-x.ensures.1 c.run_of-run.ensures.bytes (kept_of c.args.lookup c.args.batch.handle c.args.words.now c.args.area.now c.requires.1.1.0 c.is_found-found.ensures) c.with_epoch.ensures c.part_outcome.ensures
 
 pub on_batch_spec : {M : Type 1} → statement M
 on_batch_spec =

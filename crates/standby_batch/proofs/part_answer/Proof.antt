@@ -16,24 +16,24 @@ refused-requires : tie.Need-refused-requires
 refused-requires c κs = search rules
 
 -- src/lib.rt:61:9
-returns : tie.Need-returns
-returns c = c.refused.ensures ∙ sym (ap (λ (t : Bool). cond t (cond c.before.before.before.args.part-result.nack (is_nack c.before.before.before.args.handle 2) (is_ack c.before.before.before.args.handle c.before.before.before.args.number)) (is_refused c.before.before.before.args.part-result.refusal)) (ne_eqb c.before.before.before.args.part-result.refusal 0 c.before.if1.true))
+returns : tie.Need-returns-then-part_result-ne0
+returns c = c.refused.ensures ∙ sym (ap (λ (t : Bool). cond t (cond c.args.part_result.nack (is_nack c.args.handle 2) (is_ack c.args.handle c.args.number)) (is_refused c.args.part_result.refusal)) (ne_eqb c.args.part_result.refusal 0 c.if-part_result-ne0.true))
 
 -- src/lib.rt:64:9
 nack-requires : tie.Need-nack-requires
 nack-requires c κs = search rules
 
 -- src/lib.rt:64:9
-returns-2 : tie.Need-returns-2
-returns-2 c = c.nack.ensures ∙ sym (ap (λ (t : Bool). cond t (cond c.before.before.before.before.args.part-result.nack (is_nack c.before.before.before.before.args.handle 2) (is_ack c.before.before.before.before.args.handle c.before.before.before.before.args.number)) (is_refused c.before.before.before.before.args.part-result.refusal)) (eq-eqb c.before.before.before.before.args.part-result.refusal 0 c.before.before.if1.false) ∙ ap (λ (t : Bool). cond t (is_nack c.before.before.before.before.args.handle 2) (is_ack c.before.before.before.before.args.handle c.before.before.before.before.args.number)) c.before.if2.true)
+returns-2 : tie.Need-returns-then-part_result
+returns-2 c = c.nack.ensures ∙ sym (ap (λ (t : Bool). cond t (cond c.args.part_result.nack (is_nack c.args.handle 2) (is_ack c.args.handle c.args.number)) (is_refused c.args.part_result.refusal)) (eq-eqb c.args.part_result.refusal 0 c.if-part_result-ne0.false) ∙ ap (λ (t : Bool). cond t (is_nack c.args.handle 2) (is_ack c.args.handle c.args.number)) c.if-part_result.true)
 
 -- src/lib.rt:66:5
 ack-requires : tie.Need-ack-requires
 ack-requires c κs = search rules
 
 -- src/lib.rt:57:1
-returns-3 : tie.Need-returns-3
-returns-3 c = c.ack.ensures ∙ sym (ap (λ (t : Bool). cond t (cond c.before.before.before.before.args.part-result.nack (is_nack c.before.before.before.before.args.handle 2) (is_ack c.before.before.before.before.args.handle c.before.before.before.before.args.number)) (is_refused c.before.before.before.before.args.part-result.refusal)) (eq-eqb c.before.before.before.before.args.part-result.refusal 0 c.before.before.if1.false) ∙ ap (λ (t : Bool). cond t (is_nack c.before.before.before.before.args.handle 2) (is_ack c.before.before.before.before.args.handle c.before.before.before.before.args.number)) c.before.if2.false)
+returns-3 : tie.Need-returns
+returns-3 c = c.ack.ensures ∙ sym (ap (λ (t : Bool). cond t (cond c.args.part_result.nack (is_nack c.args.handle 2) (is_ack c.args.handle c.args.number)) (is_refused c.args.part_result.refusal)) (eq-eqb c.args.part_result.refusal 0 c.if-part_result-ne0.false) ∙ ap (λ (t : Bool). cond t (is_nack c.args.handle 2) (is_ack c.args.handle c.args.number)) c.if-part_result.false)
 
 pub part_answer_spec : {M : Type 1} → statement M
 part_answer_spec =

@@ -13,7 +13,7 @@ use Rattle.standby_state.proofs.unchanged.Reads as unchanged-reads
 use Rattle.standby_state.proofs.stored.Reads as stored-reads
 
 -- src/lib.rt:73:9
-part-answer-requires : tie.Need-part-answer-requires
+part-answer-requires : tie.Need-part_answer-a-requires
 part-answer-requires c κs = search rules
 
 -- src/lib.rt:76:9
@@ -21,16 +21,16 @@ stored-requires : tie.Need-stored-requires
 stored-requires c κs = search rules
 
 -- src/lib.rt:76:9
-returns : tie.Need-returns
-returns c = c.stored.ensures ∙ ap (λ (a : Answer). storing c.before.before.before.before.args.counters c.before.before.before.before.args.lookup a c.before.before.before.before.args.handle c.before.before.before.before.args.part-result.bound) c.before.before.before.part-answer.ensures ∙ sym (ap (λ (t : Bool). cond t (storing c.before.before.before.before.args.counters c.before.before.before.before.args.lookup (answer_by c.before.before.before.before.args.part-result c.before.before.before.before.args.handle c.before.before.before.before.args.number) c.before.before.before.before.args.handle c.before.before.before.before.args.part-result.bound) (leaving c.before.before.before.before.args.counters c.before.before.before.before.args.lookup (answer_by c.before.before.before.before.args.part-result c.before.before.before.before.args.handle c.before.before.before.before.args.number))) c.before.before.if1.true)
+returns : tie.Need-returns-then-part_result
+returns c = c.stored.ensures ∙ ap (λ (a : Answer). storing c.args.counters c.args.lookup a c.args.handle c.args.part_result.bound) c.part_answer-a.ensures ∙ sym (ap (λ (t : Bool). cond t (storing c.args.counters c.args.lookup (answer_by c.args.part_result c.args.handle c.args.number) c.args.handle c.args.part_result.bound) (leaving c.args.counters c.args.lookup (answer_by c.args.part_result c.args.handle c.args.number))) c.if-part_result.true)
 
 -- src/lib.rt:78:5
 unchanged-requires : tie.Need-unchanged-requires
 unchanged-requires c κs = search rules
 
 -- src/lib.rt:70:1
-returns-2 : tie.Need-returns-2
-returns-2 c = c.unchanged.ensures ∙ ap (leaving c.before.before.before.args.counters c.before.before.before.args.lookup) c.before.before.part-answer.ensures ∙ sym (ap (λ (t : Bool). cond t (storing c.before.before.before.args.counters c.before.before.before.args.lookup (answer_by c.before.before.before.args.part-result c.before.before.before.args.handle c.before.before.before.args.number) c.before.before.before.args.handle c.before.before.before.args.part-result.bound) (leaving c.before.before.before.args.counters c.before.before.before.args.lookup (answer_by c.before.before.before.args.part-result c.before.before.before.args.handle c.before.before.before.args.number))) c.before.if1.false)
+returns-2 : tie.Need-returns
+returns-2 c = c.unchanged.ensures ∙ ap (leaving c.args.counters c.args.lookup) c.part_answer-a.ensures ∙ sym (ap (λ (t : Bool). cond t (storing c.args.counters c.args.lookup (answer_by c.args.part_result c.args.handle c.args.number) c.args.handle c.args.part_result.bound) (leaving c.args.counters c.args.lookup (answer_by c.args.part_result c.args.handle c.args.number))) c.if-part_result.false)
 
 pub part_outcome_spec : {M : Type 1} → statement M
 part_outcome_spec =

@@ -7,51 +7,51 @@ use Rattle.standby_batch_handle.proofs.Laws.{unbound, off_number, by_part, area_
 use Rattle.standby_batch_handle.proofs.on_handle.Statement.{statement}
 use Rattle.standby_batch_handle.proofs.on_handle.Tie as tie
 
-returns : tie.Need-returns
-returns c = (unbound c.before.before.before.before.before.args.protocol.version c.before.before.before.before.before.args.shape c.before.before.before.before.before.args.handle c.before.before.before.before.before.args.bound c.before.before.before.before.before.args.number.0 (part_of c.before.before.before.before.before.args.part) (held_run c.before.before.before.before.before.args.protocol.version c.before.before.before.before.before.args.run.now) c.before.before.before.before.before.args.words.now c.before.before.before.before.before.args.bytes.now c.before.before.before.before.before.args.area.now c.before.before.before.before.before.requires.0 (not-true c.before.before.before.before.before.args.found c.if1.true), area_unbound c.before.before.before.before.before.args.protocol.version c.before.before.before.before.before.args.bound c.before.before.before.before.before.args.number.0 c.before.before.before.before.before.args.run.now c.before.before.before.before.before.args.area.now 14 (part_of c.before.before.before.before.before.args.part) (not-true c.before.before.before.before.before.args.found c.if1.true))
+returns : tie.Need-returns-then-not-found
+returns c = (unbound c.args.protocol.version c.args.shape c.args.handle c.args.bound c.args.number.0 (part_of c.args.part) (held_run c.args.protocol.version c.args.run.now) c.args.words.now c.args.bytes.now c.args.area.now c.requires.0 c.if-not-found.true, area_unbound c.args.protocol.version c.args.bound c.args.number.0 c.args.run.now c.args.area.now 14 (part_of c.args.part) c.if-not-found.true)
 
-returns-2 : tie.Need-returns-2
-returns-2 c = (off_number c.before.before.before.before.before.before.before.before.args.protocol.version c.before.before.before.before.before.before.before.before.args.shape c.before.before.before.before.before.before.before.before.args.handle c.before.before.before.before.before.before.before.before.args.bound c.before.before.before.before.before.before.before.before.args.number.0 (part_of c.before.before.before.before.before.before.before.before.args.part) (held_run c.before.before.before.before.before.before.before.before.args.protocol.version c.before.before.before.before.before.before.before.before.args.run.now) c.before.before.before.before.before.before.before.before.args.words.now c.before.before.before.before.before.before.before.before.args.bytes.now c.before.before.before.before.before.before.before.before.args.area.now c.before.before.before.before.before.before.before.before.requires.0 (not-false _ c.before.before.before.if1.false) c.before.before.is-next.ensures (not-true _ c.before.if2.true) c.with-none-held.ensures, area_off c.before.before.before.before.before.before.before.before.args.protocol.version c.before.before.before.before.before.before.before.before.args.bound c.before.before.before.before.before.before.before.before.args.number.0 c.before.before.before.before.before.before.before.before.args.run.now c.before.before.before.before.before.before.before.before.args.area.now 0 (part_of c.before.before.before.before.before.before.before.before.args.part) (not-false c.before.before.before.before.before.before.before.before.args.found c.before.before.before.if1.false) c.before.before.is-next.ensures (not-true _ c.before.if2.true))
+returns-2 : tie.Need-returns-then-not-is_next
+returns-2 c = (off_number c.args.protocol.version c.args.shape c.args.handle c.args.bound c.args.number.0 (part_of c.args.part) (held_run c.args.protocol.version c.args.run.now) c.args.words.now c.args.bytes.now c.args.area.now c.requires.0 c.if-not-found.false c.is_next.ensures c.if-not-is_next.true c.with_none_held.ensures, area_off c.args.protocol.version c.args.bound c.args.number.0 c.args.run.now c.args.area.now 0 (part_of c.args.part) c.if-not-found.false c.is_next.ensures c.if-not-is_next.true)
 
-on-commit-requires : tie.Need-on-commit-requires
+on-commit-requires : tie.Need-on_commit-requires
 on-commit-requires c κs =
-    let p = c.before.before.before.before.before.before.before.before.before.before.before.before.requires in
-    let so = p.1.1.1 (not-false _ c.before.before.before.before.before.before.before.if1.false) in
+    let p = c.requires in
+    let so = p.1.1.1 c.if-not-found.false in
     (p.0, (so.place_used, (p.1.0, so.held_within)))
 
-on-whole-requires : tie.Need-on-whole-requires
+on-whole-requires : tie.Need-on_whole-requires
 on-whole-requires c κs =
-    let p = c.before.before.before.before.before.before.before.before.before.before.requires in
-    ((p.1.1.1 (not-false _ c.before.before.before.before.before.if1.false)).held_within, p.1.1.0)
+    let p = c.requires in
+    ((p.1.1.1 c.if-not-found.false).held_within, p.1.1.0)
 
-on-last-whole-requires : tie.Need-on-last-whole-requires
+on-last-whole-requires : tie.Need-on_last_whole-requires
 on-last-whole-requires c κs =
-    let p = c.before.before.before.before.before.before.before.before.before.before.before.before.requires in
-    let so = p.1.1.1 (not-false _ c.before.before.before.before.before.before.before.if1.false) in
+    let p = c.requires in
+    let so = p.1.1.1 c.if-not-found.false in
     (p.0, (so.place_used, (p.1.0, (so.held_within, p.1.1.0))))
 
-returns-3 : tie.Need-returns-3
+returns-3 : tie.Need-returns-in-Commit
 returns-3 c =
-    let on = not-false c.before.before.before.before.before.before.before.before.before.before.before.before.before.before.before.before.before.args.found c.before.before.before.before.before.before.before.before.before.before.before.before.if1.false in
-    rw c.before.before.before.before.before.before.before.before.enum_told.given.1 (
-      by_part c.before.before.before.before.before.before.before.before.before.before.before.before.before.before.before.before.before.args.protocol.version c.before.before.before.before.before.before.before.before.before.before.before.before.before.before.before.before.before.args.shape c.before.before.before.before.before.before.before.before.before.before.before.before.before.before.before.before.before.args.handle c.before.before.before.before.before.before.before.before.before.before.before.before.before.before.before.before.before.args.bound c.before.before.before.before.before.before.before.before.before.before.before.before.before.before.before.before.before.args.number.0 commit (held_run c.before.before.before.before.before.before.before.before.before.before.before.before.before.before.before.before.before.args.protocol.version c.before.before.before.before.before.before.before.before.before.before.before.before.before.before.before.before.before.args.run.now) c.before.before.before.before.before.before.before.before.before.before.before.before.before.before.before.before.before.args.words.now c.before.before.before.before.before.before.before.before.before.before.before.before.before.before.before.before.before.args.bytes.now c.before.before.before.before.before.before.before.before.before.before.before.before.before.before.before.before.before.args.area.now c.before.before.before.before.before.before.before.before.before.before.before.before.before.before.before.before.before.requires.0 on c.before.before.before.before.before.before.before.before.before.before.before.is-next.ensures (not-false _ c.before.before.before.before.before.before.before.before.before.before.if2.false) (c.before.before.before.before.before.before.before.before.before.before.before.before.before.before.before.before.before.requires.1.1.1 on).own c.before.before.before.before.on-commit.ensures,
-      area_commit c.before.before.before.before.before.before.before.before.before.before.before.before.before.before.before.before.before.args.protocol.version c.before.before.before.before.before.before.before.before.before.before.before.before.before.before.before.before.before.args.bound c.before.before.before.before.before.before.before.before.before.before.before.before.before.before.before.before.before.args.number.0 c.before.before.before.before.before.before.before.before.before.before.before.before.before.before.before.before.before.args.run.now c.before.before.before.before.before.before.before.before.before.before.before.before.before.before.before.before.before.args.area.now c.before.before.before.before.on-commit.result.refusal on c.before.before.before.before.before.before.before.before.before.before.before.is-next.ensures (not-false _ c.before.before.before.before.before.before.before.before.before.before.if2.false),
+    let on = not-false c.args.found c.if-not-found.false-raw in
+    rw c.in-Commit.is (
+      by_part c.args.protocol.version c.args.shape c.args.handle c.args.bound c.args.number.0 commit (held_run c.args.protocol.version c.args.run.now) c.args.words.now c.args.bytes.now c.args.area.now c.requires.0 on c.is_next.ensures c.if-not-is_next.false (c.requires.1.1.1 on).own c.on_commit.ensures,
+      area_commit c.args.protocol.version c.args.bound c.args.number.0 c.args.run.now c.args.area.now c.on_commit.result.refusal on c.is_next.ensures c.if-not-is_next.false,
     )
 
-returns-4 : tie.Need-returns-4
+returns-4 : tie.Need-returns-in-Whole
 returns-4 c =
-    let on = not-false c.before.before.before.before.before.before.before.before.before.before.before.before.before.args.found c.before.before.before.before.before.before.before.before.if1.false in
-    rw c.before.before.before.before.enum-told2.given.1 (
-      by_part c.before.before.before.before.before.before.before.before.before.before.before.before.before.args.protocol.version c.before.before.before.before.before.before.before.before.before.before.before.before.before.args.shape c.before.before.before.before.before.before.before.before.before.before.before.before.before.args.handle c.before.before.before.before.before.before.before.before.before.before.before.before.before.args.bound c.before.before.before.before.before.before.before.before.before.before.before.before.before.args.number.0 whole (held_run c.before.before.before.before.before.before.before.before.before.before.before.before.before.args.protocol.version c.before.before.before.before.before.before.before.before.before.before.before.before.before.args.run.now) c.before.before.before.before.before.before.before.before.before.before.before.before.before.args.words.now c.before.before.before.before.before.before.before.before.before.before.before.before.before.args.bytes.now c.before.before.before.before.before.before.before.before.before.before.before.before.before.args.area.now c.before.before.before.before.before.before.before.before.before.before.before.before.before.requires.0 on c.before.before.before.before.before.before.before.is-next.ensures (not-false _ c.before.before.before.before.before.before.if2.false) (c.before.before.before.before.before.before.before.before.before.before.before.before.before.requires.1.1.1 on).own (c.before.before.on-whole.ensures.0 _ _ _ c.before.before.before.before.before.before.before.before.before.before.before.before.before.requires.0),
-      area_whole c.before.before.before.before.before.before.before.before.before.before.before.before.before.args.protocol.version c.before.before.before.before.before.before.before.before.before.before.before.before.before.args.bound c.before.before.before.before.before.before.before.before.before.before.before.before.before.args.number.0 c.before.before.before.before.before.before.before.before.before.before.before.before.before.args.run.now c.before.before.before.before.before.before.before.before.before.before.before.before.before.args.area.now c.before.before.on-whole.result.refusal on c.before.before.before.before.before.before.before.is-next.ensures (not-false _ c.before.before.before.before.before.before.if2.false) c.before.before.on-whole.ensures.1,
+    let on = not-false c.args.found c.if-not-found.false-raw in
+    rw c.in-Whole.is (
+      by_part c.args.protocol.version c.args.shape c.args.handle c.args.bound c.args.number.0 whole (held_run c.args.protocol.version c.args.run.now) c.args.words.now c.args.bytes.now c.args.area.now c.requires.0 on c.is_next.ensures c.if-not-is_next.false (c.requires.1.1.1 on).own (c.on_whole.ensures.0 _ _ _ c.requires.0),
+      area_whole c.args.protocol.version c.args.bound c.args.number.0 c.args.run.now c.args.area.now c.on_whole.result.refusal on c.is_next.ensures c.if-not-is_next.false c.on_whole.ensures.1,
     )
 
-returns-5 : tie.Need-returns-5
+returns-5 : tie.Need-returns-in-LastWhole
 returns-5 c =
-    let on = not-false c.before.before.before.before.before.before.before.before.before.before.before.before.before.before.before.before.before.before.before.args.found c.before.before.before.before.before.before.before.before.before.before.before.before.before.before.if1.false in
-    rw c.before.before.before.before.before.before.before.before.before.before.enum-told3.given.1 (
-      by_part c.before.before.before.before.before.before.before.before.before.before.before.before.before.before.before.before.before.before.before.args.protocol.version c.before.before.before.before.before.before.before.before.before.before.before.before.before.before.before.before.before.before.before.args.shape c.before.before.before.before.before.before.before.before.before.before.before.before.before.before.before.before.before.before.before.args.handle c.before.before.before.before.before.before.before.before.before.before.before.before.before.before.before.before.before.before.before.args.bound c.before.before.before.before.before.before.before.before.before.before.before.before.before.before.before.before.before.before.before.args.number.0 last_whole (held_run c.before.before.before.before.before.before.before.before.before.before.before.before.before.before.before.before.before.before.before.args.protocol.version c.before.before.before.before.before.before.before.before.before.before.before.before.before.before.before.before.before.before.before.args.run.now) c.before.before.before.before.before.before.before.before.before.before.before.before.before.before.before.before.before.before.before.args.words.now c.before.before.before.before.before.before.before.before.before.before.before.before.before.before.before.before.before.before.before.args.bytes.now c.before.before.before.before.before.before.before.before.before.before.before.before.before.before.before.before.before.before.before.args.area.now c.before.before.before.before.before.before.before.before.before.before.before.before.before.before.before.before.before.before.before.requires.0 on c.before.before.before.before.before.before.before.before.before.before.before.before.before.is-next.ensures (not-false _ c.before.before.before.before.before.before.before.before.before.before.before.before.if2.false) (c.before.before.before.before.before.before.before.before.before.before.before.before.before.before.before.before.before.before.before.requires.1.1.1 on).own c.before.before.before.before.before.before.on-last-whole.ensures.0,
-      area_last c.before.before.before.before.before.before.before.before.before.before.before.before.before.before.before.before.before.before.before.args.protocol.version c.before.before.before.before.before.before.before.before.before.before.before.before.before.before.before.before.before.before.before.args.bound c.before.before.before.before.before.before.before.before.before.before.before.before.before.before.before.before.before.before.before.args.number.0 c.before.before.before.before.before.before.before.before.before.before.before.before.before.before.before.before.before.before.before.args.run.now c.before.before.before.before.before.before.before.before.before.before.before.before.before.before.before.before.before.before.before.args.area.now c.before.before.before.before.before.before.on-last-whole.result.refusal on c.before.before.before.before.before.before.before.before.before.before.before.before.before.is-next.ensures (not-false _ c.before.before.before.before.before.before.before.before.before.before.before.before.if2.false) c.before.before.before.before.before.before.on-last-whole.ensures.1,
+    let on = not-false c.args.found c.if-not-found.false-raw in
+    rw c.in-LastWhole.is (
+      by_part c.args.protocol.version c.args.shape c.args.handle c.args.bound c.args.number.0 last_whole (held_run c.args.protocol.version c.args.run.now) c.args.words.now c.args.bytes.now c.args.area.now c.requires.0 on c.is_next.ensures c.if-not-is_next.false (c.requires.1.1.1 on).own c.on_last_whole.ensures.0,
+      area_last c.args.protocol.version c.args.bound c.args.number.0 c.args.run.now c.args.area.now c.on_last_whole.result.refusal on c.is_next.ensures c.if-not-is_next.false c.on_last_whole.ensures.1,
     )
 
 pub on_handle_spec : {M : Type 1} → statement M

@@ -7,26 +7,26 @@ use lib.ListN.{get_or}
 use Rattle.standby_bind.proofs.on_bind.Statement.{statement}
 use Rattle.standby_bind.proofs.on_bind.Tie as tie
 
-returns : tie.Need-returns
-returns c = stale c.before.before.before.before.before.before.before.before.before.args.settings c.before.before.before.before.before.before.before.before.before.args.counters c.before.before.before.before.before.before.before.before.before.args.lookup c.before.before.before.before.before.before.before.before.before.args.handle c.before.before.before.before.before.before.before.before.before.args.epoch.0 c.before.before.before.before.before.before.before.before.before.args.max-lag (key_of c.before.before.before.before.before.before.before.before.before.args.frame.now c.before.before.before.before.before.before.before.before.before.args.session) c.before.before.before.before.before.before.before.before.before.args.words.now c.before.before.before.before.before.before.before.before.before.args.bytes.now c.before.before.before.before.before.before.before.before.before.requires.0 (omega (arith, c.before.before.if1.true)) c.unchanged.ensures c.before.nack.ensures
+returns : tie.Need-returns-then-epoch-own
+returns c = stale c.args.settings c.args.counters c.args.lookup c.args.handle c.args.epoch.0 c.args.max_lag (key_of c.args.frame.now c.args.session) c.args.words.now c.args.bytes.now c.requires.0 (omega (arith, c.if-epoch-own.true)) c.unchanged.ensures c.nack.ensures
 
-returns-2 : tie.Need-returns-2
-returns-2 c = lagging c.before.before.before.before.before.before.before.before.before.before.before.args.settings c.before.before.before.before.before.before.before.before.before.before.before.args.counters c.before.before.before.before.before.before.before.before.before.before.before.args.lookup c.before.before.before.before.before.before.before.before.before.before.before.args.handle c.before.before.before.before.before.before.before.before.before.before.before.args.epoch.0 c.before.before.before.before.before.before.before.before.before.before.before.args.max-lag (key_of c.before.before.before.before.before.before.before.before.before.before.before.args.frame.now c.before.before.before.before.before.before.before.before.before.before.before.args.session) c.before.before.before.before.before.before.before.before.before.before.before.args.words.now c.before.before.before.before.before.before.before.before.before.before.before.args.bytes.now c.before.before.before.before.before.before.before.before.before.before.before.requires.0 (omega (arith, c.before.before.before.before.if1.false)) (omega (arith, c.before.before.if2.true)) c.unchanged2.ensures c.before.nack2.ensures
+returns-2 : tie.Need-returns-then-settings-max_lag
+returns-2 c = lagging c.args.settings c.args.counters c.args.lookup c.args.handle c.args.epoch.0 c.args.max_lag (key_of c.args.frame.now c.args.session) c.args.words.now c.args.bytes.now c.requires.0 (omega (arith, c.if-epoch-own.false)) (omega (arith, c.if-settings-max_lag.true)) c.unchanged-then-settings-max_lag.ensures c.nack-then-settings-max_lag.ensures
 
-returns-3 : tie.Need-returns-3
-returns-3 c = all_places c.before.before.before.before.before.before.before.before.before.before.before.before.before.before.before.before.before.before.args.settings c.before.before.before.before.before.before.before.before.before.before.before.before.before.before.before.before.before.before.args.counters c.before.before.before.before.before.before.before.before.before.before.before.before.before.before.before.before.before.before.args.lookup c.before.before.before.before.before.before.before.before.before.before.before.before.before.before.before.before.before.before.args.handle c.before.before.before.before.before.before.before.before.before.before.before.before.before.before.before.before.before.before.args.epoch.0 c.before.before.before.before.before.before.before.before.before.before.before.before.before.before.before.before.before.before.args.max-lag (key_of c.before.before.before.before.before.before.before.before.before.before.before.before.before.before.before.before.before.before.args.frame.now c.before.before.before.before.before.before.before.before.before.before.before.before.before.before.before.before.before.before.args.session) c.before.before.before.before.before.before.before.before.before.before.before.before.before.before.before.before.before.before.args.words.now c.before.before.before.before.before.before.before.before.before.before.before.before.before.before.before.before.before.before.args.bytes.now c.before.before.before.before.before.before.before.before.before.before.before.before.before.before.before.before.before.before.requires.0 (omega (arith, c.before.before.before.before.before.before.before.before.before.before.before.if1.false)) (omega (arith, c.before.before.before.before.before.before.before.before.before.if2.false)) c.before.before.before.before.before.place_of.ensures c.before.before.before.has-place.ensures c.before.before.if3.true c.unchanged3.ensures c.before.refused.ensures
+returns-3 : tie.Need-returns-then-not-has_place
+returns-3 c = all_places c.args.settings c.args.counters c.args.lookup c.args.handle c.args.epoch.0 c.args.max_lag (key_of c.args.frame.now c.args.session) c.args.words.now c.args.bytes.now c.requires.0 (omega (arith, c.if-epoch-own.false)) (omega (arith, c.if-settings-max_lag.false)) c.place_of-place.ensures c.has_place.ensures c.if-not-has_place.true-raw c.unchanged-then-not-has_place.ensures c.refused.ensures
 
-returns-4 : tie.Need-returns-4
-returns-4 c = all_handles c.before.before.before.before.before.before.before.before.before.before.before.before.before.before.before.before.before.before.before.before.args.settings c.before.before.before.before.before.before.before.before.before.before.before.before.before.before.before.before.before.before.before.before.args.counters c.before.before.before.before.before.before.before.before.before.before.before.before.before.before.before.before.before.before.before.before.args.lookup c.before.before.before.before.before.before.before.before.before.before.before.before.before.before.before.before.before.before.before.before.args.handle c.before.before.before.before.before.before.before.before.before.before.before.before.before.before.before.before.before.before.before.before.args.epoch.0 c.before.before.before.before.before.before.before.before.before.before.before.before.before.before.before.before.before.before.before.before.args.max-lag (key_of c.before.before.before.before.before.before.before.before.before.before.before.before.before.before.before.before.before.before.before.before.args.frame.now c.before.before.before.before.before.before.before.before.before.before.before.before.before.before.before.before.before.before.before.before.args.session) c.before.before.before.before.before.before.before.before.before.before.before.before.before.before.before.before.before.before.before.before.args.words.now c.before.before.before.before.before.before.before.before.before.before.before.before.before.before.before.before.before.before.before.before.args.bytes.now c.before.before.before.before.before.before.before.before.before.before.before.before.before.before.before.before.before.before.before.before.requires.0 (omega (arith, c.before.before.before.before.before.before.before.before.before.before.before.before.before.if1.false)) (omega (arith, c.before.before.before.before.before.before.before.before.before.before.before.if2.false)) c.before.before.before.before.before.before.before.place_of.ensures c.before.before.before.before.before.has-place.ensures c.before.before.before.before.if3.false c.before.before.before.has_room.ensures c.before.before.if4.true c.unchanged4.ensures c.before.refused2.ensures
+returns-4 : tie.Need-returns-then-not-has_room
+returns-4 c = all_handles c.args.settings c.args.counters c.args.lookup c.args.handle c.args.epoch.0 c.args.max_lag (key_of c.args.frame.now c.args.session) c.args.words.now c.args.bytes.now c.requires.0 (omega (arith, c.if-epoch-own.false)) (omega (arith, c.if-settings-max_lag.false)) c.place_of-place.ensures c.has_place.ensures c.if-not-has_place.false-raw c.has_room.ensures c.if-not-has_room.true-raw c.unchanged-then-not-has_room.ensures c.refused-then-not-has_room.ensures
 
 open-requires : tie.Need-open-requires
-open-requires c κs = (c.before.before.before.before.before.before.before.before.before.before.before.before.before.before.before.before.before.before.before.before.requires.0, (c.before.before.before.before.before.before.before.place_of.ensures, (free_there c.before.before.before.before.before.before.before.place_of.result (get_or c.before.before.before.before.before.before.before.before.before.before.before.before.before.before.before.before.before.before.before.before.args.words.now 0 0) c.before.before.before.before.before.before.before.before.before.before.before.before.before.before.before.before.before.before.before.before.args.settings.shape.places c.before.before.before.before.before.has-place.ensures (not-false c.before.before.before.before.before.has-place.result c.before.before.before.before.if3.false), c.before.before.before.before.before.before.before.before.before.before.before.before.before.before.before.before.before.before.before.before.requires.1)))
+open-requires c κs = (c.requires.0, (c.place_of-place.ensures, (free_there c.place_of-place.result (get_or c.args.words.now 0 0) c.args.settings.shape.places c.has_place.ensures c.if-not-has_place.false, c.requires.1)))
 
-same_length_5 : tie.Need-same-length-5
-same_length_5 c = c.before.before.before.before.before.before.before.before.before.before.«open».auto.0
+same_length_5 : tie.Need-shape_of-words
+same_length_5 c = c.«open».auto.words
 
-returns-5 : tie.Need-returns-5
-returns-5 c = binds c.before.before.before.before.before.before.before.before.before.before.before.before.before.before.before.before.before.before.before.before.before.before.before.before.before.before.before.before.before.before.before.args.settings c.before.before.before.before.before.before.before.before.before.before.before.before.before.before.before.before.before.before.before.before.before.before.before.before.before.before.before.before.before.before.before.args.counters c.before.before.before.before.before.before.before.before.before.before.before.before.before.before.before.before.before.before.before.before.before.before.before.before.before.before.before.before.before.before.before.args.lookup c.before.before.before.before.before.before.before.before.before.before.before.before.before.before.before.before.before.before.before.before.before.before.before.before.before.before.before.before.before.before.before.args.handle c.before.before.before.before.before.before.before.before.before.before.before.before.before.before.before.before.before.before.before.before.before.before.before.before.before.before.before.before.before.before.before.args.epoch.0 c.before.before.before.before.before.before.before.before.before.before.before.before.before.before.before.before.before.before.before.before.before.before.before.before.before.before.before.before.before.before.before.args.max-lag (key_of c.before.before.before.before.before.before.before.before.before.before.before.before.before.before.before.before.before.before.before.before.before.before.before.before.before.before.before.before.before.before.before.args.frame.now c.before.before.before.before.before.before.before.before.before.before.before.before.before.before.before.before.before.before.before.before.before.before.before.before.before.before.before.before.before.before.before.args.session) c.before.before.before.before.before.before.before.before.before.before.before.before.before.before.before.before.before.before.before.before.before.before.before.before.before.before.before.before.before.before.before.args.words.now c.before.before.before.before.before.before.before.before.before.before.before.before.before.before.before.before.before.before.before.before.before.before.before.before.before.before.before.before.before.before.before.args.bytes.now c.before.before.before.before.before.before.before.before.before.before.before.before.before.before.before.before.before.before.before.before.before.before.before.before.before.before.before.before.before.before.before.requires.0 (omega (arith, c.before.before.before.before.before.before.before.before.before.before.before.before.before.before.before.before.before.before.before.before.before.before.before.before.if1.false)) (omega (arith, c.before.before.before.before.before.before.before.before.before.before.before.before.before.before.before.before.before.before.before.before.before.before.if2.false)) c.before.before.before.before.before.before.before.before.before.before.before.before.before.before.before.before.before.before.place_of.ensures c.before.before.before.before.before.before.before.before.before.before.before.before.before.before.before.before.has-place.ensures c.before.before.before.before.before.before.before.before.before.before.before.before.before.before.before.if3.false c.before.before.before.before.before.before.before.before.before.before.before.before.before.before.has_room.ensures c.before.before.before.before.before.before.before.before.before.before.before.before.before.if4.false c.before.before.before.before.before.before.before.before.before.before.«open».ensures c.before.before.before.summary-at.ensures.0 c.before.before.before.summary-at.ensures.1 c.before.before.bound.ensures c.before.new-bound.ensures c.stored.ensures
+returns-5 : tie.Need-returns
+returns-5 c = binds c.args.settings c.args.counters c.args.lookup c.args.handle c.args.epoch.0 c.args.max_lag (key_of c.args.frame.now c.args.session) c.args.words.now c.args.bytes.now c.requires.0 (omega (arith, c.if-epoch-own.false)) (omega (arith, c.if-settings-max_lag.false)) c.place_of-place.ensures c.has_place.ensures c.if-not-has_place.false-raw c.has_room.ensures c.if-not-has_room.false-raw c.«open».ensures c.summary_at-summary.ensures.0 c.summary_at-summary.ensures.1 c.bound.ensures c.new_bound.ensures c.stored.ensures
 
 pub on_bind_spec : {M : Type 1} → statement M
 on_bind_spec =

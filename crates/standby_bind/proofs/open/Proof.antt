@@ -4,14 +4,14 @@ use Rattle.frame_fields.specs.Answers.{key_of}
 use Rattle.standby_bind.proofs.open.Statement.{statement}
 use Rattle.standby_bind.proofs.open.Tie as tie
 
-returns : tie.Need-returns
-returns c = was_there c.before.before.before.before.before.args.shape (key_of c.before.before.before.before.before.args.frame.now c.before.before.before.before.before.args.session) c.before.before.before.before.before.args.words.now c.before.before.before.before.before.args.bytes.now c.before.before.before.before.before.requires.0 c.before.before.before.before.before.args.place c.before.before.before.before.before.requires.1.0 c.if1.true
+returns : tie.Need-returns-then-place-words
+returns c = was_there c.args.shape (key_of c.args.frame.now c.args.session) c.args.words.now c.args.bytes.now c.requires.0 c.args.place c.requires.1.0 c.if-place-words.true
 
 open-requires : tie.Need-open-requires
-open-requires c κs = (c.before.before.before.before.before.before.before.before.before.before.before.before.before.before.before.requires.0, (c.before.before.before.before.before.before.before.before.before.before.before.before.before.before.before.requires.1.1.0 c.before.before.before.before.before.before.before.before.before.before.if1.false, (short_as c.before.before.before.slice.ensures c.before.before.before.before.before.before.before.before.before.before.before.before.before.before.before.requires.1.1.1.begin, (short_as c.before.before.slice2.ensures c.before.before.before.before.before.before.before.before.before.before.before.before.before.before.before.requires.1.1.1.sender, (short_as c.before.slice3.ensures c.before.before.before.before.before.before.before.before.before.before.before.before.before.before.before.requires.1.1.1.target, short_as c.slice4.ensures c.before.before.before.before.before.before.before.before.before.before.before.before.before.before.before.requires.1.1.1.suffix)))))
+open-requires c κs = (c.requires.0, (c.requires.1.1.0 c.if-place-words.false, (short_as c.slice.ensures c.requires.1.1.1.begin, (short_as c.slice-2.ensures c.requires.1.1.1.sender, (short_as c.slice-3.ensures c.requires.1.1.1.target, short_as c.slice-4.ensures c.requires.1.1.1.suffix)))))
 
-returns-2 : tie.Need-returns-2
-returns-2 c = newly_there c.before.before.before.before.before.before.before.before.before.before.before.before.before.before.before.before.before.before.before.before.args.shape (key_of c.before.before.before.before.before.before.before.before.before.before.before.before.before.before.before.before.before.before.before.before.args.frame.now c.before.before.before.before.before.before.before.before.before.before.before.before.before.before.before.before.before.before.before.before.args.session) c.before.before.before.before.before.before.before.before.before.before.before.before.before.before.before.before.before.before.before.before.args.words.now c.before.before.before.before.before.before.before.before.before.before.before.before.before.before.before.before.before.before.before.before.args.bytes.now c.before.before.before.before.before.before.before.before.before.before.before.before.before.before.before.before.before.before.before.before.requires.0 c.before.before.before.before.before.before.before.before.before.before.before.before.before.before.before.before.before.before.before.before.args.place c.before.before.before.before.before.before.before.before.before.before.before.before.before.before.before.before.before.before.before.before.requires.1.0 (key_is c.before.before.before.before.before.before.before.before.before.before.before.before.before.before.before.before.before.before.before.before.args.frame.now c.before.before.before.before.before.before.before.before.before.before.before.before.before.before.before.before.before.before.before.before.args.session c.before.before.before.before.before.before.before.before.slice.ensures c.before.before.before.before.before.before.before.slice2.ensures c.before.before.before.before.before.before.slice3.ensures c.before.before.before.before.before.slice4.ensures) c.before.before.before.before.before.before.before.before.before.before.before.before.before.before.before.if1.false (c.before.before.before.before.before.before.before.before.before.before.before.before.before.before.before.before.before.before.before.before.requires.1.1.0 c.before.before.before.before.before.before.before.before.before.before.before.before.before.before.before.if1.false) c.before.before.before.before.«open».ensures
+returns-2 : tie.Need-returns
+returns-2 c = newly_there c.args.shape (key_of c.args.frame.now c.args.session) c.args.words.now c.args.bytes.now c.requires.0 c.args.place c.requires.1.0 (key_is c.args.frame.now c.args.session c.slice.ensures c.slice-2.ensures c.slice-3.ensures c.slice-4.ensures) c.if-place-words.false (c.requires.1.1.0 c.if-place-words.false) c.«open».ensures
 
 pub open_spec : {M : Type 1} → statement M
 open_spec =

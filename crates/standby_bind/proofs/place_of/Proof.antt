@@ -4,7 +4,7 @@ use Rattle.standby_bind.proofs.place_of.Statement.{statement}
 use Rattle.standby_bind.proofs.place_of.Tie as tie
 
 returns : tie.Need-returns
-returns c = placed c.before.before.before.before.before.before.before.before.before.before.before.before.args.frame.now c.before.before.before.before.before.before.before.before.before.before.before.before.args.session c.before.before.before.before.slice.ensures c.before.before.before.slice2.ensures c.before.before.slice3.ensures c.before.slice4.ensures c.before.before.before.before.before.before.before.before.before.before.before.before.args.shape c.before.before.before.before.before.before.before.before.before.before.before.before.args.words.now c.before.before.before.before.before.before.before.before.before.before.before.before.args.bytes.now c.place_of.ensures
+returns c = placed c.args.frame.now c.args.session c.slice.ensures c.slice-2.ensures c.slice-3.ensures c.slice-4.ensures c.args.shape c.args.words.now c.args.bytes.now c.place_of.ensures
 
 pub place_of_spec : {M : Type 1} → statement M
 place_of_spec =

@@ -5,9 +5,9 @@ use Rattle.standby_bind.proofs.summary_at.Tie as tie
 
 returns : tie.Need-returns
 returns c =
-    let m = c.before.before.before.before.summary-of in
-    let b = c.before.before.before.before.before.before.before.args.bytes.now in
-    (brief_exact b m.result c.before.has-in-flight.ensures c.in-flight.ensures m.ensures.1, brief_is b m.result c.before.has-in-flight.ensures c.in-flight.ensures m.ensures.0)
+    let m = c.summary_of-m in
+    let b = c.args.bytes.now in
+    (brief_exact b m.result c.has_in_flight.ensures c.in_flight.ensures m.ensures.1, brief_is b m.result c.has_in_flight.ensures c.in_flight.ensures m.ensures.0)
 
 pub summary_at_spec : {M : Type 1} → statement M
 summary_at_spec = tie.close (tie.spec (λ c κs. search rules) (λ c κs. search rules) (λ c κs. search rules) returns)

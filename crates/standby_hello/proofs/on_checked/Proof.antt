@@ -20,27 +20,27 @@ unchanged-requires : tie.Need-unchanged-requires
 unchanged-requires c κs = search rules
 
 -- src/lib.rt:87:9
-returns : tie.Need-returns
-returns c = stale c.before.before.before.before.before.before.args.counters c.before.before.before.before.before.before.args.settings c.before.before.before.before.before.before.args.lookup c.before.before.before.before.before.before.args.handle c.before.before.before.before.before.before.args.epoch.0 c.before.before.before.before.before.before.args.incarnation-sent.0 c.before.before.if1.true c.unchanged.ensures c.before.nack.ensures
+returns : tie.Need-returns-then-epoch-own
+returns c = stale c.args.counters c.args.settings c.args.lookup c.args.handle c.args.epoch.0 c.args.incarnation_sent.0 c.if-epoch-own.true c.unchanged.ensures c.nack.ensures
 
 -- src/lib.rt:89:17
 incarnation-requires : tie.Need-incarnation-requires
 incarnation-requires c κs = search rules
 
 -- src/lib.rt:90:41
-nack-requires-2 : tie.Need-nack-requires-2
+nack-requires-2 : tie.Need-nack-requires-then-incarnation_sent-incarnation
 nack-requires-2 c κs = search rules
 
 -- src/lib.rt:90:9
-unchanged-requires-2 : tie.Need-unchanged-requires-2
+unchanged-requires-2 : tie.Need-unchanged-requires-then-incarnation_sent-incarnation
 unchanged-requires-2 c κs = search rules
 
 -- src/lib.rt:90:9
-returns-2 : tie.Need-returns-2
-returns-2 c = other_run c.before.before.before.before.before.before.before.before.before.before.args.counters c.before.before.before.before.before.before.before.before.before.before.args.settings c.before.before.before.before.before.before.before.before.before.before.args.lookup c.before.before.before.before.before.before.before.before.before.before.args.handle c.before.before.before.before.before.before.before.before.before.before.args.epoch.0 c.before.before.before.before.before.before.before.before.before.before.args.incarnation-sent.0 c.before.before.before.before.before.before.if1.false c.before.before.before.before.before.incarnation.ensures c.before.before.if2.true c.unchanged2.ensures c.before.nack2.ensures
+returns-2 : tie.Need-returns-then-incarnation_sent-incarnation
+returns-2 c = other_run c.args.counters c.args.settings c.args.lookup c.args.handle c.args.epoch.0 c.args.incarnation_sent.0 c.if-epoch-own.false c.incarnation.ensures c.if-incarnation_sent-incarnation.true c.unchanged-then-incarnation_sent-incarnation.ensures c.nack-then-incarnation_sent-incarnation.ensures
 
 -- src/lib.rt:93:9
-checked-at-requires : tie.Need-checked-at-requires
+checked-at-requires : tie.Need-checked_at-requires
 checked-at-requires c κs = search rules
 
 -- src/lib.rt:95:9
@@ -48,12 +48,12 @@ ack-requires : tie.Need-ack-requires
 ack-requires c κs = search rules
 
 -- src/lib.rt:92:5
-unchanged-requires-3 : tie.Need-unchanged-requires-3
+unchanged-requires-3 : tie.Need-unchanged-requires-2
 unchanged-requires-3 c κs = search rules
 
 -- src/lib.rt:75:1
-returns-3 : tie.Need-returns-3
-returns-3 c = said c.before.before.before.before.before.before.before.before.before.before.before.args.counters c.before.before.before.before.before.before.before.before.before.before.before.args.settings c.before.before.before.before.before.before.before.before.before.before.before.args.lookup c.before.before.before.before.before.before.before.before.before.before.before.args.handle c.before.before.before.before.before.before.before.before.before.before.before.args.epoch.0 c.before.before.before.before.before.before.before.before.before.before.before.args.incarnation-sent.0 c.before.before.before.before.before.before.before.if1.false c.before.before.before.before.before.before.incarnation.ensures refl c.before.before.before.if2.false c.before.before.checked-at.ensures c.unchanged3.ensures c.before.ack.ensures
+returns-3 : tie.Need-returns
+returns-3 c = said c.args.counters c.args.settings c.args.lookup c.args.handle c.args.epoch.0 c.args.incarnation_sent.0 c.if-epoch-own.false c.incarnation.ensures refl c.if-incarnation_sent-incarnation.false c.checked_at.ensures c.unchanged-2.ensures c.ack.ensures
 
 pub on_checked_spec : {M : Type 1} → statement M
 on_checked_spec =

@@ -22,20 +22,20 @@ unchanged-requires : tie.Need-unchanged-requires
 unchanged-requires c κs = search rules
 
 -- src/lib.rt:58:9
-returns : tie.Need-returns
-returns c = λ kinds e. other_version c.before.before.before.args.counters c.before.before.before.args.settings c.before.before.before.args.lookup c.before.before.before.args.version c.before.before.before.args.epoch.0 kinds c.before.before.if1.true c.unchanged.ensures c.before.refused.ensures
+returns : tie.Need-returns-then-version-ne-VERSION
+returns c = λ kinds e. other_version c.args.counters c.args.settings c.args.lookup c.args.version c.args.epoch.0 kinds c.if-version-ne-VERSION.true c.unchanged.ensures c.refused.ensures
 
 -- src/lib.rt:61:41
-refused-requires-2 : tie.Need-refused-requires-2
+refused-requires-2 : tie.Need-refused-requires-then-not-no_kinds
 refused-requires-2 c κs = search rules
 
 -- src/lib.rt:61:9
-unchanged-requires-2 : tie.Need-unchanged-requires-2
+unchanged-requires-2 : tie.Need-unchanged-requires-then-not-no_kinds
 unchanged-requires-2 c κs = search rules
 
 -- src/lib.rt:61:9
-returns-2 : tie.Need-returns-2
-returns-2 c = λ kinds e. some_kinds c.before.before.before.before.args.counters c.before.before.before.before.args.settings c.before.before.before.before.args.lookup c.before.before.before.before.args.version c.before.before.before.before.args.epoch.0 kinds c.before.before.before.if1.false (e ∙ not-true c.before.before.before.before.args.no-kinds c.before.before.if2.true) c.unchanged2.ensures c.before.refused2.ensures
+returns-2 : tie.Need-returns-then-not-no_kinds
+returns-2 c = λ kinds e. some_kinds c.args.counters c.args.settings c.args.lookup c.args.version c.args.epoch.0 kinds c.if-version-ne-VERSION.false (e ∙ not-true c.args.no_kinds c.if-not-no_kinds.true-raw) c.unchanged-then-not-no_kinds.ensures c.refused-then-not-no_kinds.ensures
 
 -- src/lib.rt:65:63
 incarnation-requires : tie.Need-incarnation-requires
@@ -46,12 +46,12 @@ welcome-requires : tie.Need-welcome-requires
 welcome-requires c κs = search rules
 
 -- src/lib.rt:65:9
-unchanged-requires-3 : tie.Need-unchanged-requires-3
+unchanged-requires-3 : tie.Need-unchanged-requires-then-epoch-own
 unchanged-requires-3 c κs = search rules
 
 -- src/lib.rt:65:9
-returns-3 : tie.Need-returns-3
-returns-3 c = λ kinds e. lower_told c.before.before.before.before.before.before.before.before.before.args.counters c.before.before.before.before.before.before.before.before.before.args.settings c.before.before.before.before.before.before.before.before.before.args.lookup c.before.before.before.before.before.before.before.before.before.args.version c.before.before.before.before.before.before.before.before.before.args.epoch.0 kinds c.before.before.before.before.before.before.before.before.if1.false (e ∙ not-false c.before.before.before.before.before.before.before.before.before.args.no-kinds c.before.before.before.before.before.before.before.if2.false) c.before.before.before.if3.true c.before.before.incarnation.ensures c.unchanged3.ensures c.before.welcome.ensures
+returns-3 : tie.Need-returns-then-epoch-own
+returns-3 c = λ kinds e. lower_told c.args.counters c.args.settings c.args.lookup c.args.version c.args.epoch.0 kinds c.if-version-ne-VERSION.false (e ∙ not-false c.args.no_kinds c.if-not-no_kinds.false-raw) c.if-epoch-own.true c.incarnation.ensures c.unchanged-then-epoch-own.ensures c.welcome.ensures
 
 -- src/lib.rt:68:9
 connected-requires : tie.Need-connected-requires
@@ -70,8 +70,8 @@ cleared-requires : tie.Need-cleared-requires
 cleared-requires c κs = search rules
 
 -- src/lib.rt:47:1
-returns-4 : tie.Need-returns-4
-returns-4 c = λ kinds e. taken c.before.before.before.before.before.before.before.before.before.before.args.counters c.before.before.before.before.before.before.before.before.before.before.args.settings c.before.before.before.before.before.before.before.before.before.before.args.lookup c.before.before.before.before.before.before.before.before.before.before.args.version c.before.before.before.before.before.before.before.before.before.before.args.epoch.0 kinds c.before.before.before.before.before.before.before.before.before.if1.false (e ∙ not-false c.before.before.before.before.before.before.before.before.before.before.args.no-kinds c.before.before.before.before.before.before.before.before.if2.false) refl c.before.before.before.before.if3.false c.before.before.incarnation2.ensures c.before.before.before.connected.ensures c.cleared.ensures c.before.welcome2.ensures
+returns-4 : tie.Need-returns
+returns-4 c = λ kinds e. taken c.args.counters c.args.settings c.args.lookup c.args.version c.args.epoch.0 kinds c.if-version-ne-VERSION.false (e ∙ not-false c.args.no_kinds c.if-not-no_kinds.false-raw) refl c.if-epoch-own.false c.incarnation-2.ensures c.connected.ensures c.cleared.ensures c.welcome-2.ensures
 
 pub on_hello_spec : {M : Type 1} → statement M
 on_hello_spec =

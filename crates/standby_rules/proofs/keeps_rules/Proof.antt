@@ -15,28 +15,28 @@ allowed-requires : tie.Need-allowed-requires
 allowed-requires c κs = search rules
 
 -- src/lib.rt:13:13
-returns : tie.Need-returns
-returns c = row_breaks c.before.before.before.before.before.before.before.args.shape c.before.before.before.before.before.before.before.args.lookup c.before.before.before.before.before.before.before.args.words.now c.before.before.before.before.before.before.before.args.bytes.now c.before.before.before.before.before.before.before.args.holds.now (sym c.before.before.before.allowed.ensures ∙ c.before.before.if1.true) (omega (arith, c.if2.true))
+returns : tie.Need-returns-then-lookup
+returns c = row_breaks c.args.shape c.args.lookup c.args.words.now c.args.bytes.now c.args.holds.now (sym c.allowed.ensures ∙ c.if-allowed.true) (omega (arith, c.if-lookup.true))
 
 -- src/lib.rt:16:13
-returns-2 : tie.Need-returns-2
-returns-2 c = none_found c.before.before.before.before.before.before.before.before.before.args.shape c.before.before.before.before.before.before.before.before.before.args.lookup c.before.before.before.before.before.before.before.before.before.args.words.now c.before.before.before.before.before.before.before.before.before.args.bytes.now c.before.before.before.before.before.before.before.before.before.args.holds.now (sym c.before.before.before.before.before.allowed.ensures ∙ c.before.before.before.before.if1.true) (omega (arith, c.before.before.if2.false)) (omega (arith, c.if3.true))
+returns-2 : tie.Need-returns-then-lookup-2
+returns-2 c = none_found c.args.shape c.args.lookup c.args.words.now c.args.bytes.now c.args.holds.now (sym c.allowed.ensures ∙ c.if-allowed.true) (omega (arith, c.if-lookup.false)) (omega (arith, c.if-lookup-2.true))
 
 -- src/lib.rt:18:13
-room-of-requires : tie.Need-room-of-requires
+room-of-requires : tie.Need-room_of-room-requires
 room-of-requires c κs = search rules
 
 -- src/lib.rt:20:36
-shared_slice_read_result : tie.Need-shared-slice-read-result
-shared_slice_read_result c = omega (arith, (rules_of c.before.before.before.before.before.before.before.before.before.before.before.before.args.shape c.before.before.before.before.before.before.before.before.before.before.before.before.args.words.now c.before.before.before.before.before.before.before.before.before.before.before.before.args.bytes.now (sym c.before.before.before.before.before.before.before.before.allowed.ensures ∙ c.before.before.before.before.before.before.before.if1.true)).room.words_long)
+shared_slice_read_result : tie.Need-bounds-words-0
+shared_slice_read_result c = omega (arith, (rules_of c.args.shape c.args.words.now c.args.bytes.now (sym c.allowed.ensures ∙ c.if-allowed.true)).room.words_long)
 
 -- src/lib.rt:20:9
-returns-3 : tie.Need-returns-3
-returns-3 c = one_found c.before.before.before.before.before.before.before.before.before.before.before.before.before.args.shape c.before.before.before.before.before.before.before.before.before.before.before.before.before.args.lookup c.before.before.before.before.before.before.before.before.before.before.before.before.before.args.words.now c.before.before.before.before.before.before.before.before.before.before.before.before.before.args.bytes.now c.before.before.before.before.before.before.before.before.before.before.before.before.before.args.holds.now (sym c.before.before.before.before.before.before.before.before.before.allowed.ensures ∙ c.before.before.before.before.before.before.before.before.if1.true) (omega (arith, c.before.before.before.before.before.before.if2.false)) (omega (arith, c.before.before.before.before.if3.false)) c.before.before.before.room_of.ensures
+returns-3 : tie.Need-returns-then-allowed
+returns-3 c = one_found c.args.shape c.args.lookup c.args.words.now c.args.bytes.now c.args.holds.now (sym c.allowed.ensures ∙ c.if-allowed.true) (omega (arith, c.if-lookup.false)) (omega (arith, c.if-lookup-2.false)) c.room_of-room.ensures
 
 -- src/lib.rt:8:1
-returns-4 : tie.Need-returns-4
-returns-4 c = store_breaks c.before.before.before.before.before.args.shape c.before.before.before.before.before.args.lookup c.before.before.before.before.before.args.words.now c.before.before.before.before.before.args.bytes.now c.before.before.before.before.before.args.holds.now (sym c.before.allowed.ensures ∙ c.if1.false)
+returns-4 : tie.Need-returns
+returns-4 c = store_breaks c.args.shape c.args.lookup c.args.words.now c.args.bytes.now c.args.holds.now (sym c.allowed.ensures ∙ c.if-allowed.false)
 
 pub keeps_rules_spec : {M : Type 1} → statement M
 keeps_rules_spec =
