@@ -13,40 +13,40 @@ use Rattle.standby_control.proofs.clear_if.Reads as clear-if-reads
 use Rattle.standby_control.proofs.answer_by_counters.Reads as answer-by-counters-reads
 
 -- src/lib.rt:86:13
-enum_known_decoded : tie.Need-enum-known-decoded
+enum_known_decoded : tie.Need-enum_known-decoded
 enum_known_decoded c = search rules
 
 -- src/lib.rt:90:14
-on-bind-requires : tie.Need-on-bind-requires
-on-bind-requires c κs = (c.before.before.before.before.before.before.before.before.requires.0, subst (λ (x : Frame). Fit (frame_of 1 c.before.before.before.before.before.before.before.before.args.frame.now x)) c.before.before.before.decoded.given.1 c.before.before.before.before.before.before.before.before.requires.1)
+on-bind-requires : tie.Need-on_bind-requires
+on-bind-requires c κs = (c.requires.0, subst (λ (x : Frame). Fit (frame_of 1 c.args.frame.now x)) c.in-Bind.is c.requires.1)
 
 -- src/lib.rt:94:17
-answer-by-counters-requires : tie.Need-answer-by-counters-requires
-answer-by-counters-requires c κs = plain_of c.before.before.before.before.args.frame.now c.before.before.before.before.args.decoded c.match.keys2 c.before.before.before.before.requires.1
+answer-by-counters-requires : tie.Need-answer_by_counters-o-requires
+answer-by-counters-requires c κs = plain_of c.args.frame.now c.args.decoded c.in_default.in_default-own.keys2 c.requires.1
 
 -- src/lib.rt:95:13
-clear-if-requires : tie.Need-clear-if-requires
+clear-if-requires : tie.Need-clear_if-requires
 clear-if-requires c κs = search rules
 
 -- src/lib.rt:71:1
-same_length : tie.Need-same-length
+same_length : tie.Need-shape_of-words-in-Bind
 same_length c = search rules
 
 -- src/lib.rt:71:1
-same_length_2 : tie.Need-same-length-2
+same_length_2 : tie.Need-shape_of-bytes
 same_length_2 c = search rules
 
 -- src/lib.rt:71:1
-returns : tie.Need-returns
-returns c = rw c.before.before.before.before.before.before.before.before.decoded.given.1 (bound_to c.before.before.before.before.before.before.before.before.before.before.before.before.before.args.settings c.before.before.before.before.before.before.before.before.before.before.before.before.before.args.counters c.before.before.before.before.before.before.before.before.before.before.before.before.before.args.lookup c.before.before.before.before.before.before.before.before.before.before.before.before.before.args.words.now c.before.before.before.before.before.before.before.before.before.before.before.before.before.args.bytes.now c.before.before.before.before.before.before.before.before.before.before.before.before.before.requires.0 _ _ _ _ c.before.before.before.before.on-bind.ensures)
+returns : tie.Need-returns-in-Bind
+returns c = rw c.in-Bind.is (bound_to c.args.settings c.args.counters c.args.lookup c.args.words.now c.args.bytes.now c.requires.0 _ _ _ _ c.on_bind.ensures)
 
 -- src/lib.rt:71:1
-same_length_3 : tie.Need-same-length-3
+same_length_3 : tie.Need-shape_of-words-in_default
 same_length_3 c = search rules
 
 -- src/lib.rt:71:1
-returns-2 : tie.Need-returns-2
-returns-2 c = replied c.before.before.before.before.before.before.before.before.before.args.settings c.before.before.before.before.before.before.before.before.before.args.counters c.before.before.before.before.before.before.before.before.before.args.lookup c.before.before.before.before.before.before.before.before.before.args.words.now c.before.before.before.before.before.before.before.before.before.args.bytes.now c.before.before.before.before.before.before.before.before.before.requires.0 (frame_of 1 c.before.before.before.before.before.before.before.before.before.args.frame.now c.before.before.before.before.before.before.before.before.before.args.decoded) (plain_of c.before.before.before.before.before.before.before.before.before.args.frame.now c.before.before.before.before.before.before.before.before.before.args.decoded c.before.before.before.before.before.match.keys2 c.before.before.before.before.before.before.before.before.before.requires.1) c.before.before.before.before.answer-by-counters.ensures c.before.before.clear-if.ensures
+returns-2 : tie.Need-returns-in_default
+returns-2 c = replied c.args.settings c.args.counters c.args.lookup c.args.words.now c.args.bytes.now c.requires.0 (frame_of 1 c.args.frame.now c.args.decoded) (plain_of c.args.frame.now c.args.decoded c.in_default.in_default-own.keys2 c.requires.1) c.answer_by_counters-o.ensures c.clear_if.ensures
 
 pub answer_spec : {M : Type 1} → statement M
 answer_spec =

@@ -12,23 +12,23 @@ use Rattle.standby_state.proofs.unchanged.Reads as unchanged-reads
 use Rattle.standby_state.proofs.refused.Reads as refused-reads
 
 -- src/lib.rt:53:13
-enum_known_decoded : tie.Need-enum-known-decoded
+enum_known_decoded : tie.Need-enum_known-decoded
 enum_known_decoded c = search rules
 
 -- src/lib.rt:58:17
-no-kinds-requires : tie.Need-no-kinds-requires
+no-kinds-requires : tie.Need-no_kinds-none-requires
 no-kinds-requires c κs = search rules
 
 -- src/lib.rt:59:13
-on-hello-requires : tie.Need-on-hello-requires
+on-hello-requires : tie.Need-on_hello-requires
 on-hello-requires c κs = search rules
 
 -- src/lib.rt:62:13
-enum_known_decoded_2 : tie.Need-enum-known-decoded-2
+enum_known_decoded_2 : tie.Need-enum_known-decoded-in-Checked-1
 enum_known_decoded_2 c = search rules
 
 -- src/lib.rt:65:14
-on-checked-requires : tie.Need-on-checked-requires
+on-checked-requires : tie.Need-on_checked-requires
 on-checked-requires c κs = search rules
 
 -- src/lib.rt:66:39
@@ -40,16 +40,16 @@ unchanged-requires : tie.Need-unchanged-requires
 unchanged-requires c κs = search rules
 
 -- src/lib.rt:47:1
-returns : tie.Need-returns
-returns c = rw c.before.before.before.decoded.given.1 (c.on-hello.ensures _ (sym c.before.no-kinds.ensures))
+returns : tie.Need-returns-in-Hello
+returns c = rw c.in-Hello.is (c.on_hello.ensures _ (sym c.no_kinds-none.ensures))
 
 -- src/lib.rt:47:1
-returns-2 : tie.Need-returns-2
-returns-2 c = rw c.before.before.decoded2.given.1 c.on-checked.ensures
+returns-2 : tie.Need-returns-in-Checked
+returns-2 c = rw c.in-Checked.is c.on_checked.ensures
 
 -- src/lib.rt:47:1
-returns-3 : tie.Need-returns-3
-returns-3 c = nineteen c.before.before.before.before.args.counters c.before.before.before.before.args.settings c.before.before.before.before.args.lookup c.before.before.before.before.args.frame.now c.before.before.before.before.args.decoded c.before.before.match.keys3 c.before.before.before.before.requires c.unchanged.ensures c.before.refused.ensures
+returns-3 : tie.Need-returns-in_default
+returns-3 c = nineteen c.args.counters c.args.settings c.args.lookup c.args.frame.now c.args.decoded c.in_default.in_default-own.keys3 c.requires c.unchanged.ensures c.refused.ensures
 
 pub answer_by_counters_spec : {M : Type 1} → statement M
 answer_by_counters_spec =

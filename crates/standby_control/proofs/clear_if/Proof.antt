@@ -11,15 +11,15 @@ clear-requires : tie.Need-clear-requires
 clear-requires c κs = search rules
 
 -- src/lib.rt:37:1
-same_length : tie.Need-same-length
+same_length : tie.Need-shape_of-words
 same_length c = search rules
 
 -- src/lib.rt:37:1
-returns : tie.Need-returns
-returns c = cleared_words c.before.before.before.before.before.before.args.words.now c.before.before.before.before.if1.true c.before.before.clear.ensures.1
+returns : tie.Need-returns-then-clears
+returns c = cleared_words c.args.words.now c.if-clears.true c.clear.ensures.1
 
 -- src/lib.rt:37:1
-returns-2 : tie.Need-returns-2
+returns-2 : tie.Need-returns-else-clears
 returns-2 c = search rules
 
 pub clear_if_spec : {M : Type 1} → statement M

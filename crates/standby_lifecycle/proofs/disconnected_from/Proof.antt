@@ -16,7 +16,7 @@ use Rattle.standby_state.proofs.refused.Reads as refused-reads
 use Rattle.standby_rules.proofs.keeps_rules.Reads as keeps-rules-reads
 
 -- src/lib.rt:83:9
-keeps-rules-requires : tie.Need-keeps-rules-requires
+keeps-rules-requires : tie.Need-keeps_rules-requires
 keeps-rules-requires c κs = search rules
 
 -- src/lib.rt:84:41
@@ -28,24 +28,24 @@ unchanged-requires : tie.Need-unchanged-requires
 unchanged-requires c κs = search rules
 
 -- src/lib.rt:84:9
-same_length : tie.Need-same-length
+same_length : tie.Need-shape_of-words-then-not-keeps_rules
 same_length c = search rules
 
 -- src/lib.rt:84:9
-same_length_2 : tie.Need-same-length-2
+same_length_2 : tie.Need-shape_of-bytes-then-not-keeps_rules
 same_length_2 c = search rules
 
 -- src/lib.rt:84:9
-same_length_3 : tie.Need-same-length-3
+same_length_3 : tie.Need-shape_of-holds-then-not-keeps_rules
 same_length_3 c = search rules
 
 -- src/lib.rt:84:9
-returns : tie.Need-returns
-returns c = unsound c.before.before.before.before.before.before.before.before.before.before.args.settings c.before.before.before.before.before.before.before.before.before.before.args.counters c.before.before.before.before.before.before.before.before.before.before.args.lookup c.before.before.before.before.before.before.before.before.before.before.args.words.now c.before.before.before.before.before.before.before.before.before.before.args.bytes.now c.before.before.before.before.before.before.before.before.before.before.args.holds.now (disconnected_from c.before.before.before.before.before.before.before.before.before.before.args.connection) (sym c.before.before.before.keeps-rules.ensures ∙ not-true _ c.before.before.if1.true) c.before.refused.ensures c.unchanged.ensures
+returns : tie.Need-returns-then-not-keeps_rules
+returns c = unsound c.args.settings c.args.counters c.args.lookup c.args.words.now c.args.bytes.now c.args.holds.now (disconnected_from c.args.connection) (sym c.keeps_rules.ensures ∙ c.if-not-keeps_rules.true) c.refused.ensures c.unchanged.ensures
 
 -- src/lib.rt:87:5
-clear-pending-if-requires : tie.Need-clear-pending-if-requires
-clear-pending-if-requires c κs = omega (arith, (keeps c.before.before.before.before.before.before.before.before.before.before.args.settings c.before.before.before.before.before.before.before.before.before.before.args.counters c.before.before.before.before.before.before.before.before.before.before.args.lookup c.before.before.before.before.before.before.before.before.before.before.args.words.now c.before.before.before.before.before.before.before.before.before.before.args.bytes.now c.before.before.before.before.before.before.before.before.before.before.args.holds.now (sym c.before.before.before.keeps-rules.ensures ∙ not-false _ c.before.before.if1.false)).room.words_long)
+clear-pending-if-requires : tie.Need-clear_pending_if-requires
+clear-pending-if-requires c κs = omega (arith, (keeps c.args.settings c.args.counters c.args.lookup c.args.words.now c.args.bytes.now c.args.holds.now (sym c.keeps_rules.ensures ∙ c.if-not-keeps_rules.false)).room.words_long)
 
 -- src/lib.rt:89:41
 done-requires : tie.Need-done-requires
@@ -56,20 +56,20 @@ cleared-requires : tie.Need-cleared-requires
 cleared-requires c κs = search rules
 
 -- src/lib.rt:89:9
-same_length_4 : tie.Need-same-length-4
+same_length_4 : tie.Need-shape_of-words-then-own
 same_length_4 c = search rules
 
 -- src/lib.rt:89:9
-same_length_5 : tie.Need-same-length-5
+same_length_5 : tie.Need-shape_of-bytes-then-own
 same_length_5 c = search rules
 
 -- src/lib.rt:89:9
-same_length_6 : tie.Need-same-length-6
+same_length_6 : tie.Need-shape_of-holds-then-own
 same_length_6 c = search rules
 
 -- src/lib.rt:89:9
-returns-2 : tie.Need-returns-2
-returns-2 c = own_lost c.before.before.before.before.before.before.before.before.before.before.before.before.before.before.before.before.args.settings c.before.before.before.before.before.before.before.before.before.before.before.before.before.before.before.before.args.counters c.before.before.before.before.before.before.before.before.before.before.before.before.before.before.before.before.args.lookup c.before.before.before.before.before.before.before.before.before.before.before.before.before.before.before.before.args.words.now c.before.before.before.before.before.before.before.before.before.before.before.before.before.before.before.before.args.bytes.now c.before.before.before.before.before.before.before.before.before.before.before.before.before.before.before.before.args.holds.now (sym c.before.before.before.before.before.before.before.before.before.keeps-rules.ensures ∙ not-false _ c.before.before.before.before.before.before.before.before.if1.false) c.before.before.before.before.before.before.before.before.before.before.before.before.before.before.before.before.args.connection c.before.before.if2.true c.before.before.before.before.before.clear-pending-if.ensures c.before.done.ensures c.cleared.ensures
+returns-2 : tie.Need-returns-then-own
+returns-2 c = own_lost c.args.settings c.args.counters c.args.lookup c.args.words.now c.args.bytes.now c.args.holds.now (sym c.keeps_rules.ensures ∙ c.if-not-keeps_rules.false) c.args.connection c.if-own.true c.clear_pending_if.ensures c.done.ensures c.cleared.ensures
 
 -- src/lib.rt:91:30
 done-requires-2 : tie.Need-done-requires-2
@@ -80,20 +80,20 @@ unchanged-requires-2 : tie.Need-unchanged-requires-2
 unchanged-requires-2 c κs = search rules
 
 -- src/lib.rt:72:1
-same_length_7 : tie.Need-same-length-7
+same_length_7 : tie.Need-shape_of-words
 same_length_7 c = search rules
 
 -- src/lib.rt:72:1
-same_length_8 : tie.Need-same-length-8
+same_length_8 : tie.Need-shape_of-bytes
 same_length_8 c = search rules
 
 -- src/lib.rt:72:1
-same_length_9 : tie.Need-same-length-9
+same_length_9 : tie.Need-shape_of-holds
 same_length_9 c = search rules
 
 -- src/lib.rt:72:1
-returns-3 : tie.Need-returns-3
-returns-3 c = other_lost c.before.before.before.before.before.before.before.before.before.before.before.before.before.before.before.before.args.settings c.before.before.before.before.before.before.before.before.before.before.before.before.before.before.before.before.args.counters c.before.before.before.before.before.before.before.before.before.before.before.before.before.before.before.before.args.lookup c.before.before.before.before.before.before.before.before.before.before.before.before.before.before.before.before.args.words.now c.before.before.before.before.before.before.before.before.before.before.before.before.before.before.before.before.args.bytes.now c.before.before.before.before.before.before.before.before.before.before.before.before.before.before.before.before.args.holds.now (sym c.before.before.before.before.before.before.before.before.before.keeps-rules.ensures ∙ not-false _ c.before.before.before.before.before.before.before.before.if1.false) c.before.before.before.before.before.before.before.before.before.before.before.before.before.before.before.before.args.connection c.before.before.if2.false c.before.before.before.before.before.clear-pending-if.ensures c.before.done2.ensures c.unchanged2.ensures
+returns-3 : tie.Need-returns
+returns-3 c = other_lost c.args.settings c.args.counters c.args.lookup c.args.words.now c.args.bytes.now c.args.holds.now (sym c.keeps_rules.ensures ∙ c.if-not-keeps_rules.false) c.args.connection c.if-own.false c.clear_pending_if.ensures c.done-2.ensures c.unchanged-2.ensures
 
 pub disconnected_from_spec : {M : Type 1} → statement M
 disconnected_from_spec =

@@ -13,7 +13,7 @@ use Rattle.standby_state.proofs.refused.Reads as refused-reads
 use Rattle.standby_rules.proofs.keeps_rules.Reads as keeps-rules-reads
 
 -- src/lib.rt:124:9
-keeps-rules-requires : tie.Need-keeps-rules-requires
+keeps-rules-requires : tie.Need-keeps_rules-requires
 keeps-rules-requires c κs = search rules
 
 -- src/lib.rt:125:41
@@ -25,40 +25,40 @@ unchanged-requires : tie.Need-unchanged-requires
 unchanged-requires c κs = search rules
 
 -- src/lib.rt:125:9
-same_length : tie.Need-same-length
+same_length : tie.Need-shape_of-words-then-not-keeps_rules
 same_length c = search rules
 
 -- src/lib.rt:125:9
-same_length_2 : tie.Need-same-length-2
+same_length_2 : tie.Need-shape_of-bytes-then-not-keeps_rules
 same_length_2 c = search rules
 
 -- src/lib.rt:125:9
-same_length_3 : tie.Need-same-length-3
+same_length_3 : tie.Need-shape_of-holds-then-not-keeps_rules
 same_length_3 c = search rules
 
 -- src/lib.rt:125:9
-returns : tie.Need-returns
-returns c = unsound c.before.before.before.before.before.before.before.before.before.before.args.settings c.before.before.before.before.before.before.before.before.before.before.args.counters c.before.before.before.before.before.before.before.before.before.before.args.lookup c.before.before.before.before.before.before.before.before.before.before.args.words.now c.before.before.before.before.before.before.before.before.before.before.args.bytes.now c.before.before.before.before.before.before.before.before.before.before.args.holds.now promote_unchecked (sym c.before.before.before.keeps-rules.ensures ∙ not-true _ c.before.before.if1.true) c.before.refused.ensures c.unchanged.ensures
+returns : tie.Need-returns-then-not-keeps_rules
+returns c = unsound c.args.settings c.args.counters c.args.lookup c.args.words.now c.args.bytes.now c.args.holds.now promote_unchecked (sym c.keeps_rules.ensures ∙ c.if-not-keeps_rules.true) c.refused.ensures c.unchanged.ensures
 
 -- src/lib.rt:127:5
 promotion-requires : tie.Need-promotion-requires
-promotion-requires c κs = keeps c.before.before.before.before.before.before.before.before.before.before.args.settings c.before.before.before.before.before.before.before.before.before.before.args.counters c.before.before.before.before.before.before.before.before.before.before.args.lookup c.before.before.before.before.before.before.before.before.before.before.args.words.now c.before.before.before.before.before.before.before.before.before.before.args.bytes.now c.before.before.before.before.before.before.before.before.before.before.args.holds.now (sym c.before.before.before.keeps-rules.ensures ∙ not-false _ c.before.before.if1.false)
+promotion-requires c κs = keeps c.args.settings c.args.counters c.args.lookup c.args.words.now c.args.bytes.now c.args.holds.now (sym c.keeps_rules.ensures ∙ c.if-not-keeps_rules.false)
 
 -- src/lib.rt:114:1
-same_length_4 : tie.Need-same-length-4
+same_length_4 : tie.Need-shape_of-words
 same_length_4 c = search rules
 
 -- src/lib.rt:114:1
-same_length_5 : tie.Need-same-length-5
+same_length_5 : tie.Need-shape_of-bytes
 same_length_5 c = search rules
 
 -- src/lib.rt:114:1
-same_length_6 : tie.Need-same-length-6
+same_length_6 : tie.Need-shape_of-holds
 same_length_6 c = search rules
 
 -- src/lib.rt:114:1
-returns-2 : tie.Need-returns-2
-returns-2 c = promoted_unchecked c.before.before.before.before.before.before.before.before.before.before.before.before.before.before.before.args.settings c.before.before.before.before.before.before.before.before.before.before.before.before.before.before.before.args.counters c.before.before.before.before.before.before.before.before.before.before.before.before.before.before.before.args.lookup c.before.before.before.before.before.before.before.before.before.before.before.before.before.before.before.args.words.now c.before.before.before.before.before.before.before.before.before.before.before.before.before.before.before.args.bytes.now c.before.before.before.before.before.before.before.before.before.before.before.before.before.before.before.args.holds.now (sym c.before.before.before.before.before.before.before.before.keeps-rules.ensures ∙ not-false _ c.before.before.before.before.before.before.before.if1.false) c.before.before.before.before.promotion.ensures
+returns-2 : tie.Need-returns
+returns-2 c = promoted_unchecked c.args.settings c.args.counters c.args.lookup c.args.words.now c.args.bytes.now c.args.holds.now (sym c.keeps_rules.ensures ∙ c.if-not-keeps_rules.false) c.promotion.ensures
 
 pub promote_unchecked_spec : {M : Type 1} → statement M
 promote_unchecked_spec =

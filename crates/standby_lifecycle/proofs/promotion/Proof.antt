@@ -12,15 +12,15 @@ use Rattle.standby_state.proofs.done.Reads as done-reads
 use Rattle.store_sessions.proofs.take_over_all.Reads as take-over-all-reads
 
 -- src/lib.rt:41:5
-clear-pending-if-requires : tie.Need-clear-pending-if-requires
+clear-pending-if-requires : tie.Need-clear_pending_if-requires
 clear-pending-if-requires c κs = search rules
 
 -- src/lib.rt:42:5
-take-over-all-requires : tie.Need-take-over-all-requires
-take-over-all-requires c κs = still_kept c.before.before.before.before.before.before.before.before.args.settings.shape c.before.before.before.before.before.before.before.before.args.words.now c.before.before.before.before.before.before.before.before.args.bytes.now c.before.before.before.before.before.before.before.before.requires c.before.before.before.before.clear-pending-if.ensures
+take-over-all-requires : tie.Need-take_over_all-requires
+take-over-all-requires c κs = still_kept c.args.settings.shape c.args.words.now c.args.bytes.now c.requires c.clear_pending_if.ensures
 
 -- src/lib.rt:43:21
-promoted-from-requires : tie.Need-promoted-from-requires
+promoted-from-requires : tie.Need-promoted_from-requires
 promoted-from-requires c κs = search rules
 
 -- src/lib.rt:43:45
@@ -32,16 +32,16 @@ cleared-requires : tie.Need-cleared-requires
 cleared-requires c κs = search rules
 
 -- src/lib.rt:37:1
-same_length : tie.Need-same-length
-same_length c = c.before.before.before.before.before.before.before.take-over-all.auto.0 ∙ c.before.before.before.before.before.before.before.before.before.before.before.before.clear-pending-if.auto.0
+same_length : tie.Need-shape_of-words
+same_length c = c.take_over_all.auto.words ∙ c.clear_pending_if.auto.words
 
 -- src/lib.rt:37:1
-same_length_2 : tie.Need-same-length-2
+same_length_2 : tie.Need-shape_of-bytes
 same_length_2 c = search rules
 
 -- src/lib.rt:37:1
 returns : tie.Need-returns
-returns c = promoted_is c.before.before.before.before.before.before.before.before.before.before.before.before.before.before.before.before.args.settings c.before.before.before.before.before.before.before.before.before.before.before.before.before.before.before.before.args.counters c.before.before.before.before.before.before.before.before.before.before.before.before.before.before.before.before.args.lookup c.before.before.before.before.before.before.before.before.before.before.before.before.before.before.before.before.args.words.now c.before.before.before.before.before.before.before.before.before.before.before.before.before.before.before.before.args.bytes.now c.before.before.before.before.before.before.before.before.before.before.before.before.before.before.before.before.requires c.before.before.before.before.before.before.before.before.before.before.before.before.clear-pending-if.ensures c.before.before.before.before.before.before.before.take-over-all.ensures c.before.before.promoted-from.ensures c.before.done.ensures c.cleared.ensures
+returns c = promoted_is c.args.settings c.args.counters c.args.lookup c.args.words.now c.args.bytes.now c.requires c.clear_pending_if.ensures c.take_over_all.ensures c.promoted_from.ensures c.done.ensures c.cleared.ensures
 
 pub promotion_spec : {M : Type 1} → statement M
 promotion_spec =
