@@ -4,17 +4,17 @@ use borrow.Author.Rules.{rules}
 use Rattle.c_books.proofs.wz_books_acknowledged.Statement.{statement}
 use Rattle.c_books.proofs.wz_books_acknowledged.Tie as tie
 
-acknowledged-requires : tie.Need-acknowledged-requires
+acknowledged-requires : tie.Need-acknowledged-answer-requires
 acknowledged-requires c κs = search rules
 
-in-numbers-requires : tie.Need-in-numbers-requires
+in-numbers-requires : tie.Need-in_numbers-requires
 in-numbers-requires c κs = search rules
 
-same_length : tie.Need-same-length
+same_length : tie.Need-shape_of-words
 same_length c = search rules
 
 returns : tie.Need-returns
-returns c = calls c.before.before.before.before.before.before.args.words.now c.before.before.before.acknowledged.new.0 (m.acknowledge c.before.before.before.before.before.before.args.incarnation.0) _ c.in-numbers.result c.before.before.before.acknowledged.ensures c.in-numbers.ensures
+returns c = calls c.args.words.now c.acknowledged-answer.new.words (m.acknowledge c.args.incarnation.0) _ c.in_numbers.result c.acknowledged-answer.ensures c.in_numbers.ensures
 
 pub wz_books_acknowledged_spec : {M : Type 1} → statement M
 wz_books_acknowledged_spec =

@@ -4,17 +4,17 @@ use borrow.Author.Rules.{rules}
 use Rattle.c_books.proofs.wz_books_caught_up.Statement.{statement}
 use Rattle.c_books.proofs.wz_books_caught_up.Tie as tie
 
-caught-up-requires : tie.Need-caught-up-requires
+caught-up-requires : tie.Need-caught_up-answer-requires
 caught-up-requires c κs = search rules
 
-in-numbers-requires : tie.Need-in-numbers-requires
+in-numbers-requires : tie.Need-in_numbers-requires
 in-numbers-requires c κs = search rules
 
-same_length : tie.Need-same-length
+same_length : tie.Need-shape_of-words
 same_length c = search rules
 
 returns : tie.Need-returns
-returns c = calls c.before.before.before.before.before.before.args.words.now c.before.before.before.caught-up.new.0 (m.caught_up c.before.before.before.before.before.before.args.session c.before.before.before.before.before.before.args.incarnation.0) _ c.in-numbers.result c.before.before.before.caught-up.ensures c.in-numbers.ensures
+returns c = calls c.args.words.now c.caught_up-answer.new.words (m.caught_up c.args.session c.args.incarnation.0) _ c.in_numbers.result c.caught_up-answer.ensures c.in_numbers.ensures
 
 pub wz_books_caught_up_spec : {M : Type 1} → statement M
 wz_books_caught_up_spec =

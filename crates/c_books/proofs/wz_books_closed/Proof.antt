@@ -4,17 +4,17 @@ use borrow.Author.Rules.{rules}
 use Rattle.c_books.proofs.wz_books_closed.Statement.{statement}
 use Rattle.c_books.proofs.wz_books_closed.Tie as tie
 
-closed-requires : tie.Need-closed-requires
+closed-requires : tie.Need-closed-answer-requires
 closed-requires c κs = search rules
 
-in-numbers-requires : tie.Need-in-numbers-requires
+in-numbers-requires : tie.Need-in_numbers-requires
 in-numbers-requires c κs = search rules
 
-same_length : tie.Need-same-length
+same_length : tie.Need-shape_of-words
 same_length c = search rules
 
 returns : tie.Need-returns
-returns c = calls c.before.before.before.before.before.before.args.words.now c.before.before.before.closed.new.0 (m.closed c.before.before.before.before.before.before.args.session) _ c.in-numbers.result c.before.before.before.closed.ensures c.in-numbers.ensures
+returns c = calls c.args.words.now c.closed-answer.new.words (m.closed c.args.session) _ c.in_numbers.result c.closed-answer.ensures c.in_numbers.ensures
 
 pub wz_books_closed_spec : {M : Type 1} → statement M
 wz_books_closed_spec = tie.close (tie.spec closed-requires in-numbers-requires same_length returns)

@@ -4,17 +4,17 @@ use borrow.Author.Rules.{rules}
 use Rattle.c_books.proofs.wz_books_ended.Statement.{statement}
 use Rattle.c_books.proofs.wz_books_ended.Tie as tie
 
-ended-requires : tie.Need-ended-requires
+ended-requires : tie.Need-ended-answer-requires
 ended-requires c κs = search rules
 
-in-numbers-requires : tie.Need-in-numbers-requires
+in-numbers-requires : tie.Need-in_numbers-requires
 in-numbers-requires c κs = search rules
 
-same_length : tie.Need-same-length
+same_length : tie.Need-shape_of-words
 same_length c = search rules
 
 returns : tie.Need-returns
-returns c = calls c.before.before.before.before.before.before.args.words.now c.before.before.before.ended.new.0 (m.ended c.before.before.before.before.before.before.args.session c.before.before.before.before.before.before.args.incarnation.0) _ c.in-numbers.result c.before.before.before.ended.ensures c.in-numbers.ensures
+returns c = calls c.args.words.now c.ended-answer.new.words (m.ended c.args.session c.args.incarnation.0) _ c.in_numbers.result c.ended-answer.ensures c.in_numbers.ensures
 
 pub wz_books_ended_spec : {M : Type 1} → statement M
 wz_books_ended_spec = tie.close (tie.spec ended-requires in-numbers-requires same_length returns)

@@ -4,17 +4,17 @@ use borrow.Author.Rules.{rules}
 use Rattle.c_books.proofs.wz_books_next_to_catch_up.Statement.{statement}
 use Rattle.c_books.proofs.wz_books_next_to_catch_up.Tie as tie
 
-next-to-catch-up-requires : tie.Need-next-to-catch-up-requires
+next-to-catch-up-requires : tie.Need-next_to_catch_up-answer-requires
 next-to-catch-up-requires c κs = search rules
 
-in-numbers-requires : tie.Need-in-numbers-requires
+in-numbers-requires : tie.Need-in_numbers-requires
 in-numbers-requires c κs = search rules
 
-same_length : tie.Need-same-length
+same_length : tie.Need-shape_of-words
 same_length c = search rules
 
 returns : tie.Need-returns
-returns c = calls c.before.before.before.before.before.before.before.args.words.now c.before.before.before.next-to-catch-up.new.0 (m.next_to_catch_up c.before.before.before.before.before.before.before.args.listing.now c.before.before.before.before.before.before.before.args.incarnation.0) _ c.in-numbers.result c.before.before.before.next-to-catch-up.ensures c.in-numbers.ensures
+returns c = calls c.args.words.now c.next_to_catch_up-answer.new.words (m.next_to_catch_up c.args.listing.now c.args.incarnation.0) _ c.in_numbers.result c.next_to_catch_up-answer.ensures c.in_numbers.ensures
 
 pub wz_books_next_to_catch_up_spec : {M : Type 1} → statement M
 wz_books_next_to_catch_up_spec =

@@ -5,23 +5,23 @@ use Rattle.c_store.proofs.Laws.{used, unfit, cannot, made_words, next_is, below_
 use Rattle.c_changes.proofs.store_record_none.Statement.{statement}
 use Rattle.c_changes.proofs.store_record_none.Tie as tie
 
-returns : tie.Need-returns
-returns c = unfit c.before.in_use.ensures (not-true _ c.if1.true)
+returns : tie.Need-returns-then-not-in_use
+returns c = unfit c.in_use.ensures c.if-not-in_use.true
 
-spot-in-requires : tie.Need-spot-in-requires
-spot-in-requires c κs = let u = used c.before.before.in_use.ensures (not-false _ c.before.if1.false) in (u.rules, u.at)
+spot-in-requires : tie.Need-spot_in-p-requires
+spot-in-requires c κs = let u = used c.in_use.ensures c.if-not-in_use.false in (u.rules, u.at)
 
-returns-2 : tie.Need-returns-2
-returns-2 c = cannot c.before.before.before.before.before.before.before.before.in_use.ensures (not-false _ c.before.before.before.before.before.before.before.if1.false) (below_next c.before.before.before.before.before.before.before.before.before.before.before.before.args.seq (next_is c.before.before.before.before.before.before.before.before.in_use.ensures (not-false _ c.before.before.before.before.before.before.before.if1.false) c.before.before.before.before.before.spot_in.ensures c.before.next-outgoing.ensures) c.if2.true) (omega arith)
+returns-2 : tie.Need-returns-then-seq-next_outgoing
+returns-2 c = cannot c.in_use.ensures c.if-not-in_use.false (below_next c.args.seq (next_is c.in_use.ensures c.if-not-in_use.false c.spot_in-p.ensures c.next_outgoing.ensures) c.if-seq-next_outgoing.true) (omega arith)
 
-returns-3 : tie.Need-returns-3
-returns-3 c = cannot c.before.before.before.before.before.before.before.before.before.in_use.ensures (not-false _ c.before.before.before.before.before.before.before.before.if1.false) (past_top _ c.before.before.before.before.before.before.before.before.before.before.before.before.before.args.seq c.if3.true) (omega arith)
+returns-3 : tie.Need-returns-then-seq-eq18446744073709551615
+returns-3 c = cannot c.in_use.ensures c.if-not-in_use.false (past_top _ c.args.seq c.if-seq-eq18446744073709551615.true) (omega arith)
 
-record-none-requires : tie.Need-record-none-requires
-record-none-requires c κs = omega (arith, c.before.before.before.next-outgoing.ensures, c.before.before.before.before.before.before.before.spot_in.ensures, c.before.before.if2.false, c.before.if3.false)
+record-none-requires : tie.Need-record_none-requires
+record-none-requires c κs = omega (arith, c.next_outgoing.ensures, c.spot_in-p.ensures, c.if-seq-next_outgoing.false, c.if-seq-eq18446744073709551615.false)
 
-returns-4 : tie.Need-returns-4
-returns-4 c = made_words c.before.before.before.before.before.before.before.before.before.before.before.before.before.in_use.ensures (not-false _ c.before.before.before.before.before.before.before.before.before.before.before.before.if1.false) c.before.before.before.before.before.before.before.before.before.before.spot_in.ensures c.before.before.record-none.new.0 (a_number c.before.before.before.before.before.before.before.before.before.before.before.before.before.before.before.before.before.args.seq (next_is c.before.before.before.before.before.before.before.before.before.before.before.before.before.in_use.ensures (not-false _ c.before.before.before.before.before.before.before.before.before.before.before.before.if1.false) c.before.before.before.before.before.before.before.before.before.before.spot_in.ensures c.before.before.before.before.before.before.next-outgoing.ensures) c.before.before.before.before.before.if2.false (omega (arith, c.before.before.before.before.if3.false))) c.before.before.record-none.auto.0 (c.before.before.record-none.ensures c.before.before.before.before.before.before.before.before.before.before.before.before.before.before.before.before.before.args.shape.bytes)
+returns-4 : tie.Need-returns
+returns-4 c = made_words c.in_use.ensures c.if-not-in_use.false c.spot_in-p.ensures c.record_none.new.words (a_number c.args.seq (next_is c.in_use.ensures c.if-not-in_use.false c.spot_in-p.ensures c.next_outgoing.ensures) c.if-seq-next_outgoing.false (omega (arith, c.if-seq-eq18446744073709551615.false))) c.record_none.auto.words (c.record_none.ensures c.args.shape.bytes)
 
 pub store_record_none_spec : {M : Type 1} → statement M
 store_record_none_spec =

@@ -5,14 +5,14 @@ use Rattle.c_store.proofs.Laws.{used, unfit, made_words}
 use Rattle.c_changes.proofs.store_set_in_flight.Statement.{statement}
 use Rattle.c_changes.proofs.store_set_in_flight.Tie as tie
 
-returns : tie.Need-returns
-returns c = unfit c.before.in_use.ensures (not-true _ c.if1.true)
+returns : tie.Need-returns-then-not-in_use
+returns c = unfit c.in_use.ensures c.if-not-in_use.true
 
-spot-in-requires : tie.Need-spot-in-requires
-spot-in-requires c κs = let u = used c.before.before.in_use.ensures (not-false _ c.before.if1.false) in (u.rules, u.at)
+spot-in-requires : tie.Need-spot_in-p-requires
+spot-in-requires c κs = let u = used c.in_use.ensures c.if-not-in_use.false in (u.rules, u.at)
 
-returns-2 : tie.Need-returns-2
-returns-2 c = made_words c.before.before.before.before.before.before.before.in_use.ensures (not-false _ c.before.before.before.before.before.before.if1.false) c.before.before.before.before.spot_in.ensures c.before.before.set-in-flight.new.0 refl c.before.before.set-in-flight.auto.0 (c.before.before.set-in-flight.ensures c.before.before.before.before.before.before.before.before.before.before.before.args.shape.bytes c.before.before.before.before.before.before.before.before.before.before.before.args.shape.messages)
+returns-2 : tie.Need-returns
+returns-2 c = made_words c.in_use.ensures c.if-not-in_use.false c.spot_in-p.ensures c.set_in_flight.new.words refl c.set_in_flight.auto.words (c.set_in_flight.ensures c.args.shape.bytes c.args.shape.messages)
 
 pub store_set_in_flight_spec : {M : Type 1} → statement M
 store_set_in_flight_spec =

@@ -6,20 +6,20 @@ use Rattle.c_store.proofs.Laws.{used, unfit, cannot, made_both, by_test}
 use Rattle.c_changes.proofs.store_set_marks.Statement.{statement}
 use Rattle.c_changes.proofs.store_set_marks.Tie as tie
 
-returns : tie.Need-returns
-returns c = unfit c.before.in_use.ensures (not-true _ c.if1.true)
+returns : tie.Need-returns-then-not-in_use
+returns c = unfit c.in_use.ensures c.if-not-in_use.true
 
-returns-2 : tie.Need-returns-2
-returns-2 c = cannot c.before.before.before.in_use.ensures (not-false _ c.before.before.if1.false) (by_test 7 c.before.is-marks.ensures (not-true _ c.if2.true)) (omega arith)
+returns-2 : tie.Need-returns-then-not-is_marks
+returns-2 c = cannot c.in_use.ensures c.if-not-in_use.false (by_test 7 c.is_marks.ensures c.if-not-is_marks.true) (omega arith)
 
-spot-in-requires : tie.Need-spot-in-requires
-spot-in-requires c κs = let u = used c.before.before.before.before.before.in_use.ensures (not-false _ c.before.before.before.before.if1.false) in (u.rules, u.at)
+spot-in-requires : tie.Need-spot_in-p-requires
+spot-in-requires c κs = let u = used c.in_use.ensures c.if-not-in_use.false in (u.rules, u.at)
 
-set-marks-requires : tie.Need-set-marks-requires
-set-marks-requires c κs = (omega (arith, c.before.before.spot_in.ensures), (omega (arith, c.before.before.spot_in.ensures), sym c.before.before.before.before.before.before.is-marks.ensures ∙ not-false _ c.before.before.before.before.before.if2.false))
+set-marks-requires : tie.Need-set_marks-requires
+set-marks-requires c κs = (omega (arith, c.spot_in-p.ensures), (omega (arith, c.spot_in-p.ensures), sym c.is_marks.ensures ∙ c.if-not-is_marks.false))
 
-returns-3 : tie.Need-returns-3
-returns-3 c = made_both c.before.before.before.before.before.before.before.before.before.before.before.before.before.in_use.ensures (not-false _ c.before.before.before.before.before.before.before.before.before.before.before.before.if1.false) c.before.before.before.before.before.before.before.spot_in.ensures c.before.before.before.before.set-marks.new.0 c.before.before.before.before.set-marks.new.1.0 (by_test 7 c.before.before.before.before.before.before.before.before.before.before.before.is-marks.ensures (not-false _ c.before.before.before.before.before.before.before.before.before.before.if2.false)) c.before.before.before.before.set-marks.auto.0 c.before.before.before.before.set-marks.auto.1.0 (c.before.before.before.before.set-marks.ensures c.before.before.before.before.before.before.before.before.before.before.before.before.before.before.before.before.before.before.before.args.shape.bytes c.before.before.before.before.before.before.before.before.before.before.before.before.before.before.before.before.before.before.before.args.shape.messages)
+returns-3 : tie.Need-returns
+returns-3 c = made_both c.in_use.ensures c.if-not-in_use.false c.spot_in-p.ensures c.set_marks.new.words c.set_marks.new.bytes (by_test 7 c.is_marks.ensures c.if-not-is_marks.false) c.set_marks.auto.words c.set_marks.auto.bytes (c.set_marks.ensures c.args.shape.bytes c.args.shape.messages)
 
 pub store_set_marks_spec : {M : Type 1} → statement M
 store_set_marks_spec =

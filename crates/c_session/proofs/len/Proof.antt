@@ -7,7 +7,7 @@ use Rattle.c_session.proofs.len.Tie as tie
 
 returns : tie.Need-returns
 returns c =
-    let a = c.before.before.args in
+    let a = c.args in
     (ap length c.slice.ensures, part_short a.bytes.now a.span (ap length c.slice.ensures) (search rules))
 
 pub len_spec : {M : Type 1} → statement M

@@ -6,13 +6,13 @@ use native.Mathlib.Omega.{arith}
 use Rattle.c_session.proofs.put.Statement.{statement}
 use Rattle.c_session.proofs.put.Tie as tie
 
-put-summary-requires : tie.Need-put-summary-requires
+put-summary-requires : tie.Need-put_summary-requires
 put-summary-requires c κs =
-    let a = c.before.before.before.before.before.before.before.before.before.before.before.before.before.before.before.before.before.args in
-    omega (arith, c.before.before.before.before.before.before.before.before.before.before.before.before.before.before.before.before.before.requires, c.before.before.before.before.before.before.before.before.before.before.before.before.tag.ensures.1, c.before.before.before.before.before.before.before.tag2.ensures.1, c.before.before.before.before.before.before.before.before.before.before.before.before.tag.auto.0, c.before.before.before.before.before.before.before.tag2.auto.0, c.before.before.before.put-session.auto.1.1.0, c.before.before.before.put-session.ensures.past, key_size_lem (key_of a.bytes.now a.session))
+    let a = c.args in
+    omega (arith, c.requires, c.tag-at.ensures.1, c.tag-at-2.ensures.1, c.tag-at.auto.out, c.tag-at-2.auto.out, c.put_session-at.auto.out, c.put_session-at.ensures.past, key_size_lem (key_of a.bytes.now a.session))
 
 returns : tie.Need-returns
-returns c = flagged c.before.before.before.before.before.before.before.before.before.before.before.before.before.before.before.before.durable-flag.ensures c.before.before.before.before.before.before.before.before.before.before.before.flight-flag.ensures (wrote_on (wrote_on (wrote_on c.before.before.before.before.before.before.before.before.before.before.before.before.before.before.before.tag.ensures.0 c.before.before.before.before.before.before.before.before.before.before.tag2.ensures.0) c.before.before.before.before.before.before.put-session.ensures) c.before.before.put-summary.ensures)
+returns c = flagged c.durable_flag.ensures c.flight_flag.ensures (wrote_on (wrote_on (wrote_on c.tag-at.ensures.0 c.tag-at-2.ensures.0) c.put_session-at.ensures) c.put_summary.ensures)
 
 pub put_spec : {M : Type 1} → statement M
 put_spec =

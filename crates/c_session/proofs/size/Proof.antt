@@ -4,7 +4,7 @@ use Rattle.c_session.proofs.size.Statement.{statement}
 use Rattle.c_session.proofs.size.Tie as tie
 
 returns : tie.Need-returns
-returns c = omega (arith, c.before.before.before.before.before.len.ensures.0, c.before.before.before.before.len2.ensures.0, c.before.before.before.len3.ensures.0, c.before.before.len4.ensures.0, c.before.len5.ensures.0, c.len6.ensures.0)
+returns c = omega (arith, c.len.ensures.0, c.len-2.ensures.0, c.len-3.ensures.0, c.len-4.ensures.0, c.len-5.ensures.0, c.len-6.ensures.0)
 
 pub size_spec : {M : Type 1} → statement M
 size_spec =

@@ -5,14 +5,14 @@ use Rattle.c_store.proofs.Laws.{used, reads_none, reads, counted}
 use Rattle.c_store.proofs.store_count.Statement.{statement}
 use Rattle.c_store.proofs.store_count.Tie as tie
 
-returns : tie.Need-returns
-returns c = reads_none c.before.in_use.ensures (not-true _ c.if1.true)
+returns : tie.Need-returns-then-not-in_use
+returns c = reads_none c.in_use.ensures c.if-not-in_use.true
 
-messages-from-requires : tie.Need-messages-from-requires
-messages-from-requires c κs = let u = used c.before.in_use.ensures (not-false _ c.if1.false) in (u.rules, (u.at, omega arith))
+messages-from-requires : tie.Need-messages_from-c-requires
+messages-from-requires c κs = let u = used c.in_use.ensures c.if-not-in_use.false in (u.rules, (u.at, omega arith))
 
-returns-2 : tie.Need-returns-2
-returns-2 c = reads c.before.before.in_use.ensures (not-false _ c.before.if1.false) (counted _ _ _ _ _ _ c.messages-from.ensures)
+returns-2 : tie.Need-returns
+returns-2 c = reads c.in_use.ensures c.if-not-in_use.false (counted _ _ _ _ _ _ c.messages_from-c.ensures)
 
 pub store_count_spec : {M : Type 1} → statement M
 store_count_spec =

@@ -4,11 +4,11 @@ use Rattle.c_store.proofs.Laws.{made_by}
 use Rattle.c_store.proofs.store_make.Statement.{statement}
 use Rattle.c_store.proofs.store_make.Tie as tie
 
-returns : tie.Need-returns
-returns c = made_by Ready c.before.before.before.before.make.ensures c.enum_told.given.1
+returns : tie.Need-returns-in-Ready
+returns c = made_by Ready c.make.ensures c.in-Ready.is
 
-returns-2 : tie.Need-returns-2
-returns-2 c = made_by InvalidAreas c.before.before.before.before.make.ensures c.enum-told2.given.1
+returns-2 : tie.Need-returns-in-InvalidAreas
+returns-2 c = made_by InvalidAreas c.make.ensures c.in-InvalidAreas.is
 
 pub store_make_spec : {M : Type 1} → statement M
 store_make_spec =

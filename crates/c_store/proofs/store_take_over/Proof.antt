@@ -5,14 +5,14 @@ use Rattle.c_store.proofs.Laws.{used, unfit, made}
 use Rattle.c_store.proofs.store_take_over.Statement.{statement}
 use Rattle.c_store.proofs.store_take_over.Tie as tie
 
-returns : tie.Need-returns
-returns c = unfit c.before.in_use.ensures (not-true _ c.if1.true)
+returns : tie.Need-returns-then-not-in_use
+returns c = unfit c.in_use.ensures c.if-not-in_use.true
 
-take-over-requires : tie.Need-take-over-requires
-take-over-requires c κs = let u = used c.before.before.before.in_use.ensures (not-false _ c.before.before.if1.false) in (u.rules, u.at)
+take-over-requires : tie.Need-take_over-requires
+take-over-requires c κs = let u = used c.in_use.ensures c.if-not-in_use.false in (u.rules, u.at)
 
-returns-2 : tie.Need-returns-2
-returns-2 c = made c.before.before.before.before.before.before.before.before.in_use.ensures (not-false _ c.before.before.before.before.before.before.before.if1.false) refl c.before.before.before.before.take-over.ensures
+returns-2 : tie.Need-returns
+returns-2 c = made c.in_use.ensures c.if-not-in_use.false refl c.take_over.ensures
 
 pub store_take_over_spec : {M : Type 1} → statement M
 store_take_over_spec =
