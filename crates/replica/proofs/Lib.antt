@@ -1,4 +1,2 @@
-pub mod Handing
 pub mod Laws
 pub mod Making
-pub mod Records

@@ -16,8 +16,8 @@ allowed-requires : tie.Need-allowed-requires
 allowed-requires c κs = search rules
 
 -- src/lib.rt:284:9
-slice_write_words : tie.Need-slice-write-words
-slice_write_words c = one_inside c.before.before.before.before.before.args.settings c.before.before.before.before.before.args.words.now c.before.before.before.before.before.args.bytes.now c.before.allowed.ensures c.if1.true
+slice_write_words : tie.Need-bounds-words-1
+slice_write_words c = one_inside c.args.settings c.args.words.now c.args.bytes.now c.allowed.ensures c.if-allowed.true
 
 -- src/lib.rt:285:32
 new-requires : tie.Need-new-requires
@@ -32,12 +32,12 @@ cleared-requires : tie.Need-cleared-requires
 cleared-requires c κs = search rules
 
 -- src/lib.rt:285:9
-same_length : tie.Need-same-length
+same_length : tie.Need-shape_of-words-then-allowed
 same_length c = search rules
 
 -- src/lib.rt:285:9
-returns : tie.Need-returns
-returns c = made_new c.before.before.before.before.before.before.before.before.args.settings c.before.before.before.before.before.before.before.before.args.counters c.before.before.before.before.before.before.before.before.args.lookup c.before.before.before.before.before.before.before.before.args.words.now c.before.before.before.before.before.before.before.before.args.bytes.now c.before.before.before.before.allowed.ensures c.before.before.before.if1.true c.before.before.new.ensures c.cleared.ensures c.before.done.ensures
+returns : tie.Need-returns-then-allowed
+returns c = made_new c.args.settings c.args.counters c.args.lookup c.args.words.now c.args.bytes.now c.allowed.ensures c.if-allowed.true c.new.ensures c.cleared.ensures c.done.ensures
 
 -- src/lib.rt:287:30
 refused-requires : tie.Need-refused-requires
@@ -48,12 +48,12 @@ unchanged-requires : tie.Need-unchanged-requires
 unchanged-requires c κs = search rules
 
 -- src/lib.rt:274:1
-same_length_2 : tie.Need-same-length-2
+same_length_2 : tie.Need-shape_of-words
 same_length_2 c = search rules
 
 -- src/lib.rt:274:1
-returns-2 : tie.Need-returns-2
-returns-2 c = not_allowed c.before.before.before.before.before.before.before.args.settings c.before.before.before.before.before.before.before.args.counters c.before.before.before.before.before.before.before.args.lookup c.before.before.before.before.before.before.before.args.words.now c.before.before.before.before.before.before.before.args.bytes.now c.before.before.before.allowed.ensures c.before.before.if1.false c.unchanged.ensures c.before.refused.ensures
+returns-2 : tie.Need-returns
+returns-2 c = not_allowed c.args.settings c.args.counters c.args.lookup c.args.words.now c.args.bytes.now c.allowed.ensures c.if-allowed.false c.unchanged.ensures c.refused.ensures
 
 pub made_spec : {M : Type 1} → statement M
 made_spec =

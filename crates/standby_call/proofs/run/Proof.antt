@@ -12,124 +12,124 @@ use Rattle.standby_lifecycle.proofs.promote.Reads as promote-reads
 use Rattle.standby_lifecycle.proofs.promote_unchecked.Reads as promote-unchecked-reads
 
 -- src/lib.rt:70:9
-on-frame-held-requires : tie.Need-on-frame-held-requires
+on-frame-held-requires : tie.Need-on_frame_held-requires
 on-frame-held-requires c κs = search rules
 
 -- src/lib.rt:70:9
-same_length : tie.Need-same-length
+same_length : tie.Need-shape_of-words-then-call-eq-ON_FRAME_HELD
 same_length c = search rules
 
 -- src/lib.rt:70:9
-same_length_2 : tie.Need-same-length-2
+same_length_2 : tie.Need-shape_of-bytes-then-call-eq-ON_FRAME_HELD
 same_length_2 c = search rules
 
 -- src/lib.rt:70:9
-same_length_3 : tie.Need-same-length-3
+same_length_3 : tie.Need-shape_of-holds-then-call-eq-ON_FRAME_HELD
 same_length_3 c = search rules
 
 -- src/lib.rt:70:9
-returns : tie.Need-returns
-returns c = steps_by (is_held c.before.before.before.before.before.before.before.before.before.before.before.before.before.before.before.before.args.call c.before.before.before.before.before.before.before.before.before.before.before.before.before.before.before.before.args.frame.now c.before.before.before.before.before.before.before.before.before.before.if1.true) c.before.before.before.before.before.before.on-frame-held.ensures
+returns : tie.Need-returns-then-call-eq-ON_FRAME_HELD
+returns c = steps_by (is_held c.args.call c.args.frame.now c.if-call-eq-ON_FRAME_HELD.true) c.on_frame_held.ensures
 
 -- src/lib.rt:73:9
-on-frame-requires : tie.Need-on-frame-requires
+on-frame-requires : tie.Need-on_frame-requires
 on-frame-requires c κs = search rules
 
 -- src/lib.rt:73:9
-same_length_4 : tie.Need-same-length-4
+same_length_4 : tie.Need-shape_of-words-then-call-eq-ON_FRAME
 same_length_4 c = search rules
 
 -- src/lib.rt:73:9
-same_length_5 : tie.Need-same-length-5
+same_length_5 : tie.Need-shape_of-bytes-then-call-eq-ON_FRAME
 same_length_5 c = search rules
 
 -- src/lib.rt:73:9
-same_length_6 : tie.Need-same-length-6
+same_length_6 : tie.Need-shape_of-holds-then-call-eq-ON_FRAME
 same_length_6 c = search rules
 
 -- src/lib.rt:73:9
-returns-2 : tie.Need-returns-2
-returns-2 c = steps_by (is_frame_lem c.before.before.before.before.before.before.before.before.before.before.before.before.before.before.before.before.before.before.args.call c.before.before.before.before.before.before.before.before.before.before.before.before.before.before.before.before.before.before.args.frame.now c.before.before.before.before.before.before.before.before.before.before.if2.true) c.before.before.before.before.before.before.on-frame.ensures
+returns-2 : tie.Need-returns-then-call-eq-ON_FRAME
+returns-2 c = steps_by (is_frame_lem c.args.call c.args.frame.now c.if-call-eq-ON_FRAME.true) c.on_frame.ensures
 
 -- src/lib.rt:76:9
 flush-requires : tie.Need-flush-requires
 flush-requires c κs = search rules
 
 -- src/lib.rt:76:9
-same_length_7 : tie.Need-same-length-7
+same_length_7 : tie.Need-shape_of-words-then-call-eq-FLUSH
 same_length_7 c = search rules
 
 -- src/lib.rt:76:9
-same_length_8 : tie.Need-same-length-8
+same_length_8 : tie.Need-shape_of-bytes-then-call-eq-FLUSH
 same_length_8 c = search rules
 
 -- src/lib.rt:76:9
-same_length_9 : tie.Need-same-length-9
+same_length_9 : tie.Need-shape_of-holds-then-call-eq-FLUSH
 same_length_9 c = search rules
 
 -- src/lib.rt:76:9
-returns-3 : tie.Need-returns-3
-returns-3 c = steps_by (is_flush c.before.before.before.before.before.before.before.before.before.before.before.before.before.before.before.before.before.before.before.before.args.call c.before.before.before.before.before.before.before.before.before.before.before.before.before.before.before.before.before.before.before.before.args.frame.now c.before.before.before.before.before.before.before.before.before.before.if3.true) c.before.before.before.before.before.before.flush.ensures
+returns-3 : tie.Need-returns-then-call-eq-FLUSH
+returns-3 c = steps_by (is_flush c.args.call c.args.frame.now c.if-call-eq-FLUSH.true) c.flush.ensures
 
 -- src/lib.rt:81:9
-disconnected-from-requires : tie.Need-disconnected-from-requires
+disconnected-from-requires : tie.Need-disconnected_from-requires
 disconnected-from-requires c κs = search rules
 
 -- src/lib.rt:81:9
-same_length_10 : tie.Need-same-length-10
+same_length_10 : tie.Need-shape_of-words-then-call-eq-DISCONNECTED_FROM
 same_length_10 c = search rules
 
 -- src/lib.rt:81:9
-same_length_11 : tie.Need-same-length-11
+same_length_11 : tie.Need-shape_of-bytes-then-call-eq-DISCONNECTED_FROM
 same_length_11 c = search rules
 
 -- src/lib.rt:81:9
-same_length_12 : tie.Need-same-length-12
+same_length_12 : tie.Need-shape_of-holds-then-call-eq-DISCONNECTED_FROM
 same_length_12 c = search rules
 
 -- src/lib.rt:81:9
-returns-4 : tie.Need-returns-4
-returns-4 c = steps_by (is_drop c.before.before.before.before.before.before.before.before.before.before.before.before.before.before.before.before.before.before.before.before.before.before.args.call c.before.before.before.before.before.before.before.before.before.before.before.before.before.before.before.before.before.before.before.before.before.before.args.frame.now c.before.before.before.before.before.before.before.before.before.before.if4.true) c.before.before.before.before.before.before.disconnected-from.ensures
+returns-4 : tie.Need-returns-then-call-eq-DISCONNECTED_FROM
+returns-4 c = steps_by (is_drop c.args.call c.args.frame.now c.if-call-eq-DISCONNECTED_FROM.true) c.disconnected_from.ensures
 
 -- src/lib.rt:86:9
 promote-requires : tie.Need-promote-requires
 promote-requires c κs = search rules
 
 -- src/lib.rt:86:9
-same_length_13 : tie.Need-same-length-13
+same_length_13 : tie.Need-shape_of-words-then-call-eq-PROMOTE
 same_length_13 c = search rules
 
 -- src/lib.rt:86:9
-same_length_14 : tie.Need-same-length-14
+same_length_14 : tie.Need-shape_of-bytes-then-call-eq-PROMOTE
 same_length_14 c = search rules
 
 -- src/lib.rt:86:9
-same_length_15 : tie.Need-same-length-15
+same_length_15 : tie.Need-shape_of-holds-then-call-eq-PROMOTE
 same_length_15 c = search rules
 
 -- src/lib.rt:86:9
-returns-5 : tie.Need-returns-5
-returns-5 c = steps_by (is_promote c.before.before.before.before.before.before.before.before.before.before.before.before.before.before.before.before.before.before.before.before.before.before.before.before.args.call c.before.before.before.before.before.before.before.before.before.before.before.before.before.before.before.before.before.before.before.before.before.before.before.before.args.frame.now c.before.before.before.before.before.before.before.before.before.before.if5.true) c.before.before.before.before.before.before.promote.ensures
+returns-5 : tie.Need-returns-then-call-eq-PROMOTE
+returns-5 c = steps_by (is_promote c.args.call c.args.frame.now c.if-call-eq-PROMOTE.true) c.promote.ensures
 
 -- src/lib.rt:88:5
-promote-unchecked-requires : tie.Need-promote-unchecked-requires
+promote-unchecked-requires : tie.Need-promote_unchecked-requires
 promote-unchecked-requires c κs = search rules
 
 -- src/lib.rt:56:1
-same_length_16 : tie.Need-same-length-16
+same_length_16 : tie.Need-shape_of-words
 same_length_16 c = search rules
 
 -- src/lib.rt:56:1
-same_length_17 : tie.Need-same-length-17
+same_length_17 : tie.Need-shape_of-bytes
 same_length_17 c = search rules
 
 -- src/lib.rt:56:1
-same_length_18 : tie.Need-same-length-18
+same_length_18 : tie.Need-shape_of-holds
 same_length_18 c = search rules
 
 -- src/lib.rt:56:1
-returns-6 : tie.Need-returns-6
-returns-6 c = steps_by (is_unchecked c.before.before.before.before.before.before.before.before.before.before.before.before.before.before.before.before.before.before.before.before.before.before.before.before.args.call c.before.before.before.before.before.before.before.before.before.before.before.before.before.before.before.before.before.before.before.before.before.before.before.before.args.frame.now c.before.before.before.before.before.before.before.before.before.before.before.before.before.before.before.before.before.before.if1.false c.before.before.before.before.before.before.before.before.before.before.before.before.before.before.before.before.if2.false c.before.before.before.before.before.before.before.before.before.before.before.before.before.before.if3.false c.before.before.before.before.before.before.before.before.before.before.before.before.if4.false c.before.before.before.before.before.before.before.before.before.before.if5.false) c.before.before.before.before.before.before.promote-unchecked.ensures
+returns-6 : tie.Need-returns
+returns-6 c = steps_by (is_unchecked c.args.call c.args.frame.now c.if-call-eq-ON_FRAME_HELD.false c.if-call-eq-ON_FRAME.false c.if-call-eq-FLUSH.false c.if-call-eq-DISCONNECTED_FROM.false c.if-call-eq-PROMOTE.false) c.promote_unchecked.ensures
 
 pub run_spec : {M : Type 1} → statement M
 run_spec =

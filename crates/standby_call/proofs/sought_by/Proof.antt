@@ -7,24 +7,24 @@ use Rattle.standby_call.proofs.sought_by.Lts as lts
 use Rattle.standby_call.proofs.handle_at.Reads as handle-at-reads
 
 -- src/lib.rt:47:9
-handle-at-requires : tie.Need-handle-at-requires
+handle-at-requires : tie.Need-handle_at-requires
 handle-at-requires c κs = search rules
 
 -- src/lib.rt:47:9
-returns : tie.Need-returns
-returns c = sought_held c.before.before.before.before.args.call c.before.before.before.before.args.frame.now c.before.if1.true c.handle-at.ensures
+returns : tie.Need-returns-then-call-eq-ON_FRAME_HELD
+returns c = sought_held c.args.call c.args.frame.now c.if-call-eq-ON_FRAME_HELD.true c.handle_at.ensures
 
 -- src/lib.rt:50:9
-handle-at-requires-2 : tie.Need-handle-at-requires-2
+handle-at-requires-2 : tie.Need-handle_at-requires-then-call-eq-ON_FRAME
 handle-at-requires-2 c κs = search rules
 
 -- src/lib.rt:50:9
-returns-2 : tie.Need-returns-2
-returns-2 c = sought_frame c.before.before.before.before.before.before.args.call c.before.before.before.before.before.before.args.frame.now c.before.if2.true c.handle-at2.ensures
+returns-2 : tie.Need-returns-then-call-eq-ON_FRAME
+returns-2 c = sought_frame c.args.call c.args.frame.now c.if-call-eq-ON_FRAME.true c.handle_at-then-call-eq-ON_FRAME.ensures
 
 -- src/lib.rt:43:1
-returns-3 : tie.Need-returns-3
-returns-3 c = sought_none c.before.before.before.before.before.args.call c.before.before.before.before.before.args.frame.now c.before.before.if1.false c.if2.false
+returns-3 : tie.Need-returns
+returns-3 c = sought_none c.args.call c.args.frame.now c.if-call-eq-ON_FRAME_HELD.false c.if-call-eq-ON_FRAME.false
 
 pub sought_by_spec : {M : Type 1} → statement M
 sought_by_spec =

@@ -10,44 +10,44 @@ use Rattle.standby_batch_due.proofs.run_due_then_batch.Reads as run-due-then-bat
 use Rattle.standby_control.proofs.run_due_then_answer.Reads as run-due-then-answer-reads
 
 -- src/lib.rt:61:22
-enum_known_decoded : tie.Need-enum-known-decoded
+enum_known_decoded : tie.Need-enum_known-decoded
 enum_known_decoded c = search rules
 
 -- src/lib.rt:61:28
-run-due-then-batch-requires : tie.Need-run-due-then-batch-requires
-run-due-then-batch-requires c κs = let s = c.before.before.before.before.before.before.before.before.before.before in (s.requires.0, (s.requires.1.0, rw c.before.before.before.before.decoded.given.1 at s.requires.1.1.1))
+run-due-then-batch-requires : tie.Need-run_due_then_batch-requires
+run-due-then-batch-requires c κs = let s = c in (s.requires.0, (s.requires.1.0, rw c.in-Batch.is at s.requires.1.1.1))
 
 -- src/lib.rt:62:14
-run-due-then-answer-requires : tie.Need-run-due-then-answer-requires
-run-due-then-answer-requires c κs = (c.before.before.before.before.before.before.before.requires.0, fit_of c.before.before.before.before.before.before.before.args.frame.now c.before.before.before.before.before.before.before.args.decoded c.before.before.match.keys2 c.before.before.before.before.before.before.before.requires.1.1.0)
+run-due-then-answer-requires : tie.Need-run_due_then_answer-requires
+run-due-then-answer-requires c κs = (c.requires.0, fit_of c.args.frame.now c.args.decoded c.in_default.in_default-own.keys2 c.requires.1.1.0)
 
 -- src/lib.rt:45:1
-same_length : tie.Need-same-length
+same_length : tie.Need-shape_of-words-in-Batch
 same_length c = search rules
 
 -- src/lib.rt:45:1
-same_length_2 : tie.Need-same-length-2
+same_length_2 : tie.Need-shape_of-bytes-in-Batch
 same_length_2 c = search rules
 
 -- src/lib.rt:45:1
-same_length_3 : tie.Need-same-length-3
+same_length_3 : tie.Need-shape_of-holds
 same_length_3 c = search rules
 
 -- src/lib.rt:45:1
-returns : tie.Need-returns
-returns c = rw c.before.before.before.before.before.before.before.before.before.before.before.decoded.given.1 (batch_intact c.before.before.before.before.before.before.before.before.before.before.before.before.before.before.before.before.before.args.settings c.before.before.before.before.before.before.before.before.before.before.before.before.before.before.before.before.before.args.counters c.before.before.before.before.before.before.before.before.before.before.before.before.before.before.before.before.before.args.lookup _ _ _ _ _ _ _ _ _ _ _ _ _ c.before.before.before.before.before.before.run-due-then-batch.ensures)
+returns : tie.Need-returns-in-Batch
+returns c = rw c.in-Batch.is (batch_intact c.args.settings c.args.counters c.args.lookup _ _ _ _ _ _ _ _ _ _ _ _ _ c.run_due_then_batch.ensures)
 
 -- src/lib.rt:45:1
-same_length_4 : tie.Need-same-length-4
+same_length_4 : tie.Need-shape_of-words-in_default
 same_length_4 c = search rules
 
 -- src/lib.rt:45:1
-same_length_5 : tie.Need-same-length-5
+same_length_5 : tie.Need-shape_of-bytes-in_default
 same_length_5 c = search rules
 
 -- src/lib.rt:45:1
-returns-2 : tie.Need-returns-2
-returns-2 c = other_intact c.before.before.before.before.before.before.before.before.before.before.before.before.args.settings c.before.before.before.before.before.before.before.before.before.before.before.before.args.counters c.before.before.before.before.before.before.before.before.before.before.before.before.args.lookup (frame_of 1 c.before.before.before.before.before.before.before.before.before.before.before.before.args.frame.now c.before.before.before.before.before.before.before.before.before.before.before.before.args.decoded) (fit_of c.before.before.before.before.before.before.before.before.before.before.before.before.args.frame.now c.before.before.before.before.before.before.before.before.before.before.before.before.args.decoded c.before.before.before.before.before.before.before.match.keys2 c.before.before.before.before.before.before.before.before.before.before.before.before.requires.1.1.0) _ _ _ _ _ _ c.before.before.before.before.run-due-then-answer.ensures
+returns-2 : tie.Need-returns-in_default
+returns-2 c = other_intact c.args.settings c.args.counters c.args.lookup (frame_of 1 c.args.frame.now c.args.decoded) (fit_of c.args.frame.now c.args.decoded c.in_default.in_default-own.keys2 c.requires.1.1.0) _ _ _ _ _ _ c.run_due_then_answer.ensures
 
 pub on_decoded_spec : {M : Type 1} → statement M
 on_decoded_spec =

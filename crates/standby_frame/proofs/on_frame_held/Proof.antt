@@ -13,7 +13,7 @@ use Rattle.standby_rules.proofs.keeps_rules.Reads as keeps-rules-reads
 use Rattle.standby_frame.proofs.on_bytes.Reads as on-bytes-reads
 
 -- src/lib.rt:108:9
-keeps-rules-requires : tie.Need-keeps-rules-requires
+keeps-rules-requires : tie.Need-keeps_rules-requires
 keeps-rules-requires c κs = search rules
 
 -- src/lib.rt:109:41
@@ -25,40 +25,40 @@ unchanged-requires : tie.Need-unchanged-requires
 unchanged-requires c κs = search rules
 
 -- src/lib.rt:109:9
-same_length : tie.Need-same-length
+same_length : tie.Need-shape_of-words-then-not-keeps_rules
 same_length c = search rules
 
 -- src/lib.rt:109:9
-same_length_2 : tie.Need-same-length-2
+same_length_2 : tie.Need-shape_of-bytes-then-not-keeps_rules
 same_length_2 c = search rules
 
 -- src/lib.rt:109:9
-same_length_3 : tie.Need-same-length-3
+same_length_3 : tie.Need-shape_of-holds-then-not-keeps_rules
 same_length_3 c = search rules
 
 -- src/lib.rt:109:9
-returns : tie.Need-returns
-returns c = refuses_25 c.before.before.before.before.before.before.before.before.before.before.before.before.args.settings c.before.before.before.before.before.before.before.before.before.before.before.before.args.counters c.before.before.before.before.before.before.before.before.before.before.before.before.args.lookup c.before.before.before.before.before.before.before.before.before.before.before.before.args.words.now c.before.before.before.before.before.before.before.before.before.before.before.before.args.bytes.now c.before.before.before.before.before.before.before.before.before.before.before.before.args.holds.now (on_frame_held c.before.before.before.before.before.before.before.before.before.before.before.before.args.frame.now) c.before.before.before.keeps-rules.ensures (not-true _ c.before.before.if1.true) c.unchanged.ensures c.before.refused.ensures
+returns : tie.Need-returns-then-not-keeps_rules
+returns c = refuses_25 c.args.settings c.args.counters c.args.lookup c.args.words.now c.args.bytes.now c.args.holds.now (on_frame_held c.args.frame.now) c.keeps_rules.ensures c.if-not-keeps_rules.true c.unchanged.ensures c.refused.ensures
 
 -- src/lib.rt:111:5
-on-bytes-requires : tie.Need-on-bytes-requires
-on-bytes-requires c κs = (rules_seen c.before.before.before.before.before.before.before.before.before.before.before.before.before.args.settings c.before.before.before.before.before.before.before.before.before.before.before.before.before.args.counters c.before.before.before.before.before.before.before.before.before.before.before.before.before.args.lookup c.before.before.before.before.before.before.before.before.before.before.before.before.before.args.words.now c.before.before.before.before.before.before.before.before.before.before.before.before.before.args.bytes.now c.before.before.before.before.before.before.before.before.before.before.before.before.before.args.holds.now (sym c.before.before.before.before.keeps-rules.ensures ∙ not-false _ c.before.before.before.if1.false), holds_seen c.before.before.before.before.before.before.before.before.before.before.before.before.before.args.settings c.before.before.before.before.before.before.before.before.before.before.before.before.before.args.counters c.before.before.before.before.before.before.before.before.before.before.before.before.before.args.lookup c.before.before.before.before.before.before.before.before.before.before.before.before.before.args.words.now c.before.before.before.before.before.before.before.before.before.before.before.before.before.args.bytes.now c.before.before.before.before.before.before.before.before.before.before.before.before.before.args.holds.now (sym c.before.before.before.before.keeps-rules.ensures ∙ not-false _ c.before.before.before.if1.false))
+on-bytes-requires : tie.Need-on_bytes-requires
+on-bytes-requires c κs = (rules_seen c.args.settings c.args.counters c.args.lookup c.args.words.now c.args.bytes.now c.args.holds.now (sym c.keeps_rules.ensures ∙ c.if-not-keeps_rules.false), holds_seen c.args.settings c.args.counters c.args.lookup c.args.words.now c.args.bytes.now c.args.holds.now (sym c.keeps_rules.ensures ∙ c.if-not-keeps_rules.false))
 
 -- src/lib.rt:96:1
-same_length_4 : tie.Need-same-length-4
+same_length_4 : tie.Need-shape_of-words
 same_length_4 c = search rules
 
 -- src/lib.rt:96:1
-same_length_5 : tie.Need-same-length-5
+same_length_5 : tie.Need-shape_of-bytes
 same_length_5 c = search rules
 
 -- src/lib.rt:96:1
-same_length_6 : tie.Need-same-length-6
+same_length_6 : tie.Need-shape_of-holds
 same_length_6 c = search rules
 
 -- src/lib.rt:96:1
-returns-2 : tie.Need-returns-2
-returns-2 c = held_steps c.before.before.before.before.before.before.before.before.before.before.before.before.before.before.before.before.before.before.before.before.args.settings c.before.before.before.before.before.before.before.before.before.before.before.before.before.before.before.before.before.before.before.before.args.counters c.before.before.before.before.before.before.before.before.before.before.before.before.before.before.before.before.before.before.before.before.args.lookup c.before.before.before.before.before.before.before.before.before.before.before.before.before.before.before.before.before.before.before.before.args.words.now c.before.before.before.before.before.before.before.before.before.before.before.before.before.before.before.before.before.before.before.before.args.bytes.now c.before.before.before.before.before.before.before.before.before.before.before.before.before.before.before.before.before.before.before.before.args.holds.now c.before.before.before.before.before.before.before.before.before.before.before.before.before.before.before.before.before.before.before.before.args.frame.now c.before.before.before.before.before.before.before.before.before.before.before.keeps-rules.ensures (not-false _ c.before.before.before.before.before.before.before.before.before.before.if1.false) c.before.before.before.before.before.before.on-bytes.ensures
+returns-2 : tie.Need-returns
+returns-2 c = held_steps c.args.settings c.args.counters c.args.lookup c.args.words.now c.args.bytes.now c.args.holds.now c.args.frame.now c.keeps_rules.ensures c.if-not-keeps_rules.false c.on_bytes.ensures
 
 pub on_frame_held_spec : {M : Type 1} → statement M
 on_frame_held_spec =

@@ -69,7 +69,7 @@ same_length_6 c = search rules
 
 -- src/lib.rt:89:9
 returns-2 : tie.Need-returns-then-own
-returns-2 c = own_lost c.args.settings c.args.counters c.args.lookup c.args.words.now c.args.bytes.now c.args.holds.now (sym c.keeps_rules.ensures ∙ c.if-not-keeps_rules.false) c.args.connection c.if-own.true c.clear_pending_if.ensures c.done.ensures c.cleared.ensures
+returns-2 c = own_lost c.args.settings c.args.counters c.args.lookup c.args.words.now c.args.bytes.now c.args.holds.now (sym c.keeps_rules.ensures ∙ c.if-not-keeps_rules.false) c.args.connection c.if-own.true-raw c.clear_pending_if.ensures c.done.ensures c.cleared.ensures
 
 -- src/lib.rt:91:30
 done-requires-2 : tie.Need-done-requires-2
@@ -93,7 +93,7 @@ same_length_9 c = search rules
 
 -- src/lib.rt:72:1
 returns-3 : tie.Need-returns
-returns-3 c = other_lost c.args.settings c.args.counters c.args.lookup c.args.words.now c.args.bytes.now c.args.holds.now (sym c.keeps_rules.ensures ∙ c.if-not-keeps_rules.false) c.args.connection c.if-own.false c.clear_pending_if.ensures c.done-2.ensures c.unchanged-2.ensures
+returns-3 c = other_lost c.args.settings c.args.counters c.args.lookup c.args.words.now c.args.bytes.now c.args.holds.now (sym c.keeps_rules.ensures ∙ c.if-not-keeps_rules.false) c.args.connection c.if-own.false-raw c.clear_pending_if.ensures c.done-2.ensures c.unchanged-2.ensures
 
 pub disconnected_from_spec : {M : Type 1} → statement M
 disconnected_from_spec =

@@ -8,28 +8,28 @@ use Rattle.standby_reply.proofs.reason.Reads as reason-reads
 use Rattle.standby_reply.proofs.summary.Reads as summary-reads
 
 -- src/lib.rt:89:9
-returns : tie.Need-returns
-returns c = by_welcome c.before.before.before.before.args.answer c.before.before.if1.true
+returns : tie.Need-returns-then-answer-eq-WELCOME
+returns c = by_welcome c.args.answer c.if-answer-eq-WELCOME.true
 
 -- src/lib.rt:93:9
-returns-2 : tie.Need-returns-2
-returns-2 c = by_ack c.before.before.before.before.before.args.answer c.before.before.before.if1.false c.before.if2.true
+returns-2 : tie.Need-returns-then-answer-eq-ACK
+returns-2 c = by_ack c.args.answer c.if-answer-eq-WELCOME.false c.if-answer-eq-ACK.true
 
 -- src/lib.rt:98:21
 reason-requires : tie.Need-reason-requires
 reason-requires c κs = search rules
 
 -- src/lib.rt:96:9
-returns-3 : tie.Need-returns-3
-returns-3 c = by_nack c.before.before.before.before.before.before.before.args.answer c.before.before.before.before.before.if1.false c.before.before.before.if2.false c.before.if3.true c.reason.result c.reason.ensures
+returns-3 : tie.Need-returns-then-answer-eq-NACK
+returns-3 c = by_nack c.args.answer c.if-answer-eq-WELCOME.false c.if-answer-eq-ACK.false c.if-answer-eq-NACK.true c.reason.result c.reason.ensures
 
 -- src/lib.rt:104:18
 summary-requires : tie.Need-summary-requires
 summary-requires c κs = search rules
 
 -- src/lib.rt:82:1
-returns-4 : tie.Need-returns-4
-returns-4 c = by_bound c.before.before.before.before.before.before.before.before.args.answer c.before.before.before.before.before.before.if1.false c.before.before.before.before.if2.false c.before.before.if3.false c.summary.result c.summary.ensures
+returns-4 : tie.Need-returns
+returns-4 c = by_bound c.args.answer c.if-answer-eq-WELCOME.false c.if-answer-eq-ACK.false c.if-answer-eq-NACK.false c.summary.result c.summary.ensures
 
 pub frame_spec : {M : Type 1} → statement M
 frame_spec =

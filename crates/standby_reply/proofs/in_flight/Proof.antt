@@ -9,12 +9,12 @@ use Rattle.standby_reply.proofs.in_flight.Reads as reads
 use Rattle.standby_reply.proofs.in_flight.Lts as lts
 
 -- src/lib.rt:43:9
-returns : tie.Need-returns
-returns c = sym (ap (λ (x : Bool). cond x (some c.before.args.n) none) (set_so c.before.args.has c.if1.true))
+returns : tie.Need-returns-then-has-ne0
+returns c = sym (ap (λ (x : Bool). cond x (some c.args.n) none) (set_so c.args.has c.if-has-ne0.true))
 
 -- src/lib.rt:39:1
-returns-2 : tie.Need-returns-2
-returns-2 c = sym (ap (λ (x : Bool). cond x (some c.before.args.n) none) (clear_so c.before.args.has c.if1.false))
+returns-2 : tie.Need-returns
+returns-2 c = sym (ap (λ (x : Bool). cond x (some c.args.n) none) (clear_so c.args.has c.if-has-ne0.false))
 
 pub in_flight_spec : {M : Type 1} → statement M
 in_flight_spec = tie.close (tie.spec returns returns-2)
