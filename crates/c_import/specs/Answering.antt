@@ -3,7 +3,6 @@ use Rattle.std.specs.Prelude.{◌≡◌, List, ℕ}
 use Rattle.model_frame.specs.Frame.{Key}
 use Rattle.store_areas.specs.declared.Shape.{Shape}
 use Rattle.store_import.specs.declared.Imported.{Imported}
-use Rattle.store_import.specs.declared.Imported.TheVariants as Imported
 use Rattle.store_import.specs.Importing.{ImportAt}
 use Rattle.c_import.specs.declared.Built.{Built}
 

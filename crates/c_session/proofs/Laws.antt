@@ -30,7 +30,6 @@ use Rattle.store_place.specs.Place.{field, place_in}
 use Rattle.store_areas.specs.declared.Shape.{Shape}
 use Rattle.store_areas.specs.Areas.{in_use, Rules, SpotIn, place_at}
 use Rattle.store_areas.proofs.Reading.{lent, part_of}
-use Rattle.c_session.specs.declared.SessionWritten
 use Rattle.c_session.specs.declared.SessionWritten.{SessionWritten}
 use Rattle.c_session.specs.Telling.{span_up_to, flag, told_bytes, told_at, session_outcome, TellsSession}
 

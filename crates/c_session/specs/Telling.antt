@@ -10,7 +10,6 @@ use Rattle.frame_reader.specs.declared.Span.{Span}
 use Rattle.store_areas.specs.declared.Shape.{Shape}
 use Rattle.store_areas.specs.Areas.{in_use, place_at}
 use Rattle.c_session.specs.declared.SessionWritten.{SessionWritten}
-use Rattle.c_session.specs.declared.SessionWritten
 
 -- n bytes at a position, or the first `most` of them
 abbrev pub span_up_to : ℕ → ℕ → ℕ → Span

@@ -1,5 +1,5 @@
 -- What the store's functions for C and Rust answer, by document 01's numbers, and what they leave. Assumes nothing.
-use Rattle.std.specs.Prelude.{◌≡◌, ℕ, Bool, true, false, cond, not, ◌&&◌, List, length, get_or, set, eqb, leb, ltb}
+use Rattle.std.specs.Prelude.{◌≡◌, ℕ, Bool, true, false, cond, not, ◌&&◌, List, get_or, set, eqb, leb, ltb}
 use Rattle.model_text.specs.Printable.{is_key, is_marks}
 use Rattle.model_text.specs.Stamp.{is_stamp}
 use Rattle.model_frame.specs.Refusal

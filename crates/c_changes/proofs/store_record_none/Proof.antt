@@ -1,5 +1,4 @@
 use borrow.Author.Rules.{rules}
-use borrow.Author.Tests.{not-true, not-false}
 use native.Mathlib.Omega.{arith}
 use Rattle.c_store.proofs.Laws.{used, unfit, cannot, made_words, next_is, below_next, past_top, a_number}
 use Rattle.c_changes.proofs.store_record_none.Statement.{statement}

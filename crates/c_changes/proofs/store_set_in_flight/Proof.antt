@@ -1,5 +1,4 @@
 use borrow.Author.Rules.{rules}
-use borrow.Author.Tests.{not-true, not-false}
 use mathlib.Core.Path.{refl}
 use Rattle.c_store.proofs.Laws.{used, unfit, made_words}
 use Rattle.c_changes.proofs.store_set_in_flight.Statement.{statement}

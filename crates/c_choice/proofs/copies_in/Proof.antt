@@ -5,7 +5,7 @@ use Rattle.c_choice.proofs.copies_in.Statement.{statement}
 use Rattle.c_choice.proofs.copies_in.Tie as tie
 
 returns : tie.Need-returns
-returns c = copies_are c.before.before.before.before.before.before.args.copies.now c.before.before.before.before.copy_at.ensures c.before.before.before.copy-at2.ensures c.before.before.copy-at3.ensures c.before.copy-at4.ensures c.copy-at5.ensures
+returns c = copies_are c.args.copies.now c.copy_at-first.ensures c.copy_at-second.ensures c.copy_at-third.ensures c.copy_at-fourth.ensures c.copy_at-fifth.ensures
 
 pub copies_in_spec : {M : Type 1} → statement M
 copies_in_spec =

@@ -6,8 +6,8 @@ use Rattle.c_choice.proofs.copy_at.Tie as tie
 
 returns : tie.Need-returns
 returns c =
-    let a = c.before.before.before.before.before.before.before.before.before.before.before.before.args in
-    copy_is a.copies.now a.at c.before.before.before.before.before.before.before.before.before.flag.ensures c.before.before.before.before.before.before.before.flag2.ensures c.before.before.before.before.at-most-u32.ensures c.before.before.at-most-u322.ensures c.at-most-u323.ensures
+    let a = c.args in
+    copy_is a.copies.now a.at c.flag-listed.ensures c.flag-checked.ensures c.at_most_u32-places.ensures c.at_most_u32-bytes.ensures c.at_most_u32-messages.ensures
 
 pub copy_at_spec : {M : Type 1} → statement M
 copy_at_spec =

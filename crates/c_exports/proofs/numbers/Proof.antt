@@ -5,48 +5,48 @@ use native.Mathlib.Omega.{arith}
 use Rattle.c_exports.proofs.numbers.Statement.{statement}
 use Rattle.c_exports.proofs.numbers.Tie as tie
 
-abbrev invariant-loop : tie.invariant-loop
-invariant-loop queue out₀ i₀ out i = Copied queue out i
+abbrev invariant-loop-i : tie.invariant-loop-i
+invariant-loop-i queue out₀ i₀ out i = Copied queue out i
 
-abbrev decreases-loop : tie.decreases-loop
-decreases-loop queue out₀ i₀ out i = 64 - i
+abbrev decreases-loop-i : tie.decreases-loop-i
+decreases-loop-i queue out₀ i₀ out i = 64 - i
 
-loop-holds : tie.Need-loop-init invariant-loop decreases-loop
+loop-holds : tie.Need-loop-i-init invariant-loop-i decreases-loop-i
 loop-holds c = record { same = omega arith; upto = omega arith; front = refl }
 
-add_out : tie.Need-overflow-add-out invariant-loop decreases-loop
+add_out : tie.Need-overflow_add-out invariant-loop-i decreases-loop-i
 add_out c = omega arith
 
-mul_out : tie.Need-overflow-mul-out invariant-loop decreases-loop
+mul_out : tie.Need-offset_bounds-queue-i invariant-loop-i decreases-loop-i
 mul_out c = omega arith
 
-shared_slice_read_out : tie.Need-shared-slice-read-out invariant-loop decreases-loop
+shared_slice_read_out : tie.Need-bounds-queue-i invariant-loop-i decreases-loop-i
 shared_slice_read_out c = omega arith
 
-mul_out_2 : tie.Need-overflow-mul-out-2 invariant-loop decreases-loop
+mul_out_2 : tie.Need-offset_bounds-out-i invariant-loop-i decreases-loop-i
 mul_out_2 c = omega arith
 
-array_write_out : tie.Need-array-write-out invariant-loop decreases-loop
+array_write_out : tie.Need-bounds-out-i invariant-loop-i decreases-loop-i
 array_write_out c = omega arith
 
-add_i : tie.Need-overflow-add-i invariant-loop decreases-loop
+add_i : tie.Need-overflow_add-i invariant-loop-i decreases-loop-i
 add_i c = omega arith
 
-loop-less : tie.Need-loop-smaller invariant-loop decreases-loop
+loop-less : tie.Need-loop-i-smaller invariant-loop-i decreases-loop-i
 loop-less c = omega arith
 
-loop-again : tie.Need-loop-preserved invariant-loop decreases-loop
-loop-again c = copies c.before.before.before.args.queue.now c.before.before.loop.out c.before.before.loop.i (omega arith) c.before.before.loop.invariant (omega arith)
+loop-again : tie.Need-loop-i-preserved invariant-loop-i decreases-loop-i
+loop-again c = copies c.args.queue.now c.loop-i.out c.loop-i.i (omega arith) c.loop-i.invariant (omega arith)
 
-returns : tie.Need-returns invariant-loop decreases-loop
-returns c = copied c.before.before.args.queue.now c.before.loop.out c.before.loop.i c.before.loop.invariant (omega arith)
+returns : tie.Need-returns invariant-loop-i decreases-loop-i
+returns c = copied c.args.queue.now c.loop-i.out c.loop-i.i c.loop-i.invariant (omega arith)
 
 pub numbers_spec : {M : Type 1} → statement M
 numbers_spec =
     tie.close
     (tie.spec
-    invariant-loop
-    decreases-loop
+    invariant-loop-i
+    decreases-loop-i
     loop-holds
     add_out
     mul_out

@@ -3,8 +3,8 @@ use Rattle.c_exports.proofs.Laws.{taken_as}
 use Rattle.c_exports.proofs.read_code.Statement.{statement}
 use Rattle.c_exports.proofs.read_code.Tie as tie
 
-returns : tie.Need-returns
-returns c = taken_as c.before.before.before.args.used c.before.enum_told.given.1 c.done.ensures
+returns : tie.Need-returns-in-Bytes
+returns c = taken_as c.args.used c.in-Bytes.is c.done.ensures
 
 pub read_code_spec : {M : Type 1} → statement M
 read_code_spec =

@@ -6,17 +6,17 @@ use native.Mathlib.Omega.{arith}
 use Rattle.c_exports.proofs.send_code.Statement.{statement}
 use Rattle.c_exports.proofs.send_code.Tie as tie
 
-returns : tie.Need-returns
-returns c = sends_frame batch_limit c.before.before.before.before.before.before.before.before.before.before.before.before.before.before.before.before.before.before.args.shape c.before.before.before.before.before.before.before.before.before.before.before.before.before.before.before.before.before.before.args.words.now c.before.before.before.before.before.before.before.before.before.before.before.before.before.before.before.before.before.before.args.bytes.now c.before.before.before.before.before.before.before.before.before.before.before.before.before.before.before.before.before.before.args.state c.before.before.before.before.before.before.before.before.before.before.before.before.before.before.before.before.before.before.args.sending.now c.before.before.before.before.before.before.before.before.before.before.before.before.send-whole.ensures (omega arith) c.before.before.before.before.before.before.before.before.len.given.1 c.before.before.before.put-sending.ensures c.done.ensures
+returns : tie.Need-returns-in-Frame
+returns c = sends_frame batch_limit c.args.shape c.args.words.now c.args.bytes.now c.args.state c.args.sending.now c.send_whole.ensures (omega arith) c.in-Frame.is c.put_sending.ensures c.done.ensures
 
-returns-2 : tie.Need-returns-2
-returns-2 c = sends_done batch_limit c.before.before.before.before.before.before.before.before.before.before.args.shape c.before.before.before.before.before.before.before.before.before.before.args.words.now c.before.before.before.before.before.before.before.before.before.before.args.bytes.now c.before.before.before.before.before.before.before.before.before.before.args.state c.before.before.before.before.before.before.before.before.before.before.args.sending.now c.before.before.before.before.send-whole.ensures c.enum_told.given.1 refl
+returns-2 : tie.Need-returns-in-Done
+returns-2 c = sends_done batch_limit c.args.shape c.args.words.now c.args.bytes.now c.args.state c.args.sending.now c.send_whole.ensures c.in-Done.is refl
 
-returns-3 : tie.Need-returns-3
-returns-3 c = sends_short batch_limit c.before.before.before.before.before.before.before.before.before.before.before.args.shape c.before.before.before.before.before.before.before.before.before.before.before.args.words.now c.before.before.before.before.before.before.before.before.before.before.before.args.bytes.now c.before.before.before.before.before.before.before.before.before.before.before.args.state c.before.before.before.before.before.before.before.before.before.before.before.args.sending.now c.before.before.before.before.before.send-whole.ensures c.before.enum-told2.given.1 c.refusal.ensures
+returns-3 : tie.Need-returns-in-TooShort
+returns-3 c = sends_short batch_limit c.args.shape c.args.words.now c.args.bytes.now c.args.state c.args.sending.now c.send_whole.ensures c.in-TooShort.is c.refusal.ensures
 
-returns-4 : tie.Need-returns-4
-returns-4 c = sends_unfit batch_limit c.before.before.before.before.before.before.before.before.before.before.before.args.shape c.before.before.before.before.before.before.before.before.before.before.before.args.words.now c.before.before.before.before.before.before.before.before.before.before.before.args.bytes.now c.before.before.before.before.before.before.before.before.before.before.before.args.state c.before.before.before.before.before.before.before.before.before.before.before.args.sending.now c.before.before.before.before.before.send-whole.ensures c.before.enum-told3.given.1 c.refusal2.ensures
+returns-4 : tie.Need-returns-in-InvalidAreas
+returns-4 c = sends_unfit batch_limit c.args.shape c.args.words.now c.args.bytes.now c.args.state c.args.sending.now c.send_whole.ensures c.in-InvalidAreas.is c.refusal-in-InvalidAreas.ensures
 
 pub send_code_spec : {M : Type 1} → statement M
 send_code_spec =

@@ -3,8 +3,8 @@ use Rattle.c_exports.proofs.Laws.{told_as}
 use Rattle.c_exports.proofs.session_code.Statement.{statement}
 use Rattle.c_exports.proofs.session_code.Tie as tie
 
-returns : tie.Need-returns
-returns c = told_as c.before.before.written.given.1 c.done.ensures
+returns : tie.Need-returns-in-Bytes
+returns c = told_as c.in-Bytes.is c.done.ensures
 
 pub session_code_spec : {M : Type 1} → statement M
 session_code_spec =

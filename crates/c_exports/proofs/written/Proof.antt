@@ -3,8 +3,8 @@ use Rattle.c_exports.proofs.Laws.{written_as}
 use Rattle.c_exports.proofs.written.Statement.{statement}
 use Rattle.c_exports.proofs.written.Tie as tie
 
-returns : tie.Need-returns
-returns c = written_as c.before.before.w.given.1 c.done.ensures
+returns : tie.Need-returns-in-Bytes
+returns c = written_as c.in-Bytes.is c.done.ensures
 
 pub written_spec : {M : Type 1} → statement M
 written_spec =

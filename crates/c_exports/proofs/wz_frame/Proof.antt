@@ -4,17 +4,17 @@ use Rattle.model_frame.proofs.Le.{are_bytes}
 use Rattle.c_exports.proofs.wz_frame.Statement.{statement}
 use Rattle.c_exports.proofs.wz_frame.Tie as tie
 
-returns : tie.Need-returns
-returns c = again_more c.before.before.before.before.before.args.frame.now c.before.before.decode.ensures.0 c.enum_told.given.1
+returns : tie.Need-returns-in-More
+returns c = again_more c.args.frame.now c.decode.ensures.0 c.in-More.is
 
-returns-2 : tie.Need-returns-2
-returns-2 c = again_bad c.before.before.before.before.before.before.before.args.frame.now c.before.before.before.before.decode.ensures.0 c.before.before.e.given.1 c.fault.ensures
+returns-2 : tie.Need-returns-in-Bad
+returns-2 c = again_bad c.args.frame.now c.decode.ensures.0 c.in-Bad.is c.fault.ensures
 
-returns-3 : tie.Need-returns-3
+returns-3 : tie.Need-returns-in-Whole
 returns-3 c =
-    let b = c.before.before.before.before.before.before.before.before.before.before.args.frame.now in
-    let d = c.before.before.before.before.before.before.before.decode in
-    again_whole b d.ensures.0 c.before.before.before.before.before.f.given.1 (are_bytes b (λ i. (c.before.before.before.before.before.before.before.before.before.shared-slice-known.given i).fits)) d.ensures.1 c.before.before.rewritten.ensures
+    let b = c.args.frame.now in
+    let d = c.decode in
+    again_whole b d.ensures.0 c.in-Whole.is (are_bytes b (λ i. (c.shared_slice_known-1.given i).fits)) d.ensures.1 c.rewritten.ensures
 
 pub wz_frame_spec : {M : Type 1} → statement M
 wz_frame_spec =

@@ -3,11 +3,11 @@ use Rattle.c_exports.proofs.Laws.{made, unfit}
 use Rattle.c_exports.proofs.wz_make.Statement.{statement}
 use Rattle.c_exports.proofs.wz_make.Tie as tie
 
-returns : tie.Need-returns
-returns c = made c.before.before.before.before.before.make.ensures c.before.enum_told.given.1 c.done.ensures
+returns : tie.Need-returns-in-Ready
+returns c = made c.make.ensures c.in-Ready.is c.done.ensures
 
-returns-2 : tie.Need-returns-2
-returns-2 c = unfit c.before.before.before.before.before.make.ensures c.before.enum-told2.given.1 c.refusal.ensures
+returns-2 : tie.Need-returns-in-InvalidAreas
+returns-2 c = unfit c.make.ensures c.in-InvalidAreas.is c.refusal.ensures
 
 pub wz_make_spec : {M : Type 1} → statement M
 wz_make_spec =

@@ -4,14 +4,14 @@ use mathlib.Core.Path.{refl}
 use Rattle.c_exports.proofs.wz_read.Statement.{statement}
 use Rattle.c_exports.proofs.wz_read.Tie as tie
 
-returns : tie.Need-returns
-returns c = read_as c.before.before.before.before.args.frame.now c.before.before.decode.ensures.0 c.enum_told.given.1 refl
+returns : tie.Need-returns-in-More
+returns c = read_as c.args.frame.now c.decode.ensures.0 c.in-More.is refl
 
-returns-2 : tie.Need-returns-2
-returns-2 c = read_as c.before.before.before.before.before.before.args.frame.now c.before.before.before.before.decode.ensures.0 c.before.before.e.given.1 c.fault.ensures
+returns-2 : tie.Need-returns-in-Bad
+returns-2 c = read_as c.args.frame.now c.decode.ensures.0 c.in-Bad.is c.fault.ensures
 
-returns-3 : tie.Need-returns-3
-returns-3 c = read_as c.before.before.before.before.before.before.args.frame.now c.before.before.before.before.decode.ensures.0 c.before.before.used.given.1 c.done.ensures
+returns-3 : tie.Need-returns-in-Whole
+returns-3 c = read_as c.args.frame.now c.decode.ensures.0 c.in-Whole.is c.done.ensures
 
 pub wz_read_spec : {M : Type 1} → statement M
 wz_read_spec =

@@ -1,5 +1,4 @@
 use borrow.Author.Rules.{rules}
-use borrow.Author.Tests.{not-true, not-false}
 use Rattle.c_session.proofs.Laws.{told_there, unfit}
 use Rattle.store_areas.proofs.Ruling.{in_use_of}
 use mathlib.Core.Path.{sym, ◌∙◌}

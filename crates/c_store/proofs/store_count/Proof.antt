@@ -1,5 +1,4 @@
 use borrow.Author.Rules.{rules}
-use borrow.Author.Tests.{not-true, not-false}
 use native.Mathlib.Omega.{arith}
 use Rattle.c_store.proofs.Laws.{used, reads_none, reads, counted}
 use Rattle.c_store.proofs.store_count.Statement.{statement}

@@ -1,5 +1,4 @@
 use borrow.Author.Rules.{rules}
-use borrow.Author.Tests.{not-true, not-false}
 use Rattle.c_store.proofs.Laws.{used, unfit, marked_there}
 use Rattle.c_store.proofs.store_mark_durable.Statement.{statement}
 use Rattle.c_store.proofs.store_mark_durable.Tie as tie

@@ -1,5 +1,4 @@
 use borrow.Author.Rules.{rules}
-use borrow.Author.Tests.{not-true, not-false}
 use Rattle.c_store.proofs.Laws.{used, reads_none, reads}
 use Rattle.c_store.proofs.store_next_outgoing.Statement.{statement}
 use Rattle.c_store.proofs.store_next_outgoing.Tie as tie
