@@ -9,36 +9,36 @@ use Rattle.base_hex.proofs.put_refusal.Reads as put-refusal-reads
 use Rattle.frames_reply.proofs.put_reply.Reads as put-reply-reads
 
 -- src/lib.rt:37:13
-returns : tie.Need-returns
-returns c = text_done (length c.before.before.before.before.before.before.before.args.buf.now) c.before.before.before.before.before.before.before.args.bytes.now c.before.before.before.before.before.before.before.args.answer c.before.before.before.before.before.before.before.args.out.now c.before.before.if1.true c.if2.true
+returns : tie.Need-returns-then-answer-eq0-2
+returns c = text_done (length c.args.buf.now) c.args.bytes.now c.args.answer c.args.out.now c.if-answer-eq0.true c.if-answer-eq0-2.true
 
 -- src/lib.rt:39:9
-put-reply-requires : tie.Need-put-reply-requires
+put-reply-requires : tie.Need-put_reply-requires
 put-reply-requires c κs = search rules
 
 -- src/lib.rt:39:9
-same_length : tie.Need-same-length
+same_length : tie.Need-shape_of-buf-then-answer-eq0
 same_length c = search rules
 
 -- src/lib.rt:39:9
-same_length_2 : tie.Need-same-length-2
+same_length_2 : tie.Need-shape_of-out-then-answer-eq0
 same_length_2 c = search rules
 
 -- src/lib.rt:39:9
-returns-2 : tie.Need-returns-2
-returns-2 c = text_reply (length c.before.before.before.before.before.before.before.before.before.before.before.before.before.before.args.buf.now) c.before.before.before.before.before.before.before.before.before.before.before.before.before.before.args.bytes.now c.before.before.before.before.before.before.before.before.before.before.before.before.before.before.args.answer c.before.before.before.before.before.before.before.before.before.before.before.before.before.before.args.out.now c.before.before.before.before.before.before.before.before.before.if1.true c.before.before.before.before.before.before.before.if2.false c.before.before.before.before.put-reply.ensures
+returns-2 : tie.Need-returns-then-answer-eq0
+returns-2 c = text_reply (length c.args.buf.now) c.args.bytes.now c.args.answer c.args.out.now c.if-answer-eq0.true c.if-answer-eq0-2.false c.put_reply.ensures
 
 -- src/lib.rt:41:5
-put-refusal-requires : tie.Need-put-refusal-requires
+put-refusal-requires : tie.Need-put_refusal-requires
 put-refusal-requires c κs = search rules
 
 -- src/lib.rt:30:1
-same_length_3 : tie.Need-same-length-3
+same_length_3 : tie.Need-shape_of-out
 same_length_3 c = search rules
 
 -- src/lib.rt:30:1
-returns-3 : tie.Need-returns-3
-returns-3 c = text_refused (length c.before.before.before.before.before.before.before.before.before.args.buf.now) c.before.before.before.before.before.before.before.before.before.args.bytes.now c.before.before.before.before.before.before.before.before.before.args.answer c.before.before.before.before.before.before.before.before.before.args.out.now c.before.before.before.before.if1.false c.before.before.put-refusal.ensures
+returns-3 : tie.Need-returns
+returns-3 c = text_refused (length c.args.buf.now) c.args.bytes.now c.args.answer c.args.out.now c.if-answer-eq0.false c.put_refusal.ensures
 
 pub put_answer_spec : {M : Type 1} → statement M
 put_answer_spec =

@@ -16,100 +16,100 @@ write-requires : tie.Need-write-requires
 write-requires c κs = search rules
 
 -- src/lib.rt:19:23
-enum_known_n : tie.Need-enum-known-n
+enum_known_n : tie.Need-enum_known-n
 enum_known_n c = search rules
 
 -- src/lib.rt:20:26
-sub_put_hex : tie.Need-overflow-sub-put-hex
+sub_put_hex : tie.Need-slice_bounds-put_hex-count
 sub_put_hex c = search rules
 
 -- src/lib.rt:20:26
-part_put_hex_start : tie.Need-slice-bounds-put-hex-start
+part_put_hex_start : tie.Need-slice_bounds-put_hex-start
 part_put_hex_start c = search rules
 
 -- src/lib.rt:20:26
-part_put_hex_end : tie.Need-slice-bounds-put-hex-end
-part_put_hex_end c = omega (arith, took_fits _ _ (rw c.before.before.n.given.1 at c.before.before.before.before.before.before.write.ensures))
+part_put_hex_end : tie.Need-slice_bounds-put_hex-end
+part_put_hex_end c = omega (arith, took_fits _ _ (rw c.in-Bytes.is at c.write.ensures))
 
 -- src/lib.rt:20:13
-put-hex-requires : tie.Need-put-hex-requires
-put-hex-requires c κs = omega (arith, took_fits _ _ (rw c.before.before.before.before.n.given.1 at c.before.before.before.before.before.before.before.before.write.ensures))
+put-hex-requires : tie.Need-put_hex-requires
+put-hex-requires c κs = omega (arith, took_fits _ _ (rw c.in-Bytes.is at c.write.ensures))
 
 -- src/lib.rt:21:13
-mul_result : tie.Need-overflow-mul-result
-mul_result c = omega (arith, took_fits _ _ (rw c.before.before.before.before.before.before.before.n.given.1 at c.before.before.before.before.before.before.before.before.before.before.before.write.ensures))
+mul_result : tie.Need-overflow_mul-result
+mul_result c = omega (arith, took_fits _ _ (rw c.in-Bytes.is at c.write.ensures))
 
 -- src/lib.rt:23:52
-enum_told : tie.Need-enum-told
+enum_told : tie.Need-enum_told-1
 enum_told c = search rules
 
 -- src/lib.rt:23:32
-put-refusal-requires : tie.Need-put-refusal-requires
+put-refusal-requires : tie.Need-put_refusal-requires
 put-refusal-requires c κs = search rules
 
 -- src/lib.rt:24:49
-enum_told_2 : tie.Need-enum-told-2
+enum_told_2 : tie.Need-enum_told-in-TooLong
 enum_told_2 c = search rules
 
 -- src/lib.rt:24:29
-put-refusal-requires-2 : tie.Need-put-refusal-requires-2
+put-refusal-requires-2 : tie.Need-put_refusal-requires-in-TooLong
 put-refusal-requires-2 c κs = search rules
 
 -- src/lib.rt:25:48
-enum_told_3 : tie.Need-enum-told-3
+enum_told_3 : tie.Need-enum_told-in-NoRoom
 enum_told_3 c = search rules
 
 -- src/lib.rt:25:28
-put-refusal-requires-3 : tie.Need-put-refusal-requires-3
+put-refusal-requires-3 : tie.Need-put_refusal-requires-in-NoRoom
 put-refusal-requires-3 c κs = search rules
 
 -- src/lib.rt:13:1
-same_length : tie.Need-same-length
+same_length : tie.Need-shape_of-buf-in-Bytes
 same_length c = search rules
 
 -- src/lib.rt:13:1
-same_length_2 : tie.Need-same-length-2
+same_length_2 : tie.Need-shape_of-out-in-Bytes
 same_length_2 c = search rules
 
 -- src/lib.rt:13:1
-returns : tie.Need-returns
-returns c = put_digits _ _ c.before.before.before.before.before.before.before.before.before.before.before.before.before.before.before.before.args.out.now c.before.before.before.before.before.before.before.before.before.before.before.write.auto.1.1.0 (rw c.before.before.before.before.before.before.before.n.given.1 at c.before.before.before.before.before.before.before.before.before.before.before.write.ensures) c.before.before.put-hex.ensures
+returns : tie.Need-returns-in-Bytes
+returns c = put_digits _ _ c.args.out.now c.write.auto.out (rw c.in-Bytes.is at c.write.ensures) c.put_hex.ensures
 
 -- src/lib.rt:13:1
-same_length_3 : tie.Need-same-length-3
+same_length_3 : tie.Need-shape_of-buf-in-Unreadable
 same_length_3 c = search rules
 
 -- src/lib.rt:13:1
-same_length_4 : tie.Need-same-length-4
+same_length_4 : tie.Need-shape_of-out-in-Unreadable
 same_length_4 c = search rules
 
 -- src/lib.rt:13:1
-returns-2 : tie.Need-returns-2
-returns-2 c = put_no _ 8 (ap written_of c.before.before.before.before.enum_told.given.1) c.before.before.before.before.before.before.before.before.write.ensures c.before.before.put-refusal.ensures
+returns-2 : tie.Need-returns-in-Unreadable
+returns-2 c = put_no _ 8 (ap written_of c.in-Unreadable.is) c.write.ensures c.put_refusal.ensures
 
 -- src/lib.rt:13:1
-same_length_5 : tie.Need-same-length-5
+same_length_5 : tie.Need-shape_of-buf-in-TooLong
 same_length_5 c = search rules
 
 -- src/lib.rt:13:1
-same_length_6 : tie.Need-same-length-6
+same_length_6 : tie.Need-shape_of-out-in-TooLong
 same_length_6 c = search rules
 
 -- src/lib.rt:13:1
-returns-3 : tie.Need-returns-3
-returns-3 c = put_no _ 1 (ap written_of c.before.before.before.before.enum-told2.given.1) c.before.before.before.before.before.before.before.before.write.ensures c.before.before.put-refusal2.ensures
+returns-3 : tie.Need-returns-in-TooLong
+returns-3 c = put_no _ 1 (ap written_of c.in-TooLong.is) c.write.ensures c.put_refusal-in-TooLong.ensures
 
 -- src/lib.rt:13:1
-same_length_7 : tie.Need-same-length-7
+same_length_7 : tie.Need-shape_of-buf-in-NoRoom
 same_length_7 c = search rules
 
 -- src/lib.rt:13:1
-same_length_8 : tie.Need-same-length-8
+same_length_8 : tie.Need-shape_of-out-in-NoRoom
 same_length_8 c = search rules
 
 -- src/lib.rt:13:1
-returns-4 : tie.Need-returns-4
-returns-4 c = put_no _ 9 (ap written_of c.before.before.before.before.enum-told3.given.1) c.before.before.before.before.before.before.before.before.write.ensures c.before.before.put-refusal3.ensures
+returns-4 : tie.Need-returns-in-NoRoom
+returns-4 c = put_no _ 9 (ap written_of c.in-NoRoom.is) c.write.ensures c.put_refusal-in-NoRoom.ensures
 
 pub put_reply_spec : {M : Type 1} → statement M
 put_reply_spec =

@@ -6,31 +6,31 @@ use Rattle.theorem_round_trip.proofs.Survives.{survives, not_written}
 use Rattle.theorem_round_trip.proofs.write_and_read.Statement.{statement}
 use Rattle.theorem_round_trip.proofs.write_and_read.Tie as tie
 
-returns : tie.Need-returns
+returns : tie.Need-returns-in-Bytes
 returns c =
-    let s = c.before.before.before.before.before.before.before.before.before.before.before in
-    let e = c.before.before.before.before.before.before.before.encode in
-    survives s.args.protocol.version s.args.src.now s.args.frame s.args.area.now e.new.1.1.1.0 c.decode.result
-    (are_bytes s.args.src.now (λ i. (c.before.before.before.before.before.before.before.before.before.before.shared-slice-known.given i).fits))
-    s.well-formed.0 c.before.before.before.n.given.1 e.ensures c.decode.ensures.0
+    let s = c in
+    let e = c.encode in
+    survives s.args.protocol.version s.args.src.now s.args.frame s.args.area.now e.new.out c.decode.result
+    (are_bytes s.args.src.now (λ i. (c.shared_slice_known-1.given i).fits))
+    s.well_formed.0 c.in-Bytes.is e.ensures c.decode.ensures.0
 
-returns-2 : tie.Need-returns-2
+returns-2 : tie.Need-returns-in-Unreadable
 returns-2 c =
-    let s = c.before.before.before.before.before.before.before.before in
-    let e = c.before.before.before.before.encode in
-    not_written s.args.protocol.version s.args.src.now s.args.frame s.args.area.now e.new.1.1.1.0 (ap written_of c.enum_told.given.1) e.ensures
+    let s = c in
+    let e = c.encode in
+    not_written s.args.protocol.version s.args.src.now s.args.frame s.args.area.now e.new.out (ap written_of c.in-Unreadable.is) e.ensures
 
-returns-3 : tie.Need-returns-3
+returns-3 : tie.Need-returns-in-TooLong
 returns-3 c =
-    let s = c.before.before.before.before.before.before.before.before in
-    let e = c.before.before.before.before.encode in
-    not_written s.args.protocol.version s.args.src.now s.args.frame s.args.area.now e.new.1.1.1.0 (ap written_of c.enum-told2.given.1) e.ensures
+    let s = c in
+    let e = c.encode in
+    not_written s.args.protocol.version s.args.src.now s.args.frame s.args.area.now e.new.out (ap written_of c.in-TooLong.is) e.ensures
 
-returns-4 : tie.Need-returns-4
+returns-4 : tie.Need-returns-in-NoRoom
 returns-4 c =
-    let s = c.before.before.before.before.before.before.before.before in
-    let e = c.before.before.before.before.encode in
-    not_written s.args.protocol.version s.args.src.now s.args.frame s.args.area.now e.new.1.1.1.0 (ap written_of c.enum-told3.given.1) e.ensures
+    let s = c in
+    let e = c.encode in
+    not_written s.args.protocol.version s.args.src.now s.args.frame s.args.area.now e.new.out (ap written_of c.in-NoRoom.is) e.ensures
 
 pub write_and_read_spec : {M : Type 1} → statement M
 write_and_read_spec =
