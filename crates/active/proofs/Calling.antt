@@ -21,9 +21,7 @@ use Rattle.active_batch.specs.Batch.{frame_from, resume_from, WroteBatch}
 use Rattle.store_areas.specs.declared.Shape.{Shape}
 use Rattle.active.specs.declared.Sending.{Sending}
 use Rattle.active.specs.declared.Begun.{Begun}
-use Rattle.active.specs.declared.Begun
 use Rattle.active.specs.declared.Sent.{Sent}
-use Rattle.active.specs.declared.Sent
 use Rattle.active.specs.Whole.{sender_of, sending_for, handed_on, SendStart, start_of, start_from, Begins, SendStep, send_answer, filled_by, step_from, area_from, stored_at, SendsWhole}
 use Rattle.active.specs.Whole as whole
 

@@ -26,9 +26,7 @@ use Rattle.store_log.proofs.Lawful.{Small}
 use Rattle.store_areas.specs.declared.Shape.{Shape}
 use Rattle.active.specs.declared.Sending.{Sending}
 use Rattle.active.specs.declared.Begun.{Begun}
-use Rattle.active.specs.declared.Begun
 use Rattle.active.specs.declared.Sent.{Sent}
-use Rattle.active.specs.declared.Sent
 use Rattle.active.specs.Whole.{start_of, step_of, SentWhole, sender_of, stored_at, SendStart, ready, start_from, SendStep, gives, finished, spent, send_answer, filled_by, step_from, area_from, SendsWhole, SendCalls, nothing, too_short, frame, Sofar}
 use Rattle.active.specs.Whole as call
 use Rattle.active.proofs.Storing.{stored_holdable}

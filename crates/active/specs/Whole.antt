@@ -16,9 +16,7 @@ use Rattle.frame_fields.specs.declared.CommitNumber.{CommitNumber}
 use Rattle.active_batch.specs.Batch.{resume_from}
 use Rattle.active.specs.declared.Sending.{Sending}
 use Rattle.active.specs.declared.Begun.{Begun}
-use Rattle.active.specs.declared.Begun
 use Rattle.active.specs.declared.Sent.{Sent}
-use Rattle.active.specs.declared.Sent
 
 -- the model's sender: none is left to send where the state is done, whatever number it goes on from
 abbrev pub sender_of : Sending → Sender

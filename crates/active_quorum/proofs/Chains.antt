@@ -1,13 +1,12 @@
 -- A walk down a chain: what it finds, and on what it goes by. Assumes nothing.
-use mathlib.Core.Path.{◌≡◌, refl, sym, ap, subst, ◌∙◌}
+use mathlib.Core.Path.{◌≡◌, refl, sym, ap, ◌∙◌}
 use mathlib.Core.Bool.{Bool, true, false, cond}
 use mathlib.Core.List.{List}
-use Prim.Native.Nat.{ℕ, zero, suc, ◌+◌, ◌*◌, ◌%◌, ◌<◌, ◌≤◌}
+use Prim.Native.Nat.{ℕ, zero, suc, ◌%◌, ◌<◌, ◌≤◌}
 use native.Mathlib.Omega.{arith}
-use lib.ListN.{get_or}
 use lib.Dec.{eqb}
-use borrow.Author.Tests.{eqb-true, eqb-false, eq-eqb, ne_eqb}
-use Rattle.active_quorum.specs.Area.{start, handle_at, before_at, walk}
+use borrow.Author.Tests.{eqb-true, eqb-false, ne_eqb}
+use Rattle.active_quorum.specs.Area.{handle_at, before_at, walk}
 
 no_less : (n : ℕ) → n < 0 → ⊥
 no_less n h = omega arith

@@ -1,20 +1,20 @@
 -- What a store does to what the words stand for. Assumes nothing.
-use mathlib.Core.Path.{◌≡◌, refl, sym, ap, subst, ◌∙◌}
+use mathlib.Core.Path.{◌≡◌, refl, sym, ap, ◌∙◌}
 use mathlib.Core.Bool.{Bool, true, false, cond}
 use mathlib.Core.List.{List, [], ◌∷◌}
 use mathlib.Core.Option.{Option, none, some}
-use Prim.Native.Nat.{ℕ, zero, suc, ◌+◌, ◌*◌, ◌%◌, ◌<◌, ◌≤◌}
+use Prim.Native.Nat.{ℕ, ◌+◌, ◌%◌, ◌<◌, ◌≤◌}
 use native.Mathlib.Omega.{arith}
 use native.Mathlib.Numerals.{add-one}
 use lib.ListN.{length, get_or, set, drop, length-set}
 use lib.Seq.{sets, length-sets, get_or-set_same, get_or-set_other, drop-set-lt}
 use lib.Dec.{eqb, leb, ltb}
-use borrow.Author.Tests.{eqb-true, eqb-false, eq-eqb, ne_eqb, leb-true, leb-false, ltb-true, lt-ltb, le-ltb}
+use borrow.Author.Tests.{eqb-true, eqb-false, eq-eqb, ne_eqb, leb-true, leb-false, ltb-true, lt-ltb}
 use Rattle.model_quorum.specs.Counts as m
 use Rattle.model_quorum.specs.Counts.{put, no_acks}
 use Rattle.active_quorum.specs.Area.{start, handle_at, before_at, newest_of, walk, place_of, count_at, count_of, PutsCount, AddsHandle}
 use Rattle.active_quorum.proofs.Words.{sets_before, sets_after, sets_in, sets_drop, five_so}
-use Rattle.active_quorum.proofs.Chains.{walk_out, look, walk_in, Found, found, walk_same}
+use Rattle.active_quorum.proofs.Chains.{walk_out, look, Found, found, walk_same}
 
 -- nine words from the place on are the count's
 same_count : (v w : List ℕ) (j : ℕ) → ((k : ℕ) → start j ≤ k → k < start j + 9 → get_or v k 0 ≡ get_or w k 0) → count_at v j ≡ count_at w j

@@ -1,9 +1,9 @@
 -- From the promises of `active_books` to those in numbers. Assumes nothing.
-use mathlib.Core.Path.{◌≡◌, subst}
+use mathlib.Core.Path.{subst}
 use mathlib.Core.List.{List}
 use Prim.Native.Nat.{ℕ}
 use Rattle.model_active.specs.CatchUp.{Call, Answer}
-use Rattle.active_books.specs.Calls.{Called, MakesNew, SaysBehind, answer_to, answer_to_making, answer_to_behind}
+use Rattle.active_books.specs.Calls.{Called, MakesNew, SaysBehind}
 use Rattle.c_books.specs.declared.Answered.{Answered}
 use Rattle.c_books.specs.Numbers.{InNumbers, Calls, MakesBooks, TellsBehind}
 

@@ -1,6 +1,6 @@
 -- An answer in numbers, for C: the refusal's number or 0; a byte that is 1 for wait, for one that is picked, and for yes; the session picked or 0. Assumes nothing.
-use Rattle.std.specs.Prelude.{◌≡◌, Bool, true, false, cond, List, ℕ}
-use Rattle.std.proofs.Math.Option.{Option, none, some}
+use Rattle.std.specs.Prelude.{◌≡◌, cond, List, ℕ}
+use Rattle.std.proofs.Math.Option.{none, some}
 use Rattle.model_active.specs.CatchUp.{Call, Answer, refused, done, wait, picked, says}
 use Rattle.active_books.specs.Calls.{Called, MakesNew, answer_to, answer_to_making, answer_to_behind}
 use Rattle.c_books.specs.declared.Answered.{Answered}

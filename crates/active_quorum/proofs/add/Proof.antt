@@ -1,14 +1,10 @@
 use borrow.Author.Rules.{rules}
 use Rattle.active_quorum.proofs.Laws.{two_size}
 use Rattle.active_quorum.proofs.Laws.{adds_so}
-use mathlib.Core.Path.{refl}
 use lib.ListN.{length-set}
 use native.Mathlib.Omega.{arith}
 use Rattle.active_quorum.proofs.add.Statement.{statement}
 use Rattle.active_quorum.proofs.add.Tie as tie
-use Rattle.active_quorum.proofs.add.Reads as reads
-use Rattle.active_quorum.proofs.add.Lts as lts
-use Rattle.active_quorum.proofs.put_count.Reads as put-count-reads
 
 -- src/lib.rt:189:13
 mul_a : tie.Need-overflow_mul-a

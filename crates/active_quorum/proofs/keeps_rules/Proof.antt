@@ -3,9 +3,6 @@ use Rattle.active_quorum.proofs.Laws.{short_so, long_so}
 use native.Mathlib.Omega.{arith}
 use Rattle.active_quorum.proofs.keeps_rules.Statement.{statement}
 use Rattle.active_quorum.proofs.keeps_rules.Tie as tie
-use Rattle.active_quorum.proofs.keeps_rules.Reads as reads
-use Rattle.active_quorum.proofs.keeps_rules.Lts as lts
-use Rattle.active_quorum.proofs.Quorum.is_allowed.Reads as is-allowed-reads
 
 -- src/lib.rt:115:9
 returns : tie.Need-returns-then-words-lt-WORDS

@@ -1,4 +1,3 @@
-use native.Mathlib.Omega.{arith}
 use borrow.Author.Rules.{rules}
 use Rattle.c_choice.proofs.Laws.{copies_are}
 use Rattle.c_choice.proofs.copies_in.Statement.{statement}

@@ -1,4 +1,3 @@
-use native.Mathlib.Omega.{arith}
 use borrow.Author.Rules.{rules}
 use Rattle.c_choice.proofs.Laws.{copy_is}
 use Rattle.c_choice.proofs.copy_at.Statement.{statement}
