@@ -2,7 +2,7 @@
 use mathlib.Core.Path.{◌≡◌, refl, sym, ap, subst, ◌∙◌}
 use mathlib.Core.Bool.{Bool, true, false, cond}
 use mathlib.Core.List.{List, []}
-use mathlib.Core.Option.{Option, some}
+use mathlib.Core.Option.{Option}
 use Prim.Native.Nat.{ℕ, ◌+◌, ◌-◌, ◌*◌, ◌^◌, ◌<◌, ◌≤◌}
 use native.Mathlib.Omega.{arith}
 use borrow.Author.Tests.{lt-ltb, le-ltb, eq-eqb, ne_eqb}
@@ -17,12 +17,10 @@ use Rattle.model_frame.specs.Reading.{decode}
 use Rattle.model_frame.specs.Writing.{encode, WriteOutcome, wrote, refused, write_outcome, write_answer, area_after}
 use Rattle.frame_reader.specs.declared.FrameError.{FrameError}
 use Rattle.frame_reader.specs.declared.Field.{Field}
-use Rattle.frame_reader.specs.declared.Value
 use Rattle.frame_reader.specs.declared.Value.{Value}
 use Rattle.frame_reader.specs.Answers.{field_of, invalid_of, fault_of}
 use Rattle.frame_writer.specs.declared.Written.{Written}
 use Rattle.frame_writer.specs.Encoding.{written_of, Encoded}
-use Rattle.frame.specs.declared.Decoded
 use Rattle.frame.specs.declared.Decoded.{Decoded}
 use Rattle.frame.specs.declared.Frame as code-Frame
 use Rattle.frame.specs.Answers.{frame_of, reading_of, frame_in, StandsIn}

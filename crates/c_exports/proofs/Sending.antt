@@ -18,9 +18,7 @@ use Rattle.active_batch.specs.Batch.{resume_from}
 use Rattle.store_areas.specs.declared.Shape.{Shape}
 use Rattle.active.specs.declared.Sending.{Sending}
 use Rattle.active.specs.declared.Begun.{Begun}
-use Rattle.active.specs.declared.Begun
 use Rattle.active.specs.declared.Sent.{Sent}
-use Rattle.active.specs.declared.Sent
 use Rattle.active.specs.Whole.{sender_of, sending_for, stored_at, SendStart, ready, start_of, start_from, SendStep, gives, finished, step_of, spent, send_answer, step_from, SendsWhole}
 use Rattle.active.specs.Whole as whole
 use Rattle.c_exports.specs.Returned.{refusal_code, done_code, last_code}

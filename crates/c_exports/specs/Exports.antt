@@ -1,5 +1,5 @@
 -- What each exported function leaves and returns. Assumes nothing.
-use Rattle.std.specs.Prelude.{◌≡◌, ℕ, Bool, cond, List, [], length, set, ltb, eqb}
+use Rattle.std.specs.Prelude.{◌≡◌, ℕ, cond, List, [], length, set, ltb, eqb}
 use Rattle.std.proofs.Math.Option.{Option}
 use Rattle.model_frame.specs.Refusal
 use Rattle.model_frame.specs.Frame.{Frame, Decoded, more, faulty, got}
