@@ -151,10 +151,10 @@ def main():
                     print(f"look: {path}: {name} meets {names[name]}")
             with open(path, "w", encoding="utf-8") as f:
                 f.write(turned)
-    with open("/tmp/respelled-inner.tsv" if INNER_TOO else "/tmp/respelled.tsv", "w", encoding="utf-8") as f:
+    with open("tools/respelled-inner.tsv" if INNER_TOO else "tools/respelled.tsv", "w", encoding="utf-8") as f:
         for old, new in sorted(names.items()):
             f.write(f"{old}\t{new}\n")
-    print(f"respell: {len(names)} names in {changed} files; the table is in /tmp/respelled.tsv")
+    print(f"respell: {len(names)} names in {changed} files; the table is in tools/respelled{'-inner' if INNER_TOO else ''}.tsv")
 
 
 if __name__ == "__main__":
