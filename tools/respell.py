@@ -23,6 +23,8 @@ OF_A_FUNCTION = re.compile(r"/proofs/[^/]+/")
 # The names of a proof of a function that Rattle asks for.
 ASKED = re.compile(r"^(invariant|decreases|loop|returns|Inv|μ|ghost)(-|$)|^Need-|-requires|^overflow|^bounds|^nonzero|^prove|^slice_bounds|^cast")
 INNER_TOO = sys.argv[1:] == ["inner"]
+# Declared behind implicit arguments or in a pattern of two lines.
+BESIDE_ARGUMENTS = {"cannotSend": "cannot_send", "passesTop": "passes_top", "framesOfA": "frames_of_a", "tookLast": "took_last"}
 # Lemmas that are in snake case already and meet a definition's new name.
 MET = [("crates/fix_field/", "is_digit"), ("crates/", "same_text"), ("crates/standby_step/", "found_in")]
 
@@ -115,6 +117,8 @@ def main():
             words[path] = set(re.findall(TOKEN, f.read()))
     names = table(kinds, local, taken, lambda a, b: any(a in w and b in w for p, w in words.items() if p.endswith(".antt")))
     fields = {n for n in names if kinds.get(n, set()) & {"F", "C"} or local.get(n, set()) & {"F", "C"}}
+    if INNER_TOO:
+        names.update(BESIDE_ARGUMENTS)
     pattern = re.compile(rf"(?<![^\s(){{}}.;,@\"«»\[\]|]){TOKEN}")
     changed = 0
     for path in files((".antt", ".rt")):
