@@ -5,8 +5,8 @@ usage: tools/respell.py          at the top of the repository: rewrites crates/*
        tools/respell.py inner    the same for names declared further in, as in a `module _ .. where`
 
 A name that specs/ or proofs/ declare (a definition, a lemma, a field, a constructor) is written in snake case: goesOn and goes-on
-are goes_on. A fact or a type keeps its capitals: Makes-new is MakesNew. Where two names would fall together the definition has the
-plain name and the lemma gets _lem. Functions of src/, exported names, strings and the labels that Rattle makes keep their names.
+are goes_on. A fact or a type keeps its capitals: Makes-new is MakesNew. Where two names would fall together in one file
+one of them gets _lem, mostly the lemma. Functions of src/, exported names, strings and the labels that Rattle makes keep their names.
 """
 
 import collections
@@ -42,7 +42,7 @@ def snake(name):
         if not re.fullmatch(r"[A-Z]\w*[a-z]\w*(-[a-z]\w*)+", name):
             return name.replace("-", "_")
         return re.sub(r"-([a-z])", lambda m: m[1].upper(), name)
-    return re.sub(r"(?<=[a-z0-9])[A-Z](?=[a-z])", lambda m: "_" + m[0].lower(), re.sub(r"(?<=[a-z0-9])[A-Z]$", lambda m: "_" + m[0].lower(), name)).replace("-", "_")
+    return re.sub(r"(?<=[a-z0-9])[A-Z](?=[a-z]|$)", lambda m: "_" + m[0].lower(), name).replace("-", "_")
 
 
 def declared():
@@ -65,15 +65,6 @@ def declared():
                 elif inside and (m := MEMBER.match(line)):
                     to[m[1]].add("F" if inside == "record" else "C")
     return kinds, local
-
-
-def source_names():
-    """The functions, constants and types of src/."""
-    found = set()
-    for path in files(".rt"):
-        with open(path, encoding="utf-8") as f:
-            found |= set(re.findall(r"\b(?:fn|const|struct|enum|mod|type)\s+(\w+)", f.read()))
-    return found
 
 
 def table(kinds, local, taken, together):

@@ -42,7 +42,7 @@ struct State {
 // Writes the answers that wait.
 fn send(rt: &impl Print, out: &[u8], unsent: usize) -> Result<(), Failure> {
     if unsent > out.len() {
-        return Ok(());
+        return Err(Failure::Output(io::Error::from(ErrorKind::InvalidInput)));
     }
     match rt.write_all(&out[0..unsent]) {
         Ok(()) => Ok(()),
