@@ -12,16 +12,12 @@ import sys
 
 ROOT = pathlib.Path(__file__).resolve().parent.parent
 NUMBERS = {"u8": "uint8_t", "u16": "uint16_t", "u32": "uint32_t", "u64": "uint64_t", "usize": "size_t"}
-# The modules and records whose constants the header has, by its prefix.
+# The modules whose constants and the enums whose numbers the header has, by its prefix.
 CONSTANTS = [
-    ("base_refusals", None, "WZ_REFUSED_"),
-    ("active_lease", "Held", "WZ_REFUSED_"),
-    ("active_quorum", "Quorum", "WZ_REFUSED_"),
-    ("store_resend", "Listed", "WZ_REFUSED_"),
-    ("standby_choice", "Copies", "WZ_REFUSED_"),
+    ("base_refusals", "Refusal", "WZ_REFUSED_"),
     ("frame_fields", "kind", "WZ_KIND_"),
-    ("frame_fields", "part_byte", "WZ_PART_"),
-    ("frame_fields", "reason", "WZ_REASON_"),
+    ("frame_fields", "Part", "WZ_PART_"),
+    ("frame_fields", "NackReason", "WZ_REASON_"),
     ("frame_op", "kind", "WZ_CHANGE_"),
 ]
 
@@ -97,10 +93,9 @@ def header_functions():
 
 
 def constants(crate, block):
-    text = source(crate)
-    if block:
-        text = "".join(re.findall(rf"^(?:pub mod|impl) {block} {{\n(.*?)^}}", text, re.M | re.S))
-    return re.findall(r"pub const (\w+): u8 = (\d+);", text)
+    body = "".join(re.findall(rf"^pub (?:mod|enum) {block} {{\n(.*?)^}}", source(crate), re.M | re.S))
+    numbered = [(re.sub(r"(?<!^)([A-Z])", r"_\1", name).upper(), value) for name, value in re.findall(r"^    (\w+) = (\d+),", body, re.M)]
+    return numbered + re.findall(r"pub const (\w+): u8 = (\d+);", body)
 
 
 def declarations():

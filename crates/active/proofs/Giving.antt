@@ -25,9 +25,9 @@ use Rattle.base_laws.proofs.Little.{write_is}
 use Rattle.store_log.proofs.Lawful.{Small}
 use Rattle.store_areas.specs.declared.Shape.{Shape}
 use Rattle.active.specs.declared.Sending.{Sending}
-use Rattle.active.specs.declared.Begun.{Begun}
-use Rattle.active.specs.declared.Sent.{Sent}
-use Rattle.active.specs.Whole.{start_of, step_of, SentWhole, sender_of, stored_at, SendStart, ready, start_from, SendStep, gives, finished, spent, send_answer, filled_by, step_from, area_from, SendsWhole, SendCalls, nothing, too_short, frame, Sofar}
+use Rattle.base_refusals.specs.declared.Refusal.{Refusal}
+use Rattle.std.specs.Prelude.{None, Some, Ok, Err}
+use Rattle.active.specs.Whole.{Answer, start_of, step_of, SentWhole, sender_of, stored_at, SendStart, ready, start_from, SendStep, gives, finished, spent, send_answer, filled_by, step_from, area_from, SendsWhole, SendCalls, nothing, too_short, frame, Sofar}
 use Rattle.active.specs.Whole as call
 use Rattle.active.proofs.Storing.{stored_holdable}
 
@@ -77,7 +77,7 @@ module _ (limit : ℕ) (shape : Shape) (w b : List ℕ) (a : Session) where
   number_next s t f e = number_from s t f s.from e
 
   -- the call's own words: what it gives is the sender's next
-  call_gave : (s s' : Sending) (out out' : List ℕ) (len : ℕ) → stored_at shape w b s.place ≡ some a → SendsWhole limit shape w b s out out' (Sent.Frame len s')
+  call_gave : (s s' : Sending) (out out' : List ℕ) (len : ℕ) → stored_at shape w b s.place ≡ some a → SendsWhole limit shape w b s out out' (Ok (Some (record { len = len; next = s' })))
       → Gave (send_next limit a (sender_of s)) out' s.place len s'.place (sender_of s')
   unfolding step_from area_from
   call_gave s s' out out' len k p = gave (spent s.last.0 (sender_of s).from) (send_next limit a (sender_of s)) out out' s.place len s'.place (sender_of s') (rw k at p.answer) (rw k at p.area)
@@ -195,11 +195,10 @@ done_only false (some (f, u)) room i e = absurd (go (ltb room (length (encode f)
     go true e = let z : ◌≡◌ {A = ℕ} 0 1 = cc in omega arith
     go false e = let z : ◌≡◌ {A = ℕ} 0 1 = cc in omega arith
 
-is_finished : (r : Sent) → step_of r ≡ finished → r ≡ Sent.Done
-is_finished (Sent.Frame len s) e = absurd (let z : ◌≡◌ {A = ℕ} 0 1 = cc in omega arith)
-is_finished Sent.Done e = refl
-is_finished Sent.TooShort e = absurd (let z : ◌≡◌ {A = ℕ} 0 1 = cc in omega arith)
-is_finished Sent.InvalidAreas e = absurd (let z : ◌≡◌ {A = ℕ} 0 1 = cc in omega arith)
+is_finished : (r : Answer) → step_of r ≡ finished → r ≡ Ok None
+is_finished (Ok (Some s)) e = absurd (let z : ◌≡◌ {A = ℕ} 0 1 = cc in omega arith)
+is_finished (Ok None) e = refl
+is_finished (Err r) e = absurd (let z : ◌≡◌ {A = ℕ} 0 1 = cc in omega arith)
 
 -- ---- the theorem
 
@@ -221,7 +220,7 @@ module _ (limit : ℕ) (shape : Shape) (w b : List ℕ) (a : Session) (h e last 
       go true k r = absurd (let z : ◌≡◌ {A = ℕ} 0 1 = cc in omega arith)
       go false k r = record { place = cc; sender = cc; fits = omega (arith, ltb-false top (last + length (whole_batches limit a)) k, frames_count h e last (whole_batches limit a)) }
 
-  module _ (t : Sending) (k : stored_at shape w b t.place ≡ some a) (out out' : List ℕ) (r : Sent) (p : SendsWhole limit shape w b t out out' r) where
+  module _ (t : Sending) (k : stored_at shape w b t.place ≡ some a) (out out' : List ℕ) (r : Answer) (p : SendsWhole limit shape w b t out out' r) where
     answer_at : step_of r ≡ cond (spent t.last.0 (sender_of t).from) (call.SendStep.refused 25) (send_answer (length out) t.place (send_next limit a (sender_of t)))
     unfolding step_from
     answer_at = rw k at p.answer
@@ -242,12 +241,12 @@ module _ (limit : ℕ) (shape : Shape) (w b : List ℕ) (a : Session) (h e last 
       record {
         so = q.so;
         at_end = λ out out' r z p. ended out out' r p (none_next limit a (sender_of t) (subst (Sends limit a (sender_of t)) z q.goes));
-        then_all = λ out out' p. all_given (next_none limit a (sender_of t) q.so.left q.goes (done_only (spent t.last.0 (sender_of t).from) (send_next limit a (sender_of t)) (length out) t.place (answer_at t k out out' Sent.Done p)));
-        never_unfit = λ out out' p. never_spent limit a (sender_of t) q.so.left q.goes n (unfit_only (spent t.last.0 (sender_of t).from) (send_next limit a (sender_of t)) (length out) t.place (answer_at t k out out' Sent.InvalidAreas p));
-        never_short = λ out out' room p. too_long out room (short_only (spent t.last.0 (sender_of t).from) (send_next limit a (sender_of t)) (length out) t.place (answer_at t k out out' Sent.TooShort p));
+        then_all = λ out out' p. all_given (next_none limit a (sender_of t) q.so.left q.goes (done_only (spent t.last.0 (sender_of t).from) (send_next limit a (sender_of t)) (length out) t.place (answer_at t k out out' (Ok None) p)));
+        never_unfit = λ out out' p. never_spent limit a (sender_of t) q.so.left q.goes n (unfit_only (spent t.last.0 (sender_of t).from) (send_next limit a (sender_of t)) (length out) t.place (answer_at t k out out' (Err Refusal.RulesBroken) p));
+        never_short = λ out out' room p. too_long out room (short_only (spent t.last.0 (sender_of t).from) (send_next limit a (sender_of t)) (length out) t.place (answer_at t k out out' (Err Refusal.NoRoom) p));
       }
     where
-      ended : (out out' : List ℕ) (r : Sent) → SendsWhole limit shape w b t out out' r → send_next limit a (sender_of t) ≡ none → (r ≡ Sent.Done) × (out' ≡ out)
+      ended : (out out' : List ℕ) (r : Answer) → SendsWhole limit shape w b t out out' r → send_next limit a (sender_of t) ≡ none → (r ≡ Ok None) × (out' ≡ out)
       ended out out' r p x =
           let z = at_rest limit a (sender_of t) x in
           (is_finished r (rw (z, x) at (answer_at t k out out' r p)), rw (z, x) at (area_at t k out out' r p))
@@ -264,7 +263,7 @@ module _ (limit : ℕ) (shape : Shape) (w b : List ℕ) (a : Session) (h e last 
 
   -- from what `begin` answers, over areas of u64 and u8 that keep the rules and hold the session a at place i
   pub whole_given : (i : ℕ) (s t : Sending) (fs : List (List ℕ)) → Small (2 ^ 64) w → Small 256 b → stored_at shape w b i ≡ some a
-      → start_of (Begun.Ready s) ≡ start_from limit (stored_at shape w b i) i h e last → SendCalls limit shape w b s fs t → SentWhole limit shape w b a h e last fs t
+      → start_of (Ok s) ≡ start_from limit (stored_at shape w b i) i h e last → SendCalls limit shape w b s fs t → SentWhole limit shape w b a h e last fs t
   whole_given i s t fs hw hb k r g =
       let ok : Holdable shape.bytes shape.messages a = stored_holdable shape w b i a hw hb k in
       let st : Beginning i s = begun i s (r ∙ ap (λ (o : Option Session). start_from limit o i h e last) k) in

@@ -1,7 +1,9 @@
 -- Sending a session of a store whole, one frame a call: what the code's state, answers and lent area are. Assumes nothing.
-use Rattle.std.specs.Prelude.{◌≡◌, ℕ, ◌+◌, ◌*◌, ◌≤◌, Bool, false, cond, List, [], ◌∷◌, ◌++◌, map, length, take, ltb, leb}
+use Rattle.std.specs.Prelude.{◌≡◌, ℕ, ◌+◌, ◌*◌, ◌≤◌, Bool, false, cond, None, Some, Result, Ok, Err, List, [], ◌∷◌, ◌++◌, map, length, take, ltb, leb}
+use Rattle.std.specs.Prelude as answer
 use Rattle.std.proofs.Math.Option.{Option, none, some}
-use Rattle.base_flags.specs.Flag.{is_set, byte}
+use Rattle.base_refusals.specs.Numbers.{number_of}
+use Rattle.base_refusals.specs.declared.Refusal as why
 use Rattle.model_frame.specs.Refusal
 use Rattle.model_frame.specs.Bytes.{write}
 use Rattle.model_frame.specs.Frame.{Frame}
@@ -12,30 +14,13 @@ use Rattle.model_session.specs.Whole.{whole_frames}
 use Rattle.model_standby.specs.Store.{session_at}
 use Rattle.store_areas.specs.declared.Shape.{Shape}
 use Rattle.store_areas.specs.Areas.{allowed, places_of}
-use Rattle.frame_fields.specs.declared.CommitNumber.{CommitNumber}
-use Rattle.active_batch.specs.Batch.{resume_from}
+use Rattle.active_batch.specs.Batch.{number_in}
 use Rattle.active.specs.declared.Sending.{Sending}
-use Rattle.active.specs.declared.Begun.{Begun}
 use Rattle.active.specs.declared.Sent.{Sent}
 
--- the model's sender: none is left to send where the state is done, whatever number it goes on from
+-- the model's sender
 abbrev pub sender_of : Sending → Sender
-sender_of s = record { handle = s.handle; epoch = s.epoch.0; last = s.last.0; from = resume_from s.from (is_set s.done) }
-
--- the state by which a sender is handed on: past the last frame there is no number to go on from, and it is done
-abbrev pub from_word : Option ℕ → ℕ
-from_word none = 0
-from_word (some n) = n
-
-abbrev pub done_byte : Option ℕ → ℕ
-done_byte none = 1
-done_byte (some n) = 0
-
-abbrev pub sending_for : ℕ → Sender → Sending
-sending_for i s = record { place = i; handle = s.handle; epoch = record { 0 = s.epoch }; last = record { 0 = s.last }; from = from_word s.from; done = done_byte s.from }
-
-abbrev pub handed_on : Sending → CommitNumber → ℕ → Bool → Sending
-handed_on s last from done = record { place = s.place; handle = s.handle; epoch = s.epoch; last = last; from = cond done 0 from; done = byte done }
+sender_of s = record { handle = s.handle; epoch = s.epoch.0; last = s.last.0; from = number_in s.from }
 
 -- the session at a place; none, which is 25, where the areas break the rules or the place holds no session
 unfoldable pub stored_at : Shape → List ℕ → List ℕ → ℕ → Option Session
@@ -48,19 +33,17 @@ pub data SendStart : Type 0 where
   refused : ℕ → SendStart
   ready : ℕ → Sender → SendStart
 
-abbrev pub start_of : Begun → SendStart
-start_of (Begun.Ready s) = ready s.place (sender_of s)
-start_of Begun.CommitNumbersExhausted = refused Refusal.numbers_past
-start_of Begun.InvalidAreas = refused Refusal.rules_broken
+abbrev pub start_of : Result Sending why.Refusal → SendStart
+start_of (Ok s) = ready s.place (sender_of s)
+start_of (Err e) = refused (number_of e)
 
 unfoldable pub start_from : ℕ → Option Session → ℕ → ℕ → ℕ → ℕ → SendStart
 start_from limit none i h e last = refused Refusal.rules_broken
 start_from limit (some a) i h e last = cond (cannot_send limit a (new_sender h e last)) (refused Refusal.numbers_past) (ready i (new_sender h e last))
 
 -- THE PROMISE OF BEGINNING: the store is only read
-pub record Begins (limit : ℕ) (shape : Shape) (w b : List ℕ) (i h e last : ℕ) (r : Begun) : Type 0 where
+pub record Begins (limit : ℕ) (shape : Shape) (w b : List ℕ) (i h e last : ℕ) (r : Result Sending why.Refusal) : Type 0 where
   pub start : start_of r ≡ start_from limit (stored_at shape w b i) i h e last
-  pub state : {s : Sending} → r ≡ Begun.Ready s → s ≡ sending_for s.place (sender_of s)
 
 -- ---- one call
 
@@ -70,11 +53,13 @@ pub data SendStep : Type 0 where
   gives : ℕ → ℕ → Sender → SendStep
   finished : SendStep
 
-abbrev pub step_of : Sent → SendStep
-step_of (Sent.Frame len s) = gives len s.place (sender_of s)
-step_of Sent.Done = finished
-step_of Sent.TooShort = refused Refusal.no_room
-step_of Sent.InvalidAreas = refused Refusal.rules_broken
+abbrev pub Answer : Type 0
+Answer = Result (answer.Option Sent) why.Refusal
+
+abbrev pub step_of : Answer → SendStep
+step_of (Ok (Some s)) = gives s.len s.next.place (sender_of s.next)
+step_of (Ok None) = finished
+step_of (Err e) = refused (number_of e)
 
 -- a frame is still to be sent, and its commit number would pass 2^64 - 1: no operation leaves such a state
 abbrev pub spent : ℕ → Option ℕ → Bool
@@ -100,16 +85,15 @@ area_from limit none s out = out
 area_from limit (some a) s out = cond (spent s.last s.from) out (filled_by (send_next limit a s) out)
 
 -- THE PROMISE OF A CALL: the store is only read
-pub record SendsWhole (limit : ℕ) (shape : Shape) (w b : List ℕ) (s : Sending) (out out' : List ℕ) (r : Sent) : Type 0 where
+pub record SendsWhole (limit : ℕ) (shape : Shape) (w b : List ℕ) (s : Sending) (out out' : List ℕ) (r : Answer) : Type 0 where
   pub answer : step_of r ≡ step_from limit (stored_at shape w b s.place) s.place (sender_of s) (length out)
   pub area : out' ≡ area_from limit (stored_at shape w b s.place) (sender_of s) out
-  pub state : {len : ℕ} {t : Sending} → r ≡ Sent.Frame len t → t ≡ sending_for t.place (sender_of t)
 
 -- calls, one after the other, over one store: the frames that they gave, as bytes, and the state that the last one left
 pub data SendCalls (limit : ℕ) (shape : Shape) (w b : List ℕ) : Sending → List (List ℕ) → Sending → Type 0 where
   nothing : {s : Sending} → SendCalls limit shape w b s [] s
-  too_short : {s t : Sending} {fs : List (List ℕ)} {out out' : List ℕ} → SendsWhole limit shape w b s out out' Sent.TooShort → SendCalls limit shape w b s fs t → SendCalls limit shape w b s fs t
-  frame : {s s' t : Sending} {fs : List (List ℕ)} {out out' : List ℕ} {len : ℕ} → SendsWhole limit shape w b s out out' (Sent.Frame len s') → SendCalls limit shape w b s' fs t
+  too_short : {s t : Sending} {fs : List (List ℕ)} {out out' : List ℕ} → SendsWhole limit shape w b s out out' (Err why.Refusal.NoRoom) → SendCalls limit shape w b s fs t → SendCalls limit shape w b s fs t
+  frame : {s s' t : Sending} {fs : List (List ℕ)} {out out' : List ℕ} {len : ℕ} → SendsWhole limit shape w b s out out' (Ok (Some (record { len = len; next = s' }))) → SendCalls limit shape w b s' fs t
       → SendCalls limit shape w b s (take len out' ∷ fs) t
 
 -- the frames given so far are these, as bytes, and those still to come are `left`
@@ -124,7 +108,7 @@ pub record Sofar (frames : List Frame) (fs : List (List ℕ)) : Type 0 where
 -- never in an area of C + 22 × M + 156 bytes.
 pub record SentWhole (limit : ℕ) (shape : Shape) (w b : List ℕ) (a : Session) (h e last : ℕ) (fs : List (List ℕ)) (t : Sending) : Type 0 where
   pub so : Sofar (whole_frames limit h e last a) fs
-  pub at_end : (out out' : List ℕ) (r : Sent) → so.left ≡ [] → SendsWhole limit shape w b t out out' r → (r ≡ Sent.Done) × (out' ≡ out)
-  pub then_all : (out out' : List ℕ) → SendsWhole limit shape w b t out out' Sent.Done → fs ≡ map encode (whole_frames limit h e last a)
-  pub never_unfit : (out out' : List ℕ) → SendsWhole limit shape w b t out out' Sent.InvalidAreas → ⊥
-  pub never_short : (out out' : List ℕ) → shape.bytes + 22 * shape.messages + 156 ≤ length out → SendsWhole limit shape w b t out out' Sent.TooShort → ⊥
+  pub at_end : (out out' : List ℕ) (r : Answer) → so.left ≡ [] → SendsWhole limit shape w b t out out' r → (r ≡ Ok None) × (out' ≡ out)
+  pub then_all : (out out' : List ℕ) → SendsWhole limit shape w b t out out' (Ok None) → fs ≡ map encode (whole_frames limit h e last a)
+  pub never_unfit : (out out' : List ℕ) → SendsWhole limit shape w b t out out' (Err why.Refusal.RulesBroken) → ⊥
+  pub never_short : (out out' : List ℕ) → shape.bytes + 22 * shape.messages + 156 ≤ length out → SendsWhole limit shape w b t out out' (Err why.Refusal.NoRoom) → ⊥

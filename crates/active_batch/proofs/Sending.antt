@@ -21,15 +21,21 @@ use Rattle.active_messages.proofs.Counting.{count_is}
 use Rattle.active_messages.proofs.Cutting.{numbered_all}
 use Rattle.active_header.specs.declared.Header.{Header}
 use Rattle.active_batch.specs.declared.Plan.{Plan}
-use Rattle.active_batch.specs.declared.BatchWritten.TheVariants.{Batch, TooShort}
+use Rattle.base_refusals.specs.declared.Refusal.{Refusal}
+use Rattle.std.specs.Bool.{then_some}
+use Rattle.std.specs.Prelude.{Option, Ok, Err, not}
 use Rattle.active_header.specs.Ends.{Heads}
-use Rattle.active_batch.specs.Batch.{session_with, planned_changes, Planned, part_is, frame_from, resume_from, WroteBatch}
+use Rattle.active_batch.specs.Batch.{session_with, planned_changes, Planned, part_is, frame_from, resume_from, number_in, WroteBatch}
 use Rattle.active_batch.proofs.Planning.{cut_planned}
 use Rattle.active_batch.proofs.Framing.{frame_length}
 
 part_is_lem : (n : ℕ) (last : Bool) → sent_part (resume_from n last) ≡ part_is last
 part_is_lem n true = refl
 part_is_lem n false = refl
+
+goes_on_is : (last : Bool) (n : ℕ) → number_in (then_some (not last) n) ≡ resume_from n last
+goes_on_is true n = refl
+goes_on_is false n = refl
 
 -- a text as it is lent
 module _ (a n : ℕ) (b : List ℕ) where
@@ -95,12 +101,12 @@ module _ (limit C M : ℕ) (w b : List ℕ) (lb : length b ≡ 224 + C) (hd : He
     long : length (encode (frame_from limit (session_of C M w b) h e n from)) ≡ 34 + p.size
     long = ap (λ (f : Frame). length (encode f)) frame_is ∙ frame_length h e n (part_is p.last) changes (q.spans stamp marks stamp_length marks_length)
 
-    pub sent : (out out' : List ℕ) → 34 + p.size ≤ length out → out' ≡ write out 0 (encode (batch h e n (part_is p.last) changes []))
-        → WroteBatch limit (session_of C M w b) h e n from out out' (Batch (34 + p.size) p.resume_from p.last)
-    sent out out' k v = (sym long, k, v ∙ ap (λ (f : Frame). write out 0 (encode f)) (sym frame_is), ap (λ (c : Cut). c.goes_on) cut_at)
+    pub sent : (out out' : List ℕ) (o : Option ℕ) → 34 + p.size ≤ length out → o ≡ then_some (not p.last) p.resume_from → out' ≡ write out 0 (encode (batch h e n (part_is p.last) changes []))
+        → WroteBatch limit (session_of C M w b) h e n from out out' (Ok (record { len = 34 + p.size; resume_from = o }))
+    sent out out' o k g v = (sym long, k, v ∙ ap (λ (f : Frame). write out 0 (encode f)) (sym frame_is), ap (λ (c : Cut). c.goes_on) cut_at ∙ sym (ap number_in g ∙ goes_on_is p.last p.resume_from))
 
-    pub too_short : (out : List ℕ) → length out < 34 + p.size → WroteBatch limit (session_of C M w b) h e n from out out TooShort
-    too_short out k = (omega (arith, long), refl)
+    pub too_short : (out : List ℕ) → length out < 34 + p.size → WroteBatch limit (session_of C M w b) h e n from out out (Err Refusal.NoRoom)
+    too_short out k = (refl, omega (arith, long), refl)
 
 -- ---- how many batches there are
 

@@ -1,8 +1,9 @@
 -- One batch of a whole sending by its parts, and the frame that carries it. Assumes nothing.
-use Rattle.std.specs.Prelude.{◌≡◌, Bool, true, false, cond, List, [], ◌++◌, ℕ, suc, ◌+◌, ◌≤◌, max, length}
-use Rattle.std.proofs.Math.Option.{Option, none, some}
-use Rattle.model_frame.specs.FrameKind
-use Rattle.model_frame.specs.Bytes.{bytes_of, write}
+use Rattle.std.specs.Prelude.{◌≡◌, Bool, true, false, cond, Option, None, Some, Result, Ok, Err, List, [], ◌++◌, ℕ, suc, ◌≤◌, max, length}
+use Rattle.std.proofs.Math.Option as maybe
+use Rattle.std.proofs.Math.Option.{none, some}
+use Rattle.base_refusals.specs.declared.Refusal.{Refusal}
+use Rattle.model_frame.specs.Bytes.{write}
 use Rattle.model_frame.specs.Frame.{Change, Part, whole, last_whole, Frame, batch}
 use Rattle.model_frame.specs.Parse.{is_empty}
 use Rattle.model_frame.specs.Writing.{encode}
@@ -16,7 +17,6 @@ use Rattle.active_header.specs.declared.Header.{Header}
 use Rattle.active_header.specs.Ends.{Spans, opening_of, ending_of}
 use Rattle.active_batch.specs.declared.Plan.{Plan}
 use Rattle.active_batch.specs.declared.BatchWritten.{BatchWritten}
-use Rattle.active_batch.specs.declared.BatchWritten.TheVariants.{Batch, TooShort}
 
 -- the session with this header, these texts and these messages
 abbrev pub session_with : Header → List ℕ → List ℕ → List Msg → Session
@@ -53,12 +53,17 @@ part_is false = whole
 unfoldable pub frame_from : ℕ → Session → ℕ → ℕ → ℕ → ℕ → Frame
 frame_from limit a h e n from = batch h e n (sent_part (cut_from limit a from).goes_on) (cut_from limit a from).changes []
 
--- where sending goes on, in the code's terms
-abbrev pub resume_from : ℕ → Bool → Option ℕ
+-- the number that sending goes on from, if it is not done
+abbrev pub resume_from : ℕ → Bool → maybe.Option ℕ
 resume_from from done = cond done none (some from)
 
+-- a number that may be missing, as the model has it
+abbrev pub number_in : Option ℕ → maybe.Option ℕ
+number_in None = none
+number_in (Some n) = some n
+
 -- what is answered, and what stands in the lent area: the frame at its start and the rest as it was, or 9 and all as it was
-abbrev pub WroteBatch : ℕ → Session → ℕ → ℕ → ℕ → ℕ → List ℕ → List ℕ → BatchWritten → Type 0
-WroteBatch limit a h e n from out out' (Batch len next done) =
-    (len ≡ length (encode (frame_from limit a h e n from))) × (len ≤ length out) × (out' ≡ write out 0 (encode (frame_from limit a h e n from))) × ((cut_from limit a from).goes_on ≡ resume_from next done)
-WroteBatch limit a h e n from out out' TooShort = (suc (length out) ≤ length (encode (frame_from limit a h e n from))) × (out' ≡ out)
+abbrev pub WroteBatch : ℕ → Session → ℕ → ℕ → ℕ → ℕ → List ℕ → List ℕ → Result BatchWritten Refusal → Type 0
+WroteBatch limit a h e n from out out' (Ok b) =
+    (b.len ≡ length (encode (frame_from limit a h e n from))) × (b.len ≤ length out) × (out' ≡ write out 0 (encode (frame_from limit a h e n from))) × ((cut_from limit a from).goes_on ≡ number_in b.resume_from)
+WroteBatch limit a h e n from out out' (Err r) = (r ≡ Refusal.NoRoom) × (suc (length out) ≤ length (encode (frame_from limit a h e n from))) × (out' ≡ out)

@@ -15,6 +15,8 @@ ghost use Rattle.store_place.specs.Place.{session_of};
 ghost use Rattle.active_batch.specs.Batch.{planned_changes, Planned, part_is, WroteBatch};
 
 use active_header::Header;
+use base_bytes::LittleEndian;
+use base_refusals::Refusal;
 use frame_fields::{CommitNumber, Epoch, Part};
 use store_place::{byte, word};
 
@@ -48,22 +50,14 @@ pub struct SendBatch {
     pub commit_no: CommitNumber,
 }
 
-// A frame's length, the number that sending goes on from, and whether this was the last; or an area that is too short.
+// A frame's length, and the number that sending goes on from; none after the last.
 #[derive(Clone, Copy)]
-pub enum BatchWritten {
-    Batch(usize, u64, bool),
-    TooShort,
+pub struct BatchWritten {
+    pub len: usize,
+    pub resume_from: Option<u64>,
 }
 
 // ---- the batch
-
-// The number from which the messages are sent.
-fn first_number(from: u64) -> u64
-    ensures is { result ≡ max from 1 }
-    ensures low { 1 ≤ result }
-{
-    if from < 1 { 1 } else { from }
-}
 
 // Plans the batch that begins at a number, in the log of a session with this header.
 fn plan_from(header: Header, words: &[u64], bytes: &[u8], max: usize, from: u64, limit: u64) -> Plan
@@ -75,7 +69,7 @@ fn plan_from(header: Header, words: &[u64], bytes: &[u8], max: usize, from: u64,
     requires marks_bound { header.marks ≤ 64 }
     ensures { Planned limit (length bytes.now) max header words.now bytes.now from result }
 {
-    let next = first_number(from);
+    let next = from.max(1);
     let c = store_log::messages_from(words, bytes, max, header.next_outgoing, next);
     let cut = active_messages::measure(
         words,
@@ -167,7 +161,7 @@ fn put_frame(
 {
     let epoch = batch.epoch;
     let commit_no = batch.commit_no;
-    let at = base_bytes::put_u32(out, 0, (30 + plan.size) as u32);
+    let at = ((30 + plan.size) as u32).put_at(out, 0);
     let at = frame_encode::put_head(
         out,
         at,
@@ -178,11 +172,16 @@ fn put_frame(
         plan.count as u32,
     );
     let pos = put_changes(header, stamp, marks, words, bytes, batch, plan, out, at);
-    base_bytes::put_u32(out, pos, 0);
+    0u32.put_at(out, pos);
 }
 
-// Writes the frame of the batch that begins at a number, of the session at a place.
-pub fn send(words: &[u64], bytes: &[u8], batch: SendBatch, out: &mut [u8]) -> BatchWritten
+// Writes the frame of the batch that begins at a number, of the session at a place; an area that is too short is refused.
+pub fn send(
+    words: &[u64],
+    bytes: &[u8],
+    batch: SendBatch,
+    out: &mut [u8],
+) -> Result<BatchWritten, Refusal>
     requires max_in_bounds { 16 + 2 * batch.max ≤ length words.now }
     requires max_bound { batch.max ≤ 65536 }
     requires in_bounds { 224 ≤ length bytes.now }
@@ -197,12 +196,15 @@ pub fn send(words: &[u64], bytes: &[u8], batch: SendBatch, out: &mut [u8]) -> Ba
     let p = plan_from(h, log, ring, batch.max, batch.from, batch.limit);
     let len = 34 + p.size;
     if out.len() < len {
-        return BatchWritten::TooShort;
+        return Err(Refusal::NoRoom);
     }
     let stamp = &bytes[byte::STAMP..stamp_end];
     let marks = &bytes[byte::MARKS..marks_end];
     put_frame(h, stamp, marks, log, ring, batch, p, out);
-    BatchWritten::Batch(len, p.resume_from, p.last)
+    Ok(BatchWritten {
+        len,
+        resume_from: (!p.last).then_some(p.resume_from),
+    })
 }
 
 // How many batches send the session at a place.

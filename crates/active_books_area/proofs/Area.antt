@@ -1,56 +1,157 @@
 -- What a search through an area's words says of its book, and what each store makes of it. Assumes nothing.
 use mathlib.Core.Path.{◌≡◌, refl, sym, ap, ◌∙◌}
-use mathlib.Core.Bool.{Bool, true, false, cond}
+use mathlib.Core.Bool.{Bool, true, false, not, cond, ◌||◌, true≢false}
 use mathlib.Core.List.{List, [], ◌∷◌, ◌++◌}
-use mathlib.Core.Option.{Option, none, some}
+use mathlib.Core.Option.{none, some}
+use mathlib.Core.Option as maybe
 use Prim.Native.Nat.{ℕ, zero, suc, ◌+◌, ◌-◌, ◌<◌, ◌≤◌}
 use native.Mathlib.Omega.{arith}
 use native.Mathlib.Numerals.{add-one}
-use lib.ListN.{length, get_or, set, drop, length-set}
-use lib.Seq.{get_or-set_same, get_or-set_other, drop-set-lt}
+use lib.ListN.{length, get_or, set, take, drop, length-set}
+use lib.Seq.{get_or-set_same, get_or-set_other, drop-set-lt, drop-cons}
+use Rattle.std.specs.Prelude.{Option, Some, None, is_some, unwrap_or, position}
+use Rattle.std.specs.List.{position_or_len, list_any}
+use Rattle.std.proofs.Common.{length-append}
+use Rattle.std.proofs.lemmas.List.Quantifiers.{position-Some}
+use Rattle.std.proofs.lemmas.List.Sums.{fails_before_first}
+use Rattle.base_refusals.specs.declared.Refusal.{Refusal}
 use lib.Dec.{eqb, ltb}
-use borrow.Author.Tests.{lt-ltb, le-ltb, eq-eqb, ne_eqb}
-use Rattle.model_active.specs.CatchUp.{Entry, Book, new, member, joining, sessions, opens_of, compared_of, on_entry, compared_with, is, less, met_now, behind_now, catching_now, acknowledged_now, says}
-use Rattle.active_books_area.specs.Words.{list_from, word_at, entry_at, flagged, book_of}
-use Rattle.active_books_area.specs.Parts.{Ruled, FirstAt, At, Makes, Appends, Meets}
+use borrow.Author.Tests.{lt-ltb, le-ltb, ltb-false, eq-eqb, ne_eqb, eqb-true, eqb-false}
+use Rattle.model_active.specs.CatchUp.{Entry, Book, new, member, meeting, joining, sessions, opens_of, compared_of, on_entry, compared_with, is, less, met_now, behind_now, catching_now, acknowledged_now}
+use Rattle.active_books_area.specs.Words.{list_from, word_at, entry_at, flagged, option_of, book_of}
+use Rattle.active_books_area.specs.Parts.{Ruled, Makes, At, FindsMet, Appends, MeetsAt, IsFull}
 use Rattle.active_books_area.proofs.Laws.{First, member_first, entry_first, changed, length_from, from_alike, from_snoc, sessions_from}
 
 -- ---- what a search says
 
-pub first_of_lem : (w : List ℕ) (base n s r : ℕ) → FirstAt w base n s r → First s r (word_at w base) 0 n
-first_of_lem w base n s r f = record { low = omega arith; high = omega (arith, f.upto); before = λ k a b. f.before k b; there = λ h. f.there (omega arith) }
+plus-zero : (n : ℕ) → n + 0 ≡ n
+plus-zero n = omega arith
+
+-- the words of a run are those from its first on
+run_of : (w : List ℕ) (base n : ℕ) → base + n ≤ length w → take n (drop base w) ≡ list_from (word_at w base) 0 n
+run_of w base n fits = ap (λ (k : ℕ). take n (drop k w)) (sym (plus-zero base)) ∙ go 0 n (omega arith)
+  where
+    go : (i m : ℕ) → base + (i + m) ≤ length w → take m (drop (base + i) w) ≡ list_from (word_at w base) i m
+    go i zero h = refl
+    go i (suc m) h =
+        let less : base + i < length w = omega arith in
+        let next : suc (base + i) ≡ base + suc i = omega arith in
+        ap (take (suc m)) (drop-cons w (base + i) 0 less) ∙ ap (λ (l : List ℕ). word_at w base i ∷ l) (ap (λ (k : ℕ). take m (drop k w)) next ∙ go (suc i) m (omega arith))
+
+eqb_turned : (s x : ℕ) → eqb s x ≡ eqb x s
+eqb_turned s x = go (eqb s x) refl
+  where
+    go : (b : Bool) → eqb s x ≡ b → b ≡ eqb x s
+    go true e = sym (eq-eqb x s (sym (eqb-true s x e)))
+    go false e = sym (ne_eqb x s (λ q. eqb-false s x e (sym q)))
+
+pub contained : (s : ℕ) (l : List ℕ) → list_any (λ x. eqb x s) l ≡ member s l
+contained s [] = refl
+contained s (x ∷ l) = λ j. eqb_turned x s j || contained s l j
+
+first_of_lem : (w : List ℕ) (s i : ℕ) → At w s i → First s i (word_at w 6) 0 (get_or w 0 0)
+first_of_lem w s i a = record { low = omega arith; high = omega (arith, a.inside); before = λ k x y. a.before k y; there = λ h. a.there }
 
 zero_plus : (n : ℕ) → 0 + n ≡ n
 zero_plus n = omega arith
 
-pub found_in : (w : List ℕ) (base n s r : ℕ) → FirstAt w base n s r → member s (list_from (word_at w base) 0 n) ≡ ltb r n
-found_in w base n s r f = member_first s r (word_at w base) 0 n (first_of_lem w base n s r f) ∙ ap (ltb r) (zero_plus n)
+none_passes : (p : ℕ → Bool) (l : List ℕ) → position p l ≡ None → length l ≤ position_or_len p l
+none_passes p l e = go (ltb (position_or_len p l) (length l)) refl
+  where
+    go : (b : Bool) → ltb (position_or_len p l) (length l) ≡ b → length l ≤ position_or_len p l
+    go true t = let no : Some (position_or_len p l) ≡ None = sym (ap (λ (b : Bool). cond b (Some (position_or_len p l)) None) t) ∙ e in absurd (let z : ⊥ = cc in z)
+    go false t = ltb-false (position_or_len p l) (length l) t
 
-pub found_met : (w : List ℕ) (s r : ℕ) → FirstAt w 6 (get_or w 0 0) s r → member s (sessions (book_of w).met) ≡ ltb r (get_or w 0 0)
+-- a search of the run of those met
+-- the runs of those met and of those behind
+pub met_run : (w : List ℕ) (m : ℕ) → Ruled w → m ≡ get_or w 0 0 → take m (drop 6 w) ≡ sessions (book_of w).met
 unfolding book_of
-found_met w s r f = ap (member s) (sessions_from (entry_at w) 0 (get_or w 0 0)) ∙ found_in w 6 (get_or w 0 0) s r f
+met_run w m ruled q = ap (λ (n : ℕ). take n (drop 6 w)) q ∙ run_of w 6 (get_or w 0 0) (omega (arith, ruled.long, ruled.few)) ∙ sym (sessions_from (entry_at w) 0 (get_or w 0 0))
 
-pub found_behind : (w : List ℕ) (s r : ℕ) → FirstAt w 1030 (get_or w 1 0) s r → member s (book_of w).behind ≡ ltb r (get_or w 1 0)
+pub behind_run : (w : List ℕ) (m : ℕ) → Ruled w → m ≡ get_or w 1 0 → take m (drop 1030 w) ≡ (book_of w).behind
 unfolding book_of
-found_behind w s r f = found_in w 1030 (get_or w 1 0) s r f
+behind_run w m ruled q = ap (λ (n : ℕ). take n (drop 1030 w)) q ∙ run_of w 1030 (get_or w 1 0) (omega (arith, ruled.long, ruled.few_behind))
+
+met_is : (w : List ℕ) → sessions (book_of w).met ≡ list_from (word_at w 6) 0 (get_or w 0 0)
+unfolding book_of
+met_is w = sessions_from (entry_at w) 0 (get_or w 0 0)
+
+at_from : (f : ℕ → ℕ) (i n k : ℕ) → k < n → get_or (list_from f i n) k 0 ≡ f (i + k)
+at_from f i zero k h = absurd (let z : ⊥ = omega arith in z)
+at_from f i (suc n) zero h = let z : i ≡ i + 0 = omega arith in ap f z
+at_from f i (suc n) (suc k) h = let z : suc i + k ≡ i + suc k = omega arith in at_from f (suc i) n k (omega arith) ∙ ap f z
+
+pub met_at : (w : List ℕ) (k : ℕ) → k < get_or w 0 0 → get_or (sessions (book_of w).met) k 0 ≡ word_at w 6 k
+met_at w k h = let z : 0 + k ≡ k = omega arith in ap (λ (l : List ℕ). get_or l k 0) (met_is w) ∙ at_from (word_at w 6) 0 (get_or w 0 0) k h ∙ ap (word_at w 6) z
+
+pub met_size : (w : List ℕ) → length (sessions (book_of w).met) ≡ get_or w 0 0
+met_size w = ap length (met_is w) ∙ length_from (word_at w 6) 0 (get_or w 0 0)
+
+-- a search of those met
+pub found_met : (w : List ℕ) (s : ℕ) (r : Option ℕ) → Ruled w → r ≡ position (λ x. eqb x s) (sessions (book_of w).met) → FindsMet w s r
+found_met w s (Some i) ruled e =
+    let p = position-Some (λ x. eqb x s) (sessions (book_of w).met) i 0 (sym e) in
+    let inside : i < get_or w 0 0 = omega (arith, met_size w, p.0) in
+    record {
+      ruled = ruled;
+      before = λ k h q. true≢false (sym (eq-eqb _ s (met_at w k (omega arith) ∙ q)) ∙ p.2 k h);
+      there = sym (met_at w i inside) ∙ eqb-true _ s p.1;
+      inside = inside;
+    }
+found_met w s None ruled e = λ k h q.
+    let fails = fails_before_first (λ x. eqb x s) (sessions (book_of w).met) k 0 (omega (arith, met_size w, none_passes (λ x. eqb x s) (sessions (book_of w).met) (sym e))) in
+    true≢false (sym (eq-eqb _ s (met_at w k h ∙ q)) ∙ fails)
 
 in_it : (w : List ℕ) (s i : ℕ) → At w s i → ltb i (0 + get_or w 0 0) ≡ true
 in_it w s i a = ap (ltb i) (zero_plus (get_or w 0 0)) ∙ lt-ltb i (get_or w 0 0) a.inside
 
+pub there_met : (w : List ℕ) (s i : ℕ) → At w s i → member s (sessions (book_of w).met) ≡ true
+there_met w s i a = ap (member s) (met_is w) ∙ member_first s i (word_at w 6) 0 (get_or w 0 0) (first_of_lem w s i a) ∙ in_it w s i a
+
+none_first : (w : List ℕ) (s : ℕ) → FindsMet w s None → First s (get_or w 0 0) (word_at w 6) 0 (get_or w 0 0)
+none_first w s f = record { low = omega arith; high = omega arith; before = λ k x y. f k y; there = λ h. absurd (let z : ⊥ = omega arith in z) }
+
+not_in_it : (n : ℕ) → ltb n (0 + n) ≡ false
+not_in_it n = le-ltb n (0 + n) (omega arith)
+
+pub none_met : (w : List ℕ) (s : ℕ) → FindsMet w s None → member s (sessions (book_of w).met) ≡ false
+none_met w s f = ap (member s) (met_is w) ∙ member_first s (get_or w 0 0) (word_at w 6) 0 (get_or w 0 0) (none_first w s f) ∙ not_in_it (get_or w 0 0)
+
+-- a session that wasn't met is closed, and was compared with none
+pub absent : (w : List ℕ) (s : ℕ) → FindsMet w s None → (opens_of s (book_of w).met ≡ 0) × (compared_of s (book_of w).met ≡ none)
+unfolding book_of
+absent w s f =
+    let n = get_or w 0 0 in
+    let e = entry_first s n (entry_at w) 0 n (none_first w s f) in (
+      e.0 ∙ ap (λ (b : Bool). cond b (word_at w 262 n) 0) (not_in_it n),
+      e.1 ∙ ap (λ (b : Bool). cond b (flagged (word_at w 518 n) (word_at w 774 n)) none) (not_in_it n),
+    )
+
+pub positive : (n : ℕ) → (n ≡ 0 → ⊥) → 0 < n
+positive n ne = omega arith
+
 pub opens_at : (w : List ℕ) (s i : ℕ) → At w s i → opens_of s (book_of w).met ≡ word_at w 262 i
 unfolding book_of
-opens_at w s i a = (entry_first s i (entry_at w) 0 (get_or w 0 0) (first_of_lem w 6 (get_or w 0 0) s i a.found)).0 ∙ ap (λ (b : Bool). cond b (word_at w 262 i) 0) (in_it w s i a)
+opens_at w s i a = (entry_first s i (entry_at w) 0 (get_or w 0 0) (first_of_lem w s i a)).0 ∙ ap (λ (b : Bool). cond b (word_at w 262 i) 0) (in_it w s i a)
 
 pub compared_at : (w : List ℕ) (s i : ℕ) → At w s i → compared_of s (book_of w).met ≡ flagged (word_at w 518 i) (word_at w 774 i)
 unfolding book_of
-compared_at w s i a = (entry_first s i (entry_at w) 0 (get_or w 0 0) (first_of_lem w 6 (get_or w 0 0) s i a.found)).1 ∙ ap (λ (b : Bool). cond b (flagged (word_at w 518 i) (word_at w 774 i)) none) (in_it w s i a)
+compared_at w s i a = (entry_first s i (entry_at w) 0 (get_or w 0 0) (first_of_lem w s i a)).1 ∙ ap (λ (b : Bool). cond b (flagged (word_at w 518 i) (word_at w 774 i)) none) (in_it w s i a)
 
 -- a word that is 0, and one that isn't
 pub no_flag : (f n i : ℕ) → f ≡ 0 → false ≡ is (flagged f n) i
 no_flag f n i e = ap (λ (b : Bool). is (cond b none (some n)) i) (sym (eq-eqb f 0 e))
 
+pub flag_0 : (f n i : ℕ) → f ≡ 0 → not (eqb f 0) ≡ is (flagged f n) i
+flag_0 f n i e = ap not (eq-eqb f 0 e) ∙ no_flag f n i e
+
 pub flag_is : (f n i : ℕ) → (f ≡ 0 → ⊥) → eqb n i ≡ is (flagged f n) i
 flag_is f n i ne = ap (λ (b : Bool). is (cond b none (some n)) i) (sym (ne_eqb f 0 ne))
+
+-- an option in two words
+pub flagged_option : (o : Option ℕ) (f n : ℕ) → f ≡ cond (is_some o) 1 0 → n ≡ unwrap_or o 0 → flagged f n ≡ option_of o
+flagged_option (Some s) f n e q = ap (λ (b : Bool). cond b none (some n)) (ne_eqb f 0 (λ z. omega arith)) ∙ ap some q
+flagged_option None f n e q = ap (λ (b : Bool). cond b none (some n)) (eq-eqb f 0 e)
 
 pub length_met : (w : List ℕ) → length (book_of w).met ≡ get_or w 0 0
 unfolding book_of
@@ -85,7 +186,7 @@ on_entry_lem w w' s i h a o singles others at behind =
     let n0 : 0 < 6 = omega arith in
     let n1 : 1 < 6 = omega arith in
     let m = ap (list_from (entry_at w') 0) (singles 0 n0)
-    ∙ changed s i (entry_at w) (entry_at w') h 0 (get_or w 0 0) (first_of_lem w 6 (get_or w 0 0) s i a.found) (omega (arith, a.inside)) at (λ k x y ne. others k (omega (arith, r.few)) ne) in
+    ∙ changed s i (entry_at w) (entry_at w') h 0 (get_or w 0 0) (first_of_lem w s i a) (omega (arith, a.inside)) at (λ k x y ne. others k (omega (arith, r.few)) ne) in
     let b = ap (list_from (word_at w' 1030) 0) (singles 1 n1) ∙ from_alike (word_at w' 1030) (word_at w 1030) 0 (get_or w 1 0) (λ k x y. behind k (omega (arith, r.few_behind))) in
     let x2 = singles 2 (omega arith) in
     let x3 = singles 3 (omega arith) in
@@ -187,19 +288,20 @@ pushed w s m r is_m less =
     (ap (list_from (word_at w₂ 1030) 0) count ∙ from_snoc (word_at w₂ 1030) 0 m ∙ (λ j. front j ++ (last j ∷ [])))
 
 -- the words 2 and 3, or 4 and 5
-pub catching_set : (w : List ℕ) (f s : ℕ) → Ruled w → Makes w (set (set w 2 f) 3 s) (catching_now (book_of w) (flagged f s))
+pub catching_set : (w : List ℕ) (f s : ℕ) (o : Option ℕ) → Ruled w → f ≡ cond (is_some o) 1 0 → s ≡ unwrap_or o 0 → Makes w (set (set w 2 f) 3 s) (catching_now (book_of w) (option_of o))
 unfolding book_of
-catching_set w f s r =
+catching_set w f s o r ef es =
     let w₁ = set w 2 f in
     let w₂ = set w₁ 3 s in
     let in₁ : 2 < length w = omega (arith, r.long) in
     let in₂ : 3 < length w₁ = omega (arith, r.long, length-set w 2 f) in
-    let o = outside_on w w₁ w₂ (set_outside w 2 f (omega arith)) (set_outside w₁ 3 s (omega arith)) in
+    let out = outside_on w w₁ w₂ (set_outside w 2 f (omega arith)) (set_outside w₁ 3 s (omega arith)) in
     let same : (k : ℕ) → (k ≡ 2 → ⊥) → (k ≡ 3 → ⊥) → get_or w₂ k 0 ≡ get_or w k 0 = other2 w 2 f 3 s in
     let x0 = same 0 (λ q. omega arith) (λ q. omega arith) in
     let x1 = same 1 (λ q. omega arith) (λ q. omega arith) in
     let x2 = other w₁ 3 s 2 (λ q. omega arith) ∙ get_or-set_same w 2 f 0 in₁ in
     let x3 = get_or-set_same w₁ 3 s 0 in₂ in
+    let xc : flagged (get_or w₂ 2 0) (get_or w₂ 3 0) ≡ option_of o = (λ j. flagged (x2 j) (x3 j)) ∙ flagged_option o f s ef es in
     let x4 = same 4 (λ q. omega arith) (λ q. omega arith) in
     let x5 = same 5 (λ q. omega arith) (λ q. omega arith) in
     let m = ap (list_from (entry_at w₂) 0) x0 ∙ from_alike (entry_at w₂) (entry_at w) 0 (get_or w 0 0) (λ k x y.
@@ -210,9 +312,9 @@ catching_set w f s r =
     λ j. record { session = a1 j; opens = a2 j; compared = flagged (a3 j) (a4 j) }) in
     let b = ap (list_from (word_at w₂ 1030) 0) x1 ∙ from_alike (word_at w₂ 1030) (word_at w 1030) 0 (get_or w 1 0) (λ k x y. same (1030 + k) (λ q. omega arith) (λ q. omega arith)) in
     record {
-      book = λ j. record { met = m j; behind = b j; catching = flagged (x2 j) (x3 j); acknowledged = flagged (x4 j) (x5 j) };
-      ruled = record { long = omega (arith, r.long, o.size); few = omega (arith, r.few, x0); few_behind = omega (arith, r.few_behind, x1) };
-      rest = o.rest;
+      book = λ j. record { met = m j; behind = b j; catching = xc j; acknowledged = flagged (x4 j) (x5 j) };
+      ruled = record { long = omega (arith, r.long, out.size); few = omega (arith, r.few, x0); few_behind = omega (arith, r.few_behind, x1) };
+      rest = out.rest;
     }
 
 pub acknowledged_set : (w : List ℕ) (i : ℕ) → Ruled w → Makes w (set (set w 4 1) 5 i) (acknowledged_now (book_of w) (some i))
@@ -297,80 +399,55 @@ appended w s n r is-n less =
     }
 
 -- who is met already, and who is appended
-pub met_already : (w : List ℕ) (s i : ℕ) → Ruled w → FirstAt w 6 (get_or w 0 0) s i → i < get_or w 0 0 → Meets w w s i
-met_already w s i r f less =
-    let there : member s (sessions (book_of w).met) ≡ true = found_met w s i f ∙ lt-ltb i (get_or w 0 0) less in
-    record {
-      makes = record { book = ap (λ (b : Bool). met_now (book_of w) (cond b (book_of w).met ((book_of w).met ++ (new s ∷ [])))) (sym there); ruled = r; rest = refl };
-      at = record { ruled = r; found = f; inside = less };
-    }
+pub met_already : (w : List ℕ) (s i : ℕ) → At w s i → MeetsAt w w s i
+met_already w s i a = record {
+  makes = record { book = ap (λ (b : Bool). met_now (book_of w) (cond b (book_of w).met ((book_of w).met ++ (new s ∷ [])))) (sym (there_met w s i a)); ruled = a.ruled; rest = refl };
+  at = a;
+}
 
-pub met_now_lem : (w w' : List ℕ) (s i : ℕ) → FirstAt w 6 (get_or w 0 0) s i → get_or w 0 0 ≤ i → Appends w w' s → Meets w w' s i
-met_now_lem w w' s i f end a =
-    let here : i ≡ get_or w 0 0 = omega (arith, f.upto) in
-    let not_there : member s (sessions (book_of w).met) ≡ false = found_met w s i f ∙ le-ltb i (get_or w 0 0) end in
-    record {
-      makes = record {
-        book = a.makes.book ∙ ap (λ (b : Bool). met_now (book_of w) (cond b (book_of w).met ((book_of w).met ++ (new s ∷ [])))) (sym not_there);
-        ruled = a.makes.ruled;
-        rest = a.makes.rest;
-      };
-      at = record {
-        ruled = a.makes.ruled;
-        found = record {
-          upto = omega (arith, a.count);
-          before = λ k h e. f.before k h (sym (a.before k (omega arith)) ∙ e);
-          there = λ _. ap (word_at w' 6) here ∙ a.last;
-        };
-        inside = omega (arith, a.count);
-      };
-    }
+pub met_last : (w w' : List ℕ) (s : ℕ) → FindsMet w s None → Appends w w' s → MeetsAt w w' s (get_or w 0 0)
+met_last w w' s f a = record {
+  makes = record {
+    book = a.makes.book ∙ ap (λ (b : Bool). met_now (book_of w) (cond b (book_of w).met ((book_of w).met ++ (new s ∷ [])))) (sym (none_met w s f));
+    ruled = a.makes.ruled;
+    rest = a.makes.rest;
+  };
+  at = record {
+    ruled = a.makes.ruled;
+    before = λ k h e. f k h (sym (a.before k h) ∙ e);
+    there = a.last;
+    inside = omega (arith, a.count);
+  };
+}
+
+-- the 257th
+pub met_full : (w : List ℕ) (s : ℕ) (e : Refusal) → FindsMet w s None → 256 ≤ get_or w 0 0 → e ≡ Refusal.TooManySessions → IsFull w w s e
+met_full w s e f full q =
+    let grown : meeting (s ∷ []) (book_of w).met ≡ (book_of w).met ++ (new s ∷ []) = ap (λ (b : Bool). cond b (book_of w).met ((book_of w).met ++ (new s ∷ []))) (none_met w s f) in
+    record { refusal = q; unchanged = refl; full = omega (arith, ap length grown, length-append (book_of w).met (new s ∷ []), length_met w) }
 
 -- ---- one session behind
 
-pub joined_already : (w : List ℕ) (s j : ℕ) → Ruled w → ltb j (get_or w 1 0) ≡ member s (book_of w).behind → j < get_or w 1 0 → Makes w w (behind_now (book_of w) (joining s (book_of w).behind))
-joined_already w s j r e less =
-    record { book = ap (λ (b : Bool). behind_now (book_of w) (cond b (book_of w).behind ((book_of w).behind ++ (s ∷ [])))) (sym (lt-ltb j (get_or w 1 0) less) ∙ e); ruled = r; rest = refl }
+pub joined_already : (w : List ℕ) (s : ℕ) → Ruled w → true ≡ member s (book_of w).behind → Makes w w (behind_now (book_of w) (joining s (book_of w).behind))
+joined_already w s r e = record { book = ap (λ (b : Bool). behind_now (book_of w) (cond b (book_of w).behind ((book_of w).behind ++ (s ∷ [])))) e; ruled = r; rest = refl }
 
-pub joined_now : (w w' : List ℕ) (s j : ℕ) → ltb j (get_or w 1 0) ≡ member s (book_of w).behind → get_or w 1 0 ≤ j → Makes w w' (behind_now (book_of w) ((book_of w).behind ++ (s ∷ [])))
+pub joined_now : (w w' : List ℕ) (s : ℕ) → false ≡ member s (book_of w).behind → Makes w w' (behind_now (book_of w) ((book_of w).behind ++ (s ∷ [])))
     → Makes w w' (behind_now (book_of w) (joining s (book_of w).behind))
-joined_now w w' s j e end m = record {
-  book = m.book ∙ ap (λ (b : Bool). behind_now (book_of w) (cond b (book_of w).behind ((book_of w).behind ++ (s ∷ [])))) (sym (le-ltb j (get_or w 1 0) end) ∙ e);
+joined_now w w' s e m = record {
+  book = m.book ∙ ap (λ (b : Bool). behind_now (book_of w) (cond b (book_of w).behind ((book_of w).behind ++ (s ∷ [])))) e;
   ruled = m.ruled;
   rest = m.rest;
 }
 
-pub none_catching : (w : List ℕ) (s : ℕ) → get_or w 2 0 ≡ 0 → false ≡ is (book_of w).catching s
-unfolding book_of
-none_catching w s e = no_flag (get_or w 2 0) (get_or w 3 0) s e
-
-pub catching_is : (w : List ℕ) (s : ℕ) → (get_or w 2 0 ≡ 0 → ⊥) → eqb (get_or w 3 0) s ≡ is (book_of w).catching s
-unfolding book_of
-catching_is w s ne = flag_is (get_or w 2 0) (get_or w 3 0) s ne
-
-pub not_compared : (w : List ℕ) (s i c : ℕ) → At w s i → word_at w 518 i ≡ 0 → false ≡ is (compared_of s (book_of w).met) c
-not_compared w s i c a e = no_flag (word_at w 518 i) (word_at w 774 i) c e ∙ ap (λ (o : Option ℕ). is o c) (sym (compared_at w s i a))
+pub not_compared : (w : List ℕ) (s i c : ℕ) → At w s i → word_at w 518 i ≡ 0 → not (eqb (word_at w 518 i) 0) ≡ is (compared_of s (book_of w).met) c
+not_compared w s i c a e = flag_0 (word_at w 518 i) (word_at w 774 i) c e ∙ ap (λ (o : maybe.Option ℕ). is o c) (sym (compared_at w s i a))
 
 pub compared_is : (w : List ℕ) (s i c : ℕ) → At w s i → (word_at w 518 i ≡ 0 → ⊥) → eqb (word_at w 774 i) c ≡ is (compared_of s (book_of w).met) c
-compared_is w s i c a ne = flag_is (word_at w 518 i) (word_at w 774 i) c ne ∙ ap (λ (o : Option ℕ). is o c) (sym (compared_at w s i a))
+compared_is w s i c a ne = flag_is (word_at w 518 i) (word_at w 774 i) c ne ∙ ap (λ (o : maybe.Option ℕ). is o c) (sym (compared_at w s i a))
 
-pub some_less : (o : ℕ) → 0 < o → o - 1 ≡ less o
-some_less zero h = absurd (let no : ⊥ = omega arith in no)
-some_less (suc n) h = omega arith
-
-pub none_less : (o : ℕ) → o ≤ 0 → 0 ≡ less o
-none_less zero h = refl
-none_less (suc n) h = absurd (let no : ⊥ = omega arith in no)
-
--- ---- Checked
-
-pub none_acknowledged : (w : List ℕ) (i : ℕ) → get_or w 4 0 ≡ 0 → false ≡ is (book_of w).acknowledged i
-unfolding book_of
-none_acknowledged w i e = no_flag (get_or w 4 0) (get_or w 5 0) i e
-
-pub acknowledged_is : (w : List ℕ) (i : ℕ) → (get_or w 4 0 ≡ 0 → ⊥) → eqb (get_or w 5 0) i ≡ is (book_of w).acknowledged i
-unfolding book_of
-acknowledged_is w i ne = flag_is (get_or w 4 0) (get_or w 5 0) i ne
+pub less_is : (o : ℕ) → o - 1 ≡ less o
+less_is zero = omega arith
+less_is (suc n) = omega arith
 
 -- ---- one part after another
 

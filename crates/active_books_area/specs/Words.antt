@@ -1,7 +1,8 @@
 -- What the words of a book's area say. Word 0 is how many sessions were met, word 1 how many are behind; words 2 and 3 are the one being caught up, words 4 and 5 the
 -- last incarnation whose Checked was acknowledged (a word that is 0 for none, then the number). Then there are 256 words each: the sessions met, how many logs are
 -- open on each, whether each was compared (0: no), with which incarnation; and last, the sessions behind. Assumes nothing.
-use Rattle.std.specs.Prelude.{Bool, cond, ◌&&◌, List, [], ◌∷◌, ℕ, zero, suc, ◌+◌, length, get_or, eqb, leb}
+use Rattle.std.specs.Prelude.{Some, None, Bool, cond, ◌&&◌, List, [], ◌∷◌, ℕ, zero, suc, ◌+◌, length, get_or, eqb, leb}
+use Rattle.std.specs.Prelude as std
 use Rattle.std.proofs.Math.Option.{Option, none, some}
 use Rattle.model_active.specs.CatchUp.{Entry, Book}
 
@@ -12,6 +13,11 @@ list_from f i (suc n) = f i ∷ list_from f (suc i) n
 
 abbrev pub flagged : ℕ → ℕ → Option ℕ
 flagged f n = cond (eqb f 0) none (some n)
+
+-- the code's option as the definitions have it
+abbrev pub option_of : std.Option ℕ → Option ℕ
+option_of None = none
+option_of (Some n) = some n
 
 -- the word at k of those from `base` on
 abbrev pub word_at : List ℕ → ℕ → ℕ → ℕ

@@ -1,10 +1,12 @@
 // The words of an active's books (active.rs, State) in the area that the caller lends: whether they keep the rules, and where a session stands among them; specs/Words.antt says what each word is.
 #![tactic(auto)]
 
-ghost use Rattle.std.specs.Prelude.{◌≡◌, ◌&&◌, leb, ◌+◌, ◌≤◌, length};
-ghost use Rattle.model_active.specs.CatchUp.{is, catching_now};
-ghost use Rattle.active_books_area.specs.Words.{flagged, book_of, allowed};
-ghost use Rattle.active_books_area.specs.Parts.{Ruled, FirstAt, Makes};
+ghost use Rattle.std.specs.Prelude.{◌≡◌, ◌==◌, position};
+ghost use Rattle.model_active.specs.CatchUp.{is, member, sessions, catching_now};
+ghost use Rattle.active_books_area.specs.Words.{option_of, book_of};
+ghost use Rattle.active_books_area.specs.Parts.{Ruled, Checks, FindsMet, Makes};
+
+use base_refusals::Refusal;
 
 // Where each word stands: the two counts, the one being caught up, the last incarnation acknowledged, then five runs of 256 words.
 pub mod word {
@@ -31,71 +33,81 @@ pub mod word {
     pub const BEHIND: usize = 1030;
 }
 
-// The two counts of an area: how many sessions were met, and how many are behind.
-#[derive(Clone, Copy)]
-pub struct Books {
-    pub met: usize,
-    pub behind: usize,
-}
+// The most sessions met.
+pub const MAX_SESSIONS: usize = 256;
 
-impl Books {
-    // The most sessions met.
-    pub const MAX_SESSIONS: usize = 256;
-    // The words of the lent area.
-    pub const WORDS: usize = 1286;
+// The words of the lent area.
+pub const WORDS: usize = 1286;
 
-    // Both counts are at most 256.
-    pub fn is_allowed(self) -> bool
-        ensures { result ≡ (leb self.met 256 && leb self.behind 256) }
-    {
-        (self.met <= Books::MAX_SESSIONS) & (self.behind <= Books::MAX_SESSIONS)
-    }
-}
-
-// Whether an area is long enough and its counts are at most 256.
-pub fn is_allowed(words: &[u64]) -> bool
-    ensures { result ≡ allowed words.now }
+// An area that is too short, or with a count above 256, is refused.
+pub fn check_rules(words: &[u64]) -> Result<(), Refusal>
+    ensures { Checks words.now result }
 {
-    if words.len() < Books::WORDS {
-        return false;
+    if words.len() < WORDS {
+        return Err(Refusal::RulesBroken);
     }
     let met = words[word::MET_COUNT] as usize;
     let behind = words[word::BEHIND_COUNT] as usize;
-    Books { met, behind }.is_allowed()
+    if (met <= MAX_SESSIONS) & (behind <= MAX_SESSIONS) {
+        Ok(())
+    } else {
+        Err(Refusal::RulesBroken)
+    }
 }
 
-// Where a session stands first among n words from `base` on: n if it doesn't.
-pub fn find_in(words: &[u64], base: usize, n: usize, session: u64) -> usize
-    requires { base + n ≤ length words.now }
-    ensures { FirstAt words.now base n session result }
+// The sessions met, in that order.
+pub fn met(words: &[u64]) -> &[u64]
+    requires { Ruled words.now }
+    ensures { result.now ≡ sessions (book_of words.now).met }
 {
-    let mut i: usize = 0;
-    while i < n {
-        if words[base + i] == session {
-            return i;
-        }
-        i += 1;
-    }
-    i
+    let n = words[word::MET_COUNT] as usize;
+    &words[word::SESSIONS..word::SESSIONS + n]
+}
+
+// The sessions behind, in the order they fell behind.
+pub fn behind(words: &[u64]) -> &[u64]
+    requires { Ruled words.now }
+    ensures { result.now ≡ (book_of words.now).behind }
+{
+    let m = words[word::BEHIND_COUNT] as usize;
+    &words[word::BEHIND..word::BEHIND + m]
+}
+
+fn find_in(run: &[u64], session: u64) -> Option<usize>
+    ensures { result ≡ position (λ x. x == session) run.now }
+{
+    run.iter().position(|x| *x == session)
+}
+
+// Where a session stands among those met.
+pub fn find_met(words: &[u64], session: u64) -> Option<usize>
+    requires { Ruled words.now }
+    ensures { FindsMet words.now session result }
+{
+    find_in(met(words), session)
+}
+
+pub fn is_behind(words: &[u64], session: u64) -> bool
+    requires { Ruled words.now }
+    ensures { result ≡ member session (book_of words.now).behind }
+{
+    behind(words).contains(&session)
 }
 
 pub fn is_catching(words: &[u64], session: u64) -> bool
     requires { Ruled words.now }
     ensures { result ≡ is (book_of words.now).catching session }
 {
-    if words[word::IS_CATCHING] == 0 {
-        return false;
-    }
-    words[word::CATCHING] == session
+    words[word::IS_CATCHING] != 0 && words[word::CATCHING] == session
 }
 
-// A session is being caught up, or with a flag of 0 none is.
-pub fn set_catching(words: &mut [u64], flag: u64, session: u64)
+// A session is being caught up, or none is.
+pub fn set_catching(words: &mut [u64], session: Option<u64>)
     requires { Ruled words.old }
-    ensures { Makes words.old words.new (catching_now (book_of words.old) (flagged flag session)) }
+    ensures { Makes words.old words.new (catching_now (book_of words.old) (option_of session)) }
 {
-    words[word::IS_CATCHING] = flag;
-    words[word::CATCHING] = session;
+    words[word::IS_CATCHING] = u64::from(session.is_some());
+    words[word::CATCHING] = session.unwrap_or(0);
 }
 
 // Whether an incarnation is the last whose Checked was acknowledged.
@@ -103,8 +115,5 @@ pub fn is_acknowledged(words: &[u64], incarnation: u64) -> bool
     requires { Ruled words.now }
     ensures { result ≡ is (book_of words.now).acknowledged incarnation }
 {
-    if words[word::IS_ACKNOWLEDGED] == 0 {
-        return false;
-    }
-    words[word::ACKNOWLEDGED] == incarnation
+    words[word::IS_ACKNOWLEDGED] != 0 && words[word::ACKNOWLEDGED] == incarnation
 }

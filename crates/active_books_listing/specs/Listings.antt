@@ -1,22 +1,26 @@
 -- What the parts that meet a listing promise. Assumes nothing.
-use Rattle.std.specs.Prelude.{◌≡◌, Bool, true, false, List, ◌++◌, ℕ, ◌+◌, ◌≤◌, ◌<◌, length, get_or}
-use Rattle.std.proofs.Math.Option.{none}
-use Rattle.model_active.specs.CatchUp.{Entry, new, met_now, meeting}
-use Rattle.active_books_area.specs.Words.{book_of, list_from, word_at}
+use Rattle.std.specs.Prelude.{◌≡◌, List, ◌++◌, ℕ, ◌+◌, ◌≤◌, ◌<◌, length, get_or, map, Result, Ok, Err}
+use Rattle.arrayvec.specs.ArrayVec.{ArrayVec}
+use Rattle.base_refusals.specs.declared.Refusal.{Refusal}
+use Rattle.model_active.specs.CatchUp.{new, met_now, meeting}
+use Rattle.active_books_area.specs.Words.{book_of}
 use Rattle.active_books_area.specs.Parts.{Makes}
 
--- the entry of the session at k of those that are new
-abbrev pub new_at : List ℕ → ℕ → Entry
-new_at a k = new (word_at a 0 k)
+-- these of the listing are new, and there is room for them
+pub record AreNew (w l fresh : List ℕ) : Type 0 where
+  pub meets : meeting l (book_of w).met ≡ (book_of w).met ++ map new fresh
+  pub fit : get_or w 0 0 + length fresh ≤ 256
 
--- r of the listing are new, and stand at the start of a; 257 if there is no room for all
-pub record Gathers (w l a : List ℕ) (r : ℕ) : Type 0 where
-  pub fresh : r ≤ 256 → meeting l (book_of w).met ≡ (book_of w).met ++ list_from (new_at a) 0 r
-  pub fit : r ≤ 256 → get_or w 0 0 + r ≤ 256
-  pub full : 256 < r → 256 < length (meeting l (book_of w).met)
+-- there is no room for all of the listing
+pub record NoRoom (w l : List ℕ) (e : Refusal) : Type 0 where
+  pub refusal : e ≡ Refusal.TooManySessions
+  pub full : 256 < length (meeting l (book_of w).met)
+
+abbrev pub Gathers : List ℕ → List ℕ → Result (ArrayVec ℕ) Refusal → Type 0
+Gathers w l (Ok fresh) = AreNew w l fresh.items
+Gathers w l (Err e) = NoRoom w l e
 
 -- all of the listing are met, or there is no room and no word changed
-pub record Lists (w w' l : List ℕ) (r : Bool) : Type 0 where
-  pub all : r ≡ true → Makes w w' (met_now (book_of w) (meeting l (book_of w).met))
-  pub none : r ≡ false → w' ≡ w
-  pub full : r ≡ false → 256 < length (meeting l (book_of w).met)
+abbrev pub Lists : List ℕ → List ℕ → List ℕ → Result (Unit {0}) Refusal → Type 0
+Lists w w' l (Ok _) = Makes w w' (met_now (book_of w) (meeting l (book_of w).met))
+Lists w w' l (Err e) = NoRoom w l e × (w' ≡ w)

@@ -1,80 +1,67 @@
 // A listing's sessions are met: all of them, or none where there is no room for all.
 #![tactic(auto)]
 
-ghost use Rattle.std.specs.Prelude.{◌≡◌, ◌||◌, ◌++◌, ◌+◌, ◌≤◌, length, get_or};
-ghost use Rattle.model_active.specs.CatchUp.{member, sessions, met_now};
-ghost use Rattle.active_books_area.specs.Words.{list_from, word_at, book_of};
+ghost use Rattle.std.specs.Prelude.{◌≡◌, ◌||◌, ◌++◌, ◌+◌, ◌≤◌, length, get_or, map};
+ghost use Rattle.model_active.specs.CatchUp.{member, new, sessions, met_now};
+ghost use Rattle.active_books_area.specs.Words.{book_of};
 ghost use Rattle.active_books_area.specs.Parts.{Ruled, Makes};
-ghost use Rattle.active_books_listing.specs.Listings.{new_at, Gathers, Lists};
+ghost use Rattle.active_books_listing.specs.Listings.{Gathers, Lists};
 
-use active_books_area::{Books, find_in, word};
+use active_books_area::{MAX_SESSIONS, met, word};
 use active_books_session::append;
+use arrayvec::ArrayVec;
+use base_refusals::Refusal;
 
-// Whether a session was met, or is among the first k of those that are new. The entry at the listing's own place is tried first: in the order met it is the one.
-pub fn is_known(words: &[u64], fresh: &[u64], k: usize, session: u64, place: usize) -> bool
-    requires ruled { Ruled words.now }
-    requires k_in_bounds { k ≤ length fresh.now }
-    ensures { result ≡ (member session (sessions (book_of words.now).met) || member session (list_from (word_at fresh.now 0) 0 k)) }
+// Whether a session is listed. The entry at its own place is tried first: in the order met it is the one.
+pub fn is_listed(listing: &[u64], session: u64, place: usize) -> bool
+    ensures { result ≡ member session listing.now }
 {
-    let n = words[word::MET_COUNT] as usize;
-    if place < n {
-        if words[word::SESSIONS + place] == session {
-            return true;
-        }
-    }
-    if find_in(words, word::SESSIONS, n, session) < n {
-        return true;
-    }
-    find_in(fresh, 0, k, session) < k
+    listing.get(place) == Some(&session) || listing.contains(&session)
 }
 
-// The sessions of a listing that are new, each once, and how many: 257 if with them more than 256 were met.
-pub fn gather(words: &[u64], listing: &[u64], fresh: &mut [u64]) -> usize
-    requires ruled { Ruled words.now }
-    requires in_bounds { 256 ≤ length fresh.old }
-    ensures { Gathers words.now listing.now fresh.new result }
+// Whether a session was met, or is among those that are new.
+fn is_known(words: &[u64], fresh: &[u64], session: u64, place: usize) -> bool
+    requires { Ruled words.now }
+    ensures { result ≡ (member session (sessions (book_of words.now).met) || member session fresh.now) }
+{
+    is_listed(met(words), session, place) || fresh.contains(&session)
+}
+
+// The sessions of a listing that are new, each once. There is no room for a 257th.
+pub fn gather(words: &[u64], listing: &[u64]) -> Result<ArrayVec<u64, 256>, Refusal>
+    requires { Ruled words.now }
+    ensures { Gathers words.now listing.now result }
 {
     let n = words[word::MET_COUNT] as usize;
-    let mut k: usize = 0;
-    let mut j: usize = 0;
-    while j < listing.len() {
-        let s = listing[j];
-        if !is_known(words, fresh, k, s, j) {
-            if Books::MAX_SESSIONS <= n + k {
-                return 257;
+    let mut fresh = ArrayVec::new();
+    for (place, session) in listing.iter().enumerate() {
+        if !is_known(words, &fresh, *session, place) {
+            if MAX_SESSIONS <= n + fresh.len() {
+                return Err(Refusal::TooManySessions);
             }
-            fresh[k] = s;
-            k += 1;
+            fresh.push(*session);
         }
-        j += 1;
     }
-    k
+    Ok(fresh)
 }
 
-// The first k of those that are new are met.
-pub fn append_all(words: &mut [u64], fresh: &[u64], k: usize)
+// Those that are new are met.
+pub fn append_all(words: &mut [u64], fresh: &[u64])
     requires ruled { Ruled words.old }
-    requires k_in_bounds { k ≤ length fresh.now }
-    requires k_bound { get_or words.old 0 0 + k ≤ 256 }
-    ensures { Makes words.old words.new (met_now (book_of words.old) ((book_of words.old).met ++ list_from (new_at fresh.now) 0 k)) }
+    requires room { get_or words.old 0 0 + length fresh.now ≤ 256 }
+    ensures { Makes words.old words.new (met_now (book_of words.old) ((book_of words.old).met ++ map new fresh.now)) }
 {
-    let mut i: usize = 0;
-    while i < k {
-        append(words, fresh[i]);
-        i += 1;
+    for session in fresh {
+        append(words, *session);
     }
 }
 
-// All of a listing are met, or none and it says so.
-pub fn meet_listed(words: &mut [u64], listing: &[u64]) -> bool
+// All of a listing are met, or none.
+pub fn meet_listed(words: &mut [u64], listing: &[u64]) -> Result<(), Refusal>
     requires { Ruled words.old }
     ensures { Lists words.old words.new listing.now result }
 {
-    let mut fresh = [0u64; 256];
-    let k = gather(words, listing, &mut fresh);
-    if Books::MAX_SESSIONS < k {
-        return false;
-    }
-    append_all(words, &fresh, k);
-    true
+    let fresh = gather(words, listing)?;
+    append_all(words, &fresh);
+    Ok(())
 }

@@ -1,25 +1,24 @@
 // Who is next to be caught up, and whether Checked is told: what the books say of a listing.
 #![tactic(auto)]
 
-ghost use Rattle.std.specs.Prelude.{◌≡◌, not, ◌&&◌};
-ghost use Rattle.model_active.specs.CatchUp.{is_open, all_with, told_checked, is, compared_of};
+ghost use Rattle.std.specs.Prelude.{◌≡◌, find};
+ghost use Rattle.std.specs.List.{list_all};
+ghost use Rattle.model_active.specs.CatchUp.{is_open, told_checked, is, compared_of};
 ghost use Rattle.active_books_area.specs.Words.{book_of};
 ghost use Rattle.active_books_area.specs.Parts.{Ruled};
-ghost use Rattle.active_books_next.specs.Firsts.{FirstBehind, FirstListed};
+ghost use Rattle.active_books_next.specs.Firsts.{is_closed, is_wanting};
 
-use active_books_area::{find_in, is_acknowledged, word};
+use active_books_area::{behind, find_met, is_acknowledged, word};
 use active_books_session::is_compared;
 
 pub fn is_open(words: &[u64], session: u64) -> bool
     requires { Ruled words.now }
     ensures { result ≡ is_open session (book_of words.now).met }
 {
-    let n = words[word::MET_COUNT] as usize;
-    let i = find_in(words, word::SESSIONS, n, session);
-    if i < n {
-        return 0 < words[word::OPENS + i];
+    match find_met(words, session) {
+        Some(i) => 0 < words[word::OPENS + i],
+        None => false,
     }
-    false
 }
 
 // Whether a session was last compared with an incarnation.
@@ -27,74 +26,59 @@ pub fn was_compared(words: &[u64], session: u64, incarnation: u64) -> bool
     requires { Ruled words.now }
     ensures { result ≡ is (compared_of session (book_of words.now).met) incarnation }
 {
-    let n = words[word::MET_COUNT] as usize;
-    let i = find_in(words, word::SESSIONS, n, session);
-    if i < n {
-        return is_compared(words, session, i, incarnation);
+    match find_met(words, session) {
+        Some(i) => is_compared(words, session, i, incarnation),
+        None => false,
     }
-    false
 }
 
 // Whether a session is closed, and not compared with an incarnation.
 pub fn is_wanting(words: &[u64], session: u64, incarnation: u64) -> bool
     requires { Ruled words.now }
-    ensures { result ≡ (not (is_open session (book_of words.now).met) && not (is (compared_of session (book_of words.now).met) incarnation)) }
+    ensures { result ≡ is_wanting words.now incarnation session }
 {
-    let n = words[word::MET_COUNT] as usize;
-    let i = find_in(words, word::SESSIONS, n, session);
-    if n <= i {
-        return true;
+    match find_met(words, session) {
+        Some(i) => words[word::OPENS + i] == 0 && !is_compared(words, session, i, incarnation),
+        None => true,
     }
-    if 0 < words[word::OPENS + i] {
-        return false;
-    }
-    !is_compared(words, session, i, incarnation)
 }
 
-// Where the first of those behind stands that is closed: their number if none is.
-pub fn first_behind(words: &[u64]) -> usize
+fn first_closed(words: &[u64], run: &[u64]) -> Option<u64>
     requires { Ruled words.now }
-    ensures { FirstBehind words.now result }
+    ensures { result ≡ find (is_closed words.now) run.now }
 {
-    let m = words[word::BEHIND_COUNT] as usize;
-    let mut j: usize = 0;
-    while j < m {
-        if !is_open(words, words[word::BEHIND + j]) {
-            return j;
-        }
-        j += 1;
-    }
-    j
+    run.iter()
+        .copied()
+        .find(|session| !is_open(words, *session))
 }
 
-// Where the first of a listing stands that is closed and not compared with an incarnation: the listing's length if none is.
-pub fn first_listed(words: &[u64], listing: &[u64], incarnation: u64) -> usize
+// The first of those behind that is closed.
+pub fn first_behind(words: &[u64]) -> Option<u64>
     requires { Ruled words.now }
-    ensures { FirstListed words.now listing.now incarnation result }
+    ensures { result ≡ find (is_closed words.now) (book_of words.now).behind }
 {
-    let mut j: usize = 0;
-    while j < listing.len() {
-        if is_wanting(words, listing[j], incarnation) {
-            return j;
-        }
-        j += 1;
-    }
-    j
+    first_closed(words, behind(words))
+}
+
+// The first of a listing that is closed and not compared with an incarnation.
+pub fn first_listed(words: &[u64], listing: &[u64], incarnation: u64) -> Option<u64>
+    requires { Ruled words.now }
+    ensures { result ≡ find (is_wanting words.now incarnation) listing.now }
+{
+    listing
+        .iter()
+        .copied()
+        .find(|session| is_wanting(words, *session, incarnation))
 }
 
 // Whether all of a listing were compared with an incarnation.
 pub fn all_with(words: &[u64], listing: &[u64], incarnation: u64) -> bool
     requires { Ruled words.now }
-    ensures { result ≡ all_with (book_of words.now).met incarnation listing.now }
+    ensures { result ≡ list_all (λ s. is (compared_of s (book_of words.now).met) incarnation) listing.now }
 {
-    let mut j: usize = 0;
-    while j < listing.len() {
-        if !was_compared(words, listing[j], incarnation) {
-            return false;
-        }
-        j += 1;
-    }
-    true
+    listing
+        .iter()
+        .all(|session| was_compared(words, *session, incarnation))
 }
 
 // Whether a standby is told Checked, all listed being met.
@@ -105,8 +89,5 @@ pub fn is_told(words: &[u64], listing: &[u64], incarnation: u64) -> bool
     if is_acknowledged(words, incarnation) {
         return false;
     }
-    if 0 < words[word::BEHIND_COUNT] {
-        return false;
-    }
-    all_with(words, listing, incarnation)
+    words[word::BEHIND_COUNT] == 0 && all_with(words, listing, incarnation)
 }

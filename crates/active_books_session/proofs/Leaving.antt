@@ -2,7 +2,7 @@
 use mathlib.Core.Path.{◌≡◌, refl, sym, ap, subst, ◌∙◌}
 use mathlib.Core.Bool.{Bool, true, false, cond}
 use mathlib.Core.List.{List, [], ◌∷◌, ◌++◌}
-use Prim.Native.Nat.{ℕ, zero, suc, ◌+◌, ◌<◌, ◌≤◌}
+use Prim.Native.Nat.{ℕ, ◌+◌, ◌<◌, ◌≤◌}
 use native.Mathlib.Omega.{arith}
 use native.Mathlib.Numerals.{add-one}
 use lib.ListN.{length, get_or, set, drop, length-set}
@@ -11,7 +11,7 @@ use lib.Dec.{eqb}
 use borrow.Author.Tests.{eq-eqb, ne_eqb}
 use Rattle.model_active.specs.CatchUp.{without, behind_now}
 use Rattle.active_books_area.specs.Words.{list_from, word_at, book_of}
-use Rattle.active_books_area.specs.Parts.{Ruled, FirstAt, Makes}
+use Rattle.active_books_area.specs.Parts.{Ruled, Makes}
 use Rattle.active_books_area.proofs.Laws.{from_alike, from_snoc}
 use Rattle.active_books_area.proofs.Area.{on_behind}
 
@@ -26,12 +26,6 @@ without_snoc s y (x ∷ xs) = ap (λ (l : List ℕ). cond (eqb s x) l (x ∷ l))
     go false true = refl
     go false false = refl
 
-none_gone : (s : ℕ) (f : ℕ → ℕ) (i n : ℕ) → ((k : ℕ) → i ≤ k → k < i + n → f k ≡ s → ⊥) → without s (list_from f i n) ≡ list_from f i n
-none_gone s f i zero ne = refl
-none_gone s f i (suc n) ne =
-    ap (λ (b : Bool). cond b (without s (list_from f (suc i) n)) (f i ∷ without s (list_from f (suc i) n))) (ne_eqb s (f i) (λ e. ne i (omega arith) (omega arith) (sym e)))
-    ∙ ap (λ (l : List ℕ). f i ∷ l) (none_gone s f (suc i) n (λ k a b. ne k (omega arith) (omega arith)))
-
 -- of the first j those that stay are the first k now, and those after j are as they were
 pub record Leaving (w₀ : List ℕ) (s m : ℕ) (w : List ℕ) (j k : ℕ) : Type 0 where
   pub size : length w ≡ length w₀
@@ -41,17 +35,6 @@ pub record Leaving (w₀ : List ℕ) (s m : ℕ) (w : List ℕ) (j k : ℕ) : Ty
   pub left : (i : ℕ) → j ≤ i → word_at w 1030 i ≡ word_at w₀ 1030 i
   pub stay : list_from (word_at w 1030) 0 k ≡ without s (list_from (word_at w₀ 1030) 0 j)
   pub rest : drop 1286 w ≡ drop 1286 w₀
-
-pub leaving : (w : List ℕ) (s m r : ℕ) → FirstAt w 1030 m s r → Leaving w s m w r r
-leaving w s m r f = record {
-  size = refl;
-  upto = f.upto;
-  under = omega arith;
-  out = λ i h. refl;
-  left = λ i h. refl;
-  stay = sym (none_gone s (word_at w 1030) 0 r (λ k a b. f.before k (omega arith)));
-  rest = refl;
-}
 
 zero_plus : (n : ℕ) → 0 + n ≡ n
 zero_plus n = omega arith

@@ -1,12 +1,13 @@
 // One session in the books: it is met, counted open or closed, compared, put behind, or taken from those behind.
 #![tactic(auto)]
 
-ghost use Rattle.std.specs.Prelude.{◌≡◌, [], ◌∷◌, ◌++◌, suc, min, ◌<◌, get_or, ltb};
+ghost use Rattle.std.specs.Prelude.{◌≡◌, false, [], ◌∷◌, ◌++◌, suc, min, ◌<◌, get_or};
 ghost use Rattle.model_active.specs.CatchUp.{member, joining, without, less, is, compared_of, on_entry, opened, shut, compared_with, met_now, behind_now};
 ghost use Rattle.active_books_area.specs.Words.{book_of};
-ghost use Rattle.active_books_area.specs.Parts.{Ruled, FirstAt, At, Makes, Appends, Meets};
+ghost use Rattle.active_books_area.specs.Parts.{Ruled, At, Makes, Appends, Meets};
 
-use active_books_area::{find_in, word};
+use active_books_area::{MAX_SESSIONS, find_met, word};
+use base_refusals::Refusal;
 
 // One session more is met: closed, compared with none.
 pub fn append(words: &mut [u64], session: u64)
@@ -21,29 +22,20 @@ pub fn append(words: &mut [u64], session: u64)
     words[word::MET_COUNT] = (n + 1) as u64;
 }
 
-// A session that was searched for, and found at i or not, is met.
-pub fn meet(words: &mut [u64], session: u64, i: usize)
-    requires ruled { Ruled words.old }
-    requires first_at { FirstAt words.old 6 (get_or words.old 0 0) session i }
-    requires i_bound { i < 256 }
-    ensures { Meets words.old words.new session i }
+// A session is met, unless it was: where it stands then. There is no room for a 257th.
+pub fn meet(words: &mut [u64], session: u64) -> Result<usize, Refusal>
+    requires { Ruled words.old }
+    ensures { Meets words.old words.new session result }
 {
-    if (i as u64) < words[word::MET_COUNT] {
-        return;
+    if let Some(i) = find_met(words, session) {
+        return Ok(i);
+    }
+    let n = words[word::MET_COUNT] as usize;
+    if n == MAX_SESSIONS {
+        return Err(Refusal::TooManySessions);
     }
     append(words, session);
-}
-
-pub fn one_more(opens: u64) -> u64
-    ensures { result ≡ min (suc opens) 18446744073709551615 }
-{
-    if opens < u64::MAX { opens + 1 } else { opens }
-}
-
-pub fn one_less(opens: u64) -> u64
-    ensures { result ≡ less opens }
-{
-    if 0 < opens { opens - 1 } else { 0 }
+    Ok(n)
 }
 
 // One log more is open on the session at i.
@@ -51,7 +43,7 @@ pub fn count_open(words: &mut [u64], session: u64, i: usize)
     requires { At words.old session i }
     ensures { Makes words.old words.new (met_now (book_of words.old) (on_entry session opened (book_of words.old).met)) }
 {
-    let opens = one_more(words[word::OPENS + i]);
+    let opens = words[word::OPENS + i].saturating_add(1);
     words[word::OPENS + i] = opens;
 }
 
@@ -60,7 +52,7 @@ pub fn count_closed(words: &mut [u64], session: u64, i: usize)
     requires { At words.old session i }
     ensures { Makes words.old words.new (met_now (book_of words.old) (on_entry session shut (book_of words.old).met)) }
 {
-    let opens = one_less(words[word::OPENS + i]);
+    let opens = words[word::OPENS + i].saturating_sub(1);
     words[word::OPENS + i] = opens;
 }
 
@@ -78,10 +70,7 @@ pub fn is_compared(words: &[u64], session: u64, i: usize, incarnation: u64) -> b
     requires { At words.now session i }
     ensures { result ≡ is (compared_of session (book_of words.now).met) incarnation }
 {
-    if words[word::COMPARED + i] == 0 {
-        return false;
-    }
-    words[word::INCARNATIONS + i] == incarnation
+    words[word::COMPARED + i] != 0 && words[word::INCARNATIONS + i] == incarnation
 }
 
 // One session more is behind.
@@ -95,17 +84,16 @@ pub fn push(words: &mut [u64], session: u64)
     words[word::BEHIND_COUNT] = (m + 1) as u64;
 }
 
-// A session joins those behind, among whom it was searched for, and found at j or not.
-pub fn join(words: &mut [u64], session: u64, j: usize)
+// A session joins those behind, unless it is one of them.
+pub fn join(words: &mut [u64], session: u64, is_behind: bool)
     requires ruled { Ruled words.old }
-    requires words_value { ltb j (get_or words.old 1 0) ≡ member session (book_of words.old).behind }
-    requires j_bound { j < 256 }
+    requires member { is_behind ≡ member session (book_of words.old).behind }
+    requires room { is_behind ≡ false → get_or words.old 1 0 < 256 }
     ensures { Makes words.old words.new (behind_now (book_of words.old) (joining session (book_of words.old).behind)) }
 {
-    if (j as u64) < words[word::BEHIND_COUNT] {
-        return;
+    if !is_behind {
+        push(words, session);
     }
-    push(words, session);
 }
 
 // A session goes from those behind, and those after it move up.
@@ -114,15 +102,13 @@ pub fn leave(words: &mut [u64], session: u64)
     ensures { Makes words.old words.new (behind_now (book_of words.old) (without session (book_of words.old).behind)) }
 {
     let m = words[word::BEHIND_COUNT] as usize;
-    let mut j = find_in(words, word::BEHIND, m, session);
-    let mut k = j;
-    while j < m {
-        let x = words[word::BEHIND + j];
-        if x != session {
-            words[word::BEHIND + k] = x;
+    let mut k: usize = 0;
+    for j in 0..m {
+        let behind = words[word::BEHIND + j];
+        if behind != session {
+            words[word::BEHIND + k] = behind;
             k += 1;
         }
-        j += 1;
     }
     words[word::BEHIND_COUNT] = k as u64;
 }

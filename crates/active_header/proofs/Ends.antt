@@ -1,11 +1,10 @@
 -- What stands before the messages of a whole sending, and after them. Assumes nothing.
-use mathlib.Core.Path.{◌≡◌, refl, sym, ap, ◌∙◌}
+use mathlib.Core.Path.{◌≡◌, refl}
 use mathlib.Core.List.{List, [], ◌∷◌, ◌++◌, append-nil}
-use Prim.Native.Nat.{ℕ, zero, suc, ◌+◌, ◌-◌, ◌≤◌, ◌<◌}
+use Prim.Native.Nat.{ℕ, zero, suc, ◌+◌, ◌≤◌, ◌<◌}
 use native.Mathlib.Omega.{arith}
 use lib.ListN.{length}
-use borrow.Author.Tests.{lt-ltb, le-ltb}
-use Rattle.model_frame.specs.Frame.{Change, reset, set_created_at, set_marks, record_bare}
+use Rattle.model_frame.specs.Frame.{Change, reset, set_created_at, set_marks}
 use Rattle.model_frame.specs.Parse.{run_bytes}
 use Rattle.model_frame.specs.Writing.{blob_bytes, change_bytes}
 use Rattle.model_frame.specs.Sizes.{size_of, sizes}
@@ -15,14 +14,10 @@ use Rattle.model_session.specs.Whole.{skip_to}
 use Rattle.base_laws.specs.Wrote.{Wrote}
 use Rattle.base_laws.proofs.Writes.{wrote_on}
 use Rattle.active_messages.proofs.Putting.{wrote_none}
-use Rattle.active_header.specs.Ends.{Spans, opening_of}
+use Rattle.active_header.specs.Ends.{opening_of}
 
 no : 0 < 0 → ⊥
 no h = omega arith
-
--- changes that are known one by one
-pub spans_are : {cs ds : List Change} {count size : ℕ} → cs ≡ ds → count ≡ length ds → size ≡ sizes ds → Spans cs count size
-spans_are e c s = record { counts = c ∙ ap length (sym e); sums = s ∙ ap sizes (sym e) }
 
 -- ---- before
 
@@ -49,16 +44,6 @@ open_stamped st (suc n) h e = absurd (never h)
     never : suc n ≤ 0 → ⊥
     never e = omega arith
 
-pub open_first : (st : List ℕ) (from at k : ℕ) → from ≤ 0 → at + sizes (opening_of st from) ≤ k → at + 1 ≤ k
-open_first st zero at k h g = omega arith
-open_first st (suc n) at k h g = absurd (never h)
-  where
-    never : suc n ≤ 0 → ⊥
-    never e = omega arith
-
-pub open_room : (st : List ℕ) (from at k : ℕ) {p : ℕ} → from ≤ 0 → (length st ≡ 0 → ⊥) → at + sizes (opening_of st from) ≤ k → p ≡ at + 1 → p + 5 + length st ≤ k
-open_room st from at k h e g q = omega (arith, g, ap sizes (open_stamped st from h e), q)
-
 pub wrote_open_none : (l st : List ℕ) (at from : ℕ) → 0 < from → Wrote l at (run_bytes change_bytes (opening_of st from)) l at
 unfolding run_bytes
 wrote_open_none l st at from h = rw (open_none st from h) (wrote_none l at)
@@ -73,12 +58,6 @@ unfolding run_bytes change_bytes
 wrote_open_stamped st from h e w v = rw (open_stamped st from h e, append-nil (7 ∷ blob_bytes st)) (wrote_on w v)
 
 -- ---- after
-
-pub close_skips : (next n : ℕ) (inc : Change) (marks : List ℕ) → next < n → skip_to next n ++ (inc ∷ set_marks marks ∷ []) ≡ record_bare (n - 1) ∷ inc ∷ set_marks marks ∷ []
-close_skips next n inc marks h = rw (lt-ltb next n h)
-
-pub close_plain : (next n : ℕ) (inc : Change) (marks : List ℕ) → n ≤ next → skip_to next n ++ (inc ∷ set_marks marks ∷ []) ≡ inc ∷ set_marks marks ∷ []
-close_plain next n inc marks h = rw (le-ltb next n h)
 
 pub close_size : (next n : ℕ) (inc : Change) (marks : List ℕ) → sizes (skip_to next n ++ (inc ∷ set_marks marks ∷ [])) ≡ sizes (skip_to next n) + size_of inc + 5 + length marks
 close_size next n inc marks = omega (arith, sizes_append (skip_to next n) (inc ∷ set_marks marks ∷ []))

@@ -11,8 +11,8 @@ ghost use Rattle.store_place.specs.Place.{flight_is};
 ghost use Rattle.active_header.specs.Ends.{Heads, Spans, opening_of, closing_of, ending_of};
 
 use active_messages::put;
+use base_bytes::LittleEndian;
 use frame_op::kind;
-use store_place::Flight;
 
 // What a session has beside its messages: stamp and marks by their lengths.
 #[repr(C)]
@@ -20,7 +20,7 @@ use store_place::Flight;
 pub struct Header {
     pub next_outgoing: u64,
     pub next_incoming: u64,
-    pub in_flight: Flight,
+    pub in_flight: Option<u64>,
     pub stamp: usize,
     pub marks: usize,
 }
@@ -76,7 +76,7 @@ pub fn put_opening(stamp: &[u8], from: u64, out: &mut [u8], at: usize) -> usize
         return at;
     }
     let pos = frame_op::tag(out, at, kind::RESET);
-    if stamp.len() == 0 {
+    if stamp.is_empty() {
         return pos;
     }
     put::put_text(kind::SET_CREATED_AT, stamp, out, pos)
@@ -84,25 +84,25 @@ pub fn put_opening(stamp: &[u8], from: u64, out: &mut [u8], at: usize) -> usize
 
 // ---- what stands after them
 
-fn incoming_size(in_flight: Flight) -> usize
+fn incoming_size(in_flight: Option<u64>) -> usize
     ensures is { (n : ℕ) → result ≡ size_of (incoming_part n (flight_is in_flight)) }
     ensures small { result ≤ 17 }
 {
     match in_flight {
-        Flight::Nothing => 9,
-        Flight::Number(_) => 17,
+        None => 9,
+        Some(_) => 17,
     }
 }
 
-fn put_incoming(next: u64, in_flight: Flight, out: &mut [u8], at: usize) -> usize
+fn put_incoming(next: u64, in_flight: Option<u64>, out: &mut [u8], at: usize) -> usize
     requires { at + size_of (incoming_part next (flight_is in_flight)) ≤ length out.old }
     ensures { Wrote out.old at (change_bytes (incoming_part next (flight_is in_flight))) out.new result }
 {
     match in_flight {
-        Flight::Nothing => frame_op::tagged(out, at, kind::SET_NEXT_INCOMING, next),
-        Flight::Number(f) => {
+        None => frame_op::tagged(out, at, kind::SET_NEXT_INCOMING, next),
+        Some(f) => {
             let pos = frame_op::tagged(out, at, kind::SET_NEXT_INCOMING_IN_FLIGHT, next);
-            base_bytes::put_u64(out, pos, f)
+            f.put_at(out, pos)
         }
     }
 }

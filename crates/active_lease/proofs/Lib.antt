@@ -1,3 +1,2 @@
--- What each way out of a call says, and what a list of calls comes to.
-pub mod Laws
+-- What a list of calls comes to.
 pub mod Histories

@@ -1,124 +1,74 @@
 // An active's hold on its lease (lease.rs, `Held`), by a clock whose times are handed in as nanoseconds.
 #![tactic(auto)]
 
-ghost use Rattle.std.specs.Prelude.{◌≡◌, ◌-◌};
-ghost use Rattle.model_lease.specs.Lease.{end_from, made, is_due, end_after, loses};
-ghost use Rattle.base_flags.specs.Flag.{byte};
-ghost use Rattle.active_lease.specs.Held.{lease_of, outcome_of, attempt_of, Asks, Tries};
+ghost use Rattle.std.specs.Prelude.{◌≡◌};
+ghost use Rattle.model_lease.specs.Lease.{made, renewal, attempt, is_due, end_after, loses};
+ghost use Rattle.active_lease.specs.Held.{lease_of, outcome_of, attempt_of, asked_of, tried_of};
 
-// `until` is the lease's end, `last` the last time handed in; the lease is lost if `lost` isn't 0.
-#[repr(C)]
-#[derive(Clone, Copy)]
+use base_refusals::Refusal;
+
+// `until` is the lease's end, `last` the last time handed in.
+#[derive(Clone, Copy, Debug, PartialEq, Eq)]
 pub struct Held {
     pub duration: u64,
     pub until: u64,
     pub last: u64,
-    pub lost: u8,
+    pub lost: bool,
 }
 
 // How an attempt to renew ended.
-#[derive(Clone, Copy)]
+#[derive(Clone, Copy, Debug, PartialEq, Eq)]
 pub enum RenewalOutcome {
     Renewed,
     Failed,
     Deposed,
 }
 
-// 31 for a time below the last one handed in, else 0; 1 if a renewal is due, else 0; the lease then.
-#[repr(C)]
-#[derive(Clone, Copy)]
+// Whether a renewal is due, and the lease then.
+#[derive(Clone, Copy, Debug, PartialEq, Eq)]
 pub struct Asked {
-    pub refusal: u8,
-    pub due: u8,
+    pub due: bool,
     pub held: Held,
-}
-
-// 31 as above, else 0; the lease then.
-#[repr(C)]
-#[derive(Clone, Copy)]
-pub struct Tried {
-    pub refusal: u8,
-    pub held: Held,
-}
-
-fn byte_of(b: bool) -> u8
-    ensures { result ≡ byte b }
-{
-    if b { 1 } else { 0 }
-}
-
-// The end of a lease that was taken or renewed at a time.
-fn end_from(start: u64, duration: u64) -> u64
-    ensures { result ≡ end_from start duration }
-{
-    if u64::MAX - start < duration {
-        return u64::MAX;
-    }
-    start + duration
-}
-
-// What is left of the lease.
-fn left(until: u64, now: u64) -> u64
-    ensures { result ≡ until - now }
-{
-    if now <= until { until - now } else { 0 }
 }
 
 impl Held {
-    // The refusal of a time below the last one handed in.
-    pub const TIME_FALLS: u8 = 31;
-
     // The lease, just taken.
     pub fn new(duration: u64, now: u64) -> Held
         ensures { lease_of result ≡ made duration now }
     {
         Held {
             duration,
-            until: end_from(now, duration),
+            until: now.saturating_add(duration),
             last: now,
-            lost: 0,
+            lost: false,
         }
     }
 
     fn is_due(self, now: u64) -> bool
         ensures { result ≡ is_due (lease_of self) now }
     {
-        let duration = self.duration;
-        let until = self.until;
-        (self.lost == 0) & (duration != u64::MAX) & (left(until, now) <= duration / 2)
+        let left = self.until.saturating_sub(now);
+        !self.lost && self.duration != u64::MAX && left <= self.duration / 2
     }
 
     // The lease with this last time.
     fn at(self, now: u64) -> Held
-        ensures { result ≡ record { duration = self.duration; until = self.until; last = now; lost = self.lost } }
+        ensures { result ≡ record self { last = now } }
     {
-        Held {
-            duration: self.duration,
-            until: self.until,
-            last: now,
-            lost: self.lost,
-        }
+        Held { last: now, ..self }
     }
 
-    // Whether a renewal is due.
-    pub fn renewal(self, now: u64) -> Asked
-        ensures { Asks self now result }
+    // Whether a renewal is due; a time below the last one handed in is refused.
+    pub fn renewal(self, now: u64) -> Result<Asked, Refusal>
+        ensures { asked_of self result ≡ renewal (lease_of self) now }
     {
         if now < self.last {
-            let held = self.at(self.last);
-            return Asked {
-                refusal: Self::TIME_FALLS,
-                due: 0,
-                held,
-            };
+            return Err(Refusal::TimeFalls);
         }
-        let due = byte_of(self.is_due(now));
-        let held = self.at(now);
-        Asked {
-            refusal: 0,
-            due,
-            held,
-        }
+        Ok(Asked {
+            due: self.is_due(now),
+            held: self.at(now),
+        })
     }
 
     // The end after an attempt.
@@ -126,9 +76,8 @@ impl Held {
         ensures { result ≡ end_after (lease_of self) started (outcome_of outcome) }
     {
         match outcome {
-            RenewalOutcome::Renewed => end_from(started, self.duration),
-            RenewalOutcome::Failed => self.until,
-            RenewalOutcome::Deposed => self.until,
+            RenewalOutcome::Renewed => started.saturating_add(self.duration),
+            RenewalOutcome::Failed | RenewalOutcome::Deposed => self.until,
         }
     }
 
@@ -143,29 +92,22 @@ impl Held {
         }
     }
 
-    // An attempt to renew that started at one time, and whose outcome came at another.
-    pub fn attempt(self, started: u64, now: u64, outcome: RenewalOutcome) -> Tried
-        ensures { Tries self (attempt_of started now outcome) result }
+    // The lease after an attempt to renew that started at one time, and whose outcome came at another; a start below the last
+    // time handed in and an outcome before its start are refused.
+    pub fn attempt(self, started: u64, now: u64, outcome: RenewalOutcome) -> Result<Held, Refusal>
+        ensures { tried_of self result ≡ attempt (lease_of self) (attempt_of started now outcome) }
     {
-        if (started < self.last) | (now < started) {
-            let held = self.at(self.last);
-            return Tried {
-                refusal: Self::TIME_FALLS,
-                held,
-            };
+        if started < self.last || now < started {
+            return Err(Refusal::TimeFalls);
         }
-        if self.lost != 0 {
-            let held = self.at(now);
-            return Tried { refusal: 0, held };
+        if self.lost {
+            return Ok(self.at(now));
         }
-        Tried {
-            refusal: 0,
-            held: Held {
-                duration: self.duration,
-                until: self.until_after(started, outcome),
-                last: now,
-                lost: byte_of(self.loses(now, outcome)),
-            },
-        }
+        Ok(Held {
+            until: self.until_after(started, outcome),
+            last: now,
+            lost: self.loses(now, outcome),
+            ..self
+        })
     }
 }

@@ -62,6 +62,7 @@ pub fn measure(
     let mut count: usize = 0;
     let mut size: usize = 0;
     let mut sent: u64 = 0;
+    // A while: each message gives the place after it, so no index counts them.
     while 0 < left {
         if is_full(limit, sent) {
             return Cut {
@@ -72,15 +73,21 @@ pub fn measure(
                 size,
             };
         }
-        let f = store_log::message_at(words, bytes, max, end, left, dist);
+        let f = store_log::message_at(
+            words,
+            bytes,
+            max,
+            end,
+            store_log::LogPosition { left, dist },
+        );
         let skip = skips(next, f.number);
-        let len = f.first + f.rest;
+        let len = f.span.first + f.span.rest;
         count = count + skip + 1;
         size = size + 9 * skip + 13 + len;
         sent += len as u64;
         next = f.number + 1;
-        left = f.left;
-        dist = f.dist;
+        left = f.next.left;
+        dist = f.next.dist;
     }
     Cut {
         left,
@@ -115,16 +122,32 @@ pub fn put_messages(
     let mut next = next;
     let mut sent: u64 = 0;
     let mut pos = at;
+    // A while: each message gives the place after it, so no index counts them.
     while 0 < left {
         if is_full(limit, sent) {
             return pos;
         }
-        let f = store_log::message_at(words, bytes, max, end, left, dist);
-        pos = put::put_sent(next, f.number, bytes, f.start, f.first, f.rest, out, pos);
-        sent += (f.first + f.rest) as u64;
+        let f = store_log::message_at(
+            words,
+            bytes,
+            max,
+            end,
+            store_log::LogPosition { left, dist },
+        );
+        pos = put::put_sent(
+            next,
+            f.number,
+            bytes,
+            f.span.start,
+            f.span.first,
+            f.span.rest,
+            out,
+            pos,
+        );
+        sent += (f.span.first + f.span.rest) as u64;
         next = f.number + 1;
-        left = f.left;
-        dist = f.dist;
+        left = f.next.left;
+        dist = f.next.dist;
     }
     pos
 }
@@ -143,6 +166,7 @@ pub fn batches(words: &[u64], bytes: &[u8], max: usize, end: u64, limit: u64) ->
     let mut left = first.left;
     let mut dist = first.dist;
     let mut count = 1;
+    // A while: each batch gives the place where the next one begins, so no index counts them.
     while 0 < left {
         let cut = measure(words, bytes, max, end, left, dist, 1, limit);
         left = cut.left;

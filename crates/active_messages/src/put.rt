@@ -8,6 +8,7 @@ ghost use Rattle.model_session.specs.Whole.{skip_to, send_msg};
 ghost use Rattle.base_laws.specs.Wrote.{Wrote};
 ghost use Rattle.store_log.specs.Log.{msg};
 
+use base_bytes::LittleEndian;
 use frame_op::kind;
 
 // A tag and a text.
@@ -68,7 +69,7 @@ pub fn put_record(
     ensures { Wrote out.old at (change_bytes (record_msg number (take first (drop start bytes.now) ++ take rest bytes.now))) out.new result }
 {
     let pos = frame_op::tagged(out, at, kind::RECORD, number);
-    let pos = base_bytes::put_u32(out, pos, (first + rest) as u32);
+    let pos = ((first + rest) as u32).put_at(out, pos);
     put_message(bytes, start, first, rest, out, pos)
 }
 

@@ -1,73 +1,113 @@
 // Little-endian numbers in a slice of bytes, by one law over the width, and copying.
 #![tactic(auto)]
 
-ghost use Rattle.std.specs.Prelude.{◌≡◌, ◌+◌, ◌≤◌, length};
+ghost use Rattle.std.specs.Prelude.{ℕ, ◌≡◌, ◌+◌, ◌<◌, ◌≤◌, length};
+ghost use Rattle.std.proofs.Math.Nat.{zero-lt-suc};
 ghost use Rattle.model_frame.specs.Bytes.{le_at, bytes_of};
 ghost use Rattle.base_laws.specs.Wrote.{Wrote};
 
-pub fn u8_at(buf: &[u8], at: usize) -> u8
-    requires { at + 1 ≤ length buf.now }
-    ensures { result ≡ le_at 1 buf.now at }
-{
-    buf[at]
+// A number that stands in a slice as `WIDTH` bytes, the lowest first.
+pub trait LittleEndian: Copy + Drop {
+    ghost WIDTH: { ℕ };
+
+    const WIDTH: usize;
+
+    ghost value: { Self → ℕ };
+
+    fn read_at(buf: &[u8], at: usize) -> Self
+        requires { at + WIDTH ≤ length buf.now }
+        ensures { value result ≡ le_at WIDTH buf.now at };
+
+    // The position past what is written.
+    fn put_at(self, out: &mut [u8], at: usize) -> usize
+        requires { at + WIDTH ≤ length out.old }
+        ensures wrote { Wrote out.old at (bytes_of WIDTH (value self)) out.new result }
+        ensures past { result ≡ at + WIDTH };
+
+    // A number has a byte at least.
+    ghost some: { 0 < WIDTH };
 }
 
-pub fn u16_at(buf: &[u8], at: usize) -> u16
-    requires { at + 2 ≤ length buf.now }
-    ensures { result ≡ le_at 2 buf.now at }
-{
-    (u8_at(buf, at) as u16) + (u8_at(buf, at + 1) as u16) * 256
+impl LittleEndian for u8 {
+    ghost WIDTH = { 1 };
+
+    const WIDTH: usize = 1;
+
+    ghost value = { λ x. x };
+
+    ghost some = { zero-lt-suc 0 };
+
+    fn read_at(buf: &[u8], at: usize) -> u8 {
+        buf[at]
+    }
+
+    fn put_at(self, out: &mut [u8], at: usize) -> usize {
+        out[at] = self;
+        at + 1
+    }
 }
 
-pub fn u32_at(buf: &[u8], at: usize) -> u32
-    requires { at + 4 ≤ length buf.now }
-    ensures { result ≡ le_at 4 buf.now at }
-{
-    (u16_at(buf, at) as u32) + (u16_at(buf, at + 2) as u32) * 65536
+impl LittleEndian for u16 {
+    ghost WIDTH = { 2 };
+
+    const WIDTH: usize = 2;
+
+    ghost value = { λ x. x };
+
+    ghost some = { zero-lt-suc 1 };
+
+    fn read_at(buf: &[u8], at: usize) -> u16 {
+        u16::from_le_bytes([buf[at], buf[at + 1]])
+    }
+
+    fn put_at(self, out: &mut [u8], at: usize) -> usize {
+        copy(&self.to_le_bytes(), out, at)
+    }
 }
 
-pub fn u64_at(buf: &[u8], at: usize) -> u64
-    requires { at + 8 ≤ length buf.now }
-    ensures { result ≡ le_at 8 buf.now at }
-{
-    (u32_at(buf, at) as u64) + (u32_at(buf, at + 4) as u64) * 4294967296
+impl LittleEndian for u32 {
+    ghost WIDTH = { 4 };
+
+    const WIDTH: usize = 4;
+
+    ghost value = { λ x. x };
+
+    ghost some = { zero-lt-suc 3 };
+
+    fn read_at(buf: &[u8], at: usize) -> u32 {
+        u32::from_le_bytes([buf[at], buf[at + 1], buf[at + 2], buf[at + 3]])
+    }
+
+    fn put_at(self, out: &mut [u8], at: usize) -> usize {
+        copy(&self.to_le_bytes(), out, at)
+    }
 }
 
-// The writers give the position past what they wrote.
-pub fn put_u8(out: &mut [u8], at: usize, v: u8) -> usize
-    requires { at + 1 ≤ length out.old }
-    ensures wrote { Wrote out.old at (bytes_of 1 v) out.new result }
-    ensures value { result ≡ at + 1 }
-{
-    out[at] = v;
-    at + 1
-}
+impl LittleEndian for u64 {
+    ghost WIDTH = { 8 };
 
-pub fn put_u16(out: &mut [u8], at: usize, v: u16) -> usize
-    requires { at + 2 ≤ length out.old }
-    ensures wrote { Wrote out.old at (bytes_of 2 v) out.new result }
-    ensures value { result ≡ at + 2 }
-{
-    put_u8(out, at, (v % 256) as u8);
-    put_u8(out, at + 1, (v / 256) as u8)
-}
+    const WIDTH: usize = 8;
 
-pub fn put_u32(out: &mut [u8], at: usize, v: u32) -> usize
-    requires { at + 4 ≤ length out.old }
-    ensures wrote { Wrote out.old at (bytes_of 4 v) out.new result }
-    ensures value { result ≡ at + 4 }
-{
-    put_u16(out, at, (v % 65536) as u16);
-    put_u16(out, at + 2, (v / 65536) as u16)
-}
+    ghost value = { λ x. x };
 
-pub fn put_u64(out: &mut [u8], at: usize, v: u64) -> usize
-    requires { at + 8 ≤ length out.old }
-    ensures wrote { Wrote out.old at (bytes_of 8 v) out.new result }
-    ensures value { result ≡ at + 8 }
-{
-    put_u32(out, at, (v % 4294967296) as u32);
-    put_u32(out, at + 4, (v / 4294967296) as u32)
+    ghost some = { zero-lt-suc 7 };
+
+    fn read_at(buf: &[u8], at: usize) -> u64 {
+        u64::from_le_bytes([
+            buf[at],
+            buf[at + 1],
+            buf[at + 2],
+            buf[at + 3],
+            buf[at + 4],
+            buf[at + 5],
+            buf[at + 6],
+            buf[at + 7],
+        ])
+    }
+
+    fn put_at(self, out: &mut [u8], at: usize) -> usize {
+        copy(&self.to_le_bytes(), out, at)
+    }
 }
 
 // Copies s into out from a position on, and gives the position past it.
@@ -75,10 +115,7 @@ pub fn copy(s: &[u8], out: &mut [u8], at: usize) -> usize
     requires { at + length s.now ≤ length out.old }
     ensures { Wrote out.old at s.now out.new result }
 {
-    let mut i = 0;
-    while i < s.len() {
-        out[at + i] = s[i];
-        i += 1;
-    }
-    at + i
+    let end = at + s.len();
+    out[at..end].copy_from_slice(s);
+    end
 }

@@ -1,5 +1,5 @@
 -- The digits' rules, the two loops' invariants, and what a turn of each does. Assumes nothing.
-use mathlib.Core.Path.{◌≡◌, refl, sym, ap, ◌∙◌}
+use mathlib.Core.Path.{◌≡◌, refl, sym, ap, subst, ◌∙◌}
 use mathlib.Core.Bool.{Bool, true, false, cond, ◌&&◌, or-true}
 use mathlib.Core.List.{List, [], ◌∷◌, ◌++◌, append-nil}
 use mathlib.Core.Option.{Option, none, some}
@@ -8,13 +8,13 @@ use native.Mathlib.Omega.{arith}
 use native.Mathlib.Numerals.{add-one}
 use lib.ListN.{length, get_or, set, take, drop, length-set, length-drop, length-append, take-append-drop}
 use lib.Seq.{take-suc, take-suc-set, drop-cons, append_snoc, length-take-le, sets, sets-eq, take_at, drop_at, drop-drop, take-length}
-use lib.Dec.{ltb}
-use borrow.Author.Tests.{ltb-true, lt-ltb, le-ltb}
-use Rattle.model_text.proofs.Formed.{and_l, and_r}
+use lib.Dec.{ltb, eqb}
+use borrow.Author.Tests.{lt-ltb, le-ltb, eqb-true, eqb-false}
 use Rattle.model_text.proofs.HexBack.{length_hex}
 use Rattle.model_text.specs.Hex.{digit_value, byte_then, bytes_from, longest_line, line_bytes, digit_of, hex_of, decimal, refusal_text}
-use Rattle.base_hex.specs.declared.Line.{Line}
-use Rattle.base_hex.specs.declared.Line.TheVariants.{Bytes, Bad}
+use Rattle.std.specs.Prelude as std
+use Rattle.std.specs.Prelude.{Some, None}
+use Rattle.std.specs.Bool.{then_some}
 use Rattle.base_hex.specs.Lines.{ReadsLine, WroteFront, Puts}
 
 -- ---- two digits of a list
@@ -50,70 +50,83 @@ nothing : (l : List ℕ) → length l ≡ 0 → bytes_from l ≡ some []
 nothing [] e = refl
 nothing (a ∷ l) e = absurd (omega arith)
 
--- both tests hold
-pub both : (a b : ℕ) → (ltb a 16 && ltb b 16) ≡ true → (a < 16) × (b < 16)
-both a b e = (ltb-true a 16 (and_l (ltb a 16) (ltb b 16) e), ltb-true b 16 (and_r (ltb a 16) (ltb b 16) e))
-
 -- what is left gives what the whole gives
 pub record Reading (size : ℕ) (line out : List ℕ) (i : ℕ) : Type 0 where
   pub same : length out ≡ size
-  pub upto : i ≤ length line / 2
   pub left : bytes_from line ≡ behind (take i out) (bytes_from (drop (2 * i) line))
 
 pub reading : (line out : List ℕ) → Reading (length out) line out 0
-reading line out = record { same = refl; upto = omega arith; left = sym (behind_nothing (bytes_from line)) }
+reading line out = record { same = refl; left = sym (behind_nothing (bytes_from line)) }
 
 module _ (size : ℕ) (line out : List ℕ) (i : ℕ) (g : Reading size line out i) (room : length line ≤ 2 * size) where
-  -- the two digits at i, with the test's answer
-  module _ (less : i < length line / 2) {a b : ℕ} (ea : a ≡ digit_value (get_or line (2 * i) 0)) (eb : b ≡ digit_value (get_or line (2 * i + 1) 0)) where
+  -- the two digits at i
+  module _ (less : i < length line / 2) where
+    a : ℕ
+    a = digit_value (get_or line (2 * i) 0)
+
+    b : ℕ
+    b = digit_value (get_or line (2 * i + 1) 0)
+
     tested : {v : Bool} → (ltb a 16 && ltb b 16) ≡ v → bytes_from (drop (2 * i) line) ≡ cond v (byte_then (a * 16 + b) (bytes_from (drop (2 * (i + 1)) line))) none
+    unfolding a b
     tested e =
         ap bytes_from (two_at line i less)
-        ∙ (λ j. cond (ltb (sym ea j) 16 && ltb (sym eb j) 16) (byte_then (sym ea j * 16 + sym eb j) (bytes_from (drop (2 * (i + 1)) line))) none)
         ∙ ap (λ (t : Bool). cond t (byte_then (a * 16 + b) (bytes_from (drop (2 * (i + 1)) line))) none) e
 
-    pub reads_bad : (ltb a 16 && ltb b 16) ≡ false → ReadsLine (bytes_from line) out Bad
+    pub reads_bad : (ltb (digit_value (get_or line (2 * i) 0)) 16 && ltb (digit_value (get_or line (2 * i + 1) 0)) 16) ≡ false → ReadsLine (bytes_from line) out None
+    unfolding a b
     reads_bad e = record { bytes = sym (g.left ∙ ap (behind (take i out)) (tested e)); within = omega arith }
 
-    pub reads_on : (ltb a 16 && ltb b 16) ≡ true → Reading size line (set out i (a * 16 + b)) (i + 1)
-    reads_on e = record {
-      same = length-set out i (a * 16 + b) ∙ g.same;
-      upto = omega arith;
+    pub reads_on : (ltb (digit_value (get_or line (2 * i) 0)) 16 && ltb (digit_value (get_or line (2 * i + 1) 0)) 16) ≡ true → (v : ℕ) → v ≡ digit_value (get_or line (2 * i) 0) * 16 + digit_value (get_or line (2 * i + 1) 0)
+        → Reading size line (set out i v) (i + 1)
+    unfolding a b
+    reads_on e v ev = record {
+      same = length-set out i v ∙ g.same;
       left =
           let inside : i < length out = omega (arith, g.same) in
           g.left ∙ ap (behind (take i out)) (tested e)
           ∙ behind_onto (take i out) (a * 16 + b) (bytes_from (drop (2 * (i + 1)) line))
-          ∙ ap (λ (l : List ℕ). behind l (bytes_from (drop (2 * (i + 1)) line))) (sym (rw add-one (take-suc-set out i (a * 16 + b) inside)));
+          ∙ ap (λ (k : ℕ). behind (take i out ++ (k ∷ [])) (bytes_from (drop (2 * (i + 1)) line))) (sym ev)
+          ∙ ap (λ (l : List ℕ). behind l (bytes_from (drop (2 * (i + 1)) line))) (sym (rw add-one (take-suc-set out i v inside)));
     }
 
-  -- nothing is left, or one digit
-  module _ (end : length line / 2 ≤ i) where
-    pub reads_odd : 2 * (length line / 2) < length line → ReadsLine (bytes_from line) out Bad
-    reads_odd odd =
-        let one : length (drop (2 * i) line) ≡ 1 = omega (arith, length-drop (2 * i) line, g.upto) in
-        record { bytes = sym (g.left ∙ ap (behind (take i out)) (alone (drop (2 * i) line) one)); within = omega arith }
+-- nothing is left, or one digit
+module _ (size : ℕ) (line out : List ℕ) (i : ℕ) (r : Reading size line out i) (at : i ≡ length line / 2) (room : length line ≤ 2 * size) where
+  g : Reading size line out (length line / 2)
+  g = subst (Reading size line out) at r
 
-    pub reads_all : length line ≤ 2 * (length line / 2) → ReadsLine (bytes_from line) out (Bytes (length line / 2))
-    reads_all even =
-        let none_left : length (drop (2 * i) line) ≡ 0 = omega (arith, length-drop (2 * i) line, g.upto) in
-        let at : i ≡ length line / 2 = omega (arith, g.upto) in
-        record {
-          bytes = sym (g.left ∙ ap (behind (take i out)) (nothing (drop (2 * i) line) none_left) ∙ ap some (append-nil (take i out)) ∙ ap (λ (k : ℕ). some (take k out)) at);
-          within = omega (arith, g.same);
-        }
+  reads_odd : (2 * (length line / 2) ≡ length line → ⊥) → ReadsLine (bytes_from line) out None
+  reads_odd odd =
+      let one : length (drop (2 * (length line / 2)) line) ≡ 1 = omega (arith, length-drop (2 * (length line / 2)) line) in
+      record { bytes = sym (g.left ∙ ap (behind (take (length line / 2) out)) (alone (drop (2 * (length line / 2)) line) one)); within = omega arith }
+
+  reads_all : 2 * (length line / 2) ≡ length line → ReadsLine (bytes_from line) out (Some (length line / 2))
+  reads_all even =
+      let none_left : length (drop (2 * (length line / 2)) line) ≡ 0 = omega (arith, length-drop (2 * (length line / 2)) line) in
+      record {
+        bytes = sym (g.left ∙ ap (behind (take (length line / 2) out)) (nothing (drop (2 * (length line / 2)) line) none_left) ∙ ap some (append-nil (take (length line / 2) out)));
+        within = omega (arith, g.same);
+      }
+
+  pub reads_end : {r : std.Option ℕ} → r ≡ then_some (eqb (2 * (length line / 2)) (length line)) (length line / 2) → ReadsLine (bytes_from line) out r
+  reads_end {r} e = subst (ReadsLine (bytes_from line) out) (sym e) (go (eqb (2 * (length line / 2)) (length line)) refl)
+    where
+      go : (t : Bool) → eqb (2 * (length line / 2)) (length line) ≡ t → ReadsLine (bytes_from line) out (then_some (eqb (2 * (length line / 2)) (length line)) (length line / 2))
+      go true q = rw q (reads_all (eqb-true _ _ q))
+      go false q = rw q (reads_odd (eqb-false _ _ q))
 
 -- ---- a line
 
-pub blank_line : (l out : List ℕ) → length l ≡ 0 → ReadsLine (line_bytes l) out Bad
+pub blank_line : (l out : List ℕ) → length l ≡ 0 → ReadsLine (line_bytes l) out None
 unfolding line_bytes
 blank_line [] out e = record { bytes = refl; within = omega arith }
 blank_line (b ∷ l) out e = absurd (omega arith)
 
-pub long_line : (l out : List ℕ) → longest_line < length l → ReadsLine (line_bytes l) out Bad
+pub long_line : (l out : List ℕ) → longest_line < length l → ReadsLine (line_bytes l) out None
 unfolding line_bytes
 long_line l out h = record { bytes = simp (lt-ltb longest_line (length l) h, or-true); within = omega arith }
 
-pub some_line : (l out : List ℕ) (r : Line) → (length l ≡ 0 → ⊥) → length l ≤ longest_line → ReadsLine (bytes_from l) out r → ReadsLine (line_bytes l) out r
+pub some_line : (l out : List ℕ) (r : std.Option ℕ) → (length l ≡ 0 → ⊥) → length l ≤ longest_line → ReadsLine (bytes_from l) out r → ReadsLine (line_bytes l) out r
 unfolding line_bytes
 some_line [] out r e h g = absurd (e refl)
 some_line (b ∷ l) out r e h g = rw (le-ltb longest_line (length (b ∷ l)) h) g
@@ -127,12 +140,11 @@ hex_append (x ∷ xs) ys = ap (λ (l : List ℕ). digit_of (x / 16) ∷ digit_of
 -- the digits of the first i bytes stand at the start, and the rest is as it was
 pub record Writing (src before out : List ℕ) (i : ℕ) : Type 0 where
   pub same : length out ≡ length before
-  pub upto : i ≤ length src
   pub front : take (2 * i) out ≡ hex_of (take i src)
   pub rest : drop (2 * i) out ≡ drop (2 * i) before
 
 pub writing : (src before : List ℕ) → Writing src before before 0
-writing src before = record { same = refl; upto = omega arith; front = refl; rest = refl }
+writing src before = record { same = refl; front = refl; rest = refl }
 
 module _ (src before out : List ℕ) (i : ℕ) (g : Writing src before out i) (room : 2 * length src ≤ length before) where
   pub writes_on : i < length src → {x y : ℕ} → x ≡ digit_of (get_or src i 0 / 16) → y ≡ digit_of (get_or src i 0 % 16) → Writing src before (set (set out (2 * i) x) (2 * i + 1) y) (i + 1)
@@ -143,7 +155,6 @@ module _ (src before out : List ℕ) (i : ℕ) (g : Writing src before out i) (r
       let head : length (take (2 * i) out ++ (x ∷ y ∷ [])) ≡ 2 * i + 2 = length-append (take (2 * i) out) (x ∷ y ∷ []) ∙ ap (λ (k : ℕ). k + 2) (length-take-le (2 * i) out (omega arith)) in
       record {
         same = length-set (set out (2 * i) x) (2 * i + 1) y ∙ length-set out (2 * i) x ∙ g.same;
-        upto = omega arith;
         front =
             rw (next, stored, take_at (take (2 * i) out ++ (x ∷ y ∷ [])) (drop (2 * i + 2) out) (2 * i + 2) head, add-one i, take-suc src i 0 less, hex_append (take i src) (get_or src i 0 ∷ []), g.front, ex, ey)
             refl;
@@ -152,9 +163,9 @@ module _ (src before out : List ℕ) (i : ℕ) (g : Writing src before out i) (r
             refl;
       }
 
-  pub writes_all : length src ≤ i → WroteFront (hex_of src) before out
+  pub writes_all : length src ≡ i → WroteFront (hex_of src) before out
   writes_all end =
-      let at : i ≡ length src = omega (arith, g.upto) in
+      let at : i ≡ length src = omega arith in
       let digits : length (hex_of src) ≡ 2 * i = length_hex src ∙ ap (λ (k : ℕ). 2 * k) (sym at) in
       sym (take-append-drop (2 * i) out) ∙ (λ j. g.front j ++ g.rest j)
       ∙ (λ j. hex_of (take (at j) src) ++ drop (sym digits j) before) ∙ ap (λ (l : List ℕ). hex_of l ++ drop (length (hex_of src)) before) (take-length src)

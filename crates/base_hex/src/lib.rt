@@ -1,72 +1,61 @@
 // Lines of lower-case hexadecimal digits, read into bytes and written from them.
 #![tactic(auto)]
 
-ghost use Rattle.std.specs.Prelude.{◌≡◌, ◌+◌, ◌*◌, ◌/◌, ◌%◌, ◌≤◌, ◌<◌, length};
+ghost use Rattle.std.specs.Prelude.{◌≡◌, ◌+◌, ◌*◌, ◌/◌, ◌%◌, ◌≤◌, ◌<◌, length, MatchOption};
 ghost use Rattle.model_text.specs.Hex.{digit_value, bytes_from, line_bytes, digit_of, hex_of, refusal_text};
-ghost use Rattle.base_hex.specs.Lines.{ReadsLine, WroteFront, Puts};
+ghost use Rattle.base_hex.specs.Lines.{IsByteOf, ReadsLine, WroteFront, Puts};
 
-// The bytes of a line, as the first so many of the area that was lent, or a bad line.
-#[derive(Clone, Copy)]
-pub enum Line {
-    Bytes(usize),
-    Bad,
-}
-
-// The value of a digit, 16 for a byte that is none.
-fn digit_value(b: u8) -> u8
-    ensures { result ≡ digit_value b }
+// The value of a digit, if the byte is one.
+#[tactic(auto, unfolding(model_text::specs::Hex::digit_value))]
+fn digit_value(b: u8) -> Option<u8>
+    ensures { MatchOption result (16 ≤ digit_value b) (λ v. (v ≡ digit_value b) × (v < 16)) }
 {
-    if (48 <= b) & (b <= 57) {
-        return b - 48;
+    match b {
+        b'0'..=b'9' => Some(b - b'0'),
+        b'a'..=b'f' => Some(b - b'a' + 10),
+        _ => None,
     }
-    if (97 <= b) & (b <= 102) {
-        return b - 87;
-    }
-    16
 }
 
-// The bytes of an even number of digits.
-fn read_digits(line: &[u8], out: &mut [u8]) -> Line
+// The byte of two digits.
+fn byte_of(high: u8, low: u8) -> Option<u8>
+    ensures { IsByteOf high low result }
+{
+    let high = digit_value(high)?;
+    let low = digit_value(low)?;
+    Some(high * 16 + low)
+}
+
+// The bytes of an even number of digits: how many, at the start of the area.
+fn read_digits(line: &[u8], out: &mut [u8]) -> Option<usize>
     requires { length line.now ≤ 2 * length out.old }
     ensures { ReadsLine (bytes_from line.now) out.new result }
 {
     let n = line.len() / 2;
-    let mut i: usize = 0;
-    while i < n {
-        let a = digit_value(line[2 * i]);
-        let b = digit_value(line[2 * i + 1]);
-        if !((a < 16) & (b < 16)) {
-            return Line::Bad;
-        }
-        out[i] = a * 16 + b;
-        i += 1;
+    for i in 0..n {
+        out[i] = byte_of(line[2 * i], line[2 * i + 1])?;
     }
-    if 2 * n < line.len() {
-        return Line::Bad;
-    }
-    Line::Bytes(n)
+    (2 * n == line.len()).then_some(n)
 }
 
-// The bytes of a line of at most 16,384 digits.
-pub fn read_line(line: &[u8], out: &mut [u8]) -> Line
+// The bytes of a line of at most 16,384 digits: how many, at the start of the area, or none for a bad line.
+pub fn read_line(line: &[u8], out: &mut [u8]) -> Option<usize>
     requires { 8192 ≤ length out.old }
     ensures { ReadsLine (line_bytes line.now) out.new result }
 {
-    if line.len() == 0 {
-        return Line::Bad;
+    match line.len() {
+        1..=16_384 => read_digits(line, out),
+        _ => None,
     }
-    if 16384 < line.len() {
-        return Line::Bad;
-    }
-    read_digits(line, out)
 }
 
 // The digit of a value below 16.
+#[tactic(auto, unfolding(model_text::specs::Hex::digit_of))]
 fn digit_of(v: u8) -> u8
     requires { v < 16 }
     ensures { result ≡ digit_of v }
 {
-    if v < 10 { 48 + v } else { 87 + v }
+    if v < 10 { b'0' + v } else { b'a' + (v - 10) }
 }
 
 // Writes the digits of all bytes of src at the start of out.
@@ -74,12 +63,9 @@ pub fn put_hex(src: &[u8], out: &mut [u8])
     requires { 2 * length src.now ≤ length out.old }
     ensures { WroteFront (hex_of src.now) out.old out.new }
 {
-    let mut i: usize = 0;
-    while i < src.len() {
-        let b = src[i];
+    for (i, &b) in src.iter().enumerate() {
         out[2 * i] = digit_of(b / 16);
         out[2 * i + 1] = digit_of(b % 16);
-        i += 1;
     }
 }
 
@@ -91,10 +77,10 @@ pub fn put_refusal(n: u8, out: &mut [u8]) -> usize
     out[0] = b'R';
     out[1] = b' ';
     if n < 10 {
-        out[2] = 48 + n;
+        out[2] = b'0' + n;
         return 3;
     }
-    out[2] = 48 + n / 10;
-    out[3] = 48 + n % 10;
+    out[2] = b'0' + n / 10;
+    out[3] = b'0' + n % 10;
     4
 }

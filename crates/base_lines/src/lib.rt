@@ -1,48 +1,32 @@
 // The lines of an input that is read piece by piece. A line's bytes are gathered in an area; those past its end are not kept.
 #![tactic(auto)]
 
-ghost use Rattle.std.specs.Prelude.{◌≡◌, ◌+◌, ◌≤◌, min, length, drop};
-ghost use Rattle.std.proofs.Math.Seq.{paste};
+ghost use Rattle.std.specs.Prelude.{◌≡◌, ◌==◌, ◌+◌, ◌≤◌, length, drop, position};
 ghost use Rattle.model_text.specs.Lines.{first_feed};
 ghost use Rattle.base_lines.specs.Feeding.{Feeds};
 
-// What a piece gave: a whole line or a part of one, how many of its bytes are kept, and where the piece goes on.
-#[repr(C)]
+// What a piece gave of a line: how many of its bytes are kept, and where the piece goes on behind its line feed; none where the line goes on in the next piece.
 #[derive(Clone, Copy)]
 pub struct Fed {
-    pub whole: bool,
     pub len: usize,
-    pub next: usize,
+    pub next: Option<usize>,
 }
 
-fn least(a: usize, b: usize) -> usize
-    ensures { result ≡ min a b }
+// Where the first line feed stands, if there is one.
+fn feed_place(s: &[u8]) -> Option<usize>
+    ensures { result ≡ position (λ b. b == 10) s.now }
 {
-    if a < b { a } else { b }
+    s.iter().position(|byte| *byte == b'\n')
 }
 
 // Where the next line feed stands at or after `from`, or the end of the piece.
 pub fn next_feed(piece: &[u8], from: usize) -> usize
     ensures { result ≡ from + first_feed (drop from piece.now) }
 {
-    let mut i = from;
-    while i < piece.len() {
-        if piece[i] == 10 {
-            return i;
-        }
-        i += 1;
-    }
-    i
-}
-
-// n bytes of src from `from` on, put into dst from `at` on.
-fn copy(dst: &mut [u8], at: usize, src: &[u8], from: usize, n: usize)
-    requires n_in_bounds { at + n ≤ length dst.old }
-    requires n_in_bounds_2 { from + n ≤ length src.now }
-    ensures { dst.new ≡ paste dst.old at (drop from src.now) n }
-{
-    let end = from + n;
-    base_bytes::copy(&src[from..end], dst, at);
+    let Some(rest) = piece.get(from..) else {
+        return from;
+    };
+    from + feed_place(rest).unwrap_or(rest.len())
 }
 
 // Takes the piece's bytes from `from` on up to its next line feed or its end behind the first len bytes of the line.
@@ -52,18 +36,10 @@ pub fn feed(line: &mut [u8], len: usize, piece: &[u8], from: usize) -> Fed
     ensures { Feeds line.old len piece.now from line.new result }
 {
     let to = next_feed(piece, from);
-    let n = least(to - from, line.len() - len);
-    copy(line, len, piece, from, n);
-    if to < piece.len() {
-        return Fed {
-            whole: true,
-            len: len + n,
-            next: to + 1,
-        };
-    }
+    let n = (to - from).min(line.len() - len);
+    line[len..len + n].copy_from_slice(&piece[from..from + n]);
     Fed {
-        whole: false,
         len: len + n,
-        next: to,
+        next: (to < piece.len()).then_some(to + 1),
     }
 }

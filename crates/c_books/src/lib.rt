@@ -2,10 +2,11 @@
 #![tactic(auto)]
 
 ghost use Rattle.model_active.specs.CatchUp as m;
-ghost use Rattle.active_books.specs.Calls.{answer_of};
+ghost use Rattle.active_books.specs.Calls.{answer_of, done_of, opened_of, picked_of};
 ghost use Rattle.c_books.specs.Numbers.{InNumbers, Calls, MakesBooks, TellsBehind};
 
-use active_books::Answer;
+use active_books::Opened;
+use base_refusals::Refusal;
 use frame_fields::Incarnation;
 
 // An answer: a refusal or 0; 1 for wait, for one that is picked, and for yes, else 0; the session picked or 0.
@@ -17,38 +18,80 @@ pub struct Answered {
     pub session: u64,
 }
 
-fn in_numbers(answer: Answer) -> Answered
-    ensures { InNumbers (answer_of answer) result }
+// What a call answers when it isn't refused, in numbers.
+trait Numbered {
+    ghost said: { Self → m.Answer };
+
+    fn numbered(self) -> Answered
+        ensures { InNumbers (said self) result };
+}
+
+impl Numbered for () {
+    ghost said = { done_of };
+
+    fn numbered(self) -> Answered {
+        Answered {
+            refusal: 0,
+            flag: 0,
+            session: 0,
+        }
+    }
+}
+
+impl Numbered for Opened {
+    ghost said = { opened_of };
+
+    fn numbered(self) -> Answered {
+        Answered {
+            refusal: 0,
+            flag: match self {
+                Opened::Done => 0,
+                Opened::Wait => 1,
+            },
+            session: 0,
+        }
+    }
+}
+
+impl Numbered for Option<u64> {
+    ghost said = { picked_of };
+
+    fn numbered(self) -> Answered {
+        match self {
+            Some(session) => Answered {
+                refusal: 0,
+                flag: 1,
+                session,
+            },
+            None => Answered {
+                refusal: 0,
+                flag: 0,
+                session: 0,
+            },
+        }
+    }
+}
+
+impl Numbered for bool {
+    ghost said = { m.says };
+
+    fn numbered(self) -> Answered {
+        Answered {
+            refusal: 0,
+            flag: if self { 1 } else { 0 },
+            session: 0,
+        }
+    }
+}
+
+fn in_numbers<A: Numbered>(answer: Result<A, Refusal>) -> Answered
+    ensures { InNumbers (answer_of A.said answer) result }
 {
     match answer {
-        Answer::Refused(refusal) => Answered {
-            refusal,
+        Ok(value) => value.numbered(),
+        Err(refusal) => Answered {
+            refusal: refusal.number(),
             flag: 0,
-            session: 0,
-        },
-        Answer::Done => Answered {
-            refusal: 0,
-            flag: 0,
-            session: 0,
-        },
-        Answer::Wait => Answered {
-            refusal: 0,
-            flag: 1,
-            session: 0,
-        },
-        Answer::Picked(session) => Answered {
-            refusal: 0,
-            flag: 1,
-            session,
-        },
-        Answer::Nobody => Answered {
-            refusal: 0,
-            flag: 0,
-            session: 0,
-        },
-        Answer::Says(yes) => Answered {
-            refusal: 0,
-            flag: if yes { 1 } else { 0 },
             session: 0,
         },
     }

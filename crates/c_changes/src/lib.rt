@@ -22,10 +22,8 @@ pub fn store_set_next_incoming(
     if !store_areas::in_use(words, bytes, shape, place) {
         return RULES_BROKEN;
     }
-    let p = store_areas::spot_in(words, bytes, shape, place);
-    let words_start = p.words_start;
-    let words_end = p.words_end;
-    store_place::set_next_incoming(&mut words[words_start..words_end], seq);
+    let spot = store_areas::spot_in(words, bytes, shape, place);
+    store_place::set_next_incoming(&mut words[spot.words_start..spot.words_end], seq);
     0
 }
 
@@ -42,10 +40,12 @@ pub fn store_set_next_incoming_in_flight(
     if !store_areas::in_use(words, bytes, shape, place) {
         return RULES_BROKEN;
     }
-    let p = store_areas::spot_in(words, bytes, shape, place);
-    let words_start = p.words_start;
-    let words_end = p.words_end;
-    store_place::set_next_incoming_in_flight(&mut words[words_start..words_end], seq, in_flight);
+    let spot = store_areas::spot_in(words, bytes, shape, place);
+    store_place::set_next_incoming_in_flight(
+        &mut words[spot.words_start..spot.words_end],
+        seq,
+        in_flight,
+    );
     0
 }
 
@@ -61,10 +61,8 @@ pub fn store_set_in_flight(
     if !store_areas::in_use(words, bytes, shape, place) {
         return RULES_BROKEN;
     }
-    let p = store_areas::spot_in(words, bytes, shape, place);
-    let words_start = p.words_start;
-    let words_end = p.words_end;
-    store_place::set_in_flight(&mut words[words_start..words_end], seq);
+    let spot = store_areas::spot_in(words, bytes, shape, place);
+    store_place::set_in_flight(&mut words[spot.words_start..spot.words_end], seq);
     0
 }
 
@@ -81,19 +79,15 @@ pub fn store_record(
     if !store_areas::in_use(words, bytes, shape, place) {
         return RULES_BROKEN;
     }
-    let p = store_areas::spot_in(words, bytes, shape, place);
-    let words_start = p.words_start;
-    let words_end = p.words_end;
-    let bytes_start = p.bytes_start;
-    let bytes_end = p.bytes_end;
+    let spot = store_areas::spot_in(words, bytes, shape, place);
     let max = shape.messages as usize;
-    let seq = store_place::next_outgoing(&words[words_start..words_end]);
+    let seq = store_place::next_outgoing(&words[spot.words_start..spot.words_end]);
     if seq == u64::MAX {
         return NUMBER_NOT_RECORDED;
     }
     store_place::record(
-        &mut words[words_start..words_end],
-        &mut bytes[bytes_start..bytes_end],
+        &mut words[spot.words_start..spot.words_end],
+        &mut bytes[spot.bytes_start..spot.bytes_end],
         max,
         seq,
         text,
@@ -114,17 +108,13 @@ pub fn store_record_none(
     if !store_areas::in_use(words, bytes, shape, place) {
         return RULES_BROKEN;
     }
-    let p = store_areas::spot_in(words, bytes, shape, place);
-    let words_start = p.words_start;
-    let words_end = p.words_end;
+    let spot = store_areas::spot_in(words, bytes, shape, place);
     let max = shape.messages as usize;
-    if seq < store_place::next_outgoing(&words[words_start..words_end]) {
+    let next = store_place::next_outgoing(&words[spot.words_start..spot.words_end]);
+    if seq < next || seq == u64::MAX {
         return NUMBER_NOT_RECORDED;
     }
-    if seq == u64::MAX {
-        return NUMBER_NOT_RECORDED;
-    }
-    store_place::record_none(&mut words[words_start..words_end], max, seq);
+    store_place::record_none(&mut words[spot.words_start..spot.words_end], max, seq);
     0
 }
 
@@ -134,11 +124,9 @@ pub fn store_reset(words: &mut [u64], bytes: &[u8], shape: Shape, place: usize) 
     if !store_areas::in_use(words, bytes, shape, place) {
         return RULES_BROKEN;
     }
-    let p = store_areas::spot_in(words, bytes, shape, place);
-    let words_start = p.words_start;
-    let words_end = p.words_end;
+    let spot = store_areas::spot_in(words, bytes, shape, place);
     let max = shape.messages as usize;
-    store_place::reset(&mut words[words_start..words_end], max);
+    store_place::reset(&mut words[spot.words_start..spot.words_end], max);
     0
 }
 
@@ -158,14 +146,10 @@ pub fn store_set_created_at(
     if !frame_stamp::is_stamp(text) {
         return BAD_TIMESTAMP;
     }
-    let p = store_areas::spot_in(words, bytes, shape, place);
-    let words_start = p.words_start;
-    let words_end = p.words_end;
-    let bytes_start = p.bytes_start;
-    let bytes_end = p.bytes_end;
+    let spot = store_areas::spot_in(words, bytes, shape, place);
     store_place::set_created_at(
-        &mut words[words_start..words_end],
-        &mut bytes[bytes_start..bytes_end],
+        &mut words[spot.words_start..spot.words_end],
+        &mut bytes[spot.bytes_start..spot.bytes_end],
         text,
     );
     0
@@ -187,14 +171,10 @@ pub fn store_set_marks(
     if !frame_stamp::is_marks(text) {
         return BAD_MARKS;
     }
-    let p = store_areas::spot_in(words, bytes, shape, place);
-    let words_start = p.words_start;
-    let words_end = p.words_end;
-    let bytes_start = p.bytes_start;
-    let bytes_end = p.bytes_end;
+    let spot = store_areas::spot_in(words, bytes, shape, place);
     store_place::set_marks(
-        &mut words[words_start..words_end],
-        &mut bytes[bytes_start..bytes_end],
+        &mut words[spot.words_start..spot.words_end],
+        &mut bytes[spot.bytes_start..spot.bytes_end],
         text,
     );
     0

@@ -2,16 +2,17 @@
 use mathlib.Core.Path.{◌≡◌, refl, sym, ap, ◌∙◌}
 use mathlib.Core.Bool.{Bool, true, false, cond, ◌&&◌}
 use mathlib.Core.List.{List}
-use Prim.Native.Nat.{ℕ, ◌+◌, ◌*◌, ◌-◌, ◌^◌, ◌≤◌, ◌<◌, min}
+use Prim.Native.Nat.{ℕ, ◌+◌, ◌≤◌, ◌<◌, min}
 use lib.ListN.{length, get_or}
-use lib.Dec.{eqb, ltb}
-use borrow.Author.Tests.{eq-eqb, ne_eqb, le-leb, lt-leb, lt-ltb, le-ltb}
+use lib.Dec.{eqb}
+use borrow.Author.Tests.{eq-eqb, ne_eqb, le-leb, lt-leb}
 use Rattle.model_choice.specs.Choice.{chosen}
 use Rattle.standby_choice.specs.declared.Copy.{Copy}
 use Rattle.standby_choice.specs.declared.Copies.{Copies}
-use Rattle.standby_choice.specs.declared.Choice.{Choice}
-use Rattle.standby_choice.specs.Choice.{copies_of, are_sound, Chooses}
-use Rattle.c_choice.specs.Choosing.{flag_of, described_at, copies_in, code_of, returned}
+use Rattle.base_refusals.specs.declared.Refusal.{Refusal}
+use Rattle.std.specs.Prelude.{None, Some, ok_or, Result, Err}
+use Rattle.standby_choice.specs.Choice.{copies_of, are_sound, choice_of}
+use Rattle.c_choice.specs.Choosing.{flag_of, described_at, copies_in, code_of, code_in, returned}
 
 pub flag_0 : (w : ℕ) → w ≡ 0 → 0 ≡ flag_of w
 flag_0 w e = sym (ap (λ (t : Bool). cond {A = ℕ} t 0 1) (eq-eqb w 0 e))
@@ -30,20 +31,6 @@ pub copies_are : (ws : List ℕ) {c0 c1 c2 c3 c4 : Copy} → c0 ≡ described_at
     → ◌≡◌ {A = Copies} (record { 0 = c0; 1 = c1; 2 = c2; 3 = c3; 4 = c4 }) (copies_in ws)
 copies_are ws e0 e1 e2 e3 e4 = λ j. record { 0 = e0 j; 1 = e1 j; 2 = e2 j; 3 = e3 j; 4 = e4 j }
 
--- ---- the code of a refusal and of a copy
-
-abbrev taken : ℕ → ℕ
-taken copy = cond (ltb copy (2 ^ 62)) (2 ^ 63 + copy) (2 ^ 64 - 1)
-
-pub refused : (n copy : ℕ) → (n ≡ 0 → ⊥) → n * 1099511627776 ≡ code_of n copy
-refused n copy e = sym (ap (λ (t : Bool). cond t (taken copy) (n * 2 ^ 40)) (ne_eqb n 0 e))
-
-pub took : (n copy : ℕ) → n ≡ 0 → copy < 4611686018427387904 → 9223372036854775808 + copy ≡ code_of n copy
-took n copy e h = sym (ap (λ (t : Bool). cond t (taken copy) (n * 2 ^ 40)) (eq-eqb n 0 e) ∙ ap (λ (t : Bool). cond t (2 ^ 63 + copy) (2 ^ 64 - 1)) (lt-ltb copy 4611686018427387904 h))
-
-pub took_most : (n copy : ℕ) → n ≡ 0 → 4611686018427387904 ≤ copy → 18446744073709551615 ≡ code_of n copy
-took_most n copy e h = sym (ap (λ (t : Bool). cond t (taken copy) (n * 2 ^ 40)) (eq-eqb n 0 e) ∙ ap (λ (t : Bool). cond t (2 ^ 63 + copy) (2 ^ 64 - 1)) (le-ltb copy 4611686018427387904 h))
-
 -- ---- what is returned
 
 module _ (ws w0 b0 w1 b1 w2 b2 w3 b3 w4 b4 : List ℕ) where
@@ -53,17 +40,17 @@ module _ (ws w0 b0 w1 b1 w2 b2 w3 b3 w4 b4 : List ℕ) where
   abbrev taker : ℕ
   taker = chosen (copies_of (copies_in ws) w0 b0 w1 b1 w2 b2 w3 b3 w4 b4)
 
-  pub too_short : (n : ℕ) → length ws < 30 → n ≡ code_of 25 0 → n ≡ returned ws w0 b0 w1 b1 w2 b2 w3 b3 w4 b4
+  pub too_short : (n : ℕ) → length ws < 30 → n ≡ code_in (Err Refusal.RulesBroken) → n ≡ returned ws w0 b0 w1 b1 w2 b2 w3 b3 w4 b4
   too_short n h e = e ∙ sym (ap (λ (t : Bool). cond (t && sound) (cond (eqb taker 5) (code_of 39 0) (code_of 0 taker)) (code_of 25 0)) (lt-leb 30 (length ws) h))
 
-  answer : (s t : Bool) (n : ℕ) → code_of (cond s (cond t 39 0) 25) (cond s (cond t 0 n) 0) ≡ cond s (cond t (code_of 39 0) (code_of 0 n)) (code_of 25 0)
+  answer : (s t : Bool) (n : ℕ) → code_in (cond s (ok_or (cond t None (Some n)) Refusal.NoneFits) (Err Refusal.RulesBroken)) ≡ cond s (cond t (code_of 39 0) (code_of 0 n)) (code_of 25 0)
   answer true true n = refl
   answer true false n = refl
   answer false t n = refl
 
-  pub answered : (cs : Copies) (r : Choice) (n : ℕ) → 30 ≤ length ws → cs ≡ copies_in ws → Chooses cs w0 b0 w1 b1 w2 b2 w3 b3 w4 b4 r → n ≡ code_of r.refusal r.copy
+  pub answered : (cs : Copies) (r : Result ℕ Refusal) (n : ℕ) → 30 ≤ length ws → cs ≡ copies_in ws → r ≡ choice_of cs w0 b0 w1 b1 w2 b2 w3 b3 w4 b4 → n ≡ code_in r
       → n ≡ returned ws w0 b0 w1 b1 w2 b2 w3 b3 w4 b4
   answered cs r n h e c q =
-      q ∙ (λ i. code_of (c.refusal i) (c.copy i)) ∙ answer (are_sound cs w0 b0 w1 b1 w2 b2 w3 b3 w4 b4) (eqb (chosen (copies_of cs w0 b0 w1 b1 w2 b2 w3 b3 w4 b4)) 5) (chosen (copies_of cs w0 b0 w1 b1 w2 b2 w3 b3 w4 b4))
+      q ∙ ap code_in c ∙ answer (are_sound cs w0 b0 w1 b1 w2 b2 w3 b3 w4 b4) (eqb (chosen (copies_of cs w0 b0 w1 b1 w2 b2 w3 b3 w4 b4)) 5) (chosen (copies_of cs w0 b0 w1 b1 w2 b2 w3 b3 w4 b4))
       ∙ ap (λ (x : Copies). cond (are_sound x w0 b0 w1 b1 w2 b2 w3 b3 w4 b4) (cond (eqb (chosen (copies_of x w0 b0 w1 b1 w2 b2 w3 b3 w4 b4)) 5) (code_of 39 0) (code_of 0 (chosen (copies_of x w0 b0 w1 b1 w2 b2 w3 b3 w4 b4)))) (code_of 25 0)) e
       ∙ sym (ap (λ (t : Bool). cond (t && sound) (cond (eqb taker 5) (code_of 39 0) (code_of 0 taker)) (code_of 25 0)) (le-leb 30 (length ws) h))

@@ -1,5 +1,7 @@
 -- The copies as words, and what is returned. Assumes nothing.
-use Rattle.std.specs.Prelude.{ℕ, ◌+◌, ◌*◌, ◌-◌, ◌^◌, min, cond, ◌&&◌, List, length, get_or, eqb, leb, ltb}
+use Rattle.std.specs.Prelude.{ℕ, ◌+◌, ◌*◌, ◌-◌, ◌^◌, min, cond, ◌&&◌, Result, Ok, Err, List, length, get_or, eqb, leb, ltb}
+use Rattle.base_refusals.specs.Numbers.{number_of}
+use Rattle.base_refusals.specs.declared.Refusal.{Refusal}
 use Rattle.model_choice.specs.Choice.{chosen}
 use Rattle.standby_choice.specs.declared.Copy.{Copy}
 use Rattle.standby_choice.specs.declared.Copies.{Copies}
@@ -28,6 +30,10 @@ copies_in ws = record { 0 = described_at ws 0; 1 = described_at ws 6; 2 = descri
 -- a refusal n as n × 2^40; else 2^63 and the number of the copy, which is below 2^62
 abbrev pub code_of : ℕ → ℕ → ℕ
 code_of refusal copy = cond (eqb refusal 0) (cond (ltb copy (2 ^ 62)) (2 ^ 63 + copy) (2 ^ 64 - 1)) (refusal * 2 ^ 40)
+
+abbrev pub code_in : Result ℕ Refusal → ℕ
+code_in (Ok copy) = code_of 0 copy
+code_in (Err e) = number_of e * 2 ^ 40
 
 -- 25 for fewer than 30 words, or if a listed copy's store breaks its rules; 39 where none fits; else the copy that is taken
 abbrev pub returned : List ℕ → List ℕ → List ℕ → List ℕ → List ℕ → List ℕ → List ℕ → List ℕ → List ℕ → List ℕ → List ℕ → ℕ

@@ -2,10 +2,11 @@
 #![tactic(auto)]
 
 ghost use Rattle.std.specs.Prelude.{◌≡◌, ℕ, min, ◌+◌, ◌≤◌, length};
-ghost use Rattle.c_choice.specs.Choosing.{flag_of, described_at, copies_in, code_of, returned};
+ghost use Rattle.c_choice.specs.Choosing.{flag_of, described_at, copies_in, code_in, returned};
 
+use base_refusals::Refusal;
 use frame_fields::Epoch;
-use standby_choice::{Choice, Copies, Copy};
+use standby_choice::{Copies, Copy};
 use store_areas::Shape;
 
 // The words of a copy: whether it is listed, whether it is checked, its epoch, and its store's S, C and M.
@@ -66,16 +67,19 @@ fn copies_in(copies: &[u64]) -> Copies
 }
 
 // What is returned: a refusal n as n × 2^40, else 2^63 and the number of the copy.
-fn code(refusal: u8, copy: usize) -> u64
-    ensures { result ≡ code_of refusal copy }
+fn code(choice: Result<usize, Refusal>) -> u64
+    ensures { result ≡ code_in choice }
 {
-    if refusal != 0 {
-        return (refusal as u64) * 1_099_511_627_776;
+    match choice {
+        Ok(copy) => {
+            if copy < 4_611_686_018_427_387_904 {
+                9_223_372_036_854_775_808 + (copy as u64)
+            } else {
+                u64::MAX
+            }
+        }
+        Err(e) => u64::from(e.number()) * 1_099_511_627_776,
     }
-    if copy < 4_611_686_018_427_387_904 {
-        return 9_223_372_036_854_775_808 + (copy as u64);
-    }
-    u64::MAX
 }
 
 // Which copy takes over.
@@ -96,9 +100,9 @@ pub extern "C" fn wz_choose(
     ensures { result ≡ returned copies.now w0.now b0.now w1.now b1.now w2.now b2.now w3.now b3.now w4.now b4.now }
 {
     if copies.len() < COPY_WORDS * Copies::MAX {
-        return code(25, 0);
+        return code(Err(Refusal::RulesBroken));
     }
     let cs = copies_in(copies);
-    let c = standby_choice::choose(cs, w0, b0, w1, b1, w2, b2, w3, b3, w4, b4);
-    code(c.refusal, c.copy)
+    let choice = standby_choice::choose(cs, w0, b0, w1, b1, w2, b2, w3, b3, w4, b4);
+    code(choice)
 }

@@ -25,14 +25,7 @@ pub record Pushes (maxLag last : ℕ) (q q' : List ℕ) (r : ℕ) : Type 0 where
   pub unchanged : no_queue q ≡ true → q' ≡ q
   pub pushed : no_queue q ≡ false → QueueWords (push maxLag (queue_in q) last).queue q q'
 
--- ---- of the functions within
-
--- the 64 numbers from word 2 on are these; the words before and past them are as they were
-pub record Numbered (from q q' : List ℕ) : Type 0 where
-  pub front : take 2 q' ≡ take 2 q
-  pub numbers : take 64 (drop 2 q') ≡ take 64 from
-  pub same : length q' ≡ length q
-  pub rest : drop 66 q' ≡ drop 66 q
+-- ---- of a function within
 
 -- all 66 words are set: drained, how many wait, and the numbers
 pub record Filled (drained count : ℕ) (from q q' : List ℕ) : Type 0 where

@@ -1,16 +1,25 @@
 -- A whole sending in four words: 0 the last commit number, 1 whether it has begun, 2 the number that it goes on from, 3 whether it is done.
 -- Assumes nothing.
 use Rattle.std.specs.Prelude.{◌≡◌, ℕ, cond, List, length, get_or, set, ltb, eqb}
-use Rattle.std.proofs.Math.Option.{Option}
+use Rattle.std.proofs.Math.Option.{Option, none, some}
 use Rattle.base_flags.specs.Flag.{is_set}
 use Rattle.model_frame.specs.Refusal
 use Rattle.model_session.specs.Session.{Session}
 use Rattle.model_session.specs.Sender.{Sender}
 use Rattle.model_session.specs.Whole.{batch_limit}
 use Rattle.active_batch.specs.Batch.{resume_from}
-use Rattle.active.specs.Whole.{from_word, done_byte, SendStart, ready, start_from, SendStep, gives, finished, step_from, area_from}
+use Rattle.active.specs.Whole.{SendStart, ready, start_from, SendStep, gives, finished, step_from, area_from}
 use Rattle.active.specs.Whole as whole
 use Rattle.c_exports.specs.Returned.{refusal_code, done_code, last_code}
+
+-- the words of where a sending goes on: past the last frame there is no number to go on from, and it is done
+abbrev pub from_word : Option ℕ → ℕ
+from_word none = 0
+from_word (some n) = n
+
+abbrev pub done_byte : Option ℕ → ℕ
+done_byte none = 1
+done_byte (some n) = 0
 
 -- the model's sender that the words stand for, for a handle and an epoch
 abbrev pub sender_in : ℕ → ℕ → List ℕ → Sender

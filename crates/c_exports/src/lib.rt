@@ -2,7 +2,7 @@
 #![tactic(auto)]
 
 ghost use Rattle.std.specs.Prelude.{◌≡◌, ◌+◌, ◌*◌, ◌<◌, ◌≤◌, length, take, drop, set};
-ghost use Rattle.base_flags.specs.Flag.{is_set, byte};
+ghost use Rattle.active_batch.specs.Batch.{number_in};
 ghost use Rattle.model_frame.specs.Reading.{decode};
 ghost use Rattle.model_session.specs.Summary.{fnv};
 ghost use Rattle.model_session.specs.Whole.{batch_limit};
@@ -12,20 +12,19 @@ ghost use Rattle.frame_writer.specs.Encoding.{written_of};
 ghost use Rattle.frame.specs.Answers.{frame_in};
 ghost use Rattle.active.specs.Whole.{ready, sender_of, stored_at};
 ghost use Rattle.c_session.specs.Telling.{told_at, told_of};
-ghost use Rattle.c_exports.specs.Returned.{refusal_code, done_code, field_number, fault_detail, fault_code, read_code, written_code, taken_code};
+ghost use Rattle.c_exports.specs.Returned.{refusal_code, done_code, field_number, fault_detail, fault_code, read_code, written_code};
 ghost use Rattle.c_exports.specs.Exports.{Again, Rewrites, shape_of, Makes, TellsPlace, TellsAnswer};
-ghost use Rattle.c_exports.specs.Queues.{Pushes, Numbered, Filled};
-ghost use Rattle.c_exports.specs.Sendings.{SendIs, SendsNext};
+ghost use Rattle.c_exports.specs.Queues.{Pushes, Filled};
+ghost use Rattle.c_exports.specs.Sendings.{from_word, done_byte, SendIs, SendsNext};
 
-use active::{Begun, Sending, Sent};
+use active::Sending;
 use active_lag::ReplicatedLog;
-use base_refusals::{NO_ROOM, NUMBERS_PAST, RULES_BROKEN, TOO_LONG, UNREADABLE};
-use c_session::SessionWritten;
-use frame::{Decoded, Field, Frame, FrameError, Written};
+use base_refusals::Refusal;
+use frame::{EncodeError, Field, Frame, FrameError};
 use frame_fields::{CommitNumber, Epoch};
 use frame_stamp::Protocol;
 use standby_state::Answer;
-use store_areas::{Made, Shape};
+use store_areas::Shape;
 
 // ---- what is returned
 
@@ -33,7 +32,7 @@ use store_areas::{Made, Shape};
 fn refusal(n: u8, detail: u32) -> u64
     ensures { result ≡ refusal_code n detail }
 {
-    (n as u64) * 1_099_511_627_776 + (detail as u64)
+    u64::from(n) * 1_099_511_627_776 + u64::from(detail)
 }
 
 // Done, with a count.
@@ -65,7 +64,7 @@ fn unknown(f: u32, v: u8) -> u32
     requires { f < 4 }
     ensures { result ≡ f * 256 + v }
 {
-    f * 256 + (v as u32)
+    f * 256 + u32::from(v)
 }
 
 // The detail of a fault: a length, a field and its byte, or nothing.
@@ -87,45 +86,29 @@ fn fault(error: FrameError) -> u64
 }
 
 // What writing came to: the bytes written, or a refusal.
-fn written(w: Written) -> u64
-    ensures { result ≡ written_code (written_of w) }
+fn written(written: Result<usize, EncodeError>) -> u64
+    ensures { result ≡ written_code (written_of written) }
 {
-    match w {
-        Written::Bytes(n) => done(n),
-        Written::Unreadable => refusal(UNREADABLE, 0),
-        Written::TooLong => refusal(TOO_LONG, 0),
-        Written::NoRoom => refusal(NO_ROOM, 0),
+    match written {
+        Ok(n) => done(n),
+        Err(e) => refusal(Refusal::from(e).number(), 0),
     }
 }
 
 // ---- frames
 
-// The same for a frame that was read: the bytes that it took.
-fn read_code(written: Written, used: usize) -> u64
-    ensures { result ≡ taken_code used (written_of written) }
-{
-    match written {
-        Written::Bytes(_) => done(used),
-        Written::Unreadable => refusal(UNREADABLE, 0),
-        Written::TooLong => refusal(TOO_LONG, 0),
-        Written::NoRoom => refusal(NO_ROOM, 0),
-    }
-}
+const PROTOCOL: Protocol = Protocol {
+    version: Frame::VERSION,
+};
 
 // A frame that was read from src, written again; `used` is how many bytes it took.
 fn rewritten(decoded: Frame, used: usize, src: &[u8], out: &mut [u8]) -> u64
     ensures { Again used (write_outcome 1 (frame_in 1 src.now decoded) (length out.old)) out.old out.new result }
 {
-    read_code(
-        decoded.encode(
-            Protocol {
-                version: Frame::VERSION,
-            },
-            src,
-            out,
-        ),
-        used,
-    )
+    match decoded.encode(PROTOCOL, src, out) {
+        Ok(_) => done(used),
+        Err(e) => refusal(Refusal::from(e).number(), 0),
+    }
 }
 
 // Reads one frame and writes it again.
@@ -133,15 +116,10 @@ fn rewritten(decoded: Frame, used: usize, src: &[u8], out: &mut [u8]) -> u64
 pub extern "C" fn wz_frame(frame: &[u8], out: &mut [u8]) -> u64
     ensures { Rewrites (decode 1 frame.now) out.old out.new result }
 {
-    match Frame::decode(
-        Protocol {
-            version: Frame::VERSION,
-        },
-        frame,
-    ) {
-        Decoded::More => 0,
-        Decoded::Bad(e) => fault(e),
-        Decoded::Whole(f, used) => rewritten(f, used, frame, out),
+    match Frame::decode(PROTOCOL, frame) {
+        Ok(None) => 0,
+        Ok(Some((f, used))) => rewritten(f, used, frame, out),
+        Err(e) => fault(e),
     }
 }
 
@@ -150,15 +128,10 @@ pub extern "C" fn wz_frame(frame: &[u8], out: &mut [u8]) -> u64
 pub extern "C" fn wz_read(frame: &[u8]) -> u64
     ensures { result ≡ read_code (decode 1 frame.now) }
 {
-    match Frame::decode(
-        Protocol {
-            version: Frame::VERSION,
-        },
-        frame,
-    ) {
-        Decoded::More => 0,
-        Decoded::Bad(e) => fault(e),
-        Decoded::Whole(_, used) => done(used),
+    match Frame::decode(PROTOCOL, frame) {
+        Ok(None) => 0,
+        Ok(Some((_, used))) => done(used),
+        Err(e) => fault(e),
     }
 }
 
@@ -175,19 +148,18 @@ pub extern "C" fn wz_make(words: &mut [u64], bytes: &[u8], sessions: u32, c: u32
         messages: m,
     };
     match store_areas::make(shape, words, bytes) {
-        Made::Ready => done(0),
-        Made::InvalidAreas => refusal(RULES_BROKEN, 0),
+        Ok(()) => done(0),
+        Err(e) => refusal(e.number(), 0),
     }
 }
 
 // What telling came to: the bytes told, or a refusal.
-fn session_code(written: SessionWritten) -> u64
-    ensures { result ≡ written_code (told_of written) }
+fn session_code(told: Result<usize, Refusal>) -> u64
+    ensures { result ≡ written_code (told_of told) }
 {
-    match written {
-        SessionWritten::Bytes(n) => done(n),
-        SessionWritten::NoRoom => refusal(NO_ROOM, 0),
-        SessionWritten::InvalidAreas => refusal(RULES_BROKEN, 0),
+    match told {
+        Ok(n) => done(n),
+        Err(e) => refusal(e.number(), 0),
     }
 }
 
@@ -215,25 +187,15 @@ pub extern "C" fn wz_session(
 
 // ---- whole sending: the last commit number, whether it has begun, where it goes on, whether it is done
 
-// A word as a flag.
-fn flag(word: u64) -> u8
-    ensures { result ≡ byte (is_set word) }
-{
-    if word != 0 {
-        return 1;
-    }
-    0
-}
-
 // The words of a sending for its next call.
-fn put_sending(sending: &mut [u64], last: CommitNumber, from: u64, done: u64)
+fn put_sending(sending: &mut [u64], last: CommitNumber, from: Option<u64>)
     requires { 4 ≤ length sending.old }
-    ensures { sending.new ≡ set (set (set (set sending.old 0 last.0) 1 1) 2 from) 3 done }
+    ensures { sending.new ≡ set (set (set (set sending.old 0 last.0) 1 1) 2 (from_word (number_in from))) 3 (done_byte (number_in from)) }
 {
     sending[0] = last.0;
     sending[1] = 1;
-    sending[2] = from;
-    sending[3] = done;
+    sending[2] = from.unwrap_or(0);
+    sending[3] = u64::from(from.is_none());
 }
 
 // What a call of a sending gave, and the sending's words after it.
@@ -249,14 +211,12 @@ fn send_code(
     ensures { SendIs batch_limit (stored_at shape words.now bytes.now state.place) state.handle state.epoch.0 (ready state.place (sender_of state)) sending.old sending.new out.old out.new result }
 {
     match state.send_whole(shape, words, bytes, out) {
-        Sent::Frame(len, next) => {
-            let last = next.last;
-            put_sending(sending, last, next.from, next.done as u64);
-            done(len)
+        Ok(Some(sent)) => {
+            put_sending(sending, sent.next.last, sent.next.from);
+            done(sent.len)
         }
-        Sent::Done => LAST,
-        Sent::TooShort => refusal(NO_ROOM, 0),
-        Sent::InvalidAreas => refusal(RULES_BROKEN, 0),
+        Ok(None) => LAST,
+        Err(e) => refusal(e.number(), 0),
     }
 }
 
@@ -282,7 +242,7 @@ pub extern "C" fn wz_send(
         messages: m,
     };
     if sending.len() < 4 {
-        return refusal(RULES_BROKEN, 0);
+        return refusal(Refusal::RulesBroken.number(), 0);
     }
     let last = CommitNumber(sending[0]);
     if sending[1] != 0 {
@@ -291,15 +251,13 @@ pub extern "C" fn wz_send(
             handle,
             epoch: Epoch(epoch),
             last,
-            from: sending[2],
-            done: flag(sending[3]),
+            from: (sending[3] == 0).then_some(sending[2]),
         };
         return send_code(s, shape, words, bytes, sending, out);
     }
     match Sending::begin(shape, words, bytes, place, handle, Epoch(epoch), last) {
-        Begun::Ready(s) => send_code(s, shape, words, bytes, sending, out),
-        Begun::CommitNumbersExhausted => refusal(NUMBERS_PAST, 0),
-        Begun::InvalidAreas => refusal(RULES_BROKEN, 0),
+        Ok(s) => send_code(s, shape, words, bytes, sending, out),
+        Err(e) => refusal(e.number(), 0),
     }
 }
 
@@ -313,24 +271,8 @@ fn numbers(queue: &[u64]) -> [u64; ReplicatedLog::MAX_QUEUED + 1]
     ensures { take 64 result ≡ take 64 (drop 2 queue.now) }
 {
     let mut out = [0; ReplicatedLog::MAX_QUEUED + 1];
-    let mut i: usize = 0;
-    while i < ReplicatedLog::MAX_QUEUED {
-        out[i] = queue[2 + i];
-        i += 1;
-    }
+    out[..ReplicatedLog::MAX_QUEUED].copy_from_slice(&queue[2..QUEUE_WORDS]);
     out
-}
-
-// Puts the numbers where they stand.
-fn put_numbers(queue: &mut [u64], from: [u64; ReplicatedLog::MAX_QUEUED + 1])
-    requires { 66 ≤ length queue.old }
-    ensures { Numbered from queue.old queue.new }
-{
-    let mut i: usize = 0;
-    while i < ReplicatedLog::MAX_QUEUED {
-        queue[2 + i] = from[i];
-        i += 1;
-    }
 }
 
 // Puts the queue into its words.
@@ -338,10 +280,9 @@ fn put_queue(queue: &mut [u64], log: ReplicatedLog)
     requires { 66 ≤ length queue.old }
     ensures { Filled log.drained_through log.count log.queued queue.old queue.new }
 {
-    let from = log.queued;
     queue[0] = log.drained_through;
     queue[1] = log.count as u64;
-    put_numbers(queue, from);
+    queue[2..QUEUE_WORDS].copy_from_slice(&log.queued[..ReplicatedLog::MAX_QUEUED]);
 }
 
 // One push.
@@ -350,21 +291,20 @@ pub extern "C" fn wz_queue(queue: &mut [u64], max_lag: u64, last: u64) -> u64
     ensures { Pushes max_lag last queue.old queue.new result }
 {
     if queue.len() < QUEUE_WORDS {
-        return refusal(RULES_BROKEN, 0);
+        return refusal(Refusal::RulesBroken.number(), 0);
     }
-    let queued = numbers(queue);
     let log = ReplicatedLog {
         drained_through: queue[0],
         count: queue[1] as usize,
-        queued,
+        queued: numbers(queue),
     };
-    let q = log.queue(last, max_lag);
-    if q.refusal != 0 {
-        return refusal(q.refusal, 0);
+    match log.queue(last, max_lag) {
+        Ok(pushed) => {
+            put_queue(queue, pushed.log);
+            done(pushed.drained)
+        }
+        Err(refused) => refusal(refused.number(), 0),
     }
-    let next = q.log;
-    put_queue(queue, next);
-    done(q.drained)
 }
 
 // ---- the standby's answers

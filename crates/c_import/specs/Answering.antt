@@ -1,18 +1,19 @@
 -- What an import answers across the boundary. Assumes nothing.
-use Rattle.std.specs.Prelude.{◌≡◌, List, ℕ}
+use Rattle.std.specs.Prelude.{◌≡◌, List, ℕ, Result, Ok, Err}
 use Rattle.model_frame.specs.Frame.{Key}
 use Rattle.store_areas.specs.declared.Shape.{Shape}
-use Rattle.store_import.specs.declared.Imported.{Imported}
+use Rattle.base_refusals.specs.Numbers.{number_of}
+use Rattle.fix_file.specs.declared.Fault.{Fault}
 use Rattle.store_import.specs.Importing.{ImportAt}
 use Rattle.c_import.specs.declared.Built.{Built}
 
 -- an answer in document 02's numbers: 0 and the place, or the refusal and the offset
-abbrev pub built_of : Imported → Built
-built_of (Imported.Place i) = record { refusal = 0; place = i; at = 0 }
-built_of (Imported.Refused f) = record { refusal = f.refusal; place = 0; at = f.at }
+abbrev pub built_of : Result ℕ Fault → Built
+built_of (Ok i) = record { refusal = 0; place = i; at = 0 }
+built_of (Err f) = record { refusal = number_of f.refusal; place = 0; at = f.at }
 
 -- the promise of `store_import::import`, of the answer that is returned in numbers
 pub record Imports (s : Shape) (k : Key) (file w w' b b' : List ℕ) (r : Built) : Type 0 where
-  pub answer : Imported
+  pub answer : Result ℕ Fault
   pub returned : r ≡ built_of answer
   pub promise : ImportAt s k file w w' b b' answer

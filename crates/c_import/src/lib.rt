@@ -6,7 +6,6 @@ ghost use Rattle.store_place.specs.Place.{key_from};
 ghost use Rattle.c_import.specs.Answering.{Imports};
 
 use store_areas::Shape;
-use store_import::Imported;
 
 // The answer: 0 and the new session's place; or the refusal, with the offset of the first faulty message for 28, 29 and 30.
 #[repr(C)]
@@ -38,13 +37,13 @@ pub fn wz_import(
         messages: m,
     };
     match store_import::import(words, bytes, shape, begin, sender, target, suffix, file) {
-        Imported::Place(place) => Built {
+        Ok(place) => Built {
             refusal: 0,
             place,
             at: 0,
         },
-        Imported::Refused(f) => Built {
-            refusal: f.refusal,
+        Err(f) => Built {
+            refusal: f.refusal.number(),
             place: 0,
             at: f.at,
         },

@@ -28,24 +28,15 @@ pub struct Due {
     pub due: u8,
 }
 
-// 0 renewed, 1 failed, any other deposed: what isn't known stops the active.
+// The outcome by the byte that C hands in: 0 renewed, 1 failed, any other deposed, since what isn't known stops the active.
 fn outcome_of(outcome: u8) -> RenewalOutcome
     ensures { outcome_of result ≡ outcome_at outcome }
 {
-    if outcome == 0 {
-        return RenewalOutcome::Renewed;
+    match outcome {
+        0 => RenewalOutcome::Renewed,
+        1 => RenewalOutcome::Failed,
+        _ => RenewalOutcome::Deposed,
     }
-    if outcome == 1 {
-        return RenewalOutcome::Failed;
-    }
-    RenewalOutcome::Deposed
-}
-
-// A flag's word as a byte.
-fn flag_of(word: u64) -> u8
-    ensures { result ≡ byte (is_set word) }
-{
-    if word == 0 { 0 } else { 1 }
 }
 
 // The lease that the words stand for.
@@ -56,7 +47,7 @@ fn held_in(lease: &[u64; 4]) -> Held
         duration: lease[word::DURATION],
         until: lease[word::UNTIL],
         last: lease[word::LAST],
-        lost: flag_of(lease[word::LOST]),
+        lost: lease[word::LOST] != 0,
     }
 }
 
@@ -72,32 +63,39 @@ pub fn wz_lease_new(lease: &mut [u64; 4], duration: u64, time: u64)
 pub fn wz_lease_renewal(lease: &mut [u64; 4], time: u64) -> Due
     ensures { AsksIn lease.old time result lease.new }
 {
-    let duration = lease[word::DURATION];
-    let until = lease[word::UNTIL];
-    let lost = lease[word::LOST];
-    let asked = held_in(lease).renewal(time);
-    *lease = [duration, until, asked.held.last, lost];
-    Due {
-        refusal: asked.refusal,
-        due: asked.due,
+    match held_in(lease).renewal(time) {
+        Ok(asked) => {
+            lease[word::LAST] = asked.held.last;
+            Due {
+                refusal: 0,
+                due: u8::from(asked.due),
+            }
+        }
+        Err(refusal) => Due {
+            refusal: refusal.number(),
+            due: 0,
+        },
     }
 }
 
 // The flag's word after an attempt: one that is set stays as it was.
-fn flag_after(word: u64, lost: u8) -> u64
-    ensures { result ≡ cond (is_set word) word lost }
+fn flag_after(word: u64, lost: bool) -> u64
+    ensures { result ≡ cond (is_set word) word (byte lost) }
 {
-    if word == 0 { lost as u64 } else { word }
+    if word == 0 { u64::from(lost) } else { word }
 }
 
 // An attempt to renew that started at one time, and whose outcome came at another; 31 as above, else 0.
 pub fn wz_lease_attempt(lease: &mut [u64; 4], started: u64, time: u64, outcome: u8) -> u8
     ensures { TriesIn lease.old (attempt_at started time outcome) result lease.new }
 {
-    let duration = lease[word::DURATION];
-    let lost = lease[word::LOST];
-    let tried = held_in(lease).attempt(started, time, outcome_of(outcome));
-    let flag = flag_after(lost, tried.held.lost);
-    *lease = [duration, tried.held.until, tried.held.last, flag];
-    tried.refusal
+    match held_in(lease).attempt(started, time, outcome_of(outcome)) {
+        Ok(held) => {
+            lease[word::UNTIL] = held.until;
+            lease[word::LAST] = held.last;
+            lease[word::LOST] = flag_after(lease[word::LOST], held.lost);
+            0
+        }
+        Err(refusal) => refusal.number(),
+    }
 }

@@ -1,31 +1,52 @@
 // Up to five standbys, for programs in C or Rust: each function has the promise of `active_quorum`, and asks nothing of its caller.
 #![tactic(auto)]
 
+ghost use Rattle.std.specs.Prelude.{◌≡◌};
+ghost use Rattle.base_refusals.specs.Numbers.{answer_number};
 ghost use Rattle.model_quorum.specs.History.{bind, sent, ack, stale};
-ghost use Rattle.active_quorum.specs.Area.{MakesQuorum, Does, Tells};
+ghost use Rattle.active_quorum.specs.Area.{MakesQuorum, Does};
+ghost use Rattle.c_quorum.specs.Boundary.{Tells};
 
-use active_quorum::Shown;
+use base_refusals::Refusal;
 use frame_fields::CommitNumber;
+
+// A figure: 25 or 37, else 0 and the number.
+#[repr(C)]
+#[derive(Clone, Copy)]
+pub struct Shown {
+    pub refusal: u8,
+    pub number: CommitNumber,
+}
+
+// An answer as C gets it: 0, or the refusal's number.
+fn answer_number(answer: Result<(), Refusal>) -> u8
+    ensures { result ≡ answer_number answer }
+{
+    match answer {
+        Ok(()) => 0,
+        Err(refusal) => refusal.number(),
+    }
+}
 
 #[unsafe(no_mangle)]
 pub extern "C" fn wz_quorum_make(words: &mut [u64], n: u64, k: u64) -> u8
     ensures { MakesQuorum words.old n k result words.new }
 {
-    active_quorum::make(words, n, k)
+    answer_number(active_quorum::make(words, n, k))
 }
 
 #[unsafe(no_mangle)]
 pub extern "C" fn wz_quorum_bind(words: &mut [u64], handle: u32) -> u8
     ensures { Does words.old (bind handle) result words.new }
 {
-    active_quorum::bind(words, handle)
+    answer_number(active_quorum::bind(words, handle))
 }
 
 #[unsafe(no_mangle)]
 pub extern "C" fn wz_quorum_sent(words: &mut [u64], handle: u32, number: CommitNumber) -> u8
     ensures { Does words.old (sent handle number.0) result words.new }
 {
-    active_quorum::sent(words, handle, number)
+    answer_number(active_quorum::sent(words, handle, number))
 }
 
 #[unsafe(no_mangle)]
@@ -37,19 +58,25 @@ pub extern "C" fn wz_quorum_acknowledged(
 ) -> u8
     ensures { Does words.old (ack member handle number.0) result words.new }
 {
-    active_quorum::acknowledged(words, member, handle, number)
+    answer_number(active_quorum::acknowledged(words, member, handle, number))
 }
 
 #[unsafe(no_mangle)]
 pub extern "C" fn wz_quorum_stale_epoch(words: &mut [u64], member: usize) -> u8
     ensures { Does words.old (stale member) result words.new }
 {
-    active_quorum::stale_epoch(words, member)
+    answer_number(active_quorum::stale_epoch(words, member))
 }
 
 #[unsafe(no_mangle)]
 pub extern "C" fn wz_quorum_figure(words: &[u64], handle: u32) -> Shown
     ensures { Tells words.now handle result }
 {
-    active_quorum::figure(words, handle)
+    match active_quorum::figure(words, handle) {
+        Ok(number) => Shown { refusal: 0, number },
+        Err(refusal) => Shown {
+            refusal: refusal.number(),
+            number: CommitNumber(0),
+        },
+    }
 }

@@ -25,5 +25,5 @@ pub extern "C" fn wz_resend(
         bytes: c,
         messages: m,
     };
-    store_resend::list(words, bytes, shape, place, ranges, entries)
+    Listed::of(store_resend::list(words, bytes, shape, place, ranges, entries))
 }

@@ -8,7 +8,6 @@ use native.Mathlib.Omega.{arith}
 use borrow.Author.Tests.{le-leb, lt-leb}
 use borrow.Rule.Slice.PartMut.{mid_of}
 use lib.ListN.{length, take, drop, get_or, length-take, length-append}
-use lib.Seq.{get_or-take, get_or-drop}
 use Rattle.model_frame.specs.Bytes.{write}
 use Rattle.model_frame.specs.Frame as the_frame
 use Rattle.model_frame.specs.Frame.{Key}
@@ -30,21 +29,13 @@ use Rattle.store_place.specs.Place.{field, place_in}
 use Rattle.store_areas.specs.declared.Shape.{Shape}
 use Rattle.store_areas.specs.Areas.{in_use, Rules, SpotIn, place_at}
 use Rattle.store_areas.proofs.Reading.{lent, part_of}
-use Rattle.c_session.specs.declared.SessionWritten.{SessionWritten}
+use mir.Val.{bool_byte}
+use Rattle.std.specs.Prelude as prelude
+use Rattle.std.specs.Prelude.{Result, Ok, Err, Some, None}
+use Rattle.base_refusals.specs.declared.Refusal.{Refusal}
 use Rattle.c_session.specs.Telling.{span_up_to, flag, told_bytes, told_at, session_outcome, TellsSession}
 
 -- ---- parts of the byte area
-
-module _ (at n most : ℕ) where
-  pub cut_short : n < most → record { at = at; len = n } ≡ span_up_to at n most
-  cut_short h =
-      let e : n ≡ min n most = omega arith in
-      ap (λ (k : ℕ). record { at = at; len = k }) e
-
-  pub cut_long : most ≤ n → record { at = at; len = most } ≡ span_up_to at n most
-  cut_long h =
-      let e : most ≡ min n most = omega arith in
-      ap (λ (k : ℕ). record { at = at; len = k }) e
 
 pub part_short : (b : List ℕ) (p : Span) {k : ℕ} → k ≡ length (span_of b p) → p.len < 4294967296 → k < 4294967296
 part_short b p e h = omega (arith, e, length-take p.len (drop p.at b))
@@ -58,27 +49,24 @@ module _ (s : Shape) (i wa we ba be : ℕ) (w b : List ℕ) (at : SpotIn s i w b
   abbrev mb : List ℕ
   mb = mid_of ba (be - ba) b
 
-  word : (k : ℕ) → k < 16 → get_or w (wa + k) 0 ≡ get_or mw k 0
-  word k g = sym (get_or-take (we - wa) (drop wa w) k 0 (omega (arith, at.at.words_from, at.at.words_to)) ∙ get_or-drop wa w k 0)
-
   -- the text of 32 bytes at most at j, whose length is word k
-  text : (j k a : ℕ) {p : Span} → j + 32 ≤ 224 → k < 16 → a ≡ ba + j → p ≡ span_up_to a (get_or w (wa + k) 0) 32 → span_of b p ≡ field mb j 32 (get_or mw k 0)
+  text : (j k a : ℕ) {p : Span} → j + 32 ≤ 224 → a ≡ ba + j → p ≡ span_up_to a (get_or mw k 0) 32 → span_of b p ≡ field mb j 32 (get_or mw k 0)
   unfolding field
-  text j k a gj gk ea ep =
-      let n = min (get_or w (wa + k) 0) 32 in
+  text j k a gj ea ep =
+      let n = min (get_or mw k 0) 32 in
       let room : j + n ≤ length mb = omega (arith, at.bytes_part) in
-      ap (span_of b) ep ∙ ap (λ (x : ℕ). take n (drop x b)) ea ∙ sym (part_of s i wa we ba be w b at r h j n room) ∙ ap (λ (x : ℕ). take (min x 32) (drop j mb)) (word k gk)
+      ap (span_of b) ep ∙ ap (λ (x : ℕ). take n (drop x b)) ea ∙ sym (part_of s i wa we ba be w b at r h j n room)
 
-  pub key_is : {p q u v : Span} → p ≡ span_up_to ba (get_or w (wa + 7) 0) 32 → q ≡ span_up_to (ba + 32) (get_or w (wa + 8) 0) 32 → u ≡ span_up_to (ba + 64) (get_or w (wa + 9) 0) 32 → v ≡ span_up_to (ba + 96) (get_or w (wa + 10) 0) 32
+  pub key_is : {p q u v : Span} → p ≡ span_up_to ba (get_or mw 7 0) 32 → q ≡ span_up_to (ba + 32) (get_or mw 8 0) 32 → u ≡ span_up_to (ba + 64) (get_or mw 9 0) 32 → v ≡ span_up_to (ba + 96) (get_or mw 10 0) 32
       → key_of b (record { begin_string = p; sender_comp_id = q; target_comp_id = u; key_suffix = v }) ≡ (place_at s w b i).key
   unfolding the-place.stored_key place_in
   key_is ep eq eu ev =
       let start : ba ≡ ba + 0 = omega arith in
       (λ j. record {
-        begin = text 0 7 ba (omega arith) (omega arith) start ep j;
-        sender = text 32 8 (ba + 32) (omega arith) (omega arith) refl eq j;
-        target = text 64 9 (ba + 64) (omega arith) (omega arith) refl eu j;
-        suffix = text 96 10 (ba + 96) (omega arith) (omega arith) refl ev j;
+        begin = text 0 7 ba (omega arith) start ep j;
+        sender = text 32 8 (ba + 32) (omega arith) refl eq j;
+        target = text 64 9 (ba + 64) (omega arith) refl eu j;
+        suffix = text 96 10 (ba + 96) (omega arith) refl ev j;
       })
       ∙ ap (λ (x : Place). x.key) (lent s i wa we ba be w b at r h)
 
@@ -98,6 +86,16 @@ told_size x n = omega (arith, length-append (key_bytes x.key) (summary_bytes (su
 
 -- ---- a place in use, by its key and summary
 
+-- the byte of a flag
+pub flag_byte : (t : Bool) {n : ℕ} → n ≡ bool_byte t → n ≡ flag t
+flag_byte true e = e
+flag_byte false e = e
+
+-- the byte that says whether a number is in flight
+pub flight_byte : (o : prelude.Option ℕ) {t : Bool} {n : ℕ} → t ≡ prelude.is_some o → n ≡ bool_byte t → n ≡ flag (is_some (flight_of o))
+flight_byte (Some k) p e = e ∙ ap bool_byte p
+flight_byte None p e = e ∙ ap bool_byte p
+
 -- the two flags, by their bytes
 pub flagged : {d e d' e' : ℕ} {rest out out' : List ℕ} {next : ℕ} → d' ≡ d → e' ≡ e → Wrote out 0 (d' ∷ e' ∷ rest) out' next → Wrote out 0 (d ∷ e ∷ rest) out' next
 flagged {rest = rest} {out = out} {out' = out'} {next = next} ed ee w = subst₂ (λ (x y : ℕ). Wrote out 0 (x ∷ y ∷ rest) out' next) ed ee w
@@ -106,14 +104,14 @@ module _ (x : Place) (n : ℕ) (b : List ℕ) (k : SessionId) (m : Summary) {z :
   size_is : z ≡ length (told_bytes x n)
   size_is = ez ∙ (λ j. 2 + key_size (ek j) + summary_size (em j)) ∙ sym (told_size x n)
 
-  pub no_room : {out : List ℕ} → length out < z → TellsSession (some (told_bytes x n)) out out SessionWritten.NoRoom
+  pub no_room : {out : List ℕ} → length out < z → TellsSession (some (told_bytes x n)) out out (Err Refusal.NoRoom)
   unfolding session_outcome
   no_room {out} h =
       let less : length out < length (told_bytes x n) = omega (arith, size_is) in
       record { answer = rw (lt-leb _ _ less); area = rw (lt-leb _ _ less) }
 
   pub told : {d : Bool} {out out' : List ℕ} {next : ℕ} → d ≡ x.stored.durable → z ≤ length out
-      → Wrote out 0 (flag d ∷ flag (is_some (flight_of m.in_flight)) ∷ (key_bytes (key_of b k) ++ summary_bytes (summary_of b m))) out' next → TellsSession (some (told_bytes x n)) out out' (SessionWritten.Bytes next)
+      → Wrote out 0 (flag d ∷ flag (is_some (flight_of m.in_flight)) ∷ (key_bytes (key_of b k) ++ summary_bytes (summary_of b m))) out' next → TellsSession (some (told_bytes x n)) out out' (Ok next)
   unfolding session_outcome told_bytes summary
   told {d} {out} {out'} {next} ed h wr =
       let fits : length (told_bytes x n) ≤ length out = omega (arith, size_is) in
@@ -132,9 +130,9 @@ module _ (s : Shape) (w b : List ℕ) (i n : ℕ) {t : Bool} (is : t ≡ in_use 
   unfolding told_at
   told_by e = ap (λ (x : Bool). cond x (some (told_bytes (place_at s w b i) n)) none) (sym e ∙ is)
 
-  pub told_there : {out out' : List ℕ} {r : SessionWritten} → t ≡ true → TellsSession (some (told_bytes (place_at s w b i) n)) out out' r → TellsSession (told_at s w b i n) out out' r
+  pub told_there : {out out' : List ℕ} {r : Result ℕ Refusal} → t ≡ true → TellsSession (some (told_bytes (place_at s w b i) n)) out out' r → TellsSession (told_at s w b i n) out out' r
   told_there {out} {out'} {r} e k = subst (λ (x : Option (List ℕ)). TellsSession x out out' r) (told_by e) k
 
-  pub unfit : {out : List ℕ} → t ≡ false → TellsSession (told_at s w b i n) out out SessionWritten.InvalidAreas
+  pub unfit : {out : List ℕ} → t ≡ false → TellsSession (told_at s w b i n) out out (Err Refusal.RulesBroken)
   unfolding session_outcome
-  unfit {out} e = subst (λ (x : Option (List ℕ)). TellsSession x out out SessionWritten.InvalidAreas) (told_by e) (record { answer = refl; area = refl })
+  unfit {out} e = subst (λ (x : Option (List ℕ)). TellsSession x out out (Err Refusal.RulesBroken)) (told_by e) (record { answer = refl; area = refl })

@@ -1,5 +1,5 @@
 -- What is told of a place of the store: 25, 9 or the bytes of its session. Assumes nothing.
-use Rattle.std.specs.Prelude.{ℕ, min, ◌≡◌, Bool, cond, List, ◌∷◌, ◌++◌, leb, length}
+use Rattle.std.specs.Prelude.{ℕ, min, ◌≡◌, Bool, cond, List, ◌∷◌, ◌++◌, leb, length, Result, Ok, Err}
 use Rattle.std.proofs.Math.Option.{Option, none, some}
 use Rattle.model_frame.specs.Refusal
 use Rattle.model_frame.specs.Writing.{key_bytes, summary_bytes, WriteOutcome, wrote, refused, area_after, WriteAnswer, took, write_refusal, write_answer}
@@ -9,7 +9,8 @@ use Rattle.model_standby.specs.Row.{is_some}
 use Rattle.frame_reader.specs.declared.Span.{Span}
 use Rattle.store_areas.specs.declared.Shape.{Shape}
 use Rattle.store_areas.specs.Areas.{in_use, place_at}
-use Rattle.c_session.specs.declared.SessionWritten.{SessionWritten}
+use Rattle.base_refusals.specs.Numbers.{number_of}
+use Rattle.base_refusals.specs.declared.Refusal.{Refusal}
 
 -- n bytes at a position, or the first `most` of them
 abbrev pub span_up_to : ℕ → ℕ → ℕ → Span
@@ -35,12 +36,11 @@ session_outcome none room = refused Refusal.rules_broken
 session_outcome (some bs) room = cond (leb (length bs) room) (wrote bs) (refused Refusal.no_room)
 
 -- an answer's number
-abbrev pub told_of : SessionWritten → WriteAnswer
-told_of (SessionWritten.Bytes n) = took n
-told_of SessionWritten.NoRoom = write_refusal Refusal.no_room
-told_of SessionWritten.InvalidAreas = write_refusal Refusal.rules_broken
+abbrev pub told_of : Result ℕ Refusal → WriteAnswer
+told_of (Ok n) = took n
+told_of (Err e) = write_refusal (number_of e)
 
 -- the answer is the outcome's; the area has the bytes at its start and the rest as it was, and a refusal leaves all of it
-pub record TellsSession (bytes : Option (List ℕ)) (before after : List ℕ) (r : SessionWritten) : Type 0 where
+pub record TellsSession (bytes : Option (List ℕ)) (before after : List ℕ) (r : Result ℕ Refusal) : Type 0 where
   pub answer : told_of r ≡ write_answer (session_outcome bytes (length before))
   pub area : after ≡ area_after (session_outcome bytes (length before)) before

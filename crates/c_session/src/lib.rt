@@ -12,18 +12,11 @@ ghost use Rattle.frame_writer.specs.Encoding.{key_size, summary_size};
 ghost use Rattle.store_areas.specs.Areas.{Rules, place_at};
 ghost use Rattle.c_session.specs.Telling.{span_up_to, flag, told_bytes, told_at, TellsSession};
 
-use frame_fields::{InFlight, SessionId, Summary};
+use base_refusals::Refusal;
+use frame_fields::{SessionId, Summary};
 use frame_reader::Span;
 use store_areas::Shape;
 use store_place::{byte, word};
-
-// How many bytes were written, or why none was: an area too short, broken rules or a place that is not in use.
-#[derive(Clone, Copy)]
-pub enum SessionWritten {
-    Bytes(usize),
-    NoRoom,
-    InvalidAreas,
-}
 
 // ---- what stands in the byte area
 
@@ -34,10 +27,10 @@ const KEY_TEXT_MOST: u32 = byte::KEY_TEXT_SIZE as u32;
 fn span(at: usize, n: u64, most: u32) -> Span
     ensures { result ≡ span_up_to at n most }
 {
-    if n < most as u64 {
-        return Span { at, len: n as u32 };
+    Span {
+        at,
+        len: n.min(u64::from(most)) as u32,
     }
-    Span { at, len: most }
 }
 
 // The key of a place in use.
@@ -47,33 +40,25 @@ fn key_of(words: &[u64], bytes: &[u8], shape: Shape, place: usize) -> SessionId
     ensures { key_of bytes.now result ≡ (place_at shape words.now bytes.now place).key }
 {
     let p = store_areas::spot_in(words, bytes, shape, place);
-    let words_start = p.words_start;
-    let bytes_start = p.bytes_start;
-    let begin_string = span(
-        bytes_start,
-        words[words_start + word::BEGIN_LEN],
-        KEY_TEXT_MOST,
-    );
-    let sender_comp_id = span(
-        bytes_start + byte::SENDER,
-        words[words_start + word::SENDER_LEN],
-        KEY_TEXT_MOST,
-    );
-    let target_comp_id = span(
-        bytes_start + byte::TARGET,
-        words[words_start + word::TARGET_LEN],
-        KEY_TEXT_MOST,
-    );
-    let key_suffix = span(
-        bytes_start + byte::SUFFIX,
-        words[words_start + word::SUFFIX_LEN],
-        KEY_TEXT_MOST,
-    );
+    let lengths = &words[p.words_start..p.words_end];
+    let start = p.bytes_start;
     SessionId {
-        begin_string,
-        sender_comp_id,
-        target_comp_id,
-        key_suffix,
+        begin_string: span(start, lengths[word::BEGIN_LEN], KEY_TEXT_MOST),
+        sender_comp_id: span(
+            start + byte::SENDER,
+            lengths[word::SENDER_LEN],
+            KEY_TEXT_MOST,
+        ),
+        target_comp_id: span(
+            start + byte::TARGET,
+            lengths[word::TARGET_LEN],
+            KEY_TEXT_MOST,
+        ),
+        key_suffix: span(
+            start + byte::SUFFIX,
+            lengths[word::SUFFIX_LEN],
+            KEY_TEXT_MOST,
+        ),
     }
 }
 
@@ -91,42 +76,24 @@ fn len(bytes: &[u8], span: Span) -> usize
 fn size(bytes: &[u8], session: SessionId, fields: Summary) -> usize
     ensures { result ≡ 2 + key_size (key_of bytes.now session) + summary_size (summary_of bytes.now fields) }
 {
-    let begin = session.begin_string;
-    let sender = session.sender_comp_id;
-    let target = session.target_comp_id;
-    let suffix = session.key_suffix;
-    let created_at = fields.created_at;
-    let marks = fields.marks;
-    let key = 16 + len(bytes, begin) + len(bytes, sender) + len(bytes, target) + len(bytes, suffix);
-    let summary = 40 + len(bytes, created_at) + len(bytes, marks);
+    let key = 16
+        + len(bytes, session.begin_string)
+        + len(bytes, session.sender_comp_id)
+        + len(bytes, session.target_comp_id)
+        + len(bytes, session.key_suffix);
+    let summary = 40 + len(bytes, fields.created_at) + len(bytes, fields.marks);
     2 + key + summary
 }
 
 // ---- writing
-
-fn durable_flag(durable: bool) -> u8
-    ensures { result ≡ flag durable }
-{
-    if durable { 1 } else { 0 }
-}
-
-fn flight_flag(flight: InFlight) -> u8
-    ensures { result ≡ flag (is_some (flight_of flight)) }
-{
-    match flight {
-        InFlight::Seq(_) => 1,
-        InFlight::Nothing => 0,
-    }
-}
 
 // A session from the start of an area that has the room.
 fn put(bytes: &[u8], durable: bool, session: SessionId, summary: Summary, out: &mut [u8]) -> usize
     requires { 2 + key_size (key_of bytes.now session) + summary_size (summary_of bytes.now summary) ≤ length out.old }
     ensures { Wrote out.old 0 (flag durable ∷ flag (is_some (flight_of summary.in_flight)) ∷ (key_bytes (key_of bytes.now session) ++ summary_bytes (summary_of bytes.now summary))) out.new result }
 {
-    let f = summary.in_flight;
-    let at = frame_op::tag(out, 0, durable_flag(durable));
-    let at = frame_op::tag(out, at, flight_flag(f));
+    let at = frame_op::tag(out, 0, u8::from(durable));
+    let at = frame_op::tag(out, at, u8::from(summary.in_flight.is_some()));
     let at = frame_writer::put_session(bytes, session, out, at);
     frame_writer::put_summary(bytes, summary, out, at)
 }
@@ -139,7 +106,7 @@ fn write_session(
     place: usize,
     n: u64,
     out: &mut [u8],
-) -> SessionWritten
+) -> Result<usize, Refusal>
     requires rules { Rules shape words.now bytes.now }
     requires place_bound { place < get_or words.now 0 0 }
     ensures { TellsSession (some (told_bytes (place_at shape words.now bytes.now place) n)) out.old out.new result }
@@ -148,9 +115,9 @@ fn write_session(
     let k = key_of(words, bytes, shape, place);
     let m = store_sessions::summary_of(words, bytes, shape, place, n);
     if out.len() < size(bytes, k, m) {
-        return SessionWritten::NoRoom;
+        return Err(Refusal::NoRoom);
     }
-    SessionWritten::Bytes(put(bytes, durable, k, m, out))
+    Ok(put(bytes, durable, k, m, out))
 }
 
 // The session at a place: 25 broken rules or a place that is not in use, 9 an area too short; both leave the area as it was.
@@ -161,11 +128,11 @@ pub fn session(
     place: usize,
     n: u64,
     out: &mut [u8],
-) -> SessionWritten
+) -> Result<usize, Refusal>
     ensures { TellsSession (told_at shape words.now bytes.now place n) out.old out.new result }
 {
     if !store_areas::in_use(words, bytes, shape, place) {
-        return SessionWritten::InvalidAreas;
+        return Err(Refusal::RulesBroken);
     }
     write_session(words, bytes, shape, place, n, out)
 }

@@ -16,8 +16,10 @@ use Rattle.model_standby.specs.Store.{Stored, place_of, is_stored, on_stored, ch
 use Rattle.store_log.specs.Log.{rest_of}
 use Rattle.store_place.specs.Place.{next_out_of, place_in, rest_in, PositionIn}
 use Rattle.store_areas.specs.declared.Shape.{Shape}
-use Rattle.store_areas.specs.declared.Made.{Made}
-use Rattle.store_areas.specs.Areas.{durable_at, allowed, in_use, InUse, SpotIn, places_of, Changed, made_number, Making}
+use Rattle.std.specs.Prelude.{Result}
+use Rattle.base_refusals.specs.declared.Refusal.{Refusal}
+use Rattle.base_refusals.specs.Numbers.{answer_number}
+use Rattle.store_areas.specs.Areas.{durable_at, allowed, in_use, InUse, SpotIn, places_of, Changed, Making}
 use Rattle.store_areas.proofs.Lifting.{places_length, spot_both, spot_words}
 use Rattle.store_areas.proofs.Reading.{out_is}
 use Rattle.store_areas.proofs.Marking.{marked}
@@ -114,8 +116,8 @@ counted s w b i left dist f = sym (rest_length s w b i left dist f.stands) ∙ a
 
 -- ---- making
 
-pub made_by : {s : Shape} {w w' b : List ℕ} {d : Made} (m : Made) → Making s w w' b d → d ≡ m → MadeIs s w w' b (made_number m)
-made_by m p e = record { answer = ap made_number (sym e) ∙ p.answer; words = p.words }
+pub made_by : {s : Shape} {w w' b : List ℕ} {d : Result (Unit {0}) Refusal} {r : ℕ} → Making s w w' b d → r ≡ answer_number d → MadeIs s w w' b r
+made_by p e = record { answer = e ∙ p.answer; words = p.words }
 
 -- ---- opening
 

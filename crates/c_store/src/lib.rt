@@ -10,7 +10,7 @@ ghost use Rattle.store_place.specs.Place.{key_from};
 ghost use Rattle.c_store.specs.Total.{Reads, MadeIs, ChangeIs, OpenIs};
 
 use base_refusals::{BAD_SESSION, NO_SESSION_PLACE, RULES_BROKEN};
-use store_areas::{Made, Shape, word};
+use store_areas::{Shape, word};
 
 // A refusal by its number, or 0 and the value.
 #[repr(C)]
@@ -25,8 +25,8 @@ pub fn store_make(words: &mut [u64], bytes: &[u8], shape: Shape) -> u8
     ensures { MadeIs shape words.old words.new bytes.now result }
 {
     match store_areas::make(shape, words, bytes) {
-        Made::Ready => 0,
-        Made::InvalidAreas => RULES_BROKEN,
+        Ok(()) => 0,
+        Err(refusal) => refusal.number(),
     }
 }
 

@@ -13,14 +13,12 @@ use Rattle.model_frame.specs.Bytes.{is_bytes, write}
 use Rattle.model_frame.specs.Frame as the_frame
 use Rattle.model_frame.specs.Frame.{got}
 use Rattle.model_frame.specs.Reading.{max_body, decode}
-use Rattle.model_frame.specs.Writing.{body_bytes, encode, WriteOutcome, write_outcome, wrote, refused, area_after, WriteAnswer, took, write_refusal, write_answer}
+use Rattle.model_frame.specs.Writing.{body_bytes, encode, WriteOutcome, write_outcome, wrote, refused, area_after, took, write_refusal, write_answer}
 use Rattle.model_frame.proofs.Sound.{decode_sound}
-use Rattle.frame_writer.specs.declared.Written
-use Rattle.frame_writer.specs.declared.Written.{Written}
+use Rattle.std.specs.Prelude.{Result, Ok, Err, Some}
+use Rattle.frame_writer.specs.declared.EncodeError.{EncodeError}
 use Rattle.frame_writer.specs.Encoding.{written_of, Encoded}
 use Rattle.frame.specs.declared.Frame.{Frame}
-use Rattle.frame.specs.declared.Decoded
-use Rattle.frame.specs.declared.Decoded.{Decoded}
 use Rattle.frame.specs.Answers.{frame_of, reading_of, frame_in, Stands}
 
 -- f is what the code read from b, g what the model reads: writing f from b gives the n bytes that were read, or 9
@@ -33,7 +31,7 @@ pub record Again (version : ℕ) (b : List ℕ) (f : Frame) (g : the_frame.Frame
 -- by the two promises of decode
 pub read_again :
     (version : ℕ) (b : List ℕ) {f : Frame} {n : ℕ} {g : the_frame.Frame} → T (is_bytes b) → decode version b ≡ got g n →
-    reading_of version b (Decoded.Whole f n) ≡ decode version b → Stands version b f n → Again version b f g n
+    reading_of version b (Ok (Some (f, n))) ≡ decode version b → Stands version b f n → Again version b f g n
 unfolding write_outcome
 read_again version b {f} {n} {g} t e read s =
     let a = decode_sound version b t e in
@@ -49,26 +47,24 @@ read_again version b {f} {n} {g} t e read s =
 
 -- ---- decode, then encode: the answer and the area
 
-pub record WrittenAgain (b : List ℕ) (n : ℕ) (before after : List ℕ) (w : Written) : Type 0 where
-  pub room : n ≤ length before → (w ≡ Written.Bytes n) × (after ≡ write before 0 (take n b))
-  pub no_room : length before < n → (w ≡ Written.NoRoom) × (after ≡ before)
+pub record WrittenAgain (b : List ℕ) (n : ℕ) (before after : List ℕ) (w : Result ℕ EncodeError) : Type 0 where
+  pub room : n ≤ length before → (w ≡ Ok n) × (after ≡ write before 0 (take n b))
+  pub no_room : length before < n → (w ≡ Err EncodeError.NoRoom) × (after ≡ before)
 
-is_took : (w : Written) (k : ℕ) → written_of w ≡ took k → w ≡ Written.Bytes k
-is_took (Written.Bytes m) k e = cc
-is_took Written.Unreadable k e = cc
-is_took Written.TooLong k e = cc
-is_took Written.NoRoom k e = cc
+is_took : (w : Result ℕ EncodeError) (k : ℕ) → written_of w ≡ took k → w ≡ Ok k
+is_took (Ok m) k e = cc
+is_took (Err x) k e = cc
 
-is_no_room : (w : Written) → written_of w ≡ write_refusal 9 → w ≡ Written.NoRoom
-is_no_room (Written.Bytes m) e = cc
-is_no_room Written.Unreadable e = let z : ◌≡◌ {A = ℕ} 8 9 = cc in absurd (omega arith)
-is_no_room Written.TooLong e = let z : ◌≡◌ {A = ℕ} 1 9 = cc in absurd (omega arith)
-is_no_room Written.NoRoom e = refl
+is_no_room : (w : Result ℕ EncodeError) → written_of w ≡ write_refusal 9 → w ≡ Err EncodeError.NoRoom
+is_no_room (Ok m) e = cc
+is_no_room (Err EncodeError.Unreadable) e = let z : ◌≡◌ {A = ℕ} 8 9 = cc in absurd (omega arith)
+is_no_room (Err EncodeError.TooLong) e = let z : ◌≡◌ {A = ℕ} 1 9 = cc in absurd (omega arith)
+is_no_room (Err EncodeError.NoRoom) e = refl
 
 -- by the promises of decode and the promise of encode
 pub written_again :
-    (version : ℕ) (b before after : List ℕ) {f : Frame} {n : ℕ} {w : Written} → T (is_bytes b) →
-    reading_of version b (Decoded.Whole f n) ≡ decode version b → Stands version b f n → Encoded version (frame_in version b f) before after w →
+    (version : ℕ) (b before after : List ℕ) {f : Frame} {n : ℕ} {w : Result ℕ EncodeError} → T (is_bytes b) →
+    reading_of version b (Ok (Some (f, n))) ≡ decode version b → Stands version b f n → Encoded version (frame_in version b f) before after w →
     WrittenAgain b n before after w
 written_again version b before after {f} {n} {w} t read s d =
     let a = read_again version b t (sym read) read s in

@@ -20,13 +20,11 @@ use Rattle.frame_op.specs.declared.Run.{Run}
 use Rattle.frame_op.specs.Answers.{run_of}
 use Rattle.frame_fields.specs.Answers.{part_of, summary_of}
 use Rattle.frame_writer.specs.Encoding.{span_fits, is_ok, run_reads}
-use Rattle.frame.specs.declared.Frame
 use Rattle.frame.specs.declared.Frame.{Frame}
-use Rattle.frame.specs.declared.FrameAt.{FrameAt}
-use Rattle.frame.specs.Answers.{res_frame, readable, Sized, Stands}
+use Rattle.frame.specs.Answers.{readable, Sized, Stands}
 
-pub body_within : (version : ℕ) (b : List ℕ) (n : ℕ) (r : FrameAt) {w : List ℕ} → w ≡ take (4 + n) b → res_frame version w r ≡ read_body version (drop 4 w) → res_frame version (take (4 + n) b) r ≡ read_body version (take n (drop 4 b))
-body_within version b n r e h = rw (← (drop_take 4 n b)) (rw e at h)
+pub body_within : (version : ℕ) (b : List ℕ) (n : ℕ) {w : List ℕ} → w ≡ take (4 + n) b → read_body version (drop 4 w) ≡ read_body version (take n (drop 4 b))
+body_within version b n e = rw (e, drop_take 4 n b)
 
 -- ---- what stands in the first n bytes stands in all of them, and is the same
 

@@ -1,21 +1,18 @@
 -- What the code's frames stand for, over the buffer b that they were read from: spans and runs as the bytes and items that they mark. Assumes nothing.
-use Rattle.std.specs.Prelude.{ℕ, ◌≡◌, Bool, true, ◌&&◌, List, take, drop}
+use Rattle.std.specs.Prelude as prelude
+use Rattle.std.specs.Prelude.{ℕ, ◌≡◌, Bool, true, ◌&&◌, List, take, Result, Ok, Err, Some, None}
 use Rattle.std.proofs.Math.Option.{Option}
 use Rattle.model_frame.specs.Frame as the_frame
 use Rattle.model_frame.specs.Frame.{hello, welcome, bind, batch, ack, nack, bound, checked, more, faulty, got}
-use Rattle.model_frame.specs.Parse.{Res, ok, bad, read_num}
+use Rattle.model_frame.specs.Parse.{read_num}
 use Rattle.model_frame.specs.Reading.{read_change, read_app_record}
+use Rattle.frame_reader.specs.declared.FrameError.{FrameError}
 use Rattle.frame_reader.specs.Answers.{fault_of, span_of}
 use Rattle.frame_op.specs.Answers.{run_of, HasLength}
 use Rattle.frame_fields.specs.Answers.{part_of, reason_of, key_of, summary_of}
 use Rattle.frame_writer.specs.Encoding.{span_fits, run_reads, key_fits, summary_fits, frame_if}
 use Rattle.frame_fields.specs.declared.Batch.{Batch}
-use Rattle.frame.specs.declared.Frame
 use Rattle.frame.specs.declared.Frame.{Frame}
-use Rattle.frame.specs.declared.FrameAt
-use Rattle.frame.specs.declared.FrameAt.{FrameAt}
-use Rattle.frame.specs.declared.Decoded
-use Rattle.frame.specs.declared.Decoded.{Decoded}
 
 abbrev pub batch_of : ℕ → List ℕ → Batch → the_frame.Frame
 batch_of version b x =
@@ -31,15 +28,11 @@ frame_of version b (Frame.Ack h n) = ack h n.0
 frame_of version b (Frame.Nack h r) = nack h (reason_of r)
 frame_of version b (Frame.Checked h e i) = checked h e.0 i.0
 
-abbrev pub res_frame : ℕ → List ℕ → FrameAt → Res the_frame.Frame
-res_frame version b (FrameAt.Got f c) = ok (frame_of version b f) (drop c.at b)
-res_frame version b (FrameAt.Bad e) = bad (fault_of e)
-
 -- a frame is read from the bytes it took
-abbrev pub reading_of : ℕ → List ℕ → Decoded → the_frame.Decoded
-reading_of version b (Decoded.Whole f n) = got (frame_of version (take n b) f) n
-reading_of version b Decoded.More = more
-reading_of version b (Decoded.Bad e) = faulty (fault_of e)
+abbrev pub reading_of : ℕ → List ℕ → Result (prelude.Option (Frame × ℕ)) FrameError → the_frame.Decoded
+reading_of version b (Ok (Some x)) = got (frame_of version (take x.1 b) x.0) x.1
+reading_of version b (Ok None) = more
+reading_of version b (Err e) = faulty (fault_of e)
 
 -- ---- writing: what a frame's spans and runs stand for in a source slice, where they lie in it and can be read
 
@@ -69,9 +62,8 @@ Sized version b (Frame.Ack h n) = Unit {0}
 Sized version b (Frame.Nack h r) = Unit {0}
 Sized version b (Frame.Checked h e i) = Unit {0}
 
-abbrev pub ReadIn : ℕ → List ℕ → FrameAt → Type 0
-ReadIn version b (FrameAt.Got f c) = (readable version b f ≡ true) × Sized version b f
-ReadIn version b (FrameAt.Bad e) = Unit {0}
+abbrev pub ReadIn : ℕ → List ℕ → Frame → Type 0
+ReadIn version b f = (readable version b f ≡ true) × Sized version b f
 
 -- a frame of n bytes stands in the bytes that it took, and in all the bytes it is the same frame
 pub record Stands (version : ℕ) (b : List ℕ) (f : Frame) (n : ℕ) : Type 0 where
@@ -80,7 +72,7 @@ pub record Stands (version : ℕ) (b : List ℕ) (f : Frame) (n : ℕ) : Type 0 
   pub same : frame_of version b f ≡ frame_of version (take n b) f
   pub sized : Sized version b f
 
-abbrev pub StandsIn : ℕ → List ℕ → Decoded → Type 0
-StandsIn version b (Decoded.Whole f n) = Stands version b f n
-StandsIn version b Decoded.More = Unit {0}
-StandsIn version b (Decoded.Bad e) = Unit {0}
+abbrev pub StandsIn : ℕ → List ℕ → Result (prelude.Option (Frame × ℕ)) FrameError → Type 0
+StandsIn version b (Ok (Some x)) = Stands version b x.0 x.1
+StandsIn version b (Ok None) = Unit {0}
+StandsIn version b (Err e) = Unit {0}

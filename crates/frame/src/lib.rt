@@ -1,25 +1,25 @@
 // The frames an active instance and its standby exchange, and their wire form (frame.rs).
 #![tactic(auto)]
 
-ghost use Rattle.std.specs.Prelude.{◌≡◌, ℕ, ◌+◌, ◌≤◌, length, take, drop};
+ghost use Rattle.std.specs.Prelude.{◌≡◌, ℕ, IfOk};
 ghost use Rattle.model_frame.specs.Reading.{hello_fields, welcome_fields, bind_fields, batch_fields, ack_fields, nack_fields, bound_fields, checked_fields, read_fields, read_body, decode};
-ghost use Rattle.frame.specs.Answers.{res_frame, ReadIn, reading_of, StandsIn, frame_in};
+ghost use Rattle.frame_reader.specs.Answers.{rest, res};
 ghost use Rattle.frame_writer.specs.Encoding.{Encoded};
+ghost use Rattle.frame.specs.Answers.{frame_of, ReadIn, reading_of, StandsIn, frame_in};
 
+use base_bytes::LittleEndian;
+use frame_fields::kind;
 pub use frame_fields::{
-    AppRecord, Batch, CommitNumber, Epoch, InFlight, Incarnation, NackReason, Part, SessionId,
-    Summary,
+    AppRecord, Batch, CommitNumber, Epoch, Incarnation, NackReason, Part, SessionId, Summary,
 };
-use frame_fields::{PartAt, ReasonAt, SessionAt, SummaryAt, kind};
-use frame_op::RunAt;
 pub use frame_op::{Op, Run};
-use frame_reader::{Byte, Cursor, SpanAt, Word16, Word32, Word64};
+use frame_reader::Reader;
 pub use frame_reader::{Field, FrameError, Span, Value};
 use frame_stamp::Protocol;
-pub use frame_writer::Written;
+pub use frame_writer::EncodeError;
 
 // A frame between an active instance and its standby. Texts, changes and records are parts of the bytes it was read from.
-#[derive(Clone, Copy)]
+#[derive(Clone, Copy, Debug, PartialEq, Eq)]
 pub enum Frame {
     Hello {
         version: u16,
@@ -57,231 +57,151 @@ pub enum Frame {
     },
 }
 
-#[derive(Clone, Copy)]
-pub enum FrameAt {
-    Got(Frame, Cursor),
-    Bad(FrameError),
-}
-
-// A whole frame and how many bytes it took, more bytes needed, or the first fault.
-#[derive(Clone, Copy)]
-pub enum Decoded {
-    Whole(Frame, usize),
-    More,
-    Bad(FrameError),
-}
-
-fn hello_from(buf: &[u8], cursor: Cursor) -> FrameAt
-    ensures by_index { (v : ℕ) → res_frame v buf.now result ≡ hello_fields (drop cursor.at buf.now) }
-    ensures by_index_2 { (v : ℕ) → ReadIn v buf.now result }
+fn read_hello(reader: &mut Reader) -> Result<Frame, FrameError>
+    ensures read { (v : ℕ) → res (frame_of v reader.old.buf.now) reader.new result ≡ hello_fields (rest reader.old) }
+    ensures same { reader.new.buf.now ≡ reader.old.buf.now }
+    ensures stands { (v : ℕ) → IfOk result (ReadIn v reader.old.buf.now) }
 {
-    let Word16::Got(version, d) = frame_reader::u16_from(buf, cursor) else {
-        return FrameAt::Bad(FrameError::Truncated);
-    };
-    let Word64::Got(epoch, d) = frame_reader::u64_from(buf, d) else {
-        return FrameAt::Bad(FrameError::Truncated);
-    };
-    match frame_reader::text_from(buf, d) {
-        SpanAt::Bad(e) => FrameAt::Bad(e),
-        SpanAt::Got(node, d) => match frame_fields::kinds_from(buf, d) {
-            RunAt::Bad(e) => FrameAt::Bad(e),
-            RunAt::Got(app_record_kinds, d) => FrameAt::Got(
-                Frame::Hello {
-                    version,
-                    epoch: Epoch(epoch),
-                    node,
-                    app_record_kinds,
-                },
-                d,
-            ),
-        },
-    }
+    let version = reader.number()?;
+    let epoch = reader.number()?;
+    let node = reader.text()?;
+    let app_record_kinds = frame_fields::read_kinds(reader)?;
+    Ok(Frame::Hello {
+        version,
+        epoch: Epoch(epoch),
+        node,
+        app_record_kinds,
+    })
 }
 
-fn welcome_from(buf: &[u8], cursor: Cursor) -> FrameAt
-    ensures by_index { (v : ℕ) → res_frame v buf.now result ≡ welcome_fields (drop cursor.at buf.now) }
-    ensures by_index_2 { (v : ℕ) → ReadIn v buf.now result }
+fn read_welcome(reader: &mut Reader) -> Result<Frame, FrameError>
+    ensures read { (v : ℕ) → res (frame_of v reader.old.buf.now) reader.new result ≡ welcome_fields (rest reader.old) }
+    ensures same { reader.new.buf.now ≡ reader.old.buf.now }
+    ensures stands { (v : ℕ) → IfOk result (ReadIn v reader.old.buf.now) }
 {
-    let Word64::Got(epoch, d) = frame_reader::u64_from(buf, cursor) else {
-        return FrameAt::Bad(FrameError::Truncated);
-    };
-    let Word64::Got(incarnation, d) = frame_reader::u64_from(buf, d) else {
-        return FrameAt::Bad(FrameError::Truncated);
-    };
-    FrameAt::Got(
-        Frame::Welcome {
-            epoch: Epoch(epoch),
-            incarnation: Incarnation(incarnation),
-        },
-        d,
-    )
+    let epoch = reader.number()?;
+    let incarnation = reader.number()?;
+    Ok(Frame::Welcome {
+        epoch: Epoch(epoch),
+        incarnation: Incarnation(incarnation),
+    })
 }
 
-fn bind_from(buf: &[u8], cursor: Cursor) -> FrameAt
-    ensures by_index { (v : ℕ) → res_frame v buf.now result ≡ bind_fields (drop cursor.at buf.now) }
-    ensures by_index_2 { (v : ℕ) → ReadIn v buf.now result }
+fn read_bind(reader: &mut Reader) -> Result<Frame, FrameError>
+    ensures read { (v : ℕ) → res (frame_of v reader.old.buf.now) reader.new result ≡ bind_fields (rest reader.old) }
+    ensures same { reader.new.buf.now ≡ reader.old.buf.now }
+    ensures stands { (v : ℕ) → IfOk result (ReadIn v reader.old.buf.now) }
 {
-    let Word32::Got(handle, d) = frame_reader::u32_from(buf, cursor) else {
-        return FrameAt::Bad(FrameError::Truncated);
-    };
-    let Word64::Got(epoch, d) = frame_reader::u64_from(buf, d) else {
-        return FrameAt::Bad(FrameError::Truncated);
-    };
-    let Word64::Got(max_lag, d) = frame_reader::u64_from(buf, d) else {
-        return FrameAt::Bad(FrameError::Truncated);
-    };
-    match frame_fields::session_from(buf, d) {
-        SessionAt::Bad(e) => FrameAt::Bad(e),
-        SessionAt::Got(session, d) => FrameAt::Got(
-            Frame::Bind {
-                handle,
-                epoch: Epoch(epoch),
-                max_lag,
-                session,
-            },
-            d,
-        ),
-    }
+    let handle = reader.number()?;
+    let epoch = reader.number()?;
+    let max_lag = reader.number()?;
+    let session = frame_fields::read_session(reader)?;
+    Ok(Frame::Bind {
+        handle,
+        epoch: Epoch(epoch),
+        max_lag,
+        session,
+    })
 }
 
-fn batch_from(protocol: Protocol, buf: &[u8], cursor: Cursor) -> FrameAt
-    ensures result_value { res_frame protocol.version buf.now result ≡ batch_fields protocol.version (drop cursor.at buf.now) }
-    ensures read_in { ReadIn protocol.version buf.now result }
+fn read_batch(reader: &mut Reader, protocol: Protocol) -> Result<Frame, FrameError>
+    ensures read { res (frame_of protocol.version reader.old.buf.now) reader.new result ≡ batch_fields protocol.version (rest reader.old) }
+    ensures same { reader.new.buf.now ≡ reader.old.buf.now }
+    ensures stands { IfOk result (ReadIn protocol.version reader.old.buf.now) }
 {
-    let Word32::Got(handle, d) = frame_reader::u32_from(buf, cursor) else {
-        return FrameAt::Bad(FrameError::Truncated);
-    };
-    let Word64::Got(epoch, d) = frame_reader::u64_from(buf, d) else {
-        return FrameAt::Bad(FrameError::Truncated);
-    };
-    let Word64::Got(commit_no, d) = frame_reader::u64_from(buf, d) else {
-        return FrameAt::Bad(FrameError::Truncated);
-    };
-    match frame_fields::part_from(buf, d) {
-        PartAt::Bad(e) => FrameAt::Bad(e),
-        PartAt::Got(part, d) => match frame_op::ops_from(protocol, buf, d) {
-            RunAt::Bad(e) => FrameAt::Bad(e),
-            RunAt::Got(ops, d) => match frame_fields::app_records_from(buf, d) {
-                RunAt::Bad(e) => FrameAt::Bad(e),
-                RunAt::Got(app_records, d) => FrameAt::Got(
-                    Frame::Batch(Batch {
-                        handle,
-                        epoch: Epoch(epoch),
-                        commit_no: CommitNumber(commit_no),
-                        part,
-                        ops,
-                        app_records,
-                    }),
-                    d,
-                ),
-            },
-        },
-    }
+    let handle = reader.number()?;
+    let epoch = reader.number()?;
+    let commit_no = reader.number()?;
+    let part = frame_fields::read_part(reader)?;
+    let ops = frame_op::read_ops(reader, protocol)?;
+    let app_records = frame_fields::read_app_records(reader)?;
+    Ok(Frame::Batch(Batch {
+        handle,
+        epoch: Epoch(epoch),
+        commit_no: CommitNumber(commit_no),
+        part,
+        ops,
+        app_records,
+    }))
 }
 
-fn ack_from(buf: &[u8], cursor: Cursor) -> FrameAt
-    ensures by_index { (v : ℕ) → res_frame v buf.now result ≡ ack_fields (drop cursor.at buf.now) }
-    ensures by_index_2 { (v : ℕ) → ReadIn v buf.now result }
+fn read_ack(reader: &mut Reader) -> Result<Frame, FrameError>
+    ensures read { (v : ℕ) → res (frame_of v reader.old.buf.now) reader.new result ≡ ack_fields (rest reader.old) }
+    ensures same { reader.new.buf.now ≡ reader.old.buf.now }
+    ensures stands { (v : ℕ) → IfOk result (ReadIn v reader.old.buf.now) }
 {
-    let Word32::Got(handle, d) = frame_reader::u32_from(buf, cursor) else {
-        return FrameAt::Bad(FrameError::Truncated);
-    };
-    let Word64::Got(commit_no, d) = frame_reader::u64_from(buf, d) else {
-        return FrameAt::Bad(FrameError::Truncated);
-    };
-    FrameAt::Got(
-        Frame::Ack {
-            handle,
-            commit_no: CommitNumber(commit_no),
-        },
-        d,
-    )
+    let handle = reader.number()?;
+    let commit_no = reader.number()?;
+    Ok(Frame::Ack {
+        handle,
+        commit_no: CommitNumber(commit_no),
+    })
 }
 
-fn nack_from(buf: &[u8], cursor: Cursor) -> FrameAt
-    ensures by_index { (v : ℕ) → res_frame v buf.now result ≡ nack_fields (drop cursor.at buf.now) }
-    ensures by_index_2 { (v : ℕ) → ReadIn v buf.now result }
+fn read_nack(reader: &mut Reader) -> Result<Frame, FrameError>
+    ensures read { (v : ℕ) → res (frame_of v reader.old.buf.now) reader.new result ≡ nack_fields (rest reader.old) }
+    ensures same { reader.new.buf.now ≡ reader.old.buf.now }
+    ensures stands { (v : ℕ) → IfOk result (ReadIn v reader.old.buf.now) }
 {
-    let Word32::Got(handle, d) = frame_reader::u32_from(buf, cursor) else {
-        return FrameAt::Bad(FrameError::Truncated);
-    };
-    match frame_fields::reason_from(buf, d) {
-        ReasonAt::Bad(e) => FrameAt::Bad(e),
-        ReasonAt::Got(reason, d) => FrameAt::Got(Frame::Nack { handle, reason }, d),
-    }
+    let handle = reader.number()?;
+    let reason = frame_fields::read_reason(reader)?;
+    Ok(Frame::Nack { handle, reason })
 }
 
-fn bound_from(protocol: Protocol, buf: &[u8], cursor: Cursor) -> FrameAt
-    ensures by_index { (v : ℕ) → res_frame v buf.now result ≡ bound_fields protocol.version (drop cursor.at buf.now) }
-    ensures by_index_2 { (v : ℕ) → ReadIn v buf.now result }
+fn read_bound(reader: &mut Reader, protocol: Protocol) -> Result<Frame, FrameError>
+    ensures read { (v : ℕ) → res (frame_of v reader.old.buf.now) reader.new result ≡ bound_fields protocol.version (rest reader.old) }
+    ensures same { reader.new.buf.now ≡ reader.old.buf.now }
+    ensures stands { (v : ℕ) → IfOk result (ReadIn v reader.old.buf.now) }
 {
-    let Word32::Got(handle, d) = frame_reader::u32_from(buf, cursor) else {
-        return FrameAt::Bad(FrameError::Truncated);
-    };
-    match frame_fields::summary_from(protocol, buf, d) {
-        SummaryAt::Bad(e) => FrameAt::Bad(e),
-        SummaryAt::Got(summary, d) => FrameAt::Got(Frame::Bound { handle, summary }, d),
-    }
+    let handle = reader.number()?;
+    let summary = frame_fields::read_summary(reader, protocol)?;
+    Ok(Frame::Bound { handle, summary })
 }
 
-fn checked_from(buf: &[u8], cursor: Cursor) -> FrameAt
-    ensures by_index { (v : ℕ) → res_frame v buf.now result ≡ checked_fields (drop cursor.at buf.now) }
-    ensures by_index_2 { (v : ℕ) → ReadIn v buf.now result }
+fn read_checked(reader: &mut Reader) -> Result<Frame, FrameError>
+    ensures read { (v : ℕ) → res (frame_of v reader.old.buf.now) reader.new result ≡ checked_fields (rest reader.old) }
+    ensures same { reader.new.buf.now ≡ reader.old.buf.now }
+    ensures stands { (v : ℕ) → IfOk result (ReadIn v reader.old.buf.now) }
 {
-    let Word32::Got(handle, d) = frame_reader::u32_from(buf, cursor) else {
-        return FrameAt::Bad(FrameError::Truncated);
-    };
-    let Word64::Got(epoch, d) = frame_reader::u64_from(buf, d) else {
-        return FrameAt::Bad(FrameError::Truncated);
-    };
-    let Word64::Got(incarnation, d) = frame_reader::u64_from(buf, d) else {
-        return FrameAt::Bad(FrameError::Truncated);
-    };
-    FrameAt::Got(
-        Frame::Checked {
-            handle,
-            epoch: Epoch(epoch),
-            incarnation: Incarnation(incarnation),
-        },
-        d,
-    )
+    let handle = reader.number()?;
+    let epoch = reader.number()?;
+    let incarnation = reader.number()?;
+    Ok(Frame::Checked {
+        handle,
+        epoch: Epoch(epoch),
+        incarnation: Incarnation(incarnation),
+    })
 }
 
 // The fields of a frame, by its kind.
-fn fields_from(protocol: Protocol, buf: &[u8], cursor: Cursor) -> FrameAt
-    ensures result_value { res_frame protocol.version buf.now result ≡ read_fields protocol.version (drop cursor.at buf.now) }
-    ensures read_in { ReadIn protocol.version buf.now result }
+fn read_fields(reader: &mut Reader, protocol: Protocol) -> Result<Frame, FrameError>
+    ensures read { res (frame_of protocol.version reader.old.buf.now) reader.new result ≡ read_fields protocol.version (rest reader.old) }
+    ensures same { reader.new.buf.now ≡ reader.old.buf.now }
+    ensures stands { IfOk result (ReadIn protocol.version reader.old.buf.now) }
 {
-    let Byte::Got(k, d) = frame_reader::u8_from(buf, cursor) else {
-        return FrameAt::Bad(FrameError::Truncated);
-    };
-    match k {
-        kind::HELLO => hello_from(buf, d),
-        kind::WELCOME => welcome_from(buf, d),
-        kind::BIND => bind_from(buf, d),
-        kind::BATCH => batch_from(protocol, buf, d),
-        kind::ACK => ack_from(buf, d),
-        kind::NACK => nack_from(buf, d),
-        kind::BOUND => bound_from(protocol, buf, d),
-        kind::CHECKED => checked_from(buf, d),
-        _ => FrameAt::Bad(FrameError::Unknown(Field::FrameKind, k)),
+    match reader.number()? {
+        kind::HELLO => read_hello(reader),
+        kind::WELCOME => read_welcome(reader),
+        kind::BIND => read_bind(reader),
+        kind::BATCH => read_batch(reader, protocol),
+        kind::ACK => read_ack(reader),
+        kind::NACK => read_nack(reader),
+        kind::BOUND => read_bound(reader, protocol),
+        kind::CHECKED => read_checked(reader),
+        k => Err(FrameError::Unknown(Field::FrameKind, k)),
     }
 }
 
-// A body from a cursor to the buffer's end: nothing is left over.
-fn body_from(protocol: Protocol, buf: &[u8], cursor: Cursor) -> FrameAt
-    ensures result_value { res_frame protocol.version buf.now result ≡ read_body protocol.version (drop cursor.at buf.now) }
-    ensures read_in { ReadIn protocol.version buf.now result }
+// A body to the buffer's end: nothing is left over.
+fn read_body(reader: &mut Reader, protocol: Protocol) -> Result<Frame, FrameError>
+    ensures read { res (frame_of protocol.version reader.old.buf.now) reader.new result ≡ read_body protocol.version (rest reader.old) }
+    ensures stands { IfOk result (ReadIn protocol.version reader.old.buf.now) }
 {
-    match fields_from(protocol, buf, cursor) {
-        FrameAt::Bad(e) => FrameAt::Bad(e),
-        FrameAt::Got(f, d) => {
-            if frame_reader::bytes_left(buf, d) == 0 {
-                FrameAt::Got(f, d)
-            } else {
-                FrameAt::Bad(FrameError::Truncated)
-            }
-        }
+    let frame = read_fields(reader, protocol)?;
+    if reader.left() == 0 {
+        Ok(frame)
+    } else {
+        Err(FrameError::Truncated)
     }
 }
 
@@ -291,93 +211,67 @@ impl Frame {
     // The longest body.
     pub const MAX_FRAME_BYTES: u32 = 67108864;
 
-    // The frame at the start of the bytes; its texts, changes and records are parts of them.
-    pub fn decode(protocol: Protocol, buf: &[u8]) -> Decoded
+    // The frame at the start of the bytes and how many bytes it took, or none where more are needed; its texts, changes and records are parts of them.
+    pub fn decode(protocol: Protocol, buf: &[u8]) -> Result<Option<(Frame, usize)>, FrameError>
         ensures result_value { reading_of protocol.version buf.now result ≡ decode protocol.version buf.now }
         ensures stands_in { StandsIn protocol.version buf.now result }
     {
         if buf.len() < 4 {
-            return Decoded::More;
+            return Ok(None);
         }
-        let n = base_bytes::u32_at(buf, 0);
+        let n = u32::read_at(buf, 0);
         if Self::MAX_FRAME_BYTES < n {
-            return Decoded::Bad(FrameError::TooLong(n));
+            return Err(FrameError::TooLong(n));
         }
         let len = n as usize;
         if buf.len() - 4 < len {
-            return Decoded::More;
+            return Ok(None);
         }
-        match body_from(
-            protocol,
-            frame_reader::bytes_at(buf, 0, 4 + len),
-            Cursor { at: 4 },
-        ) {
-            FrameAt::Bad(e) => Decoded::Bad(e),
-            FrameAt::Got(f, _) => Decoded::Whole(f, 4 + len),
-        }
+        let mut reader = Reader {
+            buf: frame_reader::bytes_at(buf, 0, 4 + len),
+            at: 4,
+        };
+        let frame = read_body(&mut reader, protocol)?;
+        Ok(Some((frame, 4 + len)))
     }
 
     // The frame's bytes at the area's start: its texts, changes and records are taken from the source.
-    pub fn encode(self, protocol: Protocol, src: &[u8], out: &mut [u8]) -> Written
+    pub fn encode(
+        self,
+        protocol: Protocol,
+        src: &[u8],
+        out: &mut [u8],
+    ) -> Result<usize, EncodeError>
         ensures { Encoded protocol.version (frame_in protocol.version src.now self) out.old out.new result }
     {
+        let limit = Self::MAX_FRAME_BYTES;
         match self {
             Frame::Hello {
                 version,
                 epoch,
                 node,
                 app_record_kinds,
-            } => {
-                frame_encode::hello(
-                    Self::MAX_FRAME_BYTES,
-                    src,
-                    version,
-                    epoch,
-                    node,
-                    app_record_kinds,
-                    out,
-                )
-            }
+            } => { frame_encode::hello(limit, src, version, epoch, node, app_record_kinds, out) }
             Frame::Welcome { epoch, incarnation } => {
-                frame_encode::welcome(Self::MAX_FRAME_BYTES, epoch, incarnation, out)
+                frame_encode::welcome(limit, epoch, incarnation, out)
             }
             Frame::Bind {
                 handle,
                 epoch,
                 max_lag,
                 session,
-            } => {
-                frame_encode::bind(
-                    Self::MAX_FRAME_BYTES,
-                    src,
-                    handle,
-                    epoch,
-                    max_lag,
-                    session,
-                    out,
-                )
-            }
+            } => { frame_encode::bind(limit, src, handle, epoch, max_lag, session, out) }
             Frame::Bound { handle, summary } => {
-                frame_encode::bound(Self::MAX_FRAME_BYTES, protocol, src, handle, summary, out)
+                frame_encode::bound(limit, protocol, src, handle, summary, out)
             }
-            Frame::Batch(b) => frame_encode::batch(Self::MAX_FRAME_BYTES, protocol, src, b, out),
-            Frame::Ack { handle, commit_no } => frame_encode::ack(
-                Self::MAX_FRAME_BYTES,
-                handle,
-                commit_no,
-                out,
-            ),
-            Frame::Nack { handle, reason } => frame_encode::nack(
-                Self::MAX_FRAME_BYTES,
-                handle,
-                reason,
-                out,
-            ),
+            Frame::Batch(b) => frame_encode::batch(limit, protocol, src, b, out),
+            Frame::Ack { handle, commit_no } => frame_encode::ack(limit, handle, commit_no, out),
+            Frame::Nack { handle, reason } => frame_encode::nack(limit, handle, reason, out),
             Frame::Checked {
                 handle,
                 epoch,
                 incarnation,
-            } => { frame_encode::checked(Self::MAX_FRAME_BYTES, handle, epoch, incarnation, out) }
+            } => { frame_encode::checked(limit, handle, epoch, incarnation, out) }
         }
     }
 }

@@ -14,13 +14,14 @@ ghost use Rattle.frame_op.specs.Answers.{run_of};
 ghost use Rattle.frame_fields.specs.Answers.{part_of, reason_of, key_of, summary_of};
 ghost use Rattle.frame_writer.specs.Encoding.{span_fits, run_reads, key_fits, summary_fits, key_size, summary_size, frame_if, Encoded};
 
+use base_bytes::LittleEndian;
 use frame_fields::{
     Batch, CommitNumber, Epoch, Incarnation, NackReason, Part, SessionId, Summary, kind,
 };
-use frame_op::{Run, RunLen};
-use frame_reader::{Cursor, Span};
+use frame_op::Run;
+use frame_reader::Span;
 use frame_stamp::Protocol;
-use frame_writer::{Start, Written};
+use frame_writer::EncodeError;
 
 fn put_hello(
     src: &[u8],
@@ -37,10 +38,10 @@ fn put_hello(
     let first = kinds.at;
     let len = (kinds.count as usize) * 2;
     let at = frame_op::tag(out, at, kind::HELLO);
-    let at = base_bytes::put_u16(out, at, version);
-    let at = base_bytes::put_u64(out, at, epoch.0);
+    let at = version.put_at(out, at);
+    let at = epoch.0.put_at(out, at);
     let at = frame_writer::put_span(src, node, out, at);
-    let at = base_bytes::put_u32(out, at, kinds.count);
+    let at = kinds.count.put_at(out, at);
     base_bytes::copy(frame_reader::bytes_at(src, first, len), out, at)
 }
 
@@ -52,21 +53,17 @@ pub fn hello(
     node: Span,
     kinds: Run,
     out: &mut [u8],
-) -> Written
+) -> Result<usize, EncodeError>
     requires { limit ≡ max_body }
     ensures { (v : ℕ) → Encoded v (frame_if (span_fits src.now node && run_reads (read_num 2) src.now kinds) (hello version epoch.0 (span_of src.now node) (run_of (read_num 2) src.now kinds))) out.old out.new result }
 {
     let fits = frame_writer::within(src, node) & frame_writer::kinds_fit(src, kinds);
-    if fits & frame_utf8::is_utf8(frame_reader::slice(src, node)) {
-        let n = 19 + (node.len as usize) + (kinds.count as usize) * 2;
-        match frame_writer::begin(out, limit, n) {
-            Start::TooLong => Written::TooLong,
-            Start::NoRoom => Written::NoRoom,
-            Start::At(at) => Written::Bytes(put_hello(src, version, epoch, node, kinds, out, at)),
-        }
-    } else {
-        Written::Unreadable
+    if !(fits & frame_utf8::is_utf8(frame_reader::slice(src, node))) {
+        return Err(EncodeError::Unreadable);
     }
+    let n = 19 + (node.len as usize) + (kinds.count as usize) * 2;
+    let at = frame_writer::begin(out, limit, n)?;
+    Ok(put_hello(src, version, epoch, node, kinds, out, at))
 }
 
 fn put_welcome(epoch: Epoch, incarnation: Incarnation, out: &mut [u8], at: usize) -> usize
@@ -74,18 +71,20 @@ fn put_welcome(epoch: Epoch, incarnation: Incarnation, out: &mut [u8], at: usize
     ensures { Wrote out.old at (body_bytes (welcome epoch.0 incarnation.0)) out.new result }
 {
     let at = frame_op::tagged(out, at, kind::WELCOME, epoch.0);
-    base_bytes::put_u64(out, at, incarnation.0)
+    incarnation.0.put_at(out, at)
 }
 
-pub fn welcome(limit: u32, epoch: Epoch, incarnation: Incarnation, out: &mut [u8]) -> Written
+pub fn welcome(
+    limit: u32,
+    epoch: Epoch,
+    incarnation: Incarnation,
+    out: &mut [u8],
+) -> Result<usize, EncodeError>
     requires { limit ≡ max_body }
     ensures { (v : ℕ) → Encoded v (frame_if true (welcome epoch.0 incarnation.0)) out.old out.new result }
 {
-    match frame_writer::begin(out, limit, 17) {
-        Start::TooLong => Written::TooLong,
-        Start::NoRoom => Written::NoRoom,
-        Start::At(at) => Written::Bytes(put_welcome(epoch, incarnation, out, at)),
-    }
+    let at = frame_writer::begin(out, limit, 17)?;
+    Ok(put_welcome(epoch, incarnation, out, at))
 }
 
 fn put_bind(
@@ -101,8 +100,8 @@ fn put_bind(
     ensures { Wrote out.old at (body_bytes (bind handle epoch.0 lag (key_of src.now session))) out.new result }
 {
     let at = frame_writer::put_handle(out, at, kind::BIND, handle);
-    let at = base_bytes::put_u64(out, at, epoch.0);
-    let at = base_bytes::put_u64(out, at, lag);
+    let at = epoch.0.put_at(out, at);
+    let at = lag.put_at(out, at);
     frame_writer::put_session(src, session, out, at)
 }
 
@@ -114,28 +113,24 @@ pub fn bind(
     lag: u64,
     session: SessionId,
     out: &mut [u8],
-) -> Written
+) -> Result<usize, EncodeError>
     requires { limit ≡ max_body }
     ensures { (v : ℕ) → Encoded v (frame_if (key_fits src.now session) (bind handle epoch.0 lag (key_of src.now session))) out.old out.new result }
 {
-    if frame_writer::session_fits(src, session) {
-        let begin = session.begin_string;
-        let sender = session.sender_comp_id;
-        let target = session.target_comp_id;
-        let suffix = session.key_suffix;
-        let n = 37
-            + (begin.len as usize)
-            + (sender.len as usize)
-            + (target.len as usize)
-            + (suffix.len as usize);
-        match frame_writer::begin(out, limit, n) {
-            Start::TooLong => Written::TooLong,
-            Start::NoRoom => Written::NoRoom,
-            Start::At(at) => Written::Bytes(put_bind(src, handle, epoch, lag, session, out, at)),
-        }
-    } else {
-        Written::Unreadable
+    if !frame_writer::session_fits(src, session) {
+        return Err(EncodeError::Unreadable);
     }
+    let begin = session.begin_string;
+    let sender = session.sender_comp_id;
+    let target = session.target_comp_id;
+    let suffix = session.key_suffix;
+    let n = 37
+        + (begin.len as usize)
+        + (sender.len as usize)
+        + (target.len as usize)
+        + (suffix.len as usize);
+    let at = frame_writer::begin(out, limit, n)?;
+    Ok(put_bind(src, handle, epoch, lag, session, out, at))
 }
 
 // What stands before the changes of a batch.
@@ -153,10 +148,10 @@ pub fn put_head(
     ensures value { result ≡ at + 26 }
 {
     let at = frame_writer::put_handle(out, at, kind::BATCH, handle);
-    let at = base_bytes::put_u64(out, at, epoch.0);
-    let at = base_bytes::put_u64(out, at, commit_no.0);
+    let at = epoch.0.put_at(out, at);
+    let at = commit_no.0.put_at(out, at);
     let at = frame_op::tag(out, at, frame_writer::part_byte(part));
-    base_bytes::put_u32(out, at, count)
+    count.put_at(out, at)
 }
 
 // The changes and the records of a batch, k and m bytes, are copied as they stand in the source.
@@ -177,11 +172,17 @@ fn put_runs(
 {
     let first = records.at;
     let at = frame_op::put_ops(protocol, src, ops, k, out, at);
-    let at = base_bytes::put_u32(out, at, records.count);
+    let at = records.count.put_at(out, at);
     base_bytes::copy(frame_reader::bytes_at(src, first, m), out, at)
 }
 
-pub fn batch(limit: u32, protocol: Protocol, src: &[u8], batch: Batch, out: &mut [u8]) -> Written
+pub fn batch(
+    limit: u32,
+    protocol: Protocol,
+    src: &[u8],
+    batch: Batch,
+    out: &mut [u8],
+) -> Result<usize, EncodeError>
     requires { limit ≡ max_body }
     ensures { Encoded protocol.version (frame_if (run_reads (read_change protocol.version) src.now batch.ops && run_reads read_app_record src.now batch.app_records) (the_frame.batch batch.handle batch.epoch.0 batch.commit_no.0 (part_of batch.part) (run_of (read_change protocol.version) src.now batch.ops) (run_of read_app_record src.now batch.app_records))) out.old out.new result }
 {
@@ -191,27 +192,18 @@ pub fn batch(limit: u32, protocol: Protocol, src: &[u8], batch: Batch, out: &mut
     let part = batch.part;
     let ops = batch.ops;
     let records = batch.app_records;
-    let RunLen::Bytes(k) = frame_op::ops_len(protocol, src, Cursor { at: ops.at }, ops.count) else {
-        return Written::Unreadable;
+    let Ok(k) = frame_op::ops_len(protocol, src, ops.at, ops.count) else {
+        return Err(EncodeError::Unreadable);
     };
-    let RunLen::Bytes(m) = frame_fields::records_len(src, Cursor { at: records.at }, records.count)
-    else {
-        return Written::Unreadable;
+    let Ok(m) = frame_fields::records_len(src, records.at, records.count) else {
+        return Err(EncodeError::Unreadable);
     };
-    if (limit as usize) < k {
-        return Written::TooLong;
+    if (limit as usize) < k.max(m) {
+        return Err(EncodeError::TooLong);
     }
-    if (limit as usize) < m {
-        return Written::TooLong;
-    }
-    match frame_writer::begin(out, limit, 30 + k + m) {
-        Start::TooLong => Written::TooLong,
-        Start::NoRoom => Written::NoRoom,
-        Start::At(at) => {
-            let at = put_head(out, at, handle, epoch, commit_no, part, ops.count);
-            Written::Bytes(put_runs(protocol, src, ops, k, records, m, out, at))
-        }
-    }
+    let at = frame_writer::begin(out, limit, 30 + k + m)?;
+    let at = put_head(out, at, handle, epoch, commit_no, part, ops.count);
+    Ok(put_runs(protocol, src, ops, k, records, m, out, at))
 }
 
 fn put_ack(handle: u32, commit_no: CommitNumber, out: &mut [u8], at: usize) -> usize
@@ -219,18 +211,20 @@ fn put_ack(handle: u32, commit_no: CommitNumber, out: &mut [u8], at: usize) -> u
     ensures { Wrote out.old at (body_bytes (ack handle commit_no.0)) out.new result }
 {
     let at = frame_writer::put_handle(out, at, kind::ACK, handle);
-    base_bytes::put_u64(out, at, commit_no.0)
+    commit_no.0.put_at(out, at)
 }
 
-pub fn ack(limit: u32, handle: u32, commit_no: CommitNumber, out: &mut [u8]) -> Written
+pub fn ack(
+    limit: u32,
+    handle: u32,
+    commit_no: CommitNumber,
+    out: &mut [u8],
+) -> Result<usize, EncodeError>
     requires { limit ≡ max_body }
     ensures { (v : ℕ) → Encoded v (frame_if true (ack handle commit_no.0)) out.old out.new result }
 {
-    match frame_writer::begin(out, limit, 13) {
-        Start::TooLong => Written::TooLong,
-        Start::NoRoom => Written::NoRoom,
-        Start::At(at) => Written::Bytes(put_ack(handle, commit_no, out, at)),
-    }
+    let at = frame_writer::begin(out, limit, 13)?;
+    Ok(put_ack(handle, commit_no, out, at))
 }
 
 fn put_nack(handle: u32, reason: NackReason, out: &mut [u8], at: usize) -> usize
@@ -241,15 +235,17 @@ fn put_nack(handle: u32, reason: NackReason, out: &mut [u8], at: usize) -> usize
     frame_op::tag(out, at, frame_writer::reason_byte(reason))
 }
 
-pub fn nack(limit: u32, handle: u32, reason: NackReason, out: &mut [u8]) -> Written
+pub fn nack(
+    limit: u32,
+    handle: u32,
+    reason: NackReason,
+    out: &mut [u8],
+) -> Result<usize, EncodeError>
     requires { limit ≡ max_body }
     ensures { (v : ℕ) → Encoded v (frame_if true (nack handle (reason_of reason))) out.old out.new result }
 {
-    match frame_writer::begin(out, limit, 6) {
-        Start::TooLong => Written::TooLong,
-        Start::NoRoom => Written::NoRoom,
-        Start::At(at) => Written::Bytes(put_nack(handle, reason, out, at)),
-    }
+    let at = frame_writer::begin(out, limit, 6)?;
+    Ok(put_nack(handle, reason, out, at))
 }
 
 fn put_bound(src: &[u8], handle: u32, summary: Summary, out: &mut [u8], at: usize) -> usize
@@ -267,22 +263,18 @@ pub fn bound(
     handle: u32,
     summary: Summary,
     out: &mut [u8],
-) -> Written
+) -> Result<usize, EncodeError>
     requires { limit ≡ max_body }
     ensures { Encoded protocol.version (frame_if (summary_fits src.now summary) (bound handle (summary_of src.now summary))) out.old out.new result }
 {
-    if frame_writer::summary_fits(protocol, src, summary) {
-        let created_at = summary.created_at;
-        let marks = summary.marks;
-        let n = 45 + (created_at.len as usize) + (marks.len as usize);
-        match frame_writer::begin(out, limit, n) {
-            Start::TooLong => Written::TooLong,
-            Start::NoRoom => Written::NoRoom,
-            Start::At(at) => Written::Bytes(put_bound(src, handle, summary, out, at)),
-        }
-    } else {
-        Written::Unreadable
+    if !frame_writer::summary_fits(protocol, src, summary) {
+        return Err(EncodeError::Unreadable);
     }
+    let created_at = summary.created_at;
+    let marks = summary.marks;
+    let n = 45 + (created_at.len as usize) + (marks.len as usize);
+    let at = frame_writer::begin(out, limit, n)?;
+    Ok(put_bound(src, handle, summary, out, at))
 }
 
 fn put_checked(
@@ -296,8 +288,8 @@ fn put_checked(
     ensures { Wrote out.old at (body_bytes (checked handle epoch.0 incarnation.0)) out.new result }
 {
     let at = frame_writer::put_handle(out, at, kind::CHECKED, handle);
-    let at = base_bytes::put_u64(out, at, epoch.0);
-    base_bytes::put_u64(out, at, incarnation.0)
+    let at = epoch.0.put_at(out, at);
+    incarnation.0.put_at(out, at)
 }
 
 pub fn checked(
@@ -306,13 +298,10 @@ pub fn checked(
     epoch: Epoch,
     incarnation: Incarnation,
     out: &mut [u8],
-) -> Written
+) -> Result<usize, EncodeError>
     requires { limit ≡ max_body }
     ensures { (v : ℕ) → Encoded v (frame_if true (checked handle epoch.0 incarnation.0)) out.old out.new result }
 {
-    match frame_writer::begin(out, limit, 21) {
-        Start::TooLong => Written::TooLong,
-        Start::NoRoom => Written::NoRoom,
-        Start::At(at) => Written::Bytes(put_checked(handle, epoch, incarnation, out, at)),
-    }
+    let at = frame_writer::begin(out, limit, 21)?;
+    Ok(put_checked(handle, epoch, incarnation, out, at))
 }

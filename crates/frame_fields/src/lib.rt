@@ -1,20 +1,19 @@
 // The parts of frames that are more than a plain number: the three counters, part and refusal bytes, kinds, application records, keys, summaries, batches.
 #![tactic(auto)]
 
-ghost use Rattle.std.specs.Prelude.{◌≡◌, List, ℕ, drop};
+ghost use Rattle.std.specs.Prelude.{◌≡◌, ◌+◌, IfOk};
 ghost use Rattle.model_frame.specs.Parse.{read_num, many, forget};
 ghost use Rattle.model_frame.specs.Reading.{read_kinds, read_app_record, read_app_records, read_part, read_reason, read_key, flight, read_summary};
-ghost use Rattle.frame_reader.specs.Answers.{res_span};
-ghost use Rattle.frame_op.specs.Answers.{res_end, res_run, RunIn, RunEnds};
-ghost use Rattle.frame_fields.specs.Answers.{res_part, res_reason, res_record, RecordsLen, res_session, KeyIn, no_key, flight_of, res_summary, SummaryIn};
+ghost use Rattle.model_frame.specs.Writing.{app_record_bytes};
+ghost use Rattle.frame_reader.specs.Answers.{rest, res};
+ghost use Rattle.frame_op.specs.Answers.{run_of, RunIn, RunTakes};
+ghost use Rattle.frame_fields.specs.Answers.{part_of, reason_of, record_of, key_of, KeyIn, flight_of, summary_of, SummaryIn};
 
-use frame_op::{End, Run, RunAt, RunLen};
-use frame_reader::{
-    Byte, CheckedTextAt, Cursor, Field, FrameError, Span, SpanAt, Value, Word16, Word32, Word64,
-};
+use frame_op::Run;
+use frame_reader::{Field, FrameError, Reader, Span, Value};
 use frame_stamp::Protocol;
 
-// The byte that a frame's body begins with.
+// The byte that a frame's body begins with: constants as in the Rust, since an enum of them would say each kind of frame twice.
 pub mod kind {
     pub const HELLO: u8 = 1;
 
@@ -33,15 +32,6 @@ pub mod kind {
     pub const CHECKED: u8 = 8;
 }
 
-// The byte of a batch's part.
-pub mod part_byte {
-    pub const COMMIT: u8 = 0;
-
-    pub const WHOLE: u8 = 1;
-
-    pub const LAST_WHOLE: u8 = 2;
-}
-
 // The byte of a Nack's reason.
 pub mod reason {
     pub const STALE_EPOCH: u8 = 1;
@@ -55,65 +45,47 @@ pub mod reason {
 
 // The epoch of the lease that an active holds.
 #[repr(C)]
-#[derive(Clone, Copy)]
+#[derive(Clone, Copy, Debug, PartialEq, Eq)]
 pub struct Epoch(pub u64);
 
 // A run of the standby: a restart is a new one.
 #[repr(C)]
-#[derive(Clone, Copy)]
+#[derive(Clone, Copy, Debug, PartialEq, Eq)]
 pub struct Incarnation(pub u64);
 
 // A session's commits on one binding, counted from 1.
 #[repr(C)]
-#[derive(Clone, Copy)]
+#[derive(Clone, Copy, Debug, PartialEq, Eq)]
 pub struct CommitNumber(pub u64);
 
-// Whether a batch is one commit, or a part of a session sent whole.
-#[derive(Clone, Copy)]
+// Whether a batch is one commit, or a part of a session sent whole, by its byte.
+#[derive(Clone, Copy, Debug, PartialEq, Eq)]
 pub enum Part {
-    Commit,
-    Whole,
-    LastWhole,
+    Commit = 0,
+    Whole = 1,
+    LastWhole = 2,
 }
 
-#[derive(Clone, Copy)]
-pub enum PartAt {
-    Got(Part, Cursor),
-    Bad(FrameError),
-}
-
-// Why a standby refused.
-#[derive(Clone, Copy)]
+// Why a standby refused, by its byte.
+#[derive(Clone, Copy, Debug, PartialEq, Eq)]
 pub enum NackReason {
-    StaleEpoch,
-    Diverged,
-    Lag,
-    Restarted,
-}
-
-#[derive(Clone, Copy)]
-pub enum ReasonAt {
-    Got(NackReason, Cursor),
-    Bad(FrameError),
+    StaleEpoch = 1,
+    Diverged = 2,
+    Lag = 3,
+    Restarted = 4,
 }
 
 // An application's own record.
 #[repr(C)]
-#[derive(Clone, Copy)]
+#[derive(Clone, Copy, Debug, PartialEq, Eq)]
 pub struct AppRecord {
     pub kind: u16,
     pub bytes: Span,
 }
 
-#[derive(Clone, Copy)]
-pub enum AppRecordAt {
-    Got(AppRecord, Cursor),
-    Bad(FrameError),
-}
-
 // A session's key.
 #[repr(C)]
-#[derive(Clone, Copy)]
+#[derive(Clone, Copy, Debug, PartialEq, Eq)]
 pub struct SessionId {
     pub begin_string: Span,
     pub sender_comp_id: Span,
@@ -121,39 +93,21 @@ pub struct SessionId {
     pub key_suffix: Span,
 }
 
-#[derive(Clone, Copy)]
-pub enum SessionAt {
-    Got(SessionId, Cursor),
-    Bad(FrameError),
-}
-
-#[derive(Clone, Copy)]
-pub enum InFlight {
-    Seq(u64),
-    Nothing,
-}
-
 // A session's stored state, as far as an active and its standby compare it; an empty stamp is none.
 #[repr(C)]
-#[derive(Clone, Copy)]
+#[derive(Clone, Copy, Debug, PartialEq, Eq)]
 pub struct Summary {
     pub next_outgoing: u64,
     pub next_incoming: u64,
-    pub in_flight: InFlight,
+    pub in_flight: Option<u64>,
     pub created_at: Span,
     pub marks: Span,
     pub last_outgoing: u64,
 }
 
-#[derive(Clone, Copy)]
-pub enum SummaryAt {
-    Got(Summary, Cursor),
-    Bad(FrameError),
-}
-
 // One commit's changes to a session, and the application's records with them: both are runs in the bytes read.
 #[repr(C)]
-#[derive(Clone, Copy)]
+#[derive(Clone, Copy, Debug, PartialEq, Eq)]
 pub struct Batch {
     pub handle: u32,
     pub epoch: Epoch,
@@ -163,202 +117,135 @@ pub struct Batch {
     pub app_records: Run,
 }
 
-pub fn part_from(buf: &[u8], cursor: Cursor) -> PartAt
-    ensures { res_part buf.now result ≡ read_part (drop cursor.at buf.now) }
+// A match on the byte is as short as `TryFrom`, whose answer would have to be turned into this fault.
+pub fn read_part(reader: &mut Reader) -> Result<Part, FrameError>
+    ensures read { res part_of reader.new result ≡ read_part (rest reader.old) }
+    ensures same { reader.new.buf.now ≡ reader.old.buf.now }
 {
-    let Byte::Got(k, d) = frame_reader::u8_from(buf, cursor) else {
-        return PartAt::Bad(FrameError::Truncated);
-    };
-    match k {
-        part_byte::COMMIT => PartAt::Got(Part::Commit, d),
-        part_byte::WHOLE => PartAt::Got(Part::Whole, d),
-        part_byte::LAST_WHOLE => PartAt::Got(Part::LastWhole, d),
-        _ => PartAt::Bad(FrameError::Unknown(Field::Part, k)),
+    match reader.number()? {
+        0 => Ok(Part::Commit),
+        1 => Ok(Part::Whole),
+        2 => Ok(Part::LastWhole),
+        k => Err(FrameError::Unknown(Field::Part, k)),
     }
 }
 
-pub fn reason_from(buf: &[u8], cursor: Cursor) -> ReasonAt
-    ensures { res_reason buf.now result ≡ read_reason (drop cursor.at buf.now) }
+// As for a part.
+pub fn read_reason(reader: &mut Reader) -> Result<NackReason, FrameError>
+    ensures read { res reason_of reader.new result ≡ read_reason (rest reader.old) }
+    ensures same { reader.new.buf.now ≡ reader.old.buf.now }
 {
-    let Byte::Got(k, d) = frame_reader::u8_from(buf, cursor) else {
-        return ReasonAt::Bad(FrameError::Truncated);
-    };
-    match k {
-        reason::STALE_EPOCH => ReasonAt::Got(NackReason::StaleEpoch, d),
-        reason::DIVERGED => ReasonAt::Got(NackReason::Diverged, d),
-        reason::LAG => ReasonAt::Got(NackReason::Lag, d),
-        reason::RESTARTED => ReasonAt::Got(NackReason::Restarted, d),
-        _ => ReasonAt::Bad(FrameError::Unknown(Field::Refusal, k)),
+    match reader.number()? {
+        1 => Ok(NackReason::StaleEpoch),
+        2 => Ok(NackReason::Diverged),
+        3 => Ok(NackReason::Lag),
+        4 => Ok(NackReason::Restarted),
+        k => Err(FrameError::Unknown(Field::Refusal, k)),
     }
 }
 
 // The kinds of application records: a kind is two bytes, so the count says where they end.
-pub fn kinds_from(buf: &[u8], cursor: Cursor) -> RunAt
-    ensures result_value { res_run (read_num 2) buf.now result ≡ read_kinds (drop cursor.at buf.now) }
-    ensures run_in { RunIn (read_num 2) buf.now result }
-    ensures run_ends { RunEnds result }
+pub fn read_kinds(reader: &mut Reader) -> Result<Run, FrameError>
+    ensures read { res (run_of (read_num 2) reader.old.buf.now) reader.new result ≡ read_kinds (rest reader.old) }
+    ensures same { reader.new.buf.now ≡ reader.old.buf.now }
+    ensures again { IfOk result (RunIn (read_num 2) reader.old.buf.now reader.new.at) }
+    ensures ends { IfOk result (λ r. r.at + r.len ≡ reader.new.at) }
 {
-    let Word32::Got(count, d) = frame_reader::count_from(buf, cursor, 2) else {
-        return RunAt::Bad(FrameError::Truncated);
-    };
-    let at = d.at;
+    let count = reader.count(2)?;
+    let at = reader.at;
     let len = (count as usize) * 2;
-    RunAt::Got(Run { at, count, len }, Cursor { at: at + len })
+    reader.at += len;
+    Ok(Run { at, count, len })
 }
 
-pub fn app_record_from(buf: &[u8], cursor: Cursor) -> AppRecordAt
-    ensures { res_record buf.now result ≡ read_app_record (drop cursor.at buf.now) }
+pub fn read_app_record(reader: &mut Reader) -> Result<AppRecord, FrameError>
+    ensures read { res (record_of reader.old.buf.now) reader.new result ≡ read_app_record (rest reader.old) }
+    ensures same { reader.new.buf.now ≡ reader.old.buf.now }
 {
-    let Word16::Got(kind, d) = frame_reader::u16_from(buf, cursor) else {
-        return AppRecordAt::Bad(FrameError::Truncated);
-    };
-    match frame_reader::blob_from(buf, d) {
-        SpanAt::Bad(e) => AppRecordAt::Bad(e),
-        SpanAt::Got(bytes, d) => AppRecordAt::Got(AppRecord { kind, bytes }, d),
+    let kind = reader.number()?;
+    let bytes = reader.blob()?;
+    Ok(AppRecord { kind, bytes })
+}
+
+// To the end of so many records.
+pub fn skip_app_records(reader: &mut Reader, count: u32) -> Result<(), FrameError>
+    ensures read { res (λ _. tt) reader.new result ≡ forget (many count read_app_record (rest reader.old)) }
+    ensures same { reader.new.buf.now ≡ reader.old.buf.now }
+{
+    for _ in 0..count {
+        read_app_record(reader)?;
+    }
+    Ok(())
+}
+
+// How many bytes so many application records at a position take.
+pub fn records_len(buf: &[u8], at: usize, count: u32) -> Result<usize, FrameError>
+    ensures { RunTakes read_app_record app_record_bytes buf.now at count result }
+{
+    let start = Reader { buf, at };
+    let mut end = start;
+    skip_app_records(&mut end, count)?;
+    Ok(start.left() - end.left())
+}
+
+pub fn read_app_records(reader: &mut Reader) -> Result<Run, FrameError>
+    ensures read { res (run_of read_app_record reader.old.buf.now) reader.new result ≡ read_app_records (rest reader.old) }
+    ensures same { reader.new.buf.now ≡ reader.old.buf.now }
+    ensures again { IfOk result (RunIn read_app_record reader.old.buf.now reader.new.at) }
+    ensures ends { IfOk result (λ r. r.at + r.len ≡ reader.new.at) }
+{
+    let count = reader.count(6)?;
+    let at = reader.at;
+    let len = records_len(reader.buf, at, count)?;
+    reader.at += len;
+    Ok(Run { at, count, len })
+}
+
+// The four texts of a key, which is judged after all of them: a text's own fault goes before the key's.
+pub fn read_session(reader: &mut Reader) -> Result<SessionId, FrameError>
+    ensures read { res (key_of reader.old.buf.now) reader.new result ≡ read_key (rest reader.old) }
+    ensures same { reader.new.buf.now ≡ reader.old.buf.now }
+    ensures lies { IfOk result (KeyIn reader.old.buf.now) }
+{
+    let (begin_string, begin_fits) = reader.checked_text(1, 32)?;
+    let (sender_comp_id, sender_fits) = reader.checked_text(1, 32)?;
+    let (target_comp_id, target_fits) = reader.checked_text(1, 32)?;
+    let (key_suffix, suffix_fits) = reader.checked_text(0, 32)?;
+    if begin_fits & sender_fits & target_fits & suffix_fits {
+        Ok(SessionId {
+            begin_string,
+            sender_comp_id,
+            target_comp_id,
+            key_suffix,
+        })
+    } else {
+        Err(FrameError::Invalid(Value::Session))
     }
 }
 
-// Where so many records end.
-pub fn app_records_end(buf: &[u8], cursor: Cursor, count: u32) -> End
-    ensures { res_end buf.now result ≡ forget (many count read_app_record (drop cursor.at buf.now)) }
-{
-    let mut d = cursor;
-    let mut n = count;
-    while 0 < n {
-        match app_record_from(buf, d) {
-            AppRecordAt::Bad(e) => return End::Bad(e),
-            AppRecordAt::Got(_, next) => d = next,
-        }
-        n -= 1;
-    }
-    End::At(d)
-}
-
-// How many bytes so many application records take.
-pub fn records_len(buf: &[u8], cursor: Cursor, count: u32) -> RunLen
-    ensures { RecordsLen buf.now cursor.at count result }
-{
-    match app_records_end(buf, cursor, count) {
-        End::Bad(e) => RunLen::Bad(e),
-        End::At(d) => RunLen::Bytes(
-            frame_reader::bytes_left(buf, cursor) - frame_reader::bytes_left(buf, d),
-        ),
-    }
-}
-
-pub fn app_records_from(buf: &[u8], cursor: Cursor) -> RunAt
-    ensures result_value { res_run read_app_record buf.now result ≡ read_app_records (drop cursor.at buf.now) }
-    ensures run_in { RunIn read_app_record buf.now result }
-    ensures run_ends { RunEnds result }
-{
-    let Word32::Got(count, d) = frame_reader::count_from(buf, cursor, 6) else {
-        return RunAt::Bad(FrameError::Truncated);
-    };
-    let at = d.at;
-    match records_len(buf, d, count) {
-        RunLen::Bad(e) => RunAt::Bad(e),
-        RunLen::Bytes(len) => RunAt::Got(Run { at, count, len }, Cursor { at: at + len }),
-    }
-}
-
-// A key whose first three texts are none of a key's: a fault of the fourth goes before the key's.
-fn no_session(suffix: SpanAt) -> SessionAt
-    ensures by_index { (b : List ℕ) → res_session b result ≡ no_key (res_span b suffix) }
-    ensures by_index_2 { (b : List ℕ) → KeyIn b result }
-{
-    match suffix {
-        SpanAt::Bad(e) => SessionAt::Bad(e),
-        SpanAt::Got(_, _) => SessionAt::Bad(FrameError::Invalid(Value::Session)),
-    }
-}
-
-// The four texts of a key, which is judged after all of them.
-pub fn session_from(buf: &[u8], cursor: Cursor) -> SessionAt
-    ensures result_value { res_session buf.now result ≡ read_key (drop cursor.at buf.now) }
-    ensures key_in { KeyIn buf.now result }
-{
-    match frame_reader::checked_text_from(buf, cursor, 1, 32) {
-        CheckedTextAt::Bad(e) => SessionAt::Bad(e),
-        CheckedTextAt::Got(begin_string, v, d) => match frame_reader::checked_text_from(
-            buf, d, 1, 32,
-        ) {
-            CheckedTextAt::Bad(e) => SessionAt::Bad(e),
-            CheckedTextAt::Got(sender_comp_id, w, d) => match frame_reader::checked_text_from(
-                buf, d, 1, 32,
-            ) {
-                CheckedTextAt::Bad(e) => SessionAt::Bad(e),
-                CheckedTextAt::Got(target_comp_id, x, d) => {
-                    if !(v & w & x) {
-                        return no_session(frame_reader::text_from(buf, d));
-                    }
-                    match frame_reader::checked_text_from(buf, d, 0, 32) {
-                        CheckedTextAt::Bad(e) => SessionAt::Bad(e),
-                        CheckedTextAt::Got(key_suffix, y, d) => {
-                            if y {
-                                SessionAt::Got(
-                                    SessionId {
-                                        begin_string,
-                                        sender_comp_id,
-                                        target_comp_id,
-                                        key_suffix,
-                                    },
-                                    d,
-                                )
-                            } else {
-                                SessionAt::Bad(FrameError::Invalid(Value::Session))
-                            }
-                        }
-                    }
-                }
-            },
-        },
-    }
-}
-
-fn flight(n: u64) -> InFlight
+fn flight(n: u64) -> Option<u64>
     ensures { flight_of result ≡ flight n }
 {
-    if n == 0 {
-        InFlight::Nothing
-    } else {
-        InFlight::Seq(n)
-    }
+    if n == 0 { None } else { Some(n) }
 }
 
-pub fn summary_from(protocol: Protocol, buf: &[u8], cursor: Cursor) -> SummaryAt
-    ensures result_value { res_summary buf.now result ≡ read_summary protocol.version (drop cursor.at buf.now) }
-    ensures summary_in { SummaryIn buf.now result }
+pub fn read_summary(reader: &mut Reader, protocol: Protocol) -> Result<Summary, FrameError>
+    ensures read { res (summary_of reader.old.buf.now) reader.new result ≡ read_summary protocol.version (rest reader.old) }
+    ensures same { reader.new.buf.now ≡ reader.old.buf.now }
+    ensures lies { IfOk result (SummaryIn reader.old.buf.now) }
 {
-    let Word64::Got(next_outgoing, d) = frame_reader::u64_from(buf, cursor) else {
-        return SummaryAt::Bad(FrameError::Truncated);
-    };
-    let Word64::Got(next_incoming, d) = frame_reader::u64_from(buf, d) else {
-        return SummaryAt::Bad(FrameError::Truncated);
-    };
-    let Word64::Got(n, d) = frame_reader::u64_from(buf, d) else {
-        return SummaryAt::Bad(FrameError::Truncated);
-    };
-    let in_flight = flight(n);
-    match frame_reader::stamp_or_none_from(protocol, buf, d) {
-        SpanAt::Bad(e) => SummaryAt::Bad(e),
-        SpanAt::Got(created_at, d) => match frame_reader::marks_from(buf, d) {
-            SpanAt::Bad(e) => SummaryAt::Bad(e),
-            SpanAt::Got(marks, d) => {
-                let Word64::Got(last_outgoing, d) = frame_reader::u64_from(buf, d) else {
-                    return SummaryAt::Bad(FrameError::Truncated);
-                };
-                SummaryAt::Got(
-                    Summary {
-                        next_outgoing,
-                        next_incoming,
-                        in_flight,
-                        created_at,
-                        marks,
-                        last_outgoing,
-                    },
-                    d,
-                )
-            }
-        },
-    }
+    let next_outgoing = reader.number()?;
+    let next_incoming = reader.number()?;
+    let in_flight = flight(reader.number()?);
+    let created_at = reader.stamp_or_none(protocol)?;
+    let marks = reader.marks()?;
+    let last_outgoing = reader.number()?;
+    Ok(Summary {
+        next_outgoing,
+        next_incoming,
+        in_flight,
+        created_at,
+        marks,
+        last_outgoing,
+    })
 }

@@ -1,18 +1,20 @@
 // A change to a session's stored state: read at a position, walked over, and written.
 #![tactic(auto)]
 
-ghost use Rattle.std.specs.Prelude.{◌≡◌, [], ◌∷◌, ◌+◌, ◌^◌, ◌≤◌, ◌<◌, length, drop};
+ghost use Rattle.std.specs.Prelude.{◌≡◌, [], ◌∷◌, ◌+◌, ◌^◌, ◌≤◌, ◌<◌, length, IfOk};
 ghost use Rattle.model_frame.specs.Bytes.{bytes_of};
 ghost use Rattle.model_frame.specs.Parse.{many, forget, run_bytes};
 ghost use Rattle.model_frame.specs.Writing.{blob_bytes, change_bytes};
 ghost use Rattle.base_laws.specs.Wrote.{Wrote, StandsAt};
-ghost use Rattle.model_frame.specs.Reading.{set_incoming_fields, set_incoming_in_flight_fields, set_in_flight_fields, record_msg_fields, record_bare_fields, set_created_at_fields, set_marks_fields, read_change, read_changes};
-ghost use Rattle.frame_op.specs.Answers.{run_of, res_op, res_end, res_run, RunIn, RunSized, OpsLen};
+ghost use Rattle.model_frame.specs.Reading.{read_change, read_changes};
+ghost use Rattle.frame_reader.specs.Answers.{rest, res};
+ghost use Rattle.frame_op.specs.Answers.{op_of, run_of, RunIn, HasLength, RunTakes};
 
-use frame_reader::{Byte, Cursor, Field, FrameError, Span, SpanAt, Word32, Word64};
+use base_bytes::LittleEndian;
+use frame_reader::{Field, FrameError, Reader, Span};
 use frame_stamp::Protocol;
 
-// The byte that a change begins with.
+// The byte that a change begins with: constants as in the Rust, since an enum of them would say each change twice.
 pub mod kind {
     pub const SET_NEXT_INCOMING: u8 = 1;
 
@@ -32,7 +34,7 @@ pub mod kind {
 }
 
 // A Record with its message is one variant, a Record without another.
-#[derive(Clone, Copy)]
+#[derive(Clone, Copy, Debug, PartialEq, Eq)]
 pub enum Op {
     SetNextIncoming(u64),
     SetNextIncomingInFlight { seq: u64, in_flight: u64 },
@@ -44,172 +46,69 @@ pub enum Op {
     SetMarks(Span),
 }
 
-#[derive(Clone, Copy)]
-pub enum OpAt {
-    Got(Op, Cursor),
-    Bad(FrameError),
-}
-
-// Where a run of items ends.
-#[derive(Clone, Copy)]
-pub enum End {
-    At(Cursor),
-    Bad(FrameError),
-}
-
 // So many items, the first at `at`. Reading says how many bytes they take; writing doesn't ask for `len`, and finds it anew.
 #[repr(C)]
-#[derive(Clone, Copy)]
+#[derive(Clone, Copy, Debug, PartialEq, Eq)]
 pub struct Run {
     pub at: usize,
     pub count: u32,
     pub len: usize,
 }
 
-#[derive(Clone, Copy)]
-pub enum RunAt {
-    Got(Run, Cursor),
-    Bad(FrameError),
-}
-
-// How many bytes a run takes.
-#[derive(Clone, Copy)]
-pub enum RunLen {
-    Bytes(usize),
-    Bad(FrameError),
-}
-
-fn set_next_incoming(buf: &[u8], cursor: Cursor) -> OpAt
-    ensures { res_op buf.now result ≡ set_incoming_fields (drop cursor.at buf.now) }
+// One change.
+pub fn read_op(reader: &mut Reader, protocol: Protocol) -> Result<Op, FrameError>
+    ensures read { res (op_of reader.old.buf.now) reader.new result ≡ read_change protocol.version (rest reader.old) }
+    ensures same { reader.new.buf.now ≡ reader.old.buf.now }
 {
-    let Word64::Got(seq, d) = frame_reader::u64_from(buf, cursor) else {
-        return OpAt::Bad(FrameError::Truncated);
-    };
-    OpAt::Got(Op::SetNextIncoming(seq), d)
-}
-
-fn set_next_incoming_in_flight(buf: &[u8], cursor: Cursor) -> OpAt
-    ensures { res_op buf.now result ≡ set_incoming_in_flight_fields (drop cursor.at buf.now) }
-{
-    let Word64::Got(seq, d) = frame_reader::u64_from(buf, cursor) else {
-        return OpAt::Bad(FrameError::Truncated);
-    };
-    let Word64::Got(in_flight, d) = frame_reader::u64_from(buf, d) else {
-        return OpAt::Bad(FrameError::Truncated);
-    };
-    OpAt::Got(Op::SetNextIncomingInFlight { seq, in_flight }, d)
-}
-
-fn set_in_flight(buf: &[u8], cursor: Cursor) -> OpAt
-    ensures { res_op buf.now result ≡ set_in_flight_fields (drop cursor.at buf.now) }
-{
-    let Word64::Got(seq, d) = frame_reader::u64_from(buf, cursor) else {
-        return OpAt::Bad(FrameError::Truncated);
-    };
-    OpAt::Got(Op::SetInFlight(seq), d)
-}
-
-fn record(buf: &[u8], cursor: Cursor) -> OpAt
-    ensures { res_op buf.now result ≡ record_msg_fields (drop cursor.at buf.now) }
-{
-    let Word64::Got(seq, d) = frame_reader::u64_from(buf, cursor) else {
-        return OpAt::Bad(FrameError::Truncated);
-    };
-    match frame_reader::blob_from(buf, d) {
-        SpanAt::Bad(e) => OpAt::Bad(e),
-        SpanAt::Got(msg, d) => OpAt::Got(Op::Record(seq, msg), d),
+    match reader.number()? {
+        kind::SET_NEXT_INCOMING => Ok(Op::SetNextIncoming(reader.number()?)),
+        kind::SET_NEXT_INCOMING_IN_FLIGHT => Ok(Op::SetNextIncomingInFlight {
+            seq: reader.number()?,
+            in_flight: reader.number()?,
+        }),
+        kind::SET_IN_FLIGHT => Ok(Op::SetInFlight(reader.number()?)),
+        kind::RECORD => Ok(Op::Record(reader.number()?, reader.blob()?)),
+        kind::RECORD_NONE => Ok(Op::RecordNone(reader.number()?)),
+        kind::RESET => Ok(Op::Reset),
+        kind::SET_CREATED_AT => Ok(Op::SetCreatedAt(reader.stamp(protocol)?)),
+        kind::SET_MARKS => Ok(Op::SetMarks(reader.marks()?)),
+        k => Err(FrameError::Unknown(Field::Change, k)),
     }
 }
 
-fn record_none(buf: &[u8], cursor: Cursor) -> OpAt
-    ensures { res_op buf.now result ≡ record_bare_fields (drop cursor.at buf.now) }
+// To the end of so many changes.
+pub fn skip_ops(reader: &mut Reader, protocol: Protocol, count: u32) -> Result<(), FrameError>
+    ensures read { res (λ _. tt) reader.new result ≡ forget (many count (read_change protocol.version) (rest reader.old)) }
+    ensures same { reader.new.buf.now ≡ reader.old.buf.now }
 {
-    let Word64::Got(seq, d) = frame_reader::u64_from(buf, cursor) else {
-        return OpAt::Bad(FrameError::Truncated);
-    };
-    OpAt::Got(Op::RecordNone(seq), d)
+    for _ in 0..count {
+        read_op(reader, protocol)?;
+    }
+    Ok(())
 }
 
-fn set_created_at(protocol: Protocol, buf: &[u8], cursor: Cursor) -> OpAt
-    ensures { res_op buf.now result ≡ set_created_at_fields protocol.version (drop cursor.at buf.now) }
+// How many bytes so many changes at a position take.
+pub fn ops_len(protocol: Protocol, buf: &[u8], at: usize, count: u32) -> Result<usize, FrameError>
+    ensures { RunTakes (read_change protocol.version) change_bytes buf.now at count result }
 {
-    match frame_reader::stamp_from(protocol, buf, cursor) {
-        SpanAt::Bad(e) => OpAt::Bad(e),
-        SpanAt::Got(t, d) => OpAt::Got(Op::SetCreatedAt(t), d),
-    }
-}
-
-fn set_marks(buf: &[u8], cursor: Cursor) -> OpAt
-    ensures { res_op buf.now result ≡ set_marks_fields (drop cursor.at buf.now) }
-{
-    match frame_reader::marks_from(buf, cursor) {
-        SpanAt::Bad(e) => OpAt::Bad(e),
-        SpanAt::Got(t, d) => OpAt::Got(Op::SetMarks(t), d),
-    }
-}
-
-// One change at a position.
-pub fn op_from(protocol: Protocol, buf: &[u8], cursor: Cursor) -> OpAt
-    ensures { res_op buf.now result ≡ read_change protocol.version (drop cursor.at buf.now) }
-{
-    let Byte::Got(k, d) = frame_reader::u8_from(buf, cursor) else {
-        return OpAt::Bad(FrameError::Truncated);
-    };
-    match k {
-        kind::SET_NEXT_INCOMING => set_next_incoming(buf, d),
-        kind::SET_NEXT_INCOMING_IN_FLIGHT => set_next_incoming_in_flight(buf, d),
-        kind::SET_IN_FLIGHT => set_in_flight(buf, d),
-        kind::RECORD => record(buf, d),
-        kind::RECORD_NONE => record_none(buf, d),
-        kind::RESET => OpAt::Got(Op::Reset, d),
-        kind::SET_CREATED_AT => set_created_at(protocol, buf, d),
-        kind::SET_MARKS => set_marks(buf, d),
-        _ => OpAt::Bad(FrameError::Unknown(Field::Change, k)),
-    }
-}
-
-// Where so many changes end.
-pub fn ops_end(protocol: Protocol, buf: &[u8], cursor: Cursor, count: u32) -> End
-    ensures { res_end buf.now result ≡ forget (many count (read_change protocol.version) (drop cursor.at buf.now)) }
-{
-    let mut d = cursor;
-    let mut n = count;
-    while 0 < n {
-        match op_from(protocol, buf, d) {
-            OpAt::Bad(e) => return End::Bad(e),
-            OpAt::Got(_, next) => d = next,
-        }
-        n -= 1;
-    }
-    End::At(d)
-}
-
-// How many bytes so many changes take.
-pub fn ops_len(protocol: Protocol, buf: &[u8], cursor: Cursor, count: u32) -> RunLen
-    ensures { OpsLen protocol.version buf.now cursor.at count result }
-{
-    match ops_end(protocol, buf, cursor, count) {
-        End::Bad(e) => RunLen::Bad(e),
-        End::At(d) => RunLen::Bytes(
-            frame_reader::bytes_left(buf, cursor) - frame_reader::bytes_left(buf, d),
-        ),
-    }
+    let start = Reader { buf, at };
+    let mut end = start;
+    skip_ops(&mut end, protocol, count)?;
+    Ok(start.left() - end.left())
 }
 
 // A count of changes and the changes, as a run.
-pub fn ops_from(protocol: Protocol, buf: &[u8], cursor: Cursor) -> RunAt
-    ensures result_value { res_run (read_change protocol.version) buf.now result ≡ read_changes protocol.version (drop cursor.at buf.now) }
-    ensures run_in { RunIn (read_change protocol.version) buf.now result }
-    ensures run_sized { RunSized protocol.version buf.now result }
+pub fn read_ops(reader: &mut Reader, protocol: Protocol) -> Result<Run, FrameError>
+    ensures read { res (run_of (read_change protocol.version) reader.old.buf.now) reader.new result ≡ read_changes protocol.version (rest reader.old) }
+    ensures same { reader.new.buf.now ≡ reader.old.buf.now }
+    ensures again { IfOk result (RunIn (read_change protocol.version) reader.old.buf.now reader.new.at) }
+    ensures sized { IfOk result (HasLength protocol.version reader.old.buf.now) }
 {
-    let Word32::Got(count, d) = frame_reader::count_from(buf, cursor, 1) else {
-        return RunAt::Bad(FrameError::Truncated);
-    };
-    let at = d.at;
-    match ops_len(protocol, buf, d, count) {
-        RunLen::Bad(e) => RunAt::Bad(e),
-        RunLen::Bytes(len) => RunAt::Got(Run { at, count, len }, Cursor { at: at + len }),
-    }
+    let count = reader.count(1)?;
+    let at = reader.at;
+    let len = ops_len(protocol, reader.buf, at, count)?;
+    reader.at += len;
+    Ok(Run { at, count, len })
 }
 
 // A tag; a tag and a number; a blob.
@@ -228,7 +127,7 @@ pub fn tagged(out: &mut [u8], at: usize, k: u8, n: u64) -> usize
     ensures value { result ≡ at + 9 }
 {
     let next = tag(out, at, k);
-    base_bytes::put_u64(out, next, n)
+    n.put_at(out, next)
 }
 
 pub fn blob(s: &[u8], out: &mut [u8], at: usize) -> usize
@@ -237,7 +136,7 @@ pub fn blob(s: &[u8], out: &mut [u8], at: usize) -> usize
     ensures wrote { Wrote out.old at (blob_bytes s.now) out.new result }
     ensures value { result ≡ at + (4 + length s.now) }
 {
-    let next = base_bytes::put_u32(out, at, s.len() as u32);
+    let next = (s.len() as u32).put_at(out, at);
     base_bytes::copy(s, out, next)
 }
 

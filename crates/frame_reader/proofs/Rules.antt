@@ -2,8 +2,6 @@
 use Prim.Native.Nat.{ℕ}
 use mathlib.Core.Path.{◌≡◌, refl}
 use mathlib.Core.Bool.{Bool, true, false, cond, ◌||◌}
-use lib.ListN.{length}
-use native.Mathlib.Omega.{arith}
 use mathlib.Core.List.{List, [], ◌∷◌}
 use Rattle.model_text.specs.Utf8.{utf8}
 use Rattle.model_text.specs.Printable.{is_marks}
@@ -60,11 +58,3 @@ marks_judged s e = rule_judged is_marks bad_marks s (λ x t. (marks_is x t).code
 pub marks_fault : (s : List ℕ) {e : Fault} → read_blob s ≡ bad e → read_marks s ≡ bad e
 unfolding read_marks
 marks_fault s e = rule_fault is_marks bad_marks s e
-
-pub none_taken : (version : ℕ) (s : List ℕ) → length s ≡ 0 → true ≡ (is_empty s || takes_stamp version s)
-none_taken version [] h = refl
-none_taken version (x ∷ xs) h = absurd (omega arith)
-
-pub some_taken : (version : ℕ) (s : List ℕ) {r : Bool} → (length s ≡ 0 → ⊥) → r ≡ takes_stamp version s → r ≡ (is_empty s || takes_stamp version s)
-some_taken version [] h e = absurd (h refl)
-some_taken version (x ∷ xs) h e = e

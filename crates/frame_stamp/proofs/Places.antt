@@ -1,29 +1,15 @@
 -- A stamp's bytes, place by place. Assumes nothing.
 use mathlib.Core.Path.{◌≡◌, sym, ap, ap₂, ◌∙◌}
-use mathlib.Core.Bool.{Bool, true, false, ◌&&◌, ◌||◌, and_assoc, and-true, or-false}
+use mathlib.Core.Bool.{Bool, false, ◌&&◌, ◌||◌, and_assoc, and-true, or-false}
 use mathlib.Core.List.{List, ◌∷◌, ◌++◌}
-use Prim.Native.Nat.{ℕ, zero, suc, ◌+◌, ◌-◌, ◌*◌, ◌≤◌}
+use Prim.Native.Nat.{ℕ, zero, suc, ◌+◌, ◌≤◌}
 use native.Mathlib.Omega.{arith}
 use native.Mathlib.Numerals.{add-one}
-use lib.Dec.{leb}
 use lib.ListN.{length, drop, get_or, drop_of_length-le}
 use lib.Seq.{drop-cons}
-use Rattle.model_text.specs.Stamp.{is_digit, is_pair, matches, date, clock, millis, day_exists, is_stamp}
-use Rattle.model_text.proofs.Formed.{and_l, and_r}
-use Rattle.model_text.proofs.Form.{digit_bounds, not_long}
+use Rattle.model_text.specs.Stamp.{matches, date, clock, millis, day_exists, is_stamp}
+use Rattle.model_text.proofs.Form.{not_long}
 use Rattle.frame_stamp.specs.Places.{slice_at}
-
--- what is_pair knows of its bytes behind its test, and what it answers
-module _ (a b : ℕ) {t u : Bool} (et : t ≡ is_digit a) (eu : u ≡ is_digit b) where
-  pub two_digits : (t && u) ≡ true → (48 ≤ a) × (a ≤ 57) × (48 ≤ b) × (b ≤ 57)
-  two_digits e =
-      let x = digit_bounds a (sym et ∙ and_l t u e) in
-      let y = digit_bounds b (sym eu ∙ and_r t u e) in
-      (x.0, x.1, y.0, y.1)
-
-  pub pair_by : (lo hi : ℕ) (f : Bool) → (t && u) ≡ f → (f && (leb lo ((a - 48) * 10 + (b - 48)) && leb ((a - 48) * 10 + (b - 48)) hi)) ≡ is_pair lo hi a b
-  unfolding is_pair
-  pair_by lo hi f e = ap (λ (g : Bool). g && (leb lo ((a - 48) * 10 + (b - 48)) && leb ((a - 48) * 10 + (b - 48)) hi)) (sym e ∙ ap₂ ◌&&◌ et eu)
 
 -- ---- the bytes, one by one
 
@@ -34,10 +20,6 @@ bytes_all (suc k) i s e =
     ∙ sym (drop-cons s i 0 (omega arith))
 
 module _ (s : List ℕ) where
-  pub says_date : {a b c d p q : Bool} → a ≡ is_digit (get_or s 0 0) → b ≡ is_digit (get_or s 1 0) → c ≡ is_digit (get_or s 2 0) → d ≡ is_digit (get_or s 3 0)
-      → p ≡ is_pair 1 12 (get_or s 4 0) (get_or s 5 0) → q ≡ is_pair 1 31 (get_or s 6 0) (get_or s 7 0) → (a && b && c && d && p && q) ≡ matches date (slice_at s 0 8)
-  says_date ea eb ec ed ep eq = (λ i. ea i && eb i && ec i && ed i && ep i && eq i) ∙ simp (and_assoc, and-true)
-
   pub says_seconds : length s ≡ 17 → {d c y : Bool} → d ≡ matches date (slice_at s 0 8) → c ≡ matches clock (slice_at s 8 9) → y ≡ day_exists s → (d && c && y) ≡ is_stamp s
   unfolding is_stamp
   says_seconds h ed ec ey =

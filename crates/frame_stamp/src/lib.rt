@@ -15,46 +15,42 @@ pub struct Protocol {
 }
 
 // 20 to 7E, hexadecimal.
+#[tactic(auto, unfolding(model_text::specs::Printable::is_printable_byte))]
 fn is_plain(b: u8) -> bool
     ensures { result ≡ is_printable_byte b }
 {
-    (0x20 <= b) & (b <= 0x7E)
+    (0x20..=0x7E).contains(&b)
 }
 
-// All of s is printable ASCII.
+// All of s is printable ASCII. Each byte is tested, since many are tested at a time.
 fn all_plain(s: &[u8]) -> bool
     ensures { result ≡ all_printable s.now }
 {
     let mut ok = true;
-    let mut i: usize = 0;
-    while i < s.len() {
-        ok = ok & is_plain(s[i]);
-        i += 1;
+    for byte in s {
+        ok &= is_plain(*byte);
     }
     ok
 }
 
 // s is lo to hi bytes of printable ASCII.
+#[tactic(auto, unfolding(model_text::specs::Printable::is_printable))]
 pub fn is_printable(s: &[u8], lo: usize, hi: usize) -> bool
     ensures { result ≡ is_printable lo hi s.now }
 {
-    if s.len() < lo {
-        return false;
-    }
-    if hi < s.len() {
-        return false;
-    }
-    all_plain(s)
+    (lo..=hi).contains(&s.len()) && all_plain(s)
 }
 
 // s is a session's marks.
+#[tactic(auto, unfolding(model_text::specs::Printable::is_marks))]
 pub fn is_marks(s: &[u8]) -> bool
     ensures { result ≡ is_marks s.now }
 {
     is_printable(s, 0, 64)
 }
 
-// These four are a session's key.
+// These four are a session's key; they come from four places, so a struct of them would be made for this call alone.
+#[tactic(auto, unfolding(model_text::specs::Printable::is_key))]
 pub fn is_key(begin: &[u8], sender: &[u8], target: &[u8], suffix: &[u8]) -> bool
     ensures { result ≡ is_key begin.now sender.now target.now suffix.now }
 {
@@ -65,22 +61,28 @@ pub fn is_key(begin: &[u8], sender: &[u8], target: &[u8], suffix: &[u8]) -> bool
 }
 
 // 0 to 9.
+#[tactic(auto, unfolding(model_text::specs::Stamp::is_digit))]
 fn is_digit(b: u8) -> bool
     ensures { result ≡ is_digit b }
 {
-    (48 <= b) & (b <= 57)
+    b.is_ascii_digit()
+}
+
+// The number of two digits. A byte below the digits counts as 0, so that nothing is asked of it.
+fn pair_number(a: u8, b: u8) -> u32
+    ensures is { result ≡ pair_number a b }
+    ensures small { result ≤ 2277 }
+{
+    u32::from(a.saturating_sub(b'0')) * 10 + u32::from(b.saturating_sub(b'0'))
 }
 
 // Two digits, of a number from lo to hi.
-fn is_pair(lo: u8, hi: u8, a: u8, b: u8) -> bool
+#[tactic(auto, unfolding(model_text::specs::Stamp::is_pair))]
+fn is_pair(lo: u32, hi: u32, a: u8, b: u8) -> bool
     ensures { result ≡ is_pair lo hi a b }
 {
-    if is_digit(a) & is_digit(b) {
-        let n = (a - 48) * 10 + (b - 48);
-        (lo <= n) & (n <= hi)
-    } else {
-        false
-    }
+    let n = pair_number(a, b);
+    is_digit(a) & is_digit(b) & (lo <= n) & (n <= hi)
 }
 
 // YYYYMMDD at 0.
@@ -117,45 +119,25 @@ fn is_millis(s: &[u8]) -> bool
     (s[17] == b'.') & is_digit(s[18]) & is_digit(s[19]) & is_digit(s[20])
 }
 
-// A digit's number; 0 for a byte below the digits, so that nothing is asked of it.
-fn digit_number(b: u8) -> u32
-    ensures { result ≡ b - 48 }
-{
-    if b < 48 {
-        return 0;
-    }
-    (b as u32) - 48
-}
-
-// The number of two digits.
-fn pair_number(a: u8, b: u8) -> u32
-    ensures is { result ≡ pair_number a b }
-    ensures small { result ≤ 2277 }
-{
-    digit_number(a) * 10 + digit_number(b)
-}
-
 // Divisible by 4, and where it is divisible by 100 also by 400.
+#[tactic(auto, unfolding(model_text::specs::Calendar::is_leap))]
 fn is_leap(y: u32) -> bool
     ensures { result ≡ is_leap y }
 {
-    (y % 4 == 0) & (!(y % 100 == 0) | (y % 400 == 0))
+    (y % 4 == 0) & ((y % 100 != 0) | (y % 400 == 0))
 }
 
 // The days of month m in year y.
+#[tactic(auto, unfolding(model_text::specs::Calendar::month_days))]
 fn month_days(y: u32, m: u32) -> u32
     ensures { result ≡ month_days y m }
 {
-    if m == 2 {
-        if is_leap(y) {
-            return 29;
-        }
-        return 28;
+    match m {
+        2 if is_leap(y) => 29,
+        2 => 28,
+        4 | 6 | 9 | 11 => 30,
+        _ => 31,
     }
-    if (m == 4) | (m == 6) | (m == 9) | (m == 11) {
-        return 30;
-    }
-    31
 }
 
 // The day at 6 exists in the month at 4 of the year at 0; no month is shorter than 28 days.
@@ -176,16 +158,15 @@ fn is_day(s: &[u8]) -> bool
 pub fn is_stamp(s: &[u8]) -> bool
     ensures { result ≡ is_stamp s.now }
 {
-    if s.len() == 17 {
-        return is_date(s) & is_clock(s) & is_day(s);
+    match s.len() {
+        17 => is_date(s) & is_clock(s) & is_day(s),
+        21 => is_date(s) & is_clock(s) & is_millis(s) & is_day(s),
+        _ => false,
     }
-    if s.len() == 21 {
-        return is_date(s) & is_clock(s) & is_millis(s) & is_day(s);
-    }
-    false
 }
 
 // s is a stamp that reading takes in this version.
+#[tactic(auto, unfolding(model_text::specs::Stamp::takes_stamp))]
 pub fn takes_stamp(protocol: Protocol, s: &[u8]) -> bool
     ensures { result ≡ takes_stamp protocol.version s.now }
 {

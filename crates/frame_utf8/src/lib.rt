@@ -33,6 +33,7 @@ fn wide(b: u8) -> u32
 }
 
 // 10xxxxxx
+#[tactic(auto, unfolding(model_text::specs::Utf8::is_tail))]
 fn is_tail(b: u8) -> bool
     ensures { result ≡ is_tail b }
 {
@@ -40,6 +41,7 @@ fn is_tail(b: u8) -> bool
 }
 
 // Not overlong, not above 10FFFF, no surrogate.
+#[tactic(auto, unfolding(model_text::specs::Utf8::is_scalar, model_text::specs::Utf8::is_surrogate))]
 fn is_fitting(low: u32, c: u32) -> bool
     ensures { result ≡ (leb low c && is_scalar c) }
 {
@@ -92,8 +94,8 @@ fn length_if(formed: bool, n: usize) -> usize
     0
 }
 
-// The length of the well formed sequence of n bytes that stands in s from `at` on, or 0 where none does. Each way answers a
-// number of its own, so that the next place is known before the leading bits are counted.
+// The length of the well formed sequence of n bytes that stands in s from `at` on, or 0 where none does: as an Option,
+// and with the loops by `for`, Japanese text took 1.33 times as long. Each way answers a number of its own, so that the next place is known before the leading bits are counted.
 fn formed_length(s: &[u8], at: usize, n: usize) -> usize
     requires at_in_bounds { at < length s.now }
     requires n_bound { n ≤ 4 }
@@ -117,7 +119,7 @@ fn formed_length(s: &[u8], at: usize, n: usize) -> usize
     0
 }
 
-// The 32 bytes of s from `at` on are ASCII.
+// The 32 bytes of s from `at` on are ASCII. With a `for` here and in is_ascii German text took 1.25 times as long.
 fn is_block(s: &[u8], at: usize) -> bool
     requires { at + 32 ≤ length s.now }
     ensures { result ≡ true → AsciiRun s.now at 32 }
@@ -159,7 +161,7 @@ fn ascii_run(s: &[u8], at: usize) -> usize
     1
 }
 
-// All of s is ASCII: it is read once, many bytes at a time.
+// All of s is ASCII: it is read once, many bytes at a time. A `for` here made German text take 1.48 times as long.
 fn is_ascii(s: &[u8]) -> bool
     ensures { result ≡ true → AsciiRun s.now 0 (length s.now) }
 {

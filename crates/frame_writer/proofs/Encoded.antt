@@ -13,10 +13,9 @@ use Rattle.model_frame.specs.Writing.{body_bytes, encode, fine, write_outcome, t
 use Rattle.model_frame.proofs.Le.{length_bytes}
 use Rattle.base_laws.specs.Wrote.{Wrote}
 use Rattle.base_laws.proofs.Writes.{wrote_on}
-use Rattle.frame_writer.specs.declared.Written.{Written}
-use Rattle.frame_writer.specs.declared.Written
-use Rattle.frame_writer.specs.declared.Start.{Start}
-use Rattle.frame_writer.specs.declared.Start
+use Rattle.std.specs.Prelude.{Ok, Err}
+use Rattle.frame_writer.specs.declared.EncodeError.{EncodeError}
+use Rattle.frame_writer.specs.declared.EncodeError
 use Rattle.frame_writer.specs.Encoding.{frame_if, Encoded, Started}
 
 module _ (version : ℕ) (t : Bool) (f : Frame) where
@@ -24,11 +23,11 @@ module _ (version : ℕ) (t : Bool) (f : Frame) where
   pub record Unready : Type 0 where
     pub unfit : (t && fine version f) ≡ false
 
-  pub encoded_unreadable : (out : List ℕ) → Unready → Encoded version (frame_if t f) out out Written.Unreadable
+  pub encoded_unreadable : (out : List ℕ) → Unready → Encoded version (frame_if t f) out out (Err EncodeError.Unreadable)
   unfolding write_outcome
   encoded_unreadable out u = go t u.unfit
     where
-      go : (t : Bool) → (t && fine version f) ≡ false → Encoded version (frame_if t f) out out Written.Unreadable
+      go : (t : Bool) → (t && fine version f) ≡ false → Encoded version (frame_if t f) out out (Err EncodeError.Unreadable)
       go true e = record { answer = rw e; area = rw e }
       go false e = record { answer = refl; area = refl }
 
@@ -43,7 +42,7 @@ module _ (version : ℕ) (t : Bool) (f : Frame) where
   encode_length r = length-append (bytes_of 4 (length (body_bytes f))) (body_bytes f) ∙ omega (arith, length_bytes 4 (length (body_bytes f)), r.size)
 
   module _ {n : ℕ} {before after : List ℕ} (r : Ready n) where
-    pub encoded_long : Started n before after Start.TooLong → Encoded version (frame_if t f) before after Written.TooLong
+    encoded_long : Started n before after (Err EncodeError.TooLong) → Encoded version (frame_if t f) before after (Err EncodeError.TooLong)
     unfolding write_outcome
     encoded_long s =
         let long : max_body < length (body_bytes f) = omega (arith, r.size, s.0) in
@@ -52,7 +51,7 @@ module _ (version : ℕ) (t : Bool) (f : Frame) where
           area = rw (r.read, r.texts, lt-ltb _ _ long) s.1;
         }
 
-    pub encoded_full : Started n before after Start.NoRoom → Encoded version (frame_if t f) before after Written.NoRoom
+    encoded_full : Started n before after (Err EncodeError.NoRoom) → Encoded version (frame_if t f) before after (Err EncodeError.NoRoom)
     unfolding write_outcome
     encoded_full s =
         let short : length (body_bytes f) ≤ max_body = omega (arith, r.size, s.0) in
@@ -62,7 +61,13 @@ module _ (version : ℕ) (t : Bool) (f : Frame) where
           area = rw (r.read, r.texts, le-ltb _ _ short, lt-ltb _ _ full) s.2;
         }
 
-    pub encoded_took : {last : List ℕ} {k end : ℕ} → Started n before after (Start.At k) → Wrote after k (body_bytes f) last end → Encoded version (frame_if t f) before last (Written.Bytes end)
+    -- the length wasn't written
+    pub encoded_failed : (e : EncodeError) → Started n before after (Err e) → Encoded version (frame_if t f) before after (Err e)
+    encoded_failed EncodeError.Unreadable s = absurd s
+    encoded_failed EncodeError.TooLong s = encoded_long s
+    encoded_failed EncodeError.NoRoom s = encoded_full s
+
+    pub encoded_took : {last : List ℕ} {k end : ℕ} → Started n before after (Ok k) → Wrote after k (body_bytes f) last end → Encoded version (frame_if t f) before last (Ok end)
     unfolding write_outcome encode
     encoded_took {last} {k} {end} s w =
         let short : length (body_bytes f) ≤ max_body = omega (arith, r.size, s.0) in

@@ -1,5 +1,5 @@
 -- What writing a frame gives: what the code's frame stands for in a source slice, then 8, 1, 9 or the bytes. Assumes nothing.
-use Rattle.std.specs.Prelude.{ℕ, ◌+◌, ◌<◌, ◌≤◌, ◌≡◌, Bool, true, false, cond, ◌&&◌, List, leb, length, drop}
+use Rattle.std.specs.Prelude.{ℕ, ◌+◌, ◌<◌, ◌≤◌, ◌≡◌, Bool, true, false, cond, ◌&&◌, List, leb, length, drop, Result, Ok, Err}
 use Rattle.std.proofs.Math.Option.{Option, none, some}
 use Rattle.model_frame.specs.Refusal
 use Rattle.model_frame.specs.Bytes.{bytes_of}
@@ -13,10 +13,8 @@ use Rattle.frame_reader.specs.declared.Span.{Span}
 use Rattle.frame_op.specs.declared.Run.{Run}
 use Rattle.frame_fields.specs.declared.SessionId.{SessionId}
 use Rattle.frame_fields.specs.declared.Summary.{Summary}
-use Rattle.frame_writer.specs.declared.Written
-use Rattle.frame_writer.specs.declared.Written.{Written}
-use Rattle.frame_writer.specs.declared.Start
-use Rattle.frame_writer.specs.declared.Start.{Start}
+use Rattle.frame_writer.specs.declared.EncodeError
+use Rattle.frame_writer.specs.declared.EncodeError.{EncodeError}
 
 -- ---- what stands in the source: a span lies in it, a run can be read from it
 
@@ -49,18 +47,23 @@ frame_if t f = cond t (some f) none
 
 -- ---- the outcome, as the code has it
 
-abbrev pub written_of : Written → WriteAnswer
-written_of (Written.Bytes n) = took n
-written_of Written.Unreadable = write_refusal Refusal.unreadable
-written_of Written.TooLong = write_refusal Refusal.too_long
-written_of Written.NoRoom = write_refusal Refusal.no_room
+-- the number of each error
+abbrev pub error_number : EncodeError → ℕ
+error_number EncodeError.Unreadable = Refusal.unreadable
+error_number EncodeError.TooLong = Refusal.too_long
+error_number EncodeError.NoRoom = Refusal.no_room
 
-pub record Encoded (version : ℕ) (f : Option Frame) (before after : List ℕ) (r : Written) : Type 0 where
+abbrev pub written_of : Result ℕ EncodeError → WriteAnswer
+written_of (Ok n) = took n
+written_of (Err e) = write_refusal (error_number e)
+
+pub record Encoded (version : ℕ) (f : Option Frame) (before after : List ℕ) (r : Result ℕ EncodeError) : Type 0 where
   pub answer : written_of r ≡ write_answer (write_outcome version f (length before))
   pub area : after ≡ area_after (write_outcome version f (length before)) before
 
 -- the length in front of a body of n bytes, where there is room for both
-abbrev pub Started : ℕ → List ℕ → List ℕ → Start → Type 0
-Started n before after (Start.At k) = (n ≤ max_body) × (4 + n ≤ length before) × Wrote before 0 (bytes_of 4 n) after k × (k ≡ 4)
-Started n before after Start.TooLong = (max_body < n) × (after ≡ before)
-Started n before after Start.NoRoom = (n ≤ max_body) × (length before < 4 + n) × (after ≡ before)
+abbrev pub Started : ℕ → List ℕ → List ℕ → Result ℕ EncodeError → Type 0
+Started n before after (Ok k) = (n ≤ max_body) × (4 + n ≤ length before) × Wrote before 0 (bytes_of 4 n) after k × (k ≡ 4)
+Started n before after (Err EncodeError.Unreadable) = ⊥
+Started n before after (Err EncodeError.TooLong) = (max_body < n) × (after ≡ before)
+Started n before after (Err EncodeError.NoRoom) = (n ≤ max_body) × (length before < 4 + n) × (after ≡ before)

@@ -8,49 +8,55 @@ ghost use Rattle.model_frame.specs.Parse.{read_num};
 ghost use Rattle.model_frame.specs.Reading.{read_change, read_app_record, max_body};
 ghost use Rattle.model_frame.specs.Writing.{blob_bytes, key_bytes, summary_bytes, part_number, reason_number, flight_number, fine_key, fine_summary};
 ghost use Rattle.base_laws.specs.Wrote.{Wrote};
+ghost use Rattle.base_refusals.specs.Numbers.{number_of};
 ghost use Rattle.frame_reader.specs.Answers.{span_of};
 ghost use Rattle.frame_op.specs.Answers.{run_of};
 ghost use Rattle.frame_fields.specs.Answers.{part_of, reason_of, flight_of, key_of, summary_of};
-ghost use Rattle.frame_writer.specs.Encoding.{span_fits, run_reads, key_fits, summary_fits, key_size, summary_size, frame_if, Encoded, Started};
+ghost use Rattle.frame_writer.specs.Encoding.{span_fits, run_reads, key_fits, summary_fits, key_size, summary_size, frame_if, error_number, Encoded, Started};
 
-use frame_fields::{InFlight, NackReason, Part, SessionId, Summary, part_byte, reason};
+use base_bytes::LittleEndian;
+use base_refusals::Refusal;
+use frame_fields::{NackReason, Part, SessionId, Summary};
 use frame_op::Run;
-use frame_reader::{Cursor, Span};
+use frame_reader::{Reader, Span};
 use frame_stamp::Protocol;
 
-// How many bytes were written, or why none was: a field that reading would refuse, a body too long, an area too short.
-#[derive(Clone, Copy)]
-pub enum Written {
-    Bytes(usize),
+// Why no frame was written: a field that reading would refuse, a body too long, an area too short.
+#[derive(Clone, Copy, Debug, PartialEq, Eq)]
+pub enum EncodeError {
     Unreadable,
     TooLong,
     NoRoom,
 }
 
-#[derive(Clone, Copy)]
-pub enum Start {
-    At(usize),
-    TooLong,
-    NoRoom,
+impl From<EncodeError> for Refusal {
+    ghost from_gives = { λ error refusal. number_of refusal ≡ error_number error };
+
+    fn from(error: EncodeError) -> Refusal {
+        match error {
+            EncodeError::Unreadable => Refusal::Unreadable,
+            EncodeError::TooLong => Refusal::TooLong,
+            EncodeError::NoRoom => Refusal::NoRoom,
+        }
+    }
 }
 
 // Whether a part lies in the source.
 pub fn within(src: &[u8], span: Span) -> bool
     ensures { result ≡ span_fits src.now span }
 {
-    let at = span.at;
-    if src.len() < at {
-        return false;
-    }
-    (span.len as usize) <= src.len() - at
+    span.at <= src.len() && (span.len as usize) <= src.len() - span.at
 }
 
 // Whether so many kinds can be read.
 pub fn kinds_fit(src: &[u8], run: Run) -> bool
     ensures { result ≡ run_reads (read_num 2) src.now run }
 {
-    let at = run.at;
-    (run.count as usize) * 2 <= frame_reader::bytes_left(src, Cursor { at })
+    let kinds = Reader {
+        buf: src,
+        at: run.at,
+    };
+    (run.count as usize) * 2 <= kinds.left()
 }
 
 pub fn session_fits(src: &[u8], session: SessionId) -> bool
@@ -79,18 +85,18 @@ pub fn summary_fits(protocol: Protocol, src: &[u8], summary: Summary) -> bool
     fits & (dated & frame_stamp::is_marks(frame_reader::slice(src, marks)))
 }
 
-// The length of a body, if the body is short enough and the area has room for both.
-pub fn begin(out: &mut [u8], limit: u32, n: usize) -> Start
+// Writes the length of a body, if the body is short enough and the area has room for both, and gives the place behind it.
+pub fn begin(out: &mut [u8], limit: u32, n: usize) -> Result<usize, EncodeError>
     requires { limit ≡ max_body }
     ensures { Started n out.old out.new result }
 {
     if (limit as usize) < n {
-        return Start::TooLong;
+        return Err(EncodeError::TooLong);
     }
     if out.len() < 4 + n {
-        return Start::NoRoom;
+        return Err(EncodeError::NoRoom);
     }
-    Start::At(base_bytes::put_u32(out, 0, n as u32))
+    Ok((n as u32).put_at(out, 0))
 }
 
 // A part of the source as a blob.
@@ -116,13 +122,10 @@ pub fn put_session(src: &[u8], session: SessionId, out: &mut [u8], at: usize) ->
     put_span(src, suffix, out, at)
 }
 
-fn flight_number(flight: InFlight) -> u64
+fn flight_number(flight: Option<u64>) -> u64
     ensures { result ≡ flight_number (flight_of flight) }
 {
-    match flight {
-        InFlight::Seq(n) => n,
-        InFlight::Nothing => 0,
-    }
+    flight.unwrap_or(0)
 }
 
 pub fn put_summary(src: &[u8], summary: Summary, out: &mut [u8], at: usize) -> usize
@@ -132,33 +135,24 @@ pub fn put_summary(src: &[u8], summary: Summary, out: &mut [u8], at: usize) -> u
     let in_flight = summary.in_flight;
     let created_at = summary.created_at;
     let marks = summary.marks;
-    let at = base_bytes::put_u64(out, at, summary.next_outgoing);
-    let at = base_bytes::put_u64(out, at, summary.next_incoming);
-    let at = base_bytes::put_u64(out, at, flight_number(in_flight));
+    let at = summary.next_outgoing.put_at(out, at);
+    let at = summary.next_incoming.put_at(out, at);
+    let at = flight_number(in_flight).put_at(out, at);
     let at = put_span(src, created_at, out, at);
     let at = put_span(src, marks, out, at);
-    base_bytes::put_u64(out, at, summary.last_outgoing)
+    summary.last_outgoing.put_at(out, at)
 }
 
 pub fn part_byte(part: Part) -> u8
     ensures { result ≡ part_number (part_of part) }
 {
-    match part {
-        Part::Commit => part_byte::COMMIT,
-        Part::Whole => part_byte::WHOLE,
-        Part::LastWhole => part_byte::LAST_WHOLE,
-    }
+    part as u8
 }
 
 pub fn reason_byte(reason: NackReason) -> u8
     ensures { result ≡ reason_number (reason_of reason) }
 {
-    match reason {
-        NackReason::StaleEpoch => reason::STALE_EPOCH,
-        NackReason::Diverged => reason::DIVERGED,
-        NackReason::Lag => reason::LAG,
-        NackReason::Restarted => reason::RESTARTED,
-    }
+    reason as u8
 }
 
 // A kind and a handle.
@@ -168,5 +162,5 @@ pub fn put_handle(out: &mut [u8], at: usize, kind: u8, handle: u32) -> usize
     ensures value { result ≡ at + 5 }
 {
     let at = frame_op::tag(out, at, kind);
-    base_bytes::put_u32(out, at, handle)
+    handle.put_at(out, at)
 }

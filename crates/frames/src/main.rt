@@ -11,7 +11,6 @@ use standby_state::Replica;
 use std::io;
 use std::io::{ErrorKind, Read};
 use std::process::ExitCode;
-use store_areas::Made;
 
 // The exit statuses of a run that a failing read or write ended.
 const INPUT_FAILED: u8 = 3;
@@ -52,23 +51,16 @@ fn send(rt: &impl Print, out: &[u8], unsent: usize) -> Result<(), Failure> {
 
 // Whether a text of so many bytes and its line feed fit behind the answers that wait.
 fn fits(out: &[u8], unsent: usize, len: usize) -> bool {
-    if unsent < out.len() {
-        return len < out.len() - unsent;
-    }
-    false
+    unsent < out.len() && len < out.len() - unsent
 }
 
 // Puts a text and its line feed behind the answers that wait, if they fit.
 fn add(out: &mut [u8], unsent: usize, text: &[u8]) -> usize {
     let len = text.len();
-    let room = out.len();
-    if unsent >= room {
+    if unsent >= out.len() || out.len() - unsent <= len {
         return unsent;
     }
-    if room - unsent <= len {
-        return unsent;
-    }
-    base_bytes::copy(text, out, unsent);
+    out[unsent..unsent + len].copy_from_slice(text);
     out[unsent + len] = b'\n';
     unsent + len + 1
 }
@@ -117,15 +109,7 @@ fn tell(
 fn waiting(state: State, len: usize) -> State
     ensures { result.len ≡ len }
 {
-    let replica = state.replica;
-    let row = state.row;
-    State {
-        replica,
-        row,
-        len,
-        unsent: state.unsent,
-        more: state.more,
-    }
+    State { len, ..state }
 }
 
 // Answers the lines that end in a piece of the input. Of a line no more than the area is kept, which is more than a line may have.
@@ -146,12 +130,12 @@ fn take_piece(
     let mut at: usize = 0;
     while at < piece.len() {
         let f = base_lines::feed(line, now.len, piece, at);
-        if !f.whole {
-            return Ok(waiting(now, f.len));
-        }
         let n = f.len;
-        now = tell(rt, now, words, bytes, holds, &line[0..n], out)?;
-        at = f.next;
+        let Some(next) = f.next else {
+            return Ok(waiting(now, n));
+        };
+        now = tell(rt, now, words, bytes, holds, &line[..n], out)?;
+        at = next;
     }
     Ok(now)
 }
@@ -160,9 +144,10 @@ fn take_piece(
 fn ended(state: State) -> State
     ensures { result.len ≡ state.len }
 {
-    let mut t = state;
-    t.more = false;
-    t
+    State {
+        more: false,
+        ..state
+    }
 }
 
 // The answers that wait are written.
@@ -170,9 +155,7 @@ fn sent(rt: &impl Print, state: State, out: &[u8]) -> Result<State, Failure>
     ensures { IfOk result (λ t. t.len ≡ state.len) }
 {
     send(rt, out, state.unsent)?;
-    let mut t = state;
-    t.unsent = 0;
-    Ok(t)
+    Ok(State { unsent: 0, ..state })
 }
 
 // Reads once.
@@ -309,10 +292,10 @@ fn main(rt: HostRuntime) -> ExitCode {
     let mut holds = [0u8; 22504];
     let mut line = [0u8; 16385];
     match store_areas::make(frames_line::shape(), &mut words, &bytes) {
-        Made::Ready => match run(&rt, start(), &mut words, &mut bytes, &mut holds, &mut line) {
+        Ok(()) => match run(&rt, start(), &mut words, &mut bytes, &mut holds, &mut line) {
             Ok(()) => ExitCode::SUCCESS,
             Err(failure) => told(&rt, failure),
         },
-        Made::InvalidAreas => ExitCode::SUCCESS,
+        Err(_) => ExitCode::SUCCESS,
     }
 }

@@ -24,8 +24,8 @@ use Rattle.model_standby.proofs.Answering.{answer_bytes, Tellable, Told, Telling
 use Rattle.store_log.proofs.Lawful.{Small}
 use Rattle.store_areas.proofs.Holding.{all_holdable}
 use Rattle.base_hex.specs.Lines.{ReadsLine, Puts, line_read, line_length}
-use Rattle.base_hex.specs.declared.Line.{Line}
-use Rattle.base_hex.specs.declared.Line.TheVariants.{Bytes, Bad}
+use Rattle.std.specs.Prelude as std
+use Rattle.std.specs.Prelude.{Some, None}
 use Rattle.standby_row.specs.declared.Bound.{Bound}
 use Rattle.standby_counters.specs.declared.Replica.{Replica}
 use Rattle.standby_state.specs.declared.Settings.{Settings}
@@ -50,8 +50,8 @@ pub takes_any : {p q : ℕ} → q ≡ p → 8192 ≤ p → answer_bytes ≤ q
 takes_any e h = omega arith
 
 -- the bytes lie in the area
-pub reads_within : {bs : Option (List ℕ)} {buf : List ℕ} {r : Line} {m : ℕ} → ReadsLine bs buf r → r ≡ Bytes m → m ≤ length buf
-reads_within {buf = buf} g e = subst (λ (x : Line). line_length x ≤ length buf) e g.within
+pub reads_within : {bs : Option (List ℕ)} {buf : List ℕ} {r : std.Option ℕ} {m : ℕ} → ReadsLine bs buf r → r ≡ Some m → m ≤ length buf
+reads_within {buf = buf} g e = subst (λ (x : std.Option ℕ). line_length x ≤ length buf) e g.within
 
 put_text : {t out out' : List ℕ} {n : ℕ} → Puts t out out' n → take n out' ≡ t
 put_text {t} {out} {out'} {n} p = ap (take n) p.wrote ∙ take_at t (drop (length t) out) n (sym p.count)
@@ -98,10 +98,10 @@ module _ (l : List ℕ) (c : Replica) (row : List Bound) (w b h out : List ℕ) 
   answers : {c' : Replica} {row' : List Bound} {w' b' h' out' t : List ℕ} {n : ℕ} → Heard l c c' row row' w w' b b' h h' t → Puts t out out' n → AnswersLine l c c' row row' w w' b b' h h' out out' n
   answers {t = t} {n = n} k p = record { text = t; heard = k; puts = p; is = heard_is _ (put_text p) k }
 
-  pub bad_line : {buf out' : List ℕ} {r : Line} {n : ℕ} → ReadsLine (line_bytes l) buf r → r ≡ Bad → Puts (refusal_text 26) out out' n → AnswersLine l c c row row w w b b h h out out' n
+  pub bad_line : {buf out' : List ℕ} {r : std.Option ℕ} {n : ℕ} → ReadsLine (line_bytes l) buf r → r ≡ None → Puts (refusal_text 26) out out' n → AnswersLine l c c row row w w b b h h out out' n
   bad_line {buf} g e p = answers (unread (sym g.bytes ∙ ap (line_read buf) e) refl refl refl refl refl) p
 
-  pub some_line : {buf : List ℕ} {r : Line} (m : ℕ) → Numbers c w b → ReadsLine (line_bytes l) buf r → ((i : ℕ) → get_or buf i 0 < 256) → r ≡ Bytes m → {c' : Replica} {row' : List Bound} {w' b' h' out' : List ℕ} {s : Settings} {a : the_code.Answer} {n k : ℕ} → answer_bytes ≤ k → s ≡ the_settings → Called s (on_frame (take (m - 0) (drop 0 buf))) c c' row row' w w' b b' h h' a → Puts (record_text k b' a) out out' n → AnswersLine l c c' row row' w w' b b' h h' out out' n
+  pub some_line : {buf : List ℕ} {r : std.Option ℕ} (m : ℕ) → Numbers c w b → ReadsLine (line_bytes l) buf r → ((i : ℕ) → get_or buf i 0 < 256) → r ≡ Some m → {c' : Replica} {row' : List Bound} {w' b' h' out' : List ℕ} {s : Settings} {a : the_code.Answer} {n k : ℕ} → answer_bytes ≤ k → s ≡ the_settings → Called s (on_frame (take (m - 0) (drop 0 buf))) c c' row row' w w' b b' h h' a → Puts (record_text k b' a) out out' n → AnswersLine l c c' row row' w w' b b' h h' out out' n
   some_line {buf} m num g ok e {c'} {row'} {w'} {b'} {h'} {out' = out'} {a = a} {n = n} {k = room} big es k p =
       let cut : m - 0 ≡ m = omega arith in
       let call : Called the_settings (on_frame (take m buf)) c c' row row' w w' b b' h h' a =

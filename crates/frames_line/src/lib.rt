@@ -4,8 +4,7 @@
 ghost use Rattle.std.specs.Prelude.{◌≡◌, ◌*◌, ◌≤◌, length};
 ghost use Rattle.frames_line.specs.Answering.{the_settings, AnswersLine};
 
-use base_hex::Line;
-use base_refusals::NOT_ONE_FRAME;
+use base_refusals::Refusal;
 use frame_fields::Incarnation;
 use standby_row::Bound;
 use standby_state::{Replica, Settings};
@@ -58,7 +57,7 @@ fn answer_in(
     ensures { AnswersLine line.now counters result.replica row result.row words.old words.new bytes.old bytes.new holds.old holds.new out.old out.new result.len }
 {
     match base_hex::read_line(line, buf) {
-        Line::Bytes(n) => {
+        Some(n) => {
             let k = replica::on_frame4(counters, row, words, bytes, holds, &buf[0..n], settings());
             let replica = k.replica;
             let row = k.row;
@@ -68,10 +67,10 @@ fn answer_in(
                 len: frames_reply::put_answer(k.answer, bytes, buf, out),
             }
         }
-        Line::Bad => LineAnswer {
+        None => LineAnswer {
             replica: counters,
             row,
-            len: base_hex::put_refusal(NOT_ONE_FRAME, out),
+            len: base_hex::put_refusal(Refusal::NotOneFrame.number(), out),
         },
     }
 }

@@ -17,9 +17,9 @@ use Rattle.model_frame.specs.Writing.{body_bytes, encode, fine, WriteOutcome, wr
 use Rattle.model_standby.specs.Answer as the-answer
 use Rattle.base_laws.proofs.Little.{write_is}
 use Rattle.base_hex.specs.Lines.{WroteFront, Puts}
-use Rattle.frame_writer.specs.Encoding.{written_of, Encoded}
-use Rattle.frame_writer.specs.declared.Written.{Written}
-use Rattle.frame_writer.specs.declared.Written
+use Rattle.std.specs.Prelude.{Ok, Err}
+use Rattle.frame_writer.specs.Encoding.{error_number, Encoded}
+use Rattle.frame_writer.specs.declared.EncodeError.{EncodeError}
 use Rattle.standby_state.specs.declared.Answer.{Answer}
 use Rattle.standby_state.specs.Answers.{frame_by, answer_of}
 use Rattle.standby_state.specs.Exact.{Exact}
@@ -65,17 +65,17 @@ told_no (wrote bs) m e = absurd (omega (arith, ap tag e))
 told_no (refused k) m e = ap (λ (x : ℕ). refusal_text x) (ap told e)
 
 module _ (f : Option Frame) {before after : List ℕ} where
-  pub took_front : (n : ℕ) → Encoded 1 f before after (Written.Bytes n) → write_outcome 1 f (length before) ≡ wrote (take n after)
+  pub took_front : (n : ℕ) → Encoded 1 f before after (Ok n) → write_outcome 1 f (length before) ≡ wrote (take n after)
   took_front n e = front (write_outcome 1 f (length before)) n before after (room f (length before)) e.answer e.area
 
-  pub took_fits : (n : ℕ) → Encoded 1 f before after (Written.Bytes n) → n ≤ length before
+  pub took_fits : (n : ℕ) → Encoded 1 f before after (Ok n) → n ≤ length before
   took_fits n e = go (write_outcome 1 f (length before)) (room f (length before)) e.answer
     where
       go : (o : WriteOutcome) → size o ≤ length before → took n ≡ write_answer o → n ≤ length before
       go (wrote bs) h q = omega (arith, ap told q)
       go (refused m) h q = absurd (omega (arith, ap tag q))
 
-  pub put_digits : (n : ℕ) (out : List ℕ) {out' : List ℕ} → length after ≡ length before → Encoded 1 f before after (Written.Bytes n) → WroteFront (hex_of (take (n - 0) (drop 0 after))) out out' → Puts (outcome_text (write_outcome 1 f (length before))) out out' (2 * n)
+  pub put_digits : (n : ℕ) (out : List ℕ) {out' : List ℕ} → length after ≡ length before → Encoded 1 f before after (Ok n) → WroteFront (hex_of (take (n - 0) (drop 0 after))) out out' → Puts (outcome_text (write_outcome 1 f (length before))) out out' (2 * n)
   put_digits n out {out'} same e h =
       let fit : n ≤ length after = omega (arith, took_fits n e) in
       let cut : n - 0 ≡ n = omega arith in
@@ -83,8 +83,8 @@ module _ (f : Option Frame) {before after : List ℕ} where
       subst (λ (o : WriteOutcome). Puts (outcome_text o) out out' (2 * n)) (sym (took_front n e))
       (record { count = long; wrote = subst (λ (k : ℕ). WroteFront (hex_of (take k after)) out out') cut h })
 
-  pub put_no : (m : ℕ) {r : Written} {out out' : List ℕ} {n : ℕ} → written_of r ≡ write_refusal m → Encoded 1 f before after r → Puts (refusal_text m) out out' n → Puts (outcome_text (write_outcome 1 f (length before))) out out' n
-  put_no m {r} {out} {out'} {n} q e h = subst (λ (t : List ℕ). Puts t out out' n) (told_no (write_outcome 1 f (length before)) m (sym q ∙ e.answer)) h
+  pub put_no : (e : EncodeError) (m : ℕ) {out out' : List ℕ} {n : ℕ} → m ≡ error_number e → Encoded 1 f before after (Err e) → Puts (refusal_text m) out out' n → Puts (outcome_text (write_outcome 1 f (length before))) out out' n
+  put_no x m {out} {out'} {n} q e h = subst (λ (t : List ℕ). Puts t out out' n) (told_no (write_outcome 1 f (length before)) m (ap write_refusal q ∙ e.answer)) h
 
 -- ---- the text of an answer
 

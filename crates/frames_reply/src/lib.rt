@@ -7,8 +7,7 @@ ghost use Rattle.model_frame.specs.Writing.{write_outcome};
 ghost use Rattle.standby_reply.specs.Replies.{frame_for};
 ghost use Rattle.frames_reply.specs.Texts.{outcome_text, record_text};
 
-use base_refusals::{NO_ROOM, TOO_LONG, UNREADABLE};
-use frame::Written;
+use base_refusals::Refusal;
 use standby_state::Answer;
 
 // The digits of an answer's frame, or the refusal where it can't be written; buf is for its bytes.
@@ -18,13 +17,11 @@ fn put_reply(answer: Answer, bytes: &[u8], buf: &mut [u8], out: &mut [u8]) -> us
     ensures { Puts (outcome_text (write_outcome 1 (frame_for bytes.now answer) (length buf.old))) out.old out.new result }
 {
     match standby_reply::write(answer, bytes, buf) {
-        Written::Bytes(n) => {
+        Ok(n) => {
             base_hex::put_hex(&buf[0..n], out);
             2 * n
         }
-        Written::Unreadable => base_hex::put_refusal(UNREADABLE, out),
-        Written::TooLong => base_hex::put_refusal(TOO_LONG, out),
-        Written::NoRoom => base_hex::put_refusal(NO_ROOM, out),
+        Err(error) => base_hex::put_refusal(Refusal::from(error).number(), out),
     }
 }
 

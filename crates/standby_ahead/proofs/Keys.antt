@@ -13,7 +13,10 @@ use Rattle.store_place.specs.Place.{field, stored_key, key_from, place_in}
 use Rattle.store_areas.specs.declared.Shape.{Shape}
 use Rattle.store_areas.specs.Areas.{Rules, SpotIn, place_at}
 use Rattle.store_areas.proofs.Reading.{lent, part_of}
-use Rattle.standby_ahead.specs.Ahead.{cut, KeyIs}
+
+-- the elements from a to e
+abbrev pub cut : ℕ → ℕ → List ℕ → List ℕ
+cut a e b = take (e - a) (drop a b)
 
 cuts : (b : List ℕ) (a n : ℕ) → cut a (a + n) b ≡ take n (drop a b)
 cuts b a n =
@@ -38,27 +41,14 @@ module _ (s : Shape) (i wa we ba be : ℕ) (w b : List ℕ) (at : SpotIn s i w b
       cuts b a n ∙ ap (λ (x : ℕ). take n (drop x b)) ea ∙ sym (part_of s i wa we ba be w b at r h j n room) ∙ ap (λ (x : ℕ). take x (drop j mb)) (e ∙ ap (λ (x : ℕ). min x 32) (word k gk))
 
   pub key_there : (n0 n1 n2 n3 : ℕ) → n0 ≡ min (get_or w (wa + 7) 0) 32 → n1 ≡ min (get_or w (wa + 8) 0) 32 → n2 ≡ min (get_or w (wa + 9) 0) 32 → n3 ≡ min (get_or w (wa + 10) 0) 32
-      → KeyIs s w b i (record { begin = ba; begin_end = ba + n0; sender = ba + 32; sender_end = ba + 32 + n1; target = ba + 64; target_end = ba + 64 + n2; suffix = ba + 96; suffix_end = ba + 96 + n3 })
+      → key_from (cut ba (ba + n0) b) (cut (ba + 32) (ba + 32 + n1) b) (cut (ba + 64) (ba + 64 + n2) b) (cut (ba + 96) (ba + 96 + n3) b) ≡ (place_at s w b i).key
   unfolding stored_key place_in
-  key_there n0 n1 n2 n3 e0 e1 e2 e3 = record {
-    is = (λ j. record {
-      begin = text 0 7 ba n0 (omega arith) (omega arith) (omega arith) e0 j;
-      sender = text 32 8 (ba + 32) n1 (omega arith) (omega arith) refl e1 j;
-      target = text 64 9 (ba + 64) n2 (omega arith) (omega arith) refl e2 j;
-      suffix = text 96 10 (ba + 96) n3 (omega arith) (omega arith) refl e3 j;
-    }) ∙ ap (λ (x : Place). x.key) (lent s i wa we ba be w b at r h);
-    begin_order = omega arith;
-    begin_inside = omega (arith, room);
-    sender_order = omega arith;
-    sender_inside = omega (arith, room);
-    target_order = omega arith;
-    target_inside = omega (arith, room);
-    suffix_order = omega arith;
-    suffix_inside = omega (arith, room);
-  }
-    where
-      room : ba + 224 ≤ length b
-      room = omega (arith, at.at.bytes_from, at.at.bytes_to, at.bytes_end)
+  key_there n0 n1 n2 n3 e0 e1 e2 e3 = (λ j. record {
+    begin = text 0 7 ba n0 (omega arith) (omega arith) (omega arith) e0 j;
+    sender = text 32 8 (ba + 32) n1 (omega arith) (omega arith) refl e1 j;
+    target = text 64 9 (ba + 64) n2 (omega arith) (omega arith) refl e2 j;
+    suffix = text 96 10 (ba + 96) n3 (omega arith) (omega arith) refl e3 j;
+  }) ∙ ap (λ (x : Place). x.key) (lent s i wa we ba be w b at r h)
 
   pub key_same : {t : Bool} (k : Key) → t ≡ same_key k (stored_key mw mb) → t ≡ same_key k (place_at s w b i).key
   unfolding place_in

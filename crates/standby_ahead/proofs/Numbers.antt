@@ -41,9 +41,6 @@ numbered s w b i p e = each_at_least_1 s w b (get_or w 0 0) 0 i p e
 
 -- ---- one place
 
-pub too_low : (k : Key) (n m : ℕ) (p : Place) → m ≡ p.stored.session.next_out → m < n → false ≡ has_number k n p
-too_low k n m p e h = sym (ap (λ (t : Bool). t && same_key k p.key) (lt-leb n p.stored.session.next_out (omega (arith, e))))
-
 pub high_enough : (k : Key) (n m : ℕ) (p : Place) {t : Bool} → m ≡ p.stored.session.next_out → n ≤ m → t ≡ same_key k p.key → t ≡ has_number k n p
 high_enough k n m p e h s = s ∙ sym (ap (λ (t : Bool). t && same_key k p.key) (le-leb n p.stored.session.next_out (omega (arith, e))))
 
@@ -107,17 +104,6 @@ module _ (s : Shape) (w b : List ℕ) (k : Key) (n : ℕ) where
             ∙ ap (λ (j : ℕ). leb n (next_of k (count_up (place_at s w b) j (get_or w 0 0 - (i + 1))))) (sym (add-one i));
       }
 
-  pub search_ends : (i : ℕ) → get_or w 0 0 ≤ i → Searching i → leb n 1 ≡ leb n (next_of k (places_of s w b))
-  search_ends i end c =
-      let l : get_or w 0 0 - i ≡ 0 = omega arith in
-      sym (c.left ∙ ap (λ (m : ℕ). leb n (next_of k (count_up (place_at s w b) i m))) l)
-
--- ---- one session of theirs
-
-pub compared : (mine : List Place) (s : Shape) (w b : List ℕ) (p next : ℕ) (k : Key) {t : Bool} → k ≡ (place_at s w b p).key → next ≡ (place_at s w b p).stored.session.next_out → t ≡ leb next (next_of k mine)
-    → t ≡ leb (place_at s w b p).stored.session.next_out (next_of (place_at s w b p).key mine)
-compared mine s w b p next k ek en e = e ∙ (λ j. leb (en j) (next_of (ek j) mine))
-
 -- ---- the loop over theirs
 
 module _ (mine : List Place) (s : Shape) (w b : List ℕ) where
@@ -146,8 +132,3 @@ module _ (mine : List Place) (s : Shape) (w b : List ℕ) where
 
   pub stops : (p : ℕ) {t : Bool} → p < get_or w 0 0 → Going p → t ≡ test p → t ≡ false → false ≡ is_ahead mine (places_of s w b)
   stops p less g e f = sym (g.left ∙ split p less ∙ ap (λ (c : Bool). c && is_ahead mine (count_up (place_at s w b) (suc p) (get_or w 0 0 - (p + 1)))) (sym e ∙ f))
-
-  pub ends : (p : ℕ) → get_or w 0 0 ≤ p → Going p → true ≡ is_ahead mine (places_of s w b)
-  ends p end g =
-      let e : get_or w 0 0 - p ≡ 0 = omega arith in
-      sym (g.left ∙ rw e refl)

@@ -1,12 +1,16 @@
 -- What the functions over two stores answer. Assumes nothing.
-use Rattle.std.specs.Prelude.{◌≡◌, ℕ, ◌-◌, ◌≤◌, ◌<◌, Bool, false, ◌&&◌, List, length, take, drop, get_or, leb}
+use Rattle.std.specs.Prelude.{◌≡◌, ℕ, ◌<◌, Bool, false, ◌&&◌, List, get_or, leb}
 use Rattle.model_frame.specs.Frame.{Key}
 use Rattle.model_session.specs.Summary.{fnv, fnv_start}
 use Rattle.model_standby.specs.Store.{Place, same_key}
 use Rattle.store_place.specs.Place.{key_from}
 use Rattle.store_areas.specs.declared.Shape.{Shape}
 use Rattle.store_areas.specs.Areas.{place_at}
-use Rattle.standby_ahead.specs.declared.KeyAt.{KeyAt}
+use Rattle.standby_ahead.specs.declared.Key as lent
+
+-- the key whose texts are lent
+abbrev pub key_of : lent.Key → Key
+key_of k = key_from k.begin.now k.sender.now k.target.now k.suffix.now
 
 -- a place with this key and at least the number n
 abbrev pub has_number : Key → ℕ → Place → Bool
@@ -23,19 +27,3 @@ pub record Prints (s : Shape) (w b prints : List ℕ) : Type 0 where
 -- a place whose fingerprint is kept, and is another one
 abbrev pub Differs : List ℕ → ℕ → ℕ → Bool → Type 0
 Differs prints i print t = t ≡ false → (i < 256) × (get_or prints i 0 ≡ print → ⊥)
-
--- the elements from a to e
-abbrev pub cut : ℕ → ℕ → List ℕ → List ℕ
-cut a e b = take (e - a) (drop a b)
-
--- the four texts of the key of place i, in the byte area
-pub record KeyIs (s : Shape) (w b : List ℕ) (i : ℕ) (k : KeyAt) : Type 0 where
-  pub is : key_from (cut k.begin k.begin_end b) (cut k.sender k.sender_end b) (cut k.target k.target_end b) (cut k.suffix k.suffix_end b) ≡ (place_at s w b i).key
-  pub begin_order : k.begin ≤ k.begin_end
-  pub begin_inside : k.begin_end ≤ length b
-  pub sender_order : k.sender ≤ k.sender_end
-  pub sender_inside : k.sender_end ≤ length b
-  pub target_order : k.target ≤ k.target_end
-  pub target_inside : k.target_end ≤ length b
-  pub suffix_order : k.suffix ≤ k.suffix_end
-  pub suffix_inside : k.suffix_end ≤ length b

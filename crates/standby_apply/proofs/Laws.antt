@@ -14,7 +14,6 @@ use Rattle.model_frame.specs.Writing.{fine_change}
 use Rattle.model_session.specs.Session.{fits, top}
 use Rattle.frame_reader.specs.declared.Span.{Span}
 use Rattle.frame_reader.specs.Answers.{span_of}
-use Rattle.frame_op.specs.declared.Op
 use Rattle.frame_op.specs.declared.Op.{Op}
 use Rattle.frame_op.specs.Answers.{op_of}
 

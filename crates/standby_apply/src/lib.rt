@@ -9,8 +9,8 @@ ghost use Rattle.frame_op.specs.Answers.{op_of, held_run};
 ghost use Rattle.store_place.specs.Place.{next_out_of, place_in};
 ghost use Rattle.store_areas.specs.Areas.{Rules, Changed, place_at};
 
-use frame_op::{Op, OpAt};
-use frame_reader::Cursor;
+use frame_op::Op;
+use frame_reader::Reader;
 use frame_stamp::Protocol;
 use store_areas::Shape;
 
@@ -64,13 +64,9 @@ pub fn apply_all(protocol: Protocol, run: &[u8], words: &mut [u64], bytes: &mut 
     requires run_value { fits (next_out_of words.old) (held_run protocol.version run.now) ≡ true }
     ensures { (C : ℕ) → length bytes.old ≡ 224 + C → place_in C max words.new bytes.new ≡ on_stored (changed C max (held_run protocol.version run.now)) (place_in C max words.old bytes.old) }
 {
-    let mut d = Cursor { at: 0 };
-    while d.at < run.len() {
-        let OpAt::Got(op, next) = frame_op::op_from(protocol, run, d) else {
-            return;
-        };
+    let mut reader = Reader { buf: run, at: 0 };
+    while let Ok(op) = frame_op::read_op(&mut reader, protocol) {
         apply(protocol, run, op, words, bytes, max);
-        d = next;
     }
 }
 

@@ -7,7 +7,10 @@ use mathlib.Core.Option.{Option, none, some}
 use lib.ListN.{length, get_or}
 use lib.Dec.{eqb, ltb}
 use borrow.Author.Tests.{eqb-true}
+use Rattle.std.specs.Prelude.{IfSome}
 use Rattle.base_laws.proofs.Lists.{both}
+use Rattle.base_refusals.specs.declared.Refusal.{Refusal}
+use Rattle.base_refusals.specs.Numbers.{number_of}
 use Rattle.model_frame.specs.Bytes.{write}
 use Rattle.model_frame.specs.Frame.{Change, AppRecord, commit, whole, last_whole, batch, nack, ack, stale_epoch, diverged}
 use Rattle.model_frame.specs.Frame as the_frame
@@ -15,6 +18,7 @@ use Rattle.model_frame.specs.Parse.{is_empty}
 use Rattle.model_frame.specs.Sizes.{sizes}
 use Rattle.frame_fields.specs.declared.CommitNumber.{CommitNumber}
 use Rattle.frame_fields.specs.declared.Epoch.{Epoch}
+use Rattle.standby_row.specs.declared.Bound.{Bound as BoundRecord}
 use Rattle.standby_row.specs.declared.Lookup.{Lookup}
 use Rattle.store_areas.specs.Areas.{Rules}
 use Rattle.store_areas.proofs.Lifting.{places_length}
@@ -25,10 +29,10 @@ use Rattle.model_standby.specs.Answer as the-answer
 use Rattle.model_standby.specs.State.{Bound, at_epoch}
 use Rattle.model_standby.specs.State as state
 use Rattle.model_standby.specs.Hold.{HoldWrite, held_bytes, writes_part, writes_frame}
-use Rattle.model_standby.specs.Core.{Action, leave, store, Core, CoreResult, core_says, core_refuse, counting, core_handle, core_batch}
+use Rattle.model_standby.specs.Core.{leave, store, Core, CoreResult, core_says, core_refuse, counting, core_handle, core_batch}
 use Rattle.standby_part.specs.declared.PartResult.{PartResult}
 use Rattle.standby_part.specs.State.{bound_of, core_at}
-use Rattle.standby_part.specs.Part.{result_of}
+use Rattle.standby_part.specs.Part.{part_refusal, is_accepted, stored_in, told_by, action_by, result_of, StoredIs}
 use Rattle.standby_batch_handle.specs.Handling.{follows_of, found_of, Sound, hold_area_after, HandleIs}
 use Rattle.standby_step.specs.Steps.{is_found}
 use Rattle.standby_counters.specs.declared.Replica.{Replica}
@@ -41,50 +45,45 @@ use Rattle.standby_state.specs.Outcomes.{counters_of, settings_of, leaving, stor
 use Rattle.standby_state.proofs.Exact.{exact_refused, exact_nack, exact_ack}
 use Rattle.standby_hello.proofs.Laws.{leaving_lands}
 use Rattle.standby_batch.specs.Batches.{epoch_to, found_for, answer_by, settled_of, RecordRules, hold_area_with, found_at, BatchIs}
+use Rattle.standby_batch.proofs.Refusals.{some_number}
 use Rattle.standby_batch.proofs.Passing.{as_many, is_store, store_none, Passes, whole_passes, last_passes}
 
 -- ---- what the answer of a handle stands for
 
-module _ (d : PartResult) (h : ℕ) (n : CommitNumber) where
-  abbrev Said : the-answer.Answer
-  Said = cond (eqb d.refusal 0) (reply (cond d.nack (nack h diverged) (ack h n.0))) (refused d.refusal)
+module _ (h : ℕ) (n : CommitNumber) (b : List ℕ) where
+  refused_is : (e : Refusal) → answer_of b (is_refused (number_of e)) ≡ refused (number_of e)
+  refused_is e = ap (λ (t : Bool). cond t the-answer.done (refused (number_of e))) (some_number e)
 
-  answer_is : (b : List ℕ) → answer_of b (answer_by d h n) ≡ Said
-  answer_is b = go (eqb d.refusal 0) refl
-    where
-      yes : (m : Bool) → answer_of b (cond m (is_nack h 2) (is_ack h n)) ≡ reply (cond m (nack h diverged) (ack h n.0))
-      yes true = refl
-      yes false = refl
+  answer_is : (d : PartResult) → answer_of b (answer_by d h n) ≡ told_by h n.0 d
+  answer_is (PartResult.Refused e) = refused_is e
+  answer_is (PartResult.RefusedHolding e x) = refused_is e
+  answer_is (PartResult.Diverged x) = refl
+  answer_is (PartResult.Accepted x) = refl
 
-      go : (t : Bool) → eqb d.refusal 0 ≡ t → answer_of b (cond t (cond d.nack (is_nack h 2) (is_ack h n)) (is_refused d.refusal)) ≡ cond t (reply (cond d.nack (nack h diverged) (ack h n.0))) (refused d.refusal)
-      go true e = yes d.nack
-      go false e = ap (λ (t : Bool). cond t the-answer.done (refused d.refusal)) e
+  answer_exact : (d : PartResult) → Exact b (answer_by d h n)
+  answer_exact (PartResult.Refused e) = exact_refused b (number_of e)
+  answer_exact (PartResult.RefusedHolding e x) = exact_refused b (number_of e)
+  answer_exact (PartResult.Diverged x) = exact_nack b h diverged
+  answer_exact (PartResult.Accepted x) = exact_ack b h n
 
-  said_accepted : accepted Said ≡ (eqb d.refusal 0 && not d.nack)
-  said_accepted = go (eqb d.refusal 0) d.nack
-    where
-      go : (t m : Bool) → accepted (cond t (reply (cond m (nack h diverged) (ack h n.0))) (refused d.refusal)) ≡ (t && not m)
-      go true true = refl
-      go true false = refl
-      go false m = refl
+module _ (h n : ℕ) where
+  told_accepted : (d : PartResult) → accepted (told_by h n d) ≡ is_accepted d
+  told_accepted (PartResult.Refused e) = refl
+  told_accepted (PartResult.RefusedHolding e x) = refl
+  told_accepted (PartResult.Diverged x) = refl
+  told_accepted (PartResult.Accepted x) = refl
 
-  answer_exact : (b : List ℕ) → Exact b (answer_by d h n)
-  answer_exact b = go (eqb d.refusal 0)
-    where
-      yes : (m : Bool) → Exact b (cond m (is_nack h 2) (is_ack h n))
-      yes true = exact_nack b h diverged
-      yes false = exact_ack b h n
+  told_reply : (d : PartResult) → is_reply (told_by h n d) ≡ eqb (part_refusal d) 0
+  told_reply (PartResult.Refused e) = sym (some_number e)
+  told_reply (PartResult.RefusedHolding e x) = sym (some_number e)
+  told_reply (PartResult.Diverged x) = refl
+  told_reply (PartResult.Accepted x) = refl
 
-      go : (t : Bool) → Exact b (cond t (cond d.nack (is_nack h 2) (is_ack h n)) (is_refused d.refusal))
-      go true = yes d.nack
-      go false = exact_refused b d.refusal
-
-  said_reply : is_reply Said ≡ eqb d.refusal 0
-  said_reply = go (eqb d.refusal 0)
-    where
-      go : (t : Bool) → is_reply (cond t (reply (cond d.nack (nack h diverged) (ack h n.0))) (refused d.refusal)) ≡ t
-      go true = refl
-      go false = refl
+  told_stores : (version : ℕ) (area : List ℕ) (c : Replica) (seen : Lookup) (m : CommitNumber) (d : PartResult) → is_store (action_by version h area d) ≡ (settled_of c seen d h m).stores
+  told_stores version area c seen m (PartResult.Refused e) = refl
+  told_stores version area c seen m (PartResult.RefusedHolding e x) = refl
+  told_stores version area c seen m (PartResult.Diverged x) = refl
+  told_stores version area c seen m (PartResult.Accepted x) = refl
 
 -- ---- the ways that leave all as it was
 
@@ -137,7 +136,7 @@ module _ (s : Settings) (c : Replica) (seen : Lookup) (h : ℕ) (e : Epoch) (n :
 
   module _ (p : is_empty apps ≡ true) (high : ltb e.0 c.epoch.0 ≡ false) {found : Bool} (found_is : found ≡ found_for seen h) {w' b' area' run : List ℕ} {d : PartResult}
       (g : HandleIs protocol_version s.shape h found seen.bound n.0 part cs w w' b b' area area' d)
-      (written : area' ≡ hold_area_after protocol_version found seen.bound n.0 part run area d.refusal) (bytes : run ≡ held_bytes cs)
+      (written : area' ≡ hold_area_after protocol_version found seen.bound n.0 part run area (part_refusal d)) (bytes : run ≡ held_bytes cs)
       (kept : found ≡ true → RecordRules seen w area) where
     abbrev B : Bound
     B = bound_of protocol_version seen.bound area
@@ -151,33 +150,37 @@ module _ (s : Settings) (c : Replica) (seen : Lookup) (h : ℕ) (e : Epoch) (n :
     handled : result_of protocol_version h n.0 area' d (core_at (counters_of (epoch_to c e)) s.shape w' b') ≡ core_handle L K' h (found_of protocol_version found seen.bound area) n.0 part cs
     handled = g.is (counters_of (epoch_to c e)) s.incarnation.0 s.max_lag
 
-    abbrev A : Answer
-    A = answer_by d h n
+    -- what the code makes of a result
+    abbrev X : PartResult → Outcome
+    X q = settled_of (epoch_to c e) seen q h n
 
-    abbrev X : Bool → Outcome
-    X t = cond t (storing (epoch_to c e) seen A h d.bound) (leaving (epoch_to c e) seen A)
-
-    reads : (t : Bool) → ◌≡◌ {A = CoreResult}
+    reads : (q : PartResult) → ◌≡◌ {A = CoreResult}
         (record {
-          core = core_at (counters_of (X t).replica) s.shape w' b';
-          action = cond (X t).stores (store (X t).bound.handle (bound_of protocol_version (X t).bound area')) leave;
-          answer = answer_of b' (X t).answer;
+          core = core_at (counters_of (X q).replica) s.shape w' b';
+          action = cond (X q).stores (store (X q).bound.handle (bound_of protocol_version (X q).bound area')) leave;
+          answer = answer_of b' (X q).answer;
         })
-        (record { core = core_at (counters_of (epoch_to c e)) s.shape w' b'; action = cond t (store h (bound_of protocol_version d.bound area')) leave; answer = answer_of b' A })
-    reads true = refl
-    reads false = refl
+        (result_of protocol_version h n.0 area' q (core_at (counters_of (epoch_to c e)) s.shape w' b'))
+    reads (PartResult.Refused e₁) = λ j. record { core = core_at (counters_of (epoch_to c e)) s.shape w' b'; action = leave; answer = refused_is h n b' e₁ j }
+    reads (PartResult.RefusedHolding e₁ x) = λ j. record {
+      core = core_at (counters_of (epoch_to c e)) s.shape w' b';
+      action = store h (bound_of protocol_version x area');
+      answer = refused_is h n b' e₁ j;
+    }
+    reads (PartResult.Diverged x) = refl
+    reads (PartResult.Accepted x) = refl
 
-    says_so : (t : Bool) → (X t).answer ≡ A
-    says_so true = refl
-    says_so false = refl
+    says_so : (q : PartResult) → (X q).answer ≡ answer_by q h n
+    says_so (PartResult.Refused e₁) = refl
+    says_so (PartResult.RefusedHolding e₁ x) = refl
+    says_so (PartResult.Diverged x) = refl
+    says_so (PartResult.Accepted x) = refl
 
-    stores_so : (t : Bool) → (X t).stores ≡ t
-    stores_so true = refl
-    stores_so false = refl
-
-    clears_none : (t : Bool) → (X t).clears ≡ false
-    clears_none true = refl
-    clears_none false = refl
+    clears_none : (q : PartResult) → (X q).clears ≡ false
+    clears_none (PartResult.Refused e₁) = refl
+    clears_none (PartResult.RefusedHolding e₁ x) = refl
+    clears_none (PartResult.Diverged x) = refl
+    clears_none (PartResult.Accepted x) = refl
 
     used_same : get_or w' 0 0 ≡ get_or w 0 0
     used_same =
@@ -185,31 +188,32 @@ module _ (s : Settings) (c : Replica) (seen : Lookup) (h : ℕ) (e : Epoch) (n :
         ∙ as_many L K' h (found_of protocol_version found seen.bound area) n.0 part cs ∙ places_length s.shape w b
 
     -- a record is stored for a bound handle alone
-    stored_found : d.stores ≡ true → found ≡ true
+    stored_found : (X d).stores ≡ true → found ≡ true
     stored_found y = go found refl
       where
-        shown : (t : Bool) (x : Action) → is_store (cond t (store h (bound_of protocol_version d.bound area')) leave) ≡ t
-        shown true x = refl
-        shown false x = refl
-
         go : (t : Bool) → found ≡ t → t ≡ true
         go true f = refl
         go false f =
-            absurd (true≢false (sym y ∙ sym (shown d.stores leave) ∙ ap (λ (r : CoreResult). is_store r.action) handled
+            absurd (true≢false (sym y ∙ sym (told_stores h n.0 protocol_version area' (epoch_to c e) seen n d) ∙ ap (λ (r : CoreResult). is_store r.action) handled
             ∙ ap (λ (u : Bool). is_store (core_handle L K' h (found_of protocol_version u seen.bound area) n.0 part cs).action) f ∙ store_none L K' h n.0 part cs))
 
-    lands_in : (t : Bool) → d.stores ≡ t → Lands seen (get_or w' 0 0) (length area) area' (X t)
-    lands_in false q = leaving_lands (epoch_to c e) seen A (get_or w' 0 0) (length area)
-    lands_in true q =
-        let k : RecordRules seen w area = kept (stored_found q) in
+    put_lands : (a : Answer) (x : BoundRecord) → found ≡ true → StoredIs protocol_version seen.bound area area' x → Lands seen (get_or w' 0 0) (length area) area' (storing (epoch_to c e) seen a h x)
+    put_lands a x f i =
+        let k : RecordRules seen w area = kept f in
         record {
           at_is = refl;
           from_is = refl;
           one = λ _. refl;
-          slot_is = λ _. (λ j. record { used = 1; handle = h; place = d.bound.place; commit_no = record { 0 = d.bound.commit_no.0 }; held_len = g.slot_held q j; held_bytes = d.bound.held_bytes });
-          slot_place = λ _. subst (λ (m : ℕ). m < get_or w' 0 0) (sym g.slot_place) (subst (λ (m : ℕ). seen.bound.place < m) (sym used_same) k.place_used);
-          slot_len = λ _. g.slot_len k.held_within;
+          slot_is = λ _. (λ j. record { used = 1; handle = h; place = x.place; commit_no = record { 0 = x.commit_no.0 }; held_len = i.held j; held_bytes = x.held_bytes });
+          slot_place = λ _. subst (λ (m : ℕ). m < get_or w' 0 0) (sym i.place) (subst (λ (m : ℕ). seen.bound.place < m) (sym used_same) k.place_used);
+          slot_len = λ _. i.len k.held_within;
         }
+
+    lands_in : (q : PartResult) → ((X q).stores ≡ true → found ≡ true) → IfSome (stored_in q) (StoredIs protocol_version seen.bound area area') → Lands seen (get_or w' 0 0) (length area) area' (X q)
+    lands_in (PartResult.Refused e₁) f i = leaving_lands (epoch_to c e) seen (is_refused (number_of e₁)) (get_or w' 0 0) (length area)
+    lands_in (PartResult.RefusedHolding e₁ x) f i = put_lands (is_refused (number_of e₁)) x (f refl) i
+    lands_in (PartResult.Diverged x) f i = put_lands (is_nack h 2) x (f refl) i
+    lands_in (PartResult.Accepted x) f i = put_lands (is_ack h n) x (f refl) i
 
     -- ---- the hold area
 
@@ -223,25 +227,25 @@ module _ (s : Settings) (c : Replica) (seen : Lookup) (h : ℕ) (e : Epoch) (n :
     put_is true = ap (write area (sizes B.held)) bytes
     put_is false = refl
 
-    answered : found ≡ true → is_reply (core_handle L K' h (some B) n.0 part cs).answer ≡ eqb d.refusal 0
+    answered : found ≡ true → is_reply (core_handle L K' h (some B) n.0 part cs).answer ≡ eqb (part_refusal d) 0
     answered f =
         ap (λ (u : Bool). is_reply (core_handle L K' h (found_of protocol_version u seen.bound area) n.0 part cs).answer) (sym f)
-        ∙ ap (λ (r : CoreResult). is_reply r.answer) (sym handled) ∙ said_reply d h n
+        ∙ ap (λ (r : CoreResult). is_reply r.answer) (sym handled) ∙ told_reply h n.0 d
 
     -- of a Whole or LastWhole that is found
-    held_area : found ≡ true → (follows_of seen.bound n.0 ≡ true → eqb d.refusal 0 ≡ Passes L K' h B n.0 cs)
-        → cond (follows_of seen.bound n.0 && true) (New (eqb d.refusal 0)) area ≡ hold_area_with (cond (follows_of seen.bound n.0 && Passes L K' h B n.0 cs) (some Put) none) area
+    held_area : found ≡ true → (follows_of seen.bound n.0 ≡ true → eqb (part_refusal d) 0 ≡ Passes L K' h B n.0 cs)
+        → cond (follows_of seen.bound n.0 && true) (New (eqb (part_refusal d) 0)) area ≡ hold_area_with (cond (follows_of seen.bound n.0 && Passes L K' h B n.0 cs) (some Put) none) area
     held_area f passes = go (follows_of seen.bound n.0) refl
       where
-        go : (t : Bool) → follows_of seen.bound n.0 ≡ t → cond (t && true) (New (eqb d.refusal 0)) area ≡ hold_area_with (cond (t && Passes L K' h B n.0 cs) (some Put) none) area
+        go : (t : Bool) → follows_of seen.bound n.0 ≡ t → cond (t && true) (New (eqb (part_refusal d) 0)) area ≡ hold_area_with (cond (t && Passes L K' h B n.0 cs) (some Put) none) area
         go true q = ap New (passes q) ∙ put_is (Passes L K' h B n.0 cs)
         go false q = refl
 
-    off_held : (t : Bool) → cond (t && false) (New (eqb d.refusal 0)) area ≡ area
+    off_held : (t : Bool) → cond (t && false) (New (eqb (part_refusal d) 0)) area ≡ area
     off_held true = refl
     off_held false = refl
 
-    area_found : (q : the_frame.Part) → part ≡ q → found ≡ true → hold_area_after protocol_version true seen.bound n.0 q run area d.refusal ≡ hold_area_with (writes_part L h (some B) n.0 q cs) area
+    area_found : (q : the_frame.Part) → part ≡ q → found ≡ true → hold_area_after protocol_version true seen.bound n.0 q run area (part_refusal d) ≡ hold_area_with (writes_part L h (some B) n.0 q cs) area
     area_found commit q f = off_held (follows_of seen.bound n.0)
     area_found whole q f =
         held_area f (λ t. sym (answered f) ∙ ap (λ (x : the_frame.Part). is_reply (core_handle L K' h (some B) n.0 x cs).answer) q ∙ whole_passes L K' h B n.0 cs t)
@@ -256,7 +260,7 @@ module _ (s : Settings) (c : Replica) (seen : Lookup) (h : ℕ) (e : Epoch) (n :
     area_part : area' ≡ hold_area_with (writes_part L h (found_of protocol_version found seen.bound area) n.0 part cs) area
     area_part = written ∙ go found refl
       where
-        go : (t : Bool) → found ≡ t → hold_area_after protocol_version t seen.bound n.0 part run area d.refusal ≡ hold_area_with (writes_part L h (found_of protocol_version t seen.bound area) n.0 part cs) area
+        go : (t : Bool) → found ≡ t → hold_area_after protocol_version t seen.bound n.0 part run area (part_refusal d) ≡ hold_area_with (writes_part L h (found_of protocol_version t seen.bound area) n.0 part cs) area
         go true f = area_found part refl f
         go false f = none_found part
 
@@ -269,17 +273,17 @@ module _ (s : Settings) (c : Replica) (seen : Lookup) (h : ℕ) (e : Epoch) (n :
     handled_is e₁ e₂ =
         subst (Is w' b' area') (sym (e₂ ∙ ap (λ (x : Replica). settled_of x seen d h n) e₁))
         (record {
-          is = reads d.stores ∙ (λ j. record { core = core_at (counters_of (epoch_to c e)) s.shape w' b'; action = cond d.stores (store h (bound_of protocol_version d.bound area')) leave; answer = answer_is d h n b' j }) ∙ handled ∙ sym went;
-          lands = lands_in d.stores refl;
-          stays = clears_none d.stores;
-          stored = λ y. sym found_is ∙ stored_found (sym (stores_so d.stores) ∙ y);
+          is = reads d ∙ handled ∙ sym went;
+          lands = lands_in d stored_found g.slot;
+          stays = clears_none d;
+          stored = λ y. sym found_is ∙ stored_found y;
           rules = g.rules;
           used = used_same;
           store_after =
               subst (λ (t : Bool). StoreAfter s.shape (batch_change h seen.bound.place part t) w w' b b')
-              (sym (ap (λ (a : Answer). accepted (answer_of b' a)) (says_so d.stores) ∙ ap accepted (answer_is d h n b') ∙ said_accepted d h n)) g.store_after;
+              (sym (ap (λ (a : Answer). accepted (answer_of b' a)) (says_so d) ∙ ap accepted (answer_is h n b' d) ∙ told_accepted h n.0 d)) g.store_after;
           area_is = area_whole;
-          exact = subst (Exact b') (sym (says_so d.stores)) (answer_exact d h n b');
+          exact = subst (Exact b') (sym (says_so d)) (answer_exact h n b' d);
         })
 
 -- ---- what the handle asks

@@ -1,3 +1,4 @@
 pub mod Runs
 pub mod Passing
 pub mod Laws
+pub mod Refusals

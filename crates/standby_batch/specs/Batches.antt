@@ -1,6 +1,7 @@
 -- A Batch on what was found for its handle, over one hold area. Assumes nothing.
 use Rattle.std.specs.Prelude.{ℕ, ◌<◌, ◌≤◌, ◌≡◌, Bool, true, false, cond, ◌&&◌, List, length, get_or, eqb, ltb}
 use Rattle.std.proofs.Math.Option.{Option, none, some}
+use Rattle.base_refusals.specs.Numbers.{number_of}
 use Rattle.model_frame.specs.ReasonByte
 use Rattle.model_frame.specs.Bytes.{write}
 use Rattle.model_frame.specs.Frame.{Change, AppRecord, batch}
@@ -34,10 +35,16 @@ abbrev pub found_for : Lookup → ℕ → Bool
 found_for seen h = ltb seen.at seen.len && eqb seen.bound.handle h
 
 abbrev pub answer_by : PartResult → ℕ → CommitNumber → Answer
-answer_by x h n = cond (eqb x.refusal 0) (cond x.nack (is_nack h ReasonByte.diverged) (is_ack h n)) (is_refused x.refusal)
+answer_by (PartResult.Refused e) h n = is_refused (number_of e)
+answer_by (PartResult.RefusedHolding e x) h n = is_refused (number_of e)
+answer_by (PartResult.Diverged x) h n = is_nack h ReasonByte.diverged
+answer_by (PartResult.Accepted x) h n = is_ack h n
 
 abbrev pub settled_of : Replica → Lookup → PartResult → ℕ → CommitNumber → Outcome
-settled_of c seen x h n = cond x.stores (storing c seen (answer_by x h n) h x.bound) (leaving c seen (answer_by x h n))
+settled_of c seen (PartResult.Refused e) h n = leaving c seen (is_refused (number_of e))
+settled_of c seen (PartResult.RefusedHolding e x) h n = storing c seen (is_refused (number_of e)) h x
+settled_of c seen (PartResult.Diverged x) h n = storing c seen (is_nack h ReasonByte.diverged) h x
+settled_of c seen (PartResult.Accepted x) h n = storing c seen (is_ack h n) h x
 
 -- the record found names a place in use, and holds no more than its area has
 pub record RecordRules (seen : Lookup) (w area : List ℕ) : Type 0 where

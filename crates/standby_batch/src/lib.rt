@@ -9,17 +9,17 @@ ghost use Rattle.frame_fields.specs.Answers.{part_of};
 ghost use Rattle.store_areas.specs.Areas.{Rules};
 ghost use Rattle.standby_pending.specs.Pending.{count_of};
 ghost use Rattle.standby_step.specs.Steps.{is_found};
-ghost use Rattle.standby_batch.specs.Batches.{epoch_to, found_for, answer_by, settled_of, RecordRules, BatchIs};
+ghost use Rattle.standby_batch.specs.Batches.{found_for, settled_of, RecordRules, BatchIs};
 
-use base_refusals::APP_RECORDS;
+use base_refusals::Refusal;
 use frame::Frame;
-use frame_fields::{AppRecordAt, Batch, CommitNumber, Epoch, reason};
+use frame_fields::{Batch, CommitNumber, NackReason};
 use frame_op::Run;
-use frame_reader::Cursor;
+use frame_reader::Reader;
 use frame_stamp::Protocol;
 use standby_part::PartResult;
 use standby_row::Lookup;
-use standby_state::{Answer, Outcome, Replica, Settings};
+use standby_state::{Outcome, Replica, Settings};
 
 // Whether a run of application records is empty.
 fn no_records(frame: &[u8], run: Run) -> bool
@@ -28,10 +28,11 @@ fn no_records(frame: &[u8], run: Run) -> bool
     if run.count == 0 {
         return true;
     }
-    match frame_fields::app_record_from(frame, Cursor { at: run.at }) {
-        AppRecordAt::Got(_, _) => false,
-        AppRecordAt::Bad(_) => true,
-    }
+    let mut reader = Reader {
+        buf: frame,
+        at: run.at,
+    };
+    frame_fields::read_app_record(&mut reader).is_err()
 }
 
 // Whether a Batch is of an epoch below the standby's.
@@ -41,35 +42,14 @@ fn is_stale(counters: Replica, batch: Batch) -> bool
     batch.epoch.0 < counters.epoch.0
 }
 
-fn with_epoch(counters: Replica, epoch: Epoch) -> Replica
-    ensures { result ≡ epoch_to counters epoch }
-{
-    let mut d = counters;
-    d.epoch = epoch;
-    d
-}
-
 // Whether the record that was found is the handle's.
 fn is_found(lookup: Lookup, handle: u32) -> bool
     ensures { result ≡ found_for lookup handle }
 {
-    let h = lookup.bound;
-    (lookup.at < lookup.len) & (h.handle == handle)
+    lookup.at < lookup.len && lookup.bound.handle == handle
 }
 
-fn part_answer(part_result: PartResult, handle: u32, number: CommitNumber) -> Answer
-    ensures { result ≡ answer_by part_result handle number }
-{
-    if part_result.refusal != 0 {
-        return standby_state::refused(part_result.refusal);
-    }
-    if part_result.nack {
-        return standby_state::nack(handle, reason::DIVERGED);
-    }
-    standby_state::ack(handle, number)
-}
-
-// What the row's record becomes, and the answer.
+// The answer, and what the row's record becomes.
 fn part_outcome(
     counters: Replica,
     lookup: Lookup,
@@ -79,12 +59,24 @@ fn part_outcome(
 ) -> Outcome
     ensures { result ≡ settled_of counters lookup part_result handle number }
 {
-    let a = part_answer(part_result, handle, number);
-    if part_result.stores {
-        let bound = part_result.bound;
-        return standby_state::stored(counters, lookup, a, handle, bound);
+    match part_result {
+        PartResult::Refused(refusal) => {
+            let answer = standby_state::refused(refusal.number());
+            standby_state::unchanged(counters, lookup, answer)
+        }
+        PartResult::RefusedHolding(refusal, bound) => {
+            let answer = standby_state::refused(refusal.number());
+            standby_state::stored(counters, lookup, answer, handle, bound)
+        }
+        PartResult::Diverged(bound) => {
+            let answer = standby_state::nack(handle, NackReason::Diverged as u8);
+            standby_state::stored(counters, lookup, answer, handle, bound)
+        }
+        PartResult::Accepted(bound) => {
+            let answer = standby_state::ack(handle, number);
+            standby_state::stored(counters, lookup, answer, handle, bound)
+        }
     }
-    standby_state::unchanged(counters, lookup, a)
 }
 
 pub fn on_batch(
@@ -103,31 +95,34 @@ pub fn on_batch(
     requires has_length { HasLength 1 frame.now batch.ops }
     ensures { BatchIs settings counters lookup batch.handle batch.epoch.0 batch.commit_no.0 (part_of batch.part) (run_of (read_change 1) frame.now batch.ops) (run_of read_app_record frame.now batch.app_records) words.old words.new bytes.old bytes.new area.old area.new result }
 {
-    let records = batch.app_records;
-    if !no_records(frame, records) {
-        return standby_state::unchanged(counters, lookup, standby_state::refused(APP_RECORDS));
+    if !no_records(frame, batch.app_records) {
+        let answer = standby_state::refused(Refusal::AppRecords.number());
+        return standby_state::unchanged(counters, lookup, answer);
     }
     let handle = batch.handle;
     if is_stale(counters, batch) {
-        return standby_state::unchanged(
-            counters,
-            lookup,
-            standby_state::nack(handle, reason::STALE_EPOCH),
-        );
+        let answer = standby_state::nack(handle, NackReason::StaleEpoch as u8);
+        return standby_state::unchanged(counters, lookup, answer);
     }
-    let shape = settings.shape;
-    let epoch = batch.epoch;
-    let n = batch.commit_no;
-    let ops = batch.ops;
-    let part = batch.part;
-    let h = lookup.bound;
-    let p = Protocol {
+    let protocol = Protocol {
         version: Frame::VERSION,
     };
-    let found = is_found(lookup, handle);
-    let run = standby_changes::run_of(p, frame, ops);
-    let x = standby_batch_handle::on_handle(
-        p, run, words, bytes, area, shape, handle, found, h, n, part,
+    let part_result = standby_batch_handle::on_handle(
+        protocol,
+        standby_changes::run_of(protocol, frame, batch.ops),
+        words,
+        bytes,
+        area,
+        settings.shape,
+        handle,
+        is_found(lookup, handle),
+        lookup.bound,
+        batch.commit_no,
+        batch.part,
     );
-    part_outcome(with_epoch(counters, epoch), lookup, x, handle, n)
+    let counters = Replica {
+        epoch: batch.epoch,
+        ..counters
+    };
+    part_outcome(counters, lookup, part_result, handle, batch.commit_no)
 }

@@ -1,5 +1,5 @@
 -- What a Batch does on the handle that it names: 14 unbound, Nack Diverged for the number, else its part. Assumes nothing.
-use Rattle.std.specs.Prelude.{◌≡◌, Bool, true, false, cond, not, ◌&&◌, List, ℕ, suc, ◌<◌, ◌≤◌, length, get_or, take, eqb, ltb}
+use Rattle.std.specs.Prelude.{◌≡◌, Bool, true, false, cond, ◌&&◌, List, ℕ, suc, ◌<◌, ◌≤◌, length, get_or, take, eqb, ltb, IfSome}
 use Rattle.std.proofs.Math.Option.{Option, none, some}
 use Rattle.model_frame.specs.Frame.{Change, commit, whole, last_whole}
 use Rattle.model_frame.specs.Bytes.{write}
@@ -16,7 +16,7 @@ use Rattle.model_standby.specs.State.{Counters, Bound}
 use Rattle.model_standby.specs.Core.{core_handle}
 use Rattle.standby_part.specs.declared.PartResult.{PartResult}
 use Rattle.standby_part.specs.State.{bound_of, core_at, settings_for}
-use Rattle.standby_part.specs.Part.{result_of}
+use Rattle.standby_part.specs.Part.{is_accepted, stored_in, result_of, StoredIs}
 
 -- the commit number n follows the handle's; none follows 2^64 - 1
 abbrev pub follows_of : BoundRecord → ℕ → Bool
@@ -46,7 +46,5 @@ pub record HandleIs (version : ℕ) (s : Shape) (handle : ℕ) (found : Bool) (h
   pub is : (c : Counters) (incarnation lag : ℕ)
       → result_of version handle n area' d (core_at c s w' b') ≡ core_handle (settings_for s (length area) incarnation lag) (core_at c s w b) handle (found_of version found h area) n part cs
   pub rules : Rules s w' b'
-  pub store_after : StoreAfter s (batch_change handle h.place part (eqb d.refusal 0 && not d.nack)) w w' b b'
-  pub slot_place : d.bound.place ≡ h.place
-  pub slot_len : h.held_len ≤ length area → d.bound.held_len ≤ length area
-  pub slot_held : d.stores ≡ true → d.bound.held_len ≡ sizes (held_run version (take d.bound.held_len area'))
+  pub store_after : StoreAfter s (batch_change handle h.place part (is_accepted d)) w w' b b'
+  pub slot : IfSome (stored_in d) (StoredIs version h area area')

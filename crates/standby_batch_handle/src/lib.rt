@@ -8,34 +8,20 @@ ghost use Rattle.standby_changes.specs.Held.{TakesAll};
 ghost use Rattle.store_areas.specs.Areas.{Rules};
 ghost use Rattle.standby_pending.specs.Pending.{count_of};
 ghost use Rattle.standby_batch_handle.specs.Handling.{follows_of, Sound, hold_area_after, HandleIs};
-ghost use Rattle.standby_part.specs.State.{holding_to};
+ghost use Rattle.standby_part.specs.Part.{part_refusal};
 
-use base_refusals::UNBOUND;
+use base_refusals::Refusal;
 use frame_fields::{CommitNumber, Part};
 use frame_stamp::Protocol;
 use standby_part::PartResult;
 use standby_row::Bound;
 use store_areas::Shape;
 
-// Whether n follows the handle's commit number.
+// Whether a commit number follows the handle's: none follows the last one.
 fn is_next(bound: Bound, number: CommitNumber) -> bool
     ensures { result ≡ follows_of bound number.0 }
 {
-    let last = bound.commit_no.0;
-    if last < u64::MAX {
-        return number.0 == last + 1;
-    }
-    false
-}
-
-// The record with nothing held.
-fn with_none_held(bound: Bound) -> Bound
-    ensures { result ≡ holding_to bound bound.commit_no 0 0 }
-{
-    let mut g = bound;
-    g.held_len = 0;
-    g.held_bytes = 0;
-    g
+    bound.commit_no.0.checked_add(1) == Some(number.0)
 }
 
 pub fn on_handle(
@@ -56,23 +42,17 @@ pub fn on_handle(
     requires takes_all { TakesAll protocol.version run.now }
     requires sound { found ≡ true → Sound handle bound words.old area.old }
     ensures is { HandleIs protocol.version shape handle found bound number.0 (part_of part) (held_run protocol.version run.now) words.old words.new bytes.old bytes.new area.old area.new result }
-    ensures area { area.new ≡ hold_area_after protocol.version found bound number.0 (part_of part) run.now area.old result.refusal }
+    ensures area { area.new ≡ hold_area_after protocol.version found bound number.0 (part_of part) run.now area.old (part_refusal result) }
 {
     if !found {
-        return PartResult {
-            refusal: UNBOUND,
-            stores: false,
-            bound: bound,
-            nack: false,
-        };
+        return PartResult::Refused(Refusal::Unbound);
     }
     if !is_next(bound, number) {
-        return PartResult {
-            refusal: 0,
-            stores: true,
-            bound: with_none_held(bound),
-            nack: true,
-        };
+        return PartResult::Diverged(Bound {
+            held_len: 0,
+            held_bytes: 0,
+            ..bound
+        });
     }
     match part {
         Part::Commit => standby_part::on_commit(

@@ -13,27 +13,24 @@ ghost use Rattle.standby_bind.specs.Binding.{Short, new_handle, room_for, BindOp
 
 use base_refusals::{NO_HANDLE_PLACE, NO_SESSION_PLACE};
 use frame::SessionId;
-use frame_fields::{CommitNumber, Epoch, InFlight, reason};
+use frame_fields::{CommitNumber, Epoch, NackReason};
 use standby_row::{Bound, Lookup};
 use standby_state::{BoundSummary, Outcome, Replica, Settings};
 use store_areas::{Shape, word};
 
-fn has_in_flight(flight: InFlight) -> u8
+fn has_in_flight(flight: Option<u64>) -> u8
     ensures { result ≡ flight_flag (flight_of flight) }
 {
     match flight {
-        InFlight::Nothing => 0,
-        InFlight::Seq(_) => 1,
+        None => 0,
+        Some(_) => 1,
     }
 }
 
-fn in_flight(flight: InFlight) -> u64
+fn in_flight(flight: Option<u64>) -> u64
     ensures { result ≡ flight_number (flight_of flight) }
 {
-    match flight {
-        InFlight::Nothing => 0,
-        InFlight::Seq(n) => n,
-    }
+    flight.unwrap_or(0)
 }
 
 // What a Bound says of the session at a place in use.
@@ -161,11 +158,15 @@ pub fn on_bind(
         return standby_state::unchanged(
             counters,
             lookup,
-            standby_state::nack(handle, reason::STALE_EPOCH),
+            standby_state::nack(handle, NackReason::StaleEpoch as u8),
         );
     }
     if settings.max_lag < max_lag {
-        return standby_state::unchanged(counters, lookup, standby_state::nack(handle, reason::LAG));
+        return standby_state::unchanged(
+            counters,
+            lookup,
+            standby_state::nack(handle, NackReason::Lag as u8),
+        );
     }
     let shape = settings.shape;
     let place = place_of(words, bytes, frame, shape, session);

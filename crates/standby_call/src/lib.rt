@@ -6,6 +6,7 @@ ghost use Rattle.standby_step.specs.Steps.{StepIs};
 ghost use Rattle.standby_step.specs.Calls.{handle_at, sought_by};
 ghost use Rattle.standby_call.specs.Call.{call_of};
 
+use base_bytes::LittleEndian;
 use standby_counters::Replica;
 use standby_row::Lookup;
 use standby_state::{Outcome, Settings};
@@ -39,7 +40,7 @@ fn handle_at(frame: &[u8]) -> u32
     if frame.len() < 9 {
         return 0;
     }
-    base_bytes::u32_at(frame, 5)
+    u32::read_at(frame, 5)
 }
 
 // The handle that is looked up before the call.

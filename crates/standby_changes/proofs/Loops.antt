@@ -1,5 +1,7 @@
 -- The loops' invariants over what is left of a run, and what a turn of each does. Assumes nothing.
 use mathlib.Core.Path.{◌≡◌, refl, sym, ap, ◌∙◌}
+use Rattle.std.specs.Prelude as prelude
+use Rattle.std.specs.Prelude.{Some, None}
 use mathlib.Core.Bool.{Bool, true, false, true≢false}
 use mathlib.Core.List.{List, [], ◌∷◌}
 use Prim.Native.Nat.{ℕ, ◌+◌, ◌-◌, ◌≤◌, ◌<◌}
@@ -18,8 +20,6 @@ use Rattle.model_session.specs.Session.{fits, message_length, message_bytes}
 use Rattle.base_laws.proofs.Runs.{collect_none, collect_more, collect_bad}
 use Rattle.frame_op.specs.Answers.{held_run}
 use Rattle.standby_changes.specs.Held.{fits_from}
-use Rattle.standby_changes.specs.declared.Outgoing
-use Rattle.standby_changes.specs.declared.Outgoing.{Outgoing}
 use Rattle.standby_changes.proofs.Held.{held_none, held_bad, held_more, held_messages}
 
 -- whether something was read, and what is left then
@@ -73,16 +73,16 @@ module _ (version : ℕ) where
   pub fitting : (run : List ℕ) (first : ℕ) → ((i : ℕ) → get_or run i 0 < 256) → Fitting run first first run
   fitting run first known = record { octets = are_bytes run known; same = refl }
 
-  module _ {run rest t : List ℕ} {first next : ℕ} {c : Change} (o : Outgoing) (w : Fitting run first next rest) (e : read_change version rest ≡ ok c t)
+  module _ {run rest t : List ℕ} {first next : ℕ} {c : Change} (o : prelude.Option ℕ) (w : Fitting run first next rest) (e : read_change version rest ≡ ok c t)
       (follows : (cs : List Change) → fits_from o cs ≡ fits next (c ∷ cs)) where
     turn : fits first (held_run version run) ≡ fits_from o (held_run version t)
     turn = w.same ∙ ap (fits next) (held_more version rest w.octets e) ∙ sym (follows (held_run version t))
 
-    pub fit_next : {n : ℕ} → o ≡ Outgoing.Next n → Fitting run first n t
-    fit_next is = record { octets = (change_sound version rest w.octets e).2; same = turn ∙ ap (λ (o : Outgoing). fits_from o (held_run version t)) is }
+    pub fit_next : {n : ℕ} → o ≡ Some n → Fitting run first n t
+    fit_next is = record { octets = (change_sound version rest w.octets e).2; same = turn ∙ ap (λ (o : prelude.Option ℕ). fits_from o (held_run version t)) is }
 
-    pub fit_off : o ≡ Outgoing.Diverges → false ≡ fits first (held_run version run)
-    fit_off is = sym (turn ∙ ap (λ (o : Outgoing). fits_from o (held_run version t)) is)
+    pub fit_off : o ≡ None → false ≡ fits first (held_run version run)
+    fit_off is = sym (turn ∙ ap (λ (o : prelude.Option ℕ). fits_from o (held_run version t)) is)
 
   fits_all : {run rest : List ℕ} {first next : ℕ} → Fitting run first next rest → held_run version rest ≡ [] → true ≡ fits first (held_run version run)
   fits_all {next = next} w e = sym (w.same ∙ ap (fits next) e)

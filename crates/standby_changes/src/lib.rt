@@ -2,52 +2,35 @@
 // their message bytes, whether their outgoing numbers follow on, how long they are, and how one is added to another.
 #![tactic(auto)]
 
-ghost use Rattle.std.specs.Prelude.{◌≡◌, ◌+◌, ◌-◌, ◌≤◌, length, drop};
+ghost use Rattle.std.specs.Prelude.{ℕ, ◌≡◌, ◌+◌, ◌-◌, ◌≤◌, length, drop, IfOk};
 ghost use Rattle.model_frame.specs.Bytes.{write};
-ghost use Rattle.model_frame.specs.Parse.{is_empty, collect, forget};
+ghost use Rattle.model_frame.specs.Parse.{ok, is_empty, collect, forget};
 ghost use Rattle.model_frame.specs.Reading.{read_change};
 ghost use Rattle.model_frame.specs.Sizes.{sizes};
 ghost use Rattle.model_session.specs.Session.{fits, message_length, message_bytes};
 ghost use Rattle.model_standby.specs.Standby.{starts_with_reset};
+ghost use Rattle.frame_reader.specs.Answers.{rest, res};
 ghost use Rattle.frame_op.specs.Answers.{op_of, held_run, HasLength};
-ghost use Rattle.standby_changes.specs.Held.{outgoing_after, Follows, res_past, PastRecord, RunPart};
+ghost use Rattle.standby_changes.specs.Held.{outgoing_after, Follows, RunPart};
 
-use frame_op::{Op, OpAt, Run};
-use frame_reader::{Byte, Cursor, FrameError, Word32, Word64};
+use frame_op::{Op, Run};
+use frame_reader::{FrameError, Reader};
 use frame_stamp::Protocol;
-
-// The greatest u64: no outgoing number follows it.
-const TOP: u64 = 18446744073709551615;
-
-// The next outgoing number after a change, or that the change diverges from it.
-#[derive(Clone, Copy)]
-pub enum Outgoing {
-    Next(u64),
-    Diverges,
-}
-
-// Where the next change begins, and the message length of the last Record; or why the change can't be read.
-#[derive(Clone, Copy)]
-pub enum Skipped {
-    At(Cursor, u32),
-    Bad(FrameError),
-}
 
 // No change can be read: a look at the first one.
 pub fn is_none(protocol: Protocol, run: &[u8]) -> bool
     ensures { result ≡ is_empty (held_run protocol.version run.now) }
 {
-    match frame_op::op_from(protocol, run, Cursor { at: 0 }) {
-        OpAt::Bad(_) => true,
-        OpAt::Got(_, _) => false,
-    }
+    let mut reader = Reader { buf: run, at: 0 };
+    frame_op::read_op(&mut reader, protocol).is_err()
 }
 
 // The first change is a Reset.
 pub fn starts_with_reset(protocol: Protocol, run: &[u8]) -> bool
     ensures { result ≡ starts_with_reset (held_run protocol.version run.now) }
 {
-    let OpAt::Got(op, _) = frame_op::op_from(protocol, run, Cursor { at: 0 }) else {
+    let mut reader = Reader { buf: run, at: 0 };
+    let Ok(op) = frame_op::read_op(&mut reader, protocol) else {
         return false;
     };
     if let Op::Reset = op { true } else { false }
@@ -68,45 +51,38 @@ pub fn message_bytes(protocol: Protocol, run: &[u8]) -> u64
     ensures { result ≡ message_bytes (held_run protocol.version run.now) }
 {
     let mut sum: u64 = 0;
-    let mut d = Cursor { at: 0 };
-    while d.at < run.len() {
-        let OpAt::Got(op, next) = frame_op::op_from(protocol, run, d) else {
-            return sum;
-        };
+    let mut reader = Reader { buf: run, at: 0 };
+    while let Ok(op) = frame_op::read_op(&mut reader, protocol) {
         sum += message_length(run, op);
-        d = next;
     }
     sum
 }
 
-// The outgoing number after a Record.
-fn outgoing_after(seq: u64) -> Outgoing
+// The outgoing number after a Record, if one follows it.
+fn outgoing_after(seq: u64) -> Option<u64>
     ensures { result ≡ outgoing_after seq }
 {
-    if seq < TOP {
-        Outgoing::Next(seq + 1)
-    } else {
-        Outgoing::Diverges
-    }
+    seq.checked_add(1)
 }
 
-// A message that isn't next diverges, and so do a number below next and a Record of the greatest number.
-fn outgoing_by(op: Op, next: u64) -> Outgoing
+// The next outgoing number after a change, or none if the change diverges: a message that isn't next does, and so do a number
+// below next and a Record of the greatest number.
+fn outgoing_by(op: Op, next: u64) -> Option<u64>
     ensures { Follows op next result }
 {
     match op {
         Op::Record(seq, _) => if seq == next {
             outgoing_after(seq)
         } else {
-            Outgoing::Diverges
+            None
         },
         Op::RecordNone(seq) => if next <= seq {
             outgoing_after(seq)
         } else {
-            Outgoing::Diverges
+            None
         },
-        Op::Reset => Outgoing::Next(1),
-        _ => Outgoing::Next(next),
+        Op::Reset => Some(1),
+        _ => Some(next),
     }
 }
 
@@ -115,16 +91,12 @@ pub fn fits(protocol: Protocol, run: &[u8], next_outgoing: u64) -> bool
     ensures { result ≡ fits next_outgoing (held_run protocol.version run.now) }
 {
     let mut next = next_outgoing;
-    let mut d = Cursor { at: 0 };
-    while d.at < run.len() {
-        let OpAt::Got(op, e) = frame_op::op_from(protocol, run, d) else {
-            return true;
-        };
-        let Outgoing::Next(n) = outgoing_by(op, next) else {
+    let mut reader = Reader { buf: run, at: 0 };
+    while let Ok(op) = frame_op::read_op(&mut reader, protocol) {
+        let Some(n) = outgoing_by(op, next) else {
             return false;
         };
         next = n;
-        d = e;
     }
     true
 }
@@ -139,76 +111,63 @@ fn record_length(op: Op, len: u32) -> u32 {
 
 // Skips a Record with a message of `len` bytes, if one stands here. Where the next change begins is known from `len`, before
 // the length in the buffer is read: Records of one length are skipped faster so.
-fn skip_record(buf: &[u8], cursor: Cursor, len: u32) -> Skipped
-    ensures { PastRecord buf.now cursor.at result }
+fn skip_record(reader: &mut Reader, len: u32) -> Result<(), FrameError>
+    ensures past { IfOk result (λ _. (version : ℕ) → forget (read_change version (rest reader.old)) ≡ ok tt (rest reader.new)) }
+    ensures same { reader.new.buf.now ≡ reader.old.buf.now }
 {
-    let Byte::Got(k, d) = frame_reader::u8_from(buf, cursor) else {
-        return Skipped::Bad(FrameError::Truncated);
-    };
-    let Word64::Got(_, d) = frame_reader::u64_from(buf, d) else {
-        return Skipped::Bad(FrameError::Truncated);
-    };
-    let Word32::Got(n, d) = frame_reader::u32_from(buf, d) else {
-        return Skipped::Bad(FrameError::Truncated);
-    };
-    if k != frame_op::kind::RECORD {
-        return Skipped::Bad(FrameError::Truncated);
+    let kind = reader.number::<u8>()?;
+    let _seq = reader.number::<u64>()?;
+    let n = reader.number::<u32>()?;
+    if kind != frame_op::kind::RECORD {
+        return Err(FrameError::Truncated);
     }
     if n != len {
-        return Skipped::Bad(FrameError::Truncated);
+        return Err(FrameError::Truncated);
     }
-    let size = len as usize;
-    if frame_reader::bytes_left(buf, d) < size {
-        return Skipped::Bad(FrameError::Truncated);
+    if reader.left() < len as usize {
+        return Err(FrameError::Truncated);
     }
-    let at = d.at;
-    Skipped::At(Cursor { at: at + size }, len)
+    reader.at += len as usize;
+    Ok(())
 }
 
-// Skips a change of any kind.
-fn skip_any(protocol: Protocol, buf: &[u8], cursor: Cursor, len: u32) -> Skipped
-    ensures { res_past buf.now result ≡ forget (read_change protocol.version (drop cursor.at buf.now)) }
+// Skips a change, and gives the message length of the last Record; the change is likely a Record as long as the last one.
+fn skip_change(reader: &mut Reader, protocol: Protocol, len: u32) -> Result<u32, FrameError>
+    ensures past { res (λ _. tt) reader.new result ≡ forget (read_change protocol.version (rest reader.old)) }
+    ensures same { reader.new.buf.now ≡ reader.old.buf.now }
 {
-    match frame_op::op_from(protocol, buf, cursor) {
-        OpAt::Bad(e) => Skipped::Bad(e),
-        OpAt::Got(op, d) => Skipped::At(d, record_length(op, len)),
+    let mut ahead = *reader;
+    if let Ok(()) = skip_record(&mut ahead, len) {
+        *reader = ahead;
+        return Ok(len);
     }
+    let op = frame_op::read_op(reader, protocol)?;
+    Ok(record_length(op, len))
 }
 
-// Skips a change; it is likely a Record as long as the last one.
-fn skip_change(protocol: Protocol, buf: &[u8], cursor: Cursor, len: u32) -> Skipped
-    ensures { res_past buf.now result ≡ forget (read_change protocol.version (drop cursor.at buf.now)) }
+// Where the first `count` changes from a position on end, or as many of them as can be read.
+fn run_end(protocol: Protocol, buf: &[u8], at: usize, count: usize) -> usize
+    ensures { length buf.now - at ≡ sizes (collect count (read_change protocol.version) (drop at buf.now)) + (length buf.now - result) }
 {
-    match skip_record(buf, cursor, len) {
-        Skipped::At(d, n) => Skipped::At(d, n),
-        Skipped::Bad(_) => skip_any(protocol, buf, cursor, len),
-    }
-}
-
-// Skipped the first `count` changes from c on, or as many of them as can be read.
-fn run_end(protocol: Protocol, buf: &[u8], cursor: Cursor, count: usize) -> Cursor
-    ensures { length buf.now - cursor.at ≡ sizes (collect count (read_change protocol.version) (drop cursor.at buf.now)) + (length buf.now - result.at) }
-{
-    let mut d = cursor;
-    let mut n = count;
+    let mut end = at;
     let mut len: u32 = 0;
-    while 0 < n {
-        let Skipped::At(next, last) = skip_change(protocol, buf, d, len) else {
-            return d;
+    for _ in 0..count {
+        let mut reader = Reader { buf, at: end };
+        let Ok(last) = skip_change(&mut reader, protocol, len) else {
+            return end;
         };
-        d = next;
+        end = reader.at;
         len = last;
-        n -= 1;
     }
-    d
+    end
 }
 
 // How many bytes the longest run of changes at the start takes: each takes one at least.
 pub fn run_length(protocol: Protocol, s: &[u8]) -> usize
     ensures { result ≡ sizes (held_run protocol.version s.now) }
 {
-    let d = run_end(protocol, s, Cursor { at: 0 }, s.len());
-    s.len() - frame_reader::bytes_left(s, d)
+    let end = run_end(protocol, s, 0, s.len());
+    end.min(s.len())
 }
 
 // The part of the buffer where the changes of a run that was read stand.

@@ -2,10 +2,9 @@
 use mathlib.Core.Path.{◌≡◌, refl, sym, ap, ◌∙◌}
 use mathlib.Core.Bool.{Bool, true, false, cond, not, ◌&&◌, ◌||◌, true≢false}
 use mathlib.Core.List.{List, [], ◌∷◌}
-use Prim.Native.Nat.{ℕ, suc, ◌≤◌, ◌<◌, max}
-use native.Mathlib.Omega.{arith}
+use Prim.Native.Nat.{ℕ, suc}
 use lib.Dec.{eqb}
-use borrow.Author.Tests.{eq-eqb, ne_eqb, not-true, not-false}
+use borrow.Author.Tests.{not-true, not-false}
 use Rattle.base_flags.specs.Flag.{is_set}
 use Rattle.store_areas.specs.Areas.{allowed}
 use Rattle.store_areas.proofs.Ruling.{rules_of}
@@ -13,21 +12,11 @@ use Rattle.model_choice.specs.Choice as the-model
 use Rattle.model_choice.specs.Choice.{is_candidate, is_ahead_of_all, highest, fits_rule, chosen}
 use Rattle.standby_choice.specs.declared.Copy.{Copy}
 use Rattle.standby_choice.specs.declared.Copies.{Copies}
-use Rattle.standby_choice.specs.Choice.{is_sound, RulesIf, raised_by, highest_of, copies_of, are_sound, Kept, Chooses}
+use Rattle.base_refusals.specs.declared.Refusal.{Refusal}
+use Rattle.std.specs.Prelude.{Option, ok_or, Result, Err}
+use Rattle.standby_choice.specs.Choice.{is_sound, RulesIf, raised_by, highest_of, copies_of, are_sound, Kept, fits_at, choice_of}
 
 -- ---- the highest epoch
-
-pub not_raised : (b : Bool) (e top : ℕ) {t : Bool} → t ≡ b → not t ≡ true → top ≡ cond b (max e top) top
-not_raised true e top s h = absurd (true≢false (sym (ap not (sym s) ∙ h)))
-not_raised false e top s h = refl
-
-pub raised_not : (b : Bool) (e top : ℕ) {t : Bool} → t ≡ b → not t ≡ false → e ≤ top → top ≡ cond b (max e top) top
-raised_not true e top s h le = omega arith
-raised_not false e top s h le = absurd (true≢false (ap not (sym s) ∙ h))
-
-pub raised_so : (b : Bool) (e top : ℕ) {t : Bool} → t ≡ b → not t ≡ false → top < e → e ≡ cond b (max e top) top
-raised_so true e top s h le = omega arith
-raised_so false e top s h le = absurd (true≢false (ap not (sym s) ∙ h))
 
 pub highest_is : (cs : Copies) {t0 t1 t2 t3 t4 : ℕ} → t4 ≡ raised_by cs.4 0 → t3 ≡ raised_by cs.3 t4 → t2 ≡ raised_by cs.2 t3 → t1 ≡ raised_by cs.1 t2 → t0 ≡ raised_by cs.0 t1
     → t0 ≡ highest_of cs
@@ -81,12 +70,6 @@ together {q0} {q1} {q2} {q3} {q4} e0 e1 e2 e3 e4 = five q0 q1 q2 q3 q4 ∙ (λ i
 
 -- ---- the rules of a copy that is listed
 
-pub unlisted : (c : Copy) (w b : List ℕ) → c.listed ≡ 0 → true ≡ is_sound c w b
-unlisted c w b h = sym (ap (λ (x : Bool). not (not x) || allowed c.shape w b) (eq-eqb c.listed 0 h))
-
-pub listed_sound : (c : Copy) (w b : List ℕ) {r : Bool} → (c.listed ≡ 0 → ⊥) → r ≡ allowed c.shape w b → r ≡ is_sound c w b
-listed_sound c w b h e = e ∙ sym (ap (λ (x : Bool). not (not x) || allowed c.shape w b) (ne_eqb c.listed 0 h))
-
 rules_if : (c : Copy) (w b : List ℕ) → is_sound c w b ≡ true → RulesIf c w b
 rules_if c w b h t = rules_of c.shape w b (sym (ap (λ (x : Bool). not x || allowed c.shape w b) t) ∙ h)
 
@@ -114,9 +97,9 @@ module _ (cs : Copies) (w0 b0 w1 b1 w2 b2 w3 b3 w4 b4 : List ℕ) where
   abbrev s4 : Bool
   s4 = is_sound cs.4 w4 b4
 
-  pub kept : {r : Bool} → r ≡ are_sound cs w0 b0 w1 b1 w2 b2 w3 b3 w4 b4 → not r ≡ false → Kept cs w0 b0 w1 b1 w2 b2 w3 b3 w4 b4
+  pub kept : {r : Bool} → r ≡ are_sound cs w0 b0 w1 b1 w2 b2 w3 b3 w4 b4 → r ≡ true → Kept cs w0 b0 w1 b1 w2 b2 w3 b3 w4 b4
   kept e n =
-      let h = sym e ∙ not-false _ n in
+      let h = sym e ∙ n in
       let h1 = rest_true s0 (s1 && (s2 && (s3 && (s4 && true)))) h in
       let h2 = rest_true s1 (s2 && (s3 && (s4 && true))) h1 in
       let h3 = rest_true s2 (s3 && (s4 && true)) h2 in
@@ -135,22 +118,14 @@ module _ (cs : Copies) (w0 b0 w1 b1 w2 b2 w3 b3 w4 b4 : List ℕ) where
   abbrev sound : Bool
   sound = are_sound cs w0 b0 w1 b1 w2 b2 w3 b3 w4 b4
 
-  pub broken : {r : Bool} → r ≡ sound → not r ≡ true → Chooses cs w0 b0 w1 b1 w2 b2 w3 b3 w4 b4 (record { refusal = 25; copy = 0 })
-  broken e n =
-      let f : sound ≡ false = sym e ∙ not-true _ n in
-      record { refusal = rw f refl; copy = rw f refl }
+  abbrev answer : Bool → Result ℕ Refusal
+  answer t = cond t (ok_or (fits_at (chosen all)) Refusal.NoneFits) (Err Refusal.RulesBroken)
 
-  pub nobody : (i : ℕ) {r : Bool} → r ≡ sound → not r ≡ false → i ≡ chosen all → i ≡ 5 → Chooses cs w0 b0 w1 b1 w2 b2 w3 b3 w4 b4 (record { refusal = 39; copy = 0 })
-  nobody i s n e f =
-      let t : sound ≡ true = sym s ∙ not-false _ n in
-      let none : eqb (chosen all) 5 ≡ true = ap (λ (n : ℕ). eqb n 5) (sym e) ∙ eq-eqb i 5 f in
-      record { refusal = rw (t, none) refl; copy = rw (t, none) refl }
+  pub broken : {r : Bool} → r ≡ sound → r ≡ false → Err Refusal.RulesBroken ≡ choice_of cs w0 b0 w1 b1 w2 b2 w3 b3 w4 b4
+  broken e n = sym (ap answer (sym e ∙ n))
 
-  pub takes : (i : ℕ) {r : Bool} → r ≡ sound → not r ≡ false → i ≡ chosen all → (i ≡ 5 → ⊥) → Chooses cs w0 b0 w1 b1 w2 b2 w3 b3 w4 b4 (record { refusal = 0; copy = i })
-  takes i s n e f =
-      let t : sound ≡ true = sym s ∙ not-false _ n in
-      let one : eqb (chosen all) 5 ≡ false = ap (λ (n : ℕ). eqb n 5) (sym e) ∙ ne_eqb i 5 f in
-      record { refusal = rw (t, one) refl; copy = e ∙ sym (rw (t, one) refl) }
+  pub takes : {r : Bool} {o : Option ℕ} {a : Result ℕ Refusal} → r ≡ sound → r ≡ true → o ≡ fits_at (chosen all) → a ≡ ok_or o Refusal.NoneFits → a ≡ choice_of cs w0 b0 w1 b1 w2 b2 w3 b3 w4 b4
+  takes e n f g = g ∙ ap (λ (x : Option ℕ). ok_or x Refusal.NoneFits) f ∙ sym (ap answer (sym e ∙ n))
 
 -- ---- the first that fits
 

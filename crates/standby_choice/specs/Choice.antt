@@ -1,12 +1,12 @@
 -- The copies that five descriptions and their stores' areas stand for, and what is answered. Assumes nothing.
-use Rattle.std.specs.Prelude.{◌≡◌, ℕ, max, Bool, true, cond, not, ◌&&◌, ◌||◌, List, [], ◌∷◌, eqb}
+use Rattle.std.specs.Prelude.{◌≡◌, ℕ, max, Bool, true, cond, not, ◌&&◌, ◌||◌, Option, None, Some, ok_or, Result, Err, List, [], ◌∷◌, eqb}
 use Rattle.base_flags.specs.Flag.{is_set}
 use Rattle.store_areas.specs.Areas.{Rules, allowed, places_of}
 use Rattle.model_choice.specs.Choice as the-model
 use Rattle.model_choice.specs.Choice.{chosen}
 use Rattle.standby_choice.specs.declared.Copy.{Copy}
 use Rattle.standby_choice.specs.declared.Copies.{Copies}
-use Rattle.standby_choice.specs.declared.Choice.{Choice}
+use Rattle.base_refusals.specs.declared.Refusal.{Refusal}
 
 -- ---- one copy and its store's two areas
 
@@ -28,6 +28,10 @@ raised_by c top = cond (is_set c.listed && is_set c.checked) (max c.epoch.0 top)
 abbrev pub highest_of : Copies → ℕ
 highest_of cs = raised_by cs.0 (raised_by cs.1 (raised_by cs.2 (raised_by cs.3 (raised_by cs.4 0))))
 
+-- the number of the copy that fits, if it is none past the five
+abbrev pub fits_at : ℕ → Option ℕ
+fits_at i = cond (eqb i 5) None (Some i)
+
 -- ---- five copies, and the words and bytes of each
 
 module _ (cs : Copies) (w0 b0 w1 b1 w2 b2 w3 b3 w4 b4 : List ℕ) where
@@ -46,6 +50,5 @@ module _ (cs : Copies) (w0 b0 w1 b1 w2 b2 w3 b3 w4 b4 : List ℕ) where
     pub fifth : RulesIf cs.4 w4 b4
 
   -- 25 if a listed copy's store breaks its rules; 39 where none fits; else the copy that is taken
-  pub record Chooses (r : Choice) : Type 0 where
-    pub refusal : r.refusal ≡ cond are_sound (cond (eqb (chosen copies_of) 5) 39 0) 25
-    pub copy : r.copy ≡ cond are_sound (cond (eqb (chosen copies_of) 5) 0 (chosen copies_of)) 0
+  abbrev pub choice_of : Result ℕ Refusal
+  choice_of = cond are_sound (ok_or (fits_at (chosen copies_of)) Refusal.NoneFits) (Err Refusal.RulesBroken)

@@ -5,8 +5,9 @@ ghost use Rattle.std.specs.Prelude.{◌≡◌, cond, not, ◌||◌, ◌&&◌, �
 ghost use Rattle.store_areas.specs.Areas.{Rules, places_of};
 ghost use Rattle.model_choice.specs.Choice.{is_candidate, is_ahead, is_ahead_of_all, chosen};
 ghost use Rattle.base_flags.specs.Flag.{is_set};
-ghost use Rattle.standby_choice.specs.Choice.{copy_of, is_sound, RulesIf, raised_by, highest_of, copies_of, are_sound, Kept, Chooses};
+ghost use Rattle.standby_choice.specs.Choice.{copy_of, is_sound, RulesIf, raised_by, highest_of, copies_of, are_sound, Kept, fits_at, choice_of};
 
+use base_refusals::Refusal;
 use frame_fields::Epoch;
 use store_areas::Shape;
 
@@ -20,24 +21,13 @@ pub struct Copy {
     pub shape: Shape,
 }
 
-// As many copies as there can be standbys, by their numbers.
+// As many copies as there can be standbys, by their numbers: C lends the areas of each beside it, as five pairs of slices.
 #[repr(C)]
 #[derive(Clone, Copy)]
 pub struct Copies(pub Copy, pub Copy, pub Copy, pub Copy, pub Copy);
 
 impl Copies {
-    // No copy fits.
-    pub const NONE_FITS: u8 = 39;
-
     pub const MAX: usize = 5;
-}
-
-// The number of the copy that takes over, from 0, or a refusal.
-#[repr(C)]
-#[derive(Clone, Copy)]
-pub struct Choice {
-    pub refusal: u8,
-    pub copy: usize,
 }
 
 // ---- candidates
@@ -53,10 +43,11 @@ fn is_checked(c: Copy) -> bool
 fn raised(c: Copy, top: u64) -> u64
     ensures { result ≡ raised_by c top }
 {
-    if !is_checked(c) {
-        return top;
+    if is_checked(c) {
+        c.epoch.0.max(top)
+    } else {
+        top
     }
-    if c.epoch.0 <= top { top } else { c.epoch.0 }
 }
 
 // The highest epoch found on a checked copy.
@@ -74,7 +65,7 @@ fn highest(cs: Copies) -> u64
 fn is_candidate(c: Copy, top: u64) -> bool
     ensures { result ≡ ((is_set c.listed && is_set c.checked) && eqb c.epoch.0 top) }
 {
-    (c.listed != 0) & (c.checked != 0) & (c.epoch.0 == top)
+    is_checked(c) & (c.epoch.0 == top)
 }
 
 // ---- one copy against all
@@ -134,7 +125,7 @@ fn is_fit(
 
 // ---- the choice
 
-// The first copy that fits, or how many there are.
+// The first copy that fits.
 fn first_that_fits(
     cs: Copies,
     w0: &[u64],
@@ -147,37 +138,34 @@ fn first_that_fits(
     b3: &[u8],
     w4: &[u64],
     b4: &[u8],
-) -> usize
+) -> Option<usize>
     requires { Kept cs w0.now b0.now w1.now b1.now w2.now b2.now w3.now b3.now w4.now b4.now }
-    ensures { result ≡ chosen (copies_of cs w0.now b0.now w1.now b1.now w2.now b2.now w3.now b3.now w4.now b4.now) }
+    ensures { result ≡ fits_at (chosen (copies_of cs w0.now b0.now w1.now b1.now w2.now b2.now w3.now b3.now w4.now b4.now)) }
 {
     let t = highest(cs);
     if is_fit(cs, cs.0, w0, b0, t, w0, b0, w1, b1, w2, b2, w3, b3, w4, b4) {
-        return 0;
+        return Some(0);
     }
     if is_fit(cs, cs.1, w1, b1, t, w0, b0, w1, b1, w2, b2, w3, b3, w4, b4) {
-        return 1;
+        return Some(1);
     }
     if is_fit(cs, cs.2, w2, b2, t, w0, b0, w1, b1, w2, b2, w3, b3, w4, b4) {
-        return 2;
+        return Some(2);
     }
     if is_fit(cs, cs.3, w3, b3, t, w0, b0, w1, b1, w2, b2, w3, b3, w4, b4) {
-        return 3;
+        return Some(3);
     }
     if is_fit(cs, cs.4, w4, b4, t, w0, b0, w1, b1, w2, b2, w3, b3, w4, b4) {
-        return 4;
+        return Some(4);
     }
-    Copies::MAX
+    None
 }
 
 // Whether a copy's store keeps its rules; what isn't listed isn't looked at.
 fn is_sound(c: Copy, words: &[u64], bytes: &[u8]) -> bool
     ensures { result ≡ is_sound c words.now bytes.now }
 {
-    if c.listed == 0 {
-        return true;
-    }
-    store_areas::allowed(c.shape, words, bytes)
+    c.listed == 0 || store_areas::allowed(c.shape, words, bytes)
 }
 
 // Whether every copy's does.
@@ -216,21 +204,11 @@ pub fn choose(
     b3: &[u8],
     w4: &[u64],
     b4: &[u8],
-) -> Choice
-    ensures { Chooses cs w0.now b0.now w1.now b1.now w2.now b2.now w3.now b3.now w4.now b4.now result }
+) -> Result<usize, Refusal>
+    ensures { result ≡ choice_of cs w0.now b0.now w1.now b1.now w2.now b2.now w3.now b3.now w4.now b4.now }
 {
     if !are_sound(cs, w0, b0, w1, b1, w2, b2, w3, b3, w4, b4) {
-        return Choice {
-            refusal: base_refusals::RULES_BROKEN,
-            copy: 0,
-        };
+        return Err(Refusal::RulesBroken);
     }
-    let copy = first_that_fits(cs, w0, b0, w1, b1, w2, b2, w3, b3, w4, b4);
-    if copy == Copies::MAX {
-        return Choice {
-            refusal: Copies::NONE_FITS,
-            copy: 0,
-        };
-    }
-    Choice { refusal: 0, copy }
+    first_that_fits(cs, w0, b0, w1, b1, w2, b2, w3, b3, w4, b4).ok_or(Refusal::NoneFits)
 }

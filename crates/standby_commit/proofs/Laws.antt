@@ -27,18 +27,6 @@ none_changed s h i part w b {taken} off = subst (λ (x : StoreChange). StoreAfte
     by last_whole = ap (λ (t : Bool). cond t (commits h i) stays) off
 
 module _ (s : Shape) (i h : ℕ) (cs : List Change) (w b : List ℕ) (r : Rules s w b) (n : ℕ) (is : n ≡ (place_at s w b i).stored.session.next_out) where
-  pub refused : {yes : Bool} → yes ≡ fits n cs → yes ≡ false → Settles s i h cs w w b b false
-  refused f off = record {
-    is = sym off ∙ f ∙ ap (λ (k : ℕ). fits k cs) is;
-    places = refl;
-    pending = refl;
-    rules = r;
-    store_after = (refl, refl);
-  }
-
-  pub fits_there : {yes : Bool} → yes ≡ fits n cs → yes ≡ true → fits (place_at s w b i).stored.session.next_out cs ≡ true
-  fits_there f y = ap (λ (k : ℕ). fits k cs) (sym is) ∙ sym f ∙ y
-
   module _ {w' b' : List ℕ} (c : Changed s i (changed s.bytes s.messages cs) w w' b b') where
     -- the first 66 words are as they were
     head_kept : take 66 w' ≡ take 66 w
@@ -49,13 +37,10 @@ module _ (s : Shape) (i h : ℕ) (cs : List Change) (w b : List ℕ) (r : Rules 
     long : 66 ≤ length w
     long = omega (arith, r.room.words_long)
 
-    pub count_same : count_of w' ≡ count_of w
+    count_same : count_of w' ≡ count_of w
     count_same =
         let one : 1 < 66 = omega arith in
         sym (get_or-take 66 w' 1 0 one) ∙ ap (λ (l : List ℕ). get_or l 1 0) head_kept ∙ get_or-take 66 w 1 0 one
-
-    pub push_asks : i < get_or w 0 0 → count_of w < 64 → s.places < 4294967296 → (66 ≤ length w') × ((count_of w' < 64) × (i < 4294967296))
-    push_asks used few small = (omega (arith, c.words.same_length, long), (omega (arith, count_same), omega (arith, used, r.used)))
 
     pub settled : {yes : Bool} {w'' : List ℕ} → yes ≡ fits n cs → yes ≡ true → count_of w < 64 → pending_of w'' ≡ pending_of w' ++ ((h, i) ∷ [])
         → w'' ≡ pended_words h i w' → Settles s i h cs w w'' b b' true

@@ -14,7 +14,7 @@ ghost use Rattle.standby_control.specs.Others.{Plain, Fit, cleared_if, OtherIs, 
 use base_refusals::OTHER_FRAME;
 use frame::Frame;
 use frame_op::Run;
-use frame_reader::{Cursor, Word16};
+use frame_reader::Reader;
 use standby_row::Lookup;
 use standby_state::{Outcome, Replica, Settings};
 
@@ -25,10 +25,11 @@ fn no_kinds(frame: &[u8], run: Run) -> bool
     if run.count == 0 {
         return true;
     }
-    match frame_reader::u16_from(frame, Cursor { at: run.at }) {
-        Word16::Got(_, _) => false,
-        Word16::Short => true,
-    }
+    let mut reader = Reader {
+        buf: frame,
+        at: run.at,
+    };
+    reader.number::<u16>().is_err()
 }
 
 // Drops the pending commits, if the bindings go.

@@ -21,11 +21,11 @@ use Rattle.model_frame.specs.Writing.{fine, fine_key, Writable}
 use Rattle.model_text.specs.Utf8.{utf8}
 use Rattle.model_frame.proofs.Sound.{decode_sound}
 use Rattle.frame_reader.specs.declared.FrameError.{FrameError}
+use Rattle.std.specs.Prelude as the_option
+use Rattle.std.specs.Prelude.{Result, Ok, Err, Some, None}
 use Rattle.frame_reader.specs.Answers.{fault_of}
 use Rattle.frame.specs.declared.Frame
 use Rattle.frame.specs.declared.Frame.{Frame}
-use Rattle.frame.specs.declared.Decoded
-use Rattle.frame.specs.declared.Decoded.{Decoded}
 use Rattle.frame.specs.contracts.Frame as frame-type
 use Rattle.frame.specs.Answers.{frame_of, reading_of}
 use Rattle.model_standby.specs.Answer.{damaged, intact, judged, given}
@@ -49,31 +49,30 @@ number_some bad_marks = refl
 
 -- ---- what was handed in
 
-module _ (w : List ℕ) {d : Decoded} (read : reading_of 1 w d ≡ decode 1 w) where
-  given_as : {x : Decoded} → d ≡ x → given w ≡ judged (length w) (reading_of 1 w x)
-  unfolding given
-  given_as {x} e = sym (ap (λ (y : Decoded). judged (length w) (reading_of 1 w y)) (sym e) ∙ ap (judged (length w)) read)
+given_as : (w : List ℕ) (d : Result (the_option.Option (Frame × ℕ)) FrameError) → reading_of 1 w d ≡ decode 1 w → given w ≡ judged (length w) (reading_of 1 w d)
+unfolding given
+given_as w d read = sym (ap (judged (length w)) read)
 
-  pub given_bad : {e : FrameError} → d ≡ Decoded.Bad e → given w ≡ damaged (fault_number (fault_of e))
-  given_bad e = given_as e
+pub given_bad : (w : List ℕ) (e : FrameError) → reading_of 1 w (Err e) ≡ decode 1 w → given w ≡ damaged (fault_number (fault_of e))
+given_bad w e = given_as w (Err e)
 
-  pub given_more : d ≡ Decoded.More → given w ≡ damaged 26
-  given_more e = given_as e
+pub given_more : (w : List ℕ) → reading_of 1 w (Ok None) ≡ decode 1 w → given w ≡ damaged 26
+given_more w = given_as w (Ok None)
 
-  module _ {f : Frame} {n : ℕ} (e : d ≡ Decoded.Whole f n) where
-    pub given_short : (n ≡ length w → ⊥) → given w ≡ damaged 26
-    given_short off = given_as e ∙ ap (λ (t : Bool). cond t (intact (frame_of 1 (take n w) f)) (damaged 26)) (ne_eqb n (length w) off)
+module _ (w : List ℕ) (f : Frame) (n : ℕ) (read : reading_of 1 w (Ok (Some (f, n))) ≡ decode 1 w) where
+  pub given_short : (n ≡ length w → ⊥) → given w ≡ damaged 26
+  given_short off = given_as w (Ok (Some (f, n))) read ∙ ap (λ (t : Bool). cond t (intact (frame_of 1 (take n w) f)) (damaged 26)) (ne_eqb n (length w) off)
 
-    all : n ≡ length w → take n w ≡ w
-    all is = ap (λ (k : ℕ). take k w) is ∙ take-length w
+  all : n ≡ length w → take n w ≡ w
+  all is = ap (λ (k : ℕ). take k w) is ∙ take-length w
 
-    pub given_whole : n ≡ length w → given w ≡ intact (frame_of 1 w f)
-    given_whole is =
-        given_as e ∙ ap (λ (t : Bool). cond t (intact (frame_of 1 (take n w) f)) (damaged 26)) (eq-eqb n (length w) is) ∙ ap (λ (b : List ℕ). intact (frame_of 1 b f)) (all is)
+  pub given_whole : n ≡ length w → given w ≡ intact (frame_of 1 w f)
+  given_whole is =
+      given_as w (Ok (Some (f, n))) read ∙ ap (λ (t : Bool). cond t (intact (frame_of 1 (take n w) f)) (damaged 26)) (eq-eqb n (length w) is) ∙ ap (λ (b : List ℕ). intact (frame_of 1 b f)) (all is)
 
-    pub read_writable : T (is_bytes w) → n ≡ length w → Writable 1 (frame_of 1 w f)
-    read_writable t is =
-        subst (λ (b : List ℕ). Writable 1 (frame_of 1 b f)) (all is) (decode_sound 1 w t (sym read ∙ ap (reading_of 1 w) e)).writable
+  pub read_writable : T (is_bytes w) → n ≡ length w → Writable 1 (frame_of 1 w f)
+  read_writable t is =
+      subst (λ (b : List ℕ). Writable 1 (frame_of 1 b f)) (all is) (decode_sound 1 w t (sym read)).writable
 
 -- ---- frames that are no Batch
 

@@ -14,7 +14,7 @@ ghost use Rattle.standby_step.specs.Steps.{is_found, StepIs};
 ghost use Rattle.standby_frame.specs.Taking.{is_answered, IntactIs, Takes};
 
 use base_refusals::{NOT_ONE_FRAME, PROMOTED, RULES_BROKEN};
-use frame::{Decoded, Frame};
+use frame::Frame;
 use frame_stamp::Protocol;
 use standby_row::Lookup;
 use standby_state::{Answer, Outcome, Replica, Settings};
@@ -66,17 +66,13 @@ fn on_bytes(
         },
         frame,
     ) {
-        Decoded::Bad(e) => standby_state::unchanged(
-            counters,
-            lookup,
-            standby_state::refused(e.number()),
-        ),
-        Decoded::More => standby_state::unchanged(
+        Err(e) => standby_state::unchanged(counters, lookup, standby_state::refused(e.number())),
+        Ok(None) => standby_state::unchanged(
             counters,
             lookup,
             standby_state::refused(NOT_ONE_FRAME),
         ),
-        Decoded::Whole(f, n) => {
+        Ok(Some((f, n))) => {
             if n != frame.len() {
                 return standby_state::unchanged(
                     counters,

@@ -6,7 +6,7 @@ ghost use Rattle.standby_hello.specs.Greeting.{HelloIs, CheckedIs, connected_to,
 
 use base_refusals::{BAD_VERSION, KINDS_LISTED};
 use frame::Frame;
-use frame_fields::{CommitNumber, Epoch, Incarnation, reason};
+use frame_fields::{CommitNumber, Epoch, Incarnation, NackReason};
 use standby_row::Lookup;
 use standby_state::{Outcome, Replica, Settings};
 
@@ -90,14 +90,14 @@ pub fn on_checked(
         return standby_state::unchanged(
             counters,
             lookup,
-            standby_state::nack(handle, reason::STALE_EPOCH),
+            standby_state::nack(handle, NackReason::StaleEpoch as u8),
         );
     }
     if incarnation_sent.0 != incarnation(settings).0 {
         return standby_state::unchanged(
             counters,
             lookup,
-            standby_state::nack(handle, reason::RESTARTED),
+            standby_state::nack(handle, NackReason::Restarted as u8),
         );
     }
     standby_state::unchanged(

@@ -2,6 +2,7 @@
 use mathlib.Core.Path.{◌≡◌, refl, sym, ap, ◌∙◌}
 use mathlib.Core.Bool.{Bool, true, false, cond, not, ◌&&◌}
 use mathlib.Core.List.{List, [], ◌∷◌}
+use Rattle.std.specs.Prelude.{Ok, Err}
 use Prim.Native.Nat.{ℕ, ◌+◌, ◌-◌, ◌<◌, ◌≤◌, min}
 use native.Mathlib.Omega.{arith}
 use native.Mathlib.Nat.{sub-zero}
@@ -18,6 +19,7 @@ use Rattle.frame_op.specs.Answers.{held_run}
 use Rattle.model_frame.proofs.Le.{are_bytes, bytes_take}
 use Rattle.standby_changes.specs.Held.{TakesAll}
 use Rattle.standby_changes.proofs.Held.{held_sizes}
+use Rattle.standby_hold.specs.declared.HoldError.{HoldError}
 use Rattle.standby_hold.specs.Holding.{sum_of, refusal_of, HoldIs}
 
 positive : (c : Change) → 0 < size_of c
@@ -66,29 +68,29 @@ module _ (version : ℕ) (run area : List ℕ) (len sum : ℕ) {used before more
   size : length run ≡ sizes cs
   size = sym all
 
-  made : (n at : ℕ) (area' : List ℕ) → n ≡ refusal_of H sum cs (length area) → at ≡ cond (eqb n 0) (sizes H + length run) (sizes H) → area' ≡ cond (eqb n 0) (write area (sizes H) run) area
-      → HoldIs version run area len sum area' (record { refusal = n; used = at; sum = s })
-  made n at area' e f w = record { refusal = e; summed = total; ends = f; written = w }
-
-  pub no_reset : lacks ≡ true → HoldIs version run area len sum area (record { refusal = 16; used = used; sum = s })
-  no_reset h = made 16 used area (sym (ap (λ (x : Bool). cond x 16 (cond (ltb max_whole (sum_of H sum cs)) 17 (cond (ltb (length area) (sizes H + sizes cs)) 18 0))) (sym lacking ∙ h))) u refl
+  pub no_reset : lacks ≡ true → HoldIs version run area len sum area (Err HoldError.NoReset)
+  no_reset h = record { refusal = sym (ap (λ (x : Bool). cond x 16 (cond (ltb max_whole (sum_of H sum cs)) 17 (cond (ltb (length area) (sizes H + sizes cs)) 18 0))) (sym lacking ∙ h)); told = tt; written = refl }
 
   past_16 : lacks ≡ false → refusal_of H sum cs (length area) ≡ cond (ltb max_whole s) 17 (cond (ltb (length area) (sizes H + sizes cs)) 18 0)
   past_16 h =
       ap (λ (x : Bool). cond x 16 (cond (ltb max_whole (sum_of H sum cs)) 17 (cond (ltb (length area) (sizes H + sizes cs)) 18 0))) (sym lacking ∙ h)
       ∙ ap (λ (k : ℕ). cond (ltb max_whole k) 17 (cond (ltb (length area) (sizes H + sizes cs)) 18 0)) (sym total)
 
-  pub too_much : lacks ≡ false → 4294967296 < s → HoldIs version run area len sum area (record { refusal = 17; used = used; sum = s })
-  too_much h g = made 17 used area (sym (past_16 h ∙ ap (λ (x : Bool). cond x 17 (cond (ltb (length area) (sizes H + sizes cs)) 18 0)) (lt-ltb max_whole s g))) u refl
+  pub too_much : lacks ≡ false → 4294967296 < s → HoldIs version run area len sum area (Err (HoldError.TooManyBytes (record { used = used; sum = s })))
+  too_much h g = record { refusal = sym (past_16 h ∙ ap (λ (x : Bool). cond x 17 (cond (ltb (length area) (sizes H + sizes cs)) 18 0)) (lt-ltb max_whole s g)); told = (u, total); written = refl }
 
   past_17 : lacks ≡ false → s ≤ 4294967296 → refusal_of H sum cs (length area) ≡ cond (ltb (length area) (used + length run)) 18 0
   past_17 h g =
       past_16 h ∙ ap (λ (x : Bool). cond x 17 (cond (ltb (length area) (sizes H + sizes cs)) 18 0)) (le-ltb max_whole s g)
       ∙ ap (λ (k : ℕ). cond (ltb (length area) (k + sizes cs)) 18 0) (sym u) ∙ ap (λ (k : ℕ). cond (ltb (length area) (used + k)) 18 0) (sym size)
 
-  pub no_room : lacks ≡ false → s ≤ 4294967296 → length area < used + length run → HoldIs version run area len sum area (record { refusal = 18; used = used; sum = s })
-  no_room h g r = made 18 used area (sym (past_17 h g ∙ ap (λ (x : Bool). cond x 18 0) (lt-ltb (length area) (used + length run) r))) u refl
+  pub no_room : lacks ≡ false → s ≤ 4294967296 → length area < used + length run → HoldIs version run area len sum area (Err HoldError.AreaFull)
+  no_room h g r = record { refusal = sym (past_17 h g ∙ ap (λ (x : Bool). cond x 18 0) (lt-ltb (length area) (used + length run) r)); told = tt; written = refl }
 
   pub held : lacks ≡ false → s ≤ 4294967296 → used + length run ≤ length area → {area' : List ℕ} → area' ≡ write area used run
-      → HoldIs version run area len sum area' (record { refusal = 0; used = used + length run; sum = s })
-  held h g r {area'} w = made 0 (used + length run) area' (sym (past_17 h g ∙ ap (λ (x : Bool). cond x 18 0) (le-ltb (length area) (used + length run) r))) (ap (λ (k : ℕ). k + length run) u) (w ∙ ap (λ (k : ℕ). write area k run) u)
+      → HoldIs version run area len sum area' (Ok (record { used = used + length run; sum = s }))
+  held h g r {area'} w = record {
+    refusal = sym (past_17 h g ∙ ap (λ (x : Bool). cond x 18 0) (le-ltb (length area) (used + length run) r));
+    told = (ap (λ (k : ℕ). k + length run) u, total);
+    written = w ∙ ap (λ (k : ℕ). write area k run) u;
+  }

@@ -1,4 +1,4 @@
--- Each way through a Batch's part is the definition's. Assumes nothing.
+-- What a Commit or LastWhole gives once its changes are settled is the definition's, and so is a Commit's way. Assumes nothing.
 use mathlib.Core.Path.{◌≡◌, refl, sym, ap, subst, ◌∙◌}
 use mathlib.Core.Bool.{Bool, true, false, cond, not, true≢false}
 use mathlib.Core.List.{List, [], ◌∷◌, ◌++◌}
@@ -6,7 +6,8 @@ use Prim.Native.Nat.{ℕ, ◌-◌, ◌<◌}
 use native.Mathlib.Omega.{arith}
 use native.Mathlib.Nat.{sub-zero}
 use lib.ListN.{length, get_or, take, drop}
-use Rattle.model_frame.specs.Frame.{Change, commit, diverged, ack, nack}
+use Rattle.base_refusals.specs.declared.Refusal.{Refusal}
+use Rattle.model_frame.specs.Frame.{Part, Change, commit, diverged, ack, nack}
 use Rattle.model_frame.specs.Parse.{is_empty}
 use Rattle.model_frame.specs.Sizes.{sizes}
 use Rattle.model_session.specs.Session.{fits}
@@ -18,13 +19,14 @@ use Rattle.store_areas.specs.declared.Shape.{Shape}
 use Rattle.store_areas.specs.Areas.{Rules, place_at, places_of}
 use Rattle.store_areas.proofs.Lifting.{session_is}
 use Rattle.standby_pending.specs.Pending.{pending_of}
-use Rattle.standby_commit.specs.Settling.{stays, commits, StoreAfter, Settles}
+use Rattle.standby_commit.specs.Settling.{stays, commits, batch_change, StoreAfter, Settles}
 use Rattle.model_standby.specs.Store.{on_place, changed, session_at, or_new}
 use Rattle.model_standby.specs.Answer.{reply}
 use Rattle.model_standby.specs.State.{Settings, Counters, Bound, numbered}
 use Rattle.model_standby.specs.Core.{leave, store, CoreResult, core_says, core_refuse, core_settle, core_part}
+use Rattle.standby_part.specs.declared.PartResult.{PartResult}
 use Rattle.standby_part.specs.State.{bound_of, core_at, settings_for, holding_to}
-use Rattle.standby_part.specs.Part.{PartIs}
+use Rattle.standby_part.specs.Part.{SettledIs, PartIs}
 
 -- what is left of a Commit or LastWhole once it is settled, as the definition has it
 module _ (s : Shape) (h : ℕ) (cs : List Change) (w w' b b' : List ℕ) (yes : Bool) (x : Bound) (n : ℕ) (used : x.place < get_or w 0 0) (g : Settles s x.place h cs w w' b b' yes)
@@ -53,6 +55,46 @@ module _ (s : Shape) (h : ℕ) (cs : List Change) (w w' b b' : List ℕ) (yes : 
       go true p q = λ j. record { core = record { counters = c; places = sym p j; pending = sym q j }; action = store h (numbered n x); answer = reply (ack h n) }
       go false p q = λ j. record { core = record { counters = c; places = sym p j; pending = sym q j }; action = store h x; answer = reply (nack h diverged) }
 
+-- ---- a part that is settled, with no bytes held then: `rest` is what the definition goes on with, and `sum` its byte sum
+
+module _ (version : ℕ) (s : Shape) (h : BoundRecord) (n : CommitNumber) (part : Part) (cs all : List Change) (w b area area' : List ℕ) (rest : List Change) (sum : ℕ) (used : h.place < get_or w 0 0) where
+  abbrev X : Bound
+  X = record { place = h.place; number = h.commit_no.0; held = rest; bytes = sum }
+
+  abbrev H₀ : BoundRecord
+  H₀ = holding_to h h.commit_no 0 sum
+
+  -- the definition settles it so
+  abbrev pub GoesTo : Type 0
+  GoesTo = (c : Counters) (incarnation lag : ℕ)
+      → core_part (settings_for s (length area) incarnation lag) (core_at c s w b) h.handle (bound_of version h area) n.0 part cs
+      ≡ core_settle (settings_for s (length area) incarnation lag) (core_at c s w b) h.handle X n.0 all
+
+  nothing : held_run version (take 0 area') ≡ []
+  nothing = held_none version [] (omega arith)
+
+  pub settled_part : held_run version (take 0 area') ≡ rest → GoesTo → ((t : Bool) → cond t (commits h.handle h.place) stays ≡ batch_change h.handle h.place part t)
+      → {w' b' : List ℕ} {d : PartResult} → SettledIs s H₀ n all w w' b b' d → PartIs version s h n.0 part cs w w' b b' area area' d
+  settled_part none on change {w'} {b'} {d} g = subst (PartIs version s h n.0 part cs w w' b b' area area') (sym g.is) (go _ g.settles)
+    where
+      go : (t : Bool) → Settles s h.place h.handle all w w' b b' t → PartIs version s h n.0 part cs w w' b b' area area' (cond t (PartResult.Accepted (holding_to h n 0 sum)) (PartResult.Diverged H₀))
+      go true k = record {
+        is = λ c incarnation lag.
+            (λ j. record { core = core_at c s w' b'; action = store h.handle (record { place = h.place; number = n.0; held = none j; bytes = sum }); answer = reply (ack h.handle n.0) })
+            ∙ sym (on c incarnation lag ∙ settle_is s h.handle all w w' b b' true X n.0 used k c (length area) incarnation lag);
+        rules = k.rules;
+        store_after = subst (λ x. StoreAfter s x w w' b b') (change true) k.store_after;
+        slot = record { place = refl; len = λ _. omega arith; held = sym (ap sizes nothing) };
+      }
+      go false k = record {
+        is = λ c incarnation lag.
+            (λ j. record { core = core_at c s w' b'; action = store h.handle (record { place = h.place; number = h.commit_no.0; held = none j; bytes = sum }); answer = reply (nack h.handle diverged) })
+            ∙ sym (on c incarnation lag ∙ settle_is s h.handle all w w' b b' false X n.0 used k c (length area) incarnation lag);
+        rules = k.rules;
+        store_after = subst (λ x. StoreAfter s x w w' b b') (change false) k.store_after;
+        slot = record { place = refl; len = λ _. omega arith; held = sym (ap sizes nothing) };
+      }
+
 -- ---- Commit
 
 -- whether the first bytes of an area hold a change, as they are lent
@@ -63,23 +105,19 @@ module _ (version : ℕ) (s : Shape) (h : BoundRecord) (n : CommitNumber) (cs : 
   abbrev H : List Change
   H = held_run version (take h.held_len area)
 
-  pub commit_held : t ≡ false → Rules s w b → PartIs version s h n.0 commit cs w w b b area area (record { refusal = 15; stores = false; bound = h; nack = false })
+  pub commit_held : t ≡ false → Rules s w b → PartIs version s h n.0 commit cs w w b b area area (PartResult.Refused Refusal.ChangesHeld)
   unfolding core_part
   commit_held some r = record {
     is = λ c incarnation lag.
         sym (ap (λ (t : Bool). cond (not t) (core_refuse (core_at c s w b) leave 15) (core_settle (settings_for s (length area) incarnation lag) (core_at c s w b) h.handle (bound_of version h area) n.0 cs)) (sym l ∙ some));
     rules = r;
     store_after = (refl, refl);
-    slot_place = refl;
-    slot_len = λ l. l;
-    slot_held = λ e. absurd (true≢false (sym e));
+    slot = tt;
   }
 
   module _ (empty : t ≡ true) (used : h.place < get_or w 0 0) where
     -- past 15
-    past : (c : Counters) (incarnation lag : ℕ)
-        → core_part (settings_for s (length area) incarnation lag) (core_at c s w b) h.handle (bound_of version h area) n.0 commit cs
-        ≡ core_settle (settings_for s (length area) incarnation lag) (core_at c s w b) h.handle (bound_of version h area) n.0 cs
+    past : GoesTo version s h n commit cs cs w b area area H h.held_bytes used
     unfolding core_part
     past c incarnation lag =
         ap (λ (t : Bool). cond (not t) (core_refuse (core_at c s w b) leave 15) (core_settle (settings_for s (length area) incarnation lag) (core_at c s w b) h.handle (bound_of version h area) n.0 cs)) (sym l ∙ empty)
@@ -91,46 +129,5 @@ module _ (version : ℕ) (s : Shape) (h : BoundRecord) (n : CommitNumber) (cs : 
         none_there [] e = refl
         none_there (y ∷ x) e = absurd (true≢false (sym e))
 
-    -- nothing is held, and the byte sum stays
-    commit_settled : (k : CommitNumber) (taken : Bool) {w' b' : List ℕ} {slot : BoundRecord} → Settles s h.place h.handle cs w w' b b' taken → k.0 ≡ cond taken n.0 h.commit_no.0
-        → slot ≡ holding_to h k 0 h.held_bytes
-        → PartIs version s h n.0 commit cs w w' b b' area area (record { refusal = 0; stores = true; bound = slot; nack = not taken })
-    commit_settled k taken {w'} {b'} g at e =
-        subst (λ (x : BoundRecord). PartIs version s h n.0 commit cs w w' b b' area area (record { refusal = 0; stores = true; bound = x; nack = not taken })) (sym e)
-        (record {
-          is = λ c incarnation lag.
-              (λ j. record {
-                core = core_at c s w' b';
-                action = store h.handle (record { place = h.place; number = at j; held = none_held_lem j; bytes = h.held_bytes });
-                answer = reply (cond (not taken) (nack h.handle diverged) (ack h.handle n.0));
-              })
-              ∙ by taken c
-              ∙ sym (past c incarnation lag ∙ settle_is s h.handle cs w w' b b' taken (bound_of version h area) n.0 used g c (length area) incarnation lag);
-          rules = g.rules;
-          store_after = subst (λ (t : Bool). StoreAfter s (cond t (commits h.handle h.place) stays) w w' b b') (sym (twice taken)) g.store_after;
-          slot_place = refl;
-          slot_len = λ _. omega arith;
-          slot_held = λ _. sym (ap sizes (held_none version [] (omega arith)));
-        })
-      where
-        twice : (t : Bool) → not (not t) ≡ t
-        twice true = refl
-        twice false = refl
-
-        by : (t : Bool) (c : Counters) → ◌≡◌ {A = CoreResult}
-            (record {
-              core = core_at c s w' b';
-              action = store h.handle (record { place = h.place; number = cond t n.0 h.commit_no.0; held = H; bytes = h.held_bytes });
-              answer = reply (cond (not t) (nack h.handle diverged) (ack h.handle n.0));
-            })
-            (record { core = core_at c s w' b'; action = store h.handle (cond t (numbered n.0 (bound_of version h area)) (bound_of version h area)); answer = reply (cond t (ack h.handle n.0) (nack h.handle diverged)) })
-        by true c = refl
-        by false c = refl
-
-    pub commit_made : {w' b' : List ℕ} {yes : Bool} {slot : BoundRecord} → Settles s h.place h.handle cs w w' b b' yes → yes ≡ true → slot ≡ holding_to h n 0 h.held_bytes
-        → PartIs version s h n.0 commit cs w w' b b' area area (record { refusal = 0; stores = true; bound = slot; nack = false })
-    commit_made {w'} {b'} settles y e = commit_settled n true (subst (Settles s h.place h.handle cs w w' b b') y settles) refl e
-
-    pub commit_off : {w' b' : List ℕ} {yes : Bool} {slot : BoundRecord} → Settles s h.place h.handle cs w w' b b' yes → yes ≡ false → slot ≡ holding_to h h.commit_no 0 h.held_bytes
-        → PartIs version s h n.0 commit cs w w' b b' area area (record { refusal = 0; stores = true; bound = slot; nack = true })
-    commit_off {w'} {b'} settles y e = commit_settled h.commit_no false (subst (Settles s h.place h.handle cs w w' b b') y settles) refl e
+    pub commit_settled : {w' b' : List ℕ} {d : PartResult} → SettledIs s (holding_to h h.commit_no 0 h.held_bytes) n cs w w' b b' d → PartIs version s h n.0 commit cs w w' b b' area area d
+    commit_settled = settled_part version s h n commit cs cs w b area area H h.held_bytes used none_held_lem past (λ t. refl)

@@ -1,38 +1,89 @@
 -- What a Commit, a Whole or a LastWhole does on its handle, past the commit number. Assumes nothing.
-use Rattle.std.specs.Prelude.{◌≡◌, true, cond, not, ◌&&◌, List, ℕ, ◌≤◌, length, take, eqb}
+use Rattle.std.specs.Prelude.{◌≡◌, Bool, true, false, cond, List, ℕ, ◌≤◌, length, take, eqb, Option, Some, None, IfSome}
+use Rattle.base_refusals.specs.declared.Refusal.{Refusal}
+use Rattle.base_refusals.specs.Numbers.{number_of}
 use Rattle.model_frame.specs.Bytes.{write}
 use Rattle.model_frame.specs.Frame.{Change, whole, diverged, ack, nack}
 use Rattle.model_frame.specs.Frame as the_frame
 use Rattle.model_frame.specs.Sizes.{sizes}
+use Rattle.frame_fields.specs.declared.CommitNumber.{CommitNumber}
 use Rattle.frame_op.specs.Answers.{held_run}
 use Rattle.standby_row.specs.declared.Bound.{Bound}
 use Rattle.store_areas.specs.declared.Shape.{Shape}
 use Rattle.store_areas.specs.Areas.{Rules}
-use Rattle.standby_commit.specs.Settling.{batch_change, StoreAfter}
-use Rattle.model_standby.specs.Answer.{reply, refused}
+use Rattle.standby_hold.specs.declared.HoldError.{HoldError}
+use Rattle.standby_commit.specs.Settling.{batch_change, StoreAfter, Settles}
+use Rattle.model_standby.specs.Answer.{Answer, reply, refused}
 use Rattle.model_standby.specs.State.{Counters}
-use Rattle.model_standby.specs.Core.{leave, store, Core, CoreResult, core_part}
+use Rattle.model_standby.specs.Core.{Action, leave, store, Core, CoreResult, core_part}
 use Rattle.standby_part.specs.declared.PartResult.{PartResult}
-use Rattle.standby_part.specs.State.{bound_of, core_at, settings_for}
+use Rattle.standby_part.specs.State.{bound_of, core_at, settings_for, holding_to}
 
--- the answer and what is to be done to the row, of a Batch with this commit number on a handle, over its hold area
+-- ---- what a result stands for
+
+-- 0, or the number of the refusal
+abbrev pub part_refusal : PartResult → ℕ
+part_refusal (PartResult.Refused e) = number_of e
+part_refusal (PartResult.RefusedHolding e h) = number_of e
+part_refusal (PartResult.Diverged h) = 0
+part_refusal (PartResult.Accepted h) = 0
+
+-- it is accepted
+abbrev pub is_accepted : PartResult → Bool
+is_accepted (PartResult.Refused e) = false
+is_accepted (PartResult.RefusedHolding e h) = false
+is_accepted (PartResult.Diverged h) = false
+is_accepted (PartResult.Accepted h) = true
+
+-- what the handle's record becomes, if it changes
+abbrev pub stored_in : PartResult → Option Bound
+stored_in (PartResult.Refused e) = None
+stored_in (PartResult.RefusedHolding e h) = Some h
+stored_in (PartResult.Diverged h) = Some h
+stored_in (PartResult.Accepted h) = Some h
+
+-- the answer to a Batch with this commit number on a handle, and what is to be done to the row, over the handle's hold area
+abbrev pub told_by : ℕ → ℕ → PartResult → Answer
+told_by h n (PartResult.Refused e) = refused (number_of e)
+told_by h n (PartResult.RefusedHolding e x) = refused (number_of e)
+told_by h n (PartResult.Diverged x) = reply (nack h diverged)
+told_by h n (PartResult.Accepted x) = reply (ack h n)
+
+abbrev pub action_by : ℕ → ℕ → List ℕ → PartResult → Action
+action_by version h area (PartResult.Refused e) = leave
+action_by version h area (PartResult.RefusedHolding e x) = store h (bound_of version x area)
+action_by version h area (PartResult.Diverged x) = store h (bound_of version x area)
+action_by version h area (PartResult.Accepted x) = store h (bound_of version x area)
+
 abbrev pub result_of : ℕ → ℕ → ℕ → List ℕ → PartResult → Core → CoreResult
-result_of version h n area d k =
-    record {
-      core = k;
-      action = cond d.stores (store h (bound_of version d.bound area)) leave;
-      answer = cond (eqb d.refusal 0) (reply (cond d.nack (nack h diverged) (ack h n))) (refused d.refusal);
-    }
+result_of version h n area d k = record { core = k; action = action_by version h area d; answer = told_by h n d }
+
+-- ---- the parts
+
+-- the refusals of a part whose changes aren't held
+abbrev pub not_held : Bound → HoldError → PartResult
+not_held h HoldError.NoReset = PartResult.Refused Refusal.NoReset
+not_held h (HoldError.TooManyBytes x) = PartResult.RefusedHolding Refusal.TooManyBytes (holding_to h h.commit_no x.used x.sum)
+not_held h HoldError.AreaFull = PartResult.Refused Refusal.HoldAreaFull
+
+-- the changes are settled at the record's place; the record takes the number if they are applied
+pub record SettledIs (s : Shape) (h : Bound) (n : CommitNumber) (cs : List Change) (w w' b b' : List ℕ) (d : PartResult) : Type 0 where
+  pub settles : Settles s h.place h.handle cs w w' b b' (is_accepted d)
+  pub is : d ≡ cond (is_accepted d) (PartResult.Accepted (holding_to h n h.held_len h.held_bytes)) (PartResult.Diverged h)
+
+-- what a handle's record becomes: it keeps its place, holds no more than its area has, and its length is the size of the changes held
+pub record StoredIs (version : ℕ) (h : Bound) (area area' : List ℕ) (x : Bound) : Type 0 where
+  pub place : x.place ≡ h.place
+  pub len : h.held_len ≤ length area → x.held_len ≤ length area
+  pub held : x.held_len ≡ sizes (held_run version (take x.held_len area'))
 
 -- equal to the definition, whatever the counters and the settings
 pub record PartIs (version : ℕ) (s : Shape) (h : Bound) (n : ℕ) (part : the_frame.Part) (cs : List Change) (w w' b b' area area' : List ℕ) (d : PartResult) : Type 0 where
   pub is : (c : Counters) (incarnation lag : ℕ)
       → result_of version h.handle n area' d (core_at c s w' b') ≡ core_part (settings_for s (length area) incarnation lag) (core_at c s w b) h.handle (bound_of version h area) n part cs
   pub rules : Rules s w' b'
-  pub store_after : StoreAfter s (batch_change h.handle h.place part (eqb d.refusal 0 && not d.nack)) w w' b b'
-  pub slot_place : d.bound.place ≡ h.place
-  pub slot_len : h.held_len ≤ length area → d.bound.held_len ≤ length area
-  pub slot_held : d.stores ≡ true → d.bound.held_len ≡ sizes (held_run version (take d.bound.held_len area'))
+  pub store_after : StoreAfter s (batch_change h.handle h.place part (is_accepted d)) w w' b b'
+  pub slot : IfSome (stored_in d) (StoredIs version h area area')
 
 -- a Whole leaves the store as it was
 abbrev pub WholeIs : ℕ → Bound → ℕ → List Change → List ℕ → List ℕ → PartResult → Type 0

@@ -17,14 +17,10 @@ pub fn pends_on(words: &[u64], handle: u32) -> bool
     ensures { result ≡ pends_on handle (pending_of words.now) }
 {
     let n = words[word::PENDING] as usize;
-    let mut i: usize = 0;
-    while i < n {
-        if words[word::COMMITS + i] % HANDLE_COUNT == (handle as u64) {
-            return true;
-        }
-        i += 1;
-    }
-    false
+    let commits = &words[word::COMMITS..word::COMMITS + n];
+    commits
+        .iter()
+        .any(|commit| *commit % HANDLE_COUNT == u64::from(handle))
 }
 
 // One commit more.

@@ -29,11 +29,9 @@ pub fn run(words: &mut [u64], bytes: &[u8], shape: Shape)
     ensures { Ran shape bytes.now words.old words.new }
 {
     let n = words[word::PENDING] as usize;
-    let mut i: usize = 0;
-    while i < n {
+    for i in 0..n {
         let place = words[word::COMMITS + i] / standby_pending::HANDLE_COUNT;
         mark_used(words, shape, place);
-        i += 1;
     }
     words[word::PENDING] = 0;
 }
@@ -62,8 +60,5 @@ pub fn is_due_batch(words: &[u64], handle: u32) -> bool
     requires words_bound { count_of words.now ≤ 64 }
     ensures { result ≡ (leb 64 (length (pending_of words.now)) || pends_on handle (pending_of words.now)) }
 {
-    if Replica::MAX_HELD_COMMITS <= words[word::PENDING] {
-        return true;
-    }
-    standby_pending::pends_on(words, handle)
+    Replica::MAX_HELD_COMMITS <= words[word::PENDING] || standby_pending::pends_on(words, handle)
 }

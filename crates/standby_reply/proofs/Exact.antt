@@ -1,12 +1,11 @@
 -- The record of a frame that was answered has that frame. Assumes nothing.
-use mathlib.Core.Path.{◌≡◌, refl, sym, ap, subst, ◌∙◌}
+use mathlib.Core.Path.{◌≡◌, sym, ap, subst, ◌∙◌}
 use mathlib.Core.Bool.{Bool, true, ◌&&◌}
 use mathlib.Core.List.{List}
 use mathlib.Core.Option.{Option, none, some}
 use borrow.Author.Tests.{le-leb}
 use Prim.Native.Nat.{ℕ, ◌+◌}
 use lib.ListN.{length}
-use Rattle.model_frame.specs.FrameKind
 use Rattle.model_frame.specs.Frame.{stale_epoch, diverged, lag_too_great, restarted, Frame, hello, welcome, bind, batch, ack, nack, bound, checked}
 use Rattle.frame_writer.specs.Encoding.{span_fits, frame_if}
 use Rattle.model_standby.specs.Answer.{reply, refused, done}
@@ -14,7 +13,7 @@ use Rattle.model_standby.specs.Answer as the-answer
 use Rattle.standby_state.specs.declared.BoundSummary.{BoundSummary}
 use Rattle.standby_state.specs.declared.Answer.{Answer}
 use Rattle.standby_state.specs.Answers.{answer_of, brief_of}
-use Rattle.standby_state.specs.Exact.{summary_at, frame_record, FrameRecord, RecordOf, Exact}
+use Rattle.standby_state.specs.Exact.{summary_at, FrameRecord, RecordOf, Exact}
 use Rattle.standby_reply.specs.Replies.{frame_for}
 
 abbrev said : the-answer.Answer → Option Frame

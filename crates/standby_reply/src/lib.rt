@@ -7,7 +7,7 @@ ghost use Rattle.frame_writer.specs.Encoding.{Encoded};
 ghost use Rattle.standby_state.specs.Answers.{reason_by};
 ghost use Rattle.standby_reply.specs.Replies.{is_frame, frame_for, flight_by, Shows, Frames};
 
-use frame::{Frame, InFlight, NackReason, Summary, Written};
+use frame::{EncodeError, Frame, NackReason, Summary};
 use frame_fields::kind;
 use frame_stamp::Protocol;
 use standby_state::{Answer, BoundSummary};
@@ -16,39 +16,29 @@ use standby_state::{Answer, BoundSummary};
 fn reason(n: u8) -> NackReason
     ensures { reason_of result ≡ reason_by n }
 {
-    if n == frame_fields::reason::STALE_EPOCH {
-        return NackReason::StaleEpoch;
+    match n {
+        frame_fields::reason::STALE_EPOCH => NackReason::StaleEpoch,
+        frame_fields::reason::DIVERGED => NackReason::Diverged,
+        frame_fields::reason::LAG => NackReason::Lag,
+        _ => NackReason::Restarted,
     }
-    if n == frame_fields::reason::DIVERGED {
-        return NackReason::Diverged;
-    }
-    if n == frame_fields::reason::LAG {
-        return NackReason::Lag;
-    }
-    NackReason::Restarted
 }
 
-fn in_flight(has: u8, n: u64) -> InFlight
+fn in_flight(has: u8, n: u64) -> Option<u64>
     ensures { flight_of result ≡ flight_by has n }
 {
-    if has != 0 {
-        return InFlight::Seq(n);
-    }
-    InFlight::Nothing
+    (has != 0).then_some(n)
 }
 
 fn summary(flat: BoundSummary) -> Summary
     ensures { Shows flat result }
 {
-    let in_flight = in_flight(flat.has_in_flight, flat.in_flight);
-    let created_at = flat.created_at;
-    let marks = flat.marks;
     Summary {
         next_outgoing: flat.next_outgoing,
         next_incoming: flat.next_incoming,
-        in_flight,
-        created_at,
-        marks,
+        in_flight: in_flight(flat.has_in_flight, flat.in_flight),
+        created_at: flat.created_at,
+        marks: flat.marks,
         last_outgoing: flat.last_outgoing,
     }
 }
@@ -70,41 +60,35 @@ fn frame(answer: Answer) -> Frame
     ensures { Frames answer result }
 {
     let handle = answer.handle;
-    if answer.kind == kind::WELCOME {
-        let epoch = answer.epoch;
-        let incarnation = answer.incarnation;
-        return Frame::Welcome { epoch, incarnation };
-    }
-    if answer.kind == kind::ACK {
-        let commit_no = answer.commit_no;
-        return Frame::Ack { handle, commit_no };
-    }
-    if answer.kind == kind::NACK {
-        return Frame::Nack {
+    match answer.kind {
+        kind::WELCOME => Frame::Welcome {
+            epoch: answer.epoch,
+            incarnation: answer.incarnation,
+        },
+        kind::ACK => Frame::Ack {
+            handle,
+            commit_no: answer.commit_no,
+        },
+        kind::NACK => Frame::Nack {
             handle,
             reason: reason(answer.reason),
-        };
-    }
-    let flat = answer.summary;
-    Frame::Bound {
-        handle,
-        summary: summary(flat),
+        },
+        _ => Frame::Bound {
+            handle,
+            summary: summary(answer.summary),
+        },
     }
 }
 
 // The bytes of an answer's frame, and 8 where it has none; `bytes` is the store's byte area, where a Bound has its texts.
-pub fn write(answer: Answer, bytes: &[u8], out: &mut [u8]) -> Written
+pub fn write(answer: Answer, bytes: &[u8], out: &mut [u8]) -> Result<usize, EncodeError>
     ensures { Encoded 1 (frame_for bytes.now answer) out.old out.new result }
 {
-    if is_frame(answer) {
-        let f = frame(answer);
-        return f.encode(
-            Protocol {
-                version: Frame::VERSION,
-            },
-            bytes,
-            out,
-        );
+    if !is_frame(answer) {
+        return Err(EncodeError::Unreadable);
     }
-    Written::Unreadable
+    let protocol = Protocol {
+        version: Frame::VERSION,
+    };
+    frame(answer).encode(protocol, bytes, out)
 }

@@ -1,7 +1,7 @@
 // The bound handles: a lent row of records, searched by handle (standby.rs, where they are a map from handle to bound session).
 #![tactic(auto)]
 
-ghost use Rattle.std.specs.Prelude.{◌≡◌, set, cond};
+ghost use Rattle.std.specs.Prelude.{◌≡◌, set};
 ghost use Rattle.standby_row.specs.Row.{free_record, is_used, is_of, is_free, breaks_of, cleared_from, unseen, looked_at, seen_of};
 
 use frame_fields::CommitNumber;
@@ -33,32 +33,34 @@ pub fn free_record() -> Bound
     }
 }
 
-// Whether a record is used.
-pub fn is_used(bound: Bound) -> bool
-    ensures { result ≡ is_used bound }
-{
-    bound.used != 0
-}
+impl Bound {
+    // Whether the record is used.
+    pub fn is_used(self) -> bool
+        ensures { result ≡ is_used self }
+    {
+        self.used != 0
+    }
 
-// Whether a record is used for a handle.
-pub fn is_of(bound: Bound, handle: u32) -> bool
-    ensures { result ≡ is_of bound handle }
-{
-    (bound.used != 0) & (bound.handle == handle)
-}
+    // Whether the record is used for a handle.
+    pub fn is_of(self, handle: u32) -> bool
+        ensures { result ≡ is_of self handle }
+    {
+        self.is_used() && self.handle == handle
+    }
 
-// Whether a record is free.
-pub fn is_free(bound: Bound) -> bool
-    ensures { result ≡ is_free bound }
-{
-    !is_used(bound)
-}
+    // Whether the record is free.
+    pub fn is_free(self) -> bool
+        ensures { result ≡ is_free self }
+    {
+        !self.is_used()
+    }
 
-// Whether a used record breaks the rules: its place is not below `places`, or it holds more than `room` bytes.
-pub fn breaks_rules(bound: Bound, places: usize, room: usize) -> bool
-    ensures { result ≡ breaks_of bound places room }
-{
-    (bound.used != 0) & ((places <= bound.place) | (room < bound.held_len))
+    // Whether the record is used and breaks the rules: its place is not below `places`, or it holds more than `room` bytes.
+    pub fn breaks_rules(self, places: usize, room: usize) -> bool
+        ensures { result ≡ breaks_of self places room }
+    {
+        self.is_used() && (places <= self.place || room < self.held_len)
+    }
 }
 
 // What is found in a row for a handle. A place that there is none of is the length.
@@ -77,58 +79,34 @@ pub struct Lookup {
     pub bound: Bound,
 }
 
-// What is found before any record is looked at.
-pub fn nothing_seen(len: usize) -> Lookup
-    ensures { result ≡ unseen len }
-{
-    Lookup {
-        at: len,
-        free: len,
-        len: len,
-        broken: len,
-        bound: free_record(),
+impl Lookup {
+    // What is found before any record is looked at.
+    pub fn nothing_seen(len: usize) -> Lookup
+        ensures { result ≡ unseen len }
+    {
+        Lookup {
+            at: len,
+            free: len,
+            len,
+            broken: len,
+            bound: free_record(),
+        }
     }
-}
 
-fn place_if(test: bool, new: usize, old: usize) -> usize
-    ensures { result ≡ cond test new old }
-{
-    if test {
-        return new;
-    }
-    old
-}
-
-fn bound_if(test: bool, new: Bound, old: Bound) -> Bound
-    ensures { result ≡ cond test new old }
-{
-    if test {
-        return new;
-    }
-    old
-}
-
-// What is found once the record at place `i` is looked at too: the first of each kind counts.
-pub fn look_at(
-    lookup: Lookup,
-    i: usize,
-    bound: Bound,
-    handle: u32,
-    places: usize,
-    room: usize,
-) -> Lookup
-    ensures { result ≡ looked_at lookup i bound handle places room }
-{
-    let len = lookup.len;
-    let own = (len <= lookup.at) & is_of(bound, handle);
-    let free = (len <= lookup.free) & is_free(bound);
-    let broken = (len <= lookup.broken) & breaks_rules(bound, places, room);
-    Lookup {
-        at: place_if(own, i, lookup.at),
-        free: place_if(free, i, lookup.free),
-        len: len,
-        broken: place_if(broken, i, lookup.broken),
-        bound: bound_if(own, bound, lookup.bound),
+    // What is found once the record at place `i` is looked at too: the first of each kind counts.
+    pub fn look_at(self, i: usize, bound: Bound, handle: u32, places: usize, room: usize) -> Lookup
+        ensures { result ≡ looked_at self i bound handle places room }
+    {
+        let own = self.len <= self.at && bound.is_of(handle);
+        let free = self.len <= self.free && bound.is_free();
+        let broken = self.len <= self.broken && bound.breaks_rules(places, room);
+        Lookup {
+            at: if own { i } else { self.at },
+            free: if free { i } else { self.free },
+            len: self.len,
+            broken: if broken { i } else { self.broken },
+            bound: if own { bound } else { self.bound },
+        }
     }
 }
 
@@ -136,13 +114,9 @@ pub fn look_at(
 pub fn find(row: &[Bound], handle: u32, places: usize, room: usize) -> Lookup
     ensures { result ≡ seen_of row.now handle places room }
 {
-    let len = row.len();
-    let mut seen = nothing_seen(len);
-    let mut i = 0;
-    while i < row.len() {
-        let bound = row[i];
-        seen = look_at(seen, i, bound, handle, places, room);
-        i += 1;
+    let mut seen = Lookup::nothing_seen(row.len());
+    for (i, bound) in row.iter().enumerate() {
+        seen = seen.look_at(i, *bound, handle, places, room);
     }
     seen
 }
@@ -160,9 +134,9 @@ pub fn insert(row: &mut [Bound], at: usize, bound: Bound)
 pub fn clear(row: &mut [Bound], from: usize)
     ensures { row.new ≡ cleared_from from row.old }
 {
-    let mut i = from;
-    while i < row.len() {
-        row[i].used = 0;
-        i += 1;
+    let start = from.min(row.len());
+    let rest = &mut row[start..];
+    for bound in rest {
+        bound.used = 0;
     }
 }

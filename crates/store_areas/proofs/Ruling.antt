@@ -11,9 +11,10 @@ use lib.ListN.{length, get_or, set, length-set}
 use lib.Seq.{get_or-set_same, get_or-set_other}
 use Rattle.model_text.proofs.Formed.{and_l, and_r}
 use Rattle.store_areas.specs.declared.Shape.{Shape}
-use Rattle.store_areas.specs.declared.Made.{Made}
-use Rattle.store_areas.specs.declared.Made.TheVariants.{Ready, InvalidAreas}
-use Rattle.store_areas.specs.Areas.{place_words, place_bytes, roomy, allowed, Room, Rules, in_use, InUse, place_at, count_up, places_of, made_number, Making}
+use Rattle.std.specs.Prelude.{Result, Ok, Err}
+use Rattle.base_refusals.specs.declared.Refusal.{Refusal}
+use Rattle.base_refusals.specs.Numbers.{answer_number}
+use Rattle.store_areas.specs.Areas.{place_words, place_bytes, roomy, allowed, Room, Rules, in_use, InUse, place_at, count_up, places_of, Making}
 
 module _ (s : Shape) (w b : List ℕ) where
   t1 : Bool
@@ -90,14 +91,14 @@ product p n P N hp hn = le_trans (mul-le-mul_left p hn) (mul-le-mul_right N hp)
 -- ---- making
 
 module _ (s : Shape) (w b : List ℕ) where
-  by_room : (t : Bool) → roomy s w b ≡ t → (r : Made) → made_number r ≡ cond t 0 25 → Making s w (cond t (set (set w 0 0) 1 0) w) b r
+  by_room : (t : Bool) → roomy s w b ≡ t → (r : Result (Unit {0}) Refusal) → answer_number r ≡ cond t 0 25 → Making s w (cond t (set (set w 0 0) 1 0) w) b r
   by_room t e r p = record { answer = p ∙ sym (ap (λ (x : Bool). cond x 0 25) e); words = sym (ap (λ (x : Bool). cond x (set (set w 0 0) 1 0) w) e) }
 
-  pub made_ready : roomy s w b ≡ true → Making s w (set (set w 0 0) 1 0) b Ready
-  made_ready e = by_room true e Ready refl
+  pub made_ready : roomy s w b ≡ true → Making s w (set (set w 0 0) 1 0) b (Ok tt)
+  made_ready e = by_room true e (Ok tt) refl
 
-  pub made_unfit : roomy s w b ≡ false → Making s w w b InvalidAreas
-  made_unfit e = by_room false e InvalidAreas refl
+  pub made_unfit : roomy s w b ≡ false → Making s w w b (Err Refusal.RulesBroken)
+  made_unfit e = by_room false e (Err Refusal.RulesBroken) refl
 
 -- a new store keeps the rules and has no places
 pub made_rules : (s : Shape) (w b : List ℕ) → Room s w b → Rules s (set (set w 0 0) 1 0) b

@@ -1,7 +1,9 @@
 -- The store's two areas: the rules that they keep, and the list of places that they hold.
 -- Words: 0 how many places are in use, 1 how many commits are pending, 2 to 65 the pending commits (place × 2^32 + handle);
 -- from 66 on the words of place 0, of place 1, and so on. Bytes: those of place 0, of place 1, and so on. Assumes nothing.
-use Rattle.std.specs.Prelude.{◌≡◌, ℕ, zero, suc, ◌+◌, ◌-◌, ◌*◌, ◌≤◌, ◌<◌, Bool, cond, ◌&&◌, List, [], ◌∷◌, length, take, drop, get_or, set, leb, ltb}
+use Rattle.std.specs.Prelude.{◌≡◌, ℕ, zero, suc, ◌+◌, ◌-◌, ◌*◌, ◌≤◌, ◌<◌, Bool, cond, ◌&&◌, List, [], ◌∷◌, length, take, drop, get_or, set, leb, ltb, Result}
+use Rattle.base_refusals.specs.declared.Refusal as declared
+use Rattle.base_refusals.specs.Numbers.{answer_number}
 use Rattle.model_frame.specs.Refusal
 use Rattle.model_standby.specs.Store.{Stored, Place, on_place}
 use Rattle.store_place.specs.PlaceByte
@@ -10,8 +12,6 @@ use Rattle.store_place.specs.Only.{Only}
 use Rattle.store_place.specs.Place.{place_in}
 use Rattle.store_areas.specs.StoreWord
 use Rattle.store_areas.specs.declared.Shape.{Shape}
-use Rattle.store_areas.specs.declared.Made.{Made}
-use Rattle.store_areas.specs.declared.Made.TheVariants.{Ready, InvalidAreas}
 
 -- the words and the bytes of a place
 abbrev pub place_words : Shape → ℕ
@@ -112,12 +112,7 @@ pub record Changed (s : Shape) (i : ℕ) (f : Stored → Stored) (w w' b b' : Li
   pub words : Only (words_at s i) (words_at s i + place_words s) w w'
   pub bytes : Only (bytes_at s i) (bytes_at s i + place_bytes s) b b'
 
--- document 01's number of an answer to making
-abbrev pub made_number : Made → ℕ
-made_number Ready = 0
-made_number InvalidAreas = Refusal.rules_broken
-
 -- making: 25 where the areas are too short, which leaves all as it was; else no place is in use, no commit is pending, and the other words are as they were
-pub record Making (s : Shape) (w w' b : List ℕ) (r : Made) : Type 0 where
-  pub answer : made_number r ≡ cond (roomy s w b) 0 Refusal.rules_broken
+pub record Making (s : Shape) (w w' b : List ℕ) (r : Result (Unit {0}) declared.Refusal) : Type 0 where
+  pub answer : answer_number r ≡ cond (roomy s w b) 0 Refusal.rules_broken
   pub words : w' ≡ cond (roomy s w b) (set (set w StoreWord.used 0) StoreWord.pending 0) w

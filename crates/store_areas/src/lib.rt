@@ -4,6 +4,8 @@
 ghost use Rattle.std.specs.Prelude.{◌≡◌, ℕ, ◌+◌, ◌*◌, ◌≤◌, ◌<◌, Bool, true, false, List, length, get_or, set};
 ghost use Rattle.store_areas.specs.Areas.{place_words, place_bytes, durable_at, roomy, allowed, Rules, SpotIs, SpotIn, in_use, Making};
 
+use base_refusals::Refusal;
+
 // How many session places, and for each the message bytes (C) and the messages (M).
 #[repr(C)]
 #[derive(Clone, Copy)]
@@ -34,13 +36,6 @@ pub mod word {
 
 // The most commits that can be pending: each has a word.
 pub const MAX_PENDING: u64 = (COUNT_WORDS - word::COMMITS) as u64;
-
-// The answer to making a store.
-#[derive(Clone, Copy)]
-pub enum Made {
-    Ready,
-    InvalidAreas,
-}
 
 // The words of a place.
 pub fn place_words(shape: Shape) -> usize
@@ -99,10 +94,7 @@ pub fn spot_in(words: &[u64], bytes: &[u8], shape: Shape, place: usize) -> Spot
 pub fn long_enough(shape: Shape, words: &[u64], bytes: &[u8]) -> bool
     ensures { result ≡ roomy shape words.now bytes.now }
 {
-    if Shape::MAX_BYTES < shape.bytes {
-        return false;
-    }
-    if Shape::MAX_MESSAGES < shape.messages {
+    if Shape::MAX_BYTES < shape.bytes || Shape::MAX_MESSAGES < shape.messages {
         return false;
     }
     let places = shape.places as usize;
@@ -114,20 +106,15 @@ pub fn long_enough(shape: Shape, words: &[u64], bytes: &[u8]) -> bool
 pub fn allowed(shape: Shape, words: &[u64], bytes: &[u8]) -> bool
     ensures { result ≡ allowed shape words.now bytes.now }
 {
-    if long_enough(shape, words, bytes) {
-        return (words[word::USED] <= shape.places as u64) & (words[word::PENDING] <= MAX_PENDING);
-    }
-    false
+    long_enough(shape, words, bytes)
+        && (words[word::USED] <= shape.places as u64) & (words[word::PENDING] <= MAX_PENDING)
 }
 
 // Whether the areas keep the rules and place i is in use.
 pub fn in_use(words: &[u64], bytes: &[u8], shape: Shape, place: usize) -> bool
     ensures { result ≡ in_use shape words.now bytes.now place }
 {
-    if allowed(shape, words, bytes) {
-        return (place as u64) < words[word::USED];
-    }
-    false
+    allowed(shape, words, bytes) && (place as u64) < words[word::USED]
 }
 
 // Marks the session at place i, which is in use, as durable.
@@ -143,13 +130,13 @@ pub fn mark_durable(words: &mut [u64], shape: Shape, place: usize)
 }
 
 // Makes a store without sessions and pending commits.
-pub fn make(shape: Shape, words: &mut [u64], bytes: &[u8]) -> Made
+pub fn make(shape: Shape, words: &mut [u64], bytes: &[u8]) -> Result<(), Refusal>
     ensures { Making shape words.old words.new bytes.now result }
 {
-    if long_enough(shape, words, bytes) {
-        words[word::USED] = 0;
-        words[word::PENDING] = 0;
-        return Made::Ready;
+    if !long_enough(shape, words, bytes) {
+        return Err(Refusal::RulesBroken);
     }
-    Made::InvalidAreas
+    words[word::USED] = 0;
+    words[word::PENDING] = 0;
+    Ok(())
 }

@@ -1,46 +1,10 @@
--- Products modulo 2 ^ 64 by halves, and FNV over lists. Assumes nothing.
-use Rattle.std.proofs.Common.{◌≡◌, ℕ, zero, suc, ◌+◌, ◌-◌, ◌*◌, ◌/◌, ◌%◌, ◌^◌, ◌<◌, ◌≤◌, List, [], ◌∷◌, ◌++◌, length, get_or, take, drop, sym, refl, ap, ◌∙◌, lt_of_le_of_lt, le_of_lt, add_assoc, mod-lt, mod-eq_of_lt, mul_assoc, mul_comm, div-lt_iff_lt-mul, add-mul, add_comm, mul-le-mul_left, mul-lt-mul_of_pos_right, pow-suc, div-add-mod', mul-one, mul-add, mul_left_comm, add-one, arith, length-append, length-drop, drop_of_length-le, length-take-le, drop-cons, pow_pos}
-use native.Mathlib.Nat.{pow-succ', add_left_comm, add-mod-mod, add-mul-mod_self_right}
-use lib.Pow.{split}
+-- FNV over lists. Assumes nothing.
+use Rattle.std.proofs.Common.{◌≡◌, ℕ, zero, suc, ◌+◌, ◌-◌, ◌*◌, ◌/◌, ◌%◌, ◌^◌, ◌<◌, ◌≤◌, List, [], ◌∷◌, ◌++◌, length, get_or, take, drop, sym, refl, ap, ◌∙◌, mod-lt, mod-eq_of_lt, mul_assoc, mul_comm, div-lt_iff_lt-mul, add_comm, pow-suc, div-add-mod', mul-one, mul-add, add-one, arith, length-append, length-drop, drop_of_length-le, length-take-le, drop-cons}
+use native.Mathlib.Nat.{pow-succ', add-mul-mod_self_right}
 use lib.Bits.{bit_and, bit_xor, and_mask, xor_zero_r}
 use Rattle.model_frame.specs.Bytes.{bytes_of}
 use Rattle.model_session.specs.Summary.{fnv_step, fnv, fnv_message}
 use Rattle.store_log.specs.Log.{msg}
-
--- ---- the product
-
-pub half_product : {a b : ℕ} → a < 2 ^ 32 → b < 2 ^ 32 → a * b < 2 ^ 64
-half_product {a} {b} ha hb = lt_of_le_of_lt (mul-le-mul_left a (le_of_lt hb)) (mul-lt-mul_of_pos_right ha (pow_pos 32))
-
-crossed : (P a₀ a₁ b₀ b₁ : ℕ) → (a₁ * P + a₀) * (b₁ * P + b₀) ≡ a₀ * b₀ + (a₁ * b₀ + a₀ * b₁) * P + a₁ * b₁ * (P * P)
-crossed P a₀ a₁ b₀ b₁ = simp (mul-add, add-mul, mul_assoc, mul_comm, mul_left_comm, add_assoc, add_comm, add_left_comm) refl
-
-gathered : (P N x q r y : ℕ) → x + (q * N + r) * P + y * N ≡ x + r * P + (y + q * P) * N
-gathered P N x q r y = simp (add-mul, mul_assoc, mul_comm, mul_left_comm, add_assoc, add_comm) refl
-
-by_halves : (P a₀ a₁ b₀ b₁ : ℕ) → (a₀ * b₀ + (a₁ * b₀ + a₀ * b₁) % (P * P) * P % (P * P)) % (P * P) ≡ (a₁ * P + a₀) * (b₁ * P + b₀) % (P * P)
-by_halves P a₀ a₁ b₀ b₁ =
-    let N : ℕ = P * P in
-    let S : ℕ = a₁ * b₀ + a₀ * b₁ in
-    add-mod-mod (a₀ * b₀) (S % N * P) N
-    ∙ sym (add-mul-mod_self_right (a₀ * b₀ + S % N * P) (a₁ * b₁ + S / N * P) N)
-    ∙ sym (ap (λ (x : ℕ). x % N) (crossed P a₀ a₁ b₀ b₁ ∙ ap (λ (s : ℕ). a₀ * b₀ + s * P + a₁ * b₁ * N) (sym (div-add-mod' S N)) ∙ gathered P N (a₀ * b₀) (S / N) (S % N) (a₁ * b₁)))
-
--- as the code has it
-pub times : (a b mid r : ℕ) → mid ≡ (a / 2 ^ 32 * bit_and b 4294967295 + bit_and a 4294967295 * (b / 2 ^ 32)) % 2 ^ 64
-    → r ≡ (bit_and a 4294967295 * bit_and b 4294967295 + mid * 2 ^ 32 % 2 ^ 64) % 2 ^ 64 → r ≡ a * b % 2 ^ 64
-times a b mid r em er =
-    let a₀ : ℕ = a % 2 ^ 32 in
-    let a₁ : ℕ = a / 2 ^ 32 in
-    let b₀ : ℕ = b % 2 ^ 32 in
-    let b₁ : ℕ = b / 2 ^ 32 in
-    let ea : bit_and a 4294967295 ≡ a₀ = and_mask a 32 in
-    let eb : bit_and b 4294967295 ≡ b₀ = and_mask b 32 in
-    er
-    ∙ (λ i. (ea i * eb i + em i * 2 ^ 32 % 2 ^ 64) % 2 ^ 64)
-    ∙ (λ i. (a₀ * b₀ + (a₁ * eb i + ea i * b₁) % 2 ^ 64 * 2 ^ 32 % 2 ^ 64) % 2 ^ 64)
-    ∙ by_halves (2 ^ 32) a₀ a₁ b₀ b₁
-    ∙ (λ i. split a 32 i * split b 32 i % 2 ^ 64)
 
 -- ---- lists
 

@@ -1,5 +1,5 @@
 -- EVERY LOG THAT THE STORE CAN HOLD is that of some areas. Assumes nothing.
-use Rattle.std.proofs.Common.{◌≡◌, ℕ, zero, suc, ◌+◌, ◌-◌, ◌*◌, ◌^◌, ◌<◌, ◌≤◌, Bool, true, false, ◌&&◌, T, ltb, List, [], ◌∷◌, ◌++◌, reverse, length, get_or, take, drop, set, replicate, sym, refl, ap, ◌∙◌, append_assoc, append-nil, arith, ltb→lt, length-append, length-drop, length-set}
+use Rattle.std.proofs.Common.{◌≡◌, ℕ, zero, suc, ◌+◌, ◌*◌, ◌^◌, ◌<◌, ◌≤◌, Bool, true, false, ◌&&◌, T, ltb, List, [], ◌∷◌, ◌++◌, reverse, length, get_or, take, drop, set, replicate, sym, refl, ap, ◌∙◌, append_assoc, append-nil, arith, ltb→lt, length-append, length-drop, length-set}
 use lib.ListN.{length-replicate}
 use Rattle.model_session.specs.Session.{Msg, stored_bytes, is_bytes, Rising, keep}
 use Rattle.store_log.specs.Log.{before, entries, head_of, tail_of, unrolled, log_of, Lawful}

@@ -1,8 +1,10 @@
 -- Walking the entries from the newest back. Assumes nothing.
-use Rattle.std.proofs.Common.{◌≡◌, ℕ, suc, ◌+◌, ◌-◌, ◌*◌, ◌<◌, ◌≤◌, List, [], ◌∷◌, reverse, length, get_or, take, drop, sym, refl, ap, ◌∙◌, arith, length-drop, length-take-le, le-leb}
+use Rattle.std.proofs.Common.{◌≡◌, ℕ, suc, ◌+◌, ◌-◌, ◌*◌, ◌<◌, ◌≤◌, List, [], ◌∷◌, reverse, length, get_or, take, drop, sym, refl, ap, subst, ◌∙◌, arith, length-drop, length-take-le, le-leb}
 use borrow.Author.Tests.{lt-leb}
 use Rattle.model_session.specs.Session.{Msg, stored_bytes}
 use Rattle.store_log.specs.Log.{msg, before, entries, newest, newest_first, head_of, tail_of, unrolled, walk, since, log_of, rest_of, From}
+use Rattle.store_log.proofs.Slots.{tail_le}
+use Rattle.store_log.proofs.Ring.{length_unrolled}
 use Rattle.store_log.proofs.Walk.{Look, hit, low, high, full, look, walk_hit, walk_low, walk_high, walk_full}
 use Rattle.store_log.proofs.Forward.{since_taken, from_since}
 
@@ -54,16 +56,16 @@ module _ (C M lo : ℕ) (w u : List ℕ) where
         let y : left (M - count) slot sum bound ≡ [] = rw fuel z in
         (i.many ∙ ap (λ (l : List Msg). count + length l) y ∙ omega arith, i.long ∙ ap (λ (l : List Msg). sum + stored_bytes l) y ∙ omega arith)
 
-    pub done_low : num_at p < lo → (length all ≡ count) × (stored_bytes all ≡ sum)
+    done_low : num_at p < lo → (length all ≡ count) × (stored_bytes all ≡ sum)
     done_low h = done (left_low (M - (count + 1)) slot p sum bound e h)
 
-    pub done_high : bound ≤ num_at p → (length all ≡ count) × (stored_bytes all ≡ sum)
+    done_high : bound ≤ num_at p → (length all ≡ count) × (stored_bytes all ≡ sum)
     done_high h = done (left_high (M - (count + 1)) slot p sum bound e h)
 
-    pub done_full : C - sum < len_at p → (length all ≡ count) × (stored_bytes all ≡ sum)
+    done_full : C - sum < len_at p → (length all ≡ count) × (stored_bytes all ≡ sum)
     done_full h = done (left_full (M - (count + 1)) slot p sum bound e (omega (arith, i.room)))
 
-    pub counts : length u ≡ C → 1 ≤ lo → p < M → lo ≤ num_at p → num_at p < bound → len_at p ≤ C - sum → Counting all (count + 1) (sum + len_at p) p (num_at p)
+    counts : length u ≡ C → 1 ≤ lo → p < M → lo ≤ num_at p → num_at p < bound → len_at p ≤ C - sum → Counting all (count + 1) (sum + len_at p) p (num_at p)
     counts lu hl hp a b r =
         let d : ℕ = sum + len_at p in
         let rr : d ≤ C = omega (arith, i.room) in
@@ -80,22 +82,52 @@ module _ (C M lo : ℕ) (w u : List ℕ) where
         }
 
   -- all entries were counted
-  pub done_all : (all : List Msg) (count sum slot bound : ℕ) → Counting all count sum slot bound → M ≤ count → (length all ≡ count) × (stored_bytes all ≡ sum)
+  done_all : (all : List Msg) (count sum slot bound : ℕ) → Counting all count sum slot bound → M ≤ count → (length all ≡ count) × (stored_bytes all ≡ sum)
   done_all all count sum slot bound i h =
       let z : M - count ≡ 0 = omega arith in
       let y : left (M - count) slot sum bound ≡ [] = rw z in
       (i.many ∙ ap (λ (l : List Msg). count + length l) y ∙ omega arith, i.long ∙ ap (λ (l : List Msg). sum + stored_bytes l) y ∙ omega arith)
 
 -- the same of the log in the slices
-pub counted : (C M next lo : ℕ) (w b : List ℕ) (count sum : ℕ) → count ≤ M → sum ≤ C → (length (since lo (newest_first C M next w b)) ≡ count) × (stored_bytes (since lo (newest_first C M next w b)) ≡ sum) → From C M next lo w b count sum
-unfolding log_of rest_of
-counted C M next lo w b count sum m r h =
-    let L : List Msg = newest_first C M next w b in
-    let t : take count L ≡ since lo L = ap (λ (k : ℕ). take k L) (sym h.0) ∙ (since_taken lo L).is in
-    record {
-      stands = record { many = omega (arith, (since_taken lo L).few, h.0); few = m; sum = sym h.1 ∙ ap stored_bytes (sym t); room = r };
-      is = ap reverse t ∙ sym (from_since C (unrolled (tail_of C w) b) lo (newest M w) 0 next);
-    }
+module _ (C M next lo : ℕ) (w b : List ℕ) where
+  abbrev All : List Msg
+  All = since lo (newest_first C M next w b)
+
+  abbrev Walked : ℕ → ℕ → ℕ → ℕ → Type 0
+  Walked count sum slot bound = Counting C M lo w (unrolled (tail_of C w) b) All count sum slot bound
+
+  counted : (count sum : ℕ) → count ≤ M → sum ≤ C → (length All ≡ count) × (stored_bytes All ≡ sum) → From C M next lo w b count sum
+  unfolding log_of rest_of
+  counted count sum m r h =
+      let L : List Msg = newest_first C M next w b in
+      let t : take count L ≡ since lo L = ap (λ (k : ℕ). take k L) (sym h.0) ∙ (since_taken lo L).is in
+      record {
+        stands = record { many = omega (arith, (since_taken lo L).few, h.0); few = m; sum = sym h.1 ∙ ap stored_bytes (sym t); room = r };
+        is = ap reverse t ∙ sym (from_since C (unrolled (tail_of C w) b) lo (newest M w) 0 next);
+      }
+
+  module _ (count sum slot bound p : ℕ) (i : Walked count sum slot bound) (more : count < M) (e : p ≡ before M slot) where
+    -- the entry before slot isn't read
+    pub stopped_low : get_or w (2 + 2 * p) 0 < lo → From C M next lo w b count sum
+    stopped_low h = counted count sum i.most i.room (done_low C M lo w (unrolled (tail_of C w) b) All count sum slot bound p i more e h)
+
+    pub stopped_high : bound ≤ get_or w (2 + 2 * p) 0 → From C M next lo w b count sum
+    stopped_high h = counted count sum i.most i.room (done_high C M lo w (unrolled (tail_of C w) b) All count sum slot bound p i more e h)
+
+    pub stopped_full : C - sum < get_or w (3 + 2 * p) 0 → From C M next lo w b count sum
+    stopped_full h = counted count sum i.most i.room (done_full C M lo w (unrolled (tail_of C w) b) All count sum slot bound p i more e h)
+
+    -- the entry before slot is read
+    pub walked : 1 ≤ lo → p < M → lo ≤ get_or w (2 + 2 * p) 0 → get_or w (2 + 2 * p) 0 < bound → get_or w (3 + 2 * p) 0 ≤ C - sum → C ≡ length b
+        → Walked (count + 1) (sum + get_or w (3 + 2 * p) 0) p (get_or w (2 + 2 * p) 0)
+    walked hl hp hn hb room lb =
+        counts C M lo w (unrolled (tail_of C w) b) All count sum slot bound p i more e
+        (length_unrolled (tail_of C w) b (omega (arith, tail_le C w, lb)) ∙ sym lb) hl hp hn hb room
+
+  pub stopped_all : (count sum slot bound : ℕ) → Walked count sum slot bound → M ≤ count → From C M next lo w b M sum
+  stopped_all count sum slot bound i h =
+      let e : count ≡ M = omega (arith, i.most) in
+      subst (λ (k : ℕ). From C M next lo w b k sum) e (counted count sum i.most i.room (done_all C M lo w (unrolled (tail_of C w) b) All count sum slot bound i h))
 
 pub counted_none : (C M next lo : ℕ) (w b : List ℕ) → M ≡ 0 → From C M next lo w b 0 0
 unfolding log_of rest_of

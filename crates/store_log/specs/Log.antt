@@ -1,5 +1,5 @@
 -- The log that two slices hold: every content of them means one. Assumes nothing.
-use Rattle.std.specs.Prelude.{◌≡◌, ℕ, zero, suc, ◌+◌, ◌-◌, ◌*◌, ◌≤◌, max, Bool, cond, ◌&&◌, ◌||◌, List, [], ◌∷◌, ◌++◌, reverse, length, take, drop, ◌==◌, nat_le, nat_lt, slice_index}
+use Rattle.std.specs.Prelude.{◌≡◌, ℕ, zero, suc, ◌+◌, ◌-◌, ◌≤◌, max, Bool, cond, ◌&&◌, ◌||◌, List, [], ◌∷◌, ◌++◌, reverse, length, take, drop, ◌==◌, nat_le, nat_lt, slice_index}
 use Rattle.model_session.specs.Session.{Msg, stored_bytes, keep, Rising}
 use Rattle.model_session.specs.Summary.{fnv_messages, fnv_start, numbered_from}
 use Rattle.store_log.specs.LogWord

@@ -26,7 +26,8 @@ pub fn copy_into(dst: &mut [u8], at: usize, src: &[u8])
     requires { at + length src.now ≤ length dst.old }
     ensures { dst.new ≡ paste dst.old at src.now (length src.now) }
 {
-    base_bytes::copy(src, dst, at);
+    let end = at + src.len();
+    dst[at..end].copy_from_slice(src);
 }
 
 // Writes msg into the ring from its tail at, and returns the new tail.
@@ -162,32 +163,24 @@ pub fn messages_from(words: &[u64], bytes: &[u8], max: usize, next: u64, low: u6
     requires le_low { 1 ≤ low }
     ensures { From (length bytes.now) max next low words.now bytes.now result.left result.dist }
 {
-    let cap = bytes.len();
-    let mut left = 0;
-    let mut dist = 0;
     if max == 0 {
-        return LogPosition { left, dist };
+        return LogPosition { left: 0, dist: 0 };
     }
+    let cap = bytes.len();
+    let mut dist = 0;
     let mut slot = head(words, max);
     let mut bound = next;
-    while left < max {
+    for left in 0..max {
         slot = slot_before(slot, max);
-        let n = words[NUMBER + ENTRY_WORDS * slot];
-        let l = words[LENGTH + ENTRY_WORDS * slot] as usize;
-        if n < low {
+        let number = words[NUMBER + ENTRY_WORDS * slot];
+        let len = words[LENGTH + ENTRY_WORDS * slot] as usize;
+        if number < low || bound <= number || cap - dist < len {
             return LogPosition { left, dist };
         }
-        if bound <= n {
-            return LogPosition { left, dist };
-        }
-        if cap - dist < l {
-            return LogPosition { left, dist };
-        }
-        dist += l;
-        bound = n;
-        left += 1;
+        dist += len;
+        bound = number;
     }
-    LogPosition { left, dist }
+    LogPosition { left: max, dist }
 }
 
 // The slot of the i-th newest entry.
@@ -249,11 +242,8 @@ pub fn span_of(tail: usize, cap: usize, dist: usize, len: usize) -> RingSpan
 #[derive(Clone, Copy)]
 pub struct Found {
     pub number: u64,
-    pub start: usize,
-    pub first: usize,
-    pub rest: usize,
-    pub left: usize,
-    pub dist: usize,
+    pub span: RingSpan,
+    pub next: LogPosition,
 }
 
 // The next message at a place in the log of a session whose next outgoing number is next.
@@ -262,48 +252,39 @@ pub fn message_at(
     bytes: &[u8],
     max: usize,
     next: u64,
-    left: usize,
-    dist: usize,
+    position: LogPosition,
 ) -> Found
     requires max_in_bounds { 2 + 2 * max ≤ length words.now }
-    requires position { Position (length bytes.now) max next words.now bytes.now left dist }
-    requires le_left { 1 ≤ left }
-    ensures { NextMessage (length bytes.now) max next words.now bytes.now left dist result.number result.start result.first result.rest result.left result.dist }
+    requires position { Position (length bytes.now) max next words.now bytes.now position.left position.dist }
+    requires le_left { 1 ≤ position.left }
+    ensures { NextMessage (length bytes.now) max next words.now bytes.now position.left position.dist result.number result.span.start result.span.first result.span.rest result.next.left result.next.dist }
 {
     let cap = bytes.len();
-    let slot = slot_at(head(words, max), max, left);
+    let slot = slot_at(head(words, max), max, position.left);
     let number = words[NUMBER + ENTRY_WORDS * slot];
     let len = words[LENGTH + ENTRY_WORDS * slot] as usize;
-    let s = span_of(tail(words, cap), cap, dist, len);
     Found {
         number,
-        start: s.start,
-        first: s.first,
-        rest: s.rest,
-        left: left - 1,
-        dist: dist - len,
+        span: span_of(tail(words, cap), cap, position.dist, len),
+        next: LogPosition {
+            left: position.left - 1,
+            dist: position.dist - len,
+        },
     }
 }
 
 // The hash h carried over a message's number, length and bytes.
-fn hash_message(
-    hash: u64,
-    bytes: &[u8],
-    number: u64,
-    start: usize,
-    first: usize,
-    rest: usize,
-) -> u64
-    requires first_in_bounds { start + first ≤ length bytes.now }
-    requires rest_in_bounds { rest ≤ length bytes.now }
-    requires rest_in_bounds_2 { first + rest ≤ length bytes.now }
-    ensures { result ≡ fnv_message hash (msg number (take first (drop start bytes.now) ++ take rest bytes.now)) }
+fn hash_message(hash: u64, bytes: &[u8], number: u64, span: RingSpan) -> u64
+    requires first_in_bounds { span.start + span.first ≤ length bytes.now }
+    requires rest_in_bounds { span.rest ≤ length bytes.now }
+    requires rest_in_bounds_2 { span.first + span.rest ≤ length bytes.now }
+    ensures { result ≡ fnv_message hash (msg number (take span.first (drop span.start bytes.now) ++ take span.rest bytes.now)) }
 {
-    let end = start + first;
+    let end = span.start + span.first;
     let a = fnv::word(hash, number);
-    let b = fnv::word(a, (first + rest) as u64);
-    let c = fnv::bytes(b, &bytes[start..end]);
-    fnv::bytes(c, &bytes[..rest])
+    let b = fnv::word(a, (span.first + span.rest) as u64);
+    let c = fnv::bytes(b, &bytes[span.start..end]);
+    fnv::bytes(c, &bytes[..span.rest])
 }
 
 // The hash of the messages with numbers from low, the oldest first.
@@ -312,15 +293,12 @@ pub fn hash_from(words: &[u64], bytes: &[u8], max: usize, next: u64, low: u64) -
     requires le_low { 1 ≤ low }
     ensures { result ≡ fnv_messages fnv_start (numbered_from low (log_of (length bytes.now) max next words.now bytes.now)) }
 {
-    let mut hash: u64 = 0xcbf2_9ce4_8422_2325;
-    let c = messages_from(words, bytes, max, next, low);
-    let mut left = c.left;
-    let mut dist = c.dist;
-    while 0 < left {
-        let f = message_at(words, bytes, max, next, left, dist);
-        hash = hash_message(hash, bytes, f.number, f.start, f.first, f.rest);
-        left = f.left;
-        dist = f.dist;
+    let mut hash = fnv::START;
+    let mut position = messages_from(words, bytes, max, next, low);
+    while 0 < position.left {
+        let found = message_at(words, bytes, max, next, position);
+        hash = hash_message(hash, bytes, found.number, found.span);
+        position = found.next;
     }
     hash
 }
@@ -330,14 +308,8 @@ pub fn last_outgoing(words: &[u64], bytes: &[u8], max: usize, next: u64, n: u64)
     requires { 2 + 2 * max ≤ length words.now }
     ensures { result ≡ last_of next n (log_of (length bytes.now) max next words.now bytes.now) }
 {
-    if n == 0 {
+    if n == 0 || next == 1 {
         return 0;
     }
-    if next == 1 {
-        return 0;
-    }
-    if n < next {
-        return hash_from(words, bytes, max, next, next - n);
-    }
-    hash_from(words, bytes, max, next, 1)
+    hash_from(words, bytes, max, next, next.saturating_sub(n).max(1))
 }

@@ -1,15 +1,13 @@
 -- Comparing texts; the key and the session of a new place. Assumes nothing.
-use mathlib.Core.Path.{◌≡◌, refl, sym, ap, ◌∙◌}
-use mathlib.Core.Bool.{Bool, true, false, ◌&&◌, and-false}
+use mathlib.Core.Path.{◌≡◌, refl, ap, ◌∙◌}
+use mathlib.Core.Bool.{Bool, ◌&&◌, and-false}
 use mathlib.Core.Logic.{inl}
 use mathlib.Core.List.{List, [], ◌∷◌}
-use Prim.Native.Nat.{ℕ, suc, ◌+◌, ◌-◌, ◌≤◌, ◌<◌, min}
+use Prim.Native.Nat.{ℕ, ◌≤◌}
 use native.Mathlib.Omega.{arith}
-use native.Mathlib.Numerals.{add-one}
-use borrow.Author.Tests.{eq-eqb, ne_eqb}
 use lib.Dec.{eqb}
-use lib.ListN.{length, take, drop, get_or, set, drop_of_length-le}
-use lib.Seq.{drop-cons}
+use Rattle.std.specs.Cmp.Lexicographic.{pointwise}
+use lib.ListN.{length, set}
 use Rattle.model_frame.specs.Frame.{Key, reset}
 use Rattle.model_session.specs.Session.{new_session, apply}
 use Rattle.model_standby.specs.Store.{same_bytes, on_stored, changed, new_place}
@@ -19,43 +17,15 @@ use Rattle.store_place.proofs.Fields.{field_kept}
 
 -- ---- two texts
 
-pub differ : (a b : List ℕ) → (length a ≡ length b → ⊥) → false ≡ same_bytes a b
-differ [] [] ne = absurd (ne refl)
-differ [] (y ∷ b) ne = refl
-differ (x ∷ a) [] ne = refl
-differ (x ∷ a) (y ∷ b) ne = sym (and-false (eqb x y)) ∙ ap (λ (t : Bool). eqb x y && t) (differ a b (λ e. ne (ap suc e)))
+-- `==` of two slices
+pub same_is : (a b : List ℕ) → pointwise eqb a b ≡ same_bytes a b
+same_is [] [] = refl
+same_is [] (y ∷ b) = refl
+same_is (x ∷ a) [] = refl
+same_is (x ∷ a) (y ∷ b) = ap (λ (t : Bool). eqb x y && t) (same_is a b)
 
-pub record Comparing (a b : List ℕ) (i : ℕ) : Type 0 where
-  pub upto : i ≤ length a
-  pub same : length a ≡ length b
-  pub is : same_bytes a b ≡ same_bytes (drop i a) (drop i b)
-
-module _ (a b : List ℕ) (i : ℕ) (c : Comparing a b i) where
-  more : i < length a → same_bytes a b ≡ (eqb (get_or a i 0) (get_or b i 0) && same_bytes (drop (suc i) a) (drop (suc i) b))
-  more h =
-      let g : i < length b = omega (arith, c.same) in
-      c.is ∙ (λ j. same_bytes (drop-cons a i 0 h j) (drop-cons b i 0 g j))
-
-  pub other : i < length a → (get_or a i 0 ≡ get_or b i 0 → ⊥) → false ≡ same_bytes a b
-  other h ne = sym (more h ∙ simp (ne_eqb (get_or a i 0) (get_or b i 0) ne))
-
-  pub equal : i < length a → get_or a i 0 ≡ get_or b i 0 → Comparing a b (i + 1)
-  equal h e = record {
-    upto = omega arith;
-    same = c.same;
-    is = more h ∙ simp (eq-eqb (get_or a i 0) (get_or b i 0) e) (ap (λ (k : ℕ). same_bytes (drop k a) (drop k b)) (sym (add-one i)));
-  }
-
-  pub all_equal : length a ≤ i → true ≡ same_bytes a b
-  all_equal h =
-      let g : length b ≤ i = omega (arith, c.same) in
-      sym (c.is ∙ (λ j. same_bytes (drop_of_length-le a h j) (drop_of_length-le b g j)))
-
-pub field_same : (x b : List ℕ) (at n k : ℕ) (r : Bool) → k ≡ min n 32 → r ≡ same_bytes x (take (at + k - at) (drop at b)) → r ≡ same_bytes x (field b at 32 n)
-unfolding field
-field_same x b at n k r ek e =
-    let z : at + k - at ≡ min n 32 = omega arith in
-    e ∙ ap (λ (j : ℕ). same_bytes x (take j (drop at b))) z
+pub field_same : (x y f : List ℕ) (r : Bool) → y ≡ f → r ≡ pointwise eqb x y → r ≡ same_bytes x f
+field_same x y f r ey e = e ∙ same_is x y ∙ ap (same_bytes x) ey
 
 -- ---- a new place
 

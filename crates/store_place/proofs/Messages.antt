@@ -49,13 +49,14 @@ module _ (C M : ℕ) (w b : List ℕ) (lb : length b ≡ 224 + C) (next : ℕ) (
   stands_out left dist s = moved (λ c n v r. Position c M n v r left dist) (sym ring_length) (sym en) (sym ew) (sym eb) s
 
   pub read_in : (left dist number start first rest left' dist' : ℕ) → NextMessage (length mb) M next mw mb left dist number start first rest left' dist'
-      → NextMessageIn C M w b left dist number (224 + start) first rest left' dist'
+      → NextMessageIn C M w b left dist number (start + 224) first rest left' dist'
   unfolding PositionIn rest_in
   read_in left dist number start first rest left' dist' f =
       let g : NextMessage C M (next_out_of w) (drop 14 w) (drop 224 b) left dist number start first rest left' dist' =
       moved (λ c n v r. NextMessage c M n v r left dist number start first rest left' dist') ring_length en ew eb f in
+      let e : 224 + start ≡ start + 224 = omega arith in
       record {
-        is = g.is ∙ ap (λ (l : List ℕ). msg number (take first l ++ take rest (drop 224 b)) ∷ rest_of C M (next_out_of w) (drop 14 w) (drop 224 b) left') (drop-drop start 224 b);
+        is = g.is ∙ ap (λ (l : List ℕ). msg number (take first l ++ take rest (drop 224 b)) ∷ rest_of C M (next_out_of w) (drop 14 w) (drop 224 b) left') (drop-drop start 224 b ∙ ap (λ (k : ℕ). drop k b) e);
         stands = g.stands;
         inside = omega (arith, g.inside);
         front = g.front;

@@ -37,14 +37,11 @@ module _ (b : List ℕ) (n : ℕ) (h : 224 ≤ length b) (k : n ≤ 64) where
   pub marks_long : length (take n l) ≡ n
   marks_long = length-take-le n l (omega (arith, room))
 
-  pub no_b : n ≡ 0 → false ≡ ends_in_b (take n l)
-  no_b e = sym (simp (le-ltb 0 (length (take n l)) (omega (arith, marks_long))))
-
-  pub last_b : (n ≡ 0 → ⊥) → eqb (get_or b (159 + n) 0) 66 ≡ ends_in_b (take n l)
+  pub last_b : 0 < n → eqb (get_or b (160 + n - 1) 0) 66 ≡ ends_in_b (take n l)
   last_b ne =
       let p : length (take n l) - 1 ≡ n - 1 = omega (arith, marks_long) in
-      let q : 160 + (n - 1) ≡ 159 + n = omega arith in
-      let e : get_or (take n l) (length (take n l) - 1) 0 ≡ get_or b (159 + n) 0 =
+      let q : 160 + (n - 1) ≡ 160 + n - 1 = omega arith in
+      let e : get_or (take n l) (length (take n l) - 1) 0 ≡ get_or b (160 + n - 1) 0 =
       ap (λ (j : ℕ). get_or (take n l) j 0) p ∙ get_or-take n l (n - 1) 0 (omega arith) ∙ get_or-drop 160 b (n - 1) 0 ∙ ap (λ (j : ℕ). get_or b j 0) q in
       sym (simp (lt-ltb 0 (length (take n l)) (omega (arith, marks_long))) (ap (λ (x : ℕ). eqb x 66) e))
 

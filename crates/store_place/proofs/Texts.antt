@@ -1,25 +1,41 @@
 -- Texts that count only if they are valid. Assumes nothing.
-use mathlib.Core.Path.{◌≡◌, sym, ap, ◌∙◌}
+use mathlib.Core.Path.{◌≡◌, refl, sym, ap, ◌∙◌}
 use mathlib.Core.Bool.{Bool, true, false, cond}
-use mathlib.Core.List.{List, []}
-use Prim.Native.Nat.{ℕ, ◌+◌, ◌-◌, min}
+use mathlib.Core.List.{List, [], ◌∷◌}
+use Prim.Native.Nat.{ℕ, zero, suc, ◌+◌, ◌-◌, ◌≤◌, min}
 use native.Mathlib.Omega.{arith}
-use lib.ListN.{take, drop}
+use lib.ListN.{length, take, drop, length-take}
 use Rattle.store_place.specs.Place.{field}
 
 abbrev pub or_none : Bool → List ℕ → List ℕ
 or_none t l = cond t l []
 
-module _ (valid : List ℕ → Bool) (b : List ℕ) (at size n k : ℕ) (t : Bool) (ek : k ≡ min n size) (et : t ≡ valid (take (at + k - at) (drop at b))) where
-  judged : t ≡ valid (field b at size n)
-  unfolding field
-  judged =
-      let e : at + k - at ≡ min n size = omega arith in
-      et ∙ ap (λ (j : ℕ). valid (take j (drop at b))) e
+pub field_is : (b : List ℕ) (at size n k : ℕ) → k ≡ min n size → take (at + k - at) (drop at b) ≡ field b at size n
+unfolding field
+field_is b at size n k ek =
+    let e : at + k - at ≡ min n size = omega arith in
+    ap (λ (j : ℕ). take j (drop at b)) e
 
-  pub valid_text : t ≡ true → take k (drop at b) ≡ or_none (valid (field b at size n)) (field b at size n)
+take_taken : (k : ℕ) (l : List ℕ) → take (length (take k l)) l ≡ take k l
+take_taken zero l = refl
+take_taken (suc k) [] = refl
+take_taken (suc k) (x ∷ l) = ap (λ (t : List ℕ). x ∷ t) (take_taken k l)
+
+pub field_length : (b : List ℕ) (at size n : ℕ) (x : List ℕ) → x ≡ field b at size n → length x ≤ size
+unfolding field
+field_length b at size n x e =
+    let long : length x ≡ length (take (min n size) (drop at b)) = ap length e in
+    omega (arith, long, length-take (min n size) (drop at b))
+
+module _ (valid : List ℕ → Bool) (b : List ℕ) (at size n : ℕ) (x : List ℕ) (t : Bool) (ex : x ≡ field b at size n) (et : t ≡ valid x) where
+  judged : t ≡ valid (field b at size n)
+  judged = et ∙ ap valid ex
+
+  pub valid_text : t ≡ true → take (length x) (drop at b) ≡ or_none (valid (field b at size n)) (field b at size n)
   unfolding field
-  valid_text h = ap (λ (j : ℕ). take j (drop at b)) ek ∙ sym (ap (λ (v : Bool). or_none v (take (min n size) (drop at b))) (sym judged ∙ h))
+  valid_text h =
+      ap (λ (l : List ℕ). take (length l) (drop at b)) ex ∙ take_taken (min n size) (drop at b)
+      ∙ sym (ap (λ (v : Bool). or_none v (take (min n size) (drop at b))) (sym judged ∙ h))
 
   pub no_text : t ≡ false → [] ≡ or_none (valid (field b at size n)) (field b at size n)
   no_text h = sym (ap (λ (v : Bool). or_none v (field b at size n)) (sym judged ∙ h))

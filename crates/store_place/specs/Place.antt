@@ -2,7 +2,8 @@
 -- Words: 0 next outgoing, 1 next incoming, 2 whether a number is in flight, 3 that number, 4 durable, 5 and 6 the lengths of stamp and marks,
 -- 7 to 10 those of the key's texts, 11 to 13 spare; from 14 on the log's (head, tail, entries).
 -- Bytes: 0, 32, 64 and 96 the key's texts, 128 the stamp, 160 the marks; from 224 on the ring. Assumes nothing.
-use Rattle.std.specs.Prelude.{◌≡◌, ℕ, ◌+◌, ◌-◌, ◌≤◌, min, max, Bool, cond, not, ◌&&◌, List, [], ◌∷◌, ◌++◌, length, take, drop, get_or, eqb, ltb}
+use Rattle.std.specs.Prelude as prelude
+use Rattle.std.specs.Prelude.{None, Some, ◌≡◌, ℕ, ◌+◌, ◌-◌, ◌≤◌, min, max, Bool, cond, not, ◌&&◌, List, [], ◌∷◌, ◌++◌, length, take, drop, get_or, eqb, ltb}
 use Rattle.std.proofs.Math.Option.{Option, none, some}
 use Rattle.model_text.specs.Printable.{is_marks}
 use Rattle.model_text.specs.Stamp.{is_stamp}
@@ -13,8 +14,6 @@ use Rattle.model_standby.specs.Store.{Place}
 use Rattle.store_log.specs.Log.{msg, log_of, rest_of, Position}
 use Rattle.store_place.specs.PlaceByte
 use Rattle.store_place.specs.PlaceWord
-use Rattle.store_place.specs.declared.Flight.{Flight}
-use Rattle.store_place.specs.declared.Flight.TheVariants.{Nothing, Number}
 use Rattle.store_place.specs.Only.{Only}
 
 -- a next outgoing number 0 counts as 1
@@ -91,9 +90,9 @@ pub record NextMessageIn (C M : ℕ) (w b : List ℕ) (left dist number start fi
 -- ---- answers
 
 -- what `in_flight` answers
-abbrev pub flight_is : Flight → Option ℕ
-flight_is Nothing = none
-flight_is (Number n) = some n
+abbrev pub flight_is : prelude.Option ℕ → Option ℕ
+flight_is None = none
+flight_is (Some n) = some n
 
 -- the test of `with_b`
 abbrev pub ends_in_b : List ℕ → Bool

@@ -65,17 +65,8 @@ pub mod byte {
     pub const MARKS_SIZE: usize = 64;
 }
 
-// The byte before the marks, and their last.
-const BEFORE_MARKS: usize = byte::MARKS - 1;
-
+// The last byte of the marks.
 const LAST_MARK: usize = byte::RING - 1;
-
-// A number that is in flight.
-#[derive(Clone, Copy)]
-pub enum Flight {
-    Nothing,
-    Number(u64),
-}
 
 // ---- reading
 
@@ -83,11 +74,7 @@ pub fn next_outgoing(words: &[u64]) -> u64
     requires { 16 ≤ length words.now }
     ensures { result ≡ next_out_of words.now }
 {
-    if words[word::NEXT_OUTGOING] < 1 {
-        1
-    } else {
-        words[word::NEXT_OUTGOING]
-    }
+    words[word::NEXT_OUTGOING].max(1)
 }
 
 pub fn next_incoming(words: &[u64]) -> u64
@@ -97,14 +84,15 @@ pub fn next_incoming(words: &[u64]) -> u64
     words[word::NEXT_INCOMING]
 }
 
-pub fn in_flight(words: &[u64]) -> Flight
+pub fn in_flight(words: &[u64]) -> Option<u64>
     requires { 16 ≤ length words.now }
     ensures { flight_is result ≡ stored_flight words.now }
 {
     if words[word::HAS_IN_FLIGHT] == 0 {
-        return Flight::Nothing;
+        None
+    } else {
+        Some(words[word::IN_FLIGHT])
     }
-    Flight::Number(words[word::IN_FLIGHT])
 }
 
 pub fn durable(words: &[u64]) -> bool
@@ -114,11 +102,13 @@ pub fn durable(words: &[u64]) -> bool
     words[word::DURABLE] != 0
 }
 
-// A length, cut to its field.
-fn cut(n: u64, size: usize) -> usize
-    ensures { result ≡ min n size }
+// The text of n bytes in the field of size bytes at `at`; a length beyond the field is cut.
+fn field(bytes: &[u8], at: usize, size: usize, n: u64) -> &[u8]
+    requires { at + size ≤ length bytes.now }
+    ensures { result.now ≡ field bytes.now at size n }
 {
-    if n <= size as u64 { n as usize } else { size }
+    let end = at + n.min(size as u64) as usize;
+    &bytes[at..end]
 }
 
 // The length of the stamp at 128; 0 for none.
@@ -128,10 +118,9 @@ pub fn stamp_len(words: &[u64], bytes: &[u8]) -> usize
     ensures within { result ≤ 32 }
     ensures is { take result (drop 128 bytes.now) ≡ stamp_of words.now bytes.now }
 {
-    let n = cut(words[word::STAMP_LEN], byte::STAMP_SIZE);
-    let end = byte::STAMP + n;
-    if frame_stamp::is_stamp(&bytes[byte::STAMP..end]) {
-        n
+    let stamp = field(bytes, byte::STAMP, byte::STAMP_SIZE, words[word::STAMP_LEN]);
+    if frame_stamp::is_stamp(stamp) {
+        stamp.len()
     } else {
         0
     }
@@ -144,10 +133,9 @@ pub fn marks_len(words: &[u64], bytes: &[u8]) -> usize
     ensures within { result ≤ 64 }
     ensures is { take result (drop 160 bytes.now) ≡ marks_of words.now bytes.now }
 {
-    let n = cut(words[word::MARKS_LEN], byte::MARKS_SIZE);
-    let end = byte::MARKS + n;
-    if frame_stamp::is_marks(&bytes[byte::MARKS..end]) {
-        n
+    let marks = field(bytes, byte::MARKS, byte::MARKS_SIZE, words[word::MARKS_LEN]);
+    if frame_stamp::is_marks(marks) {
+        marks.len()
     } else {
         0
     }
@@ -261,27 +249,13 @@ pub fn set_marks(words: &mut [u64], bytes: &mut [u8], text: &[u8])
 
 // ---- promotion
 
-// next + lag, but at most 2^64 - 1.
-fn skipped(next: u64, lag: u64) -> u64
-    ensures { result ≡ min (next + lag) 18446744073709551615 }
-{
-    if lag <= u64::MAX - next {
-        next + lag
-    } else {
-        u64::MAX
-    }
-}
-
 // Whether the n bytes of marks at 160 have a final B.
 fn ends_in_b(bytes: &[u8], n: usize) -> bool
     requires in_bounds { 224 ≤ length bytes.now }
     requires n_bound { n ≤ 64 }
     ensures { result ≡ ends_in_b (take n (drop 160 bytes.now)) }
 {
-    if n == 0 {
-        return false;
-    }
-    bytes[BEFORE_MARKS + n] == b'B'
+    0 < n && bytes[byte::MARKS + n - 1] == b'B'
 }
 
 // Gives the n bytes of marks at 160 a final B, and answers how many there are then.
@@ -313,7 +287,7 @@ pub fn take_over(words: &mut [u64], bytes: &mut [u8], max: usize, lag: u64)
     let n = marks_len(words, bytes);
     let end = put_b(bytes, n);
     store_log::discard_stale(&mut words[word::LOG..], max, next);
-    words[word::NEXT_OUTGOING] = skipped(next, lag);
+    words[word::NEXT_OUTGOING] = next.saturating_add(lag);
     words[word::MARKS_LEN] = end as u64;
     words[word::DURABLE] = 1;
 }
@@ -349,30 +323,12 @@ pub fn new_session(
     reset(words, max);
 }
 
-// Whether two texts are the same.
-fn same_bytes(a: &[u8], b: &[u8]) -> bool
-    ensures { result ≡ same_bytes a.now b.now }
-{
-    if a.len() != b.len() {
-        return false;
-    }
-    let mut i = 0;
-    while i < a.len() {
-        if a[i] != b[i] {
-            return false;
-        }
-        i += 1;
-    }
-    true
-}
-
 // Whether the key's text at `at`, whose length is n, is this one.
 fn same_field(bytes: &[u8], at: usize, n: u64, text: &[u8]) -> bool
     requires { at + 32 ≤ length bytes.now }
     ensures { result ≡ same_bytes text.now (field bytes.now at 32 n) }
 {
-    let end = at + cut(n, byte::KEY_TEXT_SIZE);
-    same_bytes(text, &bytes[at..end])
+    text == field(bytes, at, byte::KEY_TEXT_SIZE, n)
 }
 
 // Whether the place has this key.
@@ -418,28 +374,21 @@ pub fn messages_from(words: &[u64], bytes: &[u8], max: usize, low: u64) -> LogPo
 }
 
 // The next message at a place in the log.
-pub fn message_at(words: &[u64], bytes: &[u8], max: usize, left: usize, dist: usize) -> Found
+pub fn message_at(words: &[u64], bytes: &[u8], max: usize, position: LogPosition) -> Found
     requires max_in_bounds { 16 + 2 * max ≤ length words.now }
     requires in_bounds { 224 ≤ length bytes.now }
-    requires position_in { PositionIn (length bytes.now - 224) max words.now bytes.now left dist }
-    requires le_left { 1 ≤ left }
-    ensures { (C : ℕ) → length bytes.now ≡ 224 + C → NextMessageIn C max words.now bytes.now left dist result.number result.start result.first result.rest result.left result.dist }
+    requires position_in { PositionIn (length bytes.now - 224) max words.now bytes.now position.left position.dist }
+    requires le_left { 1 ≤ position.left }
+    ensures { (C : ℕ) → length bytes.now ≡ 224 + C → NextMessageIn C max words.now bytes.now position.left position.dist result.number result.span.start result.span.first result.span.rest result.next.left result.next.dist }
 {
     let next = next_outgoing(words);
-    let f = store_log::message_at(
+    let mut found = store_log::message_at(
         &words[word::LOG..],
         &bytes[byte::RING..],
         max,
         next,
-        left,
-        dist,
+        position,
     );
-    Found {
-        number: f.number,
-        start: byte::RING + f.start,
-        first: f.first,
-        rest: f.rest,
-        left: f.left,
-        dist: f.dist,
-    }
+    found.span.start += byte::RING;
+    found
 }

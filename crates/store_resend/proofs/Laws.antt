@@ -1,6 +1,6 @@
 -- The loops over the ranges, and the set that stays. Assumes nothing.
 use mathlib.Core.Path.{◌≡◌, refl, sym, ap, subst, ◌∙◌}
-use mathlib.Core.Bool.{Bool, true, false, cond, not, ◌&&◌, ◌||◌, true≢false}
+use mathlib.Core.Bool.{Bool, true, false, cond, ◌&&◌, ◌||◌}
 use mathlib.Core.List.{List, [], ◌∷◌}
 use Prim.Native.Nat.{ℕ, zero, suc, ◌+◌, ◌*◌, ◌-◌, ◌≤◌, ◌<◌, min}
 use native.Mathlib.Omega.{arith}
@@ -8,11 +8,10 @@ use native.Mathlib.Numerals.{add-one}
 use native.Mathlib.Nat.{sub-zero}
 use lib.ListN.{length, get_or}
 use lib.Dec.{leb, ltb, eqb}
-use borrow.Author.Tests.{lt-ltb, le-ltb, ltb-true, ltb-false, le-leb, lt-leb, leb-true, leb-false, eq-eqb, ne_eqb, not-true, not-false}
+use borrow.Author.Tests.{ltb-true, ltb-false, le-leb, lt-leb, leb-true, leb-false}
 use Rattle.model_resend.specs.Resend.{Range, is_range, are_ranges, lies, set_of}
 use Rattle.model_resend.proofs.Sets.{fits_63}
-use Rattle.store_resend.specs.Ranges.{range_at, ranges_from, top, stays, until, lowest_of, Keeps, Serves}
-use Rattle.store_resend.specs.declared.Kept.{Kept}
+use Rattle.store_resend.specs.Ranges.{range_at, ranges_from, top, stays, until, lowest_of, Serves}
 
 -- ---- the set stays up to `until`
 
@@ -152,37 +151,3 @@ module _ (w : List ℕ) (count : ℕ) where
   judge_end j end g =
       let e : count - j ≡ 0 = omega arith in
       sym (g.left ∙ rw e refl)
-
--- ---- one range
-
-module _ (r : Range) (n : ℕ) where
-  pub stays_before : n < r.first → r.first - 1 ≡ stays r n
-  stays_before h =
-      let t : ltb n r.first ≡ true = lt-ltb n r.first h in
-      rw t refl
-
-  pub stays_open : r.first ≤ n → r.last ≡ 0 → top ≡ stays r n
-  stays_open h z =
-      let t : ltb n r.first ≡ false = le-ltb n r.first h in
-      let u : eqb r.last 0 ≡ true = eq-eqb r.last 0 z in
-      rw (t, u) refl
-
-  pub stays_in : r.first ≤ n → (r.last ≡ 0 → ⊥) → n ≤ r.last → r.last ≡ stays r n
-  stays_in h z l =
-      let t : ltb n r.first ≡ false = le-ltb n r.first h in
-      let u : eqb r.last 0 ≡ false = ne_eqb r.last 0 z in
-      let v : leb n r.last ≡ true = le-leb n r.last l in
-      rw (t, u, v) refl
-
-  pub stays_past : r.first ≤ n → (r.last ≡ 0 → ⊥) → r.last < n → top ≡ stays r n
-  stays_past h z l =
-      let t : ltb n r.first ≡ false = le-ltb n r.first h in
-      let u : eqb r.last 0 ≡ false = ne_eqb r.last 0 z in
-      let v : leb n r.last ≡ false = lt-leb n r.last l in
-      rw (t, u, v) refl
-
-pub bit_one : (b : Bool) (set : ℕ) → b ≡ true → 2 * set + 1 ≡ cond b 1 0 + 2 * set
-bit_one b set t = rw t (omega arith)
-
-pub bit_none : (b : Bool) (set : ℕ) → b ≡ false → 2 * set ≡ cond b 1 0 + 2 * set
-bit_none b set f = rw f (omega arith)

@@ -2,23 +2,23 @@
 use mathlib.Core.Path.{◌≡◌, refl, sym, ap, subst, ◌∙◌}
 use mathlib.Core.Bool.{Bool, true, false, cond, not, ◌&&◌, ◌||◌, true≢false}
 use mathlib.Core.List.{List, [], ◌∷◌, ◌++◌, map, reverse, append_assoc, append-nil}
-use Prim.Native.Nat.{ℕ, zero, suc, ◌+◌, ◌*◌, ◌-◌, ◌/◌, ◌%◌, ◌≤◌, ◌<◌}
+use Prim.Native.Nat.{ℕ, suc, ◌+◌, ◌*◌, ◌-◌, ◌/◌, ◌%◌, ◌≤◌, ◌<◌}
 use native.Mathlib.Omega.{arith}
-use lib.ListN.{length, get_or, set, take, drop, length-append, length-drop, length-map, length-take, length-reverse}
+use lib.ListN.{length, set, take, drop, length-append, length-drop, length-map, length-take, length-reverse}
 use lib.Seq.{sets, sets-eq, length-sets, length-take-le, take_at, drop_at, drop-drop}
-use lib.Dec.{leb, ltb, eqb}
-use borrow.Author.Tests.{le-leb, lt-leb, leb-true, leb-false, eq-eqb, ne_eqb, eqb-true, eqb-false, ltb-false}
+use lib.Dec.{leb, eqb}
+use borrow.Author.Tests.{le-leb, lt-leb, leb-true, leb-false, eq-eqb, ne_eqb}
 use Rattle.model_session.specs.Session.{Msg, stored_bytes}
 use Rattle.model_session.specs.Summary.{numbered_from}
-use Rattle.model_resend.specs.Resend.{Range, is_range, are_ranges, lies, lies_in_some, Served, serve, set_of, listed, served, refusal_of}
+use Rattle.model_resend.specs.Resend.{Range, is_range, are_ranges, lies_in_some, Served, serve, set_of, listed, served, refusal_of}
 use Rattle.model_resend.proofs.Sets.{empty_so}
-use Rattle.store_log.specs.Log.{msg, newest_first, rest_of, Position}
+use Rattle.store_log.specs.Log.{msg, newest_first, rest_of}
 use Rattle.store_place.specs.Place.{next_out_of, rest_in, PositionIn}
 use Rattle.store_areas.specs.declared.Shape.{Shape}
-use Rattle.store_areas.specs.Areas.{in_use, place_at, slice, words_at, place_words, bytes_at, place_bytes}
+use Rattle.store_areas.specs.Areas.{in_use, slice, words_at, place_words, bytes_at, place_bytes}
 use Rattle.store_sessions.specs.declared.Message.{Message}
 use Rattle.store_sessions.specs.Answers.{rest_at, PositionAt, FromAt, NextMessageAt}
-use Rattle.store_resend.specs.Ranges.{ranges_from, ranges_of, messages_at, Keeps, Serves, Counts, Adds, ListEntry, entry_words, words_of, served_at, is_inside, all_inside, Written, entry_of, entered, HasRoom, Fills, Lists, lowest_of, top}
+use Rattle.store_resend.specs.Ranges.{ranges_of, messages_at, Keeps, Serves, Counts, Adds, ListEntry, entry_words, words_of, served_at, is_inside, all_inside, Written, entry_of, entered, HasRoom, Fills, Lists, lowest_of}
 use Rattle.store_resend.specs.Passes.{Counting, Filling, Begun, Carries, PassesOver}
 use Rattle.store_resend.specs.declared.Kept.{Kept}
 use Rattle.store_resend.specs.declared.Tally.{Tally}
@@ -36,18 +36,13 @@ adds_none set size t z =
     let e : eqb set 0 ≡ true = eq-eqb set 0 z in
     record { many = rw e refl; sum = rw e refl }
 
-pub adds_one : (set size : ℕ) (t : Tally) → (set ≡ 0 → ⊥) → Adds set size t (record { length = t.length + 1; bytes = t.bytes + size })
-adds_one set size t z =
-    let e : eqb set 0 ≡ false = ne_eqb set 0 z in
-    record { many = rw e refl; sum = rw e refl }
-
 pub enters_none : (n x : ℕ) (m : Message) (l : List ℕ) → x ≡ 0 → l ≡ entered n x m l
 enters_none n x m l z =
     let e : eqb x 0 ≡ true = eq-eqb x 0 z in
     rw e refl
 
 pub enters_one : (n x : ℕ) (m : Message) (l : List ℕ) → (x ≡ 0 → ⊥)
-    → set (set (set (set (set (set l (6 * n) m.number) (6 * n + 1) x) (6 * n + 2) m.first_at) (6 * n + 3) m.first_len) (6 * n + 4) m.second_at) (6 * n + 5) m.second_len ≡ entered n x m l
+    → set (set (set (set (set (set l (6 * n) m.number) (6 * n + 1) x) (6 * n + 2) m.first.at) (6 * n + 3) m.first.len) (6 * n + 4) m.second.at) (6 * n + 5) m.second.len ≡ entered n x m l
 enters_one n x m l z =
     let e : eqb x 0 ≡ false = ne_eqb x 0 z in
     let e1 : 6 * n + 1 ≡ suc (6 * n) = omega arith in
@@ -199,9 +194,9 @@ module _ (s : Shape) (w b : List ℕ) (i : ℕ) (rs : List Range) (first back : 
       no : (m : ℕ) → 1 ≤ m → m ≤ 0 → ⊥
       no m low high = omega arith
 
-  module _ {old : List ℕ} {left dist n left' dist' : ℕ} {k k' : Kept} {new : List ℕ} (m : Message) (g : Filling s w b i rs first back old left dist n k new) (p : NextMessageAt s w b i left dist m.number m.first_at m.first_len m.second_at m.second_len left' dist') (e : Serves rs m.number k') where
+  module _ {old : List ℕ} {left dist n left' dist' : ℕ} {k k' : Kept} {new : List ℕ} (m : Message) (g : Filling s w b i rs first back old left dist n k new) (p : NextMessageAt s w b i left dist m.number m.first.at m.first.len m.second.at m.second.len left' dist') (e : Serves rs m.number k') where
     abbrev text : List ℕ
-    text = take m.first_len (drop m.first_at b) ++ take m.second_len (drop m.second_at b)
+    text = take m.first.len (drop m.first.at b) ++ take m.second.len (drop m.second.at b)
 
     abbrev own : ListEntry
     own = entry_of k'.set m
@@ -259,10 +254,10 @@ module _ (s : Shape) (w b : List ℕ) (i : ℕ) (rs : List Range) (first back : 
                   ∙ one_more old g.entries own fits;
             }
           where
-            inside_so : m.first_at + m.first_len ≤ length b → m.second_at + m.second_len ≤ length b → is_inside b own ≡ true
+            inside_so : m.first.at + m.first.len ≤ length b → m.second.at + m.second.len ≤ length b → is_inside b own ≡ true
             inside_so x y =
-                let u : leb (m.first_at + m.first_len) (length b) ≡ true = le-leb (m.first_at + m.first_len) (length b) x in
-                let v : leb (m.second_at + m.second_len) (length b) ≡ true = le-leb (m.second_at + m.second_len) (length b) y in
+                let u : leb (m.first.at + m.first.len) (length b) ≡ true = le-leb (m.first.at + m.first.len) (length b) x in
+                let v : leb (m.second.at + m.second.len) (length b) ≡ true = le-leb (m.second.at + m.second.len) (length b) y in
                 rw (u, v) refl
 
   pub fill_ends : {old : List ℕ} {left dist n : ℕ} {k : Kept} {new : List ℕ} → left ≤ 0 → Filling s w b i rs first back old left dist n k new → Written rs b (still first) old new
@@ -289,7 +284,7 @@ module _ (s : Shape) (w b : List ℕ) (i first back : ℕ) (t : Tally) (old : Li
       subst (λ (u : Tally). Carries s w b i k first back t old first back u old) (λ j. record { length = e j; bytes = none j }) carry_starts
 
   module _ {left dist : ℕ} {u : Tally} {new : List ℕ} (m : Message) (c : Carries s w b i k first back t old left dist u new)
-      (p : NextMessageAt s w b i left dist m.number m.first_at m.first_len m.second_at m.second_len m.left m.dist) (low : k.base ≤ m.number) (high : m.number ≤ k.until) where
+      (p : NextMessageAt s w b i left dist m.number m.first.at m.first.len m.second.at m.second.len m.next.left m.next.dist) (low : k.base ≤ m.number) (high : m.number ≤ k.until) where
     serves : (rs : List Range) → Keeps rs k → Serves rs m.number k
     serves rs same = record { same = same; from = low; upto = high }
 
@@ -298,7 +293,7 @@ module _ (s : Shape) (w b : List ℕ) (i first back : ℕ) (t : Tally) (old : Li
         let h = c.fills g.rs g.first g.back g.old g.fits g.filling in
         room s w b i g.rs g.first g.back m h p (serves g.rs h.keeps) g.fits
 
-    pub carries_on : (v : Tally) (new' : List ℕ) → Adds k.set (m.first_len + m.second_len) u v → new' ≡ entered u.length k.set m new → Carries s w b i k first back t old m.left m.dist v new'
+    pub carries_on : (v : Tally) (new' : List ℕ) → Adds k.set (m.first.len + m.second.len) u v → new' ≡ entered u.length k.set m new → Carries s w b i k first back t old m.next.left m.next.dist v new'
     carries_on v new' a e = record {
       fewer = omega (arith, c.fewer, p.fewer);
       nearer = omega (arith, c.nearer, p.nearer);
@@ -312,15 +307,15 @@ module _ (s : Shape) (w b : List ℕ) (i first back : ℕ) (t : Tally) (old : Li
 
     -- the set isn't empty: an entry more; its bytes are those that were read
     pub follows_on : (new' : List ℕ) (before : ℕ) → (k.set ≡ 0 → ⊥) → u.bytes ≡ before + (back - dist) → new' ≡ entered u.length k.set m new
-        → Carries s w b i k first back t old m.left m.dist (record { length = u.length + 1; bytes = before + (back - m.dist) }) new'
+        → Carries s w b i k first back t old m.next.left m.next.dist (record { length = u.length + 1; bytes = before + (back - m.next.dist) }) new'
     follows_on new' before some e q =
         let z : eqb k.set 0 ≡ false = ne_eqb k.set 0 some in
-        let sum : before + (back - m.dist) ≡ u.bytes + (m.first_len + m.second_len) = omega (arith, e, c.nearer, p.nearer) in
-        carries_on (record { length = u.length + 1; bytes = before + (back - m.dist) }) new' (record { many = rw z refl; sum = sum ∙ rw z refl }) q
+        let sum : before + (back - m.next.dist) ≡ u.bytes + (m.first.len + m.second.len) = omega (arith, e, c.nearer, p.nearer) in
+        carries_on (record { length = u.length + 1; bytes = before + (back - m.next.dist) }) new' (record { many = rw z refl; sum = sum ∙ rw z refl }) q
 
     -- it is empty: the message is passed over
-    pub passes_on : k.set ≡ 0 → Carries s w b i k first back t old m.left m.dist u new
-    passes_on none = carries_on u new (adds_none k.set (m.first_len + m.second_len) u none) (enters_none u.length k.set m new none)
+    pub passes_on : k.set ≡ 0 → Carries s w b i k first back t old m.next.left m.next.dist u new
+    passes_on none = carries_on u new (adds_none k.set (m.first.len + m.second.len) u none) (enters_none u.length k.set m new none)
 
 -- where a listing that goes on stands
 pub stands_there : (s : Shape) (w b : List ℕ) (i first back : ℕ) (t : Tally) (old : List ℕ) (k : Kept) {left dist : ℕ} {u : Tally} {new : List ℕ} → Begun s w b i first back t k old → Carries s w b i k first back t old left dist u new → PositionAt s w b i left dist
@@ -336,8 +331,8 @@ module _ (s : Shape) (w b : List ℕ) (i first back : ℕ) (k : Kept) where
   over_starts p = record { stands = p; carries = λ t l. carry_starts s w b i first back t l k }
 
   pub over_on : {left dist : ℕ} (m : Message) → PassesOver s w b i k first back left dist
-      → NextMessageAt s w b i left dist m.number m.first_at m.first_len m.second_at m.second_len m.left m.dist → k.base ≤ m.number → m.number ≤ k.until → k.set ≡ 0
-      → PassesOver s w b i k first back m.left m.dist
+      → NextMessageAt s w b i left dist m.number m.first.at m.first.len m.second.at m.second.len m.next.left m.next.dist → k.base ≤ m.number → m.number ≤ k.until → k.set ≡ 0
+      → PassesOver s w b i k first back m.next.left m.next.dist
   over_on m g p low high none = record { stands = p.stands; carries = λ t l. passes_on s w b i first back t l k m (g.carries t l) p low high none }
 
 -- ---- the listing
@@ -386,9 +381,6 @@ rest_few s w b i left =
 
 pub room_all : (s : Shape) (w b : List ℕ) (i left room : ℕ) (rs : List Range) → left ≤ room → true ≡ leb (length (listed rs (rest_at s w b i left))) room
 room_all s w b i left room rs h = sym (le-leb (length (listed rs (rest_at s w b i left))) room (omega (arith, listed_few rs (rest_at s w b i left), rest_few s w b i left)))
-
-pub room_counted : (n room : ℕ) (l : List Msg) → n ≡ length l → leb n room ≡ leb (length l) room
-room_counted n room l e = ap (λ (k : ℕ). leb k room) e
 
 no_zero : (n : ℕ) → suc n ≡ 0 → ⊥
 no_zero n h = omega arith

@@ -1,6 +1,6 @@
 -- How far a pass over the messages has come: what the functions of this crate promise each other. Assumes nothing.
 use Rattle.std.specs.Prelude.{◌≡◌, true, List, ◌++◌, map, ℕ, ◌+◌, ◌*◌, ◌≤◌, length, drop}
-use Rattle.model_session.specs.Session.{Msg, stored_bytes}
+use Rattle.model_session.specs.Session.{stored_bytes}
 use Rattle.model_resend.specs.Resend.{Range, listed, served}
 use Rattle.store_areas.specs.declared.Shape.{Shape}
 use Rattle.store_sessions.specs.Answers.{rest_at, PositionAt}

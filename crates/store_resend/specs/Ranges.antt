@@ -1,8 +1,10 @@
 -- Ranges in lent words, up to which number a set stays, and what a listing answers and leaves. Assumes nothing.
-use Rattle.std.specs.Prelude.{◌≡◌, ℕ, zero, suc, ◌+◌, ◌*◌, ◌-◌, ◌/◌, ◌%◌, ◌≤◌, min, Bool, true, false, cond, ◌&&◌, List, [], ◌∷◌, ◌++◌, map, length, get_or, take, drop, leb, ltb, eqb}
+use Rattle.std.specs.Prelude.{◌≡◌, ℕ, zero, suc, ◌+◌, ◌*◌, ◌-◌, ◌/◌, ◌%◌, ◌≤◌, min, Bool, true, cond, ◌&&◌, List, [], ◌∷◌, ◌++◌, map, length, get_or, take, drop, leb, ltb, eqb, Result, Ok, Err}
 use Rattle.std.proofs.lemmas.List.Edits.{sets}
 use Rattle.model_session.specs.Session.{Msg, stored_bytes}
 use Rattle.model_resend.specs.Resend.{Range, Served, set_of, listed, served, refusal_of}
+use Rattle.base_refusals.specs.declared.Refusal.{Refusal}
+use Rattle.base_refusals.specs.Numbers.{number_of}
 use Rattle.store_log.specs.Log.{msg}
 use Rattle.store_areas.specs.declared.Shape.{Shape}
 use Rattle.store_areas.specs.Areas.{in_use, place_at}
@@ -99,7 +101,7 @@ pub record Written (rs : List Range) (b : List ℕ) (ms : List Msg) (old new : L
 
 -- the entry of a message that was read
 abbrev pub entry_of : ℕ → Message → ListEntry
-entry_of set m = record { number = m.number; set = set; at = m.first_at; first = m.first_len; again = m.second_at; rest = m.second_len }
+entry_of set m = record { number = m.number; set = set; at = m.first.at; first = m.first.len; again = m.second.at; rest = m.second.len }
 
 -- entry k is written unless the set is empty
 abbrev pub entered : ℕ → ℕ → Message → List ℕ → List ℕ
@@ -122,6 +124,11 @@ ranges_of w = ranges_from w 0 (length w / 2)
 
 abbrev pub messages_at : Shape → List ℕ → List ℕ → ℕ → List Msg
 messages_at s w b i = (place_at s w b i).stored.session.messages
+
+-- an answer as programs in C get it: 0 and what is listed, or the refusal's number and nothing
+abbrev pub listed_of : Result Tally Refusal → Listed
+listed_of (Ok t) = record { refusal = 0; length = t.length; bytes = t.bytes }
+listed_of (Err e) = record { refusal = number_of e; length = 0; bytes = 0 }
 
 -- 25: broken areas, a place without a session, half a range; then 35 and 36 of the definition. A refusal keeps the answer area; success what is past the list.
 pub record Lists (s : Shape) (w b : List ℕ) (i : ℕ) (ranges entries : List ℕ) (r : Listed) (new : List ℕ) : Type 0 where

@@ -7,13 +7,14 @@ ghost use Rattle.store_sessions.specs.Answers.{PositionAt, rest_at};
 ghost use Rattle.model_session.specs.Session.{stored_bytes};
 ghost use Rattle.model_resend.specs.Resend.{lies, is_range, are_ranges, set_of, listed};
 ghost use Rattle.store_resend.specs.Passes.{Begun, Carries, PassesOver};
-ghost use Rattle.store_resend.specs.Ranges.{range_at, ranges_from, stays, until, lowest_of, Keeps, Serves, Counts, Adds, entered, HasRoom, Fills, Lists};
+ghost use Rattle.store_resend.specs.Ranges.{range_at, ranges_from, stays, until, lowest_of, Keeps, Serves, Counts, Adds, entered, HasRoom, Fills, Lists, listed_of};
 
+use base_refusals::Refusal;
 use store_areas::Shape;
 use store_log::LogPosition;
 use store_sessions::Message;
 
-// The answer: 25, 35 or 36, else 0, how many messages are listed, and their bytes.
+// The answer as programs in C get it: 25, 35 or 36, else 0, how many messages are listed, and their bytes.
 #[repr(C)]
 #[derive(Clone, Copy)]
 pub struct Listed {
@@ -27,10 +28,23 @@ impl Listed {
     pub const MAX_RANGES: usize = 64;
     // The words of an entry.
     pub const ENTRY_WORDS: usize = 6;
-    // More than 64 ranges, a first of 0, or a nonzero last below its first.
-    pub const BAD_RANGES: u8 = 35;
-    // An answer area with too few entries for the list.
-    pub const TOO_FEW_ENTRIES: u8 = 36;
+
+    pub fn of(answer: Result<Tally, Refusal>) -> Listed
+        ensures { result ≡ listed_of answer }
+    {
+        match answer {
+            Ok(tally) => Listed {
+                refusal: 0,
+                length: tally.length,
+                bytes: tally.bytes,
+            },
+            Err(refusal) => Listed {
+                refusal: refusal.number(),
+                length: 0,
+                bytes: 0,
+            },
+        }
+    }
 }
 
 // The set of ranges that every number from base to until lies in.
@@ -91,12 +105,10 @@ fn are_ranges(ranges: &[u64], count: usize) -> bool
     requires { 2 * count ≤ length ranges.now }
     ensures { result ≡ are_ranges (ranges_from ranges.now 0 count) }
 {
-    let mut j: usize = 0;
-    while j < count {
+    for j in 0..count {
         if !is_range(ranges, j) {
             return false;
         }
-        j += 1;
     }
     true
 }
@@ -107,13 +119,6 @@ fn with_bit(set: u64, bit: bool) -> u64
     ensures { result ≡ cond bit 1 0 + 2 * set }
 {
     if bit { 2 * set + 1 } else { 2 * set }
-}
-
-// The smaller of two numbers.
-fn smaller(a: u64, b: u64) -> u64
-    ensures { result ≡ min a b }
-{
-    if a <= b { a } else { b }
 }
 
 // The set of n, and up to which number it stays.
@@ -128,7 +133,7 @@ fn set_of(ranges: &[u64], count: usize, n: u64) -> Kept
     while 0 < j {
         j -= 1;
         set = with_bit(set, lies_in(ranges, j, n));
-        until = smaller(stays_until(ranges, j, n), until);
+        until = stays_until(ranges, j, n).min(until);
     }
     Kept {
         base: n,
@@ -146,7 +151,7 @@ fn lowest_first(ranges: &[u64], count: usize) -> u64
     let mut j: usize = count;
     while 0 < j {
         j -= 1;
-        low = smaller(ranges[2 * j], low);
+        low = ranges[2 * j].min(low);
     }
     low
 }
@@ -210,12 +215,17 @@ fn count(
         until: 0,
         set: 0,
     };
+    // A while: each message gives the place after it, so no index counts them.
     while 0 < left {
-        let m = store_sessions::message_at(words, bytes, shape, i, left, dist);
+        let m = store_sessions::message_at(words, bytes, shape, i, LogPosition { left, dist });
         kept = kept_for(ranges, n, kept, m.number);
-        tally = counted(tally, kept.set, m.first_len + m.second_len);
-        left = m.left;
-        dist = m.dist;
+        tally = counted(
+            tally,
+            kept.set,
+            m.first.len as usize + m.second.len as usize,
+        );
+        left = m.next.left;
+        dist = m.next.dist;
     }
     tally
 }
@@ -257,10 +267,10 @@ fn enter(entries: &mut [u64], k: usize, set: u64, m: Message)
     let at = Listed::ENTRY_WORDS * k;
     entries[at] = m.number;
     entries[at + 1] = set;
-    entries[at + 2] = m.first_at as u64;
-    entries[at + 3] = m.first_len as u64;
-    entries[at + 4] = m.second_at as u64;
-    entries[at + 5] = m.second_len as u64;
+    entries[at + 2] = m.first.at as u64;
+    entries[at + 3] = m.first.len as u64;
+    entries[at + 4] = m.second.at as u64;
+    entries[at + 5] = m.second.len as u64;
 }
 
 // How far a listing has come: the messages still to be read, their bytes, and what is listed.
@@ -300,16 +310,17 @@ fn pass_over(
 {
     let mut left = first;
     let mut dist = back;
+    // A while: each message gives the place after it, so no index counts them.
     while 0 < left {
-        let m = store_sessions::message_at(words, bytes, shape, i, left, dist);
+        let m = store_sessions::message_at(words, bytes, shape, i, LogPosition { left, dist });
         if m.number < kept.base {
             return LogPosition { left, dist };
         }
         if kept.until < m.number {
             return LogPosition { left, dist };
         }
-        left = m.left;
-        dist = m.dist;
+        left = m.next.left;
+        dist = m.next.dist;
     }
     LogPosition { left, dist }
 }
@@ -335,16 +346,17 @@ fn follow(
     let mut left = first;
     let mut dist = back;
     let mut length = tally.length;
+    // A while: each message gives the place after it, so no index counts them.
     while 0 < left {
-        let m = store_sessions::message_at(words, bytes, shape, i, left, dist);
+        let m = store_sessions::message_at(words, bytes, shape, i, LogPosition { left, dist });
         if m.number < kept.base {
             return Followed { left, dist, length };
         }
         if kept.until < m.number {
             return Followed { left, dist, length };
         }
-        left = m.left;
-        dist = m.dist;
+        left = m.next.left;
+        dist = m.next.dist;
         enter(entries, length, kept.set, m);
         length += 1;
     }
@@ -418,13 +430,14 @@ fn fill(
         until: 0,
         set: 0,
     };
+    // A while: each message gives the place after it, so no index counts them.
     while 0 < left {
-        let m = store_sessions::message_at(words, bytes, shape, i, left, dist);
+        let m = store_sessions::message_at(words, bytes, shape, i, LogPosition { left, dist });
         kept = kept_for(ranges, n, kept, m.number);
-        let size = m.first_len + m.second_len;
+        let size = m.first.len as usize + m.second.len as usize;
         let next = counted(tally, kept.set, size);
-        let after = m.left;
-        let behind = m.dist;
+        let after = m.next.left;
+        let behind = m.next.dist;
         enter(entries, tally.length, kept.set, m);
         let p = go_on(words, bytes, shape, i, after, behind, kept, next, entries);
         left = p.left;
@@ -437,17 +450,6 @@ fn fill(
     tally
 }
 
-// A refused listing.
-fn refused(refusal: u8) -> Listed
-    ensures { result ≡ record { refusal = refusal; length = 0; bytes = 0 } }
-{
-    Listed {
-        refusal,
-        length: 0,
-        bytes: 0,
-    }
-}
-
 // Lists the stored messages of the session at place i that lie in some range: of each its number and the set of ranges it serves.
 pub fn list(
     words: &[u64],
@@ -456,21 +458,21 @@ pub fn list(
     i: usize,
     ranges: &[u64],
     entries: &mut [u64],
-) -> Listed
-    ensures { Lists shape words.now bytes.now i ranges.now entries.old result entries.new }
+) -> Result<Tally, Refusal>
+    ensures { Lists shape words.now bytes.now i ranges.now entries.old (listed_of result) entries.new }
 {
     if !store_areas::in_use(words, bytes, shape, i) {
-        return refused(base_refusals::RULES_BROKEN);
+        return Err(Refusal::RulesBroken);
     }
     if ranges.len() % 2 != 0 {
-        return refused(base_refusals::RULES_BROKEN);
+        return Err(Refusal::RulesBroken);
     }
     let n = ranges.len() / 2;
     if Listed::MAX_RANGES < n {
-        return refused(Listed::BAD_RANGES);
+        return Err(Refusal::BadRanges);
     }
     if !are_ranges(ranges, n) {
-        return refused(Listed::BAD_RANGES);
+        return Err(Refusal::BadRanges);
     }
     let low = lowest_first(ranges, n);
     let c = store_sessions::messages_from(words, bytes, shape, i, low);
@@ -478,12 +480,8 @@ pub fn list(
     let dist = c.dist;
     let room = entries.len() / Listed::ENTRY_WORDS;
     if !has_room(words, bytes, shape, i, left, dist, ranges, n, room) {
-        return refused(Listed::TOO_FEW_ENTRIES);
+        return Err(Refusal::TooFewEntries);
     }
     let t = fill(words, bytes, shape, i, left, dist, ranges, n, entries);
-    Listed {
-        refusal: 0,
-        length: t.length,
-        bytes: t.bytes,
-    }
+    Ok(t)
 }

@@ -45,10 +45,10 @@ module _ (k : Key) (f : ℕ → Place) (n : ℕ) where
         next : i + suc (place_of k (count_up f (suc i) (n - (i + 1)))) ≡ i + 1 + place_of k (count_up f (suc i) (n - (i + 1)))
         next = omega arith
 
-    pub nowhere : n ≤ i → i ≡ place_of k (count_up f 0 n)
+    pub nowhere : n ≤ i → n ≡ place_of k (count_up f 0 n)
     nowhere h =
         let e : n - i ≡ 0 = omega arith in
-        sym (c.is ∙ ap (λ (m : ℕ). i + place_of k (count_up f i m)) e ∙ omega arith)
+        sym (c.is ∙ ap (λ (m : ℕ). i + place_of k (count_up f i m)) e ∙ omega (arith, c.upto))
 
 -- ---- the answer on any areas
 

@@ -1,5 +1,7 @@
 -- What the functions over a store's sessions answer and leave. Assumes nothing.
-use Rattle.std.specs.Prelude.{◌≡◌, ℕ, ◌+◌, ◌≤◌, cond, List, [], ◌∷◌, ◌++◌, length, take, drop, get_or, set}
+use Rattle.std.specs.Prelude.{◌≡◌, ℕ, ◌+◌, ◌≤◌, cond, List, [], ◌∷◌, ◌++◌, length, take, drop, get_or, set, Result, Ok, Err}
+use Rattle.base_refusals.specs.declared.Refusal as declared
+use Rattle.base_refusals.specs.Numbers.{number_of}
 use Rattle.model_frame.specs.Refusal
 use Rattle.model_frame.specs.Frame.{Key}
 use Rattle.model_frame.specs.Frame as model-frame
@@ -17,10 +19,6 @@ use Rattle.store_place.specs.Place.{next_out_of, stored_flight, stamp_of, marks_
 use Rattle.store_areas.specs.StoreWord
 use Rattle.store_areas.specs.declared.Shape.{Shape}
 use Rattle.store_areas.specs.Areas.{place_words, place_bytes, words_at, bytes_at, allowed, in_use, slice, place_at, places_of}
-use Rattle.store_sessions.specs.declared.Sought.{Sought}
-use Rattle.store_sessions.specs.declared.Sought
-use Rattle.store_sessions.specs.declared.Summarised.{Summarised}
-use Rattle.store_sessions.specs.declared.Summarised
 
 -- what a function answers: a value, or document 01's number of a refusal
 pub data Answered (A : Type 0) : Type 0 where
@@ -29,9 +27,9 @@ pub data Answered (A : Type 0) : Type 0 where
 
 -- ---- searching
 
-abbrev pub sought_is : Sought → Answered ℕ
-sought_is (Sought.Place i) = gives i
-sought_is Sought.InvalidAreas = refuses Refusal.rules_broken
+abbrev pub sought_is : Result ℕ declared.Refusal → Answered ℕ
+sought_is (Ok i) = gives i
+sought_is (Err e) = refuses (number_of e)
 
 unfoldable pub sought_in : Shape → List ℕ → List ℕ → Key → Answered ℕ
 sought_in s w b k = cond (allowed s w b) (gives (place_of k (places_of s w b))) (refuses Refusal.rules_broken)
@@ -68,13 +66,13 @@ pub record SummaryIn (C M from n : ℕ) (w b : List ℕ) (m : Summary) : Type 0 
   pub marks_len : m.marks.len ≤ PlaceByte.marks_size
   pub last : m.last_outgoing ≡ last_out (session_of C M w b) n
 
-abbrev pub summarised_is : List ℕ → Summarised → Answered model-frame.Summary
-summarised_is b (Summarised.Session m) = gives (summary_of b m)
-summarised_is b Summarised.InvalidAreas = refuses Refusal.rules_broken
+abbrev pub summarised_is : List ℕ → Result Summary declared.Refusal → Answered model-frame.Summary
+summarised_is b (Ok m) = gives (summary_of b m)
+summarised_is b (Err e) = refuses (number_of e)
 
-abbrev pub SummarisedIn : List ℕ → Summarised → Type 0
-SummarisedIn b (Summarised.Session m) = TextsIn b m
-SummarisedIn b Summarised.InvalidAreas = Unit {0}
+abbrev pub SummarisedIn : List ℕ → Result Summary declared.Refusal → Type 0
+SummarisedIn b (Ok m) = TextsIn b m
+SummarisedIn b (Err e) = Unit {0}
 
 unfoldable pub summarised_at : Shape → List ℕ → List ℕ → ℕ → ℕ → Answered model-frame.Summary
 summarised_at s w b i n = cond (in_use s w b i) (gives (summary (place_at s w b i).stored.session n)) (refuses Refusal.rules_broken)

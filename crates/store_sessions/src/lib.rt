@@ -4,43 +4,25 @@
 ghost use Rattle.std.specs.Prelude.{◌≡◌, Bool, true, List, [], ◌∷◌, ◌++◌, ℕ, ◌+◌, ◌-◌, ◌*◌, ◌≤◌, ◌<◌, length, take, drop, get_or, set};
 ghost use Rattle.model_session.specs.Summary.{last_out, summary};
 ghost use Rattle.model_standby.specs.Store.{same_key, place_of, taken_over};
-ghost use Rattle.frame_fields.specs.Answers.{flight_of, summary_of};
-ghost use Rattle.store_place.specs.Place.{key_from, flight_is};
+ghost use Rattle.frame_fields.specs.Answers.{summary_of};
+ghost use Rattle.store_place.specs.Place.{key_from};
 ghost use Rattle.store_areas.specs.Areas.{Rules, Changed, place_at, places_of};
 ghost use Rattle.store_sessions.specs.Answers.{sought_is, sought_in, Opened, TakenOver, SummaryIn, TextsIn, summarised_is, SummarisedIn, summarised_at, PositionAt, FromAt, NextMessageAt};
 
-use frame_fields::{InFlight, Summary};
+use base_refusals::Refusal;
+use frame_fields::Summary;
 use frame_reader::Span;
 use store_areas::{Shape, word};
 use store_log::LogPosition;
-use store_place::Flight;
-
-// The answer to a search: the place of the key, or, where it has none, the number of places in use.
-#[derive(Clone, Copy)]
-pub enum Sought {
-    Place(usize),
-    InvalidAreas,
-}
-
-// The answer to a request for a summary, whose texts are parts of the byte area.
-#[derive(Clone, Copy)]
-pub enum Summarised {
-    Session(Summary),
-    InvalidAreas,
-}
 
 // A stored message: its number, where its bytes stand in the byte area (the second part is empty unless they wrap around
-// the ring's end), and the position of the message before it in the log.
-#[repr(C)]
+// the ring's end), and the place after it in the log.
 #[derive(Clone, Copy)]
 pub struct Message {
     pub number: u64,
-    pub first_at: usize,
-    pub first_len: usize,
-    pub second_at: usize,
-    pub second_len: usize,
-    pub left: usize,
-    pub dist: usize,
+    pub first: Span,
+    pub second: Span,
+    pub next: LogPosition,
 }
 
 // ---- keys
@@ -60,14 +42,10 @@ fn has_key(
     requires place_bound { place < get_or words.now 0 0 }
     ensures { result ≡ same_key (key_from begin.now sender.now target.now suffix.now) (place_at shape words.now bytes.now place).key }
 {
-    let p = store_areas::spot_in(words, bytes, shape, place);
-    let words_start = p.words_start;
-    let words_end = p.words_end;
-    let bytes_start = p.bytes_start;
-    let bytes_end = p.bytes_end;
+    let spot = store_areas::spot_in(words, bytes, shape, place);
     store_place::has_key(
-        &words[words_start..words_end],
-        &bytes[bytes_start..bytes_end],
+        &words[spot.words_start..spot.words_end],
+        &bytes[spot.bytes_start..spot.bytes_end],
         begin,
         sender,
         target,
@@ -89,17 +67,15 @@ pub fn place_of(
     ensures { result ≡ place_of (key_from begin.now sender.now target.now suffix.now) (places_of shape words.now bytes.now) }
 {
     let used = words[word::USED] as usize;
-    let mut i = 0;
-    while i < used {
+    for i in 0..used {
         if has_key(words, bytes, shape, i, begin, sender, target, suffix) {
             return i;
         }
-        i += 1;
     }
-    i
+    used
 }
 
-// The same on any areas.
+// The same on any areas: 25 where they break the rules.
 pub fn find(
     words: &[u64],
     bytes: &[u8],
@@ -108,13 +84,13 @@ pub fn find(
     sender: &[u8],
     target: &[u8],
     suffix: &[u8],
-) -> Sought
+) -> Result<usize, Refusal>
     ensures { sought_is result ≡ sought_in shape words.now bytes.now (key_from begin.now sender.now target.now suffix.now) }
 {
-    if store_areas::allowed(shape, words, bytes) {
-        return Sought::Place(place_of(words, bytes, shape, begin, sender, target, suffix));
+    if !store_areas::allowed(shape, words, bytes) {
+        return Err(Refusal::RulesBroken);
     }
-    Sought::InvalidAreas
+    Ok(place_of(words, bytes, shape, begin, sender, target, suffix))
 }
 
 // Opens the new session of a key at the next free place.
@@ -137,15 +113,11 @@ pub fn open(
 {
     let used = words[word::USED] as usize;
     words[word::USED] = (used + 1) as u64;
-    let p = store_areas::spot_in(words, bytes, shape, used);
-    let words_start = p.words_start;
-    let words_end = p.words_end;
-    let bytes_start = p.bytes_start;
-    let bytes_end = p.bytes_end;
+    let spot = store_areas::spot_in(words, bytes, shape, used);
     let max = shape.messages as usize;
     store_place::new_session(
-        &mut words[words_start..words_end],
-        &mut bytes[bytes_start..bytes_end],
+        &mut words[spot.words_start..spot.words_end],
+        &mut bytes[spot.bytes_start..spot.bytes_end],
         max,
         begin,
         sender,
@@ -162,15 +134,11 @@ pub fn take_over(words: &mut [u64], bytes: &mut [u8], shape: Shape, place: usize
     requires place_bound { place < get_or words.old 0 0 }
     ensures { Changed shape place (taken_over lag) words.old words.new bytes.old bytes.new }
 {
-    let p = store_areas::spot_in(words, bytes, shape, place);
-    let words_start = p.words_start;
-    let words_end = p.words_end;
-    let bytes_start = p.bytes_start;
-    let bytes_end = p.bytes_end;
+    let spot = store_areas::spot_in(words, bytes, shape, place);
     let max = shape.messages as usize;
     store_place::take_over(
-        &mut words[words_start..words_end],
-        &mut bytes[bytes_start..bytes_end],
+        &mut words[spot.words_start..spot.words_end],
+        &mut bytes[spot.bytes_start..spot.bytes_end],
         max,
         lag,
     );
@@ -182,10 +150,8 @@ pub fn take_over_all(words: &mut [u64], bytes: &mut [u8], shape: Shape, lag: u64
     ensures { TakenOver shape lag words.old words.new bytes.old bytes.new }
 {
     let used = words[word::USED] as usize;
-    let mut i = 0;
-    while i < used {
+    for i in 0..used {
         take_over(words, bytes, shape, i, lag);
-        i += 1;
     }
 }
 
@@ -196,10 +162,8 @@ pub fn next_outgoing(words: &[u64], bytes: &[u8], shape: Shape, place: usize) ->
     requires place_bound { place < get_or words.now 0 0 }
     ensures { result ≡ (place_at shape words.now bytes.now place).stored.session.next_out }
 {
-    let p = store_areas::spot_in(words, bytes, shape, place);
-    let words_start = p.words_start;
-    let words_end = p.words_end;
-    store_place::next_outgoing(&words[words_start..words_end])
+    let spot = store_areas::spot_in(words, bytes, shape, place);
+    store_place::next_outgoing(&words[spot.words_start..spot.words_end])
 }
 
 pub fn durable(words: &[u64], bytes: &[u8], shape: Shape, place: usize) -> bool
@@ -207,10 +171,8 @@ pub fn durable(words: &[u64], bytes: &[u8], shape: Shape, place: usize) -> bool
     requires place_bound { place < get_or words.now 0 0 }
     ensures { result ≡ (place_at shape words.now bytes.now place).stored.durable }
 {
-    let p = store_areas::spot_in(words, bytes, shape, place);
-    let words_start = p.words_start;
-    let words_end = p.words_end;
-    store_place::durable(&words[words_start..words_end])
+    let spot = store_areas::spot_in(words, bytes, shape, place);
+    store_place::durable(&words[spot.words_start..spot.words_end])
 }
 
 // last_outgoing over n.
@@ -219,28 +181,14 @@ pub fn last_outgoing(words: &[u64], bytes: &[u8], shape: Shape, place: usize, n:
     requires place_bound { place < get_or words.now 0 0 }
     ensures { result ≡ last_out (place_at shape words.now bytes.now place).stored.session n }
 {
-    let p = store_areas::spot_in(words, bytes, shape, place);
-    let words_start = p.words_start;
-    let words_end = p.words_end;
-    let bytes_start = p.bytes_start;
-    let bytes_end = p.bytes_end;
+    let spot = store_areas::spot_in(words, bytes, shape, place);
     let max = shape.messages as usize;
     store_place::last_outgoing(
-        &words[words_start..words_end],
-        &bytes[bytes_start..bytes_end],
+        &words[spot.words_start..spot.words_end],
+        &bytes[spot.bytes_start..spot.bytes_end],
         max,
         n,
     )
-}
-
-// A number in flight as a frame has it.
-fn in_flight(flight: Flight) -> InFlight
-    ensures { flight_of result ≡ flight_is flight }
-{
-    match flight {
-        Flight::Nothing => InFlight::Nothing,
-        Flight::Number(n) => InFlight::Seq(n),
-    }
 }
 
 // The summary of the session whose words and bytes these are, with last_outgoing over n; its bytes begin at `from` in the byte area.
@@ -252,7 +200,7 @@ fn summary_in(words: &[u64], bytes: &[u8], max: usize, from: usize, n: u64) -> S
 {
     let next_outgoing = store_place::next_outgoing(words);
     let next_incoming = store_place::next_incoming(words);
-    let in_flight = in_flight(store_place::in_flight(words));
+    let in_flight = store_place::in_flight(words);
     let stamp = store_place::stamp_len(words, bytes);
     let marks = store_place::marks_len(words, bytes);
     let last_outgoing = store_place::last_outgoing(words, bytes, max, n);
@@ -279,30 +227,32 @@ pub fn summary_of(words: &[u64], bytes: &[u8], shape: Shape, place: usize, n: u6
     ensures is { summary_of bytes.now result ≡ summary (place_at shape words.now bytes.now place).stored.session n }
     ensures inside { TextsIn bytes.now result }
 {
-    let p = store_areas::spot_in(words, bytes, shape, place);
-    let words_start = p.words_start;
-    let words_end = p.words_end;
-    let bytes_start = p.bytes_start;
-    let bytes_end = p.bytes_end;
+    let spot = store_areas::spot_in(words, bytes, shape, place);
     let max = shape.messages as usize;
     summary_in(
-        &words[words_start..words_end],
-        &bytes[bytes_start..bytes_end],
+        &words[spot.words_start..spot.words_end],
+        &bytes[spot.bytes_start..spot.bytes_end],
         max,
-        bytes_start,
+        spot.bytes_start,
         n,
     )
 }
 
-// The same on any areas and of any place.
-pub fn summary(words: &[u64], bytes: &[u8], shape: Shape, place: usize, n: u64) -> Summarised
+// The same on any areas and of any place: 25 where they break the rules or the place isn't in use.
+pub fn summary(
+    words: &[u64],
+    bytes: &[u8],
+    shape: Shape,
+    place: usize,
+    n: u64,
+) -> Result<Summary, Refusal>
     ensures is { summarised_is bytes.now result ≡ summarised_at shape words.now bytes.now place n }
     ensures inside { SummarisedIn bytes.now result }
 {
-    if store_areas::in_use(words, bytes, shape, place) {
-        return Summarised::Session(summary_of(words, bytes, shape, place, n));
+    if !store_areas::in_use(words, bytes, shape, place) {
+        return Err(Refusal::RulesBroken);
     }
-    Summarised::InvalidAreas
+    Ok(summary_of(words, bytes, shape, place, n))
 }
 
 // ---- messages
@@ -320,15 +270,11 @@ pub fn messages_from(
     requires le_low { 1 ≤ low }
     ensures { FromAt shape words.now bytes.now place low result.left result.dist }
 {
-    let p = store_areas::spot_in(words, bytes, shape, place);
-    let words_start = p.words_start;
-    let words_end = p.words_end;
-    let bytes_start = p.bytes_start;
-    let bytes_end = p.bytes_end;
+    let spot = store_areas::spot_in(words, bytes, shape, place);
     let max = shape.messages as usize;
     store_place::messages_from(
-        &words[words_start..words_end],
-        &bytes[bytes_start..bytes_end],
+        &words[spot.words_start..spot.words_end],
+        &bytes[spot.bytes_start..spot.bytes_end],
         max,
         low,
     )
@@ -340,35 +286,32 @@ pub fn message_at(
     bytes: &[u8],
     shape: Shape,
     place: usize,
-    left: usize,
-    dist: usize,
+    position: LogPosition,
 ) -> Message
     requires rules { Rules shape words.now bytes.now }
     requires place_bound { place < get_or words.now 0 0 }
-    requires position_at { PositionAt shape words.now bytes.now place left dist }
-    requires le_left { 1 ≤ left }
-    ensures { NextMessageAt shape words.now bytes.now place left dist result.number result.first_at result.first_len result.second_at result.second_len result.left result.dist }
+    requires position_at { PositionAt shape words.now bytes.now place position.left position.dist }
+    requires le_left { 1 ≤ position.left }
+    ensures { NextMessageAt shape words.now bytes.now place position.left position.dist result.number result.first.at result.first.len result.second.at result.second.len result.next.left result.next.dist }
 {
-    let p = store_areas::spot_in(words, bytes, shape, place);
-    let words_start = p.words_start;
-    let words_end = p.words_end;
-    let bytes_start = p.bytes_start;
-    let bytes_end = p.bytes_end;
+    let spot = store_areas::spot_in(words, bytes, shape, place);
     let max = shape.messages as usize;
-    let f = store_place::message_at(
-        &words[words_start..words_end],
-        &bytes[bytes_start..bytes_end],
+    let found = store_place::message_at(
+        &words[spot.words_start..spot.words_end],
+        &bytes[spot.bytes_start..spot.bytes_end],
         max,
-        left,
-        dist,
+        position,
     );
     Message {
-        number: f.number,
-        first_at: bytes_start + f.start,
-        first_len: f.first,
-        second_at: bytes_start + store_place::byte::RING,
-        second_len: f.rest,
-        left: f.left,
-        dist: f.dist,
+        number: found.number,
+        first: Span {
+            at: spot.bytes_start + found.span.start,
+            len: found.span.first as u32,
+        },
+        second: Span {
+            at: spot.bytes_start + store_place::byte::RING,
+            len: found.span.rest as u32,
+        },
+        next: found.next,
     }
 }

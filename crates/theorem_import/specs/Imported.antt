@@ -1,6 +1,6 @@
 -- AN IMPORTED SESSION IS LIKE ANY OTHER. The first four arguments' promise is that of `store_import::import` (`Taken`), so this speaks of the code.
 -- Assumes nothing.
-use Rattle.std.specs.Prelude.{ℕ, ◌^◌, ◌≤◌, ◌≡◌, List, T}
+use Rattle.std.specs.Prelude.{ℕ, ◌^◌, ◌≤◌, ◌≡◌, List, T, Ok}
 use Rattle.std.proofs.Math.Option.{some}
 use Rattle.store_log.proofs.Lawful.{Small}
 use Rattle.model_frame.specs.Frame.{Key}
@@ -13,8 +13,6 @@ use Rattle.store_areas.specs.declared.Shape.{Shape}
 use Rattle.store_areas.specs.Areas.{Rules}
 use Rattle.standby_state.specs.declared.Settings.{Settings}
 use Rattle.active.specs.declared.Sending.{Sending}
-use Rattle.active.specs.declared.Begun.{Begun}
-use Rattle.active.specs.declared.Begun
 use Rattle.active.specs.Whole.{stored_at, start_of, start_from, SendCalls, SentWhole}
 use Rattle.theorem_whole_copy.specs.Demand.{Lent, Start, First, frames_of_a, Claim}
 
@@ -31,7 +29,7 @@ pub record LikeAny (s : Shape) (file w b : List ℕ) (i : ℕ) : Type 0 where
   pub rules : Rules s w b
   pub stored : stored_at s w b i ≡ some (session_of s file)
   -- calls of `Sending` on it give the frames that send it whole, as of any session
-  pub frames : (limit h e last : ℕ) (from t : Sending) (fs : List (List ℕ)) → Small (2 ^ 64) w → Small 256 b → start_of (Begun.Ready from) ≡ start_from limit (stored_at s w b i) i h e last
+  pub frames : (limit h e last : ℕ) (from t : Sending) (fs : List (List ℕ)) → Small (2 ^ 64) w → Small 256 b → start_of (Ok from) ≡ start_from limit (stored_at s w b i) i h e last
       → SendCalls limit s w b from fs t → SentWhole limit s w b (session_of s file) h e last fs t
   -- demand 3: of a start, that the session sent is one the store can hold need not be asked
   pub copied : (set : Settings) → set.shape ≡ s → (limit : ℕ) (B : Session) (k : OwnKey) (h : ℕ) (bound : Bound) (x : Lent)

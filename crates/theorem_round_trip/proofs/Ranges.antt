@@ -2,7 +2,7 @@
 -- changes, records and kinds are read. Assumes nothing.
 use Prim.Native.Nat.{ℕ, ◌^◌, ◌<◌}
 use mathlib.Core.Path.{◌≡◌, refl, sym, ap}
-use mathlib.Core.Bool.{true, ◌&&◌}
+use mathlib.Core.Bool.{true}
 use mathlib.Core.List.{List, [], ◌∷◌}
 use native.Mathlib.Omega.{arith}
 use lib.Dec.{T}
@@ -25,13 +25,12 @@ use Rattle.frame_reader.specs.declared.Span.{Span}
 use Rattle.frame_reader.specs.Answers.{span_of}
 use Rattle.frame_op.specs.declared.Run as the-run
 use Rattle.frame_op.specs.Answers.{run_of}
-use Rattle.frame_fields.specs.declared.InFlight
-use Rattle.frame_fields.specs.declared.InFlight.{InFlight}
+use Rattle.std.specs.Prelude as prelude
+use Rattle.std.specs.Prelude.{Some, None}
 use Rattle.frame_fields.specs.declared.Summary.{Summary}
 use Rattle.frame_fields.specs.Answers.{flight_of}
 use Rattle.frame_writer.specs.Encoding.{span_fits, is_ok, run_reads}
 use Rattle.frame.specs.contracts.Frame as Frame-type
-use Rattle.frame.specs.declared.Frame
 use Rattle.frame.specs.declared.Frame.{Frame}
 use Rattle.frame.specs.Answers.{frame_of, readable}
 
@@ -66,11 +65,11 @@ records_ranged (r ∷ rs) h = (h.0.0, records_ranged rs h.1)
 
 -- an in_flight_lem number is a u64, where there is one
 flight_short :
-    (h : ℕ) (o : InFlight) (m : Summary) {vs : List Val} →
+    (h : ℕ) (o : prelude.Option ℕ) (m : Summary) {vs : List Val} →
     IsFrame (Frame.Bound h (record { next_outgoing = m.next_outgoing; next_incoming = m.next_incoming; in_flight = o; created_at = m.created_at; marks = m.marks; last_outgoing = m.last_outgoing })) vs →
     flight_number (flight_of o) < 2 ^ 64
-flight_short h (InFlight.Seq n) m g = omega arith
-flight_short h InFlight.Nothing m g = omega arith
+flight_short h (Some n) m g = omega arith
+flight_short h None m g = omega arith
 
 pub ranged : (version : ℕ) (src : List ℕ) (f : Frame) {vs : List Val} → T (is_bytes src) → IsFrame f vs → readable version src f ≡ true → Ranged (frame_of version src f)
 ranged version src (Frame.Hello v e node ks) known g r =

@@ -19,8 +19,7 @@ use Rattle.model_standby.specs.PlainCopy.{OwnKey}
 use Rattle.model_standby.specs.Demand as model
 use Rattle.model_standby.proofs.Demand3 as theorem
 use Rattle.active.specs.declared.Sending.{Sending}
-use Rattle.active.specs.declared.Sent
-use Rattle.active.specs.declared.Sent.{Sent}
+use Rattle.std.specs.Prelude.{None, Ok}
 use Rattle.active.specs.Whole.{SendsWhole, Sofar, SentWhole}
 use Rattle.standby_state.specs.declared.Settings.{Settings}
 use Rattle.standby_step.specs.Calls.{room_all}
@@ -92,7 +91,7 @@ module _ (s : Settings) (limit : ℕ) (A B : Session) (k : OwnKey) (h : ℕ) (b 
         ∙ theorem.cut_short L limit A B k h b st model_start sent.so.sent g left (sym (sent.so.all ∙ ap (λ (l : List Frame). sent.so.sent ++ l) e))
 
     -- all that a sending gives until it says done, handed in, makes the session A
-    pub sent_whole : {z : Lent} {out out' : List ℕ} (f : Frame) (gs : List Frame) → f ∷ gs ≡ frames_of_a s limit A h b x → SendsWhole limit shape w a t out out' Sent.Done → Runs s x (map on_frame_held fs) z
+    pub sent_whole : {z : Lent} {out out' : List ℕ} (f : Frame) (gs : List Frame) → f ∷ gs ≡ frames_of_a s limit A h b x → SendsWhole limit shape w a t out out' (Ok None) → Runs s x (map on_frame_held fs) z
         → session_at (places_of s.shape z.words z.bytes) b.place ≡ some A
     sent_whole {out = out} {out' = out'} f gs e said r =
         ap (λ (u : Standby). session_at u.places b.place) (sym (reaches r (f ∷ gs) (sent.then_all out out' said ∙ ap (map encode) (sym e))))

@@ -3,251 +3,123 @@
 // an area one word too short from then on, `lend 1` the first one again; `word I V` sets a word, for an area handed in with others.
 #![tactic(auto)]
 
-ghost use Rattle.std.specs.Prelude.{◌≤◌, length};
-
-use active_books::Answer;
+use active_books::Opened;
+use base_refusals::Refusal;
 use frame_fields::Incarnation;
 use std::io;
+use std::str::SplitWhitespace;
+use vectors_script::{number, numbers};
 
-fn put(rt: &impl Print, text: &[u8]) -> io::Result<()> {
-    rt.write_all(text)
+fn print_refusal(rt: &impl Print, refusal: Refusal) -> io::Result<()> {
+    println!(rt; "R {}", refusal.number())
 }
 
-fn put_number(rt: &impl Print, name: &[u8], n: u64) -> io::Result<()> {
-    put(rt, name)?;
-    rt.print(n)?;
-    put(rt, b"\n")
-}
-
-fn put_answer(rt: &impl Print, answer: Answer) -> io::Result<()> {
+fn print_done(rt: &impl Print, answer: Result<(), Refusal>) -> io::Result<()> {
     match answer {
-        Answer::Refused(refusal) => put_number(rt, b"R ", refusal as u64),
-        Answer::Done => put(rt, b"ok\n"),
-        Answer::Wait => put(rt, b"wait\n"),
-        Answer::Picked(session) => put_number(rt, b"", session),
-        Answer::Nobody => put(rt, b"none\n"),
-        Answer::Says(yes) => {
-            if yes {
-                put(rt, b"1\n")
-            } else {
-                put(rt, b"0\n")
-            }
-        }
+        Ok(()) => println!(rt; "ok"),
+        Err(refusal) => print_refusal(rt, refusal),
     }
 }
 
-fn make(rt: &impl Print, words: &mut [u64]) -> io::Result<()> {
-    match active_books::make(words) {
-        Answer::Refused(refusal) => put_number(rt, b"R ", refusal as u64),
-        _ => Ok(()),
+fn print_opened(rt: &impl Print, answer: Result<Opened, Refusal>) -> io::Result<()> {
+    match answer {
+        Ok(Opened::Done) => println!(rt; "ok"),
+        Ok(Opened::Wait) => println!(rt; "wait"),
+        Err(refusal) => print_refusal(rt, refusal),
     }
 }
 
-fn set_word(words: &mut [u64], i: u64, value: u64) {
-    let at = i as usize;
-    if at < words.len() {
-        words[at] = value;
+fn print_picked(rt: &impl Print, answer: Result<Option<u64>, Refusal>) -> io::Result<()> {
+    match answer {
+        Ok(Some(session)) => println!(rt; "{session}"),
+        Ok(None) => println!(rt; "none"),
+        Err(refusal) => print_refusal(rt, refusal),
     }
 }
 
-// The start of the word k words after the first, or the line's end.
-fn start(line: &[u8], k: u32) -> usize {
-    let mut at: usize = 0;
-    let mut left = k;
-    while 0 < left {
-        if line.len() <= at {
-            return line.len();
-        }
-        at = vectors_script::after(line, at);
-        left -= 1;
-    }
-    at
-}
-
-fn field(line: &[u8], k: u32) -> u64 {
-    vectors_script::number_at(line, start(line, k))
-}
-
-// The numbers of a line from the k-th word after the first on, and how many.
-fn read_numbers(line: &[u8], k: u32, numbers: &mut [u64]) -> usize
-    ensures { result ≤ length numbers.new }
-{
-    let mut at = start(line, k);
-    let mut n: usize = 0;
-    while n < numbers.len() {
-        if line.len() <= at {
-            return n;
-        }
-        numbers[n] = vectors_script::number_at(line, at);
-        at = vectors_script::after(line, at);
-        n += 1;
-    }
-    n
-}
-
-// All of a listing fall behind.
-fn all(rt: &impl Print, words: &mut [u64], line: &[u8]) -> io::Result<()> {
-    let mut numbers = [0u64; 600];
-    let n = read_numbers(line, 1, &mut numbers);
-    put_answer(
-        rt,
-        active_books_pass::all_fall_behind(words, &numbers[0..n]),
-    )
-}
-
-fn next(rt: &impl Print, words: &mut [u64], line: &[u8]) -> io::Result<()> {
-    let mut numbers = [0u64; 600];
-    let n = read_numbers(line, 2, &mut numbers);
-    let incarnation = Incarnation(field(line, 1));
-    put_answer(
-        rt,
-        active_books_pass::next_to_catch_up(words, &numbers[0..n], incarnation),
-    )
-}
-
-fn check(rt: &impl Print, words: &mut [u64], line: &[u8]) -> io::Result<()> {
-    let mut numbers = [0u64; 600];
-    let n = read_numbers(line, 2, &mut numbers);
-    let incarnation = Incarnation(field(line, 1));
-    put_answer(
-        rt,
-        active_books_pass::all_compared(words, &numbers[0..n], incarnation),
-    )
-}
-
-// A call whose name begins with c: `check`, `close` or `compared`.
-fn call_c(rt: &impl Print, words: &mut [u64], line: &[u8], second: u8) -> io::Result<()> {
-    if second == b'h' {
-        return check(rt, words, line);
-    }
-    if second == b'l' {
-        return put_answer(rt, active_books::closed(words, field(line, 1)));
-    }
-    put_answer(
-        rt,
-        active_books::caught_up(words, field(line, 1), Incarnation(field(line, 2))),
-    )
-}
-
-// A call whose name begins with a: `all` or `acked`.
-fn call_a(rt: &impl Print, words: &mut [u64], line: &[u8], second: u8) -> io::Result<()> {
-    if second == b'l' {
-        return all(rt, words, line);
-    }
-    put_answer(
-        rt,
-        active_books::acknowledged(words, Incarnation(field(line, 1))),
-    )
-}
-
-// `behind`, `open`, `is` or `ended`.
-fn call_one(rt: &impl Print, words: &mut [u64], line: &[u8], first: u8) -> io::Result<()> {
-    let session = field(line, 1);
-    if first == b'b' {
-        return put_answer(rt, active_books::fall_behind(words, session));
-    }
-    if first == b'o' {
-        return put_answer(rt, active_books::opening(words, session));
-    }
-    if first == b'i' {
-        return put_answer(rt, active_books::is_behind(words, session));
-    }
-    put_answer(
-        rt,
-        active_books::ended(words, session, Incarnation(field(line, 2))),
-    )
-}
-
-// `make`, `word`, `pass`, or a call on one session.
-fn call_other(rt: &impl Print, words: &mut [u64], line: &[u8], first: u8) -> io::Result<()> {
-    if first == b'm' {
-        return make(rt, words);
-    }
-    if first == b'w' {
-        set_word(words, field(line, 1), field(line, 2));
-        return Ok(());
-    }
-    if first == b'p' {
-        let incarnation = Incarnation(field(line, 1));
-        return put_answer(
-            rt,
-            active_books_pass::behind_unless_compared_open(words, incarnation),
-        );
-    }
-    call_one(rt, words, line, first)
-}
-
-// A line whose first word begins with these two letters.
-fn call(rt: &impl Print, words: &mut [u64], line: &[u8], first: u8, second: u8) -> io::Result<()> {
-    if first == b'a' {
-        return call_a(rt, words, line, second);
-    }
-    if first == b'c' {
-        return call_c(rt, words, line, second);
-    }
-    if first == b'n' {
-        return next(rt, words, line);
-    }
-    call_other(rt, words, line, first)
-}
-
-// A line on one area.
-fn replay(rt: &impl Print, words: &mut [u64], line: &[u8]) -> io::Result<()> {
-    if line.len() < 2 {
-        return Ok(());
-    }
-    call(rt, words, line, line[0], line[1])
-}
-
-// Which area is lent after a line.
-fn lent_after(line: &[u8], lent: u64) -> u64 {
-    if line.len() == 0 {
-        return lent;
-    }
-    if line[0] == b'l' {
-        field(line, 1)
-    } else {
-        lent
+fn print_says(rt: &impl Print, answer: Result<bool, Refusal>) -> io::Result<()> {
+    match answer {
+        Ok(yes) => println!(rt; "{}", u8::from(yes)),
+        Err(refusal) => print_refusal(rt, refusal),
     }
 }
 
-// A line on the area that is lent.
-fn replay_on(
+// A call with a listing: the line's numbers from here on, after the incarnation where the call has one.
+fn call_listed(
     rt: &impl Print,
-    words: &mut [u64],
-    short: &mut [u64],
-    line: &[u8],
-    lent: u64,
+    area: &mut [u64],
+    name: &str,
+    words: &mut SplitWhitespace<'_>,
 ) -> io::Result<()> {
-    if line.len() == 0 {
-        return Ok(());
+    let incarnation = if name == "all" {
+        Incarnation(0)
+    } else {
+        Incarnation(number(words))
+    };
+    let mut room = [0u64; 600];
+    let listing = numbers(words, &mut room);
+    match name {
+        "all" => print_done(rt, active_books_pass::all_fall_behind(area, listing)),
+        "next" => {
+            let picked = active_books_pass::next_to_catch_up(area, listing, incarnation);
+            print_picked(rt, picked)
+        }
+        _ => {
+            let told = active_books_pass::all_compared(area, listing, incarnation);
+            print_says(rt, told)
+        }
     }
-    if line[0] == b'l' {
-        return Ok(());
-    }
-    if lent == 0 {
-        return replay(rt, short, line);
-    }
-    replay(rt, words, line)
 }
 
-// The lines of a script, one after the other.
-fn run(rt: &impl Print, script: &[u8], words: &mut [u64], short: &mut [u64]) -> io::Result<()> {
-    let mut at: usize = 0;
-    let mut lent: u64 = 1;
-    while at < script.len() {
-        let end = vectors_script::line_end(script, at);
-        replay_on(rt, words, short, &script[at..end], lent)?;
-        lent = lent_after(&script[at..end], lent);
-        at = end + 1;
+// A call on one session, or on none.
+fn call_one(
+    rt: &impl Print,
+    area: &mut [u64],
+    name: &str,
+    words: &mut SplitWhitespace<'_>,
+) -> io::Result<()> {
+    let first = number(words);
+    let incarnation = Incarnation(number(words));
+    match name {
+        "behind" => print_done(rt, active_books::fall_behind(area, first)),
+        "open" => print_opened(rt, active_books::opening(area, first)),
+        "is" => print_says(rt, active_books::is_behind(area, first)),
+        "close" => print_done(rt, active_books::closed(area, first)),
+        "compared" => print_done(rt, active_books::caught_up(area, first, incarnation)),
+        "ended" => print_says(rt, active_books::ended(area, first, incarnation)),
+        "acked" => print_done(rt, active_books::acknowledged(area, Incarnation(first))),
+        _ => {
+            let run = Incarnation(first);
+            print_done(
+                rt,
+                active_books_pass::behind_unless_compared_open(area, run),
+            )
+        }
     }
-    Ok(())
+}
+
+// One line on the area that is lent.
+fn replay(rt: &impl Print, area: &mut [u64], line: &str) -> io::Result<()> {
+    let mut words = line.split_whitespace();
+    let Some(name) = words.next() else {
+        return Ok(());
+    };
+    match name {
+        "make" => match active_books::make(area) {
+            Ok(()) => Ok(()),
+            Err(refusal) => print_refusal(rt, refusal),
+        },
+        "all" | "next" | "check" => call_listed(rt, area, name, &mut words),
+        _ => call_one(rt, area, name, &mut words),
+    }
 }
 
 fn main(rt: HostRuntime) -> io::Result<()> {
-    let mut script = [0u8; 65_536];
-    let n = vectors_script::read_script(&rt, &mut script)?;
-    let mut words = [0u64; 1300];
+    let mut room = [0u8; 65_536];
+    let script = vectors_script::read_script(&rt, &mut room)?;
+    let mut area = [0u64; 1300];
     let mut short = [0u64; 1285];
-    run(&rt, &script[..n], &mut words, &mut short)
+    vectors_script::replay_lent(&rt, script, &mut area, &mut short, |rt, area, line| {
+        replay(rt, area, line)
+    })
 }

@@ -1,60 +1,43 @@
-// The changes of a session that the programs make: one that can't be made is left out.
+// What the programs share that make and fill small stores as the lines of a script say. A store's areas and shape are not one struct
+// here: the borrow check doesn't cover a call that is lent one field to write and another to read.
 #![tactic(auto)]
 
-use std::num::wrapping_add_u64;
+use std::str::SplitWhitespace;
 use store_areas::Shape;
+use vectors_script::{number, small};
 
-pub fn set_incoming(words: &mut [u64], bytes: &[u8], shape: Shape, place: usize, seq: u64) {
-    c_changes::store_set_next_incoming(words, bytes, shape, place, seq);
+// No store yet.
+pub const NO_SHAPE: Shape = Shape {
+    places: 0,
+    bytes: 0,
+    messages: 0,
+};
+
+// A new store without sessions, with so many places, and with the message bytes and the messages of a line.
+pub fn make(words: &mut [u64], bytes: &[u8], places: u32, line: &mut SplitWhitespace<'_>) -> Shape {
+    let cap = small(line);
+    let messages = small(line);
+    let shape = Shape {
+        places,
+        bytes: cap,
+        messages,
+    };
+    c_store::store_make(words, bytes, shape);
+    shape
 }
 
-pub fn set_both(
-    words: &mut [u64],
-    bytes: &[u8],
-    shape: Shape,
-    place: usize,
-    seq: u64,
-    flight: u64,
-) {
-    c_changes::store_set_next_incoming_in_flight(words, bytes, shape, place, seq, flight);
-}
-
-pub fn set_flight(words: &mut [u64], bytes: &[u8], shape: Shape, place: usize, seq: u64) {
-    c_changes::store_set_in_flight(words, bytes, shape, place, seq);
-}
-
-// A Record without message.
-pub fn skip(words: &mut [u64], bytes: &[u8], shape: Shape, place: usize, seq: u64) {
-    c_changes::store_record_none(words, bytes, shape, place, seq);
-}
-
-pub fn reset(words: &mut [u64], bytes: &[u8], shape: Shape, place: usize) {
-    c_changes::store_reset(words, bytes, shape, place);
-}
-
-pub fn set_stamp(words: &mut [u64], bytes: &mut [u8], shape: Shape, place: usize, text: &[u8]) {
-    c_changes::store_set_created_at(words, bytes, shape, place, text);
-}
-
-pub fn set_marks(words: &mut [u64], bytes: &mut [u8], shape: Shape, place: usize, text: &[u8]) {
-    c_changes::store_set_marks(words, bytes, shape, place, text);
-}
-
-// A Record of the next outgoing number with this message.
-pub fn record(words: &mut [u64], bytes: &mut [u8], shape: Shape, place: usize, text: &[u8]) {
-    c_changes::store_record(words, bytes, shape, place, text);
-}
-
-// Bytes that count on from a number, modulo 251.
-fn count_on(text: &mut [u8], from: u64) {
-    let mut j: usize = 0;
-    while j < text.len() {
-        text[j] = (wrapping_add_u64(from, j as u64) % 251) as u8;
-        j += 1;
+// The place of the session with this target, opened where it isn't stored yet.
+pub fn open(words: &mut [u64], bytes: &mut [u8], shape: Shape, target: &str) -> Option<usize> {
+    let target = target.as_bytes();
+    let opened = c_store::store_open(words, bytes, shape, b"FIX.4.4", b"A", target, b"");
+    if opened.refusal == 0 {
+        Some(opened.value as usize)
+    } else {
+        None
     }
 }
 
-// A Record of the next outgoing number with a message of len bytes that count on from it, made in the room.
+// A Record of the next outgoing number, whose message of len bytes counts on from it, modulo 251; it is made in the room.
 pub fn record_made(
     words: &mut [u64],
     bytes: &mut [u8],
@@ -63,9 +46,68 @@ pub fn record_made(
     len: usize,
     room: &mut [u8],
 ) {
-    if len <= room.len() {
-        let next = c_store::store_next_outgoing(words, bytes, shape, place);
-        count_on(&mut room[0..len], next.value);
-        record(words, bytes, shape, place, &room[0..len]);
+    let next = c_store::store_next_outgoing(words, bytes, shape, place).value;
+    let Some(text) = room.get_mut(..len) else {
+        return;
+    };
+    for (i, byte) in text.iter_mut().enumerate() {
+        *byte = (next.wrapping_add(i as u64) % 251) as u8;
+    }
+    c_changes::store_record(words, bytes, shape, place, text);
+}
+
+// The change of numbers that a line asks for; one that can't be made is left out.
+fn change_numbers(
+    words: &mut [u64],
+    bytes: &[u8],
+    shape: Shape,
+    place: usize,
+    letter: &str,
+    line: &mut SplitWhitespace<'_>,
+) {
+    let n = number(line);
+    match letter {
+        "i" => c_changes::store_set_next_incoming(words, bytes, shape, place, n),
+        "b" => {
+            let flight = number(line);
+            c_changes::store_set_next_incoming_in_flight(words, bytes, shape, place, n, flight)
+        }
+        "f" => c_changes::store_set_in_flight(words, bytes, shape, place, n),
+        "g" => c_changes::store_record_none(words, bytes, shape, place, n),
+        "z" => c_changes::store_reset(words, bytes, shape, place),
+        _ => 0,
+    };
+}
+
+// The change that a line asks for: `i N` SetNextIncoming, `b N F` SetNextIncomingInFlight, `f N` SetInFlight, `g N` a Record without
+// message, `z` Reset, `t:TEXT` the stamp, `k:TEXT` the marks, `m:TEXT` a Record with this message, `l LENGTH` one with a made message.
+// One that can't be made is left out.
+pub fn change(
+    words: &mut [u64],
+    bytes: &mut [u8],
+    shape: Shape,
+    place: usize,
+    line: &str,
+    room: &mut [u8],
+) {
+    let letter = line.get(..1).unwrap_or("");
+    let rest = line.get(2..).unwrap_or("");
+    let mut numbers = rest.split_whitespace();
+    let text = rest.as_bytes();
+    match letter {
+        "t" => {
+            c_changes::store_set_created_at(words, bytes, shape, place, text);
+        }
+        "k" => {
+            c_changes::store_set_marks(words, bytes, shape, place, text);
+        }
+        "m" => {
+            c_changes::store_record(words, bytes, shape, place, text);
+        }
+        "l" => {
+            let len = number(&mut numbers) as usize;
+            record_made(words, bytes, shape, place, len, room);
+        }
+        _ => change_numbers(words, bytes, shape, place, letter, &mut numbers),
     }
 }

@@ -6,129 +6,75 @@
 
 use c_import::Built;
 use std::io;
-use std::num::wrapping_add_u64;
 use store_areas::Shape;
+use vectors_script::{byte, number, small};
 
-fn put(rt: &impl Print, text: &[u8]) -> io::Result<()> {
-    rt.write_all(text)
+// A file of messages in a lent area: its first `len` bytes.
+#[derive(Drop)]
+struct File<'a> {
+    area: &'a mut [u8],
+    len: usize,
 }
 
-fn put_number(rt: &impl Print, name: &[u8], n: u64) -> io::Result<()> {
-    put(rt, name)?;
-    rt.print(n)
+impl File<'_> {
+    // Sets one byte of the area, if it has it.
+    fn set(&mut self, at: usize, value: u8) {
+        if let Some(byte) = self.area.get_mut(at) {
+            *byte = value;
+        }
+    }
+
+    // Puts a text behind the file, its bytes as the script writes them.
+    fn append(&mut self, text: &str) {
+        let end = self.len.saturating_add(text.len());
+        let Some(room) = self.area.get_mut(self.len..end) else {
+            return;
+        };
+        for (byte, written) in room.iter_mut().zip(text.as_bytes()) {
+            *byte = match *written {
+                b'|' => 1,
+                b'~' => 128,
+                b'^' => 10,
+                other => other,
+            };
+        }
+        self.len = end;
+    }
 }
 
-// A byte of the file as the script writes it.
-fn byte_of(b: u8) -> u8 {
-    if b == b'|' {
-        return 1;
-    }
-    if b == b'~' {
-        return 128;
-    }
-    if b == b'^' {
-        return 10;
-    }
-    b
-}
-
-// One byte of the file set.
-fn set(file: &mut [u8], at: usize, b: u8) {
-    if at < file.len() {
-        file[at] = b;
-    }
-}
-
-// A line's text behind the file: the file's new length.
-fn append(line: &[u8], file: &mut [u8], len: usize) -> usize {
-    let mut i: usize = 0;
-    while i < line.len() {
-        set(file, len % 8192 + i % 8192, byte_of(line[i]));
-        i += 1;
-    }
-    len % 8192 + line.len() % 8192
-}
-
-// The text of a line, past its letter and a space.
-fn append_text(line: &[u8], file: &mut [u8], len: usize) -> usize {
-    if line.len() < 2 {
-        return len;
-    }
-    let end = line.len();
-    append(&line[2..end], file, len)
-}
-
-// A sum over words in which the order counts.
-fn hash_words(words: &[u64]) -> u64 {
-    let mut h: u64 = 0;
-    let mut i: usize = 0;
-    while i < words.len() {
-        h = wrapping_add_u64(wrapping_add_u64(h, wrapping_add_u64(h, h)), words[i]);
-        i += 1;
-    }
-    h
-}
-
-// A sum over all that is lent.
+// A sum over all that is lent, in which the order counts.
 fn hash_areas(words: &[u64], bytes: &[u8]) -> u64 {
-    c_store::store_fnv(hash_words(words), bytes)
+    let sum = words
+        .iter()
+        .fold(0u64, |h, w| h.wrapping_mul(3).wrapping_add(*w));
+    c_store::store_fnv(sum, bytes)
 }
 
 // The answer of an import; of the new session next outgoing, its messages, and the hash over all of them.
-fn put_answer(
+fn print_answer(
     rt: &impl Print,
     words: &[u64],
     bytes: &[u8],
     shape: Shape,
-    r: Built,
+    built: Built,
     kept: bool,
 ) -> io::Result<()> {
-    let refusal = r.refusal as u64;
-    let place = r.place;
-    if refusal != 0 {
-        put_number(rt, b"R ", refusal)?;
-        put_number(rt, b" ", r.at as u64)?;
-        if kept {
-            put(rt, b"\n")?;
+    if built.refusal != 0 {
+        let written = if kept {
+            ""
         } else {
-            put(rt, b" and something was written\n")?;
-        }
-        return Ok(());
+            " and something was written"
+        };
+        return println!(rt; "R {} {}{written}", built.refusal, built.at);
     }
-    put_number(rt, b"place=", place as u64)?;
-    put_number(
-        rt,
-        b" out=",
-        c_store::store_next_outgoing(words, bytes, shape, place).value,
-    )?;
-    put_number(
-        rt,
-        b" count=",
-        c_store::store_count(words, bytes, shape, place).value,
-    )?;
-    put_number(
-        rt,
-        b" hash=",
-        c_store::store_last_outgoing(words, bytes, shape, place, u64::MAX).value,
-    )?;
-    put(rt, b"\n")
+    let place = built.place;
+    let out = c_store::store_next_outgoing(words, bytes, shape, place).value;
+    let count = c_store::store_count(words, bytes, shape, place).value;
+    let hash = c_store::store_last_outgoing(words, bytes, shape, place, u64::MAX).value;
+    println!(rt; "place={place} out={out} count={count} hash={hash}")
 }
 
-// The sender of one of three keys; else a byte that no key has.
-fn sender_of(key: u64) -> u8 {
-    if key == 0 {
-        return b'A';
-    }
-    if key == 1 {
-        return b'B';
-    }
-    if key == 2 {
-        return b'C';
-    }
-    7
-}
-
-// An import under one of four keys, of which the last is none.
+// An import under one of three keys, or under one that is none.
 fn import(
     rt: &impl Print,
     words: &mut [u64],
@@ -138,12 +84,17 @@ fn import(
     file: &[u8],
 ) -> io::Result<()> {
     let before = hash_areas(words, bytes);
-    let sender = [sender_of(key)];
-    let r = c_import::wz_import(
+    let sender = match key {
+        0 => b"A",
+        1 => b"B",
+        2 => b"C",
+        _ => b"\x07",
+    };
+    let built = c_import::wz_import(
         words,
         bytes,
         b"FIX.4.4",
-        &sender,
+        sender,
         b"V",
         b"",
         file,
@@ -151,118 +102,55 @@ fn import(
         shape.bytes,
         shape.messages,
     );
-    let after = hash_areas(words, bytes);
-    put_answer(rt, words, bytes, shape, r, before == after)
+    let kept = before == hash_areas(words, bytes);
+    print_answer(rt, words, bytes, shape, built, kept)
 }
 
-// A new store.
-fn make(line: &[u8], words: &mut [u64], bytes: &[u8]) -> Shape {
-    let shape = Shape {
-        places: vectors_script::low(vectors_script::field(line, 0)),
-        bytes: vectors_script::low(vectors_script::field(line, 1)),
-        messages: vectors_script::low(vectors_script::field(line, 2)),
-    };
-    c_store::store_make(words, bytes, shape);
-    shape
-}
-
-// An import of the file's first bytes.
-fn import_part(
-    rt: &impl Print,
-    line: &[u8],
-    words: &mut [u64],
-    bytes: &mut [u8],
-    shape: Shape,
-    file: &[u8],
-) -> io::Result<()> {
-    let len = vectors_script::field(line, 1) as usize;
-    if len <= file.len() {
-        import(
-            rt,
-            words,
-            bytes,
-            shape,
-            vectors_script::field(line, 0),
-            &file[0..len],
-        )?;
-    }
-    Ok(())
-}
-
-// What a command leaves beside the areas.
-#[derive(Clone, Copy)]
-struct State {
-    shape: Shape,
-    len: usize,
-}
-
-// One command.
+// One command: what it leaves as the store's shape.
 fn command(
     rt: &impl Print,
-    line: &[u8],
+    line: &str,
     words: &mut [u64],
     bytes: &mut [u8],
-    file: &mut [u8],
-    s: State,
-) -> io::Result<State> {
-    let letter = if line.len() == 0 { 0 } else { line[0] };
-    let shape = s.shape;
-    let len = s.len;
-    match letter {
-        b'n' => Ok(State {
-            shape: make(line, words, bytes),
-            len,
-        }),
-        b'x' => Ok(State { shape, len: 0 }),
-        b'a' => Ok(State {
-            shape,
-            len: append_text(line, file, len),
-        }),
-        b's' => {
-            set(
-                file,
-                vectors_script::field(line, 0) as usize,
-                (vectors_script::field(line, 1) % 256) as u8,
-            );
-            Ok(State { shape, len })
+    file: &mut File<'_>,
+    shape: Shape,
+) -> io::Result<Shape> {
+    let rest = line.get(2..).unwrap_or("");
+    let mut numbers = rest.split_whitespace();
+    match line.get(..1).unwrap_or("") {
+        "n" => {
+            let places = small(&mut numbers);
+            return Ok(vectors_fill::make(words, bytes, places, &mut numbers));
+        }
+        "x" => file.len = 0,
+        "a" => file.append(rest),
+        "s" => {
+            let at = number(&mut numbers) as usize;
+            file.set(at, byte(&mut numbers));
         }
         _ => {
-            import_part(rt, line, words, bytes, shape, file)?;
-            Ok(State { shape, len })
+            let key = number(&mut numbers);
+            if let Some(front) = file.area.get(..number(&mut numbers) as usize) {
+                import(rt, words, bytes, shape, key, front)?;
+            }
         }
     }
-}
-
-// The lines of a script, one after the other.
-fn run(
-    rt: &impl Print,
-    script: &[u8],
-    words: &mut [u64],
-    bytes: &mut [u8],
-    file: &mut [u8],
-) -> io::Result<()> {
-    let mut s = State {
-        shape: Shape {
-            places: 0,
-            bytes: 0,
-            messages: 0,
-        },
-        len: 0,
-    };
-    let mut at: usize = 0;
-    while at < script.len() {
-        let end = vectors_script::line_end(script, at);
-        s = command(rt, &script[at..end], words, bytes, file, s)?;
-        at = end + 1;
-    }
-    Ok(())
+    Ok(shape)
 }
 
 fn main(rt: HostRuntime) -> io::Result<()> {
-    let mut script = [0u8; 65_536];
-    let n = vectors_script::read_script(&rt, &mut script)?;
+    let mut room = [0u8; 65_536];
+    let script = vectors_script::read_script(&rt, &mut room)?;
     let mut words = [5u64; 220];
     let mut bytes = [9u8; 8192];
-    let mut file = [0u8; 8192];
-    run(&rt, &script[..n], &mut words, &mut bytes, &mut file)
+    let mut area = [0u8; 8192];
+    let mut file = File {
+        area: &mut area,
+        len: 0,
+    };
+    let mut shape = vectors_fill::NO_SHAPE;
+    for line in script.lines() {
+        shape = command(&rt, line, &mut words, &mut bytes, &mut file, shape)?;
+    }
+    Ok(())
 }

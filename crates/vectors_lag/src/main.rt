@@ -5,111 +5,65 @@
 
 use active_lag::ReplicatedLog;
 use std::io;
-
-fn put(rt: &impl Print, text: &[u8]) -> io::Result<()> {
-    rt.write_all(text)
-}
-
-fn put_number(rt: &impl Print, name: &[u8], n: u64) -> io::Result<()> {
-    put(rt, name)?;
-    rt.print(n)
-}
+use vectors_script::number;
 
 // The numbers that went: the first of those that waited, and then the one pushed.
-fn put_gone(
-    rt: &impl Print,
-    waiting: [u64; ReplicatedLog::MAX_QUEUED + 1],
-    count: usize,
-    last: u64,
-    gone: usize,
-) -> io::Result<()> {
-    let mut i: usize = 0;
-    while i < gone {
-        if 0 < i {
-            put(rt, b",")?;
+fn print_gone(rt: &impl Print, queue: ReplicatedLog, last: u64, gone: usize) -> io::Result<()> {
+    let waiting = queue.queued.iter().take(queue.count).copied();
+    for (i, number) in waiting.chain(std::iter::once(last)).take(gone).enumerate() {
+        if i == 0 {
+            print!(rt; "{number}")?;
+        } else {
+            print!(rt; ",{number}")?;
         }
-        let mut n = last;
-        if i < count {
-            if i < 65 {
-                n = waiting[i];
-            }
-        }
-        put_number(rt, b"", n)?;
-        i += 1;
     }
-    Ok(())
+    println!(rt; "")
 }
 
 // One push.
-fn push(rt: &impl Print, q: ReplicatedLog, last: u64, max_lag: u64) -> io::Result<ReplicatedLog> {
-    let r = q.queue(last, max_lag);
-    let next = r.log;
-    if r.refusal == 25 {
-        put(rt, b"R 25\n")?;
-        return Ok(next);
-    }
-    let waiting = q.queued;
-    put_number(rt, b"drained=", r.drained as u64)?;
-    put_number(rt, b" through=", next.drained_through)?;
-    put_number(rt, b" waiting=", next.count as u64)?;
-    put(rt, b" numbers=")?;
-    put_gone(rt, waiting, q.count, last, r.drained)?;
-    put(rt, b"\n")?;
-    Ok(next)
-}
-
-// A push for each number of the line from `at` on.
-fn series(
+fn push(
     rt: &impl Print,
-    line: &[u8],
-    at: usize,
-    q: ReplicatedLog,
+    queue: ReplicatedLog,
+    last: u64,
     max_lag: u64,
-) -> io::Result<()> {
-    let mut q = q;
-    let mut at = at;
-    while at < line.len() {
-        q = push(rt, q, vectors_script::number_at(line, at), max_lag)?;
-        at = vectors_script::after(line, at);
+) -> io::Result<ReplicatedLog> {
+    match queue.queue(last, max_lag) {
+        Err(refusal) => {
+            println!(rt; "R {}", refusal.number())?;
+            Ok(queue)
+        }
+        Ok(pushed) => {
+            let through = pushed.log.drained_through;
+            let waiting = pushed.log.count;
+            print!(rt;
+                "drained={} through={through} waiting={waiting} numbers=",
+                pushed.drained
+            )?;
+            print_gone(rt, queue, last, pushed.drained)?;
+            Ok(pushed.log)
+        }
     }
-    Ok(())
 }
 
 // A new queue, or one in which so many zeros wait, and a push for each further number of the line.
-fn queue(rt: &impl Print, line: &[u8]) -> io::Result<()> {
-    let max_lag = vectors_script::field(line, 0);
-    let drained = vectors_script::field(line, 1);
-    let letter = if line.len() == 0 { 0 } else { line[0] };
-    if letter == b'Q' {
-        return series(
-            rt,
-            line,
-            vectors_script::start(line, 2),
-            ReplicatedLog::new(drained),
-            max_lag,
-        );
+fn run_line(rt: &impl Print, line: &str) -> io::Result<()> {
+    let mut words = line.split_whitespace();
+    let letter = words.next();
+    let max_lag = number(&mut words);
+    let mut queue = ReplicatedLog::new(number(&mut words));
+    if letter == Some("q") {
+        queue.count = number(&mut words) as usize;
     }
-    let q = ReplicatedLog {
-        drained_through: drained,
-        count: vectors_script::field(line, 2) as usize,
-        queued: [0; ReplicatedLog::MAX_QUEUED + 1],
-    };
-    series(rt, line, vectors_script::start(line, 3), q, max_lag)
-}
-
-// The lines of a script, one after the other.
-fn run(rt: &impl Print, script: &[u8]) -> io::Result<()> {
-    let mut at: usize = 0;
-    while at < script.len() {
-        let end = vectors_script::line_end(script, at);
-        queue(rt, &script[at..end])?;
-        at = end + 1;
+    for word in words {
+        queue = push(rt, queue, word.parse().unwrap_or(0), max_lag)?;
     }
     Ok(())
 }
 
 fn main(rt: HostRuntime) -> io::Result<()> {
-    let mut script = [0u8; 65_536];
-    let n = vectors_script::read_script(&rt, &mut script)?;
-    run(&rt, &script[..n])
+    let mut room = [0u8; 65_536];
+    for line in vectors_script::read_script(&rt, &mut room)?.lines() {
+        run_line(&rt, line)?;
+    }
+    Ok(())
 }

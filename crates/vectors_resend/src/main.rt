@@ -4,248 +4,120 @@
 // `G PLACE ENTRIES FIRST LAST ..` a request for the session at a place, into an area of so many entries.
 #![tactic(auto)]
 
+use base_refusals::Refusal;
 use std::io;
+use std::str::SplitWhitespace;
 use store_areas::Shape;
+use store_resend::{Listed, Tally};
+use vectors_script::{number, numbers};
 
-fn put(rt: &impl Print, text: &[u8]) -> io::Result<()> {
-    rt.write_all(text)
-}
+// What each word of an area is before it is lent.
+const LENT: u64 = 7;
 
-fn put_number(rt: &impl Print, name: &[u8], n: u64) -> io::Result<()> {
-    put(rt, name)?;
-    rt.print(n)
-}
-
-// FNV-1a of a part of the byte area on from h, 0 where it lies outside.
-fn hash_part(h: u64, bytes: &[u8], at: u64, len: u64) -> u64 {
+// FNV-1a of a part of the byte area on from a hash, 0 where it lies outside.
+fn hash_part(hash: u64, bytes: &[u8], at: u64, len: u64) -> u64 {
     let from = at as usize;
-    let many = len as usize;
-    if from <= bytes.len() {
-        if many <= bytes.len() - from {
-            let end = from + many;
-            return c_store::store_fnv(h, &bytes[from..end]);
-        }
+    let end = from.saturating_add(len as usize);
+    match bytes.get(from..end) {
+        Some(part) => c_store::store_fnv(hash, part),
+        None => 0,
     }
-    0
 }
 
-// An entry: number, set, length and the hash of the bytes that it names.
-fn put_entry(rt: &impl Print, bytes: &[u8], e: [u64; 6]) -> io::Result<()> {
-    put_number(rt, b"", e[0])?;
-    put_number(rt, b" ", e[1])?;
-    put_number(rt, b" ", e[3] % 4_294_967_296 + e[5] % 4_294_967_296)?;
-    let h = hash_part(14695981039346656037, bytes, e[2], e[3]);
-    put_number(rt, b" ", hash_part(h, bytes, e[4], e[5]))?;
-    put(rt, b"\n")
-}
-
-// The entries of a list.
-fn put_entries(rt: &impl Print, bytes: &[u8], entries: &[u64], count: usize) -> io::Result<()> {
-    let mut i: usize = 0;
-    while i < count {
-        let at = i % 72 * 6;
-        if entries.len() < at + 6 {
+// The entries of a list: number, set, length and the hash of the bytes that it names.
+fn print_entries(rt: &impl Print, bytes: &[u8], entries: &[u64]) -> io::Result<()> {
+    for entry in entries.chunks_exact(Listed::ENTRY_WORDS) {
+        let [number, set, first_at, first_len, second_at, second_len] = *entry else {
             return Ok(());
-        }
-        put_entry(
-            rt,
-            bytes,
-            [
-                entries[at],
-                entries[at + 1],
-                entries[at + 2],
-                entries[at + 3],
-                entries[at + 4],
-                entries[at + 5],
-            ],
-        )?;
-        i += 1;
+        };
+        let len = first_len.wrapping_add(second_len);
+        let first = hash_part(store_log::fnv::START, bytes, first_at, first_len);
+        let hash = hash_part(first, bytes, second_at, second_len);
+        println!(rt; "{number} {set} {len} {hash}")?;
     }
     Ok(())
 }
 
-// Whether the words from a place on are as they were lent.
-fn are_kept(entries: &[u64], from: usize) -> bool {
-    let mut i = from;
-    while i < entries.len() {
-        if entries[i] != 7 {
-            return false;
-        }
-        i += 1;
-    }
-    true
-}
-
 // The answer to a request, and whether what isn't the list's is as it was lent.
-fn put_answer(
+fn print_answer(
     rt: &impl Print,
     bytes: &[u8],
     entries: &[u64],
-    r: store_resend::Listed,
+    listed: Result<Tally, Refusal>,
 ) -> io::Result<()> {
-    if r.refusal != 0 {
-        put_number(rt, b"R ", r.refusal as u64)?;
-    } else {
-        put_number(rt, b"count=", r.length as u64)?;
-        put_number(rt, b" bytes=", r.bytes as u64)?;
-    }
-    if are_kept(entries, r.length % 73 * 6) {
-        put(rt, b"\n")?;
-    } else {
-        put(rt, b" and more was written\n")?;
-    }
-    put_entries(rt, bytes, entries, r.length)
-}
-
-// Every word 7.
-fn lend_anew(entries: &mut [u64]) {
-    let mut i: usize = 0;
-    while i < entries.len() {
-        entries[i] = 7;
-        i += 1;
-    }
-}
-
-// The numbers of a line from the third on, and how many.
-fn read_numbers(line: &[u8], numbers: &mut [u64]) -> usize {
-    let mut at = vectors_script::start(line, 2);
-    let mut k: usize = 0;
-    while k < numbers.len() {
-        if line.len() <= at {
-            return k;
+    let mut words = 0;
+    match listed {
+        Ok(Tally { length, bytes }) => {
+            print!(rt; "count={length} bytes={bytes}")?;
+            words = length.saturating_mul(Listed::ENTRY_WORDS);
         }
-        numbers[k] = vectors_script::number_at(line, at);
-        at = vectors_script::after(line, at);
-        k += 1;
+        Err(refusal) => print!(rt; "R {}", refusal.number())?,
     }
-    k
+    let (list, rest) = entries.split_at(words.min(entries.len()));
+    if rest.iter().all(|word| *word == LENT) {
+        println!(rt; "")?;
+    } else {
+        println!(rt; " and more was written")?;
+    }
+    print_entries(rt, bytes, list)
 }
 
 // A request, into an area of at most 72 entries.
 fn request(
     rt: &impl Print,
-    line: &[u8],
+    mut line: SplitWhitespace<'_>,
     words: &[u64],
     bytes: &[u8],
     shape: Shape,
-    numbers: &mut [u64],
-    entries: &mut [u64],
 ) -> io::Result<()> {
-    lend_anew(entries);
-    let many = read_numbers(line, numbers);
-    let place = vectors_script::field(line, 0) as usize;
-    let room = vectors_script::field(line, 1) as usize % 73 * 6;
-    if numbers.len() < many {
-        return Ok(());
-    }
-    if entries.len() < room {
-        return Ok(());
-    }
-    let r = store_resend::list(
+    let mut ranges = [0u64; 132];
+    let mut entries = [LENT; 432];
+    let place = number(&mut line) as usize;
+    let room = number(&mut line) as usize;
+    let ranges = numbers(&mut line, &mut ranges);
+    let listed = store_resend::list(
         words,
         bytes,
         shape,
         place,
-        &numbers[0..many],
-        &mut entries[0..room],
+        ranges,
+        &mut entries[..room % 73 * Listed::ENTRY_WORDS],
     );
-    put_answer(rt, bytes, entries, r)
-}
-
-// A new store with one session.
-fn make(line: &[u8], words: &mut [u64], bytes: &mut [u8]) -> Shape {
-    let shape = Shape {
-        places: 1,
-        bytes: vectors_script::low(vectors_script::field(line, 0)),
-        messages: vectors_script::low(vectors_script::field(line, 1)),
-    };
-    c_store::store_make(words, bytes, shape);
-    c_store::store_open(words, bytes, shape, b"FIX.4.4", b"A", b"B", b"");
-    shape
+    print_answer(rt, bytes, &entries, listed)
 }
 
 // One command: what it leaves as the store's shape.
 fn command(
     rt: &impl Print,
-    line: &[u8],
+    line: &str,
     words: &mut [u64],
     bytes: &mut [u8],
-    room: &mut [u8],
-    numbers: &mut [u64],
-    entries: &mut [u64],
     shape: Shape,
 ) -> io::Result<Shape> {
-    let letter = if line.len() == 0 { 0 } else { line[0] };
-    let n = vectors_script::field(line, 0);
-    match letter {
-        b'n' => Ok(make(line, words, bytes)),
-        b'l' => {
-            vectors_fill::record_made(words, bytes, shape, 0, n as usize, room);
-            Ok(shape)
+    let mut numbers = line.get(2..).unwrap_or("").split_whitespace();
+    match line.get(..1).unwrap_or("") {
+        "n" => {
+            let made = vectors_fill::make(words, bytes, 1, &mut numbers);
+            vectors_fill::open(words, bytes, made, "B");
+            return Ok(made);
         }
-        b'g' => {
-            vectors_fill::skip(words, bytes, shape, 0, n);
-            Ok(shape)
-        }
-        b'z' => {
-            vectors_fill::reset(words, bytes, shape, 0);
-            Ok(shape)
-        }
+        "G" => request(rt, numbers, words, bytes, shape)?,
         _ => {
-            request(rt, line, words, bytes, shape, numbers, entries)?;
-            Ok(shape)
+            let mut room = [0u8; 1100];
+            vectors_fill::change(words, bytes, shape, 0, line, &mut room);
         }
     }
-}
-
-// The lines of a script, one after the other.
-fn run(
-    rt: &impl Print,
-    script: &[u8],
-    words: &mut [u64],
-    bytes: &mut [u8],
-    room: &mut [u8],
-    numbers: &mut [u64],
-    entries: &mut [u64],
-) -> io::Result<()> {
-    let mut shape = Shape {
-        places: 0,
-        bytes: 0,
-        messages: 0,
-    };
-    let mut at: usize = 0;
-    while at < script.len() {
-        let end = vectors_script::line_end(script, at);
-        shape = command(
-            rt,
-            &script[at..end],
-            words,
-            bytes,
-            room,
-            numbers,
-            entries,
-            shape,
-        )?;
-        at = end + 1;
-    }
-    Ok(())
+    Ok(shape)
 }
 
 fn main(rt: HostRuntime) -> io::Result<()> {
-    let mut script = [0u8; 65_536];
-    let n = vectors_script::read_script(&rt, &mut script)?;
+    let mut room = [0u8; 65_536];
+    let script = vectors_script::read_script(&rt, &mut room)?;
     let mut words = [0u64; 242];
     let mut bytes = [0u8; 1248];
-    let mut room = [0u8; 1100];
-    let mut numbers = [0u64; 132];
-    let mut entries = [0u64; 432];
-    run(
-        &rt,
-        &script[..n],
-        &mut words,
-        &mut bytes,
-        &mut room,
-        &mut numbers,
-        &mut entries,
-    )
+    let mut shape = vectors_fill::NO_SHAPE;
+    for line in script.lines() {
+        shape = command(&rt, line, &mut words, &mut bytes, shape)?;
+    }
+    Ok(())
 }

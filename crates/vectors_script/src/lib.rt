@@ -1,20 +1,20 @@
-// A script read from standard input; lines, and numbers in them.
+// What the programs share that run recorded lines: a script read from standard input, the words of a line, and the area that is lent.
 #![tactic(auto)]
 
-ghost use Rattle.std.specs.Prelude.{◌<◌, ◌≤◌, IfOk, length};
+ghost use Rattle.std.specs.Prelude.{◌≤◌, IfOk, length};
 
 use std::io;
 use std::io::Read;
-use std::num::wrapping_add_u64;
+use std::str::{self, SplitWhitespace};
 
 // Reads until the room is full or the input ends, and says how many bytes came.
-pub fn read_script(rt: &impl Input, script: &mut [u8]) -> io::Result<usize>
-    ensures { IfOk result (λ n. n ≤ length script.new) }
+fn fill(rt: &impl Input, room: &mut [u8]) -> io::Result<usize>
+    ensures { IfOk result (λ n. n ≤ length room.new) }
 {
     let mut reader = rt.reader();
     let mut done: usize = 0;
-    while done < script.len() {
-        let n = reader.read(&mut script[done..])?;
+    while done < room.len() {
+        let n = reader.read(&mut room[done..])?;
         if n == 0 {
             break;
         }
@@ -23,76 +23,79 @@ pub fn read_script(rt: &impl Input, script: &mut [u8]) -> io::Result<usize>
     Ok(done)
 }
 
-// The end of the line that starts at `at`.
-pub fn line_end(s: &[u8], at: usize) -> usize
-    requires { at ≤ length s.now }
-    ensures { (at ≤ result) × (result ≤ length s.now) }
+// The script: as many bytes of the input as there is room for.
+pub fn read_script<'a>(rt: &impl Input, room: &'a mut [u8]) -> io::Result<&'a str> {
+    let n = fill(rt, room)?;
+    str::from_utf8(&room[..n]).map_err(|_| io::Error::from(io::ErrorKind::InvalidData))
+}
+
+// The next word as a number, 0 where there is none.
+pub fn number(words: &mut SplitWhitespace<'_>) -> u64 {
+    words.next().and_then(|word| word.parse().ok()).unwrap_or(0)
+}
+
+// The next word as a number of 32 bits: the low ones.
+pub fn small(words: &mut SplitWhitespace<'_>) -> u32 {
+    (number(words) & 0xffff_ffff) as u32
+}
+
+// The next word as a byte: the low bits.
+pub fn byte(words: &mut SplitWhitespace<'_>) -> u8 {
+    (number(words) & 0xff) as u8
+}
+
+// The numbers that are left in a line, as many as there is room for.
+pub fn numbers<'a>(words: &mut SplitWhitespace<'_>, room: &'a mut [u64]) -> &'a [u64] {
+    let mut count: usize = 0;
+    for place in &mut *room {
+        let Some(word) = words.next() else {
+            break;
+        };
+        *place = word.parse().unwrap_or(0);
+        // At most as many as there are places, so it never stands still.
+        count = count.saturating_add(1);
+    }
+    room.get(..count).unwrap_or(&[])
+}
+
+// A line on the area that is lent: `word I V` sets a word, and what else there is goes to the call.
+fn replay_on<R, F>(rt: &R, area: &mut [u64], line: &str, call: &F) -> io::Result<()>
+where
+    F: Fn(&R, &mut [u64], &str) -> io::Result<()>,
+    requires { F.IsAlwaysCallable call.now }
 {
-    let mut i = at;
-    while i < s.len() {
-        if s[i] == b'\n' {
-            return i;
-        }
-        i += 1;
+    let Some(rest) = line.strip_prefix("word ") else {
+        return call(rt, area, line);
+    };
+    let mut words = rest.split_whitespace();
+    let at = number(&mut words) as usize;
+    if let Some(word) = area.get_mut(at) {
+        *word = number(&mut words);
     }
-    i
+    Ok(())
 }
 
-// The start of the word after the one at `at`.
-pub fn after(s: &[u8], at: usize) -> usize
-    requires { at < length s.now }
-    ensures { (at < result) × (result ≤ length s.now) }
+// Calls with each line and the area that is lent: after `lend 0` the short one, after `lend 1` the whole one again.
+pub fn replay_lent<R, F>(
+    rt: &R,
+    script: &str,
+    whole: &mut [u64],
+    short: &mut [u64],
+    call: F,
+) -> io::Result<()>
+where
+    F: Fn(&R, &mut [u64], &str) -> io::Result<()> + Drop,
+    requires { F.IsAlwaysCallable call }
 {
-    let mut i = at;
-    while i < s.len() {
-        let b = s[i];
-        i += 1;
-        if b == b' ' {
-            return i;
+    let mut lends_whole = true;
+    for line in script.lines() {
+        if let Some(lent) = line.strip_prefix("lend ") {
+            lends_whole = lent == "1";
+        } else if lends_whole {
+            replay_on(rt, whole, line, &call)?;
+        } else {
+            replay_on(rt, short, line, &call)?;
         }
     }
-    i
-}
-
-fn wide(b: u8) -> u64 {
-    b as u64
-}
-
-// The number in decimal digits that starts at `at`.
-pub fn number_at(s: &[u8], at: usize) -> u64 {
-    let mut value: u64 = 0;
-    let mut i = at;
-    while i < s.len() {
-        let b = s[i];
-        if b < 48 {
-            return value;
-        }
-        value = wrapping_add_u64(value % 1_844_674_407_370_955_162 * 10, wide(b % 16));
-        i += 1;
-    }
-    value
-}
-
-// The start of the word that stands k words after the first, or the line's end.
-pub fn start(s: &[u8], k: u32) -> usize {
-    let mut at: usize = 2;
-    let mut left = k;
-    while 0 < left {
-        if s.len() <= at {
-            return s.len();
-        }
-        at = after(s, at);
-        left -= 1;
-    }
-    at
-}
-
-// The number that stands k words after the first, 0 where there is none.
-pub fn field(s: &[u8], k: u32) -> u64 {
-    number_at(s, start(s, k))
-}
-
-// The low 32 bits.
-pub fn low(n: u64) -> u32 {
-    (n % 4_294_967_296) as u32
+    Ok(())
 }

@@ -1,51 +1,27 @@
 // Sendings of a session, and what they give in text.
 #![tactic(auto)]
 
-use active::{Begun, Sending, Sent};
+use active::{Sending, Sent};
+use base_refusals::Refusal;
 use frame_fields::{CommitNumber, Epoch};
 use std::io;
 use store_areas::Shape;
+use store_log::fnv;
 
-// What a call answered (0 for a frame, 1 for done, or the refusal), and what to hand to the next call.
-#[repr(C)]
-#[derive(Clone, Copy)]
-struct Called {
-    answer: u8,
-    next: Sending,
-}
+// What a call of a sending answers: a frame, done, or a refusal.
+type Answer = Result<Option<Sent>, Refusal>;
 
-fn put(rt: &impl Print, text: &[u8]) -> io::Result<()> {
-    rt.write_all(text)
-}
-
-// A frame's length and its FNV-1a.
-fn put_sum(rt: &impl Print, frame: &[u8]) -> io::Result<()> {
-    rt.print(frame.len() as u64)?;
-    put(rt, b":")?;
-    let hash = store_log::fnv::bytes(0xcbf2_9ce4_8422_2325, frame);
-    print!(rt; "{hash:016x}")?;
-    put(rt, b"\n")
-}
-
-// A frame of at most 512 bytes in hexadecimal digits, a longer one as length and hash.
-fn put_frame(rt: &impl Print, frame: &[u8]) -> io::Result<()> {
-    let n = frame.len();
-    if 512 < n {
-        return put_sum(rt, frame);
+// A frame of at most 512 bytes in hexadecimal digits, a longer one as its length and its FNV-1a.
+fn print_frame(rt: &impl Print, frame: &[u8]) -> io::Result<()> {
+    let len = frame.len();
+    if 512 < len {
+        let hash = fnv::bytes(fnv::START, frame);
+        return println!(rt; "{len}:{hash:016x}");
     }
     let mut digits = [0u8; 1024];
     base_hex::put_hex(frame, &mut digits);
-    let end = 2 * n;
-    put(rt, &digits[0..end])?;
-    put(rt, b"\n")
-}
-
-// The first len bytes of the area as a frame.
-fn put_front(rt: &impl Print, out: &[u8], len: usize) -> io::Result<()> {
-    if len <= out.len() {
-        put_frame(rt, &out[0..len])?;
-    }
-    Ok(())
+    rt.write_all(&digits[..2 * len])?;
+    println!(rt; "")
 }
 
 // One call, with what it gave in text.
@@ -56,34 +32,14 @@ fn turn(
     words: &[u64],
     bytes: &[u8],
     out: &mut [u8],
-) -> io::Result<Called> {
-    match state.send_whole(shape, words, bytes, out) {
-        Sent::Frame(len, next) => {
-            put_front(rt, out, len)?;
-            Ok(Called { answer: 0, next })
-        }
-        Sent::Done => {
-            put(rt, b"done\n")?;
-            Ok(Called {
-                answer: 1,
-                next: state,
-            })
-        }
-        Sent::TooShort => {
-            put(rt, b"R 9\n")?;
-            Ok(Called {
-                answer: 9,
-                next: state,
-            })
-        }
-        Sent::InvalidAreas => {
-            put(rt, b"R 25\n")?;
-            Ok(Called {
-                answer: 25,
-                next: state,
-            })
-        }
+) -> io::Result<Answer> {
+    let answer = state.send_whole(shape, words, bytes, out);
+    match answer {
+        Ok(Some(sent)) => print_frame(rt, out.get(..sent.len).unwrap_or(&[]))?,
+        Ok(None) => println!(rt; "done")?,
+        Err(refusal) => println!(rt; "R {}", refusal.number())?,
     }
+    Ok(answer)
 }
 
 // One call that lends `short` bytes, and after a 9 the same call again with the whole area.
@@ -95,11 +51,11 @@ fn turn_again(
     bytes: &[u8],
     out: &mut [u8],
     short: usize,
-) -> io::Result<Called> {
+) -> io::Result<Answer> {
     if short < out.len() {
-        let t = turn(rt, state, shape, words, bytes, &mut out[0..short])?;
-        if t.answer != 9 {
-            return Ok(t);
+        let answer = turn(rt, state, shape, words, bytes, &mut out[0..short])?;
+        if !matches!(answer, Err(Refusal::NoRoom)) {
+            return Ok(answer);
         }
         return turn(rt, state, shape, words, bytes, out);
     }
@@ -117,14 +73,11 @@ fn turns(
     short: usize,
 ) -> io::Result<Sending> {
     let mut state = state;
-    let mut left: u32 = 100;
-    while 0 < left {
-        let t = turn_again(rt, state, shape, words, bytes, out, short)?;
-        state = t.next;
-        if t.answer != 0 {
+    for _ in 0..100 {
+        let Ok(Some(sent)) = turn_again(rt, state, shape, words, bytes, out, short)? else {
             return Ok(state);
-        }
-        left -= 1;
+        };
+        state = sent.next;
     }
     Ok(state)
 }
@@ -142,22 +95,22 @@ pub fn whole(
     out: &mut [u8],
     short: usize,
 ) -> io::Result<()> {
+    let epoch = Epoch(epoch);
     match Sending::begin(
         shape,
         words,
         bytes,
         place,
         handle,
-        Epoch(epoch),
+        epoch,
         CommitNumber(last),
     ) {
-        Begun::Ready(s) => {
+        Ok(s) => {
             let end = turns(rt, s, shape, words, bytes, out, short)?;
-            turn(rt, end, shape, words, bytes, out)?;
+            let _ = turn(rt, end, shape, words, bytes, out)?;
             Ok(())
         }
-        Begun::CommitNumbersExhausted => put(rt, b"R 24\n"),
-        Begun::InvalidAreas => put(rt, b"R 25\n"),
+        Err(refusal) => println!(rt; "R {}", refusal.number()),
     }
 }
 
@@ -177,9 +130,8 @@ pub fn odd(
         handle: 1,
         epoch: Epoch(0),
         last: CommitNumber(last),
-        from,
-        done: 0,
+        from: Some(from),
     };
-    turn(rt, s, shape, words, bytes, out)?;
+    let _ = turn(rt, s, shape, words, bytes, out)?;
     Ok(())
 }

@@ -2,51 +2,26 @@
 // following bytes, and stamps, marks and keys, and writes how many were taken. What it must write was counted with Python's decoder.
 #![tactic(auto)]
 
-ghost use Rattle.std.specs.Prelude.{◌≤◌, length};
-
 use frame_stamp::{Protocol, is_key, is_marks, is_stamp, takes_stamp};
 use frame_utf8::is_utf8;
 use std::io;
-use std::num::wrapping_add_u64;
 
 // How many inputs there were, how many of them were taken, and the sum of the numbers of those taken, which tells them apart.
-#[repr(C)]
-#[derive(Clone, Copy)]
+#[derive(Clone, Copy, Default)]
 struct Tally {
     of: u64,
     taken: u64,
     sum: u64,
 }
 
-fn tallied(t: Tally, ok: bool) -> Tally {
-    let of = wrapping_add_u64(t.of, 1);
-    if ok {
-        return Tally {
-            of: of,
-            taken: wrapping_add_u64(t.taken, 1),
-            sum: wrapping_add_u64(t.sum, of),
-        };
-    }
-    Tally {
-        of: of,
-        taken: t.taken,
-        sum: t.sum,
-    }
-}
-
-// The place of the next x in s from `at` on, or the end.
-fn next(s: &[u8], at: usize, x: u8) -> usize
-    requires { at ≤ length s.now }
-    ensures { (at ≤ result) × (result ≤ length s.now) }
-{
-    let mut i = at;
-    while i < s.len() {
-        if s[i] == x {
-            return i;
+impl Tally {
+    fn add(&mut self, taken: bool) {
+        self.of = self.of.wrapping_add(1);
+        if taken {
+            self.taken = self.taken.wrapping_add(1);
+            self.sum = self.sum.wrapping_add(self.of);
         }
-        i += 1;
     }
-    i
 }
 
 // A key of which one part is s and the others are short.
@@ -71,21 +46,11 @@ fn is_taken(kind: u8, s: &[u8]) -> bool {
 
 // The parts of s, each with a bar behind it.
 fn table(kind: u8, s: &[u8]) -> Tally {
-    let mut t = Tally {
-        of: 0,
-        taken: 0,
-        sum: 0,
-    };
-    let mut at: usize = 0;
-    while at < s.len() {
-        let e = next(s, at, b'|');
-        t = tallied(t, is_taken(kind, &s[at..e]));
-        if e == s.len() {
-            return t;
-        }
-        at = e + 1;
+    let mut tally = Tally::default();
+    for part in s.split_inclusive(|b| *b == b'|') {
+        tally.add(is_taken(kind, part.strip_suffix(b"|").unwrap_or(part)));
     }
-    t
+    tally
 }
 
 // ASCII with the byte b at a place, which the test passes by blocks but for that byte.
@@ -126,32 +91,25 @@ fn is_shape(shape: u8, k: u64) -> bool {
 
 // All n inputs of that shape.
 fn shapes(shape: u8, n: u64) -> Tally {
-    let mut t = Tally {
-        of: 0,
-        taken: 0,
-        sum: 0,
-    };
-    let mut k: u64 = 0;
-    while k < n {
-        t = tallied(t, is_shape(shape, k));
-        k += 1;
+    let mut tally = Tally::default();
+    for k in 0..n {
+        tally.add(is_shape(shape, k));
     }
-    t
+    tally
 }
 
-fn line(rt: &impl Print, name: &[u8], t: Tally) -> io::Result<()> {
-    let Tally { of, taken, sum } = t;
-    rt.write_all(name)?;
-    println!(rt; ": {taken} of {of} taken, sum {sum}")
+fn line(rt: &impl Print, name: &str, tally: Tally) -> io::Result<()> {
+    let Tally { of, taken, sum } = tally;
+    println!(rt; "{name}: {taken} of {of} taken, sum {sum}")
 }
 
 // The answers to the parts of s.
-fn row(rt: &impl Print, name: &[u8], kind: u8, s: &[u8]) -> io::Result<()> {
+fn row(rt: &impl Print, name: &str, kind: u8, s: &[u8]) -> io::Result<()> {
     line(rt, name, table(kind, s))
 }
 
 // The answers to all n inputs of that shape.
-fn sweep(rt: &impl Print, name: &[u8], shape: u8, n: u64) -> io::Result<()> {
+fn sweep(rt: &impl Print, name: &str, shape: u8, n: u64) -> io::Result<()> {
     line(rt, name, shapes(shape, n))
 }
 
@@ -159,14 +117,14 @@ fn sweep(rt: &impl Print, name: &[u8], shape: u8, n: u64) -> io::Result<()> {
 fn texts_taken(rt: &impl Print) -> io::Result<()> {
     row(
         rt,
-        b"RFC 3629, section 7",
+        "RFC 3629, section 7",
         b'u',
         b"A\xE2\x89\xA2\xCE\x91.|\xED\x95\x9C\xEA\xB5\xAD\xEC\x96\xB4|\
         \xE6\x97\xA5\xE6\x9C\xAC\xE8\xAA\x9E|\xEF\xBB\xBF\xF0\xA3\x8E\xB4|",
     )?;
     row(
         rt,
-        b"first and last of each length",
+        "first and last of each length",
         b'u',
         b"\x00|\x7F|\xC2\x80|\xDF\xBF|\xE0\xA0\x80|\xED\x9F\xBF|\xEE\x80\x80|\xEF\xBF\xBF|\
         \xF0\x90\x80\x80|\xF4\x8F\xBF\xBF||",
@@ -177,14 +135,14 @@ fn texts_taken(rt: &impl Print) -> io::Result<()> {
 fn texts_refused(rt: &impl Print) -> io::Result<()> {
     row(
         rt,
-        b"overlong, surrogates, above 10FFFF",
+        "overlong, surrogates, above 10FFFF",
         b'u',
         b"\xC0\x80|\xC1\xBF|\xE0\x80\x80|\xE0\x9F\xBF|\xED\xA0\x80|\xED\xAF\xBF|\
         \xED\xB0\x80|\xED\xBF\xBF|\xED\xA1\x8C\xED\xBE\xB4|\xF0\x80\x80\x80|\xF0\x8F\xBF\xBF|\xF4\x90\x80\x80|\xF5\x80\x80\x80|\xF7\xBF\xBF\xBF|",
     )?;
     row(
         rt,
-        b"out of form",
+        "out of form",
         b'u',
         b"\x80|\xBF|\xF8\x88\x80\x80\x80|\xFC\x84\x80\x80\x80\x80|\xFE|\xFF|\xC2|\xC2A|\xC2\xC0|\xE2\x89|\
         \xE2\x89A|\xE2A\xA2|A\xF0\xA3\x8E|\xF0\xA3\x8E\xC0|\xF0\xA3\x41\xB4|A\x80|",
@@ -194,20 +152,20 @@ fn texts_refused(rt: &impl Print) -> io::Result<()> {
 fn stamps(rt: &impl Print) -> io::Result<()> {
     row(
         rt,
-        b"stamps in range",
+        "stamps in range",
         b's',
         b"20240229-23:59:60|00000101-00:00:00|99991231-23:59:59.999|20240131-00:00:00.000|20230228-12:30:30|",
     )?;
     row(
         rt,
-        b"stamps out of range",
+        "stamps out of range",
         b's',
         b"20240229-24:00:00|20240229-23:60:00|20240229-23:59:61|20240029-23:59:59|20241329-23:59:59|\
         20240200-23:59:59|20240132-23:59:59|2024022a-23:59:59|20240229-2/:59:59|",
     )?;
     row(
         rt,
-        b"stamps out of form",
+        "stamps out of form",
         b's',
         b"|20240229-23:59:5|20240229 23:59:59|20240229-23.59:59|20240229-23:59:59.|20240229-23:59:59.12|\
         20240229-23:59:59,123|20240229-23:59:59.1234|20240229-23:59:59.123456|20240229-23:59:59.12a|",
@@ -218,7 +176,7 @@ fn stamps(rt: &impl Print) -> io::Result<()> {
 fn days(rt: &impl Print) -> io::Result<()> {
     row(
         rt,
-        b"last days",
+        "last days",
         b's',
         b"20230131-00:00:00|20230228-00:00:00|20230331-00:00:00|20230430-00:00:00|20230531-00:00:00|\
         20230630-00:00:00|20230731-00:00:00|20230831-00:00:00|20230930-00:00:00|20231031-00:00:00|\
@@ -227,7 +185,7 @@ fn days(rt: &impl Print) -> io::Result<()> {
     )?;
     row(
         rt,
-        b"days after them",
+        "days after them",
         b's',
         b"20230132-00:00:00|20230229-00:00:00|20230332-00:00:00|20230431-00:00:00|20230532-00:00:00|\
         20230631-00:00:00|20230732-00:00:00|20230832-00:00:00|20230931-00:00:00|20231032-00:00:00|\
@@ -239,30 +197,30 @@ fn days(rt: &impl Print) -> io::Result<()> {
 fn names(rt: &impl Print) -> io::Result<()> {
     row(
         rt,
-        b"marks",
+        "marks",
         b'm',
         b"|B|ABCDEFGHIJKLMNOPQRSTUVWXYZ012345ABCDEFGHIJKLMNOPQRSTUVWXYZ012345|\
         ABCDEFGHIJKLMNOPQRSTUVWXYZ012345ABCDEFGHIJKLMNOPQRSTUVWXYZ0123456| ~|\x1F|\x7F|A\xC2\x80|A\n|",
     )?;
     let parts =
         b"|A|ABCDEFGHIJKLMNOPQRSTUVWXYZ012345|ABCDEFGHIJKLMNOPQRSTUVWXYZ0123456| ~|\x1F|\x7F|\xC2\x80|";
-    row(rt, b"begin string", b'1', parts)?;
-    row(rt, b"sender", b'2', parts)?;
-    row(rt, b"target", b'3', parts)?;
-    row(rt, b"suffix", b'4', parts)
+    row(rt, "begin string", b'1', parts)?;
+    row(rt, "sender", b'2', parts)?;
+    row(rt, "target", b'3', parts)?;
+    row(rt, "suffix", b'4', parts)
 }
 
 fn inputs(rt: &impl Print) -> io::Result<()> {
-    sweep(rt, b"all of one byte", 1, 256)?;
-    sweep(rt, b"all of two bytes", 2, 65536)?;
-    sweep(rt, b"all of three bytes", 3, 16777216)?;
-    sweep(rt, b"first two of four", 4, 65536)?;
-    sweep(rt, b"first and third, after 8F", 5, 65536)?;
-    sweep(rt, b"first and third, after 90", 6, 65536)?;
-    sweep(rt, b"first and last, after 90 80", 7, 65536)?;
-    sweep(rt, b"first and last, after 8F BF", 8, 65536)?;
-    sweep(rt, b"first bytes, then 80, of one to five bytes", 9, 1280)?;
-    sweep(rt, b"a byte in 80 of ASCII", 10, 20480)
+    sweep(rt, "all of one byte", 1, 256)?;
+    sweep(rt, "all of two bytes", 2, 65536)?;
+    sweep(rt, "all of three bytes", 3, 16777216)?;
+    sweep(rt, "first two of four", 4, 65536)?;
+    sweep(rt, "first and third, after 8F", 5, 65536)?;
+    sweep(rt, "first and third, after 90", 6, 65536)?;
+    sweep(rt, "first and last, after 90 80", 7, 65536)?;
+    sweep(rt, "first and last, after 8F BF", 8, 65536)?;
+    sweep(rt, "first bytes, then 80, of one to five bytes", 9, 1280)?;
+    sweep(rt, "a byte in 80 of ASCII", 10, 20480)
 }
 
 fn main(rt: HostRuntime) -> io::Result<()> {

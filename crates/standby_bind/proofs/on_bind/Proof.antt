@@ -2,7 +2,6 @@ use borrow.Author.Rules.{rules}
 use native.Mathlib.Omega.{arith}
 use Rattle.standby_bind.proofs.Laws.{free_there, stale, lagging, all_places, all_handles, binds}
 use Rattle.frame_fields.specs.Answers.{key_of}
-use borrow.Author.Tests.{not-false}
 use lib.ListN.{get_or}
 use Rattle.standby_bind.proofs.on_bind.Statement.{statement}
 use Rattle.standby_bind.proofs.on_bind.Tie as tie

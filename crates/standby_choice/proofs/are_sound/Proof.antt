@@ -1,4 +1,3 @@
-use native.Mathlib.Omega.{arith}
 use borrow.Author.Rules.{rules}
 use Rattle.standby_choice.proofs.Laws.{together}
 use Rattle.standby_choice.proofs.are_sound.Statement.{statement}

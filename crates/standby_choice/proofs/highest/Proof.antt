@@ -1,4 +1,3 @@
-use native.Mathlib.Omega.{arith}
 use borrow.Author.Rules.{rules}
 use Rattle.standby_choice.proofs.Laws.{highest_is}
 use Rattle.standby_choice.proofs.highest.Statement.{statement}

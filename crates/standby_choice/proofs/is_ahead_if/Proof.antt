@@ -1,4 +1,3 @@
-use native.Mathlib.Omega.{arith}
 use borrow.Author.Rules.{rules}
 use Rattle.standby_choice.proofs.Laws.{listed_so, asked, not_asked}
 use Rattle.standby_choice.proofs.is_ahead_if.Statement.{statement}

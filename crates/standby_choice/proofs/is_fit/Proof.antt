@@ -1,6 +1,4 @@
-use native.Mathlib.Omega.{arith}
 use borrow.Author.Rules.{rules}
-use borrow.Author.Tests.{not-true, not-false}
 use Rattle.standby_choice.proofs.Laws.{listed_so, no_candidate, candidate, together}
 use Rattle.standby_choice.proofs.is_fit.Statement.{statement}
 use Rattle.standby_choice.proofs.is_fit.Tie as tie

@@ -1,9 +1,5 @@
-use Rattle.std.proofs.Common.{length, ◌-◌, ◌≤◌}
 use Rattle.standby_row.proofs.Lists.{Looking}
 use Rattle.standby_row.proofs.find.Given as goal
 
 abbrev pub invariant-loop-i : goal.invariant-loop-i
-invariant-loop-i l = Looking l.fn.handle l.fn.places l.fn.room l.row l.seen l.i × (l.i ≤ length l.row)
-
-abbrev pub decreases-loop-i : goal.decreases-loop-i
-decreases-loop-i l = length l.row - l.i
+invariant-loop-i l = Looking l.fn.handle l.fn.places l.fn.room l.row l.seen l.i

@@ -1,0 +1,5 @@
+use Rattle.active_books_area.proofs.Area.{compared_set}
+use Rattle.active_books_session.proofs.compare.Goals as goal
+
+pub returns : goal.returns
+returns c = compared_set c.args.words.now c.args.session c.args.i c.args.incarnation c.requires

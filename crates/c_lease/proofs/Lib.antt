@@ -1,2 +1,0 @@
--- Leases as words.
-pub mod Laws

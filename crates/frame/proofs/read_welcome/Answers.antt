@@ -1,0 +1,15 @@
+use Rattle.model_frame.specs.Reading.{welcome_fields}
+use Rattle.frame_reader.proofs.Faults.{passed_on}
+use Rattle.frame.proofs.read_welcome.Goals as goal
+
+pub returns-in_err-epoch-clause-read : goal.returns-in_err-epoch-clause-read
+unfolding welcome_fields
+returns-in_err-epoch-clause-read c = λ v. rw (← c.in_err-epoch.ensures.read, passed_on c.from_residual.result c.in_err-epoch.field-0.0 c.from_residual.ensures)
+
+pub returns-in_err-incarnation-clause-read : goal.returns-in_err-incarnation-clause-read
+unfolding welcome_fields
+returns-in_err-incarnation-clause-read c = λ v. rw (← c.in_ok-epoch.ensures.read, ← c.in_err-incarnation.ensures.read, passed_on c.from_residual-in_err-incarnation.result c.in_err-incarnation.field-0.0 c.from_residual-in_err-incarnation.ensures)
+
+pub returns-clause-read : goal.returns-clause-read
+unfolding welcome_fields
+returns-clause-read c = λ v. rw (← c.in_ok-epoch.ensures.read, ← c.in_ok-incarnation.ensures.read)

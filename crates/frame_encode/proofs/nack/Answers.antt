@@ -1,0 +1,11 @@
+use Rattle.std.proofs.lemmas.Result.{err_from_is_err_and}
+use Rattle.frame_fields.specs.Answers.{reason_of}
+use Rattle.frame_encode.proofs.Ready.{nack_ready}
+use Rattle.frame_writer.proofs.Encoded.{encoded_failed, encoded_took}
+use Rattle.frame_encode.proofs.nack.Goals as goal
+
+pub returns-in_err-at : goal.returns-in_err-at
+returns-in_err-at c = let a = c.args in let p = err_from_is_err_and c.from_residual.result c.from_residual.ensures.1 in rw (p.1, p.2) (λ v. encoded_failed v _ _ (nack_ready v a.handle (reason_of a.reason)) _ c.in_err-at.ensures)
+
+pub returns : goal.returns
+returns c = let a = c.args in λ v. encoded_took v _ _ (nack_ready v a.handle (reason_of a.reason)) c.in_ok-at.ensures c.put_nack.ensures

@@ -1,0 +1,5 @@
+use Rattle.frame_stamp.proofs.Plain.{Upto}
+use Rattle.frame_stamp.proofs.all_plain.Given as goal
+
+abbrev pub invariant-loop-byte : goal.invariant-loop-byte
+invariant-loop-byte l = Upto l.s l.ok l.byte-index

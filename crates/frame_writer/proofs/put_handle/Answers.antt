@@ -1,0 +1,5 @@
+use Rattle.base_laws.proofs.Writes.{wrote_on}
+use Rattle.frame_writer.proofs.put_handle.Goals as goal
+
+pub returns-clause-wrote : goal.returns-clause-wrote
+returns-clause-wrote c = wrote_on c.tag-at.ensures.wrote c.put_at.ensures.wrote

@@ -1,0 +1,5 @@
+use Rattle.standby_ahead.proofs.Prints.{Printing}
+use Rattle.standby_ahead.proofs.prints_of.Given as goal
+
+abbrev pub invariant-loop-i : goal.invariant-loop-i
+invariant-loop-i l = Printing l.shape l.words l.bytes l.out l.i

@@ -1,0 +1,5 @@
+use Rattle.standby_pending_run.proofs.Turns.{Running}
+use Rattle.standby_pending_run.proofs.run.Given as goal
+
+abbrev pub invariant-loop-i : goal.invariant-loop-i
+invariant-loop-i l = Running l.fn.shape l.fn.bytes l.initial.words l.words l.i

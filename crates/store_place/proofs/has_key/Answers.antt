@@ -1,0 +1,7 @@
+use mathlib.Core.Bool.{◌&&◌}
+use Rattle.store_place.specs.Place.{stored_key}
+use Rattle.store_place.proofs.has_key.Goals as goal
+
+pub returns : goal.returns
+unfolding stored_key
+returns c = λ i. c.same_field.ensures i && (c.same_field-2.ensures i && (c.same_field-3.ensures i && c.same_field-4.ensures i))

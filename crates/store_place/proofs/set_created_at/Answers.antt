@@ -1,0 +1,10 @@
+use Rattle.std.proofs.Common.{arith}
+use Rattle.model_text.proofs.Laws.{stamp_is}
+use Rattle.store_place.proofs.Logging.{stamped}
+use Rattle.store_place.proofs.set_created_at.Goals as goal
+
+pub put_text-requires-clause-text_len_bound : goal.put_text-requires-clause-text_len_bound
+put_text-requires-clause-text_len_bound c = omega (arith, stamp_is _ c.requires.text_value)
+
+pub returns : goal.returns
+returns c C M = stamped C M c.args.text.now c.args.bytes.now c.put_text.new.bytes c.args.words.now (omega arith) c.put_text.ensures c.requires.text_value
