@@ -3,12 +3,11 @@ use mathlib.Core.Path.{◌≡◌, refl, sym, ap, subst, ◌∙◌}
 use mathlib.Core.Bool.{Bool, true, false, cond, ◌&&◌}
 use mathlib.Core.List.{List, [], ◌∷◌}
 use mathlib.Core.Option.{none, some, map}
-use Prim.Native.Nat.{ℕ, zero, suc, ◌-◌, ◌^◌, ◌≤◌, ◌<◌}
+use Prim.Native.Nat.{ℕ, zero, suc, ◌^◌, ◌≤◌, ◌<◌}
 use native.Mathlib.Omega.{arith}
 use lib.ListN.{length, get_or, get_elem?}
 use lib.Dec.{ltb}
 use borrow.Author.Tests.{ltb-true, ltb-false}
-use borrow.Rule.Slice.PartMut.{mid_of}
 use Rattle.model_text.proofs.Formed.{and_l, and_r}
 use Rattle.model_frame.specs.Parse.{Each}
 use Rattle.model_session.specs.Session.{Session, Holdable}
@@ -16,10 +15,10 @@ use Rattle.model_session.proofs.Basics.{none≢some, some_inj}
 use Rattle.model_standby.specs.Store.{Place, session_at}
 use Rattle.store_place.specs.Place.{session_of, place_in}
 use Rattle.store_areas.specs.declared.Shape.{Shape}
-use Rattle.store_areas.specs.Areas.{allowed, Rules, SpotIn, place_at, places_of}
+use Rattle.store_areas.specs.Areas.{allowed, Rules, place_at, places_of}
 use Rattle.store_log.proofs.Lawful.{Small}
 use Rattle.store_areas.proofs.Holding.{all_holdable}
-use Rattle.store_areas.proofs.Lifting.{spot_place, places_length, session_is}
+use Rattle.store_areas.proofs.Lifting.{places_length, session_is}
 use Rattle.store_areas.proofs.Ruling.{rules_of}
 use Rattle.active.specs.Whole.{stored_at}
 
@@ -59,11 +58,10 @@ module _ (s : Shape) (w b : List ℕ) (i : ℕ) where
         go true f = past f
         go false f = refl
 
-  -- the place's parts, lent
-  module _ (wa we ba be : ℕ) (at : SpotIn s i w b wa we ba be) (r : Rules s w b) (h : i < get_or w 0 0) where
-    pub lent_session : session_of s.bytes s.messages (mid_of wa (we - wa) w) (mid_of ba (be - ba) b) ≡ held
-    unfolding place_in
-    lent_session = ap (λ (p : Place). p.stored.session) (spot_place s i wa we ba be at.at w b r h)
+  -- the session of the place, as it is read
+  pub lent_session : (M : ℕ) (x y : List ℕ) → place_in s.bytes s.messages x y ≡ place_at s w b i → M ≡ s.messages → session_of s.bytes M x y ≡ held
+  unfolding place_in
+  lent_session M x y e m = ap (λ (k : ℕ). session_of s.bytes k x y) m ∙ ap (λ (p : Place). p.stored.session) e
 
 -- what is stored can be held
 pub stored_holdable : (s : Shape) (w b : List ℕ) (i : ℕ) (a : Session) → Small (2 ^ 64) w → Small 256 b → stored_at s w b i ≡ some a → Holdable s.bytes s.messages a

@@ -1,18 +1,16 @@
 // Sending a session whole, one frame a call (active.rs, send_whole).
 #![tactic(auto)]
 
-ghost use Rattle.std.specs.Prelude.{◌≡◌, ℕ, ◌≤◌, ◌<◌, length, get_or};
-ghost use Rattle.model_session.specs.Whole.{batch_limit, whole_batches};
-ghost use Rattle.store_areas.specs.Areas.{Rules, place_at};
-ghost use Rattle.active_batch.specs.Batch.{WroteBatch};
-ghost use Rattle.active.specs.Whole.{stored_at, Begins, SendsWhole};
+ghost use Rattle.model_session.specs.Whole.{batch_limit};
+ghost use Rattle.active.specs.Whole.{Begins, SendsWhole};
 
 use active_batch::{BatchWritten, SendBatch};
 use base_refusals::Refusal;
 use frame_fields::{CommitNumber, Epoch};
-use store_areas::Shape;
+use store_areas::{Shape, View};
 
-// A sending: the session's place, the handle, the epoch, the last commit number, and the number that it goes on from: 0 at first,
+// A sending: the session's place, the handle, the epoch, the last commit number, and the number that it goes on from: 0 at first, as the words of a
+// sending have it for C,
 // none once it is done.
 #[derive(Clone, Copy)]
 pub struct Sending {
@@ -30,52 +28,13 @@ pub struct Sent {
     pub next: Sending,
 }
 
-// How many batches send the session at place i.
-fn batches_at(words: &[u64], bytes: &[u8], shape: Shape, place: usize, limit: u64) -> usize
-    requires rules { Rules shape words.now bytes.now }
-    requires place_bound { place < get_or words.now 0 0 }
-    ensures is { result ≡ length (whole_batches limit (place_at shape words.now bytes.now place).stored.session) }
-    ensures few { result ≤ 33554433 }
-{
-    let spot = store_areas::spot_in(words, bytes, shape, place);
-    let max = shape.messages as usize;
-    active_batch::batches(
-        &words[spot.words_start..spot.words_end],
-        &bytes[spot.bytes_start..spot.bytes_end],
-        max,
-        limit,
-    )
-}
-
-// Writes the frame of a batch of the session at place i.
-fn send_at(
-    words: &[u64],
-    bytes: &[u8],
-    shape: Shape,
-    place: usize,
-    batch: SendBatch,
-    out: &mut [u8],
-) -> Result<BatchWritten, Refusal>
-    requires rules { Rules shape words.now bytes.now }
-    requires place_bound { place < get_or words.now 0 0 }
-    requires max_value { batch.max ≡ shape.messages }
-    ensures { WroteBatch batch.limit (place_at shape words.now bytes.now place).stored.session batch.handle batch.epoch.0 batch.commit_no.0 batch.from out.old out.new result }
-{
-    let spot = store_areas::spot_in(words, bytes, shape, place);
-    active_batch::send(
-        &words[spot.words_start..spot.words_end],
-        &bytes[spot.bytes_start..spot.bytes_end],
-        batch,
-        out,
-    )
-}
-
 impl Sending {
     // The message bytes above which a batch is full.
     pub const SNAPSHOT_BATCH_BYTES: u64 = 1_048_576;
 
     // Begins to send the session at a place to a handle, numbered on from its last commit number. Gives what to hand to the first
-    // call; commit numbers that would pass 2^64 - 1 are 24, a session that isn't stored is 25.
+    // call; commit numbers that would pass 2^64 - 1 are 24, a session that isn't stored is 25. The areas, the place and the handle are
+    // what C lends and names, each of its own.
     pub fn begin(
         shape: Shape,
         words: &[u64],
@@ -90,7 +49,12 @@ impl Sending {
         if !store_areas::in_use(words, bytes, shape, place) {
             return Err(Refusal::RulesBroken);
         }
-        let count = batches_at(words, bytes, shape, place, Self::SNAPSHOT_BATCH_BYTES);
+        let view = View {
+            words,
+            bytes,
+            shape,
+        };
+        let count = active_batch::batches(&view.place(place), Self::SNAPSHOT_BATCH_BYTES);
         if u64::MAX - last.0 < count as u64 {
             return Err(Refusal::NumbersPast);
         }
@@ -103,7 +67,8 @@ impl Sending {
         })
     }
 
-    // Gives the next frame at the start of the lent area; nothing once the sending is done. An area that is too short is 9.
+    // Gives the next frame at the start of the lent area; nothing once the sending is done. An area that is too short is 9. The areas
+    // are what C lends, as in begin.
     pub fn send_whole(
         self,
         shape: Shape,
@@ -123,15 +88,19 @@ impl Sending {
             return Err(Refusal::RulesBroken);
         }
         let last = CommitNumber(self.last.0 + 1);
+        let view = View {
+            words,
+            bytes,
+            shape,
+        };
         let batch = SendBatch {
-            max: shape.messages as usize,
             from,
             limit: Self::SNAPSHOT_BATCH_BYTES,
             handle: self.handle,
             epoch: self.epoch,
             commit_no: last,
         };
-        let written = send_at(words, bytes, shape, self.place, batch, out)?;
+        let written = active_batch::send(&view.place(self.place), batch, out)?;
         let next = Sending {
             last,
             from: written.resume_from,

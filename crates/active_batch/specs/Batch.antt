@@ -11,39 +11,45 @@ use Rattle.model_session.specs.Session.{Session, Msg}
 use Rattle.model_session.specs.Sender.{sent_part, cut_from}
 use Rattle.model_session.specs.Summary.{numbered_from}
 use Rattle.store_log.specs.Log.{log_of, rest_of, Position}
+use Rattle.store_log.specs.declared.LogPosition.{LogPosition}
+use Rattle.store_log.specs.declared.log.Log.{Log}
 use Rattle.store_place.specs.Place.{flight_is}
 use Rattle.active_messages.specs.Cut.{taken, left_over, next_after}
-use Rattle.active_header.specs.declared.Header.{Header}
+use Rattle.active_header.specs.declared.header.Header.{Header}
 use Rattle.active_header.specs.Ends.{Spans, opening_of, ending_of}
 use Rattle.active_batch.specs.declared.Plan.{Plan}
 use Rattle.active_batch.specs.declared.BatchWritten.{BatchWritten}
 
--- the session with this header, these texts and these messages
-abbrev pub session_with : Header → List ℕ → List ℕ → List Msg → Session
-session_with h stamp marks ms =
+-- the session with this header and these messages
+abbrev pub session_with : Header → List Msg → Session
+session_with h ms =
     record {
-      stamp = stamp;
+      stamp = h.stamp.now;
       next_out = h.next_outgoing;
       next_in = h.next_incoming;
       in_flight = flight_is h.in_flight;
-      marks = marks;
+      marks = h.marks.now;
       messages = ms;
     }
 
-module _ (limit C M : ℕ) (h : Header) (log ring : List ℕ) where
+module _ (limit : ℕ) (h : Header) (log : Log) where
+  -- the messages that are left at a position
+  abbrev pub rest_at : LogPosition → List Msg
+  rest_at p = rest_of (length log.bytes.now) log.max log.next log.words.now log.bytes.now p.left
+
   -- the changes of a batch that goes by a plan
-  abbrev pub planned_changes : List ℕ → List ℕ → ℕ → Plan → List Change
-  planned_changes stamp marks from p = opening_of stamp from ++ (taken limit 0 p.next (rest_of C M h.next_outgoing log ring p.left) ++ ending_of h marks p.last p.resume_from)
+  abbrev pub planned_changes : ℕ → Plan → List Change
+  planned_changes from p = opening_of h.stamp.now from ++ (taken limit 0 p.next (rest_at p.position) ++ ending_of h p.last p.resume_from)
 
   pub record Planned (from : ℕ) (p : Plan) : Type 0 where
-    pub stands : Position C M h.next_outgoing log ring p.left p.dist
-    pub starts : rest_of C M h.next_outgoing log ring p.left ≡ numbered_from (max from 1) (log_of C M h.next_outgoing log ring)
+    pub stands : Position (length log.bytes.now) log.max log.next log.words.now log.bytes.now p.position.left p.position.dist
+    pub starts : rest_at p.position ≡ numbered_from (max from 1) (log_of (length log.bytes.now) log.max log.next log.words.now log.bytes.now)
     pub begins : p.next ≡ max from 1
-    pub goes_on : p.resume_from ≡ next_after limit 0 p.next (rest_of C M h.next_outgoing log ring p.left)
-    pub is_last : p.last ≡ is_empty (left_over limit 0 (rest_of C M h.next_outgoing log ring p.left))
-    pub spans : (stamp marks : List ℕ) → length stamp ≡ h.stamp → length marks ≡ h.marks → Spans (planned_changes stamp marks from p) p.count p.size
-    pub few : p.count ≤ 131077
-    pub small : p.size ≤ 34996357
+    pub goes_on : p.resume_from ≡ next_after limit 0 p.next (rest_at p.position)
+    pub is_last : p.last ≡ is_empty (left_over limit 0 (rest_at p.position))
+    pub spans : Spans (planned_changes from p) p.extent.count p.extent.size
+    pub few : p.extent.count ≤ 131077
+    pub small : p.extent.size ≤ 34996357
 
 abbrev pub part_is : Bool → Part
 part_is true = last_whole

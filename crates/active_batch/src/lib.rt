@@ -1,7 +1,7 @@
 // One batch of a session that is sent whole, as a frame, over the words and bytes of the session's place (active.rs, send_whole).
 #![tactic(auto)]
 
-ghost use Rattle.std.specs.Prelude.{◌≡◌, [], ℕ, ◌+◌, ◌-◌, ◌*◌, ◌≤◌, ◌<◌, max, length};
+ghost use Rattle.std.specs.Prelude.{◌≡◌, [], ℕ, ◌+◌, ◌≤◌, ◌<◌, max, length};
 ghost use Rattle.model_frame.specs.Bytes.{write};
 ghost use Rattle.model_frame.specs.Frame as the_frame;
 ghost use Rattle.model_frame.specs.Parse.{run_bytes};
@@ -14,35 +14,35 @@ ghost use Rattle.store_log.specs.Log.{Position};
 ghost use Rattle.store_place.specs.Place.{session_of};
 ghost use Rattle.active_batch.specs.Batch.{planned_changes, Planned, part_is, WroteBatch};
 
-use active_header::Header;
+use active_header::header::Header;
+use active_messages::Extent;
 use base_bytes::LittleEndian;
 use base_refusals::Refusal;
 use frame_fields::{CommitNumber, Epoch, Part};
-use store_place::{byte, word};
+use store_log::LogPosition;
+use store_log::log::Log;
+use store_place::place::Place;
 
 // A batch before it is written.
 #[repr(C)]
 #[derive(Clone, Copy)]
 pub struct Plan {
     // The position in the log where its messages begin.
-    pub left: usize,
-    pub dist: usize,
+    pub position: LogPosition,
     // The next outgoing number before it, and after it.
     pub next: u64,
     pub resume_from: u64,
     // Whether it is the last.
     pub last: bool,
-    // Its changes, and their bytes.
-    pub count: usize,
-    pub size: usize,
+    // Its changes.
+    pub extent: Extent,
 }
 
-// Which batch is written: the session's room for messages, the number that it begins at, the message bytes above which it is
-// full, and the frame's handle, epoch and commit number.
+// Which batch is written: the number that it begins at, the message bytes above which it is full, and the frame's handle, epoch
+// and commit number.
 #[repr(C)]
 #[derive(Clone, Copy)]
 pub struct SendBatch {
-    pub max: usize,
     pub from: u64,
     pub limit: u64,
     pub handle: u32,
@@ -60,37 +60,27 @@ pub struct BatchWritten {
 // ---- the batch
 
 // Plans the batch that begins at a number, in the log of a session with this header.
-fn plan_from(header: Header, words: &[u64], bytes: &[u8], max: usize, from: u64, limit: u64) -> Plan
-    requires max_in_bounds { 2 + 2 * max ≤ length words.now }
-    requires max_bound { max ≤ 65536 }
-    requires bytes_len_bound { length bytes.now ≤ 33554432 }
-    requires bound { 1 ≤ header.next_outgoing }
-    requires stamp_bound { header.stamp ≤ 32 }
-    requires marks_bound { header.marks ≤ 64 }
-    ensures { Planned limit (length bytes.now) max header words.now bytes.now from result }
+// The limits stand here and not in Log, as in active_messages.
+fn plan_from(header: &Header, log: &Log, from: u64, limit: u64) -> Plan
+    requires max_bound { log.now.max ≤ 65536 }
+    requires bytes_len_bound { length log.now.bytes.now ≤ 33554432 }
+    requires bound { 1 ≤ log.now.next }
+    ensures { Planned limit header.now log.now from result }
 {
     let next = from.max(1);
-    let c = store_log::messages_from(words, bytes, max, header.next_outgoing, next);
-    let cut = active_messages::measure(
-        words,
-        bytes,
-        max,
-        header.next_outgoing,
-        c.left,
-        c.dist,
-        next,
-        limit,
-    );
-    let opening = active_header::opening_extent(header.stamp, from);
-    let ending = active_header::ending_extent(header, cut.left, cut.next);
+    let position = log.position_from(next);
+    let cut = active_messages::measure(log, position, next, limit);
+    let opening = active_header::opening_extent(header, from);
+    let ending = active_header::ending_extent(header, cut.position.left, cut.next);
     Plan {
-        left: c.left,
-        dist: c.dist,
+        position,
         next,
         resume_from: cut.next,
-        last: cut.left == 0,
-        count: opening.count + cut.count + ending.count,
-        size: opening.size + cut.size + ending.size,
+        last: cut.position.left == 0,
+        extent: Extent {
+            count: opening.count + cut.extent.count + ending.count,
+            size: opening.size + cut.extent.size + ending.size,
+        },
     }
 }
 
@@ -98,38 +88,28 @@ fn plan_from(header: Header, words: &[u64], bytes: &[u8], max: usize, from: u64,
 
 // Writes the changes of a batch that goes by a plan.
 fn put_changes(
-    header: Header,
-    stamp: &[u8],
-    marks: &[u8],
-    words: &[u64],
-    bytes: &[u8],
+    header: &Header,
+    log: &Log,
     batch: SendBatch,
     plan: Plan,
     out: &mut [u8],
     at: usize,
 ) -> usize
-    requires max_in_bounds { 2 + 2 * batch.max ≤ length words.now }
-    requires bytes_len_bound { length bytes.now ≤ 33554432 }
-    requires stamp_len_bound { length stamp.now ≤ 32 }
-    requires marks_len_bound { length marks.now ≤ 64 }
-    requires position { Position (length bytes.now) batch.max header.next_outgoing words.now bytes.now plan.left plan.dist }
-    requires plan_in_bounds { at + sizes (planned_changes batch.limit (length bytes.now) batch.max header words.now bytes.now stamp.now marks.now batch.from plan) ≤ length out.old }
-    ensures { Wrote out.old at (run_bytes change_bytes (planned_changes batch.limit (length bytes.now) batch.max header words.now bytes.now stamp.now marks.now batch.from plan)) out.new result }
+    requires bytes_len_bound { length log.now.bytes.now ≤ 33554432 }
+    requires position { Position (length log.now.bytes.now) log.now.max log.now.next log.now.words.now log.now.bytes.now plan.position.left plan.position.dist }
+    requires plan_in_bounds { at + sizes (planned_changes batch.limit header.now log.now batch.from plan) ≤ length out.old }
+    ensures { Wrote out.old at (run_bytes change_bytes (planned_changes batch.limit header.now log.now batch.from plan)) out.new result }
 {
-    let opened = active_header::put_opening(stamp, batch.from, out, at);
+    let opened = active_header::put_opening(header, batch.from, out, at);
     let pos = active_messages::put_messages(
-        words,
-        bytes,
-        batch.max,
-        header.next_outgoing,
-        plan.left,
-        plan.dist,
+        log,
+        plan.position,
         plan.next,
         batch.limit,
         out,
         opened,
     );
-    active_header::put_ending(header, marks, plan.last, plan.resume_from, out, pos)
+    active_header::put_ending(header, plan.last, plan.resume_from, out, pos)
 }
 
 fn part_of(last: bool) -> Part
@@ -139,29 +119,15 @@ fn part_of(last: bool) -> Part
 }
 
 // Writes the frame of a batch that goes by a plan at the start of the area.
-fn put_frame(
-    header: Header,
-    stamp: &[u8],
-    marks: &[u8],
-    words: &[u64],
-    bytes: &[u8],
-    batch: SendBatch,
-    plan: Plan,
-    out: &mut [u8],
-)
-    requires max_in_bounds { 2 + 2 * batch.max ≤ length words.now }
-    requires bytes_len_bound { length bytes.now ≤ 33554432 }
-    requires stamp_len { length stamp.now ≡ header.stamp }
-    requires stamp_bound { header.stamp ≤ 32 }
-    requires marks_len { length marks.now ≡ header.marks }
-    requires marks_bound { header.marks ≤ 64 }
-    requires planned { Planned batch.limit (length bytes.now) batch.max header words.now bytes.now batch.from plan }
-    requires size_in_bounds { 34 + plan.size ≤ length out.old }
-    ensures { out.new ≡ write out.old 0 (encode (the_frame.batch batch.handle batch.epoch.0 batch.commit_no.0 (part_is plan.last) (planned_changes batch.limit (length bytes.now) batch.max header words.now bytes.now stamp.now marks.now batch.from plan) [])) }
+fn put_frame(header: &Header, log: &Log, batch: SendBatch, plan: Plan, out: &mut [u8])
+    requires bytes_len_bound { length log.now.bytes.now ≤ 33554432 }
+    requires planned { Planned batch.limit header.now log.now batch.from plan }
+    requires size_in_bounds { 34 + plan.extent.size ≤ length out.old }
+    ensures { out.new ≡ write out.old 0 (encode (the_frame.batch batch.handle batch.epoch.0 batch.commit_no.0 (part_is plan.last) (planned_changes batch.limit header.now log.now batch.from plan) [])) }
 {
     let epoch = batch.epoch;
     let commit_no = batch.commit_no;
-    let at = ((30 + plan.size) as u32).put_at(out, 0);
+    let at = ((30 + plan.extent.size) as u32).put_at(out, 0);
     let at = frame_encode::put_head(
         out,
         at,
@@ -169,53 +135,38 @@ fn put_frame(
         epoch,
         commit_no,
         part_of(plan.last),
-        plan.count as u32,
+        plan.extent.count as u32,
     );
-    let pos = put_changes(header, stamp, marks, words, bytes, batch, plan, out, at);
+    let pos = put_changes(header, log, batch, plan, out, at);
     0u32.put_at(out, pos);
 }
 
 // Writes the frame of the batch that begins at a number, of the session at a place; an area that is too short is refused.
-pub fn send(
-    words: &[u64],
-    bytes: &[u8],
-    batch: SendBatch,
-    out: &mut [u8],
-) -> Result<BatchWritten, Refusal>
-    requires max_in_bounds { 16 + 2 * batch.max ≤ length words.now }
-    requires max_bound { batch.max ≤ 65536 }
-    requires in_bounds { 224 ≤ length bytes.now }
-    requires bytes_len_bound { length bytes.now ≤ 33554656 }
-    ensures { (C : ℕ) → length bytes.now ≡ 224 + C → WroteBatch batch.limit (session_of C batch.max words.now bytes.now) batch.handle batch.epoch.0 batch.commit_no.0 batch.from out.old out.new result }
+pub fn send(place: &Place, batch: SendBatch, out: &mut [u8]) -> Result<BatchWritten, Refusal>
+    requires max_bound { place.now.max ≤ 65536 }
+    requires bytes_len_bound { length place.now.bytes.now ≤ 33554656 }
+    ensures { (C : ℕ) → length place.now.bytes.now ≡ 224 + C → WroteBatch batch.limit (session_of C place.now.max place.now.words.now place.now.bytes.now) batch.handle batch.epoch.0 batch.commit_no.0 batch.from out.old out.new result }
 {
-    let h = active_header::header_of(words, bytes);
-    let stamp_end = byte::STAMP + h.stamp;
-    let marks_end = byte::MARKS + h.marks;
-    let log = &words[word::LOG..];
-    let ring = &bytes[byte::RING..];
-    let p = plan_from(h, log, ring, batch.max, batch.from, batch.limit);
-    let len = 34 + p.size;
+    let header = active_header::header_of(place.words, place.bytes);
+    let log = place.log();
+    let plan = plan_from(&header, &log, batch.from, batch.limit);
+    let len = 34 + plan.extent.size;
     if out.len() < len {
         return Err(Refusal::NoRoom);
     }
-    let stamp = &bytes[byte::STAMP..stamp_end];
-    let marks = &bytes[byte::MARKS..marks_end];
-    put_frame(h, stamp, marks, log, ring, batch, p, out);
+    put_frame(&header, &log, batch, plan, out);
     Ok(BatchWritten {
         len,
-        resume_from: (!p.last).then_some(p.resume_from),
+        resume_from: (!plan.last).then_some(plan.resume_from),
     })
 }
 
 // How many batches send the session at a place.
-pub fn batches(words: &[u64], bytes: &[u8], max: usize, limit: u64) -> usize
-    requires max_in_bounds { 16 + 2 * max ≤ length words.now }
-    requires max_bound { max ≤ 65536 }
-    requires in_bounds { 224 ≤ length bytes.now }
-    requires bytes_len_bound { length bytes.now ≤ 33554656 }
-    ensures is { (C : ℕ) → length bytes.now ≡ 224 + C → result ≡ length (whole_batches limit (session_of C max words.now bytes.now)) }
+pub fn batches(place: &Place, limit: u64) -> usize
+    requires max_bound { place.now.max ≤ 65536 }
+    requires bytes_len_bound { length place.now.bytes.now ≤ 33554656 }
+    ensures is { (C : ℕ) → length place.now.bytes.now ≡ 224 + C → result ≡ length (whole_batches limit (session_of C place.now.max place.now.words.now place.now.bytes.now)) }
     ensures few { result ≤ 33554433 }
 {
-    let next = store_place::next_outgoing(words);
-    active_messages::batches(&words[word::LOG..], &bytes[byte::RING..], max, next, limit)
+    active_messages::batches(&place.log(), limit)
 }

@@ -17,7 +17,7 @@ use Rattle.std.proofs.lemmas.List.Sums.{fails_before_first}
 use Rattle.base_refusals.specs.declared.Refusal.{Refusal}
 use lib.Dec.{eqb, ltb}
 use borrow.Author.Tests.{lt-ltb, le-ltb, ltb-false, eq-eqb, ne_eqb, eqb-true, eqb-false}
-use Rattle.model_active.specs.CatchUp.{Entry, Book, new, member, meeting, joining, sessions, opens_of, compared_of, on_entry, compared_with, is, less, met_now, behind_now, catching_now, acknowledged_now}
+use Rattle.model_active.specs.CatchUp.{Entry, Book, new, member, meeting, sessions, opens_of, compared_of, on_entry, compared_with, is, less, met_now, behind_now, catching_now, acknowledged_now}
 use Rattle.active_books_area.specs.Words.{list_from, word_at, entry_at, flagged, option_of, book_of}
 use Rattle.active_books_area.specs.Parts.{Ruled, Makes, At, FindsMet, Appends, MeetsAt, IsFull}
 use Rattle.active_books_area.proofs.Laws.{First, member_first, entry_first, changed, length_from, from_alike, from_snoc, sessions_from}
@@ -427,17 +427,6 @@ met_full w s e f full q =
     record { refusal = q; unchanged = refl; full = omega (arith, ap length grown, length-append (book_of w).met (new s ∷ []), length_met w) }
 
 -- ---- one session behind
-
-pub joined_already : (w : List ℕ) (s : ℕ) → Ruled w → true ≡ member s (book_of w).behind → Makes w w (behind_now (book_of w) (joining s (book_of w).behind))
-joined_already w s r e = record { book = ap (λ (b : Bool). behind_now (book_of w) (cond b (book_of w).behind ((book_of w).behind ++ (s ∷ [])))) e; ruled = r; rest = refl }
-
-pub joined_now : (w w' : List ℕ) (s : ℕ) → false ≡ member s (book_of w).behind → Makes w w' (behind_now (book_of w) ((book_of w).behind ++ (s ∷ [])))
-    → Makes w w' (behind_now (book_of w) (joining s (book_of w).behind))
-joined_now w w' s e m = record {
-  book = m.book ∙ ap (λ (b : Bool). behind_now (book_of w) (cond b (book_of w).behind ((book_of w).behind ++ (s ∷ [])))) e;
-  ruled = m.ruled;
-  rest = m.rest;
-}
 
 pub not_compared : (w : List ℕ) (s i c : ℕ) → At w s i → word_at w 518 i ≡ 0 → not (eqb (word_at w 518 i) 0) ≡ is (compared_of s (book_of w).met) c
 not_compared w s i c a e = flag_0 (word_at w 518 i) (word_at w 774 i) c e ∙ ap (λ (o : maybe.Option ℕ). is o c) (sym (compared_at w s i a))

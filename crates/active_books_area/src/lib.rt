@@ -33,44 +33,27 @@ pub mod word {
     pub const BEHIND: usize = 1030;
 }
 
-// The most sessions met.
-pub const MAX_SESSIONS: usize = 256;
-
-// The words of the lent area.
-pub const WORDS: usize = 1286;
+// The lent area, which keeps the rules.
+#[derive(Drop)]
+pub struct Books<'a> {
+    pub words: &'a mut [u64],
+    pub ghost rules: { Ruled words.now },
+}
 
 // An area that is too short, or with a count above 256, is refused.
 pub fn check_rules(words: &[u64]) -> Result<(), Refusal>
     ensures { Checks words.now result }
 {
-    if words.len() < WORDS {
+    if words.len() < Books::WORDS {
         return Err(Refusal::RulesBroken);
     }
     let met = words[word::MET_COUNT] as usize;
     let behind = words[word::BEHIND_COUNT] as usize;
-    if (met <= MAX_SESSIONS) & (behind <= MAX_SESSIONS) {
+    if (met <= Books::MAX_SESSIONS) & (behind <= Books::MAX_SESSIONS) {
         Ok(())
     } else {
         Err(Refusal::RulesBroken)
     }
-}
-
-// The sessions met, in that order.
-pub fn met(words: &[u64]) -> &[u64]
-    requires { Ruled words.now }
-    ensures { result.now ≡ sessions (book_of words.now).met }
-{
-    let n = words[word::MET_COUNT] as usize;
-    &words[word::SESSIONS..word::SESSIONS + n]
-}
-
-// The sessions behind, in the order they fell behind.
-pub fn behind(words: &[u64]) -> &[u64]
-    requires { Ruled words.now }
-    ensures { result.now ≡ (book_of words.now).behind }
-{
-    let m = words[word::BEHIND_COUNT] as usize;
-    &words[word::BEHIND..word::BEHIND + m]
 }
 
 fn find_in(run: &[u64], session: u64) -> Option<usize>
@@ -79,14 +62,16 @@ fn find_in(run: &[u64], session: u64) -> Option<usize>
     run.iter().position(|x| *x == session)
 }
 
-// Where a session stands among those met.
-pub fn find_met(words: &[u64], session: u64) -> Option<usize>
+// The sessions behind, in the order they fell behind.
+fn behind(words: &[u64]) -> &[u64]
     requires { Ruled words.now }
-    ensures { FindsMet words.now session result }
+    ensures { result.now ≡ (book_of words.now).behind }
 {
-    find_in(met(words), session)
+    let m = words[word::BEHIND_COUNT] as usize;
+    &words[word::BEHIND..word::BEHIND + m]
 }
 
+// Whether a session is behind, in an area that is only read.
 pub fn is_behind(words: &[u64], session: u64) -> bool
     requires { Ruled words.now }
     ensures { result ≡ member session (book_of words.now).behind }
@@ -94,26 +79,59 @@ pub fn is_behind(words: &[u64], session: u64) -> bool
     behind(words).contains(&session)
 }
 
-pub fn is_catching(words: &[u64], session: u64) -> bool
-    requires { Ruled words.now }
-    ensures { result ≡ is (book_of words.now).catching session }
-{
-    words[word::IS_CATCHING] != 0 && words[word::CATCHING] == session
-}
+impl Books<'_> {
+    // The most sessions met.
+    pub const MAX_SESSIONS: usize = 256;
+    // The words of the lent area.
+    pub const WORDS: usize = 1286;
 
-// A session is being caught up, or none is.
-pub fn set_catching(words: &mut [u64], session: Option<u64>)
-    requires { Ruled words.old }
-    ensures { Makes words.old words.new (catching_now (book_of words.old) (option_of session)) }
-{
-    words[word::IS_CATCHING] = u64::from(session.is_some());
-    words[word::CATCHING] = session.unwrap_or(0);
-}
+    // The sessions met, in that order.
+    pub fn met(&self) -> &[u64]
+        ensures { result.now ≡ sessions (book_of self.now.words.now).met }
+    {
+        let n = self.words[word::MET_COUNT] as usize;
+        &self.words[word::SESSIONS..word::SESSIONS + n]
+    }
 
-// Whether an incarnation is the last whose Checked was acknowledged.
-pub fn is_acknowledged(words: &[u64], incarnation: u64) -> bool
-    requires { Ruled words.now }
-    ensures { result ≡ is (book_of words.now).acknowledged incarnation }
-{
-    words[word::IS_ACKNOWLEDGED] != 0 && words[word::ACKNOWLEDGED] == incarnation
+    // The sessions behind, in the order they fell behind.
+    pub fn behind(&self) -> &[u64]
+        ensures { result.now ≡ (book_of self.now.words.now).behind }
+    {
+        behind(self.words)
+    }
+
+    // Where a session stands among those met.
+    pub fn find_met(&self, session: u64) -> Option<usize>
+        ensures { FindsMet self.now.words.now session result }
+    {
+        find_in(self.met(), session)
+    }
+
+    pub fn is_behind(&self, session: u64) -> bool
+        ensures { result ≡ member session (book_of self.now.words.now).behind }
+    {
+        is_behind(self.words, session)
+    }
+
+    pub fn is_catching(&self, session: u64) -> bool
+        ensures { result ≡ is (book_of self.now.words.now).catching session }
+    {
+        self.words[word::IS_CATCHING] != 0 && self.words[word::CATCHING] == session
+    }
+
+    // A session is being caught up, or none is.
+    pub fn set_catching(&mut self, session: Option<u64>)
+        ensures same_area { self.new.words.ghost_name ≡ self.old.words.ghost_name }
+        ensures makes { Makes self.old.words.now self.new.words.now (catching_now (book_of self.old.words.now) (option_of session)) }
+    {
+        self.words[word::IS_CATCHING] = u64::from(session.is_some());
+        self.words[word::CATCHING] = session.unwrap_or(0);
+    }
+
+    // Whether an incarnation is the last whose Checked was acknowledged.
+    pub fn is_acknowledged(&self, incarnation: u64) -> bool
+        ensures { result ≡ is (book_of self.now.words.now).acknowledged incarnation }
+    {
+        self.words[word::IS_ACKNOWLEDGED] != 0 && self.words[word::ACKNOWLEDGED] == incarnation
+    }
 }

@@ -11,7 +11,7 @@ use lib.Dec.{eqb, ltb}
 use Rattle.std.specs.Prelude.{map, Option, Some, None, is_some, unwrap_or, option_map}
 use Rattle.std.specs.Option.{option_eq}
 use denote.Ref.{Bor}
-use Rattle.std.proofs.lemmas.List.{map-append, take_more, take_all}
+use Rattle.std.proofs.lemmas.List.{map-append, take_more}
 use borrow.Author.Tests.{eq-eqb, eqb-true, ltb-true}
 use Rattle.base_refusals.specs.declared.Refusal.{Refusal}
 use Rattle.model_active.specs.CatchUp.{Entry, Book, member, sessions, new, meeting, met_now}
@@ -149,6 +149,3 @@ appends w₀ a w w' i g less p = record {
   };
   count = omega (arith, p.count, g.count);
 }
-
-pub appended_all : (w₀ a w : List ℕ) (i : ℕ) → Appending w₀ a w i → length a ≤ i → Makes w₀ w (met_now (book_of w₀) ((book_of w₀).met ++ map new a))
-appended_all w₀ a w i g end = rw (take_all i a end) at g.makes

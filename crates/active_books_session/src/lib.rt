@@ -4,111 +4,117 @@
 ghost use Rattle.std.specs.Prelude.{◌≡◌, false, [], ◌∷◌, ◌++◌, suc, min, ◌<◌, get_or};
 ghost use Rattle.model_active.specs.CatchUp.{member, joining, without, less, is, compared_of, on_entry, opened, shut, compared_with, met_now, behind_now};
 ghost use Rattle.active_books_area.specs.Words.{book_of};
-ghost use Rattle.active_books_area.specs.Parts.{Ruled, At, Makes, Appends, Meets};
+ghost use Rattle.active_books_area.specs.Parts.{At, Makes, Appends, Meets};
 
-use active_books_area::{MAX_SESSIONS, find_met, word};
+use active_books_area::{Books, word};
 use base_refusals::Refusal;
 
 // One session more is met: closed, compared with none.
-pub fn append(words: &mut [u64], session: u64)
-    requires ruled { Ruled words.old }
-    requires words_bound { get_or words.old 0 0 < 256 }
-    ensures { Appends words.old words.new session }
+pub fn append(books: &mut Books<'_>, session: u64)
+    requires { get_or books.old.words.now 0 0 < 256 }
+    ensures same_area { books.new.words.ghost_name ≡ books.old.words.ghost_name }
+    ensures appends { Appends books.old.words.now books.new.words.now session }
 {
-    let n = words[word::MET_COUNT] as usize;
-    words[word::SESSIONS + n] = session;
-    words[word::OPENS + n] = 0;
-    words[word::COMPARED + n] = 0;
-    words[word::MET_COUNT] = (n + 1) as u64;
+    let n = books.words[word::MET_COUNT] as usize;
+    books.words[word::SESSIONS + n] = session;
+    books.words[word::OPENS + n] = 0;
+    books.words[word::COMPARED + n] = 0;
+    books.words[word::MET_COUNT] = (n + 1) as u64;
 }
 
 // A session is met, unless it was: where it stands then. There is no room for a 257th.
-pub fn meet(words: &mut [u64], session: u64) -> Result<usize, Refusal>
-    requires { Ruled words.old }
-    ensures { Meets words.old words.new session result }
+pub fn meet(books: &mut Books<'_>, session: u64) -> Result<usize, Refusal>
+    ensures same_area { books.new.words.ghost_name ≡ books.old.words.ghost_name }
+    ensures meets { Meets books.old.words.now books.new.words.now session result }
 {
-    if let Some(i) = find_met(words, session) {
+    if let Some(i) = books.find_met(session) {
         return Ok(i);
     }
-    let n = words[word::MET_COUNT] as usize;
-    if n == MAX_SESSIONS {
+    let n = books.words[word::MET_COUNT] as usize;
+    if n == Books::MAX_SESSIONS {
         return Err(Refusal::TooManySessions);
     }
-    append(words, session);
+    append(books, session);
     Ok(n)
 }
 
+// What changes an entry asks that it stands at i in the area as it is now: a struct of the session and i would have to hold the area too, and give it back for the
+// next call.
+
 // One log more is open on the session at i.
-pub fn count_open(words: &mut [u64], session: u64, i: usize)
-    requires { At words.old session i }
-    ensures { Makes words.old words.new (met_now (book_of words.old) (on_entry session opened (book_of words.old).met)) }
+pub fn count_open(books: &mut Books<'_>, session: u64, i: usize)
+    requires { At books.old.words.now session i }
+    ensures same_area { books.new.words.ghost_name ≡ books.old.words.ghost_name }
+    ensures makes { Makes books.old.words.now books.new.words.now (met_now (book_of books.old.words.now) (on_entry session opened (book_of books.old.words.now).met)) }
 {
-    let opens = words[word::OPENS + i].saturating_add(1);
-    words[word::OPENS + i] = opens;
+    let opens = books.words[word::OPENS + i].saturating_add(1);
+    books.words[word::OPENS + i] = opens;
 }
 
 // One log less is open on the session at i.
-pub fn count_closed(words: &mut [u64], session: u64, i: usize)
-    requires { At words.old session i }
-    ensures { Makes words.old words.new (met_now (book_of words.old) (on_entry session shut (book_of words.old).met)) }
+pub fn count_closed(books: &mut Books<'_>, session: u64, i: usize)
+    requires { At books.old.words.now session i }
+    ensures same_area { books.new.words.ghost_name ≡ books.old.words.ghost_name }
+    ensures makes { Makes books.old.words.now books.new.words.now (met_now (book_of books.old.words.now) (on_entry session shut (book_of books.old.words.now).met)) }
 {
-    let opens = words[word::OPENS + i].saturating_sub(1);
-    words[word::OPENS + i] = opens;
+    let opens = books.words[word::OPENS + i].saturating_sub(1);
+    books.words[word::OPENS + i] = opens;
 }
 
 // The session at i was compared with an incarnation.
-pub fn compare(words: &mut [u64], session: u64, i: usize, incarnation: u64)
-    requires { At words.old session i }
-    ensures { Makes words.old words.new (met_now (book_of words.old) (on_entry session (compared_with incarnation) (book_of words.old).met)) }
+pub fn compare(books: &mut Books<'_>, session: u64, i: usize, incarnation: u64)
+    requires { At books.old.words.now session i }
+    ensures same_area { books.new.words.ghost_name ≡ books.old.words.ghost_name }
+    ensures makes { Makes books.old.words.now books.new.words.now (met_now (book_of books.old.words.now) (on_entry session (compared_with incarnation) (book_of books.old.words.now).met)) }
 {
-    words[word::COMPARED + i] = 1;
-    words[word::INCARNATIONS + i] = incarnation;
+    books.words[word::COMPARED + i] = 1;
+    books.words[word::INCARNATIONS + i] = incarnation;
 }
 
 // Whether the session at i was last compared with an incarnation.
-pub fn is_compared(words: &[u64], session: u64, i: usize, incarnation: u64) -> bool
-    requires { At words.now session i }
-    ensures { result ≡ is (compared_of session (book_of words.now).met) incarnation }
+pub fn is_compared(books: &Books<'_>, session: u64, i: usize, incarnation: u64) -> bool
+    requires { At books.now.words.now session i }
+    ensures { result ≡ is (compared_of session (book_of books.now.words.now).met) incarnation }
 {
-    words[word::COMPARED + i] != 0 && words[word::INCARNATIONS + i] == incarnation
+    books.words[word::COMPARED + i] != 0 && books.words[word::INCARNATIONS + i] == incarnation
 }
 
 // One session more is behind.
-pub fn push(words: &mut [u64], session: u64)
-    requires ruled { Ruled words.old }
-    requires words_bound { get_or words.old 1 0 < 256 }
-    ensures { Makes words.old words.new (behind_now (book_of words.old) ((book_of words.old).behind ++ (session ∷ []))) }
+pub fn push(books: &mut Books<'_>, session: u64)
+    requires { get_or books.old.words.now 1 0 < 256 }
+    ensures same_area { books.new.words.ghost_name ≡ books.old.words.ghost_name }
+    ensures makes { Makes books.old.words.now books.new.words.now (behind_now (book_of books.old.words.now) ((book_of books.old.words.now).behind ++ (session ∷ []))) }
 {
-    let m = words[word::BEHIND_COUNT] as usize;
-    words[word::BEHIND + m] = session;
-    words[word::BEHIND_COUNT] = (m + 1) as u64;
+    let m = books.words[word::BEHIND_COUNT] as usize;
+    books.words[word::BEHIND + m] = session;
+    books.words[word::BEHIND_COUNT] = (m + 1) as u64;
 }
 
 // A session joins those behind, unless it is one of them.
-pub fn join(words: &mut [u64], session: u64, is_behind: bool)
-    requires ruled { Ruled words.old }
-    requires member { is_behind ≡ member session (book_of words.old).behind }
-    requires room { is_behind ≡ false → get_or words.old 1 0 < 256 }
-    ensures { Makes words.old words.new (behind_now (book_of words.old) (joining session (book_of words.old).behind)) }
+pub fn join(books: &mut Books<'_>, session: u64, is_behind: bool)
+    requires member { is_behind ≡ member session (book_of books.old.words.now).behind }
+    requires room { is_behind ≡ false → get_or books.old.words.now 1 0 < 256 }
+    ensures same_area { books.new.words.ghost_name ≡ books.old.words.ghost_name }
+    ensures makes { Makes books.old.words.now books.new.words.now (behind_now (book_of books.old.words.now) (joining session (book_of books.old.words.now).behind)) }
 {
     if !is_behind {
-        push(words, session);
+        push(books, session);
     }
 }
 
-// A session goes from those behind, and those after it move up.
-pub fn leave(words: &mut [u64], session: u64)
-    requires { Ruled words.old }
-    ensures { Makes words.old words.new (behind_now (book_of words.old) (without session (book_of words.old).behind)) }
+// A session goes from those behind, and those after it move up. They move in place, which an iterator over the run that is written can't do.
+pub fn leave(books: &mut Books<'_>, session: u64)
+    ensures same_area { books.new.words.ghost_name ≡ books.old.words.ghost_name }
+    ensures makes { Makes books.old.words.now books.new.words.now (behind_now (book_of books.old.words.now) (without session (book_of books.old.words.now).behind)) }
 {
-    let m = words[word::BEHIND_COUNT] as usize;
+    let m = books.words[word::BEHIND_COUNT] as usize;
     let mut k: usize = 0;
     for j in 0..m {
-        let behind = words[word::BEHIND + j];
+        let behind = books.words[word::BEHIND + j];
         if behind != session {
-            words[word::BEHIND + k] = behind;
+            books.words[word::BEHIND + k] = behind;
             k += 1;
         }
     }
-    words[word::BEHIND_COUNT] = k as u64;
+    books.words[word::BEHIND_COUNT] = k as u64;
 }

@@ -1,7 +1,9 @@
 // What a session that is sent whole has beside its messages: the changes that stand before them and after them.
 #![tactic(auto)]
 
-ghost use Rattle.std.specs.Prelude.{◌≡◌, List, [], ◌∷◌, ℕ, ◌+◌, ◌≤◌, ◌<◌, length, eqb};
+pub mod header;
+
+ghost use Rattle.std.specs.Prelude.{◌≡◌, [], ◌∷◌, ℕ, ◌+◌, ◌≤◌, ◌<◌, length, eqb};
 ghost use Rattle.model_frame.specs.Parse.{run_bytes};
 ghost use Rattle.model_frame.specs.Writing.{change_bytes};
 ghost use Rattle.model_frame.specs.Sizes.{size_of, sizes};
@@ -10,76 +12,59 @@ ghost use Rattle.base_laws.specs.Wrote.{Wrote};
 ghost use Rattle.store_place.specs.Place.{flight_is};
 ghost use Rattle.active_header.specs.Ends.{Heads, Spans, opening_of, closing_of, ending_of};
 
-use active_messages::put;
+use active_messages::{Extent, put};
 use base_bytes::LittleEndian;
 use frame_op::kind;
+use header::Header;
+use store_place::byte;
 
-// What a session has beside its messages: stamp and marks by their lengths.
-#[repr(C)]
-#[derive(Clone, Copy)]
-pub struct Header {
-    pub next_outgoing: u64,
-    pub next_incoming: u64,
-    pub in_flight: Option<u64>,
-    pub stamp: usize,
-    pub marks: usize,
-}
-
-// How many changes, and their bytes.
-#[repr(C)]
-#[derive(Clone, Copy)]
-pub struct Extent {
-    pub count: usize,
-    pub size: usize,
-}
-
-pub fn header_of(words: &[u64], bytes: &[u8]) -> Header
+// By slices: it asks for the words and bytes of a place without its messages, and a Place would ask more.
+pub fn header_of<'a>(words: &[u64], bytes: &'a [u8]) -> Header<'a>
     requires in_bounds { 16 ≤ length words.now }
     requires in_bounds_2 { 224 ≤ length bytes.now }
     ensures { Heads words.now bytes.now result }
 {
-    let in_flight = store_place::in_flight(words);
+    let stamp_end = byte::STAMP + store_place::stamp_len(words, bytes);
+    let marks_end = byte::MARKS + store_place::marks_len(words, bytes);
     Header {
         next_outgoing: store_place::next_outgoing(words),
         next_incoming: store_place::next_incoming(words),
-        in_flight,
-        stamp: store_place::stamp_len(words, bytes),
-        marks: store_place::marks_len(words, bytes),
+        in_flight: store_place::in_flight(words),
+        stamp: &bytes[byte::STAMP..stamp_end],
+        marks: &bytes[byte::MARKS..marks_end],
     }
 }
 
 // ---- what stands before the messages
 
-pub fn opening_extent(stamp: usize, from: u64) -> Extent
-    requires { stamp ≤ 32 }
-    ensures spans { (text : List ℕ) → length text ≡ stamp → Spans (opening_of text from) result.count result.size }
+pub fn opening_extent(header: &Header, from: u64) -> Extent
+    ensures spans { Spans (opening_of header.now.stamp.now from) result.count result.size }
     ensures small { (result.count ≤ 2) × (result.size ≤ 38) }
 {
     if 0 < from {
         return Extent { count: 0, size: 0 };
     }
-    if stamp == 0 {
+    if header.stamp.is_empty() {
         return Extent { count: 1, size: 1 };
     }
     Extent {
         count: 2,
-        size: 6 + stamp,
+        size: 6 + header.stamp.len(),
     }
 }
 
-pub fn put_opening(stamp: &[u8], from: u64, out: &mut [u8], at: usize) -> usize
-    requires stamp_len_bound { length stamp.now ≤ 32 }
-    requires from_in_bounds { at + sizes (opening_of stamp.now from) ≤ length out.old }
-    ensures { Wrote out.old at (run_bytes change_bytes (opening_of stamp.now from)) out.new result }
+pub fn put_opening(header: &Header, from: u64, out: &mut [u8], at: usize) -> usize
+    requires { at + sizes (opening_of header.now.stamp.now from) ≤ length out.old }
+    ensures { Wrote out.old at (run_bytes change_bytes (opening_of header.now.stamp.now from)) out.new result }
 {
     if 0 < from {
         return at;
     }
     let pos = frame_op::tag(out, at, kind::RESET);
-    if stamp.is_empty() {
+    if header.stamp.is_empty() {
         return pos;
     }
-    put::put_text(kind::SET_CREATED_AT, stamp, out, pos)
+    put::put_text(kind::SET_CREATED_AT, header.stamp, out, pos)
 }
 
 // ---- what stands after them
@@ -107,13 +92,12 @@ fn put_incoming(next: u64, in_flight: Option<u64>, out: &mut [u8], at: usize) ->
     }
 }
 
-fn closing_extent(header: Header, next: u64) -> Extent
-    requires { header.marks ≤ 64 }
-    ensures spans { (text : List ℕ) → length text ≡ header.marks → Spans (closing_of header text next) result.count result.size }
+fn closing_extent(header: &Header, next: u64) -> Extent
+    ensures spans { Spans (closing_of header.now next) result.count result.size }
     ensures small { (result.count ≤ 3) × (result.size ≤ 95) }
 {
     let in_flight = header.in_flight;
-    let size = incoming_size(in_flight) + 5 + header.marks;
+    let size = incoming_size(in_flight) + 5 + header.marks.len();
     if next < header.next_outgoing {
         return Extent {
             count: 3,
@@ -123,23 +107,21 @@ fn closing_extent(header: Header, next: u64) -> Extent
     Extent { count: 2, size }
 }
 
-fn put_closing(header: Header, marks: &[u8], next: u64, out: &mut [u8], at: usize) -> usize
-    requires marks_len_bound { length marks.now ≤ 64 }
-    requires next_in_bounds { at + sizes (closing_of header marks.now next) ≤ length out.old }
-    ensures { Wrote out.old at (run_bytes change_bytes (closing_of header marks.now next)) out.new result }
+fn put_closing(header: &Header, next: u64, out: &mut [u8], at: usize) -> usize
+    requires { at + sizes (closing_of header.now next) ≤ length out.old }
+    ensures { Wrote out.old at (run_bytes change_bytes (closing_of header.now next)) out.new result }
 {
     let in_flight = header.in_flight;
     let skipped = put::put_skip(next, header.next_outgoing, out, at);
     let pos = put_incoming(header.next_incoming, in_flight, out, skipped);
-    put::put_text(kind::SET_MARKS, marks, out, pos)
+    put::put_text(kind::SET_MARKS, header.marks, out, pos)
 }
 
 // ---- and only in the last batch
 
 // What stands after the messages, where so many are left.
-pub fn ending_extent(header: Header, left: usize, next: u64) -> Extent
-    requires { header.marks ≤ 64 }
-    ensures spans { (text : List ℕ) → length text ≡ header.marks → Spans (ending_of header text (eqb left 0) next) result.count result.size }
+pub fn ending_extent(header: &Header, left: usize, next: u64) -> Extent
+    ensures spans { Spans (ending_of header.now (eqb left 0) next) result.count result.size }
     ensures small { (result.count ≤ 3) × (result.size ≤ 95) }
 {
     if left == 0 {
@@ -149,20 +131,12 @@ pub fn ending_extent(header: Header, left: usize, next: u64) -> Extent
     }
 }
 
-pub fn put_ending(
-    header: Header,
-    marks: &[u8],
-    last: bool,
-    next: u64,
-    out: &mut [u8],
-    at: usize,
-) -> usize
-    requires marks_len_bound { length marks.now ≤ 64 }
-    requires next_in_bounds { at + sizes (ending_of header marks.now last next) ≤ length out.old }
-    ensures { Wrote out.old at (run_bytes change_bytes (ending_of header marks.now last next)) out.new result }
+pub fn put_ending(header: &Header, last: bool, next: u64, out: &mut [u8], at: usize) -> usize
+    requires { at + sizes (ending_of header.now last next) ≤ length out.old }
+    ensures { Wrote out.old at (run_bytes change_bytes (ending_of header.now last next)) out.new result }
 {
     if last {
-        put_closing(header, marks, next, out, at)
+        put_closing(header, next, out, at)
     } else {
         at
     }

@@ -7,7 +7,7 @@ ghost use Rattle.active_lease.specs.Held.{lease_of, outcome_of, attempt_of, aske
 
 use base_refusals::Refusal;
 
-// `until` is the lease's end, `last` the last time handed in.
+// `until` is the lease's end, `last` the last time handed in. A lost lease still tells its end, so `lost` can't be the lack of it.
 #[derive(Clone, Copy, Debug, PartialEq, Eq)]
 pub struct Held {
     pub duration: u64,
@@ -24,7 +24,7 @@ pub enum RenewalOutcome {
     Deposed,
 }
 
-// Whether a renewal is due, and the lease then.
+// Whether a renewal is due, which is the answer itself, and the lease then.
 #[derive(Clone, Copy, Debug, PartialEq, Eq)]
 pub struct Asked {
     pub due: bool,

@@ -9,10 +9,11 @@ use lib.ListN.{length}
 use lib.Dec.{ltb, leb}
 use borrow.Author.Tests.{le-leb, leb-true}
 use Rattle.model_frame.specs.Frame.{Change}
-use Rattle.model_session.specs.Session.{Session, Msg, Rising}
+use Rattle.model_session.specs.Session.{Session, Msg}
 use Rattle.model_session.specs.Whole.{send_msg}
 use Rattle.model_session.specs.Sender.{Cut, cut_batch, messages_from}
 use Rattle.model_session.specs.Summary.{numbered_from}
+use Rattle.active_messages.proofs.Numbers.{Ascends}
 use Rattle.active_messages.specs.Cut.{taken, left_over, next_after, closing_after, goes_from}
 
 regroup : (p q r s : List Change) → (p ++ q) ++ (r ++ s) ≡ p ++ ((q ++ r) ++ s)
@@ -45,15 +46,14 @@ module _ (limit : ℕ) (a : Session) where
           (regroup before (send_msg next m) (taken limit (sent + length m.text) (suc m.num) ms) (closing_after a (next_after limit (sent + length m.text) (suc m.num) ms) (left_over limit (sent + length m.text) ms)))
 
 -- the messages from a number on, where numbers rise
-pub numbered_all : (n low N : ℕ) (ms : List Msg) → n ≤ low → Rising low N ms → numbered_from n ms ≡ ms
-numbered_all n low N [] h r = refl
-numbered_all n low N (m ∷ ms) h r =
-    rw (le-leb n m.num (omega (arith, r.0))) (ap (λ (y : List Msg). m ∷ y) (numbered_all n (suc m.num) N ms (omega (arith, r.0)) r.3))
+pub numbered_all : (n low : ℕ) (ms : List Msg) → n ≤ low → Ascends low ms → numbered_from n ms ≡ ms
+numbered_all n low [] h r = refl
+numbered_all n low (m ∷ ms) h r = rw (le-leb n m.num (omega (arith, r.0))) (ap (λ (y : List Msg). m ∷ y) (numbered_all n (suc m.num) ms (omega (arith, r.0)) r.1))
 
-pub from_same : (n low N : ℕ) (ms : List Msg) → Rising low N ms → messages_from n ms ≡ numbered_from n ms
-from_same n low N [] r = refl
-from_same n low N (m ∷ ms) r = go (leb n m.num) refl (from_same n (suc m.num) N ms r.3)
+pub from_same : (n low : ℕ) (ms : List Msg) → Ascends low ms → messages_from n ms ≡ numbered_from n ms
+from_same n low [] r = refl
+from_same n low (m ∷ ms) r = go (leb n m.num) refl (from_same n (suc m.num) ms r.1)
   where
     go : (t : Bool) → leb n m.num ≡ t → messages_from n ms ≡ numbered_from n ms → cond t (m ∷ ms) (messages_from n ms) ≡ cond t (m ∷ numbered_from n ms) (numbered_from n ms)
-    go true e ih = ap (λ (y : List Msg). m ∷ y) (sym (numbered_all n (suc m.num) N ms (omega (arith, leb-true n m.num e)) r.3))
+    go true e ih = ap (λ (y : List Msg). m ∷ y) (sym (numbered_all n (suc m.num) ms (omega (arith, leb-true n m.num e)) r.1))
     go false e ih = ih

@@ -7,7 +7,6 @@ use native.Mathlib.Omega.{arith}
 use native.Mathlib.Numerals.{add-one}
 use lib.ListN.{length, take, drop, length-append}
 use lib.Dec.{ltb}
-use borrow.Author.Tests.{ltb-true}
 use Rattle.model_frame.specs.Frame.{record_msg, record_bare}
 use Rattle.model_frame.specs.Sizes.{sizes}
 use Rattle.model_frame.proofs.Runs.{sizes_append}
@@ -98,24 +97,7 @@ module _ (limit C M end : ℕ) (w b : List ℕ) (left₀ dist₀ next₀ : ℕ) 
     pub small : size + 22 * left + dist ≤ 22 * left₀ + dist₀
     pub sums : sent + dist ≤ dist₀
 
-  pub begins : Position C M end w b left₀ dist₀ → Measuring left₀ dist₀ next₀ 0 0 0
-  begins s = record { stands = s; rest = refl; after = refl; counts = omega arith; spans = omega arith; few = omega arith; small = omega arith; sums = omega arith }
-
-  pub full_stop : (left dist next count size sent : ℕ) → Measuring left dist next count size sent → ltb limit sent ≡ true → Measured limit C M end w b left₀ dist₀ next₀ left dist next count size
-  full_stop left dist next count size sent g h =
-      let none : taken limit sent next (Rest₀ left) ≡ [] = full_taken limit sent next h (Rest₀ left) in
-      record {
-        stands = g.stands;
-        rest = sym (full_left limit sent next h (Rest₀ left)) ∙ g.rest;
-        after = sym (full_next limit sent next h (Rest₀ left)) ∙ g.after;
-        counts = omega (arith, g.counts, ap length none);
-        spans = omega (arith, g.spans, ap sizes none);
-        few = g.few;
-        small = g.small;
-        goes = λ _. omega (arith, g.sums, ltb-true limit sent h);
-      }
-
-  pub last_stop : (left dist next count size sent : ℕ) → Measuring left dist next count size sent → left ≤ 0 → Measured limit C M end w b left₀ dist₀ next₀ left dist next count size
+  pub last_stop : (left dist next count size sent : ℕ) → Measuring left dist next count size sent → left ≡ 0 → Measured limit C M end w b left₀ dist₀ next₀ left dist next count size
   unfolding rest_of
   last_stop zero dist next count size sent g h = ends g nothing
     where
@@ -138,8 +120,8 @@ module _ (limit C M end : ℕ) (w b : List ℕ) (left₀ dist₀ next₀ : ℕ) 
       }
   last_stop (suc left) dist next count size sent g h = absurd (no h)
     where
-      no : suc left ≤ 0 → ⊥
-      no h = omega arith
+      no : suc left ≡ 0 → ⊥
+      no h = omega (arith, h)
 
   -- a turn: one message more
   pub turns : (left dist next count size sent number start first rest left' dist' skip : ℕ) → Measuring left dist next count size sent → ltb limit sent ≡ false → length b ≡ C

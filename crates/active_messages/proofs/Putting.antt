@@ -37,18 +37,9 @@ pub skip_nothing : (l : List ℕ) (at next n : ℕ) → n ≤ next → Wrote l a
 unfolding run_bytes
 skip_nothing l at next n h = rw (le-ltb next n h) (wrote_none l at)
 
-pub skip_room : (at next n k : ℕ) → next < n → at + sizes (skip_to next n) ≤ k → at + 9 ≤ k
-skip_room at next n k h g = rw (lt-ltb next n h) at g
-
 -- a message in two parts of the ring
 pub piece_length : (b : List ℕ) (start first rest : ℕ) → start + first ≤ length b → rest ≤ length b → length (take first (drop start b) ++ take rest b) ≡ first + rest
 piece_length b start first rest h g = omega (arith, length-append (take first (drop start b)) (take rest b), length-take first (drop start b), length-drop start b, length-take rest b)
-
-pub wrote_pieces : (b : List ℕ) (start first : ℕ) {l l₁ l₂ ys : List ℕ} {at p r : ℕ} → Wrote l at (take (start + first - start) (drop start b)) l₁ p → Wrote l₁ p ys l₂ r
-    → Wrote l at (take first (drop start b) ++ ys) l₂ r
-wrote_pieces b start first w v =
-    let e : start + first - start ≡ first = omega arith in
-    wrote_on (rw e at w) v
 
 pub wrote_sent : {l l₁ l₂ : List ℕ} (at next n : ℕ) (xs : List ℕ) {p r : ℕ} → Wrote l at (run_bytes change_bytes (skip_to next n)) l₁ p → Wrote l₁ p (change_bytes (record_msg n xs)) l₂ r
     → Wrote l at (run_bytes change_bytes (send_msg next (msg n xs))) l₂ r

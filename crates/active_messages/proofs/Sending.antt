@@ -14,7 +14,7 @@ use Rattle.model_frame.proofs.Runs.{run_append, sizes_append}
 use Rattle.model_frame.proofs.Sizes.{changes_size}
 use Rattle.model_session.specs.Whole.{skip_to, send_msg}
 use Rattle.base_laws.specs.Wrote.{Wrote}
-use Rattle.base_laws.proofs.Writes.{Left, left_start, left_room, left_step, left_done}
+use Rattle.base_laws.proofs.Writes.{Left, left_room, left_step, left_done}
 use Rattle.store_log.specs.Log.{msg, rest_of, Position, NextMessage}
 use Rattle.active_messages.proofs.Measuring.{taken_more, full_taken, piece_of}
 use Rattle.active_messages.specs.Cut.{taken}
@@ -30,20 +30,17 @@ module _ (limit C M end : ℕ) (w b : List ℕ) where
       pub sums : sent + dist ≤ dist₀
       pub writes : Left first at (to_write 0 next₀ left₀) out pos (to_write sent next left)
 
-    pub begins : Position C M end w b left₀ dist₀ → Sending first left₀ dist₀ next₀ 0 at
-    begins s = record { stands = s; sums = omega arith; writes = left_start first at (to_write 0 next₀ left₀) }
-
     pub full_stop : (out : List ℕ) (left dist next sent pos : ℕ) → Sending out left dist next sent pos → ltb limit sent ≡ true → Wrote first at (to_write 0 next₀ left₀) out pos
     unfolding run_bytes
     full_stop out left dist next sent pos g h = left_done g.writes (ap (run_bytes change_bytes) (full_taken limit sent next h (rest_of C M end w b left)))
 
-    pub last_stop : (out : List ℕ) (left dist next sent pos : ℕ) → Sending out left dist next sent pos → left ≤ 0 → Wrote first at (to_write 0 next₀ left₀) out pos
+    pub last_stop : (out : List ℕ) (left dist next sent pos : ℕ) → Sending out left dist next sent pos → left ≡ 0 → Wrote first at (to_write 0 next₀ left₀) out pos
     unfolding rest_of run_bytes
     last_stop out zero dist next sent pos g h = left_done g.writes refl
     last_stop out (suc left) dist next sent pos g h = absurd (no h)
       where
-        no : suc left ≤ 0 → ⊥
-        no h = omega arith
+        no : suc left ≡ 0 → ⊥
+        no h = omega (arith, h)
 
     module _ (out : List ℕ) (left dist next sent pos number start part rest left' dist' : ℕ) (g : Sending out left dist next sent pos) (h : ltb limit sent ≡ false) (long : length b ≡ C)
         (r : NextMessage C M end w b left dist number start part rest left' dist') where

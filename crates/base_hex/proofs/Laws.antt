@@ -73,10 +73,6 @@ module _ (size : ℕ) (line out : List ℕ) (i : ℕ) (g : Reading size line out
         ap bytes_from (two_at line i less)
         ∙ ap (λ (t : Bool). cond t (byte_then (a * 16 + b) (bytes_from (drop (2 * (i + 1)) line))) none) e
 
-    pub reads_bad : (ltb (digit_value (get_or line (2 * i) 0)) 16 && ltb (digit_value (get_or line (2 * i + 1) 0)) 16) ≡ false → ReadsLine (bytes_from line) out None
-    unfolding a b
-    reads_bad e = record { bytes = sym (g.left ∙ ap (behind (take i out)) (tested e)); within = omega arith }
-
     pub reads_on : (ltb (digit_value (get_or line (2 * i) 0)) 16 && ltb (digit_value (get_or line (2 * i + 1) 0)) 16) ≡ true → (v : ℕ) → v ≡ digit_value (get_or line (2 * i) 0) * 16 + digit_value (get_or line (2 * i + 1) 0)
         → Reading size line (set out i v) (i + 1)
     unfolding a b

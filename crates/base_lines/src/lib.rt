@@ -30,6 +30,7 @@ pub fn next_feed(piece: &[u8], from: usize) -> usize
 }
 
 // Takes the piece's bytes from `from` on up to its next line feed or its end behind the first len bytes of the line.
+// The line's area is of fixed size and the caller's, so how many of its bytes are kept stands beside it.
 pub fn feed(line: &mut [u8], len: usize, piece: &[u8], from: usize) -> Fed
     requires len_in_bounds { len ≤ length line.old }
     requires from_in_bounds { from ≤ length piece.now }

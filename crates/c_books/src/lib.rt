@@ -9,7 +9,7 @@ use active_books::Opened;
 use base_refusals::Refusal;
 use frame_fields::Incarnation;
 
-// An answer: a refusal or 0; 1 for wait, for one that is picked, and for yes, else 0; the session picked or 0.
+// An answer, in the numbers that C reads: a refusal or 0; 1 for wait, for one that is picked, and for yes, else 0; the session picked or 0.
 #[repr(C)]
 #[derive(Clone, Copy)]
 pub struct Answered {

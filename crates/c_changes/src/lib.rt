@@ -1,14 +1,40 @@
 // The eight changes of a stored session for programs in C or Rust: 0, or a refusal. Areas that break the rules, and a place that holds no session,
-// are turned down before all else (25), and nothing is asked of a caller.
+// are turned down before all else (25), and nothing is asked of a caller. C lends the areas apart, and hands the shape and the place beside them.
 #![tactic(auto)]
 
-ghost use Rattle.std.specs.Prelude.{[], ◌∷◌};
+ghost use Rattle.std.specs.Prelude.{[], ◌∷◌, List, ℕ};
+ghost use Rattle.std.specs.Fn.{FnOnceTakesAtMut, FnOnceReturnsAtMut};
 ghost use Rattle.model_frame.specs.Frame.{set_incoming, set_incoming_in_flight, set_in_flight, record_msg, record_bare, reset, set_created_at, set_marks};
-ghost use Rattle.model_standby.specs.Store.{changed};
+ghost use Rattle.model_standby.specs.Store.{Stored, changed};
 ghost use Rattle.c_store.specs.Total.{session_in, why_no_record, why_no_bare_record, why_no_stamp, why_no_marks, ChangeIs};
+ghost use Rattle.c_changes.specs.Calls.{TakesWords, DoesWords};
 
-use base_refusals::{BAD_MARKS, BAD_TIMESTAMP, NUMBER_NOT_RECORDED, RULES_BROKEN};
-use store_areas::Shape;
+use base_refusals::Refusal;
+use store_areas::{Shape, View};
+
+// Changes the words of a place that is in use.
+fn change_words<F: FnOnce(&mut [u64])>(
+    words: &mut [u64],
+    bytes: &[u8],
+    shape: Shape,
+    place: usize,
+    change: F,
+) -> u8
+    requires callable { TakesWords (λ x. FnOnceTakesAtMut F.FnOnce change x) shape }
+    ensures { (f : Stored → Stored) → DoesWords (λ x y. FnOnceReturnsAtMut F.FnOnce change x tt y) shape f → ChangeIs shape place 0 f words.old words.new bytes.now bytes.now result }
+{
+    if !store_areas::in_use(words, bytes, shape, place) {
+        return Refusal::RulesBroken.number();
+    }
+    let view = View {
+        words,
+        bytes,
+        shape,
+    };
+    let spot = view.spot(place);
+    change(&mut words[spot.words_start..spot.words_end]);
+    0
+}
 
 pub fn store_set_next_incoming(
     words: &mut [u64],
@@ -19,12 +45,9 @@ pub fn store_set_next_incoming(
 ) -> u8
     ensures { ChangeIs shape place 0 (changed shape.bytes shape.messages (set_incoming seq ∷ [])) words.old words.new bytes.now bytes.now result }
 {
-    if !store_areas::in_use(words, bytes, shape, place) {
-        return RULES_BROKEN;
-    }
-    let spot = store_areas::spot_in(words, bytes, shape, place);
-    store_place::set_next_incoming(&mut words[spot.words_start..spot.words_end], seq);
-    0
+    change_words(words, bytes, shape, place, |words| {
+        store_place::set_next_incoming(words, seq)
+    })
 }
 
 pub fn store_set_next_incoming_in_flight(
@@ -37,16 +60,9 @@ pub fn store_set_next_incoming_in_flight(
 ) -> u8
     ensures { ChangeIs shape place 0 (changed shape.bytes shape.messages (set_incoming_in_flight seq in_flight ∷ [])) words.old words.new bytes.now bytes.now result }
 {
-    if !store_areas::in_use(words, bytes, shape, place) {
-        return RULES_BROKEN;
-    }
-    let spot = store_areas::spot_in(words, bytes, shape, place);
-    store_place::set_next_incoming_in_flight(
-        &mut words[spot.words_start..spot.words_end],
-        seq,
-        in_flight,
-    );
-    0
+    change_words(words, bytes, shape, place, |words| {
+        store_place::set_next_incoming_in_flight(words, seq, in_flight)
+    })
 }
 
 pub fn store_set_in_flight(
@@ -58,13 +74,21 @@ pub fn store_set_in_flight(
 ) -> u8
     ensures { ChangeIs shape place 0 (changed shape.bytes shape.messages (set_in_flight seq ∷ [])) words.old words.new bytes.now bytes.now result }
 {
-    if !store_areas::in_use(words, bytes, shape, place) {
-        return RULES_BROKEN;
-    }
-    let spot = store_areas::spot_in(words, bytes, shape, place);
-    store_place::set_in_flight(&mut words[spot.words_start..spot.words_end], seq);
-    0
+    change_words(words, bytes, shape, place, |words| {
+        store_place::set_in_flight(words, seq)
+    })
 }
+
+pub fn store_reset(words: &mut [u64], bytes: &[u8], shape: Shape, place: usize) -> u8
+    ensures { ChangeIs shape place 0 (changed shape.bytes shape.messages (reset ∷ [])) words.old words.new bytes.now bytes.now result }
+{
+    change_words(words, bytes, shape, place, |words| {
+        store_place::reset(words, shape.messages as usize)
+    })
+}
+
+// The four below can turn the change itself down, or write bytes too: a closure over both slices that refuses would ask a clause longer than the
+// steps that it saves.
 
 // A Record of the next outgoing number with this message; 40 if no number is left.
 pub fn store_record(
@@ -77,13 +101,18 @@ pub fn store_record(
     ensures { ChangeIs shape place (why_no_record (session_in shape words.old bytes.old place).next_out) (changed shape.bytes shape.messages (record_msg (session_in shape words.old bytes.old place).next_out text.now ∷ [])) words.old words.new bytes.old bytes.new result }
 {
     if !store_areas::in_use(words, bytes, shape, place) {
-        return RULES_BROKEN;
+        return Refusal::RulesBroken.number();
     }
-    let spot = store_areas::spot_in(words, bytes, shape, place);
+    let view = View {
+        words,
+        bytes,
+        shape,
+    };
+    let spot = view.spot(place);
     let max = shape.messages as usize;
     let seq = store_place::next_outgoing(&words[spot.words_start..spot.words_end]);
     if seq == u64::MAX {
-        return NUMBER_NOT_RECORDED;
+        return Refusal::NumberNotRecorded.number();
     }
     store_place::record(
         &mut words[spot.words_start..spot.words_end],
@@ -106,27 +135,20 @@ pub fn store_record_none(
     ensures { ChangeIs shape place (why_no_bare_record (session_in shape words.old bytes.now place).next_out seq) (changed shape.bytes shape.messages (record_bare seq ∷ [])) words.old words.new bytes.now bytes.now result }
 {
     if !store_areas::in_use(words, bytes, shape, place) {
-        return RULES_BROKEN;
+        return Refusal::RulesBroken.number();
     }
-    let spot = store_areas::spot_in(words, bytes, shape, place);
+    let view = View {
+        words,
+        bytes,
+        shape,
+    };
+    let spot = view.spot(place);
     let max = shape.messages as usize;
     let next = store_place::next_outgoing(&words[spot.words_start..spot.words_end]);
     if seq < next || seq == u64::MAX {
-        return NUMBER_NOT_RECORDED;
+        return Refusal::NumberNotRecorded.number();
     }
     store_place::record_none(&mut words[spot.words_start..spot.words_end], max, seq);
-    0
-}
-
-pub fn store_reset(words: &mut [u64], bytes: &[u8], shape: Shape, place: usize) -> u8
-    ensures { ChangeIs shape place 0 (changed shape.bytes shape.messages (reset ∷ [])) words.old words.new bytes.now bytes.now result }
-{
-    if !store_areas::in_use(words, bytes, shape, place) {
-        return RULES_BROKEN;
-    }
-    let spot = store_areas::spot_in(words, bytes, shape, place);
-    let max = shape.messages as usize;
-    store_place::reset(&mut words[spot.words_start..spot.words_end], max);
     0
 }
 
@@ -141,12 +163,17 @@ pub fn store_set_created_at(
     ensures { ChangeIs shape place (why_no_stamp text.now) (changed shape.bytes shape.messages (set_created_at text.now ∷ [])) words.old words.new bytes.old bytes.new result }
 {
     if !store_areas::in_use(words, bytes, shape, place) {
-        return RULES_BROKEN;
+        return Refusal::RulesBroken.number();
     }
     if !frame_stamp::is_stamp(text) {
-        return BAD_TIMESTAMP;
+        return Refusal::BadTimestamp.number();
     }
-    let spot = store_areas::spot_in(words, bytes, shape, place);
+    let view = View {
+        words,
+        bytes,
+        shape,
+    };
+    let spot = view.spot(place);
     store_place::set_created_at(
         &mut words[spot.words_start..spot.words_end],
         &mut bytes[spot.bytes_start..spot.bytes_end],
@@ -166,12 +193,17 @@ pub fn store_set_marks(
     ensures { ChangeIs shape place (why_no_marks text.now) (changed shape.bytes shape.messages (set_marks text.now ∷ [])) words.old words.new bytes.old bytes.new result }
 {
     if !store_areas::in_use(words, bytes, shape, place) {
-        return RULES_BROKEN;
+        return Refusal::RulesBroken.number();
     }
     if !frame_stamp::is_marks(text) {
-        return BAD_MARKS;
+        return Refusal::BadMarks.number();
     }
-    let spot = store_areas::spot_in(words, bytes, shape, place);
+    let view = View {
+        words,
+        bytes,
+        shape,
+    };
+    let spot = view.spot(place);
     store_place::set_marks(
         &mut words[spot.words_start..spot.words_end],
         &mut bytes[spot.bytes_start..spot.bytes_end],

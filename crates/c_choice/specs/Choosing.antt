@@ -1,11 +1,11 @@
 -- The copies as words, and what is returned. Assumes nothing.
-use Rattle.std.specs.Prelude.{ℕ, ◌+◌, ◌*◌, ◌-◌, ◌^◌, min, cond, ◌&&◌, Result, Ok, Err, List, length, get_or, eqb, leb, ltb}
+use Rattle.std.specs.Prelude.{◌≡◌, ℕ, Bool, true, [], ◌∷◌, ◌+◌, ◌*◌, ◌-◌, ◌^◌, min, cond, ◌&&◌, Result, Ok, Err, List, length, get_or, eqb, leb, ltb}
 use Rattle.base_refusals.specs.Numbers.{number_of}
 use Rattle.base_refusals.specs.declared.Refusal.{Refusal}
-use Rattle.model_choice.specs.Choice.{chosen}
+use Rattle.model_choice.specs.Choice.{StandbyCopy, chosen}
 use Rattle.standby_choice.specs.declared.Copy.{Copy}
-use Rattle.standby_choice.specs.declared.Copies.{Copies}
-use Rattle.standby_choice.specs.Choice.{copies_of, are_sound}
+use Rattle.standby_choice.specs.declared.lent.LentCopy.{LentCopy}
+use Rattle.standby_choice.specs.Choice.{copy_of, is_sound}
 
 -- ---- five copies of six words: whether it is listed, whether it is checked, its epoch, and its store's S, C and M
 
@@ -22,8 +22,11 @@ described_at ws at =
       shape = record { places = min (get_or ws (at + 3) 0) 4294967295; bytes = min (get_or ws (at + 4) 0) 4294967295; messages = min (get_or ws (at + 5) 0) 4294967295 };
     }
 
-abbrev pub copies_in : List ℕ → Copies
-copies_in ws = record { 0 = described_at ws 0; 1 = described_at ws 6; 2 = described_at ws 12; 3 = described_at ws 18; 4 = described_at ws 24 }
+-- a copy by its words from `at` on, with its store's areas
+pub record LentIs (ws : List ℕ) (at : ℕ) (w b : List ℕ) (c : LentCopy) : Type 0 where
+  pub copy : c.copy ≡ described_at ws at
+  pub words : c.words.now ≡ w
+  pub bytes : c.bytes.now ≡ b
 
 -- ---- what is returned
 
@@ -35,9 +38,17 @@ abbrev pub code_in : Result ℕ Refusal → ℕ
 code_in (Ok copy) = code_of 0 copy
 code_in (Err e) = number_of e * 2 ^ 40
 
--- 25 for fewer than 30 words, or if a listed copy's store breaks its rules; 39 where none fits; else the copy that is taken
-abbrev pub returned : List ℕ → List ℕ → List ℕ → List ℕ → List ℕ → List ℕ → List ℕ → List ℕ → List ℕ → List ℕ → List ℕ → ℕ
-returned ws w0 b0 w1 b1 w2 b2 w3 b3 w4 b4 =
-    cond (leb 30 (length ws) && are_sound (copies_in ws) w0 b0 w1 b1 w2 b2 w3 b3 w4 b4)
-    (cond (eqb (chosen (copies_of (copies_in ws) w0 b0 w1 b1 w2 b2 w3 b3 w4 b4)) 5) (code_of 39 0) (code_of 0 (chosen (copies_of (copies_in ws) w0 b0 w1 b1 w2 b2 w3 b3 w4 b4))))
-    (code_of 25 0)
+module _ (ws w0 b0 w1 b1 w2 b2 w3 b3 w4 b4 : List ℕ) where
+  -- the five copies that the words and the areas stand for
+  abbrev pub copies_in : List StandbyCopy
+  copies_in = copy_of (described_at ws 0) w0 b0 ∷ copy_of (described_at ws 6) w1 b1 ∷ copy_of (described_at ws 12) w2 b2 ∷ copy_of (described_at ws 18) w3 b3 ∷ copy_of (described_at ws 24) w4 b4 ∷ []
+
+  -- the areas of each that is listed keep the rules
+  abbrev pub are_sound_in : Bool
+  are_sound_in =
+      is_sound (described_at ws 0) w0 b0
+      && (is_sound (described_at ws 6) w1 b1 && (is_sound (described_at ws 12) w2 b2 && (is_sound (described_at ws 18) w3 b3 && (is_sound (described_at ws 24) w4 b4 && true))))
+
+  -- 25 for fewer than 30 words, or if a listed copy's store breaks its rules; 39 where none fits; else the copy that is taken
+  abbrev pub returned : ℕ
+  returned = cond (leb 30 (length ws) && are_sound_in) (cond (eqb (chosen copies_in) 5) (code_of 39 0) (code_of 0 (chosen copies_in))) (code_of 25 0)

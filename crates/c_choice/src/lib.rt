@@ -1,33 +1,32 @@
 // The boundary for programs in C or Rust: which copy takes over. Nothing is asked of a caller.
 #![tactic(auto)]
 
-ghost use Rattle.std.specs.Prelude.{◌≡◌, ℕ, min, ◌+◌, ◌≤◌, length};
-ghost use Rattle.c_choice.specs.Choosing.{flag_of, described_at, copies_in, code_in, returned};
+ghost use Rattle.std.specs.Prelude.{◌≡◌, ℕ, min, ◌+◌, ◌*◌, ◌≤◌, ◌<◌, length};
+ghost use Rattle.c_choice.specs.Choosing.{flag_of, described_at, LentIs, code_in, returned};
 
 use base_refusals::Refusal;
 use frame_fields::Epoch;
-use standby_choice::{Copies, Copy};
+use standby_choice::{Copy, LentCopy};
 use store_areas::Shape;
 
 // The words of a copy: whether it is listed, whether it is checked, its epoch, and its store's S, C and M.
 const COPY_WORDS: usize = 6;
 
+// As many copies as there can be standbys.
+const COPIES: usize = 5;
+
 // A flag is set if it is not 0.
 fn flag(w: u64) -> u8
     ensures { result ≡ flag_of w }
 {
-    if w == 0 { 0 } else { 1 }
+    u8::from(w != 0)
 }
 
 // A word of a shape; one beyond 32 bits counts as the greatest.
 fn at_most_u32(w: u64) -> u32
     ensures { result ≡ min w 4294967295 }
 {
-    if w < 4_294_967_295 {
-        w as u32
-    } else {
-        u32::MAX
-    }
+    w.min(u64::from(u32::MAX)) as u32
 }
 
 // The copy whose words begin at `at`.
@@ -35,35 +34,29 @@ fn copy_at(copies: &[u64], at: usize) -> Copy
     requires { at + 6 ≤ length copies.now }
     ensures { result ≡ described_at copies.now at }
 {
-    let listed = flag(copies[at]);
-    let checked = flag(copies[at + 1]);
-    let epoch = copies[at + 2];
-    let places = at_most_u32(copies[at + 3]);
-    let bytes = at_most_u32(copies[at + 4]);
-    let messages = at_most_u32(copies[at + 5]);
     Copy {
-        listed,
-        checked,
-        epoch: Epoch(epoch),
+        listed: flag(copies[at]),
+        checked: flag(copies[at + 1]),
+        epoch: Epoch(copies[at + 2]),
         shape: Shape {
-            places,
-            bytes,
-            messages,
+            places: at_most_u32(copies[at + 3]),
+            bytes: at_most_u32(copies[at + 4]),
+            messages: at_most_u32(copies[at + 5]),
         },
     }
 }
 
-// The five copies that the words stand for.
-fn copies_in(copies: &[u64]) -> Copies
-    requires { 30 ≤ length copies.now }
-    ensures { result ≡ copies_in copies.now }
+// The copy of a number, with its store's areas.
+fn lent<'a>(copies: &[u64], number: usize, words: &'a [u64], bytes: &'a [u8]) -> LentCopy<'a>
+    requires number_bound { number < 5 }
+    requires copies_long { 30 ≤ length copies.now }
+    ensures { LentIs copies.now (number * 6) words.now bytes.now result }
 {
-    let first = copy_at(copies, 0);
-    let second = copy_at(copies, COPY_WORDS);
-    let third = copy_at(copies, 2 * COPY_WORDS);
-    let fourth = copy_at(copies, 3 * COPY_WORDS);
-    let fifth = copy_at(copies, 4 * COPY_WORDS);
-    Copies(first, second, third, fourth, fifth)
+    LentCopy {
+        copy: copy_at(copies, number * COPY_WORDS),
+        words,
+        bytes,
+    }
 }
 
 // What is returned: a refusal n as n × 2^40, else 2^63 and the number of the copy.
@@ -82,7 +75,7 @@ fn code(choice: Result<usize, Refusal>) -> u64
     }
 }
 
-// Which copy takes over.
+// Which copy takes over. C lends the two areas of each copy apart.
 #[unsafe(no_mangle)]
 pub extern "C" fn wz_choose(
     copies: &[u64],
@@ -99,10 +92,15 @@ pub extern "C" fn wz_choose(
 ) -> u64
     ensures { result ≡ returned copies.now w0.now b0.now w1.now b1.now w2.now b2.now w3.now b3.now w4.now b4.now }
 {
-    if copies.len() < COPY_WORDS * Copies::MAX {
+    if copies.len() < COPY_WORDS * COPIES {
         return code(Err(Refusal::RulesBroken));
     }
-    let cs = copies_in(copies);
-    let choice = standby_choice::choose(cs, w0, b0, w1, b1, w2, b2, w3, b3, w4, b4);
+    let choice = standby_choice::choose(&[
+        lent(copies, 0, w0, b0),
+        lent(copies, 1, w1, b1),
+        lent(copies, 2, w2, b2),
+        lent(copies, 3, w3, b3),
+        lent(copies, 4, w4, b4),
+    ]);
     code(choice)
 }

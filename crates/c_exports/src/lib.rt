@@ -1,4 +1,5 @@
 // The boundary for programs in C or Rust (docs/ENTRY_POINTS.md has the signatures and what is returned). Nothing is asked of a caller.
+// C hands the three numbers of a shape apart.
 #![tactic(auto)]
 
 ghost use Rattle.std.specs.Prelude.{◌≡◌, ◌+◌, ◌*◌, ◌<◌, ◌≤◌, length, take, drop, set};
@@ -48,6 +49,7 @@ fn done(count: usize) -> u64
 // Done, and nothing is left.
 const LAST: u64 = 13_835_058_055_282_163_712;
 
+// The fields' numbers are those of what C is returned; the enum has none.
 fn field_number(field: Field) -> u32
     ensures is { result ≡ field_number (field_of field) }
     ensures small { result < 4 }
@@ -163,7 +165,7 @@ fn session_code(told: Result<usize, Refusal>) -> u64
     }
 }
 
-// The session at a place.
+// The session at a place. C hands the three numbers of a shape apart.
 #[unsafe(no_mangle)]
 pub extern "C" fn wz_session(
     words: &[u64],

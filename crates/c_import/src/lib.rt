@@ -1,4 +1,5 @@
-// A session built from a file of sent messages, for programs in C or Rust. Nothing is asked of a caller.
+// A session built from a file of sent messages, for programs in C or Rust. Nothing is asked of a caller. C hands the four texts of a
+// key and the three numbers of a shape apart.
 #![tactic(auto)]
 
 ghost use Rattle.std.specs.Prelude.{◌≡◌};
@@ -6,8 +7,9 @@ ghost use Rattle.store_place.specs.Place.{key_from};
 ghost use Rattle.c_import.specs.Answering.{Imports};
 
 use store_areas::Shape;
+use store_place::Key;
 
-// The answer: 0 and the new session's place; or the refusal, with the offset of the first faulty message for 28, 29 and 30.
+// The answer in the numbers that C reads: 0 and the new session's place; or the refusal, with the offset of the first faulty message for 28, 29 and 30.
 #[repr(C)]
 #[derive(Clone, Copy)]
 pub struct Built {
@@ -36,7 +38,13 @@ pub fn wz_import(
         bytes: c,
         messages: m,
     };
-    match store_import::import(words, bytes, shape, begin, sender, target, suffix, file) {
+    let key = Key {
+        begin,
+        sender,
+        target,
+        suffix,
+    };
+    match store_import::import(words, bytes, shape, &key, file) {
         Ok(place) => Built {
             refusal: 0,
             place,

@@ -1,4 +1,5 @@
 // A session built from a file of sent messages, for programs in C or Rust: the function of `c_import` under the same name.
+// C hands the four texts of a key apart.
 #![tactic(auto)]
 
 ghost use Rattle.store_place.specs.Place.{key_from};

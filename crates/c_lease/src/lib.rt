@@ -20,7 +20,7 @@ pub mod word {
     pub const LOST: usize = 3;
 }
 
-// 31 for a time below the last one handed in, else 0; 1 if a renewal is due, else 0.
+// In the numbers that C reads: 31 for a time below the last one handed in, else 0; 1 if a renewal is due, else 0.
 #[repr(C)]
 #[derive(Clone, Copy)]
 pub struct Due {

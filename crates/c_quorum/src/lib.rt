@@ -10,7 +10,7 @@ ghost use Rattle.c_quorum.specs.Boundary.{Tells};
 use base_refusals::Refusal;
 use frame_fields::CommitNumber;
 
-// A figure: 25 or 37, else 0 and the number.
+// A figure, in the numbers that C reads: 25 or 37, else 0 and the number.
 #[repr(C)]
 #[derive(Clone, Copy)]
 pub struct Shown {

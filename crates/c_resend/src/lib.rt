@@ -1,4 +1,5 @@
 // Several resend ranges together, for C and Rust.
+// C hands the three numbers of a shape apart.
 #![tactic(auto)]
 
 ghost use Rattle.store_resend.specs.Ranges.{Lists};

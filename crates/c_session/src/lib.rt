@@ -9,13 +9,13 @@ ghost use Rattle.base_laws.specs.Wrote.{Wrote};
 ghost use Rattle.frame_reader.specs.Answers.{span_of};
 ghost use Rattle.frame_fields.specs.Answers.{flight_of, key_of, summary_of};
 ghost use Rattle.frame_writer.specs.Encoding.{key_size, summary_size};
-ghost use Rattle.store_areas.specs.Areas.{Rules, place_at};
+ghost use Rattle.store_areas.specs.Areas.{place_at};
 ghost use Rattle.c_session.specs.Telling.{span_up_to, flag, told_bytes, told_at, TellsSession};
 
 use base_refusals::Refusal;
 use frame_fields::{SessionId, Summary};
 use frame_reader::Span;
-use store_areas::Shape;
+use store_areas::{Shape, View};
 use store_place::{byte, word};
 
 // ---- what stands in the byte area
@@ -34,14 +34,13 @@ fn span(at: usize, n: u64, most: u32) -> Span
 }
 
 // The key of a place in use.
-fn key_of(words: &[u64], bytes: &[u8], shape: Shape, place: usize) -> SessionId
-    requires rules { Rules shape words.now bytes.now }
-    requires place_bound { place < get_or words.now 0 0 }
-    ensures { key_of bytes.now result ≡ (place_at shape words.now bytes.now place).key }
+fn key_of(view: &View, place: usize) -> SessionId
+    requires { place < get_or view.now.words.now 0 0 }
+    ensures { key_of view.now.bytes.now result ≡ (place_at view.now.shape view.now.words.now view.now.bytes.now place).key }
 {
-    let p = store_areas::spot_in(words, bytes, shape, place);
-    let lengths = &words[p.words_start..p.words_end];
-    let start = p.bytes_start;
+    let spot = view.spot(place);
+    let lengths = &view.words[spot.words_start..spot.words_end];
+    let start = spot.bytes_start;
     SessionId {
         begin_string: span(start, lengths[word::BEGIN_LEN], KEY_TEXT_MOST),
         sender_comp_id: span(
@@ -99,27 +98,20 @@ fn put(bytes: &[u8], durable: bool, session: SessionId, summary: Summary, out: &
 }
 
 // The session at a place in use.
-fn write_session(
-    words: &[u64],
-    bytes: &[u8],
-    shape: Shape,
-    place: usize,
-    n: u64,
-    out: &mut [u8],
-) -> Result<usize, Refusal>
-    requires rules { Rules shape words.now bytes.now }
-    requires place_bound { place < get_or words.now 0 0 }
-    ensures { TellsSession (some (told_bytes (place_at shape words.now bytes.now place) n)) out.old out.new result }
+fn write_session(view: &View, place: usize, n: u64, out: &mut [u8]) -> Result<usize, Refusal>
+    requires { place < get_or view.now.words.now 0 0 }
+    ensures { TellsSession (some (told_bytes (place_at view.now.shape view.now.words.now view.now.bytes.now place) n)) out.old out.new result }
 {
-    let durable = store_sessions::durable(words, bytes, shape, place);
-    let k = key_of(words, bytes, shape, place);
-    let m = store_sessions::summary_of(words, bytes, shape, place, n);
-    if out.len() < size(bytes, k, m) {
+    let durable = store_sessions::durable(view, place);
+    let k = key_of(view, place);
+    let m = store_sessions::summary_of(view, place, n);
+    if out.len() < size(view.bytes, k, m) {
         return Err(Refusal::NoRoom);
     }
-    Ok(put(bytes, durable, k, m, out))
+    Ok(put(view.bytes, durable, k, m, out))
 }
 
+// The areas and the shape come apart, as C lends them.
 // The session at a place: 25 broken rules or a place that is not in use, 9 an area too short; both leave the area as it was.
 pub fn session(
     words: &[u64],
@@ -134,5 +126,10 @@ pub fn session(
     if !store_areas::in_use(words, bytes, shape, place) {
         return Err(Refusal::RulesBroken);
     }
-    write_session(words, bytes, shape, place, n, out)
+    let view = View {
+        words,
+        bytes,
+        shape,
+    };
+    write_session(&view, place, n, out)
 }

@@ -16,6 +16,7 @@ use Rattle.model_standby.specs.Store.{Stored, place_of, is_stored, on_stored, ch
 use Rattle.store_log.specs.Log.{rest_of}
 use Rattle.store_place.specs.Place.{next_out_of, place_in, rest_in, PositionIn}
 use Rattle.store_areas.specs.declared.Shape.{Shape}
+use Rattle.store_areas.specs.declared.store.View.{View}
 use Rattle.std.specs.Prelude.{Result}
 use Rattle.base_refusals.specs.declared.Refusal.{Refusal}
 use Rattle.base_refusals.specs.Numbers.{answer_number}
@@ -37,26 +38,30 @@ module _ {s : Shape} {i : ℕ} {w b : List ℕ} {t : Bool} (is : t ≡ in_use s 
   reads_by : {f : Session → ℕ} {u : Bool} → t ≡ u → Reads s w b i f (cond u (given (f (session_in s w b i))) (refused 25))
   reads_by {f} e = record { answer = ap (λ (x : Bool). cond x (given (f (session_in s w b i))) (refused 25)) (sym e ∙ is) }
 
-  pub reads_none : {f : Session → ℕ} → t ≡ false → Reads s w b i f (refused 25)
-  reads_none {f} e = reads_by {f = f} e
+  pub reads_none : {f : Session → ℕ} {r : StoreAnswer} → t ≡ false → r ≡ refused 25 → Reads s w b i f r
+  reads_none {f} e r = subst (Reads s w b i f) (sym r) (reads_by {f = f} e)
 
   -- ---- a change
 
-  pub unfit : {why : ℕ} {f : Stored → Stored} → t ≡ false → ChangeIs s i why f w w b b 25
-  unfit {why} e = record { answer = ap (λ (x : Bool). cond x why 25) (sym e ∙ is); made = λ z. absurd (no_zero 25 (omega arith) z); still = λ _. (refl, refl) }
+  pub unfit : {why n : ℕ} {f : Stored → Stored} → t ≡ false → n ≡ 25 → ChangeIs s i why f w w b b n
+  unfit {why} e q = record { answer = q ∙ ap (λ (x : Bool). cond x why 25) (sym e ∙ is); made = λ z. absurd (no_zero 25 (omega arith) (sym q ∙ z)); still = λ _. (refl, refl) }
 
   module _ (e : t ≡ true) where
     pub used : InUse s w b i
     used = in_use_of s w b i (sym is ∙ e)
 
-    pub reads : {f : Session → ℕ} {v : ℕ} → v ≡ f (session_in s w b i) → Reads s w b i f (given v)
-    reads {f} q = subst (Reads s w b i f) (ap given (sym q)) (reads_by {f = f} e)
+    pub reads : {f : Session → ℕ} {v : ℕ} {r : StoreAnswer} → v ≡ f (session_in s w b i) → r ≡ given v → Reads s w b i f r
+    reads {f} q g = subst (Reads s w b i f) (ap given (sym q) ∙ sym g) (reads_by {f = f} e)
 
-    pub cannot : {why n : ℕ} {f : Stored → Stored} → why ≡ n → 0 < n → ChangeIs s i why f w w b b n
-    cannot {why} {n} q h = record { answer = sym q ∙ ap (λ (x : Bool). cond x why 25) (sym e ∙ is); made = λ z. absurd (no_zero n h z); still = λ _. (refl, refl) }
+    pub cannot : {why n r : ℕ} {f : Stored → Stored} → why ≡ n → 0 < n → r ≡ n → ChangeIs s i why f w w b b r
+    cannot {why} {n} q h g = record { answer = g ∙ sym q ∙ ap (λ (x : Bool). cond x why 25) (sym e ∙ is); made = λ z. absurd (no_zero n h (sym g ∙ z)); still = λ _. (refl, refl) }
 
     pub made : {why : ℕ} {f : Stored → Stored} {w' b' : List ℕ} → why ≡ 0 → Changed s i f w w' b b' → ChangeIs s i why f w w' b b' 0
     made {why} q p = record { answer = sym q ∙ ap (λ (x : Bool). cond x why 25) (sym e ∙ is); made = λ _. p; still = λ z. absurd (true≢false z) }
+
+    -- by a call that is lent the whole store
+    pub made_through : {f : Stored → Stored} {w' v' b' c' : List ℕ} → Changed s i f w v' b c' → w' ≡ v' → b' ≡ c' → ChangeIs s i 0 f w w' b b' 0
+    made_through {f} {w'} {v'} {b'} {c'} p x y = made refl (subst (λ (v : List ℕ). Changed s i f w v b b') (sym x) (subst (λ (c : List ℕ). Changed s i f w v' b c) (sym y) p))
 
     pub marked_there : {w' : List ℕ} → w' ≡ set w (durable_at s i) 1 → ChangeIs s i 0 mark_durable w w' b b 0
     marked_there q = subst (λ (x : List ℕ). ChangeIs s i 0 mark_durable w x b b 0) (sym q) (made refl (marked s i w b used.rules used.at))
@@ -128,6 +133,10 @@ module _ (s : Shape) (w b : List ℕ) (k : Key) where
   abbrev Says : Bool → Bool → Bool → Bool → StoreAnswer
   Says ok key here room = cond ok (cond key (cond here (given At) (cond room (given At) (refused 20))) (refused 5)) (refused 25)
 
+  -- found in the store as it is read
+  pub found : {i : ℕ} (v : View) → v.shape ≡ s → v.words.now ≡ w → v.bytes.now ≡ b → i ≡ place_of k (places_of v.shape v.words.now v.bytes.now) → i ≡ At
+  found v x y z e = e ∙ (λ j. place_of k (places_of (x j) (y j) (z j)))
+
   -- by what is known of the four tests
   by : (ok key here room : Bool) {w' b' : List ℕ} → allowed s w b ≡ ok → key_is k ≡ key → is_stored k (places_of s w b) ≡ here → is_free s w ≡ room
       → (((ok && key) && (not here && room)) ≡ true → Opened s k w w' b b') → (((ok && key) && (not here && room)) ≡ false → (w' ≡ w) × (b' ≡ b)) → OpenIs s k w w' b b' (Says ok key here room)
@@ -140,27 +149,32 @@ module _ (s : Shape) (w b : List ℕ) (k : Key) where
   no : {A : Type 0} → false ≡ true → A
   no e = absurd (true≢false (sym e))
 
-  pub rules_broken : {t : Bool} → t ≡ allowed s w b → t ≡ false → OpenIs s k w w b b (refused 25)
-  rules_broken a e = by false _ _ _ (sym a ∙ e) refl refl refl no (λ _. (refl, refl))
+  answers : {x y : StoreAnswer} {w' b' : List ℕ} → x ≡ y → OpenIs s k w w' b b' y → OpenIs s k w w' b b' x
+  answers {w' = w'} {b' = b'} g p = subst (λ (r : StoreAnswer). OpenIs s k w w' b b' r) (sym g) p
+
+  pub rules_broken : {t : Bool} {r : StoreAnswer} → t ≡ allowed s w b → t ≡ false → r ≡ refused 25 → OpenIs s k w w b b r
+  rules_broken a e g = answers g (by false _ _ _ (sym a ∙ e) refl refl refl no (λ _. (refl, refl)))
 
   module _ {t : Bool} (a : t ≡ allowed s w b) (e : t ≡ true) where
-    pub no_key : {u : Bool} → u ≡ key_is k → u ≡ false → OpenIs s k w w b b (refused 5)
-    no_key q f = by true false _ _ (sym a ∙ e) (sym q ∙ f) refl refl no (λ _. (refl, refl))
+    pub no_key : {u : Bool} {r : StoreAnswer} → u ≡ key_is k → u ≡ false → r ≡ refused 5 → OpenIs s k w w b b r
+    no_key q f g = answers g (by true false _ _ (sym a ∙ e) (sym q ∙ f) refl refl no (λ _. (refl, refl)))
 
     module _ {u : Bool} (q : u ≡ key_is k) (f : u ≡ true) where
       here_is : {here : Bool} → ltb At (get_or w 0 0) ≡ here → is_stored k (places_of s w b) ≡ here
       here_is h = ap (ltb At) (places_length s w b) ∙ h
 
-      pub stored : {i : ℕ} → i ≡ At → i < get_or w 0 0 → OpenIs s k w w b b (given i)
-      stored {i} n h =
-          subst (λ (j : ℕ). OpenIs s k w w b b (given j)) (sym n)
+      pub stored : {i : ℕ} {r : StoreAnswer} → i ≡ At → i < get_or w 0 0 → r ≡ given i → OpenIs s k w w b b r
+      stored {i} n h g =
+          answers (g ∙ ap given n)
           (by true true true _ (sym a ∙ e) (sym q ∙ f) (here_is (lt-ltb At (get_or w 0 0) (subst (λ (x : ℕ). x < get_or w 0 0) n h))) refl no (λ _. (refl, refl)))
 
-      pub no_place : {i : ℕ} → i ≡ At → get_or w 0 0 ≤ i → s.places ≤ get_or w 0 0 → OpenIs s k w w b b (refused 20)
-      no_place n h r =
-          by true true false false (sym a ∙ e) (sym q ∙ f) (here_is (le-ltb At (get_or w 0 0) (subst (λ (x : ℕ). get_or w 0 0 ≤ x) n h))) (le-ltb (get_or w 0 0) s.places r) no (λ _. (refl, refl))
+      pub no_place : {i : ℕ} {r : StoreAnswer} → i ≡ At → get_or w 0 0 ≤ i → s.places ≤ get_or w 0 0 → r ≡ refused 20 → OpenIs s k w w b b r
+      no_place n h l g =
+          answers g
+          (by true true false false (sym a ∙ e) (sym q ∙ f) (here_is (le-ltb At (get_or w 0 0) (subst (λ (x : ℕ). get_or w 0 0 ≤ x) n h))) (le-ltb (get_or w 0 0) s.places l) no (λ _. (refl, refl)))
 
-      pub opened : {i : ℕ} {w' b' : List ℕ} → i ≡ At → get_or w 0 0 ≤ i → get_or w 0 0 < s.places → Opened s k w w' b b' → OpenIs s k w w' b b' (given i)
-      opened {w' = w'} {b' = b'} n h r p =
-          subst (λ (j : ℕ). OpenIs s k w w' b b' (given j)) (sym n)
-          (by true true false true (sym a ∙ e) (sym q ∙ f) (here_is (le-ltb At (get_or w 0 0) (subst (λ (x : ℕ). get_or w 0 0 ≤ x) n h))) (lt-ltb (get_or w 0 0) s.places r) (λ _. p) (λ z. absurd (true≢false z)))
+      pub opened : {i : ℕ} {w' v' b' c' : List ℕ} {r : StoreAnswer} → i ≡ At → get_or w 0 0 ≤ i → get_or w 0 0 < s.places → Opened s k w v' b c' → w' ≡ v' → b' ≡ c' → r ≡ given i → OpenIs s k w w' b b' r
+      opened {w' = w'} {v' = v'} {b' = b'} n h l p x y g =
+          answers (g ∙ ap given n)
+          (by true true false true (sym a ∙ e) (sym q ∙ f) (here_is (le-ltb At (get_or w 0 0) (subst (λ (z : ℕ). get_or w 0 0 ≤ z) n h))) (lt-ltb (get_or w 0 0) s.places l)
+          (λ _. subst (λ (v : List ℕ). Opened s k w v b b') (sym x) (subst (λ (c : List ℕ). Opened s k w v' b c) (sym y) p)) (λ z. absurd (true≢false z)))

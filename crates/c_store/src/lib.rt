@@ -1,23 +1,42 @@
 // The store's operations for programs in C or Rust: each turns areas that break the rules, and a place that holds no session, down before all
-// else (25), and asks nothing of its caller.
+// else (25), and asks nothing of its caller. C lends the areas apart, and hands the shape, the place and the four texts of a key beside them.
 #![tactic(auto)]
 
 ghost use Rattle.std.specs.Prelude.{◌≡◌, length};
 ghost use Rattle.model_session.specs.Session.{Session};
 ghost use Rattle.model_session.specs.Summary.{fnv, numbered_from, last_out};
 ghost use Rattle.model_standby.specs.Store.{mark_durable, taken_over};
+ghost use Rattle.base_refusals.specs.Numbers.{number_of};
 ghost use Rattle.store_place.specs.Place.{key_from};
-ghost use Rattle.c_store.specs.Total.{Reads, MadeIs, ChangeIs, OpenIs};
+ghost use Rattle.c_store.specs.Total.{given, refused, Reads, MadeIs, ChangeIs, OpenIs};
 
-use base_refusals::{BAD_SESSION, NO_SESSION_PLACE, RULES_BROKEN};
-use store_areas::{Shape, word};
+use base_refusals::Refusal;
+use store_areas::{Shape, Store, View, word};
+use store_place::Key;
 
-// A refusal by its number, or 0 and the value.
+// A refusal by its number, or 0 and the value: C is given both as plain numbers, so it is no Result.
 #[repr(C)]
 #[derive(Clone, Copy)]
 pub struct StoreAnswer {
     pub refusal: u8,
     pub value: u64,
+}
+
+impl StoreAnswer {
+    fn given(value: u64) -> StoreAnswer
+        ensures { result ≡ given value }
+    {
+        StoreAnswer { refusal: 0, value }
+    }
+
+    fn refused(refusal: Refusal) -> StoreAnswer
+        ensures { result ≡ refused (number_of refusal) }
+    {
+        StoreAnswer {
+            refusal: refusal.number(),
+            value: 0,
+        }
+    }
 }
 
 // Makes a store without sessions.
@@ -43,35 +62,32 @@ pub fn store_open(
     ensures { OpenIs shape (key_from begin.now sender.now target.now suffix.now) words.old words.new bytes.old bytes.new result }
 {
     if !store_areas::allowed(shape, words, bytes) {
-        return StoreAnswer {
-            refusal: RULES_BROKEN,
-            value: 0,
-        };
+        return StoreAnswer::refused(Refusal::RulesBroken);
     }
     if !frame_stamp::is_key(begin, sender, target, suffix) {
-        return StoreAnswer {
-            refusal: BAD_SESSION,
-            value: 0,
-        };
+        return StoreAnswer::refused(Refusal::BadSession);
     }
-    let i = store_sessions::place_of(words, bytes, shape, begin, sender, target, suffix);
-    if (i as u64) < words[word::USED] {
-        return StoreAnswer {
-            refusal: 0,
-            value: i as u64,
-        };
+    let key = Key {
+        begin,
+        sender,
+        target,
+        suffix,
+    };
+    let mut store = Store {
+        words,
+        bytes,
+        shape,
+    };
+    let i = store_sessions::place_of(&store.view(), &key);
+    let used = store.words[word::USED];
+    if (i as u64) < used {
+        return StoreAnswer::given(i as u64);
     }
-    if shape.places as u64 <= words[word::USED] {
-        return StoreAnswer {
-            refusal: NO_SESSION_PLACE,
-            value: 0,
-        };
+    if shape.places as u64 <= used {
+        return StoreAnswer::refused(Refusal::NoSessionPlace);
     }
-    store_sessions::open(words, bytes, shape, begin, sender, target, suffix);
-    StoreAnswer {
-        refusal: 0,
-        value: i as u64,
-    }
+    store_sessions::open(&mut store, &key);
+    StoreAnswer::given(i as u64)
 }
 
 // ---- reading
@@ -80,13 +96,14 @@ pub fn store_next_outgoing(words: &[u64], bytes: &[u8], shape: Shape, place: usi
     ensures { Reads shape words.now bytes.now place (λ x. x.next_out) result }
 {
     if !store_areas::in_use(words, bytes, shape, place) {
-        return StoreAnswer {
-            refusal: RULES_BROKEN,
-            value: 0,
-        };
+        return StoreAnswer::refused(Refusal::RulesBroken);
     }
-    let value = store_sessions::next_outgoing(words, bytes, shape, place);
-    StoreAnswer { refusal: 0, value }
+    let view = View {
+        words,
+        bytes,
+        shape,
+    };
+    StoreAnswer::given(store_sessions::next_outgoing(&view, place))
 }
 
 // The hash of the newest n numbers' messages.
@@ -100,13 +117,14 @@ pub fn store_last_outgoing(
     ensures { Reads shape words.now bytes.now place (λ x. last_out x n) result }
 {
     if !store_areas::in_use(words, bytes, shape, place) {
-        return StoreAnswer {
-            refusal: RULES_BROKEN,
-            value: 0,
-        };
+        return StoreAnswer::refused(Refusal::RulesBroken);
     }
-    let value = store_sessions::last_outgoing(words, bytes, shape, place, n);
-    StoreAnswer { refusal: 0, value }
+    let view = View {
+        words,
+        bytes,
+        shape,
+    };
+    StoreAnswer::given(store_sessions::last_outgoing(&view, place, n))
 }
 
 // How many messages are stored: every stored number is from 1.
@@ -114,16 +132,15 @@ pub fn store_count(words: &[u64], bytes: &[u8], shape: Shape, place: usize) -> S
     ensures { Reads shape words.now bytes.now place (λ x. length (numbered_from 1 x.messages)) result }
 {
     if !store_areas::in_use(words, bytes, shape, place) {
-        return StoreAnswer {
-            refusal: RULES_BROKEN,
-            value: 0,
-        };
+        return StoreAnswer::refused(Refusal::RulesBroken);
     }
-    let c = store_sessions::messages_from(words, bytes, shape, place, 1);
-    StoreAnswer {
-        refusal: 0,
-        value: c.left as u64,
-    }
+    let view = View {
+        words,
+        bytes,
+        shape,
+    };
+    let c = store_sessions::messages_from(&view, place, 1);
+    StoreAnswer::given(c.left as u64)
 }
 
 // ---- the durable mark, promotion: 0, or a refusal
@@ -132,7 +149,7 @@ pub fn store_mark_durable(words: &mut [u64], bytes: &[u8], shape: Shape, place: 
     ensures { ChangeIs shape place 0 mark_durable words.old words.new bytes.now bytes.now result }
 {
     if !store_areas::in_use(words, bytes, shape, place) {
-        return RULES_BROKEN;
+        return Refusal::RulesBroken.number();
     }
     store_areas::mark_durable(words, shape, place);
     0
@@ -149,9 +166,14 @@ pub fn store_take_over(
     ensures { ChangeIs shape place 0 (taken_over lag) words.old words.new bytes.old bytes.new result }
 {
     if !store_areas::in_use(words, bytes, shape, place) {
-        return RULES_BROKEN;
+        return Refusal::RulesBroken.number();
     }
-    store_sessions::take_over(words, bytes, shape, place, lag);
+    let mut store = Store {
+        words,
+        bytes,
+        shape,
+    };
+    store_sessions::take_over(&mut store, place, lag);
     0
 }
 

@@ -1,4 +1,5 @@
 // The store's operations for programs in C or Rust: each is the function of `c_store` under the same name.
+// C hands the four texts of a key apart.
 #![tactic(auto)]
 
 ghost use Rattle.std.specs.Prelude.{◌≡◌, length};

@@ -40,7 +40,7 @@ fn is_free(file: &[u8], at: usize) -> bool
         .fold(false, |found, b| found | (*b == 1))
 }
 
-// Past the blocks of 32 bytes from `from` on that have no byte 01: a step is a block, and the rest of the file is no whole number of them.
+// Past the blocks of 32 bytes from `from` on that have no byte 01: `chunks_exact` would give their number, from which the place would be reckoned.
 fn skip_blocks(file: &[u8], from: usize) -> usize
     requires { from ≤ length file.now }
     ensures { Reaches file.now from result }
@@ -53,7 +53,7 @@ fn skip_blocks(file: &[u8], from: usize) -> usize
 }
 
 // Where the next byte 01 stands at or after `from`, or the end of the file: most values are short, so 32 bytes one by one,
-// then blocks.
+// then blocks. Places are numbers in the whole file, as the import tells them to C: with the rest of the file in their stead each answer would be added up again.
 pub fn next_end(file: &[u8], from: usize) -> usize
     requires { from ≤ length file.now }
     ensures { result ≡ from + until_end (drop from file.now) }

@@ -113,8 +113,8 @@ fn read_batch(reader: &mut Reader, protocol: Protocol) -> Result<Frame, FrameErr
     let epoch = reader.number()?;
     let commit_no = reader.number()?;
     let part = frame_fields::read_part(reader)?;
-    let ops = frame_op::read_ops(reader, protocol)?;
-    let app_records = frame_fields::read_app_records(reader)?;
+    let ops = frame_op::read_run::<Op>(reader, protocol)?;
+    let app_records = frame_op::read_run::<AppRecord>(reader, protocol)?;
     Ok(Frame::Batch(Batch {
         handle,
         epoch: Epoch(epoch),
@@ -209,7 +209,7 @@ impl Frame {
     // The version of the wire form.
     pub const VERSION: u16 = 1;
     // The longest body.
-    pub const MAX_FRAME_BYTES: u32 = 67108864;
+    pub const MAX_FRAME_BYTES: u32 = frame_writer::MAX_FRAME_BYTES;
 
     // The frame at the start of the bytes and how many bytes it took, or none where more are needed; its texts, changes and records are parts of them.
     pub fn decode(protocol: Protocol, buf: &[u8]) -> Result<Option<(Frame, usize)>, FrameError>
@@ -244,34 +244,33 @@ impl Frame {
     ) -> Result<usize, EncodeError>
         ensures { Encoded protocol.version (frame_in protocol.version src.now self) out.old out.new result }
     {
-        let limit = Self::MAX_FRAME_BYTES;
         match self {
             Frame::Hello {
                 version,
                 epoch,
                 node,
                 app_record_kinds,
-            } => { frame_encode::hello(limit, src, version, epoch, node, app_record_kinds, out) }
+            } => { frame_encode::hello(src, version, epoch, node, app_record_kinds, out) }
             Frame::Welcome { epoch, incarnation } => {
-                frame_encode::welcome(limit, epoch, incarnation, out)
+                frame_encode::welcome(epoch, incarnation, out)
             }
             Frame::Bind {
                 handle,
                 epoch,
                 max_lag,
                 session,
-            } => { frame_encode::bind(limit, src, handle, epoch, max_lag, session, out) }
+            } => { frame_encode::bind(src, handle, epoch, max_lag, session, out) }
             Frame::Bound { handle, summary } => {
-                frame_encode::bound(limit, protocol, src, handle, summary, out)
+                frame_encode::bound(protocol, src, handle, summary, out)
             }
-            Frame::Batch(b) => frame_encode::batch(limit, protocol, src, b, out),
-            Frame::Ack { handle, commit_no } => frame_encode::ack(limit, handle, commit_no, out),
-            Frame::Nack { handle, reason } => frame_encode::nack(limit, handle, reason, out),
+            Frame::Batch(b) => frame_encode::batch(protocol, src, b, out),
+            Frame::Ack { handle, commit_no } => frame_encode::ack(handle, commit_no, out),
+            Frame::Nack { handle, reason } => frame_encode::nack(handle, reason, out),
             Frame::Checked {
                 handle,
                 epoch,
                 incarnation,
-            } => { frame_encode::checked(limit, handle, epoch, incarnation, out) }
+            } => { frame_encode::checked(handle, epoch, incarnation, out) }
         }
     }
 }

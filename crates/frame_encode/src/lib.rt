@@ -1,4 +1,5 @@
 // Writing a frame of each kind from the start of an area: 8, 1 or 9 with the area untouched, or the frame's bytes.
+// A kind's fields come one by one, as `Frame` has them: a struct of them would be another name for that kind.
 #![tactic(auto)]
 
 ghost use Rattle.std.specs.Prelude.{◌≡◌, true, ◌&&◌, ◌∷◌, ◌++◌, ℕ, ◌+◌, ◌*◌, ◌≤◌, length, take, drop};
@@ -6,7 +7,7 @@ ghost use Rattle.model_frame.specs.Bytes.{bytes_of};
 ghost use Rattle.model_frame.specs.Frame as the_frame;
 ghost use Rattle.model_frame.specs.Frame.{hello, welcome, bind, ack, nack, bound, checked};
 ghost use Rattle.model_frame.specs.Parse.{read_num, run_bytes};
-ghost use Rattle.model_frame.specs.Reading.{read_change, read_app_record, max_body};
+ghost use Rattle.model_frame.specs.Reading.{read_change, read_app_record};
 ghost use Rattle.model_frame.specs.Writing.{blob_bytes, change_bytes, app_record_bytes, part_number, body_bytes};
 ghost use Rattle.base_laws.specs.Wrote.{Wrote, StandsAt};
 ghost use Rattle.frame_reader.specs.Answers.{span_of};
@@ -16,12 +17,12 @@ ghost use Rattle.frame_writer.specs.Encoding.{span_fits, run_reads, key_fits, su
 
 use base_bytes::LittleEndian;
 use frame_fields::{
-    Batch, CommitNumber, Epoch, Incarnation, NackReason, Part, SessionId, Summary, kind,
+    AppRecord, Batch, CommitNumber, Epoch, Incarnation, NackReason, Part, SessionId, Summary, kind,
 };
-use frame_op::Run;
+use frame_op::{Op, Run};
 use frame_reader::Span;
 use frame_stamp::Protocol;
-use frame_writer::EncodeError;
+use frame_writer::{EncodeError, MAX_FRAME_BYTES};
 
 fn put_hello(
     src: &[u8],
@@ -46,7 +47,6 @@ fn put_hello(
 }
 
 pub fn hello(
-    limit: u32,
     src: &[u8],
     version: u16,
     epoch: Epoch,
@@ -54,7 +54,6 @@ pub fn hello(
     kinds: Run,
     out: &mut [u8],
 ) -> Result<usize, EncodeError>
-    requires { limit ≡ max_body }
     ensures { (v : ℕ) → Encoded v (frame_if (span_fits src.now node && run_reads (read_num 2) src.now kinds) (hello version epoch.0 (span_of src.now node) (run_of (read_num 2) src.now kinds))) out.old out.new result }
 {
     let fits = frame_writer::within(src, node) & frame_writer::kinds_fit(src, kinds);
@@ -62,29 +61,16 @@ pub fn hello(
         return Err(EncodeError::Unreadable);
     }
     let n = 19 + (node.len as usize) + (kinds.count as usize) * 2;
-    let at = frame_writer::begin(out, limit, n)?;
+    let at = frame_writer::begin(out, n)?;
     Ok(put_hello(src, version, epoch, node, kinds, out, at))
 }
 
-fn put_welcome(epoch: Epoch, incarnation: Incarnation, out: &mut [u8], at: usize) -> usize
-    requires { at + 17 ≤ length out.old }
-    ensures { Wrote out.old at (body_bytes (welcome epoch.0 incarnation.0)) out.new result }
-{
-    let at = frame_op::tagged(out, at, kind::WELCOME, epoch.0);
-    incarnation.0.put_at(out, at)
-}
-
-pub fn welcome(
-    limit: u32,
-    epoch: Epoch,
-    incarnation: Incarnation,
-    out: &mut [u8],
-) -> Result<usize, EncodeError>
-    requires { limit ≡ max_body }
+pub fn welcome(epoch: Epoch, incarnation: Incarnation, out: &mut [u8]) -> Result<usize, EncodeError>
     ensures { (v : ℕ) → Encoded v (frame_if true (welcome epoch.0 incarnation.0)) out.old out.new result }
 {
-    let at = frame_writer::begin(out, limit, 17)?;
-    Ok(put_welcome(epoch, incarnation, out, at))
+    let at = frame_writer::begin(out, 17)?;
+    let at = frame_op::tagged(out, at, kind::WELCOME, epoch.0);
+    Ok(incarnation.0.put_at(out, at))
 }
 
 fn put_bind(
@@ -106,7 +92,6 @@ fn put_bind(
 }
 
 pub fn bind(
-    limit: u32,
     src: &[u8],
     handle: u32,
     epoch: Epoch,
@@ -114,7 +99,6 @@ pub fn bind(
     session: SessionId,
     out: &mut [u8],
 ) -> Result<usize, EncodeError>
-    requires { limit ≡ max_body }
     ensures { (v : ℕ) → Encoded v (frame_if (key_fits src.now session) (bind handle epoch.0 lag (key_of src.now session))) out.old out.new result }
 {
     if !frame_writer::session_fits(src, session) {
@@ -129,7 +113,7 @@ pub fn bind(
         + (sender.len as usize)
         + (target.len as usize)
         + (suffix.len as usize);
-    let at = frame_writer::begin(out, limit, n)?;
+    let at = frame_writer::begin(out, n)?;
     Ok(put_bind(src, handle, epoch, lag, session, out, at))
 }
 
@@ -170,20 +154,17 @@ fn put_runs(
     requires m_in_bounds { at + (4 + k + m) ≤ length out.old }
     ensures { Wrote out.old at (run_bytes change_bytes (run_of (read_change protocol.version) src.now ops) ++ bytes_of 4 records.count ++ run_bytes app_record_bytes (run_of read_app_record src.now records)) out.new result }
 {
-    let first = records.at;
-    let at = frame_op::put_ops(protocol, src, ops, k, out, at);
+    let at = frame_op::put_run::<Op>(protocol, src, ops, k, out, at);
     let at = records.count.put_at(out, at);
-    base_bytes::copy(frame_reader::bytes_at(src, first, m), out, at)
+    frame_op::put_run::<AppRecord>(protocol, src, records, m, out, at)
 }
 
 pub fn batch(
-    limit: u32,
     protocol: Protocol,
     src: &[u8],
     batch: Batch,
     out: &mut [u8],
 ) -> Result<usize, EncodeError>
-    requires { limit ≡ max_body }
     ensures { Encoded protocol.version (frame_if (run_reads (read_change protocol.version) src.now batch.ops && run_reads read_app_record src.now batch.app_records) (the_frame.batch batch.handle batch.epoch.0 batch.commit_no.0 (part_of batch.part) (run_of (read_change protocol.version) src.now batch.ops) (run_of read_app_record src.now batch.app_records))) out.old out.new result }
 {
     let handle = batch.handle;
@@ -192,60 +173,34 @@ pub fn batch(
     let part = batch.part;
     let ops = batch.ops;
     let records = batch.app_records;
-    let Ok(k) = frame_op::ops_len(protocol, src, ops.at, ops.count) else {
+    let Ok(k) = frame_op::run_len::<Op>(protocol, src, ops.at, ops.count) else {
         return Err(EncodeError::Unreadable);
     };
-    let Ok(m) = frame_fields::records_len(src, records.at, records.count) else {
+    let Ok(m) = frame_op::run_len::<AppRecord>(protocol, src, records.at, records.count) else {
         return Err(EncodeError::Unreadable);
     };
-    if (limit as usize) < k.max(m) {
+    if (MAX_FRAME_BYTES as usize) < k.max(m) {
         return Err(EncodeError::TooLong);
     }
-    let at = frame_writer::begin(out, limit, 30 + k + m)?;
+    let at = frame_writer::begin(out, 30 + k + m)?;
     let at = put_head(out, at, handle, epoch, commit_no, part, ops.count);
     Ok(put_runs(protocol, src, ops, k, records, m, out, at))
 }
 
-fn put_ack(handle: u32, commit_no: CommitNumber, out: &mut [u8], at: usize) -> usize
-    requires { at + 13 ≤ length out.old }
-    ensures { Wrote out.old at (body_bytes (ack handle commit_no.0)) out.new result }
-{
-    let at = frame_writer::put_handle(out, at, kind::ACK, handle);
-    commit_no.0.put_at(out, at)
-}
-
-pub fn ack(
-    limit: u32,
-    handle: u32,
-    commit_no: CommitNumber,
-    out: &mut [u8],
-) -> Result<usize, EncodeError>
-    requires { limit ≡ max_body }
+pub fn ack(handle: u32, commit_no: CommitNumber, out: &mut [u8]) -> Result<usize, EncodeError>
     ensures { (v : ℕ) → Encoded v (frame_if true (ack handle commit_no.0)) out.old out.new result }
 {
-    let at = frame_writer::begin(out, limit, 13)?;
-    Ok(put_ack(handle, commit_no, out, at))
+    let at = frame_writer::begin(out, 13)?;
+    let at = frame_writer::put_handle(out, at, kind::ACK, handle);
+    Ok(commit_no.0.put_at(out, at))
 }
 
-fn put_nack(handle: u32, reason: NackReason, out: &mut [u8], at: usize) -> usize
-    requires { at + 6 ≤ length out.old }
-    ensures { Wrote out.old at (body_bytes (nack handle (reason_of reason))) out.new result }
-{
-    let at = frame_writer::put_handle(out, at, kind::NACK, handle);
-    frame_op::tag(out, at, frame_writer::reason_byte(reason))
-}
-
-pub fn nack(
-    limit: u32,
-    handle: u32,
-    reason: NackReason,
-    out: &mut [u8],
-) -> Result<usize, EncodeError>
-    requires { limit ≡ max_body }
+pub fn nack(handle: u32, reason: NackReason, out: &mut [u8]) -> Result<usize, EncodeError>
     ensures { (v : ℕ) → Encoded v (frame_if true (nack handle (reason_of reason))) out.old out.new result }
 {
-    let at = frame_writer::begin(out, limit, 6)?;
-    Ok(put_nack(handle, reason, out, at))
+    let at = frame_writer::begin(out, 6)?;
+    let at = frame_writer::put_handle(out, at, kind::NACK, handle);
+    Ok(frame_op::tag(out, at, frame_writer::reason_byte(reason)))
 }
 
 fn put_bound(src: &[u8], handle: u32, summary: Summary, out: &mut [u8], at: usize) -> usize
@@ -257,14 +212,12 @@ fn put_bound(src: &[u8], handle: u32, summary: Summary, out: &mut [u8], at: usiz
 }
 
 pub fn bound(
-    limit: u32,
     protocol: Protocol,
     src: &[u8],
     handle: u32,
     summary: Summary,
     out: &mut [u8],
 ) -> Result<usize, EncodeError>
-    requires { limit ≡ max_body }
     ensures { Encoded protocol.version (frame_if (summary_fits src.now summary) (bound handle (summary_of src.now summary))) out.old out.new result }
 {
     if !frame_writer::summary_fits(protocol, src, summary) {
@@ -273,35 +226,20 @@ pub fn bound(
     let created_at = summary.created_at;
     let marks = summary.marks;
     let n = 45 + (created_at.len as usize) + (marks.len as usize);
-    let at = frame_writer::begin(out, limit, n)?;
+    let at = frame_writer::begin(out, n)?;
     Ok(put_bound(src, handle, summary, out, at))
 }
 
-fn put_checked(
-    handle: u32,
-    epoch: Epoch,
-    incarnation: Incarnation,
-    out: &mut [u8],
-    at: usize,
-) -> usize
-    requires { at + 21 ≤ length out.old }
-    ensures { Wrote out.old at (body_bytes (checked handle epoch.0 incarnation.0)) out.new result }
-{
-    let at = frame_writer::put_handle(out, at, kind::CHECKED, handle);
-    let at = epoch.0.put_at(out, at);
-    incarnation.0.put_at(out, at)
-}
-
 pub fn checked(
-    limit: u32,
     handle: u32,
     epoch: Epoch,
     incarnation: Incarnation,
     out: &mut [u8],
 ) -> Result<usize, EncodeError>
-    requires { limit ≡ max_body }
     ensures { (v : ℕ) → Encoded v (frame_if true (checked handle epoch.0 incarnation.0)) out.old out.new result }
 {
-    let at = frame_writer::begin(out, limit, 21)?;
-    Ok(put_checked(handle, epoch, incarnation, out, at))
+    let at = frame_writer::begin(out, 21)?;
+    let at = frame_writer::put_handle(out, at, kind::CHECKED, handle);
+    let at = epoch.0.put_at(out, at);
+    Ok(incarnation.0.put_at(out, at))
 }

@@ -1,10 +1,14 @@
 -- What the code's answers stand for, over the buffer b that was read. Assumes nothing.
 use Rattle.std.specs.Prelude as prelude
-use Rattle.std.specs.Prelude.{ℕ, List, Some, None}
+use Rattle.std.specs.Prelude.{ℕ, ◌≡◌, ◌<◌, ◌⊎◌, List, Some, None, Result, Ok, Err}
 use Rattle.std.proofs.Math.Option.{Option, none, some}
 use Rattle.model_frame.specs.Frame as the_frame
-use Rattle.model_frame.specs.Frame.{Key, Reason, stale_epoch, diverged, lag_too_great, restarted, commit, whole, last_whole}
-use Rattle.frame_reader.specs.Answers.{span_of, Lies}
+use Rattle.model_frame.specs.Frame.{Key, Reason, stale_epoch, diverged, lag_too_great, restarted, commit, whole, last_whole, unknown}
+use Rattle.model_frame.specs.PartByte
+use Rattle.model_frame.specs.ReasonByte
+use Rattle.model_frame.specs.Writing.{part_number, reason_number}
+use Rattle.frame_reader.specs.declared.FrameError.{FrameError}
+use Rattle.frame_reader.specs.Answers.{fault_of, span_of, Lies}
 use Rattle.frame_fields.specs.declared.Part.{Part}
 use Rattle.frame_fields.specs.declared.NackReason.{NackReason}
 use Rattle.frame_fields.specs.declared.AppRecord.{AppRecord}
@@ -16,11 +20,21 @@ part_of Part.Commit = commit
 part_of Part.Whole = whole
 part_of Part.LastWhole = last_whole
 
+-- the part that is written as this byte, or the fault of a byte that none is
+abbrev pub PartBy : ℕ → Result Part FrameError → Type 0
+PartBy byte (Ok p) = byte ≡ part_number (part_of p)
+PartBy byte (Err e) = (fault_of e ≡ unknown the_frame.part byte) × (PartByte.last_whole < byte)
+
 abbrev pub reason_of : NackReason → Reason
 reason_of NackReason.StaleEpoch = stale_epoch
 reason_of NackReason.Diverged = diverged
 reason_of NackReason.Lag = lag_too_great
 reason_of NackReason.Restarted = restarted
+
+-- the reason that is written as this byte, or the fault of a byte that none is
+abbrev pub ReasonBy : ℕ → Result NackReason FrameError → Type 0
+ReasonBy byte (Ok r) = byte ≡ reason_number (reason_of r)
+ReasonBy byte (Err e) = (fault_of e ≡ unknown the_frame.refusal byte) × ((byte < ReasonByte.stale_epoch) ⊎ (ReasonByte.restarted < byte))
 
 abbrev pub record_of : List ℕ → AppRecord → the_frame.AppRecord
 record_of b r = record { kind = r.kind; blob = span_of b r.bytes }

@@ -2,14 +2,17 @@
 #![tactic(auto)]
 
 ghost use Rattle.std.specs.Prelude.{◌≡◌, ◌+◌, IfOk};
-ghost use Rattle.model_frame.specs.Parse.{read_num, many, forget};
-ghost use Rattle.model_frame.specs.Reading.{read_kinds, read_app_record, read_app_records, read_part, read_reason, read_key, flight, read_summary};
+ghost use Rattle.model_frame.specs.Parse.{read_num};
+ghost use Rattle.model_frame.specs.Reading.{read_kinds, read_app_record, read_part, read_reason, read_key, flight, read_summary};
+ghost use Rattle.model_frame.specs.Frame as the_frame;
 ghost use Rattle.model_frame.specs.Writing.{app_record_bytes};
+ghost use Rattle.model_frame.proofs.Sound.{record_canon};
+ghost use Rattle.frame_reader.proofs.Items.{stands_alone};
 ghost use Rattle.frame_reader.specs.Answers.{rest, res};
-ghost use Rattle.frame_op.specs.Answers.{run_of, RunIn, RunTakes};
-ghost use Rattle.frame_fields.specs.Answers.{part_of, reason_of, record_of, key_of, KeyIn, flight_of, summary_of, SummaryIn};
+ghost use Rattle.frame_op.specs.Answers.{run_of, RunIn};
+ghost use Rattle.frame_fields.specs.Answers.{part_of, PartBy, reason_of, ReasonBy, record_of, key_of, KeyIn, flight_of, summary_of, SummaryIn};
 
-use frame_op::Run;
+use frame_op::{Item, Run};
 use frame_reader::{Field, FrameError, Reader, Span, Value};
 use frame_stamp::Protocol;
 
@@ -30,17 +33,6 @@ pub mod kind {
     pub const BOUND: u8 = 7;
 
     pub const CHECKED: u8 = 8;
-}
-
-// The byte of a Nack's reason.
-pub mod reason {
-    pub const STALE_EPOCH: u8 = 1;
-
-    pub const DIVERGED: u8 = 2;
-
-    pub const LAG: u8 = 3;
-
-    pub const RESTARTED: u8 = 4;
 }
 
 // The epoch of the lease that an active holds.
@@ -117,31 +109,49 @@ pub struct Batch {
     pub app_records: Run,
 }
 
-// A match on the byte is as short as `TryFrom`, whose answer would have to be turned into this fault.
+impl TryFrom<u8> for Part {
+    type Error = FrameError;
+
+    ghost try_from_gives = { PartBy };
+
+    fn try_from(byte: u8) -> Result<Part, FrameError> {
+        match byte {
+            0 => Ok(Part::Commit),
+            1 => Ok(Part::Whole),
+            2 => Ok(Part::LastWhole),
+            _ => Err(FrameError::Unknown(Field::Part, byte)),
+        }
+    }
+}
+
 pub fn read_part(reader: &mut Reader) -> Result<Part, FrameError>
     ensures read { res part_of reader.new result ≡ read_part (rest reader.old) }
     ensures same { reader.new.buf.now ≡ reader.old.buf.now }
 {
-    match reader.number()? {
-        0 => Ok(Part::Commit),
-        1 => Ok(Part::Whole),
-        2 => Ok(Part::LastWhole),
-        k => Err(FrameError::Unknown(Field::Part, k)),
+    Part::try_from(reader.number::<u8>()?)
+}
+
+impl TryFrom<u8> for NackReason {
+    type Error = FrameError;
+
+    ghost try_from_gives = { ReasonBy };
+
+    fn try_from(byte: u8) -> Result<NackReason, FrameError> {
+        match byte {
+            1 => Ok(NackReason::StaleEpoch),
+            2 => Ok(NackReason::Diverged),
+            3 => Ok(NackReason::Lag),
+            4 => Ok(NackReason::Restarted),
+            _ => Err(FrameError::Unknown(Field::Refusal, byte)),
+        }
     }
 }
 
-// As for a part.
 pub fn read_reason(reader: &mut Reader) -> Result<NackReason, FrameError>
     ensures read { res reason_of reader.new result ≡ read_reason (rest reader.old) }
     ensures same { reader.new.buf.now ≡ reader.old.buf.now }
 {
-    match reader.number()? {
-        1 => Ok(NackReason::StaleEpoch),
-        2 => Ok(NackReason::Diverged),
-        3 => Ok(NackReason::Lag),
-        4 => Ok(NackReason::Restarted),
-        k => Err(FrameError::Unknown(Field::Refusal, k)),
-    }
+    NackReason::try_from(reader.number::<u8>()?)
 }
 
 // The kinds of application records: a kind is two bytes, so the count says where they end.
@@ -167,38 +177,24 @@ pub fn read_app_record(reader: &mut Reader) -> Result<AppRecord, FrameError>
     Ok(AppRecord { kind, bytes })
 }
 
-// To the end of so many records.
-pub fn skip_app_records(reader: &mut Reader, count: u32) -> Result<(), FrameError>
-    ensures read { res (λ _. tt) reader.new result ≡ forget (many count read_app_record (rest reader.old)) }
-    ensures same { reader.new.buf.now ≡ reader.old.buf.now }
-{
-    for _ in 0..count {
-        read_app_record(reader)?;
+impl Item for AppRecord {
+    ghost Value = { the_frame.AppRecord };
+
+    ghost value = { record_of };
+
+    ghost parser = { λ _. read_app_record };
+
+    ghost bytes = { app_record_bytes };
+
+    ghost LEAST = { 6 };
+
+    const LEAST: u32 = 6;
+
+    ghost canon = { λ _. stands_alone record_canon };
+
+    fn read(reader: &mut Reader, _protocol: Protocol) -> Result<AppRecord, FrameError> {
+        read_app_record(reader)
     }
-    Ok(())
-}
-
-// How many bytes so many application records at a position take.
-pub fn records_len(buf: &[u8], at: usize, count: u32) -> Result<usize, FrameError>
-    ensures { RunTakes read_app_record app_record_bytes buf.now at count result }
-{
-    let start = Reader { buf, at };
-    let mut end = start;
-    skip_app_records(&mut end, count)?;
-    Ok(start.left() - end.left())
-}
-
-pub fn read_app_records(reader: &mut Reader) -> Result<Run, FrameError>
-    ensures read { res (run_of read_app_record reader.old.buf.now) reader.new result ≡ read_app_records (rest reader.old) }
-    ensures same { reader.new.buf.now ≡ reader.old.buf.now }
-    ensures again { IfOk result (RunIn read_app_record reader.old.buf.now reader.new.at) }
-    ensures ends { IfOk result (λ r. r.at + r.len ≡ reader.new.at) }
-{
-    let count = reader.count(6)?;
-    let at = reader.at;
-    let len = records_len(reader.buf, at, count)?;
-    reader.at += len;
-    Ok(Run { at, count, len })
 }
 
 // The four texts of a key, which is judged after all of them: a text's own fault goes before the key's.

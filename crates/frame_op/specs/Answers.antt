@@ -1,7 +1,7 @@
 -- What the code's answers stand for, over the buffer b that was read: spans and runs as the bytes and items that they mark. Assumes nothing.
 use Rattle.std.specs.Prelude.{ℕ, ◌+◌, ◌≡◌, List, length, drop, Result, Ok, Err}
 use Rattle.model_frame.specs.Frame.{Change, set_incoming, set_incoming_in_flight, set_in_flight, record_msg, record_bare, reset, set_created_at, set_marks}
-use Rattle.model_frame.specs.Parse.{ok, bad, Parser, many, collect, run_bytes}
+use Rattle.model_frame.specs.Parse.{ok, bad, Parser, ◌>>=◌, read_count, many, collect, run_bytes}
 use Rattle.model_frame.specs.Reading.{read_change}
 use Rattle.model_frame.specs.Sizes.{sizes}
 use Rattle.base_laws.specs.Wrote.{StandsAt}
@@ -31,6 +31,16 @@ RunIn p b end r = many r.count p (drop r.at b) ≡ ok (run_of p b r) (drop end b
 -- the length of a run of changes is that of its changes, written
 abbrev pub HasLength : ℕ → List ℕ → Run → Type 0
 HasLength version b r = r.len ≡ sizes (run_of (read_change version) b r)
+
+-- the length of a run is that of its items, written
+abbrev pub IsSized : {A : Type 0} → Parser A → (A → List ℕ) → List ℕ → Run → Type 0
+IsSized p f b r = r.len ≡ length (run_bytes f (run_of p b r))
+
+-- a count of items and the items
+abbrev pub counted : {A : Type 0} → ℕ → Parser A → Parser (List A)
+counted least p = do
+  n ← read_count least
+  many n p
 
 -- how many bytes so many items at a position take: they are the items, written; or the fault that reading them meets
 abbrev pub RunTakes : {A : Type 0} → Parser A → (A → List ℕ) → List ℕ → ℕ → ℕ → Result ℕ FrameError → Type 0

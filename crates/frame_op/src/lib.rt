@@ -1,14 +1,18 @@
 // A change to a session's stored state: read at a position, walked over, and written.
 #![tactic(auto)]
 
-ghost use Rattle.std.specs.Prelude.{◌≡◌, [], ◌∷◌, ◌+◌, ◌^◌, ◌≤◌, ◌<◌, length, IfOk};
+ghost use Rattle.std.specs.Prelude.{ℕ, List, ◌≡◌, [], ◌∷◌, ◌+◌, ◌^◌, ◌≤◌, ◌<◌, length, IfOk};
 ghost use Rattle.model_frame.specs.Bytes.{bytes_of};
-ghost use Rattle.model_frame.specs.Parse.{many, forget, run_bytes};
+ghost use Rattle.model_frame.specs.Frame.{Change};
+ghost use Rattle.model_frame.specs.Parse.{Parser, many, forget, run_bytes};
 ghost use Rattle.model_frame.specs.Writing.{blob_bytes, change_bytes};
 ghost use Rattle.base_laws.specs.Wrote.{Wrote, StandsAt};
-ghost use Rattle.model_frame.specs.Reading.{read_change, read_changes};
+ghost use Rattle.model_frame.specs.Reading.{read_change};
+ghost use Rattle.model_frame.proofs.Canon.{Canon};
+ghost use Rattle.model_frame.proofs.SoundChange.{change_canon};
+ghost use Rattle.frame_reader.proofs.Items.{stands_alone};
 ghost use Rattle.frame_reader.specs.Answers.{rest, res};
-ghost use Rattle.frame_op.specs.Answers.{op_of, run_of, RunIn, HasLength, RunTakes};
+ghost use Rattle.frame_op.specs.Answers.{op_of, run_of, counted, RunIn, IsSized, RunTakes};
 
 use base_bytes::LittleEndian;
 use frame_reader::{Field, FrameError, Reader, Span};
@@ -76,37 +80,85 @@ pub fn read_op(reader: &mut Reader, protocol: Protocol) -> Result<Op, FrameError
     }
 }
 
-// To the end of so many changes.
-pub fn skip_ops(reader: &mut Reader, protocol: Protocol, count: u32) -> Result<(), FrameError>
-    ensures read { res (λ _. tt) reader.new result ≡ forget (many count (read_change protocol.version) (rest reader.old)) }
+// An item of a run: what it stands for in the bytes it was read from, how many bytes it has at least, and how it is read.
+pub trait Item: Drop {
+    ghost Value: { Type 0 };
+
+    ghost value: { List ℕ → Self → Value };
+
+    ghost parser: { ℕ → Parser Value };
+
+    ghost bytes: { Value → List ℕ };
+
+    ghost LEAST: { ℕ };
+
+    const LEAST: u32;
+
+    fn read(reader: &mut Reader, protocol: Protocol) -> Result<Self, FrameError>
+        ensures read { res (value reader.old.buf.now) reader.new result ≡ parser protocol.version (rest reader.old) }
+        ensures same { reader.new.buf.now ≡ reader.old.buf.now };
+
+    // The bytes that an item was read from are those it would be written as.
+    ghost canon: { (version : ℕ) → Canon [] (parser version) bytes (λ _. Unit {0}) };
+}
+
+impl Item for Op {
+    ghost Value = { Change };
+
+    ghost value = { op_of };
+
+    ghost parser = { read_change };
+
+    ghost bytes = { change_bytes };
+
+    ghost LEAST = { 1 };
+
+    const LEAST: u32 = 1;
+
+    ghost canon = { λ version. stands_alone (change_canon version) };
+
+    fn read(reader: &mut Reader, protocol: Protocol) -> Result<Op, FrameError> {
+        read_op(reader, protocol)
+    }
+}
+
+// To the end of so many items.
+pub fn skip<T: Item>(reader: &mut Reader, protocol: Protocol, count: u32) -> Result<(), FrameError>
+    ensures read { res (λ _. tt) reader.new result ≡ forget (many count (T.parser protocol.version) (rest reader.old)) }
     ensures same { reader.new.buf.now ≡ reader.old.buf.now }
 {
     for _ in 0..count {
-        read_op(reader, protocol)?;
+        T::read(reader, protocol)?;
     }
     Ok(())
 }
 
-// How many bytes so many changes at a position take.
-pub fn ops_len(protocol: Protocol, buf: &[u8], at: usize, count: u32) -> Result<usize, FrameError>
-    ensures { RunTakes (read_change protocol.version) change_bytes buf.now at count result }
+// How many bytes so many items at a position take. The buffer comes by itself, not as a reader: of a slice in a struct it isn't known that its bytes are below 256.
+pub fn run_len<T: Item>(
+    protocol: Protocol,
+    buf: &[u8],
+    at: usize,
+    count: u32,
+) -> Result<usize, FrameError>
+    ensures { RunTakes (T.parser protocol.version) T.bytes buf.now at count result }
 {
     let start = Reader { buf, at };
     let mut end = start;
-    skip_ops(&mut end, protocol, count)?;
+    skip::<T>(&mut end, protocol, count)?;
     Ok(start.left() - end.left())
 }
 
-// A count of changes and the changes, as a run.
-pub fn read_ops(reader: &mut Reader, protocol: Protocol) -> Result<Run, FrameError>
-    ensures read { res (run_of (read_change protocol.version) reader.old.buf.now) reader.new result ≡ read_changes protocol.version (rest reader.old) }
+// A count of items and the items, as a run.
+pub fn read_run<T: Item>(reader: &mut Reader, protocol: Protocol) -> Result<Run, FrameError>
+    ensures read { res (run_of (T.parser protocol.version) reader.old.buf.now) reader.new result ≡ counted T.LEAST (T.parser protocol.version) (rest reader.old) }
     ensures same { reader.new.buf.now ≡ reader.old.buf.now }
-    ensures again { IfOk result (RunIn (read_change protocol.version) reader.old.buf.now reader.new.at) }
-    ensures sized { IfOk result (HasLength protocol.version reader.old.buf.now) }
+    ensures again { IfOk result (RunIn (T.parser protocol.version) reader.old.buf.now reader.new.at) }
+    ensures ends { IfOk result (λ r. r.at + r.len ≡ reader.new.at) }
+    ensures sized { IfOk result (IsSized (T.parser protocol.version) T.bytes reader.old.buf.now) }
 {
-    let count = reader.count(1)?;
+    let count = reader.count(T::LEAST)?;
     let at = reader.at;
-    let len = ops_len(protocol, reader.buf, at, count)?;
+    let len = run_len::<T>(protocol, reader.buf, at, count)?;
     reader.at += len;
     Ok(Run { at, count, len })
 }
@@ -140,8 +192,8 @@ pub fn blob(s: &[u8], out: &mut [u8], at: usize) -> usize
     base_bytes::copy(s, out, next)
 }
 
-// The changes of a run of n bytes, which are copied as they stand.
-pub fn put_ops(
+// The items of a run of n bytes, which are copied as they stand: n is what `run_len` found, since the run's own `len` isn't asked for.
+pub fn put_run<T: Item>(
     protocol: Protocol,
     src: &[u8],
     run: Run,
@@ -149,9 +201,9 @@ pub fn put_ops(
     out: &mut [u8],
     at: usize,
 ) -> usize
-    requires stands_at { StandsAt src.now run.at n (run_bytes change_bytes (run_of (read_change protocol.version) src.now run)) }
+    requires stands_at { StandsAt src.now run.at n (run_bytes T.bytes (run_of (T.parser protocol.version) src.now run)) }
     requires n_in_bounds { at + n ≤ length out.old }
-    ensures wrote { Wrote out.old at (run_bytes change_bytes (run_of (read_change protocol.version) src.now run)) out.new result }
+    ensures wrote { Wrote out.old at (run_bytes T.bytes (run_of (T.parser protocol.version) src.now run)) out.new result }
     ensures value { result ≡ at + n }
 {
     base_bytes::copy(frame_reader::bytes_at(src, run.at, n), out, at)

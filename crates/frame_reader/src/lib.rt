@@ -67,7 +67,7 @@ impl From<FrameError> for Refusal {
 }
 
 impl FrameError {
-    // The refusal's number.
+    // The refusal's number, which is what C is given.
     pub fn number(self) -> u8
         ensures { result ≡ fault_number (fault_of self) }
     {
@@ -223,13 +223,12 @@ impl<'a> Reader<'a> {
     }
 
     // A count of items that need at least `min` bytes each in what is left.
-    pub fn count(&mut self, min: u64) -> Result<u32, FrameError>
-        requires { min ≤ 6 }
+    pub fn count(&mut self, min: u32) -> Result<u32, FrameError>
         ensures read { res (λ n. n) self.new result ≡ read_count min (rest self.old) }
         ensures same { self.new.buf.now ≡ self.old.buf.now }
     {
         let count = self.number::<u32>()?;
-        if (count as u64) * min <= (self.left() as u64) {
+        if (count as u64) * (min as u64) <= (self.left() as u64) {
             Ok(count)
         } else {
             Err(FrameError::Truncated)

@@ -1,29 +1,14 @@
 -- The days of a month by the ways of `month_days`, and a day that exists. Assumes nothing.
-use mathlib.Core.Path.{◌≡◌, sym, ap, ◌∙◌}
+use mathlib.Core.Path.{◌≡◌, sym, ◌∙◌}
 use mathlib.Core.Bool.{Bool, true, false, cond, ◌||◌}
 use mathlib.Core.List.{List}
 use Prim.Native.Nat.{ℕ, ◌+◌, ◌*◌, ◌≤◌}
 use native.Mathlib.Omega.{arith}
-use borrow.Author.Tests.{eq-eqb, ne_eqb, le-leb}
+use borrow.Author.Tests.{le-leb}
 use lib.Dec.{eqb, leb}
 use lib.ListN.{get_or}
 use Rattle.model_text.specs.Calendar.{is_leap, month_days}
 use Rattle.model_text.specs.Stamp.{pair_number, year_of, month_of, day_of, day_exists}
-
-module _ (y m : ℕ) where
-  pub february : m ≡ 2 → (b : Bool) {t : Bool} → t ≡ is_leap y → t ≡ b → cond b 29 28 ≡ month_days y m
-  unfolding month_days
-  february q b e f =
-      sym
-      (ap (λ (u : Bool). cond u (cond (is_leap y) 29 28) (cond (eqb m 4 || eqb m 6 || eqb m 9 || eqb m 11) 30 31)) (eq-eqb m 2 q)
-      ∙ ap (λ (u : Bool). cond u 29 28) (sym e ∙ f))
-
-  pub other : (m ≡ 2 → ⊥) → (b : Bool) → (eqb m 4 || eqb m 6 || eqb m 9 || eqb m 11) ≡ b → cond b 30 31 ≡ month_days y m
-  unfolding month_days
-  other q b e =
-      sym
-      (ap (λ (u : Bool). cond u (cond (is_leap y) 29 28) (cond (eqb m 4 || eqb m 6 || eqb m 9 || eqb m 11) 30 31)) (ne_eqb m 2 q)
-      ∙ ap (λ (u : Bool). cond u 30 31) e)
 
 -- every month has the days up to 28
 shortest : (y m : ℕ) → 28 ≤ month_days y m

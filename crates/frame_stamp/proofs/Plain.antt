@@ -4,10 +4,9 @@ use mathlib.Core.Bool.{Bool, ◌&&◌, and_assoc, and-true}
 use mathlib.Core.List.{List}
 use Prim.Native.Nat.{ℕ, suc, ◌+◌, ◌≤◌, ◌<◌}
 use native.Mathlib.Numerals.{add-one}
-use lib.Dec.{leb}
 use lib.ListN.{length, drop, get_or, drop_of_length-le}
 use lib.Seq.{drop-cons}
-use Rattle.model_text.specs.Printable.{is_printable_byte, all_printable, is_printable}
+use Rattle.model_text.specs.Printable.{is_printable_byte, all_printable}
 
 -- so far it is ok, and the rest is from i on
 abbrev pub Upto : List ℕ → Bool → ℕ → Type 0
@@ -20,8 +19,3 @@ next s ok i {t} r h e =
 
 pub ends : (s : List ℕ) (ok : Bool) (i : ℕ) → Upto s ok i → length s ≤ i → ok ≡ all_printable s
 ends s ok i r h = sym (r ∙ ap (λ (l : List ℕ). ok && all_printable l) (drop_of_length-le s h) ∙ and-true ok)
-
--- lo to hi bytes, or not
-pub by_length : (lo hi : ℕ) (s : List ℕ) → (b : Bool) → (leb lo (length s) && leb (length s) hi) ≡ b → {r : Bool} → r ≡ (b && all_printable s) → r ≡ is_printable lo hi s
-unfolding is_printable
-by_length lo hi s b e q = q ∙ ap (λ (t : Bool). t && all_printable s) (sym e) ∙ and_assoc (leb lo (length s)) (leb (length s) hi) (all_printable s)

@@ -85,7 +85,7 @@ fn is_pair(lo: u32, hi: u32, a: u8, b: u8) -> bool
     is_digit(a) & is_digit(b) & (lo <= n) & (n <= hi)
 }
 
-// YYYYMMDD at 0.
+// YYYYMMDD at 0. How many bytes there are is told by is_stamp's match: as arrays they would be cut out of the slice first.
 fn is_date(s: &[u8]) -> bool
     requires { 17 ≤ length s.now }
     ensures { result ≡ matches date (slice_at s.now 0 8) }

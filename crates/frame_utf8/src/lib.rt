@@ -48,7 +48,7 @@ fn is_fitting(low: u32, c: u32) -> bool
     (low <= c) & ((c <= 0x10FFFF) & !((0xD800 <= c) & (c <= 0xDFFF)))
 }
 
-// The code point of 110xxxxx 10xxxxxx: the bits x, put together.
+// The code point of 110xxxxx 10xxxxxx: the bits x, put together. The bytes come from places of their own, so an array of them would be made for these calls alone.
 fn code_two(a: u8, b: u8) -> u32
     ensures { result ≡ a % 32 * 64 + b % 64 }
 {
@@ -96,6 +96,7 @@ fn length_if(formed: bool, n: usize) -> usize
 
 // The length of the well formed sequence of n bytes that stands in s from `at` on, or 0 where none does: as an Option,
 // and with the loops by `for`, Japanese text took 1.33 times as long. Each way answers a number of its own, so that the next place is known before the leading bits are counted.
+// That `at` is a place of s is told by the test of is_utf8's loop: a place of a type of its own would be made in each turn.
 fn formed_length(s: &[u8], at: usize, n: usize) -> usize
     requires at_in_bounds { at < length s.now }
     requires n_bound { n ≤ 4 }
@@ -174,7 +175,7 @@ fn is_ascii(s: &[u8]) -> bool
     m <= 0x7F
 }
 
-// s is UTF-8.
+// s is UTF-8. Each turn says where the next sequence begins, so there is no index that a `for` would count.
 pub fn is_utf8(s: &[u8]) -> bool
     ensures { result ≡ utf8 s.now }
 {

@@ -15,7 +15,6 @@ use Rattle.base_laws.specs.Wrote.{Wrote}
 use Rattle.base_laws.proofs.Writes.{wrote_on}
 use Rattle.std.specs.Prelude.{Ok, Err}
 use Rattle.frame_writer.specs.declared.EncodeError.{EncodeError}
-use Rattle.frame_writer.specs.declared.EncodeError
 use Rattle.frame_writer.specs.Encoding.{frame_if, Encoded, Started}
 
 module _ (version : ℕ) (t : Bool) (f : Frame) where

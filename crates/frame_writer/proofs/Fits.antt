@@ -2,10 +2,10 @@
 use mathlib.Core.Path.{◌≡◌, refl, sym, ap, ◌∙◌}
 use mathlib.Core.Bool.{Bool, true, false, ◌&&◌, ◌||◌}
 use mathlib.Core.List.{List, ◌∷◌}
-use Prim.Native.Nat.{ℕ, zero, suc, ◌+◌, ◌-◌, ◌*◌, ◌≤◌, ◌<◌}
+use Prim.Native.Nat.{ℕ, zero, suc, ◌+◌, ◌*◌, ◌<◌}
 use native.Mathlib.Nat.{suc-mul}
 use native.Mathlib.Omega.{arith}
-use borrow.Author.Tests.{le-leb, lt-leb, leb-true, leb-false}
+use borrow.Author.Tests.{leb-true, leb-false}
 use lib.Dec.{leb}
 use lib.ListN.{length, take, drop, length-drop}
 use lib.Seq.{length-take-le}
@@ -28,16 +28,6 @@ use Rattle.frame_fields.specs.Answers.{key_of, summary_of}
 use Rattle.frame_writer.specs.Encoding.{span_fits, is_ok, key_fits, summary_fits}
 
 -- ---- spans
-
-pub leb_within : (a n l : ℕ) → a ≤ l → leb n (l - a) ≡ leb (a + n) l
-leb_within a n l h = go (leb n (l - a)) refl
-  where
-    go : (t : Bool) → leb n (l - a) ≡ t → t ≡ leb (a + n) l
-    go true e = let k = leb-true n (l - a) e in sym (le-leb (a + n) l (omega arith))
-    go false e = let k = leb-false n (l - a) e in sym (lt-leb (a + n) l (omega arith))
-
-pub leb_outside : (a n l : ℕ) → l < a → false ≡ leb (a + n) l
-leb_outside a n l h = sym (lt-leb (a + n) l (omega arith))
 
 pub span_length : (src : List ℕ) (p : Span) → span_fits src p ≡ true → length (span_of src p) ≡ p.len
 span_length src p e =

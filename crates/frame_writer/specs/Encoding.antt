@@ -13,7 +13,6 @@ use Rattle.frame_reader.specs.declared.Span.{Span}
 use Rattle.frame_op.specs.declared.Run.{Run}
 use Rattle.frame_fields.specs.declared.SessionId.{SessionId}
 use Rattle.frame_fields.specs.declared.Summary.{Summary}
-use Rattle.frame_writer.specs.declared.EncodeError
 use Rattle.frame_writer.specs.declared.EncodeError.{EncodeError}
 
 -- ---- what stands in the source: a span lies in it, a run can be read from it

@@ -5,7 +5,7 @@ ghost use Rattle.std.specs.Prelude.{◌≡◌, true, ◌&&◌, ◌∷◌, ◌++�
 ghost use Rattle.model_frame.specs.Bytes.{bytes_of};
 ghost use Rattle.model_frame.specs.Frame.{hello, welcome, bind, batch, ack, nack, bound, checked};
 ghost use Rattle.model_frame.specs.Parse.{read_num};
-ghost use Rattle.model_frame.specs.Reading.{read_change, read_app_record, max_body};
+ghost use Rattle.model_frame.specs.Reading.{read_change, read_app_record};
 ghost use Rattle.model_frame.specs.Writing.{blob_bytes, key_bytes, summary_bytes, part_number, reason_number, flight_number, fine_key, fine_summary};
 ghost use Rattle.base_laws.specs.Wrote.{Wrote};
 ghost use Rattle.base_refusals.specs.Numbers.{number_of};
@@ -20,6 +20,9 @@ use frame_fields::{NackReason, Part, SessionId, Summary};
 use frame_op::Run;
 use frame_reader::{Reader, Span};
 use frame_stamp::Protocol;
+
+// The longest body.
+pub const MAX_FRAME_BYTES: u32 = 67108864;
 
 // Why no frame was written: a field that reading would refuse, a body too long, an area too short.
 #[derive(Clone, Copy, Debug, PartialEq, Eq)]
@@ -86,11 +89,10 @@ pub fn summary_fits(protocol: Protocol, src: &[u8], summary: Summary) -> bool
 }
 
 // Writes the length of a body, if the body is short enough and the area has room for both, and gives the place behind it.
-pub fn begin(out: &mut [u8], limit: u32, n: usize) -> Result<usize, EncodeError>
-    requires { limit ≡ max_body }
+pub fn begin(out: &mut [u8], n: usize) -> Result<usize, EncodeError>
     ensures { Started n out.old out.new result }
 {
-    if (limit as usize) < n {
+    if (MAX_FRAME_BYTES as usize) < n {
         return Err(EncodeError::TooLong);
     }
     if out.len() < 4 + n {

@@ -4,7 +4,7 @@
 // program's exit status is then 3 or 4; where nobody reads the answers any more it is 141, and nothing is said.
 #![tactic(auto)]
 
-ghost use Rattle.std.specs.Prelude.{◌≡◌, ◌≤◌, IfOk, length};
+ghost use Rattle.std.specs.Prelude.{◌≤◌, IfOk, IfSome, length};
 
 use standby_row::Bound;
 use standby_state::Replica;
@@ -27,235 +27,176 @@ enum Failure {
     Output(io::Error),
 }
 
-// The counters, the row, how many bytes of the next line are read, how many bytes of answers aren't written yet, and whether the input goes on.
-#[repr(C)]
-#[derive(Clone, Copy)]
-struct State {
-    replica: Replica,
+// A standby of four handles, with all that is lent to its calls.
+#[derive(Drop)]
+struct Standby<'a> {
+    counters: Replica,
     row: [Bound; 4],
+    words: &'a mut [u64],
+    bytes: &'a mut [u8],
+    holds: &'a mut [u8],
+}
+
+// The answers that aren't written yet: so many bytes of an area.
+#[derive(Drop)]
+struct Answers<'a> {
+    out: &'a mut [u8],
     len: usize,
-    unsent: usize,
-    more: bool,
 }
 
-// Writes the answers that wait.
-fn send(rt: &impl Print, out: &[u8], unsent: usize) -> Result<(), Failure> {
-    if unsent > out.len() {
-        return Err(Failure::Output(io::Error::from(ErrorKind::InvalidInput)));
+impl Answers<'_> {
+    // Writes the answers that wait.
+    fn send(&mut self, rt: &impl Print) -> Result<(), Failure> {
+        let len = self.len;
+        if len > self.out.len() {
+            return Err(Failure::Output(io::Error::from(ErrorKind::InvalidInput)));
+        }
+        match rt.write_all(&self.out[0..len]) {
+            Ok(()) => {
+                self.len = 0;
+                Ok(())
+            }
+            Err(e) => Err(Failure::Output(e)),
+        }
     }
-    match rt.write_all(&out[0..unsent]) {
-        Ok(()) => Ok(()),
-        Err(e) => Err(Failure::Output(e)),
-    }
-}
 
-// Whether a text of so many bytes and its line feed fit behind the answers that wait.
-fn fits(out: &[u8], unsent: usize, len: usize) -> bool {
-    unsent < out.len() && len < out.len() - unsent
-}
-
-// Puts a text and its line feed behind the answers that wait, if they fit.
-fn add(out: &mut [u8], unsent: usize, text: &[u8]) -> usize {
-    let len = text.len();
-    if unsent >= out.len() || out.len() - unsent <= len {
-        return unsent;
+    // Whether a text of so many bytes and its line feed fit behind the answers that wait.
+    fn fits(&self, len: usize) -> bool {
+        self.len < self.out.len() && len < self.out.len() - self.len
     }
-    out[unsent..unsent + len].copy_from_slice(text);
-    out[unsent + len] = b'\n';
-    unsent + len + 1
-}
 
-// Writes the answers that wait if the text doesn't fit behind them: how many bytes of answers wait then.
-fn make_room(rt: &impl Print, out: &[u8], unsent: usize, len: usize) -> Result<usize, Failure> {
-    if fits(out, unsent, len) {
-        return Ok(unsent);
+    // Puts a text and its line feed behind the answers that wait, which are written first where it doesn't fit.
+    fn add(&mut self, rt: &impl Print, text: &[u8]) -> Result<(), Failure> {
+        let len = text.len();
+        if !self.fits(len) {
+            self.send(rt)?;
+        }
+        let from = self.len;
+        if from < self.out.len() && len < self.out.len() - from {
+            self.out[from..from + len].copy_from_slice(text);
+            self.out[from + len] = b'\n';
+            self.len = from + len + 1;
+        }
+        Ok(())
     }
-    send(rt, out, unsent)?;
-    Ok(0)
 }
 
 // Answers one line.
 fn tell(
     rt: &impl Print,
-    state: State,
-    words: &mut [u64],
-    bytes: &mut [u8],
-    holds: &mut [u8],
+    standby: &mut Standby,
+    answers: &mut Answers,
     line: &[u8],
-    out: &mut [u8],
-) -> Result<State, Failure>
-    ensures { IfOk result (λ t. t.len ≡ 0) }
-{
+) -> Result<(), Failure> {
     let mut buf = [0u8; 8192];
     let mut text = [0u8; 16384];
-    let replica = state.replica;
-    let row = state.row;
-    let t = frames_line::answer_line(replica, row, words, bytes, holds, line, &mut buf, &mut text);
-    let n = t.len;
+    let counters = standby.counters;
+    let row = standby.row;
+    let t = frames_line::answer_line(
+        counters,
+        row,
+        standby.words,
+        standby.bytes,
+        standby.holds,
+        line,
+        &mut buf,
+        &mut text,
+    );
     let replica = t.replica;
     let row = t.row;
-    let waiting = make_room(rt, out, state.unsent, n)?;
-    let unsent = add(out, waiting, &text[0..n]);
-    Ok(State {
-        replica,
-        row,
-        len: 0,
-        unsent,
-        more: state.more,
-    })
+    standby.counters = replica;
+    standby.row = row;
+    let n = t.len;
+    answers.add(rt, &text[0..n])
 }
 
-// The same state, with so many bytes of the next line.
-fn waiting(state: State, len: usize) -> State
-    ensures { result.len ≡ len }
-{
-    State { len, ..state }
-}
-
-// Answers the lines that end in a piece of the input. Of a line no more than the area is kept, which is more than a line may have.
+// Answers the lines that end in a piece of the input, the first of which begins with the `len` bytes that wait: how many bytes of the next
+// line wait then. Of a line no more than the area is kept, which is more than a line may have.
 fn take_piece(
     rt: &impl Print,
-    state: State,
-    words: &mut [u64],
-    bytes: &mut [u8],
-    holds: &mut [u8],
+    standby: &mut Standby,
+    answers: &mut Answers,
     line: &mut [u8],
-    out: &mut [u8],
+    len: usize,
     piece: &[u8],
-) -> Result<State, Failure>
-    requires { state.len ≤ length line.old }
-    ensures { IfOk result (λ t. t.len ≤ length line.old) }
+) -> Result<usize, Failure>
+    requires { len ≤ length line.old }
+    ensures { IfOk result (λ n. n ≤ length line.old) }
 {
-    let mut now = state;
+    let mut len = len;
     let mut at: usize = 0;
+    // A while: each line feed tells where the next line begins, so no index counts them.
     while at < piece.len() {
-        let f = base_lines::feed(line, now.len, piece, at);
-        let n = f.len;
+        let f = base_lines::feed(line, len, piece, at);
         let Some(next) = f.next else {
-            return Ok(waiting(now, n));
+            return Ok(f.len);
         };
-        now = tell(rt, now, words, bytes, holds, &line[..n], out)?;
+        tell(rt, standby, answers, &line[..f.len])?;
+        len = 0;
         at = next;
     }
-    Ok(now)
+    Ok(len)
 }
 
-// The input has ended.
-fn ended(state: State) -> State
-    ensures { result.len ≡ state.len }
-{
-    State {
-        more: false,
-        ..state
-    }
-}
-
-// The answers that wait are written.
-fn sent(rt: &impl Print, state: State, out: &[u8]) -> Result<State, Failure>
-    ensures { IfOk result (λ t. t.len ≡ state.len) }
-{
-    send(rt, out, state.unsent)?;
-    Ok(State { unsent: 0, ..state })
-}
-
-// Reads once.
+// Reads once: how many bytes of the next line wait then, or nothing where the input has ended.
 fn read_on(
     from: &mut impl Read,
     rt: &impl Print,
-    state: State,
-    words: &mut [u64],
-    bytes: &mut [u8],
-    holds: &mut [u8],
+    standby: &mut Standby,
+    answers: &mut Answers,
     line: &mut [u8],
-    out: &mut [u8],
-) -> Result<State, Failure>
-    requires { state.len ≤ length line.old }
-    ensures { IfOk result (λ t. t.len ≤ length line.old) }
+    len: usize,
+) -> Result<Option<usize>, Failure>
+    requires { len ≤ length line.old }
+    ensures { IfOk result (λ o. IfSome o (λ n. n ≤ length line.old)) }
 {
     let mut piece = [0u8; 65_536];
     match from.read(&mut piece) {
-        Ok(0) => Ok(ended(state)),
+        Ok(0) => Ok(None),
         Ok(n) => {
-            let t = take_piece(rt, state, words, bytes, holds, line, out, &piece[..n])?;
-            sent(rt, t, out)
+            let len = take_piece(rt, standby, answers, line, len, &piece[..n])?;
+            answers.send(rt)?;
+            Ok(Some(len))
         }
         Err(e) => Err(Failure::Input(e)),
     }
 }
 
-// Reads until the input ends. A proved loop has to end: it counts up to a number that no run reaches.
+// Reads until the input ends: how many bytes wait of a last line that lacks its line feed. A proved loop has to end: it counts up to a number
+// that no run reaches.
 fn read_all(
     from: &mut impl Read,
     rt: &impl Print,
-    state: State,
-    words: &mut [u64],
-    bytes: &mut [u8],
-    holds: &mut [u8],
+    standby: &mut Standby,
+    answers: &mut Answers,
     line: &mut [u8],
-    out: &mut [u8],
-) -> Result<State, Failure>
-    requires { state.len ≤ length line.old }
-    ensures { IfOk result (λ t. t.len ≤ length line.old) }
+) -> Result<usize, Failure>
+    ensures { IfOk result (λ n. n ≤ length line.old) }
 {
-    let mut now = state;
+    let mut len = 0;
     for _ in 0..u64::MAX {
-        if !now.more {
+        let Some(n) = read_on(from, rt, standby, answers, line, len)? else {
             break;
-        }
-        now = read_on(from, rt, now, words, bytes, holds, line, out)?;
+        };
+        len = n;
     }
-    Ok(now)
+    Ok(len)
 }
 
-// Answers a last line that lacks its line feed.
-fn tell_last(
-    rt: &impl Print,
-    state: State,
-    words: &mut [u64],
-    bytes: &mut [u8],
-    holds: &mut [u8],
-    line: &[u8],
-    out: &mut [u8],
-) -> Result<(), Failure>
-    requires { state.len ≤ length line.now }
-{
-    let n = state.len;
-    if 0 < n {
-        let t = tell(rt, state, words, bytes, holds, &line[0..n], out)?;
-        send(rt, out, t.unsent)?;
-    }
-    Ok(())
-}
-
-// Answers all lines. One that a failure has cut short isn't answered.
-fn run(
-    rt: &(impl Input + Print),
-    state: State,
-    words: &mut [u64],
-    bytes: &mut [u8],
-    holds: &mut [u8],
-    line: &mut [u8],
-) -> Result<(), Failure>
-    requires { state.len ≤ length line.old }
-{
+// Answers all lines, and a last one that lacks its line feed. One that a failure has cut short isn't answered.
+fn run(rt: &(impl Input + Print), standby: &mut Standby, line: &mut [u8]) -> Result<(), Failure> {
     let mut out = [0u8; 65_536];
-    let mut from = rt.reader();
-    let t = read_all(&mut from, rt, state, words, bytes, holds, line, &mut out)?;
-    tell_last(rt, t, words, bytes, holds, line, &mut out)
-}
-
-// A new standby: nothing counted, no handle bound.
-fn start() -> State
-    ensures { result.len ≡ 0 }
-{
-    let row = [standby_row::free_record(); 4];
-    State {
-        replica: replica::new(),
-        row,
+    let mut answers = Answers {
+        out: &mut out,
         len: 0,
-        unsent: 0,
-        more: true,
+    };
+    let mut from = rt.reader();
+    let len = read_all(&mut from, rt, standby, &mut answers, line)?;
+    if len == 0 {
+        return Ok(());
     }
+    tell(rt, standby, &mut answers, &line[..len])?;
+    answers.send(rt)
 }
 
 // Says what failed and the system's words for it, without the number that std puts behind them.
@@ -291,11 +232,19 @@ fn main(rt: HostRuntime) -> ExitCode {
     let mut bytes = [0u8; 17280];
     let mut holds = [0u8; 22504];
     let mut line = [0u8; 16385];
-    match store_areas::make(frames_line::shape(), &mut words, &bytes) {
-        Ok(()) => match run(&rt, start(), &mut words, &mut bytes, &mut holds, &mut line) {
-            Ok(()) => ExitCode::SUCCESS,
-            Err(failure) => told(&rt, failure),
-        },
-        Err(_) => ExitCode::SUCCESS,
+    if store_areas::make(frames_line::shape(), &mut words, &bytes).is_err() {
+        return ExitCode::SUCCESS;
+    }
+    // A new standby: nothing counted, no handle bound.
+    let mut standby = Standby {
+        counters: replica::new(),
+        row: [standby_row::free_record(); 4],
+        words: &mut words,
+        bytes: &mut bytes,
+        holds: &mut holds,
+    };
+    match run(&rt, &mut standby, &mut line) {
+        Ok(()) => ExitCode::SUCCESS,
+        Err(failure) => told(&rt, failure),
     }
 }

@@ -1,8 +1,7 @@
 -- What making a standby over a store says. Assumes nothing.
-use Rattle.std.specs.Prelude.{ℕ, ◌≡◌, Bool, true, false, List, length, set}
+use Rattle.std.specs.Prelude.{ℕ, ◌≡◌, true, false, List, length, set}
 use Rattle.model_frame.specs.Refusal
 use Rattle.standby_row.specs.declared.Bound.{Bound}
-use Rattle.standby_row.specs.declared.Lookup.{Lookup}
 use Rattle.standby_row.specs.Row.{cleared_all}
 use Rattle.store_areas.specs.StoreWord
 use Rattle.store_areas.specs.Areas.{allowed, places_of}
@@ -10,19 +9,12 @@ use Rattle.model_standby.specs.State.{new_standby}
 use Rattle.standby_counters.specs.declared.Replica.{Replica}
 use Rattle.standby_state.specs.declared.Settings.{Settings}
 use Rattle.standby_state.specs.declared.Answer.{Answer}
-use Rattle.standby_state.specs.declared.Outcome.{Outcome}
 use Rattle.standby_state.specs.Answers.{is_refused, is_done}
-use Rattle.standby_state.specs.Outcomes.{leaving, clearing}
 use Rattle.standby_step.specs.Calls.{standby_of, allowed_all}
 
 -- no epoch yet, no connection, neither promoted nor checked
 abbrev pub new_replica : Replica
 new_replica = record { epoch = record { 0 = 0 }; connections = 0; promoted = 0; checked = 0 }
-
--- of what was found in the row: 25 where the store's rules are broken; else new counters, no pending commit, every record freed
-pub record MakeIs (s : Settings) (c : Replica) (seen : Lookup) (w w' b : List ℕ) (r : Outcome) : Type 0 where
-  pub refuses : allowed s.shape w b ≡ false → (r ≡ leaving c seen (is_refused Refusal.rules_broken)) × (w' ≡ w)
-  pub makes : allowed s.shape w b ≡ true → (r ≡ clearing new_replica seen is_done) × (w' ≡ set w StoreWord.pending 0)
 
 -- a new standby with the store's places, whatever the hold areas; no byte changes, of the words just the count of pending commits, and of the row
 -- just that each record is free

@@ -1,4 +1,5 @@
 // The standby's calls over the lent counters, the lent row of handles, the store's two areas and the hold areas (standby.rs, `Replica`); `replica_c` has them for C.
+// C lends the counters, the row and the areas, each apart; the six calls are names of their own that hand on to one function.
 #![tactic(auto)]
 
 ghost use Rattle.std.specs.Prelude.{◌≡◌, max, get_or};
@@ -6,23 +7,20 @@ ghost use Rattle.base_flags.specs.Flag.{is_set};
 ghost use Rattle.model_standby.specs.State.{on_frame_held, on_frame, flush, disconnected_from, promote, promote_unchecked};
 ghost use Rattle.standby_step.specs.Calls.{Called};
 ghost use Rattle.standby_call.specs.Call.{call_of};
-ghost use Rattle.replica.specs.Making.{new_replica, MakeIs, MadeOver};
+ghost use Rattle.replica.specs.Making.{new_replica, MadeOver};
 
-use base_refusals::RULES_BROKEN;
+use base_refusals::Refusal;
 use frame_fields::{Epoch, Incarnation};
 use standby_call::Call;
-use standby_row::{Bound, Lookup};
-use standby_state::{Answer, Outcome, Replica, Settings};
+use standby_row::Bound;
+use standby_state::{Answer, Replica, Settings, Standing};
 use store_areas::word;
 
 // How many places of the store are in use.
 fn places_in_use(words: &[u64]) -> usize
     ensures { result ≡ get_or words.now 0 0 }
 {
-    if words.len() == 0 {
-        return 0;
-    }
-    words[word::USED] as usize
+    words.get(word::USED).copied().unwrap_or(0) as usize
 }
 
 // Any of the six calls: one pass over the row, the call by value, and what it does to the row and the counters.
@@ -40,12 +38,15 @@ fn on_call(
 {
     let handle = standby_call::sought_by(frame, call);
     let used = places_in_use(words);
-    let len = row.len();
-    let room = standby_batch_due::room_of(holds, len);
-    let seen = standby_row::find(row, handle, used, room);
-    let o = standby_call::run(*counters, seen, words, bytes, holds, frame, settings, call);
-    standby_row::insert(row, o.at, o.bound);
-    standby_row::clear(row, o.from);
+    let room = standby_batch_due::room_of(holds, row.len());
+    let lookup = standby_row::find(row, handle, used, room);
+    let standing = Standing {
+        settings,
+        counters: *counters,
+        lookup,
+    };
+    let o = standby_call::run(standing, words, bytes, holds, frame, call);
+    o.action.apply(row);
     *counters = o.replica;
     o.answer
 }
@@ -62,10 +63,7 @@ pub fn on_frame_held(
 ) -> Answer
     ensures { Called settings (on_frame_held frame.now) counters.old counters.new row.old row.new words.old words.new bytes.old bytes.new holds.old holds.new result }
 {
-    let call = Call {
-        kind: Call::ON_FRAME_HELD,
-        connection: 0,
-    };
+    let call = Call::OnFrameHeld;
     on_call(counters, row, words, bytes, holds, frame, settings, call)
 }
 
@@ -81,10 +79,7 @@ pub fn on_frame(
 ) -> Answer
     ensures { Called settings (on_frame frame.now) counters.old counters.new row.old row.new words.old words.new bytes.old bytes.new holds.old holds.new result }
 {
-    let call = Call {
-        kind: Call::ON_FRAME,
-        connection: 0,
-    };
+    let call = Call::OnFrame;
     on_call(counters, row, words, bytes, holds, frame, settings, call)
 }
 
@@ -100,10 +95,7 @@ pub fn flush(
 ) -> Answer
     ensures { Called settings (flush connection) counters.old counters.new row.old row.new words.old words.new bytes.old bytes.new holds.old holds.new result }
 {
-    let call = Call {
-        kind: Call::FLUSH,
-        connection,
-    };
+    let call = Call::Flush { connection };
     on_call(counters, row, words, bytes, holds, &[], settings, call)
 }
 
@@ -119,10 +111,7 @@ pub fn disconnected_from(
 ) -> Answer
     ensures { Called settings (disconnected_from connection) counters.old counters.new row.old row.new words.old words.new bytes.old bytes.new holds.old holds.new result }
 {
-    let call = Call {
-        kind: Call::DISCONNECTED_FROM,
-        connection,
-    };
+    let call = Call::DisconnectedFrom { connection };
     on_call(counters, row, words, bytes, holds, &[], settings, call)
 }
 
@@ -137,10 +126,7 @@ pub fn promote(
 ) -> Answer
     ensures { Called settings promote counters.old counters.new row.old row.new words.old words.new bytes.old bytes.new holds.old holds.new result }
 {
-    let call = Call {
-        kind: Call::PROMOTE,
-        connection: 0,
-    };
+    let call = Call::Promote;
     on_call(counters, row, words, bytes, holds, &[], settings, call)
 }
 
@@ -155,10 +141,7 @@ pub fn promote_unchecked(
 ) -> Answer
     ensures { Called settings promote_unchecked counters.old counters.new row.old row.new words.old words.new bytes.old bytes.new holds.old holds.new result }
 {
-    let call = Call {
-        kind: Call::PROMOTE_UNCHECKED,
-        connection: 0,
-    };
+    let call = Call::PromoteUnchecked;
     on_call(counters, row, words, bytes, holds, &[], settings, call)
 }
 
@@ -174,22 +157,6 @@ pub fn new() -> Replica
     }
 }
 
-fn made(
-    counters: Replica,
-    lookup: Lookup,
-    words: &mut [u64],
-    bytes: &[u8],
-    settings: Settings,
-) -> Outcome
-    ensures { MakeIs settings counters lookup words.old words.new bytes.now result }
-{
-    if store_areas::allowed(settings.shape, words, bytes) {
-        words[word::PENDING] = 0;
-        return standby_state::cleared(new(), lookup, standby_state::done());
-    }
-    standby_state::unchanged(counters, lookup, standby_state::refused(RULES_BROKEN))
-}
-
 // Makes a standby over a store: new counters, no pending commit, every record of the row freed.
 pub fn make(
     counters: &mut Replica,
@@ -200,12 +167,13 @@ pub fn make(
 ) -> Answer
     ensures { MadeOver settings counters.old counters.new row.old row.new words.old words.new bytes.now result }
 {
-    let seen = standby_row::find(row, 0, 0, 0);
-    let o = made(*counters, seen, words, bytes, settings);
-    standby_row::insert(row, o.at, o.bound);
-    standby_row::clear(row, o.from);
-    *counters = o.replica;
-    o.answer
+    if !store_areas::allowed(settings.shape, words, bytes) {
+        return standby_state::refused(Refusal::RulesBroken.number());
+    }
+    words[word::PENDING] = 0;
+    standby_row::clear(row, 0);
+    *counters = new();
+    standby_state::done()
 }
 
 // The standby's epoch.

@@ -3,14 +3,8 @@ use Rattle.std.specs.Prelude.{◌≡◌, ℕ, ◌<◌, Bool, false, ◌&&◌, Li
 use Rattle.model_frame.specs.Frame.{Key}
 use Rattle.model_session.specs.Summary.{fnv, fnv_start}
 use Rattle.model_standby.specs.Store.{Place, same_key}
-use Rattle.store_place.specs.Place.{key_from}
 use Rattle.store_areas.specs.declared.Shape.{Shape}
 use Rattle.store_areas.specs.Areas.{place_at}
-use Rattle.standby_ahead.specs.declared.Key as lent
-
--- the key whose texts are lent
-abbrev pub key_of : lent.Key → Key
-key_of k = key_from k.begin.now k.sender.now k.target.now k.suffix.now
 
 -- a place with this key and at least the number n
 abbrev pub has_number : Key → ℕ → Place → Bool

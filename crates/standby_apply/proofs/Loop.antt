@@ -2,22 +2,21 @@
 use mathlib.Core.Path.{◌≡◌, refl, sym, ap, subst, ◌∙◌}
 use mathlib.Core.Bool.{Bool, true, false, ◌&&◌}
 use mathlib.Core.List.{List, [], ◌∷◌}
-use Prim.Native.Nat.{ℕ, suc, ◌+◌, ◌-◌, ◌≤◌, ◌<◌}
+use Prim.Native.Nat.{ℕ, suc, ◌+◌, ◌-◌, ◌≤◌}
 use native.Mathlib.Omega.{arith}
 use lib.Dec.{T, leb, ltb, eqb}
-use lib.ListN.{length, get_or}
+use lib.ListN.{length}
 use Rattle.model_text.proofs.Formed.{and_l, and_r}
 use Rattle.model_frame.specs.Bytes.{is_bytes}
 use Rattle.model_frame.specs.Frame.{Change, set_incoming, set_incoming_in_flight, set_in_flight, record_msg, record_bare, reset, set_created_at, set_marks, Fault}
 use Rattle.model_frame.specs.Parse.{is_empty, ok, bad}
 use Rattle.model_frame.specs.Reading.{read_change}
 use Rattle.model_frame.specs.Writing.{fine_change}
-use Rattle.model_frame.proofs.Le.{are_bytes}
 use Rattle.model_frame.proofs.SoundChange.{change_sound}
 use Rattle.model_session.specs.Session.{Session, fits, apply, apply_all, top}
 use Rattle.model_standby.specs.Store.{Place, on_stored, changed}
 use Rattle.frame_op.specs.Answers.{held_run}
-use Rattle.standby_changes.proofs.Held.{held_none, held_bad, held_more}
+use Rattle.standby_changes.proofs.Held.{held_bad, held_more}
 use Rattle.store_place.specs.Place.{next_out_of, session_of, place_in}
 
 -- changes that fit go on to fit after the first of them is made
@@ -70,8 +69,8 @@ module _ (version max : ℕ) where
     pub follow : fits (next_out_of w) (held_run version rest) ≡ true
     pub made : (C : ℕ) → length b₀ ≡ 224 + C → on_stored (changed C max (held_run version rest)) (place_in C max w b) ≡ on_stored (changed C max (held_run version run)) (place_in C max w₀ b₀)
 
-  pub starts : (run w b : List ℕ) → ((i : ℕ) → get_or run i 0 < 256) → fits (next_out_of w) (held_run version run) ≡ true → Applying run w b w b run
-  starts run w b known h = record { words = refl; bytes = refl; octets = are_bytes run known; follow = h; made = λ C e. refl }
+  pub starts : (run w b : List ℕ) → T (is_bytes run) → fits (next_out_of w) (held_run version run) ≡ true → Applying run w b w b run
+  starts run w b octets h = record { words = refl; bytes = refl; octets = octets; follow = h; made = λ C e. refl }
 
   module _ {run w₀ b₀ w b rest t : List ℕ} {c : Change} (g : Applying run w₀ b₀ w b rest) (e : read_change version rest ≡ ok c t) where
     whole : fits (next_out_of w) (c ∷ held_run version t) ≡ true
@@ -113,7 +112,3 @@ module _ (version max : ℕ) where
   pub made_bad : {run w₀ b₀ w b rest : List ℕ} {f : Fault} → Applying run w₀ b₀ w b rest → read_change version rest ≡ bad f
       → (C : ℕ) → length b₀ ≡ 224 + C → place_in C max w b ≡ on_stored (changed C max (held_run version run)) (place_in C max w₀ b₀)
   made_bad {rest = rest} g e = all_made g (held_bad version rest e)
-
-  pub made_all : {run w₀ b₀ w b rest : List ℕ} → Applying run w₀ b₀ w b rest → rest ≡ []
-      → (C : ℕ) → length b₀ ≡ 224 + C → place_in C max w b ≡ on_stored (changed C max (held_run version run)) (place_in C max w₀ b₀)
-  made_all g e = all_made g (ap (held_run version) e ∙ held_none version [] (omega arith))

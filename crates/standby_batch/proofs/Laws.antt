@@ -7,7 +7,8 @@ use mathlib.Core.Option.{Option, none, some}
 use lib.ListN.{length, get_or}
 use lib.Dec.{eqb, ltb}
 use borrow.Author.Tests.{eqb-true}
-use Rattle.std.specs.Prelude.{IfSome}
+use Rattle.std.specs.Prelude.{IfSome, Some, None}
+use Rattle.std.specs.Prelude as prelude
 use Rattle.base_laws.proofs.Lists.{both}
 use Rattle.base_refusals.specs.declared.Refusal.{Refusal}
 use Rattle.base_refusals.specs.Numbers.{number_of}
@@ -22,7 +23,7 @@ use Rattle.standby_row.specs.declared.Bound.{Bound as BoundRecord}
 use Rattle.standby_row.specs.declared.Lookup.{Lookup}
 use Rattle.store_areas.specs.Areas.{Rules}
 use Rattle.store_areas.proofs.Lifting.{places_length}
-use Rattle.standby_commit.specs.Settling.{batch_change, StoreAfter}
+use Rattle.standby_commit.specs.Settling.{StoreChange, stays, batch_change, StoreAfter}
 use Rattle.standby_commit.proofs.Laws.{none_changed}
 use Rattle.model_standby.specs.Answer.{protocol_version, reply, refused, accepted, is_reply}
 use Rattle.model_standby.specs.Answer as the-answer
@@ -33,7 +34,7 @@ use Rattle.model_standby.specs.Core.{leave, store, Core, CoreResult, core_says, 
 use Rattle.standby_part.specs.declared.PartResult.{PartResult}
 use Rattle.standby_part.specs.State.{bound_of, core_at}
 use Rattle.standby_part.specs.Part.{part_refusal, is_accepted, stored_in, told_by, action_by, result_of, StoredIs}
-use Rattle.standby_batch_handle.specs.Handling.{follows_of, found_of, Sound, hold_area_after, HandleIs}
+use Rattle.standby_batch_handle.specs.Handling.{follows_of, found_of, bound_in, Sound, hold_area_after, handle_change, StoredFor, HandleIs}
 use Rattle.standby_step.specs.Steps.{is_found}
 use Rattle.standby_counters.specs.declared.Replica.{Replica}
 use Rattle.standby_state.specs.declared.Settings.{Settings}
@@ -41,12 +42,12 @@ use Rattle.standby_state.specs.declared.Answer.{Answer}
 use Rattle.standby_state.specs.declared.Outcome.{Outcome}
 use Rattle.standby_state.specs.Answers.{answer_of, is_refused, is_nack, is_ack}
 use Rattle.standby_state.specs.Exact.{Exact}
-use Rattle.standby_state.specs.Outcomes.{counters_of, settings_of, leaving, storing, Lands}
+use Rattle.standby_state.specs.Outcomes.{counters_of, settings_of, leaving, storing, clears, stores, Lands}
 use Rattle.standby_state.proofs.Exact.{exact_refused, exact_nack, exact_ack}
-use Rattle.standby_hello.proofs.Laws.{leaving_lands}
-use Rattle.standby_batch.specs.Batches.{epoch_to, found_for, answer_by, settled_of, RecordRules, hold_area_with, found_at, BatchIs}
+use Rattle.standby_hello.proofs.Laws.{kept_lands}
+use Rattle.standby_batch.specs.Batches.{epoch_to, found_for, bound_for, answer_by, settled_of, RecordRules, hold_area_with, found_at, put_in, BatchIs}
 use Rattle.standby_batch.proofs.Refusals.{some_number}
-use Rattle.standby_batch.proofs.Passing.{as_many, is_store, store_none, Passes, whole_passes, last_passes}
+use Rattle.standby_batch.proofs.Passing.{as_many, is_store, store_none, accept_none, Passes, whole_passes, last_passes}
 
 -- ---- what the answer of a handle stands for
 
@@ -79,7 +80,7 @@ module _ (h n : ℕ) where
   told_reply (PartResult.Diverged x) = refl
   told_reply (PartResult.Accepted x) = refl
 
-  told_stores : (version : ℕ) (area : List ℕ) (c : Replica) (seen : Lookup) (m : CommitNumber) (d : PartResult) → is_store (action_by version h area d) ≡ (settled_of c seen d h m).stores
+  told_stores : (version : ℕ) (area : List ℕ) (c : Replica) (seen : Lookup) (m : CommitNumber) (d : PartResult) → is_store (action_by version h area d) ≡ stores (settled_of c seen d h m).action
   told_stores version area c seen m (PartResult.Refused e) = refl
   told_stores version area c seen m (PartResult.RefusedHolding e x) = refl
   told_stores version area c seen m (PartResult.Diverged x) = refl
@@ -110,13 +111,13 @@ module _ (s : Settings) (c : Replica) (seen : Lookup) (h : ℕ) (e : Epoch) (n :
   unfolding core_batch
   tests = refl
 
-  left : (t u : Bool) → is_empty apps ≡ t → ltb e.0 c.epoch.0 ≡ u → {r : Outcome} {a : Answer} (x : Answer) → r ≡ leaving c seen a → a ≡ x → Exact b x → accepted (answer_of b x) ≡ false
+  left : (t u : Bool) → is_empty apps ≡ t → ltb e.0 c.epoch.0 ≡ u → {r : Outcome} {a : Answer} (x : Answer) → r ≡ leaving c a → a ≡ x → Exact b x → accepted (answer_of b x) ≡ false
       → record { core = K; action = leave; answer = answer_of b x } ≡ Goes t u → Writes t u ≡ none → Is w b area r
   left t u p q x e₁ e₂ is-exact off is none_written =
-      subst (Is w b area) (sym (e₁ ∙ ap (leaving c seen) e₂))
+      subst (Is w b area) (sym (e₁ ∙ ap (leaving c) e₂))
       (record {
         is = is ∙ sym (tests ∙ (λ j. Goes (p j) (q j)));
-        lands = leaving_lands c seen x (get_or w 0 0) (length area);
+        lands = tt;
         stays = refl;
         stored = λ y. absurd (true≢false (sym y));
         rules = rules;
@@ -126,17 +127,25 @@ module _ (s : Settings) (c : Replica) (seen : Lookup) (h : ℕ) (e : Epoch) (n :
         exact = is-exact;
       })
 
-  pub with_records : {r : Outcome} {a : Answer} → is_empty apps ≡ false → r ≡ leaving c seen a → a ≡ is_refused 13 → Is w b area r
-  with_records p e₁ e₂ = left false (ltb e.0 c.epoch.0) p refl (is_refused 13) e₁ e₂ (exact_refused b 13) refl refl refl
+  pub with_records : {r : Outcome} → is_empty apps ≡ false → r ≡ leaving c (is_refused 13) → Is w b area r
+  with_records p e₁ = left false (ltb e.0 c.epoch.0) p refl (is_refused 13) e₁ refl (exact_refused b 13) refl refl refl
 
-  pub stale : {r : Outcome} {a : Answer} → is_empty apps ≡ true → ltb e.0 c.epoch.0 ≡ true → r ≡ leaving c seen a → a ≡ is_nack h 1 → Is w b area r
+  pub stale : {r : Outcome} {a : Answer} → is_empty apps ≡ true → ltb e.0 c.epoch.0 ≡ true → r ≡ leaving c a → a ≡ is_nack h 1 → Is w b area r
   stale p less e₁ e₂ = left true true p less (is_nack h 1) e₁ e₂ (exact_nack b h stale_epoch) refl refl refl
 
   -- ---- past them
 
+  -- the record found, where it is the handle's
+  abbrev Own : Bool → prelude.Option BoundRecord
+  Own t = cond t (Some seen.bound) None
+
+  bound_is : (t : Bool) → bound_in protocol_version (Own t) area ≡ found_of protocol_version t seen.bound area
+  bound_is true = refl
+  bound_is false = refl
+
   module _ (p : is_empty apps ≡ true) (high : ltb e.0 c.epoch.0 ≡ false) {found : Bool} (found_is : found ≡ found_for seen h) {w' b' area' run : List ℕ} {d : PartResult}
-      (g : HandleIs protocol_version s.shape h found seen.bound n.0 part cs w w' b b' area area' d)
-      (written : area' ≡ hold_area_after protocol_version found seen.bound n.0 part run area (part_refusal d)) (bytes : run ≡ held_bytes cs)
+      (g : HandleIs protocol_version s.shape h (Own found) n.0 part cs w w' b b' area area' d)
+      (written : area' ≡ hold_area_after protocol_version (Own found) n.0 part run area (part_refusal d)) (bytes : run ≡ held_bytes cs)
       (kept : found ≡ true → RecordRules seen w area) where
     abbrev B : Bound
     B = bound_of protocol_version seen.bound area
@@ -148,7 +157,7 @@ module _ (s : Settings) (c : Replica) (seen : Lookup) (h : ℕ) (e : Epoch) (n :
     went = tests ∙ (λ j. Goes (p j) (high j)) ∙ ap (λ (t : Bool). core_handle L K' h (found_of protocol_version t seen.bound area) n.0 part cs) (sym found_is)
 
     handled : result_of protocol_version h n.0 area' d (core_at (counters_of (epoch_to c e)) s.shape w' b') ≡ core_handle L K' h (found_of protocol_version found seen.bound area) n.0 part cs
-    handled = g.is (counters_of (epoch_to c e)) s.incarnation.0 s.max_lag
+    handled = g.is (counters_of (epoch_to c e)) s.incarnation.0 s.max_lag ∙ ap (λ (o : Option Bound). core_handle L K' h o n.0 part cs) (bound_is found)
 
     -- what the code makes of a result
     abbrev X : PartResult → Outcome
@@ -157,7 +166,7 @@ module _ (s : Settings) (c : Replica) (seen : Lookup) (h : ℕ) (e : Epoch) (n :
     reads : (q : PartResult) → ◌≡◌ {A = CoreResult}
         (record {
           core = core_at (counters_of (X q).replica) s.shape w' b';
-          action = cond (X q).stores (store (X q).bound.handle (bound_of protocol_version (X q).bound area')) leave;
+          action = put_in area' (X q).action;
           answer = answer_of b' (X q).answer;
         })
         (result_of protocol_version h n.0 area' q (core_at (counters_of (epoch_to c e)) s.shape w' b'))
@@ -176,7 +185,7 @@ module _ (s : Settings) (c : Replica) (seen : Lookup) (h : ℕ) (e : Epoch) (n :
     says_so (PartResult.Diverged x) = refl
     says_so (PartResult.Accepted x) = refl
 
-    clears_none : (q : PartResult) → (X q).clears ≡ false
+    clears_none : (q : PartResult) → clears (X q).action ≡ false
     clears_none (PartResult.Refused e₁) = refl
     clears_none (PartResult.RefusedHolding e₁ x) = refl
     clears_none (PartResult.Diverged x) = refl
@@ -187,33 +196,58 @@ module _ (s : Settings) (c : Replica) (seen : Lookup) (h : ℕ) (e : Epoch) (n :
         sym (places_length s.shape w' b') ∙ ap (λ (r : CoreResult). length r.core.places) handled
         ∙ as_many L K' h (found_of protocol_version found seen.bound area) n.0 part cs ∙ places_length s.shape w b
 
-    -- a record is stored for a bound handle alone
-    stored_found : (X d).stores ≡ true → found ≡ true
+    -- for no other handle is a record stored or a Batch accepted
+    none_stored : found ≡ false → stores (X d).action ≡ false
+    none_stored f =
+        sym (told_stores h n.0 protocol_version area' (epoch_to c e) seen n d) ∙ ap (λ (r : CoreResult). is_store r.action) handled
+        ∙ ap (λ (u : Bool). is_store (core_handle L K' h (found_of protocol_version u seen.bound area) n.0 part cs).action) f ∙ store_none L K' h n.0 part cs
+
+    none_accepted : found ≡ false → is_accepted d ≡ false
+    none_accepted f =
+        sym (told_accepted h n.0 d) ∙ ap (λ (r : CoreResult). accepted r.answer) handled
+        ∙ ap (λ (u : Bool). accepted (core_handle L K' h (found_of protocol_version u seen.bound area) n.0 part cs).answer) f ∙ accept_none L K' h n.0 part cs
+
+    stored_found : stores (X d).action ≡ true → found ≡ true
     stored_found y = go found refl
       where
         go : (t : Bool) → found ≡ t → t ≡ true
         go true f = refl
-        go false f =
-            absurd (true≢false (sym y ∙ sym (told_stores h n.0 protocol_version area' (epoch_to c e) seen n d) ∙ ap (λ (r : CoreResult). is_store r.action) handled
-            ∙ ap (λ (u : Bool). is_store (core_handle L K' h (found_of protocol_version u seen.bound area) n.0 part cs).action) f ∙ store_none L K' h n.0 part cs))
+        go false f = absurd (true≢false (sym y ∙ none_stored f))
 
-    put_lands : (a : Answer) (x : BoundRecord) → found ≡ true → StoredIs protocol_version seen.bound area area' x → Lands seen (get_or w' 0 0) (length area) area' (storing (epoch_to c e) seen a h x)
+    changed_for : StoreAfter s.shape (batch_change h seen.bound.place part (is_accepted d)) w w' b b'
+    changed_for = go found refl g.store_after
+      where
+        go : (t : Bool) → found ≡ t → StoreAfter s.shape (handle_change h (Own t) part (is_accepted d)) w w' b b' → StoreAfter s.shape (batch_change h seen.bound.place part (is_accepted d)) w w' b b'
+        go true f k = k
+        go false f k = subst (λ (x : StoreChange). StoreAfter s.shape x w w' b b') (sym (ap (batch_change h seen.bound.place part) (none_accepted f) ∙ no_change part)) k
+          where
+            no_change : (q : the_frame.Part) → batch_change h seen.bound.place q false ≡ stays
+            no_change commit = refl
+            no_change whole = refl
+            no_change last_whole = refl
+
+    put_lands : (a : Answer) (x : BoundRecord) → found ≡ true → StoredIs protocol_version seen.bound area area' x → Lands seen (get_or w' 0 0) (length area) area' (storing (epoch_to c e) seen a h x).action
     put_lands a x f i =
         let k : RecordRules seen w area = kept f in
         record {
           at_is = refl;
-          from_is = refl;
-          one = λ _. refl;
-          slot_is = λ _. (λ j. record { used = 1; handle = h; place = x.place; commit_no = record { 0 = x.commit_no.0 }; held_len = i.held j; held_bytes = x.held_bytes });
-          slot_place = λ _. subst (λ (m : ℕ). m < get_or w' 0 0) (sym i.place) (subst (λ (m : ℕ). seen.bound.place < m) (sym used_same) k.place_used);
-          slot_len = λ _. i.len k.held_within;
+          slot_is = (λ j. record { used = 1; handle = h; place = x.place; commit_no = record { 0 = x.commit_no.0 }; held_len = i.held j; held_bytes = x.held_bytes });
+          slot_place = subst (λ (m : ℕ). m < get_or w' 0 0) (sym i.place) (subst (λ (m : ℕ). seen.bound.place < m) (sym used_same) k.place_used);
+          slot_len = i.len k.held_within;
         }
 
-    lands_in : (q : PartResult) → ((X q).stores ≡ true → found ≡ true) → IfSome (stored_in q) (StoredIs protocol_version seen.bound area area') → Lands seen (get_or w' 0 0) (length area) area' (X q)
-    lands_in (PartResult.Refused e₁) f i = leaving_lands (epoch_to c e) seen (is_refused (number_of e₁)) (get_or w' 0 0) (length area)
+    lands_in : (q : PartResult) → (stores (X q).action ≡ true → found ≡ true) → IfSome (stored_in q) (StoredIs protocol_version seen.bound area area') → Lands seen (get_or w' 0 0) (length area) area' (X q).action
+    lands_in (PartResult.Refused e₁) f i = tt
     lands_in (PartResult.RefusedHolding e₁ x) f i = put_lands (is_refused (number_of e₁)) x (f refl) i
     lands_in (PartResult.Diverged x) f i = put_lands (is_nack h 2) x (f refl) i
     lands_in (PartResult.Accepted x) f i = put_lands (is_ack h n) x (f refl) i
+
+    landed : Lands seen (get_or w' 0 0) (length area) area' (X d).action
+    landed = go found refl g.slot
+      where
+        go : (t : Bool) → found ≡ t → StoredFor protocol_version (Own t) area area' (stored_in d) → Lands seen (get_or w' 0 0) (length area) area' (X d).action
+        go true f i = lands_in d stored_found i
+        go false f i = kept_lands seen (get_or w' 0 0) (length area) area' (X d).action (none_stored f)
 
     -- ---- the hold area
 
@@ -245,7 +279,7 @@ module _ (s : Settings) (c : Replica) (seen : Lookup) (h : ℕ) (e : Epoch) (n :
     off_held true = refl
     off_held false = refl
 
-    area_found : (q : the_frame.Part) → part ≡ q → found ≡ true → hold_area_after protocol_version true seen.bound n.0 q run area (part_refusal d) ≡ hold_area_with (writes_part L h (some B) n.0 q cs) area
+    area_found : (q : the_frame.Part) → part ≡ q → found ≡ true → hold_area_after protocol_version (Some seen.bound) n.0 q run area (part_refusal d) ≡ hold_area_with (writes_part L h (some B) n.0 q cs) area
     area_found commit q f = off_held (follows_of seen.bound n.0)
     area_found whole q f =
         held_area f (λ t. sym (answered f) ∙ ap (λ (x : the_frame.Part). is_reply (core_handle L K' h (some B) n.0 x cs).answer) q ∙ whole_passes L K' h B n.0 cs t)
@@ -260,7 +294,7 @@ module _ (s : Settings) (c : Replica) (seen : Lookup) (h : ℕ) (e : Epoch) (n :
     area_part : area' ≡ hold_area_with (writes_part L h (found_of protocol_version found seen.bound area) n.0 part cs) area
     area_part = written ∙ go found refl
       where
-        go : (t : Bool) → found ≡ t → hold_area_after protocol_version t seen.bound n.0 part run area (part_refusal d) ≡ hold_area_with (writes_part L h (found_of protocol_version t seen.bound area) n.0 part cs) area
+        go : (t : Bool) → found ≡ t → hold_area_after protocol_version (Own t) n.0 part run area (part_refusal d) ≡ hold_area_with (writes_part L h (found_of protocol_version t seen.bound area) n.0 part cs) area
         go true f = area_found part refl f
         go false f = none_found part
 
@@ -269,29 +303,38 @@ module _ (s : Settings) (c : Replica) (seen : Lookup) (h : ℕ) (e : Epoch) (n :
         area_part ∙ ap (λ (t : Bool). hold_area_with (writes_part L h (found_of protocol_version t seen.bound area) n.0 part cs) area) found_is
         ∙ ap (λ (o : Option HoldWrite). hold_area_with o area) (sym (λ j. Writes (p j) (high j)))
 
-    pub handled_is : {r : Outcome} {c' : Replica} → c' ≡ epoch_to c e → r ≡ settled_of c' seen d h n → Is w' b' area' r
+    handled_is : {r : Outcome} {c' : Replica} → c' ≡ epoch_to c e → r ≡ settled_of c' seen d h n → Is w' b' area' r
     handled_is e₁ e₂ =
         subst (Is w' b' area') (sym (e₂ ∙ ap (λ (x : Replica). settled_of x seen d h n) e₁))
         (record {
           is = reads d ∙ handled ∙ sym went;
-          lands = lands_in d stored_found g.slot;
+          lands = landed;
           stays = clears_none d;
           stored = λ y. sym found_is ∙ stored_found y;
           rules = g.rules;
           used = used_same;
           store_after =
               subst (λ (t : Bool). StoreAfter s.shape (batch_change h seen.bound.place part t) w w' b b')
-              (sym (ap (λ (a : Answer). accepted (answer_of b' a)) (says_so d) ∙ ap accepted (answer_is h n b' d) ∙ told_accepted h n.0 d)) g.store_after;
+              (sym (ap (λ (a : Answer). accepted (answer_of b' a)) (says_so d) ∙ ap accepted (answer_is h n b' d) ∙ told_accepted h n.0 d)) changed_for;
           area_is = area_whole;
           exact = subst (Exact b') (sym (says_so d)) (answer_exact h n b' d);
         })
 
+    -- of the store as it was handed back
+    pub handled_given : {r : Outcome} {c' : Replica} {w₂ b₂ : List ℕ} → c' ≡ epoch_to c e → r ≡ settled_of c' seen d h n → w₂ ≡ w' → b₂ ≡ b' → BatchIs s c seen h e.0 n.0 part cs apps w w₂ b b₂ area area' r
+    handled_given {r} {c'} {w₂} {b₂} e₁ e₂ words back =
+        subst (λ (x : List ℕ). BatchIs s c seen h e.0 n.0 part cs apps w x b b₂ area area' r) (sym words)
+        (subst (λ (x : List ℕ). BatchIs s c seen h e.0 n.0 part cs apps w w' b x area area' r) (sym back) (handled_is e₁ e₂))
+
 -- ---- what the handle asks
 
-module _ (seen : Lookup) (h : ℕ) (w area : List ℕ) (kept : is_found seen ≡ true → RecordRules seen w area) {found : Bool} (is : found ≡ found_for seen h) where
-  pub kept_of : found ≡ true → RecordRules seen w area
-  kept_of t = kept (both (is_found seen) (eqb seen.bound.handle h) (sym is ∙ t)).0
+module _ (seen : Lookup) (h : ℕ) (w area : List ℕ) (kept : is_found seen ≡ true → RecordRules seen w area) where
+  pub kept_of : found_for seen h ≡ true → RecordRules seen w area
+  kept_of t = kept (both (is_found seen) (eqb seen.bound.handle h) t).0
 
-  pub sound_of : found ≡ true → Sound h seen.bound w area
-  sound_of t =
-      record { own = eqb-true seen.bound.handle h (both (is_found seen) (eqb seen.bound.handle h) (sym is ∙ t)).1; place_used = (kept_of t).place_used; held_within = (kept_of t).held_within }
+  pub sound_of : {o : prelude.Option BoundRecord} → o ≡ bound_for seen h → IfSome o (λ x. Sound h x w area)
+  sound_of e = subst (λ (o : prelude.Option BoundRecord). IfSome o (λ x. Sound h x w area)) (sym e) (go (found_for seen h) refl)
+    where
+      go : (t : Bool) → found_for seen h ≡ t → IfSome (cond t (Some seen.bound) None) (λ x. Sound h x w area)
+      go true f = record { own = eqb-true seen.bound.handle h (both (is_found seen) (eqb seen.bound.handle h) f).1; place_used = (kept_of f).place_used; held_within = (kept_of f).held_within }
+      go false f = tt

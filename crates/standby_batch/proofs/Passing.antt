@@ -10,7 +10,7 @@ use Rattle.model_frame.specs.Frame.{Change, Part, commit, whole, last_whole, ack
 use Rattle.model_frame.specs.Parse.{is_empty}
 use Rattle.model_frame.specs.Sizes.{sizes}
 use Rattle.model_session.specs.Session.{fits}
-use Rattle.model_standby.specs.Answer.{is_reply}
+use Rattle.model_standby.specs.Answer.{accepted, is_reply}
 use Rattle.model_standby.specs.Store.{changed, session_at, or_new}
 use Rattle.model_standby.specs.State.{Settings, Bound, none_held}
 use Rattle.model_standby.specs.Standby.{follows, raised, max_whole, starts_with_reset, holding}
@@ -63,6 +63,10 @@ is_store clear = false
 pub store_none : (L : Settings) (k : Core) (h n : ℕ) (p : Part) (cs : List Change) → is_store (core_handle L k h none n p cs).action ≡ false
 unfolding core_handle
 store_none L k h n p cs = refl
+
+pub accept_none : (L : Settings) (k : Core) (h n : ℕ) (p : Part) (cs : List Change) → accepted (core_handle L k h none n p cs).answer ≡ false
+unfolding core_handle
+accept_none L k h n p cs = refl
 
 -- ---- a Whole or LastWhole that follows is answered exactly if it passes 16 to 18
 

@@ -1,5 +1,7 @@
 -- A Batch on what was found for its handle, over one hold area. Assumes nothing.
 use Rattle.std.specs.Prelude.{ℕ, ◌<◌, ◌≤◌, ◌≡◌, Bool, true, false, cond, ◌&&◌, List, length, get_or, eqb, ltb}
+use Rattle.std.specs.Prelude.{Some, None}
+use Rattle.std.specs.Prelude as prelude
 use Rattle.std.proofs.Math.Option.{Option, none, some}
 use Rattle.base_refusals.specs.Numbers.{number_of}
 use Rattle.model_frame.specs.ReasonByte
@@ -8,6 +10,7 @@ use Rattle.model_frame.specs.Frame.{Change, AppRecord, batch}
 use Rattle.model_frame.specs.Frame as the_frame
 use Rattle.frame_fields.specs.declared.CommitNumber.{CommitNumber}
 use Rattle.frame_fields.specs.declared.Epoch.{Epoch}
+use Rattle.standby_row.specs.declared.Bound.{Bound as BoundRecord}
 use Rattle.standby_row.specs.declared.Lookup.{Lookup}
 use Rattle.store_areas.specs.StoreWord
 use Rattle.store_areas.specs.Areas.{Rules}
@@ -15,7 +18,7 @@ use Rattle.standby_commit.specs.Settling.{batch_change, StoreAfter}
 use Rattle.model_standby.specs.Answer.{protocol_version, accepted}
 use Rattle.model_standby.specs.State.{Bound}
 use Rattle.model_standby.specs.Hold.{HoldWrite, writes_frame}
-use Rattle.model_standby.specs.Core.{leave, store, core_batch}
+use Rattle.model_standby.specs.Core.{Action, leave, store, core_batch}
 use Rattle.standby_part.specs.declared.PartResult.{PartResult}
 use Rattle.standby_part.specs.State.{bound_of, core_at}
 use Rattle.standby_batch_handle.specs.Handling.{found_of}
@@ -23,9 +26,10 @@ use Rattle.standby_counters.specs.declared.Replica.{Replica}
 use Rattle.standby_state.specs.declared.Settings.{Settings}
 use Rattle.standby_state.specs.declared.Answer.{Answer}
 use Rattle.standby_state.specs.declared.Outcome.{Outcome}
+use Rattle.standby_state.specs.declared.RowAction.{RowAction}
 use Rattle.standby_state.specs.Answers.{answer_of, is_refused, is_nack, is_ack}
 use Rattle.standby_state.specs.Exact.{Exact}
-use Rattle.standby_state.specs.Outcomes.{counters_of, settings_of, leaving, storing, Lands}
+use Rattle.standby_state.specs.Outcomes.{counters_of, settings_of, leaving, storing, clears, stores, Lands}
 
 abbrev pub epoch_to : Replica → Epoch → Replica
 epoch_to c e = record { epoch = e; connections = c.connections; promoted = c.promoted; checked = c.checked }
@@ -34,6 +38,10 @@ epoch_to c e = record { epoch = e; connections = c.connections; promoted = c.pro
 abbrev pub found_for : Lookup → ℕ → Bool
 found_for seen h = ltb seen.at seen.len && eqb seen.bound.handle h
 
+-- the record that was found, if it is the handle's
+abbrev pub bound_for : Lookup → ℕ → prelude.Option BoundRecord
+bound_for seen h = cond (found_for seen h) (Some seen.bound) None
+
 abbrev pub answer_by : PartResult → ℕ → CommitNumber → Answer
 answer_by (PartResult.Refused e) h n = is_refused (number_of e)
 answer_by (PartResult.RefusedHolding e x) h n = is_refused (number_of e)
@@ -41,7 +49,7 @@ answer_by (PartResult.Diverged x) h n = is_nack h ReasonByte.diverged
 answer_by (PartResult.Accepted x) h n = is_ack h n
 
 abbrev pub settled_of : Replica → Lookup → PartResult → ℕ → CommitNumber → Outcome
-settled_of c seen (PartResult.Refused e) h n = leaving c seen (is_refused (number_of e))
+settled_of c seen (PartResult.Refused e) h n = leaving c (is_refused (number_of e))
 settled_of c seen (PartResult.RefusedHolding e x) h n = storing c seen (is_refused (number_of e)) h x
 settled_of c seen (PartResult.Diverged x) h n = storing c seen (is_nack h ReasonByte.diverged) h x
 settled_of c seen (PartResult.Accepted x) h n = storing c seen (is_ack h n) h x
@@ -59,17 +67,23 @@ hold_area_with (some x) area = write area x.offset x.bytes
 abbrev pub found_at : Lookup → ℕ → List ℕ → Option Bound
 found_at seen h area = found_of protocol_version (found_for seen h) seen.bound area
 
+-- the record that is put, over the hold area of its place
+abbrev pub put_in : List ℕ → RowAction → Action
+put_in area RowAction.Leave = leave
+put_in area RowAction.Clear = leave
+put_in area (RowAction.Store at x) = store x.handle (bound_of protocol_version x area)
+
 -- equal to the definition
 pub record BatchIs (s : Settings) (c : Replica) (seen : Lookup) (h e n : ℕ) (part : the_frame.Part) (cs : List Change) (apps : List AppRecord) (w w' b b' area area' : List ℕ) (r : Outcome) : Type 0 where
   pub is : record {
     core = core_at (counters_of r.replica) s.shape w' b';
-    action = cond r.stores (store r.bound.handle (bound_of protocol_version r.bound area')) leave;
+    action = put_in area' r.action;
     answer = answer_of b' r.answer;
   }
       ≡ core_batch (settings_of s (length area)) (core_at (counters_of c) s.shape w b) (found_at seen h area) h e n part cs apps
-  pub lands : Lands seen (get_or w' StoreWord.used 0) (length area) area' r
-  pub stays : r.clears ≡ false
-  pub stored : r.stores ≡ true → found_for seen h ≡ true
+  pub lands : Lands seen (get_or w' StoreWord.used 0) (length area) area' r.action
+  pub stays : clears r.action ≡ false
+  pub stored : stores r.action ≡ true → found_for seen h ≡ true
   pub rules : Rules s.shape w' b'
   pub used : get_or w' StoreWord.used 0 ≡ get_or w StoreWord.used 0
   pub store_after : StoreAfter s.shape (batch_change h seen.bound.place part (accepted (answer_of b' r.answer))) w w' b b'

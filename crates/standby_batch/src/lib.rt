@@ -1,4 +1,5 @@
 // A Batch on the row's record of its handle (standby.rs, on_batch): 13 application records, Nack StaleEpoch, the epoch, then the handle.
+// The areas come apart: of a struct with a store and hold areas it isn't found what these are at the end.
 #![tactic(auto)]
 
 ghost use Rattle.std.specs.Prelude.{◌≡◌, true, ◌&&◌, ◌<◌, eqb, ltb};
@@ -9,7 +10,7 @@ ghost use Rattle.frame_fields.specs.Answers.{part_of};
 ghost use Rattle.store_areas.specs.Areas.{Rules};
 ghost use Rattle.standby_pending.specs.Pending.{count_of};
 ghost use Rattle.standby_step.specs.Steps.{is_found};
-ghost use Rattle.standby_batch.specs.Batches.{found_for, settled_of, RecordRules, BatchIs};
+ghost use Rattle.standby_batch.specs.Batches.{bound_for, settled_of, RecordRules, BatchIs};
 
 use base_refusals::Refusal;
 use frame::Frame;
@@ -18,8 +19,9 @@ use frame_op::Run;
 use frame_reader::Reader;
 use frame_stamp::Protocol;
 use standby_part::PartResult;
-use standby_row::Lookup;
-use standby_state::{Outcome, Replica, Settings};
+use standby_row::{Bound, Lookup};
+use standby_state::{Outcome, Replica, Standing};
+use store_areas::Store;
 
 // Whether a run of application records is empty.
 fn no_records(frame: &[u8], run: Run) -> bool
@@ -42,11 +44,11 @@ fn is_stale(counters: Replica, batch: Batch) -> bool
     batch.epoch.0 < counters.epoch.0
 }
 
-// Whether the record that was found is the handle's.
-fn is_found(lookup: Lookup, handle: u32) -> bool
-    ensures { result ≡ found_for lookup handle }
+// The record that was found, if it is the handle's.
+fn bound_for(lookup: Lookup, handle: u32) -> Option<Bound>
+    ensures { result ≡ bound_for lookup handle }
 {
-    lookup.at < lookup.len && lookup.bound.handle == handle
+    (lookup.at < lookup.len && lookup.bound.handle == handle).then_some(lookup.bound)
 }
 
 // The answer, and what the row's record becomes.
@@ -60,10 +62,7 @@ fn part_outcome(
     ensures { result ≡ settled_of counters lookup part_result handle number }
 {
     match part_result {
-        PartResult::Refused(refusal) => {
-            let answer = standby_state::refused(refusal.number());
-            standby_state::unchanged(counters, lookup, answer)
-        }
+        PartResult::Refused(refusal) => standby_state::refuse(counters, refusal),
         PartResult::RefusedHolding(refusal, bound) => {
             let answer = standby_state::refused(refusal.number());
             standby_state::stored(counters, lookup, answer, handle, bound)
@@ -84,39 +83,43 @@ pub fn on_batch(
     bytes: &mut [u8],
     area: &mut [u8],
     frame: &[u8],
-    counters: Replica,
-    settings: Settings,
-    lookup: Lookup,
+    standing: Standing,
     batch: Batch,
 ) -> Outcome
-    requires rules { Rules settings.shape words.old bytes.old }
+    requires rules { Rules standing.settings.shape words.old bytes.old }
     requires words_bound { count_of words.old < 64 }
-    requires record_rules { is_found lookup ≡ true → RecordRules lookup words.old area.old }
+    requires record_rules { is_found standing.lookup ≡ true → RecordRules standing.lookup words.old area.old }
     requires has_length { HasLength 1 frame.now batch.ops }
-    ensures { BatchIs settings counters lookup batch.handle batch.epoch.0 batch.commit_no.0 (part_of batch.part) (run_of (read_change 1) frame.now batch.ops) (run_of read_app_record frame.now batch.app_records) words.old words.new bytes.old bytes.new area.old area.new result }
+    ensures { BatchIs standing.settings standing.counters standing.lookup batch.handle batch.epoch.0 batch.commit_no.0 (part_of batch.part) (run_of (read_change 1) frame.now batch.ops) (run_of read_app_record frame.now batch.app_records) words.old words.new bytes.old bytes.new area.old area.new result }
 {
+    let Standing {
+        settings,
+        counters,
+        lookup,
+    } = standing;
     if !no_records(frame, batch.app_records) {
-        let answer = standby_state::refused(Refusal::AppRecords.number());
-        return standby_state::unchanged(counters, lookup, answer);
+        return standby_state::refuse(counters, Refusal::AppRecords);
     }
     let handle = batch.handle;
     if is_stale(counters, batch) {
         let answer = standby_state::nack(handle, NackReason::StaleEpoch as u8);
-        return standby_state::unchanged(counters, lookup, answer);
+        return standby_state::unchanged(counters, answer);
     }
     let protocol = Protocol {
         version: Frame::VERSION,
     };
-    let part_result = standby_batch_handle::on_handle(
-        protocol,
-        standby_changes::run_of(protocol, frame, batch.ops),
+    let changes = standby_changes::run_of(protocol, frame, batch.ops);
+    let mut store = Store {
         words,
         bytes,
+        shape: settings.shape,
+    };
+    let part_result = standby_batch_handle::on_handle(
+        &changes,
+        &mut store,
         area,
-        settings.shape,
         handle,
-        is_found(lookup, handle),
-        lookup.bound,
+        bound_for(lookup, handle),
         batch.commit_no,
         batch.part,
     );

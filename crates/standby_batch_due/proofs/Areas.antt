@@ -1,19 +1,19 @@
 -- The hold areas: where one begins, and that what is written to one is written to all at its place. Assumes nothing.
-use Prim.Native.Nat.{ℕ, zero, suc, ◌+◌, ◌-◌, ◌*◌, ◌/◌, ◌%◌, ◌<◌, ◌≤◌}
+use Prim.Native.Nat.{ℕ, zero, suc, ◌+◌, ◌*◌, ◌/◌, ◌%◌, ◌<◌, ◌≤◌}
 use mathlib.Core.Path.{◌≡◌, refl, sym, ap, ◌∙◌}
 use mathlib.Core.Bool.{Bool, true, false, cond}
 use mathlib.Core.List.{List, [], ◌∷◌, ◌++◌}
 use native.Mathlib.Omega.{arith}
-use native.Mathlib.Nat.{zero-add, suc-add, zero-mul, mul-zero, div-add-mod', mul_comm}
+use native.Mathlib.Nat.{zero-add, suc-add, mul-zero, div-add-mod', mul_comm}
 use lib.ListN.{length, set, take, drop, length-set, take-append-drop}
 use lib.Seq.{sets, set-append_left, length-take-le}
 use lib.Dec.{eqb}
-use borrow.Author.Tests.{eqb-true, eqb-false, ltb-true, ltb-false}
+use borrow.Author.Tests.{eqb-false, ltb-true}
 use borrow.Rule.Slice.PartMut.{mid_of, post_of, put_mid}
 use Rattle.model_frame.specs.Bytes.{write}
 use Rattle.standby_row.specs.declared.Lookup.{Lookup}
 use Rattle.store_areas.proofs.Lists.{inside}
-use Rattle.standby_step.specs.Steps.{room_of, room_in, is_found}
+use Rattle.standby_step.specs.Steps.{room_in, is_found}
 use Rattle.standby_batch_due.specs.DueBatch.{spot_in}
 
 -- ---- where they stand
@@ -40,40 +40,6 @@ within seen l = go (eqb seen.len 0) refl
         positive : (n : ℕ) → (n ≡ 0 → ⊥) → 0 < n
         positive zero off = absurd (off refl)
         positive (suc n) off = omega arith
-
-pub room_none : (bytes places : ℕ) → places ≡ 0 → 0 ≡ room_of bytes places
-room_none bytes places e = sym (go (eqb places 0) refl)
-  where
-    go : (t : Bool) → eqb places 0 ≡ t → cond t 0 (bytes / places) ≡ 0
-    go true f = refl
-    go false f = absurd (eqb-false places 0 f e)
-
-pub room_some : (bytes places : ℕ) → (places ≡ 0 → ⊥) → bytes / places ≡ room_of bytes places
-room_some bytes places off = go (eqb places 0) refl
-  where
-    go : (t : Bool) → eqb places 0 ≡ t → bytes / places ≡ cond t 0 (bytes / places)
-    go true f = absurd (off (eqb-true places 0 f))
-    go false f = refl
-
-pub start_found : (seen : Lookup) (room : ℕ) → seen.at < seen.len → seen.at * room ≡ spot_in seen * room
-start_found seen room less = go (is_found seen) refl
-  where
-    go : (t : Bool) → is_found seen ≡ t → seen.at * room ≡ cond t seen.at 0 * room
-    go true f = refl
-    go false f = absurd (no less (ltb-false seen.at seen.len f))
-      where
-        no : seen.at < seen.len → seen.len ≤ seen.at → ⊥
-        no a b = omega arith
-
-pub start_none : (seen : Lookup) (room : ℕ) → seen.len ≤ seen.at → 0 ≡ spot_in seen * room
-start_none seen room high = go (is_found seen) refl
-  where
-    go : (t : Bool) → is_found seen ≡ t → 0 ≡ cond t seen.at 0 * room
-    go true f = absurd (no (ltb-true seen.at seen.len f) high)
-      where
-        no : seen.at < seen.len → seen.len ≤ seen.at → ⊥
-        no a b = omega arith
-    go false f = sym (zero-mul room)
 
 -- ---- what is written to one
 

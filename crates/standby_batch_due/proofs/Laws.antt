@@ -5,10 +5,10 @@ use mathlib.Core.Bool.{Bool, true, false, cond, not, ◌&&◌, ◌||◌, true≢
 use mathlib.Core.List.{List, [], ◌++◌}
 use mathlib.Core.Option.{Option, none, some}
 use native.Mathlib.Omega.{arith}
-use lib.ListN.{length}
+use lib.ListN.{get_or, length}
 use lib.Dec.{eqb, ltb, leb}
 use borrow.Author.Tests.{eq-eqb, ltb-false, leb-false}
-use borrow.Rule.Slice.PartMut.{mid_of, put_mid, put_same, mid_len}
+use borrow.Rule.Slice.PartMut.{mid_of, put_mid, put_same}
 use Rattle.base_laws.proofs.Lists.{both}
 use Rattle.model_frame.specs.Bytes.{write}
 use Rattle.model_frame.specs.Frame.{Change, AppRecord, commit, whole, last_whole, batch}
@@ -29,17 +29,18 @@ use Rattle.model_standby.specs.State.{Bound, Counters}
 use Rattle.model_standby.specs.State as state
 use Rattle.model_standby.specs.Standby.{follows, starts_with_reset, raised, max_whole, pends_on}
 use Rattle.model_standby.specs.Hold.{HoldWrite, held_bytes, held_passes, writes_at, writes_part, writes_frame}
-use Rattle.model_standby.specs.Core.{leave, store, clear, core_run, core_batch}
+use Rattle.model_standby.specs.Core.{store, core_run, core_batch}
 use Rattle.standby_part.specs.State.{bound_of, record_for, core_at}
 use Rattle.standby_batch_handle.specs.Handling.{found_of}
 use Rattle.standby_counters.specs.declared.Replica.{Replica}
 use Rattle.standby_state.specs.declared.Settings.{Settings}
 use Rattle.standby_state.specs.declared.Outcome.{Outcome}
+use Rattle.standby_state.specs.declared.RowAction.{RowAction}
 use Rattle.standby_state.specs.Answers.{answer_of}
-use Rattle.standby_state.specs.Outcomes.{counters_of, settings_of, area_at, spot_of}
+use Rattle.standby_state.specs.Outcomes.{counters_of, settings_of, area_at, spot_of, clears, stores, action_for, Lands}
 use Rattle.standby_step.specs.Steps.{room_in, is_found, found_in, holds_after}
-use Rattle.standby_batch.specs.Batches.{found_for, RecordRules, hold_area_with, found_at, BatchIs}
-use Rattle.standby_batch_due.specs.DueBatch.{spot_in, RecordRulesIn, due_batch, BatchIn}
+use Rattle.standby_batch.specs.Batches.{put_in, found_for, hold_area_with, found_at, BatchIs}
+use Rattle.standby_batch_due.specs.DueBatch.{spot_in, due_batch, BatchIn}
 use Rattle.standby_batch_due.proofs.Areas.{within, write_part}
 
 -- ---- what is written fits the area
@@ -142,20 +143,23 @@ module _ (s : Settings) (c : Replica) (seen : Lookup) (h e n : ℕ) (part : the_
         go false q = absurd (true≢false (sym (both (is_found seen) _ f).0 ∙ q))
 
     -- what is put is put at the lent area's place
-    own_area : r.stores ≡ true → area_at R r.at l' ≡ area'
-    own_area y =
-        let at : r.at ≡ spot_in seen = g.lands.at_is ∙ ap (λ (t : Bool). cond t (spot_of seen) seen.len) y ∙ at_found (g.stored y) in
-        ap (λ (k : ℕ). area_at R k l') at ∙ part_own A R l area' (within seen l) size
+    own_area : (at : ℕ) → at ≡ spot_in seen → area_at R at l' ≡ area'
+    own_area at e = ap (λ (k : ℕ). area_at R k l') e ∙ part_own A R l area' (within seen l) size
 
-    action_is : cond r.stores (store r.bound.handle (bound_of protocol_version r.bound (area_at R r.at l'))) (cond r.clears clear leave)
-        ≡ cond r.stores (store r.bound.handle (bound_of protocol_version r.bound area')) leave
-    action_is = go r.stores refl
-      where
-        go : (t : Bool) → r.stores ≡ t
-            → cond t (store r.bound.handle (bound_of protocol_version r.bound (area_at R r.at l'))) (cond r.clears clear leave)
-            ≡ cond t (store r.bound.handle (bound_of protocol_version r.bound area')) leave
-        go true y = ap (λ (x : List ℕ). store r.bound.handle (bound_of protocol_version r.bound x)) (own_area y)
-        go false y = ap (λ (t : Bool). cond t clear leave) g.stays
+    action_is : (a : RowAction) → Lands seen (get_or w' 0 0) (length P) area' a → (stores a ≡ true → found_for seen h ≡ true) → clears a ≡ false → action_for protocol_version R l' a ≡ put_in area' a
+    action_is RowAction.Leave n f e = refl
+    action_is RowAction.Clear n f e = absurd (true≢false e)
+    action_is (RowAction.Store at x) n f e = ap (λ (y : List ℕ). store x.handle (bound_of protocol_version x y)) (own_area at (n.at_is ∙ at_found (f refl)))
+
+    lands_in : (a : RowAction) → Lands seen (get_or w' 0 0) (length P) area' a → (stores a ≡ true → found_for seen h ≡ true) → Lands seen (get_or w' 0 0) R (area_at R (spot_of seen) l') a
+    lands_in RowAction.Leave n f = tt
+    lands_in RowAction.Clear n f = tt
+    lands_in (RowAction.Store at x) n f = record {
+      at_is = n.at_is;
+      slot_is = n.slot_is ∙ ap (λ (y : List ℕ). record_for x.handle (bound_of protocol_version x y)) (sym (own_area (spot_of seen) (at_found (f refl))));
+      slot_place = n.slot_place;
+      slot_len = subst (λ (k : ℕ). x.held_len ≤ k) long n.slot_len;
+    }
 
     abbrev O : ℕ → Option Bound → Option HoldWrite
     O room o = writes_frame (settings_of s room) (counters_of c) o (batch h e n part cs apps)
@@ -182,16 +186,9 @@ module _ (s : Settings) (c : Replica) (seen : Lookup) (h e n : ℕ) (part : the_
     pub batch_in : BatchIn s c seen h e n part cs apps w w' b b' l l' r
     batch_in = record {
       is = λ own.
-          (λ j. record { core = core_at (counters_of r.replica) s.shape w' b'; action = action_is j; answer = answer_of b' r.answer }) ∙ g.is
+          (λ j. record { core = core_at (counters_of r.replica) s.shape w' b'; action = action_is r.action g.lands g.stored g.stays j; answer = answer_of b' r.answer }) ∙ g.is
           ∙ (λ j. core_batch (settings_of s (long j)) (ran_is j) (found_is seen h l own j) h e n part cs apps);
-      lands = record {
-        at_is = g.lands.at_is;
-        from_is = g.lands.from_is;
-        one = g.lands.one;
-        slot_is = λ y. g.lands.slot_is y ∙ ap (λ (x : List ℕ). record_for r.bound.handle (bound_of protocol_version r.bound x)) (sym (own_area y));
-        slot_place = g.lands.slot_place;
-        slot_len = λ y. subst (λ (k : ℕ). r.bound.held_len ≤ k) long (g.lands.slot_len y);
-      };
+      lands = lands_in r.action g.lands g.stored;
       rules = g.rules;
       used = g.used ∙ ran.used;
       leaves = record {
@@ -214,9 +211,17 @@ module _ (s : Settings) (c : Replica) (seen : Lookup) (h e n : ℕ) (part : the_
   goes : (w' b' area' : List ℕ) (r : Outcome) → Goes w' b' area' r R A
   goes w' b' area' r size g = batch_in size (subst (λ (x : List ℕ). BatchIs s c seen h e n part cs apps w1 w' b b' x area' r) (part_lent A R l area' (within seen l) size) g)
 
-  pub batch_at : (w' b' area' : List ℕ) (r : Outcome) {room lo : ℕ} → room ≡ R → lo ≡ spot_in seen * room → Goes w' b' area' r room lo
+  batch_at : (w' b' area' : List ℕ) (r : Outcome) {room lo : ℕ} → room ≡ R → lo ≡ spot_in seen * room → Goes w' b' area' r room lo
   batch_at w' b' area' r {room} {lo} p q =
       subst (λ (k : ℕ). (x : ℕ) → x ≡ spot_in seen * k → Goes w' b' area' r k x) (sym p) (λ x f. subst (Goes w' b' area' r R) (sym f) (goes w' b' area' r)) lo q
+
+  -- over the areas as they were handed back once the commits had run
+  pub batch_given : (w' b' area' : List ℕ) (r : Outcome) {room lo : ℕ} {w₀ b₀ : List ℕ} → room ≡ R → lo ≡ spot_in seen * room → length area' ≡ length (mid_of lo (lo + room - lo) l)
+      → BatchIs s c seen h e n part cs apps w₀ w' b₀ b' (mid_of lo (lo + room - lo) l) area' r → w₀ ≡ w1 → b₀ ≡ b → BatchIn s c seen h e n part cs apps w w' b b' l (put_mid lo (lo + room - lo) l area') r
+  batch_given w' b' area' r {room} {lo} {w₀} {b₀} p q size g words bytes =
+      batch_at w' b' area' r p q size
+      (subst (λ (x : List ℕ). BatchIs s c seen h e n part cs apps x w' b b' (mid_of lo (lo + room - lo) l) area' r) words
+      (subst (λ (x : List ℕ). BatchIs s c seen h e n part cs apps w₀ w' x b' (mid_of lo (lo + room - lo) l) area' r) bytes g))
 
 -- ---- what the Batch asks
 
@@ -235,13 +240,3 @@ few_left s h w b {w1} {due} r due_is ran =
     go false d is =
         let few : length (pending_of w) < 64 = leb-false 64 (length (pending_of w)) (less (leb 64 (length (pending_of w))) (pends_on h (pending_of w)) (sym is ∙ d)) in
         subst (λ (k : ℕ). k < 64) (sym (ap length (ran.pending ∙ ap (λ (t : Bool). cond t [] (pending_of w)) d))) few
-
-pub kept_in : (s : _) (seen : Lookup) (w b l : List ℕ) {w1 : List ℕ} {due : Bool} {room lo : ℕ} → RanIf due s b w w1 → room ≡ room_in seen l → lo ≡ spot_in seen * room → lo + room ≤ length l → (is_found seen ≡ true → RecordRulesIn seen w l) → is_found seen ≡ true
-    → RecordRules seen w1 (mid_of lo (lo + room - lo) l)
-kept_in s seen w b l {room = room} {lo = lo} ran p q fits holds f = record {
-  place_used = subst (λ (k : ℕ). seen.bound.place < k) (sym ran.used) (holds f).place_used;
-  held_within = subst (λ (k : ℕ). seen.bound.held_len ≤ k) (sym (mid_len lo (lo + room) l fits ∙ back lo room ∙ p)) (holds f).held_within;
-}
-  where
-    back : (a k : ℕ) → a + k - a ≡ k
-    back a k = omega arith

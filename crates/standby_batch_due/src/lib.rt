@@ -1,4 +1,5 @@
 // A Batch among the hold areas of the row's places: due commits run first (standby.rs, on_frame_held).
+// The areas come apart: of a struct with a store and hold areas it isn't found what these are at the end.
 #![tactic(auto)]
 
 ghost use Rattle.std.specs.Prelude.{◌≡◌, true, cond, ◌+◌, ◌*◌, ◌≤◌, length};
@@ -11,16 +12,14 @@ ghost use Rattle.standby_batch_due.specs.DueBatch.{spot_in, RecordRulesIn, Batch
 
 use frame_fields::Batch;
 use standby_row::Lookup;
-use standby_state::{Outcome, Replica, Settings};
+use standby_state::{Outcome, Standing};
+use store_areas::Store;
 
 // The length of each hold area: the bytes are divided evenly among the row's places.
 pub fn room_of(holds: &[u8], places: usize) -> usize
     ensures { result ≡ room_of (length holds.now) places }
 {
-    if places == 0 {
-        return 0;
-    }
-    holds.len() / places
+    holds.len().checked_div(places).unwrap_or(0)
 }
 
 // Where the hold area of the record found begins; that of none begins at 0.
@@ -29,9 +28,10 @@ fn area_start(lookup: Lookup, room: usize, len: usize) -> usize
     ensures { result ≡ spot_in lookup * room }
 {
     if lookup.at < lookup.len {
-        return lookup.at * room;
+        lookup.at * room
+    } else {
+        0
     }
-    0
 }
 
 pub fn run_due_then_batch(
@@ -39,30 +39,28 @@ pub fn run_due_then_batch(
     bytes: &mut [u8],
     holds: &mut [u8],
     frame: &[u8],
-    counters: Replica,
-    settings: Settings,
-    lookup: Lookup,
+    standing: Standing,
     batch: Batch,
 ) -> Outcome
-    requires rules { Rules settings.shape words.old bytes.old }
-    requires record_rules_in { is_found lookup ≡ true → RecordRulesIn lookup words.old holds.old }
+    requires rules { Rules standing.settings.shape words.old bytes.old }
+    requires record_rules_in { is_found standing.lookup ≡ true → RecordRulesIn standing.lookup words.old holds.old }
     requires has_length { HasLength 1 frame.now batch.ops }
-    ensures { BatchIn settings counters lookup batch.handle batch.epoch.0 batch.commit_no.0 (part_of batch.part) (run_of (read_change 1) frame.now batch.ops) (run_of read_app_record frame.now batch.app_records) words.old words.new bytes.old bytes.new holds.old holds.new result }
+    ensures { BatchIn standing.settings standing.counters standing.lookup batch.handle batch.epoch.0 batch.commit_no.0 (part_of batch.part) (run_of (read_change 1) frame.now batch.ops) (run_of read_app_record frame.now batch.app_records) words.old words.new bytes.old bytes.new holds.old holds.new result }
 {
-    let shape = settings.shape;
+    let Standing {
+        settings,
+        lookup,
+        ..
+    } = standing;
     let due = standby_pending_run::is_due_batch(words, batch.handle);
-    standby_pending_run::run_if(words, bytes, shape, due);
+    let mut store = Store {
+        words,
+        bytes,
+        shape: settings.shape,
+    };
+    standby_pending_run::run_if(&mut store, due);
     let room = room_of(holds, lookup.len);
     let lo = area_start(lookup, room, holds.len());
     let hi = lo + room;
-    standby_batch::on_batch(
-        words,
-        bytes,
-        &mut holds[lo..hi],
-        frame,
-        counters,
-        settings,
-        lookup,
-        batch,
-    )
+    standby_batch::on_batch(words, bytes, &mut holds[lo..hi], frame, standing, batch)
 }

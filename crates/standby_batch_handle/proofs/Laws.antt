@@ -2,6 +2,8 @@
 use mathlib.Core.Path.{◌≡◌, refl, sym, ap, subst, ◌∙◌}
 use mathlib.Core.Bool.{Bool, true, false, cond}
 use mathlib.Core.List.{List, []}
+use mathlib.Core.Option.{some}
+use Rattle.std.specs.Prelude.{Some, None}
 use Prim.Native.Nat.{ℕ}
 use native.Mathlib.Omega.{arith}
 use lib.ListN.{length, take}
@@ -22,49 +24,43 @@ use Rattle.model_standby.specs.Core.{store, core_says, core_part, core_handle}
 use Rattle.standby_part.specs.declared.PartResult.{PartResult}
 use Rattle.standby_part.specs.State.{bound_of, core_at, settings_for, holding_to}
 use Rattle.standby_part.specs.Part.{is_accepted, result_of, PartIs}
-use Rattle.standby_batch_handle.specs.Handling.{follows_of, found_of, HandleIs}
+use Rattle.standby_batch_handle.specs.Handling.{follows_of, HandleIs}
 
-module _ (version : ℕ) (s : Shape) (handle : ℕ) (h : Bound) (n : ℕ) (part : the_frame.Part) (cs : List Change) (w b area : List ℕ) (r : Rules s w b) where
-  pub unbound : {found : Bool} → found ≡ false → HandleIs version s handle found h n part cs w w b b area area (PartResult.Refused Refusal.Unbound)
+module _ (version : ℕ) (s : Shape) (handle n : ℕ) (part : the_frame.Part) (cs : List Change) (w b area : List ℕ) where
+  pub unbound : Rules s w b → HandleIs version s handle None n part cs w w b b area area (PartResult.Refused Refusal.Unbound)
   unfolding core_handle
-  unbound {found} e = record {
-    is = λ c incarnation lag.
-        sym (ap (λ (f : Bool). core_handle (settings_for s (length area) incarnation lag) (core_at c s w b) handle (found_of version f h area) n part cs) e);
-    rules = r;
-    store_after = none_changed s handle h.place part w b refl;
-    slot = tt;
-  }
+  unbound r = record { is = λ c incarnation lag. refl; rules = r; store_after = (refl, refl); slot = refl }
 
-  -- bound, and past the commit number
-  bound_part : {found : Bool} → found ≡ true → (c : Counters) (incarnation lag : ℕ)
-      → core_handle (settings_for s (length area) incarnation lag) (core_at c s w b) handle (found_of version found h area) n part cs
-      ≡ cond (follows_of h n) (core_part (settings_for s (length area) incarnation lag) (core_at c s w b) handle (bound_of version h area) n part cs) (core_says (core_at c s w b) (store handle (none_held (bound_of version h area))) (nack handle diverged))
-  unfolding core_handle
-  bound_part e c incarnation lag = ap (λ (f : Bool). core_handle (settings_for s (length area) incarnation lag) (core_at c s w b) handle (found_of version f h area) n part cs) e
+  module _ (h : Bound) where
+    -- bound, and past the commit number
+    bound_part : (c : Counters) (incarnation lag : ℕ)
+        → core_handle (settings_for s (length area) incarnation lag) (core_at c s w b) handle (some (bound_of version h area)) n part cs
+        ≡ cond (follows_of h n) (core_part (settings_for s (length area) incarnation lag) (core_at c s w b) handle (bound_of version h area) n part cs) (core_says (core_at c s w b) (store handle (none_held (bound_of version h area))) (nack handle diverged))
+    unfolding core_handle
+    bound_part c incarnation lag = refl
 
-  nothing : held_run version (take 0 area) ≡ []
-  nothing = held_none version [] (omega arith)
+    nothing : held_run version (take 0 area) ≡ []
+    nothing = held_none version [] (omega arith)
 
-  pub off_number : {found next : Bool} → found ≡ true → next ≡ follows_of h n → next ≡ false
-      → HandleIs version s handle found h n part cs w w b b area area (PartResult.Diverged (holding_to h h.commit_no 0 0))
-  off_number e f off = record {
-    is = λ c incarnation lag.
-        (λ j. record { core = core_at c s w b; action = store handle (record { place = h.place; number = h.commit_no.0; held = nothing j; bytes = 0 }); answer = reply (nack handle diverged) })
-        ∙ sym (bound_part e c incarnation lag
-        ∙ ap (λ (t : Bool). cond t (core_part (settings_for s (length area) incarnation lag) (core_at c s w b) handle (bound_of version h area) n part cs) (core_says (core_at c s w b) (store handle (none_held (bound_of version h area))) (nack handle diverged))) (sym f ∙ off));
-    rules = r;
-    store_after = none_changed s handle h.place part w b refl;
-    slot = record { place = refl; len = λ _. omega arith; held = sym (ap sizes nothing) };
-  }
+    pub off_number : {next : Bool} → Rules s w b → next ≡ follows_of h n → next ≡ false → HandleIs version s handle (Some h) n part cs w w b b area area (PartResult.Diverged (holding_to h h.commit_no 0 0))
+    off_number r f off = record {
+      is = λ c incarnation lag.
+          (λ j. record { core = core_at c s w b; action = store handle (record { place = h.place; number = h.commit_no.0; held = nothing j; bytes = 0 }); answer = reply (nack handle diverged) })
+          ∙ sym (bound_part c incarnation lag
+          ∙ ap (λ (t : Bool). cond t (core_part (settings_for s (length area) incarnation lag) (core_at c s w b) handle (bound_of version h area) n part cs) (core_says (core_at c s w b) (store handle (none_held (bound_of version h area))) (nack handle diverged))) (sym f ∙ off));
+      rules = r;
+      store_after = none_changed s handle h.place part w b refl;
+      slot = record { place = refl; len = λ _. omega arith; held = sym (ap sizes nothing) };
+    }
 
-  pub by_part : {found next : Bool} {w' b' area' : List ℕ} {d : PartResult} → found ≡ true → next ≡ follows_of h n → next ≡ true → h.handle ≡ handle
-      → PartIs version s h n part cs w w' b b' area area' d → HandleIs version s handle found h n part cs w w' b b' area area' d
-  by_part {w' = w'} {b' = b'} {area' = area'} {d = d} e f on own p = record {
-    is = λ c incarnation lag.
-        subst (λ (k : ℕ). result_of version k n area' d (core_at c s w' b') ≡ core_part (settings_for s (length area) incarnation lag) (core_at c s w b) k (bound_of version h area) n part cs) own (p.is c incarnation lag)
-        ∙ sym (bound_part e c incarnation lag
-        ∙ ap (λ (t : Bool). cond t (core_part (settings_for s (length area) incarnation lag) (core_at c s w b) handle (bound_of version h area) n part cs) (core_says (core_at c s w b) (store handle (none_held (bound_of version h area))) (nack handle diverged))) (sym f ∙ on));
-    rules = p.rules;
-    store_after = subst (λ (k : ℕ). StoreAfter s (batch_change k h.place part (is_accepted d)) w w' b b') own p.store_after;
-    slot = p.slot;
-  }
+    pub by_part : {next : Bool} {w' b' area' : List ℕ} {d : PartResult} → next ≡ follows_of h n → next ≡ true → h.handle ≡ handle
+        → PartIs version s h n part cs w w' b b' area area' d → HandleIs version s handle (Some h) n part cs w w' b b' area area' d
+    by_part {w' = w'} {b' = b'} {area' = area'} {d = d} f on own p = record {
+      is = λ c incarnation lag.
+          subst (λ (k : ℕ). result_of version k n area' d (core_at c s w' b') ≡ core_part (settings_for s (length area) incarnation lag) (core_at c s w b) k (bound_of version h area) n part cs) own (p.is c incarnation lag)
+          ∙ sym (bound_part c incarnation lag
+          ∙ ap (λ (t : Bool). cond t (core_part (settings_for s (length area) incarnation lag) (core_at c s w b) handle (bound_of version h area) n part cs) (core_says (core_at c s w b) (store handle (none_held (bound_of version h area))) (nack handle diverged))) (sym f ∙ on));
+      rules = p.rules;
+      store_after = subst (λ (k : ℕ). StoreAfter s (batch_change k h.place part (is_accepted d)) w w' b b') own p.store_after;
+      slot = p.slot;
+    }

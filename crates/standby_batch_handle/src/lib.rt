@@ -1,21 +1,20 @@
 // A Batch on the handle that it names (standby.rs, on_batch): 14 unbound, Nack Diverged for the number, else its part.
 #![tactic(auto)]
 
-ghost use Rattle.std.specs.Prelude.{◌≡◌, true, ◌<◌, length};
+ghost use Rattle.std.specs.Prelude.{◌≡◌, ◌<◌, IfSome};
 ghost use Rattle.frame_op.specs.Answers.{held_run};
 ghost use Rattle.frame_fields.specs.Answers.{part_of};
-ghost use Rattle.standby_changes.specs.Held.{TakesAll};
-ghost use Rattle.store_areas.specs.Areas.{Rules};
+ghost use Rattle.store_areas.specs.Same.{SameAreas};
 ghost use Rattle.standby_pending.specs.Pending.{count_of};
 ghost use Rattle.standby_batch_handle.specs.Handling.{follows_of, Sound, hold_area_after, HandleIs};
 ghost use Rattle.standby_part.specs.Part.{part_refusal};
 
 use base_refusals::Refusal;
 use frame_fields::{CommitNumber, Part};
-use frame_stamp::Protocol;
+use standby_changes::AllChanges;
 use standby_part::PartResult;
 use standby_row::Bound;
-use store_areas::Shape;
+use store_areas::Store;
 
 // Whether a commit number follows the handle's: none follows the last one.
 fn is_next(bound: Bound, number: CommitNumber) -> bool
@@ -24,29 +23,25 @@ fn is_next(bound: Bound, number: CommitNumber) -> bool
     bound.commit_no.0.checked_add(1) == Some(number.0)
 }
 
+// Room for one commit more is asked for here and where one is pushed, since a store also stands when there is none.
 pub fn on_handle(
-    protocol: Protocol,
-    run: &[u8],
-    words: &mut [u64],
-    bytes: &mut [u8],
+    changes: &AllChanges,
+    store: &mut Store,
     area: &mut [u8],
-    shape: Shape,
     handle: u32,
-    found: bool,
-    bound: Bound,
+    bound: Option<Bound>,
     number: CommitNumber,
     part: Part,
 ) -> PartResult
-    requires rules { Rules shape words.old bytes.old }
-    requires words_bound { count_of words.old < 64 }
-    requires takes_all { TakesAll protocol.version run.now }
-    requires sound { found ≡ true → Sound handle bound words.old area.old }
-    ensures is { HandleIs protocol.version shape handle found bound number.0 (part_of part) (held_run protocol.version run.now) words.old words.new bytes.old bytes.new area.old area.new result }
-    ensures area { area.new ≡ hold_area_after protocol.version found bound number.0 (part_of part) run.now area.old (part_refusal result) }
+    requires words_bound { count_of store.old.words.now < 64 }
+    requires sound { IfSome bound (λ h. Sound handle h store.old.words.now area.old) }
+    ensures is { HandleIs changes.now.changes.protocol.version store.old.shape handle bound number.0 (part_of part) (held_run changes.now.changes.protocol.version changes.now.changes.run.now) store.old.words.now store.new.words.now store.old.bytes.now store.new.bytes.now area.old area.new result }
+    ensures area { area.new ≡ hold_area_after changes.now.changes.protocol.version bound number.0 (part_of part) changes.now.changes.run.now area.old (part_refusal result) }
+    ensures same { SameAreas store.old store.new }
 {
-    if !found {
+    let Some(bound) = bound else {
         return PartResult::Refused(Refusal::Unbound);
-    }
+    };
     if !is_next(bound, number) {
         return PartResult::Diverged(Bound {
             held_len: 0,
@@ -55,12 +50,8 @@ pub fn on_handle(
         });
     }
     match part {
-        Part::Commit => standby_part::on_commit(
-            protocol, run, words, bytes, area, shape, bound, number,
-        ),
-        Part::Whole => standby_part::on_whole(protocol, run, area, bound, number),
-        Part::LastWhole => standby_part::on_last_whole(
-            protocol, run, words, bytes, area, shape, bound, number,
-        ),
+        Part::Commit => standby_part::on_commit(&changes.changes, store, area, bound, number),
+        Part::Whole => standby_part::on_whole(changes, area, bound, number),
+        Part::LastWhole => standby_part::on_last_whole(changes, store, area, bound, number),
     }
 }

@@ -9,11 +9,8 @@ use native.Mathlib.Omega.{arith}
 use lib.ListN.{length, get_or, set, take, drop, get_elem?, length-set, length-take}
 use lib.Seq.{take-take, drop-set-lt, get_or-set_same, get_or-set_other}
 use lib.Dec.{ltb}
-use borrow.Author.Tests.{lt-ltb, le-ltb, ltb-true, not-true, not-false}
-use Rattle.base_flags.specs.Flag.{is_set}
+use borrow.Author.Tests.{lt-ltb, le-ltb}
 use Rattle.model_frame.specs.Frame.{Key, bound, nack, stale_epoch, lag_too_great}
-use Rattle.model_frame.specs.Frame as the_frame
-use Rattle.model_frame.specs.Writing.{flight_number}
 use Rattle.model_session.specs.Session.{Session}
 use Rattle.model_session.specs.Summary.{summary}
 use Rattle.model_session.proofs.Basics.{some_inj}
@@ -22,17 +19,12 @@ use Rattle.model_standby.specs.Answer.{reply, accepted}
 use Rattle.model_standby.specs.State.{new_bound}
 use Rattle.model_standby.specs.Core.{Core, CoreResult, leave, store, core_says, core_refuse, core_bind}
 use Rattle.model_standby.proofs.Places.{place_low}
-use Rattle.frame_reader.specs.Answers.{span_of}
-use Rattle.frame_fields.specs.declared.SessionId.{SessionId}
-use Rattle.frame_fields.specs.declared.Summary.{Summary}
-use Rattle.frame_fields.specs.Answers.{key_of, flight_of, summary_of}
 use Rattle.frame_op.specs.Answers.{held_run}
-use Rattle.store_place.specs.Place.{key_from}
 use Rattle.store_areas.specs.declared.Shape.{Shape}
 use Rattle.store_areas.specs.Areas.{place_words, words_at, Rules, place_at, places_of}
 use Rattle.store_areas.proofs.Lists.{word_kept}
 use Rattle.store_areas.proofs.Lifting.{places_length, place_is, session_is}
-use Rattle.store_sessions.specs.Answers.{Opened, TextsIn}
+use Rattle.store_sessions.specs.Answers.{Opened}
 use Rattle.store_sessions.proofs.Opening.{opened_rules}
 use Rattle.model_frame.specs.Sizes.{sizes}
 use Rattle.standby_changes.proofs.Held.{held_none}
@@ -48,75 +40,10 @@ use Rattle.standby_state.specs.declared.BoundSummary.{BoundSummary}
 use Rattle.standby_state.specs.declared.Answer.{Answer}
 use Rattle.standby_state.specs.declared.Outcome.{Outcome}
 use Rattle.standby_state.specs.Answers.{answer_of, brief_of, is_refused, is_nack, is_bound}
-use Rattle.standby_state.specs.Exact.{flight_flag, Exact, ExactSummary}
+use Rattle.standby_state.specs.Exact.{Exact, ExactSummary}
 use Rattle.standby_state.proofs.Exact.{exact_refused, exact_nack, exact_bound}
-use Rattle.standby_state.specs.Outcomes.{counters_of, settings_of, area_at, leaving, storing}
-use Rattle.standby_hello.proofs.Laws.{leaving_lands}
+use Rattle.standby_state.specs.Outcomes.{counters_of, settings_of, area_at, spot_of, leaving, storing}
 use Rattle.standby_bind.specs.Binding.{new_handle, room_for, BindOpens, BindIs}
-
--- ---- what a Bound says
-
-flown : (o : Option ℕ) → cond (is_set (flight_flag o)) (some (flight_number o)) none ≡ o
-flown none = refl
-flown (some n) = refl
-
-module _ (b : List ℕ) (m : Summary) {flies f : ℕ} (e₁ : flies ≡ flight_flag (flight_of m.in_flight)) (e₂ : f ≡ flight_number (flight_of m.in_flight)) where
-  abbrev Says : BoundSummary
-  Says =
-      record {
-        next_outgoing = m.next_outgoing;
-        next_incoming = m.next_incoming;
-        has_in_flight = flies;
-        in_flight = f;
-        created_at = m.created_at;
-        marks = m.marks;
-        last_outgoing = m.last_outgoing;
-      }
-
-  flight : cond (is_set flies) (some f) none ≡ flight_of m.in_flight
-  flight = (λ k. cond (is_set (e₁ k)) (some (e₂ k)) none) ∙ flown (flight_of m.in_flight)
-
-  pub brief_is : {x : the_frame.Summary} → summary_of b m ≡ x → brief_of b Says ≡ x
-  brief_is is =
-      (λ j. record {
-        next_out = m.next_outgoing;
-        next_in = m.next_incoming;
-        in_flight = flight j;
-        stamp_text = span_of b m.created_at;
-        marks_text = span_of b m.marks;
-        last_outgoing = m.last_outgoing;
-      })
-      ∙ is
-
-  pub brief_exact : TextsIn b m → ExactSummary b Says
-  brief_exact t =
-      record {
-        is =
-            (λ j. record {
-              next_outgoing = m.next_outgoing;
-              next_incoming = m.next_incoming;
-              has_in_flight = (e₁ ∙ sym (ap flight_flag flight)) j;
-              in_flight = (e₂ ∙ sym (ap flight_number flight)) j;
-              created_at = m.created_at;
-              marks = m.marks;
-              last_outgoing = m.last_outgoing;
-            });
-        stamp = t.stamp;
-        marks = t.marks;
-      }
-
--- ---- keys
-
-pub short_as : {l m : List ℕ} → l ≡ m → length m ≤ 32 → length l ≤ 32
-short_as e h = subst (λ (x : List ℕ). length x ≤ 32) (sym e) h
-
--- four texts of a frame
-module _ (f : List ℕ) (k : SessionId) {x₁ x₂ x₃ x₄ : List ℕ} (e₁ : x₁ ≡ span_of f k.begin_string) (e₂ : x₂ ≡ span_of f k.sender_comp_id) (e₃ : x₃ ≡ span_of f k.target_comp_id) (e₄ : x₄ ≡ span_of f k.key_suffix) where
-  pub key_is : key_from x₁ x₂ x₃ x₄ ≡ key_of f k
-  key_is = λ j. key_from (e₁ j) (e₂ j) (e₃ j) (e₄ j)
-
-  pub placed : (s : Shape) (w b : List ℕ) {i : ℕ} → i ≡ place_of (key_from x₁ x₂ x₃ x₄) (places_of s w b) → i ≡ place_of (key_of f k) (places_of s w b)
-  placed s w b e = e ∙ ap (λ (x : Key). place_of x (places_of s w b)) key_is
 
 -- ---- opening
 
@@ -186,10 +113,6 @@ module _ (s : Shape) (k : Key) (w b : List ℕ) (r : Rules s w b) (place : ℕ) 
             (subst (λ (i : ℕ). Touched s i (opened_words w) w' b b') (sym at) (record { words = o.words; bytes = o.bytes }));
       }
 
--- a new key is opened only where a place is free
-pub free_there : (place used places : ℕ) {t : Bool} → t ≡ (ltb place used || ltb used places) → t ≡ true → used ≤ place → used < places
-free_there place used places e h high = ltb-true used places (ap (λ (x : Bool). x || ltb used places) (sym (le-ltb place used high)) ∙ sym e ∙ h)
-
 -- ---- each way through
 
 module _ (s : Settings) (c : Replica) (seen : Lookup) (h e lag : ℕ) (k : Key) (w b : List ℕ) (r : Rules s.shape w b) where
@@ -213,17 +136,17 @@ module _ (s : Settings) (c : Replica) (seen : Lookup) (h e lag : ℕ) (k : Key) 
   unfolding core_bind
   tests room = refl
 
-  as_left : {o : Outcome} {a x : Answer} → o ≡ leaving c seen a → a ≡ x → accepted (answer_of b x) ≡ false → Exact b x → ((room : ℕ) → record { core = At; action = leave; answer = answer_of b x } ≡ Bind room) → BindIs s c seen h e lag k w w b b o
-  as_left {x = x} e₁ e₂ off is-exact is = subst (BindIs s c seen h e lag k w w b b) (sym (e₁ ∙ ap (leaving c seen) e₂)) (record {
+  as_left : {o : Outcome} {a x : Answer} → o ≡ leaving c a → a ≡ x → accepted (answer_of b x) ≡ false → Exact b x → ((room : ℕ) → record { core = At; action = leave; answer = answer_of b x } ≡ Bind room) → BindIs s c seen h e lag k w w b b o
+  as_left {x = x} e₁ e₂ off is-exact is = subst (BindIs s c seen h e lag k w w b b) (sym (e₁ ∙ ap (leaving c) e₂)) (record {
     is = λ version room holds. is room;
-    lands = λ room area. leaving_lands c seen x (get_or w 0 0) room;
+    lands = λ room area. tt;
     rules = r;
     more = omega arith;
     store_after = subst (λ (t : Bool). StoreAfter s.shape (cond (t && not (is_stored k places)) (opens (place_of k places)) stays) w w b b) (sym off) (refl, refl);
     exact = is-exact;
   })
 
-  pub stale : {o : Outcome} {a : Answer} → e < c.epoch.0 → o ≡ leaving c seen a → a ≡ is_nack h 1 → BindIs s c seen h e lag k w w b b o
+  pub stale : {o : Outcome} {a : Answer} → e < c.epoch.0 → o ≡ leaving c a → a ≡ is_nack h 1 → BindIs s c seen h e lag k w w b b o
   stale less e₁ e₂ =
       as_left e₁ e₂ refl (exact_nack b h stale_epoch) (λ room. sym (tests room ∙ ap (λ (t : Bool). Tests t (ltb s.max_lag lag) (is_stored k places || ltb (length places) s.shape.places) (room_for seen)) (lt-ltb e c.epoch.0 less)))
 
@@ -232,7 +155,7 @@ module _ (s : Settings) (c : Replica) (seen : Lookup) (h e lag : ℕ) (k : Key) 
     first : (room : ℕ) → Bind room ≡ Tests false (ltb s.max_lag lag) (is_stored k places || ltb (length places) s.shape.places) (room_for seen)
     first room = tests room ∙ ap (λ (t : Bool). Tests t (ltb s.max_lag lag) (is_stored k places || ltb (length places) s.shape.places) (room_for seen)) (le-ltb e c.epoch.0 high)
 
-    pub lagging : {o : Outcome} {a : Answer} → s.max_lag < lag → o ≡ leaving c seen a → a ≡ is_nack h 3 → BindIs s c seen h e lag k w w b b o
+    pub lagging : {o : Outcome} {a : Answer} → s.max_lag < lag → o ≡ leaving c a → a ≡ is_nack h 3 → BindIs s c seen h e lag k w w b b o
     lagging great e₁ e₂ =
         as_left e₁ e₂ refl (exact_nack b h lag_too_great) (λ room. sym (first room ∙ ap (λ (t : Bool). Tests false t (is_stored k places || ltb (length places) s.shape.places) (room_for seen)) (lt-ltb s.max_lag lag great)))
 
@@ -248,23 +171,23 @@ module _ (s : Settings) (c : Replica) (seen : Lookup) (h e lag : ℕ) (k : Key) 
           first room
           ∙ (λ j. Tests false (le-ltb s.max_lag lag small j) (sym same j) (room_for seen))
 
-      pub all_places : {o : Outcome} {a : Answer} → not has ≡ true → o ≡ leaving c seen a → a ≡ is_refused 20 → BindIs s c seen h e lag k w w b b o
-      all_places full e₁ e₂ = as_left e₁ e₂ refl (exact_refused b 20) (λ room. sym (second room ∙ ap (λ (t : Bool). Tests false false t (room_for seen)) (not-true has full)))
+      pub all_places : {o : Outcome} → has ≡ false → o ≡ leaving c (is_refused 20) → BindIs s c seen h e lag k w w b b o
+      all_places full e = as_left e refl refl (exact_refused b 20) (λ room. sym (second room ∙ ap (λ (t : Bool). Tests false false t (room_for seen)) full))
 
       -- and with a session place
-      module _ (some-place : not has ≡ false) {free : Bool} (fits : free ≡ room_for seen) where
+      module _ (some-place : has ≡ true) {free : Bool} (fits : free ≡ room_for seen) where
         third : (room : ℕ) → Bind room ≡ Tests false false true free
-        third room = second room ∙ (λ j. Tests false false (not-false has some-place j) (sym fits j))
+        third room = second room ∙ (λ j. Tests false false (some-place j) (sym fits j))
 
-        pub all_handles : {o : Outcome} {a : Answer} → not free ≡ true → o ≡ leaving c seen a → a ≡ is_refused 21 → BindIs s c seen h e lag k w w b b o
-        all_handles full e₁ e₂ = as_left e₁ e₂ refl (exact_refused b 21) (λ room. sym (third room ∙ ap (Tests false false true) (not-true free full)))
+        pub all_handles : {o : Outcome} → free ≡ false → o ≡ leaving c (is_refused 21) → BindIs s c seen h e lag k w w b b o
+        all_handles full e = as_left e refl refl (exact_refused b 21) (λ room. sym (third room ∙ ap (Tests false false true) full))
 
-        pub binds : {w' b' : List ℕ} {o : Outcome} {a : Answer} {m : BoundSummary} {g : Bound} → not free ≡ false → BindOpens s.shape k w w' b b'
+        pub binds : {w' b' : List ℕ} {o : Outcome} {a : Answer} {m : BoundSummary} {g : Bound} → free ≡ true → BindOpens s.shape k w w' b b'
             → ExactSummary b' m → brief_of b' m ≡ summary (place_at s.shape w' b' place).stored.session lag → a ≡ is_bound h m → g ≡ new_handle h place → o ≡ storing c seen a h g → BindIs s c seen h e lag k w w' b b' o
         binds {w'} {b'} {m = m} has_room op is-exact brief e₁ e₂ e₃ =
             subst (BindIs s c seen h e lag k w w' b b') (sym (e₃ ∙ (λ j. storing c seen (e₁ j) h (e₂ j)))) (record {
               is = λ version room holds.
-                  let area : List ℕ = area_at room (storing c seen (is_bound h m) h (new_handle h place)).at holds in
+                  let area : List ℕ = area_at room (spot_of seen) holds in
                   let held : held_run version (take 0 area) ≡ [] = held_none version (take 0 area) (omega (arith, length-take 0 area)) in
                   let says : brief_of b' m ≡ summary (or_new (session_at places (place_of k places))) lag =
                   brief ∙ ap (λ (i : ℕ). summary (place_at s.shape w' b' i).stored.session lag) at ∙ ap (λ (x : Session). summary x lag) op.session in
@@ -273,17 +196,19 @@ module _ (s : Settings) (c : Replica) (seen : Lookup) (h e lag : ℕ) (k : Key) 
                     action = store h (record { place = at j; number = 0; held = held j; bytes = 0 });
                     answer = reply (bound h (says j));
                   })
-                  ∙ sym (third room ∙ ap (Tests false false true) (not-false free has_room));
+                  ∙ sym (third room ∙ ap (Tests false false true) has_room);
               lands = λ room area. record {
                 at_is = refl;
-                from_is = refl;
-                one = λ _. refl;
-                slot_is = λ _. (λ j. record { used = 1; handle = h; place = place; commit_no = record { 0 = 0 }; held_len = sym (ap sizes (held_none 1 (take 0 area) (omega (arith, length-take 0 area)))) j; held_bytes = 0 });
-                slot_place = λ _. subst (λ (i : ℕ). i < get_or w' 0 0) (sym at) op.there;
-                slot_len = λ _. omega arith;
+                slot_is = (λ j. record { used = 1; handle = h; place = place; commit_no = record { 0 = 0 }; held_len = sym (ap sizes (held_none 1 (take 0 area) (omega (arith, length-take 0 area)))) j; held_bytes = 0 });
+                slot_place = subst (λ (i : ℕ). i < get_or w' 0 0) (sym at) op.there;
+                slot_len = omega arith;
               };
               rules = op.rules;
               more = op.more;
               store_after = op.store_after;
               exact = exact_bound b' h m is-exact;
             })
+
+  -- of the store as it was handed back
+  pub binds_in : {w₁ b₁ w' b' : List ℕ} {o : Outcome} → BindIs s c seen h e lag k w w₁ b b₁ o → w' ≡ w₁ → b' ≡ b₁ → BindIs s c seen h e lag k w w' b b' o
+  binds_in {w₁} {b₁} {w'} {b'} {o} is words bytes = subst (λ (x : List ℕ). BindIs s c seen h e lag k w x b b' o) (sym words) (subst (λ (x : List ℕ). BindIs s c seen h e lag k w w₁ b x o) (sym bytes) is)

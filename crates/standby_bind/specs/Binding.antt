@@ -47,7 +47,7 @@ pub record BindOpens (s : Shape) (k : Key) (w w' b b' : List ℕ) : Type 0 where
 -- equal to the definition, whatever the hold areas
 pub record BindIs (s : Settings) (c : Replica) (seen : Lookup) (h e lag : ℕ) (k : Key) (w w' b b' : List ℕ) (r : Outcome) : Type 0 where
   pub is : (version room : ℕ) (holds : List ℕ) → outcome_of version room s.shape w' b' holds r ≡ core_bind (settings_of s room) (core_at (counters_of c) s.shape w b) (room_for seen) h e lag k
-  pub lands : (room : ℕ) (area : List ℕ) → Lands seen (get_or w' StoreWord.used 0) room area r
+  pub lands : (room : ℕ) (area : List ℕ) → Lands seen (get_or w' StoreWord.used 0) room area r.action
   pub rules : Rules s.shape w' b'
   pub more : get_or w StoreWord.used 0 ≤ get_or w' StoreWord.used 0
   pub store_after : StoreAfter s.shape (bind_change (place_of k (places_of s.shape w b)) (is_stored k (places_of s.shape w b)) (accepted (answer_of b' r.answer))) w w' b b'

@@ -1,4 +1,5 @@
 // One call on the standby, by value: which of the six it is, and what it comes to over what was found in the row (standby.rs, the functions of `Replica`).
+// The areas come apart: of a struct with a store and hold areas it isn't found what these are at the end.
 #![tactic(auto)]
 
 ghost use Rattle.std.specs.Prelude.{◌≡◌};
@@ -7,30 +8,17 @@ ghost use Rattle.standby_step.specs.Calls.{handle_at, sought_by};
 ghost use Rattle.standby_call.specs.Call.{call_of};
 
 use base_bytes::LittleEndian;
-use standby_counters::Replica;
-use standby_row::Lookup;
-use standby_state::{Outcome, Settings};
+use standby_state::{Outcome, Standing};
 
 // Which call it is, and the number of the connection, for the calls that name one.
-#[repr(C)]
 #[derive(Clone, Copy)]
-pub struct Call {
-    pub kind: u8,
-    pub connection: u64,
-}
-
-impl Call {
-    pub const ON_FRAME_HELD: u8 = 0;
-
-    pub const ON_FRAME: u8 = 1;
-
-    pub const FLUSH: u8 = 2;
-
-    pub const DISCONNECTED_FROM: u8 = 3;
-
-    pub const PROMOTE: u8 = 4;
-
-    pub const PROMOTE_UNCHECKED: u8 = 5;
+pub enum Call {
+    OnFrameHeld,
+    OnFrame,
+    Flush { connection: u64 },
+    DisconnectedFrom { connection: u64 },
+    Promote,
+    PromoteUnchecked,
 }
 
 // Where a Bind and a Batch have their handle.
@@ -38,56 +26,45 @@ fn handle_at(frame: &[u8]) -> u32
     ensures { result ≡ handle_at frame.now }
 {
     if frame.len() < 9 {
-        return 0;
+        0
+    } else {
+        u32::read_at(frame, 5)
     }
-    u32::read_at(frame, 5)
 }
 
 // The handle that is looked up before the call.
 pub fn sought_by(frame: &[u8], call: Call) -> u32
     ensures { result ≡ sought_by (call_of call frame.now) }
 {
-    if call.kind == Call::ON_FRAME_HELD {
-        return handle_at(frame);
+    match call {
+        Call::OnFrameHeld | Call::OnFrame => handle_at(frame),
+        _ => 0,
     }
-    if call.kind == Call::ON_FRAME {
-        return handle_at(frame);
-    }
-    0
 }
 
 // What the call leaves and answers; a call that carries no frame looks at none.
 pub fn run(
-    counters: Replica,
-    lookup: Lookup,
+    standing: Standing,
     words: &mut [u64],
     bytes: &mut [u8],
     holds: &mut [u8],
     frame: &[u8],
-    settings: Settings,
     call: Call,
 ) -> Outcome
-    ensures { StepIs settings counters lookup (call_of call frame.now) words.old words.new bytes.old bytes.new holds.old holds.new result }
+    ensures { StepIs standing.settings standing.counters standing.lookup (call_of call frame.now) words.old words.new bytes.old bytes.new holds.old holds.new result }
 {
-    let connection = call.connection;
-    if call.kind == Call::ON_FRAME_HELD {
-        return standby_frame::on_frame_held(counters, lookup, words, bytes, holds, frame, settings);
+    match call {
+        Call::OnFrameHeld => standby_frame::on_frame_held(standing, words, bytes, holds, frame),
+        Call::OnFrame => standby_frame::on_frame(standing, words, bytes, holds, frame),
+        Call::Flush { connection } => {
+            standby_lifecycle::flush(standing, words, bytes, holds, connection)
+        }
+        Call::DisconnectedFrom { connection } => {
+            standby_lifecycle::disconnected_from(standing, words, bytes, holds, connection)
+        }
+        Call::Promote => standby_lifecycle::promote(standing, words, bytes, holds),
+        Call::PromoteUnchecked => {
+            standby_lifecycle::promote_unchecked(standing, words, bytes, holds)
+        }
     }
-    if call.kind == Call::ON_FRAME {
-        return standby_frame::on_frame(counters, lookup, words, bytes, holds, frame, settings);
-    }
-    if call.kind == Call::FLUSH {
-        return standby_lifecycle::flush(
-            counters, lookup, words, bytes, holds, connection, settings,
-        );
-    }
-    if call.kind == Call::DISCONNECTED_FROM {
-        return standby_lifecycle::disconnected_from(
-            counters, lookup, words, bytes, holds, connection, settings,
-        );
-    }
-    if call.kind == Call::PROMOTE {
-        return standby_lifecycle::promote(counters, lookup, words, bytes, holds, settings);
-    }
-    standby_lifecycle::promote_unchecked(counters, lookup, words, bytes, holds, settings)
 }

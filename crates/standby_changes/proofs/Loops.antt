@@ -1,5 +1,5 @@
 -- The loops' invariants over what is left of a run, and what a turn of each does. Assumes nothing.
-use mathlib.Core.Path.{◌≡◌, refl, sym, ap, ◌∙◌}
+use mathlib.Core.Path.{◌≡◌, refl, sym, ap, subst, ◌∙◌}
 use Rattle.std.specs.Prelude as prelude
 use Rattle.std.specs.Prelude.{Some, None}
 use mathlib.Core.Bool.{Bool, true, false, true≢false}
@@ -7,29 +7,27 @@ use mathlib.Core.List.{List, [], ◌∷◌}
 use Prim.Native.Nat.{ℕ, ◌+◌, ◌-◌, ◌≤◌, ◌<◌}
 use native.Mathlib.Omega.{arith}
 use lib.Dec.{T}
-use lib.ListN.{length, get_or, drop, length-drop}
+use lib.ListN.{length}
 use Rattle.model_frame.specs.Bytes.{is_bytes}
 use Rattle.model_frame.specs.Frame.{Change, Fault}
-use Rattle.model_frame.specs.Parse.{Res, ok, bad, read_bytes, read_num, read_blob, forget, collect}
+use Rattle.model_frame.specs.Parse.{Res, ok, bad, read_bytes, read_num, read_blob, forget}
 use Rattle.model_frame.specs.Reading.{record_msg_fields, read_change}
 use Rattle.model_frame.specs.Sizes.{sizes}
-use Rattle.model_frame.proofs.Le.{are_bytes, bytes_drop}
 use Rattle.model_frame.proofs.Runs.{change_shorter}
 use Rattle.model_frame.proofs.SoundChange.{change_sound}
 use Rattle.model_session.specs.Session.{fits, message_length, message_bytes}
-use Rattle.base_laws.proofs.Runs.{collect_none, collect_more, collect_bad}
 use Rattle.frame_op.specs.Answers.{held_run}
 use Rattle.standby_changes.specs.Held.{fits_from}
-use Rattle.standby_changes.proofs.Held.{held_none, held_bad, held_more, held_messages}
+use Rattle.standby_changes.proofs.Held.{held_bad, held_more, held_messages}
 
 -- whether something was read, and what is left then
 abbrev reads : {A : Type 0} → Res A → Bool
 reads (ok a s) = true
 reads (bad e) = false
 
-abbrev rest : {A : Type 0} → Res A → List ℕ
-rest (ok a s) = s
-rest (bad e) = []
+abbrev remains : {A : Type 0} → Res A → List ℕ
+remains (ok a s) = s
+remains (bad e) = []
 
 module _ (version : ℕ) where
   -- ---- the message bytes: those so far and those of what is left are all
@@ -39,10 +37,8 @@ module _ (version : ℕ) where
     pub total : sum + message_bytes (held_run version rest) ≡ message_bytes (held_run version run)
     pub small : message_bytes (held_run version run) ≤ length run
 
-  pub summing : (run : List ℕ) → ((i : ℕ) → get_or run i 0 < 256) → Summing run 0 run
-  summing run known =
-      let h = are_bytes run known in
-      record { octets = h; total = omega arith; small = held_messages version run h }
+  pub summing : (run : List ℕ) → T (is_bytes run) → Summing run 0 run
+  summing run h = record { octets = h; total = omega arith; small = held_messages version run h }
 
   module _ {run rest t : List ℕ} {sum n : ℕ} {c : Change} (w : Summing run sum rest) (e : read_change version rest ≡ ok c t) (size : n ≡ message_length c) where
     one : message_bytes (held_run version rest) ≡ message_length c + message_bytes (held_run version t)
@@ -61,17 +57,14 @@ module _ (version : ℕ) where
   pub sum_bad : {run rest : List ℕ} {sum : ℕ} {f : Fault} → Summing run sum rest → read_change version rest ≡ bad f → sum ≡ message_bytes (held_run version run)
   sum_bad {rest = rest} w e = summed_all w (held_bad version rest e)
 
-  pub sum_none : {run rest : List ℕ} {sum : ℕ} → Summing run sum rest → rest ≡ [] → sum ≡ message_bytes (held_run version run)
-  sum_none w e = summed_all w (ap (held_run version) e ∙ held_none version [] (omega arith))
-
   -- ---- the outgoing numbers: what is left fits the next number if all fits the first
 
   pub record Fitting (run : List ℕ) (first next : ℕ) (rest : List ℕ) : Type 0 where
     pub octets : T (is_bytes rest)
     pub same : fits first (held_run version run) ≡ fits next (held_run version rest)
 
-  pub fitting : (run : List ℕ) (first : ℕ) → ((i : ℕ) → get_or run i 0 < 256) → Fitting run first first run
-  fitting run first known = record { octets = are_bytes run known; same = refl }
+  pub fitting : (run : List ℕ) (first : ℕ) → T (is_bytes run) → Fitting run first first run
+  fitting run first h = record { octets = h; same = refl }
 
   module _ {run rest t : List ℕ} {first next : ℕ} {c : Change} (o : prelude.Option ℕ) (w : Fitting run first next rest) (e : read_change version rest ≡ ok c t)
       (follows : (cs : List Change) → fits_from o cs ≡ fits next (c ∷ cs)) where
@@ -90,46 +83,44 @@ module _ (version : ℕ) where
   pub fit_bad : {run rest : List ℕ} {first next : ℕ} {f : Fault} → Fitting run first next rest → read_change version rest ≡ bad f → true ≡ fits first (held_run version run)
   fit_bad {rest = rest} w e = fits_all w (held_bad version rest e)
 
-  pub fit_none : {run rest : List ℕ} {first next : ℕ} → Fitting run first next rest → rest ≡ [] → true ≡ fits first (held_run version run)
-  fit_none w e = fits_all w (ap (held_run version) e ∙ held_none version [] (omega arith))
+  -- ---- the end of a run: the bytes of what is left and those passed are all
 
-  -- ---- the end of a run: its bytes are those passed and those of the changes left
+  pub record Ending (run : List ℕ) (left : ℕ) (rest : List ℕ) : Type 0 where
+    pub octets : T (is_bytes rest)
+    pub size : left ≡ length rest
+    pub passed : sizes (held_run version rest) + length run ≡ sizes (held_run version run) + left
+    pub within : left ≤ length run
 
-  abbrev left : List ℕ → ℕ → ℕ → ℕ
-  left b at n = sizes (collect n (read_change version) (drop at b))
+  pub ending : (run : List ℕ) → T (is_bytes run) → Ending run (length run) run
+  ending run h = record { octets = h; size = refl; passed = refl; within = omega arith }
 
-  pub record Ending (b : List ℕ) (at n₀ d n : ℕ) : Type 0 where
-    pub octets : T (is_bytes (drop d b))
-    pub same : (length b - at) + left b d n ≡ left b at n₀ + (length b - d)
+  module _ {run rest : List ℕ} {left : ℕ} (w : Ending run left rest) where
+    end_next : {c : Change} {t : List ℕ} → read_change version rest ≡ ok c t → Ending run (length t) t
+    end_next {c} {t} e =
+        let one = ap sizes (held_more version rest w.octets e) in
+        let less = change_shorter version rest w.octets e in
+        record { octets = (change_sound version rest w.octets e).2; size = refl; passed = omega (arith, w.passed, w.size, one, less.0); within = omega (arith, w.within, w.size, less.1) }
 
-  pub ending : (b : List ℕ) (at n : ℕ) → ((i : ℕ) → get_or b i 0 < 256) → Ending b at n at n
-  ending b at n known = record { octets = bytes_drop at b (are_bytes b known); same = omega arith }
-
-  module _ {b : List ℕ} {at n₀ d n : ℕ} (w : Ending b at n₀ d n) where
-    end_next : {to : ℕ} {c : Change} → 0 < n → read_change version (drop d b) ≡ ok c (drop to b) → Ending b at n₀ to (n - 1)
-    end_next {to} {c} some e = record {
-      octets = (change_sound version (drop d b) w.octets e).2;
-      same =
-          omega
-          (arith, w.same, ap sizes (collect_more (read_change version) n some e), (change_shorter version (drop d b) w.octets e).0, length-drop d b, length-drop to b);
-    }
-
-    pub end_past : {to : ℕ} → 0 < n → forget (read_change version (drop d b)) ≡ ok tt (drop to b) → Ending b at n₀ to (n - 1)
-    end_past {to} some e = go (read_change version (drop d b)) refl e
+    pub end_past : {t : List ℕ} {left' : ℕ} → forget (read_change version rest) ≡ ok tt t → left' ≡ length t → Ending run left' t
+    end_past {t} {left'} e size = go (read_change version rest) refl e
       where
-        go : (r : Res Change) → read_change version (drop d b) ≡ r → forget r ≡ ok tt (drop to b) → Ending b at n₀ to (n - 1)
-        go (ok c s) p q = end_next some (p ∙ ap (ok c) (ap rest q))
+        go : (r : Res Change) → read_change version rest ≡ r → forget r ≡ ok tt t → Ending run left' t
+        go (ok c s) p q = subst (λ (n : ℕ). Ending run n t) (sym size) (end_next (p ∙ ap (ok c) (ap remains q)))
         go (bad f) p q = absurd (true≢false (sym (ap reads q)))
 
-    pub end_bad : {f : Fault} → forget (read_change version (drop d b)) ≡ bad f → length b - at ≡ left b at n₀ + (length b - d)
-    end_bad {f} e = go (read_change version (drop d b)) refl e
+    pub end_less : {t : List ℕ} → forget (read_change version rest) ≡ ok tt t → length t < length rest
+    end_less {t} e = go (read_change version rest) refl e
       where
-        go : (r : Res Change) → read_change version (drop d b) ≡ r → forget r ≡ bad f → length b - at ≡ left b at n₀ + (length b - d)
-        go (ok c s) p q = absurd (true≢false (ap reads q))
-        go (bad g) p q = omega (arith, w.same, ap sizes (collect_bad (read_change version) n p))
+        go : (r : Res Change) → read_change version rest ≡ r → forget r ≡ ok tt t → length t < length rest
+        go (ok c s) p q = (change_shorter version rest w.octets (p ∙ ap (ok c) (ap remains q))).1
+        go (bad f) p q = absurd (true≢false (sym (ap reads q)))
 
-    pub end_none : n ≤ 0 → length b - at ≡ left b at n₀ + (length b - d)
-    end_none none = omega (arith, w.same, ap sizes (collect_none (read_change version) n (drop d b) none))
+    pub end_bad : {f : Fault} → forget (read_change version rest) ≡ bad f → length run - left ≡ sizes (held_run version run)
+    end_bad {f} e = go (read_change version rest) refl e
+      where
+        go : (r : Res Change) → read_change version rest ≡ r → forget r ≡ bad f → length run - left ≡ sizes (held_run version run)
+        go (ok c s) p q = absurd (true≢false (ap reads q))
+        go (bad g) p q = omega (arith, w.passed, w.within, ap sizes (held_bad version rest p))
 
 -- a Record with a message of len bytes is read: its tag, its number, its message's length and as many bytes
 pub record_there : (version : ℕ) (s : List ℕ) {s₁ s₂ s₃ s₄ w : List ℕ} {k q n len : ℕ} → read_num 1 s ≡ ok k s₁ → k ≡ 4 → read_num 8 s₁ ≡ ok q s₂ → read_num 4 s₂ ≡ ok n s₃ → n ≡ len → read_bytes len s₃ ≡ ok w s₄

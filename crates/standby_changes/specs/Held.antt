@@ -1,6 +1,8 @@
 -- What the functions over a run of changes answer. Assumes nothing.
 use Rattle.std.specs.Prelude as prelude
 use Rattle.std.specs.Prelude.{Some, None, ℕ, suc, ◌≡◌, Bool, false, cond, List, ◌∷◌, length, drop, ltb}
+use lib.Dec.{T}
+use Rattle.model_frame.specs.Bytes.{is_bytes}
 use Rattle.model_frame.specs.Frame.{Change}
 use Rattle.model_frame.specs.Parse.{run_bytes}
 use Rattle.model_frame.specs.Reading.{read_change}
@@ -10,6 +12,10 @@ use Rattle.model_session.specs.Session.{fits, top}
 use Rattle.frame_op.specs.Answers.{op_of, run_of, held_run}
 use Rattle.frame_op.specs.declared.Op.{Op}
 use Rattle.frame_op.specs.declared.Run.{Run}
+
+-- each of these is a byte
+abbrev pub AreBytes : List ℕ → Type 0
+AreBytes s = T (is_bytes s)
 
 -- all of these bytes are changes
 abbrev pub TakesAll : ℕ → List ℕ → Type 0

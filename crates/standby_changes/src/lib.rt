@@ -1,10 +1,10 @@
 // Runs of changes in frame form, as a hold area has them from its start (standby.rs, `hold` and `fits`): what stands in front,
-// their message bytes, whether their outgoing numbers follow on, how long they are, and how one is added to another.
+// their message bytes, whether their outgoing numbers follow on, how long they are. Each change says where the next begins, so
+// that walks over them go by a reader and not by an index.
 #![tactic(auto)]
 
-ghost use Rattle.std.specs.Prelude.{ℕ, ◌≡◌, ◌+◌, ◌-◌, ◌≤◌, length, drop, IfOk};
-ghost use Rattle.model_frame.specs.Bytes.{write};
-ghost use Rattle.model_frame.specs.Parse.{ok, is_empty, collect, forget};
+ghost use Rattle.std.specs.Prelude.{ℕ, ◌≡◌, IfOk};
+ghost use Rattle.model_frame.specs.Parse.{ok, is_empty, forget};
 ghost use Rattle.model_frame.specs.Reading.{read_change};
 ghost use Rattle.model_frame.specs.Sizes.{sizes};
 ghost use Rattle.model_session.specs.Session.{fits, message_length, message_bytes};
@@ -13,28 +13,12 @@ ghost use Rattle.frame_reader.specs.Answers.{rest, res};
 ghost use Rattle.frame_op.specs.Answers.{op_of, held_run, HasLength};
 ghost use Rattle.standby_changes.specs.Held.{outgoing_after, Follows, RunPart};
 
+pub mod changes;
+
+pub use changes::{AllChanges, Changes};
 use frame_op::{Op, Run};
 use frame_reader::{FrameError, Reader};
 use frame_stamp::Protocol;
-
-// No change can be read: a look at the first one.
-pub fn is_none(protocol: Protocol, run: &[u8]) -> bool
-    ensures { result ≡ is_empty (held_run protocol.version run.now) }
-{
-    let mut reader = Reader { buf: run, at: 0 };
-    frame_op::read_op(&mut reader, protocol).is_err()
-}
-
-// The first change is a Reset.
-pub fn starts_with_reset(protocol: Protocol, run: &[u8]) -> bool
-    ensures { result ≡ starts_with_reset (held_run protocol.version run.now) }
-{
-    let mut reader = Reader { buf: run, at: 0 };
-    let Ok(op) = frame_op::read_op(&mut reader, protocol) else {
-        return false;
-    };
-    if let Op::Reset = op { true } else { false }
-}
 
 // The message bytes of a change.
 fn message_length(run: &[u8], op: Op) -> u64
@@ -44,18 +28,6 @@ fn message_length(run: &[u8], op: Op) -> u64
         Op::Record(_, msg) => frame_reader::slice(run, msg).len() as u64,
         _ => 0,
     }
-}
-
-// The message bytes of a run.
-pub fn message_bytes(protocol: Protocol, run: &[u8]) -> u64
-    ensures { result ≡ message_bytes (held_run protocol.version run.now) }
-{
-    let mut sum: u64 = 0;
-    let mut reader = Reader { buf: run, at: 0 };
-    while let Ok(op) = frame_op::read_op(&mut reader, protocol) {
-        sum += message_length(run, op);
-    }
-    sum
 }
 
 // The outgoing number after a Record, if one follows it.
@@ -84,21 +56,6 @@ fn outgoing_by(op: Op, next: u64) -> Option<u64>
         Op::Reset => Some(1),
         _ => Some(next),
     }
-}
-
-// The outgoing numbers of a run follow on from next_outgoing.
-pub fn fits(protocol: Protocol, run: &[u8], next_outgoing: u64) -> bool
-    ensures { result ≡ fits next_outgoing (held_run protocol.version run.now) }
-{
-    let mut next = next_outgoing;
-    let mut reader = Reader { buf: run, at: 0 };
-    while let Ok(op) = frame_op::read_op(&mut reader, protocol) {
-        let Some(n) = outgoing_by(op, next) else {
-            return false;
-        };
-        next = n;
-    }
-    true
 }
 
 // The message length of a Record; of another change that of the one before it.
@@ -145,43 +102,97 @@ fn skip_change(reader: &mut Reader, protocol: Protocol, len: u32) -> Result<u32,
     Ok(record_length(op, len))
 }
 
-// Where the first `count` changes from a position on end, or as many of them as can be read.
-fn run_end(protocol: Protocol, buf: &[u8], at: usize, count: usize) -> usize
-    ensures { length buf.now - at ≡ sizes (collect count (read_change protocol.version) (drop at buf.now)) + (length buf.now - result) }
-{
-    let mut end = at;
-    let mut len: u32 = 0;
-    for _ in 0..count {
-        let mut reader = Reader { buf, at: end };
-        let Ok(last) = skip_change(&mut reader, protocol, len) else {
-            return end;
-        };
-        end = reader.at;
-        len = last;
+impl Changes<'_> {
+    // The changes from the start of some bytes.
+    pub fn new(protocol: Protocol, run: &[u8]) -> Changes<'_>
+        ensures protocol { result.protocol ≡ protocol }
+        ensures run { result.run.now ≡ run.now }
+    {
+        Changes { protocol, run }
     }
-    end
+
+    // No change can be read: a look at the first one.
+    pub fn is_none(&self) -> bool
+        ensures { result ≡ is_empty (held_run self.now.protocol.version self.now.run.now) }
+    {
+        let mut reader = Reader {
+            buf: self.run,
+            at: 0,
+        };
+        frame_op::read_op(&mut reader, self.protocol).is_err()
+    }
+
+    // The first change is a Reset.
+    pub fn starts_with_reset(&self) -> bool
+        ensures { result ≡ starts_with_reset (held_run self.now.protocol.version self.now.run.now) }
+    {
+        let mut reader = Reader {
+            buf: self.run,
+            at: 0,
+        };
+        let Ok(op) = frame_op::read_op(&mut reader, self.protocol) else {
+            return false;
+        };
+        if let Op::Reset = op { true } else { false }
+    }
+
+    // Their message bytes.
+    pub fn message_bytes(&self) -> u64
+        ensures { result ≡ message_bytes (held_run self.now.protocol.version self.now.run.now) }
+    {
+        let mut sum: u64 = 0;
+        let mut reader = Reader {
+            buf: self.run,
+            at: 0,
+        };
+        while let Ok(op) = frame_op::read_op(&mut reader, self.protocol) {
+            sum += message_length(self.run, op);
+        }
+        sum
+    }
+
+    // Their outgoing numbers follow on from next_outgoing.
+    pub fn fits(&self, next_outgoing: u64) -> bool
+        ensures { result ≡ fits next_outgoing (held_run self.now.protocol.version self.now.run.now) }
+    {
+        let mut next = next_outgoing;
+        let mut reader = Reader {
+            buf: self.run,
+            at: 0,
+        };
+        while let Ok(op) = frame_op::read_op(&mut reader, self.protocol) {
+            let Some(n) = outgoing_by(op, next) else {
+                return false;
+            };
+            next = n;
+        }
+        true
+    }
+
+    // How many bytes they take.
+    pub fn run_length(&self) -> usize
+        ensures { result ≡ sizes (held_run self.now.protocol.version self.now.run.now) }
+    {
+        let mut reader = Reader {
+            buf: self.run,
+            at: 0,
+        };
+        let mut left = self.run.len();
+        let mut len: u32 = 0;
+        while let Ok(last) = skip_change(&mut reader, self.protocol, len) {
+            left = reader.left();
+            len = last;
+        }
+        self.run.len() - left
+    }
 }
 
-// How many bytes the longest run of changes at the start takes: each takes one at least.
-pub fn run_length(protocol: Protocol, s: &[u8]) -> usize
-    ensures { result ≡ sizes (held_run protocol.version s.now) }
-{
-    let end = run_end(protocol, s, 0, s.len());
-    end.min(s.len())
-}
-
-// The part of the buffer where the changes of a run that was read stand.
-pub fn run_of(protocol: Protocol, buf: &[u8], run: Run) -> &[u8]
+// The changes of a run that was read from a buffer.
+pub fn run_of(protocol: Protocol, buf: &[u8], run: Run) -> AllChanges<'_>
     requires { HasLength protocol.version buf.now run }
-    ensures { RunPart protocol.version buf.now run result.now }
+    ensures part { RunPart protocol.version buf.now run result.changes.run.now }
+    ensures protocol { result.changes.protocol ≡ protocol }
 {
-    frame_reader::bytes_at(buf, run.at, run.len)
-}
-
-// Puts a run behind the first `used` bytes of a hold area.
-pub fn hold_run(area: &mut [u8], used: usize, run: &[u8])
-    requires { used + length run.now ≤ length area.old }
-    ensures { area.new ≡ write area.old used run.now }
-{
-    base_bytes::copy(run, area, used);
+    let changes = Changes::new(protocol, frame_reader::bytes_at(buf, run.at, run.len));
+    AllChanges { changes }
 }

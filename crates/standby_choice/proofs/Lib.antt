@@ -1,2 +1,2 @@
--- Candidates, five tests together, the first that fits.
+-- Candidates, the searches over the copies, the answer.
 pub mod Laws

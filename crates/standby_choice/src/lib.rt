@@ -1,214 +1,150 @@
 // Which copy takes over, of several standbys.
 #![tactic(auto)]
 
-ghost use Rattle.std.specs.Prelude.{◌≡◌, cond, not, ◌||◌, ◌&&◌, ℕ, max, eqb};
-ghost use Rattle.store_areas.specs.Areas.{Rules, places_of};
+ghost use Rattle.std.specs.Prelude.{◌≡◌, cond, not, ◌||◌, ◌&&◌, ℕ, max, eqb, length};
+ghost use Rattle.std.specs.List.{fold};
+ghost use Rattle.store_areas.specs.Areas.{places_of};
 ghost use Rattle.model_choice.specs.Choice.{is_candidate, is_ahead, is_ahead_of_all, chosen};
 ghost use Rattle.base_flags.specs.Flag.{is_set};
-ghost use Rattle.standby_choice.specs.Choice.{copy_of, is_sound, RulesIf, raised_by, highest_of, copies_of, are_sound, Kept, fits_at, choice_of};
+ghost use Rattle.standby_choice.specs.Choice.{copy_of, is_sound, RulesIf, raised_by, copies_of, are_sound, Kept, fits_at, choice_of};
+
+mod lent;
 
 use base_refusals::Refusal;
 use frame_fields::Epoch;
-use store_areas::Shape;
+pub use lent::LentCopy;
+use store_areas::{Shape, View};
 
 // A copy: whether it is listed, its counters' epoch and checked flag, its store's shape. A flag is set if it is not 0.
 #[repr(C)]
 #[derive(Clone, Copy)]
 pub struct Copy {
+    // C lends the two flags as bytes of any value.
     pub listed: u8,
     pub checked: u8,
     pub epoch: Epoch,
     pub shape: Shape,
 }
 
-// As many copies as there can be standbys, by their numbers: C lends the areas of each beside it, as five pairs of slices.
-#[repr(C)]
-#[derive(Clone, Copy)]
-pub struct Copies(pub Copy, pub Copy, pub Copy, pub Copy, pub Copy);
-
-impl Copies {
-    pub const MAX: usize = 5;
-}
-
 // ---- candidates
 
-// Whether a copy is listed and checked.
-fn is_checked(c: Copy) -> bool
-    ensures { result ≡ (is_set c.listed && is_set c.checked) }
-{
-    (c.listed != 0) & (c.checked != 0)
+impl Copy {
+    fn is_checked(&self) -> bool
+        ensures { result ≡ (is_set self.now.listed && is_set self.now.checked) }
+    {
+        (self.listed != 0) & (self.checked != 0)
+    }
+
+    // Whether it is checked and of the epoch `top`.
+    fn is_candidate(&self, top: u64) -> bool
+        ensures { result ≡ ((is_set self.now.listed && is_set self.now.checked) && eqb self.now.epoch.0 top) }
+    {
+        self.is_checked() & (self.epoch.0 == top)
+    }
 }
 
 // The higher of an epoch and a checked copy's.
-fn raised(c: Copy, top: u64) -> u64
-    ensures { result ≡ raised_by c top }
+fn raised(top: u64, c: &LentCopy) -> u64
+    ensures { result ≡ raised_by top c.now }
 {
-    if is_checked(c) {
-        c.epoch.0.max(top)
+    if c.copy.is_checked() {
+        top.max(c.copy.epoch.0)
     } else {
         top
     }
 }
 
 // The highest epoch found on a checked copy.
-fn highest(cs: Copies) -> u64
-    ensures { result ≡ highest_of cs }
+fn highest(copies: &[LentCopy]) -> u64
+    ensures { result ≡ fold raised_by 0 copies.now }
 {
-    let t4 = raised(cs.4, 0);
-    let t3 = raised(cs.3, t4);
-    let t2 = raised(cs.2, t3);
-    let t1 = raised(cs.1, t2);
-    raised(cs.0, t1)
+    copies.iter().fold(0, raised)
 }
 
-// Whether a copy is checked and of the epoch `top`.
-fn is_candidate(c: Copy, top: u64) -> bool
-    ensures { result ≡ ((is_set c.listed && is_set c.checked) && eqb c.epoch.0 top) }
-{
-    is_checked(c) & (c.epoch.0 == top)
-}
-
-// ---- one copy against all
+// ---- one copy against all: that their stores keep the rules is asked of the slice, since a struct that says it would need a second array
 
 // Ahead of a copy, if that is a candidate.
-fn is_ahead_if(
-    words: &[u64],
-    bytes: &[u8],
-    shape: Shape,
-    c: Copy,
-    top: u64,
-    their_words: &[u64],
-    their_bytes: &[u8],
-) -> bool
-    requires rules { Rules shape words.now bytes.now }
-    requires rules_if { RulesIf c their_words.now their_bytes.now }
-    ensures { result ≡ (not (is_candidate top (copy_of c their_words.now their_bytes.now)) || is_ahead (places_of shape words.now bytes.now) (places_of c.shape their_words.now their_bytes.now)) }
+fn is_ahead_if(mine: &View, c: &LentCopy, top: u64) -> bool
+    requires { RulesIf c.now.copy c.now.words.now c.now.bytes.now }
+    ensures { result ≡ (not (is_candidate top (copy_of c.now.copy c.now.words.now c.now.bytes.now)) || is_ahead (places_of mine.now.shape mine.now.words.now mine.now.bytes.now) (places_of c.now.copy.shape c.now.words.now c.now.bytes.now)) }
 {
-    if is_candidate(c, top) {
-        return standby_ahead::is_ahead(words, bytes, shape, their_words, their_bytes, c.shape);
+    if !c.copy.is_candidate(top) {
+        return true;
+    }
+    let theirs = View {
+        words: c.words,
+        bytes: c.bytes,
+        shape: c.copy.shape,
+    };
+    standby_ahead::is_ahead(mine, &theirs)
+}
+
+// Ahead of every candidate.
+fn is_ahead_of_all(mine: &View, copies: &[LentCopy], top: u64) -> bool
+    requires { Kept copies.now }
+    ensures { result ≡ is_ahead_of_all top (places_of mine.now.shape mine.now.words.now mine.now.bytes.now) (copies_of copies.now) }
+{
+    for c in copies {
+        if !is_ahead_if(mine, c, top) {
+            return false;
+        }
     }
     true
 }
 
 // Whether a copy fits: a candidate that is ahead of every candidate.
-fn is_fit(
-    cs: Copies,
-    c: Copy,
-    words: &[u64],
-    bytes: &[u8],
-    top: u64,
-    w0: &[u64],
-    b0: &[u8],
-    w1: &[u64],
-    b1: &[u8],
-    w2: &[u64],
-    b2: &[u8],
-    w3: &[u64],
-    b3: &[u8],
-    w4: &[u64],
-    b4: &[u8],
-) -> bool
-    requires rules_if { RulesIf c words.now bytes.now }
-    requires kept { Kept cs w0.now b0.now w1.now b1.now w2.now b2.now w3.now b3.now w4.now b4.now }
-    ensures { result ≡ (is_candidate top (copy_of c words.now bytes.now) && is_ahead_of_all top (places_of c.shape words.now bytes.now) (copies_of cs w0.now b0.now w1.now b1.now w2.now b2.now w3.now b3.now w4.now b4.now)) }
+fn is_fit(c: &LentCopy, copies: &[LentCopy], top: u64) -> bool
+    requires rules_if { RulesIf c.now.copy c.now.words.now c.now.bytes.now }
+    requires kept { Kept copies.now }
+    ensures { result ≡ (is_candidate top (copy_of c.now.copy c.now.words.now c.now.bytes.now) && is_ahead_of_all top (places_of c.now.copy.shape c.now.words.now c.now.bytes.now) (copies_of copies.now)) }
 {
-    if !is_candidate(c, top) {
+    if !c.copy.is_candidate(top) {
         return false;
     }
-    let shape = c.shape;
-    is_ahead_if(words, bytes, shape, cs.0, top, w0, b0)
-        & is_ahead_if(words, bytes, shape, cs.1, top, w1, b1)
-        & is_ahead_if(words, bytes, shape, cs.2, top, w2, b2)
-        & is_ahead_if(words, bytes, shape, cs.3, top, w3, b3)
-        & is_ahead_if(words, bytes, shape, cs.4, top, w4, b4)
+    let mine = View {
+        words: c.words,
+        bytes: c.bytes,
+        shape: c.copy.shape,
+    };
+    is_ahead_of_all(&mine, copies, top)
 }
 
 // ---- the choice
 
 // The first copy that fits.
-fn first_that_fits(
-    cs: Copies,
-    w0: &[u64],
-    b0: &[u8],
-    w1: &[u64],
-    b1: &[u8],
-    w2: &[u64],
-    b2: &[u8],
-    w3: &[u64],
-    b3: &[u8],
-    w4: &[u64],
-    b4: &[u8],
-) -> Option<usize>
-    requires { Kept cs w0.now b0.now w1.now b1.now w2.now b2.now w3.now b3.now w4.now b4.now }
-    ensures { result ≡ fits_at (chosen (copies_of cs w0.now b0.now w1.now b1.now w2.now b2.now w3.now b3.now w4.now b4.now)) }
+fn first_that_fits(copies: &[LentCopy]) -> Option<usize>
+    requires { Kept copies.now }
+    ensures { result ≡ fits_at (length copies.now) (chosen (copies_of copies.now)) }
 {
-    let t = highest(cs);
-    if is_fit(cs, cs.0, w0, b0, t, w0, b0, w1, b1, w2, b2, w3, b3, w4, b4) {
-        return Some(0);
-    }
-    if is_fit(cs, cs.1, w1, b1, t, w0, b0, w1, b1, w2, b2, w3, b3, w4, b4) {
-        return Some(1);
-    }
-    if is_fit(cs, cs.2, w2, b2, t, w0, b0, w1, b1, w2, b2, w3, b3, w4, b4) {
-        return Some(2);
-    }
-    if is_fit(cs, cs.3, w3, b3, t, w0, b0, w1, b1, w2, b2, w3, b3, w4, b4) {
-        return Some(3);
-    }
-    if is_fit(cs, cs.4, w4, b4, t, w0, b0, w1, b1, w2, b2, w3, b3, w4, b4) {
-        return Some(4);
+    let top = highest(copies);
+    for i in 0..copies.len() {
+        if is_fit(&copies[i], copies, top) {
+            return Some(i);
+        }
     }
     None
 }
 
 // Whether a copy's store keeps its rules; what isn't listed isn't looked at.
-fn is_sound(c: Copy, words: &[u64], bytes: &[u8]) -> bool
-    ensures { result ≡ is_sound c words.now bytes.now }
+fn is_sound(c: &LentCopy) -> bool
+    ensures { result ≡ is_sound c.now.copy c.now.words.now c.now.bytes.now }
 {
-    c.listed == 0 || store_areas::allowed(c.shape, words, bytes)
+    c.copy.listed == 0 || store_areas::allowed(c.copy.shape, c.words, c.bytes)
 }
 
 // Whether every copy's does.
-fn are_sound(
-    cs: Copies,
-    w0: &[u64],
-    b0: &[u8],
-    w1: &[u64],
-    b1: &[u8],
-    w2: &[u64],
-    b2: &[u8],
-    w3: &[u64],
-    b3: &[u8],
-    w4: &[u64],
-    b4: &[u8],
-) -> bool
-    ensures { result ≡ are_sound cs w0.now b0.now w1.now b1.now w2.now b2.now w3.now b3.now w4.now b4.now }
+fn are_sound(copies: &[LentCopy]) -> bool
+    ensures { result ≡ are_sound copies.now }
 {
-    is_sound(cs.0, w0, b0)
-        & is_sound(cs.1, w1, b1)
-        & is_sound(cs.2, w2, b2)
-        & is_sound(cs.3, w3, b3)
-        & is_sound(cs.4, w4, b4)
+    copies.iter().all(is_sound)
 }
 
 // The copy that takes over: 25 if a listed copy's store breaks its rules, 39 if none fits.
-pub fn choose(
-    cs: Copies,
-    w0: &[u64],
-    b0: &[u8],
-    w1: &[u64],
-    b1: &[u8],
-    w2: &[u64],
-    b2: &[u8],
-    w3: &[u64],
-    b3: &[u8],
-    w4: &[u64],
-    b4: &[u8],
-) -> Result<usize, Refusal>
-    ensures { result ≡ choice_of cs w0.now b0.now w1.now b1.now w2.now b2.now w3.now b3.now w4.now b4.now }
+pub fn choose(copies: &[LentCopy]) -> Result<usize, Refusal>
+    ensures { result ≡ choice_of copies.now }
 {
-    if !are_sound(cs, w0, b0, w1, b1, w2, b2, w3, b3, w4, b4) {
+    if !are_sound(copies) {
         return Err(Refusal::RulesBroken);
     }
-    first_that_fits(cs, w0, b0, w1, b1, w2, b2, w3, b3, w4, b4).ok_or(Refusal::NoneFits)
+    first_that_fits(copies).ok_or(Refusal::NoneFits)
 }

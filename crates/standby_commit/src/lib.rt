@@ -3,33 +3,25 @@
 
 ghost use Rattle.std.specs.Prelude.{◌<◌, get_or};
 ghost use Rattle.frame_op.specs.Answers.{held_run};
-ghost use Rattle.store_areas.specs.Areas.{Rules};
+ghost use Rattle.store_areas.specs.Same.{SameAreas};
 ghost use Rattle.standby_pending.specs.Pending.{count_of};
 ghost use Rattle.standby_commit.specs.Settling.{Settles};
 
-use frame_stamp::Protocol;
-use store_areas::Shape;
+use standby_changes::Changes;
+use store_areas::Store;
 
 // Applies a run of changes to the session at place i, and leaves a commit pending, if its outgoing numbers follow on.
-pub fn commit_changes(
-    protocol: Protocol,
-    run: &[u8],
-    words: &mut [u64],
-    bytes: &mut [u8],
-    shape: Shape,
-    place: usize,
-    handle: u32,
-) -> bool
-    requires rules { Rules shape words.old bytes.old }
-    requires place_bound { place < get_or words.old 0 0 }
-    requires words_bound { count_of words.old < 64 }
-    ensures { Settles shape place handle (held_run protocol.version run.now) words.old words.new bytes.old bytes.new result }
+pub fn commit_changes(changes: &Changes, store: &mut Store, place: usize, handle: u32) -> bool
+    requires place_bound { place < get_or store.old.words.now 0 0 }
+    requires words_bound { count_of store.old.words.now < 64 }
+    ensures is { Settles store.old.shape place handle (held_run changes.now.protocol.version changes.now.run.now) store.old.words.now store.new.words.now store.old.bytes.now store.new.bytes.now result }
+    ensures same { SameAreas store.old store.new }
 {
-    let next = store_sessions::next_outgoing(words, bytes, shape, place);
-    if !standby_changes::fits(protocol, run, next) {
+    let next = store_sessions::next_outgoing(&store.view(), place);
+    if !changes.fits(next) {
         return false;
     }
-    standby_apply::apply_at(protocol, run, words, bytes, shape, place);
-    standby_pending::push(words, place, handle);
+    standby_apply::apply_at(changes, store, place);
+    standby_pending::push(store.words, place, handle);
     true
 }

@@ -9,14 +9,15 @@ use native.Mathlib.Nat.{le_of_eq}
 use lib.ListN.{length, get_or, set}
 use lib.Seq.{set-get_or}
 use lib.Dec.{ltb}
-use types.Run.{OneOf, miss}
-use denote.Enum.Declared.{tag_of}
 use Rattle.model_frame.specs.Frame.{Key, hello, welcome, bind, batch, ack, nack, bound, checked}
 use Rattle.model_frame.specs.Frame as the_frame
 use Rattle.model_frame.specs.Parse.{is_empty}
-use Rattle.frame.specs.declared.Frame
 use Rattle.frame.specs.declared.Frame.{Frame}
-use Rattle.frame.specs.contracts.Frame as frame-type
+use Rattle.frame.specs.declared.SessionId.{SessionId}
+use Rattle.frame_fields.specs.declared.Epoch.{Epoch}
+use Rattle.frame_fields.specs.declared.Incarnation.{Incarnation}
+use Rattle.frame_op.specs.declared.Run.{Run}
+use Rattle.frame_reader.specs.declared.Span.{Span}
 use Rattle.frame.specs.Answers.{frame_of}
 use Rattle.standby_row.specs.declared.Lookup.{Lookup}
 use Rattle.store_areas.specs.declared.Shape.{Shape}
@@ -38,13 +39,12 @@ use Rattle.model_standby.specs.Core.{Core, core_bind, core_intact, core_run}
 use Rattle.standby_part.specs.State.{core_at}
 use Rattle.standby_counters.specs.declared.Replica.{Replica}
 use Rattle.standby_state.specs.declared.Settings.{Settings}
-use Rattle.standby_state.specs.declared.Answer.{Answer}
 use Rattle.standby_state.specs.declared.Outcome.{Outcome}
 use Rattle.standby_state.specs.Answers.{answer_of, is_refused}
-use Rattle.standby_state.specs.Outcomes.{counters_of, settings_of, action_of, leaving}
+use Rattle.standby_state.specs.Outcomes.{counters_of, settings_of, action_of, clears, leaving}
 use Rattle.standby_state.proofs.Exact.{exact_refused}
 use Rattle.standby_hello.specs.Greeting.{Replies}
-use Rattle.standby_hello.proofs.Laws.{as_left}
+use Rattle.standby_hello.proofs.Laws.{kept_lands, as_left}
 use Rattle.standby_bind.specs.Binding.{BindIs}
 use Rattle.standby_step.specs.Steps.{changes_by}
 use Rattle.standby_control.specs.Others.{Plain, Fit, cleared_if, OtherIs, OtherIn}
@@ -63,22 +63,22 @@ plain_same L k o free (bound h m) p = refl
 plain_same L k o free (checked h e i) p = refl
 
 -- the last way of `reply`: 19
-pub nineteen : (c : Replica) (s : Settings) (seen : Lookup) (b : List ℕ) (f : Frame) → OneOf (1 ∷ 2 ∷ 3 ∷ 4 ∷ 5 ∷ 6 ∷ []) (tag_of frame-type.the_type f) → Plain (frame_of 1 b f)
-    → {r : Outcome} {a : Answer} → r ≡ leaving c seen a → a ≡ is_refused 19 → Replies c s seen (λ L k. core_intact L k none false (frame_of 1 b f)) r
-nineteen c s seen b (Frame.Hello v e node ks) h p e₁ e₂ = absurd (miss (1 ∷ 2 ∷ 3 ∷ 4 ∷ 5 ∷ 6 ∷ []) 0 tt h)
-nineteen c s seen b (Frame.Welcome e i) h p e₁ e₂ = as_left c s seen (λ L k. core_intact L k none false (welcome e.0 i.0)) e₁ e₂ (λ y. exact_refused y 19) (λ room x ps pending. refl)
-nineteen c s seen b (Frame.Bind x e lag k) h p e₁ e₂ = absurd p
-nineteen c s seen b (Frame.Bound x m) h p e₁ e₂ = as_left c s seen (λ L k. core_intact L k none false (frame_of 1 b (Frame.Bound x m))) e₁ e₂ (λ y. exact_refused y 19) (λ room y ps pending. refl)
-nineteen c s seen b (Frame.Batch x) h p e₁ e₂ = absurd p
-nineteen c s seen b (Frame.Ack x n) h p e₁ e₂ = as_left c s seen (λ L k. core_intact L k none false (ack x n.0)) e₁ e₂ (λ y. exact_refused y 19) (λ room y ps pending. refl)
-nineteen c s seen b (Frame.Nack x r) h p e₁ e₂ = as_left c s seen (λ L k. core_intact L k none false (frame_of 1 b (Frame.Nack x r))) e₁ e₂ (λ y. exact_refused y 19) (λ room y ps pending. refl)
-nineteen c s seen b (Frame.Checked x e i) h p e₁ e₂ = absurd (miss (1 ∷ 2 ∷ 3 ∷ 4 ∷ 5 ∷ 6 ∷ []) 7 tt h)
+pub nineteen : (c : Replica) (s : Settings) (b : List ℕ) (f : Frame) → ((v : ℕ) (e : Epoch) (node : Span) (ks : Run) → f ≡ Frame.Hello v e node ks → ⊥) → ((h : ℕ) (e : Epoch) (i : Incarnation) → f ≡ Frame.Checked h e i → ⊥) → Plain (frame_of 1 b f)
+    → {r : Outcome} → r ≡ leaving c (is_refused 19) → Replies c s (λ L k. core_intact L k none false (frame_of 1 b f)) r
+nineteen c s b (Frame.Hello v e node ks) h q p e₁ = absurd (h v e node ks refl)
+nineteen c s b (Frame.Welcome e i) h q p e₁ = as_left c s (λ L k. core_intact L k none false (welcome e.0 i.0)) e₁ (λ y. exact_refused y 19) (λ room x ps pending. refl)
+nineteen c s b (Frame.Bind x e lag k) h q p e₁ = absurd p
+nineteen c s b (Frame.Bound x m) h q p e₁ = as_left c s (λ L k. core_intact L k none false (frame_of 1 b (Frame.Bound x m))) e₁ (λ y. exact_refused y 19) (λ room y ps pending. refl)
+nineteen c s b (Frame.Batch x) h q p e₁ = absurd p
+nineteen c s b (Frame.Ack x n) h q p e₁ = as_left c s (λ L k. core_intact L k none false (ack x n.0)) e₁ (λ y. exact_refused y 19) (λ room y ps pending. refl)
+nineteen c s b (Frame.Nack x r) h q p e₁ = as_left c s (λ L k. core_intact L k none false (frame_of 1 b (Frame.Nack x r))) e₁ (λ y. exact_refused y 19) (λ room y ps pending. refl)
+nineteen c s b (Frame.Checked x e i) h q p e₁ = absurd (q x e i refl)
 
 -- the last way of `answer`: no Bind
-pub plain_of : (b : List ℕ) (f : Frame) → OneOf (0 ∷ 1 ∷ 3 ∷ 4 ∷ 5 ∷ 6 ∷ 7 ∷ []) (tag_of frame-type.the_type f) → Fit (frame_of 1 b f) → Plain (frame_of 1 b f)
+pub plain_of : (b : List ℕ) (f : Frame) → ((h : ℕ) (e : Epoch) (lag : ℕ) (k : SessionId) → f ≡ Frame.Bind h e lag k → ⊥) → Fit (frame_of 1 b f) → Plain (frame_of 1 b f)
 plain_of b (Frame.Hello v e node ks) h p = tt
 plain_of b (Frame.Welcome e i) h p = tt
-plain_of b (Frame.Bind x e lag k) h p = absurd (miss (0 ∷ 1 ∷ 3 ∷ 4 ∷ 5 ∷ 6 ∷ 7 ∷ []) 2 tt h)
+plain_of b (Frame.Bind x e lag k) h p = absurd (h x e lag k refl)
 plain_of b (Frame.Bound x m) h p = tt
 plain_of b (Frame.Batch x) h p = p
 plain_of b (Frame.Ack x n) h p = tt
@@ -86,9 +86,6 @@ plain_of b (Frame.Nack x r) h p = tt
 plain_of b (Frame.Checked x e i) h p = tt
 
 -- ---- the pending commits go with the bindings
-
-pub cleared_words : {t : Bool} (w : List ℕ) {w' : List ℕ} → t ≡ true → w' ≡ set w 1 0 → w' ≡ cleared_if t w
-cleared_words {t} w {w'} e f = f ∙ sym (ap (λ (x : Bool). cleared_if x w) e)
 
 module _ (s : Shape) (w b : List ℕ) (r : Rules s w b) where
   long : 66 ≤ length w
@@ -128,18 +125,18 @@ plain_stays ps p (checked h e i) taken q = refl
 -- ---- the ways of `answer`
 
 module _ (s : Settings) (c : Replica) (seen : Lookup) (w b : List ℕ) (rules : Rules s.shape w b) where
-  pub replied : (f : the_frame.Frame) → Plain f → {r : Outcome} {w' : List ℕ} → Replies c s seen (λ L k. core_intact L k none false f) r → w' ≡ cleared_if r.clears w → OtherIs s c seen f w w' b b r
-  replied f p {r} {w'} g e = subst (λ (x : List ℕ). OtherIs s c seen f w x b b r) (sym e) (record {
+  pub replied : (f : the_frame.Frame) → Plain f → {r : Outcome} {t : Bool} {w' : List ℕ} → Replies c s (λ L k. core_intact L k none false f) r → t ≡ clears r.action → w' ≡ cleared_if t w → OtherIs s c seen f w w' b b r
+  replied f p {r} {t} {w'} g u e = subst (λ (x : List ℕ). OtherIs s c seen f w x b b r) (sym (e ∙ ap (λ (x : Bool). cleared_if x w) u)) (record {
     is = λ version room holds o q.
-        (λ j. record { core = record { counters = counters_of r.replica; places = cleared_places s.shape w b rules r.clears j; pending = cleared_pending s.shape w b rules r.clears j }; action = action_of version room holds r; answer = answer_of b r.answer })
+        (λ j. record { core = record { counters = counters_of r.replica; places = cleared_places s.shape w b rules (clears r.action) j; pending = cleared_pending s.shape w b rules (clears r.action) j }; action = action_of version room holds r; answer = answer_of b r.answer })
         ∙ g.is version room holds b (places_of s.shape w b) (pending_of w)
         ∙ plain_same (settings_of s room) (core_at (counters_of c) s.shape w b) o (ltb seen.free seen.len) f p;
-    lands = λ room area. g.lands (get_or (cleared_if r.clears w) 0 0) room area;
-    rules = cleared_rules s.shape w b rules r.clears;
-    more = le_of_eq (sym (cleared_used s.shape w b rules r.clears));
+    lands = λ room area. kept_lands seen (get_or (cleared_if (clears r.action) w) 0 0) room area r.action g.stays;
+    rules = cleared_rules s.shape w b rules (clears r.action);
+    more = le_of_eq (sym (cleared_used s.shape w b rules (clears r.action)));
     store_after = λ e₀.
-        subst (λ (x : StoreChange). StoreAfter s.shape x w (cleared_if r.clears w) b b) (sym (plain_stays (places_of s.shape w b) seen.bound.place f (accepted (answer_of b r.answer)) p))
-        (cleared_same w r.clears e₀, refl);
+        subst (λ (x : StoreChange). StoreAfter s.shape x w (cleared_if (clears r.action) w) b b) (sym (plain_stays (places_of s.shape w b) seen.bound.place f (accepted (answer_of b r.answer)) p))
+        (cleared_same w (clears r.action) e₀, refl);
     exact = g.exact b;
   })
 
@@ -205,7 +202,7 @@ module _ (s : Settings) (c : Replica) (seen : Lookup) (f : the_frame.Frame) (w b
       none_of [] = refl
       none_of (x ∷ l) = refl
 
-  pub other_in : {w' b' : List ℕ} {r : Outcome} → OtherIs s c seen f w1 w' b b' r → OtherIn s c seen f w w' b b' r
+  other_in : {w' b' : List ℕ} {r : Outcome} → OtherIs s c seen f w1 w' b b' r → OtherIn s c seen f w w' b b' r
   other_in {w'} {b'} {r} g = record {
     is = λ version room holds o q. g.is version room holds o q ∙ ap (λ (k : Core). core_intact (settings_of s room) k o (ltb seen.free seen.len) f) ran_is;
     lands = g.lands;
@@ -220,3 +217,8 @@ module _ (s : Settings) (c : Replica) (seen : Lookup) (f : the_frame.Frame) (w b
     };
     exact = g.exact;
   }
+
+  -- over the areas as they were handed back once the commits had run
+  pub other_given : {w' b' w₀ b₀ : List ℕ} {r : Outcome} → OtherIs s c seen f w₀ w' b₀ b' r → w₀ ≡ w1 → b₀ ≡ b → OtherIn s c seen f w w' b b' r
+  other_given {w'} {b'} {w₀} {b₀} {r} g words bytes =
+      other_in (subst (λ (x : List ℕ). OtherIs s c seen f x w' b b' r) words (subst (λ (x : List ℕ). OtherIs s c seen f w₀ w' x b' r) bytes g))

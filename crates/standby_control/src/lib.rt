@@ -1,4 +1,5 @@
 // Frames that are no Batch: pending commits run first, then Hello, Bind, Checked, or 19 (standby.rs, on_frame_held).
+// The areas come apart: of a struct with a store and hold areas it isn't found what these are at the end.
 #![tactic(auto)]
 
 ghost use Rattle.std.specs.Prelude.{◌≡◌, false, ◌≤◌, length};
@@ -11,12 +12,12 @@ ghost use Rattle.standby_hello.specs.Greeting.{Replies};
 ghost use Rattle.model_standby.specs.Core.{core_intact};
 ghost use Rattle.standby_control.specs.Others.{Plain, Fit, cleared_if, OtherIs, OtherIn};
 
-use base_refusals::OTHER_FRAME;
+use base_refusals::Refusal;
 use frame::Frame;
 use frame_op::Run;
 use frame_reader::Reader;
-use standby_row::Lookup;
-use standby_state::{Outcome, Replica, Settings};
+use standby_state::{Outcome, Replica, Settings, Standing};
+use store_areas::Store;
 
 // Whether a run of kinds is empty.
 fn no_kinds(frame: &[u8], run: Run) -> bool
@@ -47,11 +48,10 @@ fn answer_by_counters(
     frame: &[u8],
     counters: Replica,
     settings: Settings,
-    lookup: Lookup,
     decoded: Frame,
 ) -> Outcome
     requires { Plain (frame_of 1 frame.now decoded) }
-    ensures { Replies counters settings lookup (λ L k. core_intact L k none false (frame_of 1 frame.now decoded)) result }
+    ensures { Replies counters settings (λ L k. core_intact L k none false (frame_of 1 frame.now decoded)) result }
 {
     match decoded {
         Frame::Hello {
@@ -61,14 +61,14 @@ fn answer_by_counters(
             app_record_kinds,
         } => {
             let none = no_kinds(frame, app_record_kinds);
-            standby_hello::on_hello(counters, settings, lookup, version, epoch, none)
+            standby_hello::on_hello(counters, settings, version, epoch, none)
         }
         Frame::Checked {
             handle,
             epoch,
             incarnation,
-        } => standby_hello::on_checked(counters, settings, lookup, handle, epoch, incarnation),
-        _ => standby_state::unchanged(counters, lookup, standby_state::refused(OTHER_FRAME)),
+        } => standby_hello::on_checked(counters, settings, handle, epoch, incarnation),
+        _ => standby_state::refuse(counters, Refusal::OtherFrame),
     }
 }
 
@@ -77,14 +77,12 @@ fn answer(
     words: &mut [u64],
     bytes: &mut [u8],
     frame: &[u8],
-    counters: Replica,
-    settings: Settings,
-    lookup: Lookup,
+    standing: Standing,
     decoded: Frame,
 ) -> Outcome
-    requires rules { Rules settings.shape words.old bytes.old }
+    requires rules { Rules standing.settings.shape words.old bytes.old }
     requires fit { Fit (frame_of 1 frame.now decoded) }
-    ensures { OtherIs settings counters lookup (frame_of 1 frame.now decoded) words.old words.new bytes.old bytes.new result }
+    ensures { OtherIs standing.settings standing.counters standing.lookup (frame_of 1 frame.now decoded) words.old words.new bytes.old bytes.new result }
 {
     match decoded {
         Frame::Bind {
@@ -93,11 +91,11 @@ fn answer(
             max_lag,
             session,
         } => standby_bind::on_bind(
-            words, bytes, frame, counters, settings, lookup, handle, epoch, max_lag, session,
+            words, bytes, frame, standing, handle, epoch, max_lag, session,
         ),
         _ => {
-            let o = answer_by_counters(frame, counters, settings, lookup, decoded);
-            clear_if(words, o.clears);
+            let o = answer_by_counters(frame, standing.counters, standing.settings, decoded);
+            clear_if(words, o.action.clears());
             o
         }
     }
@@ -108,17 +106,19 @@ pub fn run_due_then_answer(
     words: &mut [u64],
     bytes: &mut [u8],
     frame: &[u8],
-    counters: Replica,
-    settings: Settings,
-    lookup: Lookup,
+    standing: Standing,
     decoded: Frame,
 ) -> Outcome
-    requires rules { Rules settings.shape words.old bytes.old }
+    requires rules { Rules standing.settings.shape words.old bytes.old }
     requires fit { Fit (frame_of 1 frame.now decoded) }
-    ensures { OtherIn settings counters lookup (frame_of 1 frame.now decoded) words.old words.new bytes.old bytes.new result }
+    ensures { OtherIn standing.settings standing.counters standing.lookup (frame_of 1 frame.now decoded) words.old words.new bytes.old bytes.new result }
 {
-    let shape = settings.shape;
     let due = standby_pending_run::is_pending(words);
-    standby_pending_run::run_if(words, bytes, shape, due);
-    answer(words, bytes, frame, counters, settings, lookup, decoded)
+    let mut store = Store {
+        words,
+        bytes,
+        shape: standing.settings.shape,
+    };
+    standby_pending_run::run_if(&mut store, due);
+    answer(words, bytes, frame, standing, decoded)
 }

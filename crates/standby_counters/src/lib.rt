@@ -3,7 +3,7 @@
 
 use frame_fields::Epoch;
 
-// The standby's counters: a small record lent for each call. A flag is set if it is not 0.
+// The standby's counters: a small record that C lends for each call; what is lent has no bool, so a flag is a byte, set if it is not 0.
 #[repr(C)]
 #[derive(Clone, Copy)]
 pub struct Replica {

@@ -2,14 +2,12 @@
 use Prim.Native.Nat.{ℕ, ◌≤◌}
 use mathlib.Core.Path.{◌≡◌, refl, sym, ap, subst, ◌∙◌}
 use mathlib.Core.Bool.{Bool, true, false, cond, not, ◌&&◌}
-use mathlib.Core.List.{List, [], ◌∷◌}
+use mathlib.Core.List.{List}
 use mathlib.Core.Option.{Option, none}
 use lib.ListN.{length, take}
 use lib.Seq.{take-length}
 use lib.Dec.{eqb, leb, T}
 use borrow.Author.Tests.{ne_eqb, eq-eqb, leb-true}
-use types.Run.{OneOf, miss}
-use denote.Enum.Declared.{tag_of}
 use Rattle.base_laws.proofs.Lists.{both}
 use Rattle.model_text.specs.Printable.{is_printable, is_key}
 use Rattle.model_frame.specs.Bytes.{is_bytes}
@@ -24,9 +22,8 @@ use Rattle.frame_reader.specs.declared.FrameError.{FrameError}
 use Rattle.std.specs.Prelude as the_option
 use Rattle.std.specs.Prelude.{Result, Ok, Err, Some, None}
 use Rattle.frame_reader.specs.Answers.{fault_of}
-use Rattle.frame.specs.declared.Frame
 use Rattle.frame.specs.declared.Frame.{Frame}
-use Rattle.frame.specs.contracts.Frame as frame-type
+use Rattle.frame_fields.specs.declared.Batch.{Batch}
 use Rattle.frame.specs.Answers.{frame_of, reading_of}
 use Rattle.model_standby.specs.Answer.{damaged, intact, judged, given}
 use Rattle.model_standby.specs.State.{Bound, Counters}
@@ -95,13 +92,13 @@ key_short k e =
     let p = both B S q.0 in
     record { begin = printable_short 1 32 k.begin p.0; sender = printable_short 1 32 k.sender p.1; target = printable_short 1 32 k.target q.1; suffix = printable_short 0 32 k.suffix r.1 }
 
-pub fit_of : (b : List ℕ) (f : Frame) → OneOf (0 ∷ 1 ∷ 2 ∷ 3 ∷ 5 ∷ 6 ∷ 7 ∷ []) (tag_of frame-type.the_type f) → Writable 1 (frame_of 1 b f) → Fit (frame_of 1 b f)
+pub fit_of : (b : List ℕ) (f : Frame) → ((x : Batch) → f ≡ Frame.Batch x → ⊥) → Writable 1 (frame_of 1 b f) → Fit (frame_of 1 b f)
 unfolding fine
 fit_of b (Frame.Hello v e node ks) h p = tt
 fit_of b (Frame.Welcome e i) h p = tt
 fit_of b (Frame.Bind x e lag k) h p = key_short _ p.texts
 fit_of b (Frame.Bound x m) h p = tt
-fit_of b (Frame.Batch x) h p = absurd (miss (0 ∷ 1 ∷ 2 ∷ 3 ∷ 5 ∷ 6 ∷ 7 ∷ []) 4 tt h)
+fit_of b (Frame.Batch x) h p = absurd (h x refl)
 fit_of b (Frame.Ack x n) h p = tt
 fit_of b (Frame.Nack x r) h p = tt
 fit_of b (Frame.Checked x e i) h p = tt

@@ -35,9 +35,8 @@ use Rattle.standby_state.specs.declared.Answer.{Answer}
 use Rattle.standby_state.specs.declared.Outcome.{Outcome}
 use Rattle.standby_state.specs.Answers.{answer_of, frame_by, is_refused}
 use Rattle.standby_state.specs.Exact.{Exact}
-use Rattle.standby_state.specs.Outcomes.{counters_of, settings_of, leaving, area_at, action_of, outcome_of, Lands}
+use Rattle.standby_state.specs.Outcomes.{counters_of, settings_of, leaving, spot_of, area_at, action_of, outcome_of, Lands}
 use Rattle.standby_state.proofs.Exact.{exact_refused}
-use Rattle.standby_hello.proofs.Laws.{leaving_lands}
 use Rattle.standby_batch_due.specs.DueBatch.{RecordRulesIn, BatchIn}
 use Rattle.standby_control.specs.Others.{Fit, OtherIn}
 use Rattle.standby_step.specs.Steps.{room_in, is_found, found_in, seen_allowed, due_now, changes_by, keeps_by, FrameLeaves, holds_after, has_handle, StepIs}
@@ -70,7 +69,7 @@ other_intact s c seen f fit w w' b b' l r g = record {
   is = λ own.
       g.is protocol_version (room_in seen l) l (found_in seen l) (found_some seen l)
       ∙ ap (λ (t : Bool). core_intact (settings_of s (room_in seen l)) (core_run t (core_at (counters_of c) s.shape w b)) (found_in seen l) (ltb seen.free seen.len) f) (due_other (pending_of w) f fit);
-  lands = g.lands (room_in seen l) (area_at (room_in seen l) r.at l);
+  lands = g.lands (room_in seen l) (area_at (room_in seen l) (spot_of seen) l);
   rules = g.rules;
   more = g.more;
   leaves = subst (λ (t : Bool). FrameLeaves s.shape (changes_by (places_of s.shape w b) seen.bound.place (intact f) (accepted (answer_of b' r.answer))) t false w w' b b') (due_other (pending_of w) f fit) g.leaves;
@@ -119,14 +118,14 @@ module _ (s : Settings) (c : Replica) (seen : Lookup) (frame w b h : List ℕ) (
 
   -- refused, and all is as it was
   all_left : (g : Given) → given frame ≡ g → (n : ℕ) → eqb n 0 ≡ false → core_given L K F free g ≡ core_refuse K leave n → due_now (is_set c.promoted) (pending_of w) g ≡ false → writes L (counters_of c) F g ≡ none
-      → {r : Outcome} {a : Answer} → r ≡ leaving c seen a → a ≡ is_refused n → Takes s c seen frame w w b b h h r
-  all_left g is n off core due-none none_written {r} {a} e₁ e₂ =
-      subst (Takes s c seen frame w w b b h h) (sym (e₁ ∙ ap (leaving c seen) e₂))
+      → {r : Outcome} → r ≡ leaving c (is_refused n) → Takes s c seen frame w w b b h h r
+  all_left g is n off core due-none none_written e₁ =
+      subst (Takes s c seen frame w w b b h h) (sym e₁)
       (record {
         rules = rules;
         steps = λ own. record {
           is = (λ j. record { core = K; action = leave; answer = refused_is n b off j }) ∙ sym (held_is ∙ ap (core_given L K F free) is ∙ core);
-          lands = leaving_lands c seen (is_refused n) (get_or w 0 0) (room_in seen h);
+          lands = tt;
           kept = λ _. refl;
           rules = rules;
           more = le_refl (get_or w 0 0);
@@ -143,18 +142,18 @@ module _ (s : Settings) (c : Replica) (seen : Lookup) (frame w b h : List ℕ) (
         exact = exact_refused b n;
       })
 
-  pub damaged_left : (n : ℕ) → given frame ≡ damaged n → eqb n 0 ≡ false → {r : Outcome} {a : Answer} → r ≡ leaving c seen a → a ≡ is_refused n → Takes s c seen frame w w b b h h r
+  pub damaged_left : (n : ℕ) → given frame ≡ damaged n → eqb n 0 ≡ false → {r : Outcome} → r ≡ leaving c (is_refused n) → Takes s c seen frame w w b b h h r
   unfolding core_given writes
-  damaged_left n is off e₁ e₂ = all_left (damaged n) is n off refl refl refl e₁ e₂
+  damaged_left n is off e₁ = all_left (damaged n) is n off refl refl refl e₁
 
-  pub promoted_left : (f : the_frame.Frame) → given frame ≡ intact f → (c.promoted ≡ 0 → ⊥) → {r : Outcome} {a : Answer} → r ≡ leaving c seen a → a ≡ is_refused 10 → Takes s c seen frame w w b b h h r
+  pub promoted_left : (f : the_frame.Frame) → given frame ≡ intact f → (c.promoted ≡ 0 → ⊥) → {r : Outcome} → r ≡ leaving c (is_refused 10) → Takes s c seen frame w w b b h h r
   unfolding core_given writes
-  promoted_left f is on e₁ e₂ =
+  promoted_left f is on e₁ =
       all_left (intact f) is 10 refl
       (ap (λ (t : Bool). cond t (core_refuse K leave 10) (core_intact L (core_run (due (pending_of w) f) K) F free f)) (set_so c.promoted on))
       (ap (λ (t : Bool). not t && due (pending_of w) f) (set_so c.promoted on))
       (ap (λ (t : Bool). cond t none (writes_frame L (counters_of c) F f)) (set_so c.promoted on))
-      e₁ e₂
+      e₁
 
   pub intact_taken : (f : the_frame.Frame) → given frame ≡ intact f → c.promoted ≡ 0 → {w' b' h' : List ℕ} {r : Outcome} → IntactIs s c seen f w w' b b' h h' r → Takes s c seen frame w w' b b' h h' r
   unfolding core_given writes
@@ -197,11 +196,11 @@ module _ (s : Settings) (c : Replica) (seen : Lookup) (w b h : List ℕ) where
       go true x e f = f
       go false x e f = absurd (true≢false (sym e))
 
-  pub refuses_25 : (call : Call) {t : Bool} → t ≡ seen_allowed s.shape seen w b h → t ≡ false → {r : Outcome} {a : Answer} → r ≡ leaving c seen a → a ≡ is_refused 25 → StepIs s c seen call w w b b h h r
-  refuses_25 call e off e₁ e₂ = record {
-    refuses = λ _. (e₁ ∙ ap (leaving c seen) e₂, (refl, (refl, refl)));
+  pub refuses_25 : (call : Call) {t : Bool} → t ≡ seen_allowed s.shape seen w b h → t ≡ false → {r : Outcome} → r ≡ leaving c (is_refused 25) → StepIs s c seen call w w b b h h r
+  refuses_25 call e off e₁ = record {
+    refuses = λ _. (e₁, (refl, (refl, refl)));
     steps = λ y _. absurd (true≢false (sym y ∙ sym e ∙ off));
-    exact = subst (λ (x : Outcome). Exact b x.answer) (sym (e₁ ∙ ap (leaving c seen) e₂)) (exact_refused b 25);
+    exact = subst (λ (x : Outcome). Exact b x.answer) (sym e₁) (exact_refused b 25);
   }
 
   module _ (frame : List ℕ) {w1 b' h' : List ℕ} {r : Outcome} {t : Bool} (e : t ≡ seen_allowed s.shape seen w b h) (on : t ≡ true) (g : Takes s c seen frame w w1 b b' h h' r) where
@@ -228,7 +227,7 @@ module _ (s : Settings) (c : Replica) (seen : Lookup) (w b h : List ℕ) where
       flushed_is m p =
           (λ j. record { core = core_ran j; action = action_of protocol_version (room_in seen h) h' r; answer = answer_of b' r.answer }) ∙ ap (core_flushed (settings_of s (room_in seen h))) p
 
-      pub now_steps : StepIs s c seen (on_frame frame) w w' b b' h h' r
+      now_steps : StepIs s c seen (on_frame frame) w w' b b' h h' r
       unfolding core_step
       now_steps = record {
         refuses = λ y. absurd (true≢false (sym (sym e ∙ on) ∙ y));
@@ -236,7 +235,7 @@ module _ (s : Settings) (c : Replica) (seen : Lookup) (w b h : List ℕ) where
             let p = g.steps own in
             record {
               is = flushed_is _ p.is;
-              lands = subst (λ (k : ℕ). Lands seen k (room_in seen h) (area_at (room_in seen h) r.at h') r) (sym ran.used) p.lands;
+              lands = subst (λ (k : ℕ). Lands seen k (room_in seen h) (area_at (room_in seen h) (spot_of seen) h') r.action) (sym ran.used) p.lands;
               kept = p.kept;
               rules = ran.rules;
               more = subst (λ (k : ℕ). get_or w 0 0 ≤ k) (sym ran.used) p.more;
@@ -249,3 +248,7 @@ module _ (s : Settings) (c : Replica) (seen : Lookup) (w b h : List ℕ) where
             };
         exact = g.exact;
       }
+
+      -- of the store as it was handed back
+      pub now_given : {w₂ b₂ : List ℕ} → w₂ ≡ w' → b₂ ≡ b' → StepIs s c seen (on_frame frame) w w₂ b b₂ h h' r
+      now_given {w₂} {b₂} words bytes = subst (λ (x : List ℕ). StepIs s c seen (on_frame frame) w x b b₂ h h' r) (sym words) (subst (λ (x : List ℕ). StepIs s c seen (on_frame frame) w w' b x h h' r) (sym bytes) now_steps)

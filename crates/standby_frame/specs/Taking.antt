@@ -17,7 +17,7 @@ use Rattle.standby_state.specs.declared.Answer.{Answer}
 use Rattle.standby_state.specs.declared.Outcome.{Outcome}
 use Rattle.standby_state.specs.Answers.{answer_of}
 use Rattle.standby_state.specs.Exact.{Exact}
-use Rattle.standby_state.specs.Outcomes.{counters_of, settings_of, area_at, outcome_of, Lands}
+use Rattle.standby_state.specs.Outcomes.{counters_of, settings_of, spot_of, area_at, outcome_of, Lands}
 use Rattle.standby_step.specs.Steps.{room_in, is_found, found_in, changes_by, FrameLeaves, holds_after, has_handle, Stepped}
 
 -- a frame is answered, a Nack too
@@ -32,7 +32,7 @@ pub record IntactIs (s : Settings) (c : Replica) (seen : Lookup) (f : Frame) (w 
   pub is : Own seen f
       → outcome_of protocol_version (room_in seen h) s.shape w' b' h' r
       ≡ core_intact (settings_of s (room_in seen h)) (core_run (due (pending_of w) f) (core_at (counters_of c) s.shape w b)) (found_in seen h) (ltb seen.free seen.len) f
-  pub lands : Lands seen (get_or w' StoreWord.used 0) (room_in seen h) (area_at (room_in seen h) r.at h') r
+  pub lands : Lands seen (get_or w' StoreWord.used 0) (room_in seen h) (area_at (room_in seen h) (spot_of seen) h') r.action
   pub rules : Rules s.shape w' b'
   pub more : get_or w StoreWord.used 0 ≤ get_or w' StoreWord.used 0
   pub leaves : FrameLeaves s.shape (changes_by (places_of s.shape w b) seen.bound.place (intact f) (accepted (answer_of b' r.answer))) (due (pending_of w) f) false w w' b b'

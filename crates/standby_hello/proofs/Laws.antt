@@ -19,42 +19,35 @@ use Rattle.standby_counters.specs.declared.Replica.{Replica}
 use Rattle.standby_state.specs.declared.Settings.{Settings}
 use Rattle.standby_state.specs.declared.Answer.{Answer}
 use Rattle.standby_state.specs.declared.Outcome.{Outcome}
+use Rattle.standby_state.specs.declared.RowAction.{RowAction}
 use Rattle.standby_state.specs.Answers.{answer_of, is_refused, is_welcome, is_nack, is_ack}
 use Rattle.standby_state.specs.Exact.{Exact}
-use Rattle.standby_state.specs.Outcomes.{counters_of, settings_of, leaving, clearing, Lands}
+use Rattle.standby_state.specs.Outcomes.{counters_of, settings_of, leaving, clearing, stores, Lands}
 use Rattle.standby_state.proofs.Exact.{exact_refused, exact_welcome, exact_nack, exact_ack}
 use Rattle.standby_hello.specs.Greeting.{connected_to, checked_to, Replies}
 
-no : {A : Type 0} → false ≡ true → A
-no e = absurd (true≢false (sym e))
-
-pub leaving_lands : (c : Replica) (seen : Lookup) (a : Answer) (used room : ℕ) {area : List ℕ} → Lands seen used room area (leaving c seen a)
-leaving_lands c seen a used room = record { at_is = refl; from_is = refl; one = no; slot_is = no; slot_place = no; slot_len = no }
-
-pub clearing_lands : (c : Replica) (seen : Lookup) (a : Answer) (used room : ℕ) {area : List ℕ} → Lands seen used room area (clearing c seen a)
-clearing_lands c seen a used room = record { at_is = refl; from_is = refl; one = no; slot_is = no; slot_place = no; slot_len = no }
+-- where no record is put, nothing lands
+pub kept_lands : (seen : Lookup) (used room : ℕ) (area : List ℕ) (a : RowAction) → stores a ≡ false → Lands seen used room area a
+kept_lands seen used room area RowAction.Leave e = tt
+kept_lands seen used room area RowAction.Clear e = tt
+kept_lands seen used room area (RowAction.Store at h) e = absurd (true≢false e)
 
 -- the state but for the row, with these counters
 abbrev At : Replica → List Place → List (ℕ × ℕ) → Core
 At c ps pending = record { counters = counters_of c; places = ps; pending = pending }
 
--- the row is left, or freed
-leaves_is : (c : Replica) (s : Settings) (seen : Lookup) (m : state.Settings → Core → CoreResult) (d : Replica) (a : Answer) → ((b : List ℕ) → Exact b a)
-    → ((room : ℕ) (b : List ℕ) (ps : List Place) (pending : List (ℕ × ℕ)) → record { core = At d ps pending; action = leave; answer = answer_of b a } ≡ m (settings_of s room) (At c ps pending))
-    → Replies c s seen m (leaving d seen a)
-leaves_is c s seen m d a x f = record { is = λ version room holds b ps pending. f room b ps pending; lands = λ used room area. leaving_lands d seen a used room; stays = refl; exact = x }
-
-clears_is : (c : Replica) (s : Settings) (seen : Lookup) (m : state.Settings → Core → CoreResult) (d : Replica) (a : Answer) → ((b : List ℕ) → Exact b a)
-    → ((room : ℕ) (b : List ℕ) (ps : List Place) (pending : List (ℕ × ℕ)) → record { core = At d ps []; action = clear; answer = answer_of b a } ≡ m (settings_of s room) (At c ps pending))
-    → Replies c s seen m (clearing d seen a)
-clears_is c s seen m d a x f = record { is = λ version room holds b ps pending. f room b ps pending; lands = λ used room area. clearing_lands d seen a used room; stays = refl; exact = x }
-
-module _ (c : Replica) (s : Settings) (seen : Lookup) where
+module _ (c : Replica) (s : Settings) where
   -- a refusal or a Nack that leaves all as it was
-  pub as_left : (m : state.Settings → Core → CoreResult) {r : Outcome} {a : Answer} {d : Replica} {x : Answer} → r ≡ leaving d seen a → a ≡ x → ((b : List ℕ) → Exact b x)
+  pub as_left : (m : state.Settings → Core → CoreResult) {r : Outcome} {d : Replica} {x : Answer} → r ≡ leaving d x → ((b : List ℕ) → Exact b x)
       → ((room : ℕ) (b : List ℕ) (ps : List Place) (pending : List (ℕ × ℕ)) → record { core = At d ps pending; action = leave; answer = answer_of b x } ≡ m (settings_of s room) (At c ps pending))
-      → Replies c s seen m r
-  as_left m {d = d} {x = x} e f is-exact is = subst (Replies c s seen m) (sym (e ∙ ap (leaving d seen) f)) (leaves_is c s seen m d x is-exact is)
+      → Replies c s m r
+  as_left m {d = d} {x = x} e is-exact is = subst (Replies c s m) (sym e) (record { is = λ version room holds b ps pending. is room b ps pending; stays = refl; exact = is-exact })
+
+  -- every record is freed
+  as_cleared : (m : state.Settings → Core → CoreResult) {r : Outcome} {d : Replica} {x : Answer} → r ≡ clearing d x → ((b : List ℕ) → Exact b x)
+      → ((room : ℕ) (b : List ℕ) (ps : List Place) (pending : List (ℕ × ℕ)) → record { core = At d ps []; action = clear; answer = answer_of b x } ≡ m (settings_of s room) (At c ps pending))
+      → Replies c s m r
+  as_cleared m {d = d} {x = x} e is-exact is = subst (Replies c s m) (sym e) (record { is = λ version room holds b ps pending. is room b ps pending; stays = refl; exact = is-exact })
 
   -- ---- Hello
 
@@ -68,9 +61,9 @@ module _ (c : Replica) (s : Settings) (seen : Lookup) where
     abbrev Tests : state.Settings → Core → Bool → Bool → CoreResult
     Tests L k t u = cond (not t) (core_refuse k leave 11) (cond (not u) (core_refuse k leave 12) (Lower L k (ltb e k.counters.epoch)))
 
-    pub other_version : {r : Outcome} {a : Answer} → (v ≡ 1 → ⊥) → r ≡ leaving c seen a → a ≡ is_refused 11 → Replies c s seen Hello r
+    pub other_version : {r : Outcome} → (v ≡ 1 → ⊥) → r ≡ leaving c (is_refused 11) → Replies c s Hello r
     unfolding core_hello
-    other_version off e₁ e₂ = as_left Hello e₁ e₂ (λ b. exact_refused b 11) (λ room b ps pending. sym (ap (λ (t : Bool). Tests (settings_of s room) (At c ps pending) t (is_empty kinds)) (ne_eqb v 1 off)))
+    other_version off e = as_left Hello e (λ b. exact_refused b 11) (λ room b ps pending. sym (ap (λ (t : Bool). Tests (settings_of s room) (At c ps pending) t (is_empty kinds)) (ne_eqb v 1 off)))
 
     -- of version 1
     module _ (one : v ≡ 1) where
@@ -78,29 +71,28 @@ module _ (c : Replica) (s : Settings) (seen : Lookup) where
       unfolding core_hello
       first L k = ap (λ (t : Bool). Tests L k t (is_empty kinds)) (eq-eqb v 1 one)
 
-      pub some_kinds : {r : Outcome} {a : Answer} → is_empty kinds ≡ false → r ≡ leaving c seen a → a ≡ is_refused 12 → Replies c s seen Hello r
-      some_kinds off e₁ e₂ =
-          as_left Hello e₁ e₂ (λ b. exact_refused b 12) (λ room b ps pending. sym (first (settings_of s room) (At c ps pending) ∙ ap (λ (t : Bool). Tests (settings_of s room) (At c ps pending) true t) off))
+      pub some_kinds : {r : Outcome} → is_empty kinds ≡ false → r ≡ leaving c (is_refused 12) → Replies c s Hello r
+      some_kinds off e =
+          as_left Hello e (λ b. exact_refused b 12) (λ room b ps pending. sym (first (settings_of s room) (At c ps pending) ∙ ap (λ (t : Bool). Tests (settings_of s room) (At c ps pending) true t) off))
 
       -- and without kinds
       module _ (none : is_empty kinds ≡ true) where
         second : (L : state.Settings) (k : Core) → Hello L k ≡ Lower L k (ltb e k.counters.epoch)
         second L k = first L k ∙ ap (λ (t : Bool). Tests L k true t) none
 
-        pub lower_told : {r : Outcome} {a : Answer} {i : Incarnation} → e < c.epoch.0 → i.0 ≡ max s.incarnation.0 1 → r ≡ leaving c seen a → a ≡ is_welcome c.epoch i → Replies c s seen Hello r
+        pub lower_told : {r : Outcome} {a : Answer} {i : Incarnation} → e < c.epoch.0 → i.0 ≡ max s.incarnation.0 1 → r ≡ leaving c a → a ≡ is_welcome c.epoch i → Replies c s Hello r
         lower_told {i = i} less own e₁ e₂ =
-            as_left Hello e₁ e₂ (λ b. exact_welcome b c.epoch i) (λ room b ps pending.
+            as_left Hello (e₁ ∙ ap (leaving c) e₂) (λ b. exact_welcome b c.epoch i) (λ room b ps pending.
             ap (λ (x : ℕ). record { core = At c ps pending; action = leave; answer = reply (welcome c.epoch.0 x) }) own
             ∙ sym (second (settings_of s room) (At c ps pending) ∙ ap (Lower (settings_of s room) (At c ps pending)) (lt-ltb e c.epoch.0 less)))
 
-        pub taken : {r : Outcome} {a : Answer} {i : Incarnation} {d : Replica} {n : Epoch} → n.0 ≡ e → c.epoch.0 ≤ e → i.0 ≡ max s.incarnation.0 1 → d ≡ connected_to c n → r ≡ clearing d seen a → a ≡ is_welcome n i
-            → Replies c s seen Hello r
-        taken {i = i} {d = d} {n = n} is high own e₀ e₁ e₂ =
-            subst (Replies c s seen Hello) (sym (e₁ ∙ (λ j. clearing (e₀ j) seen (e₂ j))))
-            (clears_is c s seen Hello (connected_to c n) (is_welcome n i) (λ b. exact_welcome b n i) (λ room b ps pending.
+        pub taken : {r : Outcome} {a : Answer} {i : Incarnation} {d : Replica} {n : Epoch} → n.0 ≡ e → c.epoch.0 ≤ e → i.0 ≡ max s.incarnation.0 1 → d ≡ connected_to c n → r ≡ clearing d a → a ≡ is_welcome n i
+            → Replies c s Hello r
+        taken {i = i} {n = n} is high own e₀ e₁ e₂ =
+            as_cleared Hello (e₁ ∙ (λ j. clearing (e₀ j) (e₂ j))) (λ b. exact_welcome b n i) (λ room b ps pending.
             ap (λ (x : ℕ). record { core = At (connected_to c n) ps []; action = clear; answer = reply (welcome n.0 x) }) own
             ∙ ap (λ (x : ℕ). record { core = At (connected_to c (record { 0 = x })) ps []; action = clear; answer = reply (welcome x (max s.incarnation.0 1)) }) is
-            ∙ sym (second (settings_of s room) (At c ps pending) ∙ ap (Lower (settings_of s room) (At c ps pending)) (le-ltb e c.epoch.0 high))))
+            ∙ sym (second (settings_of s room) (At c ps pending) ∙ ap (Lower (settings_of s room) (At c ps pending)) (le-ltb e c.epoch.0 high)))
 
   -- ---- Checked
 
@@ -111,10 +103,10 @@ module _ (c : Replica) (s : Settings) (seen : Lookup) where
     abbrev Asks : state.Settings → Core → Bool → Bool → CoreResult
     Asks L k t u = cond t (core_says k leave (nack h stale_epoch)) (cond (not u) (core_says k leave (nack h restarted)) (core_says (counting k (checked_at e k.counters)) leave (ack h 0)))
 
-    pub stale : {r : Outcome} {a : Answer} → e < c.epoch.0 → r ≡ leaving c seen a → a ≡ is_nack h 1 → Replies c s seen Checked r
+    pub stale : {r : Outcome} {a : Answer} → e < c.epoch.0 → r ≡ leaving c a → a ≡ is_nack h 1 → Replies c s Checked r
     unfolding core_checked
     stale less e₁ e₂ =
-        as_left Checked e₁ e₂ (λ b. exact_nack b h stale_epoch) (λ room b ps pending. sym (ap (λ (t : Bool). Asks (settings_of s room) (At c ps pending) t (eqb i (max s.incarnation.0 1))) (lt-ltb e c.epoch.0 less)))
+        as_left Checked (e₁ ∙ ap (leaving c) e₂) (λ b. exact_nack b h stale_epoch) (λ room b ps pending. sym (ap (λ (t : Bool). Asks (settings_of s room) (At c ps pending) t (eqb i (max s.incarnation.0 1))) (lt-ltb e c.epoch.0 less)))
 
     module _ (high : c.epoch.0 ≤ e) {own : ℕ} (is : own ≡ max s.incarnation.0 1) where
       not_stale : (room : ℕ) (ps : List Place) (pending : List (ℕ × ℕ)) → Checked (settings_of s room) (At c ps pending) ≡ Asks (settings_of s room) (At c ps pending) false (eqb i own)
@@ -123,11 +115,11 @@ module _ (c : Replica) (s : Settings) (seen : Lookup) where
           ap (λ (t : Bool). Asks (settings_of s room) (At c ps pending) t (eqb i (max s.incarnation.0 1))) (le-ltb e c.epoch.0 high)
           ∙ ap (λ (x : ℕ). Asks (settings_of s room) (At c ps pending) false (eqb i x)) (sym is)
 
-      pub other_run : {r : Outcome} {a : Answer} → (i ≡ own → ⊥) → r ≡ leaving c seen a → a ≡ is_nack h 4 → Replies c s seen Checked r
-      other_run off e₁ e₂ = as_left Checked e₁ e₂ (λ b. exact_nack b h restarted) (λ room b ps pending. sym (not_stale room ps pending ∙ ap (Asks (settings_of s room) (At c ps pending) false) (ne_eqb i own off)))
+      pub other_run : {r : Outcome} {a : Answer} → (i ≡ own → ⊥) → r ≡ leaving c a → a ≡ is_nack h 4 → Replies c s Checked r
+      other_run off e₁ e₂ = as_left Checked (e₁ ∙ ap (leaving c) e₂) (λ b. exact_nack b h restarted) (λ room b ps pending. sym (not_stale room ps pending ∙ ap (Asks (settings_of s room) (At c ps pending) false) (ne_eqb i own off)))
 
-      pub said : {r : Outcome} {a : Answer} {d : Replica} {n : Epoch} → n.0 ≡ e → i ≡ own → d ≡ checked_to c n → r ≡ leaving d seen a → a ≡ is_ack h (record { 0 = 0 }) → Replies c s seen Checked r
-      said {a = a} {d = d} {n = n} at same e₀ e₁ e₂ =
-          as_left Checked (e₁ ∙ ap (λ (x : Replica). leaving x seen a) e₀) e₂ (λ b. exact_ack b h (record { 0 = 0 })) (λ room b ps pending.
+      pub said : {r : Outcome} {a : Answer} {d : Replica} {n : Epoch} → n.0 ≡ e → i ≡ own → d ≡ checked_to c n → r ≡ leaving d a → a ≡ is_ack h (record { 0 = 0 }) → Replies c s Checked r
+      said {n = n} at same e₀ e₁ e₂ =
+          as_left Checked (e₁ ∙ (λ j. leaving (e₀ j) (e₂ j))) (λ b. exact_ack b h (record { 0 = 0 })) (λ room b ps pending.
           ap (λ (x : ℕ). record { core = At (checked_to c (record { 0 = x })) ps pending; action = leave; answer = reply (ack h 0) }) at
           ∙ sym (not_stale room ps pending ∙ ap (Asks (settings_of s room) (At c ps pending) false) (eq-eqb i own same)))

@@ -3,7 +3,6 @@ use Rattle.std.specs.Prelude.{ℕ, suc, min, ◌≡◌, Bool, false, cond, List,
 use Rattle.model_frame.specs.Parse.{is_empty}
 use Rattle.model_session.specs.Session.{top}
 use Rattle.frame_fields.specs.declared.Epoch.{Epoch}
-use Rattle.standby_row.specs.declared.Lookup.{Lookup}
 use Rattle.model_standby.specs.Store.{Place}
 use Rattle.model_standby.specs.State as state
 use Rattle.model_standby.specs.Core.{Core, CoreResult, core_hello, core_checked}
@@ -12,7 +11,7 @@ use Rattle.standby_state.specs.declared.Settings.{Settings}
 use Rattle.standby_state.specs.declared.Outcome.{Outcome}
 use Rattle.standby_state.specs.Answers.{answer_of}
 use Rattle.standby_state.specs.Exact.{Exact}
-use Rattle.standby_state.specs.Outcomes.{counters_of, settings_of, action_of, Lands}
+use Rattle.standby_state.specs.Outcomes.{counters_of, settings_of, action_of, clears, stores}
 
 abbrev pub connected_to : Replica → Epoch → Replica
 connected_to c e = record { epoch = e; connections = min (suc c.connections) top; promoted = c.promoted; checked = c.checked }
@@ -20,21 +19,20 @@ connected_to c e = record { epoch = e; connections = min (suc c.connections) top
 abbrev pub checked_to : Replica → Epoch → Replica
 checked_to c e = record { epoch = e; connections = c.connections; promoted = c.promoted; checked = 1 }
 
--- equal to the definition m, whatever the places, the pending commits and the hold areas
-pub record Replies (c : Replica) (s : Settings) (seen : Lookup) (m : state.Settings → Core → CoreResult) (r : Outcome) : Type 0 where
+-- equal to the definition m, whatever the places, the pending commits and the hold areas; no record is put
+pub record Replies (c : Replica) (s : Settings) (m : state.Settings → Core → CoreResult) (r : Outcome) : Type 0 where
   pub is : (version room : ℕ) (holds b : List ℕ) (ps : List Place) (pending : List (ℕ × ℕ))
       → record {
-        core = record { counters = counters_of r.replica; places = ps; pending = cond r.clears [] pending };
+        core = record { counters = counters_of r.replica; places = ps; pending = cond (clears r.action) [] pending };
         action = action_of version room holds r;
         answer = answer_of b r.answer;
       }
       ≡ m (settings_of s room) (record { counters = counters_of c; places = ps; pending = pending })
-  pub lands : (used room : ℕ) (area : List ℕ) → Lands seen used room area r
-  pub stays : r.stores ≡ false
+  pub stays : stores r.action ≡ false
   pub exact : (b : List ℕ) → Exact b r.answer
 
-abbrev pub HelloIs : Replica → Settings → Lookup → ℕ → ℕ → Bool → Outcome → Type 0
-HelloIs c s seen v e none r = (kinds : List ℕ) → is_empty kinds ≡ none → Replies c s seen (λ L k. core_hello L k v e kinds) r
+abbrev pub HelloIs : Replica → Settings → ℕ → ℕ → Bool → Outcome → Type 0
+HelloIs c s v e none r = (kinds : List ℕ) → is_empty kinds ≡ none → Replies c s (λ L k. core_hello L k v e kinds) r
 
-abbrev pub CheckedIs : Replica → Settings → Lookup → ℕ → ℕ → ℕ → Outcome → Type 0
-CheckedIs c s seen h e i r = Replies c s seen (λ L k. core_checked L k h e i) r
+abbrev pub CheckedIs : Replica → Settings → ℕ → ℕ → ℕ → Outcome → Type 0
+CheckedIs c s h e i r = Replies c s (λ L k. core_checked L k h e i) r

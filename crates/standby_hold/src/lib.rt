@@ -1,13 +1,14 @@
 // Holding a part of a session that is sent whole, until the last (standby.rs, hold).
 #![tactic(auto)]
 
-ghost use Rattle.std.specs.Prelude.{◌≡◌, cond, not, ◌&&◌, ◌≤◌, length, eqb};
+ghost use Rattle.std.specs.Prelude.{◌≡◌, cond, not, ◌&&◌, ◌≤◌, length, take, eqb};
+ghost use Rattle.model_frame.specs.Sizes.{sizes};
 ghost use Rattle.model_standby.specs.Standby.{starts_with_reset};
 ghost use Rattle.frame_op.specs.Answers.{held_run};
-ghost use Rattle.standby_changes.specs.Held.{TakesAll};
 ghost use Rattle.standby_hold.specs.Holding.{HoldIs};
 
 use frame_stamp::Protocol;
+use standby_changes::{AllChanges, Changes};
 use standby_counters::Replica;
 
 // How many bytes of the area are held, and their messages' byte sum.
@@ -36,29 +37,31 @@ fn counted(used: usize, sum: u64) -> u64
 }
 
 // Whether nothing is held and no Reset stands in front.
-fn lacks_reset(protocol: Protocol, run: &[u8], used: usize) -> bool
-    ensures { result ≡ (eqb used 0 && not (starts_with_reset (held_run protocol.version run.now))) }
+fn lacks_reset(changes: &Changes, used: usize) -> bool
+    ensures { result ≡ (eqb used 0 && not (starts_with_reset (held_run changes.now.protocol.version changes.now.run.now))) }
 {
-    used == 0 && !standby_changes::starts_with_reset(protocol, run)
+    used == 0 && !changes.starts_with_reset()
 }
 
-// Writes a run of changes after those held in the first `len` bytes of the area, whose messages' byte sum is given.
-pub fn hold(
-    protocol: Protocol,
-    run: &[u8],
-    area: &mut [u8],
-    len: usize,
-    sum: u64,
-) -> Result<Held, HoldError>
-    requires len_in_bounds { len ≤ length area.old }
-    requires takes_all { TakesAll protocol.version run.now }
-    ensures { HoldIs protocol.version run.now area.old len sum area.new result }
+// How many of the first `len` bytes of the area the changes held there take.
+fn held_length(protocol: Protocol, area: &[u8], len: usize) -> usize
+    requires { len ≤ length area.now }
+    ensures within { result ≤ length area.now }
+    ensures is { result ≡ sizes (held_run protocol.version (take len area.now)) }
 {
-    let used = standby_changes::run_length(protocol, &area[0..len]);
-    let more = standby_changes::message_bytes(protocol, run);
-    let sum = counted(used, sum).saturating_add(more);
-    let end = used + run.len();
-    if lacks_reset(protocol, run, used) {
+    Changes::new(protocol, &area[0..len]).run_length()
+}
+
+// Writes a run of changes after those held in the first bytes of the area, whose number and messages' byte sum are given.
+pub fn hold(all: &AllChanges, area: &mut [u8], held: Held) -> Result<Held, HoldError>
+    requires { held.used ≤ length area.old }
+    ensures { HoldIs all.now.changes.protocol.version all.now.changes.run.now area.old held.used held.sum area.new result }
+{
+    let changes = &all.changes;
+    let used = held_length(changes.protocol, area, held.used);
+    let sum = counted(used, held.sum).saturating_add(changes.message_bytes());
+    let end = used + changes.run.len();
+    if lacks_reset(changes, used) {
         return Err(HoldError::NoReset);
     }
     if Replica::MAX_WHOLE_SESSION_BYTES < sum {
@@ -67,6 +70,6 @@ pub fn hold(
     if area.len() < end {
         return Err(HoldError::AreaFull);
     }
-    standby_changes::hold_run(area, used, run);
+    base_bytes::copy(changes.run, area, used);
     Ok(Held { used: end, sum })
 }

@@ -32,7 +32,6 @@ use Rattle.standby_state.specs.Answers.{is_refused, is_done}
 use Rattle.standby_state.specs.Exact.{Exact}
 use Rattle.standby_state.specs.Outcomes.{counters_of, settings_of, leaving, clearing}
 use Rattle.standby_state.proofs.Exact.{exact_done, exact_refused}
-use Rattle.standby_hello.proofs.Laws.{leaving_lands, clearing_lands}
 use Rattle.standby_step.specs.Steps.{room_in, found_in, seen_allowed, Stepped, StepIs}
 use Rattle.standby_lifecycle.specs.Calls.{promoted_from, Promoted}
 
@@ -50,26 +49,30 @@ keeps_all t w e = sym (ap (λ (x : Bool). cond x (set w 1 0) w) e)
 pub still_kept : (s : Shape) (w b : List ℕ) {w1 : List ℕ} → Rules s w b → w1 ≡ set w 1 0 → Rules s w1 b
 still_kept s w b r first = subst (λ (x : List ℕ). Rules s x b) (sym first) (clear_rules s w b r)
 
-pub promoted_is : (s : Settings) (c : Replica) (seen : Lookup) (w b : List ℕ) → Rules s.shape w b → {w1 w' b' : List ℕ} {r : Outcome} {d : Replica} {a : Answer} → w1 ≡ set w 1 0 → TakenOver s.shape s.max_lag w1 w' b b'
-    → d ≡ promoted_from c → a ≡ is_done → r ≡ clearing d seen a → Promoted s c seen w w' b b' r
-promoted_is s c seen w b r {w1} {w'} {b'} first t₁ e₀ e₁ e₂ =
-    let t : TakenOver s.shape s.max_lag (set w 1 0) w' b b' = subst (λ (x : List ℕ). TakenOver s.shape s.max_lag x w' b b') first t₁ in
-    let kept : get_or (set w 1 0) 0 0 ≡ get_or w 0 0 = used_kept s.shape w (set w 1 0) b (clear_only w) in
-    let still : Rules s.shape (set w 1 0) b = clear_rules s.shape w b r in
+pub promoted_is : (s : Shape) (lag : ℕ) (c : Replica) (w b : List ℕ) → Rules s w b → {w1 w' b' : List ℕ} {r : Outcome} {d : Replica} {a : Answer} → w1 ≡ set w 1 0 → TakenOver s lag w1 w' b b'
+    → d ≡ promoted_from c → a ≡ is_done → r ≡ clearing d a → Promoted s lag c w w' b b' r
+promoted_is s lag c w b r {w1} {w'} {b'} first t₁ e₀ e₁ e₂ =
+    let t : TakenOver s lag (set w 1 0) w' b b' = subst (λ (x : List ℕ). TakenOver s lag x w' b b') first t₁ in
+    let kept : get_or (set w 1 0) 0 0 ≡ get_or w 0 0 = used_kept s w (set w 1 0) b (clear_only w) in
+    let still : Rules s (set w 1 0) b = clear_rules s w b r in
     let long : 66 ≤ length w = omega (arith, r.room.words_long) in
     let long' : 66 ≤ length (set w 1 0) = omega (arith, length-set w 1 0) in
-    let rules : Rules s.shape w' b' = rules_front s.shape (set w 1 0) w' b b' t.words.front t.words.same_length t.bytes.same_length still in
+    let rules : Rules s w' b' = rules_front s (set w 1 0) w' b b' t.words.front t.words.same_length t.bytes.same_length still in
     record {
-      is = e₂ ∙ (λ j. clearing (e₀ j) seen (e₁ j));
-      places = t.places ∙ ap (on_places (taken_over s.max_lag)) (places_kept s.shape w (set w 1 0) b (clear_only w));
+      is = e₂ ∙ (λ j. clearing (e₀ j) (e₁ j));
+      places = t.places ∙ ap (on_places (taken_over lag)) (places_kept s w (set w 1 0) b (clear_only w));
       pending = pending_kept (set w 1 0) w' long' still.pending t.words.front ∙ cleared w long;
       rules = rules;
       used = word_same 0 (set w 1 0) w' t.words.front (omega arith) ∙ kept;
-      words = subst (λ (k : ℕ). Only 66 (words_at s.shape k) (set w 1 0) w') kept t.words;
-      bytes = subst (λ (k : ℕ). Only 0 (bytes_at s.shape k) b b') kept t.bytes;
+      words = subst (λ (k : ℕ). Only 66 (words_at s k) (set w 1 0) w') kept t.words;
+      bytes = subst (λ (k : ℕ). Only 0 (bytes_at s k) b b') kept t.bytes;
     }
 
 -- ---- each call
+
+-- the areas at the end, by whichever names
+pub at_end : {s : Settings} {c : Replica} {seen : Lookup} {call : Call} {w x x' b y y' h : List ℕ} {r : Outcome} → StepIs s c seen call w x b y h h r → x' ≡ x → y' ≡ y → StepIs s c seen call w x' b y' h h r
+at_end {s} {c} {seen} {call} {w} {x} {x'} {b} {y} {y'} {h} {r} p e f = subst (λ (u : List ℕ). StepIs s c seen call w u b y' h h r) (sym e) (subst (λ (v : List ℕ). StepIs s c seen call w x b v h h r) (sym f) p)
 
 module _ (s : Settings) (c : Replica) (seen : Lookup) (w b h : List ℕ) where
   abbrev Sound : Bool
@@ -79,11 +82,11 @@ module _ (s : Settings) (c : Replica) (seen : Lookup) (w b h : List ℕ) where
   Was = core_at (counters_of c) s.shape w b
 
   -- 25
-  pub unsound : (call : Call) {r : Outcome} {a : Answer} → Sound ≡ false → a ≡ is_refused 25 → r ≡ leaving c seen a → StepIs s c seen call w w b b h h r
-  unsound call off e₁ e₂ = record {
-    refuses = λ _. (e₂ ∙ ap (leaving c seen) e₁, (refl, (refl, refl)));
+  pub unsound : (call : Call) {r : Outcome} → Sound ≡ false → r ≡ leaving c (is_refused 25) → StepIs s c seen call w w b b h h r
+  unsound call off e = record {
+    refuses = λ _. (e, (refl, (refl, refl)));
     steps = λ on own. absurd (true≢false (sym on ∙ off));
-    exact = subst (λ (x : Outcome). Exact b x.answer) (sym (e₂ ∙ ap (leaving c seen) e₁)) (exact_refused b 25);
+    exact = subst (λ (x : Outcome). Exact b x.answer) (sym e) (exact_refused b 25);
   }
 
   pub keeps : Sound ≡ true → Rules s.shape w b
@@ -92,6 +95,9 @@ module _ (s : Settings) (c : Replica) (seen : Lookup) (w b h : List ℕ) where
       front : (t u : Bool) → (t && u) ≡ true → t ≡ true
       front true u e = refl
       front false u e = absurd (true≢false (sym e))
+
+  pub front_there : Sound ≡ true → 66 ≤ length w
+  front_there on = omega (arith, (keeps on).room.words_long)
 
   -- the rules are kept
   module _ (on : Sound ≡ true) where
@@ -108,10 +114,10 @@ module _ (s : Settings) (c : Replica) (seen : Lookup) (w b h : List ℕ) where
       unfolding core_step
       flush_by t e = ap Flush e
 
-      not_flushed : {r : Outcome} {a : Answer} → (not (eqb n c.connections) || is_set c.promoted) ≡ true → a ≡ is_refused 22 → r ≡ leaving c seen a → StepIs s c seen (flush n) w w b b h h r
-      not_flushed e e₁ e₂ = subst (StepIs s c seen (flush n) w w b b h h) (sym (e₂ ∙ ap (leaving c seen) e₁)) (stepped (flush n) (exact_refused b 22) (record {
+      pub not_flushed : {r : Outcome} → (not (eqb n c.connections) || is_set c.promoted) ≡ true → r ≡ leaving c (is_refused 22) → StepIs s c seen (flush n) w w b b h h r
+      not_flushed e e₁ = subst (StepIs s c seen (flush n) w w b b h h) (sym e₁) (stepped (flush n) (exact_refused b 22) (record {
         is = sym (flush_by true e);
-        lands = leaving_lands c seen (is_refused 22) (get_or w 0 0) (room_in seen h);
+        lands = tt;
         kept = λ _. refl;
         rules = keeps on;
         more = omega arith;
@@ -119,17 +125,11 @@ module _ (s : Settings) (c : Replica) (seen : Lookup) (w b h : List ℕ) where
         holds = refl;
       }))
 
-      pub other_connection : {r : Outcome} {a : Answer} → (n ≡ c.connections → ⊥) → a ≡ is_refused 22 → r ≡ leaving c seen a → StepIs s c seen (flush n) w w b b h h r
-      other_connection off = not_flushed (ap (λ (t : Bool). not t || is_set c.promoted) (ne_eqb n c.connections off))
-
-      pub after_promotion : {r : Outcome} {a : Answer} → n ≡ c.connections → (c.promoted ≡ 0 → ⊥) → a ≡ is_refused 22 → r ≡ leaving c seen a → StepIs s c seen (flush n) w w b b h h r
-      after_promotion same done-so = not_flushed (ap (λ (t : Bool). not t || is_set c.promoted) (eq-eqb n c.connections same) ∙ set_so c.promoted done-so)
-
-      pub flushed : {w' : List ℕ} {r : Outcome} {a : Answer} → n ≡ c.connections → c.promoted ≡ 0 → Ran s.shape b w w' → a ≡ is_done → r ≡ leaving c seen a → StepIs s c seen (flush n) w w' b b h h r
-      flushed {w'} same off ran e₁ e₂ = subst (StepIs s c seen (flush n) w w' b b h h) (sym (e₂ ∙ ap (leaving c seen) e₁)) (stepped (flush n) (exact_done b) (record {
+      pub flushed : {w' : List ℕ} {r : Outcome} {a : Answer} → (not (eqb n c.connections) || is_set c.promoted) ≡ false → Ran s.shape b w w' → a ≡ is_done → r ≡ leaving c a → StepIs s c seen (flush n) w w' b b h h r
+      flushed {w'} off ran e₁ e₂ = subst (StepIs s c seen (flush n) w w' b b h h) (sym (e₂ ∙ ap (leaving c) e₁)) (stepped (flush n) (exact_done b) (record {
         is = (λ j. record { core = record { counters = counters_of c; places = ran.places j; pending = ran.pending j }; action = leave; answer = done })
-            ∙ sym (flush_by false (ap (λ (t : Bool). not t || is_set c.promoted) (eq-eqb n c.connections same) ∙ clear_so c.promoted off));
-        lands = leaving_lands c seen is_done (get_or w' 0 0) (room_in seen h);
+            ∙ sym (flush_by false off);
+        lands = tt;
         kept = λ _. refl;
         rules = ran.rules;
         more = omega (arith, ran.used);
@@ -150,12 +150,13 @@ module _ (s : Settings) (c : Replica) (seen : Lookup) (w b h : List ℕ) where
       abbrev Left : Bool → List ℕ
       Left t = cond t (set w 1 0) w
 
-      pub other_lost : {w' : List ℕ} {r : Outcome} {a : Answer} → eqb n c.connections ≡ false → w' ≡ Left (eqb n c.connections) → a ≡ is_done → r ≡ leaving c seen a → StepIs s c seen (disconnected_from n) w w' b b h h r
-      other_lost {w'} {r} e left e₁ e₂ =
+      pub other_lost : {w' : List ℕ} {r : Outcome} {a : Answer} → (n ≡ c.connections → ⊥) → w' ≡ Left (eqb n c.connections) → a ≡ is_done → r ≡ leaving c a → StepIs s c seen (disconnected_from n) w w' b b h h r
+      other_lost {w'} {r} other left e₁ e₂ =
+          let e : eqb n c.connections ≡ false = ne_eqb n c.connections other in
           subst (λ (x : List ℕ). StepIs s c seen (disconnected_from n) w x b b h h r) (sym (left ∙ ap Left e))
-          (subst (StepIs s c seen (disconnected_from n) w w b b h h) (sym (e₂ ∙ ap (leaving c seen) e₁)) (stepped (disconnected_from n) (exact_done b) (record {
+          (subst (StepIs s c seen (disconnected_from n) w w b b h h) (sym (e₂ ∙ ap (leaving c) e₁)) (stepped (disconnected_from n) (exact_done b) (record {
             is = sym (lost_by false e);
-            lands = leaving_lands c seen is_done (get_or w 0 0) (room_in seen h);
+            lands = tt;
             kept = λ _. refl;
             rules = keeps on;
             more = omega arith;
@@ -163,14 +164,15 @@ module _ (s : Settings) (c : Replica) (seen : Lookup) (w b h : List ℕ) where
             holds = refl;
           })))
 
-      pub own_lost : {w' : List ℕ} {r : Outcome} {a : Answer} → eqb n c.connections ≡ true → w' ≡ Left (eqb n c.connections) → a ≡ is_done → r ≡ clearing c seen a → StepIs s c seen (disconnected_from n) w w' b b h h r
-      own_lost {w'} {r} e left e₁ e₂ =
-          let long : 66 ≤ length w = omega (arith, (keeps on).room.words_long) in
+      pub own_lost : {w' : List ℕ} {r : Outcome} {a : Answer} → n ≡ c.connections → w' ≡ Left (eqb n c.connections) → a ≡ is_done → r ≡ clearing c a → StepIs s c seen (disconnected_from n) w w' b b h h r
+      own_lost {w'} {r} same left e₁ e₂ =
+          let e : eqb n c.connections ≡ true = eq-eqb n c.connections same in
+          let long : 66 ≤ length w = front_there on in
           subst (λ (x : List ℕ). StepIs s c seen (disconnected_from n) w x b b h h r) (sym (left ∙ ap Left e))
-          (subst (StepIs s c seen (disconnected_from n) w (set w 1 0) b b h h) (sym (e₂ ∙ ap (clearing c seen) e₁)) (stepped (disconnected_from n) (exact_done b) (record {
+          (subst (StepIs s c seen (disconnected_from n) w (set w 1 0) b b h h) (sym (e₂ ∙ ap (clearing c) e₁)) (stepped (disconnected_from n) (exact_done b) (record {
             is = (λ j. record { core = record { counters = counters_of c; places = places_kept s.shape w (set w 1 0) b (clear_only w) j; pending = cleared w long j }; action = clear; answer = done })
                 ∙ sym (lost_by true e);
-            lands = clearing_lands c seen is_done (get_or (set w 1 0) 0 0) (room_in seen h);
+            lands = tt;
             kept = λ _. refl;
             rules = clear_rules s.shape w b (keeps on);
             more = omega (arith, used_kept s.shape w (set w 1 0) b (clear_only w));
@@ -191,10 +193,10 @@ module _ (s : Settings) (c : Replica) (seen : Lookup) (w b h : List ℕ) where
     unfolding core_step
     unchecked_by = refl
 
-    pub not_checked : {r : Outcome} {a : Answer} → c.checked ≡ 0 → a ≡ is_refused 23 → r ≡ leaving c seen a → StepIs s c seen promote w w b b h h r
-    not_checked off e₁ e₂ = subst (StepIs s c seen promote w w b b h h) (sym (e₂ ∙ ap (leaving c seen) e₁)) (stepped promote (exact_refused b 23) (record {
+    pub not_checked : {r : Outcome} → c.checked ≡ 0 → r ≡ leaving c (is_refused 23) → StepIs s c seen promote w w b b h h r
+    not_checked off e₁ = subst (StepIs s c seen promote w w b b h h) (sym e₁) (stepped promote (exact_refused b 23) (record {
       is = sym (promote_by false (clear_so c.checked off));
-      lands = leaving_lands c seen (is_refused 23) (get_or w 0 0) (room_in seen h);
+      lands = tt;
       kept = λ e. absurd (true≢false (sym e));
       rules = keeps on;
       more = omega arith;
@@ -202,7 +204,7 @@ module _ (s : Settings) (c : Replica) (seen : Lookup) (w b h : List ℕ) where
       holds = refl;
     }))
 
-    module _ {w' b' : List ℕ} {r : Outcome} (p : Promoted s c seen w w' b b' r) where
+    module _ {w' b' : List ℕ} {r : Outcome} (p : Promoted s.shape s.max_lag c w w' b b' r) where
       abbrev Is : CoreResult
       Is = record { core = core_at (counters_of (promoted_from c)) s.shape w' b'; action = clear; answer = done }
 
@@ -212,7 +214,7 @@ module _ (s : Settings) (c : Replica) (seen : Lookup) (w b h : List ℕ) where
       pub promoted_checked : (c.checked ≡ 0 → ⊥) → StepIs s c seen promote w w' b b' h h r
       promoted_checked said = subst (StepIs s c seen promote w w' b b' h h) (sym p.is) (stepped promote (exact_done b') (record {
         is = is ∙ sym (promote_by true (set_so c.checked said));
-        lands = clearing_lands (promoted_from c) seen is_done (get_or w' 0 0) (room_in seen h);
+        lands = tt;
         kept = λ e. absurd (true≢false (sym e));
         rules = p.rules;
         more = omega (arith, p.used);
@@ -223,7 +225,7 @@ module _ (s : Settings) (c : Replica) (seen : Lookup) (w b h : List ℕ) where
       pub promoted_unchecked : StepIs s c seen promote_unchecked w w' b b' h h r
       promoted_unchecked = subst (StepIs s c seen promote_unchecked w w' b b' h h) (sym p.is) (stepped promote_unchecked (exact_done b') (record {
         is = is ∙ sym unchecked_by;
-        lands = clearing_lands (promoted_from c) seen is_done (get_or w' 0 0) (room_in seen h);
+        lands = tt;
         kept = λ e. absurd (true≢false (sym e));
         rules = p.rules;
         more = omega (arith, p.used);

@@ -2,10 +2,9 @@
 use mathlib.Core.Path.{◌≡◌, refl, sym, ap, subst, ◌∙◌}
 use mathlib.Core.Bool.{Bool, true, false, cond, not, true≢false}
 use mathlib.Core.List.{List, [], ◌∷◌, ◌++◌}
-use Prim.Native.Nat.{ℕ, ◌-◌, ◌<◌}
+use Prim.Native.Nat.{ℕ, ◌<◌}
 use native.Mathlib.Omega.{arith}
-use native.Mathlib.Nat.{sub-zero}
-use lib.ListN.{length, get_or, take, drop}
+use lib.ListN.{length, get_or, take}
 use Rattle.base_refusals.specs.declared.Refusal.{Refusal}
 use Rattle.model_frame.specs.Frame.{Part, Change, commit, diverged, ack, nack}
 use Rattle.model_frame.specs.Parse.{is_empty}
@@ -96,10 +95,6 @@ module _ (version : ℕ) (s : Shape) (h : BoundRecord) (n : CommitNumber) (part 
       }
 
 -- ---- Commit
-
--- whether the first bytes of an area hold a change, as they are lent
-pub front_none : (version len : ℕ) (area : List ℕ) {t : Bool} → t ≡ is_empty (held_run version (take (len - 0) (drop 0 area))) → t ≡ is_empty (held_run version (take len area))
-front_none version len area e = e ∙ ap (λ (k : ℕ). is_empty (held_run version (take k area))) (sub-zero len)
 
 module _ (version : ℕ) (s : Shape) (h : BoundRecord) (n : CommitNumber) (cs : List Change) (w b area : List ℕ) {t : Bool} (l : t ≡ is_empty (held_run version (take h.held_len area))) where
   abbrev H : List Change

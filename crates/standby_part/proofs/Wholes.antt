@@ -5,10 +5,9 @@ use Rattle.std.specs.Prelude.{Result, Ok, Err}
 use Rattle.base_refusals.specs.declared.Refusal.{Refusal}
 use Rattle.base_refusals.specs.Numbers.{number_of}
 use mathlib.Core.List.{List, [], ◌++◌}
-use Prim.Native.Nat.{ℕ, ◌+◌, ◌-◌, ◌<◌, ◌≤◌}
+use Prim.Native.Nat.{ℕ, ◌+◌, ◌<◌, ◌≤◌}
 use native.Mathlib.Omega.{arith}
-use native.Mathlib.Nat.{sub-zero}
-use lib.ListN.{length, get_or, take, drop}
+use lib.ListN.{length, get_or, take}
 use lib.Dec.{ltb, T}
 use borrow.Author.Tests.{eqb-false, ltb-false}
 use Rattle.model_frame.specs.Bytes.{is_bytes}
@@ -181,7 +180,7 @@ module _ (version : ℕ) (h : Bound) (n : CommitNumber) (run area : List ℕ) wh
   unfolding core_part
   last_on s w b c incarnation lag = refl
 
-  module _ (known : (i : ℕ) → get_or area i 0 < 256) (known' : (i : ℕ) → get_or run i 0 < 256) (len : h.held_len ≤ length area) (all : TakesAll version run)
+  module _ (known : (i : ℕ) → get_or area i 0 < 256) (hr : T (is_bytes run)) (len : h.held_len ≤ length area) (all : TakesAll version run)
       {area' : List ℕ} (x : Held) (g : HoldIs version run area h.held_len h.held_bytes area' (Ok x)) where
     within_area : sizes K + length run ≤ length area
     within_area =
@@ -196,7 +195,6 @@ module _ (version : ℕ) (h : Bound) (n : CommitNumber) (run area : List ℕ) wh
     held_now : held_run version (take x.used area') ≡ K ++ held_run version run
     held_now =
         let ha : T (is_bytes area) = are_bytes area known in
-        let hr : T (is_bytes run) = are_bytes run known' in
         let front : held_run version (take (sizes K) area) ≡ K = held_in version area h.held_len ha in
         ap (λ (m : ℕ). held_run version (take m area')) g.told.0 ∙ ap (λ (l : List ℕ). held_run version (take (sizes K + length run) l)) g.written
         ∙ held_written version area (sizes K) run ha hr within_area (ap sizes front) ∙ ap (λ (l : List Change). l ++ held_run version run) front
@@ -222,16 +220,12 @@ module _ (version : ℕ) (h : Bound) (n : CommitNumber) (run area : List ℕ) wh
 
     -- ---- LastWhole
 
-    -- the held changes as they are lent
-    lent_run : held_run version (take (x.used - 0) (drop 0 area')) ≡ K ++ held_run version run
-    lent_run = ap (λ (k : ℕ). held_run version (take k area')) (sub-zero x.used) ∙ held_now
-
     module _ (s : Shape) (w b : List ℕ) (used : h.place < get_or w 0 0) where
       on : GoesTo version s h n last_whole (held_run version run) (K ++ held_run version run) w b area area' [] 0 used
       on c incarnation lag = last_on s w b c incarnation lag ∙ hold_goes version h n run area s w b c incarnation lag (Settle s w b c incarnation lag) g refl
 
-      pub last_settled : {w' b' : List ℕ} {d : PartResult} → SettledIs s (holding_to h h.commit_no 0 0) n (held_run version (take (x.used - 0) (drop 0 area'))) w w' b b' d
+      pub last_settled : {w' b' : List ℕ} {d : PartResult} → SettledIs s (holding_to h h.commit_no 0 0) n (held_run version (take x.used area')) w w' b b' d
           → PartIs version s h n.0 last_whole (held_run version run) w w' b b' area area' d
       last_settled {w'} {b'} {d} t =
           settled_part version s h n last_whole (held_run version run) (K ++ held_run version run) w b area area' [] 0 used (held_none version [] (omega arith)) on (λ t. refl)
-          (subst (λ (l : List Change). SettledIs s (holding_to h h.commit_no 0 0) n l w w' b b' d) lent_run t)
+          (subst (λ (l : List Change). SettledIs s (holding_to h h.commit_no 0 0) n l w w' b b' d) held_now t)

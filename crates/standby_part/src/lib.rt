@@ -1,11 +1,10 @@
 // A Batch on a bound handle (standby.rs, on_batch): Commit, Whole, LastWhole.
 #![tactic(auto)]
 
-ghost use Rattle.std.specs.Prelude.{◌≡◌, ◌≤◌, ◌<◌, length, get_or};
+ghost use Rattle.std.specs.Prelude.{◌≡◌, ◌≤◌, ◌<◌, length, take, get_or};
 ghost use Rattle.model_frame.specs.Frame.{commit, last_whole};
 ghost use Rattle.frame_op.specs.Answers.{held_run};
-ghost use Rattle.standby_changes.specs.Held.{TakesAll};
-ghost use Rattle.store_areas.specs.Areas.{Rules};
+ghost use Rattle.store_areas.specs.Same.{SameAreas};
 ghost use Rattle.standby_pending.specs.Pending.{count_of};
 ghost use Rattle.standby_part.specs.Part.{part_refusal, not_held, SettledIs, PartIs, WholeIs, AreaIs};
 ghost use Rattle.standby_part.specs.State.{holding_to};
@@ -13,11 +12,13 @@ ghost use Rattle.standby_part.specs.State.{holding_to};
 use base_refusals::Refusal;
 use frame_fields::CommitNumber;
 use frame_stamp::Protocol;
+use standby_changes::{AllChanges, Changes};
 use standby_hold::{Held, HoldError};
 use standby_row::Bound;
-use store_areas::Shape;
+use store_areas::Store;
 
-// What a Commit, Whole or LastWhole gives, with the handle's record as it is to be where it changes.
+// What a Commit, Whole or LastWhole gives, with the handle's record as it is to be where it changes. A refusal may change the
+// record and a Nack is an answer, so that this is no Result.
 #[derive(Clone, Copy)]
 pub enum PartResult {
     // Turned down.
@@ -57,23 +58,13 @@ fn not_held(bound: Bound, error: HoldError) -> PartResult
 }
 
 // Settles a run of changes at the record's place: the record takes the number if they are applied.
-fn settle(
-    protocol: Protocol,
-    run: &[u8],
-    words: &mut [u64],
-    bytes: &mut [u8],
-    shape: Shape,
-    bound: Bound,
-    number: CommitNumber,
-) -> PartResult
-    requires rules { Rules shape words.old bytes.old }
-    requires place_bound { bound.place < get_or words.old 0 0 }
-    requires words_bound { count_of words.old < 64 }
-    ensures { SettledIs shape bound number (held_run protocol.version run.now) words.old words.new bytes.old bytes.new result }
+fn settle(changes: &Changes, store: &mut Store, bound: Bound, number: CommitNumber) -> PartResult
+    requires place_bound { bound.place < get_or store.old.words.now 0 0 }
+    requires words_bound { count_of store.old.words.now < 64 }
+    ensures is { SettledIs store.old.shape bound number (held_run changes.now.protocol.version changes.now.run.now) store.old.words.now store.new.words.now store.old.bytes.now store.new.bytes.now result }
+    ensures same { SameAreas store.old store.new }
 {
-    let place = bound.place;
-    let handle = bound.handle;
-    if standby_commit::commit_changes(protocol, run, words, bytes, shape, place, handle) {
+    if standby_commit::commit_changes(changes, store, bound.place, bound.handle) {
         return PartResult::Accepted(Bound {
             commit_no: number,
             ..bound
@@ -82,47 +73,56 @@ fn settle(
     PartResult::Diverged(bound)
 }
 
+// The changes that an area holds in its first `len` bytes.
+fn held_changes(protocol: Protocol, area: &[u8], len: usize) -> Changes<'_>
+    requires { len ≤ length area.now }
+    ensures protocol { result.protocol ≡ protocol }
+    ensures run { result.run.now ≡ take len area.now }
+{
+    Changes::new(protocol, &area[0..len])
+}
+
+// The record was found in the row, whose places only standby_rules compares with the store: each part asks for its place.
 // A Commit: 15 while changes are held.
 pub fn on_commit(
-    protocol: Protocol,
-    run: &[u8],
-    words: &mut [u64],
-    bytes: &mut [u8],
+    changes: &Changes,
+    store: &mut Store,
     area: &[u8],
-    shape: Shape,
     bound: Bound,
     number: CommitNumber,
 ) -> PartResult
-    requires rules { Rules shape words.old bytes.old }
-    requires place_bound { bound.place < get_or words.old 0 0 }
-    requires words_bound { count_of words.old < 64 }
+    requires place_bound { bound.place < get_or store.old.words.now 0 0 }
+    requires words_bound { count_of store.old.words.now < 64 }
     requires held_len_in_bounds { bound.held_len ≤ length area.now }
-    ensures { PartIs protocol.version shape bound number.0 commit (held_run protocol.version run.now) words.old words.new bytes.old bytes.new area.now area.now result }
+    ensures is { PartIs changes.now.protocol.version store.old.shape bound number.0 commit (held_run changes.now.protocol.version changes.now.run.now) store.old.words.now store.new.words.now store.old.bytes.now store.new.bytes.now area.now area.now result }
+    ensures same { SameAreas store.old store.new }
 {
-    if !standby_changes::is_none(protocol, &area[0..bound.held_len]) {
+    if !held_changes(changes.protocol, area, bound.held_len).is_none() {
         return PartResult::Refused(Refusal::ChangesHeld);
     }
     let none_held = Bound {
         held_len: 0,
         ..bound
     };
-    settle(protocol, run, words, bytes, shape, none_held, number)
+    settle(changes, store, none_held, number)
 }
 
 // A Whole: its changes are held after those before them.
 pub fn on_whole(
-    protocol: Protocol,
-    run: &[u8],
+    changes: &AllChanges,
     area: &mut [u8],
     bound: Bound,
     number: CommitNumber,
 ) -> PartResult
     requires held_len_in_bounds { bound.held_len ≤ length area.old }
-    requires takes_all { TakesAll protocol.version run.now }
-    ensures is { WholeIs protocol.version bound number.0 (held_run protocol.version run.now) area.old area.new result }
-    ensures area { AreaIs protocol.version bound run.now area.old area.new (part_refusal result) }
+    ensures is { WholeIs changes.now.changes.protocol.version bound number.0 (held_run changes.now.changes.protocol.version changes.now.changes.run.now) area.old area.new result }
+    ensures area { AreaIs changes.now.changes.protocol.version bound changes.now.changes.run.now area.old area.new (part_refusal result) }
 {
-    match standby_hold::hold(protocol, run, area, bound.held_len, bound.held_bytes) {
+    let before = Held {
+        used: bound.held_len,
+        sum: bound.held_bytes,
+    };
+    match standby_hold::hold(changes, area, before) {
         Ok(held) => PartResult::Accepted(with_held(bound, number, held)),
         Err(error) => not_held(bound, error),
     }
@@ -130,33 +130,33 @@ pub fn on_whole(
 
 // A LastWhole: its changes are held too, and all of them are settled at once.
 pub fn on_last_whole(
-    protocol: Protocol,
-    run: &[u8],
-    words: &mut [u64],
-    bytes: &mut [u8],
+    changes: &AllChanges,
+    store: &mut Store,
     area: &mut [u8],
-    shape: Shape,
     bound: Bound,
     number: CommitNumber,
 ) -> PartResult
-    requires rules { Rules shape words.old bytes.old }
-    requires place_bound { bound.place < get_or words.old 0 0 }
-    requires words_bound { count_of words.old < 64 }
+    requires place_bound { bound.place < get_or store.old.words.now 0 0 }
+    requires words_bound { count_of store.old.words.now < 64 }
     requires held_len_in_bounds { bound.held_len ≤ length area.old }
-    requires takes_all { TakesAll protocol.version run.now }
-    ensures is { PartIs protocol.version shape bound number.0 last_whole (held_run protocol.version run.now) words.old words.new bytes.old bytes.new area.old area.new result }
-    ensures area { AreaIs protocol.version bound run.now area.old area.new (part_refusal result) }
+    ensures is { PartIs changes.now.changes.protocol.version store.old.shape bound number.0 last_whole (held_run changes.now.changes.protocol.version changes.now.changes.run.now) store.old.words.now store.new.words.now store.old.bytes.now store.new.bytes.now area.old area.new result }
+    ensures area { AreaIs changes.now.changes.protocol.version bound changes.now.changes.run.now area.old area.new (part_refusal result) }
+    ensures same { SameAreas store.old store.new }
 {
-    let all = standby_hold::hold(protocol, run, area, bound.held_len, bound.held_bytes);
-    match all {
+    let before = Held {
+        used: bound.held_len,
+        sum: bound.held_bytes,
+    };
+    let held = standby_hold::hold(changes, area, before);
+    match held {
         Ok(held) => {
             let none_held = Bound {
                 held_len: 0,
                 held_bytes: 0,
                 ..bound
             };
-            let changes = &area[0..held.used];
-            settle(protocol, changes, words, bytes, shape, none_held, number)
+            let all = held_changes(changes.changes.protocol, area, held.used);
+            settle(&all, store, none_held, number)
         }
         Err(error) => not_held(bound, error),
     }

@@ -1,7 +1,7 @@
 -- The words before the first place, but for the number of places in use, say nothing of the places. Assumes nothing.
 use mathlib.Core.Path.{◌≡◌, sym, ap, ◌∙◌}
 use mathlib.Core.List.{List}
-use Prim.Native.Nat.{ℕ, ◌+◌, ◌≤◌, ◌<◌}
+use Prim.Native.Nat.{ℕ, ◌≤◌, ◌<◌}
 use native.Mathlib.Omega.{arith}
 use lib.ListN.{length, take, get_or, set}
 use lib.Seq.{get_or-take, get_or-set_same}
@@ -54,11 +54,7 @@ module _ (s : Shape) (w w' b : List ℕ) (o : Only 1 66 w w') where
     pending = h;
   }
 
--- ---- one commit more, and none (`standby_pending::push`, `standby_pending::clear`)
-
--- the words that `push` leaves
-abbrev pub pushed_words : ℕ → ℕ → List ℕ → List ℕ
-pushed_words n x w = set (set w (2 + n) x) 1 (n + 1)
+-- ---- no commit any more (`standby_pending::clear`)
 
 pub clear_only : (w : List ℕ) → Only 1 66 w (set w 1 0)
 clear_only w = only_wider 1 2 1 66 w (set w 1 0) (only_set 1 0 w) (omega arith) (omega arith)

@@ -1,5 +1,5 @@
 -- Marking the session at a place, and the sessions of all pending commits. Assumes nothing.
-use mathlib.Core.Path.{◌≡◌, refl, sym, ap, subst, ◌∙◌}
+use mathlib.Core.Path.{◌≡◌, refl, sym, ap, ◌∙◌}
 use mathlib.Core.Logic.{◌⊎◌, inl, inr}
 use mathlib.Core.Bool.{Bool, true, false, cond}
 use mathlib.Core.List.{List, [], ◌∷◌}
@@ -18,7 +18,7 @@ use Rattle.store_areas.proofs.Lifting.{places_length}
 use Rattle.store_areas.proofs.Marking.{marked}
 use Rattle.standby_pending.specs.Pending.{pending_of}
 use Rattle.standby_pending.proofs.Laws.{cleared}
-use Rattle.standby_pending_run.specs.Commits.{marked_at, marked_words, ran_words, Ran, RanIf}
+use Rattle.standby_pending_run.specs.Commits.{marked_at, marked_words, ran_words, Ran}
 use Rattle.standby_pending_run.proofs.Head.{word_same, rules_front, used_kept, places_kept, clear_only, clear_rules}
 
 -- ---- a session, if its place is in use
@@ -99,11 +99,3 @@ ran s b w r =
       used = used_kept s v (set v 1 0) b o ∙ word_same 0 w v m.front (omega arith);
       same_length = length-set v 1 0 ∙ m.same_length;
     }
-
-pub ran_due : (due : Bool) (s : Shape) (b w w' : List ℕ) → due ≡ true → Ran s b w w' → RanIf due s b w w'
-ran_due due s b w w' e k =
-    subst (λ (t : Bool). RanIf t s b w w') (sym e)
-    (record { words = k.words; places = k.places; pending = k.pending; rules = k.rules; used = k.used; same_length = k.same_length })
-
-pub ran_not : (due : Bool) (s : Shape) (b w : List ℕ) → due ≡ false → Rules s w b → RanIf due s b w w
-ran_not due s b w e r = subst (λ (t : Bool). RanIf t s b w w) (sym e) (record { words = refl; places = refl; pending = refl; rules = r; used = refl; same_length = refl })

@@ -1,13 +1,13 @@
 -- The loop over the pending commits: those left, run from here, are all run from the start. Assumes nothing.
 use mathlib.Core.Path.{◌≡◌, refl, sym, ap, subst, ◌∙◌}
 use mathlib.Core.List.{List, [], ◌∷◌, map}
-use Prim.Native.Nat.{ℕ, suc, ◌+◌, ◌*◌, ◌/◌, ◌≤◌, ◌<◌}
+use Prim.Native.Nat.{ℕ, suc, ◌+◌, ◌/◌, ◌≤◌, ◌<◌}
 use native.Mathlib.Omega.{arith}
 use native.Mathlib.Numerals.{add-one}
 use lib.ListN.{length, take, drop, get_or, set, length-drop, drop_of_length-le}
 use lib.Seq.{drop-cons, get_or-drop, get_or-take, length-take-le}
 use Rattle.store_areas.specs.declared.Shape.{Shape}
-use Rattle.store_areas.specs.Areas.{place_words, Rules}
+use Rattle.store_areas.specs.Areas.{Rules}
 use Rattle.standby_pending.specs.Pending.{count_of, commit_of, pending_of}
 use Rattle.standby_pending_run.specs.Commits.{marked_at, marked_words, ran_words, Ran}
 use Rattle.standby_pending_run.proofs.Head.{word_same}
@@ -31,10 +31,6 @@ module _ (s : Shape) (b w₀ : List ℕ) where
   pub starts : Rules s w₀ b → Running w₀ 0
   unfolding pending_of
   starts r = record { rules = r; upto = omega arith; front = refl; same_length = refl; left = refl }
-
-  -- what `mark_used` asks
-  pub asks : (w : List ℕ) (i : ℕ) → Running w i → (s.messages ≤ 65536) × ((66 + s.places * place_words s ≤ length w) × (get_or w 0 0 ≤ s.places))
-  asks w i k = (k.rules.room.messages_limit, (omega (arith, k.rules.room.words_long, k.same_length), omega (arith, k.rules.used, word_same 0 w₀ w k.front (omega arith))))
 
   many : Rules s w₀ b → length commits ≡ count_of w₀
   many r =

@@ -16,12 +16,7 @@ use standby_state::{Answer, BoundSummary};
 fn reason(n: u8) -> NackReason
     ensures { reason_of result ≡ reason_by n }
 {
-    match n {
-        frame_fields::reason::STALE_EPOCH => NackReason::StaleEpoch,
-        frame_fields::reason::DIVERGED => NackReason::Diverged,
-        frame_fields::reason::LAG => NackReason::Lag,
-        _ => NackReason::Restarted,
-    }
+    NackReason::try_from(n).unwrap_or(NackReason::Restarted)
 }
 
 fn in_flight(has: u8, n: u64) -> Option<u64>
@@ -50,9 +45,7 @@ fn is_frame(answer: Answer) -> bool
     (answer.refusal == 0)
         & ((((answer.kind == kind::WELCOME) | (answer.kind == kind::ACK))
             | (answer.kind == kind::BOUND))
-            | ((answer.kind == kind::NACK)
-                & ((frame_fields::reason::STALE_EPOCH <= answer.reason)
-                    & (answer.reason <= frame_fields::reason::RESTARTED))))
+            | ((answer.kind == kind::NACK) & NackReason::try_from(answer.reason).is_ok()))
 }
 
 // The frame of an answer that is one.

@@ -10,7 +10,7 @@ use frame_fields::CommitNumber;
 #[repr(C)]
 #[derive(Clone, Copy)]
 pub struct Bound {
-    // Whether the record is used: it is if this is not 0.
+    // Whether the record is used: it is if this is not 0. C lends the row, and what is lent has no bool.
     pub used: u8,
     pub handle: u32,
     pub place: usize,

@@ -1,22 +1,19 @@
 -- The record of each answer is exact as it is made. Assumes nothing.
 use Prim.Native.Nat.{ℕ}
-use mathlib.Core.Path.{◌≡◌, refl, sym, ap, ◌∙◌}
+use mathlib.Core.Path.{◌≡◌, refl, ap}
 use mathlib.Core.Bool.{Bool, true, false, cond}
 use mathlib.Core.List.{List}
-use mathlib.Core.Option.{Option, none, some}
-use native.Mathlib.Omega.{arith}
 use lib.Dec.{eqb}
 use borrow.Author.Tests.{eqb-true}
-use Rattle.base_flags.specs.Flag.{is_set}
 use Rattle.model_frame.specs.Frame.{Reason, stale_epoch, diverged, lag_too_great, restarted}
-use Rattle.model_frame.specs.Writing.{reason_number, flight_number}
+use Rattle.model_frame.specs.Writing.{reason_number}
 use Rattle.frame_fields.specs.declared.CommitNumber.{CommitNumber}
 use Rattle.frame_fields.specs.declared.Epoch.{Epoch}
 use Rattle.frame_fields.specs.declared.Incarnation.{Incarnation}
 use Rattle.model_standby.specs.Answer.{refused, done}
 use Rattle.standby_state.specs.declared.BoundSummary.{BoundSummary}
-use Rattle.standby_state.specs.Answers.{blank_of, is_refused, is_done, is_welcome, is_ack, is_nack, is_bound}
-use Rattle.standby_state.specs.Exact.{flight_flag, RecordOf, Exact, ExactSummary}
+use Rattle.standby_state.specs.Answers.{is_refused, is_done, is_welcome, is_ack, is_nack, is_bound}
+use Rattle.standby_state.specs.Exact.{RecordOf, Exact, ExactSummary}
 
 pub exact_done : (b : List ℕ) → Exact b is_done
 exact_done b = record { is = refl }

@@ -1,8 +1,9 @@
 -- What a call's outcome stands for: the state but for the row, what is to be done to the row, and the answer. Assumes nothing.
-use Rattle.std.specs.Prelude.{ℕ, ◌*◌, ◌<◌, ◌≤◌, ◌≡◌, true, false, cond, List, take, drop, ltb}
+use Rattle.std.specs.Prelude.{ℕ, ◌*◌, ◌<◌, ◌≤◌, ◌≡◌, Bool, true, false, cond, List, take, drop, set, ltb}
 use Rattle.base_flags.specs.Flag.{is_set}
 use Rattle.standby_row.specs.declared.Bound.{Bound}
 use Rattle.standby_row.specs.declared.Lookup.{Lookup}
+use Rattle.standby_row.specs.Row.{cleared_all}
 use Rattle.store_areas.specs.declared.Shape.{Shape}
 use Rattle.model_standby.specs.Answer.{protocol_version}
 use Rattle.model_standby.specs.State.{Counters}
@@ -13,6 +14,7 @@ use Rattle.standby_counters.specs.declared.Replica.{Replica}
 use Rattle.standby_state.specs.declared.Settings.{Settings}
 use Rattle.standby_state.specs.declared.Answer.{Answer}
 use Rattle.standby_state.specs.declared.Outcome.{Outcome}
+use Rattle.standby_state.specs.declared.RowAction.{RowAction}
 use Rattle.standby_state.specs.Answers.{answer_of}
 
 abbrev pub counters_of : Replica → Counters
@@ -26,17 +28,34 @@ settings_of s room = settings_for s.shape room s.incarnation.0 s.max_lag
 abbrev pub spot_of : Lookup → ℕ
 spot_of seen = cond (ltb seen.at seen.len) seen.at seen.free
 
-abbrev pub leaving : Replica → Lookup → Answer → Outcome
-leaving c seen a = record { replica = c; answer = a; stores = false; clears = false; at = seen.len; from = seen.len; bound = seen.bound }
+abbrev pub leaving : Replica → Answer → Outcome
+leaving c a = record { replica = c; answer = a; action = RowAction.Leave }
 
-abbrev pub clearing : Replica → Lookup → Answer → Outcome
-clearing c seen a = record { replica = c; answer = a; stores = false; clears = true; at = seen.len; from = 0; bound = seen.bound }
+abbrev pub clearing : Replica → Answer → Outcome
+clearing c a = record { replica = c; answer = a; action = RowAction.Clear }
 
 abbrev pub used_for : ℕ → Bound → Bound
 used_for k h = record { used = 1; handle = k; place = h.place; commit_no = h.commit_no; held_len = h.held_len; held_bytes = h.held_bytes }
 
 abbrev pub storing : Replica → Lookup → Answer → ℕ → Bound → Outcome
-storing c seen a k h = record { replica = c; answer = a; stores = true; clears = false; at = spot_of seen; from = seen.len; bound = used_for k h }
+storing c seen a k h = record { replica = c; answer = a; action = RowAction.Store (spot_of seen) (used_for k h) }
+
+-- ---- what is done to the row
+
+abbrev pub clears : RowAction → Bool
+clears RowAction.Leave = false
+clears RowAction.Clear = true
+clears (RowAction.Store at h) = false
+
+abbrev pub stores : RowAction → Bool
+stores RowAction.Leave = false
+stores RowAction.Clear = false
+stores (RowAction.Store at h) = true
+
+abbrev pub row_after : RowAction → List Bound → List Bound
+row_after RowAction.Leave row = row
+row_after RowAction.Clear row = cleared_all row
+row_after (RowAction.Store at h) row = set row at h
 
 -- ---- what it stands for, over the hold areas of `room` bytes each
 
@@ -44,19 +63,27 @@ storing c seen a k h = record { replica = c; answer = a; stores = true; clears =
 abbrev pub area_at : ℕ → ℕ → List ℕ → List ℕ
 area_at room i holds = take room (drop (i * room) holds)
 
+abbrev pub action_for : ℕ → ℕ → List ℕ → RowAction → Action
+action_for version room holds RowAction.Leave = leave
+action_for version room holds RowAction.Clear = clear
+action_for version room holds (RowAction.Store at h) = store h.handle (bound_of version h (area_at room at holds))
+
 abbrev pub action_of : ℕ → ℕ → List ℕ → Outcome → Action
-action_of version room holds o =
-    cond o.stores (store o.bound.handle (bound_of version o.bound (area_at room o.at holds))) (cond o.clears clear leave)
+action_of version room holds o = action_for version room holds o.action
 
 abbrev pub outcome_of : ℕ → ℕ → Shape → List ℕ → List ℕ → List ℕ → Outcome → CoreResult
 outcome_of version room s w b holds o =
     record { core = core_at (counters_of o.replica) s w b; action = action_of version room holds o; answer = answer_of b o.answer }
 
--- what is put fits the row: at the handle's place or the first free one, where the hold area is `area`; it is the record of what it stands for, at a place in use, and holds no more than the area has
-pub record Lands (seen : Lookup) (used room : ℕ) (area : List ℕ) (o : Outcome) : Type 0 where
-  pub at_is : o.at ≡ cond o.stores (spot_of seen) seen.len
-  pub from_is : o.from ≡ cond o.clears 0 seen.len
-  pub one : o.stores ≡ true → o.clears ≡ false
-  pub slot_is : o.stores ≡ true → o.bound ≡ record_for o.bound.handle (bound_of protocol_version o.bound area)
-  pub slot_place : o.stores ≡ true → o.bound.place < used
-  pub slot_len : o.stores ≡ true → o.bound.held_len ≤ room
+-- a record that is put fits the row: at the handle's place or the first free one, where the hold area is `area`; it is the record of what it stands for, at a place in use, and holds no more than the area has
+pub record Fits (seen : Lookup) (used room : ℕ) (area : List ℕ) (at : ℕ) (h : Bound) : Type 0 where
+  pub at_is : at ≡ spot_of seen
+  pub slot_is : h ≡ record_for h.handle (bound_of protocol_version h area)
+  pub slot_place : h.place < used
+  pub slot_len : h.held_len ≤ room
+
+-- what is put, if anything is, fits the row
+abbrev pub Lands : Lookup → ℕ → ℕ → List ℕ → RowAction → Type 0
+Lands seen used room area RowAction.Leave = Unit
+Lands seen used room area RowAction.Clear = Unit
+Lands seen used room area (RowAction.Store at h) = Fits seen used room area at h

@@ -2,9 +2,11 @@
 #![tactic(auto)]
 
 ghost use Rattle.std.specs.Prelude.{◌≡◌};
+ghost use Rattle.base_refusals.specs.Numbers.{number_of};
 ghost use Rattle.standby_state.specs.Answers.{no_brief, blank_of, is_refused, is_done, is_welcome, is_ack, is_nack, is_bound};
-ghost use Rattle.standby_state.specs.Outcomes.{spot_of, leaving, clearing, storing};
+ghost use Rattle.standby_state.specs.Outcomes.{spot_of, leaving, clearing, storing, clears, row_after};
 
+use base_refusals::Refusal;
 use frame_fields::{CommitNumber, Epoch, Incarnation, kind};
 use frame_reader::Span;
 pub use standby_counters::Replica;
@@ -20,13 +22,21 @@ pub struct Settings {
     pub max_lag: u64,
 }
 
+// How the standby stands as a call begins: its settings, its counters, and what was found in the row.
+#[derive(Clone, Copy)]
+pub struct Standing {
+    pub settings: Settings,
+    pub counters: Replica,
+    pub lookup: Lookup,
+}
+
 // What a Bound says of a session; its texts are parts of the store's byte area.
 #[repr(C)]
 #[derive(Clone, Copy)]
 pub struct BoundSummary {
     pub next_outgoing: u64,
     pub next_incoming: u64,
-    // Whether there is a number in flight: there is if this is not 0.
+    // Whether there is a number in flight: there is if this is not 0. The summary crosses to C, which has no Option.
     pub has_in_flight: u8,
     pub in_flight: u64,
     pub created_at: Span,
@@ -35,6 +45,7 @@ pub struct BoundSummary {
 }
 
 // A refusal by its number, or the frame that is answered by its kind: 2 Welcome, 5 Ack, 6 Nack, 7 Bound; both 0: done.
+// It crosses to C as it stands, so these are numbers and no enum.
 #[repr(C)]
 #[derive(Clone, Copy)]
 pub struct Answer {
@@ -48,20 +59,40 @@ pub struct Answer {
     pub summary: BoundSummary,
 }
 
+// What a call does to the row: nothing, it frees every record, or it puts a record at a place.
+#[derive(Clone, Copy)]
+pub enum RowAction {
+    Leave,
+    Clear,
+    Store { at: usize, bound: Bound },
+}
+
+impl RowAction {
+    // Whether every record is freed.
+    pub fn clears(self) -> bool
+        ensures { result ≡ clears self }
+    {
+        matches!(self, RowAction::Clear)
+    }
+
+    // Does it to the row.
+    pub fn apply(self, row: &mut [Bound])
+        ensures { row.new ≡ row_after self row.old }
+    {
+        match self {
+            RowAction::Leave => {}
+            RowAction::Clear => standby_row::clear(row, 0),
+            RowAction::Store { at, bound } => standby_row::insert(row, at, bound),
+        }
+    }
+}
+
 // What a call by value gives: the counters after it, its answer, and what is to be done to the row.
-#[repr(C)]
 #[derive(Clone, Copy)]
 pub struct Outcome {
     pub replica: Replica,
     pub answer: Answer,
-    // Whether a record is put, and whether all are freed.
-    pub stores: bool,
-    pub clears: bool,
-    // Where the record is put, and from where on records are freed; the length is nowhere.
-    pub at: usize,
-    pub from: usize,
-    // The record that is put.
-    pub bound: Bound,
+    pub action: RowAction,
 }
 
 fn no_summary() -> BoundSummary
@@ -110,66 +141,68 @@ pub fn done() -> Answer
 pub fn welcome(epoch: Epoch, incarnation: Incarnation) -> Answer
     ensures { result ≡ is_welcome epoch incarnation }
 {
-    let mut a = blank(0, kind::WELCOME, 0);
-    a.epoch = epoch;
-    a.incarnation = incarnation;
-    a
+    Answer {
+        epoch,
+        incarnation,
+        ..blank(0, kind::WELCOME, 0)
+    }
 }
 
 pub fn ack(handle: u32, commit_no: CommitNumber) -> Answer
     ensures { result ≡ is_ack handle commit_no }
 {
-    let mut a = blank(0, kind::ACK, handle);
-    a.commit_no = commit_no;
-    a
+    Answer {
+        commit_no,
+        ..blank(0, kind::ACK, handle)
+    }
 }
 
 // 1 StaleEpoch, 2 Diverged, 3 Lag, 4 Restarted.
+// By its number: a NackReason would ask more of a caller.
 pub fn nack(handle: u32, reason: u8) -> Answer
     ensures { result ≡ is_nack handle reason }
 {
-    let mut a = blank(0, kind::NACK, handle);
-    a.reason = reason;
-    a
+    Answer {
+        reason,
+        ..blank(0, kind::NACK, handle)
+    }
 }
 
 pub fn bound(handle: u32, summary: BoundSummary) -> Answer
     ensures { result ≡ is_bound handle summary }
 {
-    let mut a = blank(0, kind::BOUND, handle);
-    a.summary = summary;
-    a
-}
-
-// The row stays as it is.
-pub fn unchanged(counters: Replica, lookup: Lookup, answer: Answer) -> Outcome
-    ensures { result ≡ leaving counters lookup answer }
-{
-    let bound = lookup.bound;
-    Outcome {
-        replica: counters,
-        answer: answer,
-        stores: false,
-        clears: false,
-        at: lookup.len,
-        from: lookup.len,
-        bound,
+    Answer {
+        summary,
+        ..blank(0, kind::BOUND, handle)
     }
 }
 
-// Every record of the row is freed.
-pub fn cleared(counters: Replica, lookup: Lookup, answer: Answer) -> Outcome
-    ensures { result ≡ clearing counters lookup answer }
+// The row stays as it is.
+pub fn unchanged(counters: Replica, answer: Answer) -> Outcome
+    ensures { result ≡ leaving counters answer }
 {
-    let bound = lookup.bound;
     Outcome {
         replica: counters,
-        answer: answer,
-        stores: false,
-        clears: true,
-        at: lookup.len,
-        from: 0,
-        bound,
+        answer,
+        action: RowAction::Leave,
+    }
+}
+
+// A refusal; the row stays as it is.
+pub fn refuse(counters: Replica, refusal: Refusal) -> Outcome
+    ensures { result ≡ leaving counters (is_refused (number_of refusal)) }
+{
+    unchanged(counters, refused(refusal.number()))
+}
+
+// Every record of the row is freed.
+pub fn cleared(counters: Replica, answer: Answer) -> Outcome
+    ensures { result ≡ clearing counters answer }
+{
+    Outcome {
+        replica: counters,
+        answer,
+        action: RowAction::Clear,
     }
 }
 
@@ -178,9 +211,10 @@ fn row_place(lookup: Lookup) -> usize
     ensures { result ≡ spot_of lookup }
 {
     if lookup.at < lookup.len {
-        return lookup.at;
+        lookup.at
+    } else {
+        lookup.free
     }
-    lookup.free
 }
 
 // The handle gets a record, at its own place or the first free one.
@@ -193,16 +227,16 @@ pub fn stored(
 ) -> Outcome
     ensures { result ≡ storing counters lookup answer handle bound }
 {
-    let mut bound = bound;
-    bound.used = 1;
-    bound.handle = handle;
     Outcome {
         replica: counters,
-        answer: answer,
-        stores: true,
-        clears: false,
-        at: row_place(lookup),
-        from: lookup.len,
-        bound,
+        answer,
+        action: RowAction::Store {
+            at: row_place(lookup),
+            bound: Bound {
+                used: 1,
+                handle,
+                ..bound
+            },
+        },
     }
 }

@@ -7,14 +7,13 @@ use Prim.Native.Nat.{ℕ, ◌+◌, ◌*◌, ◌≤◌, ◌<◌}
 use native.Mathlib.Omega.{arith}
 use lib.Dec.{eqb, leb, ltb}
 use lib.ListN.{length, get_or, set, length-set}
-use lib.Seq.{set_out}
 use borrow.Author.Tests.{ltb-true, ltb-false}
 use Rattle.model_frame.specs.Bytes.{write}
 use Rattle.base_laws.proofs.Little.{length_write}
 use Rattle.standby_row.specs.declared.Lookup.{Lookup}
 use Rattle.standby_row.specs.Row.{find_of, free_of, broken_of, cleared_from, cleared_all, seen_of}
 use Rattle.standby_row.specs.Row as handles
-use Rattle.standby_row.proofs.Lists.{clears_end, cleared_length}
+use Rattle.standby_row.proofs.Lists.{cleared_length}
 use Rattle.standby_handles.specs.Rows.{row_of}
 use Rattle.standby_handles.proofs.Rows.{Apart, find_hit, find_miss, free_hit, free_miss, all_freed, apart_same, apart_of, put_own, put_new}
 use Rattle.store_areas.specs.Areas.{allowed, places_of}
@@ -27,15 +26,16 @@ use Rattle.model_standby.specs.State.{Bound, Standby, Result, Call, on_frame_hel
 use Rattle.model_standby.specs.State as state
 use Rattle.model_standby.specs.Standby.{step}
 use Rattle.model_standby.specs.Hold.{HoldWrite}
-use Rattle.model_standby.specs.Core.{Core, Action, leave, store, clear, CoreResult, act, acted, core_step, handle_of}
+use Rattle.model_standby.specs.Core.{Core, Action, store, CoreResult, act, acted, core_step, handle_of}
 use Rattle.model_standby.proofs.Factoring.{factored}
 use Rattle.model_standby.proofs.Rows.{find_put_same}
-use Rattle.standby_part.specs.State.{bound_of, core_at}
+use Rattle.standby_part.specs.State.{bound_of, record_for, core_at}
 use Rattle.standby_counters.specs.declared.Replica.{Replica}
 use Rattle.standby_state.specs.declared.Settings.{Settings}
 use Rattle.standby_state.specs.declared.Outcome.{Outcome}
 use Rattle.standby_state.specs.Answers.{answer_of, is_refused}
-use Rattle.standby_state.specs.Outcomes.{counters_of, settings_of, leaving, spot_of, area_at, action_of, Lands}
+use Rattle.standby_state.specs.declared.RowAction.{RowAction}
+use Rattle.standby_state.specs.Outcomes.{counters_of, settings_of, leaving, spot_of, area_at, action_for, action_of, row_after, Fits, Lands}
 use Rattle.standby_step.specs.Steps.{room_of, found_in, handle_by, asks, Leaves, holds_after, writes_by, Stepped, StepIs}
 use Rattle.standby_step.specs.Calls.{room_all, standby_of, allowed_all, sought_by, spot_for, RowChange, row_by, RowPut, RowLeaves, CalledSteps, Called}
 use Rattle.standby_step.proofs.Naming.{sought_own}
@@ -116,109 +116,63 @@ module _ (row : List BoundRecord) (k : ℕ) (w h : List ℕ) where
 
   -- ---- what is done to the row
 
-  module _ (o : Outcome) (used : ℕ) {area : List ℕ} (lands : Lands Looked used Room area o) where
-    abbrev Next : List BoundRecord
-    Next = cleared_from o.from (set row o.at o.bound)
+  module _ (used : ℕ) (area : List ℕ) where
+    next_whole : (o : RowAction) → Lands Looked used Room area o → get_or w 0 0 ≤ used → Whole (get_or w 0 0) Room row → Whole used Room (row_after o row)
+    next_whole RowAction.Leave l le n = whole_more (get_or w 0 0) used Room row le n
+    next_whole RowAction.Clear l le n = whole_cleared used Room row
+    next_whole (RowAction.Store at x) l le n =
+        none_set (λ g. handles.breaks_of g used Room) row at x (record_whole x used Room l.slot_place l.slot_len) (whole_more (get_or w 0 0) used Room row le n)
 
-    next_length : length Next ≡ length row
-    next_length = cleared_length o.from (set row o.at o.bound) ∙ length-set row o.at o.bound
-
-    -- nothing
-    same_row : o.stores ≡ false → o.clears ≡ false → Next ≡ row
-    same_row e f =
-        let at : o.at ≡ length row = lands.at_is ∙ ap (λ (t : Bool). cond t (spot_of Looked) (length row)) e in
-        let from : o.from ≡ length row = lands.from_is ∙ ap (λ (t : Bool). cond t 0 (length row)) f in
-        let out : set row o.at o.bound ≡ row = set_out row o.at o.bound (omega (arith, at)) in
-        ap (cleared_from o.from) out ∙ clears_end o.from row (omega (arith, from))
-
-    -- every record is freed
-    freed_row : o.stores ≡ false → o.clears ≡ true → Next ≡ cleared_all row
-    freed_row e f =
-        let at : o.at ≡ length row = lands.at_is ∙ ap (λ (t : Bool). cond t (spot_of Looked) (length row)) e in
-        let out : set row o.at o.bound ≡ row = set_out row o.at o.bound (omega (arith, at)) in
-        ap (cleared_from o.from) out ∙ ap (λ (n : ℕ). cleared_from n row) (lands.from_is ∙ ap (λ (t : Bool). cond t 0 (length row)) f)
-
-    -- one is put
-    put_row : o.stores ≡ true → Next ≡ set row o.at o.bound
-    put_row e =
-        let from : o.from ≡ length row = lands.from_is ∙ ap (λ (t : Bool). cond t 0 (length row)) (lands.one e) in
-        clears_end o.from (set row o.at o.bound) (omega (arith, from, length-set row o.at o.bound))
-
-    next_whole : get_or w 0 0 ≤ used → Whole (get_or w 0 0) Room row → Whole used Room Next
-    next_whole le n = go o.stores o.clears refl refl
-      where
-        grown : Whole used Room row
-        grown = whole_more (get_or w 0 0) used Room row le n
-
-        go : (s c : Bool) → o.stores ≡ s → o.clears ≡ c → Whole used Room Next
-        go true c e f = subst (Whole used Room) (sym (put_row e)) (none_set (λ g. handles.breaks_of g used Room) row o.at o.bound (record_whole o.bound used Room (lands.slot_place e) (lands.slot_len e)) grown)
-        go false true e f = subst (Whole used Room) (sym (freed_row e f)) (whole_cleared used Room row)
-        go false false e f = subst (Whole used Room) (sym (same_row e f)) grown
-
-    module _ (own : ℕ) (asked : Bool) (wr : Option HoldWrite) (h' : List ℕ) (mine : asked ≡ true → k ≡ own)
-        (fit : Fit asked own (found_in Looked h) (ltb Free (length row)) wr (action_of protocol_version Room h' o))
-        (holds : h' ≡ holds_after Room (find_of row k) wr h) (inside : (x : HoldWrite) → wr ≡ some x → x.offset + length x.bytes ≤ Room) where
+    module _ (own : ℕ) (asked : Bool) (wr : Option HoldWrite) (h' : List ℕ) (mine : asked ≡ true → k ≡ own) (holds : h' ≡ holds_after Room (find_of row k) wr h)
+        (inside : (x : HoldWrite) → wr ≡ some x → x.offset + length x.bytes ≤ Room) where
       abbrev After : List BoundRecord → List ℕ → Row Bound
       After r x = row_of (bound_of protocol_version) Room r x
 
       still : wr ≡ none → h' ≡ h
       still e = holds ∙ ap (λ (x : Option HoldWrite). holds_after Room (find_of row k) x h) e
 
-      next_handles : After Next h' ≡ act (action_of protocol_version Room h' o) Handles
-      next_handles = go o.stores o.clears refl refl
+      -- a record is put
+      puts : (at : ℕ) (x : BoundRecord) → Fits Looked used Room area at x → Fit asked own (found_in Looked h) (ltb Free (length row)) wr (store x.handle (bound_of protocol_version x (area_at Room at h')))
+          → After (set row at x) h' ≡ put x.handle (bound_of protocol_version x (area_at Room at h')) Handles
+      puts at x l f = by_place (ltb (find_of row k) (length row)) refl
         where
-          put_action : o.stores ≡ true → action_of protocol_version Room h' o ≡ store o.bound.handle (bound_of protocol_version o.bound (area_at Room o.at h'))
-          put_action e = ap (λ (t : Bool). cond t (store o.bound.handle (bound_of protocol_version o.bound (area_at Room o.at h'))) (cond o.clears clear leave)) e
+          is_k : x.handle ≡ k
+          is_k = f.1.0 ∙ sym (mine f.0)
 
-          other_action : (c : Bool) → o.stores ≡ false → o.clears ≡ c → action_of protocol_version Room h' o ≡ cond c clear leave
-          other_action c e f =
-              (λ i. cond (e i) (store o.bound.handle (bound_of protocol_version o.bound (area_at Room o.at h'))) (cond (f i) clear leave))
+          -- at this place
+          at_place : (i : ℕ) → at ≡ i → After (set row i x) h' ≡ put k (bound_of protocol_version x (area_at Room i h')) Handles
+              → After (set row at x) h' ≡ put x.handle (bound_of protocol_version x (area_at Room at h')) Handles
+          at_place i e p = ap (λ (j : ℕ). After (set row j x) h') e ∙ p ∙ sym (λ j. put (is_k j) (bound_of protocol_version x (area_at Room (e j) h')) Handles)
 
-          puts : o.stores ≡ true → Fit asked own (found_in Looked h) (ltb Free (length row)) wr (store o.bound.handle (bound_of protocol_version o.bound (area_at Room o.at h')))
-              → After (set row o.at o.bound) h' ≡ put o.bound.handle (bound_of protocol_version o.bound (area_at Room o.at h')) Handles
-          puts e f = by_place (ltb (find_of row k) (length row)) refl
+          spot : (t : Bool) → ltb (find_of row k) (length row) ≡ t → at ≡ cond t (find_of row k) Free
+          spot t p = l.at_is ∙ ap (λ (u : Bool). cond u (find_of row k) Free) p
+
+          by_place : (t : Bool) → ltb (find_of row k) (length row) ≡ t → After (set row at x) h' ≡ put x.handle (bound_of protocol_version x (area_at Room at h')) Handles
+          by_place true p =
+              at_place (find_of row k) (spot true p)
+              (put_own (bound_of protocol_version) Room k x (ap handles.is_used l.slot_is) is_k row h h' (ltb-true (find_of row k) (length row) p)
+              (subst (Apart (bound_of protocol_version) Room (find_of row k) h) (sym holds) (holds_apart Room (find_of row k) wr h inside)))
+          by_place false p =
+              at_place (free_of row) (spot false p)
+              (subst (λ (y : List ℕ). After (set row (free_of row) x) y ≡ put k (bound_of protocol_version x (area_at Room (free_of row) y)) Handles) (sym (still (f.1.1.1 not_found)))
+              (put_new (bound_of protocol_version) Room k x (ap handles.is_used l.slot_is) is_k row h (ltb-false (find_of row k) (length row) p) free))
             where
-              is_k : o.bound.handle ≡ k
-              is_k = f.1.0 ∙ sym (mine f.0)
+              not_found : is_some (found_in Looked h) ≡ false
+              not_found = ap (λ (t : Bool). is_some (cond t (some (bound_of protocol_version (get_or row (find_of row k) handles.free_record) (area_at Room (find_of row k) h))) none)) p
 
-              -- at this place
-              at_place : (i : ℕ) → o.at ≡ i → After (set row i o.bound) h' ≡ put k (bound_of protocol_version o.bound (area_at Room i h')) Handles
-                  → After (set row o.at o.bound) h' ≡ put o.bound.handle (bound_of protocol_version o.bound (area_at Room o.at h')) Handles
-              at_place i at p =
-                  ap (λ (j : ℕ). After (set row j o.bound) h') at ∙ p
-                  ∙ sym (λ j. put (is_k j) (bound_of protocol_version o.bound (area_at Room (at j) h')) Handles)
+              free : free_of row < length row
+              free = ltb-true Free (length row) (sym (ap (λ (t : Bool). t || ltb Free (length row)) not_found) ∙ f.1.1.0)
 
-              spot : (t : Bool) → ltb (find_of row k) (length row) ≡ t → o.at ≡ cond t (find_of row k) Free
-              spot t p = lands.at_is ∙ (λ i. cond (e i) (cond (p i) (find_of row k) Free) (length row))
+      next_handles : (o : RowAction) → Lands Looked used Room area o → Fit asked own (found_in Looked h) (ltb Free (length row)) wr (action_for protocol_version Room h' o)
+          → After (row_after o row) h' ≡ act (action_for protocol_version Room h' o) Handles
+      next_handles RowAction.Leave l f = (λ i. After row (still f i))
+      next_handles RowAction.Clear l f = (λ i. After (cleared_all row) (still f i)) ∙ all_freed (bound_of protocol_version) Room row h
+      next_handles (RowAction.Store at x) l f = puts at x l f
 
-              by_place : (t : Bool) → ltb (find_of row k) (length row) ≡ t
-                  → After (set row o.at o.bound) h' ≡ put o.bound.handle (bound_of protocol_version o.bound (area_at Room o.at h')) Handles
-              by_place true p =
-                  at_place (find_of row k) (spot true p)
-                  (put_own (bound_of protocol_version) Room k o.bound (ap handles.is_used (lands.slot_is e)) is_k row h h' (ltb-true (find_of row k) (length row) p)
-                  (subst (Apart (bound_of protocol_version) Room (find_of row k) h) (sym holds) (holds_apart Room (find_of row k) wr h inside)))
-              by_place false p =
-                  at_place (free_of row) (spot false p)
-                  (subst (λ (x : List ℕ). After (set row (free_of row) o.bound) x ≡ put k (bound_of protocol_version o.bound (area_at Room (free_of row) x)) Handles) (sym (still (f.1.1.1 not_found)))
-                  (put_new (bound_of protocol_version) Room k o.bound (ap handles.is_used (lands.slot_is e)) is_k row h (ltb-false (find_of row k) (length row) p) free))
-                where
-                  not_found : is_some (found_in Looked h) ≡ false
-                  not_found = ap (λ (t : Bool). is_some (cond t (some (bound_of protocol_version (get_or row (find_of row k) handles.free_record) (area_at Room (find_of row k) h))) none)) p
-
-                  free : free_of row < length row
-                  free = ltb-true Free (length row) (sym (ap (λ (t : Bool). t || ltb Free (length row)) not_found) ∙ f.1.1.0)
-
-          go : (s c : Bool) → o.stores ≡ s → o.clears ≡ c → After Next h' ≡ act (action_of protocol_version Room h' o) Handles
-          go true c e f =
-              ap (λ (r : List BoundRecord). After r h') (put_row e)
-              ∙ puts e (subst (Fit asked own (found_in Looked h) (ltb Free (length row)) wr) (put_action e) fit)
-              ∙ sym (ap (λ (a : Action). act a Handles) (put_action e))
-          go false true e f =
-              let quiet : wr ≡ none = subst (Fit asked own (found_in Looked h) (ltb Free (length row)) wr) (other_action true e f) fit in
-              (λ i. After (freed_row e f i) (still quiet i)) ∙ all_freed (bound_of protocol_version) Room row h ∙ sym (ap (λ (a : Action). act a Handles) (other_action true e f))
-          go false false e f =
-              let quiet : wr ≡ none = subst (Fit asked own (found_in Looked h) (ltb Free (length row)) wr) (other_action false e f) fit in
-              (λ i. After (same_row e f i) (still quiet i)) ∙ sym (ap (λ (a : Action). act a Handles) (other_action false e f))
+  next_length : (o : RowAction) → length (row_after o row) ≡ length row
+  next_length RowAction.Leave = refl
+  next_length RowAction.Clear = cleared_length 0 row
+  next_length (RowAction.Store at x) = length-set row at x
 
 -- ---- a call
 
@@ -239,14 +193,14 @@ module _ (s : Settings) (c : Replica) (row : List BoundRecord) (call : Call) (w 
   T = row_of (bound_of protocol_version) R row h
 
   abbrev Row' : List BoundRecord
-  Row' = cleared_from o.from (set row o.at o.bound)
+  Row' = row_after o.action row
 
   module _ (clean : allowed_all s row w b h ≡ true) (st : Stepped s c See call w w' b b' h h' o) where
     abbrev Wr : Option HoldWrite
     Wr = writes_by L (counters_of c) (found_in See h) call
 
     row_same : length Row' ≡ length row
-    row_same = next_length row K w h o (get_or w' 0 0) st.lands
+    row_same = next_length row K w h o.action
 
     holds_same : length h' ≡ length h
     holds_same = ap length st.holds ∙ holds_length R (find_of row K) Wr h
@@ -262,7 +216,7 @@ module _ (s : Settings) (c : Replica) (row : List BoundRecord) (call : Call) (w 
     handles_are : row_of (bound_of protocol_version) (room_all Row' h') Row' h' ≡ act (action_of protocol_version R h' o) T
     handles_are =
         ap (λ (n : ℕ). row_of (bound_of protocol_version) n Row' h') room_same
-        ∙ next_handles row K w h o (get_or w' 0 0) st.lands (handle_by call) (asks call) Wr h' (sought_own call) fits st.holds (written_inside L (counters_of c) (found_in See h) call)
+        ∙ next_handles row K w h (get_or w' 0 0) (area_at R (spot_of See) h') (handle_by call) (asks call) Wr h' (sought_own call) st.holds (written_inside L (counters_of c) (found_in See h) call) o.action st.lands fits
 
     -- what is found for the handle looked up is what is found for the call's
     found_own_core : core_step L (core_at (counters_of c) s.shape w b) (found_in See h) (ltb See.free (length row)) call
@@ -298,9 +252,6 @@ module _ (s : Settings) (c : Replica) (row : List BoundRecord) (call : Call) (w 
     stepped_is : step L X call ≡ acted T (core_step L (core_at (counters_of c) s.shape w b) (find (handle_by call) T) (has_free T) call)
     stepped_is = factored L X call ∙ ap (λ (k : ℕ). acted T (core_step L (core_at (counters_of c) s.shape w b) (find k T) (has_free T) call)) (sym (named call))
 
-    abbrev Puts : Action
-    Puts = store o.bound.handle (bound_of protocol_version o.bound (area_at R o.at h'))
-
     -- what the definition leaves
     abbrev Leaving : Row Bound
     Leaving = (step L X call).state.handles
@@ -309,37 +260,48 @@ module _ (s : Settings) (c : Replica) (row : List BoundRecord) (call : Call) (w 
     after_is = ap (λ (r : Result). r.state.handles) stepped_is ∙ ap (λ (r : CoreResult). act r.action T) (sym (st.is ∙ found_own_core))
 
     -- a record is put
-    module _ (e : o.stores ≡ true) where
+    module _ (at : ℕ) (x : BoundRecord) (e : o.action ≡ RowAction.Store at x) where
+      abbrev Puts : Action
+      Puts = store x.handle (bound_of protocol_version x (area_at R at h'))
+
       is_puts : action_of protocol_version R h' o ≡ Puts
-      is_puts = ap (λ (t : Bool). cond t Puts (cond o.clears clear leave)) e
+      is_puts = ap (action_for protocol_version R h') e
 
       puts_fit : Fit (asks call) (handle_by call) (found_in See h) (ltb See.free (length row)) Wr Puts
       puts_fit = subst (Fit (asks call) (handle_by call) (found_in See h) (ltb See.free (length row)) Wr) is_puts fits
 
-      is_sought : o.bound.handle ≡ K
+      is_sought : x.handle ≡ K
       is_sought = puts_fit.1.0 ∙ sym (sought_own call puts_fit.0)
 
-      has_room : has_room_lem o.bound.handle T ≡ true
+      has_room : has_room_lem x.handle T ≡ true
       has_room = ap (λ (k : ℕ). has_room_lem k T) is_sought ∙ sym (λ j. is_some (found_in_lem row K w h j) || free_in row K w h j) ∙ puts_fit.1.1.0
 
-      found_after : find o.bound.handle Leaving ≡ some (bound_of protocol_version o.bound (area_at R o.at h'))
-      found_after = ap (find o.bound.handle) (after_is ∙ ap (λ (x : Action). act x T) is_puts) ∙ find_put_same o.bound.handle (bound_of protocol_version o.bound (area_at R o.at h')) T has_room
+      found_after : find x.handle Leaving ≡ some (bound_of protocol_version x (area_at R at h'))
+      found_after = ap (find x.handle) (after_is ∙ ap (λ (y : Action). act y T) is_puts) ∙ find_put_same x.handle (bound_of protocol_version x (area_at R at h')) T has_room
 
-      at_spot : o.at ≡ spot_for row o.bound.handle
-      at_spot = st.lands.at_is ∙ ap (λ (t : Bool). cond t (spot_of See) (length row)) e ∙ ap (spot_for row) (sym is_sought)
+      landed : Fits See (get_or w' 0 0) R (area_at R (spot_of See) h') at x
+      landed = subst (Lands See (get_or w' 0 0) R (area_at R (spot_of See) h')) e st.lands
 
-      row_put : RowPut (spot_for row o.bound.handle) o.bound.handle (find o.bound.handle Leaving) row Row'
-      row_put =
-          subst (λ (x : Option Bound). RowPut (spot_for row o.bound.handle) o.bound.handle x row Row') (sym found_after)
-          (put_row row K w h o (get_or w' 0 0) st.lands e ∙ (λ j. set row (at_spot j) (st.lands.slot_is e j)))
+      at_spot : at ≡ spot_for row x.handle
+      at_spot = landed.at_is ∙ ap (spot_for row) (sym is_sought)
+
+      -- it is the record of what it stands for at its own place
+      slot_own : x ≡ record_for x.handle (bound_of protocol_version x (area_at R at h'))
+      slot_own = landed.slot_is ∙ ap (λ (i : ℕ). record_for x.handle (bound_of protocol_version x (area_at R i h'))) (sym landed.at_is)
+
+      row_put : RowPut (spot_for row x.handle) x.handle (find x.handle Leaving) row (set row at x)
+      row_put = subst (λ (y : Option Bound). RowPut (spot_for row x.handle) x.handle y row (set row at x)) (sym found_after) (λ j. set row (at_spot j) (slot_own j))
 
     row_done : RowLeaves (kind_of (action_of protocol_version R h' o)) Leaving row Row'
-    row_done = go o.stores o.clears refl refl
+    row_done = go o.action refl
       where
-        go : (t u : Bool) → o.stores ≡ t → o.clears ≡ u → RowLeaves (kind_of (action_of protocol_version R h' o)) Leaving row Row'
-        go true u e f = subst (λ (x : Action). RowLeaves (kind_of x) Leaving row Row') (sym (is_puts e)) (row_put e)
-        go false true e f = subst (λ (x : Action). RowLeaves (kind_of x) Leaving row Row') (sym (λ i. cond (e i) Puts (cond (f i) clear leave))) (freed_row row K w h o (get_or w' 0 0) st.lands e f)
-        go false false e f = subst (λ (x : Action). RowLeaves (kind_of x) Leaving row Row') (sym (λ i. cond (e i) Puts (cond (f i) clear leave))) (same_row row K w h o (get_or w' 0 0) st.lands e f)
+        by : {a : RowAction} → o.action ≡ a → RowLeaves (kind_of (action_for protocol_version R h' a)) Leaving row (row_after a row) → RowLeaves (kind_of (action_of protocol_version R h' o)) Leaving row Row'
+        by e = subst (λ (y : RowAction). RowLeaves (kind_of (action_for protocol_version R h' y)) Leaving row (row_after y row)) (sym e)
+
+        go : (a : RowAction) → o.action ≡ a → RowLeaves (kind_of (action_of protocol_version R h' o)) Leaving row Row'
+        go RowAction.Leave e = by e refl
+        go RowAction.Clear e = by e refl
+        go (RowAction.Store at x) e = by e (row_put at x e)
 
     row_by_lem : RowLeaves (row_by (counters_of c) call (step L X call).answer) Leaving row Row'
     row_by_lem =
@@ -359,7 +321,7 @@ module _ (s : Settings) (c : Replica) (row : List BoundRecord) (call : Call) (w 
     allowed_after =
         (λ i. rules_true s.shape w' b' st.rules i && leb (length Row') (broken_of Row' (get_or w' 0 0) (room_same i)))
         ∙ of_whole (get_or w' 0 0) R Row'
-        (next_whole row K w h o (get_or w' 0 0) st.lands st.more (whole_of (get_or w 0 0) R row (and_r (allowed s.shape w b) (leb (length row) (broken_of row (get_or w 0 0) R)) clean)))
+        (next_whole row K w h (get_or w' 0 0) (area_at R (spot_of See) h') o.action st.lands st.more (whole_of (get_or w 0 0) R row (and_r (allowed s.shape w b) (leb (length row) (broken_of row (get_or w 0 0) R)) clean)))
 
     called_steps : CalledSteps s call c o.replica row Row' w w' b b' h h' o.answer
     called_steps =
@@ -389,15 +351,14 @@ module _ (s : Settings) (c : Replica) (row : List BoundRecord) (call : Call) (w 
         exact = p.exact;
       }
     where
-      refused : (o ≡ leaving c See (is_refused 25)) × ((w' ≡ w) × ((b' ≡ b) × (h' ≡ h)))
+      refused : (o ≡ leaving c (is_refused 25)) × ((w' ≡ w) × ((b' ≡ b) × (h' ≡ h)))
           → (o.answer ≡ is_refused 25) × ((o.replica ≡ c) × ((Row' ≡ row) × ((w' ≡ w) × ((b' ≡ b) × (h' ≡ h)))))
       refused q = (
         ap (λ (x : Outcome). x.answer) q.0,
         (
           ap (λ (x : Outcome). x.replica) q.0,
           (
-            ap (λ (x : Outcome). cleared_from x.from (set row x.at x.bound)) q.0
-                ∙ ap (cleared_from (length row)) (set_out row (length row) See.bound (omega arith)) ∙ clears_end (length row) row (omega arith),
+            ap (λ (x : Outcome). row_after x.action row) q.0,
             q.1,
           ),
         ),

@@ -14,8 +14,8 @@ use Rattle.model_standby.specs.Answer.{protocol_version, Given, damaged, intact,
 use Rattle.model_standby.specs.Row.{is_some}
 use Rattle.model_standby.specs.Store.{is_stored, session_at, or_new}
 use Rattle.model_standby.specs.State.{Settings, incarnation_of, Bound, Call, on_frame_held, on_frame, flush, disconnected_from, promote, promote_unchecked, at_epoch, none_held}
-use Rattle.model_standby.specs.Standby.{due, follows, raised, max_whole, starts_with_reset, summed}
-use Rattle.model_standby.specs.Core.{Action, leave, store, Core, CoreResult, core_says, core_refuse, core_done, counting, core_run, core_flushed, core_hello, core_bind, core_checked, core_settle, core_hold, core_part, core_handle, core_batch, core_intact, core_given, core_step}
+use Rattle.model_standby.specs.Standby.{due, follows, raised, max_whole, starts_with_reset}
+use Rattle.model_standby.specs.Core.{leave, Core, CoreResult, counting, core_run, core_hello, core_bind, core_checked, core_settle, core_hold, core_part, core_handle, core_batch, core_intact, core_given, core_step}
 
 record Still (r : CoreResult) : Type 0 where
   still : (n : ℕ) → r.answer ≡ refused n → eqb n 17 ≡ false → r.action ≡ leave

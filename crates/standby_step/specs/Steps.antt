@@ -28,7 +28,7 @@ use Rattle.standby_state.specs.declared.Answer.{Answer}
 use Rattle.standby_state.specs.declared.Outcome.{Outcome}
 use Rattle.standby_state.specs.Answers.{answer_of, is_refused}
 use Rattle.standby_state.specs.Exact.{Exact}
-use Rattle.standby_state.specs.Outcomes.{counters_of, settings_of, leaving, area_at, outcome_of, Lands}
+use Rattle.standby_state.specs.Outcomes.{counters_of, settings_of, leaving, spot_of, area_at, outcome_of, Lands}
 
 -- ---- hold areas: the bytes are divided evenly among the row's places
 
@@ -157,7 +157,7 @@ keeps_counters c promote_unchecked = false
 
 pub record Stepped (s : Settings) (c : Replica) (seen : Lookup) (call : Call) (w w' b b' h h' : List ℕ) (r : Outcome) : Type 0 where
   pub is : outcome_of protocol_version (room_in seen h) s.shape w' b' h' r ≡ core_step (settings_of s (room_in seen h)) (core_at (counters_of c) s.shape w b) (found_in seen h) (ltb seen.free seen.len) call
-  pub lands : Lands seen (get_or w' StoreWord.used 0) (room_in seen h) (area_at (room_in seen h) r.at h') r
+  pub lands : Lands seen (get_or w' StoreWord.used 0) (room_in seen h) (area_at (room_in seen h) (spot_of seen) h') r.action
   pub kept : keeps_counters c call ≡ true → r.replica ≡ c
   pub rules : Rules s.shape w' b'
   pub more : get_or w StoreWord.used 0 ≤ get_or w' StoreWord.used 0
@@ -166,6 +166,6 @@ pub record Stepped (s : Settings) (c : Replica) (seen : Lookup) (call : Call) (w
 
 -- 25 where the rules are broken; else the step, where the record found is of the call's handle, if the call has one
 pub record StepIs (s : Settings) (c : Replica) (seen : Lookup) (call : Call) (w w' b b' h h' : List ℕ) (r : Outcome) : Type 0 where
-  pub refuses : seen_allowed s.shape seen w b h ≡ false → (r ≡ leaving c seen (is_refused Refusal.rules_broken)) × ((w' ≡ w) × ((b' ≡ b) × (h' ≡ h)))
+  pub refuses : seen_allowed s.shape seen w b h ≡ false → (r ≡ leaving c (is_refused Refusal.rules_broken)) × ((w' ≡ w) × ((b' ≡ b) × (h' ≡ h)))
   pub steps : seen_allowed s.shape seen w b h ≡ true → (is_found seen ≡ true → asks call ≡ true → seen.bound.handle ≡ handle_by call) → Stepped s c seen call w w' b b' h h' r
   pub exact : Exact b' r.answer

@@ -7,3 +7,4 @@ pub mod Marking
 pub mod Ruling
 pub mod Holding
 pub mod Size
+pub mod Sameness

@@ -1,3 +1,4 @@
 -- The store's areas as a list of places.
 pub mod StoreWord
 pub mod Areas
+pub mod Same

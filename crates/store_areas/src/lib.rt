@@ -2,9 +2,14 @@
 #![tactic(auto)]
 
 ghost use Rattle.std.specs.Prelude.{◌≡◌, ℕ, ◌+◌, ◌*◌, ◌≤◌, ◌<◌, Bool, true, false, List, length, get_or, set};
-ghost use Rattle.store_areas.specs.Areas.{place_words, place_bytes, durable_at, roomy, allowed, Rules, SpotIs, SpotIn, in_use, Making};
+ghost use Rattle.store_areas.specs.Areas.{place_words, place_bytes, durable_at, roomy, allowed, SpotIs, SpotIn, place_at, in_use, Making};
+ghost use Rattle.store_place.specs.Place.{place_in};
+
+pub mod store;
 
 use base_refusals::Refusal;
+pub use store::{Store, View};
+use store_place::place::Place;
 
 // How many session places, and for each the message bytes (C) and the messages (M).
 #[repr(C)]
@@ -37,7 +42,7 @@ pub mod word {
 // The most commits that can be pending: each has a word.
 pub const MAX_PENDING: u64 = (COUNT_WORDS - word::COMMITS) as u64;
 
-// The words of a place.
+// The words of a place. A shape handed in may be any: that it keeps its limits is known once it stands in a View or a Store.
 pub fn place_words(shape: Shape) -> usize
     requires { shape.messages ≤ 65536 }
     ensures { result ≡ place_words shape }
@@ -81,15 +86,55 @@ fn spot_of(shape: Shape, place: usize) -> Spot
     }
 }
 
-// Where place i stands in areas that keep the rules: the place is in use.
-pub fn spot_in(words: &[u64], bytes: &[u8], shape: Shape, place: usize) -> Spot
-    requires rules { Rules shape words.now bytes.now }
-    requires place_bound { place < get_or words.now 0 0 }
-    ensures { SpotIn shape place words.now bytes.now result.words_start result.words_end result.bytes_start result.bytes_end }
-{
-    spot_of(shape, place)
+impl<'a> View<'a> {
+    // A place in use, to be read.
+    pub fn place(&self, place: usize) -> Place<'a>
+        requires { place < get_or self.now.words.now 0 0 }
+        ensures is { place_in self.now.shape.bytes self.now.shape.messages result.words.now result.bytes.now ≡ place_at self.now.shape self.now.words.now self.now.bytes.now place }
+        ensures max { result.max ≡ self.now.shape.messages }
+        ensures long { length result.bytes.now ≡ 224 + self.now.shape.bytes }
+    {
+        let spot = self.spot(place);
+        Place {
+            words: &self.words[spot.words_start..spot.words_end],
+            bytes: &self.bytes[spot.bytes_start..spot.bytes_end],
+            max: self.shape.messages as usize,
+        }
+    }
+
+    // Where a place in use stands.
+    pub fn spot(&self, place: usize) -> Spot
+        requires { place < get_or self.now.words.now 0 0 }
+        ensures { SpotIn self.now.shape place self.now.words.now self.now.bytes.now result.words_start result.words_end result.bytes_start result.bytes_end }
+    {
+        spot_of(self.shape, place)
+    }
 }
 
+impl Store<'_> {
+    // The store to be read.
+    pub fn view(&self) -> View<'_>
+        ensures words { result.words.now ≡ self.now.words.now }
+        ensures bytes { result.bytes.now ≡ self.now.bytes.now }
+        ensures shape { result.shape ≡ self.now.shape }
+    {
+        View {
+            words: self.words,
+            bytes: self.bytes,
+            shape: self.shape,
+        }
+    }
+
+    // Where a place in use stands; of its own, so that what is read there is not said of a view.
+    pub fn spot(&self, place: usize) -> Spot
+        requires { place < get_or self.now.words.now 0 0 }
+        ensures { SpotIn self.now.shape place self.now.words.now self.now.bytes.now result.words_start result.words_end result.bytes_start result.bytes_end }
+    {
+        spot_of(self.shape, place)
+    }
+}
+
+// Here and below of areas that are not known yet to keep the rules, so they come apart.
 // Whether C and M are within their limits and the areas are as long as they ask.
 pub fn long_enough(shape: Shape, words: &[u64], bytes: &[u8]) -> bool
     ensures { result ≡ roomy shape words.now bytes.now }

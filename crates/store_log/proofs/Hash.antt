@@ -1,5 +1,5 @@
 -- FNV over lists. Assumes nothing.
-use Rattle.std.proofs.Common.{◌≡◌, ℕ, zero, suc, ◌+◌, ◌-◌, ◌*◌, ◌/◌, ◌%◌, ◌^◌, ◌<◌, ◌≤◌, List, [], ◌∷◌, ◌++◌, length, get_or, take, drop, sym, refl, ap, ◌∙◌, mod-lt, mod-eq_of_lt, mul_assoc, mul_comm, div-lt_iff_lt-mul, add_comm, pow-suc, div-add-mod', mul-one, mul-add, add-one, arith, length-append, length-drop, drop_of_length-le, length-take-le, drop-cons}
+use Rattle.std.proofs.Common.{◌≡◌, ℕ, zero, suc, ◌+◌, ◌-◌, ◌*◌, ◌/◌, ◌%◌, ◌^◌, ◌<◌, ◌≤◌, List, [], ◌∷◌, ◌++◌, length, get_or, drop, sym, refl, ap, ◌∙◌, mod-lt, mod-eq_of_lt, mul_assoc, mul_comm, div-lt_iff_lt-mul, add_comm, pow-suc, div-add-mod', mul-one, mul-add, add-one, arith, length-append, drop_of_length-le, drop-cons}
 use native.Mathlib.Nat.{pow-succ', add-mul-mod_self_right}
 use lib.Bits.{bit_and, bit_xor, and_mask, xor_zero_r}
 use Rattle.model_frame.specs.Bytes.{bytes_of}
@@ -71,13 +71,6 @@ pub record Word (t r left y : ℕ) : Type 0 where
   pub fits : r < 2 ^ 64
   pub is : t ≡ fnv r (bytes_of left y)
 
-pub word_starts : (h x : ℕ) → h < 2 ^ 64 → x < 2 ^ 64 → Word (fnv h (bytes_of 8 x)) h 8 x
-word_starts h x g f = record { few = omega arith; small = f; fits = g; is = refl }
-
-pub word_some : (t r left y : ℕ) → Word t r left y → 0 < y → 0 < left
-word_some t r zero y i k = absurd (omega (arith, i.small))
-word_some t r (suc n) y i k = omega arith
-
 word_suc : (t r r' n y : ℕ) → Word t r (suc n) y → r' ≡ fnv_step r (bit_and y 255) → Word t r' n (y / 256)
 unfolding bytes_of
 word_suc t r r' n y i q = record {
@@ -99,21 +92,13 @@ word_ends t r s left y i z e =
     e ∙ ap (λ (k : ℕ). r * k % 2 ^ 64) (powers_at left i.few) ∙ sym (i.is ∙ ap (λ (k : ℕ). fnv r (bytes_of left k)) none ∙ zeros left r i.fits)
 
 -- a message whose bytes stand in two parts
-pub hash_parts : (h n start first rest a q c r : ℕ) (b : List ℕ) → start + first ≤ length b → rest ≤ length b
-    → a ≡ fnv h (bytes_of 8 n) → q ≡ fnv a (bytes_of 8 (first + rest)) → c ≡ fnv q (take (start + first - start) (drop start b)) → r ≡ fnv c (take rest b)
-    → r ≡ fnv_message h (msg n (take first (drop start b) ++ take rest b))
+pub hash_parts : (h n a q c r : ℕ) (x y : List ℕ) → a ≡ fnv h (bytes_of 8 n) → q ≡ fnv a (bytes_of 8 (length x + length y)) → c ≡ fnv q x → r ≡ fnv c y → r ≡ fnv_message h (msg n (x ++ y))
 unfolding fnv_message
-hash_parts h n start first rest a q c r b hs hr ea eq ec er =
-    let f : start + first - start ≡ first = omega arith in
-    let x : List ℕ = take first (drop start b) in
-    let y : List ℕ = take rest b in
-    let lx : length x ≡ first = length-take-le first (drop start b) (simp length-drop (omega arith)) in
-    let ly : length y ≡ rest = length-take-le rest b hr in
-    let lm : length (x ++ y) ≡ first + rest = length-append x y ∙ omega (arith, lx, ly) in
-    let c' : c ≡ fnv q x = ec ∙ ap (λ (k : ℕ). fnv q (take k (drop start b))) f in
+hash_parts h n a q c r x y ea eq ec er =
     let num : List ℕ = bytes_of 8 n in
-    let len : List ℕ = bytes_of 8 (first + rest) in
-    er ∙ ap (λ (k : ℕ). fnv k y) c' ∙ sym (fnv_append q x y)
+    let len : List ℕ = bytes_of 8 (length x + length y) in
+    let lm : length (x ++ y) ≡ length x + length y = length-append x y in
+    er ∙ ap (λ (k : ℕ). fnv k y) ec ∙ sym (fnv_append q x y)
     ∙ ap (λ (k : ℕ). fnv k (x ++ y)) (eq ∙ ap (λ (k : ℕ). fnv k len) ea)
     ∙ sym (fnv_append (fnv h num) len (x ++ y))
     ∙ sym (fnv_append h num (len ++ (x ++ y)))

@@ -11,4 +11,5 @@ pub mod Reading
 pub mod Hash
 pub mod Spans
 pub mod Summing
+pub mod Turning
 pub mod Examples

@@ -2,7 +2,7 @@
 use Rattle.std.proofs.Common.{◌≡◌, ℕ, suc, ◌+◌, ◌-◌, ◌*◌, ◌<◌, ◌≤◌, List, [], ◌∷◌, reverse, length, get_or, take, drop, sym, refl, ap, subst, ◌∙◌, arith, length-drop, length-take-le, le-leb}
 use borrow.Author.Tests.{lt-leb}
 use Rattle.model_session.specs.Session.{Msg, stored_bytes}
-use Rattle.store_log.specs.Log.{msg, before, entries, newest, newest_first, head_of, tail_of, unrolled, walk, since, log_of, rest_of, From}
+use Rattle.store_log.specs.Log.{msg, before, entries, newest, newest_first, tail_of, unrolled, walk, since, log_of, rest_of, From}
 use Rattle.store_log.proofs.Slots.{tail_le}
 use Rattle.store_log.proofs.Ring.{length_unrolled}
 use Rattle.store_log.proofs.Walk.{Look, hit, low, high, full, look, walk_hit, walk_low, walk_high, walk_full}
@@ -132,15 +132,3 @@ module _ (C M next lo : ℕ) (w b : List ℕ) where
 pub counted_none : (C M next lo : ℕ) (w b : List ℕ) → M ≡ 0 → From C M next lo w b 0 0
 unfolding log_of rest_of
 counted_none C M next lo w b e = rw e (record { stands = record { many = omega arith; few = omega arith; sum = refl; room = omega arith }; is = refl })
-
-pub counting_starts : (C M next lo s : ℕ) (w b : List ℕ) → 0 < M → s ≡ head_of M w → s < M → Counting C M lo w (unrolled (tail_of C w) b) (since lo (newest_first C M next w b)) 0 0 s next
-counting_starts C M next lo s w b m e h =
-    let z : M - 0 ≡ M = omega arith in
-    let same : left C M lo w (unrolled (tail_of C w) b) (M - 0) s 0 next ≡ since lo (newest_first C M next w b) = rw (z, e) in
-    record {
-      most = omega arith;
-      room = omega arith;
-      at = h;
-      many = sym (ap (λ (l : List Msg). 0 + length l) same ∙ omega arith);
-      long = sym (ap (λ (l : List Msg). 0 + stored_bytes l) same ∙ omega arith);
-    }

@@ -7,10 +7,6 @@ use Rattle.store_log.specs.Log.{msg, Entry, entry, before, entries, newest, head
 use Rattle.store_log.proofs.Walk.{walk_low, walk_high, walk_record, stored_append}
 use Rattle.store_log.proofs.Ring.{length_unrolled}
 
-pub before_pos : (M h : ℕ) → (h ≡ 0 → ⊥) → before M h ≡ h - 1
-before_pos M zero n = absurd (n refl)
-before_pos M (suc h) n = omega arith
-
 -- ---- settle
 
 -- the first entry alone meets the bound

@@ -3,8 +3,8 @@ use Rattle.std.proofs.Common.{◌≡◌, ℕ, zero, suc, ◌+◌, ◌-◌, ◌*�
 use mathlib.Core.Bool.{or-true}
 use mathlib.Core.List.{reverse-append}
 use Rattle.model_session.specs.Session.{Msg, stored_bytes}
-use Rattle.model_session.specs.Summary.{fnv_message, fnv_messages, fnv_start, numbered_from}
-use Rattle.store_log.specs.Log.{msg, Entry, entry, num_of, len_of, entry_at, slot_at, newest, newest_first, head_of, tail_of, unrolled, log_of, rest_of, Position, From, NextMessage, Spanned, last_of}
+use Rattle.model_session.specs.Summary.{fnv_messages, fnv_start, numbered_from}
+use Rattle.store_log.specs.Log.{msg, Entry, entry, num_of, len_of, entry_at, slot_at, newest, newest_first, head_of, tail_of, unrolled, log_of, rest_of, Position, NextMessage, Spanned, last_of}
 use Rattle.store_log.proofs.Ring.{length_unrolled}
 use Rattle.store_log.proofs.Slots.{head_lt, tail_le, entry_at_lem}
 use Rattle.store_log.proofs.Forward.{Nth, nth}
@@ -66,22 +66,9 @@ module _ (M next : ℕ) (w b : List ℕ) where
     pub stands : Position (length b) M next w b left dist
     pub done : fnv_messages fnv_start (numbered_from low (log_of (length b) M next w b)) ≡ fnv_messages hash (rest_of (length b) M next w b left)
 
-  pub hashing_starts : (low left dist : ℕ) → From (length b) M next low w b left dist → Hashing low 0xcbf29ce484222325 left dist
-  hashing_starts low left dist c = record { stands = c.stands; done = ap (fnv_messages fnv_start) (sym c.is) }
-
-  pub hashing_goes : (low hash left dist number start first rest left' dist' r : ℕ) → Hashing low hash left dist
-      → NextMessage (length b) M next w b left dist number start first rest left' dist'
-      → r ≡ fnv_message hash (msg number (take first (drop start b) ++ take rest b)) → Hashing low r left' dist'
-  hashing_goes low hash left dist number start first rest left' dist' r i p e = record {
-    stands = p.stands;
-    done = i.done ∙ ap (fnv_messages hash) p.is ∙ ap (λ (z : ℕ). fnv_messages z (rest_of (length b) M next w b left')) (sym e);
-  }
-
-  pub hashing_ends : (low hash left dist : ℕ) → Hashing low hash left dist → left ≤ 0 → hash ≡ fnv_messages fnv_start (numbered_from low (log_of (length b) M next w b))
+  pub hashing_ends : (low hash left dist : ℕ) → Hashing low hash left dist → left ≡ 0 → hash ≡ fnv_messages fnv_start (numbered_from low (log_of (length b) M next w b))
   unfolding rest_of
-  hashing_ends low hash left dist i h =
-      let z : left ≡ 0 = omega arith in
-      sym (i.done ∙ ap (λ (k : ℕ). fnv_messages hash (reverse (take k All))) z)
+  hashing_ends low hash left dist i z = sym (i.done ∙ ap (λ (k : ℕ). fnv_messages hash (reverse (take k All))) z)
 
 -- ---- last_outgoing
 

@@ -2,6 +2,8 @@
 #![tactic(auto)]
 
 pub mod fnv;
+pub mod log;
+pub mod messages;
 
 ghost use Rattle.std.specs.Prelude.{◌≡◌, ℕ, ◌+◌, ◌-◌, ◌*◌, ◌<◌, ◌≤◌, List, [], ◌∷◌, ◌++◌, length, take, drop, slice_index};
 ghost use Rattle.std.proofs.Math.Seq.{paste};
@@ -49,7 +51,8 @@ pub fn ring_write(bytes: &mut [u8], at: usize, msg: &[u8]) -> usize
     }
 }
 
-// The slot that the next entry goes to.
+// The slot that the next entry goes to; it asks for the two words alone, not for a whole log.
+// A ring of no slots has none, so each asks for one.
 pub fn head(words: &[u64], max: usize) -> usize
     requires in_bounds { 2 ≤ length words.now }
     requires max_nonzero { 0 < max }
@@ -71,6 +74,8 @@ pub fn tail(words: &[u64], cap: usize) -> usize
 }
 
 // Puts an entry in front of the newest, with the ring's new tail.
+// This, discard_stale, record and clear take the words and the room: in a struct over `&mut` words each would have to say that they stay the
+// same ones, a clause for the one that goes.
 fn put_entry(words: &mut [u64], max: usize, seq: u64, len: usize, end: usize)
     requires max_nonzero { 0 < max }
     requires max_in_bounds { 2 + 2 * max ≤ length words.old }
@@ -149,38 +154,12 @@ pub fn clear(words: &mut [u64], max: usize)
     words[NUMBER + ENTRY_WORDS * slot] = 0;
 }
 
-// A place in the log: the newest messages that are still to be read, and their bytes.
+// A position in the log: how many messages, the newest, are still to be read, and their bytes.
 #[repr(C)]
 #[derive(Clone, Copy)]
 pub struct LogPosition {
     pub left: usize,
     pub dist: usize,
-}
-
-// The place where the messages with numbers from low begin, found from the newest back.
-pub fn messages_from(words: &[u64], bytes: &[u8], max: usize, next: u64, low: u64) -> LogPosition
-    requires max_in_bounds { 2 + 2 * max ≤ length words.now }
-    requires le_low { 1 ≤ low }
-    ensures { From (length bytes.now) max next low words.now bytes.now result.left result.dist }
-{
-    if max == 0 {
-        return LogPosition { left: 0, dist: 0 };
-    }
-    let cap = bytes.len();
-    let mut dist = 0;
-    let mut slot = head(words, max);
-    let mut bound = next;
-    for left in 0..max {
-        slot = slot_before(slot, max);
-        let number = words[NUMBER + ENTRY_WORDS * slot];
-        let len = words[LENGTH + ENTRY_WORDS * slot] as usize;
-        if number < low || bound <= number || cap - dist < len {
-            return LogPosition { left, dist };
-        }
-        dist += len;
-        bound = number;
-    }
-    LogPosition { left: max, dist }
 }
 
 // The slot of the i-th newest entry.
@@ -237,79 +216,11 @@ pub fn span_of(tail: usize, cap: usize, dist: usize, len: usize) -> RingSpan
     }
 }
 
-// A message in the ring: its number, where its bytes stand, and the place after it.
+// A message in the ring: its number, where its bytes stand, and the position after it.
 #[repr(C)]
 #[derive(Clone, Copy)]
 pub struct Found {
     pub number: u64,
     pub span: RingSpan,
     pub next: LogPosition,
-}
-
-// The next message at a place in the log of a session whose next outgoing number is next.
-pub fn message_at(
-    words: &[u64],
-    bytes: &[u8],
-    max: usize,
-    next: u64,
-    position: LogPosition,
-) -> Found
-    requires max_in_bounds { 2 + 2 * max ≤ length words.now }
-    requires position { Position (length bytes.now) max next words.now bytes.now position.left position.dist }
-    requires le_left { 1 ≤ position.left }
-    ensures { NextMessage (length bytes.now) max next words.now bytes.now position.left position.dist result.number result.span.start result.span.first result.span.rest result.next.left result.next.dist }
-{
-    let cap = bytes.len();
-    let slot = slot_at(head(words, max), max, position.left);
-    let number = words[NUMBER + ENTRY_WORDS * slot];
-    let len = words[LENGTH + ENTRY_WORDS * slot] as usize;
-    Found {
-        number,
-        span: span_of(tail(words, cap), cap, position.dist, len),
-        next: LogPosition {
-            left: position.left - 1,
-            dist: position.dist - len,
-        },
-    }
-}
-
-// The hash h carried over a message's number, length and bytes.
-fn hash_message(hash: u64, bytes: &[u8], number: u64, span: RingSpan) -> u64
-    requires first_in_bounds { span.start + span.first ≤ length bytes.now }
-    requires rest_in_bounds { span.rest ≤ length bytes.now }
-    requires rest_in_bounds_2 { span.first + span.rest ≤ length bytes.now }
-    ensures { result ≡ fnv_message hash (msg number (take span.first (drop span.start bytes.now) ++ take span.rest bytes.now)) }
-{
-    let end = span.start + span.first;
-    let a = fnv::word(hash, number);
-    let b = fnv::word(a, (span.first + span.rest) as u64);
-    let c = fnv::bytes(b, &bytes[span.start..end]);
-    fnv::bytes(c, &bytes[..span.rest])
-}
-
-// The hash of the messages with numbers from low, the oldest first.
-pub fn hash_from(words: &[u64], bytes: &[u8], max: usize, next: u64, low: u64) -> u64
-    requires max_in_bounds { 2 + 2 * max ≤ length words.now }
-    requires le_low { 1 ≤ low }
-    ensures { result ≡ fnv_messages fnv_start (numbered_from low (log_of (length bytes.now) max next words.now bytes.now)) }
-{
-    let mut hash = fnv::START;
-    let mut position = messages_from(words, bytes, max, next, low);
-    while 0 < position.left {
-        let found = message_at(words, bytes, max, next, position);
-        hash = hash_message(hash, bytes, found.number, found.span);
-        position = found.next;
-    }
-    hash
-}
-
-// last_outgoing over n, of a session whose next outgoing number is next.
-pub fn last_outgoing(words: &[u64], bytes: &[u8], max: usize, next: u64, n: u64) -> u64
-    requires { 2 + 2 * max ≤ length words.now }
-    ensures { result ≡ last_of next n (log_of (length bytes.now) max next words.now bytes.now) }
-{
-    if n == 0 || next == 1 {
-        return 0;
-    }
-    hash_from(words, bytes, max, next, next.saturating_sub(n).max(1))
 }

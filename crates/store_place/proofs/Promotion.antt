@@ -49,10 +49,6 @@ module _ (b : List ℕ) (n : ℕ) (h : 224 ≤ length b) (k : n ≤ 64) where
   with_b_lem : Bool → List ℕ → List ℕ
   with_b_lem t m = cond t m (cond (leb 64 (length m)) (take 63 m ++ (66 ∷ [])) (m ++ (66 ∷ [])))
 
-  pub kept_b : (t : Bool) → t ≡ ends_in_b (take n l) → t ≡ true → take n l ≡ with_b (take n l)
-  unfolding with_b_lem
-  kept_b t e y = sym (ap (λ (j : Bool). with_b_lem j (take n l)) (sym e ∙ y))
-
   pub full_b : (t : Bool) → t ≡ ends_in_b (take n l) → t ≡ false → 64 ≤ n → take n (drop 160 (set b 223 66)) ≡ with_b (take n l)
   unfolding with_b_lem
   full_b t e y g =

@@ -3,3 +3,4 @@ pub mod PlaceWord
 pub mod PlaceByte
 pub mod Place
 pub mod Only
+pub mod Keys

@@ -1,16 +1,16 @@
 // One place of the store: the words and bytes of one session, and its key.
 #![tactic(auto)]
 
+pub mod place;
+
 ghost use Rattle.std.specs.Prelude.{◌≡◌, Bool, true, List, [], ◌∷◌, ℕ, ◌+◌, ◌-◌, ◌*◌, ◌≤◌, ◌<◌, min, length, take, drop, get_or, set};
 ghost use Rattle.model_text.specs.Printable.{is_marks};
 ghost use Rattle.model_text.specs.Stamp.{is_stamp};
 ghost use Rattle.model_frame.specs.Frame.{Key, Change, set_incoming, set_incoming_in_flight, set_in_flight, record_msg, record_bare, reset, set_created_at, set_marks};
-ghost use Rattle.model_session.specs.Summary.{last_out};
 ghost use Rattle.model_standby.specs.Store.{Place, on_stored, changed, taken_over, new_place, same_bytes, same_key, with_b};
 ghost use Rattle.store_place.specs.Only.{Only};
-ghost use Rattle.store_place.specs.Place.{next_out_of, stored_flight, durable_of, field, stamp_of, marks_of, stored_key, session_of, place_in, flight_is, PutText, ends_in_b, key_from, PositionIn, FromIn, NextMessageIn};
-
-use store_log::{Found, LogPosition};
+ghost use Rattle.store_place.specs.Keys.{key_of};
+ghost use Rattle.store_place.specs.Place.{next_out_of, stored_flight, durable_of, field, stamp_of, marks_of, stored_key, place_in, flight_is, PutText, ends_in_b};
 
 // The words of a place; 11 to 13 are spare.
 pub mod word {
@@ -65,10 +65,54 @@ pub mod byte {
     pub const MARKS_SIZE: usize = 64;
 }
 
+// Where a text stands: its first byte, how many bytes it may have, and the word that has its length.
+#[derive(Clone, Copy)]
+struct TextField {
+    at: usize,
+    size: usize,
+    length: usize,
+}
+
+const BEGIN: TextField = TextField {
+    at: byte::BEGIN,
+    size: byte::KEY_TEXT_SIZE,
+    length: word::BEGIN_LEN,
+};
+
+const SENDER: TextField = TextField {
+    at: byte::SENDER,
+    size: byte::KEY_TEXT_SIZE,
+    length: word::SENDER_LEN,
+};
+
+const TARGET: TextField = TextField {
+    at: byte::TARGET,
+    size: byte::KEY_TEXT_SIZE,
+    length: word::TARGET_LEN,
+};
+
+const SUFFIX: TextField = TextField {
+    at: byte::SUFFIX,
+    size: byte::KEY_TEXT_SIZE,
+    length: word::SUFFIX_LEN,
+};
+
+const STAMP: TextField = TextField {
+    at: byte::STAMP,
+    size: byte::STAMP_SIZE,
+    length: word::STAMP_LEN,
+};
+
+const MARKS: TextField = TextField {
+    at: byte::MARKS,
+    size: byte::MARKS_SIZE,
+    length: word::MARKS_LEN,
+};
+
 // The last byte of the marks.
 const LAST_MARK: usize = byte::RING - 1;
 
-// ---- reading
+// ---- reading: most ask for the words alone, so they take the slices and no Place
 
 pub fn next_outgoing(words: &[u64]) -> u64
     requires { 16 ≤ length words.now }
@@ -102,13 +146,14 @@ pub fn durable(words: &[u64]) -> bool
     words[word::DURABLE] != 0
 }
 
-// The text of n bytes in the field of size bytes at `at`; a length beyond the field is cut.
-fn field(bytes: &[u8], at: usize, size: usize, n: u64) -> &[u8]
-    requires { at + size ≤ length bytes.now }
-    ensures { result.now ≡ field bytes.now at size n }
+// The text in a field; a length beyond the field is cut.
+fn text_in<'a>(words: &[u64], bytes: &'a [u8], text_field: TextField) -> &'a [u8]
+    requires length_in_bounds { text_field.length < length words.now }
+    requires size_in_bounds { text_field.at + text_field.size ≤ length bytes.now }
+    ensures { result.now ≡ field bytes.now text_field.at text_field.size (get_or words.now text_field.length 0) }
 {
-    let end = at + n.min(size as u64) as usize;
-    &bytes[at..end]
+    let end = text_field.at + words[text_field.length].min(text_field.size as u64) as usize;
+    &bytes[text_field.at..end]
 }
 
 // The length of the stamp at 128; 0 for none.
@@ -118,7 +163,7 @@ pub fn stamp_len(words: &[u64], bytes: &[u8]) -> usize
     ensures within { result ≤ 32 }
     ensures is { take result (drop 128 bytes.now) ≡ stamp_of words.now bytes.now }
 {
-    let stamp = field(bytes, byte::STAMP, byte::STAMP_SIZE, words[word::STAMP_LEN]);
+    let stamp = text_in(words, bytes, STAMP);
     if frame_stamp::is_stamp(stamp) {
         stamp.len()
     } else {
@@ -133,7 +178,7 @@ pub fn marks_len(words: &[u64], bytes: &[u8]) -> usize
     ensures within { result ≤ 64 }
     ensures is { take result (drop 160 bytes.now) ≡ marks_of words.now bytes.now }
 {
-    let marks = field(bytes, byte::MARKS, byte::MARKS_SIZE, words[word::MARKS_LEN]);
+    let marks = text_in(words, bytes, MARKS);
     if frame_stamp::is_marks(marks) {
         marks.len()
     } else {
@@ -141,7 +186,7 @@ pub fn marks_len(words: &[u64], bytes: &[u8]) -> usize
     }
 }
 
-// ---- changes: each unmarks the session
+// ---- changes: each unmarks the session. They take the slices, which a caller lends for one call; most ask for the words alone.
 
 pub fn set_next_incoming(words: &mut [u64], seq: u64)
     requires { 16 ≤ length words.old }
@@ -171,7 +216,7 @@ pub fn set_in_flight(words: &mut [u64], seq: u64)
     words[word::DURABLE] = 0;
 }
 
-// A Record with its message, whose number is the next outgoing one.
+// A Record with its message, whose number is the next outgoing one. There must be a number after it.
 pub fn record(words: &mut [u64], bytes: &mut [u8], max: usize, seq: u64, text: &[u8])
     requires max_in_bounds { 16 + 2 * max ≤ length words.old }
     requires in_bounds { 224 ≤ length bytes.old }
@@ -216,13 +261,16 @@ pub fn reset(words: &mut [u64], max: usize)
     words[word::MARKS_LEN] = 0;
 }
 
-// Puts a text into the field of size bytes at `at`.
-fn put_text(bytes: &mut [u8], at: usize, size: usize, text: &[u8])
-    requires size_in_bounds { at + size ≤ length bytes.old }
-    requires text_len_bound { length text.now ≤ size }
-    ensures { PutText at size text.now bytes.old bytes.new }
+// Puts a text into a field, with its length.
+fn put_text(words: &mut [u64], bytes: &mut [u8], text_field: TextField, text: &[u8])
+    requires length_in_bounds { text_field.length < length words.old }
+    requires size_in_bounds { text_field.at + text_field.size ≤ length bytes.old }
+    requires text_len_bound { length text.now ≤ text_field.size }
+    ensures text { PutText text_field.at text_field.size text.now bytes.old bytes.new }
+    ensures length { words.new ≡ set words.old text_field.length (length text.now) }
 {
-    store_log::copy_into(bytes, at, text);
+    store_log::copy_into(bytes, text_field.at, text);
+    words[text_field.length] = text.len() as u64;
 }
 
 pub fn set_created_at(words: &mut [u64], bytes: &mut [u8], text: &[u8])
@@ -231,8 +279,7 @@ pub fn set_created_at(words: &mut [u64], bytes: &mut [u8], text: &[u8])
     requires text_value { is_stamp text.now ≡ true }
     ensures { (C M : ℕ) → place_in C M words.new bytes.new ≡ on_stored (changed C M (set_created_at text.now ∷ [])) (place_in C M words.old bytes.old) }
 {
-    put_text(bytes, byte::STAMP, byte::STAMP_SIZE, text);
-    words[word::STAMP_LEN] = text.len() as u64;
+    put_text(words, bytes, STAMP, text);
     words[word::DURABLE] = 0;
 }
 
@@ -242,8 +289,7 @@ pub fn set_marks(words: &mut [u64], bytes: &mut [u8], text: &[u8])
     requires text_value { is_marks text.now ≡ true }
     ensures { (C M : ℕ) → place_in C M words.new bytes.new ≡ on_stored (changed C M (set_marks text.now ∷ [])) (place_in C M words.old bytes.old) }
 {
-    put_text(bytes, byte::MARKS, byte::MARKS_SIZE, text);
-    words[word::MARKS_LEN] = text.len() as u64;
+    put_text(words, bytes, MARKS, text);
     words[word::DURABLE] = 0;
 }
 
@@ -259,6 +305,7 @@ fn ends_in_b(bytes: &[u8], n: usize) -> bool
 }
 
 // Gives the n bytes of marks at 160 a final B, and answers how many there are then.
+// By the area and a number: a slice of the marks alone could not grow.
 fn put_b(bytes: &mut [u8], n: usize) -> usize
     requires in_bounds { 224 ≤ length bytes.old }
     requires n_bound { n ≤ 64 }
@@ -294,101 +341,49 @@ pub fn take_over(words: &mut [u64], bytes: &mut [u8], max: usize, lag: u64)
 
 // ---- keys and new sessions
 
+// The four texts of a session's key.
+#[derive(Clone, Copy)]
+pub struct Key<'a> {
+    pub begin: &'a [u8],
+    pub sender: &'a [u8],
+    pub target: &'a [u8],
+    pub suffix: &'a [u8],
+}
+
 // The new session of a key.
-pub fn new_session(
-    words: &mut [u64],
-    bytes: &mut [u8],
-    max: usize,
-    begin: &[u8],
-    sender: &[u8],
-    target: &[u8],
-    suffix: &[u8],
-)
+pub fn new_session(words: &mut [u64], bytes: &mut [u8], max: usize, key: &Key)
     requires max_in_bounds { 16 + 2 * max ≤ length words.old }
     requires in_bounds { 224 ≤ length bytes.old }
-    requires begin_len_bound { length begin.now ≤ 32 }
-    requires sender_len_bound { length sender.now ≤ 32 }
-    requires target_len_bound { length target.now ≤ 32 }
-    requires suffix_len_bound { length suffix.now ≤ 32 }
-    ensures { (C : ℕ) → place_in C max words.new bytes.new ≡ new_place (key_from begin.now sender.now target.now suffix.now) }
+    requires begin_len_bound { length key.now.begin.now ≤ 32 }
+    requires sender_len_bound { length key.now.sender.now ≤ 32 }
+    requires target_len_bound { length key.now.target.now ≤ 32 }
+    requires suffix_len_bound { length key.now.suffix.now ≤ 32 }
+    ensures { (C : ℕ) → place_in C max words.new bytes.new ≡ new_place (key_of key.now) }
 {
-    put_text(bytes, byte::BEGIN, byte::KEY_TEXT_SIZE, begin);
-    put_text(bytes, byte::SENDER, byte::KEY_TEXT_SIZE, sender);
-    put_text(bytes, byte::TARGET, byte::KEY_TEXT_SIZE, target);
-    put_text(bytes, byte::SUFFIX, byte::KEY_TEXT_SIZE, suffix);
-    words[word::BEGIN_LEN] = begin.len() as u64;
-    words[word::SENDER_LEN] = sender.len() as u64;
-    words[word::TARGET_LEN] = target.len() as u64;
-    words[word::SUFFIX_LEN] = suffix.len() as u64;
+    put_text(words, bytes, BEGIN, key.begin);
+    put_text(words, bytes, SENDER, key.sender);
+    put_text(words, bytes, TARGET, key.target);
+    put_text(words, bytes, SUFFIX, key.suffix);
     reset(words, max);
 }
 
-// Whether the key's text at `at`, whose length is n, is this one.
-fn same_field(bytes: &[u8], at: usize, n: u64, text: &[u8]) -> bool
-    requires { at + 32 ≤ length bytes.now }
-    ensures { result ≡ same_bytes text.now (field bytes.now at 32 n) }
+// Whether the text in a field is this one.
+fn is_text(words: &[u64], bytes: &[u8], text_field: TextField, text: &[u8]) -> bool
+    requires length_in_bounds { text_field.length < length words.now }
+    requires size_in_bounds { text_field.at + text_field.size ≤ length bytes.now }
+    ensures { result ≡ same_bytes text.now (field bytes.now text_field.at text_field.size (get_or words.now text_field.length 0)) }
 {
-    text == field(bytes, at, byte::KEY_TEXT_SIZE, n)
+    text == text_in(words, bytes, text_field)
 }
 
 // Whether the place has this key.
-pub fn has_key(
-    words: &[u64],
-    bytes: &[u8],
-    begin: &[u8],
-    sender: &[u8],
-    target: &[u8],
-    suffix: &[u8],
-) -> bool
+pub fn has_key(words: &[u64], bytes: &[u8], key: &Key) -> bool
     requires in_bounds { 16 ≤ length words.now }
     requires in_bounds_2 { 224 ≤ length bytes.now }
-    ensures { result ≡ same_key (key_from begin.now sender.now target.now suffix.now) (stored_key words.now bytes.now) }
+    ensures { result ≡ same_key (key_of key.now) (stored_key words.now bytes.now) }
 {
-    same_field(bytes, byte::BEGIN, words[word::BEGIN_LEN], begin)
-        & (same_field(bytes, byte::SENDER, words[word::SENDER_LEN], sender)
-            & (same_field(bytes, byte::TARGET, words[word::TARGET_LEN], target)
-                & same_field(bytes, byte::SUFFIX, words[word::SUFFIX_LEN], suffix)))
-}
-
-// ---- messages
-
-// last_outgoing over n.
-pub fn last_outgoing(words: &[u64], bytes: &[u8], max: usize, n: u64) -> u64
-    requires max_in_bounds { 16 + 2 * max ≤ length words.now }
-    requires in_bounds { 224 ≤ length bytes.now }
-    ensures { (C : ℕ) → length bytes.now ≡ 224 + C → result ≡ last_out (session_of C max words.now bytes.now) n }
-{
-    let next = next_outgoing(words);
-    store_log::last_outgoing(&words[word::LOG..], &bytes[byte::RING..], max, next, n)
-}
-
-// The place in the log where the messages with numbers from low begin.
-pub fn messages_from(words: &[u64], bytes: &[u8], max: usize, low: u64) -> LogPosition
-    requires max_in_bounds { 16 + 2 * max ≤ length words.now }
-    requires in_bounds { 224 ≤ length bytes.now }
-    requires le_low { 1 ≤ low }
-    ensures { (C : ℕ) → length bytes.now ≡ 224 + C → FromIn C max low words.now bytes.now result.left result.dist }
-{
-    let next = next_outgoing(words);
-    store_log::messages_from(&words[word::LOG..], &bytes[byte::RING..], max, next, low)
-}
-
-// The next message at a place in the log.
-pub fn message_at(words: &[u64], bytes: &[u8], max: usize, position: LogPosition) -> Found
-    requires max_in_bounds { 16 + 2 * max ≤ length words.now }
-    requires in_bounds { 224 ≤ length bytes.now }
-    requires position_in { PositionIn (length bytes.now - 224) max words.now bytes.now position.left position.dist }
-    requires le_left { 1 ≤ position.left }
-    ensures { (C : ℕ) → length bytes.now ≡ 224 + C → NextMessageIn C max words.now bytes.now position.left position.dist result.number result.span.start result.span.first result.span.rest result.next.left result.next.dist }
-{
-    let next = next_outgoing(words);
-    let mut found = store_log::message_at(
-        &words[word::LOG..],
-        &bytes[byte::RING..],
-        max,
-        next,
-        position,
-    );
-    found.span.start += byte::RING;
-    found
+    is_text(words, bytes, BEGIN, key.begin)
+        & (is_text(words, bytes, SENDER, key.sender)
+            & (is_text(words, bytes, TARGET, key.target)
+                & is_text(words, bytes, SUFFIX, key.suffix)))
 }

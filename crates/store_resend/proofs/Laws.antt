@@ -2,11 +2,11 @@
 use mathlib.Core.Path.{◌≡◌, refl, sym, ap, subst, ◌∙◌}
 use mathlib.Core.Bool.{Bool, true, false, cond, ◌&&◌, ◌||◌}
 use mathlib.Core.List.{List, [], ◌∷◌}
-use Prim.Native.Nat.{ℕ, zero, suc, ◌+◌, ◌*◌, ◌-◌, ◌≤◌, ◌<◌, min}
+use Prim.Native.Nat.{ℕ, zero, suc, ◌+◌, ◌*◌, ◌-◌, ◌≤◌, ◌<◌}
 use native.Mathlib.Omega.{arith}
 use native.Mathlib.Numerals.{add-one}
 use native.Mathlib.Nat.{sub-zero}
-use lib.ListN.{length, get_or}
+use lib.ListN.{length}
 use lib.Dec.{leb, ltb, eqb}
 use borrow.Author.Tests.{ltb-true, ltb-false, le-leb, lt-leb, leb-true, leb-false}
 use Rattle.model_resend.specs.Resend.{Range, is_range, are_ranges, lies, set_of}
@@ -78,20 +78,6 @@ module _ (w : List ℕ) (n count : ℕ) where
   pub small : (set bound j : ℕ) → count ≤ 64 → 0 < j → Gathering set bound j → set < 9223372036854775808
   small set bound j few more g = subst (λ (k : ℕ). k < 9223372036854775808) (sym g.set_so) (fits_63 (ranges_from w j (count - j)) n (omega (arith, many j (count - j))))
 
-  cut : (j : ℕ) → 0 < j → j ≤ count → ranges_from w (j - 1) (count - (j - 1)) ≡ range_at w (j - 1) ∷ ranges_from w j (count - j)
-  cut j more within =
-      let e : count - (j - 1) ≡ suc (count - j) = omega arith in
-      let f : suc (j - 1) ≡ j = omega arith in
-      rw e (ap (λ (k : ℕ). range_at w (j - 1) ∷ ranges_from w k (count - j)) f)
-
-  pub gathers : (set bound j set' bound' : ℕ) {b : Bool} {s : ℕ} → 0 < j → Gathering set bound j → b ≡ lies (range_at w (j - 1)) n → set' ≡ cond b 1 0 + 2 * set
-      → s ≡ stays (range_at w (j - 1)) n → bound' ≡ min s bound → Gathering set' bound' (j - 1)
-  gathers set bound j set' bound' more g eb es est eu = record {
-    upto = omega (arith, g.upto);
-    set_so = es ∙ ap (λ (t : Bool). cond t 1 0 + 2 * set) eb ∙ ap (λ (k : ℕ). cond (lies (range_at w (j - 1)) n) 1 0 + 2 * k) g.set_so ∙ ap (λ (rs : List Range). set_of rs n) (sym (cut j more g.upto));
-    bound_so = eu ∙ ap (λ (k : ℕ). min k bound) est ∙ ap (λ (k : ℕ). min (stays (range_at w (j - 1)) n) k) g.bound_so ∙ ap (λ (rs : List Range). until rs n) (sym (cut j more g.upto));
-  }
-
   pub gathered : (set bound j : ℕ) → n ≤ top → j ≤ 0 → Gathering set bound j → Serves (ranges_from w 0 count) n (record { base = n; until = bound; set = set })
   gathered set bound j fits end g =
       let z : j ≡ 0 = omega arith in
@@ -108,30 +94,11 @@ module _ (w : List ℕ) (count : ℕ) where
     pub upto : j ≤ count
     pub low_so : low ≡ lowest_of (ranges_from w j (count - j))
 
-  pub lowers_from : Lowering top count
-  lowers_from =
-      let e : count - count ≡ 0 = omega arith in
-      record { upto = omega arith; low_so = rw e refl }
-
-  pub lowers : (low j low' : ℕ) → 0 < j → Lowering low j → low' ≡ min (get_or w (2 * (j - 1)) 0) low → Lowering low' (j - 1)
-  lowers low j low' more g e = record {
-    upto = omega (arith, g.upto);
-    low_so = e ∙ ap (λ (k : ℕ). min (get_or w (2 * (j - 1)) 0) k) g.low_so ∙ ap lowest_of (sym (cut w 0 count j more g.upto));
-  }
-
-  pub lowered : (low j : ℕ) → j ≤ 0 → Lowering low j → low ≡ lowest_of (ranges_from w 0 count)
-  lowered low j end g =
-      let z : j ≡ 0 = omega arith in
-      g.low_so ∙ ap (λ (k : ℕ). lowest_of (ranges_from w k (count - k))) z ∙ rw (sub-zero count) refl
-
 -- whether all are ranges
 module _ (w : List ℕ) (count : ℕ) where
   pub record Judging (j : ℕ) : Type 0 where
     pub upto : j ≤ count
     pub left : are_ranges (ranges_from w 0 count) ≡ are_ranges (ranges_from w j (count - j))
-
-  pub judge_starts : Judging 0
-  judge_starts = record { upto = omega arith; left = rw (sub-zero count) refl }
 
   split : (j : ℕ) → j < count → are_ranges (ranges_from w j (count - j)) ≡ (is_range (range_at w j) && are_ranges (ranges_from w (suc j) (count - (j + 1))))
   split j less =
@@ -143,11 +110,3 @@ module _ (w : List ℕ) (count : ℕ) where
     upto = omega arith;
     left = g.left ∙ split j less ∙ ap (λ (c : Bool). c && are_ranges (ranges_from w (suc j) (count - (j + 1)))) (sym e ∙ t) ∙ ap (λ (k : ℕ). are_ranges (ranges_from w k (count - (j + 1)))) (sym (add-one j));
   }
-
-  pub judge_no : (j : ℕ) {b : Bool} → j < count → Judging j → b ≡ is_range (range_at w j) → b ≡ false → false ≡ are_ranges (ranges_from w 0 count)
-  judge_no j less g e f = sym (g.left ∙ split j less ∙ ap (λ (c : Bool). c && are_ranges (ranges_from w (suc j) (count - (j + 1)))) (sym e ∙ f))
-
-  pub judge_end : (j : ℕ) → count ≤ j → Judging j → true ≡ are_ranges (ranges_from w 0 count)
-  judge_end j end g =
-      let e : count - j ≡ 0 = omega arith in
-      sym (g.left ∙ rw e refl)

@@ -41,17 +41,6 @@ enters_none n x m l z =
     let e : eqb x 0 ≡ true = eq-eqb x 0 z in
     rw e refl
 
-pub enters_one : (n x : ℕ) (m : Message) (l : List ℕ) → (x ≡ 0 → ⊥)
-    → set (set (set (set (set (set l (6 * n) m.number) (6 * n + 1) x) (6 * n + 2) m.first.at) (6 * n + 3) m.first.len) (6 * n + 4) m.second.at) (6 * n + 5) m.second.len ≡ entered n x m l
-enters_one n x m l z =
-    let e : eqb x 0 ≡ false = ne_eqb x 0 z in
-    let e1 : 6 * n + 1 ≡ suc (6 * n) = omega arith in
-    let e2 : 6 * n + 2 ≡ suc (suc (6 * n)) = omega arith in
-    let e3 : 6 * n + 3 ≡ suc (suc (suc (6 * n))) = omega arith in
-    let e4 : 6 * n + 4 ≡ suc (suc (suc (suc (6 * n)))) = omega arith in
-    let e5 : 6 * n + 5 ≡ suc (suc (suc (suc (suc (6 * n))))) = omega arith in
-    rw (e, e1, e2, e3, e4, e5) refl
-
 flip : (a b : Bool) → a ≡ not b → b ≡ not a
 flip true true e = absurd (true≢false e)
 flip true false e = refl
@@ -321,15 +310,9 @@ module _ (s : Shape) (w b : List ℕ) (i first back : ℕ) (t : Tally) (old : Li
 pub stands_there : (s : Shape) (w b : List ℕ) (i first back : ℕ) (t : Tally) (old : List ℕ) (k : Kept) {left dist : ℕ} {u : Tally} {new : List ℕ} → Begun s w b i first back t k old → Carries s w b i k first back t old left dist u new → PositionAt s w b i left dist
 stands_there s w b i first back t old k g c = (c.fills g.rs g.first g.back g.old g.fits g.filling).stands
 
-pub long_there : (s : Shape) (w b : List ℕ) (i first back : ℕ) (t : Tally) (old : List ℕ) (k : Kept) {left dist : ℕ} {u : Tally} {new : List ℕ} → Begun s w b i first back t k old → Carries s w b i k first back t old left dist u new → length new ≡ length old
-long_there s w b i first back t old k g c = (c.fills g.rs g.first g.back g.old g.fits g.filling).size ∙ sym g.filling.size
-
 -- ---- passing over
 
 module _ (s : Shape) (w b : List ℕ) (i first back : ℕ) (k : Kept) where
-  pub over_starts : PositionAt s w b i first back → PassesOver s w b i k first back first back
-  over_starts p = record { stands = p; carries = λ t l. carry_starts s w b i first back t l k }
-
   pub over_on : {left dist : ℕ} (m : Message) → PassesOver s w b i k first back left dist
       → NextMessageAt s w b i left dist m.number m.first.at m.first.len m.second.at m.second.len m.next.left m.next.dist → k.base ≤ m.number → m.number ≤ k.until → k.set ≡ 0
       → PassesOver s w b i k first back m.next.left m.next.dist
@@ -407,15 +390,7 @@ module _ (s : Shape) (w b : List ℕ) (i : ℕ) (ranges entries : List ℕ) wher
     size = refl;
   })
 
-  pub list_unused : {c : Bool} (r : Listed) → r ≡ None 25 → c ≡ in_use s w b i → c ≡ false → Lists s w b i ranges entries r entries
-  list_unused r e is f = keeps_all r 24 e (rw (sym is ∙ f) refl)
-
   module _ {c : Bool} (is : c ≡ in_use s w b i) (used : c ≡ true) where
-    pub list_half : (r : Listed) → r ≡ None 25 → (length ranges % 2 ≡ 0 → ⊥) → Lists s w b i ranges entries r entries
-    list_half r e h =
-        let f : eqb (length ranges % 2) 0 ≡ false = ne_eqb (length ranges % 2) 0 h in
-        keeps_all r 24 e (rw (sym is ∙ used, f) refl)
-
     module _ (even : length ranges % 2 ≡ 0) where
       whole : (in_use s w b i && eqb (length ranges % 2) 0) ≡ true
       whole =
@@ -429,11 +404,6 @@ module _ (s : Shape) (w b : List ℕ) (i : ℕ) (ranges entries : List ℕ) wher
       list_many r e h =
           let f : leb (length rs) 64 ≡ false = lt-leb (length rs) 64 (omega (arith, counted)) in
           keeps_all r 34 e (rw (whole, f) refl)
-
-      pub list_wrong : {d : Bool} (r : Listed) → r ≡ None 35 → length ranges / 2 ≤ 64 → d ≡ are_ranges rs → d ≡ false → Lists s w b i ranges entries r entries
-      list_wrong r e h a f =
-          let t : leb (length rs) 64 ≡ true = le-leb (length rs) 64 (omega (arith, counted)) in
-          keeps_all r 34 e (rw (whole, t, sym a ∙ f) refl)
 
       module _ {d : Bool} {low left dist : ℕ} {y : Bool} (few : length ranges / 2 ≤ 64) (a : d ≡ are_ranges rs) (ranges-so : d ≡ true) (l : low ≡ lowest_of rs) (f : FromAt s w b i low left dist)
           (y-so : y ≡ leb (length (listed rs (rest_at s w b i left))) (length entries / 6)) where

@@ -9,9 +9,14 @@ use Rattle.store_log.specs.Log.{msg}
 use Rattle.store_areas.specs.declared.Shape.{Shape}
 use Rattle.store_areas.specs.Areas.{in_use, place_at}
 use Rattle.store_sessions.specs.declared.Message.{Message}
+use Rattle.store_resend.specs.declared.Range as declared
 use Rattle.store_resend.specs.declared.Listed.{Listed}
 use Rattle.store_resend.specs.declared.Kept.{Kept}
 use Rattle.store_resend.specs.declared.Tally.{Tally}
+
+-- a range of the code
+abbrev pub range_of : declared.Range → Range
+range_of r = record { first = r.first; last = r.last }
 
 -- range j stands in words 2 j and 2 j + 1: its first and its last
 abbrev pub range_at : List ℕ → ℕ → Range

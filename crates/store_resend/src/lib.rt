@@ -1,16 +1,16 @@
 // Several resend ranges together: the stored messages of a session that lie in some range, with the set of ranges each serves.
 #![tactic(auto)]
 
-ghost use Rattle.std.specs.Prelude.{◌≡◌, cond, ℕ, min, ◌+◌, ◌-◌, ◌*◌, ◌≤◌, ◌<◌, length, get_or, leb};
-ghost use Rattle.store_areas.specs.Areas.{Rules};
+ghost use Rattle.std.specs.Prelude.{◌≡◌, cond, ℕ, min, ◌+◌, ◌-◌, ◌*◌, ◌/◌, ◌≤◌, ◌<◌, length, get_or, leb};
 ghost use Rattle.store_sessions.specs.Answers.{PositionAt, rest_at};
 ghost use Rattle.model_session.specs.Session.{stored_bytes};
 ghost use Rattle.model_resend.specs.Resend.{lies, is_range, are_ranges, set_of, listed};
 ghost use Rattle.store_resend.specs.Passes.{Begun, Carries, PassesOver};
-ghost use Rattle.store_resend.specs.Ranges.{range_at, ranges_from, stays, until, lowest_of, Keeps, Serves, Counts, Adds, entered, HasRoom, Fills, Lists, listed_of};
+ghost use Rattle.store_resend.specs.Ranges.{range_of, range_at, ranges_of, stays, lowest_of, Keeps, Serves, Counts, Adds, entered, HasRoom, Fills, Lists, listed_of};
+ghost use Rattle.store_resend.specs.Standing.{position_prop};
 
 use base_refusals::Refusal;
-use store_areas::Shape;
+use store_areas::{Shape, View};
 use store_log::LogPosition;
 use store_sessions::Message;
 
@@ -48,7 +48,6 @@ impl Listed {
 }
 
 // The set of ranges that every number from base to until lies in.
-#[repr(C)]
 #[derive(Clone, Copy)]
 pub struct Kept {
     pub base: u64,
@@ -57,60 +56,46 @@ pub struct Kept {
 }
 
 // How many messages are listed, and their bytes.
-#[repr(C)]
 #[derive(Clone, Copy)]
 pub struct Tally {
     pub length: usize,
     pub bytes: usize,
 }
 
-// Whether a number lies in range j.
-fn lies_in(ranges: &[u64], j: usize, n: u64) -> bool
-    requires { 2 * j + 2 ≤ length ranges.now }
-    ensures { result ≡ lies (range_at ranges.now j) n }
-{
-    let first = ranges[2 * j];
-    let last = ranges[2 * j + 1];
-    (first <= n) & ((last == 0) | (n <= last))
+// A range of numbers: its first and its last, 0 for all to the end, as the request has it.
+#[derive(Clone, Copy)]
+pub struct Range {
+    pub first: u64,
+    pub last: u64,
 }
 
-// Up to which number the answer for n stays.
-fn stays_until(ranges: &[u64], j: usize, n: u64) -> u64
-    requires { 2 * j + 2 ≤ length ranges.now }
-    ensures { result ≡ stays (range_at ranges.now j) n }
-{
-    let first = ranges[2 * j];
-    let last = ranges[2 * j + 1];
-    if n < first {
-        return first - 1;
+impl Range {
+    // Whether a number lies in it.
+    fn holds(self, n: u64) -> bool
+        ensures { result ≡ lies (range_of self) n }
+    {
+        (self.first <= n) & ((self.last == 0) | (n <= self.last))
     }
-    if last == 0 {
-        return u64::MAX;
-    }
-    if n <= last { last } else { u64::MAX }
-}
 
-// Whether range j is one.
-fn is_range(ranges: &[u64], j: usize) -> bool
-    requires { 2 * j + 2 ≤ length ranges.now }
-    ensures { result ≡ is_range (range_at ranges.now j) }
-{
-    let first = ranges[2 * j];
-    let last = ranges[2 * j + 1];
-    (1 <= first) & ((last == 0) | (first <= last))
-}
-
-// Whether the first `count` are ranges.
-fn are_ranges(ranges: &[u64], count: usize) -> bool
-    requires { 2 * count ≤ length ranges.now }
-    ensures { result ≡ are_ranges (ranges_from ranges.now 0 count) }
-{
-    for j in 0..count {
-        if !is_range(ranges, j) {
-            return false;
+    // Up to which number the answer for n stays.
+    fn stays_until(self, n: u64) -> u64
+        ensures { result ≡ stays (range_of self) n }
+    {
+        if n < self.first {
+            return self.first - 1;
         }
+        if self.last == 0 {
+            return u64::MAX;
+        }
+        if n <= self.last { self.last } else { u64::MAX }
     }
-    true
+
+    // Whether it is one.
+    fn is_range(self) -> bool
+        ensures { result ≡ is_range (range_of self) }
+    {
+        (1 <= self.first) & ((self.last == 0) | (self.first <= self.last))
+    }
 }
 
 // A set with one range more in front.
@@ -121,91 +106,126 @@ fn with_bit(set: u64, bit: bool) -> u64
     if bit { 2 * set + 1 } else { 2 * set }
 }
 
-// The set of n, and up to which number it stays.
-fn set_of(ranges: &[u64], count: usize, n: u64) -> Kept
-    requires count_in_bounds { 2 * count ≤ length ranges.now }
-    requires count_bound { count ≤ 64 }
-    ensures { Serves (ranges_from ranges.now 0 count) n result }
-{
-    let mut set: u64 = 0;
-    let mut until: u64 = u64::MAX;
-    let mut j: usize = count;
-    while 0 < j {
-        j -= 1;
-        set = with_bit(set, lies_in(ranges, j, n));
-        until = stays_until(ranges, j, n).min(until);
-    }
-    Kept {
-        base: n,
-        until,
-        set,
-    }
+// The ranges of a request: range j stands in words 2 j and 2 j + 1. A set of them fits a word.
+#[derive(Clone, Copy)]
+struct Ranges<'a> {
+    words: &'a [u64],
+    ghost few: { length words.now / 2 ≤ 64 },
 }
 
-// The lowest first number of the ranges.
-fn lowest_first(ranges: &[u64], count: usize) -> u64
-    requires { 2 * count ≤ length ranges.now }
-    ensures { result ≡ lowest_of (ranges_from ranges.now 0 count) }
-{
-    let mut low: u64 = u64::MAX;
-    let mut j: usize = count;
-    while 0 < j {
-        j -= 1;
-        low = ranges[2 * j].min(low);
+impl Ranges<'_> {
+    fn count(&self) -> usize
+        ensures { result ≡ length self.now.words.now / 2 }
+    {
+        self.words.len() / 2
     }
-    low
-}
 
-// The set of n: the one that is kept, if it serves.
-fn kept_for(ranges: &[u64], count: usize, kept: Kept, n: u64) -> Kept
-    requires count_in_bounds { 2 * count ≤ length ranges.now }
-    requires count_bound { count ≤ 64 }
-    requires keeps { Keeps (ranges_from ranges.now 0 count) kept }
-    ensures { Serves (ranges_from ranges.now 0 count) n result }
-{
-    if kept.base <= n {
-        if n <= kept.until {
-            return kept;
+    fn at(&self, j: usize) -> Range
+        requires { j < length self.now.words.now / 2 }
+        ensures { range_of result ≡ range_at self.now.words.now j }
+    {
+        Range {
+            first: self.words[2 * j],
+            last: self.words[2 * j + 1],
         }
     }
-    set_of(ranges, count, n)
+
+    // Whether all are ranges.
+    fn are_ranges(&self) -> bool
+        ensures { result ≡ are_ranges (ranges_of self.now.words.now) }
+    {
+        for j in 0..self.count() {
+            if !self.at(j).is_range() {
+                return false;
+            }
+        }
+        true
+    }
+
+    // The set of n, and up to which number it stays.
+    fn set_of(&self, n: u64) -> Kept
+        ensures { Serves (ranges_of self.now.words.now) n result }
+    {
+        let mut set: u64 = 0;
+        let mut until: u64 = u64::MAX;
+        for j in (0..self.count()).rev() {
+            let range = self.at(j);
+            set = with_bit(set, range.holds(n));
+            until = range.stays_until(n).min(until);
+        }
+        Kept {
+            base: n,
+            until,
+            set,
+        }
+    }
+
+    // The lowest first number of the ranges.
+    fn lowest_first(&self) -> u64
+        ensures { result ≡ lowest_of (ranges_of self.now.words.now) }
+    {
+        let mut low: u64 = u64::MAX;
+        for j in (0..self.count()).rev() {
+            low = self.at(j).first.min(low);
+        }
+        low
+    }
+
+    // The set of n: the one that is kept, if it serves.
+    fn kept_for(&self, kept: Kept, n: u64) -> Kept
+        requires { Keeps (ranges_of self.now.words.now) kept }
+        ensures { Serves (ranges_of self.now.words.now) n result }
+    {
+        if kept.base <= n {
+            if n <= kept.until {
+                return kept;
+            }
+        }
+        self.set_of(n)
+    }
 }
 
-// Counts a message of `size` bytes, unless its set is empty.
-fn counted(tally: Tally, set: u64, size: usize) -> Tally
-    requires length_bound { tally.length + 1 < 18446744073709551616 }
-    requires size_bound { tally.bytes + size < 18446744073709551616 }
-    ensures { Adds set size tally result }
-{
-    if set == 0 {
-        return tally;
+impl Tally {
+    // Counts a message of `size` bytes, unless its set is empty.
+    fn counted(self, set: u64, size: usize) -> Tally
+        requires length_bound { self.length + 1 < 18446744073709551616 }
+        requires size_bound { self.bytes + size < 18446744073709551616 }
+        ensures { Adds set size self result }
+    {
+        if set == 0 {
+            return self;
+        }
+        Tally {
+            length: self.length + 1,
+            bytes: self.bytes + size,
+        }
     }
-    Tally {
-        length: tally.length + 1,
-        bytes: tally.bytes + size,
-    }
+}
+
+// The messages of a session that are still to be read: those from a place in its log on. The loops that
+// pass over many take the view apart and make it anew: read through the reference, a message took a tenth to a third longer.
+#[derive(Clone, Copy)]
+struct Rest<'a> {
+    view: &'a View<'a>,
+    place: usize,
+    from: LogPosition,
+    ghost used: { place < get_or view.now.words.now 0 0 },
+    ghost stands: { PositionAt view.now.shape view.now.words.now view.now.bytes.now place from.left from.dist } by { position_prop view.now.shape view.now.words.now view.now.bytes.now place from.left from.dist },
+    ghost left_fits: { from.left < 18446744073709551616 },
+    ghost dist_fits: { from.dist < 18446744073709551616 },
 }
 
 // Counts the messages still to be read that lie in some range.
-fn count(
-    words: &[u64],
-    bytes: &[u8],
-    shape: Shape,
-    i: usize,
-    first: usize,
-    back: usize,
-    ranges: &[u64],
-    n: usize,
-) -> Tally
-    requires rules { Rules shape words.now bytes.now }
-    requires i_bound { i < get_or words.now 0 0 }
-    requires position_at { PositionAt shape words.now bytes.now i first back }
-    requires n_in_bounds { 2 * n ≤ length ranges.now }
-    requires n_bound { n ≤ 64 }
-    ensures { Counts (ranges_from ranges.now 0 n) (rest_at shape words.now bytes.now i first) back result }
+fn count(rest: &Rest, ranges: &Ranges) -> Tally
+    ensures { Counts (ranges_of ranges.now.words.now) (rest_at rest.now.view.now.shape rest.now.view.now.words.now rest.now.view.now.bytes.now rest.now.place rest.now.from.left) rest.now.from.dist result }
 {
-    let mut left = first;
-    let mut dist = back;
+    let View {
+        words,
+        bytes,
+        shape,
+    } = *rest.view;
+    let place = rest.place;
+    let mut from = rest.from;
     let mut tally = Tally {
         length: 0,
         bytes: 0,
@@ -216,43 +236,31 @@ fn count(
         set: 0,
     };
     // A while: each message gives the place after it, so no index counts them.
-    while 0 < left {
-        let m = store_sessions::message_at(words, bytes, shape, i, LogPosition { left, dist });
-        kept = kept_for(ranges, n, kept, m.number);
-        tally = counted(
-            tally,
-            kept.set,
-            m.first.len as usize + m.second.len as usize,
+    while 0 < from.left {
+        let m = store_sessions::message_at(
+            &View {
+                words,
+                bytes,
+                shape,
+            },
+            place,
+            from,
         );
-        left = m.next.left;
-        dist = m.next.dist;
+        kept = ranges.kept_for(kept, m.number);
+        tally = tally.counted(kept.set, m.first.len as usize + m.second.len as usize);
+        from = m.next;
     }
     tally
 }
 
 // Whether so many entries are enough for the list: the messages still to be read are counted only where they are more.
-fn has_room(
-    words: &[u64],
-    bytes: &[u8],
-    shape: Shape,
-    i: usize,
-    first: usize,
-    back: usize,
-    ranges: &[u64],
-    n: usize,
-    room: usize,
-) -> bool
-    requires rules { Rules shape words.now bytes.now }
-    requires i_bound { i < get_or words.now 0 0 }
-    requires position_at { PositionAt shape words.now bytes.now i first back }
-    requires n_in_bounds { 2 * n ≤ length ranges.now }
-    requires n_bound { n ≤ 64 }
-    ensures { result ≡ leb (length (listed (ranges_from ranges.now 0 n) (rest_at shape words.now bytes.now i first))) room }
+fn has_room(rest: &Rest, ranges: &Ranges, room: usize) -> bool
+    ensures { result ≡ leb (length (listed (ranges_of ranges.now.words.now) (rest_at rest.now.view.now.shape rest.now.view.now.words.now rest.now.view.now.bytes.now rest.now.place rest.now.from.left))) room }
 {
-    if first <= room {
+    if rest.from.left <= room {
         return true;
     }
-    let t = count(words, bytes, shape, i, first, back, ranges, n);
+    let t = count(rest, ranges);
     t.length <= room
 }
 
@@ -273,154 +281,120 @@ fn enter(entries: &mut [u64], k: usize, set: u64, m: Message)
     entries[at + 5] = m.second.len as u64;
 }
 
-// How far a listing has come: the messages still to be read, their bytes, and what is listed.
-#[repr(C)]
+// How far a listing has come: where the messages still to be read begin, and what is listed.
 #[derive(Clone, Copy)]
-pub struct Progress {
-    pub left: usize,
-    pub dist: usize,
-    pub length: usize,
-    pub bytes: usize,
+struct Progress {
+    from: LogPosition,
+    tally: Tally,
 }
 
 // The same without the bytes listed, which are those that were read.
-#[repr(C)]
 #[derive(Clone, Copy)]
-pub struct Followed {
-    pub left: usize,
-    pub dist: usize,
-    pub length: usize,
+struct Followed {
+    from: LogPosition,
+    length: usize,
 }
 
 // Passes over messages that lie in no range, as long as that stays.
-fn pass_over(
-    words: &[u64],
-    bytes: &[u8],
-    shape: Shape,
-    i: usize,
-    first: usize,
-    back: usize,
-    kept: Kept,
-) -> LogPosition
-    requires rules { Rules shape words.now bytes.now }
-    requires i_bound { i < get_or words.now 0 0 }
-    requires position_at { PositionAt shape words.now bytes.now i first back }
-    requires set_value { kept.set ≡ 0 }
-    ensures { PassesOver shape words.now bytes.now i kept first back result.left result.dist }
+fn pass_over(rest: &Rest, kept: Kept) -> LogPosition
+    requires { kept.set ≡ 0 }
+    ensures { PassesOver rest.now.view.now.shape rest.now.view.now.words.now rest.now.view.now.bytes.now rest.now.place kept rest.now.from.left rest.now.from.dist result.left result.dist }
 {
-    let mut left = first;
-    let mut dist = back;
+    let View {
+        words,
+        bytes,
+        shape,
+    } = *rest.view;
+    let place = rest.place;
+    let mut from = rest.from;
     // A while: each message gives the place after it, so no index counts them.
-    while 0 < left {
-        let m = store_sessions::message_at(words, bytes, shape, i, LogPosition { left, dist });
+    while 0 < from.left {
+        let m = store_sessions::message_at(
+            &View {
+                words,
+                bytes,
+                shape,
+            },
+            place,
+            from,
+        );
         if m.number < kept.base {
-            return LogPosition { left, dist };
+            return from;
         }
         if kept.until < m.number {
-            return LogPosition { left, dist };
+            return from;
         }
-        left = m.next.left;
-        dist = m.next.dist;
+        from = m.next;
     }
-    LogPosition { left, dist }
+    from
 }
 
 // Writes the entries of messages that one set serves, as long as it stays.
-fn follow(
-    words: &[u64],
-    bytes: &[u8],
-    shape: Shape,
-    i: usize,
-    first: usize,
-    back: usize,
-    kept: Kept,
-    tally: Tally,
-    entries: &mut [u64],
-) -> Followed
-    requires rules { Rules shape words.now bytes.now }
-    requires i_bound { i < get_or words.now 0 0 }
-    requires begun { Begun shape words.now bytes.now i first back tally kept entries.old }
-    requires fact { kept.set ≡ 0 → ⊥ }
-    ensures { Carries shape words.now bytes.now i kept first back tally entries.old result.left result.dist (record { length = result.length; bytes = tally.bytes + (back - result.dist) }) entries.new }
+fn follow(rest: &Rest, kept: Kept, tally: Tally, entries: &mut [u64]) -> Followed
+    requires begun { Begun rest.now.view.now.shape rest.now.view.now.words.now rest.now.view.now.bytes.now rest.now.place rest.now.from.left rest.now.from.dist tally kept entries.old }
+    requires some { kept.set ≡ 0 → ⊥ }
+    ensures { Carries rest.now.view.now.shape rest.now.view.now.words.now rest.now.view.now.bytes.now rest.now.place kept rest.now.from.left rest.now.from.dist tally entries.old result.from.left result.from.dist (record { length = result.length; bytes = tally.bytes + (rest.now.from.dist - result.from.dist) }) entries.new }
 {
-    let mut left = first;
-    let mut dist = back;
+    let View {
+        words,
+        bytes,
+        shape,
+    } = *rest.view;
+    let place = rest.place;
+    let mut from = rest.from;
     let mut length = tally.length;
     // A while: each message gives the place after it, so no index counts them.
-    while 0 < left {
-        let m = store_sessions::message_at(words, bytes, shape, i, LogPosition { left, dist });
+    while 0 < from.left {
+        let m = store_sessions::message_at(
+            &View {
+                words,
+                bytes,
+                shape,
+            },
+            place,
+            from,
+        );
         if m.number < kept.base {
-            return Followed { left, dist, length };
+            return Followed { from, length };
         }
         if kept.until < m.number {
-            return Followed { left, dist, length };
+            return Followed { from, length };
         }
-        left = m.next.left;
-        dist = m.next.dist;
+        from = m.next;
         enter(entries, length, kept.set, m);
         length += 1;
     }
-    Followed { left, dist, length }
+    Followed { from, length }
 }
 
 // Goes on with a listing as long as a set stays.
-fn go_on(
-    words: &[u64],
-    bytes: &[u8],
-    shape: Shape,
-    i: usize,
-    first: usize,
-    back: usize,
-    kept: Kept,
-    tally: Tally,
-    entries: &mut [u64],
-) -> Progress
-    requires rules { Rules shape words.now bytes.now }
-    requires i_bound { i < get_or words.now 0 0 }
-    requires begun { Begun shape words.now bytes.now i first back tally kept entries.old }
-    ensures { Carries shape words.now bytes.now i kept first back tally entries.old result.left result.dist (record { length = result.length; bytes = result.bytes }) entries.new }
+fn go_on(rest: &Rest, kept: Kept, tally: Tally, entries: &mut [u64]) -> Progress
+    requires { Begun rest.now.view.now.shape rest.now.view.now.words.now rest.now.view.now.bytes.now rest.now.place rest.now.from.left rest.now.from.dist tally kept entries.old }
+    ensures { Carries rest.now.view.now.shape rest.now.view.now.words.now rest.now.view.now.bytes.now rest.now.place kept rest.now.from.left rest.now.from.dist tally entries.old result.from.left result.from.dist result.tally entries.new }
 {
     if kept.set == 0 {
-        let p = pass_over(words, bytes, shape, i, first, back, kept);
         return Progress {
-            left: p.left,
-            dist: p.dist,
-            length: tally.length,
-            bytes: tally.bytes,
+            from: pass_over(rest, kept),
+            tally,
         };
     }
     let before = tally.bytes;
-    let f = follow(words, bytes, shape, i, first, back, kept, tally, entries);
+    let f = follow(rest, kept, tally, entries);
     Progress {
-        left: f.left,
-        dist: f.dist,
-        length: f.length,
-        bytes: before + (back - f.dist),
+        from: f.from,
+        tally: Tally {
+            length: f.length,
+            bytes: before + (rest.from.dist - f.from.dist),
+        },
     }
 }
 
 // Writes the entries of the messages still to be read that lie in some range, and counts them.
-fn fill(
-    words: &[u64],
-    bytes: &[u8],
-    shape: Shape,
-    i: usize,
-    first: usize,
-    back: usize,
-    ranges: &[u64],
-    n: usize,
-    entries: &mut [u64],
-) -> Tally
-    requires rules { Rules shape words.now bytes.now }
-    requires i_bound { i < get_or words.now 0 0 }
-    requires position_at { PositionAt shape words.now bytes.now i first back }
-    requires n_in_bounds { 2 * n ≤ length ranges.now }
-    requires n_bound { n ≤ 64 }
-    requires first_in_bounds { 6 * length (listed (ranges_from ranges.now 0 n) (rest_at shape words.now bytes.now i first)) ≤ length entries.old }
-    ensures { Fills (ranges_from ranges.now 0 n) bytes.now (rest_at shape words.now bytes.now i first) back entries.old result entries.new }
+fn fill(rest: &Rest, ranges: &Ranges, entries: &mut [u64]) -> Tally
+    requires { 6 * length (listed (ranges_of ranges.now.words.now) (rest_at rest.now.view.now.shape rest.now.view.now.words.now rest.now.view.now.bytes.now rest.now.place rest.now.from.left)) ≤ length entries.old }
+    ensures { Fills (ranges_of ranges.now.words.now) rest.now.view.now.bytes.now (rest_at rest.now.view.now.shape rest.now.view.now.words.now rest.now.view.now.bytes.now rest.now.place rest.now.from.left) rest.now.from.dist entries.old result entries.new }
 {
-    let mut left = first;
-    let mut dist = back;
+    let mut from = rest.from;
     let mut tally = Tally {
         length: 0,
         bytes: 0,
@@ -430,58 +404,63 @@ fn fill(
         until: 0,
         set: 0,
     };
-    // A while: each message gives the place after it, so no index counts them.
-    while 0 < left {
-        let m = store_sessions::message_at(words, bytes, shape, i, LogPosition { left, dist });
-        kept = kept_for(ranges, n, kept, m.number);
+    // A while: go_on passes over several messages in one turn, so no index counts them.
+    while 0 < from.left {
+        let m = store_sessions::message_at(rest.view, rest.place, from);
+        kept = ranges.kept_for(kept, m.number);
         let size = m.first.len as usize + m.second.len as usize;
-        let next = counted(tally, kept.set, size);
-        let after = m.next.left;
-        let behind = m.next.dist;
-        enter(entries, tally.length, kept.set, m);
-        let p = go_on(words, bytes, shape, i, after, behind, kept, next, entries);
-        left = p.left;
-        dist = p.dist;
-        tally = Tally {
-            length: p.length,
-            bytes: p.bytes,
+        let next = tally.counted(kept.set, size);
+        let behind = Rest {
+            view: rest.view,
+            place: rest.place,
+            from: m.next,
         };
+        enter(entries, tally.length, kept.set, m);
+        let p = go_on(&behind, kept, next, entries);
+        from = p.from;
+        tally = p.tally;
     }
     tally
 }
 
-// Lists the stored messages of the session at place i that lie in some range: of each its number and the set of ranges it serves.
+// Lists the stored messages of the session at a place that lie in some range: of each its number and the set of ranges it serves.
+// The areas and the shape come apart, as C lends them.
 pub fn list(
     words: &[u64],
     bytes: &[u8],
     shape: Shape,
-    i: usize,
+    place: usize,
     ranges: &[u64],
     entries: &mut [u64],
 ) -> Result<Tally, Refusal>
-    ensures { Lists shape words.now bytes.now i ranges.now entries.old (listed_of result) entries.new }
+    ensures { Lists shape words.now bytes.now place ranges.now entries.old (listed_of result) entries.new }
 {
-    if !store_areas::in_use(words, bytes, shape, i) {
+    if !store_areas::in_use(words, bytes, shape, place) {
         return Err(Refusal::RulesBroken);
     }
     if ranges.len() % 2 != 0 {
         return Err(Refusal::RulesBroken);
     }
-    let n = ranges.len() / 2;
-    if Listed::MAX_RANGES < n {
+    if Listed::MAX_RANGES < ranges.len() / 2 {
         return Err(Refusal::BadRanges);
     }
-    if !are_ranges(ranges, n) {
+    let asked = Ranges { words: ranges };
+    if !asked.are_ranges() {
         return Err(Refusal::BadRanges);
     }
-    let low = lowest_first(ranges, n);
-    let c = store_sessions::messages_from(words, bytes, shape, i, low);
-    let left = c.left;
-    let dist = c.dist;
-    let room = entries.len() / Listed::ENTRY_WORDS;
-    if !has_room(words, bytes, shape, i, left, dist, ranges, n, room) {
+    let view = View {
+        words,
+        bytes,
+        shape,
+    };
+    let rest = Rest {
+        view: &view,
+        place,
+        from: store_sessions::messages_from(&view, place, asked.lowest_first()),
+    };
+    if !has_room(&rest, &asked, entries.len() / Listed::ENTRY_WORDS) {
         return Err(Refusal::TooFewEntries);
     }
-    let t = fill(words, bytes, shape, i, left, dist, ranges, n, entries);
+    let t = fill(&rest, &asked, entries);
     Ok(t)
 }

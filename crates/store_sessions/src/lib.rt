@@ -5,15 +5,18 @@ ghost use Rattle.std.specs.Prelude.{◌≡◌, Bool, true, List, [], ◌∷◌, 
 ghost use Rattle.model_session.specs.Summary.{last_out, summary};
 ghost use Rattle.model_standby.specs.Store.{same_key, place_of, taken_over};
 ghost use Rattle.frame_fields.specs.Answers.{summary_of};
-ghost use Rattle.store_place.specs.Place.{key_from};
-ghost use Rattle.store_areas.specs.Areas.{Rules, Changed, place_at, places_of};
+ghost use Rattle.store_place.specs.Keys.{key_of};
+ghost use Rattle.store_areas.specs.Areas.{Changed, place_at, places_of};
+ghost use Rattle.store_areas.specs.Same.{SameAreas};
 ghost use Rattle.store_sessions.specs.Answers.{sought_is, sought_in, Opened, TakenOver, SummaryIn, TextsIn, summarised_is, SummarisedIn, summarised_at, PositionAt, FromAt, NextMessageAt};
 
 use base_refusals::Refusal;
 use frame_fields::Summary;
 use frame_reader::Span;
-use store_areas::{Shape, word};
+use store_areas::{Shape, Store, View, word};
 use store_log::LogPosition;
+use store_place::Key;
+use store_place::place::Place;
 
 // A stored message: its number, where its bytes stand in the byte area (the second part is empty unless they wrap around
 // the ring's end), and the place after it in the log.
@@ -28,47 +31,25 @@ pub struct Message {
 // ---- keys
 
 // Whether place i has this key.
-fn has_key(
-    words: &[u64],
-    bytes: &[u8],
-    shape: Shape,
-    place: usize,
-    begin: &[u8],
-    sender: &[u8],
-    target: &[u8],
-    suffix: &[u8],
-) -> bool
-    requires rules { Rules shape words.now bytes.now }
-    requires place_bound { place < get_or words.now 0 0 }
-    ensures { result ≡ same_key (key_from begin.now sender.now target.now suffix.now) (place_at shape words.now bytes.now place).key }
+fn has_key(view: &View, place: usize, key: &Key) -> bool
+    requires { place < get_or view.now.words.now 0 0 }
+    ensures { result ≡ same_key (key_of key.now) (place_at view.now.shape view.now.words.now view.now.bytes.now place).key }
 {
-    let spot = store_areas::spot_in(words, bytes, shape, place);
+    let spot = view.spot(place);
     store_place::has_key(
-        &words[spot.words_start..spot.words_end],
-        &bytes[spot.bytes_start..spot.bytes_end],
-        begin,
-        sender,
-        target,
-        suffix,
+        &view.words[spot.words_start..spot.words_end],
+        &view.bytes[spot.bytes_start..spot.bytes_end],
+        key,
     )
 }
 
 // The first place with this key, or the number of places in use where none has it.
-pub fn place_of(
-    words: &[u64],
-    bytes: &[u8],
-    shape: Shape,
-    begin: &[u8],
-    sender: &[u8],
-    target: &[u8],
-    suffix: &[u8],
-) -> usize
-    requires { Rules shape words.now bytes.now }
-    ensures { result ≡ place_of (key_from begin.now sender.now target.now suffix.now) (places_of shape words.now bytes.now) }
+pub fn place_of(view: &View, key: &Key) -> usize
+    ensures { result ≡ place_of (key_of key.now) (places_of view.now.shape view.now.words.now view.now.bytes.now) }
 {
-    let used = words[word::USED] as usize;
+    let used = view.words[word::USED] as usize;
     for i in 0..used {
-        if has_key(words, bytes, shape, i, begin, sender, target, suffix) {
+        if has_key(view, i, key) {
             return i;
         }
     }
@@ -76,119 +57,102 @@ pub fn place_of(
 }
 
 // The same on any areas: 25 where they break the rules.
-pub fn find(
-    words: &[u64],
-    bytes: &[u8],
-    shape: Shape,
-    begin: &[u8],
-    sender: &[u8],
-    target: &[u8],
-    suffix: &[u8],
-) -> Result<usize, Refusal>
-    ensures { sought_is result ≡ sought_in shape words.now bytes.now (key_from begin.now sender.now target.now suffix.now) }
+// The areas and the shape come apart, as C lends them.
+pub fn find(words: &[u64], bytes: &[u8], shape: Shape, key: &Key) -> Result<usize, Refusal>
+    ensures { sought_is result ≡ sought_in shape words.now bytes.now (key_of key.now) }
 {
     if !store_areas::allowed(shape, words, bytes) {
         return Err(Refusal::RulesBroken);
     }
-    Ok(place_of(words, bytes, shape, begin, sender, target, suffix))
+    let view = View {
+        words,
+        bytes,
+        shape,
+    };
+    Ok(place_of(&view, key))
 }
 
 // Opens the new session of a key at the next free place.
-pub fn open(
-    words: &mut [u64],
-    bytes: &mut [u8],
-    shape: Shape,
-    begin: &[u8],
-    sender: &[u8],
-    target: &[u8],
-    suffix: &[u8],
-)
-    requires rules { Rules shape words.old bytes.old }
-    requires words_bound { get_or words.old 0 0 < shape.places }
-    requires begin_len_bound { length begin.now ≤ 32 }
-    requires sender_len_bound { length sender.now ≤ 32 }
-    requires target_len_bound { length target.now ≤ 32 }
-    requires suffix_len_bound { length suffix.now ≤ 32 }
-    ensures { Opened shape (key_from begin.now sender.now target.now suffix.now) words.old words.new bytes.old bytes.new }
+pub fn open(store: &mut Store, key: &Key)
+    requires words_bound { get_or store.old.words.now 0 0 < store.old.shape.places }
+    requires begin_len_bound { length key.now.begin.now ≤ 32 }
+    requires sender_len_bound { length key.now.sender.now ≤ 32 }
+    requires target_len_bound { length key.now.target.now ≤ 32 }
+    requires suffix_len_bound { length key.now.suffix.now ≤ 32 }
+    ensures is { Opened store.old.shape (key_of key.now) store.old.words.now store.new.words.now store.old.bytes.now store.new.bytes.now }
+    ensures same { SameAreas store.old store.new }
 {
-    let used = words[word::USED] as usize;
-    words[word::USED] = (used + 1) as u64;
-    let spot = store_areas::spot_in(words, bytes, shape, used);
-    let max = shape.messages as usize;
+    let used = store.words[word::USED] as usize;
+    store.words[word::USED] = (used + 1) as u64;
+    let spot = store.spot(used);
+    let max = store.shape.messages as usize;
     store_place::new_session(
-        &mut words[spot.words_start..spot.words_end],
-        &mut bytes[spot.bytes_start..spot.bytes_end],
+        &mut store.words[spot.words_start..spot.words_end],
+        &mut store.bytes[spot.bytes_start..spot.bytes_end],
         max,
-        begin,
-        sender,
-        target,
-        suffix,
+        key,
     );
 }
 
 // ---- promotion
 
 // Promotion's work on one session.
-pub fn take_over(words: &mut [u64], bytes: &mut [u8], shape: Shape, place: usize, lag: u64)
-    requires rules { Rules shape words.old bytes.old }
-    requires place_bound { place < get_or words.old 0 0 }
-    ensures { Changed shape place (taken_over lag) words.old words.new bytes.old bytes.new }
+pub fn take_over(store: &mut Store, place: usize, lag: u64)
+    requires { place < get_or store.old.words.now 0 0 }
+    ensures is { Changed store.old.shape place (taken_over lag) store.old.words.now store.new.words.now store.old.bytes.now store.new.bytes.now }
+    ensures same { SameAreas store.old store.new }
 {
-    let spot = store_areas::spot_in(words, bytes, shape, place);
-    let max = shape.messages as usize;
+    let spot = store.spot(place);
+    let max = store.shape.messages as usize;
     store_place::take_over(
-        &mut words[spot.words_start..spot.words_end],
-        &mut bytes[spot.bytes_start..spot.bytes_end],
+        &mut store.words[spot.words_start..spot.words_end],
+        &mut store.bytes[spot.bytes_start..spot.bytes_end],
         max,
         lag,
     );
 }
 
 // Promotion's work on all sessions.
-pub fn take_over_all(words: &mut [u64], bytes: &mut [u8], shape: Shape, lag: u64)
-    requires { Rules shape words.old bytes.old }
-    ensures { TakenOver shape lag words.old words.new bytes.old bytes.new }
+pub fn take_over_all(store: &mut Store, lag: u64)
+    ensures is { TakenOver store.old.shape lag store.old.words.now store.new.words.now store.old.bytes.now store.new.bytes.now }
+    ensures same { SameAreas store.old store.new }
 {
-    let used = words[word::USED] as usize;
+    let used = store.words[word::USED] as usize;
     for i in 0..used {
-        take_over(words, bytes, shape, i, lag);
+        take_over(store, i, lag);
     }
 }
 
 // ---- what is stored of a session in use
 
-pub fn next_outgoing(words: &[u64], bytes: &[u8], shape: Shape, place: usize) -> u64
-    requires rules { Rules shape words.now bytes.now }
-    requires place_bound { place < get_or words.now 0 0 }
-    ensures { result ≡ (place_at shape words.now bytes.now place).stored.session.next_out }
+pub fn next_outgoing(view: &View, place: usize) -> u64
+    requires { place < get_or view.now.words.now 0 0 }
+    ensures { result ≡ (place_at view.now.shape view.now.words.now view.now.bytes.now place).stored.session.next_out }
 {
-    let spot = store_areas::spot_in(words, bytes, shape, place);
-    store_place::next_outgoing(&words[spot.words_start..spot.words_end])
+    let spot = view.spot(place);
+    store_place::next_outgoing(&view.words[spot.words_start..spot.words_end])
 }
 
-pub fn durable(words: &[u64], bytes: &[u8], shape: Shape, place: usize) -> bool
-    requires rules { Rules shape words.now bytes.now }
-    requires place_bound { place < get_or words.now 0 0 }
-    ensures { result ≡ (place_at shape words.now bytes.now place).stored.durable }
+pub fn durable(view: &View, place: usize) -> bool
+    requires { place < get_or view.now.words.now 0 0 }
+    ensures { result ≡ (place_at view.now.shape view.now.words.now view.now.bytes.now place).stored.durable }
 {
-    let spot = store_areas::spot_in(words, bytes, shape, place);
-    store_place::durable(&words[spot.words_start..spot.words_end])
+    let spot = view.spot(place);
+    store_place::durable(&view.words[spot.words_start..spot.words_end])
 }
 
 // last_outgoing over n.
-pub fn last_outgoing(words: &[u64], bytes: &[u8], shape: Shape, place: usize, n: u64) -> u64
-    requires rules { Rules shape words.now bytes.now }
-    requires place_bound { place < get_or words.now 0 0 }
-    ensures { result ≡ last_out (place_at shape words.now bytes.now place).stored.session n }
+pub fn last_outgoing(view: &View, place: usize, n: u64) -> u64
+    requires { place < get_or view.now.words.now 0 0 }
+    ensures { result ≡ last_out (place_at view.now.shape view.now.words.now view.now.bytes.now place).stored.session n }
 {
-    let spot = store_areas::spot_in(words, bytes, shape, place);
-    let max = shape.messages as usize;
-    store_place::last_outgoing(
-        &words[spot.words_start..spot.words_end],
-        &bytes[spot.bytes_start..spot.bytes_end],
-        max,
-        n,
-    )
+    let spot = view.spot(place);
+    let stored = Place {
+        words: &view.words[spot.words_start..spot.words_end],
+        bytes: &view.bytes[spot.bytes_start..spot.bytes_end],
+        max: view.shape.messages as usize,
+    };
+    stored.last_outgoing(n)
 }
 
 // The summary of the session whose words and bytes these are, with last_outgoing over n; its bytes begin at `from` in the byte area.
@@ -203,7 +167,7 @@ fn summary_in(words: &[u64], bytes: &[u8], max: usize, from: usize, n: u64) -> S
     let in_flight = store_place::in_flight(words);
     let stamp = store_place::stamp_len(words, bytes);
     let marks = store_place::marks_len(words, bytes);
-    let last_outgoing = store_place::last_outgoing(words, bytes, max, n);
+    let last_outgoing = Place { words, bytes, max }.last_outgoing(n);
     Summary {
         next_outgoing,
         next_incoming,
@@ -221,17 +185,16 @@ fn summary_in(words: &[u64], bytes: &[u8], max: usize, from: usize, n: u64) -> S
 }
 
 // The summary with last_outgoing over n; its texts are parts of the byte area.
-pub fn summary_of(words: &[u64], bytes: &[u8], shape: Shape, place: usize, n: u64) -> Summary
-    requires rules { Rules shape words.now bytes.now }
-    requires place_bound { place < get_or words.now 0 0 }
-    ensures is { summary_of bytes.now result ≡ summary (place_at shape words.now bytes.now place).stored.session n }
-    ensures inside { TextsIn bytes.now result }
+pub fn summary_of(view: &View, place: usize, n: u64) -> Summary
+    requires { place < get_or view.now.words.now 0 0 }
+    ensures is { summary_of view.now.bytes.now result ≡ summary (place_at view.now.shape view.now.words.now view.now.bytes.now place).stored.session n }
+    ensures inside { TextsIn view.now.bytes.now result }
 {
-    let spot = store_areas::spot_in(words, bytes, shape, place);
-    let max = shape.messages as usize;
+    let spot = view.spot(place);
+    let max = view.shape.messages as usize;
     summary_in(
-        &words[spot.words_start..spot.words_end],
-        &bytes[spot.bytes_start..spot.bytes_end],
+        &view.words[spot.words_start..spot.words_end],
+        &view.bytes[spot.bytes_start..spot.bytes_end],
         max,
         spot.bytes_start,
         n,
@@ -252,56 +215,45 @@ pub fn summary(
     if !store_areas::in_use(words, bytes, shape, place) {
         return Err(Refusal::RulesBroken);
     }
-    Ok(summary_of(words, bytes, shape, place, n))
+    let view = View {
+        words,
+        bytes,
+        shape,
+    };
+    Ok(summary_of(&view, place, n))
 }
 
 // ---- messages
 
 // The place in the log of a session where the messages with numbers from low begin.
-pub fn messages_from(
-    words: &[u64],
-    bytes: &[u8],
-    shape: Shape,
-    place: usize,
-    low: u64,
-) -> LogPosition
-    requires rules { Rules shape words.now bytes.now }
-    requires place_bound { place < get_or words.now 0 0 }
+pub fn messages_from(view: &View, place: usize, low: u64) -> LogPosition
+    requires place_bound { place < get_or view.now.words.now 0 0 }
     requires le_low { 1 ≤ low }
-    ensures { FromAt shape words.now bytes.now place low result.left result.dist }
+    ensures { FromAt view.now.shape view.now.words.now view.now.bytes.now place low result.left result.dist }
 {
-    let spot = store_areas::spot_in(words, bytes, shape, place);
-    let max = shape.messages as usize;
-    store_place::messages_from(
-        &words[spot.words_start..spot.words_end],
-        &bytes[spot.bytes_start..spot.bytes_end],
-        max,
-        low,
-    )
+    let spot = view.spot(place);
+    let stored = Place {
+        words: &view.words[spot.words_start..spot.words_end],
+        bytes: &view.bytes[spot.bytes_start..spot.bytes_end],
+        max: view.shape.messages as usize,
+    };
+    stored.position_from(low)
 }
 
 // The next message at a place in the log of a session.
-pub fn message_at(
-    words: &[u64],
-    bytes: &[u8],
-    shape: Shape,
-    place: usize,
-    position: LogPosition,
-) -> Message
-    requires rules { Rules shape words.now bytes.now }
-    requires place_bound { place < get_or words.now 0 0 }
-    requires position_at { PositionAt shape words.now bytes.now place position.left position.dist }
+pub fn message_at(view: &View, place: usize, position: LogPosition) -> Message
+    requires place_bound { place < get_or view.now.words.now 0 0 }
+    requires position_at { PositionAt view.now.shape view.now.words.now view.now.bytes.now place position.left position.dist }
     requires le_left { 1 ≤ position.left }
-    ensures { NextMessageAt shape words.now bytes.now place position.left position.dist result.number result.first.at result.first.len result.second.at result.second.len result.next.left result.next.dist }
+    ensures { NextMessageAt view.now.shape view.now.words.now view.now.bytes.now place position.left position.dist result.number result.first.at result.first.len result.second.at result.second.len result.next.left result.next.dist }
 {
-    let spot = store_areas::spot_in(words, bytes, shape, place);
-    let max = shape.messages as usize;
-    let found = store_place::message_at(
-        &words[spot.words_start..spot.words_end],
-        &bytes[spot.bytes_start..spot.bytes_end],
-        max,
-        position,
-    );
+    let spot = view.spot(place);
+    let stored = Place {
+        words: &view.words[spot.words_start..spot.words_end],
+        bytes: &view.bytes[spot.bytes_start..spot.bytes_end],
+        max: view.shape.messages as usize,
+    };
+    let found = stored.message_at(position);
     Message {
         number: found.number,
         first: Span {

@@ -4,11 +4,13 @@
 // a change as vectors_fill has them;
 // `w HANDLE EPOCH LAST` a sending, `v HANDLE EPOCH LAST LENGTH` one that lends so many bytes first and more after a 9,
 // `x LAST FROM` a call with a state that no beginning gave.
+// The areas that are changed and their shape are not one struct, as in vectors_fill.
 #![tactic(auto)]
 
 use std::io;
 use store_areas::Shape;
 use vectors_script::{number, small};
+use vectors_sendings::Stored;
 
 // The store's shape and the place that commands are about.
 #[derive(Clone, Copy)]
@@ -21,25 +23,14 @@ struct At {
 fn sending(
     rt: &impl Print,
     line: &str,
-    words: &[u64],
-    bytes: &[u8],
-    at: At,
+    stored: Stored,
+    place: usize,
     out: &mut [u8],
 ) -> io::Result<()> {
-    let At { shape, place } = at;
     let mut numbers = line.get(2..).unwrap_or("").split_whitespace();
     if line.starts_with("x") {
         let last = number(&mut numbers);
-        return vectors_sendings::odd(
-            rt,
-            words,
-            bytes,
-            shape,
-            place,
-            last,
-            number(&mut numbers),
-            out,
-        );
+        return vectors_sendings::odd(rt, stored, place, last, number(&mut numbers), out);
     }
     let handle = small(&mut numbers);
     let epoch = number(&mut numbers);
@@ -49,9 +40,7 @@ fn sending(
     } else {
         out.len()
     };
-    vectors_sendings::whole(
-        rt, words, bytes, shape, place, handle, epoch, last, out, short,
-    )
+    vectors_sendings::whole(rt, stored, place, handle, epoch, last, out, short)
 }
 
 // One command: what it leaves as the store's shape and the place.
@@ -81,7 +70,12 @@ fn command(
             place: number(&mut numbers) as usize,
         }),
         "w" | "v" | "x" => {
-            sending(rt, line, words, bytes, at, out)?;
+            let stored = Stored {
+                words,
+                bytes,
+                shape,
+            };
+            sending(rt, line, stored, at.place, out)?;
             Ok(at)
         }
         _ => {

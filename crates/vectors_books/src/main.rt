@@ -98,7 +98,7 @@ fn call_one(
     }
 }
 
-// One line on the area that is lent.
+// One line on the area that is lent, which another line may replace: the handle, the area and the line stay apart.
 fn replay(rt: &impl Print, area: &mut [u64], line: &str) -> io::Result<()> {
     let mut words = line.split_whitespace();
     let Some(name) = words.next() else {
@@ -114,6 +114,7 @@ fn replay(rt: &impl Print, area: &mut [u64], line: &str) -> io::Result<()> {
     }
 }
 
+// Each program has its own areas; what the programs do alike is `replay_lent`.
 fn main(rt: HostRuntime) -> io::Result<()> {
     let mut room = [0u8; 65_536];
     let script = vectors_script::read_script(&rt, &mut room)?;

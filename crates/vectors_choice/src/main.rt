@@ -5,7 +5,7 @@
 
 use base_refusals::Refusal;
 use frame_fields::Epoch;
-use standby_choice::{Copies, Copy};
+use standby_choice::{Copy, LentCopy};
 use std::io;
 use std::str::SplitWhitespace;
 use store_areas::{COUNT_WORDS, Shape};
@@ -20,7 +20,11 @@ const SHAPE: Shape = Shape {
 };
 
 // The copy whose numbers come next; its store is laid out in the two areas.
-fn copy(numbers: &mut SplitWhitespace<'_>, words: &mut [u64; 114], bytes: &mut [u8; 672]) -> Copy {
+fn copy<'a>(
+    numbers: &mut SplitWhitespace<'_>,
+    words: &'a mut [u64; 114],
+    bytes: &'a mut [u8; 672],
+) -> LentCopy<'a> {
     let listed = byte(numbers);
     let checked = byte(numbers);
     let epoch = Epoch(number(numbers));
@@ -31,11 +35,15 @@ fn copy(numbers: &mut SplitWhitespace<'_>, words: &mut [u64; 114], bytes: &mut [
         words[at + word::NEXT_OUTGOING] = number(numbers);
         words[at + word::BEGIN_LEN] = 1;
     }
-    Copy {
-        listed,
-        checked,
-        epoch,
-        shape: SHAPE,
+    LentCopy {
+        copy: Copy {
+            listed,
+            checked,
+            epoch,
+            shape: SHAPE,
+        },
+        words,
+        bytes,
     }
 }
 
@@ -47,14 +55,13 @@ fn choose(line: &str) -> Result<usize, Refusal> {
     let (mut w2, mut b2) = ([0; 114], [0; 672]);
     let (mut w3, mut b3) = ([0; 114], [0; 672]);
     let (mut w4, mut b4) = ([0; 114], [0; 672]);
-    let copies = Copies(
+    standby_choice::choose(&[
         copy(&mut numbers, &mut w0, &mut b0),
         copy(&mut numbers, &mut w1, &mut b1),
         copy(&mut numbers, &mut w2, &mut b2),
         copy(&mut numbers, &mut w3, &mut b3),
         copy(&mut numbers, &mut w4, &mut b4),
-    );
-    standby_choice::choose(copies, &w0, &b0, &w1, &b1, &w2, &b2, &w3, &b3, &w4, &b4)
+    ])
 }
 
 fn main(rt: HostRuntime) -> io::Result<()> {

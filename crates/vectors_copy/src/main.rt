@@ -5,6 +5,7 @@
 // `n S C M` two new stores of S places and a new standby, `o:TEXT` opens A with this target; a change of A as vectors_fill has them;
 // `h:DIGITS` a frame for the standby; `w HANDLE EPOCH LAST` begins the sending: what the standby has now is B;
 // `f` takes the next frame; `=` gives it to the standby; `x AT N` gives it with N added to its byte AT.
+// The areas and their shape are not one struct, as in vectors_fill.
 #![tactic(auto)]
 
 use active::Sending;

@@ -2,6 +2,7 @@
 // files once more, and which also wrote the script. A line is a letter, a character, and what it takes: `n S C M` a new store, `x` an empty
 // file, `a TEXT` a text behind the file (`|` for byte 01, `~` for byte 80, `^` for a line feed), `s AT BYTE` one byte of it set,
 // `i KEY LENGTH` an import of the file's first bytes.
+// The areas and their shape are not one struct, as in vectors_fill.
 #![tactic(auto)]
 
 use c_import::Built;

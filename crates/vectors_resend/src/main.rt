@@ -2,6 +2,8 @@
 // which holds each message against every range, and which also wrote the script. A line is a letter, a character, and what it takes:
 // `n C M` a new store with one session, `l LENGTH` a Record with a made message, `g N` one without message, `z` Reset,
 // `G PLACE ENTRIES FIRST LAST ..` a request for the session at a place, into an area of so many entries.
+// The areas and their shape are not one struct, as in vectors_fill.
+// Each program has its own areas; the loop over the lines is all that is left alike.
 #![tactic(auto)]
 
 use base_refusals::Refusal;

@@ -13,6 +13,7 @@ fn fill(rt: &impl Input, room: &mut [u8]) -> io::Result<usize>
 {
     let mut reader = rt.reader();
     let mut done: usize = 0;
+    // A while: each read tells how many bytes it brought, so no index counts them.
     while done < room.len() {
         let n = reader.read(&mut room[done..])?;
         if n == 0 {

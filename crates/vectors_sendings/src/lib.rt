@@ -1,4 +1,5 @@
 // Sendings of a session, and what they give in text.
+// The state is new in each turn, the store and the area are not, so they come apart.
 #![tactic(auto)]
 
 use active::{Sending, Sent};
@@ -7,6 +8,14 @@ use frame_fields::{CommitNumber, Epoch};
 use std::io;
 use store_areas::Shape;
 use store_log::fnv;
+
+// A store as it is read.
+#[derive(Clone, Copy)]
+pub struct Stored<'a> {
+    pub words: &'a [u64],
+    pub bytes: &'a [u8],
+    pub shape: Shape,
+}
 
 // What a call of a sending answers: a frame, done, or a refusal.
 type Answer = Result<Option<Sent>, Refusal>;
@@ -25,15 +34,8 @@ fn print_frame(rt: &impl Print, frame: &[u8]) -> io::Result<()> {
 }
 
 // One call, with what it gave in text.
-fn turn(
-    rt: &impl Print,
-    state: Sending,
-    shape: Shape,
-    words: &[u64],
-    bytes: &[u8],
-    out: &mut [u8],
-) -> io::Result<Answer> {
-    let answer = state.send_whole(shape, words, bytes, out);
+fn turn(rt: &impl Print, state: Sending, stored: Stored, out: &mut [u8]) -> io::Result<Answer> {
+    let answer = state.send_whole(stored.shape, stored.words, stored.bytes, out);
     match answer {
         Ok(Some(sent)) => print_frame(rt, out.get(..sent.len).unwrap_or(&[]))?,
         Ok(None) => println!(rt; "done")?,
@@ -46,35 +48,31 @@ fn turn(
 fn turn_again(
     rt: &impl Print,
     state: Sending,
-    shape: Shape,
-    words: &[u64],
-    bytes: &[u8],
+    stored: Stored,
     out: &mut [u8],
     short: usize,
 ) -> io::Result<Answer> {
     if short < out.len() {
-        let answer = turn(rt, state, shape, words, bytes, &mut out[0..short])?;
+        let answer = turn(rt, state, stored, &mut out[0..short])?;
         if !matches!(answer, Err(Refusal::NoRoom)) {
             return Ok(answer);
         }
-        return turn(rt, state, shape, words, bytes, out);
+        return turn(rt, state, stored, out);
     }
-    turn(rt, state, shape, words, bytes, out)
+    turn(rt, state, stored, out)
 }
 
 // Calls until one gives no frame, at most a hundred.
 fn turns(
     rt: &impl Print,
     state: Sending,
-    shape: Shape,
-    words: &[u64],
-    bytes: &[u8],
+    stored: Stored,
     out: &mut [u8],
     short: usize,
 ) -> io::Result<Sending> {
     let mut state = state;
     for _ in 0..100 {
-        let Ok(Some(sent)) = turn_again(rt, state, shape, words, bytes, out, short)? else {
+        let Ok(Some(sent)) = turn_again(rt, state, stored, out, short)? else {
             return Ok(state);
         };
         state = sent.next;
@@ -85,9 +83,7 @@ fn turns(
 // A sending to its end, and one call after it.
 pub fn whole(
     rt: &impl Print,
-    words: &[u64],
-    bytes: &[u8],
-    shape: Shape,
+    stored: Stored,
     place: usize,
     handle: u32,
     epoch: u64,
@@ -97,17 +93,17 @@ pub fn whole(
 ) -> io::Result<()> {
     let epoch = Epoch(epoch);
     match Sending::begin(
-        shape,
-        words,
-        bytes,
+        stored.shape,
+        stored.words,
+        stored.bytes,
         place,
         handle,
         epoch,
         CommitNumber(last),
     ) {
         Ok(s) => {
-            let end = turns(rt, s, shape, words, bytes, out, short)?;
-            let _ = turn(rt, end, shape, words, bytes, out)?;
+            let end = turns(rt, s, stored, out, short)?;
+            let _ = turn(rt, end, stored, out)?;
             Ok(())
         }
         Err(refusal) => println!(rt; "R {}", refusal.number()),
@@ -117,9 +113,7 @@ pub fn whole(
 // A call with a state that no beginning gave.
 pub fn odd(
     rt: &impl Print,
-    words: &[u64],
-    bytes: &[u8],
-    shape: Shape,
+    stored: Stored,
     place: usize,
     last: u64,
     from: u64,
@@ -132,6 +126,6 @@ pub fn odd(
         last: CommitNumber(last),
         from: Some(from),
     };
-    let _ = turn(rt, s, shape, words, bytes, out)?;
+    let _ = turn(rt, s, stored, out)?;
     Ok(())
 }

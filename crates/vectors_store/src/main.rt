@@ -2,12 +2,14 @@
 // FNV-1a. Commands: `n C M` a new store, `r LENGTH COUNT` Records with messages, `g K` a Record without one that skips K numbers,
 // `z` Reset, `p LAG` promotion, `l` a listing, `h N` last_outgoing, `f TEXT` the hash of a text. What it must write was made by
 // tests/make/store_vectors.py, which has the rules in Python.
+// The areas and their shape are not one struct, as in vectors_fill.
+// Each program has its own areas; the loop over the lines is all that is left alike.
 #![tactic(auto)]
 
 use std::io;
-use store_areas::Shape;
-use store_log::fnv;
-use store_sessions::Message;
+use store_areas::{Shape, View};
+use store_log::{Found, fnv};
+use store_place::place::Place;
 use vectors_script::{number, small};
 
 // Records messages of len bytes under the next numbers.
@@ -19,15 +21,14 @@ fn record_many(words: &mut [u64], bytes: &mut [u8], shape: Shape, len: usize, co
 }
 
 // A message's number, length and hash.
-fn print_message(rt: &impl Print, bytes: &[u8], message: Message) -> io::Result<()> {
-    let mut hash = fnv::START;
-    let mut len: u64 = 0;
-    for part in [message.first, message.second] {
-        let end = part.at.saturating_add(part.len as usize);
-        hash = fnv::bytes(hash, bytes.get(part.at..end).unwrap_or(&[]));
-        len = len.wrapping_add(u64::from(part.len));
-    }
-    print!(rt; " {}/{len}/{hash:016x}", message.number)
+fn print_message(rt: &impl Print, ring: &[u8], found: Found) -> io::Result<()> {
+    let span = found.span;
+    let end = span.start.saturating_add(span.first);
+    let first = ring.get(span.start..end).unwrap_or(&[]);
+    let rest = ring.get(..span.rest).unwrap_or(&[]);
+    let hash = fnv::bytes(fnv::bytes(fnv::START, first), rest);
+    let len = first.len().saturating_add(rest.len());
+    print!(rt; " {}/{len}/{hash:016x}", found.number)
 }
 
 // The next number and each message's number, length and hash.
@@ -35,11 +36,20 @@ fn list(rt: &impl Print, words: &[u64], bytes: &[u8], shape: Shape) -> io::Resul
     let next = c_store::store_next_outgoing(words, bytes, shape, 0);
     print!(rt; "{}:", next.value)?;
     if store_areas::in_use(words, bytes, shape, 0) {
-        let mut position = store_sessions::messages_from(words, bytes, shape, 0, 1);
-        while 0 < position.left {
-            let message = store_sessions::message_at(words, bytes, shape, 0, position);
-            print_message(rt, bytes, message)?;
-            position = message.next;
+        let view = View {
+            words,
+            bytes,
+            shape,
+        };
+        let spot = view.spot(0);
+        let place = Place {
+            words: &words[spot.words_start..spot.words_end],
+            bytes: &bytes[spot.bytes_start..spot.bytes_end],
+            max: shape.messages as usize,
+        };
+        let log = place.log();
+        for found in log.messages_at(log.position_from(1)) {
+            print_message(rt, log.bytes, found)?;
         }
     }
     println!(rt; "")

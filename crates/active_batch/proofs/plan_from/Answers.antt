@@ -6,6 +6,6 @@ pub returns : goal.returns
 returns c =
     let r = c.requires in
     let begins : c.max-next.result ≡ max c.args.from 1 = search rules in
-    let o = c.opening_extent-opening.ensures in
-    let e = c.ending_extent-ending.ensures in
-    planned _ _ _ _ _ _ _ _ _ _ _ _ _ _ _ _ _ _ _ r.bytes_len_bound r.max_bound begins c.messages_from-c.ensures c.measure-cut.ensures o.spans o.small e.spans e.small
+    let o = c.opening_extent-opening in
+    let e = c.ending_extent-ending in
+    planned c.args.limit c.args.header.now c.args.log.now c.args.from _ _ c.measure-cut.result o.result e.result r.bytes_len_bound r.max_bound begins c.position_from-position.ensures c.measure-cut.ensures o.ensures.spans o.ensures.small e.ensures.spans e.ensures.small

@@ -1,30 +1,34 @@
-use Rattle.std.proofs.Common.{arith, length}
-use Rattle.store_log.specs.Log.{rest_of}
+use Rattle.std.proofs.Common.{arith, List}
+use Rattle.model_frame.specs.Frame.{Change}
 use Rattle.active_messages.specs.Cut.{taken}
 use Rattle.active_header.specs.Ends.{opening_of, ending_of}
 use Rattle.active_header.proofs.Ends.{run_past}
+use Rattle.active_batch.specs.Batch.{rest_at}
 use Rattle.active_batch.proofs.Framing.{wrote_three, three_sizes}
+use Rattle.active_batch.proofs.put_changes.Goals.{Start}
 use Rattle.active_batch.proofs.put_changes.Goals as goal
+
+-- the three runs of changes
+abbrev opening : (c : Start) → List Change
+opening c = opening_of c.args.header.now.stamp.now c.args.batch.from
+
+abbrev messages : (c : Start) → List Change
+messages c = taken c.args.batch.limit 0 c.args.plan.next (rest_at c.args.batch.limit c.args.header.now c.args.log.now c.args.plan.position)
+
+abbrev ending : (c : Start) → List Change
+ending c = ending_of c.args.header.now c.args.plan.last c.args.plan.resume_from
 
 pub put_messages-pos-requires-clause-left_in_bounds : goal.put_messages-pos-requires-clause-left_in_bounds
 put_messages-pos-requires-clause-left_in_bounds c =
-    let a = c.args in
-    let b = a.bytes.now in
-    let opening = opening_of a.stamp.now a.batch.from in
-    let ms = taken a.batch.limit 0 a.plan.next (rest_of (length b) a.batch.max a.header.next_outgoing a.words.now b a.plan.left) in
-    omega (arith, c.requires.plan_in_bounds, three_sizes opening ms (ending_of a.header a.marks.now a.plan.last a.plan.resume_from), run_past opening c.put_opening-opened.ensures)
+    let s = (goal.at.put_messages-pos-requires-clause-left_in_bounds c).Start in
+    omega (arith, c.requires.plan_in_bounds, three_sizes (opening s) (messages s) (ending s), run_past (opening s) c.put_opening-opened.ensures)
 
-pub put_ending-requires-clause-next_in_bounds : goal.put_ending-requires-clause-next_in_bounds
-put_ending-requires-clause-next_in_bounds c =
-    let a = c.args in
-    let b = a.bytes.now in
-    let opening = opening_of a.stamp.now a.batch.from in
-    let ms = taken a.batch.limit 0 a.plan.next (rest_of (length b) a.batch.max a.header.next_outgoing a.words.now b a.plan.left) in
-    omega (arith, c.requires.plan_in_bounds, three_sizes opening ms (ending_of a.header a.marks.now a.plan.last a.plan.resume_from), run_past opening c.put_opening-opened.ensures, run_past ms c.put_messages-pos.ensures)
+pub put_ending-requires : goal.put_ending-requires
+put_ending-requires c =
+    let s = (goal.at.put_ending-requires c).Start in
+    omega (arith, c.requires.plan_in_bounds, three_sizes (opening s) (messages s) (ending s), run_past (opening s) c.put_opening-opened.ensures, run_past (messages s) c.put_messages-pos.ensures)
 
 pub returns : goal.returns
 returns c =
-    let a = c.args in
-    let b = a.bytes.now in
-    let ms = taken a.batch.limit 0 a.plan.next (rest_of (length b) a.batch.max a.header.next_outgoing a.words.now b a.plan.left) in
-    wrote_three (opening_of a.stamp.now a.batch.from) ms (ending_of a.header a.marks.now a.plan.last a.plan.resume_from) c.put_opening-opened.ensures c.put_messages-pos.ensures c.put_ending.ensures
+    let s = (goal.at.returns c).Start in
+    wrote_three (opening s) (messages s) (ending s) c.put_opening-opened.ensures c.put_messages-pos.ensures c.put_ending.ensures

@@ -3,15 +3,17 @@ use Rattle.store_place.proofs.Header.{next_pos}
 use Rattle.active_batch.proofs.Sending.{sent, too_short}
 use Rattle.active_batch.proofs.send.Goals as goal
 
-pub plan_from-p-requires-clause-bound : goal.plan_from-p-requires-clause-bound
-plan_from-p-requires-clause-bound c = omega (arith, c.header_of-h.ensures.outgoing, next_pos c.args.words.now)
+pub plan_from-plan-requires-clause-bound : goal.plan_from-plan-requires-clause-bound
+plan_from-plan-requires-clause-bound c = omega (arith, c.log-log.ensures.next, next_pos c.args.place.now.words.now)
 
 pub returns-then-out-len : goal.returns-then-out-len
-returns-then-out-len c =
-    let a = c.args in
-    λ C lb. too_short a.batch.limit C a.batch.max a.words.now a.bytes.now lb c.header_of-h.result c.header_of-h.ensures (λ i. (c.type_inv.bytes i).fits) a.batch.handle a.batch.epoch.0 a.batch.commit_no.0 a.batch.from c.plan_from-p.result c.plan_from-p.ensures a.out.now c.if-out-len.true
+returns-then-out-len c C lb =
+    let b = c.args.batch in
+    let log = c.log-log.ensures in
+    too_short C c.args.place.now c.log-log.result lb log.words log.bytes log.max log.next b.limit _ c.header_of-header.ensures b.handle b.epoch.0 b.commit_no.0 b.from _ c.plan_from-plan.ensures c.args.out.now c.if-out-len.true
 
 pub returns : goal.returns
-returns c =
-    let a = c.args in
-    λ C lb. sent a.batch.limit C a.batch.max a.words.now a.bytes.now lb c.header_of-h.result c.header_of-h.ensures (λ i. (c.type_inv.bytes i).fits) a.batch.handle a.batch.epoch.0 a.batch.commit_no.0 a.batch.from c.plan_from-p.result c.plan_from-p.ensures a.out.now _ c.then_some.result (omega arith) c.then_some.ensures c.put_frame.ensures
+returns c C lb =
+    let b = c.args.batch in
+    let log = c.log-log.ensures in
+    sent C c.args.place.now c.log-log.result lb log.words log.bytes log.max log.next b.limit _ c.header_of-header.ensures b.handle b.epoch.0 b.commit_no.0 b.from _ c.plan_from-plan.ensures c.args.out.now _ c.then_some.result (omega arith) c.then_some.ensures c.put_frame.ensures

@@ -1,8 +1,8 @@
-use Rattle.std.proofs.Common.{◌≡◌, ◌≤◌, ◌<◌, false, get_or, refl, sym, arith, ◌∙◌}
+use Rattle.std.proofs.Common.{rules, refl, sym, arith, ◌∙◌}
 use mathlib.Core.Bool.{true≢false}
 use Rattle.std.proofs.lemmas.Result.{err_from_is_err_and}
 use Rattle.model_active.specs.CatchUp as m
-use Rattle.active_books.proofs.Calling.{refuses_one, refuses_behind, same_count, falls_behind}
+use Rattle.active_books.proofs.Calling.{refuses_one, refuses_behind, same_count, falls_behind, ends_as}
 use Rattle.active_books.proofs.fall_behind.Goals.{else-not-behind-via-then-not-behind+else-m-eq-MAX_SESSIONS, else-not-behind-via-else-not-behind}
 use Rattle.active_books.proofs.fall_behind.Goals as goal
 
@@ -12,15 +12,15 @@ returns-then-m-eq-MAX_SESSIONS c = refuses_behind c.args.words.now c.args.sessio
 pub returns-in_err-meet : goal.returns-in_err-meet
 returns-in_err-meet c =
     let p = err_from_is_err_and c.from_residual-in_err-meet.result c.from_residual-in_err-meet.ensures.1 in
-    rw (p.1, p.2) (refuses_one c.args.words.now c.meet.new.words c.args.session (m.fall_behind c.args.session) c.in_err-meet.field-0.0 refl c.in_ok-check_rules.ensures c.in_err-meet.ensures)
+    rw (p.1, p.2) (ends_as (search rules) (refuses_one c.args.words.now c.meet.new.books.words.now c.args.session (m.fall_behind c.args.session) c.in_err-meet.field-0.0 refl c.in_ok-check_rules.ensures c.in_err-meet.ensures.meets))
 
 pub join-requires-clause-room : goal.join-requires-clause-room
 join-requires-clause-room c = λ absent.
-    let count = same_count c.args.words.now c.meet.new.words c.args.session c.in_ok-meet.ensures.makes in
+    let count = same_count c.args.words.now c.meet.new.books.words.now c.args.session c.in_ok-meet.ensures.meets.makes in
     elim c.else-not-behind.branch [
       | else-not-behind-via-then-not-behind+else-m-eq-MAX_SESSIONS w ↦ omega (arith, count, w.if-m-eq-MAX_SESSIONS.false, c.in_ok-check_rules.ensures.few_behind)
       | else-not-behind-via-else-not-behind w ↦ absurd (true≢false (sym w.if-not-behind.false ∙ absent))
     ]
 
 pub returns : goal.returns
-returns c = falls_behind c.args.words.now c.meet.new.words c.join.new.words c.args.session _ c.in_ok-check_rules.ensures c.in_ok-meet.ensures c.join.ensures
+returns c = ends_as (search rules) (falls_behind c.args.words.now c.meet.new.books.words.now c.join.new.books.words.now c.args.session _ c.in_ok-check_rules.ensures c.in_ok-meet.ensures.meets c.join.ensures.makes)

@@ -2,4 +2,4 @@ use Rattle.active_books_listing.proofs.Listing.{Gathering}
 use Rattle.active_books_listing.proofs.gather.Given as goal
 
 abbrev pub invariant-loop-place : goal.invariant-loop-place
-invariant-loop-place l = Gathering l.words l.listing l.fresh.items l.place
+invariant-loop-place l = Gathering l.books.words.now l.listing l.fresh.items l.place

@@ -7,5 +7,5 @@ use Rattle.active_books_listing.proofs.is_known.Goals as goal
 pub returns-else-is_listed : goal.returns-else-is_listed
 returns-else-is_listed c =
     let s = c.args.session in
-    let no : member s (sessions (book_of c.args.words.now).met) ≡ false = sym (c.is_listed.ensures ∙ ap (member s) c.met.ensures) ∙ c.if-is_listed.false in
+    let no : member s (sessions (book_of c.args.books.now.words.now).met) ≡ false = sym (c.is_listed.ensures ∙ ap (member s) c.met.ensures) ∙ c.if-is_listed.false in
     c.contains.ensures.value ∙ contained s c.args.fresh.now ∙ ap (λ (b : Bool). b || member s c.args.fresh.now) (sym no)

@@ -1,5 +1,5 @@
 use Rattle.active_books_area.proofs.Area.{compared_set}
 use Rattle.active_books_session.proofs.compare.Goals as goal
 
-pub returns : goal.returns
-returns c = compared_set c.args.words.now c.args.session c.args.i c.args.incarnation c.requires
+pub returns-clause-makes : goal.returns-clause-makes
+returns-clause-makes c = compared_set c.args.books.now.words.now c.args.session c.args.i c.args.incarnation c.requires

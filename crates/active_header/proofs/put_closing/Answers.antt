@@ -7,18 +7,18 @@ use Rattle.active_header.proofs.put_closing.Goals as goal
 pub put_incoming-pos-requires : goal.put_incoming-pos-requires
 put_incoming-pos-requires c =
     let a = c.args in
-    let h = a.header in
-    omega (arith, c.requires.next_in_bounds, close_size a.next h.next_outgoing (incoming_part h.next_incoming (flight_is h.in_flight)) a.marks.now, run_past (skip_to a.next h.next_outgoing) c.put_skip-skipped.ensures)
+    let h = a.header.now in
+    omega (arith, c.requires, close_size a.next h.next_outgoing (incoming_part h.next_incoming (flight_is h.in_flight)) h.marks.now, run_past (skip_to a.next h.next_outgoing) c.put_skip-skipped.ensures)
 
 pub put_text-requires-clause-s_in_bounds : goal.put_text-requires-clause-s_in_bounds
 put_text-requires-clause-s_in_bounds c =
     let a = c.args in
-    let h = a.header in
+    let h = a.header.now in
     let inc = incoming_part h.next_incoming (flight_is h.in_flight) in
-    omega (arith, c.requires.next_in_bounds, close_size a.next h.next_outgoing inc a.marks.now, run_past (skip_to a.next h.next_outgoing) c.put_skip-skipped.ensures, change_past inc c.put_incoming-pos.ensures)
+    omega (arith, c.requires, close_size a.next h.next_outgoing inc h.marks.now, run_past (skip_to a.next h.next_outgoing) c.put_skip-skipped.ensures, change_past inc c.put_incoming-pos.ensures)
 
 pub returns : goal.returns
 returns c =
     let a = c.args in
-    let h = a.header in
-    wrote_closing (skip_to a.next h.next_outgoing) (incoming_part h.next_incoming (flight_is h.in_flight)) a.marks.now c.put_skip-skipped.ensures c.put_incoming-pos.ensures c.put_text.ensures
+    let h = a.header.now in
+    wrote_closing (skip_to a.next h.next_outgoing) (incoming_part h.next_incoming (flight_is h.in_flight)) h.marks.now c.put_skip-skipped.ensures c.put_incoming-pos.ensures c.put_text.ensures

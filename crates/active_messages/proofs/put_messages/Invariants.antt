@@ -1,10 +1,9 @@
-use Rattle.std.specs.Prelude.{length}
+use Rattle.std.proofs.Common.{◌≡◌, length}
 use Rattle.active_messages.proofs.Sending.{Sending}
 use Rattle.active_messages.proofs.put_messages.Given as goal
 
-abbrev pub invariant-loop-left : goal.invariant-loop-left
-invariant-loop-left l =
-    Sending l.limit (length l.bytes) l.max l.end l.words l.bytes l.initial.out l.at l.initial.left l.initial.dist l.initial.next l.out l.left l.dist l.next l.sent l.pos
-
-abbrev pub decreases-loop-left : goal.decreases-loop-left
-decreases-loop-left l = l.left
+abbrev pub invariant-loop-found : goal.invariant-loop-found
+invariant-loop-found l =
+    let at = l.found-iterator.position in
+    (goal.iterator-loop-found).can_next l.found-iterator × (goal.iterator-loop-found).is_finite l.found-iterator × (l.found-iterator.log ≡ l.log)
+    × Sending l.limit (length l.log.bytes.now) l.log.max l.log.next l.log.words.now l.log.bytes.now l.initial.out l.fn.at l.fn.position.left l.fn.position.dist l.fn.next l.out at.left at.dist l.next l.sent l.pos

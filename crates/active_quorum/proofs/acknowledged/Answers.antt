@@ -1,7 +1,8 @@
-use Rattle.std.proofs.Common.{arith, sym, ap, ◌≡◌, length}
-use lib.ListN.{length-set}
+use Rattle.std.proofs.Common.{arith, sym, ap, ◌≡◌, ◌≤◌, length}
+use lib.ListN.{get_or, set, length-set}
 use Rattle.model_quorum.specs.Counts as m
 use Rattle.active_quorum.proofs.Calls.{rules as kept_rules, ack_unknown, ack_unbound, ack_wrong, ack_old, ack_new}
+use Rattle.active_quorum.proofs.Held.{figure_so}
 use Rattle.active_quorum.proofs.acknowledged.Goals as goal
 
 pub bounds-words-0 : goal.bounds-words-0
@@ -48,8 +49,8 @@ pub bounds-acks-member-2 : goal.bounds-acks-member-2
 bounds-acks-member-2 c = let R = kept_rules c.args.words.now c.keeps_rules.ensures c.if-not-keeps_rules.false in
     omega arith
 
-pub largest_held-figure-requires : goal.largest_held-figure-requires
-largest_held-figure-requires c = let R = kept_rules c.args.words.now c.keeps_rules.ensures c.if-not-keeps_rules.false in
+pub slice_bounds-largest_held-end : goal.slice_bounds-largest_held-end
+slice_bounds-largest_held-end c = let R = kept_rules c.args.words.now c.keeps_rules.ensures c.if-not-keeps_rules.false in
     let five : length c.count_at-c.result.acks ≡ 5 = ap (λ (k : m.Count). length k.acks) c.count_at-c.ensures in
     omega (arith, length-set c.count_at-c.result.acks c.args.member c.args.number.0, five)
 
@@ -58,4 +59,8 @@ put_count-requires-clause-in_bounds c = let R = kept_rules c.args.words.now c.ke
     omega arith
 
 pub returns : goal.returns
-returns c = ack_new c.args.words.now c.args.handle c.in-Some.i c.in-Some.ensures.found.0 c.args.member c.args.number.0 c.count_at-c.result _ c.largest_held-figure.result (kept_rules c.args.words.now c.keeps_rules.ensures c.if-not-keeps_rules.false) (omega arith) c.in-Some.ensures.found.1 c.count_at-c.ensures c.if-not-x-c.false c.if-words-x.false c.largest_held-figure.ensures c.put_count.ensures
+returns c =
+    let R = kept_rules c.args.words.now c.keeps_rules.ensures c.if-not-keeps_rules.false in
+    let five : length c.count_at-c.result.acks ≡ 5 = ap (λ (k : m.Count). length k.acks) c.count_at-c.ensures in
+    let few : get_or c.args.words.now 0 0 ≤ length (set c.count_at-c.result.acks c.args.member c.args.number.0) = omega (arith, length-set c.count_at-c.result.acks c.args.member c.args.number.0, five) in
+    ack_new c.args.words.now c.args.handle c.in-Some.i c.in-Some.ensures.found.0 c.args.member c.args.number.0 c.count_at-c.result _ c.largest_held-figure.result (kept_rules c.args.words.now c.keeps_rules.ensures c.if-not-keeps_rules.false) (omega arith) c.in-Some.ensures.found.1 c.count_at-c.ensures c.if-not-x-c.false c.if-words-x.false (figure_so (set c.count_at-c.result.acks c.args.member c.args.number.0) _ _ _ few c.largest_held-figure.ensures) c.put_count.ensures

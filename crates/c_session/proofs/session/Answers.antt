@@ -8,8 +8,8 @@ returns-then-not-in_use c =
     let a = c.args in
     unfit a.shape a.words.now a.bytes.now a.place a.n c.in_use.ensures c.if-not-in_use.true
 
-pub write_session-requires-clause-rules : goal.write_session-requires-clause-rules
-write_session-requires-clause-rules c = (in_use_of c.args.shape c.args.words.now c.args.bytes.now c.args.place (sym c.in_use.ensures ∙ c.if-not-in_use.false)).rules
+pub invariant_of-view-clause-rules : goal.invariant_of-view-clause-rules
+invariant_of-view-clause-rules c = (in_use_of c.args.shape c.args.words.now c.args.bytes.now c.args.place (sym c.in_use.ensures ∙ c.if-not-in_use.false)).rules
 
 pub returns : goal.returns
 returns c =

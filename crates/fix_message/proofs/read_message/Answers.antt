@@ -1,8 +1,7 @@
 use Rattle.std.proofs.Common.{sym, ◌∙◌, arith}
 use Rattle.std.proofs.lemmas.Result.{err_from_is_err_and}
-use Rattle.fix_message.proofs.Judging.{opened, ended, told_three, no_three, not_opened, not_ended, told_some, told_none, told_error, not_three_digits, not_one_34, none_34, many_34, one_34, false_length, false_sum, message_is}
+use Rattle.fix_message.proofs.Judging.{opened, ended, told_three, no_three, not_opened, not_ended, told_some, told_none, told_error, not_three_digits, false_length, false_sum, message_is}
 use Rattle.fix_message.proofs.read_message.Goals as goal
-use Rattle.fix_message.proofs.read_message.Goals.{then-t-eq0-via-then-t-eq0, then-t-eq0-via-else-t-eq0+then-t}
 
 pub returns-in_err-o : goal.returns-in_err-o
 returns-in_err-o c =
@@ -25,32 +24,23 @@ returns-in_err-told c =
     rw (p.1, p.2, told_error _ _ _ c.in_err-told.ensures.value)
     (not_three_digits c.args.file.now c.args.at _ o _ t (no_three c.args.file.now _ _ c.read_three.result (told_none _ _ _ c.in_err-told.ensures.value) c.read_three.ensures))
 
-pub returns-then-t-eq0 : goal.returns-then-t-eq0
-returns-then-t-eq0 c =
-    let o = opened c.args.file.now c.args.at c.find_start.result (told_some _ _ _ c.in_ok-o.ensures.value) c.find_start.ensures in
-    let t = ended c.args.file.now _ c.find_end.result (told_some _ _ _ c.in_ok-t.ensures.value) c.find_end.ensures in
-    elim c.then-t-eq0.branch [
-      | then-t-eq0-via-then-t-eq0 w ↦ not_one_34 c.args.file.now c.args.at _ o _ t (none_34 _ w.if-t-eq0.true)
-      | then-t-eq0-via-else-t-eq0+then-t w ↦ not_one_34 c.args.file.now c.args.at _ o _ t (many_34 _ w.if-t.true)
-    ]
-
 pub returns-then-o-t : goal.returns-then-o-t
 returns-then-o-t c =
     let o = opened c.args.file.now c.args.at c.find_start.result (told_some _ _ _ c.in_ok-o.ensures.value) c.find_start.ensures in
     let t = ended c.args.file.now _ c.find_end.result (told_some _ _ _ c.in_ok-t.ensures.value) c.find_end.ensures in
     let d = told_three c.args.file.now _ _ c.read_three.result (told_some _ _ _ c.in_ok-told.ensures.value) c.read_three.ensures in
-    false_length c.args.file.now c.args.at _ o _ t (omega (arith, c.well_formed, c.ranges)) d.three (one_34 _ c.if-t-eq0.false c.if-t.false) c.if-o-t.true
+    false_length c.args.file.now c.args.at _ o _ t (omega (arith, c.well_formed, c.ranges)) d.three c.if-o-t.true
 
 pub returns-then-told-from : goal.returns-then-told-from
 returns-then-told-from c =
     let o = opened c.args.file.now c.args.at c.find_start.result (told_some _ _ _ c.in_ok-o.ensures.value) c.find_start.ensures in
     let t = ended c.args.file.now _ c.find_end.result (told_some _ _ _ c.in_ok-t.ensures.value) c.find_end.ensures in
     let d = told_three c.args.file.now _ _ c.read_three.result (told_some _ _ _ c.in_ok-told.ensures.value) c.read_three.ensures in
-    false_sum c.args.file.now c.args.at _ o _ t (omega (arith, c.well_formed, c.ranges)) d.three (one_34 _ c.if-t-eq0.false c.if-t.false) c.in_ok-told.told d (λ e. c.if-told-from.true (e ∙ sym c.sum.ensures ∙ sym c.from.ensures))
+    false_sum c.args.file.now c.args.at _ o _ t (omega (arith, c.well_formed, c.ranges)) d.three c.in_ok-told.told d (λ e. c.if-told-from.true (e ∙ sym c.sum.ensures ∙ sym c.from.ensures))
 
 pub returns : goal.returns
 returns c =
     let o = opened c.args.file.now c.args.at c.find_start.result (told_some _ _ _ c.in_ok-o.ensures.value) c.find_start.ensures in
     let t = ended c.args.file.now _ c.find_end.result (told_some _ _ _ c.in_ok-t.ensures.value) c.find_end.ensures in
     let d = told_three c.args.file.now _ _ c.read_three.result (told_some _ _ _ c.in_ok-told.ensures.value) c.read_three.ensures in
-    message_is c.args.file.now c.args.at _ o _ t (omega (arith, c.well_formed, c.ranges)) d.three (one_34 _ c.if-t-eq0.false c.if-t.false) c.in_ok-told.told d c.if-o-t.false (c.if-told-from.false ∙ c.from.ensures ∙ c.sum.ensures)
+    message_is c.args.file.now c.args.at _ o _ t (omega (arith, c.well_formed, c.ranges)) d.three c.in_ok-told.told d c.if-o-t.false (c.if-told-from.false ∙ c.from.ensures ∙ c.sum.ensures)

@@ -1,5 +1,7 @@
-use Rattle.model_frame.specs.Reading.{batch_fields}
+use Rattle.model_frame.specs.Reading.{read_changes, read_app_records, batch_fields}
 use Rattle.frame_reader.proofs.Faults.{passed_on}
+use mathlib.Core.Path.{◌∙◌}
+use Rattle.model_frame.proofs.Sizes.{changes_size}
 use Rattle.frame.proofs.read_batch.Goals as goal
 
 pub returns-in_err-handle-clause-read : goal.returns-in_err-handle-clause-read
@@ -19,16 +21,16 @@ unfolding batch_fields
 returns-in_err-part-clause-read c = rw (← c.in_ok-handle.ensures.read, ← c.in_ok-epoch.ensures.read, ← c.in_ok-commit_no.ensures.read, ← c.in_err-part.ensures.read, passed_on c.from_residual-in_err-part.result c.in_err-part.field-0.0 c.from_residual-in_err-part.ensures)
 
 pub returns-in_err-ops-clause-read : goal.returns-in_err-ops-clause-read
-unfolding batch_fields
+unfolding batch_fields read_changes
 returns-in_err-ops-clause-read c = rw (← c.in_ok-handle.ensures.read, ← c.in_ok-epoch.ensures.read, ← c.in_ok-commit_no.ensures.read, ← c.in_ok-part.ensures.read, ← c.in_err-ops.ensures.read, passed_on c.from_residual-in_err-ops.result c.in_err-ops.field-0.0 c.from_residual-in_err-ops.ensures)
 
 pub returns-in_err-app_records-clause-read : goal.returns-in_err-app_records-clause-read
-unfolding batch_fields
+unfolding batch_fields read_changes read_app_records
 returns-in_err-app_records-clause-read c = rw (← c.in_ok-handle.ensures.read, ← c.in_ok-epoch.ensures.read, ← c.in_ok-commit_no.ensures.read, ← c.in_ok-part.ensures.read, ← c.in_ok-ops.ensures.read, ← c.in_err-app_records.ensures.read, passed_on c.from_residual-in_err-app_records.result c.in_err-app_records.field-0.0 c.from_residual-in_err-app_records.ensures)
 
 pub returns-clause-read : goal.returns-clause-read
-unfolding batch_fields
-returns-clause-read c = rw (← c.in_ok-handle.ensures.read, ← c.in_ok-epoch.ensures.read, ← c.in_ok-commit_no.ensures.read, ← c.in_ok-part.ensures.read, ← c.in_ok-ops.ensures.read, ← c.in_ok-app_records.ensures.read, c.read_ops.ensures.same, c.read_part.ensures.same, c.number-3.ensures.same, c.number-2.ensures.same, c.number.ensures.same)
+unfolding batch_fields read_changes read_app_records
+returns-clause-read c = rw (← c.in_ok-handle.ensures.read, ← c.in_ok-epoch.ensures.read, ← c.in_ok-commit_no.ensures.read, ← c.in_ok-part.ensures.read, ← c.in_ok-ops.ensures.read, ← c.in_ok-app_records.ensures.read, c.read_run.ensures.same, c.read_part.ensures.same, c.number-3.ensures.same, c.number-2.ensures.same, c.number.ensures.same)
 
 pub returns-clause-stands : goal.returns-clause-stands
-returns-clause-stands c = (rw (rw (c.read_part.ensures.same, c.number-3.ensures.same, c.number-2.ensures.same, c.number.ensures.same) at c.in_ok-ops.ensures.again, rw (c.read_ops.ensures.same, c.read_part.ensures.same, c.number-3.ensures.same, c.number-2.ensures.same, c.number.ensures.same) at c.in_ok-app_records.ensures.again), rw (c.read_part.ensures.same, c.number-3.ensures.same, c.number-2.ensures.same, c.number.ensures.same) at c.in_ok-ops.ensures.sized)
+returns-clause-stands c = (rw (rw (c.read_part.ensures.same, c.number-3.ensures.same, c.number-2.ensures.same, c.number.ensures.same) at c.in_ok-ops.ensures.again, rw (c.read_run.ensures.same, c.read_part.ensures.same, c.number-3.ensures.same, c.number-2.ensures.same, c.number.ensures.same) at c.in_ok-app_records.ensures.again), (rw (c.read_part.ensures.same, c.number-3.ensures.same, c.number-2.ensures.same, c.number.ensures.same) at c.in_ok-ops.ensures.sized) ∙ changes_size _)

@@ -10,22 +10,22 @@ use Rattle.frame_encode.proofs.batch.Goals as goal
 pub returns-in_default : goal.returns-in_default
 returns-in_default c = let a = c.args in encoded_unreadable _ _ _ _ (ops_unread a.protocol.version a.src.now a.batch.ops a.batch.app_records a.batch.handle a.batch.epoch.0 a.batch.commit_no.0 (part_of a.batch.part) c.in_default.ensures)
 
-pub returns-in_default-records_len : goal.returns-in_default-records_len
-returns-in_default-records_len c = let a = c.args in encoded_unreadable _ _ _ _ (records_unread a.protocol.version a.src.now a.batch.ops a.batch.app_records a.batch.handle a.batch.epoch.0 a.batch.commit_no.0 (part_of a.batch.part) c.in_default-records_len.ensures)
+pub returns-in_default-run_len : goal.returns-in_default-run_len
+returns-in_default-run_len c = let a = c.args in encoded_unreadable _ _ _ _ (records_unread a.protocol.version a.src.now a.batch.ops a.batch.app_records a.batch.handle a.batch.epoch.0 a.batch.commit_no.0 (part_of a.batch.part) c.in_default-run_len.ensures)
 
-pub returns-then-limit-max : goal.returns-then-limit-max
-returns-then-limit-max c =
+pub returns-then-max : goal.returns-then-max
+returns-then-max c =
     let a = c.args in
-    encoded_failed _ _ _ (batch_ready a.protocol.version a.src.now a.batch.ops a.batch.app_records (are_bytes a.src.now (λ i. (c.type_inv.src i).fits)) c.in-Ok.ensures.0 c.in-Ok.ensures.1 c.in-Ok-records_len.ensures.0 c.in-Ok-records_len.ensures.1 a.batch.handle a.batch.epoch.0 a.batch.commit_no.0 (part_of a.batch.part)) _ (omega (arith, c.if-limit-max.true, c.max.ensures, c.requires), refl)
+    encoded_failed _ _ _ (batch_ready a.protocol.version a.src.now a.batch.ops a.batch.app_records (are_bytes a.src.now (λ i. (c.type_inv.src i).fits)) c.in-Ok.ensures.0 c.in-Ok.ensures.1 c.in-Ok-run_len.ensures.0 c.in-Ok-run_len.ensures.1 a.batch.handle a.batch.epoch.0 a.batch.commit_no.0 (part_of a.batch.part)) _ (omega (arith, c.if-max.true, c.max.ensures), refl)
 
 pub returns-in_err-at : goal.returns-in_err-at
 returns-in_err-at c =
     let a = c.args in
     let p = err_from_is_err_and c.from_residual.result c.from_residual.ensures.1 in rw (p.1, p.2)
-    (encoded_failed _ _ _ (batch_ready a.protocol.version a.src.now a.batch.ops a.batch.app_records (are_bytes a.src.now (λ i. (c.type_inv.src i).fits)) c.in-Ok.ensures.0 c.in-Ok.ensures.1 c.in-Ok-records_len.ensures.0 c.in-Ok-records_len.ensures.1 a.batch.handle a.batch.epoch.0 a.batch.commit_no.0 (part_of a.batch.part)) _ c.in_err-at.ensures)
+    (encoded_failed _ _ _ (batch_ready a.protocol.version a.src.now a.batch.ops a.batch.app_records (are_bytes a.src.now (λ i. (c.type_inv.src i).fits)) c.in-Ok.ensures.0 c.in-Ok.ensures.1 c.in-Ok-run_len.ensures.0 c.in-Ok-run_len.ensures.1 a.batch.handle a.batch.epoch.0 a.batch.commit_no.0 (part_of a.batch.part)) _ c.in_err-at.ensures)
 
 pub returns : goal.returns
 returns c =
     let a = c.args in
-    encoded_took _ _ _ (batch_ready a.protocol.version a.src.now a.batch.ops a.batch.app_records (are_bytes a.src.now (λ i. (c.type_inv.src i).fits)) c.in-Ok.ensures.0 c.in-Ok.ensures.1 c.in-Ok-records_len.ensures.0 c.in-Ok-records_len.ensures.1 a.batch.handle a.batch.epoch.0 a.batch.commit_no.0 (part_of a.batch.part)) c.in_ok-at.ensures
-    (batch_wrote a.protocol.version a.src.now a.batch.ops a.batch.app_records (are_bytes a.src.now (λ i. (c.type_inv.src i).fits)) c.in-Ok.ensures.0 c.in-Ok.ensures.1 c.in-Ok-records_len.ensures.0 c.in-Ok-records_len.ensures.1 a.batch.handle a.batch.epoch.0 a.batch.commit_no.0 (part_of a.batch.part) (wrote_on c.put_head-at.ensures.wrote c.put_runs.ensures))
+    encoded_took _ _ _ (batch_ready a.protocol.version a.src.now a.batch.ops a.batch.app_records (are_bytes a.src.now (λ i. (c.type_inv.src i).fits)) c.in-Ok.ensures.0 c.in-Ok.ensures.1 c.in-Ok-run_len.ensures.0 c.in-Ok-run_len.ensures.1 a.batch.handle a.batch.epoch.0 a.batch.commit_no.0 (part_of a.batch.part)) c.in_ok-at.ensures
+    (batch_wrote a.protocol.version a.src.now a.batch.ops a.batch.app_records (are_bytes a.src.now (λ i. (c.type_inv.src i).fits)) c.in-Ok.ensures.0 c.in-Ok.ensures.1 c.in-Ok-run_len.ensures.0 c.in-Ok-run_len.ensures.1 a.batch.handle a.batch.epoch.0 a.batch.commit_no.0 (part_of a.batch.part) (wrote_on c.put_head-at.ensures.wrote c.put_runs.ensures))

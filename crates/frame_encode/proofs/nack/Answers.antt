@@ -1,3 +1,5 @@
+use Rattle.model_frame.specs.Writing.{body_bytes}
+use Rattle.base_laws.proofs.Writes.{wrote_on}
 use Rattle.std.proofs.lemmas.Result.{err_from_is_err_and}
 use Rattle.frame_fields.specs.Answers.{reason_of}
 use Rattle.frame_encode.proofs.Ready.{nack_ready}
@@ -8,4 +10,5 @@ pub returns-in_err-at : goal.returns-in_err-at
 returns-in_err-at c = let a = c.args in let p = err_from_is_err_and c.from_residual.result c.from_residual.ensures.1 in rw (p.1, p.2) (λ v. encoded_failed v _ _ (nack_ready v a.handle (reason_of a.reason)) _ c.in_err-at.ensures)
 
 pub returns : goal.returns
-returns c = let a = c.args in λ v. encoded_took v _ _ (nack_ready v a.handle (reason_of a.reason)) c.in_ok-at.ensures c.put_nack.ensures
+unfolding body_bytes
+returns c = let a = c.args in λ v. encoded_took v _ _ (nack_ready v a.handle (reason_of a.reason)) c.in_ok-at.ensures (rw (← c.reason_byte.ensures) (wrote_on c.put_handle-at.ensures.wrote c.tag.ensures.wrote))

@@ -1,16 +1,17 @@
-use Rattle.std.proofs.Common.{◌≡◌, sym, ◌∙◌, ap, subst, List}
-use Rattle.standby_row.specs.declared.Bound.{Bound}
-use Rattle.standby_row.specs.declared.Lookup.{Lookup}
-use Rattle.standby_row.specs.Row.{cleared_from}
-use Rattle.replica.specs.Making.{MakeIs, MadeOver}
-use Rattle.replica.proofs.Making.{made_over}
+use Rattle.std.proofs.Common.{sym, ◌∙◌, ap}
+use Rattle.standby_state.specs.Answers.{is_refused}
+use Rattle.replica.proofs.Making.{one_inside, not_made, made}
 use Rattle.replica.proofs.make.Goals as goal
+
+pub returns-then-not-allowed : goal.returns-then-not-allowed
+returns-then-not-allowed c =
+    let a = c.args in
+    not_made a.settings a.counters.now a.row.now a.words.now a.bytes.now (sym c.allowed.ensures ∙ c.if-not-allowed.true) (c.refused.ensures ∙ ap is_refused c.number.ensures)
+
+pub bounds-words-1 : goal.bounds-words-1
+bounds-words-1 c = one_inside c.args.settings c.args.words.now c.args.bytes.now (sym c.allowed.ensures ∙ c.if-not-allowed.false)
 
 pub returns : goal.returns
 returns c =
     let a = c.args in
-    let o = c.made-o.result in
-    let made = subst (λ (v : Lookup). MakeIs a.settings a.counters.now v a.words.now c.made-o.new.words a.bytes.now o) c.find-seen.ensures c.made-o.ensures in
-    subst (λ (r : List Bound). MadeOver a.settings a.counters.now o.replica a.row.now r a.words.now c.made-o.new.words a.bytes.now o.answer)
-    (sym (c.clear.ensures ∙ ap (cleared_from o.from) c.insert.ensures))
-    (made_over a.settings a.counters.now a.row.now a.words.now c.made-o.new.words a.bytes.now o made)
+    made a.settings a.counters.now a.row.now a.words.now a.bytes.now (sym c.allowed.ensures ∙ c.if-not-allowed.false) c.done.ensures c.new.ensures c.clear.ensures

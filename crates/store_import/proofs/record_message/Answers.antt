@@ -1,33 +1,25 @@
-use Rattle.std.proofs.Common.{arith}
-use Rattle.store_import.proofs.Recording.{skipped_rules, skipped_used, skipped_next, skipped, follows, next_is}
+use Rattle.std.proofs.Common.{subst, [], ◌∷◌}
+use Rattle.model_frame.specs.Frame.{record_msg}
+use Rattle.model_standby.specs.Store.{changed}
+use Rattle.store_areas.specs.declared.Shape.{Shape}
+use Rattle.store_areas.specs.Areas.{Changed}
+use Rattle.store_import.proofs.Recording.{skipped_next, skipped}
 use Rattle.store_import.proofs.record_message.Goals as goal
 
-pub record-requires : goal.record-requires
-record-requires c =
+pub record-requires-clause-seq_value : goal.record-requires-clause-seq_value
+record-requires-clause-seq_value c =
     let a = c.args in
-    let p = c.requires in
+    let s = a.store.now in
     let r = c.record_none in
-    record {
-      rules = skipped_rules a.shape a.i a.words.now a.bytes.now p.rules p.i_bound a.next a.seq a.text.now p.next_value c.if-next-seq.true r.new.words r.ensures;
-      place_bound = skipped_used a.shape a.i a.words.now a.bytes.now p.rules p.i_bound a.next a.seq a.text.now p.next_value c.if-next-seq.true r.new.words r.ensures;
-      seq_value = skipped_next a.shape a.i a.words.now a.bytes.now p.rules p.i_bound a.next a.seq a.text.now p.next_value c.if-next-seq.true r.new.words r.ensures;
-      seq_bound = p.seq_bound;
-    }
+    rw r.ensures.same.shape (skipped_next s.shape a.place s.words.now s.bytes.now c.requires.place_bound a.next a.seq a.text.now c.if-next-seq.true r.new.store.words.now r.new.store.bytes.now r.ensures.is)
 
-pub returns-then-next-seq : goal.returns-then-next-seq
-returns-then-next-seq c =
+pub returns-then-next-seq-clause-is : goal.returns-then-next-seq-clause-is
+returns-then-next-seq-clause-is c =
     let a = c.args in
-    let p = c.requires in
-    skipped a.shape a.i a.words.now a.bytes.now p.rules p.i_bound a.next a.seq a.text.now p.next_value c.if-next-seq.true c.record_none.new.words c.record_none.ensures c.«record».new.words c.«record».new.bytes c.«record».ensures
-
-pub record-requires-2-clause-seq_value : goal.record-requires-2-clause-seq_value
-record-requires-2-clause-seq_value c =
-    let a = c.args in
-    let p = c.requires in
-    next_is a.shape a.i a.words.now a.bytes.now p.rules p.i_bound a.next a.seq a.text.now p.next_value p.next_le_seq (omega arith)
-
-pub returns : goal.returns
-returns c =
-    let a = c.args in
-    let p = c.requires in
-    follows a.shape a.i a.words.now a.bytes.now p.rules p.i_bound a.next a.seq a.text.now p.next_value p.next_le_seq (omega arith) c.record-2.new.words c.record-2.new.bytes c.record-2.ensures
+    let s = a.store.now in
+    let r = c.record_none in
+    let t = r.new.store in
+    let u = c.«record».new.store in
+    let d : Changed s.shape a.place (changed s.shape.bytes s.shape.messages (record_msg a.seq a.text.now ∷ [])) t.words.now u.words.now t.bytes.now u.bytes.now =
+    subst (λ (q : Shape). Changed q a.place (changed q.bytes q.messages (record_msg a.seq a.text.now ∷ [])) t.words.now u.words.now t.bytes.now u.bytes.now) r.ensures.same.shape c.«record».ensures.is in
+    skipped s.shape a.place s.words.now s.bytes.now c.requires.place_bound a.next a.seq a.text.now c.if-next-seq.true t.words.now t.bytes.now r.ensures.is u.words.now u.bytes.now d

@@ -4,4 +4,4 @@ use Rattle.store_place.proofs.has_key.Goals as goal
 
 pub returns : goal.returns
 unfolding stored_key
-returns c = λ i. c.same_field.ensures i && (c.same_field-2.ensures i && (c.same_field-3.ensures i && c.same_field-4.ensures i))
+returns c = λ i. c.is_text.ensures i && (c.is_text-2.ensures i && (c.is_text-3.ensures i && c.is_text-4.ensures i))

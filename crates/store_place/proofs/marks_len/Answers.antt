@@ -5,14 +5,14 @@ use Rattle.store_place.proofs.Texts.{field_length, valid_text, no_text}
 use Rattle.store_place.proofs.marks_len.Goals as goal
 
 pub returns-then-is_marks-clause-within : goal.returns-then-is_marks-clause-within
-returns-then-is_marks-clause-within c = field_length c.args.bytes.now 160 64 (get_or c.args.words.now 6 0) _ c.field-marks.ensures
+returns-then-is_marks-clause-within c = field_length c.args.bytes.now 160 64 (get_or c.args.words.now 6 0) _ c.text_in-marks.ensures
 
 pub returns-then-is_marks-clause-is : goal.returns-then-is_marks-clause-is
 unfolding marks_of
 returns-then-is_marks-clause-is c =
-    valid_text is_marks c.args.bytes.now 160 64 (get_or c.args.words.now 6 0) _ _ c.field-marks.ensures c.is_marks.ensures c.if-is_marks.true
+    valid_text is_marks c.args.bytes.now 160 64 (get_or c.args.words.now 6 0) _ _ c.text_in-marks.ensures c.is_marks.ensures c.if-is_marks.true
 
 pub returns-else-is_marks-clause-is : goal.returns-else-is_marks-clause-is
 unfolding marks_of
 returns-else-is_marks-clause-is c =
-    no_text is_marks c.args.bytes.now 160 64 (get_or c.args.words.now 6 0) _ _ c.field-marks.ensures c.is_marks.ensures c.if-is_marks.false
+    no_text is_marks c.args.bytes.now 160 64 (get_or c.args.words.now 6 0) _ _ c.text_in-marks.ensures c.is_marks.ensures c.if-is_marks.false

@@ -5,5 +5,10 @@ use Rattle.store_place.proofs.new_session.Goals as goal
 pub returns : goal.returns
 returns c C =
     let a = c.args in
-    new_place_lem C a.max a.begin.now a.sender.now a.target.now a.suffix.now a.bytes.now c.put_text.new.bytes c.put_text-2.new.bytes c.put_text-3.new.bytes c.put_text-4.new.bytes a.words.now c.reset.new.words (omega arith)
-    c.put_text.ensures c.put_text-2.ensures c.put_text-3.ensures c.put_text-4.ensures (c.reset.ensures C c.put_text-4.new.bytes)
+    let k = a.key.now in
+    let p0 = c.put_text.ensures in
+    let p1 = c.put_text-2.ensures in
+    let p2 = c.put_text-3.ensures in
+    let p3 = c.put_text-4.ensures in
+    new_place_lem C a.max k.begin.now k.sender.now k.target.now k.suffix.now _ _ _ _ _ a.words.now c.reset.new.words (omega arith)
+    p0.text p1.text p2.text p3.text (rw (p3.length, p2.length, p1.length, p0.length) at (c.reset.ensures C c.put_text-4.new.bytes))

@@ -1,5 +1,5 @@
 use Rattle.store_place.proofs.Fields.{put_text}
 use Rattle.store_place.proofs.put_text.Goals as goal
 
-pub returns : goal.returns
-returns c = put_text _ _ _ _ _ c.requires.size_in_bounds c.requires.text_len_bound c.copy_into.ensures
+pub returns-clause-text : goal.returns-clause-text
+returns-clause-text c = put_text _ _ _ _ _ c.requires.size_in_bounds c.requires.text_len_bound c.copy_into.ensures

@@ -7,4 +7,4 @@ pub put_text-requires-clause-text_len_bound : goal.put_text-requires-clause-text
 put_text-requires-clause-text_len_bound c = omega (arith, stamp_is _ c.requires.text_value)
 
 pub returns : goal.returns
-returns c C M = stamped C M c.args.text.now c.args.bytes.now c.put_text.new.bytes c.args.words.now (omega arith) c.put_text.ensures c.requires.text_value
+returns c C M = rw c.put_text.ensures.length (stamped C M c.args.text.now c.args.bytes.now c.put_text.new.bytes c.args.words.now (omega arith) c.put_text.ensures.text c.requires.text_value)

@@ -5,14 +5,14 @@ use Rattle.store_place.proofs.Texts.{field_length, valid_text, no_text}
 use Rattle.store_place.proofs.stamp_len.Goals as goal
 
 pub returns-then-is_stamp-clause-within : goal.returns-then-is_stamp-clause-within
-returns-then-is_stamp-clause-within c = field_length c.args.bytes.now 128 32 (get_or c.args.words.now 5 0) _ c.field-stamp.ensures
+returns-then-is_stamp-clause-within c = field_length c.args.bytes.now 128 32 (get_or c.args.words.now 5 0) _ c.text_in-stamp.ensures
 
 pub returns-then-is_stamp-clause-is : goal.returns-then-is_stamp-clause-is
 unfolding stamp_of
 returns-then-is_stamp-clause-is c =
-    valid_text is_stamp c.args.bytes.now 128 32 (get_or c.args.words.now 5 0) _ _ c.field-stamp.ensures c.is_stamp.ensures c.if-is_stamp.true
+    valid_text is_stamp c.args.bytes.now 128 32 (get_or c.args.words.now 5 0) _ _ c.text_in-stamp.ensures c.is_stamp.ensures c.if-is_stamp.true
 
 pub returns-else-is_stamp-clause-is : goal.returns-else-is_stamp-clause-is
 unfolding stamp_of
 returns-else-is_stamp-clause-is c =
-    no_text is_stamp c.args.bytes.now 128 32 (get_or c.args.words.now 5 0) _ _ c.field-stamp.ensures c.is_stamp.ensures c.if-is_stamp.false
+    no_text is_stamp c.args.bytes.now 128 32 (get_or c.args.words.now 5 0) _ _ c.text_in-stamp.ensures c.is_stamp.ensures c.if-is_stamp.false

@@ -1,9 +1,10 @@
 use Rattle.store_resend.specs.Passes.{Counting}
-use Rattle.store_resend.specs.Ranges.{ranges_from}
+use Rattle.store_resend.specs.Ranges.{ranges_of}
 use Rattle.store_resend.proofs.count.Given as goal
 
-abbrev pub invariant-loop-left : goal.invariant-loop-left
-invariant-loop-left l = Counting l.shape l.words l.bytes l.i (ranges_from l.ranges 0 l.n) l.first l.back l.left l.dist l.tally l.kept
+abbrev pub invariant-loop-from : goal.invariant-loop-from
+invariant-loop-from l =
+    Counting l.rest.view.now.shape l.rest.view.now.words.now l.rest.view.now.bytes.now l.rest.place (ranges_of l.ranges.words.now) l.rest.from.left l.rest.from.dist l.from.left l.from.dist l.tally l.kept
 
-abbrev pub decreases-loop-left : goal.decreases-loop-left
-decreases-loop-left l = l.left
+abbrev pub decreases-loop-from : goal.decreases-loop-from
+decreases-loop-from l = l.from.left

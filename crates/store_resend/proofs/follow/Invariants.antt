@@ -3,9 +3,9 @@ use Rattle.store_resend.specs.declared.Tally.{Tally}
 use Rattle.store_resend.specs.Passes.{Carries}
 use Rattle.store_resend.proofs.follow.Given as goal
 
-abbrev pub invariant-loop-left : goal.invariant-loop-left
-invariant-loop-left l =
-    (t : Tally) → t.length ≡ l.initial.length → Carries l.shape l.words l.bytes l.i l.kept l.first l.back t l.initial.entries l.left l.dist (record { length = l.length; bytes = t.bytes + (l.back - l.dist) }) l.entries
+abbrev pub invariant-loop-from : goal.invariant-loop-from
+invariant-loop-from l =
+    (t : Tally) → t.length ≡ l.initial.length → Carries l.rest.view.now.shape l.rest.view.now.words.now l.rest.view.now.bytes.now l.rest.place l.kept l.rest.from.left l.rest.from.dist t l.initial.entries l.from.left l.from.dist (record { length = l.length; bytes = t.bytes + (l.rest.from.dist - l.from.dist) }) l.entries
 
-abbrev pub decreases-loop-left : goal.decreases-loop-left
-decreases-loop-left l = l.left
+abbrev pub decreases-loop-from : goal.decreases-loop-from
+decreases-loop-from l = l.from.left

@@ -1,9 +1,5 @@
-use Rattle.std.proofs.Common.{arith}
-use Rattle.store_resend.specs.Ranges.{ranges_from}
 use Rattle.store_resend.proofs.Passes.{room_all}
 use Rattle.store_resend.proofs.has_room.Goals as goal
 
-pub returns-then-first-room : goal.returns-then-first-room
-returns-then-first-room c =
-    let a = c.args in
-    room_all a.shape a.words.now a.bytes.now a.i a.first a.room (ranges_from a.ranges.now 0 a.n) (omega arith)
+pub returns-then-rest-room : goal.returns-then-rest-room
+returns-then-rest-room c = room_all _ _ _ _ _ _ _ c.if-rest-room.true

@@ -1,8 +1,8 @@
 use Rattle.store_resend.specs.Passes.{PassesOver}
 use Rattle.store_resend.proofs.pass_over.Given as goal
 
-abbrev pub invariant-loop-left : goal.invariant-loop-left
-invariant-loop-left l = PassesOver l.shape l.words l.bytes l.i l.kept l.first l.back l.left l.dist
+abbrev pub invariant-loop-from : goal.invariant-loop-from
+invariant-loop-from l = PassesOver l.rest.view.now.shape l.rest.view.now.words.now l.rest.view.now.bytes.now l.rest.place l.kept l.rest.from.left l.rest.from.dist l.from.left l.from.dist
 
-abbrev pub decreases-loop-left : goal.decreases-loop-left
-decreases-loop-left l = l.left
+abbrev pub decreases-loop-from : goal.decreases-loop-from
+decreases-loop-from l = l.from.left

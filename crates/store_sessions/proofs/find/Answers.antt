@@ -6,8 +6,8 @@ use Rattle.store_sessions.proofs.find.Goals as goal
 pub returns-then-not-allowed : goal.returns-then-not-allowed
 returns-then-not-allowed c = not_sought _ _ _ _ (sym c.allowed.ensures ∙ c.if-not-allowed.true)
 
-pub place_of-requires : goal.place_of-requires
-place_of-requires c = rules_of _ _ _ (sym c.allowed.ensures ∙ c.if-not-allowed.false)
+pub invariant_of-view-clause-rules : goal.invariant_of-view-clause-rules
+invariant_of-view-clause-rules c = rules_of _ _ _ (sym c.allowed.ensures ∙ c.if-not-allowed.false)
 
 pub returns : goal.returns
 returns c = sought _ _ _ _ _ (sym c.allowed.ensures ∙ c.if-not-allowed.false) c.place_of.ensures

@@ -3,4 +3,4 @@ use Rattle.store_areas.proofs.Reading.{out_is}
 use Rattle.store_sessions.proofs.next_outgoing.Goals as goal
 
 pub returns : goal.returns
-returns c = c.next_outgoing.ensures ∙ out_is c.args.shape c.args.place _ _ _ _ c.args.words.now c.args.bytes.now c.spot_in-spot.ensures c.requires.rules c.requires.place_bound
+returns c = c.next_outgoing.ensures ∙ out_is c.args.view.now.shape c.args.place _ _ _ _ c.args.view.now.words.now c.args.view.now.bytes.now c.spot-spot.ensures c.args.view.now.rules c.requires

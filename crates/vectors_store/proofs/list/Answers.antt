@@ -1,13 +1,9 @@
-use Rattle.std.proofs.Common.{sym, ◌∙◌, arith}
+use Rattle.std.proofs.Common.{sym, ◌∙◌}
 use Rattle.store_areas.proofs.Ruling.{in_use_of}
 use Rattle.vectors_store.proofs.list.Goals as goal
 
-pub messages_from-position-requires : goal.messages_from-position-requires
-messages_from-position-requires g c =
-    let u = in_use_of _ _ _ _ (sym c.in_use.ensures ∙ c.if-in_use.true) in
-    record { rules = u.rules; place_bound = u.at; le_low = omega arith }
+pub invariant_of-view-clause-rules : goal.invariant_of-view-clause-rules
+invariant_of-view-clause-rules g c = (in_use_of _ _ _ _ (sym c.in_use.ensures ∙ c.if-in_use.true)).rules
 
-pub message_at-message-requires : goal.message_at-message-requires
-message_at-message-requires g c =
-    let u = in_use_of _ _ _ _ (sym c.in_use.ensures ∙ c.if-in_use.true) in
-    record { rules = u.rules; place_bound = u.at; position_at = c.loop-position.invariant; le_left = c.loop-position-test.true }
+pub spot-spot-requires : goal.spot-spot-requires
+spot-spot-requires g c = (in_use_of _ _ _ _ (sym c.in_use.ensures ∙ c.if-in_use.true)).at

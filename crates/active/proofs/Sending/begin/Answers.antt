@@ -1,6 +1,8 @@
-use Rattle.std.proofs.Common.{arith}
+use Rattle.std.proofs.Common.{arith, ap, ◌∙◌, length}
+use Rattle.model_session.specs.Session.{Session}
+use Rattle.model_session.specs.Whole.{batch_limit, whole_batches}
 use Rattle.active.specs.Whole.{start_from}
-use Rattle.active.proofs.Storing.{rules_hold, is_held, not_held}
+use Rattle.active.proofs.Storing.{rules_hold, is_held, not_held, lent_session}
 use Rattle.active.proofs.Calling.{numbers_past, numbers_fit}
 use Rattle.active.proofs.Sending.begin.Goals as goal
 
@@ -10,17 +12,21 @@ returns-then-not-in_use c =
     let a = c.args in
     record { start = rw (not_held a.shape a.words.now a.bytes.now a.place c.in_use.result c.in_use.ensures c.if-not-in_use.true) }
 
-pub batches_at-count-requires-clause-rules : goal.batches_at-count-requires-clause-rules
-batches_at-count-requires-clause-rules c =
+pub invariant_of-view-clause-rules : goal.invariant_of-view-clause-rules
+invariant_of-view-clause-rules c =
     let a = c.args in
     rules_hold a.shape a.words.now a.bytes.now a.place c.in_use.result c.in_use.ensures c.if-not-in_use.false
 
 pub returns-then-last-count : goal.returns-then-last-count
 returns-then-last-count c =
     let a = c.args in
-    record { start = rw (is_held a.shape a.words.now a.bytes.now a.place c.in_use.result c.in_use.ensures c.if-not-in_use.false) (numbers_past _ _ _ _ _ _ _ c.batches_at-count.ensures.is (omega arith) c.if-last-count.true) }
+    let same = lent_session a.shape a.words.now a.bytes.now a.place _ _ _ c.place.ensures.is c.place.ensures.max in
+    let count = c.batches-count.ensures.is a.shape.bytes c.place.ensures.long ∙ ap (λ (x : Session). length (whole_batches batch_limit x)) same in
+    record { start = rw (is_held a.shape a.words.now a.bytes.now a.place c.in_use.result c.in_use.ensures c.if-not-in_use.false) (numbers_past _ _ _ _ _ _ _ count (omega arith) c.if-last-count.true) }
 
 pub returns : goal.returns
 returns c =
     let a = c.args in
-    record { start = rw (is_held a.shape a.words.now a.bytes.now a.place c.in_use.result c.in_use.ensures c.if-not-in_use.false) (numbers_fit _ _ _ _ _ _ _ c.batches_at-count.ensures.is (omega arith) c.if-last-count.false) }
+    let same = lent_session a.shape a.words.now a.bytes.now a.place _ _ _ c.place.ensures.is c.place.ensures.max in
+    let count = c.batches-count.ensures.is a.shape.bytes c.place.ensures.long ∙ ap (λ (x : Session). length (whole_batches batch_limit x)) same in
+    record { start = rw (is_held a.shape a.words.now a.bytes.now a.place c.in_use.result c.in_use.ensures c.if-not-in_use.false) (numbers_fit _ _ _ _ _ _ _ count (omega arith) c.if-last-count.false) }

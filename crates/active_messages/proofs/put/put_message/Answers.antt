@@ -1,5 +1,5 @@
-use Rattle.active_messages.proofs.Putting.{wrote_pieces}
+use Rattle.base_laws.proofs.Writes.{wrote_on}
 use Rattle.active_messages.proofs.put.put_message.Goals as goal
 
 pub returns : goal.returns
-returns c = wrote_pieces c.args.bytes.now c.args.start c.args.first c.copy-pos.ensures c.copy.ensures
+returns c = wrote_on c.copy-pos.ensures c.copy.ensures

@@ -1,8 +1,5 @@
-use Rattle.active_messages.proofs.Putting.{wrote_skip, skip_nothing, skip_room}
+use Rattle.active_messages.proofs.Putting.{wrote_skip, skip_nothing}
 use Rattle.active_messages.proofs.put.put_skip.Goals as goal
-
-pub tagged-requires : goal.tagged-requires
-tagged-requires c = skip_room _ _ _ _ c.if-next-n.true c.requires
 
 pub returns-then-next-n : goal.returns-then-next-n
 returns-then-next-n c = wrote_skip _ _ _ c.if-next-n.true c.tagged.ensures.wrote

@@ -1,6 +1,0 @@
-use Rattle.std.proofs.Common.{◌==◌, position, ap, ◌∙◌}
-use Rattle.active_books_area.proofs.Area.{found_met}
-use Rattle.active_books_area.proofs.find_met.Goals as goal
-
-pub returns : goal.returns
-returns c = found_met c.args.words.now c.args.session _ c.requires (c.find_in.ensures ∙ ap (position (λ x. x == c.args.session)) c.met.ensures)

@@ -1,0 +1,2 @@
+-- What a call does to the words of a place.
+pub mod Calls

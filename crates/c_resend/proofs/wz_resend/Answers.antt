@@ -1,4 +1,0 @@
-use Rattle.c_resend.proofs.wz_resend.Goals as goal
-
-pub returns : goal.returns
-returns c = rw c.of.ensures c.list.ensures

@@ -1,7 +1,0 @@
-use Rattle.model_frame.specs.Writing.{body_bytes}
-use Rattle.base_laws.proofs.Writes.{wrote_on}
-use Rattle.frame_encode.proofs.put_welcome.Goals as goal
-
-pub returns : goal.returns
-unfolding body_bytes
-returns c = wrote_on c.tagged-at.ensures.wrote c.put_at.ensures.wrote

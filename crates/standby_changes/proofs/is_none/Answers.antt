@@ -1,6 +1,0 @@
-use mathlib.Core.Path.{◌∙◌}
-use Rattle.standby_changes.proofs.Steps.{none_told}
-use Rattle.standby_changes.proofs.is_none.Goals as goal
-
-pub returns : goal.returns
-returns c = c.is_err.ensures.value ∙ none_told _ c.args.run.now (λ i. (c.type_inv.run i).fits) c.read_op.new.reader c.read_op.result c.read_op.ensures.read

@@ -1,0 +1,20 @@
+// A run of changes with the protocol under which it is read.
+
+ghost use Rattle.standby_changes.specs.Held.{AreBytes, TakesAll};
+
+use frame_stamp::Protocol;
+
+// The changes that can be read one after the other from the start of some bytes.
+#[derive(Clone, Copy)]
+pub struct Changes<'a> {
+    pub protocol: Protocol,
+    pub run: &'a [u8],
+    ghost octets: { AreBytes run.now },
+}
+
+// Changes that take all of their bytes.
+#[derive(Clone, Copy)]
+pub struct AllChanges<'a> {
+    pub changes: Changes<'a>,
+    ghost takes_all: { TakesAll changes.protocol.version changes.run.now },
+}
