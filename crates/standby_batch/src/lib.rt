@@ -1,5 +1,5 @@
 // A Batch on the row's record of its handle (standby.rs, on_batch): 13 application records, Nack StaleEpoch, the epoch, then the handle.
-// The areas come apart: of a struct with a store and hold areas it isn't found what these are at the end.
+// The areas come apart: a Store has the shape that the settings have too, and each function would have to ask that both are the same.
 #![tactic(auto)]
 
 ghost use Rattle.std.specs.Prelude.{◌≡◌, true, ◌&&◌, ◌<◌, eqb, ltb};

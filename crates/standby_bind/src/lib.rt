@@ -1,5 +1,5 @@
 // Bind (standby.rs, an arm of `answer`): a handle is bound to the session of a key, which is opened if it is new, and its summary is answered.
-// The areas come apart: of a struct with a store and hold areas it isn't found what these are at the end.
+// The areas come apart: a Store has the shape that the settings have too, and each function would have to ask that both are the same.
 #![tactic(auto)]
 
 ghost use Rattle.std.specs.Prelude.{◌≡◌, ◌||◌, ◌<◌, ◌≤◌, get_or, ltb};

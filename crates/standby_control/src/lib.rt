@@ -1,5 +1,5 @@
 // Frames that are no Batch: pending commits run first, then Hello, Bind, Checked, or 19 (standby.rs, on_frame_held).
-// The areas come apart: of a struct with a store and hold areas it isn't found what these are at the end.
+// The areas come apart: a Store has the shape that the settings have too, and each function would have to ask that both are the same.
 #![tactic(auto)]
 
 ghost use Rattle.std.specs.Prelude.{◌≡◌, false, ◌≤◌, length};
