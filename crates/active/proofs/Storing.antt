@@ -15,11 +15,10 @@ use Rattle.model_session.proofs.Basics.{none≢some, some_inj}
 use Rattle.model_standby.specs.Store.{Place, session_at}
 use Rattle.store_place.specs.Place.{session_of, place_in}
 use Rattle.store_areas.specs.declared.Shape.{Shape}
-use Rattle.store_areas.specs.Areas.{allowed, Rules, place_at, places_of}
+use Rattle.store_areas.specs.Areas.{allowed, place_at, places_of}
 use Rattle.store_log.proofs.Lawful.{Small}
 use Rattle.store_areas.proofs.Holding.{all_holdable}
 use Rattle.store_areas.proofs.Lifting.{places_length, session_is}
-use Rattle.store_areas.proofs.Ruling.{rules_of}
 use Rattle.active.specs.Whole.{stored_at}
 
 beyond : (ps : List Place) (i : ℕ) → length ps ≤ i → get_elem? ps i ≡ none
@@ -35,9 +34,6 @@ module _ (s : Shape) (w b : List ℕ) (i : ℕ) where
   held = (place_at s w b i).stored.session
 
   module _ (t : Bool) (e : t ≡ (allowed s w b && ltb i (get_or w 0 0))) where
-    pub rules_hold : t ≡ true → Rules s w b
-    rules_hold k = rules_of s w b (and_l (allowed s w b) (ltb i (get_or w 0 0)) (sym e ∙ k))
-
     pub in_use : t ≡ true → i < get_or w 0 0
     in_use k = ltb-true i (get_or w 0 0) (and_r (allowed s w b) (ltb i (get_or w 0 0)) (sym e ∙ k))
 

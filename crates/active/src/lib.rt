@@ -46,14 +46,7 @@ impl Sending {
     ) -> Result<Sending, Refusal>
         ensures { Begins batch_limit shape words.now bytes.now place handle epoch.0 last.0 result }
     {
-        if !store_areas::in_use(words, bytes, shape, place) {
-            return Err(Refusal::RulesBroken);
-        }
-        let view = View {
-            words,
-            bytes,
-            shape,
-        };
+        let view = View::with_place(shape, words, bytes, place)?;
         let count = active_batch::batches(&view.place(place), Self::SNAPSHOT_BATCH_BYTES);
         if u64::MAX - last.0 < count as u64 {
             return Err(Refusal::NumbersPast);
@@ -78,9 +71,7 @@ impl Sending {
     ) -> Result<Option<Sent>, Refusal>
         ensures { SendsWhole batch_limit shape words.now bytes.now self out.old out.new result }
     {
-        if !store_areas::in_use(words, bytes, shape, self.place) {
-            return Err(Refusal::RulesBroken);
-        }
+        let view = View::with_place(shape, words, bytes, self.place)?;
         let Some(from) = self.from else {
             return Ok(None);
         };
@@ -88,11 +79,6 @@ impl Sending {
             return Err(Refusal::RulesBroken);
         }
         let last = CommitNumber(self.last.0 + 1);
-        let view = View {
-            words,
-            bytes,
-            shape,
-        };
         let batch = SendBatch {
             from,
             limit: Self::SNAPSHOT_BATCH_BYTES,

@@ -11,14 +11,14 @@ use Rattle.model_frame.specs.Writing.{change_bytes, part_number, body_bytes, enc
 use Rattle.model_frame.specs.Sizes.{sizes}
 use Rattle.model_frame.proofs.Runs.{run_append, sizes_append}
 use Rattle.model_frame.proofs.Sizes.{body_size_lem, encode_size}
-use Rattle.base_laws.specs.Wrote.{Wrote}
-use Rattle.base_laws.proofs.Writes.{wrote_on}
+use Rattle.base_bytes.specs.declared.writer.Writer.{Writer}
+use Rattle.base_bytes.specs.Put.{Put}
+use Rattle.base_bytes.proofs.Puts.{put_on}
 use Rattle.active_header.specs.Ends.{Spans}
 
 -- three runs of changes, one after another
-pub wrote_three : (xs ys zs : List Change) {l l₁ l₂ l₃ : List ℕ} {at p q r : ℕ} → Wrote l at (run_bytes change_bytes xs) l₁ p → Wrote l₁ p (run_bytes change_bytes ys) l₂ q
-    → Wrote l₂ q (run_bytes change_bytes zs) l₃ r → Wrote l at (run_bytes change_bytes (xs ++ (ys ++ zs))) l₃ r
-wrote_three xs ys zs w v u = rw (run_append change_bytes xs (ys ++ zs), run_append change_bytes ys zs) (wrote_on w (wrote_on v u))
+pub put_three : (xs ys zs : List Change) {w v u t : Writer} → Put w (run_bytes change_bytes xs) v → Put v (run_bytes change_bytes ys) u → Put u (run_bytes change_bytes zs) t → Put w (run_bytes change_bytes (xs ++ (ys ++ zs))) t
+put_three xs ys zs p q r = rw (run_append change_bytes xs (ys ++ zs), run_append change_bytes ys zs) (put_on p (put_on q r))
 
 pub three_sizes : (xs ys zs : List Change) → sizes (xs ++ (ys ++ zs)) ≡ sizes xs + sizes ys + sizes zs
 three_sizes xs ys zs = omega (arith, sizes_append xs (ys ++ zs), sizes_append ys zs)
@@ -40,12 +40,12 @@ encode_is h e n p cs =
     rw size (body_is (bytes_of 4 (30 + sizes cs)) h e n p cs)
 
 -- its length, the head, the changes, and no application record
-pub wrote_frame : (l : List ℕ) (h e n : ℕ) (p : Part) (cs : List Change) {count size o at pos r : ℕ} {l₁ l₂ l₃ l₄ : List ℕ} → Spans cs count size
-    → Wrote l 0 (bytes_of 4 (30 + size)) l₁ o → Wrote l₁ o (4 ∷ bytes_of 4 h ++ bytes_of 8 e ++ bytes_of 8 n ++ part_number p ∷ bytes_of 4 count) l₂ at
-    → Wrote l₂ at (run_bytes change_bytes cs) l₃ pos → Wrote l₃ pos (bytes_of 4 0) l₄ r → l₄ ≡ write l 0 (encode (batch h e n p cs []))
-wrote_frame l h e n p cs s a b c d =
-    let w = wrote_on (wrote_on (wrote_on a b) c) d in
-    rw (encode_is h e n p cs) (rw (s.counts, s.sums) at w.bytes)
+pub put_whole : (h e n : ℕ) (p : Part) (cs : List Change) {count size : ℕ} {last : List ℕ} {w₀ w₁ w₂ w₃ w₄ : Writer} → Spans cs count size
+    → Put w₀ (bytes_of 4 (30 + size)) w₁ → Put w₁ (4 ∷ bytes_of 4 h ++ bytes_of 8 e ++ bytes_of 8 n ++ part_number p ∷ bytes_of 4 count) w₂
+    → Put w₂ (run_bytes change_bytes cs) w₃ → Put w₃ (bytes_of 4 0) w₄ → last ≡ w₄.out.now → last ≡ write w₀.out.now w₀.at (encode (batch h e n p cs []))
+put_whole h e n p cs s a b c d q =
+    let w = put_on (put_on (put_on a b) c) d in
+    rw (encode_is h e n p cs) (q ∙ (rw (s.counts, s.sums) at w.wrote.bytes))
 
 pub frame_length : (h e n : ℕ) (p : Part) (cs : List Change) {count size : ℕ} → Spans cs count size → length (encode (batch h e n p cs [])) ≡ 34 + size
 frame_length h e n p cs s = omega (arith, encode_size (batch h e n p cs []), s.sums)

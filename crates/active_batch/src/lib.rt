@@ -8,7 +8,7 @@ ghost use Rattle.model_frame.specs.Parse.{run_bytes};
 ghost use Rattle.model_frame.specs.Writing.{change_bytes, encode};
 ghost use Rattle.model_frame.specs.Sizes.{sizes};
 ghost use Rattle.model_session.specs.Whole.{whole_batches};
-ghost use Rattle.base_laws.specs.Wrote.{Wrote};
+ghost use Rattle.base_bytes.specs.Put.{Put};
 ghost use Rattle.frame_fields.specs.Answers.{part_of};
 ghost use Rattle.store_log.specs.Log.{Position};
 ghost use Rattle.store_place.specs.Place.{session_of};
@@ -16,7 +16,7 @@ ghost use Rattle.active_batch.specs.Batch.{planned_changes, Planned, part_is, Wr
 
 use active_header::header::Header;
 use active_messages::Extent;
-use base_bytes::LittleEndian;
+use base_bytes::Writer;
 use base_refusals::Refusal;
 use frame_fields::{CommitNumber, Epoch, Part};
 use store_log::LogPosition;
@@ -24,7 +24,6 @@ use store_log::log::Log;
 use store_place::place::Place;
 
 // A batch before it is written.
-#[repr(C)]
 #[derive(Clone, Copy)]
 pub struct Plan {
     // The position in the log where its messages begin.
@@ -32,7 +31,7 @@ pub struct Plan {
     // The next outgoing number before it, and after it.
     pub next: u64,
     pub resume_from: u64,
-    // Whether it is the last.
+    // Whether it is the last. Apart from `resume_from`: the last batch's ending needs that number too.
     pub last: bool,
     // Its changes.
     pub extent: Extent,
@@ -40,7 +39,6 @@ pub struct Plan {
 
 // Which batch is written: the number that it begins at, the message bytes above which it is full, and the frame's handle, epoch
 // and commit number.
-#[repr(C)]
 #[derive(Clone, Copy)]
 pub struct SendBatch {
     pub from: u64,
@@ -87,29 +85,15 @@ fn plan_from(header: &Header, log: &Log, from: u64, limit: u64) -> Plan
 // ---- the frame
 
 // Writes the changes of a batch that goes by a plan.
-fn put_changes(
-    header: &Header,
-    log: &Log,
-    batch: SendBatch,
-    plan: Plan,
-    out: &mut [u8],
-    at: usize,
-) -> usize
+fn put_changes(header: &Header, log: &Log, batch: SendBatch, plan: Plan, writer: &mut Writer)
     requires bytes_len_bound { length log.now.bytes.now ≤ 33554432 }
     requires position { Position (length log.now.bytes.now) log.now.max log.now.next log.now.words.now log.now.bytes.now plan.position.left plan.position.dist }
-    requires plan_in_bounds { at + sizes (planned_changes batch.limit header.now log.now batch.from plan) ≤ length out.old }
-    ensures { Wrote out.old at (run_bytes change_bytes (planned_changes batch.limit header.now log.now batch.from plan)) out.new result }
+    requires plan_in_bounds { writer.old.at + sizes (planned_changes batch.limit header.now log.now batch.from plan) ≤ length writer.old.out.now }
+    ensures { Put writer.old (run_bytes change_bytes (planned_changes batch.limit header.now log.now batch.from plan)) writer.new }
 {
-    let opened = active_header::put_opening(header, batch.from, out, at);
-    let pos = active_messages::put_messages(
-        log,
-        plan.position,
-        plan.next,
-        batch.limit,
-        out,
-        opened,
-    );
-    active_header::put_ending(header, plan.last, plan.resume_from, out, pos)
+    active_header::put_opening(header, batch.from, writer);
+    active_messages::put_messages(log, plan.position, plan.next, batch.limit, writer);
+    active_header::put_ending(header, plan.last, plan.resume_from, writer);
 }
 
 fn part_of(last: bool) -> Part
@@ -125,20 +109,18 @@ fn put_frame(header: &Header, log: &Log, batch: SendBatch, plan: Plan, out: &mut
     requires size_in_bounds { 34 + plan.extent.size ≤ length out.old }
     ensures { out.new ≡ write out.old 0 (encode (the_frame.batch batch.handle batch.epoch.0 batch.commit_no.0 (part_is plan.last) (planned_changes batch.limit header.now log.now batch.from plan) [])) }
 {
-    let epoch = batch.epoch;
-    let commit_no = batch.commit_no;
-    let at = ((30 + plan.extent.size) as u32).put_at(out, 0);
-    let at = frame_encode::put_head(
-        out,
-        at,
+    let mut writer = Writer { out, at: 0 };
+    writer.number((30 + plan.extent.size) as u32);
+    frame_encode::put_head(
         batch.handle,
-        epoch,
-        commit_no,
+        batch.epoch,
+        batch.commit_no,
         part_of(plan.last),
         plan.extent.count as u32,
+        &mut writer,
     );
-    let pos = put_changes(header, log, batch, plan, out, at);
-    0u32.put_at(out, pos);
+    put_changes(header, log, batch, plan, &mut writer);
+    writer.number(0u32);
 }
 
 // Writes the frame of the batch that begins at a number, of the session at a place; an area that is too short is refused.

@@ -3,7 +3,6 @@ use mathlib.Core.Path.{◌≡◌, refl, sym, ap, ◌∙◌}
 use mathlib.Core.Bool.{Bool, true, false, not, cond, ◌||◌, true≢false}
 use mathlib.Core.List.{List, [], ◌∷◌, ◌++◌}
 use mathlib.Core.Option.{none, some}
-use mathlib.Core.Option as maybe
 use Prim.Native.Nat.{ℕ, zero, suc, ◌+◌, ◌-◌, ◌<◌, ◌≤◌}
 use native.Mathlib.Omega.{arith}
 use native.Mathlib.Numerals.{add-one}
@@ -19,7 +18,7 @@ use lib.Dec.{eqb, ltb}
 use borrow.Author.Tests.{lt-ltb, le-ltb, ltb-false, eq-eqb, ne_eqb, eqb-true, eqb-false}
 use Rattle.model_active.specs.CatchUp.{Entry, Book, new, member, meeting, sessions, opens_of, compared_of, on_entry, compared_with, is, less, met_now, behind_now, catching_now, acknowledged_now}
 use Rattle.active_books_area.specs.Words.{list_from, word_at, entry_at, flagged, option_of, book_of}
-use Rattle.active_books_area.specs.Parts.{Ruled, Makes, At, FindsMet, Appends, MeetsAt, IsFull}
+use Rattle.active_books_area.specs.Parts.{Ruled, Makes, At, FindsMet, Appends, Meets, IsFull}
 use Rattle.active_books_area.proofs.Laws.{First, member_first, entry_first, changed, length_from, from_alike, from_snoc, sessions_from}
 
 -- ---- what a search says
@@ -399,13 +398,13 @@ appended w s n r is-n less =
     }
 
 -- who is met already, and who is appended
-pub met_already : (w : List ℕ) (s i : ℕ) → At w s i → MeetsAt w w s i
+pub met_already : (w : List ℕ) (s i : ℕ) → At w s i → Meets w w s i
 met_already w s i a = record {
   makes = record { book = ap (λ (b : Bool). met_now (book_of w) (cond b (book_of w).met ((book_of w).met ++ (new s ∷ [])))) (sym (there_met w s i a)); ruled = a.ruled; rest = refl };
   at = a;
 }
 
-pub met_last : (w w' : List ℕ) (s : ℕ) → FindsMet w s None → Appends w w' s → MeetsAt w w' s (get_or w 0 0)
+pub met_last : (w w' : List ℕ) (s : ℕ) → FindsMet w s None → Appends w w' s → Meets w w' s (get_or w 0 0)
 met_last w w' s f a = record {
   makes = record {
     book = a.makes.book ∙ ap (λ (b : Bool). met_now (book_of w) (cond b (book_of w).met ((book_of w).met ++ (new s ∷ [])))) (sym (none_met w s f));
@@ -420,19 +419,18 @@ met_last w w' s f a = record {
   };
 }
 
+-- a search that found nothing
+not_found : (w : List ℕ) (s : ℕ) (r : Option ℕ) → FindsMet w s r → is_some r ≡ false → FindsMet w s None
+not_found w s (Some i) f e = absurd (true≢false e)
+not_found w s None f e = f
+
 -- the 257th
-pub met_full : (w : List ℕ) (s : ℕ) (e : Refusal) → FindsMet w s None → 256 ≤ get_or w 0 0 → e ≡ Refusal.TooManySessions → IsFull w w s e
-met_full w s e f full q =
-    let grown : meeting (s ∷ []) (book_of w).met ≡ (book_of w).met ++ (new s ∷ []) = ap (λ (b : Bool). cond b (book_of w).met ((book_of w).met ++ (new s ∷ []))) (none_met w s f) in
+pub met_full : (w : List ℕ) (s : ℕ) (r : Option ℕ) (e : Refusal) → FindsMet w s r → is_some r ≡ false → 256 ≤ get_or w 0 0 → e ≡ Refusal.TooManySessions → IsFull w w s e
+met_full w s r e f nothing full q =
+    let grown : meeting (s ∷ []) (book_of w).met ≡ (book_of w).met ++ (new s ∷ []) = ap (λ (b : Bool). cond b (book_of w).met ((book_of w).met ++ (new s ∷ []))) (none_met w s (not_found w s r f nothing)) in
     record { refusal = q; unchanged = refl; full = omega (arith, ap length grown, length-append (book_of w).met (new s ∷ []), length_met w) }
 
--- ---- one session behind
-
-pub not_compared : (w : List ℕ) (s i c : ℕ) → At w s i → word_at w 518 i ≡ 0 → not (eqb (word_at w 518 i) 0) ≡ is (compared_of s (book_of w).met) c
-not_compared w s i c a e = flag_0 (word_at w 518 i) (word_at w 774 i) c e ∙ ap (λ (o : maybe.Option ℕ). is o c) (sym (compared_at w s i a))
-
-pub compared_is : (w : List ℕ) (s i c : ℕ) → At w s i → (word_at w 518 i ≡ 0 → ⊥) → eqb (word_at w 774 i) c ≡ is (compared_of s (book_of w).met) c
-compared_is w s i c a ne = flag_is (word_at w 518 i) (word_at w 774 i) c ne ∙ ap (λ (o : maybe.Option ℕ). is o c) (sym (compared_at w s i a))
+-- ---- one log less
 
 pub less_is : (o : ℕ) → o - 1 ≡ less o
 less_is zero = omega arith

@@ -40,7 +40,7 @@ pub record Appends (w w' : List ℕ) (s : ℕ) : Type 0 where
   pub last : word_at w' 6 (get_or w 0 0) ≡ s
 
 -- s is met now, at i
-pub record MeetsAt (w w' : List ℕ) (s i : ℕ) : Type 0 where
+pub record Meets (w w' : List ℕ) (s i : ℕ) : Type 0 where
   pub makes : Makes w w' (met_now (book_of w) (meeting (s ∷ []) (book_of w).met))
   pub at : At w' s i
 
@@ -51,6 +51,6 @@ pub record IsFull (w w' : List ℕ) (s : ℕ) (e : Refusal) : Type 0 where
   pub full : 256 < length (meeting (s ∷ []) (book_of w).met)
 
 -- where s stands once it is met, or there is no room for it
-abbrev pub Meets : List ℕ → List ℕ → ℕ → Result ℕ Refusal → Type 0
-Meets w w' s (Ok i) = MeetsAt w w' s i
-Meets w w' s (Err e) = IsFull w w' s e
+abbrev pub MeetsIfRoom : List ℕ → List ℕ → ℕ → Result ℕ Refusal → Type 0
+MeetsIfRoom w w' s (Ok i) = Meets w w' s i
+MeetsIfRoom w w' s (Err e) = IsFull w w' s e

@@ -1,9 +1,9 @@
 // The words of an active's books (active.rs, State) in the area that the caller lends: whether they keep the rules, and where a session stands among them; specs/Words.antt says what each word is.
 #![tactic(auto)]
 
-ghost use Rattle.std.specs.Prelude.{◌≡◌, ◌==◌, position};
+ghost use Rattle.std.specs.Prelude.{◌≡◌, ◌==◌, ◌<◌, get_or, position};
 ghost use Rattle.model_active.specs.CatchUp.{is, member, sessions, catching_now};
-ghost use Rattle.active_books_area.specs.Words.{option_of, book_of};
+ghost use Rattle.active_books_area.specs.Words.{flagged, option_of, word_at, book_of};
 ghost use Rattle.active_books_area.specs.Parts.{Ruled, Checks, FindsMet, Makes};
 
 use base_refusals::Refusal;
@@ -33,14 +33,21 @@ pub mod word {
     pub const BEHIND: usize = 1030;
 }
 
-// The lent area, which keeps the rules.
+// The lent area to be read, which keeps the rules.
+#[derive(Clone, Copy)]
+pub struct BooksView<'a> {
+    pub words: &'a [u64],
+    pub ghost rules: { Ruled words.now },
+}
+
+// The lent area to be changed.
 #[derive(Drop)]
 pub struct Books<'a> {
     pub words: &'a mut [u64],
     pub ghost rules: { Ruled words.now },
 }
 
-// An area that is too short, or with a count above 256, is refused.
+// An area that is too short, or with a count above 256, is refused. A constructor that hands `Books` on in an `Ok` isn't covered: what the area is after a refusal isn't found.
 pub fn check_rules(words: &[u64]) -> Result<(), Refusal>
     ensures { Checks words.now result }
 {
@@ -56,37 +63,16 @@ pub fn check_rules(words: &[u64]) -> Result<(), Refusal>
     }
 }
 
-fn find_in(run: &[u64], session: u64) -> Option<usize>
+// Where a session first stands in a run of them.
+pub fn find_in(run: &[u64], session: u64) -> Option<usize>
     ensures { result ≡ position (λ x. x == session) run.now }
 {
     run.iter().position(|x| *x == session)
 }
 
-// The sessions behind, in the order they fell behind.
-fn behind(words: &[u64]) -> &[u64]
-    requires { Ruled words.now }
-    ensures { result.now ≡ (book_of words.now).behind }
-{
-    let m = words[word::BEHIND_COUNT] as usize;
-    &words[word::BEHIND..word::BEHIND + m]
-}
-
-// Whether a session is behind, in an area that is only read.
-pub fn is_behind(words: &[u64], session: u64) -> bool
-    requires { Ruled words.now }
-    ensures { result ≡ member session (book_of words.now).behind }
-{
-    behind(words).contains(&session)
-}
-
-impl Books<'_> {
-    // The most sessions met.
-    pub const MAX_SESSIONS: usize = 256;
-    // The words of the lent area.
-    pub const WORDS: usize = 1286;
-
-    // The sessions met, in that order.
-    pub fn met(&self) -> &[u64]
+impl<'a> BooksView<'a> {
+    // The sessions met, in that order. `behind` is alike but for its count and where it begins: a function of both would say no less.
+    pub fn met(&self) -> &'a [u64]
         ensures { result.now ≡ sessions (book_of self.now.words.now).met }
     {
         let n = self.words[word::MET_COUNT] as usize;
@@ -94,10 +80,11 @@ impl Books<'_> {
     }
 
     // The sessions behind, in the order they fell behind.
-    pub fn behind(&self) -> &[u64]
+    pub fn behind(&self) -> &'a [u64]
         ensures { result.now ≡ (book_of self.now.words.now).behind }
     {
-        behind(self.words)
+        let m = self.words[word::BEHIND_COUNT] as usize;
+        &self.words[word::BEHIND..word::BEHIND + m]
     }
 
     // Where a session stands among those met.
@@ -110,13 +97,42 @@ impl Books<'_> {
     pub fn is_behind(&self, session: u64) -> bool
         ensures { result ≡ member session (book_of self.now.words.now).behind }
     {
-        is_behind(self.words, session)
+        self.behind().contains(&session)
     }
 
     pub fn is_catching(&self, session: u64) -> bool
         ensures { result ≡ is (book_of self.now.words.now).catching session }
     {
         self.words[word::IS_CATCHING] != 0 && self.words[word::CATCHING] == session
+    }
+
+    // Whether the entry at k was last compared with an incarnation.
+    pub fn is_compared_at(&self, k: usize, incarnation: u64) -> bool
+        requires { k < get_or self.now.words.now 0 0 }
+        ensures { result ≡ is (flagged (word_at self.now.words.now 518 k) (word_at self.now.words.now 774 k)) incarnation }
+    {
+        self.words[word::COMPARED + k] != 0 && self.words[word::INCARNATIONS + k] == incarnation
+    }
+
+    // Whether an incarnation is the last whose Checked was acknowledged.
+    pub fn is_acknowledged(&self, incarnation: u64) -> bool
+        ensures { result ≡ is (book_of self.now.words.now).acknowledged incarnation }
+    {
+        self.words[word::IS_ACKNOWLEDGED] != 0 && self.words[word::ACKNOWLEDGED] == incarnation
+    }
+}
+
+impl Books<'_> {
+    // The most sessions met.
+    pub const MAX_SESSIONS: usize = 256;
+    // The words of the lent area.
+    pub const WORDS: usize = 1286;
+
+    // The books to be read.
+    pub fn view(&self) -> BooksView<'_>
+        ensures { result.words.now ≡ self.now.words.now }
+    {
+        BooksView { words: self.words }
     }
 
     // A session is being caught up, or none is.
@@ -126,12 +142,5 @@ impl Books<'_> {
     {
         self.words[word::IS_CATCHING] = u64::from(session.is_some());
         self.words[word::CATCHING] = session.unwrap_or(0);
-    }
-
-    // Whether an incarnation is the last whose Checked was acknowledged.
-    pub fn is_acknowledged(&self, incarnation: u64) -> bool
-        ensures { result ≡ is (book_of self.now.words.now).acknowledged incarnation }
-    {
-        self.words[word::IS_ACKNOWLEDGED] != 0 && self.words[word::ACKNOWLEDGED] == incarnation
     }
 }

@@ -2,13 +2,13 @@
 #![tactic(auto)]
 
 ghost use Rattle.std.specs.Prelude.{◌≡◌, not, ◌&&◌, ◌++◌, ◌+◌, ◌≤◌, ◌<◌, length, get_or};
-ghost use Rattle.model_active.specs.CatchUp.{member, open_only, falling, is, behind_now};
+ghost use Rattle.model_active.specs.CatchUp.{member, open_only, falling, behind_now};
 ghost use Rattle.arrayvec.specs.ArrayVec.{array_vec_len};
-ghost use Rattle.active_books_area.specs.Words.{flagged, word_at, book_of, entry_at};
+ghost use Rattle.active_books_area.specs.Words.{word_at, book_of, entry_at};
 ghost use Rattle.active_books_area.specs.Parts.{Makes};
 ghost use Rattle.active_books_falling.specs.Together.{listed_of};
 
-use active_books_area::{Books, word};
+use active_books_area::{Books, BooksView, word};
 use active_books_listing::is_listed;
 use active_books_session::push;
 use arrayvec::ArrayVec;
@@ -24,31 +24,27 @@ pub fn push_all(books: &mut Books<'_>, fallen: &[u64])
     }
 }
 
-// Whether the entry at k was last compared with an incarnation.
-pub fn entry_compared(books: &Books<'_>, k: usize, incarnation: u64) -> bool
-    requires { k < get_or books.now.words.now 0 0 }
-    ensures { result ≡ is (flagged (word_at books.now.words.now 518 k) (word_at books.now.words.now 774 k)) incarnation }
-{
-    books.words[word::COMPARED + k] != 0 && books.words[word::INCARNATIONS + k] == incarnation
-}
-
 // Whether the entry at k is open and not compared with an incarnation, and its session isn't behind yet.
-pub fn falls_open(books: &Books<'_>, k: usize, incarnation: u64) -> bool
+pub fn falls_open(books: &BooksView<'_>, k: usize, incarnation: u64) -> bool
     requires { k < get_or books.now.words.now 0 0 }
     ensures { result ≡ (open_only incarnation (entry_at books.now.words.now k) && not (member (word_at books.now.words.now 6 k) (book_of books.now.words.now).behind)) }
 {
     if books.words[word::OPENS + k] == 0 {
         return false;
     }
-    if entry_compared(books, k, incarnation) {
+    if books.is_compared_at(k, incarnation) {
         return false;
     }
     !books.is_behind(books.words[word::SESSIONS + k])
 }
 
 // The open sessions not compared with an incarnation that aren't behind yet, in the order met.
-pub fn fallen_open(books: &Books<'_>, incarnation: u64) -> ArrayVec<u64, { Books::MAX_SESSIONS }>
-    ensures { result.items ≡ falling (open_only incarnation) (book_of books.now.words.now) }
+pub fn fallen_open(
+    books: &BooksView<'_>,
+    incarnation: u64,
+) -> ArrayVec<u64, { Books::MAX_SESSIONS }>
+    ensures list { result.items ≡ falling (open_only incarnation) (book_of books.now.words.now) }
+    ensures few { array_vec_len result ≤ get_or books.now.words.now 0 0 }
 {
     let n = books.words[word::MET_COUNT] as usize;
     let mut fallen = ArrayVec::new();
@@ -61,7 +57,7 @@ pub fn fallen_open(books: &Books<'_>, incarnation: u64) -> ArrayVec<u64, { Books
 }
 
 // Whether a session is listed, and isn't behind yet.
-pub fn falls_listed(books: &Books<'_>, listing: &[u64], session: u64, place: usize) -> bool
+pub fn falls_listed(books: &BooksView<'_>, listing: &[u64], session: u64, place: usize) -> bool
     ensures { result ≡ (member session listing.now && not (member session (book_of books.now.words.now).behind)) }
 {
     if !is_listed(listing, session, place) {
@@ -72,7 +68,7 @@ pub fn falls_listed(books: &Books<'_>, listing: &[u64], session: u64, place: usi
 
 // Those of some sessions that are listed and aren't behind yet fall, in their order.
 pub fn fall_listed(
-    books: &Books<'_>,
+    books: &BooksView<'_>,
     listing: &[u64],
     sessions: &[u64],
     fallen: &mut ArrayVec<u64, { Books::MAX_SESSIONS }>,

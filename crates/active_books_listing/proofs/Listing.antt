@@ -17,7 +17,7 @@ use Rattle.base_refusals.specs.declared.Refusal.{Refusal}
 use Rattle.model_active.specs.CatchUp.{Entry, Book, member, sessions, new, meeting, met_now}
 use Rattle.active_books_area.specs.Words.{book_of}
 use Rattle.active_books_listing.specs.Listings.{AreNew, NoRoom}
-use Rattle.active_books_area.specs.Parts.{Ruled, Makes, Appends}
+use Rattle.active_books_area.specs.Parts.{Makes, Appends}
 use Rattle.active_books_area.proofs.Area.{length_met}
 
 -- ---- members
@@ -79,9 +79,6 @@ append_nil : {A : Type 0} (l : List A) → l ++ [] ≡ l
 append_nil [] = refl
 append_nil (x ∷ l) = ap (λ (r : List _). x ∷ r) (append_nil l)
 
-pub gathering : (w l : List ℕ) → Ruled w → Gathering w l [] 0
-gathering w l r = record { upto = omega arith; room = omega (arith, r.few); left = ap (meeting l) (sym (append_nil (book_of w).met)) }
-
 grows : (l : List ℕ) (es : List Entry) → length es ≤ length (meeting l es)
 grows [] es = omega arith
 grows (s ∷ l) es = omega (arith, grows l (cond (member s (sessions es)) es (es ++ (new s ∷ []))), go (member s (sessions es)))
@@ -132,9 +129,6 @@ gathered w l a j g end = record { meets = g.left ∙ ap (λ (x : List ℕ). meet
 pub record Appending (w₀ a w : List ℕ) (i : ℕ) : Type 0 where
   pub makes : Makes w₀ w (met_now (book_of w₀) ((book_of w₀).met ++ map new (take i a)))
   pub count : get_or w 0 0 ≡ get_or w₀ 0 0 + i
-
-pub appending : (w a : List ℕ) → Ruled w → Appending w a w 0
-appending w a r = record { makes = record { book = ap (λ (l : List Entry). met_now (book_of w) l) (sym (append_nil (book_of w).met)); ruled = r; rest = refl }; count = omega arith }
 
 pub appends : (w₀ a w w' : List ℕ) (i : ℕ) → Appending w₀ a w i → i < length a → Appends w w' (get_or a i 0) → Appending w₀ a w' (i + 1)
 appends w₀ a w w' i g less p = record {

@@ -7,7 +7,7 @@ ghost use Rattle.active_books_area.specs.Words.{book_of};
 ghost use Rattle.active_books_area.specs.Parts.{Makes};
 ghost use Rattle.active_books_listing.specs.Listings.{Gathers, Lists};
 
-use active_books_area::{Books, word};
+use active_books_area::{Books, BooksView, word};
 use active_books_session::append;
 use arrayvec::ArrayVec;
 use base_refusals::Refusal;
@@ -20,7 +20,7 @@ pub fn is_listed(listing: &[u64], session: u64, place: usize) -> bool
 }
 
 // Whether a session was met, or is among those that are new.
-fn is_known(books: &Books<'_>, fresh: &[u64], session: u64, place: usize) -> bool
+fn is_known(books: &BooksView<'_>, fresh: &[u64], session: u64, place: usize) -> bool
     ensures { result ≡ (member session (sessions (book_of books.now.words.now).met) || member session fresh.now) }
 {
     is_listed(books.met(), session, place) || fresh.contains(&session)
@@ -28,7 +28,7 @@ fn is_known(books: &Books<'_>, fresh: &[u64], session: u64, place: usize) -> boo
 
 // The sessions of a listing that are new, each once. There is no room for a 257th.
 pub fn gather(
-    books: &Books<'_>,
+    books: &BooksView<'_>,
     listing: &[u64],
 ) -> Result<ArrayVec<u64, { Books::MAX_SESSIONS }>, Refusal>
     ensures { Gathers books.now.words.now listing.now result }
@@ -62,7 +62,7 @@ pub fn meet_listed(books: &mut Books<'_>, listing: &[u64]) -> Result<(), Refusal
     ensures same_area { books.new.words.ghost_name ≡ books.old.words.ghost_name }
     ensures lists { Lists books.old.words.now books.new.words.now listing.now result }
 {
-    let fresh = gather(books, listing)?;
+    let fresh = gather(&books.view(), listing)?;
     append_all(books, &fresh);
     Ok(())
 }

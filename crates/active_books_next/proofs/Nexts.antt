@@ -11,7 +11,7 @@ use borrow.Author.Tests.{lt-ltb, le-ltb, eq-eqb, ne_eqb, eqb-true}
 use Rattle.model_active.specs.CatchUp.{member, compared_of, is_open, is, first_of, is_none, could_pick, pick, all_with, told_checked}
 use Rattle.active_books_area.specs.Words.{word_at, option_of, book_of}
 use Rattle.active_books_area.specs.Parts.{At, FindsMet}
-use Rattle.std.specs.Prelude.{Some, None, find}
+use Rattle.std.specs.Prelude.{Some, None, MatchOption, find}
 use Rattle.std.specs.Prelude as maybe
 use Rattle.std.specs.List.{list_all}
 use Rattle.active_books_area.proofs.Area.{absent, opens_at, length_behind, positive}
@@ -33,6 +33,11 @@ never_compared w s c f = ap (λ (o : Option ℕ). is o c) (sym (absent w s f).1)
 
 pub wanting_new : (w : List ℕ) (s i : ℕ) → FindsMet w s None → true ≡ is_wanting w i s
 wanting_new w s i f = λ j. not (not_open w s f j) && not (never_compared w s i f j)
+
+-- by where it stands among those met, if it does
+pub met_or_not : (w : List ℕ) (s : ℕ) (P : ℕ → Type 0) (o : maybe.Option ℕ) {r t : Bool} → FindsMet w s o → MatchOption o (r ≡ false) P → (FindsMet w s None → false ≡ t) → ((i : ℕ) → At w s i → P i → r ≡ t) → r ≡ t
+met_or_not w s P (Some i) f m away there = there i f m
+met_or_not w s P None f m away there = m ∙ away f
 
 pub open_not : (w : List ℕ) (s r i : ℕ) {b : Bool} → At w s r → (word_at w 262 r ≡ 0 → ⊥) → b ≡ false → b ≡ is_wanting w i s
 open_not w s r i a h e =

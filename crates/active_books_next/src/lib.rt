@@ -7,7 +7,7 @@ ghost use Rattle.model_active.specs.CatchUp.{is_open, told_checked, is, compared
 ghost use Rattle.active_books_area.specs.Words.{book_of};
 ghost use Rattle.active_books_next.specs.Firsts.{is_closed, is_wanting};
 
-use active_books_area::{Books, word};
+use active_books_area::{BooksView, word};
 use active_books_session::is_compared;
 
 // What a pass goes over, and the incarnation that it compares with.
@@ -17,17 +17,17 @@ pub struct Pass<'a> {
     pub incarnation: u64,
 }
 
-pub fn is_open(books: &Books<'_>, session: u64) -> bool
+pub fn is_open(books: &BooksView<'_>, session: u64) -> bool
     ensures { result ≡ is_open session (book_of books.now.words.now).met }
 {
-    match books.find_met(session) {
-        Some(i) => 0 < books.words[word::OPENS + i],
-        None => false,
-    }
+    books
+        .find_met(session)
+        .is_some_and(|i| 0 < books.words[word::OPENS + i])
 }
 
-// Whether a session was last compared with an incarnation.
-pub fn was_compared(books: &Books<'_>, session: u64, incarnation: u64) -> bool
+// Whether a session was last compared with an incarnation. By `is_some_and` this doesn't prove, nor the next by `is_none_or`: nothing is told of a closure that calls
+// `is_compared`.
+pub fn was_compared(books: &BooksView<'_>, session: u64, incarnation: u64) -> bool
     ensures { result ≡ is (compared_of session (book_of books.now.words.now).met) incarnation }
 {
     match books.find_met(session) {
@@ -37,7 +37,7 @@ pub fn was_compared(books: &Books<'_>, session: u64, incarnation: u64) -> bool
 }
 
 // Whether a session is closed, and not compared with an incarnation.
-pub fn is_wanting(books: &Books<'_>, session: u64, incarnation: u64) -> bool
+pub fn is_wanting(books: &BooksView<'_>, session: u64, incarnation: u64) -> bool
     ensures { result ≡ is_wanting books.now.words.now incarnation session }
 {
     match books.find_met(session) {
@@ -47,7 +47,7 @@ pub fn is_wanting(books: &Books<'_>, session: u64, incarnation: u64) -> bool
     }
 }
 
-fn first_closed(books: &Books<'_>, run: &[u64]) -> Option<u64>
+fn first_closed(books: &BooksView<'_>, run: &[u64]) -> Option<u64>
     ensures { result ≡ find (is_closed books.now.words.now) run.now }
 {
     run.iter()
@@ -56,7 +56,7 @@ fn first_closed(books: &Books<'_>, run: &[u64]) -> Option<u64>
 }
 
 // The first of those behind that is closed.
-pub fn first_behind(books: &Books<'_>) -> Option<u64>
+pub fn first_behind(books: &BooksView<'_>) -> Option<u64>
     ensures { result ≡ find (is_closed books.now.words.now) (book_of books.now.words.now).behind }
 {
     first_closed(books, books.behind())
@@ -64,7 +64,7 @@ pub fn first_behind(books: &Books<'_>) -> Option<u64>
 
 impl Pass<'_> {
     // The first of the listing that is closed and not compared with the incarnation.
-    pub fn first_listed(&self, books: &Books<'_>) -> Option<u64>
+    pub fn first_listed(&self, books: &BooksView<'_>) -> Option<u64>
         ensures { result ≡ find (is_wanting books.now.words.now self.now.incarnation) self.now.listing.now }
     {
         self.listing
@@ -74,7 +74,7 @@ impl Pass<'_> {
     }
 
     // Whether all of the listing were compared with the incarnation.
-    pub fn is_compared(&self, books: &Books<'_>) -> bool
+    pub fn is_compared(&self, books: &BooksView<'_>) -> bool
         ensures { result ≡ list_all (λ s. is (compared_of s (book_of books.now.words.now).met) self.now.incarnation) self.now.listing.now }
     {
         self.listing
@@ -83,7 +83,7 @@ impl Pass<'_> {
     }
 
     // Whether a standby is told Checked, all listed being met.
-    pub fn is_told(&self, books: &Books<'_>) -> bool
+    pub fn is_told(&self, books: &BooksView<'_>) -> bool
         ensures { result ≡ told_checked (book_of books.now.words.now) self.now.listing.now self.now.incarnation }
     {
         if books.is_acknowledged(self.incarnation) {

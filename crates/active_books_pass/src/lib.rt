@@ -7,7 +7,7 @@ ghost use Rattle.model_active.specs.CatchUp as m;
 ghost use Rattle.active_books.specs.Calls.{answer_of, done_of, picked_of, Called};
 ghost use Rattle.active_books_pass.specs.Picking.{Picks};
 
-use active_books_area::{Books, check_rules, word};
+use active_books_area::{Books, BooksView, check_rules, word};
 use active_books_falling::{fall_listed, fallen_open, push_all};
 use active_books_listing::{append_all, gather, meet_listed};
 use active_books_next::{Pass, first_behind};
@@ -20,7 +20,7 @@ pub fn all_fall_behind(words: &mut [u64], listing: &[u64]) -> Result<(), Refusal
     ensures { Called words.old words.new (m.all_fall_behind listing.now) (answer_of done_of result) }
 {
     check_rules(words)?;
-    let mut books = Books { words };
+    let books = BooksView { words };
     let fresh = gather(&books, listing)?;
     let mut fallen = ArrayVec::new();
     fall_listed(&books, listing, books.met(), &mut fallen);
@@ -29,6 +29,7 @@ pub fn all_fall_behind(words: &mut [u64], listing: &[u64]) -> Result<(), Refusal
     if Books::MAX_SESSIONS < m + fallen.len() {
         return Err(Refusal::TooManySessions);
     }
+    let mut books = Books { words };
     append_all(&mut books, &fresh);
     push_all(&mut books, &fallen);
     Ok(())
@@ -42,12 +43,12 @@ pub fn behind_unless_compared_open(
     ensures { Called words.old words.new (m.behind_unless_compared_open incarnation.0) (answer_of done_of result) }
 {
     check_rules(words)?;
-    let mut books = Books { words };
-    let fallen = fallen_open(&books, incarnation.0);
-    let m = books.words[word::BEHIND_COUNT] as usize;
+    let fallen = fallen_open(&BooksView { words }, incarnation.0);
+    let m = words[word::BEHIND_COUNT] as usize;
     if Books::MAX_SESSIONS < m + fallen.len() {
         return Err(Refusal::TooManySessions);
     }
+    let mut books = Books { words };
     push_all(&mut books, &fallen);
     Ok(())
 }
@@ -57,11 +58,12 @@ fn pick(books: &mut Books<'_>, pass: &Pass<'_>) -> Option<u64>
     ensures same_area { books.new.words.ghost_name ≡ books.old.words.ghost_name }
     ensures picks { Picks books.old.words.now books.new.words.now pass.now.listing.now pass.now.incarnation (picked_of result) }
 {
-    if let Some(session) = first_behind(books) {
+    let view = books.view();
+    if let Some(session) = first_behind(&view) {
         books.set_catching(Some(session));
         return Some(session);
     }
-    let next = pass.first_listed(books);
+    let next = pass.first_listed(&view);
     books.set_catching(next);
     next
 }
@@ -99,5 +101,5 @@ pub fn all_compared(
         listing,
         incarnation: incarnation.0,
     };
-    Ok(pass.is_told(&books))
+    Ok(pass.is_told(&books.view()))
 }

@@ -1,12 +1,12 @@
 // One session in the books: it is met, counted open or closed, compared, put behind, or taken from those behind.
 #![tactic(auto)]
 
-ghost use Rattle.std.specs.Prelude.{◌≡◌, false, [], ◌∷◌, ◌++◌, suc, min, ◌<◌, get_or};
-ghost use Rattle.model_active.specs.CatchUp.{member, joining, without, less, is, compared_of, on_entry, opened, shut, compared_with, met_now, behind_now};
+ghost use Rattle.std.specs.Prelude.{◌≡◌, false, [], ◌∷◌, ◌++◌, ◌<◌, get_or, None};
+ghost use Rattle.model_active.specs.CatchUp.{member, joining, without, is, compared_of, on_entry, opened, shut, compared_with, met_now, behind_now};
 ghost use Rattle.active_books_area.specs.Words.{book_of};
-ghost use Rattle.active_books_area.specs.Parts.{At, Makes, Appends, Meets};
+ghost use Rattle.active_books_area.specs.Parts.{At, FindsMet, Makes, Appends, Meets, MeetsIfRoom};
 
-use active_books_area::{Books, word};
+use active_books_area::{Books, BooksView, word};
 use base_refusals::Refusal;
 
 // One session more is met: closed, compared with none.
@@ -22,26 +22,38 @@ pub fn append(books: &mut Books<'_>, session: u64)
     books.words[word::MET_COUNT] = (n + 1) as u64;
 }
 
-// A session is met, unless it was: where it stands then. There is no room for a 257th.
-pub fn meet(books: &mut Books<'_>, session: u64) -> Result<usize, Refusal>
+// A session that was searched for, and found or not, is met: where it stands then.
+pub fn meet(books: &mut Books<'_>, session: u64, found: Option<usize>) -> usize
+    requires searched { FindsMet books.old.words.now session found }
+    requires room { found ≡ None → get_or books.old.words.now 0 0 < 256 }
     ensures same_area { books.new.words.ghost_name ≡ books.old.words.ghost_name }
     ensures meets { Meets books.old.words.now books.new.words.now session result }
 {
-    if let Some(i) = books.find_met(session) {
-        return Ok(i);
+    if let Some(i) = found {
+        return i;
     }
     let n = books.words[word::MET_COUNT] as usize;
-    if n == Books::MAX_SESSIONS {
+    append(books, session);
+    n
+}
+
+// A session is met where there is room for it: there is none for a 257th.
+pub fn meet_if_room(books: &mut Books<'_>, session: u64) -> Result<usize, Refusal>
+    ensures same_area { books.new.words.ghost_name ≡ books.old.words.ghost_name }
+    ensures meets { MeetsIfRoom books.old.words.now books.new.words.now session result }
+{
+    let found = books.view().find_met(session);
+    let n = books.words[word::MET_COUNT] as usize;
+    if found.is_none() && n == Books::MAX_SESSIONS {
         return Err(Refusal::TooManySessions);
     }
-    append(books, session);
-    Ok(n)
+    Ok(meet(books, session, found))
 }
 
 // What changes an entry asks that it stands at i in the area as it is now: a struct of the session and i would have to hold the area too, and give it back for the
 // next call.
 
-// One log more is open on the session at i.
+// One log more is open on the session at i. `count_closed` differs in the step alone: a closure for it and its clause would be longer than the two lines.
 pub fn count_open(books: &mut Books<'_>, session: u64, i: usize)
     requires { At books.old.words.now session i }
     ensures same_area { books.new.words.ghost_name ≡ books.old.words.ghost_name }
@@ -72,11 +84,12 @@ pub fn compare(books: &mut Books<'_>, session: u64, i: usize, incarnation: u64)
 }
 
 // Whether the session at i was last compared with an incarnation.
-pub fn is_compared(books: &Books<'_>, session: u64, i: usize, incarnation: u64) -> bool
+#[tactic(auto, using(active_books_area::proofs::Area::compared_at))]
+pub fn is_compared(books: &BooksView<'_>, session: u64, i: usize, incarnation: u64) -> bool
     requires { At books.now.words.now session i }
     ensures { result ≡ is (compared_of session (book_of books.now.words.now).met) incarnation }
 {
-    books.words[word::COMPARED + i] != 0 && books.words[word::INCARNATIONS + i] == incarnation
+    books.is_compared_at(i, incarnation)
 }
 
 // One session more is behind.

@@ -11,9 +11,10 @@ use Rattle.model_frame.specs.Sizes.{size_of, sizes}
 use Rattle.model_frame.proofs.Runs.{run_append, sizes_append}
 use Rattle.model_frame.proofs.Sizes.{change_size, changes_size}
 use Rattle.model_session.specs.Whole.{skip_to}
-use Rattle.base_laws.specs.Wrote.{Wrote}
-use Rattle.base_laws.proofs.Writes.{wrote_on}
-use Rattle.active_messages.proofs.Putting.{wrote_none}
+use Rattle.base_bytes.specs.declared.writer.Writer.{Writer}
+use Rattle.base_bytes.specs.Put.{Put}
+use Rattle.base_bytes.proofs.Puts.{put_on}
+use Rattle.active_messages.proofs.Putting.{put_none}
 use Rattle.active_header.specs.Ends.{opening_of}
 
 no : 0 < 0 → ⊥
@@ -44,18 +45,17 @@ open_stamped st (suc n) h e = absurd (never h)
     never : suc n ≤ 0 → ⊥
     never e = omega arith
 
-pub wrote_open_none : (l st : List ℕ) (at from : ℕ) → 0 < from → Wrote l at (run_bytes change_bytes (opening_of st from)) l at
+pub put_open_none : (w : Writer) (st : List ℕ) (from : ℕ) → 0 < from → Put w (run_bytes change_bytes (opening_of st from)) w
 unfolding run_bytes
-wrote_open_none l st at from h = rw (open_none st from h) (wrote_none l at)
+put_open_none w st from h = rw (open_none st from h) (put_none w)
 
-pub wrote_open_bare : (st : List ℕ) (from : ℕ) {l l₁ : List ℕ} {at r : ℕ} → from ≤ 0 → length st ≡ 0 → Wrote l at (6 ∷ []) l₁ r → Wrote l at (run_bytes change_bytes (opening_of st from)) l₁ r
+pub put_open_bare : (st : List ℕ) (from : ℕ) {w v : Writer} → from ≤ 0 → length st ≡ 0 → Put w (6 ∷ []) v → Put w (run_bytes change_bytes (opening_of st from)) v
 unfolding run_bytes change_bytes
-wrote_open_bare st from h e w = rw (open_bare st from h e) w
+put_open_bare st from h e p = rw (open_bare st from h e) p
 
-pub wrote_open_stamped : (st : List ℕ) (from : ℕ) {l l₁ l₂ : List ℕ} {at p r : ℕ} → from ≤ 0 → (length st ≡ 0 → ⊥) → Wrote l at (6 ∷ []) l₁ p → Wrote l₁ p (7 ∷ blob_bytes st) l₂ r
-    → Wrote l at (run_bytes change_bytes (opening_of st from)) l₂ r
+pub put_open_stamped : (st : List ℕ) (from : ℕ) {w v u : Writer} → from ≤ 0 → (length st ≡ 0 → ⊥) → Put w (6 ∷ []) v → Put v (7 ∷ blob_bytes st) u → Put w (run_bytes change_bytes (opening_of st from)) u
 unfolding run_bytes change_bytes
-wrote_open_stamped st from h e w v = rw (open_stamped st from h e, append-nil (7 ∷ blob_bytes st)) (wrote_on w v)
+put_open_stamped st from h e p q = rw (open_stamped st from h e, append-nil (7 ∷ blob_bytes st)) (put_on p q)
 
 -- ---- after
 
@@ -63,19 +63,19 @@ pub close_size : (next n : ℕ) (inc : Change) (marks : List ℕ) → sizes (ski
 close_size next n inc marks = omega (arith, sizes_append (skip_to next n) (inc ∷ set_marks marks ∷ []))
 
 -- where a run of changes, and one change, end
-pub run_past : (cs : List Change) {l l₁ : List ℕ} {at p : ℕ} → Wrote l at (run_bytes change_bytes cs) l₁ p → p ≡ at + sizes cs
-run_past cs w = omega (arith, w.past, changes_size cs)
+pub run_past : (cs : List Change) {w v : Writer} → Put w (run_bytes change_bytes cs) v → v.at ≡ w.at + sizes cs
+run_past cs p = omega (arith, p.wrote.past, changes_size cs)
 
-pub change_past : (c : Change) {l l₁ : List ℕ} {at p : ℕ} → Wrote l at (change_bytes c) l₁ p → p ≡ at + size_of c
-change_past c w = omega (arith, w.past, change_size c)
+pub change_past : (c : Change) {w v : Writer} → Put w (change_bytes c) v → v.at ≡ w.at + size_of c
+change_past c p = omega (arith, p.wrote.past, change_size c)
 
-pub wrote_closing : (cs : List Change) (inc : Change) (marks : List ℕ) {l l₁ l₂ l₃ : List ℕ} {at p q r : ℕ} → Wrote l at (run_bytes change_bytes cs) l₁ p → Wrote l₁ p (change_bytes inc) l₂ q
-    → Wrote l₂ q (8 ∷ blob_bytes marks) l₃ r → Wrote l at (run_bytes change_bytes (cs ++ (inc ∷ set_marks marks ∷ []))) l₃ r
+pub put_close : (cs : List Change) (inc : Change) (marks : List ℕ) {w v u t : Writer} → Put w (run_bytes change_bytes cs) v → Put v (change_bytes inc) u → Put u (8 ∷ blob_bytes marks) t
+    → Put w (run_bytes change_bytes (cs ++ (inc ∷ set_marks marks ∷ []))) t
 unfolding run_bytes change_bytes
-wrote_closing cs inc marks {l} {l₁} {l₂} {l₃} {at} {p} {q} {r} w v u =
-    let last : Wrote l₁ p (run_bytes change_bytes (inc ∷ set_marks marks ∷ [])) l₃ r = rw (append-nil (8 ∷ blob_bytes marks)) (wrote_on v u) in
-    rw (run_append change_bytes cs (inc ∷ set_marks marks ∷ [])) (wrote_on w last)
+put_close cs inc marks {w} {v} {u} {t} p q r =
+    let last : Put v (run_bytes change_bytes (inc ∷ set_marks marks ∷ [])) t = rw (append-nil (8 ∷ blob_bytes marks)) (put_on q r) in
+    rw (run_append change_bytes cs (inc ∷ set_marks marks ∷ [])) (put_on p last)
 
-pub nothing_wrote : (l : List ℕ) (at : ℕ) → Wrote l at (run_bytes change_bytes []) l at
+pub put_no_changes : (w : Writer) → Put w (run_bytes change_bytes []) w
 unfolding run_bytes
-nothing_wrote l at = wrote_none l at
+put_no_changes w = put_none w

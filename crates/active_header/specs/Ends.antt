@@ -25,10 +25,17 @@ abbrev pub opening_of : List ℕ → ℕ → List Change
 opening_of stamp zero = reset ∷ stamp_part stamp
 opening_of stamp (suc n) = []
 
--- after the messages
+-- after the messages, with these marks
+abbrev pub closing_with : Header → List ℕ → ℕ → List Change
+closing_with h marks next = skip_to next h.next_outgoing ++ (incoming_part h.next_incoming (flight_is h.in_flight) ∷ set_marks marks ∷ [])
+
+-- with the header's own
 abbrev pub closing_of : Header → ℕ → List Change
-closing_of h next = skip_to next h.next_outgoing ++ (incoming_part h.next_incoming (flight_is h.in_flight) ∷ set_marks h.marks.now ∷ [])
+closing_of h next = closing_with h h.marks.now next
 
 -- and only in the last batch
+abbrev pub ending_with : Header → List ℕ → Bool → ℕ → List Change
+ending_with h marks last next = cond last (closing_with h marks next) []
+
 abbrev pub ending_of : Header → Bool → ℕ → List Change
-ending_of h last next = cond last (closing_of h next) []
+ending_of h last next = ending_with h h.marks.now last next

@@ -8,7 +8,7 @@ ghost use Rattle.model_session.specs.Lag.{new_queue};
 use base_refusals::Refusal;
 
 // The batches sent that no commit has waited for yet, oldest first: the last outgoing number of each. The room is one more
-// than may wait, for the batch that was just pushed.
+// than may wait, for the batch that was just pushed. The count is the caller's, as C lends it, and one above the room is refused: an ArrayVec would ask for a good one.
 #[derive(Clone, Copy, Debug, PartialEq, Eq)]
 pub struct ReplicatedLog {
     pub drained_through: u64,

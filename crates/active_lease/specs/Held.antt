@@ -2,6 +2,7 @@
 use Rattle.std.specs.Prelude.{◌≡◌, false, List, [], ◌∷◌, ℕ, Result, Ok, Err}
 use Rattle.base_refusals.specs.declared.Refusal.{Refusal}
 use Rattle.base_refusals.specs.Numbers.{number_of}
+use Rattle.base_flags.specs.Flag.{is_set}
 use Rattle.model_lease.specs.Lease.{Lease, Outcome, renewed, failed, deposed, Attempt, renewal, attempt}
 use Rattle.model_lease.specs.Lease as model
 use Rattle.model_lease.specs.History.{LeaseCall, question, attempted}
@@ -11,7 +12,7 @@ use Rattle.active_lease.specs.declared.RenewalOutcome.{RenewalOutcome}
 
 -- every content counts as a lease
 abbrev pub lease_of : Held → Lease
-lease_of h = record { duration = h.duration; until = h.until; last = h.last; lost = h.lost }
+lease_of h = record { duration = h.duration; until = h.until; last = h.last; lost = is_set h.lost }
 
 abbrev pub outcome_of : RenewalOutcome → Outcome
 outcome_of RenewalOutcome.Renewed = renewed

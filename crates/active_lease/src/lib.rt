@@ -1,19 +1,21 @@
 // An active's hold on its lease (lease.rs, `Held`), by a clock whose times are handed in as nanoseconds.
 #![tactic(auto)]
 
-ghost use Rattle.std.specs.Prelude.{◌≡◌};
+ghost use Rattle.std.specs.Prelude.{◌≡◌, cond, IfOk};
 ghost use Rattle.model_lease.specs.Lease.{made, renewal, attempt, is_due, end_after, loses};
+ghost use Rattle.base_flags.specs.Flag.{is_set, byte};
 ghost use Rattle.active_lease.specs.Held.{lease_of, outcome_of, attempt_of, asked_of, tried_of};
 
 use base_refusals::Refusal;
 
-// `until` is the lease's end, `last` the last time handed in. A lost lease still tells its end, so `lost` can't be the lack of it.
+// `until` is the lease's end, `last` the last time handed in; the lease is lost if `lost` isn't 0, and still tells its end. The flag is handed in by the caller, so it is
+// a byte.
 #[derive(Clone, Copy, Debug, PartialEq, Eq)]
 pub struct Held {
     pub duration: u64,
     pub until: u64,
     pub last: u64,
-    pub lost: bool,
+    pub lost: u8,
 }
 
 // How an attempt to renew ended.
@@ -40,7 +42,7 @@ impl Held {
             duration,
             until: now.saturating_add(duration),
             last: now,
-            lost: false,
+            lost: 0,
         }
     }
 
@@ -48,7 +50,7 @@ impl Held {
         ensures { result ≡ is_due (lease_of self) now }
     {
         let left = self.until.saturating_sub(now);
-        !self.lost && self.duration != u64::MAX && left <= self.duration / 2
+        self.lost == 0 && self.duration != u64::MAX && left <= self.duration / 2
     }
 
     // The lease with this last time.
@@ -60,7 +62,8 @@ impl Held {
 
     // Whether a renewal is due; a time below the last one handed in is refused.
     pub fn renewal(self, now: u64) -> Result<Asked, Refusal>
-        ensures { asked_of self result ≡ renewal (lease_of self) now }
+        ensures answers { asked_of self result ≡ renewal (lease_of self) now }
+        ensures flag { IfOk result (λ a. a.held.lost ≡ self.lost) }
     {
         if now < self.last {
             return Err(Refusal::TimeFalls);
@@ -92,21 +95,22 @@ impl Held {
         }
     }
 
-    // The lease after an attempt to renew that started at one time, and whose outcome came at another; a start below the last
+    // The lease after an attempt to renew that started at one time, and whose outcome came at another, where a flag that is set stays byte for byte; a start below the last
     // time handed in and an outcome before its start are refused.
     pub fn attempt(self, started: u64, now: u64, outcome: RenewalOutcome) -> Result<Held, Refusal>
-        ensures { tried_of self result ≡ attempt (lease_of self) (attempt_of started now outcome) }
+        ensures answers { tried_of self result ≡ attempt (lease_of self) (attempt_of started now outcome) }
+        ensures flag { IfOk result (λ held. held.lost ≡ cond (is_set self.lost) self.lost (byte (attempt (lease_of self) (attempt_of started now outcome)).lease.lost)) }
     {
         if started < self.last || now < started {
             return Err(Refusal::TimeFalls);
         }
-        if self.lost {
+        if self.lost != 0 {
             return Ok(self.at(now));
         }
         Ok(Held {
             until: self.until_after(started, outcome),
             last: now,
-            lost: self.loses(now, outcome),
+            lost: u8::from(self.loses(now, outcome)),
             ..self
         })
     }

@@ -37,14 +37,6 @@ module _ (limit sent next : ℕ) (full : ltb limit sent ≡ true) where
   full_taken [] = refl
   full_taken (m ∷ ms) = ap (λ (b : Bool). cond b [] (send_msg next m ++ taken limit (sent + length m.text) (suc m.num) ms)) full
 
-  full_left : (ms : List Msg) → left_over limit sent ms ≡ ms
-  full_left [] = refl
-  full_left (m ∷ ms) = ap (λ (b : Bool). cond b (m ∷ ms) (left_over limit (sent + length m.text) ms)) full
-
-  full_next : (ms : List Msg) → next_after limit sent next ms ≡ next
-  full_next [] = refl
-  full_next (m ∷ ms) = ap (λ (b : Bool). cond b next (next_after limit (sent + length m.text) (suc m.num) ms)) full
-
 pub piece_of : (C M end : ℕ) (w b : List ℕ) (left dist number start first rest left' dist' : ℕ) → length b ≡ C → NextMessage C M end w b left dist number start first rest left' dist'
     → length (take first (drop start b) ++ take rest b) ≡ first + rest
 piece_of C M end w b left dist number start first rest left' dist' long r = piece_length b start first rest (omega (arith, r.inside)) (omega (arith, r.front))

@@ -7,16 +7,16 @@ ghost use Rattle.std.specs.Prelude.{◌≡◌, cond, ◌+◌, ◌*◌, ◌≤◌
 ghost use Rattle.model_frame.specs.Parse.{run_bytes};
 ghost use Rattle.model_frame.specs.Writing.{change_bytes};
 ghost use Rattle.model_frame.specs.Sizes.{sizes};
-ghost use Rattle.base_laws.specs.Wrote.{Wrote};
+ghost use Rattle.base_bytes.specs.Put.{Put};
 ghost use Rattle.model_session.specs.Summary.{numbered_from};
 ghost use Rattle.store_log.specs.Log.{Position, log_of, rest_of};
 ghost use Rattle.active_messages.specs.Cut.{taken, batch_count, Measured};
 
+use base_bytes::Writer;
 use store_log::LogPosition;
 use store_log::log::Log;
 
 // How many changes, and their bytes.
-#[repr(C)]
 #[derive(Clone, Copy)]
 pub struct Extent {
     pub count: usize,
@@ -24,7 +24,6 @@ pub struct Extent {
 }
 
 // A batch: the position in the log where it ends, the next outgoing number there, and the changes that its messages make.
-#[repr(C)]
 #[derive(Clone, Copy)]
 pub struct Cut {
     pub position: LogPosition,
@@ -37,7 +36,7 @@ fn skips(next: u64, number: u64) -> usize
     ensures is { result ≡ cond (ltb next number) 1 0 }
     ensures within { result ≤ 1 }
 {
-    if next < number { 1 } else { 0 }
+    usize::from(next < number)
 }
 
 // Whether a batch with so many message bytes takes no more.
@@ -81,35 +80,26 @@ pub fn measure(log: &Log, position: LogPosition, next: u64, limit: u64) -> Cut
 }
 
 // Writes the changes of the messages of that batch.
-pub fn put_messages(
-    log: &Log,
-    position: LogPosition,
-    next: u64,
-    limit: u64,
-    out: &mut [u8],
-    at: usize,
-) -> usize
+pub fn put_messages(log: &Log, position: LogPosition, next: u64, limit: u64, writer: &mut Writer)
     requires bytes_len_bound { length log.now.bytes.now ≤ 33554432 }
     requires position { Position (length log.now.bytes.now) log.now.max log.now.next log.now.words.now log.now.bytes.now position.left position.dist }
-    requires left_in_bounds { at + sizes (taken limit 0 next (rest_of (length log.now.bytes.now) log.now.max log.now.next log.now.words.now log.now.bytes.now position.left)) ≤ length out.old }
-    ensures { Wrote out.old at (run_bytes change_bytes (taken limit 0 next (rest_of (length log.now.bytes.now) log.now.max log.now.next log.now.words.now log.now.bytes.now position.left))) out.new result }
+    requires left_in_bounds { writer.old.at + sizes (taken limit 0 next (rest_of (length log.now.bytes.now) log.now.max log.now.next log.now.words.now log.now.bytes.now position.left)) ≤ length writer.old.out.now }
+    ensures { Put writer.old (run_bytes change_bytes (taken limit 0 next (rest_of (length log.now.bytes.now) log.now.max log.now.next log.now.words.now log.now.bytes.now position.left))) writer.new }
 {
     let mut next = next;
     let mut sent: u64 = 0;
-    let mut pos = at;
     for found in log.messages_at(position) {
         if is_full(limit, sent) {
             break;
         }
         let parts = log.parts(found.span);
-        pos = put::put_sent(next, found.number, &parts, out, pos);
+        put::put_sent(next, found.number, &parts, writer);
         sent += (found.span.first + found.span.rest) as u64;
         next = found.number + 1;
     }
-    pos
 }
 
-// How many batches send the log.
+// How many batches send the log. Where a batch ends doesn't depend on the number before it, so that is 1.
 pub fn batches(log: &Log, limit: u64) -> usize
     requires max_bound { log.now.max ≤ 65536 }
     requires bytes_len_bound { length log.now.bytes.now ≤ 33554432 }

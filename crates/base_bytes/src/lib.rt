@@ -1,10 +1,16 @@
 // Little-endian numbers in a slice of bytes, by one law over the width, and copying.
 #![tactic(auto)]
 
-ghost use Rattle.std.specs.Prelude.{ℕ, ◌≡◌, ◌+◌, ◌<◌, ◌≤◌, length};
+ghost use Rattle.std.specs.Prelude.{ℕ, ◌≡◌, ◌+◌, ◌^◌, ◌<◌, ◌≤◌, [], ◌∷◌, length};
 ghost use Rattle.std.proofs.Math.Nat.{zero-lt-suc};
 ghost use Rattle.model_frame.specs.Bytes.{le_at, bytes_of};
+ghost use Rattle.model_frame.specs.Writing.{blob_bytes};
 ghost use Rattle.base_laws.specs.Wrote.{Wrote};
+ghost use Rattle.base_bytes.specs.Put.{Put};
+
+pub mod writer;
+
+pub use writer::Writer;
 
 // A number that stands in a slice as `WIDTH` bytes, the lowest first.
 pub trait LittleEndian: Copy + Drop {
@@ -118,4 +124,51 @@ pub fn copy(s: &[u8], out: &mut [u8], at: usize) -> usize
     let end = at + s.len();
     out[at..end].copy_from_slice(s);
     end
+}
+
+impl Writer<'_> {
+    pub fn byte(&mut self, b: u8)
+        requires { self.old.at + 1 ≤ length self.old.out.now }
+        ensures put { Put self.old (b ∷ []) self.new }
+        ensures past { self.new.at ≡ self.old.at + 1 }
+    {
+        self.out[self.at] = b;
+        self.at += 1;
+    }
+
+    pub fn number<T: LittleEndian>(&mut self, n: T)
+        requires { self.old.at + T.WIDTH ≤ length self.old.out.now }
+        ensures put { Put self.old (bytes_of T.WIDTH (T.value n)) self.new }
+        ensures past { self.new.at ≡ self.old.at + T.WIDTH }
+    {
+        self.at = n.put_at(self.out, self.at);
+    }
+
+    pub fn bytes(&mut self, s: &[u8])
+        requires { self.old.at + length s.now ≤ length self.old.out.now }
+        ensures { Put self.old s.now self.new }
+    {
+        self.at = copy(s, self.out, self.at);
+    }
+
+    // A byte that says what follows, and a number.
+    pub fn tagged(&mut self, tag: u8, n: u64)
+        requires { self.old.at + 9 ≤ length self.old.out.now }
+        ensures put { Put self.old (tag ∷ bytes_of 8 n) self.new }
+        ensures past { self.new.at ≡ self.old.at + 9 }
+    {
+        self.byte(tag);
+        self.number(n);
+    }
+
+    // Bytes with their number before them.
+    pub fn blob(&mut self, s: &[u8])
+        requires s_in_bounds { self.old.at + (4 + length s.now) ≤ length self.old.out.now }
+        requires s_len_bound { length s.now < 2 ^ 32 }
+        ensures put { Put self.old (blob_bytes s.now) self.new }
+        ensures past { self.new.at ≡ self.old.at + (4 + length s.now) }
+    {
+        self.number(s.len() as u32);
+        self.bytes(s);
+    }
 }

@@ -3,11 +3,11 @@ use mathlib.Core.Path.{◌≡◌, refl, sym, ap, subst, ◌∙◌}
 use mathlib.Core.Bool.{Bool, true, false, cond, ◌&&◌, or-true}
 use mathlib.Core.List.{List, [], ◌∷◌, ◌++◌, append-nil}
 use mathlib.Core.Option.{Option, none, some}
-use Prim.Native.Nat.{ℕ, suc, ◌+◌, ◌*◌, ◌/◌, ◌%◌, ◌<◌, ◌≤◌}
+use Prim.Native.Nat.{ℕ, ◌+◌, ◌*◌, ◌/◌, ◌%◌, ◌<◌, ◌≤◌}
 use native.Mathlib.Omega.{arith}
 use native.Mathlib.Numerals.{add-one}
-use lib.ListN.{length, get_or, set, take, drop, length-set, length-drop, length-append, take-append-drop}
-use lib.Seq.{take-suc, take-suc-set, drop-cons, append_snoc, length-take-le, sets, sets-eq, take_at, drop_at, drop-drop, take-length}
+use lib.ListN.{length, get_or, set, take, drop, length-set, length-append, take-append-drop}
+use lib.Seq.{take-suc, take-suc-set, append_snoc, length-take-le, sets, sets-eq, take_at, drop_at, drop-drop, take-length}
 use lib.Dec.{ltb, eqb}
 use borrow.Author.Tests.{lt-ltb, le-ltb, eqb-true, eqb-false}
 use Rattle.model_text.proofs.HexBack.{length_hex}
@@ -16,15 +16,6 @@ use Rattle.std.specs.Prelude as std
 use Rattle.std.specs.Prelude.{Some, None}
 use Rattle.std.specs.Bool.{then_some}
 use Rattle.base_hex.specs.Lines.{ReadsLine, WroteFront, Puts}
-
--- ---- two digits of a list
-
-pub two_at : (l : List ℕ) (i : ℕ) → i < length l / 2 → drop (2 * i) l ≡ get_or l (2 * i) 0 ∷ get_or l (2 * i + 1) 0 ∷ drop (2 * (i + 1)) l
-two_at l i less =
-    let first : 2 * i < length l = omega arith in
-    let second : suc (2 * i) < length l = omega arith in
-    let next : 2 * (i + 1) ≡ suc (suc (2 * i)) = omega arith in
-    rw (add-one (2 * i), next, drop-cons l (2 * i) 0 first, drop-cons l (suc (2 * i)) 0 second) refl
 
 -- ---- reading
 
@@ -50,66 +41,77 @@ nothing : (l : List ℕ) → length l ≡ 0 → bytes_from l ≡ some []
 nothing [] e = refl
 nothing (a ∷ l) e = absurd (omega arith)
 
+-- two digits, and what stands behind them
+pair_then : (p rest : List ℕ) → length p ≡ 2
+    → bytes_from (p ++ rest) ≡ cond (ltb (digit_value (get_or p 0 0)) 16 && ltb (digit_value (get_or p 1 0)) 16) (byte_then (digit_value (get_or p 0 0) * 16 + digit_value (get_or p 1 0)) (bytes_from rest)) none
+pair_then [] rest e = absurd (omega arith)
+pair_then (a ∷ []) rest e = absurd (omega arith)
+pair_then (a ∷ b ∷ []) rest e = refl
+pair_then (a ∷ b ∷ c ∷ p) rest e = absurd (omega arith)
+
 -- what is left gives what the whole gives
-pub record Reading (size : ℕ) (line out : List ℕ) (i : ℕ) : Type 0 where
+pub record Reading (size : ℕ) (line out : List ℕ) (i : ℕ) (rest : List ℕ) : Type 0 where
   pub same : length out ≡ size
-  pub left : bytes_from line ≡ behind (take i out) (bytes_from (drop (2 * i) line))
+  pub left : bytes_from line ≡ behind (take i out) (bytes_from rest)
+  pub long : 2 * i + length rest ≡ length line
 
-pub reading : (line out : List ℕ) → Reading (length out) line out 0
-reading line out = record { same = refl; left = sym (behind_nothing (bytes_from line)) }
+pub reading : (line out : List ℕ) → Reading (length out) line out 0 line
+reading line out = record { same = refl; left = sym (behind_nothing (bytes_from line)); long = omega arith }
 
-module _ (size : ℕ) (line out : List ℕ) (i : ℕ) (g : Reading size line out i) (room : length line ≤ 2 * size) where
-  -- the two digits at i
-  module _ (less : i < length line / 2) where
+module _ (size : ℕ) (line out : List ℕ) (i : ℕ) (rest : List ℕ) (g : Reading size line out i rest) where
+  -- two digits are taken
+  module _ (p next : List ℕ) (e : rest ≡ p ++ next) (two : length p ≡ 2) where
     a : ℕ
-    a = digit_value (get_or line (2 * i) 0)
+    a = digit_value (get_or p 0 0)
 
     b : ℕ
-    b = digit_value (get_or line (2 * i + 1) 0)
+    b = digit_value (get_or p 1 0)
 
-    tested : {v : Bool} → (ltb a 16 && ltb b 16) ≡ v → bytes_from (drop (2 * i) line) ≡ cond v (byte_then (a * 16 + b) (bytes_from (drop (2 * (i + 1)) line))) none
+    tested : {v : Bool} → (ltb a 16 && ltb b 16) ≡ v → bytes_from rest ≡ cond v (byte_then (a * 16 + b) (bytes_from next)) none
     unfolding a b
-    tested e =
-        ap bytes_from (two_at line i less)
-        ∙ ap (λ (t : Bool). cond t (byte_then (a * 16 + b) (bytes_from (drop (2 * (i + 1)) line))) none) e
+    tested q = ap bytes_from e ∙ pair_then p next two ∙ ap (λ (t : Bool). cond t (byte_then (a * 16 + b) (bytes_from next)) none) q
 
-    pub reads_on : (ltb (digit_value (get_or line (2 * i) 0)) 16 && ltb (digit_value (get_or line (2 * i + 1) 0)) 16) ≡ true → (v : ℕ) → v ≡ digit_value (get_or line (2 * i) 0) * 16 + digit_value (get_or line (2 * i + 1) 0)
-        → Reading size line (set out i v) (i + 1)
+    pub reads_on : length line ≤ 2 * size → (ltb (digit_value (get_or p 0 0)) 16 && ltb (digit_value (get_or p 1 0)) 16) ≡ true → (v : ℕ) → v ≡ digit_value (get_or p 0 0) * 16 + digit_value (get_or p 1 0)
+        → Reading size line (set out i v) (i + 1) next
     unfolding a b
-    reads_on e v ev = record {
-      same = length-set out i v ∙ g.same;
-      left =
-          let inside : i < length out = omega (arith, g.same) in
-          g.left ∙ ap (behind (take i out)) (tested e)
-          ∙ behind_onto (take i out) (a * 16 + b) (bytes_from (drop (2 * (i + 1)) line))
-          ∙ ap (λ (k : ℕ). behind (take i out ++ (k ∷ [])) (bytes_from (drop (2 * (i + 1)) line))) (sym ev)
-          ∙ ap (λ (l : List ℕ). behind l (bytes_from (drop (2 * (i + 1)) line))) (sym (rw add-one (take-suc-set out i v inside)));
-    }
+    reads_on room q v ev =
+        let inside : i < length out = omega (arith, g.same, g.long, ap length e, length-append p next) in
+        record {
+          same = length-set out i v ∙ g.same;
+          left =
+              g.left ∙ ap (behind (take i out)) (tested q)
+              ∙ behind_onto (take i out) (a * 16 + b) (bytes_from next)
+              ∙ ap (λ (k : ℕ). behind (take i out ++ (k ∷ [])) (bytes_from next)) (sym ev)
+              ∙ ap (λ (l : List ℕ). behind l (bytes_from next)) (sym (rw add-one (take-suc-set out i v inside)));
+          long = omega (arith, g.long, ap length e, length-append p next);
+        }
 
--- nothing is left, or one digit
-module _ (size : ℕ) (line out : List ℕ) (i : ℕ) (r : Reading size line out i) (at : i ≡ length line / 2) (room : length line ≤ 2 * size) where
-  g : Reading size line out (length line / 2)
-  g = subst (Reading size line out) at r
+    pub reads_off : (ltb (digit_value (get_or p 0 0)) 16 && ltb (digit_value (get_or p 1 0)) 16) ≡ false → ReadsLine (bytes_from line) out None
+    unfolding a b
+    reads_off q = record { bytes = sym (g.left ∙ ap (behind (take i out)) (tested q)); within = omega arith }
 
-  reads_odd : (2 * (length line / 2) ≡ length line → ⊥) → ReadsLine (bytes_from line) out None
-  reads_odd odd =
-      let one : length (drop (2 * (length line / 2)) line) ≡ 1 = omega (arith, length-drop (2 * (length line / 2)) line) in
-      record { bytes = sym (g.left ∙ ap (behind (take (length line / 2) out)) (alone (drop (2 * (length line / 2)) line) one)); within = omega arith }
+  -- nothing is left, or one digit
+  module _ (few : length rest < 2) where
+    reads_odd : (2 * (length line / 2) ≡ length line → ⊥) → ReadsLine (bytes_from line) out None
+    reads_odd odd =
+        let one : length rest ≡ 1 = omega (arith, g.long) in
+        record { bytes = sym (g.left ∙ ap (behind (take i out)) (alone rest one)); within = omega arith }
 
-  reads_all : 2 * (length line / 2) ≡ length line → ReadsLine (bytes_from line) out (Some (length line / 2))
-  reads_all even =
-      let none_left : length (drop (2 * (length line / 2)) line) ≡ 0 = omega (arith, length-drop (2 * (length line / 2)) line) in
-      record {
-        bytes = sym (g.left ∙ ap (behind (take (length line / 2) out)) (nothing (drop (2 * (length line / 2)) line) none_left) ∙ ap some (append-nil (take (length line / 2) out)));
-        within = omega (arith, g.same);
-      }
+    reads_all : length line ≤ 2 * size → 2 * (length line / 2) ≡ length line → ReadsLine (bytes_from line) out (Some (length line / 2))
+    reads_all room even =
+        let none_left : length rest ≡ 0 = omega (arith, g.long) in
+        let half : i ≡ length line / 2 = omega (arith, g.long) in
+        record {
+          bytes = sym (g.left ∙ ap (behind (take i out)) (nothing rest none_left) ∙ ap some (append-nil (take i out) ∙ ap (λ (k : ℕ). take k out) half));
+          within = omega (arith, g.same);
+        }
 
-  pub reads_end : {r : std.Option ℕ} → r ≡ then_some (eqb (2 * (length line / 2)) (length line)) (length line / 2) → ReadsLine (bytes_from line) out r
-  reads_end {r} e = subst (ReadsLine (bytes_from line) out) (sym e) (go (eqb (2 * (length line / 2)) (length line)) refl)
-    where
-      go : (t : Bool) → eqb (2 * (length line / 2)) (length line) ≡ t → ReadsLine (bytes_from line) out (then_some (eqb (2 * (length line / 2)) (length line)) (length line / 2))
-      go true q = rw q (reads_all (eqb-true _ _ q))
-      go false q = rw q (reads_odd (eqb-false _ _ q))
+    pub reads_end : length line ≤ 2 * size → {r : std.Option ℕ} → r ≡ then_some (eqb (2 * (length line / 2)) (length line)) (length line / 2) → ReadsLine (bytes_from line) out r
+    reads_end room {r} e = subst (ReadsLine (bytes_from line) out) (sym e) (go (eqb (2 * (length line / 2)) (length line)) refl)
+      where
+        go : (t : Bool) → eqb (2 * (length line / 2)) (length line) ≡ t → ReadsLine (bytes_from line) out (then_some (eqb (2 * (length line / 2)) (length line)) (length line / 2))
+        go true q = rw q (reads_all room (eqb-true _ _ q))
+        go false q = rw q (reads_odd (eqb-false _ _ q))
 
 -- ---- a line
 

@@ -26,14 +26,15 @@ fn byte_of(high: u8, low: u8) -> Option<u8>
     Some(high * 16 + low)
 }
 
-// The bytes of an even number of digits: how many, at the start of the area.
+// The bytes of an even number of digits: how many, at the start of the area. It is written by an index, here and in put_hex, since after a loop over
+// an adapter of `iter_mut` or `chunks_exact_mut` a proof knows nothing of the elements.
 fn read_digits(line: &[u8], out: &mut [u8]) -> Option<usize>
     requires { length line.now ≤ 2 * length out.old }
     ensures { ReadsLine (bytes_from line.now) out.new result }
 {
     let n = line.len() / 2;
-    for i in 0..n {
-        out[i] = byte_of(line[2 * i], line[2 * i + 1])?;
+    for (i, pair) in line.chunks_exact(2).enumerate() {
+        out[i] = byte_of(pair[0], pair[1])?;
     }
     (2 * n == line.len()).then_some(n)
 }
@@ -69,7 +70,7 @@ pub fn put_hex(src: &[u8], out: &mut [u8])
     }
 }
 
-// Writes R, a space and the refusal in decimal at the start of out, and gives their number.
+// Writes R, a space and the refusal in decimal at the start of out, and gives how many bytes they are. The refusal comes by its number, as an answer for C has it.
 pub fn put_refusal(n: u8, out: &mut [u8]) -> usize
     requires { 4 ≤ length out.old }
     ensures { Puts (refusal_text n) out.old out.new result }

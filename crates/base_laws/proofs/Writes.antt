@@ -1,12 +1,11 @@
 -- One writer after another. Assumes nothing.
-use mathlib.Core.Path.{◌≡◌, refl, sym, ap, ◌∙◌}
+use mathlib.Core.Path.{◌≡◌, sym, ap, ◌∙◌}
 use mathlib.Core.List.{List, [], ◌++◌}
-use Prim.Native.Nat.{ℕ, ◌+◌, ◌/◌, ◌%◌, ◌^◌, ◌≤◌}
+use Prim.Native.Nat.{ℕ, ◌+◌, ◌≤◌}
 use native.Mathlib.Omega.{arith}
 use lib.ListN.{length, length-append}
-use Rattle.model_frame.specs.Bytes.{bytes_of, write}
-use Rattle.model_frame.proofs.Le.{length_bytes}
-use Rattle.base_laws.proofs.Little.{put_join, write_append, write_none, length_write}
+use Rattle.model_frame.specs.Bytes.{write}
+use Rattle.base_laws.proofs.Little.{write_append, write_none, length_write}
 use Rattle.base_laws.specs.Wrote.{Wrote}
 
 -- the second where the first ended
@@ -16,21 +15,11 @@ wrote_on {l} {xs} {l₁} {ys} {l₂} {at} w v = record {
   past = omega (arith, w.past, v.past, length-append xs ys);
 }
 
--- the low and the high part of a number
-pub wrote_join : (m n v : ℕ) {l l₁ l₂ : List ℕ} {at k r : ℕ} → Wrote l at (bytes_of m (v % 256 ^ m)) l₁ k → Wrote l₁ (at + m) (bytes_of n (v / 256 ^ m)) l₂ r → Wrote l at (bytes_of (m + n) v) l₂ r
-wrote_join m n v {l} {l₁} {l₂} {at} w u = record {
-  bytes = rw (u.bytes, w.bytes) (put_join m n l at v);
-  past = omega (arith, u.past, length_bytes n (v / 256 ^ m), length_bytes (m + n) v);
-}
-
 -- What is still to be written, `rest` from `pos` on, makes of the list as it is what `all` from `at` on makes of the first: the invariant of a loop that writes.
 pub record Left (first : List ℕ) (at : ℕ) (all out : List ℕ) (pos : ℕ) (rest : List ℕ) : Type 0 where
   pub same : length out ≡ length first
   pub bytes : write out pos rest ≡ write first at all
   pub past : pos + length rest ≡ at + length all
-
-pub left_start : (l : List ℕ) (at : ℕ) (bs : List ℕ) → Left l at bs l at bs
-left_start l at bs = record { same = refl; bytes = refl; past = refl }
 
 module _ {first all out : List ℕ} {at pos : ℕ} where
   pub left_room : {more : List ℕ} (xs rest : List ℕ) → Left first at all out pos more → more ≡ xs ++ rest → at + length all ≤ length first → pos + length xs ≤ length out

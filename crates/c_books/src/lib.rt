@@ -57,17 +57,10 @@ impl Numbered for Option<u64> {
     ghost said = { picked_of };
 
     fn numbered(self) -> Answered {
-        match self {
-            Some(session) => Answered {
-                refusal: 0,
-                flag: 1,
-                session,
-            },
-            None => Answered {
-                refusal: 0,
-                flag: 0,
-                session: 0,
-            },
+        Answered {
+            refusal: 0,
+            flag: u8::from(self.is_some()),
+            session: self.unwrap_or(0),
         }
     }
 }
@@ -78,7 +71,7 @@ impl Numbered for bool {
     fn numbered(self) -> Answered {
         Answered {
             refusal: 0,
-            flag: if self { 1 } else { 0 },
+            flag: u8::from(self),
             session: 0,
         }
     }
@@ -101,24 +94,21 @@ fn in_numbers<A: Numbered>(answer: Result<A, Refusal>) -> Answered
 pub extern "C" fn wz_books_make(words: &mut [u64]) -> Answered
     ensures { MakesBooks words.old words.new result }
 {
-    let answer = active_books::make(words);
-    in_numbers(answer)
+    in_numbers(active_books::make(words))
 }
 
 #[unsafe(no_mangle)]
 pub extern "C" fn wz_books_fall_behind(words: &mut [u64], session: u64) -> Answered
     ensures { Calls words.old words.new (m.fall_behind session) result }
 {
-    let answer = active_books::fall_behind(words, session);
-    in_numbers(answer)
+    in_numbers(active_books::fall_behind(words, session))
 }
 
 #[unsafe(no_mangle)]
 pub extern "C" fn wz_books_all_fall_behind(words: &mut [u64], listing: &[u64]) -> Answered
     ensures { Calls words.old words.new (m.all_fall_behind listing.now) result }
 {
-    let answer = active_books_pass::all_fall_behind(words, listing);
-    in_numbers(answer)
+    in_numbers(active_books_pass::all_fall_behind(words, listing))
 }
 
 #[unsafe(no_mangle)]
@@ -129,8 +119,7 @@ pub extern "C" fn wz_books_caught_up(
 ) -> Answered
     ensures { Calls words.old words.new (m.caught_up session incarnation.0) result }
 {
-    let answer = active_books::caught_up(words, session, incarnation);
-    in_numbers(answer)
+    in_numbers(active_books::caught_up(words, session, incarnation))
 }
 
 #[unsafe(no_mangle)]
@@ -140,8 +129,7 @@ pub extern "C" fn wz_books_behind_unless_compared_open(
 ) -> Answered
     ensures { Calls words.old words.new (m.behind_unless_compared_open incarnation.0) result }
 {
-    let answer = active_books_pass::behind_unless_compared_open(words, incarnation);
-    in_numbers(answer)
+    in_numbers(active_books_pass::behind_unless_compared_open(words, incarnation))
 }
 
 #[unsafe(no_mangle)]
@@ -152,24 +140,21 @@ pub extern "C" fn wz_books_next_to_catch_up(
 ) -> Answered
     ensures { Calls words.old words.new (m.next_to_catch_up listing.now incarnation.0) result }
 {
-    let answer = active_books_pass::next_to_catch_up(words, listing, incarnation);
-    in_numbers(answer)
+    in_numbers(active_books_pass::next_to_catch_up(words, listing, incarnation))
 }
 
 #[unsafe(no_mangle)]
 pub extern "C" fn wz_books_opening(words: &mut [u64], session: u64) -> Answered
     ensures { Calls words.old words.new (m.opening session) result }
 {
-    let answer = active_books::opening(words, session);
-    in_numbers(answer)
+    in_numbers(active_books::opening(words, session))
 }
 
 #[unsafe(no_mangle)]
 pub extern "C" fn wz_books_closed(words: &mut [u64], session: u64) -> Answered
     ensures { Calls words.old words.new (m.closed session) result }
 {
-    let answer = active_books::closed(words, session);
-    in_numbers(answer)
+    in_numbers(active_books::closed(words, session))
 }
 
 #[unsafe(no_mangle)]
@@ -180,8 +165,7 @@ pub extern "C" fn wz_books_ended(
 ) -> Answered
     ensures { Calls words.old words.new (m.ended session incarnation.0) result }
 {
-    let answer = active_books::ended(words, session, incarnation);
-    in_numbers(answer)
+    in_numbers(active_books::ended(words, session, incarnation))
 }
 
 #[unsafe(no_mangle)]
@@ -192,22 +176,19 @@ pub extern "C" fn wz_books_all_compared(
 ) -> Answered
     ensures { Calls words.old words.new (m.all_compared listing.now incarnation.0) result }
 {
-    let answer = active_books_pass::all_compared(words, listing, incarnation);
-    in_numbers(answer)
+    in_numbers(active_books_pass::all_compared(words, listing, incarnation))
 }
 
 #[unsafe(no_mangle)]
 pub extern "C" fn wz_books_acknowledged(words: &mut [u64], incarnation: Incarnation) -> Answered
     ensures { Calls words.old words.new (m.acknowledge incarnation.0) result }
 {
-    let answer = active_books::acknowledged(words, incarnation);
-    in_numbers(answer)
+    in_numbers(active_books::acknowledged(words, incarnation))
 }
 
 #[unsafe(no_mangle)]
 pub extern "C" fn wz_books_is_behind(words: &[u64], session: u64) -> Answered
     ensures { TellsBehind words.now session result }
 {
-    let answer = active_books::is_behind(words, session);
-    in_numbers(answer)
+    in_numbers(active_books::is_behind(words, session))
 }

@@ -1,5 +1,6 @@
 // The eight changes of a stored session for programs in C or Rust: 0, or a refusal. Areas that break the rules, and a place that holds no session,
 // are turned down before all else (25), and nothing is asked of a caller. C lends the areas apart, and hands the shape and the place beside them.
+// `c_changes_c` exports these as they stand, so their types are C's.
 #![tactic(auto)]
 
 ghost use Rattle.std.specs.Prelude.{[], ◌∷◌, List, ℕ};
@@ -23,15 +24,10 @@ fn change_words<F: FnOnce(&mut [u64])>(
     requires callable { TakesWords (λ x. FnOnceTakesAtMut F.FnOnce change x) shape }
     ensures { (f : Stored → Stored) → DoesWords (λ x y. FnOnceReturnsAtMut F.FnOnce change x tt y) shape f → ChangeIs shape place 0 f words.old words.new bytes.now bytes.now result }
 {
-    if !store_areas::in_use(words, bytes, shape, place) {
-        return Refusal::RulesBroken.number();
-    }
-    let view = View {
-        words,
-        bytes,
-        shape,
+    let spot = match View::with_place(shape, words, bytes, place) {
+        Ok(view) => view.spot(place),
+        Err(refusal) => return refusal.number(),
     };
-    let spot = view.spot(place);
     change(&mut words[spot.words_start..spot.words_end]);
     0
 }
@@ -88,7 +84,8 @@ pub fn store_reset(words: &mut [u64], bytes: &[u8], shape: Shape, place: usize) 
 }
 
 // The four below can turn the change itself down, or write bytes too: a closure over both slices that refuses would ask a clause longer than the
-// steps that it saves.
+// steps that it saves. Each finds its spot by the match that `change_words` has: `?` can't leave a function that answers a number, so a function for the
+// spot would leave all four lines of it.
 
 // A Record of the next outgoing number with this message; 40 if no number is left.
 pub fn store_record(
@@ -100,15 +97,10 @@ pub fn store_record(
 ) -> u8
     ensures { ChangeIs shape place (why_no_record (session_in shape words.old bytes.old place).next_out) (changed shape.bytes shape.messages (record_msg (session_in shape words.old bytes.old place).next_out text.now ∷ [])) words.old words.new bytes.old bytes.new result }
 {
-    if !store_areas::in_use(words, bytes, shape, place) {
-        return Refusal::RulesBroken.number();
-    }
-    let view = View {
-        words,
-        bytes,
-        shape,
+    let spot = match View::with_place(shape, words, bytes, place) {
+        Ok(view) => view.spot(place),
+        Err(refusal) => return refusal.number(),
     };
-    let spot = view.spot(place);
     let max = shape.messages as usize;
     let seq = store_place::next_outgoing(&words[spot.words_start..spot.words_end]);
     if seq == u64::MAX {
@@ -134,15 +126,10 @@ pub fn store_record_none(
 ) -> u8
     ensures { ChangeIs shape place (why_no_bare_record (session_in shape words.old bytes.now place).next_out seq) (changed shape.bytes shape.messages (record_bare seq ∷ [])) words.old words.new bytes.now bytes.now result }
 {
-    if !store_areas::in_use(words, bytes, shape, place) {
-        return Refusal::RulesBroken.number();
-    }
-    let view = View {
-        words,
-        bytes,
-        shape,
+    let spot = match View::with_place(shape, words, bytes, place) {
+        Ok(view) => view.spot(place),
+        Err(refusal) => return refusal.number(),
     };
-    let spot = view.spot(place);
     let max = shape.messages as usize;
     let next = store_place::next_outgoing(&words[spot.words_start..spot.words_end]);
     if seq < next || seq == u64::MAX {
@@ -162,18 +149,13 @@ pub fn store_set_created_at(
 ) -> u8
     ensures { ChangeIs shape place (why_no_stamp text.now) (changed shape.bytes shape.messages (set_created_at text.now ∷ [])) words.old words.new bytes.old bytes.new result }
 {
-    if !store_areas::in_use(words, bytes, shape, place) {
-        return Refusal::RulesBroken.number();
-    }
+    let spot = match View::with_place(shape, words, bytes, place) {
+        Ok(view) => view.spot(place),
+        Err(refusal) => return refusal.number(),
+    };
     if !frame_stamp::is_stamp(text) {
         return Refusal::BadTimestamp.number();
     }
-    let view = View {
-        words,
-        bytes,
-        shape,
-    };
-    let spot = view.spot(place);
     store_place::set_created_at(
         &mut words[spot.words_start..spot.words_end],
         &mut bytes[spot.bytes_start..spot.bytes_end],
@@ -192,18 +174,13 @@ pub fn store_set_marks(
 ) -> u8
     ensures { ChangeIs shape place (why_no_marks text.now) (changed shape.bytes shape.messages (set_marks text.now ∷ [])) words.old words.new bytes.old bytes.new result }
 {
-    if !store_areas::in_use(words, bytes, shape, place) {
-        return Refusal::RulesBroken.number();
-    }
+    let spot = match View::with_place(shape, words, bytes, place) {
+        Ok(view) => view.spot(place),
+        Err(refusal) => return refusal.number(),
+    };
     if !frame_stamp::is_marks(text) {
         return Refusal::BadMarks.number();
     }
-    let view = View {
-        words,
-        bytes,
-        shape,
-    };
-    let spot = view.spot(place);
     store_place::set_marks(
         &mut words[spot.words_start..spot.words_end],
         &mut bytes[spot.bytes_start..spot.bytes_end],

@@ -11,7 +11,8 @@ use Rattle.standby_choice.specs.declared.lent.LentCopy.{LentCopy}
 use Rattle.base_refusals.specs.declared.Refusal.{Refusal}
 use Rattle.std.specs.Prelude.{None, Some, ok_or, Result, Err}
 use Rattle.standby_choice.specs.Choice.{copy_of, is_sound, copies_of, are_sound, choice_of}
-use Rattle.c_choice.specs.Choosing.{LentIs, copies_in, are_sound_in, code_of, code_in, returned}
+use Rattle.c_choice.specs.Choosing.{LentIs, copies_in, are_sound_in, code_of, returned}
+use Rattle.c_code.specs.Codes as codes
 
 -- ---- what is returned
 
@@ -22,10 +23,10 @@ module _ (ws w0 b0 w1 b1 w2 b2 w3 b3 w4 b4 : List ℕ) where
   abbrev taker : ℕ
   taker = chosen (copies_in ws w0 b0 w1 b1 w2 b2 w3 b3 w4 b4)
 
-  pub too_short : (n : ℕ) → length ws < 30 → n ≡ code_in (Err Refusal.RulesBroken) → n ≡ returned ws w0 b0 w1 b1 w2 b2 w3 b3 w4 b4
+  pub too_short : (n : ℕ) → length ws < 30 → n ≡ codes.code_of (Err Refusal.RulesBroken) → n ≡ returned ws w0 b0 w1 b1 w2 b2 w3 b3 w4 b4
   too_short n h e = e ∙ sym (ap (λ (t : Bool). cond (t && sound) (cond (eqb taker 5) (code_of 39 0) (code_of 0 taker)) (code_of 25 0)) (lt-leb 30 (length ws) h))
 
-  answer : (s t : Bool) (n : ℕ) → code_in (cond s (ok_or (cond t None (Some n)) Refusal.NoneFits) (Err Refusal.RulesBroken)) ≡ cond s (cond t (code_of 39 0) (code_of 0 n)) (code_of 25 0)
+  answer : (s t : Bool) (n : ℕ) → codes.code_of (cond s (ok_or (cond t None (Some n)) Refusal.NoneFits) (Err Refusal.RulesBroken)) ≡ cond s (cond t (code_of 39 0) (code_of 0 n)) (code_of 25 0)
   answer true true n = refl
   answer true false n = refl
   answer false t n = refl
@@ -44,8 +45,8 @@ module _ (ws w0 b0 w1 b1 w2 b2 w3 b3 w4 b4 : List ℕ) where
         is_sound (e0.copy j) (e0.words j) (e0.bytes j) && (is_sound (e1.copy j) (e1.words j) (e1.bytes j) && (is_sound (e2.copy j) (e2.words j) (e2.bytes j)
         && (is_sound (e3.copy j) (e3.words j) (e3.bytes j) && (is_sound (e4.copy j) (e4.words j) (e4.bytes j) && true))))
 
-    pub answered : (r : Result ℕ Refusal) (n : ℕ) → 30 ≤ length ws → r ≡ choice_of lent → n ≡ code_in r → n ≡ returned ws w0 b0 w1 b1 w2 b2 w3 b3 w4 b4
+    pub answered : (r : Result ℕ Refusal) (n : ℕ) → 30 ≤ length ws → r ≡ choice_of lent → n ≡ codes.code_of r → n ≡ returned ws w0 b0 w1 b1 w2 b2 w3 b3 w4 b4
     answered r n h c q =
-        q ∙ ap code_in c ∙ (λ j. code_in (cond (all_sound j) (ok_or (cond (eqb (chosen (copies j)) 5) None (Some (chosen (copies j)))) Refusal.NoneFits) (Err Refusal.RulesBroken)))
+        q ∙ ap codes.code_of c ∙ (λ j. codes.code_of (cond (all_sound j) (ok_or (cond (eqb (chosen (copies j)) 5) None (Some (chosen (copies j)))) Refusal.NoneFits) (Err Refusal.RulesBroken)))
         ∙ answer sound (eqb taker 5) taker
         ∙ sym (ap (λ (t : Bool). cond (t && sound) (cond (eqb taker 5) (code_of 39 0) (code_of 0 taker)) (code_of 25 0)) (le-leb 30 (length ws) h))

@@ -1,7 +1,5 @@
 -- The copies as words, and what is returned. Assumes nothing.
-use Rattle.std.specs.Prelude.{◌≡◌, ℕ, Bool, true, [], ◌∷◌, ◌+◌, ◌*◌, ◌-◌, ◌^◌, min, cond, ◌&&◌, Result, Ok, Err, List, length, get_or, eqb, leb, ltb}
-use Rattle.base_refusals.specs.Numbers.{number_of}
-use Rattle.base_refusals.specs.declared.Refusal.{Refusal}
+use Rattle.std.specs.Prelude.{◌≡◌, ℕ, Bool, true, [], ◌∷◌, ◌+◌, ◌*◌, ◌-◌, ◌^◌, min, cond, ◌&&◌, List, length, get_or, eqb, leb, ltb}
 use Rattle.model_choice.specs.Choice.{StandbyCopy, chosen}
 use Rattle.standby_choice.specs.declared.Copy.{Copy}
 use Rattle.standby_choice.specs.declared.lent.LentCopy.{LentCopy}
@@ -33,10 +31,6 @@ pub record LentIs (ws : List ℕ) (at : ℕ) (w b : List ℕ) (c : LentCopy) : T
 -- a refusal n as n × 2^40; else 2^63 and the number of the copy, which is below 2^62
 abbrev pub code_of : ℕ → ℕ → ℕ
 code_of refusal copy = cond (eqb refusal 0) (cond (ltb copy (2 ^ 62)) (2 ^ 63 + copy) (2 ^ 64 - 1)) (refusal * 2 ^ 40)
-
-abbrev pub code_in : Result ℕ Refusal → ℕ
-code_in (Ok copy) = code_of 0 copy
-code_in (Err e) = number_of e * 2 ^ 40
 
 module _ (ws w0 b0 w1 b1 w2 b2 w3 b3 w4 b4 : List ℕ) where
   -- the five copies that the words and the areas stand for

@@ -2,9 +2,10 @@
 #![tactic(auto)]
 
 ghost use Rattle.std.specs.Prelude.{◌≡◌, ℕ, min, ◌+◌, ◌*◌, ◌≤◌, ◌<◌, length};
-ghost use Rattle.c_choice.specs.Choosing.{flag_of, described_at, LentIs, code_in, returned};
+ghost use Rattle.c_choice.specs.Choosing.{flag_of, described_at, LentIs, returned};
 
 use base_refusals::Refusal;
+use c_code::code;
 use frame_fields::Epoch;
 use standby_choice::{Copy, LentCopy};
 use store_areas::Shape;
@@ -56,22 +57,6 @@ fn lent<'a>(copies: &[u64], number: usize, words: &'a [u64], bytes: &'a [u8]) ->
         copy: copy_at(copies, number * COPY_WORDS),
         words,
         bytes,
-    }
-}
-
-// What is returned: a refusal n as n × 2^40, else 2^63 and the number of the copy.
-fn code(choice: Result<usize, Refusal>) -> u64
-    ensures { result ≡ code_in choice }
-{
-    match choice {
-        Ok(copy) => {
-            if copy < 4_611_686_018_427_387_904 {
-                9_223_372_036_854_775_808 + (copy as u64)
-            } else {
-                u64::MAX
-            }
-        }
-        Err(e) => u64::from(e.number()) * 1_099_511_627_776,
     }
 }
 

@@ -20,7 +20,8 @@ use Rattle.frame.proofs.Again as twice
 use Rattle.frame.proofs.Again.{read_again}
 use Rattle.standby_state.specs.declared.Answer.{Answer}
 use Rattle.standby_reply.specs.Replies.{frame_for}
-use Rattle.c_exports.specs.Returned.{done_code, written_code, taken_code}
+use Rattle.c_code.specs.Codes.{done_code}
+use Rattle.c_exports.specs.Returned.{written_code, taken_code}
 use Rattle.c_exports.specs.Exports.{Again, rewritten, Rewrites, told, TellsAnswer}
 
 -- what was read is written again, byte for byte

@@ -16,7 +16,7 @@ use Rattle.active_lag.specs.Queue.{queue_of, Answers}
 use Rattle.active_lag.specs.Queue as model
 use borrow.Rule.Slice.PartMut.{put_mid, take_put, same_len_mid}
 use Rattle.std.proofs.lemmas.Slice.{between-put_mid, drop-put_mid}
-use Rattle.c_exports.specs.Returned.{done_code}
+use Rattle.c_code.specs.Codes.{done_code}
 use Rattle.c_exports.specs.Queues.{queue_in, no_queue, Pushes, Filled}
 
 -- ---- the words, read and written

@@ -21,7 +21,7 @@ use Rattle.active.specs.declared.Sending.{Sending}
 use Rattle.active.specs.declared.Sent.{Sent}
 use Rattle.active.specs.Whole.{Answer, sender_of, stored_at, SendStart, ready, start_of, start_from, SendStep, gives, finished, step_of, spent, send_answer, step_from, SendsWhole}
 use Rattle.active.specs.Whole as whole
-use Rattle.c_exports.specs.Returned.{done_code}
+use Rattle.c_code.specs.Codes.{done_code}
 use Rattle.c_exports.specs.Sendings.{from_word, done_byte, start_in, send_code, NextWords, Resumes, SendIs}
 
 -- ---- a call keeps the handle and the epoch

@@ -10,7 +10,8 @@ use Rattle.c_session.specs.Telling as telling
 use Rattle.store_areas.specs.StoreWord
 use Rattle.store_areas.specs.declared.Shape.{Shape}
 use Rattle.store_areas.specs.Areas.{roomy}
-use Rattle.c_exports.specs.Returned.{refusal_code, done_code, fault_code, written_code, taken_code}
+use Rattle.c_code.specs.Codes.{refusal_code, done_code}
+use Rattle.c_exports.specs.Returned.{fault_code, written_code, taken_code}
 
 -- ---- a frame that was read, written again
 

@@ -2,7 +2,7 @@
 use Rattle.std.specs.Prelude.{◌≡◌, ℕ, ◌≤◌, Bool, true, false, cond, ◌||◌, List, length, get_or, take, drop, ltb}
 use Rattle.model_frame.specs.Refusal
 use Rattle.model_session.specs.Lag.{Queue, push}
-use Rattle.c_exports.specs.Returned.{refusal_code, done_code}
+use Rattle.c_code.specs.Codes.{refusal_code, done_code}
 
 -- the queue that the words stand for
 abbrev pub queue_in : List ℕ → Queue

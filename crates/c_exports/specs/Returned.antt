@@ -1,16 +1,9 @@
--- What the exported functions return: a refusal with its detail, done with a count, done and nothing left, and what reading comes to. Assumes nothing.
-use Rattle.std.specs.Prelude.{ℕ, ◌+◌, ◌-◌, ◌*◌, ◌^◌, cond, ltb}
+-- What the exported functions return: done and nothing left, and what reading and writing come to. Assumes nothing.
+use Rattle.std.specs.Prelude.{ℕ, ◌+◌, ◌*◌, ◌^◌}
+use Rattle.c_code.specs.Codes.{refusal_code, done_code}
 use Rattle.model_frame.specs.Writing.{WriteAnswer, took}
 use Rattle.model_frame.specs.Writing as writing
 use Rattle.model_frame.specs.Frame.{Field, frameKind, part, refusal, change, Fault, too_long, truncated, unknown, bad_text, bad_session, bad_timestamp, bad_marks, fault_number, Decoded, more, faulty, got}
-
--- refusal n, with its detail
-abbrev pub refusal_code : ℕ → ℕ → ℕ
-refusal_code n detail = n * 2 ^ 40 + detail
-
--- done, with a count
-abbrev pub done_code : ℕ → ℕ
-done_code k = cond (ltb k (2 ^ 62)) (2 ^ 63 + k) (2 ^ 64 - 1)
 
 -- done, and nothing is left
 abbrev pub last_code : ℕ

@@ -10,7 +10,8 @@ use Rattle.model_session.specs.Whole.{batch_limit}
 use Rattle.active_batch.specs.Batch.{resume_from}
 use Rattle.active.specs.Whole.{SendStart, ready, start_from, SendStep, gives, finished, step_from, area_from}
 use Rattle.active.specs.Whole as whole
-use Rattle.c_exports.specs.Returned.{refusal_code, done_code, last_code}
+use Rattle.c_code.specs.Codes.{refusal_code, done_code}
+use Rattle.c_exports.specs.Returned.{last_code}
 
 -- the words of where a sending goes on: past the last frame there is no number to go on from, and it is done
 abbrev pub from_word : Option ℕ → ℕ

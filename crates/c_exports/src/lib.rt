@@ -12,8 +12,8 @@ ghost use Rattle.model_frame.specs.Writing.{write_outcome};
 ghost use Rattle.frame_writer.specs.Encoding.{written_of};
 ghost use Rattle.frame.specs.Answers.{frame_in};
 ghost use Rattle.active.specs.Whole.{ready, sender_of, stored_at};
-ghost use Rattle.c_session.specs.Telling.{told_at, told_of};
-ghost use Rattle.c_exports.specs.Returned.{refusal_code, done_code, field_number, fault_detail, fault_code, read_code, written_code};
+ghost use Rattle.c_session.specs.Telling.{told_at};
+ghost use Rattle.c_exports.specs.Returned.{field_number, fault_detail, fault_code, read_code, written_code};
 ghost use Rattle.c_exports.specs.Exports.{Again, Rewrites, shape_of, Makes, TellsPlace, TellsAnswer};
 ghost use Rattle.c_exports.specs.Queues.{Pushes, Filled};
 ghost use Rattle.c_exports.specs.Sendings.{from_word, done_byte, SendIs, SendsNext};
@@ -21,6 +21,7 @@ ghost use Rattle.c_exports.specs.Sendings.{from_word, done_byte, SendIs, SendsNe
 use active::Sending;
 use active_lag::ReplicatedLog;
 use base_refusals::Refusal;
+use c_code::{code, done, refusal};
 use frame::{EncodeError, Field, Frame, FrameError};
 use frame_fields::{CommitNumber, Epoch};
 use frame_stamp::Protocol;
@@ -29,44 +30,14 @@ use store_areas::Shape;
 
 // ---- what is returned
 
-// Refusal n, with its detail.
-fn refusal(n: u8, detail: u32) -> u64
-    ensures { result ≡ refusal_code n detail }
-{
-    u64::from(n) * 1_099_511_627_776 + u64::from(detail)
-}
-
-// Done, with a count.
-fn done(count: usize) -> u64
-    ensures { result ≡ done_code count }
-{
-    if count < 4_611_686_018_427_387_904 {
-        return 9_223_372_036_854_775_808 + (count as u64);
-    }
-    u64::MAX
-}
-
 // Done, and nothing is left.
 const LAST: u64 = 13_835_058_055_282_163_712;
 
-// The fields' numbers are those of what C is returned; the enum has none.
-fn field_number(field: Field) -> u32
-    ensures is { result ≡ field_number (field_of field) }
-    ensures small { result < 4 }
+// A field and its unknown byte; a field's number is its place in the enum.
+fn unknown(field: Field, byte: u8) -> u32
+    ensures { result ≡ field_number (field_of field) * 256 + byte }
 {
-    match field {
-        Field::FrameKind => 0,
-        Field::Part => 1,
-        Field::Refusal => 2,
-        Field::Change => 3,
-    }
-}
-
-fn unknown(f: u32, v: u8) -> u32
-    requires { f < 4 }
-    ensures { result ≡ f * 256 + v }
-{
-    f * 256 + u32::from(v)
+    field as u32 * 256 + u32::from(byte)
 }
 
 // The detail of a fault: a length, a field and its byte, or nothing.
@@ -76,7 +47,7 @@ fn detail(error: FrameError) -> u32
     match error {
         FrameError::TooLong(n) => n,
         FrameError::Truncated => 0,
-        FrameError::Unknown(f, v) => unknown(field_number(f), v),
+        FrameError::Unknown(field, byte) => unknown(field, byte),
         FrameError::Invalid(_) => 0,
     }
 }
@@ -91,10 +62,7 @@ fn fault(error: FrameError) -> u64
 fn written(written: Result<usize, EncodeError>) -> u64
     ensures { result ≡ written_code (written_of written) }
 {
-    match written {
-        Ok(n) => done(n),
-        Err(e) => refusal(Refusal::from(e).number(), 0),
-    }
+    code(written.map_err(Refusal::from))
 }
 
 // ---- frames
@@ -155,16 +123,6 @@ pub extern "C" fn wz_make(words: &mut [u64], bytes: &[u8], sessions: u32, c: u32
     }
 }
 
-// What telling came to: the bytes told, or a refusal.
-fn session_code(told: Result<usize, Refusal>) -> u64
-    ensures { result ≡ written_code (told_of told) }
-{
-    match told {
-        Ok(n) => done(n),
-        Err(e) => refusal(e.number(), 0),
-    }
-}
-
 // The session at a place. C hands the three numbers of a shape apart.
 #[unsafe(no_mangle)]
 pub extern "C" fn wz_session(
@@ -184,7 +142,7 @@ pub extern "C" fn wz_session(
         bytes: c,
         messages: m,
     };
-    session_code(c_session::session(words, bytes, shape, place, n, out))
+    code(c_session::session(words, bytes, shape, place, n, out))
 }
 
 // ---- whole sending: the last commit number, whether it has begun, where it goes on, whether it is done

@@ -1,5 +1,5 @@
 // A session built from a file of sent messages, for programs in C or Rust. Nothing is asked of a caller. C hands the four texts of a
-// key and the three numbers of a shape apart.
+// key and the three numbers of a shape apart, and `c_import_c` exports the function as it stands, so its types are C's.
 #![tactic(auto)]
 
 ghost use Rattle.std.specs.Prelude.{◌≡◌};

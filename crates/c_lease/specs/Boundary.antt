@@ -18,7 +18,7 @@ lease_in w = record { duration = get_or w 0 0; until = get_or w 1 0; last = get_
 
 -- the same lease by value
 abbrev pub held_in : List ℕ → Held
-held_in w = record { duration = get_or w 0 0; until = get_or w 1 0; last = get_or w 2 0; lost = is_set (get_or w 3 0) }
+held_in w = record { duration = get_or w 0 0; until = get_or w 1 0; last = get_or w 2 0; lost = byte (is_set (get_or w 3 0)) }
 
 -- the question of the definition; the flag stays as it was
 pub record AsksIn (w : List ℕ) (now : ℕ) (r : Due) (new : List ℕ) : Type 0 where

@@ -1,4 +1,5 @@
 // An active's lease for programs in C or Rust, as four words that the caller lends. Nothing is asked of a caller: every content counts as a lease.
+// `c_lease_c` exports these as they stand, so their types are C's.
 #![tactic(auto)]
 
 ghost use Rattle.std.specs.Prelude.{◌≡◌, cond, ℕ};
@@ -47,7 +48,7 @@ fn held_in(lease: &[u64; 4]) -> Held
         duration: lease[word::DURATION],
         until: lease[word::UNTIL],
         last: lease[word::LAST],
-        lost: lease[word::LOST] != 0,
+        lost: u8::from(lease[word::LOST] != 0),
     }
 }
 
@@ -79,13 +80,14 @@ pub fn wz_lease_renewal(lease: &mut [u64; 4], time: u64) -> Due
 }
 
 // The flag's word after an attempt: one that is set stays as it was.
-fn flag_after(word: u64, lost: bool) -> u64
-    ensures { result ≡ cond (is_set word) word (byte lost) }
+fn flag_after(word: u64, lost: u8) -> u64
+    ensures { result ≡ cond (is_set word) word lost }
 {
     if word == 0 { u64::from(lost) } else { word }
 }
 
-// An attempt to renew that started at one time, and whose outcome came at another; 31 as above, else 0.
+// An attempt to renew that started at one time, and whose outcome came at another; 31 for a time that falls, else 0. A match of its own, since the words are written
+// where it is done.
 pub fn wz_lease_attempt(lease: &mut [u64; 4], started: u64, time: u64, outcome: u8) -> u8
     ensures { TriesIn lease.old (attempt_at started time outcome) result lease.new }
 {

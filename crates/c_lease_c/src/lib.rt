@@ -23,7 +23,7 @@ pub extern "C" fn wz_lease_renewal(lease: &mut [u64; 4], time: u64) -> Due
     c_lease::wz_lease_renewal(lease, time)
 }
 
-// An attempt to renew that started at one time, and whose outcome came at another; 31 as above, else 0.
+// An attempt to renew that started at one time, and whose outcome came at another; 31 for a time that falls, else 0.
 #[unsafe(no_mangle)]
 pub extern "C" fn wz_lease_attempt(lease: &mut [u64; 4], started: u64, time: u64, outcome: u8) -> u8
     ensures { TriesIn lease.old (attempt_at started time outcome) result lease.new }

@@ -2,12 +2,10 @@
 #![tactic(auto)]
 
 ghost use Rattle.std.specs.Prelude.{◌≡◌};
-ghost use Rattle.base_refusals.specs.Numbers.{answer_number};
 ghost use Rattle.model_quorum.specs.History.{bind, sent, ack, stale};
 ghost use Rattle.active_quorum.specs.Area.{MakesQuorum, Does};
 ghost use Rattle.c_quorum.specs.Boundary.{Tells};
 
-use base_refusals::Refusal;
 use frame_fields::CommitNumber;
 
 // A figure, in the numbers that C reads: 25 or 37, else 0 and the number.
@@ -18,35 +16,25 @@ pub struct Shown {
     pub number: CommitNumber,
 }
 
-// An answer as C gets it: 0, or the refusal's number.
-fn answer_number(answer: Result<(), Refusal>) -> u8
-    ensures { result ≡ answer_number answer }
-{
-    match answer {
-        Ok(()) => 0,
-        Err(refusal) => refusal.number(),
-    }
-}
-
 #[unsafe(no_mangle)]
 pub extern "C" fn wz_quorum_make(words: &mut [u64], n: u64, k: u64) -> u8
     ensures { MakesQuorum words.old n k result words.new }
 {
-    answer_number(active_quorum::make(words, n, k))
+    c_code::number(active_quorum::make(words, n, k))
 }
 
 #[unsafe(no_mangle)]
 pub extern "C" fn wz_quorum_bind(words: &mut [u64], handle: u32) -> u8
     ensures { Does words.old (bind handle) result words.new }
 {
-    answer_number(active_quorum::bind(words, handle))
+    c_code::number(active_quorum::bind(words, handle))
 }
 
 #[unsafe(no_mangle)]
 pub extern "C" fn wz_quorum_sent(words: &mut [u64], handle: u32, number: CommitNumber) -> u8
     ensures { Does words.old (sent handle number.0) result words.new }
 {
-    answer_number(active_quorum::sent(words, handle, number))
+    c_code::number(active_quorum::sent(words, handle, number))
 }
 
 #[unsafe(no_mangle)]
@@ -58,14 +46,14 @@ pub extern "C" fn wz_quorum_acknowledged(
 ) -> u8
     ensures { Does words.old (ack member handle number.0) result words.new }
 {
-    answer_number(active_quorum::acknowledged(words, member, handle, number))
+    c_code::number(active_quorum::acknowledged(words, member, handle, number))
 }
 
 #[unsafe(no_mangle)]
 pub extern "C" fn wz_quorum_stale_epoch(words: &mut [u64], member: usize) -> u8
     ensures { Does words.old (stale member) result words.new }
 {
-    answer_number(active_quorum::stale_epoch(words, member))
+    c_code::number(active_quorum::stale_epoch(words, member))
 }
 
 #[unsafe(no_mangle)]

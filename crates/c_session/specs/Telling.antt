@@ -1,5 +1,5 @@
 -- What is told of a place of the store: 25, 9 or the bytes of its session. Assumes nothing.
-use Rattle.std.specs.Prelude.{ℕ, min, ◌≡◌, Bool, cond, List, ◌∷◌, ◌++◌, leb, length, Result, Ok, Err}
+use Rattle.std.specs.Prelude.{ℕ, ◌≡◌, Bool, cond, List, ◌∷◌, ◌++◌, leb, length, Result, Ok, Err}
 use Rattle.std.proofs.Math.Option.{Option, none, some}
 use Rattle.model_frame.specs.Refusal
 use Rattle.model_frame.specs.Writing.{key_bytes, summary_bytes, WriteOutcome, wrote, refused, area_after, WriteAnswer, took, write_refusal, write_answer}
@@ -12,9 +12,9 @@ use Rattle.store_areas.specs.Areas.{in_use, place_at}
 use Rattle.base_refusals.specs.Numbers.{number_of}
 use Rattle.base_refusals.specs.declared.Refusal.{Refusal}
 
--- n bytes at a position, or the first `most` of them
-abbrev pub span_up_to : ℕ → ℕ → ℕ → Span
-span_up_to at n most = record { at = at; len = min n most }
+-- a text that stands at a position
+abbrev pub span_at : ℕ → List ℕ → Span
+span_at at text = record { at = at; len = length text }
 
 -- a byte that is 1 or 0
 abbrev pub flag : Bool → ℕ

@@ -1,4 +1,5 @@
 // The session at a place of the store, written as bytes: whether it is durable, whether a number is in flight, its key, its summary.
+// A place comes as a number beside its view, as in store_sessions.
 #![tactic(auto)]
 
 ghost use Rattle.std.specs.Prelude.{◌≡◌, ◌∷◌, ◌++◌, ℕ, ◌+◌, ◌≤◌, ◌<◌, length, get_or};
@@ -10,54 +11,40 @@ ghost use Rattle.frame_reader.specs.Answers.{span_of};
 ghost use Rattle.frame_fields.specs.Answers.{flight_of, key_of, summary_of};
 ghost use Rattle.frame_writer.specs.Encoding.{key_size, summary_size};
 ghost use Rattle.store_areas.specs.Areas.{place_at};
-ghost use Rattle.c_session.specs.Telling.{span_up_to, flag, told_bytes, told_at, TellsSession};
+ghost use Rattle.c_session.specs.Telling.{span_at, flag, told_bytes, told_at, TellsSession};
 
+use base_bytes::Writer;
 use base_refusals::Refusal;
 use frame_fields::{SessionId, Summary};
 use frame_reader::Span;
 use store_areas::{Shape, View};
-use store_place::{byte, word};
+use store_place::byte;
 
 // ---- what stands in the byte area
 
-// The most bytes of one of a key's texts.
-const KEY_TEXT_MOST: u32 = byte::KEY_TEXT_SIZE as u32;
-
-// The n bytes at a position, or the first `most` of them.
-fn span(at: usize, n: u64, most: u32) -> Span
-    ensures { result ≡ span_up_to at n most }
+// A text that stands at a position.
+fn span(at: usize, text: &[u8]) -> Span
+    requires { length text.now < 4294967296 }
+    ensures { result ≡ span_at at text.now }
 {
     Span {
         at,
-        len: n.min(u64::from(most)) as u32,
+        len: text.len() as u32,
     }
 }
 
-// The key of a place in use.
+// The key of a place in use, by positions, which the frame's writer takes: a Place has slices.
 fn key_of(view: &View, place: usize) -> SessionId
     requires { place < get_or view.now.words.now 0 0 }
     ensures { key_of view.now.bytes.now result ≡ (place_at view.now.shape view.now.words.now view.now.bytes.now place).key }
 {
-    let spot = view.spot(place);
-    let lengths = &view.words[spot.words_start..spot.words_end];
-    let start = spot.bytes_start;
+    let start = view.spot(place).bytes_start;
+    let key = view.place(place).key();
     SessionId {
-        begin_string: span(start, lengths[word::BEGIN_LEN], KEY_TEXT_MOST),
-        sender_comp_id: span(
-            start + byte::SENDER,
-            lengths[word::SENDER_LEN],
-            KEY_TEXT_MOST,
-        ),
-        target_comp_id: span(
-            start + byte::TARGET,
-            lengths[word::TARGET_LEN],
-            KEY_TEXT_MOST,
-        ),
-        key_suffix: span(
-            start + byte::SUFFIX,
-            lengths[word::SUFFIX_LEN],
-            KEY_TEXT_MOST,
-        ),
+        begin_string: span(start, key.begin),
+        sender_comp_id: span(start + byte::SENDER, key.sender),
+        target_comp_id: span(start + byte::TARGET, key.target),
+        key_suffix: span(start + byte::SUFFIX, key.suffix),
     }
 }
 
@@ -91,10 +78,12 @@ fn put(bytes: &[u8], durable: bool, session: SessionId, summary: Summary, out: &
     requires { 2 + key_size (key_of bytes.now session) + summary_size (summary_of bytes.now summary) ≤ length out.old }
     ensures { Wrote out.old 0 (flag durable ∷ flag (is_some (flight_of summary.in_flight)) ∷ (key_bytes (key_of bytes.now session) ++ summary_bytes (summary_of bytes.now summary))) out.new result }
 {
-    let at = frame_op::tag(out, 0, u8::from(durable));
-    let at = frame_op::tag(out, at, u8::from(summary.in_flight.is_some()));
-    let at = frame_writer::put_session(bytes, session, out, at);
-    frame_writer::put_summary(bytes, summary, out, at)
+    let mut writer = Writer { out, at: 0 };
+    writer.byte(u8::from(durable));
+    writer.byte(u8::from(summary.in_flight.is_some()));
+    frame_writer::put_session(bytes, session, &mut writer);
+    frame_writer::put_summary(bytes, summary, &mut writer);
+    writer.at
 }
 
 // The session at a place in use.
@@ -123,13 +112,6 @@ pub fn session(
 ) -> Result<usize, Refusal>
     ensures { TellsSession (told_at shape words.now bytes.now place n) out.old out.new result }
 {
-    if !store_areas::in_use(words, bytes, shape, place) {
-        return Err(Refusal::RulesBroken);
-    }
-    let view = View {
-        words,
-        bytes,
-        shape,
-    };
+    let view = View::with_place(shape, words, bytes, place)?;
     write_session(&view, place, n, out)
 }

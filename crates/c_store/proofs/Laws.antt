@@ -17,17 +17,19 @@ use Rattle.store_log.specs.Log.{rest_of}
 use Rattle.store_place.specs.Place.{next_out_of, place_in, rest_in, PositionIn}
 use Rattle.store_areas.specs.declared.Shape.{Shape}
 use Rattle.store_areas.specs.declared.store.View.{View}
-use Rattle.std.specs.Prelude.{Result}
+use Rattle.std.specs.Prelude.{Option, None, Result, Ok, Err, MatchResult, IsOkAnd}
 use Rattle.base_refusals.specs.declared.Refusal.{Refusal}
-use Rattle.base_refusals.specs.Numbers.{answer_number}
+use Rattle.base_refusals.specs.Numbers.{number_of, answer_number}
+use Rattle.store_areas.specs.Over.{ViewWith, ViewInUse}
 use Rattle.store_areas.specs.Areas.{durable_at, allowed, in_use, InUse, SpotIn, places_of, Changed, Making}
 use Rattle.store_areas.proofs.Lifting.{places_length, spot_both, spot_words}
 use Rattle.store_areas.proofs.Reading.{out_is}
 use Rattle.store_areas.proofs.Marking.{marked}
 use Rattle.store_areas.proofs.Ruling.{in_use_of}
-use Rattle.store_sessions.specs.Answers.{Opened, rest_at, PositionAt, FromAt}
+use Rattle.store_sessions.proofs.Seeking.{not_stored, new_at}
+use Rattle.store_sessions.specs.Answers.{stored_place, Opened, rest_at, PositionAt, FromAt}
 use Rattle.c_store.specs.declared.StoreAnswer.{StoreAnswer}
-use Rattle.c_store.specs.Total.{session_in, given, refused, Reads, MadeIs, why_no_record, why_no_bare_record, ChangeIs, key_is, is_free, OpenIs}
+use Rattle.c_store.specs.Total.{session_in, given, refused, answered, Reads, MadeIs, why_no_record, why_no_bare_record, ChangeIs, key_is, is_free, OpenIs}
 
 no_zero : (n : ℕ) → 0 < n → n ≡ 0 → ⊥
 no_zero n h e = omega arith
@@ -88,6 +90,13 @@ module _ {s : Shape} {i : ℕ} {w b : List ℕ} {t : Bool} (is : t ≡ in_use s 
           subst (λ (k : ℕ). ChangeIs s i (why_no_record k) (changed s.bytes s.messages (record_msg k text ∷ [])) w (put_mid wa (we - wa) w x) b (put_mid ba (be - ba) b y) 0) (next_is q)
           (made_both x y (ap (λ (u : Bool). cond u 0 40) (lt-ltb n top h)) l m p)
 
+-- by a call that reads the view
+pub read : {s : Shape} {w b : List ℕ} {i : ℕ} {f : Session → ℕ} (P : View → ℕ → Type 0) (v : Result View Refusal) (a : Result ℕ Refusal) {r : StoreAnswer}
+    → ViewInUse s w b i v → MatchResult v (λ x. IsOkAnd a (P x)) (λ e. a ≡ Err e) → ((x : View) (n : ℕ) → ViewWith s w b i x → P x n → n ≡ f (session_in s w b i)) → r ≡ answered a → Reads s w b i f r
+read P (Ok x) (Ok n) u c p e = reads refl u.in_use (p x n u c) e
+read P (Ok x) (Err y) u c p e = absurd c
+read P (Err y) a u c p e = reads_none refl u.0 (e ∙ ap answered c ∙ ap (λ (z : Refusal). refused (number_of z)) u.1)
+
 -- ---- why a change can't be made
 
 pub none_left : {n next : ℕ} → n ≡ next → n ≡ top → why_no_record next ≡ 40
@@ -134,8 +143,8 @@ module _ (s : Shape) (w b : List ℕ) (k : Key) where
   Says ok key here room = cond ok (cond key (cond here (given At) (cond room (given At) (refused 20))) (refused 5)) (refused 25)
 
   -- found in the store as it is read
-  pub found : {i : ℕ} (v : View) → v.shape ≡ s → v.words.now ≡ w → v.bytes.now ≡ b → i ≡ place_of k (places_of v.shape v.words.now v.bytes.now) → i ≡ At
-  found v x y z e = e ∙ (λ j. place_of k (places_of (x j) (y j) (z j)))
+  pub found : {o : Option ℕ} (v : View) → v.shape ≡ s → v.words.now ≡ w → v.bytes.now ≡ b → o ≡ stored_place k (places_of v.shape v.words.now v.bytes.now) → o ≡ stored_place k (places_of s w b)
+  found v x y z e = e ∙ (λ j. stored_place k (places_of (x j) (y j) (z j)))
 
   -- by what is known of the four tests
   by : (ok key here room : Bool) {w' b' : List ℕ} → allowed s w b ≡ ok → key_is k ≡ key → is_stored k (places_of s w b) ≡ here → is_free s w ≡ room
@@ -152,29 +161,11 @@ module _ (s : Shape) (w b : List ℕ) (k : Key) where
   answers : {x y : StoreAnswer} {w' b' : List ℕ} → x ≡ y → OpenIs s k w w' b b' y → OpenIs s k w w' b b' x
   answers {w' = w'} {b' = b'} g p = subst (λ (r : StoreAnswer). OpenIs s k w w' b b' r) (sym g) p
 
-  pub rules_broken : {t : Bool} {r : StoreAnswer} → t ≡ allowed s w b → t ≡ false → r ≡ refused 25 → OpenIs s k w w b b r
-  rules_broken a e g = answers g (by false _ _ _ (sym a ∙ e) refl refl refl no (λ _. (refl, refl)))
-
   module _ {t : Bool} (a : t ≡ allowed s w b) (e : t ≡ true) where
-    pub no_key : {u : Bool} {r : StoreAnswer} → u ≡ key_is k → u ≡ false → r ≡ refused 5 → OpenIs s k w w b b r
-    no_key q f g = answers g (by true false _ _ (sym a ∙ e) (sym q ∙ f) refl refl no (λ _. (refl, refl)))
-
     module _ {u : Bool} (q : u ≡ key_is k) (f : u ≡ true) where
-      here_is : {here : Bool} → ltb At (get_or w 0 0) ≡ here → is_stored k (places_of s w b) ≡ here
-      here_is h = ap (ltb At) (places_length s w b) ∙ h
-
-      pub stored : {i : ℕ} {r : StoreAnswer} → i ≡ At → i < get_or w 0 0 → r ≡ given i → OpenIs s k w w b b r
-      stored {i} n h g =
-          answers (g ∙ ap given n)
-          (by true true true _ (sym a ∙ e) (sym q ∙ f) (here_is (lt-ltb At (get_or w 0 0) (subst (λ (x : ℕ). x < get_or w 0 0) n h))) refl no (λ _. (refl, refl)))
-
-      pub no_place : {i : ℕ} {r : StoreAnswer} → i ≡ At → get_or w 0 0 ≤ i → s.places ≤ get_or w 0 0 → r ≡ refused 20 → OpenIs s k w w b b r
-      no_place n h l g =
-          answers g
-          (by true true false false (sym a ∙ e) (sym q ∙ f) (here_is (le-ltb At (get_or w 0 0) (subst (λ (x : ℕ). get_or w 0 0 ≤ x) n h))) (le-ltb (get_or w 0 0) s.places l) no (λ _. (refl, refl)))
-
-      pub opened : {i : ℕ} {w' v' b' c' : List ℕ} {r : StoreAnswer} → i ≡ At → get_or w 0 0 ≤ i → get_or w 0 0 < s.places → Opened s k w v' b c' → w' ≡ v' → b' ≡ c' → r ≡ given i → OpenIs s k w w' b b' r
-      opened {w' = w'} {v' = v'} {b' = b'} n h l p x y g =
-          answers (g ∙ ap given n)
-          (by true true false true (sym a ∙ e) (sym q ∙ f) (here_is (le-ltb At (get_or w 0 0) (subst (λ (z : ℕ). get_or w 0 0 ≤ z) n h))) (lt-ltb (get_or w 0 0) s.places l)
+      pub opened : {i : ℕ} {w' v' b' c' : List ℕ} {r : StoreAnswer} → None ≡ stored_place k (places_of s w b) → i ≡ get_or w 0 0 → get_or w 0 0 < s.places → Opened s k w v' b c' → w' ≡ v' → b' ≡ c' → r ≡ given i → OpenIs s k w w' b b' r
+      opened {w' = w'} {v' = v'} {b' = b'} n at l p x y g =
+          let new = not_stored k (places_of s w b) n in
+          answers (g ∙ ap given (at ∙ sym (new_at k (places_of s w b) new ∙ places_length s w b)))
+          (by true true false true (sym a ∙ e) (sym q ∙ f) new (lt-ltb (get_or w 0 0) s.places l)
           (λ _. subst (λ (v : List ℕ). Opened s k w v b b') (sym x) (subst (λ (c : List ℕ). Opened s k w v' b c) (sym y) p)) (λ z. absurd (true≢false z)))

@@ -1,5 +1,7 @@
 -- What the store's functions for C and Rust answer, by document 01's numbers, and what they leave. Assumes nothing.
-use Rattle.std.specs.Prelude.{◌≡◌, ℕ, Bool, true, false, cond, not, ◌&&◌, List, get_or, set, eqb, leb, ltb}
+use Rattle.std.specs.Prelude.{◌≡◌, ℕ, Bool, true, false, cond, not, ◌&&◌, List, get_or, set, eqb, leb, ltb, Result, Ok, Err}
+use Rattle.base_refusals.specs.Numbers.{number_of}
+use Rattle.base_refusals.specs.declared.Refusal as declared
 use Rattle.model_text.specs.Printable.{is_key, is_marks}
 use Rattle.model_text.specs.Stamp.{is_stamp}
 use Rattle.model_frame.specs.Refusal
@@ -22,6 +24,11 @@ given v = record { refusal = 0; value = v }
 
 abbrev pub refused : ℕ → StoreAnswer
 refused n = record { refusal = n; value = 0 }
+
+-- what a call came to: a value, or a refusal
+abbrev pub answered : Result ℕ declared.Refusal → StoreAnswer
+answered (Ok v) = given v
+answered (Err e) = refused (number_of e)
 
 -- what is read of it; 25 where the rules are broken or the place isn't in use
 pub record Reads (s : Shape) (w b : List ℕ) (i : ℕ) (f : Session → ℕ) (r : StoreAnswer) : Type 0 where

@@ -1,5 +1,6 @@
 // The store's operations for programs in C or Rust: each turns areas that break the rules, and a place that holds no session, down before all
 // else (25), and asks nothing of its caller. C lends the areas apart, and hands the shape, the place and the four texts of a key beside them.
+// `c_store_c` exports these as they stand, so their types are C's.
 #![tactic(auto)]
 
 ghost use Rattle.std.specs.Prelude.{◌≡◌, length};
@@ -8,7 +9,7 @@ ghost use Rattle.model_session.specs.Summary.{fnv, numbered_from, last_out};
 ghost use Rattle.model_standby.specs.Store.{mark_durable, taken_over};
 ghost use Rattle.base_refusals.specs.Numbers.{number_of};
 ghost use Rattle.store_place.specs.Place.{key_from};
-ghost use Rattle.c_store.specs.Total.{given, refused, Reads, MadeIs, ChangeIs, OpenIs};
+ghost use Rattle.c_store.specs.Total.{given, refused, answered, Reads, MadeIs, ChangeIs, OpenIs};
 
 use base_refusals::Refusal;
 use store_areas::{Shape, Store, View, word};
@@ -39,14 +40,22 @@ impl StoreAnswer {
     }
 }
 
+impl From<Result<u64, Refusal>> for StoreAnswer {
+    fn from(answer: Result<u64, Refusal>) -> StoreAnswer
+        ensures { result ≡ answered answer }
+    {
+        match answer {
+            Ok(value) => StoreAnswer::given(value),
+            Err(refusal) => StoreAnswer::refused(refusal),
+        }
+    }
+}
+
 // Makes a store without sessions.
 pub fn store_make(words: &mut [u64], bytes: &[u8], shape: Shape) -> u8
     ensures { MadeIs shape words.old words.new bytes.now result }
 {
-    match store_areas::make(shape, words, bytes) {
-        Ok(()) => 0,
-        Err(refusal) => refusal.number(),
-    }
+    c_code::number(store_areas::make(shape, words, bytes))
 }
 
 // Opens the session of a key if it has none, and answers its place: 5 for what is no key, 20 where every place is taken.
@@ -61,9 +70,10 @@ pub fn store_open(
 ) -> StoreAnswer
     ensures { OpenIs shape (key_from begin.now sender.now target.now suffix.now) words.old words.new bytes.old bytes.new result }
 {
-    if !store_areas::allowed(shape, words, bytes) {
-        return StoreAnswer::refused(Refusal::RulesBroken);
-    }
+    let view = match View::over(shape, words, bytes) {
+        Ok(view) => view,
+        Err(refusal) => return StoreAnswer::refused(refusal),
+    };
     if !frame_stamp::is_key(begin, sender, target, suffix) {
         return StoreAnswer::refused(Refusal::BadSession);
     }
@@ -73,21 +83,19 @@ pub fn store_open(
         target,
         suffix,
     };
+    if let Some(place) = store_sessions::place_of(&view, &key) {
+        return StoreAnswer::given(place as u64);
+    }
+    if shape.places as u64 <= view.words[word::USED] {
+        return StoreAnswer::refused(Refusal::NoSessionPlace);
+    }
     let mut store = Store {
         words,
         bytes,
         shape,
     };
-    let i = store_sessions::place_of(&store.view(), &key);
-    let used = store.words[word::USED];
-    if (i as u64) < used {
-        return StoreAnswer::given(i as u64);
-    }
-    if shape.places as u64 <= used {
-        return StoreAnswer::refused(Refusal::NoSessionPlace);
-    }
-    store_sessions::open(&mut store, &key);
-    StoreAnswer::given(i as u64)
+    let place = store_sessions::open(&mut store, &key);
+    StoreAnswer::given(place as u64)
 }
 
 // ---- reading
@@ -95,15 +103,8 @@ pub fn store_open(
 pub fn store_next_outgoing(words: &[u64], bytes: &[u8], shape: Shape, place: usize) -> StoreAnswer
     ensures { Reads shape words.now bytes.now place (λ x. x.next_out) result }
 {
-    if !store_areas::in_use(words, bytes, shape, place) {
-        return StoreAnswer::refused(Refusal::RulesBroken);
-    }
-    let view = View {
-        words,
-        bytes,
-        shape,
-    };
-    StoreAnswer::given(store_sessions::next_outgoing(&view, place))
+    let view = View::with_place(shape, words, bytes, place);
+    StoreAnswer::from(view.map(|view| store_sessions::next_outgoing(&view, place)))
 }
 
 // The hash of the newest n numbers' messages.
@@ -116,31 +117,16 @@ pub fn store_last_outgoing(
 ) -> StoreAnswer
     ensures { Reads shape words.now bytes.now place (λ x. last_out x n) result }
 {
-    if !store_areas::in_use(words, bytes, shape, place) {
-        return StoreAnswer::refused(Refusal::RulesBroken);
-    }
-    let view = View {
-        words,
-        bytes,
-        shape,
-    };
-    StoreAnswer::given(store_sessions::last_outgoing(&view, place, n))
+    let view = View::with_place(shape, words, bytes, place);
+    StoreAnswer::from(view.map(|view| store_sessions::last_outgoing(&view, place, n)))
 }
 
 // How many messages are stored: every stored number is from 1.
 pub fn store_count(words: &[u64], bytes: &[u8], shape: Shape, place: usize) -> StoreAnswer
     ensures { Reads shape words.now bytes.now place (λ x. length (numbered_from 1 x.messages)) result }
 {
-    if !store_areas::in_use(words, bytes, shape, place) {
-        return StoreAnswer::refused(Refusal::RulesBroken);
-    }
-    let view = View {
-        words,
-        bytes,
-        shape,
-    };
-    let c = store_sessions::messages_from(&view, place, 1);
-    StoreAnswer::given(c.left as u64)
+    let view = View::with_place(shape, words, bytes, place);
+    StoreAnswer::from(view.map(|view| store_sessions::messages_from(&view, place, 1).left as u64))
 }
 
 // ---- the durable mark, promotion: 0, or a refusal

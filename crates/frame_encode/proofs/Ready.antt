@@ -20,7 +20,9 @@ use Rattle.model_frame.proofs.RoundTrip.{and_left, and_right}
 use Rattle.model_frame.proofs.Sizes.{body_size_lem, changes_size, records_size}
 use Rattle.model_frame.proofs.Sound.{record_canon}
 use Rattle.model_frame.proofs.SoundChange.{TakenChange, change_canon, taken_fine}
-use Rattle.base_laws.specs.Wrote.{Wrote, StandsAt}
+use Rattle.base_laws.specs.Wrote.{StandsAt}
+use Rattle.base_bytes.specs.declared.writer.Writer.{Writer}
+use Rattle.base_bytes.specs.Put.{Put}
 use Rattle.base_laws.proofs.Runs.{numbers_end}
 use Rattle.base_laws.proofs.StandsAt.{run_stands, run_counted}
 use Rattle.frame_reader.specs.declared.Span.{Span}
@@ -89,9 +91,9 @@ module _ (src : List ℕ) (node : Span) (ks : the-run.Run) where
       size = omega (arith, q, body_size_lem (hello version epoch (span_of src node) (run_of (read_num 2) src ks)), node_length, kinds_fit.1);
     }
 
-    pub hello_wrote : (version epoch : ℕ) {l m : List ℕ} {at r : ℕ} → Wrote l at (1 ∷ bytes_of 2 version ++ bytes_of 8 epoch ++ blob_bytes (span_of src node) ++ bytes_of 4 ks.count ++ take (ks.count * 2) (drop ks.at src)) m r → Wrote l at (body_bytes (hello version epoch (span_of src node) (run_of (read_num 2) src ks))) m r
+    pub hello_put : (version epoch : ℕ) {w v : Writer} → Put w (1 ∷ bytes_of 2 version ++ bytes_of 8 epoch ++ blob_bytes (span_of src node) ++ bytes_of 4 ks.count ++ take (ks.count * 2) (drop ks.at src)) v → Put w (body_bytes (hello version epoch (span_of src node) (run_of (read_num 2) src ks))) v
     unfolding body_bytes
-    hello_wrote version epoch w = rw (kinds_fit.1, ← kinds_fit.0.same) w
+    hello_put version epoch w = rw (kinds_fit.1, ← kinds_fit.0.same) w
 
 -- ---- Bind and Bound
 
@@ -157,8 +159,8 @@ module _ (v : ℕ) (src : List ℕ) (m : the-summary.Summary) where
 
 -- ---- Batch
 
-wrote_as : {l xs ys m : List ℕ} {at r : ℕ} → Wrote l at xs m r → xs ≡ ys → Wrote l at ys m r
-wrote_as w e = rw e at w
+put_as : {xs ys : List ℕ} {w v : Writer} → Put w xs v → xs ≡ ys → Put w ys v
+put_as p e = rw e at p
 
 regroup : (a b c d : List ℕ) → a ++ (b ++ c ++ d) ≡ a ++ b ++ c ++ d
 regroup a b c d = simp append_assoc
@@ -205,11 +207,11 @@ module _ (v : ℕ) (src : List ℕ) (os rs : the-run.Run) where
         size = omega (arith, body_size_lem (batch h e n p (run_of (read_change v) src os) (run_of read_app_record src rs)), so.size, sr.size, changes_size (run_of (read_change v) src os), records_size (run_of read_app_record src rs));
       }
 
-      pub batch_wrote :
-          (h e n : ℕ) (p : Part) {l o : List ℕ} {at r : ℕ} →
-          Wrote l at ((4 ∷ bytes_of 4 h ++ bytes_of 8 e ++ bytes_of 8 n ++ part_number p ∷ bytes_of 4 os.count) ++ (run_bytes change_bytes (run_of (read_change v) src os) ++ bytes_of 4 rs.count ++ run_bytes app_record_bytes (run_of read_app_record src rs))) o r →
-          Wrote l at (body_bytes (batch h e n p (run_of (read_change v) src os) (run_of read_app_record src rs))) o r
+      pub batch_put :
+          (h e n : ℕ) (p : Part) {w u : Writer} →
+          Put w ((4 ∷ bytes_of 4 h ++ bytes_of 8 e ++ bytes_of 8 n ++ part_number p ∷ bytes_of 4 os.count) ++ (run_bytes change_bytes (run_of (read_change v) src os) ++ bytes_of 4 rs.count ++ run_bytes app_record_bytes (run_of read_app_record src rs))) u →
+          Put w (body_bytes (batch h e n p (run_of (read_change v) src os) (run_of read_app_record src rs))) u
       unfolding body_bytes
-      batch_wrote h e n p w =
+      batch_put h e n p w =
           rw (ops_are.0, records_are.0)
-          (wrote_as w (regroup (4 ∷ bytes_of 4 h ++ bytes_of 8 e ++ bytes_of 8 n ++ part_number p ∷ bytes_of 4 os.count) (run_bytes change_bytes (run_of (read_change v) src os)) (bytes_of 4 rs.count) (run_bytes app_record_bytes (run_of read_app_record src rs))))
+          (put_as w (regroup (4 ∷ bytes_of 4 h ++ bytes_of 8 e ++ bytes_of 8 n ++ part_number p ∷ bytes_of 4 os.count) (run_bytes change_bytes (run_of (read_change v) src os)) (bytes_of 4 rs.count) (run_bytes app_record_bytes (run_of read_app_record src rs))))

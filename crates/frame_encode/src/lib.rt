@@ -1,4 +1,4 @@
-// Writing a frame of each kind from the start of an area: 8, 1 or 9 with the area untouched, or the frame's bytes.
+// Writing a frame of each kind from the start of an area: Unreadable, TooLong or NoRoom with the area untouched, or the frame's bytes.
 // A kind's fields come one by one, as `Frame` has them: a struct of them would be another name for that kind.
 #![tactic(auto)]
 
@@ -9,13 +9,14 @@ ghost use Rattle.model_frame.specs.Frame.{hello, welcome, bind, ack, nack, bound
 ghost use Rattle.model_frame.specs.Parse.{read_num, run_bytes};
 ghost use Rattle.model_frame.specs.Reading.{read_change, read_app_record};
 ghost use Rattle.model_frame.specs.Writing.{blob_bytes, change_bytes, app_record_bytes, part_number, body_bytes};
-ghost use Rattle.base_laws.specs.Wrote.{Wrote, StandsAt};
+ghost use Rattle.base_bytes.specs.Put.{Put};
+ghost use Rattle.base_laws.specs.Wrote.{StandsAt};
 ghost use Rattle.frame_reader.specs.Answers.{span_of};
 ghost use Rattle.frame_op.specs.Answers.{run_of};
 ghost use Rattle.frame_fields.specs.Answers.{part_of, reason_of, key_of, summary_of};
 ghost use Rattle.frame_writer.specs.Encoding.{span_fits, run_reads, key_fits, summary_fits, key_size, summary_size, frame_if, Encoded};
 
-use base_bytes::LittleEndian;
+use base_bytes::Writer;
 use frame_fields::{
     AppRecord, Batch, CommitNumber, Epoch, Incarnation, NackReason, Part, SessionId, Summary, kind,
 };
@@ -24,26 +25,17 @@ use frame_reader::Span;
 use frame_stamp::Protocol;
 use frame_writer::{EncodeError, MAX_FRAME_BYTES};
 
-fn put_hello(
-    src: &[u8],
-    version: u16,
-    epoch: Epoch,
-    node: Span,
-    kinds: Run,
-    out: &mut [u8],
-    at: usize,
-) -> usize
-    requires { at + (19 + length (span_of src.now node) + kinds.count * 2) ≤ length out.old }
-    ensures { Wrote out.old at (1 ∷ bytes_of 2 version ++ bytes_of 8 epoch.0 ++ blob_bytes (span_of src.now node) ++ bytes_of 4 kinds.count ++ take (kinds.count * 2) (drop kinds.at src.now)) out.new result }
+fn put_hello(src: &[u8], version: u16, epoch: Epoch, node: Span, kinds: Run, writer: &mut Writer)
+    requires { writer.old.at + (19 + length (span_of src.now node) + kinds.count * 2) ≤ length writer.old.out.now }
+    ensures { Put writer.old (1 ∷ bytes_of 2 version ++ bytes_of 8 epoch.0 ++ blob_bytes (span_of src.now node) ++ bytes_of 4 kinds.count ++ take (kinds.count * 2) (drop kinds.at src.now)) writer.new }
 {
-    let first = kinds.at;
     let len = (kinds.count as usize) * 2;
-    let at = frame_op::tag(out, at, kind::HELLO);
-    let at = version.put_at(out, at);
-    let at = epoch.0.put_at(out, at);
-    let at = frame_writer::put_span(src, node, out, at);
-    let at = kinds.count.put_at(out, at);
-    base_bytes::copy(frame_reader::bytes_at(src, first, len), out, at)
+    writer.byte(kind::HELLO);
+    writer.number(version);
+    writer.number(epoch.0);
+    frame_writer::put_span(src, node, writer);
+    writer.number(kinds.count);
+    writer.bytes(frame_reader::bytes_at(src, kinds.at, len));
 }
 
 pub fn hello(
@@ -62,15 +54,19 @@ pub fn hello(
     }
     let n = 19 + (node.len as usize) + (kinds.count as usize) * 2;
     let at = frame_writer::begin(out, n)?;
-    Ok(put_hello(src, version, epoch, node, kinds, out, at))
+    let mut writer = Writer { out, at };
+    put_hello(src, version, epoch, node, kinds, &mut writer);
+    Ok(writer.at)
 }
 
 pub fn welcome(epoch: Epoch, incarnation: Incarnation, out: &mut [u8]) -> Result<usize, EncodeError>
     ensures { (v : ℕ) → Encoded v (frame_if true (welcome epoch.0 incarnation.0)) out.old out.new result }
 {
     let at = frame_writer::begin(out, 17)?;
-    let at = frame_op::tagged(out, at, kind::WELCOME, epoch.0);
-    Ok(incarnation.0.put_at(out, at))
+    let mut writer = Writer { out, at };
+    writer.tagged(kind::WELCOME, epoch.0);
+    writer.number(incarnation.0);
+    Ok(writer.at)
 }
 
 fn put_bind(
@@ -79,16 +75,15 @@ fn put_bind(
     epoch: Epoch,
     lag: u64,
     session: SessionId,
-    out: &mut [u8],
-    at: usize,
-) -> usize
-    requires { at + (21 + key_size (key_of src.now session)) ≤ length out.old }
-    ensures { Wrote out.old at (body_bytes (bind handle epoch.0 lag (key_of src.now session))) out.new result }
+    writer: &mut Writer,
+)
+    requires { writer.old.at + (21 + key_size (key_of src.now session)) ≤ length writer.old.out.now }
+    ensures { Put writer.old (body_bytes (bind handle epoch.0 lag (key_of src.now session))) writer.new }
 {
-    let at = frame_writer::put_handle(out, at, kind::BIND, handle);
-    let at = epoch.0.put_at(out, at);
-    let at = lag.put_at(out, at);
-    frame_writer::put_session(src, session, out, at)
+    frame_writer::put_handle(kind::BIND, handle, writer);
+    writer.number(epoch.0);
+    writer.number(lag);
+    frame_writer::put_session(src, session, writer);
 }
 
 pub fn bind(
@@ -104,38 +99,35 @@ pub fn bind(
     if !frame_writer::session_fits(src, session) {
         return Err(EncodeError::Unreadable);
     }
-    let begin = session.begin_string;
-    let sender = session.sender_comp_id;
-    let target = session.target_comp_id;
-    let suffix = session.key_suffix;
     let n = 37
-        + (begin.len as usize)
-        + (sender.len as usize)
-        + (target.len as usize)
-        + (suffix.len as usize);
+        + (session.begin_string.len as usize)
+        + (session.sender_comp_id.len as usize)
+        + (session.target_comp_id.len as usize)
+        + (session.key_suffix.len as usize);
     let at = frame_writer::begin(out, n)?;
-    Ok(put_bind(src, handle, epoch, lag, session, out, at))
+    let mut writer = Writer { out, at };
+    put_bind(src, handle, epoch, lag, session, &mut writer);
+    Ok(writer.at)
 }
 
 // What stands before the changes of a batch.
 pub fn put_head(
-    out: &mut [u8],
-    at: usize,
     handle: u32,
     epoch: Epoch,
     commit_no: CommitNumber,
     part: Part,
     count: u32,
-) -> usize
-    requires { at + 26 ≤ length out.old }
-    ensures wrote { Wrote out.old at (4 ∷ bytes_of 4 handle ++ bytes_of 8 epoch.0 ++ bytes_of 8 commit_no.0 ++ part_number (part_of part) ∷ bytes_of 4 count) out.new result }
-    ensures value { result ≡ at + 26 }
+    writer: &mut Writer,
+)
+    requires { writer.old.at + 26 ≤ length writer.old.out.now }
+    ensures put { Put writer.old (4 ∷ bytes_of 4 handle ++ bytes_of 8 epoch.0 ++ bytes_of 8 commit_no.0 ++ part_number (part_of part) ∷ bytes_of 4 count) writer.new }
+    ensures past { writer.new.at ≡ writer.old.at + 26 }
 {
-    let at = frame_writer::put_handle(out, at, kind::BATCH, handle);
-    let at = epoch.0.put_at(out, at);
-    let at = commit_no.0.put_at(out, at);
-    let at = frame_op::tag(out, at, frame_writer::part_byte(part));
-    count.put_at(out, at)
+    frame_writer::put_handle(kind::BATCH, handle, writer);
+    writer.number(epoch.0);
+    writer.number(commit_no.0);
+    writer.byte(frame_writer::part_byte(part));
+    writer.number(count);
 }
 
 // The changes and the records of a batch, k and m bytes, are copied as they stand in the source.
@@ -146,17 +138,16 @@ fn put_runs(
     k: usize,
     records: Run,
     m: usize,
-    out: &mut [u8],
-    at: usize,
-) -> usize
+    writer: &mut Writer,
+)
     requires stands_at { StandsAt src.now ops.at k (run_bytes change_bytes (run_of (read_change protocol.version) src.now ops)) }
     requires stands_at_2 { StandsAt src.now records.at m (run_bytes app_record_bytes (run_of read_app_record src.now records)) }
-    requires m_in_bounds { at + (4 + k + m) ≤ length out.old }
-    ensures { Wrote out.old at (run_bytes change_bytes (run_of (read_change protocol.version) src.now ops) ++ bytes_of 4 records.count ++ run_bytes app_record_bytes (run_of read_app_record src.now records)) out.new result }
+    requires m_in_bounds { writer.old.at + (4 + k + m) ≤ length writer.old.out.now }
+    ensures { Put writer.old (run_bytes change_bytes (run_of (read_change protocol.version) src.now ops) ++ bytes_of 4 records.count ++ run_bytes app_record_bytes (run_of read_app_record src.now records)) writer.new }
 {
-    let at = frame_op::put_run::<Op>(protocol, src, ops, k, out, at);
-    let at = records.count.put_at(out, at);
-    frame_op::put_run::<AppRecord>(protocol, src, records, m, out, at)
+    frame_op::put_run::<Op>(protocol, src, ops, k, writer);
+    writer.number(records.count);
+    frame_op::put_run::<AppRecord>(protocol, src, records, m, writer);
 }
 
 pub fn batch(
@@ -167,10 +158,6 @@ pub fn batch(
 ) -> Result<usize, EncodeError>
     ensures { Encoded protocol.version (frame_if (run_reads (read_change protocol.version) src.now batch.ops && run_reads read_app_record src.now batch.app_records) (the_frame.batch batch.handle batch.epoch.0 batch.commit_no.0 (part_of batch.part) (run_of (read_change protocol.version) src.now batch.ops) (run_of read_app_record src.now batch.app_records))) out.old out.new result }
 {
-    let handle = batch.handle;
-    let epoch = batch.epoch;
-    let commit_no = batch.commit_no;
-    let part = batch.part;
     let ops = batch.ops;
     let records = batch.app_records;
     let Ok(k) = frame_op::run_len::<Op>(protocol, src, ops.at, ops.count) else {
@@ -183,32 +170,45 @@ pub fn batch(
         return Err(EncodeError::TooLong);
     }
     let at = frame_writer::begin(out, 30 + k + m)?;
-    let at = put_head(out, at, handle, epoch, commit_no, part, ops.count);
-    Ok(put_runs(protocol, src, ops, k, records, m, out, at))
+    let mut writer = Writer { out, at };
+    put_head(
+        batch.handle,
+        batch.epoch,
+        batch.commit_no,
+        batch.part,
+        ops.count,
+        &mut writer,
+    );
+    put_runs(protocol, src, ops, k, records, m, &mut writer);
+    Ok(writer.at)
 }
 
 pub fn ack(handle: u32, commit_no: CommitNumber, out: &mut [u8]) -> Result<usize, EncodeError>
     ensures { (v : ℕ) → Encoded v (frame_if true (ack handle commit_no.0)) out.old out.new result }
 {
     let at = frame_writer::begin(out, 13)?;
-    let at = frame_writer::put_handle(out, at, kind::ACK, handle);
-    Ok(commit_no.0.put_at(out, at))
+    let mut writer = Writer { out, at };
+    frame_writer::put_handle(kind::ACK, handle, &mut writer);
+    writer.number(commit_no.0);
+    Ok(writer.at)
 }
 
 pub fn nack(handle: u32, reason: NackReason, out: &mut [u8]) -> Result<usize, EncodeError>
     ensures { (v : ℕ) → Encoded v (frame_if true (nack handle (reason_of reason))) out.old out.new result }
 {
     let at = frame_writer::begin(out, 6)?;
-    let at = frame_writer::put_handle(out, at, kind::NACK, handle);
-    Ok(frame_op::tag(out, at, frame_writer::reason_byte(reason)))
+    let mut writer = Writer { out, at };
+    frame_writer::put_handle(kind::NACK, handle, &mut writer);
+    writer.byte(frame_writer::reason_byte(reason));
+    Ok(writer.at)
 }
 
-fn put_bound(src: &[u8], handle: u32, summary: Summary, out: &mut [u8], at: usize) -> usize
-    requires { at + (5 + summary_size (summary_of src.now summary)) ≤ length out.old }
-    ensures { Wrote out.old at (body_bytes (bound handle (summary_of src.now summary))) out.new result }
+fn put_bound(src: &[u8], handle: u32, summary: Summary, writer: &mut Writer)
+    requires { writer.old.at + (5 + summary_size (summary_of src.now summary)) ≤ length writer.old.out.now }
+    ensures { Put writer.old (body_bytes (bound handle (summary_of src.now summary))) writer.new }
 {
-    let at = frame_writer::put_handle(out, at, kind::BOUND, handle);
-    frame_writer::put_summary(src, summary, out, at)
+    frame_writer::put_handle(kind::BOUND, handle, writer);
+    frame_writer::put_summary(src, summary, writer);
 }
 
 pub fn bound(
@@ -223,11 +223,11 @@ pub fn bound(
     if !frame_writer::summary_fits(protocol, src, summary) {
         return Err(EncodeError::Unreadable);
     }
-    let created_at = summary.created_at;
-    let marks = summary.marks;
-    let n = 45 + (created_at.len as usize) + (marks.len as usize);
+    let n = 45 + (summary.created_at.len as usize) + (summary.marks.len as usize);
     let at = frame_writer::begin(out, n)?;
-    Ok(put_bound(src, handle, summary, out, at))
+    let mut writer = Writer { out, at };
+    put_bound(src, handle, summary, &mut writer);
+    Ok(writer.at)
 }
 
 pub fn checked(
@@ -239,7 +239,9 @@ pub fn checked(
     ensures { (v : ℕ) → Encoded v (frame_if true (checked handle epoch.0 incarnation.0)) out.old out.new result }
 {
     let at = frame_writer::begin(out, 21)?;
-    let at = frame_writer::put_handle(out, at, kind::CHECKED, handle);
-    let at = epoch.0.put_at(out, at);
-    Ok(incarnation.0.put_at(out, at))
+    let mut writer = Writer { out, at };
+    frame_writer::put_handle(kind::CHECKED, handle, &mut writer);
+    writer.number(epoch.0);
+    writer.number(incarnation.0);
+    Ok(writer.at)
 }

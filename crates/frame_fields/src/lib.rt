@@ -68,7 +68,6 @@ pub enum NackReason {
 }
 
 // An application's own record.
-#[repr(C)]
 #[derive(Clone, Copy, Debug, PartialEq, Eq)]
 pub struct AppRecord {
     pub kind: u16,
@@ -76,7 +75,6 @@ pub struct AppRecord {
 }
 
 // A session's key.
-#[repr(C)]
 #[derive(Clone, Copy, Debug, PartialEq, Eq)]
 pub struct SessionId {
     pub begin_string: Span,
@@ -86,7 +84,6 @@ pub struct SessionId {
 }
 
 // A session's stored state, as far as an active and its standby compare it; an empty stamp is none.
-#[repr(C)]
 #[derive(Clone, Copy, Debug, PartialEq, Eq)]
 pub struct Summary {
     pub next_outgoing: u64,
@@ -98,7 +95,6 @@ pub struct Summary {
 }
 
 // One commit's changes to a session, and the application's records with them: both are runs in the bytes read.
-#[repr(C)]
 #[derive(Clone, Copy, Debug, PartialEq, Eq)]
 pub struct Batch {
     pub handle: u32,
@@ -219,6 +215,7 @@ pub fn read_session(reader: &mut Reader) -> Result<SessionId, FrameError>
     }
 }
 
+// On the wire 0 stands for none.
 fn flight(n: u64) -> Option<u64>
     ensures { flight_of result ≡ flight n }
 {

@@ -1,12 +1,12 @@
 // A change to a session's stored state: read at a position, walked over, and written.
 #![tactic(auto)]
 
-ghost use Rattle.std.specs.Prelude.{ℕ, List, ◌≡◌, [], ◌∷◌, ◌+◌, ◌^◌, ◌≤◌, ◌<◌, length, IfOk};
-ghost use Rattle.model_frame.specs.Bytes.{bytes_of};
+ghost use Rattle.std.specs.Prelude.{ℕ, List, ◌≡◌, [], ◌+◌, ◌≤◌, length, IfOk};
 ghost use Rattle.model_frame.specs.Frame.{Change};
 ghost use Rattle.model_frame.specs.Parse.{Parser, many, forget, run_bytes};
-ghost use Rattle.model_frame.specs.Writing.{blob_bytes, change_bytes};
-ghost use Rattle.base_laws.specs.Wrote.{Wrote, StandsAt};
+ghost use Rattle.model_frame.specs.Writing.{change_bytes};
+ghost use Rattle.base_laws.specs.Wrote.{StandsAt};
+ghost use Rattle.base_bytes.specs.Put.{Put};
 ghost use Rattle.model_frame.specs.Reading.{read_change};
 ghost use Rattle.model_frame.proofs.Canon.{Canon};
 ghost use Rattle.model_frame.proofs.SoundChange.{change_canon};
@@ -14,7 +14,7 @@ ghost use Rattle.frame_reader.proofs.Items.{stands_alone};
 ghost use Rattle.frame_reader.specs.Answers.{rest, res};
 ghost use Rattle.frame_op.specs.Answers.{op_of, run_of, counted, RunIn, IsSized, RunTakes};
 
-use base_bytes::LittleEndian;
+use base_bytes::Writer;
 use frame_reader::{Field, FrameError, Reader, Span};
 use frame_stamp::Protocol;
 
@@ -50,8 +50,7 @@ pub enum Op {
     SetMarks(Span),
 }
 
-// So many items, the first at `at`. Reading says how many bytes they take; writing doesn't ask for `len`, and finds it anew.
-#[repr(C)]
+// So many items, the first at `at`. Reading says how many bytes they take; a caller's `Run` may have any `len`, so writing finds it anew.
 #[derive(Clone, Copy, Debug, PartialEq, Eq)]
 pub struct Run {
     pub at: usize,
@@ -163,48 +162,12 @@ pub fn read_run<T: Item>(reader: &mut Reader, protocol: Protocol) -> Result<Run,
     Ok(Run { at, count, len })
 }
 
-// A tag; a tag and a number; a blob.
-pub fn tag(out: &mut [u8], at: usize, k: u8) -> usize
-    requires { at + 1 ≤ length out.old }
-    ensures wrote { Wrote out.old at (k ∷ []) out.new result }
-    ensures value { result ≡ at + 1 }
-{
-    out[at] = k;
-    at + 1
-}
-
-pub fn tagged(out: &mut [u8], at: usize, k: u8, n: u64) -> usize
-    requires { at + 9 ≤ length out.old }
-    ensures wrote { Wrote out.old at (k ∷ bytes_of 8 n) out.new result }
-    ensures value { result ≡ at + 9 }
-{
-    let next = tag(out, at, k);
-    n.put_at(out, next)
-}
-
-pub fn blob(s: &[u8], out: &mut [u8], at: usize) -> usize
-    requires s_in_bounds { at + (4 + length s.now) ≤ length out.old }
-    requires s_len_bound { length s.now < 2 ^ 32 }
-    ensures wrote { Wrote out.old at (blob_bytes s.now) out.new result }
-    ensures value { result ≡ at + (4 + length s.now) }
-{
-    let next = (s.len() as u32).put_at(out, at);
-    base_bytes::copy(s, out, next)
-}
-
-// The items of a run of n bytes, which are copied as they stand: n is what `run_len` found, since the run's own `len` isn't asked for.
-pub fn put_run<T: Item>(
-    protocol: Protocol,
-    src: &[u8],
-    run: Run,
-    n: usize,
-    out: &mut [u8],
-    at: usize,
-) -> usize
+// The items of a run of n bytes, which are copied as they stand: n is what `run_len` found, since a caller's `Run` may have any `len`.
+pub fn put_run<T: Item>(protocol: Protocol, src: &[u8], run: Run, n: usize, writer: &mut Writer)
     requires stands_at { StandsAt src.now run.at n (run_bytes T.bytes (run_of (T.parser protocol.version) src.now run)) }
-    requires n_in_bounds { at + n ≤ length out.old }
-    ensures wrote { Wrote out.old at (run_bytes T.bytes (run_of (T.parser protocol.version) src.now run)) out.new result }
-    ensures value { result ≡ at + n }
+    requires n_in_bounds { writer.old.at + n ≤ length writer.old.out.now }
+    ensures put { Put writer.old (run_bytes T.bytes (run_of (T.parser protocol.version) src.now run)) writer.new }
+    ensures past { writer.new.at ≡ writer.old.at + n }
 {
-    base_bytes::copy(frame_reader::bytes_at(src, run.at, n), out, at)
+    writer.bytes(frame_reader::bytes_at(src, run.at, n));
 }

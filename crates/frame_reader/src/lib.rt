@@ -204,7 +204,8 @@ impl<'a> Reader<'a> {
         self.judged(span, valid, Value::Marks)
     }
 
-    // A text, and whether it has lo to hi printable bytes: the key's rule for one of its texts.
+    // A text, and whether it has lo to hi printable bytes, the key's rule for one of its texts: both come back, since a later text's fault goes before
+    // a break of this rule.
     pub fn checked_text(&mut self, lo: usize, hi: usize) -> Result<(Span, bool), FrameError>
         ensures read { res (λ s. span_of self.old.buf.now s.0) self.new result ≡ read_text (rest self.old) }
         ensures judged { IfOk result (λ s. s.1 ≡ is_printable lo hi (span_of self.old.buf.now s.0)) }

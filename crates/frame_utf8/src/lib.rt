@@ -13,6 +13,7 @@ fn begins(n: u32) -> bool
 }
 
 // How many bytes a sequence has that begins with a, by the number of leading one bits of a: none, one byte; 2 to 4, that many; 0 where none begins so.
+// As an Option, ASCII of 7 to 30 bytes, which most texts of a frame are, took 1.09 to 1.17 times as long; the bar is no longer than before.
 fn lead_length(a: u8) -> usize
     ensures { (result ≡ lead_length a) × (result ≤ 4) }
 {
@@ -95,7 +96,7 @@ fn length_if(formed: bool, n: usize) -> usize
 }
 
 // The length of the well formed sequence of n bytes that stands in s from `at` on, or 0 where none does: as an Option,
-// and with the loops by `for`, Japanese text took 1.33 times as long. Each way answers a number of its own, so that the next place is known before the leading bits are counted.
+// and with the loops by `for`, Japanese text took 1.33 times as long; the bar is 1.2. Each length has its own `return`, so that nothing waits for the count of the leading bits.
 // That `at` is a place of s is told by the test of is_utf8's loop: a place of a type of its own would be made in each turn.
 fn formed_length(s: &[u8], at: usize, n: usize) -> usize
     requires at_in_bounds { at < length s.now }

@@ -12,6 +12,8 @@ use Rattle.model_frame.specs.Reading.{max_body}
 use Rattle.model_frame.specs.Writing.{body_bytes, encode, fine, write_outcome, took}
 use Rattle.model_frame.proofs.Le.{length_bytes}
 use Rattle.base_laws.specs.Wrote.{Wrote}
+use Rattle.base_bytes.specs.declared.writer.Writer.{Writer}
+use Rattle.base_bytes.specs.Put.{Put}
 use Rattle.base_laws.proofs.Writes.{wrote_on}
 use Rattle.std.specs.Prelude.{Ok, Err}
 use Rattle.frame_writer.specs.declared.EncodeError.{EncodeError}
@@ -77,3 +79,7 @@ module _ (version : ℕ) (t : Bool) (f : Frame) where
           answer = rw (r.read, r.texts, le-ltb _ _ short, le-ltb _ _ fits) (ap took past);
           area = rw (r.read, r.texts, le-ltb _ _ short, le-ltb _ _ fits) whole.bytes;
         }
+
+  -- the body was put behind the length, and the area ends as the writer left it
+  pub encoded_put : {n : ℕ} {before last : List ℕ} {w v : Writer} → Ready n → Started n before w.out.now (Ok w.at) → Put w (body_bytes f) v → last ≡ v.out.now → Encoded version (frame_if t f) before last (Ok v.at)
+  encoded_put r s p e = rw e (encoded_took r s p.wrote)

@@ -7,14 +7,14 @@ ghost use Rattle.model_frame.specs.Frame.{hello, welcome, bind, batch, ack, nack
 ghost use Rattle.model_frame.specs.Parse.{read_num};
 ghost use Rattle.model_frame.specs.Reading.{read_change, read_app_record};
 ghost use Rattle.model_frame.specs.Writing.{blob_bytes, key_bytes, summary_bytes, part_number, reason_number, flight_number, fine_key, fine_summary};
-ghost use Rattle.base_laws.specs.Wrote.{Wrote};
+ghost use Rattle.base_bytes.specs.Put.{Put};
 ghost use Rattle.base_refusals.specs.Numbers.{number_of};
 ghost use Rattle.frame_reader.specs.Answers.{span_of};
 ghost use Rattle.frame_op.specs.Answers.{run_of};
 ghost use Rattle.frame_fields.specs.Answers.{part_of, reason_of, flight_of, key_of, summary_of};
 ghost use Rattle.frame_writer.specs.Encoding.{span_fits, run_reads, key_fits, summary_fits, key_size, summary_size, frame_if, error_number, Encoded, Started};
 
-use base_bytes::LittleEndian;
+use base_bytes::{LittleEndian, Writer};
 use base_refusals::Refusal;
 use frame_fields::{NackReason, Part, SessionId, Summary};
 use frame_op::Run;
@@ -65,27 +65,25 @@ pub fn kinds_fit(src: &[u8], run: Run) -> bool
 pub fn session_fits(src: &[u8], session: SessionId) -> bool
     ensures { result ≡ (key_fits src.now session && fine_key (key_of src.now session)) }
 {
-    let begin = session.begin_string;
-    let sender = session.sender_comp_id;
-    let target = session.target_comp_id;
-    let suffix = session.key_suffix;
-    let fits = within(src, begin) & within(src, sender) & within(src, target) & within(src, suffix);
+    let fits = within(src, session.begin_string)
+        & within(src, session.sender_comp_id)
+        & within(src, session.target_comp_id)
+        & within(src, session.key_suffix);
     fits & frame_stamp::is_key(
-        frame_reader::slice(src, begin),
-        frame_reader::slice(src, sender),
-        frame_reader::slice(src, target),
-        frame_reader::slice(src, suffix),
+        frame_reader::slice(src, session.begin_string),
+        frame_reader::slice(src, session.sender_comp_id),
+        frame_reader::slice(src, session.target_comp_id),
+        frame_reader::slice(src, session.key_suffix),
     )
 }
 
 pub fn summary_fits(protocol: Protocol, src: &[u8], summary: Summary) -> bool
     ensures { result ≡ (summary_fits src.now summary && fine_summary protocol.version (summary_of src.now summary)) }
 {
-    let created_at = summary.created_at;
-    let marks = summary.marks;
-    let fits = within(src, created_at) & within(src, marks);
-    let dated = frame_reader::is_stamp_or_none(protocol, frame_reader::slice(src, created_at));
-    fits & (dated & frame_stamp::is_marks(frame_reader::slice(src, marks)))
+    let fits = within(src, summary.created_at) & within(src, summary.marks);
+    let created_at = frame_reader::slice(src, summary.created_at);
+    let dated = frame_reader::is_stamp_or_none(protocol, created_at);
+    fits & (dated & frame_stamp::is_marks(frame_reader::slice(src, summary.marks)))
 }
 
 // Writes the length of a body, if the body is short enough and the area has room for both, and gives the place behind it.
@@ -102,49 +100,44 @@ pub fn begin(out: &mut [u8], n: usize) -> Result<usize, EncodeError>
 }
 
 // A part of the source as a blob.
-pub fn put_span(src: &[u8], span: Span, out: &mut [u8], at: usize) -> usize
-    requires { at + (4 + length (span_of src.now span)) ≤ length out.old }
-    ensures wrote { Wrote out.old at (blob_bytes (span_of src.now span)) out.new result }
-    ensures value { result ≡ at + (4 + length (span_of src.now span)) }
+pub fn put_span(src: &[u8], span: Span, writer: &mut Writer)
+    requires { writer.old.at + (4 + length (span_of src.now span)) ≤ length writer.old.out.now }
+    ensures put { Put writer.old (blob_bytes (span_of src.now span)) writer.new }
+    ensures past { writer.new.at ≡ writer.old.at + (4 + length (span_of src.now span)) }
 {
-    frame_op::blob(frame_reader::slice(src, span), out, at)
+    writer.blob(frame_reader::slice(src, span));
 }
 
-pub fn put_session(src: &[u8], session: SessionId, out: &mut [u8], at: usize) -> usize
-    requires { at + key_size (key_of src.now session) ≤ length out.old }
-    ensures { Wrote out.old at (key_bytes (key_of src.now session)) out.new result }
+pub fn put_session(src: &[u8], session: SessionId, writer: &mut Writer)
+    requires { writer.old.at + key_size (key_of src.now session) ≤ length writer.old.out.now }
+    ensures { Put writer.old (key_bytes (key_of src.now session)) writer.new }
 {
-    let begin = session.begin_string;
-    let sender = session.sender_comp_id;
-    let target = session.target_comp_id;
-    let suffix = session.key_suffix;
-    let at = put_span(src, begin, out, at);
-    let at = put_span(src, sender, out, at);
-    let at = put_span(src, target, out, at);
-    put_span(src, suffix, out, at)
+    put_span(src, session.begin_string, writer);
+    put_span(src, session.sender_comp_id, writer);
+    put_span(src, session.target_comp_id, writer);
+    put_span(src, session.key_suffix, writer);
 }
 
+// On the wire 0 stands for none.
 fn flight_number(flight: Option<u64>) -> u64
     ensures { result ≡ flight_number (flight_of flight) }
 {
     flight.unwrap_or(0)
 }
 
-pub fn put_summary(src: &[u8], summary: Summary, out: &mut [u8], at: usize) -> usize
-    requires { at + summary_size (summary_of src.now summary) ≤ length out.old }
-    ensures { Wrote out.old at (summary_bytes (summary_of src.now summary)) out.new result }
+pub fn put_summary(src: &[u8], summary: Summary, writer: &mut Writer)
+    requires { writer.old.at + summary_size (summary_of src.now summary) ≤ length writer.old.out.now }
+    ensures { Put writer.old (summary_bytes (summary_of src.now summary)) writer.new }
 {
-    let in_flight = summary.in_flight;
-    let created_at = summary.created_at;
-    let marks = summary.marks;
-    let at = summary.next_outgoing.put_at(out, at);
-    let at = summary.next_incoming.put_at(out, at);
-    let at = flight_number(in_flight).put_at(out, at);
-    let at = put_span(src, created_at, out, at);
-    let at = put_span(src, marks, out, at);
-    summary.last_outgoing.put_at(out, at)
+    writer.number(summary.next_outgoing);
+    writer.number(summary.next_incoming);
+    writer.number(flight_number(summary.in_flight));
+    put_span(src, summary.created_at, writer);
+    put_span(src, summary.marks, writer);
+    writer.number(summary.last_outgoing);
 }
 
+// The byte of a part; it and the next go by `as`, whose numbers stand with the cases.
 pub fn part_byte(part: Part) -> u8
     ensures { result ≡ part_number (part_of part) }
 {
@@ -158,11 +151,11 @@ pub fn reason_byte(reason: NackReason) -> u8
 }
 
 // A kind and a handle.
-pub fn put_handle(out: &mut [u8], at: usize, kind: u8, handle: u32) -> usize
-    requires { at + 5 ≤ length out.old }
-    ensures wrote { Wrote out.old at (kind ∷ bytes_of 4 handle) out.new result }
-    ensures value { result ≡ at + 5 }
+pub fn put_handle(kind: u8, handle: u32, writer: &mut Writer)
+    requires { writer.old.at + 5 ≤ length writer.old.out.now }
+    ensures put { Put writer.old (kind ∷ bytes_of 4 handle) writer.new }
+    ensures past { writer.new.at ≡ writer.old.at + 5 }
 {
-    let at = frame_op::tag(out, at, kind);
-    handle.put_at(out, at)
+    writer.byte(kind);
+    writer.number(handle);
 }

@@ -37,32 +37,27 @@ struct Standby<'a> {
     holds: &'a mut [u8],
 }
 
-// The answers that aren't written yet: so many bytes of an area.
+// The answers that aren't written yet: so many bytes of an area. They stand beside the standby, since a struct with such a struct in it isn't
+// covered where it is made of what `main` lends. Not a `base_bytes::Writer`: this one is written out and begins anew where it is full.
 #[derive(Drop)]
 struct Answers<'a> {
     out: &'a mut [u8],
     len: usize,
+    ghost within: { len ≤ length out.now },
 }
 
 impl Answers<'_> {
     // Writes the answers that wait.
     fn send(&mut self, rt: &impl Print) -> Result<(), Failure> {
         let len = self.len;
-        if len > self.out.len() {
-            return Err(Failure::Output(io::Error::from(ErrorKind::InvalidInput)));
-        }
-        match rt.write_all(&self.out[0..len]) {
-            Ok(()) => {
-                self.len = 0;
-                Ok(())
-            }
-            Err(e) => Err(Failure::Output(e)),
-        }
+        rt.write_all(&self.out[..len]).map_err(Failure::Output)?;
+        self.len = 0;
+        Ok(())
     }
 
     // Whether a text of so many bytes and its line feed fit behind the answers that wait.
     fn fits(&self, len: usize) -> bool {
-        self.len < self.out.len() && len < self.out.len() - self.len
+        len < self.out.len() - self.len
     }
 
     // Puts a text and its line feed behind the answers that wait, which are written first where it doesn't fit.
@@ -72,7 +67,7 @@ impl Answers<'_> {
             self.send(rt)?;
         }
         let from = self.len;
-        if from < self.out.len() && len < self.out.len() - from {
+        if len < self.out.len() - from {
             self.out[from..from + len].copy_from_slice(text);
             self.out[from + len] = b'\n';
             self.len = from + len + 1;
@@ -90,6 +85,7 @@ fn tell(
 ) -> Result<(), Failure> {
     let mut buf = [0u8; 8192];
     let mut text = [0u8; 16384];
+    // By names: the borrow check doesn't cover an array in a field that is handed on straight, and the row is one.
     let counters = standby.counters;
     let row = standby.row;
     let t = frames_line::answer_line(
@@ -112,6 +108,7 @@ fn tell(
 
 // Answers the lines that end in a piece of the input, the first of which begins with the `len` bytes that wait: how many bytes of the next
 // line wait then. Of a line no more than the area is kept, which is more than a line may have.
+// The line is an area of fixed size with its length beside, as `base_lines::feed` takes it (no heap).
 fn take_piece(
     rt: &impl Print,
     standby: &mut Standby,
@@ -138,7 +135,7 @@ fn take_piece(
     Ok(len)
 }
 
-// Reads once: how many bytes of the next line wait then, or nothing where the input has ended.
+// Reads once: how many bytes of the next line wait then, or nothing where the input has ended. The line stands as in `take_piece`.
 fn read_on(
     from: &mut impl Read,
     rt: &impl Print,
@@ -232,6 +229,7 @@ fn main(rt: HostRuntime) -> ExitCode {
     let mut bytes = [0u8; 17280];
     let mut holds = [0u8; 22504];
     let mut line = [0u8; 16385];
+    // The areas are as long as this shape asks, so this can't be.
     if store_areas::make(frames_line::shape(), &mut words, &bytes).is_err() {
         return ExitCode::SUCCESS;
     }

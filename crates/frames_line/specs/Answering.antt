@@ -1,6 +1,6 @@
 -- What the code of the program `frames` answers to a line, by the definition (crates/model_lines/specs/Program.antt). Assumes nothing.
 use Rattle.std.specs.Prelude.{ℕ, ◌≡◌, true, List, take}
-use Rattle.std.proofs.Math.Option.{Option, none, some}
+use Rattle.std.proofs.Math.Option.{none, some}
 use Rattle.model_text.specs.Hex.{line_bytes, refusal_text}
 use Rattle.model_frame.specs.Refusal
 use Rattle.model_standby.specs.State.{on_frame}

@@ -1,4 +1,5 @@
-// The program `frames`, one line at a time: a frame in digits, and the answer's digits or its refusal.
+// The program `frames`, one line at a time: a frame in digits, and the answer's digits or its refusal. The counters, the row and the areas
+// come apart, as the standby's calls take them.
 #![tactic(auto)]
 
 ghost use Rattle.std.specs.Prelude.{◌≡◌, ◌*◌, ◌≤◌, length};
@@ -11,7 +12,6 @@ use standby_state::{Replica, Settings};
 use store_areas::Shape;
 
 // What a line leaves of the counters and the row, and the length of its answer's text.
-#[repr(C)]
 #[derive(Clone, Copy)]
 pub struct LineAnswer {
     pub replica: Replica,
@@ -58,13 +58,21 @@ fn answer_in(
 {
     match base_hex::read_line(line, buf) {
         Some(n) => {
-            let k = replica::on_frame4(counters, row, words, bytes, holds, &buf[0..n], settings());
-            let replica = k.replica;
-            let row = k.row;
+            let mut replica = counters;
+            let mut row = row;
+            let answer = replica::on_frame(
+                &mut replica,
+                &mut row,
+                words,
+                bytes,
+                holds,
+                &buf[0..n],
+                settings(),
+            );
             LineAnswer {
                 replica,
                 row,
-                len: frames_reply::put_answer(k.answer, bytes, buf, out),
+                len: frames_reply::put_answer(answer, bytes, buf, out),
             }
         }
         None => LineAnswer {

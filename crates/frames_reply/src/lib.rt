@@ -25,7 +25,7 @@ fn put_reply(answer: Answer, bytes: &[u8], buf: &mut [u8], out: &mut [u8]) -> us
     }
 }
 
-// The text of an answer: `R n`, or the digits of its frame.
+// The text of an answer: none for done, else `R n` or the digits of its frame; how long it is.
 pub fn put_answer(answer: Answer, bytes: &[u8], buf: &mut [u8], out: &mut [u8]) -> usize
     requires in_bounds { 4 ≤ length buf.old }
     requires buf_in_bounds { 2 * length buf.old ≤ length out.old }

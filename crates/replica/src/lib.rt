@@ -13,7 +13,7 @@ use base_refusals::Refusal;
 use frame_fields::{Epoch, Incarnation};
 use standby_call::Call;
 use standby_row::Bound;
-use standby_state::{Answer, Replica, Settings, Standing};
+use standby_state::{Answer, Areas, Replica, Settings, Standing};
 use store_areas::word;
 
 // How many places of the store are in use.
@@ -23,7 +23,7 @@ fn places_in_use(words: &[u64]) -> usize
     words.get(word::USED).copied().unwrap_or(0) as usize
 }
 
-// Any of the six calls: one pass over the row, the call by value, and what it does to the row and the counters.
+// Any of the six calls: what is found in the row, the call by value, and what it does to the row and the counters.
 fn on_call(
     counters: &mut Replica,
     row: &mut [Bound],
@@ -45,10 +45,15 @@ fn on_call(
         counters: *counters,
         lookup,
     };
-    let o = standby_call::run(standing, words, bytes, holds, frame, call);
-    o.action.apply(row);
-    *counters = o.replica;
-    o.answer
+    let mut areas = Areas {
+        words,
+        bytes,
+        holds,
+    };
+    let outcome = standby_call::run(standing, &mut areas, frame, call);
+    outcome.action.apply(row);
+    *counters = outcome.replica;
+    outcome.answer
 }
 
 // A frame that may be held back: its answer is sent once the pending commits have run.
@@ -207,35 +212,4 @@ pub fn incarnation(settings: Settings) -> Incarnation
     ensures { result.0 ≡ max settings.incarnation.0 1 }
 {
     standby_hello::incarnation(settings)
-}
-
-// What a call by value gives: the counters and the row after it, and its answer.
-#[repr(C)]
-#[derive(Clone, Copy)]
-pub struct CallResult {
-    pub replica: Replica,
-    pub row: [Bound; 4],
-    pub answer: Answer,
-}
-
-// A frame by value, over four handles: it lends the counters and the row itself, so whoever calls it needs no walk.
-pub fn on_frame4(
-    counters: Replica,
-    row: [Bound; 4],
-    words: &mut [u64],
-    bytes: &mut [u8],
-    holds: &mut [u8],
-    frame: &[u8],
-    settings: Settings,
-) -> CallResult
-    ensures { Called settings (on_frame frame.now) counters result.replica row result.row words.old words.new bytes.old bytes.new holds.old holds.new result.answer }
-{
-    let mut d = counters;
-    let mut t = row;
-    let answer = on_frame(&mut d, &mut t, words, bytes, holds, frame, settings);
-    CallResult {
-        replica: d,
-        row: t,
-        answer: answer,
-    }
 }

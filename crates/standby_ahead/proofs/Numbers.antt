@@ -1,15 +1,15 @@
 -- Whether a key's number is reached, and the loops over the places. Assumes nothing.
 use mathlib.Core.Path.{◌≡◌, refl, sym, ap, ◌∙◌}
-use mathlib.Core.Bool.{Bool, true, false, cond, ◌&&◌, true≢false}
+use mathlib.Core.Bool.{Bool, true, false, cond, ◌&&◌, ◌||◌, true≢false}
 use mathlib.Core.List.{List, [], ◌∷◌}
 use mathlib.Core.Option.{some}
-use Prim.Native.Nat.{ℕ, zero, suc, ◌+◌, ◌-◌, ◌<◌, ◌≤◌, max}
+use Prim.Native.Nat.{ℕ, zero, suc, ◌+◌, ◌<◌, ◌≤◌, max}
 use native.Mathlib.Omega.{arith}
 use native.Mathlib.Numerals.{add-one}
-use native.Mathlib.Nat.{sub-zero}
 use lib.ListN.{get_or, get_elem?}
 use lib.Dec.{leb}
 use borrow.Author.Tests.{leb-true, leb-false, le-leb, lt-leb}
+use Rattle.std.specs.List.{list_any, list_all, range_with_len}
 use Rattle.model_frame.specs.Frame.{Key}
 use Rattle.model_standby.specs.Store.{Place, same_key}
 use Rattle.model_standby.proofs.Places.{key_sound}
@@ -81,54 +81,49 @@ one_at_least k (p ∷ ps) = go (same_key k p.key) (one_at_least k ps)
 pub low_enough : (k : Key) (n : ℕ) (ps : List Place) → n ≤ 1 → true ≡ leb n (next_of k ps)
 low_enough k n ps h = sym (le-leb n (next_of k ps) (omega (arith, h, one_at_least k ps)))
 
--- ---- the search over mine
+-- a place that has it, whatever comes after
+hit : (k : Key) (n : ℕ) (p : Place) (ps : List Place) → has_number k n p ≡ true → leb n (next_of k (p ∷ ps)) ≡ true
+hit k n p ps h =
+    let f = both (leb n p.stored.session.next_out) (same_key k p.key) h in
+    ap (λ (t : Bool). leb n (cond t (max p.stored.session.next_out (next_of k ps)) (next_of k ps))) f.1
+    ∙ le-leb n (max p.stored.session.next_out (next_of k ps)) (omega (arith, leb-true n p.stored.session.next_out f.0))
 
-module _ (s : Shape) (w b : List ℕ) (k : Key) (n : ℕ) where
-  abbrev from : ℕ → List Place
-  from i = count_up (place_at s w b) i (get_or w 0 0 - i)
+-- ---- the search over mine: a place has it, or the number is at most 1
 
-  pub record Searching (i : ℕ) : Type 0 where
-    pub upto : i ≤ get_or w 0 0
-    pub left : leb n (next_of k (places_of s w b)) ≡ leb n (next_of k (from i))
+module _ (k : Key) (n : ℕ) (f : ℕ → Place) where
+  abbrev pub has_at : ℕ → Bool
+  has_at i = has_number k n (f i)
 
-  pub search_starts : Searching 0
+  has_from : (a m : ℕ) → (list_any has_at (range_with_len a m) || leb n 1) ≡ leb n (next_of k (count_up f a m))
+  has_from a zero = refl
+  has_from a (suc m) = go (has_at a) refl (has_from (a + 1) m ∙ ap (λ (j : ℕ). leb n (next_of k (count_up f j m))) (add-one a))
+    where
+      go : (t : Bool) → has_at a ≡ t → (list_any has_at (range_with_len (a + 1) m) || leb n 1) ≡ leb n (next_of k (count_up f (suc a) m))
+          → ((t || list_any has_at (range_with_len (a + 1) m)) || leb n 1) ≡ leb n (next_of k (f a ∷ count_up f (suc a) m))
+      go true e h = sym (hit k n (f a) (count_up f (suc a) m) e)
+      go false e h = h ∙ sym (passed k n (f a) (count_up f (suc a) m) e)
+
+module _ (s : Shape) (w b : List ℕ) (k : Key) (n : ℕ) {t : Bool} (is : t ≡ list_any (has_at k n (place_at s w b)) (range_with_len 0 (get_or w 0 0))) where
+  searched : (t || leb n 1) ≡ leb n (next_of k (places_of s w b))
   unfolding places_of
-  search_starts = record { upto = omega arith; left = rw (sub-zero (get_or w 0 0)) refl }
+  searched = ap (λ (x : Bool). x || leb n 1) is ∙ has_from k n (place_at s w b) 0 (get_or w 0 0)
 
-  pub search_on : (i : ℕ) {t : Bool} → i < get_or w 0 0 → Searching i → t ≡ has_number k n (place_at s w b i) → t ≡ false → Searching (i + 1)
-  search_on i less c e h =
-      let l : get_or w 0 0 - i ≡ suc (get_or w 0 0 - (i + 1)) = omega arith in
-      record {
-        upto = omega arith;
-        left = c.left ∙ ap (λ (m : ℕ). leb n (next_of k (count_up (place_at s w b) i m))) l ∙ passed k n (place_at s w b i) (count_up (place_at s w b) (suc i) (get_or w 0 0 - (i + 1))) (sym e ∙ h)
-            ∙ ap (λ (j : ℕ). leb n (next_of k (count_up (place_at s w b) j (get_or w 0 0 - (i + 1))))) (sym (add-one i));
-      }
+  pub there : t ≡ true → t ≡ leb n (next_of k (places_of s w b))
+  there e = e ∙ sym (ap (λ (x : Bool). x || leb n 1) e) ∙ searched
 
--- ---- the loop over theirs
+  pub not_there : t ≡ false → leb n 1 ≡ leb n (next_of k (places_of s w b))
+  not_there e = sym (ap (λ (x : Bool). x || leb n 1) e) ∙ searched
 
-module _ (mine : List Place) (s : Shape) (w b : List ℕ) where
-  pub record Going (p : ℕ) : Type 0 where
-    pub upto : p ≤ get_or w 0 0
-    pub left : is_ahead mine (places_of s w b) ≡ is_ahead mine (count_up (place_at s w b) p (get_or w 0 0 - p))
+-- ---- over theirs
 
-  pub starts : Going 0
-  unfolding places_of
-  starts = record { upto = omega arith; left = rw (sub-zero (get_or w 0 0)) refl }
+module _ (mine : List Place) (f : ℕ → Place) where
+  abbrev pub reached_at : ℕ → Bool
+  reached_at i = leb (f i).stored.session.next_out (next_of (f i).key mine)
 
-  abbrev test : ℕ → Bool
-  test p = leb (place_at s w b p).stored.session.next_out (next_of (place_at s w b p).key mine)
+  reached_from : (a m : ℕ) → list_all reached_at (range_with_len a m) ≡ is_ahead mine (count_up f a m)
+  reached_from a zero = refl
+  reached_from a (suc m) = ap (λ (t : Bool). reached_at a && t) (reached_from (a + 1) m ∙ ap (λ (j : ℕ). is_ahead mine (count_up f j m)) (add-one a))
 
-  split : (p : ℕ) → p < get_or w 0 0 → is_ahead mine (count_up (place_at s w b) p (get_or w 0 0 - p)) ≡ (test p && is_ahead mine (count_up (place_at s w b) (suc p) (get_or w 0 0 - (p + 1))))
-  split p less =
-      let e : get_or w 0 0 - p ≡ suc (get_or w 0 0 - (p + 1)) = omega arith in
-      rw e refl
-
-  pub goes_on : (p : ℕ) {t : Bool} → p < get_or w 0 0 → Going p → t ≡ test p → t ≡ true → Going (p + 1)
-  goes_on p less g e t = record {
-    upto = omega arith;
-    left = g.left ∙ split p less ∙ ap (λ (c : Bool). c && is_ahead mine (count_up (place_at s w b) (suc p) (get_or w 0 0 - (p + 1)))) (sym e ∙ t)
-        ∙ ap (λ (k : ℕ). is_ahead mine (count_up (place_at s w b) k (get_or w 0 0 - (p + 1)))) (sym (add-one p));
-  }
-
-  pub stops : (p : ℕ) {t : Bool} → p < get_or w 0 0 → Going p → t ≡ test p → t ≡ false → false ≡ is_ahead mine (places_of s w b)
-  stops p less g e f = sym (g.left ∙ split p less ∙ ap (λ (c : Bool). c && is_ahead mine (count_up (place_at s w b) (suc p) (get_or w 0 0 - (p + 1)))) (sym e ∙ f))
+pub all_reached : (mine : List Place) (s : Shape) (w b : List ℕ) {t : Bool} → t ≡ list_all (reached_at mine (place_at s w b)) (range_with_len 0 (get_or w 0 0)) → t ≡ is_ahead mine (places_of s w b)
+unfolding places_of
+all_reached mine s w b is = is ∙ reached_from mine (place_at s w b) 0 (get_or w 0 0)

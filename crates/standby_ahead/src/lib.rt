@@ -1,7 +1,7 @@
 // Whether one store is ahead of another: at least its next outgoing number in each session.
 #![tactic(auto)]
 
-ghost use Rattle.std.specs.Prelude.{◌≡◌, ℕ, min, ◌+◌, ◌-◌, ◌≤◌, ◌<◌, length, get_or, leb};
+ghost use Rattle.std.specs.Prelude.{◌≡◌, ◌<◌, get_or, leb};
 ghost use Rattle.store_place.specs.Keys.{key_of};
 ghost use Rattle.store_areas.specs.Areas.{place_at, places_of};
 ghost use Rattle.model_choice.specs.Choice.{next_of, is_ahead};
@@ -11,36 +11,15 @@ mod index;
 
 use index::{Index, KEPT};
 use store_areas::{View, word as areas_word};
-use store_place::{Key, byte, word};
-
-// A length, at most 32.
-fn at_most_32(n: u64) -> usize
-    ensures { result ≡ min n 32 }
-{
-    n.min(32) as usize
-}
+use store_log::fnv;
+use store_place::Key;
 
 // The key of a place in use.
 fn key_at<'a>(view: &View<'a>, place: usize) -> Key<'a>
     requires { place < get_or view.now.words.now 0 0 }
     ensures { key_of result ≡ (place_at view.now.shape view.now.words.now view.now.bytes.now place).key }
 {
-    let spot = view.spot(place);
-    let lengths = &view.words[spot.words_start..spot.words_end];
-    let begin_start = spot.bytes_start;
-    let begin_end = begin_start + at_most_32(lengths[word::BEGIN_LEN]);
-    let sender_start = begin_start + byte::SENDER;
-    let sender_end = sender_start + at_most_32(lengths[word::SENDER_LEN]);
-    let target_start = begin_start + byte::TARGET;
-    let target_end = target_start + at_most_32(lengths[word::TARGET_LEN]);
-    let suffix_start = begin_start + byte::SUFFIX;
-    let suffix_end = suffix_start + at_most_32(lengths[word::SUFFIX_LEN]);
-    Key {
-        begin: &view.bytes[begin_start..begin_end],
-        sender: &view.bytes[sender_start..sender_end],
-        target: &view.bytes[target_start..target_end],
-        suffix: &view.bytes[suffix_start..suffix_end],
-    }
+    view.place(place).key()
 }
 
 // ---- fingerprints: places whose key has another one are passed over
@@ -49,13 +28,13 @@ fn key_at<'a>(view: &View<'a>, place: usize) -> Key<'a>
 fn print_of(key: &Key) -> u64
     ensures { result ≡ print_of (key_of key.now) }
 {
-    let a = store_log::fnv::bytes(0xcbf2_9ce4_8422_2325, key.begin);
-    let b = store_log::fnv::bytes(a, key.sender);
-    let c = store_log::fnv::bytes(b, key.target);
-    store_log::fnv::bytes(c, key.suffix)
+    let a = fnv::bytes(fnv::START, key.begin);
+    let b = fnv::bytes(a, key.sender);
+    let c = fnv::bytes(b, key.target);
+    fnv::bytes(c, key.suffix)
 }
 
-// Those of the first places in use.
+// Those of the first places in use; by an index, as in base_hex.
 fn prints_of(view: &View) -> [u64; KEPT]
     ensures { Prints view.now.shape view.now.words.now view.now.bytes.now result }
 {
@@ -86,12 +65,8 @@ fn has_number(view: &View, place: usize, key: &Key, n: u64) -> bool
     if store_sessions::next_outgoing(view, place) < n {
         return false;
     }
-    let spot = view.spot(place);
-    store_place::has_key(
-        &view.words[spot.words_start..spot.words_end],
-        &view.bytes[spot.bytes_start..spot.bytes_end],
-        key,
-    )
+    let stored = view.place(place);
+    store_place::has_key(stored.words, stored.bytes, key)
 }
 
 // The same, of a key with this fingerprint.
@@ -108,12 +83,8 @@ fn search(mine: &Index, print: u64, key: &Key, n: u64) -> bool
     requires { print ≡ print_of (key_of key.now) }
     ensures { result ≡ leb n (next_of (key_of key.now) (places_of mine.now.view.shape mine.now.view.words.now mine.now.view.bytes.now)) }
 {
-    for i in 0..mine.view.words[areas_word::USED] as usize {
-        if found_at(mine, print, i, key, n) {
-            return true;
-        }
-    }
-    n <= 1
+    let used = mine.view.words[areas_word::USED] as usize;
+    (0..used).any(|place| found_at(mine, print, place, key, n)) || n <= 1
 }
 
 // The same; every number is at least 1, and place `first` is tried before all others.
@@ -123,10 +94,9 @@ fn reaches(mine: &Index, first: usize, key: &Key, n: u64) -> bool
     if n <= 1 {
         return true;
     }
-    if first < mine.view.words[areas_word::USED] as usize {
-        if has_number(&mine.view, first, key, n) {
-            return true;
-        }
+    let used = mine.view.words[areas_word::USED] as usize;
+    if first < used && has_number(&mine.view, first, key, n) {
+        return true;
     }
     search(mine, print_of(key), key, n)
 }
@@ -149,10 +119,6 @@ pub fn is_ahead(mine: &View, theirs: &View) -> bool
         view: *mine,
         prints: prints_of(mine),
     };
-    for place in 0..theirs.words[areas_word::USED] as usize {
-        if !is_ahead_at(&index, theirs, place) {
-            return false;
-        }
-    }
-    true
+    let used = theirs.words[areas_word::USED] as usize;
+    (0..used).all(|place| is_ahead_at(&index, theirs, place))
 }

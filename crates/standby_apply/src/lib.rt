@@ -1,5 +1,6 @@
 // Making changes to a stored session (standby.rs, apply), at one place of a store.
-// `apply` and `apply_all` take the slices of a place and its room for messages, as store_place's changes do.
+// `apply` and `apply_all` take the slices of a place and its room for messages, as store_place's changes do: a struct over `&mut` words
+// would have to promise, beside each change, that they are the same ones.
 #![tactic(auto)]
 
 ghost use Rattle.std.specs.Prelude.{◌≡◌, true, [], ◌∷◌, ℕ, ◌+◌, ◌*◌, ◌≤◌, ◌<◌, length, get_or};
@@ -52,18 +53,14 @@ pub fn apply(changes: &Changes, op: Op, words: &mut [u64], bytes: &mut [u8], max
     }
 }
 
-// Makes all changes of a run, whose outgoing numbers follow on from the session's. Each change says where the next begins.
+// Makes all changes of a run, whose outgoing numbers follow on from the session's.
 pub fn apply_all(changes: &Changes, words: &mut [u64], bytes: &mut [u8], max: usize)
     requires max_in_bounds { 16 + 2 * max ≤ length words.old }
     requires in_bounds { 224 ≤ length bytes.old }
     requires run_value { fits (next_out_of words.old) (held_run changes.now.protocol.version changes.now.run.now) ≡ true }
     ensures { (C : ℕ) → length bytes.old ≡ 224 + C → place_in C max words.new bytes.new ≡ on_stored (changed C max (held_run changes.now.protocol.version changes.now.run.now)) (place_in C max words.old bytes.old) }
 {
-    let mut reader = Reader {
-        buf: changes.run,
-        at: 0,
-    };
-    while let Ok(op) = frame_op::read_op(&mut reader, changes.protocol) {
+    for op in changes.iter() {
         apply(changes, op, words, bytes, max);
     }
 }

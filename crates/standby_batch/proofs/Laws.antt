@@ -20,7 +20,8 @@ use Rattle.model_frame.specs.Sizes.{sizes}
 use Rattle.frame_fields.specs.declared.CommitNumber.{CommitNumber}
 use Rattle.frame_fields.specs.declared.Epoch.{Epoch}
 use Rattle.standby_row.specs.declared.Bound.{Bound as BoundRecord}
-use Rattle.standby_row.specs.declared.Lookup.{Lookup}
+use Rattle.standby_row.specs.declared.lookup.Lookup.{Lookup}
+use Rattle.standby_row.specs.Row.{own_record}
 use Rattle.store_areas.specs.Areas.{Rules}
 use Rattle.store_areas.proofs.Lifting.{places_length}
 use Rattle.standby_commit.specs.Settling.{StoreChange, stays, batch_change, StoreAfter}
@@ -122,7 +123,7 @@ module _ (s : Settings) (c : Replica) (seen : Lookup) (h : ℕ) (e : Epoch) (n :
         stored = λ y. absurd (true≢false (sym y));
         rules = rules;
         used = refl;
-        store_after = none_changed s.shape h seen.bound.place part w b off;
+        store_after = none_changed s.shape h (own_record seen).place part w b off;
         area_is = ap (λ (o : Option HoldWrite). hold_area_with o area) (sym ((λ j. Writes (p j) (q j)) ∙ none_written));
         exact = is-exact;
       })
@@ -137,9 +138,9 @@ module _ (s : Settings) (c : Replica) (seen : Lookup) (h : ℕ) (e : Epoch) (n :
 
   -- the record found, where it is the handle's
   abbrev Own : Bool → prelude.Option BoundRecord
-  Own t = cond t (Some seen.bound) None
+  Own t = cond t (Some (own_record seen)) None
 
-  bound_is : (t : Bool) → bound_in protocol_version (Own t) area ≡ found_of protocol_version t seen.bound area
+  bound_is : (t : Bool) → bound_in protocol_version (Own t) area ≡ found_of protocol_version t (own_record seen) area
   bound_is true = refl
   bound_is false = refl
 
@@ -148,15 +149,15 @@ module _ (s : Settings) (c : Replica) (seen : Lookup) (h : ℕ) (e : Epoch) (n :
       (written : area' ≡ hold_area_after protocol_version (Own found) n.0 part run area (part_refusal d)) (bytes : run ≡ held_bytes cs)
       (kept : found ≡ true → RecordRules seen w area) where
     abbrev B : Bound
-    B = bound_of protocol_version seen.bound area
+    B = bound_of protocol_version (own_record seen) area
 
     abbrev K' : Core
     K' = core_at (counters_of (epoch_to c e)) s.shape w b
 
-    went : core_batch L K F h e.0 n.0 part cs apps ≡ core_handle L K' h (found_of protocol_version found seen.bound area) n.0 part cs
-    went = tests ∙ (λ j. Goes (p j) (high j)) ∙ ap (λ (t : Bool). core_handle L K' h (found_of protocol_version t seen.bound area) n.0 part cs) (sym found_is)
+    went : core_batch L K F h e.0 n.0 part cs apps ≡ core_handle L K' h (found_of protocol_version found (own_record seen) area) n.0 part cs
+    went = tests ∙ (λ j. Goes (p j) (high j)) ∙ ap (λ (t : Bool). core_handle L K' h (found_of protocol_version t (own_record seen) area) n.0 part cs) (sym found_is)
 
-    handled : result_of protocol_version h n.0 area' d (core_at (counters_of (epoch_to c e)) s.shape w' b') ≡ core_handle L K' h (found_of protocol_version found seen.bound area) n.0 part cs
+    handled : result_of protocol_version h n.0 area' d (core_at (counters_of (epoch_to c e)) s.shape w' b') ≡ core_handle L K' h (found_of protocol_version found (own_record seen) area) n.0 part cs
     handled = g.is (counters_of (epoch_to c e)) s.incarnation.0 s.max_lag ∙ ap (λ (o : Option Bound). core_handle L K' h o n.0 part cs) (bound_is found)
 
     -- what the code makes of a result
@@ -194,18 +195,18 @@ module _ (s : Settings) (c : Replica) (seen : Lookup) (h : ℕ) (e : Epoch) (n :
     used_same : get_or w' 0 0 ≡ get_or w 0 0
     used_same =
         sym (places_length s.shape w' b') ∙ ap (λ (r : CoreResult). length r.core.places) handled
-        ∙ as_many L K' h (found_of protocol_version found seen.bound area) n.0 part cs ∙ places_length s.shape w b
+        ∙ as_many L K' h (found_of protocol_version found (own_record seen) area) n.0 part cs ∙ places_length s.shape w b
 
     -- for no other handle is a record stored or a Batch accepted
     none_stored : found ≡ false → stores (X d).action ≡ false
     none_stored f =
         sym (told_stores h n.0 protocol_version area' (epoch_to c e) seen n d) ∙ ap (λ (r : CoreResult). is_store r.action) handled
-        ∙ ap (λ (u : Bool). is_store (core_handle L K' h (found_of protocol_version u seen.bound area) n.0 part cs).action) f ∙ store_none L K' h n.0 part cs
+        ∙ ap (λ (u : Bool). is_store (core_handle L K' h (found_of protocol_version u (own_record seen) area) n.0 part cs).action) f ∙ store_none L K' h n.0 part cs
 
     none_accepted : found ≡ false → is_accepted d ≡ false
     none_accepted f =
         sym (told_accepted h n.0 d) ∙ ap (λ (r : CoreResult). accepted r.answer) handled
-        ∙ ap (λ (u : Bool). accepted (core_handle L K' h (found_of protocol_version u seen.bound area) n.0 part cs).answer) f ∙ accept_none L K' h n.0 part cs
+        ∙ ap (λ (u : Bool). accepted (core_handle L K' h (found_of protocol_version u (own_record seen) area) n.0 part cs).answer) f ∙ accept_none L K' h n.0 part cs
 
     stored_found : stores (X d).action ≡ true → found ≡ true
     stored_found y = go found refl
@@ -214,29 +215,29 @@ module _ (s : Settings) (c : Replica) (seen : Lookup) (h : ℕ) (e : Epoch) (n :
         go true f = refl
         go false f = absurd (true≢false (sym y ∙ none_stored f))
 
-    changed_for : StoreAfter s.shape (batch_change h seen.bound.place part (is_accepted d)) w w' b b'
+    changed_for : StoreAfter s.shape (batch_change h (own_record seen).place part (is_accepted d)) w w' b b'
     changed_for = go found refl g.store_after
       where
-        go : (t : Bool) → found ≡ t → StoreAfter s.shape (handle_change h (Own t) part (is_accepted d)) w w' b b' → StoreAfter s.shape (batch_change h seen.bound.place part (is_accepted d)) w w' b b'
+        go : (t : Bool) → found ≡ t → StoreAfter s.shape (handle_change h (Own t) part (is_accepted d)) w w' b b' → StoreAfter s.shape (batch_change h (own_record seen).place part (is_accepted d)) w w' b b'
         go true f k = k
-        go false f k = subst (λ (x : StoreChange). StoreAfter s.shape x w w' b b') (sym (ap (batch_change h seen.bound.place part) (none_accepted f) ∙ no_change part)) k
+        go false f k = subst (λ (x : StoreChange). StoreAfter s.shape x w w' b b') (sym (ap (batch_change h (own_record seen).place part) (none_accepted f) ∙ no_change part)) k
           where
-            no_change : (q : the_frame.Part) → batch_change h seen.bound.place q false ≡ stays
+            no_change : (q : the_frame.Part) → batch_change h (own_record seen).place q false ≡ stays
             no_change commit = refl
             no_change whole = refl
             no_change last_whole = refl
 
-    put_lands : (a : Answer) (x : BoundRecord) → found ≡ true → StoredIs protocol_version seen.bound area area' x → Lands seen (get_or w' 0 0) (length area) area' (storing (epoch_to c e) seen a h x).action
+    put_lands : (a : Answer) (x : BoundRecord) → found ≡ true → StoredIs protocol_version (own_record seen) area area' x → Lands seen (get_or w' 0 0) (length area) area' (storing (epoch_to c e) seen a h x).action
     put_lands a x f i =
         let k : RecordRules seen w area = kept f in
         record {
           at_is = refl;
           slot_is = (λ j. record { used = 1; handle = h; place = x.place; commit_no = record { 0 = x.commit_no.0 }; held_len = i.held j; held_bytes = x.held_bytes });
-          slot_place = subst (λ (m : ℕ). m < get_or w' 0 0) (sym i.place) (subst (λ (m : ℕ). seen.bound.place < m) (sym used_same) k.place_used);
+          slot_place = subst (λ (m : ℕ). m < get_or w' 0 0) (sym i.place) (subst (λ (m : ℕ). (own_record seen).place < m) (sym used_same) k.place_used);
           slot_len = i.len k.held_within;
         }
 
-    lands_in : (q : PartResult) → (stores (X q).action ≡ true → found ≡ true) → IfSome (stored_in q) (StoredIs protocol_version seen.bound area area') → Lands seen (get_or w' 0 0) (length area) area' (X q).action
+    lands_in : (q : PartResult) → (stores (X q).action ≡ true → found ≡ true) → IfSome (stored_in q) (StoredIs protocol_version (own_record seen) area area') → Lands seen (get_or w' 0 0) (length area) area' (X q).action
     lands_in (PartResult.Refused e₁) f i = tt
     lands_in (PartResult.RefusedHolding e₁ x) f i = put_lands (is_refused (number_of e₁)) x (f refl) i
     lands_in (PartResult.Diverged x) f i = put_lands (is_nack h 2) x (f refl) i
@@ -263,15 +264,15 @@ module _ (s : Settings) (c : Replica) (seen : Lookup) (h : ℕ) (e : Epoch) (n :
 
     answered : found ≡ true → is_reply (core_handle L K' h (some B) n.0 part cs).answer ≡ eqb (part_refusal d) 0
     answered f =
-        ap (λ (u : Bool). is_reply (core_handle L K' h (found_of protocol_version u seen.bound area) n.0 part cs).answer) (sym f)
+        ap (λ (u : Bool). is_reply (core_handle L K' h (found_of protocol_version u (own_record seen) area) n.0 part cs).answer) (sym f)
         ∙ ap (λ (r : CoreResult). is_reply r.answer) (sym handled) ∙ told_reply h n.0 d
 
     -- of a Whole or LastWhole that is found
-    held_area : found ≡ true → (follows_of seen.bound n.0 ≡ true → eqb (part_refusal d) 0 ≡ Passes L K' h B n.0 cs)
-        → cond (follows_of seen.bound n.0 && true) (New (eqb (part_refusal d) 0)) area ≡ hold_area_with (cond (follows_of seen.bound n.0 && Passes L K' h B n.0 cs) (some Put) none) area
-    held_area f passes = go (follows_of seen.bound n.0) refl
+    held_area : found ≡ true → (follows_of (own_record seen) n.0 ≡ true → eqb (part_refusal d) 0 ≡ Passes L K' h B n.0 cs)
+        → cond (follows_of (own_record seen) n.0 && true) (New (eqb (part_refusal d) 0)) area ≡ hold_area_with (cond (follows_of (own_record seen) n.0 && Passes L K' h B n.0 cs) (some Put) none) area
+    held_area f passes = go (follows_of (own_record seen) n.0) refl
       where
-        go : (t : Bool) → follows_of seen.bound n.0 ≡ t → cond (t && true) (New (eqb (part_refusal d) 0)) area ≡ hold_area_with (cond (t && Passes L K' h B n.0 cs) (some Put) none) area
+        go : (t : Bool) → follows_of (own_record seen) n.0 ≡ t → cond (t && true) (New (eqb (part_refusal d) 0)) area ≡ hold_area_with (cond (t && Passes L K' h B n.0 cs) (some Put) none) area
         go true q = ap New (passes q) ∙ put_is (Passes L K' h B n.0 cs)
         go false q = refl
 
@@ -279,8 +280,8 @@ module _ (s : Settings) (c : Replica) (seen : Lookup) (h : ℕ) (e : Epoch) (n :
     off_held true = refl
     off_held false = refl
 
-    area_found : (q : the_frame.Part) → part ≡ q → found ≡ true → hold_area_after protocol_version (Some seen.bound) n.0 q run area (part_refusal d) ≡ hold_area_with (writes_part L h (some B) n.0 q cs) area
-    area_found commit q f = off_held (follows_of seen.bound n.0)
+    area_found : (q : the_frame.Part) → part ≡ q → found ≡ true → hold_area_after protocol_version (Some (own_record seen)) n.0 q run area (part_refusal d) ≡ hold_area_with (writes_part L h (some B) n.0 q cs) area
+    area_found commit q f = off_held (follows_of (own_record seen) n.0)
     area_found whole q f =
         held_area f (λ t. sym (answered f) ∙ ap (λ (x : the_frame.Part). is_reply (core_handle L K' h (some B) n.0 x cs).answer) q ∙ whole_passes L K' h B n.0 cs t)
     area_found last_whole q f =
@@ -291,16 +292,16 @@ module _ (s : Settings) (c : Replica) (seen : Lookup) (h : ℕ) (e : Epoch) (n :
     none_found whole = refl
     none_found last_whole = refl
 
-    area_part : area' ≡ hold_area_with (writes_part L h (found_of protocol_version found seen.bound area) n.0 part cs) area
+    area_part : area' ≡ hold_area_with (writes_part L h (found_of protocol_version found (own_record seen) area) n.0 part cs) area
     area_part = written ∙ go found refl
       where
-        go : (t : Bool) → found ≡ t → hold_area_after protocol_version (Own t) n.0 part run area (part_refusal d) ≡ hold_area_with (writes_part L h (found_of protocol_version t seen.bound area) n.0 part cs) area
+        go : (t : Bool) → found ≡ t → hold_area_after protocol_version (Own t) n.0 part run area (part_refusal d) ≡ hold_area_with (writes_part L h (found_of protocol_version t (own_record seen) area) n.0 part cs) area
         go true f = area_found part refl f
         go false f = none_found part
 
     area_whole : area' ≡ hold_area_with (writes_frame L (counters_of c) F (batch h e.0 n.0 part cs apps)) area
     area_whole =
-        area_part ∙ ap (λ (t : Bool). hold_area_with (writes_part L h (found_of protocol_version t seen.bound area) n.0 part cs) area) found_is
+        area_part ∙ ap (λ (t : Bool). hold_area_with (writes_part L h (found_of protocol_version t (own_record seen) area) n.0 part cs) area) found_is
         ∙ ap (λ (o : Option HoldWrite). hold_area_with o area) (sym (λ j. Writes (p j) (high j)))
 
     handled_is : {r : Outcome} {c' : Replica} → c' ≡ epoch_to c e → r ≡ settled_of c' seen d h n → Is w' b' area' r
@@ -314,7 +315,7 @@ module _ (s : Settings) (c : Replica) (seen : Lookup) (h : ℕ) (e : Epoch) (n :
           rules = g.rules;
           used = used_same;
           store_after =
-              subst (λ (t : Bool). StoreAfter s.shape (batch_change h seen.bound.place part t) w w' b b')
+              subst (λ (t : Bool). StoreAfter s.shape (batch_change h (own_record seen).place part t) w w' b b')
               (sym (ap (λ (a : Answer). accepted (answer_of b' a)) (says_so d) ∙ ap accepted (answer_is h n b' d) ∙ told_accepted h n.0 d)) changed_for;
           area_is = area_whole;
           exact = subst (Exact b') (sym (says_so d)) (answer_exact h n b' d);
@@ -330,11 +331,11 @@ module _ (s : Settings) (c : Replica) (seen : Lookup) (h : ℕ) (e : Epoch) (n :
 
 module _ (seen : Lookup) (h : ℕ) (w area : List ℕ) (kept : is_found seen ≡ true → RecordRules seen w area) where
   pub kept_of : found_for seen h ≡ true → RecordRules seen w area
-  kept_of t = kept (both (is_found seen) (eqb seen.bound.handle h) t).0
+  kept_of t = kept (both (is_found seen) (eqb (own_record seen).handle h) t).0
 
   pub sound_of : {o : prelude.Option BoundRecord} → o ≡ bound_for seen h → IfSome o (λ x. Sound h x w area)
   sound_of e = subst (λ (o : prelude.Option BoundRecord). IfSome o (λ x. Sound h x w area)) (sym e) (go (found_for seen h) refl)
     where
-      go : (t : Bool) → found_for seen h ≡ t → IfSome (cond t (Some seen.bound) None) (λ x. Sound h x w area)
-      go true f = record { own = eqb-true seen.bound.handle h (both (is_found seen) (eqb seen.bound.handle h) f).1; place_used = (kept_of f).place_used; held_within = (kept_of f).held_within }
+      go : (t : Bool) → found_for seen h ≡ t → IfSome (cond t (Some (own_record seen)) None) (λ x. Sound h x w area)
+      go true f = record { own = eqb-true (own_record seen).handle h (both (is_found seen) (eqb (own_record seen).handle h) f).1; place_used = (kept_of f).place_used; held_within = (kept_of f).held_within }
       go false f = tt

@@ -1,5 +1,5 @@
 -- A Batch on what was found for its handle, over one hold area. Assumes nothing.
-use Rattle.std.specs.Prelude.{ℕ, ◌<◌, ◌≤◌, ◌≡◌, Bool, true, false, cond, ◌&&◌, List, length, get_or, eqb, ltb}
+use Rattle.std.specs.Prelude.{ℕ, ◌<◌, ◌≤◌, ◌≡◌, Bool, true, false, cond, ◌&&◌, List, length, get_or, eqb, is_some}
 use Rattle.std.specs.Prelude.{Some, None}
 use Rattle.std.specs.Prelude as prelude
 use Rattle.std.proofs.Math.Option.{Option, none, some}
@@ -11,7 +11,8 @@ use Rattle.model_frame.specs.Frame as the_frame
 use Rattle.frame_fields.specs.declared.CommitNumber.{CommitNumber}
 use Rattle.frame_fields.specs.declared.Epoch.{Epoch}
 use Rattle.standby_row.specs.declared.Bound.{Bound as BoundRecord}
-use Rattle.standby_row.specs.declared.Lookup.{Lookup}
+use Rattle.standby_row.specs.declared.lookup.Lookup.{Lookup}
+use Rattle.standby_row.specs.Row.{own_record}
 use Rattle.store_areas.specs.StoreWord
 use Rattle.store_areas.specs.Areas.{Rules}
 use Rattle.standby_commit.specs.Settling.{batch_change, StoreAfter}
@@ -36,11 +37,11 @@ epoch_to c e = record { epoch = e; connections = c.connections; promoted = c.pro
 
 -- the record that was found is the handle's
 abbrev pub found_for : Lookup → ℕ → Bool
-found_for seen h = ltb seen.at seen.len && eqb seen.bound.handle h
+found_for seen h = is_some seen.own && eqb (own_record seen).handle h
 
 -- the record that was found, if it is the handle's
 abbrev pub bound_for : Lookup → ℕ → prelude.Option BoundRecord
-bound_for seen h = cond (found_for seen h) (Some seen.bound) None
+bound_for seen h = cond (found_for seen h) (Some (own_record seen)) None
 
 abbrev pub answer_by : PartResult → ℕ → CommitNumber → Answer
 answer_by (PartResult.Refused e) h n = is_refused (number_of e)
@@ -56,8 +57,8 @@ settled_of c seen (PartResult.Accepted x) h n = storing c seen (is_ack h n) h x
 
 -- the record found names a place in use, and holds no more than its area has
 pub record RecordRules (seen : Lookup) (w area : List ℕ) : Type 0 where
-  pub place_used : seen.bound.place < get_or w StoreWord.used 0
-  pub held_within : seen.bound.held_len ≤ length area
+  pub place_used : (own_record seen).place < get_or w StoreWord.used 0
+  pub held_within : (own_record seen).held_len ≤ length area
 
 -- the hold area with what is written there
 abbrev pub hold_area_with : Option HoldWrite → List ℕ → List ℕ
@@ -65,7 +66,7 @@ hold_area_with none area = area
 hold_area_with (some x) area = write area x.offset x.bytes
 
 abbrev pub found_at : Lookup → ℕ → List ℕ → Option Bound
-found_at seen h area = found_of protocol_version (found_for seen h) seen.bound area
+found_at seen h area = found_of protocol_version (found_for seen h) (own_record seen) area
 
 -- the record that is put, over the hold area of its place
 abbrev pub put_in : List ℕ → RowAction → Action
@@ -86,6 +87,6 @@ pub record BatchIs (s : Settings) (c : Replica) (seen : Lookup) (h e n : ℕ) (p
   pub stored : stores r.action ≡ true → found_for seen h ≡ true
   pub rules : Rules s.shape w' b'
   pub used : get_or w' StoreWord.used 0 ≡ get_or w StoreWord.used 0
-  pub store_after : StoreAfter s.shape (batch_change h seen.bound.place part (accepted (answer_of b' r.answer))) w w' b b'
+  pub store_after : StoreAfter s.shape (batch_change h (own_record seen).place part (accepted (answer_of b' r.answer))) w w' b b'
   pub area_is : area' ≡ hold_area_with (writes_frame (settings_of s (length area)) (counters_of c) (found_at seen h area) (batch h e n part cs apps)) area
   pub exact : Exact b' r.answer

@@ -1,5 +1,5 @@
 // A Batch on the row's record of its handle (standby.rs, on_batch): 13 application records, Nack StaleEpoch, the epoch, then the handle.
-// The areas come apart: a Store has the shape that the settings have too, and each function would have to ask that both are the same.
+// The areas come apart: area is a part of the lent hold areas, and an Areas made with such a part isn't covered ("a call keeps the loan of a slice in a field while another field is used").
 #![tactic(auto)]
 
 ghost use Rattle.std.specs.Prelude.{◌≡◌, true, ◌&&◌, ◌<◌, eqb, ltb};
@@ -48,7 +48,8 @@ fn is_stale(counters: Replica, batch: Batch) -> bool
 fn bound_for(lookup: Lookup, handle: u32) -> Option<Bound>
     ensures { result ≡ bound_for lookup handle }
 {
-    (lookup.at < lookup.len && lookup.bound.handle == handle).then_some(lookup.bound)
+    let found = lookup.own?;
+    (found.bound.handle == handle).then_some(found.bound)
 }
 
 // The answer, and what the row's record becomes.
@@ -79,11 +80,11 @@ fn part_outcome(
 }
 
 pub fn on_batch(
+    standing: Standing,
     words: &mut [u64],
     bytes: &mut [u8],
     area: &mut [u8],
     frame: &[u8],
-    standing: Standing,
     batch: Batch,
 ) -> Outcome
     requires rules { Rules standing.settings.shape words.old bytes.old }

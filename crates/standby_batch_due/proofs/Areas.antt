@@ -8,22 +8,26 @@ use native.Mathlib.Nat.{zero-add, suc-add, mul-zero, div-add-mod', mul_comm}
 use lib.ListN.{length, set, take, drop, length-set, take-append-drop}
 use lib.Seq.{sets, set-append_left, length-take-le}
 use lib.Dec.{eqb}
-use borrow.Author.Tests.{eqb-false, ltb-true}
+use borrow.Author.Tests.{eqb-false}
 use borrow.Rule.Slice.PartMut.{mid_of, post_of, put_mid}
 use Rattle.model_frame.specs.Bytes.{write}
-use Rattle.standby_row.specs.declared.Lookup.{Lookup}
+use Rattle.std.specs.Prelude.{Some, None}
+use Rattle.std.specs.Prelude as prelude
+use Rattle.standby_row.specs.declared.lookup.Found.{Found}
+use Rattle.standby_row.specs.declared.lookup.Lookup.{Lookup}
+use Rattle.standby_row.specs.Row.{at_or}
 use Rattle.store_areas.proofs.Lists.{inside}
-use Rattle.standby_step.specs.Steps.{room_in, is_found}
+use Rattle.standby_step.specs.Steps.{room_in}
 use Rattle.standby_batch_due.specs.DueBatch.{spot_in}
 
 -- ---- where they stand
 
 spot_low : (seen : Lookup) → 0 < seen.len → spot_in seen < seen.len
-spot_low seen any = go (is_found seen) refl
+spot_low seen any = go seen.own refl
   where
-    go : (t : Bool) → is_found seen ≡ t → cond t seen.at 0 < seen.len
-    go true f = ltb-true seen.at seen.len f
-    go false f = any
+    go : (o : prelude.Option Found) → seen.own ≡ o → at_or o 0 < seen.len
+    go None e = any
+    go (Some f) e = seen.inside f e
 
 -- the area of the record found lies within the bytes; so does the first one
 pub within : (seen : Lookup) (l : List ℕ) → spot_in seen * room_in seen l + room_in seen l ≤ length l

@@ -17,7 +17,11 @@ use Rattle.model_frame.specs.Parse.{is_empty}
 use Rattle.model_frame.specs.Sizes.{sizes}
 use Rattle.model_frame.proofs.Sizes.{changes_size}
 use Rattle.model_frame.proofs.Runs.{sizes_append}
-use Rattle.standby_row.specs.declared.Lookup.{Lookup}
+use Rattle.std.specs.Prelude.{Some, None}
+use Rattle.std.specs.Prelude as prelude
+use Rattle.standby_row.specs.declared.lookup.Found.{Found}
+use Rattle.standby_row.specs.declared.lookup.Lookup.{Lookup}
+use Rattle.standby_row.specs.Row.{at_or, record_or_free, own_place, own_record}
 use Rattle.store_areas.specs.Areas.{Rules}
 use Rattle.store_areas.proofs.Lifting.{part_lent, part_length, part_own}
 use Rattle.standby_pending.specs.Pending.{count_of, pending_of}
@@ -97,20 +101,20 @@ module _ (L : state.Settings) (h n : ℕ) (cs : List Change) where
 -- ---- the record found
 
 module _ (seen : Lookup) (h : ℕ) (l : List ℕ) where
-  same_found : (is_found seen ≡ true → seen.bound.handle ≡ h) → found_for seen h ≡ is_found seen
+  same_found : (is_found seen ≡ true → (own_record seen).handle ≡ h) → found_for seen h ≡ is_found seen
   same_found own = go (is_found seen) refl own
     where
-      go : (t : Bool) → is_found seen ≡ t → (t ≡ true → seen.bound.handle ≡ h) → (t && eqb seen.bound.handle h) ≡ t
-      go true f own = eq-eqb seen.bound.handle h (own refl)
+      go : (t : Bool) → is_found seen ≡ t → (t ≡ true → (own_record seen).handle ≡ h) → (t && eqb (own_record seen).handle h) ≡ t
+      go true f own = eq-eqb (own_record seen).handle h (own refl)
       go false f own = refl
 
-  found_is : (is_found seen ≡ true → seen.bound.handle ≡ h) → found_at seen h (area_at (room_in seen l) (spot_in seen) l) ≡ found_in seen l
+  found_is : (is_found seen ≡ true → (own_record seen).handle ≡ h) → found_at seen h (area_at (room_in seen l) (spot_in seen) l) ≡ found_in seen l
   found_is own =
-      ap (λ (t : Bool). found_of protocol_version t seen.bound (area_at (room_in seen l) (spot_in seen) l)) (same_found own) ∙ go (is_found seen)
+      ap (λ (t : Bool). found_of protocol_version t (own_record seen) (area_at (room_in seen l) (spot_in seen) l)) (same_found own) ∙ go seen.own
     where
-      go : (t : Bool) → found_of protocol_version t seen.bound (area_at (room_in seen l) (cond t seen.at 0) l) ≡ found_of protocol_version t seen.bound (area_at (room_in seen l) seen.at l)
-      go true = refl
-      go false = refl
+      go : (o : prelude.Option Found) → found_of protocol_version (prelude.is_some o) (record_or_free o) (area_at (room_in seen l) (at_or o 0) l) ≡ found_of protocol_version (prelude.is_some o) (record_or_free o) (area_at (room_in seen l) (at_or o seen.len) l)
+      go (Some f) = refl
+      go None = refl
 
 module _ (s : Settings) (c : Replica) (seen : Lookup) (h e n : ℕ) (part : the_frame.Part) (cs : List Change) (apps : List AppRecord) (w b l : List ℕ) {due : Bool} (due_is : due ≡ due_batch h w) {w1 : List ℕ} (ran : RanIf due s.shape b w w1) where
   abbrev R : ℕ
@@ -136,11 +140,11 @@ module _ (s : Settings) (c : Replica) (seen : Lookup) (h e n : ℕ) (part : the_
     long = ap length (sym (part_lent A R l area' (within seen l) size)) ∙ part_length A R l area' (within seen l) size
 
     at_found : found_for seen h ≡ true → spot_of seen ≡ spot_in seen
-    at_found f = go (is_found seen) refl
+    at_found f = go seen.own refl
       where
-        go : (t : Bool) → is_found seen ≡ t → cond t seen.at seen.free ≡ cond t seen.at 0
-        go true q = refl
-        go false q = absurd (true≢false (sym (both (is_found seen) _ f).0 ∙ q))
+        go : (o : prelude.Option Found) → seen.own ≡ o → at_or o (prelude.unwrap_or seen.free seen.len) ≡ at_or o 0
+        go (Some g) q = refl
+        go None q = absurd (true≢false (sym (both (is_found seen) _ f).0 ∙ ap prelude.is_some q))
 
     -- what is put is put at the lent area's place
     own_area : (at : ℕ) → at ≡ spot_in seen → area_at R at l' ≡ area'
@@ -173,15 +177,15 @@ module _ (s : Settings) (c : Replica) (seen : Lookup) (h e n : ℕ) (part : the_
         ap (put_mid A (A + R - A) l) (is ∙ ap (λ (m : List ℕ). write m x.offset x.bytes) (sym mid))
         ∙ write_part A (A + R - A) x.offset l x.bytes low (subst (λ (k : ℕ). x.offset + length x.bytes ≤ k) (sym (part_length A R l area' (within seen l) size)) q)
 
-    at_own : l' ≡ holds_after R (spot_in seen) (O R (found_in seen l)) l → l' ≡ holds_after R seen.at (O R (found_in seen l)) l
-    at_own is = go (is_found seen) is
+    at_own : l' ≡ holds_after R (spot_in seen) (O R (found_in seen l)) l → l' ≡ holds_after R (own_place seen) (O R (found_in seen l)) l
+    at_own is = go seen.own is
       where
-        go : (t : Bool) → l' ≡ holds_after R (cond t seen.at 0) (O R (found_of protocol_version t seen.bound (area_at R seen.at l))) l
-            → l' ≡ holds_after R seen.at (O R (found_of protocol_version t seen.bound (area_at R seen.at l))) l
-        go true p = p
-        go false p =
+        go : (o : prelude.Option Found) → l' ≡ holds_after R (at_or o 0) (O R (found_of protocol_version (prelude.is_some o) (record_or_free o) (area_at R (at_or o seen.len) l))) l
+            → l' ≡ holds_after R (at_or o seen.len) (O R (found_of protocol_version (prelude.is_some o) (record_or_free o) (area_at R (at_or o seen.len) l))) l
+        go (Some g) p = p
+        go None p =
             p ∙ ap (λ (o : Option HoldWrite). holds_after R 0 o l) (none_frame (settings_of s R) h n cs (counters_of c) e part apps)
-            ∙ sym (ap (λ (o : Option HoldWrite). holds_after R seen.at o l) (none_frame (settings_of s R) h n cs (counters_of c) e part apps))
+            ∙ sym (ap (λ (o : Option HoldWrite). holds_after R seen.len o l) (none_frame (settings_of s R) h n cs (counters_of c) e part apps))
 
     pub batch_in : BatchIn s c seen h e n part cs apps w w' b b' l l' r
     batch_in = record {
@@ -193,7 +197,7 @@ module _ (s : Settings) (c : Replica) (seen : Lookup) (h e n : ℕ) (part : the_
       used = g.used ∙ ran.used;
       leaves = record {
         mid = w';
-        store_after = subst (λ (x : List ℕ). StoreAfter s.shape (batch_change h seen.bound.place part (accepted (answer_of b' r.answer))) x w' b b') words_are g.store_after;
+        store_after = subst (λ (x : List ℕ). StoreAfter s.shape (batch_change h (own_record seen).place part (accepted (answer_of b' r.answer))) x w' b b') words_are g.store_after;
         last = refl;
       };
       holds = λ own.
@@ -211,17 +215,9 @@ module _ (s : Settings) (c : Replica) (seen : Lookup) (h e n : ℕ) (part : the_
   goes : (w' b' area' : List ℕ) (r : Outcome) → Goes w' b' area' r R A
   goes w' b' area' r size g = batch_in size (subst (λ (x : List ℕ). BatchIs s c seen h e n part cs apps w1 w' b b' x area' r) (part_lent A R l area' (within seen l) size) g)
 
-  batch_at : (w' b' area' : List ℕ) (r : Outcome) {room lo : ℕ} → room ≡ R → lo ≡ spot_in seen * room → Goes w' b' area' r room lo
+  pub batch_at : (w' b' area' : List ℕ) (r : Outcome) {room lo : ℕ} → room ≡ R → lo ≡ spot_in seen * room → Goes w' b' area' r room lo
   batch_at w' b' area' r {room} {lo} p q =
       subst (λ (k : ℕ). (x : ℕ) → x ≡ spot_in seen * k → Goes w' b' area' r k x) (sym p) (λ x f. subst (Goes w' b' area' r R) (sym f) (goes w' b' area' r)) lo q
-
-  -- over the areas as they were handed back once the commits had run
-  pub batch_given : (w' b' area' : List ℕ) (r : Outcome) {room lo : ℕ} {w₀ b₀ : List ℕ} → room ≡ R → lo ≡ spot_in seen * room → length area' ≡ length (mid_of lo (lo + room - lo) l)
-      → BatchIs s c seen h e n part cs apps w₀ w' b₀ b' (mid_of lo (lo + room - lo) l) area' r → w₀ ≡ w1 → b₀ ≡ b → BatchIn s c seen h e n part cs apps w w' b b' l (put_mid lo (lo + room - lo) l area') r
-  batch_given w' b' area' r {room} {lo} {w₀} {b₀} p q size g words bytes =
-      batch_at w' b' area' r p q size
-      (subst (λ (x : List ℕ). BatchIs s c seen h e n part cs apps x w' b b' (mid_of lo (lo + room - lo) l) area' r) words
-      (subst (λ (x : List ℕ). BatchIs s c seen h e n part cs apps w₀ w' x b' (mid_of lo (lo + room - lo) l) area' r) bytes g))
 
 -- ---- what the Batch asks
 

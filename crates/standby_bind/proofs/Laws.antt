@@ -9,7 +9,8 @@ use native.Mathlib.Omega.{arith}
 use lib.ListN.{length, get_or, set, take, drop, get_elem?, length-set, length-take}
 use lib.Seq.{take-take, drop-set-lt, get_or-set_same, get_or-set_other}
 use lib.Dec.{ltb}
-use borrow.Author.Tests.{lt-ltb, le-ltb}
+use borrow.Author.Tests.{lt-ltb, le-ltb, ltb-true}
+use Rattle.std.specs.Prelude.{Option as RustOption, Some, None, is_some}
 use Rattle.model_frame.specs.Frame.{Key, bound, nack, stale_epoch, lag_too_great}
 use Rattle.model_session.specs.Session.{Session}
 use Rattle.model_session.specs.Summary.{summary}
@@ -18,13 +19,13 @@ use Rattle.model_standby.specs.Store.{Place, place_of, is_stored, session_at, or
 use Rattle.model_standby.specs.Answer.{reply, accepted}
 use Rattle.model_standby.specs.State.{new_bound}
 use Rattle.model_standby.specs.Core.{Core, CoreResult, leave, store, core_says, core_refuse, core_bind}
-use Rattle.model_standby.proofs.Places.{place_low}
 use Rattle.frame_op.specs.Answers.{held_run}
 use Rattle.store_areas.specs.declared.Shape.{Shape}
 use Rattle.store_areas.specs.Areas.{place_words, words_at, Rules, place_at, places_of}
 use Rattle.store_areas.proofs.Lists.{word_kept}
 use Rattle.store_areas.proofs.Lifting.{places_length, place_is, session_is}
-use Rattle.store_sessions.specs.Answers.{Opened}
+use Rattle.store_sessions.specs.Answers.{stored_place, Opened}
+use Rattle.store_sessions.proofs.Seeking.{is_found, stored_at, not_stored, new_at}
 use Rattle.store_sessions.proofs.Opening.{opened_rules}
 use Rattle.model_frame.specs.Sizes.{sizes}
 use Rattle.standby_changes.proofs.Held.{held_none}
@@ -32,7 +33,7 @@ use Rattle.standby_pending.specs.Pending.{count_of, commit_of, pending_of}
 use Rattle.standby_commit.specs.Settling.{stays, opens, opened_words, Touched, StoreAfter}
 use Rattle.standby_commit.proofs.Header.{pending_kept}
 use Rattle.standby_row.specs.declared.Bound.{Bound}
-use Rattle.standby_row.specs.declared.Lookup.{Lookup}
+use Rattle.standby_row.specs.declared.lookup.Lookup.{Lookup}
 use Rattle.standby_part.specs.State.{core_at}
 use Rattle.standby_counters.specs.declared.Replica.{Replica}
 use Rattle.standby_state.specs.declared.Settings.{Settings}
@@ -55,7 +56,7 @@ past_end : {A : Type 0} (l : List A) → get_elem? l (length l) ≡ none
 past_end [] = refl
 past_end (y ∷ l) = past_end l
 
-module _ (s : Shape) (k : Key) (w b : List ℕ) (r : Rules s w b) (place : ℕ) (is : place ≡ place_of k (places_of s w b)) where
+module _ (s : Shape) (k : Key) (w b : List ℕ) (r : Rules s w b) where
   abbrev ps : List Place
   ps = places_of s w b
 
@@ -65,13 +66,10 @@ module _ (s : Shape) (k : Key) (w b : List ℕ) (r : Rules s w b) (place : ℕ) 
   count : length ps ≡ n
   count = places_length s w b
 
-  low : place_of k ps ≤ length ps
-  low = place_low k ps
-
-  pub was_there : place < n → BindOpens s k w w b b
-  was_there h =
-      let less : place_of k ps < n = subst (λ (i : ℕ). i < n) is h in
-      let stored : is_stored k ps ≡ true = lt-ltb (place_of k ps) (length ps) (omega (arith, count)) in
+  pub was_there : {place : ℕ} → Some place ≡ stored_place k ps → BindOpens s k w w b b
+  was_there is =
+      let stored : is_stored k ps ≡ true = (stored_at k ps is).0 in
+      let less : place_of k ps < n = omega (arith, count, ltb-true (place_of k ps) (length ps) stored) in
       record {
         places = sym (ap (λ (t : Bool). cond t ps (ps ++ (new_place k ∷ []))) stored);
         pending = refl;
@@ -82,14 +80,17 @@ module _ (s : Shape) (k : Key) (w b : List ℕ) (r : Rules s w b) (place : ℕ) 
         store_after = subst (λ (t : Bool). StoreAfter s (cond (not t) (opens (place_of k ps)) stays) w w b b) (sym stored) (refl, refl);
       }
 
-  pub newly_there : {w' b' : List ℕ} {x : Key} → x ≡ k → n ≤ place → n < s.places → Opened s x w w' b b' → BindOpens s k w w' b b'
+  pub newly_at : None ≡ stored_place k ps → n ≡ place_of k ps
+  newly_at is = sym (new_at k ps (not_stored k ps is) ∙ count)
+
+  pub newly_there : {w' b' : List ℕ} {x : Key} → None ≡ stored_place k ps → x ≡ k → n < s.places → Opened s x w w' b b' → BindOpens s k w w' b b'
   unfolding pending_of
-  newly_there {w'} {b'} same h few op =
+  newly_there {w'} {b'} is same few op =
       let o : Opened s k w w' b b' = subst (λ (y : Key). Opened s y w w' b b') same op in
       let v : List ℕ = set w 0 (n + 1) in
-      let last : place_of k ps ≡ length ps = omega (arith, count, low, is) in
+      let new : is_stored k ps ≡ false = not_stored k ps is in
+      let last : place_of k ps ≡ length ps = new_at k ps new in
       let at : place_of k ps ≡ n = last ∙ count in
-      let new : is_stored k ps ≡ false = le-ltb (place_of k ps) (length ps) (omega (arith, last)) in
       let long : 66 ≤ length w = omega (arith, r.room.words_long) in
       let size : length v ≡ length w = length-set w 0 (n + 1) in
       let more : get_or w' 0 0 ≡ n + 1 = word_kept (words_at s n) (words_at s n + place_words s) 0 v w' o.words (omega arith) ∙ get_or-set_same w 0 (n + 1) 0 (omega arith) in
@@ -160,11 +161,11 @@ module _ (s : Settings) (c : Replica) (seen : Lookup) (h e lag : ℕ) (k : Key) 
         as_left e₁ e₂ refl (exact_nack b h lag_too_great) (λ room. sym (first room ∙ ap (λ (t : Bool). Tests false t (is_stored k places || ltb (length places) s.shape.places) (room_for seen)) (lt-ltb s.max_lag lag great)))
 
     -- and of a lag that is not too great, with what was found of the places
-    module _ (small : lag ≤ s.max_lag) {place : ℕ} {has : Bool} (at : place ≡ place_of k places) (found : has ≡ (ltb place (get_or w 0 0) || ltb (get_or w 0 0) s.shape.places)) where
+    module _ (small : lag ≤ s.max_lag) {seen_at : RustOption ℕ} {has : Bool} (at : seen_at ≡ stored_place k places) (found : has ≡ (is_some seen_at || ltb (get_or w 0 0) s.shape.places)) where
       same : has ≡ (is_stored k places || ltb (length places) s.shape.places)
       same =
           let count : get_or w 0 0 ≡ length places = sym (places_length s.shape w b) in
-          found ∙ (λ j. ltb (at j) (count j) || ltb (count j) s.shape.places)
+          found ∙ (λ j. is_found k places refl at j || ltb (count j) s.shape.places)
 
       second : (room : ℕ) → Bind room ≡ Tests false false has (room_for seen)
       second room =
@@ -182,9 +183,9 @@ module _ (s : Settings) (c : Replica) (seen : Lookup) (h e lag : ℕ) (k : Key) 
         pub all_handles : {o : Outcome} → free ≡ false → o ≡ leaving c (is_refused 21) → BindIs s c seen h e lag k w w b b o
         all_handles full e = as_left e refl refl (exact_refused b 21) (λ room. sym (third room ∙ ap (Tests false false true) full))
 
-        pub binds : {w' b' : List ℕ} {o : Outcome} {a : Answer} {m : BoundSummary} {g : Bound} → free ≡ true → BindOpens s.shape k w w' b b'
+        pub binds : {place : ℕ} {w' b' : List ℕ} {o : Outcome} {a : Answer} {m : BoundSummary} {g : Bound} → free ≡ true → place ≡ place_of k places → BindOpens s.shape k w w' b b'
             → ExactSummary b' m → brief_of b' m ≡ summary (place_at s.shape w' b' place).stored.session lag → a ≡ is_bound h m → g ≡ new_handle h place → o ≡ storing c seen a h g → BindIs s c seen h e lag k w w' b b' o
-        binds {w'} {b'} {m = m} has_room op is-exact brief e₁ e₂ e₃ =
+        binds {place} {w'} {b'} {m = m} has_room at op is-exact brief e₁ e₂ e₃ =
             subst (BindIs s c seen h e lag k w w' b b') (sym (e₃ ∙ (λ j. storing c seen (e₁ j) h (e₂ j)))) (record {
               is = λ version room holds.
                   let area : List ℕ = area_at room (spot_of seen) holds in

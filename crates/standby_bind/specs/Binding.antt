@@ -1,8 +1,9 @@
 -- What a Bind leaves and answers. Assumes nothing.
-use Rattle.std.specs.Prelude.{ℕ, ◌<◌, ◌≤◌, ◌≡◌, Bool, true, ◌||◌, List, length, get_or, ltb}
+use Rattle.std.specs.Prelude.{ℕ, ◌<◌, ◌≤◌, ◌≡◌, Bool, true, ◌||◌, List, length, get_or, is_some}
 use Rattle.model_frame.specs.Frame.{Key}
 use Rattle.standby_row.specs.declared.Bound.{Bound}
-use Rattle.standby_row.specs.declared.Lookup.{Lookup}
+use Rattle.standby_row.specs.declared.lookup.Lookup.{Lookup}
+use Rattle.standby_row.specs.Row.{has_place}
 use Rattle.store_areas.specs.StoreWord
 use Rattle.store_areas.specs.declared.Shape.{Shape}
 use Rattle.store_areas.specs.Areas.{Rules, place_at, places_of}
@@ -32,7 +33,7 @@ new_handle h place = record { used = 1; handle = h; place = place; commit_no = r
 
 -- the row has a place for the handle: its own, or a free one
 abbrev pub room_for : Lookup → Bool
-room_for seen = ltb seen.at seen.len || ltb seen.free seen.len
+room_for seen = is_some seen.own || has_place seen
 
 -- the session of a key is there, new if it wasn't
 pub record BindOpens (s : Shape) (k : Key) (w w' b b' : List ℕ) : Type 0 where

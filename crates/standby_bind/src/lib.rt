@@ -1,13 +1,14 @@
 // Bind (standby.rs, an arm of `answer`): a handle is bound to the session of a key, which is opened if it is new, and its summary is answered.
-// The areas come apart: a Store has the shape that the settings have too, and each function would have to ask that both are the same.
+// The store's areas come apart: no hold area is asked for, and a Store has the shape that the settings have too, so each function would have to ask that both are the same.
 #![tactic(auto)]
 
-ghost use Rattle.std.specs.Prelude.{◌≡◌, ◌||◌, ◌<◌, ◌≤◌, get_or, ltb};
+ghost use Rattle.std.specs.Prelude.{◌≡◌, ◌||◌, ◌<◌, true, get_or, ltb, is_some};
 ghost use Rattle.model_session.specs.Summary.{summary};
 ghost use Rattle.model_standby.specs.Store.{place_of};
 ghost use Rattle.frame_fields.specs.Answers.{key_of};
 ghost use Rattle.store_areas.specs.Areas.{Rules, place_at, places_of};
 ghost use Rattle.store_areas.specs.Same.{SameAreas};
+ghost use Rattle.store_sessions.specs.Answers.{stored_place};
 ghost use Rattle.standby_state.specs.Answers.{brief_of};
 ghost use Rattle.standby_state.specs.Exact.{ExactSummary};
 ghost use Rattle.standby_bind.specs.Binding.{Short, new_handle, room_for, BindOpens, BindIs};
@@ -26,16 +27,7 @@ fn summary_at(store: &Store, place: usize, n: u64) -> BoundSummary
     ensures exact { ExactSummary store.now.bytes.now result }
     ensures is { brief_of store.now.bytes.now result ≡ summary (place_at store.now.shape store.now.words.now store.now.bytes.now place).stored.session n }
 {
-    let summary = store_sessions::summary_of(&store.view(), place, n);
-    BoundSummary {
-        next_outgoing: summary.next_outgoing,
-        next_incoming: summary.next_incoming,
-        has_in_flight: u8::from(summary.in_flight.is_some()),
-        in_flight: summary.in_flight.unwrap_or(0),
-        created_at: summary.created_at,
-        marks: summary.marks,
-        last_outgoing: summary.last_outgoing,
-    }
+    BoundSummary::from(store_sessions::summary_of(&store.view(), place, n))
 }
 
 // The four texts of a key that was read from a frame.
@@ -53,39 +45,40 @@ fn key_in(frame: &[u8], session: SessionId) -> Key<'_>
     }
 }
 
-// The place of a key, or the number of places in use.
-fn place_of(store: &Store, frame: &[u8], session: SessionId) -> usize
-    ensures { result ≡ place_of (key_of frame.now session) (places_of store.now.shape store.now.words.now store.now.bytes.now) }
+// The place of a key that is stored.
+fn place_of(store: &Store, frame: &[u8], session: SessionId) -> Option<usize>
+    ensures { result ≡ stored_place (key_of frame.now session) (places_of store.now.shape store.now.words.now store.now.bytes.now) }
 {
     store_sessions::place_of(&store.view(), &key_in(frame, session))
 }
 
-// Opens the session of a key where it is new.
-fn open(store: &mut Store, frame: &[u8], session: SessionId, place: usize)
-    requires place_value { place ≡ place_of (key_of frame.now session) (places_of store.old.shape store.old.words.now store.old.bytes.now) }
-    requires words_bound { get_or store.old.words.now 0 0 ≤ place → get_or store.old.words.now 0 0 < store.old.shape.places }
+// The place of a key, whose session is opened where it is new.
+fn open(store: &mut Store, frame: &[u8], session: SessionId, found: Option<usize>) -> usize
+    requires found_value { found ≡ stored_place (key_of frame.now session) (places_of store.old.shape store.old.words.now store.old.bytes.now) }
+    requires room { (is_some found || ltb (get_or store.old.words.now 0 0) store.old.shape.places) ≡ true }
     requires short { Short (key_of frame.now session) }
+    ensures place { result ≡ place_of (key_of frame.now session) (places_of store.old.shape store.old.words.now store.old.bytes.now) }
     ensures is { BindOpens store.old.shape (key_of frame.now session) store.old.words.now store.new.words.now store.old.bytes.now store.new.bytes.now }
     ensures same { SameAreas store.old store.new }
 {
-    if (place as u64) < store.words[word::USED] {
-        return;
+    match found {
+        Some(place) => place,
+        None => store_sessions::open(store, &key_in(frame, session)),
     }
-    store_sessions::open(store, &key_in(frame, session));
 }
 
 // Whether there is a session place for a key: its own, or a free one.
-fn has_place(used: u64, place: usize, places: u32) -> bool
-    ensures { result ≡ (ltb place used || ltb used places) }
+fn has_place(used: u64, found: Option<usize>, places: u32) -> bool
+    ensures { result ≡ (is_some found || ltb used places) }
 {
-    ((place as u64) < used) | (used < places as u64)
+    found.is_some() || used < places as u64
 }
 
 // Whether the row has a place for the handle: its own, or a free one.
 fn has_room(lookup: Lookup) -> bool
     ensures { result ≡ room_for lookup }
 {
-    (lookup.at < lookup.len) | (lookup.free < lookup.len)
+    lookup.own.is_some() | lookup.free.is_some()
 }
 
 // A handle newly bound to a place.
@@ -105,10 +98,10 @@ fn new_bound(handle: u32, place: usize) -> Bound
 // Nack StaleEpoch, Nack Lag, 20 no free session place for a new key, 21 no free place in the row; all are found before anything changes.
 // The four fields of the frame are taken one by one: a struct of them would be made for this one call.
 pub fn on_bind(
+    standing: Standing,
     words: &mut [u64],
     bytes: &mut [u8],
     frame: &[u8],
-    standing: Standing,
     handle: u32,
     epoch: Epoch,
     max_lag: u64,
@@ -136,14 +129,14 @@ pub fn on_bind(
         bytes,
         shape: settings.shape,
     };
-    let place = place_of(&store, frame, session);
-    if !has_place(store.words[word::USED], place, store.shape.places) {
+    let found = place_of(&store, frame, session);
+    if !has_place(store.words[word::USED], found, store.shape.places) {
         return standby_state::refuse(counters, Refusal::NoSessionPlace);
     }
     if !has_room(lookup) {
         return standby_state::refuse(counters, Refusal::NoHandlePlace);
     }
-    open(&mut store, frame, session, place);
+    let place = open(&mut store, frame, session, found);
     let summary = summary_at(&store, place, max_lag);
     let answer = standby_state::bound(handle, summary);
     standby_state::stored(counters, lookup, answer, handle, new_bound(handle, place))

@@ -1,14 +1,14 @@
 // One call on the standby, by value: which of the six it is, and what it comes to over what was found in the row (standby.rs, the functions of `Replica`).
-// The areas come apart: of a struct with a store and hold areas it isn't found what these are at the end.
 #![tactic(auto)]
 
 ghost use Rattle.std.specs.Prelude.{◌≡◌};
-ghost use Rattle.standby_step.specs.Steps.{StepIs};
+ghost use Rattle.standby_state.specs.Lent.{SameLent};
+ghost use Rattle.standby_step.specs.Over.{StepOver};
 ghost use Rattle.standby_step.specs.Calls.{handle_at, sought_by};
 ghost use Rattle.standby_call.specs.Call.{call_of};
 
 use base_bytes::LittleEndian;
-use standby_state::{Outcome, Standing};
+use standby_state::{Areas, Outcome, Standing};
 
 // Which call it is, and the number of the connection, for the calls that name one.
 #[derive(Clone, Copy)]
@@ -21,7 +21,7 @@ pub enum Call {
     PromoteUnchecked,
 }
 
-// Where a Bind and a Batch have their handle.
+// The handle, where a Bind and a Batch have theirs; 0 in a frame that is too short for either.
 fn handle_at(frame: &[u8]) -> u32
     ensures { result ≡ handle_at frame.now }
 {
@@ -32,7 +32,7 @@ fn handle_at(frame: &[u8]) -> u32
     }
 }
 
-// The handle that is looked up before the call.
+// The handle that is looked up before the call; 0 where the call has no frame: such a call puts no record.
 pub fn sought_by(frame: &[u8], call: Call) -> u32
     ensures { result ≡ sought_by (call_of call frame.now) }
 {
@@ -43,28 +43,18 @@ pub fn sought_by(frame: &[u8], call: Call) -> u32
 }
 
 // What the call leaves and answers; a call that carries no frame looks at none.
-pub fn run(
-    standing: Standing,
-    words: &mut [u64],
-    bytes: &mut [u8],
-    holds: &mut [u8],
-    frame: &[u8],
-    call: Call,
-) -> Outcome
-    ensures { StepIs standing.settings standing.counters standing.lookup (call_of call frame.now) words.old words.new bytes.old bytes.new holds.old holds.new result }
+pub fn run(standing: Standing, areas: &mut Areas, frame: &[u8], call: Call) -> Outcome
+    ensures is { StepOver standing (call_of call frame.now) areas.old areas.new result }
+    ensures same { SameLent areas.old areas.new }
 {
     match call {
-        Call::OnFrameHeld => standby_frame::on_frame_held(standing, words, bytes, holds, frame),
-        Call::OnFrame => standby_frame::on_frame(standing, words, bytes, holds, frame),
-        Call::Flush { connection } => {
-            standby_lifecycle::flush(standing, words, bytes, holds, connection)
-        }
+        Call::OnFrameHeld => standby_frame::on_frame_held(standing, areas, frame),
+        Call::OnFrame => standby_frame::on_frame(standing, areas, frame),
+        Call::Flush { connection } => { standby_lifecycle::flush(standing, areas, connection) }
         Call::DisconnectedFrom { connection } => {
-            standby_lifecycle::disconnected_from(standing, words, bytes, holds, connection)
+            standby_lifecycle::disconnected_from(standing, areas, connection)
         }
-        Call::Promote => standby_lifecycle::promote(standing, words, bytes, holds),
-        Call::PromoteUnchecked => {
-            standby_lifecycle::promote_unchecked(standing, words, bytes, holds)
-        }
+        Call::Promote => standby_lifecycle::promote(standing, areas),
+        Call::PromoteUnchecked => { standby_lifecycle::promote_unchecked(standing, areas) }
     }
 }

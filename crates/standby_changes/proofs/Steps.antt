@@ -1,44 +1,55 @@
--- What one change does: those that a `match` doesn't name, told by their tags, do nothing. Assumes nothing.
+-- What the first change of a run tells. Assumes nothing.
 use mathlib.Core.Path.{◌≡◌, refl, sym, ap, ◌∙◌}
-use Rattle.std.specs.Prelude.{Result, Ok, Err, is_err}
-use mathlib.Core.Bool.{true, false}
+use Rattle.std.specs.Prelude.{Option, Some, None, is_some}
+use Rattle.std.specs.Option.{option_eq}
+use mathlib.Core.Bool.{Bool, true, false, not, true≢false}
 use mathlib.Core.List.{List, ◌∷◌}
 use Prim.Native.Nat.{ℕ}
-use lib.Dec.{T}
-use Rattle.model_frame.specs.Bytes.{is_bytes}
 use Rattle.model_frame.specs.Frame.{Change}
-use Rattle.model_frame.specs.Parse.{ok, is_empty}
+use Rattle.model_frame.specs.Parse.{Res, is_empty}
 use Rattle.model_frame.specs.Reading.{read_change}
 use Rattle.model_standby.specs.Standby.{starts_with_reset}
-use Rattle.frame_reader.specs.declared.FrameError.{FrameError}
-use Rattle.frame_reader.specs.declared.Reader.{Reader}
-use Rattle.frame_reader.specs.Answers.{res}
+use Rattle.frame_reader.specs.Answers.{rest}
 use Rattle.frame_op.specs.Answers.{op_of, held_run}
 use Rattle.frame_op.specs.declared.Op.{Op}
+use Rattle.frame_op.specs.contracts.OpPartialEq.TheImpl as op_eq
+use Rattle.standby_changes.specs.declared.changes.Changes.{Changes}
+use Rattle.standby_changes.specs.declared.changes.Ops.{Ops}
+use Rattle.standby_changes.specs.Steps.{IteratesOver, Steps}
 use Rattle.standby_changes.proofs.Held.{held_bad, held_more}
 
-no_reset : (b : List ℕ) (cs : List Change) (op : Op) → (op ≡ Op.Reset → ⊥) → starts_with_reset (op_of b op ∷ cs) ≡ false
-no_reset b cs (Op.SetNextIncoming n) h = refl
-no_reset b cs (Op.SetNextIncomingInFlight n f) h = refl
-no_reset b cs (Op.SetInFlight f) h = refl
-no_reset b cs (Op.Record n m) h = refl
-no_reset b cs (Op.RecordNone n) h = refl
-no_reset b cs Op.Reset h = absurd (h refl)
-no_reset b cs (Op.SetCreatedAt t) h = refl
-no_reset b cs (Op.SetMarks m) h = refl
+abbrev same : Op → Op → Bool
+same = (op_eq.eq-value).it
 
--- what the first change tells of a run
-module _ (version : ℕ) (s : List ℕ) (h : T (is_bytes s)) (op : Op) {t : List ℕ} (e : read_change version s ≡ ok (op_of s op) t) where
-  first : starts_with_reset (held_run version s) ≡ starts_with_reset (op_of s op ∷ held_run version t)
-  first = ap starts_with_reset (held_more version s h e)
+reset_same : (b : List ℕ) (cs : List Change) (op : Op) → same op Op.Reset ≡ starts_with_reset (op_of b op ∷ cs)
+reset_same b cs (Op.SetNextIncoming n) = refl
+reset_same b cs (Op.SetNextIncomingInFlight n f) = refl
+reset_same b cs (Op.SetInFlight f) = refl
+reset_same b cs (Op.Record n m) = refl
+reset_same b cs (Op.RecordNone n) = refl
+reset_same b cs Op.Reset = refl
+reset_same b cs (Op.SetCreatedAt t) = refl
+reset_same b cs (Op.SetMarks m) = refl
 
-  pub starts : op ≡ Op.Reset → true ≡ starts_with_reset (held_run version s)
-  starts is = sym (first ∙ ap (λ (o : Op). starts_with_reset (op_of s o ∷ held_run version t)) is)
+-- what the first turn reads is read of the run
+begun : (c : Changes) (s : Ops) → IteratesOver c s → {r : Res Change} → read_change s.protocol.version (rest s.reader) ≡ r → read_change c.protocol.version c.run.now ≡ r
+begun c s w {r} e = (λ j. read_change (sym w.protocol j).version (sym w.whole j)) ∙ e
 
-  pub starts_not : (op ≡ Op.Reset → ⊥) → false ≡ starts_with_reset (held_run version s)
-  starts_not other = sym (first ∙ no_reset s (held_run version t) op other)
+other : (r t : Bool) → not r ≡ not t → r ≡ t
+other true true e = refl
+other true false e = absurd (true≢false (sym e))
+other false true e = absurd (true≢false e)
+other false false e = refl
 
--- whether a change was read tells whether the run has one
-pub none_told : (version : ℕ) (s : List ℕ) → T (is_bytes s) → (after : Reader) (x : Result Op FrameError) → res (op_of s) after x ≡ read_change version s → is_err x ≡ is_empty (held_run version s)
-none_told version s h after (Ok op) e = sym (ap is_empty (held_more version s h (sym e)))
-none_told version s h after (Err f) e = sym (ap is_empty (held_bad version s (sym e)))
+-- what the first turn tells of a run: whether it has a change, and whether that is a Reset
+module _ (c : Changes) (s t : Ops) (w : IteratesOver c s) where
+  abbrev run : List Change
+  run = held_run c.protocol.version c.run.now
+
+  pub none_told : {r : Bool} (o : Option Op) → not r ≡ is_some o → Steps s o t → r ≡ is_empty run
+  none_told {r} (Some op) e g = other r false e ∙ sym (ap is_empty (held_more c.protocol.version c.run.now c.octets (begun c s w g.2)))
+  none_told {r} None e g = other r true e ∙ sym (ap is_empty (held_bad c.protocol.version c.run.now (begun c s w g.2.1)))
+
+  pub reset_told : (o : Option Op) → Steps s o t → option_eq same o (Some Op.Reset) ≡ starts_with_reset run
+  reset_told (Some op) g = reset_same s.reader.buf.now (held_run c.protocol.version (rest t.reader)) op ∙ sym (ap starts_with_reset (held_more c.protocol.version c.run.now c.octets (begun c s w g.2)))
+  reset_told None g = sym (ap starts_with_reset (held_bad c.protocol.version c.run.now (begun c s w g.2.1)))

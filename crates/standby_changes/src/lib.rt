@@ -1,6 +1,5 @@
 // Runs of changes in frame form, as a hold area has them from its start (standby.rs, `hold` and `fits`): what stands in front,
-// their message bytes, whether their outgoing numbers follow on, how long they are. Each change says where the next begins, so
-// that walks over them go by a reader and not by an index.
+// their message bytes, whether their outgoing numbers follow on, how long they are.
 #![tactic(auto)]
 
 ghost use Rattle.std.specs.Prelude.{ℕ, ◌≡◌, IfOk};
@@ -12,10 +11,12 @@ ghost use Rattle.model_standby.specs.Standby.{starts_with_reset};
 ghost use Rattle.frame_reader.specs.Answers.{rest, res};
 ghost use Rattle.frame_op.specs.Answers.{op_of, held_run, HasLength};
 ghost use Rattle.standby_changes.specs.Held.{outgoing_after, Follows, RunPart};
+ghost use Rattle.standby_changes.specs.Steps.{IteratesOver};
 
 pub mod changes;
+mod ops;
 
-pub use changes::{AllChanges, Changes};
+pub use changes::{AllChanges, Changes, Ops};
 use frame_op::{Op, Run};
 use frame_reader::{FrameError, Reader};
 use frame_stamp::Protocol;
@@ -67,7 +68,7 @@ fn record_length(op: Op, len: u32) -> u32 {
 }
 
 // Skips a Record with a message of `len` bytes, if one stands here. Where the next change begins is known from `len`, before
-// the length in the buffer is read: Records of one length are skipped faster so.
+// the length in the buffer is read: Records of one length are skipped faster so. The error only says that none stands here.
 fn skip_record(reader: &mut Reader, len: u32) -> Result<(), FrameError>
     ensures past { IfOk result (λ _. (version : ℕ) → forget (read_change version (rest reader.old)) ≡ ok tt (rest reader.new)) }
     ensures same { reader.new.buf.now ≡ reader.old.buf.now }
@@ -102,7 +103,7 @@ fn skip_change(reader: &mut Reader, protocol: Protocol, len: u32) -> Result<u32,
     Ok(record_length(op, len))
 }
 
-impl Changes<'_> {
+impl<'a> Changes<'a> {
     // The changes from the start of some bytes.
     pub fn new(protocol: Protocol, run: &[u8]) -> Changes<'_>
         ensures protocol { result.protocol ≡ protocol }
@@ -111,29 +112,31 @@ impl Changes<'_> {
         Changes { protocol, run }
     }
 
+    // The changes, one after the other.
+    pub fn iter(&self) -> Ops<'a>
+        ensures { IteratesOver self.now result }
+    {
+        Ops {
+            reader: Reader {
+                buf: self.run,
+                at: 0,
+            },
+            protocol: self.protocol,
+        }
+    }
+
     // No change can be read: a look at the first one.
     pub fn is_none(&self) -> bool
         ensures { result ≡ is_empty (held_run self.now.protocol.version self.now.run.now) }
     {
-        let mut reader = Reader {
-            buf: self.run,
-            at: 0,
-        };
-        frame_op::read_op(&mut reader, self.protocol).is_err()
+        self.iter().next().is_none()
     }
 
     // The first change is a Reset.
     pub fn starts_with_reset(&self) -> bool
         ensures { result ≡ starts_with_reset (held_run self.now.protocol.version self.now.run.now) }
     {
-        let mut reader = Reader {
-            buf: self.run,
-            at: 0,
-        };
-        let Ok(op) = frame_op::read_op(&mut reader, self.protocol) else {
-            return false;
-        };
-        if let Op::Reset = op { true } else { false }
+        self.iter().next() == Some(Op::Reset)
     }
 
     // Their message bytes.
@@ -141,11 +144,7 @@ impl Changes<'_> {
         ensures { result ≡ message_bytes (held_run self.now.protocol.version self.now.run.now) }
     {
         let mut sum: u64 = 0;
-        let mut reader = Reader {
-            buf: self.run,
-            at: 0,
-        };
-        while let Ok(op) = frame_op::read_op(&mut reader, self.protocol) {
+        for op in self.iter() {
             sum += message_length(self.run, op);
         }
         sum
@@ -156,11 +155,7 @@ impl Changes<'_> {
         ensures { result ≡ fits next_outgoing (held_run self.now.protocol.version self.now.run.now) }
     {
         let mut next = next_outgoing;
-        let mut reader = Reader {
-            buf: self.run,
-            at: 0,
-        };
-        while let Ok(op) = frame_op::read_op(&mut reader, self.protocol) {
+        for op in self.iter() {
             let Some(n) = outgoing_by(op, next) else {
                 return false;
             };
@@ -169,7 +164,7 @@ impl Changes<'_> {
         true
     }
 
-    // How many bytes they take.
+    // How many bytes they take. A while: changes are skipped here and not read, so that the iterator gives none of them.
     pub fn run_length(&self) -> usize
         ensures { result ≡ sizes (held_run self.now.protocol.version self.now.run.now) }
     {

@@ -4,12 +4,12 @@ use mathlib.Core.Bool.{Bool, true, false, cond, not, ◌&&◌, ◌||◌, true≢
 use mathlib.Core.List.{List, [], ◌∷◌}
 use Prim.Native.Nat.{ℕ, zero, suc, ◌+◌, ◌<◌, ◌≤◌, max}
 use native.Mathlib.Omega.{arith}
-use lib.Dec.{eqb}
-use borrow.Author.Tests.{eq-eqb, ne_eqb}
+use lib.Dec.{eqb, ltb}
+use borrow.Author.Tests.{eq-eqb, ne_eqb, ltb-true, ltb-false}
 use Rattle.std.specs.Prelude.{Option, None, Some, ok_or, Result, Err}
-use Rattle.std.specs.List.{fold}
+use Rattle.std.specs.List.{fold, list_all, position_or_len}
 use Rattle.base_refusals.specs.declared.Refusal.{Refusal}
-use lib.ListN.{length, drop, get_or, drop_of_length-le}
+use lib.ListN.{length, get_or}
 use Rattle.base_flags.specs.Flag.{is_set}
 use Rattle.model_standby.specs.Store.{Place}
 use Rattle.store_areas.specs.Areas.{allowed, Rules, places_of}
@@ -46,37 +46,15 @@ kept_or x (c ∷ cs) (suc i) k h = kept_or x cs i k.1 (omega arith)
 pub kept_at : (x : LentCopy) (cs : List LentCopy) (i : ℕ) → x ≡ get_or cs i x → Kept cs → i < length cs → RulesIf x.copy x.words.now x.bytes.now
 kept_at x cs i is k h = subst (λ (c : LentCopy). RulesIf c.copy c.words.now c.bytes.now) (sym is) (kept_or x cs i k h)
 
-split_or : (x : LentCopy) (cs : List LentCopy) (i : ℕ) → i < length cs → drop i cs ≡ get_or cs i x ∷ drop (i + 1) cs
-split_or x [] i h = absurd (no_place i h)
-split_or x (c ∷ cs) zero h = refl
-split_or x (c ∷ cs) (suc i) h =
-    let e : suc (i + 1) ≡ suc i + 1 = omega arith in
-    split_or x cs i (omega arith) ∙ ap (λ (k : ℕ). get_or cs i x ∷ drop k (c ∷ cs)) e
-
-split : (x : LentCopy) (cs : List LentCopy) (i : ℕ) → x ≡ get_or cs i x → i < length cs → drop i cs ≡ x ∷ drop (i + 1) cs
-split x cs i is h = split_or x cs i h ∙ ap (λ (c : LentCopy). c ∷ drop (i + 1) cs) (sym is)
-
 -- ---- ahead of every candidate
 
 module _ (top : ℕ) (mine : List Place) where
-  abbrev ahead : LentCopy → Bool
+  abbrev pub ahead : LentCopy → Bool
   ahead c = not (is_candidate top (copy_of c.copy c.words.now c.bytes.now)) || is_ahead mine (places_of c.copy.shape c.words.now c.bytes.now)
 
-  abbrev all : List LentCopy → Bool
-  all cs = is_ahead_of_all top mine (copies_of cs)
-
-  module _ (x : LentCopy) (cs : List LentCopy) (i : ℕ) {r : Bool} (is : x ≡ get_or cs i x) (so : all cs ≡ all (drop i cs)) (h : i < length cs) (e : r ≡ ahead x) where
-    by : {t : Bool} → r ≡ t → all cs ≡ (t && all (drop (i + 1) cs))
-    by f = so ∙ ap all (split x cs i is h) ∙ ap (λ (t : Bool). t && all (drop (i + 1) cs)) (sym e ∙ f)
-
-    pub stops : r ≡ false → false ≡ all cs
-    stops f = sym (by f)
-
-    pub goes_on : r ≡ true → all cs ≡ all (drop (i + 1) cs)
-    goes_on f = by f
-
-  pub ends : (cs : List LentCopy) (i : ℕ) → all cs ≡ all (drop i cs) → length cs ≤ i → true ≡ all cs
-  ends cs i so h = sym (so ∙ ap all (drop_of_length-le cs h))
+  pub ahead_of_all : (cs : List LentCopy) → list_all ahead cs ≡ is_ahead_of_all top mine (copies_of cs)
+  ahead_of_all [] = refl
+  ahead_of_all (c ∷ cs) = ap (λ (t : Bool). ahead c && t) (ahead_of_all cs)
 
 -- ---- the first that fits
 
@@ -92,38 +70,38 @@ highest_is : (cs : List LentCopy) → fold raised_by 0 cs ≡ highest (copies_of
 highest_is cs = highest_by 0 cs ∙ omega arith
 
 module _ (all : List LentCopy) where
-  abbrev fits : ℕ → LentCopy → Bool
+  abbrev pub fits : ℕ → LentCopy → Bool
   fits top c = is_candidate top (copy_of c.copy c.words.now c.bytes.now) && is_ahead_of_all top (places_of c.copy.shape c.words.now c.bytes.now) (copies_of all)
 
-  abbrev first : List LentCopy → ℕ
-  first cs = first_that_fits (copies_of all) (copies_of cs)
+  first_is : {top : ℕ} → top ≡ highest (copies_of all) → (cs : List LentCopy) → position_or_len (fits top) cs ≡ first_that_fits (copies_of all) (copies_of cs)
+  first_is e [] = refl
+  first_is {top} e (c ∷ cs) = go (fits top c) (first_is e cs) ∙ ap (λ (n : ℕ). cond (fits n c) 0 (suc (first_that_fits (copies_of all) (copies_of cs)))) e
+    where
+      go : (t : Bool) → position_or_len (fits top) cs ≡ first_that_fits (copies_of all) (copies_of cs) → cond (not t) (1 + position_or_len (fits top) cs) 0 ≡ cond t 0 (suc (first_that_fits (copies_of all) (copies_of cs)))
+      go true h = refl
+      go false h = omega (arith, h)
 
-  -- none fits before place i
-  pub record Seeking (i : ℕ) : Type 0 where
-    pub upto : i ≤ length all
-    pub left : first all ≡ i + first (drop i all)
+  first_low : (cs : List LentCopy) → first_that_fits (copies_of all) (copies_of cs) ≤ length cs
+  first_low [] = omega arith
+  first_low (c ∷ cs) = go (fits (highest (copies_of all)) c) (first_low cs)
+    where
+      go : (t : Bool) → first_that_fits (copies_of all) (copies_of cs) ≤ length cs → cond t 0 (suc (first_that_fits (copies_of all) (copies_of cs))) ≤ suc (length cs)
+      go true h = omega arith
+      go false h = omega (arith, h)
 
-  pub seeks : Seeking 0
-  seeks = record { upto = omega arith; left = omega arith }
+  -- past the copies there is none
+  placed : (i n : ℕ) → i ≤ n → cond (ltb i n) (Some i) None ≡ fits_at n i
+  placed i n h = go (ltb i n) refl
+    where
+      go : (t : Bool) → ltb i n ≡ t → cond t (Some i) None ≡ fits_at n i
+      go true e = sym (ap (λ (x : Bool). cond x None (Some i)) (ne_eqb i n (λ z. omega (arith, z, ltb-true i n e))))
+      go false e = sym (ap (λ (x : Bool). cond x None (Some i)) (eq-eqb i n (omega (arith, ltb-false i n e))))
 
-  module _ (x : LentCopy) (i : ℕ) {top : ℕ} {r : Bool} (is : x ≡ get_or all i x) (s : Seeking i) (top_is : top ≡ fold raised_by 0 all) (h : i < length all) (e : r ≡ fits top x) where
-    at : {t : Bool} → r ≡ t → first all ≡ i + cond t 0 (suc (first (drop (i + 1) all)))
-    at {t} f =
-        s.left ∙ ap (λ (cs : List LentCopy). i + first cs) (split x all i is h)
-        ∙ ap (λ (t : Bool). i + cond t 0 (suc (first (drop (i + 1) all)))) (ap (λ (n : ℕ). fits n x) (sym (top_is ∙ highest_is all)) ∙ sym e ∙ f)
-
-    pub found : r ≡ true → Some i ≡ fits_at (length all) (chosen (copies_of all))
-    unfolding chosen
-    found f = sym (ap (fits_at (length all)) (at f ∙ omega arith) ∙ ap (λ (t : Bool). cond t None (Some i)) (ne_eqb i (length all) (λ z. omega arith)))
-
-    pub seeks_on : r ≡ false → Seeking (i + 1)
-    seeks_on f = record { upto = omega arith; left = at f ∙ omega arith }
-
-  pub none_fits : (i : ℕ) → Seeking i → length all ≤ i → None ≡ fits_at (length all) (chosen (copies_of all))
+  pub first_fits : {top : ℕ} {r : Option ℕ} → top ≡ fold raised_by 0 all → r ≡ cond (ltb (position_or_len (fits top) all) (length all)) (Some (position_or_len (fits top) all)) None → r ≡ fits_at (length all) (chosen (copies_of all))
   unfolding chosen
-  none_fits i s h =
-      let past : first all ≡ length all = s.left ∙ ap (λ (cs : List LentCopy). i + first cs) (drop_of_length-le all h) ∙ omega (arith, s.upto) in
-      sym (ap (fits_at (length all)) past ∙ ap (λ (x : Bool). cond x None (Some (length all))) (eq-eqb (length all) (length all) refl))
+  first_fits e is =
+      is ∙ ap (λ (i : ℕ). cond (ltb i (length all)) (Some i) None) (first_is (e ∙ highest_is all) all)
+      ∙ placed (first_that_fits (copies_of all) (copies_of all)) (length all) (first_low all)
 
 -- ---- the answer
 

@@ -16,10 +16,9 @@ pub use lent::LentCopy;
 use store_areas::{Shape, View};
 
 // A copy: whether it is listed, its counters' epoch and checked flag, its store's shape. A flag is set if it is not 0.
-#[repr(C)]
 #[derive(Clone, Copy)]
 pub struct Copy {
-    // C lends the two flags as bytes of any value.
+    // The two flags are bytes of any value: a `bool` would ask more of a caller.
     pub listed: u8,
     pub checked: u8,
     pub epoch: Epoch,
@@ -84,12 +83,7 @@ fn is_ahead_of_all(mine: &View, copies: &[LentCopy], top: u64) -> bool
     requires { Kept copies.now }
     ensures { result ≡ is_ahead_of_all top (places_of mine.now.shape mine.now.words.now mine.now.bytes.now) (copies_of copies.now) }
 {
-    for c in copies {
-        if !is_ahead_if(mine, c, top) {
-            return false;
-        }
-    }
-    true
+    copies.iter().all(|c| is_ahead_if(mine, c, top))
 }
 
 // Whether a copy fits: a candidate that is ahead of every candidate.
@@ -117,12 +111,7 @@ fn first_that_fits(copies: &[LentCopy]) -> Option<usize>
     ensures { result ≡ fits_at (length copies.now) (chosen (copies_of copies.now)) }
 {
     let top = highest(copies);
-    for i in 0..copies.len() {
-        if is_fit(&copies[i], copies, top) {
-            return Some(i);
-        }
-    }
-    None
+    copies.iter().position(|c| is_fit(c, copies, top))
 }
 
 // Whether a copy's store keeps its rules; what isn't listed isn't looked at.

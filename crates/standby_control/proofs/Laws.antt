@@ -19,7 +19,8 @@ use Rattle.frame_fields.specs.declared.Incarnation.{Incarnation}
 use Rattle.frame_op.specs.declared.Run.{Run}
 use Rattle.frame_reader.specs.declared.Span.{Span}
 use Rattle.frame.specs.Answers.{frame_of}
-use Rattle.standby_row.specs.declared.Lookup.{Lookup}
+use Rattle.standby_row.specs.declared.lookup.Lookup.{Lookup}
+use Rattle.standby_row.specs.Row.{own_record, has_place}
 use Rattle.store_areas.specs.declared.Shape.{Shape}
 use Rattle.store_areas.specs.Areas.{Rules, places_of}
 use Rattle.store_areas.proofs.Lifting.{heads_places}
@@ -130,12 +131,12 @@ module _ (s : Settings) (c : Replica) (seen : Lookup) (w b : List ℕ) (rules : 
     is = λ version room holds o q.
         (λ j. record { core = record { counters = counters_of r.replica; places = cleared_places s.shape w b rules (clears r.action) j; pending = cleared_pending s.shape w b rules (clears r.action) j }; action = action_of version room holds r; answer = answer_of b r.answer })
         ∙ g.is version room holds b (places_of s.shape w b) (pending_of w)
-        ∙ plain_same (settings_of s room) (core_at (counters_of c) s.shape w b) o (ltb seen.free seen.len) f p;
+        ∙ plain_same (settings_of s room) (core_at (counters_of c) s.shape w b) o (has_place seen) f p;
     lands = λ room area. kept_lands seen (get_or (cleared_if (clears r.action) w) 0 0) room area r.action g.stays;
     rules = cleared_rules s.shape w b rules (clears r.action);
     more = le_of_eq (sym (cleared_used s.shape w b rules (clears r.action)));
     store_after = λ e₀.
-        subst (λ (x : StoreChange). StoreAfter s.shape x w (cleared_if (clears r.action) w) b b) (sym (plain_stays (places_of s.shape w b) seen.bound.place f (accepted (answer_of b r.answer)) p))
+        subst (λ (x : StoreChange). StoreAfter s.shape x w (cleared_if (clears r.action) w) b b) (sym (plain_stays (places_of s.shape w b) (own_record seen).place f (accepted (answer_of b r.answer)) p))
         (cleared_same w (clears r.action) e₀, refl);
     exact = g.exact b;
   })
@@ -143,7 +144,7 @@ module _ (s : Settings) (c : Replica) (seen : Lookup) (w b : List ℕ) (rules : 
   pub bound_to : (h e lag : ℕ) (k : Key) {w' b' : List ℕ} {r : Outcome} → BindIs s c seen h e lag k w w' b b' r → OtherIs s c seen (bind h e lag k) w w' b b' r
   bound_to h e lag k g = record {
     is = λ version room holds o q.
-        g.is version room holds ∙ ap (λ (t : Bool). core_bind (settings_of s room) (core_at (counters_of c) s.shape w b) (t || ltb seen.free seen.len) h e lag k) (sym q);
+        g.is version room holds ∙ ap (λ (t : Bool). core_bind (settings_of s room) (core_at (counters_of c) s.shape w b) (t || has_place seen) h e lag k) (sym q);
     lands = g.lands;
     rules = g.rules;
     more = g.more;
@@ -187,10 +188,10 @@ module _ (s : Settings) (c : Replica) (seen : Lookup) (f : the_frame.Frame) (w b
   words_are : w1 ≡ cond (not (is_empty (pending_of w))) (ran_words s.shape w) w
   words_are = ran.words ∙ ap (λ (t : Bool). cond t (ran_words s.shape w) w) due_is
 
-  changes_are : (taken : Bool) → changes_by (places_of s.shape w1 b) seen.bound.place (intact f) taken ≡ changes_by (places_of s.shape w b) seen.bound.place (intact f) taken
+  changes_are : (taken : Bool) → changes_by (places_of s.shape w1 b) (own_record seen).place (intact f) taken ≡ changes_by (places_of s.shape w b) (own_record seen).place (intact f) taken
   changes_are taken =
-      ap (λ (ps : List Place). changes_by ps seen.bound.place (intact f) taken) ran.places
-      ∙ changes_run f seen.bound.place due (pending_of w) (places_of s.shape w b) taken
+      ap (λ (ps : List Place). changes_by ps (own_record seen).place (intact f) taken) ran.places
+      ∙ changes_run f (own_record seen).place due (pending_of w) (places_of s.shape w b) taken
 
   -- no commit is pending then
   none_left : count_of w1 ≡ 0
@@ -202,23 +203,18 @@ module _ (s : Settings) (c : Replica) (seen : Lookup) (f : the_frame.Frame) (w b
       none_of [] = refl
       none_of (x ∷ l) = refl
 
-  other_in : {w' b' : List ℕ} {r : Outcome} → OtherIs s c seen f w1 w' b b' r → OtherIn s c seen f w w' b b' r
+  pub other_in : {w' b' : List ℕ} {r : Outcome} → OtherIs s c seen f w1 w' b b' r → OtherIn s c seen f w w' b b' r
   other_in {w'} {b'} {r} g = record {
-    is = λ version room holds o q. g.is version room holds o q ∙ ap (λ (k : Core). core_intact (settings_of s room) k o (ltb seen.free seen.len) f) ran_is;
+    is = λ version room holds o q. g.is version room holds o q ∙ ap (λ (k : Core). core_intact (settings_of s room) k o (has_place seen) f) ran_is;
     lands = g.lands;
     rules = g.rules;
     more = subst (λ (k : ℕ). k ≤ get_or w' 0 0) ran.used g.more;
     leaves = record {
       mid = w';
       store_after =
-          subst (λ (x : List ℕ). StoreAfter s.shape (changes_by (places_of s.shape w b) seen.bound.place (intact f) (accepted (answer_of b' r.answer))) x w' b b') words_are
+          subst (λ (x : List ℕ). StoreAfter s.shape (changes_by (places_of s.shape w b) (own_record seen).place (intact f) (accepted (answer_of b' r.answer))) x w' b b') words_are
           (subst (λ (x : StoreChange). StoreAfter s.shape x w1 w' b b') (changes_are (accepted (answer_of b' r.answer))) (g.store_after none_left));
       last = refl;
     };
     exact = g.exact;
   }
-
-  -- over the areas as they were handed back once the commits had run
-  pub other_given : {w' b' w₀ b₀ : List ℕ} {r : Outcome} → OtherIs s c seen f w₀ w' b₀ b' r → w₀ ≡ w1 → b₀ ≡ b → OtherIn s c seen f w w' b b' r
-  other_given {w'} {b'} {w₀} {b₀} {r} g words bytes =
-      other_in (subst (λ (x : List ℕ). OtherIs s c seen f x w' b b' r) words (subst (λ (x : List ℕ). OtherIs s c seen f w₀ w' x b' r) bytes g))

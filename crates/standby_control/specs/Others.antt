@@ -1,9 +1,10 @@
 -- What a frame that is no Batch leaves and answers. Assumes nothing.
-use Rattle.std.specs.Prelude.{ℕ, ◌≤◌, ◌≡◌, Bool, false, cond, not, List, get_or, set, ltb}
+use Rattle.std.specs.Prelude.{ℕ, ◌≤◌, ◌≡◌, Bool, false, cond, not, List, get_or, set}
 use Rattle.std.proofs.Math.Option.{Option}
 use Rattle.model_frame.specs.Frame.{Frame, hello, welcome, bind, batch, ack, nack, bound, checked}
 use Rattle.model_frame.specs.Parse.{is_empty}
-use Rattle.standby_row.specs.declared.Lookup.{Lookup}
+use Rattle.standby_row.specs.declared.lookup.Lookup.{Lookup}
+use Rattle.standby_row.specs.Row.{own_record, has_place}
 use Rattle.store_areas.specs.StoreWord
 use Rattle.store_areas.specs.Areas.{Rules, places_of}
 use Rattle.standby_pending.specs.Pending.{count_of, pending_of}
@@ -50,20 +51,20 @@ cleared_if t w = cond t (set w StoreWord.pending 0) w
 -- equal to the definition, whatever the hold areas and the record found; what is left of the store is said where no commit is pending
 pub record OtherIs (s : Settings) (c : Replica) (seen : Lookup) (f : Frame) (w w' b b' : List ℕ) (r : Outcome) : Type 0 where
   pub is : (version room : ℕ) (holds : List ℕ) (o : Option Bound) → is_some o ≡ is_found seen
-      → outcome_of version room s.shape w' b' holds r ≡ core_intact (settings_of s room) (core_at (counters_of c) s.shape w b) o (ltb seen.free seen.len) f
+      → outcome_of version room s.shape w' b' holds r ≡ core_intact (settings_of s room) (core_at (counters_of c) s.shape w b) o (has_place seen) f
   pub lands : (room : ℕ) (area : List ℕ) → Lands seen (get_or w' StoreWord.used 0) room area r.action
   pub rules : Rules s.shape w' b'
   pub more : get_or w StoreWord.used 0 ≤ get_or w' StoreWord.used 0
-  pub store_after : count_of w ≡ 0 → StoreAfter s.shape (changes_by (places_of s.shape w b) seen.bound.place (intact f) (accepted (answer_of b' r.answer))) w w' b b'
+  pub store_after : count_of w ≡ 0 → StoreAfter s.shape (changes_by (places_of s.shape w b) (own_record seen).place (intact f) (accepted (answer_of b' r.answer))) w w' b b'
   pub exact : Exact b' r.answer
 
 -- the same, after the pending commits
 pub record OtherIn (s : Settings) (c : Replica) (seen : Lookup) (f : Frame) (w w' b b' : List ℕ) (r : Outcome) : Type 0 where
   pub is : (version room : ℕ) (holds : List ℕ) (o : Option Bound) → is_some o ≡ is_found seen
       → outcome_of version room s.shape w' b' holds r
-      ≡ core_intact (settings_of s room) (core_run (not (is_empty (pending_of w))) (core_at (counters_of c) s.shape w b)) o (ltb seen.free seen.len) f
+      ≡ core_intact (settings_of s room) (core_run (not (is_empty (pending_of w))) (core_at (counters_of c) s.shape w b)) o (has_place seen) f
   pub lands : (room : ℕ) (area : List ℕ) → Lands seen (get_or w' StoreWord.used 0) room area r.action
   pub rules : Rules s.shape w' b'
   pub more : get_or w StoreWord.used 0 ≤ get_or w' StoreWord.used 0
-  pub leaves : FrameLeaves s.shape (changes_by (places_of s.shape w b) seen.bound.place (intact f) (accepted (answer_of b' r.answer))) (not (is_empty (pending_of w))) false w w' b b'
+  pub leaves : FrameLeaves s.shape (changes_by (places_of s.shape w b) (own_record seen).place (intact f) (accepted (answer_of b' r.answer))) (not (is_empty (pending_of w))) false w w' b b'
   pub exact : Exact b' r.answer

@@ -1,5 +1,5 @@
 // Frames that are no Batch: pending commits run first, then Hello, Bind, Checked, or 19 (standby.rs, on_frame_held).
-// The areas come apart: a Store has the shape that the settings have too, and each function would have to ask that both are the same.
+// The store's areas come apart: no hold area is asked for, and a Store has the shape that the settings have too, so each function would have to ask that both are the same.
 #![tactic(auto)]
 
 ghost use Rattle.std.specs.Prelude.{◌≡◌, false, ◌≤◌, length};
@@ -17,7 +17,6 @@ use frame::Frame;
 use frame_op::Run;
 use frame_reader::Reader;
 use standby_state::{Outcome, Replica, Settings, Standing};
-use store_areas::Store;
 
 // Whether a run of kinds is empty.
 fn no_kinds(frame: &[u8], run: Run) -> bool
@@ -74,10 +73,10 @@ fn answer_by_counters(
 
 // What the frame answers, once due commits have run.
 fn answer(
+    standing: Standing,
     words: &mut [u64],
     bytes: &mut [u8],
     frame: &[u8],
-    standing: Standing,
     decoded: Frame,
 ) -> Outcome
     requires rules { Rules standing.settings.shape words.old bytes.old }
@@ -91,22 +90,22 @@ fn answer(
             max_lag,
             session,
         } => standby_bind::on_bind(
-            words, bytes, frame, standing, handle, epoch, max_lag, session,
+            standing, words, bytes, frame, handle, epoch, max_lag, session,
         ),
         _ => {
-            let o = answer_by_counters(frame, standing.counters, standing.settings, decoded);
-            clear_if(words, o.action.clears());
-            o
+            let outcome = answer_by_counters(frame, standing.counters, standing.settings, decoded);
+            clear_if(words, outcome.action.clears());
+            outcome
         }
     }
 }
 
 // Pending commits run, and then the frame is answered.
 pub fn run_due_then_answer(
+    standing: Standing,
     words: &mut [u64],
     bytes: &mut [u8],
     frame: &[u8],
-    standing: Standing,
     decoded: Frame,
 ) -> Outcome
     requires rules { Rules standing.settings.shape words.old bytes.old }
@@ -114,11 +113,6 @@ pub fn run_due_then_answer(
     ensures { OtherIn standing.settings standing.counters standing.lookup (frame_of 1 frame.now decoded) words.old words.new bytes.old bytes.new result }
 {
     let due = standby_pending_run::is_pending(words);
-    let mut store = Store {
-        words,
-        bytes,
-        shape: standing.settings.shape,
-    };
-    standby_pending_run::run_if(&mut store, due);
-    answer(words, bytes, frame, standing, decoded)
+    standby_pending_run::run_if(words, bytes, standing.settings.shape, due);
+    answer(standing, words, bytes, frame, decoded)
 }

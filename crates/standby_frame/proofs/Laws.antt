@@ -13,7 +13,9 @@ use Rattle.base_flags.proofs.Flags.{set_so, clear_so}
 use Rattle.base_laws.proofs.Lists.{both}
 use Rattle.model_frame.specs.Frame.{Change, AppRecord, commit, whole, last_whole, hello, welcome, bind, batch, ack, nack, bound, checked}
 use Rattle.model_frame.specs.Frame as the_frame
-use Rattle.standby_row.specs.declared.Lookup.{Lookup}
+use Rattle.std.specs.Prelude as prelude
+use Rattle.standby_row.specs.declared.lookup.Lookup.{Lookup}
+use Rattle.standby_row.specs.Row.{own_place, own_record, has_place}
 use Rattle.store_areas.specs.Areas.{allowed, Rules, places_of}
 use Rattle.store_areas.proofs.Ruling.{rules_of}
 use Rattle.standby_pending.specs.Pending.{pending_of}
@@ -60,7 +62,7 @@ batch_intact s c seen h e n part cs apps w w' b b' l l' r g = record {
 found_some : (seen : Lookup) (l : List ℕ) → is_some (found_in seen l) ≡ is_found seen
 found_some seen l = go (is_found seen)
   where
-    go : (t : Bool) → is_some (found_of protocol_version t seen.bound (area_at (room_in seen l) seen.at l)) ≡ t
+    go : (t : Bool) → is_some (found_of protocol_version t (own_record seen) (area_at (room_in seen l) (own_place seen) l)) ≡ t
     go true = refl
     go false = refl
 
@@ -68,12 +70,12 @@ pub other_intact : (s : Settings) (c : Replica) (seen : Lookup) (f : the_frame.F
 other_intact s c seen f fit w w' b b' l r g = record {
   is = λ own.
       g.is protocol_version (room_in seen l) l (found_in seen l) (found_some seen l)
-      ∙ ap (λ (t : Bool). core_intact (settings_of s (room_in seen l)) (core_run t (core_at (counters_of c) s.shape w b)) (found_in seen l) (ltb seen.free seen.len) f) (due_other (pending_of w) f fit);
+      ∙ ap (λ (t : Bool). core_intact (settings_of s (room_in seen l)) (core_run t (core_at (counters_of c) s.shape w b)) (found_in seen l) (has_place seen) f) (due_other (pending_of w) f fit);
   lands = g.lands (room_in seen l) (area_at (room_in seen l) (spot_of seen) l);
   rules = g.rules;
   more = g.more;
-  leaves = subst (λ (t : Bool). FrameLeaves s.shape (changes_by (places_of s.shape w b) seen.bound.place (intact f) (accepted (answer_of b' r.answer))) t false w w' b b') (due_other (pending_of w) f fit) g.leaves;
-  holds = λ own. sym (ap (λ (o : Option HoldWrite). holds_after (room_in seen l) seen.at o l) (writes_other (settings_of s (room_in seen l)) (counters_of c) (found_in seen l) f fit));
+  leaves = subst (λ (t : Bool). FrameLeaves s.shape (changes_by (places_of s.shape w b) (own_record seen).place (intact f) (accepted (answer_of b' r.answer))) t false w w' b b') (due_other (pending_of w) f fit) g.leaves;
+  holds = λ own. sym (ap (λ (o : Option HoldWrite). holds_after (room_in seen l) (own_place seen) o l) (writes_other (settings_of s (room_in seen l)) (counters_of c) (found_in seen l) f fit));
   exact = g.exact;
 }
 
@@ -107,7 +109,7 @@ module _ (s : Settings) (c : Replica) (seen : Lookup) (frame w b h : List ℕ) (
   F = found_in seen h
 
   abbrev free : Bool
-  free = ltb seen.free seen.len
+  free = has_place seen
 
   held_is : core_step L K F free (on_frame_held frame) ≡ core_given L K F free (given frame)
   unfolding core_step
@@ -133,11 +135,11 @@ module _ (s : Settings) (c : Replica) (seen : Lookup) (frame w b h : List ℕ) (
             mid = w;
             store_after =
                 subst (λ (x : StoreChange). StoreAfter s.shape x (cond (due_now (is_set c.promoted) (pending_of w) (given frame)) (ran_words s.shape w) w) w b b)
-                (sym (ap (changes_by (places_of s.shape w b) seen.bound.place (given frame)) (ap accepted (refused_is n b off)) ∙ off_stays (places_of s.shape w b) seen.bound.place (given frame)))
+                (sym (ap (changes_by (places_of s.shape w b) (own_record seen).place (given frame)) (ap accepted (refused_is n b off)) ∙ off_stays (places_of s.shape w b) (own_record seen).place (given frame)))
                 (sym (ap (λ (t : Bool). cond t (ran_words s.shape w) w) (ap (due_now (is_set c.promoted) (pending_of w)) is ∙ due-none)), refl);
             last = refl;
           };
-          holds = sym (ap (λ (o : Option HoldWrite). holds_after (room_in seen h) seen.at o h) (ap (writes L (counters_of c) F) is ∙ none_written));
+          holds = sym (ap (λ (o : Option HoldWrite). holds_after (room_in seen h) (own_place seen) o h) (ap (writes L (counters_of c) F) is ∙ none_written));
         };
         exact = exact_refused b n;
       })
@@ -170,11 +172,11 @@ module _ (s : Settings) (c : Replica) (seen : Lookup) (frame w b h : List ℕ) (
           rules = g.rules;
           more = g.more;
           leaves =
-              subst (λ (x : Given). FrameLeaves s.shape (changes_by (places_of s.shape w b) seen.bound.place x (accepted (answer_of b' r.answer))) (due_now (is_set c.promoted) (pending_of w) x) false w w' b b') (sym is)
-              (subst (λ (t : Bool). FrameLeaves s.shape (changes_by (places_of s.shape w b) seen.bound.place (intact f) (accepted (answer_of b' r.answer))) (not t && due (pending_of w) f) false w w' b b') (sym (clear_so c.promoted off)) g.leaves);
+              subst (λ (x : Given). FrameLeaves s.shape (changes_by (places_of s.shape w b) (own_record seen).place x (accepted (answer_of b' r.answer))) (due_now (is_set c.promoted) (pending_of w) x) false w w' b b') (sym is)
+              (subst (λ (t : Bool). FrameLeaves s.shape (changes_by (places_of s.shape w b) (own_record seen).place (intact f) (accepted (answer_of b' r.answer))) (not t && due (pending_of w) f) false w w' b b') (sym (clear_so c.promoted off)) g.leaves);
           holds =
               g.holds mine
-              ∙ ap (λ (o : Option HoldWrite). holds_after (room_in seen h) seen.at o h)
+              ∙ ap (λ (o : Option HoldWrite). holds_after (room_in seen h) (own_place seen) o h)
               (sym (ap (writes L (counters_of c) F) is ∙ ap (λ (t : Bool). cond t none (writes_frame L (counters_of c) F f)) (clear_so c.promoted off)));
         };
     exact = g.exact;
@@ -188,9 +190,9 @@ module _ (s : Settings) (c : Replica) (seen : Lookup) (w b h : List ℕ) where
 
   pub holds_seen : seen_allowed s.shape seen w b h ≡ true → is_found seen ≡ true → RecordRulesIn seen w h
   holds_seen e f =
-      let p = (both (leb seen.len seen.broken) _ (both (allowed s.shape w b) _ e).1).1 in
-      let q = both (ltb seen.bound.place (get_or w 0 0)) _ (go (is_found seen) _ f p) in
-      record { place_used = ltb-true seen.bound.place (get_or w 0 0) q.0; held_within = leb-true seen.bound.held_len (room_in seen h) q.1 }
+      let p = (both (not (prelude.is_some seen.broken)) _ (both (allowed s.shape w b) _ e).1).1 in
+      let q = both (ltb (own_record seen).place (get_or w 0 0)) _ (go (is_found seen) _ f p) in
+      record { place_used = ltb-true (own_record seen).place (get_or w 0 0) q.0; held_within = leb-true (own_record seen).held_len (room_in seen h) q.1 }
     where
       go : (t x : Bool) → t ≡ true → (not t || x) ≡ true → x ≡ true
       go true x e f = f
@@ -227,7 +229,7 @@ module _ (s : Settings) (c : Replica) (seen : Lookup) (w b h : List ℕ) where
       flushed_is m p =
           (λ j. record { core = core_ran j; action = action_of protocol_version (room_in seen h) h' r; answer = answer_of b' r.answer }) ∙ ap (core_flushed (settings_of s (room_in seen h))) p
 
-      now_steps : StepIs s c seen (on_frame frame) w w' b b' h h' r
+      pub now_steps : StepIs s c seen (on_frame frame) w w' b b' h h' r
       unfolding core_step
       now_steps = record {
         refuses = λ y. absurd (true≢false (sym (sym e ∙ on) ∙ y));
@@ -248,7 +250,3 @@ module _ (s : Settings) (c : Replica) (seen : Lookup) (w b h : List ℕ) where
             };
         exact = g.exact;
       }
-
-      -- of the store as it was handed back
-      pub now_given : {w₂ b₂ : List ℕ} → w₂ ≡ w' → b₂ ≡ b' → StepIs s c seen (on_frame frame) w w₂ b b₂ h h' r
-      now_given {w₂} {b₂} words bytes = subst (λ (x : List ℕ). StepIs s c seen (on_frame frame) w x b b₂ h h' r) (sym words) (subst (λ (x : List ℕ). StepIs s c seen (on_frame frame) w w' b x h h' r) (sym bytes) now_steps)

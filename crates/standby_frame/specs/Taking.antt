@@ -1,7 +1,8 @@
 -- Taking a frame, once the rules hold. Assumes nothing.
-use Rattle.std.specs.Prelude.{ℕ, ◌≤◌, ◌≡◌, Bool, true, false, not, ◌&&◌, List, get_or, eqb, ltb}
+use Rattle.std.specs.Prelude.{ℕ, ◌≤◌, ◌≡◌, Bool, true, false, not, ◌&&◌, List, get_or, eqb}
 use Rattle.model_frame.specs.Frame.{Frame}
-use Rattle.standby_row.specs.declared.Lookup.{Lookup}
+use Rattle.standby_row.specs.declared.lookup.Lookup.{Lookup}
+use Rattle.standby_row.specs.Row.{own_place, own_record, has_place}
 use Rattle.store_areas.specs.StoreWord
 use Rattle.store_areas.specs.Areas.{Rules, places_of}
 use Rattle.standby_pending.specs.Pending.{pending_of}
@@ -26,20 +27,20 @@ is_answered a = eqb a.refusal 0 && not (eqb a.kind 0)
 
 -- the record found is the frame's handle's, if the frame has one
 abbrev pub Own : Lookup → Frame → Type 0
-Own seen f = is_found seen ≡ true → has_handle (intact f) ≡ true → seen.bound.handle ≡ handle_in (intact f)
+Own seen f = is_found seen ≡ true → has_handle (intact f) ≡ true → (own_record seen).handle ≡ handle_in (intact f)
 
 pub record IntactIs (s : Settings) (c : Replica) (seen : Lookup) (f : Frame) (w w' b b' h h' : List ℕ) (r : Outcome) : Type 0 where
   pub is : Own seen f
       → outcome_of protocol_version (room_in seen h) s.shape w' b' h' r
-      ≡ core_intact (settings_of s (room_in seen h)) (core_run (due (pending_of w) f) (core_at (counters_of c) s.shape w b)) (found_in seen h) (ltb seen.free seen.len) f
+      ≡ core_intact (settings_of s (room_in seen h)) (core_run (due (pending_of w) f) (core_at (counters_of c) s.shape w b)) (found_in seen h) (has_place seen) f
   pub lands : Lands seen (get_or w' StoreWord.used 0) (room_in seen h) (area_at (room_in seen h) (spot_of seen) h') r.action
   pub rules : Rules s.shape w' b'
   pub more : get_or w StoreWord.used 0 ≤ get_or w' StoreWord.used 0
-  pub leaves : FrameLeaves s.shape (changes_by (places_of s.shape w b) seen.bound.place (intact f) (accepted (answer_of b' r.answer))) (due (pending_of w) f) false w w' b b'
-  pub holds : Own seen f → h' ≡ holds_after (room_in seen h) seen.at (writes_frame (settings_of s (room_in seen h)) (counters_of c) (found_in seen h) f) h
+  pub leaves : FrameLeaves s.shape (changes_by (places_of s.shape w b) (own_record seen).place (intact f) (accepted (answer_of b' r.answer))) (due (pending_of w) f) false w w' b b'
+  pub holds : Own seen f → h' ≡ holds_after (room_in seen h) (own_place seen) (writes_frame (settings_of s (room_in seen h)) (counters_of c) (found_in seen h) f) h
   pub exact : Exact b' r.answer
 
 pub record Takes (s : Settings) (c : Replica) (seen : Lookup) (frame w w' b b' h h' : List ℕ) (r : Outcome) : Type 0 where
   pub rules : Rules s.shape w' b'
-  pub steps : (is_found seen ≡ true → has_handle (given frame) ≡ true → seen.bound.handle ≡ handle_in (given frame)) → Stepped s c seen (on_frame_held frame) w w' b b' h h' r
+  pub steps : (is_found seen ≡ true → has_handle (given frame) ≡ true → (own_record seen).handle ≡ handle_in (given frame)) → Stepped s c seen (on_frame_held frame) w w' b b' h h' r
   pub exact : Exact b' r.answer

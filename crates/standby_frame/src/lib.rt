@@ -1,7 +1,7 @@
 // Taking one frame (standby.rs, on_frame_held and on_frame): 25; the reader's number, or 26 if it isn't just one whole frame; 10 promoted;
 // then due commits and the frame's own answer.
-// The areas come apart: of a struct with a store and hold areas it isn't found what these are at the end.
 // Each call tests the rules itself, so that it asks nothing of its caller.
+// The functions below ask for the rules: as a struct's they would have to be proved again where each ends.
 #![tactic(auto)]
 
 ghost use Rattle.std.specs.Prelude.{◌≡◌, true};
@@ -11,50 +11,44 @@ ghost use Rattle.store_areas.specs.Areas.{Rules};
 ghost use Rattle.model_standby.specs.Answer.{is_reply};
 ghost use Rattle.model_standby.specs.State.{on_frame_held, on_frame};
 ghost use Rattle.standby_state.specs.Answers.{answer_of};
+ghost use Rattle.standby_state.specs.Lent.{SameLent};
 ghost use Rattle.standby_batch_due.specs.DueBatch.{RecordRulesIn};
-ghost use Rattle.standby_step.specs.Steps.{is_found, StepIs};
+ghost use Rattle.standby_step.specs.Steps.{is_found};
+ghost use Rattle.standby_step.specs.Over.{StepOver};
 ghost use Rattle.standby_frame.specs.Taking.{is_answered, IntactIs, Takes};
 
 use base_refusals::Refusal;
 use frame::Frame;
 use frame_stamp::Protocol;
-use standby_state::{Answer, Outcome, Standing};
-use store_areas::Store;
+use standby_state::{Answer, Areas, Outcome, Standing};
 
 // A frame that was read, once the standby isn't promoted.
-fn on_decoded(
-    words: &mut [u64],
-    bytes: &mut [u8],
-    holds: &mut [u8],
-    frame: &[u8],
-    standing: Standing,
-    decoded: Frame,
-) -> Outcome
-    requires rules { Rules standing.settings.shape words.old bytes.old }
-    requires record_rules_in { is_found standing.lookup ≡ true → RecordRulesIn standing.lookup words.old holds.old }
+fn on_decoded(standing: Standing, areas: &mut Areas, frame: &[u8], decoded: Frame) -> Outcome
+    requires rules { Rules standing.settings.shape areas.old.words.now areas.old.bytes.now }
+    requires record_rules_in { is_found standing.lookup ≡ true → RecordRulesIn standing.lookup areas.old.words.now areas.old.holds.now }
     requires writable { Writable 1 (frame_of 1 frame.now decoded) }
     requires sized { Sized 1 frame.now decoded }
-    ensures { IntactIs standing.settings standing.counters standing.lookup (frame_of 1 frame.now decoded) words.old words.new bytes.old bytes.new holds.old holds.new result }
+    ensures is { IntactIs standing.settings standing.counters standing.lookup (frame_of 1 frame.now decoded) areas.old.words.now areas.new.words.now areas.old.bytes.now areas.new.bytes.now areas.old.holds.now areas.new.holds.now result }
+    ensures same { SameLent areas.old areas.new }
 {
     match decoded {
-        Frame::Batch(b) => {
-            standby_batch_due::run_due_then_batch(words, bytes, holds, frame, standing, b)
-        }
-        _ => standby_control::run_due_then_answer(words, bytes, frame, standing, decoded),
+        Frame::Batch(b) => standby_batch_due::run_due_then_batch(standing, areas, frame, b),
+        _ => standby_control::run_due_then_answer(
+            standing,
+            areas.words,
+            areas.bytes,
+            frame,
+            decoded,
+        ),
     }
 }
 
 // The areas keep the rules (25): the bytes are read as a frame.
-fn on_bytes(
-    words: &mut [u64],
-    bytes: &mut [u8],
-    holds: &mut [u8],
-    frame: &[u8],
-    standing: Standing,
-) -> Outcome
-    requires rules { Rules standing.settings.shape words.old bytes.old }
-    requires record_rules_in { is_found standing.lookup ≡ true → RecordRulesIn standing.lookup words.old holds.old }
-    ensures { Takes standing.settings standing.counters standing.lookup frame.now words.old words.new bytes.old bytes.new holds.old holds.new result }
+fn on_bytes(standing: Standing, areas: &mut Areas, frame: &[u8]) -> Outcome
+    requires rules { Rules standing.settings.shape areas.old.words.now areas.old.bytes.now }
+    requires record_rules_in { is_found standing.lookup ≡ true → RecordRulesIn standing.lookup areas.old.words.now areas.old.holds.now }
+    ensures is { Takes standing.settings standing.counters standing.lookup frame.now areas.old.words.now areas.new.words.now areas.old.bytes.now areas.new.bytes.now areas.old.holds.now areas.new.holds.now result }
+    ensures same { SameLent areas.old areas.new }
 {
     let counters = standing.counters;
     let protocol = Protocol {
@@ -70,26 +64,20 @@ fn on_bytes(
             if counters.promoted != 0 {
                 return standby_state::refuse(counters, Refusal::Promoted);
             }
-            on_decoded(words, bytes, holds, frame, standing, f)
+            on_decoded(standing, areas, frame, f)
         }
     }
 }
 
 // on_frame_held: commits that the frame leaves pending stay so.
-pub fn on_frame_held(
-    standing: Standing,
-    words: &mut [u64],
-    bytes: &mut [u8],
-    holds: &mut [u8],
-    frame: &[u8],
-) -> Outcome
-    ensures { StepIs standing.settings standing.counters standing.lookup (on_frame_held frame.now) words.old words.new bytes.old bytes.new holds.old holds.new result }
+pub fn on_frame_held(standing: Standing, areas: &mut Areas, frame: &[u8]) -> Outcome
+    ensures is { StepOver standing (on_frame_held frame.now) areas.old areas.new result }
+    ensures same { SameLent areas.old areas.new }
 {
-    let shape = standing.settings.shape;
-    if !standby_rules::keeps_rules(words, bytes, holds, shape, standing.lookup) {
+    if !standby_rules::are_kept(standing, areas) {
         return standby_state::refuse(standing.counters, Refusal::RulesBroken);
     }
-    on_bytes(words, bytes, holds, frame, standing)
+    on_bytes(standing, areas, frame)
 }
 
 // Whether a frame is answered, a Nack too.
@@ -100,25 +88,16 @@ fn is_answered(answer: Answer) -> bool
 }
 
 // on_frame: pending commits run after every answered frame.
-pub fn on_frame(
-    standing: Standing,
-    words: &mut [u64],
-    bytes: &mut [u8],
-    holds: &mut [u8],
-    frame: &[u8],
-) -> Outcome
-    ensures { StepIs standing.settings standing.counters standing.lookup (on_frame frame.now) words.old words.new bytes.old bytes.new holds.old holds.new result }
+pub fn on_frame(standing: Standing, areas: &mut Areas, frame: &[u8]) -> Outcome
+    ensures is { StepOver standing (on_frame frame.now) areas.old areas.new result }
+    ensures same { SameLent areas.old areas.new }
 {
-    let shape = standing.settings.shape;
-    if !standby_rules::keeps_rules(words, bytes, holds, shape, standing.lookup) {
+    if !standby_rules::are_kept(standing, areas) {
         return standby_state::refuse(standing.counters, Refusal::RulesBroken);
     }
-    let outcome = on_bytes(words, bytes, holds, frame, standing);
-    let mut store = Store {
-        words,
-        bytes,
-        shape,
-    };
-    standby_pending_run::run_if(&mut store, is_answered(outcome.answer));
+    let outcome = on_bytes(standing, areas, frame);
+    let shape = standing.settings.shape;
+    let bytes = &mut *areas.bytes;
+    standby_pending_run::run_if(areas.words, bytes, shape, is_answered(outcome.answer));
     outcome
 }

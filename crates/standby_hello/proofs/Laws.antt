@@ -9,7 +9,7 @@ use Rattle.model_frame.specs.Frame.{welcome, nack, ack, stale_epoch, restarted}
 use Rattle.model_frame.specs.Parse.{is_empty}
 use Rattle.frame_fields.specs.declared.Epoch.{Epoch}
 use Rattle.frame_fields.specs.declared.Incarnation.{Incarnation}
-use Rattle.standby_row.specs.declared.Lookup.{Lookup}
+use Rattle.standby_row.specs.declared.lookup.Lookup.{Lookup}
 use Rattle.model_standby.specs.Answer.{reply}
 use Rattle.model_standby.specs.Store.{Place}
 use Rattle.model_standby.specs.State.{connected, checked_at}

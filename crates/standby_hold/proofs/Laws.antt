@@ -68,29 +68,30 @@ module _ (version : ℕ) (run area : List ℕ) (len sum : ℕ) {used before more
   size : length run ≡ sizes cs
   size = sym all
 
-  pub no_reset : lacks ≡ true → HoldIs version run area len sum area (Err HoldError.NoReset)
-  no_reset h = record { refusal = sym (ap (λ (x : Bool). cond x 16 (cond (ltb max_whole (sum_of H sum cs)) 17 (cond (ltb (length area) (sizes H + sizes cs)) 18 0))) (sym lacking ∙ h)); told = tt; written = refl }
+  pub no_reset : lacks ≡ true → HoldIs version run area len sum area (Err (record { why = HoldError.NoReset; held = record { used = used; sum = s } }))
+  no_reset h = record { refusal = sym (ap (λ (x : Bool). cond x 16 (cond (ltb max_whole (sum_of H sum cs)) 17 (cond (ltb (length area) (sizes H + sizes cs)) 18 0))) (sym lacking ∙ h)); summed = total; ends = u; written = refl }
 
   past_16 : lacks ≡ false → refusal_of H sum cs (length area) ≡ cond (ltb max_whole s) 17 (cond (ltb (length area) (sizes H + sizes cs)) 18 0)
   past_16 h =
       ap (λ (x : Bool). cond x 16 (cond (ltb max_whole (sum_of H sum cs)) 17 (cond (ltb (length area) (sizes H + sizes cs)) 18 0))) (sym lacking ∙ h)
       ∙ ap (λ (k : ℕ). cond (ltb max_whole k) 17 (cond (ltb (length area) (sizes H + sizes cs)) 18 0)) (sym total)
 
-  pub too_much : lacks ≡ false → 4294967296 < s → HoldIs version run area len sum area (Err (HoldError.TooManyBytes (record { used = used; sum = s })))
-  too_much h g = record { refusal = sym (past_16 h ∙ ap (λ (x : Bool). cond x 17 (cond (ltb (length area) (sizes H + sizes cs)) 18 0)) (lt-ltb max_whole s g)); told = (u, total); written = refl }
+  pub too_much : lacks ≡ false → 4294967296 < s → HoldIs version run area len sum area (Err (record { why = HoldError.TooManyBytes; held = record { used = used; sum = s } }))
+  too_much h g = record { refusal = sym (past_16 h ∙ ap (λ (x : Bool). cond x 17 (cond (ltb (length area) (sizes H + sizes cs)) 18 0)) (lt-ltb max_whole s g)); summed = total; ends = u; written = refl }
 
   past_17 : lacks ≡ false → s ≤ 4294967296 → refusal_of H sum cs (length area) ≡ cond (ltb (length area) (used + length run)) 18 0
   past_17 h g =
       past_16 h ∙ ap (λ (x : Bool). cond x 17 (cond (ltb (length area) (sizes H + sizes cs)) 18 0)) (le-ltb max_whole s g)
       ∙ ap (λ (k : ℕ). cond (ltb (length area) (k + sizes cs)) 18 0) (sym u) ∙ ap (λ (k : ℕ). cond (ltb (length area) (used + k)) 18 0) (sym size)
 
-  pub no_room : lacks ≡ false → s ≤ 4294967296 → length area < used + length run → HoldIs version run area len sum area (Err HoldError.AreaFull)
-  no_room h g r = record { refusal = sym (past_17 h g ∙ ap (λ (x : Bool). cond x 18 0) (lt-ltb (length area) (used + length run) r)); told = tt; written = refl }
+  pub no_room : lacks ≡ false → s ≤ 4294967296 → length area < used + length run → HoldIs version run area len sum area (Err (record { why = HoldError.AreaFull; held = record { used = used; sum = s } }))
+  no_room h g r = record { refusal = sym (past_17 h g ∙ ap (λ (x : Bool). cond x 18 0) (lt-ltb (length area) (used + length run) r)); summed = total; ends = u; written = refl }
 
   pub held : lacks ≡ false → s ≤ 4294967296 → used + length run ≤ length area → {area' : List ℕ} → area' ≡ write area used run
       → HoldIs version run area len sum area' (Ok (record { used = used + length run; sum = s }))
   held h g r {area'} w = record {
     refusal = sym (past_17 h g ∙ ap (λ (x : Bool). cond x 18 0) (le-ltb (length area) (used + length run) r));
-    told = (ap (λ (k : ℕ). k + length run) u, total);
+    summed = total;
+    ends = ap (λ (k : ℕ). k + length run) u;
     written = w ∙ ap (λ (k : ℕ). write area k run) u;
   }

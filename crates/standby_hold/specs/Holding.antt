@@ -10,6 +10,7 @@ use Rattle.model_standby.specs.Standby.{max_whole, starts_with_reset}
 use Rattle.frame_op.specs.Answers.{held_run}
 use Rattle.standby_hold.specs.declared.Held.{Held}
 use Rattle.standby_hold.specs.declared.HoldError.{HoldError}
+use Rattle.standby_hold.specs.declared.NotHeld.{NotHeld}
 
 -- the byte sum with these changes: with nothing held it counts from 0, and it stops at 2^64 - 1
 abbrev pub sum_of : List Change → ℕ → List Change → ℕ
@@ -22,22 +23,25 @@ refusal_of held sum cs room =
     (cond (ltb max_whole (sum_of held sum cs)) Refusal.too_many_bytes
     (cond (ltb room (sizes held + sizes cs)) Refusal.hold_area_full 0))
 
--- 0, or the refusal's number, as it is answered
-abbrev pub hold_refusal : Result Held HoldError → ℕ
-hold_refusal (Ok h) = 0
-hold_refusal (Err HoldError.NoReset) = Refusal.no_reset
-hold_refusal (Err (HoldError.TooManyBytes h)) = Refusal.too_many_bytes
-hold_refusal (Err HoldError.AreaFull) = Refusal.hold_area_full
+-- a refusal's number
+abbrev pub number_of : HoldError → ℕ
+number_of HoldError.NoReset = Refusal.no_reset
+number_of HoldError.TooManyBytes = Refusal.too_many_bytes
+number_of HoldError.AreaFull = Refusal.hold_area_full
 
--- where the answer tells them: the bytes held, those before and the run's, or where it is refused those before alone; and the byte sum with the run's
-abbrev pub Tells : Result Held HoldError → ℕ → ℕ → ℕ → Type 0
-Tells (Ok h) before more sum = (h.used ≡ before + more) × (h.sum ≡ sum)
-Tells (Err HoldError.NoReset) before more sum = Unit {0}
-Tells (Err (HoldError.TooManyBytes h)) before more sum = (h.used ≡ before) × (h.sum ≡ sum)
-Tells (Err HoldError.AreaFull) before more sum = Unit {0}
+-- 0, or the refusal's number, as it is answered
+abbrev pub hold_refusal : Result Held NotHeld → ℕ
+hold_refusal (Ok h) = 0
+hold_refusal (Err e) = number_of e.why
+
+-- what is held, as the answer tells
+abbrev pub told_held : Result Held NotHeld → Held
+told_held (Ok h) = h
+told_held (Err e) = e.held
 
 -- over the area as it was and is, with so many bytes of it held, and their byte sum
-pub record HoldIs (version : ℕ) (run area : List ℕ) (len sum : ℕ) (area' : List ℕ) (r : Result Held HoldError) : Type 0 where
+pub record HoldIs (version : ℕ) (run area : List ℕ) (len sum : ℕ) (area' : List ℕ) (r : Result Held NotHeld) : Type 0 where
   pub refusal : hold_refusal r ≡ refusal_of (held_run version (take len area)) sum (held_run version run) (length area)
-  pub told : Tells r (sizes (held_run version (take len area))) (length run) (sum_of (held_run version (take len area)) sum (held_run version run))
+  pub summed : (told_held r).sum ≡ sum_of (held_run version (take len area)) sum (held_run version run)
+  pub ends : (told_held r).used ≡ cond (eqb (hold_refusal r) 0) (sizes (held_run version (take len area)) + length run) (sizes (held_run version (take len area)))
   pub written : area' ≡ cond (eqb (hold_refusal r) 0) (write area (sizes (held_run version (take len area))) run) area

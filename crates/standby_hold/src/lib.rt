@@ -1,7 +1,7 @@
 // Holding a part of a session that is sent whole, until the last (standby.rs, hold).
 #![tactic(auto)]
 
-ghost use Rattle.std.specs.Prelude.{◌≡◌, cond, not, ◌&&◌, ◌≤◌, length, take, eqb};
+ghost use Rattle.std.specs.Prelude.{◌≡◌, cond, not, ◌&&◌, ◌≤◌, length, eqb};
 ghost use Rattle.model_frame.specs.Sizes.{sizes};
 ghost use Rattle.model_standby.specs.Standby.{starts_with_reset};
 ghost use Rattle.frame_op.specs.Answers.{held_run};
@@ -23,10 +23,18 @@ pub struct Held {
 pub enum HoldError {
     // Nothing is held and no Reset stands in front.
     NoReset,
-    // The messages have too many bytes: what is held stays, and the byte sum counts them all the same.
-    TooManyBytes(Held),
+    // The messages have too many bytes.
+    TooManyBytes,
     // The area is too short.
     AreaFull,
+}
+
+// A run isn't held: why, and what is held as before, with a byte sum that counts the run's messages all the same.
+// The sum is told with each of the three, and a caller keeps it for TooManyBytes.
+#[derive(Clone, Copy, Debug, PartialEq, Eq)]
+pub struct NotHeld {
+    pub why: HoldError,
+    pub held: Held,
 }
 
 // The byte sum of what is held: with nothing held it counts as 0.
@@ -43,32 +51,41 @@ fn lacks_reset(changes: &Changes, used: usize) -> bool
     used == 0 && !changes.starts_with_reset()
 }
 
-// How many of the first `len` bytes of the area the changes held there take.
-fn held_length(protocol: Protocol, area: &[u8], len: usize) -> usize
-    requires { len ≤ length area.now }
+// How many of an area's bytes the changes held there take.
+fn held_length(protocol: Protocol, area: &[u8]) -> usize
     ensures within { result ≤ length area.now }
-    ensures is { result ≡ sizes (held_run protocol.version (take len area.now)) }
+    ensures is { result ≡ sizes (held_run protocol.version area.now) }
 {
-    Changes::new(protocol, &area[0..len]).run_length()
+    Changes::new(protocol, area).run_length()
 }
 
 // Writes a run of changes after those held in the first bytes of the area, whose number and messages' byte sum are given.
-pub fn hold(all: &AllChanges, area: &mut [u8], held: Held) -> Result<Held, HoldError>
+pub fn hold(all: &AllChanges, area: &mut [u8], held: Held) -> Result<Held, NotHeld>
     requires { held.used ≤ length area.old }
     ensures { HoldIs all.now.changes.protocol.version all.now.changes.run.now area.old held.used held.sum area.new result }
 {
     let changes = &all.changes;
-    let used = held_length(changes.protocol, area, held.used);
+    let used = held_length(changes.protocol, &area[0..held.used]);
     let sum = counted(used, held.sum).saturating_add(changes.message_bytes());
     let end = used + changes.run.len();
+    let held = Held { used, sum };
     if lacks_reset(changes, used) {
-        return Err(HoldError::NoReset);
+        return Err(NotHeld {
+            why: HoldError::NoReset,
+            held,
+        });
     }
     if Replica::MAX_WHOLE_SESSION_BYTES < sum {
-        return Err(HoldError::TooManyBytes(Held { used, sum }));
+        return Err(NotHeld {
+            why: HoldError::TooManyBytes,
+            held,
+        });
     }
     if area.len() < end {
-        return Err(HoldError::AreaFull);
+        return Err(NotHeld {
+            why: HoldError::AreaFull,
+            held,
+        });
     }
     base_bytes::copy(changes.run, area, used);
     Ok(Held { used: end, sum })

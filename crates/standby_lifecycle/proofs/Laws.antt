@@ -5,11 +5,12 @@ use mathlib.Core.Bool.{Bool, true, false, cond, not, ◌&&◌, ◌||◌, true≢
 use mathlib.Core.List.{List}
 use native.Mathlib.Omega.{arith}
 use lib.ListN.{length, get_or, set, length-set}
-use lib.Dec.{eqb, ltb}
+use lib.Dec.{eqb}
 use borrow.Author.Tests.{eq-eqb, ne_eqb}
 use Rattle.base_flags.specs.Flag.{is_set}
 use Rattle.base_flags.proofs.Flags.{set_so, clear_so}
-use Rattle.standby_row.specs.declared.Lookup.{Lookup}
+use Rattle.standby_row.specs.declared.lookup.Lookup.{Lookup}
+use Rattle.standby_row.specs.Row.{has_place}
 use Rattle.store_areas.specs.declared.Shape.{Shape}
 use Rattle.store_areas.specs.Areas.{words_at, bytes_at, allowed, Rules}
 use Rattle.store_areas.proofs.Ruling.{rules_of}
@@ -35,19 +36,7 @@ use Rattle.standby_state.proofs.Exact.{exact_done, exact_refused}
 use Rattle.standby_step.specs.Steps.{room_in, found_in, seen_allowed, Stepped, StepIs}
 use Rattle.standby_lifecycle.specs.Calls.{promoted_from, Promoted}
 
--- ---- forgetting the pending commits, if asked
-
-pub forgets : (t : Bool) (w : List ℕ) {w' : List ℕ} → t ≡ true → w' ≡ set w 1 0 → w' ≡ cond t (set w 1 0) w
-forgets t w e first = first ∙ sym (ap (λ (x : Bool). cond x (set w 1 0) w) e)
-
-pub keeps_all : (t : Bool) (w : List ℕ) → t ≡ false → w ≡ cond t (set w 1 0) w
-keeps_all t w e = sym (ap (λ (x : Bool). cond x (set w 1 0) w) e)
-
 -- ---- promotion
-
--- what taking over asks of the words, once the pending commits are forgotten
-pub still_kept : (s : Shape) (w b : List ℕ) {w1 : List ℕ} → Rules s w b → w1 ≡ set w 1 0 → Rules s w1 b
-still_kept s w b r first = subst (λ (x : List ℕ). Rules s x b) (sym first) (clear_rules s w b r)
 
 pub promoted_is : (s : Shape) (lag : ℕ) (c : Replica) (w b : List ℕ) → Rules s w b → {w1 w' b' : List ℕ} {r : Outcome} {d : Replica} {a : Answer} → w1 ≡ set w 1 0 → TakenOver s lag w1 w' b b'
     → d ≡ promoted_from c → a ≡ is_done → r ≡ clearing d a → Promoted s lag c w w' b b' r
@@ -110,7 +99,7 @@ module _ (s : Settings) (c : Replica) (seen : Lookup) (w b h : List ℕ) where
       abbrev Flush : Bool → CoreResult
       Flush t = cond t (core_refuse Was leave 22) (core_done (core_run true Was) leave)
 
-      flush_by : (t : Bool) → (not (eqb n c.connections) || is_set c.promoted) ≡ t → core_step (settings_of s (room_in seen h)) Was (found_in seen h) (ltb seen.free seen.len) (flush n) ≡ Flush t
+      flush_by : (t : Bool) → (not (eqb n c.connections) || is_set c.promoted) ≡ t → core_step (settings_of s (room_in seen h)) Was (found_in seen h) (has_place seen) (flush n) ≡ Flush t
       unfolding core_step
       flush_by t e = ap Flush e
 
@@ -143,18 +132,18 @@ module _ (s : Settings) (c : Replica) (seen : Lookup) (w b h : List ℕ) where
       abbrev Lost : Bool → CoreResult
       Lost t = cond t (core_done (core_unbound Was) clear) (core_done Was leave)
 
-      lost_by : (t : Bool) → eqb n c.connections ≡ t → core_step (settings_of s (room_in seen h)) Was (found_in seen h) (ltb seen.free seen.len) (disconnected_from n) ≡ Lost t
+      lost_by : (t : Bool) → eqb n c.connections ≡ t → core_step (settings_of s (room_in seen h)) Was (found_in seen h) (has_place seen) (disconnected_from n) ≡ Lost t
       unfolding core_step
       lost_by t e = ap Lost e
 
+      -- the words after it, by whether it is the newest connection
       abbrev Left : Bool → List ℕ
       Left t = cond t (set w 1 0) w
 
-      pub other_lost : {w' : List ℕ} {r : Outcome} {a : Answer} → (n ≡ c.connections → ⊥) → w' ≡ Left (eqb n c.connections) → a ≡ is_done → r ≡ leaving c a → StepIs s c seen (disconnected_from n) w w' b b h h r
-      other_lost {w'} {r} other left e₁ e₂ =
+      pub other_lost : {r : Outcome} {a : Answer} → (n ≡ c.connections → ⊥) → a ≡ is_done → r ≡ leaving c a → StepIs s c seen (disconnected_from n) w w b b h h r
+      other_lost {r} other e₁ e₂ =
           let e : eqb n c.connections ≡ false = ne_eqb n c.connections other in
-          subst (λ (x : List ℕ). StepIs s c seen (disconnected_from n) w x b b h h r) (sym (left ∙ ap Left e))
-          (subst (StepIs s c seen (disconnected_from n) w w b b h h) (sym (e₂ ∙ ap (leaving c) e₁)) (stepped (disconnected_from n) (exact_done b) (record {
+          subst (StepIs s c seen (disconnected_from n) w w b b h h) (sym (e₂ ∙ ap (leaving c) e₁)) (stepped (disconnected_from n) (exact_done b) (record {
             is = sym (lost_by false e);
             lands = tt;
             kept = λ _. refl;
@@ -162,13 +151,13 @@ module _ (s : Settings) (c : Replica) (seen : Lookup) (w b h : List ℕ) where
             more = omega arith;
             leaves = (sym (ap Left e), refl);
             holds = refl;
-          })))
+          }))
 
-      pub own_lost : {w' : List ℕ} {r : Outcome} {a : Answer} → n ≡ c.connections → w' ≡ Left (eqb n c.connections) → a ≡ is_done → r ≡ clearing c a → StepIs s c seen (disconnected_from n) w w' b b h h r
+      pub own_lost : {w' : List ℕ} {r : Outcome} {a : Answer} → n ≡ c.connections → w' ≡ set w 1 0 → a ≡ is_done → r ≡ clearing c a → StepIs s c seen (disconnected_from n) w w' b b h h r
       own_lost {w'} {r} same left e₁ e₂ =
           let e : eqb n c.connections ≡ true = eq-eqb n c.connections same in
           let long : 66 ≤ length w = front_there on in
-          subst (λ (x : List ℕ). StepIs s c seen (disconnected_from n) w x b b h h r) (sym (left ∙ ap Left e))
+          subst (λ (x : List ℕ). StepIs s c seen (disconnected_from n) w x b b h h r) (sym left)
           (subst (StepIs s c seen (disconnected_from n) w (set w 1 0) b b h h) (sym (e₂ ∙ ap (clearing c) e₁)) (stepped (disconnected_from n) (exact_done b) (record {
             is = (λ j. record { core = record { counters = counters_of c; places = places_kept s.shape w (set w 1 0) b (clear_only w) j; pending = cleared w long j }; action = clear; answer = done })
                 ∙ sym (lost_by true e);
@@ -185,11 +174,11 @@ module _ (s : Settings) (c : Replica) (seen : Lookup) (w b h : List ℕ) where
     abbrev Promote : Bool → CoreResult
     Promote t = cond t (core_done (core_promotion (settings_of s (room_in seen h)) Was) clear) (core_refuse Was leave 23)
 
-    promote_by : (t : Bool) → is_set c.checked ≡ t → core_step (settings_of s (room_in seen h)) Was (found_in seen h) (ltb seen.free seen.len) promote ≡ Promote t
+    promote_by : (t : Bool) → is_set c.checked ≡ t → core_step (settings_of s (room_in seen h)) Was (found_in seen h) (has_place seen) promote ≡ Promote t
     unfolding core_step
     promote_by t e = ap Promote e
 
-    unchecked_by : core_step (settings_of s (room_in seen h)) Was (found_in seen h) (ltb seen.free seen.len) promote_unchecked ≡ Promote true
+    unchecked_by : core_step (settings_of s (room_in seen h)) Was (found_in seen h) (has_place seen) promote_unchecked ≡ Promote true
     unfolding core_step
     unchecked_by = refl
 

@@ -26,6 +26,7 @@ use Rattle.store_areas.specs.Areas.{Rules}
 use Rattle.standby_commit.proofs.Laws.{none_changed}
 use Rattle.standby_hold.specs.declared.Held.{Held}
 use Rattle.standby_hold.specs.declared.HoldError.{HoldError}
+use Rattle.standby_hold.specs.declared.NotHeld.{NotHeld}
 use Rattle.standby_hold.specs.Holding.{sum_of, hold_refusal, HoldIs}
 use Rattle.standby_hold.proofs.Laws.{within}
 use Rattle.model_standby.specs.Answer.{reply, refused}
@@ -73,7 +74,7 @@ other k y go false false true n m = refl
 other k y go false false false n m = absurd (n refl)
 
 module _ (version : ℕ) (h : Bound) (n : CommitNumber) (run area : List ℕ) (s : Shape) (w b : List ℕ) (c : Counters) (incarnation lag : ℕ) (go : CoreResult)
-    {area' : List ℕ} {r : Result Held HoldError} (g : HoldIs version run area h.held_len h.held_bytes area' r) where
+    {area' : List ℕ} {r : Result Held NotHeld} (g : HoldIs version run area h.held_len h.held_bytes area' r) where
   abbrev L : Settings
   L = settings_for s (length area) incarnation lag
 
@@ -129,25 +130,25 @@ module _ (version : ℕ) (h : Bound) (n : CommitNumber) (run area : List ℕ) (s
   Is d = PartIs version s h n.0 part (held_run version run) w w b b area area' d
 
   -- what was held stays so, and is counted
-  sum_kept : (x : Held) → HoldIs version run area h.held_len h.held_bytes area' (Err (HoldError.TooManyBytes x)) → Is (not_held h (HoldError.TooManyBytes x))
+  sum_kept : (x : Held) → HoldIs version run area h.held_len h.held_bytes area' (Err (record { why = HoldError.TooManyBytes; held = x })) → Is (not_held h x HoldError.TooManyBytes)
   sum_kept x g = record {
     is = λ c incarnation lag.
         (λ j. record {
           core = core_at c s w b;
-          action = store h.handle (record { place = h.place; number = h.commit_no.0; held = front j; bytes = g.told.1 j });
+          action = store h.handle (record { place = h.place; number = h.commit_no.0; held = front j; bytes = g.summed j });
           answer = refused 17;
         })
         ∙ sym (on c incarnation lag ∙ hold_sum version h n run area s w b c incarnation lag (go c incarnation lag) g refl);
     rules = rules;
     store_after = none_changed s h.handle h.place part w b refl;
-    slot = record { place = refl; len = λ _. within version h.held_len area known g.told.0; held = g.told.0 ∙ sym (ap sizes front) };
+    slot = record { place = refl; len = λ _. within version h.held_len area known g.ends; held = g.ends ∙ sym (ap sizes front) };
   }
     where
       front : held_run version (take x.used area') ≡ J
-      front = (λ j. held_run version (take (g.told.0 j) (g.written j))) ∙ held_in version area h.held_len (are_bytes area known)
+      front = (λ j. held_run version (take (g.ends j) (g.written j))) ∙ held_in version area h.held_len (are_bytes area known)
 
   -- the two that change nothing
-  turned_down : (e : Refusal) (r : Result Held HoldError) → HoldIs version run area h.held_len h.held_bytes area' r → hold_refusal r ≡ number_of e → (number_of e ≡ 0 → ⊥) → (number_of e ≡ 17 → ⊥) → Is (PartResult.Refused e)
+  turned_down : (e : Refusal) (r : Result Held NotHeld) → HoldIs version run area h.held_len h.held_bytes area' r → hold_refusal r ≡ number_of e → (number_of e ≡ 0 → ⊥) → (number_of e ≡ 17 → ⊥) → Is (PartResult.Refused e)
   turned_down e r g is zero seventeen = record {
     is = λ c incarnation lag.
         sym (on c incarnation lag
@@ -158,10 +159,10 @@ module _ (version : ℕ) (h : Bound) (n : CommitNumber) (run area : List ℕ) (s
     slot = tt;
   }
 
-  pub not_held_is : (e : HoldError) → HoldIs version run area h.held_len h.held_bytes area' (Err e) → Is (not_held h e)
-  not_held_is HoldError.NoReset g = turned_down Refusal.NoReset (Err HoldError.NoReset) g refl (eqb-false 16 0 refl) (eqb-false 16 17 refl)
-  not_held_is (HoldError.TooManyBytes x) g = sum_kept x g
-  not_held_is HoldError.AreaFull g = turned_down Refusal.HoldAreaFull (Err HoldError.AreaFull) g refl (eqb-false 18 0 refl) (eqb-false 18 17 refl)
+  pub not_held_is : (x : Held) (e : HoldError) → HoldIs version run area h.held_len h.held_bytes area' (Err (record { why = e; held = x })) → Is (not_held h x e)
+  not_held_is x HoldError.NoReset g = turned_down Refusal.NoReset _ g refl (eqb-false 16 0 refl) (eqb-false 16 17 refl)
+  not_held_is x HoldError.TooManyBytes g = sum_kept x g
+  not_held_is x HoldError.AreaFull g = turned_down Refusal.HoldAreaFull _ g refl (eqb-false 18 0 refl) (eqb-false 18 17 refl)
 
 -- ---- Whole
 
@@ -189,14 +190,14 @@ module _ (version : ℕ) (h : Bound) (n : CommitNumber) (run area : List ℕ) wh
         omega (arith, ltb-false (length area) (sizes K + sizes (held_run version run)) room, all)
 
     pub used_within : x.used ≤ length area
-    used_within = omega (arith, within_area, g.told.0)
+    used_within = omega (arith, within_area, g.ends)
 
     -- what is held then: those before, and its own
     held_now : held_run version (take x.used area') ≡ K ++ held_run version run
     held_now =
         let ha : T (is_bytes area) = are_bytes area known in
         let front : held_run version (take (sizes K) area) ≡ K = held_in version area h.held_len ha in
-        ap (λ (m : ℕ). held_run version (take m area')) g.told.0 ∙ ap (λ (l : List ℕ). held_run version (take (sizes K + length run) l)) g.written
+        ap (λ (m : ℕ). held_run version (take m area')) g.ends ∙ ap (λ (l : List ℕ). held_run version (take (sizes K + length run) l)) g.written
         ∙ held_written version area (sizes K) run ha hr within_area (ap sizes front) ∙ ap (λ (l : List Change). l ++ held_run version run) front
 
     pub whole_held : (s : Shape) (w b : List ℕ) → Rules s w b → PartIs version s h n.0 whole (held_run version run) w w b b area area' (PartResult.Accepted (holding_to h n x.used x.sum))
@@ -205,7 +206,7 @@ module _ (version : ℕ) (h : Bound) (n : CommitNumber) (run area : List ℕ) wh
       is = λ c incarnation lag.
           (λ j. record {
             core = core_at c s w b;
-            action = store h.handle (record { place = h.place; number = n.0; held = held_now j; bytes = g.told.1 j });
+            action = store h.handle (record { place = h.place; number = n.0; held = held_now j; bytes = g.summed j });
             answer = reply (ack h.handle n.0);
           })
           ∙ sym (hold_goes version h n run area s w b c incarnation lag (core_says (core_at c s w b) (store h.handle (holding (bound_of version h area) n.0 (held_run version run))) (ack h.handle n.0)) g refl);
@@ -214,7 +215,7 @@ module _ (version : ℕ) (h : Bound) (n : CommitNumber) (run area : List ℕ) wh
       slot = record {
         place = refl;
         len = λ _. used_within;
-        held = omega (arith, g.told.0, ap sizes held_now, sizes_append K (held_run version run), all);
+        held = omega (arith, g.ends, ap sizes held_now, sizes_append K (held_run version run), all);
       };
     }
 

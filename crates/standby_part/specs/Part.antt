@@ -11,6 +11,7 @@ use Rattle.frame_op.specs.Answers.{held_run}
 use Rattle.standby_row.specs.declared.Bound.{Bound}
 use Rattle.store_areas.specs.declared.Shape.{Shape}
 use Rattle.store_areas.specs.Areas.{Rules}
+use Rattle.standby_hold.specs.declared.Held.{Held}
 use Rattle.standby_hold.specs.declared.HoldError.{HoldError}
 use Rattle.standby_commit.specs.Settling.{batch_change, StoreAfter, Settles}
 use Rattle.model_standby.specs.Answer.{Answer, reply, refused}
@@ -61,10 +62,10 @@ result_of version h n area d k = record { core = k; action = action_by version h
 -- ---- the parts
 
 -- the refusals of a part whose changes aren't held
-abbrev pub not_held : Bound → HoldError → PartResult
-not_held h HoldError.NoReset = PartResult.Refused Refusal.NoReset
-not_held h (HoldError.TooManyBytes x) = PartResult.RefusedHolding Refusal.TooManyBytes (holding_to h h.commit_no x.used x.sum)
-not_held h HoldError.AreaFull = PartResult.Refused Refusal.HoldAreaFull
+abbrev pub not_held : Bound → Held → HoldError → PartResult
+not_held h x HoldError.NoReset = PartResult.Refused Refusal.NoReset
+not_held h x HoldError.TooManyBytes = PartResult.RefusedHolding Refusal.TooManyBytes (holding_to h h.commit_no x.used x.sum)
+not_held h x HoldError.AreaFull = PartResult.Refused Refusal.HoldAreaFull
 
 -- the changes are settled at the record's place; the record takes the number if they are applied
 pub record SettledIs (s : Shape) (h : Bound) (n : CommitNumber) (cs : List Change) (w w' b b' : List ℕ) (d : PartResult) : Type 0 where

@@ -13,7 +13,7 @@ use base_refusals::Refusal;
 use frame_fields::CommitNumber;
 use frame_stamp::Protocol;
 use standby_changes::{AllChanges, Changes};
-use standby_hold::{Held, HoldError};
+use standby_hold::{Held, HoldError, NotHeld};
 use standby_row::Bound;
 use store_areas::Store;
 
@@ -44,14 +44,14 @@ fn with_held(bound: Bound, number: CommitNumber, held: Held) -> Bound
 }
 
 // What a part gives whose changes aren't held.
-fn not_held(bound: Bound, error: HoldError) -> PartResult
-    ensures { result ≡ not_held bound error }
+fn not_held(bound: Bound, error: NotHeld) -> PartResult
+    ensures { result ≡ not_held bound error.held error.why }
 {
-    match error {
+    match error.why {
         HoldError::NoReset => PartResult::Refused(Refusal::NoReset),
-        HoldError::TooManyBytes(held) => PartResult::RefusedHolding(
+        HoldError::TooManyBytes => PartResult::RefusedHolding(
             Refusal::TooManyBytes,
-            with_held(bound, bound.commit_no, held),
+            with_held(bound, bound.commit_no, error.held),
         ),
         HoldError::AreaFull => PartResult::Refused(Refusal::HoldAreaFull),
     }
@@ -73,7 +73,7 @@ fn settle(changes: &Changes, store: &mut Store, bound: Bound, number: CommitNumb
     PartResult::Diverged(bound)
 }
 
-// The changes that an area holds in its first `len` bytes.
+// The changes that an area holds in its first `len` bytes: of its own, so that what the part of the area is stands once.
 fn held_changes(protocol: Protocol, area: &[u8], len: usize) -> Changes<'_>
     requires { len ≤ length area.now }
     ensures protocol { result.protocol ≡ protocol }
@@ -108,6 +108,7 @@ pub fn on_commit(
 }
 
 // A Whole: its changes are held after those before them.
+// What is held before is written out here and below: a function for it, with its clause, would be longer than the two.
 pub fn on_whole(
     changes: &AllChanges,
     area: &mut [u8],

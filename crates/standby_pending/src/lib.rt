@@ -1,5 +1,5 @@
 // The pending commits, in the first words of a store: their number at word 1, then for each the place of its session and its handle.
-// Each takes the words alone, and asks for those before the places.
+// Each takes the words alone, and asks for those before the places: standby_control and a lost line drop the commits without a Store.
 #![tactic(auto)]
 
 ghost use Rattle.std.specs.Prelude.{◌≡◌, [], ◌∷◌, ◌++◌, ◌+◌, ◌*◌, ◌-◌, ◌≤◌, ◌<◌, length, get_or, set};

@@ -1,49 +1,50 @@
 // What the standby does with pending commits: each marks its session as durable.
 #![tactic(auto)]
 
-ghost use Rattle.std.specs.Prelude.{◌≡◌, ◌||◌, not, ◌≤◌, leb, length, get_or};
+ghost use Rattle.std.specs.Prelude.{◌≡◌, ◌||◌, not, ◌+◌, ◌*◌, ◌≤◌, leb, length, get_or};
 ghost use Rattle.model_frame.specs.Parse.{is_empty};
 ghost use Rattle.model_standby.specs.Standby.{pends_on};
-ghost use Rattle.store_areas.specs.Same.{SameAreas};
+ghost use Rattle.store_areas.specs.Areas.{place_words, Rules};
 ghost use Rattle.standby_pending.specs.Pending.{count_of, pending_of};
 ghost use Rattle.standby_pending_run.specs.Commits.{marked_at, Ran, RanIf};
 
 use standby_counters::Replica;
-use store_areas::{Store, word};
+use store_areas::{Shape, word};
 
-// Marks the session at place i, if that is in use.
-fn mark_used(store: &mut Store, place: u64)
-    ensures is { store.new.words.now ≡ marked_at store.old.shape (get_or store.old.words.now 0 0) place store.old.words.now }
-    ensures bytes { store.new.bytes.now ≡ store.old.bytes.now }
-    ensures same { SameAreas store.old store.new }
+// Marks the session at a place, if that is in use.
+// The words alone, as `run`; the clauses are `mark_durable`'s.
+fn mark_used(words: &mut [u64], shape: Shape, place: u64)
+    requires messages_bound { shape.messages ≤ 65536 }
+    requires shape_in_bounds { 66 + shape.places * place_words shape ≤ length words.old }
+    requires words_bound { get_or words.old 0 0 ≤ shape.places }
+    ensures { words.new ≡ marked_at shape (get_or words.old 0 0) place words.old }
 {
-    if place < store.words[word::USED] {
-        store_areas::mark_durable(store.words, store.shape, place as usize);
+    if place < words[word::USED] {
+        store_areas::mark_durable(words, shape, place as usize);
     }
 }
 
 // Runs all pending commits: the session of each is marked, and none is pending any more.
-pub fn run(store: &mut Store)
-    ensures is { Ran store.old.shape store.old.bytes.now store.old.words.now store.new.words.now }
-    ensures bytes { store.new.bytes.now ≡ store.old.bytes.now }
-    ensures same { SameAreas store.old store.new }
+// The slices come apart: a Store would lend the bytes to be changed.
+pub fn run(words: &mut [u64], bytes: &[u8], shape: Shape)
+    requires { Rules shape words.old bytes.now }
+    ensures { Ran shape bytes.now words.old words.new }
 {
-    let n = store.words[word::PENDING] as usize;
+    let n = words[word::PENDING] as usize;
     for i in 0..n {
-        let place = store.words[word::COMMITS + i] / standby_pending::HANDLE_COUNT;
-        mark_used(store, place);
+        let place = words[word::COMMITS + i] / standby_pending::HANDLE_COUNT;
+        mark_used(words, shape, place);
     }
-    store.words[word::PENDING] = 0;
+    words[word::PENDING] = 0;
 }
 
-// Runs all pending commits if they are due.
-pub fn run_if(store: &mut Store, due: bool)
-    ensures is { RanIf due store.old.shape store.old.bytes.now store.old.words.now store.new.words.now }
-    ensures bytes { store.new.bytes.now ≡ store.old.bytes.now }
-    ensures same { SameAreas store.old store.new }
+// Runs all pending commits if they are due. The slices come apart: a Store would lend the bytes to be changed.
+pub fn run_if(words: &mut [u64], bytes: &[u8], shape: Shape, due: bool)
+    requires { Rules shape words.old bytes.now }
+    ensures { RanIf due shape bytes.now words.old words.new }
 {
     if due {
-        run(store);
+        run(words, bytes, shape);
     }
 }
 

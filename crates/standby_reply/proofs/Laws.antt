@@ -1,21 +1,26 @@
--- An answer that is no frame. Assumes nothing.
-use mathlib.Core.Path.{◌≡◌, refl, sym, ap, subst, ◌∙◌}
-use mathlib.Core.Bool.{Bool, false, cond}
+-- What `write` has of the frame that was answered, if there is one. Assumes nothing.
+use mathlib.Core.Path.{◌≡◌, refl, subst}
 use mathlib.Core.List.{List}
-use mathlib.Core.Option.{Option, none}
+use mathlib.Core.Option.{Option}
 use Prim.Native.Nat.{ℕ}
-use Rattle.model_frame.specs.Frame.{Reason, stale_epoch, diverged, lag_too_great, restarted, nack, bound}
+use Rattle.std.specs.Prelude as prelude
+use Rattle.std.specs.Prelude.{Some, None, Ok, Err, ok_or}
 use Rattle.model_frame.specs.Frame as the_frame
 use Rattle.model_frame.specs.Writing.{write_outcome}
+use Rattle.frame.specs.declared.Frame.{Frame}
+use Rattle.frame.specs.Answers.{frame_in}
 use Rattle.frame_writer.specs.Encoding.{Encoded}
-use Rattle.std.specs.Prelude.{Err}
 use Rattle.frame_writer.specs.declared.EncodeError.{EncodeError}
 use Rattle.standby_state.specs.declared.Answer.{Answer}
-use Rattle.standby_reply.specs.Replies.{is_frame, framed, frame_for}
+use Rattle.standby_reply.specs.Replies.{frame_for, Frames}
 
-module _ (b : List ℕ) (a : Answer) {t : Bool} (is : t ≡ is_frame a) {before : List ℕ} where
-  pub no_frame : t ≡ false → Encoded 1 (frame_for b a) before before (Err EncodeError.Unreadable)
-  unfolding write_outcome
-  no_frame off =
-      subst (λ (x : Option the_frame.Frame). Encoded 1 x before before (Err EncodeError.Unreadable)) (sym (ap (λ (y : Bool). cond y (framed b a) none) (sym is ∙ off)))
-      (record { answer = refl; area = refl })
+pub no_frame : {a : Answer} (b before : List ℕ) (r : prelude.Option Frame) (e : EncodeError) → Frames a r → Err e ≡ ok_or r EncodeError.Unreadable → Encoded 1 (frame_for b a) before before (Err e)
+unfolding write_outcome
+no_frame b before (Some f) e h q = cc
+no_frame b before None e h q =
+    let unreadable : e ≡ EncodeError.Unreadable = cc in
+    subst (λ (o : Option the_frame.Frame). Encoded 1 o before before (Err e)) (h.is b) (rw unreadable (record { answer = refl; area = refl }))
+
+pub its_frame : {a : Answer} (b : List ℕ) (r : prelude.Option Frame) (f : Frame) → Frames a r → Ok f ≡ ok_or r EncodeError.Unreadable → frame_in 1 b f ≡ frame_for b a
+its_frame b (Some x) f h q = cc (h.is b)
+its_frame b None f h q = cc

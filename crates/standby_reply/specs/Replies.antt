@@ -1,17 +1,14 @@
 -- The frame of an answer, if it has one. Assumes nothing.
-use Rattle.std.specs.Prelude.{ℕ, ◌≡◌, Bool, cond, ◌&&◌, ◌||◌, List, eqb, leb}
+use Rattle.std.specs.Prelude as prelude
+use Rattle.std.specs.Prelude.{Some, None, ℕ, ◌≡◌, Bool, cond, ◌&&◌, ◌||◌, List, eqb, leb}
 use Rattle.std.proofs.Math.Option.{Option, none, some}
-use Rattle.base_flags.specs.Flag.{is_set}
 use Rattle.model_frame.specs.FrameKind
 use Rattle.model_frame.specs.ReasonByte
 use Rattle.model_frame.specs.Frame as the_frame
 use Rattle.model_frame.specs.Frame.{welcome, ack, nack, bound}
-use Rattle.frame_fields.specs.declared.Summary.{Summary}
-use Rattle.frame_fields.specs.Answers.{summary_of}
 use Rattle.frame_writer.specs.Encoding.{span_fits, frame_if}
 use Rattle.frame.specs.declared.Frame.{Frame}
 use Rattle.frame.specs.Answers.{frame_in}
-use Rattle.standby_state.specs.declared.BoundSummary.{BoundSummary}
 use Rattle.standby_state.specs.declared.Answer.{Answer}
 use Rattle.standby_state.specs.Answers.{brief_of, reason_by}
 
@@ -39,14 +36,10 @@ frame_for b a = cond (is_frame a) (framed b a) none
 
 -- ---- of the functions within
 
-abbrev pub flight_by : ℕ → ℕ → Option ℕ
-flight_by has n = cond (is_set has) (some n) none
+-- the frame that there is, over the bytes where a Bound has its texts
+abbrev pub frame_of : List ℕ → prelude.Option Frame → Option the_frame.Frame
+frame_of b (Some f) = frame_in 1 b f
+frame_of b None = none
 
--- the same summary, its texts at the same parts
-pub record Shows (m : BoundSummary) (r : Summary) : Type 0 where
-  pub same : (b : List ℕ) → summary_of b r ≡ brief_of b m
-  pub stamp : r.created_at ≡ m.created_at
-  pub marks : r.marks ≡ m.marks
-
-pub record Frames (a : Answer) (r : Frame) : Type 0 where
-  pub is : (b : List ℕ) → frame_in 1 b r ≡ framed b a
+pub record Frames (a : Answer) (r : prelude.Option Frame) : Type 0 where
+  pub is : (b : List ℕ) → frame_of b r ≡ frame_for b a

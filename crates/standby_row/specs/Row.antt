@@ -1,9 +1,10 @@
 -- What the functions over a row of handles say: each is a definition on lists of the records.
 -- Assumes nothing.
-use Rattle.std.specs.Prelude.{ℕ, zero, suc, Bool, true, false, cond, not, ◌&&◌, ◌||◌, List, [], ◌∷◌, map, eqb, leb, ltb, length, get_or}
+use Rattle.std.specs.Prelude.{ℕ, zero, suc, Bool, true, false, cond, not, ◌&&◌, ◌||◌, List, [], ◌∷◌, map, eqb, leb, ltb, length, get_or, ◌≡◌, Option, Some, None, is_some}
 use Rattle.base_flags.specs.Flag.{is_set}
 use Rattle.standby_row.specs.declared.Bound.{Bound}
-use Rattle.standby_row.specs.declared.Lookup.{Lookup}
+use Rattle.standby_row.specs.declared.lookup.Found.{Found}
+use Rattle.standby_row.specs.declared.lookup.Lookup.{Lookup}
 
 -- what is read past the end of a row
 abbrev pub free_record : Bound
@@ -54,22 +55,42 @@ cleared_from zero hs = cleared_all hs
 cleared_from (suc i) [] = []
 cleared_from (suc i) (h ∷ hs) = h ∷ cleared_from i hs
 
--- all that is found for a handle: its place and record, the first free place, the length, the first record that breaks the rules
-abbrev pub seen_of : List Bound → ℕ → ℕ → ℕ → Lookup
-seen_of hs k places room = record { at = find_of hs k; free = free_of hs; len = length hs; broken = broken_of hs places room; bound = get_or hs (find_of hs k) free_record }
+-- a place of the row, if there is one
+abbrev pub place_in : List Bound → ℕ → Option ℕ
+place_in hs i = cond (ltb i (length hs)) (Some i) None
 
--- ---- one record after the other
+abbrev pub found_at : List Bound → ℕ → Found
+found_at hs i = record { at = i; bound = get_or hs i free_record }
 
--- what is found in a row of n records before any is looked at, and once the record h at place i is
-abbrev pub unseen : ℕ → Lookup
-unseen n = record { at = n; free = n; len = n; broken = n; bound = free_record }
+-- the first record that is used for a handle, with its place
+abbrev pub own_of : List Bound → ℕ → Option Found
+own_of hs k = cond (ltb (find_of hs k) (length hs)) (Some (found_at hs (find_of hs k))) None
 
-abbrev pub looked_at : Lookup → ℕ → Bound → ℕ → ℕ → ℕ → Lookup
-looked_at l i h k places room =
-    record {
-      at = cond (leb l.len l.at && is_of h k) i l.at;
-      free = cond (leb l.len l.free && is_free h) i l.free;
-      len = l.len;
-      broken = cond (leb l.len l.broken && breaks_of h places room) i l.broken;
-      bound = cond (leb l.len l.at && is_of h k) h l.bound;
-    }
+-- all that is found for a handle: its place and record, the first free place, the first whose record breaks the rules, the length
+pub record SeenOf (hs : List Bound) (k places room : ℕ) (seen : Lookup) : Type 0 where
+  pub own : seen.own ≡ own_of hs k
+  pub free : seen.free ≡ place_in hs (free_of hs)
+  pub broken : seen.broken ≡ place_in hs (broken_of hs places room)
+  pub len : seen.len ≡ length hs
+
+-- ---- what was found, and what stands for none
+
+-- the record's place, or the number n where none was found
+abbrev pub at_or : Option Found → ℕ → ℕ
+at_or None n = n
+at_or (Some f) n = f.at
+
+-- the record, or a free one where none was found
+abbrev pub record_or_free : Option Found → Bound
+record_or_free None = free_record
+record_or_free (Some f) = f.bound
+
+-- the handle's place, or the length; its record, or a free one; whether a place is free
+abbrev pub own_place : Lookup → ℕ
+own_place seen = at_or seen.own seen.len
+
+abbrev pub own_record : Lookup → Bound
+own_record seen = record_or_free seen.own
+
+abbrev pub has_place : Lookup → Bool
+has_place seen = is_some seen.free

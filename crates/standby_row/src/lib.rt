@@ -1,10 +1,14 @@
 // The bound handles: a lent row of records, searched by handle (standby.rs, where they are a map from handle to bound session).
 #![tactic(auto)]
 
-ghost use Rattle.std.specs.Prelude.{◌≡◌, set};
-ghost use Rattle.standby_row.specs.Row.{free_record, is_used, is_of, is_free, breaks_of, cleared_from, unseen, looked_at, seen_of};
+ghost use Rattle.std.specs.Prelude.{◌≡◌, position, set};
+ghost use Rattle.standby_row.specs.Row.{free_record, is_used, is_of, is_free, breaks_of, cleared_from, own_of, SeenOf};
 
 use frame_fields::CommitNumber;
+
+pub mod lookup;
+
+pub use lookup::{Found, Lookup};
 
 // A handle that is bound to a session's place, with what it holds back; a record that is not used is free.
 #[repr(C)]
@@ -19,7 +23,7 @@ pub struct Bound {
     pub held_bytes: u64,
 }
 
-// What is read past the end of a row.
+// A free record, of zeros.
 pub fn free_record() -> Bound
     ensures { result ≡ free_record }
 {
@@ -63,62 +67,46 @@ impl Bound {
     }
 }
 
-// What is found in a row for a handle. A place that there is none of is the length.
-#[repr(C)]
-#[derive(Clone, Copy)]
-pub struct Lookup {
-    // The handle's place: the first record that is used for it.
-    pub at: usize,
-    // The first free place.
-    pub free: usize,
-    // The row's length.
-    pub len: usize,
-    // The first place whose record breaks the rules.
-    pub broken: usize,
-    // The handle's record.
-    pub bound: Bound,
-}
-
-impl Lookup {
-    // What is found before any record is looked at.
-    pub fn nothing_seen(len: usize) -> Lookup
-        ensures { result ≡ unseen len }
-    {
-        Lookup {
-            at: len,
-            free: len,
-            len,
-            broken: len,
-            bound: free_record(),
-        }
-    }
-
-    // What is found once the record at place `i` is looked at too: the first of each kind counts.
-    pub fn look_at(self, i: usize, bound: Bound, handle: u32, places: usize, room: usize) -> Lookup
-        ensures { result ≡ looked_at self i bound handle places room }
-    {
-        let own = self.len <= self.at && bound.is_of(handle);
-        let free = self.len <= self.free && bound.is_free();
-        let broken = self.len <= self.broken && bound.breaks_rules(places, room);
-        Lookup {
-            at: if own { i } else { self.at },
-            free: if free { i } else { self.free },
-            len: self.len,
-            broken: if broken { i } else { self.broken },
-            bound: if own { bound } else { self.bound },
-        }
-    }
-}
-
-// All that a call must know of the row, found in one pass before it runs.
-pub fn find(row: &[Bound], handle: u32, places: usize, room: usize) -> Lookup
-    ensures { result ≡ seen_of row.now handle places room }
+// The place of the first record that is used for a handle.
+fn own_place(row: &[Bound], handle: u32) -> Option<usize>
+    ensures { result ≡ position (λ x. is_of x handle) row.now }
 {
-    let mut seen = Lookup::nothing_seen(row.len());
-    for (i, bound) in row.iter().enumerate() {
-        seen = seen.look_at(i, *bound, handle, places, room);
+    row.iter().position(|bound| bound.is_of(handle))
+}
+
+// The first record that is used for a handle.
+fn own_in(row: &[Bound], handle: u32) -> Option<Found>
+    ensures { result ≡ own_of row.now handle }
+{
+    let at = own_place(row, handle)?;
+    Some(Found { at, bound: row[at] })
+}
+
+// The first free place.
+fn free_in(row: &[Bound]) -> Option<usize>
+    ensures { result ≡ position is_free row.now }
+{
+    row.iter().position(|bound| bound.is_free())
+}
+
+// The first place whose record breaks the rules.
+fn broken_in(row: &[Bound], places: usize, room: usize) -> Option<usize>
+    ensures { result ≡ position (λ x. breaks_of x places room) row.now }
+{
+    row.iter()
+        .position(|bound| bound.breaks_rules(places, room))
+}
+
+// All that a call must know of the row before it runs.
+pub fn find(row: &[Bound], handle: u32, places: usize, room: usize) -> Lookup
+    ensures { SeenOf row.now handle places room result }
+{
+    Lookup {
+        own: own_in(row, handle),
+        free: free_in(row),
+        broken: broken_in(row, places, room),
+        len: row.len(),
     }
-    seen
 }
 
 // Puts a record at a place; at the length and past it there is none, and nothing is put.

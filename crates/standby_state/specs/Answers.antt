@@ -1,5 +1,5 @@
 -- What an answer stands for: a refusal by its number, a frame, or done. Its texts are parts of the store's bytes b. Assumes nothing.
-use Rattle.std.specs.Prelude.{ℕ, cond, List, eqb}
+use Rattle.std.specs.Prelude.{ℕ, Some, None, cond, List, eqb, is_some, unwrap_or}
 use Rattle.std.proofs.Math.Option.{none, some}
 use Rattle.base_flags.specs.Flag.{is_set}
 use Rattle.model_frame.specs.ReasonByte
@@ -10,6 +10,7 @@ use Rattle.frame_reader.specs.Answers.{span_of}
 use Rattle.frame_fields.specs.declared.CommitNumber.{CommitNumber}
 use Rattle.frame_fields.specs.declared.Epoch.{Epoch}
 use Rattle.frame_fields.specs.declared.Incarnation.{Incarnation}
+use Rattle.frame_fields.specs.declared.Summary.{Summary}
 use Rattle.model_standby.specs.Answer.{reply, refused, done}
 use Rattle.model_standby.specs.Answer as the-answer
 use Rattle.standby_state.specs.declared.BoundSummary.{BoundSummary}
@@ -23,6 +24,31 @@ brief_of b m =
       in_flight = cond (is_set m.has_in_flight) (some m.in_flight) none;
       stamp_text = span_of b m.created_at;
       marks_text = span_of b m.marks;
+      last_outgoing = m.last_outgoing;
+    }
+
+-- the same, with a byte beside the number in flight
+abbrev pub flat_of : Summary → BoundSummary
+flat_of m =
+    record {
+      next_outgoing = m.next_outgoing;
+      next_incoming = m.next_incoming;
+      has_in_flight = cond (is_some m.in_flight) 1 0;
+      in_flight = unwrap_or m.in_flight 0;
+      created_at = m.created_at;
+      marks = m.marks;
+      last_outgoing = m.last_outgoing;
+    }
+
+-- back again: none in flight where the byte is 0
+abbrev pub of_flat : BoundSummary → Summary
+of_flat m =
+    record {
+      next_outgoing = m.next_outgoing;
+      next_incoming = m.next_incoming;
+      in_flight = cond (is_set m.has_in_flight) (Some m.in_flight) None;
+      created_at = m.created_at;
+      marks = m.marks;
       last_outgoing = m.last_outgoing;
     }
 

@@ -1,9 +1,9 @@
 -- What a call's outcome stands for: the state but for the row, what is to be done to the row, and the answer. Assumes nothing.
-use Rattle.std.specs.Prelude.{ℕ, ◌*◌, ◌<◌, ◌≤◌, ◌≡◌, Bool, true, false, cond, List, take, drop, set, ltb}
+use Rattle.std.specs.Prelude.{ℕ, ◌*◌, ◌<◌, ◌≤◌, ◌≡◌, Bool, true, false, List, take, drop, set, unwrap_or}
 use Rattle.base_flags.specs.Flag.{is_set}
 use Rattle.standby_row.specs.declared.Bound.{Bound}
-use Rattle.standby_row.specs.declared.Lookup.{Lookup}
-use Rattle.standby_row.specs.Row.{cleared_all}
+use Rattle.standby_row.specs.declared.lookup.Lookup.{Lookup}
+use Rattle.standby_row.specs.Row.{cleared_all, at_or}
 use Rattle.store_areas.specs.declared.Shape.{Shape}
 use Rattle.model_standby.specs.Answer.{protocol_version}
 use Rattle.model_standby.specs.State.{Counters}
@@ -26,7 +26,7 @@ settings_of s room = settings_for s.shape room s.incarnation.0 s.max_lag
 
 -- the handle's own place, or the first free one
 abbrev pub spot_of : Lookup → ℕ
-spot_of seen = cond (ltb seen.at seen.len) seen.at seen.free
+spot_of seen = at_or seen.own (unwrap_or seen.free seen.len)
 
 abbrev pub leaving : Replica → Answer → Outcome
 leaving c a = record { replica = c; answer = a; action = RowAction.Leave }

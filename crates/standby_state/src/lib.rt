@@ -3,11 +3,11 @@
 
 ghost use Rattle.std.specs.Prelude.{◌≡◌};
 ghost use Rattle.base_refusals.specs.Numbers.{number_of};
-ghost use Rattle.standby_state.specs.Answers.{no_brief, blank_of, is_refused, is_done, is_welcome, is_ack, is_nack, is_bound};
+ghost use Rattle.standby_state.specs.Answers.{flat_of, of_flat, no_brief, blank_of, is_refused, is_done, is_welcome, is_ack, is_nack, is_bound};
 ghost use Rattle.standby_state.specs.Outcomes.{spot_of, leaving, clearing, storing, clears, row_after};
 
 use base_refusals::Refusal;
-use frame_fields::{CommitNumber, Epoch, Incarnation, kind};
+use frame_fields::{CommitNumber, Epoch, Incarnation, Summary, kind};
 use frame_reader::Span;
 pub use standby_counters::Replica;
 use standby_row::{Bound, Lookup};
@@ -30,6 +30,14 @@ pub struct Standing {
     pub lookup: Lookup,
 }
 
+// What a call is lent to change: the store's words and bytes, and the hold areas. No rule is known of them: each call tests them.
+#[derive(Drop)]
+pub struct Areas<'a> {
+    pub words: &'a mut [u64],
+    pub bytes: &'a mut [u8],
+    pub holds: &'a mut [u8],
+}
+
 // What a Bound says of a session; its texts are parts of the store's byte area.
 #[repr(C)]
 #[derive(Clone, Copy)]
@@ -42,6 +50,37 @@ pub struct BoundSummary {
     pub created_at: Span,
     pub marks: Span,
     pub last_outgoing: u64,
+}
+
+impl From<Summary> for BoundSummary {
+    ghost from_gives = { λ summary flat. flat ≡ flat_of summary };
+
+    fn from(summary: Summary) -> BoundSummary {
+        BoundSummary {
+            next_outgoing: summary.next_outgoing,
+            next_incoming: summary.next_incoming,
+            has_in_flight: u8::from(summary.in_flight.is_some()),
+            in_flight: summary.in_flight.unwrap_or(0),
+            created_at: summary.created_at,
+            marks: summary.marks,
+            last_outgoing: summary.last_outgoing,
+        }
+    }
+}
+
+impl From<BoundSummary> for Summary {
+    ghost from_gives = { λ flat summary. summary ≡ of_flat flat };
+
+    fn from(flat: BoundSummary) -> Summary {
+        Summary {
+            next_outgoing: flat.next_outgoing,
+            next_incoming: flat.next_incoming,
+            in_flight: (flat.has_in_flight != 0).then_some(flat.in_flight),
+            created_at: flat.created_at,
+            marks: flat.marks,
+            last_outgoing: flat.last_outgoing,
+        }
+    }
 }
 
 // A refusal by its number, or the frame that is answered by its kind: 2 Welcome, 5 Ack, 6 Nack, 7 Bound; both 0: done.
@@ -206,14 +245,13 @@ pub fn cleared(counters: Replica, answer: Answer) -> Outcome
     }
 }
 
-// The handle's own place, or the first free one.
+// The handle's own place, or the first free one; the row's length, where `insert` puts nothing, if it has neither.
 fn row_place(lookup: Lookup) -> usize
     ensures { result ≡ spot_of lookup }
 {
-    if lookup.at < lookup.len {
-        lookup.at
-    } else {
-        lookup.free
+    match lookup.own {
+        Some(found) => found.at,
+        None => lookup.free.unwrap_or(lookup.len),
     }
 }
 

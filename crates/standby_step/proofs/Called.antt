@@ -10,13 +10,13 @@ use lib.ListN.{length, get_or, set, length-set}
 use borrow.Author.Tests.{ltb-true, ltb-false}
 use Rattle.model_frame.specs.Bytes.{write}
 use Rattle.base_laws.proofs.Little.{length_write}
-use Rattle.standby_row.specs.declared.Lookup.{Lookup}
-use Rattle.standby_row.specs.Row.{find_of, free_of, broken_of, cleared_from, cleared_all, seen_of}
+use Rattle.standby_row.specs.declared.lookup.Lookup.{Lookup}
+use Rattle.standby_row.specs.Row.{find_of, free_of, broken_of, cleared_all, SeenOf}
 use Rattle.standby_row.specs.Row as handles
 use Rattle.standby_row.proofs.Lists.{cleared_length}
 use Rattle.standby_handles.specs.Rows.{row_of}
 use Rattle.standby_handles.proofs.Rows.{Apart, find_hit, find_miss, free_hit, free_miss, all_freed, apart_same, apart_of, put_own, put_new}
-use Rattle.store_areas.specs.Areas.{allowed, places_of}
+use Rattle.store_areas.specs.Areas.{allowed, Rules, places_of}
 use Rattle.store_areas.proofs.Ruling.{rules_true}
 use Rattle.standby_pending.specs.Pending.{pending_of}
 use Rattle.model_standby.specs.Answer.{protocol_version, refused}
@@ -30,19 +30,20 @@ use Rattle.model_standby.specs.Core.{Core, Action, store, CoreResult, act, acted
 use Rattle.model_standby.proofs.Factoring.{factored}
 use Rattle.model_standby.proofs.Rows.{find_put_same}
 use Rattle.standby_part.specs.State.{bound_of, record_for, core_at}
+use Rattle.standby_batch_handle.specs.Handling.{found_of}
 use Rattle.standby_counters.specs.declared.Replica.{Replica}
 use Rattle.standby_state.specs.declared.Settings.{Settings}
 use Rattle.standby_state.specs.declared.Outcome.{Outcome}
 use Rattle.standby_state.specs.Answers.{answer_of, is_refused}
 use Rattle.standby_state.specs.declared.RowAction.{RowAction}
-use Rattle.standby_state.specs.Outcomes.{counters_of, settings_of, leaving, spot_of, area_at, action_for, action_of, row_after, Fits, Lands}
-use Rattle.standby_step.specs.Steps.{room_of, found_in, handle_by, asks, Leaves, holds_after, writes_by, Stepped, StepIs}
+use Rattle.standby_state.specs.Outcomes.{counters_of, settings_of, leaving, spot_of, area_at, action_for, action_of, outcome_of, row_after, Fits, Lands}
+use Rattle.standby_step.specs.Steps.{room_of, room_in, found_in, handle_by, asks, keeps_counters, Leaves, holds_after, writes_by, Stepped, StepIs}
 use Rattle.standby_step.specs.Calls.{room_all, standby_of, allowed_all, sought_by, spot_for, RowChange, row_by, RowPut, RowLeaves, CalledSteps, Called}
 use Rattle.standby_step.proofs.Naming.{sought_own}
 use Rattle.standby_step.proofs.Fitting.{Fit, step_fit, step_any, step_own, writes_none, written_inside, leaves_any}
 use Rattle.standby_step.proofs.Still.{refused_still}
 use Rattle.standby_step.proofs.Doing.{kind_of, done_by}
-use Rattle.standby_step.proofs.Rows.{Whole, whole_of, of_whole, whole_more, record_whole, whole_cleared, none_set, found_own, seen_allowed_lem, take_write, drop_write}
+use Rattle.standby_step.proofs.Rows.{Whole, whole_of, of_whole, whole_more, record_whole, whole_cleared, none_set, found_own, seen_found, seen_record, seen_place, seen_free, seen_spot, seen_room, seen_allowed_lem, take_write, drop_write}
 use Rattle.model_text.proofs.Formed.{and_r}
 
 no : {A : Type 0} → true ≡ false → A
@@ -70,23 +71,29 @@ named (disconnected_from n) = refl
 named promote = refl
 named promote_unchecked = refl
 
-module _ (row : List BoundRecord) (k : ℕ) (w h : List ℕ) where
+module _ (row : List BoundRecord) (k : ℕ) (w h : List ℕ) (Looked : Lookup) (is : SeenOf row k (get_or w 0 0) (room_all row h) Looked) where
   abbrev Room : ℕ
   Room = room_all row h
-
-  abbrev Looked : Lookup
-  Looked = seen_of row k (get_or w 0 0) Room
 
   abbrev Handles : Row Bound
   Handles = row_of (bound_of protocol_version) Room row h
 
   -- ---- what was found
 
+  abbrev Own : Bound
+  Own = bound_of protocol_version (get_or row (find_of row k) handles.free_record) (area_at Room (find_of row k) h)
+
+  abbrev Seek : Bool → Option Bound
+  Seek t = cond t (some Own) none
+
+  sought : found_in Looked h ≡ Seek (ltb (find_of row k) (length row))
+  sought =
+      (λ j. found_of protocol_version (seen_found row k (get_or w 0 0) Room is j) (seen_record row k (get_or w 0 0) Room is j) (area_at (seen_room row k (get_or w 0 0) Room is h j) (seen_place row k (get_or w 0 0) Room is j) h))
+
   found_in_lem : found_in Looked h ≡ find k Handles
-  found_in_lem = go (ltb (find_of row k) (length row)) refl
+  found_in_lem = sought ∙ go (ltb (find_of row k) (length row)) refl
     where
-      go : (t : Bool) → ltb (find_of row k) (length row) ≡ t
-          → cond t (some (bound_of protocol_version (get_or row (find_of row k) handles.free_record) (area_at Room (find_of row k) h))) none ≡ find k Handles
+      go : (t : Bool) → ltb (find_of row k) (length row) ≡ t → Seek t ≡ find k Handles
       go true e = sym (find_hit (bound_of protocol_version) Room k row h (ltb-true (find_of row k) (length row) e))
       go false e = sym (find_miss (bound_of protocol_version) Room k row h (ltb-false (find_of row k) (length row) e))
 
@@ -101,15 +108,12 @@ module _ (row : List BoundRecord) (k : ℕ) (w h : List ℕ) where
       go true e = sym (free_hit (bound_of protocol_version) Room row h (ltb-true (free_of row) (length row) e))
       go false e = sym (free_miss (bound_of protocol_version) Room row h (ltb-false (free_of row) (length row) e))
 
-  abbrev Own : Bound
-  Own = bound_of protocol_version (get_or row (find_of row k) handles.free_record) (area_at Room (find_of row k) h)
-
   found_core : (L : state.Settings) (x : Core) (call : Call) → core_step L x (found_in Looked h) (ltb Free (length row)) call ≡ core_step L x (find k Handles) (has_free Handles) call
   found_core L x call = go (ltb (find_of row k) (length row)) refl
     where
       go : (t : Bool) → ltb (find_of row k) (length row) ≡ t → core_step L x (found_in Looked h) (ltb Free (length row)) call ≡ core_step L x (find k Handles) (has_free Handles) call
       go true e =
-          subst (λ (y : Option Bound). core_step L x y (ltb Free (length row)) call ≡ core_step L x y (has_free Handles) call) (sym (ap (λ (t : Bool). cond t (some Own) none) e))
+          subst (λ (y : Option Bound). core_step L x y (ltb Free (length row)) call ≡ core_step L x y (has_free Handles) call) (sym (sought ∙ ap Seek e))
           (step_own L x Own (ltb Free (length row)) (has_free Handles) call)
           ∙ ap (λ (y : Option Bound). core_step L x y (has_free Handles) call) found_in_lem
       go false e = (λ i. core_step L x (found_in_lem i) (free_in i) call)
@@ -145,7 +149,7 @@ module _ (row : List BoundRecord) (k : ℕ) (w h : List ℕ) where
           at_place i e p = ap (λ (j : ℕ). After (set row j x) h') e ∙ p ∙ sym (λ j. put (is_k j) (bound_of protocol_version x (area_at Room (e j) h')) Handles)
 
           spot : (t : Bool) → ltb (find_of row k) (length row) ≡ t → at ≡ cond t (find_of row k) Free
-          spot t p = l.at_is ∙ ap (λ (u : Bool). cond u (find_of row k) Free) p
+          spot t p = l.at_is ∙ seen_spot row k (get_or w 0 0) Room is ∙ ap (λ (u : Bool). cond u (find_of row k) Free) p
 
           by_place : (t : Bool) → ltb (find_of row k) (length row) ≡ t → After (set row at x) h' ≡ put x.handle (bound_of protocol_version x (area_at Room at h')) Handles
           by_place true p =
@@ -158,7 +162,7 @@ module _ (row : List BoundRecord) (k : ℕ) (w h : List ℕ) where
               (put_new (bound_of protocol_version) Room k x (ap handles.is_used l.slot_is) is_k row h (ltb-false (find_of row k) (length row) p) free))
             where
               not_found : is_some (found_in Looked h) ≡ false
-              not_found = ap (λ (t : Bool). is_some (cond t (some (bound_of protocol_version (get_or row (find_of row k) handles.free_record) (area_at Room (find_of row k) h))) none)) p
+              not_found = ap is_some (sought ∙ ap Seek p)
 
               free : free_of row < length row
               free = ltb-true Free (length row) (sym (ap (λ (t : Bool). t || ltb Free (length row)) not_found) ∙ f.1.1.0)
@@ -176,7 +180,7 @@ module _ (row : List BoundRecord) (k : ℕ) (w h : List ℕ) where
 
 -- ---- a call
 
-module _ (s : Settings) (c : Replica) (row : List BoundRecord) (call : Call) (w w' b b' h h' : List ℕ) (o : Outcome) where
+module _ (s : Settings) (c : Replica) (row : List BoundRecord) (call : Call) (w w' b b' h h' : List ℕ) (o : Outcome) (See : Lookup) (seen : SeenOf row (sought_by call) (get_or w 0 0) (room_all row h) See) where
   abbrev K : ℕ
   K = sought_by call
 
@@ -186,21 +190,43 @@ module _ (s : Settings) (c : Replica) (row : List BoundRecord) (call : Call) (w 
   abbrev L : state.Settings
   L = settings_of s R
 
-  abbrev See : Lookup
-  See = seen_of row K (get_or w 0 0) R
-
   abbrev T : Row Bound
   T = row_of (bound_of protocol_version) R row h
 
   abbrev Row' : List BoundRecord
   Row' = row_after o.action row
 
-  module _ (clean : allowed_all s row w b h ≡ true) (st : Stepped s c See call w w' b b' h h' o) where
+  -- a call's core over the row itself
+  record OverRow : Type 0 where
+    is : outcome_of protocol_version R s.shape w' b' h' o ≡ core_step L (core_at (counters_of c) s.shape w b) (found_in See h) (ltb (free_of row) (length row)) call
+    lands : Lands See (get_or w' 0 0) R (area_at R (spot_of See) h') o.action
+    kept : keeps_counters c call ≡ true → o.replica ≡ c
+    rules : Rules s.shape w' b'
+    more : get_or w 0 0 ≤ get_or w' 0 0
+    leaves : Leaves s.shape c (get_or row (find_of row K) handles.free_record).place call w w' b b' o.answer
+    holds : h' ≡ holds_after R (find_of row K) (writes_by L (counters_of c) (found_in See h) call) h
+
+  over_row : Stepped s c See call w w' b b' h h' o → OverRow
+  over_row st =
+      let room : room_in See h ≡ R = seen_room row K (get_or w 0 0) R seen h in
+      record {
+        is =
+            subst (λ (r : ℕ). outcome_of protocol_version r s.shape w' b' h' o ≡ core_step (settings_of s r) (core_at (counters_of c) s.shape w b) (found_in See h) (ltb (free_of row) (length row)) call) room
+            (st.is ∙ ap (λ (t : Bool). core_step (settings_of s (room_in See h)) (core_at (counters_of c) s.shape w b) (found_in See h) t call) (seen_free row K (get_or w 0 0) R seen));
+        lands = subst (λ (r : ℕ). Lands See (get_or w' 0 0) r (area_at r (spot_of See) h') o.action) room st.lands;
+        kept = st.kept;
+        rules = st.rules;
+        more = st.more;
+        leaves = subst (λ (x : BoundRecord). Leaves s.shape c x.place call w w' b b' o.answer) (seen_record row K (get_or w 0 0) R seen) st.leaves;
+        holds = st.holds ∙ (λ j. holds_after (room j) (seen_place row K (get_or w 0 0) R seen j) (writes_by (settings_of s (room j)) (counters_of c) (found_in See h) call) h);
+      }
+
+  module _ (clean : allowed_all s row w b h ≡ true) (st : OverRow) where
     abbrev Wr : Option HoldWrite
     Wr = writes_by L (counters_of c) (found_in See h) call
 
     row_same : length Row' ≡ length row
-    row_same = next_length row K w h o.action
+    row_same = next_length row K w h See seen o.action
 
     holds_same : length h' ≡ length h
     holds_same = ap length st.holds ∙ holds_length R (find_of row K) Wr h
@@ -208,28 +234,28 @@ module _ (s : Settings) (c : Replica) (row : List BoundRecord) (call : Call) (w 
     room_same : room_all Row' h' ≡ R
     room_same = (λ i. room_of (holds_same i) (row_same i))
 
-    fits : Fit (asks call) (handle_by call) (found_in See h) (ltb See.free (length row)) Wr (action_of protocol_version R h' o)
+    fits : Fit (asks call) (handle_by call) (found_in See h) (ltb (free_of row) (length row)) Wr (action_of protocol_version R h' o)
     fits =
-        subst (Fit (asks call) (handle_by call) (found_in See h) (ltb See.free (length row)) Wr) (sym (ap (λ (r : CoreResult). r.action) st.is))
-        (step_fit L (core_at (counters_of c) s.shape w b) (found_in See h) (ltb See.free (length row)) call)
+        subst (Fit (asks call) (handle_by call) (found_in See h) (ltb (free_of row) (length row)) Wr) (sym (ap (λ (r : CoreResult). r.action) st.is))
+        (step_fit L (core_at (counters_of c) s.shape w b) (found_in See h) (ltb (free_of row) (length row)) call)
 
     handles_are : row_of (bound_of protocol_version) (room_all Row' h') Row' h' ≡ act (action_of protocol_version R h' o) T
     handles_are =
         ap (λ (n : ℕ). row_of (bound_of protocol_version) n Row' h') room_same
-        ∙ next_handles row K w h (get_or w' 0 0) (area_at R (spot_of See) h') (handle_by call) (asks call) Wr h' (sought_own call) st.holds (written_inside L (counters_of c) (found_in See h) call) o.action st.lands fits
+        ∙ next_handles row K w h See seen (get_or w' 0 0) (area_at R (spot_of See) h') (handle_by call) (asks call) Wr h' (sought_own call) st.holds (written_inside L (counters_of c) (found_in See h) call) o.action st.lands fits
 
     -- what is found for the handle looked up is what is found for the call's
-    found_own_core : core_step L (core_at (counters_of c) s.shape w b) (found_in See h) (ltb See.free (length row)) call
+    found_own_core : core_step L (core_at (counters_of c) s.shape w b) (found_in See h) (ltb (free_of row) (length row)) call
         ≡ core_step L (core_at (counters_of c) s.shape w b) (find (handle_by call) T) (has_free T) call
     found_own_core =
-        found_core row K w h L (core_at (counters_of c) s.shape w b) call ∙ go (asks call) refl
+        found_core row K w h See seen L (core_at (counters_of c) s.shape w b) call ∙ go (asks call) refl
       where
         go : (t : Bool) → asks call ≡ t → core_step L (core_at (counters_of c) s.shape w b) (find K T) (has_free T) call ≡ core_step L (core_at (counters_of c) s.shape w b) (find (handle_by call) T) (has_free T) call
         go true e = ap (λ (k : ℕ). core_step L (core_at (counters_of c) s.shape w b) (find k T) (has_free T) call) (sought_own call e)
         go false e = step_any L (core_at (counters_of c) s.shape w b) (find K T) (find (handle_by call) T) (has_free T) call e
 
     holds_own : h' ≡ holds_after R (find_of row (handle_by call)) (writes_by L (counters_of c) (find (handle_by call) T) call) h
-    holds_own = st.holds ∙ ap (λ (x : Option Bound). holds_after R (find_of row K) (writes_by L (counters_of c) x call) h) (found_in_lem row K w h) ∙ go (asks call) refl
+    holds_own = st.holds ∙ ap (λ (x : Option Bound). holds_after R (find_of row K) (writes_by L (counters_of c) x call) h) (found_in_lem row K w h See seen) ∙ go (asks call) refl
       where
         go : (t : Bool) → asks call ≡ t → holds_after R (find_of row K) (writes_by L (counters_of c) (find K T) call) h ≡ holds_after R (find_of row (handle_by call)) (writes_by L (counters_of c) (find (handle_by call) T) call) h
         go true e = ap (λ (k : ℕ). holds_after R (find_of row k) (writes_by L (counters_of c) (find k T) call) h) (sought_own call e)
@@ -267,14 +293,14 @@ module _ (s : Settings) (c : Replica) (row : List BoundRecord) (call : Call) (w 
       is_puts : action_of protocol_version R h' o ≡ Puts
       is_puts = ap (action_for protocol_version R h') e
 
-      puts_fit : Fit (asks call) (handle_by call) (found_in See h) (ltb See.free (length row)) Wr Puts
-      puts_fit = subst (Fit (asks call) (handle_by call) (found_in See h) (ltb See.free (length row)) Wr) is_puts fits
+      puts_fit : Fit (asks call) (handle_by call) (found_in See h) (ltb (free_of row) (length row)) Wr Puts
+      puts_fit = subst (Fit (asks call) (handle_by call) (found_in See h) (ltb (free_of row) (length row)) Wr) is_puts fits
 
       is_sought : x.handle ≡ K
       is_sought = puts_fit.1.0 ∙ sym (sought_own call puts_fit.0)
 
       has_room : has_room_lem x.handle T ≡ true
-      has_room = ap (λ (k : ℕ). has_room_lem k T) is_sought ∙ sym (λ j. is_some (found_in_lem row K w h j) || free_in row K w h j) ∙ puts_fit.1.1.0
+      has_room = ap (λ (k : ℕ). has_room_lem k T) is_sought ∙ sym (λ j. is_some (found_in_lem row K w h See seen j) || free_in row K w h See seen j) ∙ puts_fit.1.1.0
 
       found_after : find x.handle Leaving ≡ some (bound_of protocol_version x (area_at R at h'))
       found_after = ap (find x.handle) (after_is ∙ ap (λ (y : Action). act y T) is_puts) ∙ find_put_same x.handle (bound_of protocol_version x (area_at R at h')) T has_room
@@ -283,7 +309,7 @@ module _ (s : Settings) (c : Replica) (row : List BoundRecord) (call : Call) (w 
       landed = subst (Lands See (get_or w' 0 0) R (area_at R (spot_of See) h')) e st.lands
 
       at_spot : at ≡ spot_for row x.handle
-      at_spot = landed.at_is ∙ ap (spot_for row) (sym is_sought)
+      at_spot = landed.at_is ∙ seen_spot row K (get_or w 0 0) R seen ∙ ap (spot_for row) (sym is_sought)
 
       -- it is the record of what it stands for at its own place
       slot_own : x ≡ record_for x.handle (bound_of protocol_version x (area_at R at h'))
@@ -321,7 +347,7 @@ module _ (s : Settings) (c : Replica) (row : List BoundRecord) (call : Call) (w 
     allowed_after =
         (λ i. rules_true s.shape w' b' st.rules i && leb (length Row') (broken_of Row' (get_or w' 0 0) (room_same i)))
         ∙ of_whole (get_or w' 0 0) R Row'
-        (next_whole row K w h (get_or w' 0 0) (area_at R (spot_of See) h') o.action st.lands st.more (whole_of (get_or w 0 0) R row (and_r (allowed s.shape w b) (leb (length row) (broken_of row (get_or w 0 0) R)) clean)))
+        (next_whole row K w h See seen (get_or w' 0 0) (area_at R (spot_of See) h') o.action st.lands st.more (whole_of (get_or w 0 0) R row (and_r (allowed s.shape w b) (leb (length row) (broken_of row (get_or w 0 0) R)) clean)))
 
     called_steps : CalledSteps s call c o.replica row Row' w w' b b' h h' o.answer
     called_steps =
@@ -346,8 +372,13 @@ module _ (s : Settings) (c : Replica) (row : List BoundRecord) (call : Call) (w 
   pub called : StepIs s c See call w w' b b' h h' o → Called s call c o.replica row Row' w w' b b' h h' o.answer
   called p =
       record {
-        refuses = λ e. refused (p.refuses (seen_allowed_lem s row K w b h ∙ e));
-        steps = λ e. called_steps e (p.steps (seen_allowed_lem s row K w b h ∙ e) (λ f a. found_own row K (ltb-true (find_of row K) (length row) f) ∙ sought_own call a));
+        refuses = λ e. refused (p.refuses (seen_allowed_lem s row K w b h seen ∙ e));
+        steps = λ e.
+            called_steps e
+            (over_row
+            (p.steps (seen_allowed_lem s row K w b h seen ∙ e)
+            (λ f a.
+            ap (λ (x : BoundRecord). x.handle) (seen_record row K (get_or w 0 0) R seen) ∙ found_own row K (ltb-true (find_of row K) (length row) (sym (seen_found row K (get_or w 0 0) R seen) ∙ f)) ∙ sought_own call a)));
         exact = p.exact;
       }
     where

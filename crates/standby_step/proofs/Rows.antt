@@ -1,6 +1,6 @@
 -- The row's rules: none of its records breaks them before, none after. Assumes nothing.
 use mathlib.Core.Path.{◌≡◌, refl, sym, ap, subst, ◌∙◌}
-use mathlib.Core.Bool.{Bool, true, false, not, ◌&&◌, ◌||◌, true≢false}
+use mathlib.Core.Bool.{Bool, true, false, cond, not, ◌&&◌, ◌||◌, true≢false}
 use mathlib.Core.List.{List, [], ◌∷◌}
 use Prim.Native.Nat.{ℕ, zero, suc, ◌+◌, ◌≤◌, ◌<◌}
 use native.Mathlib.Omega.{arith}
@@ -9,12 +9,17 @@ use lib.ListN.{length, get_or, set, take, drop}
 use lib.Seq.{sets, take-set-le, drop-set-lt}
 use borrow.Author.Tests.{leb-true, leb-false, ltb-true, ltb-false, eqb-true, le-leb, lt-leb, lt-ltb, le-ltb}
 use Rattle.model_frame.specs.Bytes.{write}
+use Rattle.std.specs.Prelude.{Option, Some, is_some, unwrap_or}
+use Rattle.std.specs.Prelude as prelude
 use Rattle.standby_row.specs.declared.Bound.{Bound}
-use Rattle.standby_row.specs.Row.{free_record, is_used, is_of, breaks_of, zero_or_next, first_of, find_of, broken_of, cleared_all, seen_of}
+use Rattle.standby_row.specs.declared.lookup.Found.{Found}
+use Rattle.standby_row.specs.declared.lookup.Lookup.{Lookup}
+use Rattle.standby_row.specs.Row.{free_record, is_used, is_of, is_free, breaks_of, zero_or_next, first_of, find_of, free_of, broken_of, cleared_all, place_in, found_at, at_or, record_or_free, own_place, own_record, has_place, SeenOf}
 use Rattle.store_areas.specs.Areas.{allowed}
 use Rattle.standby_state.specs.declared.Settings.{Settings}
-use Rattle.standby_step.specs.Steps.{seen_allowed}
-use Rattle.standby_step.specs.Calls.{room_all, allowed_all}
+use Rattle.standby_state.specs.Outcomes.{spot_of}
+use Rattle.standby_step.specs.Steps.{room_of, room_in, is_found, seen_allowed}
+use Rattle.standby_step.specs.Calls.{room_all, allowed_all, spot_for}
 
 zero_less : {n : ℕ} → n < 0 → ⊥
 zero_less h = omega arith
@@ -141,17 +146,109 @@ sound_found used room row k l n =
         (λ i. lt-ltb (get_or row (find_of row k) free_record).place used (leb-false used (get_or row (find_of row k) free_record).place p) i
         && le-leb (get_or row (find_of row k) free_record).held_len room (ltb-false room (get_or row (find_of row k) free_record).held_len q) i)
 
--- the rules by what was found are the rules
-pub seen_allowed_lem : (s : Settings) (row : List Bound) (k : ℕ) (w b h : List ℕ) → seen_allowed s.shape (seen_of row k (get_or w 0 0) (room_all row h)) w b h ≡ allowed_all s row w b h
-seen_allowed_lem s row k w b h = ap (λ (x : Bool). allowed s.shape w b && x) (go (leb (length row) (broken_of row (get_or w 0 0) (room_all row h))) refl)
+-- the first place is one of the row, or the length
+first_le : (p : Bound → Bool) (row : List Bound) → first_of p row ≤ length row
+first_le p [] = omega arith
+first_le p (h ∷ hs) = go (p h) (first_le p hs)
   where
+    go : (t : Bool) → first_of p hs ≤ length hs → zero_or_next t (first_of p hs) ≤ suc (length hs)
+    go true l = omega arith
+    go false l = omega arith
+
+read_past : (row : List Bound) (i : ℕ) → length row ≤ i → get_or row i free_record ≡ free_record
+read_past [] i l = refl
+read_past (h ∷ hs) zero l = absurd (zero_less l)
+read_past (h ∷ hs) (suc i) l = read_past hs i (omega arith)
+
+not_less : (i n : ℕ) → not (ltb i n) ≡ leb n i
+not_less i n = go (ltb i n) refl
+  where
+    go : (t : Bool) → ltb i n ≡ t → not t ≡ leb n i
+    go true e = sym (lt-leb n i (ltb-true i n e))
+    go false e = sym (le-leb n i (ltb-false i n e))
+
+is_placed : (row : List Bound) (i : ℕ) → is_some (place_in row i) ≡ ltb i (length row)
+is_placed row i = go (ltb i (length row))
+  where
+    go : (t : Bool) → is_some (cond t (Some i) prelude.None) ≡ t
+    go true = refl
+    go false = refl
+
+-- a place at most the length, or else the length
+placed_or : (row : List Bound) (i : ℕ) → i ≤ length row → unwrap_or (place_in row i) (length row) ≡ i
+placed_or row i l = go (ltb i (length row)) refl
+  where
+    go : (t : Bool) → ltb i (length row) ≡ t → unwrap_or (cond t (Some i) prelude.None) (length row) ≡ i
+    go true e = refl
+    go false e =
+        let past : length row ≤ i = ltb-false i (length row) e in
+        omega arith
+
+module _ (row : List Bound) (k places room : ℕ) {seen : Lookup} (is : SeenOf row k places room seen) where
+  abbrev Some_at : Bool → Option Found
+  Some_at t = cond t (Some (found_at row (find_of row k))) prelude.None
+
+  -- whether the handle is found
+  pub seen_found : is_found seen ≡ ltb (find_of row k) (length row)
+  seen_found = ap is_some is.own ∙ go (ltb (find_of row k) (length row))
+    where
+      go : (t : Bool) → is_some (Some_at t) ≡ t
+      go true = refl
+      go false = refl
+
+  pub seen_record : own_record seen ≡ get_or row (find_of row k) free_record
+  seen_record = ap record_or_free is.own ∙ go (ltb (find_of row k) (length row)) refl
+    where
+      go : (t : Bool) → ltb (find_of row k) (length row) ≡ t → record_or_free (Some_at t) ≡ get_or row (find_of row k) free_record
+      go true e = refl
+      go false e = sym (read_past row (find_of row k) (ltb-false (find_of row k) (length row) e))
+
+  pub seen_place : own_place seen ≡ find_of row k
+  seen_place = (λ j. at_or (is.own j) (is.len j)) ∙ go (ltb (find_of row k) (length row)) refl
+    where
+      go : (t : Bool) → ltb (find_of row k) (length row) ≡ t → at_or (Some_at t) (length row) ≡ find_of row k
+      go true e = refl
+      go false e =
+          let past : length row ≤ find_of row k = ltb-false (find_of row k) (length row) e in
+          let most : find_of row k ≤ length row = first_le (λ h. is_of h k) row in
+          omega arith
+
+  pub seen_free : has_place seen ≡ ltb (free_of row) (length row)
+  seen_free = ap is_some is.free ∙ is_placed row (free_of row)
+
+  pub seen_spot : spot_of seen ≡ spot_for row k
+  seen_spot = (λ j. at_or (is.own j) (unwrap_or (is.free j) (is.len j))) ∙ ap (at_or (Some_at (ltb (find_of row k) (length row)))) (placed_or row (free_of row) (first_le is_free row)) ∙ go (ltb (find_of row k) (length row))
+    where
+      go : (t : Bool) → at_or (Some_at t) (free_of row) ≡ cond t (find_of row k) (free_of row)
+      go true = refl
+      go false = refl
+
+  pub seen_room : (h : List ℕ) → room_in seen h ≡ room_all row h
+  seen_room h = ap (room_of (length h)) is.len
+
+-- the rules by what was found are the rules
+pub seen_allowed_lem : (s : Settings) (row : List Bound) (k : ℕ) (w b h : List ℕ) {seen : Lookup} → SeenOf row k (get_or w 0 0) (room_all row h) seen → seen_allowed s.shape seen w b h ≡ allowed_all s row w b h
+seen_allowed_lem s row k w b h {seen} is =
+    (λ j. allowed s.shape w b && (not (is_some (is.broken j)) && (not (found j) || (ltb (record_is j).place (get_or w 0 0) && leb (record_is j).held_len (room j)))))
+    ∙ ap (λ (x : Bool). allowed s.shape w b && (not x && (not (ltb (find_of row k) (length row)) || (ltb (get_or row (find_of row k) free_record).place (get_or w 0 0) && leb (get_or row (find_of row k) free_record).held_len (room_all row h))))) (is_placed row (broken_of row (get_or w 0 0) (room_all row h)))
+    ∙ ap (λ (x : Bool). allowed s.shape w b && (x && (not (ltb (find_of row k) (length row)) || (ltb (get_or row (find_of row k) free_record).place (get_or w 0 0) && leb (get_or row (find_of row k) free_record).held_len (room_all row h))))) (not_less (broken_of row (get_or w 0 0) (room_all row h)) (length row))
+    ∙ ap (λ (x : Bool). allowed s.shape w b && x) (go (leb (length row) (broken_of row (get_or w 0 0) (room_all row h))) refl)
+  where
+    found : is_found seen ≡ ltb (find_of row k) (length row)
+    found = seen_found row k (get_or w 0 0) (room_all row h) is
+
+    record_is : own_record seen ≡ get_or row (find_of row k) free_record
+    record_is = seen_record row k (get_or w 0 0) (room_all row h) is
+
+    room : room_in seen h ≡ room_all row h
+    room = seen_room row k (get_or w 0 0) (room_all row h) is h
+
     one : (x : Bool) → ltb (find_of row k) (length row) ≡ x → Whole (get_or w 0 0) (room_all row h) row
         → (not x || (ltb (get_or row (find_of row k) free_record).place (get_or w 0 0) && leb (get_or row (find_of row k) free_record).held_len (room_all row h))) ≡ true
     one true e n = sound_found (get_or w 0 0) (room_all row h) row k (ltb-true (find_of row k) (length row) e) n
     one false e n = refl
 
-    go : (x : Bool) → leb (length row) (broken_of row (get_or w 0 0) (room_all row h)) ≡ x
-        → (x && (not (ltb (find_of row k) (length row)) || (ltb (get_or row (find_of row k) free_record).place (get_or w 0 0) && leb (get_or row (find_of row k) free_record).held_len (room_all row h)))) ≡ x
+    go : (x : Bool) → leb (length row) (broken_of row (get_or w 0 0) (room_all row h)) ≡ x → (x && (not (ltb (find_of row k) (length row)) || (ltb (get_or row (find_of row k) free_record).place (get_or w 0 0) && leb (get_or row (find_of row k) free_record).held_len (room_all row h)))) ≡ x
     go true e = one (ltb (find_of row k) (length row)) refl (whole_of (get_or w 0 0) (room_all row h) row e)
     go false e = refl
 

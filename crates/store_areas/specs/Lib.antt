@@ -2,3 +2,4 @@
 pub mod StoreWord
 pub mod Areas
 pub mod Same
+pub mod Over

@@ -2,8 +2,9 @@
 #![tactic(auto)]
 
 ghost use Rattle.std.specs.Prelude.{◌≡◌, ℕ, ◌+◌, ◌*◌, ◌≤◌, ◌<◌, Bool, true, false, List, length, get_or, set};
-ghost use Rattle.store_areas.specs.Areas.{place_words, place_bytes, durable_at, roomy, allowed, SpotIs, SpotIn, place_at, in_use, Making};
+ghost use Rattle.store_areas.specs.Areas.{place_words, place_bytes, words_at, bytes_at, slice, durable_at, roomy, allowed, SpotIs, SpotIn, place_at, in_use, Making};
 ghost use Rattle.store_place.specs.Place.{place_in};
+ghost use Rattle.store_areas.specs.Over.{ViewOver, ViewInUse};
 
 pub mod store;
 
@@ -58,7 +59,6 @@ pub fn place_bytes(shape: Shape) -> usize
 }
 
 // Where the words and the bytes of a place begin and end.
-#[repr(C)]
 #[derive(Clone, Copy)]
 pub struct Spot {
     pub words_start: usize,
@@ -87,12 +87,49 @@ fn spot_of(shape: Shape, place: usize) -> Spot
 }
 
 impl<'a> View<'a> {
+    // The areas to be read, if they keep the rules.
+    pub fn over(shape: Shape, words: &'a [u64], bytes: &'a [u8]) -> Result<View<'a>, Refusal>
+        ensures { ViewOver shape words.now bytes.now result }
+    {
+        if allowed(shape, words, bytes) {
+            Ok(View {
+                words,
+                bytes,
+                shape,
+            })
+        } else {
+            Err(Refusal::RulesBroken)
+        }
+    }
+
+    // The same, if place i is in use too.
+    pub fn with_place(
+        shape: Shape,
+        words: &'a [u64],
+        bytes: &'a [u8],
+        place: usize,
+    ) -> Result<View<'a>, Refusal>
+        ensures { ViewInUse shape words.now bytes.now place result }
+    {
+        if in_use(words, bytes, shape, place) {
+            Ok(View {
+                words,
+                bytes,
+                shape,
+            })
+        } else {
+            Err(Refusal::RulesBroken)
+        }
+    }
+
     // A place in use, to be read.
     pub fn place(&self, place: usize) -> Place<'a>
         requires { place < get_or self.now.words.now 0 0 }
         ensures is { place_in self.now.shape.bytes self.now.shape.messages result.words.now result.bytes.now ≡ place_at self.now.shape self.now.words.now self.now.bytes.now place }
         ensures max { result.max ≡ self.now.shape.messages }
         ensures long { length result.bytes.now ≡ 224 + self.now.shape.bytes }
+        ensures words { result.words.now ≡ slice (words_at self.now.shape place) (place_words self.now.shape) self.now.words.now }
+        ensures bytes { result.bytes.now ≡ slice (bytes_at self.now.shape place) (place_bytes self.now.shape) self.now.bytes.now }
     {
         let spot = self.spot(place);
         Place {
@@ -125,7 +162,7 @@ impl Store<'_> {
         }
     }
 
-    // Where a place in use stands; of its own, so that what is read there is not said of a view.
+    // Where a place in use stands. A spot of its own: by `view().spot(..)` each caller would have to carry what is said of the view back to the store.
     pub fn spot(&self, place: usize) -> Spot
         requires { place < get_or self.now.words.now 0 0 }
         ensures { SpotIn self.now.shape place self.now.words.now self.now.bytes.now result.words_start result.words_end result.bytes_start result.bytes_end }
@@ -134,7 +171,8 @@ impl Store<'_> {
     }
 }
 
-// Here and below of areas that are not known yet to keep the rules, so they come apart.
+// From here on the areas aren't known to keep the rules yet, so they come as two slices and a shape.
+
 // Whether C and M are within their limits and the areas are as long as they ask.
 pub fn long_enough(shape: Shape, words: &[u64], bytes: &[u8]) -> bool
     ensures { result ≡ roomy shape words.now bytes.now }
@@ -162,7 +200,8 @@ pub fn in_use(words: &[u64], bytes: &[u8], shape: Shape, place: usize) -> bool
     allowed(shape, words, bytes) && (place as u64) < words[word::USED]
 }
 
-// Marks the session at place i, which is in use, as durable.
+// Marks the session at a place in use as durable.
+// The words alone: standby_pending_run has the bytes only to be read.
 pub fn mark_durable(words: &mut [u64], shape: Shape, place: usize)
     requires messages_bound { shape.messages ≤ 65536 }
     requires shape_in_bounds { 66 + shape.places * place_words shape ≤ length words.old }

@@ -15,7 +15,8 @@ pub struct View<'a> {
     ghost places_fit: { shape.places < 4294967296 },
 }
 
-// The areas to be changed.
+// The areas to be changed. It is made as a literal once the rules are known: of a constructor that answers a Result the prover finds nothing of the areas
+// after a refusal.
 #[derive(Drop)]
 pub struct Store<'a> {
     pub words: &'a mut [u64],

@@ -6,7 +6,6 @@ pub mod log;
 pub mod messages;
 
 ghost use Rattle.std.specs.Prelude.{◌≡◌, ℕ, ◌+◌, ◌-◌, ◌*◌, ◌<◌, ◌≤◌, List, [], ◌∷◌, ◌++◌, length, take, drop, slice_index};
-ghost use Rattle.std.proofs.Math.Seq.{paste};
 ghost use Rattle.model_session.specs.Session.{keep};
 ghost use Rattle.model_session.specs.Summary.{fnv_message, fnv_messages, fnv_start, numbered_from};
 ghost use Rattle.store_log.specs.Log.{before, slot_at, Spanned, Position, From, NextMessage, msg, unrolled, head_of, tail_of, newest, entry, log_of, last_of};
@@ -23,15 +22,6 @@ pub const LENGTH: usize = 3;
 
 pub const ENTRY_WORDS: usize = 2;
 
-// Copies all of src into dst from index at.
-pub fn copy_into(dst: &mut [u8], at: usize, src: &[u8])
-    requires { at + length src.now ≤ length dst.old }
-    ensures { dst.new ≡ paste dst.old at src.now (length src.now) }
-{
-    let end = at + src.len();
-    dst[at..end].copy_from_slice(src);
-}
-
 // Writes msg into the ring from its tail at, and returns the new tail.
 pub fn ring_write(bytes: &mut [u8], at: usize, msg: &[u8]) -> usize
     requires at_in_bounds { at ≤ length bytes.old }
@@ -40,15 +30,11 @@ pub fn ring_write(bytes: &mut [u8], at: usize, msg: &[u8]) -> usize
     ensures rolled { unrolled result bytes.new ≡ drop (length msg.now) (unrolled at bytes.old) ++ msg.now }
 {
     let room = bytes.len() - at;
-    let n = msg.len();
-    if n <= room {
-        copy_into(bytes, at, msg);
-        at + n
-    } else {
-        copy_into(bytes, at, &msg[..room]);
-        copy_into(bytes, 0, &msg[room..]);
-        n - room
+    if msg.len() <= room {
+        return base_bytes::copy(msg, bytes, at);
     }
+    base_bytes::copy(&msg[..room], bytes, at);
+    base_bytes::copy(&msg[room..], bytes, 0)
 }
 
 // The slot that the next entry goes to; it asks for the two words alone, not for a whole log.
@@ -155,7 +141,6 @@ pub fn clear(words: &mut [u64], max: usize)
 }
 
 // A position in the log: how many messages, the newest, are still to be read, and their bytes.
-#[repr(C)]
 #[derive(Clone, Copy)]
 pub struct LogPosition {
     pub left: usize,
@@ -178,7 +163,6 @@ pub fn slot_at(head: usize, max: usize, i: usize) -> usize
 }
 
 // Where bytes of the ring stand: `first` from `start`, then `rest` from the ring's start.
-#[repr(C)]
 #[derive(Clone, Copy)]
 pub struct RingSpan {
     pub start: usize,
@@ -217,7 +201,6 @@ pub fn span_of(tail: usize, cap: usize, dist: usize, len: usize) -> RingSpan
 }
 
 // A message in the ring: its number, where its bytes stand, and the position after it.
-#[repr(C)]
 #[derive(Clone, Copy)]
 pub struct Found {
     pub number: u64,

@@ -8,6 +8,7 @@ use crate::{
     span_of, tail,
 };
 
+// That the next number is 1 or more is asked where batches are cut; nothing that is read here needs it.
 #[derive(Clone, Copy)]
 pub struct Log<'a> {
     pub words: &'a [u64],
@@ -43,7 +44,8 @@ fn hash_message(hash: u64, number: u64, parts: &Parts) -> u64
 }
 
 impl<'a> Log<'a> {
-    // The position where the messages with numbers from low begin, found from the newest back. Stored numbers are from 1 on.
+    // The position where the messages with numbers from low begin, found from the newest back. Stored numbers are from 1 on: from 0 a discarded entry,
+    // whose number is 0, would count.
     pub fn position_from(&self, low: u64) -> LogPosition
         requires { 1 ≤ low }
         ensures { From (length self.now.bytes.now) self.now.max self.now.next low self.now.words.now self.now.bytes.now result.left result.dist }
@@ -70,7 +72,7 @@ impl<'a> Log<'a> {
         LogPosition { left: max, dist }
     }
 
-    // The next message at a position.
+    // The next message at a position. A position may be at the end, so that one is left is asked apart.
     pub fn message_at(&self, position: LogPosition) -> Found
         requires position { Position (length self.now.bytes.now) self.now.max self.now.next self.now.words.now self.now.bytes.now position.left position.dist }
         requires le_left { 1 ≤ position.left }

@@ -24,9 +24,6 @@ same_is [] (y ∷ b) = refl
 same_is (x ∷ a) [] = refl
 same_is (x ∷ a) (y ∷ b) = ap (λ (t : Bool). eqb x y && t) (same_is a b)
 
-pub field_same : (x y f : List ℕ) (r : Bool) → y ≡ f → r ≡ pointwise eqb x y → r ≡ same_bytes x f
-field_same x y f r ey e = e ∙ same_is x y ∙ ap (same_bytes x) ey
-
 -- ---- a new place
 
 key_at : (x0 x1 x2 x3 b w : List ℕ) → Header w

@@ -7,9 +7,9 @@ use Prim.Native.Nat.{ℕ, zero, suc, ◌+◌, ◌-◌, ◌≤◌, ◌<◌, min, 
 use native.Mathlib.Omega.{arith}
 use native.Mathlib.Numerals.{add-one}
 use borrow.Author.Tests.{leb-false, lt-ltb, le-ltb, le-leb, lt-leb}
-use lib.Dec.{leb, ltb, eqb}
+use lib.Dec.{leb, ltb}
 use lib.ListN.{length, take, drop, get_or, set, length-append, length-take, length-drop}
-use lib.Seq.{length-take-le, take-take, drop-set-add, take-suc-set, get_or-take, get_or-drop, take_all}
+use lib.Seq.{length-take-le, take-take, drop-set-add, take-suc-set, take_all}
 use borrow.Rule.Slice.PartMut.{mid_of, put_mid}
 use Rattle.model_text.specs.Printable.{is_printable_byte, all_printable, is_marks, is_printable}
 use Rattle.model_text.proofs.Formed.{and_l, and_r}
@@ -37,17 +37,19 @@ module _ (b : List ℕ) (n : ℕ) (h : 224 ≤ length b) (k : n ≤ 64) where
   pub marks_long : length (take n l) ≡ n
   marks_long = length-take-le n l (omega (arith, room))
 
-  pub last_b : 0 < n → eqb (get_or b (160 + n - 1) 0) 66 ≡ ends_in_b (take n l)
-  last_b ne =
-      let p : length (take n l) - 1 ≡ n - 1 = omega (arith, marks_long) in
-      let q : 160 + (n - 1) ≡ 160 + n - 1 = omega arith in
-      let e : get_or (take n l) (length (take n l) - 1) 0 ≡ get_or b (160 + n - 1) 0 =
-      ap (λ (j : ℕ). get_or (take n l) j 0) p ∙ get_or-take n l (n - 1) 0 (omega arith) ∙ get_or-drop 160 b (n - 1) 0 ∙ ap (λ (j : ℕ). get_or b j 0) q in
-      sym (simp (lt-ltb 0 (length (take n l)) (omega (arith, marks_long))) (ap (λ (x : ℕ). eqb x 66) e))
+  -- the test, where the code makes it of a part
+  pub tested : (t : Bool) → t ≡ ends_in_b (take (160 + n - 160) l) → t ≡ ends_in_b (take n l)
+  tested t e =
+      let z : 160 + n - 160 ≡ n = omega arith in
+      e ∙ ap (λ (j : ℕ). ends_in_b (take j l)) z
 
   -- the test as the model has it, then the three ways
   with_b_lem : Bool → List ℕ → List ℕ
   with_b_lem t m = cond t m (cond (leb 64 (length m)) (take 63 m ++ (66 ∷ [])) (m ++ (66 ∷ [])))
+
+  pub has_b : (t : Bool) → t ≡ ends_in_b (take n l) → t ≡ true → take n l ≡ with_b (take n l)
+  unfolding with_b_lem
+  has_b t e y = sym (ap (λ (j : Bool). with_b_lem j (take n l)) (sym e ∙ y))
 
   pub full_b : (t : Bool) → t ≡ ends_in_b (take n l) → t ≡ false → 64 ≤ n → take n (drop 160 (set b 223 66)) ≡ with_b (take n l)
   unfolding with_b_lem

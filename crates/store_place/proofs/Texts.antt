@@ -21,6 +21,11 @@ take_taken zero l = refl
 take_taken (suc k) [] = refl
 take_taken (suc k) (x ∷ l) = ap (λ (t : List ℕ). x ∷ t) (take_taken k l)
 
+-- what a field holds stands where the field is
+pub field_stands : (b : List ℕ) (at size n : ℕ) (x : List ℕ) → x ≡ field b at size n → take (length x) (drop at b) ≡ x
+unfolding field
+field_stands b at size n x e = ap (λ (l : List ℕ). take (length l) (drop at b)) e ∙ take_taken (min n size) (drop at b) ∙ sym e
+
 pub field_length : (b : List ℕ) (at size n : ℕ) (x : List ℕ) → x ≡ field b at size n → length x ≤ size
 unfolding field
 field_length b at size n x e =
@@ -31,11 +36,8 @@ module _ (valid : List ℕ → Bool) (b : List ℕ) (at size n : ℕ) (x : List 
   judged : t ≡ valid (field b at size n)
   judged = et ∙ ap valid ex
 
-  pub valid_text : t ≡ true → take (length x) (drop at b) ≡ or_none (valid (field b at size n)) (field b at size n)
-  unfolding field
-  valid_text h =
-      ap (λ (l : List ℕ). take (length l) (drop at b)) ex ∙ take_taken (min n size) (drop at b)
-      ∙ sym (ap (λ (v : Bool). or_none v (take (min n size) (drop at b))) (sym judged ∙ h))
+  pub valid_text : t ≡ true → x ≡ or_none (valid (field b at size n)) (field b at size n)
+  valid_text h = ex ∙ sym (ap (λ (v : Bool). or_none v (field b at size n)) (sym judged ∙ h))
 
   pub no_text : t ≡ false → [] ≡ or_none (valid (field b at size n)) (field b at size n)
   no_text h = sym (ap (λ (v : Bool). or_none v (field b at size n)) (sym judged ∙ h))

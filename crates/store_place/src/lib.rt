@@ -156,37 +156,72 @@ fn text_in<'a>(words: &[u64], bytes: &'a [u8], text_field: TextField) -> &'a [u8
     &bytes[text_field.at..end]
 }
 
-// The length of the stamp at 128; 0 for none.
-pub fn stamp_len(words: &[u64], bytes: &[u8]) -> usize
+// The stamp; empty for none. It and the marks differ in the field, the test and what is promised: one function under both would leave them as long.
+pub fn stamp<'a>(words: &[u64], bytes: &'a [u8]) -> &'a [u8]
     requires in_bounds { 16 ≤ length words.now }
     requires in_bounds_2 { 224 ≤ length bytes.now }
-    ensures within { result ≤ 32 }
-    ensures is { take result (drop 128 bytes.now) ≡ stamp_of words.now bytes.now }
+    ensures is { result.now ≡ stamp_of words.now bytes.now }
+    ensures stands { take (length result.now) (drop 128 bytes.now) ≡ result.now }
+    ensures within { length result.now ≤ 32 }
 {
     let stamp = text_in(words, bytes, STAMP);
     if frame_stamp::is_stamp(stamp) {
-        stamp.len()
+        stamp
     } else {
-        0
+        &[]
     }
 }
 
-// The length of the marks at 160.
-pub fn marks_len(words: &[u64], bytes: &[u8]) -> usize
+// The marks; empty for none.
+pub fn marks<'a>(words: &[u64], bytes: &'a [u8]) -> &'a [u8]
     requires in_bounds { 16 ≤ length words.now }
     requires in_bounds_2 { 224 ≤ length bytes.now }
-    ensures within { result ≤ 64 }
-    ensures is { take result (drop 160 bytes.now) ≡ marks_of words.now bytes.now }
+    ensures is { result.now ≡ marks_of words.now bytes.now }
+    ensures stands { take (length result.now) (drop 160 bytes.now) ≡ result.now }
+    ensures within { length result.now ≤ 64 }
 {
     let marks = text_in(words, bytes, MARKS);
     if frame_stamp::is_marks(marks) {
-        marks.len()
+        marks
     } else {
-        0
+        &[]
     }
 }
 
-// ---- changes: each unmarks the session. They take the slices, which a caller lends for one call; most ask for the words alone.
+// The four texts of a session's key.
+#[derive(Clone, Copy, PartialEq, Eq)]
+pub struct Key<'a> {
+    pub begin: &'a [u8],
+    pub sender: &'a [u8],
+    pub target: &'a [u8],
+    pub suffix: &'a [u8],
+}
+
+// The key.
+fn key_in<'a>(words: &[u64], bytes: &'a [u8]) -> Key<'a>
+    requires in_bounds { 16 ≤ length words.now }
+    requires in_bounds_2 { 224 ≤ length bytes.now }
+    ensures { key_of result ≡ stored_key words.now bytes.now }
+{
+    Key {
+        begin: text_in(words, bytes, BEGIN),
+        sender: text_in(words, bytes, SENDER),
+        target: text_in(words, bytes, TARGET),
+        suffix: text_in(words, bytes, SUFFIX),
+    }
+}
+
+// Whether the place has this key.
+pub fn has_key(words: &[u64], bytes: &[u8], sought: &Key) -> bool
+    requires in_bounds { 16 ≤ length words.now }
+    requires in_bounds_2 { 224 ≤ length bytes.now }
+    ensures { result ≡ same_key (key_of sought.now) (stored_key words.now bytes.now) }
+{
+    *sought == key_in(words, bytes)
+}
+
+// ---- changes: each unmarks the session. They take the slices, which a caller lends for one call: a struct of words, bytes and room would be made
+// there of the same three, and could not be where C lends the bytes only to be read, as it does for the changes of the words alone.
 
 pub fn set_next_incoming(words: &mut [u64], seq: u64)
     requires { 16 ≤ length words.old }
@@ -269,7 +304,7 @@ fn put_text(words: &mut [u64], bytes: &mut [u8], text_field: TextField, text: &[
     ensures text { PutText text_field.at text_field.size text.now bytes.old bytes.new }
     ensures length { words.new ≡ set words.old text_field.length (length text.now) }
 {
-    store_log::copy_into(bytes, text_field.at, text);
+    base_bytes::copy(text, bytes, text_field.at);
     words[text_field.length] = text.len() as u64;
 }
 
@@ -295,13 +330,11 @@ pub fn set_marks(words: &mut [u64], bytes: &mut [u8], text: &[u8])
 
 // ---- promotion
 
-// Whether the n bytes of marks at 160 have a final B.
-fn ends_in_b(bytes: &[u8], n: usize) -> bool
-    requires in_bounds { 224 ≤ length bytes.now }
-    requires n_bound { n ≤ 64 }
-    ensures { result ≡ ends_in_b (take n (drop 160 bytes.now)) }
+// Whether marks have a final B.
+fn ends_in_b(marks: &[u8]) -> bool
+    ensures { result ≡ ends_in_b marks.now }
 {
-    0 < n && bytes[byte::MARKS + n - 1] == b'B'
+    marks.ends_with(b"B")
 }
 
 // Gives the n bytes of marks at 160 a final B, and answers how many there are then.
@@ -313,14 +346,15 @@ fn put_b(bytes: &mut [u8], n: usize) -> usize
     ensures only { Only 160 224 bytes.old bytes.new }
     ensures is { take result (drop 160 bytes.new) ≡ with_b (take n (drop 160 bytes.old)) }
 {
-    if ends_in_b(bytes, n) {
+    let end = byte::MARKS + n;
+    if ends_in_b(&bytes[byte::MARKS..end]) {
         return n;
     }
     if byte::MARKS_SIZE <= n {
         bytes[LAST_MARK] = b'B';
         return n;
     }
-    bytes[byte::MARKS + n] = b'B';
+    bytes[end] = b'B';
     n + 1
 }
 
@@ -331,7 +365,7 @@ pub fn take_over(words: &mut [u64], bytes: &mut [u8], max: usize, lag: u64)
     ensures { (C : ℕ) → place_in C max words.new bytes.new ≡ on_stored (taken_over lag) (place_in C max words.old bytes.old) }
 {
     let next = next_outgoing(words);
-    let n = marks_len(words, bytes);
+    let n = marks(words, bytes).len();
     let end = put_b(bytes, n);
     store_log::discard_stale(&mut words[word::LOG..], max, next);
     words[word::NEXT_OUTGOING] = next.saturating_add(lag);
@@ -339,16 +373,7 @@ pub fn take_over(words: &mut [u64], bytes: &mut [u8], max: usize, lag: u64)
     words[word::DURABLE] = 1;
 }
 
-// ---- keys and new sessions
-
-// The four texts of a session's key.
-#[derive(Clone, Copy)]
-pub struct Key<'a> {
-    pub begin: &'a [u8],
-    pub sender: &'a [u8],
-    pub target: &'a [u8],
-    pub suffix: &'a [u8],
-}
+// ---- new sessions
 
 // The new session of a key.
 pub fn new_session(words: &mut [u64], bytes: &mut [u8], max: usize, key: &Key)
@@ -365,25 +390,4 @@ pub fn new_session(words: &mut [u64], bytes: &mut [u8], max: usize, key: &Key)
     put_text(words, bytes, TARGET, key.target);
     put_text(words, bytes, SUFFIX, key.suffix);
     reset(words, max);
-}
-
-// Whether the text in a field is this one.
-fn is_text(words: &[u64], bytes: &[u8], text_field: TextField, text: &[u8]) -> bool
-    requires length_in_bounds { text_field.length < length words.now }
-    requires size_in_bounds { text_field.at + text_field.size ≤ length bytes.now }
-    ensures { result ≡ same_bytes text.now (field bytes.now text_field.at text_field.size (get_or words.now text_field.length 0)) }
-{
-    text == text_in(words, bytes, text_field)
-}
-
-// Whether the place has this key.
-pub fn has_key(words: &[u64], bytes: &[u8], key: &Key) -> bool
-    requires in_bounds { 16 ≤ length words.now }
-    requires in_bounds_2 { 224 ≤ length bytes.now }
-    ensures { result ≡ same_key (key_of key.now) (stored_key words.now bytes.now) }
-{
-    is_text(words, bytes, BEGIN, key.begin)
-        & (is_text(words, bytes, SENDER, key.sender)
-            & (is_text(words, bytes, TARGET, key.target)
-                & is_text(words, bytes, SUFFIX, key.suffix)))
 }

@@ -1,9 +1,10 @@
 // A place as it is read: its words, its bytes and the room for messages.
 ghost use Rattle.std.specs.Prelude.{◌≡◌, ℕ, ◌+◌, ◌-◌, ◌*◌, ◌≤◌, length, drop};
 ghost use Rattle.model_session.specs.Summary.{last_out};
-ghost use Rattle.store_place.specs.Place.{next_out_of, session_of, PositionIn, FromIn, NextMessageIn};
+ghost use Rattle.store_place.specs.Keys.{key_of};
+ghost use Rattle.store_place.specs.Place.{next_out_of, stored_key, session_of, PositionIn, FromIn, NextMessageIn};
 
-use crate::{byte, next_outgoing, word};
+use crate::{Key, byte, key_in, next_outgoing, word};
 use store_log::log::Log;
 use store_log::{Found, LogPosition};
 
@@ -17,6 +18,13 @@ pub struct Place<'a> {
 }
 
 impl<'a> Place<'a> {
+    // The session's key.
+    pub fn key(&self) -> Key<'a>
+        ensures { key_of result ≡ stored_key self.now.words.now self.now.bytes.now }
+    {
+        key_in(self.words, self.bytes)
+    }
+
     // The session's log.
     pub fn log(&self) -> Log<'a>
         ensures words { result.words.now ≡ drop 14 self.now.words.now }

@@ -7,6 +7,7 @@ use native.Mathlib.Omega.{arith}
 use native.Mathlib.Numerals.{add-one}
 use native.Mathlib.Nat.{sub-zero}
 use lib.ListN.{length}
+use Rattle.std.specs.List.{list_all, range_with_len}
 use lib.Dec.{leb, ltb, eqb}
 use borrow.Author.Tests.{ltb-true, ltb-false, le-leb, lt-leb, leb-true, leb-false}
 use Rattle.model_resend.specs.Resend.{Range, is_range, are_ranges, lies, set_of}
@@ -95,18 +96,10 @@ module _ (w : List ℕ) (count : ℕ) where
     pub low_so : low ≡ lowest_of (ranges_from w j (count - j))
 
 -- whether all are ranges
-module _ (w : List ℕ) (count : ℕ) where
-  pub record Judging (j : ℕ) : Type 0 where
-    pub upto : j ≤ count
-    pub left : are_ranges (ranges_from w 0 count) ≡ are_ranges (ranges_from w j (count - j))
+module _ (w : List ℕ) where
+  abbrev pub is_range_at : ℕ → Bool
+  is_range_at j = is_range (range_at w j)
 
-  split : (j : ℕ) → j < count → are_ranges (ranges_from w j (count - j)) ≡ (is_range (range_at w j) && are_ranges (ranges_from w (suc j) (count - (j + 1))))
-  split j less =
-      let e : count - j ≡ suc (count - (j + 1)) = omega arith in
-      rw e refl
-
-  pub judge_on : (j : ℕ) {b : Bool} → j < count → Judging j → b ≡ is_range (range_at w j) → b ≡ true → Judging (j + 1)
-  judge_on j less g e t = record {
-    upto = omega arith;
-    left = g.left ∙ split j less ∙ ap (λ (c : Bool). c && are_ranges (ranges_from w (suc j) (count - (j + 1)))) (sym e ∙ t) ∙ ap (λ (k : ℕ). are_ranges (ranges_from w k (count - (j + 1)))) (sym (add-one j));
-  }
+  pub all_from : (j n : ℕ) → list_all is_range_at (range_with_len j n) ≡ are_ranges (ranges_from w j n)
+  all_from j zero = refl
+  all_from j (suc n) = ap (λ (c : Bool). is_range_at j && c) (all_from (j + 1) n ∙ ap (λ (i : ℕ). are_ranges (ranges_from w i n)) (add-one j))

@@ -12,14 +12,19 @@ use Rattle.model_session.specs.Session.{Msg, stored_bytes}
 use Rattle.model_session.specs.Summary.{numbered_from}
 use Rattle.model_resend.specs.Resend.{Range, is_range, are_ranges, lies_in_some, Served, serve, set_of, listed, served, refusal_of}
 use Rattle.model_resend.proofs.Sets.{empty_so}
-use Rattle.store_log.specs.Log.{msg, newest_first, rest_of}
-use Rattle.store_place.specs.Place.{next_out_of, rest_in, PositionIn}
+use Rattle.store_log.specs.Log.{msg, newest_first, rest_of, Position}
+use Rattle.store_log.specs.declared.Found.{Found}
+use Rattle.store_log.specs.declared.LogPosition.{LogPosition}
+use Rattle.store_log.specs.declared.log.Log.{Log}
+use Rattle.store_log.proofs.Turning.{Next}
+use Rattle.store_place.specs.Place.{next_out_of, rest_in, PositionIn, NextMessageIn}
+use Rattle.store_place.proofs.Messages.{stands_out, read_in}
 use Rattle.store_areas.specs.declared.Shape.{Shape}
 use Rattle.store_areas.specs.Areas.{in_use, slice, words_at, place_words, bytes_at, place_bytes}
 use Rattle.store_sessions.specs.declared.Message.{Message}
 use Rattle.store_sessions.specs.Answers.{rest_at, PositionAt, FromAt, NextMessageAt}
 use Rattle.store_resend.specs.Ranges.{ranges_of, messages_at, Keeps, Serves, Counts, Adds, ListEntry, entry_words, words_of, served_at, is_inside, all_inside, Written, entry_of, entered, HasRoom, Fills, Lists, lowest_of}
-use Rattle.store_resend.specs.Passes.{Counting, Filling, Begun, Carries, PassesOver}
+use Rattle.store_resend.specs.Passes.{LogAt, Counting, Filling, Begun, Carries, PassesOver}
 use Rattle.store_resend.specs.declared.Kept.{Kept}
 use Rattle.store_resend.specs.declared.Tally.{Tally}
 use Rattle.store_resend.specs.declared.Listed.{Listed}
@@ -31,15 +36,10 @@ both false y h = absurd (true≢false (sym h))
 
 -- ---- one message
 
-pub adds_none : (set size : ℕ) (t : Tally) → set ≡ 0 → Adds set size t t
+adds_none : (set size : ℕ) (t : Tally) → set ≡ 0 → Adds set size t t
 adds_none set size t z =
     let e : eqb set 0 ≡ true = eq-eqb set 0 z in
     record { many = rw e refl; sum = rw e refl }
-
-pub enters_none : (n x : ℕ) (m : Message) (l : List ℕ) → x ≡ 0 → l ≡ entered n x m l
-enters_none n x m l z =
-    let e : eqb x 0 ≡ true = eq-eqb x 0 z in
-    rw e refl
 
 flip : (a b : Bool) → a ≡ not b → b ≡ not a
 flip true true e = absurd (true≢false e)
@@ -62,6 +62,51 @@ text_length b at first again rest h g =
     let x : length (take first (drop at b)) ≡ first = length-take-le first (drop at b) (omega (arith, length-drop at b)) in
     let y : length (take rest (drop again b)) ≡ rest = length-take-le rest (drop again b) (omega (arith, length-drop again b)) in
     omega (arith, length-append (take first (drop at b)) (take rest (drop again b)))
+
+-- a message read, wherever its bytes stand
+pub record Turn (s : Shape) (w b : List ℕ) (i left dist number size left' dist' : ℕ) : Type 0 where
+  pub text : List ℕ
+  pub is : rest_at s w b i left ≡ msg number text ∷ rest_at s w b i left'
+  pub long : length text ≡ size
+  pub stands : PositionAt s w b i left' dist'
+  pub fewer : left' + 1 ≡ left
+  pub nearer : dist' + size ≡ dist
+
+turn_at : (s : Shape) (w b : List ℕ) (i : ℕ) {left dist number at f again r left' dist' : ℕ} → NextMessageAt s w b i left dist number at f again r left' dist' → Turn s w b i left dist number (f + r) left' dist'
+turn_at s w b i {left} {dist} {number} {at} {f} {again} {r} p = record {
+  text = take f (drop at b) ++ take r (drop again b);
+  is = p.is;
+  long = text_length b at f again r p.inside p.inside_again;
+  stands = p.stands;
+  fewer = p.fewer;
+  nearer = p.nearer;
+}
+
+-- the same by the log of the place
+module _ (s : Shape) (w b : List ℕ) (i : ℕ) (log : Log) (at : LogAt s w b i log) where
+  abbrev pw : List ℕ
+  pw = slice (words_at s i) (place_words s) w
+
+  abbrev pb : List ℕ
+  pb = slice (bytes_at s i) (place_bytes s) b
+
+  pub stands_in_log : {left dist : ℕ} → PositionAt s w b i left dist → Position (length log.bytes.now) log.max log.next log.words.now log.bytes.now left dist
+  unfolding PositionAt
+  stands_in_log {left} {dist} g = stands_out s.bytes s.messages pw pb at.long log.words.now log.bytes.now log.max log.next at.words at.bytes at.max at.next left dist g
+
+  pub turn_in : {p : LogPosition} {found : Found} → Next log p found → Turn s w b i p.left p.dist found.number (found.span.first + found.span.rest) found.next.left found.next.dist
+  unfolding PositionAt rest_at
+  turn_in {p} {found} n =
+      let f : NextMessageIn s.bytes s.messages pw pb p.left p.dist found.number (found.span.start + 224) found.span.first found.span.rest found.next.left found.next.dist =
+      read_in s.bytes s.messages pw pb at.long log.words.now log.bytes.now log.max log.next at.words at.bytes at.max at.next p.left p.dist found.number found.span.start found.span.first found.span.rest found.next.left found.next.dist n in
+      record {
+        text = take found.span.first (drop (found.span.start + 224) pb) ++ take found.span.rest (drop 224 pb);
+        is = f.is;
+        long = text_length pb (found.span.start + 224) found.span.first 224 found.span.rest (omega (arith, f.inside, at.long)) (omega (arith, f.front, at.long));
+        stands = f.stands;
+        fewer = f.fewer;
+        nearer = f.nearer;
+      }
 
 rest_none : (s : Shape) (w b : List ℕ) (i : ℕ) → rest_at s w b i 0 ≡ []
 unfolding rest_at rest_in rest_of
@@ -121,15 +166,12 @@ module _ (s : Shape) (w b : List ℕ) (i : ℕ) (rs : List Range) (first back : 
       no : (m : ℕ) → 1 ≤ m → m ≤ 0 → ⊥
       no m low high = omega arith
 
-  pub counts_on : {left dist number at f again r left' dist' : ℕ} {t t' : Tally} {k k' : Kept} → Counting s w b i rs first back left dist t k → NextMessageAt s w b i left dist number at f again r left' dist' → Serves rs number k'
-      → Adds k'.set (f + r) t t' → Counting s w b i rs first back left' dist' t' k'
-  counts_on {left} {dist} {number} {at} {f} {again} {r} {left'} {dist'} {t} {t'} {k} {k'} g p e a = go (eqb k'.set 0) refl
+  pub counts_turn : {left dist number size left' dist' : ℕ} {t t' : Tally} {k k' : Kept} → Counting s w b i rs first back left dist t k → Turn s w b i left dist number size left' dist' → Serves rs number k' → Adds k'.set size t t'
+      → Counting s w b i rs first back left' dist' t' k'
+  counts_turn {left} {dist} {number} {size} {left'} {dist'} {t} {t'} {k} {k'} g p e a = go (eqb k'.set 0) refl
     where
       text : List ℕ
-      text = take f (drop at b) ++ take r (drop again b)
-
-      size : length text ≡ f + r
-      size = text_length b at f again r p.inside p.inside_again
+      text = p.text
 
       now : listed rs (still left) ≡ cond (eqb k'.set 0) (listed rs (still left')) (msg number text ∷ listed rs (still left'))
       now = ap (listed rs) p.is ∙ one_listed rs k' (msg number text) (still left') e
@@ -150,15 +192,19 @@ module _ (s : Shape) (w b : List ℕ) (i : ℕ) (rs : List Range) (first back : 
       go false z =
           let l : listed rs (still left) ≡ msg number text ∷ listed rs (still left') = now ∙ rw z refl in
           let n : t'.length ≡ t.length + 1 = a.many ∙ rw z refl in
-          let m : t'.bytes ≡ t.bytes + (f + r) = a.sum ∙ rw z refl in
+          let m : t'.bytes ≡ t.bytes + size = a.sum ∙ rw z refl in
           record {
             stands = p.stands;
             keeps = e.same;
             many = omega (arith, ap length l, g.many);
-            sum = omega (arith, ap stored_bytes l, g.sum, size);
+            sum = omega (arith, ap stored_bytes l, g.sum, p.long);
             few = omega (arith, g.few, p.fewer);
             less = omega (arith, g.less, p.nearer);
           }
+
+  pub counts_on : {left dist number at f again r left' dist' : ℕ} {t t' : Tally} {k k' : Kept} → Counting s w b i rs first back left dist t k → NextMessageAt s w b i left dist number at f again r left' dist' → Serves rs number k'
+      → Adds k'.set (f + r) t t' → Counting s w b i rs first back left' dist' t' k'
+  counts_on g p e a = counts_turn g (turn_at s w b i p) e a
 
   pub count_ends : {left dist : ℕ} {t : Tally} {k : Kept} → left ≤ 0 → Counting s w b i rs first back left dist t k → Counts rs (still first) back t
   count_ends {left} {dist} {t} end g =
@@ -249,6 +295,23 @@ module _ (s : Shape) (w b : List ℕ) (i : ℕ) (rs : List Range) (first back : 
                 let v : leb (m.second.at + m.second.len) (length b) ≡ true = le-leb (m.second.at + m.second.len) (length b) y in
                 rw (u, v) refl
 
+  -- a message in no range
+  skips : {old : List ℕ} {left dist n number size left' dist' : ℕ} {k k' : Kept} {new : List ℕ} → Filling s w b i rs first back old left dist n k new → Turn s w b i left dist number size left' dist' → Serves rs number k' → k'.set ≡ 0
+      → Filling s w b i rs first back old left' dist' n k' new
+  skips {old} {left} {dist} {n} {number} {size} {left'} {dist'} {k} {k'} {new} g p e none =
+      let z : eqb k'.set 0 ≡ true = eq-eqb k'.set 0 none in
+      let l : listed rs (still left) ≡ listed rs (still left') = ap (listed rs) p.is ∙ one_listed rs k' (msg number p.text) (still left') e ∙ rw z refl in
+      record {
+        stands = p.stands;
+        keeps = e.same;
+        size = g.size;
+        entries = g.entries;
+        many = g.many;
+        shown = ap (λ (x : List Msg). map (served_at b) g.entries ++ map (serve rs) x) (sym l) ∙ g.shown;
+        inside = g.inside;
+        words = g.words;
+      }
+
   pub fill_ends : {old : List ℕ} {left dist n : ℕ} {k : Kept} {new : List ℕ} → left ≤ 0 → Filling s w b i rs first back old left dist n k new → Written rs b (still first) old new
   fill_ends {old} {left} {dist} {n} {k} {new} end g =
       let z : left ≡ 0 = omega arith in
@@ -302,9 +365,19 @@ module _ (s : Shape) (w b : List ℕ) (i first back : ℕ) (t : Tally) (old : Li
         let sum : before + (back - m.next.dist) ≡ u.bytes + (m.first.len + m.second.len) = omega (arith, e, c.nearer, p.nearer) in
         carries_on (record { length = u.length + 1; bytes = before + (back - m.next.dist) }) new' (record { many = rw z refl; sum = sum ∙ rw z refl }) q
 
-    -- it is empty: the message is passed over
-    pub passes_on : k.set ≡ 0 → Carries s w b i k first back t old m.next.left m.next.dist u new
-    passes_on none = carries_on u new (adds_none k.set (m.first.len + m.second.len) u none) (enters_none u.length k.set m new none)
+  -- the set is empty: the message is passed over
+  passes_on : {left dist number size left' dist' : ℕ} {u : Tally} {new : List ℕ} → Carries s w b i k first back t old left dist u new → Turn s w b i left dist number size left' dist' → k.base ≤ number → number ≤ k.until → k.set ≡ 0
+      → Carries s w b i k first back t old left' dist' u new
+  passes_on {left} {dist} {number} {size} {left'} {dist'} {u} c p low high none = record {
+    fewer = omega (arith, c.fewer, p.fewer);
+    nearer = omega (arith, c.nearer, p.nearer);
+    fills = λ rs f h o fits g.
+        let x = c.fills rs f h o fits g in
+        skips s w b i rs f h x p (record { same = x.keeps; from = low; upto = high }) none;
+    counts = λ rs f h g.
+        let x = c.counts rs f h g in
+        counts_turn s w b i rs f h x p (record { same = x.keeps; from = low; upto = high }) (adds_none k.set size u none);
+  }
 
 -- where a listing that goes on stands
 pub stands_there : (s : Shape) (w b : List ℕ) (i first back : ℕ) (t : Tally) (old : List ℕ) (k : Kept) {left dist : ℕ} {u : Tally} {new : List ℕ} → Begun s w b i first back t k old → Carries s w b i k first back t old left dist u new → PositionAt s w b i left dist
@@ -313,10 +386,9 @@ stands_there s w b i first back t old k g c = (c.fills g.rs g.first g.back g.old
 -- ---- passing over
 
 module _ (s : Shape) (w b : List ℕ) (i first back : ℕ) (k : Kept) where
-  pub over_on : {left dist : ℕ} (m : Message) → PassesOver s w b i k first back left dist
-      → NextMessageAt s w b i left dist m.number m.first.at m.first.len m.second.at m.second.len m.next.left m.next.dist → k.base ≤ m.number → m.number ≤ k.until → k.set ≡ 0
-      → PassesOver s w b i k first back m.next.left m.next.dist
-  over_on m g p low high none = record { stands = p.stands; carries = λ t l. passes_on s w b i first back t l k m (g.carries t l) p low high none }
+  pub over_on : {left dist number size left' dist' : ℕ} → PassesOver s w b i k first back left dist → Turn s w b i left dist number size left' dist' → k.base ≤ number → number ≤ k.until → k.set ≡ 0
+      → PassesOver s w b i k first back left' dist'
+  over_on g p low high none = record { stands = p.stands; carries = λ t l. passes_on s w b i first back t l k (g.carries t l) p low high none }
 
 -- ---- the listing
 

@@ -2,11 +2,22 @@
 use Rattle.std.specs.Prelude.{◌≡◌, true, List, ◌++◌, map, ℕ, ◌+◌, ◌*◌, ◌≤◌, length, drop}
 use Rattle.model_session.specs.Session.{stored_bytes}
 use Rattle.model_resend.specs.Resend.{Range, listed, served}
+use Rattle.store_log.specs.declared.log.Log.{Log}
+use Rattle.store_place.specs.Place.{next_out_of}
 use Rattle.store_areas.specs.declared.Shape.{Shape}
+use Rattle.store_areas.specs.Areas.{slice, words_at, place_words, bytes_at, place_bytes}
 use Rattle.store_sessions.specs.Answers.{rest_at, PositionAt}
 use Rattle.store_resend.specs.Ranges.{Keeps, ListEntry, words_of, served_at, all_inside}
 use Rattle.store_resend.specs.declared.Kept.{Kept}
 use Rattle.store_resend.specs.declared.Tally.{Tally}
+
+-- the log of the session at a place
+pub record LogAt (s : Shape) (w b : List ℕ) (i : ℕ) (log : Log) : Type 0 where
+  pub words : log.words.now ≡ drop 14 (slice (words_at s i) (place_words s) w)
+  pub bytes : log.bytes.now ≡ drop 224 (slice (bytes_at s i) (place_bytes s) b)
+  pub long : length (slice (bytes_at s i) (place_bytes s) b) ≡ 224 + s.bytes
+  pub max : log.max ≡ s.messages
+  pub next : log.next ≡ next_out_of (slice (words_at s i) (place_words s) w)
 
 -- counted so far, of the messages that were to be read at first
 pub record Counting (s : Shape) (w b : List ℕ) (i : ℕ) (rs : List Range) (first back left dist : ℕ) (t : Tally) (k : Kept) : Type 0 where

@@ -5,13 +5,14 @@ ghost use Rattle.std.specs.Prelude.{◌≡◌, cond, ℕ, min, ◌+◌, ◌-◌,
 ghost use Rattle.store_sessions.specs.Answers.{PositionAt, rest_at};
 ghost use Rattle.model_session.specs.Session.{stored_bytes};
 ghost use Rattle.model_resend.specs.Resend.{lies, is_range, are_ranges, set_of, listed};
-ghost use Rattle.store_resend.specs.Passes.{Begun, Carries, PassesOver};
+ghost use Rattle.store_resend.specs.Passes.{LogAt, Begun, Carries, PassesOver};
 ghost use Rattle.store_resend.specs.Ranges.{range_of, range_at, ranges_of, stays, lowest_of, Keeps, Serves, Counts, Adds, entered, HasRoom, Fills, Lists, listed_of};
 ghost use Rattle.store_resend.specs.Standing.{position_prop};
 
 use base_refusals::Refusal;
 use store_areas::{Shape, View};
 use store_log::LogPosition;
+use store_log::log::Log;
 use store_sessions::Message;
 
 // The answer as programs in C get it: 25, 35 or 36, else 0, how many messages are listed, and their bytes.
@@ -53,6 +54,16 @@ pub struct Kept {
     pub base: u64,
     pub until: u64,
     pub set: u64,
+}
+
+impl Kept {
+    // The set of no number, before the first message. With an Option of a set in its place a message took 6.5 to 7.3 ns in place of 5.9 to 6.3
+    // (bar: 5 ns; both measured beside other work).
+    const NONE: Kept = Kept {
+        base: 1,
+        until: 0,
+        set: 0,
+    };
 }
 
 // How many messages are listed, and their bytes.
@@ -134,12 +145,7 @@ impl Ranges<'_> {
     fn are_ranges(&self) -> bool
         ensures { result ≡ are_ranges (ranges_of self.now.words.now) }
     {
-        for j in 0..self.count() {
-            if !self.at(j).is_range() {
-                return false;
-            }
-        }
-        true
+        (0..self.count()).all(|j| self.at(j).is_range())
     }
 
     // The set of n, and up to which number it stays.
@@ -202,8 +208,7 @@ impl Tally {
     }
 }
 
-// The messages of a session that are still to be read: those from a place in its log on. The loops that
-// pass over many take the view apart and make it anew: read through the reference, a message took a tenth to a third longer.
+// The messages of a session that are still to be read: those from a place in its log on.
 #[derive(Clone, Copy)]
 struct Rest<'a> {
     view: &'a View<'a>,
@@ -215,40 +220,28 @@ struct Rest<'a> {
     ghost dist_fits: { from.dist < 18446744073709551616 },
 }
 
+impl<'a> Rest<'a> {
+    // The log that they stand in.
+    fn log(&self) -> Log<'a>
+        ensures { LogAt self.now.view.now.shape self.now.view.now.words.now self.now.view.now.bytes.now self.now.place result }
+    {
+        self.view.place(self.place).log()
+    }
+}
+
 // Counts the messages still to be read that lie in some range.
 fn count(rest: &Rest, ranges: &Ranges) -> Tally
     ensures { Counts (ranges_of ranges.now.words.now) (rest_at rest.now.view.now.shape rest.now.view.now.words.now rest.now.view.now.bytes.now rest.now.place rest.now.from.left) rest.now.from.dist result }
 {
-    let View {
-        words,
-        bytes,
-        shape,
-    } = *rest.view;
-    let place = rest.place;
-    let mut from = rest.from;
+    let log = rest.log();
     let mut tally = Tally {
         length: 0,
         bytes: 0,
     };
-    let mut kept = Kept {
-        base: 1,
-        until: 0,
-        set: 0,
-    };
-    // A while: each message gives the place after it, so no index counts them.
-    while 0 < from.left {
-        let m = store_sessions::message_at(
-            &View {
-                words,
-                bytes,
-                shape,
-            },
-            place,
-            from,
-        );
-        kept = ranges.kept_for(kept, m.number);
-        tally = tally.counted(kept.set, m.first.len as usize + m.second.len as usize);
-        from = m.next;
+    let mut kept = Kept::NONE;
+    for found in log.messages_at(rest.from) {
+        kept = ranges.kept_for(kept, found.number);
+        tally = tally.counted(kept.set, found.span.first + found.span.rest);
     }
     tally
 }
@@ -288,7 +281,8 @@ struct Progress {
     tally: Tally,
 }
 
-// The same without the bytes listed, which are those that were read.
+// The same without the bytes listed, which are those that were read: counted one by one, a message took 8.5 ns in place of 5.9 (bar: 5 ns; both in
+// plain Rust of the same text, beside other work).
 #[derive(Clone, Copy)]
 struct Followed {
     from: LogPosition,
@@ -300,31 +294,13 @@ fn pass_over(rest: &Rest, kept: Kept) -> LogPosition
     requires { kept.set ≡ 0 }
     ensures { PassesOver rest.now.view.now.shape rest.now.view.now.words.now rest.now.view.now.bytes.now rest.now.place kept rest.now.from.left rest.now.from.dist result.left result.dist }
 {
-    let View {
-        words,
-        bytes,
-        shape,
-    } = *rest.view;
-    let place = rest.place;
+    let log = rest.log();
     let mut from = rest.from;
-    // A while: each message gives the place after it, so no index counts them.
-    while 0 < from.left {
-        let m = store_sessions::message_at(
-            &View {
-                words,
-                bytes,
-                shape,
-            },
-            place,
-            from,
-        );
-        if m.number < kept.base {
-            return from;
+    for found in log.messages_at(rest.from) {
+        if found.number < kept.base || kept.until < found.number {
+            break;
         }
-        if kept.until < m.number {
-            return from;
-        }
-        from = m.next;
+        from = found.next;
     }
     from
 }
@@ -335,25 +311,11 @@ fn follow(rest: &Rest, kept: Kept, tally: Tally, entries: &mut [u64]) -> Followe
     requires some { kept.set ≡ 0 → ⊥ }
     ensures { Carries rest.now.view.now.shape rest.now.view.now.words.now rest.now.view.now.bytes.now rest.now.place kept rest.now.from.left rest.now.from.dist tally entries.old result.from.left result.from.dist (record { length = result.length; bytes = tally.bytes + (rest.now.from.dist - result.from.dist) }) entries.new }
 {
-    let View {
-        words,
-        bytes,
-        shape,
-    } = *rest.view;
-    let place = rest.place;
     let mut from = rest.from;
     let mut length = tally.length;
-    // A while: each message gives the place after it, so no index counts them.
+    // A while: an entry says where a message stands in the whole byte area, which the log's own iterator doesn't know.
     while 0 < from.left {
-        let m = store_sessions::message_at(
-            &View {
-                words,
-                bytes,
-                shape,
-            },
-            place,
-            from,
-        );
+        let m = store_sessions::message_at(rest.view, rest.place, from);
         if m.number < kept.base {
             return Followed { from, length };
         }
@@ -399,12 +361,9 @@ fn fill(rest: &Rest, ranges: &Ranges, entries: &mut [u64]) -> Tally
         length: 0,
         bytes: 0,
     };
-    let mut kept = Kept {
-        base: 1,
-        until: 0,
-        set: 0,
-    };
-    // A while: go_on passes over several messages in one turn, so no index counts them.
+    let mut kept = Kept::NONE;
+    // A while, since go_on passes over several messages in one turn: with a `for` over them all in its place a message took 8.9 ns in place of 6.1
+    // (bar: 5 ns; both in plain Rust of the same text, beside other work).
     while 0 < from.left {
         let m = store_sessions::message_at(rest.view, rest.place, from);
         kept = ranges.kept_for(kept, m.number);
@@ -435,9 +394,7 @@ pub fn list(
 ) -> Result<Tally, Refusal>
     ensures { Lists shape words.now bytes.now place ranges.now entries.old (listed_of result) entries.new }
 {
-    if !store_areas::in_use(words, bytes, shape, place) {
-        return Err(Refusal::RulesBroken);
-    }
+    let view = View::with_place(shape, words, bytes, place)?;
     if ranges.len() % 2 != 0 {
         return Err(Refusal::RulesBroken);
     }
@@ -448,11 +405,6 @@ pub fn list(
     if !asked.are_ranges() {
         return Err(Refusal::BadRanges);
     }
-    let view = View {
-        words,
-        bytes,
-        shape,
-    };
     let rest = Rest {
         view: &view,
         place,

@@ -1,22 +1,23 @@
 -- Keys, summaries and messages of a place, from those of its parts. Assumes nothing.
 use mathlib.Core.Path.{◌≡◌, sym, ap, ◌∙◌, subst, subst₂}
-use mathlib.Core.Bool.{Bool, true, false, cond}
+use mathlib.Core.Bool.{Bool, false, cond}
 use mathlib.Core.List.{List, ◌∷◌, ◌++◌}
 use Prim.Native.Nat.{ℕ, ◌+◌, ◌-◌, ◌<◌}
 use native.Mathlib.Omega.{arith}
 use lib.ListN.{length, take, drop, get_or}
 use borrow.Rule.Slice.PartMut.{mid_of}
 use Rattle.model_frame.specs.Frame.{Key}
-use Rattle.model_frame.specs.Frame as model-frame
 use Rattle.model_session.specs.Summary.{last_out, summary}
 use Rattle.model_standby.specs.Store.{Place, same_key}
 use Rattle.frame_fields.specs.declared.Summary.{Summary}
 use Rattle.frame_fields.specs.Answers.{summary_of}
 use Rattle.store_log.specs.Log.{msg}
-use Rattle.store_place.specs.Place.{stored_key, session_of, place_in, rest_in, PositionIn, FromIn, NextMessageIn}
+use Rattle.store_place.specs.Place.{next_out_of, durable_of, stored_key, session_of, place_in, rest_in, PositionIn, FromIn, NextMessageIn}
 use Rattle.store_areas.specs.declared.Shape.{Shape}
 use Rattle.store_areas.specs.Areas.{place_words, place_bytes, words_at, bytes_at, in_use, Rules, SpotIn, slice, place_at, TextAt}
 use Rattle.store_areas.proofs.Lifting.{spot_place, spot_words_part, spot_bytes_part}
+use Rattle.store_areas.specs.declared.store.View.{View}
+use Rattle.store_areas.specs.Over.{ViewWith}
 use Rattle.store_areas.proofs.Reading.{part_of, out_is, in_is, flight_is, stamp_at, marks_at}
 use Rattle.store_sessions.specs.Answers.{gives, refuses, SummaryIn, TextsIn, summarised_at, rest_at, PositionAt, FromAt, NextMessageAt}
 
@@ -38,20 +39,6 @@ module _ (s : Shape) (i wa we ba be : ℕ) (w b : List ℕ) (at : SpotIn s i w b
 
   eb : mb ≡ pb
   eb = spot_bytes_part s i wa we ba be at.at w b r h
-
-  pub key_same : (t : Bool) (k : Key) → t ≡ same_key k (stored_key mw mb) → t ≡ same_key k (place_at s w b i).key
-  unfolding place_in
-  key_same t k e = e ∙ ap (λ (p : Place). same_key k p.key) (spot_place s i wa we ba be at.at w b r h)
-
-  pub last_is : (n x : ℕ) → x ≡ last_out (session_of s.bytes s.messages mw mb) n → x ≡ last_out (place_at s w b i).stored.session n
-  unfolding place_in
-  last_is n x e = e ∙ ap (λ (p : Place). last_out p.stored.session n) (spot_place s i wa we ba be at.at w b r h)
-
-  pub from_at : (low left dist : ℕ) → FromIn s.bytes s.messages low mw mb left dist → FromAt s w b i low left dist
-  unfolding PositionAt rest_at place_at place_in
-  from_at low left dist f =
-      let g : FromIn s.bytes s.messages low pw pb left dist = subst₂ (λ x y. FromIn s.bytes s.messages low x y left dist) ew eb f in
-      record { stands = g.stands; is = g.is }
 
   pub stands_in : (left dist : ℕ) → PositionAt s w b i left dist → PositionIn (length mb - 224) s.messages mw mb left dist
   unfolding PositionAt
@@ -77,6 +64,33 @@ module _ (s : Shape) (i wa we ba be : ℕ) (w b : List ℕ) (at : SpotIn s i w b
         nearer = f.nearer;
       }
 
+-- ---- the same of a place that is lent
+
+module _ (s : Shape) (i : ℕ) (w b x y : List ℕ) (is : place_in s.bytes s.messages x y ≡ place_at s w b i) where
+  pub key_same : (t : Bool) (k : Key) → t ≡ same_key k (stored_key x y) → t ≡ same_key k (place_at s w b i).key
+  unfolding place_in
+  key_same t k e = e ∙ ap (λ (p : Place). same_key k p.key) is
+
+  pub next_is : (n : ℕ) → n ≡ next_out_of x → n ≡ (place_at s w b i).stored.session.next_out
+  unfolding place_in session_of
+  next_is n e = e ∙ ap (λ (p : Place). p.stored.session.next_out) is
+
+  pub durable_is : (t : Bool) → t ≡ durable_of x → t ≡ (place_at s w b i).stored.durable
+  unfolding place_in
+  durable_is t e = e ∙ ap (λ (p : Place). p.stored.durable) is
+
+  pub last_is : (n r M : ℕ) → M ≡ s.messages → r ≡ last_out (session_of s.bytes M x y) n → r ≡ last_out (place_at s w b i).stored.session n
+  unfolding place_in
+  last_is n r M em e = e ∙ ap (λ (N : ℕ). last_out (session_of s.bytes N x y) n) em ∙ ap (λ (p : Place). last_out p.stored.session n) is
+
+pub from_at : (s : Shape) (i : ℕ) (w b x y : List ℕ) (M low left dist : ℕ) → M ≡ s.messages → x ≡ slice (words_at s i) (place_words s) w → y ≡ slice (bytes_at s i) (place_bytes s) b
+    → FromIn s.bytes M low x y left dist → FromAt s w b i low left dist
+unfolding PositionAt rest_at place_at place_in
+from_at s i w b x y M low left dist em ex ey f =
+    let g : FromIn s.bytes s.messages low (slice (words_at s i) (place_words s) w) (slice (bytes_at s i) (place_bytes s) b) left dist =
+    subst (λ (N : ℕ). FromIn s.bytes N low (slice (words_at s i) (place_words s) w) (slice (bytes_at s i) (place_bytes s) b) left dist) em (subst₂ (λ u v. FromIn s.bytes M low u v left dist) ex ey f) in
+    record { stands = g.stands; is = g.is }
+
 -- ---- summaries
 
 module _ (s : Shape) (i wa we ba be : ℕ) (w b : List ℕ) (at : SpotIn s i w b wa we ba be) (r : Rules s w b) (h : i < get_or w 0 0) where
@@ -86,7 +100,12 @@ module _ (s : Shape) (i wa we ba be : ℕ) (w b : List ℕ) (at : SpotIn s i w b
   abbrev lb : List ℕ
   lb = mid_of ba (be - ba) b
 
-  module _ (n : ℕ) (m : Summary) (k : SummaryIn s.bytes s.messages ba n lw lb m) where
+  module _ (n : ℕ) (m : Summary) (M : ℕ) (x y : List ℕ) (em : M ≡ s.messages) (ex : x ≡ slice (words_at s i) (place_words s) w) (ey : y ≡ slice (bytes_at s i) (place_bytes s) b) (lent : SummaryIn s.bytes M ba n x y m) where
+    k : SummaryIn s.bytes s.messages ba n lw lb m
+    k =
+        subst (λ (N : ℕ). SummaryIn s.bytes N ba n lw lb m) em
+        (subst₂ (λ u v. SummaryIn s.bytes M ba n u v m) (ex ∙ sym (ew s i wa we ba be w b at r h)) (ey ∙ sym (eb s i wa we ba be w b at r h)) lent)
+
     stamp_there : TextAt b (place_at s w b i).stored.session.stamp m.created_at.at m.created_at.len
     stamp_there = subst (λ (j : ℕ). TextAt b (place_at s w b i).stored.session.stamp j m.created_at.len) (sym k.stamp_at) (stamp_at s i wa we ba be w b at r h m.created_at.len k.stamp_len k.stamp)
 
@@ -94,24 +113,26 @@ module _ (s : Shape) (i wa we ba be : ℕ) (w b : List ℕ) (at : SpotIn s i w b
     marks_there = subst (λ (j : ℕ). TextAt b (place_at s w b i).stored.session.marks j m.marks.len) (sym k.marks_at) (marks_at s i wa we ba be w b at r h m.marks.len k.marks_len k.marks)
 
     pub summed_up : summary_of b m ≡ summary (place_at s w b i).stored.session n
-    unfolding summary
+    unfolding summary place_in
     summed_up = λ j. record {
       next_out = (k.out ∙ out_is s i wa we ba be w b at r h) j;
       next_in = (k.inc ∙ in_is s i wa we ba be w b at r h) j;
       in_flight = (k.flight ∙ flight_is s i wa we ba be w b at r h) j;
       stamp_text = stamp_there.is j;
       marks_text = marks_there.is j;
-      last_outgoing = last_is s i wa we ba be w b at r h n m.last_outgoing k.last j;
+      last_outgoing = (k.last ∙ ap (λ (p : Place). last_out p.stored.session n) (spot_place s i wa we ba be at.at w b r h)) j;
     }
 
     pub texts_in : TextsIn b m
     texts_in = record { stamp = stamp_there.inside; marks = marks_there.inside }
 
-module _ (s : Shape) (w b : List ℕ) (i n : ℕ) {t : Bool} (is : t ≡ in_use s w b i) where
-  pub summary_known : (m : model-frame.Summary) → t ≡ true → m ≡ summary (place_at s w b i).stored.session n → gives m ≡ summarised_at s w b i n
+module _ (s : Shape) (w b : List ℕ) (i n : ℕ) where
+  pub summary_known : (v : View) (m : Summary) → ViewWith s w b i v → summary_of v.bytes.now m ≡ summary (place_at v.shape v.words.now v.bytes.now i).stored.session n → gives (summary_of b m) ≡ summarised_at s w b i n
   unfolding summarised_at
-  summary_known m e q = ap gives q ∙ sym (ap (λ (t : Bool). cond t (gives (summary (place_at s w b i).stored.session n)) (refuses 25)) (sym is ∙ e))
+  summary_known v m o q =
+      ap gives (ap (λ (c : List ℕ). summary_of c m) (sym o.bytes) ∙ q ∙ (λ j. summary (place_at (o.shape j) (o.words j) (o.bytes j) i).stored.session n))
+      ∙ sym (ap (λ (t : Bool). cond t (gives (summary (place_at s w b i).stored.session n)) (refuses 25)) o.in_use)
 
-  pub summary_refused : t ≡ false → refuses 25 ≡ summarised_at s w b i n
+  pub summary_refused : in_use s w b i ≡ false → refuses 25 ≡ summarised_at s w b i n
   unfolding summarised_at
-  summary_refused e = sym (ap (λ (t : Bool). cond t (gives (summary (place_at s w b i).stored.session n)) (refuses 25)) (sym is ∙ e))
+  summary_refused e = sym (ap (λ (t : Bool). cond t (gives (summary (place_at s w b i).stored.session n)) (refuses 25)) e)

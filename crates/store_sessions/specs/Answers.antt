@@ -1,5 +1,5 @@
 -- What the functions over a store's sessions answer and leave. Assumes nothing.
-use Rattle.std.specs.Prelude.{◌≡◌, ℕ, ◌+◌, ◌≤◌, cond, List, [], ◌∷◌, ◌++◌, length, take, drop, get_or, set, Result, Ok, Err}
+use Rattle.std.specs.Prelude.{◌≡◌, ℕ, ◌+◌, ◌≤◌, cond, List, [], ◌∷◌, ◌++◌, length, take, drop, get_or, set, Option, Some, None, Result, Ok, Err}
 use Rattle.base_refusals.specs.declared.Refusal as declared
 use Rattle.base_refusals.specs.Numbers.{number_of}
 use Rattle.model_frame.specs.Refusal
@@ -7,7 +7,7 @@ use Rattle.model_frame.specs.Frame.{Key}
 use Rattle.model_frame.specs.Frame as model-frame
 use Rattle.model_session.specs.Session.{Msg}
 use Rattle.model_session.specs.Summary.{numbered_from, last_out, summary}
-use Rattle.model_standby.specs.Store.{place_of, new_place, on_places, taken_over}
+use Rattle.model_standby.specs.Store.{Place, place_of, is_stored, new_place, on_places, taken_over}
 use Rattle.frame_reader.specs.Answers.{Lies}
 use Rattle.frame_fields.specs.declared.Summary.{Summary}
 use Rattle.frame_fields.specs.Answers.{flight_of, summary_of}
@@ -27,12 +27,16 @@ pub data Answered (A : Type 0) : Type 0 where
 
 -- ---- searching
 
-abbrev pub sought_is : Result ℕ declared.Refusal → Answered ℕ
+-- the place of a key that is stored; of another there is none
+abbrev pub stored_place : Key → List Place → Option ℕ
+stored_place k ps = cond (is_stored k ps) (Some (place_of k ps)) None
+
+abbrev pub sought_is : Result (Option ℕ) declared.Refusal → Answered (Option ℕ)
 sought_is (Ok i) = gives i
 sought_is (Err e) = refuses (number_of e)
 
-unfoldable pub sought_in : Shape → List ℕ → List ℕ → Key → Answered ℕ
-sought_in s w b k = cond (allowed s w b) (gives (place_of k (places_of s w b))) (refuses Refusal.rules_broken)
+unfoldable pub sought_in : Shape → List ℕ → List ℕ → Key → Answered (Option ℕ)
+sought_in s w b k = cond (allowed s w b) (gives (stored_place k (places_of s w b))) (refuses Refusal.rules_broken)
 
 -- ---- opening: the new session stands at the place that was the first free one; nothing else changes but the count
 pub record Opened (s : Shape) (k : Key) (w w' b b' : List ℕ) : Type 0 where

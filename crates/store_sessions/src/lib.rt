@@ -1,14 +1,15 @@
 // The sessions of a store: finding and opening one, its summary and its messages, promotion of all.
+// A place comes as a number beside its view: callers have it from C or from a search.
 #![tactic(auto)]
 
 ghost use Rattle.std.specs.Prelude.{◌≡◌, Bool, true, List, [], ◌∷◌, ◌++◌, ℕ, ◌+◌, ◌-◌, ◌*◌, ◌≤◌, ◌<◌, length, take, drop, get_or, set};
 ghost use Rattle.model_session.specs.Summary.{last_out, summary};
-ghost use Rattle.model_standby.specs.Store.{same_key, place_of, taken_over};
+ghost use Rattle.model_standby.specs.Store.{same_key, taken_over};
 ghost use Rattle.frame_fields.specs.Answers.{summary_of};
 ghost use Rattle.store_place.specs.Keys.{key_of};
 ghost use Rattle.store_areas.specs.Areas.{Changed, place_at, places_of};
 ghost use Rattle.store_areas.specs.Same.{SameAreas};
-ghost use Rattle.store_sessions.specs.Answers.{sought_is, sought_in, Opened, TakenOver, SummaryIn, TextsIn, summarised_is, SummarisedIn, summarised_at, PositionAt, FromAt, NextMessageAt};
+ghost use Rattle.store_sessions.specs.Answers.{stored_place, sought_is, sought_in, Opened, TakenOver, SummaryIn, TextsIn, summarised_is, SummarisedIn, summarised_at, PositionAt, FromAt, NextMessageAt};
 
 use base_refusals::Refusal;
 use frame_fields::Summary;
@@ -35,50 +36,34 @@ fn has_key(view: &View, place: usize, key: &Key) -> bool
     requires { place < get_or view.now.words.now 0 0 }
     ensures { result ≡ same_key (key_of key.now) (place_at view.now.shape view.now.words.now view.now.bytes.now place).key }
 {
-    let spot = view.spot(place);
-    store_place::has_key(
-        &view.words[spot.words_start..spot.words_end],
-        &view.bytes[spot.bytes_start..spot.bytes_end],
-        key,
-    )
+    let stored = view.place(place);
+    store_place::has_key(stored.words, stored.bytes, key)
 }
 
-// The first place with this key, or the number of places in use where none has it.
-pub fn place_of(view: &View, key: &Key) -> usize
-    ensures { result ≡ place_of (key_of key.now) (places_of view.now.shape view.now.words.now view.now.bytes.now) }
+// The first place with this key.
+pub fn place_of(view: &View, key: &Key) -> Option<usize>
+    ensures { result ≡ stored_place (key_of key.now) (places_of view.now.shape view.now.words.now view.now.bytes.now) }
 {
-    let used = view.words[word::USED] as usize;
-    for i in 0..used {
-        if has_key(view, i, key) {
-            return i;
-        }
-    }
-    used
+    (0..view.words[word::USED] as usize).find(|place| has_key(view, *place, key))
 }
 
 // The same on any areas: 25 where they break the rules.
 // The areas and the shape come apart, as C lends them.
-pub fn find(words: &[u64], bytes: &[u8], shape: Shape, key: &Key) -> Result<usize, Refusal>
+pub fn find(words: &[u64], bytes: &[u8], shape: Shape, key: &Key) -> Result<Option<usize>, Refusal>
     ensures { sought_is result ≡ sought_in shape words.now bytes.now (key_of key.now) }
 {
-    if !store_areas::allowed(shape, words, bytes) {
-        return Err(Refusal::RulesBroken);
-    }
-    let view = View {
-        words,
-        bytes,
-        shape,
-    };
+    let view = View::over(shape, words, bytes)?;
     Ok(place_of(&view, key))
 }
 
-// Opens the new session of a key at the next free place.
-pub fn open(store: &mut Store, key: &Key)
+// Opens the new session of a key at the next free place, and gives that.
+pub fn open(store: &mut Store, key: &Key) -> usize
     requires words_bound { get_or store.old.words.now 0 0 < store.old.shape.places }
     requires begin_len_bound { length key.now.begin.now ≤ 32 }
     requires sender_len_bound { length key.now.sender.now ≤ 32 }
     requires target_len_bound { length key.now.target.now ≤ 32 }
     requires suffix_len_bound { length key.now.suffix.now ≤ 32 }
+    ensures place { result ≡ get_or store.old.words.now 0 0 }
     ensures is { Opened store.old.shape (key_of key.now) store.old.words.now store.new.words.now store.old.bytes.now store.new.bytes.now }
     ensures same { SameAreas store.old store.new }
 {
@@ -92,6 +77,7 @@ pub fn open(store: &mut Store, key: &Key)
         max,
         key,
     );
+    used
 }
 
 // ---- promotion
@@ -129,16 +115,14 @@ pub fn next_outgoing(view: &View, place: usize) -> u64
     requires { place < get_or view.now.words.now 0 0 }
     ensures { result ≡ (place_at view.now.shape view.now.words.now view.now.bytes.now place).stored.session.next_out }
 {
-    let spot = view.spot(place);
-    store_place::next_outgoing(&view.words[spot.words_start..spot.words_end])
+    store_place::next_outgoing(view.place(place).words)
 }
 
 pub fn durable(view: &View, place: usize) -> bool
     requires { place < get_or view.now.words.now 0 0 }
     ensures { result ≡ (place_at view.now.shape view.now.words.now view.now.bytes.now place).stored.durable }
 {
-    let spot = view.spot(place);
-    store_place::durable(&view.words[spot.words_start..spot.words_end])
+    store_place::durable(view.place(place).words)
 }
 
 // last_outgoing over n.
@@ -146,41 +130,27 @@ pub fn last_outgoing(view: &View, place: usize, n: u64) -> u64
     requires { place < get_or view.now.words.now 0 0 }
     ensures { result ≡ last_out (place_at view.now.shape view.now.words.now view.now.bytes.now place).stored.session n }
 {
-    let spot = view.spot(place);
-    let stored = Place {
-        words: &view.words[spot.words_start..spot.words_end],
-        bytes: &view.bytes[spot.bytes_start..spot.bytes_end],
-        max: view.shape.messages as usize,
-    };
-    stored.last_outgoing(n)
+    view.place(place).last_outgoing(n)
 }
 
-// The summary of the session whose words and bytes these are, with last_outgoing over n; its bytes begin at `from` in the byte area.
-fn summary_in(words: &[u64], bytes: &[u8], max: usize, from: usize, n: u64) -> Summary
-    requires max_in_bounds { 16 + 2 * max ≤ length words.now }
-    requires in_bounds { 224 ≤ length bytes.now }
-    requires from_bound { from + 224 < 18446744073709551616 }
-    ensures { (C : ℕ) → length bytes.now ≡ 224 + C → SummaryIn C max from n words.now bytes.now result }
+// The summary of the session at a place whose bytes begin at `from` in the byte area, with last_outgoing over n.
+fn summary_in(stored: &Place, from: usize, n: u64) -> Summary
+    requires { from + 224 < 18446744073709551616 }
+    ensures { (C : ℕ) → length stored.now.bytes.now ≡ 224 + C → SummaryIn C stored.now.max from n stored.now.words.now stored.now.bytes.now result }
 {
-    let next_outgoing = store_place::next_outgoing(words);
-    let next_incoming = store_place::next_incoming(words);
-    let in_flight = store_place::in_flight(words);
-    let stamp = store_place::stamp_len(words, bytes);
-    let marks = store_place::marks_len(words, bytes);
-    let last_outgoing = Place { words, bytes, max }.last_outgoing(n);
     Summary {
-        next_outgoing,
-        next_incoming,
-        in_flight,
+        next_outgoing: store_place::next_outgoing(stored.words),
+        next_incoming: store_place::next_incoming(stored.words),
+        in_flight: store_place::in_flight(stored.words),
         created_at: Span {
             at: from + store_place::byte::STAMP,
-            len: stamp as u32,
+            len: store_place::stamp(stored.words, stored.bytes).len() as u32,
         },
         marks: Span {
             at: from + store_place::byte::MARKS,
-            len: marks as u32,
+            len: store_place::marks(stored.words, stored.bytes).len() as u32,
         },
-        last_outgoing,
+        last_outgoing: stored.last_outgoing(n),
     }
 }
 
@@ -190,15 +160,7 @@ pub fn summary_of(view: &View, place: usize, n: u64) -> Summary
     ensures is { summary_of view.now.bytes.now result ≡ summary (place_at view.now.shape view.now.words.now view.now.bytes.now place).stored.session n }
     ensures inside { TextsIn view.now.bytes.now result }
 {
-    let spot = view.spot(place);
-    let max = view.shape.messages as usize;
-    summary_in(
-        &view.words[spot.words_start..spot.words_end],
-        &view.bytes[spot.bytes_start..spot.bytes_end],
-        max,
-        spot.bytes_start,
-        n,
-    )
+    summary_in(&view.place(place), view.spot(place).bytes_start, n)
 }
 
 // The same on any areas and of any place: 25 where they break the rules or the place isn't in use.
@@ -212,14 +174,7 @@ pub fn summary(
     ensures is { summarised_is bytes.now result ≡ summarised_at shape words.now bytes.now place n }
     ensures inside { SummarisedIn bytes.now result }
 {
-    if !store_areas::in_use(words, bytes, shape, place) {
-        return Err(Refusal::RulesBroken);
-    }
-    let view = View {
-        words,
-        bytes,
-        shape,
-    };
+    let view = View::with_place(shape, words, bytes, place)?;
     Ok(summary_of(&view, place, n))
 }
 
@@ -231,13 +186,7 @@ pub fn messages_from(view: &View, place: usize, low: u64) -> LogPosition
     requires le_low { 1 ≤ low }
     ensures { FromAt view.now.shape view.now.words.now view.now.bytes.now place low result.left result.dist }
 {
-    let spot = view.spot(place);
-    let stored = Place {
-        words: &view.words[spot.words_start..spot.words_end],
-        bytes: &view.bytes[spot.bytes_start..spot.bytes_end],
-        max: view.shape.messages as usize,
-    };
-    stored.position_from(low)
+    view.place(place).position_from(low)
 }
 
 // The next message at a place in the log of a session.
@@ -247,6 +196,7 @@ pub fn message_at(view: &View, place: usize, position: LogPosition) -> Message
     requires le_left { 1 ≤ position.left }
     ensures { NextMessageAt view.now.shape view.now.words.now view.now.bytes.now place position.left position.dist result.number result.first.at result.first.len result.second.at result.second.len result.next.left result.next.dist }
 {
+    // By the spot, since positions are counted from it: View::place would find it a second time.
     let spot = view.spot(place);
     let stored = Place {
         words: &view.words[spot.words_start..spot.words_end],

@@ -9,7 +9,7 @@
 
 use std::io;
 use store_areas::Shape;
-use vectors_script::{number, small};
+use vectors_script::{number, rest, small, words};
 use vectors_sendings::Stored;
 
 // The store's shape and the place that commands are about.
@@ -22,20 +22,20 @@ struct At {
 // A sending.
 fn sending(
     rt: &impl Print,
-    line: &str,
+    line: &[u8],
     stored: Stored,
     place: usize,
     out: &mut [u8],
 ) -> io::Result<()> {
-    let mut numbers = line.get(2..).unwrap_or("").split_whitespace();
-    if line.starts_with("x") {
+    let mut numbers = words(rest(line));
+    if line.starts_with(b"x") {
         let last = number(&mut numbers);
         return vectors_sendings::odd(rt, stored, place, last, number(&mut numbers), out);
     }
     let handle = small(&mut numbers);
     let epoch = number(&mut numbers);
     let last = number(&mut numbers);
-    let short = if line.starts_with("v") {
+    let short = if line.starts_with(b"v") {
         number(&mut numbers) as usize
     } else {
         out.len()
@@ -46,30 +46,31 @@ fn sending(
 // One command: what it leaves as the store's shape and the place.
 fn command(
     rt: &impl Print,
-    line: &str,
+    line: &[u8],
     words: &mut [u64],
     bytes: &mut [u8],
     out: &mut [u8],
     at: At,
 ) -> io::Result<At> {
     let shape = at.shape;
-    let rest = line.get(2..).unwrap_or("");
-    let mut numbers = rest.split_whitespace();
-    match line.get(..1).unwrap_or("") {
-        "n" => {
+    let text = rest(line);
+    let mut numbers = vectors_script::words(text);
+    match line.first() {
+        Some(b'n') => {
             let places = small(&mut numbers);
             let shape = vectors_fill::make(words, bytes, places, &mut numbers);
             Ok(At { shape, place: 0 })
         }
-        "o" => {
-            let place = vectors_fill::open(words, bytes, shape, rest).unwrap_or(usize::MAX);
+        Some(b'o') => {
+            // Where it wasn't opened, a place that no store has: each call refuses it.
+            let place = vectors_fill::open(words, bytes, shape, text).unwrap_or(usize::MAX);
             Ok(At { shape, place })
         }
-        "p" => Ok(At {
+        Some(b'p') => Ok(At {
             shape,
             place: number(&mut numbers) as usize,
         }),
-        "w" | "v" | "x" => {
+        Some(b'w' | b'v' | b'x') => {
             let stored = Stored {
                 words,
                 bytes,
@@ -88,7 +89,7 @@ fn command(
 // The script in areas for a store with the messages of two full batches, and for its longest frame.
 fn run(
     rt: &impl Print,
-    script: &str,
+    script: &[u8],
     words: &mut [u64; 162],
     bytes: &mut [u8; 2_100_224],
     out: &mut [u8; 1_100_000],
@@ -97,7 +98,7 @@ fn run(
         shape: vectors_fill::NO_SHAPE,
         place: 0,
     };
-    for line in script.lines() {
+    for line in script.split_inclusive(|b| *b == b'\n') {
         at = command(rt, line, words, bytes, out, at)?;
     }
     Ok(())

@@ -8,24 +8,13 @@ use base_refusals::Refusal;
 use frame_fields::Incarnation;
 use std::io;
 use std::str::SplitWhitespace;
-use vectors_script::{number, numbers};
-
-fn print_refusal(rt: &impl Print, refusal: Refusal) -> io::Result<()> {
-    println!(rt; "R {}", refusal.number())
-}
-
-fn print_done(rt: &impl Print, answer: Result<(), Refusal>) -> io::Result<()> {
-    match answer {
-        Ok(()) => println!(rt; "ok"),
-        Err(refusal) => print_refusal(rt, refusal),
-    }
-}
+use vectors_script::{number, numbers, print_done, print_refusal};
 
 fn print_opened(rt: &impl Print, answer: Result<Opened, Refusal>) -> io::Result<()> {
     match answer {
         Ok(Opened::Done) => println!(rt; "ok"),
         Ok(Opened::Wait) => println!(rt; "wait"),
-        Err(refusal) => print_refusal(rt, refusal),
+        Err(refusal) => print_refusal(rt, refusal.number()),
     }
 }
 
@@ -33,14 +22,14 @@ fn print_picked(rt: &impl Print, answer: Result<Option<u64>, Refusal>) -> io::Re
     match answer {
         Ok(Some(session)) => println!(rt; "{session}"),
         Ok(None) => println!(rt; "none"),
-        Err(refusal) => print_refusal(rt, refusal),
+        Err(refusal) => print_refusal(rt, refusal.number()),
     }
 }
 
 fn print_says(rt: &impl Print, answer: Result<bool, Refusal>) -> io::Result<()> {
     match answer {
         Ok(yes) => println!(rt; "{}", u8::from(yes)),
-        Err(refusal) => print_refusal(rt, refusal),
+        Err(refusal) => print_refusal(rt, refusal.number()),
     }
 }
 
@@ -60,14 +49,14 @@ fn call_listed(
     let listing = numbers(words, &mut room);
     match name {
         "all" => print_done(rt, active_books_pass::all_fall_behind(area, listing)),
-        "next" => {
-            let picked = active_books_pass::next_to_catch_up(area, listing, incarnation);
-            print_picked(rt, picked)
-        }
-        _ => {
-            let told = active_books_pass::all_compared(area, listing, incarnation);
-            print_says(rt, told)
-        }
+        "next" => print_picked(
+            rt,
+            active_books_pass::next_to_catch_up(area, listing, incarnation),
+        ),
+        _ => print_says(
+            rt,
+            active_books_pass::all_compared(area, listing, incarnation),
+        ),
     }
 }
 
@@ -88,26 +77,23 @@ fn call_one(
         "compared" => print_done(rt, active_books::caught_up(area, first, incarnation)),
         "ended" => print_says(rt, active_books::ended(area, first, incarnation)),
         "acked" => print_done(rt, active_books::acknowledged(area, Incarnation(first))),
-        _ => {
-            let run = Incarnation(first);
-            print_done(
-                rt,
-                active_books_pass::behind_unless_compared_open(area, run),
-            )
-        }
+        _ => print_done(
+            rt,
+            active_books_pass::behind_unless_compared_open(area, Incarnation(first)),
+        ),
     }
 }
 
 // One line on the area that is lent, which another line may replace: the handle, the area and the line stay apart.
-fn replay(rt: &impl Print, area: &mut [u64], line: &str) -> io::Result<()> {
-    let mut words = line.split_whitespace();
+fn replay(rt: &impl Print, area: &mut [u64], line: &[u8]) -> io::Result<()> {
+    let mut words = vectors_script::words(line);
     let Some(name) = words.next() else {
         return Ok(());
     };
     match name {
         "make" => match active_books::make(area) {
             Ok(()) => Ok(()),
-            Err(refusal) => print_refusal(rt, refusal),
+            Err(refusal) => print_refusal(rt, refusal.number()),
         },
         "all" | "next" | "check" => call_listed(rt, area, name, &mut words),
         _ => call_one(rt, area, name, &mut words),

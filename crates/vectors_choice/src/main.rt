@@ -48,8 +48,8 @@ fn copy<'a>(
 }
 
 // One set.
-fn choose(line: &str) -> Result<usize, Refusal> {
-    let mut numbers = line.get(1..).unwrap_or("").split_whitespace();
+fn choose(line: &[u8]) -> Result<usize, Refusal> {
+    let mut numbers = vectors_script::words(vectors_script::rest(line));
     let (mut w0, mut b0) = ([0; 114], [0; 672]);
     let (mut w1, mut b1) = ([0; 114], [0; 672]);
     let (mut w2, mut b2) = ([0; 114], [0; 672]);
@@ -66,10 +66,11 @@ fn choose(line: &str) -> Result<usize, Refusal> {
 
 fn main(rt: HostRuntime) -> io::Result<()> {
     let mut room = [0u8; 65_536];
-    for line in vectors_script::read_script(&rt, &mut room)?.lines() {
+    let script = vectors_script::read_script(&rt, &mut room)?;
+    for line in script.split_inclusive(|b| *b == b'\n') {
         match choose(line) {
             Ok(copy) => println!(rt; "{copy}")?,
-            Err(refusal) => println!(rt; "R {}", refusal.number())?,
+            Err(refusal) => vectors_script::print_refusal(&rt, refusal.number())?,
         }
     }
     Ok(())

@@ -10,12 +10,13 @@
 
 use active::Sending;
 use frame_fields::{CommitNumber, Epoch, Incarnation, Summary};
+use frame_reader::Span;
 use standby_row::Bound;
 use standby_state::{Answer, Replica, Settings};
 use std::io;
 use store_areas::Shape;
 use store_log::fnv;
-use vectors_script::{byte, number, small};
+use vectors_script::{byte, number, small, words};
 
 // The stores' shape, what the standby keeps, the sending, the length of the frame that it gave last, and B's hash.
 #[derive(Clone, Copy)]
@@ -25,7 +26,7 @@ struct Way {
     row: [Bound; 4],
     sending: Sending,
     len: usize,
-    before: u64,
+    before: Option<u64>,
 }
 
 impl Way {
@@ -43,18 +44,15 @@ impl Way {
                 from: None,
             },
             len: 0,
-            before: 0,
+            before: None,
         }
     }
 }
 
 // The hash h carried over a text's length and bytes.
-fn text_hash(hash: u64, bytes: &[u8], at: usize, len: usize) -> u64 {
-    let hash = fnv::word(hash, len as u64);
-    match bytes.get(at..at.saturating_add(len)) {
-        Some(text) => fnv::bytes(hash, text),
-        None => hash,
-    }
+fn text_hash(hash: u64, bytes: &[u8], text: Span) -> u64 {
+    let hash = fnv::word(hash, u64::from(text.len));
+    fnv::bytes(hash, frame_reader::slice(bytes, text))
 }
 
 // A hash over a session's six parts; the messages and their numbers are in last_outgoing.
@@ -65,22 +63,26 @@ fn summary_hash(bytes: &[u8], s: Summary) -> u64 {
         None => fnv::word(h, 0),
         Some(n) => fnv::word(fnv::word(h, 1), n),
     };
-    let h = text_hash(h, bytes, s.created_at.at, s.created_at.len as usize);
-    let h = text_hash(h, bytes, s.marks.at, s.marks.len as usize);
+    let h = text_hash(h, bytes, s.created_at);
+    let h = text_hash(h, bytes, s.marks);
     fnv::word(h, s.last_outgoing)
 }
 
-// The hash of a store's first session, 0 where it has none.
-fn hash(words: &[u64], bytes: &[u8], shape: Shape) -> u64 {
-    match store_sessions::summary(words, bytes, shape, 0, u64::MAX) {
-        Ok(summary) => summary_hash(bytes, summary),
-        Err(_) => 0,
-    }
+// The hash of a store's first session, if it has one.
+fn hash(words: &[u64], bytes: &[u8], shape: Shape) -> Option<u64> {
+    let summary = store_sessions::summary(words, bytes, shape, 0, u64::MAX).ok()?;
+    Some(summary_hash(bytes, summary))
 }
 
 // The answer, and which session the standby has, by the hashes of its own, of A and of B; none is told before a sending begins.
-fn print_answer(rt: &impl Print, answer: Answer, now: u64, a: u64, b: u64) -> io::Result<()> {
-    let which = if b == 0 {
+fn print_answer(
+    rt: &impl Print,
+    answer: Answer,
+    now: Option<u64>,
+    a: Option<u64>,
+    b: Option<u64>,
+) -> io::Result<()> {
+    let which = if b.is_none() {
         ""
     } else if now == a {
         " A"
@@ -103,7 +105,7 @@ fn hand(
     bytes: &mut [u8],
     holds: &mut [u8],
     way: Way,
-    a: u64,
+    a: Option<u64>,
 ) -> io::Result<Way> {
     let settings = Settings {
         shape: way.shape,
@@ -124,15 +126,15 @@ fn hand(
 // Gives the standby a frame in digits.
 fn hand_digits(
     rt: &impl Print,
-    digits: &str,
+    digits: &[u8],
     words: &mut [u64],
     bytes: &mut [u8],
     holds: &mut [u8],
     way: Way,
-    a: u64,
+    a: Option<u64>,
 ) -> io::Result<Way> {
     let mut room = [0u8; 8192];
-    match base_hex::read_line(digits.as_bytes(), &mut room) {
+    match base_hex::read_line(digits, &mut room) {
         Some(len) => hand(rt, &room[..len], words, bytes, holds, way, a),
         None => Ok(way),
     }
@@ -148,7 +150,7 @@ fn hand_with(
     bytes: &mut [u8],
     holds: &mut [u8],
     way: Way,
-    a: u64,
+    a: Option<u64>,
 ) -> io::Result<Way> {
     let Some(frame) = out.get_mut(..way.len) else {
         return Ok(way);
@@ -165,8 +167,8 @@ fn hand_with(
 }
 
 // Begins the sending; `before` is B's hash.
-fn begin(line: &str, words: &[u64], bytes: &[u8], way: Way, before: u64) -> Way {
-    let mut numbers = line.split_whitespace();
+fn begin(line: &[u8], words: &[u64], bytes: &[u8], way: Way, before: Option<u64>) -> Way {
+    let mut numbers = vectors_script::words(line);
     let handle = small(&mut numbers);
     let epoch = Epoch(number(&mut numbers));
     let last = CommitNumber(number(&mut numbers));
@@ -189,20 +191,20 @@ fn take(rt: &impl Print, words: &[u64], bytes: &[u8], out: &mut [u8], way: Way) 
             });
         }
         Ok(None) => println!(rt; "done")?,
-        Err(refusal) => println!(rt; "R {}", refusal.number())?,
+        Err(refusal) => vectors_script::print_refusal(rt, refusal.number())?,
     }
     Ok(way)
 }
 
 // Two new stores and a new standby.
 fn make(
-    line: &str,
+    line: &[u8],
     words_a: &mut [u64],
     bytes_a: &[u8],
     words_b: &mut [u64],
     bytes_b: &[u8],
 ) -> Way {
-    let mut numbers = line.split_whitespace();
+    let mut numbers = words(line);
     let places = small(&mut numbers);
     let shape = vectors_fill::make(words_a, bytes_a, places, &mut numbers);
     c_store::store_make(words_b, bytes_b, shape);
@@ -212,7 +214,7 @@ fn make(
 // One command.
 fn command(
     rt: &impl Print,
-    line: &str,
+    line: &[u8],
     words_a: &mut [u64],
     bytes_a: &mut [u8],
     words_b: &mut [u64],
@@ -223,20 +225,20 @@ fn command(
 ) -> io::Result<Way> {
     let shape = way.shape;
     let a = hash(words_a, bytes_a, shape);
-    let rest = line.get(2..).unwrap_or("");
-    match line.get(..1).unwrap_or("") {
-        "n" => Ok(make(rest, words_a, bytes_a, words_b, bytes_b)),
-        "w" => Ok(begin(rest, words_a, bytes_a, way, hash(words_b, bytes_b, shape))),
-        "f" => take(rt, words_a, bytes_a, out, way),
-        "h" => hand_digits(rt, rest, words_b, bytes_b, holds, way, a),
-        "=" => hand_with(rt, 0, 0, out, words_b, bytes_b, holds, way, a),
-        "x" => {
-            let mut numbers = rest.split_whitespace();
+    let rest = vectors_script::rest(line);
+    match line.first() {
+        Some(b'n') => Ok(make(rest, words_a, bytes_a, words_b, bytes_b)),
+        Some(b'w') => Ok(begin(rest, words_a, bytes_a, way, hash(words_b, bytes_b, shape))),
+        Some(b'f') => take(rt, words_a, bytes_a, out, way),
+        Some(b'h') => hand_digits(rt, rest, words_b, bytes_b, holds, way, a),
+        Some(b'=') => hand_with(rt, 0, 0, out, words_b, bytes_b, holds, way, a),
+        Some(b'x') => {
+            let mut numbers = words(rest);
             let at = number(&mut numbers) as usize;
             let n = byte(&mut numbers);
             hand_with(rt, at, n, out, words_b, bytes_b, holds, way, a)
         }
-        "o" => {
+        Some(b'o') => {
             vectors_fill::open(words_a, bytes_a, shape, rest);
             Ok(way)
         }
@@ -250,7 +252,7 @@ fn command(
 // The script in areas for stores with one message more than a full batch has, and for the frames of that.
 fn run(
     rt: &impl Print,
-    script: &str,
+    script: &[u8],
     words_a: &mut [u64; 162],
     bytes_a: &mut [u8; 1_050_000],
     words_b: &mut [u64; 162],
@@ -259,7 +261,7 @@ fn run(
     out: &mut [u8; 1_050_000],
 ) -> io::Result<()> {
     let mut way = Way::new(vectors_fill::NO_SHAPE);
-    for line in script.lines() {
+    for line in script.split_inclusive(|b| *b == b'\n') {
         way = command(
             rt, line, words_a, bytes_a, words_b, bytes_b, holds, out, way,
         )?;

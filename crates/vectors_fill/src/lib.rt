@@ -4,7 +4,7 @@
 
 use std::str::SplitWhitespace;
 use store_areas::Shape;
-use vectors_script::{number, small};
+use vectors_script::{number, rest, small};
 
 // No store yet.
 pub const NO_SHAPE: Shape = Shape {
@@ -27,8 +27,7 @@ pub fn make(words: &mut [u64], bytes: &[u8], places: u32, line: &mut SplitWhites
 }
 
 // The place of the session with this target, opened where it isn't stored yet.
-pub fn open(words: &mut [u64], bytes: &mut [u8], shape: Shape, target: &str) -> Option<usize> {
-    let target = target.as_bytes();
+pub fn open(words: &mut [u64], bytes: &mut [u8], shape: Shape, target: &[u8]) -> Option<usize> {
     let opened = c_store::store_open(words, bytes, shape, b"FIX.4.4", b"A", target, b"");
     if opened.refusal == 0 {
         Some(opened.value as usize)
@@ -57,24 +56,18 @@ pub fn record_made(
 }
 
 // The change of numbers that a line asks for; one that can't be made is left out.
-fn change_numbers(
-    words: &mut [u64],
-    bytes: &[u8],
-    shape: Shape,
-    place: usize,
-    letter: &str,
-    line: &mut SplitWhitespace<'_>,
-) {
-    let n = number(line);
-    match letter {
-        "i" => c_changes::store_set_next_incoming(words, bytes, shape, place, n),
-        "b" => {
-            let flight = number(line);
+fn change_numbers(words: &mut [u64], bytes: &[u8], shape: Shape, place: usize, line: &[u8]) {
+    let mut numbers = vectors_script::words(rest(line));
+    let n = number(&mut numbers);
+    match line.first() {
+        Some(b'i') => c_changes::store_set_next_incoming(words, bytes, shape, place, n),
+        Some(b'b') => {
+            let flight = number(&mut numbers);
             c_changes::store_set_next_incoming_in_flight(words, bytes, shape, place, n, flight)
         }
-        "f" => c_changes::store_set_in_flight(words, bytes, shape, place, n),
-        "g" => c_changes::store_record_none(words, bytes, shape, place, n),
-        "z" => c_changes::store_reset(words, bytes, shape, place),
+        Some(b'f') => c_changes::store_set_in_flight(words, bytes, shape, place, n),
+        Some(b'g') => c_changes::store_record_none(words, bytes, shape, place, n),
+        Some(b'z') => c_changes::store_reset(words, bytes, shape, place),
         _ => 0,
     };
 }
@@ -87,27 +80,24 @@ pub fn change(
     bytes: &mut [u8],
     shape: Shape,
     place: usize,
-    line: &str,
+    line: &[u8],
     room: &mut [u8],
 ) {
-    let letter = line.get(..1).unwrap_or("");
-    let rest = line.get(2..).unwrap_or("");
-    let mut numbers = rest.split_whitespace();
-    let text = rest.as_bytes();
-    match letter {
-        "t" => {
+    let text = rest(line);
+    match line.first() {
+        Some(b't') => {
             c_changes::store_set_created_at(words, bytes, shape, place, text);
         }
-        "k" => {
+        Some(b'k') => {
             c_changes::store_set_marks(words, bytes, shape, place, text);
         }
-        "m" => {
+        Some(b'm') => {
             c_changes::store_record(words, bytes, shape, place, text);
         }
-        "l" => {
-            let len = number(&mut numbers) as usize;
+        Some(b'l') => {
+            let len = number(&mut vectors_script::words(text)) as usize;
             record_made(words, bytes, shape, place, len, room);
         }
-        _ => change_numbers(words, bytes, shape, place, letter, &mut numbers),
+        _ => change_numbers(words, bytes, shape, place, line),
     }
 }

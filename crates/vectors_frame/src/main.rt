@@ -13,7 +13,7 @@ const PROTOCOL: Protocol = Protocol {
     version: Frame::VERSION,
 };
 
-// A refusal's number and values.
+// A refusal's number, and its values on the same line; the fields' names are those that oracle/rust-frames writes.
 fn print_fault(rt: &impl Print, error: FrameError) -> io::Result<()> {
     let number = error.number();
     match error {
@@ -27,7 +27,7 @@ fn print_fault(rt: &impl Print, error: FrameError) -> io::Result<()> {
             };
             println!(rt; "R {number} {name} {byte}")
         }
-        FrameError::Truncated | FrameError::Invalid(_) => println!(rt; "R {number}"),
+        FrameError::Truncated | FrameError::Invalid(_) => vectors_script::print_refusal(rt, number),
     }
 }
 
@@ -58,18 +58,23 @@ fn print_reading(rt: &impl Print, src: &[u8]) -> io::Result<()> {
 }
 
 // The answer to a line; an empty line is an empty frame.
-fn answer(rt: &impl Print, line: &str) -> io::Result<()> {
+fn answer(rt: &impl Print, line: &[u8]) -> io::Result<()> {
     let mut bytes = [0u8; 8192];
+    let line = line.strip_suffix(b"\n").unwrap_or(line);
     if line.is_empty() {
         return print_reading(rt, b"");
     }
-    match base_hex::read_line(line.as_bytes(), &mut bytes) {
+    match base_hex::read_line(line, &mut bytes) {
         Some(len) => print_reading(rt, &bytes[..len]),
-        None => println!(rt; "? {line}"),
+        None => {
+            print!(rt; "? ")?;
+            rt.write_all(line)?;
+            println!(rt; "")
+        }
     }
 }
 
-// Room for the whole list.
+// Room for the whole list. A function of its own: where `main` makes the area, the check of it runs out of its stack.
 fn area() -> [u8; 1_048_576]
     ensures { 1048576 ≡ length result }
 {
@@ -78,7 +83,8 @@ fn area() -> [u8; 1_048_576]
 
 fn main(rt: HostRuntime) -> io::Result<()> {
     let mut room = area();
-    for line in vectors_script::read_script(&rt, &mut room)?.lines() {
+    let script = vectors_script::read_script(&rt, &mut room)?;
+    for line in script.split_inclusive(|b| *b == b'\n') {
         answer(&rt, line)?;
     }
     Ok(())

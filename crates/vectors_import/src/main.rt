@@ -26,12 +26,12 @@ impl File<'_> {
     }
 
     // Puts a text behind the file, its bytes as the script writes them.
-    fn append(&mut self, text: &str) {
+    fn append(&mut self, text: &[u8]) {
         let end = self.len.saturating_add(text.len());
         let Some(room) = self.area.get_mut(self.len..end) else {
             return;
         };
-        for (byte, written) in room.iter_mut().zip(text.as_bytes()) {
+        for (byte, written) in room.iter_mut().zip(text) {
             *byte = match *written {
                 b'|' => 1,
                 b'~' => 128,
@@ -110,22 +110,22 @@ fn import(
 // One command: what it leaves as the store's shape.
 fn command(
     rt: &impl Print,
-    line: &str,
+    line: &[u8],
     words: &mut [u64],
     bytes: &mut [u8],
     file: &mut File<'_>,
     shape: Shape,
 ) -> io::Result<Shape> {
-    let rest = line.get(2..).unwrap_or("");
-    let mut numbers = rest.split_whitespace();
-    match line.get(..1).unwrap_or("") {
-        "n" => {
+    let rest = vectors_script::rest(line);
+    let mut numbers = vectors_script::words(rest);
+    match line.first() {
+        Some(b'n') => {
             let places = small(&mut numbers);
             return Ok(vectors_fill::make(words, bytes, places, &mut numbers));
         }
-        "x" => file.len = 0,
-        "a" => file.append(rest),
-        "s" => {
+        Some(b'x') => file.len = 0,
+        Some(b'a') => file.append(rest),
+        Some(b's') => {
             let at = number(&mut numbers) as usize;
             file.set(at, byte(&mut numbers));
         }
@@ -150,7 +150,7 @@ fn main(rt: HostRuntime) -> io::Result<()> {
         len: 0,
     };
     let mut shape = vectors_fill::NO_SHAPE;
-    for line in script.lines() {
+    for line in script.split_inclusive(|b| *b == b'\n') {
         shape = command(&rt, line, &mut words, &mut bytes, &mut file, shape)?;
     }
     Ok(())

@@ -29,7 +29,7 @@ fn push(
 ) -> io::Result<ReplicatedLog> {
     match queue.queue(last, max_lag) {
         Err(refusal) => {
-            println!(rt; "R {}", refusal.number())?;
+            vectors_script::print_refusal(rt, refusal.number())?;
             Ok(queue)
         }
         Ok(pushed) => {
@@ -46,8 +46,8 @@ fn push(
 }
 
 // A new queue, or one in which so many zeros wait, and a push for each further number of the line.
-fn run_line(rt: &impl Print, line: &str) -> io::Result<()> {
-    let mut words = line.split_whitespace();
+fn run_line(rt: &impl Print, line: &[u8]) -> io::Result<()> {
+    let mut words = vectors_script::words(line);
     let letter = words.next();
     let max_lag = number(&mut words);
     let mut queue = ReplicatedLog::new(number(&mut words));
@@ -62,7 +62,8 @@ fn run_line(rt: &impl Print, line: &str) -> io::Result<()> {
 
 fn main(rt: HostRuntime) -> io::Result<()> {
     let mut room = [0u8; 65_536];
-    for line in vectors_script::read_script(&rt, &mut room)?.lines() {
+    let script = vectors_script::read_script(&rt, &mut room)?;
+    for line in script.split_inclusive(|b| *b == b'\n') {
         run_line(&rt, line)?;
     }
     Ok(())

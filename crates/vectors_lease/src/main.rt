@@ -5,7 +5,7 @@
 
 use c_lease::{Due, word};
 use std::io;
-use vectors_script::number;
+use vectors_script::{number, print_refusal};
 
 // The byte of an outcome by its name.
 fn outcome(name: &str) -> u8 {
@@ -18,7 +18,7 @@ fn outcome(name: &str) -> u8 {
 
 fn print_due(rt: &impl Print, answer: Due) -> io::Result<()> {
     if answer.refusal != 0 {
-        println!(rt; "R {}", answer.refusal)
+        print_refusal(rt, answer.refusal)
     } else {
         println!(rt; "{}", answer.due)
     }
@@ -28,7 +28,7 @@ fn print_due(rt: &impl Print, answer: Due) -> io::Result<()> {
 fn print_tried(rt: &impl Print, refusal: u8, lease: &[u64; 4]) -> io::Result<()> {
     let until = lease[word::UNTIL];
     if refusal != 0 {
-        println!(rt; "R {refusal}")
+        print_refusal(rt, refusal)
     } else if lease[word::LOST] == 0 {
         println!(rt; "held {until}")
     } else {
@@ -37,8 +37,8 @@ fn print_tried(rt: &impl Print, refusal: u8, lease: &[u64; 4]) -> io::Result<()>
 }
 
 // One line on a lease.
-fn call(rt: &impl Print, line: &str, lease: &mut [u64; 4]) -> io::Result<()> {
-    let mut words = line.split_whitespace();
+fn call(rt: &impl Print, line: &[u8], lease: &mut [u64; 4]) -> io::Result<()> {
+    let mut words = vectors_script::words(line);
     match words.next().unwrap_or("") {
         "due" => print_due(rt, c_lease::wz_lease_renewal(lease, number(&mut words))),
         "try" => {
@@ -59,7 +59,8 @@ fn call(rt: &impl Print, line: &str, lease: &mut [u64; 4]) -> io::Result<()> {
 fn main(rt: HostRuntime) -> io::Result<()> {
     let mut room = [0u8; 65_536];
     let mut lease = [0; 4];
-    for line in vectors_script::read_script(&rt, &mut room)?.lines() {
+    let script = vectors_script::read_script(&rt, &mut room)?;
+    for line in script.split_inclusive(|b| *b == b'\n') {
         call(&rt, line, &mut lease)?;
     }
     Ok(())

@@ -7,48 +7,41 @@
 use base_refusals::Refusal;
 use frame_fields::CommitNumber;
 use std::io;
-use vectors_script::{number, small};
-
-fn print_answer(rt: &impl Print, answer: Result<(), Refusal>) -> io::Result<()> {
-    match answer {
-        Ok(()) => println!(rt; "ok"),
-        Err(refusal) => println!(rt; "R {}", refusal.number()),
-    }
-}
+use vectors_script::{number, print_done, print_refusal, small};
 
 fn print_figure(rt: &impl Print, figure: Result<CommitNumber, Refusal>) -> io::Result<()> {
     match figure {
         Ok(number) => println!(rt; "{}", number.0),
-        Err(refusal) => println!(rt; "R {}", refusal.number()),
+        Err(refusal) => print_refusal(rt, refusal.number()),
     }
 }
 
 fn make(rt: &impl Print, area: &mut [u64], members: u64, needed: u64) -> io::Result<()> {
     match active_quorum::make(area, members, needed) {
         Ok(()) => Ok(()),
-        Err(refusal) => println!(rt; "R {}", refusal.number()),
+        Err(refusal) => print_refusal(rt, refusal.number()),
     }
 }
 
 // One line on the area that is lent, which another line may replace: the handle, the area and the line stay apart.
-fn replay(rt: &impl Print, area: &mut [u64], line: &str) -> io::Result<()> {
-    let mut words = line.split_whitespace();
+fn replay(rt: &impl Print, area: &mut [u64], line: &[u8]) -> io::Result<()> {
+    let mut words = vectors_script::words(line);
     match words.next().unwrap_or("") {
-        "bind" => print_answer(rt, active_quorum::bind(area, small(&mut words))),
+        "bind" => print_done(rt, active_quorum::bind(area, small(&mut words))),
         "sent" => {
             let handle = small(&mut words);
             let sent = CommitNumber(number(&mut words));
-            print_answer(rt, active_quorum::sent(area, handle, sent))
+            print_done(rt, active_quorum::sent(area, handle, sent))
         }
         "ack" => {
             let member = number(&mut words) as usize;
             let handle = small(&mut words);
             let held = CommitNumber(number(&mut words));
-            print_answer(rt, active_quorum::acknowledged(area, member, handle, held))
+            print_done(rt, active_quorum::acknowledged(area, member, handle, held))
         }
         "stale" => {
             let member = number(&mut words) as usize;
-            print_answer(rt, active_quorum::stale_epoch(area, member))
+            print_done(rt, active_quorum::stale_epoch(area, member))
         }
         "figure" => print_figure(rt, active_quorum::figure(area, small(&mut words))),
         members => make(rt, area, members.parse().unwrap_or(0), number(&mut words)),

@@ -3,7 +3,7 @@
 // `n C M` a new store with one session, `l LENGTH` a Record with a made message, `g N` one without message, `z` Reset,
 // `G PLACE ENTRIES FIRST LAST ..` a request for the session at a place, into an area of so many entries.
 // The areas and their shape are not one struct, as in vectors_fill.
-// Each program has its own areas; the loop over the lines is all that is left alike.
+// Each program has its own areas; the loop over the lines is all that they share.
 #![tactic(auto)]
 
 use base_refusals::Refusal;
@@ -91,19 +91,19 @@ fn request(
 // One command: what it leaves as the store's shape.
 fn command(
     rt: &impl Print,
-    line: &str,
+    line: &[u8],
     words: &mut [u64],
     bytes: &mut [u8],
     shape: Shape,
 ) -> io::Result<Shape> {
-    let mut numbers = line.get(2..).unwrap_or("").split_whitespace();
-    match line.get(..1).unwrap_or("") {
-        "n" => {
+    let mut numbers = vectors_script::words(vectors_script::rest(line));
+    match line.first() {
+        Some(b'n') => {
             let made = vectors_fill::make(words, bytes, 1, &mut numbers);
-            vectors_fill::open(words, bytes, made, "B");
+            vectors_fill::open(words, bytes, made, b"B");
             return Ok(made);
         }
-        "G" => request(rt, numbers, words, bytes, shape)?,
+        Some(b'G') => request(rt, numbers, words, bytes, shape)?,
         _ => {
             let mut room = [0u8; 1100];
             vectors_fill::change(words, bytes, shape, 0, line, &mut room);
@@ -118,7 +118,7 @@ fn main(rt: HostRuntime) -> io::Result<()> {
     let mut words = [0u64; 242];
     let mut bytes = [0u8; 1248];
     let mut shape = vectors_fill::NO_SHAPE;
-    for line in script.lines() {
+    for line in script.split_inclusive(|b| *b == b'\n') {
         shape = command(&rt, line, &mut words, &mut bytes, shape)?;
     }
     Ok(())

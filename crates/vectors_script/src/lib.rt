@@ -3,6 +3,7 @@
 
 ghost use Rattle.std.specs.Prelude.{◌≤◌, IfOk, length};
 
+use base_refusals::Refusal;
 use std::io;
 use std::io::Read;
 use std::str::{self, SplitWhitespace};
@@ -25,9 +26,22 @@ fn fill(rt: &impl Input, room: &mut [u8]) -> io::Result<usize>
 }
 
 // The script: as many bytes of the input as there is room for.
-pub fn read_script<'a>(rt: &impl Input, room: &'a mut [u8]) -> io::Result<&'a str> {
+pub fn read_script<'a>(rt: &impl Input, room: &'a mut [u8]) -> io::Result<&'a [u8]>
+    ensures { IfOk result (λ script. length script.now ≤ length room.old) }
+{
     let n = fill(rt, room)?;
-    str::from_utf8(&room[..n]).map_err(|_| io::Error::from(io::ErrorKind::InvalidData))
+    Ok(&room[..n])
+}
+
+// What stands behind a line's letter and one more byte, without the line's end.
+pub fn rest(line: &[u8]) -> &[u8] {
+    let line = line.strip_suffix(b"\n").unwrap_or(line);
+    line.get(2..).unwrap_or(&[])
+}
+
+// The words of a text, none where it is not UTF-8.
+pub fn words(text: &[u8]) -> SplitWhitespace<'_> {
+    str::from_utf8(text).unwrap_or("").split_whitespace()
 }
 
 // The next word as a number, 0 where there is none.
@@ -53,22 +67,35 @@ pub fn numbers<'a>(words: &mut SplitWhitespace<'_>, room: &'a mut [u64]) -> &'a 
             break;
         };
         *place = word.parse().unwrap_or(0);
-        // At most as many as there are places, so it never stands still.
+        // At most as many as there are places, so the sum never saturates.
         count = count.saturating_add(1);
     }
     room.get(..count).unwrap_or(&[])
 }
 
+// A refusal as every program writes it: by its number, as an Answer of C has it.
+pub fn print_refusal(rt: &impl Print, number: u8) -> io::Result<()> {
+    println!(rt; "R {number}")
+}
+
+// What a call gives that has nothing to tell: done, or a refusal.
+pub fn print_done(rt: &impl Print, answer: Result<(), Refusal>) -> io::Result<()> {
+    match answer {
+        Ok(()) => println!(rt; "ok"),
+        Err(refusal) => print_refusal(rt, refusal.number()),
+    }
+}
+
 // A line on the area that is lent: `word I V` sets a word, and what else there is goes to the call.
-fn replay_on<R, F>(rt: &R, area: &mut [u64], line: &str, call: &F) -> io::Result<()>
+fn replay_on<R, F>(rt: &R, area: &mut [u64], line: &[u8], call: &F) -> io::Result<()>
 where
-    F: Fn(&R, &mut [u64], &str) -> io::Result<()>,
+    F: Fn(&R, &mut [u64], &[u8]) -> io::Result<()>,
     requires { F.IsAlwaysCallable call.now }
 {
-    let Some(rest) = line.strip_prefix("word ") else {
+    let Some(rest) = line.strip_prefix(b"word ") else {
         return call(rt, area, line);
     };
-    let mut words = rest.split_whitespace();
+    let mut words = words(rest);
     let at = number(&mut words) as usize;
     if let Some(word) = area.get_mut(at) {
         *word = number(&mut words);
@@ -79,19 +106,19 @@ where
 // Calls with each line and the area that is lent: after `lend 0` the short one, after `lend 1` the whole one again.
 pub fn replay_lent<R, F>(
     rt: &R,
-    script: &str,
+    script: &[u8],
     whole: &mut [u64],
     short: &mut [u64],
     call: F,
 ) -> io::Result<()>
 where
-    F: Fn(&R, &mut [u64], &str) -> io::Result<()> + Drop,
+    F: Fn(&R, &mut [u64], &[u8]) -> io::Result<()> + Drop,
     requires { F.IsAlwaysCallable call }
 {
     let mut lends_whole = true;
-    for line in script.lines() {
-        if let Some(lent) = line.strip_prefix("lend ") {
-            lends_whole = lent == "1";
+    for line in script.split_inclusive(|b| *b == b'\n') {
+        if let Some(lent) = line.strip_prefix(b"lend ") {
+            lends_whole = lent.starts_with(b"1");
         } else if lends_whole {
             replay_on(rt, whole, line, &call)?;
         } else {

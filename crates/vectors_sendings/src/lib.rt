@@ -39,7 +39,7 @@ fn turn(rt: &impl Print, state: Sending, stored: Stored, out: &mut [u8]) -> io::
     match answer {
         Ok(Some(sent)) => print_frame(rt, out.get(..sent.len).unwrap_or(&[]))?,
         Ok(None) => println!(rt; "done")?,
-        Err(refusal) => println!(rt; "R {}", refusal.number())?,
+        Err(refusal) => vectors_script::print_refusal(rt, refusal.number())?,
     }
     Ok(answer)
 }
@@ -106,7 +106,7 @@ pub fn whole(
             let _ = turn(rt, end, stored, out)?;
             Ok(())
         }
-        Err(refusal) => println!(rt; "R {}", refusal.number()),
+        Err(refusal) => vectors_script::print_refusal(rt, refusal.number()),
     }
 }
 

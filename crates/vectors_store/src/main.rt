@@ -3,13 +3,12 @@
 // `z` Reset, `p LAG` promotion, `l` a listing, `h N` last_outgoing, `f TEXT` the hash of a text. What it must write was made by
 // tests/make/store_vectors.py, which has the rules in Python.
 // The areas and their shape are not one struct, as in vectors_fill.
-// Each program has its own areas; the loop over the lines is all that is left alike.
+// Each program has its own areas; the loop over the lines is all that they share.
 #![tactic(auto)]
 
 use std::io;
 use store_areas::{Shape, View};
 use store_log::{Found, fnv};
-use store_place::place::Place;
 use vectors_script::{number, small};
 
 // Records messages of len bytes under the next numbers.
@@ -35,18 +34,8 @@ fn print_message(rt: &impl Print, ring: &[u8], found: Found) -> io::Result<()> {
 fn list(rt: &impl Print, words: &[u64], bytes: &[u8], shape: Shape) -> io::Result<()> {
     let next = c_store::store_next_outgoing(words, bytes, shape, 0);
     print!(rt; "{}:", next.value)?;
-    if store_areas::in_use(words, bytes, shape, 0) {
-        let view = View {
-            words,
-            bytes,
-            shape,
-        };
-        let spot = view.spot(0);
-        let place = Place {
-            words: &words[spot.words_start..spot.words_end],
-            bytes: &bytes[spot.bytes_start..spot.bytes_end],
-            max: shape.messages as usize,
-        };
+    if let Ok(view) = View::with_place(shape, words, bytes, 0) {
+        let place = view.place(0);
         let log = place.log();
         for found in log.messages_at(log.position_from(1)) {
             print_message(rt, log.bytes, found)?;
@@ -58,42 +47,42 @@ fn list(rt: &impl Print, words: &[u64], bytes: &[u8], shape: Shape) -> io::Resul
 // One command: what it leaves as the store's shape.
 fn command(
     rt: &impl Print,
-    line: &str,
+    line: &[u8],
     words: &mut [u64],
     bytes: &mut [u8],
     shape: Shape,
 ) -> io::Result<Shape> {
-    let rest = line.get(2..).unwrap_or("");
-    let mut numbers = rest.split_whitespace();
-    match line.get(..1).unwrap_or("") {
-        "n" => {
+    let rest = vectors_script::rest(line);
+    let mut numbers = vectors_script::words(rest);
+    match line.first() {
+        Some(b'n') => {
             let made = vectors_fill::make(words, bytes, 2, &mut numbers);
-            vectors_fill::open(words, bytes, made, "B");
-            vectors_fill::open(words, bytes, made, "C");
+            vectors_fill::open(words, bytes, made, b"B");
+            vectors_fill::open(words, bytes, made, b"C");
             return Ok(made);
         }
-        "r" => {
+        Some(b'r') => {
             let len = number(&mut numbers) as usize;
             record_many(words, bytes, shape, len, small(&mut numbers));
         }
-        "g" => {
+        Some(b'g') => {
             let next = c_store::store_next_outgoing(words, bytes, shape, 0).value;
             let seq = next.wrapping_add(number(&mut numbers));
             c_changes::store_record_none(words, bytes, shape, 0, seq);
         }
-        "z" => {
+        Some(b'z') => {
             c_changes::store_reset(words, bytes, shape, 0);
         }
-        "p" => {
+        Some(b'p') => {
             c_store::store_take_over(words, bytes, shape, 0, number(&mut numbers));
         }
-        "l" => list(rt, words, bytes, shape)?,
-        "h" => {
+        Some(b'l') => list(rt, words, bytes, shape)?,
+        Some(b'h') => {
             let n = number(&mut numbers);
             let hash = c_store::store_last_outgoing(words, bytes, shape, 0, n);
             println!(rt; "{:016x}", hash.value)?;
         }
-        _ => println!(rt; "{:016x}", fnv::bytes(fnv::START, rest.as_bytes()))?,
+        _ => println!(rt; "{:016x}", fnv::bytes(fnv::START, rest))?,
     }
     Ok(shape)
 }
@@ -104,7 +93,7 @@ fn main(rt: HostRuntime) -> io::Result<()> {
     let mut words = [0u64; 162];
     let mut bytes = [0u8; 576];
     let mut shape = vectors_fill::NO_SHAPE;
-    for line in script.lines() {
+    for line in script.split_inclusive(|b| *b == b'\n') {
         shape = command(&rt, line, &mut words, &mut bytes, shape)?;
     }
     Ok(())

@@ -1,4 +1,4 @@
-use Rattle.std.proofs.Common.{rules, ◌≡◌, max}
+use Rattle.std.proofs.Common.{rules, refl, ◌≡◌, max}
 use Rattle.active_batch.proofs.Planning.{planned}
 use Rattle.active_batch.proofs.plan_from.Goals as goal
 
@@ -8,4 +8,4 @@ returns c =
     let begins : c.max-next.result ≡ max c.args.from 1 = search rules in
     let o = c.opening_extent-opening in
     let e = c.ending_extent-ending in
-    planned c.args.limit c.args.header.now c.args.log.now c.args.from _ _ c.measure-cut.result o.result e.result r.bytes_len_bound r.max_bound begins c.position_from-position.ensures c.measure-cut.ensures o.ensures.spans o.ensures.small e.ensures.spans e.ensures.small
+    planned c.args.limit c.args.header.now c.args.log.now c.args.from _ _ c.measure-cut.result o.result e.result r.bytes_len_bound r.max_bound begins c.position_from-position.ensures c.measure-cut.ensures (o.ensures.spans _ refl) o.ensures.small (e.ensures.spans _ refl) e.ensures.small

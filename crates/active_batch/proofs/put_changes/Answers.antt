@@ -4,7 +4,7 @@ use Rattle.active_messages.specs.Cut.{taken}
 use Rattle.active_header.specs.Ends.{opening_of, ending_of}
 use Rattle.active_header.proofs.Ends.{run_past}
 use Rattle.active_batch.specs.Batch.{rest_at}
-use Rattle.active_batch.proofs.Framing.{wrote_three, three_sizes}
+use Rattle.active_batch.proofs.Framing.{put_three, three_sizes}
 use Rattle.active_batch.proofs.put_changes.Goals.{Start}
 use Rattle.active_batch.proofs.put_changes.Goals as goal
 
@@ -18,17 +18,17 @@ messages c = taken c.args.batch.limit 0 c.args.plan.next (rest_at c.args.batch.l
 abbrev ending : (c : Start) → List Change
 ending c = ending_of c.args.header.now c.args.plan.last c.args.plan.resume_from
 
-pub put_messages-pos-requires-clause-left_in_bounds : goal.put_messages-pos-requires-clause-left_in_bounds
-put_messages-pos-requires-clause-left_in_bounds c =
-    let s = (goal.at.put_messages-pos-requires-clause-left_in_bounds c).Start in
-    omega (arith, c.requires.plan_in_bounds, three_sizes (opening s) (messages s) (ending s), run_past (opening s) c.put_opening-opened.ensures)
+pub put_messages-requires-clause-left_in_bounds : goal.put_messages-requires-clause-left_in_bounds
+put_messages-requires-clause-left_in_bounds c =
+    let s = (goal.at.put_messages-requires-clause-left_in_bounds c).Start in
+    omega (arith, c.requires.plan_in_bounds, three_sizes (opening s) (messages s) (ending s), run_past (opening s) c.put_opening.ensures, c.put_opening.ensures.long)
 
 pub put_ending-requires : goal.put_ending-requires
 put_ending-requires c =
     let s = (goal.at.put_ending-requires c).Start in
-    omega (arith, c.requires.plan_in_bounds, three_sizes (opening s) (messages s) (ending s), run_past (opening s) c.put_opening-opened.ensures, run_past (messages s) c.put_messages-pos.ensures)
+    omega (arith, c.requires.plan_in_bounds, three_sizes (opening s) (messages s) (ending s), run_past (opening s) c.put_opening.ensures, run_past (messages s) c.put_messages.ensures, c.put_opening.ensures.long, c.put_messages.ensures.long)
 
 pub returns : goal.returns
 returns c =
     let s = (goal.at.returns c).Start in
-    wrote_three (opening s) (messages s) (ending s) c.put_opening-opened.ensures c.put_messages-pos.ensures c.put_ending.ensures
+    put_three (opening s) (messages s) (ending s) c.put_opening.ensures c.put_messages.ensures c.put_ending.ensures

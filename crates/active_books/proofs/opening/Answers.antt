@@ -1,16 +1,17 @@
-use Rattle.std.proofs.Common.{refl, rules}
+use Rattle.std.proofs.Common.{refl, rules, List, ℕ, ap, ◌∙◌}
 use Rattle.std.proofs.lemmas.Result.{err_from_is_err_and}
 use Rattle.model_active.specs.CatchUp as m
+use Rattle.active_books_area.specs.Words.{book_of}
 use Rattle.active_books.proofs.Calling.{refuses_one, opening_waits, opening_counts, ends_as}
 use Rattle.active_books.proofs.opening.Goals as goal
 
 pub returns-in_err-i : goal.returns-in_err-i
 returns-in_err-i c =
     let p = err_from_is_err_and c.from_residual-in_err-i.result c.from_residual-in_err-i.ensures.1 in
-    rw (p.1, p.2) (ends_as (search rules) (refuses_one c.args.words.now c.meet.new.books.words.now c.args.session (m.opening c.args.session) c.in_err-i.field-0.0 refl c.in_ok-check_rules.ensures c.in_err-i.ensures.meets))
+    rw (p.1, p.2) (ends_as (search rules) (refuses_one c.args.words.now c.meet_if_room.new.books.words.now c.args.session (m.opening c.args.session) c.in_err-i.field-0.0 refl c.in_ok-check_rules.ensures c.in_err-i.ensures.meets))
 
 pub returns-then-is_catching : goal.returns-then-is_catching
-returns-then-is_catching c = ends_as (search rules) (opening_waits c.args.words.now c.meet.new.books.words.now c.args.session c.in_ok-i.i c.in_ok-check_rules.ensures c.in_ok-i.ensures.meets c.is_catching.ensures c.if-is_catching.true)
+returns-then-is_catching c = ends_as (search rules) (opening_waits c.args.words.now c.meet_if_room.new.books.words.now c.args.session c.in_ok-i.i c.in_ok-check_rules.ensures c.in_ok-i.ensures.meets (c.is_catching.ensures ∙ ap (λ (w : List ℕ). m.is (book_of w).catching c.args.session) c.view.ensures) c.if-is_catching.true)
 
 pub returns : goal.returns
-returns c = ends_as (search rules) (opening_counts c.args.words.now c.meet.new.books.words.now c.count_open.new.books.words.now c.args.session c.in_ok-i.i c.in_ok-check_rules.ensures c.in_ok-i.ensures.meets c.is_catching.ensures c.if-is_catching.false c.count_open.ensures.makes)
+returns c = ends_as (search rules) (opening_counts c.args.words.now c.meet_if_room.new.books.words.now c.count_open.new.books.words.now c.args.session c.in_ok-i.i c.in_ok-check_rules.ensures c.in_ok-i.ensures.meets (c.is_catching.ensures ∙ ap (λ (w : List ℕ). m.is (book_of w).catching c.args.session) c.view.ensures) c.if-is_catching.false c.count_open.ensures.makes)

@@ -11,5 +11,5 @@ loop-k-preserved c =
       | else-falls_open w ↦ rw w.fallen-is (falls_not c.args.books.now.words.now (open_only c.args.incarnation) c.loop-k.fallen.items c.loop-k.k c.loop-k.invariant c.falls_open.ensures w.if-falls_open.false)
     ]
 
-pub returns : goal.returns
-returns c = fallen_of c.args.books.now.words.now (open_only c.args.incarnation) c.loop-k.fallen.items c.loop-k.k c.loop-k.invariant (omega arith) (omega arith)
+pub returns-clause-list : goal.returns-clause-list
+returns-clause-list c = fallen_of c.args.books.now.words.now (open_only c.args.incarnation) c.loop-k.fallen.items c.loop-k.k c.loop-k.invariant (omega arith) (omega arith)

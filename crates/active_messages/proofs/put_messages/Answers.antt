@@ -9,11 +9,11 @@ next : (c : In-Some) → Next c.args.log.now c.loop-found.found-iterator.positio
 next c = next_at _ _ _ _ _ c.loop-found.invariant.2 refl c.in-Some.ensures.steps.1.1
 
 pub returns-then-is_full : goal.returns-then-is_full
-returns-then-is_full c = full_stop _ _ _ _ _ _ _ _ _ _ _ _ _ _ _ _ _ c.loop-found.invariant.3 (sym c.is_full.ensures ∙ c.if-is_full.true)
+returns-then-is_full c = full_stop _ _ _ _ _ _ _ _ _ _ _ _ _ _ _ c.loop-found.invariant.3 (sym c.is_full.ensures ∙ c.if-is_full.true)
 
-pub put_sent-pos-requires-clause-parts_in_bounds : goal.put_sent-pos-requires-clause-parts_in_bounds
-put_sent-pos-requires-clause-parts_in_bounds c =
-    let n = next (goal.at.put_sent-pos-requires-clause-parts_in_bounds c).In-Some in
+pub put_sent-requires-clause-parts_in_bounds : goal.put_sent-requires-clause-parts_in_bounds
+put_sent-requires-clause-parts_in_bounds c =
+    let n = next (goal.at.put_sent-requires-clause-parts_in_bounds c).In-Some in
     let parts = c.parts-parts.ensures in
     let bytes = c.args.log.now.bytes.now in
     let span = c.in-Some.found.span in
@@ -26,7 +26,7 @@ put_sent-pos-requires-clause-parts_in_bounds c =
       length-take span.rest bytes,
       n.inside,
       n.front,
-      has_room _ _ _ _ _ _ _ _ _ _ _ _ _ _ _ _ _ _ _ _ _ _ _ c.loop-found.invariant.3 (sym c.is_full.ensures ∙ c.if-is_full.false) refl n c.requires.left_in_bounds,
+      has_room _ _ _ _ _ _ _ _ _ _ _ _ _ _ _ _ _ _ _ _ _ c.loop-found.invariant.3 (sym c.is_full.ensures ∙ c.if-is_full.false) refl n c.requires.left_in_bounds,
     )
 
 pub overflow_add-next : goal.overflow_add-next
@@ -40,8 +40,8 @@ loop-found-preserved c =
     let steps = c.in-Some.ensures.steps in
     let parts = c.parts-parts.ensures in
     let n = next (goal.at.loop-found-preserved c).In-Some in
-    let wrote = rw (parts.first, parts.rest) at c.put_sent-pos.ensures in
-    (tt, tt, steps.0 ∙ i.2, rw steps.1.0 (goes_on _ _ _ _ _ _ _ _ _ _ _ _ _ _ _ _ _ _ _ _ _ _ _ i.3 (sym c.is_full.ensures ∙ c.if-is_full.false) refl n _ _ wrote))
+    let wrote = rw (parts.first, parts.rest) at c.put_sent.ensures in
+    (tt, tt, steps.0 ∙ i.2, rw steps.1.0 (goes_on _ _ _ _ _ _ _ _ _ _ _ _ _ _ _ _ _ _ _ _ _ i.3 (sym c.is_full.ensures ∙ c.if-is_full.false) refl n _ wrote))
 
 pub returns-in-None : goal.returns-in-None
-returns-in-None c = last_stop _ _ _ _ _ _ _ _ _ _ _ _ _ _ _ _ _ c.loop-found.invariant.3 c.in-None.ensures.steps.1.0
+returns-in-None c = last_stop _ _ _ _ _ _ _ _ _ _ _ _ _ _ _ c.loop-found.invariant.3 c.in-None.ensures.steps.1.0

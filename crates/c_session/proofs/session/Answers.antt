@@ -1,17 +1,16 @@
-use Rattle.std.proofs.Common.{sym, ◌∙◌}
-use Rattle.store_areas.proofs.Ruling.{in_use_of}
+use Rattle.std.proofs.Common.{refl}
+use Rattle.std.proofs.lemmas.Result.{err_from_is_err_and}
 use Rattle.c_session.proofs.Laws.{told_there, unfit}
 use Rattle.c_session.proofs.session.Goals as goal
 
-pub returns-then-not-in_use : goal.returns-then-not-in_use
-returns-then-not-in_use c =
+pub returns-in_err-view : goal.returns-in_err-view
+returns-in_err-view c =
     let a = c.args in
-    unfit a.shape a.words.now a.bytes.now a.place a.n c.in_use.ensures c.if-not-in_use.true
-
-pub invariant_of-view-clause-rules : goal.invariant_of-view-clause-rules
-invariant_of-view-clause-rules c = (in_use_of c.args.shape c.args.words.now c.args.bytes.now c.args.place (sym c.in_use.ensures ∙ c.if-not-in_use.false)).rules
+    let p = err_from_is_err_and c.from_residual.result c.from_residual.ensures.1 in
+    rw (p.1, p.2, c.in_err-view.ensures.1) (unfit a.shape a.words.now a.bytes.now a.place a.n refl c.in_err-view.ensures.0)
 
 pub returns : goal.returns
 returns c =
     let a = c.args in
-    told_there a.shape a.words.now a.bytes.now a.place a.n c.in_use.ensures c.if-not-in_use.false c.write_session.ensures
+    let o = c.in_ok-view.ensures in
+    told_there a.shape a.words.now a.bytes.now a.place a.n refl o.in_use (rw (o.shape, o.words, o.bytes) at c.write_session.ensures)

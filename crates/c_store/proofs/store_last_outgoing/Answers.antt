@@ -1,14 +1,6 @@
-use Rattle.c_store.proofs.Laws.{used, reads_none, reads}
+use Rattle.std.proofs.Common.{rules}
+use Rattle.c_store.proofs.Laws.{read}
 use Rattle.c_store.proofs.store_last_outgoing.Goals as goal
 
-pub returns-then-not-in_use : goal.returns-then-not-in_use
-returns-then-not-in_use c = reads_none c.in_use.ensures c.if-not-in_use.true c.refused.ensures
-
-pub invariant_of-view-clause-rules : goal.invariant_of-view-clause-rules
-invariant_of-view-clause-rules c = (used c.in_use.ensures c.if-not-in_use.false).rules
-
-pub last_outgoing-requires : goal.last_outgoing-requires
-last_outgoing-requires c = (used c.in_use.ensures c.if-not-in_use.false).at
-
 pub returns : goal.returns
-returns c = reads c.in_use.ensures c.if-not-in_use.false c.last_outgoing.ensures c.given.ensures
+returns c = read _ _ _ c.with_place-view.ensures c.map.ensures.cases (λ x n u p. search (rules, p)) c.from.ensures

@@ -1,31 +1,23 @@
 use borrow.Author.Rules.{rules}
-use Rattle.std.proofs.Common.{sym, ◌∙◌, arith}
-use Rattle.store_areas.proofs.Ruling.{rules_of}
+use Rattle.std.proofs.Common.{refl, sym, ◌∙◌}
 use Rattle.model_text.proofs.Laws.{key_is}
-use Rattle.c_store.proofs.Laws.{rules_broken, no_key, found, stored, no_place, opened}
+use Rattle.c_store.proofs.Laws.{found, opened}
 use Rattle.c_store.proofs.store_open.Goals as goal
 
-pub returns-then-not-allowed : goal.returns-then-not-allowed
-returns-then-not-allowed c = rules_broken _ _ _ _ c.allowed.ensures c.if-not-allowed.true c.refused.ensures
+pub open-place-requires-clause-begin_len_bound : goal.open-place-requires-clause-begin_len_bound
+open-place-requires-clause-begin_len_bound c = (key_is _ _ _ _ (sym c.is_key.ensures ∙ c.if-not-is_key.false)).0.most
 
-pub returns-then-not-is_key : goal.returns-then-not-is_key
-returns-then-not-is_key c = no_key _ _ _ _ c.allowed.ensures c.if-not-allowed.false c.is_key.ensures c.if-not-is_key.true c.refused-then-not-is_key.ensures
+pub open-place-requires-clause-sender_len_bound : goal.open-place-requires-clause-sender_len_bound
+open-place-requires-clause-sender_len_bound c = (key_is _ _ _ _ (sym c.is_key.ensures ∙ c.if-not-is_key.false)).1.most
 
-pub invariant_of-store-clause-rules : goal.invariant_of-store-clause-rules
-invariant_of-store-clause-rules c = rules_of _ _ _ (sym c.allowed.ensures ∙ c.if-not-allowed.false)
+pub open-place-requires-clause-target_len_bound : goal.open-place-requires-clause-target_len_bound
+open-place-requires-clause-target_len_bound c = (key_is _ _ _ _ (sym c.is_key.ensures ∙ c.if-not-is_key.false)).2.most
 
-pub returns-then-i-used : goal.returns-then-i-used
-returns-then-i-used c = stored _ _ _ _ c.allowed.ensures c.if-not-allowed.false c.is_key.ensures c.if-not-is_key.false (found _ _ _ _ c.view.result c.view.ensures.shape c.view.ensures.words c.view.ensures.bytes c.place_of-i.ensures) (omega (arith, c.if-i-used.true)) c.given.ensures
-
-pub returns-then-shape-used : goal.returns-then-shape-used
-returns-then-shape-used c =
-    no_place _ _ _ _ c.allowed.ensures c.if-not-allowed.false c.is_key.ensures c.if-not-is_key.false (found _ _ _ _ c.view.result c.view.ensures.shape c.view.ensures.words c.view.ensures.bytes c.place_of-i.ensures) c.if-i-used.false (omega (arith, c.if-shape-used.true)) c.refused-then-shape-used.ensures
-
-pub open-requires : goal.open-requires
-open-requires c =
-    let k = key_is _ _ _ _ (sym c.is_key.ensures ∙ c.if-not-is_key.false) in
-    record { words_bound = omega (arith, c.if-shape-used.false); begin_len_bound = k.0.most; sender_len_bound = k.1.most; target_len_bound = k.2.most; suffix_len_bound = k.3.most }
+pub open-place-requires-clause-suffix_len_bound : goal.open-place-requires-clause-suffix_len_bound
+open-place-requires-clause-suffix_len_bound c = (key_is _ _ _ _ (sym c.is_key.ensures ∙ c.if-not-is_key.false)).3.most
 
 pub returns : goal.returns
 returns c =
-    opened _ _ _ _ c.allowed.ensures c.if-not-allowed.false c.is_key.ensures c.if-not-is_key.false (found _ _ _ _ c.view.result c.view.ensures.shape c.view.ensures.words c.view.ensures.bytes c.place_of-i.ensures) c.if-i-used.false c.if-shape-used.false c.«open».ensures.is (search rules) (search rules) c.given-2.ensures
+    let o = c.in-Ok.ensures in
+    opened _ _ _ _ refl o.rules c.is_key.ensures c.if-not-is_key.false (found _ _ _ _ c.in-Ok.view o.shape o.words o.bytes c.in_default.ensures) c.open-place.ensures.place
+    (rw (o.words) at c.if-shape-view.false) c.open-place.ensures.is (search rules) (search rules) c.given-2.ensures

@@ -1,10 +1,10 @@
-use Rattle.std.proofs.Common.{arith, refl}
+use Rattle.std.proofs.Common.{rules, arith, refl}
 use Rattle.std.proofs.lemmas.Result.{err_from_is_err_and}
 use Rattle.model_frame.proofs.Le.{are_bytes}
-use Rattle.base_laws.proofs.Writes.{wrote_on}
+use Rattle.base_bytes.proofs.Puts.{put_on}
 use Rattle.frame_fields.specs.Answers.{part_of}
-use Rattle.frame_encode.proofs.Ready.{ops_unread, records_unread, batch_ready, batch_wrote}
-use Rattle.frame_writer.proofs.Encoded.{encoded_unreadable, encoded_failed, encoded_took}
+use Rattle.frame_encode.proofs.Ready.{ops_unread, records_unread, batch_ready, batch_put}
+use Rattle.frame_writer.proofs.Encoded.{encoded_unreadable, encoded_failed, encoded_put}
 use Rattle.frame_encode.proofs.batch.Goals as goal
 
 pub returns-in_default : goal.returns-in_default
@@ -27,5 +27,5 @@ returns-in_err-at c =
 pub returns : goal.returns
 returns c =
     let a = c.args in
-    encoded_took _ _ _ (batch_ready a.protocol.version a.src.now a.batch.ops a.batch.app_records (are_bytes a.src.now (λ i. (c.type_inv.src i).fits)) c.in-Ok.ensures.0 c.in-Ok.ensures.1 c.in-Ok-run_len.ensures.0 c.in-Ok-run_len.ensures.1 a.batch.handle a.batch.epoch.0 a.batch.commit_no.0 (part_of a.batch.part)) c.in_ok-at.ensures
-    (batch_wrote a.protocol.version a.src.now a.batch.ops a.batch.app_records (are_bytes a.src.now (λ i. (c.type_inv.src i).fits)) c.in-Ok.ensures.0 c.in-Ok.ensures.1 c.in-Ok-run_len.ensures.0 c.in-Ok-run_len.ensures.1 a.batch.handle a.batch.epoch.0 a.batch.commit_no.0 (part_of a.batch.part) (wrote_on c.put_head-at.ensures.wrote c.put_runs.ensures))
+    encoded_put _ _ _ (batch_ready a.protocol.version a.src.now a.batch.ops a.batch.app_records (are_bytes a.src.now (λ i. (c.type_inv.src i).fits)) c.in-Ok.ensures.0 c.in-Ok.ensures.1 c.in-Ok-run_len.ensures.0 c.in-Ok-run_len.ensures.1 a.batch.handle a.batch.epoch.0 a.batch.commit_no.0 (part_of a.batch.part)) c.in_ok-at.ensures
+    (batch_put a.protocol.version a.src.now a.batch.ops a.batch.app_records (are_bytes a.src.now (λ i. (c.type_inv.src i).fits)) c.in-Ok.ensures.0 c.in-Ok.ensures.1 c.in-Ok-run_len.ensures.0 c.in-Ok-run_len.ensures.1 a.batch.handle a.batch.epoch.0 a.batch.commit_no.0 (part_of a.batch.part) (put_on c.put_head.ensures.put c.put_runs.ensures)) (search rules)

@@ -1,8 +1,9 @@
+use Rattle.std.proofs.Common.{rules}
 use Rattle.model_frame.specs.Writing.{body_bytes}
-use Rattle.base_laws.proofs.Writes.{wrote_on}
+use Rattle.base_bytes.proofs.Puts.{put_on}
 use Rattle.std.proofs.lemmas.Result.{err_from_is_err_and}
 use Rattle.frame_encode.proofs.Ready.{checked_ready}
-use Rattle.frame_writer.proofs.Encoded.{encoded_failed, encoded_took}
+use Rattle.frame_writer.proofs.Encoded.{encoded_failed, encoded_put}
 use Rattle.frame_encode.proofs.checked.Goals as goal
 
 pub returns-in_err-at : goal.returns-in_err-at
@@ -10,4 +11,4 @@ returns-in_err-at c = let a = c.args in let p = err_from_is_err_and c.from_resid
 
 pub returns : goal.returns
 unfolding body_bytes
-returns c = let a = c.args in λ v. encoded_took v _ _ (checked_ready v a.handle a.epoch.0 a.incarnation.0) c.in_ok-at.ensures (wrote_on (wrote_on c.put_handle-at.ensures.wrote c.put_at-at.ensures.wrote) c.put_at.ensures.wrote)
+returns c = let a = c.args in λ v. encoded_put v _ _ (checked_ready v a.handle a.epoch.0 a.incarnation.0) c.in_ok-at.ensures (put_on (put_on c.put_handle.ensures.put c.number.ensures.put) c.number-2.ensures.put) (search rules)

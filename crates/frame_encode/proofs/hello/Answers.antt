@@ -1,8 +1,8 @@
-use Rattle.std.proofs.Common.{arith, refl}
+use Rattle.std.proofs.Common.{rules, arith, refl}
 use Rattle.std.proofs.lemmas.Result.{err_from_is_err_and}
 use Rattle.model_frame.proofs.Le.{are_bytes}
-use Rattle.frame_encode.proofs.Ready.{hello_judged, hello_unfit, hello_ready, hello_wrote, node_length}
-use Rattle.frame_writer.proofs.Encoded.{encoded_unreadable, encoded_failed, encoded_took}
+use Rattle.frame_encode.proofs.Ready.{hello_judged, hello_unfit, hello_ready, hello_put, node_length}
+use Rattle.frame_writer.proofs.Encoded.{encoded_unreadable, encoded_failed, encoded_put}
 use Rattle.frame_encode.proofs.hello.Goals as goal
 
 pub put_hello-requires : goal.put_hello-requires
@@ -22,4 +22,4 @@ pub returns : goal.returns
 returns c =
     let a = c.args in
     let j = hello_judged a.src.now a.node a.kinds c.within.ensures c.kinds_fit.ensures (rw c.slice.ensures at c.is_utf8.ensures) c.if-not-fits-is_utf8.false in
-    λ v. encoded_took v _ _ (hello_ready a.src.now a.node a.kinds (are_bytes a.src.now (λ i. (c.type_inv.src i).fits)) j v a.version a.epoch.0 refl) c.in_ok-at.ensures (hello_wrote a.src.now a.node a.kinds (are_bytes a.src.now (λ i. (c.type_inv.src i).fits)) j a.version a.epoch.0 c.put_hello.ensures)
+    λ v. encoded_put v _ _ (hello_ready a.src.now a.node a.kinds (are_bytes a.src.now (λ i. (c.type_inv.src i).fits)) j v a.version a.epoch.0 refl) c.in_ok-at.ensures (hello_put a.src.now a.node a.kinds (are_bytes a.src.now (λ i. (c.type_inv.src i).fits)) j a.version a.epoch.0 c.put_hello.ensures) (search rules)

@@ -1,9 +1,10 @@
+use Rattle.std.proofs.Common.{rules}
 use Rattle.model_frame.specs.Writing.{body_bytes}
-use Rattle.base_laws.proofs.Writes.{wrote_on}
+use Rattle.base_bytes.proofs.Puts.{put_on}
 use Rattle.std.proofs.lemmas.Result.{err_from_is_err_and}
 use Rattle.frame_fields.specs.Answers.{reason_of}
 use Rattle.frame_encode.proofs.Ready.{nack_ready}
-use Rattle.frame_writer.proofs.Encoded.{encoded_failed, encoded_took}
+use Rattle.frame_writer.proofs.Encoded.{encoded_failed, encoded_put}
 use Rattle.frame_encode.proofs.nack.Goals as goal
 
 pub returns-in_err-at : goal.returns-in_err-at
@@ -11,4 +12,4 @@ returns-in_err-at c = let a = c.args in let p = err_from_is_err_and c.from_resid
 
 pub returns : goal.returns
 unfolding body_bytes
-returns c = let a = c.args in λ v. encoded_took v _ _ (nack_ready v a.handle (reason_of a.reason)) c.in_ok-at.ensures (rw (← c.reason_byte.ensures) (wrote_on c.put_handle-at.ensures.wrote c.tag.ensures.wrote))
+returns c = let a = c.args in λ v. encoded_put v _ _ (nack_ready v a.handle (reason_of a.reason)) c.in_ok-at.ensures (put_on c.put_handle.ensures.put (rw c.reason_byte.ensures at c.byte.ensures.put)) (search rules)

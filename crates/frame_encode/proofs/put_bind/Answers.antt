@@ -1,7 +1,7 @@
 use Rattle.model_frame.specs.Writing.{body_bytes}
-use Rattle.base_laws.proofs.Writes.{wrote_on}
+use Rattle.base_bytes.proofs.Puts.{put_on}
 use Rattle.frame_encode.proofs.put_bind.Goals as goal
 
 pub returns : goal.returns
 unfolding body_bytes
-returns c = wrote_on (wrote_on (wrote_on c.put_handle-at.ensures.wrote c.put_at-at.ensures.wrote) c.put_at-at-2.ensures.wrote) c.put_session.ensures
+returns c = put_on (put_on (put_on c.put_handle.ensures.put c.number.ensures.put) c.number-2.ensures.put) c.put_session.ensures

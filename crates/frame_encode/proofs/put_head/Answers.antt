@@ -1,5 +1,5 @@
-use Rattle.base_laws.proofs.Writes.{wrote_on}
+use Rattle.base_bytes.proofs.Puts.{put_on}
 use Rattle.frame_encode.proofs.put_head.Goals as goal
 
-pub returns-clause-wrote : goal.returns-clause-wrote
-returns-clause-wrote c = rw (← c.part_byte.ensures) (wrote_on (wrote_on (wrote_on c.put_handle-at.ensures.wrote c.put_at-at.ensures.wrote) c.put_at-at-2.ensures.wrote) (wrote_on c.tag-at.ensures.wrote c.put_at.ensures.wrote))
+pub returns-clause-put : goal.returns-clause-put
+returns-clause-put c = rw (← c.part_byte.ensures) (put_on (put_on (put_on c.put_handle.ensures.put c.number.ensures.put) c.number-2.ensures.put) (put_on c.byte.ensures.put c.number-3.ensures.put))

@@ -1,5 +1,5 @@
-use Rattle.base_laws.proofs.Writes.{wrote_on}
+use Rattle.base_bytes.proofs.Puts.{put_on}
 use Rattle.frame_encode.proofs.put_runs.Goals as goal
 
 pub returns : goal.returns
-returns c = wrote_on (wrote_on c.put_run-at.ensures.wrote c.put_at-at.ensures.wrote) c.put_run.ensures.wrote
+returns c = put_on (put_on c.put_run.ensures.put c.number.ensures.put) c.put_run-2.ensures.put

@@ -1,5 +1,5 @@
-use Rattle.base_laws.proofs.Writes.{wrote_on}
+use Rattle.base_bytes.proofs.Puts.{put_on}
 use Rattle.frame_writer.proofs.put_handle.Goals as goal
 
-pub returns-clause-wrote : goal.returns-clause-wrote
-returns-clause-wrote c = wrote_on c.tag-at.ensures.wrote c.put_at.ensures.wrote
+pub returns-clause-put : goal.returns-clause-put
+returns-clause-put c = put_on c.byte.ensures.put c.number.ensures.put

@@ -11,4 +11,4 @@ returns c =
     let v = a.view.now in
     let k = key_of a.key.now in
     high_enough k a.n c.next_outgoing.result (place_at v.shape v.words.now v.bytes.now a.place) c.next_outgoing.ensures (omega (arith, c.if-next_outgoing-n.false))
-    (key_same v.shape a.place _ _ _ _ v.words.now v.bytes.now c.spot-spot.ensures v.rules c.requires k c.has_key.ensures)
+    (key_same _ _ _ _ _ c.place-stored.ensures.is k c.has_key.ensures)

@@ -1,16 +1,13 @@
-use Rattle.store_areas.specs.Areas.{places_of}
-use Rattle.standby_ahead.proofs.Numbers.{starts, goes_on, stops}
+use Rattle.std.proofs.Common.{rules, refl, get_or, arith}
+use Rattle.std.proofs.lemmas.Iterator.{YieldsList-from_range}
+use Rattle.std.proofs.lemmas.Iterator.Search.{all_from_yields_List}
+use Rattle.store_areas.specs.Areas.{place_at, places_of}
+use Rattle.standby_ahead.proofs.Numbers.{reached_at, all_reached}
 use Rattle.standby_ahead.proofs.is_ahead.Goals as goal
 
-pub loop-place-init : goal.loop-place-init
-loop-place-init c = let a = c.args in starts (places_of a.mine.now.shape a.mine.now.words.now a.mine.now.bytes.now) a.theirs.now.shape a.theirs.now.words.now a.theirs.now.bytes.now
-
-pub returns-then-not-is_ahead_at : goal.returns-then-not-is_ahead_at
-returns-then-not-is_ahead_at c =
-    let a = c.args in
-    stops (places_of a.mine.now.shape a.mine.now.words.now a.mine.now.bytes.now) a.theirs.now.shape a.theirs.now.words.now a.theirs.now.bytes.now c.loop-place.place c.loop-place-test.true c.loop-place.invariant c.is_ahead_at.ensures c.if-not-is_ahead_at.true
-
-pub loop-place-preserved : goal.loop-place-preserved
-loop-place-preserved c =
-    let a = c.args in
-    goes_on (places_of a.mine.now.shape a.mine.now.words.now a.mine.now.bytes.now) a.theirs.now.shape a.theirs.now.words.now a.theirs.now.bytes.now c.loop-place.place c.loop-place-test.true c.loop-place.invariant c.is_ahead_at.ensures c.if-not-is_ahead_at.false
+pub returns : goal.returns
+returns c =
+    let m = c.args.mine.now in
+    let v = c.args.theirs.now in
+    all_reached (places_of m.shape m.words.now m.bytes.now) v.shape v.words.now v.bytes.now
+    (all_from_yields_List (reached_at (places_of m.shape m.words.now m.bytes.now) (place_at v.shape v.words.now v.bytes.now)) _ _ _ c.all.ensures.ran (YieldsList-from_range 0 (get_or v.words.now 0 0) _ refl (omega arith)) (λ x b q r. search rules))

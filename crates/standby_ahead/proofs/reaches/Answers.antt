@@ -12,4 +12,4 @@ returns-then-n-le1 c =
 pub returns-then-has_number : goal.returns-then-has_number
 returns-then-has_number c =
     let a = c.args in
-    reached a.mine.now.view.shape a.mine.now.view.words.now a.mine.now.view.bytes.now (key_of a.key.now) a.n a.first (omega (arith, c.if-first-mine.true)) c.has_number.ensures c.if-has_number.true
+    reached a.mine.now.view.shape a.mine.now.view.words.now a.mine.now.view.bytes.now (key_of a.key.now) a.n a.first (omega (arith, c.if-first-used.true)) c.has_number.ensures c.if-has_number.true

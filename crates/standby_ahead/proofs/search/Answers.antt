@@ -1,16 +1,20 @@
+use Rattle.std.proofs.Common.{rules, ◌≡◌, refl, get_or, arith}
+use Rattle.std.specs.List.{list_any, range_with_len}
+use Rattle.std.proofs.lemmas.Iterator.{YieldsList-from_range}
+use Rattle.std.proofs.lemmas.Iterator.Search.{any_from_yields_List}
 use Rattle.store_place.specs.Keys.{key_of}
-use Rattle.standby_ahead.proofs.Numbers.{reached, search_starts, search_on}
+use Rattle.store_areas.specs.Areas.{place_at}
+use Rattle.standby_ahead.proofs.Numbers.{has_at, there, not_there}
+use Rattle.standby_ahead.proofs.search.Goals.{After-any}
 use Rattle.standby_ahead.proofs.search.Goals as goal
 
-pub loop-i-init : goal.loop-i-init
-loop-i-init c = let a = c.args in search_starts a.mine.now.view.shape a.mine.now.view.words.now a.mine.now.view.bytes.now (key_of a.key.now) a.n
+any_is : (c : After-any) → c.any.result ≡ list_any (has_at (key_of c.args.key.now) c.args.n (place_at c.args.mine.now.view.shape c.args.mine.now.view.words.now c.args.mine.now.view.bytes.now)) (range_with_len 0 (get_or c.args.mine.now.view.words.now 0 0))
+any_is c =
+    let v = c.args.mine.now.view in
+    any_from_yields_List (has_at (key_of c.args.key.now) c.args.n (place_at v.shape v.words.now v.bytes.now)) _ _ _ c.any.ensures.ran (YieldsList-from_range 0 (get_or v.words.now 0 0) _ refl (omega arith)) (λ x b q r. search rules)
 
-pub returns-then-found_at : goal.returns-then-found_at
-returns-then-found_at c =
-    let a = c.args in
-    reached a.mine.now.view.shape a.mine.now.view.words.now a.mine.now.view.bytes.now (key_of a.key.now) a.n c.loop-i.i c.loop-i-test.true c.found_at.ensures c.if-found_at.true
+pub returns-then-any : goal.returns-then-any
+returns-then-any c = let v = c.args.mine.now.view in there v.shape v.words.now v.bytes.now (key_of c.args.key.now) c.args.n (any_is (goal.at.returns-then-any c).After-any) c.if-any.true
 
-pub loop-i-preserved : goal.loop-i-preserved
-loop-i-preserved c =
-    let a = c.args in
-    search_on a.mine.now.view.shape a.mine.now.view.words.now a.mine.now.view.bytes.now (key_of a.key.now) a.n c.loop-i.i c.loop-i-test.true c.loop-i.invariant c.found_at.ensures c.if-found_at.false
+pub returns-else-any : goal.returns-else-any
+returns-else-any c = let v = c.args.mine.now.view in not_there v.shape v.words.now v.bytes.now (key_of c.args.key.now) c.args.n (any_is (goal.at.returns-else-any c).After-any) c.if-any.false

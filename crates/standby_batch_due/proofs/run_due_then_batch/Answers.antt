@@ -1,27 +1,30 @@
-use Rattle.std.proofs.Common.{rules, ℕ, ◌+◌, ◌*◌, ◌<◌, ◌≤◌, length, sym, subst, arith}
+use Rattle.std.proofs.Common.{ℕ, ◌+◌, ◌*◌, ◌<◌, ◌≤◌, length, sym, subst, arith}
 use Rattle.model_frame.specs.Reading.{read_change, read_app_record}
 use Rattle.frame_op.specs.Answers.{run_of}
 use Rattle.frame_fields.specs.Answers.{part_of}
 use Rattle.standby_pending.specs.Pending.{count_of}
 use Rattle.standby_batch_due.specs.DueBatch.{spot_in}
 use Rattle.standby_batch_due.proofs.Areas.{within}
-use Rattle.standby_batch_due.proofs.Laws.{batch_given, few_left}
+use Rattle.standby_batch_due.proofs.Laws.{batch_at, few_left}
 use Rattle.standby_batch_due.proofs.run_due_then_batch.Goals as goal
 
 pub area_start-lo-requires : goal.area_start-lo-requires
-area_start-lo-requires c = subst (λ (k : ℕ). spot_in c.args.standing.lookup * k + k ≤ length c.args.holds.now) (sym c.room_of-room.ensures) (within c.args.standing.lookup c.args.holds.now)
+area_start-lo-requires c = subst (λ (k : ℕ). spot_in c.args.standing.lookup * k + k ≤ length c.args.areas.now.holds.now) (sym c.room_of-room.ensures) (within c.args.standing.lookup c.args.areas.now.holds.now)
+
+pub overflow_add-hi : goal.overflow_add-hi
+overflow_add-hi c = omega (arith, c.area_start-lo.ensures, subst (λ (k : ℕ). spot_in c.args.standing.lookup * k + k ≤ length c.args.areas.now.holds.now) (sym c.room_of-room.ensures) (within c.args.standing.lookup c.args.areas.now.holds.now))
 
 pub slice_bounds-on_batch-end : goal.slice_bounds-on_batch-end
-slice_bounds-on_batch-end c = omega (arith, c.area_start-lo.ensures, subst (λ (k : ℕ). spot_in c.args.standing.lookup * k + k ≤ length c.args.holds.now) (sym c.room_of-room.ensures) (within c.args.standing.lookup c.args.holds.now))
+slice_bounds-on_batch-end c = omega (arith, c.area_start-lo.ensures, subst (λ (k : ℕ). spot_in c.args.standing.lookup * k + k ≤ length c.args.areas.now.holds.now) (sym c.room_of-room.ensures) (within c.args.standing.lookup c.args.areas.now.holds.now))
 
 pub on_batch-requires-clause-words_bound : goal.on_batch-requires-clause-words_bound
 on_batch-requires-clause-words_bound c =
-    let few : count_of c.run_if.new.store.words.now < 64 = few_left c.args.standing.settings.shape c.args.batch.handle c.args.words.now c.args.bytes.now c.requires.rules c.is_due_batch-due.ensures c.run_if.ensures.is in
+    let few : count_of c.run_if.new.words < 64 = few_left c.args.standing.settings.shape c.args.batch.handle c.args.areas.now.words.now c.args.areas.now.bytes.now c.requires.rules c.is_due_batch-due.ensures c.run_if.ensures in
     grind (arith, few)
 
-pub returns : goal.returns
-returns c =
+pub returns-clause-is : goal.returns-clause-is
+returns-clause-is c =
     let a = c.args in
     let s = a.standing in
-    batch_given s.settings s.counters s.lookup a.batch.handle a.batch.epoch.0 a.batch.commit_no.0 (part_of a.batch.part) (run_of (read_change 1) a.frame.now a.batch.ops) (run_of read_app_record a.frame.now a.batch.app_records) a.words.now a.bytes.now a.holds.now c.is_due_batch-due.ensures c.run_if.ensures.is
-    _ _ _ _ c.room_of-room.ensures c.area_start-lo.ensures c.on_batch.auto.area c.on_batch.ensures (search rules) (search rules)
+    batch_at s.settings s.counters s.lookup a.batch.handle a.batch.epoch.0 a.batch.commit_no.0 (part_of a.batch.part) (run_of (read_change 1) a.frame.now a.batch.ops) (run_of read_app_record a.frame.now a.batch.app_records) a.areas.now.words.now a.areas.now.bytes.now a.areas.now.holds.now c.is_due_batch-due.ensures c.run_if.ensures
+    _ _ _ _ c.room_of-room.ensures c.area_start-lo.ensures c.on_batch.auto.area c.on_batch.ensures

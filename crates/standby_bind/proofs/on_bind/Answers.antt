@@ -19,13 +19,13 @@ pub returns-then-not-has_place : goal.returns-then-not-has_place
 returns-then-not-has_place c =
     let a = c.args in
     let s = a.standing in
-    all_places s.settings s.counters s.lookup a.handle a.epoch.0 a.max_lag (key_of a.frame.now a.session) a.words.now a.bytes.now c.requires.rules c.if-epoch-counters.false c.if-settings-max_lag.false c.place_of-place.ensures c.has_place.ensures c.if-not-has_place.true c.refuse.ensures
+    all_places s.settings s.counters s.lookup a.handle a.epoch.0 a.max_lag (key_of a.frame.now a.session) a.words.now a.bytes.now c.requires.rules c.if-epoch-counters.false c.if-settings-max_lag.false c.place_of-found.ensures c.has_place.ensures c.if-not-has_place.true c.refuse.ensures
 
 pub returns-then-not-has_room : goal.returns-then-not-has_room
 returns-then-not-has_room c =
     let a = c.args in
     let s = a.standing in
-    all_handles s.settings s.counters s.lookup a.handle a.epoch.0 a.max_lag (key_of a.frame.now a.session) a.words.now a.bytes.now c.requires.rules c.if-epoch-counters.false c.if-settings-max_lag.false c.place_of-place.ensures c.has_place.ensures c.if-not-has_place.false c.has_room.ensures c.if-not-has_room.true c.refuse-then-not-has_room.ensures
+    all_handles s.settings s.counters s.lookup a.handle a.epoch.0 a.max_lag (key_of a.frame.now a.session) a.words.now a.bytes.now c.requires.rules c.if-epoch-counters.false c.if-settings-max_lag.false c.place_of-found.ensures c.has_place.ensures c.if-not-has_place.false c.has_room.ensures c.if-not-has_room.true c.refuse-then-not-has_room.ensures
 
 pub returns : goal.returns
 returns c =
@@ -33,5 +33,5 @@ returns c =
     let s = a.standing in
     let m = c.summary_at-summary.ensures in
     binds_in s.settings s.counters s.lookup a.handle a.epoch.0 a.max_lag (key_of a.frame.now a.session) a.words.now a.bytes.now c.requires.rules
-    (binds s.settings s.counters s.lookup a.handle a.epoch.0 a.max_lag (key_of a.frame.now a.session) a.words.now a.bytes.now c.requires.rules c.if-epoch-counters.false c.if-settings-max_lag.false c.place_of-place.ensures c.has_place.ensures c.if-not-has_place.false c.has_room.ensures c.if-not-has_room.false c.«open».ensures.is m.exact (rw c.«open».ensures.same.shape at m.is) c.bound-answer.ensures c.new_bound.ensures c.stored.ensures)
+    (binds s.settings s.counters s.lookup a.handle a.epoch.0 a.max_lag (key_of a.frame.now a.session) a.words.now a.bytes.now c.requires.rules c.if-epoch-counters.false c.if-settings-max_lag.false c.place_of-found.ensures c.has_place.ensures c.if-not-has_place.false c.has_room.ensures c.if-not-has_room.false c.open-place.ensures.place c.open-place.ensures.is m.exact (rw c.open-place.ensures.same.shape at m.is) c.bound-answer.ensures c.new_bound.ensures c.stored.ensures)
     (search rules) (search rules)

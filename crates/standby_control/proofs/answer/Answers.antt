@@ -9,4 +9,4 @@ pub returns-in_default : goal.returns-in_default
 returns-in_default c =
     let a = c.args in
     let s = a.standing in
-    replied s.settings s.counters s.lookup a.words.now a.bytes.now c.requires.rules (frame_of 1 a.frame.now a.decoded) (plain_of a.frame.now a.decoded c.in_default.not-Bind c.requires.fit) c.answer_by_counters-o.ensures c.clears.ensures c.clear_if.ensures
+    replied s.settings s.counters s.lookup a.words.now a.bytes.now c.requires.rules (frame_of 1 a.frame.now a.decoded) (plain_of a.frame.now a.decoded c.in_default.not-Bind c.requires.fit) c.answer_by_counters-outcome.ensures c.clears.ensures c.clear_if.ensures

@@ -3,26 +3,26 @@ use Rattle.model_standby.specs.State.{disconnected_from}
 use Rattle.standby_lifecycle.proofs.Laws.{unsound, front_there, other_lost, own_lost}
 use Rattle.standby_lifecycle.proofs.disconnected_from.Goals as goal
 
-pub returns-then-not-keeps_rules : goal.returns-then-not-keeps_rules
-returns-then-not-keeps_rules c =
+pub returns-then-not-are_kept-clause-is : goal.returns-then-not-are_kept-clause-is
+returns-then-not-are_kept-clause-is c =
     let a = c.args in
     let s = a.standing in
-    unsound s.settings s.counters s.lookup a.words.now a.bytes.now a.holds.now (disconnected_from a.connection) (sym c.keeps_rules.ensures ∙ c.if-not-keeps_rules.true) c.refuse.ensures
+    unsound s.settings s.counters s.lookup a.areas.now.words.now a.areas.now.bytes.now a.areas.now.holds.now (disconnected_from a.connection) (sym c.are_kept.ensures ∙ c.if-not-are_kept.true) c.refuse.ensures
 
-pub clear_pending_if-requires : goal.clear_pending_if-requires
-clear_pending_if-requires c =
+pub clear-requires : goal.clear-requires
+clear-requires c =
     let a = c.args in
     let s = a.standing in
-    front_there s.settings s.counters s.lookup a.words.now a.bytes.now a.holds.now (sym c.keeps_rules.ensures ∙ c.if-not-keeps_rules.false)
+    front_there s.settings s.counters s.lookup a.areas.now.words.now a.areas.now.bytes.now a.areas.now.holds.now (sym c.are_kept.ensures ∙ c.if-not-are_kept.false)
 
-pub returns-then-own : goal.returns-then-own
-returns-then-own c =
+pub returns-then-connection-counters-clause-is : goal.returns-then-connection-counters-clause-is
+returns-then-connection-counters-clause-is c =
     let a = c.args in
     let s = a.standing in
-    own_lost s.settings s.counters s.lookup a.words.now a.bytes.now a.holds.now (sym c.keeps_rules.ensures ∙ c.if-not-keeps_rules.false) a.connection c.if-own.true c.clear_pending_if.ensures c.done.ensures c.cleared.ensures
+    other_lost s.settings s.counters s.lookup a.areas.now.words.now a.areas.now.bytes.now a.areas.now.holds.now (sym c.are_kept.ensures ∙ c.if-not-are_kept.false) a.connection c.if-connection-counters.true c.done.ensures c.unchanged.ensures
 
-pub returns : goal.returns
-returns c =
+pub returns-clause-is : goal.returns-clause-is
+returns-clause-is c =
     let a = c.args in
     let s = a.standing in
-    other_lost s.settings s.counters s.lookup a.words.now a.bytes.now a.holds.now (sym c.keeps_rules.ensures ∙ c.if-not-keeps_rules.false) a.connection c.if-own.false c.clear_pending_if.ensures c.done-2.ensures c.unchanged.ensures
+    own_lost s.settings s.counters s.lookup a.areas.now.words.now a.areas.now.bytes.now a.areas.now.holds.now (sym c.are_kept.ensures ∙ c.if-not-are_kept.false) a.connection c.if-connection-counters.false c.clear.ensures.writes c.done-2.ensures c.cleared.ensures

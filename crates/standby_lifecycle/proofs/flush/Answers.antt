@@ -1,29 +1,28 @@
-use borrow.Author.Rules.{rules}
 use Rattle.std.proofs.Common.{sym, ◌∙◌}
 use Rattle.model_standby.specs.State.{flush}
-use Rattle.standby_lifecycle.proofs.Laws.{at_end, unsound, keeps, not_flushed, flushed}
+use Rattle.standby_lifecycle.proofs.Laws.{unsound, keeps, not_flushed, flushed}
 use Rattle.standby_lifecycle.proofs.flush.Goals as goal
 
-pub returns-then-not-keeps_rules : goal.returns-then-not-keeps_rules
-returns-then-not-keeps_rules c =
+pub returns-then-not-are_kept-clause-is : goal.returns-then-not-are_kept-clause-is
+returns-then-not-are_kept-clause-is c =
     let a = c.args in
     let s = a.standing in
-    unsound s.settings s.counters s.lookup a.words.now a.bytes.now a.holds.now (flush a.connection) (sym c.keeps_rules.ensures ∙ c.if-not-keeps_rules.true) c.refuse.ensures
+    unsound s.settings s.counters s.lookup a.areas.now.words.now a.areas.now.bytes.now a.areas.now.holds.now (flush a.connection) (sym c.are_kept.ensures ∙ c.if-not-are_kept.true) c.refuse.ensures
 
-pub returns-then-other : goal.returns-then-other
-returns-then-other c =
+pub returns-then-connection-counters-clause-is : goal.returns-then-connection-counters-clause-is
+returns-then-connection-counters-clause-is c =
     let a = c.args in
     let s = a.standing in
-    not_flushed s.settings s.counters s.lookup a.words.now a.bytes.now a.holds.now (sym c.keeps_rules.ensures ∙ c.if-not-keeps_rules.false) a.connection c.if-other.true c.refuse-then-other.ensures
+    not_flushed s.settings s.counters s.lookup a.areas.now.words.now a.areas.now.bytes.now a.areas.now.holds.now (sym c.are_kept.ensures ∙ c.if-not-are_kept.false) a.connection c.if-connection-counters.true c.refuse-then-connection-counters.ensures
 
-pub invariant_of-store-clause-rules : goal.invariant_of-store-clause-rules
-invariant_of-store-clause-rules c =
+pub run-requires : goal.run-requires
+run-requires c =
     let a = c.args in
     let s = a.standing in
-    keeps s.settings s.counters s.lookup a.words.now a.bytes.now a.holds.now (sym c.keeps_rules.ensures ∙ c.if-not-keeps_rules.false)
+    keeps s.settings s.counters s.lookup a.areas.now.words.now a.areas.now.bytes.now a.areas.now.holds.now (sym c.are_kept.ensures ∙ c.if-not-are_kept.false)
 
-pub returns : goal.returns
-returns c =
+pub returns-clause-is : goal.returns-clause-is
+returns-clause-is c =
     let a = c.args in
     let s = a.standing in
-    at_end (flushed s.settings s.counters s.lookup a.words.now a.bytes.now a.holds.now (sym c.keeps_rules.ensures ∙ c.if-not-keeps_rules.false) a.connection c.if-other.false c.run.ensures.is c.done.ensures c.unchanged.ensures) (search rules) (search rules)
+    flushed s.settings s.counters s.lookup a.areas.now.words.now a.areas.now.bytes.now a.areas.now.holds.now (sym c.are_kept.ensures ∙ c.if-not-are_kept.false) a.connection c.if-connection-counters.false c.run.ensures c.done.ensures c.unchanged.ensures

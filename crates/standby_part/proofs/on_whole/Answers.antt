@@ -11,4 +11,4 @@ pub returns-in-Err-clause-is : goal.returns-in-Err-clause-is
 returns-in-Err-clause-is c =
     let a = c.args in
     let x = a.changes.now.changes in
-    rw c.not_held.ensures (λ s w b rules. not_held_is x.protocol.version a.bound a.number x.run.now a.area.now s w b rules _ _ (whole_on x.protocol.version a.bound a.number x.run.now a.area.now s w b) (λ i. (c.slice_known-1.given i).fits) _ c.in-Err.error c.in-Err.ensures)
+    rw c.not_held.ensures (λ s w b rules. not_held_is x.protocol.version a.bound a.number x.run.now a.area.now s w b rules _ _ (whole_on x.protocol.version a.bound a.number x.run.now a.area.now s w b) (λ i. (c.slice_known-1.given i).fits) _ c.in-Err.error.held c.in-Err.error.why c.in-Err.ensures)

@@ -1,7 +1,16 @@
+use Rattle.std.proofs.Common.{ap, ◌∙◌}
 use mathlib.Core.Bool.{◌&&◌}
-use Rattle.store_place.specs.Place.{stored_key}
+use Rattle.model_standby.specs.Store.{same_key}
+use Rattle.store_place.specs.Keys.{key_of}
+use Rattle.store_place.proofs.Keys.{same_is}
 use Rattle.store_place.proofs.has_key.Goals as goal
 
 pub returns : goal.returns
-unfolding stored_key
-returns c = λ i. c.is_text.ensures i && (c.is_text-2.ensures i && (c.is_text-3.ensures i && c.is_text-4.ensures i))
+returns c =
+    let k = c.args.sought.now in
+    let s = c.key_in.result in
+    let begin = same_is k.begin.now s.begin.now in
+    let sender = same_is k.sender.now s.sender.now in
+    let target = same_is k.target.now s.target.now in
+    let suffix = same_is k.suffix.now s.suffix.now in
+    c.eq.ensures ∙ (λ i. begin i && (sender i && (target i && suffix i))) ∙ ap (same_key (key_of k)) c.key_in.ensures

@@ -1,6 +1,7 @@
-use Rattle.std.proofs.Common.{◌∙◌}
-use Rattle.store_areas.proofs.Reading.{durable_is}
+use Rattle.store_sessions.proofs.Parts.{durable_is}
 use Rattle.store_sessions.proofs.durable.Goals as goal
 
 pub returns : goal.returns
-returns c = c.durable.ensures ∙ durable_is c.args.view.now.shape c.args.place _ _ _ _ c.args.view.now.words.now c.args.view.now.bytes.now c.spot-spot.ensures c.args.view.now.rules c.requires
+returns c =
+    let v = c.args.view.now in
+    durable_is v.shape c.args.place v.words.now v.bytes.now _ _ c.place.ensures.is c.durable.result c.durable.ensures

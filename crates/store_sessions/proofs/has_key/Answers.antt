@@ -4,5 +4,5 @@ use Rattle.store_sessions.proofs.has_key.Goals as goal
 
 pub returns : goal.returns
 returns c =
-    let a = c.args in
-    key_same a.view.now.shape a.place _ _ _ _ a.view.now.words.now a.view.now.bytes.now c.spot-spot.ensures c.args.view.now.rules c.requires c.has_key.result (key_of a.key.now) c.has_key.ensures
+    let v = c.args.view.now in
+    key_same v.shape c.args.place v.words.now v.bytes.now _ _ c.place-stored.ensures.is c.has_key.result (key_of c.args.key.now) c.has_key.ensures

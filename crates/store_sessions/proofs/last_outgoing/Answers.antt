@@ -3,6 +3,6 @@ use Rattle.store_sessions.proofs.last_outgoing.Goals as goal
 
 pub returns : goal.returns
 returns c =
-    let a = c.args in
-    let at = c.spot-spot.ensures in
-    last_is a.view.now.shape a.place _ _ _ _ a.view.now.words.now a.view.now.bytes.now at c.args.view.now.rules c.requires a.n c.last_outgoing.result (c.last_outgoing.ensures a.view.now.shape.bytes at.bytes_part)
+    let v = c.args.view.now in
+    let p = c.place.ensures in
+    last_is v.shape c.args.place v.words.now v.bytes.now _ _ p.is c.args.n c.last_outgoing.result _ p.max (c.last_outgoing.ensures v.shape.bytes p.long)

@@ -3,7 +3,7 @@ use Rattle.store_sessions.proofs.messages_from.Goals as goal
 
 pub returns : goal.returns
 returns c =
-    let a = c.args in
-    let at = c.spot-spot.ensures in
+    let v = c.args.view.now in
+    let p = c.place.ensures in
     let r = c.position_from in
-    from_at a.view.now.shape a.place _ _ _ _ a.view.now.words.now a.view.now.bytes.now at c.args.view.now.rules c.requires.place_bound a.low r.result.left r.result.dist (r.ensures a.view.now.shape.bytes at.bytes_part)
+    from_at v.shape c.args.place v.words.now v.bytes.now _ _ _ c.args.low r.result.left r.result.dist p.max p.words p.bytes (r.ensures v.shape.bytes p.long)

@@ -1,6 +1,7 @@
-use Rattle.std.proofs.Common.{◌∙◌}
-use Rattle.store_areas.proofs.Reading.{out_is}
+use Rattle.store_sessions.proofs.Parts.{next_is}
 use Rattle.store_sessions.proofs.next_outgoing.Goals as goal
 
 pub returns : goal.returns
-returns c = c.next_outgoing.ensures ∙ out_is c.args.view.now.shape c.args.place _ _ _ _ c.args.view.now.words.now c.args.view.now.bytes.now c.spot-spot.ensures c.args.view.now.rules c.requires
+returns c =
+    let v = c.args.view.now in
+    next_is v.shape c.args.place v.words.now v.bytes.now _ _ c.place.ensures.is c.next_outgoing.result c.next_outgoing.ensures

@@ -1,5 +1,5 @@
-use Rattle.base_laws.proofs.Writes.{wrote_on}
+use Rattle.base_bytes.proofs.Puts.{put_on}
 use Rattle.active_messages.proofs.put.put_text.Goals as goal
 
 pub returns : goal.returns
-returns c = wrote_on c.tag-pos.ensures.wrote c.blob.ensures.wrote
+returns c = put_on c.byte.ensures.put c.blob.ensures.put

@@ -1,6 +1,0 @@
-use Rattle.std.proofs.Common.{arith}
-use Rattle.active_books_area.proofs.Area.{met_run}
-use Rattle.active_books_area.proofs.Books.met.Goals as goal
-
-pub returns : goal.returns
-returns c = met_run c.args.self.now.words.now _ c.args.self.now.rules (omega arith)

@@ -1,0 +1,8 @@
+-- What every call keeps of the areas that it is lent: whose they are. Assumes nothing.
+use Rattle.std.specs.Prelude.{◌≡◌}
+use Rattle.standby_state.specs.declared.Areas.{Areas}
+
+pub record SameLent (a a' : Areas) : Type 0 where
+  pub words : a'.words.ghost_name ≡ a.words.ghost_name
+  pub bytes : a'.bytes.ghost_name ≡ a.bytes.ghost_name
+  pub holds : a'.holds.ghost_name ≡ a.holds.ghost_name
