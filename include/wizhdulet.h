@@ -230,7 +230,7 @@ typedef struct wz_due_t {
     uint8_t refusal, due;
 } wz_due_t;
 
-/* ---- Codes: what wz_read, wz_frame, wz_answer, wz_session, wz_send, wz_queue, wz_make and wz_choose return. */
+/* ---- Codes: what wz_read, wz_frame, wz_answer, wz_session, wz_send, wz_queue and wz_choose return. */
 #define WZ_OK(v) ((int)((uint64_t)(v) >> 63))                              /* 1: done */
 #define WZ_COUNT(v) ((uint64_t)(v) & UINT64_C(0x3fffffffffffffff))         /* done: bytes taken or written, numbers that went, the copy */
 #define WZ_LAST UINT64_C(0xc000000000000000)                               /* wz_send: no frame is left */
@@ -299,9 +299,8 @@ wz_built_t wz_import(uint64_t *words, size_t words_len, uint8_t *bytes, size_t b
 
 /* ---- The store. */
 
-/* A store without sessions. 25; the second gives a code. */
+/* A store without sessions. 25. */
 uint8_t wz_store_make(uint64_t *words, size_t words_len, const uint8_t *bytes, size_t bytes_len, wz_shape_t shape);
-uint64_t wz_make(uint64_t *words, size_t words_len, const uint8_t *bytes, size_t bytes_len, uint32_t sessions, uint32_t c, uint32_t m);
 
 /* The place of a key, whose session is new if it had none. 5, 20, 25. */
 wz_store_answer_t wz_store_open(uint64_t *words, size_t words_len, uint8_t *bytes, size_t bytes_len, wz_shape_t shape, const uint8_t *begin, size_t begin_len,
@@ -328,8 +327,7 @@ uint8_t wz_store_set_created_at(uint64_t *words, size_t words_len, uint8_t *byte
     size_t text_len);
 uint8_t wz_store_set_marks(uint64_t *words, size_t words_len, uint8_t *bytes, size_t bytes_len, wz_shape_t shape, size_t place, const uint8_t *text, size_t text_len);
 
-/* FNV-1a (64 bits) on from a hash; both are the same. */
-uint64_t wz_fnv(uint64_t hash, const uint8_t *bytes, size_t bytes_len);
+/* FNV-1a (64 bits) on from a hash. */
 uint64_t wz_store_fnv(uint64_t hash, const uint8_t *s, size_t s_len);
 
 /* ---- The active: the lag queue. One push; the count is of the numbers that went. 25. */

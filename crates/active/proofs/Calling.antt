@@ -17,7 +17,7 @@ use Rattle.model_session.specs.Sender.{Sender, new_sender, cut_from, send_next, 
 use Rattle.model_session.specs.Whole.{whole_batches}
 use Rattle.std.specs.Prelude.{None, Some, Ok, Err}
 use Rattle.active_batch.specs.declared.BatchWritten.{BatchWritten}
-use Rattle.active_batch.specs.Batch.{frame_from, number_in, WroteBatch}
+use Rattle.active_batch.specs.Batch.{frame_from, number_or_none, WroteBatch}
 use Rattle.store_areas.specs.declared.Shape.{Shape}
 use Rattle.active.specs.declared.Sending.{Sending}
 use Rattle.active.specs.Whole.{sender_of, SendStart, start_of, start_from, Begins, SendStep, send_answer, filled_by, step_from, area_from, stored_at, SendsWhole}
@@ -81,7 +81,7 @@ module _ (limit : ℕ) (a : Session) (i h e last : ℕ) (out : List ℕ) where
           fits : ltb (length out) (length (encode (frame_from limit a h e (last + 1) from))) ≡ false
           fits = le-ltb (length out) (length (encode (frame_from limit a h e (last + 1) from))) (omega (arith, w.0, w.1))
 
-          pub frame_step : whole.SendStep.gives b.len i (sender h e (last + 1) (number_in b.resume_from)) ≡ step_from limit (some a) i (sender h e last (some from)) (length out)
+          pub frame_step : whole.SendStep.gives b.len i (sender h e (last + 1) (number_or_none b.resume_from)) ≡ step_from limit (some a) i (sender h e last (some from)) (length out)
           frame_step = sym (going_step ∙ rw (fits, ← w.0, w.3))
 
           pub frame_area : out' ≡ area_from limit (some a) (sender h e last (some from)) out

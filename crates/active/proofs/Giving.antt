@@ -27,7 +27,7 @@ use Rattle.store_areas.specs.declared.Shape.{Shape}
 use Rattle.active.specs.declared.Sending.{Sending}
 use Rattle.base_refusals.specs.declared.Refusal.{Refusal}
 use Rattle.std.specs.Prelude.{None, Some, Ok, Err}
-use Rattle.active.specs.Whole.{Answer, start_of, step_of, SentWhole, sender_of, stored_at, SendStart, ready, start_from, SendStep, gives, finished, spent, send_answer, filled_by, step_from, area_from, SendsWhole, SendCalls, nothing, too_short, frame, Sofar}
+use Rattle.active.specs.Whole.{SendAnswer, start_of, step_of, SentWhole, sender_of, stored_at, SendStart, ready, start_from, SendStep, gives, finished, spent, send_answer, filled_by, step_from, area_from, SendsWhole, SendCalls, nothing, too_short, frame, Sofar}
 use Rattle.active.specs.Whole as call
 use Rattle.active.proofs.Storing.{stored_holdable}
 
@@ -195,7 +195,7 @@ done_only false (some (f, u)) room i e = absurd (go (ltb room (length (encode f)
     go true e = let z : ◌≡◌ {A = ℕ} 0 1 = cc in omega arith
     go false e = let z : ◌≡◌ {A = ℕ} 0 1 = cc in omega arith
 
-is_finished : (r : Answer) → step_of r ≡ finished → r ≡ Ok None
+is_finished : (r : SendAnswer) → step_of r ≡ finished → r ≡ Ok None
 is_finished (Ok (Some s)) e = absurd (let z : ◌≡◌ {A = ℕ} 0 1 = cc in omega arith)
 is_finished (Ok None) e = refl
 is_finished (Err r) e = absurd (let z : ◌≡◌ {A = ℕ} 0 1 = cc in omega arith)
@@ -220,7 +220,7 @@ module _ (limit : ℕ) (shape : Shape) (w b : List ℕ) (a : Session) (h e last 
       go true k r = absurd (let z : ◌≡◌ {A = ℕ} 0 1 = cc in omega arith)
       go false k r = record { place = cc; sender = cc; fits = omega (arith, ltb-false top (last + length (whole_batches limit a)) k, frames_count h e last (whole_batches limit a)) }
 
-  module _ (t : Sending) (k : stored_at shape w b t.place ≡ some a) (out out' : List ℕ) (r : Answer) (p : SendsWhole limit shape w b t out out' r) where
+  module _ (t : Sending) (k : stored_at shape w b t.place ≡ some a) (out out' : List ℕ) (r : SendAnswer) (p : SendsWhole limit shape w b t out out' r) where
     answer_at : step_of r ≡ cond (spent t.last.0 (sender_of t).from) (call.SendStep.refused 25) (send_answer (length out) t.place (send_next limit a (sender_of t)))
     unfolding step_from
     answer_at = rw k at p.answer
@@ -246,7 +246,7 @@ module _ (limit : ℕ) (shape : Shape) (w b : List ℕ) (a : Session) (h e last 
         never_short = λ out out' room p. too_long out room (short_only (spent t.last.0 (sender_of t).from) (send_next limit a (sender_of t)) (length out) t.place (answer_at t k out out' (Err Refusal.NoRoom) p));
       }
     where
-      ended : (out out' : List ℕ) (r : Answer) → SendsWhole limit shape w b t out out' r → send_next limit a (sender_of t) ≡ none → (r ≡ Ok None) × (out' ≡ out)
+      ended : (out out' : List ℕ) (r : SendAnswer) → SendsWhole limit shape w b t out out' r → send_next limit a (sender_of t) ≡ none → (r ≡ Ok None) × (out' ≡ out)
       ended out out' r p x =
           let z = at_rest limit a (sender_of t) x in
           (is_finished r (rw (z, x) at (answer_at t k out out' r p)), rw (z, x) at (area_at t k out out' r p))

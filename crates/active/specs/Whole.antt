@@ -14,13 +14,13 @@ use Rattle.model_session.specs.Whole.{whole_frames}
 use Rattle.model_standby.specs.Store.{session_at}
 use Rattle.store_areas.specs.declared.Shape.{Shape}
 use Rattle.store_areas.specs.Areas.{allowed, places_of}
-use Rattle.active_batch.specs.Batch.{number_in}
+use Rattle.active_batch.specs.Batch.{number_or_none}
 use Rattle.active.specs.declared.Sending.{Sending}
 use Rattle.active.specs.declared.Sent.{Sent}
 
 -- the model's sender
 abbrev pub sender_of : Sending → Sender
-sender_of s = record { handle = s.handle; epoch = s.epoch.0; last = s.last.0; from = number_in s.from }
+sender_of s = record { handle = s.handle; epoch = s.epoch.0; last = s.last.0; from = number_or_none s.from }
 
 -- the session at a place; none, which is 25, where the areas break the rules or the place holds no session
 unfoldable pub stored_at : Shape → List ℕ → List ℕ → ℕ → Option Session
@@ -53,10 +53,10 @@ pub data SendStep : Type 0 where
   gives : ℕ → ℕ → Sender → SendStep
   finished : SendStep
 
-abbrev pub Answer : Type 0
-Answer = Result (answer.Option Sent) why.Refusal
+abbrev pub SendAnswer : Type 0
+SendAnswer = Result (answer.Option Sent) why.Refusal
 
-abbrev pub step_of : Answer → SendStep
+abbrev pub step_of : SendAnswer → SendStep
 step_of (Ok (Some s)) = gives s.len s.next.place (sender_of s.next)
 step_of (Ok None) = finished
 step_of (Err e) = refused (number_of e)
@@ -85,7 +85,7 @@ area_from limit none s out = out
 area_from limit (some a) s out = cond (spent s.last s.from) out (filled_by (send_next limit a s) out)
 
 -- THE PROMISE OF A CALL: the store is only read
-pub record SendsWhole (limit : ℕ) (shape : Shape) (w b : List ℕ) (s : Sending) (out out' : List ℕ) (r : Answer) : Type 0 where
+pub record SendsWhole (limit : ℕ) (shape : Shape) (w b : List ℕ) (s : Sending) (out out' : List ℕ) (r : SendAnswer) : Type 0 where
   pub answer : step_of r ≡ step_from limit (stored_at shape w b s.place) s.place (sender_of s) (length out)
   pub area : out' ≡ area_from limit (stored_at shape w b s.place) (sender_of s) out
 
@@ -108,7 +108,7 @@ pub record Sofar (frames : List Frame) (fs : List (List ℕ)) : Type 0 where
 -- never in an area of C + 22 × M + 156 bytes.
 pub record SentWhole (limit : ℕ) (shape : Shape) (w b : List ℕ) (a : Session) (h e last : ℕ) (fs : List (List ℕ)) (t : Sending) : Type 0 where
   pub so : Sofar (whole_frames limit h e last a) fs
-  pub at_end : (out out' : List ℕ) (r : Answer) → so.left ≡ [] → SendsWhole limit shape w b t out out' r → (r ≡ Ok None) × (out' ≡ out)
+  pub at_end : (out out' : List ℕ) (r : SendAnswer) → so.left ≡ [] → SendsWhole limit shape w b t out out' r → (r ≡ Ok None) × (out' ≡ out)
   pub then_all : (out out' : List ℕ) → SendsWhole limit shape w b t out out' (Ok None) → fs ≡ map encode (whole_frames limit h e last a)
   pub never_unfit : (out out' : List ℕ) → SendsWhole limit shape w b t out out' (Err why.Refusal.RulesBroken) → ⊥
   pub never_short : (out out' : List ℕ) → shape.bytes + 22 * shape.messages + 156 ≤ length out → SendsWhole limit shape w b t out out' (Err why.Refusal.NoRoom) → ⊥

@@ -24,7 +24,7 @@ use Rattle.active_messages.proofs.Cutting.{cut_is, from_same}
 use Rattle.active_header.specs.declared.header.Header.{Header}
 use Rattle.active_batch.specs.declared.Plan.{Plan}
 use Rattle.active_header.specs.Ends.{Spans, opening_of, ending_of}
-use Rattle.active_batch.specs.Batch.{session_with, rest_at, planned_changes, Planned, resume_from}
+use Rattle.active_batch.specs.Batch.{session_with, messages_left, planned_changes, Planned, resume_from}
 
 empty_is : (n : ℕ) (ms : List Msg) → length ms ≡ n → eqb n 0 ≡ is_empty ms
 empty_is n [] e = eq-eqb n 0 (sym e)
@@ -67,7 +67,7 @@ module _ (limit : ℕ) (h : Header) (log : Log) (from : ℕ) where
         begins = en;
         goes_on = m.after;
         is_last = empty_is left' (rest_of C log.max log.next log.words.now log.bytes.now left') (rest_length C log.max log.next log.words.now log.bytes.now left' cut.position.dist m.stands) ∙ ap is_empty m.rest;
-        spans = spans_at (spans_append so (spans_append {cs = taken limit 0 next (rest_at limit h log position)} (record { counts = m.counts; sums = m.spans }) se)) (omega arith) (omega arith);
+        spans = spans_at (spans_append so (spans_append {cs = taken limit 0 next (messages_left limit h log position)} (record { counts = m.counts; sums = m.spans }) se)) (omega arith) (omega arith);
         few = omega (arith, m.few, f.stands.few, ob.0, eb.0);
         small = omega (arith, m.small, f.stands.few, f.stands.room, ob.1, eb.1);
       }
@@ -90,7 +90,7 @@ module _ (limit : ℕ) (h : Header) (log : Log) (from : ℕ) where
 
   pub cut_planned : (p : Plan) → Planned limit h log from p → cut_from limit a from ≡ record { changes = planned_changes limit h log from p; goes_on = resume_from p.resume_from p.last }
   cut_planned p q =
-      let ms : List Msg = rest_at limit h log p.position in
+      let ms : List Msg = messages_left limit h log p.position in
       let e : messages_from (max from 1) a.messages ≡ ms = from_same (max from 1) 1 messages (ascends C log.max log.next log.words.now log.bytes.now) ∙ sym q.starts in
       ap (cut_batch limit a (opening limit a from) 0 (max from 1)) e
       ∙ cut_is limit a (opening limit a from) 0 (max from 1) ms

@@ -26,7 +26,7 @@ use Rattle.base_refusals.specs.declared.Refusal.{Refusal}
 use Rattle.std.specs.Bool.{then_some}
 use Rattle.std.specs.Prelude.{Option, Ok, Err, not}
 use Rattle.active_header.specs.Ends.{Heads}
-use Rattle.active_batch.specs.Batch.{session_with, planned_changes, Planned, part_is, frame_from, resume_from, number_in, WroteBatch}
+use Rattle.active_batch.specs.Batch.{session_with, planned_changes, Planned, part_is, frame_from, resume_from, number_or_none, WroteBatch}
 use Rattle.active_batch.proofs.Planning.{cut_planned}
 use Rattle.active_batch.proofs.Framing.{frame_length}
 
@@ -34,7 +34,7 @@ part_is_lem : (n : ℕ) (last : Bool) → sent_part (resume_from n last) ≡ par
 part_is_lem n true = refl
 part_is_lem n false = refl
 
-goes_on_is : (last : Bool) (n : ℕ) → number_in (then_some (not last) n) ≡ resume_from n last
+goes_on_is : (last : Bool) (n : ℕ) → number_or_none (then_some (not last) n) ≡ resume_from n last
 goes_on_is true n = refl
 goes_on_is false n = refl
 
@@ -79,7 +79,7 @@ module _ (C : ℕ) (place : Place) (log : Log) (lb : length place.bytes.now ≡ 
 
       pub sent : (out out' : List ℕ) (o : Option ℕ) → 34 + p.extent.size ≤ length out → o ≡ then_some (not p.last) p.resume_from → out' ≡ write out 0 (encode (batch h e n (part_is p.last) changes []))
           → WroteBatch limit session h e n from out out' (Ok (record { len = 34 + p.extent.size; resume_from = o }))
-      sent out out' o k g v = (sym long, k, v ∙ ap (λ (f : Frame). write out 0 (encode f)) (sym frame_is), ap (λ (c : Cut). c.goes_on) cut_at ∙ sym (ap number_in g ∙ goes_on_is p.last p.resume_from))
+      sent out out' o k g v = (sym long, k, v ∙ ap (λ (f : Frame). write out 0 (encode f)) (sym frame_is), ap (λ (c : Cut). c.goes_on) cut_at ∙ sym (ap number_or_none g ∙ goes_on_is p.last p.resume_from))
 
       pub too_short : (out : List ℕ) → length out < 34 + p.extent.size → WroteBatch limit session h e n from out out (Err Refusal.NoRoom)
       too_short out k = (refl, omega (arith, long), refl)

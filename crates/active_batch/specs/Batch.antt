@@ -34,19 +34,19 @@ session_with h ms =
 
 module _ (limit : ℕ) (h : Header) (log : Log) where
   -- the messages that are left at a position
-  abbrev pub rest_at : LogPosition → List Msg
-  rest_at p = rest_of (length log.bytes.now) log.max log.next log.words.now log.bytes.now p.left
+  abbrev pub messages_left : LogPosition → List Msg
+  messages_left p = rest_of (length log.bytes.now) log.max log.next log.words.now log.bytes.now p.left
 
   -- the changes of a batch that goes by a plan
   abbrev pub planned_changes : ℕ → Plan → List Change
-  planned_changes from p = opening_of h.stamp.now from ++ (taken limit 0 p.next (rest_at p.position) ++ ending_of h p.last p.resume_from)
+  planned_changes from p = opening_of h.stamp.now from ++ (taken limit 0 p.next (messages_left p.position) ++ ending_of h p.last p.resume_from)
 
   pub record Planned (from : ℕ) (p : Plan) : Type 0 where
     pub stands : Position (length log.bytes.now) log.max log.next log.words.now log.bytes.now p.position.left p.position.dist
-    pub starts : rest_at p.position ≡ numbered_from (max from 1) (log_of (length log.bytes.now) log.max log.next log.words.now log.bytes.now)
+    pub starts : messages_left p.position ≡ numbered_from (max from 1) (log_of (length log.bytes.now) log.max log.next log.words.now log.bytes.now)
     pub begins : p.next ≡ max from 1
-    pub goes_on : p.resume_from ≡ next_after limit 0 p.next (rest_at p.position)
-    pub is_last : p.last ≡ is_empty (left_over limit 0 (rest_at p.position))
+    pub goes_on : p.resume_from ≡ next_after limit 0 p.next (messages_left p.position)
+    pub is_last : p.last ≡ is_empty (left_over limit 0 (messages_left p.position))
     pub spans : Spans (planned_changes from p) p.extent.count p.extent.size
     pub few : p.extent.count ≤ 131077
     pub small : p.extent.size ≤ 34996357
@@ -64,12 +64,12 @@ abbrev pub resume_from : ℕ → Bool → maybe.Option ℕ
 resume_from from done = cond done none (some from)
 
 -- a number that may be missing, as the model has it
-abbrev pub number_in : Option ℕ → maybe.Option ℕ
-number_in None = none
-number_in (Some n) = some n
+abbrev pub number_or_none : Option ℕ → maybe.Option ℕ
+number_or_none None = none
+number_or_none (Some n) = some n
 
 -- what is answered, and what stands in the lent area: the frame at its start and the rest as it was, or 9 and all as it was
 abbrev pub WroteBatch : ℕ → Session → ℕ → ℕ → ℕ → ℕ → List ℕ → List ℕ → Result BatchWritten Refusal → Type 0
 WroteBatch limit a h e n from out out' (Ok b) =
-    (b.len ≡ length (encode (frame_from limit a h e n from))) × (b.len ≤ length out) × (out' ≡ write out 0 (encode (frame_from limit a h e n from))) × ((cut_from limit a from).goes_on ≡ number_in b.resume_from)
+    (b.len ≡ length (encode (frame_from limit a h e n from))) × (b.len ≤ length out) × (out' ≡ write out 0 (encode (frame_from limit a h e n from))) × ((cut_from limit a from).goes_on ≡ number_or_none b.resume_from)
 WroteBatch limit a h e n from out out' (Err r) = (r ≡ Refusal.NoRoom) × (suc (length out) ≤ length (encode (frame_from limit a h e n from))) × (out' ≡ out)

@@ -13,6 +13,7 @@ ghost use Rattle.frame_fields.specs.Answers.{part_of};
 ghost use Rattle.store_log.specs.Log.{Position};
 ghost use Rattle.store_place.specs.Place.{session_of};
 ghost use Rattle.active_batch.specs.Batch.{planned_changes, Planned, part_is, WroteBatch};
+ghost use Rattle.store_place.specs.PlaceByte;
 
 use active_header::header::Header;
 use active_messages::Extent;
@@ -127,7 +128,7 @@ fn put_frame(header: &Header, log: &Log, batch: SendBatch, plan: Plan, out: &mut
 pub fn send(place: &Place, batch: SendBatch, out: &mut [u8]) -> Result<BatchWritten, Refusal>
     requires max_bound { place.now.max ≤ 65536 }
     requires bytes_len_bound { length place.now.bytes.now ≤ 33554656 }
-    ensures { (C : ℕ) → length place.now.bytes.now ≡ 224 + C → WroteBatch batch.limit (session_of C place.now.max place.now.words.now place.now.bytes.now) batch.handle batch.epoch.0 batch.commit_no.0 batch.from out.old out.new result }
+    ensures { (C : ℕ) → length place.now.bytes.now ≡ PlaceByte.ring + C → WroteBatch batch.limit (session_of C place.now.max place.now.words.now place.now.bytes.now) batch.handle batch.epoch.0 batch.commit_no.0 batch.from out.old out.new result }
 {
     let header = active_header::header_of(place.words, place.bytes);
     let log = place.log();
@@ -147,7 +148,7 @@ pub fn send(place: &Place, batch: SendBatch, out: &mut [u8]) -> Result<BatchWrit
 pub fn batches(place: &Place, limit: u64) -> usize
     requires max_bound { place.now.max ≤ 65536 }
     requires bytes_len_bound { length place.now.bytes.now ≤ 33554656 }
-    ensures is { (C : ℕ) → length place.now.bytes.now ≡ 224 + C → result ≡ length (whole_batches limit (session_of C place.now.max place.now.words.now place.now.bytes.now)) }
+    ensures is { (C : ℕ) → length place.now.bytes.now ≡ PlaceByte.ring + C → result ≡ length (whole_batches limit (session_of C place.now.max place.now.words.now place.now.bytes.now)) }
     ensures few { result ≤ 33554433 }
 {
     active_messages::batches(&place.log(), limit)

@@ -13,12 +13,13 @@ use Rattle.std.specs.List.{position_or_len, list_any}
 use Rattle.std.proofs.Common.{length-append}
 use Rattle.std.proofs.lemmas.List.Quantifiers.{position-Some}
 use Rattle.std.proofs.lemmas.List.Sums.{fails_before_first}
+use Rattle.model_active.proofs.Lists.{eqb_swap}
 use Rattle.base_refusals.specs.declared.Refusal.{Refusal}
 use lib.Dec.{eqb, ltb}
 use borrow.Author.Tests.{lt-ltb, le-ltb, ltb-false, eq-eqb, ne_eqb, eqb-true, eqb-false}
 use Rattle.model_active.specs.CatchUp.{Entry, Book, new, member, meeting, sessions, opens_of, compared_of, on_entry, compared_with, is, less, met_now, behind_now, catching_now, acknowledged_now}
-use Rattle.active_books_area.specs.Words.{list_from, word_at, entry_at, flagged, option_of, book_of}
-use Rattle.active_books_area.specs.Parts.{Ruled, Makes, At, FindsMet, Appends, Meets, IsFull}
+use Rattle.active_books_area.specs.Words.{list_from, word_at, book_entry, flagged, option_of, book_of}
+use Rattle.active_books_area.specs.Parts.{BooksRules, MakesBook, At, FindsMet, Appends, Meets, IsFull}
 use Rattle.active_books_area.proofs.Laws.{First, member_first, entry_first, changed, length_from, from_alike, from_snoc, sessions_from}
 
 -- ---- what a search says
@@ -37,16 +38,9 @@ run_of w base n fits = ap (λ (k : ℕ). take n (drop k w)) (sym (plus-zero base
         let next : suc (base + i) ≡ base + suc i = omega arith in
         ap (take (suc m)) (drop-cons w (base + i) 0 less) ∙ ap (λ (l : List ℕ). word_at w base i ∷ l) (ap (λ (k : ℕ). take m (drop k w)) next ∙ go (suc i) m (omega arith))
 
-eqb_turned : (s x : ℕ) → eqb s x ≡ eqb x s
-eqb_turned s x = go (eqb s x) refl
-  where
-    go : (b : Bool) → eqb s x ≡ b → b ≡ eqb x s
-    go true e = sym (eq-eqb x s (sym (eqb-true s x e)))
-    go false e = sym (ne_eqb x s (λ q. eqb-false s x e (sym q)))
-
 pub contained : (s : ℕ) (l : List ℕ) → list_any (λ x. eqb x s) l ≡ member s l
 contained s [] = refl
-contained s (x ∷ l) = λ j. eqb_turned x s j || contained s l j
+contained s (x ∷ l) = λ j. eqb_swap x s j || contained s l j
 
 first_of_lem : (w : List ℕ) (s i : ℕ) → At w s i → First s i (word_at w 6) 0 (get_or w 0 0)
 first_of_lem w s i a = record { low = omega arith; high = omega (arith, a.inside); before = λ k x y. a.before k y; there = λ h. a.there }
@@ -63,17 +57,17 @@ none_passes p l e = go (ltb (position_or_len p l) (length l)) refl
 
 -- a search of the run of those met
 -- the runs of those met and of those behind
-pub met_run : (w : List ℕ) (m : ℕ) → Ruled w → m ≡ get_or w 0 0 → take m (drop 6 w) ≡ sessions (book_of w).met
+pub met_run : (w : List ℕ) (m : ℕ) → BooksRules w → m ≡ get_or w 0 0 → take m (drop 6 w) ≡ sessions (book_of w).met
 unfolding book_of
-met_run w m ruled q = ap (λ (n : ℕ). take n (drop 6 w)) q ∙ run_of w 6 (get_or w 0 0) (omega (arith, ruled.long, ruled.few)) ∙ sym (sessions_from (entry_at w) 0 (get_or w 0 0))
+met_run w m ruled q = ap (λ (n : ℕ). take n (drop 6 w)) q ∙ run_of w 6 (get_or w 0 0) (omega (arith, ruled.long, ruled.few)) ∙ sym (sessions_from (book_entry w) 0 (get_or w 0 0))
 
-pub behind_run : (w : List ℕ) (m : ℕ) → Ruled w → m ≡ get_or w 1 0 → take m (drop 1030 w) ≡ (book_of w).behind
+pub behind_run : (w : List ℕ) (m : ℕ) → BooksRules w → m ≡ get_or w 1 0 → take m (drop 1030 w) ≡ (book_of w).behind
 unfolding book_of
 behind_run w m ruled q = ap (λ (n : ℕ). take n (drop 1030 w)) q ∙ run_of w 1030 (get_or w 1 0) (omega (arith, ruled.long, ruled.few_behind))
 
 met_is : (w : List ℕ) → sessions (book_of w).met ≡ list_from (word_at w 6) 0 (get_or w 0 0)
 unfolding book_of
-met_is w = sessions_from (entry_at w) 0 (get_or w 0 0)
+met_is w = sessions_from (book_entry w) 0 (get_or w 0 0)
 
 at_from : (f : ℕ → ℕ) (i n k : ℕ) → k < n → get_or (list_from f i n) k 0 ≡ f (i + k)
 at_from f i zero k h = absurd (let z : ⊥ = omega arith in z)
@@ -87,7 +81,7 @@ pub met_size : (w : List ℕ) → length (sessions (book_of w).met) ≡ get_or w
 met_size w = ap length (met_is w) ∙ length_from (word_at w 6) 0 (get_or w 0 0)
 
 -- a search of those met
-pub found_met : (w : List ℕ) (s : ℕ) (r : Option ℕ) → Ruled w → r ≡ position (λ x. eqb x s) (sessions (book_of w).met) → FindsMet w s r
+pub found_met : (w : List ℕ) (s : ℕ) (r : Option ℕ) → BooksRules w → r ≡ position (λ x. eqb x s) (sessions (book_of w).met) → FindsMet w s r
 found_met w s (Some i) ruled e =
     let p = position-Some (λ x. eqb x s) (sessions (book_of w).met) i 0 (sym e) in
     let inside : i < get_or w 0 0 = omega (arith, met_size w, p.0) in
@@ -121,7 +115,7 @@ pub absent : (w : List ℕ) (s : ℕ) → FindsMet w s None → (opens_of s (boo
 unfolding book_of
 absent w s f =
     let n = get_or w 0 0 in
-    let e = entry_first s n (entry_at w) 0 n (none_first w s f) in (
+    let e = entry_first s n (book_entry w) 0 n (none_first w s f) in (
       e.0 ∙ ap (λ (b : Bool). cond b (word_at w 262 n) 0) (not_in_it n),
       e.1 ∙ ap (λ (b : Bool). cond b (flagged (word_at w 518 n) (word_at w 774 n)) none) (not_in_it n),
     )
@@ -131,11 +125,11 @@ positive n ne = omega arith
 
 pub opens_at : (w : List ℕ) (s i : ℕ) → At w s i → opens_of s (book_of w).met ≡ word_at w 262 i
 unfolding book_of
-opens_at w s i a = (entry_first s i (entry_at w) 0 (get_or w 0 0) (first_of_lem w s i a)).0 ∙ ap (λ (b : Bool). cond b (word_at w 262 i) 0) (in_it w s i a)
+opens_at w s i a = (entry_first s i (book_entry w) 0 (get_or w 0 0) (first_of_lem w s i a)).0 ∙ ap (λ (b : Bool). cond b (word_at w 262 i) 0) (in_it w s i a)
 
 pub compared_at : (w : List ℕ) (s i : ℕ) → At w s i → compared_of s (book_of w).met ≡ flagged (word_at w 518 i) (word_at w 774 i)
 unfolding book_of
-compared_at w s i a = (entry_first s i (entry_at w) 0 (get_or w 0 0) (first_of_lem w s i a)).1 ∙ ap (λ (b : Bool). cond b (flagged (word_at w 518 i) (word_at w 774 i)) none) (in_it w s i a)
+compared_at w s i a = (entry_first s i (book_entry w) 0 (get_or w 0 0) (first_of_lem w s i a)).1 ∙ ap (λ (b : Bool). cond b (flagged (word_at w 518 i) (word_at w 774 i)) none) (in_it w s i a)
 
 -- a word that is 0, and one that isn't
 pub no_flag : (f n i : ℕ) → f ≡ 0 → false ≡ is (flagged f n) i
@@ -154,7 +148,7 @@ flagged_option None f n e q = ap (λ (b : Bool). cond b none (some n)) (eq-eqb f
 
 pub length_met : (w : List ℕ) → length (book_of w).met ≡ get_or w 0 0
 unfolding book_of
-length_met w = length_from (entry_at w) 0 (get_or w 0 0)
+length_met w = length_from (book_entry w) 0 (get_or w 0 0)
 
 pub length_behind : (w : List ℕ) → length (book_of w).behind ≡ get_or w 1 0
 unfolding book_of
@@ -177,15 +171,15 @@ outside_on : (w₁ w₂ w₃ : List ℕ) → Outside w₁ w₂ → Outside w₂ 
 outside_on w₁ w₂ w₃ a b = record { size = b.size ∙ a.size; rest = b.rest ∙ a.rest }
 
 on_entry_lem : (w w' : List ℕ) (s i : ℕ) (h : Entry → Entry) → At w s i → Outside w w' → ((k : ℕ) → k < 6 → get_or w' k 0 ≡ get_or w k 0)
-    → ((k : ℕ) → k < 256 → (k ≡ i → ⊥) → entry_at w' k ≡ entry_at w k) → entry_at w' i ≡ h (entry_at w i) → ((k : ℕ) → k < 256 → word_at w' 1030 k ≡ word_at w 1030 k)
-    → Makes w w' (met_now (book_of w) (on_entry s h (book_of w).met))
+    → ((k : ℕ) → k < 256 → (k ≡ i → ⊥) → book_entry w' k ≡ book_entry w k) → book_entry w' i ≡ h (book_entry w i) → ((k : ℕ) → k < 256 → word_at w' 1030 k ≡ word_at w 1030 k)
+    → MakesBook w w' (met_now (book_of w) (on_entry s h (book_of w).met))
 unfolding book_of
 on_entry_lem w w' s i h a o singles others at behind =
     let r = a.ruled in
     let n0 : 0 < 6 = omega arith in
     let n1 : 1 < 6 = omega arith in
-    let m = ap (list_from (entry_at w') 0) (singles 0 n0)
-    ∙ changed s i (entry_at w) (entry_at w') h 0 (get_or w 0 0) (first_of_lem w s i a) (omega (arith, a.inside)) at (λ k x y ne. others k (omega (arith, r.few)) ne) in
+    let m = ap (list_from (book_entry w') 0) (singles 0 n0)
+    ∙ changed s i (book_entry w) (book_entry w') h 0 (get_or w 0 0) (first_of_lem w s i a) (omega (arith, a.inside)) at (λ k x y ne. others k (omega (arith, r.few)) ne) in
     let b = ap (list_from (word_at w' 1030) 0) (singles 1 n1) ∙ from_alike (word_at w' 1030) (word_at w 1030) 0 (get_or w 1 0) (λ k x y. behind k (omega (arith, r.few_behind))) in
     let x2 = singles 2 (omega arith) in
     let x3 = singles 3 (omega arith) in
@@ -199,7 +193,7 @@ on_entry_lem w w' s i h a o singles others at behind =
 
 -- the open count of the entry at i
 pub opens_set : (w : List ℕ) (s i v : ℕ) (g : ℕ → ℕ) → At w s i → v ≡ g (word_at w 262 i)
-    → Makes w (set w (262 + i) v) (met_now (book_of w) (on_entry s (λ e. record { session = e.session; opens = g e.opens; compared = e.compared }) (book_of w).met))
+    → MakesBook w (set w (262 + i) v) (met_now (book_of w) (on_entry s (λ e. record { session = e.session; opens = g e.opens; compared = e.compared }) (book_of w).met))
 opens_set w s i v g a e =
     let few : i < 256 = omega (arith, a.inside, a.ruled.few) in
     let inside : 262 + i < length w = omega (arith, a.ruled.long) in
@@ -222,7 +216,7 @@ other2 : (w : List ℕ) (a x b y k : ℕ) → (k ≡ a → ⊥) → (k ≡ b →
 other2 w a x b y k na nb = other (set w a x) b y k nb ∙ other w a x k na
 
 -- the incarnation that the session at i was compared with
-pub compared_set : (w : List ℕ) (s i c : ℕ) → At w s i → Makes w (set (set w (518 + i) 1) (774 + i) c) (met_now (book_of w) (on_entry s (compared_with c) (book_of w).met))
+pub compared_set : (w : List ℕ) (s i c : ℕ) → At w s i → MakesBook w (set (set w (518 + i) 1) (774 + i) c) (met_now (book_of w) (on_entry s (compared_with c) (book_of w).met))
 compared_set w s i c a =
     let few : i < 256 = omega (arith, a.inside, a.ruled.few) in
     let w₁ = set w (518 + i) 1 in
@@ -245,12 +239,12 @@ compared_set w s i c a =
     (λ k h. other2 w (518 + i) 1 (774 + i) c (1030 + k) (λ q. omega arith) (λ q. omega arith))
 
 -- only the count and the words of those behind are written
-pub on_behind : (w w' l : List ℕ) → Ruled w → length w' ≡ length w → drop 1286 w' ≡ drop 1286 w → ((k : ℕ) → k < 1030 → (k ≡ 1 → ⊥) → get_or w' k 0 ≡ get_or w k 0)
-    → get_or w' 1 0 ≤ 256 → list_from (word_at w' 1030) 0 (get_or w' 1 0) ≡ l → Makes w w' (behind_now (book_of w) l)
+pub on_behind : (w w' l : List ℕ) → BooksRules w → length w' ≡ length w → drop 1286 w' ≡ drop 1286 w → ((k : ℕ) → k < 1030 → (k ≡ 1 → ⊥) → get_or w' k 0 ≡ get_or w k 0)
+    → get_or w' 1 0 ≤ 256 → list_from (word_at w' 1030) 0 (get_or w' 1 0) ≡ l → MakesBook w w' (behind_now (book_of w) l)
 unfolding book_of
 on_behind w w' l r size rest same few list =
     let n0 : get_or w' 0 0 ≡ get_or w 0 0 = same 0 (omega arith) (λ q. omega arith) in
-    let m = ap (list_from (entry_at w') 0) n0 ∙ from_alike (entry_at w') (entry_at w) 0 (get_or w 0 0) (λ k x y.
+    let m = ap (list_from (book_entry w') 0) n0 ∙ from_alike (book_entry w') (book_entry w) 0 (get_or w 0 0) (λ k x y.
     let less : k < 256 = omega (arith, r.few) in
     let a1 = same (6 + k) (omega arith) (λ q. omega arith) in
     let a2 = same (262 + k) (omega arith) (λ q. omega arith) in
@@ -268,8 +262,8 @@ on_behind w w' l r size rest same few list =
     }
 
 -- one session more behind
-pub pushed : (w : List ℕ) (s m : ℕ) → Ruled w → get_or w 1 0 ≡ m → m < 256
-    → Makes w (set (set w (1030 + m) s) 1 (m + 1)) (behind_now (book_of w) ((book_of w).behind ++ (s ∷ [])))
+pub pushed : (w : List ℕ) (s m : ℕ) → BooksRules w → get_or w 1 0 ≡ m → m < 256
+    → MakesBook w (set (set w (1030 + m) s) 1 (m + 1)) (behind_now (book_of w) ((book_of w).behind ++ (s ∷ [])))
 unfolding book_of
 pushed w s m r is_m less =
     let w₁ = set w (1030 + m) s in
@@ -287,7 +281,7 @@ pushed w s m r is_m less =
     (ap (list_from (word_at w₂ 1030) 0) count ∙ from_snoc (word_at w₂ 1030) 0 m ∙ (λ j. front j ++ (last j ∷ [])))
 
 -- the words 2 and 3, or 4 and 5
-pub catching_set : (w : List ℕ) (f s : ℕ) (o : Option ℕ) → Ruled w → f ≡ cond (is_some o) 1 0 → s ≡ unwrap_or o 0 → Makes w (set (set w 2 f) 3 s) (catching_now (book_of w) (option_of o))
+pub catching_set : (w : List ℕ) (f s : ℕ) (o : Option ℕ) → BooksRules w → f ≡ cond (is_some o) 1 0 → s ≡ unwrap_or o 0 → MakesBook w (set (set w 2 f) 3 s) (catching_now (book_of w) (option_of o))
 unfolding book_of
 catching_set w f s o r ef es =
     let w₁ = set w 2 f in
@@ -303,7 +297,7 @@ catching_set w f s o r ef es =
     let xc : flagged (get_or w₂ 2 0) (get_or w₂ 3 0) ≡ option_of o = (λ j. flagged (x2 j) (x3 j)) ∙ flagged_option o f s ef es in
     let x4 = same 4 (λ q. omega arith) (λ q. omega arith) in
     let x5 = same 5 (λ q. omega arith) (λ q. omega arith) in
-    let m = ap (list_from (entry_at w₂) 0) x0 ∙ from_alike (entry_at w₂) (entry_at w) 0 (get_or w 0 0) (λ k x y.
+    let m = ap (list_from (book_entry w₂) 0) x0 ∙ from_alike (book_entry w₂) (book_entry w) 0 (get_or w 0 0) (λ k x y.
     let a1 = same (6 + k) (λ q. omega arith) (λ q. omega arith) in
     let a2 = same (262 + k) (λ q. omega arith) (λ q. omega arith) in
     let a3 = same (518 + k) (λ q. omega arith) (λ q. omega arith) in
@@ -316,7 +310,7 @@ catching_set w f s o r ef es =
       rest = out.rest;
     }
 
-pub acknowledged_set : (w : List ℕ) (i : ℕ) → Ruled w → Makes w (set (set w 4 1) 5 i) (acknowledged_now (book_of w) (some i))
+pub acknowledged_set : (w : List ℕ) (i : ℕ) → BooksRules w → MakesBook w (set (set w 4 1) 5 i) (acknowledged_now (book_of w) (some i))
 unfolding book_of
 acknowledged_set w i r =
     let w₁ = set w 4 1 in
@@ -331,7 +325,7 @@ acknowledged_set w i r =
     let x3 = same 3 (λ q. omega arith) (λ q. omega arith) in
     let x4 = other w₁ 5 i 4 (λ q. omega arith) ∙ get_or-set_same w 4 1 0 in₁ in
     let x5 = get_or-set_same w₁ 5 i 0 in₂ in
-    let m = ap (list_from (entry_at w₂) 0) x0 ∙ from_alike (entry_at w₂) (entry_at w) 0 (get_or w 0 0) (λ k x y.
+    let m = ap (list_from (book_entry w₂) 0) x0 ∙ from_alike (book_entry w₂) (book_entry w) 0 (get_or w 0 0) (λ k x y.
     let a1 = same (6 + k) (λ q. omega arith) (λ q. omega arith) in
     let a2 = same (262 + k) (λ q. omega arith) (λ q. omega arith) in
     let a3 = same (518 + k) (λ q. omega arith) (λ q. omega arith) in
@@ -349,7 +343,7 @@ acknowledged_set w i r =
 other4 : (w : List ℕ) (a x b y c z d v k : ℕ) → (k ≡ a → ⊥) → (k ≡ b → ⊥) → (k ≡ c → ⊥) → (k ≡ d → ⊥) → get_or (set (set (set (set w a x) b y) c z) d v) k 0 ≡ get_or w k 0
 other4 w a x b y c z d v k na nb nc nd = other2 (set (set w a x) b y) c z d v k nc nd ∙ other2 w a x b y k na nb
 
-pub appended : (w : List ℕ) (s n : ℕ) → Ruled w → get_or w 0 0 ≡ n → n < 256 → Appends w (set (set (set (set w (6 + n) s) (262 + n) 0) (518 + n) 0) 0 (n + 1)) s
+pub appended : (w : List ℕ) (s n : ℕ) → BooksRules w → get_or w 0 0 ≡ n → n < 256 → Appends w (set (set (set (set w (6 + n) s) (262 + n) 0) (518 + n) 0) 0 (n + 1)) s
 unfolding book_of
 appended w s n r is-n less =
     let w₁ = set w (6 + n) s in
@@ -372,18 +366,18 @@ appended w s n r is-n less =
     let x3 = same 3 (λ q. omega arith) (λ q. omega arith) (λ q. omega arith) (λ q. omega arith) in
     let x4 = same 4 (λ q. omega arith) (λ q. omega arith) (λ q. omega arith) (λ q. omega arith) in
     let x5 = same 5 (λ q. omega arith) (λ q. omega arith) (λ q. omega arith) (λ q. omega arith) in
-    let front : list_from (entry_at w₄) 0 n ≡ list_from (entry_at w) 0 (get_or w 0 0) = from_alike (entry_at w₄) (entry_at w) 0 n (λ k x y.
+    let front : list_from (book_entry w₄) 0 n ≡ list_from (book_entry w) 0 (get_or w 0 0) = from_alike (book_entry w₄) (book_entry w) 0 n (λ k x y.
     let a1 = same (6 + k) (λ q. omega arith) (λ q. omega arith) (λ q. omega arith) (λ q. omega arith) in
     let a2 = same (262 + k) (λ q. omega arith) (λ q. omega arith) (λ q. omega arith) (λ q. omega arith) in
     let a3 = same (518 + k) (λ q. omega arith) (λ q. omega arith) (λ q. omega arith) (λ q. omega arith) in
     let a4 = same (774 + k) (λ q. omega arith) (λ q. omega arith) (λ q. omega arith) (λ q. omega arith) in
-    λ j. record { session = a1 j; opens = a2 j; compared = flagged (a3 j) (a4 j) }) ∙ ap (list_from (entry_at w) 0) (sym is-n) in
+    λ j. record { session = a1 j; opens = a2 j; compared = flagged (a3 j) (a4 j) }) ∙ ap (list_from (book_entry w) 0) (sym is-n) in
     let e1 : word_at w₄ 6 n ≡ s = other2 w₂ (518 + n) 0 0 (n + 1) (6 + n) (λ q. omega arith) (λ q. omega arith) ∙ other w₁ (262 + n) 0 (6 + n) (λ q. omega arith) ∙ get_or-set_same w (6 + n) s 0 in₁ in
     let e2 : word_at w₄ 262 n ≡ 0 = other2 w₂ (518 + n) 0 0 (n + 1) (262 + n) (λ q. omega arith) (λ q. omega arith) ∙ get_or-set_same w₁ (262 + n) 0 0 in₂ in
     let e3 : word_at w₄ 518 n ≡ 0 = other w₃ 0 (n + 1) (518 + n) (λ q. omega arith) ∙ get_or-set_same w₂ (518 + n) 0 0 in₃ in
-    let last : entry_at w₄ (0 + n) ≡ new s = ap (entry_at w₄) (zero_plus n) ∙ (λ j. record { session = e1 j; opens = e2 j; compared = flagged (e3 j) (word_at w₄ 774 n) }) in
-    let m : list_from (entry_at w₄) 0 (get_or w₄ 0 0) ≡ list_from (entry_at w) 0 (get_or w 0 0) ++ (new s ∷ []) =
-    ap (list_from (entry_at w₄) 0) (count ∙ add-one n) ∙ from_snoc (entry_at w₄) 0 n ∙ (λ j. front j ++ (last j ∷ [])) in
+    let last : book_entry w₄ (0 + n) ≡ new s = ap (book_entry w₄) (zero_plus n) ∙ (λ j. record { session = e1 j; opens = e2 j; compared = flagged (e3 j) (word_at w₄ 774 n) }) in
+    let m : list_from (book_entry w₄) 0 (get_or w₄ 0 0) ≡ list_from (book_entry w) 0 (get_or w 0 0) ++ (new s ∷ []) =
+    ap (list_from (book_entry w₄) 0) (count ∙ add-one n) ∙ from_snoc (book_entry w₄) 0 n ∙ (λ j. front j ++ (last j ∷ [])) in
     let b = ap (list_from (word_at w₄ 1030) 0) x1 ∙ from_alike (word_at w₄ 1030) (word_at w 1030) 0 (get_or w 1 0) (λ k x y.
     same (1030 + k) (λ q. omega arith) (λ q. omega arith) (λ q. omega arith) (λ q. omega arith)) in
     record {
@@ -438,5 +432,5 @@ less_is (suc n) = omega arith
 
 -- ---- one part after another
 
-pub after : (w w₁ w₂ : List ℕ) (b : Book) (f : Book → Book) → Makes w w₁ b → Makes w₁ w₂ (f (book_of w₁)) → Makes w w₂ (f b)
+pub after : (w w₁ w₂ : List ℕ) (b : Book) (f : Book → Book) → MakesBook w w₁ b → MakesBook w₁ w₂ (f (book_of w₁)) → MakesBook w w₂ (f b)
 after w w₁ w₂ b f x y = record { book = y.book ∙ ap f x.book; ruled = y.ruled; rest = y.rest ∙ x.rest }

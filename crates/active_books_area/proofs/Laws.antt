@@ -8,40 +8,33 @@ use native.Mathlib.Omega.{arith}
 use lib.ListN.{length, get_or}
 use lib.Dec.{ltb, leb}
 use borrow.Author.Tests.{lt-ltb, le-ltb, ltb-true, ltb-false, le-leb, lt-leb, leb-true, eq-eqb, ne_eqb}
+use Rattle.std.specs.Cmp.{first_so, second_so}
 use Rattle.model_active.specs.CatchUp.{Entry, member, sessions, opens_of, compared_of, on_entry}
-use Rattle.active_books_area.specs.Words.{list_from, allowed}
-use Rattle.active_books_area.specs.Parts.{Ruled}
+use Rattle.active_books_area.specs.Words.{list_from, books_allowed}
+use Rattle.active_books_area.specs.Parts.{BooksRules}
 
 -- ---- the rules
 
-and_left : (a b : Bool) → (a && b) ≡ true → a ≡ true
-and_left true b e = refl
-and_left false b e = e
-
-and_right : (a b : Bool) → (a && b) ≡ true → b ≡ true
-and_right true b e = e
-and_right false b e = absurd (true≢false (sym e))
-
-pub ruled_of : (w : List ℕ) → allowed w ≡ true → Ruled w
-unfolding allowed
+pub ruled_of : (w : List ℕ) → books_allowed w ≡ true → BooksRules w
+unfolding books_allowed
 ruled_of w e =
-    let counts = and_right (leb 1286 (length w)) (leb (get_or w 0 0) 256 && leb (get_or w 1 0) 256) e in
+    let counts = second_so (leb 1286 (length w)) (leb (get_or w 0 0) 256 && leb (get_or w 1 0) 256) e in
     record {
-      long = leb-true 1286 (length w) (and_left (leb 1286 (length w)) (leb (get_or w 0 0) 256 && leb (get_or w 1 0) 256) e);
-      few = leb-true (get_or w 0 0) 256 (and_left (leb (get_or w 0 0) 256) (leb (get_or w 1 0) 256) counts);
-      few_behind = leb-true (get_or w 1 0) 256 (and_right (leb (get_or w 0 0) 256) (leb (get_or w 1 0) 256) counts);
+      long = leb-true 1286 (length w) (first_so (leb 1286 (length w)) (leb (get_or w 0 0) 256 && leb (get_or w 1 0) 256) e);
+      few = leb-true (get_or w 0 0) 256 (first_so (leb (get_or w 0 0) 256) (leb (get_or w 1 0) 256) counts);
+      few_behind = leb-true (get_or w 1 0) 256 (second_so (leb (get_or w 0 0) 256) (leb (get_or w 1 0) 256) counts);
     }
 
 -- the two counts decide it where the area is long enough
-pub by_counts : (w : List ℕ) → 1286 ≤ length w → (leb (get_or w 0 0) 256 && leb (get_or w 1 0) 256) ≡ allowed w
-unfolding allowed
+pub by_counts : (w : List ℕ) → 1286 ≤ length w → (leb (get_or w 0 0) 256 && leb (get_or w 1 0) 256) ≡ books_allowed w
+unfolding books_allowed
 by_counts w long = sym (ap (λ (b : Bool). b && (leb (get_or w 0 0) 256 && leb (get_or w 1 0) 256)) (le-leb 1286 (length w) long))
 
-pub allowed_of : (w : List ℕ) → Ruled w → allowed w ≡ true
+pub allowed_of : (w : List ℕ) → BooksRules w → books_allowed w ≡ true
 allowed_of w r = sym (by_counts w r.long) ∙ ap (λ (b : Bool). b && leb (get_or w 1 0) 256) (le-leb (get_or w 0 0) 256 r.few) ∙ le-leb (get_or w 1 0) 256 r.few_behind
 
-pub too_short : (w : List ℕ) → length w < 1286 → false ≡ allowed w
-unfolding allowed
+pub too_short : (w : List ℕ) → length w < 1286 → false ≡ books_allowed w
+unfolding books_allowed
 too_short w short = sym (ap (λ (b : Bool). b && (leb (get_or w 0 0) 256 && leb (get_or w 1 0) 256)) (lt-leb 1286 (length w) short))
 
 -- ---- lists from numbered places

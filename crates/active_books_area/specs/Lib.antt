@@ -1,2 +1,3 @@
+pub mod BookWord
 pub mod Words
 pub mod Parts

@@ -1,12 +1,14 @@
 // The words of an active's books (active.rs, State) in the area that the caller lends: whether they keep the rules, and where a session stands among them; specs/Words.antt says what each word is.
 #![tactic(auto)]
 
-ghost use Rattle.std.specs.Prelude.{◌≡◌, ◌==◌, ◌<◌, get_or, position};
+ghost use Rattle.std.specs.Prelude.{◌≡◌, ◌==◌, ◌<◌, position};
 ghost use Rattle.model_active.specs.CatchUp.{is, member, sessions, catching_now};
-ghost use Rattle.active_books_area.specs.Words.{flagged, option_of, word_at, book_of};
-ghost use Rattle.active_books_area.specs.Parts.{Ruled, Checks, FindsMet, Makes};
+ghost use Rattle.active_books_area.specs.Words.{flagged, option_of, word_at, book_of, met_count_of};
+ghost use Rattle.active_books_area.specs.BookWord;
+ghost use Rattle.active_books_area.specs.Parts.{BooksRules, ChecksBooks, FindsMet, MakesBook};
 
 use base_refusals::Refusal;
+use frame_fields::Incarnation;
 
 // Where each word stands: the two counts, the one being caught up, the last incarnation acknowledged, then five runs of 256 words.
 pub mod word {
@@ -37,19 +39,19 @@ pub mod word {
 #[derive(Clone, Copy)]
 pub struct BooksView<'a> {
     pub words: &'a [u64],
-    pub ghost rules: { Ruled words.now },
+    pub ghost rules: { BooksRules words.now },
 }
 
 // The lent area to be changed.
 #[derive(Drop)]
 pub struct Books<'a> {
     pub words: &'a mut [u64],
-    pub ghost rules: { Ruled words.now },
+    pub ghost rules: { BooksRules words.now },
 }
 
 // An area that is too short, or with a count above 256, is refused. A constructor that hands `Books` on in an `Ok` isn't covered: what the area is after a refusal isn't found.
 pub fn check_rules(words: &[u64]) -> Result<(), Refusal>
-    ensures { Checks words.now result }
+    ensures { ChecksBooks words.now result }
 {
     if words.len() < Books::WORDS {
         return Err(Refusal::RulesBroken);
@@ -107,18 +109,18 @@ impl<'a> BooksView<'a> {
     }
 
     // Whether the entry at k was last compared with an incarnation.
-    pub fn is_compared_at(&self, k: usize, incarnation: u64) -> bool
-        requires { k < get_or self.now.words.now 0 0 }
-        ensures { result ≡ is (flagged (word_at self.now.words.now 518 k) (word_at self.now.words.now 774 k)) incarnation }
+    pub fn is_compared_at(&self, k: usize, incarnation: Incarnation) -> bool
+        requires { k < met_count_of self.now.words.now }
+        ensures { result ≡ is (flagged (word_at self.now.words.now BookWord.compared k) (word_at self.now.words.now BookWord.incarnations k)) incarnation.0 }
     {
-        self.words[word::COMPARED + k] != 0 && self.words[word::INCARNATIONS + k] == incarnation
+        self.words[word::COMPARED + k] != 0 && self.words[word::INCARNATIONS + k] == incarnation.0
     }
 
     // Whether an incarnation is the last whose Checked was acknowledged.
-    pub fn is_acknowledged(&self, incarnation: u64) -> bool
-        ensures { result ≡ is (book_of self.now.words.now).acknowledged incarnation }
+    pub fn is_acknowledged(&self, incarnation: Incarnation) -> bool
+        ensures { result ≡ is (book_of self.now.words.now).acknowledged incarnation.0 }
     {
-        self.words[word::IS_ACKNOWLEDGED] != 0 && self.words[word::ACKNOWLEDGED] == incarnation
+        self.words[word::IS_ACKNOWLEDGED] != 0 && self.words[word::ACKNOWLEDGED] == incarnation.0
     }
 }
 
@@ -138,7 +140,7 @@ impl Books<'_> {
     // A session is being caught up, or none is.
     pub fn set_catching(&mut self, session: Option<u64>)
         ensures same_area { self.new.words.ghost_name ≡ self.old.words.ghost_name }
-        ensures makes { Makes self.old.words.now self.new.words.now (catching_now (book_of self.old.words.now) (option_of session)) }
+        ensures makes { MakesBook self.old.words.now self.new.words.now (catching_now (book_of self.old.words.now) (option_of session)) }
     {
         self.words[word::IS_CATCHING] = u64::from(session.is_some());
         self.words[word::CATCHING] = session.unwrap_or(0);

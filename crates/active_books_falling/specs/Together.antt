@@ -4,5 +4,5 @@ use Rattle.model_active.specs.CatchUp.{member}
 use Rattle.active_books_area.specs.Words.{book_of}
 
 -- those of some sessions that are listed and aren't behind
-abbrev pub listed_of : List ℕ → List ℕ → List ℕ → List ℕ
-listed_of w l ss = filter (λ s. member s l && not (member s (book_of w).behind)) ss
+abbrev pub fallen_listed : List ℕ → List ℕ → List ℕ → List ℕ
+fallen_listed w l ss = filter (λ s. member s l && not (member s (book_of w).behind)) ss

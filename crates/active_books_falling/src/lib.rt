@@ -1,23 +1,25 @@
 // Several sessions fall behind together, in the order they were met.
 #![tactic(auto)]
 
-ghost use Rattle.std.specs.Prelude.{◌≡◌, not, ◌&&◌, ◌++◌, ◌+◌, ◌≤◌, ◌<◌, length, get_or};
+ghost use Rattle.std.specs.Prelude.{◌≡◌, not, ◌&&◌, ◌++◌, ◌+◌, ◌≤◌, ◌<◌, length};
 ghost use Rattle.model_active.specs.CatchUp.{member, open_only, falling, behind_now};
 ghost use Rattle.arrayvec.specs.ArrayVec.{array_vec_len};
-ghost use Rattle.active_books_area.specs.Words.{word_at, book_of, entry_at};
-ghost use Rattle.active_books_area.specs.Parts.{Makes};
-ghost use Rattle.active_books_falling.specs.Together.{listed_of};
+ghost use Rattle.active_books_area.specs.Words.{word_at, book_of, book_entry, met_count_of, behind_count_of};
+ghost use Rattle.active_books_area.specs.BookWord;
+ghost use Rattle.active_books_area.specs.Parts.{MakesBook};
+ghost use Rattle.active_books_falling.specs.Together.{fallen_listed};
 
 use active_books_area::{Books, BooksView, word};
 use active_books_listing::is_listed;
 use active_books_session::push;
 use arrayvec::ArrayVec;
+use frame_fields::Incarnation;
 
 // Those that fall are behind.
 pub fn push_all(books: &mut Books<'_>, fallen: &[u64])
-    requires { get_or books.old.words.now 1 0 + length fallen.now ≤ 256 }
+    requires { behind_count_of books.old.words.now + length fallen.now ≤ 256 }
     ensures same_area { books.new.words.ghost_name ≡ books.old.words.ghost_name }
-    ensures makes { Makes books.old.words.now books.new.words.now (behind_now (book_of books.old.words.now) ((book_of books.old.words.now).behind ++ fallen.now)) }
+    ensures makes { MakesBook books.old.words.now books.new.words.now (behind_now (book_of books.old.words.now) ((book_of books.old.words.now).behind ++ fallen.now)) }
 {
     for session in fallen {
         push(books, *session);
@@ -25,9 +27,9 @@ pub fn push_all(books: &mut Books<'_>, fallen: &[u64])
 }
 
 // Whether the entry at k is open and not compared with an incarnation, and its session isn't behind yet.
-pub fn falls_open(books: &BooksView<'_>, k: usize, incarnation: u64) -> bool
-    requires { k < get_or books.now.words.now 0 0 }
-    ensures { result ≡ (open_only incarnation (entry_at books.now.words.now k) && not (member (word_at books.now.words.now 6 k) (book_of books.now.words.now).behind)) }
+pub fn falls_open(books: &BooksView<'_>, k: usize, incarnation: Incarnation) -> bool
+    requires { k < met_count_of books.now.words.now }
+    ensures { result ≡ (open_only incarnation.0 (book_entry books.now.words.now k) && not (member (word_at books.now.words.now BookWord.sessions k) (book_of books.now.words.now).behind)) }
 {
     if books.words[word::OPENS + k] == 0 {
         return false;
@@ -41,10 +43,10 @@ pub fn falls_open(books: &BooksView<'_>, k: usize, incarnation: u64) -> bool
 // The open sessions not compared with an incarnation that aren't behind yet, in the order met.
 pub fn fallen_open(
     books: &BooksView<'_>,
-    incarnation: u64,
+    incarnation: Incarnation,
 ) -> ArrayVec<u64, { Books::MAX_SESSIONS }>
-    ensures list { result.items ≡ falling (open_only incarnation) (book_of books.now.words.now) }
-    ensures few { array_vec_len result ≤ get_or books.now.words.now 0 0 }
+    ensures list { result.items ≡ falling (open_only incarnation.0) (book_of books.now.words.now) }
+    ensures few { array_vec_len result ≤ met_count_of books.now.words.now }
 {
     let n = books.words[word::MET_COUNT] as usize;
     let mut fallen = ArrayVec::new();
@@ -74,7 +76,7 @@ pub fn fall_listed(
     fallen: &mut ArrayVec<u64, { Books::MAX_SESSIONS }>,
 )
     requires room { array_vec_len fallen.old + length sessions.now ≤ 256 }
-    ensures fall { fallen.new.items ≡ fallen.old.items ++ listed_of books.now.words.now listing.now sessions.now }
+    ensures fall { fallen.new.items ≡ fallen.old.items ++ fallen_listed books.now.words.now listing.now sessions.now }
     ensures few { array_vec_len fallen.new ≤ array_vec_len fallen.old + length sessions.now }
 {
     for (place, session) in sessions.iter().enumerate() {

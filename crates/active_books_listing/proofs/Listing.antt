@@ -17,7 +17,7 @@ use Rattle.base_refusals.specs.declared.Refusal.{Refusal}
 use Rattle.model_active.specs.CatchUp.{Entry, Book, member, sessions, new, meeting, met_now}
 use Rattle.active_books_area.specs.Words.{book_of}
 use Rattle.active_books_listing.specs.Listings.{AreNew, NoRoom}
-use Rattle.active_books_area.specs.Parts.{Makes, Appends}
+use Rattle.active_books_area.specs.Parts.{MakesBook, Appends}
 use Rattle.active_books_area.proofs.Area.{length_met}
 
 -- ---- members
@@ -75,7 +75,7 @@ pub record Gathering (w l a : List ℕ) (j : ℕ) : Type 0 where
   pub room : get_or w 0 0 + length a ≤ 256
   pub left : meeting l (book_of w).met ≡ meeting (drop j l) ((book_of w).met ++ map new a)
 
-append_nil : {A : Type 0} (l : List A) → l ++ [] ≡ l
+pub append_nil : {A : Type 0} (l : List A) → l ++ [] ≡ l
 append_nil [] = refl
 append_nil (x ∷ l) = ap (λ (r : List _). x ∷ r) (append_nil l)
 
@@ -127,7 +127,7 @@ gathered w l a j g end = record { meets = g.left ∙ ap (λ (x : List ℕ). meet
 
 -- the first i of a are met
 pub record Appending (w₀ a w : List ℕ) (i : ℕ) : Type 0 where
-  pub makes : Makes w₀ w (met_now (book_of w₀) ((book_of w₀).met ++ map new (take i a)))
+  pub makes : MakesBook w₀ w (met_now (book_of w₀) ((book_of w₀).met ++ map new (take i a)))
   pub count : get_or w 0 0 ≡ get_or w₀ 0 0 + i
 
 pub appends : (w₀ a w w' : List ℕ) (i : ℕ) → Appending w₀ a w i → i < length a → Appends w w' (get_or a i 0) → Appending w₀ a w' (i + 1)

@@ -1,15 +1,15 @@
 -- What the parts that meet a listing promise. Assumes nothing.
-use Rattle.std.specs.Prelude.{◌≡◌, List, ◌++◌, ℕ, ◌+◌, ◌≤◌, ◌<◌, length, get_or, map, Result, Ok, Err}
+use Rattle.std.specs.Prelude.{◌≡◌, List, ◌++◌, ℕ, ◌+◌, ◌≤◌, ◌<◌, length, map, Result, Ok, Err}
 use Rattle.arrayvec.specs.ArrayVec.{ArrayVec}
 use Rattle.base_refusals.specs.declared.Refusal.{Refusal}
 use Rattle.model_active.specs.CatchUp.{new, met_now, meeting}
-use Rattle.active_books_area.specs.Words.{book_of}
-use Rattle.active_books_area.specs.Parts.{Makes}
+use Rattle.active_books_area.specs.Words.{book_of, met_count_of}
+use Rattle.active_books_area.specs.Parts.{MakesBook}
 
 -- these of the listing are new, and there is room for them
 pub record AreNew (w l fresh : List ℕ) : Type 0 where
   pub meets : meeting l (book_of w).met ≡ (book_of w).met ++ map new fresh
-  pub fit : get_or w 0 0 + length fresh ≤ 256
+  pub fit : met_count_of w + length fresh ≤ 256
 
 -- there is no room for all of the listing
 pub record NoRoom (w l : List ℕ) (e : Refusal) : Type 0 where
@@ -21,6 +21,6 @@ Gathers w l (Ok fresh) = AreNew w l fresh.items
 Gathers w l (Err e) = NoRoom w l e
 
 -- all of the listing are met, or there is no room and no word changed
-abbrev pub Lists : List ℕ → List ℕ → List ℕ → Result (Unit {0}) Refusal → Type 0
-Lists w w' l (Ok _) = Makes w w' (met_now (book_of w) (meeting l (book_of w).met))
-Lists w w' l (Err e) = NoRoom w l e × (w' ≡ w)
+abbrev pub MeetsListed : List ℕ → List ℕ → List ℕ → Result (Unit {0}) Refusal → Type 0
+MeetsListed w w' l (Ok _) = MakesBook w w' (met_now (book_of w) (meeting l (book_of w).met))
+MeetsListed w w' l (Err e) = NoRoom w l e × (w' ≡ w)

@@ -1,11 +1,11 @@
 // A listing's sessions are met: all of them, or none where there is no room for all.
 #![tactic(auto)]
 
-ghost use Rattle.std.specs.Prelude.{◌≡◌, ◌||◌, ◌++◌, ◌+◌, ◌≤◌, length, get_or, map};
+ghost use Rattle.std.specs.Prelude.{◌≡◌, ◌||◌, ◌++◌, ◌+◌, ◌≤◌, length, map};
 ghost use Rattle.model_active.specs.CatchUp.{member, new, sessions, met_now};
-ghost use Rattle.active_books_area.specs.Words.{book_of};
-ghost use Rattle.active_books_area.specs.Parts.{Makes};
-ghost use Rattle.active_books_listing.specs.Listings.{Gathers, Lists};
+ghost use Rattle.active_books_area.specs.Words.{book_of, met_count_of};
+ghost use Rattle.active_books_area.specs.Parts.{MakesBook};
+ghost use Rattle.active_books_listing.specs.Listings.{Gathers, MeetsListed};
 
 use active_books_area::{Books, BooksView, word};
 use active_books_session::append;
@@ -48,9 +48,9 @@ pub fn gather(
 
 // Those that are new are met.
 pub fn append_all(books: &mut Books<'_>, fresh: &[u64])
-    requires { get_or books.old.words.now 0 0 + length fresh.now ≤ 256 }
+    requires { met_count_of books.old.words.now + length fresh.now ≤ 256 }
     ensures same_area { books.new.words.ghost_name ≡ books.old.words.ghost_name }
-    ensures makes { Makes books.old.words.now books.new.words.now (met_now (book_of books.old.words.now) ((book_of books.old.words.now).met ++ map new fresh.now)) }
+    ensures makes { MakesBook books.old.words.now books.new.words.now (met_now (book_of books.old.words.now) ((book_of books.old.words.now).met ++ map new fresh.now)) }
 {
     for session in fresh {
         append(books, *session);
@@ -60,7 +60,7 @@ pub fn append_all(books: &mut Books<'_>, fresh: &[u64])
 // All of a listing are met, or none.
 pub fn meet_listed(books: &mut Books<'_>, listing: &[u64]) -> Result<(), Refusal>
     ensures same_area { books.new.words.ghost_name ≡ books.old.words.ghost_name }
-    ensures lists { Lists books.old.words.now books.new.words.now listing.now result }
+    ensures lists { MeetsListed books.old.words.now books.new.words.now listing.now result }
 {
     let fresh = gather(&books.view(), listing)?;
     append_all(books, &fresh);

@@ -8,6 +8,7 @@ use native.Mathlib.Omega.{arith}
 use lib.ListN.{length, get_or}
 use lib.Dec.{eqb, ltb}
 use borrow.Author.Tests.{lt-ltb, le-ltb, eq-eqb, ne_eqb, eqb-true}
+use Rattle.model_active.proofs.Places.{all_at}
 use Rattle.model_active.specs.CatchUp.{member, compared_of, is_open, is, first_of, is_none, could_pick, pick, all_with, told_checked}
 use Rattle.active_books_area.specs.Words.{word_at, option_of, book_of}
 use Rattle.active_books_area.specs.Parts.{At, FindsMet}
@@ -90,14 +91,6 @@ all_of P (x ∷ xs) f = (f x (ap (λ (b : Bool). b || member x xs) (eq-eqb x x r
     go true s e = refl
     go false s e = e
 
-of_all : (P : ℕ → Type 0) (xs : List ℕ) (s : ℕ) → All P xs → member s xs ≡ true → P s
-of_all P [] s a e = absurd (true≢false (sym e))
-of_all P (x ∷ xs) s a e = go (eqb s x) refl e (of_all P xs s a.1)
-  where
-    go : (b : Bool) → eqb s x ≡ b → (b || member s xs) ≡ true → (member s xs ≡ true → P s) → P s
-    go true q r f = subst P (sym (eqb-true s x q)) a.0
-    go false q r f = f r
-
 -- of those behind, the closed ones could be picked
 behind_alike : (w : List ℕ) (i : ℕ) → first_of (could_pick (book_of w) i) (book_of w).behind ≡ first_of (is_closed w) (book_of w).behind
 behind_alike w i = first_alike (could_pick (book_of w) i) (is_closed w) (book_of w).behind
@@ -114,7 +107,7 @@ listed_alike w i s a = go (member s (book_of w).behind) refl (is_closed w s) ref
     go : (b : Bool) → member s (book_of w).behind ≡ b → (d : Bool) → is_closed w s ≡ d → (d && (b || not (is (compared_of s (book_of w).met) i))) ≡ (d && not (is (compared_of s (book_of w).met) i))
     go false e d q = refl
     go true e false q = refl
-    go true e true q = absurd (true≢false ((λ j. sym q j && (sym e j || not (is (compared_of s (book_of w).met) i))) ∙ of_all (λ t. could_pick (book_of w) i t ≡ false) (book_of w).behind s a e))
+    go true e true q = absurd (true≢false ((λ j. sym q j && (sym e j || not (is (compared_of s (book_of w).met) i))) ∙ all_at (λ t. could_pick (book_of w) i t ≡ false) (book_of w).behind s a e))
 
 pub picks_behind : (w l : List ℕ) (i s : ℕ) → Some s ≡ find (is_closed w) (book_of w).behind → pick (book_of w) l i ≡ some s
 picks_behind w l i s f = first_some (could_pick (book_of w) i) (book_of w).behind l s (behind_alike w i ∙ sym (ap option_of f ∙ found_first (is_closed w) (book_of w).behind))

@@ -9,12 +9,13 @@ ghost use Rattle.active_books_next.specs.Firsts.{is_closed, is_wanting};
 
 use active_books_area::{BooksView, word};
 use active_books_session::is_compared;
+use frame_fields::Incarnation;
 
 // What a pass goes over, and the incarnation that it compares with.
 #[derive(Clone, Copy)]
 pub struct Pass<'a> {
     pub listing: &'a [u64],
-    pub incarnation: u64,
+    pub incarnation: Incarnation,
 }
 
 pub fn is_open(books: &BooksView<'_>, session: u64) -> bool
@@ -27,8 +28,8 @@ pub fn is_open(books: &BooksView<'_>, session: u64) -> bool
 
 // Whether a session was last compared with an incarnation. By `is_some_and` this doesn't prove, nor the next by `is_none_or`: nothing is told of a closure that calls
 // `is_compared`.
-pub fn was_compared(books: &BooksView<'_>, session: u64, incarnation: u64) -> bool
-    ensures { result ≡ is (compared_of session (book_of books.now.words.now).met) incarnation }
+pub fn was_compared(books: &BooksView<'_>, session: u64, incarnation: Incarnation) -> bool
+    ensures { result ≡ is (compared_of session (book_of books.now.words.now).met) incarnation.0 }
 {
     match books.find_met(session) {
         Some(i) => is_compared(books, session, i, incarnation),
@@ -37,8 +38,8 @@ pub fn was_compared(books: &BooksView<'_>, session: u64, incarnation: u64) -> bo
 }
 
 // Whether a session is closed, and not compared with an incarnation.
-pub fn is_wanting(books: &BooksView<'_>, session: u64, incarnation: u64) -> bool
-    ensures { result ≡ is_wanting books.now.words.now incarnation session }
+pub fn is_wanting(books: &BooksView<'_>, session: u64, incarnation: Incarnation) -> bool
+    ensures { result ≡ is_wanting books.now.words.now incarnation.0 session }
 {
     match books.find_met(session) {
         Some(i) => books.words[word::OPENS + i] == 0
@@ -65,7 +66,7 @@ pub fn first_behind(books: &BooksView<'_>) -> Option<u64>
 impl Pass<'_> {
     // The first of the listing that is closed and not compared with the incarnation.
     pub fn first_listed(&self, books: &BooksView<'_>) -> Option<u64>
-        ensures { result ≡ find (is_wanting books.now.words.now self.now.incarnation) self.now.listing.now }
+        ensures { result ≡ find (is_wanting books.now.words.now self.now.incarnation.0) self.now.listing.now }
     {
         self.listing
             .iter()
@@ -75,7 +76,7 @@ impl Pass<'_> {
 
     // Whether all of the listing were compared with the incarnation.
     pub fn is_compared(&self, books: &BooksView<'_>) -> bool
-        ensures { result ≡ list_all (λ s. is (compared_of s (book_of books.now.words.now).met) self.now.incarnation) self.now.listing.now }
+        ensures { result ≡ list_all (λ s. is (compared_of s (book_of books.now.words.now).met) self.now.incarnation.0) self.now.listing.now }
     {
         self.listing
             .iter()
@@ -84,7 +85,7 @@ impl Pass<'_> {
 
     // Whether a standby is told Checked, all listed being met.
     pub fn is_told(&self, books: &BooksView<'_>) -> bool
-        ensures { result ≡ told_checked (book_of books.now.words.now) self.now.listing.now self.now.incarnation }
+        ensures { result ≡ told_checked (book_of books.now.words.now) self.now.listing.now self.now.incarnation.0 }
     {
         if books.is_acknowledged(self.incarnation) {
             return false;

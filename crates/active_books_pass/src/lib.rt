@@ -4,7 +4,7 @@
 
 ghost use Rattle.std.specs.Prelude.{◌≡◌};
 ghost use Rattle.model_active.specs.CatchUp as m;
-ghost use Rattle.active_books.specs.Calls.{answer_of, done_of, picked_of, Called};
+ghost use Rattle.active_books.specs.Calls.{books_answer, done_of, picked_of, BooksCalled};
 ghost use Rattle.active_books_pass.specs.Picking.{Picks};
 
 use active_books_area::{Books, BooksView, check_rules, word};
@@ -17,7 +17,7 @@ use frame_fields::Incarnation;
 
 // All of a listing fall behind (ask_lease).
 pub fn all_fall_behind(words: &mut [u64], listing: &[u64]) -> Result<(), Refusal>
-    ensures { Called words.old words.new (m.all_fall_behind listing.now) (answer_of done_of result) }
+    ensures { BooksCalled words.old words.new (m.all_fall_behind listing.now) (books_answer done_of result) }
 {
     check_rules(words)?;
     let books = BooksView { words };
@@ -40,10 +40,10 @@ pub fn behind_unless_compared_open(
     words: &mut [u64],
     incarnation: Incarnation,
 ) -> Result<(), Refusal>
-    ensures { Called words.old words.new (m.behind_unless_compared_open incarnation.0) (answer_of done_of result) }
+    ensures { BooksCalled words.old words.new (m.behind_unless_compared_open incarnation.0) (books_answer done_of result) }
 {
     check_rules(words)?;
-    let fallen = fallen_open(&BooksView { words }, incarnation.0);
+    let fallen = fallen_open(&BooksView { words }, incarnation);
     let m = words[word::BEHIND_COUNT] as usize;
     if Books::MAX_SESSIONS < m + fallen.len() {
         return Err(Refusal::TooManySessions);
@@ -56,7 +56,7 @@ pub fn behind_unless_compared_open(
 // Who is next, all listed being met: it is the one being caught up now.
 fn pick(books: &mut Books<'_>, pass: &Pass<'_>) -> Option<u64>
     ensures same_area { books.new.words.ghost_name ≡ books.old.words.ghost_name }
-    ensures picks { Picks books.old.words.now books.new.words.now pass.now.listing.now pass.now.incarnation (picked_of result) }
+    ensures picks { Picks books.old.words.now books.new.words.now pass.now.listing.now pass.now.incarnation.0 (picked_of result) }
 {
     let view = books.view();
     if let Some(session) = first_behind(&view) {
@@ -74,14 +74,14 @@ pub fn next_to_catch_up(
     listing: &[u64],
     incarnation: Incarnation,
 ) -> Result<Option<u64>, Refusal>
-    ensures { Called words.old words.new (m.next_to_catch_up listing.now incarnation.0) (answer_of picked_of result) }
+    ensures { BooksCalled words.old words.new (m.next_to_catch_up listing.now incarnation.0) (books_answer picked_of result) }
 {
     check_rules(words)?;
     let mut books = Books { words };
     meet_listed(&mut books, listing)?;
     let pass = Pass {
         listing,
-        incarnation: incarnation.0,
+        incarnation,
     };
     Ok(pick(&mut books, &pass))
 }
@@ -92,14 +92,14 @@ pub fn all_compared(
     listing: &[u64],
     incarnation: Incarnation,
 ) -> Result<bool, Refusal>
-    ensures { Called words.old words.new (m.all_compared listing.now incarnation.0) (answer_of m.says result) }
+    ensures { BooksCalled words.old words.new (m.all_compared listing.now incarnation.0) (books_answer m.says result) }
 {
     check_rules(words)?;
     let mut books = Books { words };
     meet_listed(&mut books, listing)?;
     let pass = Pass {
         listing,
-        incarnation: incarnation.0,
+        incarnation,
     };
     Ok(pass.is_told(&books.view()))
 }

@@ -11,7 +11,7 @@ use lib.Dec.{eqb}
 use borrow.Author.Tests.{eq-eqb, ne_eqb}
 use Rattle.model_active.specs.CatchUp.{without, behind_now}
 use Rattle.active_books_area.specs.Words.{list_from, word_at, book_of}
-use Rattle.active_books_area.specs.Parts.{Ruled, Makes}
+use Rattle.active_books_area.specs.Parts.{BooksRules, MakesBook}
 use Rattle.active_books_area.proofs.Laws.{from_alike, from_snoc}
 use Rattle.active_books_area.proofs.Area.{on_behind}
 
@@ -78,7 +78,7 @@ stays w₀ s m w j k x long few l less is_x ne =
       rest = drop-set-lt 1286 w (1030 + k) x (omega (arith, l.under)) ∙ l.rest;
     }
 
-pub left_now : (w₀ : List ℕ) (s : ℕ) (w : List ℕ) (j k : ℕ) → Ruled w₀ → Leaving w₀ s (get_or w₀ 1 0) w j k → get_or w₀ 1 0 ≤ j → Makes w₀ (set w 1 k) (behind_now (book_of w₀) (without s (book_of w₀).behind))
+pub left_now : (w₀ : List ℕ) (s : ℕ) (w : List ℕ) (j k : ℕ) → BooksRules w₀ → Leaving w₀ s (get_or w₀ 1 0) w j k → get_or w₀ 1 0 ≤ j → MakesBook w₀ (set w 1 k) (behind_now (book_of w₀) (without s (book_of w₀).behind))
 unfolding book_of
 left_now w₀ s w j k r l end =
     let w' = set w 1 k in

@@ -1,17 +1,18 @@
 // One session in the books: it is met, counted open or closed, compared, put behind, or taken from those behind.
 #![tactic(auto)]
 
-ghost use Rattle.std.specs.Prelude.{◌≡◌, false, [], ◌∷◌, ◌++◌, ◌<◌, get_or, None};
+ghost use Rattle.std.specs.Prelude.{◌≡◌, false, [], ◌∷◌, ◌++◌, ◌<◌, None};
 ghost use Rattle.model_active.specs.CatchUp.{member, joining, without, is, compared_of, on_entry, opened, shut, compared_with, met_now, behind_now};
-ghost use Rattle.active_books_area.specs.Words.{book_of};
-ghost use Rattle.active_books_area.specs.Parts.{At, FindsMet, Makes, Appends, Meets, MeetsIfRoom};
+ghost use Rattle.active_books_area.specs.Words.{book_of, met_count_of, behind_count_of};
+ghost use Rattle.active_books_area.specs.Parts.{At, FindsMet, MakesBook, Appends, Meets, MeetsIfRoom};
 
 use active_books_area::{Books, BooksView, word};
 use base_refusals::Refusal;
+use frame_fields::Incarnation;
 
 // One session more is met: closed, compared with none.
 pub fn append(books: &mut Books<'_>, session: u64)
-    requires { get_or books.old.words.now 0 0 < 256 }
+    requires { met_count_of books.old.words.now < 256 }
     ensures same_area { books.new.words.ghost_name ≡ books.old.words.ghost_name }
     ensures appends { Appends books.old.words.now books.new.words.now session }
 {
@@ -25,7 +26,7 @@ pub fn append(books: &mut Books<'_>, session: u64)
 // A session that was searched for, and found or not, is met: where it stands then.
 pub fn meet(books: &mut Books<'_>, session: u64, found: Option<usize>) -> usize
     requires searched { FindsMet books.old.words.now session found }
-    requires room { found ≡ None → get_or books.old.words.now 0 0 < 256 }
+    requires room { found ≡ None → met_count_of books.old.words.now < 256 }
     ensures same_area { books.new.words.ghost_name ≡ books.old.words.ghost_name }
     ensures meets { Meets books.old.words.now books.new.words.now session result }
 {
@@ -57,7 +58,7 @@ pub fn meet_if_room(books: &mut Books<'_>, session: u64) -> Result<usize, Refusa
 pub fn count_open(books: &mut Books<'_>, session: u64, i: usize)
     requires { At books.old.words.now session i }
     ensures same_area { books.new.words.ghost_name ≡ books.old.words.ghost_name }
-    ensures makes { Makes books.old.words.now books.new.words.now (met_now (book_of books.old.words.now) (on_entry session opened (book_of books.old.words.now).met)) }
+    ensures makes { MakesBook books.old.words.now books.new.words.now (met_now (book_of books.old.words.now) (on_entry session opened (book_of books.old.words.now).met)) }
 {
     let opens = books.words[word::OPENS + i].saturating_add(1);
     books.words[word::OPENS + i] = opens;
@@ -67,36 +68,36 @@ pub fn count_open(books: &mut Books<'_>, session: u64, i: usize)
 pub fn count_closed(books: &mut Books<'_>, session: u64, i: usize)
     requires { At books.old.words.now session i }
     ensures same_area { books.new.words.ghost_name ≡ books.old.words.ghost_name }
-    ensures makes { Makes books.old.words.now books.new.words.now (met_now (book_of books.old.words.now) (on_entry session shut (book_of books.old.words.now).met)) }
+    ensures makes { MakesBook books.old.words.now books.new.words.now (met_now (book_of books.old.words.now) (on_entry session shut (book_of books.old.words.now).met)) }
 {
     let opens = books.words[word::OPENS + i].saturating_sub(1);
     books.words[word::OPENS + i] = opens;
 }
 
 // The session at i was compared with an incarnation.
-pub fn compare(books: &mut Books<'_>, session: u64, i: usize, incarnation: u64)
+pub fn compare(books: &mut Books<'_>, session: u64, i: usize, incarnation: Incarnation)
     requires { At books.old.words.now session i }
     ensures same_area { books.new.words.ghost_name ≡ books.old.words.ghost_name }
-    ensures makes { Makes books.old.words.now books.new.words.now (met_now (book_of books.old.words.now) (on_entry session (compared_with incarnation) (book_of books.old.words.now).met)) }
+    ensures makes { MakesBook books.old.words.now books.new.words.now (met_now (book_of books.old.words.now) (on_entry session (compared_with incarnation.0) (book_of books.old.words.now).met)) }
 {
     books.words[word::COMPARED + i] = 1;
-    books.words[word::INCARNATIONS + i] = incarnation;
+    books.words[word::INCARNATIONS + i] = incarnation.0;
 }
 
 // Whether the session at i was last compared with an incarnation.
 #[tactic(auto, using(active_books_area::proofs::Area::compared_at))]
-pub fn is_compared(books: &BooksView<'_>, session: u64, i: usize, incarnation: u64) -> bool
+pub fn is_compared(books: &BooksView<'_>, session: u64, i: usize, incarnation: Incarnation) -> bool
     requires { At books.now.words.now session i }
-    ensures { result ≡ is (compared_of session (book_of books.now.words.now).met) incarnation }
+    ensures { result ≡ is (compared_of session (book_of books.now.words.now).met) incarnation.0 }
 {
     books.is_compared_at(i, incarnation)
 }
 
 // One session more is behind.
 pub fn push(books: &mut Books<'_>, session: u64)
-    requires { get_or books.old.words.now 1 0 < 256 }
+    requires { behind_count_of books.old.words.now < 256 }
     ensures same_area { books.new.words.ghost_name ≡ books.old.words.ghost_name }
-    ensures makes { Makes books.old.words.now books.new.words.now (behind_now (book_of books.old.words.now) ((book_of books.old.words.now).behind ++ (session ∷ []))) }
+    ensures makes { MakesBook books.old.words.now books.new.words.now (behind_now (book_of books.old.words.now) ((book_of books.old.words.now).behind ++ (session ∷ []))) }
 {
     let m = books.words[word::BEHIND_COUNT] as usize;
     books.words[word::BEHIND + m] = session;
@@ -106,9 +107,9 @@ pub fn push(books: &mut Books<'_>, session: u64)
 // A session joins those behind, unless it is one of them.
 pub fn join(books: &mut Books<'_>, session: u64, is_behind: bool)
     requires member { is_behind ≡ member session (book_of books.old.words.now).behind }
-    requires room { is_behind ≡ false → get_or books.old.words.now 1 0 < 256 }
+    requires room { is_behind ≡ false → behind_count_of books.old.words.now < 256 }
     ensures same_area { books.new.words.ghost_name ≡ books.old.words.ghost_name }
-    ensures makes { Makes books.old.words.now books.new.words.now (behind_now (book_of books.old.words.now) (joining session (book_of books.old.words.now).behind)) }
+    ensures makes { MakesBook books.old.words.now books.new.words.now (behind_now (book_of books.old.words.now) (joining session (book_of books.old.words.now).behind)) }
 {
     if !is_behind {
         push(books, session);
@@ -118,7 +119,7 @@ pub fn join(books: &mut Books<'_>, session: u64, is_behind: bool)
 // A session goes from those behind, and those after it move up. They move in place, which an iterator over the run that is written can't do.
 pub fn leave(books: &mut Books<'_>, session: u64)
     ensures same_area { books.new.words.ghost_name ≡ books.old.words.ghost_name }
-    ensures makes { Makes books.old.words.now books.new.words.now (behind_now (book_of books.old.words.now) (without session (book_of books.old.words.now).behind)) }
+    ensures makes { MakesBook books.old.words.now books.new.words.now (behind_now (book_of books.old.words.now) (without session (book_of books.old.words.now).behind)) }
 {
     let m = books.words[word::BEHIND_COUNT] as usize;
     let mut k: usize = 0;

@@ -11,6 +11,7 @@ ghost use Rattle.model_session.specs.Whole.{incoming_part};
 ghost use Rattle.base_bytes.specs.Put.{Put};
 ghost use Rattle.store_place.specs.Place.{flight_is};
 ghost use Rattle.active_header.specs.Ends.{Heads, Spans, opening_of, closing_of, closing_with, ending_of, ending_with};
+ghost use Rattle.store_place.specs.PlaceByte;
 
 use active_messages::{Extent, put};
 use base_bytes::Writer;
@@ -20,7 +21,7 @@ use header::Header;
 // By slices: it asks for the words and bytes of a place without its messages, and a Place would ask more.
 pub fn header_of<'a>(words: &[u64], bytes: &'a [u8]) -> Header<'a>
     requires in_bounds { 16 ≤ length words.now }
-    requires in_bounds_2 { 224 ≤ length bytes.now }
+    requires in_bounds_2 { PlaceByte.ring ≤ length bytes.now }
     ensures { Heads words.now bytes.now result }
 {
     Header {

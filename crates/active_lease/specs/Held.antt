@@ -14,13 +14,13 @@ use Rattle.active_lease.specs.declared.RenewalOutcome.{RenewalOutcome}
 abbrev pub lease_of : Held → Lease
 lease_of h = record { duration = h.duration; until = h.until; last = h.last; lost = is_set h.lost }
 
-abbrev pub outcome_of : RenewalOutcome → Outcome
-outcome_of RenewalOutcome.Renewed = renewed
-outcome_of RenewalOutcome.Failed = failed
-outcome_of RenewalOutcome.Deposed = deposed
+abbrev pub renewal_of : RenewalOutcome → Outcome
+renewal_of RenewalOutcome.Renewed = renewed
+renewal_of RenewalOutcome.Failed = failed
+renewal_of RenewalOutcome.Deposed = deposed
 
 abbrev pub attempt_of : ℕ → ℕ → RenewalOutcome → Attempt
-attempt_of started now outcome = record { start = started; now = now; outcome = outcome_of outcome }
+attempt_of started now outcome = record { start = started; now = now; outcome = renewal_of outcome }
 
 -- the answers of the definition; a refused call leaves the lease as it was
 abbrev pub asked_of : Held → Result Asked Refusal → model.Asked

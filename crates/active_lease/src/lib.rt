@@ -4,7 +4,7 @@
 ghost use Rattle.std.specs.Prelude.{◌≡◌, cond, IfOk};
 ghost use Rattle.model_lease.specs.Lease.{made, renewal, attempt, is_due, end_after, loses};
 ghost use Rattle.base_flags.specs.Flag.{is_set, byte};
-ghost use Rattle.active_lease.specs.Held.{lease_of, outcome_of, attempt_of, asked_of, tried_of};
+ghost use Rattle.active_lease.specs.Held.{lease_of, renewal_of, attempt_of, asked_of, tried_of};
 
 use base_refusals::Refusal;
 
@@ -76,7 +76,7 @@ impl Held {
 
     // The end after an attempt.
     fn until_after(self, started: u64, outcome: RenewalOutcome) -> u64
-        ensures { result ≡ end_after (lease_of self) started (outcome_of outcome) }
+        ensures { result ≡ end_after (lease_of self) started (renewal_of outcome) }
     {
         match outcome {
             RenewalOutcome::Renewed => started.saturating_add(self.duration),
@@ -86,7 +86,7 @@ impl Held {
 
     // Whether an attempt loses the lease.
     fn loses(self, now: u64, outcome: RenewalOutcome) -> bool
-        ensures { result ≡ loses self.until now (outcome_of outcome) }
+        ensures { result ≡ loses self.until now (renewal_of outcome) }
     {
         match outcome {
             RenewalOutcome::Renewed => false,

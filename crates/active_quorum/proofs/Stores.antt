@@ -12,7 +12,7 @@ use lib.Dec.{eqb, leb, ltb}
 use borrow.Author.Tests.{eqb-true, eqb-false, eq-eqb, ne_eqb, leb-true, leb-false, ltb-true, lt-ltb}
 use Rattle.model_quorum.specs.Counts as m
 use Rattle.model_quorum.specs.Counts.{put, no_acks}
-use Rattle.active_quorum.specs.Area.{start, handle_at, before_at, newest_of, walk, place_of, count_at, count_of, PutsCount, AddsHandle}
+use Rattle.active_quorum.specs.Area.{start, handle_word, before_at, newest_of, walk_chain, count_place, count_at, count_in, PutsCount, AddsHandle}
 use Rattle.active_quorum.proofs.Words.{sets_before, sets_after, sets_in, sets_drop, five_so}
 use Rattle.active_quorum.proofs.Chains.{walk_out, look, Found, found, walk_same}
 
@@ -28,13 +28,13 @@ same_count v w j f = λ t. record {
 abbrev kept_at : List ℕ → ℕ → Option m.Count
 kept_at w i = cond (ltb i 256) (some (count_at w i)) none
 
-pub place_found : (w : List ℕ) (h : ℕ) → place_of w h < 256 → Found w h (get_or w 3 0) (place_of w h)
-unfolding place_of
+pub place_found : (w : List ℕ) (h : ℕ) → count_place w h < 256 → Found w h (get_or w 3 0) (count_place w h)
+unfolding count_place
 place_found w h less = found w h (get_or w 3 0) (newest_of w h) less
 
 -- ---- a count is stored at its handle's place
 
-module _ (w : List ℕ) (h i : ℕ) (d : m.Count) (v : List ℕ) (at : i ≡ place_of w h) (less : i < 256) (long : 2564 ≤ length w) (p : PutsCount w i d.last d.figure d.acks v) where
+module _ (w : List ℕ) (h i : ℕ) (d : m.Count) (v : List ℕ) (at : i ≡ count_place w h) (less : i < 256) (long : 2564 ≤ length w) (p : PutsCount w i d.last d.figure d.acks v) where
   abbrev vs : List ℕ
   vs = d.last ∷ d.figure ∷ d.acks
 
@@ -53,10 +53,10 @@ module _ (w : List ℕ) (h i : ℕ) (d : m.Count) (v : List ℕ) (at : i ≡ pla
   pub kept_past : drop 2564 v ≡ drop 2564 w
   kept_past = ap (drop 2564) p.words ∙ sets_drop vs w (start i + 2) 2564 (omega (arith, seven))
 
-  links : (j : ℕ) → (handle_at v j ≡ handle_at w j) × (before_at v j ≡ before_at w j)
+  links : (j : ℕ) → (handle_word v j ≡ handle_word w j) × (before_at v j ≡ before_at w j)
   links j = go (leb j i) refl
     where
-      go : (b : Bool) → leb j i ≡ b → (handle_at v j ≡ handle_at w j) × (before_at v j ≡ before_at w j)
+      go : (b : Bool) → leb j i ≡ b → (handle_word v j ≡ handle_word w j) × (before_at v j ≡ before_at w j)
       go true e =
           let low : j ≤ i = leb-true j i e in
           (kept_before (start j) (omega arith), kept_before (start j + 1) (omega arith))
@@ -64,12 +64,12 @@ module _ (w : List ℕ) (h i : ℕ) (d : m.Count) (v : List ℕ) (at : i ≡ pla
           let high : i < j = leb-false j i e in
           (kept_after (start j) (omega arith), kept_after (start j + 1) (omega arith))
 
-  same_place : (g : ℕ) → place_of v g ≡ place_of w g
-  unfolding place_of
+  same_place : (g : ℕ) → count_place v g ≡ count_place w g
+  unfolding count_place
   same_place g =
       walk_same v w g (get_or v 3 0) (newest_of v g) (λ j _. links j)
-      ∙ ap (λ (b : ℕ). walk w g b (newest_of v g)) (kept_before 3 (omega arith))
-      ∙ ap (walk w g (get_or w 3 0)) (kept_before (4 + g % 256) (omega arith))
+      ∙ ap (λ (b : ℕ). walk_chain w g b (newest_of v g)) (kept_before 3 (omega arith))
+      ∙ ap (walk_chain w g (get_or w 3 0)) (kept_before (4 + g % 256) (omega arith))
 
   others_count : (j : ℕ) → (j ≡ i → ⊥) → count_at v j ≡ count_at w j
   others_count j other = go (leb j i) refl
@@ -96,26 +96,26 @@ module _ (w : List ℕ) (h i : ℕ) (d : m.Count) (v : List ℕ) (at : i ≡ pla
             acks = s 2 (start i + 4) (omega arith) (omega arith) t ∷ s 3 (start i + 5) (omega arith) (omega arith) t ∷ s 4 (start i + 6) (omega arith) (omega arith) t ∷ s 5 (start i + 7) (omega arith) (omega arith) t ∷ s 6 (start i + 8) (omega arith) (omega arith) t ∷ [];
           }) ∙ ap (λ (x : List ℕ). record { last = a; figure = f; acks = x }) (sym five)
 
-  pub stored : (g : ℕ) → count_of v g ≡ put h d (count_of w) g
+  pub stored : (g : ℕ) → count_in v g ≡ put h d (count_in w) g
   stored g = go (eqb g h) refl
     where
-      other : (b : Bool) → ltb (place_of w g) 256 ≡ b → eqb g h ≡ false → cond b (some (count_at v (place_of w g))) none ≡ cond b (some (count_at w (place_of w g))) none
+      other : (b : Bool) → ltb (count_place w g) 256 ≡ b → eqb g h ≡ false → cond b (some (count_at v (count_place w g))) none ≡ cond b (some (count_at w (count_place w g))) none
       other true t e =
-          let mine : handle_at w (place_of w g) ≡ g = (place_found w g (ltb-true (place_of w g) 256 t)).own in
-          let its : handle_at w (place_of w h) ≡ h = (place_found w h (omega arith)).own in
-          ap some (others_count (place_of w g) (λ same. eqb-false g h e (sym mine ∙ ap (handle_at w) (same ∙ at) ∙ its)))
+          let mine : handle_word w (count_place w g) ≡ g = (place_found w g (ltb-true (count_place w g) 256 t)).own in
+          let its : handle_word w (count_place w h) ≡ h = (place_found w h (omega arith)).own in
+          ap some (others_count (count_place w g) (λ same. eqb-false g h e (sym mine ∙ ap (handle_word w) (same ∙ at) ∙ its)))
       other false t e = refl
 
-      go : (b : Bool) → eqb g h ≡ b → count_of v g ≡ cond b (some d) (count_of w g)
+      go : (b : Bool) → eqb g h ≡ b → count_in v g ≡ cond b (some d) (count_in w g)
       go true e =
-          let here : place_of v g ≡ i = same_place g ∙ ap (place_of w) (eqb-true g h e) ∙ sym at in
+          let here : count_place v g ≡ i = same_place g ∙ ap (count_place w) (eqb-true g h e) ∙ sym at in
           let t : ltb i 256 ≡ true = lt-ltb i 256 less in
           ap (kept_at v) here ∙ ap (λ (b : Bool). cond b (some (count_at v i)) none) t ∙ ap some own_count
-      go false e = ap (kept_at v) (same_place g) ∙ other (ltb (place_of w g) 256) refl e
+      go false e = ap (kept_at v) (same_place g) ∙ other (ltb (count_place w g) 256) refl e
 
 -- ---- a new handle is added at place n
 
-module _ (w : List ℕ) (h n : ℕ) (v : List ℕ) (end : n ≡ get_or w 3 0) (room : n < 256) (unbound : 256 ≤ place_of w h) (long : 2564 ≤ length w) (p : AddsHandle w n h v) where
+module _ (w : List ℕ) (h n : ℕ) (v : List ℕ) (end : n ≡ get_or w 3 0) (room : n < 256) (unbound : 256 ≤ count_place w h) (long : 2564 ≤ length w) (p : AddsHandle w n h v) where
   abbrev ns : List ℕ
   ns = h ∷ newest_of w h ∷ 0 ∷ 0 ∷ no_acks
 
@@ -164,10 +164,10 @@ module _ (w : List ℕ) (h n : ℕ) (v : List ℕ) (end : n ≡ get_or w 3 0) (r
   own_words : (k j : ℕ) → start n + k ≡ j → k < 9 → get_or v j 0 ≡ get_or ns k 0
   own_words k j e low = there j (omega arith) ∙ ap (λ (x : ℕ). get_or s1 x 0) (sym e) ∙ sets_in ns w (start n) k low (omega arith)
 
-  links_below : (j : ℕ) → j < n → (handle_at v j ≡ handle_at w j) × (before_at v j ≡ before_at w j)
+  links_below : (j : ℕ) → j < n → (handle_word v j ≡ handle_word w j) × (before_at v j ≡ before_at w j)
   links_below j low = (below_kept (start j) (omega arith) (omega arith), below_kept (start j + 1) (omega arith) (omega arith))
 
-  own_handle : handle_at v n ≡ h
+  own_handle : handle_word v n ≡ h
   own_handle = own_words 0 (start n) (omega arith) (omega arith)
 
   own_before : before_at v n ≡ newest_of w h
@@ -181,58 +181,58 @@ module _ (w : List ℕ) (h n : ℕ) (v : List ℕ) (end : n ≡ get_or w 3 0) (r
   }
 
   -- the walk of handle g from place q on, one place more
-  longer : (g q : ℕ) → walk v g (get_or v 3 0) q ≡ cond (eqb q n) (look v g n) (walk w g n q)
+  longer : (g q : ℕ) → walk_chain v g (get_or v 3 0) q ≡ cond (eqb q n) (look v g n) (walk_chain w g n q)
   longer g q =
-      ap (λ (b : ℕ). walk v g b q) (added_one ∙ add-one n)
+      ap (λ (b : ℕ). walk_chain v g b q) (added_one ∙ add-one n)
       ∙ ap (λ (x : ℕ). cond (eqb q n) (look v g n) x) (walk_same v w g n q links_below)
 
-  found_new : place_of v h ≡ n
-  unfolding place_of
+  found_new : count_place v h ≡ n
+  unfolding count_place
   found_new =
       let a : eqb (newest_of v h) n ≡ true = eq-eqb (newest_of v h) n own_chain in
-      let b : eqb (handle_at v n) h ≡ true = eq-eqb (handle_at v n) h own_handle in
+      let b : eqb (handle_word v n) h ≡ true = eq-eqb (handle_word v n) h own_handle in
       longer h (newest_of v h) ∙ rw (a, b) refl
 
   -- another handle is found where it was: of its own chain, or of another
-  found_other : (g : ℕ) → (g ≡ h → ⊥) → place_of v g ≡ place_of w g
-  unfolding place_of
-  found_other g other = longer g (newest_of v g) ∙ go (eqb (g % 256) (h % 256)) refl ∙ ap (λ (b : ℕ). walk w g b (newest_of w g)) end
+  found_other : (g : ℕ) → (g ≡ h → ⊥) → count_place v g ≡ count_place w g
+  unfolding count_place
+  found_other g other = longer g (newest_of v g) ∙ go (eqb (g % 256) (h % 256)) refl ∙ ap (λ (b : ℕ). walk_chain w g b (newest_of w g)) end
     where
-      miss : eqb (handle_at v n) g ≡ false
+      miss : eqb (handle_word v n) g ≡ false
       miss = ap (λ (x : ℕ). eqb x g) own_handle ∙ ne_eqb h g (λ e. other (sym e))
 
-      past : (b : Bool) → eqb (newest_of w g) n ≡ b → cond b (cond (eqb (handle_at v n % 256) (g % 256)) (walk v g n (before_at v n)) 256) (walk w g n (newest_of w g)) ≡ walk w g n (newest_of w g) → cond b (look v g n) (walk w g n (newest_of w g)) ≡ walk w g n (newest_of w g)
+      past : (b : Bool) → eqb (newest_of w g) n ≡ b → cond b (cond (eqb (handle_word v n % 256) (g % 256)) (walk_chain v g n (before_at v n)) 256) (walk_chain w g n (newest_of w g)) ≡ walk_chain w g n (newest_of w g) → cond b (look v g n) (walk_chain w g n (newest_of w g)) ≡ walk_chain w g n (newest_of w g)
       past true e f = rw miss f
       past false e f = refl
 
-      go : (b : Bool) → eqb (g % 256) (h % 256) ≡ b → cond (eqb (newest_of v g) n) (look v g n) (walk w g n (newest_of v g)) ≡ walk w g n (newest_of w g)
+      go : (b : Bool) → eqb (g % 256) (h % 256) ≡ b → cond (eqb (newest_of v g) n) (look v g n) (walk_chain w g n (newest_of v g)) ≡ walk_chain w g n (newest_of w g)
       go true e =
           let same : g % 256 ≡ h % 256 = eqb-true (g % 256) (h % 256) e in
           let mine : newest_of v g ≡ n = ap (λ (x : ℕ). get_or v (4 + x) 0) same ∙ own_chain in
           let a : eqb (newest_of v g) n ≡ true = eq-eqb (newest_of v g) n mine in
-          let c : eqb (handle_at v n % 256) (g % 256) ≡ true = eq-eqb (handle_at v n % 256) (g % 256) (ap (λ (x : ℕ). x % 256) own_handle ∙ sym same) in
-          rw (a, miss, c) (walk_same v w g n (before_at v n) links_below ∙ ap (walk w g n) (own_before ∙ ap (λ (x : ℕ). get_or w (4 + x) 0) (sym same)))
+          let c : eqb (handle_word v n % 256) (g % 256) ≡ true = eq-eqb (handle_word v n % 256) (g % 256) (ap (λ (x : ℕ). x % 256) own_handle ∙ sym same) in
+          rw (a, miss, c) (walk_same v w g n (before_at v n) links_below ∙ ap (walk_chain w g n) (own_before ∙ ap (λ (x : ℕ). get_or w (4 + x) 0) (sym same)))
       go false e =
           let apart : g % 256 ≡ h % 256 → ⊥ = eqb-false (g % 256) (h % 256) e in
-          let c : eqb (handle_at v n % 256) (g % 256) ≡ false = ne_eqb (handle_at v n % 256) (g % 256) (λ s. apart (sym s ∙ ap (λ (x : ℕ). x % 256) own_handle)) in
-          ap (λ (q : ℕ). cond (eqb q n) (look v g n) (walk w g n q)) (other_chain g apart) ∙ ends (eqb (newest_of w g) n) refl c
+          let c : eqb (handle_word v n % 256) (g % 256) ≡ false = ne_eqb (handle_word v n % 256) (g % 256) (λ s. apart (sym s ∙ ap (λ (x : ℕ). x % 256) own_handle)) in
+          ap (λ (q : ℕ). cond (eqb q n) (look v g n) (walk_chain w g n q)) (other_chain g apart) ∙ ends (eqb (newest_of w g) n) refl c
         where
-          ends : (b : Bool) → eqb (newest_of w g) n ≡ b → eqb (handle_at v n % 256) (g % 256) ≡ false → cond b (look v g n) (walk w g n (newest_of w g)) ≡ walk w g n (newest_of w g)
+          ends : (b : Bool) → eqb (newest_of w g) n ≡ b → eqb (handle_word v n % 256) (g % 256) ≡ false → cond b (look v g n) (walk_chain w g n (newest_of w g)) ≡ walk_chain w g n (newest_of w g)
           ends true s c = rw (miss, c) (sym (walk_out w g n (newest_of w g) (omega (arith, eqb-true (newest_of w g) n s))))
           ends false s c = refl
 
-  pub added : (g : ℕ) → count_of v g ≡ put h (record { last = 0; figure = 0; acks = no_acks }) (count_of w) g
+  pub added : (g : ℕ) → count_in v g ≡ put h (record { last = 0; figure = 0; acks = no_acks }) (count_in w) g
   added g = go (eqb g h) refl
     where
-      other : (b : Bool) → ltb (place_of w g) 256 ≡ b → cond b (some (count_at v (place_of w g))) none ≡ cond b (some (count_at w (place_of w g))) none
+      other : (b : Bool) → ltb (count_place w g) 256 ≡ b → cond b (some (count_at v (count_place w g))) none ≡ cond b (some (count_at w (count_place w g))) none
       other true t =
-          let low : place_of w g < get_or w 3 0 = (place_found w g (ltb-true (place_of w g) 256 t)).below in
-          ap some (same_count v w (place_of w g) (λ k from upto. below_kept k (omega arith) (omega arith)))
+          let low : count_place w g < get_or w 3 0 = (place_found w g (ltb-true (count_place w g) 256 t)).below in
+          ap some (same_count v w (count_place w g) (λ k from upto. below_kept k (omega arith) (omega arith)))
       other false t = refl
 
-      go : (b : Bool) → eqb g h ≡ b → count_of v g ≡ cond b (some (record { last = 0; figure = 0; acks = no_acks })) (count_of w g)
+      go : (b : Bool) → eqb g h ≡ b → count_in v g ≡ cond b (some (record { last = 0; figure = 0; acks = no_acks })) (count_in w g)
       go true e =
-          let here : place_of v g ≡ n = ap (place_of v) (eqb-true g h e) ∙ found_new in
+          let here : count_place v g ≡ n = ap (count_place v) (eqb-true g h e) ∙ found_new in
           let t : ltb n 256 ≡ true = lt-ltb n 256 room in
           ap (kept_at v) here ∙ ap (λ (b : Bool). cond b (some (count_at v n)) none) t ∙ ap some new_count
-      go false e = ap (kept_at v) (found_other g (eqb-false g h e)) ∙ other (ltb (place_of w g) 256) refl
+      go false e = ap (kept_at v) (found_other g (eqb-false g h e)) ∙ other (ltb (count_place w g) 256) refl

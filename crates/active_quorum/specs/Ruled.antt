@@ -1,7 +1,7 @@
 -- The rules of a lent area, one by one. Assumes nothing.
 use Rattle.std.specs.Prelude.{List, ℕ, ◌≤◌, length, get_or}
 
-pub record Ruled (w : List ℕ) : Type 0 where
+pub record QuorumRules (w : List ℕ) : Type 0 where
   pub long : 2564 ≤ length w
   pub members : 1 ≤ get_or w 0 0
   pub few : get_or w 0 0 ≤ 5

@@ -6,12 +6,9 @@ use mathlib.Core.List.{List, [], ◌∷◌}
 use native.Mathlib.Nat.{zero-add, suc-add}
 use lib.ListN.{take, drop}
 use lib.Seq.{take-nil}
+pub use Rattle.std.proofs.lemmas.Bool.{and_parts as both}
 
 pub drop_take : (m n : ℕ) (l : List ℕ) → drop m (take (m + n) l) ≡ take n (drop m l)
 drop_take zero n l = rw zero-add
 drop_take (suc m) n [] = rw (suc-add, take-nil n)
 drop_take (suc m) n (x ∷ xs) = rw suc-add (drop_take m n xs)
-
-pub both : (x y : Bool) → (x && y) ≡ true → (x ≡ true) × (y ≡ true)
-both true y e = (refl, e)
-both false y e = absurd (true≢false (sym e))

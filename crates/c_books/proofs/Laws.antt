@@ -3,12 +3,12 @@ use mathlib.Core.Path.{subst}
 use mathlib.Core.List.{List}
 use Prim.Native.Nat.{ℕ}
 use Rattle.model_active.specs.CatchUp.{Call, Answer}
-use Rattle.active_books.specs.Calls.{Called, MakesNew, SaysBehind}
+use Rattle.active_books.specs.Calls.{BooksCalled, MakesNew, SaysBehind}
 use Rattle.c_books.specs.declared.Answered.{Answered}
-use Rattle.c_books.specs.Numbers.{InNumbers, Calls, MakesBooks, TellsBehind}
+use Rattle.c_books.specs.Numbers.{InNumbers, CallsInNumbers, MakesBooks, TellsBehind}
 
-pub calls : (w w' : List ℕ) (c : Call) (a : Answer) (r : Answered) → Called w w' c a → InNumbers a r → Calls w w' c r
-calls w w' c a r k n = record { numbers = subst (λ (x : Answer). InNumbers x r) k.answer n; called = subst (Called w w' c) k.answer k }
+pub calls : (w w' : List ℕ) (c : Call) (a : Answer) (r : Answered) → BooksCalled w w' c a → InNumbers a r → CallsInNumbers w w' c r
+calls w w' c a r k n = record { numbers = subst (λ (x : Answer). InNumbers x r) k.answer n; called = subst (BooksCalled w w' c) k.answer k }
 
 pub makes : (w w' : List ℕ) (a : Answer) (r : Answered) → MakesNew w w' a → InNumbers a r → MakesBooks w w' r
 makes w w' a r k n = record { numbers = subst (λ (x : Answer). InNumbers x r) k.answer n; made = subst (MakesNew w w') k.answer k }

@@ -2,8 +2,8 @@
 #![tactic(auto)]
 
 ghost use Rattle.model_active.specs.CatchUp as m;
-ghost use Rattle.active_books.specs.Calls.{answer_of, done_of, opened_of, picked_of};
-ghost use Rattle.c_books.specs.Numbers.{InNumbers, Calls, MakesBooks, TellsBehind};
+ghost use Rattle.active_books.specs.Calls.{books_answer, done_of, opened_of, picked_of};
+ghost use Rattle.c_books.specs.Numbers.{InNumbers, CallsInNumbers, MakesBooks, TellsBehind};
 
 use active_books::Opened;
 use base_refusals::Refusal;
@@ -78,7 +78,7 @@ impl Numbered for bool {
 }
 
 fn in_numbers<A: Numbered>(answer: Result<A, Refusal>) -> Answered
-    ensures { InNumbers (answer_of A.said answer) result }
+    ensures { InNumbers (books_answer A.said answer) result }
 {
     match answer {
         Ok(value) => value.numbered(),
@@ -99,14 +99,14 @@ pub extern "C" fn wz_books_make(words: &mut [u64]) -> Answered
 
 #[unsafe(no_mangle)]
 pub extern "C" fn wz_books_fall_behind(words: &mut [u64], session: u64) -> Answered
-    ensures { Calls words.old words.new (m.fall_behind session) result }
+    ensures { CallsInNumbers words.old words.new (m.fall_behind session) result }
 {
     in_numbers(active_books::fall_behind(words, session))
 }
 
 #[unsafe(no_mangle)]
 pub extern "C" fn wz_books_all_fall_behind(words: &mut [u64], listing: &[u64]) -> Answered
-    ensures { Calls words.old words.new (m.all_fall_behind listing.now) result }
+    ensures { CallsInNumbers words.old words.new (m.all_fall_behind listing.now) result }
 {
     in_numbers(active_books_pass::all_fall_behind(words, listing))
 }
@@ -117,7 +117,7 @@ pub extern "C" fn wz_books_caught_up(
     session: u64,
     incarnation: Incarnation,
 ) -> Answered
-    ensures { Calls words.old words.new (m.caught_up session incarnation.0) result }
+    ensures { CallsInNumbers words.old words.new (m.caught_up session incarnation.0) result }
 {
     in_numbers(active_books::caught_up(words, session, incarnation))
 }
@@ -127,7 +127,7 @@ pub extern "C" fn wz_books_behind_unless_compared_open(
     words: &mut [u64],
     incarnation: Incarnation,
 ) -> Answered
-    ensures { Calls words.old words.new (m.behind_unless_compared_open incarnation.0) result }
+    ensures { CallsInNumbers words.old words.new (m.behind_unless_compared_open incarnation.0) result }
 {
     in_numbers(active_books_pass::behind_unless_compared_open(words, incarnation))
 }
@@ -138,21 +138,21 @@ pub extern "C" fn wz_books_next_to_catch_up(
     listing: &[u64],
     incarnation: Incarnation,
 ) -> Answered
-    ensures { Calls words.old words.new (m.next_to_catch_up listing.now incarnation.0) result }
+    ensures { CallsInNumbers words.old words.new (m.next_to_catch_up listing.now incarnation.0) result }
 {
     in_numbers(active_books_pass::next_to_catch_up(words, listing, incarnation))
 }
 
 #[unsafe(no_mangle)]
 pub extern "C" fn wz_books_opening(words: &mut [u64], session: u64) -> Answered
-    ensures { Calls words.old words.new (m.opening session) result }
+    ensures { CallsInNumbers words.old words.new (m.opening session) result }
 {
     in_numbers(active_books::opening(words, session))
 }
 
 #[unsafe(no_mangle)]
 pub extern "C" fn wz_books_closed(words: &mut [u64], session: u64) -> Answered
-    ensures { Calls words.old words.new (m.closed session) result }
+    ensures { CallsInNumbers words.old words.new (m.closed session) result }
 {
     in_numbers(active_books::closed(words, session))
 }
@@ -163,7 +163,7 @@ pub extern "C" fn wz_books_ended(
     session: u64,
     incarnation: Incarnation,
 ) -> Answered
-    ensures { Calls words.old words.new (m.ended session incarnation.0) result }
+    ensures { CallsInNumbers words.old words.new (m.ended session incarnation.0) result }
 {
     in_numbers(active_books::ended(words, session, incarnation))
 }
@@ -174,14 +174,14 @@ pub extern "C" fn wz_books_all_compared(
     listing: &[u64],
     incarnation: Incarnation,
 ) -> Answered
-    ensures { Calls words.old words.new (m.all_compared listing.now incarnation.0) result }
+    ensures { CallsInNumbers words.old words.new (m.all_compared listing.now incarnation.0) result }
 {
     in_numbers(active_books_pass::all_compared(words, listing, incarnation))
 }
 
 #[unsafe(no_mangle)]
 pub extern "C" fn wz_books_acknowledged(words: &mut [u64], incarnation: Incarnation) -> Answered
-    ensures { Calls words.old words.new (m.acknowledge incarnation.0) result }
+    ensures { CallsInNumbers words.old words.new (m.acknowledge incarnation.0) result }
 {
     in_numbers(active_books::acknowledged(words, incarnation))
 }

@@ -11,7 +11,7 @@ use Rattle.standby_choice.specs.declared.lent.LentCopy.{LentCopy}
 use Rattle.base_refusals.specs.declared.Refusal.{Refusal}
 use Rattle.std.specs.Prelude.{None, Some, ok_or, Result, Err}
 use Rattle.standby_choice.specs.Choice.{copy_of, is_sound, copies_of, are_sound, choice_of}
-use Rattle.c_choice.specs.Choosing.{LentIs, copies_in, are_sound_in, code_of, returned}
+use Rattle.c_choice.specs.Choosing.{LentIs, copies_in, are_sound_in, choice_code, returned}
 use Rattle.c_code.specs.Codes as codes
 
 -- ---- what is returned
@@ -24,9 +24,9 @@ module _ (ws w0 b0 w1 b1 w2 b2 w3 b3 w4 b4 : List ℕ) where
   taker = chosen (copies_in ws w0 b0 w1 b1 w2 b2 w3 b3 w4 b4)
 
   pub too_short : (n : ℕ) → length ws < 30 → n ≡ codes.code_of (Err Refusal.RulesBroken) → n ≡ returned ws w0 b0 w1 b1 w2 b2 w3 b3 w4 b4
-  too_short n h e = e ∙ sym (ap (λ (t : Bool). cond (t && sound) (cond (eqb taker 5) (code_of 39 0) (code_of 0 taker)) (code_of 25 0)) (lt-leb 30 (length ws) h))
+  too_short n h e = e ∙ sym (ap (λ (t : Bool). cond (t && sound) (cond (eqb taker 5) (choice_code 39 0) (choice_code 0 taker)) (choice_code 25 0)) (lt-leb 30 (length ws) h))
 
-  answer : (s t : Bool) (n : ℕ) → codes.code_of (cond s (ok_or (cond t None (Some n)) Refusal.NoneFits) (Err Refusal.RulesBroken)) ≡ cond s (cond t (code_of 39 0) (code_of 0 n)) (code_of 25 0)
+  answer : (s t : Bool) (n : ℕ) → codes.code_of (cond s (ok_or (cond t None (Some n)) Refusal.NoneFits) (Err Refusal.RulesBroken)) ≡ cond s (cond t (choice_code 39 0) (choice_code 0 n)) (choice_code 25 0)
   answer true true n = refl
   answer true false n = refl
   answer false t n = refl
@@ -49,4 +49,4 @@ module _ (ws w0 b0 w1 b1 w2 b2 w3 b3 w4 b4 : List ℕ) where
     answered r n h c q =
         q ∙ ap codes.code_of c ∙ (λ j. codes.code_of (cond (all_sound j) (ok_or (cond (eqb (chosen (copies j)) 5) None (Some (chosen (copies j)))) Refusal.NoneFits) (Err Refusal.RulesBroken)))
         ∙ answer sound (eqb taker 5) taker
-        ∙ sym (ap (λ (t : Bool). cond (t && sound) (cond (eqb taker 5) (code_of 39 0) (code_of 0 taker)) (code_of 25 0)) (le-leb 30 (length ws) h))
+        ∙ sym (ap (λ (t : Bool). cond (t && sound) (cond (eqb taker 5) (choice_code 39 0) (choice_code 0 taker)) (choice_code 25 0)) (le-leb 30 (length ws) h))

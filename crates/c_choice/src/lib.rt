@@ -2,12 +2,12 @@
 #![tactic(auto)]
 
 ghost use Rattle.std.specs.Prelude.{◌≡◌, ℕ, min, ◌+◌, ◌*◌, ◌≤◌, ◌<◌, length};
-ghost use Rattle.c_choice.specs.Choosing.{flag_of, described_at, LentIs, returned};
+ghost use Rattle.c_choice.specs.Choosing.{listed_flag, described_at, LentIs, returned};
 
 use base_refusals::Refusal;
 use c_code::code;
 use frame_fields::Epoch;
-use standby_choice::{Copy, LentCopy};
+use standby_choice::{CopyState, LentCopy};
 use store_areas::Shape;
 
 // The words of a copy: whether it is listed, whether it is checked, its epoch, and its store's S, C and M.
@@ -18,7 +18,7 @@ const COPIES: usize = 5;
 
 // A flag is set if it is not 0.
 fn flag(w: u64) -> u8
-    ensures { result ≡ flag_of w }
+    ensures { result ≡ listed_flag w }
 {
     u8::from(w != 0)
 }
@@ -31,11 +31,11 @@ fn at_most_u32(w: u64) -> u32
 }
 
 // The copy whose words begin at `at`.
-fn copy_at(copies: &[u64], at: usize) -> Copy
+fn copy_at(copies: &[u64], at: usize) -> CopyState
     requires { at + 6 ≤ length copies.now }
     ensures { result ≡ described_at copies.now at }
 {
-    Copy {
+    CopyState {
         listed: flag(copies[at]),
         checked: flag(copies[at + 1]),
         epoch: Epoch(copies[at + 2]),

@@ -17,7 +17,7 @@ use Rattle.active_lag.specs.Queue as model
 use borrow.Rule.Slice.PartMut.{put_mid, take_put, same_len_mid}
 use Rattle.std.proofs.lemmas.Slice.{between-put_mid, drop-put_mid}
 use Rattle.c_code.specs.Codes.{done_code}
-use Rattle.c_exports.specs.Queues.{queue_in, no_queue, Pushes, Filled}
+use Rattle.c_exports.specs.Queues.{queue_in, no_queue, PushesWords, Filled}
 
 -- ---- the words, read and written
 
@@ -67,7 +67,7 @@ module _ (maxLag last : ℕ) (q : List ℕ) (long : 66 ≤ length q) (nums : Lis
   under false e = refl
 
   pub pushes : {a : Queued} {q' : List ℕ} {r : ℕ} → Answers maxLag log last (Ok a) → Filled a.log.drained_through a.log.count a.log.queued q q'
-      → r ≡ done_code a.drained → Pushes maxLag last q q' r
+      → r ≡ done_code a.drained → PushesWords maxLag last q q' r
   pushes {a} {q'} answer f e =
       let u : ltb 64 (get_or q 1 0) ≡ false = under (ltb 64 (get_or q 1 0)) answer.refusal in
       let w : model.Pushes maxLag log last a = answer.pushed in

@@ -15,11 +15,11 @@ use Rattle.base_refusals.specs.declared.Refusal.{Refusal}
 use Rattle.model_frame.specs.Writing.{encode}
 use Rattle.model_session.specs.Session.{Session}
 use Rattle.model_session.specs.Sender.{Sender, new_sender, cannot_send, cut_from, sent, sent_from, send_next}
-use Rattle.active_batch.specs.Batch.{resume_from, number_in}
+use Rattle.active_batch.specs.Batch.{resume_from, number_or_none}
 use Rattle.store_areas.specs.declared.Shape.{Shape}
 use Rattle.active.specs.declared.Sending.{Sending}
 use Rattle.active.specs.declared.Sent.{Sent}
-use Rattle.active.specs.Whole.{Answer, sender_of, stored_at, SendStart, ready, start_of, start_from, SendStep, gives, finished, step_of, spent, send_answer, step_from, SendsWhole}
+use Rattle.active.specs.Whole.{SendAnswer, sender_of, stored_at, SendStart, ready, start_of, start_from, SendStep, gives, finished, step_of, spent, send_answer, step_from, SendsWhole}
 use Rattle.active.specs.Whole as whole
 use Rattle.c_code.specs.Codes.{done_code}
 use Rattle.c_exports.specs.Sendings.{from_word, done_byte, start_in, send_code, NextWords, Resumes, SendIs}
@@ -58,10 +58,10 @@ word_pair none = refl
 word_pair (some n) = refl
 
 handed : (h e : ℕ) (t : Sending) (q : List ℕ) {q' : List ℕ} → 4 ≤ length q → t.handle ≡ h → t.epoch.0 ≡ e
-    → q' ≡ set (set (set (set q 0 t.last.0) 1 1) 2 (from_word (number_in t.from))) 3 (done_byte (number_in t.from)) → NextWords h e (sender_of t) q q'
+    → q' ≡ set (set (set (set q 0 t.last.0) 1 1) 2 (from_word (number_or_none t.from))) 3 (done_byte (number_or_none t.from)) → NextWords h e (sender_of t) q q'
 handed h e t q {q'} long eh ee is =
-    let from : ℕ = from_word (number_in t.from) in
-    let done : ℕ = done_byte (number_in t.from) in
+    let from : ℕ = from_word (number_or_none t.from) in
+    let done : ℕ = done_byte (number_or_none t.from) in
     let a : List ℕ = set q 0 t.last.0 in
     let b : List ℕ = set a 1 1 in
     let c : List ℕ = set b 2 from in
@@ -73,7 +73,7 @@ handed h e t q {q'} long eh ee is =
     ∙ get_or-set_other a 1 0 1 0 (λ x. omega arith) ∙ get_or-set_same q 0 t.last.0 0 (omega arith) in
     let w2 : get_or q' 2 0 ≡ from = ap (λ (l : List ℕ). get_or l 2 0) is ∙ get_or-set_other c 3 2 done 0 (λ x. omega arith) ∙ get_or-set_same b 2 from 0 (omega arith) in
     let w3 : get_or q' 3 0 ≡ done = ap (λ (l : List ℕ). get_or l 3 0) is ∙ get_or-set_same c 3 done 0 (omega arith) in
-    let there : resume_from (get_or q' 2 0) (is_set (get_or q' 3 0)) ≡ number_in t.from = (λ j. resume_from (w2 j) (is_set (w3 j))) ∙ word_pair (number_in t.from) in
+    let there : resume_from (get_or q' 2 0) (is_set (get_or q' 3 0)) ≡ number_or_none t.from = (λ j. resume_from (w2 j) (is_set (w3 j))) ∙ word_pair (number_or_none t.from) in
     let h' : h ≡ t.handle = sym eh in
     let e' : e ≡ t.epoch.0 = sym ee in
     record {
@@ -85,7 +85,7 @@ handed h e t q {q'} long eh ee is =
 
 module _ (limit : ℕ) (shape : Shape) (w b : List ℕ) (s : Sending) (q : List ℕ) {out out' : List ℕ} {r : ℕ} where
   pub sends_frame : (t : Sent) (q' : List ℕ) → SendsWhole limit shape w b s out out' (Ok (Some t)) → 4 ≤ length q
-      → q' ≡ set (set (set (set q 0 t.next.last.0) 1 1) 2 (from_word (number_in t.next.from))) 3 (done_byte (number_in t.next.from)) → r ≡ done_code t.len
+      → q' ≡ set (set (set (set q 0 t.next.last.0) 1 1) 2 (from_word (number_or_none t.next.from))) 3 (done_byte (number_or_none t.next.from)) → r ≡ done_code t.len
       → SendIs limit (stored_at shape w b s.place) s.handle s.epoch.0 (ready s.place (sender_of s)) q q' out out' r
   sends_frame t q' h long is a =
       let k = kept limit (stored_at shape w b s.place) s.place (sender_of s) (length out) h.answer in

@@ -1,5 +1,5 @@
 -- What each exported function leaves and returns. Assumes nothing.
-use Rattle.std.specs.Prelude.{◌≡◌, ℕ, cond, List, [], length, set, ltb, eqb}
+use Rattle.std.specs.Prelude.{◌≡◌, ℕ, cond, List, [], length, ltb, eqb}
 use Rattle.std.proofs.Math.Option.{Option}
 use Rattle.model_frame.specs.Refusal
 use Rattle.model_frame.specs.Frame.{Frame, Decoded, more, faulty, got}
@@ -7,10 +7,7 @@ use Rattle.model_frame.specs.Writing.{encode, WriteOutcome, wrote, refused, writ
 use Rattle.standby_state.specs.declared.Answer.{Answer}
 use Rattle.standby_reply.specs.Replies.{frame_for}
 use Rattle.c_session.specs.Telling as telling
-use Rattle.store_areas.specs.StoreWord
 use Rattle.store_areas.specs.declared.Shape.{Shape}
-use Rattle.store_areas.specs.Areas.{roomy}
-use Rattle.c_code.specs.Codes.{refusal_code, done_code}
 use Rattle.c_exports.specs.Returned.{fault_code, written_code, taken_code}
 
 -- ---- a frame that was read, written again
@@ -39,18 +36,11 @@ pub record Rewrites (d : Decoded) (out out' : List ℕ) (r : ℕ) : Type 0 where
   pub answer : r ≡ frame_code d (length out)
   pub area : out' ≡ frame_area d out
 
--- ---- making a store
+-- ---- sessions
 
 -- how many places, the bytes of each, the messages of each
 abbrev pub shape_of : ℕ → ℕ → ℕ → Shape
 shape_of sessions c m = record { places = sessions; bytes = c; messages = m }
-
--- 25 and nothing is written where the areas have no room for the shape; else no place is in use and no commit is pending
-pub record Makes (s : Shape) (w w' b : List ℕ) (r : ℕ) : Type 0 where
-  pub answer : r ≡ cond (roomy s w b) (done_code 0) (refusal_code Refusal.rules_broken 0)
-  pub words : w' ≡ cond (roomy s w b) (set (set w StoreWord.used 0) StoreWord.pending 0) w
-
--- ---- sessions
 
 -- the bytes of a session, or none, which is 25; 9 where the area is too short; the area as that leaves it
 pub record TellsPlace (bytes : Option (List ℕ)) (out out' : List ℕ) (r : ℕ) : Type 0 where

@@ -20,7 +20,7 @@ pub record QueueWords (u : Queue) (q q' : List ℕ) : Type 0 where
   pub rest : drop 66 q' ≡ drop 66 q
 
 -- 25 and all as it was where the words are no queue; else the queue after the push, and how many went
-pub record Pushes (maxLag last : ℕ) (q q' : List ℕ) (r : ℕ) : Type 0 where
+pub record PushesWords (maxLag last : ℕ) (q q' : List ℕ) (r : ℕ) : Type 0 where
   pub answer : r ≡ cond (no_queue q) (refusal_code Refusal.rules_broken 0) (done_code (push maxLag (queue_in q) last).went)
   pub unchanged : no_queue q ≡ true → q' ≡ q
   pub pushed : no_queue q ≡ false → QueueWords (push maxLag (queue_in q) last).queue q q'

@@ -3,9 +3,8 @@
 #![tactic(auto)]
 
 ghost use Rattle.std.specs.Prelude.{◌≡◌, ◌+◌, ◌*◌, ◌<◌, ◌≤◌, length, take, drop, set};
-ghost use Rattle.active_batch.specs.Batch.{number_in};
+ghost use Rattle.active_batch.specs.Batch.{number_or_none};
 ghost use Rattle.model_frame.specs.Reading.{decode};
-ghost use Rattle.model_session.specs.Summary.{fnv};
 ghost use Rattle.model_session.specs.Whole.{batch_limit};
 ghost use Rattle.frame_reader.specs.Answers.{field_of, fault_of};
 ghost use Rattle.model_frame.specs.Writing.{write_outcome};
@@ -14,8 +13,8 @@ ghost use Rattle.frame.specs.Answers.{frame_in};
 ghost use Rattle.active.specs.Whole.{ready, sender_of, stored_at};
 ghost use Rattle.c_session.specs.Telling.{told_at};
 ghost use Rattle.c_exports.specs.Returned.{field_number, fault_detail, fault_code, read_code, written_code};
-ghost use Rattle.c_exports.specs.Exports.{Again, Rewrites, shape_of, Makes, TellsPlace, TellsAnswer};
-ghost use Rattle.c_exports.specs.Queues.{Pushes, Filled};
+ghost use Rattle.c_exports.specs.Exports.{Again, Rewrites, shape_of, TellsPlace, TellsAnswer};
+ghost use Rattle.c_exports.specs.Queues.{PushesWords, Filled};
 ghost use Rattle.c_exports.specs.Sendings.{from_word, done_byte, SendIs, SendsNext};
 
 use active::Sending;
@@ -107,22 +106,6 @@ pub extern "C" fn wz_read(frame: &[u8]) -> u64
 
 // ---- sessions
 
-// Makes a store without sessions.
-#[unsafe(no_mangle)]
-pub extern "C" fn wz_make(words: &mut [u64], bytes: &[u8], sessions: u32, c: u32, m: u32) -> u64
-    ensures { Makes (shape_of sessions c m) words.old words.new bytes.now result }
-{
-    let shape = Shape {
-        places: sessions,
-        bytes: c,
-        messages: m,
-    };
-    match store_areas::make(shape, words, bytes) {
-        Ok(()) => done(0),
-        Err(e) => refusal(e.number(), 0),
-    }
-}
-
 // The session at a place. C hands the three numbers of a shape apart.
 #[unsafe(no_mangle)]
 pub extern "C" fn wz_session(
@@ -150,7 +133,7 @@ pub extern "C" fn wz_session(
 // The words of a sending for its next call.
 fn put_sending(sending: &mut [u64], last: CommitNumber, from: Option<u64>)
     requires { 4 ≤ length sending.old }
-    ensures { sending.new ≡ set (set (set (set sending.old 0 last.0) 1 1) 2 (from_word (number_in from))) 3 (done_byte (number_in from)) }
+    ensures { sending.new ≡ set (set (set (set sending.old 0 last.0) 1 1) 2 (from_word (number_or_none from))) 3 (done_byte (number_or_none from)) }
 {
     sending[0] = last.0;
     sending[1] = 1;
@@ -248,7 +231,7 @@ fn put_queue(queue: &mut [u64], log: ReplicatedLog)
 // One push.
 #[unsafe(no_mangle)]
 pub extern "C" fn wz_queue(queue: &mut [u64], max_lag: u64, last: u64) -> u64
-    ensures { Pushes max_lag last queue.old queue.new result }
+    ensures { PushesWords max_lag last queue.old queue.new result }
 {
     if queue.len() < QUEUE_WORDS {
         return refusal(Refusal::RulesBroken.number(), 0);
@@ -281,14 +264,4 @@ pub extern "C" fn wz_answer(answer: Answer, bytes: &[u8], out: &mut [u8]) -> u64
         return done(0);
     }
     written(standby_reply::write(answer, bytes, out))
-}
-
-// ---- for the bench
-
-// FNV-1a over bytes, on from h.
-#[unsafe(no_mangle)]
-pub extern "C" fn wz_fnv(hash: u64, bytes: &[u8]) -> u64
-    ensures { result ≡ fnv hash bytes.now }
-{
-    store_log::fnv::bytes(hash, bytes)
 }

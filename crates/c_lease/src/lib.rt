@@ -5,7 +5,7 @@
 ghost use Rattle.std.specs.Prelude.{◌≡◌, cond, ℕ};
 ghost use Rattle.model_lease.specs.Lease.{made};
 ghost use Rattle.base_flags.specs.Flag.{is_set, byte};
-ghost use Rattle.active_lease.specs.Held.{outcome_of};
+ghost use Rattle.active_lease.specs.Held.{renewal_of};
 ghost use Rattle.c_lease.specs.Boundary.{outcome_at, attempt_at, lease_in, held_in, AsksIn, TriesIn};
 
 use active_lease::{Held, RenewalOutcome};
@@ -31,7 +31,7 @@ pub struct Due {
 
 // The outcome by the byte that C hands in: 0 renewed, 1 failed, any other deposed, since what isn't known stops the active.
 fn outcome_of(outcome: u8) -> RenewalOutcome
-    ensures { outcome_of result ≡ outcome_at outcome }
+    ensures { renewal_of result ≡ outcome_at outcome }
 {
     match outcome {
         0 => RenewalOutcome::Renewed,

@@ -4,7 +4,7 @@
 ghost use Rattle.std.specs.Prelude.{◌≡◌};
 ghost use Rattle.model_quorum.specs.History.{bind, sent, ack, stale};
 ghost use Rattle.active_quorum.specs.Area.{MakesQuorum, Does};
-ghost use Rattle.c_quorum.specs.Boundary.{Tells};
+ghost use Rattle.c_quorum.specs.Boundary.{TellsShown};
 
 use frame_fields::CommitNumber;
 
@@ -58,7 +58,7 @@ pub extern "C" fn wz_quorum_stale_epoch(words: &mut [u64], member: usize) -> u8
 
 #[unsafe(no_mangle)]
 pub extern "C" fn wz_quorum_figure(words: &[u64], handle: u32) -> Shown
-    ensures { Tells words.now handle result }
+    ensures { TellsShown words.now handle result }
 {
     match active_quorum::figure(words, handle) {
         Ok(number) => Shown { refusal: 0, number },

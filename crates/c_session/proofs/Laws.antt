@@ -27,7 +27,7 @@ use Rattle.frame_fields.specs.declared.Summary.{Summary}
 use Rattle.frame_fields.specs.Answers.{flight_of, key_of, summary_of}
 use Rattle.frame_writer.specs.Encoding.{key_size, summary_size}
 use Rattle.store_place.specs.declared.Key as lent
-use Rattle.store_place.specs.Keys.{key_of as lent_key}
+use Rattle.store_place.specs.Keys.{lent_key}
 use Rattle.store_place.specs.Place.{field, stored_key, place_in}
 use Rattle.store_place.proofs.Texts.{field_stands, field_length}
 use Rattle.store_areas.specs.declared.Shape.{Shape}

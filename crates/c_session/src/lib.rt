@@ -2,7 +2,7 @@
 // A place comes as a number beside its view, as in store_sessions.
 #![tactic(auto)]
 
-ghost use Rattle.std.specs.Prelude.{◌≡◌, ◌∷◌, ◌++◌, ℕ, ◌+◌, ◌≤◌, ◌<◌, length, get_or};
+ghost use Rattle.std.specs.Prelude.{◌≡◌, ◌∷◌, ◌++◌, ℕ, ◌+◌, ◌≤◌, ◌<◌, length};
 ghost use Rattle.std.proofs.Math.Option.{some};
 ghost use Rattle.model_frame.specs.Writing.{key_bytes, summary_bytes};
 ghost use Rattle.model_standby.specs.Row.{is_some};
@@ -10,7 +10,7 @@ ghost use Rattle.base_laws.specs.Wrote.{Wrote};
 ghost use Rattle.frame_reader.specs.Answers.{span_of};
 ghost use Rattle.frame_fields.specs.Answers.{flight_of, key_of, summary_of};
 ghost use Rattle.frame_writer.specs.Encoding.{key_size, summary_size};
-ghost use Rattle.store_areas.specs.Areas.{place_at};
+ghost use Rattle.store_areas.specs.Areas.{place_at, used_of};
 ghost use Rattle.c_session.specs.Telling.{span_at, flag, told_bytes, told_at, TellsSession};
 
 use base_bytes::Writer;
@@ -35,7 +35,7 @@ fn span(at: usize, text: &[u8]) -> Span
 
 // The key of a place in use, by positions, which the frame's writer takes: a Place has slices.
 fn key_of(view: &View, place: usize) -> SessionId
-    requires { place < get_or view.now.words.now 0 0 }
+    requires { place < used_of view.now.words.now }
     ensures { key_of view.now.bytes.now result ≡ (place_at view.now.shape view.now.words.now view.now.bytes.now place).key }
 {
     let start = view.spot(place).bytes_start;
@@ -88,7 +88,7 @@ fn put(bytes: &[u8], durable: bool, session: SessionId, summary: Summary, out: &
 
 // The session at a place in use.
 fn write_session(view: &View, place: usize, n: u64, out: &mut [u8]) -> Result<usize, Refusal>
-    requires { place < get_or view.now.words.now 0 0 }
+    requires { place < used_of view.now.words.now }
     ensures { TellsSession (some (told_bytes (place_at view.now.shape view.now.words.now view.now.bytes.now place) n)) out.old out.new result }
 {
     let durable = store_sessions::durable(view, place);

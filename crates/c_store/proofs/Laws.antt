@@ -29,7 +29,7 @@ use Rattle.store_areas.proofs.Ruling.{in_use_of}
 use Rattle.store_sessions.proofs.Seeking.{not_stored, new_at}
 use Rattle.store_sessions.specs.Answers.{stored_place, Opened, rest_at, PositionAt, FromAt}
 use Rattle.c_store.specs.declared.StoreAnswer.{StoreAnswer}
-use Rattle.c_store.specs.Total.{session_in, given, refused, answered, Reads, MadeIs, why_no_record, why_no_bare_record, ChangeIs, key_is, is_free, OpenIs}
+use Rattle.c_store.specs.Total.{session_in, with_value, refused, answered, Reads, MadeIs, why_no_record, why_no_bare_record, ChangeIs, is_key_of, has_free_place, OpenIs}
 
 no_zero : (n : ℕ) → 0 < n → n ≡ 0 → ⊥
 no_zero n h e = omega arith
@@ -37,8 +37,8 @@ no_zero n h e = omega arith
 module _ {s : Shape} {i : ℕ} {w b : List ℕ} {t : Bool} (is : t ≡ in_use s w b i) where
   -- ---- reading
 
-  reads_by : {f : Session → ℕ} {u : Bool} → t ≡ u → Reads s w b i f (cond u (given (f (session_in s w b i))) (refused 25))
-  reads_by {f} e = record { answer = ap (λ (x : Bool). cond x (given (f (session_in s w b i))) (refused 25)) (sym e ∙ is) }
+  reads_by : {f : Session → ℕ} {u : Bool} → t ≡ u → Reads s w b i f (cond u (with_value (f (session_in s w b i))) (refused 25))
+  reads_by {f} e = record { answer = ap (λ (x : Bool). cond x (with_value (f (session_in s w b i))) (refused 25)) (sym e ∙ is) }
 
   pub reads_none : {f : Session → ℕ} {r : StoreAnswer} → t ≡ false → r ≡ refused 25 → Reads s w b i f r
   reads_none {f} e r = subst (Reads s w b i f) (sym r) (reads_by {f = f} e)
@@ -52,8 +52,8 @@ module _ {s : Shape} {i : ℕ} {w b : List ℕ} {t : Bool} (is : t ≡ in_use s 
     pub used : InUse s w b i
     used = in_use_of s w b i (sym is ∙ e)
 
-    pub reads : {f : Session → ℕ} {v : ℕ} {r : StoreAnswer} → v ≡ f (session_in s w b i) → r ≡ given v → Reads s w b i f r
-    reads {f} q g = subst (Reads s w b i f) (ap given (sym q) ∙ sym g) (reads_by {f = f} e)
+    pub reads : {f : Session → ℕ} {v : ℕ} {r : StoreAnswer} → v ≡ f (session_in s w b i) → r ≡ with_value v → Reads s w b i f r
+    reads {f} q g = subst (Reads s w b i f) (ap with_value (sym q) ∙ sym g) (reads_by {f = f} e)
 
     pub cannot : {why n r : ℕ} {f : Stored → Stored} → why ≡ n → 0 < n → r ≡ n → ChangeIs s i why f w w b b r
     cannot {why} {n} q h g = record { answer = g ∙ sym q ∙ ap (λ (x : Bool). cond x why 25) (sym e ∙ is); made = λ z. absurd (no_zero n h (sym g ∙ z)); still = λ _. (refl, refl) }
@@ -140,14 +140,14 @@ module _ (s : Shape) (w b : List ℕ) (k : Key) where
   At = place_of k (places_of s w b)
 
   abbrev Says : Bool → Bool → Bool → Bool → StoreAnswer
-  Says ok key here room = cond ok (cond key (cond here (given At) (cond room (given At) (refused 20))) (refused 5)) (refused 25)
+  Says ok key here room = cond ok (cond key (cond here (with_value At) (cond room (with_value At) (refused 20))) (refused 5)) (refused 25)
 
   -- found in the store as it is read
   pub found : {o : Option ℕ} (v : View) → v.shape ≡ s → v.words.now ≡ w → v.bytes.now ≡ b → o ≡ stored_place k (places_of v.shape v.words.now v.bytes.now) → o ≡ stored_place k (places_of s w b)
   found v x y z e = e ∙ (λ j. stored_place k (places_of (x j) (y j) (z j)))
 
   -- by what is known of the four tests
-  by : (ok key here room : Bool) {w' b' : List ℕ} → allowed s w b ≡ ok → key_is k ≡ key → is_stored k (places_of s w b) ≡ here → is_free s w ≡ room
+  by : (ok key here room : Bool) {w' b' : List ℕ} → allowed s w b ≡ ok → is_key_of k ≡ key → is_stored k (places_of s w b) ≡ here → has_free_place s w ≡ room
       → (((ok && key) && (not here && room)) ≡ true → Opened s k w w' b b') → (((ok && key) && (not here && room)) ≡ false → (w' ≡ w) × (b' ≡ b)) → OpenIs s k w w' b b' (Says ok key here room)
   by ok key here room a c h r p q = record {
     answer = sym (λ j. Says (a j) (c j) (h j) (r j));
@@ -162,10 +162,10 @@ module _ (s : Shape) (w b : List ℕ) (k : Key) where
   answers {w' = w'} {b' = b'} g p = subst (λ (r : StoreAnswer). OpenIs s k w w' b b' r) (sym g) p
 
   module _ {t : Bool} (a : t ≡ allowed s w b) (e : t ≡ true) where
-    module _ {u : Bool} (q : u ≡ key_is k) (f : u ≡ true) where
-      pub opened : {i : ℕ} {w' v' b' c' : List ℕ} {r : StoreAnswer} → None ≡ stored_place k (places_of s w b) → i ≡ get_or w 0 0 → get_or w 0 0 < s.places → Opened s k w v' b c' → w' ≡ v' → b' ≡ c' → r ≡ given i → OpenIs s k w w' b b' r
+    module _ {u : Bool} (q : u ≡ is_key_of k) (f : u ≡ true) where
+      pub opened : {i : ℕ} {w' v' b' c' : List ℕ} {r : StoreAnswer} → None ≡ stored_place k (places_of s w b) → i ≡ get_or w 0 0 → get_or w 0 0 < s.places → Opened s k w v' b c' → w' ≡ v' → b' ≡ c' → r ≡ with_value i → OpenIs s k w w' b b' r
       opened {w' = w'} {v' = v'} {b' = b'} n at l p x y g =
           let new = not_stored k (places_of s w b) n in
-          answers (g ∙ ap given (at ∙ sym (new_at k (places_of s w b) new ∙ places_length s w b)))
+          answers (g ∙ ap with_value (at ∙ sym (new_at k (places_of s w b) new ∙ places_length s w b)))
           (by true true false true (sym a ∙ e) (sym q ∙ f) new (lt-ltb (get_or w 0 0) s.places l)
           (λ _. subst (λ (v : List ℕ). Opened s k w v b b') (sym x) (subst (λ (c : List ℕ). Opened s k w v' b c) (sym y) p)) (λ z. absurd (true≢false z)))

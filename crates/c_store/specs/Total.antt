@@ -1,5 +1,5 @@
 -- What the store's functions for C and Rust answer, by document 01's numbers, and what they leave. Assumes nothing.
-use Rattle.std.specs.Prelude.{◌≡◌, ℕ, Bool, true, false, cond, not, ◌&&◌, List, get_or, set, eqb, leb, ltb, Result, Ok, Err}
+use Rattle.std.specs.Prelude.{◌≡◌, ℕ, Bool, true, false, cond, not, ◌&&◌, List, set, eqb, leb, ltb, Result, Ok, Err}
 use Rattle.base_refusals.specs.Numbers.{number_of}
 use Rattle.base_refusals.specs.declared.Refusal as declared
 use Rattle.model_text.specs.Printable.{is_key, is_marks}
@@ -10,7 +10,7 @@ use Rattle.model_session.specs.Session.{Session, top}
 use Rattle.model_standby.specs.Store.{Stored, place_of, is_stored}
 use Rattle.store_areas.specs.StoreWord
 use Rattle.store_areas.specs.declared.Shape.{Shape}
-use Rattle.store_areas.specs.Areas.{roomy, allowed, in_use, place_at, places_of, Changed}
+use Rattle.store_areas.specs.Areas.{roomy, allowed, in_use, place_at, places_of, Changed, used_of}
 use Rattle.store_sessions.specs.Answers.{Opened}
 use Rattle.c_store.specs.declared.StoreAnswer.{StoreAnswer}
 
@@ -19,20 +19,20 @@ abbrev pub session_in : Shape → List ℕ → List ℕ → ℕ → Session
 session_in s w b i = (place_at s w b i).stored.session
 
 -- an answer with its value; a refusal, which has none
-abbrev pub given : ℕ → StoreAnswer
-given v = record { refusal = 0; value = v }
+abbrev pub with_value : ℕ → StoreAnswer
+with_value v = record { refusal = 0; value = v }
 
 abbrev pub refused : ℕ → StoreAnswer
 refused n = record { refusal = n; value = 0 }
 
 -- what a call came to: a value, or a refusal
 abbrev pub answered : Result ℕ declared.Refusal → StoreAnswer
-answered (Ok v) = given v
+answered (Ok v) = with_value v
 answered (Err e) = refused (number_of e)
 
 -- what is read of it; 25 where the rules are broken or the place isn't in use
 pub record Reads (s : Shape) (w b : List ℕ) (i : ℕ) (f : Session → ℕ) (r : StoreAnswer) : Type 0 where
-  pub answer : r ≡ cond (in_use s w b i) (given (f (session_in s w b i))) (refused Refusal.rules_broken)
+  pub answer : r ≡ cond (in_use s w b i) (with_value (f (session_in s w b i))) (refused Refusal.rules_broken)
 
 -- making: 25 leaves all as it was; else no place is in use and no commit is pending
 pub record MadeIs (s : Shape) (w w' b : List ℕ) (r : ℕ) : Type 0 where
@@ -69,22 +69,22 @@ pub record ChangeIs (s : Shape) (i why : ℕ) (f : Stored → Stored) (w w' b b'
 -- ---- opening
 
 -- it is a key
-abbrev pub key_is : Key → Bool
-key_is k = is_key k.begin k.sender k.target k.suffix
+abbrev pub is_key_of : Key → Bool
+is_key_of k = is_key k.begin k.sender k.target k.suffix
 
 -- a place is free
-abbrev pub is_free : Shape → List ℕ → Bool
-is_free s w = ltb (get_or w StoreWord.used 0) s.places
+abbrev pub has_free_place : Shape → List ℕ → Bool
+has_free_place s w = ltb (used_of w) s.places
 
 -- its session is new: the rules are kept, it is a key, it has no session, and there is a place for it
 abbrev pub opens_new : Shape → List ℕ → List ℕ → Key → Bool
-opens_new s w b k = (allowed s w b && key_is k) && (not (is_stored k (places_of s w b)) && is_free s w)
+opens_new s w b k = (allowed s w b && is_key_of k) && (not (is_stored k (places_of s w b)) && has_free_place s w)
 
 -- the place of the key, where its session is new if it had none: 25 broken rules, 5 no key, 20 no free place, and all is as it was
 pub record OpenIs (s : Shape) (k : Key) (w w' b b' : List ℕ) (r : StoreAnswer) : Type 0 where
   pub answer : r ≡ cond (allowed s w b)
-      (cond (key_is k)
-      (cond (is_stored k (places_of s w b)) (given (place_of k (places_of s w b))) (cond (is_free s w) (given (place_of k (places_of s w b))) (refused Refusal.no_session_place)))
+      (cond (is_key_of k)
+      (cond (is_stored k (places_of s w b)) (with_value (place_of k (places_of s w b))) (cond (has_free_place s w) (with_value (place_of k (places_of s w b))) (refused Refusal.no_session_place)))
       (refused Refusal.bad_session))
       (refused Refusal.rules_broken)
   pub opened : opens_new s w b k ≡ true → Opened s k w w' b b'

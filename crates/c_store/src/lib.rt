@@ -9,7 +9,7 @@ ghost use Rattle.model_session.specs.Summary.{fnv, numbered_from, last_out};
 ghost use Rattle.model_standby.specs.Store.{mark_durable, taken_over};
 ghost use Rattle.base_refusals.specs.Numbers.{number_of};
 ghost use Rattle.store_place.specs.Place.{key_from};
-ghost use Rattle.c_store.specs.Total.{given, refused, answered, Reads, MadeIs, ChangeIs, OpenIs};
+ghost use Rattle.c_store.specs.Total.{with_value, refused, answered, Reads, MadeIs, ChangeIs, OpenIs};
 
 use base_refusals::Refusal;
 use store_areas::{Shape, Store, View, word};
@@ -25,7 +25,7 @@ pub struct StoreAnswer {
 
 impl StoreAnswer {
     fn given(value: u64) -> StoreAnswer
-        ensures { result ≡ given value }
+        ensures { result ≡ with_value value }
     {
         StoreAnswer { refusal: 0, value }
     }

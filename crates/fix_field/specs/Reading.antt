@@ -1,8 +1,8 @@
 -- What each step of the reader answers about one field of a file. Assumes nothing.
 use Rattle.std.specs.Prelude.{◌≡◌, ℕ, zero, suc, ◌+◌, ◌-◌, ◌<◌, ◌≤◌, min, Bool, true, false, cond, ◌&&◌, List, [], ◌∷◌, length, drop, ◌≢◌, get_or, slice_index, slice_range, Option, Some, None}
 use Rattle.model_session.specs.Session.{top}
-use Rattle.model_fix.specs.Field.{ends_field, pieces_of, all_digits, number_of, tag_of, value_of, is_field, has_tag}
-use Rattle.fix_field.specs.declared.Field.{Field}
+use Rattle.model_fix.specs.Field.{ends_field, pieces_of, all_digits, number_in_digits, tag_of, value_of, is_field, has_tag}
+use Rattle.fix_field.specs.declared.FixField.{FixField}
 
 -- the bytes of s from a up to e
 abbrev pub part : List ℕ → ℕ → ℕ → List ℕ
@@ -25,12 +25,12 @@ pub record Reaches (s : List ℕ) (from i : ℕ) : Type 0 where
 -- the text is digits, and this is their number, at most 2^64 - 1
 pub record NumberIs (text : List ℕ) (n : ℕ) : Type 0 where
   pub digits : all_digits text ≡ true
-  pub value : n ≡ min (number_of text) top
+  pub value : n ≡ min (number_in_digits text) top
 
 -- the number of a text of digits, or none
-abbrev pub Reads : List ℕ → Option ℕ → Type 0
-Reads text (Some n) = NumberIs text n
-Reads text None = all_digits text ≡ false
+abbrev pub ReadsNumber : List ℕ → Option ℕ → Type 0
+ReadsNumber text (Some n) = NumberIs text n
+ReadsNumber text None = all_digits text ≡ false
 
 -- `=` stands at eq, then a value and its byte 01
 pub record Closed (file : List ℕ) (eq : ℕ) : Type 0 where
@@ -39,7 +39,7 @@ pub record Closed (file : List ℕ) (eq : ℕ) : Type 0 where
   pub ended : eq + 1 + until_end (drop (eq + 1) file) < length file
 
 -- that field, or none
-abbrev pub Closes : List ℕ → ℕ → Option Field → Type 0
+abbrev pub Closes : List ℕ → ℕ → Option FixField → Type 0
 Closes file eq (Some f) = (f ≡ record { eq = eq; end = eq + 1 + until_end (drop (eq + 1) file) + 1 }) × Closed file eq
 Closes file eq None = Closed file eq → ⊥
 
@@ -57,7 +57,7 @@ abbrev pub starts_field : List (List ℕ) → Bool
 starts_field [] = false
 starts_field (p ∷ ps) = is_field p
 
-abbrev pub FieldAt : List ℕ → ℕ → Option Field → Type 0
+abbrev pub FieldAt : List ℕ → ℕ → Option FixField → Type 0
 FieldAt file at (Some f) = FieldIs file at f.eq f.end
 FieldAt file at None = starts_field (pieces_of (drop at file)) ≡ false
 
@@ -76,6 +76,6 @@ pub record IsTag (tag : List ℕ) : Type 0 where
   pub some : 0 < length tag
   pub no_zero : get_or tag 0 0 ≢ 48
 
-abbrev pub TaggedAt : List ℕ → List ℕ → ℕ → Option Field → Type 0
+abbrev pub TaggedAt : List ℕ → List ℕ → ℕ → Option FixField → Type 0
 TaggedAt tag file at (Some f) = TaggedIs tag file at f.eq f.end
 TaggedAt tag file at None = starts_tagged tag (pieces_of (drop at file)) ≡ false

@@ -7,11 +7,11 @@ ghost use Rattle.std.specs.Char.{is_ascii_digit};
 ghost use Rattle.model_session.specs.Session.{top};
 ghost use Rattle.model_fix.specs.Field.{digits, same_text};
 ghost use Rattle.model_fix.specs.Message.{total};
-ghost use Rattle.fix_field.specs.Reading.{part, until_end, FreeRun, Reaches, Reads, FieldAt, TaggedAt, IsTag, Closes};
+ghost use Rattle.fix_field.specs.Reading.{part, until_end, FreeRun, Reaches, ReadsNumber, FieldAt, TaggedAt, IsTag, Closes};
 
 // Where a field's `=` stands, and where it ends, past its byte 01.
 #[derive(Clone, Copy)]
-pub struct Field {
+pub struct FixField {
     pub eq: usize,
     pub end: usize,
 }
@@ -85,7 +85,7 @@ pub fn next_end(file: &[u8], from: usize) -> usize
 }
 
 // The field whose tag ends at `eq`, if `=`, a value and byte 01 follow.
-fn close_field(file: &[u8], eq: usize) -> Option<Field>
+fn close_field(file: &[u8], eq: usize) -> Option<FixField>
     ensures { Closes file.now eq result }
 {
     if file.len() <= eq || file[eq] != b'=' {
@@ -95,11 +95,11 @@ fn close_field(file: &[u8], eq: usize) -> Option<Field>
     if to == eq + 1 || to == file.len() {
         return None;
     }
-    Some(Field { eq, end: to + 1 })
+    Some(FixField { eq, end: to + 1 })
 }
 
 // The field that begins at `at`.
-pub fn find_field(file: &[u8], at: usize) -> Option<Field>
+pub fn find_field(file: &[u8], at: usize) -> Option<FixField>
     ensures { FieldAt file.now at result }
 {
     let text = file.get(at..)?;
@@ -116,7 +116,7 @@ pub fn find_field(file: &[u8], at: usize) -> Option<Field>
 
 // A text of digits as a number, at most 2^64 - 1.
 pub fn read_number(text: &[u8]) -> Option<u64>
-    ensures { Reads text.now result }
+    ensures { ReadsNumber text.now result }
 {
     let mut n: u64 = 0;
     for b in text {
@@ -154,7 +154,7 @@ pub fn is_tag<const N: usize>(file: &[u8], at: usize, eq: usize, tag: &[u8; N]) 
 }
 
 // The field that begins at `at`, if it has this tag.
-pub fn find_tagged<const N: usize>(file: &[u8], at: usize, tag: &[u8; N]) -> Option<Field>
+pub fn find_tagged<const N: usize>(file: &[u8], at: usize, tag: &[u8; N]) -> Option<FixField>
     requires tag { IsTag tag.now }
     ensures { TaggedAt tag.now file.now at result }
 {

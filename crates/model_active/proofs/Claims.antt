@@ -9,7 +9,7 @@ use lib.ListN.{length}
 use lib.Dec.{eqb, ltb}
 use borrow.Author.Tests.{lt-ltb, ltb-true}
 use Rattle.model_active.specs.CatchUp.{Entry, Book, Call, Answer, Result, new_book, refused, too_many, picked, says, done, wait, member, is, opened, on_entry, sessions, meeting, opens_of, is_open, pick, told_checked, named, met_now, does, step, fall_behind, all_fall_behind, caught_up, behind_unless_compared_open, next_to_catch_up, opening, closed, ended, all_compared, acknowledge}
-use Rattle.model_active.specs.Passes.{All, Sound, distinct, turns}
+use Rattle.model_active.specs.Passes.{All, SoundBook, distinct, turns}
 use Rattle.model_active.specs.Claims.{Claims, FullExactly, FallsInOrder, TellsExactly, NeverWhileBehind, PassEnds, BecomesCaught, OpeningWaits}
 use Rattle.model_active.proofs.Books as books
 use Rattle.model_active.proofs.Picking.{open_never_picked, opens_met, told_so, so_told, answers_so}
@@ -35,7 +35,7 @@ never_refused b (ended s i) n e = let z : ◌≡◌ {A = ℕ} 0 1 = cc in omega 
 never_refused b (all_compared l i) n e = let z : ◌≡◌ {A = ℕ} 0 1 = cc in omega arith
 never_refused b (acknowledge i) n e = let z : ◌≡◌ {A = ℕ} 0 1 = cc in omega arith
 
-full : (b : Book) (c : Call) → Sound b → FullExactly b c
+full : (b : Book) (c : Call) → SoundBook b → FullExactly b c
 full b c s = go (ltb 256 (length (distinct b c))) refl (books.full_exactly b c s)
   where
     now : Result
@@ -59,7 +59,7 @@ says_true : (t : Bool) → says t ≡ says true → t ≡ true
 says_true true e = refl
 says_true false e = absurd (let z : ◌≡◌ {A = ℕ} 0 1 = cc in omega arith)
 
-tells : (b : Book) (l : List ℕ) (i : ℕ) → Sound b → length (distinct b (all_compared l i)) ≤ 256 → TellsExactly b l i
+tells : (b : Book) (l : List ℕ) (i : ℕ) → SoundBook b → length (distinct b (all_compared l i)) ≤ 256 → TellsExactly b l i
 tells b l i s few = record {
   only = λ e. told_so b l i (says_true (told_checked b l i) (sym (answers_so b l i s few) ∙ e));
   always = λ t. answers_so b l i s few ∙ ap says (so_told b l i t);
@@ -142,7 +142,7 @@ all_closed : (b : Book) (xs : List ℕ) → ((s : ℕ) → is_open s b.met ≡ f
 all_closed b [] f = let z : 0 ≤ 0 = omega arith in z
 all_closed b (x ∷ xs) f = (f x, all_closed b xs f)
 
-pass : (b : Book) (l : List ℕ) (i n : ℕ) → Sound b → length (distinct b (next_to_catch_up l i)) ≤ 256 → 256 ≤ n → PassEnds b l i n
+pass : (b : Book) (l : List ℕ) (i n : ℕ) → SoundBook b → length (distinct b (next_to_catch_up l i)) ≤ 256 → 256 ≤ n → PassEnds b l i n
 pass b l i zero s few enough = absurd (let z : ⊥ = omega arith in z)
 pass b l i (suc n) s few enough =
     let after = turns (suc n) l i b in

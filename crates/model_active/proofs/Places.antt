@@ -8,7 +8,7 @@ use lib.ListN.{length, get_or}
 use lib.Dec.{eqb, ltb}
 use borrow.Author.Tests.{eqb-true}
 use Rattle.model_active.specs.CatchUp.{Entry, Book, Call, Result, too_many, member, without, joining, falling, sessions, meeting, on_entry, compared_with, met_that, named, met_now, behind_now, does, step, fall_behind, caught_up}
-use Rattle.model_active.specs.Passes.{All, Once, Sound, all_joining}
+use Rattle.model_active.specs.Passes.{All, Once, SoundBook, all_joining}
 use Rattle.model_active.proofs.Lists.{tt0, eqb_swap, member_snoc, or_none_left, or_none_right}
 use Rattle.model_active.proofs.Books.{sessions_meeting, sessions_on_entry, length_sessions, does_sessions, step_sound}
 use Rattle.model_active.proofs.Ending.{step_met, gone}
@@ -90,12 +90,12 @@ one_by_one p xs (e ∷ es) o =
     go true false m q r = r ∙ ap (λ (t : Bool). all_joining (met_that p es) (cond t xs (xs ++ (e.session ∷ [])))) (sym m)
     go false b m q r = q
 
-pub together_as_met : (b : Book) (p : Entry → Bool) → Sound b → b.behind ++ falling p b ≡ all_joining (met_that p b.met) b.behind
+pub together_as_met : (b : Book) (p : Entry → Bool) → SoundBook b → b.behind ++ falling p b ≡ all_joining (met_that p b.met) b.behind
 together_as_met b p s = one_by_one p b.behind b.met s.met_once
 
 -- ---- one at a time
 
-all_at : (P : ℕ → Type 0) (xs : List ℕ) (s : ℕ) → All P xs → member s xs ≡ true → P s
+pub all_at : (P : ℕ → Type 0) (xs : List ℕ) (s : ℕ) → All P xs → member s xs ≡ true → P s
 all_at P [] s a e = absurd (true≢false (sym e))
 all_at P (x ∷ xs) s a e = go (eqb s x) refl e (all_at P xs s a.1)
   where
@@ -103,17 +103,17 @@ all_at P (x ∷ xs) s a e = go (eqb s x) refl e (all_at P xs s a.1)
     go true q r f = subst P (sym (eqb-true s x q)) a.0
     go false q r f = f r
 
-pub behind_already : (b : Book) (s : ℕ) → Sound b → member s b.behind ≡ true → (step b (fall_behind s)).book.behind ≡ b.behind
+pub behind_already : (b : Book) (s : ℕ) → SoundBook b → member s b.behind ≡ true → (step b (fall_behind s)).book.behind ≡ b.behind
 behind_already b s sd e =
     let met = all_at (λ t. member t (sessions b.met) ≡ true) b.behind s sd.behind_met e in
     ap (λ (r : Result). r.book.behind) (step_met b (fall_behind s) sd (met, tt0)) ∙ ap (λ (t : Bool). cond t b.behind (b.behind ++ (s ∷ []))) e
 
-pub again_last : (b : Book) (s i : ℕ) → Sound b → member s b.behind ≡ true → (step (step b (caught_up s i)).book (fall_behind s)).book.behind ≡ without s b.behind ++ (s ∷ [])
+pub again_last : (b : Book) (s i : ℕ) → SoundBook b → member s b.behind ≡ true → (step (step b (caught_up s i)).book (fall_behind s)).book.behind ≡ without s b.behind ++ (s ∷ [])
 again_last b s i sd e =
     let met = all_at (λ t. member t (sessions b.met) ≡ true) b.behind s sd.behind_met e in
     let up : Book = behind_now (met_now b (on_entry s (compared_with i) b.met)) (without s b.behind) in
     let one = step_met b (caught_up s i) sd (met, tt0) in
-    let sound : Sound up = subst (λ (x : Result). Sound x.book) one (step_sound b (caught_up s i) sd) in
+    let sound : SoundBook up = subst (λ (x : Result). SoundBook x.book) one (step_sound b (caught_up s i) sd) in
     let met₂ : member s (sessions up.met) ≡ true = ap (member s) (sessions_on_entry s (compared_with i) b.met (λ x. refl)) ∙ met in
     ap (λ (x : Result). (step x.book (fall_behind s)).book.behind) one ∙ ap (λ (x : Result). x.book.behind) (step_met up (fall_behind s) sound (met₂, tt0))
     ∙ ap (λ (t : Bool). cond t (without s b.behind) (without s b.behind ++ (s ∷ []))) (gone s b.behind)

@@ -2,11 +2,11 @@
 use Rattle.std.specs.Prelude.{◌≡◌, Bool, true, false, not, List, [], ◌∷◌, ◌++◌, ℕ, suc, min, ◌≤◌, ◌<◌, length, get_or}
 use Rattle.std.proofs.Math.Option.{Option, none, some}
 use Rattle.model_active.specs.CatchUp.{Entry, Book, Call, new_book, member, without, is, sessions, opens_of, is_open, met_that, falling, too_many, done, wait, picked, says, run, step, fall_behind, caught_up, next_to_catch_up, opening, all_compared}
-use Rattle.model_active.specs.Passes.{Sound, Told, all_joining, distinct, turns}
+use Rattle.model_active.specs.Passes.{SoundBook, Told, all_joining, distinct, turns}
 
 -- whatever calls are made: nobody twice among those met or behind, those behind are met, at most 256
 abbrev pub AlwaysSound : Type 0
-AlwaysSound = (cs : List Call) → Sound (run new_book cs)
+AlwaysSound = (cs : List Call) → SoundBook (run new_book cs)
 
 -- who was met keeps the place
 abbrev pub KeepsPlace : Type 0
@@ -59,12 +59,12 @@ pub record PassEnds (b : Book) (l : List ℕ) (i n : ℕ) : Type 0 where
 pub record Claims : Type 0 where
   pub always_sound : AlwaysSound
   pub keeps_place : KeepsPlace
-  pub full_exactly : (b : Book) (c : Call) → Sound b → FullExactly b c
-  pub falls_in_order : (b : Book) (s : ℕ) → Sound b → FallsInOrder b s
-  pub together_as_met : (b : Book) (p : Entry → Bool) → Sound b → TogetherAsMet b p
+  pub full_exactly : (b : Book) (c : Call) → SoundBook b → FullExactly b c
+  pub falls_in_order : (b : Book) (s : ℕ) → SoundBook b → FallsInOrder b s
+  pub together_as_met : (b : Book) (p : Entry → Bool) → SoundBook b → TogetherAsMet b p
   pub never_open : NeverOpen
   pub becomes_caught : BecomesCaught
   pub opening_waits : (b : Book) (s : ℕ) → OpeningWaits b s
-  pub tells_exactly : (b : Book) (l : List ℕ) (i : ℕ) → Sound b → length (distinct b (all_compared l i)) ≤ 256 → TellsExactly b l i
+  pub tells_exactly : (b : Book) (l : List ℕ) (i : ℕ) → SoundBook b → length (distinct b (all_compared l i)) ≤ 256 → TellsExactly b l i
   pub never_while_behind : NeverWhileBehind
-  pub pass_ends : (b : Book) (l : List ℕ) (i n : ℕ) → Sound b → length (distinct b (next_to_catch_up l i)) ≤ 256 → 256 ≤ n → PassEnds b l i n
+  pub pass_ends : (b : Book) (l : List ℕ) (i n : ℕ) → SoundBook b → length (distinct b (next_to_catch_up l i)) ≤ 256 → 256 ≤ n → PassEnds b l i n

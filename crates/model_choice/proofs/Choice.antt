@@ -9,13 +9,10 @@ use native.Mathlib.Omega.{arith}
 use lib.ListN.{length, get_elem?}
 use lib.Dec.{eqb, leb}
 use borrow.Author.Tests.{leb-true, leb-false, eqb-true, eq-eqb}
+use Rattle.std.proofs.lemmas.Bool.{and_parts}
 use Rattle.model_standby.specs.Store.{Place}
 use Rattle.model_standby.proofs.Places.{at_there}
 use Rattle.model_choice.specs.Choice.{StandbyCopy, is_checked_copy, highest, is_candidate, next_of, is_ahead, is_ahead_of_all, fits_rule, first_that_fits, chosen}
-
-pub both : (x y : Bool) → (x && y) ≡ true → (x ≡ true) × (y ≡ true)
-both true y h = (refl, h)
-both false y h = absurd (true≢false (sym h))
 
 no_copy : {c : StandbyCopy} → ◌≡◌ {A = Option StandbyCopy} none (some c) → ⊥
 no_copy e = let z : ◌≡◌ {A = ℕ} 0 1 = cc in omega arith
@@ -57,9 +54,9 @@ ahead : (mine theirs : List Place) (p : Place) (i : ℕ) → is_ahead mine their
 ahead mine [] p i h e = let z : ◌≡◌ {A = ℕ} 0 1 = cc in omega arith
 ahead mine (q ∷ theirs) p zero h e =
     let same : q ≡ p = cc in
-    let a = both (leb q.stored.session.next_out (next_of q.key mine)) (is_ahead mine theirs) h in
+    let a = and_parts (leb q.stored.session.next_out (next_of q.key mine)) (is_ahead mine theirs) h in
     leb-true p.stored.session.next_out (next_of p.key mine) (ap (λ (x : Place). leb x.stored.session.next_out (next_of x.key mine)) (sym same) ∙ a.0)
-ahead mine (q ∷ theirs) p (suc i) h e = ahead mine theirs p i (both (leb q.stored.session.next_out (next_of q.key mine)) (is_ahead mine theirs) h).1 e
+ahead mine (q ∷ theirs) p (suc i) h e = ahead mine theirs p i (and_parts (leb q.stored.session.next_out (next_of q.key mine)) (is_ahead mine theirs) h).1 e
 
 each : (top : ℕ) (mine : List Place) (ds : List StandbyCopy) (d : StandbyCopy) (j : ℕ) → is_ahead_of_all top mine ds ≡ true → get_elem? ds j ≡ some d → is_candidate top d ≡ true → is_ahead mine d.places ≡ true
 each top mine [] d j h e t = let z : ◌≡◌ {A = ℕ} 0 1 = cc in absurd (no z)
@@ -68,13 +65,13 @@ each top mine [] d j h e t = let z : ◌≡◌ {A = ℕ} 0 1 = cc in absurd (no 
     no z = omega arith
 each top mine (c ∷ ds) d zero h e t =
     let same : c ≡ d = cc in
-    let a = both (not (is_candidate top c) || is_ahead mine c.places) (is_ahead_of_all top mine ds) h in
+    let a = and_parts (not (is_candidate top c) || is_ahead mine c.places) (is_ahead_of_all top mine ds) h in
     left (is_candidate top d) (is_ahead mine d.places) t (ap (λ (x : StandbyCopy). not (is_candidate top x) || is_ahead mine x.places) (sym same) ∙ a.0)
   where
     left : (a b : Bool) → a ≡ true → (not a || b) ≡ true → b ≡ true
     left true b f g = g
     left false b f g = absurd (true≢false (sym f))
-each top mine (c ∷ ds) d (suc j) h e t = each top mine ds d j (both (not (is_candidate top c) || is_ahead mine c.places) (is_ahead_of_all top mine ds) h).1 e t
+each top mine (c ∷ ds) d (suc j) h e t = each top mine ds d j (and_parts (not (is_candidate top c) || is_ahead mine c.places) (is_ahead_of_all top mine ds) h).1 e t
 
 -- no checked copy has a higher epoch
 highest_so : (cs : List StandbyCopy) (d : StandbyCopy) (j : ℕ) → get_elem? cs j ≡ some d → is_checked_copy d ≡ true → d.epoch ≤ highest cs
@@ -101,8 +98,8 @@ pub record Takes (cs : List StandbyCopy) (i : ℕ) (c : StandbyCopy) : Type 0 wh
 pub takes : (cs : List StandbyCopy) (c : StandbyCopy) → get_elem? cs (chosen cs) ≡ some c → Takes cs (chosen cs) c
 unfolding chosen
 takes cs c e =
-    let f = both (is_candidate (highest cs) c) (is_ahead_of_all (highest cs) c.places cs) (taken cs cs c e) in
-    let g = both (is_checked_copy c) (eqb c.epoch (highest cs)) f.0 in
+    let f = and_parts (is_candidate (highest cs) c) (is_ahead_of_all (highest cs) c.places cs) (taken cs cs c e) in
+    let g = and_parts (is_checked_copy c) (eqb c.epoch (highest cs)) f.0 in
     let top : c.epoch ≡ highest cs = eqb-true c.epoch (highest cs) g.1 in
     record {
       checked = g.0;

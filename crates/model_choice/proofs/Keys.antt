@@ -9,13 +9,13 @@ use native.Mathlib.Omega.{arith}
 use lib.ListN.{get_elem?}
 use lib.Dec.{leb}
 use borrow.Author.Tests.{leb-true, le-leb}
+use Rattle.std.proofs.lemmas.Bool.{and_parts}
 use Rattle.model_frame.specs.Frame.{Key}
 use Rattle.model_standby.specs.Store.{Place, same_key, place_of, session_at, or_new}
 use Rattle.model_standby.specs.PlainCopy.{OwnKey, key_count, own_key}
 use Rattle.model_standby.proofs.Places.{key_sound, key_self}
 use Rattle.model_standby.proofs.Apart.{Apart}
 use Rattle.model_choice.specs.Choice.{next_of, is_ahead}
-use Rattle.model_choice.proofs.Choice.{both}
 
 abbrev next : Place → ℕ
 next p = p.stored.session.next_out
@@ -49,7 +49,7 @@ each_key mine [] h k = at_least_1 k mine
 each_key mine (p ∷ theirs) h k = go (same_key k p.key) refl (each_key mine theirs b.1 k)
   where
     b : (leb (next p) (next_of p.key mine) ≡ true) × (is_ahead mine theirs ≡ true)
-    b = both (leb (next p) (next_of p.key mine)) (is_ahead mine theirs) h
+    b = and_parts (leb (next p) (next_of p.key mine)) (is_ahead mine theirs) h
 
     go : (t : Bool) → same_key k p.key ≡ t → next_of k theirs ≤ next_of k mine → cond t (max (next p) (next_of k theirs)) (next_of k theirs) ≤ next_of k mine
     go true e ih =

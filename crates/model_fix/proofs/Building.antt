@@ -15,9 +15,9 @@ use Rattle.model_session.specs.Session.{Session, Msg, new_session, apply, apply_
 use Rattle.model_session.specs.Whole.{send_msg, skip_to, whole_batches}
 use Rattle.model_session.specs.Whole as whole
 use Rattle.model_session.proofs.Basics.{each_append, T→true, true→T, and_l, and_r}
-use Rattle.model_session.proofs.Sending.{whole_is_exact}
+use Rattle.model_session.proofs.Sending.{whole_is_exact, apply_all_append}
 use Rattle.model_session.proofs.Keeping.{new_holdable, apply_all_keeps}
-use Rattle.model_fix.specs.Field.{pieces_of, number_of, value_of, has_tag}
+use Rattle.model_fix.specs.Field.{pieces_of, number_in_digits, value_of, has_tag}
 use Rattle.model_fix.specs.Message.{tag10, tag34, tagged, is_sequence, one_sequence, fields_good, length_good, sum_good, Verdict, bad, good, judge, messages_of}
 use Rattle.model_fix.specs.Import.{Judged, fault, taken, onto_taken, judge_next, judge_all, judge_file, records_of, imported}
 use Rattle.model_fix.proofs.Cuts.{flat, cut_flat, pieces_joined, joined_append}
@@ -33,7 +33,7 @@ the_one (p ∷ q ∷ xs) e = absurd (false≢true e)
 good_number : {p q : ℕ} → good p ≡ good q → p ≡ q
 good_number e = cc
 
-bad_good : {n q : ℕ} → bad n ≡ good q → ⊥
+pub bad_good : {n q : ℕ} → bad n ≡ good q → ⊥
 bad_good e = let z : ◌≡◌ {A = ℕ} 0 1 = cc in omega arith
 
 pub record InRange (q : ℕ) : Type 0 where
@@ -46,7 +46,7 @@ judge_range ps q e = go (fields_good ps) refl (length_good ps && sum_good ps) re
   where
     go : (t : Bool) → fields_good ps ≡ t → (u : Bool) → (length_good ps && sum_good ps) ≡ u → InRange q
     go true f true l =
-        let n : ℕ = number_of (value_of (get_or (tagged tag34 ps) 0 [])) in
+        let n : ℕ = number_in_digits (value_of (get_or (tagged tag34 ps) 0 [])) in
         let is : n ≡ q = good_number (rw (f, l) at e) in
         let s : Sequence (value_of (get_or (tagged tag34 ps) 0 [])) = sequence (value_of (get_or (tagged tag34 ps) 0 [])) (the_one (tagged tag34 ps) (good_fields ps f).sequence) in
         record { low = omega (arith, s.low); high = omega (arith, s.high) }
@@ -65,7 +65,7 @@ pub record Splits (m : Msg) (j : Judged) (ms : List Msg) : Type 0 where
   pub behind : j ≡ taken rest
   pub first : ms ≡ m ∷ rest
 
-fault_taken : {n at : ℕ} {ms : List Msg} → fault n at ≡ taken ms → ⊥
+pub fault_taken : {n at : ℕ} {ms : List Msg} → fault n at ≡ taken ms → ⊥
 fault_taken e = let z : ◌≡◌ {A = ℕ} 0 1 = cc in omega arith
 
 taken_same : {ms ns : List Msg} → taken ms ≡ taken ns → ms ≡ ns
@@ -149,14 +149,10 @@ unfolding apply
 after_skip C M true n next m x a = record { stamp = a.stamp; next_out = refl; next_in = a.next_in; in_flight = a.in_flight; marks = a.marks }
 after_skip C M false n next m x a = record { stamp = a.stamp; next_out = refl; next_in = a.next_in; in_flight = a.in_flight; marks = a.marks }
 
-append_applied : (C M : ℕ) (x y : List Change) (s : Session) → apply_all C M (x ++ y) s ≡ apply_all C M y (apply_all C M x s)
-append_applied C M [] y s = refl
-append_applied C M (c ∷ x) y s = append_applied C M x y (apply C M c s)
-
 as_new : (C M next : ℕ) (ms : List Msg) (x : Session) → AsNew next x → AsNew (next_after next ms) (apply_all C M (records_of next ms) x)
 as_new C M next [] x a = a
 as_new C M next (m ∷ ms) x a =
-    rw (append_applied C M (send_msg next m) (records_of (suc m.num) ms) x)
+    rw (apply_all_append C M (send_msg next m) (records_of (suc m.num) ms) x)
     (as_new C M (suc m.num) ms (apply_all C M (send_msg next m) x) (after_skip C M (ltb next m.num) (m.num - 1) next m x a))
 
 -- next outgoing follows the last message (1 for an empty file); stamp, next incoming, in flight and marks are as new

@@ -1,4 +1,5 @@
 -- The laws of frames: what is written is read back, and what is read would be written so.
+pub mod Sendable
 pub mod Le
 pub mod Back
 pub mod RoundTrip

@@ -9,6 +9,8 @@ use native.Mathlib.Omega.{arith}
 use borrow.Author.Tests.{le-ltb, ne_eqb}
 use lib.ListN.{length, length-append}
 use lib.Seq.{take_at, drop_at}
+pub use Rattle.std.specs.Cmp.{first_so as and_left, second_so as and_right}
+use Rattle.model_frame.proofs.Sendable.{Sendable, NoZeroFlight}
 use Rattle.model_text.specs.Utf8.{utf8}
 use Rattle.model_text.specs.Printable.{is_marks, is_key}
 use Rattle.model_text.specs.Stamp.{takes_stamp}
@@ -16,19 +18,9 @@ use Rattle.model_frame.specs.Bytes.{le, bytes_of}
 use Rattle.model_frame.specs.Frame.{Key, Change, set_incoming, set_incoming_in_flight, set_in_flight, record_msg, record_bare, reset, set_created_at, set_marks, Part, commit, whole, last_whole, Reason, stale_epoch, diverged, lag_too_great, restarted, AppRecord, Summary, Frame, hello, welcome, bind, batch, ack, nack, bound, checked, got}
 use Rattle.model_frame.specs.Parse.{is_empty, ok, read_num, many, run_bytes, Each}
 use Rattle.model_frame.specs.Reading.{max_body, read_stamp, read_stamp_or_none, read_marks, set_incoming_fields, set_incoming_in_flight_fields, set_in_flight_fields, record_msg_fields, record_bare_fields, set_created_at_fields, set_marks_fields, read_change, read_changes, read_kinds, read_app_record, read_app_records, read_part, read_reason, read_key, flight, read_summary, hello_fields, welcome_fields, bind_fields, batch_fields, ack_fields, nack_fields, bound_fields, checked_fields, read_fields, read_body, decode}
-use Rattle.model_frame.specs.Writing.{blob_bytes, change_bytes, app_record_bytes, part_number, reason_number, flight_number, key_bytes, summary_bytes, body_bytes, encode, fine_change, all_fine, fine_key, fine_summary, fine, RangedChange, RangedRecord, RangedKey, RangedSummary, Ranged, Writable, no_zero, shown, NoZeroFlight, Sendable}
+use Rattle.model_frame.specs.Writing.{blob_bytes, change_bytes, app_record_bytes, part_number, reason_number, flight_number, key_bytes, summary_bytes, body_bytes, encode, fine_change, all_fine, fine_key, fine_summary, fine, RangedChange, RangedRecord, RangedKey, RangedSummary, Ranged, Writable, no_zero, shown}
 use Rattle.model_frame.proofs.Le.{length_bytes, le_bytes}
 use Rattle.model_frame.proofs.Back.{num_back, byte_back, blob_back, text_back, count_back, run_back, run_long}
-
--- both tests hold
-pub and_left : (a b : Bool) → (a && b) ≡ true → a ≡ true
-and_left true b e = refl
-and_left false b e = e
-
-pub and_right : (a b : Bool) → (a && b) ≡ true → b ≡ true
-and_right true b e = e
-and_right false true e = refl
-and_right false false e = e
 
 -- ---- the changes
 
@@ -138,7 +130,7 @@ flight_back : (o : Option ℕ) → flight (flight_number o) ≡ no_zero o
 flight_back none = refl
 flight_back (some f) = refl
 
--- a summary with an in_flight_lem number 0 shown as none
+-- a summary with an in-flight number 0 shown as none
 abbrev pub shown_summary : Summary → Summary
 shown_summary m =
     record {
@@ -201,7 +193,7 @@ decode_encode version f rest w =
 pub decode_alone : (version : ℕ) (f : Frame) → Writable version f → decode version (encode f) ≡ got (shown f) (length (encode f))
 decode_alone version f w = rw append-nil at (decode_encode version f [] w)
 
--- the one exception is a summary with an in_flight_lem number 0
+-- the one exception is a summary with an in-flight number 0
 flight_same : (o : Option ℕ) → (o ≡ some 0 → ⊥) → no_zero o ≡ o
 flight_same none h = refl
 flight_same (some f) h = rw (ne_eqb f 0 (λ e. h (ap some e)))

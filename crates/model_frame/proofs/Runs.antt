@@ -8,11 +8,12 @@ use native.Mathlib.Omega.{arith}
 use lib.Dec.{T}
 use lib.ListN.{length, drop, length-append}
 use lib.Seq.{drop_at, drop-drop}
+use Rattle.model_frame.proofs.Sendable.{Sendable}
 use Rattle.model_frame.specs.Bytes.{is_bytes}
 use Rattle.model_frame.specs.Frame.{Change, set_incoming, set_incoming_in_flight, set_in_flight, record_msg, record_bare, reset, set_created_at, set_marks}
 use Rattle.model_frame.specs.Parse.{Res, ok, bad, read_bytes, read_num, many, item_then, collect, run_bytes, Each}
 use Rattle.model_frame.specs.Reading.{read_change}
-use Rattle.model_frame.specs.Writing.{change_bytes, all_fine, RangedChange, Sendable}
+use Rattle.model_frame.specs.Writing.{change_bytes, all_fine, RangedChange}
 use Rattle.model_frame.specs.Sizes.{size_of, sizes}
 use Rattle.model_frame.proofs.RoundTrip.{change_back, changes_back, each_sendable}
 use Rattle.model_frame.proofs.SoundChange.{TakenChange, change_sound}

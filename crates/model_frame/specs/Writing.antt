@@ -171,7 +171,7 @@ abbrev pub write_answer : WriteOutcome → WriteAnswer
 write_answer (wrote bs) = took (length bs)
 write_answer (refused n) = write_refusal n
 
--- what reading gives back: an in_flight_lem number 0 in a summary becomes none, and nothing else is lost
+-- what reading gives back: an in-flight number 0 in a summary becomes none, and nothing else is lost
 abbrev pub no_zero : Option ℕ → Option ℕ
 no_zero none = none
 no_zero (some f) = flight f
@@ -194,17 +194,6 @@ shown (bound h m) =
       last_outgoing = m.last_outgoing;
     })
 shown (checked h e i) = checked h e i
-
--- for proofs: reading gives every other frame back as it was
-abbrev pub NoZeroFlight : Frame → Type 0
-NoZeroFlight (hello v e node ks) = Unit {0}
-NoZeroFlight (welcome e i) = Unit {0}
-NoZeroFlight (bind h e lag k) = Unit {0}
-NoZeroFlight (batch h e n p cs rs) = Unit {0}
-NoZeroFlight (ack h n) = Unit {0}
-NoZeroFlight (nack h r) = Unit {0}
-NoZeroFlight (bound h m) = m.in_flight ≡ some 0 → ⊥
-NoZeroFlight (checked h e i) = Unit {0}
 
 -- ---- for proofs: what a frame's texts and blobs are made of
 
@@ -236,7 +225,3 @@ ByteFrame (ack h n) = Unit {0}
 ByteFrame (nack h r) = Unit {0}
 ByteFrame (bound h m) = ByteSummary m
 ByteFrame (checked h e i) = Unit {0}
-
--- a change that a frame can carry: its numbers and lengths fit their fields, its text is one
-abbrev pub Sendable : ℕ → Change → Type 0
-Sendable version c = RangedChange c × (fine_change version c ≡ true)

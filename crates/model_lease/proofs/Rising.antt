@@ -8,13 +8,10 @@ use native.Mathlib.Omega.{arith}
 use native.Mathlib.Nat.{le_trans, le_refl}
 use lib.Dec.{eqb, leb, ltb}
 use borrow.Author.Tests.{ltb-true, ltb-false, leb-true, le-leb, le-ltb, ne_eqb, eqb-false, not-true}
+use Rattle.std.proofs.lemmas.Bool.{or_parts, and_parts}
 use Rattle.model_lease.specs.Lease.{top, Lease, Due, Outcome, renewed, failed, deposed, Attempt, end_from, made, is_due, at, end_after, loses, after, Asked, renewal, is_early}
 use Rattle.model_lease.specs.History.{LeaseCall, question, attempted, step, run, time_after, last_time}
 use Rattle.model_lease.proofs.History.{by_cases, asked_early, asked_taken, question_early, question_taken, attempt_early, attempt_taken}
-
-neither : (a b : Bool) → (a || b) ≡ false → (a ≡ false) × (b ≡ false)
-neither true b e = absurd (true≢false e)
-neither false b e = (refl, e)
 
 either : (P : Lease → Type 0) (b : Bool) (l m : Lease) → P l → P m → P (cond b l m)
 either P true l m p q = p
@@ -23,7 +20,7 @@ either P false l m p q = q
 -- an attempt that is taken: its times don't fall
 in_order : (last : ℕ) (a : Attempt) → is_early last a ≡ false → (last ≤ a.start) × (a.start ≤ a.now)
 in_order last a e =
-    let n = neither (ltb a.start last) (ltb a.now a.start) e in
+    let n = or_parts (ltb a.start last) (ltb a.now a.start) e in
     (ltb-false a.start last n.0, ltb-false a.now a.start n.1)
 
 -- ---- the end never falls, from the making on
@@ -142,14 +139,10 @@ success_keeps l start now e =
 pub half : (left d : ℕ) → (left ≤ d / 2 → left + left ≤ d) × (left + left ≤ d → left ≤ d / 2)
 half left d = (λ h. omega arith, λ h. omega arith)
 
-both_true : (a b : Bool) → (a && b) ≡ true → (a ≡ true) × (b ≡ true)
-both_true true b e = (refl, e)
-both_true false b e = absurd (true≢false (sym e))
-
 pub due_only : (l : Lease) (now : ℕ) → is_due l now ≡ true → Due l now
 due_only l now e =
-    let p = both_true (not l.lost) (not (eqb l.duration top) && leb (l.until - now) (l.duration / 2)) e in
-    let q = both_true (not (eqb l.duration top)) (leb (l.until - now) (l.duration / 2)) p.1 in
+    let p = and_parts (not l.lost) (not (eqb l.duration top) && leb (l.until - now) (l.duration / 2)) e in
+    let q = and_parts (not (eqb l.duration top)) (leb (l.until - now) (l.duration / 2)) p.1 in
     record {
       held = not-true l.lost p.0;
       ends = eqb-false l.duration top (not-true (eqb l.duration top) q.0);

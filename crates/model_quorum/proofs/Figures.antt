@@ -7,6 +7,7 @@ use Prim.Native.Nat.{ℕ, zero, suc, ◌<◌, ◌≤◌}
 use native.Mathlib.Omega.{arith}
 use lib.ListN.{length}
 use lib.Dec.{eqb}
+use Rattle.std.proofs.lemmas.Bool.{or_right}
 use Rattle.model_quorum.specs.History.{QuorumCall, bind, sent, ack, stale, is_bound, Figure, is_deposed, until_deposed, refusal_of, after, accepted}
 use Rattle.model_quorum.specs.Counts.{Count, kept, figure_of, shown}
 use Rattle.model_quorum.specs.Claim.{ShowsFigure}
@@ -21,10 +22,6 @@ deposed_on (bind g) past e = e
 deposed_on (sent g x) past e = e
 deposed_on (ack m g x) past e = e
 deposed_on (stale m) past e = refl
-
-or_right : (a b : Bool) → b ≡ true → (a || b) ≡ true
-or_right true b e = refl
-or_right false b e = e
 
 bound_on : (h : ℕ) (c : QuorumCall) (past : List QuorumCall) → is_bound h past ≡ true → is_bound h (c ∷ past) ≡ true
 bound_on h (bind g) past e = or_right (eqb h g) (is_bound h past) e

@@ -7,6 +7,7 @@ use native.Mathlib.Omega.{arith}
 use lib.ListN.{length}
 use lib.Dec.{eqb, leb, ltb}
 use borrow.Author.Tests.{eqb-true, eqb-false, eq-eqb, ne_eqb, leb-true, leb-false, le-leb, lt-leb}
+use Rattle.std.proofs.lemmas.Bool.{or_right, and_parts}
 use Rattle.model_quorum.specs.History.{QuorumCall, bind, sent, ack, stale, is_bound, last_sent, has_acked, acked_by, Figure, refusal_of, after, accepted}
 use Rattle.model_quorum.specs.Figures.{is_bind, highest_acked, is_lost, Left}
 
@@ -22,10 +23,6 @@ pub one_figure : {n k h x y : ℕ} {past : List QuorumCall} → Figure n k h pas
 one_figure f g = omega (arith, below f g, below g f)
 
 -- ---- it never falls between bindings
-
-or_right : (a b : Bool) → b ≡ true → (a || b) ≡ true
-or_right true b e = refl
-or_right false b e = e
 
 still : (h m x : ℕ) (c : QuorumCall) (past : List QuorumCall) → is_bind h c ≡ false → has_acked h m x past ≡ true → has_acked h m x (c ∷ past) ≡ true
 still h m x (bind g) past e t = rw e t
@@ -110,10 +107,6 @@ module _ (h x : ℕ) (past : List QuorumCall) where
 
 -- ---- it was sent since the binding
 
-and_both : (x y : Bool) → (x && y) ≡ true → (x ≡ true) × (y ≡ true)
-and_both true y h = (refl, h)
-and_both false y h = absurd (true≢false (sym h))
-
 module _ (n : ℕ) (h : ℕ) where
   -- every number acknowledged on a handle is at most the last sent
   abbrev Sent : List QuorumCall → Type 0
@@ -152,7 +145,7 @@ module _ (n : ℕ) (h : ℕ) where
       go : (a : Bool) → eqb h g ≡ a → (b c : Bool) → leb x y ≡ c → ((a && (b && c)) || has_acked h m x past) ≡ true → (d f i : Bool) → (leb 1 y && leb y (last_sent g past)) ≡ i → ◌≡◌ {A = ℕ} (cond d (cond f (cond i 0 38) 37) 37) 0 → x ≤ last_sent h past
       go true q true true r t true true true u z =
           let same : last_sent h past ≡ last_sent g past = ap (λ (i : ℕ). last_sent i past) (eqb-true h g q) in
-          omega (arith, leb-true x y r, leb-true y (last_sent g past) (and_both (leb 1 y) (leb y (last_sent g past)) u).1)
+          omega (arith, leb-true x y r, leb-true y (last_sent g past) (and_parts (leb 1 y) (leb y (last_sent g past)) u).1)
       go true q true true r t true true false u z = absurd (no z)
       go true q true true r t true false i u z = absurd (no' z)
       go true q true true r t false f i u z = absurd (no' z)

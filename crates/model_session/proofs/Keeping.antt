@@ -12,7 +12,7 @@ use Rattle.model_text.specs.Printable.{is_printable, is_marks}
 use Rattle.model_text.specs.Stamp.{is_stamp}
 use Rattle.model_frame.specs.Frame.{Change, set_incoming, set_incoming_in_flight, set_in_flight, record_msg, record_bare, reset, set_created_at, set_marks}
 use Rattle.model_frame.specs.Parse.{Each}
-use Rattle.model_session.specs.Session.{Session, Msg, new_session, stored_bytes, has_space_lem, evict, keep, apply, apply_all, fits, Rising, is_bytes, Holdable, is_stamp_or_none, Storable, top}
+use Rattle.model_session.specs.Session.{Session, Msg, new_session, stored_bytes, has_space, evict, keep, apply, apply_all, fits, Rising, is_bytes, Holdable, is_stamp_or_none, Storable, top}
 use Rattle.model_session.proofs.Basics.{T→true, true→T, and_l, and_r, cond_cases, leb_true}
 use Rattle.model_session.proofs.Sending.{total_append}
 use Rattle.model_session.proofs.Longest.{evict_space}
@@ -33,7 +33,7 @@ module _ (C M : ℕ) where
   evict_rises : (a N n : ℕ) (ms : List Msg) → Rising a N ms → Rising a N (evict C M n ms)
   evict_rises a N n [] r = r
   evict_rises a N n (m ∷ ms) r =
-      cond_cases (Rising a N) (has_space_lem C M n (m ∷ ms)) (λ _. r)
+      cond_cases (Rising a N) (has_space C M n (m ∷ ms)) (λ _. r)
       (λ _. rising_lower a (suc m.num) N (evict C M n ms) (omega (arith, r.0)) (evict_rises (suc m.num) N n ms r.3))
 
   record Kept (N : ℕ) (l : List Msg) : Type 0 where

@@ -4,17 +4,13 @@ use mathlib.Core.Path.{◌≡◌, refl, sym, ap, subst, ◌∙◌}
 use Prim.Native.Nat.{ℕ, suc, ◌+◌, ◌≤◌, ◌<◌}
 use native.Mathlib.Omega.{arith}
 use mathlib.Core.List.{List, [], ◌∷◌, ◌++◌, append_assoc, tail-eq_of_cons-eq}
-use mathlib.Core.Bool.{Bool, true, false, cond, ◌&&◌}
+use mathlib.Core.Bool.{Bool, true, false, cond, ◌&&◌, and-false}
 use lib.ListN.{length, drop, length-append}
 use lib.Seq.{drop_at}
 use lib.Dec.{T, leb, ltb, leb→le}
-use Rattle.model_session.specs.Session.{Msg, stored_bytes, has_space_lem, evict, keep}
+use Rattle.model_session.specs.Session.{Msg, stored_bytes, has_space, evict, keep}
 use Rattle.model_session.proofs.Basics.{true→T, true≢false, and_l, and_r, and_true, leb_true, ltb_true, cond-true, cond-false, leb_false}
 use Rattle.model_session.proofs.Sending.{total_append}
-
-and_false : (b : Bool) → (b && false) ≡ false
-and_false true = refl
-and_false false = refl
 
 module _ (C M : ℕ) where
   -- within C bytes and M messages
@@ -29,28 +25,28 @@ module _ (C M : ℕ) where
     pub within : Within kept
     pub longest : (older newer : List Msg) → older ++ newer ≡ all → Within newer → length newer ≤ length kept
 
-  no_space : (n : ℕ) (l : List Msg) → has_space_lem C M n l ≡ false → stored_bytes l + n ≤ C → suc (length l) ≤ M → ⊥
+  no_space : (n : ℕ) (l : List Msg) → has_space C M n l ≡ false → stored_bytes l + n ≤ C → suc (length l) ≤ M → ⊥
   no_space n l e h k = true≢false (sym (and_true (leb_true h) (leb_true k)) ∙ e)
 
-  has_space : (n : ℕ) (l : List Msg) → has_space_lem C M n l ≡ true → (stored_bytes l + n ≤ C) × (suc (length l) ≤ M)
-  has_space n l e =
-      let t : T (leb (stored_bytes l + n) C && leb (suc (length l)) M) = true→T (has_space_lem C M n l) e in
+  space_there : (n : ℕ) (l : List Msg) → has_space C M n l ≡ true → (stored_bytes l + n ≤ C) × (suc (length l) ≤ M)
+  space_there n l e =
+      let t : T (leb (stored_bytes l + n) C && leb (suc (length l)) M) = true→T (has_space C M n l) e in
       (leb→le (stored_bytes l + n) C (and_l (leb (stored_bytes l + n) C) (leb (suc (length l)) M) t), leb→le (suc (length l)) M (and_r (leb (stored_bytes l + n) C) (leb (suc (length l)) M) t))
 
   -- there is space for n bytes once the oldest have gone
   pub evict_space : (n : ℕ) (ms : List Msg) → n ≤ C → 0 < M → (stored_bytes (evict C M n ms) + n ≤ C) × (suc (length (evict C M n ms)) ≤ M)
   evict_space n [] hc hm = (omega arith, omega arith)
-  evict_space n (x ∷ ms) hc hm = go (has_space_lem C M n (x ∷ ms)) refl (evict_space n ms hc hm)
+  evict_space n (x ∷ ms) hc hm = go (has_space C M n (x ∷ ms)) refl (evict_space n ms hc hm)
     where
-      go : (b : Bool) → has_space_lem C M n (x ∷ ms) ≡ b → (stored_bytes (evict C M n ms) + n ≤ C) × (suc (length (evict C M n ms)) ≤ M)
+      go : (b : Bool) → has_space C M n (x ∷ ms) ≡ b → (stored_bytes (evict C M n ms) + n ≤ C) × (suc (length (evict C M n ms)) ≤ M)
           → (stored_bytes (cond b (x ∷ ms) (evict C M n ms)) + n ≤ C) × (suc (length (cond b (x ∷ ms) (evict C M n ms))) ≤ M)
-      go true e ih = has_space n (x ∷ ms) e
+      go true e ih = space_there n (x ∷ ms) e
       go false e ih = ih
 
   module _ (m : Msg) where
     evict_gone : (ms : List Msg) → (gone : List Msg) × (gone ++ evict C M (length m.text) ms ≡ ms)
     evict_gone [] = ([], refl)
-    evict_gone (x ∷ ms) = go (has_space_lem C M (length m.text) (x ∷ ms)) (evict_gone ms)
+    evict_gone (x ∷ ms) = go (has_space C M (length m.text) (x ∷ ms)) (evict_gone ms)
       where
         go : (b : Bool) → (gone : List Msg) × (gone ++ evict C M (length m.text) ms ≡ ms) → (gone : List Msg) × (gone ++ cond b (x ∷ ms) (evict C M (length m.text) ms) ≡ x ∷ ms)
         go true ih = ([], refl)
@@ -58,9 +54,9 @@ module _ (C M : ℕ) where
 
     evict_longest : (ms older newer : List Msg) → older ++ newer ≡ ms ++ (m ∷ []) → Within newer → length newer ≤ suc (length (evict C M (length m.text) ms))
     evict_longest [] older newer p w = omega (arith, length-append older newer, ap length p)
-    evict_longest (x ∷ ms) older newer p w = go (has_space_lem C M (length m.text) (x ∷ ms)) refl older p (evict_longest ms)
+    evict_longest (x ∷ ms) older newer p w = go (has_space C M (length m.text) (x ∷ ms)) refl older p (evict_longest ms)
       where
-        go : (b : Bool) → has_space_lem C M (length m.text) (x ∷ ms) ≡ b → (older : List Msg) → older ++ newer ≡ x ∷ (ms ++ (m ∷ []))
+        go : (b : Bool) → has_space C M (length m.text) (x ∷ ms) ≡ b → (older : List Msg) → older ++ newer ≡ x ∷ (ms ++ (m ∷ []))
             → ((older newer : List Msg) → older ++ newer ≡ ms ++ (m ∷ []) → Within newer → length newer ≤ suc (length (evict C M (length m.text) ms)))
             → length newer ≤ suc (length (cond b (x ∷ ms) (evict C M (length m.text) ms)))
         go true e older p ih = omega (arith, length-append older newer, ap length p, length-append ms (m ∷ []))
@@ -93,7 +89,7 @@ module _ (C M : ℕ) where
 
     pub keep_nothing : (ms : List Msg) → M ≡ 0 → keep C M m ms ≡ ms
     unfolding keep
-    keep_nothing ms h = cond-false _ _ (ap (λ (n : ℕ). leb (length m.text) C && ltb 0 n) h ∙ and_false (leb (length m.text) C))
+    keep_nothing ms h = cond-false _ _ (ap (λ (n : ℕ). leb (length m.text) C && ltb 0 n) h ∙ and-false (leb (length m.text) C))
 
   -- no other list is that
   pub longest_only : (all k l : List Msg) → LongestFit all k → LongestFit all l → k ≡ l

@@ -16,7 +16,7 @@ use Rattle.model_frame.specs.Parse.{Each}
 use Rattle.model_text.specs.Stamp.{is_stamp, longest_stamp}
 use Rattle.model_text.specs.Printable.{is_marks}
 use Rattle.model_text.proofs.Laws.{stamp_is, marks_is}
-use Rattle.model_session.specs.Session.{Session, Msg, stored_bytes, has_space_lem, evict, keep, apply, apply_all, fits, message_bytes, top, Rising, Holdable, is_stamp_or_none}
+use Rattle.model_session.specs.Session.{Session, Msg, stored_bytes, has_space, evict, keep, apply, apply_all, fits, message_bytes, top, Rising, Holdable, is_stamp_or_none}
 use Rattle.model_session.specs.Whole.{hold_length, all_changes, stamp_part, skip_to, send_msg, incoming_part, closing, batch_if, batches_from, whole_batches}
 use Rattle.model_session.proofs.Basics.{T→true, and_true, leb_true, ltb_true, eqb_true, cond-true, cond_cases, snoc_append}
 
@@ -55,12 +55,12 @@ module _ (limit : ℕ) (a : Session) where
 
 -- ---- (a) applied to any session they give exactly the session sent
 
-apply_all_append : (C M : ℕ) (x y : List Change) (s : Session) → apply_all C M (x ++ y) s ≡ apply_all C M y (apply_all C M x s)
+pub apply_all_append : (C M : ℕ) (x y : List Change) (s : Session) → apply_all C M (x ++ y) s ≡ apply_all C M y (apply_all C M x s)
 apply_all_append C M [] y s = refl
 apply_all_append C M (c ∷ x) y s = apply_all_append C M x y (apply C M c s)
 
 module _ (C M : ℕ) where
-  evict_none : (n : ℕ) (ms : List Msg) → has_space_lem C M n ms ≡ true → evict C M n ms ≡ ms
+  evict_none : (n : ℕ) (ms : List Msg) → has_space C M n ms ≡ true → evict C M n ms ≡ ms
   evict_none n [] h = refl
   evict_none n (m ∷ ms) h = ap (λ (b : Bool). cond b (m ∷ ms) (evict C M n ms)) h
 

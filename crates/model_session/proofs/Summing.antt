@@ -21,7 +21,7 @@ use Rattle.model_session.specs.Summary.{fnv_step, fnv, fnv_start, fnv_message, f
 use Rattle.model_session.proofs.Basics.{T→true, and_true, cond_cases}
 use Rattle.model_session.proofs.Writing.{Suits}
 
-step_small : (h b : ℕ) → fnv_step h b < 2 ^ 64
+pub step_small : (h b : ℕ) → fnv_step h b < 2 ^ 64
 unfolding fnv_step
 step_small h b = mod-lt (bit_xor h b * 0x100000001b3) (omega arith)
 

@@ -8,6 +8,7 @@ use mathlib.Core.Option.{Option, none, some}
 use mathlib.Core.Bool.{true, ◌||◌}
 use lib.ListN.{length}
 use lib.Dec.{T, ltb, leb→le}
+use Rattle.model_frame.proofs.Sendable.{Sendable}
 use Rattle.model_text.specs.Printable.{is_marks}
 use Rattle.model_text.specs.Stamp.{is_stamp, takes_stamp}
 use Rattle.model_text.proofs.Laws.{marks_is, takes_is}
@@ -16,7 +17,7 @@ use Rattle.model_frame.specs.Parse.{is_empty, Each}
 use Rattle.model_frame.specs.Reading.{max_body}
 use Rattle.model_frame.proofs.Sizes.{body_size_lem}
 use Rattle.model_frame.proofs.Runs.{sizes_append, count_sizes}
-use Rattle.model_frame.specs.Writing.{Sendable, all_fine, fine, RangedChange, Writable}
+use Rattle.model_frame.specs.Writing.{all_fine, fine, RangedChange, Writable}
 use Rattle.model_frame.specs.Sizes.{sizes}
 use Rattle.model_session.specs.Session.{Session, Msg, Holdable, Rising, is_stamp_or_none, small_flight, stored_bytes, top}
 use Rattle.model_session.specs.Whole.{all_changes, stamp_part, skip_to, send_msg, incoming_part, whole_batches, frames_of, whole_frames}

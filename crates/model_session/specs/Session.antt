@@ -37,13 +37,13 @@ stored_bytes (m ∷ ms) = length m.text + stored_bytes ms
 
 module _ (C M : ℕ) where
   -- one more message of n bytes fits
-  abbrev pub has_space_lem : ℕ → List Msg → Bool
-  has_space_lem n ms = leb (stored_bytes ms + n) C && leb (suc (length ms)) M
+  abbrev pub has_space : ℕ → List Msg → Bool
+  has_space n ms = leb (stored_bytes ms + n) C && leb (suc (length ms)) M
 
   -- the oldest go until it fits
   abbrev pub evict : ℕ → List Msg → List Msg
   evict n [] = []
-  evict n (m ∷ ms) = cond (has_space_lem n (m ∷ ms)) (m ∷ ms) (evict n ms)
+  evict n (m ∷ ms) = cond (has_space n (m ∷ ms)) (m ∷ ms) (evict n ms)
 
   -- a message longer than C, or any with M = 0, keeps its number only
   unfoldable pub keep : Msg → List Msg → List Msg
@@ -117,7 +117,7 @@ pub record Holdable (C M : ℕ) (s : Session) : Type 0 where
   pub msgs_bytes : stored_bytes s.messages ≤ C
   pub msgs_count : length s.messages ≤ M
 
--- a change whose incoming and in_flight_lem numbers, message bytes, stamp or marks the store can hold; of a Record's number nothing is asked here, as `fits`
+-- a change whose incoming and in-flight numbers, message bytes, stamp or marks the store can hold; of a Record's number nothing is asked here, as `fits`
 -- judges it
 abbrev pub Storable : Change → Type 0
 Storable (set_incoming n) = n ≤ top

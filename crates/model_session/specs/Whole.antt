@@ -23,7 +23,7 @@ skip_to next n = cond (ltb next n) (record_bare (n - 1) ∷ []) []
 abbrev pub send_msg : ℕ → Msg → List Change
 send_msg next m = skip_to next m.num ++ (record_msg m.num m.text ∷ [])
 
--- change 2 with an in_flight_lem number, else 1
+-- change 2 with an in-flight number, else 1
 abbrev pub incoming_part : ℕ → Option ℕ → Change
 incoming_part n none = set_incoming n
 incoming_part n (some f) = set_incoming_in_flight n f

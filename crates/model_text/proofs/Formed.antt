@@ -7,13 +7,8 @@ use native.Mathlib.Omega.{arith}
 use borrow.Author.Tests.{le-leb, lt-leb, leb-true}
 use lib.Dec.{leb}
 use lib.ListN.{length, drop}
+pub use Rattle.std.specs.Cmp.{first_so as and_l, second_so as and_r}
 use Rattle.model_text.specs.Utf8.{tails, joined_to, own_bits, is_tail, is_surrogate, is_scalar, fitting, least, well_formed, utf8_from}
-
-pub and_l : (a b : Bool) → (a && b) ≡ true → a ≡ true
-and_l a b e = ((and-eq-true_iff a b).0 e).0
-
-pub and_r : (a b : Bool) → (a && b) ≡ true → b ≡ true
-and_r a b e = ((and-eq-true_iff a b).0 e).1
 
 -- ---- a sequence's bytes are there
 

@@ -10,6 +10,7 @@ use lib.ListN.{get_or, get_elem?}
 use lib.Dec.{leb}
 use borrow.Author.Tests.{leb-true, leb-false, le-leb, lt-leb}
 use Rattle.std.specs.List.{list_any, list_all, range_with_len}
+use Rattle.std.proofs.lemmas.Bool.{and_parts}
 use Rattle.model_frame.specs.Frame.{Key}
 use Rattle.model_standby.specs.Store.{Place, same_key}
 use Rattle.model_standby.proofs.Places.{key_sound}
@@ -18,8 +19,7 @@ use Rattle.store_areas.specs.declared.Shape.{Shape}
 use Rattle.store_areas.specs.Areas.{place_at, places_of, count_up}
 use Rattle.store_areas.proofs.Lifting.{place_is}
 use Rattle.model_choice.specs.Choice.{next_of, is_ahead}
-use Rattle.model_choice.proofs.Choice.{both}
-use Rattle.model_choice.proofs.Keys.{counted, Numbered}
+use Rattle.model_choice.proofs.Keys.{counted, Numbered, at_least_1 as next_at_least_1}
 use Rattle.standby_ahead.specs.Ahead.{has_number}
 
 -- ---- every store's numbers are at least 1
@@ -55,7 +55,7 @@ another_key k n p e = go (leb n p.stored.session.next_out) e
 pub reached : (s : Shape) (w b : List ℕ) (k : Key) (n i : ℕ) {t : Bool} → i < get_or w 0 0 → t ≡ has_number k n (place_at s w b i) → t ≡ true → true ≡ leb n (next_of k (places_of s w b))
 reached s w b k n i less e h =
     let p = place_at s w b i in
-    let f = both (leb n p.stored.session.next_out) (same_key k p.key) (sym e ∙ h) in
+    let f = and_parts (leb n p.stored.session.next_out) (same_key k p.key) (sym e ∙ h) in
     let same : next_of p.key (places_of s w b) ≡ next_of k (places_of s w b) = ap (λ (j : Key). next_of j (places_of s w b)) (sym (key_sound k p.key f.1)) in
     sym (le-leb n (next_of k (places_of s w b)) (omega (arith, leb-true n p.stored.session.next_out f.0, counted (places_of s w b) i p (place_is s w b i less), same)))
 
@@ -69,22 +69,13 @@ passed k n p ps h = go (same_key k p.key) (leb n p.stored.session.next_out) (leb
     go true false true e f g = le-leb n (max p.stored.session.next_out (next_of k ps)) (omega (arith, leb-true n (next_of k ps) f)) ∙ sym f
     go true false false e f g = lt-leb n (max p.stored.session.next_out (next_of k ps)) (omega (arith, leb-false n p.stored.session.next_out e, leb-false n (next_of k ps) f)) ∙ sym f
 
--- a number of 1 is reached by every store, also one that lacks the session
-one_at_least : (k : Key) (ps : List Place) → 1 ≤ next_of k ps
-one_at_least k [] = omega arith
-one_at_least k (p ∷ ps) = go (same_key k p.key) (one_at_least k ps)
-  where
-    go : (t : Bool) → 1 ≤ next_of k ps → 1 ≤ cond t (max p.stored.session.next_out (next_of k ps)) (next_of k ps)
-    go true h = omega (arith, h)
-    go false h = h
-
 pub low_enough : (k : Key) (n : ℕ) (ps : List Place) → n ≤ 1 → true ≡ leb n (next_of k ps)
-low_enough k n ps h = sym (le-leb n (next_of k ps) (omega (arith, h, one_at_least k ps)))
+low_enough k n ps h = sym (le-leb n (next_of k ps) (omega (arith, h, next_at_least_1 k ps)))
 
 -- a place that has it, whatever comes after
 hit : (k : Key) (n : ℕ) (p : Place) (ps : List Place) → has_number k n p ≡ true → leb n (next_of k (p ∷ ps)) ≡ true
 hit k n p ps h =
-    let f = both (leb n p.stored.session.next_out) (same_key k p.key) h in
+    let f = and_parts (leb n p.stored.session.next_out) (same_key k p.key) h in
     ap (λ (t : Bool). leb n (cond t (max p.stored.session.next_out (next_of k ps)) (next_of k ps))) f.1
     ∙ le-leb n (max p.stored.session.next_out (next_of k ps)) (omega (arith, leb-true n p.stored.session.next_out f.0))
 

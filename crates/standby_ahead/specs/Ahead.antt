@@ -4,7 +4,7 @@ use Rattle.model_frame.specs.Frame.{Key}
 use Rattle.model_session.specs.Summary.{fnv, fnv_start}
 use Rattle.model_standby.specs.Store.{Place, same_key}
 use Rattle.store_areas.specs.declared.Shape.{Shape}
-use Rattle.store_areas.specs.Areas.{place_at}
+use Rattle.store_areas.specs.Areas.{place_at, used_of}
 
 -- a place with this key and at least the number n
 abbrev pub has_number : Key → ℕ → Place → Bool
@@ -16,7 +16,7 @@ print_of k = fnv (fnv (fnv (fnv fnv_start k.begin) k.sender) k.target) k.suffix
 
 -- those of the first 256 places in use
 pub record Prints (s : Shape) (w b prints : List ℕ) : Type 0 where
-  pub each : (i : ℕ) → i < get_or w 0 0 → i < 256 → get_or prints i 0 ≡ print_of (place_at s w b i).key
+  pub each : (i : ℕ) → i < used_of w → i < 256 → get_or prints i 0 ≡ print_of (place_at s w b i).key
 
 -- a place whose fingerprint is kept, and is another one
 abbrev pub Differs : List ℕ → ℕ → ℕ → Bool → Type 0

@@ -1,9 +1,9 @@
 // Whether one store is ahead of another: at least its next outgoing number in each session.
 #![tactic(auto)]
 
-ghost use Rattle.std.specs.Prelude.{◌≡◌, ◌<◌, get_or, leb};
-ghost use Rattle.store_place.specs.Keys.{key_of};
-ghost use Rattle.store_areas.specs.Areas.{place_at, places_of};
+ghost use Rattle.std.specs.Prelude.{◌≡◌, ◌<◌, leb};
+ghost use Rattle.store_place.specs.Keys.{lent_key};
+ghost use Rattle.store_areas.specs.Areas.{place_at, places_of, used_of};
 ghost use Rattle.model_choice.specs.Choice.{next_of, is_ahead};
 ghost use Rattle.standby_ahead.specs.Ahead.{has_number, print_of, Prints, Differs};
 
@@ -16,8 +16,8 @@ use store_place::Key;
 
 // The key of a place in use.
 fn key_at<'a>(view: &View<'a>, place: usize) -> Key<'a>
-    requires { place < get_or view.now.words.now 0 0 }
-    ensures { key_of result ≡ (place_at view.now.shape view.now.words.now view.now.bytes.now place).key }
+    requires { place < used_of view.now.words.now }
+    ensures { lent_key result ≡ (place_at view.now.shape view.now.words.now view.now.bytes.now place).key }
 {
     view.place(place).key()
 }
@@ -26,7 +26,7 @@ fn key_at<'a>(view: &View<'a>, place: usize) -> Key<'a>
 
 // The fingerprint of a key: FNV-1a over its texts.
 fn print_of(key: &Key) -> u64
-    ensures { result ≡ print_of (key_of key.now) }
+    ensures { result ≡ print_of (lent_key key.now) }
 {
     let a = fnv::bytes(fnv::START, key.begin);
     let b = fnv::bytes(a, key.sender);
@@ -59,8 +59,8 @@ impl Index<'_> {
 
 // Whether a place has this key and at least the number n.
 fn has_number(view: &View, place: usize, key: &Key, n: u64) -> bool
-    requires { place < get_or view.now.words.now 0 0 }
-    ensures { result ≡ has_number (key_of key.now) n (place_at view.now.shape view.now.words.now view.now.bytes.now place) }
+    requires { place < used_of view.now.words.now }
+    ensures { result ≡ has_number (lent_key key.now) n (place_at view.now.shape view.now.words.now view.now.bytes.now place) }
 {
     if store_sessions::next_outgoing(view, place) < n {
         return false;
@@ -71,17 +71,17 @@ fn has_number(view: &View, place: usize, key: &Key, n: u64) -> bool
 
 // The same, of a key with this fingerprint.
 fn found_at(mine: &Index, print: u64, place: usize, key: &Key, n: u64) -> bool
-    requires place_bound { place < get_or mine.now.view.words.now 0 0 }
-    requires print_value { print ≡ print_of (key_of key.now) }
-    ensures { result ≡ has_number (key_of key.now) n (place_at mine.now.view.shape mine.now.view.words.now mine.now.view.bytes.now place) }
+    requires place_bound { place < used_of mine.now.view.words.now }
+    requires print_value { print ≡ print_of (lent_key key.now) }
+    ensures { result ≡ has_number (lent_key key.now) n (place_at mine.now.view.shape mine.now.view.words.now mine.now.view.bytes.now place) }
 {
     mine.may_be(place, print) && has_number(&mine.view, place, key, n)
 }
 
 // Whether the number of a key's session is at least n; one that the store lacks counts as 1.
 fn search(mine: &Index, print: u64, key: &Key, n: u64) -> bool
-    requires { print ≡ print_of (key_of key.now) }
-    ensures { result ≡ leb n (next_of (key_of key.now) (places_of mine.now.view.shape mine.now.view.words.now mine.now.view.bytes.now)) }
+    requires { print ≡ print_of (lent_key key.now) }
+    ensures { result ≡ leb n (next_of (lent_key key.now) (places_of mine.now.view.shape mine.now.view.words.now mine.now.view.bytes.now)) }
 {
     let used = mine.view.words[areas_word::USED] as usize;
     (0..used).any(|place| found_at(mine, print, place, key, n)) || n <= 1
@@ -89,7 +89,7 @@ fn search(mine: &Index, print: u64, key: &Key, n: u64) -> bool
 
 // The same; every number is at least 1, and place `first` is tried before all others.
 fn reaches(mine: &Index, first: usize, key: &Key, n: u64) -> bool
-    ensures { result ≡ leb n (next_of (key_of key.now) (places_of mine.now.view.shape mine.now.view.words.now mine.now.view.bytes.now)) }
+    ensures { result ≡ leb n (next_of (lent_key key.now) (places_of mine.now.view.shape mine.now.view.words.now mine.now.view.bytes.now)) }
 {
     if n <= 1 {
         return true;
@@ -103,7 +103,7 @@ fn reaches(mine: &Index, first: usize, key: &Key, n: u64) -> bool
 
 // Whether the number of the session at a place of theirs is at most mine.
 fn is_ahead_at(mine: &Index, theirs: &View, place: usize) -> bool
-    requires { place < get_or theirs.now.words.now 0 0 }
+    requires { place < used_of theirs.now.words.now }
     ensures { result ≡ leb (place_at theirs.now.shape theirs.now.words.now theirs.now.bytes.now place).stored.session.next_out (next_of (place_at theirs.now.shape theirs.now.words.now theirs.now.bytes.now place).key (places_of mine.now.view.shape mine.now.view.words.now mine.now.view.bytes.now)) }
 {
     let key = key_at(theirs, place);

@@ -1,5 +1,5 @@
 -- What a Batch does on the handle that it names: 14 unbound, Nack Diverged for the number, else its part. Assumes nothing.
-use Rattle.std.specs.Prelude.{◌≡◌, Bool, true, false, cond, ◌&&◌, List, ℕ, suc, ◌<◌, ◌≤◌, length, get_or, take, eqb, ltb, IfSome}
+use Rattle.std.specs.Prelude.{◌≡◌, Bool, true, false, cond, ◌&&◌, List, ℕ, suc, ◌<◌, ◌≤◌, length, take, eqb, ltb, IfSome}
 use Rattle.std.specs.Prelude as prelude
 use Rattle.std.specs.Prelude.{Some, None}
 use Rattle.std.proofs.Math.Option.{Option, none, some}
@@ -10,9 +10,8 @@ use Rattle.frame_op.specs.Answers.{held_run}
 use Rattle.model_frame.specs.Frame as the_frame
 use Rattle.model_session.specs.Session.{top}
 use Rattle.standby_row.specs.declared.Bound.{Bound as BoundRecord}
-use Rattle.store_areas.specs.StoreWord
 use Rattle.store_areas.specs.declared.Shape.{Shape}
-use Rattle.store_areas.specs.Areas.{Rules}
+use Rattle.store_areas.specs.Areas.{Rules, used_of}
 use Rattle.standby_commit.specs.Settling.{StoreChange, stays, batch_change, StoreAfter}
 use Rattle.model_standby.specs.State.{Counters, Bound}
 use Rattle.model_standby.specs.Core.{core_handle}
@@ -27,7 +26,7 @@ follows_of h n = eqb n (suc h.commit_no.0) && ltb h.commit_no.0 top
 -- a record that was found: it is the handle's, names a place in use, and holds no more than its area has
 pub record Sound (handle : ℕ) (h : BoundRecord) (w area : List ℕ) : Type 0 where
   pub own : h.handle ≡ handle
-  pub place_used : h.place < get_or w StoreWord.used 0
+  pub place_used : h.place < used_of w
   pub held_within : h.held_len ≤ length area
 
 abbrev pub found_of : ℕ → Bool → BoundRecord → List ℕ → Option Bound

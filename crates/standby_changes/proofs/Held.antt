@@ -6,11 +6,12 @@ use native.Mathlib.Omega.{arith}
 use lib.Dec.{T}
 use lib.ListN.{length, take, drop, length-append, length-take}
 use lib.Seq.{take_at, take_all, take-take, length-take-le}
+use Rattle.model_frame.proofs.Sendable.{Sendable}
 use Rattle.model_frame.specs.Bytes.{is_bytes, write}
 use Rattle.model_frame.specs.Frame.{Change, Fault, set_incoming, set_incoming_in_flight, set_in_flight, record_msg, record_bare, reset, set_created_at, set_marks}
 use Rattle.model_frame.specs.Parse.{ok, bad, collect, run_bytes, Each}
 use Rattle.model_frame.specs.Reading.{read_change}
-use Rattle.model_frame.specs.Writing.{change_bytes, Sendable}
+use Rattle.model_frame.specs.Writing.{change_bytes}
 use Rattle.model_frame.specs.Sizes.{size_of, sizes}
 use Rattle.model_frame.proofs.Le.{bytes_take, bytes_drop}
 use Rattle.model_frame.proofs.Runs.{Stands, count_sizes, change_shorter, collect_run, collect_back, collect_sound, collect_enough}

@@ -15,7 +15,7 @@ use Rattle.frame_op.specs.declared.Op.{Op}
 use Rattle.frame_op.specs.contracts.OpPartialEq.TheImpl as op_eq
 use Rattle.standby_changes.specs.declared.changes.Changes.{Changes}
 use Rattle.standby_changes.specs.declared.changes.Ops.{Ops}
-use Rattle.standby_changes.specs.Steps.{IteratesOver, Steps}
+use Rattle.standby_changes.specs.Steps.{IteratesOver, StepsOps}
 use Rattle.standby_changes.proofs.Held.{held_bad, held_more}
 
 abbrev same : Op → Op → Bool
@@ -46,10 +46,10 @@ module _ (c : Changes) (s t : Ops) (w : IteratesOver c s) where
   abbrev run : List Change
   run = held_run c.protocol.version c.run.now
 
-  pub none_told : {r : Bool} (o : Option Op) → not r ≡ is_some o → Steps s o t → r ≡ is_empty run
+  pub none_told : {r : Bool} (o : Option Op) → not r ≡ is_some o → StepsOps s o t → r ≡ is_empty run
   none_told {r} (Some op) e g = other r false e ∙ sym (ap is_empty (held_more c.protocol.version c.run.now c.octets (begun c s w g.2)))
   none_told {r} None e g = other r true e ∙ sym (ap is_empty (held_bad c.protocol.version c.run.now (begun c s w g.2.1)))
 
-  pub reset_told : (o : Option Op) → Steps s o t → option_eq same o (Some Op.Reset) ≡ starts_with_reset run
+  pub reset_told : (o : Option Op) → StepsOps s o t → option_eq same o (Some Op.Reset) ≡ starts_with_reset run
   reset_told (Some op) g = reset_same s.reader.buf.now (held_run c.protocol.version (rest t.reader)) op ∙ sym (ap starts_with_reset (held_more c.protocol.version c.run.now c.octets (begun c s w g.2)))
   reset_told None g = sym (ap starts_with_reset (held_bad c.protocol.version c.run.now (begun c s w g.2.1)))

@@ -16,6 +16,6 @@ pub record IteratesOver (c : Changes) (s : Ops) : Type 0 where
   pub whole : rest s.reader ≡ c.run.now
 
 -- nothing where no change can be read, else the next one
-abbrev pub Steps : Ops → Option Op → Ops → Type 0
-Steps s r t = (t.protocol ≡ s.protocol) × (t.reader.buf.now ≡ s.reader.buf.now) × MatchOption r ((f : Fault) × (read_change s.protocol.version (rest s.reader) ≡ bad f))
+abbrev pub StepsOps : Ops → Option Op → Ops → Type 0
+StepsOps s r t = (t.protocol ≡ s.protocol) × (t.reader.buf.now ≡ s.reader.buf.now) × MatchOption r ((f : Fault) × (read_change s.protocol.version (rest s.reader) ≡ bad f))
     (λ op. read_change s.protocol.version (rest s.reader) ≡ ok (op_of s.reader.buf.now op) (rest t.reader))

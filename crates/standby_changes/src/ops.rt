@@ -2,7 +2,7 @@
 ghost use Rattle.std.specs.Prelude.{length};
 ghost use Rattle.std.specs.Iterator.{at_most};
 ghost use Rattle.frame_reader.specs.Answers.{rest};
-ghost use Rattle.standby_changes.specs.Steps.{Steps};
+ghost use Rattle.standby_changes.specs.Steps.{StepsOps};
 
 use crate::changes::Ops;
 use frame_op::Op;
@@ -10,7 +10,7 @@ use frame_op::Op;
 impl Iterator for Ops<'_> {
     type Item = Op;
 
-    ghost next_gives = { Steps };
+    ghost next_gives = { StepsOps };
 
     ghost remaining = { λ s. at_most (length (rest s.reader)) };
 

@@ -8,6 +8,7 @@ use lib.Dec.{eqb, ltb}
 use borrow.Author.Tests.{eq-eqb, ne_eqb, ltb-true, ltb-false}
 use Rattle.std.specs.Prelude.{Option, None, Some, ok_or, Result, Err}
 use Rattle.std.specs.List.{fold, list_all, position_or_len}
+use Rattle.std.proofs.lemmas.Bool.{and_parts}
 use Rattle.base_refusals.specs.declared.Refusal.{Refusal}
 use lib.ListN.{length, get_or}
 use Rattle.base_flags.specs.Flag.{is_set}
@@ -15,7 +16,7 @@ use Rattle.model_standby.specs.Store.{Place}
 use Rattle.store_areas.specs.Areas.{allowed, Rules, places_of}
 use Rattle.store_areas.proofs.Ruling.{rules_of}
 use Rattle.model_choice.specs.Choice.{is_candidate, is_ahead, is_ahead_of_all, highest, first_that_fits, chosen}
-use Rattle.standby_choice.specs.declared.Copy.{Copy}
+use Rattle.standby_choice.specs.declared.CopyState.{CopyState}
 use Rattle.standby_choice.specs.declared.lent.LentCopy.{LentCopy}
 use Rattle.standby_choice.specs.Choice.{copy_of, is_sound, RulesIf, raised_by, copies_of, are_sound, Kept, fits_at, choice_of}
 
@@ -24,7 +25,7 @@ and_left true b c h = refl
 and_left false b c h = absurd (true≢false (sym h))
 
 -- a candidate is listed, and its store keeps the rules
-pub candidate_rules : (c : Copy) (w b : List ℕ) (top : ℕ) {t : Bool} → RulesIf c w b → t ≡ ((is_set c.listed && is_set c.checked) && eqb c.epoch.0 top) → t ≡ true → Rules c.shape w b
+pub candidate_rules : (c : CopyState) (w b : List ℕ) (top : ℕ) {t : Bool} → RulesIf c w b → t ≡ ((is_set c.listed && is_set c.checked) && eqb c.epoch.0 top) → t ≡ true → Rules c.shape w b
 candidate_rules c w b top r e t = r (and_left (is_set c.listed) (is_set c.checked) (eqb c.epoch.0 top) (sym e ∙ t))
 
 pub no_candidate : {a r : Bool} (b : Bool) → r ≡ a → r ≡ false → false ≡ (a && b)
@@ -105,17 +106,13 @@ module _ (all : List LentCopy) where
 
 -- ---- the answer
 
-rules_if : (c : Copy) (w b : List ℕ) → is_sound c w b ≡ true → RulesIf c w b
+rules_if : (c : CopyState) (w b : List ℕ) → is_sound c w b ≡ true → RulesIf c w b
 rules_if c w b h t = rules_of c.shape w b (sym (ap (λ (x : Bool). not x || allowed c.shape w b) t) ∙ h)
-
-both : (a b : Bool) → (a && b) ≡ true → (a ≡ true) × (b ≡ true)
-both true b h = (refl, h)
-both false b h = absurd (true≢false (sym h))
 
 all_kept : (cs : List LentCopy) → are_sound cs ≡ true → Kept cs
 all_kept [] h = tt
 all_kept (c ∷ cs) h =
-    let q = both (is_sound c.copy c.words.now c.bytes.now) (are_sound cs) h in
+    let q = and_parts (is_sound c.copy c.words.now c.bytes.now) (are_sound cs) h in
     (rules_if c.copy c.words.now c.bytes.now q.0, all_kept cs q.1)
 
 module _ (cs : List LentCopy) {r : Bool} (e : r ≡ are_sound cs) where

@@ -5,21 +5,21 @@ use Rattle.base_flags.specs.Flag.{is_set}
 use Rattle.store_areas.specs.Areas.{Rules, allowed, places_of}
 use Rattle.model_choice.specs.Choice as the-model
 use Rattle.model_choice.specs.Choice.{chosen}
-use Rattle.standby_choice.specs.declared.Copy.{Copy}
+use Rattle.standby_choice.specs.declared.CopyState.{CopyState}
 use Rattle.standby_choice.specs.declared.lent.LentCopy.{LentCopy}
 use Rattle.base_refusals.specs.declared.Refusal.{Refusal}
 
 -- ---- one copy and its store's two areas
 
-abbrev pub copy_of : Copy → List ℕ → List ℕ → the-model.StandbyCopy
+abbrev pub copy_of : CopyState → List ℕ → List ℕ → the-model.StandbyCopy
 copy_of c w b = record { is_listed = is_set c.listed; epoch = c.epoch.0; is_checked = is_set c.checked; places = places_of c.shape w b }
 
 -- what isn't listed isn't looked at
-abbrev pub is_sound : Copy → List ℕ → List ℕ → Bool
+abbrev pub is_sound : CopyState → List ℕ → List ℕ → Bool
 is_sound c w b = not (is_set c.listed) || allowed c.shape w b
 
 -- the areas keep the rules, if the copy is listed
-abbrev pub RulesIf : Copy → List ℕ → List ℕ → Type 0
+abbrev pub RulesIf : CopyState → List ℕ → List ℕ → Type 0
 RulesIf c w b = is_set c.listed ≡ true → Rules c.shape w b
 
 -- the higher of an epoch and a checked copy's

@@ -17,7 +17,7 @@ use store_areas::{Shape, View};
 
 // A copy: whether it is listed, its counters' epoch and checked flag, its store's shape. A flag is set if it is not 0.
 #[derive(Clone, Copy)]
-pub struct Copy {
+pub struct CopyState {
     // The two flags are bytes of any value: a `bool` would ask more of a caller.
     pub listed: u8,
     pub checked: u8,
@@ -27,7 +27,7 @@ pub struct Copy {
 
 // ---- candidates
 
-impl Copy {
+impl CopyState {
     fn is_checked(&self) -> bool
         ensures { result ≡ (is_set self.now.listed && is_set self.now.checked) }
     {
@@ -35,10 +35,10 @@ impl Copy {
     }
 
     // Whether it is checked and of the epoch `top`.
-    fn is_candidate(&self, top: u64) -> bool
-        ensures { result ≡ ((is_set self.now.listed && is_set self.now.checked) && eqb self.now.epoch.0 top) }
+    fn is_candidate(&self, top: Epoch) -> bool
+        ensures { result ≡ ((is_set self.now.listed && is_set self.now.checked) && eqb self.now.epoch.0 top.0) }
     {
-        self.is_checked() & (self.epoch.0 == top)
+        self.is_checked() & (self.epoch.0 == top.0)
     }
 }
 
@@ -54,18 +54,18 @@ fn raised(top: u64, c: &LentCopy) -> u64
 }
 
 // The highest epoch found on a checked copy.
-fn highest(copies: &[LentCopy]) -> u64
-    ensures { result ≡ fold raised_by 0 copies.now }
+fn highest(copies: &[LentCopy]) -> Epoch
+    ensures { result.0 ≡ fold raised_by 0 copies.now }
 {
-    copies.iter().fold(0, raised)
+    Epoch(copies.iter().fold(0, raised))
 }
 
 // ---- one copy against all: that their stores keep the rules is asked of the slice, since a struct that says it would need a second array
 
 // Ahead of a copy, if that is a candidate.
-fn is_ahead_if(mine: &View, c: &LentCopy, top: u64) -> bool
+fn is_ahead_if(mine: &View, c: &LentCopy, top: Epoch) -> bool
     requires { RulesIf c.now.copy c.now.words.now c.now.bytes.now }
-    ensures { result ≡ (not (is_candidate top (copy_of c.now.copy c.now.words.now c.now.bytes.now)) || is_ahead (places_of mine.now.shape mine.now.words.now mine.now.bytes.now) (places_of c.now.copy.shape c.now.words.now c.now.bytes.now)) }
+    ensures { result ≡ (not (is_candidate top.0 (copy_of c.now.copy c.now.words.now c.now.bytes.now)) || is_ahead (places_of mine.now.shape mine.now.words.now mine.now.bytes.now) (places_of c.now.copy.shape c.now.words.now c.now.bytes.now)) }
 {
     if !c.copy.is_candidate(top) {
         return true;
@@ -79,18 +79,18 @@ fn is_ahead_if(mine: &View, c: &LentCopy, top: u64) -> bool
 }
 
 // Ahead of every candidate.
-fn is_ahead_of_all(mine: &View, copies: &[LentCopy], top: u64) -> bool
+fn is_ahead_of_all(mine: &View, copies: &[LentCopy], top: Epoch) -> bool
     requires { Kept copies.now }
-    ensures { result ≡ is_ahead_of_all top (places_of mine.now.shape mine.now.words.now mine.now.bytes.now) (copies_of copies.now) }
+    ensures { result ≡ is_ahead_of_all top.0 (places_of mine.now.shape mine.now.words.now mine.now.bytes.now) (copies_of copies.now) }
 {
     copies.iter().all(|c| is_ahead_if(mine, c, top))
 }
 
 // Whether a copy fits: a candidate that is ahead of every candidate.
-fn is_fit(c: &LentCopy, copies: &[LentCopy], top: u64) -> bool
+fn is_fit(c: &LentCopy, copies: &[LentCopy], top: Epoch) -> bool
     requires rules_if { RulesIf c.now.copy c.now.words.now c.now.bytes.now }
     requires kept { Kept copies.now }
-    ensures { result ≡ (is_candidate top (copy_of c.now.copy c.now.words.now c.now.bytes.now) && is_ahead_of_all top (places_of c.now.copy.shape c.now.words.now c.now.bytes.now) (copies_of copies.now)) }
+    ensures { result ≡ (is_candidate top.0 (copy_of c.now.copy c.now.words.now c.now.bytes.now) && is_ahead_of_all top.0 (places_of c.now.copy.shape c.now.words.now c.now.bytes.now) (copies_of copies.now)) }
 {
     if !c.copy.is_candidate(top) {
         return false;

@@ -1,12 +1,12 @@
 -- What a frame may change in the store, and what a Commit or LastWhole does at its session's place. Assumes nothing.
-use Rattle.std.specs.Prelude.{◌≡◌, Bool, cond, not, ◌&&◌, List, [], ◌∷◌, ◌++◌, ℕ, ◌+◌, ◌*◌, get_or, set}
+use Rattle.std.specs.Prelude.{◌≡◌, Bool, cond, not, ◌&&◌, List, [], ◌∷◌, ◌++◌, ℕ, ◌+◌, ◌*◌, set}
 use Rattle.model_frame.specs.Frame.{Change, Part, commit, whole, last_whole}
 use Rattle.model_session.specs.Session.{fits}
 use Rattle.model_standby.specs.Store.{on_place, changed}
 use Rattle.store_place.specs.Only.{Only}
 use Rattle.store_areas.specs.StoreWord
 use Rattle.store_areas.specs.declared.Shape.{Shape}
-use Rattle.store_areas.specs.Areas.{place_words, place_bytes, words_at, bytes_at, Rules, place_at, places_of}
+use Rattle.store_areas.specs.Areas.{place_words, place_bytes, words_at, bytes_at, Rules, place_at, places_of, used_of}
 use Rattle.standby_pending.specs.Pending.{count_of, handle_count, pending_of}
 
 -- ---- what a frame changes, commits that are due apart
@@ -31,7 +31,7 @@ batch_change h i last_whole taken = cond taken (commits h i) stays
 
 -- one place more is in use
 abbrev pub opened_words : List ℕ → List ℕ
-opened_words w = set w StoreWord.used (get_or w StoreWord.used 0 + 1)
+opened_words w = set w StoreWord.used (used_of w + 1)
 
 -- one commit more is pending: the slot behind those that pend has it, and it is counted
 abbrev pub pended_words : ℕ → ℕ → List ℕ → List ℕ

@@ -1,18 +1,19 @@
 // The end of a Commit or LastWhole (standby.rs, on_batch): outgoing numbers are checked before anything is applied.
 #![tactic(auto)]
 
-ghost use Rattle.std.specs.Prelude.{◌<◌, get_or};
+ghost use Rattle.std.specs.Prelude.{◌<◌};
 ghost use Rattle.frame_op.specs.Answers.{held_run};
 ghost use Rattle.store_areas.specs.Same.{SameAreas};
 ghost use Rattle.standby_pending.specs.Pending.{count_of};
 ghost use Rattle.standby_commit.specs.Settling.{Settles};
+ghost use Rattle.store_areas.specs.Areas.{used_of};
 
 use standby_changes::Changes;
 use store_areas::Store;
 
 // Applies a run of changes to the session at place i, and leaves a commit pending, if its outgoing numbers follow on.
 pub fn commit_changes(changes: &Changes, store: &mut Store, place: usize, handle: u32) -> bool
-    requires place_bound { place < get_or store.old.words.now 0 0 }
+    requires place_bound { place < used_of store.old.words.now }
     requires words_bound { count_of store.old.words.now < 64 }
     ensures is { Settles store.old.shape place handle (held_run changes.now.protocol.version changes.now.run.now) store.old.words.now store.new.words.now store.old.bytes.now store.new.bytes.now result }
     ensures same { SameAreas store.old store.new }

@@ -20,7 +20,7 @@ use Rattle.model_frame.proofs.Le.{are_bytes, bytes_take}
 use Rattle.standby_changes.specs.Held.{TakesAll}
 use Rattle.standby_changes.proofs.Held.{held_sizes}
 use Rattle.standby_hold.specs.declared.HoldError.{HoldError}
-use Rattle.standby_hold.specs.Holding.{sum_of, refusal_of, HoldIs}
+use Rattle.standby_hold.specs.Holding.{sum_of, hold_refusal_for, HoldIs}
 
 positive : (c : Change) → 0 < size_of c
 positive (set_incoming n) = omega arith
@@ -71,7 +71,7 @@ module _ (version : ℕ) (run area : List ℕ) (len sum : ℕ) {used before more
   pub no_reset : lacks ≡ true → HoldIs version run area len sum area (Err (record { why = HoldError.NoReset; held = record { used = used; sum = s } }))
   no_reset h = record { refusal = sym (ap (λ (x : Bool). cond x 16 (cond (ltb max_whole (sum_of H sum cs)) 17 (cond (ltb (length area) (sizes H + sizes cs)) 18 0))) (sym lacking ∙ h)); summed = total; ends = u; written = refl }
 
-  past_16 : lacks ≡ false → refusal_of H sum cs (length area) ≡ cond (ltb max_whole s) 17 (cond (ltb (length area) (sizes H + sizes cs)) 18 0)
+  past_16 : lacks ≡ false → hold_refusal_for H sum cs (length area) ≡ cond (ltb max_whole s) 17 (cond (ltb (length area) (sizes H + sizes cs)) 18 0)
   past_16 h =
       ap (λ (x : Bool). cond x 16 (cond (ltb max_whole (sum_of H sum cs)) 17 (cond (ltb (length area) (sizes H + sizes cs)) 18 0))) (sym lacking ∙ h)
       ∙ ap (λ (k : ℕ). cond (ltb max_whole k) 17 (cond (ltb (length area) (sizes H + sizes cs)) 18 0)) (sym total)
@@ -79,7 +79,7 @@ module _ (version : ℕ) (run area : List ℕ) (len sum : ℕ) {used before more
   pub too_much : lacks ≡ false → 4294967296 < s → HoldIs version run area len sum area (Err (record { why = HoldError.TooManyBytes; held = record { used = used; sum = s } }))
   too_much h g = record { refusal = sym (past_16 h ∙ ap (λ (x : Bool). cond x 17 (cond (ltb (length area) (sizes H + sizes cs)) 18 0)) (lt-ltb max_whole s g)); summed = total; ends = u; written = refl }
 
-  past_17 : lacks ≡ false → s ≤ 4294967296 → refusal_of H sum cs (length area) ≡ cond (ltb (length area) (used + length run)) 18 0
+  past_17 : lacks ≡ false → s ≤ 4294967296 → hold_refusal_for H sum cs (length area) ≡ cond (ltb (length area) (used + length run)) 18 0
   past_17 h g =
       past_16 h ∙ ap (λ (x : Bool). cond x 17 (cond (ltb (length area) (sizes H + sizes cs)) 18 0)) (le-ltb max_whole s g)
       ∙ ap (λ (k : ℕ). cond (ltb (length area) (k + sizes cs)) 18 0) (sym u) ∙ ap (λ (k : ℕ). cond (ltb (length area) (used + k)) 18 0) (sym size)

@@ -13,7 +13,7 @@ use standby_counters::Replica;
 
 // How many bytes of the area are held, and their messages' byte sum.
 #[derive(Clone, Copy, Debug, PartialEq, Eq)]
-pub struct Held {
+pub struct HeldBytes {
     pub used: usize,
     pub sum: u64,
 }
@@ -34,7 +34,7 @@ pub enum HoldError {
 #[derive(Clone, Copy, Debug, PartialEq, Eq)]
 pub struct NotHeld {
     pub why: HoldError,
-    pub held: Held,
+    pub held: HeldBytes,
 }
 
 // The byte sum of what is held: with nothing held it counts as 0.
@@ -60,7 +60,7 @@ fn held_length(protocol: Protocol, area: &[u8]) -> usize
 }
 
 // Writes a run of changes after those held in the first bytes of the area, whose number and messages' byte sum are given.
-pub fn hold(all: &AllChanges, area: &mut [u8], held: Held) -> Result<Held, NotHeld>
+pub fn hold(all: &AllChanges, area: &mut [u8], held: HeldBytes) -> Result<HeldBytes, NotHeld>
     requires { held.used ≤ length area.old }
     ensures { HoldIs all.now.changes.protocol.version all.now.changes.run.now area.old held.used held.sum area.new result }
 {
@@ -68,7 +68,7 @@ pub fn hold(all: &AllChanges, area: &mut [u8], held: Held) -> Result<Held, NotHe
     let used = held_length(changes.protocol, &area[0..held.used]);
     let sum = counted(used, held.sum).saturating_add(changes.message_bytes());
     let end = used + changes.run.len();
-    let held = Held { used, sum };
+    let held = HeldBytes { used, sum };
     if lacks_reset(changes, used) {
         return Err(NotHeld {
             why: HoldError::NoReset,
@@ -88,5 +88,5 @@ pub fn hold(all: &AllChanges, area: &mut [u8], held: Held) -> Result<Held, NotHe
         });
     }
     base_bytes::copy(changes.run, area, used);
-    Ok(Held { used: end, sum })
+    Ok(HeldBytes { used: end, sum })
 }

@@ -24,7 +24,7 @@ use Rattle.standby_row.specs.declared.Bound.{Bound}
 use Rattle.store_areas.specs.declared.Shape.{Shape}
 use Rattle.store_areas.specs.Areas.{Rules}
 use Rattle.standby_commit.proofs.Laws.{none_changed}
-use Rattle.standby_hold.specs.declared.Held.{Held}
+use Rattle.standby_hold.specs.declared.HeldBytes.{HeldBytes}
 use Rattle.standby_hold.specs.declared.HoldError.{HoldError}
 use Rattle.standby_hold.specs.declared.NotHeld.{NotHeld}
 use Rattle.standby_hold.specs.Holding.{sum_of, hold_refusal, HoldIs}
@@ -74,7 +74,7 @@ other k y go false false true n m = refl
 other k y go false false false n m = absurd (n refl)
 
 module _ (version : ℕ) (h : Bound) (n : CommitNumber) (run area : List ℕ) (s : Shape) (w b : List ℕ) (c : Counters) (incarnation lag : ℕ) (go : CoreResult)
-    {area' : List ℕ} {r : Result Held NotHeld} (g : HoldIs version run area h.held_len h.held_bytes area' r) where
+    {area' : List ℕ} {r : Result HeldBytes NotHeld} (g : HoldIs version run area h.held_len h.held_bytes area' r) where
   abbrev L : Settings
   L = settings_for s (length area) incarnation lag
 
@@ -130,7 +130,7 @@ module _ (version : ℕ) (h : Bound) (n : CommitNumber) (run area : List ℕ) (s
   Is d = PartIs version s h n.0 part (held_run version run) w w b b area area' d
 
   -- what was held stays so, and is counted
-  sum_kept : (x : Held) → HoldIs version run area h.held_len h.held_bytes area' (Err (record { why = HoldError.TooManyBytes; held = x })) → Is (not_held h x HoldError.TooManyBytes)
+  sum_kept : (x : HeldBytes) → HoldIs version run area h.held_len h.held_bytes area' (Err (record { why = HoldError.TooManyBytes; held = x })) → Is (not_held h x HoldError.TooManyBytes)
   sum_kept x g = record {
     is = λ c incarnation lag.
         (λ j. record {
@@ -148,7 +148,7 @@ module _ (version : ℕ) (h : Bound) (n : CommitNumber) (run area : List ℕ) (s
       front = (λ j. held_run version (take (g.ends j) (g.written j))) ∙ held_in version area h.held_len (are_bytes area known)
 
   -- the two that change nothing
-  turned_down : (e : Refusal) (r : Result Held NotHeld) → HoldIs version run area h.held_len h.held_bytes area' r → hold_refusal r ≡ number_of e → (number_of e ≡ 0 → ⊥) → (number_of e ≡ 17 → ⊥) → Is (PartResult.Refused e)
+  turned_down : (e : Refusal) (r : Result HeldBytes NotHeld) → HoldIs version run area h.held_len h.held_bytes area' r → hold_refusal r ≡ number_of e → (number_of e ≡ 0 → ⊥) → (number_of e ≡ 17 → ⊥) → Is (PartResult.Refused e)
   turned_down e r g is zero seventeen = record {
     is = λ c incarnation lag.
         sym (on c incarnation lag
@@ -159,7 +159,7 @@ module _ (version : ℕ) (h : Bound) (n : CommitNumber) (run area : List ℕ) (s
     slot = tt;
   }
 
-  pub not_held_is : (x : Held) (e : HoldError) → HoldIs version run area h.held_len h.held_bytes area' (Err (record { why = e; held = x })) → Is (not_held h x e)
+  pub not_held_is : (x : HeldBytes) (e : HoldError) → HoldIs version run area h.held_len h.held_bytes area' (Err (record { why = e; held = x })) → Is (not_held h x e)
   not_held_is x HoldError.NoReset g = turned_down Refusal.NoReset _ g refl (eqb-false 16 0 refl) (eqb-false 16 17 refl)
   not_held_is x HoldError.TooManyBytes g = sum_kept x g
   not_held_is x HoldError.AreaFull g = turned_down Refusal.HoldAreaFull _ g refl (eqb-false 18 0 refl) (eqb-false 18 17 refl)
@@ -182,7 +182,7 @@ module _ (version : ℕ) (h : Bound) (n : CommitNumber) (run area : List ℕ) wh
   last_on s w b c incarnation lag = refl
 
   module _ (known : (i : ℕ) → get_or area i 0 < 256) (hr : T (is_bytes run)) (len : h.held_len ≤ length area) (all : TakesAll version run)
-      {area' : List ℕ} (x : Held) (g : HoldIs version run area h.held_len h.held_bytes area' (Ok x)) where
+      {area' : List ℕ} (x : HeldBytes) (g : HoldIs version run area h.held_len h.held_bytes area' (Ok x)) where
     within_area : sizes K + length run ≤ length area
     within_area =
         let room : ltb (length area) (sizes K + sizes (held_run version run)) ≡ false =

@@ -11,7 +11,7 @@ use Rattle.frame_op.specs.Answers.{held_run}
 use Rattle.standby_row.specs.declared.Bound.{Bound}
 use Rattle.store_areas.specs.declared.Shape.{Shape}
 use Rattle.store_areas.specs.Areas.{Rules}
-use Rattle.standby_hold.specs.declared.Held.{Held}
+use Rattle.standby_hold.specs.declared.HeldBytes.{HeldBytes}
 use Rattle.standby_hold.specs.declared.HoldError.{HoldError}
 use Rattle.standby_commit.specs.Settling.{batch_change, StoreAfter, Settles}
 use Rattle.model_standby.specs.Answer.{Answer, reply, refused}
@@ -62,7 +62,7 @@ result_of version h n area d k = record { core = k; action = action_by version h
 -- ---- the parts
 
 -- the refusals of a part whose changes aren't held
-abbrev pub not_held : Bound → Held → HoldError → PartResult
+abbrev pub not_held : Bound → HeldBytes → HoldError → PartResult
 not_held h x HoldError.NoReset = PartResult.Refused Refusal.NoReset
 not_held h x HoldError.TooManyBytes = PartResult.RefusedHolding Refusal.TooManyBytes (holding_to h h.commit_no x.used x.sum)
 not_held h x HoldError.AreaFull = PartResult.Refused Refusal.HoldAreaFull

@@ -1,19 +1,20 @@
 // A Batch on a bound handle (standby.rs, on_batch): Commit, Whole, LastWhole.
 #![tactic(auto)]
 
-ghost use Rattle.std.specs.Prelude.{◌≡◌, ◌≤◌, ◌<◌, length, take, get_or};
+ghost use Rattle.std.specs.Prelude.{◌≡◌, ◌≤◌, ◌<◌, length, take};
 ghost use Rattle.model_frame.specs.Frame.{commit, last_whole};
 ghost use Rattle.frame_op.specs.Answers.{held_run};
 ghost use Rattle.store_areas.specs.Same.{SameAreas};
 ghost use Rattle.standby_pending.specs.Pending.{count_of};
 ghost use Rattle.standby_part.specs.Part.{part_refusal, not_held, SettledIs, PartIs, WholeIs, AreaIs};
 ghost use Rattle.standby_part.specs.State.{holding_to};
+ghost use Rattle.store_areas.specs.Areas.{used_of};
 
 use base_refusals::Refusal;
 use frame_fields::CommitNumber;
 use frame_stamp::Protocol;
 use standby_changes::{AllChanges, Changes};
-use standby_hold::{Held, HoldError, NotHeld};
+use standby_hold::{HeldBytes, HoldError, NotHeld};
 use standby_row::Bound;
 use store_areas::Store;
 
@@ -32,7 +33,7 @@ pub enum PartResult {
 }
 
 // The record with another commit number and other held changes.
-fn with_held(bound: Bound, number: CommitNumber, held: Held) -> Bound
+fn with_held(bound: Bound, number: CommitNumber, held: HeldBytes) -> Bound
     ensures { result ≡ holding_to bound number held.used held.sum }
 {
     Bound {
@@ -59,7 +60,7 @@ fn not_held(bound: Bound, error: NotHeld) -> PartResult
 
 // Settles a run of changes at the record's place: the record takes the number if they are applied.
 fn settle(changes: &Changes, store: &mut Store, bound: Bound, number: CommitNumber) -> PartResult
-    requires place_bound { bound.place < get_or store.old.words.now 0 0 }
+    requires place_bound { bound.place < used_of store.old.words.now }
     requires words_bound { count_of store.old.words.now < 64 }
     ensures is { SettledIs store.old.shape bound number (held_run changes.now.protocol.version changes.now.run.now) store.old.words.now store.new.words.now store.old.bytes.now store.new.bytes.now result }
     ensures same { SameAreas store.old store.new }
@@ -91,7 +92,7 @@ pub fn on_commit(
     bound: Bound,
     number: CommitNumber,
 ) -> PartResult
-    requires place_bound { bound.place < get_or store.old.words.now 0 0 }
+    requires place_bound { bound.place < used_of store.old.words.now }
     requires words_bound { count_of store.old.words.now < 64 }
     requires held_len_in_bounds { bound.held_len ≤ length area.now }
     ensures is { PartIs changes.now.protocol.version store.old.shape bound number.0 commit (held_run changes.now.protocol.version changes.now.run.now) store.old.words.now store.new.words.now store.old.bytes.now store.new.bytes.now area.now area.now result }
@@ -119,7 +120,7 @@ pub fn on_whole(
     ensures is { WholeIs changes.now.changes.protocol.version bound number.0 (held_run changes.now.changes.protocol.version changes.now.changes.run.now) area.old area.new result }
     ensures area { AreaIs changes.now.changes.protocol.version bound changes.now.changes.run.now area.old area.new (part_refusal result) }
 {
-    let before = Held {
+    let before = HeldBytes {
         used: bound.held_len,
         sum: bound.held_bytes,
     };
@@ -137,14 +138,14 @@ pub fn on_last_whole(
     bound: Bound,
     number: CommitNumber,
 ) -> PartResult
-    requires place_bound { bound.place < get_or store.old.words.now 0 0 }
+    requires place_bound { bound.place < used_of store.old.words.now }
     requires words_bound { count_of store.old.words.now < 64 }
     requires held_len_in_bounds { bound.held_len ≤ length area.old }
     ensures is { PartIs changes.now.changes.protocol.version store.old.shape bound number.0 last_whole (held_run changes.now.changes.protocol.version changes.now.changes.run.now) store.old.words.now store.new.words.now store.old.bytes.now store.new.bytes.now area.old area.new result }
     ensures area { AreaIs changes.now.changes.protocol.version bound changes.now.changes.run.now area.old area.new (part_refusal result) }
     ensures same { SameAreas store.old store.new }
 {
-    let before = Held {
+    let before = HeldBytes {
         used: bound.held_len,
         sum: bound.held_bytes,
     };

@@ -5,6 +5,7 @@
 ghost use Rattle.std.specs.Prelude.{◌≡◌, [], ◌∷◌, ◌++◌, ◌+◌, ◌*◌, ◌-◌, ◌≤◌, ◌<◌, length, get_or, set};
 ghost use Rattle.model_standby.specs.Standby.{pends_on};
 ghost use Rattle.standby_pending.specs.Pending.{count_of, pending_of};
+ghost use Rattle.store_areas.specs.StoreWord;
 
 use store_areas::word;
 
@@ -13,7 +14,7 @@ pub const HANDLE_COUNT: u64 = 4_294_967_296;
 
 // Whether one of the pending commits is of a handle.
 pub fn pends_on(words: &[u64], handle: u32) -> bool
-    requires in_bounds { 66 ≤ length words.now }
+    requires in_bounds { StoreWord.places ≤ length words.now }
     requires words_bound { count_of words.now ≤ 64 }
     ensures { result ≡ pends_on handle (pending_of words.now) }
 {
@@ -26,11 +27,11 @@ pub fn pends_on(words: &[u64], handle: u32) -> bool
 
 // One commit more.
 pub fn push(words: &mut [u64], place: usize, handle: u32)
-    requires in_bounds { 66 ≤ length words.old }
+    requires in_bounds { StoreWord.places ≤ length words.old }
     requires words_bound { count_of words.old < 64 }
     requires place_bound { place < 4294967296 }
     ensures pends { pending_of words.new ≡ pending_of words.old ++ ((handle, place) ∷ []) }
-    ensures writes { words.new ≡ set (set words.old (2 + count_of words.old) (place * 4294967296 + handle)) 1 (count_of words.old + 1) }
+    ensures writes { words.new ≡ set (set words.old (StoreWord.commits + count_of words.old) (place * 4294967296 + handle)) StoreWord.pending (count_of words.old + 1) }
 {
     let n = words[word::PENDING] as usize;
     words[word::COMMITS + n] = (place as u64) * HANDLE_COUNT + (handle as u64);
@@ -39,7 +40,7 @@ pub fn push(words: &mut [u64], place: usize, handle: u32)
 
 // No commit is pending any more.
 pub fn clear(words: &mut [u64])
-    requires { 66 ≤ length words.old }
+    requires { StoreWord.places ≤ length words.old }
     ensures none { pending_of words.new ≡ [] }
     ensures writes { words.new ≡ set words.old 1 0 }
 {

@@ -27,6 +27,10 @@ words_at s i = StoreWord.places + i * place_words s
 abbrev pub bytes_at : Shape → ℕ → ℕ
 bytes_at s i = i * place_bytes s
 
+-- how many places are in use
+abbrev pub used_of : List ℕ → ℕ
+used_of w = get_or w StoreWord.used 0
+
 -- where the word stands that says whether the session at place i is durable
 abbrev pub durable_at : Shape → ℕ → ℕ
 durable_at s i = words_at s i + PlaceWord.durable
@@ -48,7 +52,7 @@ roomy s w b =
 
 -- and no more places in use than there are, no more than 64 commits pending
 unfoldable pub allowed : Shape → List ℕ → List ℕ → Bool
-allowed s w b = roomy s w b && (leb (get_or w StoreWord.used 0) s.places && leb (get_or w StoreWord.pending 0) 64)
+allowed s w b = roomy s w b && (leb (used_of w) s.places && leb (get_or w StoreWord.pending 0) 64)
 
 -- the same as facts
 pub record Room (s : Shape) (w b : List ℕ) : Type 0 where
@@ -59,17 +63,17 @@ pub record Room (s : Shape) (w b : List ℕ) : Type 0 where
 
 pub record Rules (s : Shape) (w b : List ℕ) : Type 0 where
   pub room : Room s w b
-  pub used : get_or w StoreWord.used 0 ≤ s.places
+  pub used : used_of w ≤ s.places
   pub pending : get_or w StoreWord.pending 0 ≤ 64
 
 -- place i is in use in areas that keep the rules
 abbrev pub in_use : Shape → List ℕ → List ℕ → ℕ → Bool
-in_use s w b i = allowed s w b && ltb i (get_or w StoreWord.used 0)
+in_use s w b i = allowed s w b && ltb i (used_of w)
 
 -- the same as facts
 pub record InUse (s : Shape) (w b : List ℕ) (i : ℕ) : Type 0 where
   pub rules : Rules s w b
-  pub at : i < get_or w StoreWord.used 0
+  pub at : i < used_of w
 
 -- where a place in use stands
 pub record SpotIn (s : Shape) (i : ℕ) (w b : List ℕ) (wa we ba be : ℕ) : Type 0 where
@@ -97,7 +101,7 @@ count_up f k zero = []
 count_up f k (suc n) = f k ∷ count_up f (suc k) n
 
 unfoldable pub places_of : Shape → List ℕ → List ℕ → List Place
-places_of s w b = count_up (place_at s w b) 0 (get_or w StoreWord.used 0)
+places_of s w b = count_up (place_at s w b) 0 (used_of w)
 
 -- a text, as len bytes of b from `at` on, which lie in b
 pub record TextAt (b text : List ℕ) (at len : ℕ) : Type 0 where

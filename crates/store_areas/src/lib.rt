@@ -1,10 +1,12 @@
 // The store's two areas: their shape, the rules that they keep, and where each place's words and bytes stand.
 #![tactic(auto)]
 
-ghost use Rattle.std.specs.Prelude.{◌≡◌, ℕ, ◌+◌, ◌*◌, ◌≤◌, ◌<◌, Bool, true, false, List, length, get_or, set};
-ghost use Rattle.store_areas.specs.Areas.{place_words, place_bytes, words_at, bytes_at, slice, durable_at, roomy, allowed, SpotIs, SpotIn, place_at, in_use, Making};
+ghost use Rattle.std.specs.Prelude.{◌≡◌, ℕ, ◌+◌, ◌*◌, ◌≤◌, ◌<◌, Bool, true, false, List, length, set};
+ghost use Rattle.store_areas.specs.Areas.{place_words, place_bytes, words_at, bytes_at, slice, durable_at, roomy, allowed, SpotIs, SpotIn, place_at, in_use, Making, used_of};
 ghost use Rattle.store_place.specs.Place.{place_in};
 ghost use Rattle.store_areas.specs.Over.{ViewOver, ViewInUse};
+ghost use Rattle.store_areas.specs.StoreWord;
+ghost use Rattle.store_place.specs.PlaceByte;
 
 pub mod store;
 
@@ -124,10 +126,10 @@ impl<'a> View<'a> {
 
     // A place in use, to be read.
     pub fn place(&self, place: usize) -> Place<'a>
-        requires { place < get_or self.now.words.now 0 0 }
+        requires { place < used_of self.now.words.now }
         ensures is { place_in self.now.shape.bytes self.now.shape.messages result.words.now result.bytes.now ≡ place_at self.now.shape self.now.words.now self.now.bytes.now place }
         ensures max { result.max ≡ self.now.shape.messages }
-        ensures long { length result.bytes.now ≡ 224 + self.now.shape.bytes }
+        ensures long { length result.bytes.now ≡ PlaceByte.ring + self.now.shape.bytes }
         ensures words { result.words.now ≡ slice (words_at self.now.shape place) (place_words self.now.shape) self.now.words.now }
         ensures bytes { result.bytes.now ≡ slice (bytes_at self.now.shape place) (place_bytes self.now.shape) self.now.bytes.now }
     {
@@ -141,7 +143,7 @@ impl<'a> View<'a> {
 
     // Where a place in use stands.
     pub fn spot(&self, place: usize) -> Spot
-        requires { place < get_or self.now.words.now 0 0 }
+        requires { place < used_of self.now.words.now }
         ensures { SpotIn self.now.shape place self.now.words.now self.now.bytes.now result.words_start result.words_end result.bytes_start result.bytes_end }
     {
         spot_of(self.shape, place)
@@ -164,7 +166,7 @@ impl Store<'_> {
 
     // Where a place in use stands. A spot of its own: by `view().spot(..)` each caller would have to carry what is said of the view back to the store.
     pub fn spot(&self, place: usize) -> Spot
-        requires { place < get_or self.now.words.now 0 0 }
+        requires { place < used_of self.now.words.now }
         ensures { SpotIn self.now.shape place self.now.words.now self.now.bytes.now result.words_start result.words_end result.bytes_start result.bytes_end }
     {
         spot_of(self.shape, place)
@@ -204,9 +206,9 @@ pub fn in_use(words: &[u64], bytes: &[u8], shape: Shape, place: usize) -> bool
 // The words alone: standby_pending_run has the bytes only to be read.
 pub fn mark_durable(words: &mut [u64], shape: Shape, place: usize)
     requires messages_bound { shape.messages ≤ 65536 }
-    requires shape_in_bounds { 66 + shape.places * place_words shape ≤ length words.old }
-    requires words_bound { get_or words.old 0 0 ≤ shape.places }
-    requires place_bound { place < get_or words.old 0 0 }
+    requires shape_in_bounds { StoreWord.places + shape.places * place_words shape ≤ length words.old }
+    requires words_bound { used_of words.old ≤ shape.places }
+    requires place_bound { place < used_of words.old }
     ensures { words.new ≡ set words.old (durable_at shape place) 1 }
 {
     let at = COUNT_WORDS + place * place_words(shape) + store_place::word::DURABLE;

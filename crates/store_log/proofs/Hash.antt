@@ -2,6 +2,7 @@
 use Rattle.std.proofs.Common.{◌≡◌, ℕ, zero, suc, ◌+◌, ◌-◌, ◌*◌, ◌/◌, ◌%◌, ◌^◌, ◌<◌, ◌≤◌, List, [], ◌∷◌, ◌++◌, length, get_or, drop, sym, refl, ap, ◌∙◌, mod-lt, mod-eq_of_lt, mul_assoc, mul_comm, div-lt_iff_lt-mul, add_comm, pow-suc, div-add-mod', mul-one, mul-add, add-one, arith, length-append, drop_of_length-le, drop-cons}
 use native.Mathlib.Nat.{pow-succ', add-mul-mod_self_right}
 use lib.Bits.{bit_and, bit_xor, and_mask, xor_zero_r}
+use Rattle.model_session.proofs.Summing.{step_small}
 use Rattle.model_frame.specs.Bytes.{bytes_of}
 use Rattle.model_session.specs.Summary.{fnv_step, fnv, fnv_message}
 use Rattle.store_log.specs.Log.{msg}
@@ -61,10 +62,6 @@ zeros (suc n) r h =
     ∙ ap (λ (z : ℕ). z % 2 ^ 64) (mul_assoc r prime (prime ^ n) ∙ ap (λ (z : ℕ). r * z) (sym (pow-succ' prime n)))
     ∙ sym (mod_right r (prime ^ suc n) (2 ^ 64))
 
-step_lt : (h b : ℕ) → fnv_step h b < 2 ^ 64
-unfolding fnv_step
-step_lt h b = mod-lt (bit_xor h b * prime) (omega arith)
-
 pub record Word (t r left y : ℕ) : Type 0 where
   pub few : left ≤ 8
   pub small : y < 256 ^ left
@@ -74,7 +71,7 @@ pub record Word (t r left y : ℕ) : Type 0 where
 word_suc : (t r r' n y : ℕ) → Word t r (suc n) y → r' ≡ fnv_step r (bit_and y 255) → Word t r' n (y / 256)
 unfolding bytes_of
 word_suc t r r' n y i q = record {
-  fits = rw q (step_lt r (bit_and y 255));
+  fits = rw q (step_small r (bit_and y 255));
   few = omega (arith, i.few);
   small = (div-lt_iff_lt-mul {k = 256} {x = y} {y = 256 ^ n} (omega arith)).1 (rw (← pow-suc 256 n) i.small);
   is = i.is ∙ rw (q, and_mask y 8);

@@ -1,9 +1,10 @@
 -- EVERY LOG THAT THE STORE CAN HOLD is that of some areas. Assumes nothing.
 use Rattle.std.proofs.Common.{◌≡◌, ℕ, zero, suc, ◌+◌, ◌*◌, ◌^◌, ◌<◌, ◌≤◌, Bool, true, false, ◌&&◌, T, ltb, List, [], ◌∷◌, ◌++◌, reverse, length, get_or, take, drop, set, replicate, sym, refl, ap, ◌∙◌, append_assoc, append-nil, arith, ltb→lt, length-append, length-drop, length-set}
 use lib.ListN.{length-replicate}
+use Rattle.model_session.proofs.Sending.{total_append}
 use Rattle.model_session.specs.Session.{Msg, stored_bytes, is_bytes, Rising, keep}
 use Rattle.store_log.specs.Log.{before, entries, head_of, tail_of, unrolled, log_of, Lawful}
-use Rattle.store_log.proofs.Walk.{walk_low, stored_append}
+use Rattle.store_log.proofs.Walk.{walk_low}
 use Rattle.store_log.proofs.Ring.{length_unrolled}
 use Rattle.store_log.proofs.Slots.{head_lt, tail_le, stored, stored_newest, stored_tail}
 use Rattle.store_log.proofs.Recording.{room_all, stored_law}
@@ -117,7 +118,7 @@ module _ (C M : ℕ) (hC : C < 2 ^ 64) (hM : M < 2 ^ 64) where
       let e : l ++ (x ∷ r) ≡ (l ++ (x ∷ [])) ++ r = sym (append_assoc l (x ∷ []) r) in
       rw e (all_held next (suc x.num) (l ++ (x ∷ [])) r top (omega arith) s.1
       (one_more n l x a (omega (arith, s.0)) s.0 (omega (arith, s.1)) s.2 (omega arith) (omega arith))
-      s.3 (omega (arith, stored_append l (x ∷ []))) (omega (arith, length-append l (x ∷ []))))
+      s.3 (omega (arith, total_append l (x ∷ []))) (omega (arith, length-append l (x ∷ []))))
 
   -- the areas of a lawful log
   pub held : (next : ℕ) (l : List Msg) → 1 ≤ next → next ≤ 2 ^ 64 → Lawful C M next l → Held C M next l

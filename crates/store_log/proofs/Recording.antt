@@ -2,9 +2,10 @@
 use Rattle.std.proofs.Common.{◌≡◌, ℕ, zero, suc, ◌+◌, ◌-◌, ◌*◌, ◌<◌, ◌≤◌, cond, ltb, ◌⊎◌, List, [], ◌∷◌, ◌++◌, reverse, length, get_or, take, drop, set, sym, refl, ap, ◌∙◌, inl, inr, append_assoc, append-nil, arith, length-append, get_or-set_other, get_or-set_same, le-ltb, lt-ltb, le-leb}
 use mathlib.Core.Bool.{and-false}
 use borrow.Author.Tests.{lt-leb}
+use Rattle.model_session.proofs.Sending.{total_append}
 use Rattle.model_session.specs.Session.{Msg, stored_bytes, keep}
 use Rattle.store_log.specs.Log.{msg, Entry, entry, before, entries, newest, head_of, tail_of, unrolled, walk, log_of, replayed, Lawful}
-use Rattle.store_log.proofs.Walk.{walk_low, walk_high, walk_record, stored_append}
+use Rattle.store_log.proofs.Walk.{walk_low, walk_high, walk_record}
 use Rattle.store_log.proofs.Ring.{length_unrolled}
 
 -- ---- settle
@@ -87,7 +88,7 @@ replay C M l [] h k = sym (append-nil l)
 replay C M l (x ∷ r) h k =
     let e : keep C M x l ≡ l ++ (x ∷ []) = room_all C M x l (omega arith) (omega arith) in
     ap (λ (t : List Msg). replayed C M t r) e
-    ∙ replay C M (l ++ (x ∷ [])) r (omega (arith, stored_append l (x ∷ []))) (omega (arith, length-append l (x ∷ [])))
+    ∙ replay C M (l ++ (x ∷ [])) r (omega (arith, total_append l (x ∷ []))) (omega (arith, length-append l (x ∷ [])))
     ∙ append_assoc l (x ∷ []) r
 
 pub replay_all : (C M next : ℕ) (l : List Msg) → Lawful C M next l → replayed C M [] l ≡ l

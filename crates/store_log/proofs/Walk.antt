@@ -6,6 +6,7 @@ use native.Mathlib.Decide.{dec_le}
 use borrow.Author.Tests.{lt-leb}
 use lib.ListN.{length-reverse}
 use lib.Seq.{drop-append-le, take-append-le, take-length}
+use Rattle.model_session.proofs.Sending.{total_append}
 use Rattle.model_session.specs.Session.{Msg, stored_bytes, evict, keep}
 use Rattle.store_log.specs.Log.{msg, Entry, entry, walk}
 
@@ -161,13 +162,9 @@ fit_cut C d (suc m) [] x (inl h) = fit_full C d m x.num x.text [] (omega arith) 
 fit_cut C d (suc m) [] x (inr h) = absurd (omega arith)
 fit_cut C d (suc m) (y ∷ l) x h = cut_step C d m y.num y.text l x (fit_cut C (d + length y.text) m l x) (cmp (d + length y.text) C) h
 
-pub stored_append : (l r : List Msg) → stored_bytes (l ++ r) ≡ stored_bytes l + stored_bytes r
-stored_append [] r = omega arith
-stored_append (x ∷ l) r = omega (arith, stored_append l r)
-
 pub stored_reverse : (l : List Msg) → stored_bytes (reverse l) ≡ stored_bytes l
 stored_reverse [] = refl
-stored_reverse (x ∷ l) = ap stored_bytes (reverse-cons x l) ∙ stored_append (reverse l) (x ∷ []) ∙ omega (arith, stored_reverse l)
+stored_reverse (x ∷ l) = ap stored_bytes (reverse-cons x l) ∙ total_append (reverse l) (x ∷ []) ∙ omega (arith, stored_reverse l)
 
 -- one step of `evict`, by whether there is room
 evict_step : (C m k n : ℕ) (b : List ℕ) (l : List Msg) → reverse (fit C k m (reverse l)) ≡ evict C (suc m) k l
@@ -179,7 +176,7 @@ evict_step C m k n b l rec (inl h) (inl j) =
     ∙ sym (simp (le-leb (stored_bytes (msg n b ∷ l) + k) C h, le-leb (suc (length (msg n b ∷ l))) (suc m) (omega arith)))
 evict_step C m k n b l rec (inr h) j =
     let e : reverse (msg n b ∷ l) ≡ reverse l ++ (msg n b ∷ []) = reverse-cons (msg n b) l in
-    let over : C < k + stored_bytes (reverse l ++ (msg n b ∷ [])) = omega (arith, stored_append (reverse l) (msg n b ∷ []), stored_reverse l) in
+    let over : C < k + stored_bytes (reverse l ++ (msg n b ∷ [])) = omega (arith, total_append (reverse l) (msg n b ∷ []), stored_reverse l) in
     ap (λ (t : List Msg). reverse (fit C k m t)) e ∙ ap reverse (fit_cut C k m (reverse l) (msg n b) (inl over)) ∙ rec
     ∙ sym (simp (lt-leb (stored_bytes (msg n b ∷ l) + k) C h))
 evict_step C m k n b l rec (inl h) (inr j) =

@@ -202,7 +202,7 @@ pub fn span_of(tail: usize, cap: usize, dist: usize, len: usize) -> RingSpan
 
 // A message in the ring: its number, where its bytes stand, and the position after it.
 #[derive(Clone, Copy)]
-pub struct Found {
+pub struct FoundMessage {
     pub number: u64,
     pub span: RingSpan,
     pub next: LogPosition,

@@ -4,8 +4,8 @@ ghost use Rattle.model_session.specs.Summary.{fnv_message, fnv_messages, fnv_sta
 ghost use Rattle.store_log.specs.Log.{msg, Position, From, NextMessage, log_of, last_of};
 
 use crate::{
-    ENTRY_WORDS, Found, LENGTH, LogPosition, NUMBER, RingSpan, fnv, head, slot_at, slot_before,
-    span_of, tail,
+    ENTRY_WORDS, FoundMessage, LENGTH, LogPosition, NUMBER, RingSpan, fnv, head, slot_at,
+    slot_before, span_of, tail,
 };
 
 // That the next number is 1 or more is asked where batches are cut; nothing that is read here needs it.
@@ -73,7 +73,7 @@ impl<'a> Log<'a> {
     }
 
     // The next message at a position. A position may be at the end, so that one is left is asked apart.
-    pub fn message_at(&self, position: LogPosition) -> Found
+    pub fn message_at(&self, position: LogPosition) -> FoundMessage
         requires position { Position (length self.now.bytes.now) self.now.max self.now.next self.now.words.now self.now.bytes.now position.left position.dist }
         requires le_left { 1 ≤ position.left }
         ensures { NextMessage (length self.now.bytes.now) self.now.max self.now.next self.now.words.now self.now.bytes.now position.left position.dist result.number result.span.start result.span.first result.span.rest result.next.left result.next.dist }
@@ -84,7 +84,7 @@ impl<'a> Log<'a> {
         let slot = slot_at(head(words, max), max, position.left);
         let number = words[NUMBER + ENTRY_WORDS * slot];
         let len = words[LENGTH + ENTRY_WORDS * slot] as usize;
-        Found {
+        FoundMessage {
             number,
             span: span_of(tail(words, cap), cap, position.dist, len),
             next: LogPosition {

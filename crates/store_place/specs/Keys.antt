@@ -3,5 +3,5 @@ use Rattle.model_frame.specs.Frame.{Key}
 use Rattle.store_place.specs.Place.{key_from}
 use Rattle.store_place.specs.declared.Key as lent
 
-abbrev pub key_of : lent.Key → Key
-key_of k = key_from k.begin.now k.sender.now k.target.now k.suffix.now
+abbrev pub lent_key : lent.Key → Key
+lent_key k = key_from k.begin.now k.sender.now k.target.now k.suffix.now

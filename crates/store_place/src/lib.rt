@@ -9,8 +9,10 @@ ghost use Rattle.model_text.specs.Stamp.{is_stamp};
 ghost use Rattle.model_frame.specs.Frame.{Key, Change, set_incoming, set_incoming_in_flight, set_in_flight, record_msg, record_bare, reset, set_created_at, set_marks};
 ghost use Rattle.model_standby.specs.Store.{Place, on_stored, changed, taken_over, new_place, same_bytes, same_key, with_b};
 ghost use Rattle.store_place.specs.Only.{Only};
-ghost use Rattle.store_place.specs.Keys.{key_of};
+ghost use Rattle.store_place.specs.Keys.{lent_key};
 ghost use Rattle.store_place.specs.Place.{next_out_of, stored_flight, durable_of, field, stamp_of, marks_of, stored_key, place_in, flight_is, PutText, ends_in_b};
+ghost use Rattle.store_place.specs.PlaceByte;
+ghost use Rattle.store_place.specs.PlaceWord;
 
 // The words of a place; 11 to 13 are spare.
 pub mod word {
@@ -115,21 +117,21 @@ const LAST_MARK: usize = byte::RING - 1;
 // ---- reading: most ask for the words alone, so they take the slices and no Place
 
 pub fn next_outgoing(words: &[u64]) -> u64
-    requires { 16 ≤ length words.now }
+    requires { PlaceWord.entries ≤ length words.now }
     ensures { result ≡ next_out_of words.now }
 {
     words[word::NEXT_OUTGOING].max(1)
 }
 
 pub fn next_incoming(words: &[u64]) -> u64
-    requires { 16 ≤ length words.now }
+    requires { PlaceWord.entries ≤ length words.now }
     ensures { result ≡ get_or words.now 1 0 }
 {
     words[word::NEXT_INCOMING]
 }
 
 pub fn in_flight(words: &[u64]) -> Option<u64>
-    requires { 16 ≤ length words.now }
+    requires { PlaceWord.entries ≤ length words.now }
     ensures { flight_is result ≡ stored_flight words.now }
 {
     if words[word::HAS_IN_FLIGHT] == 0 {
@@ -140,7 +142,7 @@ pub fn in_flight(words: &[u64]) -> Option<u64>
 }
 
 pub fn durable(words: &[u64]) -> bool
-    requires { 16 ≤ length words.now }
+    requires { PlaceWord.entries ≤ length words.now }
     ensures { result ≡ durable_of words.now }
 {
     words[word::DURABLE] != 0
@@ -158,10 +160,10 @@ fn text_in<'a>(words: &[u64], bytes: &'a [u8], text_field: TextField) -> &'a [u8
 
 // The stamp; empty for none. It and the marks differ in the field, the test and what is promised: one function under both would leave them as long.
 pub fn stamp<'a>(words: &[u64], bytes: &'a [u8]) -> &'a [u8]
-    requires in_bounds { 16 ≤ length words.now }
-    requires in_bounds_2 { 224 ≤ length bytes.now }
+    requires in_bounds { PlaceWord.entries ≤ length words.now }
+    requires in_bounds_2 { PlaceByte.ring ≤ length bytes.now }
     ensures is { result.now ≡ stamp_of words.now bytes.now }
-    ensures stands { take (length result.now) (drop 128 bytes.now) ≡ result.now }
+    ensures stands { take (length result.now) (drop PlaceByte.stamp bytes.now) ≡ result.now }
     ensures within { length result.now ≤ 32 }
 {
     let stamp = text_in(words, bytes, STAMP);
@@ -174,10 +176,10 @@ pub fn stamp<'a>(words: &[u64], bytes: &'a [u8]) -> &'a [u8]
 
 // The marks; empty for none.
 pub fn marks<'a>(words: &[u64], bytes: &'a [u8]) -> &'a [u8]
-    requires in_bounds { 16 ≤ length words.now }
-    requires in_bounds_2 { 224 ≤ length bytes.now }
+    requires in_bounds { PlaceWord.entries ≤ length words.now }
+    requires in_bounds_2 { PlaceByte.ring ≤ length bytes.now }
     ensures is { result.now ≡ marks_of words.now bytes.now }
-    ensures stands { take (length result.now) (drop 160 bytes.now) ≡ result.now }
+    ensures stands { take (length result.now) (drop PlaceByte.marks bytes.now) ≡ result.now }
     ensures within { length result.now ≤ 64 }
 {
     let marks = text_in(words, bytes, MARKS);
@@ -199,9 +201,9 @@ pub struct Key<'a> {
 
 // The key.
 fn key_in<'a>(words: &[u64], bytes: &'a [u8]) -> Key<'a>
-    requires in_bounds { 16 ≤ length words.now }
-    requires in_bounds_2 { 224 ≤ length bytes.now }
-    ensures { key_of result ≡ stored_key words.now bytes.now }
+    requires in_bounds { PlaceWord.entries ≤ length words.now }
+    requires in_bounds_2 { PlaceByte.ring ≤ length bytes.now }
+    ensures { lent_key result ≡ stored_key words.now bytes.now }
 {
     Key {
         begin: text_in(words, bytes, BEGIN),
@@ -213,9 +215,9 @@ fn key_in<'a>(words: &[u64], bytes: &'a [u8]) -> Key<'a>
 
 // Whether the place has this key.
 pub fn has_key(words: &[u64], bytes: &[u8], sought: &Key) -> bool
-    requires in_bounds { 16 ≤ length words.now }
-    requires in_bounds_2 { 224 ≤ length bytes.now }
-    ensures { result ≡ same_key (key_of sought.now) (stored_key words.now bytes.now) }
+    requires in_bounds { PlaceWord.entries ≤ length words.now }
+    requires in_bounds_2 { PlaceByte.ring ≤ length bytes.now }
+    ensures { result ≡ same_key (lent_key sought.now) (stored_key words.now bytes.now) }
 {
     *sought == key_in(words, bytes)
 }
@@ -224,7 +226,7 @@ pub fn has_key(words: &[u64], bytes: &[u8], sought: &Key) -> bool
 // there of the same three, and could not be where C lends the bytes only to be read, as it does for the changes of the words alone.
 
 pub fn set_next_incoming(words: &mut [u64], seq: u64)
-    requires { 16 ≤ length words.old }
+    requires { PlaceWord.entries ≤ length words.old }
     ensures { (C M : ℕ) (b : List ℕ) → place_in C M words.new b ≡ on_stored (changed C M (set_incoming seq ∷ [])) (place_in C M words.old b) }
 {
     words[word::NEXT_INCOMING] = seq;
@@ -233,7 +235,7 @@ pub fn set_next_incoming(words: &mut [u64], seq: u64)
 }
 
 pub fn set_next_incoming_in_flight(words: &mut [u64], seq: u64, in_flight: u64)
-    requires { 16 ≤ length words.old }
+    requires { PlaceWord.entries ≤ length words.old }
     ensures { (C M : ℕ) (b : List ℕ) → place_in C M words.new b ≡ on_stored (changed C M (set_incoming_in_flight seq in_flight ∷ [])) (place_in C M words.old b) }
 {
     words[word::NEXT_INCOMING] = seq;
@@ -243,7 +245,7 @@ pub fn set_next_incoming_in_flight(words: &mut [u64], seq: u64, in_flight: u64)
 }
 
 pub fn set_in_flight(words: &mut [u64], seq: u64)
-    requires { 16 ≤ length words.old }
+    requires { PlaceWord.entries ≤ length words.old }
     ensures { (C M : ℕ) (b : List ℕ) → place_in C M words.new b ≡ on_stored (changed C M (set_in_flight seq ∷ [])) (place_in C M words.old b) }
 {
     words[word::HAS_IN_FLIGHT] = 1;
@@ -253,11 +255,11 @@ pub fn set_in_flight(words: &mut [u64], seq: u64)
 
 // A Record with its message, whose number is the next outgoing one. There must be a number after it.
 pub fn record(words: &mut [u64], bytes: &mut [u8], max: usize, seq: u64, text: &[u8])
-    requires max_in_bounds { 16 + 2 * max ≤ length words.old }
-    requires in_bounds { 224 ≤ length bytes.old }
+    requires max_in_bounds { PlaceWord.entries + 2 * max ≤ length words.old }
+    requires in_bounds { PlaceByte.ring ≤ length bytes.old }
     requires seq_value { seq ≡ next_out_of words.old }
     requires seq_bound { seq < 18446744073709551615 }
-    ensures { (C : ℕ) → length bytes.old ≡ 224 + C → place_in C max words.new bytes.new ≡ on_stored (changed C max (record_msg seq text.now ∷ [])) (place_in C max words.old bytes.old) }
+    ensures { (C : ℕ) → length bytes.old ≡ PlaceByte.ring + C → place_in C max words.new bytes.new ≡ on_stored (changed C max (record_msg seq text.now ∷ [])) (place_in C max words.old bytes.old) }
 {
     store_log::record(
         &mut words[word::LOG..],
@@ -272,7 +274,7 @@ pub fn record(words: &mut [u64], bytes: &mut [u8], max: usize, seq: u64, text: &
 
 // A Record without message, of a number from the next outgoing one on.
 pub fn record_none(words: &mut [u64], max: usize, seq: u64)
-    requires max_in_bounds { 16 + 2 * max ≤ length words.old }
+    requires max_in_bounds { PlaceWord.entries + 2 * max ≤ length words.old }
     requires words_bound { next_out_of words.old ≤ seq }
     requires seq_bound { seq < 18446744073709551615 }
     ensures { (C : ℕ) (b : List ℕ) → place_in C max words.new b ≡ on_stored (changed C max (record_bare seq ∷ [])) (place_in C max words.old b) }
@@ -284,7 +286,7 @@ pub fn record_none(words: &mut [u64], max: usize, seq: u64)
 }
 
 pub fn reset(words: &mut [u64], max: usize)
-    requires { 16 + 2 * max ≤ length words.old }
+    requires { PlaceWord.entries + 2 * max ≤ length words.old }
     ensures { (C : ℕ) (b : List ℕ) → place_in C max words.new b ≡ on_stored (changed C max (reset ∷ [])) (place_in C max words.old b) }
 {
     store_log::clear(&mut words[word::LOG..], max);
@@ -309,8 +311,8 @@ fn put_text(words: &mut [u64], bytes: &mut [u8], text_field: TextField, text: &[
 }
 
 pub fn set_created_at(words: &mut [u64], bytes: &mut [u8], text: &[u8])
-    requires in_bounds { 16 ≤ length words.old }
-    requires in_bounds_2 { 224 ≤ length bytes.old }
+    requires in_bounds { PlaceWord.entries ≤ length words.old }
+    requires in_bounds_2 { PlaceByte.ring ≤ length bytes.old }
     requires text_value { is_stamp text.now ≡ true }
     ensures { (C M : ℕ) → place_in C M words.new bytes.new ≡ on_stored (changed C M (set_created_at text.now ∷ [])) (place_in C M words.old bytes.old) }
 {
@@ -319,8 +321,8 @@ pub fn set_created_at(words: &mut [u64], bytes: &mut [u8], text: &[u8])
 }
 
 pub fn set_marks(words: &mut [u64], bytes: &mut [u8], text: &[u8])
-    requires in_bounds { 16 ≤ length words.old }
-    requires in_bounds_2 { 224 ≤ length bytes.old }
+    requires in_bounds { PlaceWord.entries ≤ length words.old }
+    requires in_bounds_2 { PlaceByte.ring ≤ length bytes.old }
     requires text_value { is_marks text.now ≡ true }
     ensures { (C M : ℕ) → place_in C M words.new bytes.new ≡ on_stored (changed C M (set_marks text.now ∷ [])) (place_in C M words.old bytes.old) }
 {
@@ -340,11 +342,11 @@ fn ends_in_b(marks: &[u8]) -> bool
 // Gives the n bytes of marks at 160 a final B, and answers how many there are then.
 // By the area and a number: a slice of the marks alone could not grow.
 fn put_b(bytes: &mut [u8], n: usize) -> usize
-    requires in_bounds { 224 ≤ length bytes.old }
+    requires in_bounds { PlaceByte.ring ≤ length bytes.old }
     requires n_bound { n ≤ 64 }
     ensures within { result ≤ 64 }
-    ensures only { Only 160 224 bytes.old bytes.new }
-    ensures is { take result (drop 160 bytes.new) ≡ with_b (take n (drop 160 bytes.old)) }
+    ensures only { Only PlaceByte.marks PlaceByte.ring bytes.old bytes.new }
+    ensures is { take result (drop PlaceByte.marks bytes.new) ≡ with_b (take n (drop PlaceByte.marks bytes.old)) }
 {
     let end = byte::MARKS + n;
     if ends_in_b(&bytes[byte::MARKS..end]) {
@@ -360,8 +362,8 @@ fn put_b(bytes: &mut [u8], n: usize) -> usize
 
 // Promotion: numbers are skipped for the lag, the marks get a final B, the session is marked.
 pub fn take_over(words: &mut [u64], bytes: &mut [u8], max: usize, lag: u64)
-    requires max_in_bounds { 16 + 2 * max ≤ length words.old }
-    requires in_bounds { 224 ≤ length bytes.old }
+    requires max_in_bounds { PlaceWord.entries + 2 * max ≤ length words.old }
+    requires in_bounds { PlaceByte.ring ≤ length bytes.old }
     ensures { (C : ℕ) → place_in C max words.new bytes.new ≡ on_stored (taken_over lag) (place_in C max words.old bytes.old) }
 {
     let next = next_outgoing(words);
@@ -377,13 +379,13 @@ pub fn take_over(words: &mut [u64], bytes: &mut [u8], max: usize, lag: u64)
 
 // The new session of a key.
 pub fn new_session(words: &mut [u64], bytes: &mut [u8], max: usize, key: &Key)
-    requires max_in_bounds { 16 + 2 * max ≤ length words.old }
-    requires in_bounds { 224 ≤ length bytes.old }
+    requires max_in_bounds { PlaceWord.entries + 2 * max ≤ length words.old }
+    requires in_bounds { PlaceByte.ring ≤ length bytes.old }
     requires begin_len_bound { length key.now.begin.now ≤ 32 }
     requires sender_len_bound { length key.now.sender.now ≤ 32 }
     requires target_len_bound { length key.now.target.now ≤ 32 }
     requires suffix_len_bound { length key.now.suffix.now ≤ 32 }
-    ensures { (C : ℕ) → place_in C max words.new bytes.new ≡ new_place (key_of key.now) }
+    ensures { (C : ℕ) → place_in C max words.new bytes.new ≡ new_place (lent_key key.now) }
 {
     put_text(words, bytes, BEGIN, key.begin);
     put_text(words, bytes, SENDER, key.sender);

@@ -10,9 +10,10 @@ use lib.ListN.{length}
 use Rattle.std.specs.List.{list_all, range_with_len}
 use lib.Dec.{leb, ltb, eqb}
 use borrow.Author.Tests.{ltb-true, ltb-false, le-leb, lt-leb, leb-true, leb-false}
+use Rattle.model_session.specs.Session.{top}
 use Rattle.model_resend.specs.Resend.{Range, is_range, are_ranges, lies, set_of}
 use Rattle.model_resend.proofs.Sets.{fits_63}
-use Rattle.store_resend.specs.Ranges.{range_at, ranges_from, top, stays, until, lowest_of, Serves}
+use Rattle.store_resend.specs.Ranges.{range_at, ranges_from, stays, until, lowest_of, Serves}
 
 -- ---- the set stays up to `until`
 

@@ -8,12 +8,13 @@ use lib.ListN.{length, set, take, drop, length-append, length-drop, length-map, 
 use lib.Seq.{sets, sets-eq, length-sets, length-take-le, take_at, drop_at, drop-drop}
 use lib.Dec.{leb, eqb}
 use borrow.Author.Tests.{le-leb, lt-leb, leb-true, leb-false, eq-eqb, ne_eqb}
+use Rattle.std.proofs.lemmas.Bool.{and_parts}
 use Rattle.model_session.specs.Session.{Msg, stored_bytes}
 use Rattle.model_session.specs.Summary.{numbered_from}
 use Rattle.model_resend.specs.Resend.{Range, is_range, are_ranges, lies_in_some, Served, serve, set_of, listed, served, refusal_of}
 use Rattle.model_resend.proofs.Sets.{empty_so}
 use Rattle.store_log.specs.Log.{msg, newest_first, rest_of, Position}
-use Rattle.store_log.specs.declared.Found.{Found}
+use Rattle.store_log.specs.declared.FoundMessage.{FoundMessage}
 use Rattle.store_log.specs.declared.LogPosition.{LogPosition}
 use Rattle.store_log.specs.declared.log.Log.{Log}
 use Rattle.store_log.proofs.Turning.{Next}
@@ -23,16 +24,12 @@ use Rattle.store_areas.specs.declared.Shape.{Shape}
 use Rattle.store_areas.specs.Areas.{in_use, slice, words_at, place_words, bytes_at, place_bytes}
 use Rattle.store_sessions.specs.declared.Message.{Message}
 use Rattle.store_sessions.specs.Answers.{rest_at, PositionAt, FromAt, NextMessageAt}
-use Rattle.store_resend.specs.Ranges.{ranges_of, messages_at, Keeps, Serves, Counts, Adds, ListEntry, entry_words, words_of, served_at, is_inside, all_inside, Written, entry_of, entered, HasRoom, Fills, Lists, lowest_of}
+use Rattle.store_resend.specs.Ranges.{ranges_of, messages_at, Keeps, Serves, Counts, Adds, ListEntry, entry_words, words_of, served_at, is_inside, all_inside, Written, entry_words_of, entered, HasRoom, Fills, Lists, lowest_of}
 use Rattle.store_resend.specs.Passes.{LogAt, Counting, Filling, Begun, Carries, PassesOver}
 use Rattle.store_resend.specs.declared.Kept.{Kept}
 use Rattle.store_resend.specs.declared.Tally.{Tally}
 use Rattle.store_resend.specs.declared.Listed.{Listed}
 use Rattle.store_resend.proofs.Laws.{many}
-
-both : (x y : Bool) → (x && y) ≡ true → (x ≡ true) × (y ≡ true)
-both true y h = (refl, h)
-both false y h = absurd (true≢false (sym h))
 
 -- ---- one message
 
@@ -94,7 +91,7 @@ module _ (s : Shape) (w b : List ℕ) (i : ℕ) (log : Log) (at : LogAt s w b i 
   unfolding PositionAt
   stands_in_log {left} {dist} g = stands_out s.bytes s.messages pw pb at.long log.words.now log.bytes.now log.max log.next at.words at.bytes at.max at.next left dist g
 
-  pub turn_in : {p : LogPosition} {found : Found} → Next log p found → Turn s w b i p.left p.dist found.number (found.span.first + found.span.rest) found.next.left found.next.dist
+  pub turn_in : {p : LogPosition} {found : FoundMessage} → Next log p found → Turn s w b i p.left p.dist found.number (found.span.first + found.span.rest) found.next.left found.next.dist
   unfolding PositionAt rest_at
   turn_in {p} {found} n =
       let f : NextMessageIn s.bytes s.messages pw pb p.left p.dist found.number (found.span.start + 224) found.span.first found.span.rest found.next.left found.next.dist =
@@ -121,7 +118,7 @@ map_more b (x ∷ es) e = ap (λ (r : List Served). served_at b x ∷ r) (map_mo
 inside_more : (b : List ℕ) (es : List ListEntry) (e : ListEntry) → all_inside b es ≡ true → is_inside b e ≡ true → all_inside b (es ++ (e ∷ [])) ≡ true
 inside_more b [] e h t = rw t refl
 inside_more b (x ∷ es) e h t =
-    let two = both (is_inside b x) (all_inside b es) h in
+    let two = and_parts (is_inside b x) (all_inside b es) h in
     rw two.0 (inside_more b es e two.1 t)
 
 pub words_many : (es : List ListEntry) → length (words_of es) ≡ 6 * length es
@@ -234,7 +231,7 @@ module _ (s : Shape) (w b : List ℕ) (i : ℕ) (rs : List Range) (first back : 
     text = take m.first.len (drop m.first.at b) ++ take m.second.len (drop m.second.at b)
 
     abbrev own : ListEntry
-    own = entry_of k'.set m
+    own = entry_words_of k'.set m
 
     now : listed rs (still left) ≡ cond (eqb k'.set 0) (listed rs (still left')) (msg m.number text ∷ listed rs (still left'))
     now = ap (listed rs) p.is ∙ one_listed rs k' (msg m.number text) (still left') e
@@ -413,8 +410,8 @@ from_lowest rs (m ∷ ms) low e = go (leb low m.num) refl (from_lowest rs ms low
 pub lowest_one : (rs : List Range) → are_ranges rs ≡ true → 1 ≤ lowest_of rs
 lowest_one [] h = omega arith
 lowest_one (r ∷ rs) h =
-    let a = both (is_range r) (are_ranges rs) h in
-    omega (arith, leb-true 1 r.first (both (leb 1 r.first) (eqb r.last 0 || leb r.first r.last) a.0).0, lowest_one rs a.1)
+    let a = and_parts (is_range r) (are_ranges rs) h in
+    omega (arith, leb-true 1 r.first (and_parts (leb 1 r.first) (eqb r.last 0 || leb r.first r.last) a.0).0, lowest_one rs a.1)
 
 -- ---- whether there is room
 

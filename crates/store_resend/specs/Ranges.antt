@@ -1,7 +1,7 @@
 -- Ranges in lent words, up to which number a set stays, and what a listing answers and leaves. Assumes nothing.
 use Rattle.std.specs.Prelude.{◌≡◌, ℕ, zero, suc, ◌+◌, ◌*◌, ◌-◌, ◌/◌, ◌%◌, ◌≤◌, min, Bool, true, cond, ◌&&◌, List, [], ◌∷◌, ◌++◌, map, length, get_or, take, drop, leb, ltb, eqb, Result, Ok, Err}
 use Rattle.std.proofs.lemmas.List.Edits.{sets}
-use Rattle.model_session.specs.Session.{Msg, stored_bytes}
+use Rattle.model_session.specs.Session.{Msg, stored_bytes, top}
 use Rattle.model_resend.specs.Resend.{Range, Served, set_of, listed, served, refusal_of}
 use Rattle.base_refusals.specs.declared.Refusal.{Refusal}
 use Rattle.base_refusals.specs.Numbers.{number_of}
@@ -28,9 +28,6 @@ ranges_from w j zero = []
 ranges_from w j (suc n) = range_at w j ∷ ranges_from w (suc j) n
 
 -- ---- up to which number the set of n stays
-
-abbrev pub top : ℕ
-top = 18446744073709551615
 
 -- for one range, and for all
 abbrev pub stays : Range → ℕ → ℕ
@@ -105,12 +102,12 @@ pub record Written (rs : List Range) (b : List ℕ) (ms : List Msg) (old new : L
   pub words : new ≡ words_of entries ++ drop (6 * length entries) old
 
 -- the entry of a message that was read
-abbrev pub entry_of : ℕ → Message → ListEntry
-entry_of set m = record { number = m.number; set = set; at = m.first.at; first = m.first.len; again = m.second.at; rest = m.second.len }
+abbrev pub entry_words_of : ℕ → Message → ListEntry
+entry_words_of set m = record { number = m.number; set = set; at = m.first.at; first = m.first.len; again = m.second.at; rest = m.second.len }
 
 -- entry k is written unless the set is empty
 abbrev pub entered : ℕ → ℕ → Message → List ℕ → List ℕ
-entered k set m l = cond (eqb set 0) l (sets l (6 * k) (entry_words (entry_of set m)))
+entered k set m l = cond (eqb set 0) l (sets l (6 * k) (entry_words (entry_words_of set m)))
 
 -- there is room for entry k, if it is written
 abbrev pub HasRoom : ℕ → ℕ → List ℕ → Type 0

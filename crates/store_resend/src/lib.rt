@@ -1,13 +1,14 @@
 // Several resend ranges together: the stored messages of a session that lie in some range, with the set of ranges each serves.
 #![tactic(auto)]
 
-ghost use Rattle.std.specs.Prelude.{◌≡◌, cond, ℕ, min, ◌+◌, ◌-◌, ◌*◌, ◌/◌, ◌≤◌, ◌<◌, length, get_or, leb};
+ghost use Rattle.std.specs.Prelude.{◌≡◌, cond, ℕ, min, ◌+◌, ◌-◌, ◌*◌, ◌/◌, ◌≤◌, ◌<◌, length, leb};
 ghost use Rattle.store_sessions.specs.Answers.{PositionAt, rest_at};
 ghost use Rattle.model_session.specs.Session.{stored_bytes};
 ghost use Rattle.model_resend.specs.Resend.{lies, is_range, are_ranges, set_of, listed};
 ghost use Rattle.store_resend.specs.Passes.{LogAt, Begun, Carries, PassesOver};
 ghost use Rattle.store_resend.specs.Ranges.{range_of, range_at, ranges_of, stays, lowest_of, Keeps, Serves, Counts, Adds, entered, HasRoom, Fills, Lists, listed_of};
 ghost use Rattle.store_resend.specs.Standing.{position_prop};
+ghost use Rattle.store_areas.specs.Areas.{used_of};
 
 use base_refusals::Refusal;
 use store_areas::{Shape, View};
@@ -214,7 +215,7 @@ struct Rest<'a> {
     view: &'a View<'a>,
     place: usize,
     from: LogPosition,
-    ghost used: { place < get_or view.now.words.now 0 0 },
+    ghost used: { place < used_of view.now.words.now },
     ghost stands: { PositionAt view.now.shape view.now.words.now view.now.bytes.now place from.left from.dist } by { position_prop view.now.shape view.now.words.now view.now.bytes.now place from.left from.dist },
     ghost left_fits: { from.left < 18446744073709551616 },
     ghost dist_fits: { from.dist < 18446744073709551616 },

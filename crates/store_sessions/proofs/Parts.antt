@@ -19,7 +19,7 @@ use Rattle.store_areas.proofs.Lifting.{spot_place, spot_words_part, spot_bytes_p
 use Rattle.store_areas.specs.declared.store.View.{View}
 use Rattle.store_areas.specs.Over.{ViewWith}
 use Rattle.store_areas.proofs.Reading.{part_of, out_is, in_is, flight_is, stamp_at, marks_at}
-use Rattle.store_sessions.specs.Answers.{gives, refuses, SummaryIn, TextsIn, summarised_at, rest_at, PositionAt, FromAt, NextMessageAt}
+use Rattle.store_sessions.specs.Answers.{gives, refuses, SummaryAtPlace, TextsIn, summarised_at, rest_at, PositionAt, FromAt, NextMessageAt}
 
 module _ (s : Shape) (i wa we ba be : ℕ) (w b : List ℕ) (at : SpotIn s i w b wa we ba be) (r : Rules s w b) (h : i < get_or w 0 0) where
   abbrev mw : List ℕ
@@ -100,11 +100,11 @@ module _ (s : Shape) (i wa we ba be : ℕ) (w b : List ℕ) (at : SpotIn s i w b
   abbrev lb : List ℕ
   lb = mid_of ba (be - ba) b
 
-  module _ (n : ℕ) (m : Summary) (M : ℕ) (x y : List ℕ) (em : M ≡ s.messages) (ex : x ≡ slice (words_at s i) (place_words s) w) (ey : y ≡ slice (bytes_at s i) (place_bytes s) b) (lent : SummaryIn s.bytes M ba n x y m) where
-    k : SummaryIn s.bytes s.messages ba n lw lb m
+  module _ (n : ℕ) (m : Summary) (M : ℕ) (x y : List ℕ) (em : M ≡ s.messages) (ex : x ≡ slice (words_at s i) (place_words s) w) (ey : y ≡ slice (bytes_at s i) (place_bytes s) b) (lent : SummaryAtPlace s.bytes M ba n x y m) where
+    k : SummaryAtPlace s.bytes s.messages ba n lw lb m
     k =
-        subst (λ (N : ℕ). SummaryIn s.bytes N ba n lw lb m) em
-        (subst₂ (λ u v. SummaryIn s.bytes M ba n u v m) (ex ∙ sym (ew s i wa we ba be w b at r h)) (ey ∙ sym (eb s i wa we ba be w b at r h)) lent)
+        subst (λ (N : ℕ). SummaryAtPlace s.bytes N ba n lw lb m) em
+        (subst₂ (λ u v. SummaryAtPlace s.bytes M ba n u v m) (ex ∙ sym (ew s i wa we ba be w b at r h)) (ey ∙ sym (eb s i wa we ba be w b at r h)) lent)
 
     stamp_there : TextAt b (place_at s w b i).stored.session.stamp m.created_at.at m.created_at.len
     stamp_there = subst (λ (j : ℕ). TextAt b (place_at s w b i).stored.session.stamp j m.created_at.len) (sym k.stamp_at) (stamp_at s i wa we ba be w b at r h m.created_at.len k.stamp_len k.stamp)

@@ -18,7 +18,7 @@ use Rattle.store_place.specs.PlaceWord
 use Rattle.store_place.specs.Place.{next_out_of, stored_flight, stamp_of, marks_of, session_of, rest_in, PositionIn}
 use Rattle.store_areas.specs.StoreWord
 use Rattle.store_areas.specs.declared.Shape.{Shape}
-use Rattle.store_areas.specs.Areas.{place_words, place_bytes, words_at, bytes_at, allowed, in_use, slice, place_at, places_of}
+use Rattle.store_areas.specs.Areas.{place_words, place_bytes, words_at, bytes_at, allowed, in_use, slice, place_at, places_of, used_of}
 
 -- what a function answers: a value, or document 01's number of a refusal
 pub data Answered (A : Type 0) : Type 0 where
@@ -41,14 +41,14 @@ sought_in s w b k = cond (allowed s w b) (gives (stored_place k (places_of s w b
 -- ---- opening: the new session stands at the place that was the first free one; nothing else changes but the count
 pub record Opened (s : Shape) (k : Key) (w w' b b' : List ℕ) : Type 0 where
   pub places : places_of s w' b' ≡ places_of s w b ++ (new_place k ∷ [])
-  pub words : Only (words_at s (get_or w StoreWord.used 0)) (words_at s (get_or w StoreWord.used 0) + place_words s) (set w StoreWord.used (get_or w StoreWord.used 0 + 1)) w'
-  pub bytes : Only (bytes_at s (get_or w StoreWord.used 0)) (bytes_at s (get_or w StoreWord.used 0) + place_bytes s) b b'
+  pub words : Only (words_at s (used_of w)) (words_at s (used_of w) + place_words s) (set w StoreWord.used (used_of w + 1)) w'
+  pub bytes : Only (bytes_at s (used_of w)) (bytes_at s (used_of w) + place_bytes s) b b'
 
 -- ---- promotion: only the places in use change
 pub record TakenOver (s : Shape) (lag : ℕ) (w w' b b' : List ℕ) : Type 0 where
   pub places : places_of s w' b' ≡ on_places (taken_over lag) (places_of s w b)
-  pub words : Only StoreWord.places (words_at s (get_or w StoreWord.used 0)) w w'
-  pub bytes : Only 0 (bytes_at s (get_or w StoreWord.used 0)) b b'
+  pub words : Only StoreWord.places (words_at s (used_of w)) w w'
+  pub bytes : Only 0 (bytes_at s (used_of w)) b b'
 
 -- ---- summaries
 
@@ -58,7 +58,7 @@ pub record TextsIn (b : List ℕ) (m : Summary) : Type 0 where
   pub marks : Lies b m.marks
 
 -- a summary by the words and bytes of a place, whose bytes begin at `from` in the byte area
-pub record SummaryIn (C M from n : ℕ) (w b : List ℕ) (m : Summary) : Type 0 where
+pub record SummaryAtPlace (C M from n : ℕ) (w b : List ℕ) (m : Summary) : Type 0 where
   pub out : m.next_outgoing ≡ next_out_of w
   pub inc : m.next_incoming ≡ get_or w PlaceWord.next_in 0
   pub flight : flight_of m.in_flight ≡ stored_flight w

@@ -2,14 +2,14 @@
 // A place comes as a number beside its view: callers have it from C or from a search.
 #![tactic(auto)]
 
-ghost use Rattle.std.specs.Prelude.{◌≡◌, Bool, true, List, [], ◌∷◌, ◌++◌, ℕ, ◌+◌, ◌-◌, ◌*◌, ◌≤◌, ◌<◌, length, take, drop, get_or, set};
+ghost use Rattle.std.specs.Prelude.{◌≡◌, Bool, true, List, [], ◌∷◌, ◌++◌, ℕ, ◌+◌, ◌-◌, ◌*◌, ◌≤◌, ◌<◌, length, take, drop, set};
 ghost use Rattle.model_session.specs.Summary.{last_out, summary};
 ghost use Rattle.model_standby.specs.Store.{same_key, taken_over};
 ghost use Rattle.frame_fields.specs.Answers.{summary_of};
-ghost use Rattle.store_place.specs.Keys.{key_of};
-ghost use Rattle.store_areas.specs.Areas.{Changed, place_at, places_of};
+ghost use Rattle.store_place.specs.Keys.{lent_key};
+ghost use Rattle.store_areas.specs.Areas.{Changed, place_at, places_of, used_of};
 ghost use Rattle.store_areas.specs.Same.{SameAreas};
-ghost use Rattle.store_sessions.specs.Answers.{stored_place, sought_is, sought_in, Opened, TakenOver, SummaryIn, TextsIn, summarised_is, SummarisedIn, summarised_at, PositionAt, FromAt, NextMessageAt};
+ghost use Rattle.store_sessions.specs.Answers.{stored_place, sought_is, sought_in, Opened, TakenOver, SummaryAtPlace, TextsIn, summarised_is, SummarisedIn, summarised_at, PositionAt, FromAt, NextMessageAt};
 
 use base_refusals::Refusal;
 use frame_fields::Summary;
@@ -33,8 +33,8 @@ pub struct Message {
 
 // Whether place i has this key.
 fn has_key(view: &View, place: usize, key: &Key) -> bool
-    requires { place < get_or view.now.words.now 0 0 }
-    ensures { result ≡ same_key (key_of key.now) (place_at view.now.shape view.now.words.now view.now.bytes.now place).key }
+    requires { place < used_of view.now.words.now }
+    ensures { result ≡ same_key (lent_key key.now) (place_at view.now.shape view.now.words.now view.now.bytes.now place).key }
 {
     let stored = view.place(place);
     store_place::has_key(stored.words, stored.bytes, key)
@@ -42,7 +42,7 @@ fn has_key(view: &View, place: usize, key: &Key) -> bool
 
 // The first place with this key.
 pub fn place_of(view: &View, key: &Key) -> Option<usize>
-    ensures { result ≡ stored_place (key_of key.now) (places_of view.now.shape view.now.words.now view.now.bytes.now) }
+    ensures { result ≡ stored_place (lent_key key.now) (places_of view.now.shape view.now.words.now view.now.bytes.now) }
 {
     (0..view.words[word::USED] as usize).find(|place| has_key(view, *place, key))
 }
@@ -50,7 +50,7 @@ pub fn place_of(view: &View, key: &Key) -> Option<usize>
 // The same on any areas: 25 where they break the rules.
 // The areas and the shape come apart, as C lends them.
 pub fn find(words: &[u64], bytes: &[u8], shape: Shape, key: &Key) -> Result<Option<usize>, Refusal>
-    ensures { sought_is result ≡ sought_in shape words.now bytes.now (key_of key.now) }
+    ensures { sought_is result ≡ sought_in shape words.now bytes.now (lent_key key.now) }
 {
     let view = View::over(shape, words, bytes)?;
     Ok(place_of(&view, key))
@@ -58,13 +58,13 @@ pub fn find(words: &[u64], bytes: &[u8], shape: Shape, key: &Key) -> Result<Opti
 
 // Opens the new session of a key at the next free place, and gives that.
 pub fn open(store: &mut Store, key: &Key) -> usize
-    requires words_bound { get_or store.old.words.now 0 0 < store.old.shape.places }
+    requires words_bound { used_of store.old.words.now < store.old.shape.places }
     requires begin_len_bound { length key.now.begin.now ≤ 32 }
     requires sender_len_bound { length key.now.sender.now ≤ 32 }
     requires target_len_bound { length key.now.target.now ≤ 32 }
     requires suffix_len_bound { length key.now.suffix.now ≤ 32 }
-    ensures place { result ≡ get_or store.old.words.now 0 0 }
-    ensures is { Opened store.old.shape (key_of key.now) store.old.words.now store.new.words.now store.old.bytes.now store.new.bytes.now }
+    ensures place { result ≡ used_of store.old.words.now }
+    ensures is { Opened store.old.shape (lent_key key.now) store.old.words.now store.new.words.now store.old.bytes.now store.new.bytes.now }
     ensures same { SameAreas store.old store.new }
 {
     let used = store.words[word::USED] as usize;
@@ -84,7 +84,7 @@ pub fn open(store: &mut Store, key: &Key) -> usize
 
 // Promotion's work on one session.
 pub fn take_over(store: &mut Store, place: usize, lag: u64)
-    requires { place < get_or store.old.words.now 0 0 }
+    requires { place < used_of store.old.words.now }
     ensures is { Changed store.old.shape place (taken_over lag) store.old.words.now store.new.words.now store.old.bytes.now store.new.bytes.now }
     ensures same { SameAreas store.old store.new }
 {
@@ -112,14 +112,14 @@ pub fn take_over_all(store: &mut Store, lag: u64)
 // ---- what is stored of a session in use
 
 pub fn next_outgoing(view: &View, place: usize) -> u64
-    requires { place < get_or view.now.words.now 0 0 }
+    requires { place < used_of view.now.words.now }
     ensures { result ≡ (place_at view.now.shape view.now.words.now view.now.bytes.now place).stored.session.next_out }
 {
     store_place::next_outgoing(view.place(place).words)
 }
 
 pub fn durable(view: &View, place: usize) -> bool
-    requires { place < get_or view.now.words.now 0 0 }
+    requires { place < used_of view.now.words.now }
     ensures { result ≡ (place_at view.now.shape view.now.words.now view.now.bytes.now place).stored.durable }
 {
     store_place::durable(view.place(place).words)
@@ -127,7 +127,7 @@ pub fn durable(view: &View, place: usize) -> bool
 
 // last_outgoing over n.
 pub fn last_outgoing(view: &View, place: usize, n: u64) -> u64
-    requires { place < get_or view.now.words.now 0 0 }
+    requires { place < used_of view.now.words.now }
     ensures { result ≡ last_out (place_at view.now.shape view.now.words.now view.now.bytes.now place).stored.session n }
 {
     view.place(place).last_outgoing(n)
@@ -136,7 +136,7 @@ pub fn last_outgoing(view: &View, place: usize, n: u64) -> u64
 // The summary of the session at a place whose bytes begin at `from` in the byte area, with last_outgoing over n.
 fn summary_in(stored: &Place, from: usize, n: u64) -> Summary
     requires { from + 224 < 18446744073709551616 }
-    ensures { (C : ℕ) → length stored.now.bytes.now ≡ 224 + C → SummaryIn C stored.now.max from n stored.now.words.now stored.now.bytes.now result }
+    ensures { (C : ℕ) → length stored.now.bytes.now ≡ 224 + C → SummaryAtPlace C stored.now.max from n stored.now.words.now stored.now.bytes.now result }
 {
     Summary {
         next_outgoing: store_place::next_outgoing(stored.words),
@@ -156,7 +156,7 @@ fn summary_in(stored: &Place, from: usize, n: u64) -> Summary
 
 // The summary with last_outgoing over n; its texts are parts of the byte area.
 pub fn summary_of(view: &View, place: usize, n: u64) -> Summary
-    requires { place < get_or view.now.words.now 0 0 }
+    requires { place < used_of view.now.words.now }
     ensures is { summary_of view.now.bytes.now result ≡ summary (place_at view.now.shape view.now.words.now view.now.bytes.now place).stored.session n }
     ensures inside { TextsIn view.now.bytes.now result }
 {
@@ -182,7 +182,7 @@ pub fn summary(
 
 // The place in the log of a session where the messages with numbers from low begin.
 pub fn messages_from(view: &View, place: usize, low: u64) -> LogPosition
-    requires place_bound { place < get_or view.now.words.now 0 0 }
+    requires place_bound { place < used_of view.now.words.now }
     requires le_low { 1 ≤ low }
     ensures { FromAt view.now.shape view.now.words.now view.now.bytes.now place low result.left result.dist }
 {
@@ -191,7 +191,7 @@ pub fn messages_from(view: &View, place: usize, low: u64) -> LogPosition
 
 // The next message at a place in the log of a session.
 pub fn message_at(view: &View, place: usize, position: LogPosition) -> Message
-    requires place_bound { place < get_or view.now.words.now 0 0 }
+    requires place_bound { place < used_of view.now.words.now }
     requires position_at { PositionAt view.now.shape view.now.words.now view.now.bytes.now place position.left position.dist }
     requires le_left { 1 ≤ position.left }
     ensures { NextMessageAt view.now.shape view.now.words.now view.now.bytes.now place position.left position.dist result.number result.first.at result.first.len result.second.at result.second.len result.next.left result.next.dist }

@@ -5,7 +5,7 @@
 
 use base_refusals::Refusal;
 use frame_fields::Epoch;
-use standby_choice::{Copy, LentCopy};
+use standby_choice::{CopyState, LentCopy};
 use std::io;
 use std::str::SplitWhitespace;
 use store_areas::{COUNT_WORDS, Shape};
@@ -36,7 +36,7 @@ fn copy<'a>(
         words[at + word::BEGIN_LEN] = 1;
     }
     LentCopy {
-        copy: Copy {
+        copy: CopyState {
             listed,
             checked,
             epoch,

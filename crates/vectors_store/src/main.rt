@@ -8,7 +8,7 @@
 
 use std::io;
 use store_areas::{Shape, View};
-use store_log::{Found, fnv};
+use store_log::{FoundMessage, fnv};
 use vectors_script::{number, small};
 
 // Records messages of len bytes under the next numbers.
@@ -20,7 +20,7 @@ fn record_many(words: &mut [u64], bytes: &mut [u8], shape: Shape, len: usize, co
 }
 
 // A message's number, length and hash.
-fn print_message(rt: &impl Print, ring: &[u8], found: Found) -> io::Result<()> {
+fn print_message(rt: &impl Print, ring: &[u8], found: FoundMessage) -> io::Result<()> {
     let span = found.span;
     let end = span.start.saturating_add(span.first);
     let first = ring.get(span.start..end).unwrap_or(&[]);

@@ -279,7 +279,7 @@ mod exports {
 
 #[cfg(all(calls, not(plain)))]
 mod entry {
-    use super::{Areas, Ask, Counters, Place, Settings, Size, outcome};
+    use super::{Areas, Ask, Counters, Place, Settings, Size};
 
     /// A part of the store's bytes.
     #[repr(C)]
@@ -346,19 +346,11 @@ mod entry {
     }
 
     unsafe extern "C" {
-        fn wz_make(
-            words: *mut u64,
-            words_len: usize,
-            bytes: *const u8,
-            bytes_len: usize,
-            s: u32,
-            c: u32,
-            m: u32,
-        ) -> u64;
+        fn store_make(words: *mut u64, words_len: usize, bytes: *const u8, bytes_len: usize, shape: Size) -> u8;
 
         fn wz_answer(said: Said, bytes: *const u8, bytes_len: usize, out: *mut u8, out_len: usize) -> u64;
 
-        fn wz_fnv(hash: u64, bytes: *const u8, bytes_len: usize) -> u64;
+        fn store_fnv(hash: u64, bytes: *const u8, bytes_len: usize) -> u64;
     }
 
     macro_rules! ask {
@@ -372,11 +364,10 @@ mod entry {
 
     /// Makes a store, and a standby over it.
     pub fn made(counters: &mut Counters, areas: &mut Areas, settings: Settings) -> u64 {
-        let Size { sessions, bytes: c, messages: m } = settings.size;
         let (words, words_len) = (areas.words.as_mut_ptr(), areas.words.len());
-        let made = unsafe { wz_make(words, words_len, areas.bytes.as_ptr(), areas.bytes.len(), sessions, c, m) };
-        if outcome(made).is_err() {
-            return made;
+        let refused = unsafe { store_make(words, words_len, areas.bytes.as_ptr(), areas.bytes.len(), settings.size) };
+        if refused != 0 {
+            return u64::from(refused) << 40;
         }
         answer(&ask!(make, counters, &mut *areas, settings), &areas.bytes, &mut [])
     }
@@ -399,6 +390,6 @@ mod entry {
     }
 
     pub fn fnv(bytes: &[u8]) -> u64 {
-        unsafe { wz_fnv(0xcbf2_9ce4_8422_2325, bytes.as_ptr(), bytes.len()) }
+        unsafe { store_fnv(0xcbf2_9ce4_8422_2325, bytes.as_ptr(), bytes.len()) }
     }
 }

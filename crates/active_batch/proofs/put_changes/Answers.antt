@@ -3,7 +3,7 @@ use Rattle.model_frame.specs.Frame.{Change}
 use Rattle.active_messages.specs.Cut.{taken}
 use Rattle.active_header.specs.Ends.{opening_of, ending_of}
 use Rattle.active_header.proofs.Ends.{run_past}
-use Rattle.active_batch.specs.Batch.{rest_at}
+use Rattle.active_batch.specs.Batch.{messages_left}
 use Rattle.active_batch.proofs.Framing.{put_three, three_sizes}
 use Rattle.active_batch.proofs.put_changes.Goals.{Start}
 use Rattle.active_batch.proofs.put_changes.Goals as goal
@@ -13,7 +13,7 @@ abbrev opening : (c : Start) → List Change
 opening c = opening_of c.args.header.now.stamp.now c.args.batch.from
 
 abbrev messages : (c : Start) → List Change
-messages c = taken c.args.batch.limit 0 c.args.plan.next (rest_at c.args.batch.limit c.args.header.now c.args.log.now c.args.plan.position)
+messages c = taken c.args.batch.limit 0 c.args.plan.next (messages_left c.args.batch.limit c.args.header.now c.args.log.now c.args.plan.position)
 
 abbrev ending : (c : Start) → List Change
 ending c = ending_of c.args.header.now c.args.plan.last c.args.plan.resume_from

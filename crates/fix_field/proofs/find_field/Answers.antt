@@ -1,6 +1,7 @@
 use Rattle.std.proofs.Common.{◌≡◌, ◌+◌, ◌∙◌, sym, ap, drop, get_or, List, ℕ, length-drop, arith}
+use Rattle.model_fix.proofs.Grammar.{digits_le}
 use Rattle.model_fix.specs.Field.{digits}
-use Rattle.fix_field.proofs.Pieces.{first_byte, rest, rest_digits, digits_le, field_closes, field_no_tag, field_zero}
+use Rattle.fix_field.proofs.Pieces.{first_byte, rest, rest_digits, field_closes, field_no_tag, field_zero}
 use Rattle.fix_field.proofs.find_field.Goals as goal
 
 pub returns-then-n-eq0 : goal.returns-then-n-eq0

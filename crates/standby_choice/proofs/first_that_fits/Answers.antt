@@ -14,4 +14,4 @@ pub returns : goal.returns
 returns c =
     let cs = c.args.copies.now in
     first_fits cs c.highest-top.ensures
-    (position_from_yields_List (fits cs c.highest-top.result) _ _ _ c.position.ensures.ran (YieldsList-from_slice cs cc) (λ x b q r. search rules))
+    (position_from_yields_List (fits cs c.highest-top.result.0) _ _ _ c.position.ensures.ran (YieldsList-from_slice cs cc) (λ x b q r. search rules))

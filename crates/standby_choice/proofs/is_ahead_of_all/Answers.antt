@@ -14,5 +14,5 @@ all-requires-clause-callable c =
 pub returns : goal.returns
 returns c =
     let m = c.args.mine.now in
-    all_from_yields_List (ahead c.args.top (places_of m.shape m.words.now m.bytes.now)) _ _ _ c.all.ensures.ran (YieldsList-from_slice c.args.copies.now cc) (λ x b q r. search rules)
-    ∙ ahead_of_all c.args.top (places_of m.shape m.words.now m.bytes.now) c.args.copies.now
+    all_from_yields_List (ahead c.args.top.0 (places_of m.shape m.words.now m.bytes.now)) _ _ _ c.all.ensures.ran (YieldsList-from_slice c.args.copies.now cc) (λ x b q r. search rules)
+    ∙ ahead_of_all c.args.top.0 (places_of m.shape m.words.now m.bytes.now) c.args.copies.now

@@ -1,6 +1,6 @@
 use Rattle.std.proofs.Common.{arith, sym}
 use Rattle.active_quorum.proofs.Laws.{starts, hit, strays, goes_on, ended}
-use Rattle.active_quorum.proofs.area.View.place_of.Goals as goal
+use Rattle.active_quorum.proofs.area.QuorumView.place_of.Goals as goal
 
 pub loop-i-init : goal.loop-i-init
 loop-i-init c = starts c.args.self.now.words.now c.args.handle c.args.self.now.rules.count

@@ -1,5 +1,5 @@
 use Rattle.active_quorum.proofs.Laws.{Walking}
-use Rattle.active_quorum.proofs.area.View.place_of.Given as goal
+use Rattle.active_quorum.proofs.area.QuorumView.place_of.Given as goal
 
 abbrev pub invariant-loop-i : goal.invariant-loop-i
 invariant-loop-i l = Walking l.words l.handle l.below l.i
