@@ -150,7 +150,7 @@ typedef struct wz_replica_t {
     uint8_t promoted, checked;
 } wz_replica_t;
 
-/* A handle that is bound to a session, or a free record. A row needs one for each handle bound between two Hellos. */
+/* A handle that is bound to a session, or a free record. A session has at most one handle: a row of as many records as the store has places is never too short. */
 typedef struct wz_bound_t {
     uint8_t used;
     uint32_t handle;

@@ -64,6 +64,37 @@ static void stores(void) {
     HOLDS(wz_standby_make(&b.counters, b.row, H, STORE(b), settings).refusal == 0);
 }
 
+static wz_answer_t call(int which, struct copy *x) {
+    switch (which) {
+    case 0: return wz_on_frame_held(LENT(*x), frame, len, settings);
+    case 1: return wz_on_frame(LENT(*x), frame, len, settings);
+    case 2: return wz_flush(LENT(*x), x->counters.connections, settings);
+    case 3: return wz_disconnected_from(LENT(*x), x->counters.connections, settings);
+    case 4: return wz_promote(LENT(*x), settings);
+    default: return wz_promote_unchecked(LENT(*x), settings);
+    }
+}
+
+/* Rows in which two used records name one place, have one handle, or both: 25 from each of the six calls, and all as it was. Without the second record they keep the rules. */
+static void rows(void) {
+    static struct copy lent, left;
+    for (int i = 0; i < H; i++)
+        for (int j = 0; j < H; j++)
+            for (int kind = 0; i != j && kind < 3; kind++) {
+                memcpy(&lent, &a, sizeof lent);
+                memset(lent.row, 0, sizeof lent.row);
+                lent.row[i].used = 1, lent.row[i].handle = 7, lent.row[i].place = 1;
+                lent.row[j].used = 255, lent.row[j].handle = kind == 0 ? 7 + 256 : 7, lent.row[j].place = kind == 1 ? 0 : 1;
+                for (int which = 0; which < 6; which++) {
+                    memcpy(&left, &lent, sizeof left);
+                    HOLDS(call(which, &left).refusal == WZ_REFUSED_RULES_BROKEN && !memcmp(&left, &lent, sizeof left));
+                }
+                lent.row[j].used = 0;
+                memcpy(&left, &lent, sizeof left);
+                HOLDS(wz_disconnected_from(LENT(left), left.counters.connections + 1, settings).refusal == 0 && !memcmp(&left, &lent, sizeof left));
+            }
+}
+
 static void standby(void) {
     hello(5);
     HOLDS(wz_read(frame, len - 1) == WZ_MORE);
@@ -95,20 +126,24 @@ static void standby(void) {
     HOLDS(r.kind == WZ_KIND_ACK && r.handle == 9 && r.commit_no == 1 && a.row[1].commit_no == 1 && a.words[1] == 1);
     HOLDS(wz_flush(LENT(a), 2, settings).refusal == WZ_REFUSED_OTHER_CONNECTION);
     HOLDS(wz_flush(LENT(a), 1, settings).refusal == 0 && a.words[1] == 0);
+    /* A session has one handle: 9's record goes, and 10's stands there, for it comes before the first free one. */
     bind(10, 5, "DARKPOOL");
     r = give(&a);
+    HOLDS(r.kind == WZ_KIND_BOUND && a.row[1].used == 1 && a.row[1].handle == 10 && a.row[1].place == 1 && a.row[1].commit_no == 0 && !a.row[2].used);
     HOLDS(r.summary.next_outgoing == 3 && r.summary.next_incoming == 8 && r.summary.has_in_flight == 1 && r.summary.in_flight == 7);
     HOLDS(r.summary.created_at.len == 17 && !memcmp(a.bytes + r.summary.created_at.at, "20261116-12:00:00", 17));
     HOLDS(r.summary.marks.len == 1 && a.bytes[r.summary.marks.at] == 'm');
     HOLDS(r.summary.last_outgoing == wz_store_last_outgoing(STORE(a), shape, 1, 5).value);
     batch(10, 1, WZ_PART_WHOLE, 2);
     number(WZ_CHANGE_RESET, 1); number(WZ_CHANGE_RECORD, 1); number(1, 8); text("held"); number(0, 4); end();
-    HOLDS(give(&a).kind == WZ_KIND_ACK && a.row[2].held_len == 18 && a.row[2].held_bytes == 4);
-    batch(11, 1, WZ_PART_COMMIT, 0); number(0, 4); end();
+    HOLDS(give(&a).kind == WZ_KIND_ACK && a.row[1].held_len == 18 && a.row[1].held_bytes == 4);
+    batch(9, 2, WZ_PART_COMMIT, 0); number(0, 4); end();
     r = give(&a);
     HOLDS(r.refusal == WZ_REFUSED_UNBOUND && r.kind == WZ_KIND_NONE && WZ_REFUSAL(wz_answer(r, a.bytes, BYTES, out, sizeof out)) == WZ_REFUSED_UNBOUND);
+    rows();
     frame[4] = 99;
     HOLDS(WZ_REFUSAL(wz_read(frame, len)) == WZ_REFUSED_UNKNOWN_BYTE && WZ_DETAIL(wz_read(frame, len)) == 99);
+    rows();
 }
 
 /* The session at a's place 1 is sent whole into b, which then takes over. */

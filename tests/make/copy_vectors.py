@@ -13,7 +13,7 @@ from wire import BATCH_LIMIT, bind, hello, joined, key, message, record, record_
 EPOCH = 5
 KEY = (b"FIX.4.4", b"A", b"B", b"")
 HELLO = hello(epoch=EPOCH).hex()
-BIND = bind(key(*KEY), 3, EPOCH, 0).hex()
+BIND, OTHER = (bind(key(*KEY), handle, EPOCH, 0).hex() for handle in (3, 4))
 
 # a store's places, and the bytes and messages that it keeps of a session
 Shape = tuple[int, int, int]
@@ -70,8 +70,8 @@ def go(shape: Shape, a: Sequence[str], b: Sequence[str], way: Sequence[str], end
     first = f"7 0 {cap} {most} {places} 4"
     fill = ["F " + frame for frame in (HELLO, BIND, commit(changes(a)))]
 
-    def sending(last: int) -> tuple[str, list[str]]:
-        got = rust_calls([first, *fill, "S", f"W 3 {EPOCH} {last} {','.join(text.hex() for text in KEY)}"])
+    def sending(last: int, handle: int = 3) -> tuple[str, list[str]]:
+        got = rust_calls([first, *fill, "S", f"W {handle} {EPOCH} {last} {','.join(text.hex() for text in KEY)}"])
         assert got[-1] == "done" and answer(got[2]) == "5/0/0", got
         return session(got[4]), got[6:-1]
 
@@ -87,8 +87,9 @@ def go(shape: Shape, a: Sequence[str], b: Sequence[str], way: Sequence[str], end
             given.append(rest)
             step = "h:" + rest
         elif letter == "w":
-            sent, at = sending(int(rest))[1], -1
-            step = f"w 3 {EPOCH} {rest}"
+            last, handle = (int(word) for word in f"{rest} 3".split(" ")[:2])
+            sent, at = sending(last, handle)[1], -1
+            step = f"w {handle} {EPOCH} {last}"
         elif letter == "f":
             at += 1
             if at >= len(sent):
@@ -148,6 +149,12 @@ go(LARGE, TWO, OLD, ["f", "f", "="], "B")
 # a new connection between them: 14; then the session is sent whole again
 go(LARGE, TWO, OLD, ["f", "=", "h " + HELLO, "f", "=", "h " + BIND, "=", "w 0", "f", "=", "f", "="], "A")
 go(LARGE, TWO, OLD, ["f", "=", "h " + BIND, "f", "=", "w 0", "f", "=", "f"], "B")
+
+# the session goes to another handle between them: 14, what was held is gone; sent whole to the new one, and to the first, bound again
+go(LARGE, TWO, OLD, ["f", "=", "h " + OTHER, "f", "="], "B")
+go(LARGE, TWO, OLD, ["f", "=", "h " + OTHER, "f", "=", "w 0 4", "f", "=", "f", "=", "f"], "A")
+go(LARGE, TWO, OLD, ["f", "=", "h " + OTHER, "w 0 4", "f", "=", "h " + BIND, "f", "=", "w 0", "f", "=", "f", "=", "f"], "A")
+go(SMALL, GAPS, OLD, ["h " + OTHER, "f", "=", "w 0 4", "f", "=", "f"], "A")
 
 write("crates/vectors_copy/stdin", joined(script))
 write("crates/vectors_copy/stdout", joined(wanted))

@@ -2,9 +2,11 @@
 """Writes lines for the program `frames`, and what the Rust prints for them (oracle/rust-frames-program): tests/frames/NAME.in and NAME.out.
 
 `answers` gets every refusal and every Nack that the program can show, on two handles in turn, with a restart and a stale active. `commits` has 80
-commits on four handles in turn, with a session that outgrows C and one that outgrows M, a stale active among them, and a restart.
+commits on four handles in turn, with a session that outgrows C and one that outgrows M, a stale active among them, a restart, and a session that goes to
+another handle in the full row while the first holds changes.
 
-10, 17 and 22 to 25 can't be shown there: the standby isn't promoted, and its lines are too short to hold more than 4 GiB.
+10, 17 and 21 to 25 can't be shown there: the standby isn't promoted, its lines are too short to hold more than 4 GiB, and its four places are enough
+where each of four sessions has one handle (21; document 02, U4).
 """
 from collections.abc import Sequence
 
@@ -54,8 +56,8 @@ answers = [
     welcome(5, 7), ack(1, 1), nack(2, 1),
     # 19
     bound(),
-    # Bound, 21, Bound, 20
-    bind(4, 5, b"C"), bind(5, 5, b"C"), bind(4, 5, b"D"), bind(4, 5, b"E"),
+    # Bound, Bound: the row is full; Bound, for C's handle goes, and is 14; 20
+    bind(4, 5, b"C"), bind(2, 5, b"D"), bind(5, 5, b"C"), batch(4, 5, 1, COMMIT, []), bind(5, 5, b"E"),
     # 1, 2, 3, 4
     b"\x01\x00\x00\x04", framed(b"\x06\x01\x00\x00\x00\x01\x00"), framed(b"\x09"), framed(b"\x01" + u16(1) + u64(5) + blob(b"\xed\xa0\x80") + run([])),
     # 5, 6
@@ -78,6 +80,7 @@ for number in range(1, 21):
         commits.append(batch(0, 0, number + 1, COMMIT, []))
 commits += [hello(2), batch(0, 2, 21, COMMIT, [])] + [bind(handle, 2, name) for handle, name in enumerate(reversed(NAMES))]
 commits += [batch(0, 2, 1, COMMIT, [record(81, b"on")]), batch(3, 2, 1, COMMIT, [record(21, b"on"), set_next_incoming(7)]), batch(3, 1, 2, COMMIT, []), bind(3, 2, b"A")]
+commits += [batch(3, 2, 1, WHOLE, [RESET]), bind(9, 2, b"A"), batch(3, 2, 2, LAST_WHOLE, []), batch(9, 2, 1, COMMIT, [record(22, b"on")])]
 
 for name, frames in (("answers", answers), ("commits", commits)):
     text = joined(frame.hex() for frame in frames)

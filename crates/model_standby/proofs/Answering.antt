@@ -12,7 +12,7 @@ use Rattle.model_text.specs.Printable.{is_marks}
 use Rattle.model_text.specs.Stamp.{longest_stamp}
 use Rattle.model_text.proofs.Laws.{marks_is}
 use Rattle.model_session.proofs.Sending.{stamp_short}
-use Rattle.model_frame.specs.Frame.{Reason, lag_too_great, restarted, Change, Part, stale_epoch, diverged, Frame, welcome, ack, nack, bound, checked}
+use Rattle.model_frame.specs.Frame.{Reason, lag_too_great, restarted, Change, Part, stale_epoch, diverged, Frame, welcome, ack, nack, bound}
 use Rattle.model_frame.specs.Parse.{Each}
 use Rattle.model_frame.specs.Writing.{encode, Ranged, Writable, fine}
 use Rattle.model_frame.specs.Sizes.{body_size}

@@ -10,7 +10,7 @@ use mathlib.Core.Option.{some}
 use mathlib.Core.Bool.{Bool, true, false, cond, not, ◌||◌}
 use lib.ListN.{length, length-append, get_elem?}
 use lib.Dec.{ltb, eqb, ltb→lt, nltb→le}
-use Rattle.model_frame.specs.Frame.{Key, Change, Part, Frame, checked}
+use Rattle.model_frame.specs.Frame.{Key, Change, Part, Frame}
 use Rattle.model_standby.specs.Answer.{Given, damaged, intact, given, is_reply}
 use Rattle.model_standby.specs.Store.{Stored, Place, same_key, place_of, is_stored, on_place, on_places, mark_durable, new_place, opened, changed, mark_all, taken_over}
 use Rattle.model_standby.specs.State.{Settings, Standby, Result, Call, on_frame_held, on_frame, flush, disconnected_from, promote, promote_unchecked}

@@ -10,15 +10,18 @@ use lib.Dec.{T, eqb}
 use Rattle.model_frame.specs.Frame.{Reason, Change, Part, AppRecord, Frame, hello, welcome, bind, batch, ack, nack, bound, checked}
 use Rattle.model_session.specs.Session.{Session, apply_all}
 use Rattle.model_standby.specs.Answer.{reply, Given, damaged, intact, given, refused, is_reply}
-use Rattle.model_standby.specs.Row.{Row, freed, find, has_room_lem, put}
+use Rattle.model_standby.specs.Row.{Row, freed, find, has_room, put}
 use Rattle.model_standby.specs.Store.{Place, place_of, on_stored, on_place, session_at, changed}
 use Rattle.model_standby.specs.State.{Settings, Bound, Standby, Result, Call, on_frame_held, on_frame, flush, disconnected_from, promote, promote_unchecked, new_bound, none_held, numbered}
+use Rattle.model_standby.specs.Handles.{apart, without_others}
 use Rattle.model_standby.specs.Standby.{with_handle, run_pending, due, summed, holding, applied, on_given, step, run}
-use Rattle.model_standby.specs.PlainCopy.{OwnKey, own_key, key_is, Copy, set_at, bound_key, bound_held, copy_at, copy_settle, copy_batch, copy_frame, copy_given, copy_step_lem, copy_run_lem}
+use Rattle.model_standby.specs.PlainCopy.{OwnKey, own_key, key_is, Copy, set_at, bound_key, bound_held, copy_at, copy_settle, copy_batch, copy_frame, copy_given, copy_step, copy_run}
 use Rattle.model_standby.specs.Demand.{not_promotion, no_promotions}
 use Rattle.model_session.proofs.Basics.{and_l, and_r, cond_cases, cond-true, cond-false, eqb_true, eqb_sound, none≢some, some_inj}
 use Rattle.model_standby.proofs.Outcomes.{Nacked, stale_bind, lag_bind, stale_batch, stale_checked, other_checked, Gathers, of_commit, of_last, Batches, refuses, clears, raises, holds, applies, diverges, Does, turns, tells, nacks, greets, binds, checks, batches, does}
 use Rattle.model_standby.proofs.Rows.{find_freed, find_put_self, find_put_same, find_put_other}
+use Rattle.model_standby.proofs.Handles.{others_found}
+use Rattle.model_standby.proofs.RowKept.{apart_step}
 use Rattle.model_standby.proofs.Places.{session_there, own_is, bind_is, own_on, at_on_same, at_on_other, pending_session, pending_own, open_own, open_session}
 
 -- for every bound handle: its key in the copy is k just if its place is `here`, and its held changes are the copy's
@@ -57,7 +60,12 @@ module _ (k : OwnKey) (here : ℕ) where
           let o = m x b₁ (sym (find_put_other x h b t e) ∙ f) in
           (o.0, r x e ∙ o.1)
 
-  match_put : (t : Row Bound) (K : ℕ → Option OwnKey) (H : ℕ → List Change) (h : ℕ) (j : OwnKey) (n : ℕ) → key_is k (some j) ≡ eqb n here → Match k here t K H → has_room_lem h t ≡ true
+  -- no handle is in two places, so one that is still there is as it was. Were a handle in two places, a Bind that frees the first would bring the second to
+  -- life, of which the copy knows nothing
+  match_others : (t : Row Bound) (K : ℕ → Option OwnKey) (H : ℕ → List Change) (h n : ℕ) → apart t ≡ true → Match k here t K H → Match k here (without_others h n t) K H
+  match_others t K H h n a m x b f = m x b (others_found h n x b t a f)
+
+  match_put : (t : Row Bound) (K : ℕ → Option OwnKey) (H : ℕ → List Change) (h : ℕ) (j : OwnKey) (n : ℕ) → key_is k (some j) ≡ eqb n here → Match k here t K H → has_room h t ≡ true
       → Match k here (put h (new_bound n) t) (set_at h (some j) K) (set_at h [] H)
   match_put t K H h j n kj m r x b f = go (eqb x h) refl
     where
@@ -176,46 +184,49 @@ module _ (L : Settings) (k : OwnKey) (here : ℕ) where
   copy_nacked c stale_checked = refl
   copy_nacked c other_checked = refl
 
-  after : {s : Standby} {f : Frame} {r : Result} (c : Copy) → Does L s f r → Tracks k here s c → After c f r
-  after {s} {f} c (turns {n} u) t = subst (Tracks k here s) (sym (copy_refused c f n)) t
-  after c tells t = t
-  after {s} c (nacks q) t = subst (Tracks k here s) (sym (copy_nacked c q)) t
-  after {s} c (greets le) t = record { same_place = t.same_place; same_session = t.same_session; same_handles = match_freed k here s.handles c.key_of c.held_of }
-  after {s} c (binds {h} {k = j} le p q) t =
+  after : {s : Standby} {f : Frame} {r : Result} (c : Copy) → Does L s f r → apart s.handles ≡ true → Tracks k here s c → After c f r
+  after {s} {f} c (turns {n} u) a t = subst (Tracks k here s) (sym (copy_refused c f n)) t
+  after c tells a t = t
+  after {s} c (nacks q) a t = subst (Tracks k here s) (sym (copy_nacked c q)) t
+  after {s} c (greets le) a t = record { same_place = t.same_place; same_session = t.same_session; same_handles = match_freed k here s.handles c.key_of c.held_of }
+  after {s} c (binds {h} {k = j} le p q) a t =
       record {
         same_place = open_own j s.places here k t.same_place;
         same_session = open_session j s.places here (session_there s.places here c.session t.same_session) ∙ t.same_session;
-        same_handles = match_put k here s.handles c.key_of c.held_of h (record { key = j; earlier = 0 }) (place_of j s.places) (bind_is s.places here k j t.same_place) t.same_handles q;
+        same_handles =
+            match_put k here (without_others h (place_of j s.places) s.handles) c.key_of c.held_of h (record { key = j; earlier = 0 }) (place_of j s.places)
+            (bind_is s.places here k j t.same_place) (match_others k here s.handles c.key_of c.held_of h (place_of j s.places) a t.same_handles) q;
       }
-  after c (checks le) t = record { same_place = t.same_place; same_session = t.same_session; same_handles = t.same_handles }
-  after {s} c (batches {e} {apps} le d) t = after_batch c e apps d (record { same_place = t.same_place; same_session = t.same_session; same_handles = t.same_handles })
+  after c (checks le) a t = record { same_place = t.same_place; same_session = t.same_session; same_handles = t.same_handles }
+  after {s} c (batches {e} {apps} le d) a t = after_batch c e apps d (record { same_place = t.same_place; same_session = t.same_session; same_handles = t.same_handles })
 
-  after_given : (s : Standby) (c : Copy) (g : Given) → Tracks k here s c → Tracks k here (on_given L s g).state (copy_given L k c g (on_given L s g).answer)
+  after_given : (s : Standby) (c : Copy) (g : Given) → apart s.handles ≡ true → Tracks k here s c → Tracks k here (on_given L s g).state (copy_given L k c g (on_given L s g).answer)
   unfolding on_given
-  after_given s c (damaged n) t = t
-  after_given s c (intact f) t =
+  after_given s c (damaged n) a t = t
+  after_given s c (intact f) a t =
       cond_cases (After c f) s.counters.promoted (λ _. subst (Tracks k here s) (sym (copy_refused c f 10)) t)
-      (λ _. after c (does L (run_pending (due s.pending f) s) f) (tracks_pending k here (due s.pending f) s c t))
+      (λ _. after c (does L (run_pending (due s.pending f) s) f) a (tracks_pending k here (due s.pending f) s c t))
 
   -- (e), one call
-  pub copy_step : (s : Standby) (c : Copy) (x : Call) → T (not_promotion x) → Tracks k here s c → Tracks k here (step L s x).state (copy_step_lem L k c x (step L s x).answer)
+  pub tracks_step : (s : Standby) (c : Copy) (x : Call) → T (not_promotion x) → apart s.handles ≡ true → Tracks k here s c → Tracks k here (step L s x).state (copy_step L k c x (step L s x).answer)
   unfolding step
-  copy_step s c (on_frame_held w) u t = after_given s c (given w) t
-  copy_step s c (on_frame w) u t =
-      tracks_pending k here (is_reply (on_given L s (given w)).answer) (on_given L s (given w)).state _ (after_given s c (given w) t)
-  copy_step s c (flush n) u t =
+  tracks_step s c (on_frame_held w) u a t = after_given s c (given w) a t
+  tracks_step s c (on_frame w) u a t =
+      tracks_pending k here (is_reply (on_given L s (given w)).answer) (on_given L s (given w)).state _ (after_given s c (given w) a t)
+  tracks_step s c (flush n) u a t =
       cond_cases (λ (r : Result). Tracks k here r.state c) (not (eqb n s.counters.connections) || s.counters.promoted) (λ _. t) (λ _. tracks_pending k here true s c t)
-  copy_step s c (disconnected_from n) u t =
+  tracks_step s c (disconnected_from n) u a t =
       cond_cases (λ (r : Standby). Tracks k here r c) (eqb n s.counters.connections)
       (λ _. record { same_place = t.same_place; same_session = t.same_session; same_handles = match_freed k here s.handles c.key_of c.held_of }) (λ _. t)
-  copy_step s c promote u t = absurd u
-  copy_step s c promote_unchecked u t = absurd u
+  tracks_step s c promote u a t = absurd u
+  tracks_step s c promote_unchecked u a t = absurd u
 
   -- (e), a list
-  pub copy_run : (s : Standby) (c : Copy) (xs : List Call) → T (no_promotions xs) → Tracks k here s c → Tracks k here (run L s xs) (copy_run_lem L k c s xs)
-  copy_run s c [] u t = t
-  copy_run s c (x ∷ xs) u t =
-      copy_run (step L s x).state (copy_step_lem L k c x (step L s x).answer) xs (and_r (not_promotion x) (no_promotions xs) u) (copy_step s c x (and_l (not_promotion x) (no_promotions xs) u) t)
+  pub tracks_run : (s : Standby) (c : Copy) (xs : List Call) → T (no_promotions xs) → apart s.handles ≡ true → Tracks k here s c → Tracks k here (run L s xs) (copy_run L k c s xs)
+  tracks_run s c [] u a t = t
+  tracks_run s c (x ∷ xs) u a t =
+      tracks_run (step L s x).state (copy_step L k c x (step L s x).answer) xs (and_r (not_promotion x) (no_promotions xs) u) (apart_step L s x a)
+      (tracks_step s c x (and_l (not_promotion x) (no_promotions xs) u) a t)
 
 -- at first
 pub copy_start : (k : OwnKey) (here : ℕ) (s : Standby) (B : Session) → own_key s.places here ≡ some k → session_at s.places here ≡ some B → Tracks k here s (copy_at B s)

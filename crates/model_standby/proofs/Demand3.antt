@@ -19,9 +19,9 @@ use Rattle.model_standby.specs.Answer.{protocol_version, accepted}
 use Rattle.model_standby.specs.Store.{session_at}
 use Rattle.model_standby.specs.State.{Settings, Bound, Standby, Call, on_frame_held}
 use Rattle.model_standby.specs.Standby.{starts_with_reset, step, run}
-use Rattle.model_standby.specs.PlainCopy.{OwnKey, copy_at, copy_run_lem}
+use Rattle.model_standby.specs.PlainCopy.{OwnKey, copy_at, copy_run}
 use Rattle.model_standby.specs.Demand.{ModelStart, not_promotion, no_promotions, by_held, by_frame, FirstList, list_ends, ours_next, aside_next, flush_next, drop_next, model_took_last, ModelAllTaken, ModelClaim}
-use Rattle.model_standby.proofs.Copying.{copy_run, copy_start}
+use Rattle.model_standby.proofs.Copying.{tracks_run, copy_start}
 use Rattle.model_standby.proofs.Taking.{starts_append, hold_run}
 
 -- ---- the first batch begins with a Reset
@@ -102,8 +102,8 @@ module _ (L : Settings) (limit : ℕ) (A B : Session) (k : OwnKey) (h : ℕ) (b 
         copy_is_A_or_B = some_inj (sym (copied cs (first_plain d)) ∙ (first_part cs d).1);
       }
     where
-      copied : (xs : List Call) → T (no_promotions xs) → session_at (run L s xs).places b.place ≡ some (copy_run_lem L k (copy_at B s) s xs).session
-      copied xs p = (copy_run L k b.place s (copy_at B s) xs p (copy_start k b.place s B st.its_key st.is_B)).same_session
+      copied : (xs : List Call) → T (no_promotions xs) → session_at (run L s xs).places b.place ≡ some (copy_run L k (copy_at B s) s xs).session
+      copied xs p = (tracks_run L k b.place s (copy_at B s) xs p st.row_apart (copy_start k b.place s B st.its_key st.is_B)).same_session
 
 -- ---- it is no empty claim: the prefixes alone
 
@@ -151,3 +151,18 @@ module _ (L : Settings) (limit : ℕ) (A B : Session) (k : OwnKey) (h : ℕ) (b 
     where
       Says : List Frame → Type 0
       Says w = (d : FirstList L s.counters.epoch w s (calls (f ∷ fs))) → ModelAllTaken d × (session_at (run L s (calls (f ∷ fs))).places b.place ≡ some (cond (model_took_last d) A B))
+
+  pub all_sent : session_at (run L s (calls (whole_frames limit h s.counters.epoch b.number A))).places b.place ≡ some A
+  unfolding whole_frames
+  all_sent = go w.rest (ap (frames_of h s.counters.epoch b.number) w.split)
+    where
+      w : FirstBatch (whole_batches limit A)
+      w = whole_begins limit A
+
+      sent : List Frame → Session → Type 0
+      sent fs X = session_at (run L s (calls fs)).places b.place ≡ some X
+
+      go : (rest : List (List Change)) → frames_of h s.counters.epoch b.number (whole_batches limit A) ≡ frames_of h s.counters.epoch b.number (w.first ∷ rest)
+          → sent (frames_of h s.counters.epoch b.number (whole_batches limit A)) A
+      go [] p = subst (λ (fs : List Frame). sent fs A) (sym p) (sent_whole _ _ (sym p))
+      go (c ∷ rest) p = subst (λ (fs : List Frame). sent fs A) (sym p) (sent_whole _ _ (sym p))

@@ -4,7 +4,7 @@
 use mathlib.Core.Path.{◌≡◌, refl}
 use Prim.Native.Nat.{ℕ, ◌-◌}
 use mathlib.Core.List.{List, [], ◌∷◌, ◌++◌, map}
-use mathlib.Core.Option.{none, some}
+use mathlib.Core.Option.{Option, none, some}
 use mathlib.Core.Bool.{Bool, true, false}
 use lib.ListN.{replicate}
 use Rattle.model_text.specs.Utf8.{utf8, well_formed, lead_length, own_bits, least, fitting, is_scalar, is_surrogate, is_tail}
@@ -12,15 +12,33 @@ use Rattle.model_text.specs.Printable.{is_printable_byte, is_printable, is_marks
 use Rattle.model_frame.specs.Bytes.{le, bytes_of}
 use Rattle.model_frame.specs.Frame.{Key, Change, set_incoming, record_msg, record_bare, reset, set_marks, commit, whole, last_whole, stale_epoch, diverged, lag_too_great, restarted, Frame, hello, welcome, bind, batch, ack, nack, bound, checked}
 use Rattle.model_frame.specs.Parse.{read_bytes, read_num, read_blob, read_text, read_count, many, run_bytes}
-use Rattle.model_frame.specs.Reading.{read_stamp, read_marks, set_incoming_fields, record_msg_fields, record_bare_fields, set_marks_fields, read_change, read_changes, read_kinds, read_app_record, read_app_records, read_part, read_key, hello_fields, bind_fields, batch_fields, ack_fields, checked_fields, read_fields, read_body, decode}
+use Rattle.model_frame.specs.Reading.{read_marks, set_incoming_fields, record_msg_fields, record_bare_fields, set_marks_fields, read_change, read_changes, read_kinds, read_app_record, read_app_records, read_part, read_key, hello_fields, bind_fields, batch_fields, ack_fields, checked_fields, read_fields, read_body, decode}
 use Rattle.model_frame.specs.Writing.{blob_bytes, change_bytes, app_record_bytes, key_bytes, body_bytes, encode}
 use Rattle.model_session.specs.Session.{new_session, keep, apply, top}
 use Rattle.model_session.specs.Summary.{summary}
 use Rattle.model_standby.specs.Answer.{given, Answer, reply, refused, done}
-use Rattle.model_standby.specs.Row.{put}
-use Rattle.model_standby.specs.Store.{with_b, taken_over}
-use Rattle.model_standby.specs.State.{Settings, Standby, Call, on_frame_held, on_frame, flush, disconnected_from, promote, new_standby}
+use Rattle.model_standby.specs.Row.{Row, put}
+use Rattle.model_standby.specs.Store.{Place, with_b, taken_over}
+use Rattle.model_standby.specs.State.{Settings, Bound, Standby, Call, on_frame_held, on_frame, flush, disconnected_from, promote, new_standby}
+use Rattle.model_standby.specs.Handles.{apart}
 use Rattle.model_standby.specs.Standby.{on_hello, on_bind, on_checked, settle, hold, on_part, on_handle, on_batch, on_given, step, run}
+
+-- ---- the rule at work
+
+abbrev at_place : ℕ → ℕ → ℕ → Option (ℕ × Bound)
+at_place h p n = some (h, record { place = p; number = n; held = []; bytes = 0 })
+
+-- the rule of a row: two of one handle, two of one session place, each with another between them; free places don't count
+apart_so : map apart (
+    (at_place 1 0 0 ∷ at_place 2 1 0 ∷ at_place 1 3 0 ∷ [])
+    ∷ (at_place 1 0 0 ∷ at_place 2 1 0 ∷ at_place 3 0 0 ∷ [])
+    ∷ (none ∷ at_place 1 0 0 ∷ none ∷ at_place 2 1 0 ∷ none ∷ at_place 3 2 0 ∷ [])
+    ∷ (none ∷ none ∷ [])
+    ∷ []
+    ) ≡ false ∷ false ∷ true ∷ true ∷ []
+apart_so = refl
+
+-- ---- calls
 
 abbrev held : Frame → Call
 held f = on_frame_held (encode f)
@@ -77,7 +95,10 @@ script =
     ∷ (taken (bind 1 9 1 (key_of 65)), reply (bound 1 (summary new_session 1)))
     ∷ (taken (bind 2 5 0 (key_of 66)), reply (bound 2 (summary new_session 0)))
     ∷ (taken (bind 3 5 0 (key_of 67)), refused 20)
-    ∷ (taken (bind 3 5 0 (key_of 65)), refused 21)
+    -- a Bind of another handle takes the session, and its first handle is unbound
+    ∷ (taken (bind 3 5 0 (key_of 65)), reply (bound 3 (summary new_session 0)))
+    ∷ (taken (batch 1 5 1 commit [] []), refused 14)
+    ∷ (taken (bind 1 9 1 (key_of 65)), reply (bound 1 (summary new_session 1)))
     ∷ (taken (batch 1 9 1 commit [] (record { kind = 1; blob = [] } ∷ [])), refused 13)
     ∷ (taken (batch 1 4 1 commit [] []), reply (nack 1 stale_epoch))
     ∷ (taken (batch 3 5 1 commit [] []), refused 14)
@@ -224,6 +245,62 @@ on_one durable pending place n cs sum =
 binds_anew : run L₁ (on_one false ((1, 0) ∷ []) 0 4 (reset ∷ []) 3) (held (bind 1 0 0 (key_of 66)) ∷ []) ≡ on_one true [] 1 0 [] 0
 unfolding step on_given on_bind put given encode body_bytes blob_bytes key_bytes bytes_of decode le read_num read_bytes read_blob read_text read_body read_fields bind_fields read_key utf8 well_formed lead_length own_bits least fitting is_scalar is_surrogate is_printable_byte is_printable is_key
 binds_anew = refl
+
+-- ---- one handle for a session
+
+-- a row before a frame at epoch 5, the row after it, the answer
+abbrev rebinds : List (Row Bound × Frame × Row Bound × Answer)
+rebinds =
+    -- a full row: a new handle takes the place of the session's handle
+    (at_place 1 0 3 ∷ at_place 2 1 4 ∷ [], bind 3 5 0 (key_of 66), at_place 1 0 3 ∷ at_place 3 1 0 ∷ [], reply (bound 3 (summary new_session 0)))
+    -- a handle of another session keeps its own place; that session has none then
+    ∷ (at_place 1 0 3 ∷ at_place 2 1 4 ∷ [], bind 2 5 0 (key_of 65), none ∷ at_place 2 0 0 ∷ [], reply (bound 2 (summary new_session 0)))
+    -- its own session's handle starts anew where it was
+    ∷ (at_place 1 0 3 ∷ at_place 2 1 4 ∷ [], bind 2 5 0 (key_of 66), at_place 1 0 3 ∷ at_place 2 1 0 ∷ [], reply (bound 2 (summary new_session 0)))
+    ∷ (none ∷ at_place 2 1 4 ∷ [], bind 2 5 0 (key_of 66), none ∷ at_place 2 1 0 ∷ [], reply (bound 2 (summary new_session 0)))
+    -- else the first free place, the freed one counted
+    ∷ (none ∷ at_place 1 0 3 ∷ [], bind 3 5 0 (key_of 65), at_place 3 0 0 ∷ none ∷ [], reply (bound 3 (summary new_session 0)))
+    ∷ (at_place 1 0 3 ∷ none ∷ [], bind 3 5 0 (key_of 65), at_place 3 0 0 ∷ none ∷ [], reply (bound 3 (summary new_session 0)))
+    -- an active of a higher epoch takes it too
+    ∷ (at_place 1 0 3 ∷ at_place 2 1 4 ∷ [], bind 3 9 0 (key_of 65), at_place 3 0 0 ∷ at_place 2 1 4 ∷ [], reply (bound 3 (summary new_session 0)))
+    -- a refused Bind removes nothing: a lower epoch, the lag, 20, 21
+    ∷ (at_place 1 0 3 ∷ at_place 2 1 4 ∷ [], bind 3 4 0 (key_of 65), at_place 1 0 3 ∷ at_place 2 1 4 ∷ [], reply (nack 3 stale_epoch))
+    ∷ (at_place 1 0 3 ∷ at_place 2 1 4 ∷ [], bind 3 5 2 (key_of 65), at_place 1 0 3 ∷ at_place 2 1 4 ∷ [], reply (nack 3 lag_too_great))
+    ∷ (at_place 1 0 3 ∷ at_place 2 1 4 ∷ [], bind 3 5 0 (key_of 67), at_place 1 0 3 ∷ at_place 2 1 4 ∷ [], refused 20)
+    ∷ (at_place 1 0 3 ∷ [], bind 2 5 0 (key_of 66), at_place 1 0 3 ∷ [], refused 21)
+    ∷ []
+
+-- two sessions, and these handles, at epoch 5
+abbrev with_row : Row Bound → Standby
+with_row t =
+    record { counters = record { epoch = 5; connections = 0; promoted = false; checked = false }; places = (two true true [] 0 0).places; handles = t; pending = [] }
+
+rebinds_so : map {B = Row Bound × Answer} (λ (p : Row Bound × Frame × Row Bound × Answer). ((step L₁ (with_row p.0) (held p.1)).state.handles, (step L₁ (with_row p.0) (held p.1)).answer)) rebinds
+    ≡ map {B = Row Bound × Answer} (λ (p : Row Bound × Frame × Row Bound × Answer). (p.2, p.3)) rebinds
+unfolding step on_given on_bind put given encode body_bytes blob_bytes key_bytes bytes_of decode le read_num read_bytes read_blob read_text read_body read_fields bind_fields read_key utf8 well_formed lead_length own_bits least fitting is_scalar is_surrogate is_printable_byte is_printable is_key
+rebinds_so = refl
+
+-- what a removed handle held is not applied, nor when it is bound again
+abbrev removed : List (Call × Answer)
+removed =
+    (taken (bind 1 5 0 (key_of 65)), reply (bound 1 (summary new_session 0)))
+    ∷ (taken (batch 1 5 1 whole (reset ∷ record_msg 1 (7 ∷ []) ∷ []) []), reply (ack 1 1))
+    ∷ (taken (bind 2 9 0 (key_of 65)), reply (bound 2 (summary new_session 0)))
+    ∷ (taken (batch 1 5 2 last_whole [] []), refused 14)
+    ∷ (taken (batch 2 5 1 commit (set_marks (65 ∷ []) ∷ []) []), reply (ack 2 1))
+    ∷ (taken (bind 1 5 0 (key_of 66)), reply (bound 1 (summary new_session 0)))
+    ∷ (taken (batch 1 5 1 last_whole (set_marks [] ∷ []) []), refused 16)
+    ∷ (taken (batch 2 5 2 commit [] []), reply (ack 2 2))
+    ∷ []
+
+removed_so : answers L₁ (new_standby [] 2) (map (λ (p : Call × Answer). p.0) removed) ≡ map (λ (p : Call × Answer). p.1) removed
+unfolding step on_given on_bind on_batch on_handle on_part hold settle apply keep put given encode body_bytes blob_bytes change_bytes key_bytes run_bytes bytes_of decode le read_num read_bytes read_blob read_text read_count many read_body read_fields bind_fields batch_fields read_changes read_change record_msg_fields set_marks_fields read_app_records read_part read_key read_marks utf8 well_formed lead_length own_bits least fitting is_scalar is_surrogate is_printable_byte is_printable is_marks is_key
+removed_so = refl
+
+removed_sessions : map (λ (x : Place). x.stored.session) (run L₁ (new_standby [] 2) (map (λ (p : Call × Answer). p.0) removed)).places
+    ≡ record { stamp = []; next_out = 1; next_in = 1; in_flight = none; marks = 65 ∷ []; messages = [] } ∷ new_session ∷ []
+unfolding step on_given on_bind on_batch on_handle on_part hold settle apply keep put given encode body_bytes blob_bytes change_bytes key_bytes run_bytes bytes_of decode le read_num read_bytes read_blob read_text read_count many read_body read_fields bind_fields batch_fields read_changes read_change record_msg_fields set_marks_fields read_app_records read_part read_key read_marks utf8 well_formed lead_length own_bits least fitting is_scalar is_surrogate is_printable_byte is_printable is_marks is_key
+removed_sessions = refl
 
 -- two sessions that are marked, no handle bound, no commit pending, at this epoch and count of connections
 abbrev none_bound : ℕ → ℕ → Standby

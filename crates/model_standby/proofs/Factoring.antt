@@ -12,9 +12,10 @@ use Rattle.model_frame.specs.Parse.{is_empty}
 use Rattle.model_frame.specs.Sizes.{sizes}
 use Rattle.model_session.specs.Session.{fits}
 use Rattle.model_standby.specs.Answer.{protocol_version, Given, damaged, intact, given, handle_in, done}
-use Rattle.model_standby.specs.Row.{Row, find, has_free, has_room_lem}
-use Rattle.model_standby.specs.Store.{is_stored, session_at, or_new}
+use Rattle.model_standby.specs.Row.{Row, find}
+use Rattle.model_standby.specs.Store.{place_of, is_stored, session_at, or_new}
 use Rattle.model_standby.specs.State.{Settings, incarnation_of, Bound, Standby, Result, Call, on_frame_held, on_frame, flush, disconnected_from, promote, promote_unchecked, at_epoch, none_held}
+use Rattle.model_standby.specs.Handles.{room_at}
 use Rattle.model_standby.specs.Standby.{with_counters, unbound, run_pending, due, on_hello, on_bind, on_checked, follows, raised, max_whole, starts_with_reset, settle, hold, on_part, on_handle, on_batch, on_intact, on_given, flushed, step}
 use Rattle.model_standby.specs.Core.{CoreResult, leave, clear, core_done, core_unbound, core_of, acted, core_hello, core_bind, core_checked, core_settle, core_hold, core_part, core_handle, core_batch, core_intact, core_given, core_step, handle_of}
 
@@ -35,13 +36,13 @@ module _ (L : Settings) (s : Standby) where
       (either s.handles (not (is_empty kinds)) (record { same = refl })
       (either s.handles (ltb e s.counters.epoch) (record { same = refl }) (record { same = refl })))
 
-  bind_acted : (h e lag : ℕ) (j : Key) → Acts s.handles (on_bind L s h e lag j) (core_bind L (core_of s) (has_room_lem h s.handles) h e lag j)
+  bind_acted : (h e lag : ℕ) (j : Key) → Acts s.handles (on_bind L s h e lag j) (core_bind L (core_of s) (room_at h s.handles) h e lag j)
   unfolding on_bind core_bind
   bind_acted h e lag j =
       either s.handles (ltb e s.counters.epoch) (record { same = refl })
       (either s.handles (ltb L.lag lag) (record { same = refl })
       (either s.handles (not (is_stored j s.places || ltb (length s.places) L.S)) (record { same = refl })
-      (either s.handles (not (has_room_lem h s.handles)) (record { same = refl }) (record { same = refl }))))
+      (either s.handles (not (room_at h s.handles (place_of j s.places))) (record { same = refl }) (record { same = refl }))))
 
   checked_acted : (h e i : ℕ) → Acts s.handles (on_checked L s h e i) (core_checked L (core_of s) h e i)
   unfolding on_checked core_checked
@@ -78,7 +79,7 @@ module _ (L : Settings) where
       either s.handles (not (is_empty apps)) (record { same = refl })
       (either s.handles (ltb e s.counters.epoch) (record { same = refl }) (handle_acted L (with_counters s (at_epoch e s.counters)) h (find h s.handles) n p cs))
 
-  intact_acted : (s : Standby) (f : Frame) → Acts s.handles (on_intact L s f) (core_intact L (core_of s) (find (handle_in (intact f)) s.handles) (has_free s.handles) f)
+  intact_acted : (s : Standby) (f : Frame) → Acts s.handles (on_intact L s f) (core_intact L (core_of s) (find (handle_in (intact f)) s.handles) (room_at (handle_in (intact f)) s.handles) f)
   intact_acted s (hello v e node kinds) = hello_acted L s v e kinds
   intact_acted s (welcome e i) = record { same = refl }
   intact_acted s (bind h e lag k) = bind_acted L s h e lag k
@@ -88,16 +89,16 @@ module _ (L : Settings) where
   intact_acted s (bound h m) = record { same = refl }
   intact_acted s (checked h e i) = checked_acted L s h e i
 
-  acts_given : (s : Standby) (g : Given) → Acts s.handles (on_given L s g) (core_given L (core_of s) (find (handle_in g) s.handles) (has_free s.handles) g)
+  acts_given : (s : Standby) (g : Given) → Acts s.handles (on_given L s g) (core_given L (core_of s) (find (handle_in g) s.handles) (room_at (handle_in g) s.handles) g)
   unfolding on_given core_given
   acts_given s (damaged n) = record { same = refl }
   acts_given s (intact f) = either s.handles s.counters.promoted (record { same = refl }) (intact_acted (run_pending (due s.pending f) s) f)
 
   -- a frame
-  pub given_factored : (s : Standby) (g : Given) → on_given L s g ≡ acted s.handles (core_given L (core_of s) (find (handle_in g) s.handles) (has_free s.handles) g)
+  pub given_factored : (s : Standby) (g : Given) → on_given L s g ≡ acted s.handles (core_given L (core_of s) (find (handle_in g) s.handles) (room_at (handle_in g) s.handles) g)
   given_factored s g = (acts_given s g).same
 
-  acts_step : (s : Standby) (c : Call) → Acts s.handles (step L s c) (core_step L (core_of s) (find (handle_of c) s.handles) (has_free s.handles) c)
+  acts_step : (s : Standby) (c : Call) → Acts s.handles (step L s c) (core_step L (core_of s) (find (handle_of c) s.handles) (room_at (handle_of c) s.handles) c)
   unfolding step core_step
   acts_step s (on_frame_held w) = acts_given s (given w)
   acts_step s (on_frame w) = record { same = ap flushed (given_factored s (given w)) }
@@ -111,5 +112,5 @@ module _ (L : Settings) where
   acts_step s promote_unchecked = record { same = refl }
 
   -- every call
-  pub factored : (s : Standby) (c : Call) → step L s c ≡ acted s.handles (core_step L (core_of s) (find (handle_of c) s.handles) (has_free s.handles) c)
+  pub factored : (s : Standby) (c : Call) → step L s c ≡ acted s.handles (core_step L (core_of s) (find (handle_of c) s.handles) (room_at (handle_of c) s.handles) c)
   factored s c = (acts_step s c).same

@@ -1,7 +1,9 @@
 -- Demand 3 and the laws of the standby.
 pub mod Rows
+pub mod Handles
 pub mod Places
 pub mod Outcomes
+pub mod RowKept
 pub mod Copying
 pub mod Taking
 pub mod Demand3
@@ -9,6 +11,8 @@ pub mod Rules
 pub mod Ruling
 pub mod Apart
 pub mod Factoring
+pub mod Full
+pub mod OneHandle
 pub mod Sanity
 pub mod Answering
 pub mod Holding

@@ -15,9 +15,10 @@ use Rattle.model_session.specs.Session.{fits}
 use Rattle.model_session.specs.Summary.{summary}
 use Rattle.model_session.proofs.Basics.{T→true, cond_cases}
 use Rattle.model_standby.specs.Answer.{protocol_version}
-use Rattle.model_standby.specs.Row.{find, has_room_lem}
+use Rattle.model_standby.specs.Row.{find}
 use Rattle.model_standby.specs.Store.{place_of, is_stored, session_at, or_new}
 use Rattle.model_standby.specs.State.{Settings, incarnation_of, Bound, Standby, Result, at_epoch, connected, checked_at, none_held}
+use Rattle.model_standby.specs.Handles.{room_at}
 use Rattle.model_standby.specs.Standby.{with_counters, with_handle, unbound, bind_to, says, refuse, on_hello, on_bind, on_checked, follows, raised, max_whole, starts_with_reset, summed, holding, applied, settle, hold, on_part, on_handle, on_batch, on_intact}
 use Rattle.model_standby.specs.Demand.{is_outside}
 
@@ -49,6 +50,11 @@ module _ (L : Settings) where
     of_commit : {b : Bound} {cs : List Change} → b.held ≡ [] → Gathers commit b cs b cs
     of_last : {b : Bound} {cs : List Change} → Passes b cs → Gathers last_whole b cs (none_held b) (b.held ++ cs)
 
+  -- its session stays
+  pub gathers_place : {p : Part} {b b₁ : Bound} {cs all : List Change} → Gathers p b cs b₁ all → b₁.place ≡ b.place
+  gathers_place (of_commit e) = refl
+  gathers_place (of_last q) = refl
+
   -- a Batch that is neither stale nor has application records, at the epoch that it raised
   pub data Batches (s : Standby) (h n : ℕ) (p : Part) (cs : List Change) : Result → Type 0 where
     -- 14, 15, 16, 18
@@ -69,7 +75,7 @@ module _ (L : Settings) where
     nacks : {f : Frame} {h : ℕ} {r : Reason} → Nacked f h r → Does s f (says s (nack h r))
     -- not stale
     greets : {v e : ℕ} {node kinds : List ℕ} → s.counters.epoch ≤ e → Does s (hello v e node kinds) (says (with_counters (unbound s) (connected e s.counters)) (welcome e (incarnation_of L)))
-    binds : {h e lag : ℕ} {k : Key} → s.counters.epoch ≤ e → (is_stored k s.places || ltb (length s.places) L.S) ≡ true → has_room_lem h s.handles ≡ true
+    binds : {h e lag : ℕ} {k : Key} → s.counters.epoch ≤ e → (is_stored k s.places || ltb (length s.places) L.S) ≡ true → room_at h s.handles (place_of k s.places) ≡ true
         → Does s (bind h e lag k) (says (bind_to s h k) (bound h (summary (or_new (session_at s.places (place_of k s.places))) lag)))
     checks : {h e i : ℕ} → s.counters.epoch ≤ e → Does s (checked h e i) (says (with_counters s (checked_at e s.counters)) (ack h 0))
     batches : {h e n : ℕ} {p : Part} {cs : List Change} {apps : List AppRecord} {r : Result} → s.counters.epoch ≤ e → Batches (with_counters s (at_epoch e s.counters)) h n p cs r → Does s (batch h e n p cs apps) r
@@ -89,8 +95,8 @@ module _ (L : Settings) where
       cond_cases (Does s (bind h e lag k)) (ltb e s.counters.epoch) (λ _. nacks stale_bind)
       (λ t. cond_cases (Does s (bind h e lag k)) (ltb L.lag lag) (λ _. nacks lag_bind)
       (λ _. cond_cases (Does s (bind h e lag k)) (not (is_stored k s.places || ltb (length s.places) L.S)) (λ _. turns tt)
-      (λ u. cond_cases (Does s (bind h e lag k)) (not (has_room_lem h s.handles)) (λ _. turns tt)
-      (λ v. binds (nltb→le e s.counters.epoch t) (not_not (is_stored k s.places || ltb (length s.places) L.S) u) (not_not (has_room_lem h s.handles) v)))))
+      (λ u. cond_cases (Does s (bind h e lag k)) (not (room_at h s.handles (place_of k s.places))) (λ _. turns tt)
+      (λ v. binds (nltb→le e s.counters.epoch t) (not_not (is_stored k s.places || ltb (length s.places) L.S) u) (not_not (room_at h s.handles (place_of k s.places)) v)))))
 
   does_checked : (s : Standby) (h e i : ℕ) → Does s (checked h e i) (on_checked L s h e i)
   unfolding on_checked

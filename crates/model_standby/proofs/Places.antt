@@ -3,12 +3,12 @@
 use mathlib.Core.Path.{◌≡◌, refl, sym, ap, subst, ◌∙◌}
 use Prim.Native.Nat.{ℕ, zero, suc, ◌+◌, ◌≤◌, ◌<◌}
 use native.Mathlib.Omega.{arith}
-use native.Mathlib.Nat.{lt_trans, eq-or-lt_of_le}
+use native.Mathlib.Nat.{lt_trans, le_refl, eq-or-lt_of_le}
 use mathlib.Core.List.{List, [], ◌∷◌, ◌++◌}
 use mathlib.Core.Option.{Option, none, some, map}
-use mathlib.Core.Bool.{Bool, true, false, cond, ◌&&◌}
+use mathlib.Core.Bool.{Bool, true, false, cond, ◌&&◌, ◌||◌}
 use mathlib.Core.Logic.{◌⊎◌, inl, inr}
-use lib.ListN.{length, get_elem?}
+use lib.ListN.{length, length-append, get_elem?}
 use lib.Dec.{T, eqb, eqb→eq, ltb, ltb→lt, nltb→le}
 use Rattle.model_frame.specs.Frame.{Key}
 use Rattle.model_frame.specs.Parse.{Each}
@@ -84,7 +84,7 @@ abbrev pub key_at : List Place → ℕ → Option Key
 key_at ps n = map (λ (x : Place). x.key) (get_elem? ps n)
 
 -- the place found has the key
-place_key : (k : Key) (ps : List Place) → place_of k ps < length ps → key_at ps (place_of k ps) ≡ some k
+pub place_key : (k : Key) (ps : List Place) → place_of k ps < length ps → key_at ps (place_of k ps) ≡ some k
 place_key k [] h = absurd (omega arith)
 place_key k (x ∷ ps) h = go (same_key k x.key) refl h (place_key k ps)
   where
@@ -332,6 +332,21 @@ pub open_session : (j : Key) (ps : List Place) (n : ℕ) → n < length ps → s
 open_session j ps n h =
     cond_cases (λ (l : List Place). session_at l n ≡ session_at ps n) (is_stored j ps) (λ _. refl)
     (λ _. ap (map (λ (x : Place). x.stored.session)) (at_append ps (new_place j ∷ []) n h))
+
+pub open_length : (j : Key) (ps : List Place) → length ps ≤ length (opened j ps)
+open_length j ps = cond_cases (λ (l : List Place). length ps ≤ length l) (is_stored j ps) (λ _. le_refl (length ps)) (λ _. omega (arith, length-append ps (new_place j ∷ [])))
+
+pub open_few : (j : Key) (ps : List Place) (n : ℕ) → length ps ≤ n → (is_stored j ps || ltb (length ps) n) ≡ true → length (opened j ps) ≤ n
+open_few j ps n h p = go (is_stored j ps) p
+  where
+    go : (b : Bool) → (b || ltb (length ps) n) ≡ true → length (cond b ps (ps ++ (new_place j ∷ []))) ≤ n
+    go true q = h
+    go false q = omega (arith, length-append ps (new_place j ∷ []), ltb→lt (length ps) n (true→T (ltb (length ps) n) q))
+
+pub open_there : (j : Key) (ps : List Place) → place_of j ps < length (opened j ps)
+open_there j ps =
+    cond_cases (λ (l : List Place). place_of j ps < length l) (is_stored j ps) (λ t. ltb→lt (place_of j ps) (length ps) t)
+    (λ _. omega (arith, length-append ps (new_place j ∷ []), place_low j ps))
 
 -- ---- of all places
 

@@ -5,10 +5,10 @@ use Prim.Native.Nat.{ℕ, zero, suc}
 use mathlib.Core.List.{[], ◌∷◌}
 use mathlib.Core.Option.{Option, none, some, map}
 use mathlib.Core.Bool.{Bool, true, false, cond, ◌||◌}
-use lib.ListN.{replicate}
+use lib.ListN.{length, replicate}
 use lib.Dec.{eqb}
 use Rattle.model_frame.specs.Parse.{Each}
-use Rattle.model_standby.specs.Row.{Row, Used, is_some, freed, has_free, fill, find, replace, has_room_lem, put}
+use Rattle.model_standby.specs.Row.{Row, Used, is_some, freed, has_free, fill, find, replace, has_room, put}
 use Rattle.model_session.proofs.Basics.{cond_cases, eqb_true, eqb_sound, none≢some, some_inj, true≢false}
 
 module _ {A : Type 0} where
@@ -26,7 +26,7 @@ module _ {A : Type 0} where
       go true p ih = ap (λ (b : Bool). cond b (some v) (find h t)) p
       go false p ih = ap (λ (b : Bool). cond b (some e.1) (find h (replace h v t))) p ∙ ih
 
-  find_replace_other : (h j : ℕ) (v : A) (t : Row A) → eqb h j ≡ false → find h (replace j v t) ≡ find h t
+  pub find_replace_other : (h j : ℕ) (v : A) (t : Row A) → eqb h j ≡ false → find h (replace j v t) ≡ find h t
   find_replace_other h j v [] n = refl
   find_replace_other h j v (none ∷ t) n = find_replace_other h j v t n
   find_replace_other h j v (some e ∷ t) n = go (eqb j e.0) refl (find_replace_other h j v t n)
@@ -38,7 +38,7 @@ module _ {A : Type 0} where
           ap (λ (b : Bool). cond b (some v) (find h t)) q ∙ sym (ap (λ (b : Bool). cond b (some e.1) (find h t)) q)
       go false p ih = ap (λ (r : Option A). cond (eqb h e.0) (some e.1) r) ih
 
-  find_fill_other : (h j : ℕ) (v : A) (t : Row A) → eqb h j ≡ false → find h (fill j v t) ≡ find h t
+  pub find_fill_other : (h j : ℕ) (v : A) (t : Row A) → eqb h j ≡ false → find h (fill j v t) ≡ find h t
   find_fill_other h j v [] n = refl
   find_fill_other h j v (none ∷ t) n = ap (λ (b : Bool). cond b (some v) (find h t)) n
   find_fill_other h j v (some e ∷ t) n = ap (λ (r : Option A). cond (eqb h e.0) (some e.1) r) (find_fill_other h j v t n)
@@ -53,7 +53,7 @@ module _ {A : Type 0} where
       go true r ih = absurd (none≢some (sym r))
       go false r ih = ih r
 
-  pub find_put_same : (h : ℕ) (v : A) (t : Row A) → has_room_lem h t ≡ true → find h (put h v t) ≡ some v
+  pub find_put_same : (h : ℕ) (v : A) (t : Row A) → has_room h t ≡ true → find h (put h v t) ≡ some v
   unfolding put
   find_put_same h v t r = go (find h t) refl
     where
@@ -90,6 +90,27 @@ module _ {A : Type 0} where
       go : (b : Bool) → find h (cond b (replace j v t) (fill j v t)) ≡ find h t
       go true = find_replace_other h j v t n
       go false = find_fill_other h j v t n
+
+-- ---- the length
+
+module _ {A : Type 0} where
+  pub length_freed : (t : Row A) → length (freed t) ≡ length t
+  length_freed [] = refl
+  length_freed (p ∷ t) = ap suc (length_freed t)
+
+  length_replace : (h : ℕ) (v : A) (t : Row A) → length (replace h v t) ≡ length t
+  length_replace h v [] = refl
+  length_replace h v (none ∷ t) = ap suc (length_replace h v t)
+  length_replace h v (some e ∷ t) = cond_cases (λ (l : Row A). length l ≡ suc (length t)) (eqb h e.0) (λ _. refl) (λ _. ap suc (length_replace h v t))
+
+  length_fill : (h : ℕ) (v : A) (t : Row A) → length (fill h v t) ≡ length t
+  length_fill h v [] = refl
+  length_fill h v (none ∷ t) = refl
+  length_fill h v (some e ∷ t) = ap suc (length_fill h v t)
+
+  pub length_put : (h : ℕ) (v : A) (t : Row A) → length (put h v t) ≡ length t
+  unfolding put
+  length_put h v t = cond_cases (λ (l : Row A). length l ≡ length t) (is_some (find h t)) (λ _. length_replace h v t) (λ _. length_fill h v t)
 
 -- what holds of every used place
 module _ {A : Type 0} (P : A → Type 0) where

@@ -15,6 +15,7 @@ use Rattle.model_standby.specs.Answer.{protocol_version}
 use Rattle.model_standby.specs.Row.{Used}
 use Rattle.model_standby.specs.Store.{Place}
 use Rattle.model_standby.specs.State.{Settings, Bound, Standby, Call, on_frame_held, on_frame, flush, disconnected_from, promote, promote_unchecked}
+use Rattle.model_standby.specs.Handles.{apart}
 use Rattle.model_standby.specs.Standby.{starts_with_reset, max_whole}
 
 -- ---- what is handed in are bytes
@@ -60,6 +61,8 @@ pub record StateRules (L : Settings) (Also : Bound → Type 0) (s : Standby) : T
   pub sessions_ok : Each (λ (x : Place). Holdable L.C L.M x.stored.session) s.places
   pub handles_ok : Each (Used (BoundValid L (length s.places))) s.handles
   pub handles_also : Each (Used Also) s.handles
+  -- one handle for a session
+  pub row_apart : apart s.handles ≡ true
   pub pending_few : length s.pending ≤ 64
 
 -- what every content of the areas is that docs/AREAS.md allows

@@ -8,7 +8,7 @@ use mathlib.Core.List.{List, [], ◌∷◌, ◌++◌}
 use mathlib.Core.Option.{Option, some, map}
 use mathlib.Core.Bool.{Bool, true, false, cond, not, ◌&&◌, ◌||◌}
 use lib.ListN.{length, length-append, get_or, take, length-take, get_elem?}
-use lib.Dec.{T, ltb, leb, eqb, nleb→lt, ltb→lt}
+use lib.Dec.{T, ltb, leb, eqb, nleb→lt}
 use Rattle.model_text.specs.Printable.{is_printable_byte, all_printable, is_printable, is_marks}
 use Rattle.model_text.specs.Stamp.{is_stamp, takes_stamp}
 use Rattle.model_text.specs.Utf8.{utf8}
@@ -28,11 +28,13 @@ use Rattle.model_standby.specs.Answer.{protocol_version, Given, damaged, intact,
 use Rattle.model_standby.specs.Row.{Row, Used, find}
 use Rattle.model_standby.specs.Store.{Stored, Place, place_of, is_stored, on_place, session_at, or_new, new_place, opened, changed, with_b, taken_over}
 use Rattle.model_standby.specs.State.{Settings, Bound, Standby, Result, Call, on_frame_held, on_frame, flush, disconnected_from, promote, promote_unchecked, new_standby, at_epoch, new_bound, none_held, numbered}
+use Rattle.model_standby.specs.Handles.{without_others}
 use Rattle.model_standby.specs.Standby.{with_counters, with_handle, unbound, run_pending, due, pends_on, bind_to, held_sum, raised, max_whole, starts_with_reset, summed, holding, applied, on_given, promotion, step, run}
 use Rattle.model_standby.proofs.Rules.{OkCall, changes_of, Readable, BoundValid, BoundUsual, StateRules, Valid, Usual}
-use Rattle.model_standby.proofs.Outcomes.{Gathers, of_commit, of_last, Batches, refuses, clears, raises, holds, applies, diverges, Does, turns, tells, nacks, greets, binds, checks, batches, does}
+use Rattle.model_standby.proofs.Outcomes.{Gathers, of_commit, of_last, gathers_place, Batches, refuses, clears, raises, holds, applies, diverges, Does, turns, tells, nacks, greets, binds, checks, batches, does}
 use Rattle.model_standby.proofs.Rows.{used_found, used_put, used_freed, used_none, used_map}
-use Rattle.model_standby.proofs.Places.{place_low, length_on, pending_length, length_places, each_at, each_on, each_places, each_mark}
+use Rattle.model_standby.proofs.Handles.{set_apart, bind_apart, freed_apart, none_apart, used_others}
+use Rattle.model_standby.proofs.Places.{open_length, open_few, open_there, length_on, pending_length, length_places, each_at, each_on, each_places, each_mark}
 use Rattle.model_standby.proofs.Taking.{starts_append}
 
 bytes_in_size : (cs : List Change) → message_bytes cs ≤ sizes cs
@@ -85,6 +87,7 @@ module _ (L : Settings) (Also : Bound → Type 0) (closed : Closed Also) where
         sessions_ok = cond_cases (Each Held) w (λ _. each_mark Held s.pending s.places (λ _ h. h) r.sessions_ok) (λ _. r.sessions_ok);
         handles_ok = all_grown (length s.places) (length (run_pending w s).places) s.handles (le_of_eq (sym (pending_length w s))) r.handles_ok;
         handles_also = r.handles_also;
+        row_apart = r.row_apart;
         pending_few = cond_cases (λ (l : List (ℕ × ℕ)). length l ≤ 64) w (λ _. omega arith) (λ _. r.pending_few);
       }
 
@@ -97,19 +100,20 @@ module _ (L : Settings) (Also : Bound → Type 0) (closed : Closed Also) where
         sessions_ok = r.sessions_ok;
         handles_ok = used_freed (BoundValid L _) s.handles;
         handles_also = used_freed Also s.handles;
+        row_apart = freed_apart s.handles;
         pending_few = omega arith;
       }
 
   rules_epoch : (s : Standby) (e : ℕ) → e ≤ top → StateRules L Also s → StateRules L Also (with_counters s (at_epoch e s.counters))
   rules_epoch s e h r =
-      record { epoch_u64 = h; connections_u64 = r.connections_u64; places_few = r.places_few; sessions_ok = r.sessions_ok; handles_ok = r.handles_ok; handles_also = r.handles_also; pending_few = r.pending_few }
+      record { epoch_u64 = h; connections_u64 = r.connections_u64; places_few = r.places_few; sessions_ok = r.sessions_ok; handles_ok = r.handles_ok; handles_also = r.handles_also; row_apart = r.row_apart; pending_few = r.pending_few }
 
   all_fine_lem : (s : Standby) → StateRules L Also s → (x : ℕ) (y : Bound) → find x s.handles ≡ some y → Fine (length s.places) y
   all_fine_lem s r x y p = (used_found (BoundValid L (length s.places)) x y s.handles r.handles_ok p, used_found Also x y s.handles r.handles_also p)
 
-  -- a handle gets another value
-  rules_set : (s : Standby) (h : ℕ) (b : Bound) → Fine (length s.places) b → StateRules L Also s → StateRules L Also (with_handle s h b)
-  rules_set s h b fine r =
+  -- a bound handle gets another value, of the same session place
+  rules_set : (s : Standby) (h : ℕ) (b₀ b : Bound) → find h s.handles ≡ some b₀ → b.place ≡ b₀.place → Fine (length s.places) b → StateRules L Also s → StateRules L Also (with_handle s h b)
+  rules_set s h b₀ b f same fine r =
       record {
         epoch_u64 = r.epoch_u64;
         connections_u64 = r.connections_u64;
@@ -117,6 +121,7 @@ module _ (L : Settings) (Also : Bound → Type 0) (closed : Closed Also) where
         sessions_ok = r.sessions_ok;
         handles_ok = used_put (BoundValid L (length s.places)) h b s.handles fine.0 r.handles_ok;
         handles_also = used_put Also h b s.handles fine.1 r.handles_also;
+        row_apart = set_apart h b₀ b s.handles r.row_apart f same;
         pending_few = r.pending_few;
       }
 
@@ -130,9 +135,9 @@ module _ (L : Settings) (Also : Bound → Type 0) (closed : Closed Also) where
       each_on Held n (changed L.C L.M cs) ps
       (λ x p h. apply_all_keeps L.C L.M cs x.stored.session h o (sym (ap (λ (y : Option Place). fits (or_new (map (λ (z : Place). z.stored.session) y)).next_out cs) p) ∙ f)) r
 
-  rules_applied : (s : Standby) (h : ℕ) (b : Bound) (n : ℕ) (cs : List Change) → suc (length s.pending) ≤ 64 → n ≤ top → Each Storable cs
+  rules_applied : (s : Standby) (h : ℕ) (b₀ b : Bound) (n : ℕ) (cs : List Change) → find h s.handles ≡ some b₀ → b.place ≡ b₀.place → suc (length s.pending) ≤ 64 → n ≤ top → Each Storable cs
       → Fine (length s.places) b → fits (or_new (session_at s.places b.place)).next_out cs ≡ true → StateRules L Also s → StateRules L Also (applied L s h b n cs)
-  rules_applied s h b n cs few hn o fine ft r =
+  rules_applied s h b₀ b n cs f at few hn o fine ft r =
       record {
         epoch_u64 = r.epoch_u64;
         connections_u64 = r.connections_u64;
@@ -140,6 +145,7 @@ module _ (L : Settings) (Also : Bound → Type 0) (closed : Closed Also) where
         sessions_ok = sessions_changed s.places b.place cs o ft r.sessions_ok;
         handles_ok = all_grown (length s.places) (length (applied L s h b n cs).places) (applied L s h b n cs).handles (le_of_eq (sym same)) (used_put (BoundValid L (length s.places)) h (numbered n b) s.handles fine₁.0 r.handles_ok);
         handles_also = used_put Also h (numbered n b) s.handles fine₁.1 r.handles_also;
+        row_apart = set_apart h b₀ (numbered n b) s.handles r.row_apart f at;
         pending_few = omega (arith, length-append s.pending ((h, b.place) ∷ []));
       }
     where
@@ -161,40 +167,25 @@ module _ (L : Settings) (Also : Bound → Type 0) (closed : Closed Also) where
   keeps_batch : {s : Standby} {h n : ℕ} {p : Part} {cs : List Change} {r : Result} → Batches L s h n p cs r → suc (length s.pending) ≤ 64 → n ≤ top → Each Storable cs → message_bytes cs ≤ max_body
       → StateRules L Also s → Keeps r
   keeps_batch (refuses t) few hn oc small r = r
-  keeps_batch {s} {h} (clears {b} f) few hn oc small r = rules_set s h (none_held b) (none_fine (length s.places) b (all_fine_lem s r h b f)) r
+  keeps_batch {s} {h} (clears {b} f) few hn oc small r = rules_set s h b (none_held b) f refl (none_fine (length s.places) b (all_fine_lem s r h b f)) r
   keeps_batch {s} {h} {cs} (raises {b} f t) few hn oc small r =
       let o = all_fine_lem s r h b f in
-      rules_set s h (summed b cs) (
+      rules_set s h b (summed b cs) f refl (
         record { place_there = o.0.place_there; number_u64 = o.0.number_u64; bytes_u64 = omega arith; held_small = o.0.held_small; held_ok = o.0.held_ok },
         closed.raises b cs small t o.1,
       ) r
   keeps_batch {s} {h} {n} {cs} (holds {b} f e q) few hn oc small r =
       let o = all_fine_lem s r h b f in
-      rules_set s h (holding b n cs) (
+      rules_set s h b (holding b n cs) f refl (
         record { place_there = o.0.place_there; number_u64 = hn; bytes_u64 = omega arith; held_small = q.small; held_ok = each_append Storable b.held cs o.0.held_ok oc },
         closed.takes b n cs q.begins q.few o.1,
       ) r
   keeps_batch {s} {h} {n} (applies {b} {b₁} {all} f g t) few hn oc small r =
       let o = gather_fine (length s.places) g (all_fine_lem s r h b f) oc in
-      rules_applied s h b₁ n all few hn o.1 o.0 t r
-  keeps_batch {s} {h} (diverges {b} {b₁} f g) few hn oc small r = rules_set s h b₁ (gather_fine (length s.places) g (all_fine_lem s r h b f) oc).0 r
+      rules_applied s h b b₁ n all f (gathers_place L g) few hn o.1 o.0 t r
+  keeps_batch {s} {h} (diverges {b} {b₁} f g) few hn oc small r = rules_set s h b b₁ f (gathers_place L g) (gather_fine (length s.places) g (all_fine_lem s r h b f) oc).0 r
 
   -- ---- a Bind
-
-  open_length : (j : Key) (ps : List Place) → length ps ≤ length (opened j ps)
-  open_length j ps = cond_cases (λ (l : List Place). length ps ≤ length l) (is_stored j ps) (λ _. le_refl (length ps)) (λ _. omega (arith, length-append ps (new_place j ∷ [])))
-
-  open_few : (j : Key) (ps : List Place) → length ps ≤ L.S → (is_stored j ps || ltb (length ps) L.S) ≡ true → length (opened j ps) ≤ L.S
-  open_few j ps h p = go (is_stored j ps) p
-    where
-      go : (b : Bool) → (b || ltb (length ps) L.S) ≡ true → length (cond b ps (ps ++ (new_place j ∷ []))) ≤ L.S
-      go true q = h
-      go false q = omega (arith, length-append ps (new_place j ∷ []), ltb→lt (length ps) L.S (true→T (ltb (length ps) L.S) q))
-
-  open_there : (j : Key) (ps : List Place) → place_of j ps < length (opened j ps)
-  open_there j ps =
-      cond_cases (λ (l : List Place). place_of j ps < length l) (is_stored j ps) (λ t. ltb→lt (place_of j ps) (length ps) t)
-      (λ _. omega (arith, length-append ps (new_place j ∷ []), place_low j ps))
 
   open_held : (j : Key) (ps : List Place) → Each Held ps → Each Held (opened j ps)
   open_held j ps h = cond_cases (Each Held) (is_stored j ps) (λ _. h) (λ _. each_append Held ps (new_place j ∷ []) h (new_holdable L.C L.M, tt))
@@ -204,13 +195,17 @@ module _ (L : Settings) (Also : Bound → Type 0) (closed : Closed Also) where
       record {
         epoch_u64 = r.epoch_u64;
         connections_u64 = r.connections_u64;
-        places_few = open_few j s.places r.places_few room;
+        places_few = open_few j s.places L.S r.places_few room;
         sessions_ok = open_held j s.places r.sessions_ok;
         handles_ok =
-            used_put (BoundValid L (length (opened j s.places))) h (new_bound (place_of j s.places)) s.handles
+            used_put (BoundValid L (length (opened j s.places))) h (new_bound (place_of j s.places)) (without_others h (place_of j s.places) s.handles)
             (record { place_there = open_there j s.places; number_u64 = omega arith; bytes_u64 = omega arith; held_small = omega arith; held_ok = tt })
-            (all_grown (length s.places) (length (opened j s.places)) s.handles (open_length j s.places) r.handles_ok);
-        handles_also = used_put Also h (new_bound (place_of j s.places)) s.handles (closed.binds (place_of j s.places)) r.handles_also;
+            (used_others (BoundValid L (length (opened j s.places))) h (place_of j s.places) s.handles
+            (all_grown (length s.places) (length (opened j s.places)) s.handles (open_length j s.places) r.handles_ok));
+        handles_also =
+            used_put Also h (new_bound (place_of j s.places)) (without_others h (place_of j s.places) s.handles) (closed.binds (place_of j s.places))
+            (used_others Also h (place_of j s.places) s.handles r.handles_also);
+        row_apart = bind_apart h (place_of j s.places) (new_bound (place_of j s.places)) s.handles r.row_apart refl;
         pending_few = r.pending_few;
       }
 
@@ -233,10 +228,10 @@ module _ (L : Settings) (Also : Bound → Type 0) (closed : Closed Also) where
   keeps (nacks q) room o r = r
   keeps {s} (greets le) room o r =
       let u = rules_unbound s r in
-      record { epoch_u64 = omega (arith, o.writable.ranged.1); connections_u64 = omega arith; places_few = u.places_few; sessions_ok = u.sessions_ok; handles_ok = u.handles_ok; handles_also = u.handles_also; pending_few = u.pending_few }
+      record { epoch_u64 = omega (arith, o.writable.ranged.1); connections_u64 = omega arith; places_few = u.places_few; sessions_ok = u.sessions_ok; handles_ok = u.handles_ok; handles_also = u.handles_also; row_apart = u.row_apart; pending_few = u.pending_few }
   keeps {s} (binds {h} {k} le p q) room o r = rules_bind s h k p r
   keeps (checks le) room o r =
-      record { epoch_u64 = omega (arith, o.writable.ranged.1); connections_u64 = r.connections_u64; places_few = r.places_few; sessions_ok = r.sessions_ok; handles_ok = r.handles_ok; handles_also = r.handles_also; pending_few = r.pending_few }
+      record { epoch_u64 = omega (arith, o.writable.ranged.1); connections_u64 = r.connections_u64; places_few = r.places_few; sessions_ok = r.sessions_ok; handles_ok = r.handles_ok; handles_also = r.handles_also; row_apart = r.row_apart; pending_few = r.pending_few }
   keeps {s} (batches {h} {e} {n} {p} {cs} {apps} le d) room o r =
       keeps_batch d room (omega (arith, o.writable.ranged.2)) o.storable (omega (arith, bytes_in_size cs, o.writable.short, body_size_lem (batch h e n p cs apps)))
       (rules_epoch s e (omega (arith, o.writable.ranged.1)) r)
@@ -322,6 +317,7 @@ module _ (L : Settings) (Also : Bound → Type 0) (closed : Closed Also) where
         sessions_ok = each_places Held (taken_over L.lag) s.places (λ x h. taken_holdable L.lag x.stored h) r.sessions_ok;
         handles_ok = used_freed (BoundValid L _) s.handles;
         handles_also = used_freed Also s.handles;
+        row_apart = freed_apart s.handles;
         pending_few = omega arith;
       }
 
@@ -463,6 +459,7 @@ module _ (L : Settings) (ps : List Place) (n : ℕ) (few : length ps ≤ L.S) (h
         sessions_ok = held;
         handles_ok = used_none (BoundValid L _) n;
         handles_also = used_none BoundUsual n;
+        row_apart = none_apart n;
         pending_few = omega arith;
       }
 

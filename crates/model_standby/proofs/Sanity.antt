@@ -9,7 +9,7 @@ use mathlib.Core.List.{List, [], ◌∷◌}
 use mathlib.Core.Option.{none}
 use mathlib.Core.Bool.{Bool, true, false, not, ◌||◌}
 use lib.Dec.{T, eqb, ltb→lt}
-use Rattle.model_frame.specs.Frame.{Change, Part, Frame, checked}
+use Rattle.model_frame.specs.Frame.{Change, Part, Frame}
 use Rattle.model_session.proofs.Basics.{cond_cases, cond-true, cond-false, true≢false}
 use Rattle.model_standby.specs.Answer.{Given, damaged, intact, given, lower, is_reply}
 use Rattle.model_standby.specs.Row.{find}

@@ -7,22 +7,23 @@ use mathlib.Core.List.{List, [], ◌∷◌}
 use mathlib.Core.Option.{none, some}
 use mathlib.Core.Bool.{Bool, true, false, cond}
 use Rattle.model_text.specs.Utf8.{utf8, well_formed, lead_length, own_bits, least, fitting, is_scalar, is_surrogate}
-use Rattle.model_text.specs.Printable.{is_printable_byte, is_printable, is_marks}
+use Rattle.model_text.specs.Printable.{is_printable_byte, is_printable, is_marks, is_key}
 use Rattle.model_text.specs.Calendar.{is_leap, month_days}
 use Rattle.model_text.specs.Stamp.{is_digit, is_pair, day_exists, is_stamp, takes_stamp}
 use Rattle.model_frame.specs.Bytes.{le, bytes_of}
-use Rattle.model_frame.specs.Frame.{set_incoming_in_flight, set_in_flight, record_msg, record_bare, reset, set_created_at, set_marks, commit, whole, last_whole, Frame, batch, ack}
+use Rattle.model_frame.specs.Frame.{set_incoming_in_flight, set_in_flight, record_msg, record_bare, reset, set_created_at, set_marks, commit, whole, last_whole, Frame, bind, batch, ack}
 use Rattle.model_frame.specs.Parse.{read_bytes, read_num, read_blob, read_text, read_count, many, run_bytes}
-use Rattle.model_frame.specs.Reading.{read_stamp, read_marks, set_incoming_in_flight_fields, record_msg_fields, record_bare_fields, set_created_at_fields, set_marks_fields, read_change, read_changes, read_app_records, read_part, batch_fields, ack_fields, read_fields, read_body, decode}
-use Rattle.model_frame.specs.Writing.{blob_bytes, change_bytes, body_bytes, encode}
-use Rattle.model_session.specs.Session.{Session, new_session, apply, keep, Holdable}
+use Rattle.model_frame.specs.Reading.{read_stamp, read_marks, set_incoming_in_flight_fields, record_msg_fields, record_bare_fields, set_created_at_fields, set_marks_fields, read_change, read_changes, read_app_records, read_part, read_key, bind_fields, batch_fields, ack_fields, read_fields, read_body, decode}
+use Rattle.model_frame.specs.Writing.{blob_bytes, change_bytes, key_bytes, body_bytes, encode}
+use Rattle.model_session.specs.Session.{Session, new_session, apply, apply_all, keep, Holdable}
 use Rattle.model_session.specs.Whole.{whole_batches, whole_frames}
 use Rattle.model_standby.specs.Answer.{given}
 use Rattle.model_standby.specs.Row.{put}
 use Rattle.model_standby.specs.Store.{session_at}
 use Rattle.model_standby.specs.State.{Bound, Standby, Call, on_frame_held, on_frame, flush, disconnected_from}
-use Rattle.model_standby.specs.Standby.{on_batch, on_handle, on_part, hold, settle, on_given, step, run}
-use Rattle.model_standby.specs.PlainCopy.{OwnKey, copy_at, copy_run_lem}
+use Rattle.model_standby.specs.Handles.{apart}
+use Rattle.model_standby.specs.Standby.{on_bind, on_batch, on_handle, on_part, hold, settle, on_given, step, run}
+use Rattle.model_standby.specs.PlainCopy.{OwnKey, copy_at, copy_run}
 use Rattle.model_standby.specs.Demand.{ModelStart, by_held, by_frame, is_lower, refused_outside, FirstList, list_ends, ours_next, aside_next, flush_next, drop_next, model_took_last}
 use Rattle.model_standby.proofs.Demand3.{demand_3}
 use Rattle.model_standby.proofs.Examples.{L₀, key_of}
@@ -55,8 +56,8 @@ A₀_held =
       msgs_count = omega arith;
     }
 
--- ---- a start: handle 9 at number 7, with an odd byte sum; its session's place is the second with those key bytes; another
--- handle on it holds changes, a later record has the same handle, a pending commit names no place
+-- ---- a start: handle 9 at number 7, with an odd byte sum; its session's place is the second with those key bytes; other
+-- handles hold changes, a pending commit names no place
 
 abbrev b₀ : Bound
 b₀ = record { place = 1; number = 7; held = []; bytes = 4294967297 }
@@ -73,7 +74,7 @@ s₀ =
           ∷ record { key = key_of 65; stored = record { session = new_session; durable = false } }
           ∷ record { key = key_of 66; stored = record { session = A₀; durable = true } }
           ∷ [];
-      handles = some (4, record { place = 1; number = 0; held = reset ∷ []; bytes = 0 }) ∷ none ∷ some (9, b₀) ∷ some (9, record { place = 2; number = 0; held = set_in_flight 0 ∷ []; bytes = 0 }) ∷ [];
+      handles = some (4, record { place = 0; number = 0; held = reset ∷ []; bytes = 0 }) ∷ none ∷ some (9, b₀) ∷ some (8, record { place = 2; number = 0; held = set_in_flight 0 ∷ []; bytes = 0 }) ∷ [];
       pending = (9, 8) ∷ (3, 1) ∷ [];
     }
 
@@ -85,6 +86,7 @@ a_start =
       M_limit = omega arith;
       A_held = A₀_held;
       unpromoted = refl;
+      row_apart = refl;
       bound_so = refl;
       is_B = refl;
       its_key = refl;
@@ -148,6 +150,33 @@ computed_so : session_at (run L₀ s₀ calls₁).places 1 ∷ session_at (run L
 unfolding step on_given on_batch on_handle on_part hold settle apply keep put given encode body_bytes blob_bytes change_bytes run_bytes bytes_of decode le read_num read_bytes read_blob read_text read_count many read_body read_fields batch_fields ack_fields read_changes read_change set_incoming_in_flight_fields record_msg_fields record_bare_fields set_created_at_fields set_marks_fields read_app_records read_part read_stamp read_marks utf8 well_formed lead_length own_bits least fitting is_scalar is_surrogate is_printable_byte is_printable is_marks is_digit is_pair is_stamp day_exists month_days is_leap takes_stamp
 computed_so = refl
 
-copies_so : (copy_run_lem L₀ k₀ (copy_at new_session s₀) s₀ calls₁).session ∷ (copy_run_lem L₀ k₀ (copy_at new_session s₀) s₀ calls₂).session ∷ [] ≡ A₀ ∷ new_session ∷ []
+copies_so : (copy_run L₀ k₀ (copy_at new_session s₀) s₀ calls₁).session ∷ (copy_run L₀ k₀ (copy_at new_session s₀) s₀ calls₂).session ∷ [] ≡ A₀ ∷ new_session ∷ []
 unfolding step on_given on_batch on_handle on_part hold settle apply keep put given encode body_bytes blob_bytes change_bytes run_bytes bytes_of decode le read_num read_bytes read_blob read_text read_count many read_body read_fields batch_fields ack_fields read_changes read_change set_incoming_in_flight_fields record_msg_fields record_bare_fields set_created_at_fields set_marks_fields read_app_records read_part read_stamp read_marks utf8 well_formed lead_length own_bits least fitting is_scalar is_surrogate is_printable_byte is_printable is_marks is_digit is_pair is_stamp day_exists month_days is_leap takes_stamp
 copies_so = refl
+
+-- ---- what the rule on handles is for: of a row with two places of handle 2 a Bind of handle 1 frees the first, and brings the second to life. The
+-- standby's next Commit on handle 2 is on another session, the plain copy's on the first one's still
+
+abbrev twice : Standby
+twice =
+    record {
+      counters = s₀.counters;
+      places = record { key = key_of 65; stored = record { session = new_session; durable = true } } ∷ record { key = key_of 66; stored = record { session = new_session; durable = true } } ∷ [];
+      handles = some (2, record { place = 0; number = 0; held = []; bytes = 0 }) ∷ some (2, record { place = 1; number = 4; held = []; bytes = 0 }) ∷ [];
+      pending = [];
+    }
+
+abbrev calls₃ : List Call
+calls₃ = on_frame_held (encode (bind 1 5 0 (key_of 65))) ∷ on_frame_held (encode (batch 2 5 5 commit (record_bare 7 ∷ []) [])) ∷ []
+
+abbrev k₃ : OwnKey
+k₃ = record { key = key_of 65; earlier = 0 }
+
+second_lives : session_at (run L₀ twice calls₃).places 0 ∷ session_at (run L₀ twice calls₃).places 1 ∷ some (copy_run L₀ k₃ (copy_at new_session twice) twice calls₃).session ∷ []
+    ≡ some new_session ∷ some (apply_all 4096 64 (record_bare 7 ∷ []) new_session) ∷ some (apply_all 4096 64 (record_bare 7 ∷ []) new_session) ∷ []
+unfolding step on_given on_bind on_batch on_handle on_part hold settle apply keep put given encode body_bytes blob_bytes change_bytes key_bytes run_bytes bytes_of decode le read_num read_bytes read_blob read_text read_count many read_body read_fields bind_fields batch_fields read_changes read_change record_bare_fields read_app_records read_part read_key utf8 well_formed lead_length own_bits least fitting is_scalar is_surrogate is_printable_byte is_printable is_key
+second_lives = refl
+
+-- it is the row of no allowed state
+not_apart : apart twice.handles ≡ false
+not_apart = refl

@@ -11,15 +11,18 @@ use Rattle.model_frame.specs.Sizes.{sizes}
 use Rattle.model_session.specs.Session.{fits}
 use Rattle.model_session.specs.Summary.{summary}
 use Rattle.model_standby.specs.Answer.{protocol_version, Given, damaged, intact, given, handle_in, Answer, reply, refused, done, is_reply}
-use Rattle.model_standby.specs.Row.{Row, is_some, put, freed}
+use Rattle.model_standby.specs.Row.{Row, put, freed}
 use Rattle.model_standby.specs.Store.{Place, place_of, is_stored, on_place, on_places, session_at, or_new, opened, changed, mark_all, taken_over}
 use Rattle.model_standby.specs.State.{Settings, incarnation_of, Counters, Bound, Standby, Call, on_frame_held, on_frame, flush, disconnected_from, promote, promote_unchecked, Result, at_epoch, connected, checked_at, promoted_to, new_bound, none_held, numbered}
+use Rattle.model_standby.specs.Handles.{without_others}
 use Rattle.model_standby.specs.Standby.{due, follows, raised, max_whole, starts_with_reset, summed, holding}
 
--- what is to be done to the row: nothing; the handle gets the value, at its own place or the first free one; all places free
+-- what is to be done to the row: nothing; the handle gets the value, at its own place or the first free one; the same, once no other handle has the
+-- value's session; all places free
 pub data Action : Type 0 where
   leave : Action
   store : ℕ → Bound → Action
+  rebind : ℕ → Bound → Action
   clear : Action
 
 -- the state but for the row
@@ -36,6 +39,7 @@ pub record CoreResult : Type 0 where
 abbrev pub act : Action → Row Bound → Row Bound
 act leave t = t
 act (store h b) t = put h b t
+act (rebind h b) t = put h b (without_others h b.place t)
 act clear t = freed t
 
 abbrev pub core_of : Standby → Core
@@ -73,14 +77,14 @@ module _ (L : Settings) where
       (cond (ltb e k.counters.epoch) (core_says k leave (welcome k.counters.epoch (incarnation_of L)))
       (core_says (counting (core_unbound k) (connected e k.counters)) clear (welcome e (incarnation_of L)))))
 
-  -- whether the row has a place for the handle: it has one, or one is free
-  unfoldable pub core_bind : Core → Bool → ℕ → ℕ → ℕ → Key → CoreResult
+  -- `room p` says whether the row has a place for the handle once no other handle has the session place p
+  unfoldable pub core_bind : Core → (ℕ → Bool) → ℕ → ℕ → ℕ → Key → CoreResult
   core_bind k room h e lag j =
       cond (ltb e k.counters.epoch) (core_says k leave (nack h stale_epoch))
       (cond (ltb L.lag lag) (core_says k leave (nack h lag_too_great))
       (cond (not (is_stored j k.places || ltb (length k.places) L.S)) (core_refuse k leave Refusal.no_session_place)
-      (cond (not room) (core_refuse k leave Refusal.no_handle_place)
-      (core_says (record { counters = k.counters; places = opened j k.places; pending = k.pending }) (store h (new_bound (place_of j k.places)))
+      (cond (not (room (place_of j k.places))) (core_refuse k leave Refusal.no_handle_place)
+      (core_says (record { counters = k.counters; places = opened j k.places; pending = k.pending }) (rebind h (new_bound (place_of j k.places)))
       (bound h (summary (or_new (session_at k.places (place_of j k.places))) lag))))))
 
   unfoldable pub core_checked : Core → ℕ → ℕ → ℕ → CoreResult
@@ -116,21 +120,21 @@ module _ (L : Settings) where
       (cond (ltb e k.counters.epoch) (core_says k leave (nack h stale_epoch))
       (core_handle (counting k (at_epoch e k.counters)) h found n p cs))
 
-  -- ---- the calls, with what was found for the frame's handle, and whether the row has a free place
+  -- ---- the calls, with what was found for the frame's handle, and at which session places the row has room for it
 
-  abbrev pub core_intact : Core → Option Bound → Bool → Frame → CoreResult
-  core_intact k found free (hello v e node kinds) = core_hello k v e kinds
-  core_intact k found free (welcome e i) = core_refuse k leave Refusal.other_frame
-  core_intact k found free (bind h e lag j) = core_bind k (is_some found || free) h e lag j
-  core_intact k found free (batch h e n p cs apps) = core_batch k found h e n p cs apps
-  core_intact k found free (ack h n) = core_refuse k leave Refusal.other_frame
-  core_intact k found free (nack h r) = core_refuse k leave Refusal.other_frame
-  core_intact k found free (bound h m) = core_refuse k leave Refusal.other_frame
-  core_intact k found free (checked h e i) = core_checked k h e i
+  abbrev pub core_intact : Core → Option Bound → (ℕ → Bool) → Frame → CoreResult
+  core_intact k found room (hello v e node kinds) = core_hello k v e kinds
+  core_intact k found room (welcome e i) = core_refuse k leave Refusal.other_frame
+  core_intact k found room (bind h e lag j) = core_bind k room h e lag j
+  core_intact k found room (batch h e n p cs apps) = core_batch k found h e n p cs apps
+  core_intact k found room (ack h n) = core_refuse k leave Refusal.other_frame
+  core_intact k found room (nack h r) = core_refuse k leave Refusal.other_frame
+  core_intact k found room (bound h m) = core_refuse k leave Refusal.other_frame
+  core_intact k found room (checked h e i) = core_checked k h e i
 
-  unfoldable pub core_given : Core → Option Bound → Bool → Given → CoreResult
-  core_given k found free (damaged n) = core_refuse k leave n
-  core_given k found free (intact f) = cond k.counters.promoted (core_refuse k leave Refusal.promoted) (core_intact (core_run (due k.pending f) k) found free f)
+  unfoldable pub core_given : Core → Option Bound → (ℕ → Bool) → Given → CoreResult
+  core_given k found room (damaged n) = core_refuse k leave n
+  core_given k found room (intact f) = cond k.counters.promoted (core_refuse k leave Refusal.promoted) (core_intact (core_run (due k.pending f) k) found room f)
 
   abbrev pub core_flushed : CoreResult → CoreResult
   core_flushed r = record { core = core_run (is_reply r.answer) r.core; action = r.action; answer = r.answer }
@@ -138,13 +142,13 @@ module _ (L : Settings) where
   abbrev pub core_promotion : Core → Core
   core_promotion k = record { counters = promoted_to k.counters; places = on_places (taken_over L.lag) k.places; pending = [] }
 
-  unfoldable pub core_step : Core → Option Bound → Bool → Call → CoreResult
-  core_step k found free (on_frame_held w) = core_given k found free (given w)
-  core_step k found free (on_frame w) = core_flushed (core_given k found free (given w))
-  core_step k found free (flush n) = cond (not (eqb n k.counters.connections) || k.counters.promoted) (core_refuse k leave Refusal.other_connection) (core_done (core_run true k) leave)
-  core_step k found free (disconnected_from n) = cond (eqb n k.counters.connections) (core_done (core_unbound k) clear) (core_done k leave)
-  core_step k found free promote = cond k.counters.checked (core_done (core_promotion k) clear) (core_refuse k leave Refusal.unchecked)
-  core_step k found free promote_unchecked = core_done (core_promotion k) clear
+  unfoldable pub core_step : Core → Option Bound → (ℕ → Bool) → Call → CoreResult
+  core_step k found room (on_frame_held w) = core_given k found room (given w)
+  core_step k found room (on_frame w) = core_flushed (core_given k found room (given w))
+  core_step k found room (flush n) = cond (not (eqb n k.counters.connections) || k.counters.promoted) (core_refuse k leave Refusal.other_connection) (core_done (core_run true k) leave)
+  core_step k found room (disconnected_from n) = cond (eqb n k.counters.connections) (core_done (core_unbound k) clear) (core_done k leave)
+  core_step k found room promote = cond k.counters.checked (core_done (core_promotion k) clear) (core_refuse k leave Refusal.unchecked)
+  core_step k found room promote_unchecked = core_done (core_promotion k) clear
 
 -- the handle to look up
 abbrev pub handle_of : Call → ℕ

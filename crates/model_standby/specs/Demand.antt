@@ -13,17 +13,19 @@ use Rattle.model_standby.specs.Answer.{intact, given, Answer, refused, accepted,
 use Rattle.model_standby.specs.Row.{find}
 use Rattle.model_standby.specs.Store.{session_at}
 use Rattle.model_standby.specs.State.{Settings, Bound, Standby, Call, on_frame_held, on_frame, flush, disconnected_from, promote, promote_unchecked}
+use Rattle.model_standby.specs.Handles.{apart}
 use Rattle.model_standby.specs.Standby.{step, run}
-use Rattle.model_standby.specs.PlainCopy.{OwnKey, own_key, copy_at, copy_run_lem}
+use Rattle.model_standby.specs.PlainCopy.{OwnKey, own_key, copy_at, copy_run}
 
 -- A is a session that the store can hold. The handle h is bound to the place of session B, whose key is k, with nothing
--- held and document 01's hold area; the standby is unpromoted. Handle, epoch and the numbers of A's batches are of their
--- types (else sending gives 8 or 24). Nothing else is asked of the state.
+-- held and document 01's hold area; the standby is unpromoted; the row keeps its rule (one handle for a session). Handle, epoch and the numbers of A's
+-- batches are of their types (else sending gives 8 or 24). Nothing else is asked of the state.
 pub record ModelStart (L : Settings) (limit : ℕ) (A B : Session) (k : OwnKey) (h : ℕ) (b : Bound) (s : Standby) : Type 0 where
   pub C_limit : L.C ≤ 33554432
   pub M_limit : L.M ≤ 65536
   pub A_held : Holdable L.C L.M A
   pub unpromoted : s.counters.promoted ≡ false
+  pub row_apart : apart s.handles ≡ true
   pub bound_so : find h s.handles ≡ some b
   pub is_B : session_at s.places b.place ≡ some B
   pub its_key : own_key s.places b.place ≡ some k
@@ -94,6 +96,6 @@ pub record ModelClaim (L : Settings) (limit : ℕ) (A B : Session) (k : OwnKey) 
   -- after the list the session is exactly A if A's last is among those accepted, else exactly B
   pub is_A_or_B : session_at (run L s cs).places b.place ≡ some (cond (model_took_last d) A B)
   -- after every further list the session is exactly that of the plain copy, fed both lists
-  pub is_the_copy : (more : List Call) → T (no_promotions more) → session_at (run L s (cs ++ more)).places b.place ≡ some (copy_run_lem L k (copy_at B s) s (cs ++ more)).session
+  pub is_the_copy : (more : List Call) → T (no_promotions more) → session_at (run L s (cs ++ more)).places b.place ≡ some (copy_run L k (copy_at B s) s (cs ++ more)).session
   -- which after the first list was A or B likewise, so batches accepted after A act as on A
-  pub copy_is_A_or_B : (copy_run_lem L k (copy_at B s) s cs).session ≡ cond (model_took_last d) A B
+  pub copy_is_A_or_B : (copy_run L k (copy_at B s) s cs).session ≡ cond (model_took_last d) A B

@@ -4,9 +4,11 @@ pub mod Row
 pub mod Answer
 pub mod Store
 pub mod State
+pub mod Handles
 pub mod Standby
 pub mod PlainCopy
 pub mod Demand
+pub mod OneHandle
 pub mod Hold
 pub mod Core
 pub mod Starred

@@ -44,8 +44,8 @@ module _ {A : Type 0} where
   fill h v (some e ∷ t) = some e ∷ fill h v t
 
   -- there is a place for h: its own or a free one
-  abbrev pub has_room_lem : ℕ → Row A → Bool
-  has_room_lem h t = is_some (find h t) || has_free t
+  abbrev pub has_room : ℕ → Row A → Bool
+  has_room h t = is_some (find h t) || has_free t
 
   -- h gets the value v, at its own place or, if it has none, at the first free one
   unfoldable pub put : ℕ → A → Row A → Row A

@@ -9,9 +9,10 @@ use Rattle.model_frame.specs.Sizes.{sizes}
 use Rattle.model_session.specs.Session.{fits, message_bytes, top}
 use Rattle.model_session.specs.Summary.{summary}
 use Rattle.model_standby.specs.Answer.{protocol_version, Given, damaged, intact, given, reply, refused, done, is_reply}
-use Rattle.model_standby.specs.Row.{find, has_room_lem, put, freed}
+use Rattle.model_standby.specs.Row.{find, put, freed}
 use Rattle.model_standby.specs.Store.{place_of, is_stored, on_place, on_places, session_at, or_new, opened, changed, mark_all, taken_over}
 use Rattle.model_standby.specs.State.{Settings, incarnation_of, Counters, Bound, Standby, Call, on_frame_held, on_frame, flush, disconnected_from, promote, promote_unchecked, Result, at_epoch, connected, checked_at, promoted_to, new_bound, none_held, numbered}
+use Rattle.model_standby.specs.Handles.{without_others, room_at}
 
 -- ---- parts of the state
 
@@ -26,9 +27,15 @@ with_handle s h b = record { counters = s.counters; places = s.places; handles =
 abbrev pub unbound : Standby → Standby
 unbound s = record { counters = s.counters; places = s.places; handles = freed s.handles; pending = [] }
 
--- the session of k is there, new if it wasn't, and h is bound to it anew
+-- the session of k is there, new if it wasn't; no other handle has it, and h is bound to it anew
 abbrev pub bind_to : Standby → ℕ → Key → Standby
-bind_to s h k = record { counters = s.counters; places = opened k s.places; handles = put h (new_bound (place_of k s.places)) s.handles; pending = s.pending }
+bind_to s h k =
+    record {
+      counters = s.counters;
+      places = opened k s.places;
+      handles = put h (new_bound (place_of k s.places)) (without_others h (place_of k s.places) s.handles);
+      pending = s.pending;
+    }
 
 -- ---- pending commits
 
@@ -72,13 +79,14 @@ module _ (L : Settings) where
       (cond (ltb e s.counters.epoch) (says s (welcome s.counters.epoch (incarnation_of L)))
       (says (with_counters (unbound s) (connected e s.counters)) (welcome e (incarnation_of L)))))
 
-  -- Bind: Nack StaleEpoch, Nack Lag, 20 no free session place for a new key, 21 no free handle place for a new handle
+  -- Bind: Nack StaleEpoch, Nack Lag, 20 no free session place for a new key, 21 no handle place for a new handle (the place of another handle that has
+  -- the session counts as free). A refused Bind frees none
   unfoldable pub on_bind : Standby → ℕ → ℕ → ℕ → Key → Result
   on_bind s h e lag k =
       cond (ltb e s.counters.epoch) (says s (nack h stale_epoch))
       (cond (ltb L.lag lag) (says s (nack h lag_too_great))
       (cond (not (is_stored k s.places || ltb (length s.places) L.S)) (refuse s Refusal.no_session_place)
-      (cond (not (has_room_lem h s.handles)) (refuse s Refusal.no_handle_place)
+      (cond (not (room_at h s.handles (place_of k s.places))) (refuse s Refusal.no_handle_place)
       (says (bind_to s h k) (bound h (summary (or_new (session_at s.places (place_of k s.places))) lag))))))
 
   -- Checked: Nack StaleEpoch, Nack Restarted

@@ -5,7 +5,7 @@ use Prim.Native.Nat.{ℕ}
 use native.Mathlib.Omega.{arith}
 use mathlib.Core.List.{List}
 use mathlib.Core.Option.{Option, none}
-use mathlib.Core.Bool.{Bool, true, false, cond, not, ◌||◌}
+use mathlib.Core.Bool.{Bool, true, false, not, ◌||◌}
 use lib.Dec.{T, ltb, eqb, ltb→lt}
 use Rattle.model_frame.specs.Frame.{Reason, Frame, hello, welcome, bind, batch, ack, nack, bound, checked}
 use Rattle.model_frame.specs.Refusal
@@ -14,7 +14,7 @@ use Rattle.model_session.proofs.Basics.{T→true, true≢false, eqb_sound, cond-
 use Rattle.model_standby.specs.Answer.{Given, damaged, intact, given, lower, Answer, reply, refused, done, reason_in, is_diverged, accepted, says_diverged, is_reply}
 use Rattle.model_standby.specs.State.{Settings, Counters, Bound, Standby, Call, Result}
 use Rattle.model_standby.specs.Standby.{due, run_pending, on_given, step}
-use Rattle.model_standby.specs.Hold.{HoldWrite, writes_part, writes_frame, writes}
+use Rattle.model_standby.specs.Hold.{writes_part, writes_frame, writes}
 use Rattle.model_standby.specs.Demand.{is_outside, Hands, by_held, by_frame}
 use Rattle.model_standby.proofs.Outcomes.{Nacked, stale_bind, lag_bind, stale_batch, stale_checked, other_checked, Does, turns, tells, nacks, greets, binds, checks, batches, does}
 

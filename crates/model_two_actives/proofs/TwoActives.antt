@@ -3,10 +3,10 @@
 use mathlib.Core.Path.{◌≡◌, refl, ap, ◌∙◌}
 use Prim.Native.Nat.{ℕ, ◌<◌, ◌≤◌}
 use native.Mathlib.Omega.{arith}
-use mathlib.Core.List.{List, [], ◌∷◌, ◌++◌}
+use mathlib.Core.List.{List, ◌∷◌, ◌++◌}
 use mathlib.Core.Option.{Option, none, some}
 use mathlib.Core.Bool.{Bool, true, false, cond, not, ◌&&◌, ◌||◌}
-use lib.Dec.{T, ltb, eqb, ltb→lt, nltb→le}
+use lib.Dec.{T, ltb, ltb→lt, nltb→le}
 use borrow.Author.Tests.{lt-ltb}
 use lib.ListN.{length}
 use Rattle.model_frame.specs.Frame.{Key, Change, Part, commit, whole, last_whole, restarted, Frame, hello, welcome, bind, batch, ack, nack, bound, checked}
@@ -15,9 +15,10 @@ use Rattle.model_frame.specs.Sizes.{sizes}
 use Rattle.model_session.specs.Session.{fits}
 use Rattle.model_session.proofs.Basics.{cond_cases, cond-false, eqb_true, true→T}
 use Rattle.model_standby.specs.Answer.{Given, intact, given, lower, is_reply}
-use Rattle.model_standby.specs.Store.{session_at, is_stored, or_new}
-use Rattle.model_standby.specs.Row.{find, has_room_lem}
+use Rattle.model_standby.specs.Store.{session_at, place_of, is_stored, or_new}
+use Rattle.model_standby.specs.Row.{find}
 use Rattle.model_standby.specs.State.{Settings, incarnation_of, Counters, Bound, Standby, Result, Call, at_epoch, checked_at, none_held}
+use Rattle.model_standby.specs.Handles.{room_at}
 use Rattle.model_standby.specs.Standby.{with_counters, says, run_pending, due, follows, raised, max_whole, starts_with_reset, settle, hold, on_part, on_hello, on_checked, on_batch, on_handle, on_bind, on_intact, on_given, step, run}
 use Rattle.model_standby.specs.Demand.{Hands, by_held, by_frame}
 use Rattle.model_standby.proofs.Sanity.{epoch_never_falls, lower_frame, promoted_held, promoted_frame}
@@ -128,7 +129,7 @@ module _ (L : Settings) (s : Standby) (unpromoted : s.counters.promoted ≡ fals
       cond_cases P (ltb e s₁.counters.epoch) (λ _. refl)
       (λ _. cond_cases P (ltb L.lag lag) (λ _. refl)
       (λ _. cond_cases P (not (is_stored k s₁.places || ltb (length s₁.places) L.S)) (λ _. refl)
-      (λ _. cond_cases P (not (has_room_lem h s₁.handles)) (λ _. refl) (λ _. refl))))
+      (λ _. cond_cases P (not (room_at h s₁.handles (place_of k s₁.places))) (λ _. refl) (λ _. refl))))
     where
       P : Result → Type 0
       P r = r.state.counters.epoch ≡ s₁.counters.epoch

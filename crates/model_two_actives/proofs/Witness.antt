@@ -1,10 +1,10 @@
 -- The witness for Bind, computed.
 -- Assumes nothing.
-use mathlib.Core.Path.{◌≡◌, refl}
-use mathlib.Core.List.{List, [], ◌∷◌, map}
+use mathlib.Core.Path.{refl}
+use mathlib.Core.List.{[], ◌∷◌, map}
 use Prim.Native.Nat.{ℕ}
 use Rattle.model_text.specs.Utf8.{utf8, well_formed, lead_length, own_bits, least, fitting, is_scalar, is_surrogate, is_tail}
-use Rattle.model_text.specs.Printable.{is_printable_byte, is_printable, is_marks, is_key}
+use Rattle.model_text.specs.Printable.{is_printable_byte, is_printable, is_key}
 use Rattle.model_frame.specs.Bytes.{le, bytes_of}
 use Rattle.model_frame.specs.Frame.{Key, record_msg, commit, Frame, hello, bind, batch}
 use Rattle.model_frame.specs.Parse.{read_bytes, read_num, read_blob, read_text, read_count, many, run_bytes}

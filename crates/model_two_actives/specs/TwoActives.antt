@@ -46,7 +46,7 @@ pub record ModelTwoActives (L : Settings) (s : Standby) : Type 0 where
   pub promoted : (cs : List Call) → (run L s cs).counters.promoted ≡ true → (d : Call) (w : List ℕ) → Hands d w → (step L (run L s cs) d).state ≡ run L s cs
 
 -- a witness, with two sessions: the active of epoch 5 says Hello and binds handle 1 to a, the one of epoch 9 binds handle 2 to b; the lower one's Commit is then taken
--- (were b the lower one's session, a Bind would take its handle once a session has one handle, U4, and its Batch be 14; it would be deposed as little)
+-- (were b the lower one's session, the Bind would take its handle, and its Batch be 14; it would be deposed as little)
 pub record NotByBind (L : Settings) (a b : Key) (s₁ : Standby) (high low : Call) : Type 0 where
   pub before : s₁ ≡ run L (new_standby [] 2) (map (λ (f : Frame). on_frame_held (encode f)) (hello protocol_version 5 [] [] ∷ bind 1 5 0 a ∷ []))
   pub calls : (high ≡ on_frame_held (encode (bind 2 9 0 b))) × (low ≡ on_frame_held (encode (batch 1 5 1 commit (record_msg 1 (7 ∷ []) ∷ []) [])))

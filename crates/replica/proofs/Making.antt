@@ -8,7 +8,8 @@ use native.Mathlib.Omega.{arith}
 use lib.Dec.{leb}
 use lib.ListN.{length, get_or, set, drop, replicate}
 use Rattle.standby_row.specs.declared.Bound.{Bound as BoundRecord}
-use Rattle.standby_row.specs.Row.{broken_of, cleared_all}
+use Rattle.std.specs.List.{list_any}
+use Rattle.standby_row.specs.Row.{broken_of, cleared, clashes, apart_of, cleared_all}
 use Rattle.standby_handles.specs.Rows.{row_of}
 use Rattle.store_areas.specs.Areas.{allowed, Rules, places_of}
 use Rattle.store_areas.proofs.Ruling.{rules_of, rules_true}
@@ -36,6 +37,15 @@ all_free : (bound : BoundRecord → List ℕ → Bound) (room : ℕ) (row : List
 all_free bound room [] h = refl
 all_free bound room (g ∷ gs) h = ap (λ (t : Row Bound). none ∷ t) (all_free bound room gs (drop room h))
 
+-- free records are apart
+freed_apart : (row : List BoundRecord) → apart_of (cleared_all row) ≡ true
+freed_apart [] = refl
+freed_apart (g ∷ gs) = rw (freed_alone g (cleared_all gs)) (freed_apart gs)
+  where
+    freed_alone : (g : BoundRecord) (hs : List BoundRecord) → list_any (clashes (cleared g)) hs ≡ false
+    freed_alone g [] = refl
+    freed_alone g (h ∷ hs) = freed_alone g hs
+
 module _ (s : Settings) (c : Replica) (row : List BoundRecord) (w b : List ℕ) where
   pub not_made : {a : Answer} → allowed s.shape w b ≡ false → a ≡ is_refused 25 → MadeOver s c c row row w w b a
   not_made off is = record { refuses = λ _. (is, (refl, (refl, refl))); makes = λ on. absurd (true≢false (sym on ∙ off)) }
@@ -51,7 +61,7 @@ module _ (s : Settings) (c : Replica) (row : List BoundRecord) (w b : List ℕ) 
 
   sound : Rules s.shape w b → (h : List ℕ) → allowed_all s (cleared_all row) (set w 1 0) b h ≡ true
   sound rules h =
-      (λ i. rules_true s.shape (set w 1 0) b (clear_rules s.shape w b rules) i && leb (length (cleared_all row)) (broken_of (cleared_all row) (get_or (set w 1 0) 0 0) (room_all (cleared_all row) h)))
+      (λ i. rules_true s.shape (set w 1 0) b (clear_rules s.shape w b rules) i && (freed_apart row i && leb (length (cleared_all row)) (broken_of (cleared_all row) (get_or (set w 1 0) 0 0) (room_all (cleared_all row) h))))
       ∙ of_whole (get_or (set w 1 0) 0 0) (room_all (cleared_all row) h) (cleared_all row) (whole_cleared (get_or (set w 1 0) 0 0) (room_all (cleared_all row) h) row)
 
   pub made : {a : Answer} {d : Replica} {row' : List BoundRecord} → allowed s.shape w b ≡ true → a ≡ is_done → d ≡ new_replica → row' ≡ cleared_all row → MadeOver s c d row row' w (set w 1 0) b a

@@ -46,6 +46,7 @@ fn on_call(
         lookup,
     };
     let mut areas = Areas {
+        row,
         words,
         bytes,
         holds,

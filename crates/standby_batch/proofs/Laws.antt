@@ -13,7 +13,7 @@ use Rattle.base_laws.proofs.Lists.{both}
 use Rattle.base_refusals.specs.declared.Refusal.{Refusal}
 use Rattle.base_refusals.specs.Numbers.{number_of}
 use Rattle.model_frame.specs.Bytes.{write}
-use Rattle.model_frame.specs.Frame.{Change, AppRecord, commit, whole, last_whole, batch, nack, ack, stale_epoch, diverged}
+use Rattle.model_frame.specs.Frame.{Change, AppRecord, commit, whole, last_whole, batch, nack, stale_epoch, diverged}
 use Rattle.model_frame.specs.Frame as the_frame
 use Rattle.model_frame.specs.Parse.{is_empty}
 use Rattle.model_frame.specs.Sizes.{sizes}
@@ -26,7 +26,7 @@ use Rattle.store_areas.specs.Areas.{Rules}
 use Rattle.store_areas.proofs.Lifting.{places_length}
 use Rattle.standby_commit.specs.Settling.{StoreChange, stays, batch_change, StoreAfter}
 use Rattle.standby_commit.proofs.Laws.{none_changed}
-use Rattle.model_standby.specs.Answer.{protocol_version, reply, refused, accepted, is_reply}
+use Rattle.model_standby.specs.Answer.{protocol_version, refused, accepted, is_reply}
 use Rattle.model_standby.specs.Answer as the-answer
 use Rattle.model_standby.specs.State.{Bound, at_epoch}
 use Rattle.model_standby.specs.State as state
@@ -43,10 +43,9 @@ use Rattle.standby_state.specs.declared.Answer.{Answer}
 use Rattle.standby_state.specs.declared.Outcome.{Outcome}
 use Rattle.standby_state.specs.Answers.{answer_of, is_refused, is_nack, is_ack}
 use Rattle.standby_state.specs.Exact.{Exact}
-use Rattle.standby_state.specs.Outcomes.{counters_of, settings_of, leaving, storing, clears, stores, Lands}
+use Rattle.standby_state.specs.Outcomes.{counters_of, settings_of, leaving, storing, stores}
 use Rattle.standby_state.proofs.Exact.{exact_refused, exact_nack, exact_ack}
-use Rattle.standby_hello.proofs.Laws.{kept_lands}
-use Rattle.standby_batch.specs.Batches.{epoch_to, found_for, bound_for, answer_by, settled_of, RecordRules, hold_area_with, found_at, put_in, BatchIs}
+use Rattle.standby_batch.specs.Batches.{epoch_to, found_for, bound_for, answer_by, settled_of, RecordRules, hold_area_with, found_at, put_in, Puts, BatchIs}
 use Rattle.standby_batch.proofs.Refusals.{some_number}
 use Rattle.standby_batch.proofs.Passing.{as_many, is_store, store_none, accept_none, Passes, whole_passes, last_passes}
 
@@ -118,8 +117,7 @@ module _ (s : Settings) (c : Replica) (seen : Lookup) (h : ℕ) (e : Epoch) (n :
       subst (Is w b area) (sym (e₁ ∙ ap (leaving c) e₂))
       (record {
         is = is ∙ sym (tests ∙ (λ j. Goes (p j) (q j)));
-        lands = tt;
-        stays = refl;
+        puts = tt;
         stored = λ y. absurd (true≢false (sym y));
         rules = rules;
         used = refl;
@@ -186,12 +184,6 @@ module _ (s : Settings) (c : Replica) (seen : Lookup) (h : ℕ) (e : Epoch) (n :
     says_so (PartResult.Diverged x) = refl
     says_so (PartResult.Accepted x) = refl
 
-    clears_none : (q : PartResult) → clears (X q).action ≡ false
-    clears_none (PartResult.Refused e₁) = refl
-    clears_none (PartResult.RefusedHolding e₁ x) = refl
-    clears_none (PartResult.Diverged x) = refl
-    clears_none (PartResult.Accepted x) = refl
-
     used_same : get_or w' 0 0 ≡ get_or w 0 0
     used_same =
         sym (places_length s.shape w' b') ∙ ap (λ (r : CoreResult). length r.core.places) handled
@@ -227,8 +219,8 @@ module _ (s : Settings) (c : Replica) (seen : Lookup) (h : ℕ) (e : Epoch) (n :
             no_change whole = refl
             no_change last_whole = refl
 
-    put_lands : (a : Answer) (x : BoundRecord) → found ≡ true → StoredIs protocol_version (own_record seen) area area' x → Lands seen (get_or w' 0 0) (length area) area' (storing (epoch_to c e) seen a h x).action
-    put_lands a x f i =
+    put_fits : (a : Answer) (x : BoundRecord) → found ≡ true → StoredIs protocol_version (own_record seen) area area' x → Puts seen (get_or w' 0 0) (length area) area' (storing (epoch_to c e) seen a h x).action
+    put_fits a x f i =
         let k : RecordRules seen w area = kept f in
         record {
           at_is = refl;
@@ -237,18 +229,24 @@ module _ (s : Settings) (c : Replica) (seen : Lookup) (h : ℕ) (e : Epoch) (n :
           slot_len = i.len k.held_within;
         }
 
-    lands_in : (q : PartResult) → (stores (X q).action ≡ true → found ≡ true) → IfSome (stored_in q) (StoredIs protocol_version (own_record seen) area area') → Lands seen (get_or w' 0 0) (length area) area' (X q).action
-    lands_in (PartResult.Refused e₁) f i = tt
-    lands_in (PartResult.RefusedHolding e₁ x) f i = put_lands (is_refused (number_of e₁)) x (f refl) i
-    lands_in (PartResult.Diverged x) f i = put_lands (is_nack h 2) x (f refl) i
-    lands_in (PartResult.Accepted x) f i = put_lands (is_ack h n) x (f refl) i
+    puts_in : (q : PartResult) → (stores (X q).action ≡ true → found ≡ true) → IfSome (stored_in q) (StoredIs protocol_version (own_record seen) area area') → Puts seen (get_or w' 0 0) (length area) area' (X q).action
+    puts_in (PartResult.Refused e₁) f i = tt
+    puts_in (PartResult.RefusedHolding e₁ x) f i = put_fits (is_refused (number_of e₁)) x (f refl) i
+    puts_in (PartResult.Diverged x) f i = put_fits (is_nack h 2) x (f refl) i
+    puts_in (PartResult.Accepted x) f i = put_fits (is_ack h n) x (f refl) i
 
-    landed : Lands seen (get_or w' 0 0) (length area) area' (X d).action
-    landed = go found refl g.slot
+    puts_none : (q : PartResult) → stores (X q).action ≡ false → Puts seen (get_or w' 0 0) (length area) area' (X q).action
+    puts_none (PartResult.Refused e₁) e = tt
+    puts_none (PartResult.RefusedHolding e₁ x) e = absurd (true≢false e)
+    puts_none (PartResult.Diverged x) e = absurd (true≢false e)
+    puts_none (PartResult.Accepted x) e = absurd (true≢false e)
+
+    put_so : Puts seen (get_or w' 0 0) (length area) area' (X d).action
+    put_so = go found refl g.slot
       where
-        go : (t : Bool) → found ≡ t → StoredFor protocol_version (Own t) area area' (stored_in d) → Lands seen (get_or w' 0 0) (length area) area' (X d).action
-        go true f i = lands_in d stored_found i
-        go false f i = kept_lands seen (get_or w' 0 0) (length area) area' (X d).action (none_stored f)
+        go : (t : Bool) → found ≡ t → StoredFor protocol_version (Own t) area area' (stored_in d) → Puts seen (get_or w' 0 0) (length area) area' (X d).action
+        go true f i = puts_in d stored_found i
+        go false f i = puts_none d (none_stored f)
 
     -- ---- the hold area
 
@@ -309,8 +307,7 @@ module _ (s : Settings) (c : Replica) (seen : Lookup) (h : ℕ) (e : Epoch) (n :
         subst (Is w' b' area') (sym (e₂ ∙ ap (λ (x : Replica). settled_of x seen d h n) e₁))
         (record {
           is = reads d ∙ handled ∙ sym went;
-          lands = landed;
-          stays = clears_none d;
+          puts = put_so;
           stored = λ y. sym found_is ∙ stored_found y;
           rules = g.rules;
           used = used_same;

@@ -14,7 +14,7 @@ use Rattle.model_standby.specs.Answer.{accepted, is_reply}
 use Rattle.model_standby.specs.Store.{changed, session_at, or_new}
 use Rattle.model_standby.specs.State.{Settings, Bound, none_held}
 use Rattle.model_standby.specs.Standby.{follows, raised, max_whole, starts_with_reset, holding}
-use Rattle.model_standby.specs.Core.{Action, leave, store, clear, Core, CoreResult, core_says, core_settle, core_hold, core_part, core_handle}
+use Rattle.model_standby.specs.Core.{Action, leave, store, rebind, clear, Core, CoreResult, core_says, core_settle, core_hold, core_part, core_handle}
 use Rattle.model_standby.proofs.Places.{length_on}
 
 -- ---- as many places as before
@@ -58,6 +58,7 @@ module _ (L : Settings) (k : Core) (h : ℕ) where
 abbrev pub is_store : Action → Bool
 is_store leave = false
 is_store (store h b) = true
+is_store (rebind h b) = true
 is_store clear = false
 
 pub store_none : (L : Settings) (k : Core) (h n : ℕ) (p : Part) (cs : List Change) → is_store (core_handle L k h none n p cs).action ≡ false

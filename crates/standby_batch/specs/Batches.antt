@@ -1,5 +1,5 @@
 -- A Batch on what was found for its handle, over one hold area. Assumes nothing.
-use Rattle.std.specs.Prelude.{ℕ, ◌<◌, ◌≤◌, ◌≡◌, Bool, true, false, cond, ◌&&◌, List, length, get_or, eqb, is_some}
+use Rattle.std.specs.Prelude.{ℕ, ◌<◌, ◌≤◌, ◌≡◌, Bool, true, cond, ◌&&◌, List, length, get_or, eqb, is_some}
 use Rattle.std.specs.Prelude.{Some, None}
 use Rattle.std.specs.Prelude as prelude
 use Rattle.std.proofs.Math.Option.{Option, none, some}
@@ -30,7 +30,7 @@ use Rattle.standby_state.specs.declared.Outcome.{Outcome}
 use Rattle.standby_state.specs.declared.RowAction.{RowAction}
 use Rattle.standby_state.specs.Answers.{answer_of, is_refused, is_nack, is_ack}
 use Rattle.standby_state.specs.Exact.{Exact}
-use Rattle.standby_state.specs.Outcomes.{counters_of, settings_of, leaving, storing, clears, stores, Lands}
+use Rattle.standby_state.specs.Outcomes.{counters_of, settings_of, leaving, storing, stores, Fits}
 
 abbrev pub epoch_to : Replica → Epoch → Replica
 epoch_to c e = record { epoch = e; connections = c.connections; promoted = c.promoted; checked = c.checked }
@@ -73,6 +73,14 @@ abbrev pub put_in : List ℕ → RowAction → Action
 put_in area RowAction.Leave = leave
 put_in area RowAction.Clear = leave
 put_in area (RowAction.Store at x) = store x.handle (bound_of protocol_version x area)
+put_in area (RowAction.Rebind freed at x) = leave
+
+-- the row stays as it was, or the record that is put fits it; nothing else is done to it
+abbrev pub Puts : Lookup → ℕ → ℕ → List ℕ → RowAction → Type 0
+Puts seen used room area RowAction.Leave = Unit
+Puts seen used room area RowAction.Clear = ⊥
+Puts seen used room area (RowAction.Store at x) = Fits seen used room area at x
+Puts seen used room area (RowAction.Rebind freed at x) = ⊥
 
 -- equal to the definition
 pub record BatchIs (s : Settings) (c : Replica) (seen : Lookup) (h e n : ℕ) (part : the_frame.Part) (cs : List Change) (apps : List AppRecord) (w w' b b' area area' : List ℕ) (r : Outcome) : Type 0 where
@@ -82,8 +90,7 @@ pub record BatchIs (s : Settings) (c : Replica) (seen : Lookup) (h e n : ℕ) (p
     answer = answer_of b' r.answer;
   }
       ≡ core_batch (settings_of s (length area)) (core_at (counters_of c) s.shape w b) (found_at seen h area) h e n part cs apps
-  pub lands : Lands seen (get_or w' StoreWord.used 0) (length area) area' r.action
-  pub stays : clears r.action ≡ false
+  pub puts : Puts seen (get_or w' StoreWord.used 0) (length area) area' r.action
   pub stored : stores r.action ≡ true → found_for seen h ≡ true
   pub rules : Rules s.shape w' b'
   pub used : get_or w' StoreWord.used 0 ≡ get_or w StoreWord.used 0

@@ -19,6 +19,7 @@ use Rattle.model_frame.proofs.Sizes.{changes_size}
 use Rattle.model_frame.proofs.Runs.{sizes_append}
 use Rattle.std.specs.Prelude.{Some, None}
 use Rattle.std.specs.Prelude as prelude
+use Rattle.standby_row.specs.declared.Bound.{Bound as BoundRecord}
 use Rattle.standby_row.specs.declared.lookup.Found.{Found}
 use Rattle.standby_row.specs.declared.lookup.Lookup.{Lookup}
 use Rattle.standby_row.specs.Row.{at_or, record_or_free, own_place, own_record}
@@ -41,11 +42,19 @@ use Rattle.standby_state.specs.declared.Settings.{Settings}
 use Rattle.standby_state.specs.declared.Outcome.{Outcome}
 use Rattle.standby_state.specs.declared.RowAction.{RowAction}
 use Rattle.standby_state.specs.Answers.{answer_of}
-use Rattle.standby_state.specs.Outcomes.{counters_of, settings_of, area_at, spot_of, clears, stores, action_for, Lands}
+use Rattle.standby_state.specs.Outcomes.{counters_of, settings_of, area_at, stores, action_for, Lands}
 use Rattle.standby_step.specs.Steps.{room_in, is_found, found_in, holds_after}
-use Rattle.standby_batch.specs.Batches.{put_in, found_for, hold_area_with, found_at, BatchIs}
+use Rattle.standby_batch.specs.Batches.{put_in, found_for, hold_area_with, found_at, Puts, BatchIs}
 use Rattle.standby_batch_due.specs.DueBatch.{spot_in, due_batch, BatchIn}
 use Rattle.standby_batch_due.proofs.Areas.{within, write_part}
+
+-- ---- what is done to the row fits it
+
+pub puts_lands : (seen : Lookup) (row : List BoundRecord) (used room : ℕ) (area : List ℕ) (a : RowAction) → Puts seen used room area a → Lands seen row used room area a
+puts_lands seen row used room area RowAction.Leave p = tt
+puts_lands seen row used room area RowAction.Clear p = absurd p
+puts_lands seen row used room area (RowAction.Store at x) p = p
+puts_lands seen row used room area (RowAction.Rebind freed at x) p = absurd p
 
 -- ---- what is written fits the area
 
@@ -139,10 +148,10 @@ module _ (s : Settings) (c : Replica) (seen : Lookup) (h e n : ℕ) (part : the_
     long : length P ≡ R
     long = ap length (sym (part_lent A R l area' (within seen l) size)) ∙ part_length A R l area' (within seen l) size
 
-    at_found : found_for seen h ≡ true → spot_of seen ≡ spot_in seen
+    at_found : found_for seen h ≡ true → own_place seen ≡ spot_in seen
     at_found f = go seen.own refl
       where
-        go : (o : prelude.Option Found) → seen.own ≡ o → at_or o (prelude.unwrap_or seen.free seen.len) ≡ at_or o 0
+        go : (o : prelude.Option Found) → seen.own ≡ o → at_or o seen.len ≡ at_or o 0
         go (Some g) q = refl
         go None q = absurd (true≢false (sym (both (is_found seen) _ f).0 ∙ ap prelude.is_some q))
 
@@ -150,17 +159,19 @@ module _ (s : Settings) (c : Replica) (seen : Lookup) (h e n : ℕ) (part : the_
     own_area : (at : ℕ) → at ≡ spot_in seen → area_at R at l' ≡ area'
     own_area at e = ap (λ (k : ℕ). area_at R k l') e ∙ part_own A R l area' (within seen l) size
 
-    action_is : (a : RowAction) → Lands seen (get_or w' 0 0) (length P) area' a → (stores a ≡ true → found_for seen h ≡ true) → clears a ≡ false → action_for protocol_version R l' a ≡ put_in area' a
-    action_is RowAction.Leave n f e = refl
-    action_is RowAction.Clear n f e = absurd (true≢false e)
-    action_is (RowAction.Store at x) n f e = ap (λ (y : List ℕ). store x.handle (bound_of protocol_version x y)) (own_area at (n.at_is ∙ at_found (f refl)))
+    action_is : (a : RowAction) → Puts seen (get_or w' 0 0) (length P) area' a → (stores a ≡ true → found_for seen h ≡ true) → action_for protocol_version R l' a ≡ put_in area' a
+    action_is RowAction.Leave n f = refl
+    action_is RowAction.Clear n f = absurd n
+    action_is (RowAction.Rebind freed at x) n f = absurd n
+    action_is (RowAction.Store at x) n f = ap (λ (y : List ℕ). store x.handle (bound_of protocol_version x y)) (own_area at (n.at_is ∙ at_found (f refl)))
 
-    lands_in : (a : RowAction) → Lands seen (get_or w' 0 0) (length P) area' a → (stores a ≡ true → found_for seen h ≡ true) → Lands seen (get_or w' 0 0) R (area_at R (spot_of seen) l') a
-    lands_in RowAction.Leave n f = tt
-    lands_in RowAction.Clear n f = tt
-    lands_in (RowAction.Store at x) n f = record {
+    puts_in : (a : RowAction) → Puts seen (get_or w' 0 0) (length P) area' a → (stores a ≡ true → found_for seen h ≡ true) → Puts seen (get_or w' 0 0) R (area_at R (own_place seen) l') a
+    puts_in RowAction.Leave n f = tt
+    puts_in RowAction.Clear n f = n
+    puts_in (RowAction.Rebind freed at x) n f = n
+    puts_in (RowAction.Store at x) n f = record {
       at_is = n.at_is;
-      slot_is = n.slot_is ∙ ap (λ (y : List ℕ). record_for x.handle (bound_of protocol_version x y)) (sym (own_area (spot_of seen) (at_found (f refl))));
+      slot_is = n.slot_is ∙ ap (λ (y : List ℕ). record_for x.handle (bound_of protocol_version x y)) (sym (own_area (own_place seen) (at_found (f refl))));
       slot_place = n.slot_place;
       slot_len = subst (λ (k : ℕ). x.held_len ≤ k) long n.slot_len;
     }
@@ -190,9 +201,9 @@ module _ (s : Settings) (c : Replica) (seen : Lookup) (h e n : ℕ) (part : the_
     pub batch_in : BatchIn s c seen h e n part cs apps w w' b b' l l' r
     batch_in = record {
       is = λ own.
-          (λ j. record { core = core_at (counters_of r.replica) s.shape w' b'; action = action_is r.action g.lands g.stored g.stays j; answer = answer_of b' r.answer }) ∙ g.is
+          (λ j. record { core = core_at (counters_of r.replica) s.shape w' b'; action = action_is r.action g.puts g.stored j; answer = answer_of b' r.answer }) ∙ g.is
           ∙ (λ j. core_batch (settings_of s (long j)) (ran_is j) (found_is seen h l own j) h e n part cs apps);
-      lands = lands_in r.action g.lands g.stored;
+      puts = puts_in r.action g.puts g.stored;
       rules = g.rules;
       used = g.used ∙ ran.used;
       leaves = record {

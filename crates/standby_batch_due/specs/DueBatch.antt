@@ -17,7 +17,8 @@ use Rattle.standby_state.specs.declared.Settings.{Settings}
 use Rattle.standby_state.specs.declared.Outcome.{Outcome}
 use Rattle.standby_state.specs.Answers.{answer_of}
 use Rattle.standby_state.specs.Exact.{Exact}
-use Rattle.standby_state.specs.Outcomes.{counters_of, settings_of, spot_of, area_at, outcome_of, Lands}
+use Rattle.standby_state.specs.Outcomes.{counters_of, settings_of, area_at, outcome_of}
+use Rattle.standby_batch.specs.Batches.{Puts}
 use Rattle.standby_step.specs.Steps.{room_in, is_found, found_in, FrameLeaves, holds_after}
 
 -- the place of the record found, or 0
@@ -37,7 +38,7 @@ pub record BatchIn (s : Settings) (c : Replica) (seen : Lookup) (h e n : ℕ) (p
   pub is : (is_found seen ≡ true → (own_record seen).handle ≡ h)
       → outcome_of protocol_version (room_in seen l) s.shape w' b' l' r
       ≡ core_batch (settings_of s (room_in seen l)) (core_run (due_batch h w) (core_at (counters_of c) s.shape w b)) (found_in seen l) h e n part cs apps
-  pub lands : Lands seen (get_or w' 0 0) (room_in seen l) (area_at (room_in seen l) (spot_of seen) l') r.action
+  pub puts : Puts seen (get_or w' 0 0) (room_in seen l) (area_at (room_in seen l) (own_place seen) l') r.action
   pub rules : Rules s.shape w' b'
   pub used : get_or w' 0 0 ≡ get_or w 0 0
   pub leaves : FrameLeaves s.shape (batch_change h (own_record seen).place part (accepted (answer_of b' r.answer))) (due_batch h w) false w w' b b'

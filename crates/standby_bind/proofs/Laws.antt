@@ -10,7 +10,7 @@ use lib.ListN.{length, get_or, set, take, drop, get_elem?, length-set, length-ta
 use lib.Seq.{take-take, drop-set-lt, get_or-set_same, get_or-set_other}
 use lib.Dec.{ltb}
 use borrow.Author.Tests.{lt-ltb, le-ltb, ltb-true}
-use Rattle.std.specs.Prelude.{Option as RustOption, Some, None, is_some}
+use Rattle.std.specs.Prelude.{Option as RustOption, Some, None, is_some, unwrap_or}
 use Rattle.model_frame.specs.Frame.{Key, bound, nack, stale_epoch, lag_too_great}
 use Rattle.model_session.specs.Session.{Session}
 use Rattle.model_session.specs.Summary.{summary}
@@ -18,7 +18,7 @@ use Rattle.model_session.proofs.Basics.{some_inj}
 use Rattle.model_standby.specs.Store.{Place, place_of, is_stored, session_at, or_new, new_place, opened}
 use Rattle.model_standby.specs.Answer.{reply, accepted}
 use Rattle.model_standby.specs.State.{new_bound}
-use Rattle.model_standby.specs.Core.{Core, CoreResult, leave, store, core_says, core_refuse, core_bind}
+use Rattle.model_standby.specs.Core.{Core, CoreResult, leave, rebind, core_says, core_refuse, core_bind}
 use Rattle.frame_op.specs.Answers.{held_run}
 use Rattle.store_areas.specs.declared.Shape.{Shape}
 use Rattle.store_areas.specs.Areas.{place_words, words_at, Rules, place_at, places_of}
@@ -34,6 +34,7 @@ use Rattle.standby_commit.specs.Settling.{stays, opens, opened_words, Touched, S
 use Rattle.standby_commit.proofs.Header.{pending_kept}
 use Rattle.standby_row.specs.declared.Bound.{Bound}
 use Rattle.standby_row.specs.declared.lookup.Lookup.{Lookup}
+use Rattle.standby_row.specs.Row.{rival_of}
 use Rattle.standby_part.specs.State.{core_at}
 use Rattle.standby_counters.specs.declared.Replica.{Replica}
 use Rattle.standby_state.specs.declared.Settings.{Settings}
@@ -43,8 +44,8 @@ use Rattle.standby_state.specs.declared.Outcome.{Outcome}
 use Rattle.standby_state.specs.Answers.{answer_of, brief_of, is_refused, is_nack, is_bound}
 use Rattle.standby_state.specs.Exact.{Exact, ExactSummary}
 use Rattle.standby_state.proofs.Exact.{exact_refused, exact_nack, exact_bound}
-use Rattle.standby_state.specs.Outcomes.{counters_of, settings_of, area_at, spot_of, leaving, storing}
-use Rattle.standby_bind.specs.Binding.{new_handle, room_for, BindOpens, BindIs}
+use Rattle.standby_state.specs.Outcomes.{counters_of, settings_of, room_for, area_at, spot_of, leaving, rebinding}
+use Rattle.standby_bind.specs.Binding.{new_handle, BindOpens, BindIs}
 
 -- ---- opening
 
@@ -116,7 +117,7 @@ module _ (s : Shape) (k : Key) (w b : List ℕ) (r : Rules s w b) where
 
 -- ---- each way through
 
-module _ (s : Settings) (c : Replica) (seen : Lookup) (h e lag : ℕ) (k : Key) (w b : List ℕ) (r : Rules s.shape w b) where
+module _ (s : Settings) (c : Replica) (seen : Lookup) (row : List Bound) (h e lag : ℕ) (k : Key) (w b : List ℕ) (r : Rules s.shape w b) where
   abbrev places : List Place
   places = places_of s.shape w b
 
@@ -124,21 +125,25 @@ module _ (s : Settings) (c : Replica) (seen : Lookup) (h e lag : ℕ) (k : Key) 
   At = core_at (counters_of c) s.shape w b
 
   abbrev Bind : ℕ → CoreResult
-  Bind room = core_bind (settings_of s room) At (room_for seen) h e lag k
+  Bind room = core_bind (settings_of s room) At (λ p. room_for seen (rival_of row h p)) h e lag k
+
+  -- whether the row has room for the handle, once no other handle has the key's place
+  abbrev Room : Bool
+  Room = room_for seen (rival_of row h (place_of k places))
 
   abbrev Stored : CoreResult
-  Stored = core_says (record { counters = counters_of c; places = opened k places; pending = pending_of w }) (store h (new_bound (place_of k places))) (bound h (summary (or_new (session_at places (place_of k places))) lag))
+  Stored = core_says (record { counters = counters_of c; places = opened k places; pending = pending_of w }) (rebind h (new_bound (place_of k places))) (bound h (summary (or_new (session_at places (place_of k places))) lag))
 
   -- the four tests: a lower epoch, too great a lag, a session place, a place in the row
   abbrev Tests : Bool → Bool → Bool → Bool → CoreResult
   Tests t u v x = cond t (core_says At leave (nack h stale_epoch)) (cond u (core_says At leave (nack h lag_too_great)) (cond (not v) (core_refuse At leave 20) (cond (not x) (core_refuse At leave 21) Stored)))
 
-  tests : (room : ℕ) → Bind room ≡ Tests (ltb e c.epoch.0) (ltb s.max_lag lag) (is_stored k places || ltb (length places) s.shape.places) (room_for seen)
+  tests : (room : ℕ) → Bind room ≡ Tests (ltb e c.epoch.0) (ltb s.max_lag lag) (is_stored k places || ltb (length places) s.shape.places) Room
   unfolding core_bind
   tests room = refl
 
-  as_left : {o : Outcome} {a x : Answer} → o ≡ leaving c a → a ≡ x → accepted (answer_of b x) ≡ false → Exact b x → ((room : ℕ) → record { core = At; action = leave; answer = answer_of b x } ≡ Bind room) → BindIs s c seen h e lag k w w b b o
-  as_left {x = x} e₁ e₂ off is-exact is = subst (BindIs s c seen h e lag k w w b b) (sym (e₁ ∙ ap (leaving c) e₂)) (record {
+  as_left : {o : Outcome} {a x : Answer} → o ≡ leaving c a → a ≡ x → accepted (answer_of b x) ≡ false → Exact b x → ((room : ℕ) → record { core = At; action = leave; answer = answer_of b x } ≡ Bind room) → BindIs s c seen row h e lag k w w b b o
+  as_left {x = x} e₁ e₂ off is-exact is = subst (BindIs s c seen row h e lag k w w b b) (sym (e₁ ∙ ap (leaving c) e₂)) (record {
     is = λ version room holds. is room;
     lands = λ room area. tt;
     rules = r;
@@ -147,18 +152,18 @@ module _ (s : Settings) (c : Replica) (seen : Lookup) (h e lag : ℕ) (k : Key) 
     exact = is-exact;
   })
 
-  pub stale : {o : Outcome} {a : Answer} → e < c.epoch.0 → o ≡ leaving c a → a ≡ is_nack h 1 → BindIs s c seen h e lag k w w b b o
+  pub stale : {o : Outcome} {a : Answer} → e < c.epoch.0 → o ≡ leaving c a → a ≡ is_nack h 1 → BindIs s c seen row h e lag k w w b b o
   stale less e₁ e₂ =
-      as_left e₁ e₂ refl (exact_nack b h stale_epoch) (λ room. sym (tests room ∙ ap (λ (t : Bool). Tests t (ltb s.max_lag lag) (is_stored k places || ltb (length places) s.shape.places) (room_for seen)) (lt-ltb e c.epoch.0 less)))
+      as_left e₁ e₂ refl (exact_nack b h stale_epoch) (λ room. sym (tests room ∙ ap (λ (t : Bool). Tests t (ltb s.max_lag lag) (is_stored k places || ltb (length places) s.shape.places) Room) (lt-ltb e c.epoch.0 less)))
 
   -- of an epoch that is not lower
   module _ (high : c.epoch.0 ≤ e) where
-    first : (room : ℕ) → Bind room ≡ Tests false (ltb s.max_lag lag) (is_stored k places || ltb (length places) s.shape.places) (room_for seen)
-    first room = tests room ∙ ap (λ (t : Bool). Tests t (ltb s.max_lag lag) (is_stored k places || ltb (length places) s.shape.places) (room_for seen)) (le-ltb e c.epoch.0 high)
+    first : (room : ℕ) → Bind room ≡ Tests false (ltb s.max_lag lag) (is_stored k places || ltb (length places) s.shape.places) Room
+    first room = tests room ∙ ap (λ (t : Bool). Tests t (ltb s.max_lag lag) (is_stored k places || ltb (length places) s.shape.places) Room) (le-ltb e c.epoch.0 high)
 
-    pub lagging : {o : Outcome} {a : Answer} → s.max_lag < lag → o ≡ leaving c a → a ≡ is_nack h 3 → BindIs s c seen h e lag k w w b b o
+    pub lagging : {o : Outcome} {a : Answer} → s.max_lag < lag → o ≡ leaving c a → a ≡ is_nack h 3 → BindIs s c seen row h e lag k w w b b o
     lagging great e₁ e₂ =
-        as_left e₁ e₂ refl (exact_nack b h lag_too_great) (λ room. sym (first room ∙ ap (λ (t : Bool). Tests false t (is_stored k places || ltb (length places) s.shape.places) (room_for seen)) (lt-ltb s.max_lag lag great)))
+        as_left e₁ e₂ refl (exact_nack b h lag_too_great) (λ room. sym (first room ∙ ap (λ (t : Bool). Tests false t (is_stored k places || ltb (length places) s.shape.places) Room) (lt-ltb s.max_lag lag great)))
 
     -- and of a lag that is not too great, with what was found of the places
     module _ (small : lag ≤ s.max_lag) {seen_at : RustOption ℕ} {has : Bool} (at : seen_at ≡ stored_place k places) (found : has ≡ (is_some seen_at || ltb (get_or w 0 0) s.shape.places)) where
@@ -167,42 +172,51 @@ module _ (s : Settings) (c : Replica) (seen : Lookup) (h e lag : ℕ) (k : Key) 
           let count : get_or w 0 0 ≡ length places = sym (places_length s.shape w b) in
           found ∙ (λ j. is_found k places refl at j || ltb (count j) s.shape.places)
 
-      second : (room : ℕ) → Bind room ≡ Tests false false has (room_for seen)
+      second : (room : ℕ) → Bind room ≡ Tests false false has Room
       second room =
           first room
-          ∙ (λ j. Tests false (le-ltb s.max_lag lag small j) (sym same j) (room_for seen))
+          ∙ (λ j. Tests false (le-ltb s.max_lag lag small j) (sym same j) Room)
 
-      pub all_places : {o : Outcome} → has ≡ false → o ≡ leaving c (is_refused 20) → BindIs s c seen h e lag k w w b b o
-      all_places full e = as_left e refl refl (exact_refused b 20) (λ room. sym (second room ∙ ap (λ (t : Bool). Tests false false t (room_for seen)) full))
+      pub all_places : {o : Outcome} → has ≡ false → o ≡ leaving c (is_refused 20) → BindIs s c seen row h e lag k w w b b o
+      all_places full e = as_left e refl refl (exact_refused b 20) (λ room. sym (second room ∙ ap (λ (t : Bool). Tests false false t Room) full))
 
       -- and with a session place
-      module _ (some-place : has ≡ true) {free : Bool} (fits : free ≡ room_for seen) where
-        third : (room : ℕ) → Bind room ≡ Tests false false true free
-        third room = second room ∙ (λ j. Tests false false (some-place j) (sym fits j))
+      module _ (some-place : has ≡ true) {freed : RustOption ℕ} (freed_is : freed ≡ rival_of row h (unwrap_or seen_at (get_or w 0 0))) {free : Bool} (fits : free ≡ room_for seen freed) where
+        -- the place that the session has, or will have
+        asked : (o : RustOption ℕ) → o ≡ stored_place k places → unwrap_or o (get_or w 0 0) ≡ place_of k places
+        asked (Some i) e = (stored_at k places e).1
+        asked None e = newly_at s.shape k w b r e
 
-        pub all_handles : {o : Outcome} → free ≡ false → o ≡ leaving c (is_refused 21) → BindIs s c seen h e lag k w w b b o
+        rival_is : freed ≡ rival_of row h (place_of k places)
+        rival_is = freed_is ∙ ap (rival_of row h) (asked seen_at at)
+
+        third : (room : ℕ) → Bind room ≡ Tests false false true free
+        third room = second room ∙ (λ j. Tests false false (some-place j) (sym (fits ∙ ap (room_for seen) rival_is) j))
+
+        pub all_handles : {o : Outcome} → free ≡ false → o ≡ leaving c (is_refused 21) → BindIs s c seen row h e lag k w w b b o
         all_handles full e = as_left e refl refl (exact_refused b 21) (λ room. sym (third room ∙ ap (Tests false false true) full))
 
         pub binds : {place : ℕ} {w' b' : List ℕ} {o : Outcome} {a : Answer} {m : BoundSummary} {g : Bound} → free ≡ true → place ≡ place_of k places → BindOpens s.shape k w w' b b'
-            → ExactSummary b' m → brief_of b' m ≡ summary (place_at s.shape w' b' place).stored.session lag → a ≡ is_bound h m → g ≡ new_handle h place → o ≡ storing c seen a h g → BindIs s c seen h e lag k w w' b b' o
+            → ExactSummary b' m → brief_of b' m ≡ summary (place_at s.shape w' b' place).stored.session lag → a ≡ is_bound h m → g ≡ new_handle h place → o ≡ rebinding c seen freed a g → BindIs s c seen row h e lag k w w' b b' o
         binds {place} {w'} {b'} {m = m} has_room at op is-exact brief e₁ e₂ e₃ =
-            subst (BindIs s c seen h e lag k w w' b b') (sym (e₃ ∙ (λ j. storing c seen (e₁ j) h (e₂ j)))) (record {
+            subst (BindIs s c seen row h e lag k w w' b b') (sym (e₃ ∙ (λ j. rebinding c seen freed (e₁ j) (e₂ j)))) (record {
               is = λ version room holds.
-                  let area : List ℕ = area_at room (spot_of seen) holds in
+                  let area : List ℕ = area_at room (spot_of seen freed) holds in
                   let held : held_run version (take 0 area) ≡ [] = held_none version (take 0 area) (omega (arith, length-take 0 area)) in
                   let says : brief_of b' m ≡ summary (or_new (session_at places (place_of k places))) lag =
                   brief ∙ ap (λ (i : ℕ). summary (place_at s.shape w' b' i).stored.session lag) at ∙ ap (λ (x : Session). summary x lag) op.session in
                   (λ j. record {
                     core = record { counters = counters_of c; places = op.places j; pending = op.pending j };
-                    action = store h (record { place = at j; number = 0; held = held j; bytes = 0 });
+                    action = rebind h (record { place = at j; number = 0; held = held j; bytes = 0 });
                     answer = reply (bound h (says j));
                   })
                   ∙ sym (third room ∙ ap (Tests false false true) has_room);
               lands = λ room area. record {
+                freed_is = rival_is ∙ ap (rival_of row h) (sym at);
                 at_is = refl;
-                slot_is = (λ j. record { used = 1; handle = h; place = place; commit_no = record { 0 = 0 }; held_len = sym (ap sizes (held_none 1 (take 0 area) (omega (arith, length-take 0 area)))) j; held_bytes = 0 });
+                slot_is = λ y. (λ j. record { used = 1; handle = h; place = place; commit_no = record { 0 = 0 }; held_len = sym (ap sizes (held_none 1 (take 0 y) (omega (arith, length-take 0 y)))) j; held_bytes = 0 });
                 slot_place = subst (λ (i : ℕ). i < get_or w' 0 0) (sym at) op.there;
-                slot_len = omega arith;
+                holds_none = refl;
               };
               rules = op.rules;
               more = op.more;
@@ -211,5 +225,5 @@ module _ (s : Settings) (c : Replica) (seen : Lookup) (h e lag : ℕ) (k : Key) 
             })
 
   -- of the store as it was handed back
-  pub binds_in : {w₁ b₁ w' b' : List ℕ} {o : Outcome} → BindIs s c seen h e lag k w w₁ b b₁ o → w' ≡ w₁ → b' ≡ b₁ → BindIs s c seen h e lag k w w' b b' o
-  binds_in {w₁} {b₁} {w'} {b'} {o} is words bytes = subst (λ (x : List ℕ). BindIs s c seen h e lag k w x b b' o) (sym words) (subst (λ (x : List ℕ). BindIs s c seen h e lag k w w₁ b x o) (sym bytes) is)
+  pub binds_in : {w₁ b₁ w' b' : List ℕ} {o : Outcome} → BindIs s c seen row h e lag k w w₁ b b₁ o → w' ≡ w₁ → b' ≡ b₁ → BindIs s c seen row h e lag k w w' b b' o
+  binds_in {w₁} {b₁} {w'} {b'} {o} is words bytes = subst (λ (x : List ℕ). BindIs s c seen row h e lag k w x b b' o) (sym words) (subst (λ (x : List ℕ). BindIs s c seen row h e lag k w w₁ b x o) (sym bytes) is)

@@ -1,9 +1,9 @@
 -- What a Bind leaves and answers. Assumes nothing.
-use Rattle.std.specs.Prelude.{ℕ, ◌<◌, ◌≤◌, ◌≡◌, Bool, true, ◌||◌, List, length, get_or, is_some}
+use Rattle.std.specs.Prelude.{ℕ, ◌<◌, ◌≤◌, ◌≡◌, true, List, length, get_or}
 use Rattle.model_frame.specs.Frame.{Key}
 use Rattle.standby_row.specs.declared.Bound.{Bound}
 use Rattle.standby_row.specs.declared.lookup.Lookup.{Lookup}
-use Rattle.standby_row.specs.Row.{has_place}
+use Rattle.standby_row.specs.Row.{rival_of}
 use Rattle.store_areas.specs.StoreWord
 use Rattle.store_areas.specs.declared.Shape.{Shape}
 use Rattle.store_areas.specs.Areas.{Rules, place_at, places_of}
@@ -19,7 +19,7 @@ use Rattle.standby_state.specs.declared.Settings.{Settings}
 use Rattle.standby_state.specs.declared.Outcome.{Outcome}
 use Rattle.standby_state.specs.Answers.{answer_of}
 use Rattle.standby_state.specs.Exact.{Exact}
-use Rattle.standby_state.specs.Outcomes.{counters_of, settings_of, outcome_of, Lands}
+use Rattle.standby_state.specs.Outcomes.{counters_of, settings_of, room_for, outcome_of, Lands}
 
 -- texts of at most 32 bytes
 pub record Short (k : Key) : Type 0 where
@@ -30,10 +30,6 @@ pub record Short (k : Key) : Type 0 where
 
 abbrev pub new_handle : ℕ → ℕ → Bound
 new_handle h place = record { used = 1; handle = h; place = place; commit_no = record { 0 = 0 }; held_len = 0; held_bytes = 0 }
-
--- the row has a place for the handle: its own, or a free one
-abbrev pub room_for : Lookup → Bool
-room_for seen = is_some seen.own || has_place seen
 
 -- the session of a key is there, new if it wasn't
 pub record BindOpens (s : Shape) (k : Key) (w w' b b' : List ℕ) : Type 0 where
@@ -46,9 +42,9 @@ pub record BindOpens (s : Shape) (k : Key) (w w' b b' : List ℕ) : Type 0 where
   pub store_after : StoreAfter s (bind_change (place_of k (places_of s w b)) (is_stored k (places_of s w b)) true) w w' b b'
 
 -- equal to the definition, whatever the hold areas
-pub record BindIs (s : Settings) (c : Replica) (seen : Lookup) (h e lag : ℕ) (k : Key) (w w' b b' : List ℕ) (r : Outcome) : Type 0 where
-  pub is : (version room : ℕ) (holds : List ℕ) → outcome_of version room s.shape w' b' holds r ≡ core_bind (settings_of s room) (core_at (counters_of c) s.shape w b) (room_for seen) h e lag k
-  pub lands : (room : ℕ) (area : List ℕ) → Lands seen (get_or w' StoreWord.used 0) room area r.action
+pub record BindIs (s : Settings) (c : Replica) (seen : Lookup) (row : List Bound) (h e lag : ℕ) (k : Key) (w w' b b' : List ℕ) (r : Outcome) : Type 0 where
+  pub is : (version room : ℕ) (holds : List ℕ) → outcome_of version room s.shape w' b' holds r ≡ core_bind (settings_of s room) (core_at (counters_of c) s.shape w b) (λ p. room_for seen (rival_of row h p)) h e lag k
+  pub lands : (room : ℕ) (area : List ℕ) → Lands seen row (get_or w' StoreWord.used 0) room area r.action
   pub rules : Rules s.shape w' b'
   pub more : get_or w StoreWord.used 0 ≤ get_or w' StoreWord.used 0
   pub store_after : StoreAfter s.shape (bind_change (place_of k (places_of s.shape w b)) (is_stored k (places_of s.shape w b)) (accepted (answer_of b' r.answer))) w w' b b'

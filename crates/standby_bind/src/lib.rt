@@ -1,5 +1,5 @@
 // Bind (standby.rs, an arm of `answer`): a handle is bound to the session of a key, which is opened if it is new, and its summary is answered.
-// The store's areas come apart: no hold area is asked for, and a Store has the shape that the settings have too, so each function would have to ask that both are the same.
+// Another handle that has the session loses it, and its place in the row counts as free.
 #![tactic(auto)]
 
 ghost use Rattle.std.specs.Prelude.{◌≡◌, ◌||◌, ◌<◌, true, get_or, ltb, is_some};
@@ -11,13 +11,14 @@ ghost use Rattle.store_areas.specs.Same.{SameAreas};
 ghost use Rattle.store_sessions.specs.Answers.{stored_place};
 ghost use Rattle.standby_state.specs.Answers.{brief_of};
 ghost use Rattle.standby_state.specs.Exact.{ExactSummary};
-ghost use Rattle.standby_bind.specs.Binding.{Short, new_handle, room_for, BindOpens, BindIs};
+ghost use Rattle.standby_state.specs.Lent.{SameLent};
+ghost use Rattle.standby_bind.specs.Binding.{Short, new_handle, BindOpens, BindIs};
 
 use base_refusals::Refusal;
 use frame::SessionId;
 use frame_fields::{CommitNumber, Epoch, NackReason};
-use standby_row::{Bound, Lookup};
-use standby_state::{BoundSummary, Outcome, Standing};
+use standby_row::Bound;
+use standby_state::{Areas, BoundSummary, Outcome, Standing};
 use store_areas::{Store, word};
 use store_place::Key;
 
@@ -74,13 +75,6 @@ fn has_place(used: u64, found: Option<usize>, places: u32) -> bool
     found.is_some() || used < places as u64
 }
 
-// Whether the row has a place for the handle: its own, or a free one.
-fn has_room(lookup: Lookup) -> bool
-    ensures { result ≡ room_for lookup }
-{
-    lookup.own.is_some() | lookup.free.is_some()
-}
-
 // A handle newly bound to a place.
 fn new_bound(handle: u32, place: usize) -> Bound
     ensures { result ≡ new_handle handle place }
@@ -95,21 +89,22 @@ fn new_bound(handle: u32, place: usize) -> Bound
     }
 }
 
-// Nack StaleEpoch, Nack Lag, 20 no free session place for a new key, 21 no free place in the row; all are found before anything changes.
+// Nack StaleEpoch, Nack Lag, 20 no free session place for a new key, 21 no place in the row; all are found before anything changes.
 // The four fields of the frame are taken one by one: a struct of them would be made for this one call.
 pub fn on_bind(
     standing: Standing,
-    words: &mut [u64],
-    bytes: &mut [u8],
+    areas: &mut Areas,
     frame: &[u8],
     handle: u32,
     epoch: Epoch,
     max_lag: u64,
     session: SessionId,
 ) -> Outcome
-    requires rules { Rules standing.settings.shape words.old bytes.old }
+    requires rules { Rules standing.settings.shape areas.old.words.now areas.old.bytes.now }
     requires short { Short (key_of frame.now session) }
-    ensures { BindIs standing.settings standing.counters standing.lookup handle epoch.0 max_lag (key_of frame.now session) words.old words.new bytes.old bytes.new result }
+    ensures is { BindIs standing.settings standing.counters standing.lookup areas.old.row.now handle epoch.0 max_lag (key_of frame.now session) areas.old.words.now areas.new.words.now areas.old.bytes.now areas.new.bytes.now result }
+    ensures holds { areas.new.holds.now ≡ areas.old.holds.now }
+    ensures same { SameLent areas.old areas.new }
 {
     let Standing {
         settings,
@@ -124,20 +119,23 @@ pub fn on_bind(
         let lagging = standby_state::nack(handle, NackReason::Lag as u8);
         return standby_state::unchanged(counters, lagging);
     }
+    let row = areas.row;
     let mut store = Store {
-        words,
-        bytes,
+        words: &mut *areas.words,
+        bytes: &mut *areas.bytes,
         shape: settings.shape,
     };
     let found = place_of(&store, frame, session);
-    if !has_place(store.words[word::USED], found, store.shape.places) {
+    let used = store.words[word::USED];
+    if !has_place(used, found, store.shape.places) {
         return standby_state::refuse(counters, Refusal::NoSessionPlace);
     }
-    if !has_room(lookup) {
+    let rival = standby_row::rival(row, handle, found.unwrap_or(used as usize));
+    if !standby_state::has_room(lookup, rival) {
         return standby_state::refuse(counters, Refusal::NoHandlePlace);
     }
     let place = open(&mut store, frame, session, found);
     let summary = summary_at(&store, place, max_lag);
     let answer = standby_state::bound(handle, summary);
-    standby_state::stored(counters, lookup, answer, handle, new_bound(handle, place))
+    standby_state::rebound(counters, lookup, rival, answer, new_bound(handle, place))
 }

@@ -1,7 +1,7 @@
 -- Each way of a frame that is no Batch is the definition's. Assumes nothing.
 use Prim.Native.Nat.{ℕ, zero, suc, ◌≤◌}
 use mathlib.Core.Path.{◌≡◌, refl, sym, ap, subst, ◌∙◌}
-use mathlib.Core.Bool.{Bool, true, false, cond, not, ◌||◌}
+use mathlib.Core.Bool.{Bool, true, false, cond, not}
 use mathlib.Core.List.{List, [], ◌∷◌}
 use mathlib.Core.Option.{Option, none}
 use native.Mathlib.Omega.{arith}
@@ -19,8 +19,9 @@ use Rattle.frame_fields.specs.declared.Incarnation.{Incarnation}
 use Rattle.frame_op.specs.declared.Run.{Run}
 use Rattle.frame_reader.specs.declared.Span.{Span}
 use Rattle.frame.specs.Answers.{frame_of}
+use Rattle.standby_row.specs.declared.Bound.{Bound as BoundRecord}
 use Rattle.standby_row.specs.declared.lookup.Lookup.{Lookup}
-use Rattle.standby_row.specs.Row.{own_record, has_place}
+use Rattle.standby_row.specs.Row.{own_record}
 use Rattle.store_areas.specs.declared.Shape.{Shape}
 use Rattle.store_areas.specs.Areas.{Rules, places_of}
 use Rattle.store_areas.proofs.Lifting.{heads_places}
@@ -31,12 +32,12 @@ use Rattle.standby_pending_run.specs.Commits.{ran_words, RanIf}
 use Rattle.standby_pending_run.proofs.Head.{clear_only, clear_rules}
 use Rattle.standby_pending_run.proofs.Due.{many_pending}
 use Rattle.standby_commit.specs.Settling.{StoreChange, stays, bind_change, StoreAfter}
-use Rattle.model_standby.specs.Answer.{intact, accepted}
+use Rattle.model_standby.specs.Answer.{intact, handle_in, accepted}
 use Rattle.model_standby.specs.Store.{Stored, Place, same_key, place_of, is_stored, on_place, mark_durable, mark_all}
 use Rattle.model_standby.proofs.Places.{length_on}
 use Rattle.model_standby.specs.State.{Bound}
 use Rattle.model_standby.specs.State as state
-use Rattle.model_standby.specs.Core.{Core, core_bind, core_intact, core_run}
+use Rattle.model_standby.specs.Core.{Core, core_intact, core_run}
 use Rattle.standby_part.specs.State.{core_at}
 use Rattle.standby_counters.specs.declared.Replica.{Replica}
 use Rattle.standby_state.specs.declared.Settings.{Settings}
@@ -47,32 +48,32 @@ use Rattle.standby_state.proofs.Exact.{exact_refused}
 use Rattle.standby_hello.specs.Greeting.{Replies}
 use Rattle.standby_hello.proofs.Laws.{kept_lands, as_left}
 use Rattle.standby_bind.specs.Binding.{BindIs}
-use Rattle.standby_step.specs.Steps.{changes_by}
+use Rattle.standby_step.specs.Steps.{rooms_in, changes_by}
 use Rattle.standby_control.specs.Others.{Plain, Fit, cleared_if, OtherIs, OtherIn}
 
 -- ---- frames
 
 -- neither Bind nor Batch: nothing is asked of the row
-plain_same : (L : state.Settings) (k : Core) (o : Option Bound) (free : Bool) (f : the_frame.Frame) → Plain f → core_intact L k none false f ≡ core_intact L k o free f
-plain_same L k o free (hello v e node kinds) p = refl
-plain_same L k o free (welcome e i) p = refl
-plain_same L k o free (bind h e lag j) p = absurd p
-plain_same L k o free (batch h e n part cs apps) p = absurd p
-plain_same L k o free (ack h n) p = refl
-plain_same L k o free (nack h r) p = refl
-plain_same L k o free (bound h m) p = refl
-plain_same L k o free (checked h e i) p = refl
+plain_same : (L : state.Settings) (k : Core) (o : Option Bound) (room : ℕ → Bool) (f : the_frame.Frame) → Plain f → core_intact L k none (λ p. false) f ≡ core_intact L k o room f
+plain_same L k o room (hello v e node kinds) p = refl
+plain_same L k o room (welcome e i) p = refl
+plain_same L k o room (bind h e lag j) p = absurd p
+plain_same L k o room (batch h e n part cs apps) p = absurd p
+plain_same L k o room (ack h n) p = refl
+plain_same L k o room (nack h r) p = refl
+plain_same L k o room (bound h m) p = refl
+plain_same L k o room (checked h e i) p = refl
 
 -- the last way of `reply`: 19
 pub nineteen : (c : Replica) (s : Settings) (b : List ℕ) (f : Frame) → ((v : ℕ) (e : Epoch) (node : Span) (ks : Run) → f ≡ Frame.Hello v e node ks → ⊥) → ((h : ℕ) (e : Epoch) (i : Incarnation) → f ≡ Frame.Checked h e i → ⊥) → Plain (frame_of 1 b f)
-    → {r : Outcome} → r ≡ leaving c (is_refused 19) → Replies c s (λ L k. core_intact L k none false (frame_of 1 b f)) r
+    → {r : Outcome} → r ≡ leaving c (is_refused 19) → Replies c s (λ L k. core_intact L k none (λ p. false) (frame_of 1 b f)) r
 nineteen c s b (Frame.Hello v e node ks) h q p e₁ = absurd (h v e node ks refl)
-nineteen c s b (Frame.Welcome e i) h q p e₁ = as_left c s (λ L k. core_intact L k none false (welcome e.0 i.0)) e₁ (λ y. exact_refused y 19) (λ room x ps pending. refl)
+nineteen c s b (Frame.Welcome e i) h q p e₁ = as_left c s (λ L k. core_intact L k none (λ p. false) (welcome e.0 i.0)) e₁ (λ y. exact_refused y 19) (λ room x ps pending. refl)
 nineteen c s b (Frame.Bind x e lag k) h q p e₁ = absurd p
-nineteen c s b (Frame.Bound x m) h q p e₁ = as_left c s (λ L k. core_intact L k none false (frame_of 1 b (Frame.Bound x m))) e₁ (λ y. exact_refused y 19) (λ room y ps pending. refl)
+nineteen c s b (Frame.Bound x m) h q p e₁ = as_left c s (λ L k. core_intact L k none (λ p. false) (frame_of 1 b (Frame.Bound x m))) e₁ (λ y. exact_refused y 19) (λ room y ps pending. refl)
 nineteen c s b (Frame.Batch x) h q p e₁ = absurd p
-nineteen c s b (Frame.Ack x n) h q p e₁ = as_left c s (λ L k. core_intact L k none false (ack x n.0)) e₁ (λ y. exact_refused y 19) (λ room y ps pending. refl)
-nineteen c s b (Frame.Nack x r) h q p e₁ = as_left c s (λ L k. core_intact L k none false (frame_of 1 b (Frame.Nack x r))) e₁ (λ y. exact_refused y 19) (λ room y ps pending. refl)
+nineteen c s b (Frame.Ack x n) h q p e₁ = as_left c s (λ L k. core_intact L k none (λ p. false) (ack x n.0)) e₁ (λ y. exact_refused y 19) (λ room y ps pending. refl)
+nineteen c s b (Frame.Nack x r) h q p e₁ = as_left c s (λ L k. core_intact L k none (λ p. false) (frame_of 1 b (Frame.Nack x r))) e₁ (λ y. exact_refused y 19) (λ room y ps pending. refl)
 nineteen c s b (Frame.Checked x e i) h q p e₁ = absurd (q x e i refl)
 
 -- the last way of `answer`: no Bind
@@ -125,14 +126,14 @@ plain_stays ps p (checked h e i) taken q = refl
 
 -- ---- the ways of `answer`
 
-module _ (s : Settings) (c : Replica) (seen : Lookup) (w b : List ℕ) (rules : Rules s.shape w b) where
-  pub replied : (f : the_frame.Frame) → Plain f → {r : Outcome} {t : Bool} {w' : List ℕ} → Replies c s (λ L k. core_intact L k none false f) r → t ≡ clears r.action → w' ≡ cleared_if t w → OtherIs s c seen f w w' b b r
-  replied f p {r} {t} {w'} g u e = subst (λ (x : List ℕ). OtherIs s c seen f w x b b r) (sym (e ∙ ap (λ (x : Bool). cleared_if x w) u)) (record {
-    is = λ version room holds o q.
+module _ (s : Settings) (c : Replica) (seen : Lookup) (row : List BoundRecord) (w b : List ℕ) (rules : Rules s.shape w b) where
+  pub replied : (f : the_frame.Frame) → Plain f → {r : Outcome} {t : Bool} {w' : List ℕ} → Replies c s (λ L k. core_intact L k none (λ p. false) f) r → t ≡ clears r.action → w' ≡ cleared_if t w → OtherIs s c seen row f w w' b b r
+  replied f p {r} {t} {w'} g u e = subst (λ (x : List ℕ). OtherIs s c seen row f w x b b r) (sym (e ∙ ap (λ (x : Bool). cleared_if x w) u)) (record {
+    is = λ version room holds o.
         (λ j. record { core = record { counters = counters_of r.replica; places = cleared_places s.shape w b rules (clears r.action) j; pending = cleared_pending s.shape w b rules (clears r.action) j }; action = action_of version room holds r; answer = answer_of b r.answer })
         ∙ g.is version room holds b (places_of s.shape w b) (pending_of w)
-        ∙ plain_same (settings_of s room) (core_at (counters_of c) s.shape w b) o (has_place seen) f p;
-    lands = λ room area. kept_lands seen (get_or (cleared_if (clears r.action) w) 0 0) room area r.action g.stays;
+        ∙ plain_same (settings_of s room) (core_at (counters_of c) s.shape w b) o (rooms_in seen row (handle_in (intact f))) f p;
+    lands = λ room area. kept_lands seen row (get_or (cleared_if (clears r.action) w) 0 0) room area r.action g.stays;
     rules = cleared_rules s.shape w b rules (clears r.action);
     more = le_of_eq (sym (cleared_used s.shape w b rules (clears r.action)));
     store_after = λ e₀.
@@ -141,10 +142,9 @@ module _ (s : Settings) (c : Replica) (seen : Lookup) (w b : List ℕ) (rules : 
     exact = g.exact b;
   })
 
-  pub bound_to : (h e lag : ℕ) (k : Key) {w' b' : List ℕ} {r : Outcome} → BindIs s c seen h e lag k w w' b b' r → OtherIs s c seen (bind h e lag k) w w' b b' r
+  pub bound_to : (h e lag : ℕ) (k : Key) {w' b' : List ℕ} {r : Outcome} → BindIs s c seen row h e lag k w w' b b' r → OtherIs s c seen row (bind h e lag k) w w' b b' r
   bound_to h e lag k g = record {
-    is = λ version room holds o q.
-        g.is version room holds ∙ ap (λ (t : Bool). core_bind (settings_of s room) (core_at (counters_of c) s.shape w b) (t || has_place seen) h e lag k) (sym q);
+    is = λ version room holds o. g.is version room holds;
     lands = g.lands;
     rules = g.rules;
     more = g.more;
@@ -181,7 +181,7 @@ changes_run (nack h r) p t cs ps taken = refl
 changes_run (bound h m) p t cs ps taken = refl
 changes_run (checked h e i) p t cs ps taken = refl
 
-module _ (s : Settings) (c : Replica) (seen : Lookup) (f : the_frame.Frame) (w b : List ℕ) {due : Bool} (due_is : due ≡ not (is_empty (pending_of w))) {w1 : List ℕ} (ran : RanIf due s.shape b w w1) where
+module _ (s : Settings) (c : Replica) (seen : Lookup) (row : List BoundRecord) (f : the_frame.Frame) (w b : List ℕ) {due : Bool} (due_is : due ≡ not (is_empty (pending_of w))) {w1 : List ℕ} (ran : RanIf due s.shape b w w1) where
   ran_is : core_at (counters_of c) s.shape w1 b ≡ core_run (not (is_empty (pending_of w))) (core_at (counters_of c) s.shape w b)
   ran_is = (λ j. record { counters = counters_of c; places = ran.places j; pending = ran.pending j }) ∙ ap (λ (t : Bool). core_run t (core_at (counters_of c) s.shape w b)) due_is
 
@@ -203,9 +203,9 @@ module _ (s : Settings) (c : Replica) (seen : Lookup) (f : the_frame.Frame) (w b
       none_of [] = refl
       none_of (x ∷ l) = refl
 
-  pub other_in : {w' b' : List ℕ} {r : Outcome} → OtherIs s c seen f w1 w' b b' r → OtherIn s c seen f w w' b b' r
+  pub other_in : {w' b' : List ℕ} {r : Outcome} → OtherIs s c seen row f w1 w' b b' r → OtherIn s c seen row f w w' b b' r
   other_in {w'} {b'} {r} g = record {
-    is = λ version room holds o q. g.is version room holds o q ∙ ap (λ (k : Core). core_intact (settings_of s room) k o (has_place seen) f) ran_is;
+    is = λ version room holds o. g.is version room holds o ∙ ap (λ (k : Core). core_intact (settings_of s room) k o (rooms_in seen row (handle_in (intact f))) f) ran_is;
     lands = g.lands;
     rules = g.rules;
     more = subst (λ (k : ℕ). k ≤ get_or w' 0 0) ran.used g.more;

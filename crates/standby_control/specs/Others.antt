@@ -3,14 +3,14 @@ use Rattle.std.specs.Prelude.{ℕ, ◌≤◌, ◌≡◌, Bool, false, cond, not,
 use Rattle.std.proofs.Math.Option.{Option}
 use Rattle.model_frame.specs.Frame.{Frame, hello, welcome, bind, batch, ack, nack, bound, checked}
 use Rattle.model_frame.specs.Parse.{is_empty}
+use Rattle.standby_row.specs.declared.Bound.{Bound as BoundRecord}
 use Rattle.standby_row.specs.declared.lookup.Lookup.{Lookup}
-use Rattle.standby_row.specs.Row.{own_record, has_place}
+use Rattle.standby_row.specs.Row.{own_record}
 use Rattle.store_areas.specs.StoreWord
 use Rattle.store_areas.specs.Areas.{Rules, places_of}
 use Rattle.standby_pending.specs.Pending.{count_of, pending_of}
 use Rattle.standby_commit.specs.Settling.{StoreAfter}
-use Rattle.model_standby.specs.Answer.{intact, accepted}
-use Rattle.model_standby.specs.Row.{is_some}
+use Rattle.model_standby.specs.Answer.{intact, handle_in, accepted}
 use Rattle.model_standby.specs.State.{Bound}
 use Rattle.model_standby.specs.Core.{core_run, core_intact}
 use Rattle.standby_part.specs.State.{core_at}
@@ -21,7 +21,7 @@ use Rattle.standby_state.specs.Answers.{answer_of}
 use Rattle.standby_state.specs.Exact.{Exact}
 use Rattle.standby_state.specs.Outcomes.{counters_of, settings_of, outcome_of, Lands}
 use Rattle.standby_bind.specs.Binding.{Short}
-use Rattle.standby_step.specs.Steps.{is_found, changes_by, FrameLeaves}
+use Rattle.standby_step.specs.Steps.{rooms_in, changes_by, FrameLeaves}
 
 -- neither Bind nor Batch
 abbrev pub Plain : Frame → Type 0
@@ -49,21 +49,21 @@ abbrev pub cleared_if : Bool → List ℕ → List ℕ
 cleared_if t w = cond t (set w StoreWord.pending 0) w
 
 -- equal to the definition, whatever the hold areas and the record found; what is left of the store is said where no commit is pending
-pub record OtherIs (s : Settings) (c : Replica) (seen : Lookup) (f : Frame) (w w' b b' : List ℕ) (r : Outcome) : Type 0 where
-  pub is : (version room : ℕ) (holds : List ℕ) (o : Option Bound) → is_some o ≡ is_found seen
-      → outcome_of version room s.shape w' b' holds r ≡ core_intact (settings_of s room) (core_at (counters_of c) s.shape w b) o (has_place seen) f
-  pub lands : (room : ℕ) (area : List ℕ) → Lands seen (get_or w' StoreWord.used 0) room area r.action
+pub record OtherIs (s : Settings) (c : Replica) (seen : Lookup) (row : List BoundRecord) (f : Frame) (w w' b b' : List ℕ) (r : Outcome) : Type 0 where
+  pub is : (version room : ℕ) (holds : List ℕ) (o : Option Bound)
+      → outcome_of version room s.shape w' b' holds r ≡ core_intact (settings_of s room) (core_at (counters_of c) s.shape w b) o (rooms_in seen row (handle_in (intact f))) f
+  pub lands : (room : ℕ) (area : List ℕ) → Lands seen row (get_or w' StoreWord.used 0) room area r.action
   pub rules : Rules s.shape w' b'
   pub more : get_or w StoreWord.used 0 ≤ get_or w' StoreWord.used 0
   pub store_after : count_of w ≡ 0 → StoreAfter s.shape (changes_by (places_of s.shape w b) (own_record seen).place (intact f) (accepted (answer_of b' r.answer))) w w' b b'
   pub exact : Exact b' r.answer
 
 -- the same, after the pending commits
-pub record OtherIn (s : Settings) (c : Replica) (seen : Lookup) (f : Frame) (w w' b b' : List ℕ) (r : Outcome) : Type 0 where
-  pub is : (version room : ℕ) (holds : List ℕ) (o : Option Bound) → is_some o ≡ is_found seen
+pub record OtherIn (s : Settings) (c : Replica) (seen : Lookup) (row : List BoundRecord) (f : Frame) (w w' b b' : List ℕ) (r : Outcome) : Type 0 where
+  pub is : (version room : ℕ) (holds : List ℕ) (o : Option Bound)
       → outcome_of version room s.shape w' b' holds r
-      ≡ core_intact (settings_of s room) (core_run (not (is_empty (pending_of w))) (core_at (counters_of c) s.shape w b)) o (has_place seen) f
-  pub lands : (room : ℕ) (area : List ℕ) → Lands seen (get_or w' StoreWord.used 0) room area r.action
+      ≡ core_intact (settings_of s room) (core_run (not (is_empty (pending_of w))) (core_at (counters_of c) s.shape w b)) o (rooms_in seen row (handle_in (intact f))) f
+  pub lands : (room : ℕ) (area : List ℕ) → Lands seen row (get_or w' StoreWord.used 0) room area r.action
   pub rules : Rules s.shape w' b'
   pub more : get_or w StoreWord.used 0 ≤ get_or w' StoreWord.used 0
   pub leaves : FrameLeaves s.shape (changes_by (places_of s.shape w b) (own_record seen).place (intact f) (accepted (answer_of b' r.answer))) (not (is_empty (pending_of w))) false w w' b b'

@@ -1,5 +1,4 @@
 // Frames that are no Batch: pending commits run first, then Hello, Bind, Checked, or 19 (standby.rs, on_frame_held).
-// The store's areas come apart: no hold area is asked for, and a Store has the shape that the settings have too, so each function would have to ask that both are the same.
 #![tactic(auto)]
 
 ghost use Rattle.std.specs.Prelude.{◌≡◌, false, ◌≤◌, length};
@@ -10,13 +9,14 @@ ghost use Rattle.frame.specs.Answers.{frame_of};
 ghost use Rattle.store_areas.specs.Areas.{Rules};
 ghost use Rattle.standby_hello.specs.Greeting.{Replies};
 ghost use Rattle.model_standby.specs.Core.{core_intact};
+ghost use Rattle.standby_state.specs.Lent.{SameLent};
 ghost use Rattle.standby_control.specs.Others.{Plain, Fit, cleared_if, OtherIs, OtherIn};
 
 use base_refusals::Refusal;
 use frame::Frame;
 use frame_op::Run;
 use frame_reader::Reader;
-use standby_state::{Outcome, Replica, Settings, Standing};
+use standby_state::{Areas, Outcome, Replica, Settings, Standing};
 
 // Whether a run of kinds is empty.
 fn no_kinds(frame: &[u8], run: Run) -> bool
@@ -50,7 +50,7 @@ fn answer_by_counters(
     decoded: Frame,
 ) -> Outcome
     requires { Plain (frame_of 1 frame.now decoded) }
-    ensures { Replies counters settings (λ L k. core_intact L k none false (frame_of 1 frame.now decoded)) result }
+    ensures { Replies counters settings (λ L k. core_intact L k none (λ p. false) (frame_of 1 frame.now decoded)) result }
 {
     match decoded {
         Frame::Hello {
@@ -72,16 +72,12 @@ fn answer_by_counters(
 }
 
 // What the frame answers, once due commits have run.
-fn answer(
-    standing: Standing,
-    words: &mut [u64],
-    bytes: &mut [u8],
-    frame: &[u8],
-    decoded: Frame,
-) -> Outcome
-    requires rules { Rules standing.settings.shape words.old bytes.old }
+fn answer(standing: Standing, areas: &mut Areas, frame: &[u8], decoded: Frame) -> Outcome
+    requires rules { Rules standing.settings.shape areas.old.words.now areas.old.bytes.now }
     requires fit { Fit (frame_of 1 frame.now decoded) }
-    ensures { OtherIs standing.settings standing.counters standing.lookup (frame_of 1 frame.now decoded) words.old words.new bytes.old bytes.new result }
+    ensures is { OtherIs standing.settings standing.counters standing.lookup areas.old.row.now (frame_of 1 frame.now decoded) areas.old.words.now areas.new.words.now areas.old.bytes.now areas.new.bytes.now result }
+    ensures holds { areas.new.holds.now ≡ areas.old.holds.now }
+    ensures same { SameLent areas.old areas.new }
 {
     match decoded {
         Frame::Bind {
@@ -89,12 +85,10 @@ fn answer(
             epoch,
             max_lag,
             session,
-        } => standby_bind::on_bind(
-            standing, words, bytes, frame, handle, epoch, max_lag, session,
-        ),
+        } => standby_bind::on_bind(standing, areas, frame, handle, epoch, max_lag, session),
         _ => {
             let outcome = answer_by_counters(frame, standing.counters, standing.settings, decoded);
-            clear_if(words, outcome.action.clears());
+            clear_if(areas.words, outcome.action.clears());
             outcome
         }
     }
@@ -103,16 +97,19 @@ fn answer(
 // Pending commits run, and then the frame is answered.
 pub fn run_due_then_answer(
     standing: Standing,
-    words: &mut [u64],
-    bytes: &mut [u8],
+    areas: &mut Areas,
     frame: &[u8],
     decoded: Frame,
 ) -> Outcome
-    requires rules { Rules standing.settings.shape words.old bytes.old }
+    requires rules { Rules standing.settings.shape areas.old.words.now areas.old.bytes.now }
     requires fit { Fit (frame_of 1 frame.now decoded) }
-    ensures { OtherIn standing.settings standing.counters standing.lookup (frame_of 1 frame.now decoded) words.old words.new bytes.old bytes.new result }
+    ensures is { OtherIn standing.settings standing.counters standing.lookup areas.old.row.now (frame_of 1 frame.now decoded) areas.old.words.now areas.new.words.now areas.old.bytes.now areas.new.bytes.now result }
+    ensures holds { areas.new.holds.now ≡ areas.old.holds.now }
+    ensures same { SameLent areas.old areas.new }
 {
+    let words = &mut *areas.words;
+    let bytes = &mut *areas.bytes;
     let due = standby_pending_run::is_pending(words);
     standby_pending_run::run_if(words, bytes, standing.settings.shape, due);
-    answer(standing, words, bytes, frame, decoded)
+    answer(standing, areas, frame, decoded)
 }

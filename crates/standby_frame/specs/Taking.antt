@@ -1,8 +1,9 @@
 -- Taking a frame, once the rules hold. Assumes nothing.
 use Rattle.std.specs.Prelude.{ℕ, ◌≤◌, ◌≡◌, Bool, true, false, not, ◌&&◌, List, get_or, eqb}
 use Rattle.model_frame.specs.Frame.{Frame}
+use Rattle.standby_row.specs.declared.Bound.{Bound as BoundRecord}
 use Rattle.standby_row.specs.declared.lookup.Lookup.{Lookup}
-use Rattle.standby_row.specs.Row.{own_place, own_record, has_place}
+use Rattle.standby_row.specs.Row.{own_place, own_record}
 use Rattle.store_areas.specs.StoreWord
 use Rattle.store_areas.specs.Areas.{Rules, places_of}
 use Rattle.standby_pending.specs.Pending.{pending_of}
@@ -18,8 +19,8 @@ use Rattle.standby_state.specs.declared.Answer.{Answer}
 use Rattle.standby_state.specs.declared.Outcome.{Outcome}
 use Rattle.standby_state.specs.Answers.{answer_of}
 use Rattle.standby_state.specs.Exact.{Exact}
-use Rattle.standby_state.specs.Outcomes.{counters_of, settings_of, spot_of, area_at, outcome_of, Lands}
-use Rattle.standby_step.specs.Steps.{room_in, is_found, found_in, changes_by, FrameLeaves, holds_after, has_handle, Stepped}
+use Rattle.standby_state.specs.Outcomes.{counters_of, settings_of, area_at, outcome_of, Lands}
+use Rattle.standby_step.specs.Steps.{room_in, is_found, found_in, rooms_in, changes_by, FrameLeaves, holds_after, has_handle, Stepped}
 
 -- a frame is answered, a Nack too
 abbrev pub is_answered : Answer → Bool
@@ -29,18 +30,18 @@ is_answered a = eqb a.refusal 0 && not (eqb a.kind 0)
 abbrev pub Own : Lookup → Frame → Type 0
 Own seen f = is_found seen ≡ true → has_handle (intact f) ≡ true → (own_record seen).handle ≡ handle_in (intact f)
 
-pub record IntactIs (s : Settings) (c : Replica) (seen : Lookup) (f : Frame) (w w' b b' h h' : List ℕ) (r : Outcome) : Type 0 where
+pub record IntactIs (s : Settings) (c : Replica) (seen : Lookup) (row : List BoundRecord) (f : Frame) (w w' b b' h h' : List ℕ) (r : Outcome) : Type 0 where
   pub is : Own seen f
       → outcome_of protocol_version (room_in seen h) s.shape w' b' h' r
-      ≡ core_intact (settings_of s (room_in seen h)) (core_run (due (pending_of w) f) (core_at (counters_of c) s.shape w b)) (found_in seen h) (has_place seen) f
-  pub lands : Lands seen (get_or w' StoreWord.used 0) (room_in seen h) (area_at (room_in seen h) (spot_of seen) h') r.action
+      ≡ core_intact (settings_of s (room_in seen h)) (core_run (due (pending_of w) f) (core_at (counters_of c) s.shape w b)) (found_in seen h) (rooms_in seen row (handle_in (intact f))) f
+  pub lands : Lands seen row (get_or w' StoreWord.used 0) (room_in seen h) (area_at (room_in seen h) (own_place seen) h') r.action
   pub rules : Rules s.shape w' b'
   pub more : get_or w StoreWord.used 0 ≤ get_or w' StoreWord.used 0
   pub leaves : FrameLeaves s.shape (changes_by (places_of s.shape w b) (own_record seen).place (intact f) (accepted (answer_of b' r.answer))) (due (pending_of w) f) false w w' b b'
   pub holds : Own seen f → h' ≡ holds_after (room_in seen h) (own_place seen) (writes_frame (settings_of s (room_in seen h)) (counters_of c) (found_in seen h) f) h
   pub exact : Exact b' r.answer
 
-pub record Takes (s : Settings) (c : Replica) (seen : Lookup) (frame w w' b b' h h' : List ℕ) (r : Outcome) : Type 0 where
+pub record Takes (s : Settings) (c : Replica) (seen : Lookup) (row : List BoundRecord) (frame w w' b b' h h' : List ℕ) (r : Outcome) : Type 0 where
   pub rules : Rules s.shape w' b'
-  pub steps : (is_found seen ≡ true → has_handle (given frame) ≡ true → (own_record seen).handle ≡ handle_in (given frame)) → Stepped s c seen (on_frame_held frame) w w' b b' h h' r
+  pub steps : (is_found seen ≡ true → has_handle (given frame) ≡ true → (own_record seen).handle ≡ handle_in (given frame)) → Stepped s c seen row (on_frame_held frame) w w' b b' h h' r
   pub exact : Exact b' r.answer

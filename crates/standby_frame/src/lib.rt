@@ -28,18 +28,12 @@ fn on_decoded(standing: Standing, areas: &mut Areas, frame: &[u8], decoded: Fram
     requires record_rules_in { is_found standing.lookup ≡ true → RecordRulesIn standing.lookup areas.old.words.now areas.old.holds.now }
     requires writable { Writable 1 (frame_of 1 frame.now decoded) }
     requires sized { Sized 1 frame.now decoded }
-    ensures is { IntactIs standing.settings standing.counters standing.lookup (frame_of 1 frame.now decoded) areas.old.words.now areas.new.words.now areas.old.bytes.now areas.new.bytes.now areas.old.holds.now areas.new.holds.now result }
+    ensures is { IntactIs standing.settings standing.counters standing.lookup areas.old.row.now (frame_of 1 frame.now decoded) areas.old.words.now areas.new.words.now areas.old.bytes.now areas.new.bytes.now areas.old.holds.now areas.new.holds.now result }
     ensures same { SameLent areas.old areas.new }
 {
     match decoded {
         Frame::Batch(b) => standby_batch_due::run_due_then_batch(standing, areas, frame, b),
-        _ => standby_control::run_due_then_answer(
-            standing,
-            areas.words,
-            areas.bytes,
-            frame,
-            decoded,
-        ),
+        _ => standby_control::run_due_then_answer(standing, areas, frame, decoded),
     }
 }
 
@@ -47,7 +41,7 @@ fn on_decoded(standing: Standing, areas: &mut Areas, frame: &[u8], decoded: Fram
 fn on_bytes(standing: Standing, areas: &mut Areas, frame: &[u8]) -> Outcome
     requires rules { Rules standing.settings.shape areas.old.words.now areas.old.bytes.now }
     requires record_rules_in { is_found standing.lookup ≡ true → RecordRulesIn standing.lookup areas.old.words.now areas.old.holds.now }
-    ensures is { Takes standing.settings standing.counters standing.lookup frame.now areas.old.words.now areas.new.words.now areas.old.bytes.now areas.new.bytes.now areas.old.holds.now areas.new.holds.now result }
+    ensures is { Takes standing.settings standing.counters standing.lookup areas.old.row.now frame.now areas.old.words.now areas.new.words.now areas.old.bytes.now areas.new.bytes.now areas.old.holds.now areas.new.holds.now result }
     ensures same { SameLent areas.old areas.new }
 {
     let counters = standing.counters;

@@ -18,7 +18,7 @@ use Rattle.model_standby.specs.Row.{Row, is_some, freed, has_free, find, replace
 use Rattle.model_standby.specs.State.{Bound}
 use Rattle.standby_handles.specs.Rows.{entry_of, row_of, part_at}
 
-eqb_comm : (a b : ℕ) → eqb a b ≡ eqb b a
+pub eqb_comm : (a b : ℕ) → eqb a b ≡ eqb b a
 eqb_comm a b = go (eqb a b) refl
   where
     go : (t : Bool) → eqb a b ≡ t → t ≡ eqb b a

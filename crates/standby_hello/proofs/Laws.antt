@@ -9,6 +9,7 @@ use Rattle.model_frame.specs.Frame.{welcome, nack, ack, stale_epoch, restarted}
 use Rattle.model_frame.specs.Parse.{is_empty}
 use Rattle.frame_fields.specs.declared.Epoch.{Epoch}
 use Rattle.frame_fields.specs.declared.Incarnation.{Incarnation}
+use Rattle.standby_row.specs.declared.Bound.{Bound}
 use Rattle.standby_row.specs.declared.lookup.Lookup.{Lookup}
 use Rattle.model_standby.specs.Answer.{reply}
 use Rattle.model_standby.specs.Store.{Place}
@@ -27,10 +28,11 @@ use Rattle.standby_state.proofs.Exact.{exact_refused, exact_welcome, exact_nack,
 use Rattle.standby_hello.specs.Greeting.{connected_to, checked_to, Replies}
 
 -- where no record is put, nothing lands
-pub kept_lands : (seen : Lookup) (used room : ℕ) (area : List ℕ) (a : RowAction) → stores a ≡ false → Lands seen used room area a
-kept_lands seen used room area RowAction.Leave e = tt
-kept_lands seen used room area RowAction.Clear e = tt
-kept_lands seen used room area (RowAction.Store at h) e = absurd (true≢false e)
+pub kept_lands : (seen : Lookup) (row : List Bound) (used room : ℕ) (area : List ℕ) (a : RowAction) → stores a ≡ false → Lands seen row used room area a
+kept_lands seen row used room area RowAction.Leave e = tt
+kept_lands seen row used room area RowAction.Clear e = tt
+kept_lands seen row used room area (RowAction.Store at h) e = absurd (true≢false e)
+kept_lands seen row used room area (RowAction.Rebind freed at h) e = absurd (true≢false e)
 
 -- the state but for the row, with these counters
 abbrev At : Replica → List Place → List (ℕ × ℕ) → Core

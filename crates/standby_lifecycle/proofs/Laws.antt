@@ -9,8 +9,8 @@ use lib.Dec.{eqb}
 use borrow.Author.Tests.{eq-eqb, ne_eqb}
 use Rattle.base_flags.specs.Flag.{is_set}
 use Rattle.base_flags.proofs.Flags.{set_so, clear_so}
+use Rattle.standby_row.specs.declared.Bound.{Bound}
 use Rattle.standby_row.specs.declared.lookup.Lookup.{Lookup}
-use Rattle.standby_row.specs.Row.{has_place}
 use Rattle.store_areas.specs.declared.Shape.{Shape}
 use Rattle.store_areas.specs.Areas.{words_at, bytes_at, allowed, Rules}
 use Rattle.store_areas.proofs.Ruling.{rules_of}
@@ -33,7 +33,7 @@ use Rattle.standby_state.specs.Answers.{is_refused, is_done}
 use Rattle.standby_state.specs.Exact.{Exact}
 use Rattle.standby_state.specs.Outcomes.{counters_of, settings_of, leaving, clearing}
 use Rattle.standby_state.proofs.Exact.{exact_done, exact_refused}
-use Rattle.standby_step.specs.Steps.{room_in, found_in, seen_allowed, Stepped, StepIs}
+use Rattle.standby_step.specs.Steps.{room_in, found_in, rooms_in, seen_allowed, Stepped, StepIs}
 use Rattle.standby_lifecycle.specs.Calls.{promoted_from, Promoted}
 
 -- ---- promotion
@@ -60,10 +60,10 @@ promoted_is s lag c w b r {w1} {w'} {b'} first t₁ e₀ e₁ e₂ =
 -- ---- each call
 
 -- the areas at the end, by whichever names
-pub at_end : {s : Settings} {c : Replica} {seen : Lookup} {call : Call} {w x x' b y y' h : List ℕ} {r : Outcome} → StepIs s c seen call w x b y h h r → x' ≡ x → y' ≡ y → StepIs s c seen call w x' b y' h h r
-at_end {s} {c} {seen} {call} {w} {x} {x'} {b} {y} {y'} {h} {r} p e f = subst (λ (u : List ℕ). StepIs s c seen call w u b y' h h r) (sym e) (subst (λ (v : List ℕ). StepIs s c seen call w x b v h h r) (sym f) p)
+pub at_end : {s : Settings} {c : Replica} {seen : Lookup} {row : List Bound} {call : Call} {w x x' b y y' h : List ℕ} {r : Outcome} → StepIs s c seen row call w x b y h h r → x' ≡ x → y' ≡ y → StepIs s c seen row call w x' b y' h h r
+at_end {s} {c} {seen} {row} {call} {w} {x} {x'} {b} {y} {y'} {h} {r} p e f = subst (λ (u : List ℕ). StepIs s c seen row call w u b y' h h r) (sym e) (subst (λ (v : List ℕ). StepIs s c seen row call w x b v h h r) (sym f) p)
 
-module _ (s : Settings) (c : Replica) (seen : Lookup) (w b h : List ℕ) where
+module _ (s : Settings) (c : Replica) (seen : Lookup) (row : List Bound) (w b h : List ℕ) where
   abbrev Sound : Bool
   Sound = seen_allowed s.shape seen w b h
 
@@ -71,7 +71,7 @@ module _ (s : Settings) (c : Replica) (seen : Lookup) (w b h : List ℕ) where
   Was = core_at (counters_of c) s.shape w b
 
   -- 25
-  pub unsound : (call : Call) {r : Outcome} → Sound ≡ false → r ≡ leaving c (is_refused 25) → StepIs s c seen call w w b b h h r
+  pub unsound : (call : Call) {r : Outcome} → Sound ≡ false → r ≡ leaving c (is_refused 25) → StepIs s c seen row call w w b b h h r
   unsound call off e = record {
     refuses = λ _. (e, (refl, (refl, refl)));
     steps = λ on own. absurd (true≢false (sym on ∙ off));
@@ -90,7 +90,7 @@ module _ (s : Settings) (c : Replica) (seen : Lookup) (w b h : List ℕ) where
 
   -- the rules are kept
   module _ (on : Sound ≡ true) where
-    stepped : (call : Call) {w' b' h' : List ℕ} {r : Outcome} → Exact b' r.answer → Stepped s c seen call w w' b b' h h' r → StepIs s c seen call w w' b b' h h' r
+    stepped : (call : Call) {w' b' h' : List ℕ} {r : Outcome} → Exact b' r.answer → Stepped s c seen row call w w' b b' h h' r → StepIs s c seen row call w w' b b' h h' r
     stepped call is-exact g = record { refuses = λ off. absurd (true≢false (sym on ∙ off)); steps = λ _ own. g; exact = is-exact }
 
     -- ---- flush
@@ -99,12 +99,12 @@ module _ (s : Settings) (c : Replica) (seen : Lookup) (w b h : List ℕ) where
       abbrev Flush : Bool → CoreResult
       Flush t = cond t (core_refuse Was leave 22) (core_done (core_run true Was) leave)
 
-      flush_by : (t : Bool) → (not (eqb n c.connections) || is_set c.promoted) ≡ t → core_step (settings_of s (room_in seen h)) Was (found_in seen h) (has_place seen) (flush n) ≡ Flush t
+      flush_by : (t : Bool) → (not (eqb n c.connections) || is_set c.promoted) ≡ t → core_step (settings_of s (room_in seen h)) Was (found_in seen h) (rooms_in seen row 0) (flush n) ≡ Flush t
       unfolding core_step
       flush_by t e = ap Flush e
 
-      pub not_flushed : {r : Outcome} → (not (eqb n c.connections) || is_set c.promoted) ≡ true → r ≡ leaving c (is_refused 22) → StepIs s c seen (flush n) w w b b h h r
-      not_flushed e e₁ = subst (StepIs s c seen (flush n) w w b b h h) (sym e₁) (stepped (flush n) (exact_refused b 22) (record {
+      pub not_flushed : {r : Outcome} → (not (eqb n c.connections) || is_set c.promoted) ≡ true → r ≡ leaving c (is_refused 22) → StepIs s c seen row (flush n) w w b b h h r
+      not_flushed e e₁ = subst (StepIs s c seen row (flush n) w w b b h h) (sym e₁) (stepped (flush n) (exact_refused b 22) (record {
         is = sym (flush_by true e);
         lands = tt;
         kept = λ _. refl;
@@ -114,8 +114,8 @@ module _ (s : Settings) (c : Replica) (seen : Lookup) (w b h : List ℕ) where
         holds = refl;
       }))
 
-      pub flushed : {w' : List ℕ} {r : Outcome} {a : Answer} → (not (eqb n c.connections) || is_set c.promoted) ≡ false → Ran s.shape b w w' → a ≡ is_done → r ≡ leaving c a → StepIs s c seen (flush n) w w' b b h h r
-      flushed {w'} off ran e₁ e₂ = subst (StepIs s c seen (flush n) w w' b b h h) (sym (e₂ ∙ ap (leaving c) e₁)) (stepped (flush n) (exact_done b) (record {
+      pub flushed : {w' : List ℕ} {r : Outcome} {a : Answer} → (not (eqb n c.connections) || is_set c.promoted) ≡ false → Ran s.shape b w w' → a ≡ is_done → r ≡ leaving c a → StepIs s c seen row (flush n) w w' b b h h r
+      flushed {w'} off ran e₁ e₂ = subst (StepIs s c seen row (flush n) w w' b b h h) (sym (e₂ ∙ ap (leaving c) e₁)) (stepped (flush n) (exact_done b) (record {
         is = (λ j. record { core = record { counters = counters_of c; places = ran.places j; pending = ran.pending j }; action = leave; answer = done })
             ∙ sym (flush_by false off);
         lands = tt;
@@ -132,7 +132,7 @@ module _ (s : Settings) (c : Replica) (seen : Lookup) (w b h : List ℕ) where
       abbrev Lost : Bool → CoreResult
       Lost t = cond t (core_done (core_unbound Was) clear) (core_done Was leave)
 
-      lost_by : (t : Bool) → eqb n c.connections ≡ t → core_step (settings_of s (room_in seen h)) Was (found_in seen h) (has_place seen) (disconnected_from n) ≡ Lost t
+      lost_by : (t : Bool) → eqb n c.connections ≡ t → core_step (settings_of s (room_in seen h)) Was (found_in seen h) (rooms_in seen row 0) (disconnected_from n) ≡ Lost t
       unfolding core_step
       lost_by t e = ap Lost e
 
@@ -140,10 +140,10 @@ module _ (s : Settings) (c : Replica) (seen : Lookup) (w b h : List ℕ) where
       abbrev Left : Bool → List ℕ
       Left t = cond t (set w 1 0) w
 
-      pub other_lost : {r : Outcome} {a : Answer} → (n ≡ c.connections → ⊥) → a ≡ is_done → r ≡ leaving c a → StepIs s c seen (disconnected_from n) w w b b h h r
+      pub other_lost : {r : Outcome} {a : Answer} → (n ≡ c.connections → ⊥) → a ≡ is_done → r ≡ leaving c a → StepIs s c seen row (disconnected_from n) w w b b h h r
       other_lost {r} other e₁ e₂ =
           let e : eqb n c.connections ≡ false = ne_eqb n c.connections other in
-          subst (StepIs s c seen (disconnected_from n) w w b b h h) (sym (e₂ ∙ ap (leaving c) e₁)) (stepped (disconnected_from n) (exact_done b) (record {
+          subst (StepIs s c seen row (disconnected_from n) w w b b h h) (sym (e₂ ∙ ap (leaving c) e₁)) (stepped (disconnected_from n) (exact_done b) (record {
             is = sym (lost_by false e);
             lands = tt;
             kept = λ _. refl;
@@ -153,12 +153,12 @@ module _ (s : Settings) (c : Replica) (seen : Lookup) (w b h : List ℕ) where
             holds = refl;
           }))
 
-      pub own_lost : {w' : List ℕ} {r : Outcome} {a : Answer} → n ≡ c.connections → w' ≡ set w 1 0 → a ≡ is_done → r ≡ clearing c a → StepIs s c seen (disconnected_from n) w w' b b h h r
+      pub own_lost : {w' : List ℕ} {r : Outcome} {a : Answer} → n ≡ c.connections → w' ≡ set w 1 0 → a ≡ is_done → r ≡ clearing c a → StepIs s c seen row (disconnected_from n) w w' b b h h r
       own_lost {w'} {r} same left e₁ e₂ =
           let e : eqb n c.connections ≡ true = eq-eqb n c.connections same in
           let long : 66 ≤ length w = front_there on in
-          subst (λ (x : List ℕ). StepIs s c seen (disconnected_from n) w x b b h h r) (sym left)
-          (subst (StepIs s c seen (disconnected_from n) w (set w 1 0) b b h h) (sym (e₂ ∙ ap (clearing c) e₁)) (stepped (disconnected_from n) (exact_done b) (record {
+          subst (λ (x : List ℕ). StepIs s c seen row (disconnected_from n) w x b b h h r) (sym left)
+          (subst (StepIs s c seen row (disconnected_from n) w (set w 1 0) b b h h) (sym (e₂ ∙ ap (clearing c) e₁)) (stepped (disconnected_from n) (exact_done b) (record {
             is = (λ j. record { core = record { counters = counters_of c; places = places_kept s.shape w (set w 1 0) b (clear_only w) j; pending = cleared w long j }; action = clear; answer = done })
                 ∙ sym (lost_by true e);
             lands = tt;
@@ -174,16 +174,16 @@ module _ (s : Settings) (c : Replica) (seen : Lookup) (w b h : List ℕ) where
     abbrev Promote : Bool → CoreResult
     Promote t = cond t (core_done (core_promotion (settings_of s (room_in seen h)) Was) clear) (core_refuse Was leave 23)
 
-    promote_by : (t : Bool) → is_set c.checked ≡ t → core_step (settings_of s (room_in seen h)) Was (found_in seen h) (has_place seen) promote ≡ Promote t
+    promote_by : (t : Bool) → is_set c.checked ≡ t → core_step (settings_of s (room_in seen h)) Was (found_in seen h) (rooms_in seen row 0) promote ≡ Promote t
     unfolding core_step
     promote_by t e = ap Promote e
 
-    unchecked_by : core_step (settings_of s (room_in seen h)) Was (found_in seen h) (has_place seen) promote_unchecked ≡ Promote true
+    unchecked_by : core_step (settings_of s (room_in seen h)) Was (found_in seen h) (rooms_in seen row 0) promote_unchecked ≡ Promote true
     unfolding core_step
     unchecked_by = refl
 
-    pub not_checked : {r : Outcome} → c.checked ≡ 0 → r ≡ leaving c (is_refused 23) → StepIs s c seen promote w w b b h h r
-    not_checked off e₁ = subst (StepIs s c seen promote w w b b h h) (sym e₁) (stepped promote (exact_refused b 23) (record {
+    pub not_checked : {r : Outcome} → c.checked ≡ 0 → r ≡ leaving c (is_refused 23) → StepIs s c seen row promote w w b b h h r
+    not_checked off e₁ = subst (StepIs s c seen row promote w w b b h h) (sym e₁) (stepped promote (exact_refused b 23) (record {
       is = sym (promote_by false (clear_so c.checked off));
       lands = tt;
       kept = λ e. absurd (true≢false (sym e));
@@ -200,8 +200,8 @@ module _ (s : Settings) (c : Replica) (seen : Lookup) (w b h : List ℕ) where
       is : Is ≡ Promote true
       is = (λ j. record { core = record { counters = counters_of (promoted_from c); places = p.places j; pending = p.pending j }; action = clear; answer = done })
 
-      pub promoted_checked : (c.checked ≡ 0 → ⊥) → StepIs s c seen promote w w' b b' h h r
-      promoted_checked said = subst (StepIs s c seen promote w w' b b' h h) (sym p.is) (stepped promote (exact_done b') (record {
+      pub promoted_checked : (c.checked ≡ 0 → ⊥) → StepIs s c seen row promote w w' b b' h h r
+      promoted_checked said = subst (StepIs s c seen row promote w w' b b' h h) (sym p.is) (stepped promote (exact_done b') (record {
         is = is ∙ sym (promote_by true (set_so c.checked said));
         lands = tt;
         kept = λ e. absurd (true≢false (sym e));
@@ -211,8 +211,8 @@ module _ (s : Settings) (c : Replica) (seen : Lookup) (w b h : List ℕ) where
         holds = refl;
       }))
 
-      pub promoted_unchecked : StepIs s c seen promote_unchecked w w' b b' h h r
-      promoted_unchecked = subst (StepIs s c seen promote_unchecked w w' b b' h h) (sym p.is) (stepped promote_unchecked (exact_done b') (record {
+      pub promoted_unchecked : StepIs s c seen row promote_unchecked w w' b b' h h r
+      promoted_unchecked = subst (StepIs s c seen row promote_unchecked w w' b b' h h) (sym p.is) (stepped promote_unchecked (exact_done b') (record {
         is = is ∙ sym unchecked_by;
         lands = tt;
         kept = λ e. absurd (true≢false (sym e));

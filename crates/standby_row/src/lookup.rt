@@ -21,6 +21,8 @@ pub struct Lookup {
     pub free: Option<usize>,
     // The first place whose record breaks the rules.
     pub broken: Option<usize>,
+    // Whether no two used records have one handle, and no two name one place.
+    pub apart: bool,
     // The row's length.
     pub len: usize,
     ghost inside: { ForSome own (λ f. f.at < len) },

@@ -9,11 +9,14 @@ use standby_row::Lookup;
 use standby_state::{Areas, Standing};
 use store_areas::{Shape, View, word};
 
-// The record found, if one was, names a place in use and holds no more than its area has; no record of the row is broken.
+// The row's records are apart, and none is broken; the record found, if one was, names a place in use and holds no more than its area has.
 pub fn keeps_rules(words: &[u64], bytes: &[u8], holds: &[u8], shape: Shape, lookup: Lookup) -> bool
     ensures { result ≡ seen_allowed shape lookup words.now bytes.now holds.now }
 {
     if !store_areas::allowed(shape, words, bytes) {
+        return false;
+    }
+    if !lookup.apart {
         return false;
     }
     if lookup.broken.is_some() {

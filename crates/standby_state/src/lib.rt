@@ -4,7 +4,8 @@
 ghost use Rattle.std.specs.Prelude.{◌≡◌};
 ghost use Rattle.base_refusals.specs.Numbers.{number_of};
 ghost use Rattle.standby_state.specs.Answers.{flat_of, of_flat, no_brief, blank_of, is_refused, is_done, is_welcome, is_ack, is_nack, is_bound};
-ghost use Rattle.standby_state.specs.Outcomes.{spot_of, leaving, clearing, storing, clears, row_after};
+ghost use Rattle.standby_row.specs.Row.{released, own_place};
+ghost use Rattle.standby_state.specs.Outcomes.{room_for, spot_of, leaving, clearing, storing, rebinding, clears, row_after};
 
 use base_refusals::Refusal;
 use frame_fields::{CommitNumber, Epoch, Incarnation, Summary, kind};
@@ -30,9 +31,10 @@ pub struct Standing {
     pub lookup: Lookup,
 }
 
-// What a call is lent to change: the store's words and bytes, and the hold areas. No rule is known of them: each call tests them.
+// What a call is lent: the row, which is only read; the store's words and bytes and the hold areas, which it may change. No rule is known of them: each call tests them.
 #[derive(Drop)]
 pub struct Areas<'a> {
+    pub row: &'a [Bound],
     pub words: &'a mut [u64],
     pub bytes: &'a mut [u8],
     pub holds: &'a mut [u8],
@@ -98,12 +100,30 @@ pub struct Answer {
     pub summary: BoundSummary,
 }
 
-// What a call does to the row: nothing, it frees every record, or it puts a record at a place.
+// What a call does to the row: nothing, it frees every record, it puts a record at a place, or it frees one record, if there is another
+// handle that has the session, and then puts one.
 #[derive(Clone, Copy)]
 pub enum RowAction {
     Leave,
     Clear,
-    Store { at: usize, bound: Bound },
+    Store {
+        at: usize,
+        bound: Bound,
+    },
+    Rebind {
+        freed: Option<usize>,
+        at: usize,
+        bound: Bound,
+    },
+}
+
+// Frees the record at a place, if one is named.
+fn release(row: &mut [Bound], freed: Option<usize>)
+    ensures { row.new ≡ released freed row.old }
+{
+    if let Some(at) = freed {
+        standby_row::release(row, at);
+    }
 }
 
 impl RowAction {
@@ -122,6 +142,10 @@ impl RowAction {
             RowAction::Leave => {}
             RowAction::Clear => standby_row::clear(row, 0),
             RowAction::Store { at, bound } => standby_row::insert(row, at, bound),
+            RowAction::Rebind { freed, at, bound } => {
+                release(row, freed);
+                standby_row::insert(row, at, bound);
+            }
         }
     }
 }
@@ -245,17 +269,17 @@ pub fn cleared(counters: Replica, answer: Answer) -> Outcome
     }
 }
 
-// The handle's own place, or the first free one; the row's length, where `insert` puts nothing, if it has neither.
-fn row_place(lookup: Lookup) -> usize
-    ensures { result ≡ spot_of lookup }
+// The handle's own place; the row's length, where `insert` puts nothing, if it has none.
+fn own_place(lookup: Lookup) -> usize
+    ensures { result ≡ own_place lookup }
 {
     match lookup.own {
         Some(found) => found.at,
-        None => lookup.free.unwrap_or(lookup.len),
+        None => lookup.len,
     }
 }
 
-// The handle gets a record, at its own place or the first free one.
+// A handle that is bound gets a record, at its own place.
 pub fn stored(
     counters: Replica,
     lookup: Lookup,
@@ -269,12 +293,51 @@ pub fn stored(
         replica: counters,
         answer,
         action: RowAction::Store {
-            at: row_place(lookup),
+            at: own_place(lookup),
             bound: Bound {
                 used: 1,
                 handle,
                 ..bound
             },
+        },
+    }
+}
+
+// Whether the row has a place for the handle: its own, a free one, or that of the record that is freed for it.
+pub fn has_room(lookup: Lookup, freed: Option<usize>) -> bool
+    ensures { result ≡ room_for lookup freed }
+{
+    lookup.own.is_some() | lookup.free.is_some() | freed.is_some()
+}
+
+// The handle's own place, or the first that is free once the record at `freed` is; the row's length, where `insert` puts nothing, if there is none.
+fn place_for(lookup: Lookup, freed: Option<usize>) -> usize
+    ensures { result ≡ spot_of lookup freed }
+{
+    let free = lookup.free.unwrap_or(lookup.len);
+    match lookup.own {
+        Some(own) => own.at,
+        None => free.min(freed.unwrap_or(lookup.len)),
+    }
+}
+
+// The handle gets a record, once the one at `freed` is freed.
+pub fn rebound(
+    counters: Replica,
+    lookup: Lookup,
+    freed: Option<usize>,
+    answer: Answer,
+    bound: Bound,
+) -> Outcome
+    ensures { result ≡ rebinding counters lookup freed answer bound }
+{
+    Outcome {
+        replica: counters,
+        answer,
+        action: RowAction::Rebind {
+            freed,
+            at: place_for(lookup, freed),
+            bound,
         },
     }
 }

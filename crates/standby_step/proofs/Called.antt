@@ -1,33 +1,38 @@
 -- From what a core says, of what was found in the row, to what a call promises. Assumes nothing.
 use mathlib.Core.Path.{◌≡◌, refl, sym, ap, subst, ◌∙◌}
 use mathlib.Core.Bool.{Bool, true, false, cond, ◌&&◌, ◌||◌, true≢false}
-use mathlib.Core.List.{List}
+use mathlib.Core.List.{List, []}
 use mathlib.Core.Option.{Option, none, some}
-use Prim.Native.Nat.{ℕ, ◌+◌, ◌*◌, ◌≤◌, ◌<◌}
+use Prim.Native.Nat.{ℕ, ◌+◌, ◌*◌, ◌≤◌, ◌<◌, min}
 use native.Mathlib.Omega.{arith}
 use lib.Dec.{eqb, leb, ltb}
 use lib.ListN.{length, get_or, set, length-set}
-use borrow.Author.Tests.{ltb-true, ltb-false}
+use borrow.Author.Tests.{ltb-true, ltb-false, lt-ltb}
 use Rattle.model_frame.specs.Bytes.{write}
 use Rattle.base_laws.proofs.Little.{length_write}
+use Rattle.std.specs.Prelude.{Option as RustOption}
+use Rattle.std.specs.Prelude as prelude
 use Rattle.standby_row.specs.declared.lookup.Lookup.{Lookup}
-use Rattle.standby_row.specs.Row.{find_of, free_of, broken_of, cleared_all, SeenOf}
+use Rattle.standby_row.specs.Row.{find_of, free_of, broken_of, rival_of, released, alone_at, spot_for, cleared_all, own_place, SeenOf}
 use Rattle.standby_row.specs.Row as handles
 use Rattle.standby_row.proofs.Lists.{cleared_length}
 use Rattle.standby_handles.specs.Rows.{row_of}
-use Rattle.standby_handles.proofs.Rows.{Apart, find_hit, find_miss, free_hit, free_miss, all_freed, apart_same, apart_of, put_own, put_new}
+use Rattle.standby_handles.proofs.Rows.{Apart, find_hit, find_miss, all_freed, apart_same, apart_of, put_own}
+use Rattle.standby_handles.proofs.Apart.{rows_apart, room_same, put_alone}
 use Rattle.store_areas.specs.Areas.{allowed, Rules, places_of}
 use Rattle.store_areas.proofs.Ruling.{rules_true}
 use Rattle.standby_pending.specs.Pending.{pending_of}
 use Rattle.model_standby.specs.Answer.{protocol_version, refused}
 use Rattle.standby_row.specs.declared.Bound.{Bound as BoundRecord}
-use Rattle.model_standby.specs.Row.{Row, is_some, has_free, find, has_room_lem, put}
+use Rattle.model_standby.specs.Row.{Row, is_some, has_free, find, has_room, put}
 use Rattle.model_standby.specs.State.{Bound, Standby, Result, Call, on_frame_held, on_frame, flush, disconnected_from, promote, promote_unchecked}
 use Rattle.model_standby.specs.State as state
 use Rattle.model_standby.specs.Standby.{step}
 use Rattle.model_standby.specs.Hold.{HoldWrite}
-use Rattle.model_standby.specs.Core.{Core, Action, store, CoreResult, act, acted, core_step, handle_of}
+use Rattle.model_standby.specs.Core.{Core, Action, store, rebind, CoreResult, act, acted, core_step, handle_of}
+use Rattle.model_standby.specs.Handles.{apart, without_others, room_at}
 use Rattle.model_standby.proofs.Factoring.{factored}
+use Rattle.model_standby.proofs.RowKept.{apart_step}
 use Rattle.model_standby.proofs.Rows.{find_put_same}
 use Rattle.standby_part.specs.State.{bound_of, record_for, core_at}
 use Rattle.standby_batch_handle.specs.Handling.{found_of}
@@ -36,15 +41,14 @@ use Rattle.standby_state.specs.declared.Settings.{Settings}
 use Rattle.standby_state.specs.declared.Outcome.{Outcome}
 use Rattle.standby_state.specs.Answers.{answer_of, is_refused}
 use Rattle.standby_state.specs.declared.RowAction.{RowAction}
-use Rattle.standby_state.specs.Outcomes.{counters_of, settings_of, leaving, spot_of, area_at, action_for, action_of, outcome_of, row_after, Fits, Lands}
-use Rattle.standby_step.specs.Steps.{room_of, room_in, found_in, handle_by, asks, keeps_counters, Leaves, holds_after, writes_by, Stepped, StepIs}
-use Rattle.standby_step.specs.Calls.{room_all, standby_of, allowed_all, sought_by, spot_for, RowChange, row_by, RowPut, RowLeaves, CalledSteps, Called}
+use Rattle.standby_state.specs.Outcomes.{counters_of, settings_of, leaving, spot_of, area_at, action_for, action_of, outcome_of, row_after, Fits, Rebinds, Lands}
+use Rattle.standby_step.specs.Steps.{room_of, room_in, found_in, rooms_in, handle_by, asks, keeps_counters, Leaves, holds_after, writes_by, Stepped, StepIs}
+use Rattle.standby_step.specs.Calls.{room_all, standby_of, allowed_all, sought_by, RowChange, row_by, RowPut, RowRebound, RowLeaves, CalledSteps, Called}
 use Rattle.standby_step.proofs.Naming.{sought_own}
-use Rattle.standby_step.proofs.Fitting.{Fit, step_fit, step_any, step_own, writes_none, written_inside, leaves_any}
+use Rattle.standby_step.proofs.Fitting.{Fit, step_fit, step_any, writes_none, written_inside, leaves_any}
 use Rattle.standby_step.proofs.Still.{refused_still}
 use Rattle.standby_step.proofs.Doing.{kind_of, done_by}
-use Rattle.standby_step.proofs.Rows.{Whole, whole_of, of_whole, whole_more, record_whole, whole_cleared, none_set, found_own, seen_found, seen_record, seen_place, seen_free, seen_spot, seen_room, seen_allowed_lem, take_write, drop_write}
-use Rattle.model_text.proofs.Formed.{and_r}
+use Rattle.standby_step.proofs.Rows.{Whole, whole_of, of_whole, whole_more, record_whole, whole_cleared, none_set, found_own, seen_found, seen_record, seen_place, seen_spot, seen_room, seen_allowed_lem, allowed_apart, and_l, and_r, whole_released, released_same, spot_alone, take_write, drop_write}
 
 no : {A : Type 0} → true ≡ false → A
 no e = absurd (true≢false e)
@@ -97,86 +101,94 @@ module _ (row : List BoundRecord) (k : ℕ) (w h : List ℕ) (Looked : Lookup) (
       go true e = sym (find_hit (bound_of protocol_version) Room k row h (ltb-true (find_of row k) (length row) e))
       go false e = sym (find_miss (bound_of protocol_version) Room k row h (ltb-false (find_of row k) (length row) e))
 
-  -- the first free place
-  abbrev Free : ℕ
-  Free = free_of row
+  -- the row has room as the definition says
+  rooms_are : (p : ℕ) → rooms_in Looked row k p ≡ room_at k Handles p
+  rooms_are p = (λ j. prelude.is_some (is.own j) || (prelude.is_some (is.free j) || prelude.is_some (rival_of row k p))) ∙ sym (room_same (bound_of protocol_version) Room (λ g y. refl) k p row h)
 
-  free_in : ltb (free_of row) (length row) ≡ has_free Handles
-  free_in = go (ltb (free_of row) (length row)) refl
-    where
-      go : (t : Bool) → ltb (free_of row) (length row) ≡ t → t ≡ has_free Handles
-      go true e = sym (free_hit (bound_of protocol_version) Room row h (ltb-true (free_of row) (length row) e))
-      go false e = sym (free_miss (bound_of protocol_version) Room row h (ltb-false (free_of row) (length row) e))
+  found_core : (L : state.Settings) (x : Core) (call : Call) → core_step L x (found_in Looked h) (rooms_in Looked row k) call ≡ core_step L x (find k Handles) (room_at k Handles) call
+  found_core L x call = (λ j. core_step L x (found_in_lem j) (λ p. rooms_are p j) call)
 
-  found_core : (L : state.Settings) (x : Core) (call : Call) → core_step L x (found_in Looked h) (ltb Free (length row)) call ≡ core_step L x (find k Handles) (has_free Handles) call
-  found_core L x call = go (ltb (find_of row k) (length row)) refl
+  -- a handle that was found has a place
+  there : is_some (found_in Looked h) ≡ true → find_of row k < length row
+  there f = ltb-true (find_of row k) (length row) (sym (seek_some (ltb (find_of row k) (length row))) ∙ sym (ap is_some sought) ∙ f)
     where
-      go : (t : Bool) → ltb (find_of row k) (length row) ≡ t → core_step L x (found_in Looked h) (ltb Free (length row)) call ≡ core_step L x (find k Handles) (has_free Handles) call
-      go true e =
-          subst (λ (y : Option Bound). core_step L x y (ltb Free (length row)) call ≡ core_step L x y (has_free Handles) call) (sym (sought ∙ ap Seek e))
-          (step_own L x Own (ltb Free (length row)) (has_free Handles) call)
-          ∙ ap (λ (y : Option Bound). core_step L x y (has_free Handles) call) found_in_lem
-      go false e = (λ i. core_step L x (found_in_lem i) (free_in i) call)
+      seek_some : (t : Bool) → is_some (Seek t) ≡ t
+      seek_some true = refl
+      seek_some false = refl
 
   -- ---- what is done to the row
 
+  -- the place that was found for a handle that is bound anew is that of the row in which no other has its place
+  rebound_at : (x p : ℕ) → x ≡ k → (freed : RustOption ℕ) (at : ℕ) → freed ≡ rival_of row x p → at ≡ spot_of Looked freed → at ≡ spot_for (alone_at row x p) x
+  rebound_at x p e freed at f g =
+      g ∙ seen_spot row k (get_or w 0 0) Room is freed
+      ∙ (λ j. cond (ltb (find_of row (sym e j)) (length row)) (find_of row (sym e j)) (min (free_of row) (prelude.unwrap_or (f j) (length row))))
+      ∙ spot_alone row x p
+
   module _ (used : ℕ) (area : List ℕ) where
-    next_whole : (o : RowAction) → Lands Looked used Room area o → get_or w 0 0 ≤ used → Whole (get_or w 0 0) Room row → Whole used Room (row_after o row)
+    next_whole : (o : RowAction) → Lands Looked row used Room area o → get_or w 0 0 ≤ used → Whole (get_or w 0 0) Room row → Whole used Room (row_after o row)
     next_whole RowAction.Leave l le n = whole_more (get_or w 0 0) used Room row le n
     next_whole RowAction.Clear l le n = whole_cleared used Room row
     next_whole (RowAction.Store at x) l le n =
         none_set (λ g. handles.breaks_of g used Room) row at x (record_whole x used Room l.slot_place l.slot_len) (whole_more (get_or w 0 0) used Room row le n)
+    next_whole (RowAction.Rebind freed at x) l le n =
+        none_set (λ g. handles.breaks_of g used Room) (released freed row) at x (record_whole x used Room l.slot_place (omega (arith, l.holds_none)))
+        (whole_released used Room row freed (whole_more (get_or w 0 0) used Room row le n))
 
-    module _ (own : ℕ) (asked : Bool) (wr : Option HoldWrite) (h' : List ℕ) (mine : asked ≡ true → k ≡ own) (holds : h' ≡ holds_after Room (find_of row k) wr h)
-        (inside : (x : HoldWrite) → wr ≡ some x → x.offset + length x.bytes ≤ Room) where
+    module _ (own : ℕ) (asked : Bool) (rooms : ℕ → Bool) (wr : Option HoldWrite) (h' : List ℕ) (mine : asked ≡ true → k ≡ own) (holds : h' ≡ holds_after Room (find_of row k) wr h)
+        (inside : (x : HoldWrite) → wr ≡ some x → x.offset + length x.bytes ≤ Room) (clean : handles.apart_of row ≡ true) (room : (p : ℕ) → rooms p ≡ true → asked ≡ true → room_at k Handles p ≡ true) where
       abbrev After : List BoundRecord → List ℕ → Row Bound
       After r x = row_of (bound_of protocol_version) Room r x
 
       still : wr ≡ none → h' ≡ h
       still e = holds ∙ ap (λ (x : Option HoldWrite). holds_after Room (find_of row k) x h) e
 
-      -- a record is put
-      puts : (at : ℕ) (x : BoundRecord) → Fits Looked used Room area at x → Fit asked own (found_in Looked h) (ltb Free (length row)) wr (store x.handle (bound_of protocol_version x (area_at Room at h')))
+      -- a record is put at its handle's own place
+      puts : (at : ℕ) (x : BoundRecord) → Fits Looked used Room area at x → Fit asked own (found_in Looked h) rooms wr (store x.handle (bound_of protocol_version x (area_at Room at h')))
           → After (set row at x) h' ≡ put x.handle (bound_of protocol_version x (area_at Room at h')) Handles
-      puts at x l f = by_place (ltb (find_of row k) (length row)) refl
+      puts at x l f =
+          (λ j. After (set row (at_own j) x) h')
+          ∙ put_own (bound_of protocol_version) Room k x (ap handles.is_used l.slot_is) is_k row h h' (there f.1.1)
+          (subst (Apart (bound_of protocol_version) Room (find_of row k) h) (sym holds) (holds_apart Room (find_of row k) wr h inside))
+          ∙ sym (λ j. put (is_k j) (bound_of protocol_version x (area_at Room (at_own j) h')) Handles)
         where
           is_k : x.handle ≡ k
           is_k = f.1.0 ∙ sym (mine f.0)
 
-          -- at this place
-          at_place : (i : ℕ) → at ≡ i → After (set row i x) h' ≡ put k (bound_of protocol_version x (area_at Room i h')) Handles
-              → After (set row at x) h' ≡ put x.handle (bound_of protocol_version x (area_at Room at h')) Handles
-          at_place i e p = ap (λ (j : ℕ). After (set row j x) h') e ∙ p ∙ sym (λ j. put (is_k j) (bound_of protocol_version x (area_at Room (e j) h')) Handles)
+          at_own : at ≡ find_of row k
+          at_own = l.at_is ∙ seen_place row k (get_or w 0 0) Room is
 
-          spot : (t : Bool) → ltb (find_of row k) (length row) ≡ t → at ≡ cond t (find_of row k) Free
-          spot t p = l.at_is ∙ seen_spot row k (get_or w 0 0) Room is ∙ ap (λ (u : Bool). cond u (find_of row k) Free) p
+      -- a handle is bound anew, once no other has its place
+      rebinds : (freed : RustOption ℕ) (at : ℕ) (x : BoundRecord) → Rebinds Looked row used freed at x
+          → Fit asked own (found_in Looked h) rooms wr (rebind x.handle (bound_of protocol_version x (area_at Room at h')))
+          → After (set (released freed row) at x) h' ≡ put x.handle (bound_of protocol_version x (area_at Room at h')) (without_others x.handle x.place Handles)
+      rebinds freed at x l f =
+          (λ j. After (set (released (l.freed_is j) row) (at_spot j) x) (same j))
+          ∙ put_alone (bound_of protocol_version) Room (λ g y. refl) x.handle x.place x (ap handles.is_used (l.slot_is [])) refl row h clean
+          (ap (λ (n : ℕ). room_at n Handles x.place) is_k ∙ room x.place f.1.1.0 f.0)
+          ∙ sym (λ j. put x.handle (bound_of protocol_version x (area_at Room (at_spot j) (same j))) (without_others x.handle x.place Handles))
+        where
+          is_k : x.handle ≡ k
+          is_k = f.1.0 ∙ sym (mine f.0)
 
-          by_place : (t : Bool) → ltb (find_of row k) (length row) ≡ t → After (set row at x) h' ≡ put x.handle (bound_of protocol_version x (area_at Room at h')) Handles
-          by_place true p =
-              at_place (find_of row k) (spot true p)
-              (put_own (bound_of protocol_version) Room k x (ap handles.is_used l.slot_is) is_k row h h' (ltb-true (find_of row k) (length row) p)
-              (subst (Apart (bound_of protocol_version) Room (find_of row k) h) (sym holds) (holds_apart Room (find_of row k) wr h inside)))
-          by_place false p =
-              at_place (free_of row) (spot false p)
-              (subst (λ (y : List ℕ). After (set row (free_of row) x) y ≡ put k (bound_of protocol_version x (area_at Room (free_of row) y)) Handles) (sym (still (f.1.1.1 not_found)))
-              (put_new (bound_of protocol_version) Room k x (ap handles.is_used l.slot_is) is_k row h (ltb-false (find_of row k) (length row) p) free))
-            where
-              not_found : is_some (found_in Looked h) ≡ false
-              not_found = ap is_some (sought ∙ ap Seek p)
+          same : h' ≡ h
+          same = still f.1.1.1
 
-              free : free_of row < length row
-              free = ltb-true Free (length row) (sym (ap (λ (t : Bool). t || ltb Free (length row)) not_found) ∙ f.1.1.0)
+          at_spot : at ≡ spot_for (alone_at row x.handle x.place) x.handle
+          at_spot = rebound_at x.handle x.place is_k freed at l.freed_is l.at_is
 
-      next_handles : (o : RowAction) → Lands Looked used Room area o → Fit asked own (found_in Looked h) (ltb Free (length row)) wr (action_for protocol_version Room h' o)
+      next_handles : (o : RowAction) → Lands Looked row used Room area o → Fit asked own (found_in Looked h) rooms wr (action_for protocol_version Room h' o)
           → After (row_after o row) h' ≡ act (action_for protocol_version Room h' o) Handles
       next_handles RowAction.Leave l f = (λ i. After row (still f i))
       next_handles RowAction.Clear l f = (λ i. After (cleared_all row) (still f i)) ∙ all_freed (bound_of protocol_version) Room row h
       next_handles (RowAction.Store at x) l f = puts at x l f
+      next_handles (RowAction.Rebind freed at x) l f = rebinds freed at x l f
 
   next_length : (o : RowAction) → length (row_after o row) ≡ length row
   next_length RowAction.Leave = refl
   next_length RowAction.Clear = cleared_length 0 row
   next_length (RowAction.Store at x) = length-set row at x
+  next_length (RowAction.Rebind freed at x) = length-set (released freed row) at x ∙ released_same freed row
 
 -- ---- a call
 
@@ -198,22 +210,21 @@ module _ (s : Settings) (c : Replica) (row : List BoundRecord) (call : Call) (w 
 
   -- a call's core over the row itself
   record OverRow : Type 0 where
-    is : outcome_of protocol_version R s.shape w' b' h' o ≡ core_step L (core_at (counters_of c) s.shape w b) (found_in See h) (ltb (free_of row) (length row)) call
-    lands : Lands See (get_or w' 0 0) R (area_at R (spot_of See) h') o.action
+    is : outcome_of protocol_version R s.shape w' b' h' o ≡ core_step L (core_at (counters_of c) s.shape w b) (found_in See h) (rooms_in See row (handle_by call)) call
+    lands : Lands See row (get_or w' 0 0) R (area_at R (own_place See) h') o.action
     kept : keeps_counters c call ≡ true → o.replica ≡ c
     rules : Rules s.shape w' b'
     more : get_or w 0 0 ≤ get_or w' 0 0
     leaves : Leaves s.shape c (get_or row (find_of row K) handles.free_record).place call w w' b b' o.answer
     holds : h' ≡ holds_after R (find_of row K) (writes_by L (counters_of c) (found_in See h) call) h
 
-  over_row : Stepped s c See call w w' b b' h h' o → OverRow
+  over_row : Stepped s c See row call w w' b b' h h' o → OverRow
   over_row st =
       let room : room_in See h ≡ R = seen_room row K (get_or w 0 0) R seen h in
       record {
         is =
-            subst (λ (r : ℕ). outcome_of protocol_version r s.shape w' b' h' o ≡ core_step (settings_of s r) (core_at (counters_of c) s.shape w b) (found_in See h) (ltb (free_of row) (length row)) call) room
-            (st.is ∙ ap (λ (t : Bool). core_step (settings_of s (room_in See h)) (core_at (counters_of c) s.shape w b) (found_in See h) t call) (seen_free row K (get_or w 0 0) R seen));
-        lands = subst (λ (r : ℕ). Lands See (get_or w' 0 0) r (area_at r (spot_of See) h') o.action) room st.lands;
+            subst (λ (r : ℕ). outcome_of protocol_version r s.shape w' b' h' o ≡ core_step (settings_of s r) (core_at (counters_of c) s.shape w b) (found_in See h) (rooms_in See row (handle_by call)) call) room st.is;
+        lands = subst (λ (r : ℕ). Lands See row (get_or w' 0 0) r (area_at r (own_place See) h') o.action) room st.lands;
         kept = st.kept;
         rules = st.rules;
         more = st.more;
@@ -231,28 +242,43 @@ module _ (s : Settings) (c : Replica) (row : List BoundRecord) (call : Call) (w 
     holds_same : length h' ≡ length h
     holds_same = ap length st.holds ∙ holds_length R (find_of row K) Wr h
 
-    room_same : room_all Row' h' ≡ R
-    room_same = (λ i. room_of (holds_same i) (row_same i))
+    room_kept : room_all Row' h' ≡ R
+    room_kept = (λ i. room_of (holds_same i) (row_same i))
 
-    fits : Fit (asks call) (handle_by call) (found_in See h) (ltb (free_of row) (length row)) Wr (action_of protocol_version R h' o)
+    -- the rules of the row
+    row_rules : (handles.apart_of row && leb (length row) (broken_of row (get_or w 0 0) R)) ≡ true
+    row_rules = and_r (allowed s.shape w b) (handles.apart_of row && leb (length row) (broken_of row (get_or w 0 0) R)) clean
+
+    row_apart : handles.apart_of row ≡ true
+    row_apart = and_l (handles.apart_of row) (leb (length row) (broken_of row (get_or w 0 0) R)) row_rules
+
+    -- there is room for the call's handle where there is for the one looked up
+    room_asked : (p : ℕ) → rooms_in See row (handle_by call) p ≡ true → asks call ≡ true → room_at K T p ≡ true
+    room_asked p e a = sym (rooms_are row K w h See seen p) ∙ ap (λ (n : ℕ). rooms_in See row n p) (sought_own call a) ∙ e
+
+    fits : Fit (asks call) (handle_by call) (found_in See h) (rooms_in See row (handle_by call)) Wr (action_of protocol_version R h' o)
     fits =
-        subst (Fit (asks call) (handle_by call) (found_in See h) (ltb (free_of row) (length row)) Wr) (sym (ap (λ (r : CoreResult). r.action) st.is))
-        (step_fit L (core_at (counters_of c) s.shape w b) (found_in See h) (ltb (free_of row) (length row)) call)
+        subst (Fit (asks call) (handle_by call) (found_in See h) (rooms_in See row (handle_by call)) Wr) (sym (ap (λ (r : CoreResult). r.action) st.is))
+        (step_fit L (core_at (counters_of c) s.shape w b) (found_in See h) (rooms_in See row (handle_by call)) call)
 
     handles_are : row_of (bound_of protocol_version) (room_all Row' h') Row' h' ≡ act (action_of protocol_version R h' o) T
     handles_are =
-        ap (λ (n : ℕ). row_of (bound_of protocol_version) n Row' h') room_same
-        ∙ next_handles row K w h See seen (get_or w' 0 0) (area_at R (spot_of See) h') (handle_by call) (asks call) Wr h' (sought_own call) st.holds (written_inside L (counters_of c) (found_in See h) call) o.action st.lands fits
+        ap (λ (n : ℕ). row_of (bound_of protocol_version) n Row' h') room_kept
+        ∙ next_handles row K w h See seen (get_or w' 0 0) (area_at R (own_place See) h') (handle_by call) (asks call) (rooms_in See row (handle_by call)) Wr h' (sought_own call) st.holds (written_inside L (counters_of c) (found_in See h) call)
+        row_apart room_asked o.action st.lands fits
 
     -- what is found for the handle looked up is what is found for the call's
-    found_own_core : core_step L (core_at (counters_of c) s.shape w b) (found_in See h) (ltb (free_of row) (length row)) call
-        ≡ core_step L (core_at (counters_of c) s.shape w b) (find (handle_by call) T) (has_free T) call
+    found_own_core : core_step L (core_at (counters_of c) s.shape w b) (found_in See h) (rooms_in See row (handle_by call)) call
+        ≡ core_step L (core_at (counters_of c) s.shape w b) (find (handle_by call) T) (room_at (handle_by call) T) call
     found_own_core =
-        found_core row K w h See seen L (core_at (counters_of c) s.shape w b) call ∙ go (asks call) refl
+        go (asks call) refl
       where
-        go : (t : Bool) → asks call ≡ t → core_step L (core_at (counters_of c) s.shape w b) (find K T) (has_free T) call ≡ core_step L (core_at (counters_of c) s.shape w b) (find (handle_by call) T) (has_free T) call
-        go true e = ap (λ (k : ℕ). core_step L (core_at (counters_of c) s.shape w b) (find k T) (has_free T) call) (sought_own call e)
-        go false e = step_any L (core_at (counters_of c) s.shape w b) (find K T) (find (handle_by call) T) (has_free T) call e
+        go : (t : Bool) → asks call ≡ t → core_step L (core_at (counters_of c) s.shape w b) (found_in See h) (rooms_in See row (handle_by call)) call ≡ core_step L (core_at (counters_of c) s.shape w b) (find (handle_by call) T) (room_at (handle_by call) T) call
+        go true e =
+            ap (λ (k : ℕ). core_step L (core_at (counters_of c) s.shape w b) (found_in See h) (rooms_in See row k) call) (sym (sought_own call e))
+            ∙ found_core row K w h See seen L (core_at (counters_of c) s.shape w b) call
+            ∙ ap (λ (k : ℕ). core_step L (core_at (counters_of c) s.shape w b) (find k T) (room_at k T) call) (sought_own call e)
+        go false e = step_any L (core_at (counters_of c) s.shape w b) (found_in See h) (find (handle_by call) T) (rooms_in See row (handle_by call)) (room_at (handle_by call) T) call e
 
     holds_own : h' ≡ holds_after R (find_of row (handle_by call)) (writes_by L (counters_of c) (find (handle_by call) T) call) h
     holds_own = st.holds ∙ ap (λ (x : Option Bound). holds_after R (find_of row K) (writes_by L (counters_of c) x call) h) (found_in_lem row K w h See seen) ∙ go (asks call) refl
@@ -275,8 +301,8 @@ module _ (s : Settings) (c : Replica) (row : List BoundRecord) (call : Call) (w 
     abbrev X : Standby
     X = standby_of s c row w b h
 
-    stepped_is : step L X call ≡ acted T (core_step L (core_at (counters_of c) s.shape w b) (find (handle_by call) T) (has_free T) call)
-    stepped_is = factored L X call ∙ ap (λ (k : ℕ). acted T (core_step L (core_at (counters_of c) s.shape w b) (find k T) (has_free T) call)) (sym (named call))
+    stepped_is : step L X call ≡ acted T (core_step L (core_at (counters_of c) s.shape w b) (find (handle_by call) T) (room_at (handle_by call) T) call)
+    stepped_is = factored L X call ∙ ap (λ (k : ℕ). acted T (core_step L (core_at (counters_of c) s.shape w b) (find k T) (room_at k T) call)) (sym (named call))
 
     -- what the definition leaves
     abbrev Leaving : Row Bound
@@ -284,6 +310,10 @@ module _ (s : Settings) (c : Replica) (row : List BoundRecord) (call : Call) (w 
 
     after_is : Leaving ≡ act (action_of protocol_version R h' o) T
     after_is = ap (λ (r : Result). r.state.handles) stepped_is ∙ ap (λ (r : CoreResult). act r.action T) (sym (st.is ∙ found_own_core))
+
+    -- the handle is the one looked up, where a frame has one
+    is_sought : {x : ℕ} → asks call ≡ true → x ≡ handle_by call → x ≡ K
+    is_sought a e = e ∙ sym (sought_own call a)
 
     -- a record is put
     module _ (at : ℕ) (x : BoundRecord) (e : o.action ≡ RowAction.Store at x) where
@@ -293,23 +323,28 @@ module _ (s : Settings) (c : Replica) (row : List BoundRecord) (call : Call) (w 
       is_puts : action_of protocol_version R h' o ≡ Puts
       is_puts = ap (action_for protocol_version R h') e
 
-      puts_fit : Fit (asks call) (handle_by call) (found_in See h) (ltb (free_of row) (length row)) Wr Puts
-      puts_fit = subst (Fit (asks call) (handle_by call) (found_in See h) (ltb (free_of row) (length row)) Wr) is_puts fits
+      puts_fit : Fit (asks call) (handle_by call) (found_in See h) (rooms_in See row (handle_by call)) Wr Puts
+      puts_fit = subst (Fit (asks call) (handle_by call) (found_in See h) (rooms_in See row (handle_by call)) Wr) is_puts fits
 
-      is_sought : x.handle ≡ K
-      is_sought = puts_fit.1.0 ∙ sym (sought_own call puts_fit.0)
+      is_k : x.handle ≡ K
+      is_k = is_sought puts_fit.0 puts_fit.1.0
 
-      has_room : has_room_lem x.handle T ≡ true
-      has_room = ap (λ (k : ℕ). has_room_lem k T) is_sought ∙ sym (λ j. is_some (found_in_lem row K w h See seen j) || free_in row K w h See seen j) ∙ puts_fit.1.1.0
+      found_k : is_some (find x.handle T) ≡ true
+      found_k = ap (λ (k : ℕ). is_some (find k T)) is_k ∙ sym (ap is_some (found_in_lem row K w h See seen)) ∙ puts_fit.1.1
+
+      has_room_so : has_room x.handle T ≡ true
+      has_room_so = ap (λ (t : Bool). t || has_free T) found_k
 
       found_after : find x.handle Leaving ≡ some (bound_of protocol_version x (area_at R at h'))
-      found_after = ap (find x.handle) (after_is ∙ ap (λ (y : Action). act y T) is_puts) ∙ find_put_same x.handle (bound_of protocol_version x (area_at R at h')) T has_room
+      found_after = ap (find x.handle) (after_is ∙ ap (λ (y : Action). act y T) is_puts) ∙ find_put_same x.handle (bound_of protocol_version x (area_at R at h')) T has_room_so
 
-      landed : Fits See (get_or w' 0 0) R (area_at R (spot_of See) h') at x
-      landed = subst (Lands See (get_or w' 0 0) R (area_at R (spot_of See) h')) e st.lands
+      landed : Fits See (get_or w' 0 0) R (area_at R (own_place See) h') at x
+      landed = subst (Lands See row (get_or w' 0 0) R (area_at R (own_place See) h')) e st.lands
 
       at_spot : at ≡ spot_for row x.handle
-      at_spot = landed.at_is ∙ seen_spot row K (get_or w 0 0) R seen ∙ ap (spot_for row) (sym is_sought)
+      at_spot =
+          landed.at_is ∙ seen_place row K (get_or w 0 0) R seen ∙ ap (find_of row) (sym is_k)
+          ∙ sym (ap (λ (t : Bool). cond t (find_of row x.handle) (free_of row)) (ap (λ (k : ℕ). ltb (find_of row k) (length row)) is_k ∙ lt-ltb (find_of row K) (length row) (there row K w h See seen puts_fit.1.1)))
 
       -- it is the record of what it stands for at its own place
       slot_own : x ≡ record_for x.handle (bound_of protocol_version x (area_at R at h'))
@@ -317,6 +352,37 @@ module _ (s : Settings) (c : Replica) (row : List BoundRecord) (call : Call) (w 
 
       row_put : RowPut (spot_for row x.handle) x.handle (find x.handle Leaving) row (set row at x)
       row_put = subst (λ (y : Option Bound). RowPut (spot_for row x.handle) x.handle y row (set row at x)) (sym found_after) (λ j. set row (at_spot j) (slot_own j))
+
+    -- a handle is bound anew
+    module _ (freed : RustOption ℕ) (at : ℕ) (x : BoundRecord) (e : o.action ≡ RowAction.Rebind freed at x) where
+      abbrev Binds : Action
+      Binds = rebind x.handle (bound_of protocol_version x (area_at R at h'))
+
+      is_binds : action_of protocol_version R h' o ≡ Binds
+      is_binds = ap (action_for protocol_version R h') e
+
+      binds_fit : Fit (asks call) (handle_by call) (found_in See h) (rooms_in See row (handle_by call)) Wr Binds
+      binds_fit = subst (Fit (asks call) (handle_by call) (found_in See h) (rooms_in See row (handle_by call)) Wr) is_binds fits
+
+      bound_k : x.handle ≡ K
+      bound_k = is_sought binds_fit.0 binds_fit.1.0
+
+      room_so : room_at x.handle T x.place ≡ true
+      room_so = ap (λ (k : ℕ). room_at k T x.place) bound_k ∙ room_asked x.place binds_fit.1.1.0 binds_fit.0
+
+      bound_after : find x.handle Leaving ≡ some (bound_of protocol_version x (area_at R at h'))
+      bound_after = ap (find x.handle) (after_is ∙ ap (λ (y : Action). act y T) is_binds) ∙ find_put_same x.handle (bound_of protocol_version x (area_at R at h')) (without_others x.handle x.place T) room_so
+
+      bound_so : Rebinds See row (get_or w' 0 0) freed at x
+      bound_so = subst (Lands See row (get_or w' 0 0) R (area_at R (own_place See) h')) e st.lands
+
+      bound_at : at ≡ spot_for (alone_at row x.handle x.place) x.handle
+      bound_at = rebound_at row K w h See seen x.handle x.place bound_k freed at bound_so.freed_is bound_so.at_is
+
+      row_rebound : RowRebound x.handle (find x.handle Leaving) row (set (released freed row) at x)
+      row_rebound =
+          subst (λ (y : Option Bound). RowRebound x.handle y row (set (released freed row) at x)) (sym bound_after)
+          (λ j. set (released (bound_so.freed_is j) row) (bound_at j) (bound_so.slot_is (area_at R at h') j))
 
     row_done : RowLeaves (kind_of (action_of protocol_version R h' o)) Leaving row Row'
     row_done = go o.action refl
@@ -328,11 +394,12 @@ module _ (s : Settings) (c : Replica) (row : List BoundRecord) (call : Call) (w 
         go RowAction.Leave e = by e refl
         go RowAction.Clear e = by e refl
         go (RowAction.Store at x) e = by e (row_put at x e)
+        go (RowAction.Rebind freed at x) e = by e (row_rebound freed at x e)
 
     row_by_lem : RowLeaves (row_by (counters_of c) call (step L X call).answer) Leaving row Row'
     row_by_lem =
         subst (λ (x : RowChange). RowLeaves x Leaving row Row')
-        (ap (λ (r : CoreResult). kind_of r.action) (st.is ∙ found_own_core) ∙ done_by L (core_at (counters_of c) s.shape w b) (find (handle_by call) T) (has_free T) call
+        (ap (λ (r : CoreResult). kind_of r.action) (st.is ∙ found_own_core) ∙ done_by L (core_at (counters_of c) s.shape w b) (find (handle_by call) T) (room_at (handle_by call) T) call
         ∙ ap (row_by (counters_of c) call) (sym (ap (λ (r : Result). r.answer) stepped_is)))
         row_done
 
@@ -340,14 +407,22 @@ module _ (s : Settings) (c : Replica) (row : List BoundRecord) (call : Call) (w 
     still_row n e f =
         subst (λ (x : RowChange). RowLeaves x Leaving row Row')
         (ap (λ (r : CoreResult). kind_of r.action) (st.is ∙ found_own_core)
-        ∙ ap kind_of (refused_still L (core_at (counters_of c) s.shape w b) (find (handle_by call) T) (has_free T) call n (sym (ap (λ (r : CoreResult). r.answer) (st.is ∙ found_own_core)) ∙ e) f))
+        ∙ ap kind_of (refused_still L (core_at (counters_of c) s.shape w b) (find (handle_by call) T) (room_at (handle_by call) T) call n (sym (ap (λ (r : CoreResult). r.answer) (st.is ∙ found_own_core)) ∙ e) f))
         row_done
+
+    -- the definition keeps the row's rule, and so does the call
+    apart_after : handles.apart_of Row' ≡ true
+    apart_after =
+        rows_apart (bound_of protocol_version) R (λ g y. refl) Row' h'
+        ∙ ap (λ (n : ℕ). apart (row_of (bound_of protocol_version) n Row' h')) (sym room_kept)
+        ∙ ap apart (handles_are ∙ sym after_is)
+        ∙ apart_step L X call (allowed_apart s c row w b h clean)
 
     allowed_after : allowed_all s Row' w' b' h' ≡ true
     allowed_after =
-        (λ i. rules_true s.shape w' b' st.rules i && leb (length Row') (broken_of Row' (get_or w' 0 0) (room_same i)))
+        (λ i. rules_true s.shape w' b' st.rules i && (apart_after i && leb (length Row') (broken_of Row' (get_or w' 0 0) (room_kept i))))
         ∙ of_whole (get_or w' 0 0) R Row'
-        (next_whole row K w h See seen (get_or w' 0 0) (area_at R (spot_of See) h') o.action st.lands st.more (whole_of (get_or w 0 0) R row (and_r (allowed s.shape w b) (leb (length row) (broken_of row (get_or w 0 0) R)) clean)))
+        (next_whole row K w h See seen (get_or w' 0 0) (area_at R (own_place See) h') o.action st.lands st.more (whole_of (get_or w 0 0) R row (and_r (handles.apart_of row) (leb (length row) (broken_of row (get_or w 0 0) R)) row_rules)))
 
     called_steps : CalledSteps s call c o.replica row Row' w w' b b' h h' o.answer
     called_steps =
@@ -369,7 +444,7 @@ module _ (s : Settings) (c : Replica) (row : List BoundRecord) (call : Call) (w 
           holds_length = holds_same;
         }
 
-  pub called : StepIs s c See call w w' b b' h h' o → Called s call c o.replica row Row' w w' b b' h h' o.answer
+  pub called : StepIs s c See row call w w' b b' h h' o → Called s call c o.replica row Row' w w' b b' h h' o.answer
   called p =
       record {
         refuses = λ e. refused (p.refuses (seen_allowed_lem s row K w b h seen ∙ e));

@@ -11,16 +11,16 @@ use Rattle.model_frame.specs.Parse.{is_empty}
 use Rattle.model_frame.specs.Sizes.{sizes}
 use Rattle.model_session.specs.Session.{fits}
 use Rattle.model_standby.specs.Answer.{protocol_version, Given, damaged, intact, given, Answer, refused, accepted, says_diverged}
-use Rattle.model_standby.specs.Row.{is_some}
-use Rattle.model_standby.specs.Store.{is_stored, session_at, or_new}
+use Rattle.model_standby.specs.Store.{place_of, is_stored, session_at, or_new}
 use Rattle.model_standby.specs.State.{Settings, incarnation_of, Bound, Call, on_frame_held, on_frame, flush, disconnected_from, promote, promote_unchecked, at_epoch, none_held}
 use Rattle.model_standby.specs.Standby.{due, follows, raised, max_whole, starts_with_reset}
-use Rattle.model_standby.specs.Core.{Action, leave, store, clear, Core, CoreResult, counting, core_run, core_hello, core_bind, core_checked, core_settle, core_hold, core_part, core_handle, core_batch, core_intact, core_given, core_step}
-use Rattle.standby_step.specs.Calls.{RowChange, keeps, puts, frees, says_too_many, row_by_frame, row_by_given, row_by}
+use Rattle.model_standby.specs.Core.{Action, leave, store, rebind, clear, Core, CoreResult, counting, core_run, core_hello, core_bind, core_checked, core_settle, core_hold, core_part, core_handle, core_batch, core_intact, core_given, core_step}
+use Rattle.standby_step.specs.Calls.{RowChange, keeps, puts, rebinds, frees, says_too_many, row_by_frame, row_by_given, row_by}
 
 abbrev pub kind_of : Action → RowChange
 kind_of leave = keeps
 kind_of (store h b) = puts h
+kind_of (rebind h b) = rebinds h
 kind_of clear = frees
 
 -- the action is what P says of the answer
@@ -68,13 +68,13 @@ module _ (L : Settings) where
       (either (ltb e k.counters.epoch) (so refl)
       (handle_does (counting k (at_epoch e k.counters)) h found n p cs))
 
-  bind_does : (k : Core) (room : Bool) (h e lag : ℕ) (j : Key) → Does (λ a. cond (accepted a) (puts h) keeps) (core_bind L k room h e lag j)
+  bind_does : (k : Core) (room : ℕ → Bool) (h e lag : ℕ) (j : Key) → Does (λ a. cond (accepted a) (rebinds h) keeps) (core_bind L k room h e lag j)
   unfolding core_bind
   bind_does k room h e lag j =
       either (ltb e k.counters.epoch) (so refl)
       (either (ltb L.lag lag) (so refl)
       (either (not (is_stored j k.places || ltb (length k.places) L.S)) (so refl)
-      (either (not room) (so refl) (so refl))))
+      (either (not (room (place_of j k.places))) (so refl) (so refl))))
 
   hello_does : (k : Core) (v e : ℕ) (kinds : List ℕ) → Does (λ a. cond (accepted a && not (ltb e k.counters.epoch)) frees keeps) (core_hello L k v e kinds)
   unfolding core_hello
@@ -88,15 +88,15 @@ module _ (L : Settings) where
   unfolding core_checked
   checked_does k h e i = either (ltb e k.counters.epoch) (so refl) (either (not (eqb i (incarnation_of L))) (so refl) (so refl))
 
-  intact_does : (k : Core) (found : Option Bound) (free : Bool) (f : Frame) → Does (row_by_frame k.counters f) (core_intact L k found free f)
-  intact_does k found free (hello v e node kinds) = hello_does k v e kinds
-  intact_does k found free (welcome e i) = so refl
-  intact_does k found free (bind h e lag j) = bind_does k (is_some found || free) h e lag j
-  intact_does k found free (batch h e n p cs apps) = batch_does k found h e n p cs apps
-  intact_does k found free (ack h n) = so refl
-  intact_does k found free (nack h r) = so refl
-  intact_does k found free (bound h m) = so refl
-  intact_does k found free (checked h e i) = checked_does k h e i
+  intact_does : (k : Core) (found : Option Bound) (room : ℕ → Bool) (f : Frame) → Does (row_by_frame k.counters f) (core_intact L k found room f)
+  intact_does k found room (hello v e node kinds) = hello_does k v e kinds
+  intact_does k found room (welcome e i) = so refl
+  intact_does k found room (bind h e lag j) = bind_does k room h e lag j
+  intact_does k found room (batch h e n p cs apps) = batch_does k found h e n p cs apps
+  intact_does k found room (ack h n) = so refl
+  intact_does k found room (nack h r) = so refl
+  intact_does k found room (bound h m) = so refl
+  intact_does k found room (checked h e i) = checked_does k h e i
 
   -- 10
   promoted_keeps : (k : Core) (f : Frame) → keeps ≡ row_by_frame k.counters f (refused 10)
@@ -109,23 +109,23 @@ module _ (L : Settings) where
   promoted_keeps k (bound h m) = refl
   promoted_keeps k (checked h e i) = refl
 
-  given_does : (k : Core) (found : Option Bound) (free : Bool) (g : Given) → Does (row_by_given k.counters g) (core_given L k found free g)
+  given_does : (k : Core) (found : Option Bound) (room : ℕ → Bool) (g : Given) → Does (row_by_given k.counters g) (core_given L k found room g)
   unfolding core_given
-  given_does k found free (damaged n) = so refl
-  given_does k found free (intact f) = either k.counters.promoted (so (promoted_keeps k f)) (intact_does (core_run (due k.pending f) k) found free f)
+  given_does k found room (damaged n) = so refl
+  given_does k found room (intact f) = either k.counters.promoted (so (promoted_keeps k f)) (intact_does (core_run (due k.pending f) k) found room f)
 
-  call_does : (k : Core) (found : Option Bound) (free : Bool) (c : Call) → Does (row_by k.counters c) (core_step L k found free c)
+  call_does : (k : Core) (found : Option Bound) (room : ℕ → Bool) (c : Call) → Does (row_by k.counters c) (core_step L k found room c)
   unfolding core_step
-  call_does k found free (on_frame_held w) = given_does k found free (given w)
-  call_does k found free (on_frame w) = so (given_does k found free (given w)).does
-  call_does k found free (flush n) = either (not (eqb n k.counters.connections) || k.counters.promoted) (so refl) (so refl)
-  call_does k found free (disconnected_from n) = lost (eqb n k.counters.connections) _ _ refl refl
+  call_does k found room (on_frame_held w) = given_does k found room (given w)
+  call_does k found room (on_frame w) = so (given_does k found room (given w)).does
+  call_does k found room (flush n) = either (not (eqb n k.counters.connections) || k.counters.promoted) (so refl) (so refl)
+  call_does k found room (disconnected_from n) = lost (eqb n k.counters.connections) _ _ refl refl
     where
       lost : (t : Bool) (x y : CoreResult) → x.action ≡ clear → y.action ≡ leave → Does (λ a. cond t frees keeps) (cond t x y)
       lost true x y p q = so (ap kind_of p)
       lost false x y p q = so (ap kind_of q)
-  call_does k found free promote = either k.counters.checked (so refl) (so refl)
-  call_does k found free promote_unchecked = so refl
+  call_does k found room promote = either k.counters.checked (so refl) (so refl)
+  call_does k found room promote_unchecked = so refl
 
-  pub done_by : (k : Core) (found : Option Bound) (free : Bool) (c : Call) → kind_of (core_step L k found free c).action ≡ row_by k.counters c (core_step L k found free c).answer
-  done_by k found free c = (call_does k found free c).does
+  pub done_by : (k : Core) (found : Option Bound) (room : ℕ → Bool) (c : Call) → kind_of (core_step L k found room c).action ≡ row_by k.counters c (core_step L k found room c).answer
+  done_by k found room c = (call_does k found room c).does

@@ -2,10 +2,10 @@
 use mathlib.Core.Path.{◌≡◌, refl, sym, ap, subst, ◌∙◌}
 use mathlib.Core.Bool.{Bool, true, false, cond, not, ◌&&◌, ◌||◌, true≢false}
 use mathlib.Core.List.{List, [], ◌∷◌}
-use Prim.Native.Nat.{ℕ, zero, suc, ◌+◌, ◌≤◌, ◌<◌}
+use Prim.Native.Nat.{ℕ, zero, suc, ◌+◌, ◌≤◌, ◌<◌, min}
 use native.Mathlib.Omega.{arith}
 use lib.Dec.{leb, ltb, eqb}
-use lib.ListN.{length, get_or, set, take, drop}
+use lib.ListN.{length, get_or, set, take, drop, length-set}
 use lib.Seq.{sets, take-set-le, drop-set-lt}
 use borrow.Author.Tests.{leb-true, leb-false, ltb-true, ltb-false, eqb-true, le-leb, lt-leb, lt-ltb, le-ltb}
 use Rattle.model_frame.specs.Bytes.{write}
@@ -14,12 +14,16 @@ use Rattle.std.specs.Prelude as prelude
 use Rattle.standby_row.specs.declared.Bound.{Bound}
 use Rattle.standby_row.specs.declared.lookup.Found.{Found}
 use Rattle.standby_row.specs.declared.lookup.Lookup.{Lookup}
-use Rattle.standby_row.specs.Row.{free_record, is_used, is_of, is_free, breaks_of, zero_or_next, first_of, find_of, free_of, broken_of, cleared_all, place_in, found_at, at_or, record_or_free, own_place, own_record, has_place, SeenOf}
+use Rattle.standby_row.specs.Row.{free_record, is_used, is_of, is_free, breaks_of, is_rival, zero_or_next, first_of, find_of, free_of, broken_of, cleared, cleared_all, released, rival_of, alone_at, spot_for, place_in, found_at, at_or, record_or_free, own_place, own_record, has_place, apart_of, SeenOf}
 use Rattle.store_areas.specs.Areas.{allowed}
+use Rattle.model_standby.specs.Handles.{apart}
+use Rattle.standby_counters.specs.declared.Replica.{Replica}
 use Rattle.standby_state.specs.declared.Settings.{Settings}
 use Rattle.standby_state.specs.Outcomes.{spot_of}
 use Rattle.standby_step.specs.Steps.{room_of, room_in, is_found, seen_allowed}
-use Rattle.standby_step.specs.Calls.{room_all, allowed_all, spot_for}
+use Rattle.standby_part.specs.State.{bound_of}
+use Rattle.standby_handles.proofs.Apart.{rows_apart, first_or, alone_length, find_released, free_released}
+use Rattle.standby_step.specs.Calls.{room_all, standby_of, allowed_all}
 
 zero_less : {n : ℕ} → n < 0 → ⊥
 zero_less h = omega arith
@@ -87,6 +91,15 @@ whole_of used room row e = none_of (λ h. breaks_of h used room) row (leb-true (
 pub of_whole : (used room : ℕ) (row : List Bound) → Whole used room row → leb (length row) (broken_of row used room) ≡ true
 of_whole used room row n = le-leb (length row) (broken_of row used room) (of_none (λ h. breaks_of h used room) row n)
 
+-- a record is freed
+pub whole_released : (used room : ℕ) (row : List Bound) (freed : Option ℕ) → Whole used room row → Whole used room (released freed row)
+whole_released used room row prelude.None n = n
+whole_released used room row (Some i) n = none_set (λ h. breaks_of h used room) row i (cleared (get_or row i free_record)) refl n
+
+pub released_same : (freed : Option ℕ) (row : List Bound) → length (released freed row) ≡ length row
+released_same prelude.None row = refl
+released_same (Some i) row = length-set row i (cleared (get_or row i free_record))
+
 -- with more places in use
 pub whole_more : (used more room : ℕ) (row : List Bound) → used ≤ more → Whole used room row → Whole more room row
 whole_more used more room row le n = none_also (λ h. breaks_of h used room) (λ h. breaks_of h more room) row one n
@@ -115,11 +128,11 @@ whole_cleared used room (h ∷ hs) = (refl, whole_cleared used room hs)
 
 -- ---- what was found
 
-and_l : (a b : Bool) → (a && b) ≡ true → a ≡ true
+pub and_l : (a b : Bool) → (a && b) ≡ true → a ≡ true
 and_l true b e = refl
 and_l false b e = e
 
-and_r : (a b : Bool) → (a && b) ≡ true → b ≡ true
+pub and_r : (a b : Bool) → (a && b) ≡ true → b ≡ true
 and_r true b e = e
 and_r false b e = absurd (true≢false (sym e))
 
@@ -216,23 +229,42 @@ module _ (row : List Bound) (k places room : ℕ) {seen : Lookup} (is : SeenOf r
   pub seen_free : has_place seen ≡ ltb (free_of row) (length row)
   seen_free = ap is_some is.free ∙ is_placed row (free_of row)
 
-  pub seen_spot : spot_of seen ≡ spot_for row k
-  seen_spot = (λ j. at_or (is.own j) (unwrap_or (is.free j) (is.len j))) ∙ ap (at_or (Some_at (ltb (find_of row k) (length row)))) (placed_or row (free_of row) (first_le is_free row)) ∙ go (ltb (find_of row k) (length row))
+  -- the handle's own place, or the first that is free once the record at `freed` is
+  pub seen_spot : (freed : Option ℕ) → spot_of seen freed ≡ cond (ltb (find_of row k) (length row)) (find_of row k) (min (free_of row) (unwrap_or freed (length row)))
+  seen_spot freed =
+      (λ j. at_or (is.own j) (min (unwrap_or (is.free j) (is.len j)) (unwrap_or freed (is.len j))))
+      ∙ ap (λ (n : ℕ). at_or (Some_at (ltb (find_of row k) (length row))) (min n (unwrap_or freed (length row)))) (placed_or row (free_of row) (first_le is_free row))
+      ∙ go (ltb (find_of row k) (length row)) (min (free_of row) (unwrap_or freed (length row)))
     where
-      go : (t : Bool) → at_or (Some_at t) (free_of row) ≡ cond t (find_of row k) (free_of row)
-      go true = refl
-      go false = refl
+      go : (t : Bool) (n : ℕ) → at_or (Some_at t) n ≡ cond t (find_of row k) n
+      go true n = refl
+      go false n = refl
 
   pub seen_room : (h : List ℕ) → room_in seen h ≡ room_all row h
   seen_room h = ap (room_of (length h)) is.len
 
+-- where no other handle has the session place p, the handle k is put at its own place, or the first free one: that is what was found, with the place that was freed
+pub spot_alone : (row : List Bound) (k p : ℕ) → cond (ltb (find_of row k) (length row)) (find_of row k) (min (free_of row) (unwrap_or (rival_of row k p) (length row))) ≡ spot_for (alone_at row k p) k
+spot_alone row k p =
+    ap (λ (n : ℕ). cond (ltb (find_of row k) (length row)) (find_of row k) (min (free_of row) n)) (first_or (λ h. is_rival h k p) row)
+    ∙ sym (λ j. cond (ltb (finds j) (alone_length (bound_of 1) 0 (λ h y. refl) k p row j)) (finds j) (free_released (bound_of 1) 0 (λ h y. refl) k p row j))
+  where
+    finds : find_of (alone_at row k p) k ≡ find_of row k
+    finds = find_released (bound_of 1) 0 (λ h y. refl) k p row
+
+-- where the rules hold, the row that is stood for keeps the definition's rule
+pub allowed_apart : (s : Settings) (c : Replica) (row : List Bound) (w b h : List ℕ) → allowed_all s row w b h ≡ true → apart (standby_of s c row w b h).handles ≡ true
+allowed_apart s c row w b h on =
+    sym (rows_apart (bound_of 1) (room_all row h) (λ g y. refl) row h)
+    ∙ and_l (apart_of row) (leb (length row) (broken_of row (get_or w 0 0) (room_all row h))) (and_r (allowed s.shape w b) (apart_of row && leb (length row) (broken_of row (get_or w 0 0) (room_all row h))) on)
+
 -- the rules by what was found are the rules
 pub seen_allowed_lem : (s : Settings) (row : List Bound) (k : ℕ) (w b h : List ℕ) {seen : Lookup} → SeenOf row k (get_or w 0 0) (room_all row h) seen → seen_allowed s.shape seen w b h ≡ allowed_all s row w b h
 seen_allowed_lem s row k w b h {seen} is =
-    (λ j. allowed s.shape w b && (not (is_some (is.broken j)) && (not (found j) || (ltb (record_is j).place (get_or w 0 0) && leb (record_is j).held_len (room j)))))
-    ∙ ap (λ (x : Bool). allowed s.shape w b && (not x && (not (ltb (find_of row k) (length row)) || (ltb (get_or row (find_of row k) free_record).place (get_or w 0 0) && leb (get_or row (find_of row k) free_record).held_len (room_all row h))))) (is_placed row (broken_of row (get_or w 0 0) (room_all row h)))
-    ∙ ap (λ (x : Bool). allowed s.shape w b && (x && (not (ltb (find_of row k) (length row)) || (ltb (get_or row (find_of row k) free_record).place (get_or w 0 0) && leb (get_or row (find_of row k) free_record).held_len (room_all row h))))) (not_less (broken_of row (get_or w 0 0) (room_all row h)) (length row))
-    ∙ ap (λ (x : Bool). allowed s.shape w b && x) (go (leb (length row) (broken_of row (get_or w 0 0) (room_all row h))) refl)
+    (λ j. allowed s.shape w b && (is.apart j && (not (is_some (is.broken j)) && (not (found j) || (ltb (record_is j).place (get_or w 0 0) && leb (record_is j).held_len (room j))))))
+    ∙ ap (λ (x : Bool). allowed s.shape w b && (apart_of row && (not x && (not (ltb (find_of row k) (length row)) || (ltb (get_or row (find_of row k) free_record).place (get_or w 0 0) && leb (get_or row (find_of row k) free_record).held_len (room_all row h)))))) (is_placed row (broken_of row (get_or w 0 0) (room_all row h)))
+    ∙ ap (λ (x : Bool). allowed s.shape w b && (apart_of row && (x && (not (ltb (find_of row k) (length row)) || (ltb (get_or row (find_of row k) free_record).place (get_or w 0 0) && leb (get_or row (find_of row k) free_record).held_len (room_all row h)))))) (not_less (broken_of row (get_or w 0 0) (room_all row h)) (length row))
+    ∙ ap (λ (x : Bool). allowed s.shape w b && (apart_of row && x)) (go (leb (length row) (broken_of row (get_or w 0 0) (room_all row h))) refl)
   where
     found : is_found seen ≡ ltb (find_of row k) (length row)
     found = seen_found row k (get_or w 0 0) (room_all row h) is

@@ -11,8 +11,7 @@ use Rattle.model_frame.specs.Parse.{is_empty}
 use Rattle.model_frame.specs.Sizes.{sizes}
 use Rattle.model_session.specs.Session.{fits}
 use Rattle.model_standby.specs.Answer.{protocol_version, Given, damaged, intact, given, Answer, reply, refused, done}
-use Rattle.model_standby.specs.Row.{is_some}
-use Rattle.model_standby.specs.Store.{is_stored, session_at, or_new}
+use Rattle.model_standby.specs.Store.{place_of, is_stored, session_at, or_new}
 use Rattle.model_standby.specs.State.{Settings, incarnation_of, Bound, Call, on_frame_held, on_frame, flush, disconnected_from, promote, promote_unchecked, at_epoch, none_held}
 use Rattle.model_standby.specs.Standby.{due, follows, raised, max_whole, starts_with_reset}
 use Rattle.model_standby.specs.Core.{leave, Core, CoreResult, counting, core_run, core_hello, core_bind, core_checked, core_settle, core_hold, core_part, core_handle, core_batch, core_intact, core_given, core_step}
@@ -66,13 +65,13 @@ module _ (L : Settings) where
       (either (ltb e k.counters.epoch) (by_leave refl)
       (handle_still (counting k (at_epoch e k.counters)) h found n p cs))
 
-  bind_still : (k : Core) (room : Bool) (h e lag : ℕ) (j : Key) → Still (core_bind L k room h e lag j)
+  bind_still : (k : Core) (room : ℕ → Bool) (h e lag : ℕ) (j : Key) → Still (core_bind L k room h e lag j)
   unfolding core_bind
   bind_still k room h e lag j =
       either (ltb e k.counters.epoch) (by_leave refl)
       (either (ltb L.lag lag) (by_leave refl)
       (either (not (is_stored j k.places || ltb (length k.places) L.S)) (by_leave refl)
-      (either (not room) (by_leave refl) (by_answer refl))))
+      (either (not (room (place_of j k.places))) (by_leave refl) (by_answer refl))))
 
   hello_still : (k : Core) (v e : ℕ) (kinds : List ℕ) → Still (core_hello L k v e kinds)
   unfolding core_hello
@@ -87,29 +86,29 @@ module _ (L : Settings) where
       either (ltb e k.counters.epoch) (by_leave refl)
       (either (not (eqb i (incarnation_of L))) (by_leave refl) (by_leave refl))
 
-  intact_still : (k : Core) (found : Option Bound) (free : Bool) (f : Frame) → Still (core_intact L k found free f)
-  intact_still k found free (hello v e node kinds) = hello_still k v e kinds
-  intact_still k found free (welcome e i) = by_leave refl
-  intact_still k found free (bind h e lag j) = bind_still k (is_some found || free) h e lag j
-  intact_still k found free (batch h e n p cs apps) = batch_still k found h e n p cs apps
-  intact_still k found free (ack h n) = by_leave refl
-  intact_still k found free (nack h r) = by_leave refl
-  intact_still k found free (bound h m) = by_leave refl
-  intact_still k found free (checked h e i) = checked_still k h e i
+  intact_still : (k : Core) (found : Option Bound) (room : ℕ → Bool) (f : Frame) → Still (core_intact L k found room f)
+  intact_still k found room (hello v e node kinds) = hello_still k v e kinds
+  intact_still k found room (welcome e i) = by_leave refl
+  intact_still k found room (bind h e lag j) = bind_still k room h e lag j
+  intact_still k found room (batch h e n p cs apps) = batch_still k found h e n p cs apps
+  intact_still k found room (ack h n) = by_leave refl
+  intact_still k found room (nack h r) = by_leave refl
+  intact_still k found room (bound h m) = by_leave refl
+  intact_still k found room (checked h e i) = checked_still k h e i
 
-  given_still : (k : Core) (found : Option Bound) (free : Bool) (g : Given) → Still (core_given L k found free g)
+  given_still : (k : Core) (found : Option Bound) (room : ℕ → Bool) (g : Given) → Still (core_given L k found room g)
   unfolding core_given
-  given_still k found free (damaged n) = by_leave refl
-  given_still k found free (intact f) = either k.counters.promoted (by_leave refl) (intact_still (core_run (due k.pending f) k) found free f)
+  given_still k found room (damaged n) = by_leave refl
+  given_still k found room (intact f) = either k.counters.promoted (by_leave refl) (intact_still (core_run (due k.pending f) k) found room f)
 
-  call_still : (k : Core) (found : Option Bound) (free : Bool) (c : Call) → Still (core_step L k found free c)
+  call_still : (k : Core) (found : Option Bound) (room : ℕ → Bool) (c : Call) → Still (core_step L k found room c)
   unfolding core_step
-  call_still k found free (on_frame_held w) = given_still k found free (given w)
-  call_still k found free (on_frame w) = record { still = (given_still k found free (given w)).still }
-  call_still k found free (flush n) = either (not (eqb n k.counters.connections) || k.counters.promoted) (by_leave refl) (by_leave refl)
-  call_still k found free (disconnected_from n) = either (eqb n k.counters.connections) (by_answer refl) (by_leave refl)
-  call_still k found free promote = either k.counters.checked (by_answer refl) (by_leave refl)
-  call_still k found free promote_unchecked = by_answer refl
+  call_still k found room (on_frame_held w) = given_still k found room (given w)
+  call_still k found room (on_frame w) = record { still = (given_still k found room (given w)).still }
+  call_still k found room (flush n) = either (not (eqb n k.counters.connections) || k.counters.promoted) (by_leave refl) (by_leave refl)
+  call_still k found room (disconnected_from n) = either (eqb n k.counters.connections) (by_answer refl) (by_leave refl)
+  call_still k found room promote = either k.counters.checked (by_answer refl) (by_leave refl)
+  call_still k found room promote_unchecked = by_answer refl
 
-  pub refused_still : (k : Core) (found : Option Bound) (free : Bool) (c : Call) (n : ℕ) → (core_step L k found free c).answer ≡ refused n → eqb n 17 ≡ false → (core_step L k found free c).action ≡ leave
-  refused_still k found free c = (call_still k found free c).still
+  pub refused_still : (k : Core) (found : Option Bound) (room : ℕ → Bool) (c : Call) (n : ℕ) → (core_step L k found room c).answer ≡ refused n → eqb n 17 ≡ false → (core_step L k found room c).action ≡ leave
+  refused_still k found room c = (call_still k found room c).still

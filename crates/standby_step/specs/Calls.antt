@@ -5,7 +5,7 @@ use Rattle.model_frame.specs.Refusal
 use Rattle.model_frame.specs.Bytes.{le_at}
 use Rattle.model_frame.specs.Frame.{Frame, hello, welcome, bind, batch, ack, nack, bound, checked}
 use Rattle.standby_row.specs.declared.Bound.{Bound}
-use Rattle.standby_row.specs.Row.{free_record, find_of, free_of, broken_of, cleared_all}
+use Rattle.standby_row.specs.Row.{free_record, find_of, broken_of, apart_of, alone_at, spot_for, cleared_all}
 use Rattle.standby_handles.specs.Rows.{row_of}
 use Rattle.store_areas.specs.StoreWord
 use Rattle.store_areas.specs.Areas.{allowed, places_of}
@@ -34,9 +34,9 @@ abbrev pub standby_of : Settings → Replica → List Bound → List ℕ → Lis
 standby_of s c row w b h =
     record { counters = counters_of c; places = places_of s.shape w b; handles = row_of (bound_of protocol_version) (room_all row h) row h; pending = pending_of w }
 
--- the rules: the store's, and no used record names a place that isn't in use or holds more than its area has
+-- the rules: the store's; no two used records have one handle, and no two name one place; none names a place that isn't in use or holds more than its area has
 abbrev pub allowed_all : Settings → List Bound → List ℕ → List ℕ → List ℕ → Bool
-allowed_all s row w b h = allowed s.shape w b && leb (length row) (broken_of row (get_or w StoreWord.used 0) (room_all row h))
+allowed_all s row w b h = allowed s.shape w b && (apart_of row && leb (length row) (broken_of row (get_or w StoreWord.used 0) (room_all row h)))
 
 -- the four bytes where a Bind and a Batch have their handle
 abbrev pub handle_at : List ℕ → ℕ
@@ -53,14 +53,12 @@ sought_by promote_unchecked = 0
 
 -- ---- the row, record for record
 
--- the place for a handle: its own, or the first free one
-abbrev pub spot_for : List Bound → ℕ → ℕ
-spot_for row k = cond (ltb (find_of row k) (length row)) (find_of row k) (free_of row)
-
--- what a call does to the row: nothing; the record of the handle h is put; or every record is freed and keeps its other fields
+-- what a call does to the row: nothing; the record of the handle h is put; the same, once no other handle has its place; or every record is freed
+-- and keeps its other fields
 pub data RowChange : Type 0 where
   keeps : RowChange
   puts : ℕ → RowChange
+  rebinds : ℕ → RowChange
   frees : RowChange
 
 -- 17
@@ -70,11 +68,11 @@ says_too_many (refused n) = eqb n Refusal.too_many_bytes
 says_too_many done = false
 
 -- a frame, by the counters before it and its answer: an accepted Hello frees all (one of a lower epoch is only told the standby's);
--- an accepted Bind, and a Batch that is acknowledged, Diverged or refused with 17, puts its handle's record; all else nothing
+-- an accepted Bind binds its handle anew; a Batch that is acknowledged, Diverged or refused with 17 puts its handle's record; all else nothing
 abbrev pub row_by_frame : Counters → Frame → the-answer.Answer → RowChange
 row_by_frame c (hello v e node kinds) a = cond (accepted a && not (ltb e c.epoch)) frees keeps
 row_by_frame c (welcome e i) a = keeps
-row_by_frame c (bind h e lag k) a = cond (accepted a) (puts h) keeps
+row_by_frame c (bind h e lag k) a = cond (accepted a) (rebinds h) keeps
 row_by_frame c (batch h e n part cs apps) a = cond (accepted a || (says_diverged a || says_too_many a)) (puts h) keeps
 row_by_frame c (ack h n) a = keeps
 row_by_frame c (nack h r) a = keeps
@@ -99,10 +97,16 @@ abbrev pub RowPut : ℕ → ℕ → Option state.Bound → List Bound → List B
 RowPut i h none row row' = ⊥
 RowPut i h (some x) row row' = row' ≡ set row i (record_for h x)
 
+-- no other handle has its session's place then
+abbrev pub RowRebound : ℕ → Option state.Bound → List Bound → List Bound → Type 0
+RowRebound h none row row' = ⊥
+RowRebound h (some x) row row' = RowPut (spot_for (alone_at row h x.place) h) h (some x) (alone_at row h x.place) row'
+
 -- with the handles that the definition leaves
 abbrev pub RowLeaves : RowChange → Row state.Bound → List Bound → List Bound → Type 0
 RowLeaves keeps t row row' = row' ≡ row
 RowLeaves (puts h) t row row' = RowPut (spot_for row h) h (find h t) row row'
+RowLeaves (rebinds h) t row row' = RowRebound h (find h t) row row'
 RowLeaves frees t row row' = row' ≡ cleared_all row
 
 -- the definition's step, and what stays as it was

@@ -6,4 +6,4 @@ use Rattle.standby_state.specs.declared.Outcome.{Outcome}
 use Rattle.standby_step.specs.Steps.{StepIs}
 
 abbrev pub StepOver : Standing → Call → Areas → Areas → Outcome → Type 0
-StepOver s call a a' r = StepIs s.settings s.counters s.lookup call a.words.now a'.words.now a.bytes.now a'.bytes.now a.holds.now a'.holds.now r
+StepOver s call a a' r = StepIs s.settings s.counters s.lookup a.row.now call a.words.now a'.words.now a.bytes.now a'.bytes.now a.holds.now a'.holds.now r

@@ -5,8 +5,9 @@ use Rattle.base_flags.specs.Flag.{is_set}
 use Rattle.model_frame.specs.Refusal
 use Rattle.model_frame.specs.Bytes.{write}
 use Rattle.model_frame.specs.Frame.{hello, welcome, bind, batch, ack, nack, bound, checked}
+use Rattle.standby_row.specs.declared.Bound.{Bound as BoundRecord}
 use Rattle.standby_row.specs.declared.lookup.Lookup.{Lookup}
-use Rattle.standby_row.specs.Row.{own_place, own_record, has_place}
+use Rattle.standby_row.specs.Row.{rival_of, own_place, own_record}
 use Rattle.store_place.specs.Only.{Only}
 use Rattle.store_areas.specs.StoreWord
 use Rattle.store_areas.specs.declared.Shape.{Shape}
@@ -29,7 +30,7 @@ use Rattle.standby_state.specs.declared.Answer.{Answer}
 use Rattle.standby_state.specs.declared.Outcome.{Outcome}
 use Rattle.standby_state.specs.Answers.{answer_of, is_refused}
 use Rattle.standby_state.specs.Exact.{Exact}
-use Rattle.standby_state.specs.Outcomes.{counters_of, settings_of, leaving, spot_of, area_at, outcome_of, Lands}
+use Rattle.standby_state.specs.Outcomes.{counters_of, settings_of, room_for, leaving, area_at, outcome_of, Lands}
 
 -- ---- hold areas: the bytes are divided evenly among the row's places
 
@@ -48,12 +49,17 @@ is_found seen = is_some seen.own
 abbrev pub found_in : Lookup → List ℕ → Option Bound
 found_in seen h = found_of protocol_version (is_found seen) (own_record seen) (area_at (room_in seen h) (own_place seen) h)
 
--- the rules: the store's, no broken record in the row, and the record found is none
+-- at which session places the row has room for the handle k, once no other handle has the place
+abbrev pub rooms_in : Lookup → List BoundRecord → ℕ → ℕ → Bool
+rooms_in seen row k p = room_for seen (rival_of row k p)
+
+-- the rules: the store's, the row's records apart and none broken, and the record found is none
 abbrev pub seen_allowed : Shape → Lookup → List ℕ → List ℕ → List ℕ → Bool
 seen_allowed s seen w b h =
     allowed s w b
+    && (seen.apart
     && (not (is_some seen.broken)
-    && (not (is_found seen) || (ltb (own_record seen).place (get_or w StoreWord.used 0) && leb (own_record seen).held_len (room_in seen h))))
+    && (not (is_found seen) || (ltb (own_record seen).place (get_or w StoreWord.used 0) && leb (own_record seen).held_len (room_in seen h)))))
 
 -- ---- what stays as it was
 
@@ -156,9 +162,9 @@ keeps_counters c promote_unchecked = false
 
 -- ---- a call's core by value, as it is proved: no entry point's promise cites what follows
 
-pub record Stepped (s : Settings) (c : Replica) (seen : Lookup) (call : Call) (w w' b b' h h' : List ℕ) (r : Outcome) : Type 0 where
-  pub is : outcome_of protocol_version (room_in seen h) s.shape w' b' h' r ≡ core_step (settings_of s (room_in seen h)) (core_at (counters_of c) s.shape w b) (found_in seen h) (has_place seen) call
-  pub lands : Lands seen (get_or w' StoreWord.used 0) (room_in seen h) (area_at (room_in seen h) (spot_of seen) h') r.action
+pub record Stepped (s : Settings) (c : Replica) (seen : Lookup) (row : List BoundRecord) (call : Call) (w w' b b' h h' : List ℕ) (r : Outcome) : Type 0 where
+  pub is : outcome_of protocol_version (room_in seen h) s.shape w' b' h' r ≡ core_step (settings_of s (room_in seen h)) (core_at (counters_of c) s.shape w b) (found_in seen h) (rooms_in seen row (handle_by call)) call
+  pub lands : Lands seen row (get_or w' StoreWord.used 0) (room_in seen h) (area_at (room_in seen h) (own_place seen) h') r.action
   pub kept : keeps_counters c call ≡ true → r.replica ≡ c
   pub rules : Rules s.shape w' b'
   pub more : get_or w StoreWord.used 0 ≤ get_or w' StoreWord.used 0
@@ -166,7 +172,7 @@ pub record Stepped (s : Settings) (c : Replica) (seen : Lookup) (call : Call) (w
   pub holds : h' ≡ holds_after (room_in seen h) (own_place seen) (writes_by (settings_of s (room_in seen h)) (counters_of c) (found_in seen h) call) h
 
 -- 25 where the rules are broken; else the step, where the record found is of the call's handle, if the call has one
-pub record StepIs (s : Settings) (c : Replica) (seen : Lookup) (call : Call) (w w' b b' h h' : List ℕ) (r : Outcome) : Type 0 where
+pub record StepIs (s : Settings) (c : Replica) (seen : Lookup) (row : List BoundRecord) (call : Call) (w w' b b' h h' : List ℕ) (r : Outcome) : Type 0 where
   pub refuses : seen_allowed s.shape seen w b h ≡ false → (r ≡ leaving c (is_refused Refusal.rules_broken)) × ((w' ≡ w) × ((b' ≡ b) × (h' ≡ h)))
-  pub steps : seen_allowed s.shape seen w b h ≡ true → (is_found seen ≡ true → asks call ≡ true → (own_record seen).handle ≡ handle_by call) → Stepped s c seen call w w' b b' h h' r
+  pub steps : seen_allowed s.shape seen w b h ≡ true → (is_found seen ≡ true → asks call ≡ true → (own_record seen).handle ≡ handle_by call) → Stepped s c seen row call w w' b b' h h' r
   pub exact : Exact b' r.answer

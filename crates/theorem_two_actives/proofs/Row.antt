@@ -6,12 +6,12 @@ use mathlib.Core.Bool.{Bool, true, false, cond, not, ◌&&◌, ◌||◌, true≢
 use lib.Dec.{T, ltb}
 use Rattle.model_frame.specs.Frame.{Frame, hello, welcome, bind, batch, ack, nack, bound, checked}
 use Rattle.model_session.proofs.Basics.{T→true, cond-true}
-use Rattle.model_standby.specs.Answer.{Given, damaged, intact, given, lower, Answer, reply, refused, done, accepted, says_diverged}
+use Rattle.model_standby.specs.Answer.{Given, damaged, intact, given, lower, Answer, reply, refused, done, accepted}
 use Rattle.model_standby.specs.State.{Settings, Counters, Standby, Call, Result}
 use Rattle.model_standby.specs.Standby.{on_given, step}
 use Rattle.model_standby.specs.Demand.{Hands, by_held, by_frame}
 use Rattle.model_two_actives.proofs.Lower.{is_hello, Spares, lower_answer, lower_spares}
-use Rattle.standby_step.specs.Calls.{RowChange, keeps, puts, frees, says_too_many, row_by_frame, row_by_given, row_by}
+use Rattle.standby_step.specs.Calls.{keeps, puts, rebinds, frees, says_too_many, row_by_frame, row_by_given, row_by}
 
 not_so : (b : Bool) → not b ≡ true → b ≡ false
 not_so true e = absurd (true≢false (sym e))
@@ -29,7 +29,7 @@ few_bytes done p = refl
 row_lower : (k : Counters) (f : Frame) (a : Answer) → T (lower k.epoch f) → (is_hello f || not (accepted a)) ≡ true → Spares a → row_by_frame k f a ≡ keeps
 row_lower k (hello v e node kinds) a t q p = ap (λ (b : Bool). cond b frees keeps) (ap (λ (b : Bool). accepted a && not b) (T→true (ltb e k.epoch) t) ∙ and_false (accepted a))
 row_lower k (welcome e i) a t q p = refl
-row_lower k (bind h e lag j) a t q p = ap (λ (b : Bool). cond b (puts h) keeps) (not_so (accepted a) q)
+row_lower k (bind h e lag j) a t q p = ap (λ (b : Bool). cond b (rebinds h) keeps) (not_so (accepted a) q)
 row_lower k (batch h e n part cs apps) a t q p = (λ i. cond (not_so (accepted a) q i || (p.no_diverged i || few_bytes a p i)) (puts h) keeps)
 row_lower k (ack h n) a t q p = refl
 row_lower k (nack h r) a t q p = refl

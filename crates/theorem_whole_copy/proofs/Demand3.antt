@@ -23,6 +23,7 @@ use Rattle.std.specs.Prelude.{None, Ok}
 use Rattle.active.specs.Whole.{SendsWhole, Sofar, SentWhole}
 use Rattle.standby_state.specs.declared.Settings.{Settings}
 use Rattle.standby_step.specs.Calls.{room_all}
+use Rattle.standby_step.proofs.Rows.{allowed_apart}
 use Rattle.theorem_whole_copy.specs.Demand.{Lent, stands_for, settings, Runs, First, Start, frames_of_a, Claim}
 use Rattle.theorem_whole_copy.proofs.Model.{runs, modelled}
 
@@ -46,6 +47,7 @@ module _ (s : Settings) (limit : ℕ) (A B : Session) (k : OwnKey) (h : ℕ) (b 
     M_limit = rules.room.messages_limit;
     A_held = start.A_held;
     unpromoted = start.unpromoted;
+    row_apart = allowed_apart s x.counters x.row x.words x.bytes x.holds start.allowed;
     bound_so = start.bound_so;
     is_B = start.is_B;
     its_key = start.its_key;
@@ -96,3 +98,8 @@ module _ (s : Settings) (limit : ℕ) (A B : Session) (k : OwnKey) (h : ℕ) (b 
     sent_whole {out = out} {out' = out'} f gs e said r =
         ap (λ (u : Standby). session_at u.places b.place) (sym (reaches r (f ∷ gs) (sent.then_all out out' said ∙ ap (map encode) (sym e))))
         ∙ theorem.sent_whole L limit A B k h b st model_start f gs e
+
+    pub all_sent : {z : Lent} {out out' : List ℕ} → SendsWhole limit shape w a t out out' (Ok None) → Runs s x (map on_frame_held fs) z → session_at (places_of s.shape z.words z.bytes) b.place ≡ some A
+    all_sent {out = out} {out' = out'} said r =
+        ap (λ (u : Standby). session_at u.places b.place) (sym (reaches r (frames_of_a s limit A h b x) (sent.then_all out out' said)))
+        ∙ theorem.all_sent L limit A B k h b st model_start

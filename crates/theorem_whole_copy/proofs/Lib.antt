@@ -1,5 +1,6 @@
 pub mod Entries
 pub mod Model
 pub mod Demand3
+pub mod OneHandle
 pub mod Instance
 pub mod Lists

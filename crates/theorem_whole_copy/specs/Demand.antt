@@ -17,7 +17,7 @@ use Rattle.model_standby.specs.Row.{find}
 use Rattle.model_standby.specs.Store.{session_at}
 use Rattle.model_standby.specs.State.{Bound, Standby, Call, flush, disconnected_from}
 use Rattle.model_standby.specs.State as state
-use Rattle.model_standby.specs.PlainCopy.{OwnKey, own_key, copy_at, copy_run_lem}
+use Rattle.model_standby.specs.PlainCopy.{OwnKey, own_key, copy_at, copy_run}
 use Rattle.model_standby.specs.Demand.{Hands, Aside, no_promotions}
 use Rattle.standby_counters.specs.declared.Replica.{Replica}
 use Rattle.standby_state.specs.declared.Settings.{Settings}
@@ -110,6 +110,6 @@ module _ (s : Settings) where
     pub still_allowed : Allowed z
     -- "after every further list the session is exactly that of the plain copy, fed both lists"
     pub is_the_copy : (more : List Call) (y : Lent) → T (no_promotions more) → Runs z more y
-        → session_at (places_of s.shape y.words y.bytes) b.place ≡ some (copy_run_lem (settings x) k (copy_at B (stands_for x)) (stands_for x) (cs ++ more)).session
+        → session_at (places_of s.shape y.words y.bytes) b.place ≡ some (copy_run (settings x) k (copy_at B (stands_for x)) (stands_for x) (cs ++ more)).session
     -- which after the first list was A or B likewise
-    pub copy_is_A_or_B : (copy_run_lem (settings x) k (copy_at B (stands_for x)) (stands_for x) cs).session ≡ cond (took_last d) A B
+    pub copy_is_A_or_B : (copy_run (settings x) k (copy_at B (stands_for x)) (stands_for x) cs).session ≡ cond (took_last d) A B

@@ -99,19 +99,28 @@ fn by_us(us: &mut Ours, frame: &[u8]) {
     assert!(outcome(us.ask(frame)).is_ok(), "a frame is taken");
 }
 
-/// Two standbys with their sessions bound to handles 0, 1 ..., and the last number of each.
+/// Two standbys with their sessions bound to handles.
 struct Pair {
     us: Ours,
     rust: Rust,
     out: Vec<u8>,
+    handles: Vec<u32>,
 }
 
 impl Pair {
+    /// Handles 0, 1 ...
     fn new(setting: &Setting) -> Self {
+        Self::bound(setting, |number| number as u32)
+    }
+
+    fn bound(setting: &Setting, handle: impl Fn(u64) -> u32) -> Self {
         let us = Ours::make(setting).expect("made");
         let rust = Rust::make(setting).expect("made");
-        let mut pair = Self { us, rust, out: Vec::new() };
-        (0..setting.sessions as usize).for_each(|number| pair.both(&wire::bind(number as u32, 0, 0, &key(number))));
+        let handles: Vec<u32> = (0..setting.sessions).map(handle).collect();
+        let binds: Vec<_> =
+            (0..).zip(&handles).map(|(number, handle)| wire::bind(*handle, 0, 0, &key(number))).collect();
+        let mut pair = Self { us, rust, out: Vec::new(), handles };
+        binds.iter().for_each(|bind| pair.both(bind));
         pair
     }
 
@@ -125,15 +134,15 @@ impl Pair {
     fn commits(mut self, name: String, sessions: u32, length: usize, before: u64, turns: u64) -> Row {
         let (mut ours, mut theirs) = (Commit::new(length), Commit::new(length));
         for number in 1..=before {
-            (0..sessions).for_each(|handle| self.both(ours.of(handle, number)));
+            (0..sessions as usize).for_each(|at| self.both(ours.of(self.handles[at], number)));
         }
+        let Self { mut us, mut rust, mut out, handles } = self;
         let next = |count: &mut u64| {
-            let (handle, number) = ((*count % u64::from(sessions)) as u32, before + 1 + *count / u64::from(sessions));
+            let (at, number) = (*count % u64::from(sessions), before + 1 + *count / u64::from(sessions));
             *count += 1;
-            (handle, number)
+            (handles[at as usize], number)
         };
         let (mut given, mut taken) = (0, 0);
-        let Self { mut us, mut rust, mut out } = self;
         timed(
             name,
             turns,
@@ -193,8 +202,25 @@ fn binding() -> Row {
     (1..=1024).for_each(|number| pair.both(commit.of(0, number)));
     let bind = wire::bind(0, 0, 64, &key(0));
     pair.both(&bind);
-    let Pair { mut us, mut rust, mut out } = pair;
+    let Pair { mut us, mut rust, mut out, .. } = pair;
     timed("Bind with lag 64, messages of 200", 10_000, || by_us(&mut us, &bind), || by_rust(&mut rust, &bind, &mut out))
+}
+
+/// Binds of one session among 50 that are bound: of its own handle, or of two handles that take it from each other. The Rust
+/// keeps both.
+fn rebinding(name: &str, handles: [u32; 2]) -> Row {
+    let mut pair = Pair::new(&setting(50, 4096, 64, 64));
+    let mut commit = Commit::new(200);
+    (0..50).for_each(|handle| pair.both(commit.of(handle, 1)));
+    let binds = handles.map(|handle| wire::bind(handle, 0, 0, &key(25)));
+    binds.iter().for_each(|bind| pair.both(bind));
+    let Pair { mut us, mut rust, mut out, .. } = pair;
+    let (mut given, mut taken) = (0, 0);
+    let next = |count: &mut usize| {
+        *count += 1;
+        &binds[*count % 2]
+    };
+    timed(name, 100_000, || by_us(&mut us, next(&mut given)), || by_rust(&mut rust, next(&mut taken), &mut out))
 }
 
 /// A full session of messages of these lengths in turn, sent whole and taken by a standby: both, the sending, the taking;
@@ -210,7 +236,7 @@ fn sending(lengths: std::ops::RangeInclusive<usize>) -> ([Row; 3], usize) {
     let Pair { mut us, rust: mut theirs, .. } = pair;
     let of =
         if turns == 1 { format!("{}", lengths.start()) } else { format!("{} to {}", lengths.start(), lengths.end()) };
-    let Pair { us: mut our_standby, rust: mut their_standby, mut out } = Pair::new(&setting);
+    let Pair { us: mut our_standby, rust: mut their_standby, mut out, .. } = Pair::new(&setting);
     let [begin, sender, target, _] = key(0).map(|text| String::from_utf8(text).expect("ASCII"));
     let id = SessionId::from_key(begin, sender, target, "").expect("a key");
     let bind = wire::bind(0, 0, 0, &key(0));
@@ -301,14 +327,23 @@ fn calls() {
     print(&decoding("decode of a 200-byte Commit", small_commit()));
     print(&decoding("decode of a Bind", wire::bind(0, 0, 64, &key(0))));
     print(&encoding());
-    for (c, m) in [(4096, 64), (1 << 20, 1024)] {
-        for sessions in [1, 50] {
-            let pair = Pair::new(&setting(sessions, c, m, 0));
-            let name = format!("on_frame: Commit of one message of 200, C = {c}, M = {m}, sessions bound {sessions}");
-            print(&pair.commits(name, sessions as u32, 200, m + 10, 100_000));
-        }
+    for (c, m, sessions) in
+        [(4096, 64, 1), (4096, 64, 4), (4096, 64, 50), (4096, 64, 256), (1 << 20, 1024, 1), (1 << 20, 1024, 50)]
+    {
+        let pair = Pair::new(&setting(sessions, c, m, 0));
+        let name = format!("on_frame: Commit of one message of 200, C = {c}, M = {m}, sessions bound {sessions}");
+        print(&pair.commits(name, sessions as u32, 200, m + 10, 100_000));
+    }
+    // An active that counts its handles on, as the Rust's does, comes to numbers that share their low 8 bits.
+    let counted = |number: u64| (number * number * 37 + number) as u32;
+    for sessions in [4, 50] {
+        let pair = Pair::bound(&setting(sessions, 4096, 64, 0), counted);
+        let name = format!("the same, C = 4096, M = 64, sessions bound {sessions}, handles that share low bits");
+        print(&pair.commits(name, sessions as u32, 200, 74, 100_000));
     }
     print(&binding());
+    print(&rebinding("Bind of its own handle again, sessions bound 50", [25, 25]));
+    print(&rebinding("Bind of another handle, which takes the session, sessions bound 50", [1000, 25]));
     for messages in [64, 65_536] {
         let pair = Pair::new(&setting(1, 33_554_432, messages, 0));
         let name = format!("on_frame: Commit of one message of 300, C = 32 MiB, M = {messages}, full");

@@ -10,7 +10,7 @@ use crate::count::Counts;
 use crate::differences;
 use crate::digits;
 use crate::frames::{Reading, read_by_rust};
-use crate::generate::{Player, Random, cycle, key, reading, resend, setting};
+use crate::generate::{Player, Random, any_frame, cycle, key, reading, resend, setting, wide_setting};
 use crate::imports;
 #[cfg(calls)]
 use crate::ours::Ours;
@@ -117,19 +117,27 @@ impl Round {
 
     /// A script made as the Rust runs it.
     fn script(&mut self, random: &mut Random) -> Result<(), Difference> {
-        let setting = setting(random);
+        let setting = if random.below(4000) == 0 { wide_setting() } else { setting(random) };
+        self.script_of(random, &setting)
+    }
+
+    fn script_of(&mut self, random: &mut Random, setting: &Setting) -> Result<(), Difference> {
         let length = match setting {
+            _ if setting.sessions > 256 => 380,
             _ if setting.sessions > 60 => 160,
             _ if setting.bytes > 1 << 20 => 25,
             _ => 20 + random.below(100),
         };
-        let mut player = Player::new(Random(random.next()), &setting);
-        let mut rust = Rust::make(&setting).expect("within the limits");
-        let mut run = Run::new(&setting)?;
+        let mut player = Player::new(Random(random.next()), setting);
+        let mut rust = Rust::make(setting).expect("within the limits");
+        let mut run = Run::new(setting)?;
         let mut requests = Random(random.next());
         for _ in 0..length {
             let call = player.call(&mut rust);
             self.call(&mut run, &mut rust, &call)?;
+            if setting.bytes <= 1 << 20 && requests.percent(5) {
+                self.broken_row(&mut run, &mut requests, &call)?;
+            }
             if setting.bytes <= 1 << 20 && requests.percent(10) {
                 let call = resend(&mut requests, &mut rust);
                 self.call(&mut run, &mut rust, &call)?;
@@ -140,6 +148,18 @@ impl Round {
         }
         run.call(&mut rust, &Call::State)?;
         self.scripts += 1;
+        Ok(())
+    }
+
+    /// A row that breaks the rules, with the frame of the last call or any.
+    fn broken_row(&mut self, run: &mut Run, random: &mut Random, call: &Call) -> Result<(), Difference> {
+        let frame = match call {
+            Call::Held(frame) | Call::Frame(frame) if random.percent(70) => frame.clone(),
+            _ => any_frame(random),
+        };
+        if run.broken_row(random, &frame)? {
+            self.counts.broken_row();
+        }
         Ok(())
     }
 
@@ -163,8 +183,15 @@ impl Round {
     }
 
     fn call(&mut self, run: &mut Run, rust: &mut Rust, call: &Call) -> Result<(), Difference> {
+        rust.taken = None;
         let answered = run.call(rust, call)?;
         self.counts.call(call, &answered);
+        if let Some(taken) = &rust.taken {
+            self.counts.taken(taken);
+        }
+        if rust.replica.pending().len() == 64 {
+            self.counts.full_of_pending();
+        }
         self.calls += 1;
         Ok(())
     }
@@ -198,11 +225,14 @@ fn made_by_us(_: &Setting, _: bool) -> Result<(), Difference> {
     Ok(())
 }
 
-/// The days of a cycle, which always have their time; then all inputs, in turn, until the time is over.
+/// The days of a cycle, a hundred scripts and one over many sessions, which always have their time; then all inputs, in
+/// turn, until the time is over.
 fn inputs(round: &mut Round, seconds: u64, seed: u64) -> Result<(), Difference> {
-    round.days()?;
-    let end = Instant::now() + Duration::from_secs(seconds);
     let mut random = Random(seed);
+    round.days()?;
+    (0..100).try_for_each(|_| round.script(&mut random))?;
+    round.script_of(&mut random, &wide_setting())?;
+    let end = Instant::now() + Duration::from_secs(seconds);
     round.making()?;
     (0..=2).try_for_each(|len| round.bodies(len, end))?;
     if seconds >= 60 {
@@ -210,7 +240,7 @@ fn inputs(round: &mut Round, seconds: u64, seed: u64) -> Result<(), Difference> 
     }
     while Instant::now() < end {
         (0..2000).try_for_each(|_| round.frame(&reading(&mut random)))?;
-        round.around(&crate::generate::any_frame(&mut random))?;
+        round.around(&any_frame(&mut random))?;
         (0..100).try_for_each(|_| round.script(&mut random))?;
     }
     Ok(())

@@ -3,6 +3,7 @@
 use std::collections::BTreeMap;
 
 use crate::call::Call;
+use crate::differences::Taken;
 use crate::frames::Reading;
 
 #[derive(Default)]
@@ -93,17 +94,39 @@ impl Counts {
         self.add(asked, answered);
     }
 
+    /// A Bind that took a session from another handle.
+    pub fn taken(&mut self, taken: &Taken) {
+        let mut add = |answered: &str| self.add("session taken from another handle".into(), answered.into());
+        add("taken");
+        [(taken.full, "in a full row"), (taken.bound, "by a bound handle"), (taken.held, "with held changes")]
+            .into_iter()
+            .filter(|(is, _)| *is)
+            .for_each(|(_, answered)| add(answered));
+    }
+
+    /// As many commits pend as may.
+    pub fn full_of_pending(&mut self) {
+        self.add("commits that pend".into(), "64 pend".into());
+    }
+
+    /// A row that breaks the rules, handed to each of the six calls.
+    pub fn broken_row(&mut self) {
+        self.add("a row that breaks its rules".into(), "R 25".into());
+    }
+
     pub fn made(&mut self, made: bool) {
         self.add("make".into(), if made { "ok" } else { "R 25" }.into());
     }
 
     /// Which of the answers that these inputs can show were never given.
     pub fn not_reached(&self) -> Vec<String> {
-        let names = "frame more Welcome Bound Ack done drained listed";
+        let names = "frame more Welcome Bound Ack done drained listed taken";
+        let taken = ["in a full row", "by a bound handle", "with held changes", "64 pend"].map(String::from);
         let nacks = ["StaleEpoch", "Diverged", "Lag", "Restarted"].map(|reason| format!("Nack {reason}"));
         let numbers = (1..=26).filter(|number| *number != 8).chain([28, 29, 30, 35, 36]).map(|number| format!("R {number}"));
         let given = |name: &String| self.0.values().any(|answers| answers.contains_key(name));
-        names.split(' ').map(String::from).chain(nacks).chain(numbers).filter(|name| !given(name)).collect()
+        let all = names.split(' ').map(String::from).chain(taken).chain(nacks).chain(numbers);
+        all.filter(|name| !given(name)).collect()
     }
 
     /// Which answers to an import were never given.

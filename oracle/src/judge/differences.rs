@@ -1,5 +1,5 @@
-//! Document 01's listed differences, each applied here and nowhere else, around the unchanged
-//! Rust. docs/DIFFERENCES.md has the reasons.
+//! Document 01's listed differences, and document 02's of U4, each applied here and nowhere else,
+//! around the unchanged Rust. docs/DIFFERENCES.md has the reasons.
 //!
 //! 8 and 1 in writing don't show here: the drivers write only frames that can be written. The
 //! byte sum's cap needs nothing: the Rust's own addition saturates.
@@ -61,6 +61,7 @@ pub fn before_frame(rust: &mut Rust, frame: Frame) -> Result<Frame, u32> {
         Frame::Bind { handle, epoch, max_lag, session } => {
             if epoch >= rust.replica.epoch() && max_lag <= rust.replica.accepted_lag() {
                 places(rust, handle, &session)?;
+                one_handle(rust, handle, &session);
             }
             Ok(Frame::Bind { handle, epoch, max_lag, session })
         }
@@ -73,11 +74,13 @@ pub fn before_frame(rust: &mut Rust, frame: Frame) -> Result<Frame, u32> {
     }
 }
 
-/// Differences 20 and 21: no free place for a new session, or for a new handle.
+/// Differences 20 and 21: no free place for a new session, or for a new handle. The place of another handle on the
+/// session counts as free (document 02, U4).
 fn places(rust: &mut Rust, handle: u32, session: &SessionId) -> Result<(), u32> {
+    let kept = rust.replica.handle_count() - rust.replica.others(handle, session).len();
     let refusal = if !rust.is_stored(session) && rust.replica.storage().count() as u64 >= rust.sessions {
         20
-    } else if rust.replica.handle(handle).is_none() && rust.replica.handle_count() as u64 >= rust.handles {
+    } else if rust.replica.handle(handle).is_none() && kept as u64 >= rust.handles {
         21
     } else {
         return Ok(());
@@ -85,6 +88,29 @@ fn places(rust: &mut Rust, handle: u32, session: &SessionId) -> Result<(), u32> 
     // The Rust runs the commits due before it refuses a frame of the standby's own.
     let _ = rust.replica.on_frame_held(Frame::Ack { handle, commit_no: 0 });
     Err(refusal)
+}
+
+/// What an accepted Bind found where it took a session from another handle.
+pub struct Taken {
+    /// No place of the row was free.
+    pub full: bool,
+    /// The Bind's own handle was bound, to another session.
+    pub bound: bool,
+    /// The other handle held changes.
+    pub held: bool,
+}
+
+/// One handle for a session (document 02, U4): an accepted Bind removes any other handle on its session, with what it
+/// holds. Its commit has run by then, as Bind is no Batch.
+fn one_handle(rust: &mut Rust, handle: u32, session: &SessionId) {
+    for other in rust.replica.others(handle, session) {
+        rust.taken = Some(Taken {
+            full: rust.replica.handle_count() as u64 >= rust.handles,
+            bound: rust.replica.handle(handle).is_some(),
+            held: rust.replica.handle(other).is_some_and(|other| !other.held.is_empty()),
+        });
+        rust.replica.unbind(other);
+    }
 }
 
 /// On a handle at 2^64 - 1 any commit number is wrong: the Rust's own sum would come to 0.

@@ -1,11 +1,11 @@
 //! Faults that are put in between our side and the comparison, one at a time, by the number in WIZHDULET_FAULT: the
-//! comparison must find each (oracle/judge-test). The stand-in has those from 1 to 21 in its own text.
+//! comparison must find each (oracle/judge-test). The stand-in has those from 1 to 36 in its own text.
 
 use std::sync::OnceLock;
 
+use crate::library::{Areas, DONE, Imported, Outcome, Resent, Size};
 #[cfg(calls)]
-use crate::library::{Areas, Ask, Counters, Imported, Place, Size};
-use crate::library::{DONE, Outcome, Resent};
+use crate::library::{Ask, Counters, Place};
 use crate::out::Out;
 #[cfg(calls)]
 use crate::side::Answer;
@@ -128,20 +128,24 @@ pub fn asked<'a>(ask: Ask<'a>, connections: u64) -> Ask<'a> {
 /// What a fault needs of the time before a call.
 #[cfg(calls)]
 pub struct Before {
-    row: Option<Vec<Place>>,
+    row: Vec<Place>,
     epoch: u64,
 }
 
 #[cfg(calls)]
 impl Before {
     pub fn new(counters: &Counters, areas: &Areas) -> Self {
-        Self { row: fault(111).then(|| areas.row.clone()), epoch: counters.epoch }
+        let row = if fault(111) || (151..=158).any(fault) { areas.row.clone() } else { Vec::new() };
+        Self { row, epoch: counters.epoch }
     }
 
     /// What is changed after the call.
     pub fn after(self, counters: &mut Counters, areas: &mut Areas, size: Size, ask: Ask, answer: &mut Answer) {
+        if (151..=158).any(fault) {
+            return self.after_bind(areas, ask, answer);
+        }
         match answer.as_mut().map(|frame| (frame.get(4).copied().unwrap_or(0), frame)) {
-            Ok((2, _)) if fault(111) => areas.row = self.row.unwrap_or_default(),
+            Ok((2, _)) if fault(111) => areas.row = self.row,
             Ok((5, _)) if fault(110) => flip(areas.holds.last_mut()),
             Ok((5, _)) if fault(112) => counters.epoch = self.epoch,
             Ok((5, frame)) => acknowledged(areas, size, frame),
@@ -149,6 +153,42 @@ impl Before {
             Ok((7, frame)) if fault(109) => flip(frame.last_mut()),
             Ok((0, _)) => done(areas, size, ask),
             Err(_) if fault(113) => flip(areas.bytes.last_mut()),
+            _ => {}
+        }
+    }
+
+    /// After a Bind: what became of another handle on its session, and where the record stands. Over a row that breaks the
+    /// rules: its refusal.
+    fn after_bind(&self, areas: &mut Areas, ask: Ask, answer: &mut Answer) {
+        let (Ask::Held(frame) | Ask::Frame(frame)) = ask else { return };
+        let used = self.row.iter().position(|record| record.used != 0);
+        match (&*answer, used) {
+            (Err(25), _) if fault(157) => *answer = Err(26),
+            (Err(25), Some(used)) if fault(158) => areas.row[used].used = 0,
+            (Ok(_), _) if frame.get(4) == Some(&3) => self.bound(areas, frame, answer),
+            _ => {}
+        }
+    }
+
+    fn bound(&self, areas: &mut Areas, frame: &[u8], answer: &mut Answer) {
+        let handle = u32::from_le_bytes(frame[5..9].try_into().expect("four"));
+        let bound = answer.as_ref().is_ok_and(|answer| answer[4] == 7);
+        let others = || (0..self.row.len()).filter(|at| self.row[*at].used != 0 && self.row[*at].handle != handle);
+        let Some(at) = areas.index(handle).filter(|_| bound) else {
+            return others().take(usize::from(fault(156))).for_each(|other| areas.row[other].used = 0);
+        };
+        let own = self.row[at].used != 0 && self.row[at].handle == handle;
+        let free = self.row.iter().position(|record| record.used == 0);
+        let gone = others().find(|other| *other == at || areas.row[*other].used == 0);
+        match (gone, free) {
+            (Some(gone), _) if fault(151) && gone != at => areas.row[gone].used = self.row[gone].used,
+            (Some(gone), _) if fault(152) => {
+                (areas.row[at].held_len, areas.row[at].held_bytes) =
+                    (self.row[gone].held_len, self.row[gone].held_bytes);
+            }
+            (_, None) if fault(153) && !own => *answer = Err(21),
+            (_, Some(free)) if fault(154) && own => areas.row.swap(at, free),
+            (Some(gone), _) if fault(155) && gone != at => areas.row[gone] = Place::default(),
             _ => {}
         }
     }

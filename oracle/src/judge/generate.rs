@@ -2,8 +2,10 @@
 //! call scripts that mostly make sense.
 
 use crate::call::{Call, Counter, Key, Setting, hold_for_any};
+#[cfg(calls)]
+use crate::library::Place;
 use crate::ranges::{self, Range};
-use crate::rust::Rust;
+use crate::rust::{Rust, key_of};
 use crate::side::Side;
 use crate::wire::{self, Batch, change};
 
@@ -300,7 +302,7 @@ pub fn reading(random: &mut Random) -> Vec<u8> {
 pub struct Player {
     pub random: Random,
     keys: Vec<Key>,
-    /// Frames of a whole sending still to be given.
+    /// Frames of a whole sending, or of a session that goes from handle to handle, still to be given.
     sending: Vec<Vec<u8>>,
     /// Calls that come first.
     opening: Vec<Call>,
@@ -319,15 +321,16 @@ pub fn setting(random: &mut Random) -> Setting {
         bytes,
         messages,
         sessions: if many { 70 } else { random.pick(&[0, 1, 1, 2, 2, 3, 4]) },
-        handles: if many { 80 } else { random.pick(&[0, 1, 2, 2, 3, 4, 5]) },
+        handles: if many { random.pick(&[80, 80, 70, 64, 30]) } else { random.pick(&[0, 1, 2, 2, 3, 4, 5]) },
         hold: if random.percent(70) { any } else { random.pick(&[0, 1, 21, 40, any - 1, 2 * any]) },
     }
 }
 
-/// Many handles bound, on fewer sessions, then a commit held on each in turn: more than may pend.
+/// Many handles bound, each on a session of its own or on fewer sessions, which go to those bound last; then a commit held
+/// on each in turn: on as many sessions as handles more than may pend.
 fn full_of_pending(random: &mut Random, keys: &[Key]) -> Vec<Call> {
     let handles = 60 + random.below(12) as u32;
-    let sessions = 1 + random.below(60) as usize;
+    let sessions = if random.percent(60) { 71 } else { 1 + random.below(60) as usize };
     let bind = |handle: u32| Call::Held(wire::bind(handle, 0, 0, &keys[handle as usize % sessions]));
     let commit = |handle: u32| {
         let changes = vec![change::in_flight(handle.into())];
@@ -335,6 +338,16 @@ fn full_of_pending(random: &mut Random, keys: &[Key]) -> Vec<Call> {
         Call::Held(wire::batch(&batch))
     };
     (0..handles).map(bind).chain((0..handles).map(commit)).chain([Call::State]).collect()
+}
+
+/// A setting with more sessions and handles than a byte can tell apart.
+pub fn wide_setting() -> Setting {
+    Setting { incarnation: 7, lag: 3, bytes: 7, messages: 1, sessions: 300, handles: 300, hold: hold_for_any(7, 1) }
+}
+
+/// Each session bound, to handles that begin with this one.
+fn all_bound(first: u32, keys: &[Key]) -> Vec<Call> {
+    (first..).zip(keys).map(|(handle, key)| Call::Held(wire::bind(handle, 0, 0, key))).collect()
 }
 
 /// A session that is sent whole in several batches, some of them just at the limit, and sent.
@@ -355,6 +368,7 @@ impl Player {
         let mut key = |i: u64| [b"FIX.4.4".to_vec(), random.printable(1, 3), format!("T{i}").into(), Vec::new()];
         let keys: Vec<Key> = (0..count).map(&mut key).collect();
         let opening = match setting {
+            _ if count > 256 => all_bound(random.pick(&[0, 7, 200]), &keys),
             _ if count > 60 => full_of_pending(&mut random, &keys),
             _ if setting.bytes > 1 << 20 => several_batches(&mut random, &keys[0]),
             _ => Vec::new(),
@@ -418,8 +432,14 @@ impl Player {
         wire::hello(version, self.epoch(rust), b"node", kinds)
     }
 
+    /// Mostly one of a few more than there are places; now and then one that is equal to such in its low bits.
     fn handle(&mut self, rust: &Rust) -> u32 {
-        self.random.below(rust.handles.saturating_add(2).min(90)) as u32
+        let handle = self.random.below(rust.handles.saturating_add(2).min(90)) as u32;
+        match self.random.below(50) {
+            0..6 => handle + 256 * (1 + self.random.below(2) as u32),
+            6 => handle + (1 << 31),
+            _ => handle,
+        }
     }
 
     fn bind(&mut self, rust: &Rust) -> Vec<u8> {
@@ -430,8 +450,43 @@ impl Player {
             2..6 => lag.min(5),
             _ => lag,
         };
+        if self.random.percent(20) {
+            return self.handover(rust, max_lag);
+        }
         let key = if self.random.percent(97) { self.random.pick(&self.keys) } else { key(&mut self.random) };
         wire::bind(self.handle(rust), self.epoch(rust), max_lag, &key)
+    }
+
+    /// A bound handle's session goes to another handle. Batches on both that follow on are to come, and half the time the way
+    /// back.
+    fn handover(&mut self, rust: &Rust, max_lag: u64) -> Vec<u8> {
+        let (new, epoch) = (self.handle(rust), self.epoch(rust));
+        let handles = rust.replica.handles();
+        let holding: Vec<_> = handles.iter().filter(|handle| !handle.held.is_empty()).collect();
+        let old = match (holding.is_empty(), handles.is_empty()) {
+            (false, _) if self.random.percent(60) => self.random.below(holding.len() as u64) as usize,
+            (_, false) => self.random.below(handles.len() as u64) as usize,
+            _ => return wire::bind(new, epoch, max_lag, &self.random.pick(&self.keys)),
+        };
+        let old = if holding.is_empty() { &handles[old] } else { holding[old % holding.len()] };
+        let key = key_of(&old.session);
+        let batch = |handle: u32, commit_no: u64, part: u8, changes: Vec<Vec<u8>>| {
+            wire::batch(&Batch { handle, epoch: rust.replica.epoch(), commit_no, part, changes, records: Vec::new() })
+        };
+        let part = if old.held.is_empty() { wire::COMMIT } else { wire::LAST_WHOLE };
+        self.sending = vec![
+            batch(old.number, old.commit_no.wrapping_add(1), part, Vec::new()),
+            batch(new, 1, wire::WHOLE, vec![change::reset(), change::record(1, b"new")]),
+        ];
+        if self.random.percent(50) {
+            let back = wire::bind(old.number, epoch, rust.replica.accepted_lag(), &key);
+            self.sending.extend([
+                back,
+                batch(new, 2, wire::LAST_WHOLE, Vec::new()),
+                batch(old.number, 1, wire::COMMIT, vec![change::in_flight(9)]),
+            ]);
+        }
+        wire::bind(new, epoch, max_lag, &key)
     }
 
     fn checked(&mut self, rust: &Rust) -> Vec<u8> {
@@ -606,6 +661,38 @@ impl Player {
             _ => Counter::Epoch(if random.percent(80) { random.below(9) } else { random.number() }),
         }
     }
+}
+
+/// A row that breaks one rule alone: two used records name one place, have one handle, or both. Beside it the place of a
+/// record without which it keeps the rules.
+#[cfg(calls)]
+pub fn broken_row(random: &mut Random, row: &[Place], in_use: u64) -> Option<(Vec<Place>, usize)> {
+    let (len, mut row) = (row.len() as u64, row.to_vec());
+    if len < 2 || in_use == 0 {
+        return None;
+    }
+    let first = random.below(len) as usize;
+    let second = (first + 1 + random.below(len - 1) as usize) % len as usize;
+    let low = random.below(300) as u32;
+    let other = low + random.pick(&[1, 2, 255, 256, 512, 1 << 16, 1 << 31]);
+    let (handles, places) = match random.below(5) {
+        0 | 1 => ([low, other], [random.below(in_use); 2]),
+        2 | 3 if in_use > 1 => {
+            let place = random.below(in_use);
+            ([random.pick(&[low, other]); 2], [place, (place + 1 + random.below(in_use - 1)) % in_use])
+        }
+        _ => ([other; 2], [random.below(in_use); 2]),
+    };
+    for record in &mut row {
+        if handles.contains(&record.handle) || places.contains(&record.place) {
+            record.used = 0;
+        }
+    }
+    for (at, (handle, place)) in [first, second].into_iter().zip(handles.into_iter().zip(places)) {
+        let used = random.pick(&[1, 1, 2, 255]);
+        row[at] = Place { used, handle, place, commit_no: random.below(3), held_len: 0, held_bytes: random.below(2) };
+    }
+    Some((row, random.pick(&[first, second])))
 }
 
 /// A request for resend ranges of a stored session, now and then of none: mostly ranges near its numbers, with an area

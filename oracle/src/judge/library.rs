@@ -10,7 +10,7 @@ pub const RUBBISH: u64 = u64::from_ne_bytes([UNTOUCHED; 8]);
 
 /// The standby's counters, as the library has them; a flag is set if it isn't 0.
 #[repr(C)]
-#[derive(Debug, Clone, Default)]
+#[derive(Debug, Clone, Default, PartialEq, Eq)]
 pub struct Counters {
     pub epoch: u64,
     pub connections: u64,
@@ -65,6 +65,7 @@ pub struct Settings {
 }
 
 /// The areas that a standby is lent.
+#[derive(Clone, PartialEq, Eq)]
 pub struct Areas {
     pub row: Vec<Place>,
     pub words: Vec<u64>,

@@ -100,6 +100,40 @@ impl Ours {
         answer.map(|_| written).map_err(|(number, _)| number)
     }
 
+    /// Each of the six calls over a row that breaks the rules: 25, and all stays as it was. The row without the record at
+    /// `spoiling`, which alone breaks them, is taken: a drop of another connection does nothing.
+    pub fn refuses(&mut self, row: &[Place], spoiling: usize, frame: &[u8]) {
+        let connection = self.counters.connections;
+        let other = Ask::Drop(connection.wrapping_add(1));
+        let kept = std::mem::replace(&mut self.areas.row, row.to_vec());
+        let calls = [
+            Ask::Held(frame),
+            Ask::Frame(frame),
+            Ask::Flush(connection),
+            Ask::Drop(connection),
+            Ask::Promote,
+            Ask::Unchecked,
+        ];
+        for ask in calls {
+            self.leaves_all(ask, &Err(25));
+        }
+        self.areas.row[spoiling].used = 0;
+        self.leaves_all(other, &Ok(Vec::new()));
+        self.areas.row = kept;
+    }
+
+    /// A call that must answer this and change nothing of what is lent.
+    fn leaves_all(&mut self, ask: Ask, expected: &Answer) {
+        let (counters, areas) = (self.counters.clone(), self.areas.clone());
+        let answer = self.call(ask);
+        assert_eq!(answer, *expected, "{ask:?} over the row {:?}", areas.row);
+        assert!(
+            counters == self.counters && areas == self.areas,
+            "{ask:?} over the row {:?} changes something",
+            areas.row
+        );
+    }
+
     pub fn areas(&self) -> &Areas {
         &self.areas
     }

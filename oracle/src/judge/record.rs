@@ -158,7 +158,7 @@ fn refusals() -> Script {
     let bound = |script: Script| script.frame(hello(5)).frame(wire::bind(1, 5, 0, &key("B")));
     let app =
         Batch { handle: 1, epoch: 6, commit_no: 1, part: COMMIT, changes: vec![], records: vec![(1, b"x".to_vec())] };
-    let script = Script::new("7 0 40 4 1 1 30").note("the reader's numbers, and 26");
+    let script = Script::new("7 0 40 4 2 1 30").note("the reader's numbers, and 26");
     let script = script
         .frame(vec![1, 0, 0, 4])
         .frame(framed(&[]))
@@ -197,14 +197,18 @@ fn refusals() -> Script {
     .state()
     .frame(batch(WHOLE, 1, 8, 2, &[]))
     .state()
-    .note("19, 20, 21, 22, 23")
+    .note("19; 21 where the only place is another session's, and opens none; 20 before 21; 22, 23")
     .frame(wire::welcome(5, 7))
     .frame(wire::ack(1, 1))
     .frame(wire::nack(1, 1))
     .frame(wire::bound(1, [1, 1, 0], b"", b"", 0))
-    .frame(wire::bind(1, 8, 0, &key("C")))
+    .frame(wire::bind(2, 8, 0, &key("C")))
+    .state()
     .frame(wire::bind(2, 8, 0, &key("B")))
     .frame(wire::bind(2, 8, 0, &key("C")))
+    .frame(wire::bind(2, 8, 0, &key("D")))
+    .frame(wire::bind(1, 8, 0, &key("D")))
+    .frame(wire::bind(1, 8, 0, &key("B")))
     .state()
     .flush(0)
     .flush(1)
@@ -214,8 +218,8 @@ fn refusals() -> Script {
     .whole(u64::MAX - 1, key("B"), None)
     .whole(0, key("B"), Some(48))
     .whole(0, key("B"), Some(49))
-    .whole(0, key("C"), None)
-    .summary(1, key("C"))
+    .whole(0, key("D"), None)
+    .summary(1, key("D"))
     .note("10 and 22 after promotion; a faulty frame keeps its own number")
     .line("U")
     .frame(hello(9))
@@ -283,37 +287,38 @@ fn handles() -> Script {
         script.held(batch(part, handle, 1, number, &changes)).state()
     };
     Script::new("7 1 100 8 2 3")
-        .note("two handles on one session, a third on another, whole sendings interleaved")
+        .note("two handles, each on a session, whole sendings interleaved")
         .frame(hello(1))
         .frame(wire::bind(2, 1, 1, &key("B")))
-        .frame(wire::bind(1, 1, 1, &key("B")))
         .frame(wire::bind(7, 1, 1, &key("C")))
         .state()
-        .all([(WHOLE, 1, 1, &b"p"[..]), (WHOLE, 7, 1, b"q"), (WHOLE, 2, 1, b"r"), (LAST_WHOLE, 7, 2, b"s")], part)
-        .all([(LAST_WHOLE, 2, 2, &b"t"[..]), (LAST_WHOLE, 1, 2, b"u")], part)
-        .note("what one handle commits, the other's next must follow")
-        .held(commit(2, 1, 3, &[change::record(3, b"v")]))
-        .held(commit(1, 1, 3, &[change::record(3, b"w")]))
-        .held(commit(1, 1, 3, &[change::record(4, b"w")]))
+        .all([(WHOLE, 2, 1, &b"p"[..]), (WHOLE, 7, 1, b"q"), (LAST_WHOLE, 7, 2, b"r"), (LAST_WHOLE, 2, 2, b"s")], part)
+        .note("a session has one handle: a Bind of another takes it, and a Batch on the first is 14")
+        .held(wire::bind(1, 1, 1, &key("B")))
         .state()
-        .note("a Bind on a used handle starts it anew, on the other session too")
-        .held(batch(WHOLE, 1, 1, 4, &[change::reset()]))
+        .held(commit(2, 1, 3, &[change::record(3, b"t")]))
+        .held(commit(1, 1, 1, &[change::record(2, b"t")]))
+        .held(commit(1, 1, 1, &[change::record(3, b"t")]))
+        .state()
+        .note("a Bind on a used handle starts it anew, on the other session too, whose handle goes; the first has none then")
+        .held(batch(WHOLE, 1, 1, 2, &[change::reset()]))
         .held(wire::bind(1, 1, 1, &key("C")))
         .state()
-        .held(commit(1, 1, 1, &[change::record(3, b"x")]))
+        .held(commit(7, 1, 3, &[change::record(3, b"u")]))
+        .held(commit(1, 1, 1, &[change::record(3, b"u")]))
         .frame(wire::bind(8, 1, 1, &key("B")))
         .state()
 }
 
 fn pending() -> Script {
-    let bind = |script: Script, handle: u32| script.held(wire::bind(handle, 1, 0, &key(&format!("T{}", handle % 3))));
+    let bind = |script: Script, handle: u32| script.held(wire::bind(handle, 1, 0, &key(&format!("T{handle}"))));
     let hold = |number: u64| {
         move |script: Script, handle: u32| script.held(commit(handle, 1, number, &[change::in_flight(number)]))
     };
-    Script::new("7 0 10 1 3 70")
+    Script::new("7 0 10 1 70 70")
         .frame(hello(1))
         .all(0..66, bind)
-        .note("64 commits pend; the next Batch runs them, whatever its handle and answer")
+        .note("64 commits pend, on 64 sessions; the next Batch runs them, whatever its handle and answer")
         .all(0..64, hold(1))
         .state()
         .held(commit(64, 1, 9, &[]))
@@ -429,16 +434,16 @@ fn stale_actives() -> Script {
         (16, 42, wire::checked(9, 17, 7)),
     ];
     let none_deposed = [
-        wire::bind(3, 30, 0, &key("C")),
+        wire::bind(3, 30, 0, &key("D")),
         wire::bind(3, 30, 1, &key("C")),
-        wire::bind(4, 30, 0, &key("D")),
+        wire::bind(4, 30, 0, &key("E")),
         wire::hello(2, 30, b"a", &[]),
         wire::hello(1, 30, b"a", &[1]),
         wire::welcome(30, 7),
         wire::checked(1, 30, 8),
         one_of_each(30, 50).swap_remove(13),
     ];
-    let script = Script::new("7 0 60 4 2 4")
+    let script = Script::new("7 0 60 4 3 4")
         .note("two actives: the higher epoch deposes the other by Hello, Batch or Checked, not by Bind")
         .frame(hello(3))
         .frame(wire::bind(1, 3, 0, &key("B")))
@@ -701,7 +706,7 @@ fn summaries() -> Script {
     let script = ranges(script.note("messages at 3 and 4 (empty), none at 5"), "B");
     let script = script.frame(commit(1, 0, 3, &[change::in_flight(0), change::created_at(STAMP), change::marks(b"m")]));
     let script = ranges(script.note("in flight 0 is shown as 0, and as none in a Bound"), "B");
-    script.all([0, 2, 5], |script, lag| script.frame(wire::bind(2, 0, lag, &key("B")))).summary(1, key("C"))
+    script.all([0, 2, 5], |script, lag| script.frame(wire::bind(2, 0, lag, &key("B")))).summary(1, key("C")).state()
 }
 
 /// A message of a log: these fields behind 8 and 9, with its length and sum.
@@ -755,15 +760,147 @@ fn durable() -> Script {
         .note("a dropped commit doesn't undo, and doesn't mark")
         .line_drop(0)
         .state()
-        .note("another handle's commit marks the session for both")
+        .note("a Bind by which the session goes to another handle runs the commit that pends first, and it marks")
         .frame(wire::bind(1, 0, 0, &key("B")))
-        .frame(wire::bind(2, 0, 0, &key("B")))
         .held(commit(1, 0, 1, &[change::in_flight(1)]))
-        .frame(commit(2, 0, 1, &[]))
+        .state()
+        .held(wire::bind(2, 0, 0, &key("B")))
         .state()
         .note("a Whole touches nothing; a refused or diverged Batch doesn't unmark")
+        .held(commit(2, 0, 1, &[change::next_incoming(5), change::bare_record(1)]))
+        .held(batch(WHOLE, 2, 0, 1, &[change::reset()]))
+        .held(commit(2, 0, 2, &[change::next_incoming(5)]))
+        .state()
+}
+
+fn full_row() -> Script {
+    let bind = |handle: u32, target: &str| wire::bind(handle, 0, 0, &key(target));
+    Script::new("7 0 40 4 3 3")
+        .note("three sessions, three places: a new handle finds room where the session's own handle can go, never 21")
+        .all([(1, "B"), (2, "C"), (3, "D")], |script, (handle, target)| script.held(bind(handle, target)))
+        .all([(4, "C"), (5, "B"), (6, "D"), (1, "C"), (2, "C")], |script, (handle, target)| {
+            script.held(bind(handle, target)).state()
+        })
+        .note("20 comes for a fourth session; two sessions whose handles are exchanged")
+        .held(bind(7, "E"))
+        .held(bind(5, "D"))
+        .state()
+        .held(bind(6, "B"))
+        .state()
+        .note("only the handles that are left are bound")
+        .all(1..8, |script, handle| script.held(commit(handle, 0, 1, &[])))
+        .state()
+}
+
+fn own_place() -> Script {
+    Script::new("7 0 40 4 3 3")
+        .note("a handle bound again to its own session starts anew, and no other goes")
+        .frame(wire::bind(1, 0, 0, &key("B")))
+        .frame(wire::bind(2, 0, 0, &key("C")))
+        .held(commit(1, 0, 1, &[change::record(1, b"a")]))
         .held(batch(WHOLE, 1, 0, 2, &[change::reset()]))
-        .held(commit(2, 0, 2, &[change::next_incoming(5), change::bare_record(1)]))
+        .held(batch(WHOLE, 2, 0, 1, &[change::reset(), change::record(1, b"c")]))
+        .state()
+        .held(wire::bind(1, 0, 0, &key("B")))
+        .state()
+        .held(commit(1, 0, 1, &[change::record(2, b"b")]))
+        .note("one that held another session leaves it without a handle, and takes what the other held away")
+        .held(wire::bind(1, 0, 0, &key("C")))
+        .state()
+        .held(batch(LAST_WHOLE, 2, 0, 2, &[]))
+        .held(batch(LAST_WHOLE, 1, 0, 1, &[]))
+        .held(commit(1, 0, 1, &[change::record(1, b"d")]))
+        .note("the session that has none is bound anew; a handle that went is bound to a third")
+        .held(wire::bind(7, 0, 0, &key("B")))
+        .held(commit(7, 0, 1, &[change::record(3, b"e")]))
+        .held(wire::bind(2, 0, 0, &key("D")))
+        .held(commit(2, 0, 1, &[change::record(1, b"f")]))
+        .state()
+}
+
+fn higher_epoch() -> Script {
+    Script::new("7 0 40 4 2 3")
+        .note("a Bind of a higher epoch takes the lower active's session, and the epoch stays: its next Batch is 14")
+        .frame(hello(3))
+        .frame(wire::bind(1, 3, 0, &key("B")))
+        .held(commit(1, 3, 1, &[change::record(1, b"a")]))
+        .held(wire::bind(2, 9, 0, &key("B")))
+        .state()
+        .held(commit(1, 3, 2, &[change::record(2, b"b")]))
+        .state()
+        .note("it isn't deposed: it binds again, and goes on")
+        .held(wire::bind(1, 3, 0, &key("B")))
+        .held(commit(1, 3, 1, &[change::record(2, b"b")]))
+        .state()
+        .note("14 for the higher one raises the epoch, as any does; then the lower one's Batches and Binds are Nacked")
+        .held(commit(2, 9, 1, &[]))
+        .held(commit(1, 3, 2, &[change::record(3, b"c")]))
+        .held(wire::bind(3, 3, 0, &key("B")))
+        .state()
+        .held(wire::bind(2, 9, 0, &key("B")))
+        .held(commit(2, 9, 1, &[change::record(3, b"c")]))
+        .state()
+}
+
+fn held_changes() -> Script {
+    let whole = |handle, number, msg| batch(WHOLE, handle, 0, number, &[change::reset(), change::record(1, msg)]);
+    Script::new("7 0 40 4 2 2")
+        .note("what the removed handle holds goes with it, and is never applied")
+        .frame(wire::bind(1, 0, 0, &key("B")))
+        .frame(commit(1, 0, 1, &[change::record(1, b"kept")]))
+        .held(whole(1, 2, b"old"))
+        .state()
+        .held(wire::bind(2, 0, 0, &key("B")))
+        .state()
+        .held(batch(LAST_WHOLE, 1, 0, 3, &[]))
+        .held(batch(LAST_WHOLE, 2, 0, 1, &[]))
+        .state()
+        .note("bound again it holds nothing: 16, then a sending of its own")
+        .held(whole(2, 1, b"new"))
+        .held(wire::bind(1, 0, 0, &key("C")))
+        .held(batch(LAST_WHOLE, 1, 0, 1, &[]))
+        .held(whole(1, 1, b"c"))
+        .state()
+        .held(batch(LAST_WHOLE, 1, 0, 2, &[]))
+        .held(batch(LAST_WHOLE, 2, 0, 2, &[change::marks(b"m")]))
+        .state()
+        .note("the same where the handle that takes the session holds changes for another")
+        .held(whole(1, 3, b"x"))
+        .held(whole(2, 3, b"y"))
+        .held(wire::bind(2, 0, 0, &key("C")))
+        .state()
+        .held(commit(1, 0, 4, &[]))
+        .held(commit(2, 0, 1, &[change::record(2, b"on")]))
+        .state()
+}
+
+fn refused_binds() -> Script {
+    Script::new("7 2 40 4 3 2")
+        .note("handle 1 holds changes, and its session has another's Bind: Nack StaleEpoch and Lag remove nothing")
+        .frame(hello(5))
+        .frame(wire::bind(1, 5, 2, &key("B")))
+        .frame(wire::bind(2, 5, 2, &key("C")))
+        .held(commit(2, 5, 1, &[change::record(1, b"c")]))
+        .held(batch(WHOLE, 1, 5, 1, &[change::reset(), change::record(1, b"b")]))
+        .state()
+        .held(wire::bind(3, 4, 0, &key("B")))
+        .state()
+        .held(commit(2, 5, 2, &[change::record(2, b"c")]))
+        .held(wire::bind(3, 5, 3, &key("B")))
+        .held(wire::bind(2, 5, 3, &key("B")))
+        .state()
+        .note("nor do 20 and 21, which is left for a row full of other sessions' handles")
+        .held(wire::bind(2, 5, 0, &key("D")))
+        .held(commit(2, 5, 1, &[change::record(1, b"d")]))
+        .held(wire::bind(3, 5, 0, &key("E")))
+        .held(wire::bind(3, 5, 0, &key("C")))
+        .held(wire::bind(1, 5, 0, &key("E")))
+        .state()
+        .note("the first that is accepted does")
+        .held(batch(LAST_WHOLE, 1, 5, 2, &[]))
+        .held(wire::bind(3, 5, 0, &key("B")))
+        .held(commit(1, 5, 3, &[change::record(2, b"b")]))
+        .held(commit(3, 5, 1, &[change::record(2, b"b")]))
         .state()
 }
 
@@ -841,6 +978,11 @@ fn scripts() -> Vec<(String, Script)> {
         ("21-too-many-messages", Script::new("7 0 1 65537 1 1").state()),
         ("22-no-setting", Script::new("7 0 1 1 1").state()),
         ("23-imports", imports()),
+        ("24-full-row", full_row()),
+        ("25-own-place", own_place()),
+        ("26-higher-epoch", higher_epoch()),
+        ("27-held-changes", held_changes()),
+        ("28-refused-binds", refused_binds()),
     ];
     let chance = (1..=12).map(|seed| (format!("chance-{seed:02}"), by_chance(seed)));
     named.into_iter().map(|(name, script)| (name.into(), script)).chain(chance).collect()
@@ -849,6 +991,9 @@ fn scripts() -> Vec<(String, Script)> {
 /// The smallest input for each listed difference that a script can show.
 fn difference_scripts() -> Vec<(&'static str, Script)> {
     let bound = |setting: &str| Script::new(setting).frame(wire::bind(1, 0, 0, &key("B")));
+    let taken = |setting: &str| bound(setting).frame(wire::bind(2, 0, 0, &key("B")));
+    let held =
+        bound("7 0 0 0 1 2").frame(batch(WHOLE, 1, 0, 1, &[change::reset()])).frame(wire::bind(2, 0, 0, &key("B")));
     let last = u64::MAX;
     vec![
         ("09-area-too-short", bound("7 0 0 0 1 1").whole(0, key("B"), Some(48))),
@@ -856,6 +1001,11 @@ fn difference_scripts() -> Vec<(&'static str, Script)> {
         ("20-session-places", bound("7 0 0 0 0 1").state()),
         ("21-handle-places", bound("7 0 0 0 1 0").state()),
         ("24-commit-numbers", bound("7 0 0 0 1 1").whole(last, key("B"), None)),
+        ("one-handle", taken("7 0 0 0 1 2").state()),
+        ("one-handle-full-row", taken("7 0 0 0 1 1").state()),
+        ("one-handle-batch", taken("7 0 0 0 1 2").frame(commit(1, 0, 1, &[])).state()),
+        ("one-handle-held", held.frame(batch(LAST_WHOLE, 1, 0, 2, &[change::next_incoming(7)])).state()),
+        ("one-handle-pending", taken("7 0 0 0 1 2").held(commit(1, 0, 1, &[])).held(commit(2, 0, 1, &[])).state()),
         ("25-bytes", Script::new("7 0 33554433 0 1 1").state()),
         ("25-messages", Script::new("7 0 0 65537 1 1").state()),
         ("25-not-stored", Script::new("7 0 0 0 1 1").summary(0, key("B"))),
@@ -1096,7 +1246,7 @@ fn program_life() -> String {
         wire::bind(2, 1, 0, &key("B")),
         batch(WHOLE, 2, 1, 1, &[change::reset(), change::record(1, b"z")]),
         batch(LAST_WHOLE, 2, 1, 2, &[change::bare_record(5), change::next_incoming(6), change::marks(b"")]),
-        commit(1, 1, 3, &[change::record(6, b"six")]),
+        commit(2, 1, 3, &[change::record(6, b"six")]),
         wire::bind(3, 1, 0, &key("B")),
         wire::checked(1, 1, 7),
         wire::checked(1, 1, 8),
@@ -1107,6 +1257,7 @@ fn program_life() -> String {
     ])
 }
 
+/// 20 for a fifth session; 21 never comes, for the four places are enough where each of four sessions has one handle.
 fn program_limits() -> String {
     let bind = |handle: u32, target: &str| wire::bind(handle, 0, 0, &key(target));
     let whole = |len: usize| batch(WHOLE, 1, 0, 1, &[change::reset(), change::record(1, &vec![b'x'; len])]);
@@ -1119,6 +1270,8 @@ fn program_limits() -> String {
         bind(5, "a"),
         bind(4, "e"),
         bind(4, "a"),
+        commit(5, 0, 1, &[]),
+        bind(1, "d"),
         // A hold area is 5,626 bytes: a Reset, 13 bytes and the message.
         whole(5613),
         whole(5612),

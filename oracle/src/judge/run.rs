@@ -6,8 +6,13 @@ use std::any::Any;
 use std::panic::{AssertUnwindSafe, catch_unwind};
 #[cfg(calls)]
 use std::panic::{set_hook, take_hook};
+#[cfg(calls)]
+use std::time::{Duration, Instant};
 
 use crate::call::{Call, Setting};
+use crate::generate::Random;
+#[cfg(calls)]
+use crate::generate::broken_row;
 #[cfg(ours)]
 use crate::ours::Ours;
 use crate::rust::Rust;
@@ -102,15 +107,31 @@ impl Run {
         self.calls.push(call.clone());
         self.us.call(rust, call).map_err(|unlike| difference(&self.setting, &self.calls, &unlike))
     }
+
+    /// A row that breaks the rules, handed to each of the six calls of our side with this frame: whether one can be made.
+    pub fn broken_row(&mut self, random: &mut Random, frame: &[u8]) -> Result<bool, Difference> {
+        let us = &mut self.us.us;
+        let Some((row, spoiling)) = broken_row(random, &us.areas().row, us.areas().words[0]) else { return Ok(false) };
+        let told = |words| {
+            let calls: String = self.calls.iter().map(|call| format!("{call}\n")).collect();
+            Difference(format!("a row that breaks the rules, after\n{}\n{calls}ours:     {words}\n", self.setting))
+        };
+        looked(|| us.refuses(&row, spoiling, frame)).map(|()| true).map_err(told)
+    }
 }
 
-/// The script, with every call that doesn't matter left out.
+/// How long a script is shortened: one over many sessions takes long.
+#[cfg(calls)]
+const SHORTENING: Duration = Duration::from_secs(20);
+
+/// The script, with every call that doesn't matter left out, as far as the time goes.
 #[cfg(calls)]
 fn difference(setting: &Setting, calls: &[Call], Unlike(told): &Unlike) -> Difference {
     let hook = take_hook();
     set_hook(Box::new(|_| {}));
     let mut calls = calls.to_vec();
-    while let Some(fewer) = without_one_in_turn(setting, &calls) {
+    let end = Instant::now() + SHORTENING;
+    while let Some(fewer) = without_one_in_turn(setting, &calls, end) {
         calls = fewer;
     }
     set_hook(hook);
@@ -118,11 +139,11 @@ fn difference(setting: &Setting, calls: &[Call], Unlike(told): &Unlike) -> Diffe
     Difference(format!("a script\n{setting}\n{script}first seen as\n{told}\n"))
 }
 
-/// The calls without those that can go one by one, if any can and the sides still differ.
+/// The calls without those that can go one by one until then, if any can and the sides still differ.
 #[cfg(calls)]
-fn without_one_in_turn(setting: &Setting, calls: &[Call]) -> Option<Vec<Call>> {
+fn without_one_in_turn(setting: &Setting, calls: &[Call], end: Instant) -> Option<Vec<Call>> {
     let mut fewer = calls.to_vec();
-    for at in (0..calls.len()).rev() {
+    for at in (0..calls.len()).rev().take_while(|_| Instant::now() < end) {
         let gone = fewer.remove(at);
         if !differ(setting, &fewer) {
             fewer.insert(at, gone);
@@ -169,6 +190,14 @@ impl Run {
         }
         let told = format!("a call\n{}\n{sessions:?}\n{call}\nthe Rust: {rust}\nours:     {answered}\n", self.setting);
         Err(Difference(told))
+    }
+}
+
+/// Without the entry points there is no row.
+#[cfg(not(calls))]
+impl Run {
+    pub fn broken_row(&mut self, _: &mut Random, _: &[u8]) -> Result<bool, Difference> {
+        Ok(false)
     }
 }
 

@@ -12,7 +12,7 @@ use turbojet_replica::standby::Replica;
 use turbojet_replica::standby::reach::{self, summary};
 
 use crate::call::{Counter, Key, Setting};
-use crate::differences;
+use crate::differences::{self, Taken};
 use crate::fix;
 use crate::ranges::{self, Listed, Range};
 use crate::side::{Answer, Handle, Pushed, Sent, Session, Side, State, Summary};
@@ -24,6 +24,8 @@ pub struct Rust {
     pub sessions: u64,
     pub handles: u64,
     pub hold: u64,
+    /// What the last frame took from another handle, for the counts.
+    pub taken: Option<Taken>,
     /// C and M.
     limits: (u64, u64),
 }
@@ -148,7 +150,8 @@ impl Side for Rust {
         let mut replica = Replica::new(MemoryStorage::new(limits)).accepting_lag(setting.lag);
         differences::given_incarnation(&mut replica, setting.incarnation);
         let limits = (setting.bytes, setting.messages);
-        Some(Self { replica, sessions: setting.sessions, handles: setting.handles, hold: setting.hold, limits })
+        let Setting { sessions, handles, hold, .. } = *setting;
+        Some(Self { replica, sessions, handles, hold, taken: None, limits })
     }
 
     fn frame(&mut self, bytes: &[u8], held: bool) -> Answer {

@@ -4,7 +4,7 @@
 use std::ops::Range;
 
 use crate::call::{Call, Setting};
-use crate::library::{Areas, Size};
+use crate::library::{Areas, Place, Size};
 use crate::walk::{self, Change, Walk};
 use crate::wire;
 
@@ -208,8 +208,8 @@ impl Shadow {
         let row = match (kind(answer), frame[4]) {
             (Some(ACK), BATCH) => return self.acknowledged(frame),
             (Some(BOUND), _) => {
-                let free = if areas.words[0] > self.areas.words[0] { self.opened(frame) } else { Free::default() };
-                return Free { row: record(areas.index(handle(frame))), ..free };
+                self.bind(areas, handle(frame));
+                return if areas.words[0] > self.areas.words[0] { self.opened(frame) } else { Free::default() };
             }
             (Some(WELCOME), _) => Records::StayOrAreFreed,
             // A wrong commit number and a LastWhole that doesn't fit let held changes go.
@@ -236,6 +236,18 @@ impl Shadow {
         if frame[4] != BATCH || pending.len() >= 64 || on_handle() {
             self.run_pending();
         }
+    }
+
+    /// The record of another handle on the session is freed and keeps its other fields; the handle's stands at its own place,
+    /// else at the first that is free then.
+    fn bind(&mut self, areas: &Areas, handle: u32) {
+        let Some(place) = areas.index(handle).map(|index| areas.row[index].place) else { return };
+        let own = self.areas.index(handle);
+        let row = &mut self.areas.row;
+        let goes = |record: &&mut Place| record.used != 0 && record.place == place && record.handle != handle;
+        row.iter_mut().filter(goes).for_each(|record| record.used = 0);
+        let index = own.or_else(|| row.iter().position(|record| record.used == 0)).expect("a free place");
+        row[index] = Place { used: 1, handle, place, ..Place::default() };
     }
 
     /// A new session at the next place: its key's texts, and what a Reset writes.

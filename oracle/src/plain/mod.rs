@@ -89,6 +89,20 @@ impl Standby<'_> {
         self.words[1] = 0;
     }
 
+    /// The rules of the row: places in use, held lengths that fit, and no two used records with one place or one handle.
+    fn keeps_rules(&self) -> bool {
+        let used: Vec<&Place> = self.row.iter().filter(|record| record.used != 0).collect();
+        let fits = |record: &&Place| record.place < self.sessions.len() as u64 && record.held_len <= self.hold;
+        let places = |a: &Place, b: &Place| if fault(36) { a.place % 256 != b.place % 256 } else { a.place != b.place };
+        let handles = |a: &Place, b: &Place| {
+            let low = fault(35) && a.handle % 256 == b.handle % 256;
+            !low && (a.handle != b.handle || fault(33) && a.handle > 255)
+        };
+        let apart = |a: &Place, b: &Place| (places(a, b) || fault(31)) && (handles(a, b) || fault(32));
+        let before = |at: usize| if fault(34) { at.saturating_sub(1)..at } else { 0..at };
+        used.iter().all(fits) && (0..used.len()).all(|at| used[before(at)].iter().all(|a| apart(a, used[at])))
+    }
+
     fn drop_bindings(&mut self) {
         self.row.iter_mut().for_each(|place| place.used = 0);
         self.words[1] = 0;
@@ -174,28 +188,68 @@ impl Standby<'_> {
         if epoch < self.counters.epoch {
             return Ok(wire::nack(handle, STALE_EPOCH));
         }
+        let known = self.sessions.iter().position(|session| session.key == key);
         if max_lag > self.lag {
+            if fault(26) {
+                self.remove(self.other(handle, known.unwrap_or(usize::MAX) as u64));
+            }
             return Ok(wire::nack(handle, LAG));
         }
-        let known = self.sessions.iter().position(|session| session.key == key);
         if known.is_none() && self.sessions.len() as u64 >= self.places {
             return Err(20);
         }
-        let free = self.row.iter().position(|place| place.used == 0);
-        let index = self.index(handle).or(free).ok_or(21_u32)?;
-        let place = known.unwrap_or_else(|| {
+        let place = known.unwrap_or(self.sessions.len()) as u64;
+        let other = self.other(handle, place);
+        let index = self.place_for(handle, other).ok_or(21_u32)?;
+        if known.is_none() {
             self.sessions.push(Session::new(key));
-            self.sessions.len() - 1
-        });
+        }
         if fault(3) {
             self.counters.epoch = epoch;
         }
-        let place = place as u64;
-        self.row[index] = Place { used: 1, handle, place, ..Place::default() };
+        let held = other.filter(|_| fault(23)).map(|other| self.row[other].clone()).unwrap_or_default();
+        self.remove(other);
+        if fault(25) {
+            self.remove(self.index(handle));
+        }
+        let Place { held_len, held_bytes, .. } = held;
+        self.row[index] = Place { used: 1, handle, place, commit_no: 0, held_len, held_bytes };
         self.words[0] = self.sessions.len() as u64;
         let session = &self.sessions[place as usize];
         let numbers = [session.out, session.incoming, session.flight.unwrap_or(0)];
         Ok(wire::bound(handle, numbers, &session.stamp, &session.marks, session.last_outgoing(max_lag)))
+    }
+
+    /// One handle for a session (document 02, U4): where another handle that holds it stands.
+    fn other(&self, handle: u32, place: u64) -> Option<usize> {
+        let holds = |record: &Place| record.used != 0 && record.place == place && record.handle != handle;
+        self.row.iter().position(holds)
+    }
+
+    /// Where a handle's record goes: its own place, else the first of those that are free, the other's counted.
+    fn place_for(&self, handle: u32, other: Option<usize>) -> Option<usize> {
+        let free = self.row.iter().position(|record| record.used == 0);
+        let own = self.index(handle).filter(|_| !fault(25) || free.is_none());
+        let first = match (free, other) {
+            (free, _) if fault(24) => free,
+            (Some(free), Some(_)) if fault(27) => Some(free),
+            (Some(_), Some(other)) if fault(28) => Some(other),
+            (Some(free), Some(other)) => Some(free.min(other)),
+            (free, other) => free.or(other),
+        };
+        own.or(first)
+    }
+
+    /// Frees a record, which keeps its other fields; what it held stands where it stood.
+    fn remove(&mut self, index: Option<usize>) {
+        let Some(index) = index.filter(|_| !fault(22)) else { return };
+        self.row[index].used = 0;
+        if fault(29) {
+            self.row[index] = Place::default();
+        }
+        if fault(30) && self.hold > 0 {
+            self.holds[index * self.hold as usize] ^= 1;
+        }
     }
 
     fn hold_start(&self, index: usize) -> usize {
@@ -334,6 +388,7 @@ pub fn said(counters: &mut Counters, areas: &mut Areas, settings: Settings, ask:
         lag: settings.max_lag,
     };
     let answer = match ask {
+        _ if !standby.keeps_rules() => Err(25),
         Ask::Held(frame) => standby.on_frame(frame, true),
         Ask::Frame(frame) => standby.on_frame(frame, false),
         Ask::Flush(connection) => standby.flush(connection),

@@ -62,6 +62,17 @@ impl<S: SessionStorage> Replica<S> {
         self.held.iter().map(|(handle, _)| *handle).collect()
     }
 
+    /// The handles that hold a session, but for this one.
+    pub fn others(&self, handle: u32, session: &SessionId) -> Vec<u32> {
+        let holds = |bound: &Handle<'_>| bound.number != handle && bound.session == *session;
+        self.handles().into_iter().filter(holds).map(|bound| bound.number).collect()
+    }
+
+    /// Takes a handle's binding away, with what it holds.
+    pub fn unbind(&mut self, handle: u32) {
+        self.bound.remove(&handle);
+    }
+
     pub fn handle_count(&self) -> usize {
         self.bound.len()
     }
