@@ -8,12 +8,13 @@ use borrow.Author.Tests.{leb-true}
 use lib.Dec.{T}
 use lib.ListN.{length, take, drop, length-drop}
 use lib.Seq.{drop-drop}
+use Rattle.model_frame.proofs.Texts.{ByteRecord}
 use Rattle.model_text.specs.Utf8.{utf8}
 use Rattle.model_frame.specs.Bytes.{is_bytes, bytes_of}
 use Rattle.model_frame.specs.Frame.{Part, Reason, AppRecord, Frame, hello, welcome, bind, batch, ack, nack, bound, checked, Fault}
 use Rattle.model_frame.specs.Parse.{Parser, ok, bad, read_num, many, forget, run_bytes, Each}
 use Rattle.model_frame.specs.Reading.{read_change, read_app_record}
-use Rattle.model_frame.specs.Writing.{blob_bytes, change_bytes, app_record_bytes, part_number, body_bytes, fine, fine_key, fine_summary, RangedRecord, ByteRecord}
+use Rattle.model_frame.specs.Writing.{blob_bytes, change_bytes, app_record_bytes, part_number, body_bytes, fine, fine_key, fine_summary, RangedRecord}
 use Rattle.model_frame.proofs.Le.{bytes_each, bytes_drop}
 use Rattle.model_frame.proofs.Canon.{Was, Canon, run_canon, num_canon, Run}
 use Rattle.model_frame.proofs.RoundTrip.{and_left, and_right}

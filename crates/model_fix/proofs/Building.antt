@@ -8,10 +8,11 @@ use native.Mathlib.Omega.{arith}
 use lib.ListN.{length, get_or}
 use lib.Dec.{T, leb, ltb, eqb}
 use borrow.Author.Tests.{ltb-true, ltb-false, lt-ltb, le-ltb, le-leb, eq-eqb}
+use Rattle.model_session.proofs.Storable.{Storable}
 use Rattle.model_text.specs.Lines.{joined}
 use Rattle.model_frame.specs.Frame.{Change, record_msg, record_bare}
 use Rattle.model_frame.specs.Parse.{Each}
-use Rattle.model_session.specs.Session.{Session, Msg, new_session, apply, apply_all, fits, Holdable, Storable, is_bytes, top}
+use Rattle.model_session.specs.Session.{Session, Msg, new_session, apply, apply_all, fits, Holdable, is_bytes, top}
 use Rattle.model_session.specs.Whole.{send_msg, skip_to, whole_batches}
 use Rattle.model_session.specs.Whole as whole
 use Rattle.model_session.proofs.Basics.{each_append, T→true, true→T, and_l, and_r}

@@ -1,5 +1,6 @@
 -- The laws of frames: what is written is read back, and what is read would be written so.
 pub mod Sendable
+pub mod Texts
 pub mod Le
 pub mod Back
 pub mod RoundTrip

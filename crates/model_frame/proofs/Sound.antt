@@ -9,6 +9,7 @@ use borrow.Author.Tests.{ltb-false, eqb-true, eqb-false}
 use lib.Dec.{T, eqb, ltb}
 use lib.ListN.{length, take, drop, length-drop}
 use lib.Seq.{take-add, length-take-le}
+use Rattle.model_frame.proofs.Texts.{ByteRecord, ByteKey, ByteSummary, ByteFrame}
 use Rattle.model_frame.proofs.Sendable.{NoZeroFlight}
 use Rattle.model_text.specs.Utf8.{utf8}
 use Rattle.model_text.specs.Printable.{is_key}
@@ -17,7 +18,7 @@ use Rattle.model_frame.specs.Bytes.{is_bytes, le, bytes_of}
 use Rattle.model_frame.specs.Frame.{Key, AppRecord, Summary, Frame, Fault, too_long, truncated, bad_session, bad_timestamp, more, faulty, got}
 use Rattle.model_frame.specs.Parse.{is_empty, Res, ok, bad, and_then, run_bytes, Each}
 use Rattle.model_frame.specs.Reading.{max_body, read_stamp_or_none, read_changes, read_kinds, read_app_record, read_app_records, read_part, read_reason, read_key, flight, read_summary, hello_fields, welcome_fields, bind_fields, batch_fields, ack_fields, nack_fields, bound_fields, checked_fields, read_fields, at_end, read_body, decoded_as, decode}
-use Rattle.model_frame.specs.Writing.{blob_bytes, change_bytes, app_record_bytes, part_number, reason_number, flight_number, key_bytes, summary_bytes, body_bytes, encode, fine_key, fine_summary, fine, RangedRecord, RangedKey, RangedSummary, Ranged, Writable, ByteRecord, ByteKey, ByteSummary, ByteFrame}
+use Rattle.model_frame.specs.Writing.{blob_bytes, change_bytes, app_record_bytes, part_number, reason_number, flight_number, key_bytes, summary_bytes, body_bytes, encode, fine_key, fine_summary, fine, RangedRecord, RangedKey, RangedSummary, Ranged, Writable}
 use Rattle.model_frame.proofs.Le.{Byte, bytes_each, each_take, each_drop, bytes_le}
 use Rattle.model_frame.proofs.Canon.{Was, Canon, canon_done, canon_fail, canon_test, canon_row, canon_then, num_canon, byte_canon, blob_canon, text_canon, counted_canon, Blob}
 use Rattle.model_frame.proofs.SoundChange.{both, TakenChange, marks_canon, change_canon, taken_ranged, taken_fine, taken_blob}

@@ -4,6 +4,7 @@ use mathlib.Core.Bool.{Bool, true, ◌&&◌}
 use mathlib.Core.List.{List, [], ◌∷◌, ◌++◌}
 use Prim.Native.Nat.{ℕ}
 use lib.Dec.{T}
+use Rattle.model_frame.proofs.Texts.{ByteChange}
 use Rattle.model_frame.proofs.Sendable.{Sendable}
 use Rattle.model_text.specs.Utf8.{utf8}
 use Rattle.model_text.specs.Printable.{is_marks}
@@ -12,7 +13,7 @@ use Rattle.model_frame.specs.Bytes.{is_bytes}
 use Rattle.model_frame.specs.Frame.{Change, reset, bad_timestamp, bad_marks}
 use Rattle.model_frame.specs.Parse.{ok, pure, many, run_bytes, Each}
 use Rattle.model_frame.specs.Reading.{read_stamp, read_marks, set_incoming_fields, set_incoming_in_flight_fields, set_in_flight_fields, record_msg_fields, record_bare_fields, set_created_at_fields, set_marks_fields, read_change}
-use Rattle.model_frame.specs.Writing.{blob_bytes, change_bytes, all_fine, RangedChange, ByteChange}
+use Rattle.model_frame.specs.Writing.{blob_bytes, change_bytes, all_fine, RangedChange}
 use Rattle.model_frame.proofs.Le.{bytes_each, each_bytes}
 use Rattle.model_frame.proofs.Canon.{Was, Canon, canon_done, canon_fail, canon_test, canon_row, canon_then, num_canon, byte_canon, blob_canon, text_canon, run_canon, Blob, Run}
 

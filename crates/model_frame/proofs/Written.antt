@@ -8,11 +8,12 @@ use borrow.Author.Tests.{ltb-true, ltb-false, lt-ltb, le-ltb}
 use lib.Dec.{T, ltb}
 use lib.ListN.{length, take, length-append}
 use lib.Seq.{take_at, take-take, length-take-le}
+use Rattle.model_frame.proofs.Texts.{ByteChange, ByteRecord, ByteKey, ByteSummary, ByteFrame}
 use Rattle.model_frame.specs.Bytes.{is_bytes, bytes_of}
 use Rattle.model_frame.specs.Frame.{Key, Change, set_incoming, set_incoming_in_flight, set_in_flight, record_msg, record_bare, reset, set_created_at, set_marks, Part, commit, whole, last_whole, Reason, stale_epoch, diverged, lag_too_great, restarted, AppRecord, Summary, Frame, hello, welcome, bind, batch, ack, nack, bound, checked, more}
 use Rattle.model_frame.specs.Parse.{run_bytes, Each}
 use Rattle.model_frame.specs.Reading.{max_body, decode}
-use Rattle.model_frame.specs.Writing.{blob_bytes, change_bytes, app_record_bytes, part_number, reason_number, key_bytes, summary_bytes, flight_number, body_bytes, encode, Writable, ByteChange, ByteRecord, ByteKey, ByteSummary, ByteFrame}
+use Rattle.model_frame.specs.Writing.{blob_bytes, change_bytes, app_record_bytes, part_number, reason_number, key_bytes, summary_bytes, flight_number, body_bytes, encode, Writable}
 use Rattle.model_frame.proofs.Le.{length_bytes, bytes_append, bytes_number}
 use Rattle.model_frame.proofs.RoundTrip.{size_back}
 

@@ -8,11 +8,12 @@ use mathlib.Core.List.{List, [], ◌∷◌, ◌++◌}
 use mathlib.Core.Bool.{true, ◌&&◌}
 use lib.ListN.{length, length-append}
 use lib.Dec.{T, ltb, leb, eqb, leb→le, ltb→lt, eqb→eq}
+use Rattle.model_session.proofs.Storable.{Storable}
 use Rattle.model_text.specs.Printable.{is_printable, is_marks}
 use Rattle.model_text.specs.Stamp.{is_stamp}
 use Rattle.model_frame.specs.Frame.{Change, set_incoming, set_incoming_in_flight, set_in_flight, record_msg, record_bare, reset, set_created_at, set_marks}
 use Rattle.model_frame.specs.Parse.{Each}
-use Rattle.model_session.specs.Session.{Session, Msg, new_session, stored_bytes, has_space, evict, keep, apply, apply_all, fits, Rising, is_bytes, Holdable, is_stamp_or_none, Storable, top}
+use Rattle.model_session.specs.Session.{Session, Msg, new_session, stored_bytes, has_space, evict, keep, apply, apply_all, fits, Rising, is_bytes, Holdable, is_stamp_or_none, top}
 use Rattle.model_session.proofs.Basics.{T→true, true→T, and_l, and_r, cond_cases, leb_true}
 use Rattle.model_session.proofs.Sending.{total_append}
 use Rattle.model_session.proofs.Longest.{evict_space}

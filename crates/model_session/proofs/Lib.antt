@@ -5,5 +5,6 @@ pub mod Writing
 pub mod Sender
 pub mod Summing
 pub mod Longest
+pub mod Storable
 pub mod Keeping
 pub mod Lagging

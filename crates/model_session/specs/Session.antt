@@ -116,15 +116,3 @@ pub record Holdable (C M : ℕ) (s : Session) : Type 0 where
   pub msgs_rise : Rising 1 s.next_out s.messages
   pub msgs_bytes : stored_bytes s.messages ≤ C
   pub msgs_count : length s.messages ≤ M
-
--- a change whose incoming and in-flight numbers, message bytes, stamp or marks the store can hold; of a Record's number nothing is asked here, as `fits`
--- judges it
-abbrev pub Storable : Change → Type 0
-Storable (set_incoming n) = n ≤ top
-Storable (set_incoming_in_flight n f) = (n ≤ top) × (f ≤ top)
-Storable (set_in_flight f) = f ≤ top
-Storable (record_msg q w) = T (is_bytes w)
-Storable (record_bare q) = Unit {0}
-Storable reset = Unit {0}
-Storable (set_created_at t) = T (is_stamp t)
-Storable (set_marks m) = T (is_marks m)

@@ -6,11 +6,12 @@ use mathlib.Core.List.{List, []}
 use mathlib.Core.Bool.{true, ◌||◌}
 use lib.ListN.{length}
 use lib.Dec.{T}
+use Rattle.model_session.proofs.Storable.{Storable}
 use Rattle.model_frame.specs.Frame.{Change, Frame, hello, welcome, bind, batch, ack, nack, bound, checked}
 use Rattle.model_frame.specs.Parse.{is_empty, Each}
 use Rattle.model_frame.specs.Writing.{Writable}
 use Rattle.model_frame.specs.Sizes.{sizes}
-use Rattle.model_session.specs.Session.{Holdable, Storable, is_bytes, message_bytes, top}
+use Rattle.model_session.specs.Session.{Holdable, is_bytes, message_bytes, top}
 use Rattle.model_standby.specs.Answer.{protocol_version}
 use Rattle.model_standby.specs.Row.{Used}
 use Rattle.model_standby.specs.Store.{Place}

@@ -9,6 +9,8 @@ use mathlib.Core.Option.{Option, some, map}
 use mathlib.Core.Bool.{Bool, true, false, cond, not, ◌&&◌, ◌||◌}
 use lib.ListN.{length, length-append, get_or, take, length-take, get_elem?}
 use lib.Dec.{T, ltb, leb, eqb, nleb→lt}
+use Rattle.model_session.proofs.Storable.{Storable}
+use Rattle.model_frame.proofs.Texts.{ByteChange, ByteFrame}
 use Rattle.model_text.specs.Printable.{is_printable_byte, all_printable, is_printable, is_marks}
 use Rattle.model_text.specs.Stamp.{is_stamp, takes_stamp}
 use Rattle.model_text.specs.Utf8.{utf8}
@@ -16,11 +18,11 @@ use Rattle.model_text.proofs.Laws.{marks_is, takes_keeps}
 use Rattle.model_frame.specs.Frame.{Key, Change, set_incoming, set_incoming_in_flight, set_in_flight, record_msg, record_bare, reset, set_created_at, set_marks, Part, Frame, hello, welcome, bind, batch, ack, nack, bound, checked, Decoded, more, faulty, got}
 use Rattle.model_frame.specs.Parse.{is_empty, Each}
 use Rattle.model_frame.specs.Reading.{decode, max_body}
-use Rattle.model_frame.specs.Writing.{fine, fine_change, all_fine, Ranged, RangedChange, ByteChange, ByteFrame}
+use Rattle.model_frame.specs.Writing.{fine, fine_change, all_fine, Ranged, RangedChange}
 use Rattle.model_frame.specs.Sizes.{sizes}
 use Rattle.model_frame.proofs.Sizes.{body_size_lem}
 use Rattle.model_frame.proofs.Sound.{decode_sound}
-use Rattle.model_session.specs.Session.{fits, message_bytes, top, Holdable, Storable, is_bytes}
+use Rattle.model_session.specs.Session.{fits, message_bytes, top, Holdable, is_bytes}
 use Rattle.model_session.proofs.Basics.{T→true, true→T, and_l, and_r, and_true, leb_true, cond_cases, true≢false, each_append}
 use Rattle.model_session.proofs.Sending.{message_bytes_append}
 use Rattle.model_session.proofs.Keeping.{apply_all_keeps, rising_up, new_holdable}

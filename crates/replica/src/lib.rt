@@ -2,12 +2,13 @@
 // C lends the counters, the row and the areas, each apart; the six calls are names of their own that hand on to one function.
 #![tactic(auto)]
 
-ghost use Rattle.std.specs.Prelude.{◌≡◌, max, get_or};
+ghost use Rattle.std.specs.Prelude.{◌≡◌, max};
 ghost use Rattle.base_flags.specs.Flag.{is_set};
 ghost use Rattle.model_standby.specs.State.{on_frame_held, on_frame, flush, disconnected_from, promote, promote_unchecked};
 ghost use Rattle.standby_step.specs.Calls.{Called};
 ghost use Rattle.standby_call.specs.Call.{call_of};
 ghost use Rattle.replica.specs.Making.{new_replica, MadeOver};
+ghost use Rattle.store_areas.specs.Areas.{used_of};
 
 use base_refusals::Refusal;
 use frame_fields::{Epoch, Incarnation};
@@ -18,7 +19,7 @@ use store_areas::word;
 
 // How many places of the store are in use.
 fn places_in_use(words: &[u64]) -> usize
-    ensures { result ≡ get_or words.now 0 0 }
+    ensures { result ≡ used_of words.now }
 {
     words.get(word::USED).copied().unwrap_or(0) as usize
 }

@@ -1,5 +1,5 @@
 -- A Batch on what was found for its handle, over one hold area. Assumes nothing.
-use Rattle.std.specs.Prelude.{ℕ, ◌<◌, ◌≤◌, ◌≡◌, Bool, true, cond, ◌&&◌, List, length, get_or, eqb, is_some}
+use Rattle.std.specs.Prelude.{ℕ, ◌<◌, ◌≤◌, ◌≡◌, Bool, true, cond, ◌&&◌, List, length, eqb, is_some}
 use Rattle.std.specs.Prelude.{Some, None}
 use Rattle.std.specs.Prelude as prelude
 use Rattle.std.proofs.Math.Option.{Option, none, some}
@@ -13,8 +13,7 @@ use Rattle.frame_fields.specs.declared.Epoch.{Epoch}
 use Rattle.standby_row.specs.declared.Bound.{Bound as BoundRecord}
 use Rattle.standby_row.specs.declared.lookup.Lookup.{Lookup}
 use Rattle.standby_row.specs.Row.{own_record}
-use Rattle.store_areas.specs.StoreWord
-use Rattle.store_areas.specs.Areas.{Rules}
+use Rattle.store_areas.specs.Areas.{Rules, used_of}
 use Rattle.standby_commit.specs.Settling.{batch_change, StoreAfter}
 use Rattle.model_standby.specs.Answer.{protocol_version, accepted}
 use Rattle.model_standby.specs.State.{Bound}
@@ -57,7 +56,7 @@ settled_of c seen (PartResult.Accepted x) h n = storing c seen (is_ack h n) h x
 
 -- the record found names a place in use, and holds no more than its area has
 pub record RecordRules (seen : Lookup) (w area : List ℕ) : Type 0 where
-  pub place_used : (own_record seen).place < get_or w StoreWord.used 0
+  pub place_used : (own_record seen).place < used_of w
   pub held_within : (own_record seen).held_len ≤ length area
 
 -- the hold area with what is written there
@@ -90,10 +89,10 @@ pub record BatchIs (s : Settings) (c : Replica) (seen : Lookup) (h e n : ℕ) (p
     answer = answer_of b' r.answer;
   }
       ≡ core_batch (settings_of s (length area)) (core_at (counters_of c) s.shape w b) (found_at seen h area) h e n part cs apps
-  pub puts : Puts seen (get_or w' StoreWord.used 0) (length area) area' r.action
+  pub puts : Puts seen (used_of w') (length area) area' r.action
   pub stored : stores r.action ≡ true → found_for seen h ≡ true
   pub rules : Rules s.shape w' b'
-  pub used : get_or w' StoreWord.used 0 ≡ get_or w StoreWord.used 0
+  pub used : used_of w' ≡ used_of w
   pub store_after : StoreAfter s.shape (batch_change h (own_record seen).place part (accepted (answer_of b' r.answer))) w w' b b'
   pub area_is : area' ≡ hold_area_with (writes_frame (settings_of s (length area)) (counters_of c) (found_at seen h area) (batch h e n part cs apps)) area
   pub exact : Exact b' r.answer

@@ -1,12 +1,11 @@
 -- What a Bind leaves and answers. Assumes nothing.
-use Rattle.std.specs.Prelude.{ℕ, ◌<◌, ◌≤◌, ◌≡◌, true, List, length, get_or}
+use Rattle.std.specs.Prelude.{ℕ, ◌<◌, ◌≤◌, ◌≡◌, true, List, length}
 use Rattle.model_frame.specs.Frame.{Key}
 use Rattle.standby_row.specs.declared.Bound.{Bound}
 use Rattle.standby_row.specs.declared.lookup.Lookup.{Lookup}
 use Rattle.standby_row.specs.Row.{rival_of}
-use Rattle.store_areas.specs.StoreWord
 use Rattle.store_areas.specs.declared.Shape.{Shape}
-use Rattle.store_areas.specs.Areas.{Rules, place_at, places_of}
+use Rattle.store_areas.specs.Areas.{Rules, place_at, places_of, used_of}
 use Rattle.standby_pending.specs.Pending.{pending_of}
 use Rattle.standby_commit.specs.Settling.{bind_change, StoreAfter}
 use Rattle.model_standby.specs.Answer.{accepted}
@@ -36,16 +35,16 @@ pub record BindOpens (s : Shape) (k : Key) (w w' b b' : List ℕ) : Type 0 where
   pub places : places_of s w' b' ≡ opened k (places_of s w b)
   pub pending : pending_of w' ≡ pending_of w
   pub rules : Rules s w' b'
-  pub more : get_or w StoreWord.used 0 ≤ get_or w' StoreWord.used 0
-  pub there : place_of k (places_of s w b) < get_or w' StoreWord.used 0
+  pub more : used_of w ≤ used_of w'
+  pub there : place_of k (places_of s w b) < used_of w'
   pub session : (place_at s w' b' (place_of k (places_of s w b))).stored.session ≡ or_new (session_at (places_of s w b) (place_of k (places_of s w b)))
   pub store_after : StoreAfter s (bind_change (place_of k (places_of s w b)) (is_stored k (places_of s w b)) true) w w' b b'
 
 -- equal to the definition, whatever the hold areas
 pub record BindIs (s : Settings) (c : Replica) (seen : Lookup) (row : List Bound) (h e lag : ℕ) (k : Key) (w w' b b' : List ℕ) (r : Outcome) : Type 0 where
   pub is : (version room : ℕ) (holds : List ℕ) → outcome_of version room s.shape w' b' holds r ≡ core_bind (settings_of s room) (core_at (counters_of c) s.shape w b) (λ p. room_for seen (rival_of row h p)) h e lag k
-  pub lands : (room : ℕ) (area : List ℕ) → Lands seen row (get_or w' StoreWord.used 0) room area r.action
+  pub lands : (room : ℕ) (area : List ℕ) → Lands seen row (used_of w') room area r.action
   pub rules : Rules s.shape w' b'
-  pub more : get_or w StoreWord.used 0 ≤ get_or w' StoreWord.used 0
+  pub more : used_of w ≤ used_of w'
   pub store_after : StoreAfter s.shape (bind_change (place_of k (places_of s.shape w b)) (is_stored k (places_of s.shape w b)) (accepted (answer_of b' r.answer))) w w' b b'
   pub exact : Exact b' r.answer

@@ -2,11 +2,11 @@
 // Another handle that has the session loses it, and its place in the row counts as free.
 #![tactic(auto)]
 
-ghost use Rattle.std.specs.Prelude.{◌≡◌, ◌||◌, ◌<◌, true, get_or, ltb, is_some};
+ghost use Rattle.std.specs.Prelude.{◌≡◌, ◌||◌, ◌<◌, true, ltb, is_some};
 ghost use Rattle.model_session.specs.Summary.{summary};
 ghost use Rattle.model_standby.specs.Store.{place_of};
 ghost use Rattle.frame_fields.specs.Answers.{key_of};
-ghost use Rattle.store_areas.specs.Areas.{Rules, place_at, places_of};
+ghost use Rattle.store_areas.specs.Areas.{Rules, place_at, places_of, used_of};
 ghost use Rattle.store_areas.specs.Same.{SameAreas};
 ghost use Rattle.store_sessions.specs.Answers.{stored_place};
 ghost use Rattle.standby_state.specs.Answers.{brief_of};
@@ -24,7 +24,7 @@ use store_place::Key;
 
 // What a Bound says of the session at a place in use.
 fn summary_at(store: &Store, place: usize, n: u64) -> BoundSummary
-    requires { place < get_or store.now.words.now 0 0 }
+    requires { place < used_of store.now.words.now }
     ensures exact { ExactSummary store.now.bytes.now result }
     ensures is { brief_of store.now.bytes.now result ≡ summary (place_at store.now.shape store.now.words.now store.now.bytes.now place).stored.session n }
 {
@@ -56,7 +56,7 @@ fn place_of(store: &Store, frame: &[u8], session: SessionId) -> Option<usize>
 // The place of a key, whose session is opened where it is new.
 fn open(store: &mut Store, frame: &[u8], session: SessionId, found: Option<usize>) -> usize
     requires found_value { found ≡ stored_place (key_of frame.now session) (places_of store.old.shape store.old.words.now store.old.bytes.now) }
-    requires room { (is_some found || ltb (get_or store.old.words.now 0 0) store.old.shape.places) ≡ true }
+    requires room { (is_some found || ltb (used_of store.old.words.now) store.old.shape.places) ≡ true }
     requires short { Short (key_of frame.now session) }
     ensures place { result ≡ place_of (key_of frame.now session) (places_of store.old.shape store.old.words.now store.old.bytes.now) }
     ensures is { BindOpens store.old.shape (key_of frame.now session) store.old.words.now store.new.words.now store.old.bytes.now store.new.bytes.now }

@@ -1,5 +1,5 @@
 -- What a frame that is no Batch leaves and answers. Assumes nothing.
-use Rattle.std.specs.Prelude.{ℕ, ◌≤◌, ◌≡◌, Bool, false, cond, not, List, get_or, set}
+use Rattle.std.specs.Prelude.{ℕ, ◌≤◌, ◌≡◌, Bool, false, cond, not, List, set}
 use Rattle.std.proofs.Math.Option.{Option}
 use Rattle.model_frame.specs.Frame.{Frame, hello, welcome, bind, batch, ack, nack, bound, checked}
 use Rattle.model_frame.specs.Parse.{is_empty}
@@ -7,7 +7,7 @@ use Rattle.standby_row.specs.declared.Bound.{Bound as BoundRecord}
 use Rattle.standby_row.specs.declared.lookup.Lookup.{Lookup}
 use Rattle.standby_row.specs.Row.{own_record}
 use Rattle.store_areas.specs.StoreWord
-use Rattle.store_areas.specs.Areas.{Rules, places_of}
+use Rattle.store_areas.specs.Areas.{Rules, places_of, used_of}
 use Rattle.standby_pending.specs.Pending.{count_of, pending_of}
 use Rattle.standby_commit.specs.Settling.{StoreAfter}
 use Rattle.model_standby.specs.Answer.{intact, handle_in, accepted}
@@ -52,9 +52,9 @@ cleared_if t w = cond t (set w StoreWord.pending 0) w
 pub record OtherIs (s : Settings) (c : Replica) (seen : Lookup) (row : List BoundRecord) (f : Frame) (w w' b b' : List ℕ) (r : Outcome) : Type 0 where
   pub is : (version room : ℕ) (holds : List ℕ) (o : Option Bound)
       → outcome_of version room s.shape w' b' holds r ≡ core_intact (settings_of s room) (core_at (counters_of c) s.shape w b) o (rooms_in seen row (handle_in (intact f))) f
-  pub lands : (room : ℕ) (area : List ℕ) → Lands seen row (get_or w' StoreWord.used 0) room area r.action
+  pub lands : (room : ℕ) (area : List ℕ) → Lands seen row (used_of w') room area r.action
   pub rules : Rules s.shape w' b'
-  pub more : get_or w StoreWord.used 0 ≤ get_or w' StoreWord.used 0
+  pub more : used_of w ≤ used_of w'
   pub store_after : count_of w ≡ 0 → StoreAfter s.shape (changes_by (places_of s.shape w b) (own_record seen).place (intact f) (accepted (answer_of b' r.answer))) w w' b b'
   pub exact : Exact b' r.answer
 
@@ -63,8 +63,8 @@ pub record OtherIn (s : Settings) (c : Replica) (seen : Lookup) (row : List Boun
   pub is : (version room : ℕ) (holds : List ℕ) (o : Option Bound)
       → outcome_of version room s.shape w' b' holds r
       ≡ core_intact (settings_of s room) (core_run (not (is_empty (pending_of w))) (core_at (counters_of c) s.shape w b)) o (rooms_in seen row (handle_in (intact f))) f
-  pub lands : (room : ℕ) (area : List ℕ) → Lands seen row (get_or w' StoreWord.used 0) room area r.action
+  pub lands : (room : ℕ) (area : List ℕ) → Lands seen row (used_of w') room area r.action
   pub rules : Rules s.shape w' b'
-  pub more : get_or w StoreWord.used 0 ≤ get_or w' StoreWord.used 0
+  pub more : used_of w ≤ used_of w'
   pub leaves : FrameLeaves s.shape (changes_by (places_of s.shape w b) (own_record seen).place (intact f) (accepted (answer_of b' r.answer))) (not (is_empty (pending_of w))) false w w' b b'
   pub exact : Exact b' r.answer

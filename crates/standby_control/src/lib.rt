@@ -11,6 +11,7 @@ ghost use Rattle.standby_hello.specs.Greeting.{Replies};
 ghost use Rattle.model_standby.specs.Core.{core_intact};
 ghost use Rattle.standby_state.specs.Lent.{SameLent};
 ghost use Rattle.standby_control.specs.Others.{Plain, Fit, cleared_if, OtherIs, OtherIn};
+ghost use Rattle.store_areas.specs.StoreWord;
 
 use base_refusals::Refusal;
 use frame::Frame;
@@ -34,7 +35,7 @@ fn no_kinds(frame: &[u8], run: Run) -> bool
 
 // Drops the pending commits, if the bindings go.
 fn clear_if(words: &mut [u64], clears: bool)
-    requires { 66 ≤ length words.old }
+    requires { StoreWord.places ≤ length words.old }
     ensures { words.new ≡ cleared_if clears words.old }
 {
     if clears {

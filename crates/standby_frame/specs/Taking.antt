@@ -1,11 +1,10 @@
 -- Taking a frame, once the rules hold. Assumes nothing.
-use Rattle.std.specs.Prelude.{ℕ, ◌≤◌, ◌≡◌, Bool, true, false, not, ◌&&◌, List, get_or, eqb}
+use Rattle.std.specs.Prelude.{ℕ, ◌≤◌, ◌≡◌, Bool, true, false, not, ◌&&◌, List, eqb}
 use Rattle.model_frame.specs.Frame.{Frame}
 use Rattle.standby_row.specs.declared.Bound.{Bound as BoundRecord}
 use Rattle.standby_row.specs.declared.lookup.Lookup.{Lookup}
 use Rattle.standby_row.specs.Row.{own_place, own_record}
-use Rattle.store_areas.specs.StoreWord
-use Rattle.store_areas.specs.Areas.{Rules, places_of}
+use Rattle.store_areas.specs.Areas.{Rules, places_of, used_of}
 use Rattle.standby_pending.specs.Pending.{pending_of}
 use Rattle.model_standby.specs.Answer.{protocol_version, intact, given, handle_in, accepted}
 use Rattle.model_standby.specs.State.{on_frame_held}
@@ -34,9 +33,9 @@ pub record IntactIs (s : Settings) (c : Replica) (seen : Lookup) (row : List Bou
   pub is : Own seen f
       → outcome_of protocol_version (room_in seen h) s.shape w' b' h' r
       ≡ core_intact (settings_of s (room_in seen h)) (core_run (due (pending_of w) f) (core_at (counters_of c) s.shape w b)) (found_in seen h) (rooms_in seen row (handle_in (intact f))) f
-  pub lands : Lands seen row (get_or w' StoreWord.used 0) (room_in seen h) (area_at (room_in seen h) (own_place seen) h') r.action
+  pub lands : Lands seen row (used_of w') (room_in seen h) (area_at (room_in seen h) (own_place seen) h') r.action
   pub rules : Rules s.shape w' b'
-  pub more : get_or w StoreWord.used 0 ≤ get_or w' StoreWord.used 0
+  pub more : used_of w ≤ used_of w'
   pub leaves : FrameLeaves s.shape (changes_by (places_of s.shape w b) (own_record seen).place (intact f) (accepted (answer_of b' r.answer))) (due (pending_of w) f) false w w' b b'
   pub holds : Own seen f → h' ≡ holds_after (room_in seen h) (own_place seen) (writes_frame (settings_of s (room_in seen h)) (counters_of c) (found_in seen h) f) h
   pub exact : Exact b' r.answer

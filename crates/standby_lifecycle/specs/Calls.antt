@@ -1,8 +1,8 @@
 -- What promotion leaves and answers, of areas that keep the rules. Assumes nothing.
-use Rattle.std.specs.Prelude.{ℕ, ◌≡◌, List, [], get_or, set}
+use Rattle.std.specs.Prelude.{ℕ, ◌≡◌, List, [], set}
 use Rattle.store_place.specs.Only.{Only}
 use Rattle.store_areas.specs.StoreWord
-use Rattle.store_areas.specs.Areas.{words_at, bytes_at, Rules, places_of}
+use Rattle.store_areas.specs.Areas.{words_at, bytes_at, Rules, places_of, used_of}
 use Rattle.standby_pending.specs.Pending.{pending_of}
 use Rattle.model_standby.specs.Store.{on_places, taken_over}
 use Rattle.standby_counters.specs.declared.Replica.{Replica}
@@ -19,6 +19,6 @@ pub record Promoted (s : Shape) (lag : ℕ) (c : Replica) (w w' b b' : List ℕ)
   pub places : places_of s w' b' ≡ on_places (taken_over lag) (places_of s w b)
   pub pending : pending_of w' ≡ []
   pub rules : Rules s w' b'
-  pub used : get_or w' StoreWord.used 0 ≡ get_or w StoreWord.used 0
-  pub words : Only StoreWord.places (words_at s (get_or w StoreWord.used 0)) (set w StoreWord.pending 0) w'
-  pub bytes : Only 0 (bytes_at s (get_or w StoreWord.used 0)) b b'
+  pub used : used_of w' ≡ used_of w
+  pub words : Only StoreWord.places (words_at s (used_of w)) (set w StoreWord.pending 0) w'
+  pub bytes : Only 0 (bytes_at s (used_of w)) b b'

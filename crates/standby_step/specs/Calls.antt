@@ -7,8 +7,7 @@ use Rattle.model_frame.specs.Frame.{Frame, hello, welcome, bind, batch, ack, nac
 use Rattle.standby_row.specs.declared.Bound.{Bound}
 use Rattle.standby_row.specs.Row.{free_record, find_of, broken_of, apart_of, alone_at, spot_for, cleared_all}
 use Rattle.standby_handles.specs.Rows.{row_of}
-use Rattle.store_areas.specs.StoreWord
-use Rattle.store_areas.specs.Areas.{allowed, places_of}
+use Rattle.store_areas.specs.Areas.{allowed, places_of, used_of}
 use Rattle.standby_pending.specs.Pending.{pending_of}
 use Rattle.model_standby.specs.Answer.{protocol_version, Given, damaged, intact, given, reply, refused, done, accepted, says_diverged}
 use Rattle.model_standby.specs.Answer as the-answer
@@ -36,7 +35,7 @@ standby_of s c row w b h =
 
 -- the rules: the store's; no two used records have one handle, and no two name one place; none names a place that isn't in use or holds more than its area has
 abbrev pub allowed_all : Settings → List Bound → List ℕ → List ℕ → List ℕ → Bool
-allowed_all s row w b h = allowed s.shape w b && (apart_of row && leb (length row) (broken_of row (get_or w StoreWord.used 0) (room_all row h)))
+allowed_all s row w b h = allowed s.shape w b && (apart_of row && leb (length row) (broken_of row (used_of w) (room_all row h)))
 
 -- the four bytes where a Bind and a Batch have their handle
 abbrev pub handle_at : List ℕ → ℕ

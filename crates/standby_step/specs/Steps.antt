@@ -1,5 +1,5 @@
 -- What a call's core leaves and answers, of what was found in the row: the definition's step, and what stays as it was. Assumes nothing.
-use Rattle.std.specs.Prelude.{ℕ, ◌+◌, ◌*◌, ◌/◌, ◌≤◌, ◌≡◌, Bool, true, false, cond, not, ◌&&◌, ◌||◌, List, length, get_or, set, eqb, ltb, leb, is_some}
+use Rattle.std.specs.Prelude.{ℕ, ◌+◌, ◌*◌, ◌/◌, ◌≤◌, ◌≡◌, Bool, true, false, cond, not, ◌&&◌, ◌||◌, List, length, set, eqb, ltb, leb, is_some}
 use Rattle.std.proofs.Math.Option.{Option, none, some}
 use Rattle.base_flags.specs.Flag.{is_set}
 use Rattle.model_frame.specs.Refusal
@@ -11,7 +11,7 @@ use Rattle.standby_row.specs.Row.{rival_of, own_place, own_record}
 use Rattle.store_place.specs.Only.{Only}
 use Rattle.store_areas.specs.StoreWord
 use Rattle.store_areas.specs.declared.Shape.{Shape}
-use Rattle.store_areas.specs.Areas.{words_at, bytes_at, allowed, Rules, places_of}
+use Rattle.store_areas.specs.Areas.{words_at, bytes_at, allowed, Rules, places_of, used_of}
 use Rattle.standby_pending.specs.Pending.{pending_of}
 use Rattle.standby_pending_run.specs.Commits.{ran_words}
 use Rattle.standby_commit.specs.Settling.{StoreChange, stays, bind_change, batch_change, StoreAfter}
@@ -59,7 +59,7 @@ seen_allowed s seen w b h =
     allowed s w b
     && (seen.apart
     && (not (is_some seen.broken)
-    && (not (is_found seen) || (ltb (own_record seen).place (get_or w StoreWord.used 0) && leb (own_record seen).held_len (room_in seen h)))))
+    && (not (is_found seen) || (ltb (own_record seen).place (used_of w) && leb (own_record seen).held_len (room_in seen h)))))
 
 -- ---- what stays as it was
 
@@ -89,8 +89,8 @@ pub record FrameLeaves (s : Shape) (x : StoreChange) (before after : Bool) (w w'
 -- promotion: nothing but the places in use and the count of pending commits
 pub record PromotionLeaves (s : Shape) (refused : Bool) (w w' b b' : List ℕ) : Type 0 where
   pub still : refused ≡ true → (w' ≡ w) × (b' ≡ b)
-  pub words : refused ≡ false → Only StoreWord.places (words_at s (get_or w StoreWord.used 0)) (set w StoreWord.pending 0) w'
-  pub bytes : refused ≡ false → Only 0 (bytes_at s (get_or w StoreWord.used 0)) b b'
+  pub words : refused ≡ false → Only StoreWord.places (words_at s (used_of w)) (set w StoreWord.pending 0) w'
+  pub bytes : refused ≡ false → Only 0 (bytes_at s (used_of w)) b b'
 
 -- by the handle's place and the answer
 abbrev pub Leaves : Shape → Replica → ℕ → Call → List ℕ → List ℕ → List ℕ → List ℕ → Answer → Type 0
@@ -164,10 +164,10 @@ keeps_counters c promote_unchecked = false
 
 pub record Stepped (s : Settings) (c : Replica) (seen : Lookup) (row : List BoundRecord) (call : Call) (w w' b b' h h' : List ℕ) (r : Outcome) : Type 0 where
   pub is : outcome_of protocol_version (room_in seen h) s.shape w' b' h' r ≡ core_step (settings_of s (room_in seen h)) (core_at (counters_of c) s.shape w b) (found_in seen h) (rooms_in seen row (handle_by call)) call
-  pub lands : Lands seen row (get_or w' StoreWord.used 0) (room_in seen h) (area_at (room_in seen h) (own_place seen) h') r.action
+  pub lands : Lands seen row (used_of w') (room_in seen h) (area_at (room_in seen h) (own_place seen) h') r.action
   pub kept : keeps_counters c call ≡ true → r.replica ≡ c
   pub rules : Rules s.shape w' b'
-  pub more : get_or w StoreWord.used 0 ≤ get_or w' StoreWord.used 0
+  pub more : used_of w ≤ used_of w'
   pub leaves : Leaves s.shape c (own_record seen).place call w w' b b' r.answer
   pub holds : h' ≡ holds_after (room_in seen h) (own_place seen) (writes_by (settings_of s (room_in seen h)) (counters_of c) (found_in seen h) call) h
 

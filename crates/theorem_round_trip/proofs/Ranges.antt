@@ -10,11 +10,12 @@ use lib.ListN.{length, drop, length-take}
 use mir.Val.{Val}
 use denote.Laws.{Is}
 use denote.Enum.Declared.{row}
+use Rattle.model_frame.proofs.Texts.{ByteRecord}
 use Rattle.model_frame.specs.Bytes.{is_bytes, bytes_of}
 use Rattle.model_frame.specs.Frame.{AppRecord}
 use Rattle.model_frame.specs.Parse.{Res, ok, bad, Parser, read_num, many, forget, collect, run_bytes, Each}
 use Rattle.model_frame.specs.Reading.{read_change, read_app_record}
-use Rattle.model_frame.specs.Writing.{change_bytes, app_record_bytes, flight_number, RangedRecord, ByteRecord, Ranged}
+use Rattle.model_frame.specs.Writing.{change_bytes, app_record_bytes, flight_number, RangedRecord, Ranged}
 use Rattle.model_frame.proofs.Le.{bytes_each, bytes_drop}
 use Rattle.model_frame.proofs.Canon.{Was, Canon, run_canon, num_canon, Run}
 use Rattle.model_frame.proofs.RoundTrip.{and_left, and_right}
@@ -63,7 +64,7 @@ records_ranged (r ∷ rs) h = (h.0.0, records_ranged rs h.1)
 
 -- ---- the frames
 
--- an in_flight_lem number is a u64, where there is one
+-- an in-flight number is a u64, where there is one
 flight_short :
     (h : ℕ) (o : prelude.Option ℕ) (m : Summary) {vs : List Val} →
     IsFrame (Frame.Bound h (record { next_outgoing = m.next_outgoing; next_incoming = m.next_incoming; in_flight = o; created_at = m.created_at; marks = m.marks; last_outgoing = m.last_outgoing })) vs →

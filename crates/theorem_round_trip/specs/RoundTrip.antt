@@ -1,6 +1,6 @@
 -- FRAMES SURVIVE WRITING AND READING, ON THE CODE. Every frame value that `Frame::encode` writes, with its texts, changes and records in any
 -- source, is what `Frame::decode` reads from the area it was written to, whatever bytes stand after it there, with the length that was written.
--- One thing is lost: an in_flight_lem number 0 of a summary is read as none (`shown`). The other direction, that what was read is written again
+-- One thing is lost: an in-flight number 0 of a summary is read as none (`shown`). The other direction, that what was read is written again
 -- byte for byte, is `written_again` in crates/frame/proofs/Again.antt. Assumes nothing.
 use Rattle.std.specs.Prelude.{ℕ, ◌≡◌, Bool, true, false, List, length, drop, Result, Ok, Err}
 use Rattle.model_frame.specs.Frame.{got}
