@@ -47,6 +47,8 @@ extern "C" {
 #define WZ_FRAME(c, m) ((size_t)(c) + 22 * (size_t)(m) + 156)
 #define WZ_ANSWER 134
 #define WZ_SESSION 271
+/* The longest stamp, in bytes. */
+#define WZ_STAMP 30
 /* In words: a whole sending, a lag queue, the entries of so many messages, five copies, a quorum, the books of a catch-up, a lease. */
 #define WZ_SENDING 4
 #define WZ_QUEUE 66
@@ -132,6 +134,9 @@ enum wz_refusal {
     WZ_REFUSED_FALSE_LENGTH_OR_SUM = 29,
     WZ_REFUSED_NUMBER_NOT_RISING = 30,
     WZ_REFUSED_TIME_FALLS = 31,
+    /* stamps as numbers */
+    WZ_REFUSED_STAMP_WITHOUT_NUMBER = 33, /* a year before 1970 or a second 60 */
+    WZ_REFUSED_NUMBER_WITHOUT_STAMP = 34, /* past 31 December 9999, or a remainder too large */
     /* resend ranges, quorum, choice */
     WZ_REFUSED_BAD_RANGES = 35,
     WZ_REFUSED_TOO_FEW_ENTRIES = 36,
@@ -219,6 +224,12 @@ typedef struct wz_shown_t {
     uint64_t number;
 } wz_shown_t;
 
+/* Of wz_stamp_read: whole milliseconds since 1 January 1970, and the remainder in picoseconds, below 1,000,000,000. */
+typedef struct wz_numbered_t {
+    uint8_t refusal;
+    uint64_t millis, picos;
+} wz_numbered_t;
+
 /* Of the books: `flag` is 1 for wait, for a session that is picked, and for yes. */
 typedef struct wz_answered_t {
     uint8_t refusal, flag;
@@ -230,7 +241,7 @@ typedef struct wz_due_t {
     uint8_t refusal, due;
 } wz_due_t;
 
-/* ---- Codes: what wz_read, wz_frame, wz_answer, wz_session, wz_send, wz_queue and wz_choose return. */
+/* ---- Codes: what wz_read, wz_frame, wz_answer, wz_session, wz_send, wz_queue, wz_choose and wz_stamp_write return. */
 #define WZ_OK(v) ((int)((uint64_t)(v) >> 63))                              /* 1: done */
 #define WZ_COUNT(v) ((uint64_t)(v) & UINT64_C(0x3fffffffffffffff))         /* done: bytes taken or written, numbers that went, the copy */
 #define WZ_LAST UINT64_C(0xc000000000000000)                               /* wz_send: no frame is left */
@@ -330,6 +341,14 @@ uint8_t wz_store_set_marks(uint64_t *words, size_t words_len, uint8_t *bytes, si
 /* FNV-1a (64 bits) on from a hash. */
 uint64_t wz_store_fnv(uint64_t hash, const uint8_t *s, size_t s_len);
 
+/* ---- Stamps as numbers, for reports that sort by time; a stamp has 0, 3, 6, 9 or 12 digits after the point, whatever a connection's version. */
+
+/* A stamp's number. 6, 33. */
+wz_numbered_t wz_stamp_read(const uint8_t *stamp, size_t stamp_len);
+
+/* A number's stamp, with the fewest digits that lose nothing, at the start of the area; at most WZ_STAMP bytes. 9, 34. */
+uint64_t wz_stamp_write(uint64_t millis, uint64_t picos, uint8_t *out, size_t out_len);
+
 /* ---- The active: the lag queue. One push; the count is of the numbers that went. 25. */
 uint64_t wz_queue(uint64_t *queue, size_t queue_len, uint64_t max_lag, uint64_t last);
 
@@ -390,6 +409,7 @@ WZ_LAYOUT(store_answer, sizeof(wz_store_answer_t) == 16 && WZ_AT(wz_store_answer
 WZ_LAYOUT(listed, sizeof(wz_listed_t) == 24 && WZ_AT(wz_listed_t, length, 8) && WZ_AT(wz_listed_t, bytes, 16));
 WZ_LAYOUT(built, sizeof(wz_built_t) == 24 && WZ_AT(wz_built_t, place, 8) && WZ_AT(wz_built_t, at, 16));
 WZ_LAYOUT(shown, sizeof(wz_shown_t) == 16 && WZ_AT(wz_shown_t, number, 8));
+WZ_LAYOUT(numbered, sizeof(wz_numbered_t) == 24 && WZ_AT(wz_numbered_t, millis, 8) && WZ_AT(wz_numbered_t, picos, 16));
 WZ_LAYOUT(answered, sizeof(wz_answered_t) == 16 && WZ_AT(wz_answered_t, flag, 1) && WZ_AT(wz_answered_t, session, 8));
 WZ_LAYOUT(due, sizeof(wz_due_t) == 2 && WZ_AT(wz_due_t, due, 1));
 #undef WZ_AT

@@ -260,6 +260,20 @@ static void active(void) {
     HOLDS(wz_books_behind_unless_compared_open(words, WZ_BOOKS, 78).refusal == 0 && wz_books_is_behind(words, WZ_BOOKS, 3).flag == 1 && wz_books_closed(words, WZ_BOOKS, 3).refusal == 0);
 }
 
+static void stamps(void) {
+    uint8_t area[WZ_STAMP];
+    wz_numbered_t turn = wz_stamp_read((const uint8_t *)"20000101-00:00:00.000", 21), last = wz_stamp_read((const uint8_t *)"99991231-23:59:59.999999999999", WZ_STAMP);
+    HOLDS(turn.refusal == 0 && turn.millis == UINT64_C(946684800000) && turn.picos == 0);
+    HOLDS(last.refusal == 0 && last.millis == UINT64_C(253402300799999) && last.picos == 999999999);
+    HOLDS(wz_stamp_read((const uint8_t *)"20230229-00:00:00", 17).refusal == WZ_REFUSED_BAD_TIMESTAMP);
+    HOLDS(wz_stamp_read((const uint8_t *)"19691231-23:59:59", 17).refusal == WZ_REFUSED_STAMP_WITHOUT_NUMBER);
+    HOLDS(WZ_COUNT(wz_stamp_write(turn.millis, turn.picos, area, 17)) == 17 && !memcmp(area, "20000101-00:00:00", 17));
+    HOLDS(WZ_REFUSAL(wz_stamp_write(turn.millis, 1, area, WZ_STAMP - 1)) == WZ_REFUSED_NO_ROOM && !memcmp(area, "20000101-00:00:00", 17));
+    HOLDS(WZ_COUNT(wz_stamp_write(last.millis, last.picos, area, WZ_STAMP)) == WZ_STAMP && !memcmp(area, "99991231-23:59:59.999999999999", WZ_STAMP));
+    HOLDS(WZ_REFUSAL(wz_stamp_write(last.millis + 1, 0, area, 0)) == WZ_REFUSED_NUMBER_WITHOUT_STAMP);
+    HOLDS(WZ_REFUSAL(wz_stamp_write(0, 1000000000, area, 0)) == WZ_REFUSED_NUMBER_WITHOUT_STAMP);
+}
+
 int main(void) {
     stores();
     standby();
@@ -267,6 +281,7 @@ int main(void) {
     changes();
     lengths();
     active();
+    stamps();
     HOLDS(own == 0);
     HOLDS(make() + flush() + promote() + on_frame() + store_record() == 15);
     printf("library: %d tests of the archive from C, %d failed\n", tests, failed);

@@ -69,6 +69,10 @@ pub enum Refusal {
     NumberNotRising = 30,
     // Of a lease: a time below the last one handed in, or an outcome before its start.
     TimeFalls = 31,
+    // Of a stamp that is to become a number: a year before 1970 or a second 60.
+    StampWithoutNumber = 33,
+    // Of a number that is to become a stamp: past 31 December 9999, or a remainder too large.
+    NumberWithoutStamp = 34,
     // Of a resend: ranges that are none, or too many.
     BadRanges = 35,
     // Of a resend: the answer area has fewer entries than the list.

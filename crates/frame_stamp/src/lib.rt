@@ -61,14 +61,14 @@ pub fn is_key(begin: &[u8], sender: &[u8], target: &[u8], suffix: &[u8]) -> bool
 
 // 0 to 9.
 #[tactic(auto, unfolding(model_text::specs::Stamp::is_digit))]
-fn is_digit(b: u8) -> bool
+pub fn is_digit(b: u8) -> bool
     ensures { result ≡ is_digit b }
 {
     b.is_ascii_digit()
 }
 
 // The number of two digits. A byte below the digits counts as 0, so that nothing is asked of it.
-fn pair_number(a: u8, b: u8) -> u32
+pub fn pair_number(a: u8, b: u8) -> u32
     ensures is { result ≡ pair_number a b }
     ensures small { result ≤ 2277 }
 {
@@ -85,7 +85,7 @@ fn is_pair(lo: u32, hi: u32, a: u8, b: u8) -> bool
 }
 
 // YYYYMMDD at 0. How many bytes there are is told by is_stamp's match: as arrays they would be cut out of the slice first.
-fn is_date(s: &[u8]) -> bool
+pub fn is_date(s: &[u8]) -> bool
     requires { 17 ≤ length s.now }
     ensures { result ≡ matches date (slice_at s.now 0 8) }
 {
@@ -98,7 +98,7 @@ fn is_date(s: &[u8]) -> bool
 }
 
 // -HH:MM:SS at 8.
-fn is_clock(s: &[u8]) -> bool
+pub fn is_clock(s: &[u8]) -> bool
     requires { 17 ≤ length s.now }
     ensures { result ≡ matches clock (slice_at s.now 8 9) }
 {
@@ -128,7 +128,7 @@ fn is_leap(y: u32) -> bool
 
 // The days of month m in year y.
 #[tactic(auto, unfolding(model_text::specs::Calendar::month_days))]
-fn month_days(y: u32, m: u32) -> u32
+pub fn month_days(y: u32, m: u32) -> u32
     ensures { result ≡ month_days y m }
 {
     match m {
@@ -140,7 +140,7 @@ fn month_days(y: u32, m: u32) -> u32
 }
 
 // The day at 6 exists in the month at 4 of the year at 0; no month is shorter than 28 days.
-fn is_day(s: &[u8]) -> bool
+pub fn is_day(s: &[u8]) -> bool
     requires { 17 ≤ length s.now }
     ensures { result ≡ day_exists s.now }
 {

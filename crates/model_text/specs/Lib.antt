@@ -3,5 +3,6 @@ pub mod Utf8
 pub mod Printable
 pub mod Calendar
 pub mod Stamp
+pub mod WideStamp
 pub mod Hex
 pub mod Lines

@@ -1,0 +1,2 @@
+// Stamps as numbers. Definitions in specs/, theorems in proofs/.
+#![tactic(auto)]

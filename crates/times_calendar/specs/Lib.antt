@@ -1,0 +1,3 @@
+-- The rule of the table of years, and what the functions on days give.
+pub mod Table
+pub mod Dates

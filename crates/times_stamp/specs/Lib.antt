@@ -1,0 +1,2 @@
+-- What the code's values stand for.
+pub mod Answers
