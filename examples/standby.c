@@ -53,6 +53,18 @@ static void show_sessions(const char *when) {
     for (size_t place = 0; place < words[0]; place++) show_session(place);
 }
 
+/* What a counterparty's ResendRequest gets after the promotion: each stored message of these numbers again, a gap fill where none is. */
+static void resend(const char *begin, const char *sender, const char *target, uint64_t first, uint64_t last) {
+    uint64_t place = wz_find(STORE, (const uint8_t *)begin, strlen(begin), (const uint8_t *)sender, strlen(sender), (const uint8_t *)target, strlen(target), bytes, 0, S, C, M);
+    if (!WZ_OK(place)) return;
+    for (uint64_t number = first; number <= last; number++) {
+        static uint8_t message[C];
+        uint64_t code = wz_message(STORE, message, sizeof message, S, C, M, WZ_COUNT(place), number);
+        if (WZ_OK(code)) printf("    %" PRIu64 " again: %.*s\n", number, (int)WZ_COUNT(code), message);
+        else printf("    %" PRIu64 " as a gap fill\n", number);
+    }
+}
+
 static const char *const kinds[] = { "none", "Hello", "Welcome", "Bind", "Batch", "Ack", "Nack", "Bound", "Checked" };
 
 /* Takes one whole frame and shows what a host would send back; 0 if the connection must end. */
@@ -94,6 +106,10 @@ ended:
 }
 
 int main(void) {
+    if (wz_version() != WZ_VERSION) {
+        fputs("standby: the archive isn't that of the header\n", stderr);
+        return 1;
+    }
     /* A restart that has kept words and bytes leaves out the first of these two. */
     if (wz_store_make(STORE, settings.shape) || wz_standby_make(&counters, row, HANDLES, STORE, settings).refusal) {
         fputs("standby: the areas don't fit the settings\n", stderr);
@@ -111,5 +127,6 @@ int main(void) {
         return 1;
     }
     show_sessions("taken over");
+    resend("FIX.4.4", "A", "B", 1, 6);
     return 0;
 }

@@ -5,31 +5,25 @@
 //!
 //! The records and functions are those of include/wizhdulet.h, in its order.
 use std::io::Read;
-
 #[repr(C)] #[derive(Clone, Copy, Default)]
 struct Replica { epoch: u64, connections: u64, promoted: u8, checked: u8 }
-
 #[repr(C)] #[derive(Clone, Copy, Default)]
 struct Bound { used: u8, handle: u32, place: usize, commit_no: u64, held_len: usize, held_bytes: u64 }
-
 #[repr(C)] #[derive(Clone, Copy)]
 struct Shape { places: u32, bytes: u32, messages: u32 }
-
 #[repr(C)] #[derive(Clone, Copy)]
 struct Settings { shape: Shape, incarnation: u64, max_lag: u64 }
-
 #[repr(C)] #[derive(Clone, Copy)]
 struct Span { at: usize, len: u32 }
-
 #[repr(C)] #[derive(Clone, Copy)]
 struct Summary { next_outgoing: u64, next_incoming: u64, has_in_flight: u8, in_flight: u64, created_at: Span, marks: Span, last_outgoing: u64 }
-
 #[repr(C)] #[derive(Clone, Copy)]
 struct Answer { refusal: u8, kind: u8, handle: u32, epoch: u64, incarnation: u64, commit_no: u64, reason: u8, summary: Summary }
 
 #[rustfmt::skip]
 #[link(name = "wizhdulet", kind = "static")]
 unsafe extern "C" {
+    fn wz_version() -> u32;
     fn wz_store_make(words: *mut u64, words_len: usize, bytes: *const u8, bytes_len: usize, shape: Shape) -> u8;
     fn wz_standby_make(counters: &mut Replica, row: *mut Bound, row_len: usize, words: *mut u64, words_len: usize, bytes: *const u8, bytes_len: usize, settings: Settings) -> Answer;
     fn wz_on_frame(counters: &mut Replica, row: *mut Bound, row_len: usize, words: *mut u64, words_len: usize, bytes: *mut u8, bytes_len: usize,
@@ -41,12 +35,19 @@ unsafe extern "C" {
     fn wz_answer(answer: Answer, bytes: *const u8, bytes_len: usize, out: *mut u8, out_len: usize) -> u64;
     fn wz_read(frame: *const u8, frame_len: usize) -> u64;
     fn wz_session(words: *const u64, words_len: usize, bytes: *const u8, bytes_len: usize, out: *mut u8, out_len: usize, sessions: u32, c: u32, m: u32, place: usize, n: u64) -> u64;
+    fn wz_find(words: *const u64, words_len: usize, bytes: *const u8, bytes_len: usize, begin: *const u8, begin_len: usize, sender: *const u8, sender_len: usize,
+        target: *const u8, target_len: usize, suffix: *const u8, suffix_len: usize, sessions: u32, c: u32, m: u32) -> u64;
+    fn wz_message(words: *const u64, words_len: usize, bytes: *const u8, bytes_len: usize, out: *mut u8, out_len: usize, sessions: u32, c: u32, m: u32, place: usize, number: u64) -> u64;
 }
+
 
 /// A code's count, or the refusal; a stream that isn't a whole frame yet is `Ok(0)`.
 fn count(code: u64) -> Result<usize, u8> {
     if code >> 63 == 1 { Ok((code & (u64::MAX >> 2)) as usize) } else if code == 0 { Ok(0) } else { Err((code >> 40) as u8) }
 }
+
+/// The count of wz_find and wz_message, whose 0 says that nothing is stored there.
+fn stored(code: u64) -> Option<usize> { if code == 0 { None } else { count(code).ok() } }
 
 /// The lent memory of one standby; every call borrows it whole, so no two overlap.
 struct Standby { counters: Replica, row: Vec<Bound>, words: Vec<u64>, bytes: Vec<u8>, holds: Vec<u8>, settings: Settings }
@@ -102,6 +103,17 @@ impl Standby {
         Ok(out)
     }
 
+    /// The stored message with a number of the session with a key; none if there is no such session or message.
+    fn message(&self, key: [&str; 4], number: u64) -> Option<Vec<u8>> {
+        let Shape { places, bytes, messages } = self.settings.shape;
+        let (w, wl, b, bl, mut out) = (self.words.as_ptr(), self.words.len(), self.bytes.as_ptr(), self.bytes.len(), vec![0; bytes as usize]);
+        let [(begin, n0), (sender, n1), (target, n2), (suffix, n3)] = key.map(|text| (text.as_ptr(), text.len()));
+        let place = stored(unsafe { wz_find(w, wl, b, bl, begin, n0, sender, n1, target, n2, suffix, n3, places, bytes, messages) })?;
+        let code = unsafe { wz_message(w, wl, b, bl, out.as_mut_ptr(), out.len(), places, bytes, messages, place, number) };
+        out.truncate(stored(code)?);
+        Some(out)
+    }
+
     fn show(&self, when: &str) {
         let said = |flag: u8, word: &str| if flag != 0 { word.to_string() } else { format!("not {word}") };
         println!("{when}: epoch {}, {}, {}", self.counters.epoch, said(self.counters.checked, "checked"), said(self.counters.promoted, "promoted"));
@@ -130,6 +142,7 @@ fn show_session(told: &[u8]) {
 const KINDS: [&str; 9] = ["none", "Hello", "Welcome", "Bind", "Batch", "Ack", "Nack", "Bound", "Checked"];
 
 fn main() {
+    assert_eq!(unsafe { wz_version() }, 3, "these declarations are those of version 0.3");
     let mut standby = Standby::new(Shape { places: 4, bytes: 4096, messages: 64 }, 4, 7, 0).expect("the areas fit the settings");
     let mut stream = Vec::new();
     std::io::stdin().read_to_end(&mut stream).expect("standard input is read");
@@ -145,4 +158,9 @@ fn main() {
     standby.show("the connection has ended");
     standby.promote().expect("an unchecked copy isn't taken over here");
     standby.show("taken over");
+    // What a counterparty's ResendRequest gets: each stored message again, a gap fill where none is.
+    for number in 1..=6 {
+        let served = standby.message(["FIX.4.4", "A", "B", ""], number);
+        println!("    {number} {}", served.map_or("as a gap fill".into(), |message| format!("again: {}", String::from_utf8_lossy(&message))));
+    }
 }

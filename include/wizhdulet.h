@@ -26,10 +26,12 @@
 extern "C" {
 #endif
 
-/* ---- Version: that of the release, VERSION. Before 1.0 each release may change records and signatures. */
+/* ---- Version: that of the release, VERSION. Before 1.0 the minor is raised with every record and signature that changes, from 1.0 on the major. */
 #define WZ_VERSION_MAJOR 0
-#define WZ_VERSION_MINOR 1
+#define WZ_VERSION_MINOR 3
 #define WZ_VERSION_PATCH 0
+/* Both as one number, as wz_version tells them. */
+#define WZ_VERSION (WZ_VERSION_MAJOR * 65536 + WZ_VERSION_MINOR)
 /* The version that a Hello names. */
 #define WZ_PROTOCOL 1
 
@@ -49,6 +51,8 @@ extern "C" {
 #define WZ_SESSION 271
 /* The longest stamp, in bytes. */
 #define WZ_STAMP 30
+/* Any text for a screen, in bytes. */
+#define WZ_SCREEN 1500
 /* In words: a whole sending, a lag queue, the entries of so many messages, five copies, a quorum, the books of a catch-up, a lease. */
 #define WZ_SENDING 4
 #define WZ_QUEUE 66
@@ -241,13 +245,18 @@ typedef struct wz_due_t {
     uint8_t refusal, due;
 } wz_due_t;
 
-/* ---- Codes: what wz_read, wz_frame, wz_answer, wz_session, wz_send, wz_queue, wz_choose and wz_stamp_write return. */
+/* ---- Codes: what wz_read, wz_frame, wz_answer, wz_session, wz_find, wz_message, wz_screen_.., wz_send, wz_queue, wz_choose and
+   wz_stamp_write return. */
 #define WZ_OK(v) ((int)((uint64_t)(v) >> 63))                              /* 1: done */
-#define WZ_COUNT(v) ((uint64_t)(v) & UINT64_C(0x3fffffffffffffff))         /* done: bytes taken or written, numbers that went, the copy */
+#define WZ_COUNT(v) ((uint64_t)(v) & UINT64_C(0x3fffffffffffffff))         /* done: bytes taken or written, numbers that went, the place, the copy */
 #define WZ_LAST UINT64_C(0xc000000000000000)                               /* wz_send: no frame is left */
 #define WZ_MORE UINT64_C(0)                                                /* wz_read, wz_frame: no whole frame yet */
+#define WZ_NOT_STORED UINT64_C(0)                                          /* wz_find, wz_message: no session has the key, no message the number */
 #define WZ_REFUSAL(v) (WZ_OK(v) ? 0 : (int)((uint64_t)(v) >> 40))          /* else the refusal, */
 #define WZ_DETAIL(v) ((uint32_t)((uint64_t)(v) & UINT64_C(0xffffffff)))    /* with the length for 1, field x 256 + value for 3 */
+
+/* ---- The version of the archive: WZ_VERSION of the header that it belongs to. */
+uint32_t wz_version(void);
 
 /* ---- The standby. */
 
@@ -295,6 +304,14 @@ uint64_t wz_frame(const uint8_t *frame, size_t frame_len, uint8_t *out, size_t o
 uint64_t wz_session(const uint64_t *words, size_t words_len, const uint8_t *bytes, size_t bytes_len, uint8_t *out, size_t out_len, uint32_t sessions, uint32_t c,
     uint32_t m, size_t place, uint64_t n);
 
+/* The place of the session with a key, or WZ_NOT_STORED. 25. */
+uint64_t wz_find(const uint64_t *words, size_t words_len, const uint8_t *bytes, size_t bytes_len, const uint8_t *begin, size_t begin_len, const uint8_t *sender,
+    size_t sender_len, const uint8_t *target, size_t target_len, const uint8_t *suffix, size_t suffix_len, uint32_t sessions, uint32_t c, uint32_t m);
+
+/* The stored message with a number, or WZ_NOT_STORED: it was recorded without one, has gone for newer ones, or is still to come. 9, 25. */
+uint64_t wz_message(const uint64_t *words, size_t words_len, const uint8_t *bytes, size_t bytes_len, uint8_t *out, size_t out_len, uint32_t sessions, uint32_t c,
+    uint32_t m, size_t place, uint64_t number);
+
 /* The next frame of sending a session whole, until WZ_LAST; `sending` has the last commit number and three zeros at first. 9, 24, 25. */
 uint64_t wz_send(const uint64_t *words, size_t words_len, const uint8_t *bytes, size_t bytes_len, uint64_t *sending, size_t sending_len, uint8_t *out, size_t out_len,
     uint32_t sessions, uint32_t c, uint32_t m, size_t place, uint32_t handle, uint64_t epoch);
@@ -307,6 +324,19 @@ wz_listed_t wz_resend(const uint64_t *words, size_t words_len, const uint8_t *by
 wz_built_t wz_import(uint64_t *words, size_t words_len, uint8_t *bytes, size_t bytes_len, const uint8_t *begin, size_t begin_len, const uint8_t *sender,
     size_t sender_len, const uint8_t *target, size_t target_len, const uint8_t *suffix, size_t suffix_len, const uint8_t *file, size_t file_len, uint32_t sessions,
     uint32_t c, uint32_t m);
+
+/* ---- What a screen shows: text in lines of at most 80 columns, each with its line feed; a byte that isn't printable ASCII is shown as '.'. */
+
+/* A session in five lines, more where its key or its numbers are long. 9, 25. */
+uint64_t wz_screen_session(const uint64_t *words, size_t words_len, const uint8_t *bytes, size_t bytes_len, uint8_t *out, size_t out_len, uint32_t sessions,
+    uint32_t c, uint32_t m, size_t place);
+
+/* A frame in a line: which it is and where it begins, what it is, and what was answered: a refusal, or 0 and the bytes of wz_answer. 9. */
+uint64_t wz_screen_frame(uint64_t number, uint64_t offset, const uint8_t *frame, size_t frame_len, uint8_t refusal, const uint8_t *reply, size_t reply_len, uint8_t *out,
+    size_t out_len);
+
+/* What a refusal means and what to do, by its number. 9. */
+uint64_t wz_screen_refusal(uint8_t number, uint8_t *out, size_t out_len);
 
 /* ---- The store. */
 

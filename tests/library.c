@@ -194,6 +194,14 @@ static void changes(void) {
     HOLDS(wz_resend(STORE(a), ranges, 4, entries, WZ_ENTRIES(2) - 1, S, C, M, 1).refusal == WZ_REFUSED_TOO_FEW_ENTRIES);
     ranges[0] = 0;
     HOLDS(wz_resend(STORE(a), ranges, 4, entries, WZ_ENTRIES(M), S, C, M, 1).refusal == WZ_REFUSED_BAD_RANGES);
+    HOLDS(WZ_COUNT(wz_find(STORE(a), TEXT("FIX.4.2"), TEXT("S"), TEXT("U"), TEXT("x"), S, C, M)) == 1);
+    HOLDS(wz_find(STORE(a), TEXT("FIX.4.2"), TEXT("S"), TEXT("U"), TEXT(""), S, C, M) == WZ_NOT_STORED);
+    HOLDS(WZ_REFUSAL(wz_find(a.words, WORDS - 1, a.bytes, BYTES, TEXT("FIX.4.2"), TEXT("S"), TEXT("U"), TEXT("x"), S, C, M)) == WZ_REFUSED_RULES_BROKEN);
+    HOLDS(WZ_COUNT(wz_message(STORE(a), out, 6, S, C, M, 1, 4)) == 6 && !memcmp(out, "fourth", 6) && wz_message(STORE(a), out, 6, S, C, M, 1, 3) == WZ_NOT_STORED);
+    HOLDS(WZ_REFUSAL(wz_message(STORE(a), out, 5, S, C, M, 1, 4)) == WZ_REFUSED_NO_ROOM && WZ_REFUSAL(wz_message(STORE(a), out, 6, S, C, M, 2, 1)) == WZ_REFUSED_RULES_BROKEN);
+    HOLDS(WZ_COUNT(wz_screen_session(STORE(a), out, WZ_SCREEN, S, C, M, 0)) > 80 && !memcmp(out, " 0  FIX.4.2  S -> T\n", 19));
+    HOLDS(WZ_REFUSAL(wz_screen_session(STORE(a), out, WZ_SCREEN, S, C, M, 2)) == WZ_REFUSED_RULES_BROKEN);
+    HOLDS(WZ_COUNT(wz_screen_refusal(WZ_REFUSED_UNBOUND, out, WZ_SCREEN)) > 80 && !memcmp(out, "R 14   a Batch on a handle", 26));
     HOLDS(wz_store_mark_durable(STORE(a), shape, 1) == 0 && wz_store_take_over(STORE(a), shape, 1, 4) == 0 && wz_store_next_outgoing(STORE(a), shape, 1).value == 9);
     HOLDS(wz_store_reset(STORE(a), shape, 1) == 0 && wz_store_next_outgoing(STORE(a), shape, 1).value == 1 && wz_store_next_outgoing(STORE(a), shape, 2).refusal == 25);
     static const char good[] = "8=FIX.4.2\0019=10\00135=0\00134=2\00110=164\001", bad[] = "8=FIX.4.2\0019=10\00135=0\00134=2\00110=164\001rubbish";
@@ -275,6 +283,7 @@ static void stamps(void) {
 }
 
 int main(void) {
+    HOLDS(wz_version() == WZ_VERSION && WZ_VERSION == 65536 * WZ_VERSION_MAJOR + WZ_VERSION_MINOR);
     stores();
     standby();
     whole();

@@ -5,6 +5,9 @@ library.py declarations   a C file that declares every exported function again a
                           exactly if the header has them with these types, offsets and values
 library.py names          the exported functions, by the names that they have in libwizhdulet.a
 library.py header         the functions that the header declares
+library.py version        whether the header's records, signatures and numbers are those recorded for its version, tests/interface/MAJOR.MINOR; from 1.0 on a later one
+                          of the same major must have all of an earlier one's
+library.py record         records them for a version that has none yet
 """
 import pathlib
 import re
@@ -89,7 +92,47 @@ def header_functions():
     """The functions that the header declares, with the names of their parameters."""
     text = re.sub(r"/\*.*?\*/", "", (ROOT / "include/wizhdulet.h").read_text(), flags=re.S)
     for name, parameters in re.findall(r"^\w[\w ]* \*?(wz_\w+)\((.*?)\);", text, re.M | re.S):
-        yield name, [re.search(r"(\w+)(?:\[\w+\])?$", p.strip())[1] for p in parameters.split(",")]
+        yield name, [re.search(r"(\w+)(?:\[\w+\])?$", p.strip())[1] for p in parameters.split(",") if p != "void"]
+
+
+def interface(header):
+    """What a program compiled with a header relies on: all that it declares and defines but the version, a line each."""
+    text = re.sub(r"/\*.*?\*/", "", header, flags=re.S)
+    text = re.sub(r"^#ifdef __cplusplus\n.*?^#endif\n", "", text, flags=re.M | re.S)
+    text = text[: text.index("#define WZ_LAYOUT")] if "#define WZ_LAYOUT" in text else text
+    defined = re.findall(r"^#define (WZ_(?!VERSION)\w+.*)", text, re.M)
+    declared = re.sub(r"^#.*\n", "", text, flags=re.M)
+    declared = re.findall(r"[^;{]*(?:\{[^}]*\}[^;]*)?;", declared)
+    return [" ".join(line.split()) for line in defined + declared]
+
+
+def header_version(header):
+    return tuple(int(re.search(rf"#define WZ_VERSION_{part} (\d+)", header)[1]) for part in ("MAJOR", "MINOR"))
+
+
+def recorded(version):
+    return ROOT / "tests/interface" / "{}.{}".format(*version)
+
+
+def version():
+    header = (ROOT / "include/wizhdulet.h").read_text()
+    now = header_version(header)
+    if not recorded(now).exists() or recorded(now).read_text().splitlines() != interface(header):
+        sys.exit(f"library.py: the header has other records, signatures or numbers than version {now[0]}.{now[1]}: raise the version in VERSION, the header and crates/c_version, and run tests/library.py record")
+    versions = sorted(tuple(map(int, path.name.split("."))) for path in recorded(now).parent.iterdir())
+    for earlier, later in zip(versions, versions[1:]):
+        lost = set(recorded(earlier).read_text().splitlines()) - set(recorded(later).read_text().splitlines())
+        if lost and 0 < earlier[0] == later[0]:
+            sys.exit(f"library.py: version {later[0]}.{later[1]} hasn't all of {earlier[0]}.{earlier[1]}, so its major must be raised: {min(lost)}")
+
+
+def record_version():
+    header = (ROOT / "include/wizhdulet.h").read_text()
+    path = recorded(header_version(header))
+    if path.exists():
+        sys.exit(f"library.py: {path.relative_to(ROOT)} is there: a version that is recorded doesn't change")
+    path.parent.mkdir(exist_ok=True)
+    path.write_text("\n".join(interface(header)) + "\n")
 
 
 def constants(crate, block):
@@ -113,7 +156,7 @@ def declarations():
             if bare not in NUMBERS and not scalar(bare, crate):
                 records[bare] = home(bare, crate)
         listed = [c for what, kind in parameters for c in parameter(what, kind, crate)]
-        functions.append(f"{(scalar(result, crate) or header_name(result)) if result else 'void'} {name}({', '.join(listed)});")
+        functions.append(f"{(scalar(result, crate) or header_name(result)) if result else 'void'} {name}({', '.join(listed) or 'void'});")
     # A record within a record comes first.
     order = []
 
@@ -167,6 +210,10 @@ def main():
         print("\n".join(sorted(name for _, name, _, _ in exports())))
     elif sys.argv[1:] == ["header"]:
         print("\n".join(sorted(name for name, _ in header_functions())))
+    elif sys.argv[1:] == ["version"]:
+        version()
+    elif sys.argv[1:] == ["record"]:
+        record_version()
     else:
         sys.exit(__doc__)
 

@@ -1,5 +1,5 @@
 #!/usr/bin/env bash
-# The library as a product: the header in three modes of C and C++; its records, numbers and functions against the crates' text and the archive (library.py); the archive's
+# The library as a product: the header in three modes of C and C++, and recorded for its version; its records, numbers and functions against the crates' text and the archive (library.py); the archive's
 # code against what the kit built; a program with functions of its own that have the crates' bare names, which calls every function (library.c); and the example host on a
 # recorded list, built as a user builds it.
 set -eu
@@ -26,6 +26,7 @@ holds "the header is C99" cc -std=c99 "${warnings[@]}" -fsyntax-only -Iinclude "
 holds "the header is C11" cc -std=c11 "${warnings[@]}" -fsyntax-only -Iinclude "$place/include.c"
 holds "the header is C++17" c++ -std=c++17 "${warnings[@]}" -fsyntax-only -Iinclude -x c++ "$place/include.c"
 
+holds "the version is raised with the header" tests/library.py version
 tests/library.py declarations >"$place/declarations.c"
 holds "the header has the crates' records, numbers and signatures" cc -std=c11 "${warnings[@]}" -fsyntax-only -Iinclude "$place/declarations.c"
 archive=target/installed/lib/libwizhdulet.a
@@ -45,11 +46,16 @@ for object in $(ar t "$archive"); do
     ar p "$archive" "$object" >"$place/shipped.o"
     ar p "target/staticlib/lib${object%.o}.a" >"$place/built.o"
     holds "$object is what the kit built" cmp <(contents "$place/built.o") <(contents "$place/shipped.o")
-    holds "$object has code" [ "$(contents "$place/shipped.o" | wc -l)" -gt 20 ]
+    holds "$object has code" [ "$(contents "$place/shipped.o" | grep -c '^Contents of section .text')" -gt 0 ]
 done
 
 cc -std=c11 "${warnings[@]}" -O2 -Itarget/installed/include tests/library.c "$archive" -o "$place/library"
 holds "every function does from C what its words say" "$place/library"
+cc -std=c11 "${warnings[@]}" -O2 -Itarget/installed/include tests/stored.c "$archive" -o "$place/stored"
+holds "what is stored is found and told by its key and number" "$place/stored" 20000
+cc -std=c11 "${warnings[@]}" -O2 -Itarget/installed/include tests/screen.c "$archive" -o "$place/screen"
+mapfile -t refusals < <(sed -n 's/^| \([0-9][0-9]*\) |.*/\1/p' docs/REFUSALS.md)
+holds "a screen shows what the second reading of the layout has" "$place/screen" 100000 "${refusals[@]}"
 
 # The example, by pkg-config where it is there, or by hand.
 flags="-Itarget/installed/include -Ltarget/installed/lib -lwizhdulet"

@@ -1,0 +1,2 @@
+-- What is shown, as one number and the area.
+pub mod Telling

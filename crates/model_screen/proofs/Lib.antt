@@ -1,0 +1,2 @@
+-- Theorems on what a screen shows.
+pub mod Widths

@@ -1,0 +1,5 @@
+-- What a screen shows.
+pub mod Columns
+pub mod SessionText
+pub mod RefusalText
+pub mod FrameText

@@ -1,0 +1,7 @@
+use Rattle.std.proofs.Common.{[], refl, arith}
+use Rattle.screen_text.proofs.Laws.{began}
+use Rattle.screen_frame.proofs.Laws.{starts}
+use Rattle.screen_frame.proofs.write_what.Goals as goal
+
+pub returns : goal.returns
+returns c = starts (c.put_what.ensures.has [] (began _ refl)) (omega (arith, c.put_what.ensures.long, c.told-area))

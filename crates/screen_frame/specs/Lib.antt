@@ -1,0 +1,2 @@
+-- What functions within this crate leave.
+pub mod Starts

@@ -1,0 +1,2 @@
+-- What is shown of a place of the store.
+pub mod Shown

@@ -1,0 +1,3 @@
+-- What writing a text leaves and answers.
+pub mod Adding
+pub mod Told

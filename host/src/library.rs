@@ -1,0 +1,123 @@
+//! The functions of include/wizhdulet.h that the console calls, and their records.
+
+/// The version of the header that these declarations are of.
+pub const VERSION: u32 = 3;
+
+#[repr(C)]
+#[derive(Clone, Copy, Default)]
+pub struct Replica {
+    pub epoch: u64,
+    pub connections: u64,
+    pub promoted: u8,
+    pub checked: u8,
+}
+
+#[repr(C)]
+#[derive(Clone, Copy, Default)]
+pub struct Bound {
+    pub used: u8,
+    pub handle: u32,
+    pub place: usize,
+    pub commit_no: u64,
+    pub held_len: usize,
+    pub held_bytes: u64,
+}
+
+#[repr(C)]
+#[derive(Clone, Copy)]
+pub struct Shape {
+    pub places: u32,
+    pub bytes: u32,
+    pub messages: u32,
+}
+
+#[repr(C)]
+#[derive(Clone, Copy)]
+pub struct Settings {
+    pub shape: Shape,
+    pub incarnation: u64,
+    pub max_lag: u64,
+}
+
+#[repr(C)]
+#[derive(Clone, Copy)]
+pub struct Span {
+    pub at: usize,
+    pub len: u32,
+}
+
+#[repr(C)]
+#[derive(Clone, Copy)]
+pub struct BoundSummary {
+    pub next_outgoing: u64,
+    pub next_incoming: u64,
+    pub has_in_flight: u8,
+    pub in_flight: u64,
+    pub created_at: Span,
+    pub marks: Span,
+    pub last_outgoing: u64,
+}
+
+#[repr(C)]
+#[derive(Clone, Copy)]
+pub struct Answer {
+    pub refusal: u8,
+    pub kind: u8,
+    pub handle: u32,
+    pub epoch: u64,
+    pub incarnation: u64,
+    pub commit_no: u64,
+    pub reason: u8,
+    pub summary: BoundSummary,
+}
+
+#[repr(C)]
+#[derive(Clone, Copy)]
+pub struct Listed {
+    pub refusal: u8,
+    pub length: usize,
+    pub bytes: usize,
+}
+
+#[rustfmt::skip]
+#[link(name = "wizhdulet", kind = "static")]
+unsafe extern "C" {
+    pub fn wz_version() -> u32;
+    pub fn wz_read(frame: *const u8, frame_len: usize) -> u64;
+    pub fn wz_store_make(words: *mut u64, words_len: usize, bytes: *const u8, bytes_len: usize, shape: Shape) -> u8;
+    pub fn wz_standby_make(counters: &mut Replica, row: *mut Bound, row_len: usize, words: *mut u64, words_len: usize, bytes: *const u8,
+        bytes_len: usize, settings: Settings) -> Answer;
+    pub fn wz_on_frame(counters: &mut Replica, row: *mut Bound, row_len: usize, words: *mut u64, words_len: usize, bytes: *mut u8,
+        bytes_len: usize, holds: *mut u8, holds_len: usize, frame: *const u8, frame_len: usize, settings: Settings) -> Answer;
+    pub fn wz_disconnected_from(counters: &mut Replica, row: *mut Bound, row_len: usize, words: *mut u64, words_len: usize, bytes: *mut u8,
+        bytes_len: usize, holds: *mut u8, holds_len: usize, connection: u64, settings: Settings) -> Answer;
+    pub fn wz_promote(counters: &mut Replica, row: *mut Bound, row_len: usize, words: *mut u64, words_len: usize, bytes: *mut u8,
+        bytes_len: usize, holds: *mut u8, holds_len: usize, settings: Settings) -> Answer;
+    pub fn wz_promote_unchecked(counters: &mut Replica, row: *mut Bound, row_len: usize, words: *mut u64, words_len: usize, bytes: *mut u8,
+        bytes_len: usize, holds: *mut u8, holds_len: usize, settings: Settings) -> Answer;
+    pub fn wz_answer(answer: Answer, bytes: *const u8, bytes_len: usize, out: *mut u8, out_len: usize) -> u64;
+    pub fn wz_session(words: *const u64, words_len: usize, bytes: *const u8, bytes_len: usize, out: *mut u8, out_len: usize, sessions: u32,
+        c: u32, m: u32, place: usize, n: u64) -> u64;
+    pub fn wz_resend(words: *const u64, words_len: usize, bytes: *const u8, bytes_len: usize, ranges: *const u64, ranges_len: usize,
+        entries: *mut u64, entries_len: usize, sessions: u32, c: u32, m: u32, place: usize) -> Listed;
+    pub fn wz_screen_session(words: *const u64, words_len: usize, bytes: *const u8, bytes_len: usize, out: *mut u8, out_len: usize,
+        sessions: u32, c: u32, m: u32, place: usize) -> u64;
+    pub fn wz_screen_frame(number: u64, offset: u64, frame: *const u8, frame_len: usize, refusal: u8, reply: *const u8, reply_len: usize,
+        out: *mut u8, out_len: usize) -> u64;
+    pub fn wz_screen_refusal(number: u8, out: *mut u8, out_len: usize) -> u64;
+}
+
+/// The frames that a standby answers with, by their kind.
+pub const NACK: u8 = 6;
+
+/// What a code's count is, or its refusal.
+pub fn count(code: u64) -> Result<usize, u8> {
+    if code >> 63 == 1 { Ok((code & (u64::MAX >> 2)) as usize) } else { Err((code >> 40) as u8) }
+}
+
+/// A text for a screen: every one fits.
+pub fn screen(write: impl FnOnce(*mut u8, usize) -> u64) -> String {
+    let mut area = [0; 1500];
+    let len = count(write(area.as_mut_ptr(), area.len())).unwrap_or(0);
+    String::from_utf8_lossy(&area[..len]).into_owned()
+}

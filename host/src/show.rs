@@ -1,0 +1,261 @@
+//! What a capture leaves: its sessions, and what was refused; or its frames, one by one.
+use crate::capture::Capture;
+use crate::library::{Answer, NACK, screen, wz_screen_frame, wz_screen_refusal};
+use crate::standby::{Limits, Standby};
+use crate::words::{Failure, counted, grouped, labelled, reason, visible};
+use std::io::Write;
+
+/// How many refused frames are shown.
+const SHOWN: usize = 20;
+
+/// A frame that was refused, or whose answer is a Nack.
+struct Turned {
+    line: String,
+    refusal: u8,
+    reason: u8,
+}
+
+/// A capture, and the standby that has taken it.
+pub struct Taken {
+    pub capture: Capture,
+    pub standby: Standby,
+    turned: Vec<Turned>,
+    count: usize,
+}
+
+/// Frame i of a capture, with its answer.
+fn frame_line(standby: &Standby, capture: &Capture, i: usize, refusal: u8, answer: Option<Answer>) -> String {
+    let (frame, reply) = (&capture.frames[i], answer.map_or(Vec::new(), |answer| standby.reply(answer)));
+    let bytes = capture.bytes_of(frame);
+    screen(|out, len| unsafe {
+        let (number, offset) = (i as u64 + 1, frame.at as u64);
+        wz_screen_frame(number, offset, bytes.as_ptr(), bytes.len(), refusal, reply.as_ptr(), reply.len(), out, len)
+    })
+}
+
+/// What a frame is, on one line.
+pub fn frame_words(bytes: &[u8]) -> String {
+    let line = screen(|out, len| unsafe {
+        wz_screen_frame(0, 0, bytes.as_ptr(), bytes.len(), 0, bytes.as_ptr(), 0, out, len)
+    });
+    line.get(17..64).unwrap_or("").split_whitespace().collect::<Vec<_>>().join(" ")
+}
+
+pub fn refusal_words(number: u8) -> String {
+    screen(|out, len| unsafe { wz_screen_refusal(number, out, len) })
+}
+
+/// Gives a capture's frames to a standby; `each` is told of each with its refusal, and its answer if it has one.
+fn take(
+    standby: &mut Standby,
+    capture: Capture,
+    mut each: impl FnMut(&Standby, &Capture, usize, u8, Option<Answer>) -> Result<(), Failure>,
+) -> Result<(Capture, Vec<Turned>, usize), Failure> {
+    let (mut turned, mut count) = (Vec::new(), 0);
+    for (i, frame) in capture.frames.iter().enumerate() {
+        let answer = (frame.fault == 0).then(|| standby.take(capture.bytes_of(frame)));
+        let refusal = answer.map_or((frame.fault >> 40) as u8, |answer| answer.refusal);
+        each(standby, &capture, i, refusal, answer)?;
+        let reason = answer.filter(|a| a.refusal == 0 && a.kind == NACK).map_or(0, |a| a.reason);
+        if refusal != 0 || reason != 0 {
+            count += 1;
+            if turned.len() < SHOWN {
+                turned.push(Turned { line: frame_line(standby, &capture, i, refusal, answer), refusal, reason });
+            }
+        }
+    }
+    Ok((capture, turned, count))
+}
+
+/// A standby over several captures, one line after the other.
+pub fn load(limits: &Limits, names: &[String]) -> Result<Vec<Taken>, Failure> {
+    let mut captures = names.iter().map(|name| Capture::read(name)).collect::<Result<Vec<_>, _>>()?;
+    let incarnation = limits.incarnation.or_else(|| captures.iter().find_map(Capture::incarnation));
+    let standby = Standby::new(&Limits { incarnation, ..*limits });
+    let mut standby = standby.map_err(|n| Failure::usage(format!("the limits don't fit: R {n}")))?;
+    let last = captures.pop();
+    for capture in captures {
+        let (capture, turned, count) = take(&mut standby, capture, |_, _, _, _, _| Ok(()))?;
+        if capture.left > 0 || count > 0 {
+            let words = format!(
+                "{}: {} turned down, {} left over",
+                capture.name,
+                grouped(count as u64),
+                counted(capture.left, "byte")
+            );
+            eprintln!("wizhdulet: {words}");
+        }
+        drop(turned);
+        standby.drop_line();
+    }
+    let Some(capture) = last else { return Ok(Vec::new()) };
+    let (capture, turned, count) = take(&mut standby, capture, |_, _, _, _, _| Ok(()))?;
+    Ok(vec![Taken { capture, standby, turned, count }])
+}
+
+impl Taken {
+    /// Nothing was turned down, nothing is left over, and the copy was checked.
+    pub fn is_fine(&self) -> bool {
+        self.count == 0 && self.capture.left == 0 && self.standby.counters.checked != 0
+    }
+
+    pub fn head(&self, out: &mut impl Write) -> Result<(), Failure> {
+        let (capture, standby) = (&self.capture, &self.standby);
+        let end = match capture.left {
+            0 => "ends with a whole frame".to_string(),
+            n => format!("CUT SHORT: {} of a last frame", counted(n, "byte")),
+        };
+        let frames = format!("{}; {end}", counted(capture.frames.len(), "frame"));
+        labelled(out, &capture.name, &[counted(capture.bytes.len(), "byte"), frames])?;
+        let said = |flag: u8, word: &str| if flag != 0 { word.to_string() } else { format!("not {word}") };
+        let counters = &standby.counters;
+        let (lag, line) = (standby.settings.max_lag, counters.connections);
+        let parts = [
+            format!("epoch {}", counters.epoch),
+            said(counters.checked, "checked"),
+            said(counters.promoted, "promoted"),
+            format!("accepts lag {lag}"),
+            format!("line {line}"),
+        ];
+        labelled(out, "standby", &parts)?;
+        let shape = standby.settings.shape;
+        let used = standby.row.iter().filter(|b| b.used != 0).count();
+        let parts = [
+            format!("{} of {} sessions", standby.sessions(), shape.places),
+            format!("{used} of {} handles", standby.row.len()),
+            format!("C {}", grouped(shape.bytes.into())),
+            format!("M {}", grouped(shape.messages.into())),
+        ];
+        Ok(labelled(out, "limits", &parts)?)
+    }
+
+    /// The sessions, each with its handles and what is held back.
+    pub fn sessions(&self, out: &mut impl Write) -> Result<(), Failure> {
+        for place in 0..self.standby.sessions() {
+            let mut text = self.standby.screen(place).trim_end_matches('\n').to_string();
+            for bound in self.standby.row.iter().filter(|b| b.used != 0 && b.place == place) {
+                let column = text.len() - text.rfind('\n').map_or(0, |at| at + 1);
+                let gap = if column < 36 { " ".repeat(36 - column) } else { format!("\n{:36}", "") };
+                text += &format!("{gap}handle      {}, commit {}", bound.handle, bound.commit_no);
+                if bound.held_len > 0 {
+                    let held = counted(bound.held_len, "byte");
+                    text += &format!(
+                        "\n      HELD BACK {held} of a whole sending that has not ended. The session\n      is as it was before that sending."
+                    );
+                }
+            }
+            writeln!(out, "{text}")?;
+        }
+        Ok(())
+    }
+
+    fn turned_down(&self, out: &mut impl Write) -> Result<(), Failure> {
+        if self.count == 0 {
+            labelled(out, "refused", &["nothing".to_string()])?;
+        } else {
+            labelled(out, "refused", &[grouped(self.count as u64)])?;
+        }
+        for turned in &self.turned {
+            write!(out, "{}", turned.line)?;
+        }
+        if self.count > self.turned.len() {
+            writeln!(out, "       .. and {} more", grouped((self.count - self.turned.len()) as u64))?;
+        }
+        // The words of each, once.
+        let mut told = Vec::new();
+        for turned in &self.turned {
+            if told.contains(&(turned.refusal, turned.reason)) {
+                continue;
+            }
+            told.push((turned.refusal, turned.reason));
+            if turned.refusal != 0 {
+                write!(out, "{}", refusal_words(turned.refusal))?;
+            } else {
+                writeln!(out, "Nack   {}", reason(turned.reason))?;
+            }
+        }
+        Ok(())
+    }
+
+    fn left_over(&self, out: &mut impl Write) -> Result<(), Failure> {
+        let capture = &self.capture;
+        if capture.left == 0 {
+            return Ok(());
+        }
+        let at = capture.bytes.len() - capture.left;
+        let mut parts = vec![format!("the {} at offset {}", counted(capture.left, "byte"), grouped(at as u64))];
+        if let Some(start) = capture.bytes.get(at..at + 4) {
+            let whole = 4 + start.iter().rev().fold(0, |value, byte| value << 8 | usize::from(*byte));
+            parts.push(format!("{} of the frame missing", grouped((whole - capture.left) as u64)));
+        }
+        Ok(labelled(out, "not shown", &parts)?)
+    }
+}
+
+/// The command `show`.
+pub fn show(limits: &Limits, names: &[String], tsv: bool, out: &mut impl Write) -> Result<u8, Failure> {
+    let loaded = load(limits, names)?;
+    let Some(taken) = loaded.first() else { return Err(Failure::usage("show needs a capture")) };
+    if tsv {
+        table(taken, out)?;
+        return Ok(u8::from(!taken.is_fine()));
+    }
+    taken.head(out)?;
+    writeln!(out)?;
+    taken.sessions(out)?;
+    writeln!(out)?;
+    taken.turned_down(out)?;
+    taken.left_over(out)?;
+    Ok(u8::from(!taken.is_fine()))
+}
+
+/// The sessions as lines of fields with tabs between them.
+fn table(taken: &Taken, out: &mut impl Write) -> Result<(), Failure> {
+    writeln!(
+        out,
+        "place\tbegin\tsender\ttarget\tsuffix\tnext_outgoing\tnext_incoming\tin_flight\tstamp\tmarks\tdurable\tfirst\tlast\tmessages\tbytes"
+    )?;
+    for place in 0..taken.standby.sessions() {
+        let s = taken.standby.session(place);
+        let key = s.key.each_ref().map(|text| visible(text)).join("\t");
+        let flight = s.in_flight.map_or(String::new(), |n| n.to_string());
+        let number = |message: Option<&(u64, Vec<u8>)>| message.map_or(String::new(), |m| m.0.to_string());
+        let (first, last) = (number(s.messages.first()), number(s.messages.last()));
+        let bytes: usize = s.messages.iter().map(|m| m.1.len()).sum();
+        let (stamp, marks, durable) = (visible(&s.stamp), visible(&s.marks), u8::from(s.durable));
+        let (outgoing, incoming, count) = (s.next_outgoing, s.next_incoming, s.messages.len());
+        writeln!(
+            out,
+            "{place}\t{key}\t{outgoing}\t{incoming}\t{flight}\t{stamp}\t{marks}\t{durable}\t{first}\t{last}\t{count}\t{bytes}"
+        )?;
+    }
+    Ok(())
+}
+
+/// The command `frames`.
+pub fn frames(limits: &Limits, name: &str, tsv: bool, out: &mut impl Write) -> Result<u8, Failure> {
+    let capture = Capture::read(name)?;
+    let incarnation = limits.incarnation.or_else(|| capture.incarnation());
+    let mut standby = Standby::new(&Limits { incarnation, ..*limits })
+        .map_err(|n| Failure::usage(format!("the limits don't fit: R {n}")))?;
+    if tsv {
+        writeln!(out, "frame\toffset\tlength\tkind\trefusal\tanswer")?;
+    } else {
+        writeln!(out, " frame    offset  {:46} answer", "what")?;
+    }
+    let (capture, turned, count) = take(&mut standby, capture, |standby, capture, i, refusal, answer| {
+        if tsv {
+            let frame = &capture.frames[i];
+            let (at, len, kind) = (frame.at, frame.len, capture.bytes_of(frame).get(4).copied().unwrap_or(0));
+            writeln!(out, "{}\t{at}\t{len}\t{kind}\t{refusal}\t{}", i + 1, answer.map_or(0, |a| a.kind))?;
+        } else {
+            write!(out, "{}", frame_line(standby, capture, i, refusal, answer))?;
+        }
+        Ok(())
+    })?;
+    let taken = Taken { capture, standby, turned, count };
+    if !tsv {
+        taken.left_over(out)?;
+    }
+    Ok(u8::from(!taken.is_fine()))
+}
