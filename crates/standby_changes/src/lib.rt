@@ -40,7 +40,7 @@ fn outgoing_after(seq: u64) -> Option<u64>
 
 // The next outgoing number after a change, or none if the change diverges: a message that isn't next does, and so do a number
 // below next and a Record of the greatest number.
-fn outgoing_by(op: Op, next: u64) -> Option<u64>
+pub fn outgoing_by(op: Op, next: u64) -> Option<u64>
     ensures { Follows op next result }
 {
     match op {

@@ -1,0 +1,8 @@
+pub mod Ends
+pub mod Total
+pub mod Meaning
+pub mod Whole
+pub mod Turns
+pub mod Places
+pub mod Following
+pub mod Examples
