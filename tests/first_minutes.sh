@@ -136,7 +136,7 @@ run 0 bash -c "cd / && exec '$place/answers' <'$copy/$list'"
 example
 all=$(wc -l <"$place/names")
 holds "the build is announced and counted, a line a crate" diff - "$place/err" <<SAID
-frames: proving and building $all crates first, which takes long; this happens once
+frames: proving and building $all crates first, some 10 to 20 minutes; this happens once
 $(awk -v all="$all" '{ print NR " of " all " " $0 }' "$place/names")
 SAID
 holds "the kit's words are in target/log" grep -q "modules loaded=347" "$copy/target/log/bin-frames.out"
