@@ -53,7 +53,7 @@ static void begin(void) {
     used = 0, c = (uint32_t)draw(MAX_C + 1), m = (uint32_t)draw(MAX_M + 1);
     for (size_t i = 0; i < WORDS; i++) words[i] = draw(3) ? draw(UINT64_MAX) : draw(9);
     for (size_t i = 0; i < BYTES; i++) bytes[i] = (uint8_t)draw(256);
-    if (!WZ_OK(wz_make(STORE, PLACES, c, m))) fail("a store is made");
+    if (wz_store_make(STORE, (wz_shape_t){ PLACES, c, m }) != 0) fail("a store is made");
 }
 
 static void change(void) {
@@ -172,7 +172,7 @@ static void ask_random(void) {
         }
         ask(place, 0, NULL, 0, 0, OUT);
     }
-    if (wz_make(STORE, PLACES, c, m) == 0) fail("a store is made again");
+    if (wz_store_make(STORE, (wz_shape_t){ PLACES, c, m }) != 0) fail("a store is made again");
     used = 0;
 }
 

@@ -57,6 +57,8 @@ requests =
     ∷ worded 29 (codes "R 29   a false length or sum in a message log\n       The message was changed since it was sent: ask for an unchanged copy.\n")
     ∷ worded 30 (codes "R 30   a number in a message log that doesn't rise\n       Cut the file at the reset, and import the part that counts.\n")
     ∷ worded 31 (codes "R 31   a lease's time that falls\n       Hand in a clock that never falls, and times in the order of reading.\n")
+    ∷ worded 33 (codes "R 33   a stamp that has no number\n       It is before 1970, or its second is 60: sort such stamps as texts.\n")
+    ∷ worded 34 (codes "R 34   a number that has no stamp\n       Mend the call: the time is past the year 9999, or the remainder isn't\n       below 1,000,000,000 picoseconds.\n")
     ∷ worded 35 (codes "R 35   ranges that are none, or more than 64\n       Turn the counterparty's request down.\n")
     ∷ worded 36 (codes "R 36   fewer entries than the list has\n       Mend the host: lend one entry for each stored message.\n")
     ∷ worded 37 (codes "R 37   outside the quorum\n       Mend the call: an n, k, member or handle that isn't there.\n")

@@ -122,6 +122,10 @@ fn requests(number: u8) -> &'static [u8]
             b"R 30   a number in a message log that doesn't rise\n       Cut the file at the reset, and import the part that counts.\n",
         31 =>
             b"R 31   a lease's time that falls\n       Hand in a clock that never falls, and times in the order of reading.\n",
+        33 =>
+            b"R 33   a stamp that has no number\n       It is before 1970, or its second is 60: sort such stamps as texts.\n",
+        34 =>
+            b"R 34   a number that has no stamp\n       Mend the call: the time is past the year 9999, or the remainder isn't\n       below 1,000,000,000 picoseconds.\n",
         35 =>
             b"R 35   ranges that are none, or more than 64\n       Turn the counterparty's request down.\n",
         36 =>
