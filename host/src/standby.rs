@@ -34,6 +34,27 @@ pub struct Session {
     pub messages: Vec<(u64, Vec<u8>)>,
 }
 
+/// A call over all that is lent to a standby, with what it is handed besides.
+macro_rules! over {
+    ($standby:ident, $call:ident $(, $handed:expr)*) => {
+        unsafe {
+            $call(
+                &mut $standby.counters,
+                $standby.row.as_mut_ptr(),
+                $standby.row.len(),
+                $standby.words.as_mut_ptr(),
+                $standby.words.len(),
+                $standby.bytes.as_mut_ptr(),
+                $standby.bytes.len(),
+                $standby.holds.as_mut_ptr(),
+                $standby.holds.len(),
+                $($handed,)*
+                $standby.settings,
+            )
+        }
+    };
+}
+
 impl Standby {
     /// A new one; the refusal where the limits don't fit.
     pub fn new(limits: &Limits) -> Result<Standby, u8> {
@@ -75,22 +96,7 @@ impl Standby {
 
     /// Takes one frame.
     pub fn take(&mut self, frame: &[u8]) -> Answer {
-        unsafe {
-            wz_on_frame(
-                &mut self.counters,
-                self.row.as_mut_ptr(),
-                self.row.len(),
-                self.words.as_mut_ptr(),
-                self.words.len(),
-                self.bytes.as_mut_ptr(),
-                self.bytes.len(),
-                self.holds.as_mut_ptr(),
-                self.holds.len(),
-                frame.as_ptr(),
-                frame.len(),
-                self.settings,
-            )
-        }
+        over!(self, wz_on_frame, frame.as_ptr(), frame.len())
     }
 
     /// An answer's bytes, none for a refusal.
@@ -103,41 +109,13 @@ impl Standby {
     /// The line has ended.
     pub fn drop_line(&mut self) {
         let connection = self.counters.connections;
-        unsafe {
-            wz_disconnected_from(
-                &mut self.counters,
-                self.row.as_mut_ptr(),
-                self.row.len(),
-                self.words.as_mut_ptr(),
-                self.words.len(),
-                self.bytes.as_mut_ptr(),
-                self.bytes.len(),
-                self.holds.as_mut_ptr(),
-                self.holds.len(),
-                connection,
-                self.settings,
-            )
-        };
+        over!(self, wz_disconnected_from, connection);
     }
 
     /// Takes over; unchecked, if that is said. The refusal, or 0.
     pub fn promote(&mut self, unchecked: bool) -> u8 {
         let call = if unchecked { wz_promote_unchecked } else { wz_promote };
-        let answer = unsafe {
-            call(
-                &mut self.counters,
-                self.row.as_mut_ptr(),
-                self.row.len(),
-                self.words.as_mut_ptr(),
-                self.words.len(),
-                self.bytes.as_mut_ptr(),
-                self.bytes.len(),
-                self.holds.as_mut_ptr(),
-                self.holds.len(),
-                self.settings,
-            )
-        };
-        answer.refusal
+        over!(self, call).refusal
     }
 
     pub fn sessions(&self) -> usize {
