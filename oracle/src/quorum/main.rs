@@ -7,6 +7,9 @@ mod history;
 #[cfg(ours)]
 mod ours;
 mod script;
+#[cfg(ours)]
+#[path = "../splitmix.rs"]
+mod splitmix;
 
 use std::io::Read;
 use std::process::ExitCode;

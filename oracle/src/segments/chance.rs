@@ -3,23 +3,9 @@
 use std::fmt::Write;
 
 use crate::script::record;
-
-/// Numbers by chance (splitmix64).
-struct Chance(u64);
+use crate::splitmix::Chance;
 
 impl Chance {
-    fn next(&mut self) -> u64 {
-        self.0 = self.0.wrapping_add(0x9E37_79B9_7F4A_7C15);
-        let mut z = self.0;
-        z = (z ^ (z >> 30)).wrapping_mul(0xBF58_476D_1CE4_E5B9);
-        z = (z ^ (z >> 27)).wrapping_mul(0x94D0_49BB_1331_11EB);
-        z ^ (z >> 31)
-    }
-
-    fn below(&mut self, n: u64) -> u64 {
-        self.next() % n
-    }
-
     fn text(&mut self, text: &[u8]) -> Vec<u8> {
         let mut bytes = (text.len() as u32).to_le_bytes().to_vec();
         bytes.extend_from_slice(text);
@@ -27,7 +13,7 @@ impl Chance {
     }
 
     fn stamp(&mut self) -> &'static [u8] {
-        [b"20240229-23:59:59.123".as_slice(), b"20230229-10:00:00.000", b"20240101-00:00:00", b"2024", b""][self.below(5) as usize]
+        self.of(&[b"20240229-23:59:59.123".as_slice(), b"20230229-10:00:00.000", b"20240101-00:00:00", b"2024", b""])
     }
 
     /// A change, whole or damaged.
@@ -46,7 +32,7 @@ impl Chance {
             }
             8 => {
                 let len = self.below(70) as usize;
-                let byte = [b'a', b'B', 0x7f, b' '][self.below(4) as usize];
+                let byte = self.of(&[b'a', b'B', 0x7f, b' ']);
                 [&[8][..], &self.text(&vec![byte; len])].concat()
             }
             _ => (0..self.below(9)).map(|_| self.next() as u8).collect(),

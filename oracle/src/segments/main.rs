@@ -14,6 +14,8 @@ mod read;
 mod segments;
 mod chance;
 mod script;
+#[path = "../splitmix.rs"]
+mod splitmix;
 
 use std::io::Read;
 use std::process::ExitCode;

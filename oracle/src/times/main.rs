@@ -9,6 +9,9 @@ mod formula;
 #[cfg(ours)]
 mod ours;
 mod script;
+#[cfg(ours)]
+#[path = "../splitmix.rs"]
+mod splitmix;
 
 use std::io::Read;
 use std::process::ExitCode;
