@@ -1,16 +1,58 @@
 // Time stamps, marks and keys.
 #![tactic(auto)]
 
-ghost use Rattle.std.specs.Prelude.{◌≡◌, ◌-◌, ◌≤◌, length};
+ghost use Rattle.std.specs.Prelude.{◌≡◌, ◌-◌, ◌≤◌, ◌<◌, length, drop};
 ghost use Rattle.model_text.specs.Printable.{is_printable_byte, all_printable, is_printable, is_marks, is_key};
 ghost use Rattle.model_text.specs.Calendar.{is_leap, month_days};
-ghost use Rattle.model_text.specs.Stamp.{is_digit, pair_number, is_pair, matches, date, clock, millis, day_exists, is_stamp, takes_stamp};
+ghost use Rattle.model_text.specs.Stamp.{is_digit, pair_number, is_pair, matches, date, clock, digits, fraction, day_exists, is_stamp, takes_stamp};
+ghost use Rattle.model_text.specs.Version.{first, latest};
 ghost use Rattle.frame_stamp.specs.Places.{slice_at};
+ghost use Rattle.frame_stamp.specs.Versions.{protocol_of, protocol};
 
-// What an instance speaks on a connection: the version is handed to what may depend on it; each takes the same stamps.
+use base_refusals::Refusal;
+
+// The longest stamp that every version takes.
+pub const LONGEST_SHORT: usize = 21;
+
+// What an instance speaks on a connection. None but the versions that there are can be made.
 #[derive(Clone, Copy)]
 pub struct Protocol {
-    pub version: u16,
+    version: u16,
+}
+
+impl Protocol {
+    // What is spoken until a Hello is accepted.
+    pub const FIRST: u16 = 1;
+
+    // It takes every stamp that the store keeps.
+    pub const LATEST: u16 = 2;
+
+    // A version that is handed in: 11 for one that there isn't.
+    #[tactic(auto, unfolding(model_text::specs::Version::is_version))]
+    pub fn new(version: u16) -> Result<Protocol, Refusal>
+        ensures { protocol_of result ≡ protocol version }
+    {
+        if version != Self::FIRST && version != Self::LATEST {
+            return Err(Refusal::BadVersion);
+        }
+        Ok(Protocol { version })
+    }
+
+    pub fn first() -> Protocol
+        ensures { result.version ≡ first }
+    {
+        Protocol {
+            version: Self::FIRST,
+        }
+    }
+
+    pub fn latest() -> Protocol
+        ensures { result.version ≡ latest }
+    {
+        Protocol {
+            version: Self::LATEST,
+        }
+    }
 }
 
 // 20 to 7E, hexadecimal.
@@ -110,12 +152,23 @@ pub fn is_clock(s: &[u8]) -> bool
         & is_pair(0, 60, s[15], s[16])
 }
 
-// .sss at 17.
-fn is_millis(s: &[u8]) -> bool
-    requires { 21 ≤ length s.now }
-    ensures { result ≡ matches millis (slice_at s.now 17 4) }
+// All of s are digits.
+fn all_digits(s: &[u8]) -> bool
+    ensures { result ≡ matches (digits (length s.now)) s.now }
 {
-    (s[17] == b'.') & is_digit(s[18]) & is_digit(s[19]) & is_digit(s[20])
+    let mut ok = true;
+    for byte in s {
+        ok &= is_digit(*byte);
+    }
+    ok
+}
+
+// A point and digits from 17 up to the end.
+fn is_fraction(s: &[u8]) -> bool
+    requires { 18 < length s.now }
+    ensures { result ≡ matches (fraction (length s.now - 17 - 1)) (drop 17 s.now) }
+{
+    (s[17] == b'.') & all_digits(&s[18..])
 }
 
 // Divisible by 4, and where it is divisible by 100 also by 400.
@@ -153,21 +206,23 @@ pub fn is_day(s: &[u8]) -> bool
     day <= month_days(year, month)
 }
 
-// s is a stamp that the store keeps: YYYYMMDD-HH:MM:SS, or that with `.` and three digits, of a day that exists.
+// s is a stamp that the store keeps: YYYYMMDD-HH:MM:SS, or that with `.` and 3, 6, 9 or 12 digits, of a day that exists.
 pub fn is_stamp(s: &[u8]) -> bool
     ensures { result ≡ is_stamp s.now }
 {
     match s.len() {
         17 => is_date(s) & is_clock(s) & is_day(s),
-        21 => is_date(s) & is_clock(s) & is_millis(s) & is_day(s),
+        21 | 24 | 27 | 30 => is_date(s) & is_clock(s) & is_fraction(s) & is_day(s),
         _ => false,
     }
 }
 
-// s is a stamp that reading takes in this version.
-#[tactic(auto, unfolding(model_text::specs::Stamp::takes_stamp))]
+// s is a stamp that reading takes in this version: the first takes none that is longer than .sss.
 pub fn takes_stamp(protocol: Protocol, s: &[u8]) -> bool
     ensures { result ≡ takes_stamp protocol.version s.now }
 {
-    is_stamp(s)
+    if protocol.version == Protocol::LATEST {
+        return is_stamp(s);
+    }
+    s.len() <= LONGEST_SHORT && is_stamp(s)
 }
