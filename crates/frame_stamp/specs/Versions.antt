@@ -1,9 +1,13 @@
--- A version that is handed in as a number: one that there is, or 11.
-use Rattle.std.specs.Prelude.{ℕ, cond, Result, Ok, Err}
-use Rattle.model_text.specs.Version.{is_version}
+-- A connection's version as a byte, and one that is handed in as a number: one that there is, or 11. Assumes nothing.
+use Rattle.std.specs.Prelude.{ℕ, cond, Result, Ok, Err, eqb}
+use Rattle.model_text.specs.Version.{first, latest, is_version}
 use Rattle.base_refusals.specs.declared.Refusal.{Refusal}
 use Rattle.base_refusals.specs.Numbers.{number_of}
-use Rattle.frame_stamp.specs.declared.Protocol.{Protocol}
+use Rattle.frame_stamp.specs.declared.protocol.Protocol.{Protocol}
+
+-- a flag: every byte but 0 is the latest version
+abbrev pub version_of : ℕ → ℕ
+version_of byte = cond (eqb byte 0) first latest
 
 pub data Spoken : Type 0 where
   speaks : ℕ → Spoken

@@ -7,18 +7,15 @@ ghost use Rattle.model_text.specs.Calendar.{is_leap, month_days};
 ghost use Rattle.model_text.specs.Stamp.{is_digit, pair_number, is_pair, matches, date, clock, digits, fraction, day_exists, is_stamp, takes_stamp};
 ghost use Rattle.model_text.specs.Version.{first, latest};
 ghost use Rattle.frame_stamp.specs.Places.{slice_at};
-ghost use Rattle.frame_stamp.specs.Versions.{protocol_of, protocol};
+ghost use Rattle.frame_stamp.specs.Versions.{version_of, protocol_of, protocol};
+
+pub mod protocol;
 
 use base_refusals::Refusal;
+pub use protocol::Protocol;
 
 // The longest stamp that every version takes.
 pub const LONGEST_SHORT: usize = 21;
-
-// What an instance speaks on a connection. None but the versions that there are can be made.
-#[derive(Clone, Copy)]
-pub struct Protocol {
-    version: u16,
-}
 
 impl Protocol {
     // What is spoken until a Hello is accepted.
@@ -38,6 +35,7 @@ impl Protocol {
         Ok(Protocol { version })
     }
 
+    #[tactic(auto, unfolding(model_text::specs::Version::is_version))]
     pub fn first() -> Protocol
         ensures { result.version ≡ first }
     {
@@ -46,12 +44,41 @@ impl Protocol {
         }
     }
 
+    #[tactic(auto, unfolding(model_text::specs::Version::is_version))]
     pub fn latest() -> Protocol
         ensures { result.version ≡ latest }
     {
         Protocol {
             version: Self::LATEST,
         }
+    }
+
+    // A connection's version as the counters have it: a byte, 0 for the first, every other value for the latest.
+    pub fn of_byte(byte: u8) -> Protocol
+        ensures { result.version ≡ version_of byte }
+    {
+        if byte == 0 {
+            return Self::first();
+        }
+        Self::latest()
+    }
+
+    // The number.
+    pub fn number(self) -> u16
+        ensures { result ≡ self.version }
+    {
+        self.version
+    }
+
+    // And as the counters have it.
+    #[tactic(auto, unfolding(model_text::specs::Version::is_version))]
+    pub fn byte(self) -> u8
+        ensures { version_of result ≡ self.version }
+    {
+        if self.version == Self::LATEST {
+            return 1;
+        }
+        0
     }
 }
 
