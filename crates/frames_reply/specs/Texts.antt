@@ -2,7 +2,8 @@
 use Rattle.std.specs.Prelude.{ℕ, cond, List, [], eqb}
 use Rattle.std.proofs.Math.Option.{some}
 use Rattle.model_text.specs.Hex.{hex_of, refusal_text}
-use Rattle.model_standby.specs.Answer.{reply, refused, done, protocol_version}
+use Rattle.model_text.specs.Version.{latest}
+use Rattle.model_standby.specs.Answer.{reply, refused, done}
 use Rattle.model_standby.specs.Answer as the-answer
 use Rattle.model_frame.specs.Writing as the-writing
 use Rattle.model_frame.specs.Writing.{write_outcome, wrote}
@@ -16,10 +17,10 @@ outcome_text (the-writing.refused n) = refusal_text n
 
 -- the digits of the frame that is answered, which may take so many bytes, or R and the refusal; no frame is answered with 'done'
 abbrev pub answer_text : ℕ → the-answer.Answer → List ℕ
-answer_text room (reply f) = outcome_text (write_outcome protocol_version (some f) room)
+answer_text room (reply f) = outcome_text (write_outcome latest (some f) room)
 answer_text room (refused n) = refusal_text n
 answer_text room done = []
 
 -- the same of an answer's record, whatever stands in it: what is no frame is refused as in writing, with 8
 abbrev pub record_text : ℕ → List ℕ → Answer → List ℕ
-record_text room b a = cond (eqb a.refusal 0) (cond (eqb a.kind 0) [] (outcome_text (write_outcome protocol_version (frame_for b a) room))) (refusal_text a.refusal)
+record_text room b a = cond (eqb a.refusal 0) (cond (eqb a.kind 0) [] (outcome_text (write_outcome latest (frame_for b a) room))) (refusal_text a.refusal)

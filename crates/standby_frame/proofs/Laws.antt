@@ -22,7 +22,8 @@ use Rattle.store_areas.proofs.Ruling.{rules_of}
 use Rattle.standby_pending.specs.Pending.{pending_of}
 use Rattle.standby_pending_run.specs.Commits.{ran_words, RanIf}
 use Rattle.standby_commit.specs.Settling.{StoreChange, stays, batch_change, StoreAfter}
-use Rattle.model_standby.specs.Answer.{protocol_version, Given, damaged, intact, given, handle_in, reply, refused, done, accepted, is_reply}
+use Rattle.model_text.specs.Version.{latest}
+use Rattle.model_standby.specs.Answer.{Given, damaged, intact, given, handle_in, reply, refused, done, accepted, is_reply}
 use Rattle.model_standby.specs.Store.{Place}
 use Rattle.model_standby.specs.State.{Bound, Call, on_frame_held, on_frame}
 use Rattle.model_standby.specs.State as state
@@ -62,7 +63,7 @@ batch_intact s c seen row h e n part cs apps w w' b b' l l' r g = record {
 pub other_intact : (s : Settings) (c : Replica) (seen : Lookup) (row : List BoundRecord) (f : the_frame.Frame) → Fit f → (w w' b b' l : List ℕ) {l' : List ℕ} (r : Outcome) → OtherIn s c seen row f w w' b b' r → l' ≡ l → IntactIs s c seen row f w w' b b' l l' r
 other_intact s c seen row f fit w w' b b' l r g same = subst (λ (x : List ℕ). IntactIs s c seen row f w w' b b' l x r) (sym same) (record {
   is = λ own.
-      g.is protocol_version (room_in seen l) l (found_in seen l)
+      g.is latest (room_in seen l) l (found_in seen l)
       ∙ ap (λ (t : Bool). core_intact (settings_of s (room_in seen l)) (core_run t (core_at (counters_of c) s.shape w b)) (found_in seen l) (rooms_in seen row (handle_in (intact f))) f) (due_other (pending_of w) f fit);
   lands = g.lands (room_in seen l) (area_at (room_in seen l) (own_place seen) l);
   rules = g.rules;
@@ -218,10 +219,10 @@ module _ (s : Settings) (c : Replica) (seen : Lookup) (row : List BoundRecord) (
       core_ran : core_at (counters_of r.replica) s.shape w' b' ≡ core_run (is_reply (answer_of b' r.answer)) (core_at (counters_of r.replica) s.shape w1 b')
       core_ran = (λ j. record { counters = counters_of r.replica; places = ran.places j; pending = ran.pending j }) ∙ ap (λ (t : Bool). core_run t (core_at (counters_of r.replica) s.shape w1 b')) replies
 
-      flushed_is : (m : CoreResult) → outcome_of protocol_version (room_in seen h) s.shape w1 b' h' r ≡ m
-          → outcome_of protocol_version (room_in seen h) s.shape w' b' h' r ≡ core_flushed (settings_of s (room_in seen h)) m
+      flushed_is : (m : CoreResult) → outcome_of latest (room_in seen h) s.shape w1 b' h' r ≡ m
+          → outcome_of latest (room_in seen h) s.shape w' b' h' r ≡ core_flushed (settings_of s (room_in seen h)) m
       flushed_is m p =
-          (λ j. record { core = core_ran j; action = action_of protocol_version (room_in seen h) h' r; answer = answer_of b' r.answer }) ∙ ap (core_flushed (settings_of s (room_in seen h))) p
+          (λ j. record { core = core_ran j; action = action_of latest (room_in seen h) h' r; answer = answer_of b' r.answer }) ∙ ap (core_flushed (settings_of s (room_in seen h))) p
 
       pub now_steps : StepIs s c seen row (on_frame frame) w w' b b' h h' r
       unfolding core_step

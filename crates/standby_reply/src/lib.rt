@@ -41,7 +41,7 @@ fn frame(answer: Answer) -> Option<Frame>
 
 // The bytes of an answer's frame, and Unreadable where it has none; `bytes` is the store's byte area, where a Bound has its texts.
 pub fn write(answer: Answer, bytes: &[u8], out: &mut [u8]) -> Result<usize, EncodeError>
-    ensures { Encoded 1 (frame_for bytes.now answer) out.old out.new result }
+    ensures { Encoded protocol.version (frame_for bytes.now answer) out.old out.new result }
 {
     let frame = frame(answer).ok_or(EncodeError::Unreadable)?;
     let protocol = Protocol {

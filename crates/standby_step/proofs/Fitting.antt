@@ -19,7 +19,8 @@ use Rattle.standby_pending.specs.Pending.{pending_of}
 use Rattle.model_standby.proofs.Holding.{writes_inside}
 use Rattle.standby_state.specs.Answers.{answer_of}
 use Rattle.standby_commit.specs.Settling.{StoreChange}
-use Rattle.model_standby.specs.Answer.{protocol_version, Given, damaged, intact, given, handle_in, accepted, is_reply}
+use Rattle.model_text.specs.Version.{latest, is_version}
+use Rattle.model_standby.specs.Answer.{Given, damaged, intact, given, handle_in, accepted, is_reply}
 use Rattle.model_standby.specs.Row.{is_some}
 use Rattle.model_standby.specs.Store.{Place, place_of, is_stored, session_at, or_new}
 use Rattle.model_standby.specs.State.{Settings, incarnation_of, Counters, Bound, Call, on_frame_held, on_frame, flush, disconnected_from, promote, promote_unchecked, at_epoch, none_held}
@@ -119,7 +120,7 @@ module _ (L : Settings) where
   hello_fit : (k : Core) (found : Option Bound) (room : ℕ → Bool) (v e : ℕ) (kinds : List ℕ) → Fit false 0 found room none (core_hello L k v e kinds).action
   unfolding core_hello
   hello_fit k found room v e kinds =
-      either (λ (r : CoreResult). Fit false 0 found room none r.action) (not (eqb v protocol_version)) refl
+      either (λ (r : CoreResult). Fit false 0 found room none r.action) (not (is_version v)) refl
       (either (λ (r : CoreResult). Fit false 0 found room none r.action) (not (is_empty kinds)) refl
       (either (λ (r : CoreResult). Fit false 0 found room none r.action) (ltb e k.counters.epoch) refl refl))
 

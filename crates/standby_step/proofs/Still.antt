@@ -10,7 +10,8 @@ use Rattle.model_frame.specs.Frame.{Key, Change, Part, commit, whole, last_whole
 use Rattle.model_frame.specs.Parse.{is_empty}
 use Rattle.model_frame.specs.Sizes.{sizes}
 use Rattle.model_session.specs.Session.{fits}
-use Rattle.model_standby.specs.Answer.{protocol_version, Given, damaged, intact, given, Answer, reply, refused, done}
+use Rattle.model_text.specs.Version.{latest, is_version}
+use Rattle.model_standby.specs.Answer.{Given, damaged, intact, given, Answer, reply, refused, done}
 use Rattle.model_standby.specs.Store.{place_of, is_stored, session_at, or_new}
 use Rattle.model_standby.specs.State.{Settings, incarnation_of, Bound, Call, on_frame_held, on_frame, flush, disconnected_from, promote, promote_unchecked, at_epoch, none_held}
 use Rattle.model_standby.specs.Standby.{due, follows, raised, max_whole, starts_with_reset}
@@ -76,7 +77,7 @@ module _ (L : Settings) where
   hello_still : (k : Core) (v e : ℕ) (kinds : List ℕ) → Still (core_hello L k v e kinds)
   unfolding core_hello
   hello_still k v e kinds =
-      either (not (eqb v protocol_version)) (by_leave refl)
+      either (not (is_version v)) (by_leave refl)
       (either (not (is_empty kinds)) (by_leave refl)
       (either (ltb e k.counters.epoch) (by_leave refl) (by_answer refl)))
 

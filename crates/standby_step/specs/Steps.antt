@@ -15,7 +15,8 @@ use Rattle.store_areas.specs.Areas.{words_at, bytes_at, allowed, Rules, places_o
 use Rattle.standby_pending.specs.Pending.{pending_of}
 use Rattle.standby_pending_run.specs.Commits.{ran_words}
 use Rattle.standby_commit.specs.Settling.{StoreChange, stays, bind_change, batch_change, StoreAfter}
-use Rattle.model_standby.specs.Answer.{protocol_version, Given, damaged, intact, given, handle_in, accepted, is_reply}
+use Rattle.model_text.specs.Version.{latest}
+use Rattle.model_standby.specs.Answer.{Given, damaged, intact, given, handle_in, accepted, is_reply}
 use Rattle.model_standby.specs.Store.{Place, place_of, is_stored}
 use Rattle.model_standby.specs.State.{Bound, Counters, Call, on_frame_held, on_frame, flush, disconnected_from, promote, promote_unchecked}
 use Rattle.model_standby.specs.State as state
@@ -47,7 +48,7 @@ abbrev pub is_found : Lookup → Bool
 is_found seen = is_some seen.own
 
 abbrev pub found_in : Lookup → List ℕ → Option Bound
-found_in seen h = found_of protocol_version (is_found seen) (own_record seen) (area_at (room_in seen h) (own_place seen) h)
+found_in seen h = found_of latest (is_found seen) (own_record seen) (area_at (room_in seen h) (own_place seen) h)
 
 -- at which session places the row has room for the handle k, once no other handle has the place
 abbrev pub rooms_in : Lookup → List BoundRecord → ℕ → ℕ → Bool
@@ -163,7 +164,7 @@ keeps_counters c promote_unchecked = false
 -- ---- a call's core by value, as it is proved: no entry point's promise cites what follows
 
 pub record Stepped (s : Settings) (c : Replica) (seen : Lookup) (row : List BoundRecord) (call : Call) (w w' b b' h h' : List ℕ) (r : Outcome) : Type 0 where
-  pub is : outcome_of protocol_version (room_in seen h) s.shape w' b' h' r ≡ core_step (settings_of s (room_in seen h)) (core_at (counters_of c) s.shape w b) (found_in seen h) (rooms_in seen row (handle_by call)) call
+  pub is : outcome_of latest (room_in seen h) s.shape w' b' h' r ≡ core_step (settings_of s (room_in seen h)) (core_at (counters_of c) s.shape w b) (found_in seen h) (rooms_in seen row (handle_by call)) call
   pub lands : Lands seen row (used_of w') (room_in seen h) (area_at (room_in seen h) (own_place seen) h') r.action
   pub kept : keeps_counters c call ≡ true → r.replica ≡ c
   pub rules : Rules s.shape w' b'

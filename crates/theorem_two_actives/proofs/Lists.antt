@@ -38,7 +38,7 @@ s₀ = record { shape = record { places = 2; bytes = 4; messages = 2 }; incarnat
 abbrev x₀ : Lent
 x₀ =
     record {
-      counters = record { epoch = record { 0 = 0 }; connections = 0; promoted = 0; checked = 0 };
+      counters = record { epoch = record { 0 = 0 }; connections = 0; promoted = 0; checked = 0; version2 = 0 };
       row = free_record ∷ free_record ∷ [];
       words = replicate 106 0;
       bytes = replicate 456 0;

@@ -22,7 +22,8 @@ use Rattle.store_areas.specs.Areas.{place_at, places_of, Rules}
 use Rattle.store_areas.proofs.Ruling.{rules_true}
 use Rattle.store_areas.proofs.Lifting.{place_is, session_is}
 use Rattle.standby_changes.proofs.Held.{held_none}
-use Rattle.model_standby.specs.Answer.{protocol_version, given, refused, accepted}
+use Rattle.model_text.specs.Version.{latest}
+use Rattle.model_standby.specs.Answer.{given, refused, accepted}
 use Rattle.model_standby.specs.Answer as answer
 use Rattle.model_standby.specs.Store.{Place, session_at}
 use Rattle.model_standby.specs.State.{Bound, Call, Result, on_frame_held, on_frame, flush, disconnected_from}
@@ -67,7 +68,7 @@ h₁ = record { used = 1; handle = 9; place = 0; commit_no = record { 0 = 7 }; h
 abbrev x₁ : Lent
 x₁ =
     record {
-      counters = record { epoch = record { 0 = 5 }; connections = 1; promoted = 0; checked = 0 };
+      counters = record { epoch = record { 0 = 5 }; connections = 1; promoted = 0; checked = 0; version2 = 0 };
       row = h₁ ∷ [];
       words = 1 ∷ replicate 85 0;
       bytes = replicate 225 0;
@@ -78,7 +79,7 @@ abbrev place₁ : Place
 place₁ = place_at s₁.shape x₁.words x₁.bytes 0
 
 abbrev b₁ : Bound
-b₁ = bound_of protocol_version h₁ (replicate 167 0)
+b₁ = bound_of latest h₁ (replicate 167 0)
 
 abbrev B₁ : Session
 B₁ = place₁.stored.session
@@ -99,7 +100,7 @@ start₁ =
       its_key =
           own_made (places_of s₁.shape x₁.words x₁.bytes) 0 (record { key = place₁.key; earlier = 0 })
           (ap (map (λ (p : Place). p.key)) (place_is s₁.shape x₁.words x₁.bytes 0 (omega arith))) refl;
-      nothing_held = held_none protocol_version [] (omega arith);
+      nothing_held = held_none latest [] (omega arith);
       area = omega arith;
       handle_u32 = omega arith;
       epoch_u64 = omega arith;
