@@ -9,7 +9,7 @@ use lib.ListN.{length}
 use Rattle.model_frame.specs.Frame.{Key, Change, Part, commit, whole, last_whole, AppRecord, Frame, hello, welcome, bind, batch, ack, nack, bound, checked}
 use Rattle.model_frame.specs.Parse.{is_empty}
 use Rattle.model_frame.specs.Sizes.{sizes}
-use Rattle.model_session.specs.Session.{fits}
+use Rattle.model_session.specs.Session.{suits, fits}
 use Rattle.model_text.specs.Version.{latest, is_version}
 use Rattle.model_standby.specs.Answer.{Given, damaged, intact, given, Answer, refused, accepted, says_diverged}
 use Rattle.model_standby.specs.Store.{place_of, is_stored, session_at, or_new}
@@ -74,8 +74,9 @@ module _ (L : Settings) where
   bind_does k room h e lag j =
       either (ltb e k.counters.epoch) (so refl)
       (either (ltb L.lag lag) (so refl)
+      (either (not (suits k.counters.version (or_new (session_at k.places (place_of j k.places))).stamp)) (so refl)
       (either (not (is_stored j k.places || ltb (length k.places) L.S)) (so refl)
-      (either (not (room (place_of j k.places))) (so refl) (so refl))))
+      (either (not (room (place_of j k.places))) (so refl) (so refl)))))
 
   hello_does : (k : Core) (v e : ℕ) (kinds : List ℕ) → Does (λ a. cond (accepted a && not (ltb e k.counters.epoch)) frees keeps) (core_hello L k v e kinds)
   unfolding core_hello
@@ -117,8 +118,8 @@ module _ (L : Settings) where
 
   call_does : (k : Core) (found : Option Bound) (room : ℕ → Bool) (c : Call) → Does (row_by k.counters c) (core_step L k found room c)
   unfolding core_step
-  call_does k found room (on_frame_held w) = given_does k found room (given w)
-  call_does k found room (on_frame w) = so (given_does k found room (given w)).does
+  call_does k found room (on_frame_held w) = given_does k found room (given k.counters.version w)
+  call_does k found room (on_frame w) = so (given_does k found room (given k.counters.version w)).does
   call_does k found room (flush n) = either (not (eqb n k.counters.connections) || k.counters.promoted) (so refl) (so refl)
   call_does k found room (disconnected_from n) = lost (eqb n k.counters.connections) _ _ refl refl
     where

@@ -157,7 +157,7 @@ at_five w n h four fits f =
     handle_long w (omega arith) ∙ ap le (sym (handle_bytes w n (n - 1) (omega arith) (omega arith))) ∙ sym f.1
 
 -- what was handed in as a frame was read as it, to its end
-taken : (w : List ℕ) (f : Frame) → given w ≡ intact f → (used : ℕ) × (decode latest w ≡ got f used)
+taken : (w : List ℕ) (f : Frame) → given latest w ≡ intact f → (used : ℕ) × (decode latest w ≡ got f used)
 unfolding given
 taken w f = go (decode latest w) refl
   where
@@ -173,12 +173,12 @@ taken w f = go (decode latest w) refl
         last true q = let same : g ≡ f = cc in (used, e ∙ ap (λ (x : Frame). got x used) same)
         last false q = absurd (clash q)
 
-read_names : (w : List ℕ) (f : Frame) → given w ≡ intact f → (4 ≤ length w) × (le (take 4 w) ≤ length w - 4) × Names (drop 1 (take (le (take 4 w)) (drop 4 w))) f
+read_names : (w : List ℕ) (f : Frame) → given latest w ≡ intact f → (4 ≤ length w) × (le (take 4 w) ≤ length w - 4) × Names (drop 1 (take (le (take 4 w)) (drop 4 w))) f
 read_names w f e =
     let t : Taking latest w f (taken w f e).0 = decode_taking latest w (taken w f e).1 in
     (t.four, t.fits, body_names latest (take (le (take 4 w)) (drop 4 w)) t.whole)
 
-frame_sought : (w : List ℕ) (g : Given) → given w ≡ g → has_handle g ≡ true → handle_at w ≡ handle_in g
+frame_sought : (w : List ℕ) (g : Given) → given latest w ≡ g → has_handle g ≡ true → handle_at w ≡ handle_in g
 frame_sought w (damaged n) e t = absurd (true≢false (sym t))
 frame_sought w (intact (hello v e₁ node read_kinds)) e t = absurd (true≢false (sym t))
 frame_sought w (intact (welcome e₁ i)) e t = absurd (true≢false (sym t))
@@ -191,8 +191,8 @@ frame_sought w (intact (checked h e₁ i)) e t = absurd (true≢false (sym t))
 
 -- what is looked up is the call's handle, if it has one
 pub sought_own : (c : Call) → asks c ≡ true → sought_by c ≡ handle_by c
-sought_own (on_frame_held w) t = frame_sought w (given w) refl t
-sought_own (on_frame w) t = frame_sought w (given w) refl t
+sought_own (on_frame_held w) t = frame_sought w (given latest w) refl t
+sought_own (on_frame w) t = frame_sought w (given latest w) refl t
 sought_own (flush n) t = absurd (true≢false (sym t))
 sought_own (disconnected_from n) t = absurd (true≢false (sym t))
 sought_own promote t = absurd (true≢false (sym t))

@@ -85,8 +85,8 @@ row_by_given c (intact f) a = row_by_frame c f a
 
 -- a call: the connection that was lost and promotion free all
 abbrev pub row_by : Counters → Call → the-answer.Answer → RowChange
-row_by c (on_frame_held f) a = row_by_given c (given f) a
-row_by c (on_frame f) a = row_by_given c (given f) a
+row_by c (on_frame_held f) a = row_by_given c (given c.version f) a
+row_by c (on_frame f) a = row_by_given c (given c.version f) a
 row_by c (flush n) a = keeps
 row_by c (disconnected_from n) a = cond (eqb n c.connections) frees keeps
 row_by c promote a = cond (accepted a) frees keeps

@@ -16,6 +16,7 @@ use Rattle.standby_pending.specs.Pending.{pending_of}
 use Rattle.standby_pending_run.specs.Commits.{ran_words}
 use Rattle.standby_commit.specs.Settling.{StoreChange, stays, bind_change, batch_change, StoreAfter}
 use Rattle.model_text.specs.Version.{latest}
+use Rattle.frame_stamp.specs.Versions.{version_of}
 use Rattle.model_standby.specs.Answer.{Given, damaged, intact, given, handle_in, accepted, is_reply}
 use Rattle.model_standby.specs.Store.{Place, place_of, is_stored}
 use Rattle.model_standby.specs.State.{Bound, Counters, Call, on_frame_held, on_frame, flush, disconnected_from, promote, promote_unchecked}
@@ -93,10 +94,10 @@ pub record PromotionLeaves (s : Shape) (refused : Bool) (w w' b b' : List ℕ) :
   pub words : refused ≡ false → Only StoreWord.places (words_at s (used_of w)) (set w StoreWord.pending 0) w'
   pub bytes : refused ≡ false → Only 0 (bytes_at s (used_of w)) b b'
 
--- by the handle's place and the answer
+-- by the handle's place and the answer; a frame is read in the connection's version
 abbrev pub Leaves : Shape → Replica → ℕ → Call → List ℕ → List ℕ → List ℕ → List ℕ → Answer → Type 0
-Leaves s c p (on_frame_held f) w w' b b' a = FrameLeaves s (changes_by (places_of s w b) p (given f) (accepted (answer_of b' a))) (due_now (is_set c.promoted) (pending_of w) (given f)) false w w' b b'
-Leaves s c p (on_frame f) w w' b b' a = FrameLeaves s (changes_by (places_of s w b) p (given f) (accepted (answer_of b' a))) (due_now (is_set c.promoted) (pending_of w) (given f)) (is_reply (answer_of b' a)) w w' b b'
+Leaves s c p (on_frame_held f) w w' b b' a = FrameLeaves s (changes_by (places_of s w b) p (given (version_of c.version2) f) (accepted (answer_of b' a))) (due_now (is_set c.promoted) (pending_of w) (given (version_of c.version2) f)) false w w' b b'
+Leaves s c p (on_frame f) w w' b b' a = FrameLeaves s (changes_by (places_of s w b) p (given (version_of c.version2) f) (accepted (answer_of b' a))) (due_now (is_set c.promoted) (pending_of w) (given (version_of c.version2) f)) (is_reply (answer_of b' a)) w w' b b'
 Leaves s c p (flush n) w w' b b' a = (w' ≡ cond (eqb a.refusal 0) (ran_words s w) w) × (b' ≡ b)
 Leaves s c p (disconnected_from n) w w' b b' a = (w' ≡ cond (eqb n c.connections) (set w StoreWord.pending 0) w) × (b' ≡ b)
 Leaves s c p promote w w' b b' a = PromotionLeaves s (not (eqb a.refusal 0)) w w' b b'
@@ -109,8 +110,8 @@ holds_after room i none h = h
 holds_after room i (some x) h = write h (i * room + x.offset) x.bytes
 
 abbrev pub writes_by : state.Settings → Counters → Option Bound → Call → Option HoldWrite
-writes_by L c found (on_frame_held f) = writes L c found (given f)
-writes_by L c found (on_frame f) = writes L c found (given f)
+writes_by L c found (on_frame_held f) = writes L c found (given c.version f)
+writes_by L c found (on_frame f) = writes L c found (given c.version f)
 writes_by L c found (flush n) = none
 writes_by L c found (disconnected_from n) = none
 writes_by L c found promote = none
@@ -130,18 +131,18 @@ has_handle (intact (nack h r)) = false
 has_handle (intact (bound h m)) = false
 has_handle (intact (checked h e i)) = false
 
--- the handle that a call's frame names
+-- the handle that a call's frame names: what some version reads, the latest reads too
 abbrev pub handle_by : Call → ℕ
-handle_by (on_frame_held f) = handle_in (given f)
-handle_by (on_frame f) = handle_in (given f)
+handle_by (on_frame_held f) = handle_in (given latest f)
+handle_by (on_frame f) = handle_in (given latest f)
 handle_by (flush n) = 0
 handle_by (disconnected_from n) = 0
 handle_by promote = 0
 handle_by promote_unchecked = 0
 
 abbrev pub asks : Call → Bool
-asks (on_frame_held f) = has_handle (given f)
-asks (on_frame f) = has_handle (given f)
+asks (on_frame_held f) = has_handle (given latest f)
+asks (on_frame f) = has_handle (given latest f)
 asks (flush n) = false
 asks (disconnected_from n) = false
 asks promote = false
@@ -154,8 +155,8 @@ keeps_by promoted (damaged n) = true
 keeps_by promoted (intact f) = promoted
 
 abbrev pub keeps_counters : Replica → Call → Bool
-keeps_counters c (on_frame_held f) = keeps_by (is_set c.promoted) (given f)
-keeps_counters c (on_frame f) = keeps_by (is_set c.promoted) (given f)
+keeps_counters c (on_frame_held f) = keeps_by (is_set c.promoted) (given (version_of c.version2) f)
+keeps_counters c (on_frame f) = keeps_by (is_set c.promoted) (given (version_of c.version2) f)
 keeps_counters c (flush n) = true
 keeps_counters c (disconnected_from n) = true
 keeps_counters c promote = false
