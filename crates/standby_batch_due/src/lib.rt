@@ -42,7 +42,7 @@ pub fn run_due_then_batch(
 ) -> Outcome
     requires rules { Rules standing.settings.shape areas.old.words.now areas.old.bytes.now }
     requires record_rules_in { is_found standing.lookup ≡ true → RecordRulesIn standing.lookup areas.old.words.now areas.old.holds.now }
-    requires has_length { HasLength 1 frame.now batch.ops }
+    requires has_length { HasLength latest frame.now batch.ops }
     ensures is { BatchIn standing.settings standing.counters standing.lookup batch.handle batch.epoch.0 batch.commit_no.0 (part_of batch.part) (run_of (read_change latest) frame.now batch.ops) (run_of read_app_record frame.now batch.app_records) areas.old.words.now areas.new.words.now areas.old.bytes.now areas.new.bytes.now areas.old.holds.now areas.new.holds.now result }
     ensures same { SameLent areas.old areas.new }
 {

@@ -24,6 +24,8 @@ use Rattle.standby_pending_run.specs.Commits.{ran_words, RanIf}
 use Rattle.standby_commit.specs.Settling.{StoreChange, stays, batch_change, StoreAfter}
 use Rattle.model_text.specs.Version.{latest}
 use Rattle.model_standby.specs.Answer.{Given, damaged, intact, given, handle_in, reply, refused, done, accepted, is_reply}
+use Rattle.frame_stamp.specs.Versions.{version_of}
+use Rattle.model_standby.proofs.Factoring.{given_latest}
 use Rattle.model_standby.specs.Store.{Place}
 use Rattle.model_standby.specs.State.{Bound, Call, on_frame_held, on_frame}
 use Rattle.model_standby.specs.State as state
@@ -102,10 +104,14 @@ module _ (s : Settings) (c : Replica) (seen : Lookup) (row : List BoundRecord) (
   abbrev F : Option Bound
   F = found_in seen h
 
-  abbrev room : ℕ → Bool
-  room = rooms_in seen row (handle_in (given frame))
+  -- the connection's version
+  abbrev V : ℕ
+  V = version_of c.version2
 
-  held_is : core_step L K F room (on_frame_held frame) ≡ core_given L K F room (given frame)
+  abbrev room : ℕ → Bool
+  room = rooms_in seen row (handle_in (given latest frame))
+
+  held_is : core_step L K F room (on_frame_held frame) ≡ core_given L K F room (given V frame)
   unfolding core_step
   held_is = refl
 
@@ -113,7 +119,7 @@ module _ (s : Settings) (c : Replica) (seen : Lookup) (row : List BoundRecord) (
   refused_is n x e = ap (λ (t : Bool). cond t done (refused n)) e
 
   -- refused, and all is as it was
-  all_left : (g : Given) → given frame ≡ g → (n : ℕ) → eqb n 0 ≡ false → core_given L K F room g ≡ core_refuse K leave n → due_now (is_set c.promoted) (pending_of w) g ≡ false → writes L (counters_of c) F g ≡ none
+  all_left : (g : Given) → given V frame ≡ g → (n : ℕ) → eqb n 0 ≡ false → core_given L K F room g ≡ core_refuse K leave n → due_now (is_set c.promoted) (pending_of w) g ≡ false → writes L (counters_of c) F g ≡ none
       → {r : Outcome} → r ≡ leaving c (is_refused n) → Takes s c seen row frame w w b b h h r
   all_left g is n off core due-none none_written e₁ =
       subst (Takes s c seen row frame w w b b h h) (sym e₁)
@@ -128,8 +134,8 @@ module _ (s : Settings) (c : Replica) (seen : Lookup) (row : List BoundRecord) (
           leaves = record {
             mid = w;
             store_after =
-                subst (λ (x : StoreChange). StoreAfter s.shape x (cond (due_now (is_set c.promoted) (pending_of w) (given frame)) (ran_words s.shape w) w) w b b)
-                (sym (ap (changes_by (places_of s.shape w b) (own_record seen).place (given frame)) (ap accepted (refused_is n b off)) ∙ off_stays (places_of s.shape w b) (own_record seen).place (given frame)))
+                subst (λ (x : StoreChange). StoreAfter s.shape x (cond (due_now (is_set c.promoted) (pending_of w) (given V frame)) (ran_words s.shape w) w) w b b)
+                (sym (ap (changes_by (places_of s.shape w b) (own_record seen).place (given V frame)) (ap accepted (refused_is n b off)) ∙ off_stays (places_of s.shape w b) (own_record seen).place (given V frame)))
                 (sym (ap (λ (t : Bool). cond t (ran_words s.shape w) w) (ap (due_now (is_set c.promoted) (pending_of w)) is ∙ due-none)), refl);
             last = refl;
           };
@@ -138,11 +144,11 @@ module _ (s : Settings) (c : Replica) (seen : Lookup) (row : List BoundRecord) (
         exact = exact_refused b n;
       })
 
-  pub damaged_left : (n : ℕ) → given frame ≡ damaged n → eqb n 0 ≡ false → {r : Outcome} → r ≡ leaving c (is_refused n) → Takes s c seen row frame w w b b h h r
+  pub damaged_left : (n : ℕ) → given V frame ≡ damaged n → eqb n 0 ≡ false → {r : Outcome} → r ≡ leaving c (is_refused n) → Takes s c seen row frame w w b b h h r
   unfolding core_given writes
   damaged_left n is off e₁ = all_left (damaged n) is n off refl refl refl e₁
 
-  pub promoted_left : (f : the_frame.Frame) → given frame ≡ intact f → (c.promoted ≡ 0 → ⊥) → {r : Outcome} → r ≡ leaving c (is_refused 10) → Takes s c seen row frame w w b b h h r
+  pub promoted_left : (f : the_frame.Frame) → given V frame ≡ intact f → (c.promoted ≡ 0 → ⊥) → {r : Outcome} → r ≡ leaving c (is_refused 10) → Takes s c seen row frame w w b b h h r
   unfolding core_given writes
   promoted_left f is on e₁ =
       all_left (intact f) is 10 refl
@@ -151,16 +157,17 @@ module _ (s : Settings) (c : Replica) (seen : Lookup) (row : List BoundRecord) (
       (ap (λ (t : Bool). cond t none (writes_frame L (counters_of c) F f)) (set_so c.promoted on))
       e₁
 
-  pub intact_taken : (f : the_frame.Frame) → given frame ≡ intact f → c.promoted ≡ 0 → {w' b' h' : List ℕ} {r : Outcome} → IntactIs s c seen row f w w' b b' h h' r → Takes s c seen row frame w w' b b' h h' r
+  pub intact_taken : (f : the_frame.Frame) → given V frame ≡ intact f → c.promoted ≡ 0 → {w' b' h' : List ℕ} {r : Outcome} → IntactIs s c seen row f w w' b b' h h' r → Takes s c seen row frame w w' b b' h h' r
   unfolding core_given writes
   intact_taken f is off {w'} {b'} {h'} {r} g = record {
     rules = g.rules;
     steps = λ own.
-        let mine : Own seen f = λ found asks. own found (ap has_handle is ∙ asks) ∙ ap handle_in is in
+        let wide : given latest frame ≡ intact f = given_latest V frame is in
+        let mine : Own seen f = λ found asks. own found (ap has_handle wide ∙ asks) ∙ ap handle_in wide in
         record {
           is =
               g.is mine
-              ∙ ap (λ (x : Given). core_intact L (core_run (due (pending_of w) f) K) F (rooms_in seen row (handle_in x)) f) (sym is)
+              ∙ ap (λ (x : Given). core_intact L (core_run (due (pending_of w) f) K) F (rooms_in seen row (handle_in x)) f) (sym wide)
               ∙ sym (held_is ∙ ap (core_given L K F room) is ∙ ap (λ (t : Bool). cond t (core_refuse K leave 10) (core_intact L (core_run (due (pending_of w) f) K) F room f)) (clear_so c.promoted off));
           lands = g.lands;
           kept = λ e. absurd (true≢false (sym e ∙ ap (keeps_by (is_set c.promoted)) is ∙ clear_so c.promoted off));

@@ -43,5 +43,5 @@ pub record IntactIs (s : Settings) (c : Replica) (seen : Lookup) (row : List Bou
 
 pub record Takes (s : Settings) (c : Replica) (seen : Lookup) (row : List BoundRecord) (frame w w' b b' h h' : List ℕ) (r : Outcome) : Type 0 where
   pub rules : Rules s.shape w' b'
-  pub steps : (is_found seen ≡ true → has_handle (given frame) ≡ true → (own_record seen).handle ≡ handle_in (given frame)) → Stepped s c seen row (on_frame_held frame) w w' b b' h h' r
+  pub steps : (is_found seen ≡ true → has_handle (given latest frame) ≡ true → (own_record seen).handle ≡ handle_in (given latest frame)) → Stepped s c seen row (on_frame_held frame) w w' b b' h h' r
   pub exact : Exact b' r.answer

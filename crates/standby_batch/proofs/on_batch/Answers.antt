@@ -24,4 +24,4 @@ returns c =
     let x = a.batch in
     let r = c.run_of-changes.ensures in
     handled_given s.settings s.counters s.lookup x.handle x.epoch x.commit_no (part_of x.part) (run_of (read_change latest) a.frame.now x.ops) (run_of read_app_record a.frame.now x.app_records) a.words.now a.bytes.now a.area.now c.requires.rules (sym c.no_records.ensures ∙ c.if-not-no_records.false) (sym c.is_stale.ensures ∙ c.if-is_stale.false) {found = found_for s.lookup x.handle} refl
-    (rw (r.protocol, r.part.changes, c.bound_for.ensures) at c.on_handle-part_result.ensures.is) (rw (r.protocol, c.bound_for.ensures) at c.on_handle-part_result.ensures.area) r.part.bytes (kept_of s.lookup x.handle a.words.now a.area.now c.requires.record_rules) refl c.part_outcome.ensures (search rules) (search rules)
+    (rw (r.protocol, r.part.changes, c.latest.ensures, c.bound_for.ensures) at c.on_handle-part_result.ensures.is) (rw (r.protocol, c.latest.ensures, c.bound_for.ensures) at c.on_handle-part_result.ensures.area) (rw c.latest.ensures at r.part.bytes) (kept_of s.lookup x.handle a.words.now a.area.now c.requires.record_rules) refl c.part_outcome.ensures (search rules) (search rules)
