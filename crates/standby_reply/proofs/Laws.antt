@@ -19,8 +19,8 @@ unfolding write_outcome
 no_frame v b before (Some f) e h q = cc
 no_frame v b before None e h q =
     let unreadable : e ≡ EncodeError.Unreadable = cc in
-    subst (λ (o : Option the_frame.Frame). Encoded v o before before (Err e)) (h.is b) (rw unreadable (record { answer = refl; area = refl }))
+    subst (λ (o : Option the_frame.Frame). Encoded v o before before (Err e)) (h.is v b) (rw unreadable (record { answer = refl; area = refl }))
 
 pub its_frame : {a : Answer} (v : ℕ) (b : List ℕ) (r : prelude.Option Frame) (f : Frame) → Frames a r → Ok f ≡ ok_or r EncodeError.Unreadable → frame_in v b f ≡ frame_for b a
-its_frame v b (Some x) f h q = cc (h.is b)
+its_frame v b (Some x) f h q = cc (h.is v b)
 its_frame v b None f h q = cc
