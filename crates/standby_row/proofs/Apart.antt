@@ -15,6 +15,7 @@ use Rattle.std.proofs.lemmas.Grind.{get_or-set_at}
 use Rattle.std.proofs.lemmas.Nat.{le_or_l, le_or_r}
 use Rattle.standby_row.specs.declared.Bound.{Bound}
 use Rattle.standby_row.specs.Row.{free_record, is_used, clashes, apart_of}
+use Rattle.standby_row.specs.Spots.{spread_of}
 
 -- the record j, or a free one
 abbrev pub at : List Bound → ℕ → Bound
@@ -82,41 +83,14 @@ no_clash g h p q = go (is_used g) (is_used h) (eqb g.handle h.handle) (eqb g.pla
     go true true false true p q = absurd (q refl refl)
     go true true false false p q = refl
 
--- ---- the cells of the places and handles that were met, by their remainders by n
+-- ---- the cells of the places and handles that were met: p and q of them, by the remainders of places and of handles' numbers
 
-pub record Met (xs : List Bound) (n i : ℕ) (places handles : List ℕ) : Type 0 where
-  pub cells : (length places ≡ n) × (length handles ≡ n)
-  pub met : (j : ℕ) → i ≤ j → j < length xs → is_used (at xs j) ≡ true → (get_or places ((at xs j).place % n) 0 ≡ 1) × (get_or handles ((at xs j).handle % n) 0 ≡ 1)
+pub record Met (xs : List Bound) (p q i : ℕ) (places handles : List ℕ) : Type 0 where
+  pub cells : (length places ≡ p) × (length handles ≡ q)
+  pub met : (j : ℕ) → i ≤ j → j < length xs → is_used (at xs j) ≡ true → (get_or places ((at xs j).place % p) 0 ≡ 1) × (get_or handles (spread_of (at xs j).handle % q) 0 ≡ 1)
 
-pub none_met : (xs : List Bound) (n i : ℕ) (places handles : List ℕ) → length places ≡ n → length handles ≡ n → i ≡ length xs → Met xs n i places handles
-none_met xs n i places handles a b e = record { cells = (a, b); met = λ j l m u. absurd (omega arith) }
-
--- a record whose cells were not met clashes with none behind it
-pub is_new : {xs : List Bound} {n : ℕ} {places handles : List ℕ} (i : ℕ) → Met xs n (i + 1) places handles
-    → bit_or (get_or places ((at xs i).place % n) 0) (get_or handles ((at xs i).handle % n) 0) ≡ 0
-    → list_any (clashes (at xs i)) (drop (i + 1) xs) ≡ false
-is_new {xs} {n} {places} {handles} i w none = any_none (clashes (at xs i)) xs (i + 1) (λ j l m. no_clash (at xs i) (at xs j) (λ u e. by_handle j l m u e) (λ u e. by_place j l m u e))
-  where
-    x : ℕ
-    x = get_or places ((at xs i).place % n) 0
-
-    y : ℕ
-    y = get_or handles ((at xs i).handle % n) 0
-
-    by_handle : (j : ℕ) → i + 1 ≤ j → j < length xs → is_used (at xs j) ≡ true → (at xs i).handle ≡ (at xs j).handle → ⊥
-    by_handle j l m u e =
-        let one : get_or handles ((at xs j).handle % n) 0 ≡ 1 = (w.met j l m u).1 in
-        let same : y ≡ get_or handles ((at xs j).handle % n) 0 = ap (λ (k : ℕ). get_or handles (k % n) 0) e in
-        omega (arith, le_or_r x y)
-
-    by_place : (j : ℕ) → i + 1 ≤ j → j < length xs → is_used (at xs j) ≡ true → (at xs i).place ≡ (at xs j).place → ⊥
-    by_place j l m u e =
-        let one : get_or places ((at xs j).place % n) 0 ≡ 1 = (w.met j l m u).0 in
-        let same : x ≡ get_or places ((at xs j).place % n) 0 = ap (λ (k : ℕ). get_or places (k % n) 0) e in
-        omega (arith, le_or_l x y)
-
-pub met_free : {xs : List Bound} {n : ℕ} {places handles : List ℕ} (i : ℕ) → Met xs n (i + 1) places handles → is_used (at xs i) ≡ false → Met xs n i places handles
-met_free {xs} {n} i w e = record { cells = w.cells; met = and_on _ i w.met (λ m u. absurd (true≢false (sym u ∙ e))) }
+pub none_met : (xs : List Bound) (p q i : ℕ) (places handles : List ℕ) → length places ≡ p → length handles ≡ q → i ≡ length xs → Met xs p q i places handles
+none_met xs p q i places handles a b e = record { cells = (a, b); met = λ j l m u. absurd (omega arith) }
 
 -- a cell that was met stays so
 stays : (cells : List ℕ) (i j : ℕ) → i < length cells → get_or cells j 0 ≡ 1 → get_or (set cells i 1) j 0 ≡ 1
@@ -126,46 +100,61 @@ stays cells i j l e = go (eqb j i) refl
     go true t = get_or-set_at cells i j 1 0 (eqb-true j i t) l
     go false t = get_or-set_other cells i j 1 0 (eqb-false j i t) ∙ e
 
-pub met_used : {xs : List Bound} {n : ℕ} {places handles : List ℕ} (i : ℕ) → 0 < n → Met xs n (i + 1) places handles
-    → Met xs n i (set places ((at xs i).place % n) 1) (set handles ((at xs i).handle % n) 1)
-met_used {xs} {n} {places} {handles} i some w = record {
-  cells = (length-set places p 1 ∙ w.cells.0, length-set handles q 1 ∙ w.cells.1);
-  met = and_on _ i (λ j l m u. (stays places p ((at xs j).place % n) p_in (w.met j l m u).0, stays handles q ((at xs j).handle % n) q_in (w.met j l m u).1))
-      (λ m u. (get_or-set_same places p 1 0 p_in, get_or-set_same handles q 1 0 q_in));
-}
-  where
-    p : ℕ
-    p = (at xs i).place % n
+-- ---- a turn: the records from i on, after those from m on
 
-    q : ℕ
-    q = (at xs i).handle % n
-
-    p_in : p < length places
-    p_in = omega (arith, w.cells.0, some)
-
-    q_in : q < length handles
-    q_in = omega (arith, w.cells.1, some)
-
--- ---- a turn of the walk that tests this alone: the records from i on, after those from m on
-
-module _ {xs : List Bound} {m : ℕ} {places handles : List ℕ} (i : ℕ) (next : m ≡ i + 1) (inside : m ≤ length xs) (cells : Met xs 4096 m places handles) (apart : apart_of (drop m xs) ≡ true) where
-  behind : Met xs 4096 (i + 1) places handles
-  behind = subst (λ (n : ℕ). Met xs 4096 n places handles) next cells
+module _ {xs : List Bound} {p q m : ℕ} {places handles : List ℕ} (i : ℕ) (next : m ≡ i + 1) (inside : m ≤ length xs) (cells : Met xs p q m places handles) (apart : apart_of (drop m xs) ≡ true) where
+  w : Met xs p q (i + 1) places handles
+  w = subst (λ (n : ℕ). Met xs p q n places handles) next cells
 
   apart_behind : apart_of (drop (i + 1) xs) ≡ true
   apart_behind = subst (λ (n : ℕ). apart_of (drop n xs) ≡ true) next apart
 
-  pub new_here : bit_or (get_or places ((at xs i).place % 4096) 0) (get_or handles ((at xs i).handle % 4096) 0) ≡ 0 → list_any (clashes (at xs i)) (drop (i + 1) xs) ≡ false
-  new_here none = is_new i behind none
+  abbrev place : ℕ
+  place = (at xs i).place % p
 
-  pub used_cells : Met xs 4096 i (set places ((at xs i).place % 4096) 1) (set handles ((at xs i).handle % 4096) 1)
-  used_cells = met_used i (omega arith) behind
+  abbrev number : ℕ
+  number = spread_of (at xs i).handle % q
+
+  -- a record whose cells were not met clashes with none behind it
+  pub new_here : bit_or (get_or places ((at xs i).place % p) 0) (get_or handles (spread_of (at xs i).handle % q) 0) ≡ 0 → list_any (clashes (at xs i)) (drop (i + 1) xs) ≡ false
+  new_here none = any_none (clashes (at xs i)) xs (i + 1) (λ j l m. no_clash (at xs i) (at xs j) (λ u e. by_handle j l m u e) (λ u e. by_place j l m u e))
+    where
+      x : ℕ
+      x = get_or places place 0
+
+      y : ℕ
+      y = get_or handles number 0
+
+      by_handle : (j : ℕ) → i + 1 ≤ j → j < length xs → is_used (at xs j) ≡ true → (at xs i).handle ≡ (at xs j).handle → ⊥
+      by_handle j l m u e =
+          let one : get_or handles (spread_of (at xs j).handle % q) 0 ≡ 1 = (w.met j l m u).1 in
+          let same : y ≡ get_or handles (spread_of (at xs j).handle % q) 0 = ap (λ (k : ℕ). get_or handles (spread_of k % q) 0) e in
+          omega (arith, le_or_r x y)
+
+      by_place : (j : ℕ) → i + 1 ≤ j → j < length xs → is_used (at xs j) ≡ true → (at xs i).place ≡ (at xs j).place → ⊥
+      by_place j l m u e =
+          let one : get_or places ((at xs j).place % p) 0 ≡ 1 = (w.met j l m u).0 in
+          let same : x ≡ get_or places ((at xs j).place % p) 0 = ap (λ (k : ℕ). get_or places (k % p) 0) e in
+          omega (arith, le_or_l x y)
+
+  pub used_cells : 0 < p → 0 < q → Met xs p q i (set places ((at xs i).place % p) 1) (set handles (spread_of (at xs i).handle % q) 1)
+  used_cells some some' = record {
+    cells = (length-set places place 1 ∙ w.cells.0, length-set handles number 1 ∙ w.cells.1);
+    met = and_on _ i (λ j l m u. (stays places place ((at xs j).place % p) place_in (w.met j l m u).0, stays handles number (spread_of (at xs j).handle % q) number_in (w.met j l m u).1))
+        (λ m u. (get_or-set_same places place 1 0 place_in, get_or-set_same handles number 1 0 number_in));
+  }
+    where
+      place_in : place < length places
+      place_in = omega (arith, w.cells.0, some)
+
+      number_in : number < length handles
+      number_in = omega (arith, w.cells.1, some')
 
   pub used_apart : list_any (clashes (at xs i)) (drop (i + 1) xs) ≡ false → apart_of (drop i xs) ≡ true
   used_apart n = apart_on xs i (omega arith) apart_behind n
 
-  pub free_cells : is_used (at xs i) ≡ false → Met xs 4096 i places handles
-  free_cells e = met_free i behind e
+  pub free_cells : is_used (at xs i) ≡ false → Met xs p q i places handles
+  free_cells e = record { cells = w.cells; met = and_on _ i w.met (λ m u. absurd (true≢false (sym u ∙ e))) }
 
   pub free_apart : is_used (at xs i) ≡ false → apart_of (drop i xs) ≡ true
   free_apart e = apart_free xs i (omega arith) apart_behind e

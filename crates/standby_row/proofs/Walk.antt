@@ -1,21 +1,22 @@
 -- What one walk over a row, from the last record to the first, has found of the records from i on. Assumes nothing.
 use mathlib.Core.Path.{◌≡◌, refl, sym, ◌∙◌, ap, subst}
 use mathlib.Core.Bool.{Bool, true, false, not, ◌&&◌, ◌||◌, true≢false}
-use Prim.Native.Nat.{ℕ, zero, suc, ◌+◌, ◌%◌, ◌<◌, ◌≤◌, max}
+use Prim.Native.Nat.{ℕ, zero, suc, ◌+◌, ◌<◌, ◌≤◌, max}
 use native.Mathlib.Omega.{arith}
 use mathlib.Core.List.{List, [], ◌∷◌}
 use lib.Bits.{bit_or}
 use lib.Dec.{eqb, leb, ltb}
-use lib.ListN.{length, get_or, set, drop}
+use lib.ListN.{length}
 use borrow.Author.Tests.{eqb-true, eq-eqb, leb-true, leb-false, ltb-true, ltb-false}
-use Rattle.std.proofs.lemmas.Nat.{le_or_l, le_or_r}
+use Rattle.std.proofs.lemmas.Nat.{le_or_r}
+use Rattle.base_flags.specs.Flag.{is_set}
 use Rattle.standby_row.specs.declared.Bound.{Bound}
-use Rattle.standby_row.specs.Row.{is_used, is_of, is_free, breaks_of, zero_or_next, first_of, apart_of}
+use Rattle.standby_row.specs.Row.{is_used, is_of, is_free, breaks_of, zero_or_next, first_of}
 use Rattle.standby_row.specs.Spots.{SpotsIn}
-use Rattle.standby_row.proofs.Apart.{at, never, and_on, Met, none_met, is_new, met_free, met_used, apart_on, apart_free, none_apart}
+use Rattle.standby_row.proofs.Apart.{at, never, and_on}
 
--- the first record for the handle k, the first free one, the last place, the most held; the cells that were met, and, where none was met twice, that the records are apart
-pub record Walked (xs : List Bound) (k i : ℕ) (places handles : List ℕ) (met own free last most : ℕ) : Type 0 where
+-- the first record for the handle k, the first free one, whether one is used, the last place, the most held
+pub record Walked (xs : List Bound) (k i own free used last most : ℕ) : Type 0 where
   pub inside : i ≤ length xs
   pub own_in : own ≤ length xs
   pub own_is : own < length xs → is_of (at xs own) k ≡ true
@@ -23,13 +24,12 @@ pub record Walked (xs : List Bound) (k i : ℕ) (places handles : List ℕ) (met
   pub free_in : free ≤ length xs
   pub free_is : free < length xs → is_free (at xs free) ≡ true
   pub free_first : (j : ℕ) → i ≤ j → j < length xs → is_free (at xs j) ≡ true → free ≤ j
+  pub none_used : used ≡ 0 → (j : ℕ) → i ≤ j → j < length xs → is_used (at xs j) ≡ false
   pub most_is : (j : ℕ) → i ≤ j → j < length xs → is_used (at xs j) ≡ true → ((at xs j).place ≤ last) × ((at xs j).held_len ≤ most)
-  pub cells : Met xs 256 i places handles
-  pub apart : met ≡ 0 → apart_of (drop i xs) ≡ true
 
 -- ---- the walk begins
-pub start : (xs : List Bound) (k n : ℕ) (places handles : List ℕ) → length places ≡ 256 → length handles ≡ 256 → n ≡ length xs → Walked xs k n places handles 0 n n 0 0
-start xs k n places handles a b e = record {
+pub start : (xs : List Bound) (k n : ℕ) → n ≡ length xs → Walked xs k n n n 0 0 0
+start xs k n e = record {
   inside = omega arith;
   own_in = omega arith;
   own_is = λ l. absurd (omega arith);
@@ -37,9 +37,8 @@ start xs k n places handles a b e = record {
   free_in = omega arith;
   free_is = λ l. absurd (omega arith);
   free_first = λ j l m h. absurd (omega arith);
+  none_used = λ z j l m. absurd (omega arith);
   most_is = λ j l m h. absurd (omega arith);
-  cells = none_met xs 256 n places handles a b e;
-  apart = λ z. none_apart xs n (omega arith);
 }
 
 -- ---- tests of one record: one that is used for a handle is used, and has it
@@ -58,16 +57,20 @@ handle_of h k e = eqb-true h.handle k (go (is_used h) (eqb h.handle k) e)
     go true b e = e
     go false b e = absurd (true≢false (sym e))
 
+-- a record whose byte is 0 is not used
+set_of : (h : Bound) → is_used h ≡ true → h.used ≡ 0 → ⊥
+set_of h u z = true≢false (sym u ∙ ap is_set z)
+
 -- ---- a turn: a free record; one that is used for the handle; one that is used for another
 
-module _ {xs : List Bound} {k m : ℕ} {places handles : List ℕ} {met own free last most : ℕ} (i : ℕ) (next : m ≡ i + 1) (walked : Walked xs k m places handles met own free last most) where
-  w : Walked xs k (i + 1) places handles met own free last most
-  w = subst (λ (n : ℕ). Walked xs k n places handles met own free last most) next walked
+module _ {xs : List Bound} {k m own free used last most : ℕ} (i : ℕ) (next : m ≡ i + 1) (walked : Walked xs k m own free used last most) where
+  w : Walked xs k (i + 1) own free used last most
+  w = subst (λ (n : ℕ). Walked xs k n own free used last most) next walked
 
   here : i < length xs
   here = omega (arith, w.inside)
 
-  pub past_free : is_used (at xs i) ≡ false → Walked xs k i places handles met own i last most
+  pub past_free : is_used (at xs i) ≡ false → Walked xs k i own i used last most
   past_free e = record {
     inside = omega (arith, w.inside);
     own_in = w.own_in;
@@ -76,9 +79,8 @@ module _ {xs : List Bound} {k m : ℕ} {places handles : List ℕ} {met own free
     free_in = omega (arith, w.inside);
     free_is = λ l. ap not e;
     free_first = λ j l m h. l;
+    none_used = λ z. and_on _ i (w.none_used z) (λ m. e);
     most_is = and_on _ i w.most_is (λ m u. absurd (not_used u));
-    cells = met_free i w.cells e;
-    apart = λ z. apart_free xs i here (w.apart z) e;
   }
     where
       not_used : is_used (at xs i) ≡ true → ⊥
@@ -87,8 +89,7 @@ module _ {xs : List Bound} {k m : ℕ} {places handles : List ℕ} {met own free
   -- by the new place of the handle's record, in which the two turns differ
   past_used : (own' : ℕ) → is_used (at xs i) ≡ true → own' ≤ length xs → (own' < length xs → is_of (at xs own') k ≡ true)
       → ((j : ℕ) → i ≤ j → j < length xs → is_of (at xs j) k ≡ true → own' ≤ j)
-      → Walked xs k i (set places ((at xs i).place % 256) 1) (set handles ((at xs i).handle % 256) 1)
-      (bit_or met (bit_or (get_or places ((at xs i).place % 256) 0) (get_or handles ((at xs i).handle % 256) 0))) own' free (max last (at xs i).place) (max most (at xs i).held_len)
+      → Walked xs k i own' free (bit_or used (at xs i).used) (max last (at xs i).place) (max most (at xs i).held_len)
   past_used own' u own_in own_is own_first = record {
     inside = omega (arith, w.inside);
     own_in = own_in;
@@ -97,22 +98,16 @@ module _ {xs : List Bound} {k m : ℕ} {places handles : List ℕ} {met own free
     free_in = w.free_in;
     free_is = w.free_is;
     free_first = and_on _ i w.free_first (λ m h. absurd (true≢false (sym h ∙ ap not u)));
+    none_used = λ z. absurd (set_of (at xs i) u (omega (arith, le_or_r used (at xs i).used)));
     most_is = and_on _ i (λ j l m v. let less : ((at xs j).place ≤ last) × ((at xs j).held_len ≤ most) = w.most_is j l m v in (omega (arith, less.0), omega (arith, less.1))) (λ m v. (omega arith, omega arith));
-    cells = met_used i (omega arith) w.cells;
-    apart = λ z. apart_on xs i here (w.apart (omega (arith, le_or_l met now))) (is_new i w.cells (omega (arith, le_or_r met now)));
   }
-    where
-      now : ℕ
-      now = bit_or (get_or places ((at xs i).place % 256) 0) (get_or handles ((at xs i).handle % 256) 0)
 
   pub past_own : is_used (at xs i) ≡ true → (at xs i).handle ≡ k
-      → Walked xs k i (set places ((at xs i).place % 256) 1) (set handles ((at xs i).handle % 256) 1)
-      (bit_or met (bit_or (get_or places ((at xs i).place % 256) 0) (get_or handles ((at xs i).handle % 256) 0))) i free (max last (at xs i).place) (max most (at xs i).held_len)
+      → Walked xs k i i free (bit_or used (at xs i).used) (max last (at xs i).place) (max most (at xs i).held_len)
   past_own u e = past_used i u (omega (arith, w.inside)) (λ l j. u j && eq-eqb (at xs i).handle k e j) (λ j l m h. l)
 
   pub past_other : is_used (at xs i) ≡ true → ((at xs i).handle ≡ k → ⊥)
-      → Walked xs k i (set places ((at xs i).place % 256) 1) (set handles ((at xs i).handle % 256) 1)
-      (bit_or met (bit_or (get_or places ((at xs i).place % 256) 0) (get_or handles ((at xs i).handle % 256) 0))) own free (max last (at xs i).place) (max most (at xs i).held_len)
+      → Walked xs k i own free (bit_or used (at xs i).used) (max last (at xs i).place) (max most (at xs i).held_len)
   past_other u e = past_used own u w.own_in w.own_is (and_on _ i w.own_first (λ m h. absurd (e (handle_of (at xs i) k h))))
 
 -- ---- the walk is over
@@ -142,22 +137,27 @@ or_right : (a b : Bool) → (a || b) ≡ false → b ≡ false
 or_right true b h = absurd (true≢false h)
 or_right false b h = h
 
-pub over : {xs : List Bound} {k i : ℕ} {cells cells' : List ℕ} {met own free last most : ℕ} (places room : ℕ) → Walked xs k i cells cells' met own free last most → i ≡ 0
-    → (leb places last || ltb room most) ≡ false → SpotsIn xs k places room (record { own = own; free = free; apart = eqb met 0 })
-over {xs} {k} {i} {met = met} {own} {free} {last} {most} places room w all kept = record {
+pub over : {xs : List Bound} {k i own free used last most : ℕ} (places room : ℕ) → Walked xs k i own free used last most → i ≡ 0
+    → SpotsIn xs k places room (record { own = own; free = free; broken = (not (eqb used 0) && leb places last) || ltb room most })
+over {xs} {k} {i} {own} {free} {used} {last} {most} places room w all = record {
   own = sym (first_at (λ h. is_of h k) xs own w.own_in (λ j l. never _ (λ h. no_own j l h)) w.own_is);
   free = sym (first_at is_free xs free w.free_in (λ j l. never _ (λ h. no_free j l h)) w.free_is);
-  none_broken = first_at (λ h. breaks_of h places room) xs (length xs) (omega arith)
-      (λ j l. keeps (at xs j) places room (λ u. let less : ((at xs j).place ≤ last) × ((at xs j).held_len ≤ most) = w.most_is j (omega arith) l u in (omega (arith, less.0, last_in), omega (arith, less.1, most_in))))
-      (λ l. absurd (omega arith));
-  apart = λ h. sym (ap (λ (n : ℕ). apart_of (drop n xs)) all) ∙ w.apart (eqb-true met 0 h);
+  none_broken = λ kept. first_at (λ h. breaks_of h places room) xs (length xs) (omega arith) (λ j l. keeps (at xs j) places room (kept_at kept j l)) (λ l. absurd (omega arith));
 }
   where
-    last_in : last < places
-    last_in = leb-false places last (or_left (leb places last) (ltb room most) kept)
+    -- by whether one is used
+    place_in : (t : Bool) → eqb used 0 ≡ t → (not t && leb places last) ≡ false → (j : ℕ) → j < length xs → is_used (at xs j) ≡ true → (at xs j).place < places
+    place_in true t n j l u = absurd (true≢false (sym u ∙ w.none_used (eqb-true used 0 t) j (omega arith) l))
+    place_in false t n j l u =
+        let less : ((at xs j).place ≤ last) × ((at xs j).held_len ≤ most) = w.most_is j (omega arith) l u in
+        let last_in : last < places = leb-false places last n in
+        omega (arith, less.0)
 
-    most_in : most ≤ room
-    most_in = ltb-false room most (or_right (leb places last) (ltb room most) kept)
+    kept_at : ((not (eqb used 0) && leb places last) || ltb room most) ≡ false → (j : ℕ) → j < length xs → is_used (at xs j) ≡ true → ((at xs j).place < places) × ((at xs j).held_len ≤ room)
+    kept_at kept j l u =
+        let less : ((at xs j).place ≤ last) × ((at xs j).held_len ≤ most) = w.most_is j (omega arith) l u in
+        let most_in : most ≤ room = ltb-false room most (or_right (not (eqb used 0) && leb places last) (ltb room most) kept) in
+        (place_in (eqb used 0) refl (or_left (not (eqb used 0) && leb places last) (ltb room most) kept) j l u, omega (arith, less.1))
 
     no_own : (j : ℕ) → j < own → is_of (at xs j) k ≡ true → ⊥
     no_own j l h =

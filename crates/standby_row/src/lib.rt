@@ -1,11 +1,10 @@
 // The bound handles: a lent row of records, searched by handle (standby.rs, where they are a map from handle to bound session).
 #![tactic(auto)]
 
-ghost use Rattle.std.specs.Prelude.{◌≡◌, drop, position, set};
+ghost use Rattle.std.specs.Prelude.{◌≡◌, ◌<◌, drop, position, set};
 ghost use Rattle.std.specs.List.{list_any};
-ghost use Rattle.std.specs.Option.{IfSome};
-ghost use Rattle.standby_row.specs.Row.{free_record, is_used, is_of, is_free, breaks_of, is_rival, rival_of, clashes, apart_of, cleared_from, released_at, own_of, found_in, place_in, SeenOf};
-ghost use Rattle.standby_row.specs.Spots.{SpotsIn};
+ghost use Rattle.standby_row.specs.Row.{free_record, is_used, breaks_of, is_rival, rival_of, clashes, apart_of, cleared_from, released_at, found_in, place_in, SeenOf};
+ghost use Rattle.standby_row.specs.Spots.{spread_of, SpotsIn};
 
 use frame_fields::CommitNumber;
 
@@ -48,20 +47,6 @@ impl Bound {
         self.used != 0
     }
 
-    // Whether the record is used for a handle.
-    pub fn is_of(self, handle: u32) -> bool
-        ensures { result ≡ is_of self handle }
-    {
-        self.is_used() && self.handle == handle
-    }
-
-    // Whether the record is free.
-    pub fn is_free(self) -> bool
-        ensures { result ≡ is_free self }
-    {
-        !self.is_used()
-    }
-
     // Whether the record is used and breaks the rules: its place is not below `places`, or it holds more than `room` bytes.
     pub fn breaks_rules(self, places: usize, room: usize) -> bool
         ensures { result ≡ breaks_of self places room }
@@ -86,28 +71,6 @@ impl Bound {
     }
 }
 
-// The place of the first record that is used for a handle.
-fn own_place(row: &[Bound], handle: u32) -> Option<usize>
-    ensures { result ≡ position (λ x. is_of x handle) row.now }
-{
-    row.iter().position(|bound| bound.is_of(handle))
-}
-
-// The first record that is used for a handle.
-fn own_in(row: &[Bound], handle: u32) -> Option<Found>
-    ensures { result ≡ own_of row.now handle }
-{
-    let at = own_place(row, handle)?;
-    Some(Found { at, bound: row[at] })
-}
-
-// The first free place.
-fn free_in(row: &[Bound]) -> Option<usize>
-    ensures { result ≡ position is_free row.now }
-{
-    row.iter().position(|bound| bound.is_free())
-}
-
 // The first place whose record breaks the rules.
 fn broken_in(row: &[Bound], places: usize, room: usize) -> Option<usize>
     ensures { result ≡ position (λ x. breaks_of x places room) row.now }
@@ -123,21 +86,31 @@ fn clashes_from(row: &[Bound], from: usize, bound: Bound) -> bool
     row.iter().skip(from).any(|later| bound.clashes(*later))
 }
 
-// Whether no two used records have one handle, and no two name one place.
-// A place and a handle whose low 12 bits were not met are new: only where one was are the records behind it looked through.
+// A number for a handle: handles that are counted on, in any steps, get numbers whose low bits differ.
+fn spread(handle: u32) -> usize
+    ensures { result ≡ spread_of handle }
+{
+    (handle.wrapping_mul(0x9E37_79B1) >> 20) as usize
+}
+
+// Whether no two used records have one handle, and no two name one place, in one walk from the last record to the first.
+// One whose cells for place and handle were not met is new: only where one was are the records behind it looked through.
+// Not inlined, so that the cells of a long row are set to 0 for a long row alone.
 #[inline(never)]
-fn are_apart(row: &[Bound]) -> bool
+fn are_apart_by<const PLACES: usize, const HANDLES: usize>(row: &[Bound]) -> bool
+    requires places { 0 < PLACES }
+    requires handles { 0 < HANDLES }
     ensures { result ≡ apart_of row.now }
 {
-    let mut places_met = [0u8; 4096];
-    let mut handles_met = [0u8; 4096];
+    let mut places_met = [0u8; PLACES];
+    let mut handles_met = [0u8; HANDLES];
     let mut at = row.len();
     while at > 0 {
         at -= 1;
         let bound = row[at];
         if bound.is_used() {
-            let place = bound.place % 4096;
-            let number = bound.handle as usize % 4096;
+            let place = bound.place % PLACES;
+            let number = spread(bound.handle) % HANDLES;
             if (places_met[place] | handles_met[number]) != 0 && clashes_from(row, at + 1, bound) {
                 return false;
             }
@@ -148,24 +121,32 @@ fn are_apart(row: &[Bound]) -> bool
     true
 }
 
-// Where the handle's record and the first free one stand, the row's length where there is none; and whether the records are known to be apart.
+// The same, with as many cells as serve a row of this length.
+fn are_apart(row: &[Bound]) -> bool
+    ensures { result ≡ apart_of row.now }
+{
+    if row.len() <= 128 {
+        are_apart_by::<512, 1024>(row)
+    } else {
+        are_apart_by::<4096, 4096>(row)
+    }
+}
+
+// Where the handle's record and the first free one stand, the row's length where there is none; and whether a record breaks the rules.
 #[derive(Clone, Copy)]
 struct Spots {
     own: usize,
     free: usize,
-    apart: bool,
+    broken: bool,
 }
 
-// All that is asked of a row in one walk, from the last record to the first; none where one breaks the rules.
-// Records are known to be apart where no low 8 bits of a place or of a handle were met twice. There is no branch for this, nor for the rules: all is gathered.
-fn spots_in(row: &[Bound], handle: u32, places: usize, room: usize) -> Option<Spots>
-    ensures { IfSome result (SpotsIn row.now handle places room) }
+// All that is asked of each record by itself, in one walk from the last to the first. There is no branch for the rules: all is gathered.
+fn spots_in(row: &[Bound], handle: u32, places: usize, room: usize) -> Spots
+    ensures { SpotsIn row.now handle places room result }
 {
-    let mut places_met = [0u8; 256];
-    let mut handles_met = [0u8; 256];
-    let mut met: u8 = 0;
     let mut own = row.len();
     let mut free = row.len();
+    let mut used: u8 = 0;
     let mut last_place: usize = 0;
     let mut most_held: usize = 0;
     let mut at = row.len();
@@ -173,28 +154,19 @@ fn spots_in(row: &[Bound], handle: u32, places: usize, room: usize) -> Option<Sp
         at -= 1;
         let bound = row[at];
         if bound.is_used() {
-            let place = bound.place % 256;
-            let number = bound.handle as usize % 256;
-            met |= places_met[place] | handles_met[number];
-            places_met[place] = 1;
-            handles_met[number] = 1;
+            used |= bound.used;
             last_place = last_place.max(bound.place);
             most_held = most_held.max(bound.held_len);
-            if bound.handle == handle {
+            let is_own = bound.handle == handle;
+            if is_own {
                 own = at;
             }
         } else {
             free = at;
         }
     }
-    if (places <= last_place) | (room < most_held) {
-        return None;
-    }
-    Some(Spots {
-        own,
-        free,
-        apart: met == 0,
-    })
+    let broken = (used != 0) & (places <= last_place) | (room < most_held);
+    Spots { own, free, broken }
 }
 
 // A record with its place, if there is one.
@@ -212,31 +184,21 @@ fn place_in(row: &[Bound], at: usize) -> Option<usize>
     (at < row.len()).then_some(at)
 }
 
-// All that a call must know of the row, by a search for each.
-fn search(row: &[Bound], handle: u32, places: usize, room: usize) -> Lookup
-    ensures { SeenOf row.now handle places room result }
-{
-    Lookup {
-        own: own_in(row, handle),
-        free: free_in(row),
-        broken: broken_in(row, places, room),
-        apart: are_apart(row),
-        len: row.len(),
-    }
-}
-
 // All that a call must know of the row before it runs.
 pub fn find(row: &[Bound], handle: u32, places: usize, room: usize) -> Lookup
     ensures { SeenOf row.now handle places room result }
 {
-    let Some(spots) = spots_in(row, handle, places, room) else {
-        return search(row, handle, places, room);
+    let spots = spots_in(row, handle, places, room);
+    let broken = if spots.broken {
+        broken_in(row, places, room)
+    } else {
+        None
     };
     Lookup {
         own: found_at(row, spots.own),
         free: place_in(row, spots.free),
-        broken: None,
-        apart: spots.apart || are_apart(row),
+        broken,
+        apart: are_apart(row),
         len: row.len(),
     }
 }

@@ -3,36 +3,36 @@ use Rattle.std.specs.List.{list_any}
 use Rattle.std.proofs.lemmas.List.{length-replicate}
 use Rattle.standby_row.specs.Row.{clashes, apart_of}
 use Rattle.standby_row.proofs.Apart.{at, none_met, none_apart, new_here, used_cells, used_apart, free_cells, free_apart, apart_off}
-use Rattle.standby_row.proofs.are_apart.Goals as goal
-use Rattle.standby_row.proofs.are_apart.Goals.{else-places_met-place-ne0-via-then-places_met-place-ne0+else-clashes_from, else-places_met-place-ne0-via-else-places_met-place-ne0}
+use Rattle.standby_row.proofs.are_apart_by.Goals as goal
+use Rattle.standby_row.proofs.are_apart_by.Goals.{else-places_met-place-ne0-via-then-places_met-place-ne0+else-clashes_from, else-places_met-place-ne0-via-else-places_met-place-ne0}
 
 pub loop-at-init : goal.loop-at-init
-loop-at-init c = record {
+loop-at-init g c = record {
   inside = omega arith;
-  cells = none_met c.args.row.now 4096 _ _ _ (length-replicate {A = ℕ} 4096 0) (length-replicate {A = ℕ} 4096 0) (search rules);
+  cells = none_met c.args.row.now g.row.PLACES g.row.HANDLES _ _ _ (length-replicate {A = ℕ} g.row.PLACES 0) (length-replicate {A = ℕ} g.row.HANDLES 0) (search rules);
   apart = none_apart c.args.row.now _ (omega arith);
 }
 
 pub returns-then-clashes_from : goal.returns-then-clashes_from
-returns-then-clashes_from c = sym (apart_off c.args.row.now (c.loop-at.at - 1) (omega arith) (sym c.clashes_from.ensures ∙ c.if-clashes_from.true))
+returns-then-clashes_from g c = sym (apart_off c.args.row.now (c.loop-at.at - 1) (omega arith) (sym c.clashes_from.ensures ∙ c.if-clashes_from.true))
 
 pub loop-at-preserved-then-is_used : goal.loop-at-preserved-then-is_used
-loop-at-preserved-then-is_used c =
+loop-at-preserved-then-is_used g c =
     let next : c.loop-at.at ≡ c.loop-at.at - 1 + 1 = omega arith in
     let was = c.loop-at.invariant in
     let alone : list_any (clashes (at c.args.row.now (c.loop-at.at - 1))) (drop (c.loop-at.at - 1 + 1) c.args.row.now) ≡ false =
     elim c.else-places_met-place-ne0.branch [
       | else-places_met-place-ne0-via-then-places_met-place-ne0+else-clashes_from w ↦ sym w.clashes_from.ensures ∙ w.if-clashes_from.false
-      | else-places_met-place-ne0-via-else-places_met-place-ne0 w ↦ new_here (c.loop-at.at - 1) next was.inside was.cells was.apart w.if-places_met-place-ne0.false
+      | else-places_met-place-ne0-via-else-places_met-place-ne0 w ↦ new_here (c.loop-at.at - 1) next was.inside was.cells was.apart (rw (← c.spread-number.ensures) w.if-places_met-place-ne0.false)
     ] in
     record {
       inside = omega arith;
-      cells = used_cells (c.loop-at.at - 1) next was.inside was.cells was.apart;
+      cells = rw c.spread-number.ensures (used_cells (c.loop-at.at - 1) next was.inside was.cells was.apart c.requires.places c.requires.handles);
       apart = used_apart (c.loop-at.at - 1) next was.inside was.cells was.apart alone;
     }
 
 pub loop-at-preserved : goal.loop-at-preserved
-loop-at-preserved c =
+loop-at-preserved g c =
     let next : c.loop-at.at ≡ c.loop-at.at - 1 + 1 = omega arith in
     let was = c.loop-at.invariant in
     record {
@@ -42,6 +42,6 @@ loop-at-preserved c =
     }
 
 pub returns : goal.returns
-returns c =
+returns g c =
     let all : c.loop-at.at ≡ 0 = omega arith in
     sym (sym (ap (λ (n : ℕ). apart_of (drop n c.args.row.now)) all) ∙ c.loop-at.invariant.apart)
