@@ -1,7 +1,7 @@
 // The bound handles: a lent row of records, searched by handle (standby.rs, where they are a map from handle to bound session).
 #![tactic(auto)]
 
-ghost use Rattle.std.specs.Prelude.{◌≡◌, ◌<◌, drop, position, set};
+ghost use Rattle.std.specs.Prelude.{◌≡◌, ◌<◌, ◌&&◌, cond, not, eqb, drop, set};
 ghost use Rattle.std.specs.List.{list_any};
 ghost use Rattle.standby_row.specs.Row.{free_record, is_used, breaks_of, is_rival, rival_of, clashes, apart_of, cleared_from, released_at, found_in, place_in, SeenOf};
 ghost use Rattle.standby_row.specs.Spots.{spread_of, SpotsIn};
@@ -71,102 +71,91 @@ impl Bound {
     }
 }
 
-// The first place whose record breaks the rules.
-fn broken_in(row: &[Bound], places: usize, room: usize) -> Option<usize>
-    ensures { result ≡ position (λ x. breaks_of x places room) row.now }
-{
-    row.iter()
-        .position(|bound| bound.breaks_rules(places, room))
-}
-
-// Whether a record clashes with one from a place on.
+// Whether a record clashes with one from a place on. Cold, so that the walk keeps what it finds in registers.
+#[cold]
 fn clashes_from(row: &[Bound], from: usize, bound: Bound) -> bool
     ensures { result ≡ list_any (clashes bound) (drop from row.now) }
 {
     row.iter().skip(from).any(|later| bound.clashes(*later))
 }
 
-// A number for a handle: handles that are counted on, in any steps, get numbers whose low bits differ.
+// The same, where a cell of the record was met; where none was, none behind it has its place or its handle.
+fn clashes_if_met(met: u8, row: &[Bound], from: usize, bound: Bound) -> bool
+    ensures { result ≡ (not (eqb met 0) && list_any (clashes bound) (drop from row.now)) }
+{
+    met != 0 && clashes_from(row, from, bound)
+}
+
+// A number for a handle: of handles that are counted on, whatever the step, few have the same low bits.
 fn spread(handle: u32) -> usize
     ensures { result ≡ spread_of handle }
 {
     (handle.wrapping_mul(0x9E37_79B1) >> 20) as usize
 }
 
-// Whether no two used records have one handle, and no two name one place, in one walk from the last record to the first.
-// One whose cells for place and handle were not met is new: only where one was are the records behind it looked through.
-// Not inlined, so that the cells of a long row are set to 0 for a long row alone.
-#[inline(never)]
-fn are_apart_by<const PLACES: usize, const HANDLES: usize>(row: &[Bound]) -> bool
-    requires places { 0 < PLACES }
-    requires handles { 0 < HANDLES }
-    ensures { result ≡ apart_of row.now }
+// One place or the other, by a test.
+fn choose(test: bool, place: usize, other: usize) -> usize
+    ensures { result ≡ cond test place other }
 {
-    let mut places_met = [0u8; PLACES];
-    let mut handles_met = [0u8; HANDLES];
-    let mut at = row.len();
-    while at > 0 {
-        at -= 1;
-        let bound = row[at];
-        if bound.is_used() {
-            let place = bound.place % PLACES;
-            let number = spread(bound.handle) % HANDLES;
-            if (places_met[place] | handles_met[number]) != 0 && clashes_from(row, at + 1, bound) {
-                return false;
-            }
-            places_met[place] = 1;
-            handles_met[number] = 1;
-        }
-    }
-    true
+    if test { place } else { other }
 }
 
-// The same, with as many cells as serve a row of this length.
-fn are_apart(row: &[Bound]) -> bool
-    ensures { result ≡ apart_of row.now }
-{
-    if row.len() <= 128 {
-        are_apart_by::<512, 1024>(row)
-    } else {
-        are_apart_by::<4096, 4096>(row)
-    }
-}
-
-// Where the handle's record and the first free one stand, the row's length where there is none; and whether a record breaks the rules.
+// Where the handle's record, the first free one and the first that breaks the rules stand, the row's length where there is none; and whether no two
+// used records have one handle, and no two name one place.
 #[derive(Clone, Copy)]
 struct Spots {
     own: usize,
     free: usize,
-    broken: bool,
+    broken: usize,
+    apart: bool,
 }
 
-// All that is asked of each record by itself, in one walk from the last to the first. There is no branch for the rules: all is gathered.
-fn spots_in(row: &[Bound], handle: u32, places: usize, room: usize) -> Spots
+// All that is asked of a row in one walk, from the last record to the first. It marks a cell for each place and one for each handle's number: only a
+// record of which one was marked before is held against those behind it.
+fn spots_in<const CELLS: usize>(row: &[Bound], handle: u32, places: usize, room: usize) -> Spots
+    requires { 0 < CELLS }
     ensures { SpotsIn row.now handle places room result }
 {
+    let mut places_met = [0u8; CELLS];
+    let mut handles_met = [0u8; CELLS];
     let mut own = row.len();
     let mut free = row.len();
-    let mut used: u8 = 0;
-    let mut last_place: usize = 0;
-    let mut most_held: usize = 0;
+    let mut broken = row.len();
+    let mut apart = true;
     let mut at = row.len();
     while at > 0 {
         at -= 1;
         let bound = row[at];
         if bound.is_used() {
-            used |= bound.used;
-            last_place = last_place.max(bound.place);
-            most_held = most_held.max(bound.held_len);
-            let is_own = bound.handle == handle;
-            if is_own {
-                own = at;
-            }
+            let place = bound.place % CELLS;
+            let number = spread(bound.handle) % CELLS;
+            let met = places_met[place] | handles_met[number];
+            apart &= !clashes_if_met(met, row, at + 1, bound);
+            places_met[place] = 1;
+            handles_met[number] = 1;
+            broken = choose(bound.breaks_rules(places, room), at, broken);
+            own = choose(bound.handle == handle, at, own);
         } else {
             free = at;
         }
     }
-    let broken = (used != 0) & (places <= last_place) | (room < most_held);
-    Spots { own, free, broken }
+    Spots {
+        own,
+        free,
+        broken,
+        apart,
+    }
+}
+
+// The same, with as many cells as serve a row of this length: a short one doesn't wait until 8,192 bytes are 0.
+fn spots_of(row: &[Bound], handle: u32, places: usize, room: usize) -> Spots
+    ensures { SpotsIn row.now handle places room result }
+{
+    if row.len() <= 128 {
+        spots_in::<1024>(row, handle, places, room)
+    } else {
+        spots_in::<4096>(row, handle, places, room)
+    }
 }
 
 // A record with its place, if there is one.
@@ -188,17 +177,12 @@ fn place_in(row: &[Bound], at: usize) -> Option<usize>
 pub fn find(row: &[Bound], handle: u32, places: usize, room: usize) -> Lookup
     ensures { SeenOf row.now handle places room result }
 {
-    let spots = spots_in(row, handle, places, room);
-    let broken = if spots.broken {
-        broken_in(row, places, room)
-    } else {
-        None
-    };
+    let spots = spots_of(row, handle, places, room);
     Lookup {
         own: found_at(row, spots.own),
         free: place_in(row, spots.free),
-        broken,
-        apart: are_apart(row),
+        broken: place_in(row, spots.broken),
+        apart: spots.apart,
         len: row.len(),
     }
 }
