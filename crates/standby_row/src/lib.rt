@@ -1,7 +1,7 @@
 // The bound handles: a lent row of records, searched by handle (standby.rs, where they are a map from handle to bound session).
 #![tactic(auto)]
 
-ghost use Rattle.std.specs.Prelude.{◌≡◌, ◌<◌, ◌&&◌, cond, not, eqb, drop, set};
+ghost use Rattle.std.specs.Prelude.{◌≡◌, ◌<◌, ◌+◌, ◌&&◌, cond, not, eqb, length, get_or, drop, set};
 ghost use Rattle.std.specs.List.{list_any};
 ghost use Rattle.standby_row.specs.Row.{free_record, is_used, breaks_of, is_rival, rival_of, clashes, apart_of, cleared_from, released_at, found_in, place_in, SeenOf};
 ghost use Rattle.standby_row.specs.Spots.{spread_of, SpotsIn};
@@ -71,19 +71,22 @@ impl Bound {
     }
 }
 
-// Whether a record clashes with one from a place on. Cold, so that the walk keeps what it finds in registers.
+// Whether the record at a place clashes with one behind it. Cold, and by the place, so that the walk keeps what it finds in registers.
 #[cold]
-fn clashes_from(row: &[Bound], from: usize, bound: Bound) -> bool
-    ensures { result ≡ list_any (clashes bound) (drop from row.now) }
+fn clashes_behind(row: &[Bound], at: usize) -> bool
+    requires { at < length row.now }
+    ensures { result ≡ list_any (clashes (get_or row.now at free_record)) (drop (at + 1) row.now) }
 {
-    row.iter().skip(from).any(|later| bound.clashes(*later))
+    let bound = row[at];
+    row.iter().skip(at + 1).any(|later| bound.clashes(*later))
 }
 
 // The same, where a cell of the record was met; where none was, none behind it has its place or its handle.
-fn clashes_if_met(met: u8, row: &[Bound], from: usize, bound: Bound) -> bool
-    ensures { result ≡ (not (eqb met 0) && list_any (clashes bound) (drop from row.now)) }
+fn clashes_if_met(met: u8, row: &[Bound], at: usize) -> bool
+    requires { at < length row.now }
+    ensures { result ≡ (not (eqb met 0) && list_any (clashes (get_or row.now at free_record)) (drop (at + 1) row.now)) }
 {
-    met != 0 && clashes_from(row, from, bound)
+    met != 0 && clashes_behind(row, at)
 }
 
 // A number for a handle: of handles that are counted on, whatever the step, few have the same low bits.
@@ -130,7 +133,7 @@ fn spots_in<const CELLS: usize>(row: &[Bound], handle: u32, places: usize, room:
             let place = bound.place % CELLS;
             let number = spread(bound.handle) % CELLS;
             let met = places_met[place] | handles_met[number];
-            apart &= !clashes_if_met(met, row, at + 1, bound);
+            apart &= !clashes_if_met(met, row, at);
             places_met[place] = 1;
             handles_met[number] = 1;
             broken = choose(bound.breaks_rules(places, room), at, broken);
