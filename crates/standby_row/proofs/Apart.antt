@@ -133,7 +133,7 @@ module _ {xs : List Bound} {n : ℕ} {places handles : List ℕ} (i : ℕ) (w : 
 
   -- it is held against those behind it only where a cell was met
   pub apart_used : i < length xs → {a : Bool} → a ≡ apart_of (drop (i + 1) xs)
-      → (a && not (not (eqb (bit_or (get_or places place 0) (get_or handles number 0)) 0) && list_any (clashes (at xs i)) (drop (i + 1) xs))) ≡ apart_of (drop i xs)
+      → (not (not (eqb (bit_or (get_or places place 0) (get_or handles number 0)) 0) && list_any (clashes (at xs i)) (drop (i + 1) xs)) && a) ≡ apart_of (drop i xs)
   apart_used l {a} e =
       go a (eqb met 0) any (λ t. new_here (eqb-true met 0 t)) ∙ ap (λ (b : Bool). not any && b) e ∙ sym (apart_next xs i l)
     where
@@ -143,10 +143,7 @@ module _ {xs : List Bound} {n : ℕ} {places handles : List ℕ} (i : ℕ) (w : 
       any : Bool
       any = list_any (clashes (at xs i)) (drop (i + 1) xs)
 
-      go : (b t c : Bool) → (t ≡ true → c ≡ false) → (b && not (not t && c)) ≡ (not c && b)
-      go true true true h = h refl
-      go true true false h = refl
-      go true false true h = refl
-      go true false false h = refl
-      go false t true h = refl
-      go false t false h = refl
+      go : (b t c : Bool) → (t ≡ true → c ≡ false) → (not (not t && c) && b) ≡ (not c && b)
+      go b true true h = absurd (true≢false (h refl))
+      go b true false h = refl
+      go b false c h = refl

@@ -95,7 +95,7 @@ module _ {xs : List Bound} {k places room n m : ℕ} {places_met handles_met : L
   pub past_used : 0 < n → is_used (at xs i) ≡ true
       → Walked xs k places room n i (set places_met ((at xs i).place % n) 1) (set handles_met (spread_of (at xs i).handle % n) 1)
       (cond (eqb (at xs i).handle k) i own) free (cond (breaks_of (at xs i) places room) i broken)
-      (apart && not (not (eqb (bit_or (get_or places_met ((at xs i).place % n) 0) (get_or handles_met (spread_of (at xs i).handle % n) 0)) 0) && list_any (clashes (at xs i)) (drop (i + 1) xs)))
+      (not (not (eqb (bit_or (get_or places_met ((at xs i).place % n) 0) (get_or handles_met (spread_of (at xs i).handle % n) 0)) 0) && list_any (clashes (at xs i)) (drop (i + 1) xs)) && apart)
   past_used some u = record {
     inside = omega (arith, w.inside);
     own_is = first_turn (λ h. is_of h k) xs i here (eqb (at xs i).handle k) (λ j. u j && eqb (at xs i).handle k) w.own_is;

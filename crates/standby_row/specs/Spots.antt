@@ -7,7 +7,7 @@ use Rattle.standby_row.specs.Row.{find_of, free_of, broken_of, apart_of}
 
 -- the handle's number for its cell
 abbrev pub spread_of : ℕ → ℕ
-spread_of handle = (handle * 0x9E3779B1) % 2 ^ 32 / 2 ^ 20
+spread_of handle = (handle * 0x27D4EB2D) % 2 ^ 32 / 2 ^ 20
 
 pub record SpotsIn (hs : List Bound) (k places room : ℕ) (s : Spots) : Type 0 where
   pub own : s.own ≡ find_of hs k

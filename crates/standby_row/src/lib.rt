@@ -81,19 +81,22 @@ fn clashes_behind(row: &[Bound], at: usize) -> bool
     row.iter().skip(at + 1).any(|later| bound.clashes(*later))
 }
 
-// The same, where a cell of the record was met; where none was, none behind it has its place or its handle.
-fn clashes_if_met(met: u8, row: &[Bound], at: usize) -> bool
+// Whether a record is apart from those behind it, and they from each other: where none of its cells was met, none behind it has its place or its handle.
+fn stays_apart(apart: bool, met: u8, row: &[Bound], at: usize) -> bool
     requires { at < length row.now }
-    ensures { result ≡ (not (eqb met 0) && list_any (clashes (get_or row.now at free_record)) (drop (at + 1) row.now)) }
+    ensures { result ≡ (not (not (eqb met 0) && list_any (clashes (get_or row.now at free_record)) (drop (at + 1) row.now)) && apart) }
 {
-    met != 0 && clashes_behind(row, at)
+    if met != 0 && clashes_behind(row, at) {
+        return false;
+    }
+    apart
 }
 
 // A number for a handle: of handles that are counted on, whatever the step, few have the same low bits.
 fn spread(handle: u32) -> usize
     ensures { result ≡ spread_of handle }
 {
-    (handle.wrapping_mul(0x9E37_79B1) >> 20) as usize
+    (handle.wrapping_mul(0x27D4_EB2D) >> 20) as usize
 }
 
 // One place or the other, by a test.
@@ -133,7 +136,7 @@ fn spots_in<const CELLS: usize>(row: &[Bound], handle: u32, places: usize, room:
             let place = bound.place % CELLS;
             let number = spread(bound.handle) % CELLS;
             let met = places_met[place] | handles_met[number];
-            apart &= !clashes_if_met(met, row, at);
+            apart = stays_apart(apart, met, row, at);
             places_met[place] = 1;
             handles_met[number] = 1;
             broken = choose(bound.breaks_rules(places, room), at, broken);
@@ -154,7 +157,7 @@ fn spots_in<const CELLS: usize>(row: &[Bound], handle: u32, places: usize, room:
 fn spots_of(row: &[Bound], handle: u32, places: usize, room: usize) -> Spots
     ensures { SpotsIn row.now handle places room result }
 {
-    if row.len() <= 128 {
+    if row.len() <= 64 {
         spots_in::<1024>(row, handle, places, room)
     } else {
         spots_in::<4096>(row, handle, places, room)

@@ -9,7 +9,7 @@ loop-at-init g c = start c.args.row.now c.args.handle c.args.places c.args.room 
 pub loop-at-preserved-then-is_used : goal.loop-at-preserved-then-is_used
 loop-at-preserved-then-is_used g c =
     let next : c.loop-at.at ≡ c.loop-at.at - 1 + 1 = omega arith in
-    rw (c.choose-own.ensures, c.choose-broken.ensures, c.breaks_rules.ensures, c.clashes_if_met.ensures, c.spread-number.ensures)
+    rw (c.choose-own.ensures, c.choose-broken.ensures, c.breaks_rules.ensures, c.stays_apart-apart.ensures, c.spread-number.ensures)
     (past_used (c.loop-at.at - 1) next c.loop-at.invariant c.requires (sym c.is_used.ensures ∙ c.if-is_used.true))
 
 pub loop-at-preserved : goal.loop-at-preserved
