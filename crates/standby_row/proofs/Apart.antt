@@ -15,6 +15,7 @@ use Rattle.std.proofs.lemmas.Grind.{get_or-set_at}
 use Rattle.std.proofs.lemmas.Nat.{le_or_l, le_or_r}
 use Rattle.standby_row.specs.declared.Bound.{Bound}
 use Rattle.standby_row.specs.Row.{free_record, is_used, clashes, apart_of}
+use Rattle.standby_row.specs.Spots.{spread_of}
 
 -- the record j, or a free one
 abbrev pub at : List Bound → ℕ → Bound
@@ -43,33 +44,17 @@ any_none p (x ∷ xs) zero h = ap (λ (b : Bool). b || list_any p xs) (h 0 (omeg
 any_none p (x ∷ xs) (suc i) h = any_none p xs i (λ j l m. h (suc j) (omega arith) (omega arith))
 
 -- ---- one record more
---     apart_on    it clashes with none behind it.        apart_off    with one.        apart_free    it is not used
+--     apart_next    it clashes with one behind it or not.        apart_free    it is not used
 
 apart_next : (xs : List Bound) (i : ℕ) → i < length xs → apart_of (drop i xs) ≡ (not (list_any (clashes (at xs i)) (drop (i + 1) xs)) && apart_of (drop (i + 1) xs))
 apart_next xs i l = ap apart_of (drop-cons xs i free_record l) ∙ ap (λ (n : ℕ). not (list_any (clashes (at xs i)) (drop n xs)) && apart_of (drop n xs)) (sym (add-one i))
-
-pub apart_on : (xs : List Bound) (i : ℕ) → i < length xs → apart_of (drop (i + 1) xs) ≡ true → list_any (clashes (at xs i)) (drop (i + 1) xs) ≡ false → apart_of (drop i xs) ≡ true
-apart_on xs i l a n = apart_next xs i l ∙ (λ j. not (n j) && a j)
-
-apart_drop : (xs : List Bound) (i : ℕ) → apart_of (drop i xs) ≡ false → apart_of xs ≡ false
-apart_drop [] zero h = h
-apart_drop [] (suc i) h = h
-apart_drop (x ∷ xs) zero h = h
-apart_drop (x ∷ xs) (suc i) h = go (not (list_any (clashes x) xs)) (apart_of xs) (apart_drop xs i h)
-  where
-    go : (a b : Bool) → b ≡ false → (a && b) ≡ false
-    go true b e = e
-    go false b e = refl
-
-pub apart_off : (xs : List Bound) (i : ℕ) → i < length xs → list_any (clashes (at xs i)) (drop (i + 1) xs) ≡ true → apart_of xs ≡ false
-apart_off xs i l n = apart_drop xs i (apart_next xs i l ∙ ap (λ (b : Bool). not b && apart_of (drop (i + 1) xs)) n)
 
 unused : (g : Bound) (xs : List Bound) → is_used g ≡ false → list_any (clashes g) xs ≡ false
 unused g [] e = refl
 unused g (x ∷ xs) e = ap (λ (u : Bool). (u && (is_used x && (eqb g.handle x.handle || eqb g.place x.place))) || list_any (clashes g) xs) e ∙ unused g xs e
 
-pub apart_free : (xs : List Bound) (i : ℕ) → i < length xs → apart_of (drop (i + 1) xs) ≡ true → is_used (at xs i) ≡ false → apart_of (drop i xs) ≡ true
-apart_free xs i l a e = apart_on xs i l a (unused (at xs i) (drop (i + 1) xs) e)
+pub apart_free : (xs : List Bound) (i : ℕ) → i < length xs → is_used (at xs i) ≡ false → apart_of (drop (i + 1) xs) ≡ apart_of (drop i xs)
+apart_free xs i l e = sym (apart_next xs i l ∙ ap (λ (b : Bool). not b && apart_of (drop (i + 1) xs)) (unused (at xs i) (drop (i + 1) xs) e))
 
 -- two that are used and have different handles and different places don't clash
 no_clash : (g h : Bound) → (is_used h ≡ true → g.handle ≡ h.handle → ⊥) → (is_used h ≡ true → g.place ≡ h.place → ⊥) → clashes g h ≡ false
@@ -82,41 +67,14 @@ no_clash g h p q = go (is_used g) (is_used h) (eqb g.handle h.handle) (eqb g.pla
     go true true false true p q = absurd (q refl refl)
     go true true false false p q = refl
 
--- ---- the cells of the places and handles that were met, by their remainders by n
+-- ---- the cells of the places and handles that were met: n of each, by the remainders of places and of handles' numbers
 
 pub record Met (xs : List Bound) (n i : ℕ) (places handles : List ℕ) : Type 0 where
   pub cells : (length places ≡ n) × (length handles ≡ n)
-  pub met : (j : ℕ) → i ≤ j → j < length xs → is_used (at xs j) ≡ true → (get_or places ((at xs j).place % n) 0 ≡ 1) × (get_or handles ((at xs j).handle % n) 0 ≡ 1)
+  pub met : (j : ℕ) → i ≤ j → j < length xs → is_used (at xs j) ≡ true → (get_or places ((at xs j).place % n) 0 ≡ 1) × (get_or handles (spread_of (at xs j).handle % n) 0 ≡ 1)
 
 pub none_met : (xs : List Bound) (n i : ℕ) (places handles : List ℕ) → length places ≡ n → length handles ≡ n → i ≡ length xs → Met xs n i places handles
 none_met xs n i places handles a b e = record { cells = (a, b); met = λ j l m u. absurd (omega arith) }
-
--- a record whose cells were not met clashes with none behind it
-pub is_new : {xs : List Bound} {n : ℕ} {places handles : List ℕ} (i : ℕ) → Met xs n (i + 1) places handles
-    → bit_or (get_or places ((at xs i).place % n) 0) (get_or handles ((at xs i).handle % n) 0) ≡ 0
-    → list_any (clashes (at xs i)) (drop (i + 1) xs) ≡ false
-is_new {xs} {n} {places} {handles} i w none = any_none (clashes (at xs i)) xs (i + 1) (λ j l m. no_clash (at xs i) (at xs j) (λ u e. by_handle j l m u e) (λ u e. by_place j l m u e))
-  where
-    x : ℕ
-    x = get_or places ((at xs i).place % n) 0
-
-    y : ℕ
-    y = get_or handles ((at xs i).handle % n) 0
-
-    by_handle : (j : ℕ) → i + 1 ≤ j → j < length xs → is_used (at xs j) ≡ true → (at xs i).handle ≡ (at xs j).handle → ⊥
-    by_handle j l m u e =
-        let one : get_or handles ((at xs j).handle % n) 0 ≡ 1 = (w.met j l m u).1 in
-        let same : y ≡ get_or handles ((at xs j).handle % n) 0 = ap (λ (k : ℕ). get_or handles (k % n) 0) e in
-        omega (arith, le_or_r x y)
-
-    by_place : (j : ℕ) → i + 1 ≤ j → j < length xs → is_used (at xs j) ≡ true → (at xs i).place ≡ (at xs j).place → ⊥
-    by_place j l m u e =
-        let one : get_or places ((at xs j).place % n) 0 ≡ 1 = (w.met j l m u).0 in
-        let same : x ≡ get_or places ((at xs j).place % n) 0 = ap (λ (k : ℕ). get_or places (k % n) 0) e in
-        omega (arith, le_or_l x y)
-
-pub met_free : {xs : List Bound} {n : ℕ} {places handles : List ℕ} (i : ℕ) → Met xs n (i + 1) places handles → is_used (at xs i) ≡ false → Met xs n i places handles
-met_free {xs} {n} i w e = record { cells = w.cells; met = and_on _ i w.met (λ m u. absurd (true≢false (sym u ∙ e))) }
 
 -- a cell that was met stays so
 stays : (cells : List ℕ) (i j : ℕ) → i < length cells → get_or cells j 0 ≡ 1 → get_or (set cells i 1) j 0 ≡ 1
@@ -126,52 +84,66 @@ stays cells i j l e = go (eqb j i) refl
     go true t = get_or-set_at cells i j 1 0 (eqb-true j i t) l
     go false t = get_or-set_other cells i j 1 0 (eqb-false j i t) ∙ e
 
-pub met_used : {xs : List Bound} {n : ℕ} {places handles : List ℕ} (i : ℕ) → 0 < n → Met xs n (i + 1) places handles
-    → Met xs n i (set places ((at xs i).place % n) 1) (set handles ((at xs i).handle % n) 1)
-met_used {xs} {n} {places} {handles} i some w = record {
-  cells = (length-set places p 1 ∙ w.cells.0, length-set handles q 1 ∙ w.cells.1);
-  met = and_on _ i (λ j l m u. (stays places p ((at xs j).place % n) p_in (w.met j l m u).0, stays handles q ((at xs j).handle % n) q_in (w.met j l m u).1))
-      (λ m u. (get_or-set_same places p 1 0 p_in, get_or-set_same handles q 1 0 q_in));
-}
-  where
-    p : ℕ
-    p = (at xs i).place % n
+-- ---- a turn: the records from i on, after those from i + 1 on
 
-    q : ℕ
-    q = (at xs i).handle % n
+pub met_free : {xs : List Bound} {n : ℕ} {places handles : List ℕ} (i : ℕ) → Met xs n (i + 1) places handles → is_used (at xs i) ≡ false → Met xs n i places handles
+met_free {xs} i w e = record { cells = w.cells; met = and_on _ i w.met (λ m u. absurd (true≢false (sym u ∙ e))) }
 
-    p_in : p < length places
-    p_in = omega (arith, w.cells.0, some)
+module _ {xs : List Bound} {n : ℕ} {places handles : List ℕ} (i : ℕ) (w : Met xs n (i + 1) places handles) where
+  abbrev place : ℕ
+  place = (at xs i).place % n
 
-    q_in : q < length handles
-    q_in = omega (arith, w.cells.1, some)
+  abbrev number : ℕ
+  number = spread_of (at xs i).handle % n
 
--- ---- a turn of the walk that tests this alone: the records from i on, after those from m on
+  -- a record whose cells were not met clashes with none behind it
+  new_here : bit_or (get_or places place 0) (get_or handles number 0) ≡ 0 → list_any (clashes (at xs i)) (drop (i + 1) xs) ≡ false
+  new_here none = any_none (clashes (at xs i)) xs (i + 1) (λ j l m. no_clash (at xs i) (at xs j) (λ u e. by_handle j l m u e) (λ u e. by_place j l m u e))
+    where
+      x : ℕ
+      x = get_or places place 0
 
-module _ {xs : List Bound} {m : ℕ} {places handles : List ℕ} (i : ℕ) (next : m ≡ i + 1) (inside : m ≤ length xs) (cells : Met xs 4096 m places handles) (apart : apart_of (drop m xs) ≡ true) where
-  behind : Met xs 4096 (i + 1) places handles
-  behind = subst (λ (n : ℕ). Met xs 4096 n places handles) next cells
+      y : ℕ
+      y = get_or handles number 0
 
-  apart_behind : apart_of (drop (i + 1) xs) ≡ true
-  apart_behind = subst (λ (n : ℕ). apart_of (drop n xs) ≡ true) next apart
+      by_handle : (j : ℕ) → i + 1 ≤ j → j < length xs → is_used (at xs j) ≡ true → (at xs i).handle ≡ (at xs j).handle → ⊥
+      by_handle j l m u e =
+          let one : get_or handles (spread_of (at xs j).handle % n) 0 ≡ 1 = (w.met j l m u).1 in
+          let same : y ≡ get_or handles (spread_of (at xs j).handle % n) 0 = ap (λ (k : ℕ). get_or handles (spread_of k % n) 0) e in
+          omega (arith, le_or_r x y)
 
-  pub new_here : bit_or (get_or places ((at xs i).place % 4096) 0) (get_or handles ((at xs i).handle % 4096) 0) ≡ 0 → list_any (clashes (at xs i)) (drop (i + 1) xs) ≡ false
-  new_here none = is_new i behind none
+      by_place : (j : ℕ) → i + 1 ≤ j → j < length xs → is_used (at xs j) ≡ true → (at xs i).place ≡ (at xs j).place → ⊥
+      by_place j l m u e =
+          let one : get_or places ((at xs j).place % n) 0 ≡ 1 = (w.met j l m u).0 in
+          let same : x ≡ get_or places ((at xs j).place % n) 0 = ap (λ (k : ℕ). get_or places (k % n) 0) e in
+          omega (arith, le_or_l x y)
 
-  pub used_cells : Met xs 4096 i (set places ((at xs i).place % 4096) 1) (set handles ((at xs i).handle % 4096) 1)
-  used_cells = met_used i (omega arith) behind
+  pub met_used : 0 < n → Met xs n i (set places place 1) (set handles number 1)
+  met_used some = record {
+    cells = (length-set places place 1 ∙ w.cells.0, length-set handles number 1 ∙ w.cells.1);
+    met = and_on _ i (λ j l m u. (stays places place ((at xs j).place % n) place_in (w.met j l m u).0, stays handles number (spread_of (at xs j).handle % n) number_in (w.met j l m u).1))
+        (λ m u. (get_or-set_same places place 1 0 place_in, get_or-set_same handles number 1 0 number_in));
+  }
+    where
+      place_in : place < length places
+      place_in = omega (arith, w.cells.0, some)
 
-  pub used_apart : list_any (clashes (at xs i)) (drop (i + 1) xs) ≡ false → apart_of (drop i xs) ≡ true
-  used_apart n = apart_on xs i (omega arith) apart_behind n
+      number_in : number < length handles
+      number_in = omega (arith, w.cells.1, some)
 
-  pub free_cells : is_used (at xs i) ≡ false → Met xs 4096 i places handles
-  free_cells e = met_free i behind e
+  -- it is held against those behind it only where a cell was met
+  pub apart_used : i < length xs → {a : Bool} → a ≡ apart_of (drop (i + 1) xs)
+      → (not (not (eqb (bit_or (get_or places place 0) (get_or handles number 0)) 0) && list_any (clashes (at xs i)) (drop (i + 1) xs)) && a) ≡ apart_of (drop i xs)
+  apart_used l {a} e =
+      go a (eqb met 0) any (λ t. new_here (eqb-true met 0 t)) ∙ ap (λ (b : Bool). not any && b) e ∙ sym (apart_next xs i l)
+    where
+      met : ℕ
+      met = bit_or (get_or places place 0) (get_or handles number 0)
 
-  pub free_apart : is_used (at xs i) ≡ false → apart_of (drop i xs) ≡ true
-  free_apart e = apart_free xs i (omega arith) apart_behind e
+      any : Bool
+      any = list_any (clashes (at xs i)) (drop (i + 1) xs)
 
-pub none_apart : (xs : List Bound) (n : ℕ) → length xs ≤ n → apart_of (drop n xs) ≡ true
-none_apart [] zero l = refl
-none_apart [] (suc n) l = refl
-none_apart (x ∷ xs) zero l = absurd (omega arith)
-none_apart (x ∷ xs) (suc n) l = none_apart xs n (omega arith)
+      go : (b t c : Bool) → (t ≡ true → c ≡ false) → (not (not t && c) && b) ≡ (not c && b)
+      go b true true h = absurd (true≢false (h refl))
+      go b true false h = refl
+      go b false c h = refl

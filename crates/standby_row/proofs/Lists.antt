@@ -13,13 +13,12 @@ use borrow.Rule.Slice.PartMut.{put_mid}
 use lib.Seq.{take-length}
 use lib.Dec.{leb, ltb}
 use lib.ListN.{length, get_or, set, take, drop, drop_of_length-le, length-map}
-use borrow.Author.Tests.{leb-true, leb-false}
+use borrow.Author.Tests.{leb-true, leb-false, ltb-true}
 use Rattle.standby_row.specs.declared.Bound.{Bound}
-use Rattle.standby_row.specs.declared.lookup.Found.{Found}
-use Rattle.standby_row.specs.Row.{free_record, is_of, zero_or_next, first_of, find_of, place_in, found_at, own_of, cleared, cleared_from}
+use Rattle.standby_row.specs.Row.{free_record, zero_or_next, first_of, place_in, cleared, cleared_from}
 
 -- ---- a search
---     placed      what `position` gives is the place of the first record, if there is one
+--     placed      what `position` gives is the place of the first record, if there is one        none_at    at the length there is none
 
 first_is : (p : Bound → Bool) (hs : List Bound) → position_or_len p hs ≡ first_of p hs
 first_is p [] = refl
@@ -32,23 +31,14 @@ first_is p (h ∷ hs) = go (p h) (first_is p hs)
 pub placed : (p : Bound → Bool) (hs : List Bound) → position p hs ≡ place_in hs (first_of p hs)
 placed p hs = ap (place_in hs) (first_is p hs)
 
--- the record at a place that was found
-abbrev own_from : List Bound → Option ℕ → Option Found
-own_from hs None = None
-own_from hs (Some i) = Some (found_at hs i)
-
-own_is : (hs : List Bound) (k : ℕ) (o : Option ℕ) → o ≡ position (λ h. is_of h k) hs → own_from hs o ≡ own_of hs k
-own_is hs k o e = ap (own_from hs) (e ∙ placed (λ h. is_of h k) hs) ∙ go (ltb (find_of hs k) (length hs))
+pub none_at : (hs : List Bound) {n : ℕ} → n ≡ length hs → ◌≡◌ {A = Option ℕ} None (place_in hs n)
+none_at hs {n} e = ap (λ (b : Bool). cond b (Some n) None) (sym (no (ltb n (length hs)) refl))
   where
-    go : (t : Bool) → own_from hs (cond t (Some (find_of hs k)) None) ≡ cond t (Some (found_at hs (find_of hs k))) None
-    go true = refl
-    go false = refl
-
-pub own_some : (hs : List Bound) (k i : ℕ) {o : Option ℕ} → o ≡ position (λ h. is_of h k) hs → o ≡ Some i → ◌≡◌ {A = Option Found} (Some (found_at hs i)) (own_of hs k)
-own_some hs k i e is = own_is hs k (Some i) (sym is ∙ e)
-
-pub own_none : (hs : List Bound) (k : ℕ) {o : Option ℕ} → o ≡ position (λ h. is_of h k) hs → o ≡ None → ◌≡◌ {A = Option Found} None (own_of hs k)
-own_none hs k e is = own_is hs k None (sym is ∙ e)
+    no : (t : Bool) → ltb n (length hs) ≡ t → ltb n (length hs) ≡ false
+    no true t =
+        let less : n < length hs = ltb-true n (length hs) t in
+        absurd (omega (arith, e))
+    no false t = t
 
 -- ---- a row whose records are freed from i on
 --     clears_next      the record at i is freed, and then those after it.        clears_end      from the length on there is none

@@ -1,172 +1,120 @@
 -- What one walk over a row, from the last record to the first, has found of the records from i on. Assumes nothing.
 use mathlib.Core.Path.{◌≡◌, refl, sym, ◌∙◌, ap, subst}
-use mathlib.Core.Bool.{Bool, true, false, not, ◌&&◌, ◌||◌, true≢false}
-use Prim.Native.Nat.{ℕ, zero, suc, ◌+◌, ◌%◌, ◌<◌, ◌≤◌, max}
+use mathlib.Core.Bool.{Bool, true, false, cond, not, ◌&&◌}
+use Prim.Native.Nat.{ℕ, zero, suc, ◌+◌, ◌%◌, ◌<◌, ◌≤◌}
 use native.Mathlib.Omega.{arith}
+use native.Mathlib.Numerals.{add-one}
 use mathlib.Core.List.{List, [], ◌∷◌}
+use Rattle.std.specs.List.{list_any}
 use lib.Bits.{bit_or}
-use lib.Dec.{eqb, leb, ltb}
+use lib.Dec.{eqb}
 use lib.ListN.{length, get_or, set, drop}
-use borrow.Author.Tests.{eqb-true, eq-eqb, leb-true, leb-false, ltb-true, ltb-false}
-use Rattle.std.proofs.lemmas.Nat.{le_or_l, le_or_r}
+use Rattle.std.proofs.Common.{drop-cons}
 use Rattle.standby_row.specs.declared.Bound.{Bound}
-use Rattle.standby_row.specs.Row.{is_used, is_of, is_free, breaks_of, zero_or_next, first_of, apart_of}
-use Rattle.standby_row.specs.Spots.{SpotsIn}
-use Rattle.standby_row.proofs.Apart.{at, never, and_on, Met, none_met, is_new, met_free, met_used, apart_on, apart_free, none_apart}
+use Rattle.standby_row.specs.Row.{free_record, is_used, is_of, is_free, breaks_of, clashes, zero_or_next, first_of, apart_of}
+use Rattle.standby_row.specs.Spots.{spread_of, SpotsIn}
+use Rattle.standby_row.proofs.Apart.{at, Met, none_met, met_free, met_used, apart_used, apart_free}
 
--- the first record for the handle k, the first free one, the last place, the most held; the cells that were met, and, where none was met twice, that the records are apart
-pub record Walked (xs : List Bound) (k i : ℕ) (places handles : List ℕ) (met own free last most : ℕ) : Type 0 where
+-- ---- the first record from i on of which p holds stands at n, or n is the length
+
+abbrev pub First : (Bound → Bool) → List Bound → ℕ → ℕ → Type 0
+First p xs i n = n ≡ i + first_of p (drop i xs)
+
+first_next : (p : Bound → Bool) (xs : List Bound) (i : ℕ) → i < length xs → first_of p (drop i xs) ≡ zero_or_next (p (at xs i)) (first_of p (drop (i + 1) xs))
+first_next p xs i l = ap (first_of p) (drop-cons xs i free_record l) ∙ ap (λ (n : ℕ). zero_or_next (p (at xs i)) (first_of p (drop n xs))) (sym (add-one i))
+
+first_turn : (p : Bound → Bool) (xs : List Bound) (i : ℕ) → i < length xs → {n : ℕ} (t : Bool) → p (at xs i) ≡ t → First p xs (i + 1) n → First p xs i (cond t i n)
+first_turn p xs i l true e f =
+    let here : first_of p (drop i xs) ≡ 0 = first_next p xs i l ∙ ap (λ (b : Bool). zero_or_next b (first_of p (drop (i + 1) xs))) e in
+    omega arith
+first_turn p xs i l false e f =
+    let past : first_of p (drop i xs) ≡ suc (first_of p (drop (i + 1) xs)) = first_next p xs i l ∙ ap (λ (b : Bool). zero_or_next b (first_of p (drop (i + 1) xs))) e in
+    omega (arith, f)
+
+first_end : (p : Bound → Bool) (xs : List Bound) (n : ℕ) → n ≡ length xs → First p xs n n
+first_end p xs n e = go xs n e
+  where
+    none : (ys : List Bound) (m : ℕ) → m ≡ length ys → first_of p (drop m ys) ≡ 0
+    none [] zero f = refl
+    none [] (suc m) f = refl
+    none (y ∷ ys) zero f = absurd (omega arith)
+    none (y ∷ ys) (suc m) f = none ys m (omega arith)
+
+    go : (ys : List Bound) (m : ℕ) → m ≡ length ys → m ≡ m + first_of p (drop m ys)
+    go ys m f =
+        let z : first_of p (drop m ys) ≡ 0 = none ys m f in
+        omega arith
+
+apart_end : (xs : List Bound) (n : ℕ) → n ≡ length xs → apart_of (drop n xs) ≡ true
+apart_end [] zero e = refl
+apart_end [] (suc n) e = refl
+apart_end (x ∷ xs) zero e = absurd (omega arith)
+apart_end (x ∷ xs) (suc n) e = apart_end xs n (omega arith)
+
+-- ---- the walk, with n cells for places and as many for handles
+
+pub record Walked (xs : List Bound) (k places room n i : ℕ) (places_met handles_met : List ℕ) (own free broken : ℕ) (apart : Bool) : Type 0 where
   pub inside : i ≤ length xs
-  pub own_in : own ≤ length xs
-  pub own_is : own < length xs → is_of (at xs own) k ≡ true
-  pub own_first : (j : ℕ) → i ≤ j → j < length xs → is_of (at xs j) k ≡ true → own ≤ j
-  pub free_in : free ≤ length xs
-  pub free_is : free < length xs → is_free (at xs free) ≡ true
-  pub free_first : (j : ℕ) → i ≤ j → j < length xs → is_free (at xs j) ≡ true → free ≤ j
-  pub most_is : (j : ℕ) → i ≤ j → j < length xs → is_used (at xs j) ≡ true → ((at xs j).place ≤ last) × ((at xs j).held_len ≤ most)
-  pub cells : Met xs 256 i places handles
-  pub apart : met ≡ 0 → apart_of (drop i xs) ≡ true
+  pub own_is : First (λ h. is_of h k) xs i own
+  pub free_is : First is_free xs i free
+  pub broken_is : First (λ h. breaks_of h places room) xs i broken
+  pub cells : Met xs n i places_met handles_met
+  pub apart_is : apart ≡ apart_of (drop i xs)
 
--- ---- the walk begins
-pub start : (xs : List Bound) (k n : ℕ) (places handles : List ℕ) → length places ≡ 256 → length handles ≡ 256 → n ≡ length xs → Walked xs k n places handles 0 n n 0 0
-start xs k n places handles a b e = record {
+pub start : (xs : List Bound) (k places room n m : ℕ) (places_met handles_met : List ℕ) → length places_met ≡ n → length handles_met ≡ n → m ≡ length xs
+    → Walked xs k places room n m places_met handles_met m m m true
+start xs k places room n m places_met handles_met a b e = record {
   inside = omega arith;
-  own_in = omega arith;
-  own_is = λ l. absurd (omega arith);
-  own_first = λ j l m h. absurd (omega arith);
-  free_in = omega arith;
-  free_is = λ l. absurd (omega arith);
-  free_first = λ j l m h. absurd (omega arith);
-  most_is = λ j l m h. absurd (omega arith);
-  cells = none_met xs 256 n places handles a b e;
-  apart = λ z. none_apart xs n (omega arith);
+  own_is = first_end (λ h. is_of h k) xs m e;
+  free_is = first_end is_free xs m e;
+  broken_is = first_end (λ h. breaks_of h places room) xs m e;
+  cells = none_met xs n m places_met handles_met a b e;
+  apart_is = sym (apart_end xs m e);
 }
 
--- ---- tests of one record: one that is used for a handle is used, and has it
-
-used_of : (h : Bound) (k : ℕ) → is_of h k ≡ true → is_used h ≡ true
-used_of h k = go (is_used h) (eqb h.handle k)
-  where
-    go : (a b : Bool) → (a && b) ≡ true → a ≡ true
-    go true b e = refl
-    go false b e = e
-
-handle_of : (h : Bound) (k : ℕ) → is_of h k ≡ true → h.handle ≡ k
-handle_of h k e = eqb-true h.handle k (go (is_used h) (eqb h.handle k) e)
-  where
-    go : (a b : Bool) → (a && b) ≡ true → b ≡ true
-    go true b e = e
-    go false b e = absurd (true≢false (sym e))
-
--- ---- a turn: a free record; one that is used for the handle; one that is used for another
-
-module _ {xs : List Bound} {k m : ℕ} {places handles : List ℕ} {met own free last most : ℕ} (i : ℕ) (next : m ≡ i + 1) (walked : Walked xs k m places handles met own free last most) where
-  w : Walked xs k (i + 1) places handles met own free last most
-  w = subst (λ (n : ℕ). Walked xs k n places handles met own free last most) next walked
+module _ {xs : List Bound} {k places room n m : ℕ} {places_met handles_met : List ℕ} {own free broken : ℕ} {apart : Bool} (i : ℕ) (next : m ≡ i + 1) (walked : Walked xs k places room n m places_met handles_met own free broken apart) where
+  w : Walked xs k places room n (i + 1) places_met handles_met own free broken apart
+  w = subst (λ (j : ℕ). Walked xs k places room n j places_met handles_met own free broken apart) next walked
 
   here : i < length xs
   here = omega (arith, w.inside)
 
-  pub past_free : is_used (at xs i) ≡ false → Walked xs k i places handles met own i last most
+  pub past_free : is_used (at xs i) ≡ false → Walked xs k places room n i places_met handles_met own i broken apart
   past_free e = record {
     inside = omega (arith, w.inside);
-    own_in = w.own_in;
-    own_is = w.own_is;
-    own_first = and_on _ i w.own_first (λ m h. absurd (not_used (used_of (at xs i) k h)));
-    free_in = omega (arith, w.inside);
-    free_is = λ l. ap not e;
-    free_first = λ j l m h. l;
-    most_is = and_on _ i w.most_is (λ m u. absurd (not_used u));
+    own_is = first_turn (λ h. is_of h k) xs i here false (λ j. e j && eqb (at xs i).handle k) w.own_is;
+    free_is = first_turn is_free xs i here true (ap not e) w.free_is;
+    broken_is = first_turn (λ h. breaks_of h places room) xs i here false (ap (λ (u : Bool). u && breaks_used) e) w.broken_is;
     cells = met_free i w.cells e;
-    apart = λ z. apart_free xs i here (w.apart z) e;
+    apart_is = w.apart_is ∙ apart_free xs i here e;
   }
     where
-      not_used : is_used (at xs i) ≡ true → ⊥
-      not_used u = true≢false (sym u ∙ e)
+      breaks_used : Bool
+      breaks_used = breaks_of (record { used = 1; handle = (at xs i).handle; place = (at xs i).place; commit_no = (at xs i).commit_no; held_len = (at xs i).held_len; held_bytes = (at xs i).held_bytes }) places room
 
-  -- by the new place of the handle's record, in which the two turns differ
-  past_used : (own' : ℕ) → is_used (at xs i) ≡ true → own' ≤ length xs → (own' < length xs → is_of (at xs own') k ≡ true)
-      → ((j : ℕ) → i ≤ j → j < length xs → is_of (at xs j) k ≡ true → own' ≤ j)
-      → Walked xs k i (set places ((at xs i).place % 256) 1) (set handles ((at xs i).handle % 256) 1)
-      (bit_or met (bit_or (get_or places ((at xs i).place % 256) 0) (get_or handles ((at xs i).handle % 256) 0))) own' free (max last (at xs i).place) (max most (at xs i).held_len)
-  past_used own' u own_in own_is own_first = record {
+  pub past_used : 0 < n → is_used (at xs i) ≡ true
+      → Walked xs k places room n i (set places_met ((at xs i).place % n) 1) (set handles_met (spread_of (at xs i).handle % n) 1)
+      (cond (eqb (at xs i).handle k) i own) free (cond (breaks_of (at xs i) places room) i broken)
+      (not (not (eqb (bit_or (get_or places_met ((at xs i).place % n) 0) (get_or handles_met (spread_of (at xs i).handle % n) 0)) 0) && list_any (clashes (at xs i)) (drop (i + 1) xs)) && apart)
+  past_used some u = record {
     inside = omega (arith, w.inside);
-    own_in = own_in;
-    own_is = own_is;
-    own_first = own_first;
-    free_in = w.free_in;
-    free_is = w.free_is;
-    free_first = and_on _ i w.free_first (λ m h. absurd (true≢false (sym h ∙ ap not u)));
-    most_is = and_on _ i (λ j l m v. let less : ((at xs j).place ≤ last) × ((at xs j).held_len ≤ most) = w.most_is j l m v in (omega (arith, less.0), omega (arith, less.1))) (λ m v. (omega arith, omega arith));
-    cells = met_used i (omega arith) w.cells;
-    apart = λ z. apart_on xs i here (w.apart (omega (arith, le_or_l met now))) (is_new i w.cells (omega (arith, le_or_r met now)));
+    own_is = first_turn (λ h. is_of h k) xs i here (eqb (at xs i).handle k) (λ j. u j && eqb (at xs i).handle k) w.own_is;
+    free_is = first_turn is_free xs i here false (ap not u) w.free_is;
+    broken_is = first_turn (λ h. breaks_of h places room) xs i here (breaks_of (at xs i) places room) refl w.broken_is;
+    cells = met_used i w.cells some;
+    apart_is = apart_used i w.cells here w.apart_is;
   }
-    where
-      now : ℕ
-      now = bit_or (get_or places ((at xs i).place % 256) 0) (get_or handles ((at xs i).handle % 256) 0)
 
-  pub past_own : is_used (at xs i) ≡ true → (at xs i).handle ≡ k
-      → Walked xs k i (set places ((at xs i).place % 256) 1) (set handles ((at xs i).handle % 256) 1)
-      (bit_or met (bit_or (get_or places ((at xs i).place % 256) 0) (get_or handles ((at xs i).handle % 256) 0))) i free (max last (at xs i).place) (max most (at xs i).held_len)
-  past_own u e = past_used i u (omega (arith, w.inside)) (λ l j. u j && eq-eqb (at xs i).handle k e j) (λ j l m h. l)
-
-  pub past_other : is_used (at xs i) ≡ true → ((at xs i).handle ≡ k → ⊥)
-      → Walked xs k i (set places ((at xs i).place % 256) 1) (set handles ((at xs i).handle % 256) 1)
-      (bit_or met (bit_or (get_or places ((at xs i).place % 256) 0) (get_or handles ((at xs i).handle % 256) 0))) own free (max last (at xs i).place) (max most (at xs i).held_len)
-  past_other u e = past_used own u w.own_in w.own_is (and_on _ i w.own_first (λ m h. absurd (e (handle_of (at xs i) k h))))
-
--- ---- the walk is over
-
--- the first record of which p holds stands at n
-first_at : (p : Bound → Bool) (xs : List Bound) (n : ℕ) → n ≤ length xs → ((j : ℕ) → j < n → p (at xs j) ≡ false) → (n < length xs → p (at xs n) ≡ true) → first_of p xs ≡ n
-first_at p [] n l before here = omega arith
-first_at p (x ∷ xs) zero l before here = ap (λ (b : Bool). zero_or_next b (first_of p xs)) (here (omega arith))
-first_at p (x ∷ xs) (suc n) l before here =
-    ap (λ (b : Bool). zero_or_next b (first_of p xs)) (before 0 (omega arith))
-    ∙ ap suc (first_at p xs n (omega arith) (λ j m. before (suc j) (omega arith)) (λ m. here (omega arith)))
-
-keeps : (h : Bound) (places room : ℕ) → (is_used h ≡ true → (h.place < places) × (h.held_len ≤ room)) → breaks_of h places room ≡ false
-keeps h places room f = go (is_used h) (leb places h.place) (ltb room h.held_len) (λ u e. omega (arith, (f u).0, leb-true places h.place e)) (λ u e. omega (arith, (f u).1, ltb-true room h.held_len e))
-  where
-    go : (u a b : Bool) → (u ≡ true → a ≡ true → ⊥) → (u ≡ true → b ≡ true → ⊥) → (u && (a || b)) ≡ false
-    go false a b p q = refl
-    go true true b p q = absurd (p refl refl)
-    go true false true p q = absurd (q refl refl)
-    go true false false p q = refl
-
-or_left : (a b : Bool) → (a || b) ≡ false → a ≡ false
-or_left true b h = h
-or_left false b h = refl
-
-or_right : (a b : Bool) → (a || b) ≡ false → b ≡ false
-or_right true b h = absurd (true≢false h)
-or_right false b h = h
-
-pub over : {xs : List Bound} {k i : ℕ} {cells cells' : List ℕ} {met own free last most : ℕ} (places room : ℕ) → Walked xs k i cells cells' met own free last most → i ≡ 0
-    → (leb places last || ltb room most) ≡ false → SpotsIn xs k places room (record { own = own; free = free; apart = eqb met 0 })
-over {xs} {k} {i} {met = met} {own} {free} {last} {most} places room w all kept = record {
-  own = sym (first_at (λ h. is_of h k) xs own w.own_in (λ j l. never _ (λ h. no_own j l h)) w.own_is);
-  free = sym (first_at is_free xs free w.free_in (λ j l. never _ (λ h. no_free j l h)) w.free_is);
-  none_broken = first_at (λ h. breaks_of h places room) xs (length xs) (omega arith)
-      (λ j l. keeps (at xs j) places room (λ u. let less : ((at xs j).place ≤ last) × ((at xs j).held_len ≤ most) = w.most_is j (omega arith) l u in (omega (arith, less.0, last_in), omega (arith, less.1, most_in))))
-      (λ l. absurd (omega arith));
-  apart = λ h. sym (ap (λ (n : ℕ). apart_of (drop n xs)) all) ∙ w.apart (eqb-true met 0 h);
+pub over : {xs : List Bound} {k places room n i : ℕ} {places_met handles_met : List ℕ} {own free broken : ℕ} {apart : Bool} → Walked xs k places room n i places_met handles_met own free broken apart → i ≡ 0
+    → SpotsIn xs k places room (record { own = own; free = free; broken = broken; apart = apart })
+over {xs} {k} {places} {room} {i = i} {own = own} {free} {broken} w all = record {
+  own = at_start (λ h. is_of h k) own w.own_is;
+  free = at_start is_free free w.free_is;
+  broken = at_start (λ h. breaks_of h places room) broken w.broken_is;
+  apart = w.apart_is ∙ ap (λ (n : ℕ). apart_of (drop n xs)) all;
 }
   where
-    last_in : last < places
-    last_in = leb-false places last (or_left (leb places last) (ltb room most) kept)
-
-    most_in : most ≤ room
-    most_in = ltb-false room most (or_right (leb places last) (ltb room most) kept)
-
-    no_own : (j : ℕ) → j < own → is_of (at xs j) k ≡ true → ⊥
-    no_own j l h =
-        let less : own ≤ length xs = w.own_in in
-        let first : own ≤ j = w.own_first j (omega arith) (omega arith) h in
-        omega arith
-
-    no_free : (j : ℕ) → j < free → is_free (at xs j) ≡ true → ⊥
-    no_free j l h =
-        let less : free ≤ length xs = w.free_in in
-        let first : free ≤ j = w.free_first j (omega arith) (omega arith) h in
+    at_start : (t : Bound → Bool) (n : ℕ) → First t xs i n → n ≡ first_of t xs
+    at_start t n f =
+        let whole : n ≡ 0 + first_of t xs = f ∙ ap (λ (j : ℕ). j + first_of t (drop j xs)) all in
         omega arith

@@ -1,11 +1,10 @@
 // The bound handles: a lent row of records, searched by handle (standby.rs, where they are a map from handle to bound session).
 #![tactic(auto)]
 
-ghost use Rattle.std.specs.Prelude.{◌≡◌, drop, position, set};
+ghost use Rattle.std.specs.Prelude.{◌≡◌, ◌<◌, ◌+◌, ◌&&◌, cond, not, eqb, length, get_or, drop, set};
 ghost use Rattle.std.specs.List.{list_any};
-ghost use Rattle.std.specs.Option.{IfSome};
-ghost use Rattle.standby_row.specs.Row.{free_record, is_used, is_of, is_free, breaks_of, is_rival, rival_of, clashes, apart_of, cleared_from, released_at, own_of, found_in, place_in, SeenOf};
-ghost use Rattle.standby_row.specs.Spots.{SpotsIn};
+ghost use Rattle.standby_row.specs.Row.{free_record, is_used, breaks_of, is_rival, rival_of, clashes, apart_of, cleared_from, released_at, found_in, place_in, SeenOf};
+ghost use Rattle.standby_row.specs.Spots.{spread_of, SpotsIn};
 
 use frame_fields::CommitNumber;
 
@@ -48,20 +47,6 @@ impl Bound {
         self.used != 0
     }
 
-    // Whether the record is used for a handle.
-    pub fn is_of(self, handle: u32) -> bool
-        ensures { result ≡ is_of self handle }
-    {
-        self.is_used() && self.handle == handle
-    }
-
-    // Whether the record is free.
-    pub fn is_free(self) -> bool
-        ensures { result ≡ is_free self }
-    {
-        !self.is_used()
-    }
-
     // Whether the record is used and breaks the rules: its place is not below `places`, or it holds more than `room` bytes.
     pub fn breaks_rules(self, places: usize, room: usize) -> bool
         ensures { result ≡ breaks_of self places room }
@@ -86,115 +71,97 @@ impl Bound {
     }
 }
 
-// The place of the first record that is used for a handle.
-fn own_place(row: &[Bound], handle: u32) -> Option<usize>
-    ensures { result ≡ position (λ x. is_of x handle) row.now }
+// Whether the record at a place clashes with one behind it. Cold, and by the place, so that the walk keeps what it finds in registers.
+#[cold]
+fn clashes_behind(row: &[Bound], at: usize) -> bool
+    requires { at < length row.now }
+    ensures { result ≡ list_any (clashes (get_or row.now at free_record)) (drop (at + 1) row.now) }
 {
-    row.iter().position(|bound| bound.is_of(handle))
+    let bound = row[at];
+    row.iter().skip(at + 1).any(|later| bound.clashes(*later))
 }
 
-// The first record that is used for a handle.
-fn own_in(row: &[Bound], handle: u32) -> Option<Found>
-    ensures { result ≡ own_of row.now handle }
+// Whether a record is apart from those behind it, and they from each other: where none of its cells was met, none behind it has its place or its handle.
+fn stays_apart(apart: bool, met: u8, row: &[Bound], at: usize) -> bool
+    requires { at < length row.now }
+    ensures { result ≡ (not (not (eqb met 0) && list_any (clashes (get_or row.now at free_record)) (drop (at + 1) row.now)) && apart) }
 {
-    let at = own_place(row, handle)?;
-    Some(Found { at, bound: row[at] })
-}
-
-// The first free place.
-fn free_in(row: &[Bound]) -> Option<usize>
-    ensures { result ≡ position is_free row.now }
-{
-    row.iter().position(|bound| bound.is_free())
-}
-
-// The first place whose record breaks the rules.
-fn broken_in(row: &[Bound], places: usize, room: usize) -> Option<usize>
-    ensures { result ≡ position (λ x. breaks_of x places room) row.now }
-{
-    row.iter()
-        .position(|bound| bound.breaks_rules(places, room))
-}
-
-// Whether a record clashes with one from a place on.
-fn clashes_from(row: &[Bound], from: usize, bound: Bound) -> bool
-    ensures { result ≡ list_any (clashes bound) (drop from row.now) }
-{
-    row.iter().skip(from).any(|later| bound.clashes(*later))
-}
-
-// Whether no two used records have one handle, and no two name one place.
-// A place and a handle whose low 12 bits were not met are new: only where one was are the records behind it looked through.
-#[inline(never)]
-fn are_apart(row: &[Bound]) -> bool
-    ensures { result ≡ apart_of row.now }
-{
-    let mut places_met = [0u8; 4096];
-    let mut handles_met = [0u8; 4096];
-    let mut at = row.len();
-    while at > 0 {
-        at -= 1;
-        let bound = row[at];
-        if bound.is_used() {
-            let place = bound.place % 4096;
-            let number = bound.handle as usize % 4096;
-            if (places_met[place] | handles_met[number]) != 0 && clashes_from(row, at + 1, bound) {
-                return false;
-            }
-            places_met[place] = 1;
-            handles_met[number] = 1;
-        }
+    if met != 0 && clashes_behind(row, at) {
+        return false;
     }
-    true
+    apart
 }
 
-// Where the handle's record and the first free one stand, the row's length where there is none; and whether the records are known to be apart.
+// A number for a handle: of handles that are counted on, whatever the step, few have the same low bits.
+fn spread(handle: u32) -> usize
+    ensures { result ≡ spread_of handle }
+{
+    (handle.wrapping_mul(0x27D4_EB2D) >> 20) as usize
+}
+
+// One place or the other, by a test.
+fn choose(test: bool, place: usize, other: usize) -> usize
+    ensures { result ≡ cond test place other }
+{
+    if test { place } else { other }
+}
+
+// Where the handle's record, the first free one and the first that breaks the rules stand, the row's length where there is none; and whether no two
+// used records have one handle, and no two name one place.
 #[derive(Clone, Copy)]
 struct Spots {
     own: usize,
     free: usize,
+    broken: usize,
     apart: bool,
 }
 
-// All that is asked of a row in one walk, from the last record to the first; none where one breaks the rules.
-// Records are known to be apart where no low 8 bits of a place or of a handle were met twice. There is no branch for this, nor for the rules: all is gathered.
-fn spots_in(row: &[Bound], handle: u32, places: usize, room: usize) -> Option<Spots>
-    ensures { IfSome result (SpotsIn row.now handle places room) }
+// All that is asked of a row in one walk, from the last record to the first. It marks a cell for each place and one for each handle's number: only a
+// record of which one was marked before is held against those behind it.
+fn spots_in<const CELLS: usize>(row: &[Bound], handle: u32, places: usize, room: usize) -> Spots
+    requires { 0 < CELLS }
+    ensures { SpotsIn row.now handle places room result }
 {
-    let mut places_met = [0u8; 256];
-    let mut handles_met = [0u8; 256];
-    let mut met: u8 = 0;
+    let mut places_met = [0u8; CELLS];
+    let mut handles_met = [0u8; CELLS];
     let mut own = row.len();
     let mut free = row.len();
-    let mut last_place: usize = 0;
-    let mut most_held: usize = 0;
+    let mut broken = row.len();
+    let mut apart = true;
     let mut at = row.len();
     while at > 0 {
         at -= 1;
         let bound = row[at];
         if bound.is_used() {
-            let place = bound.place % 256;
-            let number = bound.handle as usize % 256;
-            met |= places_met[place] | handles_met[number];
+            let place = bound.place % CELLS;
+            let number = spread(bound.handle) % CELLS;
+            let met = places_met[place] | handles_met[number];
+            apart = stays_apart(apart, met, row, at);
             places_met[place] = 1;
             handles_met[number] = 1;
-            last_place = last_place.max(bound.place);
-            most_held = most_held.max(bound.held_len);
-            if bound.handle == handle {
-                own = at;
-            }
+            broken = choose(bound.breaks_rules(places, room), at, broken);
+            own = choose(bound.handle == handle, at, own);
         } else {
             free = at;
         }
     }
-    if (places <= last_place) | (room < most_held) {
-        return None;
-    }
-    Some(Spots {
+    Spots {
         own,
         free,
-        apart: met == 0,
-    })
+        broken,
+        apart,
+    }
+}
+
+// The same, with as many cells as serve a row of this length: a short one doesn't wait until 8,192 bytes are 0.
+fn spots_of(row: &[Bound], handle: u32, places: usize, room: usize) -> Spots
+    ensures { SpotsIn row.now handle places room result }
+{
+    if row.len() <= 64 {
+        spots_in::<1024>(row, handle, places, room)
+    } else {
+        spots_in::<4096>(row, handle, places, room)
+    }
 }
 
 // A record with its place, if there is one.
@@ -212,31 +179,16 @@ fn place_in(row: &[Bound], at: usize) -> Option<usize>
     (at < row.len()).then_some(at)
 }
 
-// All that a call must know of the row, by a search for each.
-fn search(row: &[Bound], handle: u32, places: usize, room: usize) -> Lookup
-    ensures { SeenOf row.now handle places room result }
-{
-    Lookup {
-        own: own_in(row, handle),
-        free: free_in(row),
-        broken: broken_in(row, places, room),
-        apart: are_apart(row),
-        len: row.len(),
-    }
-}
-
 // All that a call must know of the row before it runs.
 pub fn find(row: &[Bound], handle: u32, places: usize, room: usize) -> Lookup
     ensures { SeenOf row.now handle places room result }
 {
-    let Some(spots) = spots_in(row, handle, places, room) else {
-        return search(row, handle, places, room);
-    };
+    let spots = spots_of(row, handle, places, room);
     Lookup {
         own: found_at(row, spots.own),
         free: place_in(row, spots.free),
-        broken: None,
-        apart: spots.apart || are_apart(row),
+        broken: place_in(row, spots.broken),
+        apart: spots.apart,
         len: row.len(),
     }
 }
