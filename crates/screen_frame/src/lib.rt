@@ -109,7 +109,7 @@ fn put_key(text: &mut Text, src: &[u8], key: SessionId)
 }
 
 fn put_batch(text: &mut Text, src: &[u8], batch: Batch)
-    ensures { Adds text.old (frame_words (batch_of 1 src.now batch)) text.new }
+    ensures { Adds text.old (frame_words (batch_of latest src.now batch)) text.new }
 {
     text.add_number(part_words(batch.part), u64::from(batch.handle));
     text.add_number(b" #", batch.commit_no.0);
