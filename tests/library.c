@@ -21,7 +21,7 @@ static void holds(int is, int line, const char *words) {
 }
 #define HOLDS(is) holds(is, __LINE__, #is)
 
-enum { S = 3, C = 1024, M = 16, H = 4, WORDS = 66 + S * (16 + 2 * M), BYTES = S * (224 + C), HOLDS_LEN = H * (C + 22 * M + 122) };
+enum { S = 3, C = 1024, M = 16, H = 4, WORDS = 66 + S * (16 + 2 * M), BYTES = S * (224 + C), HOLDS_LEN = H * (C + 22 * M + 131) };
 static const wz_shape_t shape = { S, C, M };
 static const wz_settings_t settings = { { S, C, M }, 77, 5 };
 struct copy {
@@ -42,7 +42,8 @@ static void number(uint64_t value, int bytes) { while (bytes-- > 0) { frame[len+
 static void text(const char *t) { number(strlen(t), 4); memcpy(frame + len, t, strlen(t)); len += strlen(t); }
 static void begin(int kind) { len = 4; number((uint64_t)kind, 1); }
 static void end(void) { size_t n = len; len = 0; number(n - 4, 4); len = n; }
-static void hello(uint64_t epoch) { begin(WZ_KIND_HELLO); number(WZ_PROTOCOL, 2); number(epoch, 8); text("node"); number(0, 4); end(); }
+static void hello_in(uint16_t version, uint64_t epoch) { begin(WZ_KIND_HELLO); number(version, 2); number(epoch, 8); text("node"); number(0, 4); end(); }
+static void hello(uint64_t epoch) { hello_in(WZ_PROTOCOL_FIRST, epoch); }
 static void bind(uint32_t handle, uint64_t lag, const char *target) {
     begin(WZ_KIND_BIND); number(handle, 4); number(5, 8); number(lag, 8); text("FIX.4.4"); text("BROKER"); text(target); text(""); end();
 }
@@ -97,14 +98,16 @@ static void rows(void) {
 
 static void standby(void) {
     hello(5);
-    HOLDS(wz_read(frame, len - 1) == WZ_MORE);
-    HOLDS(WZ_OK(wz_read(frame, len)) && WZ_COUNT(wz_read(frame, len)) == len);
-    HOLDS(WZ_COUNT(wz_frame(frame, len, out, sizeof out)) == len && !memcmp(frame, out, len));
+    HOLDS(wz_read(frame, len - 1, WZ_PROTOCOL_FIRST) == WZ_MORE);
+    HOLDS(WZ_OK(wz_read(frame, len, WZ_PROTOCOL_FIRST)) && WZ_COUNT(wz_read(frame, len, WZ_PROTOCOL_FIRST)) == len);
+    HOLDS(WZ_COUNT(wz_frame(frame, len, out, sizeof out, WZ_PROTOCOL_FIRST)) == len && !memcmp(frame, out, len));
     wz_answer_t r = give(&a);
     HOLDS(r.refusal == 0 && r.kind == WZ_KIND_WELCOME && r.epoch == 5 && r.incarnation == 77);
-    HOLDS(a.counters.epoch == 5 && a.counters.connections == 1 && !a.counters.promoted && !a.counters.checked);
-    HOLDS(WZ_COUNT(wz_answer(r, a.bytes, BYTES, out, sizeof out)) == 21 && out[4] == WZ_KIND_WELCOME && out[5] == 5 && out[13] == 77);
-    HOLDS(WZ_REFUSAL(wz_answer(r, a.bytes, BYTES, out, 20)) == WZ_REFUSED_NO_ROOM);
+    HOLDS(a.counters.epoch == 5 && a.counters.connections == 1 && !a.counters.promoted && !a.counters.checked && WZ_PROTOCOL_OF(a.counters) == WZ_PROTOCOL_FIRST);
+    HOLDS(WZ_REFUSAL(wz_read(frame, len, 3)) == WZ_REFUSED_BAD_VERSION && WZ_REFUSAL(wz_frame(frame, len, out, sizeof out, 0)) == WZ_REFUSED_BAD_VERSION);
+    HOLDS(WZ_REFUSAL(wz_answer(r, a.bytes, BYTES, out, sizeof out, 3)) == WZ_REFUSED_BAD_VERSION);
+    HOLDS(WZ_COUNT(wz_answer(r, a.bytes, BYTES, out, sizeof out, WZ_PROTOCOL_FIRST)) == 21 && out[4] == WZ_KIND_WELCOME && out[5] == 5 && out[13] == 77);
+    HOLDS(WZ_REFUSAL(wz_answer(r, a.bytes, BYTES, out, 20, WZ_PROTOCOL_FIRST)) == WZ_REFUSED_NO_ROOM);
     bind(0x01020304, 6, "VENUE");
     r = give(&a);
     HOLDS(r.kind == WZ_KIND_NACK && r.reason == WZ_REASON_LAG && r.handle == 0x01020304);
@@ -139,10 +142,10 @@ static void standby(void) {
     HOLDS(give(&a).kind == WZ_KIND_ACK && a.row[1].held_len == 18 && a.row[1].held_bytes == 4);
     batch(9, 2, WZ_PART_COMMIT, 0); number(0, 4); end();
     r = give(&a);
-    HOLDS(r.refusal == WZ_REFUSED_UNBOUND && r.kind == WZ_KIND_NONE && WZ_REFUSAL(wz_answer(r, a.bytes, BYTES, out, sizeof out)) == WZ_REFUSED_UNBOUND);
+    HOLDS(r.refusal == WZ_REFUSED_UNBOUND && r.kind == WZ_KIND_NONE && WZ_REFUSAL(wz_answer(r, a.bytes, BYTES, out, sizeof out, WZ_PROTOCOL_FIRST)) == WZ_REFUSED_UNBOUND);
     rows();
     frame[4] = 99;
-    HOLDS(WZ_REFUSAL(wz_read(frame, len)) == WZ_REFUSED_UNKNOWN_BYTE && WZ_DETAIL(wz_read(frame, len)) == 99);
+    HOLDS(WZ_REFUSAL(wz_read(frame, len, WZ_PROTOCOL_FIRST)) == WZ_REFUSED_UNKNOWN_BYTE && WZ_DETAIL(wz_read(frame, len, WZ_PROTOCOL_FIRST)) == 99);
     rows();
 }
 
@@ -151,9 +154,9 @@ static void whole(void) {
     uint64_t sending[WZ_SENDING] = { 0 }, code;
     hello(5); HOLDS(give(&b).kind == WZ_KIND_WELCOME);
     bind(9, 0, "DARKPOOL"); HOLDS(give(&b).kind == WZ_KIND_BOUND);
-    HOLDS(WZ_REFUSAL(wz_send(STORE(a), sending, WZ_SENDING - 1, out, sizeof out, S, C, M, 1, 9, 5)) == WZ_REFUSED_RULES_BROKEN);
+    HOLDS(WZ_REFUSAL(wz_send(STORE(a), sending, WZ_SENDING - 1, out, sizeof out, S, C, M, 1, 9, 5, WZ_PROTOCOL_FIRST)) == WZ_REFUSED_RULES_BROKEN);
     HOLDS(sizeof frame >= WZ_FRAME(C, M));
-    while (code = wz_send(STORE(a), sending, WZ_SENDING, frame, WZ_FRAME(C, M), S, C, M, 1, 9, 5), code != WZ_LAST) {
+    while (code = wz_send(STORE(a), sending, WZ_SENDING, frame, WZ_FRAME(C, M), S, C, M, 1, 9, 5, WZ_PROTOCOL_FIRST), code != WZ_LAST) {
         if (!WZ_OK(code)) { HOLDS(!"a refused sending"); return; }
         len = WZ_COUNT(code);
         HOLDS(give(&b).kind == WZ_KIND_ACK);
@@ -222,25 +225,35 @@ static void lengths(void) {
     for (uint64_t i = 1; i <= M; i++)
         HOLDS(wz_store_record_none(STORE(a), shape, 0, 2 * i - 1) == 0 && wz_store_record(STORE(a), shape, 0, message, C / M) == 0);
     HOLDS(wz_store_record_none(STORE(a), shape, 0, 2 * M + 1) == 0 && wz_store_count(STORE(a), shape, 0).value == M);
-    HOLDS(wz_store_set_next_incoming_in_flight(STORE(a), shape, 0, 5, 4) == 0 && wz_store_set_created_at(STORE(a), shape, 0, TEXT("20261116-12:00:00.000")) == 0);
+    HOLDS(wz_store_set_next_incoming_in_flight(STORE(a), shape, 0, 5, 4) == 0 && wz_store_set_created_at(STORE(a), shape, 0, TEXT("20261116-12:00:00.123456789012")) == 0);
     HOLDS(wz_store_set_marks(STORE(a), shape, 0, TEXT(marks)) == 0);
+    HOLDS(WZ_REFUSAL(wz_send(STORE(a), sending, WZ_SENDING, out, sizeof out, S, C, M, 0, 9, 5, WZ_PROTOCOL_FIRST)) == WZ_REFUSED_LONG_STAMP);
+    HOLDS(WZ_REFUSAL(wz_send(STORE(a), sending, WZ_SENDING, out, sizeof out, S, C, M, 0, 9, 5, 3)) == WZ_REFUSED_BAD_VERSION && !sending[1]);
     HOLDS(WZ_COUNT(wz_session(STORE(a), out, WZ_SESSION, S, C, M, 0, 5)) == WZ_SESSION);
     HOLDS(WZ_REFUSAL(wz_session(STORE(a), out, WZ_SESSION - 1, S, C, M, 0, 5)) == WZ_REFUSED_NO_ROOM);
-    HOLDS(WZ_REFUSAL(wz_send(STORE(a), sending, WZ_SENDING, out, WZ_FRAME(C, M) - 1, S, C, M, 0, 9, 5)) == WZ_REFUSED_NO_ROOM);
-    HOLDS(WZ_COUNT(wz_send(STORE(a), sending, WZ_SENDING, out, WZ_FRAME(C, M), S, C, M, 0, 9, 5)) == WZ_FRAME(C, M));
+    HOLDS(WZ_REFUSAL(wz_send(STORE(a), sending, WZ_SENDING, out, WZ_FRAME(C, M) - 1, S, C, M, 0, 9, 5, WZ_PROTOCOL_LATEST)) == WZ_REFUSED_NO_ROOM);
+    HOLDS(WZ_COUNT(wz_send(STORE(a), sending, WZ_SENDING, out, WZ_FRAME(C, M), S, C, M, 0, 9, 5, WZ_PROTOCOL_LATEST)) == WZ_FRAME(C, M));
     HOLDS(wz_store_make(STORE(b), shape) == 0 && wz_standby_make(&b.counters, b.row, H, STORE(b), settings).refusal == 0);
+    hello_in(WZ_PROTOCOL_LATEST, 5);
+    HOLDS(give(&b).kind == WZ_KIND_WELCOME && b.counters.version2 == 1 && WZ_PROTOCOL_OF(b.counters) == WZ_PROTOCOL_LATEST);
     begin(WZ_KIND_BIND); number(9, 4); number(5, 8); number(0, 8); text(key); text(key); text(key); text(key); end();
     HOLDS(give(&b).kind == WZ_KIND_BOUND);
     HOLDS(wz_on_frame(&b.counters, b.row, H, STORE(b), b.holds, WZ_HOLDS(H, C, M) - 1, out, WZ_FRAME(C, M), settings).refusal == WZ_REFUSED_HOLD_AREA_FULL);
     HOLDS(wz_on_frame(&b.counters, b.row, H, STORE(b), b.holds, WZ_HOLDS(H, C, M), out, WZ_FRAME(C, M), settings).kind == WZ_KIND_ACK);
     wz_answer_t full = give(&b);
-    HOLDS(WZ_COUNT(wz_answer(full, b.bytes, BYTES, out, WZ_ANSWER)) == WZ_ANSWER);
-    HOLDS(WZ_REFUSAL(wz_answer(full, b.bytes, BYTES, out, WZ_ANSWER - 1)) == WZ_REFUSED_NO_ROOM);
+    HOLDS(WZ_COUNT(wz_answer(full, b.bytes, BYTES, out, WZ_ANSWER, WZ_PROTOCOL_LATEST)) == WZ_ANSWER);
+    HOLDS(WZ_REFUSAL(wz_answer(full, b.bytes, BYTES, out, WZ_ANSWER - 1, WZ_PROTOCOL_LATEST)) == WZ_REFUSED_NO_ROOM);
+    /* Over version 1 the session isn't answered: 8 for the answer's long stamp, 32 for a Bind. */
+    HOLDS(WZ_REFUSAL(wz_answer(full, b.bytes, BYTES, out, WZ_ANSWER, WZ_PROTOCOL_FIRST)) == WZ_REFUSED_UNREADABLE);
+    hello(5);
+    HOLDS(give(&b).kind == WZ_KIND_WELCOME && WZ_PROTOCOL_OF(b.counters) == WZ_PROTOCOL_FIRST);
+    begin(WZ_KIND_BIND); number(9, 4); number(5, 8); number(0, 8); text(key); text(key); text(key); text(key); end();
+    HOLDS(give(&b).refusal == WZ_REFUSED_LONG_STAMP && !b.row[0].used);
     memset(frame, 0, sizeof frame);
     frame[3] = 4;
-    HOLDS(WZ_MAX_FRAME == 4 + 0x4000000 && wz_read(frame, 4) == WZ_MORE);
+    HOLDS(WZ_MAX_FRAME == 4 + 0x4000000 && wz_read(frame, 4, WZ_PROTOCOL_FIRST) == WZ_MORE);
     frame[0] = 1;
-    HOLDS(WZ_REFUSAL(wz_read(frame, 4)) == WZ_REFUSED_TOO_LONG && WZ_DETAIL(wz_read(frame, 4)) == 0x4000001);
+    HOLDS(WZ_REFUSAL(wz_read(frame, 4, WZ_PROTOCOL_FIRST)) == WZ_REFUSED_TOO_LONG && WZ_DETAIL(wz_read(frame, 4, WZ_PROTOCOL_FIRST)) == 0x4000001);
 }
 
 static void active(void) {

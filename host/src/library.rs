@@ -1,7 +1,10 @@
 //! The functions of include/wizhdulet.h that the console calls, and their records.
 
 /// The version of the header that these declarations are of.
-pub const VERSION: u32 = 3;
+pub const VERSION: u32 = 4;
+
+/// The latest version of the protocol, which takes every stamp.
+pub const LATEST: u16 = 2;
 
 #[repr(C)]
 #[derive(Clone, Copy, Default)]
@@ -10,6 +13,7 @@ pub struct Replica {
     pub connections: u64,
     pub promoted: u8,
     pub checked: u8,
+    pub version2: u8,
 }
 
 #[repr(C)]
@@ -83,7 +87,7 @@ pub struct Listed {
 #[link(name = "wizhdulet", kind = "static")]
 unsafe extern "C" {
     pub fn wz_version() -> u32;
-    pub fn wz_read(frame: *const u8, frame_len: usize) -> u64;
+    pub fn wz_read(frame: *const u8, frame_len: usize, version: u16) -> u64;
     pub fn wz_store_make(words: *mut u64, words_len: usize, bytes: *const u8, bytes_len: usize, shape: Shape) -> u8;
     pub fn wz_standby_make(counters: &mut Replica, row: *mut Bound, row_len: usize, words: *mut u64, words_len: usize, bytes: *const u8,
         bytes_len: usize, settings: Settings) -> Answer;
@@ -95,7 +99,7 @@ unsafe extern "C" {
         bytes_len: usize, holds: *mut u8, holds_len: usize, settings: Settings) -> Answer;
     pub fn wz_promote_unchecked(counters: &mut Replica, row: *mut Bound, row_len: usize, words: *mut u64, words_len: usize, bytes: *mut u8,
         bytes_len: usize, holds: *mut u8, holds_len: usize, settings: Settings) -> Answer;
-    pub fn wz_answer(answer: Answer, bytes: *const u8, bytes_len: usize, out: *mut u8, out_len: usize) -> u64;
+    pub fn wz_answer(answer: Answer, bytes: *const u8, bytes_len: usize, out: *mut u8, out_len: usize, version: u16) -> u64;
     pub fn wz_session(words: *const u64, words_len: usize, bytes: *const u8, bytes_len: usize, out: *mut u8, out_len: usize, sessions: u32,
         c: u32, m: u32, place: usize, n: u64) -> u64;
     pub fn wz_resend(words: *const u64, words_len: usize, bytes: *const u8, bytes_len: usize, ranges: *const u64, ranges_len: usize,
