@@ -204,7 +204,9 @@ impl Round {
         let version = rust.version;
         let answered = run.call(rust, call)?;
         self.counts.call(call, &answered);
-        self.counts.version(version, rust.version);
+        if !matches!(call, Call::Set(_)) {
+            self.counts.version(version, rust.version);
+        }
         if let Some(taken) = &rust.taken {
             self.counts.taken(taken);
         }

@@ -418,6 +418,11 @@ impl Player {
             return self.opening.remove(0);
         }
         self.version = rust.version;
+        // What is held is read alike in both versions.
+        let holding = rust.replica.handles().iter().any(|handle| !handle.held.is_empty());
+        if holding && self.random.percent(4) {
+            return Call::Set(Counter::Version(FIRST + LATEST - rust.version));
+        }
         match self.random.below(100) {
             0..3 => self.taken(rust, |player, rust| player.hello(rust)),
             3..13 => self.taken(rust, |player, rust| player.bind(rust)),
@@ -432,6 +437,7 @@ impl Player {
             84..87 => self.whole(rust),
             87 => self.queue(),
             88 => Call::Set(self.counter(rust)),
+            89 => Call::Set(Counter::Version(FIRST + LATEST - rust.version)),
             _ => Call::State,
         }
     }
@@ -579,6 +585,9 @@ impl Player {
         let mut changes: Vec<_> = (0..count).map(|_| self.change(&mut next)).collect();
         if part != wire::COMMIT && !holding && self.random.percent(92) {
             changes.insert(0, change::reset());
+            if self.random.percent(50) {
+                changes.push(change::created_at(&suiting(&mut self.random, self.version)));
+            }
             next = 1;
             changes.extend((0..self.random.below(3)).map(|_| self.change(&mut next)));
         }

@@ -546,6 +546,7 @@ impl Side for Ours {
         match *counter {
             Counter::Connections(n) => self.counters.connections = n,
             Counter::Epoch(n) => self.counters.epoch = n,
+            Counter::Version(n) => self.counters.version2 = u8::from(n == LATEST),
             Counter::Commit(handle, n) => return self.bound(handle).map(|place| place.commit_no = n).is_some(),
             Counter::Bytes(handle, n) => {
                 let holding = self.bound(handle).filter(|place| place.held_len > 0);

@@ -1004,6 +1004,32 @@ fn long_hold(less: u64) -> Script {
         .whole(0, key("B"), Some(10 + 22 + 164))
 }
 
+/// A version that no call leaves beside these bindings: it is handed in.
+fn version_set() -> Script {
+    let whole = [change::reset(), change::created_at(LONGEST_STAMP), change::record(1, b"held")];
+    Script::new("7 0 40 4 2 2")
+        .note("a handle holds a long stamp as the version is set to 1: what is held is read all the same")
+        .frame(hello_in(LATEST, 1))
+        .frame(wire::bind(1, 1, 0, &key("B")))
+        .held(batch(WHOLE, 1, 1, 1, &whole))
+        .set(Counter::Version(FIRST))
+        .held(commit(1, 1, 2, &stamped(LONGEST_STAMP)))
+        .held(batch(WHOLE, 1, 1, 2, &[change::record(2, b"on")]))
+        .state()
+        .held(batch(LAST_WHOLE, 1, 1, 3, &[change::next_incoming(2)]))
+        .state()
+        .note("32 for its session on another handle and on its own, which stays bound and holds what it held")
+        .held(batch(WHOLE, 1, 1, 4, &[change::reset()]))
+        .held(wire::bind(2, 1, 0, &key("B")))
+        .held(wire::bind(1, 1, 0, &key("B")))
+        .state()
+        .whole(0, key("B"), None)
+        .set(Counter::Version(LATEST))
+        .held(wire::bind(2, 1, 0, &key("B")))
+        .whole(0, key("B"), None)
+        .state()
+}
+
 /// Two actives that speak different versions.
 fn actives_of_two_versions() -> Script {
     let no_change = |script: Script, epoch: u64| {
@@ -1083,6 +1109,8 @@ fn unreadable() -> Script {
         "L 18446744073709551616",
         "X epoch",
         "X commit 1",
+        "X version 0",
+        "X version 3",
         "X commit 4294967296 1",
         "Y 1 41,42,43",
         "Y 1 41,42,43,4",
@@ -1152,6 +1180,7 @@ fn scripts() -> Vec<(String, Script)> {
         ("31-long-hold", long_hold(0)),
         ("32-long-hold-short", long_hold(1)),
         ("33-two-versions", actives_of_two_versions()),
+        ("34-version-set", version_set()),
     ];
     let chance = (1..=12).map(|seed| (format!("chance-{seed:02}"), by_chance(seed)));
     named.into_iter().map(|(name, script)| (name.into(), script)).chain(chance).collect()

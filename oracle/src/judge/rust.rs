@@ -281,6 +281,7 @@ impl Side for Rust {
         match *counter {
             Counter::Connections(n) => self.replica.set_connections(n),
             Counter::Epoch(n) => self.replica.set_epoch(n),
+            Counter::Version(n) => self.version = n,
             Counter::Commit(handle, n) => return self.replica.set_commit_no(handle, n),
             Counter::Bytes(handle, n) => return self.replica.set_held_bytes(handle, n),
         }
