@@ -9,6 +9,7 @@ use turbojet_replica::active::reach::whole;
 use turbojet_replica::frame::Frame;
 
 use crate::call::{Key, Setting, hold_for_any};
+use crate::differences::FIRST;
 use crate::library::{self, outcome};
 use crate::ours::Ours;
 use crate::rust::Rust;
@@ -163,7 +164,7 @@ fn decoding(name: &str, frame: Vec<u8>) -> Row {
     timed(
         name,
         1_000_000,
-        || assert!(outcome(library::read(black_box(&frame))).is_ok()),
+        || assert!(outcome(library::read(black_box(&frame), FIRST)).is_ok()),
         || assert!(black_box(Frame::decode(black_box(&frame))).is_ok()),
     )
 }

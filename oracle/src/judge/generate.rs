@@ -502,6 +502,15 @@ impl Player {
         if self.random.percent(20) {
             return self.handover(rust, max_lag);
         }
+        if rust.version == FIRST && self.random.percent(30) {
+            // A session whose stamp this version doesn't take.
+            let all = rust.replica.storage().all();
+            let long = all.iter().filter(|(_, stored)| stored.created_at.is_some_and(|at| at.is_long()));
+            let keys: Vec<Key> = long.map(|(id, _)| key_of(id)).collect();
+            if !keys.is_empty() {
+                return wire::bind(self.handle(rust), self.epoch(rust), max_lag, &self.random.pick(&keys));
+            }
+        }
         let key = if self.random.percent(97) { self.random.pick(&self.keys) } else { key(&mut self.random) };
         wire::bind(self.handle(rust), self.epoch(rust), max_lag, &key)
     }

@@ -1552,6 +1552,7 @@ fn program_versions() -> String {
         hello(3),
         wire::bind(1, 3, 0, &key("B")),
         wire::bind(2, 3, 0, &key("C")),
+        wire::checked(1, 3, 7),
     ])
 }
 
