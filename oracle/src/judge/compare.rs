@@ -11,7 +11,7 @@ use crate::differences;
 use crate::differences::{FIRST, LATEST, NO_VERSIONS};
 use crate::digits;
 use crate::frames::{Reading, read_by_rust};
-use crate::generate::{Player, Random, any_frame, cycle, key, reading, resend, setting, wide_setting};
+use crate::generate::{Player, Random, any_frame, cycle, key, many_setting, reading, resend, setting, wide_setting};
 use crate::imports;
 #[cfg(calls)]
 use crate::ours::Ours;
@@ -246,12 +246,13 @@ fn made_by_us(_: &Setting, _: bool) -> Result<(), Difference> {
     Ok(())
 }
 
-/// The days of a cycle, a hundred scripts and one over many sessions, which always have their time; then all inputs, in
-/// turn, until the time is over.
+/// The days of a cycle, a hundred scripts, three with commits on many handles and one over many sessions, which always have their
+/// time; then all inputs, in turn, until the time is over.
 fn inputs(round: &mut Round, seconds: u64, seed: u64) -> Result<(), Difference> {
     let mut random = Random(seed);
     round.days()?;
     (0..100).try_for_each(|_| round.script(&mut random))?;
+    (0..3).try_for_each(|_| round.script_of(&mut random, &many_setting()))?;
     round.script_of(&mut random, &wide_setting())?;
     let end = Instant::now() + Duration::from_secs(seconds);
     round.making()?;

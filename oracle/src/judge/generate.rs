@@ -376,6 +376,11 @@ fn full_of_pending(random: &mut Random, keys: &[Key]) -> Vec<Call> {
     (0..handles).map(bind).chain((0..handles).map(commit)).chain([Call::State]).collect()
 }
 
+/// A setting with more handles than may have a commit that pends.
+pub fn many_setting() -> Setting {
+    Setting { incarnation: 7, lag: 3, bytes: 20, messages: 2, sessions: 70, handles: 80, hold: hold_for_any(20, 2) }
+}
+
 /// A setting with more sessions and handles than a byte can tell apart.
 pub fn wide_setting() -> Setting {
     Setting { incarnation: 7, lag: 3, bytes: 7, messages: 1, sessions: 300, handles: 300, hold: hold_for_any(7, 1) }
