@@ -73,7 +73,7 @@ impl Standby {
         }
     }
 
-    /// What the connection speaks.
+    /// The version that the connection speaks: 1 until a Hello is accepted, then that Hello's.
     fn version(&self) -> u16 { if self.counters.version2 == 0 { 1 } else { 2 } }
 
     /// The kind of the answer and its bytes, or the refusal.

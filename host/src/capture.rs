@@ -56,8 +56,8 @@ impl Capture {
         Ok(Capture::cut(name.to_string(), raw(text)))
     }
 
-    /// Cuts bytes into frames, read in the latest version: which one a connection spoke isn't known here. Behind a frame that can't be read the next
-    /// one is taken where its length says.
+    /// Cuts bytes into frames, whichever version each connection speaks: what its own doesn't take the standby refuses. Behind a frame
+    /// that can't be read the next one is taken where its length says.
     fn cut(name: String, bytes: Vec<u8>) -> Capture {
         let (mut frames, mut at) = (Vec::new(), 0);
         while at < bytes.len() {

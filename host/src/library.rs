@@ -3,9 +3,6 @@
 /// The version of the header that these declarations are of.
 pub const VERSION: u32 = 4;
 
-/// The latest version of the protocol, which takes every stamp.
-pub const LATEST: u16 = 2;
-
 #[repr(C)]
 #[derive(Clone, Copy, Default)]
 pub struct Replica {
@@ -14,6 +11,16 @@ pub struct Replica {
     pub promoted: u8,
     pub checked: u8,
     pub version2: u8,
+}
+
+/// The protocol's newest version: what it reads is all that any version reads.
+pub const LATEST: u16 = 2;
+
+impl Replica {
+    /// The version that the connection speaks.
+    pub fn version(&self) -> u16 {
+        if self.version2 == 0 { 1 } else { LATEST }
+    }
 }
 
 #[repr(C)]

@@ -99,20 +99,11 @@ impl Standby {
         over!(self, wz_on_frame, frame.as_ptr(), frame.len())
     }
 
-    /// An answer's bytes, none for a refusal.
+    /// The last answer's bytes, in the version that its call left; none for a refusal.
     pub fn reply(&self, answer: Answer) -> Vec<u8> {
         let mut out = [0; 143];
-        let version = if self.counters.version2 == 0 { 1 } else { LATEST };
-        let code = unsafe {
-            wz_answer(
-                answer,
-                self.bytes.as_ptr(),
-                self.bytes.len(),
-                out.as_mut_ptr(),
-                out.len(),
-                version,
-            )
-        };
+        let (bytes, version) = (&self.bytes, self.counters.version());
+        let code = unsafe { wz_answer(answer, bytes.as_ptr(), bytes.len(), out.as_mut_ptr(), out.len(), version) };
         out[..count(code).unwrap_or(0)].to_vec()
     }
 
