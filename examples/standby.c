@@ -37,7 +37,7 @@ static const uint8_t *text(const uint8_t *from, char *to) {
 
 static void show_session(size_t place) {
     uint8_t told[WZ_SESSION];
-    char key[4][33], stamp[22], marks[65];
+    char key[4][33], stamp[WZ_STAMP + 1], marks[65];
     if (!WZ_OK(wz_session(STORE, told, sizeof told, S, C, M, place, UINT64_MAX))) return;
     const uint8_t *next = told + 2;
     for (int i = 0; i < 4; i++) next = text(next, key[i]);
@@ -67,6 +67,9 @@ static void resend(const char *begin, const char *sender, const char *target, ui
 
 static const char *const kinds[] = { "none", "Hello", "Welcome", "Bind", "Batch", "Ack", "Nack", "Bound", "Checked" };
 
+/* The version that the connection speaks: 1 until a Hello is accepted, then that Hello's. */
+static uint16_t version(void) { return counters.version2 ? 2 : 1; }
+
 /* Takes one whole frame and shows what a host would send back; 0 if the connection must end. */
 static int answer(const uint8_t *frame, size_t len) {
     uint8_t out[WZ_ANSWER];
@@ -75,7 +78,7 @@ static int answer(const uint8_t *frame, size_t len) {
         printf("%s: refused, %u (docs/REFUSALS.md); the connection ends\n", kinds[frame[4]], given.refusal);
         return 0;
     }
-    size_t count = WZ_COUNT(wz_answer(given, bytes, sizeof bytes, out, sizeof out));
+    size_t count = WZ_COUNT(wz_answer(given, bytes, sizeof bytes, out, sizeof out, version()));
     printf("%s: %s ", kinds[frame[4]], kinds[given.kind]);
     for (size_t i = 0; i < count; i++) printf("%02x", out[i]);
     putchar('\n');
@@ -91,7 +94,7 @@ static void connection(int stream) {
         size_t at = 0;
         uint64_t code = WZ_MORE;
         have += (size_t)got;
-        while (at < have && (code = wz_read(buffer + at, have - at), WZ_OK(code))) {
+        while (at < have && (code = wz_read(buffer + at, have - at, version()), WZ_OK(code))) {
             if (!answer(buffer + at, WZ_COUNT(code))) goto ended;
             at += WZ_COUNT(code);
         }

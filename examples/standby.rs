@@ -6,7 +6,7 @@
 //! The records and functions are those of include/wizhdulet.h, in its order.
 use std::io::Read;
 #[repr(C)] #[derive(Clone, Copy, Default)]
-struct Replica { epoch: u64, connections: u64, promoted: u8, checked: u8 }
+struct Replica { epoch: u64, connections: u64, promoted: u8, checked: u8, version2: u8 }
 #[repr(C)] #[derive(Clone, Copy, Default)]
 struct Bound { used: u8, handle: u32, place: usize, commit_no: u64, held_len: usize, held_bytes: u64 }
 #[repr(C)] #[derive(Clone, Copy)]
@@ -32,8 +32,8 @@ unsafe extern "C" {
         holds: *mut u8, holds_len: usize, connection: u64, settings: Settings) -> Answer;
     fn wz_promote(counters: &mut Replica, row: *mut Bound, row_len: usize, words: *mut u64, words_len: usize, bytes: *mut u8, bytes_len: usize,
         holds: *mut u8, holds_len: usize, settings: Settings) -> Answer;
-    fn wz_answer(answer: Answer, bytes: *const u8, bytes_len: usize, out: *mut u8, out_len: usize) -> u64;
-    fn wz_read(frame: *const u8, frame_len: usize) -> u64;
+    fn wz_answer(answer: Answer, bytes: *const u8, bytes_len: usize, out: *mut u8, out_len: usize, version: u16) -> u64;
+    fn wz_read(frame: *const u8, frame_len: usize, version: u16) -> u64;
     fn wz_session(words: *const u64, words_len: usize, bytes: *const u8, bytes_len: usize, out: *mut u8, out_len: usize, sessions: u32, c: u32, m: u32, place: usize, n: u64) -> u64;
     fn wz_find(words: *const u64, words_len: usize, bytes: *const u8, bytes_len: usize, begin: *const u8, begin_len: usize, sender: *const u8, sender_len: usize,
         target: *const u8, target_len: usize, suffix: *const u8, suffix_len: usize, sessions: u32, c: u32, m: u32) -> u64;
@@ -64,7 +64,7 @@ impl Standby {
     fn new(shape: Shape, handles: usize, incarnation: u64, max_lag: u64) -> Result<Self, u8> {
         let (s, c, m) = (shape.places as usize, shape.bytes as usize, shape.messages as usize);
         let (words, bytes) = (vec![0; 66 + s * (16 + 2 * m)], vec![0; s * (224 + c)]);
-        let holds = vec![0; handles * (c + 22 * m + 122)];
+        let holds = vec![0; handles * (c + 22 * m + 131)];
         let mut made = Standby { counters: Replica::default(), row: vec![Bound::default(); handles], words, bytes, holds, settings: Settings { shape, incarnation, max_lag } };
         let (k, r, rl, w, wl, b, bl, _, _) = lent!(made);
         match unsafe { wz_store_make(w, wl, b, bl, shape) } {
@@ -73,12 +73,15 @@ impl Standby {
         }
     }
 
+    /// The version that the connection speaks: 1 until a Hello is accepted, then that Hello's.
+    fn version(&self) -> u16 { if self.counters.version2 == 0 { 1 } else { 2 } }
+
     /// The kind of the answer and its bytes, or the refusal.
     fn on_frame(&mut self, frame: &[u8]) -> Result<(u8, Vec<u8>), u8> {
         let (k, r, rl, w, wl, b, bl, h, hl) = lent!(self);
         let answer = unsafe { wz_on_frame(k, r, rl, w, wl, b, bl, h, hl, frame.as_ptr(), frame.len(), self.settings) };
-        let mut out = vec![0; 134];
-        let written = count(unsafe { wz_answer(answer, b, bl, out.as_mut_ptr(), out.len()) })?;
+        let mut out = vec![0; 143];
+        let written = count(unsafe { wz_answer(answer, b, bl, out.as_mut_ptr(), out.len(), self.version()) })?;
         out.truncate(written);
         Ok((answer.kind, out))
     }
@@ -97,7 +100,7 @@ impl Standby {
     /// The session at a place, as wz_session writes it.
     fn session(&self, place: usize) -> Result<Vec<u8>, u8> {
         let Shape { places, bytes, messages } = self.settings.shape;
-        let mut out = vec![0; 271];
+        let mut out = vec![0; 280];
         let code = unsafe { wz_session(self.words.as_ptr(), self.words.len(), self.bytes.as_ptr(), self.bytes.len(), out.as_mut_ptr(), out.len(), places, bytes, messages, place, u64::MAX) };
         out.truncate(count(code)?);
         Ok(out)
@@ -142,12 +145,12 @@ fn show_session(told: &[u8]) {
 const KINDS: [&str; 9] = ["none", "Hello", "Welcome", "Bind", "Batch", "Ack", "Nack", "Bound", "Checked"];
 
 fn main() {
-    assert_eq!(unsafe { wz_version() }, 3, "these declarations are those of version 0.3");
+    assert_eq!(unsafe { wz_version() }, 4, "these declarations are those of version 0.4");
     let mut standby = Standby::new(Shape { places: 4, bytes: 4096, messages: 64 }, 4, 7, 0).expect("the areas fit the settings");
     let mut stream = Vec::new();
     std::io::stdin().read_to_end(&mut stream).expect("standard input is read");
     let mut left = &stream[..];
-    while let Ok(len @ 1..) = count(unsafe { wz_read(left.as_ptr(), left.len()) }) {
+    while let Ok(len @ 1..) = count(unsafe { wz_read(left.as_ptr(), left.len(), standby.version()) }) {
         let frame = take(&mut left, len);
         match standby.on_frame(frame) {
             Ok((kind, out)) => println!("{}: {} {}", KINDS[frame[4] as usize], KINDS[kind as usize], out.iter().map(|byte| format!("{byte:02x}")).collect::<String>()),

@@ -28,12 +28,16 @@ extern "C" {
 
 /* ---- Version: that of the release, VERSION. Before 1.0 the minor is raised with every record and signature that changes, from 1.0 on the major. */
 #define WZ_VERSION_MAJOR 0
-#define WZ_VERSION_MINOR 3
+#define WZ_VERSION_MINOR 4
 #define WZ_VERSION_PATCH 0
 /* Both as one number, as wz_version tells them. */
 #define WZ_VERSION (WZ_VERSION_MAJOR * 65536 + WZ_VERSION_MINOR)
-/* The version that a Hello names. */
-#define WZ_PROTOCOL 1
+/* The versions of the protocol: a Hello names one, and reading, writing and sending are handed one (11 for any other). In the first a stamp has 0 or 3 digits after
+   the point, in the latest also 6, 9 or 12. */
+#define WZ_PROTOCOL_FIRST 1
+#define WZ_PROTOCOL_LATEST 2
+/* What a connection speaks, by the standby's counters: the first until a Hello is accepted, then that Hello's, past a drop too. */
+#define WZ_PROTOCOL_OF(counters) ((uint16_t)((counters).version2 ? WZ_PROTOCOL_LATEST : WZ_PROTOCOL_FIRST))
 
 /* ---- How much memory. S sessions, C message bytes and M messages of each. */
 #define WZ_MAX_C 33554432
@@ -41,14 +45,14 @@ extern "C" {
 /* The store, in words of 8 bytes and in bytes. */
 #define WZ_WORDS(s, m) (66 + (size_t)(s) * (16 + 2 * (size_t)(m)))
 #define WZ_BYTES(s, c) ((size_t)(s) * (224 + (size_t)(c)))
-/* The hold areas of a row of so many handles: each takes any session sent whole. */
-#define WZ_HOLDS(handles, c, m) ((size_t)(handles) * ((size_t)(c) + 22 * (size_t)(m) + 122))
+/* The hold areas of a row of so many handles: each takes any session sent whole. Where no stamp has more than 3 digits after the point, 122 do for 131. */
+#define WZ_HOLDS(handles, c, m) ((size_t)(handles) * ((size_t)(c) + 22 * (size_t)(m) + 131))
 /* The longest frame that there is, in bytes: one never takes more of a stream. */
 #define WZ_MAX_FRAME 67108868
 /* Output: any frame of a whole sending, any answer of a standby, any session of wz_session, in bytes. */
-#define WZ_FRAME(c, m) ((size_t)(c) + 22 * (size_t)(m) + 156)
-#define WZ_ANSWER 134
-#define WZ_SESSION 271
+#define WZ_FRAME(c, m) ((size_t)(c) + 22 * (size_t)(m) + 165)
+#define WZ_ANSWER 143
+#define WZ_SESSION 280
 /* The longest stamp, in bytes. */
 #define WZ_STAMP 30
 /* Any text for a screen, in bytes. */
@@ -114,7 +118,7 @@ enum wz_refusal {
     WZ_REFUSED_NO_ROOM = 9,        /* the output area is too short */
     /* taking one */
     WZ_REFUSED_PROMOTED = 10,      /* the standby has taken over */
-    WZ_REFUSED_BAD_VERSION = 11,   /* of a Hello */
+    WZ_REFUSED_BAD_VERSION = 11,   /* of a Hello, or handed in: neither 1 nor 2 */
     WZ_REFUSED_KINDS_LISTED = 12,  /* a Hello lists kinds of application record */
     WZ_REFUSED_APP_RECORDS = 13,   /* a Batch has application records */
     WZ_REFUSED_UNBOUND = 14,       /* a Batch on a handle without a Bind */
@@ -138,6 +142,8 @@ enum wz_refusal {
     WZ_REFUSED_FALSE_LENGTH_OR_SUM = 29,
     WZ_REFUSED_NUMBER_NOT_RISING = 30,
     WZ_REFUSED_TIME_FALLS = 31,
+    /* a Bind, a sending */
+    WZ_REFUSED_LONG_STAMP = 32,    /* the session's stamp has more than 3 digits after the point, which version 1 doesn't take */
     /* stamps as numbers */
     WZ_REFUSED_STAMP_WITHOUT_NUMBER = 33, /* a year before 1970 or a second 60 */
     WZ_REFUSED_NUMBER_WITHOUT_STAMP = 34, /* past 31 December 9999, or a remainder too large */
@@ -153,10 +159,10 @@ enum wz_refusal {
 
 /* ---- Records. Any content may be handed in; 0 everywhere is a new one. */
 
-/* The counters of a standby. `connections` is the number of the current connection. */
+/* The counters of a standby. `connections` is the number of the current connection; `version2` says which version it speaks (WZ_PROTOCOL_OF). */
 typedef struct wz_replica_t {
     uint64_t epoch, connections;
-    uint8_t promoted, checked;
+    uint8_t promoted, checked, version2;
 } wz_replica_t;
 
 /* A handle that is bound to a session, or a free record. A session has at most one handle: a row of as many records as the store has places is never too short. */
@@ -264,7 +270,7 @@ uint32_t wz_version(void);
 wz_answer_t wz_standby_make(wz_replica_t *counters, wz_bound_t *row, size_t row_len, uint64_t *words, size_t words_len, const uint8_t *bytes, size_t bytes_len,
     wz_settings_t settings);
 
-/* Takes one whole frame and runs the pending commits. 1 to 7, 10 to 21, 25, 26. */
+/* Takes one whole frame and runs the pending commits. 1 to 7, 10 to 21, 25, 26, 32. */
 wz_answer_t wz_on_frame(wz_replica_t *counters, wz_bound_t *row, size_t row_len, uint64_t *words, size_t words_len, uint8_t *bytes, size_t bytes_len,
     uint8_t *holds, size_t holds_len, const uint8_t *frame, size_t frame_len, wz_settings_t settings);
 
@@ -286,16 +292,17 @@ wz_answer_t wz_promote(wz_replica_t *counters, wz_bound_t *row, size_t row_len, 
 wz_answer_t wz_promote_unchecked(wz_replica_t *counters, wz_bound_t *row, size_t row_len, uint64_t *words, size_t words_len, uint8_t *bytes, size_t bytes_len,
     uint8_t *holds, size_t holds_len, wz_settings_t settings);
 
-/* The bytes of an answer's frame, none for done; `bytes` is the store's. Its own refusal; 8 for a record that no call answers; 9. */
-uint64_t wz_answer(wz_answer_t answer, const uint8_t *bytes, size_t bytes_len, uint8_t *out, size_t out_len);
+/* The bytes of an answer's frame, none for done; `bytes` is the store's, `version` what the connection speaks after the call (WZ_PROTOCOL_OF). 11; the answer's own
+   refusal; 8 for a record that no call answers, and in version 1 for a long stamp; 9. */
+uint64_t wz_answer(wz_answer_t answer, const uint8_t *bytes, size_t bytes_len, uint8_t *out, size_t out_len, uint16_t version);
 
-/* ---- Frames. */
+/* ---- Frames, in a version. */
 
-/* How many bytes the first frame of a stream takes, or WZ_MORE. 1 to 7. */
-uint64_t wz_read(const uint8_t *frame, size_t frame_len);
+/* How many bytes the first frame of a stream takes, or WZ_MORE. 11, 1 to 7. */
+uint64_t wz_read(const uint8_t *frame, size_t frame_len, uint16_t version);
 
-/* The same, and the frame is written again. 1 to 7, 9. */
-uint64_t wz_frame(const uint8_t *frame, size_t frame_len, uint8_t *out, size_t out_len);
+/* The same, and the frame is written again. 11, 1 to 7, 9. */
+uint64_t wz_frame(const uint8_t *frame, size_t frame_len, uint8_t *out, size_t out_len, uint16_t version);
 
 /* ---- Sessions of a store by their place, from 0 to words[0] - 1. */
 
@@ -312,9 +319,10 @@ uint64_t wz_find(const uint64_t *words, size_t words_len, const uint8_t *bytes, 
 uint64_t wz_message(const uint64_t *words, size_t words_len, const uint8_t *bytes, size_t bytes_len, uint8_t *out, size_t out_len, uint32_t sessions, uint32_t c,
     uint32_t m, size_t place, uint64_t number);
 
-/* The next frame of sending a session whole, until WZ_LAST; `sending` has the last commit number and three zeros at first. 9, 24, 25. */
+/* The next frame of sending a session whole in a version, until WZ_LAST; `sending` has the last commit number and three zeros at first. 25, 11, 32, 24; later 25, 11, 32
+   (only where the frame to be sent has the stamp, the first), 9. */
 uint64_t wz_send(const uint64_t *words, size_t words_len, const uint8_t *bytes, size_t bytes_len, uint64_t *sending, size_t sending_len, uint8_t *out, size_t out_len,
-    uint32_t sessions, uint32_t c, uint32_t m, size_t place, uint32_t handle, uint64_t epoch);
+    uint32_t sessions, uint32_t c, uint32_t m, size_t place, uint32_t handle, uint64_t epoch, uint16_t version);
 
 /* The stored messages that lie in some range; a range is first and last, an entry number, set of ranges, two parts of the byte area. 25, 35, 36. */
 wz_listed_t wz_resend(const uint64_t *words, size_t words_len, const uint8_t *bytes, size_t bytes_len, const uint64_t *ranges, size_t ranges_len, uint64_t *entries,
@@ -424,7 +432,8 @@ uint64_t wz_choose(const uint64_t *copies, size_t copies_len, const uint64_t *w0
 #endif
 #define WZ_AT(type, field, offset) (offsetof(type, field) == (offset))
 WZ_LAYOUT(machine, sizeof(void *) == 8 && sizeof(size_t) == 8);
-WZ_LAYOUT(replica, sizeof(wz_replica_t) == 24 && WZ_AT(wz_replica_t, connections, 8) && WZ_AT(wz_replica_t, promoted, 16) && WZ_AT(wz_replica_t, checked, 17));
+WZ_LAYOUT(replica, sizeof(wz_replica_t) == 24 && WZ_AT(wz_replica_t, connections, 8) && WZ_AT(wz_replica_t, promoted, 16) && WZ_AT(wz_replica_t, checked, 17)
+    && WZ_AT(wz_replica_t, version2, 18));
 WZ_LAYOUT(bound, sizeof(wz_bound_t) == 40 && WZ_AT(wz_bound_t, handle, 4) && WZ_AT(wz_bound_t, place, 8) && WZ_AT(wz_bound_t, commit_no, 16)
     && WZ_AT(wz_bound_t, held_len, 24) && WZ_AT(wz_bound_t, held_bytes, 32));
 WZ_LAYOUT(shape, sizeof(wz_shape_t) == 12 && WZ_AT(wz_shape_t, bytes, 4) && WZ_AT(wz_shape_t, messages, 8));

@@ -137,6 +137,25 @@ def audits() -> None:
     holds(done.returncode == 1 and b"missing" in done.stdout, f"an answer is missing: {done}")
 
 
+def versions() -> None:
+    """A line in both versions: the answers that the Rust gave to what it took are right ones. What is refused changes nothing but the durable mark."""
+    asked, answered = ((ROOT / f"oracle/recorded/frames/11-versions.{end}").read_text().splitlines() for end in ("in", "out"))
+    taken = [(frame, answer) for frame, answer in zip(asked, answered) if not answer.startswith("R")]
+    (HERE / "versions.tmp").write_text("\n".join(frame for frame, _ in taken))
+    answers = "\n".join(answer for _, answer in taken)
+    done = run("audit", "versions.tmp", "-", input=answers.encode())
+    holds(done.returncode == 0, f"the recorded answers in both versions are right: {done}")
+    long = b"20261231-23:59:60.999999999999".hex()
+    done = run("audit", "versions.tmp", "-", input=answers.replace(long, long[:-2] + "38", 1).encode())
+    holds(long in answers and done.returncode == 1 and b"NOT THE SAME" in done.stdout, f"another digit in a stamp of 30 bytes: {done}")
+    done = run("show", "versions.tmp")
+    holds(b"20261115-12:00:00.123456" in done.stdout, f"a long stamp is shown: {done}")
+    # The whole list, and one refusal that depends on the version: a Bind of a session with a long stamp in version 1.
+    done = run("show", "-", input="\n".join(asked).encode())
+    holds(done.returncode == 1 and b"R 32" in done.stdout, f"32 is shown: {done}")
+    (HERE / "versions.tmp").unlink()
+
+
 def record_lines() -> None:
     """The frames of a recorded list before the first that is refused, and the Rust's answers."""
     asked, answered = ((ROOT / f"oracle/recorded/frames/09-life.{end}").read_text().split("\n") for end in ("in", "out"))
@@ -166,6 +185,7 @@ cuts()
 bits()
 drift()
 audits()
+versions()
 ends()
 for name in ("life.tmp", "answers.tmp"):
     (HERE / name).unlink()

@@ -5,7 +5,7 @@
 #include <stdlib.h>
 #include <string.h>
 
-struct counters { uint64_t epoch, connections; uint8_t promoted, checked; };
+struct counters { uint64_t epoch, connections; uint8_t promoted, checked, version2; };
 struct bound { uint8_t used; uint32_t handle; size_t place; uint64_t commit_no; size_t held_len; uint64_t held_bytes; };
 struct settings { uint32_t places, bytes, messages; uint64_t incarnation, max_lag; };
 struct span { size_t at; uint32_t len; };
@@ -21,7 +21,7 @@ extern struct answer disconnected_from(LENT, uint8_t *, size_t, uint64_t, struct
 extern struct answer promote(LENT, uint8_t *, size_t, struct settings);
 extern struct answer promote_unchecked(LENT, uint8_t *, size_t, struct settings);
 
-enum { S = 4, C = 256, M = 8, H = 4, CALLS = 7, FLAGS = 2 + H };
+enum { S = 4, C = 256, M = 8, H = 4, CALLS = 7, FLAGS = 3 + H };
 static const struct settings with = { S, C, M, 7, 0 };
 
 /* All that is lent. */
@@ -50,7 +50,7 @@ static struct answer call(int which, struct lent *l) {
 }
 
 static uint8_t *flag(struct lent *l, int i) {
-    return i == 0 ? &l->counters.promoted : i == 1 ? &l->counters.checked : &l->row[i - 2].used;
+    return i == 0 ? &l->counters.promoted : i == 1 ? &l->counters.checked : i == 2 ? &l->counters.version2 : &l->row[i - 3].used;
 }
 
 /* Field by field: between the fields any byte may stand. */

@@ -21,7 +21,7 @@ static void holds(int is, int line, const char *words) {
 }
 #define HOLDS(is) holds(is, __LINE__, #is)
 
-enum { S = 3, C = 1024, M = 16, H = 4, WORDS = 66 + S * (16 + 2 * M), BYTES = S * (224 + C), HOLDS_LEN = H * (C + 22 * M + 122) };
+enum { S = 3, C = 1024, M = 16, H = 4, WORDS = 66 + S * (16 + 2 * M), BYTES = S * (224 + C), HOLDS_LEN = H * (C + 22 * M + 131) };
 static const wz_shape_t shape = { S, C, M };
 static const wz_settings_t settings = { { S, C, M }, 77, 5 };
 struct copy {
@@ -42,7 +42,8 @@ static void number(uint64_t value, int bytes) { while (bytes-- > 0) { frame[len+
 static void text(const char *t) { number(strlen(t), 4); memcpy(frame + len, t, strlen(t)); len += strlen(t); }
 static void begin(int kind) { len = 4; number((uint64_t)kind, 1); }
 static void end(void) { size_t n = len; len = 0; number(n - 4, 4); len = n; }
-static void hello(uint64_t epoch) { begin(WZ_KIND_HELLO); number(WZ_PROTOCOL, 2); number(epoch, 8); text("node"); number(0, 4); end(); }
+static void hello_in(uint16_t version, uint64_t epoch) { begin(WZ_KIND_HELLO); number(version, 2); number(epoch, 8); text("node"); number(0, 4); end(); }
+static void hello(uint64_t epoch) { hello_in(1, epoch); }
 static void bind(uint32_t handle, uint64_t lag, const char *target) {
     begin(WZ_KIND_BIND); number(handle, 4); number(5, 8); number(lag, 8); text("FIX.4.4"); text("BROKER"); text(target); text(""); end();
 }
@@ -50,6 +51,8 @@ static void batch(uint32_t handle, uint64_t no, int part, uint32_t changes) {
     begin(WZ_KIND_BATCH); number(handle, 4); number(5, 8); number(no, 8); number((uint64_t)part, 1); number(changes, 4);
 }
 static wz_answer_t give(struct copy *x) { return wz_on_frame(LENT(*x), frame, len, settings); }
+/* The version that a standby's connection speaks. */
+static uint16_t version(const struct copy *x) { return x->counters.version2 ? 2 : 1; }
 
 static void stores(void) {
     struct copy *x = &a;
@@ -97,14 +100,14 @@ static void rows(void) {
 
 static void standby(void) {
     hello(5);
-    HOLDS(wz_read(frame, len - 1) == WZ_MORE);
-    HOLDS(WZ_OK(wz_read(frame, len)) && WZ_COUNT(wz_read(frame, len)) == len);
-    HOLDS(WZ_COUNT(wz_frame(frame, len, out, sizeof out)) == len && !memcmp(frame, out, len));
+    HOLDS(wz_read(frame, len - 1, 1) == WZ_MORE);
+    HOLDS(WZ_OK(wz_read(frame, len, 1)) && WZ_COUNT(wz_read(frame, len, 1)) == len);
+    HOLDS(WZ_COUNT(wz_frame(frame, len, out, sizeof out, 1)) == len && !memcmp(frame, out, len));
     wz_answer_t r = give(&a);
     HOLDS(r.refusal == 0 && r.kind == WZ_KIND_WELCOME && r.epoch == 5 && r.incarnation == 77);
-    HOLDS(a.counters.epoch == 5 && a.counters.connections == 1 && !a.counters.promoted && !a.counters.checked);
-    HOLDS(WZ_COUNT(wz_answer(r, a.bytes, BYTES, out, sizeof out)) == 21 && out[4] == WZ_KIND_WELCOME && out[5] == 5 && out[13] == 77);
-    HOLDS(WZ_REFUSAL(wz_answer(r, a.bytes, BYTES, out, 20)) == WZ_REFUSED_NO_ROOM);
+    HOLDS(a.counters.epoch == 5 && a.counters.connections == 1 && !a.counters.promoted && !a.counters.checked && !a.counters.version2);
+    HOLDS(WZ_COUNT(wz_answer(r, a.bytes, BYTES, out, sizeof out, 1)) == 21 && out[4] == WZ_KIND_WELCOME && out[5] == 5 && out[13] == 77);
+    HOLDS(WZ_REFUSAL(wz_answer(r, a.bytes, BYTES, out, 20, 1)) == WZ_REFUSED_NO_ROOM);
     bind(0x01020304, 6, "VENUE");
     r = give(&a);
     HOLDS(r.kind == WZ_KIND_NACK && r.reason == WZ_REASON_LAG && r.handle == 0x01020304);
@@ -139,10 +142,10 @@ static void standby(void) {
     HOLDS(give(&a).kind == WZ_KIND_ACK && a.row[1].held_len == 18 && a.row[1].held_bytes == 4);
     batch(9, 2, WZ_PART_COMMIT, 0); number(0, 4); end();
     r = give(&a);
-    HOLDS(r.refusal == WZ_REFUSED_UNBOUND && r.kind == WZ_KIND_NONE && WZ_REFUSAL(wz_answer(r, a.bytes, BYTES, out, sizeof out)) == WZ_REFUSED_UNBOUND);
+    HOLDS(r.refusal == WZ_REFUSED_UNBOUND && r.kind == WZ_KIND_NONE && WZ_REFUSAL(wz_answer(r, a.bytes, BYTES, out, sizeof out, 1)) == WZ_REFUSED_UNBOUND);
     rows();
     frame[4] = 99;
-    HOLDS(WZ_REFUSAL(wz_read(frame, len)) == WZ_REFUSED_UNKNOWN_BYTE && WZ_DETAIL(wz_read(frame, len)) == 99);
+    HOLDS(WZ_REFUSAL(wz_read(frame, len, 1)) == WZ_REFUSED_UNKNOWN_BYTE && WZ_DETAIL(wz_read(frame, len, 1)) == 99);
     rows();
 }
 
@@ -151,9 +154,9 @@ static void whole(void) {
     uint64_t sending[WZ_SENDING] = { 0 }, code;
     hello(5); HOLDS(give(&b).kind == WZ_KIND_WELCOME);
     bind(9, 0, "DARKPOOL"); HOLDS(give(&b).kind == WZ_KIND_BOUND);
-    HOLDS(WZ_REFUSAL(wz_send(STORE(a), sending, WZ_SENDING - 1, out, sizeof out, S, C, M, 1, 9, 5)) == WZ_REFUSED_RULES_BROKEN);
+    HOLDS(WZ_REFUSAL(wz_send(STORE(a), sending, WZ_SENDING - 1, out, sizeof out, S, C, M, 1, 9, 5, 1)) == WZ_REFUSED_RULES_BROKEN);
     HOLDS(sizeof frame >= WZ_FRAME(C, M));
-    while (code = wz_send(STORE(a), sending, WZ_SENDING, frame, WZ_FRAME(C, M), S, C, M, 1, 9, 5), code != WZ_LAST) {
+    while (code = wz_send(STORE(a), sending, WZ_SENDING, frame, WZ_FRAME(C, M), S, C, M, 1, 9, 5, 1), code != WZ_LAST) {
         if (!WZ_OK(code)) { HOLDS(!"a refused sending"); return; }
         len = WZ_COUNT(code);
         HOLDS(give(&b).kind == WZ_KIND_ACK);
@@ -222,25 +225,114 @@ static void lengths(void) {
     for (uint64_t i = 1; i <= M; i++)
         HOLDS(wz_store_record_none(STORE(a), shape, 0, 2 * i - 1) == 0 && wz_store_record(STORE(a), shape, 0, message, C / M) == 0);
     HOLDS(wz_store_record_none(STORE(a), shape, 0, 2 * M + 1) == 0 && wz_store_count(STORE(a), shape, 0).value == M);
-    HOLDS(wz_store_set_next_incoming_in_flight(STORE(a), shape, 0, 5, 4) == 0 && wz_store_set_created_at(STORE(a), shape, 0, TEXT("20261116-12:00:00.000")) == 0);
+    HOLDS(wz_store_set_next_incoming_in_flight(STORE(a), shape, 0, 5, 4) == 0 && wz_store_set_created_at(STORE(a), shape, 0, TEXT("20261116-12:00:00.123456789012")) == 0);
     HOLDS(wz_store_set_marks(STORE(a), shape, 0, TEXT(marks)) == 0);
     HOLDS(WZ_COUNT(wz_session(STORE(a), out, WZ_SESSION, S, C, M, 0, 5)) == WZ_SESSION);
     HOLDS(WZ_REFUSAL(wz_session(STORE(a), out, WZ_SESSION - 1, S, C, M, 0, 5)) == WZ_REFUSED_NO_ROOM);
-    HOLDS(WZ_REFUSAL(wz_send(STORE(a), sending, WZ_SENDING, out, WZ_FRAME(C, M) - 1, S, C, M, 0, 9, 5)) == WZ_REFUSED_NO_ROOM);
-    HOLDS(WZ_COUNT(wz_send(STORE(a), sending, WZ_SENDING, out, WZ_FRAME(C, M), S, C, M, 0, 9, 5)) == WZ_FRAME(C, M));
+    HOLDS(WZ_REFUSAL(wz_send(STORE(a), sending, WZ_SENDING, out, WZ_FRAME(C, M) - 1, S, C, M, 0, 9, 5, 2)) == WZ_REFUSED_NO_ROOM);
+    HOLDS(WZ_COUNT(wz_send(STORE(a), sending, WZ_SENDING, out, WZ_FRAME(C, M), S, C, M, 0, 9, 5, 2)) == WZ_FRAME(C, M));
     HOLDS(wz_store_make(STORE(b), shape) == 0 && wz_standby_make(&b.counters, b.row, H, STORE(b), settings).refusal == 0);
+    hello_in(2, 5); HOLDS(give(&b).kind == WZ_KIND_WELCOME);
     begin(WZ_KIND_BIND); number(9, 4); number(5, 8); number(0, 8); text(key); text(key); text(key); text(key); end();
     HOLDS(give(&b).kind == WZ_KIND_BOUND);
     HOLDS(wz_on_frame(&b.counters, b.row, H, STORE(b), b.holds, WZ_HOLDS(H, C, M) - 1, out, WZ_FRAME(C, M), settings).refusal == WZ_REFUSED_HOLD_AREA_FULL);
     HOLDS(wz_on_frame(&b.counters, b.row, H, STORE(b), b.holds, WZ_HOLDS(H, C, M), out, WZ_FRAME(C, M), settings).kind == WZ_KIND_ACK);
     wz_answer_t full = give(&b);
-    HOLDS(WZ_COUNT(wz_answer(full, b.bytes, BYTES, out, WZ_ANSWER)) == WZ_ANSWER);
-    HOLDS(WZ_REFUSAL(wz_answer(full, b.bytes, BYTES, out, WZ_ANSWER - 1)) == WZ_REFUSED_NO_ROOM);
+    HOLDS(WZ_COUNT(wz_answer(full, b.bytes, BYTES, out, WZ_ANSWER, version(&b))) == WZ_ANSWER);
+    HOLDS(WZ_REFUSAL(wz_answer(full, b.bytes, BYTES, out, WZ_ANSWER - 1, version(&b))) == WZ_REFUSED_NO_ROOM);
     memset(frame, 0, sizeof frame);
     frame[3] = 4;
-    HOLDS(WZ_MAX_FRAME == 4 + 0x4000000 && wz_read(frame, 4) == WZ_MORE);
+    HOLDS(WZ_MAX_FRAME == 4 + 0x4000000 && wz_read(frame, 4, 1) == WZ_MORE);
     frame[0] = 1;
-    HOLDS(WZ_REFUSAL(wz_read(frame, 4)) == WZ_REFUSED_TOO_LONG && WZ_DETAIL(wz_read(frame, 4)) == 0x4000001);
+    HOLDS(WZ_REFUSAL(wz_read(frame, 4, 1)) == WZ_REFUSED_TOO_LONG && WZ_DETAIL(wz_read(frame, 4, 1)) == 0x4000001);
+}
+
+static const char longest[] = "20261116-12:00:00.123456789012";
+static void stamped(uint32_t handle, uint64_t no, const char *stamp) { batch(handle, no, WZ_PART_COMMIT, 1); number(WZ_CHANGE_SET_CREATED_AT, 1); text(stamp); number(0, 4); end(); }
+static int untouched(void) { for (size_t i = 0; i < sizeof out; i++) if (out[i] != 0xa5) return 0; return 1; }
+static uint64_t send(uint64_t last, uint64_t begun, uint64_t from, uint64_t done, uint64_t place, uint16_t speaks) {
+    uint64_t sending[] = { last, begun, from, done }, before[] = { last, begun, from, done };
+    uint64_t code = wz_send(STORE(b), sending, WZ_SENDING, out, 40, S, C, M, place, 9, 5, speaks);
+    HOLDS(!memcmp(sending, before, sizeof before));
+    return code;
+}
+
+/* The protocol's two versions, and numbers that are none: 11, with all areas as they were. */
+static void versions(void) {
+    static const uint16_t none[] = { 0, 3, 258, 65535 };
+    static struct copy left;
+    memset(out, 0xa5, sizeof out);
+    stamped(9, 1, longest);
+    HOLDS(WZ_COUNT(wz_read(frame, len, 2)) == len && WZ_REFUSAL(wz_read(frame, len, 1)) == WZ_REFUSED_BAD_TIMESTAMP);
+    HOLDS(WZ_REFUSAL(wz_frame(frame, len, out, sizeof out, 1)) == WZ_REFUSED_BAD_TIMESTAMP && untouched());
+    for (int i = 0; i < 4; i++) {
+        HOLDS(WZ_REFUSAL(wz_read(frame, len, none[i])) == WZ_REFUSED_BAD_VERSION && WZ_REFUSAL(wz_read(frame, 0, none[i])) == WZ_REFUSED_BAD_VERSION);
+        HOLDS(WZ_REFUSAL(wz_frame(frame, len, out, sizeof out, none[i])) == WZ_REFUSED_BAD_VERSION && WZ_REFUSAL(wz_frame(frame, len, out, 0, none[i])) == WZ_REFUSED_BAD_VERSION && untouched());
+    }
+    HOLDS(WZ_COUNT(wz_frame(frame, len, out, sizeof out, 2)) == len && !memcmp(frame, out, len));
+    memset(out, 0xa5, sizeof out);
+
+    /* Version 1 until a Hello is accepted, then that Hello's: not that of a refused one, nor of a lower epoch; a drop keeps it. */
+    HOLDS(wz_store_make(STORE(b), shape) == 0 && wz_standby_make(&b.counters, b.row, H, STORE(b), settings).refusal == 0 && version(&b) == 1);
+    bind(9, 5, "LONG"); HOLDS(give(&b).kind == WZ_KIND_BOUND);
+    stamped(9, 1, longest); HOLDS(give(&b).refusal == WZ_REFUSED_BAD_TIMESTAMP);
+    hello_in(3, 5); HOLDS(give(&b).refusal == WZ_REFUSED_BAD_VERSION && version(&b) == 1);
+    hello_in(0, 5); HOLDS(give(&b).refusal == WZ_REFUSED_BAD_VERSION && version(&b) == 1);
+    hello_in(2, 5); HOLDS(give(&b).kind == WZ_KIND_WELCOME && version(&b) == 2);
+    hello_in(1, 4); HOLDS(give(&b).kind == WZ_KIND_WELCOME && version(&b) == 2);
+    HOLDS(wz_disconnected_from(LENT(b), b.counters.connections, settings).refusal == 0 && version(&b) == 2);
+
+    /* A byte of any value but 0 is version 2, and what a call doesn't change stays. */
+    bind(9, 5, "LONG"); HOLDS(give(&b).kind == WZ_KIND_BOUND);
+    stamped(9, 1, longest);
+    for (int byte = 0; byte < 256; byte++) {
+        left = b;
+        left.counters.version2 = (uint8_t)byte;
+        wz_answer_t r = give(&left);
+        HOLDS(byte ? r.kind == WZ_KIND_ACK && version(&left) == 2 : r.refusal == WZ_REFUSED_BAD_TIMESTAMP && version(&left) == 1);
+    }
+    HOLDS(give(&b).kind == WZ_KIND_ACK);
+
+    /* A long stamp is told in version 2, is 8 in version 1, and never shortened. */
+    bind(9, 5, "LONG");
+    wz_answer_t bound = give(&b);
+    HOLDS(bound.kind == WZ_KIND_BOUND && bound.summary.created_at.len == 30 && !memcmp(b.bytes + bound.summary.created_at.at, longest, 30));
+    HOLDS(WZ_REFUSAL(wz_answer(bound, b.bytes, BYTES, out, sizeof out, 1)) == WZ_REFUSED_UNREADABLE && untouched());
+    for (int i = 0; i < 4; i++)
+        HOLDS(WZ_REFUSAL(wz_answer(bound, b.bytes, BYTES, out, i % 2 ? 0 : sizeof out, none[i])) == WZ_REFUSED_BAD_VERSION && untouched());
+    HOLDS(WZ_COUNT(wz_answer(bound, b.bytes, BYTES, out, sizeof out, 2)) == WZ_ANSWER - 64 && !memcmp(out + 37, longest, 30));
+    memset(out, 0xa5, sizeof out);
+
+    /* A sending: 25, 11, 32, 24, then 9; 32 also at a later call whose frame has the stamp; done is done in both. Nothing is written. */
+    for (int i = 0; i < 4; i++) {
+        HOLDS(WZ_REFUSAL(send(UINT64_MAX, 0, 0, 0, 1, none[i])) == WZ_REFUSED_RULES_BROKEN && WZ_REFUSAL(send(UINT64_MAX, 1, 0, 0, 0, none[i])) == WZ_REFUSED_RULES_BROKEN);
+        HOLDS(WZ_REFUSAL(send(UINT64_MAX, 0, 0, 0, 0, none[i])) == WZ_REFUSED_BAD_VERSION && WZ_REFUSAL(send(0, 1, 0, 0, 0, none[i])) == WZ_REFUSED_BAD_VERSION);
+        HOLDS(WZ_REFUSAL(send(0, 1, 0, 1, 0, none[i])) == WZ_REFUSED_BAD_VERSION);
+    }
+    HOLDS(WZ_REFUSAL(send(UINT64_MAX, 0, 0, 0, 0, 1)) == WZ_REFUSED_LONG_STAMP && WZ_REFUSAL(send(UINT64_MAX, 0, 0, 0, 0, 2)) == WZ_REFUSED_NUMBERS_PAST);
+    HOLDS(WZ_REFUSAL(send(0, 0, 0, 0, 0, 1)) == WZ_REFUSED_LONG_STAMP && WZ_REFUSAL(send(0, 0, 0, 0, 0, 2)) == WZ_REFUSED_NO_ROOM);
+    HOLDS(WZ_REFUSAL(send(0, 1, 0, 0, 0, 1)) == WZ_REFUSED_LONG_STAMP && WZ_REFUSAL(send(0, 1, 0, 0, 0, 2)) == WZ_REFUSED_NO_ROOM);
+    HOLDS(WZ_REFUSAL(send(0, 1, 1, 0, 0, 1)) == WZ_REFUSED_NO_ROOM && send(0, 1, 0, 1, 0, 1) == WZ_LAST && send(0, 1, 0, 1, 0, 2) == WZ_LAST);
+    HOLDS(untouched());
+
+    /* Back to 1: Nack StaleEpoch, Nack Lag, 32, which changes nothing; 20 and 21 come later. A session that has no such stamp is bound. */
+    hello_in(1, 6); HOLDS(give(&b).kind == WZ_KIND_WELCOME && version(&b) == 1);
+    bind(9, 6, "LONG"); wz_answer_t r = give(&b); HOLDS(r.kind == WZ_KIND_NACK && r.reason == WZ_REASON_STALE_EPOCH);
+    hello_in(1, 5); HOLDS(give(&b).kind == WZ_KIND_WELCOME && version(&b) == 1);
+    b.counters.epoch = 5;
+    bind(9, 6, "LONG"); r = give(&b); HOLDS(r.kind == WZ_KIND_NACK && r.reason == WZ_REASON_LAG);
+    for (uint32_t i = 0; i < H; i++) b.row[i].used = 0;
+    for (uint32_t i = 1; i < S; i++) { bind(i, 5, i == 1 ? "SHORT" : "OTHER"); HOLDS(give(&b).kind == WZ_KIND_BOUND); }
+    left = b;
+    bind(9, 5, "LONG");
+    HOLDS(wz_on_frame(&b.counters, b.row, S - 1, STORE(b), b.holds, (S - 1) * (HOLDS_LEN / H), frame, len, settings).refusal == WZ_REFUSED_LONG_STAMP);
+    HOLDS(give(&b).refusal == WZ_REFUSED_LONG_STAMP && version(&b) == 1 && b.counters.epoch == 5 && b.counters.connections == left.counters.connections);
+    HOLDS(!memcmp(left.row, b.row, sizeof left.row) && !memcmp(left.words, b.words, sizeof left.words));
+    HOLDS(!memcmp(left.bytes, b.bytes, sizeof left.bytes) && !memcmp(left.holds, b.holds, sizeof left.holds));
+    bind(9, 5, "NEW"); HOLDS(give(&b).refusal == WZ_REFUSED_NO_SESSION_PLACE);
+    stamped(1, 1, "20261116-12:00:00.123456"); HOLDS(give(&b).refusal == WZ_REFUSED_BAD_TIMESTAMP);
+    stamped(1, 1, "20261116-12:00:00.123"); HOLDS(give(&b).kind == WZ_KIND_ACK);
+    HOLDS(wz_promote_unchecked(LENT(b), settings).refusal == 0 && version(&b) == 1);
 }
 
 static void active(void) {
@@ -289,6 +381,7 @@ int main(void) {
     whole();
     changes();
     lengths();
+    versions();
     active();
     stamps();
     HOLDS(own == 0);

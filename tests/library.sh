@@ -73,11 +73,22 @@ holds "the example writes what is recorded" diff examples/standby.out "$place/ou
 # What it answers is what the Rust answered, line by line.
 holds "its answers are the recorded ones" diff <(sed -n 's/^[A-Z][a-z]*: [A-Z][a-z]* //p; s/^[A-Z][a-z]*: refused, \([0-9]*\).*/R \1/p' "$place/out") "$list.out"
 
+# Both versions: the list's lines that aren't refused, which change nothing but the durable mark.
+versions=oracle/recorded/frames/11-versions
+paste -d' ' $versions.in $versions.out | grep -v ' R ' >"$place/taken"
+# shellcheck disable=SC2059
+printf "$(cut -d' ' -f1 "$place/taken" | tr -d '\n' | sed 's/../\\x&/g')" >"$place/both"
+"$place/standby" <"$place/both" >"$place/out-both"
+holds "its answers in both versions are the recorded ones" diff <(sed -n 's/^[A-Z][a-z]*: [A-Z][a-z]* //p' "$place/out-both") <(cut -d' ' -f2 "$place/taken")
+holds "it shows a stamp of six digits" grep -q "since 20261115-12:00:00.123456," "$place/out-both"
+
 # The same host in Rust.
 if command -v rustc >/dev/null; then
     holds "the example in Rust compiles without a warning" rustc -O --edition 2024 -D warnings examples/standby.rs -L target/installed/lib -o "$place/standby-rust"
     "$place/standby-rust" <"$place/stream" >"$place/out"
     holds "it writes the same" diff examples/standby.out "$place/out"
+    "$place/standby-rust" <"$place/both" >"$place/out"
+    holds "it writes the same in both versions" diff "$place/out-both" "$place/out"
 fi
 
 echo "library: $(wc -l <"$place/names") functions in the header and the archive, $failed tests failed"

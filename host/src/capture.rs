@@ -1,5 +1,5 @@
 //! Captures of the active's direction of the line: read, and cut into frames.
-use crate::library::wz_read;
+use crate::library::{LATEST, wz_read};
 use crate::standby::number;
 use crate::words::{Failure, grouped};
 use std::io::Read;
@@ -56,12 +56,13 @@ impl Capture {
         Ok(Capture::cut(name.to_string(), raw(text)))
     }
 
-    /// Cuts bytes into frames; behind a frame that can't be read the next one is taken where its length says.
+    /// Cuts bytes into frames, whichever version each connection speaks: what its own doesn't take the standby refuses. Behind a frame
+    /// that can't be read the next one is taken where its length says.
     fn cut(name: String, bytes: Vec<u8>) -> Capture {
         let (mut frames, mut at) = (Vec::new(), 0);
         while at < bytes.len() {
             let rest = &bytes[at..];
-            let code = unsafe { wz_read(rest.as_ptr(), rest.len()) };
+            let code = unsafe { wz_read(rest.as_ptr(), rest.len(), LATEST) };
             if code == 0 {
                 break;
             }

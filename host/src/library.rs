@@ -1,7 +1,7 @@
 //! The functions of include/wizhdulet.h that the console calls, and their records.
 
 /// The version of the header that these declarations are of.
-pub const VERSION: u32 = 3;
+pub const VERSION: u32 = 4;
 
 #[repr(C)]
 #[derive(Clone, Copy, Default)]
@@ -10,6 +10,17 @@ pub struct Replica {
     pub connections: u64,
     pub promoted: u8,
     pub checked: u8,
+    pub version2: u8,
+}
+
+/// The protocol's newest version: what it reads is all that any version reads.
+pub const LATEST: u16 = 2;
+
+impl Replica {
+    /// The version that the connection speaks.
+    pub fn version(&self) -> u16 {
+        if self.version2 == 0 { 1 } else { LATEST }
+    }
 }
 
 #[repr(C)]
@@ -83,7 +94,7 @@ pub struct Listed {
 #[link(name = "wizhdulet", kind = "static")]
 unsafe extern "C" {
     pub fn wz_version() -> u32;
-    pub fn wz_read(frame: *const u8, frame_len: usize) -> u64;
+    pub fn wz_read(frame: *const u8, frame_len: usize, version: u16) -> u64;
     pub fn wz_store_make(words: *mut u64, words_len: usize, bytes: *const u8, bytes_len: usize, shape: Shape) -> u8;
     pub fn wz_standby_make(counters: &mut Replica, row: *mut Bound, row_len: usize, words: *mut u64, words_len: usize, bytes: *const u8,
         bytes_len: usize, settings: Settings) -> Answer;
@@ -95,7 +106,7 @@ unsafe extern "C" {
         bytes_len: usize, holds: *mut u8, holds_len: usize, settings: Settings) -> Answer;
     pub fn wz_promote_unchecked(counters: &mut Replica, row: *mut Bound, row_len: usize, words: *mut u64, words_len: usize, bytes: *mut u8,
         bytes_len: usize, holds: *mut u8, holds_len: usize, settings: Settings) -> Answer;
-    pub fn wz_answer(answer: Answer, bytes: *const u8, bytes_len: usize, out: *mut u8, out_len: usize) -> u64;
+    pub fn wz_answer(answer: Answer, bytes: *const u8, bytes_len: usize, out: *mut u8, out_len: usize, version: u16) -> u64;
     pub fn wz_session(words: *const u64, words_len: usize, bytes: *const u8, bytes_len: usize, out: *mut u8, out_len: usize, sessions: u32,
         c: u32, m: u32, place: usize, n: u64) -> u64;
     pub fn wz_resend(words: *const u64, words_len: usize, bytes: *const u8, bytes_len: usize, ranges: *const u64, ranges_len: usize,

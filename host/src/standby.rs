@@ -69,7 +69,7 @@ impl Standby {
             row: vec![Bound::default(); limits.handles],
             words: vec![0; 66 + s * (16 + 2 * m)],
             bytes: vec![0; s * (224 + c)],
-            holds: vec![0; limits.handles * (c + 22 * m + 122)],
+            holds: vec![0; limits.handles * (c + 22 * m + 131)],
             settings,
         };
         let refusal = unsafe {
@@ -99,10 +99,11 @@ impl Standby {
         over!(self, wz_on_frame, frame.as_ptr(), frame.len())
     }
 
-    /// An answer's bytes, none for a refusal.
+    /// The last answer's bytes, in the version that its call left; none for a refusal.
     pub fn reply(&self, answer: Answer) -> Vec<u8> {
-        let mut out = [0; 134];
-        let code = unsafe { wz_answer(answer, self.bytes.as_ptr(), self.bytes.len(), out.as_mut_ptr(), out.len()) };
+        let mut out = [0; 143];
+        let (bytes, version) = (&self.bytes, self.counters.version());
+        let code = unsafe { wz_answer(answer, bytes.as_ptr(), bytes.len(), out.as_mut_ptr(), out.len(), version) };
         out[..count(code).unwrap_or(0)].to_vec()
     }
 
@@ -144,7 +145,7 @@ impl Standby {
 
     pub fn session(&self, place: usize) -> Session {
         let Shape { places, bytes, messages } = self.settings.shape;
-        let mut out = [0; 271];
+        let mut out = [0; 280];
         let (words, store) = (&self.words, &self.bytes);
         unsafe {
             wz_session(

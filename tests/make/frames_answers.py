@@ -3,7 +3,8 @@
 
 `answers` gets every refusal and every Nack that the program can show, on two handles in turn, with a restart and a stale active. `commits` has 80
 commits on four handles in turn, with a session that outgrows C and one that outgrows M, a stale active among them, a restart, and a session that goes to
-another handle in the full row while the first holds changes.
+another handle in the full row while the first holds changes. `versions` has stamps of every count of digits in version 1, in version 2 and in version 1
+again, with what leaves the version between them, and 32.
 
 10, 17 and 21 to 25 can't be shown there: the standby isn't promoted, its lines are too short to hold more than 4 GiB, and its four places are enough
 where each of four sessions has one handle (21; document 02, U4).
@@ -31,7 +32,7 @@ def batch(handle: int, epoch: int, commit_no: int, part: int, changes: Sequence[
 
 answers = [
     # 11, 12, Welcome
-    hello(5, version=2), hello(5, kinds=(3,)), hello(5),
+    hello(5, version=3), hello(5, kinds=(3,)), hello(5),
     # Nack StaleEpoch, Lag; Bound twice
     bind(1, 4, b"A"), bind(1, 5, b"A", lag=1), bind(1, 5, b"A"), bind(2, 5, b"B"),
     # 13, StaleEpoch, 14
@@ -82,7 +83,43 @@ commits += [hello(2), batch(0, 2, 21, COMMIT, [])] + [bind(handle, 2, name) for 
 commits += [batch(0, 2, 1, COMMIT, [record(81, b"on")]), batch(3, 2, 1, COMMIT, [record(21, b"on"), set_next_incoming(7)]), batch(3, 1, 2, COMMIT, []), bind(3, 2, b"A")]
 commits += [batch(3, 2, 1, WHOLE, [RESET]), bind(9, 2, b"A"), batch(3, 2, 2, LAST_WHOLE, []), batch(9, 2, 1, COMMIT, [record(22, b"on")])]
 
-for name, frames in (("answers", answers), ("commits", commits)):
+
+
+def stamp(digits: int) -> bytes:
+    return b"20261115-12:00:00" + (b"." + b"1234567890123456"[:digits] if digits else b"")
+
+
+def stamps(handle: int, epoch: int, version: int) -> list[bytes]:
+    """A Commit with a stamp of each count of digits; those that the version takes count on, and the session is bound again at the end."""
+    taken, no, frames = {1: (0, 3), 2: (0, 3, 6, 9, 12)}[version], 1, []
+    for digits in range(17):
+        frames.append(batch(handle, epoch, no, COMMIT, [set_created_at(stamp(digits))]))
+        no += digits in taken
+    return frames + [bound(stamp(digits)) for digits in range(17)] + [bind(handle, epoch, b"A")]
+
+
+versions = [
+    # version 1: stamps of 0 and 3 digits
+    bind(1, 1, b"A"), *stamps(1, 1, 1), hello(1), bind(1, 1, b"A"), *stamps(1, 1, 1),
+    # 11, 11, 11, 12 leave it: 6
+    hello(1, version=0), hello(1, version=3), hello(1, version=258), hello(1, version=2, kinds=(1,)), batch(1, 1, 1, COMMIT, [set_created_at(stamp(6))]),
+    # version 2: also 6, 9 and 12
+    hello(1, version=2), bind(1, 1, b"A"), *stamps(1, 1, 2),
+    # a Hello of a lower epoch and version 1 is answered, and leaves version 2
+    hello(0), batch(1, 1, 1, COMMIT, [set_created_at(stamp(12))]), bind(2, 1, b"B"),
+    # sent whole, the stamp held in one frame and applied with the last
+    batch(2, 1, 1, WHOLE, [RESET, set_created_at(stamp(9))]), batch(2, 1, 2, LAST_WHOLE, [record(1, b"one"), set_next_incoming(2), set_marks(b"")]), bind(2, 1, b"B"),
+    # back to 1: Nack StaleEpoch, Nack Lag, 32, 32; a new session, which is bound to a handle of that name; a commit due is run before 32
+    hello(1), bind(1, 0, b"A", lag=1), bind(1, 1, b"A", lag=1), bind(1, 1, b"A"), bind(2, 1, b"B"), bind(3, 1, b"C"),
+    batch(3, 1, 1, COMMIT, [set_created_at(stamp(6))]), batch(3, 1, 1, COMMIT, [set_created_at(stamp(3))]), bind(3, 1, b"A"), batch(3, 1, 2, COMMIT, []),
+    # 20 for a fifth session; 32 for one that is there
+    bind(4, 1, b"D"), bind(5, 1, b"E"), bind(5, 1, b"B"),
+    # version 2 with a higher epoch: A gets a short stamp, B none; then version 1 binds both
+    hello(2, version=2), bind(1, 2, b"A"), batch(1, 2, 1, COMMIT, [set_created_at(stamp(3))]), bind(2, 2, b"B"), batch(2, 2, 1, COMMIT, [RESET]),
+    hello(3), bind(1, 3, b"A"), bind(2, 3, b"B"), bind(1, 2, b"A"), *stamps(1, 3, 1),
+]
+
+for name, frames in (("answers", answers), ("commits", commits), ("versions", versions)):
     text = joined(frame.hex() for frame in frames)
     write(f"tests/frames/{name}.in", text)
     write(f"tests/frames/{name}.out", rust("rust-frames-program", text))

@@ -1,120 +1,147 @@
 -- Beginning, and one call: what the code answers is what the definitions say. Assumes nothing.
 use mathlib.Core.Path.{◌≡◌, refl, sym, ap, ◌∙◌}
-use mathlib.Core.Bool.{false}
+use mathlib.Core.Bool.{Bool, true, false, false≢true}
+use mathlib.Core.Logic.{◌⊎◌, inl, inr}
 use mathlib.Core.List.{List}
 use mathlib.Core.Option.{Option, none, some}
-use Prim.Native.Nat.{ℕ, ◌+◌, ◌-◌, ◌≤◌, ◌<◌}
+use Prim.Native.Nat.{ℕ, zero, suc, ◌+◌, ◌-◌, ◌≤◌, ◌<◌}
 use native.Mathlib.Omega.{arith}
 use native.Mathlib.Numerals.{add-one}
 use lib.ListN.{length}
-use lib.Dec.{ltb}
-use borrow.Author.Tests.{lt-ltb, le-ltb, le-leb, lt-leb}
+use lib.Dec.{ltb, leb}
+use borrow.Author.Tests.{lt-ltb, le-ltb, le-leb, lt-leb, leb-false}
 use Rattle.base_refusals.specs.declared.Refusal.{Refusal}
+use Rattle.base_refusals.specs.Numbers.{number_of}
+use Rattle.model_text.specs.Version.{is_version}
 use Rattle.model_frame.specs.Frame.{Frame}
 use Rattle.model_frame.specs.Writing.{encode}
-use Rattle.model_session.specs.Session.{Session, top}
+use Rattle.model_session.specs.Session.{Session, top, suits}
 use Rattle.model_session.specs.Sender.{Sender, new_sender, cut_from, send_next, cannot_send}
 use Rattle.model_session.specs.Whole.{whole_batches}
 use Rattle.std.specs.Prelude.{None, Some, Ok, Err}
+use Rattle.std.specs.Prelude as answer
+use Rattle.std.specs.Option.{is_some}
 use Rattle.active_batch.specs.declared.BatchWritten.{BatchWritten}
 use Rattle.active_batch.specs.Batch.{frame_from, number_or_none, WroteBatch}
 use Rattle.store_areas.specs.declared.Shape.{Shape}
 use Rattle.active.specs.declared.Sending.{Sending}
-use Rattle.active.specs.Whole.{sender_of, SendStart, start_of, start_from, Begins, SendStep, send_answer, filled_by, step_from, area_from, stored_at, SendsWhole}
+use Rattle.active.specs.Whole.{sender_of, SendStart, start_from, spent, unsuited, turned_down, send_answer, filled_by, step_from, area_from, stored_at, SendsWhole}
 use Rattle.active.specs.Whole as whole
 
 -- ---- beginning
 
-module _ (limit : ℕ) (a : Session) (i h e last n : ℕ) (count : n ≡ length (whole_batches limit a)) (small : last ≤ top) where
-  pub numbers_past : top - last < n → whole.SendStart.refused 24 ≡ start_from limit (some a) i h e last
-  unfolding start_from cannot_send
-  numbers_past g = sym (rw (lt-ltb top (last + length (whole_batches limit a)) (omega (arith, count))))
+module _ (limit version : ℕ) (a : Session) (i h e last : ℕ) where
+  pub other_version : is_version version ≡ false → whole.SendStart.refused 11 ≡ start_from limit version (some a) i h e last
+  unfolding start_from
+  other_version v = sym (rw v refl)
 
-  pub numbers_fit : n ≤ top - last → whole.SendStart.ready i (new_sender h e last) ≡ start_from limit (some a) i h e last
-  unfolding start_from cannot_send
-  numbers_fit g = sym (rw (le-ltb top (last + length (whole_batches limit a)) (omega (arith, count))))
+  module _ (v : is_version version ≡ true) where
+    pub long_stamp : suits version a.stamp ≡ false → whole.SendStart.refused 32 ≡ start_from limit version (some a) i h e last
+    unfolding start_from
+    long_stamp u = sym (rw (v, u) refl)
+
+    module _ (u : suits version a.stamp ≡ true) (n : ℕ) (count : n ≡ length (whole_batches limit a)) (small : last ≤ top) where
+      pub numbers_past : top - last < n → whole.SendStart.refused 24 ≡ start_from limit version (some a) i h e last
+      unfolding start_from cannot_send
+      numbers_past g = sym (rw (v, u, lt-ltb top (last + length (whole_batches limit a)) (omega (arith, count))) refl)
+
+      pub numbers_fit : n ≤ top - last → whole.SendStart.ready i version (new_sender h e last) ≡ start_from limit version (some a) i h e last
+      unfolding start_from cannot_send
+      numbers_fit g = sym (rw (v, u, le-ltb top (last + length (whole_batches limit a)) (omega (arith, count))) refl)
 
 -- ---- one call
 
-abbrev sender : ℕ → ℕ → ℕ → Option ℕ → Sender
-sender h e last o = record { handle = h; epoch = e; last = last; from = o }
+-- a sending that isn't spent
+pub not_spent : (last : ℕ) (o : answer.Option ℕ) (t : Bool) → t ≡ is_some o → last ≤ top → ((t ≡ true) × (last ≡ top → ⊥)) ⊎ (t ≡ false) → spent last (number_or_none o) ≡ false
+not_spent last None t e l b = refl
+not_spent last (Some n) t e l (inl b) = lt-leb top last (omega (arith, l, b.1))
+not_spent last (Some n) t e l (inr b) = absurd (false≢true (sym b ∙ e))
 
-module _ (limit : ℕ) (a : Session) (i h e last : ℕ) (out : List ℕ) where
-  pub done_step : whole.SendStep.finished ≡ step_from limit (some a) i (sender h e last none) (length out)
-  unfolding step_from send_next
-  done_step = refl
+pub below_top : (last n : ℕ) (o : answer.Option ℕ) → o ≡ Some n → spent last (number_or_none o) ≡ false → last < top
+below_top last n o e k = leb-false top last (rw e at k)
 
-  pub done_area : out ≡ area_from limit (some a) (sender h e last none) out
-  unfolding area_from send_next
-  done_area = refl
+-- the frame still to be sent suits
+pub suited : (version n : ℕ) (stamp : List ℕ) → suits version stamp ≡ true → unsuited version stamp (some n) ≡ false
+suited version zero stamp u = rw u refl
+suited version (suc n) stamp u = refl
 
-  module _ (from : ℕ) where
-    pub spent_step : top ≤ last → whole.SendStep.refused 25 ≡ step_from limit (some a) i (sender h e last (some from)) (length out)
-    unfolding step_from
-    spent_step g = sym (rw (le-leb top last g))
+pub later : (version n : ℕ) (stamp : List ℕ) → (n ≡ 0 → ⊥) → unsuited version stamp (some n) ≡ false
+later version zero stamp f = absurd (f refl)
+later version (suc n) stamp f = refl
 
-    pub spent_area : top ≤ last → out ≡ area_from limit (some a) (sender h e last (some from)) out
-    unfolding area_from
-    spent_area g = sym (rw (le-leb top last g))
-
-    next_is : send_next limit a (sender h e last (some from)) ≡ some (frame_from limit a h e (last + 1) from, sender h e (last + 1) (cut_from limit a from).goes_on)
-    unfolding send_next frame_from
-    next_is = rw (add-one last)
-
-    module _ (fresh : last < top) where
-      going_step : step_from limit (some a) i (sender h e last (some from)) (length out) ≡ send_answer (length out) i (some (frame_from limit a h e (last + 1) from, sender h e (last + 1) (cut_from limit a from).goes_on))
-      unfolding step_from
-      going_step = rw (lt-leb top last fresh) (ap (send_answer (length out) i) next_is)
-
-      going_area : area_from limit (some a) (sender h e last (some from)) out ≡ filled_by (some (frame_from limit a h e (last + 1) from, sender h e (last + 1) (cut_from limit a from).goes_on)) out
-      unfolding area_from
-      going_area = rw (lt-leb top last fresh) (ap (λ (o : Option (Frame × Sender)). filled_by o out) next_is)
-
-      module _ (out' : List ℕ) where
-        pub short_step : WroteBatch limit a h e (last + 1) from out out' (Err Refusal.NoRoom) → whole.SendStep.refused 9 ≡ step_from limit (some a) i (sender h e last (some from)) (length out)
-        short_step w = sym (going_step ∙ rw (lt-ltb (length out) (length (encode (frame_from limit a h e (last + 1) from))) (omega (arith, w.1))))
-
-        pub short_area : WroteBatch limit a h e (last + 1) from out out' (Err Refusal.NoRoom) → out' ≡ area_from limit (some a) (sender h e last (some from)) out
-        short_area w = w.2 ∙ sym (going_area ∙ rw (lt-ltb (length out) (length (encode (frame_from limit a h e (last + 1) from))) (omega (arith, w.1))))
-
-        module _ (b : BatchWritten) (w : WroteBatch limit a h e (last + 1) from out out' (Ok b)) where
-          fits : ltb (length out) (length (encode (frame_from limit a h e (last + 1) from))) ≡ false
-          fits = le-ltb (length out) (length (encode (frame_from limit a h e (last + 1) from))) (omega (arith, w.0, w.1))
-
-          pub frame_step : whole.SendStep.gives b.len i (sender h e (last + 1) (number_or_none b.resume_from)) ≡ step_from limit (some a) i (sender h e last (some from)) (length out)
-          frame_step = sym (going_step ∙ rw (fits, ← w.0, w.3))
-
-          pub frame_area : out' ≡ area_from limit (some a) (sender h e last (some from)) out
-          frame_area = w.2 ∙ sym (going_area ∙ rw fits)
-
--- ---- the promise
-
+-- a call of the session a by s: what it comes to is why it is turned down, or the answer
 module _ (limit : ℕ) (shape : Shape) (w b : List ℕ) (s : Sending) (out : List ℕ) where
   pub not_stored : stored_at shape w b s.place ≡ none → SendsWhole limit shape w b s out out (Err Refusal.RulesBroken)
   unfolding step_from area_from
-  not_stored k = record { answer = rw k; area = rw k }
+  not_stored k = record { answer = rw k refl; area = rw k refl }
 
   module _ (a : Session) (k : stored_at shape w b s.place ≡ some a) where
-    pub is_done : s.from ≡ None → SendsWhole limit shape w b s out out (Ok None)
-    is_done d = record { answer = rw (k, d) (done_step limit a s.place s.handle s.epoch.0 s.last.0 out); area = rw (k, d) (done_area limit a s.place s.handle s.epoch.0 s.last.0 out) }
+    abbrev down : Option ℕ
+    down = turned_down s.version a (sender_of s)
 
-    module _ (from : ℕ) (d : s.from ≡ Some from) where
-      pub is_spent : top ≤ s.last.0 → SendsWhole limit shape w b s out out (Err Refusal.RulesBroken)
-      is_spent g = record {
-        answer = rw (k, d) (spent_step limit a s.place s.handle s.epoch.0 s.last.0 out from g);
-        area = rw (k, d) (spent_area limit a s.place s.handle s.epoch.0 s.last.0 out from g);
-      }
+    is_refused : (r : Refusal) → down ≡ some (number_of r) → SendsWhole limit shape w b s out out (Err r)
+    unfolding step_from area_from
+    is_refused r d = record { answer = rw (k, d) refl; area = rw (k, d) refl }
 
-      module _ (fresh : s.last.0 < top) (out' : List ℕ) where
-        pub is_short : (r : Refusal) → WroteBatch limit a s.handle s.epoch.0 (s.last.0 + 1) from out out' (Err r) → SendsWhole limit shape w b s out out' (Err r)
-        is_short r v = rw v.0 (record {
-          answer = rw (k, d) (short_step limit a s.place s.handle s.epoch.0 s.last.0 out from fresh out' (refl, v.1, v.2));
-          area = rw (k, d) (short_area limit a s.place s.handle s.epoch.0 s.last.0 out from fresh out' (refl, v.1, v.2));
-        })
+    pub is_spent : is_some s.from ≡ true → top ≤ s.last.0 → SendsWhole limit shape w b s out out (Err Refusal.RulesBroken)
+    is_spent f g = is_refused Refusal.RulesBroken (rw (going s.from f) (rw (le-leb top s.last.0 g) refl))
+      where
+        going : (o : answer.Option ℕ) → is_some o ≡ true → spent s.last.0 (number_or_none o) ≡ leb top s.last.0
+        going (Some n) e = refl
+        going None e = absurd (false≢true e)
 
-        pub is_frame : (b' : BatchWritten) → WroteBatch limit a s.handle s.epoch.0 (s.last.0 + 1) from out out' (Ok b')
-            → SendsWhole limit shape w b s out out' (Ok (Some (record { len = b'.len; next = record { place = s.place; handle = s.handle; epoch = s.epoch; last = record { 0 = s.last.0 + 1 }; from = b'.resume_from } })))
-        is_frame b' v = record {
-          answer = rw (k, d) (frame_step limit a s.place s.handle s.epoch.0 s.last.0 out from fresh out' b' v);
-          area = rw (k, d) (frame_area limit a s.place s.handle s.epoch.0 s.last.0 out from fresh out' b' v);
-        }
+    module _ (fresh : spent s.last.0 (number_or_none s.from) ≡ false) where
+      pub is_other : (r : Refusal) → is_version s.version ≡ false → number_of r ≡ 11 → SendsWhole limit shape w b s out out (Err r)
+      is_other r v e = is_refused r (rw (fresh, v, e) refl)
+
+      module _ (v : is_version s.version ≡ true) where
+        pub is_long : (n : ℕ) → s.from ≡ Some n → n ≡ 0 → suits s.version a.stamp ≡ false → SendsWhole limit shape w b s out out (Err Refusal.LongStamp)
+        is_long n f z u = is_refused Refusal.LongStamp (rw (fresh, v, f, z, u) refl)
+
+        goes_on : unsuited s.version a.stamp (number_or_none s.from) ≡ false → down ≡ none
+        goes_on u = rw (fresh, v, u) refl
+
+        pub is_done : s.from ≡ None → SendsWhole limit shape w b s out out (Ok None)
+        unfolding step_from area_from send_next
+        is_done f =
+            let d : down ≡ none = goes_on (rw f refl) in
+            record { answer = rw (k, d, f) refl; area = rw (k, d, f) refl }
+
+-- ---- one call
+
+-- a call that gives a frame, or has no room for it
+next_at : (limit : ℕ) (a : Session) (h e last from : ℕ) → send_next limit a (record { handle = h; epoch = e; last = last; from = some from })
+    ≡ some (frame_from limit a h e (last + 1) from, record { handle = h; epoch = e; last = last + 1; from = (cut_from limit a from).goes_on })
+unfolding send_next frame_from
+next_at limit a h e last from = rw (add-one last) refl
+
+module _ (limit : ℕ) (shape : Shape) (w b : List ℕ) (s : Sending) (out : List ℕ) (a : Session) (k : stored_at shape w b s.place ≡ some a) (from : ℕ) (f : s.from ≡ Some from)
+    (fresh : s.last.0 < top) (v : is_version s.version ≡ true) (u : unsuited s.version a.stamp (some from) ≡ false) where
+  abbrev sent : Frame
+  sent = frame_from limit a s.handle s.epoch.0 (s.last.0 + 1) from
+
+  abbrev after : Sender
+  after = record { handle = s.handle; epoch = s.epoch.0; last = s.last.0 + 1; from = (cut_from limit a from).goes_on }
+
+  not_down : turned_down s.version a (sender_of s) ≡ none
+  not_down = rw (f, lt-leb top s.last.0 fresh, v, u) refl
+
+  going_step : step_from limit s.version (stored_at shape w b s.place) s.place (sender_of s) (length out) ≡ send_answer (length out) s.place s.version (some (sent, after))
+  unfolding step_from
+  going_step = rw (k, not_down, f) (ap (send_answer (length out) s.place s.version) (next_at limit a s.handle s.epoch.0 s.last.0 from))
+
+  going_area : area_from limit s.version (stored_at shape w b s.place) (sender_of s) out ≡ filled_by (some (sent, after)) out
+  unfolding area_from
+  going_area = rw (k, not_down, f) (ap (λ (o : Option (Frame × Sender)). filled_by o out) (next_at limit a s.handle s.epoch.0 s.last.0 from))
+
+  module _ (out' : List ℕ) where
+    pub is_short : (r : Refusal) → WroteBatch limit a s.handle s.epoch.0 (s.last.0 + 1) from out out' (Err r) → SendsWhole limit shape w b s out out' (Err r)
+    is_short r p =
+        let n : ltb (length out) (length (encode sent)) ≡ true = lt-ltb (length out) (length (encode sent)) (omega (arith, p.1)) in
+        rw p.0 (record { answer = sym (going_step ∙ rw n refl); area = p.2 ∙ sym (going_area ∙ rw n refl) })
+
+    pub is_frame : (b' : BatchWritten) → WroteBatch limit a s.handle s.epoch.0 (s.last.0 + 1) from out out' (Ok b')
+        → SendsWhole limit shape w b s out out' (Ok (Some (record { len = b'.len; next = record { version = s.version; place = s.place; handle = s.handle; epoch = s.epoch; last = record { 0 = s.last.0 + 1 }; from = b'.resume_from } })))
+    is_frame b' p =
+        let n : ltb (length out) (length (encode sent)) ≡ false = le-ltb (length out) (length (encode sent)) (omega (arith, p.0, p.1)) in
+        record { answer = sym (going_step ∙ rw (n, ← p.0, p.3) refl); area = p.2 ∙ sym (going_area ∙ rw n refl) }

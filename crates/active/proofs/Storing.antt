@@ -10,10 +10,10 @@ use lib.Dec.{ltb}
 use borrow.Author.Tests.{ltb-true, ltb-false}
 use Rattle.model_text.proofs.Formed.{and_l, and_r}
 use Rattle.model_frame.specs.Parse.{Each}
-use Rattle.model_session.specs.Session.{Session, Holdable}
+use Rattle.model_session.specs.Session.{Session, Holdable, suits}
 use Rattle.model_session.proofs.Basics.{none≢some, some_inj}
 use Rattle.model_standby.specs.Store.{Place, session_at}
-use Rattle.store_place.specs.Place.{session_of, place_in}
+use Rattle.store_place.specs.Place.{stamp_of, session_of, place_in}
 use Rattle.store_areas.specs.declared.Shape.{Shape}
 use Rattle.store_areas.specs.Areas.{allowed, place_at, places_of}
 use Rattle.store_log.proofs.Lawful.{Small}
@@ -30,7 +30,7 @@ beyond (p ∷ ps) zero h = absurd (no h)
 beyond (p ∷ ps) (suc i) h = beyond ps i (omega arith)
 
 module _ (s : Shape) (w b : List ℕ) (i : ℕ) where
-  abbrev held : Session
+  abbrev pub held : Session
   held = (place_at s w b i).stored.session
 
   module _ (t : Bool) (e : t ≡ (allowed s w b && ltb i (get_or w 0 0))) where
@@ -58,6 +58,11 @@ module _ (s : Shape) (w b : List ℕ) (i : ℕ) where
   pub lent_session : (M : ℕ) (x y : List ℕ) → place_in s.bytes s.messages x y ≡ place_at s w b i → M ≡ s.messages → session_of s.bytes M x y ≡ held
   unfolding place_in
   lent_session M x y e m = ap (λ (k : ℕ). session_of s.bytes k x y) m ∙ ap (λ (p : Place). p.stored.session) e
+
+  -- and whether a version takes its stamp
+  pub lent_suits : (x y : List ℕ) → place_in s.bytes s.messages x y ≡ place_at s w b i → (p v : ℕ) → p ≡ v → (t : Bool) → t ≡ suits p (stamp_of x y) → t ≡ suits v held.stamp
+  unfolding place_in session_of
+  lent_suits x y e p v same t k = k ∙ ap (λ (n : ℕ). suits n (stamp_of x y)) same ∙ ap (λ (q : Place). suits v q.stored.session.stamp) e
 
 -- what is stored can be held
 pub stored_holdable : (s : Shape) (w b : List ℕ) (i : ℕ) (a : Session) → Small (2 ^ 64) w → Small 256 b → stored_at s w b i ≡ some a → Holdable s.bytes s.messages a

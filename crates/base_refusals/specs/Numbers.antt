@@ -34,6 +34,7 @@ number_of Refusal.FieldFault = 28
 number_of Refusal.FalseLengthOrSum = 29
 number_of Refusal.NumberNotRising = 30
 number_of Refusal.TimeFalls = 31
+number_of Refusal.LongStamp = 32
 number_of Refusal.StampWithoutNumber = 33
 number_of Refusal.NumberWithoutStamp = 34
 number_of Refusal.BadRanges = 35

@@ -27,7 +27,7 @@ pub enum Refusal {
     NoRoom = 9,
     // Promoted.
     Promoted = 10,
-    // Version not 1.
+    // Version not 1 or 2.
     BadVersion = 11,
     // Kinds listed.
     KindsListed = 12,
@@ -69,6 +69,8 @@ pub enum Refusal {
     NumberNotRising = 30,
     // Of a lease: a time below the last one handed in, or an outcome before its start.
     TimeFalls = 31,
+    // A long stamp, which version 1 doesn't take.
+    LongStamp = 32,
     // Of a stamp that is to become a number: a year before 1970 or a second 60.
     StampWithoutNumber = 33,
     // Of a number that is to become a stamp: past 31 December 9999, or a remainder too large.

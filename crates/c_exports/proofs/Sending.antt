@@ -1,6 +1,6 @@
 -- A whole sending in words: a call of a sending, and one that begins it. Assumes nothing.
 use mathlib.Core.Path.{◌≡◌, refl, sym, ap, subst, ◌∙◌}
-use mathlib.Core.Bool.{Bool, true, false, cond}
+use mathlib.Core.Bool.{Bool, true, false, cond, not}
 use mathlib.Core.List.{List}
 use mathlib.Core.Option.{Option, none, some}
 use Prim.Native.Nat.{ℕ, ◌≤◌}
@@ -12,44 +12,45 @@ use lib.Seq.{get_or-set_same, get_or-set_other}
 use Rattle.std.specs.Prelude.{Some, Result, Ok}
 use Rattle.base_flags.specs.Flag.{is_set}
 use Rattle.base_refusals.specs.declared.Refusal.{Refusal}
+use Rattle.model_text.specs.Version.{is_version}
 use Rattle.model_frame.specs.Writing.{encode}
-use Rattle.model_session.specs.Session.{Session}
+use Rattle.model_session.specs.Session.{Session, suits}
 use Rattle.model_session.specs.Sender.{Sender, new_sender, cannot_send, cut_from, sent, sent_from, send_next}
 use Rattle.active_batch.specs.Batch.{resume_from, number_or_none}
 use Rattle.store_areas.specs.declared.Shape.{Shape}
 use Rattle.active.specs.declared.Sending.{Sending}
 use Rattle.active.specs.declared.Sent.{Sent}
-use Rattle.active.specs.Whole.{SendAnswer, sender_of, stored_at, SendStart, ready, start_of, start_from, SendStep, gives, finished, step_of, spent, send_answer, step_from, SendsWhole}
+use Rattle.active.specs.Whole.{SendAnswer, sender_of, stored_at, SendStart, ready, start_of, start_from, SendStep, gives, finished, step_of, turned_down, send_answer, unless_refused, step_from, SendsWhole}
 use Rattle.active.specs.Whole as whole
 use Rattle.c_code.specs.Codes.{done_code}
 use Rattle.c_exports.specs.Sendings.{from_word, done_byte, start_in, send_code, NextWords, Resumes, SendIs}
 
 -- ---- a call keeps the handle and the epoch
 
-kept : (limit : ℕ) (a : Option Session) (i : ℕ) (s : Sender) (room : ℕ) {len j : ℕ} {t : Sender} → gives len j t ≡ step_from limit a i s room → (t.handle ≡ s.handle) × (t.epoch ≡ s.epoch)
+kept : (limit version : ℕ) (a : Option Session) (i : ℕ) (s : Sender) (room : ℕ) {len j v : ℕ} {t : Sender} → gives len j v t ≡ step_from limit version a i s room → (t.handle ≡ s.handle) × (t.epoch ≡ s.epoch)
 unfolding step_from send_next
-kept limit none i s room e = absurd (omega (arith, clash e))
+kept limit version none i s room e = absurd (omega (arith, clash e))
   where
-    clash : {len j : ℕ} {t : Sender} → gives len j t ≡ whole.SendStep.refused 25 → ◌≡◌ {A = ℕ} 0 1
+    clash : {len j v : ℕ} {t : Sender} → gives len j v t ≡ whole.SendStep.refused 25 → ◌≡◌ {A = ℕ} 0 1
     clash e = cc
-kept limit (some a) i s room {len} {j} {t} e = go (spent s.last s.from) s.from e
+kept limit version (some a) i s room {len} {j} {v} {t} e = go (turned_down version a s) s.from e
   where
-    clash : {n : ℕ} → gives len j t ≡ whole.SendStep.refused n → ◌≡◌ {A = ℕ} 0 1
+    clash : {n : ℕ} → gives len j v t ≡ whole.SendStep.refused n → ◌≡◌ {A = ℕ} 0 1
     clash e = cc
 
-    ended : gives len j t ≡ finished → ◌≡◌ {A = ℕ} 0 1
+    ended : gives len j v t ≡ finished → ◌≡◌ {A = ℕ} 0 1
     ended e = cc
 
-    with_room : (b : Bool) (n : ℕ) → gives len j t ≡ cond b (whole.SendStep.refused 9) (gives (length (encode (sent limit a s (cut_from limit a n)).0)) i (sent limit a s (cut_from limit a n)).1) → (t.handle ≡ s.handle) × (t.epoch ≡ s.epoch)
+    with_room : (b : Bool) (n : ℕ) → gives len j v t ≡ cond b (whole.SendStep.refused 9) (gives (length (encode (sent limit a s (cut_from limit a n)).0)) i version (sent limit a s (cut_from limit a n)).1) → (t.handle ≡ s.handle) × (t.epoch ≡ s.epoch)
     with_room true n e = absurd (omega (arith, clash e))
     with_room false n e =
         let q : t ≡ (sent limit a s (cut_from limit a n)).1 = cc in
         (ap (λ (x : Sender). x.handle) q, ap (λ (x : Sender). x.epoch) q)
 
-    go : (b : Bool) (o : Option ℕ) → gives len j t ≡ cond b (whole.SendStep.refused 25) (send_answer room i (sent_from limit a s o)) → (t.handle ≡ s.handle) × (t.epoch ≡ s.epoch)
-    go true o e = absurd (omega (arith, clash e))
-    go false none e = absurd (omega (arith, ended e))
-    go false (some n) e = with_room (ltb room (length (encode (sent limit a s (cut_from limit a n)).0))) n e
+    go : (why : Option ℕ) (o : Option ℕ) → gives len j v t ≡ unless_refused why (send_answer room i version (sent_from limit a s o)) → (t.handle ≡ s.handle) × (t.epoch ≡ s.epoch)
+    go (some k) o e = absurd (omega (arith, clash e))
+    go none none e = absurd (omega (arith, ended e))
+    go none (some n) e = with_room (ltb room (length (encode (sent limit a s (cut_from limit a n)).0))) n e
 
 -- ---- the four words
 
@@ -86,9 +87,9 @@ handed h e t q {q'} long eh ee is =
 module _ (limit : ℕ) (shape : Shape) (w b : List ℕ) (s : Sending) (q : List ℕ) {out out' : List ℕ} {r : ℕ} where
   pub sends_frame : (t : Sent) (q' : List ℕ) → SendsWhole limit shape w b s out out' (Ok (Some t)) → 4 ≤ length q
       → q' ≡ set (set (set (set q 0 t.next.last.0) 1 1) 2 (from_word (number_or_none t.next.from))) 3 (done_byte (number_or_none t.next.from)) → r ≡ done_code t.len
-      → SendIs limit (stored_at shape w b s.place) s.handle s.epoch.0 (ready s.place (sender_of s)) q q' out out' r
+      → SendIs limit (stored_at shape w b s.place) s.handle s.epoch.0 (ready s.place s.version (sender_of s)) q q' out out' r
   sends_frame t q' h long is a =
-      let k = kept limit (stored_at shape w b s.place) s.place (sender_of s) (length out) h.answer in
+      let k = kept limit s.version (stored_at shape w b s.place) s.place (sender_of s) (length out) h.answer in
       record {
         answer = a ∙ ap send_code h.answer;
         words = subst (λ (t : SendStep). Resumes s.handle s.epoch.0 t q q') h.answer (handed s.handle s.epoch.0 t.next q long k.0 k.1 is);
@@ -97,35 +98,40 @@ module _ (limit : ℕ) (shape : Shape) (w b : List ℕ) (s : Sending) (q : List 
 
 -- ---- the call that begins it
 
-begins : (limit : ℕ) (a : Option Session) (i h e : ℕ) (q : List ℕ) (x : Result Sending Refusal) → 4 ≤ length q → get_or q 1 0 ≡ 0 → start_of x ≡ start_from limit a i h e (get_or q 0 0) → start_in limit a i h e q ≡ start_of x
-begins limit a i h e q x long z begun = rw (le-ltb (length q) 4 long, eq-eqb (get_or q 1 0) 0 z) (sym begun)
+begins : (limit version : ℕ) (a : Option Session) (i h e : ℕ) (q : List ℕ) (x : Result Sending Refusal) → 4 ≤ length q → get_or q 1 0 ≡ 0 → start_of x ≡ start_from limit version a i h e (get_or q 0 0)
+    → start_in limit version a i h e q ≡ start_of x
+begins limit version a i h e q x long z begun = rw (le-ltb (length q) 4 long, eq-eqb (get_or q 1 0) 0 z) (sym begun)
+
+not_refused : (b : Bool) (n : ℕ) (x : SendStart) {j v : ℕ} {t : Sender} → ready j v t ≡ cond b (whole.SendStart.refused n) x → ready j v t ≡ x
+not_refused true n x {j} {v} {t} p = absurd (omega (arith, clash p))
+  where
+    clash : ready j v t ≡ whole.SendStart.refused n → ◌≡◌ {A = ℕ} 0 1
+    clash p = cc
+not_refused false n x p = p
 
 -- what was begun is for the place, the handle and the epoch that were given
-new_start : (limit : ℕ) (a : Option Session) (i h e last : ℕ) {j : ℕ} {t : Sender} → ready j t ≡ start_from limit a i h e last → (j ≡ i) × (t ≡ new_sender h e last)
+new_start : (limit version : ℕ) (a : Option Session) (i h e last : ℕ) {j v : ℕ} {t : Sender} → ready j v t ≡ start_from limit version a i h e last → (j ≡ i) × (t ≡ new_sender h e last)
 unfolding start_from
-new_start limit none i h e last p = absurd (omega (arith, clash p))
+new_start limit version none i h e last {j} {v} {t} p = absurd (omega (arith, clash p))
   where
-    clash : {j : ℕ} {t : Sender} → ready j t ≡ whole.SendStart.refused 25 → ◌≡◌ {A = ℕ} 0 1
+    clash : ready j v t ≡ whole.SendStart.refused 25 → ◌≡◌ {A = ℕ} 0 1
     clash p = cc
-new_start limit (some a) i h e last {j} {t} p = go (cannot_send limit a (new_sender h e last)) p
-  where
-    clash : ready j t ≡ whole.SendStart.refused 24 → ◌≡◌ {A = ℕ} 0 1
-    clash p = cc
+new_start limit version (some a) i h e last p =
+    let known = not_refused (not (is_version version)) 11 _ p in
+    let suited = not_refused (not (suits version a.stamp)) 32 _ known in
+    let numbered = not_refused (cannot_send limit a (new_sender h e last)) 24 _ suited in
+    (cc, cc)
 
-    go : (b : Bool) → ready j t ≡ cond b (whole.SendStart.refused 24) (ready i (new_sender h e last)) → (j ≡ i) × (t ≡ new_sender h e last)
-    go true p = absurd (omega (arith, clash p))
-    go false p = (cc, cc)
-
-module _ (limit : ℕ) (shape : Shape) (w b : List ℕ) (i h e : ℕ) (q : List ℕ) {out out' q' : List ℕ} {r : ℕ} where
-  pub first_call : (s : Sending) → 4 ≤ length q → get_or q 1 0 ≡ 0 → start_of (Ok s) ≡ start_from limit (stored_at shape w b i) i h e (get_or q 0 0)
-      → SendIs limit (stored_at shape w b s.place) s.handle s.epoch.0 (ready s.place (sender_of s)) q q' out out' r
-      → SendIs limit (stored_at shape w b i) h e (start_in limit (stored_at shape w b i) i h e q) q q' out out' r
+module _ (limit version : ℕ) (shape : Shape) (w b : List ℕ) (i h e : ℕ) (q : List ℕ) {out out' q' : List ℕ} {r : ℕ} where
+  pub first_call : (s : Sending) → 4 ≤ length q → get_or q 1 0 ≡ 0 → start_of (Ok s) ≡ start_from limit version (stored_at shape w b i) i h e (get_or q 0 0)
+      → SendIs limit (stored_at shape w b s.place) s.handle s.epoch.0 (ready s.place s.version (sender_of s)) q q' out out' r
+      → SendIs limit (stored_at shape w b i) h e (start_in limit version (stored_at shape w b i) i h e q) q q' out out' r
   first_call s long z begun c =
-      let n = new_start limit (stored_at shape w b i) i h e (get_or q 0 0) begun in
+      let n = new_start limit version (stored_at shape w b i) i h e (get_or q 0 0) begun in
       let eh : s.handle ≡ h = ap (λ (t : Sender). t.handle) n.1 in
       let ee : s.epoch.0 ≡ e = ap (λ (t : Sender). t.epoch) n.1 in
-      let start : ready s.place (sender_of s) ≡ start_in limit (stored_at shape w b i) i h e q = sym (begins limit (stored_at shape w b i) i h e q (Ok s) long z begun) in
+      let start : ready s.place s.version (sender_of s) ≡ start_in limit version (stored_at shape w b i) i h e q = sym (begins limit version (stored_at shape w b i) i h e q (Ok s) long z begun) in
       subst (λ (t : SendStart). SendIs limit (stored_at shape w b i) h e t q q' out out' r) start
-      (subst (λ (k : ℕ). SendIs limit (stored_at shape w b i) h k (ready s.place (sender_of s)) q q' out out' r) ee
-      (subst (λ (k : ℕ). SendIs limit (stored_at shape w b i) k s.epoch.0 (ready s.place (sender_of s)) q q' out out' r) eh
-      (subst (λ (k : ℕ). SendIs limit (stored_at shape w b k) s.handle s.epoch.0 (ready s.place (sender_of s)) q q' out out' r) n.0 c)))
+      (subst (λ (k : ℕ). SendIs limit (stored_at shape w b i) h k (ready s.place s.version (sender_of s)) q q' out out' r) ee
+      (subst (λ (k : ℕ). SendIs limit (stored_at shape w b i) k s.epoch.0 (ready s.place s.version (sender_of s)) q q' out out' r) eh
+      (subst (λ (k : ℕ). SendIs limit (stored_at shape w b k) s.handle s.epoch.0 (ready s.place s.version (sender_of s)) q q' out out' r) n.0 c)))

@@ -1,14 +1,16 @@
 -- What each exported function leaves and returns. Assumes nothing.
 use Rattle.std.specs.Prelude.{◌≡◌, ℕ, cond, List, [], length, ltb, eqb}
 use Rattle.std.proofs.Math.Option.{Option}
+use Rattle.model_text.specs.Version.{is_version}
 use Rattle.model_frame.specs.Refusal
 use Rattle.model_frame.specs.Frame.{Frame, Decoded, more, faulty, got}
+use Rattle.model_frame.specs.Reading.{decode}
 use Rattle.model_frame.specs.Writing.{encode, WriteOutcome, wrote, refused, write_outcome, area_after, write_answer}
 use Rattle.standby_state.specs.declared.Answer.{Answer}
 use Rattle.standby_reply.specs.Replies.{frame_for}
 use Rattle.c_session.specs.Telling as telling
 use Rattle.store_areas.specs.declared.Shape.{Shape}
-use Rattle.c_exports.specs.Returned.{fault_code, written_code, taken_code}
+use Rattle.c_exports.specs.Returned.{in_version, fault_code, written_code, taken_code}
 
 -- ---- a frame that was read, written again
 
@@ -36,6 +38,11 @@ pub record Rewrites (d : Decoded) (out out' : List ℕ) (r : ℕ) : Type 0 where
   pub answer : r ≡ frame_code d (length out)
   pub area : out' ≡ frame_area d out
 
+-- bytes that are read in a version; in another 11, and the area is as it was
+pub record RewritesIn (version : ℕ) (w out out' : List ℕ) (r : ℕ) : Type 0 where
+  pub answer : r ≡ in_version version (frame_code (decode version w) (length out))
+  pub area : out' ≡ cond (is_version version) (frame_area (decode version w) out) out
+
 -- ---- sessions
 
 -- how many places, the bytes of each, the messages of each
@@ -49,11 +56,13 @@ pub record TellsPlace (bytes : Option (List ℕ)) (out out' : List ℕ) (r : ℕ
 
 -- ---- the standby's answers
 
--- a refusal is itself, done is no bytes; a frame is written, or refused as in writing: 8 for what is no frame
-abbrev pub told : List ℕ → Answer → ℕ → WriteOutcome
-told b a room = cond (eqb a.refusal 0) (cond (eqb a.kind 0) (wrote []) (write_outcome 1 (frame_for b a) room)) (refused a.refusal)
+-- 11 for a version that there isn't; a refusal is itself, done is no bytes; a frame is written, or refused as in writing: 8 for what is no frame
+abbrev pub told : ℕ → List ℕ → Answer → ℕ → WriteOutcome
+told version b a room =
+    cond (is_version version) (cond (eqb a.refusal 0) (cond (eqb a.kind 0) (wrote []) (write_outcome version (frame_for b a) room)) (refused a.refusal))
+    (refused Refusal.bad_version)
 
 -- that outcome's number, and the area as it leaves it
-pub record TellsAnswer (b : List ℕ) (a : Answer) (out out' : List ℕ) (r : ℕ) : Type 0 where
-  pub answer : r ≡ written_code (write_answer (told b a (length out)))
-  pub area : out' ≡ area_after (told b a (length out)) out
+pub record TellsAnswer (version : ℕ) (b : List ℕ) (a : Answer) (out out' : List ℕ) (r : ℕ) : Type 0 where
+  pub answer : r ≡ written_code (write_answer (told version b a (length out)))
+  pub area : out' ≡ area_after (told version b a (length out)) out

@@ -1,6 +1,8 @@
 -- What the exported functions return: done and nothing left, and what reading and writing come to. Assumes nothing.
-use Rattle.std.specs.Prelude.{ℕ, ◌+◌, ◌*◌, ◌^◌}
+use Rattle.std.specs.Prelude.{ℕ, ◌+◌, ◌*◌, ◌^◌, cond}
 use Rattle.c_code.specs.Codes.{refusal_code, done_code}
+use Rattle.model_text.specs.Version.{is_version}
+use Rattle.model_frame.specs.Refusal
 use Rattle.model_frame.specs.Writing.{WriteAnswer, took}
 use Rattle.model_frame.specs.Writing as writing
 use Rattle.model_frame.specs.Frame.{Field, frameKind, part, refusal, change, Fault, too_long, truncated, unknown, bad_text, bad_session, bad_timestamp, bad_marks, fault_number, Decoded, more, faulty, got}
@@ -8,6 +10,10 @@ use Rattle.model_frame.specs.Frame.{Field, frameKind, part, refusal, change, Fau
 -- done, and nothing is left
 abbrev pub last_code : ℕ
 last_code = 2 ^ 63 + 2 ^ 62
+
+-- 11 for a version that there isn't, first of all
+abbrev pub in_version : ℕ → ℕ → ℕ
+in_version version code = cond (is_version version) code (refusal_code Refusal.bad_version 0)
 
 -- ---- reading
 

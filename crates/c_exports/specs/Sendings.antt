@@ -27,25 +27,25 @@ abbrev pub sender_in : ℕ → ℕ → List ℕ → Sender
 sender_in h e q = record { handle = h; epoch = e; last = get_or q 0 0; from = resume_from (get_or q 2 0) (is_set (get_or q 3 0)) }
 
 -- fewer than four words are 25; a sending that has not begun begins
-abbrev pub start_in : ℕ → Option Session → ℕ → ℕ → ℕ → List ℕ → SendStart
-start_in limit a i h e q =
+abbrev pub start_in : ℕ → ℕ → Option Session → ℕ → ℕ → ℕ → List ℕ → SendStart
+start_in limit version a i h e q =
     cond (ltb (length q) 4) (whole.SendStart.refused Refusal.rules_broken)
-    (cond (eqb (get_or q 1 0) 0) (start_from limit a i h e (get_or q 0 0)) (ready i (sender_in h e q)))
+    (cond (eqb (get_or q 1 0) 0) (start_from limit version a i h e (get_or q 0 0)) (ready i version (sender_in h e q)))
 
 -- the call from there
 abbrev pub step_by : ℕ → Option Session → SendStart → ℕ → SendStep
 step_by limit a (whole.SendStart.refused n) room = whole.SendStep.refused n
-step_by limit a (ready i s) room = step_from limit a i s room
+step_by limit a (ready i version s) room = step_from limit version a i s room
 
 -- the area after it
 abbrev pub send_area : ℕ → Option Session → SendStart → List ℕ → List ℕ
 send_area limit a (whole.SendStart.refused n) out = out
-send_area limit a (ready i s) out = area_from limit a s out
+send_area limit a (ready i version s) out = area_from limit version a s out
 
 -- a refusal, a frame by its length, or done
 abbrev pub send_code : SendStep → ℕ
 send_code (whole.SendStep.refused n) = refusal_code n 0
-send_code (gives len i t) = done_code len
+send_code (gives len i version t) = done_code len
 send_code finished = last_code
 
 -- the words for the next call: the sender that they stand for, and each of the four; those past them are as they were
@@ -56,7 +56,7 @@ pub record NextWords (h e : ℕ) (t : Sender) (q q' : List ℕ) : Type 0 where
 -- only a frame changes the words
 abbrev pub Resumes : ℕ → ℕ → SendStep → List ℕ → List ℕ → Type 0
 Resumes h e (whole.SendStep.refused n) q q' = q' ≡ q
-Resumes h e (gives len i t) q q' = NextWords h e t q q'
+Resumes h e (gives len i version t) q q' = NextWords h e t q q'
 Resumes h e finished q q' = q' ≡ q
 
 -- what a call answers, and how it leaves the words and the area
@@ -65,6 +65,6 @@ pub record SendIs (limit : ℕ) (a : Option Session) (h e : ℕ) (start : SendSt
   pub words : Resumes h e (step_by limit a start (length out)) q q'
   pub area : out' ≡ send_area limit a start out
 
--- the next call of the sending in the words, of the session at place i
-abbrev pub SendsNext : Option Session → ℕ → ℕ → ℕ → List ℕ → List ℕ → List ℕ → List ℕ → ℕ → Type 0
-SendsNext a i h e q q' out out' r = SendIs batch_limit a h e (start_in batch_limit a i h e q) q q' out out' r
+-- the next call of the sending in the words, of the session at place i, in a version
+abbrev pub SendsNext : ℕ → Option Session → ℕ → ℕ → ℕ → List ℕ → List ℕ → List ℕ → List ℕ → ℕ → Type 0
+SendsNext version a i h e q q' out out' r = SendIs batch_limit a h e (start_in batch_limit version a i h e q) q q' out out' r

@@ -12,8 +12,8 @@ ghost use Rattle.frame_writer.specs.Encoding.{written_of};
 ghost use Rattle.frame.specs.Answers.{frame_in};
 ghost use Rattle.active.specs.Whole.{ready, sender_of, stored_at};
 ghost use Rattle.c_session.specs.Telling.{told_at};
-ghost use Rattle.c_exports.specs.Returned.{field_number, fault_detail, fault_code, read_code, written_code};
-ghost use Rattle.c_exports.specs.Exports.{Again, Rewrites, shape_of, TellsPlace, TellsAnswer};
+ghost use Rattle.c_exports.specs.Returned.{in_version, field_number, fault_detail, fault_code, read_code, written_code};
+ghost use Rattle.c_exports.specs.Exports.{Again, Rewrites, RewritesIn, shape_of, TellsPlace, TellsAnswer};
 ghost use Rattle.c_exports.specs.Queues.{PushesWords, Filled};
 ghost use Rattle.c_exports.specs.Sendings.{from_word, done_byte, SendIs, SendsNext};
 
@@ -66,41 +66,57 @@ fn written(written: Result<usize, EncodeError>) -> u64
 
 // ---- frames
 
-const PROTOCOL: Protocol = Protocol {
-    version: Frame::VERSION,
-};
-
 // A frame that was read from src, written again; `used` is how many bytes it took.
-fn rewritten(decoded: Frame, used: usize, src: &[u8], out: &mut [u8]) -> u64
-    ensures { Again used (write_outcome 1 (frame_in 1 src.now decoded) (length out.old)) out.old out.new result }
+fn rewritten(protocol: Protocol, decoded: Frame, used: usize, src: &[u8], out: &mut [u8]) -> u64
+    ensures { Again used (write_outcome protocol.version (frame_in protocol.version src.now decoded) (length out.old)) out.old out.new result }
 {
-    match decoded.encode(PROTOCOL, src, out) {
+    match decoded.encode(protocol, src, out) {
         Ok(_) => done(used),
         Err(e) => refusal(Refusal::from(e).number(), 0),
     }
 }
 
-// Reads one frame and writes it again.
-#[unsafe(no_mangle)]
-pub extern "C" fn wz_frame(frame: &[u8], out: &mut [u8]) -> u64
-    ensures { Rewrites (decode 1 frame.now) out.old out.new result }
+// Reads one frame and writes it again, in a version that there is.
+fn read_and_write(protocol: Protocol, frame: &[u8], out: &mut [u8]) -> u64
+    ensures { Rewrites (decode protocol.version frame.now) out.old out.new result }
 {
-    match Frame::decode(PROTOCOL, frame) {
+    match Frame::decode(protocol, frame) {
         Ok(None) => 0,
-        Ok(Some((f, used))) => rewritten(f, used, frame, out),
+        Ok(Some((f, used))) => rewritten(protocol, f, used, frame, out),
         Err(e) => fault(e),
     }
 }
 
-// Reads one frame.
+// Reads one frame and writes it again, in the version that is handed in.
 #[unsafe(no_mangle)]
-pub extern "C" fn wz_read(frame: &[u8]) -> u64
-    ensures { result ≡ read_code (decode 1 frame.now) }
+pub extern "C" fn wz_frame(frame: &[u8], out: &mut [u8], version: u16) -> u64
+    ensures { RewritesIn version frame.now out.old out.new result }
 {
-    match Frame::decode(PROTOCOL, frame) {
+    match Protocol::new(version) {
+        Ok(protocol) => read_and_write(protocol, frame, out),
+        Err(e) => refusal(e.number(), 0),
+    }
+}
+
+// Reads one frame, in a version that there is.
+fn read(protocol: Protocol, frame: &[u8]) -> u64
+    ensures { result ≡ read_code (decode protocol.version frame.now) }
+{
+    match Frame::decode(protocol, frame) {
         Ok(None) => 0,
         Ok(Some((_, used))) => done(used),
         Err(e) => fault(e),
+    }
+}
+
+// Reads one frame, in the version that is handed in.
+#[unsafe(no_mangle)]
+pub extern "C" fn wz_read(frame: &[u8], version: u16) -> u64
+    ensures { result ≡ in_version version (read_code (decode version frame.now)) }
+{
+    match Protocol::new(version) {
+        Ok(protocol) => read(protocol, frame),
+        Err(e) => refusal(e.number(), 0),
     }
 }
 
@@ -151,7 +167,7 @@ fn send_code(
     out: &mut [u8],
 ) -> u64
     requires { 4 ≤ length sending.old }
-    ensures { SendIs batch_limit (stored_at shape words.now bytes.now state.place) state.handle state.epoch.0 (ready state.place (sender_of state)) sending.old sending.new out.old out.new result }
+    ensures { SendIs batch_limit (stored_at shape words.now bytes.now state.place) state.handle state.epoch.0 (ready state.place state.version (sender_of state)) sending.old sending.new out.old out.new result }
 {
     match state.send_whole(shape, words, bytes, out) {
         Ok(Some(sent)) => {
@@ -163,7 +179,7 @@ fn send_code(
     }
 }
 
-// The next frame of a whole sending.
+// The next frame of a whole sending, in the version that is handed in with each call.
 #[unsafe(no_mangle)]
 pub extern "C" fn wz_send(
     words: &[u64],
@@ -176,8 +192,9 @@ pub extern "C" fn wz_send(
     place: usize,
     handle: u32,
     epoch: u64,
+    version: u16,
 ) -> u64
-    ensures { SendsNext (stored_at (shape_of sessions c m) words.now bytes.now place) place handle epoch sending.old sending.new out.old out.new result }
+    ensures { SendsNext version (stored_at (shape_of sessions c m) words.now bytes.now place) place handle epoch sending.old sending.new out.old out.new result }
 {
     let shape = Shape {
         places: sessions,
@@ -190,6 +207,7 @@ pub extern "C" fn wz_send(
     let last = CommitNumber(sending[0]);
     if sending[1] != 0 {
         let s = Sending {
+            version,
             place,
             handle,
             epoch: Epoch(epoch),
@@ -198,7 +216,17 @@ pub extern "C" fn wz_send(
         };
         return send_code(s, shape, words, bytes, sending, out);
     }
-    match Sending::begin(shape, words, bytes, place, handle, Epoch(epoch), last) {
+    let begun = Sending::begin(
+        version,
+        shape,
+        words,
+        bytes,
+        place,
+        handle,
+        Epoch(epoch),
+        last,
+    );
+    match begun {
         Ok(s) => send_code(s, shape, words, bytes, sending, out),
         Err(e) => refusal(e.number(), 0),
     }
@@ -252,16 +280,20 @@ pub extern "C" fn wz_queue(queue: &mut [u64], max_lag: u64, last: u64) -> u64
 
 // ---- the standby's answers
 
-// An answer's frame; 0 bytes for done, 8 for a record that is no answer. The byte area is the store's.
+// An answer's frame, in the version that is handed in; 0 bytes for done, 8 for a record that is no answer. The byte area is the store's.
 #[unsafe(no_mangle)]
-pub extern "C" fn wz_answer(answer: Answer, bytes: &[u8], out: &mut [u8]) -> u64
-    ensures { TellsAnswer bytes.now answer out.old out.new result }
+pub extern "C" fn wz_answer(answer: Answer, bytes: &[u8], out: &mut [u8], version: u16) -> u64
+    ensures { TellsAnswer version bytes.now answer out.old out.new result }
 {
+    let protocol = match Protocol::new(version) {
+        Ok(protocol) => protocol,
+        Err(e) => return refusal(e.number(), 0),
+    };
     if answer.refusal != 0 {
         return refusal(answer.refusal, 0);
     }
     if answer.kind == 0 {
         return done(0);
     }
-    written(standby_reply::write(answer, bytes, out))
+    written(standby_reply::write(protocol, answer, bytes, out))
 }

@@ -3,6 +3,7 @@
 #![tactic(auto)]
 
 ghost use Rattle.std.proofs.Math.Option.{some};
+ghost use Rattle.model_text.specs.Version.{latest};
 ghost use Rattle.model_frame.specs.Reading.{decode};
 ghost use Rattle.model_screen.specs.FrameText.{frame_line};
 ghost use Rattle.model_screen.specs.RefusalText.{refusal_text};
@@ -43,7 +44,7 @@ pub extern "C" fn wz_screen_frame(
     reply: &[u8],
     out: &mut [u8],
 ) -> u64
-    ensures { TellsScreen (some (frame_line number offset (decode 1 frame.now) refusal (decode 1 reply.now))) out.old out.new result }
+    ensures { TellsScreen (some (frame_line number offset (decode latest frame.now) refusal (decode latest reply.now))) out.old out.new result }
 {
     code(screen_frame::put_frame(number, offset, frame, refusal, reply, out))
 }

@@ -16,6 +16,7 @@ use Rattle.model_frame.specs.Frame.{Frame}
 use Rattle.model_frame.specs.Reading.{max_body}
 use Rattle.model_frame.specs.Writing.{body_bytes, encode, write_outcome}
 use Rattle.model_frame.proofs.Le.{are_bytes, bytes_take}
+use Rattle.frame_stamp.specs.Versions.{version_of}
 use Rattle.model_standby.specs.Answer as the-answer
 use Rattle.model_standby.specs.Answer.{reply, refused, done}
 use Rattle.model_standby.specs.State as the-state
@@ -58,14 +59,14 @@ put_text {t} {out} {out'} {n} p = ap (take n) p.wrote ∙ take_at t (drop (lengt
 
 -- ---- the answer's text: what is told can be written, and fits
 
-said : (f : Frame) {room : ℕ} → Tellable f → answer_bytes ≤ room → outcome_text (write_outcome 1 (some f) room) ≡ hex_of (encode f)
+said : (v : ℕ) (f : Frame) {room : ℕ} → Tellable v f → answer_bytes ≤ room → outcome_text (write_outcome v (some f) room) ≡ hex_of (encode f)
 unfolding write_outcome
-said f {room} t big = rw (t.writable.texts, le-ltb max_body (length (body_bytes f)) t.writable.short, le-ltb room (length (encode f)) (le_trans t.small big)) refl
+said v f {room} t big = rw (t.writable.texts, le-ltb max_body (length (body_bytes f)) t.writable.short, le-ltb room (length (encode f)) (le_trans t.small big)) refl
 
-text_is : (a : the-answer.Answer) {room : ℕ} → Told a → answer_bytes ≤ room → answer_text room a ≡ line_text a
-text_is (reply f) t big = said f t big
-text_is (refused n) t big = refl
-text_is done t big = absurd t
+text_is : (v : ℕ) (a : the-answer.Answer) {room : ℕ} → Told v a → answer_bytes ≤ room → answer_text v room a ≡ line_text a
+text_is v (reply f) t big = said v f t big
+text_is v (refused n) t big = refl
+text_is v done t big = absurd t
 
 -- what the lent areas and the counters are, whatever they hold
 pub record Numbers (c : Replica) (w b : List ℕ) : Type 0 where
@@ -83,12 +84,12 @@ module _ (l : List ℕ) (c : Replica) (row : List Bound) (w b h out : List ℕ) 
   abbrev st : Standby
   st = standby_of the_settings c row w b h
 
-  told : {c' : Replica} {row' : List Bound} {w' b' h' : List ℕ} {a : the_code.Answer} (f : List ℕ) → Numbers c w b → T (is_bytes f) → Called the_settings (on_frame f) c c' row row' w w' b b' h h' a → Told (the-answers.answer_of b' a)
-  told {b' = b'} {a = a} f n ok k = go (allowed_all the_settings row w b h) refl
+  told : {c' : Replica} {row' : List Bound} {w' b' h' : List ℕ} {a : the_code.Answer} (f : List ℕ) → Numbers c w b → T (is_bytes f) → Called the_settings (on_frame f) c c' row row' w w' b b' h h' a → Told (version_of c'.version2) (the-answers.answer_of b' a)
+  told {c' = c'} {b' = b'} {a = a} f n ok k = go (allowed_all the_settings row w b h) refl
     where
-      go : (x : Bool) → allowed_all the_settings row w b h ≡ x → Told (the-answers.answer_of b' a)
-      go true e = subst Told (sym (ap (λ (r : the-state.Result). r.answer) (k.steps e).is)) (frame_told L st f (omega arith) ok (telling c row w b h n))
-      go false e = subst (λ (x : the_code.Answer). Told (the-answers.answer_of b' x)) (sym (k.refuses e).0) tt
+      go : (x : Bool) → allowed_all the_settings row w b h ≡ x → Told (version_of c'.version2) (the-answers.answer_of b' a)
+      go true e = subst (λ (r : the-state.Result). Told r.state.counters.version r.answer) (sym (k.steps e).is) (frame_told L st f (omega arith) ok (telling c row w b h n))
+      go false e = subst (λ (x : the_code.Answer). Told (version_of c'.version2) (the-answers.answer_of b' x)) (sym (k.refuses e).0) tt
 
   heard_is : {c' : Replica} {row' : List Bound} {w' b' h' t : List ℕ} (x : List ℕ) → x ≡ t → Heard l c c' row row' w w' b b' h h' t → allowed_all the_settings row w b h ≡ true → record { state = standby_of the_settings c' row' w' b' h'; text = x } ≡ line_step L st l
   heard_is x ex (unread e ec er ew eb eh) ok = (λ j. record { state = standby_of the_settings (ec j) (er j) (ew j) (eb j) (eh j); text = ex j }) ∙ sym (ap (on_bytes L st) e)
@@ -101,14 +102,14 @@ module _ (l : List ℕ) (c : Replica) (row : List Bound) (w b h out : List ℕ) 
   pub bad_line : {buf out' : List ℕ} {r : std.Option ℕ} {n : ℕ} → ReadsLine (line_bytes l) buf r → r ≡ None → Puts (refusal_text 26) out out' n → AnswersLine l c c row row w w b b h h out out' n
   bad_line {buf} g e p = answers (unread (sym g.bytes ∙ ap (line_read buf) e) refl refl refl refl refl) p
 
-  pub some_line : {buf : List ℕ} {r : std.Option ℕ} (m : ℕ) → Numbers c w b → ReadsLine (line_bytes l) buf r → ((i : ℕ) → get_or buf i 0 < 256) → r ≡ Some m → {c' : Replica} {row' : List Bound} {w' b' h' out' : List ℕ} {s : Settings} {a : the_code.Answer} {n k : ℕ} → answer_bytes ≤ k → s ≡ the_settings → Called s (on_frame (take (m - 0) (drop 0 buf))) c c' row row' w w' b b' h h' a → Puts (record_text k b' a) out out' n → AnswersLine l c c' row row' w w' b b' h h' out out' n
+  pub some_line : {buf : List ℕ} {r : std.Option ℕ} (m : ℕ) → Numbers c w b → ReadsLine (line_bytes l) buf r → ((i : ℕ) → get_or buf i 0 < 256) → r ≡ Some m → {c' : Replica} {row' : List Bound} {w' b' h' out' : List ℕ} {s : Settings} {a : the_code.Answer} {n k : ℕ} → answer_bytes ≤ k → s ≡ the_settings → Called s (on_frame (take (m - 0) (drop 0 buf))) c c' row row' w w' b b' h h' a → Puts (record_text (version_of c'.version2) k b' a) out out' n → AnswersLine l c c' row row' w w' b b' h h' out out' n
   some_line {buf} m num g ok e {c'} {row'} {w'} {b'} {h'} {out' = out'} {a = a} {n = n} {k = room} big es k p =
       let cut : m - 0 ≡ m = omega arith in
       let call : Called the_settings (on_frame (take m buf)) c c' row row' w w' b b' h h' a =
       subst (λ (x : ℕ). Called the_settings (on_frame (take x buf)) c c' row row' w w' b b' h h' a) cut
       (subst (λ (x : Settings). Called x (on_frame (take (m - 0) buf)) c c' row row' w w' b b' h h' a) es k) in
-      let t : Told (the-answers.answer_of b' a) = told (take m buf) num (bytes_take m buf (are_bytes buf ok)) call in
-      answers (called (take m buf) a (sym g.bytes ∙ ap (line_read buf) e) call) (subst (λ (x : List ℕ). Puts x out out' n) (exact_text room b' a call.exact ∙ text_is (the-answers.answer_of b' a) t big) p)
+      let t : Told (version_of c'.version2) (the-answers.answer_of b' a) = told (take m buf) num (bytes_take m buf (are_bytes buf ok)) call in
+      answers (called (take m buf) a (sym g.bytes ∙ ap (line_read buf) e) call) (subst (λ (x : List ℕ). Puts x out out' n) (exact_text (version_of c'.version2) room b' a call.exact ∙ text_is (version_of c'.version2) (the-answers.answer_of b' a) t big) p)
 
 -- the text lies in the output area
 pub told_fits : {l : List ℕ} {c c' : Replica} {row row' : List Bound} {w w' b b' h h' out out' : List ℕ} {n : ℕ} → AnswersLine l c c' row row' w w' b b' h h' out out' n → n ≤ length out'

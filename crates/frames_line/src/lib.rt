@@ -7,6 +7,7 @@ ghost use Rattle.frames_line.specs.Answering.{the_settings, AnswersLine};
 
 use base_refusals::Refusal;
 use frame_fields::Incarnation;
+use frame_stamp::Protocol;
 use standby_row::Bound;
 use standby_state::{Replica, Settings};
 use store_areas::Shape;
@@ -69,10 +70,11 @@ fn answer_in(
                 &buf[0..n],
                 settings(),
             );
+            let protocol = Protocol::of_byte(replica.version2);
             LineAnswer {
                 replica,
                 row,
-                len: frames_reply::put_answer(answer, bytes, buf, out),
+                len: frames_reply::put_answer(protocol, answer, bytes, buf, out),
             }
         }
         None => LineAnswer {

@@ -42,10 +42,10 @@ abbrev size : WriteOutcome → ℕ
 size (wrote bs) = length bs
 size (refused n) = 0
 
-room : (f : Option Frame) (k : ℕ) → size (write_outcome 1 f k) ≤ k
+room : (v : ℕ) (f : Option Frame) (k : ℕ) → size (write_outcome v f k) ≤ k
 unfolding write_outcome
-room none k = omega arith
-room (some f) k = go (fine 1 f) (ltb max_body (length (body_bytes f))) (ltb k (length (encode f))) refl
+room v none k = omega arith
+room v (some f) k = go (fine v f) (ltb max_body (length (body_bytes f))) (ltb k (length (encode f))) refl
   where
     go : (a b t : Bool) → ltb k (length (encode f)) ≡ t → size (cond a (cond b (refused 1) (cond t (refused 9) (wrote (encode f)))) (refused 8)) ≤ k
     go false b t e = omega arith
@@ -64,18 +64,18 @@ told_no : (o : WriteOutcome) (m : ℕ) → write_refusal m ≡ write_answer o �
 told_no (wrote bs) m e = absurd (omega (arith, ap tag e))
 told_no (refused k) m e = ap (λ (x : ℕ). refusal_text x) (ap told e)
 
-module _ (f : Option Frame) {before after : List ℕ} where
-  pub took_front : (n : ℕ) → Encoded 1 f before after (Ok n) → write_outcome 1 f (length before) ≡ wrote (take n after)
-  took_front n e = front (write_outcome 1 f (length before)) n before after (room f (length before)) e.answer e.area
+module _ (v : ℕ) (f : Option Frame) {before after : List ℕ} where
+  pub took_front : (n : ℕ) → Encoded v f before after (Ok n) → write_outcome v f (length before) ≡ wrote (take n after)
+  took_front n e = front (write_outcome v f (length before)) n before after (room v f (length before)) e.answer e.area
 
-  pub took_fits : (n : ℕ) → Encoded 1 f before after (Ok n) → n ≤ length before
-  took_fits n e = go (write_outcome 1 f (length before)) (room f (length before)) e.answer
+  pub took_fits : (n : ℕ) → Encoded v f before after (Ok n) → n ≤ length before
+  took_fits n e = go (write_outcome v f (length before)) (room v f (length before)) e.answer
     where
       go : (o : WriteOutcome) → size o ≤ length before → took n ≡ write_answer o → n ≤ length before
       go (wrote bs) h q = omega (arith, ap told q)
       go (refused m) h q = absurd (omega (arith, ap tag q))
 
-  pub put_digits : (n : ℕ) (out : List ℕ) {out' : List ℕ} → length after ≡ length before → Encoded 1 f before after (Ok n) → WroteFront (hex_of (take (n - 0) (drop 0 after))) out out' → Puts (outcome_text (write_outcome 1 f (length before))) out out' (2 * n)
+  pub put_digits : (n : ℕ) (out : List ℕ) {out' : List ℕ} → length after ≡ length before → Encoded v f before after (Ok n) → WroteFront (hex_of (take (n - 0) (drop 0 after))) out out' → Puts (outcome_text (write_outcome v f (length before))) out out' (2 * n)
   put_digits n out {out'} same e h =
       let fit : n ≤ length after = omega (arith, took_fits n e) in
       let cut : n - 0 ≡ n = omega arith in
@@ -83,32 +83,32 @@ module _ (f : Option Frame) {before after : List ℕ} where
       subst (λ (o : WriteOutcome). Puts (outcome_text o) out out' (2 * n)) (sym (took_front n e))
       (record { count = long; wrote = subst (λ (k : ℕ). WroteFront (hex_of (take k after)) out out') cut h })
 
-  pub put_no : (e : EncodeError) (m : ℕ) {out out' : List ℕ} {n : ℕ} → m ≡ error_number e → Encoded 1 f before after (Err e) → Puts (refusal_text m) out out' n → Puts (outcome_text (write_outcome 1 f (length before))) out out' n
-  put_no x m {out} {out'} {n} q e h = subst (λ (t : List ℕ). Puts t out out' n) (told_no (write_outcome 1 f (length before)) m (ap write_refusal q ∙ e.answer)) h
+  pub put_no : (e : EncodeError) (m : ℕ) {out out' : List ℕ} {n : ℕ} → m ≡ error_number e → Encoded v f before after (Err e) → Puts (refusal_text m) out out' n → Puts (outcome_text (write_outcome v f (length before))) out out' n
+  put_no x m {out} {out'} {n} q e h = subst (λ (t : List ℕ). Puts t out out' n) (told_no (write_outcome v f (length before)) m (ap write_refusal q ∙ e.answer)) h
 
 -- ---- the text of an answer
 
-module _ (room : ℕ) (b : List ℕ) (a : Answer) where
+module _ (v room : ℕ) (b : List ℕ) (a : Answer) where
   abbrev By : Bool → Bool → List ℕ
-  By t u = cond t (cond u [] (outcome_text (write_outcome 1 (frame_for b a) room))) (refusal_text a.refusal)
+  By t u = cond t (cond u [] (outcome_text (write_outcome v (frame_for b a) room))) (refusal_text a.refusal)
 
   -- the record of an answer has that answer's text
-  pub exact_text : Exact b a → record_text room b a ≡ answer_text room (answer_of b a)
+  pub exact_text : Exact b a → record_text v room b a ≡ answer_text v room (answer_of b a)
   exact_text x = go (eqb a.refusal 0) (eqb a.kind 0) refl refl
     where
-      go : (t u : Bool) → eqb a.refusal 0 ≡ t → eqb a.kind 0 ≡ u → By t u ≡ answer_text room (cond t (cond u the-answer.done (the-answer.reply (frame_by b a))) (the-answer.refused a.refusal))
+      go : (t u : Bool) → eqb a.refusal 0 ≡ t → eqb a.kind 0 ≡ u → By t u ≡ answer_text v room (cond t (cond u the-answer.done (the-answer.reply (frame_by b a))) (the-answer.refused a.refusal))
       go true true p q = refl
       go true false p q =
-          ap (λ (f : Option Frame). outcome_text (write_outcome 1 f room))
+          ap (λ (f : Option Frame). outcome_text (write_outcome v f room))
           (exact_frame b a x (λ j. cond (p j) (cond (q j) the-answer.done (the-answer.reply (frame_by b a))) (the-answer.refused a.refusal)))
       go false u p q = refl
 
   module _ (out : List ℕ) where
-    pub text_done : a.refusal ≡ 0 → a.kind ≡ 0 → Puts (record_text room b a) out out 0
+    pub text_done : a.refusal ≡ 0 → a.kind ≡ 0 → Puts (record_text v room b a) out out 0
     text_done e k = subst (λ (t : List ℕ). Puts t out out 0) (sym (λ j. By (eq-eqb a.refusal 0 e j) (eq-eqb a.kind 0 k j))) (record { count = refl; wrote = refl })
 
-    pub text_reply : a.refusal ≡ 0 → (a.kind ≡ 0 → ⊥) → {out' : List ℕ} {n : ℕ} → Puts (outcome_text (write_outcome 1 (frame_for b a) room)) out out' n → Puts (record_text room b a) out out' n
+    pub text_reply : a.refusal ≡ 0 → (a.kind ≡ 0 → ⊥) → {out' : List ℕ} {n : ℕ} → Puts (outcome_text (write_outcome v (frame_for b a) room)) out out' n → Puts (record_text v room b a) out out' n
     text_reply e k {out'} {n} h = subst (λ (t : List ℕ). Puts t out out' n) (sym (λ j. By (eq-eqb a.refusal 0 e j) (ne_eqb a.kind 0 k j))) h
 
-    pub text_refused : (a.refusal ≡ 0 → ⊥) → {out' : List ℕ} {n : ℕ} → Puts (refusal_text a.refusal) out out' n → Puts (record_text room b a) out out' n
+    pub text_refused : (a.refusal ≡ 0 → ⊥) → {out' : List ℕ} {n : ℕ} → Puts (refusal_text a.refusal) out out' n → Puts (record_text v room b a) out out' n
     text_refused e {out'} {n} h = subst (λ (t : List ℕ). Puts t out out' n) (sym (ap (λ (t : Bool). By t (eqb a.kind 0)) (ne_eqb a.refusal 0 e))) h

@@ -12,3 +12,4 @@ pub mod Grow
 pub mod Runs
 pub mod Written
 pub mod Points
+pub mod Wider

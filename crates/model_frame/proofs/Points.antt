@@ -7,7 +7,7 @@ use mathlib.Core.Option.{none, some}
 use Rattle.model_text.specs.Utf8.{utf8, well_formed, lead_length, own_bits, least, fitting, is_scalar, is_surrogate, is_tail}
 use Rattle.model_text.specs.Printable.{is_printable_byte, is_printable, is_marks, is_key}
 use Rattle.model_text.specs.Calendar.{is_leap, month_days}
-use Rattle.model_text.specs.Stamp.{is_digit, is_pair, day_exists, is_stamp, takes_stamp}
+use Rattle.model_text.specs.Stamp.{is_digit, is_pair, has_digits, day_exists, is_short, is_stamp, takes_stamp}
 use Rattle.model_frame.specs.Bytes.{le}
 use Rattle.model_frame.specs.Frame.{record_msg, record_bare, reset, set_created_at, commit, whole, last_whole, stale_epoch, hello, bind, batch, nack, bound, frameKind, part, refusal, change, too_long, truncated, unknown, bad_text, bad_session, bad_timestamp, bad_marks, fault_number, Decoded, more, faulty, got}
 use Rattle.model_frame.specs.Parse.{read_bytes, read_num, read_blob, read_text, read_count, many}
@@ -108,5 +108,5 @@ nearby =
     ∷ []
 
 pub points : answered (first_points ++ nearby) ≡ expected (first_points ++ nearby)
-unfolding decode le read_num read_bytes read_blob read_text read_count many read_body read_fields hello_fields welcome_fields bind_fields batch_fields ack_fields nack_fields bound_fields checked_fields read_kinds read_changes read_change set_incoming_fields set_incoming_in_flight_fields set_in_flight_fields record_msg_fields record_bare_fields set_created_at_fields set_marks_fields read_app_records read_app_record read_part read_reason read_key read_summary read_stamp read_stamp_or_none read_marks utf8 well_formed lead_length own_bits least fitting is_scalar is_surrogate is_tail is_printable_byte is_printable is_marks is_key is_digit is_pair is_stamp day_exists month_days is_leap takes_stamp
+unfolding decode le read_num read_bytes read_blob read_text read_count many read_body read_fields hello_fields welcome_fields bind_fields batch_fields ack_fields nack_fields bound_fields checked_fields read_kinds read_changes read_change set_incoming_fields set_incoming_in_flight_fields set_in_flight_fields record_msg_fields record_bare_fields set_created_at_fields set_marks_fields read_app_records read_app_record read_part read_reason read_key read_summary read_stamp read_stamp_or_none read_marks utf8 well_formed lead_length own_bits least fitting is_scalar is_surrogate is_tail is_printable_byte is_printable is_marks is_key is_digit is_pair is_short is_stamp has_digits day_exists month_days is_leap takes_stamp
 points = refl

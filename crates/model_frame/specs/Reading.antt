@@ -1,5 +1,4 @@
--- How a frame is read: document 01's tables of kinds and changes. The version goes to `takes_stamp` alone, which takes every
--- stamp in every version. Assumes nothing.
+-- How a frame is read: document 01's tables of kinds and changes. The version goes to `takes_stamp` alone. Assumes nothing.
 use Rattle.std.specs.Prelude.{ℕ, ◌+◌, ◌-◌, cond, ◌||◌, List, [], ◌∷◌, length, take, drop, ltb, eqb}
 use Rattle.std.proofs.Math.Option.{Option, none, some}
 use Rattle.model_text.specs.Printable.{is_marks, is_key}
@@ -10,7 +9,7 @@ use Rattle.model_frame.specs.FrameKind
 use Rattle.model_frame.specs.ChangeKind
 use Rattle.model_frame.specs.PartByte
 use Rattle.model_frame.specs.ReasonByte
-use Rattle.model_frame.specs.Parse.{is_empty, Res, ok, bad, Parser, choose, and_then, ◌>>=◌, pure, fail, read_num, read_blob, read_text, read_count, many}
+use Rattle.model_frame.specs.Parse.{is_empty, Res, ok, bad, Parser, choose, ◌>>=◌, pure, fail, read_num, read_blob, read_text, read_count, many}
 
 -- the longest body
 abbrev pub max_body : ℕ

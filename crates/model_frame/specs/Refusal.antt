@@ -41,7 +41,7 @@ no_room = 9
 abbrev pub promoted : ℕ
 promoted = 10
 
--- version not 1
+-- version not 1 or 2
 abbrev pub bad_version : ℕ
 bad_version = 11
 
@@ -104,3 +104,7 @@ rules_broken = 25
 -- not just one whole frame; of a line: bad digit, odd, empty or long, or not just one whole frame
 abbrev pub not_one_frame : ℕ
 not_one_frame = 26
+
+-- a long stamp, which version 1 doesn't take
+abbrev pub long_stamp : ℕ
+long_stamp = 32

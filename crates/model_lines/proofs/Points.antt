@@ -9,6 +9,7 @@ use Rattle.model_frame.specs.Bytes.{le, bytes_of}
 use Rattle.model_frame.specs.Parse.{read_bytes, read_num, read_blob, read_text, read_count, many}
 use Rattle.model_frame.specs.Reading.{read_changes, read_kinds, read_app_records, read_part, hello_fields, batch_fields, read_fields, read_body, decode}
 use Rattle.model_frame.specs.Writing.{body_bytes, encode}
+use Rattle.model_text.specs.Version.{is_version}
 use Rattle.model_standby.specs.Answer.{given}
 use Rattle.model_standby.specs.Standby.{on_hello, on_handle, on_batch, on_given, step}
 use Rattle.model_lines.specs.Program.{frames_output}
@@ -47,5 +48,5 @@ two_lines :
     ∷ []
     ∷ (82 ∷ 32 ∷ 50 ∷ 54 ∷ feed ∷ 82 ∷ 32 ∷ 50 ∷ 54 ∷ feed ∷ 82 ∷ 32 ∷ 50 ∷ 54 ∷ feed ∷ [])
     ∷ []
-unfolding step on_given on_hello on_batch on_handle given decode le read_num read_bytes read_blob read_text read_count many read_body read_fields hello_fields batch_fields read_kinds read_changes read_app_records read_part utf8 well_formed lead_length own_bits least fitting is_scalar is_surrogate digit_value line_bytes digit_of decimal refusal_text encode body_bytes bytes_of
+unfolding step on_given on_hello on_batch on_handle given decode le read_num read_bytes read_blob read_text read_count many read_body read_fields hello_fields batch_fields read_kinds read_changes read_app_records read_part utf8 well_formed lead_length own_bits least fitting is_scalar is_surrogate digit_value line_bytes digit_of decimal refusal_text encode body_bytes bytes_of is_version
 two_lines = refl

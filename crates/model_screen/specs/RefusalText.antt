@@ -16,7 +16,7 @@ reading =
     ∷ worded 3 (codes "R 3    an unknown byte of a kind, a part, a reason or a change\n       A damaged frame, or a newer sender. End the connection.\n")
     ∷ worded 4 (codes "R 4    a text that isn't UTF-8\n       Mend the sender's text: Latin-1 is the usual cause.\n")
     ∷ worded 5 (codes "R 5    a key that is none\n       Mend the session's names: a text is empty, too long or not printable.\n")
-    ∷ worded 6 (codes "R 6    a stamp that is none\n       Mend the sender: YYYYMMDD-HH:MM:SS or that with .sss is taken, of a day\n       that exists.\n")
+    ∷ worded 6 (codes "R 6    a stamp that is none\n       Mend the sender: YYYYMMDD-HH:MM:SS or that with .sss is taken, of a day\n       that exists; in version 2 also 6, 9 or 12 digits behind the point.\n")
     ∷ worded 7 (codes "R 7    marks that are none\n       Mend the sender: at most 64 printable bytes are taken.\n") ∷ []
 
 abbrev pub writing : List Worded
@@ -27,7 +27,7 @@ writing =
 abbrev pub taking : List Worded
 taking =
     worded 10 (codes "R 10   the standby has taken over\n       Stop the old active. If this was a mistake, begin a new standby.\n")
-    ∷ worded 11 (codes "R 11   a Hello of another version\n       Install the same version on both machines.\n")
+    ∷ worded 11 (codes "R 11   a version that is neither 1 nor 2\n       Install the same version on both machines.\n")
     ∷ worded 12 (codes "R 12   a Hello lists kinds of application record\n       Switch them off in the active: this standby keeps none.\n")
     ∷ worded 13 (codes "R 13   a Batch has application records\n       Switch them off in the active: this standby keeps none.\n")
     ∷ worded 14 (codes "R 14   a Batch on a handle that isn't bound\n       The active must Bind first, and anew after every Hello.\n")
@@ -57,6 +57,7 @@ requests =
     ∷ worded 29 (codes "R 29   a false length or sum in a message log\n       The message was changed since it was sent: ask for an unchanged copy.\n")
     ∷ worded 30 (codes "R 30   a number in a message log that doesn't rise\n       Cut the file at the reset, and import the part that counts.\n")
     ∷ worded 31 (codes "R 31   a lease's time that falls\n       Hand in a clock that never falls, and times in the order of reading.\n")
+    ∷ worded 32 (codes "R 32   a stamp with more than three digits of a second, over version 1\n       Let the active connect by a Hello of version 2: a stamp is never cut.\n")
     ∷ worded 33 (codes "R 33   a stamp that has no number\n       It is before 1970, or its second is 60: sort such stamps as texts.\n")
     ∷ worded 34 (codes "R 34   a number that has no stamp\n       Mend the call: the time is past the year 9999, or the remainder isn't\n       below 1,000,000,000 picoseconds.\n")
     ∷ worded 35 (codes "R 35   ranges that are none, or more than 64\n       Turn the counterparty's request down.\n")

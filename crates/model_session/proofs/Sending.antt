@@ -13,11 +13,11 @@ use Rattle.model_frame.specs.Frame.{Change, record_msg, reset, set_marks}
 use Rattle.model_frame.specs.Sizes.{sizes}
 use Rattle.model_frame.proofs.Runs.{sizes_append}
 use Rattle.model_frame.specs.Parse.{Each}
-use Rattle.model_text.specs.Stamp.{is_stamp, longest_stamp}
+use Rattle.model_text.specs.Stamp.{is_stamp, longest_stamp, longest_short}
 use Rattle.model_text.specs.Printable.{is_marks}
 use Rattle.model_text.proofs.Laws.{stamp_is, marks_is}
 use Rattle.model_session.specs.Session.{Session, Msg, stored_bytes, has_space, evict, keep, apply, apply_all, fits, message_bytes, top, Rising, Holdable, is_stamp_or_none}
-use Rattle.model_session.specs.Whole.{hold_length, all_changes, stamp_part, skip_to, send_msg, incoming_part, closing, batch_if, batches_from, whole_batches}
+use Rattle.model_session.specs.Whole.{longest_like, hold_length, all_changes, stamp_part, skip_to, send_msg, incoming_part, closing, batch_if, batches_from, whole_batches}
 use Rattle.model_session.proofs.Basics.{T→true, and_true, leb_true, ltb_true, eqb_true, cond-true, cond_cases, snoc_append}
 
 -- ---- the changes in one list
@@ -223,14 +223,25 @@ bytes_sends next (m ∷ ms) =
       bytes_sends (suc m.num) ms,
     )
 
--- a stamp is at most 21 bytes long
+-- a stamp is at most 30 bytes long
 pub stamp_short : (s : List ℕ) → T (is_stamp_or_none s) → length s ≤ longest_stamp
 stamp_short [] t = omega arith
 stamp_short (x ∷ xs) t = (stamp_is (x ∷ xs) (T→true (is_stamp (x ∷ xs)) t)).most
 
-sizes_stamp : (s : List ℕ) → length s ≤ longest_stamp → sizes (reset ∷ stamp_part s) ≤ 6 + longest_stamp
-sizes_stamp [] h = omega arith
-sizes_stamp (x ∷ xs) h = omega arith
+-- and at most as long as its kind
+pub stamp_like : (s : List ℕ) → T (is_stamp_or_none s) → length s ≤ longest_like s
+stamp_like s t = cond_cases (λ (n : ℕ). length s ≤ n) (ltb longest_short (length s)) (λ _. stamp_short s t) (λ u. nltb→le longest_short (length s) u)
+
+like_most : (s : List ℕ) → longest_like s ≤ longest_stamp
+like_most s = cond_cases (λ (n : ℕ). n ≤ longest_stamp) (ltb longest_short (length s)) (λ _. omega arith) (λ _. omega arith)
+
+-- a hold area for a long stamp takes any session
+pub hold_most : (C M : ℕ) (s : List ℕ) → hold_length C M s ≤ C + 22 * M + 131
+hold_most C M s = omega (arith, like_most s)
+
+sizes_stamp : (n : ℕ) (s : List ℕ) → length s ≤ n → sizes (reset ∷ stamp_part s) ≤ 6 + n
+sizes_stamp n [] h = omega arith
+sizes_stamp n (x ∷ xs) h = omega arith
 
 bytes_stamp : (s : List ℕ) → message_bytes (reset ∷ stamp_part s) ≡ 0
 bytes_stamp [] = refl
@@ -244,7 +255,7 @@ bytes_end : (n : ℕ) (f : Option ℕ) (mr : List ℕ) → message_bytes (incomi
 bytes_end n none mr = refl
 bytes_end n (some f) mr = refl
 
-pub sizes_whole : (C M : ℕ) (a : Session) → Holdable C M a → sizes (whole_changes a) ≤ hold_length C M
+pub sizes_whole : (C M : ℕ) (a : Session) → Holdable C M a → sizes (whole_changes a) ≤ hold_length C M a.stamp
 sizes_whole C M a h =
     omega (
       arith,
@@ -253,7 +264,7 @@ sizes_whole C M a h =
       sizes_append (skip_to (next_after 1 a.messages) a.next_out) (incoming_part a.next_in a.in_flight ∷ set_marks a.marks ∷ []),
       sizes_skip (next_after 1 a.messages) a.next_out,
       sizes_end a.next_in a.in_flight a.marks,
-      sizes_stamp a.stamp (stamp_short a.stamp h.stamp_ok),
+      sizes_stamp (longest_like a.stamp) a.stamp (stamp_like a.stamp h.stamp_ok),
       sizes_sends 1 a.messages,
       h.msgs_bytes,
       h.msgs_count,
@@ -274,8 +285,8 @@ bytes_whole a =
     )
 
 -- (c) the encoded size of all changes
-pub whole_size : (limit C M : ℕ) (a : Session) → Holdable C M a → sizes (all_changes (whole_batches limit a)) ≤ hold_length C M
-whole_size limit C M a h = subst (λ (l : List Change). sizes l ≤ hold_length C M) (sym (joined_whole limit a)) (sizes_whole C M a h)
+pub whole_size : (limit C M : ℕ) (a : Session) → Holdable C M a → sizes (all_changes (whole_batches limit a)) ≤ hold_length C M a.stamp
+whole_size limit C M a h = subst (λ (l : List Change). sizes l ≤ hold_length C M a.stamp) (sym (joined_whole limit a)) (sizes_whole C M a h)
 
 each_bytes : (n : ℕ) (bs : List (List Change)) → message_bytes (all_changes bs) ≤ n → Each (λ b. message_bytes b ≤ n) bs
 each_bytes n [] h = tt
@@ -290,8 +301,8 @@ each_sizes n [] h = tt
 each_sizes n (b ∷ bs) h = (omega (arith, sizes_append b (all_changes bs)), each_sizes n bs (omega (arith, sizes_append b (all_changes bs))))
 
 -- (c) each batch's encoded changes
-pub batch_sizes : (limit C M : ℕ) (a : Session) → Holdable C M a → Each (λ b. sizes b ≤ hold_length C M) (whole_batches limit a)
-batch_sizes limit C M a h = each_sizes (hold_length C M) (whole_batches limit a) (whole_size limit C M a h)
+pub batch_sizes : (limit C M : ℕ) (a : Session) → Holdable C M a → Each (λ b. sizes b ≤ hold_length C M a.stamp) (whole_batches limit a)
+batch_sizes limit C M a h = each_sizes (hold_length C M a.stamp) (whole_batches limit a) (whole_size limit C M a h)
 
 -- there are no more batches than messages and one
 batches_few : (limit : ℕ) (a : Session) (now : List Change) (bytes next : ℕ) (ms : List Msg) → length (batches_from limit a now bytes next ms) ≤ suc (length ms)

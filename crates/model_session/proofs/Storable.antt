@@ -1,6 +1,6 @@
 -- A change whose incoming and in-flight numbers, message bytes, stamp or marks the store can hold; of a Record's number nothing is asked here, as `fits` judges it.
 -- Assumes nothing.
-use Rattle.std.specs.Prelude.{ℕ, ◌≤◌, T}
+use Rattle.std.specs.Prelude.{◌≤◌, T}
 use Rattle.model_text.specs.Printable.{is_marks}
 use Rattle.model_text.specs.Stamp.{is_stamp}
 use Rattle.model_frame.specs.Bytes.{is_bytes}

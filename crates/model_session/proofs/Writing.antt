@@ -5,24 +5,25 @@ use Prim.Native.Nat.{ℕ, suc, ◌+◌, ◌^◌, ◌≤◌, ◌<◌}
 use native.Mathlib.Omega.{arith}
 use mathlib.Core.List.{List, [], ◌∷◌}
 use mathlib.Core.Option.{Option, none, some}
-use mathlib.Core.Bool.{true, ◌||◌}
+use mathlib.Core.Bool.{true}
 use lib.ListN.{length}
 use lib.Dec.{T, ltb, leb→le}
 use Rattle.model_frame.proofs.Sendable.{Sendable}
 use Rattle.model_text.specs.Printable.{is_marks}
-use Rattle.model_text.specs.Stamp.{is_stamp, takes_stamp}
-use Rattle.model_text.proofs.Laws.{marks_is, takes_is}
+use Rattle.model_text.specs.Stamp.{is_stamp, longest_short}
+use Rattle.model_text.specs.Version.{first, latest}
+use Rattle.model_text.proofs.Laws.{marks_is, takes_is, latest_takes, first_takes}
 use Rattle.model_frame.specs.Frame.{Change, set_marks, reset, Part, batch, whole, last_whole}
-use Rattle.model_frame.specs.Parse.{is_empty, Each}
+use Rattle.model_frame.specs.Parse.{Each}
 use Rattle.model_frame.specs.Reading.{max_body}
 use Rattle.model_frame.proofs.Sizes.{body_size_lem}
 use Rattle.model_frame.proofs.Runs.{sizes_append, count_sizes}
 use Rattle.model_frame.specs.Writing.{all_fine, fine, RangedChange, Writable}
 use Rattle.model_frame.specs.Sizes.{sizes}
-use Rattle.model_session.specs.Session.{Session, Msg, Holdable, Rising, is_stamp_or_none, small_flight, stored_bytes, top}
+use Rattle.model_session.specs.Session.{suits, Session, Msg, Holdable, Rising, is_stamp_or_none, small_flight, stored_bytes, top}
 use Rattle.model_session.specs.Whole.{all_changes, stamp_part, skip_to, send_msg, incoming_part, whole_batches, frames_of, whole_frames}
 use Rattle.model_session.proofs.Basics.{T→true, and_true, cond_cases, each_append, each_left, each_right, each_map}
-use Rattle.model_session.proofs.Sending.{sends, next_after, whole_changes, joined_whole, whole_size}
+use Rattle.model_session.proofs.Sending.{sends, next_after, whole_changes, joined_whole, whole_size, hold_most}
 
 -- ---- each change of a whole sending can be written
 
@@ -36,7 +37,7 @@ module _ (version : ℕ) where
 
   -- the version takes the stamp, if there is one
   abbrev pub Suits : List ℕ → Type 0
-  Suits st = (is_empty st || takes_stamp version st) ≡ true
+  Suits st = suits version st ≡ true
 
   send_skip : (next n : ℕ) → n ≤ top → Each (Sendable version) (skip_to next n)
   send_skip next n h = cond_cases (Each (Sendable version)) (ltb next n) (λ _. ((omega arith, refl), tt)) (λ _. tt)
@@ -98,10 +99,13 @@ module _ (version : ℕ) where
   unfolding whole_frames
   whole_writable limit C M h e last a ok suits hc hm hh he hn =
       frames_writable h e last (whole_batches limit a) hh he hn (subst (Each (Sendable version)) (sym (joined_whole limit a)) (send_whole C M a ok suits (omega arith)))
-      (omega (arith, whole_size limit C M a ok))
+      (omega (arith, whole_size limit C M a ok, hold_most C M a.stamp))
 
--- version 1 takes every stamp that the store keeps
-pub suits_first : (st : List ℕ) → T (is_stamp_or_none st) → Suits 1 st
-unfolding takes_stamp
-suits_first [] t = refl
-suits_first (x ∷ xs) t = T→true (is_stamp (x ∷ xs)) t
+-- the latest version takes every stamp that the store keeps, the first those that aren't long
+pub suits_latest : (st : List ℕ) → T (is_stamp_or_none st) → Suits latest st
+suits_latest [] t = refl
+suits_latest (x ∷ xs) t = latest_takes (x ∷ xs) (T→true (is_stamp (x ∷ xs)) t)
+
+pub suits_first : (st : List ℕ) → T (is_stamp_or_none st) → length st ≤ longest_short → Suits first st
+suits_first [] t h = refl
+suits_first (x ∷ xs) t h = first_takes (x ∷ xs) (T→true (is_stamp (x ∷ xs)) t) h

@@ -1,10 +1,11 @@
 -- The stored session: six parts, the eight changes, the limits C (message bytes) and M (messages).
 -- Assumes nothing.
-use Rattle.std.specs.Prelude.{ℕ, suc, ◌+◌, ◌≤◌, ◌<◌, List, [], ◌∷◌, ◌++◌, Bool, true, cond, ◌&&◌, length, T, ltb, leb, eqb}
+use Rattle.std.specs.Prelude.{ℕ, suc, ◌+◌, ◌≤◌, ◌<◌, List, [], ◌∷◌, ◌++◌, Bool, true, cond, ◌&&◌, ◌||◌, length, T, ltb, leb, eqb}
 use Rattle.std.proofs.Math.Option.{Option, none, some}
 use Rattle.model_text.specs.Printable.{is_marks}
-use Rattle.model_text.specs.Stamp.{is_stamp}
+use Rattle.model_text.specs.Stamp.{is_stamp, takes_stamp}
 pub use Rattle.model_frame.specs.Bytes.{is_bytes}
+use Rattle.model_frame.specs.Parse.{is_empty}
 use Rattle.model_frame.specs.Frame.{Change, set_incoming, set_incoming_in_flight, set_in_flight, record_msg, record_bare, reset, set_created_at, set_marks}
 
 -- 2^64 - 1, the greatest u64
@@ -105,6 +106,10 @@ small_flight (some f) = leb f top
 abbrev pub is_stamp_or_none : List ℕ → Bool
 is_stamp_or_none [] = true
 is_stamp_or_none (b ∷ bs) = is_stamp (b ∷ bs)
+
+-- reading takes the stamp in this version, if there is one
+abbrev pub suits : ℕ → List ℕ → Bool
+suits version stamp = is_empty stamp || takes_stamp version stamp
 
 pub record Holdable (C M : ℕ) (s : Session) : Type 0 where
   pub stamp_ok : T (is_stamp_or_none s.stamp)

@@ -2,7 +2,7 @@
 -- Assumes nothing.
 use Rattle.std.specs.Prelude.{ℕ, suc, ◌+◌, ◌*◌, ◌-◌, List, [], ◌∷◌, ◌++◌, Bool, true, false, cond, length, ltb}
 use Rattle.std.proofs.Math.Option.{Option, none, some}
-use Rattle.model_text.specs.Stamp.{longest_stamp}
+use Rattle.model_text.specs.Stamp.{longest_stamp, longest_short}
 use Rattle.model_frame.specs.Frame.{Change, set_incoming, set_incoming_in_flight, record_msg, record_bare, reset, set_created_at, set_marks, Frame, batch, whole, last_whole}
 use Rattle.model_session.specs.Session.{Session, Msg}
 
@@ -63,6 +63,10 @@ frames_of h e last (b ∷ c ∷ bs) = batch h e (suc last) whole b [] ∷ frames
 unfoldable pub whole_frames : ℕ → ℕ → ℕ → ℕ → Session → List Frame
 whole_frames limit h e last a = frames_of h e last (whole_batches limit a)
 
--- a hold area of this length takes any session: C + 22 × M + 122, of which 21 are for the longest stamp
-abbrev pub hold_length : ℕ → ℕ → ℕ
-hold_length C M = C + 22 * M + (101 + longest_stamp)
+-- the greatest length of a stamp of this kind: long, or not
+abbrev pub longest_like : List ℕ → ℕ
+longest_like stamp = cond (ltb longest_short (length stamp)) longest_stamp longest_short
+
+-- a hold area of this length takes any session with such a stamp: C + 22 × M + 122, of which 21 are for the stamp, and 9 more for a long one
+abbrev pub hold_length : ℕ → ℕ → List ℕ → ℕ
+hold_length C M stamp = C + 22 * M + (101 + longest_like stamp)

@@ -115,7 +115,7 @@ does_keeps (turns t) a = a
 does_keeps tells a = a
 does_keeps (nacks q) a = a
 does_keeps (greets le) a = a
-does_keeps {s} (binds {k} le p q) a = apart_open k s.places a
+does_keeps {s} (binds {k} le st p q) a = apart_open k s.places a
 does_keeps (checks le) a = a
 does_keeps (batches le d) a = batch_keeps d a
 
@@ -130,8 +130,8 @@ module _ (L : Settings) where
 
   apart_step : (s : Standby) (c : Call) → Apart s.places → Keeps (step L s c)
   unfolding step
-  apart_step s (on_frame_held w) a = given_keeps s (given w) a
-  apart_step s (on_frame w) a = apart_pending (is_reply (on_given L s (given w)).answer) (on_given L s (given w)).state (given_keeps s (given w) a)
+  apart_step s (on_frame_held w) a = given_keeps s (given s.counters.version w) a
+  apart_step s (on_frame w) a = apart_pending (is_reply (on_given L s (given s.counters.version w)).answer) (on_given L s (given s.counters.version w)).state (given_keeps s (given s.counters.version w) a)
   apart_step s (flush n) a = cond_cases Keeps (not (eqb n s.counters.connections) || s.counters.promoted) (λ _. a) (λ _. apart_pending true s a)
   apart_step s (disconnected_from n) a = cond_cases (λ (x : Standby). Apart x.places) (eqb n s.counters.connections) (λ _. a) (λ _. a)
   apart_step s promote a = cond_cases Keeps s.counters.checked (λ _. apart_promoted s.places a) (λ _. a)

@@ -189,7 +189,7 @@ module _ (L : Settings) (k : OwnKey) (here : ℕ) where
   after c tells a t = t
   after {s} c (nacks q) a t = subst (Tracks k here s) (sym (copy_nacked c q)) t
   after {s} c (greets le) a t = record { same_place = t.same_place; same_session = t.same_session; same_handles = match_freed k here s.handles c.key_of c.held_of }
-  after {s} c (binds {h} {k = j} le p q) a t =
+  after {s} c (binds {h} {k = j} le st p q) a t =
       record {
         same_place = open_own j s.places here k t.same_place;
         same_session = open_session j s.places here (session_there s.places here c.session t.same_session) ∙ t.same_session;
@@ -208,11 +208,11 @@ module _ (L : Settings) (k : OwnKey) (here : ℕ) where
       (λ _. after c (does L (run_pending (due s.pending f) s) f) a (tracks_pending k here (due s.pending f) s c t))
 
   -- (e), one call
-  pub tracks_step : (s : Standby) (c : Copy) (x : Call) → T (not_promotion x) → apart s.handles ≡ true → Tracks k here s c → Tracks k here (step L s x).state (copy_step L k c x (step L s x).answer)
+  pub tracks_step : (s : Standby) (c : Copy) (x : Call) → T (not_promotion x) → apart s.handles ≡ true → Tracks k here s c → Tracks k here (step L s x).state (copy_step L k s.counters.version c x (step L s x).answer)
   unfolding step
-  tracks_step s c (on_frame_held w) u a t = after_given s c (given w) a t
+  tracks_step s c (on_frame_held w) u a t = after_given s c (given s.counters.version w) a t
   tracks_step s c (on_frame w) u a t =
-      tracks_pending k here (is_reply (on_given L s (given w)).answer) (on_given L s (given w)).state _ (after_given s c (given w) a t)
+      tracks_pending k here (is_reply (on_given L s (given s.counters.version w)).answer) (on_given L s (given s.counters.version w)).state _ (after_given s c (given s.counters.version w) a t)
   tracks_step s c (flush n) u a t =
       cond_cases (λ (r : Result). Tracks k here r.state c) (not (eqb n s.counters.connections) || s.counters.promoted) (λ _. t) (λ _. tracks_pending k here true s c t)
   tracks_step s c (disconnected_from n) u a t =
@@ -225,7 +225,7 @@ module _ (L : Settings) (k : OwnKey) (here : ℕ) where
   pub tracks_run : (s : Standby) (c : Copy) (xs : List Call) → T (no_promotions xs) → apart s.handles ≡ true → Tracks k here s c → Tracks k here (run L s xs) (copy_run L k c s xs)
   tracks_run s c [] u a t = t
   tracks_run s c (x ∷ xs) u a t =
-      tracks_run (step L s x).state (copy_step L k c x (step L s x).answer) xs (and_r (not_promotion x) (no_promotions xs) u) (apart_step L s x a)
+      tracks_run (step L s x).state (copy_step L k s.counters.version c x (step L s x).answer) xs (and_r (not_promotion x) (no_promotions xs) u) (apart_step L s x a)
       (tracks_step s c x (and_l (not_promotion x) (no_promotions xs) u) a t)
 
 -- at first

@@ -14,8 +14,8 @@ use Rattle.model_session.specs.Session.{Session, Msg, top}
 use Rattle.model_session.specs.Whole.{batch_if, send_msg, stamp_part, batches_from, whole_batches, all_changes, frames_of, whole_frames, closing}
 use Rattle.model_session.proofs.Basics.{T→true, some_inj}
 use Rattle.model_session.proofs.Sending.{joined_whole}
-use Rattle.model_session.proofs.Writing.{whole_writable, suits_first}
-use Rattle.model_standby.specs.Answer.{protocol_version, accepted}
+use Rattle.model_session.proofs.Writing.{whole_writable}
+use Rattle.model_standby.specs.Answer.{accepted}
 use Rattle.model_standby.specs.Store.{session_at}
 use Rattle.model_standby.specs.State.{Settings, Bound, Standby, Call, on_frame_held}
 use Rattle.model_standby.specs.Standby.{starts_with_reset, step, run}
@@ -75,16 +75,16 @@ module _ (L : Settings) (limit : ℕ) (A B : Session) (k : OwnKey) (h : ℕ) (b 
   first_part : (cs : List Call) (d : FirstList L s.counters.epoch frames s cs) → ModelAllTaken d × (session_at (run L s cs).places b.place ≡ some (cond (model_took_last d) A B))
   unfolding whole_frames
   first_part cs d =
-      hold_run L A B b.place h s.counters.epoch st.A_held st.C_limit st.area d b.number [] w.first w.rest
+      hold_run L A B b.place h s.counters.epoch s.counters.version st.A_held st.C_limit st.area d b.number [] w.first w.rest
       (ap (frames_of h s.counters.epoch b.number) w.split)
-      (whole_writable protocol_version limit L.C L.M h s.counters.epoch b.number A st.A_held (suits_first A.stamp st.A_held.stamp_ok) st.C_limit st.M_limit st.handle_u32 st.epoch_u64 st.sendable)
+      (whole_writable s.counters.version limit L.C L.M h s.counters.epoch b.number A st.A_held st.suits_so st.C_limit st.M_limit st.handle_u32 st.epoch_u64 st.sendable)
       (record {
         all = sym (ap all_changes w.split) ∙ joined_whole limit A;
         begins = w.begins;
         numbers = subst (λ (l : List (List Change)). b.number + length l ≤ top) w.split st.sendable;
       })
       (record {
-        rests = record { epoch = refl; promoted = st.unpromoted; session = st.is_B };
+        rests = record { epoch = refl; promoted = st.unpromoted; version = refl; session = st.is_B };
         sum = b.bytes;
         handle = st.bound_so ∙ (λ i. some (record { place = b.place; number = b.number; held = st.nothing_held i; bytes = b.bytes }));
         counted = refl;

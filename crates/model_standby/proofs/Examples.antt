@@ -9,13 +9,16 @@ use mathlib.Core.Bool.{Bool, true, false}
 use lib.ListN.{replicate}
 use Rattle.model_text.specs.Utf8.{utf8, well_formed, lead_length, own_bits, least, fitting, is_scalar, is_surrogate, is_tail}
 use Rattle.model_text.specs.Printable.{is_printable_byte, is_printable, is_marks, is_key}
+use Rattle.model_text.specs.Calendar.{is_leap, month_days}
+use Rattle.model_text.specs.Version.{is_version}
+use Rattle.model_text.specs.Stamp.{is_digit, is_pair, has_digits, day_exists, is_short, is_stamp, takes_stamp}
 use Rattle.model_frame.specs.Bytes.{le, bytes_of}
-use Rattle.model_frame.specs.Frame.{Key, Change, set_incoming, record_msg, record_bare, reset, set_marks, commit, whole, last_whole, stale_epoch, diverged, lag_too_great, restarted, Frame, hello, welcome, bind, batch, ack, nack, bound, checked}
+use Rattle.model_frame.specs.Frame.{Key, Change, set_incoming, record_msg, record_bare, reset, set_created_at, set_marks, commit, whole, last_whole, stale_epoch, diverged, lag_too_great, restarted, Frame, hello, welcome, bind, batch, ack, nack, bound, checked}
 use Rattle.model_frame.specs.Parse.{read_bytes, read_num, read_blob, read_text, read_count, many, run_bytes}
-use Rattle.model_frame.specs.Reading.{read_marks, set_incoming_fields, record_msg_fields, record_bare_fields, set_marks_fields, read_change, read_changes, read_kinds, read_app_record, read_app_records, read_part, read_key, hello_fields, bind_fields, batch_fields, ack_fields, checked_fields, read_fields, read_body, decode}
+use Rattle.model_frame.specs.Reading.{read_stamp, read_marks, set_incoming_fields, record_msg_fields, record_bare_fields, set_created_at_fields, set_marks_fields, read_change, read_changes, read_kinds, read_app_record, read_app_records, read_part, read_key, hello_fields, bind_fields, batch_fields, ack_fields, checked_fields, read_fields, read_body, decode}
 use Rattle.model_frame.specs.Writing.{blob_bytes, change_bytes, app_record_bytes, key_bytes, body_bytes, encode}
 use Rattle.model_session.specs.Session.{new_session, keep, apply, top}
-use Rattle.model_session.specs.Summary.{summary}
+use Rattle.model_session.specs.Summary.{summary, last_out}
 use Rattle.model_standby.specs.Answer.{given, Answer, reply, refused, done}
 use Rattle.model_standby.specs.Row.{Row, put}
 use Rattle.model_standby.specs.Store.{Place, with_b, taken_over}
@@ -46,7 +49,7 @@ held f = on_frame_held (encode f)
 abbrev taken : Frame → Call
 taken f = on_frame (encode f)
 
-abbrev answers : Settings → Standby → List Call → List Answer
+abbrev pub answers : Settings → Standby → List Call → List Answer
 answers L s [] = []
 answers L s (c ∷ cs) = (step L s c).answer ∷ answers L (step L s c).state cs
 
@@ -65,7 +68,7 @@ lines =
     ∷ []
 
 lines_so : answers L₀ (new_standby [] 4) lines ≡ reply (welcome 5 7) ∷ refused 14 ∷ refused 26 ∷ refused 26 ∷ refused 3 ∷ []
-unfolding step on_given on_hello on_batch on_handle given decode le read_num read_bytes read_blob read_text read_count many read_body read_fields hello_fields batch_fields ack_fields read_kinds read_changes read_app_records read_part utf8 well_formed lead_length own_bits least fitting is_scalar is_surrogate
+unfolding step on_given on_hello on_batch on_handle given decode le read_num read_bytes read_blob read_text read_count many read_body read_fields hello_fields batch_fields ack_fields read_kinds read_changes read_app_records read_part utf8 well_formed lead_length own_bits least fitting is_scalar is_surrogate is_version
 lines_so = refl
 
 -- the answer to the first line
@@ -85,7 +88,7 @@ key_of n = record { begin = 70 ∷ []; sender = n ∷ []; target = 66 ∷ []; su
 abbrev script : List (Call × Answer)
 script =
     (on_frame (1 ∷ 0 ∷ 0 ∷ 4 ∷ []), refused 1)
-    ∷ (taken (hello 2 5 [] []), refused 11)
+    ∷ (taken (hello 3 5 [] []), refused 11)
     ∷ (taken (hello 1 5 [] (1 ∷ [])), refused 12)
     ∷ (taken (hello 1 5 [] []), reply (welcome 5 7))
     ∷ (taken (hello 1 4 [] []), reply (welcome 5 7))
@@ -135,7 +138,7 @@ script =
     ∷ []
 
 script_so : answers L₁ (new_standby [] 2) (map (λ (p : Call × Answer). p.0) script) ≡ map (λ (p : Call × Answer). p.1) script
-unfolding step on_given on_hello on_bind on_checked on_batch on_handle on_part hold settle apply keep put given encode body_bytes blob_bytes change_bytes app_record_bytes key_bytes run_bytes bytes_of decode le read_num read_bytes read_blob read_text read_count many read_body read_fields hello_fields bind_fields batch_fields ack_fields checked_fields read_kinds read_changes read_change record_msg_fields record_bare_fields set_marks_fields read_app_records read_app_record read_part read_key read_marks utf8 well_formed lead_length own_bits least fitting is_scalar is_surrogate is_tail is_printable_byte is_printable is_marks is_key
+unfolding step on_given on_hello on_bind on_checked on_batch on_handle on_part hold settle apply keep put given encode body_bytes blob_bytes change_bytes app_record_bytes key_bytes run_bytes bytes_of decode le read_num read_bytes read_blob read_text read_count many read_body read_fields hello_fields bind_fields batch_fields ack_fields checked_fields read_kinds read_changes read_change record_msg_fields record_bare_fields set_marks_fields read_app_records read_app_record read_part read_key read_marks utf8 well_formed lead_length own_bits least fitting is_scalar is_surrogate is_tail is_printable_byte is_printable is_marks is_key is_version
 script_so = refl
 
 -- Of the three messages the second is left (the first made place for it, the third is longer than C); promotion skipped one
@@ -144,8 +147,64 @@ script_places : (run L₁ (new_standby [] 2) (map (λ (p : Call × Answer). p.0)
     ≡ record { key = key_of 65; stored = record { session = record { stamp = []; next_out = 6; next_in = 1; in_flight = none; marks = 66 ∷ []; messages = record { num = 3; text = 1 ∷ 2 ∷ [] } ∷ [] }; durable = true } }
     ∷ record { key = key_of 66; stored = record { session = record { stamp = []; next_out = 2; next_in = 1; in_flight = none; marks = 66 ∷ []; messages = [] }; durable = true } }
     ∷ []
-unfolding step on_given on_hello on_bind on_checked on_batch on_handle on_part hold settle apply keep put given encode body_bytes blob_bytes change_bytes app_record_bytes key_bytes run_bytes bytes_of decode le read_num read_bytes read_blob read_text read_count many read_body read_fields hello_fields bind_fields batch_fields ack_fields checked_fields read_kinds read_changes read_change record_msg_fields record_bare_fields set_marks_fields read_app_records read_app_record read_part read_key read_marks utf8 well_formed lead_length own_bits least fitting is_scalar is_surrogate is_tail is_printable_byte is_printable is_marks is_key
+unfolding step on_given on_hello on_bind on_checked on_batch on_handle on_part hold settle apply keep put given encode body_bytes blob_bytes change_bytes app_record_bytes key_bytes run_bytes bytes_of decode le read_num read_bytes read_blob read_text read_count many read_body read_fields hello_fields bind_fields batch_fields ack_fields checked_fields read_kinds read_changes read_change record_msg_fields record_bare_fields set_marks_fields read_app_records read_app_record read_part read_key read_marks utf8 well_formed lead_length own_bits least fitting is_scalar is_surrogate is_tail is_printable_byte is_printable is_marks is_key is_version
 script_places = refl
+
+-- ---- the connection's version, one place for handles: a stamp with 12 digits is refused in version 1 and taken in version 2, also past a drop; a Hello of a
+-- lower epoch, one with kinds and one of version 3 leave the version; over version 1 its session isn't bound (Nack Lag before 32, 32 before 21)
+
+-- 20240229-23:59:59.123456789012
+abbrev pub long_text : List ℕ
+long_text =
+    50 ∷ 48 ∷ 50 ∷ 52 ∷ 48 ∷ 50 ∷ 50 ∷ 57 ∷ 45 ∷ 50 ∷ 51 ∷ 58 ∷ 53 ∷ 57 ∷ 58 ∷ 53 ∷ 57 ∷ 46 ∷ 49 ∷ 50 ∷ 51 ∷ 52 ∷ 53 ∷ 54 ∷ 55 ∷ 56 ∷ 57 ∷ 48 ∷ 49 ∷ 50 ∷ []
+
+-- a Bound of a session with this stamp and nothing else
+abbrev bound_with : List ℕ → Frame
+bound_with stamp = bound 1 (record { next_out = 1; next_in = 1; in_flight = none; stamp_text = stamp; marks_text = []; last_outgoing = 0 })
+
+abbrev versions : List (Call × Answer)
+versions =
+    (taken (bind 1 0 0 (key_of 65)), reply (bound_with []))
+    ∷ (taken (batch 1 0 1 commit (set_created_at long_text ∷ []) []), refused 6)
+    ∷ (taken (hello 3 5 [] []), refused 11)
+    ∷ (taken (hello 0 5 [] (1 ∷ [])), refused 11)
+    ∷ (taken (hello 2 5 [] (1 ∷ [])), refused 12)
+    ∷ (taken (batch 1 5 1 commit (set_created_at long_text ∷ []) []), refused 6)
+    ∷ (taken (hello 2 5 [] []), reply (welcome 5 7))
+    ∷ (taken (bind 1 5 0 (key_of 65)), reply (bound_with []))
+    ∷ (taken (hello 1 4 [] []), reply (welcome 5 7))
+    ∷ (taken (batch 1 5 1 commit (set_created_at long_text ∷ []) []), reply (ack 1 1))
+    ∷ (disconnected_from 1, done)
+    ∷ (taken (bind 1 5 0 (key_of 65)), reply (bound_with long_text))
+    ∷ (taken (batch 1 5 1 commit (set_created_at long_text ∷ []) []), reply (ack 1 1))
+    ∷ (taken (hello 1 5 [] []), reply (welcome 5 7))
+    ∷ (taken (bind 1 5 0 (key_of 66)), reply (bound_with []))
+    ∷ (taken (bind 2 5 1 (key_of 65)), reply (nack 2 lag_too_great))
+    ∷ (taken (bind 2 5 0 (key_of 65)), refused 32)
+    ∷ (taken (bind 2 5 0 (key_of 67)), refused 21)
+    ∷ (taken (batch 1 5 1 commit (set_created_at long_text ∷ []) []), refused 6)
+    ∷ []
+
+versions_so : answers L₀ (new_standby [] 1) (map (λ (p : Call × Answer). p.0) versions) ≡ map (λ (p : Call × Answer). p.1) versions
+unfolding step on_given on_hello on_bind on_checked on_batch on_handle on_part hold settle apply keep put given encode body_bytes blob_bytes change_bytes app_record_bytes key_bytes run_bytes bytes_of decode le read_num read_bytes read_blob read_text read_count many read_body read_fields hello_fields bind_fields batch_fields ack_fields checked_fields read_kinds read_changes read_change record_msg_fields record_bare_fields set_created_at_fields set_marks_fields read_app_records read_app_record read_part read_key read_stamp read_marks utf8 well_formed lead_length own_bits least fitting is_scalar is_surrogate is_tail is_printable_byte is_printable is_marks is_key is_version takes_stamp is_short is_stamp has_digits day_exists month_days is_leap is_digit is_pair summary last_out
+versions_so = refl
+
+-- each call's version, and that a refused Bind of a long session removes no handle: handle 1 has the session, handle 2 is refused
+version_after : (run L₀ (new_standby [] 1) (map (λ (p : Call × Answer). p.0) versions)).counters.version ≡ 1
+unfolding step on_given on_hello on_bind on_checked on_batch on_handle on_part hold settle apply keep put given encode body_bytes blob_bytes change_bytes app_record_bytes key_bytes run_bytes bytes_of decode le read_num read_bytes read_blob read_text read_count many read_body read_fields hello_fields bind_fields batch_fields ack_fields checked_fields read_kinds read_changes read_change record_msg_fields record_bare_fields set_created_at_fields set_marks_fields read_app_records read_app_record read_part read_key read_stamp read_marks utf8 well_formed lead_length own_bits least fitting is_scalar is_surrogate is_tail is_printable_byte is_printable is_marks is_key is_version takes_stamp is_short is_stamp has_digits day_exists month_days is_leap is_digit is_pair summary last_out
+version_after = refl
+
+abbrev one_is_bound : Standby
+one_is_bound = run L₀ (new_standby [] 2) (taken (hello 2 5 [] []) ∷ taken (bind 1 5 0 (key_of 65)) ∷ taken (batch 1 5 1 commit (set_created_at long_text ∷ []) []) ∷ [])
+
+-- the version set back by hand: an accepted Hello would free the handle
+abbrev set_back : Standby → Standby
+set_back s = record { counters = record { epoch = s.counters.epoch; connections = s.counters.connections; promoted = s.counters.promoted; checked = s.counters.checked; version = 1 }; places = s.places; handles = s.handles; pending = s.pending }
+
+refused_bind_leaves : (step L₀ (set_back one_is_bound) (taken (bind 2 5 0 (key_of 65)))).answer ≡ refused 32
+    × ((step L₀ (set_back one_is_bound) (taken (bind 2 5 0 (key_of 65)))).state.handles ≡ one_is_bound.handles)
+unfolding step on_given on_hello on_bind on_checked on_batch on_handle on_part hold settle apply keep put given encode body_bytes blob_bytes change_bytes app_record_bytes key_bytes run_bytes bytes_of decode le read_num read_bytes read_blob read_text read_count many read_body read_fields hello_fields bind_fields batch_fields ack_fields checked_fields read_kinds read_changes read_change record_msg_fields record_bare_fields set_created_at_fields set_marks_fields read_app_records read_app_record read_part read_key read_stamp read_marks utf8 well_formed lead_length own_bits least fitting is_scalar is_surrogate is_tail is_printable_byte is_printable is_marks is_key is_version takes_stamp is_short is_stamp has_digits day_exists month_days is_leap is_digit is_pair summary last_out
+refused_bind_leaves = (refl, refl)
 
 -- ---- commits: pending until due
 
@@ -273,7 +332,7 @@ rebinds =
 -- two sessions, and these handles, at epoch 5
 abbrev with_row : Row Bound → Standby
 with_row t =
-    record { counters = record { epoch = 5; connections = 0; promoted = false; checked = false }; places = (two true true [] 0 0).places; handles = t; pending = [] }
+    record { counters = record { epoch = 5; connections = 0; promoted = false; checked = false; version = 1 }; places = (two true true [] 0 0).places; handles = t; pending = [] }
 
 rebinds_so : map {B = Row Bound × Answer} (λ (p : Row Bound × Frame × Row Bound × Answer). ((step L₁ (with_row p.0) (held p.1)).state.handles, (step L₁ (with_row p.0) (held p.1)).answer)) rebinds
     ≡ map {B = Row Bound × Answer} (λ (p : Row Bound × Frame × Row Bound × Answer). (p.2, p.3)) rebinds
@@ -306,7 +365,7 @@ removed_sessions = refl
 abbrev none_bound : ℕ → ℕ → Standby
 none_bound epoch connections =
     record {
-      counters = record { epoch = epoch; connections = connections; promoted = false; checked = false };
+      counters = record { epoch = epoch; connections = connections; promoted = false; checked = false; version = 1 };
       places = (two true true [] 0 0).places;
       handles = none ∷ none ∷ [];
       pending = [];
@@ -319,13 +378,13 @@ hello_drops :
     ∷ run L₁ (none_bound 5 1) (held (hello 1 4 [] []) ∷ [])
     ∷ []
     ≡ none_bound 5 1 ∷ none_bound 0 1 ∷ none_bound 5 1 ∷ []
-unfolding step on_given on_hello given encode body_bytes blob_bytes run_bytes bytes_of decode le read_num read_bytes read_blob read_text read_count many read_body read_fields hello_fields read_kinds utf8 well_formed lead_length own_bits least fitting is_scalar is_surrogate
+unfolding step on_given on_hello given encode body_bytes blob_bytes run_bytes bytes_of decode le read_num read_bytes read_blob read_text read_count many read_body read_fields hello_fields read_kinds utf8 well_formed lead_length own_bits least fitting is_scalar is_surrogate is_version
 hello_drops = refl
 
 -- a lower Hello keeps what is bound: handle 1 takes its next Commit
 hello_keeps : answers L₁ (two true true [] 3 4) (held (batch 1 5 4 commit [] []) ∷ held (hello 1 4 [] []) ∷ held (batch 1 5 5 commit [] []) ∷ held (hello 1 5 [] []) ∷ held (batch 1 5 6 commit [] []) ∷ [])
     ≡ reply (ack 1 4) ∷ reply (welcome 5 7) ∷ reply (ack 1 5) ∷ reply (welcome 5 7) ∷ refused 14 ∷ []
-unfolding step on_given on_hello on_batch on_handle on_part settle apply put given encode body_bytes blob_bytes change_bytes run_bytes bytes_of decode le read_num read_bytes read_blob read_text read_count many read_body read_fields hello_fields batch_fields read_kinds read_changes read_app_records read_part utf8 well_formed lead_length own_bits least fitting is_scalar is_surrogate
+unfolding step on_given on_hello on_batch on_handle on_part settle apply put given encode body_bytes blob_bytes change_bytes run_bytes bytes_of decode le read_num read_bytes read_blob read_text read_count many read_body read_fields hello_fields batch_fields read_kinds read_changes read_app_records read_part utf8 well_formed lead_length own_bits least fitting is_scalar is_surrogate is_version
 hello_keeps = refl
 
 -- marks get a final B: none, one byte, already B, 63 bytes, 64 bytes (the last replaced), 64 that end in B

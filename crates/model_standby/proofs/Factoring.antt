@@ -1,17 +1,20 @@
 -- The calls cut as the code cuts them are the calls: look up one handle, let the core answer, do to the row what it says.
 -- Assumes nothing.
-use mathlib.Core.Path.{◌≡◌, refl, ap}
+use mathlib.Core.Path.{◌≡◌, refl, sym, ap, ◌∙◌}
 use Prim.Native.Nat.{ℕ}
 use mathlib.Core.List.{List, ◌++◌}
 use mathlib.Core.Option.{Option, none, some}
 use mathlib.Core.Bool.{Bool, true, false, cond, not, ◌&&◌, ◌||◌}
 use lib.ListN.{length}
 use lib.Dec.{ltb, eqb}
-use Rattle.model_frame.specs.Frame.{Key, Change, Part, commit, whole, last_whole, AppRecord, Frame, hello, welcome, bind, batch, ack, nack, bound, checked}
+use Rattle.model_text.specs.Version.{latest, is_version}
+use Rattle.model_frame.specs.Frame.{Key, Change, Part, commit, whole, last_whole, AppRecord, Frame, hello, welcome, bind, batch, ack, nack, bound, checked, Decoded, more, faulty, got}
+use Rattle.model_frame.specs.Reading.{decode}
+use Rattle.model_frame.proofs.Wider.{decode_wider}
 use Rattle.model_frame.specs.Parse.{is_empty}
 use Rattle.model_frame.specs.Sizes.{sizes}
-use Rattle.model_session.specs.Session.{fits}
-use Rattle.model_standby.specs.Answer.{protocol_version, Given, damaged, intact, given, handle_in, done}
+use Rattle.model_session.specs.Session.{suits, fits}
+use Rattle.model_standby.specs.Answer.{Given, damaged, intact, judged, given, handle_in, done}
 use Rattle.model_standby.specs.Row.{Row, find}
 use Rattle.model_standby.specs.Store.{place_of, is_stored, session_at, or_new}
 use Rattle.model_standby.specs.State.{Settings, incarnation_of, Bound, Standby, Result, Call, on_frame_held, on_frame, flush, disconnected_from, promote, promote_unchecked, at_epoch, none_held}
@@ -32,7 +35,7 @@ module _ (L : Settings) (s : Standby) where
   hello_acted : (v e : ℕ) (kinds : List ℕ) → Acts s.handles (on_hello L s v e kinds) (core_hello L (core_of s) v e kinds)
   unfolding on_hello core_hello
   hello_acted v e kinds =
-      either s.handles (not (eqb v protocol_version)) (record { same = refl })
+      either s.handles (not (is_version v)) (record { same = refl })
       (either s.handles (not (is_empty kinds)) (record { same = refl })
       (either s.handles (ltb e s.counters.epoch) (record { same = refl }) (record { same = refl })))
 
@@ -41,8 +44,9 @@ module _ (L : Settings) (s : Standby) where
   bind_acted h e lag j =
       either s.handles (ltb e s.counters.epoch) (record { same = refl })
       (either s.handles (ltb L.lag lag) (record { same = refl })
+      (either s.handles (not (suits s.counters.version (or_new (session_at s.places (place_of j s.places))).stamp)) (record { same = refl })
       (either s.handles (not (is_stored j s.places || ltb (length s.places) L.S)) (record { same = refl })
-      (either s.handles (not (room_at h s.handles (place_of j s.places))) (record { same = refl }) (record { same = refl }))))
+      (either s.handles (not (room_at h s.handles (place_of j s.places))) (record { same = refl }) (record { same = refl })))))
 
   checked_acted : (h e i : ℕ) → Acts s.handles (on_checked L s h e i) (core_checked L (core_of s) h e i)
   unfolding on_checked core_checked
@@ -72,6 +76,16 @@ module _ (L : Settings) (s : Standby) where
   handle_acted h none n p cs = record { same = refl }
   handle_acted h (some b) n p cs = either s.handles (follows b n) (part_acted h b n p cs) (record { same = refl })
 
+-- a frame that is read is read in the latest version too
+pub given_latest : (version : ℕ) (w : List ℕ) {f : Frame} → given version w ≡ intact f → given latest w ≡ intact f
+unfolding given
+given_latest version w {f} = go (decode version w) refl
+  where
+    go : (d : Decoded) → decode version w ≡ d → judged (length w) d ≡ intact f → judged (length w) (decode latest w) ≡ intact f
+    go more p e = cc
+    go (faulty x) p e = cc
+    go (got g n) p e = ap (judged (length w)) (decode_wider version w p) ∙ e
+
 module _ (L : Settings) where
   batch_acted : (s : Standby) (h e n : ℕ) (p : Part) (cs : List Change) (apps : List AppRecord) → Acts s.handles (on_batch L s h e n p cs apps) (core_batch L (core_of s) (find h s.handles) h e n p cs apps)
   unfolding on_batch core_batch
@@ -98,10 +112,28 @@ module _ (L : Settings) where
   pub given_factored : (s : Standby) (g : Given) → on_given L s g ≡ acted s.handles (core_given L (core_of s) (find (handle_in g) s.handles) (room_at (handle_in g) s.handles) g)
   given_factored s g = (acts_given s g).same
 
+  -- the handle that the latest version reads is that of the connection's, if this one reads a frame
+  looked : (s : Standby) (w : List ℕ) →
+      core_given L (core_of s) (find (handle_in (given latest w)) s.handles) (room_at (handle_in (given latest w)) s.handles) (given s.counters.version w)
+      ≡ core_given L (core_of s) (find (handle_in (given s.counters.version w)) s.handles) (room_at (handle_in (given s.counters.version w)) s.handles) (given s.counters.version w)
+  unfolding core_given
+  looked s w = go (given s.counters.version w) refl
+    where
+      go : (g : Given) → given s.counters.version w ≡ g →
+          core_given L (core_of s) (find (handle_in (given latest w)) s.handles) (room_at (handle_in (given latest w)) s.handles) g
+          ≡ core_given L (core_of s) (find (handle_in g) s.handles) (room_at (handle_in g) s.handles) g
+      go (damaged n) e = refl
+      go (intact f) e = ap (λ (g : Given). core_given L (core_of s) (find (handle_in g) s.handles) (room_at (handle_in g) s.handles) (intact f)) (given_latest s.counters.version w e)
+
+  step_given : (s : Standby) (w : List ℕ) →
+      on_given L s (given s.counters.version w)
+      ≡ acted s.handles (core_given L (core_of s) (find (handle_in (given latest w)) s.handles) (room_at (handle_in (given latest w)) s.handles) (given s.counters.version w))
+  step_given s w = given_factored s (given s.counters.version w) ∙ ap (acted s.handles) (sym (looked s w))
+
   acts_step : (s : Standby) (c : Call) → Acts s.handles (step L s c) (core_step L (core_of s) (find (handle_of c) s.handles) (room_at (handle_of c) s.handles) c)
   unfolding step core_step
-  acts_step s (on_frame_held w) = acts_given s (given w)
-  acts_step s (on_frame w) = record { same = ap flushed (given_factored s (given w)) }
+  acts_step s (on_frame_held w) = record { same = step_given s w }
+  acts_step s (on_frame w) = record { same = ap flushed (step_given s w) }
   acts_step s (flush n) = either s.handles (not (eqb n s.counters.connections) || s.counters.promoted) (record { same = refl }) (record { same = refl })
   acts_step s (disconnected_from n) = go (eqb n s.counters.connections)
     where

@@ -10,13 +10,14 @@ use mathlib.Core.Option.{Option, none, some}
 use mathlib.Core.Bool.{Bool, true, false, cond, not, ◌&&◌, ◌||◌}
 use lib.ListN.{length}
 use lib.Dec.{T, ltb, eqb, ltb→lt}
+use Rattle.model_text.specs.Version.{is_version}
 use Rattle.model_frame.specs.Frame.{Key, Change, Part, commit, whole, last_whole, AppRecord, Fault, too_long, truncated, unknown, bad_text, bad_session, bad_timestamp, bad_marks, fault_number, Frame, hello, welcome, bind, batch, ack, nack, bound, checked, Decoded, more, faulty, got}
 use Rattle.model_frame.specs.Parse.{is_empty, Each}
 use Rattle.model_frame.specs.Reading.{decode}
 use Rattle.model_frame.specs.Sizes.{sizes}
-use Rattle.model_session.specs.Session.{fits}
+use Rattle.model_session.specs.Session.{suits, fits}
 use Rattle.model_session.proofs.Basics.{true→T, eqb_true, eqb_sound, cond_cases, true≢false}
-use Rattle.model_standby.specs.Answer.{protocol_version, Given, damaged, intact, judged, given, Answer, reply, refused, done}
+use Rattle.model_standby.specs.Answer.{Given, damaged, intact, judged, given, Answer, reply, refused, done}
 use Rattle.model_standby.specs.Row.{Row, Used, is_some, has_free, find}
 use Rattle.model_standby.specs.Store.{place_of, is_stored, session_at, or_new}
 use Rattle.model_standby.specs.State.{Settings, incarnation_of, Bound, Standby, Result, Call, on_frame_held, on_frame, flush, disconnected_from, promote, promote_unchecked, at_epoch, none_held}
@@ -151,7 +152,7 @@ module _ (L : Settings) where
   hello_not : (s : Standby) (v e : ℕ) (kinds : List ℕ) → Not21 (on_hello L s v e kinds)
   unfolding on_hello
   hello_not s v e kinds =
-      cond_cases Not21 (not (eqb v protocol_version)) (λ _. refl) (λ _. cond_cases Not21 (not (is_empty kinds)) (λ _. refl) (λ _. cond_cases Not21 (ltb e s.counters.epoch) (λ _. refl) (λ _. refl)))
+      cond_cases Not21 (not (is_version v)) (λ _. refl) (λ _. cond_cases Not21 (not (is_empty kinds)) (λ _. refl) (λ _. cond_cases Not21 (ltb e s.counters.epoch) (λ _. refl) (λ _. refl)))
 
   checked_not : (s : Standby) (h e i : ℕ) → Not21 (on_checked L s h e i)
   unfolding on_checked
@@ -189,8 +190,9 @@ module _ (L : Settings) where
   bind_not s h e lag k r long =
       cond_cases Not21 (ltb e s.counters.epoch) (λ _. refl)
       (λ _. cond_cases Not21 (ltb L.lag lag) (λ _. refl)
+      (λ _. cond_cases Not21 (not (suits s.counters.version (or_new (session_at s.places (place_of k s.places))).stamp)) (λ _. refl)
       (λ _. cond_cases Not21 (not (is_stored k s.places || ltb (length s.places) L.S)) (λ _. refl)
-      (λ u. cond_cases Not21 (not (room_at h s.handles (place_of k s.places))) (λ t. absurd (full (room_at h s.handles (place_of k s.places)) (room u) t)) (λ _. refl))))
+      (λ u. cond_cases Not21 (not (room_at h s.handles (place_of k s.places))) (λ t. absurd (full (room_at h s.handles (place_of k s.places)) (room u) t)) (λ _. refl)))))
     where
       full : (b : Bool) → b ≡ true → T (not b) → ⊥
       full b p t = go b p t
@@ -242,9 +244,9 @@ module _ (L : Settings) where
   Fair (damaged n) = eqb n 21 ≡ false
   Fair (intact f) = Unit {0}
 
-  fair : (w : List ℕ) → Fair (given w)
+  fair : (version : ℕ) (w : List ℕ) → Fair (given version w)
   unfolding given
-  fair w = go (decode protocol_version w)
+  fair version w = go (decode version w)
     where
       go : (d : Decoded) → Fair (judged (length w) d)
       go more = refl
@@ -259,8 +261,8 @@ module _ (L : Settings) where
 
   step_not : (s : Standby) (c : Call) → RowRules L s → L.S ≤ length s.handles → Not21 (step L s c)
   unfolding step
-  step_not s (on_frame_held w) r long = given_not s (given w) (fair w) r long
-  step_not s (on_frame w) r long = given_not s (given w) (fair w) r long
+  step_not s (on_frame_held w) r long = given_not s (given s.counters.version w) (fair s.counters.version w) r long
+  step_not s (on_frame w) r long = given_not s (given s.counters.version w) (fair s.counters.version w) r long
   step_not s (flush n) r long = cond_cases Not21 (not (eqb n s.counters.connections) || s.counters.promoted) (λ _. refl) (λ _. refl)
   step_not s (disconnected_from n) r long = refl
   step_not s promote r long = cond_cases Not21 s.counters.checked (λ _. refl) (λ _. refl)

@@ -10,7 +10,7 @@ use mathlib.Core.Bool.{Bool, true, false, cond, not, ◌&&◌, ◌||◌}
 use lib.ListN.{length, get_elem?}
 use lib.Dec.{T, ltb, eqb, ltb→lt, nltb→le}
 use Rattle.model_frame.specs.Frame.{Key, Change, Part, stale_epoch, lag_too_great, Frame, hello, welcome, bind, batch, ack, nack, bound, checked}
-use Rattle.model_session.specs.Session.{Session, Holdable, top}
+use Rattle.model_session.specs.Session.{suits, Session, Holdable, top}
 use Rattle.model_session.specs.Summary.{summary}
 use Rattle.model_session.specs.Whole.{whole_batches, hold_length}
 use Rattle.model_session.proofs.Basics.{cond_cases, cond-false, eqb_sound, ltb_false, none≢some, true≢false}
@@ -68,7 +68,7 @@ module _ (L : Settings) where
   rules_does tells r = r
   rules_does (nacks q) r = r
   rules_does {s} (greets {e} le) r = rules_unbound s _ s.places [] refl r
-  rules_does {s} (binds {h} {k} le p q) r =
+  rules_does {s} (binds {h} {k} le st p q) r =
       record {
         places_few = open_few k s.places L.S r.places_few p;
         handles_there =
@@ -88,8 +88,8 @@ module _ (L : Settings) where
 
   rules_step : (s : Standby) (c : Call) → RowRules L s → RowRules L (step L s c).state
   unfolding step
-  rules_step s (on_frame_held w) r = rules_given s (given w) r
-  rules_step s (on_frame w) r = rules_pending L (is_reply (on_given L s (given w)).answer) (on_given L s (given w)).state (rules_given s (given w) r)
+  rules_step s (on_frame_held w) r = rules_given s (given s.counters.version w) r
+  rules_step s (on_frame w) r = rules_pending L (is_reply (on_given L s (given s.counters.version w)).answer) (on_given L s (given s.counters.version w)).state (rules_given s (given s.counters.version w) r)
   rules_step s (flush n) r = cond_cases (λ (x : Result). RowRules L x.state) (not (eqb n s.counters.connections) || s.counters.promoted) (λ _. r) (λ _. rules_pending L true s r)
   rules_step s (disconnected_from n) r = cond_cases (RowRules L) (eqb n s.counters.connections) (λ _. rules_unbound s s.counters s.places [] refl r) (λ _. r)
   rules_step s promote r =
@@ -131,12 +131,12 @@ bound_so (turns t) u = absurd u
 bound_so tells u = tt
 bound_so (nacks q) u = absurd u
 bound_so (greets le) u = tt
-bound_so (binds le p q) u = (refl, q)
+bound_so (binds le st p q) u = (refl, q)
 bound_so (checks le) u = tt
 bound_so (batches le d) u = tt
 
 module _ (L : Settings) where
-  step_answer : (s : Standby) (c : Call) (w : List ℕ) → Hands c w → (step L s c).answer ≡ (on_given L s (given w)).answer
+  step_answer : (s : Standby) (c : Call) (w : List ℕ) → Hands c w → (step L s c).answer ≡ (on_given L s (given s.counters.version w)).answer
   unfolding step
   step_answer s c w by_held = refl
   step_answer s c w by_frame = refl
@@ -157,10 +157,10 @@ module _ (L : Settings) where
       f = bind h q.epoch q.lag k
 
       -- on_frame
-      kept : {c : Call} → Hands c q.bytes → (on_given L s (given q.bytes)).state ≡ bind_to (run_pending (due s.pending f) s) h k
+      kept : {c : Call} → Hands c q.bytes → (on_given L s (given s.counters.version q.bytes)).state ≡ bind_to (run_pending (due s.pending f) s) h k
           → (again : Bool) × ((step L s c).state ≡ run_pending again (bind_to (run_pending (due s.pending f) s) h k))
       kept by_held p = (false, p)
-      kept by_frame p = (is_reply (on_given L s (given q.bytes)).answer, ap (run_pending (is_reply (on_given L s (given q.bytes)).answer)) p)
+      kept by_frame p = (is_reply (on_given L s (given s.counters.version q.bytes)).answer, ap (run_pending (is_reply (on_given L s (given s.counters.version q.bytes)).answer)) p)
 
       go : {c : Call} → Hands c q.bytes → (b : Bool) → s.counters.promoted ≡ b → T (accepted (cond b (refuse s 10) (on_intact L (run_pending (due s.pending f) s) f)).answer) → Took s c h k
       go hands true p u = absurd u
@@ -195,7 +195,7 @@ module _ (L : Settings) where
   none_does g tells u v = u
   none_does g (nacks q) u v = u
   none_does {s} g (greets le) u v = find_freed g s.handles
-  none_does {s} g (binds {h} {k} le p q) u v = go (eqb g h) refl v
+  none_does {s} g (binds {h} {k} le st p q) u v = go (eqb g h) refl v
     where
       go : (b : Bool) → eqb g h ≡ b → (b && true) ≡ false → find g (put h (new_bound (place_of k s.places)) (without_others h (place_of k s.places) s.handles)) ≡ none
       go true e w = absurd (true≢false w)
@@ -210,10 +210,10 @@ module _ (L : Settings) where
       (cond_cases (λ (r : Result). (is_bind g (intact f) && accepted r.answer) ≡ false → find g r.state.handles ≡ none) s.counters.promoted (λ _ _. u)
       (λ _ w. none_does g (does L (run_pending (due s.pending f) s) f) u w)) v
 
-  none_step : (s : Standby) (g : ℕ) (c : Call) → find g s.handles ≡ none → (calls_bind g c && accepted (step L s c).answer) ≡ false → find g (step L s c).state.handles ≡ none
+  none_step : (s : Standby) (g : ℕ) (c : Call) → find g s.handles ≡ none → (calls_bind s.counters.version g c && accepted (step L s c).answer) ≡ false → find g (step L s c).state.handles ≡ none
   unfolding step
-  none_step s g (on_frame_held w) u v = none_given s g (given w) u v
-  none_step s g (on_frame w) u v = none_given s g (given w) u v
+  none_step s g (on_frame_held w) u v = none_given s g (given s.counters.version w) u v
+  none_step s g (on_frame w) u v = none_given s g (given s.counters.version w) u v
   none_step s g (flush n) u v = cond_cases (λ (r : Result). find g r.state.handles ≡ none) (not (eqb n s.counters.connections) || s.counters.promoted) (λ _. u) (λ _. u)
   none_step s g (disconnected_from n) u v = cond_cases (λ (x : Standby). find g x.handles ≡ none) (eqb n s.counters.connections) (λ _. find_freed g s.handles) (λ _. u)
   none_step s g promote u v = cond_cases (λ (r : Result). find g r.state.handles ≡ none) s.counters.checked (λ _. find_freed g s.handles) (λ _. u)
@@ -222,11 +222,11 @@ module _ (L : Settings) where
   none_run : (s : Standby) (g : ℕ) (cs : List Call) → find g s.handles ≡ none → binds_again L g s cs ≡ false → find g (run L s cs).handles ≡ none
   none_run s g [] u v = u
   none_run s g (c ∷ cs) u v =
-      let z = or_false (calls_bind g c && accepted (step L s c).answer) (binds_again L g (step L s c).state cs) v in
+      let z = or_false (calls_bind s.counters.version g c && accepted (step L s c).answer) (binds_again L g (step L s c).state cs) v in
       none_run (step L s c).state g cs (none_step s g c u z.0) z.1
 
   -- a Batch on a handle that is unbound
-  unbound_14 : (s : Standby) (d : Call) (w : List ℕ) (g e n : ℕ) (p : Part) (own : List Change) → find g s.handles ≡ none → s.counters.promoted ≡ false → Hands d w → given w ≡ intact (batch g e n p own [])
+  unbound_14 : (s : Standby) (d : Call) (w : List ℕ) (g e n : ℕ) (p : Part) (own : List Change) → find g s.handles ≡ none → s.counters.promoted ≡ false → Hands d w → given s.counters.version w ≡ intact (batch g e n p own [])
       → s.counters.epoch ≤ e → (step L s d).answer ≡ refused 14
   unfolding on_given on_batch on_handle
   unbound_14 s d w g e n p own u q hands reads le =
@@ -242,7 +242,7 @@ module _ (L : Settings) where
   bind_same : (s : Standby) (t : Row Bound) (h e lag : ℕ) (k : Key) → without_others h (place_of k s.places) t ≡ without_others h (place_of k s.places) s.handles → T (accepted (on_bind L s h e lag k).answer)
       → on_bind L (rowed s t) h e lag k ≡ on_bind L s h e lag k
   unfolding on_bind
-  bind_same s t h e lag k p u = go (ltb e s.counters.epoch) (ltb L.lag lag) (not (is_stored k s.places || ltb (length s.places) L.S)) u
+  bind_same s t h e lag k p u = go (ltb e s.counters.epoch) (ltb L.lag lag) (not (suits s.counters.version (or_new (session_at s.places (place_of k s.places))).stamp)) (not (is_stored k s.places || ltb (length s.places) L.S)) u
     where
       W : Row Bound
       W = without_others h (place_of k s.places) s.handles
@@ -256,15 +256,16 @@ module _ (L : Settings) where
       last true u = refl
       last false u = absurd u
 
-      go : (a b c : Bool)
-          → T (accepted (cond a (says s (nack h stale_epoch)) (cond b (says s (nack h lag_too_great)) (cond c (refuse s 20) (cond (not (has_room h W)) (refuse s 21) (Told W))))).answer)
-          → cond a (says (rowed s t) (nack h stale_epoch)) (cond b (says (rowed s t) (nack h lag_too_great)) (cond c (refuse (rowed s t) 20)
-          (cond (not (room_at h t (place_of k s.places))) (refuse (rowed s t) 21) (Told (without_others h (place_of k s.places) t)))))
-          ≡ cond a (says s (nack h stale_epoch)) (cond b (says s (nack h lag_too_great)) (cond c (refuse s 20) (cond (not (has_room h W)) (refuse s 21) (Told W))))
-      go true b c u = absurd u
-      go false true c u = absurd u
-      go false false true u = absurd u
-      go false false false u = ap (λ (X : Row Bound). cond (not (has_room h X)) (refuse (rowed s t) 21) (Told X)) p ∙ last (has_room h W) u
+      go : (a b v c : Bool)
+          → T (accepted (cond a (says s (nack h stale_epoch)) (cond b (says s (nack h lag_too_great)) (cond v (refuse s 32) (cond c (refuse s 20) (cond (not (has_room h W)) (refuse s 21) (Told W)))))).answer)
+          → cond a (says (rowed s t) (nack h stale_epoch)) (cond b (says (rowed s t) (nack h lag_too_great)) (cond v (refuse (rowed s t) 32) (cond c (refuse (rowed s t) 20)
+          (cond (not (room_at h t (place_of k s.places))) (refuse (rowed s t) 21) (Told (without_others h (place_of k s.places) t))))))
+          ≡ cond a (says s (nack h stale_epoch)) (cond b (says s (nack h lag_too_great)) (cond v (refuse s 32) (cond c (refuse s 20) (cond (not (has_room h W)) (refuse s 21) (Told W)))))
+      go true b v c u = absurd u
+      go false true v c u = absurd u
+      go false false true c u = absurd u
+      go false false false true u = absurd u
+      go false false false false u = ap (λ (X : Row Bound). cond (not (has_room h X)) (refuse (rowed s t) 21) (Told X)) p ∙ last (has_room h W) u
 
   step_same : (s : Standby) (t : Row Bound) (c : Call) (h : ℕ) (k : Key) → Binds L s c h k → without_others h (place_of k s.places) t ≡ without_others h (place_of k s.places) s.handles
       → step L (rowed s t) c ≡ step L s c
@@ -282,7 +283,7 @@ module _ (L : Settings) where
       on true u = absurd u
       on false u = bind_same (run_pending (due s.pending f) s) t h q.epoch q.lag k (there (place_of k (run_pending (due s.pending f) s).places) (place_pending k (due s.pending f) s)) u
 
-      same : on_given L (rowed s t) (given q.bytes) ≡ on_given L s (given q.bytes)
+      same : on_given L (rowed s t) (given s.counters.version q.bytes) ≡ on_given L s (given s.counters.version q.bytes)
       same =
           ap (on_given L (rowed s t)) q.reads
           ∙ on s.counters.promoted (subst (λ (a : Answer). T (accepted a)) (step_answer s c q.bytes q.hands ∙ ap (λ (g : Given). (on_given L s g).answer) q.reads) q.is_accepted)
@@ -369,9 +370,9 @@ module _ (L : Settings) (limit : ℕ) (A : Session) (s : Standby) (h : ℕ) (k :
   abbrev bound_state : Bool → Bool → Standby
   bound_state now again = run_pending again (bind_to (run_pending now s) h k)
 
-  starts : (now again : Bool) → RowRules L s → s.counters.promoted ≡ false → room_at h s.handles P ≡ true → L.C ≤ 33554432 → L.M ≤ 65536 → Holdable L.C L.M A → hold_length L.C L.M ≤ L.room
+  starts : (now again : Bool) → RowRules L s → s.counters.promoted ≡ false → room_at h s.handles P ≡ true → L.C ≤ 33554432 → L.M ≤ 65536 → Holdable L.C L.M A → suits s.counters.version A.stamp ≡ true → hold_length L.C L.M A.stamp ≤ L.room
       → h < 2 ^ 32 → s.counters.epoch ≤ top → length (whole_batches limit A) ≤ top → ModelStart L limit A B K h (new_bound P) (bound_state now again)
-  starts now again r q room C_limit M_limit held area h_u32 e_u64 few =
+  starts now again r q room C_limit M_limit held suit area h_u32 e_u64 few =
       record {
         C_limit = C_limit;
         M_limit = M_limit;
@@ -384,6 +385,7 @@ module _ (L : Settings) (limit : ℕ) (A : Session) (s : Standby) (h : ℕ) (k :
             ∙ ap (λ (o : Option Session). some (or_new o)) (pending_session now s P₁ ∙ ap (session_at s.places) same);
         its_key = ap (own_key (bound_state now again).places) (sym same) ∙ pending_own again (bind_to (run_pending now s) h k) P₁ K (open_key k (run_pending now s).places);
         nothing_held = refl;
+        suits_so = suit;
         area = area;
         handle_u32 = h_u32;
         epoch_u64 = e_u64;
@@ -396,11 +398,11 @@ module _ (L : Settings) (limit : ℕ) (A : Session) (s : Standby) (h : ℕ) (k :
       same : P₁ ≡ P
       same = place_pending k now s
 
-  module _ (c : Call) (r : RowRules L s) (q : Binds L s c h k) (C_limit : L.C ≤ 33554432) (M_limit : L.M ≤ 65536) (held : Holdable L.C L.M A) (area : hold_length L.C L.M ≤ L.room)
+  module _ (c : Call) (r : RowRules L s) (q : Binds L s c h k) (C_limit : L.C ≤ 33554432) (M_limit : L.M ≤ 65536) (held : Holdable L.C L.M A) (suit : suits s.counters.version A.stamp ≡ true) (area : hold_length L.C L.M A.stamp ≤ L.room)
       (h_u32 : h < 2 ^ 32) (e_u64 : s.counters.epoch ≤ top) (few : length (whole_batches limit A) ≤ top) where
     -- the start of demand 3
     pub starts_after : ModelStart L limit A B K h (new_bound P) (step L s c).state
-    starts_after = subst (ModelStart L limit A B K h (new_bound P)) (sym t.is) (starts t.now t.again r t.unpromoted t.room C_limit M_limit held area h_u32 e_u64 few)
+    starts_after = subst (ModelStart L limit A B K h (new_bound P)) (sym t.is) (starts t.now t.again r t.unpromoted t.room C_limit M_limit held suit area h_u32 e_u64 few)
       where
         t : Took L s c h k
         t = took L s c h k q
@@ -421,7 +423,7 @@ one_handle_each L s r =
       row_apart = λ cs. (rules_run L s cs r).row_apart;
       never_full = λ long cs c. never_21 L (run L s cs) c (rules_run L s cs r) (omega (arith, long, length_run L s cs));
       removes = λ c h g k b q n f at. removed L s c h g k b r q n f at;
-      sent_to_new = λ limit A c h k q C_limit M_limit held area h_u32 e_u64 few. sent L limit A s h k c r q C_limit M_limit held area h_u32 e_u64 few;
+      sent_to_new = λ limit A c h k q C_limit M_limit held suit area h_u32 e_u64 few. sent L limit A s h k c r q C_limit M_limit held suit area h_u32 e_u64 few;
     }
 
 -- a state that docs/AREAS.md allows keeps the rules of the row

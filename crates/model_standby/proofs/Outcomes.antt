@@ -8,13 +8,13 @@ use mathlib.Core.Option.{Option, none, some}
 use mathlib.Core.Bool.{Bool, true, false, not, ◌&&◌, ◌||◌}
 use lib.ListN.{length}
 use lib.Dec.{T, ltb, eqb, ltb→lt, nltb→le}
+use Rattle.model_text.specs.Version.{is_version}
 use Rattle.model_frame.specs.Frame.{Key, Change, Part, commit, whole, last_whole, Reason, stale_epoch, diverged, lag_too_great, restarted, AppRecord, Frame, hello, welcome, bind, batch, ack, nack, bound, checked}
 use Rattle.model_frame.specs.Parse.{is_empty}
 use Rattle.model_frame.specs.Sizes.{sizes}
-use Rattle.model_session.specs.Session.{fits}
+use Rattle.model_session.specs.Session.{suits, fits}
 use Rattle.model_session.specs.Summary.{summary}
 use Rattle.model_session.proofs.Basics.{T→true, cond_cases}
-use Rattle.model_standby.specs.Answer.{protocol_version}
 use Rattle.model_standby.specs.Row.{find}
 use Rattle.model_standby.specs.Store.{place_of, is_stored, session_at, or_new}
 use Rattle.model_standby.specs.State.{Settings, incarnation_of, Bound, Standby, Result, at_epoch, connected, checked_at, none_held}
@@ -74,8 +74,9 @@ module _ (L : Settings) where
     tells : {v e : ℕ} {node kinds : List ℕ} → Does s (hello v e node kinds) (says s (welcome s.counters.epoch (incarnation_of L)))
     nacks : {f : Frame} {h : ℕ} {r : Reason} → Nacked f h r → Does s f (says s (nack h r))
     -- not stale
-    greets : {v e : ℕ} {node kinds : List ℕ} → s.counters.epoch ≤ e → Does s (hello v e node kinds) (says (with_counters (unbound s) (connected e s.counters)) (welcome e (incarnation_of L)))
-    binds : {h e lag : ℕ} {k : Key} → s.counters.epoch ≤ e → (is_stored k s.places || ltb (length s.places) L.S) ≡ true → room_at h s.handles (place_of k s.places) ≡ true
+    greets : {v e : ℕ} {node kinds : List ℕ} → s.counters.epoch ≤ e → Does s (hello v e node kinds) (says (with_counters (unbound s) (connected v e s.counters)) (welcome e (incarnation_of L)))
+    binds : {h e lag : ℕ} {k : Key} → s.counters.epoch ≤ e → suits s.counters.version (or_new (session_at s.places (place_of k s.places))).stamp ≡ true
+        → (is_stored k s.places || ltb (length s.places) L.S) ≡ true → room_at h s.handles (place_of k s.places) ≡ true
         → Does s (bind h e lag k) (says (bind_to s h k) (bound h (summary (or_new (session_at s.places (place_of k s.places))) lag)))
     checks : {h e i : ℕ} → s.counters.epoch ≤ e → Does s (checked h e i) (says (with_counters s (checked_at e s.counters)) (ack h 0))
     batches : {h e n : ℕ} {p : Part} {cs : List Change} {apps : List AppRecord} {r : Result} → s.counters.epoch ≤ e → Batches (with_counters s (at_epoch e s.counters)) h n p cs r → Does s (batch h e n p cs apps) r
@@ -85,7 +86,7 @@ module _ (L : Settings) where
   does_hello : (s : Standby) (v e : ℕ) (node kinds : List ℕ) → Does s (hello v e node kinds) (on_hello L s v e kinds)
   unfolding on_hello
   does_hello s v e node kinds =
-      cond_cases (Does s (hello v e node kinds)) (not (eqb v protocol_version)) (λ _. turns tt)
+      cond_cases (Does s (hello v e node kinds)) (not (is_version v)) (λ _. turns tt)
       (λ _. cond_cases (Does s (hello v e node kinds)) (not (is_empty kinds)) (λ _. turns tt)
       (λ _. cond_cases (Does s (hello v e node kinds)) (ltb e s.counters.epoch) (λ _. tells) (λ t. greets (nltb→le e s.counters.epoch t))))
 
@@ -94,9 +95,10 @@ module _ (L : Settings) where
   does_bind s h e lag k =
       cond_cases (Does s (bind h e lag k)) (ltb e s.counters.epoch) (λ _. nacks stale_bind)
       (λ t. cond_cases (Does s (bind h e lag k)) (ltb L.lag lag) (λ _. nacks lag_bind)
-      (λ _. cond_cases (Does s (bind h e lag k)) (not (is_stored k s.places || ltb (length s.places) L.S)) (λ _. turns tt)
+      (λ _. cond_cases (Does s (bind h e lag k)) (not (suits s.counters.version (or_new (session_at s.places (place_of k s.places))).stamp)) (λ _. turns tt)
+      (λ y. cond_cases (Does s (bind h e lag k)) (not (is_stored k s.places || ltb (length s.places) L.S)) (λ _. turns tt)
       (λ u. cond_cases (Does s (bind h e lag k)) (not (room_at h s.handles (place_of k s.places))) (λ _. turns tt)
-      (λ v. binds (nltb→le e s.counters.epoch t) (not_not (is_stored k s.places || ltb (length s.places) L.S) u) (not_not (room_at h s.handles (place_of k s.places)) v)))))
+      (λ v. binds (nltb→le e s.counters.epoch t) (not_not (suits s.counters.version (or_new (session_at s.places (place_of k s.places))).stamp) y) (not_not (is_stored k s.places || ltb (length s.places) L.S) u) (not_not (room_at h s.handles (place_of k s.places)) v))))))
 
   does_checked : (s : Standby) (h e i : ℕ) → Does s (checked h e i) (on_checked L s h e i)
   unfolding on_checked

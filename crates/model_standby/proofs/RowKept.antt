@@ -42,7 +42,7 @@ module _ (L : Settings) (P : Row Bound → Type 0) (closed : Closed P) where
   does_keeps tells a = a
   does_keeps (nacks q) a = a
   does_keeps {s} (greets le) a = closed.frees s.handles a
-  does_keeps {s} (binds {h} {k} le p q) a = closed.rebinds h (place_of k s.places) s.handles a
+  does_keeps {s} (binds {h} {k} le st p q) a = closed.rebinds h (place_of k s.places) s.handles a
   does_keeps (checks le) a = a
   does_keeps (batches le d) a = batch_keeps d a
 
@@ -53,8 +53,8 @@ module _ (L : Settings) (P : Row Bound → Type 0) (closed : Closed P) where
 
   step_keeps : (s : Standby) (c : Call) → P s.handles → Keeps (step L s c)
   unfolding step
-  step_keeps s (on_frame_held w) a = given_keeps s (given w) a
-  step_keeps s (on_frame w) a = given_keeps s (given w) a
+  step_keeps s (on_frame_held w) a = given_keeps s (given s.counters.version w) a
+  step_keeps s (on_frame w) a = given_keeps s (given s.counters.version w) a
   step_keeps s (flush n) a = cond_cases Keeps (not (eqb n s.counters.connections) || s.counters.promoted) (λ _. a) (λ _. a)
   step_keeps s (disconnected_from n) a = cond_cases (λ (x : Standby). P x.handles) (eqb n s.counters.connections) (λ _. closed.frees s.handles a) (λ _. a)
   step_keeps s promote a = cond_cases Keeps s.counters.checked (λ _. closed.frees s.handles a) (λ _. a)

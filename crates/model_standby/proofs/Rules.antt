@@ -7,12 +7,12 @@ use mathlib.Core.Bool.{true, ◌||◌}
 use lib.ListN.{length}
 use lib.Dec.{T}
 use Rattle.model_session.proofs.Storable.{Storable}
+use Rattle.model_text.specs.Version.{latest}
 use Rattle.model_frame.specs.Frame.{Change, Frame, hello, welcome, bind, batch, ack, nack, bound, checked}
 use Rattle.model_frame.specs.Parse.{is_empty, Each}
 use Rattle.model_frame.specs.Writing.{Writable}
 use Rattle.model_frame.specs.Sizes.{sizes}
 use Rattle.model_session.specs.Session.{Holdable, is_bytes, message_bytes, top}
-use Rattle.model_standby.specs.Answer.{protocol_version}
 use Rattle.model_standby.specs.Row.{Used}
 use Rattle.model_standby.specs.Store.{Place}
 use Rattle.model_standby.specs.State.{Settings, Bound, Standby, Call, on_frame_held, on_frame, flush, disconnected_from, promote, promote_unchecked}
@@ -41,7 +41,7 @@ changes_of (checked h e i) = []
 
 -- what reading lets pass: it can be written, and its changes can be stored
 pub record Readable (f : Frame) : Type 0 where
-  pub writable : Writable protocol_version f
+  pub writable : Writable latest f
   pub storable : Each Storable (changes_of f)
 
 -- ---- the rules of a state

@@ -15,6 +15,7 @@ use Rattle.model_text.specs.Printable.{is_printable_byte, all_printable, is_prin
 use Rattle.model_text.specs.Stamp.{is_stamp, takes_stamp}
 use Rattle.model_text.specs.Utf8.{utf8}
 use Rattle.model_text.proofs.Laws.{marks_is, takes_keeps}
+use Rattle.model_text.specs.Version.{latest}
 use Rattle.model_frame.specs.Frame.{Key, Change, set_incoming, set_incoming_in_flight, set_in_flight, record_msg, record_bare, reset, set_created_at, set_marks, Part, Frame, hello, welcome, bind, batch, ack, nack, bound, checked, Decoded, more, faulty, got}
 use Rattle.model_frame.specs.Parse.{is_empty, Each}
 use Rattle.model_frame.specs.Reading.{decode, max_body}
@@ -22,11 +23,12 @@ use Rattle.model_frame.specs.Writing.{fine, fine_change, all_fine, Ranged, Range
 use Rattle.model_frame.specs.Sizes.{sizes}
 use Rattle.model_frame.proofs.Sizes.{body_size_lem}
 use Rattle.model_frame.proofs.Sound.{decode_sound}
+use Rattle.model_frame.proofs.Wider.{decode_wider}
 use Rattle.model_session.specs.Session.{fits, message_bytes, top, Holdable, is_bytes}
 use Rattle.model_session.proofs.Basics.{T→true, true→T, and_l, and_r, and_true, leb_true, cond_cases, true≢false, each_append}
 use Rattle.model_session.proofs.Sending.{message_bytes_append}
 use Rattle.model_session.proofs.Keeping.{apply_all_keeps, rising_up, new_holdable}
-use Rattle.model_standby.specs.Answer.{protocol_version, Given, damaged, intact, judged, given, is_reply}
+use Rattle.model_standby.specs.Answer.{Given, damaged, intact, judged, given, is_reply}
 use Rattle.model_standby.specs.Row.{Row, Used, find}
 use Rattle.model_standby.specs.Store.{Stored, Place, place_of, is_stored, on_place, session_at, or_new, new_place, opened, changed, with_b, taken_over}
 use Rattle.model_standby.specs.State.{Settings, Bound, Standby, Result, Call, on_frame_held, on_frame, flush, disconnected_from, promote, promote_unchecked, new_standby, at_epoch, new_bound, none_held, numbered}
@@ -231,7 +233,7 @@ module _ (L : Settings) (Also : Bound → Type 0) (closed : Closed Also) where
   keeps {s} (greets le) room o r =
       let u = rules_unbound s r in
       record { epoch_u64 = omega (arith, o.writable.ranged.1); connections_u64 = omega arith; places_few = u.places_few; sessions_ok = u.sessions_ok; handles_ok = u.handles_ok; handles_also = u.handles_also; row_apart = u.row_apart; pending_few = u.pending_few }
-  keeps {s} (binds {h} {k} le p q) room o r = rules_bind s h k p r
+  keeps {s} (binds {h} {k} le st p q) room o r = rules_bind s h k p r
   keeps (checks le) room o r =
       record { epoch_u64 = omega (arith, o.writable.ranged.1); connections_u64 = r.connections_u64; places_few = r.places_few; sessions_ok = r.sessions_ok; handles_ok = r.handles_ok; handles_also = r.handles_also; row_apart = r.row_apart; pending_few = r.pending_few }
   keeps {s} (batches {h} {e} {n} {p} {cs} {apps} le d) room o r =
@@ -326,25 +328,25 @@ module _ (L : Settings) (Also : Bound → Type 0) (closed : Closed Also) where
 -- ---- every call
 
 -- a change that was read from bytes can be stored
-change_storable : (c : Change) → RangedChange c → fine_change protocol_version c ≡ true → ByteChange c → Storable c
+change_storable : (c : Change) → RangedChange c → fine_change latest c ≡ true → ByteChange c → Storable c
 change_storable (set_incoming n) r e b = omega arith
 change_storable (set_incoming_in_flight n f) r e b = (omega (arith, r.0), omega (arith, r.1))
 change_storable (set_in_flight f) r e b = omega arith
 change_storable (record_msg q w) r e b = b
 change_storable (record_bare q) r e b = tt
 change_storable reset r e b = tt
-change_storable (set_created_at x) r e b = true→T (is_stamp x) (takes_keeps protocol_version x (T→true (takes_stamp protocol_version x) (and_r (utf8 x) (takes_stamp protocol_version x) (true→T (utf8 x && takes_stamp protocol_version x) e))))
+change_storable (set_created_at x) r e b = true→T (is_stamp x) (takes_keeps latest x (T→true (takes_stamp latest x) (and_r (utf8 x) (takes_stamp latest x) (true→T (utf8 x && takes_stamp latest x) e))))
 change_storable (set_marks m) r e b = and_r (utf8 m) (is_marks m) (true→T (utf8 m && is_marks m) e)
 
-changes_storable : (cs : List Change) → Each RangedChange cs → all_fine protocol_version cs ≡ true → Each ByteChange cs → Each Storable cs
+changes_storable : (cs : List Change) → Each RangedChange cs → all_fine latest cs ≡ true → Each ByteChange cs → Each Storable cs
 changes_storable [] r e b = tt
 changes_storable (c ∷ cs) r e b =
-    let t = true→T (fine_change protocol_version c && all_fine protocol_version cs) e in (
-      change_storable c r.0 (T→true _ (and_l (fine_change protocol_version c) (all_fine protocol_version cs) t)) b.0,
-      changes_storable cs r.1 (T→true _ (and_r (fine_change protocol_version c) (all_fine protocol_version cs) t)) b.1,
+    let t = true→T (fine_change latest c && all_fine latest cs) e in (
+      change_storable c r.0 (T→true _ (and_l (fine_change latest c) (all_fine latest cs) t)) b.0,
+      changes_storable cs r.1 (T→true _ (and_r (fine_change latest c) (all_fine latest cs) t)) b.1,
     )
 
-frame_storable : (f : Frame) → Ranged f → fine protocol_version f ≡ true → ByteFrame f → Each Storable (changes_of f)
+frame_storable : (f : Frame) → Ranged f → fine latest f ≡ true → ByteFrame f → Each Storable (changes_of f)
 unfolding fine
 frame_storable (hello v e node kinds) r t b = tt
 frame_storable (welcome e i) r t b = tt
@@ -355,23 +357,23 @@ frame_storable (nack h x) r t b = tt
 frame_storable (bound h m) r t b = tt
 frame_storable (checked h e i) r t b = tt
 
-pub passed : (w : List ℕ) → T (is_bytes w) → Passed (given w)
+pub passed : (version : ℕ) (w : List ℕ) → T (is_bytes w) → Passed (given version w)
 unfolding given
-passed w t = go (decode protocol_version w) refl
+passed version w t = go (decode version w) refl
   where
-    go : (d : Decoded) → decode protocol_version w ≡ d → Passed (judged (length w) d)
+    go : (d : Decoded) → decode version w ≡ d → Passed (judged (length w) d)
     go more p = tt
     go (faulty x) p = tt
     go (got f used) p =
-        let a = decode_sound protocol_version w t p in
+        let a = decode_sound latest w t (decode_wider version w p) in
         cond_cases Passed (eqb used (length w)) (λ _. record { writable = a.writable; storable = frame_storable f a.writable.ranged a.writable.texts a.blobs }) (λ _. tt)
 
 module _ (L : Settings) (Also : Bound → Type 0) (closed : Closed Also) where
   pub rules_step : (s : Standby) (c : Call) → OkCall c → StateRules L Also s → StateRules L Also (step L s c).state
   unfolding step
-  rules_step s (on_frame_held w) o r = keeps_given L Also closed s (given w) (passed w o) r
+  rules_step s (on_frame_held w) o r = keeps_given L Also closed s (given s.counters.version w) (passed s.counters.version w o) r
   rules_step s (on_frame w) o r =
-      rules_pending L Also closed (is_reply (on_given L s (given w)).answer) (on_given L s (given w)).state (keeps_given L Also closed s (given w) (passed w o) r)
+      rules_pending L Also closed (is_reply (on_given L s (given s.counters.version w)).answer) (on_given L s (given s.counters.version w)).state (keeps_given L Also closed s (given s.counters.version w) (passed s.counters.version w o) r)
   rules_step s (flush n) o r =
       cond_cases (Keeps L Also closed) (not (eqb n s.counters.connections) || s.counters.promoted) (λ _. r) (λ _. rules_pending L Also closed true s r)
   rules_step s (disconnected_from n) o r = cond_cases (StateRules L Also) (eqb n s.counters.connections) (λ _. rules_unbound L Also closed s r) (λ _. r)

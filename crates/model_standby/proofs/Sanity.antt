@@ -38,7 +38,7 @@ since {s} (turns t) = (le_refl s.counters.epoch, refl)
 since {s} tells = (le_refl s.counters.epoch, refl)
 since {s} (nacks q) = (le_refl s.counters.epoch, refl)
 since (greets le) = (le, refl)
-since {s} (binds le p q) = (le_refl s.counters.epoch, refl)
+since {s} (binds le st p q) = (le_refl s.counters.epoch, refl)
 since (checks le) = (le, refl)
 since {s} (batches le d) = (subst (λ (c : Counters). s.counters.epoch ≤ c.epoch) (sym (batch_counters d)) le, ap (λ (c : Counters). c.promoted) (batch_counters d))
 
@@ -48,7 +48,7 @@ lower_leaves (turns t) u = refl
 lower_leaves tells u = refl
 lower_leaves (nacks q) u = refl
 lower_leaves {s} (greets {e} h) u = absurd (omega (arith, ltb→lt e s.counters.epoch u))
-lower_leaves {s} (binds {e} h p q) u = absurd (omega (arith, ltb→lt e s.counters.epoch u))
+lower_leaves {s} (binds {e} h st p q) u = absurd (omega (arith, ltb→lt e s.counters.epoch u))
 lower_leaves {s} (checks {e} h) u = absurd (omega (arith, ltb→lt e s.counters.epoch u))
 lower_leaves {s} (batches {e} h d) u = absurd (omega (arith, ltb→lt e s.counters.epoch u))
 
@@ -61,8 +61,8 @@ module _ (L : Settings) where
 
   step_epoch : (s : Standby) (c : Call) → s.counters.epoch ≤ (step L s c).state.counters.epoch
   unfolding step
-  step_epoch s (on_frame_held w) = (given_since s (given w)).0
-  step_epoch s (on_frame w) = (given_since s (given w)).0
+  step_epoch s (on_frame_held w) = (given_since s (given s.counters.version w)).0
+  step_epoch s (on_frame w) = (given_since s (given s.counters.version w)).0
   step_epoch s (flush n) =
       cond_cases (λ (r : Result). s.counters.epoch ≤ r.state.counters.epoch) (not (eqb n s.counters.connections) || s.counters.promoted) (λ _. le_refl s.counters.epoch) (λ _. le_refl s.counters.epoch)
   step_epoch s (disconnected_from n) = cond_cases (λ (x : Standby). s.counters.epoch ≤ x.counters.epoch) (eqb n s.counters.connections) (λ _. le_refl s.counters.epoch) (λ _. le_refl s.counters.epoch)
@@ -77,11 +77,11 @@ module _ (L : Settings) where
   -- ---- what changes nothing
 
   -- bytes that are not just one whole frame, whatever the state
-  pub damaged_held : (s : Standby) (w : List ℕ) (n : ℕ) → given w ≡ damaged n → step L s (on_frame_held w) ≡ refuse s n
+  pub damaged_held : (s : Standby) (w : List ℕ) (n : ℕ) → given s.counters.version w ≡ damaged n → step L s (on_frame_held w) ≡ refuse s n
   unfolding step on_given
   damaged_held s w n p = ap (on_given L s) p
 
-  pub damaged_frame : (s : Standby) (w : List ℕ) (n : ℕ) → given w ≡ damaged n → step L s (on_frame w) ≡ refuse s n
+  pub damaged_frame : (s : Standby) (w : List ℕ) (n : ℕ) → given s.counters.version w ≡ damaged n → step L s (on_frame w) ≡ refuse s n
   unfolding step on_given
   damaged_frame s w n p = ap (λ (g : Given). flushed (on_given L s g)) p
 
@@ -98,11 +98,11 @@ module _ (L : Settings) where
 
   pub promoted_held : (s : Standby) (w : List ℕ) → s.counters.promoted ≡ true → (step L s (on_frame_held w)).state ≡ s
   unfolding step
-  promoted_held s w p = ap (λ (r : Result). r.state) (promoted_given s (given w) p).1
+  promoted_held s w p = ap (λ (r : Result). r.state) (promoted_given s (given s.counters.version w) p).1
 
   pub promoted_frame : (s : Standby) (w : List ℕ) → s.counters.promoted ≡ true → (step L s (on_frame w)).state ≡ s
   unfolding step
-  promoted_frame s w p = ap (λ (r : Result). (flushed r).state) (promoted_given s (given w) p).1
+  promoted_frame s w p = ap (λ (r : Result). (flushed r).state) (promoted_given s (given s.counters.version w) p).1
 
   -- and a promoted standby stays promoted
   promotes : (s : Standby) (c : Call) → s.counters.promoted ≡ true → (step L s c).state.counters.promoted ≡ true
@@ -129,10 +129,10 @@ module _ (L : Settings) where
 
   idle_step : (s : Standby) (c : Call) → Idle s → Idle (step L s c).state
   unfolding step
-  idle_step s (on_frame_held w) i = λ u. subst Idle (sym (given_idle s (given w) s.counters.promoted refl i u)) i u
+  idle_step s (on_frame_held w) i = λ u. subst Idle (sym (given_idle s (given s.counters.version w) s.counters.promoted refl i u)) i u
   idle_step s (on_frame w) i =
-      λ u. let p = subst Idle (sym (given_idle s (given w) s.counters.promoted refl i u)) i u in
-      (cond_cases (λ (l : List (ℕ × ℕ)). l ≡ []) (is_reply (on_given L s (given w)).answer) (λ _. refl) (λ _. p.0), p.1)
+      λ u. let p = subst Idle (sym (given_idle s (given s.counters.version w) s.counters.promoted refl i u)) i u in
+      (cond_cases (λ (l : List (ℕ × ℕ)). l ≡ []) (is_reply (on_given L s (given s.counters.version w)).answer) (λ _. refl) (λ _. p.0), p.1)
   idle_step s (flush n) i = cond_cases (λ (r : Result). Idle r.state) (not (eqb n s.counters.connections) || s.counters.promoted) (λ _. i) (λ _ u. (refl, (i u).1))
   idle_step s (disconnected_from n) i = cond_cases Idle (eqb n s.counters.connections) (λ _ u. (refl, λ h. find_freed h s.handles)) (λ _. i)
   idle_step s promote i = cond_cases (λ (r : Result). Idle r.state) s.counters.checked (λ _ u. (refl, λ h. find_freed h s.handles)) (λ _. i)

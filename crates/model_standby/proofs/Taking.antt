@@ -20,7 +20,7 @@ use Rattle.model_session.specs.Session.{Session, apply_all, fits, message_bytes,
 use Rattle.model_session.specs.Whole.{all_changes, frames_of, hold_length}
 use Rattle.model_session.proofs.Basics.{true→T, and_true, cond_cases, cond-true, cond-false, eqb_true, ltb_true, ltb_false, none≢some}
 use Rattle.model_session.proofs.Sending.{whole_changes, apply_whole, fits_whole, sizes_whole, bytes_whole, message_bytes_append}
-use Rattle.model_standby.specs.Answer.{protocol_version, Given, damaged, intact, judged, given, Answer, reply, refused, done, accepted, lower, is_reply}
+use Rattle.model_standby.specs.Answer.{Given, damaged, intact, judged, given, Answer, reply, refused, done, accepted, lower, is_reply}
 use Rattle.model_standby.specs.Row.{Row, find, put}
 use Rattle.model_standby.specs.Store.{Place, on_stored, session_at, or_new, changed}
 use Rattle.model_standby.specs.State.{Settings, Bound, Standby, Result, Call, flush, disconnected_from, at_epoch, none_held}
@@ -36,14 +36,15 @@ record Same (s s₁ : Standby) : Type 0 where
   epoch : s₁.counters.epoch ≡ s.counters.epoch
   connections : s₁.counters.connections ≡ s.counters.connections
   promoted : s₁.counters.promoted ≡ s.counters.promoted
+  version : s₁.counters.version ≡ s.counters.version
   handles : s₁.handles ≡ s.handles
   sessions : (n : ℕ) → session_at s₁.places n ≡ session_at s.places n
 
 same_refl : (s : Standby) → Same s s
-same_refl s = record { epoch = refl; connections = refl; promoted = refl; handles = refl; sessions = λ _. refl }
+same_refl s = record { epoch = refl; connections = refl; promoted = refl; version = refl; handles = refl; sessions = λ _. refl }
 
 same_pending : (w : Bool) (s : Standby) → Same s (run_pending w s)
-same_pending w s = record { epoch = refl; connections = refl; promoted = refl; handles = refl; sessions = pending_session w s }
+same_pending w s = record { epoch = refl; connections = refl; promoted = refl; version = refl; handles = refl; sessions = pending_session w s }
 
 same_trans : (s s₁ s₂ : Standby) → Same s s₁ → Same s₁ s₂ → Same s s₂
 same_trans s s₁ s₂ p q =
@@ -51,6 +52,7 @@ same_trans s s₁ s₂ p q =
       epoch = q.epoch ∙ p.epoch;
       connections = q.connections ∙ p.connections;
       promoted = q.promoted ∙ p.promoted;
+      version = q.version ∙ p.version;
       handles = q.handles ∙ p.handles;
       sessions = λ n. q.sessions n ∙ p.sessions n;
     }
@@ -70,9 +72,9 @@ aside_refused : (e : ℕ) (g : Given) (n : ℕ) → T (is_outside n) → AsideOf
 aside_refused e (damaged m) n t = tt
 aside_refused e (intact f) n t = inr t
 
-aside_of : {e : ℕ} {w : List ℕ} {a : Answer} → Aside e w a → AsideOf e (given w) a
-aside_of {e} {a} (is_lower p t) = subst (λ (g : Given). AsideOf e g a) (sym p) (inl t)
-aside_of {e} {w} (refused_outside {n} t) = aside_refused e (given w) n t
+aside_of : {v e : ℕ} {w : List ℕ} {a : Answer} → Aside v e w a → AsideOf e (given v w) a
+aside_of {e = e} {a = a} (is_lower p t) = subst (λ (g : Given). AsideOf e g a) (sym p) (inl t)
+aside_of {v} {e} {w} (refused_outside {n = n} t) = aside_refused e (given v w) n t
 
 -- a Batch that passed 13 and the epoch is answered, or refused with 14 to 18
 batch_inside : {L : Settings} {s : Standby} {h n : ℕ} {p : Part} {cs : List Change} {r : Result} → Batches L s h n p cs r → T (outside r.answer) → ⊥
@@ -92,7 +94,7 @@ leaves {s} e p (turns t) a = same_refl s
 leaves {s} e p tells a = same_refl s
 leaves {s} e p (nacks q) a = same_refl s
 leaves {s} e p (greets {e = e₁} h) a = elim a [ inl u ↦ absurd (not_both e s.counters.epoch e₁ p h u) | inr u ↦ absurd u ]
-leaves {s} e p (binds {e = e₁} h x y) a = elim a [ inl u ↦ absurd (not_both e s.counters.epoch e₁ p h u) | inr u ↦ absurd u ]
+leaves {s} e p (binds {e = e₁} h st x y) a = elim a [ inl u ↦ absurd (not_both e s.counters.epoch e₁ p h u) | inr u ↦ absurd u ]
 leaves {s} e p (checks {e = e₁} h) a = elim a [ inl u ↦ absurd (not_both e s.counters.epoch e₁ p h u) | inr u ↦ absurd u ]
 leaves {s} e p (batches {e = e₁} h d) a = elim a [ inl u ↦ absurd (not_both e s.counters.epoch e₁ p h u) | inr u ↦ absurd (batch_inside d u) ]
 
@@ -106,20 +108,20 @@ module _ (L : Settings) where
       a
 
 module _ (L : Settings) where
-  step_answer : (s : Standby) (c : Call) (w : List ℕ) → Hands c w → (step L s c).answer ≡ (on_given L s (given w)).answer
+  step_answer : (s : Standby) (c : Call) (w : List ℕ) → Hands c w → (step L s c).answer ≡ (on_given L s (given s.counters.version w)).answer
   unfolding step
   step_answer s c w by_held = refl
   step_answer s c w by_frame = refl
 
-  step_state : (s : Standby) (c : Call) (w : List ℕ) → Hands c w → Same (on_given L s (given w)).state (step L s c).state
+  step_state : (s : Standby) (c : Call) (w : List ℕ) → Hands c w → Same (on_given L s (given s.counters.version w)).state (step L s c).state
   unfolding step
   step_state s c w by_held = same_refl _
-  step_state s c w by_frame = same_pending (is_reply (on_given L s (given w)).answer) (on_given L s (given w)).state
+  step_state s c w by_frame = same_pending (is_reply (on_given L s (given s.counters.version w)).answer) (on_given L s (given s.counters.version w)).state
 
-  aside_same : (e : ℕ) (s : Standby) (c : Call) (w : List ℕ) → s.counters.epoch ≡ e → Hands c w → Aside e w (step L s c).answer → Same s (step L s c).state
+  aside_same : (e : ℕ) (s : Standby) (c : Call) (w : List ℕ) → s.counters.epoch ≡ e → Hands c w → Aside s.counters.version e w (step L s c).answer → Same s (step L s c).state
   aside_same e s c w p hands a =
-      same_trans s (on_given L s (given w)).state (step L s c).state
-      (leaves_given L e s (given w) p (aside_of (subst (Aside e w) (step_answer s c w hands) a))) (step_state s c w hands)
+      same_trans s (on_given L s (given s.counters.version w)).state (step L s c).state
+      (leaves_given L e s (given s.counters.version w) p (aside_of (subst (Aside s.counters.version e w) (step_answer s c w hands) a))) (step_state s c w hands)
 
   flush_same : (s : Standby) (n : ℕ) → Same s (step L s (flush n)).state
   unfolding step
@@ -186,17 +188,18 @@ sum_is : (p m : ℕ) (H : List Change) (y : ℕ) → y ≡ message_bytes H → h
 sum_is p m [] y e = refl
 sum_is p m (x ∷ H) y e = e
 
-module _ (L : Settings) (A B : Session) (here h e : ℕ) (okA : Holdable L.C L.M A) (C-small : L.C ≤ 33554432) (room-big : hold_length L.C L.M ≤ L.room) where
+module _ (L : Settings) (A B : Session) (here h e ver : ℕ) (okA : Holdable L.C L.M A) (C-small : L.C ≤ 33554432) (room-big : hold_length L.C L.M A.stamp ≤ L.room) where
   -- what is handed in is the Batch written
-  given_written : (n : ℕ) (p : Part) (cs : List Change) → Writable protocol_version (batch h e n p cs []) → given (encode (batch h e n p cs [])) ≡ intact (batch h e n p cs [])
+  given_written : (n : ℕ) (p : Part) (cs : List Change) → Writable ver (batch h e n p cs []) → given ver (encode (batch h e n p cs [])) ≡ intact (batch h e n p cs [])
   unfolding given
   given_written n p cs w =
-      ap (judged (length (encode (batch h e n p cs [])))) (decode_alone protocol_version (batch h e n p cs []) w) ∙ cond-true _ _ (eqb_true (length (encode (batch h e n p cs []))))
+      ap (judged (length (encode (batch h e n p cs [])))) (decode_alone ver (batch h e n p cs []) w) ∙ cond-true _ _ (eqb_true (length (encode (batch h e n p cs []))))
 
   -- after A's last, or after a drop
   pub record Resting (s : Standby) (X : Session) : Type 0 where
     pub epoch : s.counters.epoch ≡ e
     pub promoted : s.counters.promoted ≡ false
+    pub version : s.counters.version ≡ ver
     pub session : session_at s.places here ≡ some X
 
   -- A's parts so far are held
@@ -207,7 +210,7 @@ module _ (L : Settings) (A B : Session) (here h e : ℕ) (okA : Holdable L.C L.M
     pub counted : held_sum (held_at L here m H sum) ≡ message_bytes H
 
   same_resting : (s s₁ : Standby) (X : Session) → Same s s₁ → Resting s X → Resting s₁ X
-  same_resting s s₁ X p q = record { epoch = p.epoch ∙ q.epoch; promoted = p.promoted ∙ q.promoted; session = p.sessions here ∙ q.session }
+  same_resting s s₁ X p q = record { epoch = p.epoch ∙ q.epoch; promoted = p.promoted ∙ q.promoted; version = p.version ∙ q.version; session = p.sessions here ∙ q.session }
 
   same_holding : (s s₁ : Standby) (m : ℕ) (H : List Change) → Same s s₁ → Holding s m H → Holding s₁ m H
   same_holding s s₁ m H p q = record { rests = same_resting s s₁ B p q.rests; sum = q.sum; handle = ap (find h) p.handles ∙ q.handle; counted = q.counted }
@@ -244,7 +247,7 @@ module _ (L : Settings) (A B : Session) (here h e : ℕ) (okA : Holdable L.C L.M
       now : Holding (with_handle (with_counters s (at_epoch e s.counters)) h (held_at L here (suc m) (H ++ cs) y)) (suc m) (H ++ cs)
       now =
           record {
-            rests = record { epoch = refl; promoted = q.rests.promoted; session = q.rests.session };
+            rests = record { epoch = refl; promoted = q.rests.promoted; version = q.rests.version; session = q.rests.session };
             sum = y;
             handle = set_found s.handles (held_at L here m H q.sum) (held_at L here (suc m) (H ++ cs) y) q.handle;
             counted = sum_is here (suc m) (H ++ cs) y (bytes_eq H cs rest (held_sum (held_at L here m H q.sum)) w q.counted);
@@ -278,12 +281,13 @@ module _ (L : Settings) (A B : Session) (here h e : ℕ) (okA : Holdable L.C L.M
           record {
             epoch = refl;
             promoted = q.rests.promoted;
+            version = q.rests.version;
             session = ap (map (λ (x : Place). x.stored.session)) (at_on_same here (changed L.C L.M (H ++ cs)) s.places) ∙ up (get_elem? s.places here) q.rests.session;
           }
 
   -- a call that hands in A's next frame
   call_whole : (s : Standby) (c : Call) (m : ℕ) (H cs rest : List Change) → H ++ (cs ++ rest) ≡ whole_changes A → starts_with_reset (H ++ cs) ≡ true → m < top → Holding s m H
-      → Writable protocol_version (batch h e (suc m) whole cs []) → Hands c (encode (batch h e (suc m) whole cs [])) → (accepted (step L s c).answer ≡ true) × Holding (step L s c).state (suc m) (H ++ cs)
+      → Writable ver (batch h e (suc m) whole cs []) → Hands c (encode (batch h e (suc m) whole cs [])) → (accepted (step L s c).answer ≡ true) × Holding (step L s c).state (suc m) (H ++ cs)
   call_whole s c m H cs rest w b lt q fine hands = (
     ap accepted (step_answer L s c (encode f) hands ∙ ap (λ (r : Result). r.answer) is ∙ got₁.0),
     same_holding _ _ (suc m) (H ++ cs) (step_state L s c (encode f) hands) (subst (λ (r : Result). Holding r.state (suc m) (H ++ cs)) (sym is) got₁.1),
@@ -292,14 +296,14 @@ module _ (L : Settings) (A B : Session) (here h e : ℕ) (okA : Holdable L.C L.M
       f : Frame
       f = batch h e (suc m) whole cs []
 
-      is : on_given L s (given (encode f)) ≡ on_intact L (run_pending (due s.pending f) s) f
-      is = ap (on_given L s) (given_written (suc m) whole cs fine) ∙ given_intact L s f q.rests.promoted
+      is : on_given L s (given s.counters.version (encode f)) ≡ on_intact L (run_pending (due s.pending f) s) f
+      is = ap (λ (x : ℕ). on_given L s (given x (encode f))) q.rests.version ∙ ap (on_given L s) (given_written (suc m) whole cs fine) ∙ given_intact L s f q.rests.promoted
 
       got₁ : ((on_batch L (run_pending (due s.pending f) s) h e (suc m) whole cs []).answer ≡ reply (ack h (suc m))) × Holding (on_batch L (run_pending (due s.pending f) s) h e (suc m) whole cs []).state (suc m) (H ++ cs)
       got₁ = whole_taken (run_pending (due s.pending f) s) m H cs rest w b lt (same_holding s _ m H (same_pending (due s.pending f) s) q)
 
   call_last : (s : Standby) (c : Call) (m : ℕ) (H cs : List Change) → H ++ (cs ++ []) ≡ whole_changes A → starts_with_reset (H ++ cs) ≡ true → m < top → Holding s m H
-      → Writable protocol_version (batch h e (suc m) last_whole cs []) → Hands c (encode (batch h e (suc m) last_whole cs [])) → (accepted (step L s c).answer ≡ true) × Resting (step L s c).state A
+      → Writable ver (batch h e (suc m) last_whole cs []) → Hands c (encode (batch h e (suc m) last_whole cs [])) → (accepted (step L s c).answer ≡ true) × Resting (step L s c).state A
   call_last s c m H cs w b lt q fine hands = (
     ap accepted (step_answer L s c (encode f) hands ∙ ap (λ (r : Result). r.answer) is ∙ got₁.0),
     same_resting _ _ A (step_state L s c (encode f) hands) (subst (λ (r : Result). Resting r.state A) (sym is) got₁.1),
@@ -308,15 +312,15 @@ module _ (L : Settings) (A B : Session) (here h e : ℕ) (okA : Holdable L.C L.M
       f : Frame
       f = batch h e (suc m) last_whole cs []
 
-      is : on_given L s (given (encode f)) ≡ on_intact L (run_pending (due s.pending f) s) f
-      is = ap (on_given L s) (given_written (suc m) last_whole cs fine) ∙ given_intact L s f q.rests.promoted
+      is : on_given L s (given s.counters.version (encode f)) ≡ on_intact L (run_pending (due s.pending f) s) f
+      is = ap (λ (x : ℕ). on_given L s (given x (encode f))) q.rests.version ∙ ap (on_given L s) (given_written (suc m) last_whole cs fine) ∙ given_intact L s f q.rests.promoted
 
       got₁ : ((on_batch L (run_pending (due s.pending f) s) h e (suc m) last_whole cs []).answer ≡ reply (ack h (suc m))) × Resting (on_batch L (run_pending (due s.pending f) s) h e (suc m) last_whole cs []).state A
       got₁ = last_taken (run_pending (due s.pending f) s) m H cs w b lt (same_holding s _ m H (same_pending (due s.pending f) s) q)
 
   -- ... on a handle that a drop has unbound
   call_unbound : (s : Standby) (c : Call) (n : ℕ) (p : Part) (cs : List Change) (X : Session) → find h s.handles ≡ none → Resting s X
-      → Writable protocol_version (batch h e n p cs []) → Hands c (encode (batch h e n p cs [])) → (accepted (step L s c).answer ≡ false) × (find h (step L s c).state.handles ≡ none) × Resting (step L s c).state X
+      → Writable ver (batch h e n p cs []) → Hands c (encode (batch h e n p cs [])) → (accepted (step L s c).answer ≡ false) × (find h (step L s c).state.handles ≡ none) × Resting (step L s c).state X
   call_unbound s c n p cs X u r fine hands = (
     ap accepted (step_answer L s c (encode f) hands ∙ ap (λ (x : Result). x.answer) is),
     ap (find h) (step_state L s c (encode f) hands).handles ∙ ap (λ (x : Result). find h x.state.handles) is ∙ u,
@@ -329,11 +333,11 @@ module _ (L : Settings) (A B : Session) (here h e : ℕ) (okA : Holdable L.C L.M
       s₁ : Standby
       s₁ = run_pending (due s.pending f) s
 
-      is : on_given L s (given (encode f)) ≡ refuse (with_counters s₁ (at_epoch e s₁.counters)) 14
-      is = ap (on_given L s) (given_written n p cs fine) ∙ given_intact L s f r.promoted ∙ batch_unbound L s₁ e h n p cs r.epoch u
+      is : on_given L s (given s.counters.version (encode f)) ≡ refuse (with_counters s₁ (at_epoch e s₁.counters)) 14
+      is = ap (λ (x : ℕ). on_given L s (given x (encode f))) r.version ∙ ap (on_given L s) (given_written n p cs fine) ∙ given_intact L s f r.promoted ∙ batch_unbound L s₁ e h n p cs r.epoch u
 
       now : Resting (with_counters s₁ (at_epoch e s₁.counters)) X
-      now = record { epoch = refl; promoted = r.promoted; session = pending_session (due s.pending f) s here ∙ r.session }
+      now = record { epoch = refl; promoted = r.promoted; version = r.version; session = pending_session (due s.pending f) s here ∙ r.session }
 
   -- ---- the lists
 
@@ -356,7 +360,7 @@ module _ (L : Settings) (A B : Session) (here h e : ℕ) (okA : Holdable L.C L.M
   drop_resting : (s : Standby) (n : ℕ) (X : Session) → Resting s X → Resting (step L s (disconnected_from n)).state X
   unfolding step
   drop_resting s n X r =
-      cond_cases (λ (x : Standby). Resting x X) (eqb n s.counters.connections) (λ _. record { epoch = r.epoch; promoted = r.promoted; session = r.session }) (λ _. r)
+      cond_cases (λ (x : Standby). Resting x X) (eqb n s.counters.connections) (λ _. record { epoch = r.epoch; promoted = r.promoted; version = r.version; session = r.session }) (λ _. r)
 
   drop_unbound : (s : Standby) (n : ℕ) → find h s.handles ≡ none → find h (step L s (disconnected_from n)).state.handles ≡ none
   unfolding step
@@ -386,12 +390,12 @@ module _ (L : Settings) (A B : Session) (here h e : ℕ) (okA : Holdable L.C L.M
       (cond_cases (λ (t : Type 0). t) (eqb n s.counters.connections) (λ _. tt) (λ _. q.0), q.1, q.2)
 
   -- the handle is unbound
-  cut_run : {fs : List Frame} {s : Standby} {cs : List Call} (d : FirstList L e fs s cs) (m : ℕ) (bs : List (List Change)) (X : Session) → fs ≡ frames_of h e m bs → Each (Writable protocol_version) fs → find h s.handles ≡ none → Resting s X
+  cut_run : {fs : List Frame} {s : Standby} {cs : List Call} (d : FirstList L e fs s cs) (m : ℕ) (bs : List (List Change)) (X : Session) → fs ≡ frames_of h e m bs → Each (Writable ver) fs → find h s.handles ≡ none → Resting s X
       → (model_took_last d ≡ false) × (Finally s cs X)
   cut_run list_ends m bs X p fine u r = (refl, r.session)
   cut_run (ours_next {f} {left} {s} {c} hands rest) m bs X p fine u r =
       let v = frame_is f left m bs p in
-      let q = call_unbound s c (suc m) v.part v.own X u r (subst (Writable protocol_version) v.frame_is fine.0) (subst (λ (x : Frame). Hands c (encode x)) v.frame_is hands) in
+      let q = call_unbound s c (suc m) v.part v.own X u r (subst (Writable ver) v.frame_is fine.0) (subst (λ (x : Frame). Hands c (encode x)) v.frame_is hands) in
       let z = cut_run rest (suc m) v.more X v.left_is fine.1 q.1 q.2 in
       (ap (λ (x : Bool). x || model_took_last rest) (and_false (is_empty left) (accepted (step L s c).answer) q.0) ∙ z.0, z.1)
   cut_run (aside_next {s} {c} {w} hands a rest) m bs X p fine u r =
@@ -412,20 +416,20 @@ module _ (L : Settings) (A B : Session) (here h e : ℕ) (okA : Holdable L.C L.M
     pub numbers : m + suc (length bs) ≤ top
 
   pub hold_run : {fs : List Frame} {s : Standby} {cs : List Call} (d : FirstList L e fs s cs) (m : ℕ) (H b : List Change) (bs : List (List Change))
-      → fs ≡ frames_of h e m (b ∷ bs) → Each (Writable protocol_version) fs → Coming m H b bs → Holding s m H → Ends d
+      → fs ≡ frames_of h e m (b ∷ bs) → Each (Writable ver) fs → Coming m H b bs → Holding s m H → Ends d
   hold_run list_ends m H b bs p fine w q = (tt, q.rests.session)
   hold_run (ours_next {f} {left} {s} {c} {cs} hands rest) m H b bs p fine w q = go bs p w (hold_run rest)
     where
       go : (bs : List (List Change)) → f ∷ left ≡ frames_of h e m (b ∷ bs) → Coming m H b bs
-          → ((m₁ : ℕ) (H₁ b₁ : List Change) (bs₁ : List (List Change)) → left ≡ frames_of h e m₁ (b₁ ∷ bs₁) → Each (Writable protocol_version) left → Coming m₁ H₁ b₁ bs₁ → Holding (step L s c).state m₁ H₁ → Ends rest)
+          → ((m₁ : ℕ) (H₁ b₁ : List Change) (bs₁ : List (List Change)) → left ≡ frames_of h e m₁ (b₁ ∷ bs₁) → Each (Writable ver) left → Coming m₁ H₁ b₁ bs₁ → Holding (step L s c).state m₁ H₁ → Ends rest)
           → Ends (ours_next {f = f} {left = left} {s = s} {c = c} {cs = cs} hands rest)
       go [] p w ih =
-          let x = call_last s c m H b w.all w.begins (omega (arith, w.numbers)) q (subst (Writable protocol_version) (head-eq_of_cons-eq p) fine.0) (subst (λ (y : Frame). Hands c (encode y)) (head-eq_of_cons-eq p) hands) in
+          let x = call_last s c m H b w.all w.begins (omega (arith, w.numbers)) q (subst (Writable ver) (head-eq_of_cons-eq p) fine.0) (subst (λ (y : Frame). Hands c (encode y)) (head-eq_of_cons-eq p) hands) in
           let z = quiet_run rest A (tail-eq_of_cons-eq p) x.1 in
           let t : (is_empty left && accepted (step L s c).answer || model_took_last rest) ≡ true = ap (λ (y : Bool). y || model_took_last rest) (and_true (ap is_empty (tail-eq_of_cons-eq p)) x.0) in
           ((true→T _ x.0, z.0), subst (Finally s (c ∷ cs)) (sym (cond-true A B t)) z.2)
       go (b₁ ∷ bs) p w ih =
-          let x = call_whole s c m H b (b₁ ++ all_changes bs) w.all w.begins (omega (arith, w.numbers)) q (subst (Writable protocol_version) (head-eq_of_cons-eq p) fine.0) (subst (λ (y : Frame). Hands c (encode y)) (head-eq_of_cons-eq p) hands) in
+          let x = call_whole s c m H b (b₁ ++ all_changes bs) w.all w.begins (omega (arith, w.numbers)) q (subst (Writable ver) (head-eq_of_cons-eq p) fine.0) (subst (λ (y : Frame). Hands c (encode y)) (head-eq_of_cons-eq p) hands) in
           let w₁ : Coming (suc m) (H ++ b) b₁ bs =
           record { all = append_assoc H b (b₁ ++ all_changes bs) ∙ w.all; begins = starts_append (H ++ b) b₁ w.begins; numbers = omega (arith, w.numbers) } in
           let z = ih (suc m) (H ++ b) b₁ bs (tail-eq_of_cons-eq p) fine.1 w₁ x.1 in
@@ -440,7 +444,7 @@ module _ (L : Settings) (A B : Session) (here h e : ℕ) (okA : Holdable L.C L.M
       go true y ih =
           let is = drop_is s n true y in
           let z = cut_run rest m (b ∷ bs) B p fine (ap (λ (v : Standby). find h v.handles) is ∙ find_freed h s.handles)
-          (subst (λ (v : Standby). Resting v B) (sym is) (record { epoch = q.rests.epoch; promoted = q.rests.promoted; session = q.rests.session })) in
+          (subst (λ (v : Standby). Resting v B) (sym is) (record { epoch = q.rests.epoch; promoted = q.rests.promoted; version = q.rests.version; session = q.rests.session })) in
           (subst (λ (v : Bool). cond v (Unit {0}) (ModelAllTaken rest)) (sym y) tt, subst (λ (v : Bool). Finally s (disconnected_from n ∷ cs) (cond v A B)) (sym z.0) z.1)
       go false y ih =
           let z = ih (subst (λ (v : Standby). Holding v m H) (sym (drop_is s n false y)) q) in

@@ -7,10 +7,6 @@ use Rattle.model_frame.specs.Refusal
 use Rattle.model_frame.specs.Reading.{decode}
 use Rattle.model_standby.specs.Row.{is_some}
 
--- the version that frames are read in
-abbrev pub protocol_version : ℕ
-protocol_version = 1
-
 -- ---- what is handed in: bytes refused with this number (faulty, a part of a frame, more than a frame: two good ones too), or just one whole frame
 
 pub data Given : Type 0 where
@@ -23,9 +19,9 @@ judged size more = damaged Refusal.not_one_frame
 judged size (faulty e) = damaged (fault_number e)
 judged size (got f used) = cond (eqb used size) (intact f) (damaged Refusal.not_one_frame)
 
--- the reader's number, or 26 if the bytes aren't just one whole frame
-unfoldable pub given : List ℕ → Given
-given w = judged (length w) (decode protocol_version w)
+-- read in a version: the reader's number, or 26 if the bytes aren't just one whole frame
+unfoldable pub given : ℕ → List ℕ → Given
+given version w = judged (length w) (decode version w)
 
 -- the handle to look up: a Bind's or a Batch's; no other frame needs one
 abbrev pub handle_in : Given → ℕ

@@ -4,13 +4,14 @@
 -- Assumes nothing.
 use Rattle.std.specs.Prelude.{ℕ, List, [], ◌∷◌, ◌++◌, Bool, true, cond, not, ◌&&◌, ◌||◌, length, ltb, eqb}
 use Rattle.std.proofs.Math.Option.{Option, none, some}
+use Rattle.model_text.specs.Version.{latest, is_version}
 use Rattle.model_frame.specs.Frame.{Key, Change, Part, commit, whole, last_whole, stale_epoch, diverged, lag_too_great, restarted, AppRecord, Frame, hello, welcome, bind, batch, ack, nack, bound, checked}
 use Rattle.model_frame.specs.Refusal
 use Rattle.model_frame.specs.Parse.{is_empty}
 use Rattle.model_frame.specs.Sizes.{sizes}
-use Rattle.model_session.specs.Session.{fits}
+use Rattle.model_session.specs.Session.{suits, fits}
 use Rattle.model_session.specs.Summary.{summary}
-use Rattle.model_standby.specs.Answer.{protocol_version, Given, damaged, intact, given, handle_in, Answer, reply, refused, done, is_reply}
+use Rattle.model_standby.specs.Answer.{Given, damaged, intact, given, handle_in, Answer, reply, refused, done, is_reply}
 use Rattle.model_standby.specs.Row.{Row, put, freed}
 use Rattle.model_standby.specs.Store.{Place, place_of, is_stored, on_place, on_places, session_at, or_new, opened, changed, mark_all, taken_over}
 use Rattle.model_standby.specs.State.{Settings, incarnation_of, Counters, Bound, Standby, Call, on_frame_held, on_frame, flush, disconnected_from, promote, promote_unchecked, Result, at_epoch, connected, checked_at, promoted_to, new_bound, none_held, numbered}
@@ -72,20 +73,21 @@ core_run now k = record { counters = k.counters; places = cond now (mark_all k.p
 module _ (L : Settings) where
   unfoldable pub core_hello : Core → ℕ → ℕ → List ℕ → CoreResult
   core_hello k v e kinds =
-      cond (not (eqb v protocol_version)) (core_refuse k leave Refusal.bad_version)
+      cond (not (is_version v)) (core_refuse k leave Refusal.bad_version)
       (cond (not (is_empty kinds)) (core_refuse k leave Refusal.kinds_listed)
       (cond (ltb e k.counters.epoch) (core_says k leave (welcome k.counters.epoch (incarnation_of L)))
-      (core_says (counting (core_unbound k) (connected e k.counters)) clear (welcome e (incarnation_of L)))))
+      (core_says (counting (core_unbound k) (connected v e k.counters)) clear (welcome e (incarnation_of L)))))
 
   -- `room p` says whether the row has a place for the handle once no other handle has the session place p
   unfoldable pub core_bind : Core → (ℕ → Bool) → ℕ → ℕ → ℕ → Key → CoreResult
   core_bind k room h e lag j =
       cond (ltb e k.counters.epoch) (core_says k leave (nack h stale_epoch))
       (cond (ltb L.lag lag) (core_says k leave (nack h lag_too_great))
+      (cond (not (suits k.counters.version (or_new (session_at k.places (place_of j k.places))).stamp)) (core_refuse k leave Refusal.long_stamp)
       (cond (not (is_stored j k.places || ltb (length k.places) L.S)) (core_refuse k leave Refusal.no_session_place)
       (cond (not (room (place_of j k.places))) (core_refuse k leave Refusal.no_handle_place)
       (core_says (record { counters = k.counters; places = opened j k.places; pending = k.pending }) (rebind h (new_bound (place_of j k.places)))
-      (bound h (summary (or_new (session_at k.places (place_of j k.places))) lag))))))
+      (bound h (summary (or_new (session_at k.places (place_of j k.places))) lag)))))))
 
   unfoldable pub core_checked : Core → ℕ → ℕ → ℕ → CoreResult
   core_checked k h e i =
@@ -143,17 +145,17 @@ module _ (L : Settings) where
   core_promotion k = record { counters = promoted_to k.counters; places = on_places (taken_over L.lag) k.places; pending = [] }
 
   unfoldable pub core_step : Core → Option Bound → (ℕ → Bool) → Call → CoreResult
-  core_step k found room (on_frame_held w) = core_given k found room (given w)
-  core_step k found room (on_frame w) = core_flushed (core_given k found room (given w))
+  core_step k found room (on_frame_held w) = core_given k found room (given k.counters.version w)
+  core_step k found room (on_frame w) = core_flushed (core_given k found room (given k.counters.version w))
   core_step k found room (flush n) = cond (not (eqb n k.counters.connections) || k.counters.promoted) (core_refuse k leave Refusal.other_connection) (core_done (core_run true k) leave)
   core_step k found room (disconnected_from n) = cond (eqb n k.counters.connections) (core_done (core_unbound k) clear) (core_done k leave)
   core_step k found room promote = cond k.counters.checked (core_done (core_promotion k) clear) (core_refuse k leave Refusal.unchecked)
   core_step k found room promote_unchecked = core_done (core_promotion k) clear
 
--- the handle to look up
+-- the handle to look up: what some version reads, the latest reads too
 abbrev pub handle_of : Call → ℕ
-handle_of (on_frame_held w) = handle_in (given w)
-handle_of (on_frame w) = handle_in (given w)
+handle_of (on_frame_held w) = handle_in (given latest w)
+handle_of (on_frame w) = handle_in (given latest w)
 handle_of (flush n) = 0
 handle_of (disconnected_from n) = 0
 handle_of promote = 0

@@ -7,7 +7,7 @@ use Rattle.model_frame.specs.Frame.{Frame}
 use Rattle.model_frame.specs.Refusal
 use Rattle.model_frame.specs.Parse.{is_empty}
 use Rattle.model_frame.specs.Writing.{encode}
-use Rattle.model_session.specs.Session.{Session, Holdable, top}
+use Rattle.model_session.specs.Session.{suits, Session, Holdable, top}
 use Rattle.model_session.specs.Whole.{whole_batches, whole_frames, hold_length}
 use Rattle.model_standby.specs.Answer.{intact, given, Answer, refused, accepted, lower}
 use Rattle.model_standby.specs.Row.{find}
@@ -30,7 +30,9 @@ pub record ModelStart (L : Settings) (limit : ℕ) (A B : Session) (k : OwnKey) 
   pub is_B : session_at s.places b.place ≡ some B
   pub its_key : own_key s.places b.place ≡ some k
   pub nothing_held : b.held ≡ []
-  pub area : hold_length L.C L.M ≤ L.room
+  -- A's stamp suits the connection's version, and the hold area is long enough for such a stamp
+  pub suits_so : suits s.counters.version A.stamp ≡ true
+  pub area : hold_length L.C L.M A.stamp ≤ L.room
   pub handle_u32 : h < 2 ^ 32
   pub epoch_u64 : s.counters.epoch ≤ top
   pub sendable : b.number + length (whole_batches limit A) ≤ top
@@ -57,17 +59,17 @@ pub data Hands : Call → List ℕ → Type 0 where
 abbrev pub is_outside : ℕ → Bool
 is_outside n = not (leb Refusal.unbound n && leb n Refusal.hold_area_full)
 
--- bytes besides A's, answered so: a frame of an epoch below e, or refused with a number outside 14 to 18
-pub data Aside (e : ℕ) : List ℕ → Answer → Type 0 where
-  is_lower : {w : List ℕ} {f : Frame} {a : Answer} → given w ≡ intact f → T (lower e f) → Aside e w a
-  refused_outside : {w : List ℕ} {n : ℕ} → T (is_outside n) → Aside e w (refused n)
+-- bytes besides A's, read in the call's version and answered so: a frame of an epoch below e, or refused with a number outside 14 to 18
+pub data Aside (version e : ℕ) : List ℕ → Answer → Type 0 where
+  is_lower : {w : List ℕ} {f : Frame} {a : Answer} → given version w ≡ intact f → T (lower e f) → Aside version e w a
+  refused_outside : {w : List ℕ} {n : ℕ} → T (is_outside n) → Aside version e w (refused n)
 
 -- From the state s, of A's frames `left` being still to come: the calls hand in a prefix of these, once each in order,
 -- and besides only asides; flushes and drops stand anywhere.
 pub data FirstList (L : Settings) (e : ℕ) : List Frame → Standby → List Call → Type 0 where
   list_ends : {left : List Frame} {s : Standby} → FirstList L e left s []
   ours_next : {f : Frame} {left : List Frame} {s : Standby} {c : Call} {cs : List Call} → Hands c (encode f) → FirstList L e left (step L s c).state cs → FirstList L e (f ∷ left) s (c ∷ cs)
-  aside_next : {left : List Frame} {s : Standby} {c : Call} {cs : List Call} {w : List ℕ} → Hands c w → Aside e w (step L s c).answer → FirstList L e left (step L s c).state cs → FirstList L e left s (c ∷ cs)
+  aside_next : {left : List Frame} {s : Standby} {c : Call} {cs : List Call} {w : List ℕ} → Hands c w → Aside s.counters.version e w (step L s c).answer → FirstList L e left (step L s c).state cs → FirstList L e left s (c ∷ cs)
   flush_next : {left : List Frame} {s : Standby} {cs : List Call} (n : ℕ) → FirstList L e left (step L s (flush n)).state cs → FirstList L e left s (flush n ∷ cs)
   drop_next : {left : List Frame} {s : Standby} {cs : List Call} (n : ℕ) → FirstList L e left (step L s (disconnected_from n)).state cs → FirstList L e left s (disconnected_from n ∷ cs)
 

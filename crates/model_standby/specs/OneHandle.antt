@@ -7,7 +7,7 @@ use Rattle.model_frame.specs.Frame.{Key, Change, Part, Frame, hello, welcome, bi
 use Rattle.model_frame.specs.Refusal
 use Rattle.model_frame.specs.Parse.{Each}
 use Rattle.model_frame.specs.Writing.{encode}
-use Rattle.model_session.specs.Session.{Session, Holdable, top}
+use Rattle.model_session.specs.Session.{suits, Session, Holdable, top}
 use Rattle.model_session.specs.Whole.{whole_batches, whole_frames, hold_length}
 use Rattle.model_standby.specs.Answer.{Given, damaged, intact, given, refused, accepted}
 use Rattle.model_standby.specs.Row.{Row, Used, find}
@@ -31,7 +31,7 @@ pub record Binds (L : Settings) (s : Standby) (c : Call) (h : ℕ) (k : Key) : T
   pub epoch : ℕ
   pub lag : ℕ
   pub hands : Hands c bytes
-  pub reads : given bytes ≡ intact (bind h epoch lag k)
+  pub reads : given s.counters.version bytes ≡ intact (bind h epoch lag k)
   pub is_accepted : T (accepted (step L s c).answer)
 
 -- a Bind of the handle g
@@ -46,18 +46,19 @@ is_bind g (intact (nack h r)) = false
 is_bind g (intact (bound h m)) = false
 is_bind g (intact (checked h e i)) = false
 
-abbrev pub calls_bind : ℕ → Call → Bool
-calls_bind g (on_frame_held w) = is_bind g (given w)
-calls_bind g (on_frame w) = is_bind g (given w)
-calls_bind g (flush n) = false
-calls_bind g (disconnected_from n) = false
-calls_bind g promote = false
-calls_bind g promote_unchecked = false
+-- read in the connection's version
+abbrev pub calls_bind : ℕ → ℕ → Call → Bool
+calls_bind version g (on_frame_held w) = is_bind g (given version w)
+calls_bind version g (on_frame w) = is_bind g (given version w)
+calls_bind version g (flush n) = false
+calls_bind version g (disconnected_from n) = false
+calls_bind version g promote = false
+calls_bind version g promote_unchecked = false
 
 -- g is bound again: a Bind of g among the calls is accepted
 abbrev pub binds_again : Settings → ℕ → Standby → List Call → Bool
 binds_again L g s [] = false
-binds_again L g s (c ∷ cs) = calls_bind g c && accepted (step L s c).answer || binds_again L g (step L s c).state cs
+binds_again L g s (c ∷ cs) = calls_bind s.counters.version g c && accepted (step L s c).answer || binds_again L g (step L s c).state cs
 
 -- ---- the claims
 
@@ -71,7 +72,7 @@ pub record Removed (L : Settings) (s : Standby) (c : Call) (g : ℕ) (b : Bound)
   pub unbound_so : (cs : List Call) → binds_again L g (step L s c).state cs ≡ false → find g (run L s (c ∷ cs)).handles ≡ none
   -- and a Batch on it (unpromoted, without application records, not stale) is 14;
   pub batch_is_14 : (cs : List Call) → binds_again L g (step L s c).state cs ≡ false → (run L s (c ∷ cs)).counters.promoted ≡ false
-      → (d : Call) (w : List ℕ) (e n : ℕ) (p : Part) (own : List Change) → Hands d w → given w ≡ intact (batch g e n p own []) → (run L s (c ∷ cs)).counters.epoch ≤ e
+      → (d : Call) (w : List ℕ) (e n : ℕ) (p : Part) (own : List Change) → Hands d w → given (run L s (c ∷ cs)).counters.version w ≡ intact (batch g e n p own []) → (run L s (c ∷ cs)).counters.epoch ≤ e
       → (step L (run L s (c ∷ cs)) d).answer ≡ refused Refusal.unbound
   -- what g held, its byte sum and its number are nothing to any state from then on, also when it is bound again: with any others the run is the same,
   pub forgotten : (x : Bound) → x.place ≡ b.place → (cs : List Call) → run L (with_handle s g x) (c ∷ cs) ≡ run L s (c ∷ cs)
@@ -97,6 +98,6 @@ pub record OneHandle (L : Settings) (s : Standby) : Type 0 where
   pub never_full : L.S ≤ length s.handles → (cs : List Call) (c : Call) → (step L (run L s cs) c).answer ≡ refused Refusal.no_handle_place → ⊥
   -- a Bind that is accepted removes the session's other handle
   pub removes : (c : Call) (h g : ℕ) (k : Key) (b : Bound) → Binds L s c h k → eqb h g ≡ false → find g s.handles ≡ some b → b.place ≡ place_of k s.places → Removed L s c g b
-  pub sent_to_new : (limit : ℕ) (A : Session) (c : Call) (h : ℕ) (k : Key) → Binds L s c h k → L.C ≤ 33554432 → L.M ≤ 65536 → Holdable L.C L.M A → hold_length L.C L.M ≤ L.room
+  pub sent_to_new : (limit : ℕ) (A : Session) (c : Call) (h : ℕ) (k : Key) → Binds L s c h k → L.C ≤ 33554432 → L.M ≤ 65536 → Holdable L.C L.M A → suits s.counters.version A.stamp ≡ true → hold_length L.C L.M A.stamp ≤ L.room
       → h < 2 ^ 32 → s.counters.epoch ≤ top → length (whole_batches limit A) ≤ top
       → SentToNew L limit A (or_new (session_at s.places (place_of k s.places))) k h (place_of k s.places) (step L s c).state

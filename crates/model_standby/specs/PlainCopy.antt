@@ -90,15 +90,16 @@ module _ (L : Settings) (k : OwnKey) where
   copy_given c (damaged n) a = c
   copy_given c (intact f) a = copy_frame c f a
 
-  abbrev pub copy_step : Copy → Call → Answer → Copy
-  copy_step c (on_frame_held w) a = copy_given c (given w) a
-  copy_step c (on_frame w) a = copy_given c (given w) a
-  copy_step c (flush n) a = c
-  copy_step c (disconnected_from n) a = c
-  copy_step c promote a = c
-  copy_step c promote_unchecked a = c
+  -- read in the connection's version
+  abbrev pub copy_step : ℕ → Copy → Call → Answer → Copy
+  copy_step version c (on_frame_held w) a = copy_given c (given version w) a
+  copy_step version c (on_frame w) a = copy_given c (given version w) a
+  copy_step version c (flush n) a = c
+  copy_step version c (disconnected_from n) a = c
+  copy_step version c promote a = c
+  copy_step version c promote_unchecked a = c
 
   -- the copy after a list of calls that the standby answers from s on
   abbrev pub copy_run : Copy → Standby → List Call → Copy
   copy_run c s [] = c
-  copy_run c s (x ∷ xs) = copy_run (copy_step c x (step L s x).answer) (step L s x).state xs
+  copy_run c s (x ∷ xs) = copy_run (copy_step s.counters.version c x (step L s x).answer) (step L s x).state xs

@@ -2,13 +2,14 @@
 -- Assumes nothing.
 use Rattle.std.specs.Prelude.{ℕ, suc, ◌+◌, min, List, [], ◌∷◌, ◌++◌, Bool, true, false, cond, not, ◌&&◌, ◌||◌, length, ltb, leb, eqb}
 use Rattle.std.proofs.Math.Option.{Option, none, some}
+use Rattle.model_text.specs.Version.{is_version}
 use Rattle.model_frame.specs.Frame.{Key, Change, set_incoming, set_incoming_in_flight, set_in_flight, record_msg, record_bare, reset, set_created_at, set_marks, Part, commit, whole, last_whole, stale_epoch, diverged, lag_too_great, restarted, AppRecord, Frame, hello, welcome, bind, batch, ack, nack, bound, checked}
 use Rattle.model_frame.specs.Refusal
 use Rattle.model_frame.specs.Parse.{is_empty}
 use Rattle.model_frame.specs.Sizes.{sizes}
-use Rattle.model_session.specs.Session.{fits, message_bytes, top}
+use Rattle.model_session.specs.Session.{suits, fits, message_bytes, top}
 use Rattle.model_session.specs.Summary.{summary}
-use Rattle.model_standby.specs.Answer.{protocol_version, Given, damaged, intact, given, reply, refused, done, is_reply}
+use Rattle.model_standby.specs.Answer.{Given, damaged, intact, given, reply, refused, done, is_reply}
 use Rattle.model_standby.specs.Row.{find, put, freed}
 use Rattle.model_standby.specs.Store.{place_of, is_stored, on_place, on_places, session_at, or_new, opened, changed, mark_all, taken_over}
 use Rattle.model_standby.specs.State.{Settings, incarnation_of, Counters, Bound, Standby, Call, on_frame_held, on_frame, flush, disconnected_from, promote, promote_unchecked, Result, at_epoch, connected, checked_at, promoted_to, new_bound, none_held, numbered}
@@ -71,23 +72,24 @@ abbrev pub flushed : Result → Result
 flushed r = record { state = run_pending (is_reply r.answer) r.state; answer = r.answer }
 
 module _ (L : Settings) where
-  -- Hello: 11 version not 1, 12 kinds listed; a lower epoch is told the standby's
+  -- Hello: 11 version not 1 or 2, 12 kinds listed; a lower epoch is told the standby's
   unfoldable pub on_hello : Standby → ℕ → ℕ → List ℕ → Result
   on_hello s v e kinds =
-      cond (not (eqb v protocol_version)) (refuse s Refusal.bad_version)
+      cond (not (is_version v)) (refuse s Refusal.bad_version)
       (cond (not (is_empty kinds)) (refuse s Refusal.kinds_listed)
       (cond (ltb e s.counters.epoch) (says s (welcome s.counters.epoch (incarnation_of L)))
-      (says (with_counters (unbound s) (connected e s.counters)) (welcome e (incarnation_of L)))))
+      (says (with_counters (unbound s) (connected v e s.counters)) (welcome e (incarnation_of L)))))
 
-  -- Bind: Nack StaleEpoch, Nack Lag, 20 no free session place for a new key, 21 no handle place for a new handle (the place of another handle that has
-  -- the session counts as free). A refused Bind frees none
+  -- Bind: Nack StaleEpoch, Nack Lag, 32 the session has a stamp that the connection's version doesn't take, 20 no free session place for a new key, 21 no
+  -- handle place for a new handle (the place of another handle that has the session counts as free). A refused Bind frees none
   unfoldable pub on_bind : Standby → ℕ → ℕ → ℕ → Key → Result
   on_bind s h e lag k =
       cond (ltb e s.counters.epoch) (says s (nack h stale_epoch))
       (cond (ltb L.lag lag) (says s (nack h lag_too_great))
+      (cond (not (suits s.counters.version (or_new (session_at s.places (place_of k s.places))).stamp)) (refuse s Refusal.long_stamp)
       (cond (not (is_stored k s.places || ltb (length s.places) L.S)) (refuse s Refusal.no_session_place)
       (cond (not (room_at h s.handles (place_of k s.places))) (refuse s Refusal.no_handle_place)
-      (says (bind_to s h k) (bound h (summary (or_new (session_at s.places (place_of k s.places))) lag))))))
+      (says (bind_to s h k) (bound h (summary (or_new (session_at s.places (place_of k s.places))) lag)))))))
 
   -- Checked: Nack StaleEpoch, Nack Restarted
   unfoldable pub on_checked : Standby → ℕ → ℕ → ℕ → Result
@@ -196,10 +198,10 @@ module _ (L : Settings) where
   abbrev pub promotion : Standby → Standby
   promotion s = record { counters = promoted_to s.counters; places = on_places (taken_over L.lag) s.places; handles = freed s.handles; pending = [] }
 
-  -- flush: 22 other connection, or promoted; promote: 23 unchecked
+  -- a frame is read in the connection's version; flush: 22 other connection, or promoted; promote: 23 unchecked
   unfoldable pub step : Standby → Call → Result
-  step s (on_frame_held w) = on_given s (given w)
-  step s (on_frame w) = flushed (on_given s (given w))
+  step s (on_frame_held w) = on_given s (given s.counters.version w)
+  step s (on_frame w) = flushed (on_given s (given s.counters.version w))
   step s (flush n) = cond (not (eqb n s.counters.connections) || s.counters.promoted) (refuse s Refusal.other_connection) (record { state = run_pending true s; answer = done })
   step s (disconnected_from n) = record { state = cond (eqb n s.counters.connections) (unbound s) s; answer = done }
   step s promote = cond s.counters.checked (record { state = promotion s; answer = done }) (refuse s Refusal.unchecked)

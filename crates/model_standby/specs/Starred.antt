@@ -6,7 +6,7 @@ use Rattle.model_frame.specs.Frame.{set_created_at, commit, stale_epoch, Frame, 
 use Rattle.model_frame.specs.Reading.{decode}
 use Rattle.model_session.specs.Summary.{last_out}
 use Rattle.model_session.specs.Lag.{Queue, new_queue, push}
-use Rattle.model_standby.specs.Answer.{protocol_version}
+use Rattle.model_text.specs.Version.{first}
 
 pub data Question : Type 0 where
   -- the bytes of a frame
@@ -38,7 +38,7 @@ drained_by maxLag q [] = []
 drained_by maxLag q (last ∷ lasts) = (push maxLag q last).went ∷ drained_by maxLag (push maxLag q last).queue lasts
 
 abbrev pub answer_to : Question → Reply
-answer_to (reading w) = said (decode protocol_version w)
+answer_to (reading w) = said (decode first w)
 answer_to (last_outgoing next n) = hash (last_out (record { stamp = []; next_out = next; next_in = 1; in_flight = none; marks = []; messages = [] }) n)
 answer_to (pushes maxLag lasts) = drains (drained_by maxLag (new_queue 0) lasts)
 

@@ -2,6 +2,7 @@
 -- Assumes nothing.
 use Rattle.std.specs.Prelude.{ℕ, suc, min, max, List, [], Bool, true, false, replicate}
 use Rattle.std.proofs.Math.Option.{none}
+use Rattle.model_text.specs.Version.{first}
 use Rattle.model_frame.specs.Frame.{Change}
 use Rattle.model_session.specs.Session.{top}
 use Rattle.model_standby.specs.Row.{Row}
@@ -29,6 +30,8 @@ pub record Counters : Type 0 where
   pub connections : ℕ
   pub promoted : Bool
   pub checked : Bool
+  -- the connection's version: the first until a Hello is accepted, then that Hello's, also past a drop
+  pub version : ℕ
 
 -- a bound handle: the number of its session's place, its commit number, the held changes and their message bytes
 pub record Bound : Type 0 where
@@ -61,7 +64,7 @@ pub record Result : Type 0 where
 abbrev pub new_standby : List Place → ℕ → Standby
 new_standby ps n =
     record {
-      counters = record { epoch = 0; connections = 0; promoted = false; checked = false };
+      counters = record { epoch = 0; connections = 0; promoted = false; checked = false; version = first };
       places = ps;
       handles = replicate n none;
       pending = [];
@@ -70,17 +73,17 @@ new_standby ps n =
 -- ---- the counters
 
 abbrev pub at_epoch : ℕ → Counters → Counters
-at_epoch e c = record { epoch = e; connections = c.connections; promoted = c.promoted; checked = c.checked }
+at_epoch e c = record { epoch = e; connections = c.connections; promoted = c.promoted; checked = c.checked; version = c.version }
 
--- the connection count stops at 2^64 - 1
-abbrev pub connected : ℕ → Counters → Counters
-connected e c = record { epoch = e; connections = min (suc c.connections) top; promoted = c.promoted; checked = c.checked }
+-- a Hello of this version is accepted; the connection count stops at 2^64 - 1
+abbrev pub connected : ℕ → ℕ → Counters → Counters
+connected v e c = record { epoch = e; connections = min (suc c.connections) top; promoted = c.promoted; checked = c.checked; version = v }
 
 abbrev pub checked_at : ℕ → Counters → Counters
-checked_at e c = record { epoch = e; connections = c.connections; promoted = c.promoted; checked = true }
+checked_at e c = record { epoch = e; connections = c.connections; promoted = c.promoted; checked = true; version = c.version }
 
 abbrev pub promoted_to : Counters → Counters
-promoted_to c = record { epoch = c.epoch; connections = c.connections; promoted = true; checked = c.checked }
+promoted_to c = record { epoch = c.epoch; connections = c.connections; promoted = true; checked = c.checked; version = c.version }
 
 -- ---- handles
 

@@ -1,18 +1,20 @@
 -- What callers may use of stamps, marks and keys. Assumes nothing.
-use mathlib.Core.Path.{◌≡◌, refl, ap, ◌∙◌}
-use mathlib.Core.Bool.{Bool, true, false, ◌&&◌, ◌||◌, false≢true}
+use mathlib.Core.Path.{◌≡◌, refl, sym, ap, ◌∙◌}
+use mathlib.Core.Bool.{Bool, true, false, cond, ◌&&◌, ◌||◌, false≢true, or-false}
+use mathlib.Core.Logic.{◌⊎◌, inl, inr}
 use mathlib.Core.List.{List, [], ◌∷◌, ◌++◌}
-use Prim.Native.Nat.{ℕ, ◌≤◌}
+use Prim.Native.Nat.{ℕ, zero, suc, ◌≤◌}
 use native.Mathlib.Omega.{arith}
 use borrow.Author.Tests.{le-leb, leb-true, eqb-true}
 use lib.Dec.{leb, eqb}
 use lib.ListN.{length}
 use Rattle.model_text.specs.Utf8.{utf8}
 use Rattle.model_text.specs.Printable.{is_printable_byte, all_printable, is_printable, is_marks, is_key}
-use Rattle.model_text.specs.Stamp.{Pattern, digit, pair, mark, is_digit, is_pair, matches, date, clock, millis, day_exists, is_stamp, takes_stamp, longest_stamp}
+use Rattle.model_text.specs.Stamp.{Pattern, digit, pair, mark, is_digit, is_pair, matches, date, clock, digits, fraction, has_digits, day_exists, is_short, is_stamp, takes_stamp, longest_stamp, longest_short}
+use Rattle.model_text.specs.Version.{first, latest}
 use Rattle.model_text.proofs.Formed.{and_l, and_r}
 use Rattle.model_text.proofs.Agree.{ascii_first}
-use Rattle.model_text.proofs.Form.{digit_bounds, pair_digits, fits_length}
+use Rattle.model_text.proofs.Form.{digit_bounds, pair_digits, size_of, fits_length, not_long}
 
 -- ---- printable texts
 
@@ -93,27 +95,115 @@ fits_plain (mark k ∷ ps) [] m e = absurd (false≢true e)
 fits_plain (mark k ∷ ps) (b ∷ l) m e =
     more b l (ap is_printable_byte (eqb-true b k (and_l (eqb b k) (matches ps l) e)) ∙ m.0) (fits_plain ps l m.1 (and_r (eqb b k) (matches ps l) e))
 
+-- a form's marks are printable
+form_plain : (n : ℕ) → plain_marks (date ++ clock ++ fraction n)
+unfolding is_printable_byte
+form_plain zero = (refl, (refl, (refl, tt)))
+form_plain (suc n) = (refl, (refl, (refl, (refl, digits_plain n))))
+  where
+    digits_plain : (n : ℕ) → plain_marks (digits n)
+    digits_plain zero = tt
+    digits_plain (suc n) = digits_plain n
+
 pub record StampIs (s : List ℕ) : Type 0 where
   pub least : 17 ≤ length s
   pub most : length s ≤ longest_stamp
   pub plain : all_printable s ≡ true
   pub coded : utf8 s ≡ true
 
-stamp_by : (ps : List Pattern) (s : List ℕ) → 17 ≤ length s → length s ≤ longest_stamp → plain_marks ps → matches ps s ≡ true → StampIs s
-stamp_by ps s g h m e = let p : all_printable s ≡ true = fits_plain ps s m e in record { least = g; most = h; plain = p; coded = plain_utf8 s p }
+stamp_by : (n : ℕ) (s : List ℕ) → size_of (date ++ clock ++ fraction n) ≤ longest_stamp → 17 ≤ size_of (date ++ clock ++ fraction n) → has_digits n s ≡ true → StampIs s
+unfolding has_digits
+stamp_by n s h g e =
+    let p : all_printable s ≡ true = fits_plain (date ++ clock ++ fraction n) s (form_plain n) e in
+    let l = fits_length (date ++ clock ++ fraction n) s e in
+    record { least = omega arith; most = omega arith; plain = p; coded = plain_utf8 s p }
+
+or_either : (a b : Bool) → (a || b) ≡ true → (a ≡ true) ⊎ (b ≡ true)
+or_either true b e = inl refl
+or_either false b e = inr e
+
+or_left : (a b : Bool) → a ≡ true → (a || b) ≡ true
+or_left a b e = ap (λ (t : Bool). t || b) e
 
 pub stamp_is : (s : List ℕ) → is_stamp s ≡ true → StampIs s
-unfolding is_stamp is_printable_byte
-stamp_is s e = go (matches (date ++ clock) s) refl (and_l (matches (date ++ clock) s || matches (date ++ clock ++ millis) s) (day_exists s) e)
+unfolding is_stamp
+stamp_is s e =
+    let form : Bool = has_digits 0 s || has_digits 3 s || has_digits 6 s || has_digits 9 s || has_digits 12 s in
+    elim (or_either (has_digits 0 s || has_digits 3 s || has_digits 6 s || has_digits 9 s) (has_digits 12 s) (and_l form (day_exists s) e)) [
+      | inr q ↦ stamp_by 12 s (omega arith) (omega arith) q
+      | inl q ↦ elim (or_either (has_digits 0 s || has_digits 3 s || has_digits 6 s) (has_digits 9 s) q) [
+        | inr q ↦ stamp_by 9 s (omega arith) (omega arith) q
+        | inl q ↦ elim (or_either (has_digits 0 s || has_digits 3 s) (has_digits 6 s) q) [
+          | inr q ↦ stamp_by 6 s (omega arith) (omega arith) q
+          | inl q ↦ elim (or_either (has_digits 0 s) (has_digits 3 s) q) [
+            | inr q ↦ stamp_by 3 s (omega arith) (omega arith) q
+            | inl q ↦ stamp_by 0 s (omega arith) (omega arith) q
+          ]
+        ]
+      ]
+    ]
+
+no_form : (n : ℕ) (s : List ℕ) → (length s ≡ size_of (date ++ clock ++ fraction n) → ⊥) → has_digits n s ≡ false
+unfolding has_digits
+no_form n s h = not_long (date ++ clock ++ fraction n) s h
+
+-- what every version takes, the store keeps
+pub short_keeps : (s : List ℕ) → is_short s ≡ true → is_stamp s ≡ true
+unfolding is_short is_stamp
+short_keeps s e =
+    let q : (has_digits 0 s || has_digits 3 s) ≡ true = and_l (has_digits 0 s || has_digits 3 s) (day_exists s) e in
+    let d : day_exists s ≡ true = and_r (has_digits 0 s || has_digits 3 s) (day_exists s) e in
+    (λ i. or_left _ (has_digits 12 s) (or_left _ (has_digits 9 s) (or_left _ (has_digits 6 s) q)) i && d i)
+
+-- and a stamp that isn't longer is a short one
+pub short_by : (s : List ℕ) → is_stamp s ≡ true → length s ≤ longest_short → is_short s ≡ true
+unfolding is_short is_stamp
+short_by s e h =
+    (λ i. (sym (or-false (has_digits 0 s || has_digits 3 s)) ∙ (λ j. (has_digits 0 s || has_digits 3 s) || sym (never 6 (omega arith)) j)
+    ∙ sym (or-false (has_digits 0 s || has_digits 3 s || has_digits 6 s)) ∙ (λ j. (has_digits 0 s || has_digits 3 s || has_digits 6 s) || sym (never 9 (omega arith)) j)
+    ∙ sym (or-false (has_digits 0 s || has_digits 3 s || has_digits 6 s || has_digits 9 s)) ∙ (λ j. (has_digits 0 s || has_digits 3 s || has_digits 6 s || has_digits 9 s) || sym (never 12 (omega arith)) j)) i && day_exists s) ∙ e
   where
-    go : (t : Bool) → matches (date ++ clock) s ≡ t → (t || matches (date ++ clock ++ millis) s) ≡ true → StampIs s
-    go true q r = let n = fits_length (date ++ clock) s q in stamp_by (date ++ clock) s (omega arith) (omega arith) (refl, (refl, (refl, tt))) q
-    go false q r = let n = fits_length (date ++ clock ++ millis) s r in stamp_by (date ++ clock ++ millis) s (omega arith) (omega arith) (refl, (refl, (refl, (refl, tt)))) r
+    never : (n : ℕ) → suc longest_short ≤ size_of (date ++ clock ++ fraction n) → has_digits n s ≡ false
+    never n l = no_form n s (λ q. omega arith)
+
+-- a short stamp is at most as long as the longest
+pub short_most : (s : List ℕ) → is_short s ≡ true → length s ≤ longest_short
+unfolding is_short has_digits
+short_most s e =
+    elim (or_either (has_digits 0 s) (has_digits 3 s) (and_l (has_digits 0 s || has_digits 3 s) (day_exists s) e)) [
+      | inl q ↦ form_length 0 q (omega arith)
+      | inr q ↦ form_length 3 q (omega arith)
+    ]
+  where
+    form_length : (n : ℕ) → has_digits n s ≡ true → size_of (date ++ clock ++ fraction n) ≤ longest_short → length s ≤ longest_short
+    form_length n q h = let l = fits_length (date ++ clock ++ fraction n) s q in omega arith
 
 -- what reading takes, in whatever version, the store keeps
 pub takes_keeps : (version : ℕ) (s : List ℕ) → takes_stamp version s ≡ true → is_stamp s ≡ true
 unfolding takes_stamp
-takes_keeps version s e = e
+takes_keeps version s = go (eqb version latest)
+  where
+    go : (b : Bool) → cond b (is_stamp s) (is_short s) ≡ true → is_stamp s ≡ true
+    go true e = e
+    go false e = short_keeps s e
+
+-- and the latest version takes it
+pub takes_latest : (version : ℕ) (s : List ℕ) → takes_stamp version s ≡ true → takes_stamp latest s ≡ true
+unfolding takes_stamp
+takes_latest version s e = takes_keeps version s e
+
+pub latest_takes : (s : List ℕ) → is_stamp s ≡ true → takes_stamp latest s ≡ true
+unfolding takes_stamp
+latest_takes s e = e
+
+-- the first takes those that aren't long
+pub first_takes : (s : List ℕ) → is_stamp s ≡ true → length s ≤ longest_short → takes_stamp first s ≡ true
+unfolding takes_stamp
+first_takes s e h = short_by s e h
+
+pub first_most : (s : List ℕ) → takes_stamp first s ≡ true → length s ≤ longest_short
+unfolding takes_stamp
+first_most s e = short_most s e
 
 pub takes_is : (version : ℕ) (s : List ℕ) → takes_stamp version s ≡ true → StampIs s
 takes_is version s e = stamp_is s (takes_keeps version s e)

@@ -1,6 +1,6 @@
 -- The points that tell readings apart, by computing the definitions: tables, and one equation over each. Assumes nothing.
 use mathlib.Core.Path.{◌≡◌, refl}
-use mathlib.Core.Bool.{Bool, true, false}
+use mathlib.Core.Bool.{Bool, true, false, cond}
 use mathlib.Core.List.{List, [], ◌∷◌, map, ◌++◌}
 use mathlib.Core.Option.{Option, none, some}
 use Prim.Native.Nat.{ℕ, ◌/◌, ◌%◌, ◌+◌}
@@ -9,7 +9,8 @@ use lib.ListN.{replicate}
 use Rattle.model_text.specs.Utf8.{is_surrogate, is_scalar, encode_scalar, lead_length, own_bits, least, fitting, is_tail, well_formed, utf8}
 use Rattle.model_text.specs.Printable.{is_printable_byte, is_printable, is_marks, is_key}
 use Rattle.model_text.specs.Calendar.{is_leap, month_days}
-use Rattle.model_text.specs.Stamp.{is_digit, is_pair, day_exists, is_stamp, takes_stamp}
+use Rattle.model_text.specs.Stamp.{is_digit, is_pair, has_digits, day_exists, is_short, is_stamp, takes_stamp}
+use Rattle.model_text.specs.Version.{first, latest}
 use Rattle.model_text.specs.Hex.{digit_value, line_bytes, digit_of, hex_of, decimal, refusal_text}
 use Rattle.model_text.specs.Lines.{lines_of}
 
@@ -86,10 +87,28 @@ stamps =
     ∷ ([], false)
     ∷ []
 
--- what the store keeps, and what reading takes in version 1
-stamps_hold : (map (λ p. is_stamp p.0) stamps ≡ map (λ p. p.1) stamps) × (map (λ p. takes_stamp 1 p.0) stamps ≡ map (λ p. p.1) stamps)
-unfolding stamps stamp hour two takes_stamp is_stamp day_exists month_days is_leap is_digit is_pair
-stamps_hold = (refl, refl)
+-- what the store keeps, and what reading takes in each version
+stamps_hold : (map (λ p. is_stamp p.0) stamps ≡ map (λ p. p.1) stamps) × (map (λ p. takes_stamp first p.0) stamps ≡ map (λ p. p.1) stamps) × (map (λ p. takes_stamp latest p.0) stamps ≡ map (λ p. p.1) stamps)
+unfolding stamps stamp hour two takes_stamp is_short is_stamp has_digits day_exists month_days is_leap is_digit is_pair
+stamps_hold = (refl, refl, refl)
+
+-- 0 to 13 digits after the point: 0 and 3 in version 1, 0, 3, 6, 9 and 12 in version 2 and in the store; one digit that is none
+digits_after : ℕ → List ℕ
+digits_after n = stamp 2 29 23 59 60 (cond (leb 1 n) (46 ∷ replicate n 57) [])
+
+counts : List ℕ
+counts = 0 ∷ 1 ∷ 2 ∷ 3 ∷ 4 ∷ 5 ∷ 6 ∷ 7 ∷ 8 ∷ 9 ∷ 10 ∷ 11 ∷ 12 ∷ 13 ∷ []
+
+five_forms : List Bool
+five_forms = true ∷ false ∷ false ∷ true ∷ false ∷ false ∷ true ∷ false ∷ false ∷ true ∷ false ∷ false ∷ true ∷ false ∷ []
+
+two_forms : List Bool
+two_forms = true ∷ false ∷ false ∷ true ∷ false ∷ false ∷ false ∷ false ∷ false ∷ false ∷ false ∷ false ∷ false ∷ false ∷ []
+
+digits_hold : (map (λ n. is_stamp (digits_after n)) counts ≡ five_forms) × (map (λ n. takes_stamp latest (digits_after n)) counts ≡ five_forms) × (map (λ n. takes_stamp first (digits_after n)) counts ≡ two_forms)
+    × (takes_stamp latest (stamp 2 29 23 59 60 (46 ∷ replicate 11 57 ++ (58 ∷ []))) ≡ false)
+unfolding digits_after counts five_forms two_forms stamp hour two takes_stamp is_short is_stamp has_digits day_exists month_days is_leap is_digit is_pair
+digits_hold = (refl, refl, refl, refl)
 
 -- year, month, and the month's last day: the months of 2023; February of leap years and others, of the year 0 too; the last day of all
 ends : List (ℕ × ℕ × ℕ)
@@ -125,9 +144,9 @@ taken_in takes y m = late_days (λ d. takes (two (y / 100) ++ two (y % 100) ++ t
 lasts : List (List Bool)
 lasts = map (λ p. late_days (λ d. leb d p.2)) ends
 
-ends_hold : (map (λ p. taken_in is_stamp p.0 p.1) ends ≡ lasts) × (map (λ p. taken_in (takes_stamp 1) p.0 p.1) ends ≡ lasts)
-unfolding ends late_days taken_in lasts hour two takes_stamp is_stamp day_exists month_days is_leap is_digit is_pair
-ends_hold = (refl, refl)
+ends_hold : (map (λ p. taken_in is_stamp p.0 p.1) ends ≡ lasts) × (map (λ p. taken_in (takes_stamp first) p.0 p.1) ends ≡ lasts) × (map (λ p. taken_in (takes_stamp latest) p.0 p.1) ends ≡ lasts)
+unfolding ends late_days taken_in lasts hour two takes_stamp is_short is_stamp has_digits day_exists month_days is_leap is_digit is_pair
+ends_hold = (refl, refl, refl)
 
 -- ---- marks and keys
 

@@ -1,6 +1,7 @@
--- A time stamp: YYYYMMDD-HH:MM:SS, or that with `.` and three digits, of a day that exists. Assumes nothing.
-use Rattle.std.specs.Prelude.{Bool, true, false, ◌&&◌, ◌||◌, List, [], ◌∷◌, ◌++◌, ℕ, ◌+◌, ◌-◌, ◌*◌, leb, eqb, get_or}
+-- A time stamp: YYYYMMDD-HH:MM:SS, or that with `.` and 3, in version 2 also 6, 9 or 12 digits, of a day that exists. Assumes nothing.
+use Rattle.std.specs.Prelude.{Bool, true, false, cond, ◌&&◌, ◌||◌, List, [], ◌∷◌, ◌++◌, ℕ, zero, suc, ◌+◌, ◌-◌, ◌*◌, leb, eqb, get_or}
 use Rattle.model_text.specs.Calendar.{month_days}
+use Rattle.model_text.specs.Version.{latest}
 
 -- a digit, two digits of a number from lo to hi, or one byte
 pub data Pattern : Type 0 where
@@ -38,9 +39,19 @@ date = digit ∷ digit ∷ digit ∷ digit ∷ pair 1 12 ∷ pair 1 31 ∷ []
 abbrev pub clock : List Pattern
 clock = mark 45 ∷ pair 0 23 ∷ mark 58 ∷ pair 0 59 ∷ mark 58 ∷ pair 0 60 ∷ []
 
--- .sss
-abbrev pub millis : List Pattern
-millis = mark 46 ∷ digit ∷ digit ∷ digit ∷ []
+-- n digits
+abbrev pub digits : ℕ → List Pattern
+digits zero = []
+digits (suc n) = digit ∷ digits n
+
+-- a point and n digits, or nothing for none
+abbrev pub fraction : ℕ → List Pattern
+fraction zero = []
+fraction (suc n) = mark 46 ∷ digits (suc n)
+
+-- the form of a stamp with n digits after the point
+unfoldable pub has_digits : ℕ → List ℕ → Bool
+has_digits n s = matches (date ++ clock ++ fraction n) s
 
 -- the year, the month and the day that a date's digits name
 abbrev pub year_of : List ℕ → ℕ
@@ -56,14 +67,21 @@ day_of s = pair_number (get_or s 6 0) (get_or s 7 0)
 unfoldable pub day_exists : List ℕ → Bool
 day_exists s = leb (day_of s) (month_days (year_of s) (month_of s))
 
+-- a stamp that every version takes
+unfoldable pub is_short : List ℕ → Bool
+is_short s = (has_digits 0 s || has_digits 3 s) && day_exists s
+
 -- a stamp that the store keeps
 unfoldable pub is_stamp : List ℕ → Bool
-is_stamp s = (matches (date ++ clock) s || matches (date ++ clock ++ millis) s) && day_exists s
+is_stamp s = (has_digits 0 s || has_digits 3 s || has_digits 6 s || has_digits 9 s || has_digits 12 s) && day_exists s
 
--- a stamp that reading takes in a version of the protocol: each, in every version
+-- a stamp that reading takes in a version of the protocol: the latest takes each that the store keeps
 unfoldable pub takes_stamp : ℕ → List ℕ → Bool
-takes_stamp version s = is_stamp s
+takes_stamp version s = cond (eqb version latest) (is_stamp s) (is_short s)
 
--- the greatest length of a stamp
+-- the greatest length of a stamp, and of one that every version takes
 abbrev pub longest_stamp : ℕ
-longest_stamp = 21
+longest_stamp = 30
+
+abbrev pub longest_short : ℕ
+longest_short = 21

@@ -3,8 +3,7 @@ use mathlib.Core.Path.{◌≡◌, refl}
 use mathlib.Core.List.{List, [], ◌∷◌, map}
 use Prim.Native.Nat.{ℕ}
 use Rattle.model_text.specs.Calendar.{is_leap, month_days}
-use Rattle.model_text.specs.Stamp.{is_digit, is_pair, day_exists}
-use Rattle.model_text.specs.WideStamp.{has_digits, is_wide_stamp}
+use Rattle.model_text.specs.Stamp.{is_digit, is_pair, day_exists, has_digits, is_stamp}
 use Rattle.model_times.specs.Days.{year_days, days_before_year, days_before_month, days_before}
 use Rattle.model_times.proofs.Theorems.{written_shortest}
 use Rattle.model_times.specs.Times.{has_number, has_stamp, millis_of, picos_of, shortest, Read, number, refused, read, Written, text, turned_down, write}
@@ -108,7 +107,7 @@ stamps =
     []
 
 stamps_read : map (λ p. read p.0) stamps ≡ map (λ p. p.1) stamps
-unfolding stamps read has_number is_wide_stamp has_digits is_digit is_pair day_exists is_leap month_days year_days days_before_year days_before_month days_before millis_of picos_of
+unfolding stamps read has_number is_stamp has_digits is_digit is_pair day_exists is_leap month_days year_days days_before_year days_before_month days_before millis_of picos_of
 stamps_read = refl
 
 -- ---- shortest forms
@@ -172,105 +171,105 @@ refusals_hold = refl
 
 -- 19700101-00:00:00
 written_0 : write 0 0 ≡ text (49 ∷ 57 ∷ 55 ∷ 48 ∷ 48 ∷ 49 ∷ 48 ∷ 49 ∷ 45 ∷ 48 ∷ 48 ∷ 58 ∷ 48 ∷ 48 ∷ 58 ∷ 48 ∷ 48 ∷ [])
-unfolding read has_number is_wide_stamp has_digits is_digit is_pair day_exists is_leap month_days year_days days_before_year days_before_month days_before millis_of picos_of shortest
+unfolding read has_number is_stamp has_digits is_digit is_pair day_exists is_leap month_days year_days days_before_year days_before_month days_before millis_of picos_of shortest
 written_0 = written_shortest (49 ∷ 57 ∷ 55 ∷ 48 ∷ 48 ∷ 49 ∷ 48 ∷ 49 ∷ 45 ∷ 48 ∷ 48 ∷ 58 ∷ 48 ∷ 48 ∷ 58 ∷ 48 ∷ 48 ∷ []) 0 0 refl
 
 -- 19700101-00:00:00.000000000001
 written_1 : write 0 1 ≡ text (49 ∷ 57 ∷ 55 ∷ 48 ∷ 48 ∷ 49 ∷ 48 ∷ 49 ∷ 45 ∷ 48 ∷ 48 ∷ 58 ∷ 48 ∷ 48 ∷ 58 ∷ 48 ∷ 48 ∷ 46 ∷ 48 ∷ 48 ∷ 48 ∷ 48 ∷ 48 ∷ 48 ∷ 48 ∷ 48 ∷ 48 ∷ 48 ∷ 48 ∷ 49 ∷ [])
-unfolding read has_number is_wide_stamp has_digits is_digit is_pair day_exists is_leap month_days year_days days_before_year days_before_month days_before millis_of picos_of shortest
+unfolding read has_number is_stamp has_digits is_digit is_pair day_exists is_leap month_days year_days days_before_year days_before_month days_before millis_of picos_of shortest
 written_1 = written_shortest (49 ∷ 57 ∷ 55 ∷ 48 ∷ 48 ∷ 49 ∷ 48 ∷ 49 ∷ 45 ∷ 48 ∷ 48 ∷ 58 ∷ 48 ∷ 48 ∷ 58 ∷ 48 ∷ 48 ∷ 46 ∷ 48 ∷ 48 ∷ 48 ∷ 48 ∷ 48 ∷ 48 ∷ 48 ∷ 48 ∷ 48 ∷ 48 ∷ 48 ∷ 49 ∷ []) 0 1 refl
 
 -- 19720229-00:00:00
 written_2 : write 68169600000 0 ≡ text (49 ∷ 57 ∷ 55 ∷ 50 ∷ 48 ∷ 50 ∷ 50 ∷ 57 ∷ 45 ∷ 48 ∷ 48 ∷ 58 ∷ 48 ∷ 48 ∷ 58 ∷ 48 ∷ 48 ∷ [])
-unfolding read has_number is_wide_stamp has_digits is_digit is_pair day_exists is_leap month_days year_days days_before_year days_before_month days_before millis_of picos_of shortest
+unfolding read has_number is_stamp has_digits is_digit is_pair day_exists is_leap month_days year_days days_before_year days_before_month days_before millis_of picos_of shortest
 written_2 = written_shortest (49 ∷ 57 ∷ 55 ∷ 50 ∷ 48 ∷ 50 ∷ 50 ∷ 57 ∷ 45 ∷ 48 ∷ 48 ∷ 58 ∷ 48 ∷ 48 ∷ 58 ∷ 48 ∷ 48 ∷ []) 68169600000 0 refl
 
 -- 19991231-23:59:59.999
 written_3 : write 946684799999 0 ≡ text (49 ∷ 57 ∷ 57 ∷ 57 ∷ 49 ∷ 50 ∷ 51 ∷ 49 ∷ 45 ∷ 50 ∷ 51 ∷ 58 ∷ 53 ∷ 57 ∷ 58 ∷ 53 ∷ 57 ∷ 46 ∷ 57 ∷ 57 ∷ 57 ∷ [])
-unfolding read has_number is_wide_stamp has_digits is_digit is_pair day_exists is_leap month_days year_days days_before_year days_before_month days_before millis_of picos_of shortest
+unfolding read has_number is_stamp has_digits is_digit is_pair day_exists is_leap month_days year_days days_before_year days_before_month days_before millis_of picos_of shortest
 written_3 = written_shortest (49 ∷ 57 ∷ 57 ∷ 57 ∷ 49 ∷ 50 ∷ 51 ∷ 49 ∷ 45 ∷ 50 ∷ 51 ∷ 58 ∷ 53 ∷ 57 ∷ 58 ∷ 53 ∷ 57 ∷ 46 ∷ 57 ∷ 57 ∷ 57 ∷ []) 946684799999 0 refl
 
 -- 20000101-00:00:00
 written_4 : write 946684800000 0 ≡ text (50 ∷ 48 ∷ 48 ∷ 48 ∷ 48 ∷ 49 ∷ 48 ∷ 49 ∷ 45 ∷ 48 ∷ 48 ∷ 58 ∷ 48 ∷ 48 ∷ 58 ∷ 48 ∷ 48 ∷ [])
-unfolding read has_number is_wide_stamp has_digits is_digit is_pair day_exists is_leap month_days year_days days_before_year days_before_month days_before millis_of picos_of shortest
+unfolding read has_number is_stamp has_digits is_digit is_pair day_exists is_leap month_days year_days days_before_year days_before_month days_before millis_of picos_of shortest
 written_4 = written_shortest (50 ∷ 48 ∷ 48 ∷ 48 ∷ 48 ∷ 49 ∷ 48 ∷ 49 ∷ 45 ∷ 48 ∷ 48 ∷ 58 ∷ 48 ∷ 48 ∷ 58 ∷ 48 ∷ 48 ∷ []) 946684800000 0 refl
 
 -- 20000229-12:34:56.789
 written_5 : write 951827696789 0 ≡ text (50 ∷ 48 ∷ 48 ∷ 48 ∷ 48 ∷ 50 ∷ 50 ∷ 57 ∷ 45 ∷ 49 ∷ 50 ∷ 58 ∷ 51 ∷ 52 ∷ 58 ∷ 53 ∷ 54 ∷ 46 ∷ 55 ∷ 56 ∷ 57 ∷ [])
-unfolding read has_number is_wide_stamp has_digits is_digit is_pair day_exists is_leap month_days year_days days_before_year days_before_month days_before millis_of picos_of shortest
+unfolding read has_number is_stamp has_digits is_digit is_pair day_exists is_leap month_days year_days days_before_year days_before_month days_before millis_of picos_of shortest
 written_5 = written_shortest (50 ∷ 48 ∷ 48 ∷ 48 ∷ 48 ∷ 50 ∷ 50 ∷ 57 ∷ 45 ∷ 49 ∷ 50 ∷ 58 ∷ 51 ∷ 52 ∷ 58 ∷ 53 ∷ 54 ∷ 46 ∷ 55 ∷ 56 ∷ 57 ∷ []) 951827696789 0 refl
 
 -- 20000301-00:00:00
 written_6 : write 951868800000 0 ≡ text (50 ∷ 48 ∷ 48 ∷ 48 ∷ 48 ∷ 51 ∷ 48 ∷ 49 ∷ 45 ∷ 48 ∷ 48 ∷ 58 ∷ 48 ∷ 48 ∷ 58 ∷ 48 ∷ 48 ∷ [])
-unfolding read has_number is_wide_stamp has_digits is_digit is_pair day_exists is_leap month_days year_days days_before_year days_before_month days_before millis_of picos_of shortest
+unfolding read has_number is_stamp has_digits is_digit is_pair day_exists is_leap month_days year_days days_before_year days_before_month days_before millis_of picos_of shortest
 written_6 = written_shortest (50 ∷ 48 ∷ 48 ∷ 48 ∷ 48 ∷ 51 ∷ 48 ∷ 49 ∷ 45 ∷ 48 ∷ 48 ∷ 58 ∷ 48 ∷ 48 ∷ 58 ∷ 48 ∷ 48 ∷ []) 951868800000 0 refl
 
 -- 20001231-23:59:59.999999999999
 written_7 : write 978307199999 999999999 ≡ text (50 ∷ 48 ∷ 48 ∷ 48 ∷ 49 ∷ 50 ∷ 51 ∷ 49 ∷ 45 ∷ 50 ∷ 51 ∷ 58 ∷ 53 ∷ 57 ∷ 58 ∷ 53 ∷ 57 ∷ 46 ∷ 57 ∷ 57 ∷ 57 ∷ 57 ∷ 57 ∷ 57 ∷ 57 ∷ 57 ∷ 57 ∷ 57 ∷ 57 ∷ 57 ∷ [])
-unfolding read has_number is_wide_stamp has_digits is_digit is_pair day_exists is_leap month_days year_days days_before_year days_before_month days_before millis_of picos_of shortest
+unfolding read has_number is_stamp has_digits is_digit is_pair day_exists is_leap month_days year_days days_before_year days_before_month days_before millis_of picos_of shortest
 written_7 = written_shortest (50 ∷ 48 ∷ 48 ∷ 48 ∷ 49 ∷ 50 ∷ 51 ∷ 49 ∷ 45 ∷ 50 ∷ 51 ∷ 58 ∷ 53 ∷ 57 ∷ 58 ∷ 53 ∷ 57 ∷ 46 ∷ 57 ∷ 57 ∷ 57 ∷ 57 ∷ 57 ∷ 57 ∷ 57 ∷ 57 ∷ 57 ∷ 57 ∷ 57 ∷ 57 ∷ []) 978307199999 999999999 refl
 
 -- 20240229-23:59:59
 written_8 : write 1709251199000 0 ≡ text (50 ∷ 48 ∷ 50 ∷ 52 ∷ 48 ∷ 50 ∷ 50 ∷ 57 ∷ 45 ∷ 50 ∷ 51 ∷ 58 ∷ 53 ∷ 57 ∷ 58 ∷ 53 ∷ 57 ∷ [])
-unfolding read has_number is_wide_stamp has_digits is_digit is_pair day_exists is_leap month_days year_days days_before_year days_before_month days_before millis_of picos_of shortest
+unfolding read has_number is_stamp has_digits is_digit is_pair day_exists is_leap month_days year_days days_before_year days_before_month days_before millis_of picos_of shortest
 written_8 = written_shortest (50 ∷ 48 ∷ 50 ∷ 52 ∷ 48 ∷ 50 ∷ 50 ∷ 57 ∷ 45 ∷ 50 ∷ 51 ∷ 58 ∷ 53 ∷ 57 ∷ 58 ∷ 53 ∷ 57 ∷ []) 1709251199000 0 refl
 
 -- 20251115-08:30:00.120
 written_9 : write 1763195400120 0 ≡ text (50 ∷ 48 ∷ 50 ∷ 53 ∷ 49 ∷ 49 ∷ 49 ∷ 53 ∷ 45 ∷ 48 ∷ 56 ∷ 58 ∷ 51 ∷ 48 ∷ 58 ∷ 48 ∷ 48 ∷ 46 ∷ 49 ∷ 50 ∷ 48 ∷ [])
-unfolding read has_number is_wide_stamp has_digits is_digit is_pair day_exists is_leap month_days year_days days_before_year days_before_month days_before millis_of picos_of shortest
+unfolding read has_number is_stamp has_digits is_digit is_pair day_exists is_leap month_days year_days days_before_year days_before_month days_before millis_of picos_of shortest
 written_9 = written_shortest (50 ∷ 48 ∷ 50 ∷ 53 ∷ 49 ∷ 49 ∷ 49 ∷ 53 ∷ 45 ∷ 48 ∷ 56 ∷ 58 ∷ 51 ∷ 48 ∷ 58 ∷ 48 ∷ 48 ∷ 46 ∷ 49 ∷ 50 ∷ 48 ∷ []) 1763195400120 0 refl
 
 -- 20251115-08:30:00.123456
 written_10 : write 1763195400123 456000000 ≡ text (50 ∷ 48 ∷ 50 ∷ 53 ∷ 49 ∷ 49 ∷ 49 ∷ 53 ∷ 45 ∷ 48 ∷ 56 ∷ 58 ∷ 51 ∷ 48 ∷ 58 ∷ 48 ∷ 48 ∷ 46 ∷ 49 ∷ 50 ∷ 51 ∷ 52 ∷ 53 ∷ 54 ∷ [])
-unfolding read has_number is_wide_stamp has_digits is_digit is_pair day_exists is_leap month_days year_days days_before_year days_before_month days_before millis_of picos_of shortest
+unfolding read has_number is_stamp has_digits is_digit is_pair day_exists is_leap month_days year_days days_before_year days_before_month days_before millis_of picos_of shortest
 written_10 = written_shortest (50 ∷ 48 ∷ 50 ∷ 53 ∷ 49 ∷ 49 ∷ 49 ∷ 53 ∷ 45 ∷ 48 ∷ 56 ∷ 58 ∷ 51 ∷ 48 ∷ 58 ∷ 48 ∷ 48 ∷ 46 ∷ 49 ∷ 50 ∷ 51 ∷ 52 ∷ 53 ∷ 54 ∷ []) 1763195400123 456000000 refl
 
 -- 20251115-08:30:00.123456789
 written_11 : write 1763195400123 456789000 ≡ text (50 ∷ 48 ∷ 50 ∷ 53 ∷ 49 ∷ 49 ∷ 49 ∷ 53 ∷ 45 ∷ 48 ∷ 56 ∷ 58 ∷ 51 ∷ 48 ∷ 58 ∷ 48 ∷ 48 ∷ 46 ∷ 49 ∷ 50 ∷ 51 ∷ 52 ∷ 53 ∷ 54 ∷ 55 ∷ 56 ∷ 57 ∷ [])
-unfolding read has_number is_wide_stamp has_digits is_digit is_pair day_exists is_leap month_days year_days days_before_year days_before_month days_before millis_of picos_of shortest
+unfolding read has_number is_stamp has_digits is_digit is_pair day_exists is_leap month_days year_days days_before_year days_before_month days_before millis_of picos_of shortest
 written_11 = written_shortest (50 ∷ 48 ∷ 50 ∷ 53 ∷ 49 ∷ 49 ∷ 49 ∷ 53 ∷ 45 ∷ 48 ∷ 56 ∷ 58 ∷ 51 ∷ 48 ∷ 58 ∷ 48 ∷ 48 ∷ 46 ∷ 49 ∷ 50 ∷ 51 ∷ 52 ∷ 53 ∷ 54 ∷ 55 ∷ 56 ∷ 57 ∷ []) 1763195400123 456789000 refl
 
 -- 20251115-08:30:00.123456789012
 written_12 : write 1763195400123 456789012 ≡ text (50 ∷ 48 ∷ 50 ∷ 53 ∷ 49 ∷ 49 ∷ 49 ∷ 53 ∷ 45 ∷ 48 ∷ 56 ∷ 58 ∷ 51 ∷ 48 ∷ 58 ∷ 48 ∷ 48 ∷ 46 ∷ 49 ∷ 50 ∷ 51 ∷ 52 ∷ 53 ∷ 54 ∷ 55 ∷ 56 ∷ 57 ∷ 48 ∷ 49 ∷ 50 ∷ [])
-unfolding read has_number is_wide_stamp has_digits is_digit is_pair day_exists is_leap month_days year_days days_before_year days_before_month days_before millis_of picos_of shortest
+unfolding read has_number is_stamp has_digits is_digit is_pair day_exists is_leap month_days year_days days_before_year days_before_month days_before millis_of picos_of shortest
 written_12 = written_shortest (50 ∷ 48 ∷ 50 ∷ 53 ∷ 49 ∷ 49 ∷ 49 ∷ 53 ∷ 45 ∷ 48 ∷ 56 ∷ 58 ∷ 51 ∷ 48 ∷ 58 ∷ 48 ∷ 48 ∷ 46 ∷ 49 ∷ 50 ∷ 51 ∷ 52 ∷ 53 ∷ 54 ∷ 55 ∷ 56 ∷ 57 ∷ 48 ∷ 49 ∷ 50 ∷ []) 1763195400123 456789012 refl
 
 -- 20251115-08:30:00.500000000
 written_13 : write 1763195400500 0 ≡ text (50 ∷ 48 ∷ 50 ∷ 53 ∷ 49 ∷ 49 ∷ 49 ∷ 53 ∷ 45 ∷ 48 ∷ 56 ∷ 58 ∷ 51 ∷ 48 ∷ 58 ∷ 48 ∷ 48 ∷ 46 ∷ 53 ∷ 48 ∷ 48 ∷ [])
-unfolding read has_number is_wide_stamp has_digits is_digit is_pair day_exists is_leap month_days year_days days_before_year days_before_month days_before millis_of picos_of shortest
+unfolding read has_number is_stamp has_digits is_digit is_pair day_exists is_leap month_days year_days days_before_year days_before_month days_before millis_of picos_of shortest
 written_13 = written_shortest (50 ∷ 48 ∷ 50 ∷ 53 ∷ 49 ∷ 49 ∷ 49 ∷ 53 ∷ 45 ∷ 48 ∷ 56 ∷ 58 ∷ 51 ∷ 48 ∷ 58 ∷ 48 ∷ 48 ∷ 46 ∷ 53 ∷ 48 ∷ 48 ∷ 48 ∷ 48 ∷ 48 ∷ 48 ∷ 48 ∷ 48 ∷ []) 1763195400500 0 refl
 
 -- 20251115-08:30:00.000000000000
 written_14 : write 1763195400000 0 ≡ text (50 ∷ 48 ∷ 50 ∷ 53 ∷ 49 ∷ 49 ∷ 49 ∷ 53 ∷ 45 ∷ 48 ∷ 56 ∷ 58 ∷ 51 ∷ 48 ∷ 58 ∷ 48 ∷ 48 ∷ [])
-unfolding read has_number is_wide_stamp has_digits is_digit is_pair day_exists is_leap month_days year_days days_before_year days_before_month days_before millis_of picos_of shortest
+unfolding read has_number is_stamp has_digits is_digit is_pair day_exists is_leap month_days year_days days_before_year days_before_month days_before millis_of picos_of shortest
 written_14 = written_shortest (50 ∷ 48 ∷ 50 ∷ 53 ∷ 49 ∷ 49 ∷ 49 ∷ 53 ∷ 45 ∷ 48 ∷ 56 ∷ 58 ∷ 51 ∷ 48 ∷ 58 ∷ 48 ∷ 48 ∷ 46 ∷ 48 ∷ 48 ∷ 48 ∷ 48 ∷ 48 ∷ 48 ∷ 48 ∷ 48 ∷ 48 ∷ 48 ∷ 48 ∷ 48 ∷ []) 1763195400000 0 refl
 
 -- 21000228-23:59:59
 written_15 : write 4107542399000 0 ≡ text (50 ∷ 49 ∷ 48 ∷ 48 ∷ 48 ∷ 50 ∷ 50 ∷ 56 ∷ 45 ∷ 50 ∷ 51 ∷ 58 ∷ 53 ∷ 57 ∷ 58 ∷ 53 ∷ 57 ∷ [])
-unfolding read has_number is_wide_stamp has_digits is_digit is_pair day_exists is_leap month_days year_days days_before_year days_before_month days_before millis_of picos_of shortest
+unfolding read has_number is_stamp has_digits is_digit is_pair day_exists is_leap month_days year_days days_before_year days_before_month days_before millis_of picos_of shortest
 written_15 = written_shortest (50 ∷ 49 ∷ 48 ∷ 48 ∷ 48 ∷ 50 ∷ 50 ∷ 56 ∷ 45 ∷ 50 ∷ 51 ∷ 58 ∷ 53 ∷ 57 ∷ 58 ∷ 53 ∷ 57 ∷ []) 4107542399000 0 refl
 
 -- 21000301-00:00:00
 written_16 : write 4107542400000 0 ≡ text (50 ∷ 49 ∷ 48 ∷ 48 ∷ 48 ∷ 51 ∷ 48 ∷ 49 ∷ 45 ∷ 48 ∷ 48 ∷ 58 ∷ 48 ∷ 48 ∷ 58 ∷ 48 ∷ 48 ∷ [])
-unfolding read has_number is_wide_stamp has_digits is_digit is_pair day_exists is_leap month_days year_days days_before_year days_before_month days_before millis_of picos_of shortest
+unfolding read has_number is_stamp has_digits is_digit is_pair day_exists is_leap month_days year_days days_before_year days_before_month days_before millis_of picos_of shortest
 written_16 = written_shortest (50 ∷ 49 ∷ 48 ∷ 48 ∷ 48 ∷ 51 ∷ 48 ∷ 49 ∷ 45 ∷ 48 ∷ 48 ∷ 58 ∷ 48 ∷ 48 ∷ 58 ∷ 48 ∷ 48 ∷ []) 4107542400000 0 refl
 
 -- 23991231-23:59:59.999999999999
 written_17 : write 13569465599999 999999999 ≡ text (50 ∷ 51 ∷ 57 ∷ 57 ∷ 49 ∷ 50 ∷ 51 ∷ 49 ∷ 45 ∷ 50 ∷ 51 ∷ 58 ∷ 53 ∷ 57 ∷ 58 ∷ 53 ∷ 57 ∷ 46 ∷ 57 ∷ 57 ∷ 57 ∷ 57 ∷ 57 ∷ 57 ∷ 57 ∷ 57 ∷ 57 ∷ 57 ∷ 57 ∷ 57 ∷ [])
-unfolding read has_number is_wide_stamp has_digits is_digit is_pair day_exists is_leap month_days year_days days_before_year days_before_month days_before millis_of picos_of shortest
+unfolding read has_number is_stamp has_digits is_digit is_pair day_exists is_leap month_days year_days days_before_year days_before_month days_before millis_of picos_of shortest
 written_17 = written_shortest (50 ∷ 51 ∷ 57 ∷ 57 ∷ 49 ∷ 50 ∷ 51 ∷ 49 ∷ 45 ∷ 50 ∷ 51 ∷ 58 ∷ 53 ∷ 57 ∷ 58 ∷ 53 ∷ 57 ∷ 46 ∷ 57 ∷ 57 ∷ 57 ∷ 57 ∷ 57 ∷ 57 ∷ 57 ∷ 57 ∷ 57 ∷ 57 ∷ 57 ∷ 57 ∷ []) 13569465599999 999999999 refl
 
 -- 24000101-00:00:00
 written_18 : write 13569465600000 0 ≡ text (50 ∷ 52 ∷ 48 ∷ 48 ∷ 48 ∷ 49 ∷ 48 ∷ 49 ∷ 45 ∷ 48 ∷ 48 ∷ 58 ∷ 48 ∷ 48 ∷ 58 ∷ 48 ∷ 48 ∷ [])
-unfolding read has_number is_wide_stamp has_digits is_digit is_pair day_exists is_leap month_days year_days days_before_year days_before_month days_before millis_of picos_of shortest
+unfolding read has_number is_stamp has_digits is_digit is_pair day_exists is_leap month_days year_days days_before_year days_before_month days_before millis_of picos_of shortest
 written_18 = written_shortest (50 ∷ 52 ∷ 48 ∷ 48 ∷ 48 ∷ 49 ∷ 48 ∷ 49 ∷ 45 ∷ 48 ∷ 48 ∷ 58 ∷ 48 ∷ 48 ∷ 58 ∷ 48 ∷ 48 ∷ []) 13569465600000 0 refl
 
 -- 99991231-23:59:59
 written_19 : write 253402300799000 0 ≡ text (57 ∷ 57 ∷ 57 ∷ 57 ∷ 49 ∷ 50 ∷ 51 ∷ 49 ∷ 45 ∷ 50 ∷ 51 ∷ 58 ∷ 53 ∷ 57 ∷ 58 ∷ 53 ∷ 57 ∷ [])
-unfolding read has_number is_wide_stamp has_digits is_digit is_pair day_exists is_leap month_days year_days days_before_year days_before_month days_before millis_of picos_of shortest
+unfolding read has_number is_stamp has_digits is_digit is_pair day_exists is_leap month_days year_days days_before_year days_before_month days_before millis_of picos_of shortest
 written_19 = written_shortest (57 ∷ 57 ∷ 57 ∷ 57 ∷ 49 ∷ 50 ∷ 51 ∷ 49 ∷ 45 ∷ 50 ∷ 51 ∷ 58 ∷ 53 ∷ 57 ∷ 58 ∷ 53 ∷ 57 ∷ []) 253402300799000 0 refl
 
 -- 99991231-23:59:59.999999999999
 written_20 : write 253402300799999 999999999 ≡ text (57 ∷ 57 ∷ 57 ∷ 57 ∷ 49 ∷ 50 ∷ 51 ∷ 49 ∷ 45 ∷ 50 ∷ 51 ∷ 58 ∷ 53 ∷ 57 ∷ 58 ∷ 53 ∷ 57 ∷ 46 ∷ 57 ∷ 57 ∷ 57 ∷ 57 ∷ 57 ∷ 57 ∷ 57 ∷ 57 ∷ 57 ∷ 57 ∷ 57 ∷ 57 ∷ [])
-unfolding read has_number is_wide_stamp has_digits is_digit is_pair day_exists is_leap month_days year_days days_before_year days_before_month days_before millis_of picos_of shortest
+unfolding read has_number is_stamp has_digits is_digit is_pair day_exists is_leap month_days year_days days_before_year days_before_month days_before millis_of picos_of shortest
 written_20 = written_shortest (57 ∷ 57 ∷ 57 ∷ 57 ∷ 49 ∷ 50 ∷ 51 ∷ 49 ∷ 45 ∷ 50 ∷ 51 ∷ 58 ∷ 53 ∷ 57 ∷ 58 ∷ 53 ∷ 57 ∷ 46 ∷ 57 ∷ 57 ∷ 57 ∷ 57 ∷ 57 ∷ 57 ∷ 57 ∷ 57 ∷ 57 ∷ 57 ∷ 57 ∷ 57 ∷ []) 253402300799999 999999999 refl

@@ -7,8 +7,7 @@ use native.Mathlib.Omega.{arith}
 use borrow.Author.Tests.{leb-true, ltb-true, eq-eqb}
 use lib.Dec.{leb, ltb, eqb}
 use lib.ListN.{length, take, get_or}
-use Rattle.model_text.specs.Stamp.{pair_number, year_of}
-use Rattle.model_text.specs.WideStamp.{is_wide_stamp}
+use Rattle.model_text.specs.Stamp.{pair_number, year_of, is_stamp}
 use Rattle.model_text.proofs.Formed.{and_l, and_r}
 use Rattle.model_times.specs.Times.{Time, InCalendar, first_year, seconds, has_number, two_at, three_at, time_in, two, full_text, shortest_length, shortest, text_of, millis_of, picos_of, number, refused, read}
 use Rattle.model_times.proofs.Forms.{from_place, by_place, beyond}
@@ -179,9 +178,9 @@ time_in_calendar s x since before =
 
 pub numbered : (s : List ℕ) (millis picos : ℕ) → read s ≡ number millis picos → Numbered s millis picos
 unfolding read
-numbered s millis picos e = go (is_wide_stamp s) refl (has_number (time_in s)) refl e
+numbered s millis picos e = go (is_stamp s) refl (has_number (time_in s)) refl e
   where
-    go : (w : Bool) → is_wide_stamp s ≡ w → (t : Bool) → has_number (time_in s) ≡ t
+    go : (w : Bool) → is_stamp s ≡ w → (t : Bool) → has_number (time_in s) ≡ t
         → cond w (cond t (number (millis_of (time_in s)) (picos_of (time_in s))) (refused 33)) (refused 6) ≡ number millis picos → Numbered s millis picos
     go false ew t et e = absurd (differ e)
     go true ew false et e = absurd (differ e)

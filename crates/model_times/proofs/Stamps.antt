@@ -8,8 +8,7 @@ use native.Mathlib.Omega.{arith}
 use borrow.Author.Tests.{leb-true}
 use lib.ListN.{length, get_or}
 use Rattle.model_text.specs.Calendar.{month_days}
-use Rattle.model_text.specs.Stamp.{Pattern, pair_number, is_digit, matches, date, clock, year_of, month_of, day_of, day_exists}
-use Rattle.model_text.specs.WideStamp.{fraction, has_digits, is_wide_stamp}
+use Rattle.model_text.specs.Stamp.{Pattern, pair_number, is_digit, matches, date, clock, year_of, month_of, day_of, day_exists, fraction, has_digits, is_stamp}
 use Rattle.model_text.proofs.Formed.{and_l, and_r}
 use Rattle.model_text.proofs.Form.{fits_length}
 use Rattle.model_times.specs.Times.{two, three}
@@ -170,8 +169,8 @@ either : (a b : Bool) → (a || b) ≡ true → (a ≡ true) ⊎ (b ≡ true)
 either true b e = inl refl
 either false b e = inr e
 
-pub stamp_of_bytes : (s : List ℕ) → is_wide_stamp s ≡ true → Stamp s
-unfolding is_wide_stamp day_exists
+pub stamp_of_bytes : (s : List ℕ) → is_stamp s ≡ true → Stamp s
+unfolding is_stamp day_exists
 stamp_of_bytes s e =
     let f₃ : Bool = has_digits 0 s || has_digits 3 s in
     let f₆ : Bool = f₃ || has_digits 6 s in

@@ -8,8 +8,7 @@ use borrow.Author.Tests.{le-leb, lt-ltb, eqb-true}
 use lib.Dec.{leb, eqb}
 use lib.ListN.{take}
 use Rattle.model_text.specs.Calendar.{month_days}
-use Rattle.model_text.specs.Stamp.{Pattern, pair_number, is_digit, date, clock, day_exists}
-use Rattle.model_text.specs.WideStamp.{fraction, has_digits, is_wide_stamp}
+use Rattle.model_text.specs.Stamp.{Pattern, pair_number, is_digit, date, clock, day_exists, fraction, has_digits, is_stamp}
 use Rattle.model_times.specs.Times.{Time, InCalendar, first_year, seconds, has_number, three_at, time_in, three, full_text, millis_of, picos_of, text_of, number, refused, read}
 use Rattle.model_times.proofs.Calendar.{month_most}
 use Rattle.model_times.proofs.Forms.{both, is_a_digit, number_of_two, is_two, Facts, fits}
@@ -42,32 +41,32 @@ unfolding has_number
 calendar_has t ok = both (le-leb first_year t.year (omega arith)) (lt-ltb t.second seconds (omega arith))
 
 -- what is read once the bytes are a stamp and say that time
-reads : (s : List ℕ) (t : Time) → InCalendar t → is_wide_stamp s ≡ true → time_in s ≡ t → read s ≡ number (millis_of t) (picos_of t)
+reads : (s : List ℕ) (t : Time) → InCalendar t → is_stamp s ≡ true → time_in s ≡ t → read s ≡ number (millis_of t) (picos_of t)
 unfolding read
 reads s t ok w e =
-    ap (λ (x : Time). cond (is_wide_stamp s) (cond (has_number x) (number (millis_of x) (picos_of x)) (refused 33)) (refused 6)) e
+    ap (λ (x : Time). cond (is_stamp s) (cond (has_number x) (number (millis_of x) (picos_of x)) (refused 33)) (refused 6)) e
     ∙ rw (w, calendar_has t ok) refl
 
 -- a form of the five, and the day
 module _ (s : List ℕ) (day : day_exists s ≡ true) where
-  wide_0 : has_digits 0 s ≡ true → is_wide_stamp s ≡ true
-  unfolding is_wide_stamp
+  wide_0 : has_digits 0 s ≡ true → is_stamp s ≡ true
+  unfolding is_stamp
   wide_0 h = rw (h, day) refl
 
-  wide_3 : has_digits 3 s ≡ true → is_wide_stamp s ≡ true
-  unfolding is_wide_stamp
+  wide_3 : has_digits 3 s ≡ true → is_stamp s ≡ true
+  unfolding is_stamp
   wide_3 h = rw (h, day) (simp or-true)
 
-  wide_6 : has_digits 6 s ≡ true → is_wide_stamp s ≡ true
-  unfolding is_wide_stamp
+  wide_6 : has_digits 6 s ≡ true → is_stamp s ≡ true
+  unfolding is_stamp
   wide_6 h = rw (h, day) (simp or-true)
 
-  wide_9 : has_digits 9 s ≡ true → is_wide_stamp s ≡ true
-  unfolding is_wide_stamp
+  wide_9 : has_digits 9 s ≡ true → is_stamp s ≡ true
+  unfolding is_stamp
   wide_9 h = rw (h, day) (simp or-true)
 
-  wide_12 : has_digits 12 s ≡ true → is_wide_stamp s ≡ true
-  unfolding is_wide_stamp
+  wide_12 : has_digits 12 s ≡ true → is_stamp s ≡ true
+  unfolding is_stamp
   wide_12 h = rw (h, day) (simp or-true)
 
 module _ (t : Time) (ok : InCalendar t) where

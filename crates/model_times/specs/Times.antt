@@ -1,8 +1,7 @@
 -- The number of a stamp and the stamp of a number. Assumes nothing.
 use Rattle.std.specs.Prelude.{Bool, false, cond, ◌&&◌, ◌||◌, List, [], ◌∷◌, ◌++◌, ℕ, ◌+◌, ◌-◌, ◌*◌, ◌/◌, ◌%◌, ◌≤◌, leb, ltb, eqb, get_or, length, take, drop}
 use Rattle.model_text.specs.Calendar.{month_days}
-use Rattle.model_text.specs.Stamp.{pair_number, year_of, month_of, day_of}
-use Rattle.model_text.specs.WideStamp.{is_wide_stamp}
+use Rattle.model_text.specs.Stamp.{pair_number, year_of, month_of, day_of, is_stamp}
 use Rattle.model_times.specs.Days.{days_before_year, year_at, days_before_month, month_at, days_before}
 
 -- what a stamp says; behind the second four groups of three digits
@@ -139,7 +138,7 @@ unfoldable pub has_number : Time → Bool
 has_number t = leb first_year t.year && ltb t.second seconds
 
 unfoldable pub read : List ℕ → Read
-read s = cond (is_wide_stamp s) (cond (has_number (time_in s)) (number (millis_of (time_in s)) (picos_of (time_in s))) (refused 33)) (refused 6)
+read s = cond (is_stamp s) (cond (has_number (time_in s)) (number (millis_of (time_in s)) (picos_of (time_in s))) (refused 33)) (refused 6)
 
 -- a number's stamp, or the refusal: 34 past 31 December 9999, or for a remainder too large
 pub data Written : Type 0 where

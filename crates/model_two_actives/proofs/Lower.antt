@@ -39,7 +39,7 @@ lower_does {f} (turns t) u = or_true (is_hello f)
 lower_does tells u = refl
 lower_does {f} (nacks q) u = or_true (is_hello f)
 lower_does {s} (greets {e} h) u = absurd (omega (arith, ltb→lt e s.counters.epoch u))
-lower_does {s} (binds {e} h p q) u = absurd (omega (arith, ltb→lt e s.counters.epoch u))
+lower_does {s} (binds {e} h st p q) u = absurd (omega (arith, ltb→lt e s.counters.epoch u))
 lower_does {s} (checks {e} h) u = absurd (omega (arith, ltb→lt e s.counters.epoch u))
 lower_does {s} (batches {e} h d) u = absurd (omega (arith, ltb→lt e s.counters.epoch u))
 
@@ -81,7 +81,7 @@ does_spares (turns {n} t) u = record { no_diverged = refl; no_17 = λ m e. ap (�
 does_spares tells u = says_spares _ refl
 does_spares (nacks q) u = nack_spares q
 does_spares {s} (greets {e} h) u = absurd (omega (arith, ltb→lt e s.counters.epoch u))
-does_spares {s} (binds {e} h p q) u = absurd (omega (arith, ltb→lt e s.counters.epoch u))
+does_spares {s} (binds {e} h st p q) u = absurd (omega (arith, ltb→lt e s.counters.epoch u))
 does_spares {s} (checks {e} h) u = absurd (omega (arith, ltb→lt e s.counters.epoch u))
 does_spares {s} (batches {e} h d) u = absurd (omega (arith, ltb→lt e s.counters.epoch u))
 
@@ -90,7 +90,7 @@ module _ (L : Settings) (s : Standby) where
   unfolding on_given
   given_spares f p t = subst (λ (r : Result). Spares r.answer) (sym (cond-false _ _ p)) (does_spares (does L (run_pending (due s.pending f) s) f) t)
 
-  pub lower_spares : (c : Call) (w : List ℕ) (f : Frame) → s.counters.promoted ≡ false → Hands c w → given w ≡ intact f → T (lower s.counters.epoch f) → Spares (step L s c).answer
+  pub lower_spares : (c : Call) (w : List ℕ) (f : Frame) → s.counters.promoted ≡ false → Hands c w → given s.counters.version w ≡ intact f → T (lower s.counters.epoch f) → Spares (step L s c).answer
   unfolding step
   lower_spares c w f p by_held r t = subst (λ (g : Given). Spares (on_given L s g).answer) (sym r) (given_spares f p t)
   lower_spares c w f p by_frame r t = subst (λ (g : Given). Spares (on_given L s g).answer) (sym r) (given_spares f p t)
@@ -99,7 +99,7 @@ module _ (L : Settings) (s : Standby) where
   unfolding on_given
   given_answer f p t = ap (λ (r : Result). is_hello f || not (accepted r.answer)) (cond-false _ _ p) ∙ lower_does (does L (run_pending (due s.pending f) s) f) t
 
-  pub lower_answer : (c : Call) (w : List ℕ) (f : Frame) → s.counters.promoted ≡ false → Hands c w → given w ≡ intact f → T (lower s.counters.epoch f)
+  pub lower_answer : (c : Call) (w : List ℕ) (f : Frame) → s.counters.promoted ≡ false → Hands c w → given s.counters.version w ≡ intact f → T (lower s.counters.epoch f)
       → (is_hello f || not (accepted (step L s c).answer)) ≡ true
   unfolding step
   lower_answer c w f p by_held r t = ap (λ (g : Given). is_hello f || not (accepted (on_given L s g).answer)) r ∙ given_answer f p t
@@ -116,8 +116,8 @@ module _ (L : Settings) (s : Standby) where
 
   pub promoted_answer : (c : Call) (w : List ℕ) → s.counters.promoted ≡ true → Hands c w → Refused (step L s c).answer
   unfolding step
-  promoted_answer c w p by_held = given_refused (given w) p
-  promoted_answer c w p by_frame = given_refused (given w) p
+  promoted_answer c w p by_held = given_refused (given s.counters.version w) p
+  promoted_answer c w p by_frame = given_refused (given s.counters.version w) p
 
 -- ---- the hold areas
 
@@ -133,7 +133,7 @@ module _ (L : Settings) (k : Counters) (found : Option Bound) where
   frame_writes (bound h m) t = refl
   frame_writes (checked h e i) t = refl
 
-  pub lower_writes : (w : List ℕ) (f : Frame) → k.promoted ≡ false → given w ≡ intact f → T (lower k.epoch f) → writes L k found (given w) ≡ none
+  pub lower_writes : (w : List ℕ) (f : Frame) → k.promoted ≡ false → given k.version w ≡ intact f → T (lower k.epoch f) → writes L k found (given k.version w) ≡ none
   unfolding writes
   lower_writes w f p r t = ap (writes L k found) r ∙ cond-false none (writes_frame L k found f) p ∙ frame_writes f t
 
@@ -142,5 +142,5 @@ module _ (L : Settings) (k : Counters) (found : Option Bound) where
   given_writes (damaged n) p = refl
   given_writes (intact f) p = cond-true none (writes_frame L k found f) p
 
-  pub promoted_writes : (w : List ℕ) → k.promoted ≡ true → writes L k found (given w) ≡ none
-  promoted_writes w p = given_writes (given w) p
+  pub promoted_writes : (w : List ℕ) → k.promoted ≡ true → writes L k found (given k.version w) ≡ none
+  promoted_writes w p = given_writes (given k.version w) p

@@ -12,14 +12,14 @@ use lib.ListN.{length}
 use Rattle.model_frame.specs.Frame.{Key, Change, Part, commit, whole, last_whole, restarted, Frame, hello, welcome, bind, batch, ack, nack, bound, checked}
 use Rattle.model_frame.specs.Parse.{is_empty}
 use Rattle.model_frame.specs.Sizes.{sizes}
-use Rattle.model_session.specs.Session.{fits}
+use Rattle.model_session.specs.Session.{suits, fits}
 use Rattle.model_session.proofs.Basics.{cond_cases, cond-false, eqb_true, true→T}
 use Rattle.model_standby.specs.Answer.{Given, intact, given, lower, is_reply}
 use Rattle.model_standby.specs.Store.{session_at, place_of, is_stored, or_new}
 use Rattle.model_standby.specs.Row.{find}
-use Rattle.model_standby.specs.State.{Settings, incarnation_of, Counters, Bound, Standby, Result, Call, at_epoch, checked_at, none_held}
+use Rattle.model_standby.specs.State.{Settings, incarnation_of, Counters, Bound, Standby, Result, Call, at_epoch, connected, checked_at, none_held}
 use Rattle.model_standby.specs.Handles.{room_at}
-use Rattle.model_standby.specs.Standby.{with_counters, says, run_pending, due, follows, raised, max_whole, starts_with_reset, settle, hold, on_part, on_hello, on_checked, on_batch, on_handle, on_bind, on_intact, on_given, step, run}
+use Rattle.model_standby.specs.Standby.{with_counters, unbound, says, refuse, run_pending, due, follows, raised, max_whole, starts_with_reset, settle, hold, on_part, on_hello, on_checked, on_batch, on_handle, on_bind, on_intact, on_given, step, run}
 use Rattle.model_standby.specs.Demand.{Hands, by_held, by_frame}
 use Rattle.model_standby.proofs.Sanity.{epoch_never_falls, lower_frame, promoted_held, promoted_frame}
 use Rattle.model_standby.proofs.Places.{pending_session}
@@ -86,13 +86,13 @@ module _ (L : Settings) (s : Standby) (unpromoted : s.counters.promoted ≡ fals
   abbrev E : ℕ
   E = s.counters.epoch
 
-  stale_call : (c : Call) (w : List ℕ) (f : Frame) → Hands c w → given w ≡ intact f → T (lower E f) → OnlyCommits s (step L s c).state
+  stale_call : (c : Call) (w : List ℕ) (f : Frame) → Hands c w → given s.counters.version w ≡ intact f → T (lower E f) → OnlyCommits s (step L s c).state
   unfolding step
   stale_call c w f by_held r t = only_commits s (due s.pending f) _ (ap (λ (g : Given). (on_given L s g).state) r ∙ lower_frame L s f unpromoted t)
   stale_call c w f by_frame r t =
-      only_commits s (is_reply (on_given L s (given w)).answer || due s.pending f) _
-      (ap (run_pending (is_reply (on_given L s (given w)).answer)) (ap (λ (g : Given). (on_given L s g).state) r ∙ lower_frame L s f unpromoted t)
-      ∙ twice (is_reply (on_given L s (given w)).answer) (due s.pending f) s)
+      only_commits s (is_reply (on_given L s (given s.counters.version w)).answer || due s.pending f) _
+      (ap (run_pending (is_reply (on_given L s (given s.counters.version w)).answer)) (ap (λ (g : Given). (on_given L s g).state) r ∙ lower_frame L s f unpromoted t)
+      ∙ twice (is_reply (on_given L s (given s.counters.version w)).answer) (due s.pending f) s)
 
   -- ---- the epoch after a frame
 
@@ -106,19 +106,21 @@ module _ (L : Settings) (s : Standby) (unpromoted : s.counters.promoted ≡ fals
 
   raised_by : (s₁ : Standby) (e : ℕ) (f : Frame) → s₁.counters ≡ s.counters → Deposing L e f → (on_intact L s₁ f).state.counters.epoch ≡ raised_to s e
   unfolding on_hello on_batch on_checked
-  raised_by s₁ e f same by_hello = either s₁ e _ _ same refl refl
+  raised_by s₁ e f same (by_hello {v} {node} t) =
+      ap (λ (b : Bool). (cond (not b) (refuse s₁ 11) (cond (ltb e s₁.counters.epoch) (says s₁ (welcome s₁.counters.epoch (incarnation_of L))) (says (with_counters (unbound s₁) (connected v e s₁.counters)) (welcome e (incarnation_of L))))).state.counters.epoch) t
+      ∙ either s₁ e _ _ same refl refl
   raised_by s₁ e f same (by_batch {h} {n} {p} {cs}) =
       either s₁ e _ _ same refl (ap (λ (c : Counters). c.epoch) (same_handle L (with_counters s₁ (at_epoch e s₁.counters)) h (find h s₁.handles) n p cs))
   raised_by s₁ e f same (by_checked {h}) =
       either s₁ e _ _ same refl (ap (λ (b : Bool). (cond (not b) (says s₁ (nack h restarted)) (says (with_counters s₁ (checked_at e s₁.counters)) (ack h 0))).state.counters.epoch) (eqb_true (incarnation_of L)))
 
   -- due commits, then the frame: whatever is answered
-  epoch_after : (c : Call) (w : List ℕ) (f : Frame) (n : ℕ) → Hands c w → given w ≡ intact f → (on_intact L (run_pending (due s.pending f) s) f).state.counters.epoch ≡ n → (step L s c).state.counters.epoch ≡ n
+  epoch_after : (c : Call) (w : List ℕ) (f : Frame) (n : ℕ) → Hands c w → given s.counters.version w ≡ intact f → (on_intact L (run_pending (due s.pending f) s) f).state.counters.epoch ≡ n → (step L s c).state.counters.epoch ≡ n
   unfolding step on_given
   epoch_after c w f n by_held r e = ap (λ (g : Given). (on_given L s g).state.counters.epoch) r ∙ ap (λ (x : Result). x.state.counters.epoch) (cond-false _ _ unpromoted) ∙ e
   epoch_after c w f n by_frame r e = ap (λ (g : Given). (on_given L s g).state.counters.epoch) r ∙ ap (λ (x : Result). x.state.counters.epoch) (cond-false _ _ unpromoted) ∙ e
 
-  raises_call : (c : Call) (e : ℕ) (f : Frame) → Takes c f → Deposing L e f → (step L s c).state.counters.epoch ≡ raised_to s e
+  raises_call : (c : Call) (e : ℕ) (f : Frame) → Takes s.counters.version c f → Deposing L e f → (step L s c).state.counters.epoch ≡ raised_to s e
   raises_call c e f t d = epoch_after c t.bytes f (raised_to s e) t.hands t.reads (raised_by (run_pending (due s.pending f) s) e f refl d)
 
   -- ---- a Bind
@@ -128,8 +130,9 @@ module _ (L : Settings) (s : Standby) (unpromoted : s.counters.promoted ≡ fals
   bound_epoch s₁ h e lag k =
       cond_cases P (ltb e s₁.counters.epoch) (λ _. refl)
       (λ _. cond_cases P (ltb L.lag lag) (λ _. refl)
+      (λ _. cond_cases P (not (suits s₁.counters.version (or_new (session_at s₁.places (place_of k s₁.places))).stamp)) (λ _. refl)
       (λ _. cond_cases P (not (is_stored k s₁.places || ltb (length s₁.places) L.S)) (λ _. refl)
-      (λ _. cond_cases P (not (room_at h s₁.handles (place_of k s₁.places))) (λ _. refl) (λ _. refl))))
+      (λ _. cond_cases P (not (room_at h s₁.handles (place_of k s₁.places))) (λ _. refl) (λ _. refl)))))
     where
       P : Result → Type 0
       P r = r.state.counters.epoch ≡ s₁.counters.epoch

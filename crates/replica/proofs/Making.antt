@@ -15,7 +15,7 @@ use Rattle.store_areas.specs.Areas.{allowed, Rules, places_of}
 use Rattle.store_areas.proofs.Ruling.{rules_of, rules_true}
 use Rattle.standby_pending.proofs.Laws.{cleared as no-commits}
 use Rattle.standby_pending_run.proofs.Head.{clear_only, clear_rules, places_kept}
-use Rattle.model_standby.specs.Answer.{protocol_version}
+use Rattle.model_text.specs.Version.{latest}
 use Rattle.model_standby.specs.Row.{Row}
 use Rattle.standby_part.specs.State.{bound_of}
 use Rattle.model_standby.specs.State.{Bound, new_standby}
@@ -55,7 +55,7 @@ module _ (s : Settings) (c : Replica) (row : List BoundRecord) (w b : List ℕ) 
       (λ i. record {
         counters = counters_of new_replica;
         places = places_kept s.shape w (set w 1 0) b (clear_only w) i;
-        handles = all_free (bound_of protocol_version) (room_all (cleared_all row) h) row h i;
+        handles = all_free (bound_of latest) (room_all (cleared_all row) h) row h i;
         pending = no-commits w (omega (arith, rules.room.words_long)) i;
       })
 

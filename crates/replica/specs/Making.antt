@@ -14,7 +14,7 @@ use Rattle.standby_step.specs.Calls.{standby_of, allowed_all}
 
 -- no epoch yet, no connection, neither promoted nor checked
 abbrev pub new_replica : Replica
-new_replica = record { epoch = record { 0 = 0 }; connections = 0; promoted = 0; checked = 0 }
+new_replica = record { epoch = record { 0 = 0 }; connections = 0; promoted = 0; checked = 0; version2 = 0 }
 
 -- a new standby with the store's places, whatever the hold areas; no byte changes, of the words just the count of pending commits, and of the row
 -- just that each record is free

@@ -161,6 +161,7 @@ pub fn new() -> Replica
         connections: 0,
         promoted: 0,
         checked: 0,
+        version2: 0,
     }
 }
 

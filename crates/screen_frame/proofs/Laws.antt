@@ -1,4 +1,5 @@
 -- The changes of a batch one after the other, the column that says what a frame is, and the line's length. Assumes nothing.
+use Rattle.model_text.specs.Version.{latest}
 use Rattle.std.proofs.Common.{◌≡◌, ℕ, suc, ◌-◌, ◌<◌, ◌≤◌, true, false, leb, List, [], ◌∷◌, ◌++◌, length, take, replicate, refl, sym, ap, subst, ◌∙◌, arith, append-nil, append_assoc, length-append, length-take, take_all, take-take, map, le-leb}
 use borrow.Author.Tests.{lt-leb}
 use Rattle.model_frame.specs.Frame.{Change, Decoded}
@@ -23,34 +24,34 @@ use Rattle.screen_frame.specs.Starts.{Starts}
 pub record Listed (x : Text) (src : List ℕ) (all : List Change) (left : ℕ) (r : Reader) (y : Text) : Type 0 where
   pub done : List ℕ
   pub adds : Adds x done y
-  pub behind : done ++ changes_words (collect left (read_change 1) (rest r)) ≡ changes_words all
+  pub behind : done ++ changes_words (collect left (read_change latest) (rest r)) ≡ changes_words all
   pub same : r.buf.now ≡ src
 
-pub one_more : {x y z : Text} {src : List ℕ} {all : List Change} {left : ℕ} {r s : Reader} (op : Op) → Listed x src all (suc left) r y → s.buf.now ≡ r.buf.now → ok (op_of r.buf.now op) (rest s) ≡ read_change 1 (rest r) → Adds y (change_words (op_of src op)) z
+pub one_more : {x y z : Text} {src : List ℕ} {all : List Change} {left : ℕ} {r s : Reader} (op : Op) → Listed x src all (suc left) r y → s.buf.now ≡ r.buf.now → ok (op_of r.buf.now op) (rest s) ≡ read_change latest (rest r) → Adds y (change_words (op_of src op)) z
     → Listed x src all left s z
 unfolding changes_words collect
 one_more {src = src} {left = left} {r = r} {s = s} op l o e a = record {
   done = l.done ++ change_words (op_of src op);
   adds = adds_on l.adds a;
   behind =
-      let step : changes_words (item_then (ok (op_of r.buf.now op) (rest s)) (collect left (read_change 1))) ≡ changes_words (collect (suc left) (read_change 1) (rest r)) = ap (λ (q : Res Change). changes_words (item_then q (collect left (read_change 1)))) e in
+      let step : changes_words (item_then (ok (op_of r.buf.now op) (rest s)) (collect left (read_change latest))) ≡ changes_words (collect (suc left) (read_change latest) (rest r)) = ap (λ (q : Res Change). changes_words (item_then q (collect left (read_change latest)))) e in
       let words : change_words (op_of src op) ≡ change_words (op_of r.buf.now op) = ap (λ (b : List ℕ). change_words (op_of b op)) (sym l.same) in
-      append_assoc l.done (change_words (op_of src op)) (changes_words (collect left (read_change 1) (rest s)))
-      ∙ ap (λ (w : List ℕ). l.done ++ (w ++ changes_words (collect left (read_change 1) (rest s)))) words
+      append_assoc l.done (change_words (op_of src op)) (changes_words (collect left (read_change latest) (rest s)))
+      ∙ ap (λ (w : List ℕ). l.done ++ (w ++ changes_words (collect left (read_change latest) (rest s)))) words
       ∙ ap (λ (w : List ℕ). l.done ++ w) step ∙ l.behind;
   same = o ∙ l.same;
 }
 
-pub no_more : {x y : Text} {src : List ℕ} {all : List Change} {left : ℕ} {r : Reader} (e : FrameError) → Listed x src all (suc left) r y → bad (fault_of e) ≡ read_change 1 (rest r) → Adds x (changes_words all) y
+pub no_more : {x y : Text} {src : List ℕ} {all : List Change} {left : ℕ} {r : Reader} (e : FrameError) → Listed x src all (suc left) r y → bad (fault_of e) ≡ read_change latest (rest r) → Adds x (changes_words all) y
 unfolding changes_words collect
 no_more {x} {y} {left = left} {r = r} e l f =
-    let none : [] ≡ changes_words (collect (suc left) (read_change 1) (rest r)) = ap (λ (q : Res Change). changes_words (item_then q (collect left (read_change 1)))) f in
+    let none : [] ≡ changes_words (collect (suc left) (read_change latest) (rest r)) = ap (λ (q : Res Change). changes_words (item_then q (collect left (read_change latest)))) f in
     subst (λ (w : List ℕ). Adds x w y) (sym (append-nil l.done) ∙ ap (λ (w : List ℕ). l.done ++ w) none ∙ l.behind) l.adds
 
 pub all_done : {x y : Text} {src : List ℕ} {all : List Change} {left : ℕ} {r : Reader} → Listed x src all left r y → left ≡ 0 → Adds x (changes_words all) y
 unfolding changes_words collect
 all_done {x} {y} {r = r} l z =
-    subst (λ (w : List ℕ). Adds x w y) (sym (append-nil l.done) ∙ ap (λ (n : ℕ). l.done ++ changes_words (collect n (read_change 1) (rest r))) (sym z) ∙ l.behind) l.adds
+    subst (λ (w : List ℕ). Adds x w y) (sym (append-nil l.done) ∙ ap (λ (n : ℕ). l.done ++ changes_words (collect n (read_change latest) (rest r))) (sym z) ∙ l.behind) l.adds
 
 -- ---- the beginning of a text
 

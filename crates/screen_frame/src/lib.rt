@@ -2,6 +2,7 @@
 #![tactic(auto)]
 
 ghost use Rattle.std.specs.Prelude.{◌≡◌, ◌≤◌, ◌++◌, min, length, take, codes};
+ghost use Rattle.model_text.specs.Version.{latest};
 ghost use Rattle.std.proofs.Math.Option.{some};
 ghost use Rattle.model_frame.specs.Reading.{read_change, decode};
 ghost use Rattle.model_frame.specs.Frame.{hello, welcome, bind, batch, ack, nack, bound, checked};
@@ -19,10 +20,6 @@ use frame::{Batch, Frame, NackReason, Op, Part, Run, SessionId};
 use frame_reader::Reader;
 use frame_stamp::Protocol;
 use screen_text::Text;
-
-const PROTOCOL: Protocol = Protocol {
-    version: Frame::VERSION,
-};
 
 // Bytes enough for any line.
 const MOST: usize = 400;
@@ -57,14 +54,14 @@ fn put_change(text: &mut Text, src: &[u8], op: Op)
 }
 
 fn put_changes(text: &mut Text, src: &[u8], run: Run)
-    ensures { Adds text.old (changes_words (run_of (read_change 1) src.now run)) text.new }
+    ensures { Adds text.old (changes_words (run_of (read_change latest) src.now run)) text.new }
 {
     let mut reader = Reader {
         buf: src,
         at: run.at,
     };
     for _ in 0..run.count {
-        let Ok(op) = frame_op::read_op(&mut reader, PROTOCOL) else {
+        let Ok(op) = frame_op::read_op(&mut reader, Protocol::latest()) else {
             return;
         };
         put_change(text, src, op);
@@ -112,7 +109,7 @@ fn put_key(text: &mut Text, src: &[u8], key: SessionId)
 }
 
 fn put_batch(text: &mut Text, src: &[u8], batch: Batch)
-    ensures { Adds text.old (frame_words (batch_of 1 src.now batch)) text.new }
+    ensures { Adds text.old (frame_words (batch_of latest src.now batch)) text.new }
 {
     text.add_number(part_words(batch.part), u64::from(batch.handle));
     text.add_number(b" #", batch.commit_no.0);
@@ -120,7 +117,7 @@ fn put_batch(text: &mut Text, src: &[u8], batch: Batch)
 }
 
 fn put_frame_words(text: &mut Text, src: &[u8], frame: Frame)
-    ensures { Adds text.old (frame_words (frame_of 1 src.now frame)) text.new }
+    ensures { Adds text.old (frame_words (frame_of latest src.now frame)) text.new }
 {
     match frame {
         Frame::Hello {
@@ -174,9 +171,9 @@ fn put_frame_words(text: &mut Text, src: &[u8], frame: Frame)
 }
 
 fn put_what(text: &mut Text, src: &[u8])
-    ensures { Adds text.old (what_words (decode 1 src.now)) text.new }
+    ensures { Adds text.old (what_words (decode latest src.now)) text.new }
 {
-    match Frame::decode(PROTOCOL, src) {
+    match Frame::decode(Protocol::latest(), src) {
         Ok(Some((frame, _))) => put_frame_words(text, src, frame),
         Ok(None) => text.add(b"cut short"),
         Err(error) => text.add_number(b"can't be read: R ", u64::from(error.number())),
@@ -186,7 +183,7 @@ fn put_what(text: &mut Text, src: &[u8])
 // ---- answers
 
 fn put_brief(text: &mut Text, src: &[u8], frame: Frame)
-    ensures { Adds text.old (brief_words (frame_of 1 src.now frame)) text.new }
+    ensures { Adds text.old (brief_words (frame_of latest src.now frame)) text.new }
 {
     match frame {
         Frame::Hello { .. } => text.add(b"Hello"),
@@ -204,13 +201,13 @@ fn put_brief(text: &mut Text, src: &[u8], frame: Frame)
 }
 
 fn put_answer(text: &mut Text, refusal: u8, reply: &[u8])
-    ensures { Adds text.old (answer_words refusal (decode 1 reply.now)) text.new }
+    ensures { Adds text.old (answer_words refusal (decode latest reply.now)) text.new }
 {
     if refusal != 0 {
         text.add_number(b"R ", u64::from(refusal));
         return;
     }
-    match Frame::decode(PROTOCOL, reply) {
+    match Frame::decode(Protocol::latest(), reply) {
         Ok(Some((frame, _))) => put_brief(text, reply, frame),
         Ok(None) => text.add(b"none"),
         Err(_) => text.add(b"none"),
@@ -220,7 +217,7 @@ fn put_answer(text: &mut Text, refusal: u8, reply: &[u8])
 // ---- the line
 
 fn write_what(src: &[u8], area: &mut [u8; MORE]) -> usize
-    ensures { Starts 47 (what_words (decode 1 src.now)) area.new result }
+    ensures { Starts 47 (what_words (decode latest src.now)) area.new result }
 {
     let mut text = Text { out: area, at: 0 };
     put_what(&mut text, src);
@@ -228,7 +225,7 @@ fn write_what(src: &[u8], area: &mut [u8; MORE]) -> usize
 }
 
 fn write_answer(refusal: u8, reply: &[u8], area: &mut [u8; 77]) -> usize
-    ensures { Starts 77 (answer_words refusal (decode 1 reply.now)) area.new result }
+    ensures { Starts 77 (answer_words refusal (decode latest reply.now)) area.new result }
 {
     let mut text = Text { out: area, at: 0 };
     put_answer(&mut text, refusal, reply);
@@ -237,7 +234,7 @@ fn write_answer(refusal: u8, reply: &[u8], area: &mut [u8; 77]) -> usize
 
 // What a frame is, in its column.
 fn flow_what(text: &mut Text, column: usize, src: &[u8]) -> usize
-    ensures { Flows text.old column (codes " " ++ at_left 46 (cut 46 (what_words (decode 1 src.now)))) text.new result }
+    ensures { Flows text.old column (codes " " ++ at_left 46 (cut 46 (what_words (decode latest src.now)))) text.new result }
 {
     let mut area = [0u8; MORE];
     let len = write_what(src, &mut area);
@@ -249,7 +246,7 @@ fn flow_what(text: &mut Text, column: usize, src: &[u8]) -> usize
 }
 
 fn put_line(text: &mut Text, number: u64, offset: u64, frame: &[u8], refusal: u8, reply: &[u8])
-    ensures { Adds text.old (frame_line number offset (decode 1 frame.now) refusal (decode 1 reply.now)) text.new }
+    ensures { Adds text.old (frame_line number offset (decode latest frame.now) refusal (decode latest reply.now)) text.new }
 {
     let mut area = [0u8; 77];
     let len = write_answer(refusal, reply, &mut area);
@@ -268,7 +265,7 @@ fn write_line(
     reply: &[u8],
     area: &mut [u8; MOST],
 ) -> usize
-    ensures { Starts 400 (frame_line number offset (decode 1 frame.now) refusal (decode 1 reply.now)) area.new result }
+    ensures { Starts 400 (frame_line number offset (decode latest frame.now) refusal (decode latest reply.now)) area.new result }
 {
     let mut text = Text { out: area, at: 0 };
     put_line(&mut text, number, offset, frame, refusal, reply);
@@ -284,7 +281,7 @@ pub fn put_frame(
     reply: &[u8],
     out: &mut [u8],
 ) -> Result<usize, Refusal>
-    ensures { Tells (some (frame_line number offset (decode 1 frame.now) refusal (decode 1 reply.now))) out.old out.new result }
+    ensures { Tells (some (frame_line number offset (decode latest frame.now) refusal (decode latest reply.now))) out.old out.new result }
 {
     let mut area = [0u8; MOST];
     let len = write_line(number, offset, frame, refusal, reply, &mut area);

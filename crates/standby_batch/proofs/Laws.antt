@@ -26,7 +26,8 @@ use Rattle.store_areas.specs.Areas.{Rules}
 use Rattle.store_areas.proofs.Lifting.{places_length}
 use Rattle.standby_commit.specs.Settling.{StoreChange, stays, batch_change, StoreAfter}
 use Rattle.standby_commit.proofs.Laws.{none_changed}
-use Rattle.model_standby.specs.Answer.{protocol_version, refused, accepted, is_reply}
+use Rattle.model_text.specs.Version.{latest}
+use Rattle.model_standby.specs.Answer.{refused, accepted, is_reply}
 use Rattle.model_standby.specs.Answer as the-answer
 use Rattle.model_standby.specs.State.{Bound, at_epoch}
 use Rattle.model_standby.specs.State as state
@@ -138,24 +139,24 @@ module _ (s : Settings) (c : Replica) (seen : Lookup) (h : ℕ) (e : Epoch) (n :
   abbrev Own : Bool → prelude.Option BoundRecord
   Own t = cond t (Some (own_record seen)) None
 
-  bound_is : (t : Bool) → bound_in protocol_version (Own t) area ≡ found_of protocol_version t (own_record seen) area
+  bound_is : (t : Bool) → bound_in latest (Own t) area ≡ found_of latest t (own_record seen) area
   bound_is true = refl
   bound_is false = refl
 
   module _ (p : is_empty apps ≡ true) (high : ltb e.0 c.epoch.0 ≡ false) {found : Bool} (found_is : found ≡ found_for seen h) {w' b' area' run : List ℕ} {d : PartResult}
-      (g : HandleIs protocol_version s.shape h (Own found) n.0 part cs w w' b b' area area' d)
-      (written : area' ≡ hold_area_after protocol_version (Own found) n.0 part run area (part_refusal d)) (bytes : run ≡ held_bytes cs)
+      (g : HandleIs latest s.shape h (Own found) n.0 part cs w w' b b' area area' d)
+      (written : area' ≡ hold_area_after latest (Own found) n.0 part run area (part_refusal d)) (bytes : run ≡ held_bytes cs)
       (kept : found ≡ true → RecordRules seen w area) where
     abbrev B : Bound
-    B = bound_of protocol_version (own_record seen) area
+    B = bound_of latest (own_record seen) area
 
     abbrev K' : Core
     K' = core_at (counters_of (epoch_to c e)) s.shape w b
 
-    went : core_batch L K F h e.0 n.0 part cs apps ≡ core_handle L K' h (found_of protocol_version found (own_record seen) area) n.0 part cs
-    went = tests ∙ (λ j. Goes (p j) (high j)) ∙ ap (λ (t : Bool). core_handle L K' h (found_of protocol_version t (own_record seen) area) n.0 part cs) (sym found_is)
+    went : core_batch L K F h e.0 n.0 part cs apps ≡ core_handle L K' h (found_of latest found (own_record seen) area) n.0 part cs
+    went = tests ∙ (λ j. Goes (p j) (high j)) ∙ ap (λ (t : Bool). core_handle L K' h (found_of latest t (own_record seen) area) n.0 part cs) (sym found_is)
 
-    handled : result_of protocol_version h n.0 area' d (core_at (counters_of (epoch_to c e)) s.shape w' b') ≡ core_handle L K' h (found_of protocol_version found (own_record seen) area) n.0 part cs
+    handled : result_of latest h n.0 area' d (core_at (counters_of (epoch_to c e)) s.shape w' b') ≡ core_handle L K' h (found_of latest found (own_record seen) area) n.0 part cs
     handled = g.is (counters_of (epoch_to c e)) s.incarnation.0 s.max_lag ∙ ap (λ (o : Option Bound). core_handle L K' h o n.0 part cs) (bound_is found)
 
     -- what the code makes of a result
@@ -168,11 +169,11 @@ module _ (s : Settings) (c : Replica) (seen : Lookup) (h : ℕ) (e : Epoch) (n :
           action = put_in area' (X q).action;
           answer = answer_of b' (X q).answer;
         })
-        (result_of protocol_version h n.0 area' q (core_at (counters_of (epoch_to c e)) s.shape w' b'))
+        (result_of latest h n.0 area' q (core_at (counters_of (epoch_to c e)) s.shape w' b'))
     reads (PartResult.Refused e₁) = λ j. record { core = core_at (counters_of (epoch_to c e)) s.shape w' b'; action = leave; answer = refused_is h n b' e₁ j }
     reads (PartResult.RefusedHolding e₁ x) = λ j. record {
       core = core_at (counters_of (epoch_to c e)) s.shape w' b';
-      action = store h (bound_of protocol_version x area');
+      action = store h (bound_of latest x area');
       answer = refused_is h n b' e₁ j;
     }
     reads (PartResult.Diverged x) = refl
@@ -187,18 +188,18 @@ module _ (s : Settings) (c : Replica) (seen : Lookup) (h : ℕ) (e : Epoch) (n :
     used_same : get_or w' 0 0 ≡ get_or w 0 0
     used_same =
         sym (places_length s.shape w' b') ∙ ap (λ (r : CoreResult). length r.core.places) handled
-        ∙ as_many L K' h (found_of protocol_version found (own_record seen) area) n.0 part cs ∙ places_length s.shape w b
+        ∙ as_many L K' h (found_of latest found (own_record seen) area) n.0 part cs ∙ places_length s.shape w b
 
     -- for no other handle is a record stored or a Batch accepted
     none_stored : found ≡ false → stores (X d).action ≡ false
     none_stored f =
-        sym (told_stores h n.0 protocol_version area' (epoch_to c e) seen n d) ∙ ap (λ (r : CoreResult). is_store r.action) handled
-        ∙ ap (λ (u : Bool). is_store (core_handle L K' h (found_of protocol_version u (own_record seen) area) n.0 part cs).action) f ∙ store_none L K' h n.0 part cs
+        sym (told_stores h n.0 latest area' (epoch_to c e) seen n d) ∙ ap (λ (r : CoreResult). is_store r.action) handled
+        ∙ ap (λ (u : Bool). is_store (core_handle L K' h (found_of latest u (own_record seen) area) n.0 part cs).action) f ∙ store_none L K' h n.0 part cs
 
     none_accepted : found ≡ false → is_accepted d ≡ false
     none_accepted f =
         sym (told_accepted h n.0 d) ∙ ap (λ (r : CoreResult). accepted r.answer) handled
-        ∙ ap (λ (u : Bool). accepted (core_handle L K' h (found_of protocol_version u (own_record seen) area) n.0 part cs).answer) f ∙ accept_none L K' h n.0 part cs
+        ∙ ap (λ (u : Bool). accepted (core_handle L K' h (found_of latest u (own_record seen) area) n.0 part cs).answer) f ∙ accept_none L K' h n.0 part cs
 
     stored_found : stores (X d).action ≡ true → found ≡ true
     stored_found y = go found refl
@@ -219,7 +220,7 @@ module _ (s : Settings) (c : Replica) (seen : Lookup) (h : ℕ) (e : Epoch) (n :
             no_change whole = refl
             no_change last_whole = refl
 
-    put_fits : (a : Answer) (x : BoundRecord) → found ≡ true → StoredIs protocol_version (own_record seen) area area' x → Puts seen (get_or w' 0 0) (length area) area' (storing (epoch_to c e) seen a h x).action
+    put_fits : (a : Answer) (x : BoundRecord) → found ≡ true → StoredIs latest (own_record seen) area area' x → Puts seen (get_or w' 0 0) (length area) area' (storing (epoch_to c e) seen a h x).action
     put_fits a x f i =
         let k : RecordRules seen w area = kept f in
         record {
@@ -229,7 +230,7 @@ module _ (s : Settings) (c : Replica) (seen : Lookup) (h : ℕ) (e : Epoch) (n :
           slot_len = i.len k.held_within;
         }
 
-    puts_in : (q : PartResult) → (stores (X q).action ≡ true → found ≡ true) → IfSome (stored_in q) (StoredIs protocol_version (own_record seen) area area') → Puts seen (get_or w' 0 0) (length area) area' (X q).action
+    puts_in : (q : PartResult) → (stores (X q).action ≡ true → found ≡ true) → IfSome (stored_in q) (StoredIs latest (own_record seen) area area') → Puts seen (get_or w' 0 0) (length area) area' (X q).action
     puts_in (PartResult.Refused e₁) f i = tt
     puts_in (PartResult.RefusedHolding e₁ x) f i = put_fits (is_refused (number_of e₁)) x (f refl) i
     puts_in (PartResult.Diverged x) f i = put_fits (is_nack h 2) x (f refl) i
@@ -244,7 +245,7 @@ module _ (s : Settings) (c : Replica) (seen : Lookup) (h : ℕ) (e : Epoch) (n :
     put_so : Puts seen (get_or w' 0 0) (length area) area' (X d).action
     put_so = go found refl g.slot
       where
-        go : (t : Bool) → found ≡ t → StoredFor protocol_version (Own t) area area' (stored_in d) → Puts seen (get_or w' 0 0) (length area) area' (X d).action
+        go : (t : Bool) → found ≡ t → StoredFor latest (Own t) area area' (stored_in d) → Puts seen (get_or w' 0 0) (length area) area' (X d).action
         go true f i = puts_in d stored_found i
         go false f i = puts_none d (none_stored f)
 
@@ -262,7 +263,7 @@ module _ (s : Settings) (c : Replica) (seen : Lookup) (h : ℕ) (e : Epoch) (n :
 
     answered : found ≡ true → is_reply (core_handle L K' h (some B) n.0 part cs).answer ≡ eqb (part_refusal d) 0
     answered f =
-        ap (λ (u : Bool). is_reply (core_handle L K' h (found_of protocol_version u (own_record seen) area) n.0 part cs).answer) (sym f)
+        ap (λ (u : Bool). is_reply (core_handle L K' h (found_of latest u (own_record seen) area) n.0 part cs).answer) (sym f)
         ∙ ap (λ (r : CoreResult). is_reply r.answer) (sym handled) ∙ told_reply h n.0 d
 
     -- of a Whole or LastWhole that is found
@@ -278,7 +279,7 @@ module _ (s : Settings) (c : Replica) (seen : Lookup) (h : ℕ) (e : Epoch) (n :
     off_held true = refl
     off_held false = refl
 
-    area_found : (q : the_frame.Part) → part ≡ q → found ≡ true → hold_area_after protocol_version (Some (own_record seen)) n.0 q run area (part_refusal d) ≡ hold_area_with (writes_part L h (some B) n.0 q cs) area
+    area_found : (q : the_frame.Part) → part ≡ q → found ≡ true → hold_area_after latest (Some (own_record seen)) n.0 q run area (part_refusal d) ≡ hold_area_with (writes_part L h (some B) n.0 q cs) area
     area_found commit q f = off_held (follows_of (own_record seen) n.0)
     area_found whole q f =
         held_area f (λ t. sym (answered f) ∙ ap (λ (x : the_frame.Part). is_reply (core_handle L K' h (some B) n.0 x cs).answer) q ∙ whole_passes L K' h B n.0 cs t)
@@ -290,16 +291,16 @@ module _ (s : Settings) (c : Replica) (seen : Lookup) (h : ℕ) (e : Epoch) (n :
     none_found whole = refl
     none_found last_whole = refl
 
-    area_part : area' ≡ hold_area_with (writes_part L h (found_of protocol_version found (own_record seen) area) n.0 part cs) area
+    area_part : area' ≡ hold_area_with (writes_part L h (found_of latest found (own_record seen) area) n.0 part cs) area
     area_part = written ∙ go found refl
       where
-        go : (t : Bool) → found ≡ t → hold_area_after protocol_version (Own t) n.0 part run area (part_refusal d) ≡ hold_area_with (writes_part L h (found_of protocol_version t (own_record seen) area) n.0 part cs) area
+        go : (t : Bool) → found ≡ t → hold_area_after latest (Own t) n.0 part run area (part_refusal d) ≡ hold_area_with (writes_part L h (found_of latest t (own_record seen) area) n.0 part cs) area
         go true f = area_found part refl f
         go false f = none_found part
 
     area_whole : area' ≡ hold_area_with (writes_frame L (counters_of c) F (batch h e.0 n.0 part cs apps)) area
     area_whole =
-        area_part ∙ ap (λ (t : Bool). hold_area_with (writes_part L h (found_of protocol_version t (own_record seen) area) n.0 part cs) area) found_is
+        area_part ∙ ap (λ (t : Bool). hold_area_with (writes_part L h (found_of latest t (own_record seen) area) n.0 part cs) area) found_is
         ∙ ap (λ (o : Option HoldWrite). hold_area_with o area) (sym (λ j. Writes (p j) (high j)))
 
     handled_is : {r : Outcome} {c' : Replica} → c' ≡ epoch_to c e → r ≡ settled_of c' seen d h n → Is w' b' area' r

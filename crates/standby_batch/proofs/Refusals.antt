@@ -37,6 +37,7 @@ some_number Refusal.FieldFault = refl
 some_number Refusal.FalseLengthOrSum = refl
 some_number Refusal.NumberNotRising = refl
 some_number Refusal.TimeFalls = refl
+some_number Refusal.LongStamp = refl
 some_number Refusal.StampWithoutNumber = refl
 some_number Refusal.NumberWithoutStamp = refl
 some_number Refusal.BadRanges = refl

@@ -15,7 +15,8 @@ use Rattle.standby_row.specs.declared.lookup.Lookup.{Lookup}
 use Rattle.standby_row.specs.Row.{own_record}
 use Rattle.store_areas.specs.Areas.{Rules, used_of}
 use Rattle.standby_commit.specs.Settling.{batch_change, StoreAfter}
-use Rattle.model_standby.specs.Answer.{protocol_version, accepted}
+use Rattle.model_text.specs.Version.{latest}
+use Rattle.model_standby.specs.Answer.{accepted}
 use Rattle.model_standby.specs.State.{Bound}
 use Rattle.model_standby.specs.Hold.{HoldWrite, writes_frame}
 use Rattle.model_standby.specs.Core.{Action, leave, store, core_batch}
@@ -32,7 +33,7 @@ use Rattle.standby_state.specs.Exact.{Exact}
 use Rattle.standby_state.specs.Outcomes.{counters_of, settings_of, leaving, storing, stores, Fits}
 
 abbrev pub epoch_to : Replica → Epoch → Replica
-epoch_to c e = record { epoch = e; connections = c.connections; promoted = c.promoted; checked = c.checked }
+epoch_to c e = record { epoch = e; connections = c.connections; promoted = c.promoted; checked = c.checked; version2 = c.version2 }
 
 -- the record that was found is the handle's
 abbrev pub found_for : Lookup → ℕ → Bool
@@ -65,13 +66,13 @@ hold_area_with none area = area
 hold_area_with (some x) area = write area x.offset x.bytes
 
 abbrev pub found_at : Lookup → ℕ → List ℕ → Option Bound
-found_at seen h area = found_of protocol_version (found_for seen h) (own_record seen) area
+found_at seen h area = found_of latest (found_for seen h) (own_record seen) area
 
 -- the record that is put, over the hold area of its place
 abbrev pub put_in : List ℕ → RowAction → Action
 put_in area RowAction.Leave = leave
 put_in area RowAction.Clear = leave
-put_in area (RowAction.Store at x) = store x.handle (bound_of protocol_version x area)
+put_in area (RowAction.Store at x) = store x.handle (bound_of latest x area)
 put_in area (RowAction.Rebind freed at x) = leave
 
 -- the row stays as it was, or the record that is put fits it; nothing else is done to it

@@ -3,6 +3,7 @@
 #![tactic(auto)]
 
 ghost use Rattle.std.specs.Prelude.{◌≡◌, true, ◌&&◌, ◌<◌, eqb, ltb};
+ghost use Rattle.model_text.specs.Version.{latest};
 ghost use Rattle.model_frame.specs.Parse.{is_empty};
 ghost use Rattle.model_frame.specs.Reading.{read_change, read_app_record};
 ghost use Rattle.frame_op.specs.Answers.{run_of, HasLength};
@@ -13,7 +14,6 @@ ghost use Rattle.standby_step.specs.Steps.{is_found};
 ghost use Rattle.standby_batch.specs.Batches.{bound_for, settled_of, RecordRules, BatchIs};
 
 use base_refusals::Refusal;
-use frame::Frame;
 use frame_fields::{Batch, CommitNumber, NackReason};
 use frame_op::Run;
 use frame_reader::Reader;
@@ -90,8 +90,8 @@ pub fn on_batch(
     requires rules { Rules standing.settings.shape words.old bytes.old }
     requires words_bound { count_of words.old < 64 }
     requires record_rules { is_found standing.lookup ≡ true → RecordRules standing.lookup words.old area.old }
-    requires has_length { HasLength 1 frame.now batch.ops }
-    ensures { BatchIs standing.settings standing.counters standing.lookup batch.handle batch.epoch.0 batch.commit_no.0 (part_of batch.part) (run_of (read_change 1) frame.now batch.ops) (run_of read_app_record frame.now batch.app_records) words.old words.new bytes.old bytes.new area.old area.new result }
+    requires has_length { HasLength latest frame.now batch.ops }
+    ensures { BatchIs standing.settings standing.counters standing.lookup batch.handle batch.epoch.0 batch.commit_no.0 (part_of batch.part) (run_of (read_change latest) frame.now batch.ops) (run_of read_app_record frame.now batch.app_records) words.old words.new bytes.old bytes.new area.old area.new result }
 {
     let Standing {
         settings,
@@ -106,10 +106,7 @@ pub fn on_batch(
         let answer = standby_state::nack(handle, NackReason::StaleEpoch as u8);
         return standby_state::unchanged(counters, answer);
     }
-    let protocol = Protocol {
-        version: Frame::VERSION,
-    };
-    let changes = standby_changes::run_of(protocol, frame, batch.ops);
+    let changes = standby_changes::run_of(Protocol::latest(), frame, batch.ops);
     let mut store = Store {
         words,
         bytes,

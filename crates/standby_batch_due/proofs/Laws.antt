@@ -29,7 +29,8 @@ use Rattle.standby_pending.specs.Pending.{count_of, pending_of}
 use Rattle.standby_pending_run.specs.Commits.{ran_words, RanIf}
 use Rattle.standby_pending_run.proofs.Due.{many_pending}
 use Rattle.standby_commit.specs.Settling.{batch_change, StoreAfter}
-use Rattle.model_standby.specs.Answer.{protocol_version, accepted}
+use Rattle.model_text.specs.Version.{latest}
+use Rattle.model_standby.specs.Answer.{accepted}
 use Rattle.model_standby.specs.State.{Bound, Counters}
 use Rattle.model_standby.specs.State as state
 use Rattle.model_standby.specs.Standby.{follows, starts_with_reset, raised, max_whole, pends_on}
@@ -119,9 +120,9 @@ module _ (seen : Lookup) (h : ℕ) (l : List ℕ) where
 
   found_is : (is_found seen ≡ true → (own_record seen).handle ≡ h) → found_at seen h (area_at (room_in seen l) (spot_in seen) l) ≡ found_in seen l
   found_is own =
-      ap (λ (t : Bool). found_of protocol_version t (own_record seen) (area_at (room_in seen l) (spot_in seen) l)) (same_found own) ∙ go seen.own
+      ap (λ (t : Bool). found_of latest t (own_record seen) (area_at (room_in seen l) (spot_in seen) l)) (same_found own) ∙ go seen.own
     where
-      go : (o : prelude.Option Found) → found_of protocol_version (prelude.is_some o) (record_or_free o) (area_at (room_in seen l) (at_or o 0) l) ≡ found_of protocol_version (prelude.is_some o) (record_or_free o) (area_at (room_in seen l) (at_or o seen.len) l)
+      go : (o : prelude.Option Found) → found_of latest (prelude.is_some o) (record_or_free o) (area_at (room_in seen l) (at_or o 0) l) ≡ found_of latest (prelude.is_some o) (record_or_free o) (area_at (room_in seen l) (at_or o seen.len) l)
       go (Some f) = refl
       go None = refl
 
@@ -159,11 +160,11 @@ module _ (s : Settings) (c : Replica) (seen : Lookup) (h e n : ℕ) (part : the_
     own_area : (at : ℕ) → at ≡ spot_in seen → area_at R at l' ≡ area'
     own_area at e = ap (λ (k : ℕ). area_at R k l') e ∙ part_own A R l area' (within seen l) size
 
-    action_is : (a : RowAction) → Puts seen (get_or w' 0 0) (length P) area' a → (stores a ≡ true → found_for seen h ≡ true) → action_for protocol_version R l' a ≡ put_in area' a
+    action_is : (a : RowAction) → Puts seen (get_or w' 0 0) (length P) area' a → (stores a ≡ true → found_for seen h ≡ true) → action_for latest R l' a ≡ put_in area' a
     action_is RowAction.Leave n f = refl
     action_is RowAction.Clear n f = absurd n
     action_is (RowAction.Rebind freed at x) n f = absurd n
-    action_is (RowAction.Store at x) n f = ap (λ (y : List ℕ). store x.handle (bound_of protocol_version x y)) (own_area at (n.at_is ∙ at_found (f refl)))
+    action_is (RowAction.Store at x) n f = ap (λ (y : List ℕ). store x.handle (bound_of latest x y)) (own_area at (n.at_is ∙ at_found (f refl)))
 
     puts_in : (a : RowAction) → Puts seen (get_or w' 0 0) (length P) area' a → (stores a ≡ true → found_for seen h ≡ true) → Puts seen (get_or w' 0 0) R (area_at R (own_place seen) l') a
     puts_in RowAction.Leave n f = tt
@@ -171,7 +172,7 @@ module _ (s : Settings) (c : Replica) (seen : Lookup) (h e n : ℕ) (part : the_
     puts_in (RowAction.Rebind freed at x) n f = n
     puts_in (RowAction.Store at x) n f = record {
       at_is = n.at_is;
-      slot_is = n.slot_is ∙ ap (λ (y : List ℕ). record_for x.handle (bound_of protocol_version x y)) (sym (own_area (own_place seen) (at_found (f refl))));
+      slot_is = n.slot_is ∙ ap (λ (y : List ℕ). record_for x.handle (bound_of latest x y)) (sym (own_area (own_place seen) (at_found (f refl))));
       slot_place = n.slot_place;
       slot_len = subst (λ (k : ℕ). x.held_len ≤ k) long n.slot_len;
     }
@@ -191,8 +192,8 @@ module _ (s : Settings) (c : Replica) (seen : Lookup) (h e n : ℕ) (part : the_
     at_own : l' ≡ holds_after R (spot_in seen) (O R (found_in seen l)) l → l' ≡ holds_after R (own_place seen) (O R (found_in seen l)) l
     at_own is = go seen.own is
       where
-        go : (o : prelude.Option Found) → l' ≡ holds_after R (at_or o 0) (O R (found_of protocol_version (prelude.is_some o) (record_or_free o) (area_at R (at_or o seen.len) l))) l
-            → l' ≡ holds_after R (at_or o seen.len) (O R (found_of protocol_version (prelude.is_some o) (record_or_free o) (area_at R (at_or o seen.len) l))) l
+        go : (o : prelude.Option Found) → l' ≡ holds_after R (at_or o 0) (O R (found_of latest (prelude.is_some o) (record_or_free o) (area_at R (at_or o seen.len) l))) l
+            → l' ≡ holds_after R (at_or o seen.len) (O R (found_of latest (prelude.is_some o) (record_or_free o) (area_at R (at_or o seen.len) l))) l
         go (Some g) p = p
         go None p =
             p ∙ ap (λ (o : Option HoldWrite). holds_after R 0 o l) (none_frame (settings_of s R) h n cs (counters_of c) e part apps)

@@ -7,7 +7,8 @@ use Rattle.standby_row.specs.Row.{at_or, own_place, own_record}
 use Rattle.store_areas.specs.Areas.{Rules}
 use Rattle.standby_pending.specs.Pending.{pending_of}
 use Rattle.standby_commit.specs.Settling.{batch_change}
-use Rattle.model_standby.specs.Answer.{protocol_version, accepted}
+use Rattle.model_text.specs.Version.{latest}
+use Rattle.model_standby.specs.Answer.{accepted}
 use Rattle.model_standby.specs.Standby.{pends_on}
 use Rattle.model_standby.specs.Hold.{writes_frame}
 use Rattle.model_standby.specs.Core.{core_run, core_batch}
@@ -36,7 +37,7 @@ due_batch h w = leb 64 (length (pending_of w)) || pends_on h (pending_of w)
 -- equal to the definition, where the record found is the handle's
 pub record BatchIn (s : Settings) (c : Replica) (seen : Lookup) (h e n : ℕ) (part : the_frame.Part) (cs : List Change) (apps : List AppRecord) (w w' b b' l l' : List ℕ) (r : Outcome) : Type 0 where
   pub is : (is_found seen ≡ true → (own_record seen).handle ≡ h)
-      → outcome_of protocol_version (room_in seen l) s.shape w' b' l' r
+      → outcome_of latest (room_in seen l) s.shape w' b' l' r
       ≡ core_batch (settings_of s (room_in seen l)) (core_run (due_batch h w) (core_at (counters_of c) s.shape w b)) (found_in seen l) h e n part cs apps
   pub puts : Puts seen (get_or w' 0 0) (room_in seen l) (area_at (room_in seen l) (own_place seen) l') r.action
   pub rules : Rules s.shape w' b'

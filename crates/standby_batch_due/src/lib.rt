@@ -2,6 +2,7 @@
 #![tactic(auto)]
 
 ghost use Rattle.std.specs.Prelude.{◌≡◌, true, cond, ◌+◌, ◌*◌, ◌≤◌, length};
+ghost use Rattle.model_text.specs.Version.{latest};
 ghost use Rattle.model_frame.specs.Reading.{read_change, read_app_record};
 ghost use Rattle.frame_op.specs.Answers.{run_of, HasLength};
 ghost use Rattle.frame_fields.specs.Answers.{part_of};
@@ -41,8 +42,8 @@ pub fn run_due_then_batch(
 ) -> Outcome
     requires rules { Rules standing.settings.shape areas.old.words.now areas.old.bytes.now }
     requires record_rules_in { is_found standing.lookup ≡ true → RecordRulesIn standing.lookup areas.old.words.now areas.old.holds.now }
-    requires has_length { HasLength 1 frame.now batch.ops }
-    ensures is { BatchIn standing.settings standing.counters standing.lookup batch.handle batch.epoch.0 batch.commit_no.0 (part_of batch.part) (run_of (read_change 1) frame.now batch.ops) (run_of read_app_record frame.now batch.app_records) areas.old.words.now areas.new.words.now areas.old.bytes.now areas.new.bytes.now areas.old.holds.now areas.new.holds.now result }
+    requires has_length { HasLength latest frame.now batch.ops }
+    ensures is { BatchIn standing.settings standing.counters standing.lookup batch.handle batch.epoch.0 batch.commit_no.0 (part_of batch.part) (run_of (read_change latest) frame.now batch.ops) (run_of read_app_record frame.now batch.app_records) areas.old.words.now areas.new.words.now areas.old.bytes.now areas.new.bytes.now areas.old.holds.now areas.new.holds.now result }
     ensures same { SameLent areas.old areas.new }
 {
     let Standing {

@@ -12,7 +12,9 @@ use lib.Dec.{ltb}
 use borrow.Author.Tests.{lt-ltb, le-ltb, ltb-true}
 use Rattle.std.specs.Prelude.{Option as RustOption, Some, None, is_some, unwrap_or}
 use Rattle.model_frame.specs.Frame.{Key, bound, nack, stale_epoch, lag_too_great}
-use Rattle.model_session.specs.Session.{Session}
+use Rattle.model_text.specs.Version.{latest}
+use Rattle.frame_stamp.specs.Versions.{version_of}
+use Rattle.model_session.specs.Session.{Session, suits}
 use Rattle.model_session.specs.Summary.{summary}
 use Rattle.model_session.proofs.Basics.{some_inj}
 use Rattle.model_standby.specs.Store.{Place, place_of, is_stored, session_at, or_new, new_place, opened}
@@ -115,6 +117,22 @@ module _ (s : Shape) (k : Key) (w b : List ℕ) (r : Rules s w b) where
             (subst (λ (i : ℕ). Touched s i (opened_words w) w' b b') (sym at) (record { words = o.words; bytes = o.bytes }));
       }
 
+-- ---- whether the version takes the session's stamp
+
+module _ (s : Shape) (k : Key) (w b : List ℕ) (version : ℕ) where
+  abbrev Of : Bool
+  Of = suits version (or_new (session_at (places_of s w b) (place_of k (places_of s w b)))).stamp
+
+  pub found_less : {place : ℕ} → Some place ≡ stored_place k (places_of s w b) → place < get_or w 0 0
+  found_less is = let q = stored_at k (places_of s w b) is in omega (arith, q.1, places_length s w b, ltb-true (place_of k (places_of s w b)) (length (places_of s w b)) q.0)
+
+  pub found_suits : {place : ℕ} {t : Bool} → Some place ≡ stored_place k (places_of s w b) → t ≡ suits version (place_at s w b place).stored.session.stamp → t ≡ Of
+  found_suits {place} is e =
+      e ∙ ap (λ (o : Session). suits version o.stamp) (sym (ap or_new (session_is s w b place (found_less is))) ∙ ap (λ (i : ℕ). or_new (session_at (places_of s w b) i)) (stored_at k (places_of s w b) is).1)
+
+  pub new_suits : None ≡ stored_place k (places_of s w b) → true ≡ Of
+  new_suits is = ap (λ (o : Option Place). suits version (or_new (Option.map (λ (y : Place). y.stored.session) o)).stamp) (sym (past_end (places_of s w b)) ∙ ap (get_elem? (places_of s w b)) (sym (new_at k (places_of s w b) (not_stored k (places_of s w b) is))))
+
 -- ---- each way through
 
 module _ (s : Settings) (c : Replica) (seen : Lookup) (row : List Bound) (h e lag : ℕ) (k : Key) (w b : List ℕ) (r : Rules s.shape w b) where
@@ -134,11 +152,15 @@ module _ (s : Settings) (c : Replica) (seen : Lookup) (row : List Bound) (h e la
   abbrev Stored : CoreResult
   Stored = core_says (record { counters = counters_of c; places = opened k places; pending = pending_of w }) (rebind h (new_bound (place_of k places))) (bound h (summary (or_new (session_at places (place_of k places))) lag))
 
-  -- the four tests: a lower epoch, too great a lag, a session place, a place in the row
-  abbrev Tests : Bool → Bool → Bool → Bool → CoreResult
-  Tests t u v x = cond t (core_says At leave (nack h stale_epoch)) (cond u (core_says At leave (nack h lag_too_great)) (cond (not v) (core_refuse At leave 20) (cond (not x) (core_refuse At leave 21) Stored)))
+  -- whether the version takes the session's stamp
+  abbrev Suits : Bool
+  Suits = suits (version_of c.version2) (or_new (session_at places (place_of k places))).stamp
 
-  tests : (room : ℕ) → Bind room ≡ Tests (ltb e c.epoch.0) (ltb s.max_lag lag) (is_stored k places || ltb (length places) s.shape.places) Room
+  -- the five tests: a lower epoch, too great a lag, the stamp, a session place, a place in the row
+  abbrev Tests : Bool → Bool → Bool → Bool → Bool → CoreResult
+  Tests t u y v x = cond t (core_says At leave (nack h stale_epoch)) (cond u (core_says At leave (nack h lag_too_great)) (cond (not y) (core_refuse At leave 32) (cond (not v) (core_refuse At leave 20) (cond (not x) (core_refuse At leave 21) Stored))))
+
+  tests : (room : ℕ) → Bind room ≡ Tests (ltb e c.epoch.0) (ltb s.max_lag lag) Suits (is_stored k places || ltb (length places) s.shape.places) Room
   unfolding core_bind
   tests room = refl
 
@@ -154,75 +176,81 @@ module _ (s : Settings) (c : Replica) (seen : Lookup) (row : List Bound) (h e la
 
   pub stale : {o : Outcome} {a : Answer} → e < c.epoch.0 → o ≡ leaving c a → a ≡ is_nack h 1 → BindIs s c seen row h e lag k w w b b o
   stale less e₁ e₂ =
-      as_left e₁ e₂ refl (exact_nack b h stale_epoch) (λ room. sym (tests room ∙ ap (λ (t : Bool). Tests t (ltb s.max_lag lag) (is_stored k places || ltb (length places) s.shape.places) Room) (lt-ltb e c.epoch.0 less)))
+      as_left e₁ e₂ refl (exact_nack b h stale_epoch) (λ room. sym (tests room ∙ ap (λ (t : Bool). Tests t (ltb s.max_lag lag) Suits (is_stored k places || ltb (length places) s.shape.places) Room) (lt-ltb e c.epoch.0 less)))
 
   -- of an epoch that is not lower
   module _ (high : c.epoch.0 ≤ e) where
-    first : (room : ℕ) → Bind room ≡ Tests false (ltb s.max_lag lag) (is_stored k places || ltb (length places) s.shape.places) Room
-    first room = tests room ∙ ap (λ (t : Bool). Tests t (ltb s.max_lag lag) (is_stored k places || ltb (length places) s.shape.places) Room) (le-ltb e c.epoch.0 high)
+    first : (room : ℕ) → Bind room ≡ Tests false (ltb s.max_lag lag) Suits (is_stored k places || ltb (length places) s.shape.places) Room
+    first room = tests room ∙ ap (λ (t : Bool). Tests t (ltb s.max_lag lag) Suits (is_stored k places || ltb (length places) s.shape.places) Room) (le-ltb e c.epoch.0 high)
 
     pub lagging : {o : Outcome} {a : Answer} → s.max_lag < lag → o ≡ leaving c a → a ≡ is_nack h 3 → BindIs s c seen row h e lag k w w b b o
     lagging great e₁ e₂ =
-        as_left e₁ e₂ refl (exact_nack b h lag_too_great) (λ room. sym (first room ∙ ap (λ (t : Bool). Tests false t (is_stored k places || ltb (length places) s.shape.places) Room) (lt-ltb s.max_lag lag great)))
+        as_left e₁ e₂ refl (exact_nack b h lag_too_great) (λ room. sym (first room ∙ ap (λ (t : Bool). Tests false t Suits (is_stored k places || ltb (length places) s.shape.places) Room) (lt-ltb s.max_lag lag great)))
 
     -- and of a lag that is not too great, with what was found of the places
-    module _ (small : lag ≤ s.max_lag) {seen_at : RustOption ℕ} {has : Bool} (at : seen_at ≡ stored_place k places) (found : has ≡ (is_some seen_at || ltb (get_or w 0 0) s.shape.places)) where
-      same : has ≡ (is_stored k places || ltb (length places) s.shape.places)
-      same =
-          let count : get_or w 0 0 ≡ length places = sym (places_length s.shape w b) in
-          found ∙ (λ j. is_found k places refl at j || ltb (count j) s.shape.places)
+    module _ (small : lag ≤ s.max_lag) {seen_at : RustOption ℕ} (at : seen_at ≡ stored_place k places) {suit : Bool} (suit_is : suit ≡ Suits) where
+      pub long_stamp : {o : Outcome} → suit ≡ false → o ≡ leaving c (is_refused 32) → BindIs s c seen row h e lag k w w b b o
+      long_stamp off e =
+          as_left e refl refl (exact_refused b 32)
+          (λ room. sym (first room ∙ (λ j. Tests false (le-ltb s.max_lag lag small j) ((sym suit_is ∙ off) j) (is_stored k places || ltb (length places) s.shape.places) Room)))
 
-      second : (room : ℕ) → Bind room ≡ Tests false false has Room
-      second room =
-          first room
-          ∙ (λ j. Tests false (le-ltb s.max_lag lag small j) (sym same j) Room)
+      module _ (taken : suit ≡ true) {has : Bool} (found : has ≡ (is_some seen_at || ltb (get_or w 0 0) s.shape.places)) where
+        same : has ≡ (is_stored k places || ltb (length places) s.shape.places)
+        same =
+            let count : get_or w 0 0 ≡ length places = sym (places_length s.shape w b) in
+            found ∙ (λ j. is_found k places refl at j || ltb (count j) s.shape.places)
 
-      pub all_places : {o : Outcome} → has ≡ false → o ≡ leaving c (is_refused 20) → BindIs s c seen row h e lag k w w b b o
-      all_places full e = as_left e refl refl (exact_refused b 20) (λ room. sym (second room ∙ ap (λ (t : Bool). Tests false false t Room) full))
+        second : (room : ℕ) → Bind room ≡ Tests false false true has Room
+        second room =
+            first room
+            ∙ (λ j. Tests false (le-ltb s.max_lag lag small j) ((sym suit_is ∙ taken) j) (sym same j) Room)
 
-      -- and with a session place
-      module _ (some-place : has ≡ true) {freed : RustOption ℕ} (freed_is : freed ≡ rival_of row h (unwrap_or seen_at (get_or w 0 0))) {free : Bool} (fits : free ≡ room_for seen freed) where
-        -- the place that the session has, or will have
-        asked : (o : RustOption ℕ) → o ≡ stored_place k places → unwrap_or o (get_or w 0 0) ≡ place_of k places
-        asked (Some i) e = (stored_at k places e).1
-        asked None e = newly_at s.shape k w b r e
+        pub all_places : {o : Outcome} → has ≡ false → o ≡ leaving c (is_refused 20) → BindIs s c seen row h e lag k w w b b o
+        all_places full e = as_left e refl refl (exact_refused b 20) (λ room. sym (second room ∙ ap (λ (t : Bool). Tests false false true t Room) full))
 
-        rival_is : freed ≡ rival_of row h (place_of k places)
-        rival_is = freed_is ∙ ap (rival_of row h) (asked seen_at at)
+        -- and with a session place
+        module _ (some-place : has ≡ true) {freed : RustOption ℕ} (freed_is : freed ≡ rival_of row h (unwrap_or seen_at (get_or w 0 0))) {free : Bool} (fits : free ≡ room_for seen freed) where
+          -- the place that the session has, or will have
+          asked : (o : RustOption ℕ) → o ≡ stored_place k places → unwrap_or o (get_or w 0 0) ≡ place_of k places
+          asked (Some i) e = (stored_at k places e).1
+          asked None e = newly_at s.shape k w b r e
 
-        third : (room : ℕ) → Bind room ≡ Tests false false true free
-        third room = second room ∙ (λ j. Tests false false (some-place j) (sym (fits ∙ ap (room_for seen) rival_is) j))
+          rival_is : freed ≡ rival_of row h (place_of k places)
+          rival_is = freed_is ∙ ap (rival_of row h) (asked seen_at at)
 
-        pub all_handles : {o : Outcome} → free ≡ false → o ≡ leaving c (is_refused 21) → BindIs s c seen row h e lag k w w b b o
-        all_handles full e = as_left e refl refl (exact_refused b 21) (λ room. sym (third room ∙ ap (Tests false false true) full))
+          third : (room : ℕ) → Bind room ≡ Tests false false true true free
+          third room = second room ∙ (λ j. Tests false false true (some-place j) (sym (fits ∙ ap (room_for seen) rival_is) j))
 
-        pub binds : {place : ℕ} {w' b' : List ℕ} {o : Outcome} {a : Answer} {m : BoundSummary} {g : Bound} → free ≡ true → place ≡ place_of k places → BindOpens s.shape k w w' b b'
-            → ExactSummary b' m → brief_of b' m ≡ summary (place_at s.shape w' b' place).stored.session lag → a ≡ is_bound h m → g ≡ new_handle h place → o ≡ rebinding c seen freed a g → BindIs s c seen row h e lag k w w' b b' o
-        binds {place} {w'} {b'} {m = m} has_room at op is-exact brief e₁ e₂ e₃ =
-            subst (BindIs s c seen row h e lag k w w' b b') (sym (e₃ ∙ (λ j. rebinding c seen freed (e₁ j) (e₂ j)))) (record {
-              is = λ version room holds.
-                  let area : List ℕ = area_at room (spot_of seen freed) holds in
-                  let held : held_run version (take 0 area) ≡ [] = held_none version (take 0 area) (omega (arith, length-take 0 area)) in
-                  let says : brief_of b' m ≡ summary (or_new (session_at places (place_of k places))) lag =
-                  brief ∙ ap (λ (i : ℕ). summary (place_at s.shape w' b' i).stored.session lag) at ∙ ap (λ (x : Session). summary x lag) op.session in
-                  (λ j. record {
-                    core = record { counters = counters_of c; places = op.places j; pending = op.pending j };
-                    action = rebind h (record { place = at j; number = 0; held = held j; bytes = 0 });
-                    answer = reply (bound h (says j));
-                  })
-                  ∙ sym (third room ∙ ap (Tests false false true) has_room);
-              lands = λ room area. record {
-                freed_is = rival_is ∙ ap (rival_of row h) (sym at);
-                at_is = refl;
-                slot_is = λ y. (λ j. record { used = 1; handle = h; place = place; commit_no = record { 0 = 0 }; held_len = sym (ap sizes (held_none 1 (take 0 y) (omega (arith, length-take 0 y)))) j; held_bytes = 0 });
-                slot_place = subst (λ (i : ℕ). i < get_or w' 0 0) (sym at) op.there;
-                holds_none = refl;
-              };
-              rules = op.rules;
-              more = op.more;
-              store_after = op.store_after;
-              exact = exact_bound b' h m is-exact;
-            })
+          pub all_handles : {o : Outcome} → free ≡ false → o ≡ leaving c (is_refused 21) → BindIs s c seen row h e lag k w w b b o
+          all_handles full e = as_left e refl refl (exact_refused b 21) (λ room. sym (third room ∙ ap (Tests false false true true) full))
+
+          pub binds : {place : ℕ} {w' b' : List ℕ} {o : Outcome} {a : Answer} {m : BoundSummary} {g : Bound} → free ≡ true → place ≡ place_of k places → BindOpens s.shape k w w' b b'
+              → ExactSummary b' m → brief_of b' m ≡ summary (place_at s.shape w' b' place).stored.session lag → a ≡ is_bound h m → g ≡ new_handle h place → o ≡ rebinding c seen freed a g → BindIs s c seen row h e lag k w w' b b' o
+          binds {place} {w'} {b'} {m = m} has_room at op is-exact brief e₁ e₂ e₃ =
+              subst (BindIs s c seen row h e lag k w w' b b') (sym (e₃ ∙ (λ j. rebinding c seen freed (e₁ j) (e₂ j)))) (record {
+                is = λ version room holds.
+                    let area : List ℕ = area_at room (spot_of seen freed) holds in
+                    let held : held_run version (take 0 area) ≡ [] = held_none version (take 0 area) (omega (arith, length-take 0 area)) in
+                    let says : brief_of b' m ≡ summary (or_new (session_at places (place_of k places))) lag =
+                    brief ∙ ap (λ (i : ℕ). summary (place_at s.shape w' b' i).stored.session lag) at ∙ ap (λ (x : Session). summary x lag) op.session in
+                    (λ j. record {
+                      core = record { counters = counters_of c; places = op.places j; pending = op.pending j };
+                      action = rebind h (record { place = at j; number = 0; held = held j; bytes = 0 });
+                      answer = reply (bound h (says j));
+                    })
+                    ∙ sym (third room ∙ ap (Tests false false true true) has_room);
+                lands = λ room area. record {
+                  freed_is = rival_is ∙ ap (rival_of row h) (sym at);
+                  at_is = refl;
+                  slot_is = λ y. (λ j. record { used = 1; handle = h; place = place; commit_no = record { 0 = 0 }; held_len = sym (ap sizes (held_none latest (take 0 y) (omega (arith, length-take 0 y)))) j; held_bytes = 0 });
+                  slot_place = subst (λ (i : ℕ). i < get_or w' 0 0) (sym at) op.there;
+                  holds_none = refl;
+                };
+                rules = op.rules;
+                more = op.more;
+                store_after = op.store_after;
+                exact = exact_bound b' h m is-exact;
+              })
 
   -- of the store as it was handed back
   pub binds_in : {w₁ b₁ w' b' : List ℕ} {o : Outcome} → BindIs s c seen row h e lag k w w₁ b b₁ o → w' ≡ w₁ → b' ≡ b₁ → BindIs s c seen row h e lag k w w' b b' o

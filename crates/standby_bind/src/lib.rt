@@ -4,7 +4,9 @@
 
 ghost use Rattle.std.specs.Prelude.{◌≡◌, ◌||◌, ◌<◌, true, ltb, is_some};
 ghost use Rattle.model_session.specs.Summary.{summary};
-ghost use Rattle.model_standby.specs.Store.{place_of};
+ghost use Rattle.model_session.specs.Session.{suits};
+ghost use Rattle.model_standby.specs.Store.{place_of, session_at, or_new};
+ghost use Rattle.frame_stamp.specs.Versions.{version_of};
 ghost use Rattle.frame_fields.specs.Answers.{key_of};
 ghost use Rattle.store_areas.specs.Areas.{Rules, place_at, places_of, used_of};
 ghost use Rattle.store_areas.specs.Same.{SameAreas};
@@ -17,6 +19,7 @@ ghost use Rattle.standby_bind.specs.Binding.{Short, new_handle, BindOpens, BindI
 use base_refusals::Refusal;
 use frame::SessionId;
 use frame_fields::{CommitNumber, Epoch, NackReason};
+use frame_stamp::Protocol;
 use standby_row::Bound;
 use standby_state::{Areas, BoundSummary, Outcome, Standing};
 use store_areas::{Store, word};
@@ -68,6 +71,23 @@ fn open(store: &mut Store, frame: &[u8], session: SessionId, found: Option<usize
     }
 }
 
+// Whether the connection's version takes the stamp of the key's session, if it has one: a new session has none.
+fn suits(
+    store: &Store,
+    frame: &[u8],
+    session: SessionId,
+    found: Option<usize>,
+    version2: u8,
+) -> bool
+    requires { found ≡ stored_place (key_of frame.now session) (places_of store.now.shape store.now.words.now store.now.bytes.now) }
+    ensures { result ≡ suits (version_of version2) (or_new (session_at (places_of store.now.shape store.now.words.now store.now.bytes.now) (place_of (key_of frame.now session) (places_of store.now.shape store.now.words.now store.now.bytes.now)))).stamp }
+{
+    match found {
+        Some(place) => { store_sessions::suits(&store.view(), place, Protocol::of_byte(version2)) }
+        None => true,
+    }
+}
+
 // Whether there is a session place for a key: its own, or a free one.
 fn has_place(used: u64, found: Option<usize>, places: u32) -> bool
     ensures { result ≡ (is_some found || ltb used places) }
@@ -89,7 +109,8 @@ fn new_bound(handle: u32, place: usize) -> Bound
     }
 }
 
-// Nack StaleEpoch, Nack Lag, 20 no free session place for a new key, 21 no place in the row; all are found before anything changes.
+// Nack StaleEpoch, Nack Lag, 32 a stamp that the connection's version doesn't take, 20 no free session place for a new key, 21 no place in the row; all
+// are found before anything changes.
 // The four fields of the frame are taken one by one: a struct of them would be made for this one call.
 pub fn on_bind(
     standing: Standing,
@@ -126,6 +147,9 @@ pub fn on_bind(
         shape: settings.shape,
     };
     let found = place_of(&store, frame, session);
+    if !suits(&store, frame, session, found, counters.version2) {
+        return standby_state::refuse(counters, Refusal::LongStamp);
+    }
     let used = store.words[word::USED];
     if !has_place(used, found, store.shape.places) {
         return standby_state::refuse(counters, Refusal::NoSessionPlace);

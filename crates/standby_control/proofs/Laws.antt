@@ -1,4 +1,5 @@
 -- Each way of a frame that is no Batch is the definition's. Assumes nothing.
+use Rattle.model_text.specs.Version.{latest}
 use Prim.Native.Nat.{ℕ, zero, suc, ◌≤◌}
 use mathlib.Core.Path.{◌≡◌, refl, sym, ap, subst, ◌∙◌}
 use mathlib.Core.Bool.{Bool, true, false, cond, not}
@@ -65,19 +66,19 @@ plain_same L k o room (bound h m) p = refl
 plain_same L k o room (checked h e i) p = refl
 
 -- the last way of `reply`: 19
-pub nineteen : (c : Replica) (s : Settings) (b : List ℕ) (f : Frame) → ((v : ℕ) (e : Epoch) (node : Span) (ks : Run) → f ≡ Frame.Hello v e node ks → ⊥) → ((h : ℕ) (e : Epoch) (i : Incarnation) → f ≡ Frame.Checked h e i → ⊥) → Plain (frame_of 1 b f)
-    → {r : Outcome} → r ≡ leaving c (is_refused 19) → Replies c s (λ L k. core_intact L k none (λ p. false) (frame_of 1 b f)) r
+pub nineteen : (c : Replica) (s : Settings) (b : List ℕ) (f : Frame) → ((v : ℕ) (e : Epoch) (node : Span) (ks : Run) → f ≡ Frame.Hello v e node ks → ⊥) → ((h : ℕ) (e : Epoch) (i : Incarnation) → f ≡ Frame.Checked h e i → ⊥) → Plain (frame_of latest b f)
+    → {r : Outcome} → r ≡ leaving c (is_refused 19) → Replies c s (λ L k. core_intact L k none (λ p. false) (frame_of latest b f)) r
 nineteen c s b (Frame.Hello v e node ks) h q p e₁ = absurd (h v e node ks refl)
 nineteen c s b (Frame.Welcome e i) h q p e₁ = as_left c s (λ L k. core_intact L k none (λ p. false) (welcome e.0 i.0)) e₁ (λ y. exact_refused y 19) (λ room x ps pending. refl)
 nineteen c s b (Frame.Bind x e lag k) h q p e₁ = absurd p
-nineteen c s b (Frame.Bound x m) h q p e₁ = as_left c s (λ L k. core_intact L k none (λ p. false) (frame_of 1 b (Frame.Bound x m))) e₁ (λ y. exact_refused y 19) (λ room y ps pending. refl)
+nineteen c s b (Frame.Bound x m) h q p e₁ = as_left c s (λ L k. core_intact L k none (λ p. false) (frame_of latest b (Frame.Bound x m))) e₁ (λ y. exact_refused y 19) (λ room y ps pending. refl)
 nineteen c s b (Frame.Batch x) h q p e₁ = absurd p
 nineteen c s b (Frame.Ack x n) h q p e₁ = as_left c s (λ L k. core_intact L k none (λ p. false) (ack x n.0)) e₁ (λ y. exact_refused y 19) (λ room y ps pending. refl)
-nineteen c s b (Frame.Nack x r) h q p e₁ = as_left c s (λ L k. core_intact L k none (λ p. false) (frame_of 1 b (Frame.Nack x r))) e₁ (λ y. exact_refused y 19) (λ room y ps pending. refl)
+nineteen c s b (Frame.Nack x r) h q p e₁ = as_left c s (λ L k. core_intact L k none (λ p. false) (frame_of latest b (Frame.Nack x r))) e₁ (λ y. exact_refused y 19) (λ room y ps pending. refl)
 nineteen c s b (Frame.Checked x e i) h q p e₁ = absurd (q x e i refl)
 
 -- the last way of `answer`: no Bind
-pub plain_of : (b : List ℕ) (f : Frame) → ((h : ℕ) (e : Epoch) (lag : ℕ) (k : SessionId) → f ≡ Frame.Bind h e lag k → ⊥) → Fit (frame_of 1 b f) → Plain (frame_of 1 b f)
+pub plain_of : (b : List ℕ) (f : Frame) → ((h : ℕ) (e : Epoch) (lag : ℕ) (k : SessionId) → f ≡ Frame.Bind h e lag k → ⊥) → Fit (frame_of latest b f) → Plain (frame_of latest b f)
 plain_of b (Frame.Hello v e node ks) h p = tt
 plain_of b (Frame.Welcome e i) h p = tt
 plain_of b (Frame.Bind x e lag k) h p = absurd (h x e lag k refl)

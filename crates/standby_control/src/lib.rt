@@ -2,6 +2,7 @@
 #![tactic(auto)]
 
 ghost use Rattle.std.specs.Prelude.{◌≡◌, false, ◌≤◌, length};
+ghost use Rattle.model_text.specs.Version.{latest};
 ghost use Rattle.std.proofs.Math.Option.{none};
 ghost use Rattle.model_frame.specs.Parse.{is_empty, read_num};
 ghost use Rattle.frame_op.specs.Answers.{run_of};
@@ -50,8 +51,8 @@ fn answer_by_counters(
     settings: Settings,
     decoded: Frame,
 ) -> Outcome
-    requires { Plain (frame_of 1 frame.now decoded) }
-    ensures { Replies counters settings (λ L k. core_intact L k none (λ p. false) (frame_of 1 frame.now decoded)) result }
+    requires { Plain (frame_of latest frame.now decoded) }
+    ensures { Replies counters settings (λ L k. core_intact L k none (λ p. false) (frame_of latest frame.now decoded)) result }
 {
     match decoded {
         Frame::Hello {
@@ -75,8 +76,8 @@ fn answer_by_counters(
 // What the frame answers, once due commits have run.
 fn answer(standing: Standing, areas: &mut Areas, frame: &[u8], decoded: Frame) -> Outcome
     requires rules { Rules standing.settings.shape areas.old.words.now areas.old.bytes.now }
-    requires fit { Fit (frame_of 1 frame.now decoded) }
-    ensures is { OtherIs standing.settings standing.counters standing.lookup areas.old.row.now (frame_of 1 frame.now decoded) areas.old.words.now areas.new.words.now areas.old.bytes.now areas.new.bytes.now result }
+    requires fit { Fit (frame_of latest frame.now decoded) }
+    ensures is { OtherIs standing.settings standing.counters standing.lookup areas.old.row.now (frame_of latest frame.now decoded) areas.old.words.now areas.new.words.now areas.old.bytes.now areas.new.bytes.now result }
     ensures holds { areas.new.holds.now ≡ areas.old.holds.now }
     ensures same { SameLent areas.old areas.new }
 {
@@ -103,8 +104,8 @@ pub fn run_due_then_answer(
     decoded: Frame,
 ) -> Outcome
     requires rules { Rules standing.settings.shape areas.old.words.now areas.old.bytes.now }
-    requires fit { Fit (frame_of 1 frame.now decoded) }
-    ensures is { OtherIn standing.settings standing.counters standing.lookup areas.old.row.now (frame_of 1 frame.now decoded) areas.old.words.now areas.new.words.now areas.old.bytes.now areas.new.bytes.now result }
+    requires fit { Fit (frame_of latest frame.now decoded) }
+    ensures is { OtherIn standing.settings standing.counters standing.lookup areas.old.row.now (frame_of latest frame.now decoded) areas.old.words.now areas.new.words.now areas.old.bytes.now areas.new.bytes.now result }
     ensures holds { areas.new.holds.now ≡ areas.old.holds.now }
     ensures same { SameLent areas.old areas.new }
 {

@@ -11,6 +11,8 @@ pub struct Replica {
     pub connections: u64,
     pub promoted: u8,
     pub checked: u8,
+    // The connection's version: 0 is version 1, every other value version 2. It is set by an accepted Hello and stays past a drop.
+    pub version2: u8,
 }
 
 impl Replica {

@@ -10,6 +10,7 @@ use lib.Dec.{eqb, leb, T}
 use borrow.Author.Tests.{ne_eqb, eq-eqb, leb-true}
 use Rattle.base_laws.proofs.Lists.{both}
 use Rattle.model_text.specs.Printable.{is_printable, is_key}
+use Rattle.model_text.specs.Version.{latest}
 use Rattle.model_frame.specs.Bytes.{is_bytes}
 use Rattle.model_frame.specs.Frame.{Key, Fault, too_long, truncated, unknown, bad_text, bad_session, bad_timestamp, bad_marks, fault_number, hello, welcome, bind, batch, ack, nack, bound, checked}
 use Rattle.model_frame.specs.Frame as the_frame
@@ -18,13 +19,15 @@ use Rattle.model_frame.specs.Reading.{decode}
 use Rattle.model_frame.specs.Writing.{fine, fine_key, Writable}
 use Rattle.model_text.specs.Utf8.{utf8}
 use Rattle.model_frame.proofs.Sound.{decode_sound}
+use Rattle.model_frame.proofs.Wider.{decode_wider}
 use Rattle.frame_reader.specs.declared.FrameError.{FrameError}
 use Rattle.std.specs.Prelude as the_option
 use Rattle.std.specs.Prelude.{Result, Ok, Err, Some, None}
 use Rattle.frame_reader.specs.Answers.{fault_of}
 use Rattle.frame.specs.declared.Frame.{Frame}
 use Rattle.frame_fields.specs.declared.Batch.{Batch}
-use Rattle.frame.specs.Answers.{frame_of, reading_of}
+use Rattle.frame.specs.Answers.{frame_of, reading_of, readable}
+use Rattle.frame.proofs.Latest.{frame_latest}
 use Rattle.model_standby.specs.Answer.{damaged, intact, judged, given}
 use Rattle.model_standby.specs.State.{Bound, Counters}
 use Rattle.model_standby.specs.State as state
@@ -46,30 +49,34 @@ number_some bad_marks = refl
 
 -- ---- what was handed in
 
-given_as : (w : List ℕ) (d : Result (the_option.Option (Frame × ℕ)) FrameError) → reading_of 1 w d ≡ decode 1 w → given w ≡ judged (length w) (reading_of 1 w d)
-unfolding given
-given_as w d read = sym (ap (judged (length w)) read)
+module _ (version : ℕ) (w : List ℕ) where
+  given_as : (d : Result (the_option.Option (Frame × ℕ)) FrameError) → reading_of version w d ≡ decode version w → given version w ≡ judged (length w) (reading_of version w d)
+  unfolding given
+  given_as d read = sym (ap (judged (length w)) read)
 
-pub given_bad : (w : List ℕ) (e : FrameError) → reading_of 1 w (Err e) ≡ decode 1 w → given w ≡ damaged (fault_number (fault_of e))
-given_bad w e = given_as w (Err e)
+  pub given_bad : (e : FrameError) → reading_of version w (Err e) ≡ decode version w → given version w ≡ damaged (fault_number (fault_of e))
+  given_bad e = given_as (Err e)
 
-pub given_more : (w : List ℕ) → reading_of 1 w (Ok None) ≡ decode 1 w → given w ≡ damaged 26
-given_more w = given_as w (Ok None)
+  pub given_more : reading_of version w (Ok None) ≡ decode version w → given version w ≡ damaged 26
+  given_more = given_as (Ok None)
 
-module _ (w : List ℕ) (f : Frame) (n : ℕ) (read : reading_of 1 w (Ok (Some (f, n))) ≡ decode 1 w) where
-  pub given_short : (n ≡ length w → ⊥) → given w ≡ damaged 26
-  given_short off = given_as w (Ok (Some (f, n))) read ∙ ap (λ (t : Bool). cond t (intact (frame_of 1 (take n w) f)) (damaged 26)) (ne_eqb n (length w) off)
+  module _ (f : Frame) (n : ℕ) (read : reading_of version w (Ok (Some (f, n))) ≡ decode version w) where
+    pub given_short : (n ≡ length w → ⊥) → given version w ≡ damaged 26
+    given_short off = given_as (Ok (Some (f, n))) read ∙ ap (λ (t : Bool). cond t (intact (frame_of version (take n w) f)) (damaged 26)) (ne_eqb n (length w) off)
 
-  all : n ≡ length w → take n w ≡ w
-  all is = ap (λ (k : ℕ). take k w) is ∙ take-length w
+    all : n ≡ length w → take n w ≡ w
+    all is = ap (λ (k : ℕ). take k w) is ∙ take-length w
 
-  pub given_whole : n ≡ length w → given w ≡ intact (frame_of 1 w f)
-  given_whole is =
-      given_as w (Ok (Some (f, n))) read ∙ ap (λ (t : Bool). cond t (intact (frame_of 1 (take n w) f)) (damaged 26)) (eq-eqb n (length w) is) ∙ ap (λ (b : List ℕ). intact (frame_of 1 b f)) (all is)
+    -- the frame is said as the latest version reads it
+    pub given_whole : readable version w f ≡ true → n ≡ length w → given version w ≡ intact (frame_of latest w f)
+    given_whole stands is =
+        given_as (Ok (Some (f, n))) read ∙ ap (λ (t : Bool). cond t (intact (frame_of version (take n w) f)) (damaged 26)) (eq-eqb n (length w) is) ∙ ap (λ (b : List ℕ). intact (frame_of version b f)) (all is)
+        ∙ ap intact (frame_latest version w f stands)
 
-  pub read_writable : T (is_bytes w) → n ≡ length w → Writable 1 (frame_of 1 w f)
-  read_writable t is =
-      subst (λ (b : List ℕ). Writable 1 (frame_of 1 b f)) (all is) (decode_sound 1 w t (sym read)).writable
+    pub read_writable : readable version w f ≡ true → T (is_bytes w) → n ≡ length w → Writable latest (frame_of latest w f)
+    read_writable stands t is =
+        subst (Writable latest) (frame_latest version w f stands)
+        (subst (λ (b : List ℕ). Writable latest (frame_of version b f)) (all is) (decode_sound latest w t (decode_wider version w (sym read))).writable)
 
 -- ---- frames that are no Batch
 
@@ -92,7 +99,7 @@ key_short k e =
     let p = both B S q.0 in
     record { begin = printable_short 1 32 k.begin p.0; sender = printable_short 1 32 k.sender p.1; target = printable_short 1 32 k.target q.1; suffix = printable_short 0 32 k.suffix r.1 }
 
-pub fit_of : (b : List ℕ) (f : Frame) → ((x : Batch) → f ≡ Frame.Batch x → ⊥) → Writable 1 (frame_of 1 b f) → Fit (frame_of 1 b f)
+pub fit_of : (b : List ℕ) (f : Frame) → ((x : Batch) → f ≡ Frame.Batch x → ⊥) → Writable latest (frame_of latest b f) → Fit (frame_of latest b f)
 unfolding fine
 fit_of b (Frame.Hello v e node ks) h p = tt
 fit_of b (Frame.Welcome e i) h p = tt

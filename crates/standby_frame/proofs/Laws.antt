@@ -22,7 +22,10 @@ use Rattle.store_areas.proofs.Ruling.{rules_of}
 use Rattle.standby_pending.specs.Pending.{pending_of}
 use Rattle.standby_pending_run.specs.Commits.{ran_words, RanIf}
 use Rattle.standby_commit.specs.Settling.{StoreChange, stays, batch_change, StoreAfter}
-use Rattle.model_standby.specs.Answer.{protocol_version, Given, damaged, intact, given, handle_in, reply, refused, done, accepted, is_reply}
+use Rattle.model_text.specs.Version.{latest}
+use Rattle.model_standby.specs.Answer.{Given, damaged, intact, given, handle_in, reply, refused, done, accepted, is_reply}
+use Rattle.frame_stamp.specs.Versions.{version_of}
+use Rattle.model_standby.proofs.Factoring.{given_latest}
 use Rattle.model_standby.specs.Store.{Place}
 use Rattle.model_standby.specs.State.{Bound, Call, on_frame_held, on_frame}
 use Rattle.model_standby.specs.State as state
@@ -62,7 +65,7 @@ batch_intact s c seen row h e n part cs apps w w' b b' l l' r g = record {
 pub other_intact : (s : Settings) (c : Replica) (seen : Lookup) (row : List BoundRecord) (f : the_frame.Frame) → Fit f → (w w' b b' l : List ℕ) {l' : List ℕ} (r : Outcome) → OtherIn s c seen row f w w' b b' r → l' ≡ l → IntactIs s c seen row f w w' b b' l l' r
 other_intact s c seen row f fit w w' b b' l r g same = subst (λ (x : List ℕ). IntactIs s c seen row f w w' b b' l x r) (sym same) (record {
   is = λ own.
-      g.is protocol_version (room_in seen l) l (found_in seen l)
+      g.is latest (room_in seen l) l (found_in seen l)
       ∙ ap (λ (t : Bool). core_intact (settings_of s (room_in seen l)) (core_run t (core_at (counters_of c) s.shape w b)) (found_in seen l) (rooms_in seen row (handle_in (intact f))) f) (due_other (pending_of w) f fit);
   lands = g.lands (room_in seen l) (area_at (room_in seen l) (own_place seen) l);
   rules = g.rules;
@@ -101,10 +104,14 @@ module _ (s : Settings) (c : Replica) (seen : Lookup) (row : List BoundRecord) (
   abbrev F : Option Bound
   F = found_in seen h
 
-  abbrev room : ℕ → Bool
-  room = rooms_in seen row (handle_in (given frame))
+  -- the connection's version
+  abbrev V : ℕ
+  V = version_of c.version2
 
-  held_is : core_step L K F room (on_frame_held frame) ≡ core_given L K F room (given frame)
+  abbrev room : ℕ → Bool
+  room = rooms_in seen row (handle_in (given latest frame))
+
+  held_is : core_step L K F room (on_frame_held frame) ≡ core_given L K F room (given V frame)
   unfolding core_step
   held_is = refl
 
@@ -112,7 +119,7 @@ module _ (s : Settings) (c : Replica) (seen : Lookup) (row : List BoundRecord) (
   refused_is n x e = ap (λ (t : Bool). cond t done (refused n)) e
 
   -- refused, and all is as it was
-  all_left : (g : Given) → given frame ≡ g → (n : ℕ) → eqb n 0 ≡ false → core_given L K F room g ≡ core_refuse K leave n → due_now (is_set c.promoted) (pending_of w) g ≡ false → writes L (counters_of c) F g ≡ none
+  all_left : (g : Given) → given V frame ≡ g → (n : ℕ) → eqb n 0 ≡ false → core_given L K F room g ≡ core_refuse K leave n → due_now (is_set c.promoted) (pending_of w) g ≡ false → writes L (counters_of c) F g ≡ none
       → {r : Outcome} → r ≡ leaving c (is_refused n) → Takes s c seen row frame w w b b h h r
   all_left g is n off core due-none none_written e₁ =
       subst (Takes s c seen row frame w w b b h h) (sym e₁)
@@ -127,8 +134,8 @@ module _ (s : Settings) (c : Replica) (seen : Lookup) (row : List BoundRecord) (
           leaves = record {
             mid = w;
             store_after =
-                subst (λ (x : StoreChange). StoreAfter s.shape x (cond (due_now (is_set c.promoted) (pending_of w) (given frame)) (ran_words s.shape w) w) w b b)
-                (sym (ap (changes_by (places_of s.shape w b) (own_record seen).place (given frame)) (ap accepted (refused_is n b off)) ∙ off_stays (places_of s.shape w b) (own_record seen).place (given frame)))
+                subst (λ (x : StoreChange). StoreAfter s.shape x (cond (due_now (is_set c.promoted) (pending_of w) (given V frame)) (ran_words s.shape w) w) w b b)
+                (sym (ap (changes_by (places_of s.shape w b) (own_record seen).place (given V frame)) (ap accepted (refused_is n b off)) ∙ off_stays (places_of s.shape w b) (own_record seen).place (given V frame)))
                 (sym (ap (λ (t : Bool). cond t (ran_words s.shape w) w) (ap (due_now (is_set c.promoted) (pending_of w)) is ∙ due-none)), refl);
             last = refl;
           };
@@ -137,11 +144,11 @@ module _ (s : Settings) (c : Replica) (seen : Lookup) (row : List BoundRecord) (
         exact = exact_refused b n;
       })
 
-  pub damaged_left : (n : ℕ) → given frame ≡ damaged n → eqb n 0 ≡ false → {r : Outcome} → r ≡ leaving c (is_refused n) → Takes s c seen row frame w w b b h h r
+  pub damaged_left : (n : ℕ) → given V frame ≡ damaged n → eqb n 0 ≡ false → {r : Outcome} → r ≡ leaving c (is_refused n) → Takes s c seen row frame w w b b h h r
   unfolding core_given writes
   damaged_left n is off e₁ = all_left (damaged n) is n off refl refl refl e₁
 
-  pub promoted_left : (f : the_frame.Frame) → given frame ≡ intact f → (c.promoted ≡ 0 → ⊥) → {r : Outcome} → r ≡ leaving c (is_refused 10) → Takes s c seen row frame w w b b h h r
+  pub promoted_left : (f : the_frame.Frame) → given V frame ≡ intact f → (c.promoted ≡ 0 → ⊥) → {r : Outcome} → r ≡ leaving c (is_refused 10) → Takes s c seen row frame w w b b h h r
   unfolding core_given writes
   promoted_left f is on e₁ =
       all_left (intact f) is 10 refl
@@ -150,16 +157,17 @@ module _ (s : Settings) (c : Replica) (seen : Lookup) (row : List BoundRecord) (
       (ap (λ (t : Bool). cond t none (writes_frame L (counters_of c) F f)) (set_so c.promoted on))
       e₁
 
-  pub intact_taken : (f : the_frame.Frame) → given frame ≡ intact f → c.promoted ≡ 0 → {w' b' h' : List ℕ} {r : Outcome} → IntactIs s c seen row f w w' b b' h h' r → Takes s c seen row frame w w' b b' h h' r
+  pub intact_taken : (f : the_frame.Frame) → given V frame ≡ intact f → c.promoted ≡ 0 → {w' b' h' : List ℕ} {r : Outcome} → IntactIs s c seen row f w w' b b' h h' r → Takes s c seen row frame w w' b b' h h' r
   unfolding core_given writes
   intact_taken f is off {w'} {b'} {h'} {r} g = record {
     rules = g.rules;
     steps = λ own.
-        let mine : Own seen f = λ found asks. own found (ap has_handle is ∙ asks) ∙ ap handle_in is in
+        let wide : given latest frame ≡ intact f = given_latest V frame is in
+        let mine : Own seen f = λ found asks. own found (ap has_handle wide ∙ asks) ∙ ap handle_in wide in
         record {
           is =
               g.is mine
-              ∙ ap (λ (x : Given). core_intact L (core_run (due (pending_of w) f) K) F (rooms_in seen row (handle_in x)) f) (sym is)
+              ∙ ap (λ (x : Given). core_intact L (core_run (due (pending_of w) f) K) F (rooms_in seen row (handle_in x)) f) (sym wide)
               ∙ sym (held_is ∙ ap (core_given L K F room) is ∙ ap (λ (t : Bool). cond t (core_refuse K leave 10) (core_intact L (core_run (due (pending_of w) f) K) F room f)) (clear_so c.promoted off));
           lands = g.lands;
           kept = λ e. absurd (true≢false (sym e ∙ ap (keeps_by (is_set c.promoted)) is ∙ clear_so c.promoted off));
@@ -218,10 +226,10 @@ module _ (s : Settings) (c : Replica) (seen : Lookup) (row : List BoundRecord) (
       core_ran : core_at (counters_of r.replica) s.shape w' b' ≡ core_run (is_reply (answer_of b' r.answer)) (core_at (counters_of r.replica) s.shape w1 b')
       core_ran = (λ j. record { counters = counters_of r.replica; places = ran.places j; pending = ran.pending j }) ∙ ap (λ (t : Bool). core_run t (core_at (counters_of r.replica) s.shape w1 b')) replies
 
-      flushed_is : (m : CoreResult) → outcome_of protocol_version (room_in seen h) s.shape w1 b' h' r ≡ m
-          → outcome_of protocol_version (room_in seen h) s.shape w' b' h' r ≡ core_flushed (settings_of s (room_in seen h)) m
+      flushed_is : (m : CoreResult) → outcome_of latest (room_in seen h) s.shape w1 b' h' r ≡ m
+          → outcome_of latest (room_in seen h) s.shape w' b' h' r ≡ core_flushed (settings_of s (room_in seen h)) m
       flushed_is m p =
-          (λ j. record { core = core_ran j; action = action_of protocol_version (room_in seen h) h' r; answer = answer_of b' r.answer }) ∙ ap (core_flushed (settings_of s (room_in seen h))) p
+          (λ j. record { core = core_ran j; action = action_of latest (room_in seen h) h' r; answer = answer_of b' r.answer }) ∙ ap (core_flushed (settings_of s (room_in seen h))) p
 
       pub now_steps : StepIs s c seen row (on_frame frame) w w' b b' h h' r
       unfolding core_step

@@ -6,7 +6,8 @@ use Rattle.standby_row.specs.declared.lookup.Lookup.{Lookup}
 use Rattle.standby_row.specs.Row.{own_place, own_record}
 use Rattle.store_areas.specs.Areas.{Rules, places_of, used_of}
 use Rattle.standby_pending.specs.Pending.{pending_of}
-use Rattle.model_standby.specs.Answer.{protocol_version, intact, given, handle_in, accepted}
+use Rattle.model_text.specs.Version.{latest}
+use Rattle.model_standby.specs.Answer.{intact, given, handle_in, accepted}
 use Rattle.model_standby.specs.State.{on_frame_held}
 use Rattle.model_standby.specs.Standby.{due}
 use Rattle.model_standby.specs.Hold.{writes_frame}
@@ -31,7 +32,7 @@ Own seen f = is_found seen ≡ true → has_handle (intact f) ≡ true → (own_
 
 pub record IntactIs (s : Settings) (c : Replica) (seen : Lookup) (row : List BoundRecord) (f : Frame) (w w' b b' h h' : List ℕ) (r : Outcome) : Type 0 where
   pub is : Own seen f
-      → outcome_of protocol_version (room_in seen h) s.shape w' b' h' r
+      → outcome_of latest (room_in seen h) s.shape w' b' h' r
       ≡ core_intact (settings_of s (room_in seen h)) (core_run (due (pending_of w) f) (core_at (counters_of c) s.shape w b)) (found_in seen h) (rooms_in seen row (handle_in (intact f))) f
   pub lands : Lands seen row (used_of w') (room_in seen h) (area_at (room_in seen h) (own_place seen) h') r.action
   pub rules : Rules s.shape w' b'
@@ -42,5 +43,5 @@ pub record IntactIs (s : Settings) (c : Replica) (seen : Lookup) (row : List Bou
 
 pub record Takes (s : Settings) (c : Replica) (seen : Lookup) (row : List BoundRecord) (frame w w' b b' h h' : List ℕ) (r : Outcome) : Type 0 where
   pub rules : Rules s.shape w' b'
-  pub steps : (is_found seen ≡ true → has_handle (given frame) ≡ true → (own_record seen).handle ≡ handle_in (given frame)) → Stepped s c seen row (on_frame_held frame) w w' b b' h h' r
+  pub steps : (is_found seen ≡ true → has_handle (given latest frame) ≡ true → (own_record seen).handle ≡ handle_in (given latest frame)) → Stepped s c seen row (on_frame_held frame) w w' b b' h h' r
   pub exact : Exact b' r.answer

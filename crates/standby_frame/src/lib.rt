@@ -5,6 +5,7 @@
 #![tactic(auto)]
 
 ghost use Rattle.std.specs.Prelude.{◌≡◌, true};
+ghost use Rattle.model_text.specs.Version.{latest};
 ghost use Rattle.model_frame.specs.Writing.{Writable};
 ghost use Rattle.frame.specs.Answers.{frame_of, Sized};
 ghost use Rattle.store_areas.specs.Areas.{Rules};
@@ -26,9 +27,9 @@ use standby_state::{Answer, Areas, Outcome, Standing};
 fn on_decoded(standing: Standing, areas: &mut Areas, frame: &[u8], decoded: Frame) -> Outcome
     requires rules { Rules standing.settings.shape areas.old.words.now areas.old.bytes.now }
     requires record_rules_in { is_found standing.lookup ≡ true → RecordRulesIn standing.lookup areas.old.words.now areas.old.holds.now }
-    requires writable { Writable 1 (frame_of 1 frame.now decoded) }
-    requires sized { Sized 1 frame.now decoded }
-    ensures is { IntactIs standing.settings standing.counters standing.lookup areas.old.row.now (frame_of 1 frame.now decoded) areas.old.words.now areas.new.words.now areas.old.bytes.now areas.new.bytes.now areas.old.holds.now areas.new.holds.now result }
+    requires writable { Writable latest (frame_of latest frame.now decoded) }
+    requires sized { Sized latest frame.now decoded }
+    ensures is { IntactIs standing.settings standing.counters standing.lookup areas.old.row.now (frame_of latest frame.now decoded) areas.old.words.now areas.new.words.now areas.old.bytes.now areas.new.bytes.now areas.old.holds.now areas.new.holds.now result }
     ensures same { SameLent areas.old areas.new }
 {
     match decoded {
@@ -37,7 +38,7 @@ fn on_decoded(standing: Standing, areas: &mut Areas, frame: &[u8], decoded: Fram
     }
 }
 
-// The areas keep the rules (25): the bytes are read as a frame.
+// The areas keep the rules (25): the bytes are read as a frame, in the connection's version. What is read so, the latest version reads alike.
 fn on_bytes(standing: Standing, areas: &mut Areas, frame: &[u8]) -> Outcome
     requires rules { Rules standing.settings.shape areas.old.words.now areas.old.bytes.now }
     requires record_rules_in { is_found standing.lookup ≡ true → RecordRulesIn standing.lookup areas.old.words.now areas.old.holds.now }
@@ -45,10 +46,7 @@ fn on_bytes(standing: Standing, areas: &mut Areas, frame: &[u8]) -> Outcome
     ensures same { SameLent areas.old areas.new }
 {
     let counters = standing.counters;
-    let protocol = Protocol {
-        version: Frame::VERSION,
-    };
-    match Frame::decode(protocol, frame) {
+    match Frame::decode(Protocol::of_byte(counters.version2), frame) {
         Err(e) => standby_state::unchanged(counters, standby_state::refused(e.number())),
         Ok(None) => standby_state::refuse(counters, Refusal::NotOneFrame),
         Ok(Some((f, n))) => {

@@ -5,6 +5,8 @@ use mathlib.Core.List.{List, []}
 use Prim.Native.Nat.{ℕ, ◌<◌, ◌≤◌, max}
 use lib.Dec.{eqb, ltb}
 use borrow.Author.Tests.{lt-ltb, le-ltb, ne_eqb, eq-eqb}
+use Rattle.model_text.specs.Version.{is_version}
+use Rattle.frame_stamp.specs.Versions.{version_of}
 use Rattle.model_frame.specs.Frame.{welcome, nack, ack, stale_epoch, restarted}
 use Rattle.model_frame.specs.Parse.{is_empty}
 use Rattle.frame_fields.specs.declared.Epoch.{Epoch}
@@ -58,20 +60,20 @@ module _ (c : Replica) (s : Settings) where
     Hello L k = core_hello L k v e kinds
 
     abbrev Lower : state.Settings → Core → Bool → CoreResult
-    Lower L k t = cond t (core_says k leave (welcome k.counters.epoch (max L.incarnation 1))) (core_says (counting (core_unbound k) (connected e k.counters)) clear (welcome e (max L.incarnation 1)))
+    Lower L k t = cond t (core_says k leave (welcome k.counters.epoch (max L.incarnation 1))) (core_says (counting (core_unbound k) (connected v e k.counters)) clear (welcome e (max L.incarnation 1)))
 
     abbrev Tests : state.Settings → Core → Bool → Bool → CoreResult
     Tests L k t u = cond (not t) (core_refuse k leave 11) (cond (not u) (core_refuse k leave 12) (Lower L k (ltb e k.counters.epoch)))
 
-    pub other_version : {r : Outcome} → (v ≡ 1 → ⊥) → r ≡ leaving c (is_refused 11) → Replies c s Hello r
+    pub other_version : {r : Outcome} → is_version v ≡ false → r ≡ leaving c (is_refused 11) → Replies c s Hello r
     unfolding core_hello
-    other_version off e = as_left Hello e (λ b. exact_refused b 11) (λ room b ps pending. sym (ap (λ (t : Bool). Tests (settings_of s room) (At c ps pending) t (is_empty kinds)) (ne_eqb v 1 off)))
+    other_version off e = as_left Hello e (λ b. exact_refused b 11) (λ room b ps pending. sym (ap (λ (t : Bool). Tests (settings_of s room) (At c ps pending) t (is_empty kinds)) off))
 
-    -- of version 1
-    module _ (one : v ≡ 1) where
+    -- of a version that there is
+    module _ (one : is_version v ≡ true) where
       first : (L : state.Settings) (k : Core) → Hello L k ≡ Tests L k true (is_empty kinds)
       unfolding core_hello
-      first L k = ap (λ (t : Bool). Tests L k t (is_empty kinds)) (eq-eqb v 1 one)
+      first L k = ap (λ (t : Bool). Tests L k t (is_empty kinds)) one
 
       pub some_kinds : {r : Outcome} → is_empty kinds ≡ false → r ≡ leaving c (is_refused 12) → Replies c s Hello r
       some_kinds off e =
@@ -88,12 +90,13 @@ module _ (c : Replica) (s : Settings) where
             ap (λ (x : ℕ). record { core = At c ps pending; action = leave; answer = reply (welcome c.epoch.0 x) }) own
             ∙ sym (second (settings_of s room) (At c ps pending) ∙ ap (Lower (settings_of s room) (At c ps pending)) (lt-ltb e c.epoch.0 less)))
 
-        pub taken : {r : Outcome} {a : Answer} {i : Incarnation} {d : Replica} {n : Epoch} → n.0 ≡ e → c.epoch.0 ≤ e → i.0 ≡ max s.incarnation.0 1 → d ≡ connected_to c n → r ≡ clearing d a → a ≡ is_welcome n i
+        pub taken : {r : Outcome} {a : Answer} {i : Incarnation} {d : Replica} {n : Epoch} {x : ℕ} → version_of x ≡ v → n.0 ≡ e → c.epoch.0 ≤ e → i.0 ≡ max s.incarnation.0 1 → d ≡ connected_to c n x → r ≡ clearing d a → a ≡ is_welcome n i
             → Replies c s Hello r
-        taken {i = i} {n = n} is high own e₀ e₁ e₂ =
+        taken {i = i} {n = n} {x = b₂} spoken is high own e₀ e₁ e₂ =
             as_cleared Hello (e₁ ∙ (λ j. clearing (e₀ j) (e₂ j))) (λ b. exact_welcome b n i) (λ room b ps pending.
-            ap (λ (x : ℕ). record { core = At (connected_to c n) ps []; action = clear; answer = reply (welcome n.0 x) }) own
-            ∙ ap (λ (x : ℕ). record { core = At (connected_to c (record { 0 = x })) ps []; action = clear; answer = reply (welcome x (max s.incarnation.0 1)) }) is
+            ap (λ (x : ℕ). record { core = At (connected_to c n b₂) ps []; action = clear; answer = reply (welcome n.0 x) }) own
+            ∙ ap (λ (x : ℕ). record { core = At (connected_to c (record { 0 = x }) b₂) ps []; action = clear; answer = reply (welcome x (max s.incarnation.0 1)) }) is
+            ∙ ap (λ (x : ℕ). record { core = record { counters = connected x e (counters_of c); places = ps; pending = [] }; action = clear; answer = reply (welcome e (max s.incarnation.0 1)) }) spoken
             ∙ sym (second (settings_of s room) (At c ps pending) ∙ ap (Lower (settings_of s room) (At c ps pending)) (le-ltb e c.epoch.0 high)))
 
   -- ---- Checked

@@ -13,11 +13,12 @@ use Rattle.standby_state.specs.Answers.{answer_of}
 use Rattle.standby_state.specs.Exact.{Exact}
 use Rattle.standby_state.specs.Outcomes.{counters_of, settings_of, action_of, clears, stores}
 
-abbrev pub connected_to : Replica → Epoch → Replica
-connected_to c e = record { epoch = e; connections = min (suc c.connections) top; promoted = c.promoted; checked = c.checked }
+-- by a Hello of this version, as the counters have it
+abbrev pub connected_to : Replica → Epoch → ℕ → Replica
+connected_to c e version2 = record { epoch = e; connections = min (suc c.connections) top; promoted = c.promoted; checked = c.checked; version2 = version2 }
 
 abbrev pub checked_to : Replica → Epoch → Replica
-checked_to c e = record { epoch = e; connections = c.connections; promoted = c.promoted; checked = 1 }
+checked_to c e = record { epoch = e; connections = c.connections; promoted = c.promoted; checked = 1; version2 = c.version2 }
 
 -- equal to the definition m, whatever the places, the pending commits and the hold areas; no record is put
 pub record Replies (c : Replica) (s : Settings) (m : state.Settings → Core → CoreResult) (r : Outcome) : Type 0 where

@@ -5,8 +5,8 @@ ghost use Rattle.std.specs.Prelude.{◌≡◌, ℕ, max};
 ghost use Rattle.standby_hello.specs.Greeting.{HelloIs, CheckedIs, connected_to, checked_to};
 
 use base_refusals::Refusal;
-use frame::Frame;
 use frame_fields::{CommitNumber, Epoch, Incarnation, NackReason};
+use frame_stamp::Protocol;
 use standby_state::{Outcome, Replica, Settings};
 
 // This run of the standby: 0 is taken as 1.
@@ -16,13 +16,14 @@ pub fn incarnation(settings: Settings) -> Incarnation
     Incarnation(settings.incarnation.0.max(1))
 }
 
-// One connection more, at this epoch; the count stops at 2^64 - 1.
-fn connected(counters: Replica, epoch: Epoch) -> Replica
-    ensures { result ≡ connected_to counters epoch }
+// One connection more, at this epoch and of this version; the count stops at 2^64 - 1.
+fn connected(counters: Replica, epoch: Epoch, version2: u8) -> Replica
+    ensures { result ≡ connected_to counters epoch version2 }
 {
     Replica {
         epoch,
         connections: counters.connections.saturating_add(1),
+        version2,
         ..counters
     }
 }
@@ -37,7 +38,7 @@ fn checked_at(counters: Replica, epoch: Epoch) -> Replica
     }
 }
 
-// Hello: 11 version not 1, 12 kinds listed; a lower epoch is told the standby's.
+// Hello: 11 version not 1 or 2, 12 kinds listed; a lower epoch is told the standby's.
 pub fn on_hello(
     counters: Replica,
     settings: Settings,
@@ -47,9 +48,10 @@ pub fn on_hello(
 ) -> Outcome
     ensures { HelloIs counters settings version epoch.0 no_kinds result }
 {
-    if version != Frame::VERSION {
-        return standby_state::refuse(counters, Refusal::BadVersion);
-    }
+    let protocol = match Protocol::new(version) {
+        Ok(p) => p,
+        Err(_) => return standby_state::refuse(counters, Refusal::BadVersion),
+    };
     if !no_kinds {
         return standby_state::refuse(counters, Refusal::KindsListed);
     }
@@ -59,7 +61,7 @@ pub fn on_hello(
         return standby_state::unchanged(counters, standby_state::welcome(own, run));
     }
     standby_state::cleared(
-        connected(counters, epoch),
+        connected(counters, epoch, protocol.byte()),
         standby_state::welcome(epoch, run),
     )
 }

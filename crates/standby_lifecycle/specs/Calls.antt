@@ -12,7 +12,7 @@ use Rattle.standby_state.specs.Answers.{is_done}
 use Rattle.standby_state.specs.Outcomes.{clearing}
 
 abbrev pub promoted_from : Replica → Replica
-promoted_from c = record { epoch = c.epoch; connections = c.connections; promoted = 1; checked = c.checked }
+promoted_from c = record { epoch = c.epoch; connections = c.connections; promoted = 1; checked = c.checked; version2 = c.version2 }
 
 pub record Promoted (s : Shape) (lag : ℕ) (c : Replica) (w w' b b' : List ℕ) (r : Outcome) : Type 0 where
   pub is : r ≡ clearing (promoted_from c) is_done

@@ -14,13 +14,13 @@ use Rattle.frame_writer.specs.declared.EncodeError.{EncodeError}
 use Rattle.standby_state.specs.declared.Answer.{Answer}
 use Rattle.standby_reply.specs.Replies.{frame_for, Frames}
 
-pub no_frame : {a : Answer} (b before : List ℕ) (r : prelude.Option Frame) (e : EncodeError) → Frames a r → Err e ≡ ok_or r EncodeError.Unreadable → Encoded 1 (frame_for b a) before before (Err e)
+pub no_frame : {a : Answer} (v : ℕ) (b before : List ℕ) (r : prelude.Option Frame) (e : EncodeError) → Frames a r → Err e ≡ ok_or r EncodeError.Unreadable → Encoded v (frame_for b a) before before (Err e)
 unfolding write_outcome
-no_frame b before (Some f) e h q = cc
-no_frame b before None e h q =
+no_frame v b before (Some f) e h q = cc
+no_frame v b before None e h q =
     let unreadable : e ≡ EncodeError.Unreadable = cc in
-    subst (λ (o : Option the_frame.Frame). Encoded 1 o before before (Err e)) (h.is b) (rw unreadable (record { answer = refl; area = refl }))
+    subst (λ (o : Option the_frame.Frame). Encoded v o before before (Err e)) (h.is v b) (rw unreadable (record { answer = refl; area = refl }))
 
-pub its_frame : {a : Answer} (b : List ℕ) (r : prelude.Option Frame) (f : Frame) → Frames a r → Ok f ≡ ok_or r EncodeError.Unreadable → frame_in 1 b f ≡ frame_for b a
-its_frame b (Some x) f h q = cc (h.is b)
-its_frame b None f h q = cc
+pub its_frame : {a : Answer} (v : ℕ) (b : List ℕ) (r : prelude.Option Frame) (f : Frame) → Frames a r → Ok f ≡ ok_or r EncodeError.Unreadable → frame_in v b f ≡ frame_for b a
+its_frame v b (Some x) f h q = cc (h.is v b)
+its_frame v b None f h q = cc

@@ -37,9 +37,9 @@ frame_for b a = cond (is_frame a) (framed b a) none
 -- ---- of the functions within
 
 -- the frame that there is, over the bytes where a Bound has its texts
-abbrev pub answer_frame : List ℕ → prelude.Option Frame → Option the_frame.Frame
-answer_frame b (Some f) = frame_in 1 b f
-answer_frame b None = none
+abbrev pub answer_frame : ℕ → List ℕ → prelude.Option Frame → Option the_frame.Frame
+answer_frame version b (Some f) = frame_in version b f
+answer_frame version b None = none
 
 pub record Frames (a : Answer) (r : prelude.Option Frame) : Type 0 where
-  pub is : (b : List ℕ) → answer_frame b r ≡ frame_for b a
+  pub is : (version : ℕ) (b : List ℕ) → answer_frame version b r ≡ frame_for b a

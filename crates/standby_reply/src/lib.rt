@@ -39,13 +39,16 @@ fn frame(answer: Answer) -> Option<Frame>
     }
 }
 
-// The bytes of an answer's frame, and Unreadable where it has none; `bytes` is the store's byte area, where a Bound has its texts.
-pub fn write(answer: Answer, bytes: &[u8], out: &mut [u8]) -> Result<usize, EncodeError>
-    ensures { Encoded 1 (frame_for bytes.now answer) out.old out.new result }
+// The bytes of an answer's frame, written in the version that the call leaves, and Unreadable where it has none; `bytes` is the store's byte area, where a
+// Bound has its texts.
+pub fn write(
+    protocol: Protocol,
+    answer: Answer,
+    bytes: &[u8],
+    out: &mut [u8],
+) -> Result<usize, EncodeError>
+    ensures { Encoded protocol.version (frame_for bytes.now answer) out.old out.new result }
 {
     let frame = frame(answer).ok_or(EncodeError::Unreadable)?;
-    let protocol = Protocol {
-        version: Frame::VERSION,
-    };
     frame.encode(protocol, bytes, out)
 }

@@ -1,11 +1,12 @@
 -- What a call's outcome stands for: the state but for the row, what is to be done to the row, and the answer. Assumes nothing.
 use Rattle.std.specs.Prelude.{ℕ, ◌*◌, ◌<◌, ◌≤◌, ◌≡◌, min, Bool, true, false, ◌||◌, List, take, drop, set, Option, is_some, unwrap_or}
 use Rattle.base_flags.specs.Flag.{is_set}
+use Rattle.frame_stamp.specs.Versions.{version_of}
 use Rattle.standby_row.specs.declared.Bound.{Bound}
 use Rattle.standby_row.specs.declared.lookup.Lookup.{Lookup}
 use Rattle.standby_row.specs.Row.{cleared_all, released, rival_of, at_or, own_place, has_place}
 use Rattle.store_areas.specs.declared.Shape.{Shape}
-use Rattle.model_standby.specs.Answer.{protocol_version}
+use Rattle.model_text.specs.Version.{latest}
 use Rattle.model_standby.specs.State.{Counters}
 use Rattle.model_standby.specs.State as state
 use Rattle.model_standby.specs.Core.{Action, leave, store, rebind, clear, CoreResult}
@@ -18,7 +19,7 @@ use Rattle.standby_state.specs.declared.RowAction.{RowAction}
 use Rattle.standby_state.specs.Answers.{answer_of}
 
 abbrev pub counters_of : Replica → Counters
-counters_of c = record { epoch = c.epoch.0; connections = c.connections; promoted = is_set c.promoted; checked = is_set c.checked }
+counters_of c = record { epoch = c.epoch.0; connections = c.connections; promoted = is_set c.promoted; checked = is_set c.checked; version = version_of c.version2 }
 
 -- with hold areas of `room` bytes
 abbrev pub settings_of : Settings → ℕ → state.Settings
@@ -94,7 +95,7 @@ outcome_of version room s w b holds o =
 -- a record that is put fits the row: at the handle's own place, where the hold area is `area`; it is the record of what it stands for, at a place in use, and holds no more than the area has
 pub record Fits (seen : Lookup) (used room : ℕ) (area : List ℕ) (at : ℕ) (h : Bound) : Type 0 where
   pub at_is : at ≡ own_place seen
-  pub slot_is : h ≡ record_for h.handle (bound_of protocol_version h area)
+  pub slot_is : h ≡ record_for h.handle (bound_of latest h area)
   pub slot_place : h.place < used
   pub slot_len : h.held_len ≤ room
 
@@ -102,7 +103,7 @@ pub record Fits (seen : Lookup) (used room : ℕ) (area : List ℕ) (at : ℕ) (
 pub record Rebinds (seen : Lookup) (row : List Bound) (used : ℕ) (freed : Option ℕ) (at : ℕ) (h : Bound) : Type 0 where
   pub freed_is : freed ≡ rival_of row h.handle h.place
   pub at_is : at ≡ spot_of seen freed
-  pub slot_is : (area : List ℕ) → h ≡ record_for h.handle (bound_of protocol_version h area)
+  pub slot_is : (area : List ℕ) → h ≡ record_for h.handle (bound_of latest h area)
   pub slot_place : h.place < used
   pub holds_none : h.held_len ≡ 0
 

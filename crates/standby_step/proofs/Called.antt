@@ -22,7 +22,8 @@ use Rattle.standby_handles.proofs.Apart.{rows_apart, room_same, put_alone}
 use Rattle.store_areas.specs.Areas.{allowed, Rules, places_of}
 use Rattle.store_areas.proofs.Ruling.{rules_true}
 use Rattle.standby_pending.specs.Pending.{pending_of}
-use Rattle.model_standby.specs.Answer.{protocol_version, refused}
+use Rattle.model_text.specs.Version.{latest}
+use Rattle.model_standby.specs.Answer.{refused}
 use Rattle.standby_row.specs.declared.Bound.{Bound as BoundRecord}
 use Rattle.model_standby.specs.Row.{Row, is_some, has_free, find, has_room, put}
 use Rattle.model_standby.specs.State.{Bound, Standby, Result, Call, on_frame_held, on_frame, flush, disconnected_from, promote, promote_unchecked}
@@ -58,13 +59,13 @@ holds_length : (room i : ℕ) (wr : Option HoldWrite) (h : List ℕ) → length 
 holds_length room i none h = refl
 holds_length room i (some x) h = length_write h (i * room + x.offset) x.bytes
 
-holds_apart : (room i : ℕ) (wr : Option HoldWrite) (h : List ℕ) → ((x : HoldWrite) → wr ≡ some x → x.offset + length x.bytes ≤ room) → Apart (bound_of protocol_version) room i h (holds_after room i wr h)
-holds_apart room i none h inside = apart_same (bound_of protocol_version) room i h
+holds_apart : (room i : ℕ) (wr : Option HoldWrite) (h : List ℕ) → ((x : HoldWrite) → wr ≡ some x → x.offset + length x.bytes ≤ room) → Apart (bound_of latest) room i h (holds_after room i wr h)
+holds_apart room i none h inside = apart_same (bound_of latest) room i h
 holds_apart room i (some x) h inside =
     let fits : x.offset + length x.bytes ≤ room = inside x refl in
     let before : i * room ≤ i * room + x.offset = omega arith in
     let after : i * room + x.offset + length x.bytes ≤ i * room + room = omega arith in
-    apart_of (bound_of protocol_version) room i h (write h (i * room + x.offset) x.bytes) (take_write h (i * room + x.offset) (i * room) x.bytes before) (drop_write h (i * room + x.offset) (i * room + room) x.bytes after)
+    apart_of (bound_of latest) room i h (write h (i * room + x.offset) x.bytes) (take_write h (i * room + x.offset) (i * room) x.bytes before) (drop_write h (i * room + x.offset) (i * room + room) x.bytes after)
 
 -- the handle is the one by which the definition is cut
 named : (call : Call) → handle_by call ≡ handle_of call
@@ -80,30 +81,30 @@ module _ (row : List BoundRecord) (k : ℕ) (w h : List ℕ) (Looked : Lookup) (
   Room = room_all row h
 
   abbrev Handles : Row Bound
-  Handles = row_of (bound_of protocol_version) Room row h
+  Handles = row_of (bound_of latest) Room row h
 
   -- ---- what was found
 
   abbrev Own : Bound
-  Own = bound_of protocol_version (get_or row (find_of row k) handles.free_record) (area_at Room (find_of row k) h)
+  Own = bound_of latest (get_or row (find_of row k) handles.free_record) (area_at Room (find_of row k) h)
 
   abbrev Seek : Bool → Option Bound
   Seek t = cond t (some Own) none
 
   sought : found_in Looked h ≡ Seek (ltb (find_of row k) (length row))
   sought =
-      (λ j. found_of protocol_version (seen_found row k (get_or w 0 0) Room is j) (seen_record row k (get_or w 0 0) Room is j) (area_at (seen_room row k (get_or w 0 0) Room is h j) (seen_place row k (get_or w 0 0) Room is j) h))
+      (λ j. found_of latest (seen_found row k (get_or w 0 0) Room is j) (seen_record row k (get_or w 0 0) Room is j) (area_at (seen_room row k (get_or w 0 0) Room is h j) (seen_place row k (get_or w 0 0) Room is j) h))
 
   found_in_lem : found_in Looked h ≡ find k Handles
   found_in_lem = sought ∙ go (ltb (find_of row k) (length row)) refl
     where
       go : (t : Bool) → ltb (find_of row k) (length row) ≡ t → Seek t ≡ find k Handles
-      go true e = sym (find_hit (bound_of protocol_version) Room k row h (ltb-true (find_of row k) (length row) e))
-      go false e = sym (find_miss (bound_of protocol_version) Room k row h (ltb-false (find_of row k) (length row) e))
+      go true e = sym (find_hit (bound_of latest) Room k row h (ltb-true (find_of row k) (length row) e))
+      go false e = sym (find_miss (bound_of latest) Room k row h (ltb-false (find_of row k) (length row) e))
 
   -- the row has room as the definition says
   rooms_are : (p : ℕ) → rooms_in Looked row k p ≡ room_at k Handles p
-  rooms_are p = (λ j. prelude.is_some (is.own j) || (prelude.is_some (is.free j) || prelude.is_some (rival_of row k p))) ∙ sym (room_same (bound_of protocol_version) Room (λ g y. refl) k p row h)
+  rooms_are p = (λ j. prelude.is_some (is.own j) || (prelude.is_some (is.free j) || prelude.is_some (rival_of row k p))) ∙ sym (room_same (bound_of latest) Room (λ g y. refl) k p row h)
 
   found_core : (L : state.Settings) (x : Core) (call : Call) → core_step L x (found_in Looked h) (rooms_in Looked row k) call ≡ core_step L x (find k Handles) (room_at k Handles) call
   found_core L x call = (λ j. core_step L x (found_in_lem j) (λ p. rooms_are p j) call)
@@ -138,19 +139,19 @@ module _ (row : List BoundRecord) (k : ℕ) (w h : List ℕ) (Looked : Lookup) (
     module _ (own : ℕ) (asked : Bool) (rooms : ℕ → Bool) (wr : Option HoldWrite) (h' : List ℕ) (mine : asked ≡ true → k ≡ own) (holds : h' ≡ holds_after Room (find_of row k) wr h)
         (inside : (x : HoldWrite) → wr ≡ some x → x.offset + length x.bytes ≤ Room) (clean : handles.apart_of row ≡ true) (room : (p : ℕ) → rooms p ≡ true → asked ≡ true → room_at k Handles p ≡ true) where
       abbrev After : List BoundRecord → List ℕ → Row Bound
-      After r x = row_of (bound_of protocol_version) Room r x
+      After r x = row_of (bound_of latest) Room r x
 
       still : wr ≡ none → h' ≡ h
       still e = holds ∙ ap (λ (x : Option HoldWrite). holds_after Room (find_of row k) x h) e
 
       -- a record is put at its handle's own place
-      puts : (at : ℕ) (x : BoundRecord) → Fits Looked used Room area at x → Fit asked own (found_in Looked h) rooms wr (store x.handle (bound_of protocol_version x (area_at Room at h')))
-          → After (set row at x) h' ≡ put x.handle (bound_of protocol_version x (area_at Room at h')) Handles
+      puts : (at : ℕ) (x : BoundRecord) → Fits Looked used Room area at x → Fit asked own (found_in Looked h) rooms wr (store x.handle (bound_of latest x (area_at Room at h')))
+          → After (set row at x) h' ≡ put x.handle (bound_of latest x (area_at Room at h')) Handles
       puts at x l f =
           (λ j. After (set row (at_own j) x) h')
-          ∙ put_own (bound_of protocol_version) Room k x (ap handles.is_used l.slot_is) is_k row h h' (there f.1.1)
-          (subst (Apart (bound_of protocol_version) Room (find_of row k) h) (sym holds) (holds_apart Room (find_of row k) wr h inside))
-          ∙ sym (λ j. put (is_k j) (bound_of protocol_version x (area_at Room (at_own j) h')) Handles)
+          ∙ put_own (bound_of latest) Room k x (ap handles.is_used l.slot_is) is_k row h h' (there f.1.1)
+          (subst (Apart (bound_of latest) Room (find_of row k) h) (sym holds) (holds_apart Room (find_of row k) wr h inside))
+          ∙ sym (λ j. put (is_k j) (bound_of latest x (area_at Room (at_own j) h')) Handles)
         where
           is_k : x.handle ≡ k
           is_k = f.1.0 ∙ sym (mine f.0)
@@ -160,13 +161,13 @@ module _ (row : List BoundRecord) (k : ℕ) (w h : List ℕ) (Looked : Lookup) (
 
       -- a handle is bound anew, once no other has its place
       rebinds : (freed : RustOption ℕ) (at : ℕ) (x : BoundRecord) → Rebinds Looked row used freed at x
-          → Fit asked own (found_in Looked h) rooms wr (rebind x.handle (bound_of protocol_version x (area_at Room at h')))
-          → After (set (released freed row) at x) h' ≡ put x.handle (bound_of protocol_version x (area_at Room at h')) (without_others x.handle x.place Handles)
+          → Fit asked own (found_in Looked h) rooms wr (rebind x.handle (bound_of latest x (area_at Room at h')))
+          → After (set (released freed row) at x) h' ≡ put x.handle (bound_of latest x (area_at Room at h')) (without_others x.handle x.place Handles)
       rebinds freed at x l f =
           (λ j. After (set (released (l.freed_is j) row) (at_spot j) x) (same j))
-          ∙ put_alone (bound_of protocol_version) Room (λ g y. refl) x.handle x.place x (ap handles.is_used (l.slot_is [])) refl row h clean
+          ∙ put_alone (bound_of latest) Room (λ g y. refl) x.handle x.place x (ap handles.is_used (l.slot_is [])) refl row h clean
           (ap (λ (n : ℕ). room_at n Handles x.place) is_k ∙ room x.place f.1.1.0 f.0)
-          ∙ sym (λ j. put x.handle (bound_of protocol_version x (area_at Room (at_spot j) (same j))) (without_others x.handle x.place Handles))
+          ∙ sym (λ j. put x.handle (bound_of latest x (area_at Room (at_spot j) (same j))) (without_others x.handle x.place Handles))
         where
           is_k : x.handle ≡ k
           is_k = f.1.0 ∙ sym (mine f.0)
@@ -177,10 +178,10 @@ module _ (row : List BoundRecord) (k : ℕ) (w h : List ℕ) (Looked : Lookup) (
           at_spot : at ≡ spot_for (alone_at row x.handle x.place) x.handle
           at_spot = rebound_at x.handle x.place is_k freed at l.freed_is l.at_is
 
-      next_handles : (o : RowAction) → Lands Looked row used Room area o → Fit asked own (found_in Looked h) rooms wr (action_for protocol_version Room h' o)
-          → After (row_after o row) h' ≡ act (action_for protocol_version Room h' o) Handles
+      next_handles : (o : RowAction) → Lands Looked row used Room area o → Fit asked own (found_in Looked h) rooms wr (action_for latest Room h' o)
+          → After (row_after o row) h' ≡ act (action_for latest Room h' o) Handles
       next_handles RowAction.Leave l f = (λ i. After row (still f i))
-      next_handles RowAction.Clear l f = (λ i. After (cleared_all row) (still f i)) ∙ all_freed (bound_of protocol_version) Room row h
+      next_handles RowAction.Clear l f = (λ i. After (cleared_all row) (still f i)) ∙ all_freed (bound_of latest) Room row h
       next_handles (RowAction.Store at x) l f = puts at x l f
       next_handles (RowAction.Rebind freed at x) l f = rebinds freed at x l f
 
@@ -203,14 +204,14 @@ module _ (s : Settings) (c : Replica) (row : List BoundRecord) (call : Call) (w 
   L = settings_of s R
 
   abbrev T : Row Bound
-  T = row_of (bound_of protocol_version) R row h
+  T = row_of (bound_of latest) R row h
 
   abbrev Row' : List BoundRecord
   Row' = row_after o.action row
 
   -- a call's core over the row itself
   record OverRow : Type 0 where
-    is : outcome_of protocol_version R s.shape w' b' h' o ≡ core_step L (core_at (counters_of c) s.shape w b) (found_in See h) (rooms_in See row (handle_by call)) call
+    is : outcome_of latest R s.shape w' b' h' o ≡ core_step L (core_at (counters_of c) s.shape w b) (found_in See h) (rooms_in See row (handle_by call)) call
     lands : Lands See row (get_or w' 0 0) R (area_at R (own_place See) h') o.action
     kept : keeps_counters c call ≡ true → o.replica ≡ c
     rules : Rules s.shape w' b'
@@ -223,7 +224,7 @@ module _ (s : Settings) (c : Replica) (row : List BoundRecord) (call : Call) (w 
       let room : room_in See h ≡ R = seen_room row K (get_or w 0 0) R seen h in
       record {
         is =
-            subst (λ (r : ℕ). outcome_of protocol_version r s.shape w' b' h' o ≡ core_step (settings_of s r) (core_at (counters_of c) s.shape w b) (found_in See h) (rooms_in See row (handle_by call)) call) room st.is;
+            subst (λ (r : ℕ). outcome_of latest r s.shape w' b' h' o ≡ core_step (settings_of s r) (core_at (counters_of c) s.shape w b) (found_in See h) (rooms_in See row (handle_by call)) call) room st.is;
         lands = subst (λ (r : ℕ). Lands See row (get_or w' 0 0) r (area_at r (own_place See) h') o.action) room st.lands;
         kept = st.kept;
         rules = st.rules;
@@ -256,14 +257,14 @@ module _ (s : Settings) (c : Replica) (row : List BoundRecord) (call : Call) (w 
     room_asked : (p : ℕ) → rooms_in See row (handle_by call) p ≡ true → asks call ≡ true → room_at K T p ≡ true
     room_asked p e a = sym (rooms_are row K w h See seen p) ∙ ap (λ (n : ℕ). rooms_in See row n p) (sought_own call a) ∙ e
 
-    fits : Fit (asks call) (handle_by call) (found_in See h) (rooms_in See row (handle_by call)) Wr (action_of protocol_version R h' o)
+    fits : Fit (asks call) (handle_by call) (found_in See h) (rooms_in See row (handle_by call)) Wr (action_of latest R h' o)
     fits =
         subst (Fit (asks call) (handle_by call) (found_in See h) (rooms_in See row (handle_by call)) Wr) (sym (ap (λ (r : CoreResult). r.action) st.is))
         (step_fit L (core_at (counters_of c) s.shape w b) (found_in See h) (rooms_in See row (handle_by call)) call)
 
-    handles_are : row_of (bound_of protocol_version) (room_all Row' h') Row' h' ≡ act (action_of protocol_version R h' o) T
+    handles_are : row_of (bound_of latest) (room_all Row' h') Row' h' ≡ act (action_of latest R h' o) T
     handles_are =
-        ap (λ (n : ℕ). row_of (bound_of protocol_version) n Row' h') room_kept
+        ap (λ (n : ℕ). row_of (bound_of latest) n Row' h') room_kept
         ∙ next_handles row K w h See seen (get_or w' 0 0) (area_at R (own_place See) h') (handle_by call) (asks call) (rooms_in See row (handle_by call)) Wr h' (sought_own call) st.holds (written_inside L (counters_of c) (found_in See h) call)
         row_apart room_asked o.action st.lands fits
 
@@ -308,7 +309,7 @@ module _ (s : Settings) (c : Replica) (row : List BoundRecord) (call : Call) (w 
     abbrev Leaving : Row Bound
     Leaving = (step L X call).state.handles
 
-    after_is : Leaving ≡ act (action_of protocol_version R h' o) T
+    after_is : Leaving ≡ act (action_of latest R h' o) T
     after_is = ap (λ (r : Result). r.state.handles) stepped_is ∙ ap (λ (r : CoreResult). act r.action T) (sym (st.is ∙ found_own_core))
 
     -- the handle is the one looked up, where a frame has one
@@ -318,10 +319,10 @@ module _ (s : Settings) (c : Replica) (row : List BoundRecord) (call : Call) (w 
     -- a record is put
     module _ (at : ℕ) (x : BoundRecord) (e : o.action ≡ RowAction.Store at x) where
       abbrev Puts : Action
-      Puts = store x.handle (bound_of protocol_version x (area_at R at h'))
+      Puts = store x.handle (bound_of latest x (area_at R at h'))
 
-      is_puts : action_of protocol_version R h' o ≡ Puts
-      is_puts = ap (action_for protocol_version R h') e
+      is_puts : action_of latest R h' o ≡ Puts
+      is_puts = ap (action_for latest R h') e
 
       puts_fit : Fit (asks call) (handle_by call) (found_in See h) (rooms_in See row (handle_by call)) Wr Puts
       puts_fit = subst (Fit (asks call) (handle_by call) (found_in See h) (rooms_in See row (handle_by call)) Wr) is_puts fits
@@ -335,8 +336,8 @@ module _ (s : Settings) (c : Replica) (row : List BoundRecord) (call : Call) (w 
       has_room_so : has_room x.handle T ≡ true
       has_room_so = ap (λ (t : Bool). t || has_free T) found_k
 
-      found_after : find x.handle Leaving ≡ some (bound_of protocol_version x (area_at R at h'))
-      found_after = ap (find x.handle) (after_is ∙ ap (λ (y : Action). act y T) is_puts) ∙ find_put_same x.handle (bound_of protocol_version x (area_at R at h')) T has_room_so
+      found_after : find x.handle Leaving ≡ some (bound_of latest x (area_at R at h'))
+      found_after = ap (find x.handle) (after_is ∙ ap (λ (y : Action). act y T) is_puts) ∙ find_put_same x.handle (bound_of latest x (area_at R at h')) T has_room_so
 
       landed : Fits See (get_or w' 0 0) R (area_at R (own_place See) h') at x
       landed = subst (Lands See row (get_or w' 0 0) R (area_at R (own_place See) h')) e st.lands
@@ -347,8 +348,8 @@ module _ (s : Settings) (c : Replica) (row : List BoundRecord) (call : Call) (w 
           ∙ sym (ap (λ (t : Bool). cond t (find_of row x.handle) (free_of row)) (ap (λ (k : ℕ). ltb (find_of row k) (length row)) is_k ∙ lt-ltb (find_of row K) (length row) (there row K w h See seen puts_fit.1.1)))
 
       -- it is the record of what it stands for at its own place
-      slot_own : x ≡ record_for x.handle (bound_of protocol_version x (area_at R at h'))
-      slot_own = landed.slot_is ∙ ap (λ (i : ℕ). record_for x.handle (bound_of protocol_version x (area_at R i h'))) (sym landed.at_is)
+      slot_own : x ≡ record_for x.handle (bound_of latest x (area_at R at h'))
+      slot_own = landed.slot_is ∙ ap (λ (i : ℕ). record_for x.handle (bound_of latest x (area_at R i h'))) (sym landed.at_is)
 
       row_put : RowPut (spot_for row x.handle) x.handle (find x.handle Leaving) row (set row at x)
       row_put = subst (λ (y : Option Bound). RowPut (spot_for row x.handle) x.handle y row (set row at x)) (sym found_after) (λ j. set row (at_spot j) (slot_own j))
@@ -356,10 +357,10 @@ module _ (s : Settings) (c : Replica) (row : List BoundRecord) (call : Call) (w 
     -- a handle is bound anew
     module _ (freed : RustOption ℕ) (at : ℕ) (x : BoundRecord) (e : o.action ≡ RowAction.Rebind freed at x) where
       abbrev Binds : Action
-      Binds = rebind x.handle (bound_of protocol_version x (area_at R at h'))
+      Binds = rebind x.handle (bound_of latest x (area_at R at h'))
 
-      is_binds : action_of protocol_version R h' o ≡ Binds
-      is_binds = ap (action_for protocol_version R h') e
+      is_binds : action_of latest R h' o ≡ Binds
+      is_binds = ap (action_for latest R h') e
 
       binds_fit : Fit (asks call) (handle_by call) (found_in See h) (rooms_in See row (handle_by call)) Wr Binds
       binds_fit = subst (Fit (asks call) (handle_by call) (found_in See h) (rooms_in See row (handle_by call)) Wr) is_binds fits
@@ -370,8 +371,8 @@ module _ (s : Settings) (c : Replica) (row : List BoundRecord) (call : Call) (w 
       room_so : room_at x.handle T x.place ≡ true
       room_so = ap (λ (k : ℕ). room_at k T x.place) bound_k ∙ room_asked x.place binds_fit.1.1.0 binds_fit.0
 
-      bound_after : find x.handle Leaving ≡ some (bound_of protocol_version x (area_at R at h'))
-      bound_after = ap (find x.handle) (after_is ∙ ap (λ (y : Action). act y T) is_binds) ∙ find_put_same x.handle (bound_of protocol_version x (area_at R at h')) (without_others x.handle x.place T) room_so
+      bound_after : find x.handle Leaving ≡ some (bound_of latest x (area_at R at h'))
+      bound_after = ap (find x.handle) (after_is ∙ ap (λ (y : Action). act y T) is_binds) ∙ find_put_same x.handle (bound_of latest x (area_at R at h')) (without_others x.handle x.place T) room_so
 
       bound_so : Rebinds See row (get_or w' 0 0) freed at x
       bound_so = subst (Lands See row (get_or w' 0 0) R (area_at R (own_place See) h')) e st.lands
@@ -384,13 +385,13 @@ module _ (s : Settings) (c : Replica) (row : List BoundRecord) (call : Call) (w 
           subst (λ (y : Option Bound). RowRebound x.handle y row (set (released freed row) at x)) (sym bound_after)
           (λ j. set (released (bound_so.freed_is j) row) (bound_at j) (bound_so.slot_is (area_at R at h') j))
 
-    row_done : RowLeaves (kind_of (action_of protocol_version R h' o)) Leaving row Row'
+    row_done : RowLeaves (kind_of (action_of latest R h' o)) Leaving row Row'
     row_done = go o.action refl
       where
-        by : {a : RowAction} → o.action ≡ a → RowLeaves (kind_of (action_for protocol_version R h' a)) Leaving row (row_after a row) → RowLeaves (kind_of (action_of protocol_version R h' o)) Leaving row Row'
-        by e = subst (λ (y : RowAction). RowLeaves (kind_of (action_for protocol_version R h' y)) Leaving row (row_after y row)) (sym e)
+        by : {a : RowAction} → o.action ≡ a → RowLeaves (kind_of (action_for latest R h' a)) Leaving row (row_after a row) → RowLeaves (kind_of (action_of latest R h' o)) Leaving row Row'
+        by e = subst (λ (y : RowAction). RowLeaves (kind_of (action_for latest R h' y)) Leaving row (row_after y row)) (sym e)
 
-        go : (a : RowAction) → o.action ≡ a → RowLeaves (kind_of (action_of protocol_version R h' o)) Leaving row Row'
+        go : (a : RowAction) → o.action ≡ a → RowLeaves (kind_of (action_of latest R h' o)) Leaving row Row'
         go RowAction.Leave e = by e refl
         go RowAction.Clear e = by e refl
         go (RowAction.Store at x) e = by e (row_put at x e)
@@ -413,8 +414,8 @@ module _ (s : Settings) (c : Replica) (row : List BoundRecord) (call : Call) (w 
     -- the definition keeps the row's rule, and so does the call
     apart_after : handles.apart_of Row' ≡ true
     apart_after =
-        rows_apart (bound_of protocol_version) R (λ g y. refl) Row' h'
-        ∙ ap (λ (n : ℕ). apart (row_of (bound_of protocol_version) n Row' h')) (sym room_kept)
+        rows_apart (bound_of latest) R (λ g y. refl) Row' h'
+        ∙ ap (λ (n : ℕ). apart (row_of (bound_of latest) n Row' h')) (sym room_kept)
         ∙ ap apart (handles_are ∙ sym after_is)
         ∙ apart_step L X call (allowed_apart s c row w b h clean)
 

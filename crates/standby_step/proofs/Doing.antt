@@ -9,8 +9,9 @@ use lib.ListN.{length}
 use Rattle.model_frame.specs.Frame.{Key, Change, Part, commit, whole, last_whole, AppRecord, Frame, hello, welcome, bind, batch, ack, nack, bound, checked}
 use Rattle.model_frame.specs.Parse.{is_empty}
 use Rattle.model_frame.specs.Sizes.{sizes}
-use Rattle.model_session.specs.Session.{fits}
-use Rattle.model_standby.specs.Answer.{protocol_version, Given, damaged, intact, given, Answer, refused, accepted, says_diverged}
+use Rattle.model_session.specs.Session.{suits, fits}
+use Rattle.model_text.specs.Version.{latest, is_version}
+use Rattle.model_standby.specs.Answer.{Given, damaged, intact, given, Answer, refused, accepted, says_diverged}
 use Rattle.model_standby.specs.Store.{place_of, is_stored, session_at, or_new}
 use Rattle.model_standby.specs.State.{Settings, incarnation_of, Bound, Call, on_frame_held, on_frame, flush, disconnected_from, promote, promote_unchecked, at_epoch, none_held}
 use Rattle.model_standby.specs.Standby.{due, follows, raised, max_whole, starts_with_reset}
@@ -73,12 +74,13 @@ module _ (L : Settings) where
   bind_does k room h e lag j =
       either (ltb e k.counters.epoch) (so refl)
       (either (ltb L.lag lag) (so refl)
+      (either (not (suits k.counters.version (or_new (session_at k.places (place_of j k.places))).stamp)) (so refl)
       (either (not (is_stored j k.places || ltb (length k.places) L.S)) (so refl)
-      (either (not (room (place_of j k.places))) (so refl) (so refl))))
+      (either (not (room (place_of j k.places))) (so refl) (so refl)))))
 
   hello_does : (k : Core) (v e : ℕ) (kinds : List ℕ) → Does (λ a. cond (accepted a && not (ltb e k.counters.epoch)) frees keeps) (core_hello L k v e kinds)
   unfolding core_hello
-  hello_does k v e kinds = either (not (eqb v protocol_version)) (so refl) (either (not (is_empty kinds)) (so refl) (by (ltb e k.counters.epoch) _ _ refl refl refl refl))
+  hello_does k v e kinds = either (not (is_version v)) (so refl) (either (not (is_empty kinds)) (so refl) (by (ltb e k.counters.epoch) _ _ refl refl refl refl))
     where
       by : (t : Bool) (x y : CoreResult) → x.action ≡ leave → accepted x.answer ≡ true → y.action ≡ clear → accepted y.answer ≡ true → Does (λ a. cond (accepted a && not t) frees keeps) (cond t x y)
       by true x y p q r s = so (ap kind_of p ∙ sym (ap (λ (u : Bool). cond (u && false) frees keeps) q))
@@ -116,8 +118,8 @@ module _ (L : Settings) where
 
   call_does : (k : Core) (found : Option Bound) (room : ℕ → Bool) (c : Call) → Does (row_by k.counters c) (core_step L k found room c)
   unfolding core_step
-  call_does k found room (on_frame_held w) = given_does k found room (given w)
-  call_does k found room (on_frame w) = so (given_does k found room (given w)).does
+  call_does k found room (on_frame_held w) = given_does k found room (given k.counters.version w)
+  call_does k found room (on_frame w) = so (given_does k found room (given k.counters.version w)).does
   call_does k found room (flush n) = either (not (eqb n k.counters.connections) || k.counters.promoted) (so refl) (so refl)
   call_does k found room (disconnected_from n) = lost (eqb n k.counters.connections) _ _ refl refl
     where

@@ -1,6 +1,6 @@
 -- What a call does to the row and writes into the hold areas, by its definition: where it stores, it stores the call's handle, which was found; where it binds one, it is
 -- the call's, and there is a place for it; where it does not store, it writes nothing; and what was found matters for a Bind and a Batch only. Assumes nothing.
-use mathlib.Core.Path.{◌≡◌, refl, ap, subst}
+use mathlib.Core.Path.{◌≡◌, refl, sym, ap, subst, ◌∙◌}
 use mathlib.Core.Bool.{Bool, true, false, cond, not, ◌&&◌, ◌||◌, true≢false}
 use mathlib.Core.List.{List, ◌++◌}
 use mathlib.Core.Option.{Option, none, some}
@@ -11,15 +11,18 @@ use Rattle.base_flags.specs.Flag.{is_set}
 use Rattle.model_frame.specs.Frame.{Key, Change, Part, commit, whole, last_whole, stale_epoch, AppRecord, Frame, hello, welcome, bind, batch, ack, nack, bound, checked}
 use Rattle.model_frame.specs.Parse.{is_empty}
 use Rattle.model_frame.specs.Sizes.{sizes}
-use Rattle.model_session.specs.Session.{fits}
+use Rattle.model_session.specs.Session.{suits, fits}
 use Rattle.model_session.proofs.Basics.{none≢some}
 use Rattle.store_areas.specs.declared.Shape.{Shape}
 use Rattle.store_areas.specs.Areas.{places_of}
 use Rattle.standby_pending.specs.Pending.{pending_of}
+use Rattle.frame_stamp.specs.Versions.{version_of}
 use Rattle.model_standby.proofs.Holding.{writes_inside}
+use Rattle.model_standby.proofs.Factoring.{given_latest}
 use Rattle.standby_state.specs.Answers.{answer_of}
 use Rattle.standby_commit.specs.Settling.{StoreChange}
-use Rattle.model_standby.specs.Answer.{protocol_version, Given, damaged, intact, given, handle_in, accepted, is_reply}
+use Rattle.model_text.specs.Version.{latest, is_version}
+use Rattle.model_standby.specs.Answer.{Given, damaged, intact, given, handle_in, accepted, is_reply}
 use Rattle.model_standby.specs.Row.{is_some}
 use Rattle.model_standby.specs.Store.{Place, place_of, is_stored, session_at, or_new}
 use Rattle.model_standby.specs.State.{Settings, incarnation_of, Counters, Bound, Call, on_frame_held, on_frame, flush, disconnected_from, promote, promote_unchecked, at_epoch, none_held}
@@ -51,6 +54,14 @@ room_or h p found room x y f g = go (room p) refl
     go : (t : Bool) → room p ≡ t → Fit true h found room none (cond (not t) x y).action
     go true e = g e
     go false e = f
+
+-- what names no handle in the latest version names none in any
+none_named : (version : ℕ) (w : List ℕ) → has_handle (given latest w) ≡ false → has_handle (given version w) ≡ false
+none_named version w off = go (given version w) refl
+  where
+    go : (g : Given) → given version w ≡ g → has_handle g ≡ false
+    go (damaged n) e = refl
+    go (intact f) e = sym (ap has_handle (given_latest version w e)) ∙ off
 
 -- fit, whatever is written
 record Stores (h : ℕ) (b : Bound) (room : ℕ → Bool) (r : CoreResult) : Type 0 where
@@ -113,13 +124,14 @@ module _ (L : Settings) where
   bind_fit k found room h e lag j =
       either (λ (r : CoreResult). Fit true h found room none r.action) (ltb e k.counters.epoch) refl
       (either (λ (r : CoreResult). Fit true h found room none r.action) (ltb L.lag lag) refl
+      (either (λ (r : CoreResult). Fit true h found room none r.action) (not (suits k.counters.version (or_new (session_at k.places (place_of j k.places))).stamp)) refl
       (either (λ (r : CoreResult). Fit true h found room none r.action) (not (is_stored j k.places || ltb (length k.places) L.S)) refl
-      (room_or h (place_of j k.places) found room _ _ refl (λ e. (refl, (refl, (e, refl)))))))
+      (room_or h (place_of j k.places) found room _ _ refl (λ e. (refl, (refl, (e, refl))))))))
 
   hello_fit : (k : Core) (found : Option Bound) (room : ℕ → Bool) (v e : ℕ) (kinds : List ℕ) → Fit false 0 found room none (core_hello L k v e kinds).action
   unfolding core_hello
   hello_fit k found room v e kinds =
-      either (λ (r : CoreResult). Fit false 0 found room none r.action) (not (eqb v protocol_version)) refl
+      either (λ (r : CoreResult). Fit false 0 found room none r.action) (not (is_version v)) refl
       (either (λ (r : CoreResult). Fit false 0 found room none r.action) (not (is_empty kinds)) refl
       (either (λ (r : CoreResult). Fit false 0 found room none r.action) (ltb e k.counters.epoch) refl refl))
 
@@ -148,11 +160,22 @@ module _ (L : Settings) where
       ways true = refl
       ways false = intact_fit (core_run (due k.pending f) k) found room f
 
+  -- with the handle that the latest version reads
+  frame_fit : (k : Core) (found : Option Bound) (room : ℕ → Bool) (w : List ℕ)
+      → Fit (has_handle (given latest w)) (handle_in (given latest w)) found room (writes L k.counters found (given k.counters.version w)) (core_given L k found room (given k.counters.version w)).action
+  unfolding writes core_given
+  frame_fit k found room w = go (given k.counters.version w) refl
+    where
+      go : (g : Given) → given k.counters.version w ≡ g → Fit (has_handle (given latest w)) (handle_in (given latest w)) found room (writes L k.counters found g) (core_given L k found room g).action
+      go (damaged n) e = refl
+      go (intact f) e =
+          subst (λ (g : Given). Fit (has_handle g) (handle_in g) found room (writes L k.counters found (intact f)) (core_given L k found room (intact f)).action) (sym (given_latest k.counters.version w e)) (given_fit k found room (intact f))
+
   -- every call
   pub step_fit : (k : Core) (found : Option Bound) (room : ℕ → Bool) (c : Call) → Fit (asks c) (handle_by c) found room (writes_by L k.counters found c) (core_step L k found room c).action
   unfolding core_step
-  step_fit k found room (on_frame_held w) = given_fit k found room (given w)
-  step_fit k found room (on_frame w) = given_fit k found room (given w)
+  step_fit k found room (on_frame_held w) = frame_fit k found room w
+  step_fit k found room (on_frame w) = frame_fit k found room w
   step_fit k found room (flush n) = either (λ (r : CoreResult). Fit false 0 found room none r.action) (not (eqb n k.counters.connections) || k.counters.promoted) refl refl
   step_fit k found room (disconnected_from n) = either (λ (r : CoreResult). Fit false 0 found room none r.action) (eqb n k.counters.connections) refl refl
   step_fit k found room promote = either (λ (r : CoreResult). Fit false 0 found room none r.action) k.counters.checked refl refl
@@ -174,8 +197,8 @@ module _ (L : Settings) where
 
   pub step_any : (k : Core) (x y : Option Bound) (p q : ℕ → Bool) (c : Call) → asks c ≡ false → core_step L k x p c ≡ core_step L k y q c
   unfolding core_step
-  step_any k x y p q (on_frame_held w) e = given_any k x y p q (given w) e
-  step_any k x y p q (on_frame w) e = ap (core_flushed L) (given_any k x y p q (given w) e)
+  step_any k x y p q (on_frame_held w) e = given_any k x y p q (given k.counters.version w) (none_named k.counters.version w e)
+  step_any k x y p q (on_frame w) e = ap (core_flushed L) (given_any k x y p q (given k.counters.version w) (none_named k.counters.version w e))
   step_any k x y p q (flush n) e = refl
   step_any k x y p q (disconnected_from n) e = refl
   step_any k x y p q promote e = refl
@@ -194,8 +217,8 @@ module _ (L : Settings) where
   given_none c x (intact (checked h e₁ i)) e = either (λ (o : Option HoldWrite). o ≡ none) c.promoted refl refl
 
   pub writes_none : (c : Counters) (x : Option Bound) (call : Call) → asks call ≡ false → writes_by L c x call ≡ none
-  writes_none c x (on_frame_held w) e = given_none c x (given w) e
-  writes_none c x (on_frame w) e = given_none c x (given w) e
+  writes_none c x (on_frame_held w) e = given_none c x (given c.version w) (none_named c.version w e)
+  writes_none c x (on_frame w) e = given_none c x (given c.version w) (none_named c.version w e)
   writes_none c x (flush n) e = refl
   writes_none c x (disconnected_from n) e = refl
   writes_none c x promote e = refl
@@ -203,8 +226,8 @@ module _ (L : Settings) where
 
   -- nothing is written outside the handle's area
   pub written_inside : (c : Counters) (x : Option Bound) (call : Call) (r : HoldWrite) → writes_by L c x call ≡ some r → r.offset + length r.bytes ≤ L.room
-  written_inside c x (on_frame_held w) r e = writes_inside L c x (given w) r e
-  written_inside c x (on_frame w) r e = writes_inside L c x (given w) r e
+  written_inside c x (on_frame_held w) r e = writes_inside L c x (given c.version w) r e
+  written_inside c x (on_frame w) r e = writes_inside L c x (given c.version w) r e
   written_inside c x (flush n) r e = absurd (none≢some e)
   written_inside c x (disconnected_from n) r e = absurd (none≢some e)
   written_inside c x promote r e = absurd (none≢some e)
@@ -223,9 +246,11 @@ changes_any ps p q (intact (checked h e₁ i)) taken e = refl
 
 pub leaves_any : (s : Shape) (c : Replica) (p q : ℕ) (call : Call) (w w' b b' : List ℕ) (a : Answer) → asks call ≡ false → Leaves s c p call w w' b b' a → Leaves s c q call w w' b b' a
 leaves_any s c p q (on_frame_held f) w w' b b' a e l =
-    subst (λ (x : StoreChange). FrameLeaves s x (due_now (is_set c.promoted) (pending_of w) (given f)) false w w' b b') (changes_any (places_of s w b) p q (given f) (accepted (answer_of b' a)) e) l
+    subst (λ (x : StoreChange). FrameLeaves s x (due_now (is_set c.promoted) (pending_of w) (given (version_of c.version2) f)) false w w' b b')
+    (changes_any (places_of s w b) p q (given (version_of c.version2) f) (accepted (answer_of b' a)) (none_named (version_of c.version2) f e)) l
 leaves_any s c p q (on_frame f) w w' b b' a e l =
-    subst (λ (x : StoreChange). FrameLeaves s x (due_now (is_set c.promoted) (pending_of w) (given f)) (is_reply (answer_of b' a)) w w' b b') (changes_any (places_of s w b) p q (given f) (accepted (answer_of b' a)) e) l
+    subst (λ (x : StoreChange). FrameLeaves s x (due_now (is_set c.promoted) (pending_of w) (given (version_of c.version2) f)) (is_reply (answer_of b' a)) w w' b b')
+    (changes_any (places_of s w b) p q (given (version_of c.version2) f) (accepted (answer_of b' a)) (none_named (version_of c.version2) f e)) l
 leaves_any s c p q (flush n) w w' b b' a e l = l
 leaves_any s c p q (disconnected_from n) w w' b b' a e l = l
 leaves_any s c p q promote w w' b b' a e l = l

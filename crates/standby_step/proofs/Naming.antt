@@ -13,7 +13,8 @@ use Rattle.model_frame.specs.Frame.{Frame, hello, welcome, bind, batch, ack, nac
 use Rattle.model_frame.specs.Parse.{Res, ok, bad, Parser, and_then, ◌>>=◌, pure, read_bytes, read_num, read_text}
 use Rattle.model_frame.specs.Reading.{read_kinds, read_key, read_part, read_changes, read_app_records, read_reason, read_summary, hello_fields, welcome_fields, bind_fields, batch_fields, ack_fields, nack_fields, bound_fields, checked_fields, read_fields, at_end, read_body, decode}
 use Rattle.model_frame.proofs.Sound.{Taking, decode_taking}
-use Rattle.model_standby.specs.Answer.{protocol_version, Given, damaged, intact, judged, given, handle_in}
+use Rattle.model_text.specs.Version.{latest}
+use Rattle.model_standby.specs.Answer.{Given, damaged, intact, judged, given, handle_in}
 use Rattle.model_standby.specs.State.{Call, on_frame_held, on_frame, flush, disconnected_from, promote, promote_unchecked}
 use Rattle.standby_step.specs.Steps.{has_handle, handle_by, asks}
 use Rattle.standby_step.specs.Calls.{handle_at, sought_by}
@@ -156,28 +157,28 @@ at_five w n h four fits f =
     handle_long w (omega arith) ∙ ap le (sym (handle_bytes w n (n - 1) (omega arith) (omega arith))) ∙ sym f.1
 
 -- what was handed in as a frame was read as it, to its end
-taken : (w : List ℕ) (f : Frame) → given w ≡ intact f → (used : ℕ) × (decode protocol_version w ≡ got f used)
+taken : (w : List ℕ) (f : Frame) → given latest w ≡ intact f → (used : ℕ) × (decode latest w ≡ got f used)
 unfolding given
-taken w f = go (decode protocol_version w) refl
+taken w f = go (decode latest w) refl
   where
     clash : {n : ℕ} → damaged n ≡ intact f → ⊥
     clash e = let z : ◌≡◌ {A = ℕ} 0 1 = cc in omega arith
 
-    go : (d : Decoded) → decode protocol_version w ≡ d → judged (length w) d ≡ intact f → (used : ℕ) × (decode protocol_version w ≡ got f used)
+    go : (d : Decoded) → decode latest w ≡ d → judged (length w) d ≡ intact f → (used : ℕ) × (decode latest w ≡ got f used)
     go more e q = absurd (clash q)
     go (faulty x) e q = absurd (clash q)
     go (got g used) e q = last (eqb used (length w)) q
       where
-        last : (t : Bool) → cond t (intact g) (damaged 26) ≡ intact f → (used : ℕ) × (decode protocol_version w ≡ got f used)
+        last : (t : Bool) → cond t (intact g) (damaged 26) ≡ intact f → (used : ℕ) × (decode latest w ≡ got f used)
         last true q = let same : g ≡ f = cc in (used, e ∙ ap (λ (x : Frame). got x used) same)
         last false q = absurd (clash q)
 
-read_names : (w : List ℕ) (f : Frame) → given w ≡ intact f → (4 ≤ length w) × (le (take 4 w) ≤ length w - 4) × Names (drop 1 (take (le (take 4 w)) (drop 4 w))) f
+read_names : (w : List ℕ) (f : Frame) → given latest w ≡ intact f → (4 ≤ length w) × (le (take 4 w) ≤ length w - 4) × Names (drop 1 (take (le (take 4 w)) (drop 4 w))) f
 read_names w f e =
-    let t : Taking protocol_version w f (taken w f e).0 = decode_taking protocol_version w (taken w f e).1 in
-    (t.four, t.fits, body_names protocol_version (take (le (take 4 w)) (drop 4 w)) t.whole)
+    let t : Taking latest w f (taken w f e).0 = decode_taking latest w (taken w f e).1 in
+    (t.four, t.fits, body_names latest (take (le (take 4 w)) (drop 4 w)) t.whole)
 
-frame_sought : (w : List ℕ) (g : Given) → given w ≡ g → has_handle g ≡ true → handle_at w ≡ handle_in g
+frame_sought : (w : List ℕ) (g : Given) → given latest w ≡ g → has_handle g ≡ true → handle_at w ≡ handle_in g
 frame_sought w (damaged n) e t = absurd (true≢false (sym t))
 frame_sought w (intact (hello v e₁ node read_kinds)) e t = absurd (true≢false (sym t))
 frame_sought w (intact (welcome e₁ i)) e t = absurd (true≢false (sym t))
@@ -190,8 +191,8 @@ frame_sought w (intact (checked h e₁ i)) e t = absurd (true≢false (sym t))
 
 -- what is looked up is the call's handle, if it has one
 pub sought_own : (c : Call) → asks c ≡ true → sought_by c ≡ handle_by c
-sought_own (on_frame_held w) t = frame_sought w (given w) refl t
-sought_own (on_frame w) t = frame_sought w (given w) refl t
+sought_own (on_frame_held w) t = frame_sought w (given latest w) refl t
+sought_own (on_frame w) t = frame_sought w (given latest w) refl t
 sought_own (flush n) t = absurd (true≢false (sym t))
 sought_own (disconnected_from n) t = absurd (true≢false (sym t))
 sought_own promote t = absurd (true≢false (sym t))

@@ -8,6 +8,7 @@ use lib.Dec.{leb, ltb, eqb}
 use lib.ListN.{length, get_or, set, take, drop, length-set}
 use lib.Seq.{sets, take-set-le, drop-set-lt}
 use borrow.Author.Tests.{leb-true, leb-false, ltb-true, ltb-false, eqb-true, le-leb, lt-leb, lt-ltb, le-ltb}
+use Rattle.model_text.specs.Version.{latest}
 use Rattle.model_frame.specs.Bytes.{write}
 use Rattle.std.specs.Prelude.{Option, Some, is_some, unwrap_or}
 use Rattle.std.specs.Prelude as prelude
@@ -255,7 +256,7 @@ spot_alone row k p =
 -- where the rules hold, the row that is stood for keeps the definition's rule
 pub allowed_apart : (s : Settings) (c : Replica) (row : List Bound) (w b h : List ℕ) → allowed_all s row w b h ≡ true → apart (standby_of s c row w b h).handles ≡ true
 allowed_apart s c row w b h on =
-    sym (rows_apart (bound_of 1) (room_all row h) (λ g y. refl) row h)
+    sym (rows_apart (bound_of latest) (room_all row h) (λ g y. refl) row h)
     ∙ and_l (apart_of row) (leb (length row) (broken_of row (get_or w 0 0) (room_all row h))) (and_r (allowed s.shape w b) (apart_of row && leb (length row) (broken_of row (get_or w 0 0) (room_all row h))) on)
 
 -- the rules by what was found are the rules

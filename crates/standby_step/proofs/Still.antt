@@ -9,8 +9,9 @@ use lib.ListN.{length}
 use Rattle.model_frame.specs.Frame.{Key, Change, Part, commit, whole, last_whole, AppRecord, Frame, hello, welcome, bind, batch, ack, nack, bound, checked}
 use Rattle.model_frame.specs.Parse.{is_empty}
 use Rattle.model_frame.specs.Sizes.{sizes}
-use Rattle.model_session.specs.Session.{fits}
-use Rattle.model_standby.specs.Answer.{protocol_version, Given, damaged, intact, given, Answer, reply, refused, done}
+use Rattle.model_session.specs.Session.{suits, fits}
+use Rattle.model_text.specs.Version.{latest, is_version}
+use Rattle.model_standby.specs.Answer.{Given, damaged, intact, given, Answer, reply, refused, done}
 use Rattle.model_standby.specs.Store.{place_of, is_stored, session_at, or_new}
 use Rattle.model_standby.specs.State.{Settings, incarnation_of, Bound, Call, on_frame_held, on_frame, flush, disconnected_from, promote, promote_unchecked, at_epoch, none_held}
 use Rattle.model_standby.specs.Standby.{due, follows, raised, max_whole, starts_with_reset}
@@ -70,13 +71,14 @@ module _ (L : Settings) where
   bind_still k room h e lag j =
       either (ltb e k.counters.epoch) (by_leave refl)
       (either (ltb L.lag lag) (by_leave refl)
+      (either (not (suits k.counters.version (or_new (session_at k.places (place_of j k.places))).stamp)) (by_leave refl)
       (either (not (is_stored j k.places || ltb (length k.places) L.S)) (by_leave refl)
-      (either (not (room (place_of j k.places))) (by_leave refl) (by_answer refl))))
+      (either (not (room (place_of j k.places))) (by_leave refl) (by_answer refl)))))
 
   hello_still : (k : Core) (v e : ℕ) (kinds : List ℕ) → Still (core_hello L k v e kinds)
   unfolding core_hello
   hello_still k v e kinds =
-      either (not (eqb v protocol_version)) (by_leave refl)
+      either (not (is_version v)) (by_leave refl)
       (either (not (is_empty kinds)) (by_leave refl)
       (either (ltb e k.counters.epoch) (by_leave refl) (by_answer refl)))
 
@@ -103,8 +105,8 @@ module _ (L : Settings) where
 
   call_still : (k : Core) (found : Option Bound) (room : ℕ → Bool) (c : Call) → Still (core_step L k found room c)
   unfolding core_step
-  call_still k found room (on_frame_held w) = given_still k found room (given w)
-  call_still k found room (on_frame w) = record { still = (given_still k found room (given w)).still }
+  call_still k found room (on_frame_held w) = given_still k found room (given k.counters.version w)
+  call_still k found room (on_frame w) = record { still = (given_still k found room (given k.counters.version w)).still }
   call_still k found room (flush n) = either (not (eqb n k.counters.connections) || k.counters.promoted) (by_leave refl) (by_leave refl)
   call_still k found room (disconnected_from n) = either (eqb n k.counters.connections) (by_answer refl) (by_leave refl)
   call_still k found room promote = either k.counters.checked (by_answer refl) (by_leave refl)

@@ -9,7 +9,8 @@ use Rattle.standby_row.specs.Row.{free_record, find_of, broken_of, apart_of, alo
 use Rattle.standby_handles.specs.Rows.{row_of}
 use Rattle.store_areas.specs.Areas.{allowed, places_of, used_of}
 use Rattle.standby_pending.specs.Pending.{pending_of}
-use Rattle.model_standby.specs.Answer.{protocol_version, Given, damaged, intact, given, reply, refused, done, accepted, says_diverged}
+use Rattle.model_text.specs.Version.{latest}
+use Rattle.model_standby.specs.Answer.{Given, damaged, intact, given, reply, refused, done, accepted, says_diverged}
 use Rattle.model_standby.specs.Answer as the-answer
 use Rattle.model_standby.specs.Row.{Row, find}
 use Rattle.model_standby.specs.State.{Counters, Standby, Call, on_frame_held, on_frame, flush, disconnected_from, promote, promote_unchecked}
@@ -31,7 +32,7 @@ room_all row h = room_of (length h) (length row)
 -- what it all stands for
 abbrev pub standby_of : Settings → Replica → List Bound → List ℕ → List ℕ → List ℕ → Standby
 standby_of s c row w b h =
-    record { counters = counters_of c; places = places_of s.shape w b; handles = row_of (bound_of protocol_version) (room_all row h) row h; pending = pending_of w }
+    record { counters = counters_of c; places = places_of s.shape w b; handles = row_of (bound_of latest) (room_all row h) row h; pending = pending_of w }
 
 -- the rules: the store's; no two used records have one handle, and no two name one place; none names a place that isn't in use or holds more than its area has
 abbrev pub allowed_all : Settings → List Bound → List ℕ → List ℕ → List ℕ → Bool
@@ -84,8 +85,8 @@ row_by_given c (intact f) a = row_by_frame c f a
 
 -- a call: the connection that was lost and promotion free all
 abbrev pub row_by : Counters → Call → the-answer.Answer → RowChange
-row_by c (on_frame_held f) a = row_by_given c (given f) a
-row_by c (on_frame f) a = row_by_given c (given f) a
+row_by c (on_frame_held f) a = row_by_given c (given c.version f) a
+row_by c (on_frame f) a = row_by_given c (given c.version f) a
 row_by c (flush n) a = keeps
 row_by c (disconnected_from n) a = cond (eqb n c.connections) frees keeps
 row_by c promote a = cond (accepted a) frees keeps

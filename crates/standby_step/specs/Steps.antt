@@ -15,7 +15,9 @@ use Rattle.store_areas.specs.Areas.{words_at, bytes_at, allowed, Rules, places_o
 use Rattle.standby_pending.specs.Pending.{pending_of}
 use Rattle.standby_pending_run.specs.Commits.{ran_words}
 use Rattle.standby_commit.specs.Settling.{StoreChange, stays, bind_change, batch_change, StoreAfter}
-use Rattle.model_standby.specs.Answer.{protocol_version, Given, damaged, intact, given, handle_in, accepted, is_reply}
+use Rattle.model_text.specs.Version.{latest}
+use Rattle.frame_stamp.specs.Versions.{version_of}
+use Rattle.model_standby.specs.Answer.{Given, damaged, intact, given, handle_in, accepted, is_reply}
 use Rattle.model_standby.specs.Store.{Place, place_of, is_stored}
 use Rattle.model_standby.specs.State.{Bound, Counters, Call, on_frame_held, on_frame, flush, disconnected_from, promote, promote_unchecked}
 use Rattle.model_standby.specs.State as state
@@ -47,7 +49,7 @@ abbrev pub is_found : Lookup → Bool
 is_found seen = is_some seen.own
 
 abbrev pub found_in : Lookup → List ℕ → Option Bound
-found_in seen h = found_of protocol_version (is_found seen) (own_record seen) (area_at (room_in seen h) (own_place seen) h)
+found_in seen h = found_of latest (is_found seen) (own_record seen) (area_at (room_in seen h) (own_place seen) h)
 
 -- at which session places the row has room for the handle k, once no other handle has the place
 abbrev pub rooms_in : Lookup → List BoundRecord → ℕ → ℕ → Bool
@@ -92,10 +94,10 @@ pub record PromotionLeaves (s : Shape) (refused : Bool) (w w' b b' : List ℕ) :
   pub words : refused ≡ false → Only StoreWord.places (words_at s (used_of w)) (set w StoreWord.pending 0) w'
   pub bytes : refused ≡ false → Only 0 (bytes_at s (used_of w)) b b'
 
--- by the handle's place and the answer
+-- by the handle's place and the answer; a frame is read in the connection's version
 abbrev pub Leaves : Shape → Replica → ℕ → Call → List ℕ → List ℕ → List ℕ → List ℕ → Answer → Type 0
-Leaves s c p (on_frame_held f) w w' b b' a = FrameLeaves s (changes_by (places_of s w b) p (given f) (accepted (answer_of b' a))) (due_now (is_set c.promoted) (pending_of w) (given f)) false w w' b b'
-Leaves s c p (on_frame f) w w' b b' a = FrameLeaves s (changes_by (places_of s w b) p (given f) (accepted (answer_of b' a))) (due_now (is_set c.promoted) (pending_of w) (given f)) (is_reply (answer_of b' a)) w w' b b'
+Leaves s c p (on_frame_held f) w w' b b' a = FrameLeaves s (changes_by (places_of s w b) p (given (version_of c.version2) f) (accepted (answer_of b' a))) (due_now (is_set c.promoted) (pending_of w) (given (version_of c.version2) f)) false w w' b b'
+Leaves s c p (on_frame f) w w' b b' a = FrameLeaves s (changes_by (places_of s w b) p (given (version_of c.version2) f) (accepted (answer_of b' a))) (due_now (is_set c.promoted) (pending_of w) (given (version_of c.version2) f)) (is_reply (answer_of b' a)) w w' b b'
 Leaves s c p (flush n) w w' b b' a = (w' ≡ cond (eqb a.refusal 0) (ran_words s w) w) × (b' ≡ b)
 Leaves s c p (disconnected_from n) w w' b b' a = (w' ≡ cond (eqb n c.connections) (set w StoreWord.pending 0) w) × (b' ≡ b)
 Leaves s c p promote w w' b b' a = PromotionLeaves s (not (eqb a.refusal 0)) w w' b b'
@@ -108,8 +110,8 @@ holds_after room i none h = h
 holds_after room i (some x) h = write h (i * room + x.offset) x.bytes
 
 abbrev pub writes_by : state.Settings → Counters → Option Bound → Call → Option HoldWrite
-writes_by L c found (on_frame_held f) = writes L c found (given f)
-writes_by L c found (on_frame f) = writes L c found (given f)
+writes_by L c found (on_frame_held f) = writes L c found (given c.version f)
+writes_by L c found (on_frame f) = writes L c found (given c.version f)
 writes_by L c found (flush n) = none
 writes_by L c found (disconnected_from n) = none
 writes_by L c found promote = none
@@ -129,18 +131,18 @@ has_handle (intact (nack h r)) = false
 has_handle (intact (bound h m)) = false
 has_handle (intact (checked h e i)) = false
 
--- the handle that a call's frame names
+-- the handle that a call's frame names: what some version reads, the latest reads too
 abbrev pub handle_by : Call → ℕ
-handle_by (on_frame_held f) = handle_in (given f)
-handle_by (on_frame f) = handle_in (given f)
+handle_by (on_frame_held f) = handle_in (given latest f)
+handle_by (on_frame f) = handle_in (given latest f)
 handle_by (flush n) = 0
 handle_by (disconnected_from n) = 0
 handle_by promote = 0
 handle_by promote_unchecked = 0
 
 abbrev pub asks : Call → Bool
-asks (on_frame_held f) = has_handle (given f)
-asks (on_frame f) = has_handle (given f)
+asks (on_frame_held f) = has_handle (given latest f)
+asks (on_frame f) = has_handle (given latest f)
 asks (flush n) = false
 asks (disconnected_from n) = false
 asks promote = false
@@ -153,8 +155,8 @@ keeps_by promoted (damaged n) = true
 keeps_by promoted (intact f) = promoted
 
 abbrev pub keeps_counters : Replica → Call → Bool
-keeps_counters c (on_frame_held f) = keeps_by (is_set c.promoted) (given f)
-keeps_counters c (on_frame f) = keeps_by (is_set c.promoted) (given f)
+keeps_counters c (on_frame_held f) = keeps_by (is_set c.promoted) (given (version_of c.version2) f)
+keeps_counters c (on_frame f) = keeps_by (is_set c.promoted) (given (version_of c.version2) f)
 keeps_counters c (flush n) = true
 keeps_counters c (disconnected_from n) = true
 keeps_counters c promote = false
@@ -163,7 +165,7 @@ keeps_counters c promote_unchecked = false
 -- ---- a call's core by value, as it is proved: no entry point's promise cites what follows
 
 pub record Stepped (s : Settings) (c : Replica) (seen : Lookup) (row : List BoundRecord) (call : Call) (w w' b b' h h' : List ℕ) (r : Outcome) : Type 0 where
-  pub is : outcome_of protocol_version (room_in seen h) s.shape w' b' h' r ≡ core_step (settings_of s (room_in seen h)) (core_at (counters_of c) s.shape w b) (found_in seen h) (rooms_in seen row (handle_by call)) call
+  pub is : outcome_of latest (room_in seen h) s.shape w' b' h' r ≡ core_step (settings_of s (room_in seen h)) (core_at (counters_of c) s.shape w b) (found_in seen h) (rooms_in seen row (handle_by call)) call
   pub lands : Lands seen row (used_of w') (room_in seen h) (area_at (room_in seen h) (own_place seen) h') r.action
   pub kept : keeps_counters c call ≡ true → r.replica ≡ c
   pub rules : Rules s.shape w' b'

@@ -8,3 +8,4 @@ pub mod Promotion
 pub mod Keys
 pub mod Messages
 pub mod Holding
+pub mod Suiting

@@ -10,7 +10,7 @@ use lib.ListN.{length, take, drop, get_or, set, drop_of_length-le, length-drop}
 use lib.Seq.{drop_at, length-take-le, take_all}
 use borrow.Rule.Slice.PartMut.{mid_of, post_of, put_mid, mid_len}
 use Rattle.model_text.specs.Printable.{is_marks, is_printable}
-use Rattle.model_text.specs.Stamp.{is_stamp}
+use Rattle.model_text.specs.Stamp.{has_digits, is_stamp}
 use Rattle.model_frame.specs.Frame.{record_msg, record_bare, reset, set_created_at, set_marks}
 use Rattle.model_session.specs.Session.{apply, keep}
 use Rattle.model_standby.specs.Store.{on_stored, changed}
@@ -128,7 +128,7 @@ bare C M q b ys w h sw el =
 
 cleared_at : (C M : ℕ) (b ys w : List ℕ) → Header w → ((next : ℕ) (r : List ℕ) → log_of C M next ys r ≡ [])
     → place_in C M (set (set (set (set (set (set (take 14 w ++ ys) 0 1) 1 1) 2 0) 4 0) 5 0) 6 0) b ≡ with_session (apply C M reset (session_of C M w b)) (place_in C M w b)
-unfolding place_in session_of next_out_of stored_flight durable_of field stamp_of marks_of stored_key apply is_stamp is_marks is_printable
+unfolding place_in session_of next_out_of stored_flight durable_of field stamp_of marks_of stored_key apply is_stamp has_digits is_marks is_printable
 cleared_at C M b ys w (header a0 a1 a2 a3 a4 a5 a6 a7 a8 a9 a10 a11 a12 a13 ws) el =
     let v : List ℕ = a0 ∷ a1 ∷ a2 ∷ a3 ∷ a4 ∷ a5 ∷ a6 ∷ a7 ∷ a8 ∷ a9 ∷ a10 ∷ a11 ∷ a12 ∷ a13 ∷ ws in
     λ i. record {

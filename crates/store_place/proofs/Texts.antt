@@ -32,6 +32,11 @@ field_length b at size n x e =
     let long : length x ≡ length (take (min n size) (drop at b)) = ap length e in
     omega (arith, long, length-take (min n size) (drop at b))
 
+-- and is no longer than its stored length
+pub field_most : (b : List ℕ) (at size n : ℕ) → length (field b at size n) ≤ n
+unfolding field
+field_most b at size n = omega (arith, length-take (min n size) (drop at b))
+
 module _ (valid : List ℕ → Bool) (b : List ℕ) (at size n : ℕ) (x : List ℕ) (t : Bool) (ex : x ≡ field b at size n) (et : t ≡ valid x) where
   judged : t ≡ valid (field b at size n)
   judged = et ∙ ap valid ex

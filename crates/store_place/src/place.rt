@@ -1,12 +1,14 @@
 // A place as it is read: its words, its bytes and the room for messages.
 ghost use Rattle.std.specs.Prelude.{◌≡◌, ℕ, ◌+◌, ◌-◌, ◌*◌, ◌≤◌, length, drop};
+ghost use Rattle.model_session.specs.Session.{suits};
 ghost use Rattle.model_session.specs.Summary.{last_out};
 ghost use Rattle.store_place.specs.Keys.{lent_key};
-ghost use Rattle.store_place.specs.Place.{next_out_of, stored_key, session_of, PositionIn, FromIn, NextMessageIn};
+ghost use Rattle.store_place.specs.Place.{next_out_of, stamp_of, stored_key, session_of, PositionIn, FromIn, NextMessageIn};
 ghost use Rattle.store_place.specs.PlaceByte;
 ghost use Rattle.store_place.specs.PlaceWord;
 
-use crate::{Key, byte, key_in, next_outgoing, word};
+use crate::{Key, byte, key_in, next_outgoing, stamp, word};
+use frame_stamp::{LONGEST_SHORT, Protocol};
 use store_log::log::Log;
 use store_log::{FoundMessage, LogPosition};
 
@@ -25,6 +27,17 @@ impl<'a> Place<'a> {
         ensures { lent_key result ≡ stored_key self.now.words.now self.now.bytes.now }
     {
         key_in(self.words, self.bytes)
+    }
+
+    // Whether reading takes the session's stamp in this version, if it has one. Most often the length that is stored tells it: a stamp is never longer.
+    pub fn suits(&self, protocol: Protocol) -> bool
+        ensures { result ≡ suits protocol.version (stamp_of self.now.words.now self.now.bytes.now) }
+    {
+        if protocol.version == Protocol::LATEST {
+            return true;
+        }
+        self.words[word::STAMP_LEN] <= LONGEST_SHORT as u64
+            || stamp(self.words, self.bytes).len() <= LONGEST_SHORT
     }
 
     // The session's log.

@@ -7,12 +7,13 @@ use native.Mathlib.Omega.{arith}
 use lib.ListN.{length, take, drop, get_or}
 use borrow.Rule.Slice.PartMut.{mid_of}
 use Rattle.model_frame.specs.Frame.{Key}
+use Rattle.model_session.specs.Session.{suits}
 use Rattle.model_session.specs.Summary.{last_out, summary}
 use Rattle.model_standby.specs.Store.{Place, same_key}
 use Rattle.frame_fields.specs.declared.Summary.{Summary}
 use Rattle.frame_fields.specs.Answers.{summary_of}
 use Rattle.store_log.specs.Log.{msg}
-use Rattle.store_place.specs.Place.{next_out_of, durable_of, stored_key, session_of, place_in, rest_in, PositionIn, FromIn, NextMessageIn}
+use Rattle.store_place.specs.Place.{next_out_of, durable_of, stamp_of, stored_key, session_of, place_in, rest_in, PositionIn, FromIn, NextMessageIn}
 use Rattle.store_areas.specs.declared.Shape.{Shape}
 use Rattle.store_areas.specs.Areas.{place_words, place_bytes, words_at, bytes_at, in_use, Rules, SpotIn, slice, place_at, TextAt}
 use Rattle.store_areas.proofs.Lifting.{spot_place, spot_words_part, spot_bytes_part}
@@ -78,6 +79,10 @@ module _ (s : Shape) (i : ℕ) (w b x y : List ℕ) (is : place_in s.bytes s.mes
   pub durable_is : (t : Bool) → t ≡ durable_of x → t ≡ (place_at s w b i).stored.durable
   unfolding place_in
   durable_is t e = e ∙ ap (λ (p : Place). p.stored.durable) is
+
+  pub suits_is : (version : ℕ) (t : Bool) → t ≡ suits version (stamp_of x y) → t ≡ suits version (place_at s w b i).stored.session.stamp
+  unfolding place_in session_of
+  suits_is version t e = e ∙ ap (λ (p : Place). suits version p.stored.session.stamp) is
 
   pub last_is : (n r M : ℕ) → M ≡ s.messages → r ≡ last_out (session_of s.bytes M x y) n → r ≡ last_out (place_at s w b i).stored.session n
   unfolding place_in

@@ -3,6 +3,7 @@
 #![tactic(auto)]
 
 ghost use Rattle.std.specs.Prelude.{◌≡◌, Bool, true, List, [], ◌∷◌, ◌++◌, ℕ, ◌+◌, ◌-◌, ◌*◌, ◌≤◌, ◌<◌, length, take, drop, set};
+ghost use Rattle.model_session.specs.Session.{suits};
 ghost use Rattle.model_session.specs.Summary.{last_out, summary};
 ghost use Rattle.model_standby.specs.Store.{same_key, taken_over};
 ghost use Rattle.frame_fields.specs.Answers.{summary_of};
@@ -14,6 +15,7 @@ ghost use Rattle.store_sessions.specs.Answers.{stored_place, sought_is, sought_i
 use base_refusals::Refusal;
 use frame_fields::Summary;
 use frame_reader::Span;
+use frame_stamp::Protocol;
 use store_areas::{Shape, Store, View, word};
 use store_log::LogPosition;
 use store_place::Key;
@@ -123,6 +125,14 @@ pub fn durable(view: &View, place: usize) -> bool
     ensures { result ≡ (place_at view.now.shape view.now.words.now view.now.bytes.now place).stored.durable }
 {
     store_place::durable(view.place(place).words)
+}
+
+// Whether reading takes the session's stamp in this version, if it has one.
+pub fn suits(view: &View, place: usize, protocol: Protocol) -> bool
+    requires { place < used_of view.now.words.now }
+    ensures { result ≡ suits protocol.version (place_at view.now.shape view.now.words.now view.now.bytes.now place).stored.session.stamp }
+{
+    view.place(place).suits(protocol)
 }
 
 // last_outgoing over n.

@@ -7,6 +7,7 @@ use mathlib.Core.Option.{some}
 use native.Mathlib.Omega.{arith}
 use Prim.Native.Nat.{ℕ}
 use lib.ListN.{replicate}
+use Rattle.model_text.specs.Version.{is_version}
 use Rattle.model_text.specs.Utf8.{utf8, well_formed, lead_length, own_bits, least, fitting, is_scalar, is_surrogate}
 use Rattle.model_frame.specs.Bytes.{le, bytes_of}
 use Rattle.model_frame.specs.Frame.{record_msg, commit, Frame, hello, bind, batch}
@@ -23,7 +24,7 @@ use Rattle.model_standby.specs.Store.{session_at}
 use Rattle.model_standby.specs.State.{Standby, Call, on_frame_held, on_frame, new_standby}
 use Rattle.model_standby.specs.Standby.{on_hello, on_given, step}
 use Rattle.model_standby.specs.Demand.{by_held, by_frame}
-use Rattle.model_two_actives.specs.TwoActives.{by_hello, Takes}
+use Rattle.model_two_actives.specs.TwoActives.{Deposing, by_hello, Takes}
 use Rattle.model_two_actives.proofs.Witness.{L₀, key_of, not_by_bind}
 use Rattle.standby_state.specs.declared.Settings.{Settings}
 use Rattle.standby_state.specs.declared.Answer.{Answer}
@@ -38,7 +39,7 @@ s₀ = record { shape = record { places = 2; bytes = 4; messages = 2 }; incarnat
 abbrev x₀ : Lent
 x₀ =
     record {
-      counters = record { epoch = record { 0 = 0 }; connections = 0; promoted = 0; checked = 0 };
+      counters = record { epoch = record { 0 = 0 }; connections = 0; promoted = 0; checked = 0; version2 = 0 };
       row = free_record ∷ free_record ∷ [];
       words = replicate 106 0;
       bytes = replicate 456 0;
@@ -66,22 +67,26 @@ both = on_frame_held (encode (hello 1 5 [] [])) ∷ on_frame_held (encode (bind 
 pub commit_taken : {z : Lent} → Runs s₀ x₀ both z → session_at (places_of s₀.shape z.words z.bytes) 0 ≡ some (apply_all 4 2 (record_msg 1 (7 ∷ []) ∷ []) new_session)
 commit_taken {z} rs = ap (λ (t : Standby). session_at t.places 0) (sym (runs s₀ 170 rs allowed₀ refl (new_standby [] 2) stands₀)) ∙ not_by_bind.applied
 
--- ---- deposed by Hello
+-- ---- deposed by a Hello of version 2, as by one of version 1
 
-hello_taken : Takes (on_frame (encode (hello 1 9 [] []))) (hello 1 9 [] [])
+hello_taken : Takes 1 (on_frame (encode (hello 2 9 [] []))) (hello 2 9 [] [])
 unfolding given encode body_bytes blob_bytes run_bytes bytes_of decode le read_num read_bytes read_blob read_text read_count many read_body read_fields hello_fields read_kinds utf8 well_formed lead_length own_bits least fitting is_scalar is_surrogate
-hello_taken = record { bytes = encode (hello 1 9 [] []); hands = by_frame; reads = refl }
+hello_taken = record { bytes = encode (hello 2 9 [] []); hands = by_frame; reads = refl }
 
-commit_read : Takes (on_frame_held (encode low_commit)) low_commit
+commit_read : (v : ℕ) → Takes v (on_frame_held (encode low_commit)) low_commit
 unfolding given encode body_bytes blob_bytes change_bytes run_bytes bytes_of decode le read_num read_bytes read_blob read_count many read_body read_fields batch_fields read_changes read_change record_msg_fields read_app_records read_part
-commit_read = record { bytes = encode low_commit; hands = by_held; reads = refl }
+commit_read v = record { bytes = encode low_commit; hands = by_held; reads = refl }
 
-still_unpromoted : (step L₀ (new_standby [] 2) (on_frame (encode (hello 1 9 [] [])))).state.counters.promoted ≡ false
-unfolding step on_given on_hello given encode body_bytes blob_bytes run_bytes bytes_of decode le read_num read_bytes read_blob read_text read_count many read_body read_fields hello_fields read_kinds utf8 well_formed lead_length own_bits least fitting is_scalar is_surrogate
+deposing : Deposing (settings s₀ x₀) 9 (hello 2 9 [] [])
+unfolding is_version
+deposing = by_hello refl
+
+still_unpromoted : (step L₀ (new_standby [] 2) (on_frame (encode (hello 2 9 [] [])))).state.counters.promoted ≡ false
+unfolding step on_given on_hello given encode body_bytes blob_bytes run_bytes bytes_of decode le read_num read_bytes read_blob read_text read_count many read_body read_fields hello_fields read_kinds utf8 well_formed lead_length own_bits least fitting is_scalar is_surrogate is_version
 still_unpromoted = refl
 
-pub commit_stale : {y z : Lent} {a b : Answer} → Calls s₀ (on_frame (encode (hello 1 9 [] []))) x₀ y a → Calls s₀ (on_frame_held (encode low_commit)) y z b → OnlyCommitsRan s₀ y z
+pub commit_stale : {y z : Lent} {a b : Answer} → Calls s₀ (on_frame (encode (hello 2 9 [] []))) x₀ y a → Calls s₀ (on_frame_held (encode low_commit)) y z b → OnlyCommitsRan s₀ y z
 commit_stale {y} {z} {a} {b} p q =
     let o = one s₀ 170 allowed₀ refl p (new_standby [] 2) stands₀ in
-    (two_actives s₀ x₀ allowed₀ refl).deposes (on_frame (encode (hello 1 9 [] []))) 9 (hello 1 9 [] []) y a hello_taken by_hello p [] y no_calls
-    (ap (λ (t : Standby). t.counters.promoted) o.state ∙ still_unpromoted) (on_frame_held (encode low_commit)) low_commit z b commit_read tt q
+    (two_actives s₀ x₀ allowed₀ refl).deposes (on_frame (encode (hello 2 9 [] []))) 9 (hello 2 9 [] []) y a hello_taken deposing p [] y no_calls
+    (ap (λ (t : Standby). t.counters.promoted) o.state ∙ still_unpromoted) (on_frame_held (encode low_commit)) low_commit z b (commit_read _) tt q

@@ -47,22 +47,28 @@ row_refused k (bound h m) = refl
 row_refused k (checked h e i) = refl
 
 module _ (L : Settings) (s : Standby) (k : Counters) where
-  pub lower_row : (c : Call) (w : List ℕ) (f : Frame) → s.counters ≡ k → s.counters.promoted ≡ false → Hands c w → given w ≡ intact f → T (lower s.counters.epoch f) → row_by k c (step L s c).answer ≡ keeps
+  pub lower_row : (c : Call) (w : List ℕ) (f : Frame) → s.counters ≡ k → s.counters.promoted ≡ false → Hands c w → given s.counters.version w ≡ intact f → T (lower s.counters.epoch f) → row_by k c (step L s c).answer ≡ keeps
   lower_row c w f e p h r t = by h (lower_answer L s c w f p h r t) (lower_spares L s c w f p h r t)
     where
+      reads : given k.version w ≡ intact f
+      reads = subst (λ (x : Counters). given x.version w ≡ intact f) e r
+
       low : T (lower k.epoch f)
       low = subst (λ (x : Counters). T (lower x.epoch f)) e t
 
       by : {d : Call} {a : Answer} → Hands d w → (is_hello f || not (accepted a)) ≡ true → Spares a → row_by k d a ≡ keeps
-      by {a = a} by_held q u = ap (λ (g : Given). row_by_given k g a) r ∙ row_lower k f a low q u
-      by {a = a} by_frame q u = ap (λ (g : Given). row_by_given k g a) r ∙ row_lower k f a low q u
+      by {a = a} by_held q u = ap (λ (g : Given). row_by_given k g a) reads ∙ row_lower k f a low q u
+      by {a = a} by_frame q u = ap (λ (g : Given). row_by_given k g a) reads ∙ row_lower k f a low q u
 
   given_row : (g : Given) → s.counters.promoted ≡ true → row_by_given k g (on_given L s g).answer ≡ keeps
   unfolding on_given
   given_row (damaged n) p = refl
   given_row (intact f) p = ap (λ (r : Result). row_by_frame k f r.answer) (cond-true _ _ p) ∙ row_refused k f
 
-  pub promoted_row : (c : Call) (w : List ℕ) → s.counters.promoted ≡ true → Hands c w → row_by k c (step L s c).answer ≡ keeps
+  same_row : (w : List ℕ) (a : Answer) → s.counters ≡ k → row_by_given k (given k.version w) a ≡ row_by_given k (given s.counters.version w) a
+  same_row w a e = ap (λ (x : Counters). row_by_given k (given x.version w) a) (sym e)
+
+  pub promoted_row : (c : Call) (w : List ℕ) → s.counters ≡ k → s.counters.promoted ≡ true → Hands c w → row_by k c (step L s c).answer ≡ keeps
   unfolding step
-  promoted_row c w p by_held = given_row (given w) p
-  promoted_row c w p by_frame = given_row (given w) p
+  promoted_row c w e p by_held = same_row w _ e ∙ given_row (given s.counters.version w) p
+  promoted_row c w e p by_frame = same_row w _ e ∙ given_row (given s.counters.version w) p

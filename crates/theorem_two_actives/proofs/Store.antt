@@ -14,6 +14,7 @@ use Rattle.standby_pending.specs.Pending.{pending_of}
 use Rattle.standby_pending_run.specs.Commits.{marked_words, ran_words}
 use Rattle.standby_pending_run.proofs.Marking.{ran}
 use Rattle.standby_commit.specs.Settling.{StoreChange, stays, batch_change, StoreAfter}
+use Rattle.frame_stamp.specs.Versions.{version_of}
 use Rattle.model_standby.specs.Answer.{Given, damaged, intact, given, accepted, is_reply}
 use Rattle.model_standby.specs.Answer as answer
 use Rattle.model_standby.specs.Store.{Place}
@@ -58,8 +59,8 @@ runs_after by_held a = false
 runs_after by_frame a = is_reply a
 
 pub store_stays : (s : Shape) (k : Replica) (p : ℕ) {c : Call} {v : List ℕ} (hands : Hands c v) (w w' b b' : List ℕ) (a : Answer) → Rules s w b → Leaves s k p c w w' b b' a
-    → changes_by (places_of s w b) p (given v) (accepted (answer_of b' a)) ≡ stays
-    → (b' ≡ b) × (w' ≡ cond (runs_after hands (answer_of b' a) || due_now (is_set k.promoted) (pending_of w) (given v)) (ran_words s w) w)
+    → changes_by (places_of s w b) p (given (version_of k.version2) v) (accepted (answer_of b' a)) ≡ stays
+    → (b' ≡ b) × (w' ≡ cond (runs_after hands (answer_of b' a) || due_now (is_set k.promoted) (pending_of w) (given (version_of k.version2) v)) (ran_words s w) w)
 store_stays s k p by_held w w' b b' a rules l e = frame_stays s w b rules l e
 store_stays s k p by_frame w w' b b' a rules l e = frame_stays s w b rules l e
 

@@ -3,21 +3,21 @@
 use mathlib.Core.Path.{◌≡◌, refl, sym, ap, subst, ◌∙◌}
 use Prim.Native.Nat.{ℕ, ◌≤◌, max}
 use native.Mathlib.Omega.{arith}
-use mathlib.Core.List.{List, [], ◌∷◌}
+use mathlib.Core.List.{List}
 use mathlib.Core.Option.{Option, none}
 use mathlib.Core.Bool.{Bool, true, false, cond, not, ◌||◌}
 use lib.Dec.{T}
 use lib.ListN.{get_or}
 use Rattle.base_flags.specs.Flag.{is_set}
 use Rattle.base_laws.proofs.Lists.{both}
-use Rattle.model_frame.specs.Frame.{Frame, bind}
+use Rattle.model_frame.specs.Frame.{Frame}
 use Rattle.store_areas.specs.Areas.{allowed, Rules, places_of}
 use Rattle.store_areas.proofs.Ruling.{rules_of}
 use Rattle.standby_pending.specs.Pending.{pending_of}
 use Rattle.standby_pending_run.specs.Commits.{ran_words}
 use Rattle.standby_commit.specs.Settling.{stays}
 use Rattle.standby_row.specs.Row.{free_record, find_of}
-use Rattle.standby_row.specs.declared.Bound.{Bound as BoundRecord}
+use Rattle.frame_stamp.specs.Versions.{version_of}
 use Rattle.model_standby.specs.Answer.{given, lower, accepted, is_reply}
 use Rattle.model_standby.specs.Answer as answer
 use Rattle.model_standby.specs.Row.{find}
@@ -28,7 +28,7 @@ use Rattle.model_standby.specs.Standby.{step, run}
 use Rattle.model_standby.specs.Hold.{HoldWrite, writes}
 use Rattle.model_standby.specs.Demand.{Hands, by_held, by_frame}
 use Rattle.model_standby.proofs.Sanity.{epoch_never_falls}
-use Rattle.model_two_actives.specs.TwoActives.{Deposing, Takes}
+use Rattle.model_two_actives.specs.TwoActives.{Takes}
 use Rattle.model_two_actives.proofs.TwoActives as model
 use Rattle.model_two_actives.proofs.Lower.{is_hello, lower_answer, promoted_answer, lower_writes, promoted_writes}
 use Rattle.standby_state.specs.declared.Settings.{Settings}
@@ -45,7 +45,7 @@ use Rattle.theorem_two_actives.proofs.Store.{runs_after, store_stays, changes_no
 
 -- ---- the frame's bytes are what a call writes by
 
-writes_by_lem : (L : state.Settings) (k : Counters) (found : Option state.Bound) {c : Call} {v : List ℕ} → Hands c v → writes L k found (given v) ≡ none → writes_by L k found c ≡ none
+writes_by_lem : (L : state.Settings) (k : Counters) (found : Option state.Bound) {c : Call} {v : List ℕ} → Hands c v → writes L k found (given k.version v) ≡ none → writes_by L k found c ≡ none
 writes_by_lem L k found by_held e = e
 writes_by_lem L k found by_frame e = e
 
@@ -91,7 +91,7 @@ module _ (s : Settings) where
 
     module _ (v : List ℕ) (hands : Hands c v) where
       abbrev Ran : Bool
-      Ran = runs_after hands (answer_of y.bytes a) || due_now (is_set x.counters.promoted) (pending_of x.words) (given v)
+      Ran = runs_after hands (answer_of y.bytes a) || due_now (is_set x.counters.promoted) (pending_of x.words) (given (version_of x.counters.version2) v)
 
       record Left : Type 0 where
         same : SameBut s x y
@@ -101,7 +101,7 @@ module _ (s : Settings) where
       left : counters_of y.counters ≡ counters_of x.counters
           → row_by (counters_of x.counters) c (step L st c).answer ≡ keeps
           → writes_by L (counters_of x.counters) (find (handle_by c) st.handles) c ≡ none
-          → changes_by (places_of s.shape x.words x.bytes) at (given v) (accepted (answer_of y.bytes a)) ≡ stays
+          → changes_by (places_of s.shape x.words x.bytes) at (given (version_of x.counters.version2) v) (accepted (answer_of y.bytes a)) ≡ stays
           → Left
       left k e n ch =
           let q = store_stays s.shape x.counters at hands x.words y.words x.bytes y.bytes a rules steps.leaves ch in
@@ -117,7 +117,7 @@ module _ (s : Settings) where
 
     -- ---- a frame of a lower epoch
 
-    lower_call : is_set x.counters.promoted ≡ false → (f : Frame) → Takes c f → T (lower x.counters.epoch.0 f) → OnlyCommitsRan s x y
+    lower_call : is_set x.counters.promoted ≡ false → (f : Frame) → Takes (version_of x.counters.version2) c f → T (lower x.counters.epoch.0 f) → OnlyCommitsRan s x y
     lower_call u f t l =
         let m = (model.two_actives L st u).lower_leaves c f t l in
         let v = t.bytes in
@@ -140,9 +140,9 @@ module _ (s : Settings) where
         let no = promoted_answer L st c v u h in
         let said : accepted (answer_of y.bytes a) ≡ false = ap accepted after_answer ∙ no.0 in
         let is = left v h (ap (λ (z : Standby). z.counters) (after_state ∙ model.promoted_call L st c v u h))
-        (promoted_row L st (counters_of x.counters) c v u h)
+        (promoted_row L st (counters_of x.counters) c v refl u h)
         (writes_by_lem L (counters_of x.counters) (find (handle_by c) st.handles) h (promoted_writes L (counters_of x.counters) (find (handle_by c) st.handles) v u))
-        (given_none (places_of s.shape x.words x.bytes) at (given v) (accepted (answer_of y.bytes a)) said) in
+        (given_none (places_of s.shape x.words x.bytes) at (given (version_of x.counters.version2) v) (accepted (answer_of y.bytes a)) said) in
         let same-words : y.words ≡ x.words = is.words ∙ ap (λ (t : Bool). cond t (ran_words s.shape x.words) x.words) (not_ran v h (ap is_reply after_answer ∙ no.1)) in
         let same-counters : y.counters ≡ x.counters = steps.counters_kept (kept_by h) in
         λ j. record { counters = same-counters j; row = is.same.row j; words = same-words j; bytes = is.same.bytes j; holds = is.same.holds j }
@@ -152,8 +152,8 @@ module _ (s : Settings) where
         kept_on (answer.intact f) = refl
 
         kept_by : {d : Call} {w : List ℕ} → Hands d w → keeps_counters x.counters d ≡ true
-        kept_by {w = w} by_held = ap (λ (t : Bool). keeps_by t (given w)) u ∙ kept_on (given w)
-        kept_by {w = w} by_frame = ap (λ (t : Bool). keeps_by t (given w)) u ∙ kept_on (given w)
+        kept_by {w = w} by_held = ap (λ (t : Bool). keeps_by t (given (version_of x.counters.version2) w)) u ∙ kept_on (given (version_of x.counters.version2) w)
+        kept_by {w = w} by_frame = ap (λ (t : Bool). keeps_by t (given (version_of x.counters.version2) w)) u ∙ kept_on (given (version_of x.counters.version2) w)
 
         after_none : {d : Call} {w : List ℕ} (h₁ : Hands d w) (b : answer.Answer) → is_reply b ≡ false → runs_after h₁ b ≡ false
         after_none by_held b e = refl
@@ -161,7 +161,7 @@ module _ (s : Settings) where
 
         not_ran : (w : List ℕ) (h₁ : Hands c w) → is_reply (answer_of y.bytes a) ≡ false → Ran w h₁ ≡ false
         not_ran w h₁ e =
-            (λ i. after_none h₁ (answer_of y.bytes a) e i || due_now (u i) (pending_of x.words) (given w)) ∙ due_promoted (pending_of x.words) (given w)
+            (λ i. after_none h₁ (answer_of y.bytes a) e i || due_now (u i) (pending_of x.words) (given (version_of x.counters.version2) w)) ∙ due_promoted (pending_of x.words) (given (version_of x.counters.version2) w)
 
   -- ---- the theorem
 

@@ -1,19 +1,19 @@
 -- Demand 3 on the code is no empty claim: areas of one place (C = 0, M = 0) that keep the rules, a handle bound in them, and a start. Assumes nothing.
 use mathlib.Core.Path.{refl, ap}
-use mathlib.Core.Bool.{Bool, true, false, ◌&&◌}
+use mathlib.Core.Bool.{Bool, true, ◌&&◌}
 use mathlib.Core.List.{[], ◌∷◌}
-use mathlib.Core.Option.{Option, map}
+use mathlib.Core.Option.{map}
 use native.Mathlib.Omega.{arith}
 use lib.ListN.{replicate}
 use Rattle.model_text.specs.Printable.{is_printable_byte, is_printable, is_marks}
 use Rattle.model_session.specs.Session.{new_session, Holdable}
 use Rattle.model_session.specs.Whole.{whole_batches}
 use Rattle.standby_row.specs.declared.Bound.{Bound as BoundRecord}
-use Rattle.store_areas.specs.Areas.{allowed, place_at, places_of, Rules}
+use Rattle.store_areas.specs.Areas.{place_at, places_of, Rules}
 use Rattle.store_areas.proofs.Ruling.{rules_true}
 use Rattle.store_areas.proofs.Lifting.{place_is, session_is}
 use Rattle.standby_changes.proofs.Held.{held_none}
-use Rattle.model_standby.specs.Answer.{protocol_version}
+use Rattle.model_text.specs.Version.{latest}
 use Rattle.model_standby.specs.Store.{Place}
 use Rattle.model_standby.specs.State.{Bound}
 use Rattle.model_standby.proofs.Places.{own_made}
@@ -30,7 +30,7 @@ h₀ = record { used = 1; handle = 9; place = 0; commit_no = record { 0 = 7 }; h
 abbrev x₀ : Lent
 x₀ =
     record {
-      counters = record { epoch = record { 0 = 5 }; connections = 1; promoted = 0; checked = 0 };
+      counters = record { epoch = record { 0 = 5 }; connections = 1; promoted = 0; checked = 0; version2 = 0 };
       row = h₀ ∷ [];
       words = 1 ∷ replicate 81 0;
       bytes = replicate 224 0;
@@ -41,7 +41,7 @@ abbrev p₀ : Place
 p₀ = place_at s₀.shape x₀.words x₀.bytes 0
 
 abbrev b₀ : Bound
-b₀ = bound_of protocol_version h₀ (replicate 122 0)
+b₀ = bound_of latest h₀ (replicate 122 0)
 
 rules₀ : Rules s₀.shape x₀.words x₀.bytes
 rules₀ = record { room = record { bytes_limit = omega arith; messages_limit = omega arith; words_long = omega arith; bytes_long = omega arith }; used = omega arith; pending = omega arith }
@@ -71,7 +71,8 @@ a_start = record {
   its_key =
       own_made (places_of s₀.shape x₀.words x₀.bytes) 0 (record { key = p₀.key; earlier = 0 })
       (ap (map (λ (p : Place). p.key)) (place_is s₀.shape x₀.words x₀.bytes 0 (omega arith))) refl;
-  nothing_held = held_none protocol_version [] (omega arith);
+  nothing_held = held_none latest [] (omega arith);
+  suits_so = refl;
   area = omega arith;
   handle_u32 = omega arith;
   epoch_u64 = omega arith;

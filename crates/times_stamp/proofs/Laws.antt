@@ -9,7 +9,7 @@ use borrow.Author.Tests.{lt-ltb, le-ltb, lt-leb, le-leb}
 use lib.Dec.{leb, ltb, eqb}
 use lib.ListN.{length, take, drop}
 use lib.Seq.{length-take-le}
-use Rattle.model_text.specs.WideStamp.{is_wide_stamp}
+use Rattle.model_text.specs.Stamp.{is_stamp}
 use Rattle.model_times.specs.Days.{days_before_year, year_at, days_before_month, month_at}
 use Rattle.model_times.specs.Times as model
 use Rattle.model_times.specs.Times.{InCalendar, first_year, seconds, has_number, has_stamp, picos_of_milli, time_in, millis_of, picos_of, number, refused, read, full_text, shortest_length, text_of, time_at, end_of_years, text, turned_down, write, lent}
@@ -91,11 +91,11 @@ module _ (millis picos room : ℕ) (h : millis < end_of_years) (l : picos < 1000
 -- ---- what is read
 
 module _ (s : List ℕ) where
-  pub no_stamp : is_wide_stamp s ≡ false → read s ≡ refused 6
+  pub no_stamp : is_stamp s ≡ false → read s ≡ refused 6
   unfolding read
   no_stamp w = rw w refl
 
-  pub long_enough : is_wide_stamp s ≡ true → 17 ≤ length s
+  pub long_enough : is_stamp s ≡ true → 17 ≤ length s
   long_enough w = long_by (stamp_of_bytes s w).groups
     where
       long_by : Groups s → 17 ≤ length s
@@ -105,7 +105,7 @@ module _ (s : List ℕ) where
       long_by (three_of n p a b c) = omega arith
       long_by (four_of n p a b c d) = omega arith
 
-  module _ (w : is_wide_stamp s ≡ true) {t : model.Time} (e : t ≡ time_in s) where
+  module _ (w : is_stamp s ≡ true) {t : model.Time} (e : t ≡ time_in s) where
     pub in_calendar : 1970 ≤ t.year → t.second < 60 → InCalendar t
     in_calendar h l = subst InCalendar (sym e) (time_in_calendar s (stamp_of_bytes s w) (subst (λ (x : model.Time). 1970 ≤ x.year) e h) (subst (λ (x : model.Time). x.second < 60) e l))
 

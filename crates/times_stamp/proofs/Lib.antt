@@ -1,4 +1,2 @@
--- `Digits` walks over digits, `Places` reads a stamp's bytes place by place, `Laws` has times and texts.
-pub mod Digits
-pub mod Places
+-- What callers use of times and texts.
 pub mod Laws

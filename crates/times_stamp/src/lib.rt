@@ -3,13 +3,12 @@
 #![tactic(auto)]
 
 ghost use Rattle.std.specs.Prelude.{ℕ, ◌≡◌, ◌+◌, ◌-◌, ◌≤◌, ◌<◌, [], ◌∷◌, length, drop, get_or};
-ghost use Rattle.model_text.specs.Stamp.{matches, year_of};
-ghost use Rattle.model_text.specs.WideStamp.{digits, fraction, is_wide_stamp};
+ghost use Rattle.model_text.specs.Stamp.{year_of};
 ghost use Rattle.model_times.specs.Times.{InCalendar, three_at, time_in, two, three, full_text, shortest_length, millis_of, picos_of, time_at, end_of_years, read, write, lent, area_after};
 ghost use Rattle.times_stamp.specs.Answers.{time_of, read_of, told_of, told};
 
 use base_refusals::Refusal;
-use frame_stamp::{is_clock, is_date, is_day, is_digit, pair_number};
+use frame_stamp::{is_stamp, pair_number};
 use times_calendar::{date_of, days_before};
 
 // Years before this one have no number.
@@ -49,36 +48,6 @@ pub struct Time {
 }
 
 // ---- a stamp's bytes
-
-// All of s are digits.
-fn all_digits(s: &[u8]) -> bool
-    ensures { result ≡ matches (digits (length s.now)) s.now }
-{
-    let mut ok = true;
-    for byte in s {
-        ok &= is_digit(*byte);
-    }
-    ok
-}
-
-// A point and digits up to the end.
-fn is_fraction(s: &[u8]) -> bool
-    requires { 18 < length s.now }
-    ensures { result ≡ matches (fraction (length s.now - 17 - 1)) (drop 17 s.now) }
-{
-    (s[17] == b'.') & all_digits(&s[18..])
-}
-
-// s is a stamp in some version of the protocol.
-pub fn is_wide_stamp(s: &[u8]) -> bool
-    ensures { result ≡ is_wide_stamp s.now }
-{
-    match s.len() {
-        17 => is_date(s) & is_clock(s) & is_day(s),
-        21 | 24 | 27 | 30 => is_date(s) & is_clock(s) & is_fraction(s) & is_day(s),
-        _ => false,
-    }
-}
 
 // The digit's byte at a place, 0 behind the end.
 fn byte_at(s: &[u8], at: usize) -> u8
@@ -133,7 +102,7 @@ fn millis_of(time: Time) -> u64
 pub fn read(s: &[u8]) -> Result<Moment, Refusal>
     ensures { read_of result ≡ read s.now }
 {
-    if !is_wide_stamp(s) {
+    if !is_stamp(s) {
         return Err(Refusal::BadTimestamp);
     }
     let time = time_in(s);

@@ -7,6 +7,7 @@
 // The areas that are changed and their shape are not one struct, as in vectors_fill.
 #![tactic(auto)]
 
+use frame_stamp::Protocol;
 use std::io;
 use store_areas::Shape;
 use vectors_script::{number, rest, small, words};
@@ -19,7 +20,7 @@ struct At {
     place: usize,
 }
 
-// A sending.
+// A sending, in version 1: what is recorded is the Rust's.
 fn sending(
     rt: &impl Print,
     line: &[u8],
@@ -30,7 +31,8 @@ fn sending(
     let mut numbers = words(rest(line));
     if line.starts_with(b"x") {
         let last = number(&mut numbers);
-        return vectors_sendings::odd(rt, stored, place, last, number(&mut numbers), out);
+        let from = number(&mut numbers);
+        return vectors_sendings::odd(rt, Protocol::FIRST, stored, place, last, from, out);
     }
     let handle = small(&mut numbers);
     let epoch = number(&mut numbers);
@@ -40,7 +42,17 @@ fn sending(
     } else {
         out.len()
     };
-    vectors_sendings::whole(rt, stored, place, handle, epoch, last, out, short)
+    vectors_sendings::whole(
+        rt,
+        Protocol::FIRST,
+        stored,
+        place,
+        handle,
+        epoch,
+        last,
+        out,
+        short,
+    )
 }
 
 // One command: what it leaves as the store's shape and the place.

@@ -9,10 +9,6 @@ use frame::{Field, Frame, FrameError};
 use frame_stamp::Protocol;
 use std::io;
 
-const PROTOCOL: Protocol = Protocol {
-    version: Frame::VERSION,
-};
-
 // A refusal's number, and its values on the same line; the fields' names are those that oracle/rust-frames writes.
 fn print_fault(rt: &impl Print, error: FrameError) -> io::Result<()> {
     let number = error.number();
@@ -34,7 +30,7 @@ fn print_fault(rt: &impl Print, error: FrameError) -> io::Result<()> {
 // A frame that was read from src, written again in digits.
 fn print_frame(rt: &impl Print, frame: Frame, src: &[u8]) -> io::Result<()> {
     let mut out = [0u8; 8192];
-    match frame.encode(PROTOCOL, src, &mut out) {
+    match frame.encode(Protocol::first(), src, &mut out) {
         Ok(len) => {
             for byte in out.get(..len).unwrap_or(&[]) {
                 print!(rt; "{byte:02x}")?;
@@ -47,7 +43,7 @@ fn print_frame(rt: &impl Print, frame: Frame, src: &[u8]) -> io::Result<()> {
 
 // What reading gives.
 fn print_reading(rt: &impl Print, src: &[u8]) -> io::Result<()> {
-    match Frame::decode(PROTOCOL, src) {
+    match Frame::decode(Protocol::first(), src) {
         Ok(None) => println!(rt; "more"),
         Ok(Some((frame, used))) => {
             print!(rt; "{used} ")?;

@@ -14,8 +14,6 @@ use std::io;
 use std::str::SplitWhitespace;
 use vectors_script::{number, rest, words};
 
-const PROTOCOL: Protocol = Protocol { version: 1 };
-
 // The bytes of the hold area, the words lent, and room for the changes of a Whole.
 const AREA: usize = 262_144;
 
@@ -70,9 +68,9 @@ fn tell_segment(told: Told, segment: &Segment) -> Told {
 fn tell(rt: &impl Print, bytes: &[u8], ends: &[u64], state: State) -> io::Result<()> {
     let own = standby_segments::ends_at(ends, state.places, state.place);
     let bytes = bytes.get(..state.held).unwrap_or(&[]);
-    let held = HeldChanges::new(PROTOCOL, bytes, own);
+    let held = HeldChanges::new(Protocol::latest(), bytes, own);
     let open = held.open_segment();
-    let used = standby_segments::held_length(PROTOCOL, bytes, own);
+    let used = standby_segments::held_length(Protocol::latest(), bytes, own);
     print!(rt;
         "held {} used {used} none {} fits {} {} open {} {}",
         state.held,
@@ -133,7 +131,7 @@ fn put_records(area: &mut [u8], at: usize, count: u64, len: usize) -> usize {
 fn hold(bytes: &mut [u8], ends: &mut [u64], state: State, run: &[u8]) -> State {
     let own = standby_segments::ends_at(ends, state.places, state.place);
     let held = bytes.get(..state.held).unwrap_or(&[]);
-    let used = standby_segments::held_length(PROTOCOL, held, own);
+    let used = standby_segments::held_length(Protocol::latest(), held, own);
     let end = used.saturating_add(run.len());
     let Some(room) = bytes.get_mut(used..end) else {
         return state;

@@ -80,9 +80,10 @@ fn turns(
     Ok(state)
 }
 
-// A sending to its end, and one call after it.
+// A sending in a version to its end, and one call after it.
 pub fn whole(
     rt: &impl Print,
+    version: u16,
     stored: Stored,
     place: usize,
     handle: u32,
@@ -93,6 +94,7 @@ pub fn whole(
 ) -> io::Result<()> {
     let epoch = Epoch(epoch);
     match Sending::begin(
+        version,
         stored.shape,
         stored.words,
         stored.bytes,
@@ -113,6 +115,7 @@ pub fn whole(
 // A call with a state that no beginning gave.
 pub fn odd(
     rt: &impl Print,
+    version: u16,
     stored: Stored,
     place: usize,
     last: u64,
@@ -120,6 +123,7 @@ pub fn odd(
     out: &mut [u8],
 ) -> io::Result<()> {
     let s = Sending {
+        version,
         place,
         handle: 1,
         epoch: Epoch(0),

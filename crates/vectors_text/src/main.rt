@@ -1,8 +1,8 @@
 // Runs the examples of RFC 3629, the edges of each length, all inputs of one, two and three bytes, all first bytes with good and bad
-// following bytes, and stamps, marks and keys, and writes how many were taken. What it must write was counted with Python's decoder.
+// following bytes, and stamps by version, marks and keys, and writes how many were taken. What it must write was counted with Python's decoder.
 #![tactic(auto)]
 
-use frame_stamp::{Protocol, is_key, is_marks, is_stamp, takes_stamp};
+use frame_stamp::{Protocol, is_key, is_marks, takes_stamp};
 use frame_utf8::is_utf8;
 use std::io;
 
@@ -59,7 +59,11 @@ where
 }
 
 fn is_taken(stamp: &[u8]) -> bool {
-    is_stamp(stamp) && takes_stamp(Protocol { version: 1 }, stamp)
+    takes_stamp(Protocol::first(), stamp)
+}
+
+fn is_taken_by_latest(stamp: &[u8]) -> bool {
+    takes_stamp(Protocol::latest(), stamp)
 }
 
 // ASCII with the byte b at a place, which the test passes by blocks but for that byte.
@@ -132,6 +136,21 @@ fn stamps(rt: &impl Print) -> io::Result<()> {
         20240229-23:59:59,123|20240229-23:59:59.1234|20240229-23:59:59.123456|20240229-23:59:59.12a|",
         is_taken,
     )
+}
+
+// A stamp with 0 to 13 digits after the point, and one of each length that is out of form.
+fn fractions(rt: &impl Print) -> io::Result<()> {
+    let digits =
+        b"20240229-23:59:60|20240229-23:59:60.1|20240229-23:59:60.12|20240229-23:59:60.123|20240229-23:59:60.1234|\
+        20240229-23:59:60.12345|20240229-23:59:60.123456|20240229-23:59:60.1234567|20240229-23:59:60.12345678|\
+        20240229-23:59:60.123456789|20240229-23:59:60.1234567890|20240229-23:59:60.12345678901|\
+        20240229-23:59:60.123456789012|20240229-23:59:60.1234567890123|";
+    row(rt, "0 to 13 digits, version 1", digits, is_taken)?;
+    row(rt, "0 to 13 digits, version 2", digits, is_taken_by_latest)?;
+    let others =
+        b"20230229-23:59:60.123456|20240229-23:59:60,123456789|20240229-23:59:60.12345678901a|20240229-23:59:60.1234567/9|";
+    row(rt, "out of form, version 1", others, is_taken)?;
+    row(rt, "out of form, version 2", others, is_taken_by_latest)
 }
 
 // The last day of each month and the day after it; February of leap years and others.
@@ -230,6 +249,7 @@ fn main(rt: HostRuntime) -> io::Result<()> {
     texts_taken(&rt)?;
     texts_refused(&rt)?;
     stamps(&rt)?;
+    fractions(&rt)?;
     days(&rt)?;
     names(&rt)?;
     short_inputs(&rt)?;

@@ -9,6 +9,7 @@ use turbojet_replica::active::reach::whole;
 use turbojet_replica::frame::Frame;
 
 use crate::call::{Key, Setting, hold_for_any};
+use crate::differences::{FIRST, LATEST, reading};
 use crate::library::{self, outcome};
 use crate::ours::Ours;
 use crate::rust::Rust;
@@ -159,11 +160,16 @@ impl Pair {
 }
 
 fn decoding(name: &str, frame: Vec<u8>) -> Row {
+    decoding_in(FIRST, name, frame)
+}
+
+fn decoding_in(version: u16, name: &str, frame: Vec<u8>) -> Row {
+    reading(version).expect("a version");
     let frame = black_box(frame);
     timed(
         name,
         1_000_000,
-        || assert!(outcome(library::read(black_box(&frame))).is_ok()),
+        || assert!(outcome(library::read(black_box(&frame), black_box(version))).is_ok()),
         || assert!(black_box(Frame::decode(black_box(&frame))).is_ok()),
     )
 }
@@ -204,6 +210,26 @@ fn binding() -> Row {
     pair.both(&bind);
     let Pair { mut us, mut rust, mut out, .. } = pair;
     timed("Bind with lag 64, messages of 200", 10_000, || by_us(&mut us, &bind), || by_rust(&mut rust, &bind, &mut out))
+}
+
+const STAMPS: [(u16, &[u8]); 2] =
+    [(FIRST, b"20261115-12:00:00.123"), (LATEST, b"20261115-12:00:00.123456789012")];
+
+fn stamped(stamp: &[u8]) -> Vec<u8> {
+    let changes = vec![change::created_at(stamp)];
+    wire::batch(&Batch { handle: 0, epoch: 0, commit_no: 1, part: wire::COMMIT, changes, records: vec![] })
+}
+
+/// Binds of a session that has a stamp, in a version that takes it. The Rust needs no Hello.
+fn binding_stamped(version: u16, stamp: &[u8]) -> Row {
+    let mut pair = Pair::new(&setting(1, 4096, 64, 64));
+    by_us(&mut pair.us, &wire::hello(version, 0, b"active", &[]));
+    reading(version).expect("a version");
+    let bind = wire::bind(0, 0, 0, &key(0));
+    [&bind, &stamped(stamp), &bind].into_iter().for_each(|frame| pair.both(frame));
+    let Pair { mut us, mut rust, mut out, .. } = pair;
+    let name = format!("Bind with a stamp of {} bytes", stamp.len());
+    timed(name, 100_000, || by_us(&mut us, &bind), || by_rust(&mut rust, &bind, &mut out))
 }
 
 /// Binds of one session among 50 that are bound: of its own handle, or of two handles that take it from each other. The Rust
@@ -350,9 +376,15 @@ fn calls() {
         print(&pair.commits(name, 1, 300, messages + 10, 100_000));
     }
     print(&hashing());
+    for (version, stamp) in STAMPS {
+        let name = format!("decode of a Commit with a stamp of {} bytes", stamp.len());
+        print(&decoding_in(version, &name, stamped(stamp)));
+        print(&binding_stamped(version, stamp));
+    }
 }
 
 pub fn sendings() {
+    reading(FIRST).expect("a version");
     for lengths in [300..=300, 512..=512, 200..=399] {
         let (rows, sent) = sending(lengths);
         rows.iter().for_each(print);

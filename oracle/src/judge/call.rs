@@ -52,6 +52,7 @@ pub enum Counter {
     Epoch(u64),
     Commit(u32, u64),
     Bytes(u32, u64),
+    Version(u16),
 }
 
 fn number(word: &str) -> Option<u64> {
@@ -128,6 +129,7 @@ impl Call {
             ["I", k, bytes] => Self::Import { key: key(k)?, file: digits::read(bytes.as_bytes())? },
             ["X", "connections", n] => Self::Set(Counter::Connections(number(n)?)),
             ["X", "epoch", n] => Self::Set(Counter::Epoch(number(n)?)),
+            ["X", "version", n @ ("1" | "2")] => Self::Set(Counter::Version(n.parse().ok()?)),
             ["X", "commit", h, n] => Self::Set(Counter::Commit(handle(h)?, number(n)?)),
             ["X", "bytes", h, n] => Self::Set(Counter::Bytes(handle(h)?, number(n)?)),
             _ => return None,
@@ -167,6 +169,7 @@ impl fmt::Display for Call {
             }
             Self::Set(Counter::Connections(n)) => write!(f, "X connections {n}"),
             Self::Set(Counter::Epoch(n)) => write!(f, "X epoch {n}"),
+            Self::Set(Counter::Version(n)) => write!(f, "X version {n}"),
             Self::Set(Counter::Commit(handle, n)) => write!(f, "X commit {handle} {n}"),
             Self::Set(Counter::Bytes(handle, n)) => write!(f, "X bytes {handle} {n}"),
         }

@@ -8,9 +8,10 @@ use crate::call::{Call, Setting};
 use crate::count::Counts;
 #[cfg(ours)]
 use crate::differences;
+use crate::differences::{FIRST, LATEST, NO_VERSIONS};
 use crate::digits;
 use crate::frames::{Reading, read_by_rust};
-use crate::generate::{Player, Random, any_frame, cycle, key, reading, resend, setting, wide_setting};
+use crate::generate::{Player, Random, any_frame, cycle, key, many_setting, reading, resend, setting, wide_setting};
 use crate::imports;
 #[cfg(calls)]
 use crate::ours::Ours;
@@ -37,50 +38,66 @@ impl Round {
     /// A frame read and written again into an area that is long enough; if it is a good one, also into one of just its
     /// length, and into a shorter one.
     #[cfg(ours)]
-    fn read_by_us(&mut self, frame: &[u8], rust: &Reading) -> Result<(), Difference> {
-        self.read_into(frame, rust, frame.len() + 16)?;
+    fn read_by_us(&mut self, version: u16, frame: &[u8], rust: &Reading) -> Result<(), Difference> {
+        self.read_into(version, frame, rust, frame.len() + 16)?;
         let Reading::Frame(used, _) = rust else { return Ok(()) };
-        self.read_into(frame, rust, *used as usize)?;
+        self.read_into(version, frame, rust, *used as usize)?;
         let shorter = Random(self.frames).below(*used) as usize;
         self.counts.written_short(frame);
-        self.read_into(frame, rust, shorter)
+        self.read_into(version, frame, rust, shorter)
     }
 
     #[cfg(ours)]
-    fn read_into(&mut self, frame: &[u8], rust: &Reading, length: usize) -> Result<(), Difference> {
-        let us = looked(|| self.reader.read(frame, length));
+    fn read_into(&mut self, version: u16, frame: &[u8], rust: &Reading, length: usize) -> Result<(), Difference> {
+        let us = looked(|| self.reader.read(version, frame, length));
         let rust = differences::writing(rust, length);
         if us.as_ref() == Ok(&rust) {
             return Ok(());
         }
         let (line, rust, us) = (digits::write(frame), rust.text(), us.map_or_else(|words| words, |us| us.text()));
-        let told = format!("one frame, written into {length} bytes\n{line}\nthe Rust: {rust}\nours:     {us}\n");
+        let told = format!(
+            "one frame in version {version}, written into {length} bytes\n{line}\nthe Rust: {rust}\nours:     {us}\n"
+        );
         Err(Difference(told))
     }
 
     #[cfg(not(ours))]
-    fn read_by_us(&mut self, _: &[u8], _: &Reading) -> Result<(), Difference> {
+    fn read_by_us(&mut self, _: u16, _: &[u8], _: &Reading) -> Result<(), Difference> {
         Ok(())
     }
 
+    /// A frame in both versions.
     fn frame(&mut self, frame: &[u8]) -> Result<(), Difference> {
-        let rust = read_by_rust(frame);
+        self.frame_in(FIRST, frame)?;
+        self.frame_in(LATEST, frame)
+    }
+
+    fn frame_in(&mut self, version: u16, frame: &[u8]) -> Result<(), Difference> {
+        let rust = read_by_rust(version, frame);
         if let Reading::Frame(used, written) = &rust {
             let same = frame.get(..*used as usize) == Some(written);
             assert!(same, "the Rust writes a frame otherwise than it read it: {}", digits::write(frame));
         }
-        self.counts.reading(frame, &rust);
+        self.counts.reading(version, frame, &rust);
         self.frames += 1;
-        self.read_by_us(frame, &rust)
+        self.read_by_us(version, frame, &rust)
     }
 
-    /// Every string of `len` bytes as a body.
+    /// A frame by chance in both versions, and in a number that is none.
+    fn by_chance(&mut self, random: &mut Random) -> Result<(), Difference> {
+        let frame = reading(random);
+        self.frame(&frame)?;
+        self.frame_in(random.pick(&NO_VERSIONS), &frame)
+    }
+
+    /// Every string of `len` bytes as a body; those of three bytes, too short for a stamp, in the two versions in turn.
     fn bodies(&mut self, len: u32, end: Instant) -> Result<(), Difference> {
         for number in 0..1_u32 << (8 * len) {
             if number % 4096 == 0 && Instant::now() >= end {
                 return Ok(());
             }
-            self.frame(&framed(&number.to_le_bytes()[..len as usize]))?;
+            let frame = framed(&number.to_le_bytes()[..len as usize]);
+            if len < 3 { self.frame(&frame)? } else { self.frame_in(FIRST + (number % 2) as u16, &frame)? }
         }
         Ok(())
     }
@@ -184,8 +201,12 @@ impl Round {
 
     fn call(&mut self, run: &mut Run, rust: &mut Rust, call: &Call) -> Result<(), Difference> {
         rust.taken = None;
+        let version = rust.version;
         let answered = run.call(rust, call)?;
         self.counts.call(call, &answered);
+        if !matches!(call, Call::Set(_)) {
+            self.counts.version(version, rust.version);
+        }
         if let Some(taken) = &rust.taken {
             self.counts.taken(taken);
         }
@@ -225,12 +246,13 @@ fn made_by_us(_: &Setting, _: bool) -> Result<(), Difference> {
     Ok(())
 }
 
-/// The days of a cycle, a hundred scripts and one over many sessions, which always have their time; then all inputs, in
-/// turn, until the time is over.
+/// The days of a cycle, a hundred scripts, three with commits on many handles and one over many sessions, which always have their
+/// time; then all inputs, in turn, until the time is over.
 fn inputs(round: &mut Round, seconds: u64, seed: u64) -> Result<(), Difference> {
     let mut random = Random(seed);
     round.days()?;
     (0..100).try_for_each(|_| round.script(&mut random))?;
+    (0..3).try_for_each(|_| round.script_of(&mut random, &many_setting()))?;
     round.script_of(&mut random, &wide_setting())?;
     let end = Instant::now() + Duration::from_secs(seconds);
     round.making()?;
@@ -239,7 +261,7 @@ fn inputs(round: &mut Round, seconds: u64, seed: u64) -> Result<(), Difference> 
         round.bodies(3, end)?;
     }
     while Instant::now() < end {
-        (0..2000).try_for_each(|_| round.frame(&reading(&mut random)))?;
+        (0..2000).try_for_each(|_| round.by_chance(&mut random))?;
         round.around(&any_frame(&mut random))?;
         (0..100).try_for_each(|_| round.script(&mut random))?;
     }

@@ -43,6 +43,17 @@ fn frame_name(digits: &str) -> String {
     }
 }
 
+/// Where a stamp's length stands in a Bound's frame and in the first frame of a sending.
+const LONG_STAMPS: [(&str, usize); 2] = [("take Bind", 4 + 1 + 4 + 3 * 8), ("whole sending", 4 + 1 + 4 + 8 + 8 + 1 + 4 + 1 + 1)];
+
+/// Whether the answer's digits have a stamp there that version 1 doesn't take. A sending without a stamp has another change there,
+/// whose bytes after the first are of a number or a length.
+fn long_stamp(digits: &str, at: usize) -> bool {
+    let byte = |at: usize| digits.get(2 * at..2 * at + 2).and_then(|byte| u8::from_str_radix(byte, 16).ok());
+    let kind = byte(4) == Some(7) || byte(at - 1) == Some(7);
+    kind && byte(at).is_some_and(|len| (22..=30).contains(&len))
+}
+
 fn last_line(text: &str) -> &str {
     text.rsplit('\n').next().unwrap_or_default()
 }
@@ -52,13 +63,16 @@ impl Counts {
         *self.0.entry(asked).or_default().entry(answered).or_default() += 1;
     }
 
-    pub fn reading(&mut self, frame: &[u8], reading: &Reading) {
+    pub fn reading(&mut self, version: u16, frame: &[u8], reading: &Reading) {
         let answered = match reading {
             Reading::More => "more".into(),
             Reading::Refused(number, ..) => format!("R {number}"),
             Reading::Frame(..) => "frame".into(),
         };
-        self.add(format!("read {}", kind(frame)), answered);
+        match version {
+            1 | 2 => self.add(format!("read {} in version {version}", kind(frame)), answered),
+            _ => self.add("read in no version".into(), answered),
+        }
     }
 
     /// A frame written again into an area that is too short.
@@ -91,7 +105,17 @@ impl Counts {
             Call::Import { .. } => ("import".into(), answer.split(' ').take(2).collect::<Vec<_>>().join(" ")),
             Call::Set(_) => ("counter set".into(), if answer == "ok" { "ok" } else { "no such handle" }.into()),
         };
+        if LONG_STAMPS.iter().any(|(name, at)| asked == *name && long_stamp(answer, *at)) {
+            self.add("a stamp of version 2".into(), format!("{asked}, told"));
+        }
         self.add(asked, answered);
+    }
+
+    /// The connection's version before a call and after it.
+    pub fn version(&mut self, before: u16, after: u16) {
+        if before != after {
+            self.add("the connection's version".into(), format!("{before} to {after}"));
+        }
     }
 
     /// A Bind that took a session from another handle.
@@ -124,9 +148,15 @@ impl Counts {
         let taken = ["in a full row", "by a bound handle", "with held changes", "64 pend"].map(String::from);
         let nacks = ["StaleEpoch", "Diverged", "Lag", "Restarted"].map(|reason| format!("Nack {reason}"));
         let numbers = (1..=26).filter(|number| *number != 8).chain([28, 29, 30, 35, 36]).map(|number| format!("R {number}"));
+        let versions = ["1 to 2", "2 to 1", "take Bind, told", "whole sending, told"].map(String::from);
         let given = |name: &String| self.0.values().any(|answers| answers.contains_key(name));
-        let all = names.split(' ').map(String::from).chain(taken).chain(nacks).chain(numbers);
-        all.filter(|name| !given(name)).collect()
+        let all = names.split(' ').map(String::from).chain(taken).chain(nacks).chain(numbers).chain(versions);
+        let long = ["take Bind", "whole sending"].into_iter().filter(|asked| !self.was(asked, "R 32"));
+        all.filter(|name| !given(name)).chain(long.map(|asked| format!("R 32 ({asked})"))).collect()
+    }
+
+    fn was(&self, asked: &str, answered: &str) -> bool {
+        self.0.get(asked).is_some_and(|answers| answers.contains_key(answered))
     }
 
     /// Which answers to an import were never given.

@@ -1,4 +1,4 @@
-//! Document 01's listed differences, and document 02's of U4, each applied here and nowhere else,
+//! Document 01's listed differences, and document 02's of U4 and U7, each applied here and nowhere else,
 //! around the unchanged Rust. docs/DIFFERENCES.md has the reasons.
 //!
 //! 8 and 1 in writing don't show here: the drivers write only frames that can be written. The
@@ -9,7 +9,8 @@ use std::borrow::Cow;
 use std::sync::atomic::{AtomicBool, Ordering};
 
 use turbojet::SessionId;
-use turbojet::store::{Limits, MemoryStorage};
+use turbojet::fields::{UtcTimestamp, read_in};
+use turbojet::store::{Limits, MemoryStorage, StoredSession};
 use turbojet_replica::frame::reach::form;
 use turbojet_replica::frame::{AppRecord, Batch, Frame, Op, Part};
 use turbojet_replica::standby::Replica;
@@ -47,6 +48,41 @@ pub fn limits(setting: &Setting) -> Option<Limits> {
     (alone() || setting.bytes <= 33_554_432 && setting.messages <= 65_536).then(|| stand_in_limits(setting))
 }
 
+/// The protocol's versions (document 02, U7). The Rust knows the first alone.
+pub const FIRST: u16 = 1;
+pub const LATEST: u16 = 2;
+
+/// Numbers that are no version, for looks at what is handed in.
+pub const NO_VERSIONS: [u16; 4] = [0, LATEST + 1, 258, u16::MAX];
+
+/// What is read next is read in this version, by the stand-in for a stamp; 11 for any other number. The Rust alone has one rule.
+pub fn reading(version: u16) -> Result<(), u32> {
+    read_in(if alone() { FIRST } else { version });
+    if alone() || is_version(version) { Ok(()) } else { Err(11) }
+}
+
+fn is_version(version: u16) -> bool {
+    version == FIRST || version == LATEST
+}
+
+/// A Hello of version 2 goes to the Rust as one of version 1. The connection's version is that of a Hello that is accepted: its
+/// epoch isn't lower, and it names no kinds.
+fn hello(rust: &mut Rust, version: u16, epoch: u64, kinds: &[u16]) -> u16 {
+    if !is_version(version) {
+        return version;
+    }
+    if kinds.is_empty() && epoch >= rust.replica.epoch() {
+        rust.version = version;
+    }
+    FIRST
+}
+
+/// Difference 32: the connection's version doesn't take the stored session's stamp, which is never shortened.
+fn suits(rust: &Rust, stamp: Option<UtcTimestamp>) -> Result<(), u32> {
+    let short = stamp.is_none_or(|stamp| !stamp.is_long());
+    if alone() || short || rust.version == LATEST { Ok(()) } else { Err(32) }
+}
+
 /// The incarnation is given, not random; 0 is taken as 1.
 pub fn given_incarnation(replica: &mut Replica<MemoryStorage>, incarnation: u64) {
     replica.set_incarnation(incarnation.max(1));
@@ -58,9 +94,17 @@ pub fn before_frame(rust: &mut Rust, frame: Frame) -> Result<Frame, u32> {
         return Ok(frame);
     }
     match frame {
+        Frame::Hello { version, epoch, node, app_record_kinds } => {
+            let version = hello(rust, version, epoch, &app_record_kinds);
+            Ok(Frame::Hello { version, epoch, node, app_record_kinds })
+        }
         Frame::Bind { handle, epoch, max_lag, session } => {
             if epoch >= rust.replica.epoch() && max_lag <= rust.replica.accepted_lag() {
-                places(rust, handle, &session)?;
+                if let Err(refusal) = may_bind(rust, handle, &session) {
+                    // The Rust runs the commits due before it refuses a frame of the standby's own.
+                    let _ = rust.replica.on_frame_held(Frame::Ack { handle, commit_no: 0 });
+                    return Err(refusal);
+                }
                 one_handle(rust, handle, &session);
             }
             Ok(Frame::Bind { handle, epoch, max_lag, session })
@@ -74,20 +118,19 @@ pub fn before_frame(rust: &mut Rust, frame: Frame) -> Result<Frame, u32> {
     }
 }
 
-/// Differences 20 and 21: no free place for a new session, or for a new handle. The place of another handle on the
-/// session counts as free (document 02, U4).
-fn places(rust: &mut Rust, handle: u32, session: &SessionId) -> Result<(), u32> {
+/// Differences 32, 20 and 21: a stamp that the version doesn't take; no free place for a new session, or for a new handle. The
+/// place of another handle on the session counts as free (document 02, U4).
+fn may_bind(rust: &Rust, handle: u32, session: &SessionId) -> Result<(), u32> {
+    let stored = rust.replica.storage().stored(session);
+    suits(rust, stored.and_then(|stored| stored.lock().expect("no panic under it").created_at))?;
     let kept = rust.replica.handle_count() - rust.replica.others(handle, session).len();
-    let refusal = if !rust.is_stored(session) && rust.replica.storage().count() as u64 >= rust.sessions {
-        20
+    if !rust.is_stored(session) && rust.replica.storage().count() as u64 >= rust.sessions {
+        Err(20)
     } else if rust.replica.handle(handle).is_none() && kept as u64 >= rust.handles {
-        21
+        Err(21)
     } else {
-        return Ok(());
-    };
-    // The Rust runs the commits due before it refuses a frame of the standby's own.
-    let _ = rust.replica.on_frame_held(Frame::Ack { handle, commit_no: 0 });
-    Err(refusal)
+        Ok(())
+    }
 }
 
 /// What an accepted Bind found where it took a session from another handle.
@@ -199,10 +242,14 @@ pub fn writing(rust: &Reading, area: usize) -> Cow<'_, Reading> {
     refusal.map_or(Cow::Borrowed(rust), |number| Cow::Owned(Reading::Refused(number, 0, 0)))
 }
 
-/// Differences 24 and 9: commit numbers past 2^64 - 1, and a frame too long for its area.
-pub fn sending(last: u64, frames: Vec<Vec<u8>>, length: Option<u64>) -> Sent {
+/// Differences 32, 24 and 9: a stamp that the version doesn't take, commit numbers past 2^64 - 1, and a frame too long for its
+/// area.
+pub fn sending(rust: &Rust, log: &dyn StoredSession, last: u64, frames: Vec<Vec<u8>>, length: Option<u64>) -> Sent {
     if alone() {
         return Sent { frames, end: Ok(()) };
+    }
+    if let Err(refusal) = suits(rust, log.created_at()) {
+        return Sent { frames: Vec::new(), end: Err(refusal) };
     }
     if last.checked_add(frames.len() as u64).is_none() {
         return Sent { frames: Vec::new(), end: Err(24) };

@@ -1,5 +1,5 @@
 //! Faults that are put in between our side and the comparison, one at a time, by the number in WIZHDULET_FAULT: the
-//! comparison must find each (oracle/judge-test). The stand-in has those from 1 to 36 in its own text.
+//! comparison must find each (oracle/judge-test). The stand-in has those from 1 to 54 in its own text.
 
 use std::sync::OnceLock;
 
@@ -24,6 +24,15 @@ fn flip_word(word: Option<&mut u64>) {
     word.into_iter().for_each(|word| *word ^= 2);
 }
 
+/// The version that a frame is read in.
+pub fn read_in(version: u16) -> u16 {
+    match version {
+        3.. if fault(165) => 1,
+        2 if fault(166) => 1,
+        _ => version,
+    }
+}
+
 /// A frame read and written again.
 pub fn after_reading(outcome: &mut Outcome, out: &mut Out) {
     match *outcome {
@@ -36,14 +45,18 @@ pub fn after_reading(outcome: &mut Outcome, out: &mut Out) {
 }
 
 /// A step of a sending.
-pub fn after_sending(outcome: Outcome, out: &mut Out, sending: &mut [u64]) {
+pub fn after_sending(outcome: Outcome, out: &mut Out, sending: &mut [u64]) -> Outcome {
     match outcome {
+        Err((32, _)) if fault(167) => out.flip(0),
+        Err((32, _)) if fault(168) && sending[0] == u64::MAX => return Err((24, 0)),
+        Err((11, _)) if fault(169) => flip_word(sending.first_mut()),
         Ok(DONE) if fault(119) => flip_word(sending.get_mut(2)),
         Ok(len) if fault(120) && len != DONE => out.flip(len as usize),
         Err((9, _)) if fault(121) => out.flip(0),
         Err((24, _)) if fault(122) => flip_word(sending.first_mut()),
         _ => {}
     }
+    outcome
 }
 
 /// A session told of.
@@ -100,6 +113,8 @@ pub fn after_writing(outcome: &mut Outcome, out: &mut Out) {
     match *outcome {
         Err((9, _)) if fault(127) => out.flip(0),
         Err((9, _)) if fault(128) => *outcome = Err((8, 0)),
+        Err((8, _)) if fault(170) => *outcome = Err((9, 0)),
+        Err((11, _)) if fault(171) => out.flip(0),
         _ => {}
     }
 }
@@ -112,10 +127,29 @@ pub fn after_making(made: bool, areas: &mut Areas) {
     }
 }
 
+/// A Hello's version, and its epoch.
+#[cfg(calls)]
+fn hello(frame: &[u8]) -> Option<(u16, u64)> {
+    let (head, rest) = frame.get(4..15)?.split_at(3);
+    (head[0] == 1).then(|| (u16::from_le_bytes([head[1], head[2]]), u64::from_le_bytes(rest.try_into().expect("eight"))))
+}
+
+/// A Hello of version 3 as one of version 2.
+#[cfg(calls)]
+pub fn lowered(frame: &[u8]) -> Vec<u8> {
+    let mut lowered = if fault(164) { frame.to_vec() } else { Vec::new() };
+    if hello(&lowered).is_some_and(|(version, _)| version == 3) {
+        lowered[5] = 2;
+    }
+    lowered
+}
+
 /// What is asked in a call's place.
 #[cfg(calls)]
-pub fn asked<'a>(ask: Ask<'a>, connections: u64) -> Ask<'a> {
+pub fn asked<'a>(ask: Ask<'a>, connections: u64, lowered: &'a [u8]) -> Ask<'a> {
     match ask {
+        Ask::Held(_) if fault(164) => Ask::Held(lowered),
+        Ask::Frame(_) if fault(164) => Ask::Frame(lowered),
         Ask::Held(frame) if fault(103) => Ask::Frame(frame),
         Ask::Frame(frame) if fault(104) => Ask::Held(frame),
         Ask::Flush(_) if fault(105) => Ask::Flush(connections),
@@ -130,19 +164,23 @@ pub fn asked<'a>(ask: Ask<'a>, connections: u64) -> Ask<'a> {
 pub struct Before {
     row: Vec<Place>,
     epoch: u64,
+    version2: u8,
 }
 
 #[cfg(calls)]
 impl Before {
     pub fn new(counters: &Counters, areas: &Areas) -> Self {
         let row = if fault(111) || (151..=158).any(fault) { areas.row.clone() } else { Vec::new() };
-        Self { row, epoch: counters.epoch }
+        Self { row, epoch: counters.epoch, version2: counters.version2 }
     }
 
     /// What is changed after the call.
     pub fn after(self, counters: &mut Counters, areas: &mut Areas, size: Size, ask: Ask, answer: &mut Answer) {
         if (151..=158).any(fault) {
             return self.after_bind(areas, ask, answer);
+        }
+        if (159..=163).any(fault) {
+            return self.after_version(counters, areas, ask, answer);
         }
         match answer.as_mut().map(|frame| (frame.get(4).copied().unwrap_or(0), frame)) {
             Ok((2, _)) if fault(111) => areas.row = self.row,
@@ -153,6 +191,26 @@ impl Before {
             Ok((7, frame)) if fault(109) => flip(frame.last_mut()),
             Ok((0, _)) => done(areas, size, ask),
             Err(_) if fault(113) => flip(areas.bytes.last_mut()),
+            _ => {}
+        }
+    }
+
+    /// The connection's version after a Hello, a drop and a promotion; and 32.
+    fn after_version(&self, counters: &mut Counters, areas: &Areas, ask: Ask, answer: &mut Answer) {
+        let said = if let Ask::Held(frame) | Ask::Frame(frame) = ask { hello(frame) } else { None };
+        match (&*answer, ask, said) {
+            (Ok(_), _, Some(_)) if fault(159) => counters.version2 = self.version2,
+            (Ok(_), Ask::Drop(_), _) if fault(160) => counters.version2 = 0,
+            (Ok(_), Ask::Promote | Ask::Unchecked, _) if fault(161) => counters.version2 = 0,
+            (Ok(_), _, Some((version, epoch))) if fault(162) && epoch < counters.epoch => {
+                counters.version2 = u8::from(version == 2);
+            }
+            (Err(32), Ask::Held(frame) | Ask::Frame(frame), _) if fault(163) => {
+                let handle = u32::from_le_bytes(frame[5..9].try_into().expect("four"));
+                if areas.index(handle).is_none() && areas.row.iter().all(|record| record.used != 0) {
+                    *answer = Err(21);
+                }
+            }
             _ => {}
         }
     }
@@ -204,6 +262,7 @@ fn acknowledged(areas: &mut Areas, size: Size, frame: &[u8]) {
     let other = (place + 1) % size.sessions as usize;
     let tail = areas.words[words + 15] as usize % (size.bytes as usize).max(1);
     match frame[9] {
+        _ if fault(172) => areas.words[words + 5] = areas.words[words + 5].min(21),
         _ if fault(130) && other != place => flip(areas.bytes.get_mut(size.start(other).1)),
         1 if fault(131) && areas.bytes.len() > 1 << 20 => flip(areas.bytes.last_mut()),
         _ if fault(132) => flip_word(areas.words.get_mut(words + 11)),

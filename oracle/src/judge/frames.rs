@@ -3,6 +3,7 @@
 use turbojet_replica::frame::{Frame, FrameError};
 
 use crate::call::{Setting, hold_for_any};
+use crate::differences;
 use crate::digits;
 use crate::rust::{Rust, encoded, read_refusal};
 use crate::side::{Side, answer_text, refusal};
@@ -20,7 +21,10 @@ pub enum Reading {
 const FIELDS: [(&str, &str); 4] =
     [("frame kind", "kind"), ("part", "part"), ("refusal", "refusal"), ("change", "change")];
 
-pub fn read_by_rust(bytes: &[u8]) -> Reading {
+pub fn read_by_rust(version: u16, bytes: &[u8]) -> Reading {
+    if let Err(refusal) = differences::reading(version) {
+        return Reading::Refused(refusal, 0, 0);
+    }
     match Frame::decode(bytes) {
         Ok(None) => Reading::More,
         Ok(Some((frame, used))) => Reading::Frame(used as u64, encoded(&frame)),

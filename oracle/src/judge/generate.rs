@@ -2,6 +2,7 @@
 //! call scripts that mostly make sense.
 
 use crate::call::{Call, Counter, Key, Setting, hold_for_any};
+use crate::differences::{FIRST, LATEST};
 #[cfg(calls)]
 use crate::library::Place;
 use crate::ranges::{self, Range};
@@ -100,7 +101,7 @@ fn text(random: &mut Random) -> Vec<u8> {
     }
 }
 
-const STAMPS: [&[u8]; 32] = [
+const STAMPS: [&[u8]; 47] = [
     b"20261115-12:00:00",
     b"20261115-12:00:00.000",
     b"00000101-00:00:00",
@@ -133,6 +134,21 @@ const STAMPS: [&[u8]; 32] = [
     b"20260101-00:00:61",
     b"20260101-00:00:00.00",
     b"20260101 00:00:00",
+    b"20260101-00:00:00.123456",
+    b"20260101-00:00:00.123456789",
+    b"20260101-00:00:00.123456789012",
+    b"20260230-00:00:00.123456",
+    b"20260101-00:00:00.12345/",
+    b"20260101-00:00:00.12345678:",
+    b"20260101-00:00:00.123456 89012",
+    b"20260101-00:00:00.1",
+    b"20260101-00:00:00.1234",
+    b"20260101-00:00:00.12345",
+    b"20260101-00:00:00.1234567",
+    b"20260101-00:00:00.12345678",
+    b"20260101-00:00:00.1234567890",
+    b"20260101-00:00:00.12345678901",
+    b"20260101-00:00:00.1234567890123",
 ];
 
 /// The last day of a month; of February by the number of leap years up to each year.
@@ -151,20 +167,38 @@ pub fn cycle() -> impl Iterator<Item = (u64, u64, u64)> {
     (2000..2400).flat_map(|year| (1..=12).flat_map(move |month| (1..=32).map(move |day| (year, month, day))))
 }
 
-/// A stamp of a day that exists; a day past its month's end becomes the last one.
-fn good_stamp(random: &mut Random) -> Vec<u8> {
+/// A stamp of a day that exists, with one of these counts of digits behind the point; a day past its month's end becomes the last
+/// one.
+fn stamp_with(random: &mut Random, counts: &[usize]) -> Vec<u8> {
     let mut within = |most: u64, least: u64| least + random.below(most - least + 1);
     let (month, day) = (within(12, 1), within(31, 1));
     let (hour, minute, second) = (within(23, 0), within(59, 0), within(60, 0));
     let year = random.below(10_000);
     let day = day.min(last_day(year, month));
     let text = format!("{year:04}{month:02}{day:02}-{hour:02}:{minute:02}:{second:02}");
-    if random.percent(50) { text.into() } else { format!("{text}.{:03}", random.below(1000)).into() }
+    let count = random.pick(counts);
+    let digits: String = (0..count).map(|_| char::from(b'0' + random.below(10) as u8)).collect();
+    if count == 0 { text.into() } else { format!("{text}.{digits}").into() }
+}
+
+const SHORT: [usize; 2] = [0, 3];
+const LONG: [usize; 3] = [6, 9, 12];
+
+/// Mostly a stamp that the version takes; in version 2 mostly a long one.
+fn suiting(random: &mut Random, version: u16) -> Vec<u8> {
+    let long = random.percent(if version == LATEST { 80 } else { 8 });
+    stamp_with(random, if long { &LONG } else { &SHORT })
+}
+
+/// A stamp that version 1 takes, or one of all five forms.
+fn good_stamp(random: &mut Random) -> Vec<u8> {
+    if random.percent(50) { stamp_with(random, &SHORT) } else { stamp_with(random, &[0, 3, 6, 9, 12]) }
 }
 
 fn stamp(random: &mut Random) -> Vec<u8> {
     match random.below(10) {
-        0..5 => good_stamp(random),
+        0..4 => good_stamp(random),
+        4 => stamp_with(random, &[1, 2, 4, 5, 7, 8, 10, 11, 13, 14, 15]),
         5..8 => random.pick(&STAMPS).to_vec(),
         8 => {
             let stamp = good_stamp(random);
@@ -242,7 +276,7 @@ pub fn any_frame(random: &mut Random) -> Vec<u8> {
     match random.below(13) {
         0 => {
             let kinds: Vec<u16> = (0..random.below(3)).map(|_| random.next() as u16).collect();
-            let version = if random.percent(70) { 1 } else { random.number() as u16 };
+            let version = if random.percent(80) { random.below(4) as u16 } else { random.number() as u16 };
             wire::hello(version, random.number(), &text(random), &kinds)
         }
         1 => wire::welcome(random.number(), random.number()),
@@ -306,6 +340,8 @@ pub struct Player {
     sending: Vec<Vec<u8>>,
     /// Calls that come first.
     opening: Vec<Call>,
+    /// The connection's version as a call is made.
+    version: u16,
 }
 
 /// A setting: mostly a few places and small limits, so that they are met.
@@ -322,7 +358,7 @@ pub fn setting(random: &mut Random) -> Setting {
         messages,
         sessions: if many { 70 } else { random.pick(&[0, 1, 1, 2, 2, 3, 4]) },
         handles: if many { random.pick(&[80, 80, 70, 64, 30]) } else { random.pick(&[0, 1, 2, 2, 3, 4, 5]) },
-        hold: if random.percent(70) { any } else { random.pick(&[0, 1, 21, 40, any - 1, 2 * any]) },
+        hold: if random.percent(50) { any } else { random.pick(&[0, 1, 21, 40, any - 1, any + 9, any + 9, any + 8, 2 * any]) },
     }
 }
 
@@ -338,6 +374,11 @@ fn full_of_pending(random: &mut Random, keys: &[Key]) -> Vec<Call> {
         Call::Held(wire::batch(&batch))
     };
     (0..handles).map(bind).chain((0..handles).map(commit)).chain([Call::State]).collect()
+}
+
+/// A setting with more handles than may have a commit that pends.
+pub fn many_setting() -> Setting {
+    Setting { incarnation: 7, lag: 3, bytes: 20, messages: 2, sessions: 70, handles: 80, hold: hold_for_any(20, 2) }
 }
 
 /// A setting with more sessions and handles than a byte can tell apart.
@@ -371,14 +412,21 @@ impl Player {
             _ if count > 256 => all_bound(random.pick(&[0, 7, 200]), &keys),
             _ if count > 60 => full_of_pending(&mut random, &keys),
             _ if setting.bytes > 1 << 20 => several_batches(&mut random, &keys[0]),
+            _ if random.percent(40) => vec![Call::Held(wire::hello(LATEST, 0, b"node", &[]))],
             _ => Vec::new(),
         };
-        Self { random, keys, sending: Vec::new(), opening }
+        Self { random, keys, sending: Vec::new(), opening, version: FIRST }
     }
 
     pub fn call(&mut self, rust: &mut Rust) -> Call {
         if !self.opening.is_empty() {
             return self.opening.remove(0);
+        }
+        self.version = rust.version;
+        // What is held is read alike in both versions.
+        let holding = rust.replica.handles().iter().any(|handle| !handle.held.is_empty());
+        if holding && self.random.percent(4) {
+            return Call::Set(Counter::Version(FIRST + LATEST - rust.version));
         }
         match self.random.below(100) {
             0..3 => self.taken(rust, |player, rust| player.hello(rust)),
@@ -394,6 +442,7 @@ impl Player {
             84..87 => self.whole(rust),
             87 => self.queue(),
             88 => Call::Set(self.counter(rust)),
+            89 => Call::Set(Counter::Version(FIRST + LATEST - rust.version)),
             _ => Call::State,
         }
     }
@@ -427,7 +476,12 @@ impl Player {
     }
 
     fn hello(&mut self, rust: &Rust) -> Vec<u8> {
-        let version = if self.random.percent(90) { 1 } else { self.random.number() as u16 };
+        let version = match self.random.below(20) {
+            0..9 => FIRST + LATEST - rust.version,
+            9..18 => 1 + self.random.below(2) as u16,
+            18 => self.random.pick(&[0, 3]),
+            _ => self.random.number() as u16,
+        };
         let kinds: &[u16] = if self.random.percent(90) { &[] } else { &[1, 2] };
         wire::hello(version, self.epoch(rust), b"node", kinds)
     }
@@ -452,6 +506,15 @@ impl Player {
         };
         if self.random.percent(20) {
             return self.handover(rust, max_lag);
+        }
+        if rust.version == FIRST && self.random.percent(30) {
+            // A session whose stamp this version doesn't take.
+            let all = rust.replica.storage().all();
+            let long = all.iter().filter(|(_, stored)| stored.created_at.is_some_and(|at| at.is_long()));
+            let keys: Vec<Key> = long.map(|(id, _)| key_of(id)).collect();
+            if !keys.is_empty() {
+                return wire::bind(self.handle(rust), self.epoch(rust), max_lag, &self.random.pick(&keys));
+            }
         }
         let key = if self.random.percent(97) { self.random.pick(&self.keys) } else { key(&mut self.random) };
         wire::bind(self.handle(rust), self.epoch(rust), max_lag, &key)
@@ -536,6 +599,9 @@ impl Player {
         let mut changes: Vec<_> = (0..count).map(|_| self.change(&mut next)).collect();
         if part != wire::COMMIT && !holding && self.random.percent(92) {
             changes.insert(0, change::reset());
+            if self.random.percent(50) {
+                changes.push(change::created_at(&suiting(&mut self.random, self.version)));
+            }
             next = 1;
             changes.extend((0..self.random.below(3)).map(|_| self.change(&mut next)));
         }
@@ -560,7 +626,7 @@ impl Player {
             12..14 => change::next_incoming(random.number()),
             14..16 => change::next_incoming_in_flight(random.number(), random.number()),
             16 => change::in_flight(random.number()),
-            17 | 18 => change::created_at(&good_stamp(random)),
+            17 | 18 => change::created_at(&suiting(random, self.version)),
             19 | 20 => change::marks(&good_marks(random)),
             21 => {
                 *next = 1;

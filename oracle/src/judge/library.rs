@@ -16,6 +16,14 @@ pub struct Counters {
     pub connections: u64,
     pub promoted: u8,
     pub checked: u8,
+    pub version2: u8,
+}
+
+impl Counters {
+    /// The connection's version, which the call that answered has left.
+    pub fn version(&self) -> u16 {
+        if self.version2 == 0 { 1 } else { 2 }
+    }
 }
 
 /// A place of the row of handles, as the library has it.
@@ -153,9 +161,9 @@ mod exports {
     use crate::call::Key;
 
     unsafe extern "C" {
-        fn wz_frame(frame: *const u8, frame_len: usize, out: *mut u8, out_len: usize) -> u64;
+        fn wz_frame(frame: *const u8, frame_len: usize, out: *mut u8, out_len: usize, version: u16) -> u64;
 
-        fn wz_read(frame: *const u8, frame_len: usize) -> u64;
+        fn wz_read(frame: *const u8, frame_len: usize, version: u16) -> u64;
 
         fn wz_queue(queue: *mut u64, queue_len: usize, max_lag: u64, last: u64) -> u64;
 
@@ -219,7 +227,7 @@ mod exports {
 
     readers! {
         fn wz_session(; n: u64);
-        fn wz_send(sending: *mut u64, sending_len: usize; handle: u32, epoch: u64);
+        fn wz_send(sending: *mut u64, sending_len: usize; handle: u32, epoch: u64, version: u16);
     }
 
     macro_rules! read {
@@ -232,13 +240,13 @@ mod exports {
         }};
     }
 
-    pub fn frame(frame: &[u8], out: &mut [u8]) -> u64 {
-        unsafe { wz_frame(frame.as_ptr(), frame.len(), out.as_mut_ptr(), out.len()) }
+    pub fn frame(frame: &[u8], out: &mut [u8], version: u16) -> u64 {
+        unsafe { wz_frame(frame.as_ptr(), frame.len(), out.as_mut_ptr(), out.len(), version) }
     }
 
     /// Reads a frame only.
-    pub fn read(frame: &[u8]) -> u64 {
-        unsafe { wz_read(frame.as_ptr(), frame.len()) }
+    pub fn read(frame: &[u8], version: u16) -> u64 {
+        unsafe { wz_read(frame.as_ptr(), frame.len(), version) }
     }
 
     pub fn queue(queue: &mut [u64], max_lag: u64, last: u64) -> u64 {
@@ -273,8 +281,9 @@ mod exports {
         out: &mut [u8],
         place: u64,
         (handle, epoch): (u32, u64),
+        version: u16,
     ) -> u64 {
-        read!(wz_send, areas, size, (sending.as_mut_ptr(), sending.len()), out, place, handle, epoch)
+        read!(wz_send, areas, size, (sending.as_mut_ptr(), sending.len()), out, place, handle, epoch, version)
     }
 }
 
@@ -349,7 +358,7 @@ mod entry {
     unsafe extern "C" {
         fn store_make(words: *mut u64, words_len: usize, bytes: *const u8, bytes_len: usize, shape: Size) -> u8;
 
-        fn wz_answer(said: Said, bytes: *const u8, bytes_len: usize, out: *mut u8, out_len: usize) -> u64;
+        fn wz_answer(said: Said, bytes: *const u8, bytes_len: usize, out: *mut u8, out_len: usize, version: u16) -> u64;
 
         fn store_fnv(hash: u64, bytes: *const u8, bytes_len: usize) -> u64;
     }
@@ -370,7 +379,7 @@ mod entry {
         if refused != 0 {
             return u64::from(refused) << 40;
         }
-        answer(&ask!(make, counters, &mut *areas, settings), &areas.bytes, &mut [])
+        answer(&ask!(make, counters, &mut *areas, settings), &areas.bytes, &mut [], counters.version())
     }
 
     pub fn said(counters: &mut Counters, areas: &mut Areas, settings: Settings, ask: Ask) -> Said {
@@ -385,9 +394,9 @@ mod entry {
         }
     }
 
-    /// Writes an answer's frame.
-    pub fn answer(said: &Said, bytes: &[u8], out: &mut [u8]) -> u64 {
-        unsafe { wz_answer(*said, bytes.as_ptr(), bytes.len(), out.as_mut_ptr(), out.len()) }
+    /// Writes an answer's frame in a version.
+    pub fn answer(said: &Said, bytes: &[u8], out: &mut [u8], version: u16) -> u64 {
+        unsafe { wz_answer(*said, bytes.as_ptr(), bytes.len(), out.as_mut_ptr(), out.len(), version) }
     }
 
     pub fn fnv(bytes: &[u8]) -> u64 {

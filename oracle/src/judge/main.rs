@@ -60,12 +60,18 @@ fn main() -> ExitCode {
             differences::leave_out(true);
             print(&side::run::<Rust>(&String::from_utf8_lossy(&input())))
         }
-        ["rust-frames"] => print(&frames::read_lines(&input(), frames::read_by_rust)),
+        ["rust-frames", ref version @ ..] => match versioned(version) {
+            Some(version) => print(&frames::read_lines(&input(), |frame| frames::read_by_rust(version, frame))),
+            None => usage(),
+        },
         ["rust-frames-program"] => print(&frames::program(&input())),
         #[cfg(ours)]
         ["our-calls"] => print(&side::run::<ours::Ours>(&String::from_utf8_lossy(&input()))),
         #[cfg(ours)]
-        ["our-frames"] => print(&frames::read_lines(&input(), ours::read)),
+        ["our-frames", ref version @ ..] => match versioned(version) {
+            Some(version) => print(&frames::read_lines(&input(), |frame| ours::read(version, frame))),
+            None => usage(),
+        },
         #[cfg(all(calls, not(plain)))]
         ["bench"] => bench::bench(),
         #[cfg(all(calls, not(plain)))]
@@ -94,6 +100,15 @@ fn main() -> ExitCode {
             }
         },
         _ => usage(),
+    }
+}
+
+/// The version that frames are read in: the first, where none is said.
+fn versioned(arguments: &[&str]) -> Option<u16> {
+    match arguments {
+        [] => Some(differences::FIRST),
+        [version] => version.parse().ok(),
+        _ => None,
     }
 }
 

@@ -1,6 +1,7 @@
 //! Our side: the library's functions over areas that this driver lends, with a look at what they write of each.
 
 use crate::call::{Counter, Key, Setting};
+use crate::differences::{FIRST, LATEST, NO_VERSIONS};
 #[cfg(calls)]
 use crate::differences;
 use crate::faults::{self, fault};
@@ -18,10 +19,11 @@ use crate::walk::{self, Walk};
 pub struct Reader(Out);
 
 impl Reader {
-    /// Into an area of `length` bytes. Where that is long enough, a frame only read gives the same.
-    pub fn read(&mut self, frame: &[u8], length: usize) -> Reading {
-        let mut answer = outcome(library::frame(frame, self.0.lend(length)));
-        assert!(length < frame.len() || answer == outcome(library::read(frame)), "wz_read and wz_frame differ");
+    /// In a version, into an area of `length` bytes. Where that is long enough, a frame only read gives the same.
+    pub fn read(&mut self, version: u16, frame: &[u8], length: usize) -> Reading {
+        let mut answer = outcome(library::frame(frame, self.0.lend(length), faults::read_in(version)));
+        let same = || answer == outcome(library::read(frame, faults::read_in(version)));
+        assert!(length < frame.len() || same(), "wz_read and wz_frame differ");
         faults::after_reading(&mut answer, &mut self.0);
         let written = self.0.taken(answer.unwrap_or(0) as usize, "wz_frame");
         match answer {
@@ -33,9 +35,9 @@ impl Reader {
     }
 }
 
-/// Reads a frame and writes it again, by the library.
-pub fn read(frame: &[u8]) -> Reading {
-    Reader::default().read(frame, frame.len())
+/// Reads a frame in a version and writes it again, by the library.
+pub fn read(version: u16, frame: &[u8]) -> Reading {
+    Reader::default().read(version, frame, frame.len())
 }
 
 pub struct Ours {
@@ -49,6 +51,9 @@ pub struct Ours {
     told: Out,
     sent: Out,
 }
+
+/// What one call of a sending gives: a frame, none where it is done, or a refusal.
+type Step = Result<Option<Vec<u8>>, u32>;
 
 /// What `wz_session` tells of a place.
 struct Told {
@@ -72,7 +77,8 @@ impl Ours {
 
     fn call(&mut self, ask: Ask) -> Answer {
         let before = faults::Before::new(&self.counters, &self.areas);
-        let ask = faults::asked(ask, self.counters.connections);
+        let lowered = if let Ask::Held(frame) | Ask::Frame(frame) = ask { faults::lowered(frame) } else { Vec::new() };
+        let ask = faults::asked(ask, self.counters.connections, &lowered);
         let said = self.said(ask);
         let mut answer = self.written(&said);
         before.after(&mut self.counters, &mut self.areas, self.settings.size, ask, &mut answer);
@@ -83,18 +89,27 @@ impl Ours {
         library::said(&mut self.counters, &mut self.areas, self.settings, ask)
     }
 
-    /// An answer's frame, which must be the same in an area of just its length, and 9 in every shorter one.
+    /// An answer's frame, in the version that the call left. It must be the same in an area of just its length, and 9 in every
+    /// shorter one; the same in the other version, but 8 for a stamp that version 1 doesn't take; and 11 in no version.
     fn written(&mut self, said: &Said) -> Answer {
-        let frame = self.written_into(said, LONG)?;
+        let version = self.counters.version();
+        for number in NO_VERSIONS {
+            assert_eq!(self.written_into(said, LONG, number), Err(11), "wz_answer in version {number}");
+        }
+        let frame = self.written_into(said, LONG, version)?;
         for length in 0..=frame.len() {
             let expected = differences::no_room(frame.len(), length).map_or_else(|| Ok(frame.clone()), Err);
-            assert_eq!(self.written_into(said, length), expected, "wz_answer into an area of {length}");
+            assert_eq!(self.written_into(said, length, version), expected, "wz_answer into an area of {length}");
         }
+        let long = walk::stamp_of_bound(&frame).is_some_and(|stamp| stamp.len() > 21);
+        let in_first = if long { Err(8) } else { Ok(frame.clone()) };
+        assert_eq!(self.written_into(said, LONG, FIRST), in_first, "wz_answer in version 1");
+        assert_eq!(self.written_into(said, LONG, LATEST), Ok(frame.clone()), "wz_answer in version 2");
         Ok(frame)
     }
 
-    fn written_into(&mut self, said: &Said, length: usize) -> Answer {
-        let mut answer = outcome(library::answer(said, &self.areas.bytes, self.answered.lend(length)));
+    fn written_into(&mut self, said: &Said, length: usize, version: u16) -> Answer {
+        let mut answer = outcome(library::answer(said, &self.areas.bytes, self.answered.lend(length), version));
         faults::after_writing(&mut answer, &mut self.answered);
         let written = self.answered.taken(answer.unwrap_or(0) as usize, "wz_answer");
         answer.map(|_| written).map_err(|(number, _)| number)
@@ -156,7 +171,7 @@ impl Ours {
     }
 
     pub fn write(&mut self, said: &Said) -> u64 {
-        library::answer(said, &self.areas.bytes, self.answered.lend(LONG))
+        library::answer(said, &self.areas.bytes, self.answered.lend(LONG), self.counters.version())
     }
 
     pub fn answered(&self, len: usize) -> &[u8] {
@@ -165,7 +180,7 @@ impl Ours {
 
     /// The next frame's length in a sending of place 0.
     pub fn next_frame(&mut self, sending: &mut [u64; 4], out: &mut [u8]) -> Option<usize> {
-        let answer = library::send(&self.areas, self.settings.size, sending, out, 0, (0, 0));
+        let answer = library::send(&self.areas, self.settings.size, sending, out, 0, (0, 0), FIRST);
         let len = outcome(answer).expect("stored");
         (len != DONE).then_some(len as usize)
     }
@@ -176,8 +191,9 @@ impl Ours {
 impl Ours {
     /// A store whose areas hold these sessions, written by docs/AREAS.md. Each log starts at another
     /// entry and at another byte of its rings.
-    pub fn filled(setting: &Setting, sessions: &[Session]) -> Option<Self> {
+    pub fn filled(setting: &Setting, sessions: &[Session], version: u16) -> Option<Self> {
         let mut ours = Self::make(setting)?;
+        ours.counters.version2 = u8::from(version == LATEST);
         ours.areas.words[0] = sessions.len() as u64;
         sessions.iter().enumerate().for_each(|(place, session)| ours.fill(place, session));
         Some(ours)
@@ -253,27 +269,59 @@ impl Ours {
         (0..self.areas.words[0]).find(|place| self.told(*place, 0).is_ok_and(|told| told.key == *key))
     }
 
+    /// One call of a sending, which may write its four words and the area.
+    fn send_next(&mut self, sending: &mut [u64; 6], place: u64, to: (u32, u64), length: usize, version: u16) -> Step {
+        let out = self.sent.lend(length);
+        let answer = outcome(library::send(&self.areas, self.settings.size, sending, out, place, to, version));
+        let answer = faults::after_sending(answer, &mut self.sent, sending);
+        let frame = self.sent.taken(answer.map_or(0, |len| len & !DONE) as usize, "wz_send");
+        answer.map(|len| (len != DONE).then_some(frame)).map_err(|(number, _)| number)
+    }
+
+    /// What a sending answers before it gives a frame, at its beginning and later on: 25 before 11, 11 before 32, 32 before 24 and 9.
+    /// A refusal writes nothing.
+    fn refuses_to_send(&mut self, place: u64) {
+        let stored = place < self.areas.words[0];
+        let long = stored && self.told(place, 0).expect("stored").summary.stamp.is_some_and(|stamp| stamp.len() > 21);
+        let mut ask = |words: [u64; 4], version: u16| {
+            let mut sending = [words[0], words[1], words[2], words[3], RUBBISH, RUBBISH];
+            let before = sending;
+            let step = self.send_next(&mut sending, place, (1, 0), 0, version);
+            assert_eq!(before, sending, "wz_send changes its sending only with a frame");
+            step
+        };
+        let states: &[[u64; 4]] = if cfg!(plain) { &[[0; 4]] } else { &[[0; 4], [0, 1, 0, 0], [0, 1, 0, 1], [0, 1, 1, 0]] };
+        let unless = |is: bool, number: u32, other: Step| if is { Err(number) } else { other };
+        for words in states {
+            for number in NO_VERSIONS {
+                assert_eq!(ask(*words, number), Err(if stored { 11 } else { 25 }), "wz_send in version {number}");
+            }
+            let next = if words[3] == 1 { Ok(None) } else { Err(9) };
+            let stamped = words[2..] == [0, 0];
+            assert_eq!(ask(*words, FIRST), unless(!stored, 25, unless(long && stamped, 32, next.clone())));
+            assert_eq!(ask(*words, LATEST), unless(!stored, 25, next));
+        }
+        assert_eq!(ask([u64::MAX, 0, 0, 0], FIRST), Err(if !stored { 25 } else if long { 32 } else { 24 }));
+        assert_eq!(ask([u64::MAX, 0, 0, 0], LATEST), Err(if stored { 24 } else { 25 }));
+    }
+
     /// A sending of a place as a handle and an epoch, after a commit number, into an area of `length` bytes.
-    fn send_all(&mut self, place: u64, (handle, epoch): (u32, u64), last: u64, length: usize) -> Sent {
+    fn send_all(&mut self, place: u64, (handle, epoch): (u32, u64), last: u64, length: usize, version: u16) -> Sent {
         let handle = if fault(114) && handle > 1 { handle - 1 } else { handle };
         let (mut sending, mut frames) = ([last, 0, 0, 0, RUBBISH, RUBBISH], Vec::new());
         loop {
             let before = sending;
-            let out = self.sent.lend(length);
-            let answer = library::send(&self.areas, self.settings.size, &mut sending, out, place, (handle, epoch));
-            let answer = outcome(answer);
-            faults::after_sending(answer, &mut self.sent, &mut sending);
-            let frame = self.sent.taken(answer.map_or(0, |len| len & !DONE) as usize, "wz_send");
+            let step = self.send_next(&mut sending, place, (handle, epoch), length, version);
             assert_eq!(before[4..], sending[4..], "wz_send wrote past the words of its sending");
-            let end = match answer {
-                Ok(DONE) => Ok(()),
-                Ok(_) => {
+            let end = match step {
+                Ok(None) => Ok(()),
+                Ok(Some(frame)) => {
                     assert_eq!(before[0].checked_add(1), Some(sending[0]), "wz_send counts each frame");
                     frames.push(frame);
                     assert!(frames.len() < 1 << 20, "wz_send never says done");
                     continue;
                 }
-                Err((number, _)) => Err(number),
+                Err(number) => Err(number),
             };
             assert_eq!(before, sending, "wz_send changes its sending only with a frame");
             return Sent { frames, end };
@@ -294,8 +342,8 @@ impl Ours {
         let told = told(&bytes);
         assert_eq!(self.telling(place, 0, bytes.len() - 1), Err(9), "wz_session in an area too short");
         assert_eq!(self.telling(place, 0, bytes.len()), Ok(bytes), "wz_session in an area of its length");
-        let sent = self.send_all(place, (0, 0), 0, self.long_enough());
-        assert_eq!(sent.end, Ok(()), "a stored session can be sent");
+        let sent = self.send_all(place, (0, 0), 0, self.long_enough(), LATEST);
+        assert_eq!(sent.end, Ok(()), "a stored session can be sent in version 2");
         Session {
             key: told.key,
             stamp: told.summary.stamp,
@@ -410,7 +458,11 @@ impl Side for Ours {
         ours.made().then_some(ours)
     }
 
+    /// Version 2 is lent as one value after the other.
     fn frame(&mut self, bytes: &[u8], held: bool) -> Answer {
+        if self.counters.version2 != 0 {
+            self.counters.version2 = self.counters.version2 % 255 + 1;
+        }
         self.call(if held { Ask::Held(bytes) } else { Ask::Frame(bytes) })
     }
 
@@ -445,6 +497,7 @@ impl Side for Ours {
             promoted: self.counters.promoted != 0,
             checked: self.counters.checked != 0,
             connections: self.counters.connections,
+            version: self.counters.version(),
             pending,
             sessions,
             handles,
@@ -459,7 +512,8 @@ impl Side for Ours {
     fn whole(&mut self, handle: u32, epoch: u64, last: u64, key: &Key, length: Option<u64>) -> Sent {
         let place = self.place_of(key).unwrap_or(self.areas.words[0]);
         let length = length.map_or_else(|| self.long_enough(), |length| length.min(1 << 28) as usize);
-        self.send_all(place, (handle, epoch), last, length)
+        self.refuses_to_send(place);
+        self.send_all(place, (handle, epoch), last, length, self.counters.version())
     }
 
     fn queue(&mut self, max_lag: u64, drained: u64, lasts: &[u64]) -> Result<Vec<Pushed>, u32> {
@@ -492,6 +546,7 @@ impl Side for Ours {
         match *counter {
             Counter::Connections(n) => self.counters.connections = n,
             Counter::Epoch(n) => self.counters.epoch = n,
+            Counter::Version(n) => self.counters.version2 = u8::from(n == LATEST),
             Counter::Commit(handle, n) => return self.bound(handle).map(|place| place.commit_no = n).is_some(),
             Counter::Bytes(handle, n) => {
                 let holding = self.bound(handle).filter(|place| place.held_len > 0);

@@ -5,7 +5,7 @@ use std::io;
 use std::path::Path;
 
 use crate::call::{Call, Counter, Key, hold_for_any};
-use crate::differences;
+use crate::differences::{self, FIRST, LATEST};
 use crate::digits;
 use crate::frames::{program, read_by_rust};
 use crate::generate::{Player, Random, any_frame, damaged, setting};
@@ -89,11 +89,17 @@ fn commit(handle: u32, epoch: u64, commit_no: u64, changes: &[Vec<u8>]) -> Vec<u
 }
 
 fn hello(epoch: u64) -> Vec<u8> {
-    wire::hello(1, epoch, b"a", &[])
+    hello_in(FIRST, epoch)
+}
+
+fn hello_in(version: u16, epoch: u64) -> Vec<u8> {
+    wire::hello(version, epoch, b"a", &[])
 }
 
 const STAMP: &[u8] = b"20261115-12:00:00";
 const LONG_STAMP: &[u8] = b"20261231-23:59:60.999";
+/// The longest stamp of version 2.
+const LONGEST_STAMP: &[u8] = b"20261231-23:59:60.999999999999";
 
 fn records(numbers: std::ops::RangeInclusive<u64>, msg: &[u8]) -> Vec<Vec<u8>> {
     numbers.map(|seq| change::record(seq, msg)).collect()
@@ -170,7 +176,7 @@ fn refusals() -> Script {
         .frame(Vec::new())
         .frame([hello(5), hello(5)].concat())
         .frame(hello(5)[..20].to_vec());
-    bound(script.note("11, 12, 14, then bound").frame(wire::hello(2, 5, b"a", &[])).frame(wire::hello(
+    bound(script.note("11, 12, 14, then bound").frame(wire::hello(3, 5, b"a", &[])).frame(wire::hello(
         1,
         5,
         b"a",
@@ -388,7 +394,7 @@ fn one_of_each(epoch: u64, at: u64) -> Vec<Vec<u8>> {
     let with_record = Batch { handle: 1, epoch, commit_no: at + 1, part: COMMIT, changes: Vec::new(), records };
     vec![
         hello(epoch),
-        wire::hello(2, epoch, b"a", &[]),
+        wire::hello(3, epoch, b"a", &[]),
         wire::hello(1, epoch, b"a", &[1]),
         wire::welcome(epoch, 7),
         wire::bind(1, epoch, 0, &key("B")),
@@ -437,7 +443,7 @@ fn stale_actives() -> Script {
         wire::bind(3, 30, 0, &key("D")),
         wire::bind(3, 30, 1, &key("C")),
         wire::bind(4, 30, 0, &key("E")),
-        wire::hello(2, 30, b"a", &[]),
+        wire::hello(3, 30, b"a", &[]),
         wire::hello(1, 30, b"a", &[1]),
         wire::welcome(30, 7),
         wire::checked(1, 30, 8),
@@ -874,6 +880,190 @@ fn held_changes() -> Script {
         .state()
 }
 
+fn stamped(stamp: &[u8]) -> [Vec<u8>; 1] {
+    [change::created_at(stamp)]
+}
+
+fn versions() -> Script {
+    let long = || stamped(LONGEST_STAMP);
+    let forms = ["", ".123", ".123456", ".123456789", ".123456789012"];
+    let none = [1, 2, 4, 5, 7, 8, 10, 11, 13].map(|count| format!(".{}", &"1234567890123"[..count]));
+    let with = |digits: &str| stamped(&[STAMP, digits.as_bytes()].concat());
+    let all_forms = |script: Script, first: u64| {
+        (first..).zip(forms).fold(script, |script, (no, digits)| script.held(commit(1, 5, no, &with(digits))))
+    };
+    let no_forms = |script: Script, no: u64| script.all(&none, |script, digits| script.held(commit(1, 5, no, &with(digits))));
+    let script = Script::new("7 3 60 4 2 3")
+        .note("version 1 until a Hello is accepted: no digits behind the point, or three; 6 for all other counts")
+        .frame(wire::bind(1, 5, 0, &key("B")));
+    let script = no_forms(all_forms(script, 1), 3)
+        .note("11 and 12 leave the version; an accepted Hello of version 2 takes 6, 9 and 12 digits too")
+        .frame(hello_in(3, 5))
+        .frame(hello_in(0, 5))
+        .frame(wire::hello(LATEST, 5, b"a", &[1]))
+        .held(commit(1, 5, 3, &long()))
+        .frame(hello_in(LATEST, 5))
+        .frame(wire::bind(1, 5, 0, &key("B")));
+    let script = no_forms(all_forms(script, 1), 6)
+        .note("a session sent whole, in version 2")
+        .held(commit(1, 5, 6, &[change::created_at(LONGEST_STAMP), change::record(1, b"m")]))
+        .whole(9, key("B"), None)
+        .note("a drop keeps the version; so do a Hello of a lower epoch, which is answered, and one that is refused")
+        .line_drop(1)
+        .frame(wire::bind(1, 5, 3, &key("B")))
+        .held(commit(1, 5, 1, &long()))
+        .frame(hello_in(FIRST, 4))
+        .held(commit(1, 5, 2, &long()))
+        .frame(wire::hello(FIRST, 6, b"a", &[1]))
+        .frame(hello_in(3, 6))
+        .held(commit(1, 5, 3, &long()))
+        .state()
+        .note("back to 1 by an accepted Hello: Nack StaleEpoch and Lag, then 32, which runs the commits due and changes nothing else")
+        .frame(wire::bind(2, 5, 0, &key("C")))
+        .frame(hello_in(FIRST, 5))
+        .frame(wire::bind(2, 5, 0, &key("C")))
+        .held(commit(2, 5, 1, &[change::in_flight(1)]))
+        .held(wire::bind(1, 4, 9, &key("B")))
+        .held(commit(2, 5, 2, &[change::in_flight(2)]))
+        .held(wire::bind(1, 5, 9, &key("B")))
+        .held(commit(2, 5, 3, &[change::in_flight(3)]))
+        .state()
+        .held(wire::bind(1, 5, 0, &key("B")))
+        .held(wire::bind(2, 5, 0, &key("B")))
+        .state()
+        .held(commit(2, 5, 4, &long()))
+        .note("a sending is 32 too, before 24 and 9; a session without such a stamp is sent")
+        .whole(0, key("B"), None)
+        .whole(u64::MAX, key("B"), None)
+        .whole(0, key("B"), Some(0))
+        .whole(0, key("C"), None)
+        .note("a drop, and version 2 again")
+        .line_drop(2)
+        .frame(wire::bind(1, 5, 0, &key("B")))
+        .frame(hello_in(LATEST, 5))
+        .frame(wire::bind(1, 5, 0, &key("B")))
+        .whole(0, key("B"), None)
+        .note("with a short stamp, or none, version 1 binds the session again")
+        .held(commit(1, 5, 1, &stamped(LONG_STAMP)))
+        .frame(hello(5))
+        .frame(wire::bind(1, 5, 0, &key("B")))
+        .whole(0, key("B"), None);
+    script
+        .note("promotion keeps the version, and takes nothing more")
+        .frame(hello_in(LATEST, 5))
+        .frame(wire::bind(1, 5, 0, &key("B")))
+        .held(commit(1, 5, 1, &long()))
+        .line("U")
+        .whole(0, key("B"), None)
+        .frame(hello(9))
+        .frame(commit(1, 5, 2, &long()))
+        .whole(0, key("B"), None)
+        .state()
+}
+
+/// 32 beside 20 and 21, and beside another handle.
+fn long_and_full() -> Script {
+    Script::new("7 0 40 4 2 1")
+        .note("a row of one place, two sessions: 32 comes before 21, and removes no handle; 21 for a session that the version takes")
+        .frame(hello_in(LATEST, 1))
+        .frame(wire::bind(1, 1, 0, &key("C")))
+        .frame(wire::bind(1, 1, 0, &key("B")))
+        .frame(commit(1, 1, 1, &stamped(b"20261115-12:00:00.123456")))
+        .frame(hello(1))
+        .frame(wire::bind(1, 1, 0, &key("C")))
+        .held(batch(WHOLE, 1, 1, 1, &[change::reset(), change::record(1, b"held")]))
+        .held(wire::bind(2, 1, 0, &key("B")))
+        .held(wire::bind(1, 1, 0, &key("B")))
+        .state()
+        .note("20 is for a session that isn't stored, which has no stamp")
+        .held(wire::bind(2, 1, 0, &key("D")))
+        .held(batch(LAST_WHOLE, 1, 1, 2, &[]))
+        .state()
+        .frame(hello_in(LATEST, 1))
+        .frame(wire::bind(1, 1, 0, &key("C")))
+        .held(wire::bind(2, 1, 0, &key("B")))
+        .held(wire::bind(2, 1, 0, &key("C")))
+        .state()
+}
+
+/// A whole sending with the longest stamp into a hold area of just its length, and of a byte less.
+fn long_hold(less: u64) -> Script {
+    let whole =
+        [change::reset(), change::created_at(LONGEST_STAMP), change::bare_record(1), change::record(2, b"0123456789")];
+    let end = [change::bare_record(9), change::next_incoming_in_flight(3, 2), change::marks(&[b'm'; 64])];
+    Script::new(&format!("7 0 10 1 1 2 {}", 10 + 22 + 131 - less))
+        .note("with a stamp of 30 bytes the greatest session of C 10 and M 1 needs 131 bytes besides")
+        .frame(hello_in(LATEST, 0))
+        .frame(wire::bind(1, 0, 0, &key("B")))
+        .held(batch(WHOLE, 1, 0, 1, &whole))
+        .state()
+        .held(batch(LAST_WHOLE, 1, 0, 2, &end))
+        .state()
+        .note("sent on: with a stamp of 30 bytes a frame has at most 165 bytes besides")
+        .whole(0, key("B"), Some(10 + 22 + 165))
+        .whole(0, key("B"), Some(10 + 22 + 164))
+}
+
+/// A version that no call leaves beside these bindings: it is handed in.
+fn version_set() -> Script {
+    let whole = [change::reset(), change::created_at(LONGEST_STAMP), change::record(1, b"held")];
+    Script::new("7 0 40 4 2 2")
+        .note("a handle holds a long stamp as the version is set to 1: what is held is read all the same")
+        .frame(hello_in(LATEST, 1))
+        .frame(wire::bind(1, 1, 0, &key("B")))
+        .held(batch(WHOLE, 1, 1, 1, &whole))
+        .set(Counter::Version(FIRST))
+        .held(commit(1, 1, 2, &stamped(LONGEST_STAMP)))
+        .held(batch(WHOLE, 1, 1, 2, &[change::record(2, b"on")]))
+        .state()
+        .held(batch(LAST_WHOLE, 1, 1, 3, &[change::next_incoming(2)]))
+        .state()
+        .note("32 for its session on another handle and on its own, which stays bound and holds what it held")
+        .held(batch(WHOLE, 1, 1, 4, &[change::reset()]))
+        .held(wire::bind(2, 1, 0, &key("B")))
+        .held(wire::bind(1, 1, 0, &key("B")))
+        .state()
+        .whole(0, key("B"), None)
+        .set(Counter::Version(LATEST))
+        .held(wire::bind(2, 1, 0, &key("B")))
+        .whole(0, key("B"), None)
+        .state()
+}
+
+/// Two actives that speak different versions.
+fn actives_of_two_versions() -> Script {
+    let no_change = |script: Script, epoch: u64| {
+        script.all([0, 1, 2, 3], |script, version| script.held(hello_in(version, epoch)))
+    };
+    let script = Script::new("7 0 40 4 2 2")
+        .note("an active of version 1, deposed by a Hello of version 2; what the lower one sends then leaves the version")
+        .frame(hello(3))
+        .frame(wire::bind(1, 3, 0, &key("B")))
+        .held(commit(1, 3, 1, &stamped(STAMP)))
+        .held(hello_in(LATEST, 4))
+        .held(commit(1, 3, 2, &stamped(LONGEST_STAMP)))
+        .held(wire::bind(1, 4, 0, &key("B")))
+        .held(commit(1, 4, 1, &stamped(LONGEST_STAMP)));
+    let script = no_change(script, 3).held(commit(1, 4, 2, &stamped(LONGEST_STAMP))).state();
+    let script = script
+        .note("and the other way round; a Bind of a higher epoch is 32 too, and deposes nobody")
+        .held(hello(5))
+        .held(wire::bind(1, 9, 0, &key("B")))
+        .held(wire::bind(2, 5, 0, &key("C")))
+        .held(commit(2, 4, 1, &[]))
+        .held(commit(2, 5, 1, &stamped(STAMP)));
+    no_change(script, 4)
+        .held(commit(2, 5, 2, &stamped(LONGEST_STAMP)))
+        .held(commit(2, 5, 2, &[]))
+        .held(wire::checked(2, 5, 7))
+        .line("P")
+        .note("after promotion a Hello of neither version changes anything")
+        .all([0, 1, 2, 3], |script, version| script.held(hello_in(version, 9)))
+        .whole(0, key("B"), None)
+        .whole(0, key("C"), None)
+        .state()
+}
+
 fn refused_binds() -> Script {
     Script::new("7 2 40 4 3 2")
         .note("handle 1 holds changes, and its session has another's Bind: Nack StaleEpoch and Lag remove nothing")
@@ -919,6 +1109,8 @@ fn unreadable() -> Script {
         "L 18446744073709551616",
         "X epoch",
         "X commit 1",
+        "X version 0",
+        "X version 3",
         "X commit 4294967296 1",
         "Y 1 41,42,43",
         "Y 1 41,42,43,4",
@@ -983,6 +1175,12 @@ fn scripts() -> Vec<(String, Script)> {
         ("26-higher-epoch", higher_epoch()),
         ("27-held-changes", held_changes()),
         ("28-refused-binds", refused_binds()),
+        ("29-versions", versions()),
+        ("30-long-and-full", long_and_full()),
+        ("31-long-hold", long_hold(0)),
+        ("32-long-hold-short", long_hold(1)),
+        ("33-two-versions", actives_of_two_versions()),
+        ("34-version-set", version_set()),
     ];
     let chance = (1..=12).map(|seed| (format!("chance-{seed:02}"), by_chance(seed)));
     named.into_iter().map(|(name, script)| (name.into(), script)).chain(chance).collect()
@@ -995,7 +1193,18 @@ fn difference_scripts() -> Vec<(&'static str, Script)> {
     let held =
         bound("7 0 0 0 1 2").frame(batch(WHOLE, 1, 0, 1, &[change::reset()])).frame(wire::bind(2, 0, 0, &key("B")));
     let last = u64::MAX;
+    let long = || {
+        let stamp = [change::created_at(b"20261115-12:00:00.123456")];
+        Script::new("7 0 0 0 1 1")
+            .frame(hello_in(LATEST, 0))
+            .frame(wire::bind(1, 0, 0, &key("B")))
+            .frame(commit(1, 0, 1, &stamp))
+            .frame(hello(0))
+    };
     vec![
+        ("version-2", Script::new("7 0 0 0 0 0").frame(hello_in(LATEST, 0)).state()),
+        ("32-bind", long().frame(wire::bind(1, 0, 0, &key("B"))).state()),
+        ("32-sending", long().whole(0, key("B"), None)),
         ("09-area-too-short", bound("7 0 0 0 1 1").whole(0, key("B"), Some(48))),
         ("18-hold-area", bound("7 0 0 0 1 1 0").frame(batch(WHOLE, 1, 0, 1, &[change::reset()])).state()),
         ("20-session-places", bound("7 0 0 0 0 1").state()),
@@ -1177,7 +1386,26 @@ pub fn stamps() -> Vec<Vec<u8>> {
         "2026\u{e9}01-00:00:00",
     ]
     .map(|stamp| stamp.as_bytes().to_vec())
-    .into()
+    .into_iter()
+    .chain(digits_behind())
+    .collect()
+}
+
+/// Stamps of every count of digits behind the point up to 16, each last one also not a digit, and long ones of a day that isn't.
+fn digits_behind() -> Vec<Vec<u8>> {
+    let with = |digits: &str| format!("20261115-12:00:00.{digits}").into_bytes();
+    let mut stamps: Vec<_> = (1..=16).map(|count| with(&"1234567890123456"[..count])).collect();
+    stamps.extend(["12345/", "1234567:9", "12345678901x", "123 56", "1234567\u{e9}", "123.56"].map(with));
+    stamps.extend(["20260230-00:00:00.123456", "20260101-24:00:00.123456789", "20240229-23:59:60.999999999999"].map(Into::into));
+    stamps
+}
+
+/// Every frame with a stamp, read in version 2.
+fn frames_with_stamps() -> Vec<Vec<u8>> {
+    let frames = |stamp: Vec<u8>| [commit(1, 2, 3, &[change::created_at(&stamp)]), wire::bound(1, [1, 1, 0], &stamp, b"", 0)];
+    let long = [commit(1, 2, 3, &stamped(LONGEST_STAMP)), wire::bound(1, [2, 3, 4], LONGEST_STAMP, &[b'm'; 64], 5)];
+    let cut = |frame: Vec<u8>| (4..frame.len()).map(move |len| framed(&frame[4..len])).collect::<Vec<_>>();
+    stamps().into_iter().flat_map(frames).chain(good_frames()).chain(long.into_iter().flat_map(cut)).collect()
 }
 
 pub fn marks() -> Vec<Vec<u8>> {
@@ -1281,6 +1509,53 @@ fn program_limits() -> String {
     ])
 }
 
+fn program_versions() -> String {
+    let (short, long) = (stamped(LONG_STAMP), stamped(LONGEST_STAMP));
+    let whole = [change::reset(), change::created_at(b"20261115-12:00:00.123456"), change::record(1, b"m")];
+    lines(&[
+        // Version 1: 6. Then 11, 11, 12, which leave it.
+        hello(1),
+        wire::bind(1, 1, 0, &key("B")),
+        commit(1, 1, 1, &long),
+        hello_in(0, 1),
+        hello_in(3, 1),
+        wire::hello(LATEST, 1, b"a", &[1]),
+        commit(1, 1, 1, &long),
+        // Version 2: taken, told in a Bound, and sent whole; 6 for 7 digits.
+        hello_in(LATEST, 1),
+        wire::bind(1, 1, 0, &key("B")),
+        commit(1, 1, 1, &long),
+        commit(1, 1, 2, &stamped(b"20261115-12:00:00.1234567")),
+        wire::bind(1, 1, 0, &key("B")),
+        wire::bind(2, 1, 0, &key("C")),
+        batch(WHOLE, 2, 1, 1, &whole),
+        batch(LAST_WHOLE, 2, 1, 2, &[change::next_incoming(2), change::marks(b"m")]),
+        wire::bind(2, 1, 0, &key("C")),
+        // A lower Hello of version 1 is answered and leaves version 2.
+        hello(0),
+        commit(1, 1, 1, &long),
+        // Back to 1: Nack StaleEpoch, Nack Lag, 32; a new session is bound; 6.
+        hello(1),
+        wire::bind(1, 0, 1, &key("B")),
+        wire::bind(1, 1, 1, &key("B")),
+        wire::bind(1, 1, 0, &key("B")),
+        wire::bind(2, 1, 0, &key("C")),
+        wire::bind(3, 1, 0, &key("D")),
+        commit(3, 1, 1, &long),
+        commit(3, 1, 1, &short),
+        wire::bind(3, 1, 0, &key("B")),
+        commit(3, 1, 2, &[]),
+        // Version 2 again: B gets a short stamp, C keeps its own. Then B is bound in version 1.
+        hello_in(LATEST, 2),
+        wire::bind(1, 2, 0, &key("B")),
+        commit(1, 2, 1, &short),
+        hello(3),
+        wire::bind(1, 3, 0, &key("B")),
+        wire::bind(2, 3, 0, &key("C")),
+        wire::checked(1, 3, 7),
+    ])
+}
+
 fn program_inputs() -> Vec<(&'static str, Vec<u8>)> {
     let good = digits::write(&hello(5));
     let unbound = digits::write(&commit(9, 5, 1, &[]));
@@ -1330,6 +1605,7 @@ fn program_inputs() -> Vec<(&'static str, Vec<u8>)> {
         ("08-rubbish", rubbish),
         ("09-life", program_life().into()),
         ("10-limits", program_limits().into()),
+        ("11-versions", program_versions().into()),
     ]
 }
 
@@ -1368,15 +1644,21 @@ pub fn fnv_1a(bytes: &[u8]) -> u64 {
     bytes.iter().fold(0xcbf2_9ce4_8422_2325, |hash, byte| (hash ^ u64::from(*byte)).wrapping_mul(0x100_0000_01b3))
 }
 
-/// Every recorded file: its path below recorded/, and what stands in it.
-pub fn files() -> Vec<(String, Vec<u8>)> {
-    let frame_line = |frame: &Vec<u8>| format!("{} -> {}\n", digits::write(frame), read_by_rust(frame).text());
-    let mut frames: Vec<_> = single_frames();
+/// Each frame once, with the answer in this version.
+fn frame_lines(version: u16, mut frames: Vec<Vec<u8>>) -> String {
+    let line = |frame: &Vec<u8>| format!("{} -> {}\n", digits::write(frame), read_by_rust(version, frame).text());
     let mut seen = std::collections::HashSet::new();
     frames.retain(|frame| seen.insert(frame.clone()));
-    let frames: String = frames.iter().map(frame_line).collect();
-    let mut files =
-        vec![("frames.txt".into(), frames.into_bytes()), ("large-sendings.txt".into(), large_sendings().into())];
+    frames.iter().map(line).collect()
+}
+
+/// Every recorded file: its path below recorded/, and what stands in it.
+pub fn files() -> Vec<(String, Vec<u8>)> {
+    let mut files = vec![
+        ("frames.txt".into(), frame_lines(FIRST, single_frames()).into()),
+        ("frames-2.txt".into(), frame_lines(LATEST, frames_with_stamps()).into()),
+        ("large-sendings.txt".into(), large_sendings().into()),
+    ];
     for (name, Script(text)) in scripts() {
         files.push((format!("scripts/{name}.out"), run::<Rust>(&text).into()));
         files.push((format!("scripts/{name}.in"), text.into()));

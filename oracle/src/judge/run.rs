@@ -20,6 +20,8 @@ use crate::rust::Rust;
 use crate::shadow::Shadow;
 #[cfg(ours)]
 use crate::side::Side;
+#[cfg(calls)]
+use crate::side::State;
 use crate::side::answer;
 
 /// A difference, told as a reader would run it again.
@@ -80,7 +82,8 @@ impl Watched {
         let state = rust.state();
         let us = looked(|| self.us.state());
         if us.as_ref() != Ok(&state) {
-            return Err(Unlike::answers(&state.lines(), &us.map_or_else(|words| words, |us| us.lines())));
+            let lines = |state: &State| format!("version {}, {}", state.version, state.lines());
+            return Err(Unlike::answers(&lines(&state), &us.map_or_else(|words| words, |us| lines(&us))));
         }
         let look = looked(|| self.shadow.look(self.us.areas(), call, &answered, held));
         look.and_then(|look| look).map_err(Unlike::areas)?;
@@ -180,7 +183,7 @@ impl Run {
             return Ok(rust);
         }
         let sessions = state.state().sessions;
-        let mut us = Ours::filled(&self.setting, &sessions).expect("the Rust's side was made");
+        let mut us = Ours::filled(&self.setting, &sessions, state.version).expect("the Rust's side was made");
         let (rust, answered) = match call {
             Call::State => (format!("{sessions:?}"), format!("{:?}", us.state().sessions)),
             _ => (rust, answer(&mut us, call)),

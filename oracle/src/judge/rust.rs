@@ -24,6 +24,8 @@ pub struct Rust {
     pub sessions: u64,
     pub handles: u64,
     pub hold: u64,
+    /// The connection's version, which the Rust doesn't have (document 02, U7).
+    pub version: u16,
     /// What the last frame took from another handle, for the counts.
     pub taken: Option<Taken>,
     /// C and M.
@@ -117,7 +119,7 @@ impl Rust {
     /// and the changes in frame form.
     #[cfg(calls)]
     pub fn will_hold(&self, bytes: &[u8]) -> Option<(u32, u64, Vec<u8>)> {
-        match Frame::decode(bytes) {
+        match self.decode(bytes) {
             Ok(Some((Frame::Batch(batch), used))) if used == bytes.len() && !self.replica.promoted() => {
                 let (start, form) = (differences::held_len(self, batch.handle), form(&batch.ops));
                 let held = differences::would_hold(self, &batch) && start + form.len() as u64 <= self.hold;
@@ -125,6 +127,12 @@ impl Rust {
             }
             _ => None,
         }
+    }
+
+    /// Reads in the connection's version.
+    fn decode(&self, bytes: &[u8]) -> Result<Option<(Frame, usize)>, FrameError> {
+        differences::reading(self.version).expect("a version");
+        Frame::decode(bytes)
     }
 
     /// A standby with one session, made by Hello, Bind and one Commit of these changes.
@@ -151,11 +159,11 @@ impl Side for Rust {
         differences::given_incarnation(&mut replica, setting.incarnation);
         let limits = (setting.bytes, setting.messages);
         let Setting { sessions, handles, hold, .. } = *setting;
-        Some(Self { replica, sessions, handles, hold, taken: None, limits })
+        Some(Self { replica, sessions, handles, hold, version: differences::FIRST, taken: None, limits })
     }
 
     fn frame(&mut self, bytes: &[u8], held: bool) -> Answer {
-        let frame = match Frame::decode(bytes) {
+        let frame = match self.decode(bytes) {
             Ok(Some((frame, used))) if used == bytes.len() => frame,
             Ok(_) => return Err(differences::NOT_ONE_FRAME),
             Err(error) => return Err(read_refusal(&error)),
@@ -202,6 +210,7 @@ impl Side for Rust {
             promoted: replica.promoted(),
             checked: replica.checked(),
             connections: replica.connection(),
+            version: self.version,
             pending: replica.pending(),
             sessions: replica.storage().all().into_iter().map(session).collect(),
             handles: replica.handles().into_iter().map(handle).collect(),
@@ -224,7 +233,8 @@ impl Side for Rust {
     fn whole(&mut self, handle: u32, epoch: u64, last: u64, key: &Key, length: Option<u64>) -> Sent {
         let Some(mut log) = self.log(key) else { return Sent { frames: Vec::new(), end: Err(differences::MISSING) } };
         let batches = whole(log.as_mut(), handle, epoch, last);
-        differences::sending(last, batches.into_iter().map(|batch| encoded(&Frame::Batch(batch))).collect(), length)
+        let frames = batches.into_iter().map(|batch| encoded(&Frame::Batch(batch))).collect();
+        differences::sending(self, log.as_ref(), last, frames, length)
     }
 
     fn queue(&mut self, max_lag: u64, drained: u64, lasts: &[u64]) -> Result<Vec<Pushed>, u32> {
@@ -271,6 +281,7 @@ impl Side for Rust {
         match *counter {
             Counter::Connections(n) => self.replica.set_connections(n),
             Counter::Epoch(n) => self.replica.set_epoch(n),
+            Counter::Version(n) => self.version = n,
             Counter::Commit(handle, n) => return self.replica.set_commit_no(handle, n),
             Counter::Bytes(handle, n) => return self.replica.set_held_bytes(handle, n),
         }

@@ -7,6 +7,7 @@ use std::path::Path;
 
 use turbojet_replica::frame::Frame;
 
+use crate::differences::FIRST;
 use crate::digits;
 use crate::frames::{program, read_by_rust};
 use crate::generate::{cycle, last_day};
@@ -32,7 +33,7 @@ impl Checks {
 
     fn frame(&mut self, hex: &str, must: &str) {
         let bytes = digits::read(hex.as_bytes()).expect("digits");
-        self.same(&format!("frame {hex}"), &read_by_rust(&bytes).text(), must);
+        self.same(&format!("frame {hex}"), &read_by_rust(FIRST, &bytes).text(), must);
     }
 }
 
@@ -115,7 +116,7 @@ fn days(checks: &mut Checks) {
     let taken = |year: u64, month: u64, day: u64| {
         let stamp = format!("{year:04}{month:02}{day:02}-00:00:00");
         let frame = digits::read(stamped(&stamp).as_bytes()).expect("digits");
-        read_by_rust(&frame).text() != "R 6"
+        read_by_rust(FIRST, &frame).text() != "R 6"
     };
     let last = |year, month| (28..=32).filter(|day| taken(year, month, *day)).max().unwrap_or(0);
     let common: Vec<u64> = (1..=12).map(|month| last(2023, month)).collect();
@@ -175,12 +176,12 @@ fn utf_8(checks: &mut Checks) {
         table.iter().any(|row| fits(row))
     };
     let borders = [0x00, 0x7f, 0x80, 0x8f, 0x90, 0x9f, 0xa0, 0xbf, 0xc0, 0xff];
-    let refused = read_by_rust(&wire::hello(1, 0, b"\xff", &[]));
+    let refused = read_by_rust(FIRST, &wire::hello(1, 0, b"\xff", &[]));
     let mut wrong = Vec::new();
     let mut judge = |text: &[u8]| {
         // A character with more after it is judged by the shorter text.
         let goes_on = (1..text.len()).any(|cut| one(&text[..cut]));
-        if !goes_on && (read_by_rust(&wire::hello(1, 0, text, &[])) != refused) != one(text) {
+        if !goes_on && (read_by_rust(FIRST, &wire::hello(1, 0, text, &[])) != refused) != one(text) {
             wrong.push(digits::write(text));
         }
     };

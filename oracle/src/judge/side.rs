@@ -41,6 +41,8 @@ pub struct State {
     pub promoted: bool,
     pub checked: bool,
     pub connections: u64,
+    /// Compared, though no line shows it.
+    pub version: u16,
     pub pending: Vec<u32>,
     pub sessions: Vec<Session>,
     pub handles: Vec<Handle>,

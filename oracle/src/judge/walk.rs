@@ -62,6 +62,12 @@ pub fn form(frame: &[u8]) -> &[u8] {
     &frame[4 + 1 + 4 + 8 + 8 + 1 + 4..frame.len() - 4]
 }
 
+/// The stamp that a Bound's frame tells, empty for none; none of another frame.
+#[cfg(calls)]
+pub fn stamp_of_bound(frame: &[u8]) -> Option<&[u8]> {
+    (frame.get(4) == Some(&7)).then(|| Walk(&frame[4 + 1 + 4 + 3 * 8..]).blob())
+}
+
 /// The messages that a batch's frame records.
 pub fn messages(frame: &[u8]) -> impl Iterator<Item = (u64, Vec<u8>)> {
     let recorded = |change| if let Change::Record(seq, msg) = change { Some((seq, msg.to_vec())) } else { None };

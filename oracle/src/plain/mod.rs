@@ -1,4 +1,4 @@
-//! A stand-in for our side: document 01 read a second time, without the Rust and without the
+//! A stand-in for our side: document 01, and U2, U4 and U7 of document 02, read a second time, without the Rust and without the
 //! areas' real layout, but for the counts and the durable mark. It tries the comparison out, and faults can be put into
 //! it one at a time (WIZHDULET_FAULT) to see that the comparison finds each.
 
@@ -13,8 +13,8 @@ use crate::call::Key;
 use crate::fix;
 use crate::library::{Areas, Ask, Counters, Imported, Place, Resent, Settings, Size};
 use crate::wire;
-use read::{Batch, Change, Fault, Frame, Left};
-use session::Session;
+use read::{Batch, Change, Fault, Frame, LATEST, Left};
+use session::{SHORT, Session};
 
 const WORK: u64 = 1 << 63;
 
@@ -39,8 +39,16 @@ fn store(areas: &Areas) -> usize {
     areas.words.as_ptr() as usize
 }
 
-pub fn frame(frame: &[u8], out: &mut [u8]) -> u64 {
-    match read::read(frame) {
+/// The versions that there are (document 02, U7).
+fn is_version(version: u16) -> bool {
+    version == 1 || version == 2
+}
+
+pub fn frame(frame: &[u8], out: &mut [u8], version: u16) -> u64 {
+    if !is_version(version) {
+        return refusal(11);
+    }
+    match read::read(frame, version) {
         Err(Fault::More) => 0,
         Err(Fault::Refused(4, _)) if fault(1) => refusal(2),
         Err(Fault::Refused(number, detail)) => refusal(number) + detail,
@@ -48,8 +56,8 @@ pub fn frame(frame: &[u8], out: &mut [u8]) -> u64 {
     }
 }
 
-pub fn read(bytes: &[u8]) -> u64 {
-    frame(bytes, &mut vec![0; bytes.len()])
+pub fn read(bytes: &[u8], version: u16) -> u64 {
+    frame(bytes, &mut vec![0; bytes.len()], version)
 }
 
 /// All that a call works on.
@@ -125,6 +133,9 @@ impl Standby<'_> {
             return Err(23);
         }
         self.counters.promoted = 1;
+        if fault(45) {
+            self.counters.version2 = 0;
+        }
         self.drop_bindings();
         let lag = self.lag;
         self.sessions.iter_mut().for_each(|session| session.taken_over(lag));
@@ -132,7 +143,7 @@ impl Standby<'_> {
     }
 
     fn on_frame(&mut self, bytes: &[u8], held: bool) -> Answer {
-        let frame = match read::read(bytes) {
+        let frame = match read::read(bytes, self.version()) {
             Ok((frame, used)) if used == bytes.len() as u64 => frame,
             Ok(_) | Err(Fault::More) => return Err(26),
             Err(Fault::Refused(number, _)) => return Err(number),
@@ -144,6 +155,10 @@ impl Standby<'_> {
             Frame::Batch(batch) => {
                 self.words[1] >= if fault(18) { 63 } else { 64 }
                     || self.pending().iter().any(|word| *word as u32 == batch.handle)
+            }
+            Frame::Bind { key, .. } if fault(50) => {
+                let version = self.version();
+                self.sessions.iter().all(|session| session.key != *key || session.suits(version))
             }
             _ => true,
         };
@@ -159,9 +174,17 @@ impl Standby<'_> {
 
     fn take(&mut self, frame: Frame) -> Answer {
         match frame {
-            Frame::Hello { version, .. } if version != 1 => Err(11),
-            Frame::Hello { kinds, .. } if kinds > 0 => Err(12),
-            Frame::Hello { epoch, .. } => {
+            Frame::Hello { version, .. } if !is_version(version) && !(fault(44) && version == 3) => Err(11),
+            Frame::Hello { kinds, version, .. } if kinds > 0 => {
+                if fault(46) {
+                    self.speak(version);
+                }
+                Err(12)
+            }
+            Frame::Hello { version, epoch, .. } => {
+                if epoch >= self.counters.epoch || fault(39) {
+                    self.speak(version);
+                }
                 if epoch >= self.counters.epoch {
                     self.drop_bindings();
                     self.counters.connections = self.counters.connections.saturating_add(1);
@@ -184,16 +207,38 @@ impl Standby<'_> {
         }
     }
 
+    /// The connection's version (document 02, U7): 1 until a Hello is accepted, then that Hello's.
+    fn version(&self) -> u16 {
+        if self.counters.version2 == 0 || fault(53) && self.counters.version2 != 1 { 1 } else { 2 }
+    }
+
+    fn speak(&mut self, version: u16) {
+        let kept = fault(37) || fault(51) && version == 1;
+        if !kept {
+            self.counters.version2 = u8::from(version != 1);
+        }
+    }
+
     fn bind(&mut self, handle: u32, epoch: u64, max_lag: u64, key: [Vec<u8>; 4]) -> Answer {
         if epoch < self.counters.epoch {
             return Ok(wire::nack(handle, STALE_EPOCH));
         }
         let known = self.sessions.iter().position(|session| session.key == key);
+        let long = known.is_some_and(|known| !self.sessions[known].suits(self.version()) && !fault(42));
+        if long && fault(41) {
+            return Err(32);
+        }
         if max_lag > self.lag {
             if fault(26) {
                 self.remove(self.other(handle, known.unwrap_or(usize::MAX) as u64));
             }
             return Ok(wire::nack(handle, LAG));
+        }
+        if long && !fault(40) {
+            if fault(52) {
+                self.remove(self.other(handle, known.unwrap_or(usize::MAX) as u64));
+            }
+            return Err(32);
         }
         if known.is_none() && self.sessions.len() as u64 >= self.places {
             return Err(20);
@@ -201,6 +246,9 @@ impl Standby<'_> {
         let place = known.unwrap_or(self.sessions.len()) as u64;
         let other = self.other(handle, place);
         let index = self.place_for(handle, other).ok_or(21_u32)?;
+        if long {
+            return Err(32);
+        }
         if known.is_none() {
             self.sessions.push(Session::new(key));
         }
@@ -217,7 +265,9 @@ impl Standby<'_> {
         self.words[0] = self.sessions.len() as u64;
         let session = &self.sessions[place as usize];
         let numbers = [session.out, session.incoming, session.flight.unwrap_or(0)];
-        Ok(wire::bound(handle, numbers, &session.stamp, &session.marks, session.last_outgoing(max_lag)))
+        let short = if self.version() == 1 { SHORT } else { usize::MAX };
+        let stamp = &session.stamp[..session.stamp.len().min(short)];
+        Ok(wire::bound(handle, numbers, stamp, &session.marks, session.last_outgoing(max_lag)))
     }
 
     /// One handle for a session (document 02, U4): where another handle that holds it stands.
@@ -258,7 +308,7 @@ impl Standby<'_> {
 
     fn held(&self, index: usize) -> Vec<Change> {
         let form = &self.holds[self.hold_start(index)..][..self.row[index].held_len as usize];
-        let mut left = Left(form);
+        let mut left = Left(form, if fault(54) { self.version() } else { LATEST });
         let mut changes = Vec::new();
         while !left.0.is_empty() {
             changes.extend(left.change());
@@ -395,6 +445,9 @@ pub fn said(counters: &mut Counters, areas: &mut Areas, settings: Settings, ask:
         Ask::Drop(connection) => {
             if connection == standby.counters.connections || fault(8) {
                 standby.drop_bindings();
+                if fault(38) {
+                    standby.counters.version2 = 0;
+                }
             }
             Ok(Vec::new())
         }
@@ -405,9 +458,20 @@ pub fn said(counters: &mut Counters, areas: &mut Areas, settings: Settings, ask:
     Said(answer)
 }
 
-/// Writes an answer's frame.
-pub fn answer(said: &Said, _: &[u8], out: &mut [u8]) -> u64 {
-    said.0.as_ref().map_or_else(|number| refusal(*number), |frame| put(out, frame))
+/// Where a Bound's frame has the length of its stamp.
+const STAMP_LEN: usize = 4 + 1 + 4 + 3 * 8;
+
+/// Writes an answer's frame. A stamp that the version doesn't take is 8.
+pub fn answer(said: &Said, _: &[u8], out: &mut [u8], version: u16) -> u64 {
+    if !is_version(version) {
+        return refusal(11);
+    }
+    let long = |frame: &[u8]| frame[4] == 7 && usize::from(frame[STAMP_LEN]) > SHORT;
+    match &said.0 {
+        Err(number) => refusal(*number),
+        Ok(frame) if version == 1 && frame.len() > STAMP_LEN && long(frame) => refusal(8),
+        Ok(frame) => put(out, frame),
+    }
 }
 
 fn stored(areas: &Areas, place: u64) -> Option<Session> {
@@ -460,12 +524,23 @@ pub fn send(
     out: &mut [u8],
     place: u64,
     (handle, epoch): (u32, u64),
+    version: u16,
 ) -> u64 {
-    let Some(session) = stored(areas, place) else { return refusal(25) };
+    let Some(mut session) = stored(areas, place) else { return refusal(25) };
+    if !is_version(version) {
+        return refusal(11);
+    }
+    if !session.suits(version) && fault(42) {
+        session.stamp.truncate(SHORT);
+    }
     let batches = batches(&session);
     // Its own count of batches given stands for the next message number.
     let [last, given] = [sending[0], sending[1]];
-    if given == 0 && last.checked_add(batches.len() as u64).is_none() {
+    let spent = given == 0 && last.checked_add(batches.len() as u64).is_none();
+    if given == 0 && !session.suits(version) && !(fault(47) && spent) {
+        return refusal(32);
+    }
+    if spent {
         return refusal(24);
     }
     let Some(changes) = batches.get(given as usize) else { return WORK + (1 << 62) };

@@ -1,4 +1,4 @@
-//! Reading, by document 01's table alone, and document 02's rule for the day of a stamp.
+//! Reading, by document 01's table alone, and document 02's rules for a stamp: the day, and the digits behind its point.
 
 use crate::faults::fault;
 
@@ -46,7 +46,11 @@ pub enum Frame {
     Other,
 }
 
-pub struct Left<'a>(pub &'a [u8]);
+/// What is left to read, and the version that it is read in.
+pub struct Left<'a>(pub &'a [u8], pub u16);
+
+/// The version that reads all that either reads.
+pub const LATEST: u16 = 2;
 
 impl<'a> Left<'a> {
     fn take(&mut self, count: u64) -> Result<&'a [u8], Fault> {
@@ -79,7 +83,7 @@ impl<'a> Left<'a> {
 
     fn stamp(&mut self) -> Result<Vec<u8>, Fault> {
         let text = self.text()?;
-        if is_stamp(text) { Ok(text.to_vec()) } else { refused(6) }
+        if is_stamp(text, self.1) { Ok(text.to_vec()) } else { refused(6) }
     }
 
     fn marks(&mut self) -> Result<Vec<u8>, Fault> {
@@ -132,7 +136,7 @@ impl<'a> Left<'a> {
     fn bound(&mut self) -> Result<Frame, Fault> {
         self.take(4 + 3 * 8)?;
         let stamp = self.text()?;
-        if !stamp.is_empty() && !is_stamp(stamp) {
+        if !stamp.is_empty() && !is_stamp(stamp, self.1) {
             return refused(6);
         }
         self.marks()?;
@@ -171,12 +175,12 @@ impl<'a> Left<'a> {
     }
 }
 
-/// The frame at the start of `bytes`, and how many it took.
-pub fn read(bytes: &[u8]) -> Result<(Frame, u64), Fault> {
+/// The frame at the start of `bytes`, read in this version, and how many it took.
+pub fn read(bytes: &[u8], version: u16) -> Result<(Frame, u64), Fault> {
     if bytes.len() < 4 {
         return Err(Fault::More);
     }
-    let len = Left(bytes).number(4)?;
+    let len = Left(bytes, version).number(4)?;
     if len > 67_108_864 {
         return Err(Fault::Refused(1, len));
     }
@@ -184,7 +188,7 @@ pub fn read(bytes: &[u8]) -> Result<(Frame, u64), Fault> {
     if (rest.len() as u64) < len {
         return Err(Fault::More);
     }
-    Ok((Left(&rest[..len as usize]).body()?, 4 + len))
+    Ok((Left(&rest[..len as usize], version).body()?, 4 + len))
 }
 
 pub fn printable(bytes: &[u8], least: usize, most: usize) -> bool {
@@ -229,18 +233,34 @@ fn is_day(century: u32, year: u32, month: u32, day: u32) -> bool {
     }
 }
 
-fn is_stamp(text: &[u8]) -> bool {
-    if text.len() != 17 && text.len() != 21 {
-        return false;
+/// Version 1 has no digits behind the point's place, or three; version 2 has whole groups of three, four at most.
+fn has_digits(count: usize, version: u16) -> bool {
+    match version {
+        1 => count == 0 || count == 3 || fault(48) && count == 6,
+        _ => count % 3 == 0 && count <= if fault(49) { 15 } else { 12 },
     }
+}
+
+fn is_stamp(text: &[u8], version: u16) -> bool {
+    let Some((moment, behind)) = text.split_at_checked(17) else { return false };
+    let fraction = match behind {
+        [] => true,
+        [b'.', digits @ ..] => {
+            !digits.is_empty() && has_digits(digits.len(), version) && digits.iter().all(u8::is_ascii_digit)
+        }
+        _ => false,
+    };
+    fraction && is_moment(moment)
+}
+
+/// Year, month, day, hour, minute and second.
+fn is_moment(text: &[u8]) -> bool {
     let within = |at: usize, least: u32, most: u32| two_digits(text, at).is_some_and(|n| n >= least && n <= most);
     let points = text[8] == b'-' && text[11] == b':' && text[14] == b':';
     let [Some(century), Some(year), Some(month), Some(day)] = [0, 2, 4, 6].map(|at| two_digits(text, at)) else {
         return false;
     };
-    let millis = text.len() == 17 || text[17] == b'.' && text[18..].iter().all(u8::is_ascii_digit);
     points
-        && millis
         && within(4, 1, 12)
         && within(6, 1, 31)
         && within(9, 0, 23)

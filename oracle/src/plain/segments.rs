@@ -1,6 +1,6 @@
 //! What a hold area and the words of its segments mean, read a second time from the words of docs/AREAS.md.
 
-use super::read::{Change, Left};
+use super::read::{Change, LATEST, Left};
 use crate::faults::fault;
 
 /// The words of the row's place: the words are divided evenly among the places.
@@ -29,7 +29,7 @@ pub fn closed(words: &[u64], held: usize) -> Vec<usize> {
 
 /// One change at the start of these bytes, and how many it takes.
 fn change(bytes: &[u8]) -> Option<(Change, usize)> {
-    let mut left = Left(bytes);
+    let mut left = Left(bytes, LATEST);
     let change = left.change().ok()?;
     Some((change, bytes.len() - left.0.len()))
 }

@@ -3,6 +3,9 @@
 use super::read::Change;
 use crate::faults::fault;
 
+/// The longest stamp of version 1.
+pub const SHORT: usize = 21;
+
 #[derive(Clone)]
 pub struct Session {
     pub key: [Vec<u8>; 4],
@@ -19,6 +22,11 @@ impl Session {
     pub fn new(key: [Vec<u8>; 4]) -> Self {
         let (stamp, marks, messages) = (Vec::new(), Vec::new(), Vec::new());
         Self { key, stamp, out: 1, incoming: 1, flight: None, marks, messages, durable: false }
+    }
+
+    /// Whether a version takes the stamp, which is never shortened (document 02, U7).
+    pub fn suits(&self, version: u16) -> bool {
+        version == 2 || self.stamp.len() <= SHORT
     }
 
     /// Whether the outgoing numbers of `changes` follow on.
@@ -55,6 +63,7 @@ impl Session {
                 msg.iter().for_each(|msg| self.store(*seq, msg, c, m));
             }
             Change::Reset => *self = Self::new(self.key.clone()),
+            Change::Stamp(stamp) if fault(43) => self.stamp = stamp[..stamp.len().min(SHORT)].to_vec(),
             Change::Stamp(stamp) => self.stamp = stamp.clone(),
             Change::Marks(marks) => self.marks = marks.clone(),
         }

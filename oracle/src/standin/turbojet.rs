@@ -34,6 +34,8 @@ impl SessionId {
 pub mod fields {
     //! FIX field values: of these, the UTC timestamp.
 
+    use std::cell::Cell;
+
     pub trait FromFix: Sized {
         type Error;
         fn from_fix(text: &str) -> Result<Self, Self::Error>;
@@ -43,21 +45,35 @@ pub mod fields {
         fn to_fix(&self) -> String;
     }
 
-    /// A stamp, kept as written: `YYYYMMDD-HH:MM:SS`, or that with `.` and three digits, of a day that exists.
+    /// A stamp, kept as written: `YYYYMMDD-HH:MM:SS`, or that with `.` and three digits, of a day that exists; in version 2 also with
+    /// six, nine or twelve (document 02, U7).
     #[derive(Debug, Clone, Copy, PartialEq, Eq)]
     pub struct UtcTimestamp {
         len: usize,
-        bytes: [u8; 21],
+        bytes: [u8; LONGEST],
+    }
+
+    /// The longest stamp that version 1 takes, and the longest of all.
+    const LONGEST_SHORT: usize = 21;
+    const LONGEST: usize = 30;
+
+    thread_local! {
+        /// Stamps are read in this version: the driver sets it before each reading.
+        static VERSION: Cell<u16> = const { Cell::new(1) };
+    }
+
+    pub fn read_in(version: u16) {
+        VERSION.set(version);
     }
 
     #[derive(Debug)]
     pub struct NotAStamp;
 
     /// The form: `d` stands for a digit, every other byte for itself.
-    const FORM: &[u8; 21] = b"dddddddd-dd:dd:dd.ddd";
+    const FORM: &[u8; LONGEST] = b"dddddddd-dd:dd:dd.dddddddddddd";
 
     fn has_form(text: &[u8]) -> bool {
-        matches!(text.len(), 17 | 21)
+        (matches!(text.len(), 17 | LONGEST_SHORT) || VERSION.get() == 2 && matches!(text.len(), 24 | 27 | LONGEST))
             && text.iter().zip(FORM).all(|(byte, form)| match form {
                 b'd' => byte.is_ascii_digit(),
                 _ => byte == form,
@@ -90,7 +106,7 @@ pub mod fields {
             if !has_form(text) || !in_ranges(text) || !day_exists(text) {
                 return Err(NotAStamp);
             }
-            let mut bytes = [0; 21];
+            let mut bytes = [0; LONGEST];
             bytes[..text.len()].copy_from_slice(text);
             Ok(Self { len: text.len(), bytes })
         }
@@ -99,6 +115,13 @@ pub mod fields {
     impl ToFix for UtcTimestamp {
         fn to_fix(&self) -> String {
             self.bytes[..self.len].iter().copied().map(char::from).collect()
+        }
+    }
+
+    impl UtcTimestamp {
+        /// Whether only version 2 takes it.
+        pub fn is_long(&self) -> bool {
+            self.len > LONGEST_SHORT
         }
     }
 }

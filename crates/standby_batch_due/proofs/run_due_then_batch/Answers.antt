@@ -1,3 +1,4 @@
+use Rattle.model_text.specs.Version.{latest}
 use Rattle.std.proofs.Common.{ℕ, ◌+◌, ◌*◌, ◌<◌, ◌≤◌, length, sym, subst, arith}
 use Rattle.model_frame.specs.Reading.{read_change, read_app_record}
 use Rattle.frame_op.specs.Answers.{run_of}
@@ -26,5 +27,5 @@ pub returns-clause-is : goal.returns-clause-is
 returns-clause-is c =
     let a = c.args in
     let s = a.standing in
-    batch_at s.settings s.counters s.lookup a.batch.handle a.batch.epoch.0 a.batch.commit_no.0 (part_of a.batch.part) (run_of (read_change 1) a.frame.now a.batch.ops) (run_of read_app_record a.frame.now a.batch.app_records) a.areas.now.words.now a.areas.now.bytes.now a.areas.now.holds.now c.is_due_batch-due.ensures c.run_if.ensures
+    batch_at s.settings s.counters s.lookup a.batch.handle a.batch.epoch.0 a.batch.commit_no.0 (part_of a.batch.part) (run_of (read_change latest) a.frame.now a.batch.ops) (run_of read_app_record a.frame.now a.batch.app_records) a.areas.now.words.now a.areas.now.bytes.now a.areas.now.holds.now c.is_due_batch-due.ensures c.run_if.ensures
     _ _ _ _ c.room_of-room.ensures c.area_start-lo.ensures c.on_batch.auto.area c.on_batch.ensures

@@ -1,3 +1,4 @@
+use Rattle.model_text.specs.Version.{latest}
 use Rattle.frame.specs.Answers.{frame_of}
 use Rattle.standby_frame.proofs.Laws.{batch_intact, other_intact}
 use Rattle.standby_frame.proofs.Frames.{fit_of}
@@ -13,4 +14,4 @@ pub returns-in_default-clause-is : goal.returns-in_default-clause-is
 returns-in_default-clause-is c =
     let a = c.args in
     let s = a.standing in
-    other_intact s.settings s.counters s.lookup a.areas.now.row.now (frame_of 1 a.frame.now a.decoded) (fit_of a.frame.now a.decoded c.in_default.not-Batch c.requires.writable) _ _ _ _ _ _ c.run_due_then_answer.ensures.is c.run_due_then_answer.ensures.holds
+    other_intact s.settings s.counters s.lookup a.areas.now.row.now (frame_of latest a.frame.now a.decoded) (fit_of a.frame.now a.decoded c.in_default.not-Batch c.requires.writable) _ _ _ _ _ _ c.run_due_then_answer.ensures.is c.run_due_then_answer.ensures.holds

@@ -6,8 +6,7 @@ use Prim.Native.Nat.{ℕ, suc, ◌+◌, ◌≤◌, ◌<◌}
 use native.Mathlib.Numerals.{add-one}
 use lib.ListN.{length, drop, get_or, drop_of_length-le}
 use lib.Seq.{drop-cons}
-use Rattle.model_text.specs.Stamp.{is_digit, matches}
-use Rattle.model_text.specs.WideStamp.{digits}
+use Rattle.model_text.specs.Stamp.{is_digit, matches, digits}
 
 abbrev pub digits_only : List ℕ → Bool
 digits_only [] = true
