@@ -1,7 +1,8 @@
 //! What a capture leaves: its sessions, and what was refused; or its frames, one by one.
 use crate::capture::Capture;
+use crate::kept::State;
 use crate::library::{Answer, NACK, screen, wz_screen_frame, wz_screen_refusal};
-use crate::standby::{Limits, Standby};
+use crate::standby::{Given, Standby};
 use crate::words::{Failure, counted, grouped, labelled, reason, visible};
 use std::io::Write;
 
@@ -67,12 +68,18 @@ fn take(
     Ok((capture, turned, count))
 }
 
+/// A new standby for captures, with the limits that the last of them is kept with, and the incarnation that it counts as checked in.
+fn standby_for(given: &Given, captures: &[Capture]) -> Result<Standby, Failure> {
+    let kept = captures.last().map(|capture| State::of(&capture.name)).transpose()?.flatten();
+    let mut limits = given.over(kept.map(|state| state.limits));
+    limits.incarnation = limits.incarnation.or_else(|| captures.iter().find_map(Capture::incarnation));
+    Standby::new(&limits).map_err(|n| Failure::usage(format!("the limits don't fit: R {n}")))
+}
+
 /// A standby over several captures, one line after the other.
-pub fn load(limits: &Limits, names: &[String]) -> Result<Vec<Taken>, Failure> {
+pub fn load(given: &Given, names: &[String]) -> Result<Vec<Taken>, Failure> {
     let mut captures = names.iter().map(|name| Capture::read(name)).collect::<Result<Vec<_>, _>>()?;
-    let incarnation = limits.incarnation.or_else(|| captures.iter().find_map(Capture::incarnation));
-    let standby = Standby::new(&Limits { incarnation, ..*limits });
-    let mut standby = standby.map_err(|n| Failure::usage(format!("the limits don't fit: R {n}")))?;
+    let mut standby = standby_for(given, &captures)?;
     let last = captures.pop();
     for capture in captures {
         let (capture, turned, count) = take(&mut standby, capture, |_, _, _, _, _| Ok(()))?;
@@ -193,8 +200,8 @@ impl Taken {
 }
 
 /// The command `show`.
-pub fn show(limits: &Limits, names: &[String], tsv: bool, out: &mut impl Write) -> Result<u8, Failure> {
-    let loaded = load(limits, names)?;
+pub fn show(given: &Given, names: &[String], tsv: bool, out: &mut impl Write) -> Result<u8, Failure> {
+    let loaded = load(given, names)?;
     let Some(taken) = loaded.first() else { return Err(Failure::usage("show needs a capture")) };
     if tsv {
         table(taken, out)?;
@@ -233,11 +240,10 @@ fn table(taken: &Taken, out: &mut impl Write) -> Result<(), Failure> {
 }
 
 /// The command `frames`.
-pub fn frames(limits: &Limits, name: &str, tsv: bool, out: &mut impl Write) -> Result<u8, Failure> {
-    let capture = Capture::read(name)?;
-    let incarnation = limits.incarnation.or_else(|| capture.incarnation());
-    let mut standby = Standby::new(&Limits { incarnation, ..*limits })
-        .map_err(|n| Failure::usage(format!("the limits don't fit: R {n}")))?;
+pub fn frames(given: &Given, name: &str, tsv: bool, out: &mut impl Write) -> Result<u8, Failure> {
+    let captures = [Capture::read(name)?];
+    let mut standby = standby_for(given, &captures)?;
+    let [capture] = captures;
     if tsv {
         writeln!(out, "frame\toffset\tlength\tkind\trefusal\tanswer")?;
     } else {
