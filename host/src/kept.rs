@@ -108,12 +108,20 @@ fn sync_folder(name: &str) -> io::Result<()> {
 
 /// The process that holds a file's lock, as the system lists it.
 pub fn holder(file: &File) -> Option<u32> {
-    let inode = file.metadata().ok()?.ino().to_string();
+    let ours = file.metadata().ok()?;
+    let same = |there: std::fs::Metadata| (there.dev(), there.ino()) == (ours.dev(), ours.ino());
+    // The list has the number of the file; that another disk has a file with it is seen at the process, where this one may look.
+    let has_it = |pid: &u32| match std::fs::read_dir(format!("/proc/{pid}/fd")) {
+        Ok(open) => open.flatten().any(|entry| std::fs::metadata(entry.path()).is_ok_and(same)),
+        Err(_) => true,
+    };
     let locks = std::fs::read_to_string("/proc/locks").ok()?;
-    let fields = |line: &str| line.split_whitespace().map(String::from).collect::<Vec<_>>();
-    let held =
-        locks.lines().map(fields).find(|f| f.len() > 5 && f[1] == "FLOCK" && f[5].rsplit(':').next() == Some(&inode));
-    held?[4].parse().ok()
+    let listed = locks.lines().filter_map(|line| {
+        let fields: Vec<&str> = line.split_whitespace().collect();
+        let [_, "FLOCK", _, _, pid, place, ..] = fields.as_slice() else { return None };
+        (place.rsplit(':').next()? == ours.ino().to_string()).then(|| pid.parse().ok())?
+    });
+    listed.into_iter().find(has_it)
 }
 
 /// A copy that this process alone may write.
