@@ -74,6 +74,9 @@ def screens() -> None:
     for now, then in zip(text.split("$ wizhdulet "), recorded.split("$ wizhdulet ")):
         holds(now == then, f"the screen is the recorded one:\n{now}")
     holds(text == recorded, "all screens are recorded")
+    shown = recorded.split("$ wizhdulet show cut.cap\n")[1].split("status ")[0]
+    indented = "".join(f"    {row}\n" if row else "\n" for row in shown.rstrip("\n").split("\n"))
+    holds(f"    $ bin/wizhdulet show tests/console/cut.cap\n{indented}\n" in (ROOT / "README.md").read_text(), "README shows the screen of its first command")
 
 
 def cuts() -> None:
@@ -165,7 +168,7 @@ def wrong_messages() -> None:
     at = right.index(b"\x0134=3\x0149=BROKER\x0156=VENUE")
     for name, old, new, said in (
         ("a byte", b"38=", b"39=", "field 10 says"), ("the length", b"\x019=", b"\x019=0", "R 28|field 9 says|field 10 says"), ("the number", b"34=3", b"34=4", "field 10 says"),
-        ("the sum", b"\x0110=", b"\x0110=9", "R 28"), ("a tag", b"49=", b"x9=", "R 28"),
+        ("the sum", b"\x0110=", b"\x0110=9", "R 28"), ("a tag", b"49=", b"x9=", "R 28"), ("the end", b"10=", b"10=000\x01", "field 10 says 000"), ("nothing", b"8=FIX", b"", "R 28"),
     ):  # fmt: skip
         begin = right.rindex(b"8=FIX", 0, at)
         spot = right.index(old, begin)
@@ -184,7 +187,7 @@ def lengthened(frames: list[bytes], whole: bytes, spot: int, old: bytes, new: by
     at = 0
     for i, frame in enumerate(frames):
         if at <= spot < at + len(frame):
-            begin = frame.rindex(b"8=FIX", 0, spot - at) - 4
+            begin = frame.rindex(b"8=FIX", 0, spot - at + 5) - 4
             grown = frame[: spot - at] + new + frame[spot - at + len(old) :]
             more = len(new) - len(old)
             text = int.from_bytes(grown[begin : begin + 4], "little") + more
@@ -211,8 +214,8 @@ def record_captures() -> None:
     (HERE / "quickfix.tmp").write_bytes(sent(changes))
     (HERE / "behind.tmp").write_bytes(sent(changes[:-3]))
     (HERE / "newer.tmp").write_bytes(sent(changes[:-2], 6))
-    other = [change.replace(b"55=MSFT", b"55=MSFX") if i == 4 else change for i, change in enumerate(changes)]
-    (HERE / "other.tmp").write_bytes(sent(other[:8] + [record(after + 3, b"strange")] ))
+    other = [change.replace(b"55=MSFT", b"55=MSFX") if i == 2 else change for i, change in enumerate(changes[:8]) if i != 3]
+    (HERE / "other.tmp").write_bytes(sent(other[:3] + [record_none(numbers[3])] + other[3:] + [record(numbers[6] + 1, b"strange")]))
     ahead = captured(1, 100)
     ahead.frames.pop()
     ahead.send(2, [record_none(99)])

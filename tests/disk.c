@@ -90,8 +90,9 @@ ssize_t send(int fd, const void *bytes, size_t len, int flags) {
         real_send(fd, bytes, len / 2, flags);
         die();
     }
+    // Before the other side can have it; a send of so few bytes is never cut.
+    list("send", (ssize_t)len);
     ssize_t count = real_send(fd, bytes, len, flags);
     if (how == 3) die();
-    list("send", count);
     return count;
 }

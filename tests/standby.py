@@ -375,7 +375,7 @@ def syncs(here: Path) -> None:
             answered = int(line.welcome != b"")
             if answered:
                 answered += int(line.bind(1, KEYS[0]) != b"")
-            while answered > 1 and line.ask(line.batch(1, [record(answered - 1, b"m")])):
+            while 1 < answered < 20 and line.ask(line.batch(1, [record(answered - 1, b"m")])):
                 answered += 1
             holds(answered == n - 1, f"sync {n} fails: {answered} answers")
             holds(standby.process.wait(10) == 3 and standby.said("the disk failed, so this standby ends: Input/output error"), f"sync {n} fails: it ends and says why: {standby.log}")
@@ -631,20 +631,26 @@ def rust(here: Path) -> None:
     count = 0
     for n, (asked, answered) in enumerate(zip(lists, answers)):
         with Standby(here / f"copy{n}", "--sessions", 4, "--handles", 4, "--bytes", 4096, "--messages", 64) as standby:
-            line = Line(standby, epoch=None)
-            drawn = b""
+            line, lines, drawn, highest = Line(standby, epoch=None), {}, b"", 0
             for frame, answer in zip(asked.split(), answered.split("\n")):
                 sent = bytearray.fromhex(frame)
+                epoch = int.from_bytes(sent[7:15] if sent[4] == 1 else sent[9:17], "little")
+                if sent[4] == 1 or epoch not in lines:
+                    # A Hello begins a line; a frame of a lower epoch has a line of its own, whose Hello changes nothing; nor does one of 0 at the beginning.
+                    holds(sent[4] == 1 or epoch < highest or not lines, f"list {n} can be sent on lines: {frame}")
+                    line = lines[epoch] = Line(standby, epoch=None if sent[4] == 1 else epoch)
+                    drawn = drawn or bytes(line.welcome[13:21])
                 if sent[4] == 8 and sent[17:25] == struct.pack("<Q", 7):
                     sent[17:25] = drawn
-                got = bytearray(line.ask(bytes(sent)))
+                got = bytearray(lines[epoch].ask(bytes(sent)))
                 if got and got[4] == WELCOME:
-                    drawn, got[13:21] = got[13:21], struct.pack("<Q", 7)
+                    highest = int.from_bytes(got[5:13], "little")
+                    drawn, got[13:21] = bytes(got[13:21]), struct.pack("<Q", 7)
                 holds(bytes(got) == (b"" if answer.startswith("R") else bytes.fromhex(answer)), f"list {n}, {frame}: {got.hex()}, the Rust {answer}")
                 count += 1
                 if not got:
                     break
-    holds(count > 20 + 300 * (len(answers) > 3), f"frames were compared: {count}")
+    holds(count > 22 + 300 * (len(answers) > 3), f"frames were compared: {count}")
 
 
 def with_incarnation(frames: list[bytes]) -> list[bytes]:
@@ -776,12 +782,13 @@ def disk() -> str:
 
 
 TESTS = [life, kills, places, cuts, full, syncs, pieces, rubbish, behind_a_refusal, actives, replaced, lives, rust, copies, promotions, locks]
-PROGRAM = subprocess.run([ROOT / "host/build"], stdout=subprocess.PIPE, check=True, text=True).stdout.split()[-1]
+# Another program in its place is one with a fault (standby_faults.py).
+PROGRAM = os.environ.get("WIZHDULET_PROGRAM") or subprocess.run([ROOT / "host/build"], stdout=subprocess.PIPE, check=True, text=True).stdout.split()[-1]
 DISK = disk()
 for test in TESTS:
     if not sys.argv[1:] or test.__name__ in sys.argv[1:]:
         began = time.monotonic()
-        with tempfile.TemporaryDirectory() as folder:
+        with tempfile.TemporaryDirectory(dir="/dev/shm" if Path("/dev/shm").is_dir() else None) as folder:
             test(Path(folder))
         if sys.argv[1:]:
             print(f"{test.__name__}: {time.monotonic() - began:.1f} s")

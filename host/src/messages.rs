@@ -20,7 +20,7 @@ fn scratch(bytes: u32, messages: u32) -> Result<Standby, Failure> {
 /// Which of the length and the sum is false.
 fn sum_or_length(text: &[u8]) -> String {
     let place = |start: &[u8]| text.windows(start.len()).position(|part| part == start);
-    let (Some(at), Some(end)) = (place(b"\x019="), text.windows(4).rposition(|part| part == b"\x0110=")) else {
+    let (Some(at), Some(end)) = (place(b"\x019="), place(b"\x0110=")) else {
         return "field 9 or 10 is false".to_string();
     };
     let begin = at + 1 + text[at + 1..].iter().position(|byte| *byte == 1).unwrap_or(0) + 1;
@@ -29,19 +29,22 @@ fn sum_or_length(text: &[u8]) -> String {
         return format!("field 9 says {said}, and the bytes give {is}");
     }
     let sum = text[..=end].iter().fold(0u8, |sum, byte| sum.wrapping_add(*byte));
-    format!("field 10 says {}, and the bytes give {sum:03}", visible(&text[end + 4..text.len() - 1]))
+    format!("field 10 says {}, and the bytes give {sum:03}", visible(field(text, "10").unwrap_or(b"")))
 }
 
 /// What a stored message says that isn't so, if anything.
 fn fault(session: &Session, number: u64, text: &[u8]) -> Result<Option<String>, Failure> {
     let mut one = scratch(text.len() as u32, 1)?;
     let told = match one.import(&session.key, text) {
-        Ok(place) => one.session(place).next_outgoing - 1,
-        Err((28, _)) => return Ok(Some("isn't one FIX message: R 28".to_string())),
+        Ok(place) => one.session(place),
         Err((29, _)) => return Ok(Some(sum_or_length(text))),
-        Err((30, _)) => return Ok(Some("more than one message".to_string())),
+        Err((28 | 30, _)) => return Ok(Some("isn't one FIX message (R 28)".to_string())),
         Err((refusal, _)) => return Err(Failure::usage(format!("R {refusal}"))),
     };
+    if told.messages.last().is_none_or(|(_, last)| last != text) {
+        return Ok(Some("isn't one FIX message (R 28)".to_string()));
+    }
+    let told = told.next_outgoing - 1;
     if told != number {
         return Ok(Some(format!("field 34 says {told}")));
     }
