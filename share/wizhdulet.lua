@@ -152,3 +152,51 @@ function protocol.dissector(buffer, pinfo, tree)
 end
 
 DissectorTable.get("tcp.port"):add(7411, protocol)
+
+-- The copy of `wizhdulet standby` is the active's direction of the line, frame after frame: tshark -X lua_script:share/wizhdulet.lua -r COPY reads it too.
+local copy = FileHandler.new("Wizhdulet copy", "wizhdulet", "The copy that a standby keeps", "rs")
+
+local function record(file, into)
+    local head = file:read(4)
+    if not head or #head < 4 then return false end
+    local b1, b2, b3, b4 = head:byte(1, 4)
+    local length = b1 + 256 * (b2 + 256 * (b3 + 256 * b4))
+    local body = length > 0 and length <= MOST and file:read(length)
+    if not body or #body < length then return false end
+    -- Wireshark takes no more of a packet.
+    local shown = math.min(4 + length, 262144)
+    into.rec_type = wtap_rec_types.PACKET
+    into.captured_length = shown
+    into.original_length = 4 + length
+    into.data = (head .. body):sub(1, shown)
+    return true
+end
+
+-- A copy begins with a Hello of this protocol, which lists no kinds.
+function copy.read_open(file, capture)
+    local head = file:read(19)
+    if not head or #head < 19 or head:byte(5) ~= 1 or head:byte(7) ~= 0 then return false end
+    local length, node = head:byte(1) + 256 * head:byte(2), head:byte(16) + 256 * head:byte(17)
+    if head:byte(3) + head:byte(4) + head:byte(18) + head:byte(19) ~= 0 or length ~= 19 + node then return false end
+    file:seek("set", 0)
+    capture.encap = wtap_encaps.USER0
+    return true
+end
+
+function copy.read(file, _, into)
+    local at = file:seek()
+    return record(file, into) and at or false
+end
+
+function copy.seek_read(file, _, into, at)
+    file:seek("set", at)
+    return record(file, into)
+end
+
+register_filehandler(copy)
+local alone = Proto("wizhdulet_copy", "Wizhdulet copy")
+function alone.dissector(buffer, pinfo, tree)
+    pinfo.cols.info:clear()
+    return frame(buffer, pinfo, tree)
+end
+DissectorTable.get("wtap_encap"):add(wtap_encaps.USER0, alone)

@@ -74,7 +74,7 @@ def screens() -> None:
     for now, then in zip(text.split("$ wizhdulet "), recorded.split("$ wizhdulet ")):
         holds(now == then, f"the screen is the recorded one:\n{now}")
     holds(text == recorded, "all screens are recorded")
-    shown = recorded.split("$ wizhdulet show cut.cap\n")[1].split("status ")[0]
+    shown = run("show", "tests/console/cut.cap", cwd=ROOT).stdout.decode()
     indented = "".join(f"    {row}\n" if row else "\n" for row in shown.rstrip("\n").split("\n"))
     holds(f"    $ bin/wizhdulet show tests/console/cut.cap\n{indented}\n" in (ROOT / "README.md").read_text(), "README shows the screen of its first command")
 

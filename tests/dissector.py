@@ -40,8 +40,12 @@ def packets(segments: list[tuple[int, bytes]]) -> bytes:
 
 
 def seen(segments: list[tuple[int, bytes]], *options: str) -> list[str]:
-    with tempfile.NamedTemporaryFile(suffix=".pcap") as file:
-        file.write(packets(segments))
+    return seen_in(packets(segments), *options)
+
+
+def seen_in(bytes_: bytes, *options: str) -> list[str]:
+    with tempfile.NamedTemporaryFile() as file:
+        file.write(bytes_)
         file.flush()
         command = ["tshark", "-X", f"lua_script:{ROOT}/share/wizhdulet.lua", "-r", file.name, *options]
         done = subprocess.run(command, stdout=subprocess.PIPE, stderr=subprocess.PIPE)
@@ -99,6 +103,11 @@ def main() -> None:
         holds(any("a field reaches past the frame, or has an unknown byte" in row for row in said), f"a damaged frame is marked: {frame!r}")
     found = seen([(0, frame) for frame, _ in frames], "-Y", "wizhdulet.reason == 3", "-T", "fields", "-e", "frame.number")
     holds(found == ["7"], f"a filter finds the Nack: {found}")
+    # A copy on disk, whole and cut short, with a frame that is too large for one packet.
+    for left, copy in ((0, stream), (5, stream), (0, stream[:-1] + [batch(run([record(2**40, b"m" * 300000)])), stream[-1]])):
+        bytes_ = b"".join(copy)
+        kinds = seen_in(bytes_[: len(bytes_) - left], "-T", "fields", "-e", "wizhdulet.kind")
+        holds(kinds == [str(frame[4]) for frame in copy][: len(copy) - (left > 0)], f"a copy is read: {kinds}")
     print(f"dissector: {len(frames)} frames, {failed} tests failed")
     sys.exit(failed != 0)
 

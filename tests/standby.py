@@ -388,7 +388,7 @@ def answers_of(stream: bytes) -> list[bytes]:
 
 # ---- lines
 def pieces(here: Path) -> None:
-    frames = captured(3, 40).frames[:-1]
+    frames = captured(3, 100).frames[:-1]
     copies = []
     for name, cut in (("ones", 1), ("sevens", 7), ("all", 1 << 30)):
         copy = here / name
@@ -398,7 +398,7 @@ def pieces(here: Path) -> None:
             for at in range(0, len(stream), cut):
                 line.send(stream[at : at + cut])
             kinds = [line.answer()[4] for _ in frames]
-            holds(kinds == [WELCOME, BOUND, BOUND, BOUND] + [ACK] * 40, f"in pieces of {cut}: all are answered in order")
+            holds(kinds == [WELCOME, BOUND, BOUND, BOUND] + [ACK] * 100, f"in pieces of {cut}: all are answered in order")
         copies.append(copy.read_bytes())
     holds(copies == [b"".join(frames)] * 3, "the copies are the same bytes")
     copy = here / "large"
@@ -734,6 +734,15 @@ def promotions(here: Path) -> None:
     holds(done.returncode == 2 and b"is there already" in done.stderr, f"a second time: {done}")
     with Standby(copy) as standby:
         holds(standby.said("this copy has been taken over"), "a standby on it says so")
+
+
+    other = here / "other"
+    filled(other, 10, check=False)
+    holds(wizhdulet("compact", other).returncode == 0 and wizhdulet("promote", other).returncode == 1, "compacted it isn't checked either")
+    done = wizhdulet("promote", other, "--unchecked")
+    holds(done.returncode == 0 and b"the copy was NOT checked" in done.stdout, f"unchecked: {done}")
+    done = wizhdulet("send", here / "other.promoted", "127.0.0.1:1")
+    holds(done.returncode == 1 and b"NOT CHECKED" in done.stderr, f"what was promoted unchecked isn't checked: {done}")
 
 
 def locks(here: Path) -> None:
