@@ -17,6 +17,7 @@ import sys
 import tempfile
 import threading
 import time
+from concurrent.futures import ThreadPoolExecutor
 from pathlib import Path
 
 ROOT = Path(__file__).resolve().parents[1]
@@ -182,6 +183,8 @@ def life(here: Path) -> None:
         done = wizhdulet("status", copy)
         holds(done.returncode == 1 and f"RUNNING, process {standby.process.pid}".encode() in done.stdout and b"NOT CHECKED" in done.stdout, f"not checked, it says: {done}")
         holds(line.check()[4] == ACK and standby.said("checked: 3 sessions may be taken over"), "it is checked")
+        Line(standby, epoch=None).close()
+        holds(standby.said("closed behind 0 frames"), "another line comes and goes")
         done = wizhdulet("status", copy)
         holds(done.returncode == 0 and b"checked in its last run" in done.stdout and b"gw-a" in done.stdout, f"checked, it says: {done}")
         holds(all(len(row) <= 80 for row in done.stdout.decode().split("\n")) or len(str(here)) > 60, f"no line has more than 80 columns: {done}")
@@ -291,11 +294,9 @@ def cuts(here: Path) -> None:
                     told = [str(n) for n in struct.unpack("<QQ", bound[9:25])]
                     holds(told == row[:2], f"cut at {length}: session {i} is {told}, of the whole frames {row[:2]}")
 
-    threads = [threading.Thread(target=start, args=(list(range(i, len(capture) + 1, 4)), f"copy{i}")) for i in range(4)]
-    for thread in threads:
-        thread.start()
-    for thread in threads:
-        thread.join()
+    with ThreadPoolExecutor(4) as pool:
+        done = [pool.submit(start, list(range(i, len(capture) + 1, 4)), f"copy{i}") for i in range(4)]
+    holds(all(one.exception() is None for one in done), f"every length was looked at: {[one.exception() for one in done]}")
 
 
 # ---- disks
@@ -571,16 +572,7 @@ def lives(here: Path) -> None:
                         epoch += draw.choice([0, 0, 1])
                         lines.append(Line(standby, epoch=epoch - draw.choice([0, 0, 0, 1])))
                     line = draw.choice(lines)
-                    try:
-                        answer = line.ask(*at_random(draw, line))
-                    except ConnectionError:
-                        answer = b""
-                    if is_nack(answer, DIVERGED):
-                        line.numbers[int.from_bytes(answer[5:9], "little")] -= 1
-                    elif answer and answer[4] == BOUND:
-                        line.out[int.from_bytes(answer[5:9], "little")] = outgoing(answer)
-                    seen["closed" if not answer else {ACK: "Ack", NACK: "Nack"}.get(answer[4], "Ack")] += 1
-                    if not answer or draw.random() < 0.05:
+                    if not answered_all(line, [at_random(draw, line) for _ in range(draw.choice([1, 1, 4]))], seen) or draw.random() < 0.05:
                         lines.remove(line)
                         line.close()
                 told = ends_of(standby, epoch := epoch + 1)
@@ -592,29 +584,47 @@ def lives(here: Path) -> None:
     holds(all(count > 30 for count in seen.values()), f"all of it has happened: {seen}")
 
 
+def answered_all(line: Line, frames: list[bytes], seen: dict[str, int]) -> bool:
+    """Sends frames at once; whether each was answered."""
+    try:
+        line.send(*frames)
+    except ConnectionError:
+        return False
+    for _ in frames:
+        answer = line.answer()
+        if is_nack(answer, DIVERGED):
+            line.numbers[int.from_bytes(answer[5:9], "little")] -= 1
+        elif answer and answer[4] == BOUND:
+            line.out[int.from_bytes(answer[5:9], "little")] = outgoing(answer)
+        seen["closed" if not answer else {NACK: "Nack"}.get(answer[4], "Ack")] += 1
+        if not answer:
+            return False
+    return True
+
+
 def ends_of(standby: Standby, epoch: int) -> list[bytes]:
     """What a new line is told of the sessions, with a sum over their stored messages."""
     line = Line(standby, epoch=epoch)
     return [line.bind(1, texts, 50) for texts in KEYS]
 
 
-def at_random(draw: random.Random, line: Line) -> list[bytes]:
+def at_random(draw: random.Random, line: Line) -> bytes:
     handle = draw.choice([1, 1, 2])
     if not line.numbers or draw.random() < 0.15:
         line.numbers[handle] = 0
-        return [bind(key(*draw.choice(KEYS)), handle, line.epoch, draw.choice([0, 50, 51]))]
+        return bind(key(*draw.choice(KEYS)), handle, line.epoch, draw.choice([0, 50, 51]))
     kind = draw.random()
     if kind < 0.05:
-        return [hello(epoch=line.epoch)]
+        return hello(epoch=line.epoch)
     if kind < 0.1:
-        return [checked(1, line.epoch, line.incarnation() - draw.choice([0, 1]))]
+        return checked(1, line.epoch, line.incarnation() - draw.choice([0, 1]))
     if handle not in line.numbers:
         line.numbers[handle] = 0
     number = line.out.get(handle, 1) if draw.random() < 0.8 else draw.randrange(1, 9)
     line.out[handle] = number + 2
     changes = draw.choice([[record(n, draw.randbytes(draw.choice([0, 9, 300]))) for n in range(number, number + 2)], [record_none(number)], [set_marks(b"q")], [RESET, record(1, b"r")], [set_next_incoming_in_flight(4, 3)]])
     part = draw.choice([COMMIT, COMMIT, COMMIT, WHOLE, LAST_WHOLE])
-    return [line.batch(handle, ([RESET] if part and draw.random() < 0.8 else []) + changes, part)]
+    return line.batch(handle, ([RESET] if part and draw.random() < 0.8 else []) + changes, part)
 
 
 # ---- the Rust

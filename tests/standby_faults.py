@@ -37,7 +37,6 @@ FAULTS = [
     ("serve.rs", "        if line.connection != 0 && line.connection == self.standby.counters.connections {\n            self.standby.drop_line_of(line.connection);", "        {\n            self.standby.drop_line_of(self.standby.counters.connections);", "actives"),
     ("serve.rs", "            linger(socket);", "            drop(socket);", "behind_a_refusal"),
     ("serve.rs", "    standby.settings.incarnation = incarnation;", "    standby.settings.incarnation = known.max(1 << 61);", "life promotions"),
-    ("serve.rs", "    standby.counters.checked = 0;", "", "life promotions"),
     ("serve.rs", "    kept.cut(all.bytes).and_then(|()| kept.file.sync_all())", "    kept.file.sync_all()", "cuts"),
     ("serve.rs", "        std::fs::write(format!(\"{name}.left\"), &all.left).map_err(failed)?;", "", "cuts"),
     ("serve.rs", "    given.agrees_with(&state.limits).map_err(|option| {", "    Ok::<(), String>(()).map_err(|option| {", "copies"),

@@ -46,13 +46,16 @@ pub fn status(given: &Given, name: &str, out: &mut impl Write) -> Result<u8, Fai
         (None, Some(pid)) => labelled(out, "standby", &[format!("none has run; in use by process {pid}")])?,
         _ => labelled(out, "standby", &["NOT RUNNING".to_string()])?,
     }
+    tell(&standby, out)?;
+    Ok(u8::from(!(pid.is_some() && standby.counters.checked != 0)))
+}
+
+/// What a copy has, and what it is kept with.
+fn tell(standby: &Standby, out: &mut impl Write) -> io::Result<()> {
     let counters = &standby.counters;
     let checked = if counters.checked != 0 { "checked in its last run" } else { "NOT CHECKED in its last run" };
-    labelled(
-        out,
-        "copy",
-        &[counted(standby.sessions(), "session"), format!("epoch {}", counters.epoch), checked.to_string()],
-    )?;
+    let sessions = counted(standby.sessions(), "session");
+    labelled(out, "copy", &[sessions, format!("epoch {}", counters.epoch), checked.to_string()])?;
     let (shape, lag) = (standby.settings.shape, standby.settings.max_lag);
     let limits = [
         counted(shape.places as usize, "session"),
@@ -61,8 +64,7 @@ pub fn status(given: &Given, name: &str, out: &mut impl Write) -> Result<u8, Fai
         format!("M {}", grouped(shape.messages.into())),
         format!("accepts lag {lag}"),
     ];
-    labelled(out, "limits", &limits)?;
-    Ok(u8::from(!(pid.is_some() && counters.checked != 0)))
+    labelled(out, "limits", &limits)
 }
 
 /// Writes a standby's sessions as a copy in the place of `name`, locked; `judge` may still turn it down.

@@ -28,17 +28,26 @@ pub fn resend(
         let words = refusal_words(refusal);
         Failure::refused(format!("{name}: {}", words.trim_end()))
     })?;
-    let bytes: usize = served.iter().map(|(_, _, text)| text.len()).sum();
-    let of_set =
-        |set: u64| (0..ranges.len()).filter(|i| set >> i & 1 == 1).map(|i| (i + 1).to_string()).collect::<Vec<_>>();
     if tsv {
         writeln!(out, "message\tbytes\tranges")?;
         for (number, set, text) in &served {
-            writeln!(out, "{number}\t{}\t{}", text.len(), of_set(*set).join(","))?;
+            writeln!(out, "{number}\t{}\t{}", text.len(), ranges_in(*set).join(","))?;
         }
         return Ok(0);
     }
     writeln!(out, "{}", wrapped("", &key(of)))?;
+    listed(&ranges, &served, out)?;
+    Ok(0)
+}
+
+/// The ranges of a set, counted from 1.
+fn ranges_in(set: u64) -> Vec<String> {
+    (0..64).filter(|i| set >> i & 1 == 1).map(|i| (i + 1).to_string()).collect()
+}
+
+/// What each range gets, and each message with its ranges.
+fn listed(ranges: &[[u64; 2]], served: &[(u64, u64, Vec<u8>)], out: &mut impl Write) -> Result<(), Failure> {
+    let bytes: usize = served.iter().map(|(_, _, text)| text.len()).sum();
     writeln!(out, "{}, {} in all", counted(served.len(), "message"), counted(bytes, "byte"))?;
     for (i, [first, last]) in ranges.iter().enumerate() {
         let ours = served.iter().filter(|(_, set, _)| set >> i & 1 == 1);
@@ -48,10 +57,10 @@ pub fn resend(
         writeln!(out, "{}", wrapped(&format!("range {:<4}", i + 1), &words))?;
     }
     writeln!(out, "\n{:>20} {:>10}  for the ranges", "message", "bytes")?;
-    for (number, set, text) in &served {
+    for (number, set, text) in served {
         let label = format!("{number:>20} {:>10}  ", grouped(text.len() as u64));
-        writeln!(out, "{}", wrapped(&label, &of_set(*set).join(" ")))?;
+        writeln!(out, "{}", wrapped(&label, &ranges_in(*set).join(" ")))?;
     }
     writeln!(out, "every other number of a range goes as a gap fill")?;
-    Ok(0)
+    Ok(())
 }

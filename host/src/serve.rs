@@ -201,7 +201,7 @@ impl Host {
 
     fn close(&mut self, id: u64, why: &str) {
         let Some(at) = self.lines.iter().position(|line| line.id == id) else { return };
-        let line = self.lines.swap_remove(at);
+        let line = self.lines.remove(at);
         let frames = counted(line.frames as usize, "frame");
         self.log(&format!("{}: closed behind {frames}: {}", line.peer, line.ended.as_deref().unwrap_or(why)));
         if line.connection != 0 && line.connection == self.standby.counters.connections {
@@ -323,12 +323,15 @@ pub fn standby(given: &Given, address: &str, name: &str) -> Result<u8, Failure> 
         let _ = socket.set_nodelay(true);
         let Ok(ours) = socket.try_clone() else { continue };
         locked(&host).open(id, peer, ours);
-        let host = host.clone();
-        std::thread::spawn(move || {
-            let why = serve(&host, id, &socket);
-            locked(&host).close(id, &why);
+        let shared = host.clone();
+        let thread = std::thread::Builder::new().spawn(move || {
+            let why = serve(&shared, id, &socket);
+            locked(&shared).close(id, &why);
             linger(socket);
         });
+        if let Err(error) = thread {
+            locked(&host).close(id, &plain(&error));
+        }
     }
     Ok(0)
 }
