@@ -305,7 +305,7 @@ def fill(standby: Standby, copy: Path, words: str) -> None:
     line = Line(standby)
     line.bind(1, KEYS[0])
     acked, answers = 0, [b"first"]
-    while all(answers):
+    while all(answers) and acked < 2000:
         line.send(*[line.batch(1, [record(acked + 1 + i, b"m" * 300)]) for i in range(4)])
         answers = [line.answer() for _ in range(4)]
         acked += sum(answer != b"" for answer in answers)
