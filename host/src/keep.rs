@@ -113,7 +113,7 @@ pub fn promote(
     let before = taken_over(&mut standby, name, unchecked)?;
     State { line: "none".to_string(), address: "none".to_string(), ..state }.write(&target).map_err(failed(&target))?;
     put(&standby, &target, |_| Ok(()))?;
-    labelled(out, "PROMOTED", &[format!("written to {target}; {}", allowed(checked))])?;
+    labelled(out, "PROMOTED", &[format!("written to {target}"), allowed(checked).to_string()])?;
     table(&before, &standby, expected, out)?;
     Ok(0)
 }
@@ -143,13 +143,10 @@ pub fn compact(given: &Given, name: &str, out: &mut impl Write) -> Result<u8, Fa
     if let Some(state) = state {
         State { limits: Limits { incarnation, ..new }, ..state }.write(name).map_err(failed(name))?;
     }
-    let size =
-        |bytes: u64, frames: u64| format!("{}, {}", counted(bytes as usize, "byte"), counted(frames as usize, "frame"));
-    labelled(
-        out,
-        name,
-        &[format!("before: {};", size(kept.len, all.frames)), format!("now: {}", size(anew.len, frames))],
-    )?;
+    let size = |bytes: u64, frames: u64, when: &str| {
+        format!("{when} {} in {}", counted(bytes as usize, "byte"), counted(frames as usize, "frame"))
+    };
+    labelled(out, name, &[size(kept.len, all.frames, "before"), size(anew.len, frames, "now")])?;
     Ok(0)
 }
 
