@@ -4,6 +4,7 @@ drift that must be named, messages against what they say and against a QuickFIX 
 
 console.py [--record]   --record writes tests/console/screens.txt anew
 """
+import os
 import random
 import re
 import shutil
@@ -15,7 +16,7 @@ from pathlib import Path
 
 ROOT = Path(__file__).resolve().parents[1]
 sys.path.insert(0, str(ROOT / "tests/make"))
-from console_captures import KEYS, captured  # noqa: E402
+from console_captures import KEYS, captured, fix  # noqa: E402
 from wire import bind, batch, checked, hello, key, record, record_none, run as run_of, set_created_at, set_in_flight, set_marks, set_next_incoming_in_flight, set_next_incoming  # noqa: E402
 
 HERE = ROOT / "tests/console"
@@ -175,6 +176,9 @@ def wrong_messages() -> None:
         copy = right[:spot] + new + right[spot + len(old) :] if len(old) == len(new) else lengthened(active.frames, right, spot, old, new)
         done = run("check", "--self", "-", input=copy)
         holds(done.returncode == 1 and b"message 3 " in done.stdout and any(word in done.stdout.decode() for word in said.split("|")), f"{name} changed: {done}")
+    frames = [hello(), bind(key(*KEYS[0]), 1, 5, 0), batch(run_of([record_none(4), record(5, fix(KEYS[0], 3, random.Random(1)))]), epoch=5, commit_no=1), checked(1, 5, 9)]
+    done = run("check", "--self", "-", input=b"".join(frames))
+    holds(done.returncode == 1 and b"message 5               field 34 says 3" in done.stdout, f"a message under another number: {done}")
     for name, keys, said in (("sender", (b"FIX.4.4", b"BROKE", b"VENUE", b""), b"field 49 says BROKER"), ("target", (b"FIX.4.4", b"BROKER", b"VENU", b""), b"field 56 says VENUE"),
         ("begin string", (b"FIX.4.3", b"BROKER", b"VENUE", b""), b"field 8 says FIX.4.4")):  # fmt: skip
         frames = [bind(key(*keys), 1, 5, 0) if frame[4] == 3 and frame[5] == 1 else frame for frame in active.frames]
@@ -284,7 +288,8 @@ def ends() -> None:
         holds((done.returncode == 0) == (n in numbers) and done.returncode in (0, 2), f"explain {n}: {done}")
 
 
-PROGRAM = subprocess.run([ROOT / "host/build"], stdout=subprocess.PIPE, check=True, text=True).stdout.split()[-1]
+# Another program in its place is one with a fault (standby_faults.py).
+PROGRAM = os.environ.get("WIZHDULET_PROGRAM") or subprocess.run([ROOT / "host/build"], stdout=subprocess.PIPE, check=True, text=True).stdout.split()[-1]
 record_lines()
 record_captures()
 screens()

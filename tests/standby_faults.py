@@ -1,5 +1,5 @@
 #!/usr/bin/env python3
-"""Puts faults into the standby program, one at a time, and runs the tests of tests/standby.py that must find each. Some minutes; by hand.
+"""Puts faults into the program wizhdulet, one at a time, and runs the tests of tests/standby.py, or tests/console.py, that must find each. Some minutes; by hand.
 
 standby_faults.py [NUMBER..]   those faults, counted from 1, else all
 """
@@ -50,6 +50,12 @@ FAULTS = [
     ("keep.rs", "    if std::fs::exists(&target).map_err(failed(&target))? {", "    if false {", "promotions"),
     ("keep.rs", "    put(&standby, &target, |_| Ok(()))?;", "", "promotions"),
     ("promote.rs", "match standby.promote(unchecked) {", "match standby.promote(true) {", "promotions"),
+    ("messages.rs", "    if told != number {", "    if false {", "console"),
+    ("messages.rs", '[("8", &session.key[0]), ("49", &session.key[1]), ("56", &session.key[2])]', '[("8", &session.key[0]), ("49", &session.key[1]), ("49", &session.key[1])]', "console"),
+    ("messages.rs", "            Some(ours) if ours.1 == *text => continue,", "            Some(_) => continue,", "console"),
+    ("messages.rs", "    if told.messages.last().is_none_or(|(_, last)| last != text) {", "    if false {", "console"),
+    ("standby.rs", "copy.counters.checked != 0", "true", "console"),
+    ("resend.rs", "set >> i & 1 == 1).map", "set >> i & 1 == 0).map", "console"),
 ]  # fmt: skip
 missed = 0
 archive = ROOT / "target/host/libwizhdulet.a"
@@ -73,7 +79,8 @@ for number, (file, old, new, tests) in enumerate(FAULTS, 1):
         environment = {**os.environ, "WIZHDULET_PROGRAM": program}
         for test in tests.split():
             try:
-                done = subprocess.run([ROOT / "tests/standby.py", test], env=environment, stdout=subprocess.PIPE, stderr=subprocess.PIPE, timeout=300)
+                command = [ROOT / "tests/console.py"] if test == "console" else [ROOT / "tests/standby.py", test]
+                done = subprocess.run(command, env=environment, stdout=subprocess.PIPE, stderr=subprocess.PIPE, timeout=300)
                 said = done.stderr.decode().split("\n")[0][:150] if done.returncode else "NOT FOUND"
                 missed += done.returncode == 0
             except subprocess.TimeoutExpired:
