@@ -266,7 +266,7 @@ TERMINAL = [
 
 def captured_pane(tmux: list[str], end: str) -> list[str]:
     """The lines of the terminal before the last one, once that is there."""
-    for _ in range(500):
+    for _ in range(1000):
         rows = subprocess.run([*tmux, "capture-pane", "-p", "-S", "-"], stdout=subprocess.PIPE, check=True).stdout.decode().split("\n")
         if end in rows:
             return rows[: rows.index(end)]

@@ -79,8 +79,8 @@ class Standby:
         self.reader.start()
 
     def said(self, words: str, count: int = 1) -> bool:
-        """Whether the log has the words, in a second."""
-        for _ in range(200):
+        """Whether the log has the words, within ten seconds."""
+        for _ in range(2000):
             if sum(words in line for line in list(self.log)) >= count:
                 return True
             time.sleep(0.005)
@@ -323,7 +323,7 @@ def fill(standby: Standby, copy: Path, words: str) -> None:
 def full(here: Path) -> None:
     disk = here / "disk"
     disk.mkdir()
-    if os.getuid() == 0 and subprocess.run(["mount", "-t", "tmpfs", "-o", "size=64k", "tmpfs", disk], stderr=subprocess.DEVNULL).returncode == 0:
+    if os.getuid() == 0 and shutil.which("mount") and subprocess.run(["mount", "-t", "tmpfs", "-o", "size=64k", "tmpfs", disk], stderr=subprocess.DEVNULL).returncode == 0:
         try:
             (disk / "other").write_bytes(b"o" * 16000)
             with Standby(disk / "copy", "--bytes", 4096) as standby:
@@ -464,8 +464,10 @@ def rubbish(here: Path) -> None:
                 one.sendall(hello()[: n % 27])
             one.close()
         holds(standby.said("closed behind", 1000), "a thousand lines come and go")
-        time.sleep(0.2)
-        holds(open_files(standby) <= before + 2, f"none stays open: {open_files(standby)}, before {before}")
+        until = time.monotonic() + 10
+        while open_files(standby) > before and time.monotonic() < until:
+            time.sleep(0.01)
+        holds(open_files(standby) <= before, f"none stays open: {open_files(standby)}, before {before}")
         silent = [Line(standby, epoch=None) for _ in range(40)]
         line = Line(standby)
         holds(line.bind(1, (b"FIX.4.4", b"A", b"B", b""))[4] == BOUND and standby.said("more than 16 lines are open"), "forty silent lines keep nobody out")
@@ -807,10 +809,12 @@ TESTS = [life, kills, places, cuts, full, syncs, pieces, rubbish, behind_a_refus
 # Another program in its place is one with a fault (standby_faults.py).
 PROGRAM = os.environ.get("WIZHDULET_PROGRAM") or subprocess.run([ROOT / "host/build"], stdout=subprocess.PIPE, check=True, text=True).stdout.split()[-1]
 DISK = disk()
+# In memory a sync costs nothing, where there is room for the longest frame.
+MEMORY = "/dev/shm" if Path("/dev/shm").is_dir() and shutil.disk_usage("/dev/shm").free > 1 << 28 else None
 for test in TESTS:
     if not sys.argv[1:] or test.__name__ in sys.argv[1:]:
         began = time.monotonic()
-        with tempfile.TemporaryDirectory(dir="/dev/shm" if Path("/dev/shm").is_dir() else None) as folder:
+        with tempfile.TemporaryDirectory(dir=MEMORY) as folder:
             test(Path(folder))
         if sys.argv[1:]:
             print(f"{test.__name__}: {time.monotonic() - began:.1f} s")
