@@ -223,9 +223,20 @@ git -C "$copy" checkout -q README.md
 run 0 bin/release
 holds "it names the archive" [ "$(cat "$place/out")" = "target/release/$name.tar.gz" ]
 holds "it says which archives it joins" grep -q "^library: [0-9]* of [0-9]* replica$" "$place/err"
+holds "it says that it has no program where there is no rustc" grep -q "^release: rustc isn't on the PATH: without the program wizhdulet$" "$place/err"
 cp "$copy/target/release/$name.tar.gz" "$place/first.tar.gz"
 run 0 bin/release
 holds "a second one has the same bytes" cmp -s "$place/first.tar.gz" "$copy/target/release/$name.tar.gz"
+# With rustc it has the standby and the console too.
+with_program=
+if command -v rustc >/dev/null && command -v cc >/dev/null; then
+    with_program=yes
+    path=$place/kit:$PATH
+    run 0 bin/release
+    cp "$copy/target/release/$name.tar.gz" "$place/first.tar.gz"
+    run 0 bin/release
+    holds "a second one with the program has the same bytes" cmp -s "$place/first.tar.gz" "$copy/target/release/$name.tar.gz"
+fi
 path=$tools
 copy=$place/installed
 mkdir "$copy"
@@ -241,6 +252,13 @@ holds "the sums are of all files" [ "$(wc -l <"$copy/SHA256SUMS")" -eq "$(find "
 run 0 env -i PATH=$tools bash -c "bin/frames <$list"
 example
 run 4 bash -c "bin/frames <$list >/dev/full"
+if [ -n "$with_program" ]; then
+    run 1 env -i PATH=$tools bin/wizhdulet show tests/console/cut.cap
+    sed -n '/^    \$ bin\/wizhdulet show/,/^The active/p' "$copy/README.md" | sed '1d;$d' | sed 's/^    //' | sed -n '/standby  *epoch/,/not shown/p' >"$place/readme"
+    holds "the release's program shows README's screen" diff <(sed -n '/standby  *epoch/,/not shown/p' "$place/out") "$place/readme"
+    run 0 bin/wizhdulet version
+    holds "it has the release's version" [ "$(cat "$place/out")" = "wizhdulet $(cat "$root/VERSION")" ]
+fi
 if command -v cc >/dev/null; then
     cd "$copy"
     holds "the example compiles against the release" cc -std=c99 -Wall -Wextra -Werror examples/standby.c -Iinclude -Llib -lwizhdulet -o "$place/standby"

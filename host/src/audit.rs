@@ -1,16 +1,17 @@
 //! Whether a standby in the field answered as a right one does.
 use crate::capture::Capture;
 use crate::show::frame_words;
-use crate::standby::{Limits, Standby};
+use crate::standby::{Given, Standby};
 use crate::words::{Failure, counted, grouped, wrapped};
 use std::io::Write;
 
 /// The command `audit`.
-pub fn audit(limits: &Limits, asked: &str, answered: &str, out: &mut impl Write) -> Result<u8, Failure> {
+pub fn audit(given: &Given, asked: &str, answered: &str, out: &mut impl Write) -> Result<u8, Failure> {
     let asked = Capture::read(asked)?;
     let answered = Capture::answers(answered)?;
-    let incarnation = limits.incarnation.or_else(|| answered.welcome()).or_else(|| asked.incarnation());
-    let standby = Standby::new(&Limits { incarnation, ..*limits });
+    let mut limits = given.over(None);
+    limits.incarnation = limits.incarnation.or_else(|| answered.welcome()).or_else(|| asked.incarnation());
+    let standby = Standby::new(&limits);
     let mut standby = standby.map_err(|n| Failure::usage(format!("the limits don't fit: R {n}")))?;
     let mut said = answered.frames.iter().map(|frame| answered.bytes_of(frame));
     for (i, frame) in asked.frames.iter().enumerate() {

@@ -1,6 +1,5 @@
 //! Captures of the active's direction of the line: read, and cut into frames.
-use crate::library::{LATEST, wz_read};
-use crate::standby::number;
+use crate::standby::{First, first_frame, number};
 use crate::words::{Failure, grouped};
 use std::io::Read;
 
@@ -62,16 +61,11 @@ impl Capture {
         let (mut frames, mut at) = (Vec::new(), 0);
         while at < bytes.len() {
             let rest = &bytes[at..];
-            let code = unsafe { wz_read(rest.as_ptr(), rest.len(), LATEST) };
-            if code == 0 {
-                break;
-            }
-            let (len, fault) = if code >> 63 == 1 {
-                ((code & (u64::MAX >> 2)) as usize, 0)
-            } else if code >> 40 == 1 {
-                (rest.len(), code)
-            } else {
-                (4 + number(&mut &rest[..4], 4) as usize, code)
+            let (len, fault) = match first_frame(rest) {
+                First::More => break,
+                First::Frame(len) => (len, 0),
+                First::Fault(code) if code >> 40 == 1 => (rest.len(), code),
+                First::Fault(code) => (4 + number(&mut &rest[..4], 4) as usize, code),
             };
             if len > rest.len() {
                 break;

@@ -1,6 +1,6 @@
 //! Whether two copies are the same: the numbers, marks and messages of each session.
 use crate::show::load;
-use crate::standby::{Limits, Session, Standby};
+use crate::standby::{Given, Session, Standby};
 use crate::words::{Failure, counted, key, visible, wrapped};
 use std::io::Write;
 
@@ -78,10 +78,10 @@ fn differences(a: &Session, b: &Session, names: [&str; 2]) -> Vec<String> {
 }
 
 /// The command `check`.
-pub fn check(limits: &Limits, names: [&str; 2], out: &mut impl Write) -> Result<u8, Failure> {
+pub fn check(given: &Given, names: [&str; 2], out: &mut impl Write) -> Result<u8, Failure> {
     let mut copies = Vec::new();
     for name in names {
-        let taken = load(limits, &[name.to_string()])?;
+        let taken = load(given, &[name.to_string()])?;
         copies.extend(taken.iter().map(|t| all(&t.standby)));
     }
     let (a, b) = (&copies[0], &copies[1]);

@@ -1,6 +1,6 @@
-//! A rehearsal of taking over: the numbers that each session would go on with.
+//! Taking over: a rehearsal, and the numbers that each session goes on with.
 use crate::show::load;
-use crate::standby::{Limits, Session};
+use crate::standby::{Given, Session, Standby};
 use crate::words::{Failure, grouped, key, labelled, wrapped};
 use std::io::Write;
 
@@ -37,34 +37,23 @@ impl Expected {
     }
 }
 
-/// The command `promote`.
-pub fn promote(
-    limits: &Limits,
-    names: &[String],
-    unchecked: bool,
-    expected: &[Expected],
-    out: &mut impl Write,
-) -> Result<u8, Failure> {
-    let mut loaded = load(limits, names)?;
-    let Some(taken) = loaded.first_mut() else { return Err(Failure::usage("promote needs a capture")) };
-    let name = taken.capture.name.clone();
-    let checked = taken.standby.counters.checked != 0;
-    let before: Vec<Session> = (0..taken.standby.sessions()).map(|place| taken.standby.session(place)).collect();
-    match taken.standby.promote(unchecked) {
-        0 => {}
-        23 => {
-            eprintln!(
-                "wizhdulet: {name}: NOT CHECKED since this standby started:\nsessions may be missing (R 23). If you know that the copy is whole: --unchecked"
-            );
-            return Ok(1);
-        }
-        refusal => return Err(Failure::usage(format!("{name}: not taken over, R {refusal}"))),
+/// The sessions of a standby that takes over, as they were before; or the status where it may not.
+pub fn taken_over(standby: &mut Standby, name: &str, unchecked: bool) -> Result<Vec<Session>, Failure> {
+    let before = (0..standby.sessions()).map(|place| standby.session(place)).collect();
+    match standby.promote(unchecked) {
+        0 => Ok(before),
+        23 => Err(Failure::refused(format!(
+            "{name}: NOT CHECKED since this standby started:\nsessions may be missing (R 23). If you know that the copy is whole: --unchecked"
+        ))),
+        refusal => Err(Failure::usage(format!("{name}: not taken over, R {refusal}"))),
     }
-    let allowed = if checked { "the copy was checked, so promote is allowed" } else { "the copy was NOT checked" };
-    labelled(out, "REHEARSAL", &[format!("nothing is changed; {allowed}")])?;
+}
+
+/// The numbers before and after, and what the counterparties make of them.
+pub fn table(before: &[Session], after: &Standby, expected: &[Expected], out: &mut impl Write) -> Result<(), Failure> {
     writeln!(out, "\n{:>45}{:>18}{:>11}", "out now", "takes over with", "incoming")?;
     for (place, s) in before.iter().enumerate() {
-        let next = taken.standby.session(place).next_outgoing;
+        let next = after.session(place).next_outgoing;
         let name = wrapped(&format!("{place:>2}  "), &key(&s.key));
         let columns = format!("{:>12} {next:>17} {:>10}", s.next_outgoing, s.next_incoming);
         if name.len() <= 33 {
@@ -84,5 +73,26 @@ pub fn promote(
             writeln!(out, "{}", wrapped("      ", &words))?;
         }
     }
+    Ok(())
+}
+
+pub fn allowed(checked: bool) -> &'static str {
+    if checked { "the copy was checked, so promote is allowed" } else { "the copy was NOT checked" }
+}
+
+/// The command `promote` of captures, and of a copy with `--rehearse`: nothing is changed.
+pub fn rehearse(
+    given: &Given,
+    names: &[String],
+    unchecked: bool,
+    expected: &[Expected],
+    out: &mut impl Write,
+) -> Result<u8, Failure> {
+    let mut loaded = load(given, names)?;
+    let Some(taken) = loaded.first_mut() else { return Err(Failure::usage("promote needs a capture")) };
+    let checked = taken.standby.counters.checked != 0;
+    let before = taken_over(&mut taken.standby, &taken.capture.name, unchecked)?;
+    labelled(out, "REHEARSAL", &[format!("nothing is changed; {}", allowed(checked))])?;
+    table(&before, &taken.standby, expected, out)?;
     Ok(0)
 }

@@ -1,7 +1,8 @@
 //! What a capture leaves: its sessions, and what was refused; or its frames, one by one.
 use crate::capture::Capture;
-use crate::library::{Answer, NACK, screen, wz_screen_frame, wz_screen_refusal};
-use crate::standby::{Limits, Standby};
+use crate::kept::State;
+use crate::library::{Answer, NACK, screen, wz_screen_frame, wz_screen_refusal, wz_stamp_read};
+use crate::standby::{Given, Standby};
 use crate::words::{Failure, counted, grouped, labelled, reason, visible};
 use std::io::Write;
 
@@ -41,6 +42,12 @@ pub fn frame_words(bytes: &[u8]) -> String {
     line.get(17..64).unwrap_or("").split_whitespace().collect::<Vec<_>>().join(" ")
 }
 
+/// A stamp's time, in picoseconds since 1 January 1970; none where it has no number.
+fn time_of(stamp: &[u8]) -> Option<u128> {
+    let number = unsafe { wz_stamp_read(stamp.as_ptr(), stamp.len()) };
+    (number.refusal == 0).then(|| u128::from(number.millis) * 1_000_000_000 + u128::from(number.picos))
+}
+
 pub fn refusal_words(number: u8) -> String {
     screen(|out, len| unsafe { wz_screen_refusal(number, out, len) })
 }
@@ -67,12 +74,18 @@ fn take(
     Ok((capture, turned, count))
 }
 
+/// A new standby for captures, with the limits that the last of them is kept with, and the incarnation that it counts as checked in.
+fn standby_for(given: &Given, captures: &[Capture]) -> Result<Standby, Failure> {
+    let kept = captures.last().map(|capture| State::of(&capture.name)).transpose()?.flatten();
+    let mut limits = given.over(kept.map(|state| state.limits));
+    limits.incarnation = limits.incarnation.or_else(|| captures.iter().find_map(Capture::incarnation));
+    Standby::new(&limits).map_err(|n| Failure::usage(format!("the limits don't fit: R {n}")))
+}
+
 /// A standby over several captures, one line after the other.
-pub fn load(limits: &Limits, names: &[String]) -> Result<Vec<Taken>, Failure> {
+pub fn load(given: &Given, names: &[String]) -> Result<Vec<Taken>, Failure> {
     let mut captures = names.iter().map(|name| Capture::read(name)).collect::<Result<Vec<_>, _>>()?;
-    let incarnation = limits.incarnation.or_else(|| captures.iter().find_map(Capture::incarnation));
-    let standby = Standby::new(&Limits { incarnation, ..*limits });
-    let mut standby = standby.map_err(|n| Failure::usage(format!("the limits don't fit: R {n}")))?;
+    let mut standby = standby_for(given, &captures)?;
     let last = captures.pop();
     for capture in captures {
         let (capture, turned, count) = take(&mut standby, capture, |_, _, _, _, _| Ok(()))?;
@@ -129,9 +142,22 @@ impl Taken {
         Ok(labelled(out, "limits", &parts)?)
     }
 
+    /// The places, by the sessions' stamps if that is asked for: stamps without a number come last, as texts.
+    fn places(&self, sort: bool) -> Vec<usize> {
+        let mut places: Vec<usize> = (0..self.standby.sessions()).collect();
+        if sort {
+            places.sort_by_cached_key(|place| {
+                let stamp = self.standby.session(*place).stamp;
+                let time = time_of(&stamp);
+                (time.is_none(), time, stamp)
+            });
+        }
+        places
+    }
+
     /// The sessions, each with its handles and what is held back.
-    pub fn sessions(&self, out: &mut impl Write) -> Result<(), Failure> {
-        for place in 0..self.standby.sessions() {
+    fn sessions(&self, sort: bool, out: &mut impl Write) -> Result<(), Failure> {
+        for place in self.places(sort) {
             let mut text = self.standby.screen(place).trim_end_matches('\n').to_string();
             for bound in self.standby.row.iter().filter(|b| b.used != 0 && b.place == place) {
                 let column = text.len() - text.rfind('\n').map_or(0, |at| at + 1);
@@ -193,16 +219,16 @@ impl Taken {
 }
 
 /// The command `show`.
-pub fn show(limits: &Limits, names: &[String], tsv: bool, out: &mut impl Write) -> Result<u8, Failure> {
-    let loaded = load(limits, names)?;
+pub fn show(given: &Given, names: &[String], tsv: bool, sort: bool, out: &mut impl Write) -> Result<u8, Failure> {
+    let loaded = load(given, names)?;
     let Some(taken) = loaded.first() else { return Err(Failure::usage("show needs a capture")) };
     if tsv {
-        table(taken, out)?;
+        table(taken, sort, out)?;
         return Ok(u8::from(!taken.is_fine()));
     }
     taken.head(out)?;
     writeln!(out)?;
-    taken.sessions(out)?;
+    taken.sessions(sort, out)?;
     writeln!(out)?;
     taken.turned_down(out)?;
     taken.left_over(out)?;
@@ -210,12 +236,12 @@ pub fn show(limits: &Limits, names: &[String], tsv: bool, out: &mut impl Write) 
 }
 
 /// The sessions as lines of fields with tabs between them.
-fn table(taken: &Taken, out: &mut impl Write) -> Result<(), Failure> {
+fn table(taken: &Taken, sort: bool, out: &mut impl Write) -> Result<(), Failure> {
     writeln!(
         out,
-        "place\tbegin\tsender\ttarget\tsuffix\tnext_outgoing\tnext_incoming\tin_flight\tstamp\tmarks\tdurable\tfirst\tlast\tmessages\tbytes"
+        "place\tbegin\tsender\ttarget\tsuffix\tnext_outgoing\tnext_incoming\tin_flight\tstamp\tmarks\tdurable\tfirst\tlast\tmessages\tbytes\ttime"
     )?;
-    for place in 0..taken.standby.sessions() {
+    for place in taken.places(sort) {
         let s = taken.standby.session(place);
         let key = s.key.each_ref().map(|text| visible(text)).join("\t");
         let flight = s.in_flight.map_or(String::new(), |n| n.to_string());
@@ -223,21 +249,21 @@ fn table(taken: &Taken, out: &mut impl Write) -> Result<(), Failure> {
         let (first, last) = (number(s.messages.first()), number(s.messages.last()));
         let bytes: usize = s.messages.iter().map(|m| m.1.len()).sum();
         let (stamp, marks, durable) = (visible(&s.stamp), visible(&s.marks), u8::from(s.durable));
+        let time = time_of(&s.stamp).map_or(String::new(), |picos| picos.to_string());
         let (outgoing, incoming, count) = (s.next_outgoing, s.next_incoming, s.messages.len());
         writeln!(
             out,
-            "{place}\t{key}\t{outgoing}\t{incoming}\t{flight}\t{stamp}\t{marks}\t{durable}\t{first}\t{last}\t{count}\t{bytes}"
+            "{place}\t{key}\t{outgoing}\t{incoming}\t{flight}\t{stamp}\t{marks}\t{durable}\t{first}\t{last}\t{count}\t{bytes}\t{time}"
         )?;
     }
     Ok(())
 }
 
 /// The command `frames`.
-pub fn frames(limits: &Limits, name: &str, tsv: bool, out: &mut impl Write) -> Result<u8, Failure> {
-    let capture = Capture::read(name)?;
-    let incarnation = limits.incarnation.or_else(|| capture.incarnation());
-    let mut standby = Standby::new(&Limits { incarnation, ..*limits })
-        .map_err(|n| Failure::usage(format!("the limits don't fit: R {n}")))?;
+pub fn frames(given: &Given, name: &str, tsv: bool, out: &mut impl Write) -> Result<u8, Failure> {
+    let captures = [Capture::read(name)?];
+    let mut standby = standby_for(given, &captures)?;
+    let [capture] = captures;
     if tsv {
         writeln!(out, "frame\toffset\tlength\tkind\trefusal\tanswer")?;
     } else {

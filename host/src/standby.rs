@@ -12,6 +12,49 @@ pub struct Limits {
     pub incarnation: Option<u64>,
 }
 
+/// What the options say of the limits.
+#[derive(Clone, Copy, Default)]
+pub struct Given {
+    pub sessions: Option<u32>,
+    pub handles: Option<usize>,
+    pub bytes: Option<u32>,
+    pub messages: Option<u32>,
+    pub lag: Option<u64>,
+    pub incarnation: Option<u64>,
+}
+
+impl Given {
+    /// The limits: what is given, else those that a copy is kept with, else the usual ones.
+    pub fn over(&self, kept: Option<Limits>) -> Limits {
+        let usual = Limits { sessions: 16, handles: 16, bytes: 1 << 20, messages: 1024, lag: 0, incarnation: None };
+        let kept = kept.unwrap_or(usual);
+        let sessions = self.sessions.unwrap_or(kept.sessions);
+        // A session has at most one handle, so as many records as sessions are enough.
+        let handles = if self.sessions.is_some() { sessions as usize } else { kept.handles };
+        Limits {
+            sessions,
+            handles: self.handles.unwrap_or(handles),
+            bytes: self.bytes.unwrap_or(kept.bytes),
+            messages: self.messages.unwrap_or(kept.messages),
+            lag: self.lag.unwrap_or(kept.lag),
+            incarnation: self.incarnation.or(kept.incarnation),
+        }
+    }
+
+    /// Whether nothing else is given than a copy is kept with; if not, that.
+    pub fn agrees_with(&self, kept: &Limits) -> Result<(), String> {
+        let pairs = [
+            ("sessions", self.sessions.map(u64::from), u64::from(kept.sessions)),
+            ("handles", self.handles.map(|n| n as u64), kept.handles as u64),
+            ("bytes", self.bytes.map(u64::from), u64::from(kept.bytes)),
+            ("messages", self.messages.map(u64::from), u64::from(kept.messages)),
+            ("lag", self.lag, kept.lag),
+        ];
+        let other = pairs.iter().find(|(_, given, kept)| given.is_some_and(|given| given != *kept));
+        other.map_or(Ok(()), |(name, _, kept)| Err(format!("--{name} {kept}")))
+    }
+}
+
 pub struct Standby {
     pub counters: Replica,
     pub row: Vec<Bound>,
@@ -99,6 +142,17 @@ impl Standby {
         over!(self, wz_on_frame, frame.as_ptr(), frame.len())
     }
 
+    /// Takes one frame, whose commit runs with `flush` or a later frame: its answer is sent after that.
+    pub fn take_held(&mut self, frame: &[u8]) -> Answer {
+        over!(self, wz_on_frame_held, frame.as_ptr(), frame.len())
+    }
+
+    /// Runs the commits of the current line; the refusal, or 0.
+    pub fn flush(&mut self) -> u8 {
+        let connection = self.counters.connections;
+        over!(self, wz_flush, connection).refusal
+    }
+
     /// The last answer's bytes, in the version that its call left; none for a refusal.
     pub fn reply(&self, answer: Answer) -> Vec<u8> {
         let mut out = [0; 143];
@@ -107,10 +161,60 @@ impl Standby {
         out[..count(code).unwrap_or(0)].to_vec()
     }
 
-    /// The line has ended.
+    /// The current line has ended.
     pub fn drop_line(&mut self) {
-        let connection = self.counters.connections;
+        self.drop_line_of(self.counters.connections);
+    }
+
+    /// The line of a connection has ended: where that isn't the current one, nothing is dropped.
+    pub fn drop_line_of(&mut self, connection: u64) {
         over!(self, wz_disconnected_from, connection);
+    }
+
+    /// The lowest version that takes every session's stamp.
+    pub fn lowest_version(&self) -> u16 {
+        let long = |place| self.session(place).stamp.len() > LONGEST_SHORT;
+        if (0..self.sessions()).any(long) { LATEST } else { FIRST }
+    }
+
+    /// The frames that send a session whole, on a handle that has just been bound over a connection of this version.
+    pub fn send_whole<E>(
+        &self,
+        place: usize,
+        handle: u32,
+        version: u16,
+        mut each: impl FnMut(&[u8]) -> Result<(), E>,
+    ) -> Result<(), E> {
+        let Shape { places, bytes, messages } = self.settings.shape;
+        let (words, store) = (&self.words, &self.bytes);
+        let mut sending = [0; 4];
+        let mut out = vec![0; bytes as usize + 22 * messages as usize + 165];
+        loop {
+            let code = unsafe {
+                wz_send(
+                    words.as_ptr(),
+                    words.len(),
+                    store.as_ptr(),
+                    store.len(),
+                    sending.as_mut_ptr(),
+                    sending.len(),
+                    out.as_mut_ptr(),
+                    out.len(),
+                    places,
+                    bytes,
+                    messages,
+                    place,
+                    handle,
+                    self.counters.epoch,
+                    version,
+                )
+            };
+            match count(code) {
+                Ok(0) => return Ok(()),
+                Ok(len) => each(&out[..len])?,
+                Err(refusal) => unreachable!("a session of the store is sent whole: R {refusal}"),
+            }
+        }
     }
 
     /// Takes over; unchecked, if that is said. The refusal, or 0.
@@ -171,19 +275,72 @@ impl Standby {
         Session { key, next_outgoing, next_incoming, in_flight, stamp, marks, durable: out[0] != 0, messages }
     }
 
-    /// The stored messages of a session, each where wz_resend says that it stands.
-    fn messages(&self, place: usize) -> Vec<(u64, Vec<u8>)> {
+    /// The place of a session by its key.
+    pub fn find(&self, key: &[Vec<u8>; 4]) -> Option<usize> {
+        let Shape { places, bytes, messages } = self.settings.shape;
+        let [begin, sender, target, suffix] = key;
+        let code = unsafe {
+            wz_find(
+                self.words.as_ptr(),
+                self.words.len(),
+                self.bytes.as_ptr(),
+                self.bytes.len(),
+                begin.as_ptr(),
+                begin.len(),
+                sender.as_ptr(),
+                sender.len(),
+                target.as_ptr(),
+                target.len(),
+                suffix.as_ptr(),
+                suffix.len(),
+                places,
+                bytes,
+                messages,
+            )
+        };
+        count(code).ok()
+    }
+
+    /// A new session from a file of sent messages; or the refusal, and the offset of the first faulty message.
+    pub fn import(&mut self, key: &[Vec<u8>; 4], file: &[u8]) -> Result<usize, (u8, usize)> {
+        let Shape { places, bytes, messages } = self.settings.shape;
+        let [begin, sender, target, suffix] = key;
+        let built = unsafe {
+            wz_import(
+                self.words.as_mut_ptr(),
+                self.words.len(),
+                self.bytes.as_mut_ptr(),
+                self.bytes.len(),
+                begin.as_ptr(),
+                begin.len(),
+                sender.as_ptr(),
+                sender.len(),
+                target.as_ptr(),
+                target.len(),
+                suffix.as_ptr(),
+                suffix.len(),
+                file.as_ptr(),
+                file.len(),
+                places,
+                bytes,
+                messages,
+            )
+        };
+        if built.refusal == 0 { Ok(built.place) } else { Err((built.refusal, built.at)) }
+    }
+
+    /// The stored messages of a session that lie in some range: number, set of ranges, bytes; or the refusal.
+    pub fn resend(&self, place: usize, ranges: &[u64]) -> Result<Vec<(u64, u64, Vec<u8>)>, u8> {
         let Shape { places, bytes, messages } = self.settings.shape;
         let mut entries = vec![0u64; 6 * messages as usize];
-        let all = [1, 0];
         let listed = unsafe {
             wz_resend(
                 self.words.as_ptr(),
                 self.words.len(),
                 self.bytes.as_ptr(),
                 self.bytes.len(),
-                all.as_ptr(),
-                all.len(),
+                ranges.as_ptr(),
+                ranges.len(),
                 entries.as_mut_ptr(),
                 entries.len(),
                 places,
@@ -192,9 +349,73 @@ impl Standby {
                 place,
             )
         };
+        if listed.refusal != 0 {
+            return Err(listed.refusal);
+        }
         let part = |at: u64, len: u64| &self.bytes[at as usize..(at + len) as usize];
-        let entry = |e: &[u64]| (e[0], [part(e[2], e[3]), part(e[4], e[5])].concat());
-        entries.chunks_exact(6).take(listed.length).map(entry).collect()
+        let entry = |e: &[u64]| (e[0], e[1], [part(e[2], e[3]), part(e[4], e[5])].concat());
+        Ok(entries.chunks_exact(6).take(listed.length).map(entry).collect())
+    }
+
+    /// The stored messages of a session.
+    fn messages(&self, place: usize) -> Vec<(u64, Vec<u8>)> {
+        let all = self.resend(place, &[1, 0]).unwrap_or_default();
+        all.into_iter().map(|(number, _, text)| (number, text)).collect()
+    }
+}
+
+/// Which of up to five copies takes over; the refusal where none fits.
+pub fn choose(copies: &[&Standby]) -> Result<usize, u8> {
+    let mut told = [0u64; 30];
+    for (words, copy) in told.chunks_exact_mut(6).zip(copies) {
+        let Shape { places, bytes, messages } = copy.settings.shape;
+        let checked = u64::from(copy.counters.checked != 0);
+        words.copy_from_slice(&[1, checked, copy.counters.epoch, places.into(), bytes.into(), messages.into()]);
+    }
+    let words = |i: usize| copies.get(i).map_or(&[][..], |copy| &copy.words);
+    let bytes = |i: usize| copies.get(i).map_or(&[][..], |copy| &copy.bytes);
+    let ([w0, w1, w2, w3, w4], [b0, b1, b2, b3, b4]) = ([0, 1, 2, 3, 4].map(words), [0, 1, 2, 3, 4].map(bytes));
+    count(unsafe {
+        wz_choose(
+            told.as_ptr(),
+            told.len(),
+            w0.as_ptr(),
+            w0.len(),
+            b0.as_ptr(),
+            b0.len(),
+            w1.as_ptr(),
+            w1.len(),
+            b1.as_ptr(),
+            b1.len(),
+            w2.as_ptr(),
+            w2.len(),
+            b2.as_ptr(),
+            b2.len(),
+            w3.as_ptr(),
+            w3.len(),
+            b3.as_ptr(),
+            b3.len(),
+            w4.as_ptr(),
+            w4.len(),
+            b4.as_ptr(),
+            b4.len(),
+        )
+    })
+}
+
+/// What bytes begin with: a part of a frame, a whole one with its length, or one that no version reads, with the code that says why.
+pub enum First {
+    More,
+    Frame(usize),
+    Fault(u64),
+}
+
+pub fn first_frame(bytes: &[u8]) -> First {
+    let code = unsafe { wz_read(bytes.as_ptr(), bytes.len(), LATEST) };
+    match count(code) {
+        Ok(len) => First::Frame(len),
+        Err(0) => First::More,
+        Err(_) => First::Fault(code),
     }
 }
 

@@ -1,15 +1,20 @@
 //! What is said, and how a run that can't go on ends.
 use std::io::{self, Write};
 
-/// Wrong usage or input, with what is said; or output that can't be written.
+/// Wrong usage or input, with what is said; something that is turned down; or output that can't be written.
 pub enum Failure {
     Usage(String),
+    Refused(String),
     Output(io::Error),
 }
 
 impl Failure {
     pub fn usage(text: impl Into<String>) -> Failure {
         Failure::Usage(text.into())
+    }
+
+    pub fn refused(text: impl Into<String>) -> Failure {
+        Failure::Refused(text.into())
     }
 }
 
@@ -53,6 +58,16 @@ pub fn key(key: &[Vec<u8>; 4]) -> String {
     let [begin, sender, target, suffix] = key.each_ref().map(|text| visible(text));
     let suffix = if suffix.is_empty() { suffix } else { format!(" / {suffix}") };
     format!("{begin} {sender} -> {target}{suffix}")
+}
+
+/// `BEGIN,SENDER,TARGET` or `BEGIN,SENDER,TARGET,SUFFIX`.
+pub fn read_key(text: &str) -> Option<[Vec<u8>; 4]> {
+    let parts: Vec<Vec<u8>> = text.split(',').map(|part| part.as_bytes().to_vec()).collect();
+    match parts.as_slice() {
+        [begin, sender, target] => Some([begin.clone(), sender.clone(), target.clone(), Vec::new()]),
+        [begin, sender, target, suffix] => Some([begin.clone(), sender.clone(), target.clone(), suffix.clone()]),
+        _ => None,
+    }
 }
 
 /// Words in lines of at most 80 columns, the first behind a label, the others behind as many spaces.
