@@ -21,7 +21,7 @@ use Rattle.active.specs.declared.Sending.{Sending}
 use Rattle.active.specs.declared.Sent.{Sent}
 use Rattle.active.specs.Whole.{SendAnswer, sender_of, stored_at, SendStart, ready, start_of, start_from, SendStep, gives, finished, step_of, turned_down, send_answer, unless_refused, step_from, SendsWhole}
 use Rattle.active.specs.Whole as whole
-use Rattle.c_code.specs.Codes.{done_code, refusal_code}
+use Rattle.c_code.specs.Codes.{done_code}
 use Rattle.c_exports.specs.Sendings.{from_word, done_byte, sender_in, start_in, send_code, NextWords, Resumes, SendIs}
 
 -- ---- a call keeps the handle and the epoch
@@ -135,8 +135,3 @@ module _ (limit version : ℕ) (shape : Shape) (w b : List ℕ) (i h e : ℕ) (q
       (subst (λ (k : ℕ). SendIs limit (stored_at shape w b i) h k (ready s.place s.version (sender_of s)) q q' out out' r) n.2
       (subst (λ (k : ℕ). SendIs limit (stored_at shape w b i) k s.epoch.0 (ready s.place s.version (sender_of s)) q q' out out' r) n.1
       (subst (λ (k : ℕ). SendIs limit (stored_at shape w b k) s.handle s.epoch.0 (ready s.place s.version (sender_of s)) q q' out out' r) n.0 c)))
-
-  -- a call that is turned down before
-  pub not_called : (n : ℕ) → whole.SendStart.refused n ≡ start_in limit version (stored_at shape w b i) i h e q → r ≡ refusal_code n 0
-      → SendIs limit (stored_at shape w b i) h e (start_in limit version (stored_at shape w b i) i h e q) q q out out r
-  not_called n start a = rw (← start) (record { answer = a; words = refl; area = refl })
