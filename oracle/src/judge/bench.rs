@@ -5,8 +5,8 @@ use std::process::ExitCode;
 
 use turbojet::SessionId;
 use turbojet::store::SessionStorage;
-use turbojet_replica::{active, branch};
 use turbojet_replica::frame::Frame;
+use turbojet_replica::{active, branch};
 
 use crate::call::{Key, Line, Setting, hold_for_any};
 use crate::differences::{FIRST, LATEST, reading};
@@ -397,9 +397,9 @@ pub fn sendings() {
     for (line, lengths) in head_office.into_iter().chain(branch) {
         let (rows, sent, frames) = sending(line, lengths);
         rows.iter().for_each(print);
-        let a_frame = |ns: f64| ns / frames as f64;
         let [both, alone, _] = &rows;
-        print(&Row { name: format!("the sending alone, a frame of {frames}"), ours: a_frame(alone.ours), rust: a_frame(alone.rust) });
+        let (name, frames) = (format!("the sending alone, a frame of {frames}"), frames as f64);
+        print(&Row { name, ours: alone.ours / frames, rust: alone.rust / frames });
         let copy = copying(sent);
         let (ours, rust) = (both.ours / copy, both.rust / copy);
         println!(

@@ -11,7 +11,9 @@ use crate::differences;
 use crate::differences::{FIRST, LATEST, NO_VERSIONS};
 use crate::digits;
 use crate::frames::{Reading, read_by_rust};
-use crate::generate::{Player, Random, any_frame, branch_setting, cycle, key, many_setting, reading, resend, setting, wide_setting};
+use crate::generate::{
+    Player, Random, any_frame, branch_setting, cycle, key, many_setting, reading, resend, setting, wide_setting,
+};
 use crate::imports;
 #[cfg(calls)]
 use crate::ours::Ours;

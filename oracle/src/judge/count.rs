@@ -51,7 +51,6 @@ const SENT: usize = 4 + 1 + 4 + 8 + 8 + 1 + 4 + 1 + 1;
 const WHOLE: &str = "whole sending";
 const BRANCH: &str = "whole sending on the branch line";
 
-
 /// Whether the answer's digits have a stamp there that version 1 doesn't take. A sending without a stamp has another change there,
 /// whose bytes after the first are of a number or a length.
 fn long_stamp(digits: &str, at: usize) -> bool {
