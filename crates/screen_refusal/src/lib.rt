@@ -26,7 +26,7 @@ fn reading(number: u8) -> &'static [u8]
         5 =>
             b"R 5    a key that is none\n       Mend the session's names: a text is empty, too long or not printable.\n",
         6 =>
-            b"R 6    a stamp that is none\n       Mend the sender: YYYYMMDD-HH:MM:SS or that with .sss is taken, of a day\n       that exists.\n",
+            b"R 6    a stamp that is none\n       Mend the sender: YYYYMMDD-HH:MM:SS or that with .sss is taken, of a day\n       that exists; in version 2 also 6, 9 or 12 digits behind the point.\n",
         7 =>
             b"R 7    marks that are none\n       Mend the sender: at most 64 printable bytes are taken.\n",
         _ => NONE,
@@ -54,7 +54,7 @@ fn taking(number: u8) -> &'static [u8]
         10 =>
             b"R 10   the standby has taken over\n       Stop the old active. If this was a mistake, begin a new standby.\n",
         11 =>
-            b"R 11   a Hello of another version\n       Install the same version on both machines.\n",
+            b"R 11   a version that is neither 1 nor 2\n       Install the same version on both machines.\n",
         12 =>
             b"R 12   a Hello lists kinds of application record\n       Switch them off in the active: this standby keeps none.\n",
         13 =>
@@ -122,6 +122,8 @@ fn requests(number: u8) -> &'static [u8]
             b"R 30   a number in a message log that doesn't rise\n       Cut the file at the reset, and import the part that counts.\n",
         31 =>
             b"R 31   a lease's time that falls\n       Hand in a clock that never falls, and times in the order of reading.\n",
+        32 =>
+            b"R 32   a stamp with more than three digits of a second, over version 1\n       Let the active connect by a Hello of version 2: a stamp is never cut.\n",
         33 =>
             b"R 33   a stamp that has no number\n       It is before 1970, or its second is 60: sort such stamps as texts.\n",
         34 =>
