@@ -195,5 +195,24 @@ go(MIDDLE, FOUR, OLD, ["w 1", "f", "h " + OTHER, "=", "W 0 4", "f", "=", "f", "=
 go(MIDDLE, FOUR, OLD, ["W 1", "f", "=", "f", "=", "w 2", "f", "="], "B")
 go(MIDDLE, FOUR, OLD, ["W 1", "f", "=", "f", "=", "w 3", "f", "=", "f"], "A")
 
+# ---- version 2: each step with what must be written for it, by document 02
+LONG, WIDE = "t:20261115-12:00:00.123456789012", "t:20261115-12:00:00.123456"
+FIRST, LATEST = (f"h:{hello(version, EPOCH).hex()}" for version in (1, 2))
+MADE, BOUND, BEGIN = ["n 2 200 16", "o:B"], f"h:{BIND}", f"w 3 {EPOCH} 0"
+VERSIONS: list[tuple[str, str | None]] = [
+    # a session with a stamp of 30 bytes, sent whole in version 2
+    *((line, None) for line in (*MADE, LONG, "m:one")),
+    (LATEST, "2/0/0"), (BOUND, "7/0/0"), (BEGIN, None), ("f", None), ("=", "5/0/0 A"), ("f", "done"),
+    # back to version 1: a sending of it doesn't begin, the Bind of its copy is 32; a frame that was made in version 2 is 6
+    (FIRST, "2/0/0 A"), (BEGIN, "R 32"), (BOUND, "0/32/0 A"), ("=", "0/6/0 A"),
+    # and in version 2 again: bound, and sent whole once more
+    (LATEST, "2/0/0 A"), (BOUND, "7/0/0 A"), (BEGIN, None), ("f", None), ("=", "5/0/0 A"), ("f", "done"),
+    # a stamp that grew once the sending in version 1 had begun: 32 instead of the frame that has it, and nothing is shortened
+    *((line, None) for line in (*MADE, "t:20261115-12:00:00")),
+    (FIRST, "2/0/0"), (BOUND, "7/0/0"), (BEGIN, None), (WIDE, None), ("f", "R 32"), ("t:20261115-12:00:00.123", None), ("f", None), ("=", "5/0/0 A"), ("f", "done"),
+]
+script.extend(step for step, said in VERSIONS)
+wanted.extend(said for step, said in VERSIONS if said is not None)
+
 write("crates/vectors_copy/stdin", joined(script))
 write("crates/vectors_copy/stdout", joined(wanted))

@@ -86,7 +86,7 @@ module _ (s : Shape) (k : Key) (file w w' b b' : List ℕ) (i : ℕ) (bytes : T 
     next = held.out_high;
     rules = rules;
     stored = stored;
-    frames = λ limit h e last from u fs hw hb r g. whole_given limit s w' b' (session_of s file) h e last i from u fs hw hb stored r g;
+    frames = λ limit version h e last from u fs hw hb r g. whole_given limit s w' b' (session_of s file) h e last version i from u fs hw hb stored r g;
     copied =
         λ set same limit B own h bound x start cs z d.
         demand_3 set limit (session_of s file) B own h bound x (start (subst (λ (q : Shape). Holdable q.bytes q.messages (session_of s file)) (sym same) held)) cs z d;

@@ -29,7 +29,7 @@ pub record LikeAny (s : Shape) (file w b : List ℕ) (i : ℕ) : Type 0 where
   pub rules : Rules s w b
   pub stored : stored_at s w b i ≡ some (session_of s file)
   -- calls of `Sending` on it give the frames that send it whole, as of any session
-  pub frames : (limit h e last : ℕ) (from t : Sending) (fs : List (List ℕ)) → Small (2 ^ 64) w → Small 256 b → start_of (Ok from) ≡ start_from limit (stored_at s w b i) i h e last
+  pub frames : (limit version h e last : ℕ) (from t : Sending) (fs : List (List ℕ)) → Small (2 ^ 64) w → Small 256 b → start_of (Ok from) ≡ start_from limit version (stored_at s w b i) i h e last
       → SendCalls limit s w b from fs t → SentWhole limit s w b (session_of s file) h e last fs t
   -- demand 3: of a start, that the session sent is one the store can hold need not be asked
   pub copied : (set : Settings) → set.shape ≡ s → (limit : ℕ) (B : Session) (k : OwnKey) (h : ℕ) (bound : Bound) (x : Lent)

@@ -65,10 +65,10 @@ module _ (L : Settings) (s : Standby) (k : Counters) where
   given_row (damaged n) p = refl
   given_row (intact f) p = ap (λ (r : Result). row_by_frame k f r.answer) (cond-true _ _ p) ∙ row_refused k f
 
-  same_row : (w : List ℕ) {a : Answer} → s.counters ≡ k → row_by_given k (given k.version w) a ≡ row_by_given k (given s.counters.version w) a
-  same_row w {a} e = ap (λ (x : Counters). row_by_given k (given x.version w) a) (sym e)
+  same_row : (w : List ℕ) (a : Answer) → s.counters ≡ k → row_by_given k (given k.version w) a ≡ row_by_given k (given s.counters.version w) a
+  same_row w a e = ap (λ (x : Counters). row_by_given k (given x.version w) a) (sym e)
 
   pub promoted_row : (c : Call) (w : List ℕ) → s.counters ≡ k → s.counters.promoted ≡ true → Hands c w → row_by k c (step L s c).answer ≡ keeps
   unfolding step
-  promoted_row c w e p by_held = same_row w e ∙ given_row (given s.counters.version w) p
-  promoted_row c w e p by_frame = same_row w e ∙ given_row (given s.counters.version w) p
+  promoted_row c w e p by_held = same_row w _ e ∙ given_row (given s.counters.version w) p
+  promoted_row c w e p by_frame = same_row w _ e ∙ given_row (given s.counters.version w) p

@@ -3,21 +3,20 @@
 use mathlib.Core.Path.{◌≡◌, refl, sym, ap, subst, ◌∙◌}
 use Prim.Native.Nat.{ℕ, ◌≤◌, max}
 use native.Mathlib.Omega.{arith}
-use mathlib.Core.List.{List, [], ◌∷◌}
+use mathlib.Core.List.{List}
 use mathlib.Core.Option.{Option, none}
 use mathlib.Core.Bool.{Bool, true, false, cond, not, ◌||◌}
 use lib.Dec.{T}
 use lib.ListN.{get_or}
 use Rattle.base_flags.specs.Flag.{is_set}
 use Rattle.base_laws.proofs.Lists.{both}
-use Rattle.model_frame.specs.Frame.{Frame, bind}
+use Rattle.model_frame.specs.Frame.{Frame}
 use Rattle.store_areas.specs.Areas.{allowed, Rules, places_of}
 use Rattle.store_areas.proofs.Ruling.{rules_of}
 use Rattle.standby_pending.specs.Pending.{pending_of}
 use Rattle.standby_pending_run.specs.Commits.{ran_words}
 use Rattle.standby_commit.specs.Settling.{stays}
 use Rattle.standby_row.specs.Row.{free_record, find_of}
-use Rattle.standby_row.specs.declared.Bound.{Bound as BoundRecord}
 use Rattle.frame_stamp.specs.Versions.{version_of}
 use Rattle.model_standby.specs.Answer.{given, lower, accepted, is_reply}
 use Rattle.model_standby.specs.Answer as answer
@@ -29,7 +28,7 @@ use Rattle.model_standby.specs.Standby.{step, run}
 use Rattle.model_standby.specs.Hold.{HoldWrite, writes}
 use Rattle.model_standby.specs.Demand.{Hands, by_held, by_frame}
 use Rattle.model_standby.proofs.Sanity.{epoch_never_falls}
-use Rattle.model_two_actives.specs.TwoActives.{Deposing, Takes}
+use Rattle.model_two_actives.specs.TwoActives.{Takes}
 use Rattle.model_two_actives.proofs.TwoActives as model
 use Rattle.model_two_actives.proofs.Lower.{is_hello, lower_answer, promoted_answer, lower_writes, promoted_writes}
 use Rattle.standby_state.specs.declared.Settings.{Settings}

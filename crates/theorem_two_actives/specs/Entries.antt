@@ -7,7 +7,7 @@ use borrow.Fn.World.{World, ArgsD, ResD}
 use Rattle.model_standby.specs.State.{promote, promote_unchecked}
 use Rattle.replica.specs.contracts.promote as promote-call
 use Rattle.replica.specs.contracts.promote_unchecked as promote-unchecked
-use Rattle.theorem_whole_copy.specs.Demand.{Lent, Calls}
+use Rattle.theorem_whole_copy.specs.Demand.{Calls}
 use Rattle.theorem_whole_copy.specs.Entries.{Gives, AsksNothing}
 use Rattle.theorem_whole_copy.specs.Entries as whole_copy
 

@@ -3,7 +3,6 @@
 -- for the claim says lower, not other. The same of the model's steps is `ModelTwoActives` (crates/model_two_actives/specs/TwoActives.antt). Assumes nothing.
 use Rattle.std.specs.Prelude.{◌≡◌, ℕ, ◌≤◌, max, List, Bool, true, false, cond, T}
 use Rattle.base_flags.specs.Flag.{is_set}
-use Rattle.frame_stamp.specs.Versions.{version_of}
 use Rattle.model_frame.specs.Frame.{Key, Frame, bind}
 use Rattle.store_areas.specs.Areas.{places_of}
 use Rattle.model_standby.specs.Answer.{lower}
@@ -15,11 +14,7 @@ use Rattle.standby_pending_run.specs.Commits.{ran_words}
 use Rattle.standby_state.specs.declared.Settings.{Settings}
 use Rattle.standby_state.specs.declared.Answer.{Answer}
 use Rattle.standby_state.specs.Outcomes.{counters_of}
-use Rattle.theorem_whole_copy.specs.Demand.{Lent, settings, Calls, Runs}
-
--- the version that the connection speaks
-abbrev pub spoken : Lent → ℕ
-spoken x = version_of x.counters.version2
+use Rattle.theorem_whole_copy.specs.Demand.{Lent, spoken, settings, Calls, Runs}
 
 module _ (s : Settings) where
   -- row, hold areas and the store's bytes are the very same; the counters say the same (a flag is set by every byte but 0)

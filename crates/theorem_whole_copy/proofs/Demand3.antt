@@ -52,6 +52,7 @@ module _ (s : Settings) (limit : ℕ) (A B : Session) (k : OwnKey) (h : ℕ) (b 
     is_B = start.is_B;
     its_key = start.its_key;
     nothing_held = start.nothing_held;
+    suits_so = start.suits_so;
     area = start.area;
     handle_u32 = start.handle_u32;
     epoch_u64 = start.epoch_u64;

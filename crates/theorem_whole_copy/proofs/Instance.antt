@@ -1,15 +1,15 @@
 -- Demand 3 on the code is no empty claim: areas of one place (C = 0, M = 0) that keep the rules, a handle bound in them, and a start. Assumes nothing.
 use mathlib.Core.Path.{refl, ap}
-use mathlib.Core.Bool.{Bool, true, false, ◌&&◌}
+use mathlib.Core.Bool.{Bool, true, ◌&&◌}
 use mathlib.Core.List.{[], ◌∷◌}
-use mathlib.Core.Option.{Option, map}
+use mathlib.Core.Option.{map}
 use native.Mathlib.Omega.{arith}
 use lib.ListN.{replicate}
 use Rattle.model_text.specs.Printable.{is_printable_byte, is_printable, is_marks}
 use Rattle.model_session.specs.Session.{new_session, Holdable}
 use Rattle.model_session.specs.Whole.{whole_batches}
 use Rattle.standby_row.specs.declared.Bound.{Bound as BoundRecord}
-use Rattle.store_areas.specs.Areas.{allowed, place_at, places_of, Rules}
+use Rattle.store_areas.specs.Areas.{place_at, places_of, Rules}
 use Rattle.store_areas.proofs.Ruling.{rules_true}
 use Rattle.store_areas.proofs.Lifting.{place_is, session_is}
 use Rattle.standby_changes.proofs.Held.{held_none}
@@ -72,6 +72,7 @@ a_start = record {
       own_made (places_of s₀.shape x₀.words x₀.bytes) 0 (record { key = p₀.key; earlier = 0 })
       (ap (map (λ (p : Place). p.key)) (place_is s₀.shape x₀.words x₀.bytes 0 (omega arith))) refl;
   nothing_held = held_none latest [] (omega arith);
+  suits_so = refl;
   area = omega arith;
   handle_u32 = omega arith;
   epoch_u64 = omega arith;

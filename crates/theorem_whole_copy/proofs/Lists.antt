@@ -101,6 +101,7 @@ start₁ =
           own_made (places_of s₁.shape x₁.words x₁.bytes) 0 (record { key = place₁.key; earlier = 0 })
           (ap (map (λ (p : Place). p.key)) (place_is s₁.shape x₁.words x₁.bytes 0 (omega arith))) refl;
       nothing_held = held_none latest [] (omega arith);
+      suits_so = refl;
       area = omega arith;
       handle_u32 = omega arith;
       epoch_u64 = omega arith;
@@ -136,16 +137,17 @@ abbrev calls₂ : List Call
 calls₂ = on_frame_held (encode f₁) ∷ disconnected_from 1 ∷ on_frame (encode stale) ∷ []
 
 -- bytes that aren't a frame get 26
-said_26 : {y : Lent} {a : Answer} → Calls s₁ (on_frame no_frame) x₁ y a → Aside 5 no_frame (answer_of y.bytes a)
+said_26 : {y : Lent} {a : Answer} → Calls s₁ (on_frame no_frame) x₁ y a → Aside 1 5 no_frame (answer_of y.bytes a)
 unfolding given decode
 said_26 {y} {a} p =
     let o = one s₁ (room_all x₁.row x₁.holds) start₁.allowed refl p (stands_for s₁ x₁) refl in
     let is : answer_of y.bytes a ≡ refused 26 = o.answer ∙ ap (λ (r : Result). r.answer) (damaged_frame (settings s₁ x₁) (stands_for s₁ x₁) no_frame 26 refl) in
-    subst (Aside 5 no_frame) (sym is) (refused_outside {n = 26} tt)
+    subst (Aside 1 5 no_frame) (sym is) (refused_outside {n = 26} tt)
 
-is_stale : (n : answer.Answer) → Aside 5 (encode stale) n
+-- in whatever version
+is_stale : (v : ℕ) (n : answer.Answer) → Aside v 5 (encode stale) n
 unfolding given encode body_bytes run_bytes bytes_of decode le read_num read_bytes read_count many read_body read_fields batch_fields read_changes read_app_records read_part
-is_stale n = is_lower {f = stale} refl tt
+is_stale v n = is_lower {f = stale} refl tt
 
 last_taken : (t : Bool) → T t → some (cond (t || false) A₁ B₁) ≡ some A₁
 last_taken true h = refl
@@ -160,12 +162,12 @@ pub ends_in_A : {z : Lent} → Runs s₁ x₁ calls₁ z → Ends z A₁
 unfolding whole_frames whole_batches
 ends_in_A {z} (call p₁ (call p₂ (call p₃ (call p₄ (call {y = y₅} {a = a₅} p₅ (call p₆ no_calls)))))) =
     let d : First s₁ 5 (frames_of_a s₁ 0 A₁ 9 b₁ x₁) x₁ calls₁ z =
-    aside by_frame p₁ (said_26 p₁) (ours by_held p₂ (flushes 1 p₃ (aside by_frame p₄ (is_stale _) (ours by_frame p₅ (drops 1 p₆ ends))))) in
+    aside by_frame p₁ (said_26 p₁) (ours by_held p₂ (flushes 1 p₃ (aside by_frame p₄ (is_stale _ _) (ours by_frame p₅ (drops 1 p₆ ends))))) in
     let c = demand_3 s₁ 0 A₁ B₁ (record { key = place₁.key; earlier = 0 }) 9 b₁ x₁ start₁ calls₁ z d in
     c.is_A_or_B ∙ last_taken (accepted (answer_of y₅.bytes a₅)) c.all_taken.1.0
 
 pub ends_in_B : {z : Lent} → Runs s₁ x₁ calls₂ z → Ends z B₁
 unfolding whole_frames whole_batches
 ends_in_B {z} (call p₁ (call p₂ (call p₃ no_calls))) =
-    let d : First s₁ 5 (frames_of_a s₁ 0 A₁ 9 b₁ x₁) x₁ calls₂ z = ours by_held p₁ (drops 1 p₂ (aside by_frame p₃ (is_stale _) ends)) in
+    let d : First s₁ 5 (frames_of_a s₁ 0 A₁ 9 b₁ x₁) x₁ calls₂ z = ours by_held p₁ (drops 1 p₂ (aside by_frame p₃ (is_stale _ _) ends)) in
     (demand_3 s₁ 0 A₁ B₁ (record { key = place₁.key; earlier = 0 }) 9 b₁ x₁ start₁ calls₂ z d).is_A_or_B

@@ -71,10 +71,10 @@ module _ (s : Settings) (room : ℕ) where
           allowed = m.allowed;
           same = m.same;
         }
-    modelled (aside {c} {w} hands p q rest) ok r st i =
+    modelled (aside {y} {c} {w} {a} hands p q rest) ok r st i =
         let o = one ok r p st i in
         let m = modelled rest o.allowed o.same (step L st c).state o.state in
-        record { list = model.aside_next hands (subst (Aside e w) o.answer q) m.list; took = m.took; taken = m.taken; ran = m.ran; allowed = m.allowed; same = m.same }
+        record { list = model.aside_next hands (subst (Aside st.counters.version e w) o.answer (subst (λ (v : ℕ). Aside v e w (answer_of y.bytes a)) (ap (λ (t : Standby). t.counters.version) i) q)) m.list; took = m.took; taken = m.taken; ran = m.ran; allowed = m.allowed; same = m.same }
     modelled (flushes n p rest) ok r st i =
         let o = one ok r p st i in
         let m = modelled rest o.allowed o.same (step L st (state.flush n)).state o.state in

@@ -9,14 +9,15 @@ use lib.Dec.{T, leb, ltb}
 use lib.ListN.{length, get_or, take, drop}
 use borrow.Author.Tests.{leb-false}
 use Rattle.base_laws.proofs.Lists.{both}
-use Rattle.model_frame.specs.Frame.{Key}
+use Rattle.model_frame.specs.Frame.{Key, batch}
 use Rattle.model_frame.specs.Parse.{Each}
-use Rattle.model_session.specs.Session.{Session, Holdable, top}
+use Rattle.model_text.specs.Version.{latest}
+use Rattle.model_session.specs.Session.{Session, Holdable, top, suits}
 use Rattle.model_session.specs.Whole.{whole_batches, hold_length}
 use Rattle.store_areas.specs.Areas.{allowed, Rules}
 use Rattle.store_areas.proofs.Ruling.{rules_of}
 use Rattle.store_areas.proofs.Lifting.{places_length}
-use Rattle.model_standby.specs.Answer.{accepted}
+use Rattle.model_standby.specs.Answer.{intact, given, accepted}
 use Rattle.model_standby.specs.Answer as answer
 use Rattle.model_standby.specs.Row.{Used, find}
 use Rattle.model_standby.specs.Store.{place_of, session_at, or_new}
@@ -37,7 +38,7 @@ use Rattle.standby_state.specs.declared.Answer.{Answer}
 use Rattle.standby_state.specs.Outcomes.{settings_of}
 use Rattle.standby_step.specs.Calls.{room_all}
 use Rattle.standby_step.proofs.Rows.{Whole, whole_of, allowed_apart}
-use Rattle.theorem_whole_copy.specs.Demand.{Lent, stands_for, settings, Allowed, Runs, no_calls, call, Start}
+use Rattle.theorem_whole_copy.specs.Demand.{Lent, stands_for, spoken, settings, Allowed, Runs, no_calls, call, Start}
 use Rattle.theorem_whole_copy.specs.OneHandle.{Binds, bound_again, Removed, SentToNew, OneHandle}
 use Rattle.theorem_whole_copy.proofs.Model.{After, one}
 use Rattle.theorem_whole_copy.proofs.Demand3.{demand_3, all_sent}
@@ -49,15 +50,15 @@ or_l true b e = absurd (true≢false e)
 or_l false b e = refl
 
 module _ (room used : ℕ) where
-  row_there : (row : List BoundRecord) (h : List ℕ) → Whole used room row → Each (Used (λ (b : Bound). b.place < used)) (row_of (bound_of 1) room row h)
+  row_there : (row : List BoundRecord) (h : List ℕ) → Whole used room row → Each (Used (λ (b : Bound). b.place < used)) (row_of (bound_of latest) room row h)
   row_there [] h n = tt
   row_there (g ∷ row) h n = (go (is_used g) n.0, row_there row (drop room h) n.1)
     where
-      go : (u : Bool) → (u && (leb used g.place || ltb room g.held_len)) ≡ false → Used (λ (b : Bound). b.place < used) (cond u (some (g.handle, bound_of 1 g (take room h))) none)
+      go : (u : Bool) → (u && (leb used g.place || ltb room g.held_len)) ≡ false → Used (λ (b : Bound). b.place < used) (cond u (some (g.handle, bound_of latest g (take room h))) none)
       go true e = leb-false used g.place (or_l (leb used g.place) (ltb room g.held_len) e)
       go false e = tt
 
-row_long : (room : ℕ) (row : List BoundRecord) (h : List ℕ) → length (row_of (bound_of 1) room row h) ≡ length row
+row_long : (room : ℕ) (row : List BoundRecord) (h : List ℕ) → length (row_of (bound_of latest) room row h) ≡ length row
 row_long room [] h = refl
 row_long room (g ∷ row) h = ap suc (row_long room row (drop room h))
 
@@ -104,7 +105,7 @@ module _ (s : Settings) where
     again g (call {c} p rest) ok r st e =
         let o = one s R ok r p st e in
         let m = again g rest o.allowed o.same (step L st c).state o.state in
-        λ j. calls_bind g c && accepted (sym o.answer j) || m j
+        λ j. calls_bind (sym e j).counters.version g c && accepted (sym o.answer j) || m j
 
   module _ (x : Lent) (ok : Allowed s x) where
     abbrev R₀ : ℕ
@@ -135,7 +136,7 @@ module _ (s : Settings) where
                 let z₁ = after r in
                 let o = one s R₀ z₁.allowed_so z₁.same called (run L₀ (step L₀ st c).state cs) z₁.ran in
                 o.answer
-                ∙ m.batch_is_14 cs (again R₀ g r first.allowed first.same (step L₀ st c).state first.state ∙ u) (sym (ap (λ (t : Standby). t.counters.promoted) z₁.ran) ∙ p) d w e n part own hands reads
+                ∙ m.batch_is_14 cs (again R₀ g r first.allowed first.same (step L₀ st c).state first.state ∙ u) (sym (ap (λ (t : Standby). t.counters.promoted) z₁.ran) ∙ p) d w e n part own hands (subst (λ (t : Standby). given t.counters.version w ≡ intact (batch g e n part own [])) z₁.ran reads)
                 (subst (λ (t : Standby). t.counters.epoch ≤ e) z₁.ran le);
             forgotten = λ x₁ b₁ ok₁ same e at cs z z₁ r r₁.
                 (ends R₀ r₁ ok₁ same (with_handle st g b₁) e).ran ∙ m.forgotten b₁ at cs ∙ sym (ends R₀ r ok refl st refl).ran;
@@ -149,7 +150,8 @@ module _ (s : Settings) where
           after : {cs : List Call} {z : Lent} → Runs s y cs z → Ends R₀ (step L₀ st c).state cs z
           after r = ends R₀ r first.allowed first.same (step L₀ st c).state first.state
 
-      module _ (limit : ℕ) (A : Session) (held : Holdable s.shape.bytes s.shape.messages A) (area : hold_length s.shape.bytes s.shape.messages ≤ room_all x.row x.holds) (h_u32 : h < 2 ^ 32)
+      module _ (limit : ℕ) (A : Session) (held : Holdable s.shape.bytes s.shape.messages A) (suit : suits (spoken x) A.stamp ≡ true)
+          (area : hold_length s.shape.bytes s.shape.messages A.stamp ≤ room_all x.row x.holds) (h_u32 : h < 2 ^ 32)
           (e_u64 : x.counters.epoch.0 ≤ top) (few : length (whole_batches limit A) ≤ top) where
         -- its session place, and the session there
         abbrev P : ℕ
@@ -165,7 +167,7 @@ module _ (s : Settings) where
         rules₀ = rules_of s.shape x.words x.bytes (both (allowed s.shape x.words x.bytes) _ ok).0
 
         model_start : ModelStart L₀ limit A B K h (new_bound P) (step L₀ st c).state
-        model_start = starts_after L₀ limit A st h k c (row_rules x ok) binds rules₀.room.bytes_limit rules₀.room.messages_limit held area h_u32 e_u64 few
+        model_start = starts_after L₀ limit A st h k c (row_rules x ok) binds rules₀.room.bytes_limit rules₀.room.messages_limit held suit area h_u32 e_u64 few
 
         start : Start s limit A B K h (new_bound P) y
         start =
@@ -177,7 +179,8 @@ module _ (s : Settings) where
               is_B = ap (λ (t : Standby). session_at t.places P) first.state ∙ model_start.is_B;
               its_key = ap (λ (t : Standby). own_key t.places P) first.state ∙ model_start.its_key;
               nothing_held = refl;
-              area = subst (λ (n : ℕ). hold_length s.shape.bytes s.shape.messages ≤ n) (sym first.same) area;
+              suits_so = ap (λ (t : Standby). suits t.counters.version A.stamp) first.state ∙ model_start.suits_so;
+              area = subst (λ (n : ℕ). hold_length s.shape.bytes s.shape.messages A.stamp ≤ n) (sym first.same) area;
               handle_u32 = h_u32;
               epoch_u64 = subst (λ (t : Standby). t.counters.epoch ≤ top) (sym first.state) model_start.epoch_u64;
               sendable = model_start.sendable;
@@ -203,5 +206,5 @@ module _ (s : Settings) where
               let o = one s R₀ z₁.allowed_so z₁.same called (run L₀ st cs) z₁.ran in
               theorem.never_full (omega (arith, long, row_long R₀ x.row x.holds)) cs c (sym o.answer ∙ e);
           removes = λ c h g k b y a q n f at. removed q g b (theorem.removes c h g k b (binds q) n f at);
-          sent_to_new = λ limit A c h k y a q held area h_u32 e_u64 few. sent q limit A held area h_u32 e_u64 few;
+          sent_to_new = λ limit A c h k y a q held suit area h_u32 e_u64 few. sent q limit A held suit area h_u32 e_u64 few;
         }

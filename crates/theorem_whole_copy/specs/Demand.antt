@@ -5,10 +5,11 @@
 use Rattle.std.specs.Prelude.{ℕ, ◌+◌, ◌^◌, ◌≤◌, ◌<◌, ◌≡◌, Bool, true, false, cond, ◌&&◌, ◌||◌, List, [], ◌∷◌, ◌++◌, length, T, eqb}
 use Rattle.std.proofs.Math.Option.{some}
 use Rattle.base_flags.specs.Flag.{is_set}
+use Rattle.frame_stamp.specs.Versions.{version_of}
 use Rattle.model_frame.specs.Frame.{Frame}
 use Rattle.model_frame.specs.Parse.{is_empty}
 use Rattle.model_frame.specs.Writing.{encode}
-use Rattle.model_session.specs.Session.{Session, Holdable, top}
+use Rattle.model_session.specs.Session.{Session, Holdable, top, suits}
 use Rattle.model_session.specs.Whole.{whole_batches, whole_frames, hold_length}
 use Rattle.standby_row.specs.declared.Bound.{Bound as BoundRecord}
 use Rattle.store_areas.specs.Areas.{places_of}
@@ -34,6 +35,10 @@ pub record Lent : Type 0 where
   pub bytes : List ℕ
   pub holds : List ℕ
 
+-- the version that the connection speaks: a call's frame is read in it
+abbrev pub spoken : Lent → ℕ
+spoken x = version_of x.counters.version2
+
 module _ (s : Settings) where
   -- what it stands for, and with which settings
   abbrev pub stands_for : Lent → Standby
@@ -56,11 +61,11 @@ module _ (s : Settings) where
     call : {x y z : Lent} {c : Call} {cs : List Call} {a : Answer} → Calls c x y a → Runs y cs z → Runs x (c ∷ cs) z
 
   -- the first list, of A's frames `left` being still to come: a prefix of these, "once each in order" as bytes; besides only frames of
-  -- lower epochs and calls refused with a number outside 14 to 18; flushes and drops of lines anywhere
+  -- lower epochs and calls refused with a number outside 14 to 18, each read in the version of its call; flushes and drops of lines anywhere
   pub data First (e : ℕ) : List Frame → Lent → List Call → Lent → Type 0 where
     ends : {left : List Frame} {x : Lent} → First e left x [] x
     ours : {f : Frame} {left : List Frame} {x y z : Lent} {c : Call} {cs : List Call} {a : Answer} → Hands c (encode f) → Calls c x y a → First e left y cs z → First e (f ∷ left) x (c ∷ cs) z
-    aside : {left : List Frame} {x y z : Lent} {c : Call} {cs : List Call} {w : List ℕ} {a : Answer} → Hands c w → Calls c x y a → Aside e w (answer_of y.bytes a) → First e left y cs z → First e left x (c ∷ cs) z
+    aside : {left : List Frame} {x y z : Lent} {c : Call} {cs : List Call} {w : List ℕ} {a : Answer} → Hands c w → Calls c x y a → Aside (spoken x) e w (answer_of y.bytes a) → First e left y cs z → First e left x (c ∷ cs) z
     flushes : {left : List Frame} {x y z : Lent} {cs : List Call} {a : Answer} (n : ℕ) → Calls (flush n) x y a → First e left y cs z → First e left x (flush n ∷ cs) z
     drops : {left : List Frame} {x y z : Lent} {cs : List Call} {a : Answer} (n : ℕ) → Calls (disconnected_from n) x y a → First e left y cs z → First e left x (disconnected_from n ∷ cs) z
 
@@ -81,8 +86,9 @@ module _ (s : Settings) where
     AllTaken (flushes n p rest) = AllTaken rest
     AllTaken (drops {x} n p rest) = cond (eqb n x.counters.connections) (Unit {0}) (AllTaken rest)
 
-  -- the start: A is any session the store can hold; the handle h is bound (b) to the place of session B with nothing held, and hold areas
-  -- have at least C + 22 × M + 122 bytes; the standby is unpromoted; handle, epoch and the numbers of A's batches are of their types
+  -- the start: A is any session the store can hold, whose stamp suits the connection's version; the handle h is bound (b) to the place of session B with
+  -- nothing held, and hold areas have at least C + 22 × M + 122 bytes, or C + 22 × M + 131 for a long stamp; the standby is unpromoted; handle, epoch and
+  -- the numbers of A's batches are of their types
   pub record Start (limit : ℕ) (A B : Session) (k : OwnKey) (h : ℕ) (b : Bound) (x : Lent) : Type 0 where
     pub allowed : Allowed x
     pub A_held : Holdable s.shape.bytes s.shape.messages A
@@ -91,7 +97,8 @@ module _ (s : Settings) where
     pub is_B : session_at (stands_for x).places b.place ≡ some B
     pub its_key : own_key (stands_for x).places b.place ≡ some k
     pub nothing_held : b.held ≡ []
-    pub area : hold_length s.shape.bytes s.shape.messages ≤ room_all x.row x.holds
+    pub suits_so : suits (spoken x) A.stamp ≡ true
+    pub area : hold_length s.shape.bytes s.shape.messages A.stamp ≤ room_all x.row x.holds
     pub handle_u32 : h < 2 ^ 32
     pub epoch_u64 : x.counters.epoch.0 ≤ top
     pub sendable : b.number + length (whole_batches limit A) ≤ top

@@ -2,7 +2,6 @@
 -- function of crate `replica` or `active` has gives of the call: for all arguments, results and areas at exit, in every model in which the contract
 -- may be read. And no contract asks anything of its caller. The contracts themselves are named here, so a weaker `ensures` or a `requires` in
 -- crates/replica/src/lib.rt or crates/active/src/lib.rt breaks this. Assumes nothing.
-use Rattle.std.specs.Prelude.{◌≡◌}
 use base.Logic.{ent, emp}
 use contract.Monad.{fact}
 use contract.Lifetimes.{Lfts}
@@ -17,7 +16,7 @@ use Rattle.model_session.specs.Whole.{batch_limit}
 use Rattle.active.specs.Whole.{Begins, SendsWhole}
 use Rattle.active.specs.contracts.Sending.begin as begin-call
 use Rattle.active.specs.contracts.Sending.send_whole as send_whole
-use Rattle.theorem_whole_copy.specs.Demand.{Lent, Calls}
+use Rattle.theorem_whole_copy.specs.Demand.{Calls}
 
 -- whoever has P knows the plain fact φ; and P is had for nothing
 abbrev pub Gives : (m : World) → Pr m → Type 0 → Type 1
@@ -63,11 +62,11 @@ pub record Joined (m : World) : Type 2 where
   pub disconnected_from_asks_nothing :
       (κs : Lfts (disconnected-from.signature).lifetimes) (a : ArgsD disconnected-from.signature κs) →
       AsksNothing m ((disconnected-from.clauses m.𝓛 m.𝓜.mem m.𝓡.run κs a).requires tt)
-  -- the active's side: a sending begins (shape, words, bytes, place, handle, epoch, last number), and gives its next frame
+  -- the active's side: a sending begins (version, shape, words, bytes, place, handle, epoch, last number), and gives its next frame
   pub begin_gives :
       (κs : Lfts (begin-call.signature).lifetimes) (a : ArgsD begin-call.signature κs) (r : ResD begin-call.signature κs) (e : AtExit begin-call.ended κs) →
       Gives m ((begin-call.clauses m.𝓛 m.𝓜.mem m.𝓡.run κs a).ensures tt r e)
-      (Begins batch_limit a.0 a.1.0.now a.1.1.0.now a.1.1.1.0 a.1.1.1.1.0 a.1.1.1.1.1.0.0 a.1.1.1.1.1.1.0.0 r)
+      (Begins batch_limit a.0 a.1.0 a.1.1.0.now a.1.1.1.0.now a.1.1.1.1.0 a.1.1.1.1.1.0 a.1.1.1.1.1.1.0.0 a.1.1.1.1.1.1.1.0.0 r)
   pub begin_asks_nothing :
       (κs : Lfts (begin-call.signature).lifetimes) (a : ArgsD begin-call.signature κs) →
       AsksNothing m ((begin-call.clauses m.𝓛 m.𝓜.mem m.𝓡.run κs a).requires tt)

@@ -7,7 +7,7 @@ use Rattle.std.proofs.Math.Option.{none, some}
 use Rattle.base_flags.specs.Flag.{is_set}
 use Rattle.model_frame.specs.Frame.{Key, Change, Part, bind, batch}
 use Rattle.model_frame.specs.Refusal
-use Rattle.model_session.specs.Session.{Session, Holdable, top}
+use Rattle.model_session.specs.Session.{Session, Holdable, top, suits}
 use Rattle.model_session.specs.Whole.{whole_batches, hold_length}
 use Rattle.store_areas.specs.declared.Shape.{Shape}
 use Rattle.store_areas.specs.Areas.{places_of}
@@ -25,7 +25,7 @@ use Rattle.standby_state.specs.Answers.{answer_of}
 use Rattle.standby_step.specs.Calls.{room_all}
 use Rattle.active.specs.declared.Sending.{Sending}
 use Rattle.active.specs.Whole.{SendsWhole, SentWhole}
-use Rattle.theorem_whole_copy.specs.Demand.{Lent, stands_for, Allowed, Calls, Runs, no_calls, call, First, frames_of_a, Claim}
+use Rattle.theorem_whole_copy.specs.Demand.{Lent, stands_for, spoken, Allowed, Calls, Runs, no_calls, call, First, frames_of_a, Claim}
 
 module _ (s : Settings) where
   -- the call c, from x to y with the answer a, hands in a Bind of the handle h on the key k, and it is accepted
@@ -34,14 +34,14 @@ module _ (s : Settings) where
     pub epoch : ℕ
     pub lag : ℕ
     pub hands : Hands c bytes
-    pub reads : given bytes ≡ intact (bind h epoch lag k)
+    pub reads : given (spoken x) bytes ≡ intact (bind h epoch lag k)
     pub called : Calls s c x y a
     pub is_accepted : T (accepted (answer_of y.bytes a))
 
   -- g is bound again: a Bind of g among the calls is accepted
   abbrev pub bound_again : ℕ → {x z : Lent} {cs : List Call} → Runs s x cs z → Bool
   bound_again g no_calls = false
-  bound_again g (call {y} {c} {a} p rest) = calls_bind g c && accepted (answer_of y.bytes a) || bound_again g rest
+  bound_again g (call {x} {y} {c} {a} p rest) = calls_bind (spoken x) g c && accepted (answer_of y.bytes a) || bound_again g rest
 
   -- an accepted Bind, the call c from x to y, took the session of the handle g, which was bound (b)
   pub record Removed (x y : Lent) (c : Call) (g : ℕ) (b : Bound) : Type 0 where
@@ -49,7 +49,7 @@ module _ (s : Settings) where
     pub unbound_so : (cs : List Call) (z : Lent) (r : Runs s y cs z) → bound_again g r ≡ false → find g (stands_for s z).handles ≡ none
     -- and a Batch on it (unpromoted, without application records, not stale) is 14;
     pub batch_is_14 : (cs : List Call) (z : Lent) (r : Runs s y cs z) → bound_again g r ≡ false → is_set z.counters.promoted ≡ false
-        → (d : Call) (w : List ℕ) (e n : ℕ) (p : Part) (own : List Change) → Hands d w → given w ≡ intact (batch g e n p own []) → z.counters.epoch.0 ≤ e
+        → (d : Call) (w : List ℕ) (e n : ℕ) (p : Part) (own : List Change) → Hands d w → given (spoken z) w ≡ intact (batch g e n p own []) → z.counters.epoch.0 ≤ e
         → (u : Lent) (a : Answer) → Calls s d z u a → answer_of u.bytes a ≡ refused Refusal.unbound
     -- what g held, its byte sum and its number are nothing to what comes, also when it is bound again: from areas that stand for the same but for these the run
     -- is the same,
@@ -81,5 +81,5 @@ module _ (s : Settings) where
     pub removes : (c : Call) (h g : ℕ) (k : Key) (b : Bound) (y : Lent) (a : Answer) → Binds x y c a h k → eqb h g ≡ false → find g (stands_for s x).handles ≡ some b
         → b.place ≡ place_of k (stands_for s x).places → Removed x y c g b
     pub sent_to_new : (limit : ℕ) (A : Session) (c : Call) (h : ℕ) (k : Key) (y : Lent) (a : Answer) → Binds x y c a h k → Holdable s.shape.bytes s.shape.messages A
-        → hold_length s.shape.bytes s.shape.messages ≤ room_all x.row x.holds → h < 2 ^ 32 → x.counters.epoch.0 ≤ top → length (whole_batches limit A) ≤ top
+        → suits (spoken x) A.stamp ≡ true → hold_length s.shape.bytes s.shape.messages A.stamp ≤ room_all x.row x.holds → h < 2 ^ 32 → x.counters.epoch.0 ≤ top → length (whole_batches limit A) ≤ top
         → SentToNew limit A (or_new (session_at (stands_for s x).places (place_of k (stands_for s x).places))) k h (place_of k (stands_for s x).places) y

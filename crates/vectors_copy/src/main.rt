@@ -1,9 +1,9 @@
 // Sends a session A whole from one store to a standby over another, whose session is B, and damages, repeats and drops frames on the
 // way. After each frame that the standby is given it writes the answer (kind, refusal, reason) and which session the standby then has: A,
 // B or neither, by a hash over all six parts. What it must write was recorded from the Rust by tests/make/copy_vectors.py, which also wrote
-// the script. A line is a letter, a character, and what it takes:
+// the script, and what it must write in version 2. A line is a letter, a character, and what it takes:
 // `n S C M` two new stores of S places and a new standby, `o:TEXT` opens A with this target; a change of A as vectors_fill has them;
-// `h:DIGITS` a frame for the standby; `w HANDLE EPOCH LAST` begins the sending: what the standby has now is B;
+// `h:DIGITS` a frame for the standby; `w HANDLE EPOCH LAST` begins the sending in the version that the standby's connection speaks: what the standby has now is B;
 // `f` takes the next frame; `=` gives it to the standby; `x AT N` gives it with N added to its byte AT.
 // The areas and their shape are not one struct, as in vectors_fill.
 #![tactic(auto)]
@@ -11,6 +11,7 @@
 use active::Sending;
 use frame_fields::{CommitNumber, Epoch, Incarnation, Summary};
 use frame_reader::Span;
+use frame_stamp::Protocol;
 use standby_row::Bound;
 use standby_state::{Answer, Replica, Settings};
 use std::io;
@@ -37,6 +38,7 @@ impl Way {
             replica: replica::new(),
             row: [standby_row::free_record(); 4],
             sending: Sending {
+                version: Protocol::FIRST,
                 place: 0,
                 handle: 0,
                 epoch: Epoch(0),
@@ -167,16 +169,29 @@ fn hand_with(
 }
 
 // Begins the sending; `before` is B's hash.
-fn begin(line: &[u8], words: &[u64], bytes: &[u8], way: Way, before: Option<u64>) -> Way {
+fn begin(
+    rt: &impl Print,
+    line: &[u8],
+    words: &[u64],
+    bytes: &[u8],
+    way: Way,
+    before: Option<u64>,
+) -> io::Result<Way> {
     let mut numbers = vectors_script::words(line);
+    let version = Protocol::of_byte(way.replica.version2).number();
     let handle = small(&mut numbers);
     let epoch = Epoch(number(&mut numbers));
     let last = CommitNumber(number(&mut numbers));
-    let begun = Sending::begin(way.shape, words, bytes, 0, handle, epoch, last);
-    Way {
-        sending: begun.unwrap_or(way.sending),
-        before,
-        ..way
+    match Sending::begin(version, way.shape, words, bytes, 0, handle, epoch, last) {
+        Ok(sending) => Ok(Way {
+            sending,
+            before,
+            ..way
+        }),
+        Err(refusal) => {
+            vectors_script::print_refusal(rt, refusal.number())?;
+            Ok(way)
+        }
     }
 }
 
@@ -228,7 +243,7 @@ fn command(
     let rest = vectors_script::rest(line);
     match line.first() {
         Some(b'n') => Ok(make(rest, words_a, bytes_a, words_b, bytes_b)),
-        Some(b'w') => Ok(begin(rest, words_a, bytes_a, way, hash(words_b, bytes_b, shape))),
+        Some(b'w') => begin(rt, rest, words_a, bytes_a, way, hash(words_b, bytes_b, shape)),
         Some(b'f') => take(rt, words_a, bytes_a, out, way),
         Some(b'h') => hand_digits(rt, rest, words_b, bytes_b, holds, way, a),
         Some(b'=') => hand_with(rt, 0, 0, out, words_b, bytes_b, holds, way, a),
