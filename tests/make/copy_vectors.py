@@ -195,10 +195,11 @@ go(MIDDLE, FOUR, OLD, ["w 1", "f", "h " + OTHER, "=", "W 0 4", "f", "=", "f", "=
 go(MIDDLE, FOUR, OLD, ["W 1", "f", "=", "f", "=", "w 2", "f", "="], "B")
 go(MIDDLE, FOUR, OLD, ["W 1", "f", "=", "f", "=", "w 3", "f", "=", "f"], "A")
 
-# ---- version 2: each step with what must be written for it, by document 02
+# ---- version 2 on both lines: each step with what must be written for it, by document 02
 LONG, WIDE = "t:20261115-12:00:00.123456789012", "t:20261115-12:00:00.123456"
 FIRST, LATEST = (f"h:{hello(version, EPOCH).hex()}" for version in (1, 2))
-MADE, BOUND, BEGIN = ["n 2 200 16", "o:B"], f"h:{BIND}", f"w 3 {EPOCH} 0"
+MADE, BOUND = ["n 2 200 16", "o:B"], f"h:{BIND}"
+BEGIN = f"w 3 {EPOCH} 0"
 VERSIONS: list[tuple[str, str | None]] = [
     # a session with a stamp of 30 bytes, sent whole in version 2
     *((line, None) for line in (*MADE, LONG, "m:one")),
@@ -211,8 +212,9 @@ VERSIONS: list[tuple[str, str | None]] = [
     *((line, None) for line in (*MADE, "t:20261115-12:00:00")),
     (FIRST, "2/0/0"), (BOUND, "7/0/0"), (BEGIN, None), (WIDE, None), ("f", "R 32"), ("t:20261115-12:00:00.123", None), ("f", None), ("=", "5/0/0 A"), ("f", "done"),
 ]
-script.extend(step for step, said in VERSIONS)
-wanted.extend(said for step, said in VERSIONS if said is not None)
+for line in "wW":
+    script.extend(line + step[1:] if step == BEGIN else step for step, said in VERSIONS)
+    wanted.extend(said for step, said in VERSIONS if said is not None)
 
 write("crates/vectors_copy/stdin", joined(script))
 write("crates/vectors_copy/stdout", joined(wanted))
