@@ -84,8 +84,8 @@ module _ (line : Line) where
   pub on_line : OnLine line limit
   on_line =
       record {
-        numbers_past = λ version shape w b i h e last a r q p. answered version shape w b i h e last a q ∙ past limit version a i h e last q.known q.suited p;
-        numbers_fit = λ version shape w b i h e last a r q p. answered version shape w b i h e last a q ∙ fit limit version a i h e last q.known q.suited p;
+        numbers_past = λ version shape w b i h e last a r q v u p. answered version shape w b i h e last a q ∙ past limit version a i h e last v u p;
+        numbers_fit = λ version shape w b i h e last a r q v u p. answered version shape w b i h e last a q ∙ fit limit version a i h e last v u p;
         own_frames = λ version shape w b i h e last a s t fs q calls. own version shape w b i h e last a s t fs q calls;
         demand_3 = λ set A B k h b x start cs z d. demand_3 set limit A B k h b x start cs z d;
         ends_in_A = λ set A B k h b x start version shape w a i s t fs out out' q calls said z r.

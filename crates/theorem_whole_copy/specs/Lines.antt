@@ -29,22 +29,20 @@ pub data LineCalls (shape : Shape) (w b : List ℕ) : Sending → List (List ℕ
   frame : {s s' t : Sending} {fs : List (List ℕ)} {out out' : List ℕ} {len : ℕ} → SendsWhole (limit_of s.line) shape w b s out out' (Ok (Some (record { len = len; next = s' })))
       → LineCalls shape w b s' fs t → LineCalls shape w b s (take len out' ∷ fs) t
 
--- a session that is stored at a place, and that the version suits: what `begin` answers on a line
+-- what `begin` answers on a line, of a session that is stored at a place of areas of u64 and u8
 pub record Asked (line : Line) (version : ℕ) (shape : Shape) (w b : List ℕ) (i h e last : ℕ) (a : Session) (r : Result Sending why.Refusal) : Type 0 where
   pub words_u64 : Small (2 ^ 64) w
   pub bytes_u8 : Small 256 b
   pub stored : stored_at shape w b i ≡ some a
-  pub known : is_version version ≡ true
-  pub suited : suits version a.stamp ≡ true
   pub begins : Begins (limit_of line) line version shape w b i h e last r
 
 -- WHAT HOLDS ON A LINE whose limit this is
 pub record OnLine (line : Line) (limit : ℕ) : Type 0 where
-  -- 24 is judged by the number of batches at this limit
+  -- in a version that there is and that the stamp suits, 24 is judged by the number of batches at this limit
   pub numbers_past : (version : ℕ) (shape : Shape) (w b : List ℕ) (i h e last : ℕ) (a : Session) (r : Result Sending why.Refusal) → Asked line version shape w b i h e last a r
-      → top < last + length (whole_batches limit a) → start_of r ≡ SendStart.refused Refusal.numbers_past
+      → is_version version ≡ true → suits version a.stamp ≡ true → top < last + length (whole_batches limit a) → start_of r ≡ SendStart.refused Refusal.numbers_past
   pub numbers_fit : (version : ℕ) (shape : Shape) (w b : List ℕ) (i h e last : ℕ) (a : Session) (r : Result Sending why.Refusal) → Asked line version shape w b i h e last a r
-      → last + length (whole_batches limit a) ≤ top → start_of r ≡ ready i version (new_sender h e last)
+      → is_version version ≡ true → suits version a.stamp ≡ true → last + length (whole_batches limit a) ≤ top → start_of r ≡ ready i version (new_sender h e last)
   -- its own frames: what began on the line stays on it, and calls come to the frames that send the session whole at this limit
   pub own_frames : (version : ℕ) (shape : Shape) (w b : List ℕ) (i h e last : ℕ) (a : Session) (s t : Sending) (fs : List (List ℕ)) → Asked line version shape w b i h e last a (Ok s)
       → LineCalls shape w b s fs t → (t.line ≡ line) × SentWhole limit shape w b a h e last fs t

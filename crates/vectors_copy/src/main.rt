@@ -3,12 +3,13 @@
 // B or neither, by a hash over all six parts. What it must write was recorded from the Rust by tests/make/copy_vectors.py, which also wrote
 // the script, and what it must write in version 2. A line is a letter, a character, and what it takes:
 // `n S C M` two new stores of S places and a new standby, `o:TEXT` opens A with this target; a change of A as vectors_fill has them;
-// `h:DIGITS` a frame for the standby; `w HANDLE EPOCH LAST` begins the sending in the version that the standby's connection speaks: what the standby has now is B;
+// `h:DIGITS` a frame for the standby; `w HANDLE EPOCH LAST` begins the sending in the version that the standby's connection speaks, `W` on the branch line: what the
+// standby has now is B;
 // `f` takes the next frame; `=` gives it to the standby; `x AT N` gives it with N added to its byte AT.
 // The areas and their shape are not one struct, as in vectors_fill.
 #![tactic(auto)]
 
-use active::Sending;
+use active::{Line, Sending};
 use frame_fields::{CommitNumber, Epoch, Incarnation, Summary};
 use frame_reader::Span;
 use frame_stamp::Protocol;
@@ -44,6 +45,7 @@ impl Way {
                 epoch: Epoch(0),
                 last: CommitNumber(0),
                 from: None,
+                line: Line::HeadOffice,
             },
             len: 0,
             before: None,
@@ -168,9 +170,10 @@ fn hand_with(
     Ok(next)
 }
 
-// Begins the sending; `before` is B's hash.
+// Begins the sending on a line; `before` is B's hash.
 fn begin(
     rt: &impl Print,
+    on: Line,
     line: &[u8],
     words: &[u64],
     bytes: &[u8],
@@ -182,7 +185,7 @@ fn begin(
     let handle = small(&mut numbers);
     let epoch = Epoch(number(&mut numbers));
     let last = CommitNumber(number(&mut numbers));
-    match Sending::begin(version, way.shape, words, bytes, 0, handle, epoch, last) {
+    match Sending::begin(on, version, way.shape, words, bytes, 0, handle, epoch, last) {
         Ok(sending) => Ok(Way {
             sending,
             before,
@@ -243,7 +246,8 @@ fn command(
     let rest = vectors_script::rest(line);
     match line.first() {
         Some(b'n') => Ok(make(rest, words_a, bytes_a, words_b, bytes_b)),
-        Some(b'w') => begin(rt, rest, words_a, bytes_a, way, hash(words_b, bytes_b, shape)),
+        Some(b'w') => begin(rt, Line::HeadOffice, rest, words_a, bytes_a, way, hash(words_b, bytes_b, shape)),
+        Some(b'W') => begin(rt, Line::Branch, rest, words_a, bytes_a, way, hash(words_b, bytes_b, shape)),
         Some(b'f') => take(rt, words_a, bytes_a, out, way),
         Some(b'h') => hand_digits(rt, rest, words_b, bytes_b, holds, way, a),
         Some(b'=') => hand_with(rt, 0, 0, out, words_b, bytes_b, holds, way, a),
