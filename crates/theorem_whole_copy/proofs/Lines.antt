@@ -1,7 +1,7 @@
 -- What holds of a sending on each line: the theorems for every limit, used for the line's own; and a start on the branch line whose session takes at least two
 -- batches. Assumes nothing.
 use mathlib.Core.Path.{◌≡◌, refl, sym, ap, subst, ◌∙◌}
-use mathlib.Core.Bool.{Bool, true, false, cond, not, ◌&&◌}
+use mathlib.Core.Bool.{Bool, true, false, cond, ◌&&◌, false≢true}
 use mathlib.Core.List.{List, [], ◌∷◌, ◌++◌}
 use mathlib.Core.Option.{Option, none, some, map}
 use Prim.Native.Nat.{ℕ, zero, suc, ◌+◌, ◌≤◌, ◌<◌}
@@ -16,7 +16,7 @@ use Rattle.model_session.specs.Session.{Session, Msg, Holdable, top, suits, is_b
 use Rattle.model_session.specs.Sender.{new_sender, cannot_send}
 use Rattle.model_session.specs.Whole.{whole_batches, batches_from, branch_limit, stamp_part, send_msg, batch_if}
 use Rattle.standby_row.specs.declared.Bound.{Bound as BoundRecord}
-use Rattle.standby_row.specs.Row.{apart_of, broken_of}
+use Rattle.standby_row.specs.Row.{apart_of, broken_of, zero_or_next}
 use Rattle.store_areas.specs.declared.Shape.{Shape}
 use Rattle.store_areas.specs.Areas.{place_at, places_of, Rules}
 use Rattle.store_areas.proofs.Ruling.{rules_true}
@@ -27,6 +27,7 @@ use Rattle.model_standby.specs.State.{Bound}
 use Rattle.model_standby.proofs.Places.{own_made}
 use Rattle.standby_part.specs.State.{bound_of}
 use Rattle.standby_state.specs.declared.Settings.{Settings}
+use Rattle.standby_step.specs.Steps.{room_of}
 use Rattle.standby_step.specs.Calls.{room_all}
 use Rattle.std.specs.Prelude.{None, Result, Ok}
 use Rattle.base_refusals.specs.declared.Refusal.{Refusal}
@@ -49,7 +50,7 @@ module _ (shape : Shape) (w b : List ℕ) where
   stay : {s t : Sending} {fs : List (List ℕ)} → LineCalls shape w b s fs t → Stayed s fs t
   stay nothing = record { line = refl; calls = whole.SendCalls.nothing }
   stay (too_short p q) = let m = stay q in record { line = m.line; calls = whole.SendCalls.too_short p m.calls }
-  stay (frame {s = s} {s' = s'} {t = t} {fs = fs} p q) =
+  stay {s} {t} (frame {s' = s'} {fs = fs} p q) =
       let m = stay q in
       record { line = m.line ∙ p.stays_on; calls = whole.SendCalls.frame p (subst (λ (l : Line). SendCalls (limit_of l) shape w b s' fs t) p.stays_on m.calls) }
 
@@ -81,7 +82,7 @@ module _ (line : Line) where
           (subst (λ (l : Line). SendCalls (limit_of l) shape w b s fs t) q.begins.begun_on m.calls)
         )
 
-  pub on_line : OnLine line limit
+  pub on_line : OnLine line (limit_of line)
   on_line =
       record {
         numbers_past = λ version shape w b i h e last a r q v u p. answered version shape w b i h e last a q ∙ past limit version a i h e last v u p;
@@ -124,18 +125,24 @@ module _ (limit : ℕ) (a : Session) where
       (few (cond (ltb limit bytes) [] now ++ send_msg next m) (cond (ltb limit bytes) 0 bytes + length m.text) (suc m.num) ms)
 
   full_before : (now : List Change) (bytes next : ℕ) (m : Msg) (ms : List Msg) → limit < bytes → 2 ≤ length (batches_from limit a now bytes next (m ∷ ms))
-  full_before now bytes next m ms h = rw (lt-ltb limit bytes h) (omega (arith, at_least_one (send_msg next m) (length m.text) (suc m.num) ms))
+  full_before now bytes next m ms h = go (ltb limit bytes) (lt-ltb limit bytes h)
+    where
+      go : (t : Bool) → t ≡ true → 2 ≤ length (batch_if t now (batches_from limit a (cond t [] now ++ send_msg next m) (cond t 0 bytes + length m.text) (suc m.num) ms))
+      go true e = omega (arith, at_least_one (cond true [] now ++ send_msg next m) (cond true 0 bytes + length m.text) (suc m.num) ms)
+      go false e = absurd (false≢true e)
 
   two_from : (now : List Change) (next : ℕ) (m n : Msg) (ms : List Msg) → limit < length m.text → 2 ≤ length (batches_from limit a now 0 next (m ∷ n ∷ ms))
   two_from now next m n ms h = go (ltb limit 0)
     where
       go : (t : Bool) → 2 ≤ length (batch_if t now (batches_from limit a (cond t [] now ++ send_msg next m) (cond t 0 0 + length m.text) (suc m.num) (n ∷ ms)))
-      go true = grown true 2 now (batches_from limit a (send_msg next m) (0 + length m.text) (suc m.num) (n ∷ ms)) (full_before (send_msg next m) (0 + length m.text) (suc m.num) n ms (omega arith))
-      go false = full_before (now ++ send_msg next m) (0 + length m.text) (suc m.num) n ms (omega arith)
+      go true =
+          grown true 2 now (batches_from limit a (cond true [] now ++ send_msg next m) (cond true 0 0 + length m.text) (suc m.num) (n ∷ ms))
+          (full_before (cond true [] now ++ send_msg next m) (cond true 0 0 + length m.text) (suc m.num) n ms (omega (arith, h)))
+      go false = full_before (cond false [] now ++ send_msg next m) (cond false 0 0 + length m.text) (suc m.num) n ms (omega (arith, h))
 
   pub two_batches : (m n : Msg) (ms : List Msg) → a.messages ≡ m ∷ n ∷ ms → limit < length m.text → 2 ≤ length (whole_batches limit a)
   unfolding whole_batches
-  two_batches m n ms e h = rw e (two_from (reset ∷ stamp_part a.stamp) 1 m n ms h)
+  two_batches m n ms e h = subst (λ (l : List Msg). 2 ≤ length (batches_from limit a (reset ∷ stamp_part a.stamp) 0 1 l)) (sym e) (two_from (reset ∷ stamp_part a.stamp) 1 m n ms h)
 
   pub few_batches : length (whole_batches limit a) ≤ suc (length a.messages)
   unfolding whole_batches
@@ -151,7 +158,10 @@ abbrev h₂ : BoundRecord
 h₂ = record { used = 1; handle = 9; place = 0; commit_no = record { 0 = 7 }; held_len = 0; held_bytes = 0 }
 
 row_kept : (room : ℕ) → (apart_of (h₂ ∷ []) && leb 1 (broken_of (h₂ ∷ []) 1 room)) ≡ true
-row_kept room = rw (le-ltb room 0 (omega arith)) refl
+row_kept room = ap (λ (t : Bool). leb 1 (zero_or_next t 0)) (le-ltb room 0 (omega arith))
+
+room_one : (n : ℕ) → n ≤ room_of n 1
+room_one n = omega arith
 
 module _ (limit : ℕ) (under : limit < 33554432) where
   abbrev size : ℕ
@@ -197,7 +207,7 @@ module _ (limit : ℕ) (under : limit < 33554432) where
   rules₂ : Rules s₂.shape x₂.words x₂.bytes
   rules₂ =
       record {
-        room = record { bytes_limit = omega arith; messages_limit = omega arith; words_long = omega arith; bytes_long = omega (arith, length-replicate (224 + size) 0) };
+        room = record { bytes_limit = omega (arith, under); messages_limit = omega arith; words_long = omega arith; bytes_long = omega (arith, length-replicate (224 + size) 0) };
         used = omega arith;
         pending = omega arith;
       }
@@ -215,7 +225,7 @@ module _ (limit : ℕ) (under : limit < 33554432) where
             (ap (map (λ (p : Place). p.key)) (place_is s₂.shape x₂.words x₂.bytes 0 (omega arith))) refl;
         nothing_held = held_none latest [] (omega arith);
         suits_so = refl;
-        area = omega (arith, length-replicate (166 + size) 0);
+        area = omega (arith, length-replicate (166 + size) 0, room_one (length x₂.holds));
         handle_u32 = omega arith;
         epoch_u64 = omega arith;
         sendable = omega (arith, few_batches limit A₂);
