@@ -11,7 +11,7 @@ use Rattle.model_frame.specs.Frame.{Frame}
 use Rattle.model_frame.specs.Writing.{encode}
 use Rattle.model_session.specs.Session.{Session, top, suits}
 use Rattle.model_session.specs.Sender.{Sender, new_sender, send_next, cannot_send}
-use Rattle.model_session.specs.Whole.{whole_frames, longest_like, batch_limit, branch_limit}
+use Rattle.model_session.specs.Whole.{whole_frames, longest_like, batch_limit}
 use Rattle.model_standby.specs.Store.{session_at}
 use Rattle.store_areas.specs.declared.Shape.{Shape}
 use Rattle.store_areas.specs.Areas.{allowed, places_of}
@@ -19,6 +19,10 @@ use Rattle.active_batch.specs.Batch.{number_or_none}
 use Rattle.active.specs.declared.Line.{Line}
 use Rattle.active.specs.declared.Sending.{Sending}
 use Rattle.active.specs.declared.Sent.{Sent}
+
+-- a batch with more message bytes than these is full on a branch line, which takes smaller frames
+abbrev pub branch_limit : ℕ
+branch_limit = 16384
 
 -- the message bytes above which a batch is full, on each line: what is said below of any limit is used for these two
 abbrev pub limit_of : Line → ℕ

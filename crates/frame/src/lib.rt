@@ -208,6 +208,7 @@ fn read_body(reader: &mut Reader, protocol: Protocol) -> Result<Frame, FrameErro
 impl Frame {
     // The version of the wire form until a Hello is accepted, and the latest one.
     pub const VERSION: u16 = Protocol::FIRST;
+
     pub const LATEST_VERSION: u16 = Protocol::LATEST;
     // The longest body.
     pub const MAX_FRAME_BYTES: u32 = frame_writer::MAX_FRAME_BYTES;

@@ -8,9 +8,7 @@ use native.Mathlib.Omega.{arith}
 use native.Mathlib.Numerals.{add-one}
 use lib.ListN.{length, drop, get_or, drop_of_length-le}
 use lib.Seq.{drop-cons}
-use Rattle.model_text.specs.Stamp.{Pattern, matches, date, clock, fraction, has_digits, day_exists, is_short, is_stamp, takes_stamp}
-use Rattle.model_text.specs.Version.{latest}
-use Rattle.model_text.proofs.Laws.{short_keeps, short_by, short_most}
+use Rattle.model_text.specs.Stamp.{Pattern, matches, date, clock, fraction, has_digits, day_exists, is_stamp}
 use Rattle.model_text.proofs.Form.{size_of, not_long}
 use Rattle.frame_stamp.specs.Places.{slice_at}
 

@@ -6,12 +6,9 @@ use Rattle.model_text.specs.Stamp.{longest_stamp, longest_short}
 use Rattle.model_frame.specs.Frame.{Change, set_incoming, set_incoming_in_flight, record_msg, record_bare, reset, set_created_at, set_marks, Frame, batch, whole, last_whole}
 use Rattle.model_session.specs.Session.{Session, Msg}
 
--- a batch with more message bytes than these is full: on a head office's line, and on a branch line
+-- a batch with more message bytes than these is full
 abbrev pub batch_limit : ℕ
 batch_limit = 1048576
-
-abbrev pub branch_limit : ℕ
-branch_limit = 16384
 
 -- the stamp if any
 abbrev pub stamp_part : List ℕ → List Change

@@ -189,68 +189,68 @@ module _ (s : Settings) (c : Replica) (seen : Lookup) (row : List Bound) (h e la
 
     -- and of a lag that is not too great, with what was found of the places
     module _ (small : lag ≤ s.max_lag) {seen_at : RustOption ℕ} (at : seen_at ≡ stored_place k places) {suit : Bool} (suit_is : suit ≡ Suits) where
-     pub long_stamp : {o : Outcome} → suit ≡ false → o ≡ leaving c (is_refused 32) → BindIs s c seen row h e lag k w w b b o
-     long_stamp off e =
-         as_left e refl refl (exact_refused b 32)
-         (λ room. sym (first room ∙ (λ j. Tests false (le-ltb s.max_lag lag small j) ((sym suit_is ∙ off) j) (is_stored k places || ltb (length places) s.shape.places) Room)))
+      pub long_stamp : {o : Outcome} → suit ≡ false → o ≡ leaving c (is_refused 32) → BindIs s c seen row h e lag k w w b b o
+      long_stamp off e =
+          as_left e refl refl (exact_refused b 32)
+          (λ room. sym (first room ∙ (λ j. Tests false (le-ltb s.max_lag lag small j) ((sym suit_is ∙ off) j) (is_stored k places || ltb (length places) s.shape.places) Room)))
 
-     module _ (taken : suit ≡ true) {has : Bool} (found : has ≡ (is_some seen_at || ltb (get_or w 0 0) s.shape.places)) where
-      same : has ≡ (is_stored k places || ltb (length places) s.shape.places)
-      same =
-          let count : get_or w 0 0 ≡ length places = sym (places_length s.shape w b) in
-          found ∙ (λ j. is_found k places refl at j || ltb (count j) s.shape.places)
+      module _ (taken : suit ≡ true) {has : Bool} (found : has ≡ (is_some seen_at || ltb (get_or w 0 0) s.shape.places)) where
+        same : has ≡ (is_stored k places || ltb (length places) s.shape.places)
+        same =
+            let count : get_or w 0 0 ≡ length places = sym (places_length s.shape w b) in
+            found ∙ (λ j. is_found k places refl at j || ltb (count j) s.shape.places)
 
-      second : (room : ℕ) → Bind room ≡ Tests false false true has Room
-      second room =
-          first room
-          ∙ (λ j. Tests false (le-ltb s.max_lag lag small j) ((sym suit_is ∙ taken) j) (sym same j) Room)
+        second : (room : ℕ) → Bind room ≡ Tests false false true has Room
+        second room =
+            first room
+            ∙ (λ j. Tests false (le-ltb s.max_lag lag small j) ((sym suit_is ∙ taken) j) (sym same j) Room)
 
-      pub all_places : {o : Outcome} → has ≡ false → o ≡ leaving c (is_refused 20) → BindIs s c seen row h e lag k w w b b o
-      all_places full e = as_left e refl refl (exact_refused b 20) (λ room. sym (second room ∙ ap (λ (t : Bool). Tests false false true t Room) full))
+        pub all_places : {o : Outcome} → has ≡ false → o ≡ leaving c (is_refused 20) → BindIs s c seen row h e lag k w w b b o
+        all_places full e = as_left e refl refl (exact_refused b 20) (λ room. sym (second room ∙ ap (λ (t : Bool). Tests false false true t Room) full))
 
-      -- and with a session place
-      module _ (some-place : has ≡ true) {freed : RustOption ℕ} (freed_is : freed ≡ rival_of row h (unwrap_or seen_at (get_or w 0 0))) {free : Bool} (fits : free ≡ room_for seen freed) where
-        -- the place that the session has, or will have
-        asked : (o : RustOption ℕ) → o ≡ stored_place k places → unwrap_or o (get_or w 0 0) ≡ place_of k places
-        asked (Some i) e = (stored_at k places e).1
-        asked None e = newly_at s.shape k w b r e
+        -- and with a session place
+        module _ (some-place : has ≡ true) {freed : RustOption ℕ} (freed_is : freed ≡ rival_of row h (unwrap_or seen_at (get_or w 0 0))) {free : Bool} (fits : free ≡ room_for seen freed) where
+          -- the place that the session has, or will have
+          asked : (o : RustOption ℕ) → o ≡ stored_place k places → unwrap_or o (get_or w 0 0) ≡ place_of k places
+          asked (Some i) e = (stored_at k places e).1
+          asked None e = newly_at s.shape k w b r e
 
-        rival_is : freed ≡ rival_of row h (place_of k places)
-        rival_is = freed_is ∙ ap (rival_of row h) (asked seen_at at)
+          rival_is : freed ≡ rival_of row h (place_of k places)
+          rival_is = freed_is ∙ ap (rival_of row h) (asked seen_at at)
 
-        third : (room : ℕ) → Bind room ≡ Tests false false true true free
-        third room = second room ∙ (λ j. Tests false false true (some-place j) (sym (fits ∙ ap (room_for seen) rival_is) j))
+          third : (room : ℕ) → Bind room ≡ Tests false false true true free
+          third room = second room ∙ (λ j. Tests false false true (some-place j) (sym (fits ∙ ap (room_for seen) rival_is) j))
 
-        pub all_handles : {o : Outcome} → free ≡ false → o ≡ leaving c (is_refused 21) → BindIs s c seen row h e lag k w w b b o
-        all_handles full e = as_left e refl refl (exact_refused b 21) (λ room. sym (third room ∙ ap (Tests false false true true) full))
+          pub all_handles : {o : Outcome} → free ≡ false → o ≡ leaving c (is_refused 21) → BindIs s c seen row h e lag k w w b b o
+          all_handles full e = as_left e refl refl (exact_refused b 21) (λ room. sym (third room ∙ ap (Tests false false true true) full))
 
-        pub binds : {place : ℕ} {w' b' : List ℕ} {o : Outcome} {a : Answer} {m : BoundSummary} {g : Bound} → free ≡ true → place ≡ place_of k places → BindOpens s.shape k w w' b b'
-            → ExactSummary b' m → brief_of b' m ≡ summary (place_at s.shape w' b' place).stored.session lag → a ≡ is_bound h m → g ≡ new_handle h place → o ≡ rebinding c seen freed a g → BindIs s c seen row h e lag k w w' b b' o
-        binds {place} {w'} {b'} {m = m} has_room at op is-exact brief e₁ e₂ e₃ =
-            subst (BindIs s c seen row h e lag k w w' b b') (sym (e₃ ∙ (λ j. rebinding c seen freed (e₁ j) (e₂ j)))) (record {
-              is = λ version room holds.
-                  let area : List ℕ = area_at room (spot_of seen freed) holds in
-                  let held : held_run version (take 0 area) ≡ [] = held_none version (take 0 area) (omega (arith, length-take 0 area)) in
-                  let says : brief_of b' m ≡ summary (or_new (session_at places (place_of k places))) lag =
-                  brief ∙ ap (λ (i : ℕ). summary (place_at s.shape w' b' i).stored.session lag) at ∙ ap (λ (x : Session). summary x lag) op.session in
-                  (λ j. record {
-                    core = record { counters = counters_of c; places = op.places j; pending = op.pending j };
-                    action = rebind h (record { place = at j; number = 0; held = held j; bytes = 0 });
-                    answer = reply (bound h (says j));
-                  })
-                  ∙ sym (third room ∙ ap (Tests false false true true) has_room);
-              lands = λ room area. record {
-                freed_is = rival_is ∙ ap (rival_of row h) (sym at);
-                at_is = refl;
-                slot_is = λ y. (λ j. record { used = 1; handle = h; place = place; commit_no = record { 0 = 0 }; held_len = sym (ap sizes (held_none latest (take 0 y) (omega (arith, length-take 0 y)))) j; held_bytes = 0 });
-                slot_place = subst (λ (i : ℕ). i < get_or w' 0 0) (sym at) op.there;
-                holds_none = refl;
-              };
-              rules = op.rules;
-              more = op.more;
-              store_after = op.store_after;
-              exact = exact_bound b' h m is-exact;
-            })
+          pub binds : {place : ℕ} {w' b' : List ℕ} {o : Outcome} {a : Answer} {m : BoundSummary} {g : Bound} → free ≡ true → place ≡ place_of k places → BindOpens s.shape k w w' b b'
+              → ExactSummary b' m → brief_of b' m ≡ summary (place_at s.shape w' b' place).stored.session lag → a ≡ is_bound h m → g ≡ new_handle h place → o ≡ rebinding c seen freed a g → BindIs s c seen row h e lag k w w' b b' o
+          binds {place} {w'} {b'} {m = m} has_room at op is-exact brief e₁ e₂ e₃ =
+              subst (BindIs s c seen row h e lag k w w' b b') (sym (e₃ ∙ (λ j. rebinding c seen freed (e₁ j) (e₂ j)))) (record {
+                is = λ version room holds.
+                    let area : List ℕ = area_at room (spot_of seen freed) holds in
+                    let held : held_run version (take 0 area) ≡ [] = held_none version (take 0 area) (omega (arith, length-take 0 area)) in
+                    let says : brief_of b' m ≡ summary (or_new (session_at places (place_of k places))) lag =
+                    brief ∙ ap (λ (i : ℕ). summary (place_at s.shape w' b' i).stored.session lag) at ∙ ap (λ (x : Session). summary x lag) op.session in
+                    (λ j. record {
+                      core = record { counters = counters_of c; places = op.places j; pending = op.pending j };
+                      action = rebind h (record { place = at j; number = 0; held = held j; bytes = 0 });
+                      answer = reply (bound h (says j));
+                    })
+                    ∙ sym (third room ∙ ap (Tests false false true true) has_room);
+                lands = λ room area. record {
+                  freed_is = rival_is ∙ ap (rival_of row h) (sym at);
+                  at_is = refl;
+                  slot_is = λ y. (λ j. record { used = 1; handle = h; place = place; commit_no = record { 0 = 0 }; held_len = sym (ap sizes (held_none latest (take 0 y) (omega (arith, length-take 0 y)))) j; held_bytes = 0 });
+                  slot_place = subst (λ (i : ℕ). i < get_or w' 0 0) (sym at) op.there;
+                  holds_none = refl;
+                };
+                rules = op.rules;
+                more = op.more;
+                store_after = op.store_after;
+                exact = exact_bound b' h m is-exact;
+              })
 
   -- of the store as it was handed back
   pub binds_in : {w₁ b₁ w' b' : List ℕ} {o : Outcome} → BindIs s c seen row h e lag k w w₁ b b₁ o → w' ≡ w₁ → b' ≡ b₁ → BindIs s c seen row h e lag k w w' b b' o

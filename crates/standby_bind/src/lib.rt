@@ -72,14 +72,18 @@ fn open(store: &mut Store, frame: &[u8], session: SessionId, found: Option<usize
 }
 
 // Whether the connection's version takes the stamp of the key's session, if it has one: a new session has none.
-fn suits(store: &Store, frame: &[u8], session: SessionId, found: Option<usize>, version2: u8) -> bool
+fn suits(
+    store: &Store,
+    frame: &[u8],
+    session: SessionId,
+    found: Option<usize>,
+    version2: u8,
+) -> bool
     requires { found ≡ stored_place (key_of frame.now session) (places_of store.now.shape store.now.words.now store.now.bytes.now) }
     ensures { result ≡ suits (version_of version2) (or_new (session_at (places_of store.now.shape store.now.words.now store.now.bytes.now) (place_of (key_of frame.now session) (places_of store.now.shape store.now.words.now store.now.bytes.now)))).stamp }
 {
     match found {
-        Some(place) => {
-            store_sessions::suits(&store.view(), place, Protocol::of_byte(version2))
-        }
+        Some(place) => { store_sessions::suits(&store.view(), place, Protocol::of_byte(version2)) }
         None => true,
     }
 }

@@ -11,7 +11,7 @@ use borrow.Author.Tests.{leb-false}
 use Rattle.model_text.specs.Printable.{is_key}
 use Rattle.model_frame.specs.Frame.{Key}
 use Rattle.model_session.specs.Session.{Session, Msg, Holdable, is_bytes}
-use Rattle.model_session.specs.Whole.{batch_limit, branch_limit}
+use Rattle.model_session.specs.Whole.{batch_limit}
 use Rattle.model_standby.specs.Store.{Place, is_stored, session_at}
 use Rattle.model_fix.specs.Import as import
 use Rattle.model_fix.specs.Import.{fault, taken, judge_file}
@@ -24,7 +24,7 @@ use Rattle.store_areas.proofs.Lifting.{places_length, rules_kept_by}
 use Rattle.store_sessions.proofs.Opening.{raised}
 use Rattle.store_import.specs.Importing.{fault_of, refuses, imported_place, Taken}
 use Rattle.active.specs.declared.Line.{Line}
-use Rattle.active.specs.Whole.{limit_of, stored_at}
+use Rattle.active.specs.Whole.{branch_limit, limit_of, stored_at}
 use Rattle.active.proofs.Giving.{whole_given}
 use Rattle.theorem_whole_copy.proofs.Demand3.{demand_3}
 use Rattle.theorem_whole_copy.proofs.Lines.{on_line}

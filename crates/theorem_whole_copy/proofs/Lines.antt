@@ -14,7 +14,7 @@ use Rattle.model_text.specs.Version.{is_version, latest}
 use Rattle.model_frame.specs.Frame.{Change, reset}
 use Rattle.model_session.specs.Session.{Session, Msg, Holdable, top, suits, is_bytes}
 use Rattle.model_session.specs.Sender.{new_sender, cannot_send}
-use Rattle.model_session.specs.Whole.{whole_batches, batches_from, branch_limit, stamp_part, send_msg, batch_if}
+use Rattle.model_session.specs.Whole.{whole_batches, batches_from, stamp_part, send_msg, batch_if}
 use Rattle.standby_row.specs.declared.Bound.{Bound as BoundRecord}
 use Rattle.standby_row.specs.Row.{apart_of, broken_of, zero_or_next}
 use Rattle.store_areas.specs.declared.Shape.{Shape}
@@ -33,7 +33,7 @@ use Rattle.std.specs.Prelude.{None, Result, Ok}
 use Rattle.base_refusals.specs.declared.Refusal.{Refusal}
 use Rattle.active.specs.declared.Line.{Line}
 use Rattle.active.specs.declared.Sending.{Sending}
-use Rattle.active.specs.Whole.{limit_of, stored_at, SendStart, ready, start_of, start_from, SendsWhole, SendCalls, SentWhole}
+use Rattle.active.specs.Whole.{branch_limit, limit_of, stored_at, SendStart, ready, start_of, start_from, SendsWhole, SendCalls, SentWhole}
 use Rattle.active.specs.Whole as whole
 use Rattle.active.proofs.Giving.{whole_given}
 use Rattle.theorem_whole_copy.specs.Demand.{Lent, stands_for, Start}

@@ -8,7 +8,7 @@ use Rattle.model_text.specs.Version.{is_version}
 use Rattle.model_frame.specs.Refusal
 use Rattle.model_session.specs.Session.{Session, top, suits}
 use Rattle.model_session.specs.Sender.{new_sender}
-use Rattle.model_session.specs.Whole.{whole_batches, batch_limit, branch_limit}
+use Rattle.model_session.specs.Whole.{whole_batches, batch_limit}
 use Rattle.model_standby.specs.Store.{session_at}
 use Rattle.model_standby.specs.State.{Bound, Call, on_frame_held}
 use Rattle.model_standby.specs.PlainCopy.{OwnKey}
@@ -18,7 +18,7 @@ use Rattle.store_log.proofs.Lawful.{Small}
 use Rattle.standby_state.specs.declared.Settings.{Settings}
 use Rattle.active.specs.declared.Line.{Line}
 use Rattle.active.specs.declared.Sending.{Sending}
-use Rattle.active.specs.Whole.{limit_of, stored_at, SendStart, ready, start_of, Begins, SendsWhole, SentWhole}
+use Rattle.active.specs.Whole.{branch_limit, limit_of, stored_at, SendStart, ready, start_of, Begins, SendsWhole, SentWhole}
 use Rattle.theorem_whole_copy.specs.Demand.{Lent, Runs, First, Start, frames_of_a, Claim}
 
 -- calls of `send_whole`, one after the other, over one store, each with the limit of the line of the sending that it is handed: the frames that they gave, as

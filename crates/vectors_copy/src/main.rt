@@ -246,8 +246,24 @@ fn command(
     let rest = vectors_script::rest(line);
     match line.first() {
         Some(b'n') => Ok(make(rest, words_a, bytes_a, words_b, bytes_b)),
-        Some(b'w') => begin(rt, Line::HeadOffice, rest, words_a, bytes_a, way, hash(words_b, bytes_b, shape)),
-        Some(b'W') => begin(rt, Line::Branch, rest, words_a, bytes_a, way, hash(words_b, bytes_b, shape)),
+        Some(b'w') => begin(
+            rt,
+            Line::HeadOffice,
+            rest,
+            words_a,
+            bytes_a,
+            way,
+            hash(words_b, bytes_b, shape),
+        ),
+        Some(b'W') => begin(
+            rt,
+            Line::Branch,
+            rest,
+            words_a,
+            bytes_a,
+            way,
+            hash(words_b, bytes_b, shape),
+        ),
         Some(b'f') => take(rt, words_a, bytes_a, out, way),
         Some(b'h') => hand_digits(rt, rest, words_b, bytes_b, holds, way, a),
         Some(b'=') => hand_with(rt, 0, 0, out, words_b, bytes_b, holds, way, a),
