@@ -75,11 +75,10 @@ module _ (line : Line) where
 
     own : (s t : Sending) (fs : List (List ℕ)) → Asked line version shape w b i h e last a (Ok s) → LineCalls shape w b s fs t → (t.line ≡ line) × SentWhole limit shape w b a h e last fs t
     own s t fs q calls =
-        let m = stay shape w b calls in
-        (
+        let m = stay shape w b calls in (
           m.line ∙ q.begins.begun_on,
           whole_given limit shape w b a h e last version i s t fs q.words_u64 q.bytes_u8 q.stored q.begins.start
-          (subst (λ (l : Line). SendCalls (limit_of l) shape w b s fs t) q.begins.begun_on m.calls)
+              (subst (λ (l : Line). SendCalls (limit_of l) shape w b s fs t) q.begins.begun_on m.calls),
         )
 
   pub on_line : OnLine line (limit_of line)
