@@ -50,6 +50,7 @@ fn batch_bytes(line: Line) -> u64
 impl Sending {
     // The message bytes above which a batch is full, on a head office's line and on a branch line.
     pub const SNAPSHOT_BATCH_BYTES: u64 = 1_048_576;
+
     pub const BRANCH_BATCH_BYTES: u64 = 16_384;
 
     // Begins to send the session at a place to a handle over a line in a version, numbered on from its last commit number. Gives what to hand to the

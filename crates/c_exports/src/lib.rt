@@ -212,7 +212,9 @@ fn state_in(
 {
     let last = CommitNumber(sending[0]);
     if sending[1] == 0 {
-        return Sending::begin(line, version, shape, words, bytes, place, handle, epoch, last);
+        return Sending::begin(
+            line, version, shape, words, bytes, place, handle, epoch, last,
+        );
     }
     Ok(Sending {
         version,
@@ -251,7 +253,9 @@ pub extern "C" fn wz_send(
         return refusal(Refusal::RulesBroken.number(), 0);
     };
     let epoch = Epoch(epoch);
-    match state_in(line, version, shape, words, bytes, sending, place, handle, epoch) {
+    match state_in(
+        line, version, shape, words, bytes, sending, place, handle, epoch,
+    ) {
         Ok(s) => send_code(s, shape, words, bytes, sending, out),
         Err(e) => refusal(e.number(), 0),
     }
