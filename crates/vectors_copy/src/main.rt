@@ -170,17 +170,21 @@ fn hand_with(
     Ok(next)
 }
 
-// Begins the sending on a line; `before` is B's hash.
+// Begins the sending, on the branch line by a capital letter; `before` is B's hash.
 fn begin(
     rt: &impl Print,
-    on: Line,
     line: &[u8],
     words: &[u64],
     bytes: &[u8],
     way: Way,
     before: Option<u64>,
 ) -> io::Result<Way> {
-    let mut numbers = vectors_script::words(line);
+    let mut numbers = vectors_script::words(vectors_script::rest(line));
+    let on = if line.starts_with(b"W") {
+        Line::Branch
+    } else {
+        Line::HeadOffice
+    };
     let version = Protocol::of_byte(way.replica.version2).number();
     let handle = small(&mut numbers);
     let epoch = Epoch(number(&mut numbers));
@@ -246,24 +250,10 @@ fn command(
     let rest = vectors_script::rest(line);
     match line.first() {
         Some(b'n') => Ok(make(rest, words_a, bytes_a, words_b, bytes_b)),
-        Some(b'w') => begin(
-            rt,
-            Line::HeadOffice,
-            rest,
-            words_a,
-            bytes_a,
-            way,
-            hash(words_b, bytes_b, shape),
-        ),
-        Some(b'W') => begin(
-            rt,
-            Line::Branch,
-            rest,
-            words_a,
-            bytes_a,
-            way,
-            hash(words_b, bytes_b, shape),
-        ),
+        Some(b'w' | b'W') => {
+            let before = hash(words_b, bytes_b, shape);
+            begin(rt, line, words_a, bytes_a, way, before)
+        }
         Some(b'f') => take(rt, words_a, bytes_a, out, way),
         Some(b'h') => hand_digits(rt, rest, words_b, bytes_b, holds, way, a),
         Some(b'=') => hand_with(rt, 0, 0, out, words_b, bytes_b, holds, way, a),
