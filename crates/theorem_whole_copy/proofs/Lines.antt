@@ -153,6 +153,9 @@ zeros_are_bytes : (n : ℕ) → T (is_bytes (replicate n 0))
 zeros_are_bytes zero = tt
 zeros_are_bytes (suc n) = zeros_are_bytes n
 
+zeros_long : (n : ℕ) → length (replicate {A = ℕ} n 0) ≡ n
+zeros_long n = length-replicate {A = ℕ} n 0
+
 abbrev h₂ : BoundRecord
 h₂ = record { used = 1; handle = 9; place = 0; commit_no = record { 0 = 7 }; held_len = 0; held_bytes = 0 }
 
@@ -180,7 +183,7 @@ module _ (limit : ℕ) (under : limit < 33554432) where
         flight_high = tt;
         marks_ok = tt;
         msgs_rise = (omega arith, omega arith, zeros_are_bytes size, (omega arith, omega arith, tt, tt));
-        msgs_bytes = omega (arith, length-replicate size 0);
+        msgs_bytes = omega (arith, zeros_long size);
         msgs_count = omega arith;
       }
 
@@ -206,7 +209,7 @@ module _ (limit : ℕ) (under : limit < 33554432) where
   rules₂ : Rules s₂.shape x₂.words x₂.bytes
   rules₂ =
       record {
-        room = record { bytes_limit = omega (arith, under); messages_limit = omega arith; words_long = omega arith; bytes_long = omega (arith, length-replicate (224 + size) 0) };
+        room = record { bytes_limit = omega (arith, under); messages_limit = omega arith; words_long = omega arith; bytes_long = omega (arith, zeros_long (224 + size)) };
         used = omega arith;
         pending = omega arith;
       }
@@ -224,7 +227,7 @@ module _ (limit : ℕ) (under : limit < 33554432) where
             (ap (map (λ (p : Place). p.key)) (place_is s₂.shape x₂.words x₂.bytes 0 (omega arith))) refl;
         nothing_held = held_none latest [] (omega arith);
         suits_so = refl;
-        area = omega (arith, length-replicate (166 + size) 0, room_one (length x₂.holds));
+        area = omega (arith, zeros_long (166 + size), room_one (length x₂.holds));
         handle_u32 = omega arith;
         epoch_u64 = omega arith;
         sendable = omega (arith, few_batches limit A₂);
@@ -241,7 +244,7 @@ module _ (limit : ℕ) (under : limit < 33554432) where
         bound = b₂;
         lent = x₂;
         start = start₂;
-        at_least_two = two_batches limit A₂ (record { num = 1; text = replicate size 0 }) (record { num = 2; text = [] }) [] refl (omega (arith, length-replicate size 0));
+        at_least_two = two_batches limit A₂ (record { num = 1; text = replicate size 0 }) (record { num = 2; text = [] }) [] refl (omega (arith, zeros_long size));
       }
 
 -- on the branch line: the theorem there is of sessions of more than one batch too
