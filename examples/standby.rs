@@ -145,7 +145,7 @@ fn show_session(told: &[u8]) {
 const KINDS: [&str; 9] = ["none", "Hello", "Welcome", "Bind", "Batch", "Ack", "Nack", "Bound", "Checked"];
 
 fn main() {
-    assert_eq!(unsafe { wz_version() }, 4, "these declarations are those of version 0.4");
+    assert_eq!(unsafe { wz_version() }, 5, "these declarations are those of version 0.5");
     let mut standby = Standby::new(Shape { places: 4, bytes: 4096, messages: 64 }, 4, 7, 0).expect("the areas fit the settings");
     let mut stream = Vec::new();
     std::io::stdin().read_to_end(&mut stream).expect("standard input is read");

@@ -28,7 +28,7 @@ extern "C" {
 
 /* ---- Version: that of the release, VERSION. Before 1.0 the minor is raised with every record and signature that changes, from 1.0 on the major. */
 #define WZ_VERSION_MAJOR 0
-#define WZ_VERSION_MINOR 4
+#define WZ_VERSION_MINOR 5
 #define WZ_VERSION_PATCH 0
 /* Both as one number, as wz_version tells them. */
 #define WZ_VERSION (WZ_VERSION_MAJOR * 65536 + WZ_VERSION_MINOR)
@@ -58,13 +58,19 @@ extern "C" {
 /* Any text for a screen, in bytes. */
 #define WZ_SCREEN 1500
 /* In words: a whole sending, a lag queue, the entries of so many messages, five copies, a quorum, the books of a catch-up, a lease. */
-#define WZ_SENDING 4
+#define WZ_SENDING 5
 #define WZ_QUEUE 66
 #define WZ_ENTRIES(messages) (6 * (size_t)(messages))
 #define WZ_COPIES 30
 #define WZ_QUORUM 2564
 #define WZ_BOOKS 1286
 #define WZ_LEASE 4
+
+/* ---- The line of a whole sending, the last of its words: on a head office's a new frame starts once 1,048,576 message bytes are exceeded, on a branch line 16,384. */
+enum wz_line {
+    WZ_LINE_HEAD_OFFICE = 0,
+    WZ_LINE_BRANCH = 1
+};
 
 /* ---- Bytes of a frame (docs/PROTOCOL.md). */
 enum wz_kind {
@@ -319,8 +325,8 @@ uint64_t wz_find(const uint64_t *words, size_t words_len, const uint8_t *bytes, 
 uint64_t wz_message(const uint64_t *words, size_t words_len, const uint8_t *bytes, size_t bytes_len, uint8_t *out, size_t out_len, uint32_t sessions, uint32_t c,
     uint32_t m, size_t place, uint64_t number);
 
-/* The next frame of sending a session whole in a version, until WZ_LAST; `sending` has the last commit number and three zeros at first. 25, 11, 32, 24; later 25, 11, 32
-   (only where the frame to be sent has the stamp, the first), 9. */
+/* The next frame of sending a session whole in a version, until WZ_LAST; `sending` has the last commit number, three zeros, and the line (WZ_LINE_..) at first. 25, 11,
+   32, 24; later 25, 11, 32 (only where the frame to be sent has the stamp, the first), 9. */
 uint64_t wz_send(const uint64_t *words, size_t words_len, const uint8_t *bytes, size_t bytes_len, uint64_t *sending, size_t sending_len, uint8_t *out, size_t out_len,
     uint32_t sessions, uint32_t c, uint32_t m, size_t place, uint32_t handle, uint64_t epoch, uint16_t version);
 

@@ -247,13 +247,39 @@ static void lengths(void) {
     HOLDS(WZ_REFUSAL(wz_read(frame, 4, 1)) == WZ_REFUSED_TOO_LONG && WZ_DETAIL(wz_read(frame, 4, 1)) == 0x4000001);
 }
 
+/* A session of 16,385 message bytes and one more is one frame on a head office's line, two on a branch line; 24 is judged by the line's own count; the line's word stays. */
+static void lines(void) {
+    enum { C2 = 20000, M2 = 4, WORDS2 = WZ_WORDS(1, M2), BYTES2 = WZ_BYTES(1, C2) };
+    static uint64_t words[WORDS2];
+    static uint8_t bytes[BYTES2], area[WZ_FRAME(C2, M2)], message[16385];
+    wz_shape_t one = { 1, C2, M2 };
+    HOLDS(wz_store_make(words, WORDS2, bytes, BYTES2, one) == 0 && wz_store_open(words, WORDS2, bytes, BYTES2, one, TEXT("FIX.4.2"), TEXT("S"), TEXT("T"), TEXT("")).refusal == 0);
+    HOLDS(wz_store_record(words, WORDS2, bytes, BYTES2, one, 0, message, 16385) == 0 && wz_store_record(words, WORDS2, bytes, BYTES2, one, 0, message, 1) == 0);
+    for (uint64_t line = WZ_LINE_HEAD_OFFICE; line <= WZ_LINE_BRANCH; line++) {
+        uint64_t sending[WZ_SENDING] = { UINT64_MAX - 1, 0, 0, 0, line }, frames = 0, code;
+        code = wz_send(words, WORDS2, bytes, BYTES2, sending, WZ_SENDING, area, sizeof area, 1, C2, M2, 0, 9, 5, 1);
+        HOLDS(line == WZ_LINE_BRANCH ? WZ_REFUSAL(code) == WZ_REFUSED_NUMBERS_PAST && sending[1] == 0 : WZ_OK(code) && sending[1] == 1);
+        sending[0] = UINT64_MAX - 2, sending[1] = sending[2] = sending[3] = 0;
+        while (code = wz_send(words, WORDS2, bytes, BYTES2, sending, WZ_SENDING, area, sizeof area, 1, C2, M2, 0, 9, 5, 1), WZ_OK(code) && code != WZ_LAST) {
+            HOLDS(wz_read(area, WZ_COUNT(code), 1) == code);
+            frames++;
+        }
+        HOLDS(code == WZ_LAST && frames == (line == WZ_LINE_BRANCH ? 2 : 1) && sending[0] == UINT64_MAX - 2 + frames && sending[3] == 1 && sending[4] == line);
+    }
+}
+
 static const char longest[] = "20261116-12:00:00.123456789012";
 static void stamped(uint32_t handle, uint64_t no, const char *stamp) { batch(handle, no, WZ_PART_COMMIT, 1); number(WZ_CHANGE_SET_CREATED_AT, 1); text(stamp); number(0, 4); end(); }
 static int untouched(void) { for (size_t i = 0; i < sizeof out; i++) if (out[i] != 0xa5) return 0; return 1; }
-static uint64_t send(uint64_t last, uint64_t begun, uint64_t from, uint64_t done, uint64_t place, uint16_t speaks) {
-    uint64_t sending[] = { last, begun, from, done }, before[] = { last, begun, from, done };
+static uint64_t send_on(uint64_t line, uint64_t last, uint64_t begun, uint64_t from, uint64_t done, uint64_t place, uint16_t speaks) {
+    uint64_t sending[] = { last, begun, from, done, line }, before[] = { last, begun, from, done, line };
     uint64_t code = wz_send(STORE(b), sending, WZ_SENDING, out, 40, S, C, M, place, 9, 5, speaks);
     HOLDS(!memcmp(sending, before, sizeof before));
+    return code;
+}
+static uint64_t send(uint64_t last, uint64_t begun, uint64_t from, uint64_t done, uint64_t place, uint16_t speaks) {
+    uint64_t code = send_on(WZ_LINE_HEAD_OFFICE, last, begun, from, done, place, speaks);
+    HOLDS(code == send_on(WZ_LINE_BRANCH, last, begun, from, done, place, speaks));
     return code;
 }
 
@@ -313,6 +339,11 @@ static void versions(void) {
     HOLDS(WZ_REFUSAL(send(0, 0, 0, 0, 0, 1)) == WZ_REFUSED_LONG_STAMP && WZ_REFUSAL(send(0, 0, 0, 0, 0, 2)) == WZ_REFUSED_NO_ROOM);
     HOLDS(WZ_REFUSAL(send(0, 1, 0, 0, 0, 1)) == WZ_REFUSED_LONG_STAMP && WZ_REFUSAL(send(0, 1, 0, 0, 0, 2)) == WZ_REFUSED_NO_ROOM);
     HOLDS(WZ_REFUSAL(send(0, 1, 1, 0, 0, 1)) == WZ_REFUSED_NO_ROOM && send(0, 1, 0, 1, 0, 1) == WZ_LAST && send(0, 1, 0, 1, 0, 2) == WZ_LAST);
+    /* A third line is 25 at every call, before 11 and for a sending that is done too. */
+    static const uint64_t lines[] = { 2, 256, UINT64_C(1) << 32, UINT64_MAX };
+    for (int i = 0; i < 4; i++)
+        for (uint64_t begun = 0; begun < 2; begun++)
+            HOLDS(WZ_REFUSAL(send_on(lines[i], 0, begun, 0, begun, 0, i % 2 ? 2 : 3)) == WZ_REFUSED_RULES_BROKEN);
     HOLDS(untouched());
 
     /* Back to 1: Nack StaleEpoch, Nack Lag, 32, which changes nothing; 20 and 21 come later. A session that has no such stamp is bound. */
@@ -381,6 +412,7 @@ int main(void) {
     whole();
     changes();
     lengths();
+    lines();
     versions();
     active();
     stamps();

@@ -1,7 +1,7 @@
 //! The functions of include/wizhdulet.h that the program calls, and their records.
 
 /// The version of the header that these declarations are of.
-pub const VERSION: u32 = 4;
+pub const VERSION: u32 = 5;
 
 #[repr(C)]
 #[derive(Clone, Copy, Default)]

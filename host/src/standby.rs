@@ -187,7 +187,7 @@ impl Standby {
     ) -> Result<(), E> {
         let Shape { places, bytes, messages } = self.settings.shape;
         let (words, store) = (&self.words, &self.bytes);
-        let mut sending = [0; 4];
+        let mut sending = [0; 5];
         let mut out = vec![0; bytes as usize + 22 * messages as usize + 165];
         loop {
             let code = unsafe {

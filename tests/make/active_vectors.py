@@ -9,7 +9,7 @@ import random
 
 import wire
 from wire import (
-    BATCH_LIMIT, RESET, TOP, fnv, joined, message, record, record_none, run, rust_calls, set_created_at, set_in_flight, set_marks, set_next_incoming,
+    BATCH_LIMIT, BRANCH_LIMIT, RESET, TOP, fnv, joined, message, record, record_none, run, rust_calls, set_created_at, set_in_flight, set_marks, set_next_incoming,
     set_next_incoming_in_flight, write,
 )
 
@@ -92,25 +92,25 @@ class Store:
             self.ask(wire.batch(run(self.changes), handle=self.handle, epoch=EPOCH, commit_no=self.commit_no), "05")
             self.changes = []
 
-    def send(self, handle: int, epoch: int, last: int, short: int | None = None) -> None:
-        """A whole sending; with `short` into an area of that length first, wherever a frame is longer."""
+    def send(self, line: str, handle: int, epoch: int, last: int, short: int | None = None) -> None:
+        """A whole sending on a line, as call scripts name it; with `short` into an area of that length first, wherever a frame is longer."""
         self.settle()
         assert short is None or short < OUT
-        call = f"W {handle} {epoch} {last} {key_digits(self.name())}"
+        call = f"{line} {handle} {epoch} {last} {key_digits(self.name())}"
         self.calls.append(call)
         self.reads.append(("send", short))
         if short is not None:
             self.calls.append(f"{call} {short}")
             self.reads.append(("short", short))
 
-    def odd(self, last: int, start: int) -> None:
+    def odd(self, line: str, last: int, start: int) -> None:
         """A sending's state that no beginning gave."""
         self.settle()
         if last == TOP or self.place >= len(self.names):
             self.reads.append(("rule", "R 25"))
             return
         assert start == 0
-        self.calls.append(f"W 1 0 {last} {key_digits(self.name())}")
+        self.calls.append(f"{line} 1 0 {last} {key_digits(self.name())}")
         self.reads.append(("first", None))
 
     def wanted(self) -> list[str]:
@@ -156,6 +156,10 @@ wanted: list[str] = []
 store: Store | None = None
 
 
+# the head office's line and the branch line, as call scripts name them; here capital letters are for the branch line
+LINES = "WB"
+
+
 def finish() -> None:
     if store:
         wanted.extend(store.wanted())
@@ -166,7 +170,7 @@ def say(line: str) -> None:
     global store
     letter, text = line[0], line[2:].encode()
     script.append(f"{letter}:{line[2:]}" if letter in "otkm" else line.strip())
-    numbers = [int(word) for word in line[2:].split(" ")] if letter in "npibflgwvx" else []
+    numbers = [int(word) for word in line[2:].split(" ")] if letter in "npibflgwvxWVX" else []
     if letter == "n":
         finish()
         store = Store(*numbers)
@@ -196,10 +200,10 @@ def say(line: str) -> None:
         store.change(set_created_at(text))
     elif letter == "k":
         store.change(set_marks(text))
-    elif letter == "w" or letter == "v":
-        store.send(*numbers)
-    elif letter == "x":
-        store.odd(*numbers)
+    elif letter in "wvWV":
+        store.send(LINES[letter.isupper()], *numbers)
+    elif letter in "xX":
+        store.odd(LINES[letter.isupper()], *numbers)
 
 
 def small(*lines: str) -> None:
@@ -214,6 +218,14 @@ def large(*lines: str) -> None:
     for line in ("n 1 2100000 16", "o B", *lines):
         say(line)
     say("w 1 0 0")
+
+
+def both(*lines: str) -> None:
+    """A session in a store for messages about the branch line's limit, sent on both lines."""
+    for line in ("n 1 150000 16", "o B", *lines):
+        say(line)
+    say("w 1 0 0")
+    say("W 1 0 0")
 
 
 # nothing in it; one message; an empty one; two of them
@@ -300,6 +312,37 @@ large(f"l {BATCH_LIMIT + 1}", f"l {BATCH_LIMIT}", "l 0", "l 9")
 for line in ("n 1 2100000 16", "o B", f"l {BATCH_LIMIT + 1}", "l 3"):
     say(line)
 for line in (f"w 1 0 {TOP - 2}", f"w 1 0 {TOP - 1}", f"w 1 0 {TOP}", f"v 1 0 0 {BATCH_LIMIT}", "v 1 0 0 0", "v 1 0 0 64", "v 1 0 0 63", f"v 1 0 0 {BATCH_LIMIT + 44}", f"v 1 0 0 {BATCH_LIMIT + 45}"):
+    say(line)
+
+# the same about the branch line's limit; the head office's line has one batch
+both()
+both("m one")
+both(f"l {BRANCH_LIMIT}", "l 0", "l 1")
+both(f"l {BRANCH_LIMIT + 1}", "l 1")
+both(f"l {BRANCH_LIMIT - 1}", "l 1", "l 1")
+both("l 40000")
+both(f"l {BRANCH_LIMIT}")
+both(f"l {BRANCH_LIMIT + 1}")
+both(f"l {BRANCH_LIMIT + 1}", "l 0")
+both(f"l {BRANCH_LIMIT - 1}", "l 2", "l 1")
+both("l 0", f"l {BRANCH_LIMIT}", "l 0", "l 0", "l 1", "l 2")
+both(f"l {BRANCH_LIMIT // 2}", f"l {BRANCH_LIMIT // 2}", "l 7", "l 7")
+both(f"l {BRANCH_LIMIT // 2}", f"l {BRANCH_LIMIT // 2 + 1}", "g 5", "l 7", "l 7")
+both(*["l 1024"] * 16)
+both(*["l 1024"] * 15, "l 1025")
+both("t 20261115-12:00:00", "k marks", "b 9 0", "g 4", f"l {BRANCH_LIMIT + 1}", "g 10", "l 3", "g 20")
+both(f"l {BRANCH_LIMIT + 1}", "g 7")
+both(f"l {BRANCH_LIMIT + 1}", "g 3", "l 40000", "g 5", f"l {BRANCH_LIMIT}", "l 0", "l 9")
+both(*["l 16385"] * 8)
+# two batches on the branch line: commit numbers just enough, and one too few for that line alone; 9 for either frame
+for line in ("n 1 150000 16", "o B", f"l {BRANCH_LIMIT + 1}", "l 3"):
+    say(line)
+for last in (TOP - 2, TOP - 1, TOP):
+    say(f"W 1 0 {last}")
+    say(f"w 1 0 {last}")
+for length in (BRANCH_LIMIT, 0, 63, 64, BRANCH_LIMIT + 44, BRANCH_LIMIT + 45):
+    say(f"V 1 0 0 {length}")
+for line in ("X 8 0", f"X {TOP} 0", f"X {TOP} 5", "p 1", "X 8 0", "W 3 5 0", f"W 3 5 {TOP}"):
     say(line)
 
 # anything, in small stores

@@ -8,7 +8,7 @@ every frame, and which of the two a run must end with, is asserted here.
 from collections.abc import Sequence
 
 import wire
-from wire import BATCH_LIMIT, bind, hello, joined, key, message, record, record_none, run, rust_calls, set_created_at, set_marks, set_next_incoming_in_flight, write
+from wire import BATCH_LIMIT, BRANCH_LIMIT, bind, hello, joined, key, message, record, record_none, run, rust_calls, set_created_at, set_marks, set_next_incoming_in_flight, write
 
 EPOCH = 5
 KEY = (b"FIX.4.4", b"A", b"B", b"")
@@ -65,31 +65,33 @@ wanted: list[str] = []
 
 
 def go(shape: Shape, a: Sequence[str], b: Sequence[str], way: Sequence[str], end: str) -> None:
-    """A run: A's changes, B's, and the way; the standby's session must end as `end`."""
+    """A run: A's changes, B's, and the way, whose first step begins a sending (`w` on the head office's line, `W` on the branch line, then
+    the last commit number and, if it isn't 3, the handle); the standby's session must end as `end`."""
     places, cap, most = shape
     first = f"7 0 {cap} {most} {places} 4"
     fill = ["F " + frame for frame in (HELLO, BIND, commit(changes(a)))]
 
-    def sending(last: int, handle: int = 3) -> tuple[str, list[str]]:
-        got = rust_calls([first, *fill, "S", f"W {handle} {EPOCH} {last} {','.join(text.hex() for text in KEY)}"])
+    def sending(letter: str, last: int, handle: int = 3) -> tuple[str, list[str]]:
+        line = {"w": "W", "W": "B"}[letter]
+        got = rust_calls([first, *fill, "S", f"{line} {handle} {EPOCH} {last} {','.join(text.hex() for text in KEY)}"])
         assert got[-1] == "done" and answer(got[2]) == "5/0/0", got
         return session(got[4]), got[6:-1]
 
-    full, sent = sending(1)
+    full, sent = sending(way[0][0], 1)
     given, at = [HELLO, BIND, commit(changes(b))], -1
     done: list[int] = []
     script.extend((f"n {places} {cap} {most}", "o:B"))
     script.extend(f"{line[0]}:{line[2:]}" if line[0] in "mtk" else line for line in a)
     script.extend("h:" + frame for frame in given)
-    for step in ("w 1", *way):
+    for step in way:
         letter, rest = step[0], step[2:]
         if letter == "h":
             given.append(rest)
             step = "h:" + rest
-        elif letter == "w":
+        elif letter in "wW":
             last, handle = (int(word) for word in f"{rest} 3".split(" ")[:2])
-            sent, at = sending(last, handle)[1], -1
-            step = f"w {handle} {EPOCH} {last}"
+            sent, at = sending(letter, last, handle)[1], -1
+            step = f"{letter} {handle} {EPOCH} {last}"
         elif letter == "f":
             at += 1
             if at >= len(sent):
@@ -119,47 +121,85 @@ def go(shape: Shape, a: Sequence[str], b: Sequence[str], way: Sequence[str], end
     assert (held[-1] == full) == (end == "A"), (way, wanted[-3:])
 
 
-SMALL, LARGE = (2, 200, 16), (1, BATCH_LIMIT + 24, 4)
+SMALL, LARGE, MIDDLE = (2, 200, 16), (1, BATCH_LIMIT + 24, 4), (1, 100_000, 8)
 OLD = ["m old", "g 4", "m older", "b 4 3", "k was", "t 20250101-00:00:00.125"]
 NONE: list[str] = []
 ONE = ["m one"]
 GAPS = ["t 20261115-12:00:00", "g 2", "m three", "m ", "g 9", "m ten", "g 12", "b 7 0", "k marks"]
-TWO = ["t 20261115-12:00:00", "g 2", f"l {BATCH_LIMIT + 1}", "g 7", "m tail", "g 9", "b 9 8", "k marks"]
 
-# one frame: passed, dropped, passed and repeated
-for a, b in ((NONE, OLD), (ONE, OLD), (ONE, NONE), (GAPS, NONE), (GAPS, OLD)):
-    go(SMALL, a, b, ["f", "=", "f"], "A")
-    go(SMALL, a, b, ["f"], "B")
-    go(SMALL, a, b, ["f", "=", "="], "A")
-# its length, kind, part, count of changes, first change damaged: the reader's numbers or 26; its handle: 14; its epoch lower; its number
+
+def two(limit: int) -> list[str]:
+    """A session of two batches: the first message goes past the limit by a byte."""
+    return ["t 20261115-12:00:00", "g 2", f"l {limit + 1}", "g 7", "m tail", "g 9", "b 9 8", "k marks"]
+
+
+# of four batches on the branch line
+FOUR = ["t 20261115-12:00:00", "g 2", f"l {BRANCH_LIMIT + 1}", "g 7", "l 20000", f"l {BRANCH_LIMIT}", "l 1", "g 12", "m tail", "g 20", "b 9 8", "k marks"]
+# a frame's length, kind, part, count of changes, first change damaged: the reader's numbers or 26; its handle: 14; its epoch lower; its number
 DAMAGE = ["x 0 1", "x 0 255", "x 3 16", "x 4 100", "x 4 1", "x 25 100", "x 26 1", "x 29 1", "x 30 100"]
-go(SMALL, GAPS, OLD, ["f", *DAMAGE], "B")
-go(SMALL, GAPS, OLD, ["f", *DAMAGE, "="], "A")
-go(SMALL, GAPS, OLD, ["f", "x 5 1", "x 9 255", "x 17 1", "x 17 255", "="], "A")
-# two frames: passed; the line drops before the first, between them and at the second; each damaged on the way, stale ones between
-go(LARGE, TWO, OLD, ["f", "=", "f", "=", "f"], "A")
-go(LARGE, TWO, OLD, ["f", "f"], "B")
-go(LARGE, TWO, OLD, ["f", "=", "f"], "B")
-go(LARGE, TWO, OLD, ["f", *DAMAGE, "=", "f", *DAMAGE[:7]], "B")
-go(LARGE, TWO, OLD, ["f", *DAMAGE, "=", "f", *DAMAGE[:7], "=", "="], "A")
-go(LARGE, TWO, OLD, ["f", "x 9 255", "=", "f", "x 9 255", "x 5 1", "="], "A")
-# the first repeated or lost: Diverged, nothing held, the rest 16 or Diverged
-go(LARGE, TWO, OLD, ["f", "=", "=", "f", "="], "B")
-go(LARGE, TWO, OLD, ["f", "f", "="], "B")
-# a new connection between them: 14; then the session is sent whole again
-go(LARGE, TWO, OLD, ["f", "=", "h " + HELLO, "f", "=", "h " + BIND, "=", "w 0", "f", "=", "f", "="], "A")
-go(LARGE, TWO, OLD, ["f", "=", "h " + BIND, "f", "=", "w 0", "f", "=", "f"], "B")
 
-# the session goes to another handle between them: 14, what was held is gone; sent whole to the new one, and to the first, bound again
-go(LARGE, TWO, OLD, ["f", "=", "h " + OTHER, "f", "="], "B")
-go(LARGE, TWO, OLD, ["f", "=", "h " + OTHER, "f", "=", "w 0 4", "f", "=", "f", "=", "f"], "A")
-go(LARGE, TWO, OLD, ["f", "=", "h " + OTHER, "w 0 4", "f", "=", "h " + BIND, "f", "=", "w 0", "f", "=", "f", "=", "f"], "A")
-go(SMALL, GAPS, OLD, ["h " + OTHER, "f", "=", "w 0 4", "f", "=", "f"], "A")
 
-# ---- version 2: each step with what must be written for it, by document 02
+def line_ways(line: str, shape: Shape, several: list[str]) -> None:
+    """The ways on a line, on which `several` has two batches."""
+    start = f"{line} 1"
+    # one frame: passed, dropped, passed and repeated
+    for a, b in ((NONE, OLD), (ONE, OLD), (ONE, NONE), (GAPS, NONE), (GAPS, OLD)):
+        go(SMALL, a, b, [start, "f", "=", "f"], "A")
+        go(SMALL, a, b, [start, "f"], "B")
+        go(SMALL, a, b, [start, "f", "=", "="], "A")
+    # damaged on the way
+    go(SMALL, GAPS, OLD, [start, "f", *DAMAGE], "B")
+    go(SMALL, GAPS, OLD, [start, "f", *DAMAGE, "="], "A")
+    go(SMALL, GAPS, OLD, [start, "f", "x 5 1", "x 9 255", "x 17 1", "x 17 255", "="], "A")
+    # two frames: passed; the line drops before the first, between them and at the second; each damaged on the way, stale ones between
+    go(shape, several, OLD, [start, "f", "=", "f", "=", "f"], "A")
+    go(shape, several, OLD, [start, "f", "f"], "B")
+    go(shape, several, OLD, [start, "f", "=", "f"], "B")
+    go(shape, several, OLD, [start, "f", *DAMAGE, "=", "f", *DAMAGE[:7]], "B")
+    go(shape, several, OLD, [start, "f", *DAMAGE, "=", "f", *DAMAGE[:7], "=", "="], "A")
+    go(shape, several, OLD, [start, "f", "x 9 255", "=", "f", "x 9 255", "x 5 1", "="], "A")
+    # the first repeated or lost: Diverged, nothing held, the rest 16 or Diverged
+    go(shape, several, OLD, [start, "f", "=", "=", "f", "="], "B")
+    go(shape, several, OLD, [start, "f", "f", "="], "B")
+    # a new connection between them: 14; then the session is sent whole again
+    go(shape, several, OLD, [start, "f", "=", "h " + HELLO, "f", "=", "h " + BIND, "=", line + " 0", "f", "=", "f", "="], "A")
+    go(shape, several, OLD, [start, "f", "=", "h " + BIND, "f", "=", line + " 0", "f", "=", "f"], "B")
+    # the session goes to another handle between them: 14, what was held is gone; sent whole to the new one, and to the first, bound again
+    go(shape, several, OLD, [start, "f", "=", "h " + OTHER, "f", "="], "B")
+    go(shape, several, OLD, [start, "f", "=", "h " + OTHER, "f", "=", line + " 0 4", "f", "=", "f", "=", "f"], "A")
+    go(shape, several, OLD, [start, "f", "=", "h " + OTHER, line + " 0 4", "f", "=", "h " + BIND, "f", "=", line + " 0", "f", "=", "f", "=", "f"], "A")
+    go(SMALL, GAPS, OLD, [start, "h " + OTHER, "f", "=", line + " 0 4", "f", "=", "f"], "A")
+
+
+line_ways("w", LARGE, two(BATCH_LIMIT))
+line_ways("W", MIDDLE, two(BRANCH_LIMIT))
+
+# four frames on the branch line: passed; each in turn lost, repeated, damaged, and the last that the line lets through
+ALL = ["f", "="] * 4
+go(MIDDLE, FOUR, OLD, ["W 1", *ALL, "f"], "A")
+for i in range(4):
+    passed, rest = ["f", "="] * i, ["f", "="] * (3 - i)
+    go(MIDDLE, FOUR, OLD, ["W 1", *passed, "f", *rest], "B")
+    go(MIDDLE, FOUR, OLD, ["W 1", *passed, "f", "=", "=", *rest], "A" if i == 3 else "B")
+    go(MIDDLE, FOUR, OLD, ["W 1", *passed, "f", *(DAMAGE if i == 0 else DAMAGE[:7]), "=", *rest], "A")
+    go(MIDDLE, FOUR, OLD, ["W 1", *passed, "h " + HELLO, "f", "=", *rest], "B")
+    go(MIDDLE, FOUR, OLD, ["W 1", *passed, "h " + HELLO, "f", "=", *rest, "h " + BIND, "W 0", *ALL, "f"], "A")
+
+# begun on one line and, after a frame, anew on the other: the first one's frame is held, and the other's Reset undoes it
+go(MIDDLE, FOUR, OLD, ["W 1", "f", "=", "w 2", "f", "=", "f"], "A")
+# on the other line to another handle, which the session goes to: 14 for the first, held or not
+go(MIDDLE, FOUR, OLD, ["W 1", "f", "=", "h " + OTHER, "f", "=", "w 0 4", "f", "=", "f"], "A")
+go(LARGE, two(BATCH_LIMIT), OLD, ["w 1", "f", "=", "h " + OTHER, "f", "=", "W 0 4", "f", "=", "f", "=", "f"], "A")
+go(MIDDLE, FOUR, OLD, ["w 1", "f", "h " + OTHER, "=", "W 0 4", "f", "=", "f", "=", "f"], "B")
+# the other line's commit numbers, one of them left out: Diverged
+go(MIDDLE, FOUR, OLD, ["W 1", "f", "=", "f", "=", "w 2", "f", "="], "B")
+go(MIDDLE, FOUR, OLD, ["W 1", "f", "=", "f", "=", "w 3", "f", "=", "f"], "A")
+
+# ---- version 2 on both lines: each step with what must be written for it, by document 02
 LONG, WIDE = "t:20261115-12:00:00.123456789012", "t:20261115-12:00:00.123456"
 FIRST, LATEST = (f"h:{hello(version, EPOCH).hex()}" for version in (1, 2))
-MADE, BOUND, BEGIN = ["n 2 200 16", "o:B"], f"h:{BIND}", f"w 3 {EPOCH} 0"
+MADE, BOUND = ["n 2 200 16", "o:B"], f"h:{BIND}"
+BEGIN = f"w 3 {EPOCH} 0"
 VERSIONS: list[tuple[str, str | None]] = [
     # a session with a stamp of 30 bytes, sent whole in version 2
     *((line, None) for line in (*MADE, LONG, "m:one")),
@@ -172,8 +212,9 @@ VERSIONS: list[tuple[str, str | None]] = [
     *((line, None) for line in (*MADE, "t:20261115-12:00:00")),
     (FIRST, "2/0/0"), (BOUND, "7/0/0"), (BEGIN, None), (WIDE, None), ("f", "R 32"), ("t:20261115-12:00:00.123", None), ("f", None), ("=", "5/0/0 A"), ("f", "done"),
 ]
-script.extend(step for step, said in VERSIONS)
-wanted.extend(said for step, said in VERSIONS if said is not None)
+for line in "wW":
+    script.extend(line + step[1:] if step == BEGIN else step for step, said in VERSIONS)
+    wanted.extend(said for step, said in VERSIONS if said is not None)
 
 write("crates/vectors_copy/stdin", joined(script))
 write("crates/vectors_copy/stdout", joined(wanted))

@@ -10,7 +10,8 @@ from pathlib import Path
 
 ROOT = Path(__file__).resolve().parents[2]
 TOP = 2**64 - 1
-BATCH_LIMIT = 1048576
+# the message bytes that a batch must exceed for a new one to start: on the head office's line, and on the branch line
+BATCH_LIMIT, BRANCH_LIMIT = 1048576, 16384
 FNV_START, FNV_PRIME = 0xCBF29CE484222325, 0x100000001B3
 
 # a Batch's part

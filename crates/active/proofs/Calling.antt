@@ -73,7 +73,7 @@ later version (suc n) stamp f = refl
 module _ (limit : ℕ) (shape : Shape) (w b : List ℕ) (s : Sending) (out : List ℕ) where
   pub not_stored : stored_at shape w b s.place ≡ none → SendsWhole limit shape w b s out out (Err Refusal.RulesBroken)
   unfolding step_from area_from
-  not_stored k = record { answer = rw k refl; area = rw k refl }
+  not_stored k = record { answer = rw k refl; area = rw k refl; stays_on = tt }
 
   module _ (a : Session) (k : stored_at shape w b s.place ≡ some a) where
     abbrev down : Option ℕ
@@ -81,7 +81,7 @@ module _ (limit : ℕ) (shape : Shape) (w b : List ℕ) (s : Sending) (out : Lis
 
     is_refused : (r : Refusal) → down ≡ some (number_of r) → SendsWhole limit shape w b s out out (Err r)
     unfolding step_from area_from
-    is_refused r d = record { answer = rw (k, d) refl; area = rw (k, d) refl }
+    is_refused r d = record { answer = rw (k, d) refl; area = rw (k, d) refl; stays_on = tt }
 
     pub is_spent : is_some s.from ≡ true → top ≤ s.last.0 → SendsWhole limit shape w b s out out (Err Refusal.RulesBroken)
     is_spent f g = is_refused Refusal.RulesBroken (rw (going s.from f) (rw (le-leb top s.last.0 g) refl))
@@ -105,7 +105,7 @@ module _ (limit : ℕ) (shape : Shape) (w b : List ℕ) (s : Sending) (out : Lis
         unfolding step_from area_from send_next
         is_done f =
             let d : down ≡ none = goes_on (rw f refl) in
-            record { answer = rw (k, d, f) refl; area = rw (k, d, f) refl }
+            record { answer = rw (k, d, f) refl; area = rw (k, d, f) refl; stays_on = tt }
 
 -- ---- one call
 
@@ -138,10 +138,10 @@ module _ (limit : ℕ) (shape : Shape) (w b : List ℕ) (s : Sending) (out : Lis
     pub is_short : (r : Refusal) → WroteBatch limit a s.handle s.epoch.0 (s.last.0 + 1) from out out' (Err r) → SendsWhole limit shape w b s out out' (Err r)
     is_short r p =
         let n : ltb (length out) (length (encode sent)) ≡ true = lt-ltb (length out) (length (encode sent)) (omega (arith, p.1)) in
-        rw p.0 (record { answer = sym (going_step ∙ rw n refl); area = p.2 ∙ sym (going_area ∙ rw n refl) })
+        rw p.0 (record { answer = sym (going_step ∙ rw n refl); area = p.2 ∙ sym (going_area ∙ rw n refl); stays_on = tt })
 
     pub is_frame : (b' : BatchWritten) → WroteBatch limit a s.handle s.epoch.0 (s.last.0 + 1) from out out' (Ok b')
-        → SendsWhole limit shape w b s out out' (Ok (Some (record { len = b'.len; next = record { version = s.version; place = s.place; handle = s.handle; epoch = s.epoch; last = record { 0 = s.last.0 + 1 }; from = b'.resume_from } })))
+        → SendsWhole limit shape w b s out out' (Ok (Some (record { len = b'.len; next = record { version = s.version; place = s.place; handle = s.handle; epoch = s.epoch; last = record { 0 = s.last.0 + 1 }; from = b'.resume_from; line = s.line } })))
     is_frame b' p =
         let n : ltb (length out) (length (encode sent)) ≡ false = le-ltb (length out) (length (encode sent)) (omega (arith, p.0, p.1)) in
-        record { answer = sym (going_step ∙ rw (n, ← p.0, p.3) refl); area = p.2 ∙ sym (going_area ∙ rw n refl) }
+        record { answer = sym (going_step ∙ rw (n, ← p.0, p.3) refl); area = p.2 ∙ sym (going_area ∙ rw n refl); stays_on = refl }

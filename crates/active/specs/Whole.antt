@@ -11,13 +11,23 @@ use Rattle.model_frame.specs.Frame.{Frame}
 use Rattle.model_frame.specs.Writing.{encode}
 use Rattle.model_session.specs.Session.{Session, top, suits}
 use Rattle.model_session.specs.Sender.{Sender, new_sender, send_next, cannot_send}
-use Rattle.model_session.specs.Whole.{whole_frames, longest_like}
+use Rattle.model_session.specs.Whole.{whole_frames, longest_like, batch_limit}
 use Rattle.model_standby.specs.Store.{session_at}
 use Rattle.store_areas.specs.declared.Shape.{Shape}
 use Rattle.store_areas.specs.Areas.{allowed, places_of}
 use Rattle.active_batch.specs.Batch.{number_or_none}
+use Rattle.active.specs.declared.Line.{Line}
 use Rattle.active.specs.declared.Sending.{Sending}
 use Rattle.active.specs.declared.Sent.{Sent}
+
+-- a batch with more message bytes than these is full on a branch line, which takes smaller frames
+abbrev pub branch_limit : ℕ
+branch_limit = 16384
+
+-- the message bytes above which a batch is full, on each line: what is said below of any limit is used for these two
+abbrev pub limit_of : Line → ℕ
+limit_of Line.HeadOffice = batch_limit
+limit_of Line.Branch = branch_limit
 
 -- the model's sender
 abbrev pub sender_of : Sending → Sender
@@ -46,9 +56,15 @@ start_from limit version (some a) i h e last =
     (cond (not (suits version a.stamp)) (refused Refusal.long_stamp)
     (cond (cannot_send limit a (new_sender h e last)) (refused Refusal.numbers_past) (ready i version (new_sender h e last))))
 
+-- what is begun is on this line
+abbrev pub BegunOn : Line → Result Sending why.Refusal → Type 0
+BegunOn line (Ok s) = s.line ≡ line
+BegunOn line (Err e) = Unit {0}
+
 -- THE PROMISE OF BEGINNING: the store is only read
-pub record Begins (limit version : ℕ) (shape : Shape) (w b : List ℕ) (i h e last : ℕ) (r : Result Sending why.Refusal) : Type 0 where
+pub record Begins (limit : ℕ) (line : Line) (version : ℕ) (shape : Shape) (w b : List ℕ) (i h e last : ℕ) (r : Result Sending why.Refusal) : Type 0 where
   pub start : start_of r ≡ start_from limit version (stored_at shape w b i) i h e last
+  pub begun_on : BegunOn line r
 
 -- ---- one call
 
@@ -110,10 +126,17 @@ unfoldable pub area_from : ℕ → ℕ → Option Session → Sender → List �
 area_from limit version none s out = out
 area_from limit version (some a) s out = filled_unless (turned_down version a s) (send_next limit a s) out
 
+-- the line stays with the sending
+abbrev pub StaysOn : Line → SendAnswer → Type 0
+StaysOn line (Ok (Some s)) = s.next.line ≡ line
+StaysOn line (Ok None) = Unit {0}
+StaysOn line (Err e) = Unit {0}
+
 -- THE PROMISE OF A CALL: the store is only read
 pub record SendsWhole (limit : ℕ) (shape : Shape) (w b : List ℕ) (s : Sending) (out out' : List ℕ) (r : SendAnswer) : Type 0 where
   pub answer : step_of r ≡ step_from limit s.version (stored_at shape w b s.place) s.place (sender_of s) (length out)
   pub area : out' ≡ area_from limit s.version (stored_at shape w b s.place) (sender_of s) out
+  pub stays_on : StaysOn s.line r
 
 -- calls, one after the other, over one store: the frames that they gave, as bytes, and the state that the last one left
 pub data SendCalls (limit : ℕ) (shape : Shape) (w b : List ℕ) : Sending → List (List ℕ) → Sending → Type 0 where

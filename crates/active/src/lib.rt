@@ -1,8 +1,8 @@
 // Sending a session whole, one frame a call (active.rs, send_whole).
 #![tactic(auto)]
 
-ghost use Rattle.model_session.specs.Whole.{batch_limit};
-ghost use Rattle.active.specs.Whole.{Begins, SendsWhole};
+ghost use Rattle.std.specs.Prelude.{◌≡◌};
+ghost use Rattle.active.specs.Whole.{limit_of, Begins, SendsWhole};
 
 use active_batch::{BatchWritten, SendBatch};
 use base_refusals::Refusal;
@@ -10,8 +10,15 @@ use frame_fields::{CommitNumber, Epoch};
 use frame_stamp::Protocol;
 use store_areas::{Shape, View};
 
-// A sending: the version that its frames are in, the session's place, the handle, the epoch, the last commit number, and the number that it goes on from:
-// 0 at first, as the words of a sending have it for C, none once it is done.
+// The line that a sending goes over: a head office's, or a branch's, which takes smaller frames.
+#[derive(Clone, Copy)]
+pub enum Line {
+    HeadOffice,
+    Branch,
+}
+
+// A sending: the version that its frames are in, the session's place, the handle, the epoch, the last commit number, the number that it goes on from (0 at first,
+// as the words of a sending have it for C, none once it is done), and the line that it goes over.
 #[derive(Clone, Copy)]
 pub struct Sending {
     pub version: u16,
@@ -20,6 +27,7 @@ pub struct Sending {
     pub epoch: Epoch,
     pub last: CommitNumber,
     pub from: Option<u64>,
+    pub line: Line,
 }
 
 // A frame's length, and what to hand to the next call.
@@ -29,14 +37,27 @@ pub struct Sent {
     pub next: Sending,
 }
 
+// The line's limit.
+fn batch_bytes(line: Line) -> u64
+    ensures { result ≡ limit_of line }
+{
+    match line {
+        Line::HeadOffice => Sending::SNAPSHOT_BATCH_BYTES,
+        Line::Branch => Sending::BRANCH_BATCH_BYTES,
+    }
+}
+
 impl Sending {
-    // The message bytes above which a batch is full.
+    // The message bytes above which a batch is full, on a head office's line and on a branch line.
     pub const SNAPSHOT_BATCH_BYTES: u64 = 1_048_576;
 
-    // Begins to send the session at a place to a handle in a version, numbered on from its last commit number. Gives what to hand to the
+    pub const BRANCH_BATCH_BYTES: u64 = 16_384;
+
+    // Begins to send the session at a place to a handle over a line in a version, numbered on from its last commit number. Gives what to hand to the
     // first call; a session that isn't stored is 25, a version that there isn't 11, a stamp that it doesn't take 32, commit numbers that would
     // pass 2^64 - 1 are 24. The areas, the place and the handle are what C lends and names, each of its own.
     pub fn begin(
+        line: Line,
         version: u16,
         shape: Shape,
         words: &[u64],
@@ -46,7 +67,7 @@ impl Sending {
         epoch: Epoch,
         last: CommitNumber,
     ) -> Result<Sending, Refusal>
-        ensures { Begins batch_limit version shape words.now bytes.now place handle epoch.0 last.0 result }
+        ensures { Begins (limit_of line) line version shape words.now bytes.now place handle epoch.0 last.0 result }
     {
         let view = View::with_place(shape, words, bytes, place)?;
         let protocol = Protocol::new(version)?;
@@ -54,7 +75,7 @@ impl Sending {
         if !stored.suits(protocol) {
             return Err(Refusal::LongStamp);
         }
-        let count = active_batch::batches(&stored, Self::SNAPSHOT_BATCH_BYTES);
+        let count = active_batch::batches(&stored, batch_bytes(line));
         if u64::MAX - last.0 < count as u64 {
             return Err(Refusal::NumbersPast);
         }
@@ -65,6 +86,7 @@ impl Sending {
             epoch,
             last,
             from: Some(0),
+            line,
         })
     }
 
@@ -77,7 +99,7 @@ impl Sending {
         bytes: &[u8],
         out: &mut [u8],
     ) -> Result<Option<Sent>, Refusal>
-        ensures { SendsWhole batch_limit shape words.now bytes.now self out.old out.new result }
+        ensures { SendsWhole (limit_of self.line) shape words.now bytes.now self out.old out.new result }
     {
         let view = View::with_place(shape, words, bytes, self.place)?;
         if self.from.is_some() && self.last.0 == u64::MAX {
@@ -94,7 +116,7 @@ impl Sending {
         let last = CommitNumber(self.last.0 + 1);
         let batch = SendBatch {
             from,
-            limit: Self::SNAPSHOT_BATCH_BYTES,
+            limit: batch_bytes(self.line),
             handle: self.handle,
             epoch: self.epoch,
             commit_no: last,

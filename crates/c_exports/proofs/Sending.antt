@@ -5,11 +5,10 @@ use mathlib.Core.List.{List}
 use mathlib.Core.Option.{Option, none, some}
 use Prim.Native.Nat.{ℕ, ◌≤◌}
 use native.Mathlib.Omega.{arith}
-use borrow.Author.Tests.{le-ltb, eq-eqb}
-use lib.Dec.{ltb}
+use lib.Dec.{ltb, eqb}
 use lib.ListN.{length, get_or, set, length-set}
 use lib.Seq.{get_or-set_same, get_or-set_other}
-use Rattle.std.specs.Prelude.{Some, Result, Ok}
+use Rattle.std.specs.Prelude.{Some, Ok}
 use Rattle.base_flags.specs.Flag.{is_set}
 use Rattle.base_refusals.specs.declared.Refusal.{Refusal}
 use Rattle.model_text.specs.Version.{is_version}
@@ -23,7 +22,7 @@ use Rattle.active.specs.declared.Sent.{Sent}
 use Rattle.active.specs.Whole.{SendAnswer, sender_of, stored_at, SendStart, ready, start_of, start_from, SendStep, gives, finished, step_of, turned_down, send_answer, unless_refused, step_from, SendsWhole}
 use Rattle.active.specs.Whole as whole
 use Rattle.c_code.specs.Codes.{done_code}
-use Rattle.c_exports.specs.Sendings.{from_word, done_byte, start_in, send_code, NextWords, Resumes, SendIs}
+use Rattle.c_exports.specs.Sendings.{from_word, done_byte, sender_in, start_in, send_code, NextWords, Resumes, SendIs}
 
 -- ---- a call keeps the handle and the epoch
 
@@ -98,10 +97,6 @@ module _ (limit : ℕ) (shape : Shape) (w b : List ℕ) (s : Sending) (q : List 
 
 -- ---- the call that begins it
 
-begins : (limit version : ℕ) (a : Option Session) (i h e : ℕ) (q : List ℕ) (x : Result Sending Refusal) → 4 ≤ length q → get_or q 1 0 ≡ 0 → start_of x ≡ start_from limit version a i h e (get_or q 0 0)
-    → start_in limit version a i h e q ≡ start_of x
-begins limit version a i h e q x long z begun = rw (le-ltb (length q) 4 long, eq-eqb (get_or q 1 0) 0 z) (sym begun)
-
 not_refused : (b : Bool) (n : ℕ) (x : SendStart) {j v : ℕ} {t : Sender} → ready j v t ≡ cond b (whole.SendStart.refused n) x → ready j v t ≡ x
 not_refused true n x {j} {v} {t} p = absurd (omega (arith, clash p))
   where
@@ -122,16 +117,21 @@ new_start limit version (some a) i h e last p =
     let numbered = not_refused (cannot_send limit a (new_sender h e last)) 24 _ suited in
     (cc, cc)
 
+-- and so is what the words stand for
+state_for : (limit version : ℕ) (a : Option Session) (i h e : ℕ) (q : List ℕ) {j v : ℕ} {t : Sender} → ready j v t ≡ start_in limit version a i h e q → (j ≡ i) × (t.handle ≡ h) × (t.epoch ≡ e)
+state_for limit version a i h e q {j} {v} {t} p = go (eqb (get_or q 1 0) 0) p
+  where
+    go : (b : Bool) → ready j v t ≡ cond b (start_from limit version a i h e (get_or q 0 0)) (ready i version (sender_in h e q)) → (j ≡ i) × (t.handle ≡ h) × (t.epoch ≡ e)
+    go true p = let n = new_start limit version a i h e (get_or q 0 0) p in (n.0, ap (λ (x : Sender). x.handle) n.1, ap (λ (x : Sender). x.epoch) n.1)
+    go false p = let n : t ≡ sender_in h e q = cc in (cc, ap (λ (x : Sender). x.handle) n, ap (λ (x : Sender). x.epoch) n)
+
 module _ (limit version : ℕ) (shape : Shape) (w b : List ℕ) (i h e : ℕ) (q : List ℕ) {out out' q' : List ℕ} {r : ℕ} where
-  pub first_call : (s : Sending) → 4 ≤ length q → get_or q 1 0 ≡ 0 → start_of (Ok s) ≡ start_from limit version (stored_at shape w b i) i h e (get_or q 0 0)
+  pub is_called : (s : Sending) → start_of (Ok s) ≡ start_in limit version (stored_at shape w b i) i h e q
       → SendIs limit (stored_at shape w b s.place) s.handle s.epoch.0 (ready s.place s.version (sender_of s)) q q' out out' r
       → SendIs limit (stored_at shape w b i) h e (start_in limit version (stored_at shape w b i) i h e q) q q' out out' r
-  first_call s long z begun c =
-      let n = new_start limit version (stored_at shape w b i) i h e (get_or q 0 0) begun in
-      let eh : s.handle ≡ h = ap (λ (t : Sender). t.handle) n.1 in
-      let ee : s.epoch.0 ≡ e = ap (λ (t : Sender). t.epoch) n.1 in
-      let start : ready s.place s.version (sender_of s) ≡ start_in limit version (stored_at shape w b i) i h e q = sym (begins limit version (stored_at shape w b i) i h e q (Ok s) long z begun) in
+  is_called s start c =
+      let n = state_for limit version (stored_at shape w b i) i h e q start in
       subst (λ (t : SendStart). SendIs limit (stored_at shape w b i) h e t q q' out out' r) start
-      (subst (λ (k : ℕ). SendIs limit (stored_at shape w b i) h k (ready s.place s.version (sender_of s)) q q' out out' r) ee
-      (subst (λ (k : ℕ). SendIs limit (stored_at shape w b i) k s.epoch.0 (ready s.place s.version (sender_of s)) q q' out out' r) eh
+      (subst (λ (k : ℕ). SendIs limit (stored_at shape w b i) h k (ready s.place s.version (sender_of s)) q q' out out' r) n.2
+      (subst (λ (k : ℕ). SendIs limit (stored_at shape w b i) k s.epoch.0 (ready s.place s.version (sender_of s)) q q' out out' r) n.1
       (subst (λ (k : ℕ). SendIs limit (stored_at shape w b k) s.handle s.epoch.0 (ready s.place s.version (sender_of s)) q q' out out' r) n.0 c)))

@@ -5,19 +5,18 @@
 ghost use Rattle.std.specs.Prelude.{◌≡◌, ◌+◌, ◌*◌, ◌<◌, ◌≤◌, length, take, drop, set};
 ghost use Rattle.active_batch.specs.Batch.{number_or_none};
 ghost use Rattle.model_frame.specs.Reading.{decode};
-ghost use Rattle.model_session.specs.Whole.{batch_limit};
 ghost use Rattle.frame_reader.specs.Answers.{field_of, fault_of};
 ghost use Rattle.model_frame.specs.Writing.{write_outcome};
 ghost use Rattle.frame_writer.specs.Encoding.{written_of};
 ghost use Rattle.frame.specs.Answers.{frame_in};
-ghost use Rattle.active.specs.Whole.{ready, sender_of, stored_at};
+ghost use Rattle.active.specs.Whole.{limit_of, ready, sender_of, stored_at, start_of, BegunOn};
 ghost use Rattle.c_session.specs.Telling.{told_at};
 ghost use Rattle.c_exports.specs.Returned.{in_version, field_number, fault_detail, fault_code, read_code, written_code};
 ghost use Rattle.c_exports.specs.Exports.{Again, Rewrites, RewritesIn, shape_of, TellsPlace, TellsAnswer};
 ghost use Rattle.c_exports.specs.Queues.{PushesWords, Filled};
-ghost use Rattle.c_exports.specs.Sendings.{from_word, done_byte, SendIs, SendsNext};
+ghost use Rattle.c_exports.specs.Sendings.{from_word, done_byte, line_in, start_in, SendIs, SendsNext};
 
-use active::Sending;
+use active::{Line, Sending};
 use active_lag::ReplicatedLog;
 use base_refusals::Refusal;
 use c_code::{code, done, refusal};
@@ -144,7 +143,23 @@ pub extern "C" fn wz_session(
     code(c_session::session(words, bytes, shape, place, n, out))
 }
 
-// ---- whole sending: the last commit number, whether it has begun, where it goes on, whether it is done
+// ---- whole sending: the last commit number, whether it has begun, where it goes on, whether it is done, the line
+
+const SENDING_WORDS: usize = 5;
+
+// The line that a sending's words name.
+fn line_of(sending: &[u64]) -> Option<Line>
+    ensures { result ≡ line_in sending.now }
+{
+    if sending.len() < SENDING_WORDS {
+        return None;
+    }
+    match sending[4] {
+        0 => Some(Line::HeadOffice),
+        1 => Some(Line::Branch),
+        _ => None,
+    }
+}
 
 // The words of a sending for its next call.
 fn put_sending(sending: &mut [u64], last: CommitNumber, from: Option<u64>)
@@ -167,7 +182,7 @@ fn send_code(
     out: &mut [u8],
 ) -> u64
     requires { 4 ≤ length sending.old }
-    ensures { SendIs batch_limit (stored_at shape words.now bytes.now state.place) state.handle state.epoch.0 (ready state.place state.version (sender_of state)) sending.old sending.new out.old out.new result }
+    ensures { SendIs (limit_of state.line) (stored_at shape words.now bytes.now state.place) state.handle state.epoch.0 (ready state.place state.version (sender_of state)) sending.old sending.new out.old out.new result }
 {
     match state.send_whole(shape, words, bytes, out) {
         Ok(Some(sent)) => {
@@ -177,6 +192,39 @@ fn send_code(
         Ok(None) => LAST,
         Err(e) => refusal(e.number(), 0),
     }
+}
+
+// The sending that the words stand for, on a line; one that has not begun begins.
+fn state_in(
+    line: Line,
+    version: u16,
+    shape: Shape,
+    words: &[u64],
+    bytes: &[u8],
+    sending: &[u64],
+    place: usize,
+    handle: u32,
+    epoch: Epoch,
+) -> Result<Sending, Refusal>
+    requires { 5 ≤ length sending.now }
+    ensures start { start_of result ≡ start_in (limit_of line) version (stored_at shape words.now bytes.now place) place handle epoch.0 sending.now }
+    ensures begun_on { BegunOn line result }
+{
+    let last = CommitNumber(sending[0]);
+    if sending[1] == 0 {
+        return Sending::begin(
+            line, version, shape, words, bytes, place, handle, epoch, last,
+        );
+    }
+    Ok(Sending {
+        version,
+        place,
+        handle,
+        epoch,
+        last,
+        from: (sending[3] == 0).then_some(sending[2]),
+        line,
+    })
 }
 
 // The next frame of a whole sending, in the version that is handed in with each call.
@@ -201,32 +249,13 @@ pub extern "C" fn wz_send(
         bytes: c,
         messages: m,
     };
-    if sending.len() < 4 {
+    let Some(line) = line_of(sending) else {
         return refusal(Refusal::RulesBroken.number(), 0);
-    }
-    let last = CommitNumber(sending[0]);
-    if sending[1] != 0 {
-        let s = Sending {
-            version,
-            place,
-            handle,
-            epoch: Epoch(epoch),
-            last,
-            from: (sending[3] == 0).then_some(sending[2]),
-        };
-        return send_code(s, shape, words, bytes, sending, out);
-    }
-    let begun = Sending::begin(
-        version,
-        shape,
-        words,
-        bytes,
-        place,
-        handle,
-        Epoch(epoch),
-        last,
-    );
-    match begun {
+    };
+    let epoch = Epoch(epoch);
+    match state_in(
+        line, version, shape, words, bytes, sending, place, handle, epoch,
+    ) {
         Ok(s) => send_code(s, shape, words, bytes, sending, out),
         Err(e) => refusal(e.number(), 0),
     }

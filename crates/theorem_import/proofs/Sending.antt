@@ -11,6 +11,7 @@ use borrow.Author.Tests.{leb-false}
 use Rattle.model_text.specs.Printable.{is_key}
 use Rattle.model_frame.specs.Frame.{Key}
 use Rattle.model_session.specs.Session.{Session, Msg, Holdable, is_bytes}
+use Rattle.model_session.specs.Whole.{batch_limit}
 use Rattle.model_standby.specs.Store.{Place, is_stored, session_at}
 use Rattle.model_fix.specs.Import as import
 use Rattle.model_fix.specs.Import.{fault, taken, judge_file}
@@ -22,10 +23,12 @@ use Rattle.store_areas.proofs.Ruling.{rules_of, rules_true}
 use Rattle.store_areas.proofs.Lifting.{places_length, rules_kept_by}
 use Rattle.store_sessions.proofs.Opening.{raised}
 use Rattle.store_import.specs.Importing.{fault_of, refuses, imported_place, Taken}
-use Rattle.active.specs.Whole.{stored_at}
+use Rattle.active.specs.declared.Line.{Line}
+use Rattle.active.specs.Whole.{branch_limit, limit_of, stored_at}
 use Rattle.active.proofs.Giving.{whole_given}
 use Rattle.theorem_whole_copy.proofs.Demand3.{demand_3}
-use Rattle.theorem_import.specs.Imported.{session_of, LikeAny}
+use Rattle.theorem_whole_copy.proofs.Lines.{on_line}
+use Rattle.theorem_import.specs.Imported.{session_of, LikeAny, LikeAnyOn}
 
 -- ---- where nothing is refused
 
@@ -91,3 +94,17 @@ module _ (s : Shape) (k : Key) (file w w' b b' : List ℕ) (i : ℕ) (bytes : T 
         λ set same limit B own h bound x start cs z d.
         demand_3 set limit (session_of s file) B own h bound x (start (subst (λ (q : Shape). Holdable q.bytes q.messages (session_of s file)) (sym same) held)) cs z d;
   }
+
+  like_any_on : (line : Line) → LikeAnyOn line (limit_of line) s file w' b' i
+  like_any_on line = record {
+    own_frames =
+        λ version h e last from u fs hw hb begins calls.
+        (on_line line).own_frames version s w' b' i h e last (session_of s file) from u fs (record { words_u64 = hw; bytes_u8 = hb; stored = stored; begins = begins }) calls;
+    copied = λ set same B own h bound x start cs z d. like_any.copied set same (limit_of line) B own h bound x start cs z d;
+  }
+
+  pub on_head_office : LikeAnyOn Line.HeadOffice batch_limit s file w' b' i
+  on_head_office = like_any_on Line.HeadOffice
+
+  pub on_branch_line : LikeAnyOn Line.Branch branch_limit s file w' b' i
+  on_branch_line = like_any_on Line.Branch

@@ -12,9 +12,11 @@ use Rattle.fix_file.specs.Judging.{messages_in}
 use Rattle.store_areas.specs.declared.Shape.{Shape}
 use Rattle.store_areas.specs.Areas.{Rules}
 use Rattle.standby_state.specs.declared.Settings.{Settings}
+use Rattle.active.specs.declared.Line.{Line}
 use Rattle.active.specs.declared.Sending.{Sending}
-use Rattle.active.specs.Whole.{stored_at, start_of, start_from, SendCalls, SentWhole}
+use Rattle.active.specs.Whole.{limit_of, stored_at, start_of, start_from, Begins, SendCalls, SentWhole}
 use Rattle.theorem_whole_copy.specs.Demand.{Lent, Start, First, frames_of_a, Claim}
+use Rattle.theorem_whole_copy.specs.Lines.{LineCalls}
 
 -- the session that a file builds
 abbrev pub session_of : Shape → List ℕ → Session
@@ -33,5 +35,13 @@ pub record LikeAny (s : Shape) (file w b : List ℕ) (i : ℕ) : Type 0 where
       → SendCalls limit s w b from fs t → SentWhole limit s w b (session_of s file) h e last fs t
   -- demand 3: of a start, that the session sent is one the store can hold need not be asked
   pub copied : (set : Settings) → set.shape ≡ s → (limit : ℕ) (B : Session) (k : OwnKey) (h : ℕ) (bound : Bound) (x : Lent)
+      → (start : Holdable set.shape.bytes set.shape.messages (session_of s file) → Start set limit (session_of s file) B k h bound x)
+      → (cs : List Call) (z : Lent) (d : First set x.counters.epoch.0 (frames_of_a set limit (session_of s file) h bound x) x cs z) → Claim set limit (session_of s file) B k h bound x cs z d
+
+-- and on each line, with the line's own limit (document 02, U9)
+pub record LikeAnyOn (line : Line) (limit : ℕ) (s : Shape) (file w b : List ℕ) (i : ℕ) : Type 0 where
+  pub own_frames : (version h e last : ℕ) (from t : Sending) (fs : List (List ℕ)) → Small (2 ^ 64) w → Small 256 b → Begins (limit_of line) line version s w b i h e last (Ok from)
+      → LineCalls s w b from fs t → (t.line ≡ line) × SentWhole limit s w b (session_of s file) h e last fs t
+  pub copied : (set : Settings) → set.shape ≡ s → (B : Session) (k : OwnKey) (h : ℕ) (bound : Bound) (x : Lent)
       → (start : Holdable set.shape.bytes set.shape.messages (session_of s file) → Start set limit (session_of s file) B k h bound x)
       → (cs : List Call) (z : Lent) (d : First set x.counters.epoch.0 (frames_of_a set limit (session_of s file) h bound x) x cs z) → Claim set limit (session_of s file) B k h bound x cs z d

@@ -4,3 +4,4 @@ pub mod Demand3
 pub mod OneHandle
 pub mod Instance
 pub mod Lists
+pub mod Lines

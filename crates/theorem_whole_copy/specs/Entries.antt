@@ -12,8 +12,7 @@ use Rattle.replica.specs.contracts.on_frame_held as on-frame-held
 use Rattle.replica.specs.contracts.on_frame as on-frame
 use Rattle.replica.specs.contracts.flush as flush-call
 use Rattle.replica.specs.contracts.disconnected_from as disconnected-from
-use Rattle.model_session.specs.Whole.{batch_limit}
-use Rattle.active.specs.Whole.{Begins, SendsWhole}
+use Rattle.active.specs.Whole.{limit_of, Begins, SendsWhole}
 use Rattle.active.specs.contracts.Sending.begin as begin-call
 use Rattle.active.specs.contracts.Sending.send_whole as send_whole
 use Rattle.theorem_whole_copy.specs.Demand.{Calls}
@@ -62,18 +61,18 @@ pub record Joined (m : World) : Type 2 where
   pub disconnected_from_asks_nothing :
       (κs : Lfts (disconnected-from.signature).lifetimes) (a : ArgsD disconnected-from.signature κs) →
       AsksNothing m ((disconnected-from.clauses m.𝓛 m.𝓜.mem m.𝓡.run κs a).requires tt)
-  -- the active's side: a sending begins (version, shape, words, bytes, place, handle, epoch, last number), and gives its next frame
+  -- the active's side: a sending begins (line, version, shape, words, bytes, place, handle, epoch, last number), and gives its next frame, each at the limit of its line
   pub begin_gives :
       (κs : Lfts (begin-call.signature).lifetimes) (a : ArgsD begin-call.signature κs) (r : ResD begin-call.signature κs) (e : AtExit begin-call.ended κs) →
       Gives m ((begin-call.clauses m.𝓛 m.𝓜.mem m.𝓡.run κs a).ensures tt r e)
-      (Begins batch_limit a.0 a.1.0 a.1.1.0.now a.1.1.1.0.now a.1.1.1.1.0 a.1.1.1.1.1.0 a.1.1.1.1.1.1.0.0 a.1.1.1.1.1.1.1.0.0 r)
+      (Begins (limit_of a.0) a.0 a.1.0 a.1.1.0 a.1.1.1.0.now a.1.1.1.1.0.now a.1.1.1.1.1.0 a.1.1.1.1.1.1.0 a.1.1.1.1.1.1.1.0.0 a.1.1.1.1.1.1.1.1.0.0 r)
   pub begin_asks_nothing :
       (κs : Lfts (begin-call.signature).lifetimes) (a : ArgsD begin-call.signature κs) →
       AsksNothing m ((begin-call.clauses m.𝓛 m.𝓜.mem m.𝓡.run κs a).requires tt)
   pub send_whole_gives :
       (κs : Lfts (send_whole.signature).lifetimes) (a : ArgsD send_whole.signature κs) (r : ResD send_whole.signature κs) (e : AtExit send_whole.ended κs) →
       Gives m ((send_whole.clauses m.𝓛 m.𝓜.mem m.𝓡.run κs a).ensures tt r e)
-      (SendsWhole batch_limit a.1.0 a.1.1.0.now a.1.1.1.0.now a.0 a.1.1.1.1.0.now e.1.1.1.1.0.now r)
+      (SendsWhole (limit_of a.0.line) a.1.0 a.1.1.0.now a.1.1.1.0.now a.0 a.1.1.1.1.0.now e.1.1.1.1.0.now r)
   pub send_whole_asks_nothing :
       (κs : Lfts (send_whole.signature).lifetimes) (a : ArgsD send_whole.signature κs) →
       AsksNothing m ((send_whole.clauses m.𝓛 m.𝓜.mem m.𝓡.run κs a).requires tt)

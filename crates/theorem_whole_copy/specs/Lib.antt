@@ -1,3 +1,4 @@
 pub mod Demand
 pub mod OneHandle
 pub mod Entries
+pub mod Lines

@@ -3,10 +3,11 @@
 // `n S C M` a new store of S places, `o:TEXT` opens the session with this target, `p I` place I; what follows is about that place:
 // a change as vectors_fill has them;
 // `w HANDLE EPOCH LAST` a sending, `v HANDLE EPOCH LAST LENGTH` one that lends so many bytes first and more after a 9,
-// `x LAST FROM` a call with a state that no beginning gave.
+// `x LAST FROM` a call with a state that no beginning gave; `W`, `V` and `X` the same on the branch line.
 // The areas that are changed and their shape are not one struct, as in vectors_fill.
 #![tactic(auto)]
 
+use active::Line;
 use frame_stamp::Protocol;
 use std::io;
 use store_areas::Shape;
@@ -20,6 +21,14 @@ struct At {
     place: usize,
 }
 
+// The line of a sending: the branch line by a capital letter.
+fn line_of(line: &[u8]) -> Line {
+    match line.first() {
+        Some(b'W' | b'V' | b'X') => Line::Branch,
+        _ => Line::HeadOffice,
+    }
+}
+
 // A sending, in version 1: what is recorded is the Rust's.
 fn sending(
     rt: &impl Print,
@@ -29,21 +38,23 @@ fn sending(
     out: &mut [u8],
 ) -> io::Result<()> {
     let mut numbers = words(rest(line));
-    if line.starts_with(b"x") {
+    let on = line_of(line);
+    if line.starts_with(b"x") || line.starts_with(b"X") {
         let last = number(&mut numbers);
         let from = number(&mut numbers);
-        return vectors_sendings::odd(rt, Protocol::FIRST, stored, place, last, from, out);
+        return vectors_sendings::odd(rt, on, Protocol::FIRST, stored, place, last, from, out);
     }
     let handle = small(&mut numbers);
     let epoch = number(&mut numbers);
     let last = number(&mut numbers);
-    let short = if line.starts_with(b"v") {
+    let short = if line.starts_with(b"v") || line.starts_with(b"V") {
         number(&mut numbers) as usize
     } else {
         out.len()
     };
     vectors_sendings::whole(
         rt,
+        on,
         Protocol::FIRST,
         stored,
         place,
@@ -82,7 +93,7 @@ fn command(
             shape,
             place: number(&mut numbers) as usize,
         }),
-        Some(b'w' | b'v' | b'x') => {
+        Some(b'w' | b'v' | b'x' | b'W' | b'V' | b'X') => {
             let stored = Stored {
                 words,
                 bytes,

@@ -3,12 +3,13 @@
 // B or neither, by a hash over all six parts. What it must write was recorded from the Rust by tests/make/copy_vectors.py, which also wrote
 // the script, and what it must write in version 2. A line is a letter, a character, and what it takes:
 // `n S C M` two new stores of S places and a new standby, `o:TEXT` opens A with this target; a change of A as vectors_fill has them;
-// `h:DIGITS` a frame for the standby; `w HANDLE EPOCH LAST` begins the sending in the version that the standby's connection speaks: what the standby has now is B;
+// `h:DIGITS` a frame for the standby; `w HANDLE EPOCH LAST` begins the sending in the version that the standby's connection speaks, `W` on the branch line: what the
+// standby has now is B;
 // `f` takes the next frame; `=` gives it to the standby; `x AT N` gives it with N added to its byte AT.
 // The areas and their shape are not one struct, as in vectors_fill.
 #![tactic(auto)]
 
-use active::Sending;
+use active::{Line, Sending};
 use frame_fields::{CommitNumber, Epoch, Incarnation, Summary};
 use frame_reader::Span;
 use frame_stamp::Protocol;
@@ -44,6 +45,7 @@ impl Way {
                 epoch: Epoch(0),
                 last: CommitNumber(0),
                 from: None,
+                line: Line::HeadOffice,
             },
             len: 0,
             before: None,
@@ -168,7 +170,7 @@ fn hand_with(
     Ok(next)
 }
 
-// Begins the sending; `before` is B's hash.
+// Begins the sending, on the branch line by a capital letter; `before` is B's hash.
 fn begin(
     rt: &impl Print,
     line: &[u8],
@@ -177,12 +179,17 @@ fn begin(
     way: Way,
     before: Option<u64>,
 ) -> io::Result<Way> {
-    let mut numbers = vectors_script::words(line);
+    let mut numbers = vectors_script::words(vectors_script::rest(line));
+    let on = if line.starts_with(b"W") {
+        Line::Branch
+    } else {
+        Line::HeadOffice
+    };
     let version = Protocol::of_byte(way.replica.version2).number();
     let handle = small(&mut numbers);
     let epoch = Epoch(number(&mut numbers));
     let last = CommitNumber(number(&mut numbers));
-    match Sending::begin(version, way.shape, words, bytes, 0, handle, epoch, last) {
+    match Sending::begin(on, version, way.shape, words, bytes, 0, handle, epoch, last) {
         Ok(sending) => Ok(Way {
             sending,
             before,
@@ -243,14 +250,10 @@ fn command(
     let rest = vectors_script::rest(line);
     match line.first() {
         Some(b'n') => Ok(make(rest, words_a, bytes_a, words_b, bytes_b)),
-        Some(b'w') => begin(
-            rt,
-            rest,
-            words_a,
-            bytes_a,
-            way,
-            hash(words_b, bytes_b, shape),
-        ),
+        Some(b'w' | b'W') => {
+            let before = hash(words_b, bytes_b, shape);
+            begin(rt, line, words_a, bytes_a, way, before)
+        }
         Some(b'f') => take(rt, words_a, bytes_a, out, way),
         Some(b'h') => hand_digits(rt, rest, words_b, bytes_b, holds, way, a),
         Some(b'=') => hand_with(rt, 0, 0, out, words_b, bytes_b, holds, way, a),

@@ -2,7 +2,7 @@
 // The state is new in each turn, the store and the area are not, so they come apart.
 #![tactic(auto)]
 
-use active::{Sending, Sent};
+use active::{Line, Sending, Sent};
 use base_refusals::Refusal;
 use frame_fields::{CommitNumber, Epoch};
 use std::io;
@@ -80,9 +80,10 @@ fn turns(
     Ok(state)
 }
 
-// A sending in a version to its end, and one call after it.
+// A sending on a line, in a version, to its end, and one call after it.
 pub fn whole(
     rt: &impl Print,
+    line: Line,
     version: u16,
     stored: Stored,
     place: usize,
@@ -94,6 +95,7 @@ pub fn whole(
 ) -> io::Result<()> {
     let epoch = Epoch(epoch);
     match Sending::begin(
+        line,
         version,
         stored.shape,
         stored.words,
@@ -115,6 +117,7 @@ pub fn whole(
 // A call with a state that no beginning gave.
 pub fn odd(
     rt: &impl Print,
+    line: Line,
     version: u16,
     stored: Stored,
     place: usize,
@@ -129,6 +132,7 @@ pub fn odd(
         epoch: Epoch(0),
         last: CommitNumber(last),
         from: Some(from),
+        line,
     };
     let _ = turn(rt, s, stored, out)?;
     Ok(())

@@ -5,12 +5,12 @@ use std::process::ExitCode;
 
 use turbojet::SessionId;
 use turbojet::store::SessionStorage;
-use turbojet_replica::active::reach::whole;
 use turbojet_replica::frame::Frame;
+use turbojet_replica::{active, branch};
 
-use crate::call::{Key, Setting, hold_for_any};
+use crate::call::{Key, Line, Setting, hold_for_any};
 use crate::differences::{FIRST, LATEST, reading};
-use crate::library::{self, outcome};
+use crate::library::{self, SENDING, line_word, outcome};
 use crate::ours::Ours;
 use crate::rust::Rust;
 use crate::side::Side;
@@ -249,9 +249,9 @@ fn rebinding(name: &str, handles: [u32; 2]) -> Row {
     timed(name, 100_000, || by_us(&mut us, next(&mut given)), || by_rust(&mut rust, next(&mut taken), &mut out))
 }
 
-/// A full session of messages of these lengths in turn, sent whole and taken by a standby: both, the sending, the taking;
-/// and how many bytes went.
-fn sending(lengths: std::ops::RangeInclusive<usize>) -> ([Row; 3], usize) {
+/// A full session of messages of these lengths in turn, sent whole on a line and taken by a standby: both, the sending, the
+/// taking; and how many bytes and frames went.
+fn sending(line: Line, lengths: std::ops::RangeInclusive<usize>) -> ([Row; 3], usize, usize) {
     const MESSAGES: u64 = 65_536;
     let setting = setting(1, 33_554_432, MESSAGES, 0);
     let mut pair = Pair::new(&setting);
@@ -267,21 +267,24 @@ fn sending(lengths: std::ops::RangeInclusive<usize>) -> ([Row; 3], usize) {
     let id = SessionId::from_key(begin, sender, target, "").expect("a key");
     let bind = wire::bind(0, 0, 0, &key(0));
     let (mut area, mut frame) = (vec![0; 2 << 20], Vec::new());
-    let row = |what| Row { name: format!("{MESSAGES} messages of {of}{what}"), ours: f64::MAX, rust: f64::MAX };
+    let on = if line == Line::Branch { ", on the branch line" } else { "" };
+    let row = |what| Row { name: format!("{MESSAGES} messages of {of}{on}{what}"), ours: f64::MAX, rust: f64::MAX };
     let [mut both, mut sent, mut taken] =
         ["sent whole into a standby", "the sending alone", "the taking alone"].map(|what| row(format!(": {what}")));
-    let mut bytes = 0;
+    let (mut bytes, mut frames) = (0, 0);
     for _ in 0..ROUNDS {
         by_us(&mut our_standby, &bind);
         by_rust(&mut their_standby, &bind, &mut out);
-        let (mut sending, mut takes, mut sends) = ([0; 4], 0.0, 0.0);
-        bytes = 0;
+        let (mut sending, mut takes, mut sends) = ([0; SENDING], 0.0, 0.0);
+        sending[SENDING - 1] = line_word(line);
+        (bytes, frames) = (0, 0);
         loop {
             let mut len = None;
             sends += nanoseconds(1, &mut || len = us.next_frame(&mut sending, &mut area));
             let Some(len) = len else { break };
             takes += nanoseconds(1, &mut || by_us(&mut our_standby, &area[..len]));
             bytes += len;
+            frames += 1;
         }
         least(&mut sent.ours, sends);
         least(&mut taken.ours, takes);
@@ -289,8 +292,12 @@ fn sending(lengths: std::ops::RangeInclusive<usize>) -> ([Row; 3], usize) {
         let (mut batches, mut takes) = (Vec::new(), 0.0);
         let mut sends = nanoseconds(1, &mut || {
             let mut log = theirs.replica.storage().open(&id).expect("stored");
-            batches = whole(log.as_mut(), 0, 0, 0);
+            batches = match line {
+                Line::HeadOffice => active::reach::whole(log.as_mut(), 0, 0, 0),
+                Line::Branch => branch::reach::whole(log.as_mut(), 0, 0, 0),
+            };
         });
+        assert_eq!(batches.len(), frames, "both send as many frames");
         for batch in batches {
             let batch = Frame::Batch(batch);
             sends += nanoseconds(1, &mut || {
@@ -305,7 +312,7 @@ fn sending(lengths: std::ops::RangeInclusive<usize>) -> ([Row; 3], usize) {
     }
     assert_eq!(our_standby.state().sessions, their_standby.state().sessions, "both have the session");
     assert_eq!(us.state().sessions, theirs.state().sessions, "both sent the same");
-    ([both, sent, taken], bytes)
+    ([both, sent, taken], bytes, frames)
 }
 
 fn least(least: &mut f64, value: f64) {
@@ -385,11 +392,16 @@ fn calls() {
 
 pub fn sendings() {
     reading(FIRST).expect("a version");
-    for lengths in [300..=300, 512..=512, 200..=399] {
-        let (rows, sent) = sending(lengths);
+    let head_office = [300..=300, 512..=512, 200..=399].map(|lengths| (Line::HeadOffice, lengths));
+    let branch = [300..=300, 200..=399].map(|lengths| (Line::Branch, lengths));
+    for (line, lengths) in head_office.into_iter().chain(branch) {
+        let (rows, sent, frames) = sending(line, lengths);
         rows.iter().for_each(print);
+        let [both, alone, _] = &rows;
+        let (name, frames) = (format!("the sending alone, a frame of {frames}"), frames as f64);
+        print(&Row { name, ours: alone.ours / frames, rust: alone.rust / frames });
         let copy = copying(sent);
-        let (ours, rust) = (rows[0].ours / copy, rows[0].rust / copy);
+        let (ours, rust) = (both.ours / copy, both.rust / copy);
         println!(
             "| one memcpy of its {sent} bytes: ours is {ours:.1} of them, the Rust's {rust:.1} | {copy:.1} | {copy:.1} | |"
         );

@@ -28,6 +28,15 @@ pub fn hold_for_any(bytes: u64, messages: u64) -> u64 {
 /// Begin string, sender, target, suffix.
 pub type Key = [Vec<u8>; 4];
 
+/// The line that a session is sent on (document 02, U9).
+#[derive(Debug, Clone, Copy, PartialEq, Eq)]
+pub enum Line {
+    HeadOffice,
+    Branch,
+}
+
+pub const LINES: [Line; 2] = [Line::HeadOffice, Line::Branch];
+
 #[derive(Debug, Clone, PartialEq, Eq)]
 pub enum Call {
     Held(Vec<u8>),
@@ -38,7 +47,7 @@ pub enum Call {
     Unchecked,
     State,
     Summary { n: u64, key: Key },
-    Whole { handle: u32, epoch: u64, last: u64, key: Key, length: Option<u64> },
+    Whole { line: Line, handle: u32, epoch: u64, last: u64, key: Key, length: Option<u64> },
     Queue { max_lag: u64, drained: u64, lasts: Vec<u64> },
     Resend { entries: u64, key: Key, ranges: Vec<Range> },
     Import { key: Key, file: Vec<u8> },
@@ -113,8 +122,10 @@ impl Call {
             ["U"] => Self::Unchecked,
             ["S"] => Self::State,
             ["Y", n, k] => Self::Summary { n: number(n)?, key: key(k)? },
-            ["W", h, epoch, last, k] => Self::whole(h, epoch, last, k, None)?,
-            ["W", h, epoch, last, k, length] => Self::whole(h, epoch, last, k, Some(number(length)?))?,
+            [letter @ ("W" | "B"), h, epoch, last, k] => Self::whole(letter, h, epoch, last, k, None)?,
+            [letter @ ("W" | "B"), h, epoch, last, k, length] => {
+                Self::whole(letter, h, epoch, last, k, Some(number(length)?))?
+            }
             ["Q", max_lag, drained, ref lasts @ ..] => Self::Queue {
                 max_lag: number(max_lag)?,
                 drained: number(drained)?,
@@ -136,8 +147,9 @@ impl Call {
         })
     }
 
-    fn whole(h: &str, epoch: &str, last: &str, k: &str, length: Option<u64>) -> Option<Self> {
-        Some(Self::Whole { handle: handle(h)?, epoch: number(epoch)?, last: number(last)?, key: key(k)?, length })
+    fn whole(letter: &str, h: &str, epoch: &str, last: &str, k: &str, length: Option<u64>) -> Option<Self> {
+        let line = if letter == "B" { Line::Branch } else { Line::HeadOffice };
+        Some(Self::Whole { line, handle: handle(h)?, epoch: number(epoch)?, last: number(last)?, key: key(k)?, length })
     }
 }
 
@@ -152,8 +164,9 @@ impl fmt::Display for Call {
             Self::Unchecked => f.write_str("U"),
             Self::State => f.write_str("S"),
             Self::Summary { n, key } => write!(f, "Y {n} {}", key_text(key)),
-            Self::Whole { handle, epoch, last, key, length } => {
-                write!(f, "W {handle} {epoch} {last} {}", key_text(key))?;
+            Self::Whole { line, handle, epoch, last, key, length } => {
+                let letter = if *line == Line::Branch { 'B' } else { 'W' };
+                write!(f, "{letter} {handle} {epoch} {last} {}", key_text(key))?;
                 length.map_or(Ok(()), |length| write!(f, " {length}"))
             }
             Self::Queue { max_lag, drained, lasts } => {

@@ -4,14 +4,16 @@
 use std::process::ExitCode;
 use std::time::{Duration, Instant};
 
-use crate::call::{Call, Setting};
+use crate::call::{Call, LINES, Setting};
 use crate::count::Counts;
 #[cfg(ours)]
 use crate::differences;
 use crate::differences::{FIRST, LATEST, NO_VERSIONS};
 use crate::digits;
 use crate::frames::{Reading, read_by_rust};
-use crate::generate::{Player, Random, any_frame, cycle, key, many_setting, reading, resend, setting, wide_setting};
+use crate::generate::{
+    Player, Random, any_frame, branch_setting, cycle, key, many_setting, reading, resend, setting, wide_setting,
+};
 use crate::imports;
 #[cfg(calls)]
 use crate::ours::Ours;
@@ -184,7 +186,9 @@ impl Round {
     fn import(&mut self, run: &mut Run, rust: &mut Rust, random: &mut Random) -> Result<(), Difference> {
         let key = key(random);
         self.call(run, rust, &Call::Import { key: key.clone(), file: imports::file(random) })?;
-        self.call(run, rust, &Call::Whole { handle: 1, epoch: 0, last: 0, key, length: None })
+        LINES.into_iter().try_for_each(|line| {
+            self.call(run, rust, &Call::Whole { line, handle: 1, epoch: 0, last: 0, key: key.clone(), length: None })
+        })
     }
 
     /// So many files, each into a small store of its own.
@@ -246,13 +250,14 @@ fn made_by_us(_: &Setting, _: bool) -> Result<(), Difference> {
     Ok(())
 }
 
-/// The days of a cycle, a hundred scripts, three with commits on many handles and one over many sessions, which always have their
-/// time; then all inputs, in turn, until the time is over.
+/// The days of a cycle, a hundred scripts, three with commits on many handles, five with several batches on the branch line and one
+/// over many sessions, which always have their time; then all inputs, in turn, until the time is over.
 fn inputs(round: &mut Round, seconds: u64, seed: u64) -> Result<(), Difference> {
     let mut random = Random(seed);
     round.days()?;
     (0..100).try_for_each(|_| round.script(&mut random))?;
     (0..3).try_for_each(|_| round.script_of(&mut random, &many_setting()))?;
+    (0..5).try_for_each(|_| round.script_of(&mut random, &branch_setting()))?;
     round.script_of(&mut random, &wide_setting())?;
     let end = Instant::now() + Duration::from_secs(seconds);
     round.making()?;

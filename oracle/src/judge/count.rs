@@ -2,7 +2,7 @@
 
 use std::collections::BTreeMap;
 
-use crate::call::Call;
+use crate::call::{Call, Line};
 use crate::differences::Taken;
 use crate::frames::Reading;
 
@@ -44,7 +44,12 @@ fn frame_name(digits: &str) -> String {
 }
 
 /// Where a stamp's length stands in a Bound's frame and in the first frame of a sending.
-const LONG_STAMPS: [(&str, usize); 2] = [("take Bind", 4 + 1 + 4 + 3 * 8), ("whole sending", 4 + 1 + 4 + 8 + 8 + 1 + 4 + 1 + 1)];
+const LONG_STAMPS: [(&str, usize); 3] = [("take Bind", 4 + 1 + 4 + 3 * 8), (WHOLE, SENT), (BRANCH, SENT)];
+const SENT: usize = 4 + 1 + 4 + 8 + 8 + 1 + 4 + 1 + 1;
+
+/// A sending on the head office's line, and on the branch line.
+const WHOLE: &str = "whole sending";
+const BRANCH: &str = "whole sending on the branch line";
 
 /// Whether the answer's digits have a stamp there that version 1 doesn't take. A sending without a stamp has another change there,
 /// whose bytes after the first are of a number or a length.
@@ -95,7 +100,13 @@ impl Counts {
             Call::State => ("state".into(), "dumped".into()),
             Call::Summary { .. } if answer.starts_with('R') => ("summary".into(), answer.into()),
             Call::Summary { .. } => ("summary".into(), "summary".into()),
-            Call::Whole { .. } => ("whole sending".into(), last_line(answer).into()),
+            Call::Whole { line, .. } => {
+                let asked = if *line == Line::Branch { BRANCH } else { WHOLE };
+                if answer.lines().count() > 2 {
+                    self.add("several frames".into(), asked.into());
+                }
+                (asked.into(), last_line(answer).into())
+            }
             Call::Queue { .. } => {
                 let drained = answer.lines().any(|line| !line.starts_with("drained=0"));
                 ("lag queue".into(), if drained { "drained" } else { "all wait" }.into())
@@ -149,10 +160,14 @@ impl Counts {
         let nacks = ["StaleEpoch", "Diverged", "Lag", "Restarted"].map(|reason| format!("Nack {reason}"));
         let numbers = (1..=26).filter(|number| *number != 8).chain([28, 29, 30, 35, 36]).map(|number| format!("R {number}"));
         let versions = ["1 to 2", "2 to 1", "take Bind, told", "whole sending, told"].map(String::from);
+        let sent = ["done", "R 9", "R 24", "R 25", "R 32"].into_iter().filter(|answered| !self.was(BRANCH, answered));
+        let several = [WHOLE, BRANCH].into_iter().filter(|asked| !self.was("several frames", asked));
         let given = |name: &String| self.0.values().any(|answers| answers.contains_key(name));
         let all = names.split(' ').map(String::from).chain(taken).chain(nacks).chain(numbers).chain(versions);
         let long = ["take Bind", "whole sending"].into_iter().filter(|asked| !self.was(asked, "R 32"));
-        all.filter(|name| !given(name)).chain(long.map(|asked| format!("R 32 ({asked})"))).collect()
+        let sent = sent.map(|answered| format!("{answered} ({BRANCH})"));
+        let sent = sent.chain(several.map(|asked| format!("several frames ({asked})")));
+        all.filter(|name| !given(name)).chain(long.map(|asked| format!("R 32 ({asked})"))).chain(sent).collect()
     }
 
     fn was(&self, asked: &str, answered: &str) -> bool {

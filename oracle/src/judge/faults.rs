@@ -1,8 +1,9 @@
 //! Faults that are put in between our side and the comparison, one at a time, by the number in WIZHDULET_FAULT: the
-//! comparison must find each (oracle/judge-test). The stand-in has those from 1 to 54 in its own text.
+//! comparison must find each (oracle/judge-test). The stand-in has those from 1 to 64 in its own text.
 
 use std::sync::OnceLock;
 
+use crate::call::Line;
 use crate::library::{Areas, DONE, Imported, Outcome, Resent, Size};
 #[cfg(calls)]
 use crate::library::{Ask, Counters, Place};
@@ -44,12 +45,24 @@ pub fn after_reading(outcome: &mut Outcome, out: &mut Out) {
     }
 }
 
+/// The line that a session is sent on.
+pub fn line(line: Line) -> Line {
+    match line {
+        Line::Branch if fault(173) => Line::HeadOffice,
+        Line::HeadOffice if fault(174) => Line::Branch,
+        _ => line,
+    }
+}
+
 /// A step of a sending.
 pub fn after_sending(outcome: Outcome, out: &mut Out, sending: &mut [u64]) -> Outcome {
     match outcome {
         Err((32, _)) if fault(167) => out.flip(0),
         Err((32, _)) if fault(168) && sending[0] == u64::MAX => return Err((24, 0)),
         Err((11, _)) if fault(169) => flip_word(sending.first_mut()),
+        Err((25, _)) if fault(175) && sending.get(4).is_some_and(|line| *line > 1) => return Err((11, 0)),
+        Err((25, _)) if fault(176) => flip_word(sending.get_mut(4)),
+        Ok(len) if fault(177) && len != DONE => flip_word(sending.get_mut(4)),
         Ok(DONE) if fault(119) => flip_word(sending.get_mut(2)),
         Ok(len) if fault(120) && len != DONE => out.flip(len as usize),
         Err((9, _)) if fault(121) => out.flip(0),

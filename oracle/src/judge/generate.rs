@@ -1,7 +1,7 @@
 //! Inputs made by chance, the same for the same seed: frames of every kind, good and damaged, and
 //! call scripts that mostly make sense.
 
-use crate::call::{Call, Counter, Key, Setting, hold_for_any};
+use crate::call::{Call, Counter, Key, LINES, Line, Setting, hold_for_any};
 use crate::differences::{FIRST, LATEST};
 #[cfg(calls)]
 use crate::library::Place;
@@ -53,6 +53,11 @@ impl Random {
             6..9 => self.pick(&EDGES),
             _ => self.next(),
         }
+    }
+
+    /// A line, without a draw: what else comes by chance stays the same.
+    fn line(&self) -> Line {
+        LINES[(self.0 >> 32) as usize % 2]
     }
 
     fn handle(&mut self) -> u32 {
@@ -346,10 +351,15 @@ pub struct Player {
 
 /// A setting: mostly a few places and small limits, so that they are met.
 pub fn setting(random: &mut Random) -> Setting {
-    let (many, large) = (random.percent(2), random.below(600) == 0);
-    let many = many && !large;
-    let bytes = if large { 4 << 20 } else { random.pick(&[0, 1, 7, 20, 40, 200]) };
-    let messages = if large { 12 } else { random.pick(&[0, 1, 2, 3, 4, 8]) };
+    let (many, size) = (random.percent(2), random.below(600));
+    let (large, middle) = (size == 0, (1..4).contains(&size));
+    let many = many && !large && !middle;
+    let bytes = match size {
+        _ if large => 4 << 20,
+        _ if middle => random.pick(&[40_000, 70_000]),
+        _ => random.pick(&[0, 1, 7, 20, 40, 200]),
+    };
+    let messages = if large || middle { 12 } else { random.pick(&[0, 1, 2, 3, 4, 8]) };
     let any = hold_for_any(bytes, messages);
     Setting {
         incarnation: random.pick(&[0, 1, 7, 7, u64::MAX]),
@@ -381,6 +391,12 @@ pub fn many_setting() -> Setting {
     Setting { incarnation: 7, lag: 3, bytes: 20, messages: 2, sessions: 70, handles: 80, hold: hold_for_any(20, 2) }
 }
 
+/// A setting in which a session has several batches on the branch line.
+pub fn branch_setting() -> Setting {
+    let hold = hold_for_any(100_000, 12);
+    Setting { incarnation: 7, lag: 3, bytes: 100_000, messages: 12, sessions: 2, handles: 2, hold }
+}
+
 /// A setting with more sessions and handles than a byte can tell apart.
 pub fn wide_setting() -> Setting {
     Setting { incarnation: 7, lag: 3, bytes: 7, messages: 1, sessions: 300, handles: 300, hold: hold_for_any(7, 1) }
@@ -399,8 +415,28 @@ fn several_batches(random: &mut Random, key: &Key) -> Vec<Call> {
         wire::batch(&Batch { handle: 0, epoch: 0, commit_no: seq, part: wire::COMMIT, changes, records: Vec::new() })
     };
     let commits: Vec<_> = (1..=6).map(|seq| Call::Frame(commit(seq))).collect();
-    let whole = Call::Whole { handle: 0, epoch: 0, last: 6, key: key.clone(), length: None };
-    [Call::Frame(wire::bind(0, 0, 0, key))].into_iter().chain(commits).chain([whole]).collect()
+    let whole = |line| Call::Whole { line, handle: 0, epoch: 0, last: 6, key: key.clone(), length: None };
+    [Call::Frame(wire::bind(0, 0, 0, key))].into_iter().chain(commits).chain(LINES.map(whole)).collect()
+}
+
+/// A session with batches about the branch line's limit, numbers skipped between them, sent on both lines: from any commit number,
+/// from those with which as many batches just end at 2^64 - 1 or go past it, and into an area that not every frame fits.
+fn branch_batches(random: &mut Random, key: &Key) -> Vec<Call> {
+    let mut next = 1;
+    let mut commit = |commit_no: u64| {
+        let len = random.pick(&[0, 1, 2, 8_192, 8_193, 16_383, 16_384, 16_385, 16_386, 32_768, 40_000]);
+        let skipped = if random.percent(40) { 1 + random.below(3) } else { 0 };
+        let mut changes: Vec<_> = (0..skipped.min(1)).map(|_| change::bare_record(next + skipped - 1)).collect();
+        changes.push(change::record(next + skipped, &vec![commit_no as u8; len]));
+        next += skipped + 1;
+        wire::batch(&Batch { handle: 0, epoch: 0, commit_no, part: wire::COMMIT, changes, records: Vec::new() })
+    };
+    let commits: Vec<_> = (1..=7).map(|commit_no| Call::Frame(commit(commit_no))).collect();
+    let places = [(7, None), (u64::MAX - random.below(6), None), (7, Some(16_300 + random.below(300)))];
+    let sent = places.into_iter().chain((0..7).map(|back| (u64::MAX - back, Some(0)))).flat_map(|(last, length)| {
+        LINES.map(|line| Call::Whole { line, handle: 0, epoch: 0, last, key: key.clone(), length })
+    });
+    [Call::Frame(wire::bind(0, 0, 0, key))].into_iter().chain(commits).chain(sent).collect()
 }
 
 impl Player {
@@ -412,6 +448,7 @@ impl Player {
             _ if count > 256 => all_bound(random.pick(&[0, 7, 200]), &keys),
             _ if count > 60 => full_of_pending(&mut random, &keys),
             _ if setting.bytes > 1 << 20 => several_batches(&mut random, &keys[0]),
+            _ if setting.bytes > 1 << 14 => branch_batches(&mut random, &keys[0]),
             _ if random.percent(40) => vec![Call::Held(wire::hello(LATEST, 0, b"node", &[]))],
             _ => Vec::new(),
         };
@@ -646,13 +683,13 @@ impl Player {
         if self.random.percent(50) {
             self.sending = match self.random.percent(50) {
                 true => self.parts(rust, &key, handle, last),
-                false => rust.whole(handle, epoch, last, &key, None).frames,
+                false => rust.whole(self.random.line(), (handle, epoch), last, &key, None).frames,
             };
             return Call::State;
         }
         let last = if self.random.percent(80) { last } else { self.random.number() };
         let length = if self.random.percent(80) { None } else { Some(self.random.below(200)) };
-        Call::Whole { handle, epoch, last, key, length }
+        Call::Whole { line: self.random.line(), handle, epoch, last, key, length }
     }
 
     /// A session's changes cut into batches at any place.

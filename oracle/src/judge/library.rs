@@ -1,6 +1,7 @@
 //! The boundary: the functions of the static libraries, over slices. README.md has their signatures and what they
 //! answer. The stand-in gives the same functions.
 
+use crate::call::Line;
 use crate::out::UNTOUCHED;
 #[cfg(calls)]
 use crate::out::untouched;
@@ -120,6 +121,20 @@ pub enum Ask<'a> {
 /// The bits of an answer: work was done; a sending has nothing more to give.
 const WORK: u64 = 1 << 63;
 pub const DONE: u64 = 1 << 62;
+
+/// How many words a sending has: the last commit number, whether it has begun, where it goes on, whether it is done, and the line,
+/// which no call writes.
+pub const SENDING: usize = 5;
+
+/// A line as a sending's last word has it. Every other number breaks the rules.
+pub fn line_word(line: Line) -> u64 {
+    match line {
+        Line::HeadOffice => 0,
+        Line::Branch => 1,
+    }
+}
+
+pub const NO_LINES: [u64; 6] = [2, 3, 255, 256, 1 << 32, u64::MAX];
 
 /// What a function answers: a length, or a refusal with its detail.
 pub type Outcome = Result<u64, (u32, u64)>;

@@ -1,6 +1,6 @@
 //! Our side: the library's functions over areas that this driver lends, with a look at what they write of each.
 
-use crate::call::{Counter, Key, Setting};
+use crate::call::{Counter, Key, LINES, Line, Setting};
 use crate::differences::{FIRST, LATEST, NO_VERSIONS};
 #[cfg(calls)]
 use crate::differences;
@@ -8,7 +8,7 @@ use crate::faults::{self, fault};
 use crate::frames::Reading;
 #[cfg(calls)]
 use crate::library::Said;
-use crate::library::{self, Areas, Ask, Counters, DONE, Imported, Place, RUBBISH, Settings, Size, outcome};
+use crate::library::{self, Areas, Ask, Counters, DONE, Imported, NO_LINES, Place, RUBBISH, SENDING, Settings, Size, line_word, outcome};
 use crate::out::Out;
 use crate::ranges::{Listed, Range};
 use crate::side::{Answer, Handle, Pushed, Sent, Session, Side, State, Summary};
@@ -54,6 +54,17 @@ pub struct Ours {
 
 /// What one call of a sending gives: a frame, none where it is done, or a refusal.
 type Step = Result<Option<Vec<u8>>, u32>;
+
+/// A sending's words, and two past them.
+type Sending = [u64; SENDING + 2];
+
+/// Words in a state, on a line.
+fn sending_of(state: [u64; 4], line: u64) -> Sending {
+    let mut words = [RUBBISH; SENDING + 2];
+    words[..4].copy_from_slice(&state);
+    words[SENDING - 1] = line;
+    words
+}
 
 /// What `wz_session` tells of a place.
 struct Told {
@@ -179,7 +190,7 @@ impl Ours {
     }
 
     /// The next frame's length in a sending of place 0.
-    pub fn next_frame(&mut self, sending: &mut [u64; 4], out: &mut [u8]) -> Option<usize> {
+    pub fn next_frame(&mut self, sending: &mut [u64; SENDING], out: &mut [u8]) -> Option<usize> {
         let answer = library::send(&self.areas, self.settings.size, sending, out, 0, (0, 0), FIRST);
         let len = outcome(answer).expect("stored");
         (len != DONE).then_some(len as usize)
@@ -269,8 +280,8 @@ impl Ours {
         (0..self.areas.words[0]).find(|place| self.told(*place, 0).is_ok_and(|told| told.key == *key))
     }
 
-    /// One call of a sending, which may write its four words and the area.
-    fn send_next(&mut self, sending: &mut [u64; 6], place: u64, to: (u32, u64), length: usize, version: u16) -> Step {
+    /// One call of a sending, which may write its first four words and the area.
+    fn send_next(&mut self, sending: &mut [u64], place: u64, to: (u32, u64), length: usize, version: u16) -> Step {
         let out = self.sent.lend(length);
         let answer = outcome(library::send(&self.areas, self.settings.size, sending, out, place, to, version));
         let answer = faults::after_sending(answer, &mut self.sent, sending);
@@ -279,18 +290,35 @@ impl Ours {
     }
 
     /// What a sending answers before it gives a frame, at its beginning and later on: 25 before 11, 11 before 32, 32 before 24 and 9.
-    /// A refusal writes nothing.
+    /// No third line and no fewer words are taken. A refusal writes nothing.
     fn refuses_to_send(&mut self, place: u64) {
+        const STATES: [[u64; 4]; 4] = [[0; 4], [0, 1, 0, 0], [0, 1, 0, 1], [0, 1, 1, 0]];
+        let states = if cfg!(plain) { &STATES[..1] } else { &STATES };
+        LINES.map(line_word).into_iter().for_each(|line| self.refuses_on(line, states, place));
+        let mut asks = |state: [u64; 4], line: u64, words: usize| {
+            let mut sending = sending_of(state, line);
+            let before = sending;
+            for version in NO_VERSIONS.into_iter().chain([FIRST, LATEST]) {
+                let step = self.send_next(&mut sending[..words], place, (1, 0), LONG, version);
+                assert_eq!((step, sending), (Err(25), before), "wz_send with {words} words in version {version}");
+            }
+        };
+        for state in STATES.into_iter().chain([[u64::MAX, 0, 0, 0]]) {
+            NO_LINES.into_iter().for_each(|line| asks(state, line, SENDING + 2));
+            (0..SENDING).for_each(|words| asks(state, 0, words));
+        }
+    }
+
+    fn refuses_on(&mut self, line: u64, states: &[[u64; 4]], place: u64) {
         let stored = place < self.areas.words[0];
         let long = stored && self.told(place, 0).expect("stored").summary.stamp.is_some_and(|stamp| stamp.len() > 21);
         let mut ask = |words: [u64; 4], version: u16| {
-            let mut sending = [words[0], words[1], words[2], words[3], RUBBISH, RUBBISH];
+            let mut sending = sending_of(words, line);
             let before = sending;
             let step = self.send_next(&mut sending, place, (1, 0), 0, version);
             assert_eq!(before, sending, "wz_send changes its sending only with a frame");
             step
         };
-        let states: &[[u64; 4]] = if cfg!(plain) { &[[0; 4]] } else { &[[0; 4], [0, 1, 0, 0], [0, 1, 0, 1], [0, 1, 1, 0]] };
         let unless = |is: bool, number: u32, other: Step| if is { Err(number) } else { other };
         for words in states {
             for number in NO_VERSIONS {
@@ -305,14 +333,22 @@ impl Ours {
         assert_eq!(ask([u64::MAX, 0, 0, 0], LATEST), Err(if stored { 24 } else { 25 }));
     }
 
-    /// A sending of a place as a handle and an epoch, after a commit number, into an area of `length` bytes.
-    fn send_all(&mut self, place: u64, (handle, epoch): (u32, u64), last: u64, length: usize, version: u16) -> Sent {
+    /// A sending of a place on a line as a handle and an epoch, after a commit number, into an area of `length` bytes.
+    fn send_all(
+        &mut self,
+        line: Line,
+        place: u64,
+        (handle, epoch): (u32, u64),
+        last: u64,
+        length: usize,
+        version: u16,
+    ) -> Sent {
         let handle = if fault(114) && handle > 1 { handle - 1 } else { handle };
-        let (mut sending, mut frames) = ([last, 0, 0, 0, RUBBISH, RUBBISH], Vec::new());
+        let (mut sending, mut frames) = (sending_of([last, 0, 0, 0], line_word(faults::line(line))), Vec::new());
         loop {
             let before = sending;
             let step = self.send_next(&mut sending, place, (handle, epoch), length, version);
-            assert_eq!(before[4..], sending[4..], "wz_send wrote past the words of its sending");
+            assert_eq!(before[4..], sending[4..], "wz_send writes the first four words of its sending alone");
             let end = match step {
                 Ok(None) => Ok(()),
                 Ok(Some(frame)) => {
@@ -328,7 +364,7 @@ impl Ours {
         }
     }
 
-    /// An area that takes any frame of a sending: one batch's limit, one message more, and the
+    /// An area that takes any frame of a sending on either line: the greater of their limits, one message more, and the
     /// changes' own bytes.
     fn long_enough(&self) -> usize {
         let Size { bytes, messages, .. } = self.settings.size;
@@ -342,7 +378,7 @@ impl Ours {
         let told = told(&bytes);
         assert_eq!(self.telling(place, 0, bytes.len() - 1), Err(9), "wz_session in an area too short");
         assert_eq!(self.telling(place, 0, bytes.len()), Ok(bytes), "wz_session in an area of its length");
-        let sent = self.send_all(place, (0, 0), 0, self.long_enough(), LATEST);
+        let sent = self.send_all(Line::HeadOffice, place, (0, 0), 0, self.long_enough(), LATEST);
         assert_eq!(sent.end, Ok(()), "a stored session can be sent in version 2");
         Session {
             key: told.key,
@@ -509,11 +545,11 @@ impl Side for Ours {
         self.told(place, n).map(|told| told.summary)
     }
 
-    fn whole(&mut self, handle: u32, epoch: u64, last: u64, key: &Key, length: Option<u64>) -> Sent {
+    fn whole(&mut self, line: Line, to: (u32, u64), last: u64, key: &Key, length: Option<u64>) -> Sent {
         let place = self.place_of(key).unwrap_or(self.areas.words[0]);
         let length = length.map_or_else(|| self.long_enough(), |length| length.min(1 << 28) as usize);
         self.refuses_to_send(place);
-        self.send_all(place, (handle, epoch), last, length, self.counters.version())
+        self.send_all(line, place, to, last, length, self.counters.version())
     }
 
     fn queue(&mut self, max_lag: u64, drained: u64, lasts: &[u64]) -> Result<Vec<Pushed>, u32> {

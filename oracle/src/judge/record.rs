@@ -4,7 +4,7 @@ use std::fs;
 use std::io;
 use std::path::Path;
 
-use crate::call::{Call, Counter, Key, hold_for_any};
+use crate::call::{Call, Counter, Key, LINES, Line, hold_for_any};
 use crate::differences::{self, FIRST, LATEST};
 use crate::digits;
 use crate::frames::{program, read_by_rust};
@@ -68,7 +68,15 @@ impl Script {
     }
 
     fn whole(self, last: u64, key: Key, length: Option<u64>) -> Self {
-        self.call(&Call::Whole { handle: 3, epoch: 5, last, key, length })
+        self.sent(Line::HeadOffice, last, key, length)
+    }
+
+    fn branch(self, last: u64, key: Key, length: Option<u64>) -> Self {
+        self.sent(Line::Branch, last, key, length)
+    }
+
+    fn sent(self, line: Line, last: u64, key: Key, length: Option<u64>) -> Self {
+        self.call(&Call::Whole { line, handle: 3, epoch: 5, last, key, length })
     }
 
     fn queue(self, max_lag: u64, drained: u64, lasts: &[u64]) -> Self {
@@ -146,7 +154,7 @@ fn life() -> Script {
         .state()
         .note("batches go on from there")
         .frame(commit(1, 5, 6, &[change::record(9, b"nine")]))
-        .call(&Call::Whole { handle: 1, epoch: 5, last: 6, key: key("B"), length: None })
+        .call(&Call::Whole { line: Line::HeadOffice, handle: 1, epoch: 5, last: 6, key: key("B"), length: None })
         .note("checked, then it takes over, and takes nothing more")
         .line("P")
         .frame(wire::checked(1, 5, 7))
@@ -589,7 +597,7 @@ fn promotion() -> Script {
         .note("the skipped numbers hold no messages; a second promotion does it again")
         .summary(3, key("T0"))
         .summary(4, key("T0"))
-        .call(&Call::Whole { handle: 0, epoch: 0, last: 0, key: key("T0"), length: None })
+        .call(&Call::Whole { line: Line::HeadOffice, handle: 0, epoch: 0, last: 0, key: key("T0"), length: None })
         .line("P")
         .line("U")
         .state()
@@ -672,6 +680,43 @@ fn sendings() -> Script {
         .whole(0, key("one"), Some(0))
         .note("not stored")
         .whole(0, key("nobody"), None)
+}
+
+/// Both lines on one session of two batches, with skipped numbers at the second's start.
+fn branch_line() -> Script {
+    let both = |script: Script, last: u64, name: &str, length: Option<u64>| {
+        script.all(LINES, |script, line| script.sent(line, last, key(name), length))
+    };
+    let script = Script::new("7 0 40000 4 4 2")
+        .note("a new session, and one of few bytes: the same frame on both lines")
+        .frame(hello(5))
+        .frame(wire::bind(1, 5, 0, &key("new")))
+        .frame(wire::bind(1, 5, 0, &key("few")))
+        .frame(commit(1, 5, 1, &[change::bare_record(2), change::record(3, b"few"), change::bare_record(7)]));
+    let script = both(both(script, 0, "new", None), 0, "few", None)
+        .note("16,385 bytes end a batch of the branch line; numbers are skipped before the next message")
+        .frame(wire::bind(1, 5, 0, &key("two")))
+        .frame(commit(1, 5, 1, &[change::record(1, &[b'a'; 16_385])]))
+        .frame(commit(1, 5, 2, &[change::bare_record(3), change::record(4, b"b"), change::in_flight(1)]));
+    let script = both(script, 0, "two", None)
+        .note("16,384 don't")
+        .frame(wire::bind(1, 5, 0, &key("one")))
+        .frame(commit(1, 5, 1, &[change::record(1, &[b'a'; 16_384]), change::record(2, b"b")]))
+        .branch(0, key("one"), None)
+        .branch(u64::MAX - 1, key("one"), Some(0))
+        .note("two commit numbers must be left for two batches: 24 on the branch line, 9 on the other; 24 on both");
+    let script = both(script, u64::MAX - 1, "two", Some(0));
+    let script = both(script, u64::MAX, "two", Some(0))
+        .note("and where two are left")
+        .branch(u64::MAX - 2, key("two"), Some(0))
+        .note("9 for the first frame; 25 for a session that isn't stored, before all others");
+    let script = both(both(script, 0, "two", Some(16_000)), u64::MAX, "nobody", Some(0))
+        .note("32 over version 1, before 24 and 9")
+        .frame(hello_in(LATEST, 5))
+        .frame(wire::bind(1, 5, 0, &key("two")))
+        .frame(commit(1, 5, 1, &stamped(LONGEST_STAMP)))
+        .frame(hello(5));
+    both(both(script, 0, "two", Some(0)), u64::MAX, "two", Some(0))
 }
 
 fn queues() -> Script {
@@ -1181,6 +1226,7 @@ fn scripts() -> Vec<(String, Script)> {
         ("32-long-hold-short", long_hold(1)),
         ("33-two-versions", actives_of_two_versions()),
         ("34-version-set", version_set()),
+        ("35-branch-line", branch_line()),
     ];
     let chance = (1..=12).map(|seed| (format!("chance-{seed:02}"), by_chance(seed)));
     named.into_iter().map(|(name, script)| (name.into(), script)).chain(chance).collect()
@@ -1621,22 +1667,62 @@ fn large_sendings() -> String {
         &[0, 3_000_000, 0, 1_048_577],
         &[1_048_577],
     ];
-    lengths.into_iter().map(|lengths| large_sending(lengths) + "\n").collect()
+    let doubled = |lengths: &[usize]| lengths.iter().map(|len| (1, *len)).collect::<Vec<_>>();
+    let line = |lengths: &[usize]| {
+        let lengths_text: Vec<_> = lengths.iter().map(usize::to_string).collect();
+        format!("{} -> {}\n", lengths_text.join(","), frames_of(Line::HeadOffice, &doubled(lengths)))
+    };
+    lengths.into_iter().map(line).collect()
 }
 
-fn large_sending(lengths: &[usize]) -> String {
+/// The same about the branch line's limit; before a message with a `+` two numbers are skipped.
+fn branch_sendings() -> String {
+    const LENGTHS: [&str; 19] = [
+        "",
+        "16384,0,1",
+        "16385,1",
+        "16383,1,1",
+        "40000",
+        "16384",
+        "16385",
+        "16384,+0,+1",
+        "16385,+1",
+        "16383,1,+1",
+        "+16383,+1,+1",
+        "+16385,+0,1",
+        "8192,8192,7,7",
+        "8192,8193,7,7",
+        "8192,8193,+7,7",
+        "16385,16385,+16385,16384,16385",
+        "0,+40000,0,16385",
+        "40000,+40000,40000",
+        "16384,16384,16384,16384,16384,16384,16384,16384",
+    ];
+    let message = |word: &str| (if word.starts_with('+') { 2 } else { 0 }, word.parse().expect("a length"));
+    let line = |text: &str| {
+        let lengths: Vec<_> = text.split_terminator(',').map(message).collect();
+        format!("{text} -> {}\n", frames_of(Line::Branch, &lengths))
+    };
+    LENGTHS.into_iter().map(line).collect()
+}
+
+/// Each frame of a sending, by its length and FNV-1a, where before each message so many numbers are skipped.
+fn frames_of(line: Line, lengths: &[(u64, usize)]) -> String {
     let setting = crate::call::Setting::read("7 0 8000000 16 1 1").expect("a setting");
     let mut rust = Rust::make(&setting).expect("within the limits");
     rust.frame(&wire::bind(1, 0, 0, &key("B")), false).expect("taken");
-    for (seq, len) in (1..).zip(lengths) {
-        let msg: Vec<u8> = (0..*len as u64).map(|at| ((seq + at) % 251) as u8).collect();
-        rust.frame(&commit(1, 0, seq, &[change::bare_record(2 * seq - 1), change::record(2 * seq, &msg)]), false)
-            .expect("taken");
+    let mut next = 1;
+    for (number, (skipped, len)) in (1..).zip(lengths) {
+        let msg: Vec<u8> = (0..*len as u64).map(|at| ((number + at) % 251) as u8).collect();
+        let seq = next + skipped;
+        let bare = (seq > next).then(|| change::bare_record(seq - 1));
+        let changes: Vec<_> = bare.into_iter().chain([change::record(seq, &msg)]).collect();
+        rust.frame(&commit(1, 0, number, &changes), false).expect("taken");
+        next = seq + 1;
     }
-    let sent = rust.whole(1, 0, 0, &key("B"), None);
+    let sent = rust.whole(line, (1, 0), 0, &key("B"), None);
     let frame = |frame: &Vec<u8>| format!("{}:{:016x}", frame.len(), fnv_1a(frame));
-    let lengths: Vec<_> = lengths.iter().map(usize::to_string).collect();
-    format!("{} -> {}", lengths.join(","), sent.frames.iter().map(frame).collect::<Vec<_>>().join(" "))
+    sent.frames.iter().map(frame).collect::<Vec<_>>().join(" ")
 }
 
 /// FNV-1a, 64 bits.
@@ -1658,6 +1744,7 @@ pub fn files() -> Vec<(String, Vec<u8>)> {
         ("frames.txt".into(), frame_lines(FIRST, single_frames()).into()),
         ("frames-2.txt".into(), frame_lines(LATEST, frames_with_stamps()).into()),
         ("large-sendings.txt".into(), large_sendings().into()),
+        ("branch-sendings.txt".into(), branch_sendings().into()),
     ];
     for (name, Script(text)) in scripts() {
         files.push((format!("scripts/{name}.out"), run::<Rust>(&text).into()));

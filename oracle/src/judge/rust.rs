@@ -5,13 +5,14 @@ use std::io;
 use turbojet::SessionId;
 use turbojet::fields::ToFix;
 use turbojet::store::{Limits, MemoryStorage, SessionStorage, Stored, StoredSession};
-use turbojet_replica::active::reach::{Lag, whole};
+use turbojet_replica::active::reach::{self as head_office, Lag};
+use turbojet_replica::branch::reach as branch;
 use turbojet_replica::frame::reach::form;
 use turbojet_replica::frame::{Frame, FrameError};
 use turbojet_replica::standby::Replica;
 use turbojet_replica::standby::reach::{self, summary};
 
-use crate::call::{Counter, Key, Setting};
+use crate::call::{Counter, Key, LINES, Line, Setting};
 use crate::differences::{self, Taken};
 use crate::fix;
 use crate::ranges::{self, Listed, Range};
@@ -230,9 +231,13 @@ impl Side for Rust {
         })
     }
 
-    fn whole(&mut self, handle: u32, epoch: u64, last: u64, key: &Key, length: Option<u64>) -> Sent {
+    /// By the text whose batch limit is the line's.
+    fn whole(&mut self, line: Line, (handle, epoch): (u32, u64), last: u64, key: &Key, length: Option<u64>) -> Sent {
         let Some(mut log) = self.log(key) else { return Sent { frames: Vec::new(), end: Err(differences::MISSING) } };
-        let batches = whole(log.as_mut(), handle, epoch, last);
+        let batches = match line {
+            Line::HeadOffice => head_office::whole(log.as_mut(), handle, epoch, last),
+            Line::Branch => branch::whole(log.as_mut(), handle, epoch, last),
+        };
         let frames = batches.into_iter().map(|batch| encoded(&Frame::Batch(batch))).collect();
         differences::sending(self, log.as_ref(), last, frames, length)
     }
@@ -273,7 +278,9 @@ impl Side for Rust {
         let mut fed = self.fed(key, changes);
         let session = self.state().sessions.into_iter().find(|session| session.key == *key);
         assert_eq!(fed.state().sessions.pop(), session, "a session fed by frames");
-        assert_eq!(fed.whole(1, 0, 1, key, None).frames, self.whole(1, 0, 1, key, None).frames);
+        for line in LINES {
+            assert_eq!(fed.whole(line, (1, 0), 1, key, None).frames, self.whole(line, (1, 0), 1, key, None).frames);
+        }
         Ok(())
     }
 

@@ -2,7 +2,7 @@
 
 use std::fmt::Write;
 
-use crate::call::{Call, Counter, Key, Setting, key_text};
+use crate::call::{Call, Counter, Key, Line, Setting, key_text};
 use crate::digits;
 use crate::ranges::{Listed, Range};
 
@@ -58,7 +58,7 @@ pub struct Summary {
     pub last_outgoing: u64,
 }
 
-/// A whole sending: its frames up to "done" or the refusal that ended it.
+/// A whole sending to a handle in an epoch: its frames up to "done" or the refusal that ended it.
 pub struct Sent {
     pub frames: Vec<Vec<u8>>,
     pub end: Result<(), u32>,
@@ -82,7 +82,7 @@ pub trait Side: Sized {
     fn promote_unchecked(&mut self) -> Result<(), u32>;
     fn state(&mut self) -> State;
     fn summary(&mut self, n: u64, key: &Key) -> Result<Summary, u32>;
-    fn whole(&mut self, handle: u32, epoch: u64, last: u64, key: &Key, length: Option<u64>) -> Sent;
+    fn whole(&mut self, line: Line, to: (u32, u64), last: u64, key: &Key, length: Option<u64>) -> Sent;
     fn queue(&mut self, max_lag: u64, drained: u64, lasts: &[u64]) -> Result<Vec<Pushed>, u32>;
     fn resend(&mut self, entries: u64, key: &Key, ranges: &[Range]) -> Result<Listed, u32>;
     /// A message log built into a new session; the offset of the first faulty message stands beside 28, 29 and 30.
@@ -212,7 +212,9 @@ pub fn answer<S: Side>(side: &mut S, call: &Call) -> String {
         Call::Unchecked => done(side.promote_unchecked()),
         Call::State => side.state().lines(),
         Call::Summary { n, key } => side.summary(*n, key).map_or_else(refusal, |summary| summary.line()),
-        Call::Whole { handle, epoch, last, key, length } => side.whole(*handle, *epoch, *last, key, *length).lines(),
+        Call::Whole { line, handle, epoch, last, key, length } => {
+            side.whole(*line, (*handle, *epoch), *last, key, *length).lines()
+        }
         Call::Queue { max_lag, drained, lasts } => {
             let lines = |pushes: Vec<Pushed>| pushes.iter().map(Pushed::line).collect::<Vec<_>>().join("\n");
             side.queue(*max_lag, *drained, lasts).map_or_else(refusal, lines)

@@ -1,4 +1,4 @@
-//! A stand-in for our side: document 01, and U2, U4 and U7 of document 02, read a second time, without the Rust and without the
+//! A stand-in for our side: document 01, and U2, U4, U7 and U9 of document 02, read a second time, without the Rust and without the
 //! areas' real layout, but for the counts and the durable mark. It tries the comparison out, and faults can be put into
 //! it one at a time (WIZHDULET_FAULT) to see that the comparison finds each.
 
@@ -486,15 +486,28 @@ pub fn session(areas: &Areas, _: Size, out: &mut [u8], place: u64, n: u64) -> u6
     put(out, &numbers.blob(&session.stamp).blob(&session.marks).u64(session.last_outgoing(n)).0)
 }
 
+/// How many message bytes a batch must exceed for a new one to start, by the number of a line (document 02, U9).
+fn limit(line: u64) -> Option<usize> {
+    let (head_office, branch) = if fault(56) { (16_384, 1_048_576) } else { (1_048_576, 16_384) };
+    match line {
+        0 => Some(head_office),
+        1 if fault(55) => Some(16_385),
+        1 if fault(62) => Some(16_383),
+        1 => Some(branch),
+        _ if fault(58) => Some(branch),
+        _ => None,
+    }
+}
+
 /// A session's batches, each a list of changes in frame form.
-fn batches(session: &Session) -> Vec<Vec<Vec<u8>>> {
+fn batches(session: &Session, limit: usize) -> Vec<Vec<Vec<u8>>> {
     let mut batches = vec![vec![wire::change::reset()]];
     if !session.stamp.is_empty() {
         batches[0].push(wire::change::created_at(&session.stamp));
     }
     let (mut next, mut bytes) = (1, 0);
     for (seq, msg) in &session.messages {
-        if bytes > 1_048_576 {
+        if bytes > limit {
             batches.push(Vec::new());
             bytes = 0;
         }
@@ -527,16 +540,24 @@ pub fn send(
     version: u16,
 ) -> u64 {
     let Some(mut session) = stored(areas, place) else { return refusal(25) };
+    let words = sending.len() >= if fault(64) { 4 } else { 5 };
+    // Its own count of batches given stands for the next message number.
+    let &[last, given, _, _] = sending.first_chunk().unwrap_or(&[0; 4]);
+    let line = sending.get(4).copied().unwrap_or(0);
+    let chosen = limit(line).or((fault(60) && given > 0).then_some(1_048_576));
+    if fault(59) && chosen.is_none() && !is_version(version) {
+        return refusal(11);
+    }
+    let Some(limit) = chosen.filter(|_| words) else { return refusal(25) };
     if !is_version(version) {
         return refusal(11);
     }
     if !session.suits(version) && fault(42) {
         session.stamp.truncate(SHORT);
     }
-    let batches = batches(&session);
-    // Its own count of batches given stands for the next message number.
-    let [last, given] = [sending[0], sending[1]];
-    let spent = given == 0 && last.checked_add(batches.len() as u64).is_none();
+    let batches = batches(&session, if fault(61) && given > 0 { 1_048_576 } else { limit });
+    let counted = if fault(57) { self::batches(&session, 1_064_960 - limit).len() } else { batches.len() };
+    let spent = given == 0 && last.checked_add(counted as u64).is_none();
     if given == 0 && !session.suits(version) && !(fault(47) && spent) {
         return refusal(32);
     }
@@ -549,6 +570,9 @@ pub fn send(
     let frame = wire::batch(&wire::Batch { handle, epoch, commit_no: last + 1, part, changes, records });
     if frame.len() <= out.len() {
         (sending[0], sending[1]) = (last + 1, given + 1);
+        if fault(63) {
+            sending[4] = 0;
+        }
     }
     put(out, &frame)
 }

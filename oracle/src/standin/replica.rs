@@ -2,6 +2,8 @@
 //! module of ours (folder `reach`), so that the drivers can call what is private in it.
 
 pub mod active;
+/// active.rs with the batch limit of a branch's line.
+pub mod branch;
 pub mod frame;
 pub mod lease;
 pub mod standby;

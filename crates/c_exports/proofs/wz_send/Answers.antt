@@ -1,10 +1,11 @@
-use Rattle.std.proofs.Common.{arith}
-use Rattle.model_session.specs.Whole.{batch_limit}
+use Rattle.std.proofs.Common.{sym}
+use Rattle.active.specs.Whole.{limit_of}
 use Rattle.c_exports.specs.Exports.{shape_of}
-use Rattle.c_exports.proofs.Sending.{first_call}
+use Rattle.c_exports.proofs.Sending.{is_called}
 use Rattle.c_exports.proofs.wz_send.Goals as goal
 
 pub returns-in-Ok : goal.returns-in-Ok
 returns-in-Ok c =
     let a = c.args in
-    first_call batch_limit a.version (shape_of a.sessions a.c a.m) a.words.now a.bytes.now a.place a.handle a.epoch a.sending.now c.in-Ok.s (omega arith) c.if-sending-ne0.false c.in-Ok.ensures.start c.send_code-in-Ok.ensures
+    let called = rw c.in-Ok.ensures.begun_on at c.send_code.ensures in
+    rw (sym c.in-Some.ensures) (is_called (limit_of c.in-Some.line) a.version (shape_of a.sessions a.c a.m) a.words.now a.bytes.now a.place a.handle a.epoch a.sending.now c.in-Ok.s c.in-Ok.ensures.start called)

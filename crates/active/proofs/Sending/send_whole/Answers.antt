@@ -63,7 +63,7 @@ returns-in_err-written c =
       | else-from-eq0-via-then-from-eq0+else-not-suits w ↦ suited _ _ _ (sym (lent_suits a.shape a.words.now a.bytes.now a.self.place _ _ lent _ _ v.1 _ w.suits.ensures) ∙ w.if-not-suits.false)
       | else-from-eq0-via-else-from-eq0 w ↦ later _ _ _ w.if-from-eq0.false
     ] in
-    let wrote = rw same at (c.in_err-written.ensures a.shape.bytes long) in
+    let wrote = rw (same, c.batch_bytes.ensures) at (c.in_err-written.ensures a.shape.bytes long) in
     let p = err_from_is_err_and c.from_residual-in_err-written.result c.from_residual-in_err-written.ensures.1 in
     rw (p.1, p.2) (is_short _ a.shape a.words.now a.bytes.now a.self a.out.now _ (is_held a.shape a.words.now a.bytes.now a.self.place _ refl o.in_use) _ c.in-Some.is (below_top _ _ _ c.in-Some.is fresh) v.0 u _ _ wrote)
 
@@ -83,5 +83,5 @@ returns c =
       | else-from-eq0-via-then-from-eq0+else-not-suits w ↦ suited _ _ _ (sym (lent_suits a.shape a.words.now a.bytes.now a.self.place _ _ lent _ _ v.1 _ w.suits.ensures) ∙ w.if-not-suits.false)
       | else-from-eq0-via-else-from-eq0 w ↦ later _ _ _ w.if-from-eq0.false
     ] in
-    let wrote = rw same at (c.in_ok-written.ensures a.shape.bytes long) in
+    let wrote = rw (same, c.batch_bytes.ensures) at (c.in_ok-written.ensures a.shape.bytes long) in
     is_frame _ a.shape a.words.now a.bytes.now a.self a.out.now _ (is_held a.shape a.words.now a.bytes.now a.self.place _ refl o.in_use) _ c.in-Some.is (below_top _ _ _ c.in-Some.is fresh) v.0 u _ _ wrote
