@@ -17,6 +17,7 @@ from pathlib import Path
 
 ROOT = Path(__file__).resolve().parents[1]
 sys.path.insert(0, str(ROOT / "tests/make"))
+from checks import Checks  # noqa: E402
 from console_captures import KEYS, captured, fix  # noqa: E402
 from wire import bind, batch, checked, hello, key, record, record_none, run as run_of, set_created_at, set_in_flight, set_marks, set_next_incoming_in_flight, set_next_incoming  # noqa: E402
 
@@ -38,19 +39,13 @@ SCREENS = [
     "frames ../../oracle/recorded/frames/09-life.in", "show ../../oracle/recorded/frames/09-life.in", "explain 21", "explain 99", "version", "show", "show nothing.cap", "show .",
     "show ../../README.md", "show answers.tmp", "show --sessions", "show --other few.cap", "frames few.cap monday.cap", "show few.cap --bytes 40000000",
 ]  # fmt: skip
-failed = 0
+checks = Checks("console")
+holds = checks.holds
 
 
 def run(*arguments: str, **more) -> subprocess.CompletedProcess:
     more = {"stdout": subprocess.PIPE, "stderr": subprocess.PIPE, "cwd": HERE, **more}
     return subprocess.run([PROGRAM, *arguments], **more)
-
-
-def holds(is_so: bool, words: str) -> None:
-    global failed
-    if not is_so:
-        failed += 1
-        print(f"console: not so: {words}", file=sys.stderr)
 
 
 def frames_of(capture: bytes) -> list[int]:
@@ -348,5 +343,5 @@ terminal()
 ends()
 for file in HERE.glob("*.tmp"):
     file.unlink()
-print(f"console: {len(SCREENS)} screens, {failed} tests failed")
-sys.exit(failed != 0)
+print(f"console: {len(SCREENS)} screens, {checks.failed} tests failed")
+sys.exit(checks.failed != 0)

@@ -12,18 +12,13 @@ from pathlib import Path
 
 ROOT = Path(__file__).resolve().parents[1]
 sys.path.insert(0, str(ROOT / "tests/make"))
+from checks import Checks  # noqa: E402
 from console_captures import captured  # noqa: E402
 from wire import RESET, ack, app_record, batch, bind, bound, checked, hello, key, nack, record, record_none, run, set_created_at, set_in_flight, set_marks, set_next_incoming, set_next_incoming_in_flight, welcome  # noqa: E402
 
 FIELDS = "length kind version epoch node app_kind app_record incarnation handle max_lag begin sender target suffix commit part change outgoing incoming in_flight message stamp marks reason last_outgoing".split()  # fmt: skip
-failed = 0
-
-
-def holds(is_so: bool, words: str) -> None:
-    global failed
-    if not is_so:
-        failed += 1
-        print(f"dissector: not so: {words}", file=sys.stderr)
+checks = Checks("dissector")
+holds = checks.holds
 
 
 def packets(segments: list[tuple[int, bytes]]) -> bytes:
@@ -108,8 +103,8 @@ def main() -> None:
         bytes_ = b"".join(copy)
         kinds = seen_in(bytes_[: len(bytes_) - left], "-T", "fields", "-e", "wizhdulet.kind")
         holds(kinds == [str(frame[4]) for frame in copy][: len(copy) - (left > 0)], f"a copy is read: {kinds}")
-    print(f"dissector: {len(frames)} frames, {failed} tests failed")
-    sys.exit(failed != 0)
+    print(f"dissector: {len(frames)} frames, {checks.failed} tests failed")
+    sys.exit(checks.failed != 0)
 
 
 main()

@@ -22,19 +22,14 @@ from pathlib import Path
 
 ROOT = Path(__file__).resolve().parents[1]
 sys.path.insert(0, str(ROOT / "tests/make"))
+from checks import Checks  # noqa: E402
 from console_captures import KEYS, captured, fix  # noqa: E402
 from wire import COMMIT, LAST_WHOLE, RESET, WHOLE, app_record, batch, bind, checked, hello, key, record, record_none, run, set_created_at, set_marks, set_next_incoming, set_next_incoming_in_flight  # noqa: E402
 
 WELCOME, ACK, NACK, BOUND = 2, 5, 6, 7
 STALE, DIVERGED, LAG, RESTARTED = 1, 2, 3, 4
-failed = 0
-
-
-def holds(is_so: bool, words: str) -> None:
-    global failed
-    if not is_so:
-        failed += 1
-        print(f"standby: not so: {words}", file=sys.stderr)
+checks = Checks("standby")
+holds = checks.holds
 
 
 def frames_of(stream: bytes) -> list[bytes]:
@@ -846,5 +841,5 @@ for test in TESTS:
             test(Path(folder))
         if sys.argv[1:]:
             print(f"{test.__name__}: {time.monotonic() - began:.1f} s")
-print(f"standby: {len(TESTS)} tests, {failed} failed")
-sys.exit(failed != 0)
+print(f"standby: {len(TESTS)} tests, {checks.failed} failed")
+sys.exit(checks.failed != 0)
