@@ -1,5 +1,5 @@
 -- The log that two slices hold: every content of them means one. Assumes nothing.
-use Rattle.std.specs.Prelude.{◌≡◌, ℕ, zero, suc, ◌+◌, ◌-◌, ◌≤◌, max, Bool, cond, ◌&&◌, ◌||◌, List, [], ◌∷◌, ◌++◌, reverse, length, take, drop, ◌==◌, nat_le, nat_lt, slice_index}
+use Rattle.std.specs.Prelude.{◌≡◌, ℕ, zero, suc, ◌+◌, ◌-◌, ◌^◌, ◌<◌, ◌≤◌, max, Bool, cond, ◌&&◌, ◌||◌, List, [], ◌∷◌, ◌++◌, reverse, length, take, drop, ◌==◌, nat_le, nat_lt, slice_index}
 use Rattle.model_session.specs.Session.{Msg, stored_bytes, keep, Rising}
 use Rattle.model_session.specs.Summary.{fnv_messages, fnv_start, numbered_from}
 use Rattle.store_log.specs.LogWord
@@ -92,6 +92,24 @@ pub record NextMessage (C M next : ℕ) (w b : List ℕ) (left dist number start
 abbrev pub since : ℕ → List Msg → List Msg
 since lo [] = []
 since lo (m ∷ l) = cond (nat_le lo m.num) (m ∷ since lo l) []
+
+-- ---- the walk from the newest message back, where count messages of sum bytes together are counted, the last of them with the number bound
+
+-- of the messages with numbers from lo those that are still to be counted: they are in the entries before slot
+abbrev pub uncounted : ℕ → ℕ → ℕ → List ℕ → List ℕ → ℕ → ℕ → ℕ → ℕ → List Msg
+uncounted C M lo w b count sum slot bound = since lo (walk C (unrolled (tail_of C w) b) (entries w M (M - count) slot) sum bound)
+
+pub record Counted (C M next lo : ℕ) (w b : List ℕ) (count sum slot bound : ℕ) : Type 0 where
+  pub most : count ≤ M
+  pub room : sum ≤ C
+  pub many : length (since lo (newest_first C M next w b)) ≡ count + length (uncounted C M lo w b count sum slot bound)
+  pub long : stored_bytes (since lo (newest_first C M next w b)) ≡ sum + stored_bytes (uncounted C M lo w b count sum slot bound)
+
+-- the same by the room that is left, and by how far above lo the last number is
+pub record Reached (C M next lo : ℕ) (w b : List ℕ) (count room slot reach : ℕ) : Type 0 where
+  pub counted : Counted C M next lo w b count (C - room) slot (lo + reach)
+  pub within : room ≤ C
+  pub fits : lo + reach < 2 ^ 64
 
 -- the slot of the i-th newest entry, i from 1 to M
 abbrev pub slot_at : ℕ → ℕ → ℕ → ℕ

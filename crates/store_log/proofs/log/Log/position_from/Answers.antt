@@ -1,29 +1,24 @@
-use Rattle.std.proofs.Common.{length, refl}
-use Rattle.store_log.proofs.Reading.{counted_none, stopped_low, stopped_high, stopped_full, stopped_all, walked}
+use Rattle.std.proofs.Common.{◌≡◌, ◌+◌, length, arith}
+use Rattle.store_log.proofs.Reading.{counted_none, counted_out, reached_round, arrived}
 use Rattle.store_log.proofs.log.Log.position_from.Goals as goal
-use Rattle.store_log.proofs.log.Log.position_from.Goals.{then-number-low-via-then-number-low, then-number-low-via-else-number-low+then-bound-number, then-number-low-via-else-number-low+else-bound-number+then-cap-dist}
+use Rattle.store_log.proofs.log.Log.position_from.Goals.{then-max-eq0-via-then-max-eq0, then-max-eq0-via-else-max-eq0+then-self-low}
 
 pub returns-then-max-eq0 : goal.returns-then-max-eq0
 returns-then-max-eq0 c =
     let log = c.args.self.now in
-    counted_none (length log.bytes.now) log.max log.next c.args.low log.words.now log.bytes.now c.if-max-eq0.true
-
-pub returns-then-number-low : goal.returns-then-number-low
-returns-then-number-low c =
-    let slot = c.slot_before-slot in
-    elim c.then-number-low.branch [
-      | then-number-low-via-then-number-low w ↦
-          stopped_low _ _ _ _ _ _ _ _ _ _ _ c.loop-left.invariant c.loop-left-test.true slot.ensures.is w.if-number-low.true
-      | then-number-low-via-else-number-low+then-bound-number w ↦
-          stopped_high _ _ _ _ _ _ _ _ _ _ _ c.loop-left.invariant c.loop-left-test.true slot.ensures.is w.if-bound-number.true
-      | then-number-low-via-else-number-low+else-bound-number+then-cap-dist w ↦
-          stopped_full _ _ _ _ _ _ _ _ _ _ _ c.loop-left.invariant c.loop-left-test.true slot.ensures.is w.if-cap-dist.true
+    elim c.then-max-eq0.branch [
+      | then-max-eq0-via-then-max-eq0 w ↦
+          counted_none (length log.bytes.now) log.max log.next c.args.low log.words.now log.bytes.now w.if-max-eq0.true
+      | then-max-eq0-via-else-max-eq0+then-self-low w ↦
+          counted_out (length log.bytes.now) log.max log.next c.args.low log.words.now log.bytes.now w.if-self-low.true
     ]
 
-pub loop-left-preserved : goal.loop-left-preserved
-loop-left-preserved c =
-    let slot = c.slot_before-slot in
-    walked _ _ _ _ _ _ _ _ _ _ _ c.loop-left.invariant c.loop-left-test.true slot.ensures.is c.requires slot.ensures.within c.if-number-low.false c.if-bound-number.false c.if-cap-dist.false refl
+pub walk_back-older-requires-clause-reached : goal.walk_back-older-requires-clause-reached
+walk_back-older-requires-clause-reached c = reached_round _ _ _ _ _ _ _ _ _ _ c.if-newer-gt0.false c.walk_back-newer.ensures.reached
 
 pub returns : goal.returns
-returns c = stopped_all _ _ _ _ _ _ _ _ _ _ c.loop-left.invariant c.loop-left-test.false
+returns c =
+    let newer = c.walk_back-newer in
+    let older = c.walk_back-older in
+    let all : older.result.left + older.result.slot ≡ c.args.self.now.max + c.head-head.result = omega (arith, newer.ensures.together, older.ensures.together, c.if-newer-gt0.false) in
+    arrived _ _ _ _ _ _ _ _ _ _ _ older.ensures.reached all older.ensures.within older.ensures.stopped
