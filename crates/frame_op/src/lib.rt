@@ -117,6 +117,8 @@ impl Item for Op {
 
     ghost canon = { λ version. stands_alone (change_canon version) };
 
+    // Inlined for the same reason: as a function of its own, with all of read_op in it, it hands each change back by memory.
+    #[inline(always)]
     fn read(reader: &mut Reader, protocol: Protocol) -> Result<Op, FrameError> {
         read_op(reader, protocol)
     }

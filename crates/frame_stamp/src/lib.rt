@@ -254,6 +254,8 @@ pub fn is_stamp(s: &[u8]) -> bool
 }
 
 // s is a stamp that reading takes in this version: the first takes none that is longer than .sss.
+// Not inlined: most frames have none, and are read the slower the more stands in the way of what they have.
+#[inline(never)]
 pub fn takes_stamp(protocol: Protocol, s: &[u8]) -> bool
     ensures { result ≡ takes_stamp protocol.version s.now }
 {
