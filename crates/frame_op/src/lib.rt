@@ -136,8 +136,6 @@ pub fn skip<T: Item>(reader: &mut Reader, protocol: Protocol, count: u32) -> Res
 }
 
 // How many bytes so many items at a position take. The buffer comes by itself, not as a reader: of a slice in a struct it isn't known that its bytes are below 256.
-// Not inlined: reading and writing a frame of another kind would be slower for what a batch needs.
-#[inline(never)]
 pub fn run_len<T: Item>(
     protocol: Protocol,
     buf: &[u8],
