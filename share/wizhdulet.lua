@@ -8,33 +8,36 @@ local reasons = { "StaleEpoch", "Diverged", "Lag", "Restarted" }
 local changes = { "SetNextIncoming", "SetNextIncomingInFlight", "SetInFlight", "Record", "Record without message", "Reset", "SetCreatedAt", "SetMarks" }
 local MOST = 67108864
 
-local f = {
-    length = ProtoField.uint32("wizhdulet.length", "Body length"),
-    kind = ProtoField.uint8("wizhdulet.kind", "Kind", base.DEC, kinds),
-    version = ProtoField.uint16("wizhdulet.version", "Version"),
-    epoch = ProtoField.uint64("wizhdulet.epoch", "Epoch"),
-    node = ProtoField.string("wizhdulet.node", "Node"),
-    app_kind = ProtoField.uint16("wizhdulet.app_kind", "Kind of application record"),
-    app_record = ProtoField.bytes("wizhdulet.app_record", "Application record"),
-    incarnation = ProtoField.uint64("wizhdulet.incarnation", "Incarnation"),
-    handle = ProtoField.uint32("wizhdulet.handle", "Handle"),
-    max_lag = ProtoField.uint64("wizhdulet.max_lag", "Lag"),
-    begin = ProtoField.string("wizhdulet.begin", "Begin string"),
-    sender = ProtoField.string("wizhdulet.sender", "Sender"),
-    target = ProtoField.string("wizhdulet.target", "Target"),
-    suffix = ProtoField.string("wizhdulet.suffix", "Suffix"),
-    commit = ProtoField.uint64("wizhdulet.commit", "Commit number"),
-    part = ProtoField.uint8("wizhdulet.part", "Part", base.DEC, parts),
-    change = ProtoField.uint8("wizhdulet.change", "Change", base.DEC, changes),
-    outgoing = ProtoField.uint64("wizhdulet.outgoing", "Outgoing number"),
-    incoming = ProtoField.uint64("wizhdulet.incoming", "Next incoming"),
-    in_flight = ProtoField.uint64("wizhdulet.in_flight", "In flight"),
-    message = ProtoField.bytes("wizhdulet.message", "Message"),
-    stamp = ProtoField.string("wizhdulet.stamp", "Since"),
-    marks = ProtoField.string("wizhdulet.marks", "Marks"),
-    reason = ProtoField.uint8("wizhdulet.reason", "Reason", base.DEC, reasons),
-    last_outgoing = ProtoField.uint64("wizhdulet.last_outgoing", "last_outgoing", base.HEX),
-}
+local f = {}
+
+-- A field by its kind and its name, which a filter has behind "wizhdulet.".
+local function field(kind, name, ...) f[name] = ProtoField[kind]("wizhdulet." .. name, ...) end
+
+field("uint32", "length", "Body length")
+field("uint8", "kind", "Kind", base.DEC, kinds)
+field("uint16", "version", "Version")
+field("uint64", "epoch", "Epoch")
+field("string", "node", "Node")
+field("uint16", "app_kind", "Kind of application record")
+field("bytes", "app_record", "Application record")
+field("uint64", "incarnation", "Incarnation")
+field("uint32", "handle", "Handle")
+field("uint64", "max_lag", "Lag")
+field("string", "begin", "Begin string")
+field("string", "sender", "Sender")
+field("string", "target", "Target")
+field("string", "suffix", "Suffix")
+field("uint64", "commit", "Commit number")
+field("uint8", "part", "Part", base.DEC, parts)
+field("uint8", "change", "Change", base.DEC, changes)
+field("uint64", "outgoing", "Outgoing number")
+field("uint64", "incoming", "Next incoming")
+field("uint64", "in_flight", "In flight")
+field("bytes", "message", "Message")
+field("string", "stamp", "Since")
+field("string", "marks", "Marks")
+field("uint8", "reason", "Reason", base.DEC, reasons)
+field("uint64", "last_outgoing", "last_outgoing", base.HEX)
 protocol.fields = f
 
 -- Reads fields one after the other, and shows each.

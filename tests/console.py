@@ -38,6 +38,7 @@ SCREENS = [
     "show ../../crates/table/stdin --sessions 4 --bytes 4096 --messages 64 --handles 4",
     "frames ../../oracle/recorded/frames/09-life.in", "show ../../oracle/recorded/frames/09-life.in", "explain 21", "explain 99", "version", "show", "show nothing.cap", "show .",
     "show ../../README.md", "show answers.tmp", "show --sessions", "show --other few.cap", "frames few.cap monday.cap", "show few.cap --bytes 40000000",
+    "show few.cap --sessions 4294967295",
 ]  # fmt: skip
 checks = Checks("console")
 holds = checks.holds

@@ -694,15 +694,56 @@ def copies(here: Path) -> None:
         holds(done.returncode == 0 and standby.said("checked: 4 sessions"), f"sent: {done} {standby.log}")
     done = wizhdulet("check", old, here / "sent")
     holds(done.returncode == 0 and b"4 sessions" in done.stdout, f"sent, it is the same copy: {done}")
+    with Standby(here / "sent") as standby:
+        line = Line(standby)
+        holds(outgoing(line.bind(1, (b"FIX.4.4", b"NEW", b"VENUE", b""))) == 1 and line.ask(line.batch(1, [record(1, b"m")]))[4] == ACK, "a session that is new in the copy isn't there")
+        done = wizhdulet("send", "old", f"127.0.0.1:{standby.port}", cwd=here)
+    holds(done.returncode == 0 and shown(here / "sent")[("FIX.4.4", "NEW", "VENUE", "")][:2] == ["1", "1"], f"sent again it is as new there too: {done}")
     unchanged = copy.read_bytes()
-    done = wizhdulet("compact", copy, "--sessions", 3)
-    holds(done.returncode == 1 and copy.read_bytes() == unchanged and not (here / "copy.new").exists(), f"limits that don't fit: nothing is changed: {done}")
+    for options in (("--sessions", 3), ("--bytes", 1000), ("--messages", 10)):
+        done = wizhdulet("compact", copy, *options)
+        holds(done.returncode == 1 and copy.read_bytes() == unchanged and not (here / "copy.new").exists(), f"{options} don't fit: nothing is changed: {done}")
     with Standby(copy, "--sessions", 6) as standby:
         holds(standby.process.wait(10) == 2 and "kept with --sessions 5" in standby.log[0], f"other limits than it is kept with: {standby.log}")
     done = wizhdulet("compact", copy, "--sessions", 7, "--bytes", 30000)
     holds(done.returncode == 0 and wizhdulet("check", old, copy).returncode == 0, f"larger limits: {done}")
     with Standby(copy, "--sessions", 7, "--bytes", 30000) as standby:
         holds(standby.port > 0, f"it is kept with those: {standby.log}")
+
+
+def limits(here: Path) -> None:
+    """A handle for each of 16 openings of each session where their number isn't given, whose hold areas take no memory; and what the system can't give."""
+    for n, (options, sessions, handles) in enumerate((((), 16, 256), (("--sessions", 3), 3, 48), (("--sessions", 3, "--handles", 3), 3, 3), (("--handles", 5), 16, 5), (("--sessions", 16), 16, 256))):
+        copy = here / f"copy{n}"
+        with Standby(copy, *options) as standby:
+            holds(kept_with(copy) == (sessions, handles), f"{options}: kept with {kept_with(copy)}")
+            done = wizhdulet("status", copy)
+            holds(f"{sessions} sessions, {handles} handles, C 1,048,576, M".encode() in done.stdout, f"{options}: it says so: {done}")
+            line = Line(standby)
+            for handle in range(300):
+                holds(line.bind(handle, KEYS[0])[4:] == line.bind(handle, KEYS[0])[4:] != b"", f"{options}: opening {handle} of a session is taken")
+            holds(outgoing(line.bind(1, KEYS[1])) == outgoing(line.bind(2, KEYS[2])) == 1, f"{options}: and two more sessions")
+    with Standby(copy, "--sessions", 16) as standby:
+        holds(standby.port > 0 and kept_with(copy) == (16, 256), f"started again with the same: {standby.log}")
+    for options, sessions, handles in ((("--sessions", 5), 5, 80), (("--sessions", 5, "--handles", 7), 5, 7), (("--sessions", 5), 5, 7), (("--bytes", 4096), 5, 7), (("--sessions", 6), 6, 96)):
+        holds(wizhdulet("compact", copy, *options).returncode == 0 and kept_with(copy) == (sessions, handles), f"compact {options}: kept with {kept_with(copy)}")
+    large = ("--sessions", 16, "--bytes", 1 << 22)
+    with Standby(here / "few", *large, "--handles", 16) as few, Standby(here / "many", *large) as many:
+        holds(kept_with(here / "many") == (16, 256) and resident(many) < resident(few) + 4096, f"240 hold areas of 4 MiB more take no memory: {resident(few)} and {resident(many)} KiB")
+    for options in (("--sessions", 2**32 - 1), ("--handles", 2**64 - 1), ("--handles", 2**40), ("--sessions", 2**32 - 1, "--bytes", 0, "--messages", 65536)):
+        with Standby(here / "none", *options) as standby:
+            holds(standby.process.wait(10) == 2 and "the system doesn't give the memory that these limits need" in standby.log[0], f"{options}: {standby.log}")
+
+
+def kept_with(copy: Path) -> tuple[int, int]:
+    """The sessions and handles that a copy is kept with."""
+    rows = Path(f"{copy}.state").read_text().split("\n")
+    return int(rows[1].removeprefix("sessions ")), int(rows[2].removeprefix("handles "))
+
+
+def resident(standby: Standby) -> int:
+    """The memory that it has, in KiB."""
+    return int(next(row.split()[1] for row in Path(f"/proc/{standby.process.pid}/status").read_text().split("\n") if row.startswith("VmRSS")))
 
 
 def promotions(here: Path) -> None:
@@ -828,7 +869,7 @@ def disk() -> str:
     return str(library)
 
 
-TESTS = [life, kills, places, cuts, full, syncs, pieces, rubbish, behind_a_refusal, actives, replaced, lives, rust, copies, promotions, versions, locks]
+TESTS = [life, kills, places, cuts, full, syncs, pieces, rubbish, behind_a_refusal, actives, replaced, lives, rust, copies, limits, promotions, versions, locks]
 # Another program in its place is one with a fault (standby_faults.py).
 PROGRAM = os.environ.get("WIZHDULET_PROGRAM") or subprocess.run([ROOT / "host/build"], stdout=subprocess.PIPE, check=True, text=True).stdout.split()[-1]
 DISK = disk()

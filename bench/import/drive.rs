@@ -1,7 +1,11 @@
 //! An import of 32 MiB of FIX messages beside straight Rust of the same rules, which judges every message and keeps its place
 //! in a list, then copies into a ring. Both take the same files; the answer and the next outgoing number are compared first.
+#[path = "../../oracle/src/thread_time.rs"]
+mod thread_time;
+
 use std::collections::VecDeque;
 use std::hint::black_box;
+use thread_time::now;
 
 #[repr(C)]
 #[derive(Debug, Clone, Copy, PartialEq)]
@@ -16,14 +20,6 @@ unsafe extern "C" {
         words: *mut u64, words_len: usize, bytes: *mut u8, bytes_len: usize, begin: *const u8, begin_len: usize, sender: *const u8, sender_len: usize,
         target: *const u8, target_len: usize, suffix: *const u8, suffix_len: usize, file: *const u8, file_len: usize, sessions: u32, c: u32, m: u32,
     ) -> Built;
-    fn clock_gettime(clock: i32, time: *mut [i64; 2]) -> i32;
-}
-
-/// Processor time of this thread: others may work beside us.
-fn now() -> f64 {
-    let mut time = [0i64; 2];
-    unsafe { clock_gettime(3, &mut time) };
-    time[0] as f64 + time[1] as f64 * 1e-9
 }
 
 const C: usize = 32 << 20;
@@ -174,7 +170,7 @@ fn filled(value: usize, fields: usize) -> (Vec<u8>, usize) {
 fn least(mut work: impl FnMut()) -> f64 {
     let start = now();
     work();
-    now() - start
+    (now() - start) * 1e-9
 }
 
 fn main() {

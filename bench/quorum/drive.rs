@@ -1,7 +1,11 @@
 //! Times an Ack on our area and in straight Rust over a `HashMap<u32, ..>`, with 1, 16 and 256 handles, in rising order and by chance. Every
 //! Ack is newer than its member's last, so each moves a count; the two sides take turns, and the least of the turns counts.
+#[path = "../../oracle/src/thread_time.rs"]
+mod thread_time;
+
 use std::collections::HashMap;
 use std::hint::black_box;
+use thread_time::now;
 
 unsafe extern "C" {
     fn wz_quorum_make(words: *mut u64, words_len: usize, n: u64, k: u64) -> u8;
@@ -9,23 +13,6 @@ unsafe extern "C" {
     fn wz_quorum_sent(words: *mut u64, words_len: usize, handle: u32, number: u64) -> u8;
     fn wz_quorum_acknowledged(words: *mut u64, words_len: usize, member: usize, handle: u32, number: u64) -> u8;
     fn wz_quorum_figure(words: *const u64, words_len: usize, handle: u32) -> Shown;
-}
-
-#[repr(C)]
-struct Time {
-    seconds: i64,
-    nanoseconds: i64,
-}
-
-unsafe extern "C" {
-    fn clock_gettime(clock: i32, time: *mut Time) -> i32;
-}
-
-/// The thread's own processor time (Linux: clock 3), in nanoseconds.
-fn clock() -> f64 {
-    let mut time = Time { seconds: 0, nanoseconds: 0 };
-    assert_eq!(unsafe { clock_gettime(3, &mut time) }, 0);
-    time.seconds as f64 * 1e9 + time.nanoseconds as f64
 }
 
 #[repr(C)]
@@ -145,7 +132,7 @@ fn turn<A: Active>(handles: &[u32]) -> f64 {
             assert_eq!(active.sent(*handle, number), 0);
         }
     }
-    let began = clock();
+    let began = now();
     let mut refused = 0;
     for number in 1..=rounds {
         for member in 0..MEMBERS {
@@ -154,7 +141,7 @@ fn turn<A: Active>(handles: &[u32]) -> f64 {
             }
         }
     }
-    let took = clock() - began;
+    let took = now() - began;
     assert_eq!(refused, 0);
     for handle in handles {
         assert_eq!(active.figure(*handle), rounds);

@@ -1,6 +1,10 @@
 //! Times lists of resend ranges over a full store, beside straight Rust that holds each message against every range; the lists are
 //! compared first.
+#[path = "../../oracle/src/thread_time.rs"]
+mod thread_time;
+
 use std::hint::black_box;
+use thread_time::now;
 
 #[repr(C)]
 #[derive(Clone, Copy)]
@@ -41,23 +45,6 @@ extern "C" {
         w: *const u64, wl: usize, b: *const u8, bl: usize, ranges: *const u64, rl: usize, entries: *mut u64, el: usize,
         sessions: u32, c: u32, m: u32, place: usize,
     ) -> Listed;
-}
-
-#[repr(C)]
-struct Time {
-    seconds: i64,
-    nanoseconds: i64,
-}
-
-extern "C" {
-    fn clock_gettime(clock: i32, time: *mut Time) -> i32;
-}
-
-/// The thread's own processor time (Linux: clock 3), in nanoseconds.
-fn now() -> f64 {
-    let mut time = Time { seconds: 0, nanoseconds: 0 };
-    assert_eq!(unsafe { clock_gettime(3, &mut time) }, 0);
-    time.seconds as f64 * 1e9 + time.nanoseconds as f64
 }
 
 const MESSAGES: u64 = 65_536;

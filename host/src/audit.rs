@@ -11,8 +11,7 @@ pub fn audit(given: &Given, asked: &str, answered: &str, out: &mut impl Write) -
     let answered = Capture::answers(answered)?;
     let mut limits = given.over(None);
     limits.incarnation = limits.incarnation.or_else(|| answered.welcome()).or_else(|| asked.incarnation());
-    let standby = Standby::new(&limits);
-    let mut standby = standby.map_err(|n| Failure::usage(format!("the limits don't fit: R {n}")))?;
+    let mut standby = Standby::new(&limits)?;
     let mut said = answered.frames.iter().map(|frame| answered.bytes_of(frame));
     for (i, frame) in asked.frames.iter().enumerate() {
         let bytes = asked.bytes_of(frame);

@@ -1,16 +1,17 @@
 //! Captures of the active's direction of the line: read, and cut into frames.
 use crate::standby::{First, first_frame, number};
-use crate::words::{Failure, grouped};
+use crate::wire;
+use crate::words::{Failure, failed, grouped};
 use std::io::Read;
 
 /// The longest body of a frame.
 const MOST: u64 = 67_108_864;
 
-/// A whole frame, or one that can't be read, with the code that says why.
+/// A whole frame, or one that can't be read, with the refusal.
 pub struct Frame {
     pub at: usize,
     pub len: usize,
-    pub fault: u64,
+    pub fault: u8,
 }
 
 pub struct Capture {
@@ -51,7 +52,7 @@ impl Capture {
             std::fs::File::open(name).and_then(|mut file| file.read_to_end(&mut text))
         };
         let name = if name == "-" { "standard input" } else { name };
-        read.map_err(|error| Failure::usage(format!("{name}: {}", plain(&error))))?;
+        read.map_err(failed(name))?;
         Ok(Capture::cut(name.to_string(), raw(text)))
     }
 
@@ -64,8 +65,8 @@ impl Capture {
             let (len, fault) = match first_frame(rest) {
                 First::More => break,
                 First::Frame(len) => (len, 0),
-                First::Fault(code) if code >> 40 == 1 => (rest.len(), code),
-                First::Fault(code) => (4 + number(&mut &rest[..4], 4) as usize, code),
+                First::Fault(1) => (rest.len(), 1),
+                First::Fault(refusal) => (4 + number(&mut &rest[..4], 4) as usize, refusal),
             };
             if len > rest.len() {
                 break;
@@ -105,19 +106,16 @@ impl Capture {
 
     /// The incarnation that the first Checked names: the standby of the capture drew it.
     pub fn incarnation(&self) -> Option<u64> {
-        let checked = self.frames.iter().find(|f| f.fault == 0 && self.bytes[f.at + 4] == 8)?;
-        Some(number(&mut &self.bytes[checked.at + 17..], 8))
+        self.first(wire::CHECKED).map(wire::incarnation_of)
     }
 
     /// The incarnation that the first Welcome names.
     pub fn welcome(&self) -> Option<u64> {
-        let welcome = self.frames.iter().find(|f| f.fault == 0 && self.bytes[f.at + 4] == 2)?;
-        Some(number(&mut &self.bytes[welcome.at + 13..], 8))
+        self.first(wire::WELCOME).map(wire::incarnation_of)
     }
-}
 
-/// The system's words for an error, without the number that std puts behind them.
-pub fn plain(error: &std::io::Error) -> String {
-    let text = error.to_string();
-    text.split_once(" (os error ").map_or(text.clone(), |(words, _)| words.to_string())
+    /// The first frame of a kind.
+    fn first(&self, kind: u8) -> Option<&[u8]> {
+        self.frames.iter().filter(|frame| frame.fault == 0).map(|frame| self.bytes_of(frame)).find(|f| f[4] == kind)
+    }
 }

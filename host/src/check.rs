@@ -1,16 +1,12 @@
 //! Whether two copies are the same: the numbers, marks and messages of each session.
 use crate::show::load;
-use crate::standby::{Given, Session, Standby};
+use crate::standby::{Given, Session};
 use crate::words::{Failure, counted, key, visible, wrapped};
 use std::io::Write;
 
 /// So much of a message is shown on each side.
 const BEFORE: usize = 20;
 const EXCERPT: usize = 46;
-
-fn all(standby: &Standby) -> Vec<Session> {
-    (0..standby.sessions()).map(|place| standby.session(place)).collect()
-}
 
 /// An excerpt around a byte.
 fn excerpt(text: &[u8], at: usize) -> String {
@@ -82,7 +78,7 @@ pub fn check(given: &Given, names: [&str; 2], out: &mut impl Write) -> Result<u8
     let mut copies = Vec::new();
     for name in names {
         let taken = load(given, &[name.to_string()])?;
-        copies.extend(taken.iter().map(|t| all(&t.standby)));
+        copies.extend(taken.iter().map(|t| t.standby.all()));
     }
     let (a, b) = (&copies[0], &copies[1]);
     let mut said = Vec::new();

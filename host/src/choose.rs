@@ -1,12 +1,8 @@
 //! Which of several copies takes over, and why not the others.
 use crate::show::{Taken, load, refusal_words};
-use crate::standby::{Given, Session, Standby, choose as chosen};
+use crate::standby::{Given, Session, choose as chosen};
 use crate::words::{Failure, grouped, key, wrapped};
 use std::io::Write;
-
-fn sessions(standby: &Standby) -> Vec<Session> {
-    (0..standby.sessions()).map(|place| standby.session(place)).collect()
-}
 
 /// In which session a copy is behind another, with both numbers.
 fn behind(copy: &[Session], other: &[Session]) -> Option<(String, u64, u64)> {
@@ -48,7 +44,7 @@ pub fn choose(given: &Given, names: &[String], out: &mut impl Write) -> Result<u
     for name in names {
         copies.extend(load(given, std::slice::from_ref(name))?);
     }
-    let all: Vec<_> = copies.iter().map(|copy| sessions(&copy.standby)).collect();
+    let all: Vec<_> = copies.iter().map(|copy| copy.standby.all()).collect();
     let taken = chosen(&copies.iter().map(|copy| &copy.standby).collect::<Vec<_>>());
     match taken {
         Ok(i) => writeln!(out, "{}", wrapped("TAKES OVER    ", &copies[i].capture.name))?,

@@ -1,24 +1,19 @@
 //! What is done with a copy on disk: told, taken over, written anew, sent.
-use crate::capture::plain;
-use crate::kept::{Kept, Replayed, State, Stream, holder, read, rename, replay, write_whole};
+use crate::kept::{Kept, State, Stream, holder, read, replace, replay, send_sessions, write_whole};
 use crate::promote::{Expected, allowed, table, taken_over};
 use crate::show::frame_words;
-use crate::standby::{First, Given, Limits, Standby, first_frame};
+use crate::standby::{First, Given, Limits, Standby, first_frame, number};
 use crate::wire;
-use crate::words::{Failure, counted, grouped, labelled, reason, visible};
+use crate::words::{Failure, counted, failed, grouped, labelled, plain, reason, visible};
 use std::fs::File;
-use std::io::{self, BufWriter, Write};
+use std::io::Write;
 use std::net::TcpStream;
-use std::time::{Duration, SystemTime};
-
-fn failed(name: &str) -> impl Fn(io::Error) -> Failure {
-    move |error| Failure::usage(format!("{name}: {}", plain(&error)))
-}
+use std::time::Duration;
 
 /// Since when a file hasn't been written.
 fn silence(file: &File) -> String {
     let since = file.metadata().and_then(|meta| meta.modified()).ok();
-    let for_ = since.and_then(|since| SystemTime::now().duration_since(since).ok()).unwrap_or_default();
+    let for_ = since.and_then(|since| since.elapsed().ok()).unwrap_or_default();
     format!("last written {} s ago", grouped(for_.as_secs()))
 }
 
@@ -26,17 +21,12 @@ fn silence(file: &File) -> String {
 pub fn status(given: &Given, name: &str, out: &mut impl Write) -> Result<u8, Failure> {
     let (standby, all, state) = read(given, name)?;
     let file = File::open(name).map_err(failed(name))?;
-    let end = if all.left.is_empty() {
-        "ends with a whole frame".to_string()
-    } else {
-        format!("then {} of a frame", counted(all.left.len(), "byte"))
+    let end = match all.left.len() {
+        0 => "ends with a whole frame".to_string(),
+        n => format!("then {} of a frame", counted(n, "byte")),
     };
-    let size = all.bytes + all.left.len() as u64;
-    labelled(
-        out,
-        name,
-        &[counted(size as usize, "byte"), format!("{}; {end}", counted(all.frames as usize, "frame")), silence(&file)],
-    )?;
+    let frames = format!("{}; {end}", counted(all.frames as usize, "frame"));
+    labelled(out, name, &[counted(all.bytes as usize + all.left.len(), "byte"), frames, silence(&file)])?;
     let pid = holder(&file);
     match (&state, pid) {
         (Some(state), Some(pid)) => {
@@ -46,16 +36,10 @@ pub fn status(given: &Given, name: &str, out: &mut impl Write) -> Result<u8, Fai
         (None, Some(pid)) => labelled(out, "standby", &[format!("none has run; in use by process {pid}")])?,
         _ => labelled(out, "standby", &["NOT RUNNING".to_string()])?,
     }
-    tell(&standby, out)?;
-    Ok(u8::from(!(pid.is_some() && standby.counters.checked != 0)))
-}
-
-/// What a copy has, and what it is kept with.
-fn tell(standby: &Standby, out: &mut impl Write) -> io::Result<()> {
-    let counters = &standby.counters;
-    let checked = if counters.checked != 0 { "checked in its last run" } else { "NOT CHECKED in its last run" };
-    let sessions = counted(standby.sessions(), "session");
-    labelled(out, "copy", &[sessions, format!("epoch {}", counters.epoch), checked.to_string()])?;
+    let checked = standby.counters.checked != 0;
+    let words = if checked { "checked in its last run" } else { "NOT CHECKED in its last run" };
+    let (sessions, epoch) = (counted(standby.sessions(), "session"), standby.counters.epoch);
+    labelled(out, "copy", &[sessions, format!("epoch {epoch}"), words.to_string()])?;
     let (shape, lag) = (standby.settings.shape, standby.settings.max_lag);
     let limits = [
         counted(shape.places as usize, "session"),
@@ -64,31 +48,8 @@ fn tell(standby: &Standby, out: &mut impl Write) -> io::Result<()> {
         format!("M {}", grouped(shape.messages.into())),
         format!("accepts lag {lag}"),
     ];
-    labelled(out, "limits", &limits)
-}
-
-/// Writes a standby's sessions as a copy in the place of `name`, locked; `judge` may still turn it down.
-fn put(
-    standby: &Standby,
-    name: &str,
-    judge: impl FnOnce(&mut File) -> Result<(), Failure>,
-) -> Result<(Kept, u64), Failure> {
-    let new = format!("{name}.new");
-    let written = || -> io::Result<(File, u64)> {
-        let file = File::options().read(true).write(true).create(true).truncate(true).open(&new)?;
-        let frames = write_whole(standby, &mut BufWriter::new(&file))?;
-        Ok((file, frames))
-    };
-    let (mut file, frames) = written().map_err(failed(&new))?;
-    if let Err(why) = judge(&mut file) {
-        let _ = std::fs::remove_file(&new);
-        return Err(why);
-    }
-    // Nobody may begin to write it before what stands beside it is written too.
-    file.try_lock().map_err(|error| failed(&new)(error.into()))?;
-    rename(&file, &new, name).map_err(failed(name))?;
-    let len = file.metadata().map_err(failed(name))?.len();
-    Ok((Kept { name: name.to_string(), file, len }, frames))
+    labelled(out, "limits", &limits)?;
+    Ok(u8::from(pid.is_none() || !checked))
 }
 
 /// The command `promote` of a copy that a standby has kept: the sessions taken over, sent whole, in NAME.promoted.
@@ -101,9 +62,8 @@ pub fn promote(
 ) -> Result<u8, Failure> {
     let mut kept = Kept::lock(name, false)?;
     let Some(state) = State::of(name)? else { return Err(Failure::usage(format!("{name}.state: No such file"))) };
-    given
-        .agrees_with(&state.limits)
-        .map_err(|option| Failure::usage(format!("{name}: kept with {option}, and so taken over")))?;
+    let other = |option| Failure::usage(format!("{name}: kept with {option}, and so taken over"));
+    given.agrees_with(&state.limits).map_err(other)?;
     let target = format!("{name}.promoted");
     if std::fs::exists(&target).map_err(failed(&target))? {
         return Err(Failure::usage(format!("{target}: is there already: this copy has been taken over")));
@@ -111,24 +71,19 @@ pub fn promote(
     let (mut standby, _) = replay(&state.limits, name, &mut kept.file)?;
     let checked = standby.counters.checked != 0;
     let before = taken_over(&mut standby, name, unchecked)?;
-    State { line: "none".to_string(), address: "none".to_string(), ..state }.write(&target).map_err(failed(&target))?;
-    put(&standby, &target, |_| Ok(()))?;
+    State { line: "none".to_string(), address: "none".to_string(), ..state }.write(&target)?;
+    replace(&target, |file| write_whole(&standby, file).map_err(failed(&format!("{target}.new"))))?;
     labelled(out, "PROMOTED", &[format!("written to {target}"), allowed(checked).to_string()])?;
     table(&before, &standby, expected, out)?;
     Ok(0)
 }
 
-/// What a copy written anew doesn't have as it was, if anything.
-fn lost(old: &Standby, limits: &Limits, name: &str, file: &mut File) -> Result<(), Failure> {
-    let (new, _) = replay(limits, name, file)?;
-    let same = old.sessions() == new.sessions()
-        && old.counters.epoch == new.counters.epoch
-        && (0..old.sessions()).all(|place| old.session(place) == new.session(place));
-    if same {
-        Ok(())
-    } else {
-        Err(Failure::refused(format!("{name}: the sessions don't fit in these limits; nothing is changed")))
-    }
+/// Whether a copy has what another has.
+fn is_same(a: &Standby, b: &Standby) -> bool {
+    let mut places = 0..a.sessions();
+    a.counters.epoch == b.counters.epoch
+        && a.sessions() == b.sessions()
+        && places.all(|place| a.session(place) == b.session(place))
 }
 
 /// The command `compact`: the same copy in as few frames as there may be, also for other limits.
@@ -136,60 +91,49 @@ pub fn compact(given: &Given, name: &str, out: &mut impl Write) -> Result<u8, Fa
     let mut kept = Kept::lock(name, false)?;
     let state = State::of(name)?;
     let old = state.as_ref().map_or(given.over(None), |state| state.limits);
-    let new = given.over(Some(old));
     let (standby, all) = replay(&old, name, &mut kept.file)?;
-    let incarnation = Some(standby.settings.incarnation);
-    let (anew, frames) = put(&standby, name, |file| lost(&standby, &Limits { incarnation, ..new }, name, file))?;
+    let limits = Limits { incarnation: Some(standby.settings.incarnation), ..given.over(Some(old)) };
+    // It stays locked until what stands beside it is written too.
+    let (_locked, now) = replace(name, |file| {
+        let written = write_whole(&standby, file).map_err(failed(&format!("{name}.new")))?;
+        let (new, _) = replay(&limits, name, file)?;
+        if !is_same(&standby, &new) {
+            return Err(Failure::refused(format!(
+                "{name}: the sessions don't fit in these limits; nothing is changed"
+            )));
+        }
+        Ok(written)
+    })?;
     if let Some(state) = state {
-        State { limits: Limits { incarnation, ..new }, ..state }.write(name).map_err(failed(name))?;
+        State { limits, ..state }.write(name)?;
     }
-    let size = |bytes: u64, frames: u64, when: &str| {
-        format!("{when} {} in {}", counted(bytes as usize, "byte"), counted(frames as usize, "frame"))
+    let size = |(bytes, frames): (u64, u64)| {
+        format!("{} in {}", counted(bytes as usize, "byte"), counted(frames as usize, "frame"))
     };
-    labelled(out, name, &[size(kept.len, all.frames, "before"), size(anew.len, frames, "now")])?;
+    labelled(out, name, &[format!("before {}", size((kept.len, all.frames))), format!("now {}", size(now))])?;
     Ok(0)
 }
 
-/// The active's side of a line, one frame at a time.
-struct Active {
-    socket: TcpStream,
-    stream: Stream,
-    address: String,
-}
-
-impl Active {
-    fn connect(address: &str) -> Result<Active, Failure> {
-        let socket = TcpStream::connect(address).and_then(|socket| {
-            socket.set_nodelay(true)?;
-            socket.set_read_timeout(Some(Duration::from_secs(60)))?;
-            Ok(socket)
-        });
-        let socket = socket.map_err(failed(address))?;
-        Ok(Active { socket, stream: Stream::default(), address: address.to_string() })
-    }
-
-    /// Sends a frame; its answer, which must be of a kind.
-    fn ask(&mut self, frame: &[u8], kind: u8) -> Result<Vec<u8>, Failure> {
-        let asked = frame_words(frame);
-        let refused = |why: String| Failure::refused(format!("{}: {asked}: {why}", self.address));
-        self.socket.write_all(frame).map_err(|error| refused(plain(&error)))?;
-        loop {
-            if let First::Frame(len) = first_frame(self.stream.left()) {
-                let answer = self.stream.left()[..len].to_vec();
-                self.stream.take(len);
-                if answer[4] == kind {
-                    return Ok(answer);
-                }
-                let why = if answer[4] == crate::library::NACK { reason(answer[9]) } else { "" };
-                return Err(refused(format!("answered with {} {why}", frame_words(&answer))));
-            }
-            match self.stream.fill(&mut self.socket) {
-                Ok(0) => return Err(refused("the other side has ended the line".to_string())),
-                Ok(_) => {}
-                Err(error) => return Err(refused(plain(&error))),
-            }
+/// Sends a frame as an active; the answer, which must be of a kind.
+fn ask(line: (&mut TcpStream, &mut Stream), address: &str, frame: &[u8], kind: u8) -> Result<Vec<u8>, Failure> {
+    let (socket, stream) = line;
+    let refused = |why: String| Failure::refused(format!("{address}: {}: {why}", frame_words(frame)));
+    socket.write_all(frame).map_err(|error| refused(plain(&error)))?;
+    let len = loop {
+        if let First::Frame(len) = first_frame(stream.left()) {
+            break len;
         }
+        if stream.fill(socket).map_err(|error| refused(plain(&error)))? == 0 {
+            return Err(refused("the other side has ended the line".to_string()));
+        }
+    };
+    let answer = stream.left()[..len].to_vec();
+    stream.take(len);
+    if answer[4] == kind {
+        return Ok(answer);
     }
+    let why = if answer[4] == wire::NACK { reason(answer[9]) } else { "" };
+    Err(refused(format!("answered with {} {why}", frame_words(&answer))))
 }
 
 /// The command `send`: plays an active that holds what a copy has.
@@ -200,31 +144,21 @@ pub fn send(given: &Given, name: &str, address: &str, unchecked: bool, out: &mut
             "{name}: NOT CHECKED since this standby started:\nsessions may be missing. If you know that the copy is whole: --unchecked"
         )));
     }
-    let mut active = Active::connect(address)?;
+    let mut socket = TcpStream::connect(address).map_err(failed(address))?;
+    socket.set_nodelay(true).map_err(failed(address))?;
+    socket.set_read_timeout(Some(Duration::from_secs(60))).map_err(failed(address))?;
+    let mut stream = Stream::default();
+    let mut ask = |frame: &[u8], kind| ask((&mut socket, &mut stream), address, frame, kind);
     let (epoch, version) = (standby.counters.epoch, standby.lowest_version());
-    let welcome = active.ask(&wire::hello(version, epoch, "wizhdulet"), wire::WELCOME)?;
-    let told = |at: usize| u64::from_le_bytes(welcome[at..at + 8].try_into().unwrap_or_default());
-    if told(5) != epoch {
-        return Err(Failure::refused(format!("{address}: epoch {} has been there, and the copy has {epoch}", told(5))));
+    let welcome = ask(&wire::hello(version, epoch, "wizhdulet"), wire::WELCOME)?;
+    let seen = number(&mut &welcome[5..], 8);
+    if seen != epoch {
+        return Err(Failure::refused(format!("{address}: epoch {seen} has been there, and the copy has {epoch}")));
     }
-    for place in 0..standby.sessions() {
-        let session = standby.session(place);
-        let bound = active.ask(&wire::bind(1, epoch, &session.key), wire::BOUND)?;
-        if session.durable || !wire::is_new(&bound) {
-            standby.send_whole(place, 1, version, |frame| active.ask(frame, wire::ACK).map(drop))?;
-        }
-    }
-    active.ask(&wire::checked(1, epoch, told(13)), wire::ACK)?;
-    let Replayed { node, .. } = all;
-    let from = format!("the copy of {}", visible(&node));
-    labelled(
-        out,
-        "SENT",
-        &[
-            format!("{} to {address}", counted(standby.sessions(), "session")),
-            from,
-            format!("epoch {epoch}, checked there"),
-        ],
-    )?;
+    send_sessions(&standby, &mut ask)?;
+    ask(&wire::checked(1, epoch, wire::incarnation_of(&welcome)), wire::ACK)?;
+    let sessions = format!("{} to {address}", counted(standby.sessions(), "session"));
+    let (from, checked) = (format!("the copy of {}", visible(&all.node)), format!("epoch {epoch}, checked there"));
+    labelled(out, "SENT", &[sessions, from, checked])?;
     Ok(0)
 }

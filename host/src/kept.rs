@@ -1,11 +1,9 @@
 //! A copy on disk: a capture that is only appended to, by one process at a time, and beside it the limits that it is kept with.
-use crate::capture::plain;
-use crate::library::count;
 use crate::standby::{First, Given, Limits, Standby, first_frame};
 use crate::wire;
-use crate::words::{Failure, counted, grouped};
-use std::fs::{File, OpenOptions, TryLockError};
-use std::io::{self, Read, Seek, Write};
+use crate::words::{Failure, counted, failed, grouped};
+use std::fs::{File, TryLockError};
+use std::io::{self, BufWriter, Read, Seek, Write};
 use std::os::unix::fs::MetadataExt;
 use std::path::Path;
 
@@ -13,12 +11,17 @@ use std::path::Path;
 #[derive(Default)]
 pub struct Stream {
     bytes: Vec<u8>,
+    taken: usize,
     piece: Vec<u8>,
 }
 
 impl Stream {
     /// One read; how many bytes came.
     pub fn fill(&mut self, from: &mut impl Read) -> io::Result<usize> {
+        self.bytes.drain(..std::mem::take(&mut self.taken));
+        if self.bytes.is_empty() {
+            self.bytes.shrink_to(1 << 22);
+        }
         self.piece.resize(1 << 18, 0);
         let read = from.read(&mut self.piece)?;
         self.bytes.extend_from_slice(&self.piece[..read]);
@@ -27,14 +30,11 @@ impl Stream {
 
     /// The bytes that haven't been taken.
     pub fn left(&self) -> &[u8] {
-        &self.bytes
+        &self.bytes[self.taken..]
     }
 
     pub fn take(&mut self, len: usize) {
-        self.bytes.drain(..len);
-        if self.bytes.is_empty() && self.bytes.capacity() > 1 << 22 {
-            self.bytes = Vec::new();
-        }
+        self.taken += len;
     }
 }
 
@@ -51,21 +51,16 @@ impl State {
     /// That of a copy, if it has one.
     pub fn of(name: &str) -> Result<Option<State>, Failure> {
         let path = format!("{name}.state");
-        match std::fs::read_to_string(&path) {
-            Ok(text) => match State::read(&text) {
-                Some(state) => Ok(Some(state)),
-                None => Err(Failure::usage(format!("{path}: isn't what a standby keeps beside its copy"))),
-            },
-            Err(error) if error.kind() == io::ErrorKind::NotFound => Ok(None),
-            Err(error) => Err(Failure::usage(format!("{path}: {}", plain(&error)))),
-        }
+        let text = match std::fs::read_to_string(&path) {
+            Err(error) if error.kind() == io::ErrorKind::NotFound => return Ok(None),
+            text => text.map_err(failed(&path))?,
+        };
+        let other = || Failure::usage(format!("{path}: isn't what a standby keeps beside its copy"));
+        State::read(&text).ok_or_else(other).map(Some)
     }
 
     fn read(text: &str) -> Option<State> {
-        let mut lines = text.lines();
-        if lines.next()? != HEAD {
-            return None;
-        }
+        let mut lines = text.strip_prefix(HEAD)?.strip_prefix('\n')?.lines();
         let mut field = |name: &str| Some(lines.next()?.strip_prefix(name)?.strip_prefix(' ')?.to_string());
         let limits = Limits {
             sessions: field("sessions")?.parse().ok()?,
@@ -78,27 +73,28 @@ impl State {
         Some(State { limits, address: field("address")?, line: field("line")? })
     }
 
-    /// In one step, whatever happens meanwhile.
-    pub fn write(&self, name: &str) -> io::Result<()> {
-        let Limits { sessions, handles, bytes, messages, lag, incarnation } = self.limits;
-        let text = format!(
-            "{HEAD}\nsessions {sessions}\nhandles {handles}\nbytes {bytes}\nmessages {messages}\nlag {lag}\nincarnation {}\naddress {}\nline {}\n",
-            incarnation.unwrap_or(0),
-            self.address,
-            self.line
-        );
-        let path = format!("{name}.state");
-        let mut file = File::create(format!("{path}.new"))?;
-        file.write_all(text.as_bytes())?;
-        rename(&file, &format!("{path}.new"), &path)
+    pub fn write(&self, name: &str) -> Result<(), Failure> {
+        let limits = self.limits.named().map(|(name, number)| format!("{name} {number}\n")).concat();
+        let (incarnation, address, line) = (self.limits.incarnation.unwrap_or(0), &self.address, &self.line);
+        let text = format!("{HEAD}\n{limits}incarnation {incarnation}\naddress {address}\nline {line}\n");
+        replace(&format!("{name}.state"), |file| file.write_all(text.as_bytes()).map_err(failed(name))).map(drop)
     }
 }
 
-/// Puts a file that has been written in the place of another, on disk before it returns.
-pub fn rename(file: &File, from: &str, to: &str) -> io::Result<()> {
-    file.sync_all()?;
-    std::fs::rename(from, to)?;
-    sync_folder(to)
+/// Puts a new file in the place of another, in one step and on disk before it returns; where that can't be, the other stays. Nobody else may write it before the file returned is closed.
+pub fn replace<T>(name: &str, write: impl FnOnce(&mut File) -> Result<T, Failure>) -> Result<(File, T), Failure> {
+    let new = format!("{name}.new");
+    let opened = File::options().read(true).write(true).create(true).truncate(true).open(&new);
+    let mut file = opened.map_err(failed(&new))?;
+    let written = write(&mut file).and_then(|written| {
+        let placed = file.try_lock().map_err(io::Error::from).and_then(|()| file.sync_all());
+        let placed = placed.and_then(|()| std::fs::rename(&new, name)).and_then(|()| sync_folder(name));
+        placed.map(|()| written).map_err(failed(name))
+    });
+    if written.is_err() {
+        let _ = std::fs::remove_file(&new);
+    }
+    Ok((file, written?))
 }
 
 fn sync_folder(name: &str) -> io::Result<()> {
@@ -133,45 +129,40 @@ pub struct Kept {
 
 impl Kept {
     pub fn lock(name: &str, create: bool) -> Result<Kept, Failure> {
-        let failed = |error: &io::Error| Failure::usage(format!("{name}: {}", plain(error)));
         if std::fs::metadata(name).is_ok_and(|there| !there.is_file()) {
             return Err(Failure::usage(format!("{name}: not a file")));
         }
         loop {
-            let opened = OpenOptions::new().read(true).append(true).create(create).open(name);
-            let file = opened.map_err(|error| failed(&error))?;
+            let file = File::options().read(true).append(true).create(create).open(name).map_err(failed(name))?;
             match file.try_lock() {
                 Ok(()) => {}
                 Err(TryLockError::WouldBlock) => {
                     let who = holder(&file).map_or("another process".to_string(), |pid| format!("process {pid}"));
                     return Err(Failure::usage(format!("{name}: in use by {who}")));
                 }
-                Err(TryLockError::Error(error)) => return Err(failed(&error)),
+                Err(TryLockError::Error(error)) => return Err(failed(name)(error)),
             }
             // Another process may have put a new file in its place before the lock was there.
-            let ours = file.metadata().map_err(|error| failed(&error))?;
+            let ours = file.metadata().map_err(failed(name))?;
             if std::fs::metadata(name).is_ok_and(|there| (there.dev(), there.ino()) == (ours.dev(), ours.ino())) {
-                sync_folder(name).map_err(|error| failed(&error))?;
+                sync_folder(name).map_err(failed(name))?;
                 return Ok(Kept { name: name.to_string(), file, len: ours.len() });
             }
         }
     }
 
-    /// Appends and syncs. What could not be written whole is cut off again: `Ok` with the reason. What can't be synced or cut off: `Err`.
-    pub fn append(&mut self, frames: &[u8]) -> Result<Option<io::Error>, io::Error> {
+    /// Appends and syncs: the outer error is that nobody knows what is on disk, the inner one that nothing more is.
+    pub fn append(&mut self, frames: &[u8]) -> io::Result<io::Result<()>> {
         if let Err(error) = self.file.write_all(frames) {
-            self.cut(self.len)?;
-            return Ok(Some(error));
+            return self.cut(self.len).map(|()| Err(error));
         }
-        self.file.sync_data()?;
         self.len += frames.len() as u64;
-        Ok(None)
+        self.file.sync_data().map(Ok)
     }
 
     pub fn cut(&mut self, len: u64) -> io::Result<()> {
-        self.file.set_len(len)?;
         self.len = len;
-        Ok(())
+        self.file.set_len(len)
     }
 }
 
@@ -189,40 +180,36 @@ pub struct Replayed {
 
 /// A standby that has taken the frames of a copy, with the incarnation given or that of the first Checked.
 pub fn replay(limits: &Limits, name: &str, file: &mut File) -> Result<(Standby, Replayed), Failure> {
-    let mut standby = Standby::new(limits).map_err(|n| Failure::usage(format!("the limits don't fit: R {n}")))?;
+    let mut standby = Standby::new(limits)?;
     let (mut stream, mut all, mut named) = (Stream::default(), Replayed::default(), limits.incarnation.is_some());
-    let failed = |error: io::Error| Failure::usage(format!("{name}: {}", plain(&error)));
-    file.rewind().map_err(failed)?;
+    file.rewind().map_err(failed(name))?;
     loop {
-        let mut at = 0;
-        while let First::Frame(len) = first_frame(&stream.left()[at..]) {
-            let frame = &stream.left()[at..at + len];
-            if frame[4] == wire::HELLO {
-                all.begins |= all.frames == 0;
-                all.node = wire::node_of(frame).to_vec();
-            } else if frame[4] == wire::CHECKED && !named {
-                standby.settings.incarnation = u64::from_le_bytes(frame[17..25].try_into().unwrap_or_default());
-                named = true;
+        let len = match first_frame(stream.left()) {
+            First::Frame(len) => len,
+            First::More if stream.fill(file).map_err(failed(name))? > 0 => continue,
+            First::More => {
+                all.left = stream.left().to_vec();
+                return Ok((standby, all));
             }
-            standby.take(frame);
-            all.frames += 1;
-            at += len;
+            First::Fault(refusal) => {
+                let (at, offset, frames) = (all.bytes, grouped(all.bytes), counted(all.frames as usize, "frame"));
+                return Err(Failure::usage(format!(
+                    "{name}: DAMAGED, or no copy: the frame at offset {offset} can't be read (R {refusal}). The {frames} before it are whole;\nto go on from there: truncate -s {at} {name}"
+                )));
+            }
+        };
+        let frame = &stream.left()[..len];
+        if frame[4] == wire::HELLO {
+            all.begins |= all.frames == 0;
+            all.node = wire::node_of(frame).to_vec();
+        } else if frame[4] == wire::CHECKED && !named {
+            standby.settings.incarnation = wire::incarnation_of(frame);
+            named = true;
         }
-        all.bytes += at as u64;
-        stream.take(at);
-        if let First::Fault(code) = first_frame(stream.left()) {
-            let (at, refusal) = (all.bytes, count(code).err().unwrap_or(0));
-            let words = format!(
-                "{name}: DAMAGED, or no copy: the frame at offset {} can't be read (R {refusal}). The {} before it are whole;\nto go on from there: truncate -s {at} {name}",
-                grouped(at),
-                counted(all.frames as usize, "frame")
-            );
-            return Err(Failure::usage(words));
-        }
-        if stream.fill(file).map_err(failed)? == 0 {
-            all.left = stream.left().to_vec();
-            return Ok((standby, all));
-        }
+        standby.take(frame);
+        stream.take(len);
+        all.frames += 1;
+        all.bytes += len as u64;
     }
 }
 
@@ -230,32 +217,38 @@ pub fn replay(limits: &Limits, name: &str, file: &mut File) -> Result<(Standby, 
 pub fn read(given: &Given, name: &str) -> Result<(Standby, Replayed, Option<State>), Failure> {
     let state = State::of(name)?;
     let limits = given.over(state.as_ref().map(|state| state.limits));
-    let mut file = File::open(name).map_err(|error| Failure::usage(format!("{name}: {}", plain(&error))))?;
+    let mut file = File::open(name).map_err(failed(name))?;
     let (standby, all) = replay(&limits, name, &mut file)?;
     Ok((standby, all, state))
 }
 
-/// Hello, and of each session a Bind and its whole sending; last a Checked where the copy was checked.
-pub fn write_whole(standby: &Standby, out: &mut impl Write) -> io::Result<u64> {
+/// Sends the sessions as an active does: of each a Bind, and itself whole where that doesn't say all of it. `ask` is handed each frame with the kind of its answer, and gives the answer, empty where nobody answers.
+pub fn send_sessions<E>(standby: &Standby, mut ask: impl FnMut(&[u8], u8) -> Result<Vec<u8>, E>) -> Result<(), E> {
     let (epoch, version) = (standby.counters.epoch, standby.lowest_version());
-    out.write_all(&wire::hello(version, epoch, "wizhdulet"))?;
-    let mut frames = 1;
     for place in 0..standby.sessions() {
         let session = standby.session(place);
-        out.write_all(&wire::bind(1, epoch, &session.key))?;
-        frames += 1;
-        // A session without a commit is as new: its Bind says all of it.
-        if session.durable {
-            standby.send_whole(place, 1, version, |frame| {
-                frames += 1;
-                out.write_all(frame)
-            })?;
+        let bound = ask(&wire::bind(1, epoch, &session.key), wire::BOUND)?;
+        // A session without a commit is as new.
+        if session.durable || !wire::is_new(&bound) {
+            standby.send_whole(place, 1, version, |frame| ask(frame, wire::ACK).map(drop))?;
         }
     }
-    if standby.counters.checked != 0 {
-        out.write_all(&wire::checked(1, epoch, standby.settings.incarnation))?;
+    Ok(())
+}
+
+/// Writes Hello and the sessions, last a Checked where the copy was checked; how many bytes and frames that is.
+pub fn write_whole(standby: &Standby, file: &File) -> io::Result<(u64, u64)> {
+    let (mut out, mut bytes, mut frames, epoch) = (BufWriter::new(file), 0, 0, standby.counters.epoch);
+    let mut put = |frame: &[u8]| {
+        bytes += frame.len() as u64;
         frames += 1;
+        out.write_all(frame)
+    };
+    put(&wire::hello(standby.lowest_version(), epoch, "wizhdulet"))?;
+    send_sessions(standby, |frame, _| put(frame).map(|()| Vec::new()))?;
+    if standby.counters.checked != 0 {
+        put(&wire::checked(1, epoch, standby.settings.incarnation))?;
     }
     out.flush()?;
-    Ok(frames)
+    Ok((bytes, frames))
 }

@@ -153,17 +153,14 @@ unsafe extern "C" {
     pub fn wz_stamp_write(millis: u64, picos: u64, out: *mut u8, out_len: usize) -> u64;
 }
 
-/// The frames that a standby answers with, by their kind.
-pub const NACK: u8 = 6;
-
 /// What a code's count is, or its refusal.
 pub fn count(code: u64) -> Result<usize, u8> {
     if code >> 63 == 1 { Ok((code & (u64::MAX >> 2)) as usize) } else { Err((code >> 40) as u8) }
 }
 
 /// A text for a screen: every one fits.
-pub fn screen(write: impl FnOnce(*mut u8, usize) -> u64) -> String {
+pub fn screen(write: impl FnOnce(&mut [u8]) -> u64) -> String {
     let mut area = [0; 1500];
-    let len = count(write(area.as_mut_ptr(), area.len())).unwrap_or(0);
+    let len = count(write(&mut area)).unwrap_or(0);
     String::from_utf8_lossy(&area[..len]).into_owned()
 }

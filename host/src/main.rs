@@ -15,12 +15,11 @@ mod standby;
 mod wire;
 mod words;
 
-use capture::plain;
 use promote::Expected;
 use standby::Given;
 use std::io::{BufWriter, ErrorKind, Write};
 use std::process::ExitCode;
-use words::Failure;
+use words::{Failure, plain};
 
 const USAGE: &str = "wizhdulet: a standby copy of FIX sessions, and what it holds
 
@@ -46,7 +45,7 @@ ADDRESS: HOST:PORT, or PORT for this machine alone. SOURCE: a COPY, or a capture
 of the active's direction of the line, raw or in hexadecimal, cut short
 anywhere; - is standard input. Several: one line after the other.
 KEY: BEGIN,SENDER,TARGET or with ,SUFFIX. RANGE: FIRST-LAST, 0 the end; or one.
-Options: --sessions 16 --handles (as many) --bytes 1048576 --messages 1024
+Options: --sessions 16 --handles (16 x sessions) --bytes 1048576 --messages 1024
 --lag 0 (those that a COPY is kept with) --incarnation (that of the last run, or
 of the first Checked) --tsv; of show: --sort, by their stamps; of promote and
 send: --unchecked; of promote: --rehearse --expect SENDER,TARGET=NUMBER

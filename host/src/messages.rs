@@ -1,8 +1,7 @@
 //! Stored messages against what they say of themselves, and against the active's own log.
-use crate::capture::plain;
 use crate::show::load;
 use crate::standby::{Given, Limits, Session, Standby};
-use crate::words::{Failure, counted, grouped, key, visible, wrapped};
+use crate::words::{Failure, counted, failed, grouped, key, visible, wrapped};
 use std::io::Write;
 
 /// The first field with a tag in a message that was judged as one.
@@ -13,8 +12,7 @@ fn field<'a>(text: &'a [u8], tag: &str) -> Option<&'a [u8]> {
 
 /// A store for one session.
 fn scratch(bytes: u32, messages: u32) -> Result<Standby, Failure> {
-    let limits = Limits { sessions: 1, handles: 1, bytes, messages, lag: 0, incarnation: None };
-    Standby::new(&limits).map_err(|n| Failure::usage(format!("the limits don't fit: R {n}")))
+    Standby::new(&Limits { sessions: 1, handles: 1, bytes, messages, lag: 0, incarnation: None })
 }
 
 /// Which of the length and the sum is false.
@@ -93,7 +91,7 @@ pub fn check_self(given: &Given, names: &[String], out: &mut impl Write) -> Resu
 
 /// The session that a log of sent messages makes.
 fn logged(name: &str, of: &[Vec<u8>; 4]) -> Result<Session, Failure> {
-    let file = std::fs::read(name).map_err(|error| Failure::usage(format!("{name}: {}", plain(&error))))?;
+    let file = std::fs::read(name).map_err(failed(name))?;
     let mut store = scratch(file.len().min(33_554_432) as u32, 65_536)?;
     let place = store.import(of, &file).map_err(|(refusal, at)| match refusal {
         28..=30 => {

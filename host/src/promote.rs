@@ -39,7 +39,7 @@ impl Expected {
 
 /// The sessions of a standby that takes over, as they were before; or the status where it may not.
 pub fn taken_over(standby: &mut Standby, name: &str, unchecked: bool) -> Result<Vec<Session>, Failure> {
-    let before = (0..standby.sessions()).map(|place| standby.session(place)).collect();
+    let before = standby.all();
     match standby.promote(unchecked) {
         0 => Ok(before),
         23 => Err(Failure::refused(format!(

@@ -1,26 +1,23 @@
 //! A standby that listens. What one read of a line gives is appended to the copy on disk and synced, then the proved standby takes it, then its commits run, and only then is it answered.
-use crate::capture::plain;
 use crate::kept::{Kept, State, Stream, replay};
-use crate::library::{Answer, count, screen, wz_stamp_write};
+use crate::library::{Answer, screen, wz_stamp_write};
 use crate::show::{frame_words, refusal_words};
 use crate::standby::{First, Given, Limits, Standby, first_frame};
 use crate::wire;
-use crate::words::{Failure, counted, visible};
+use crate::words::{Failure, counted, failed, on_one_line, plain, reason, visible};
+use std::collections::BTreeMap;
 use std::io::{ErrorKind, Read, Write};
 use std::net::{Shutdown, SocketAddr, TcpListener, TcpStream};
-use std::sync::{Arc, Mutex, MutexGuard};
-use std::time::{Duration, SystemTime, UNIX_EPOCH};
+use std::sync::{Arc, Mutex};
+use std::time::{Duration, UNIX_EPOCH};
 
 /// More lines than these aren't kept open: the one that came first goes, but never the current one.
 const LINES: usize = 16;
 
-fn since_1970() -> Duration {
-    SystemTime::now().duration_since(UNIX_EPOCH).unwrap_or_default()
-}
-
 /// The time as a FIX stamp of whole seconds.
 fn now() -> String {
-    screen(|out, len| unsafe { wz_stamp_write(since_1970().as_secs() * 1000, 0, out, len) })
+    let seconds = UNIX_EPOCH.elapsed().unwrap_or_default().as_secs();
+    screen(|out| unsafe { wz_stamp_write(seconds * 1000, 0, out.as_mut_ptr(), out.len()) })
 }
 
 fn log(name: &str, text: &str) {
@@ -35,14 +32,13 @@ fn give_up(name: &str, error: &std::io::Error) -> ! {
 
 /// A refusal's words on one line.
 fn words_of(refusal: u8) -> String {
-    refusal_words(refusal).split_whitespace().collect::<Vec<_>>().join(" ")
+    on_one_line(&refusal_words(refusal))
 }
 
 /// What is known of an open line.
 struct Line {
-    id: u64,
     peer: SocketAddr,
-    socket: TcpStream,
+    socket: Arc<TcpStream>,
     /// The epoch of its last Hello; without one nothing else is taken.
     epoch: Option<u64>,
     /// The connection that its last accepted Hello made, or 0.
@@ -52,12 +48,20 @@ struct Line {
     ended: Option<String>,
 }
 
+impl Line {
+    fn end(&mut self, why: String) {
+        self.ended = Some(why);
+        let _ = self.socket.shutdown(Shutdown::Both);
+    }
+}
+
 /// What is behind one lock: the standby, its copy on disk, and the lines.
 struct Host {
     standby: Standby,
     kept: Kept,
     state: State,
-    lines: Vec<Line>,
+    /// By their numbers, so the one that came first first.
+    lines: BTreeMap<u64, Line>,
 }
 
 /// The lengths of the whole frames that may be taken, and why nothing behind them may.
@@ -67,7 +71,7 @@ fn cut(bytes: &[u8], mut epoch: Option<u64>) -> (Vec<usize>, Option<String>) {
         let len = match first_frame(&bytes[at..]) {
             First::More => return (frames, None),
             First::Frame(len) => len,
-            First::Fault(code) => return (frames, Some(words_of(count(code).err().unwrap_or(0)))),
+            First::Fault(refusal) => return (frames, Some(words_of(refusal))),
         };
         let frame = &bytes[at..at + len];
         let named = wire::epoch_of(frame);
@@ -89,31 +93,26 @@ impl Host {
     }
 
     fn line(&mut self, id: u64) -> &mut Line {
-        self.lines.iter_mut().find(|line| line.id == id).expect("an open line is listed")
-    }
-
-    /// Whether a line with the same epoch has taken the place of this one.
-    fn is_replaced(&mut self, id: u64) -> bool {
-        let (epoch, connection) = (self.standby.counters.epoch, self.standby.counters.connections);
-        let line = self.line(id);
-        line.epoch == Some(epoch) && line.connection != connection
+        self.lines.get_mut(&id).expect("an open line is listed")
     }
 
     /// Takes what has come on a line: the answers, and why it ends, if it does.
     fn take(&mut self, id: u64, stream: &mut Stream) -> (Vec<u8>, Option<String>) {
-        let (frames, mut end) = cut(stream.left(), self.line(id).epoch);
-        let len = frames.iter().sum();
-        if self.is_replaced(id) && (frames.is_empty() || stream.left()[4] != wire::HELLO) {
+        let (epoch, connection) = (self.standby.counters.epoch, self.standby.counters.connections);
+        let line = self.line(id);
+        let (frames, mut end) = cut(stream.left(), line.epoch);
+        // A line with the same epoch has taken the place of this one.
+        let replaced = line.epoch == Some(epoch) && line.connection != connection;
+        if replaced && (frames.is_empty() || stream.left()[4] != wire::HELLO) {
             return (Vec::new(), Some(words_of(22)));
         }
-        if len == 0 {
+        if frames.is_empty() {
             return (Vec::new(), end);
         }
         let begin = self.kept.len;
-        match self.kept.append(&stream.left()[..len]) {
-            Ok(None) => {}
-            Ok(Some(error)) => return (Vec::new(), Some(format!("NOT KEPT, and not answered: {}", plain(&error)))),
-            Err(error) => give_up(&self.kept.name, &error),
+        let kept = self.kept.append(&stream.left()[..frames.iter().sum()]);
+        if let Err(error) = kept.unwrap_or_else(|error| give_up(&self.kept.name, &error)) {
+            return (Vec::new(), Some(format!("NOT KEPT, and not answered: {}", plain(&error))));
         }
         let (mut answers, mut at) = (Vec::new(), 0);
         for len in frames {
@@ -135,86 +134,74 @@ impl Host {
 
     /// Runs the commits, before their answers are sent, and cuts off what came behind a refused frame: this standby has not taken it, so a replay may not.
     fn settle(&mut self, id: u64, taken: u64) {
-        if self.kept.len > taken
-            && let Err(error) = self.kept.cut(taken)
-        {
-            give_up(&self.kept.name, &error);
+        if self.kept.len > taken {
+            self.kept.cut(taken).unwrap_or_else(|error| give_up(&self.kept.name, &error));
         }
         if self.line(id).connection == self.standby.counters.connections {
-            let refusal = self.standby.flush();
-            assert_eq!(refusal, 0, "the current line's commits run");
+            assert_eq!(self.standby.flush(), 0, "the current line's commits run");
         }
     }
 
     /// What an answered frame changes for the lines, or is worth a line in the log.
     fn note(&mut self, id: u64, frame: &[u8], answer: Answer) {
-        let checked = frame[4] == wire::CHECKED && answer.kind == wire::ACK;
-        let turned = answer.kind == crate::library::NACK;
         let peer = self.line(id).peer;
-        if frame[4] == wire::HELLO {
-            self.greeted(id, frame);
-        } else if checked {
-            let sessions = counted(self.standby.sessions(), "session");
-            self.log(&format!("{peer}: checked: {sessions} may be taken over"));
-        } else if turned {
-            let why = crate::words::reason(answer.reason);
-            self.log(&format!("{peer}: {}: Nack {why}", frame_words(frame)));
+        match (frame[4], answer.kind) {
+            (wire::HELLO, _) => self.greeted(id, frame),
+            (wire::CHECKED, wire::ACK) => {
+                let sessions = counted(self.standby.sessions(), "session");
+                self.log(&format!("{peer}: checked: {sessions} may be taken over"));
+            }
+            (_, wire::NACK) => self.log(&format!("{peer}: {}: Nack {}", frame_words(frame), reason(answer.reason))),
+            _ => {}
         }
     }
 
     /// A Hello was answered: where it was accepted the line is the current one, and another of the same epoch ends.
     fn greeted(&mut self, id: u64, hello: &[u8]) {
-        let (epoch, connection) = (wire::epoch_of(hello), self.standby.counters.connections);
-        let node = visible(wire::node_of(hello));
-        let accepted = epoch == Some(self.standby.counters.epoch);
+        let (epoch, node) = (wire::epoch_of(hello).unwrap_or(0), visible(wire::node_of(hello)));
+        let (seen, connection) = (self.standby.counters.epoch, self.standby.counters.connections);
         let line = self.line(id);
-        line.epoch = epoch;
+        line.epoch = Some(epoch);
         let peer = line.peer;
-        if !accepted {
-            let seen = self.standby.counters.epoch;
-            return self
-                .log(&format!("{peer}: {node}, epoch {}: deposed, epoch {seen} has been here", epoch.unwrap_or(0)));
+        if epoch != seen {
+            return self.log(&format!("{peer}: {node}, epoch {epoch}: deposed, epoch {seen} has been here"));
         }
         line.connection = connection;
-        for other in self.lines.iter_mut().filter(|other| other.id != id && other.epoch == epoch) {
-            other.ended = Some(format!("a newer line of its epoch is the current one; {}", words_of(22)));
-            let _ = other.socket.shutdown(Shutdown::Both);
+        for (_, other) in self.lines.iter_mut().filter(|(other, line)| **other != id && line.epoch == Some(epoch)) {
+            other.end(format!("a newer line of its epoch is the current one; {}", words_of(22)));
         }
-        self.log(&format!("{peer}: {node}, epoch {}, line {connection}", epoch.unwrap_or(0)));
-        self.state.line = format!("{peer} of {node}, epoch {}, since {}", epoch.unwrap_or(0), now());
+        self.log(&format!("{peer}: {node}, epoch {epoch}, line {connection}"));
+        self.tell_line(format!("{peer} of {node}, epoch {epoch}, since {}", now()));
+    }
+
+    /// To whom the current line is, for those who look.
+    fn tell_line(&mut self, line: String) {
+        self.state.line = line;
         let _ = self.state.write(&self.kept.name);
     }
 
     /// A new line; how many are open is bounded.
-    fn open(&mut self, id: u64, peer: SocketAddr, socket: TcpStream) {
+    fn open(&mut self, id: u64, peer: SocketAddr, socket: Arc<TcpStream>) {
         self.log(&format!("{peer}: connected"));
         let current = self.standby.counters.connections;
+        let may_go = |l: &&mut Line| l.ended.is_none() && (l.connection == 0 || l.connection != current);
         if self.lines.len() >= LINES
-            && let Some(old) =
-                self.lines.iter_mut().find(|l| l.ended.is_none() && (l.connection == 0 || l.connection != current))
+            && let Some(old) = self.lines.values_mut().find(may_go)
         {
-            old.ended = Some(format!("ended: more than {LINES} lines are open"));
-            let _ = old.socket.shutdown(Shutdown::Both);
+            old.end(format!("ended: more than {LINES} lines are open"));
         }
-        self.lines.push(Line { id, peer, socket, epoch: None, connection: 0, frames: 0, ended: None });
+        self.lines.insert(id, Line { peer, socket, epoch: None, connection: 0, frames: 0, ended: None });
     }
 
     fn close(&mut self, id: u64, why: &str) {
-        let Some(at) = self.lines.iter().position(|line| line.id == id) else { return };
-        let line = self.lines.remove(at);
+        let Some(line) = self.lines.remove(&id) else { return };
         let frames = counted(line.frames as usize, "frame");
         self.log(&format!("{}: closed behind {frames}: {}", line.peer, line.ended.as_deref().unwrap_or(why)));
         if line.connection != 0 && line.connection == self.standby.counters.connections {
             self.standby.drop_line_of(line.connection);
-            self.state.line = "none".to_string();
-            let _ = self.state.write(&self.kept.name);
+            self.tell_line("none".to_string());
         }
     }
-}
-
-/// A thread that has panicked may have left anything behind: the process ends.
-fn locked(host: &Mutex<Host>) -> MutexGuard<'_, Host> {
-    host.lock().unwrap_or_else(|_| std::process::abort())
 }
 
 /// Reads a line to its end; why it ended.
@@ -228,7 +215,7 @@ fn serve(host: &Mutex<Host>, id: u64, mut socket: &TcpStream) -> String {
             Err(error) if error.kind() == ErrorKind::Interrupted => continue,
             Err(error) => return plain(&error),
         }
-        let (answers, end) = locked(host).take(id, &mut stream);
+        let (answers, end) = host.lock().unwrap().take(id, &mut stream);
         if let Err(error) = socket.write_all(&answers) {
             return format!("the answers can't be sent: {}", plain(&error));
         }
@@ -239,22 +226,18 @@ fn serve(host: &Mutex<Host>, id: u64, mut socket: &TcpStream) -> String {
 }
 
 /// Lets the last answers reach the other side: were bytes left that nobody has read, the system would drop them.
-fn linger(mut socket: TcpStream) {
+fn linger(mut socket: &TcpStream) {
     let _ = socket.shutdown(Shutdown::Write);
     let _ = socket.set_read_timeout(Some(Duration::from_secs(1)));
     let mut piece = [0; 1 << 14];
-    for _ in 0..1 << 14 {
-        if !matches!(socket.read(&mut piece), Ok(1..)) {
-            return;
-        }
-    }
+    let _ = (0..1 << 14).all(|_| matches!(socket.read(&mut piece), Ok(1..)));
 }
 
 /// An address; a port alone, or without a host, is one of this machine alone.
 fn listen(address: &str) -> Result<TcpListener, Failure> {
     let port = address.strip_prefix(':').unwrap_or(address);
     let whole = if port.parse::<u16>().is_ok() { format!("127.0.0.1:{port}") } else { address.to_string() };
-    TcpListener::bind(&whole).map_err(|error| Failure::usage(format!("{whole}: {}", plain(&error))))
+    TcpListener::bind(&whole).map_err(failed(&whole))
 }
 
 /// The limits of a copy: those that it is kept with, where it is; others are refused.
@@ -278,25 +261,23 @@ fn start(given: &Given, address: &str, name: &str) -> Result<(TcpListener, Host)
         )));
     }
     let listener = listen(address)?;
-    let failed = |error: std::io::Error| Failure::usage(format!("{name}: {}", plain(&error)));
+    let mut cut = String::new();
     if !all.left.is_empty() {
-        std::fs::write(format!("{name}.left"), &all.left).map_err(failed)?;
+        std::fs::write(format!("{name}.left"), &all.left).map_err(failed(name))?;
+        let bytes = counted(all.left.len(), "byte");
+        cut = format!("; {bytes} of a half-written frame cut off, to {name}.left");
     }
-    kept.cut(all.bytes).and_then(|()| kept.file.sync_all()).map_err(failed)?;
+    kept.cut(all.bytes).and_then(|()| kept.file.sync_all()).map_err(failed(name))?;
     // A run never has the incarnation of one before it, so that an active compares anew.
-    let incarnation = (since_1970().as_nanos() as u64).max(known + 1);
+    let incarnation = (UNIX_EPOCH.elapsed().unwrap_or_default().as_nanos() as u64).max(known + 1);
     standby.drop_line();
     standby.counters.checked = 0;
     standby.settings.incarnation = incarnation;
     limits.incarnation = Some(incarnation);
-    let address = listener.local_addr().map_err(failed)?.to_string();
+    let address = listener.local_addr().map_err(failed(name))?.to_string();
     let state = State { limits, address: address.clone(), line: "none".to_string() };
-    state.write(name).map_err(failed)?;
-    let host = Host { standby, kept, state, lines: Vec::new() };
-    let cut = match all.left.len() {
-        0 => String::new(),
-        n => format!("; {} of a half-written frame cut off, to {name}.left", counted(n, "byte")),
-    };
+    state.write(name)?;
+    let host = Host { standby, kept, state, lines: BTreeMap::new() };
     let (frames, sessions) = (counted(all.frames as usize, "frame"), counted(host.standby.sessions(), "session"));
     host.log(&format!("{frames}, {sessions}, epoch {}{cut}", host.standby.counters.epoch));
     if std::fs::exists(format!("{name}.promoted")).unwrap_or(true) {
@@ -309,28 +290,28 @@ fn start(given: &Given, address: &str, name: &str) -> Result<(TcpListener, Host)
 /// The command `standby`: it ends by a signal, or with status 3 where the disk fails.
 pub fn standby(given: &Given, address: &str, name: &str) -> Result<u8, Failure> {
     let (listener, host) = start(given, address, name)?;
+    // A panic ends the process (host/build), so no thread finds the lock poisoned.
     let host = Arc::new(Mutex::new(host));
     for id in 0.. {
         let (socket, peer) = match listener.accept() {
-            Ok(line) => line,
+            Ok((socket, peer)) => (Arc::new(socket), peer),
             Err(error) => {
                 // Too many open files, or the line was gone before it was taken.
-                locked(&host).log(&format!("a line can't be taken: {}", plain(&error)));
+                host.lock().unwrap().log(&format!("a line can't be taken: {}", plain(&error)));
                 std::thread::sleep(Duration::from_millis(100));
                 continue;
             }
         };
         let _ = socket.set_nodelay(true);
-        let Ok(ours) = socket.try_clone() else { continue };
-        locked(&host).open(id, peer, ours);
+        host.lock().unwrap().open(id, peer, socket.clone());
         let shared = host.clone();
         let thread = std::thread::Builder::new().spawn(move || {
             let why = serve(&shared, id, &socket);
-            locked(&shared).close(id, &why);
-            linger(socket);
+            shared.lock().unwrap().close(id, &why);
+            linger(&socket);
         });
         if let Err(error) = thread {
-            locked(&host).close(id, &plain(&error));
+            host.lock().unwrap().close(id, &plain(&error));
         }
     }
     Ok(0)

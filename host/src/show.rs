@@ -1,9 +1,10 @@
 //! What a capture leaves: its sessions, and what was refused; or its frames, one by one.
 use crate::capture::Capture;
 use crate::kept::State;
-use crate::library::{Answer, NACK, screen, wz_screen_frame, wz_screen_refusal, wz_stamp_read};
+use crate::library::{Answer, screen, wz_screen_frame, wz_screen_refusal, wz_stamp_read};
 use crate::standby::{Given, Standby};
-use crate::words::{Failure, counted, grouped, labelled, reason, visible};
+use crate::wire::NACK;
+use crate::words::{Failure, counted, grouped, labelled, on_one_line, reason, visible};
 use std::io::Write;
 
 /// How many refused frames are shown.
@@ -24,22 +25,23 @@ pub struct Taken {
     count: usize,
 }
 
+/// A frame with its number, its offset and its refusal or answer.
+fn screened(number: u64, offset: u64, frame: &[u8], refusal: u8, reply: &[u8]) -> String {
+    let (bytes, len, answer, answer_len) = (frame.as_ptr(), frame.len(), reply.as_ptr(), reply.len());
+    screen(|out| unsafe {
+        wz_screen_frame(number, offset, bytes, len, refusal, answer, answer_len, out.as_mut_ptr(), out.len())
+    })
+}
+
 /// Frame i of a capture, with its answer.
 fn frame_line(standby: &Standby, capture: &Capture, i: usize, refusal: u8, answer: Option<Answer>) -> String {
     let (frame, reply) = (&capture.frames[i], answer.map_or(Vec::new(), |answer| standby.reply(answer)));
-    let bytes = capture.bytes_of(frame);
-    screen(|out, len| unsafe {
-        let (number, offset) = (i as u64 + 1, frame.at as u64);
-        wz_screen_frame(number, offset, bytes.as_ptr(), bytes.len(), refusal, reply.as_ptr(), reply.len(), out, len)
-    })
+    screened(i as u64 + 1, frame.at as u64, capture.bytes_of(frame), refusal, &reply)
 }
 
 /// What a frame is, on one line.
 pub fn frame_words(bytes: &[u8]) -> String {
-    let line = screen(|out, len| unsafe {
-        wz_screen_frame(0, 0, bytes.as_ptr(), bytes.len(), 0, bytes.as_ptr(), 0, out, len)
-    });
-    line.get(17..64).unwrap_or("").split_whitespace().collect::<Vec<_>>().join(" ")
+    on_one_line(screened(0, 0, bytes, 0, &[]).get(17..64).unwrap_or(""))
 }
 
 /// A stamp's time, in picoseconds since 1 January 1970; none where it has no number.
@@ -49,7 +51,7 @@ fn time_of(stamp: &[u8]) -> Option<u128> {
 }
 
 pub fn refusal_words(number: u8) -> String {
-    screen(|out, len| unsafe { wz_screen_refusal(number, out, len) })
+    screen(|out| unsafe { wz_screen_refusal(number, out.as_mut_ptr(), out.len()) })
 }
 
 /// Gives a capture's frames to a standby; `each` is told of each with its refusal, and its answer if it has one.
@@ -61,7 +63,7 @@ fn take(
     let (mut turned, mut count) = (Vec::new(), 0);
     for (i, frame) in capture.frames.iter().enumerate() {
         let answer = (frame.fault == 0).then(|| standby.take(capture.bytes_of(frame)));
-        let refusal = answer.map_or((frame.fault >> 40) as u8, |answer| answer.refusal);
+        let refusal = answer.map_or(frame.fault, |answer| answer.refusal);
         each(standby, &capture, i, refusal, answer)?;
         let reason = answer.filter(|a| a.refusal == 0 && a.kind == NACK).map_or(0, |a| a.reason);
         if refusal != 0 || reason != 0 {
@@ -79,7 +81,7 @@ fn standby_for(given: &Given, captures: &[Capture]) -> Result<Standby, Failure> 
     let kept = captures.last().map(|capture| State::of(&capture.name)).transpose()?.flatten();
     let mut limits = given.over(kept.map(|state| state.limits));
     limits.incarnation = limits.incarnation.or_else(|| captures.iter().find_map(Capture::incarnation));
-    Standby::new(&limits).map_err(|n| Failure::usage(format!("the limits don't fit: R {n}")))
+    Standby::new(&limits)
 }
 
 /// A standby over several captures, one line after the other.

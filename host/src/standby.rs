@@ -1,5 +1,6 @@
 //! A standby, with all that is lent to its calls.
 use crate::library::*;
+use crate::words::Failure;
 
 /// What the areas are made for.
 #[derive(Clone, Copy)]
@@ -23,14 +24,30 @@ pub struct Given {
     pub incarnation: Option<u64>,
 }
 
+/// So many handles for each session, where their number isn't given: each opening takes one until the next Hello.
+const OPENINGS: usize = 16;
+
+impl Limits {
+    /// Those that an option gives and a copy is kept with, by their names.
+    pub fn named(&self) -> [(&'static str, u64); 5] {
+        [
+            ("sessions", self.sessions.into()),
+            ("handles", self.handles as u64),
+            ("bytes", self.bytes.into()),
+            ("messages", self.messages.into()),
+            ("lag", self.lag),
+        ]
+    }
+}
+
 impl Given {
     /// The limits: what is given, else those that a copy is kept with, else the usual ones.
     pub fn over(&self, kept: Option<Limits>) -> Limits {
-        let usual = Limits { sessions: 16, handles: 16, bytes: 1 << 20, messages: 1024, lag: 0, incarnation: None };
+        let (bytes, messages) = (1 << 20, 1024);
+        let usual = Limits { sessions: 16, handles: 16 * OPENINGS, bytes, messages, lag: 0, incarnation: None };
         let kept = kept.unwrap_or(usual);
         let sessions = self.sessions.unwrap_or(kept.sessions);
-        // A session has at most one handle, so as many records as sessions are enough.
-        let handles = if self.sessions.is_some() { sessions as usize } else { kept.handles };
+        let handles = if sessions == kept.sessions { kept.handles } else { sessions as usize * OPENINGS };
         Limits {
             sessions,
             handles: self.handles.unwrap_or(handles),
@@ -43,15 +60,9 @@ impl Given {
 
     /// Whether nothing else is given than a copy is kept with; if not, that.
     pub fn agrees_with(&self, kept: &Limits) -> Result<(), String> {
-        let pairs = [
-            ("sessions", self.sessions.map(u64::from), u64::from(kept.sessions)),
-            ("handles", self.handles.map(|n| n as u64), kept.handles as u64),
-            ("bytes", self.bytes.map(u64::from), u64::from(kept.bytes)),
-            ("messages", self.messages.map(u64::from), u64::from(kept.messages)),
-            ("lag", self.lag, kept.lag),
-        ];
-        let other = pairs.iter().find(|(_, given, kept)| given.is_some_and(|given| given != *kept));
-        other.map_or(Ok(()), |(name, _, kept)| Err(format!("--{name} {kept}")))
+        let mut pairs = self.over(Some(*kept)).named().into_iter().zip(kept.named());
+        let other = pairs.find(|(given, kept)| given != kept);
+        other.map_or(Ok(()), |(_, (name, kept))| Err(format!("--{name} {kept}")))
     }
 }
 
@@ -98,30 +109,55 @@ macro_rules! over {
     };
 }
 
+/// A call over a standby's store, lent by `as_ptr` or `as_mut_ptr`: with slices that are read, slices that are written, and what stands behind the shape.
+macro_rules! over_store {
+    ($standby:ident.$lent:ident, $call:ident, [$($read:expr),*], [$($written:expr),*] $(, $handed:expr)*) => {{
+        let Shape { places, bytes, messages } = $standby.settings.shape;
+        unsafe {
+            $call(
+                $standby.words.$lent(),
+                $standby.words.len(),
+                $standby.bytes.$lent(),
+                $standby.bytes.len(),
+                $($read.as_ptr(), $read.len(),)*
+                $($written.as_mut_ptr(), $written.len(),)*
+                places,
+                bytes,
+                messages,
+                $($handed,)*
+            )
+        }
+    }};
+}
+
+/// So many zeros, if the system gives as many; those of bytes and numbers take memory where they are written only.
+fn zeros<T: Clone + Default>(count: Option<usize>) -> Result<Vec<T>, Failure> {
+    let given = count.filter(|count| Vec::<T>::new().try_reserve_exact(*count).is_ok());
+    let given = given.ok_or_else(|| Failure::usage("the system doesn't give the memory that these limits need"))?;
+    Ok(vec![T::default(); given])
+}
+
 impl Standby {
-    /// A new one; the refusal where the limits don't fit.
-    pub fn new(limits: &Limits) -> Result<Standby, u8> {
+    /// A new one, where the limits fit and the system gives its memory.
+    pub fn new(limits: &Limits) -> Result<Standby, Failure> {
         let (s, c, m) = (limits.sessions as usize, limits.bytes as usize, limits.messages as usize);
         let shape = Shape { places: limits.sessions, bytes: limits.bytes, messages: limits.messages };
         let settings = Settings { shape, incarnation: limits.incarnation.unwrap_or(1), max_lag: limits.lag };
-        if c > 33_554_432 || m > 65_536 {
-            return Err(25);
-        }
+        let fits = |refusal| match refusal {
+            0 => Ok(()),
+            _ => Err(Failure::usage(format!("the limits don't fit: R {refusal}"))),
+        };
+        fits(if c > 33_554_432 || m > 65_536 { 25 } else { 0 })?;
         let mut made = Standby {
             counters: Replica::default(),
-            row: vec![Bound::default(); limits.handles],
-            words: vec![0; 66 + s * (16 + 2 * m)],
-            bytes: vec![0; s * (224 + c)],
-            holds: vec![0; limits.handles * (c + 22 * m + 131)],
+            words: zeros(Some(66 + s * (16 + 2 * m)))?,
+            bytes: zeros(Some(s * (224 + c)))?,
+            holds: zeros(limits.handles.checked_mul(c + 22 * m + 131))?,
+            row: zeros(Some(limits.handles))?,
             settings,
         };
-        let refusal = unsafe {
-            wz_store_make(made.words.as_mut_ptr(), made.words.len(), made.bytes.as_ptr(), made.bytes.len(), shape)
-        };
-        if refusal != 0 {
-            return Err(refusal);
-        }
         let (row, words, bytes) = (&mut made.row, &mut made.words, &made.bytes);
+        fits(unsafe { wz_store_make(words.as_mut_ptr(), words.len(), bytes.as_ptr(), bytes.len(), shape) })?;
         let answer = unsafe {
             wz_standby_make(
                 &mut made.counters,
@@ -134,7 +170,7 @@ impl Standby {
                 settings,
             )
         };
-        if answer.refusal == 0 { Ok(made) } else { Err(answer.refusal) }
+        fits(answer.refusal).map(|()| made)
     }
 
     /// Takes one frame.
@@ -185,30 +221,11 @@ impl Standby {
         version: u16,
         mut each: impl FnMut(&[u8]) -> Result<(), E>,
     ) -> Result<(), E> {
-        let Shape { places, bytes, messages } = self.settings.shape;
-        let (words, store) = (&self.words, &self.bytes);
-        let mut sending = [0; 5];
+        let Shape { bytes, messages, .. } = self.settings.shape;
+        let (mut sending, epoch) = ([0; 5], self.counters.epoch);
         let mut out = vec![0; bytes as usize + 22 * messages as usize + 165];
         loop {
-            let code = unsafe {
-                wz_send(
-                    words.as_ptr(),
-                    words.len(),
-                    store.as_ptr(),
-                    store.len(),
-                    sending.as_mut_ptr(),
-                    sending.len(),
-                    out.as_mut_ptr(),
-                    out.len(),
-                    places,
-                    bytes,
-                    messages,
-                    place,
-                    handle,
-                    self.counters.epoch,
-                    version,
-                )
-            };
+            let code = over_store!(self.as_ptr, wz_send, [], [sending, out], place, handle, epoch, version);
             match count(code) {
                 Ok(0) => return Ok(()),
                 Ok(len) => each(&out[..len])?,
@@ -227,45 +244,19 @@ impl Standby {
         self.words[0] as usize
     }
 
+    /// The sessions, in their order.
+    pub fn all(&self) -> Vec<Session> {
+        (0..self.sessions()).map(|place| self.session(place)).collect()
+    }
+
     /// A session as a screen shows it.
     pub fn screen(&self, place: usize) -> String {
-        let Shape { places, bytes, messages } = self.settings.shape;
-        screen(|out, len| unsafe {
-            let (words, store) = (&self.words, &self.bytes);
-            wz_screen_session(
-                words.as_ptr(),
-                words.len(),
-                store.as_ptr(),
-                store.len(),
-                out,
-                len,
-                places,
-                bytes,
-                messages,
-                place,
-            )
-        })
+        screen(|out| over_store!(self.as_ptr, wz_screen_session, [], [out], place))
     }
 
     pub fn session(&self, place: usize) -> Session {
-        let Shape { places, bytes, messages } = self.settings.shape;
         let mut out = [0; 280];
-        let (words, store) = (&self.words, &self.bytes);
-        unsafe {
-            wz_session(
-                words.as_ptr(),
-                words.len(),
-                store.as_ptr(),
-                store.len(),
-                out.as_mut_ptr(),
-                out.len(),
-                places,
-                bytes,
-                messages,
-                place,
-                0,
-            )
-        };
+        over_store!(self.as_ptr, wz_session, [], [out], place, 0);
         let mut left = &out[2..];
         let key = [(); 4].map(|()| text(&mut left));
         let [next_outgoing, next_incoming, flight] = [(); 3].map(|()| number(&mut left, 8));
@@ -277,78 +268,21 @@ impl Standby {
 
     /// The place of a session by its key.
     pub fn find(&self, key: &[Vec<u8>; 4]) -> Option<usize> {
-        let Shape { places, bytes, messages } = self.settings.shape;
         let [begin, sender, target, suffix] = key;
-        let code = unsafe {
-            wz_find(
-                self.words.as_ptr(),
-                self.words.len(),
-                self.bytes.as_ptr(),
-                self.bytes.len(),
-                begin.as_ptr(),
-                begin.len(),
-                sender.as_ptr(),
-                sender.len(),
-                target.as_ptr(),
-                target.len(),
-                suffix.as_ptr(),
-                suffix.len(),
-                places,
-                bytes,
-                messages,
-            )
-        };
-        count(code).ok()
+        count(over_store!(self.as_ptr, wz_find, [begin, sender, target, suffix], [])).ok()
     }
 
     /// A new session from a file of sent messages; or the refusal, and the offset of the first faulty message.
     pub fn import(&mut self, key: &[Vec<u8>; 4], file: &[u8]) -> Result<usize, (u8, usize)> {
-        let Shape { places, bytes, messages } = self.settings.shape;
         let [begin, sender, target, suffix] = key;
-        let built = unsafe {
-            wz_import(
-                self.words.as_mut_ptr(),
-                self.words.len(),
-                self.bytes.as_mut_ptr(),
-                self.bytes.len(),
-                begin.as_ptr(),
-                begin.len(),
-                sender.as_ptr(),
-                sender.len(),
-                target.as_ptr(),
-                target.len(),
-                suffix.as_ptr(),
-                suffix.len(),
-                file.as_ptr(),
-                file.len(),
-                places,
-                bytes,
-                messages,
-            )
-        };
+        let built = over_store!(self.as_mut_ptr, wz_import, [begin, sender, target, suffix, file], []);
         if built.refusal == 0 { Ok(built.place) } else { Err((built.refusal, built.at)) }
     }
 
     /// The stored messages of a session that lie in some range: number, set of ranges, bytes; or the refusal.
     pub fn resend(&self, place: usize, ranges: &[u64]) -> Result<Vec<(u64, u64, Vec<u8>)>, u8> {
-        let Shape { places, bytes, messages } = self.settings.shape;
-        let mut entries = vec![0u64; 6 * messages as usize];
-        let listed = unsafe {
-            wz_resend(
-                self.words.as_ptr(),
-                self.words.len(),
-                self.bytes.as_ptr(),
-                self.bytes.len(),
-                ranges.as_ptr(),
-                ranges.len(),
-                entries.as_mut_ptr(),
-                entries.len(),
-                places,
-                bytes,
-                messages,
-                place,
-            )
-        };
+        let mut entries = vec![0u64; 6 * self.settings.shape.messages as usize];
+        let listed = over_store!(self.as_ptr, wz_resend, [ranges], [entries], place);
         if listed.refusal != 0 {
             return Err(listed.refusal);
         }
@@ -375,47 +309,24 @@ pub fn choose(copies: &[&Standby]) -> Result<usize, u8> {
     let words = |i: usize| copies.get(i).map_or(&[][..], |copy| &copy.words);
     let bytes = |i: usize| copies.get(i).map_or(&[][..], |copy| &copy.bytes);
     let ([w0, w1, w2, w3, w4], [b0, b1, b2, b3, b4]) = ([0, 1, 2, 3, 4].map(words), [0, 1, 2, 3, 4].map(bytes));
-    count(unsafe {
-        wz_choose(
-            told.as_ptr(),
-            told.len(),
-            w0.as_ptr(),
-            w0.len(),
-            b0.as_ptr(),
-            b0.len(),
-            w1.as_ptr(),
-            w1.len(),
-            b1.as_ptr(),
-            b1.len(),
-            w2.as_ptr(),
-            w2.len(),
-            b2.as_ptr(),
-            b2.len(),
-            w3.as_ptr(),
-            w3.len(),
-            b3.as_ptr(),
-            b3.len(),
-            w4.as_ptr(),
-            w4.len(),
-            b4.as_ptr(),
-            b4.len(),
-        )
-    })
+    macro_rules! over_all {
+        ($($slice:ident),*) => { unsafe { wz_choose($($slice.as_ptr(), $slice.len()),*) } };
+    }
+    count(over_all!(told, w0, b0, w1, b1, w2, b2, w3, b3, w4, b4))
 }
 
-/// What bytes begin with: a part of a frame, a whole one with its length, or one that no version reads, with the code that says why.
+/// What bytes begin with: a part of a frame, a whole one with its length, or one that no version reads, with the refusal.
 pub enum First {
     More,
     Frame(usize),
-    Fault(u64),
+    Fault(u8),
 }
 
 pub fn first_frame(bytes: &[u8]) -> First {
-    let code = unsafe { wz_read(bytes.as_ptr(), bytes.len(), LATEST) };
-    match count(code) {
+    match count(unsafe { wz_read(bytes.as_ptr(), bytes.len(), LATEST) }) {
         Ok(len) => First::Frame(len),
         Err(0) => First::More,
-        Err(_) => First::Fault(code),
+        Err(refusal) => First::Fault(refusal),
     }
 }
 

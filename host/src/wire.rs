@@ -1,10 +1,12 @@
 //! The frames besides those of a whole sending that an active sends.
+use crate::standby::number;
 
 pub const HELLO: u8 = 1;
 pub const WELCOME: u8 = 2;
 pub const BIND: u8 = 3;
 pub const BATCH: u8 = 4;
 pub const ACK: u8 = 5;
+pub const NACK: u8 = 6;
 pub const BOUND: u8 = 7;
 pub const CHECKED: u8 = 8;
 
@@ -38,16 +40,22 @@ pub fn epoch_of(frame: &[u8]) -> Option<u64> {
         BIND | BATCH | CHECKED => 9,
         _ => return None,
     };
-    Some(u64::from_le_bytes(frame[at..at + 8].try_into().ok()?))
+    Some(number(&mut &frame[at..], 8))
 }
 
 /// The node that a whole Hello names.
 pub fn node_of(hello: &[u8]) -> &[u8] {
-    &hello[19..19 + u32::from_le_bytes([hello[15], hello[16], hello[17], hello[18]]) as usize]
+    &hello[19..19 + number(&mut &hello[15..], 4) as usize]
 }
 
-/// Whether a whole Bound says that the session is as new: 1, 1, nothing in flight, no stamp, no marks, no message.
+/// The incarnation that a whole Welcome or Checked names.
+pub fn incarnation_of(frame: &[u8]) -> u64 {
+    let at = if frame[4] == WELCOME { 13 } else { 17 };
+    number(&mut &frame[at..], 8)
+}
+
+/// Whether a whole Bound says that the session is as new: 1, 1, nothing in flight, no stamp, no marks, no message. So is one that nobody has told anything of.
 pub fn is_new(bound: &[u8]) -> bool {
     let numbers = [1u64, 1, 0, 0, 0].map(u64::to_le_bytes).concat();
-    bound[9..] == numbers
+    bound.get(9..).is_none_or(|told| told == numbers)
 }

@@ -24,6 +24,17 @@ impl From<io::Error> for Failure {
     }
 }
 
+/// The system's words for an error, without the number that std puts behind them.
+pub fn plain(error: &io::Error) -> String {
+    let text = error.to_string();
+    text.split_once(" (os error ").map_or(text.clone(), |(words, _)| words.to_string())
+}
+
+/// What can't be done with a file or an address, in the system's words.
+pub fn failed(name: &str) -> impl Fn(io::Error) -> Failure {
+    move |error| Failure::usage(format!("{name}: {}", plain(&error)))
+}
+
 /// A number in threes of digits.
 pub fn grouped(n: u64) -> String {
     let digits = n.to_string();
@@ -68,6 +79,11 @@ pub fn read_key(text: &str) -> Option<[Vec<u8>; 4]> {
         [begin, sender, target, suffix] => Some([begin.clone(), sender.clone(), target.clone(), suffix.clone()]),
         _ => None,
     }
+}
+
+/// Words on one line, with one space between them.
+pub fn on_one_line(text: &str) -> String {
+    text.split_whitespace().collect::<Vec<_>>().join(" ")
 }
 
 /// Words in lines of at most 80 columns, the first behind a label, the others behind as many spaces.

@@ -1,9 +1,9 @@
 //! Both sides on the same calls, and the whole state after each; then whole passes.
 
-use crate::chance::Chance;
 use crate::passes;
 use crate::rust::Rust;
 use crate::script::{Answer, Call, Side};
+use crate::splitmix::Chance;
 use std::process::ExitCode;
 
 const KINDS: [&str; 14] = [

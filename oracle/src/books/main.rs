@@ -1,5 +1,7 @@
 //! The drivers over the catch-up of active.rs and over our side (scripts.md, `oracle/our-books`), their comparison and the bench.
 
+#[path = "../asked.rs"]
+mod asked;
 #[cfg(ours)]
 mod bench;
 mod chance;
@@ -11,8 +13,11 @@ mod passes;
 mod plain;
 mod rust;
 mod script;
+#[path = "../splitmix.rs"]
+#[allow(dead_code)]
+mod splitmix;
 
-use std::io::Read;
+use asked::{input, usage};
 use std::process::ExitCode;
 
 #[cfg(ours)]
@@ -21,12 +26,7 @@ use ours::Ours;
 use plain::Plain as Ours;
 
 fn answer<S: script::Side>(several: bool) -> ExitCode {
-    let mut input = Vec::new();
-    if let Err(error) = std::io::stdin().read_to_end(&mut input) {
-        eprintln!("oracle: {error}");
-        return ExitCode::FAILURE;
-    }
-    print!("{}", script::run::<S>(&String::from_utf8_lossy(&input), several));
+    print!("{}", script::run::<S>(&input(), several));
     ExitCode::SUCCESS
 }
 
@@ -44,7 +44,7 @@ fn threads() -> ExitCode {
 }
 
 fn main() -> ExitCode {
-    let arguments: Vec<String> = std::env::args().skip(1).collect();
+    let arguments = asked::arguments();
     let arguments: Vec<&str> = arguments.iter().map(String::as_str).collect();
     match arguments[..] {
         ["rust-books"] => answer::<rust::Rust>(false),
@@ -52,11 +52,8 @@ fn main() -> ExitCode {
         ["our-books"] => answer::<Ours>(false),
         ["our-books", "several"] => answer::<Ours>(true),
         ["threads"] => threads(),
-        ["compare-books", calls, ref seed @ ..] => {
-            match (calls.parse(), seed.first().map_or(Ok(1), |seed| seed.parse())) {
-                (Ok(calls), Ok(seed)) => compare::compare::<Ours>(calls, seed),
-                _ => usage(),
-            }
+        ["compare-books", ref numbers @ ..] => {
+            asked::compared(numbers, |calls, seed, _| compare::compare::<Ours>(calls, seed))
         }
         #[cfg(ours)]
         ["bench"] => {
@@ -65,9 +62,4 @@ fn main() -> ExitCode {
         }
         _ => usage(),
     }
-}
-
-fn usage() -> ExitCode {
-    eprintln!("oracle: see oracle/README.md for what can be asked");
-    ExitCode::FAILURE
 }

@@ -1,9 +1,9 @@
 //! Whole passes: `catch_up()` of the Rust over a link whose answers are scripted, beside the calls of the books that a pass makes. Held
 //! against each other: the sessions bound, in their order; when Checked was told; the state after each event.
 
-use crate::chance::Chance;
 use crate::rust::{id, ids, meet, number, state};
 use crate::script::{Answer, Call, Side};
+use crate::splitmix::Chance;
 use books_rs::ReplicatedStorage;
 use books_rs::active::Link;
 use books_rs::active::reach::{empty_summary, seen_of};

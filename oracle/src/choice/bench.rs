@@ -1,7 +1,9 @@
 //! Times of one choice among five copies of 256 sessions, ours and straight Rust's over the same areas' sessions.
 
-use crate::ours::{self, Chance};
+use crate::ours;
 use crate::plain::{self, Answer};
+use crate::splitmix::Chance;
+use crate::thread_time::now;
 use crate::{Copy, Key};
 use std::collections::HashMap;
 use std::hint::black_box;
@@ -85,30 +87,13 @@ fn lacking() -> Vec<Copy> {
         .collect()
 }
 
-#[repr(C)]
-struct Moment {
-    seconds: i64,
-    nanoseconds: i64,
-}
-
-unsafe extern "C" {
-    safe fn clock_gettime(clock: i32, moment: &mut Moment) -> i32;
-}
-
-/// The thread's own processor time (Linux: clock 3), in milliseconds.
-fn moment() -> f64 {
-    let mut it = Moment { seconds: 0, nanoseconds: 0 };
-    assert_eq!(clock_gettime(3, &mut it), 0, "Linux has this clock");
-    it.seconds as f64 * 1e3 + it.nanoseconds as f64 / 1e6
-}
-
-/// The median of the calls, and the longest of the quickest nine in ten.
+/// The median of the calls, and the longest of the quickest nine in ten, in milliseconds.
 fn time(mut call: impl FnMut()) -> (f64, f64) {
     let mut times: Vec<f64> = (0..101)
         .map(|_| {
-            let start = moment();
+            let start = now();
             call();
-            moment() - start
+            (now() - start) / 1e6
         })
         .collect();
     times.sort_by(f64::total_cmp);

@@ -1,7 +1,8 @@
 //! Sets of copies filled by chance, answered by both sides.
 
-use crate::ours::{self, Chance};
+use crate::ours;
 use crate::plain;
+use crate::splitmix::Chance;
 use crate::{Copy, Key, MOST};
 use std::collections::BTreeMap;
 use std::process::ExitCode;
@@ -19,7 +20,7 @@ fn keys(chance: &mut Chance) -> Vec<Key> {
         let mut key = base.clone();
         let at = chance.below(4) as usize;
         match key[at].last_mut() {
-            Some(byte) => *byte = b'b' + chance.below(3) as u8,
+            Some(byte) => *byte = chance.of(b"bcd"),
             None => key[at].push(b'z'),
         }
         keys.push(key);

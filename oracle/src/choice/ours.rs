@@ -1,6 +1,7 @@
 //! Our side: the copies' stores are laid out as docs/AREAS.md has them, and `wz_choose` is called on them.
 
 use crate::plain::Answer;
+use crate::splitmix::Chance;
 use crate::{Copy, MOST};
 
 unsafe extern "C" {
@@ -35,23 +36,6 @@ unsafe extern "C" {
 pub struct Areas {
     copies: Vec<u64>,
     stores: [(Vec<u64>, Vec<u8>); MOST],
-}
-
-/// A generator of numbers (splitmix64).
-pub struct Chance(pub u64);
-
-impl Chance {
-    pub fn next(&mut self) -> u64 {
-        self.0 = self.0.wrapping_add(0x9e37_79b9_7f4a_7c15);
-        let mut z = self.0;
-        z = (z ^ (z >> 30)).wrapping_mul(0xbf58_476d_1ce4_e5b9);
-        z = (z ^ (z >> 27)).wrapping_mul(0x94d0_49bb_1331_11eb);
-        z ^ (z >> 31)
-    }
-
-    pub fn below(&mut self, n: u64) -> u64 {
-        self.next() % n
-    }
 }
 
 /// Where `salt` isn't 0, everything that means nothing is filled by chance, and longer slices are lent than are asked for.
@@ -109,32 +93,11 @@ fn store(copy: &Copy, odd: bool, chance: &mut Chance) -> ([u64; 3], Vec<u64>, Ve
 /// The answer, read from the code that is returned; no lent area is changed.
 pub fn call(areas: &Areas) -> Answer {
     let [(w0, b0), (w1, b1), (w2, b2), (w3, b3), (w4, b4)] = &areas.stores;
-    let code = unsafe {
-        wz_choose(
-            areas.copies.as_ptr(),
-            areas.copies.len(),
-            w0.as_ptr(),
-            w0.len(),
-            b0.as_ptr(),
-            b0.len(),
-            w1.as_ptr(),
-            w1.len(),
-            b1.as_ptr(),
-            b1.len(),
-            w2.as_ptr(),
-            w2.len(),
-            b2.as_ptr(),
-            b2.len(),
-            w3.as_ptr(),
-            w3.len(),
-            b3.as_ptr(),
-            b3.len(),
-            w4.as_ptr(),
-            w4.len(),
-            b4.as_ptr(),
-            b4.len(),
-        )
-    };
+    let copies = &areas.copies;
+    macro_rules! over_all {
+        ($($slice:ident),*) => { unsafe { wz_choose($($slice.as_ptr(), $slice.len()),*) } };
+    }
+    let code = over_all!(copies, w0, b0, w1, b1, w2, b2, w3, b3, w4, b4);
     match code >> 63 {
         1 => Ok((code - (1 << 63)) as usize),
         _ => Err((code >> 40) as u8),

@@ -1,6 +1,7 @@
 //! Times our side and lease.rs on the same questions and attempts in one run.
 
 use crate::ours::{Lease, wz_lease_attempt, wz_lease_new, wz_lease_renewal};
+use crate::thread_time::now;
 use lease_std::lease::reach::Clocked;
 use std::hint::black_box;
 use std::time::Duration;
@@ -11,33 +12,16 @@ const ROUNDS: usize = 3_000;
 const LEASES: usize = 64;
 const HOUR: Duration = Duration::from_secs(3600);
 
-#[repr(C)]
-struct Moment {
-    seconds: i64,
-    nanoseconds: i64,
-}
-
-unsafe extern "C" {
-    safe fn clock_gettime(clock: i32, moment: &mut Moment) -> i32;
-}
-
-/// The thread's own processor time (Linux: clock 3), in nanoseconds.
-fn moment() -> f64 {
-    let mut it = Moment { seconds: 0, nanoseconds: 0 };
-    assert_eq!(clock_gettime(3, &mut it), 0, "Linux has this clock");
-    it.seconds as f64 * 1e9 + it.nanoseconds as f64
-}
-
 /// Nanoseconds a call: the round below which one in a hundred lies. Other programs may run beside this one, and the least of all can be
 /// a single false reading of the clock.
 fn time(mut call: impl FnMut(usize)) -> f64 {
     let mut rounds: Vec<f64> = (0..ROUNDS)
         .map(|_| {
-            let began = moment();
+            let began = now();
             for i in 0..CALLS {
                 call(i);
             }
-            (moment() - began) / CALLS as f64
+            (now() - began) / CALLS as f64
         })
         .collect();
     rounds.sort_by(f64::total_cmp);

@@ -2,6 +2,7 @@
 
 use crate::rust::Rust;
 use crate::script::{Answer, Call, Outcome, Side};
+use crate::splitmix::Chance;
 use std::process::ExitCode;
 
 const OUTCOMES: [Outcome; 3] = [Outcome::Ok, Outcome::Failed, Outcome::Deposed];
@@ -41,33 +42,16 @@ impl Counts {
     }
 }
 
-struct Chance(u64);
-
 impl Chance {
-    fn next(&mut self) -> u64 {
-        self.0 = self.0.wrapping_add(0x9e37_79b9_7f4a_7c15);
-        let mixed = (self.0 ^ self.0 >> 30).wrapping_mul(0xbf58_476d_1ce4_e5b9);
-        let mixed = (mixed ^ mixed >> 27).wrapping_mul(0x94d0_49bb_1331_11eb);
-        mixed ^ mixed >> 31
-    }
-
-    fn below(&mut self, n: u64) -> u64 {
-        self.next() % n
-    }
-
-    fn of<const N: usize>(&mut self, values: [u64; N]) -> u64 {
-        values[self.below(N as u64) as usize]
-    }
-
     fn duration(&mut self) -> u64 {
         let any = self.next();
         let odd = self.below(1000) * 2 + 1;
-        self.of([0, 1, 2, 3, 10, 11, odd, 1 << 63, u64::MAX / 2, u64::MAX - 1, u64::MAX, any])
+        self.of(&[0, 1, 2, 3, 10, 11, odd, 1 << 63, u64::MAX / 2, u64::MAX - 1, u64::MAX, any])
     }
 
     fn made(&mut self) -> u64 {
         let any = self.next();
-        self.of([0, 1, 100, u64::MAX - 20, u64::MAX - 1, u64::MAX, any])
+        self.of(&[0, 1, 100, u64::MAX - 20, u64::MAX - 1, u64::MAX, any])
     }
 
     /// A time about `from`, half the duration later, or about the end; seldom one that falls.
@@ -75,7 +59,7 @@ impl Chance {
         let about = until.saturating_sub(self.below(3)).saturating_add(self.below(3));
         let half = until.saturating_sub(duration / 2).saturating_add(self.below(3)).saturating_sub(1);
         let later = from.saturating_add(self.below(12));
-        let time = self.of([from, from.saturating_add(1), later, half, about]);
+        let time = self.of(&[from, from.saturating_add(1), later, half, about]);
         match self.below(12) {
             0 => from.saturating_sub(1 + self.below(3)),
             1 => time,

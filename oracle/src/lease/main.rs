@@ -1,5 +1,7 @@
 //! The drivers over lease.rs and over our side (scripts.md, `oracle/our-lease`), their comparison and the bench.
 
+#[path = "../asked.rs"]
+mod asked;
 #[cfg(ours)]
 mod bench;
 mod compare;
@@ -9,8 +11,13 @@ mod ours;
 mod plain;
 mod rust;
 mod script;
+#[path = "../splitmix.rs"]
+mod splitmix;
+#[cfg(ours)]
+#[path = "../thread_time.rs"]
+mod thread_time;
 
-use std::io::Read;
+use asked::{input, usage};
 use std::process::ExitCode;
 
 #[cfg(ours)]
@@ -19,17 +26,12 @@ use ours::Ours;
 use plain::Plain as Ours;
 
 fn answer<S: script::Side>(several: bool) -> ExitCode {
-    let mut input = Vec::new();
-    if let Err(error) = std::io::stdin().read_to_end(&mut input) {
-        eprintln!("oracle: {error}");
-        return ExitCode::FAILURE;
-    }
-    print!("{}", script::run::<S>(&String::from_utf8_lossy(&input), several));
+    print!("{}", script::run::<S>(&input(), several));
     ExitCode::SUCCESS
 }
 
 fn main() -> ExitCode {
-    let arguments: Vec<String> = std::env::args().skip(1).collect();
+    let arguments = asked::arguments();
     let arguments: Vec<&str> = arguments.iter().map(String::as_str).collect();
     match arguments[..] {
         ["rust-lease"] => answer::<rust::Rust>(false),
@@ -37,11 +39,8 @@ fn main() -> ExitCode {
         ["rust-lease", "alone"] => answer::<rust::Alone>(false),
         ["our-lease"] => answer::<Ours>(false),
         ["our-lease", "several"] => answer::<Ours>(true),
-        ["compare-lease", calls, ref seed @ ..] => {
-            match (calls.parse(), seed.first().map_or(Ok(1), |seed| seed.parse())) {
-                (Ok(calls), Ok(seed)) => compare::compare::<Ours>(calls, seed),
-                _ => usage(),
-            }
+        ["compare-lease", ref numbers @ ..] => {
+            asked::compared(numbers, |calls, seed, _| compare::compare::<Ours>(calls, seed))
         }
         #[cfg(ours)]
         ["bench"] => {
@@ -50,9 +49,4 @@ fn main() -> ExitCode {
         }
         _ => usage(),
     }
-}
-
-fn usage() -> ExitCode {
-    eprintln!("oracle: see oracle/README.md for what can be asked");
-    ExitCode::FAILURE
 }
